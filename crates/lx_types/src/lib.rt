@@ -1,0 +1,10 @@
+//! The types that the object side, the module side and the loader share.
+#![tactic(auto)]
+
+mod fail;
+mod name;
+mod seq;
+
+pub use fail::{Fail, NoMemory};
+pub use name::{Name, NameLong};
+pub use seq::{Bytes, Names, Numbers, Seq};

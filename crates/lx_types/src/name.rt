@@ -1,0 +1,75 @@
+//! Names of at most 255 bytes, as the formats' length bytes allow.
+
+ghost use Rattle.std.specs.Prelude.{◌≡◌, ◌<◌, ◌↔◌, length, IsTrue, bytes_eq};
+ghost use Rattle.std.specs.Cmp.{partial_equiv_from_equiv};
+ghost use Rattle.std.specs.Cmp.Lexicographic.{nat_list_eq_equiv};
+ghost use Rattle.lx_types.specs.Answers.{Answers};
+ghost use Rattle.lx_types.specs.Names.{SameModule, IsName};
+
+use crate::Fail;
+use std::alloc::Global;
+use std::marker::Model;
+
+/// A name: 0 to 255 bytes of any value.
+#[derive(Debug, Drop)]
+pub struct Name {
+    bytes: Vec<u8>,
+}
+
+/// More than 255 bytes were given for a name.
+#[derive(Debug, Clone, Copy, PartialEq, Eq, Drop)]
+pub struct NameLong;
+
+impl Model for Name {
+    ghost use Rattle.std.specs.Prelude.{List, ℕ};
+
+    ghost Value = { List ℕ };
+
+    ghost use Rattle.lx_types.specs.Names.{IsName};
+
+    ghost view = { λ n. n.bytes.items };
+
+    ghost invariant = { λ n. IsName n.bytes.items };
+}
+
+impl Name {
+    /// The name with these bytes. `NameLong` comes exactly where there are more than 255.
+    pub fn of(alloc: Global, bytes: &[u8]) -> Result<Name, Fail<NameLong>>
+        ensures { Answers result (λ name. name ≡ bytes.now) (λ _. 255 < length bytes.now) }
+    {
+        if bytes.len() > 255 {
+            return Err(Fail::Said(NameLong));
+        }
+        match Vec::from_slice(alloc, bytes) {
+            Ok(bytes) => Ok(Name { bytes }),
+            Err(_) => Err(Fail::NoMemory),
+        }
+    }
+
+    /// The bytes of the name.
+    pub fn bytes(&self) -> &[u8]
+        ensures same { result.now ≡ self.now }
+        ensures short { IsName self.now }
+    {
+        self.bytes.as_slice()
+    }
+
+    /// Whether the two mean the same module: ASCII letters are compared in upper case.
+    pub fn same_module(&self, other: &Name) -> bool
+        ensures { IsTrue result ↔ SameModule self.now other.now }
+    {
+        self.bytes
+            .as_slice()
+            .eq_ignore_ascii_case(other.bytes.as_slice())
+    }
+}
+
+impl PartialEq for Name {
+    ghost eq = { λ a b. bytes_eq a b };
+
+    ghost laws = { partial_equiv_from_equiv nat_list_eq_equiv };
+
+    fn eq(&self, other: &Self) -> bool {
+        self.bytes.as_slice() == other.bytes.as_slice()
+    }
+}
