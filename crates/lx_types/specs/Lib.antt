@@ -1,2 +1,5 @@
 pub mod Answers
 pub mod Names
+pub mod Object
+pub mod Parts
+pub mod Sound

@@ -1,10 +1,27 @@
 //! The types that the object side, the module side and the loader share.
 #![tactic(auto)]
 
+mod bases;
+mod entry;
 mod fail;
+mod fix;
+mod module;
 mod name;
+mod object;
+mod parts;
+mod refusal;
 mod seq;
 
+pub use bases::{Bases, ModBases};
+pub use entry::{EntryHead, EntryKey, FwdKey};
 pub use fail::{Fail, NoMemory};
+pub use fix::{Fix, FixTarget, Source};
+pub use module::Module;
 pub use name::{Name, NameLong};
+pub use object::{
+    Class, OBJECT_ALIAS, OBJECT_BIG, OBJECT_EXECUTABLE, OBJECT_SHARED, OBJECT_WRITABLE, ObjHead,
+    PAGE_SIZE, PageHead, PageId, PageKind,
+};
+pub use parts::{MODULE_INIT_EACH, MODULE_KIND, MODULE_LIBRARY, MODULE_TERM_EACH, Parts};
+pub use refusal::{LxKind, LxRefusal};
 pub use seq::{Bytes, Names, Numbers, Seq};

@@ -1,0 +1,191 @@
+//! A module as it was read from a file.
+
+ghost use Rattle.std.specs.Prelude.{◌≡◌, ◌+◌, ◌<◌, ◌≤◌, length, option_copied};
+ghost use Rattle.lx_types.specs.Object.{pages_of};
+ghost use Rattle.lx_types.specs.Parts.{is_library_of, object_of, page_at, data_at, fixes_at, proc_name_of, entry_of, ordinal_named};
+ghost use Rattle.lx_types.specs.Sound.{IsNumberOf, Sound};
+
+use crate::{
+    EntryHead, FixTarget, MODULE_KIND, MODULE_LIBRARY, Name, ObjHead, PAGE_SIZE, PageHead, PageId,
+    PageKind, Parts,
+};
+use std::marker::Model;
+
+/// A module whose numbers name what is there, and whose places lie in its file.
+///
+/// A reader that takes an object's number or a page asks that it is in range: objects count from 1,
+/// and the pages of an object from 0 up to `pages` of it.
+#[derive(Debug, Drop)]
+pub struct Module {
+    parts: Parts,
+}
+
+impl Model for Module {
+    ghost use Rattle.lx_types.specs.declared.parts.Parts.{Parts};
+    ghost use Rattle.lx_types.specs.Sound.{Sound};
+
+    ghost Value = { Parts };
+
+    ghost view = { λ m. m.parts };
+
+    ghost invariant = { λ m. Sound m.parts };
+}
+
+impl Module {
+    /// The module that a file has these parts for.
+    pub fn of_parts(parts: Parts) -> Module
+        requires { Sound parts }
+        ensures { result ≡ parts }
+    {
+        Module { parts }
+    }
+
+    /// The module's name.
+    pub fn name(&self) -> &Name
+        ensures { result.now ≡ self.now.name }
+    {
+        &self.parts.name
+    }
+
+    /// Whether the module is a library, and no program.
+    pub fn is_library(&self) -> bool
+        ensures { result ≡ is_library_of self.now }
+    {
+        self.parts.flags & MODULE_KIND == MODULE_LIBRARY
+    }
+
+    /// The module flags of the header.
+    pub fn flags(&self) -> u32
+        ensures { result ≡ self.now.flags }
+    {
+        self.parts.flags
+    }
+
+    /// The object and the offset at which the module starts.
+    pub fn start(&self) -> Option<(u32, u32)>
+        ensures { result ≡ self.now.start }
+    {
+        self.parts.start
+    }
+
+    pub fn objects(&self) -> &[ObjHead]
+        ensures { result.now ≡ self.now.objects }
+    {
+        self.parts.objects.as_slice()
+    }
+
+    /// How many pages an object has, by its size.
+    pub fn pages(&self, object: u32) -> u32
+        requires { IsNumberOf object (length self.now.objects) }
+        ensures { result ≡ pages_of (object_of self.now object) }
+    {
+        let size = self.objects()[object as usize - 1].size as u64;
+        (size.div_ceil(PAGE_SIZE as u64)) as u32
+    }
+
+    /// A page's entry. A page past its object's page count is a page of zeros.
+    pub fn page(&self, p: PageId) -> PageHead
+        requires object { IsNumberOf p.object (length self.now.objects) }
+        requires page { p.page < pages_of (object_of self.now p.object) }
+        ensures head { result ≡ page_at self.now p }
+        ensures within { result.at + result.len ≤ length self.now.file }
+    {
+        let object = self.objects()[p.object as usize - 1];
+        if p.page < object.count {
+            self.parts.pages.as_slice()[(object.first - 1) as usize + p.page as usize]
+        } else {
+            PageHead {
+                kind: PageKind::Zero,
+                at: 0,
+                len: 0,
+            }
+        }
+    }
+
+    /// The data that the file has for a page; it is empty for a page that is neither plain nor
+    /// iterated.
+    pub fn page_bytes(&self, p: PageId) -> &[u8]
+        requires object { IsNumberOf p.object (length self.now.objects) }
+        requires page { p.page < pages_of (object_of self.now p.object) }
+        ensures { result.now ≡ data_at self.now p }
+    {
+        let page = self.page(p);
+        let from = page.at as usize;
+        &self.file()[from..from + page.len as usize]
+    }
+
+    /// The fixup records of a page. A page past its object's page count has none.
+    pub fn fix_bytes(&self, p: PageId) -> &[u8]
+        requires object { IsNumberOf p.object (length self.now.objects) }
+        requires page { p.page < pages_of (object_of self.now p.object) }
+        ensures { result.now ≡ fixes_at self.now p }
+    {
+        let object = self.objects()[p.object as usize - 1];
+        if p.page < object.count {
+            let place = (object.first - 1) as usize + p.page as usize;
+            let (from, to) = self.parts.fix_spans.as_slice()[place];
+            &self.file()[from as usize..to as usize]
+        } else {
+            &self.file()[..0]
+        }
+    }
+
+    /// The names of the modules that this one imports from, in the order of their numbers.
+    pub fn imports(&self) -> &[Name]
+        ensures { result.now ≡ self.now.imports }
+    {
+        self.parts.imports.as_slice()
+    }
+
+    /// The name at an offset of the import procedure table. There is none where it passes the file's
+    /// end.
+    pub fn proc_name(&self, at: u32) -> Option<&[u8]>
+        ensures { option_copied result ≡ proc_name_of self.now at }
+    {
+        let start = self.parts.procs_at.checked_add(at as u64)?;
+        let file = self.file();
+        if start >= file.len() as u64 {
+            return None;
+        }
+        let text = &file[start as usize + 1..];
+        text.get(..file[start as usize] as usize)
+    }
+
+    /// What an ordinal stands for.
+    pub fn entry(&self, ordinal: u32) -> Option<EntryHead>
+        ensures { result ≡ entry_of self.now.entries ordinal }
+    {
+        let entries = self.parts.entries.as_slice();
+        entries.iter().find(|e| e.0 == ordinal).map(|e| e.1)
+    }
+
+    /// The ordinal of the first name with these bytes, in the resident name table and then in the
+    /// other.
+    pub fn ordinal_of(&self, name: &[u8]) -> Option<u32>
+        ensures { result ≡ ordinal_named self.now.names name.now }
+    {
+        let names = self.parts.names.as_slice();
+        names.iter().find(|n| n.0.bytes() == name).map(|n| n.1)
+    }
+
+    /// Each different import or entry-table target of the module's fixup records, once.
+    pub fn refs(&self) -> &[FixTarget]
+        ensures { result.now ≡ self.now.refs }
+    {
+        self.parts.refs.as_slice()
+    }
+
+    /// The file that the module was read from.
+    pub fn file(&self) -> &[u8]
+        ensures { result.now ≡ self.now.file }
+    {
+        self.parts.file.as_slice()
+    }
+
+    /// The file again, without what was read from it.
+    pub fn into_file(self) -> Vec<u8>
+        ensures { result.items ≡ self.file }
+    {
+        self.parts.file.into_vec()
+    }
+}
