@@ -1,6 +1,6 @@
 //! Names of at most 255 bytes, as the formats' length bytes allow.
 
-ghost use Rattle.std.specs.Prelude.{◌≡◌, ◌<◌, ◌↔◌, length, IsTrue, bytes_eq};
+ghost use Rattle.std.specs.Prelude.{◌≡◌, ◌<◌, ◌↔◌, [], length, IsTrue, bytes_eq};
 ghost use Rattle.std.specs.Cmp.{partial_equiv_from_equiv};
 ghost use Rattle.std.specs.Cmp.Lexicographic.{nat_list_eq_equiv};
 ghost use Rattle.lx_types.specs.Answers.{Answers};
@@ -33,6 +33,15 @@ impl Model for Name {
 }
 
 impl Name {
+    /// The name without bytes. It takes no memory.
+    pub fn empty(alloc: Global) -> Name
+        ensures { result ≡ [] }
+    {
+        Name {
+            bytes: Vec::new(alloc),
+        }
+    }
+
     /// The name with these bytes. `NameLong` comes exactly where there are more than 255.
     pub fn of(alloc: Global, bytes: &[u8]) -> Result<Name, Fail<NameLong>>
         ensures { Answers result (λ name. name ≡ bytes.now) (λ _. 255 < length bytes.now) }

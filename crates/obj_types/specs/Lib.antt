@@ -1,0 +1,6 @@
+pub mod Items
+pub mod Location
+pub mod Fresh
+pub mod Whole
+pub mod Definition
+pub mod Input

@@ -1,0 +1,110 @@
+//! An object module: its segments, their data and the fixups on it.
+
+use crate::{Exports, Exts, Imports, Pubs};
+use lx_types::{Bytes, Name, Names, Numbers, Seq};
+
+/// A contribution to a logical segment ("98h SEGDEF").
+#[derive(Debug, PartialEq, Drop)]
+pub struct Seg {
+    pub name: Name,
+    pub class: Name,
+    /// 0 absolute, 1 byte, 2 word, 3 paragraph, 4 4,096 bytes, 5 doubleword.
+    pub align: u8,
+    /// 0 private, 2, 4 and 7 public, 5 stack, 6 common.
+    pub combine: u8,
+    /// Whether it has 32-bit code or data (use32).
+    pub wide: bool,
+    /// The length in bytes.
+    pub len: u32,
+    /// Whether it holds a debugger's symbols or types, which are dropped.
+    pub debug: bool,
+}
+
+/// The segments of a module.
+pub type Segs = Seq<Seg>;
+
+/// The members of a group, as segment indices.
+pub type Members = Numbers;
+
+/// Segments that one frame reaches ("9Ah GRPDEF"). The group FLAT has no members.
+#[derive(Debug, PartialEq, Drop)]
+pub struct Group {
+    pub name: Name,
+    pub members: Members,
+}
+
+/// The groups of a module.
+pub type Groups = Seq<Group>;
+
+/// Data of a segment ("A0h LEDATA" and "A2h LIDATA", which is expanded here).
+#[derive(Debug, PartialEq, Drop)]
+pub struct Piece {
+    pub seg: u32,
+    pub offset: u32,
+    pub bytes: Bytes,
+}
+
+/// The pieces of a module; a later one covers an earlier one.
+pub type Pieces = Seq<Piece>;
+
+/// From where a fixup's location is reached: the frame methods of "9Ch FIXUPP".
+#[derive(Debug, Clone, Copy, PartialEq, Eq)]
+pub enum Frame {
+    Seg(u32),
+    Group(u32),
+    Ext(u32),
+    /// The segment of the location (method 4).
+    Here,
+    /// The target's frame (method 5).
+    OfTarget,
+}
+
+/// What a fixup refers to: the target methods of "9Ch FIXUPP".
+#[derive(Debug, Clone, Copy, PartialEq, Eq)]
+pub enum Goal {
+    Seg(u32),
+    Group(u32),
+    Ext(u32),
+}
+
+/// A FIXUP of "9Ch FIXUPP": what is to be put at an offset of a segment.
+#[derive(Debug, Clone, Copy, PartialEq, Eq)]
+pub struct FixAt {
+    pub seg: u32,
+    pub offset: u32,
+    /// The location's kind, from 0 to 13.
+    pub loc: u8,
+    /// Whether the location is self-relative.
+    pub selfrel: bool,
+    pub frame: Frame,
+    pub goal: Goal,
+    pub disp: u32,
+}
+
+/// The fixups of a module.
+pub type Fixes = Seq<FixAt>;
+
+/// The place where a program starts, or a library's initialisation ("8Ah MODEND").
+#[derive(Debug, Clone, Copy, PartialEq, Eq)]
+pub struct StartAt {
+    pub frame: Frame,
+    pub goal: Goal,
+    pub disp: u32,
+}
+
+/// An object module as its records say it.
+#[derive(Debug, PartialEq, Drop)]
+pub struct ObjModule {
+    pub name: Name,
+    pub segs: Segs,
+    pub groups: Groups,
+    pub pubs: Pubs,
+    pub exts: Exts,
+    pub pieces: Pieces,
+    pub fixes: Fixes,
+    pub imports: Imports,
+    pub exports: Exports,
+    /// The names of default libraries.
+    pub deflibs: Names,
+    pub start: Option<StartAt>,
+}

@@ -1,0 +1,67 @@
+//! The unfinished module: what a reader has after some of a module's records.
+
+ghost use Rattle.std.specs.Prelude.{◌≡◌};
+ghost use Rattle.obj_types.specs.Fresh.{fresh_parts};
+
+use crate::{Frame, Goal, ObjModule};
+use lx_types::{Bytes, Name, Names, Seq};
+use std::alloc::Global;
+
+/// The data record to which a fixup's offset refers.
+#[derive(Debug, PartialEq, Drop)]
+pub enum LastData {
+    /// No data record came.
+    None,
+    /// An LEDATA record.
+    Straight { seg: u32, offset: u32, len: u32 },
+    /// An LIDATA record, with its blocks unexpanded.
+    Blocks { seg: u32, offset: u32, body: Bytes },
+    /// Data of a debug segment.
+    Dropped,
+}
+
+/// What the THREAD fields so far mean, by number from 0 to 3.
+#[derive(Debug, Clone, Copy, PartialEq, Eq)]
+pub struct Threads {
+    pub frame: [Option<Frame>; 4],
+    pub goal: [Option<Goal>; 4],
+}
+
+/// An unfinished module.
+#[derive(Debug, PartialEq, Drop)]
+pub struct ObjParts {
+    /// The names of the LNAMES records.
+    pub names: Names,
+    pub module: ObjModule,
+    pub last: LastData,
+    pub threads: Threads,
+}
+
+impl ObjParts {
+    /// The module before its first record. It takes no memory.
+    pub fn fresh(alloc: Global) -> ObjParts
+        ensures { result ≡ fresh_parts }
+    {
+        ObjParts {
+            names: Seq::new(alloc),
+            module: ObjModule {
+                name: Name::empty(alloc),
+                segs: Seq::new(alloc),
+                groups: Seq::new(alloc),
+                pubs: Seq::new(alloc),
+                exts: Seq::new(alloc),
+                pieces: Seq::new(alloc),
+                fixes: Seq::new(alloc),
+                imports: Seq::new(alloc),
+                exports: Seq::new(alloc),
+                deflibs: Seq::new(alloc),
+                start: None,
+            },
+            last: LastData::None,
+            threads: Threads {
+                frame: [None; 4],
+                goal: [None; 4],
+            },
+        }
+    }
+}
