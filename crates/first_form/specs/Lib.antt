@@ -1,0 +1,4 @@
+pub mod Segment
+pub mod ObjectFile
+pub mod ModuleFile
+pub mod Fixing

@@ -1,0 +1,105 @@
+-- The LX files that are written and read so far: a library of one 32-bit code object of at most one
+-- page, with one fixup record for each source, no imports and no entries.
+-- 32-bit Linear eXecutable Module Format, "LX Header" to "Non-Resident Name Table".
+use Rattle.std.specs.Prelude.{◌≡◌, ℕ, ◌+◌, ◌-◌, ◌*◌, ◌^◌, ◌<◌, ◌≤◌, nat_lt, Bool, if◌then◌else◌, List, [], ◌∷◌, ◌++◌, length}
+use Rattle.std.specs.List.{flat_map, AllByRecursion, repeat}
+use Rattle.std.specs.Int.{w16, w32, to_le_bytes}
+use Rattle.lx_types.specs.Names.{IsName}
+use Rattle.first_form.specs.declared.module_file.Source.{Source}
+use Rattle.first_form.specs.declared.module_file.OneObject.{OneObject}
+
+abbrev pub has_page : OneObject → Bool
+has_page m = nat_lt 0 m.size
+
+abbrev pub pages : OneObject → ℕ
+pages m = if has_page m then 1 else 0
+
+-- ---- "Fixup Record Table": one record a source.
+
+-- A 32-bit offset with an internal target in object 1. The target offset has 16 bits where they
+-- suffice, otherwise 32.
+abbrev pub source_record : Source → List ℕ
+source_record s = if nat_lt s.target 65536
+    then 7 ∷ 0 ∷ [] ++ to_le_bytes w16 s.offset ++ 1 ∷ [] ++ to_le_bytes w16 s.target
+    else 7 ∷ 0x10 ∷ [] ++ to_le_bytes w16 s.offset ++ 1 ∷ [] ++ to_le_bytes w32 s.target
+
+abbrev pub records : List Source → List ℕ
+records sources = flat_map source_record sources
+
+-- ---- The tables.
+
+abbrev pub doublewords : List ℕ → List ℕ
+doublewords ns = flat_map (to_le_bytes w32) ns
+
+-- "Object Table". Size, linked base, flags (read, execute, big), first page, number of pages, reserved.
+abbrev pub object_table : OneObject → List ℕ
+object_table m = doublewords (m.size ∷ m.base ∷ 0x2005 ∷ pages m ∷ pages m ∷ 0 ∷ [])
+
+-- "Object Page Table". Data offset, data size, and 0 for a plain page or 3 for a zero-filled one.
+abbrev pub page_entry : List ℕ → List ℕ
+page_entry [] = doublewords (0 ∷ []) ++ to_le_bytes w16 0 ++ to_le_bytes w16 3
+page_entry (b ∷ page) = doublewords (0 ∷ []) ++ to_le_bytes w16 (length (b ∷ page)) ++ to_le_bytes w16 0
+
+abbrev pub page_table : OneObject → List ℕ
+page_table m = if has_page m then page_entry m.page else []
+
+-- "Resident Name Table" and "Non-Resident Name Table". A name with the ordinal 0, and the table's end.
+abbrev pub name_table : List ℕ → List ℕ
+name_table name = length name ∷ name ++ 0 ∷ 0 ∷ 0 ∷ []
+
+-- "Fixup Page Table". Where the records of each page begin, and where they end.
+abbrev pub fixup_page_table : OneObject → List ℕ
+fixup_page_table m = doublewords (if has_page m then 0 ∷ length (records m.sources) ∷ [] else 0 ∷ [])
+
+-- ---- The header, and the file without gaps.
+
+abbrev pub resident_at : OneObject → ℕ
+resident_at m = 220 + 8 * pages m
+
+abbrev pub entries_at : OneObject → ℕ
+entries_at m = resident_at m + length m.name + 4
+
+abbrev pub fixup_pages_at : OneObject → ℕ
+fixup_pages_at m = entries_at m + 1
+
+abbrev pub records_at : OneObject → ℕ
+records_at m = fixup_pages_at m + 4 * pages m + 4
+
+abbrev pub imports_at : OneObject → ℕ
+imports_at m = records_at m + length (records m.sources)
+
+abbrev pub data_at : OneObject → ℕ
+data_at m = imports_at m + 1
+
+abbrev pub others_at : OneObject → ℕ
+others_at m = data_at m + length m.page
+
+-- "LX Header". The doublewords at 00h to A8h, eight a line.
+abbrev pub header_fields : OneObject → List ℕ
+header_fields m =
+    0x584C ∷ 0 ∷ 0x10002 ∷ 0 ∷ 0x8000 ∷ pages m ∷ 0 ∷ 0
+    ∷ 0 ∷ 0 ∷ 4096 ∷ 0 ∷ (data_at m - fixup_pages_at m) ∷ 0 ∷ (fixup_pages_at m - 196) ∷ 0
+    ∷ 196 ∷ 1 ∷ 220 ∷ data_at m ∷ 0 ∷ 0 ∷ resident_at m ∷ entries_at m
+    ∷ 0 ∷ 0 ∷ fixup_pages_at m ∷ records_at m ∷ imports_at m ∷ 0 ∷ imports_at m ∷ 0
+    ∷ data_at m ∷ 0 ∷ others_at m ∷ (length m.name + 4) ∷ 0 ∷ 0 ∷ 0 ∷ 0
+    ∷ 0 ∷ 0 ∷ 0 ∷ []
+
+abbrev pub header : OneObject → List ℕ
+header m = doublewords (header_fields m) ++ repeat 24 (0 ∷ [])
+
+-- The whole file: header, object table, page table, resident names, no entries, fixup page table,
+-- records, no import modules, one empty import procedure, page data, non-resident names.
+unfoldable pub file : OneObject → List ℕ
+file m = header m ++ object_table m ++ page_table m ++ name_table m.name ++ 0 ∷ []
+    ++ fixup_page_table m ++ records m.sources ++ 0 ∷ [] ++ m.page ++ name_table m.name
+
+-- What has a spelling: numbers within their fields, and an object without a page has no page data and
+-- no sources.
+pub record IsOneObject (m : OneObject) : Type 0 where
+  pub name : IsName m.name
+  pub base : m.base < 2 ^ 32
+  pub size : m.size ≤ 4096
+  pub page : length m.page ≤ m.size
+  pub sources : AllByRecursion (λ s. (s.offset < 4096) × (s.target < 2 ^ 32)) m.sources
+  pub count : length m.sources ≤ 1024
+  pub empty : m.size ≡ 0 → length m.sources ≡ 0

@@ -1,0 +1,9 @@
+//! The first form of object file and of module: what they say and what they mean, with plain programs
+//! that write and read the module. The readers and the writer of the whole formats will take its place.
+#![tactic(auto)]
+
+mod module_file;
+mod records;
+
+pub use module_file::{OneObject, Source, Sources};
+pub use records::next_source;

@@ -1,0 +1,30 @@
+//! Fixup records of the first form.
+ghost use Rattle.std.specs.Prelude.{◌≡◌, ◌++◌, ◌<◌, ◌^◌, IfSome, MatchOption};
+ghost use Rattle.first_form.specs.ModuleFile.{source_record};
+
+use crate::Source;
+
+/// The source that the first record gives, and the bytes after it. `None` comes exactly where the
+/// bytes begin with no record of the first form.
+pub fn next_source(bytes: &[u8]) -> Option<(Source, &[u8])>
+    ensures read { IfSome result (λ x. bytes.now ≡ source_record x.0 ++ x.1.now) }
+{
+    match bytes {
+        [7, 0, a, b, 1, c, d, rest @ ..] => {
+            let source = Source {
+                offset: u32::from(u16::from_le_bytes([*a, *b])),
+                target: u32::from(u16::from_le_bytes([*c, *d])),
+            };
+            Some((source, rest))
+        }
+        [7, 0x10, a, b, 1, c, d, e, f, rest @ ..] => {
+            let target = u32::from_le_bytes([*c, *d, *e, *f]);
+            if target < 65536 {
+                return None;
+            }
+            let offset = u32::from(u16::from_le_bytes([*a, *b]));
+            Some((Source { offset, target }, rest))
+        }
+        _ => None,
+    }
+}
