@@ -101,5 +101,5 @@ pub record IsOneObject (m : OneObject) : Type 0 where
   pub size : m.size ≤ 4096
   pub page : length m.page ≤ m.size
   pub sources : AllByRecursion (λ s. (s.offset < 4096) × (s.target < 2 ^ 32)) m.sources
-  pub count : length m.sources ≤ 1024
+  pub count : length m.sources < 16384
   pub empty : m.size ≡ 0 → length m.sources ≡ 0

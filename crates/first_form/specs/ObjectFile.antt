@@ -86,6 +86,8 @@ pub record IsForm (form : Form) : Type 0 where
   pub name : IsName form.name
   pub segment : IsSegment (segment form)
   pub empty : form.bytes ≡ [] → NoRecord form.fixups
+  -- the FIXUPP record's length fits its word
+  pub count : length (places form.fixups) < 13107
 
 -- The bytes begin with the spelling of the form. What follows MODEND is not read.
 abbrev pub Spells : List ℕ → Form → Type 0
