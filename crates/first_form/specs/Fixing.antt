@@ -1,6 +1,6 @@
 -- What the page of a module of the first form has in memory, and why that is what its segment means.
-use Rattle.std.specs.Prelude.{◌≡◌, ℕ, ◌+◌, ◌-◌, ◌^◌, ◌%◌, ◌<◌, ◌≤◌, Bool, List, length, reverse, map, slice_index, Option, Some, None}
-use Rattle.std.specs.List.{find}
+use Rattle.std.specs.Prelude.{if◌then◌else◌, ◌≡◌, ℕ, ◌+◌, ◌-◌, ◌^◌, ◌%◌, ◌<◌, ◌≤◌, Bool, List, length, reverse, map, slice_index, Option, Some, None}
+use Rattle.std.specs.List.{find, list_any, range_with_len}
 use Rattle.std.specs.Int.{w32, to_le_bytes}
 use Rattle.first_form.specs.Segment.{Segment, covers, standing}
 use Rattle.first_form.specs.declared.module_file.Source.{Source}
@@ -28,12 +28,8 @@ abbrev pub sources_of : Segment → List Source
 sources_of s = map (source_of s.bytes) s.fixups
 
 -- A page's byte is 0 where a fixup covers it, otherwise the segment's.
-abbrev pub cleared_by : List ℕ → ℕ → Option ℕ → ℕ
-cleared_by bytes x None = slice_index bytes x
-cleared_by bytes x (Some place) = 0
-
 abbrev pub cleared : Segment → ℕ → ℕ
-cleared s x = cleared_by s.bytes x (find (covers x) s.fixups)
+cleared s x = if list_any (covers x) s.fixups then 0 else slice_index s.bytes x
 
 -- The page's data ends with its last byte that is not 0: it says each byte below the segment's length,
 -- and where it has bytes the last of them is not 0.
@@ -49,3 +45,7 @@ pub record IsLinked (called : List ℕ) (at : ℕ) (s : Segment) (m : OneObject)
   pub size : m.size ≡ length s.bytes
   pub page : IsPageOf s m.page
   pub sources : m.sources ≡ sources_of s
+
+-- The bytes of the module's object at its linked base.
+abbrev pub image : OneObject → List ℕ
+image m = map (fixed m.base m.page m.sources) (range_with_len 0 m.size)

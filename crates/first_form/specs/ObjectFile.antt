@@ -2,7 +2,7 @@
 -- in the group FLAT, its data in one LEDATA record and its fixups in one FIXUPP record.
 -- Relocatable Object Module Format, "80H THEADR", "96H LNAMES", "99H SEGDEF", "9AH GRPDEF",
 -- "A1H LEDATA", "9DH FIXUPP", "8AH MODEND". Each checksum byte is 0.
-use Rattle.std.specs.Prelude.{◌≡◌, ℕ, ◌+◌, ◌/◌, ◌%◌, List, [], ◌∷◌, ◌++◌, length, map, codes, true, false, Option, Some, None}
+use Rattle.std.specs.Prelude.{◌<◌, ◌≡◌, ℕ, ◌+◌, ◌/◌, ◌%◌, List, [], ◌∷◌, ◌++◌, length, map, codes, true, false, Option, Some, None}
 use Rattle.std.specs.List.{flat_map}
 use Rattle.std.specs.Int.{w16, w32, to_le_bytes}
 use Rattle.lx_types.specs.Names.{IsName}
