@@ -1,12 +1,12 @@
 //! Names of at most 255 bytes, as the formats' length bytes allow.
 
-ghost use Rattle.std.specs.Prelude.{◌≡◌, ◌<◌, ◌↔◌, [], length, IsTrue, bytes_eq};
+ghost use Rattle.std.specs.Prelude.{◌≡◌, ◌<◌, ◌↔◌, [], length, IsTrue, IfOk, bytes_eq};
 ghost use Rattle.std.specs.Cmp.{partial_equiv_from_equiv};
 ghost use Rattle.std.specs.Cmp.Lexicographic.{nat_list_eq_equiv};
 ghost use Rattle.lx_types.specs.Answers.{Answers};
-ghost use Rattle.lx_types.specs.Names.{SameModule, IsName};
+ghost use Rattle.lx_types.specs.Names.{SameModule, IsName, uppercase};
 
-use crate::Fail;
+use crate::{Fail, NoMemory};
 use std::alloc::Global;
 use std::marker::Model;
 
@@ -61,6 +61,15 @@ impl Name {
         ensures short { IsName self.now }
     {
         self.bytes.as_slice()
+    }
+
+    /// The name with its ASCII letters in upper case, as module names are written.
+    pub fn to_uppercase(&self, alloc: Global) -> Result<Name, NoMemory>
+        ensures { IfOk result (λ name. name ≡ uppercase self.now) }
+    {
+        let mut bytes = Vec::from_slice(alloc, self.bytes.as_slice())?;
+        bytes.make_ascii_uppercase();
+        Ok(Name { bytes })
     }
 
     /// Whether the two mean the same module: ASCII letters are compared in upper case.

@@ -1,0 +1,2 @@
+mod Zeros
+pub mod Meaning

@@ -1,0 +1,59 @@
+//! From a link's input to the module's bytes.
+ghost use Rattle.std.specs.Prelude.{◌≡◌, IfOk};
+ghost use Rattle.first_form.specs.ObjectFile.{Form};
+ghost use Rattle.first_form.specs.ModuleFile.{IsOneObject, file};
+ghost use Rattle.first_form.specs.declared.module_file.OneObject.{OneObject as Linked};
+ghost use Rattle.link_core.specs.FirstInput.{FirstInput, LinksTo, data_of, base_of};
+
+use crate::page::{cleared_data, page_sources, trim};
+use first_form::{OneObject, write_file};
+use lx_types::{NoMemory, Seq};
+use obj_types::{LinkInput, ObjModule};
+use std::alloc::Global;
+
+/// The linked base of a library's first object where the definition file gives none.
+const LIBRARY_BASE: u32 = 0x1000_0000;
+
+/// The data of the object's first data record.
+fn first_data(object: &ObjModule) -> &[u8]
+    ensures { result.now ≡ data_of object.now.pieces }
+{
+    match object.pieces.as_slice() {
+        [] => &[],
+        [piece, ..] => piece.bytes.as_slice(),
+    }
+}
+
+/// What the input is linked to.
+fn linked(alloc: Global, input: &LinkInput) -> Result<OneObject, NoMemory>
+    requires { (form : Form) × FirstInput input.now form }
+    ensures { IfOk result (λ m. IsOneObject m × ((form : Form) → FirstInput input.now form → LinksTo input.now form m)) }
+{
+    let object = &input.objects.as_slice()[0];
+    let bytes = first_data(object);
+    let fixes = object.fixes.as_slice();
+    let mut page = cleared_data(alloc, bytes, fixes)?;
+    trim(&mut page);
+    let sources = page_sources(alloc, bytes, fixes)?;
+    Ok(OneObject {
+        name: input.stem.to_uppercase(alloc)?,
+        base: input.def.base.unwrap_or(LIBRARY_BASE),
+        size: bytes.len() as u32,
+        page: Seq::from_vec(page),
+        sources: Seq::from_vec(sources),
+    })
+}
+
+/// Links the input to the bytes of a module ("32-bit Linear eXecutable Module Format").
+///
+/// Until other forms are linked the input is one object file of the first form, with the definition of
+/// a library that says nothing but its base. At the linked base the module's bytes are what the object
+/// file's segment means there.
+pub fn link(alloc: Global, input: &LinkInput) -> Result<Vec<u8>, NoMemory>
+    requires { (form : Form) × FirstInput input.now form }
+    ensures { IfOk result (λ written. (m : Linked) × IsOneObject m × (written.items ≡ file m)
+        × ((form : Form) → FirstInput input.now form → LinksTo input.now form m)) }
+{
+    let module = linked(alloc, input)?;
+    write_file(alloc, &module)
+}
