@@ -4,6 +4,8 @@
 
 mod module_file;
 mod records;
+mod writing;
 
 pub use module_file::{OneObject, Source, Sources};
 pub use records::next_source;
+pub use writing::write_file;
