@@ -1,2 +1,3 @@
 mod Zeros
+mod Input
 pub mod Meaning

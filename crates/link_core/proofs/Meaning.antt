@@ -1,14 +1,13 @@
 -- The bytes of a linked object at its base are what the segment means there.
-use Rattle.std.proofs.Common.{◌≡◌, ℕ, zero, suc, ◌+◌, ◌-◌, ◌<◌, ◌≤◌, ◌⊎◌, List, [], ◌∷◌, ◌++◌, length, map, reverse, get_or, Bool, true, false, cond, ◌&&◌, nat_le, nat_lt, ap, sym, ◌∙◌, refl, arith, Option, Some, None, inl, inr, slice_index, if◌then◌else◌}
+use Rattle.std.proofs.Common.{◌≡◌, ℕ, zero, suc, ◌+◌, ◌<◌, ◌≤◌, List, [], ◌∷◌, ◌++◌, length, map, reverse, Bool, true, false, cond, ap, ◌∙◌, refl, arith, Option, Some, None, slice_index}
 use mathlib.Core.List.{reverse_aux}
 use Rattle.std.proofs.lemmas.List.{reverse-append}
 use Rattle.std.proofs.lemmas.List.Folds.{find-append}
 use Rattle.std.proofs.lemmas.List.Elements.{recursion_from_All}
 use Rattle.std.specs.List.{find, list_any, range_with_len, AllPairs, AllByRecursion}
 use Rattle.std.specs.Option.{option_or, option_map}
-use Rattle.first_form.specs.Segment.{Segment, IsSegment, covers, standing, value, mean, mean_by, meaning, Apart}
+use Rattle.first_form.specs.Segment.{Segment, IsSegment, covers, mean, mean_by, meaning, Apart}
 use Rattle.first_form.specs.Fixing.{source_covers, fixed, fixed_by, source_of, sources_of, cleared, IsPageOf, IsLinked, image}
-use Rattle.first_form.specs.declared.module_file.Source.{Source}
 use Rattle.first_form.specs.declared.module_file.OneObject.{OneObject}
 
 -- ---- The last that passes a test is the first, where at most one does.

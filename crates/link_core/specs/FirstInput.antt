@@ -1,6 +1,7 @@
 -- What is linked so far: one object file of the first form, as a library without a definition file of
 -- its own.
-use Rattle.std.specs.Prelude.{◌≡◌, ◌≢◌, ℕ, List, [], ◌∷◌, true, false, Option, Some, None}
+use Rattle.std.specs.Prelude.{◌≡◌, ◌≢◌, ℕ, List, [], ◌∷◌, true, false, Option, None}
+use Rattle.std.specs.Option.{unwrap_or}
 use Rattle.lx_types.specs.Names.{uppercase}
 use Rattle.obj_types.specs.declared.definition.Attrs.{Attrs}
 use Rattle.obj_types.specs.declared.definition.DefFile.{DefFile}
@@ -47,8 +48,7 @@ pub record FirstInput (input : LinkInput) (read : Form) : Type 0 where
 
 -- The linked base of a library's first object: what BASE says, otherwise 10000000h.
 abbrev pub base_of : Option ℕ → ℕ
-base_of None = 0x10000000
-base_of (Some base) = base
+base_of base = unwrap_or base 0x10000000
 
 -- The bytes of the first data record.
 abbrev pub data_of : List Piece → List ℕ

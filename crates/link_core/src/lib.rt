@@ -1,7 +1,7 @@
 //! The whole link: from object modules and a definition file to the bytes of an LX module.
 #![tactic(auto)]
 
-mod link;
+mod linking;
 mod page;
 
-pub use link::link;
+pub use linking::link;

@@ -1,12 +1,10 @@
 //! The page of an object: its data, and the sources of its fixups.
 ghost use Rattle.std.specs.Prelude.{◌≡◌, ◌+◌, ◌<◌, ◌≤◌, ℕ, IfOk, length, map, slice_index, if◌then◌else◌};
-ghost use Rattle.std.specs.List.{AllByRecursion};
-ghost use Rattle.first_form.specs.Segment.{Segment, covers};
-ghost use Rattle.first_form.specs.Fixing.{cleared, sources_of as sources, IsPageOf};
-ghost use Rattle.link_core.specs.Fields.{HasFields, offsets};
+ghost use Rattle.first_form.specs.Segment.{covers};
+ghost use Rattle.first_form.specs.Fixing.{cleared, sources_of as sources};
+ghost use Rattle.link_core.specs.Fields.{HasFields, segment_of};
 
-use first_form::{Source, Sources};
-use lx_types::{Bytes, NoMemory, Seq};
+use first_form::Source;
 use obj_types::FixAt;
 use std::alloc::{AllocError, Global};
 
@@ -21,7 +19,7 @@ pub fn clear_field(page: &mut [u8], place: usize)
 /// The data with zeros where fixups are, whose bytes come from fixup records.
 pub fn cleared_data(alloc: Global, bytes: &[u8], fixes: &[FixAt]) -> Result<Vec<u8>, AllocError>
     requires { HasFields bytes.now fixes.now }
-    ensures { IfOk result (λ page. (length page.items ≡ length bytes.now) × ((x : ℕ) → x < length bytes.now → slice_index page.items x ≡ cleared (record { bytes = bytes.now; fixups = offsets fixes.now }) x)) }
+    ensures { IfOk result (λ page. (length page.items ≡ length bytes.now) × ((x : ℕ) → x < length bytes.now → slice_index page.items x ≡ cleared (segment_of bytes.now fixes.now) x)) }
 {
     let mut page = Vec::from_slice(alloc, bytes)?;
     for fix in fixes {
@@ -45,12 +43,17 @@ pub fn trim(page: &mut Vec<u8>)
 /// of its target.
 pub fn page_sources(alloc: Global, bytes: &[u8], fixes: &[FixAt]) -> Result<Vec<Source>, AllocError>
     requires { HasFields bytes.now fixes.now }
-    ensures { IfOk result (λ v. v.items ≡ sources (record { bytes = bytes.now; fixups = offsets fixes.now })) }
+    ensures { IfOk result (λ v. v.items ≡ sources (segment_of bytes.now fixes.now)) }
 {
     let mut sources = Vec::new(alloc);
     for fix in fixes {
         let place = fix.offset as usize;
-        let target = u32::from_le_bytes([bytes[place], bytes[place + 1], bytes[place + 2], bytes[place + 3]]);
+        let target = u32::from_le_bytes([
+            bytes[place],
+            bytes[place + 1],
+            bytes[place + 2],
+            bytes[place + 3],
+        ]);
         sources.push(Source {
             offset: fix.offset,
             target,

@@ -65,7 +65,8 @@ impl Name {
 
     /// The name with its ASCII letters in upper case, as module names are written.
     pub fn to_uppercase(&self, alloc: Global) -> Result<Name, NoMemory>
-        ensures { IfOk result (λ name. name ≡ uppercase self.now) }
+        ensures letters { IfOk result (λ name. name ≡ uppercase self.now) }
+        ensures short { IfOk result (λ name. IsName name) }
     {
         let mut bytes = Vec::from_slice(alloc, self.bytes.as_slice())?;
         bytes.make_ascii_uppercase();

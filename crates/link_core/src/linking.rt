@@ -1,5 +1,9 @@
 //! From a link's input to the module's bytes.
-ghost use Rattle.std.specs.Prelude.{◌≡◌, IfOk};
+ghost use Rattle.std.specs.Prelude.{◌≡◌, ◌<◌, IfOk, length};
+ghost use Rattle.lx_types.specs.Names.{IsName};
+ghost use Rattle.first_form.specs.Segment.{IsSegment};
+ghost use Rattle.first_form.specs.Fixing.{IsLinked};
+ghost use Rattle.link_core.specs.Fields.{segment_of};
 ghost use Rattle.first_form.specs.ObjectFile.{Form};
 ghost use Rattle.first_form.specs.ModuleFile.{IsOneObject, file};
 ghost use Rattle.first_form.specs.declared.module_file.OneObject.{OneObject as Linked};
@@ -7,8 +11,8 @@ ghost use Rattle.link_core.specs.FirstInput.{FirstInput, LinksTo, data_of, base_
 
 use crate::page::{cleared_data, page_sources, trim};
 use first_form::{OneObject, write_file};
-use lx_types::{NoMemory, Seq};
-use obj_types::{LinkInput, ObjModule};
+use lx_types::{Name, NoMemory, Seq};
+use obj_types::{FixAt, LinkInput, ObjModule};
 use std::alloc::Global;
 
 /// The linked base of a library's first object where the definition file gives none.
@@ -24,24 +28,46 @@ fn first_data(object: &ObjModule) -> &[u8]
     }
 }
 
+/// The object of a segment with this data and these fixups.
+fn one_object(
+    alloc: Global,
+    name: Name,
+    base: u32,
+    bytes: &[u8],
+    fixes: &[FixAt],
+) -> Result<OneObject, NoMemory>
+    requires segment { IsSegment (segment_of bytes.now fixes.now) }
+    requires few { length fixes.now < 13107 }
+    requires short { IsName name }
+    ensures { IfOk result (λ m. IsOneObject m × IsLinked name base (segment_of bytes.now fixes.now) m) }
+{
+    let mut page = cleared_data(alloc, bytes, fixes)?;
+    trim(&mut page);
+    let sources = page_sources(alloc, bytes, fixes)?;
+    Ok(OneObject {
+        name,
+        base,
+        size: bytes.len() as u32,
+        page: Seq::from_vec(page),
+        sources: Seq::from_vec(sources),
+    })
+}
+
 /// What the input is linked to.
 fn linked(alloc: Global, input: &LinkInput) -> Result<OneObject, NoMemory>
     requires { (form : Form) × FirstInput input.now form }
     ensures { IfOk result (λ m. IsOneObject m × ((form : Form) → FirstInput input.now form → LinksTo input.now form m)) }
 {
     let object = &input.objects.as_slice()[0];
-    let bytes = first_data(object);
-    let fixes = object.fixes.as_slice();
-    let mut page = cleared_data(alloc, bytes, fixes)?;
-    trim(&mut page);
-    let sources = page_sources(alloc, bytes, fixes)?;
-    Ok(OneObject {
-        name: input.stem.to_uppercase(alloc)?,
-        base: input.def.base.unwrap_or(LIBRARY_BASE),
-        size: bytes.len() as u32,
-        page: Seq::from_vec(page),
-        sources: Seq::from_vec(sources),
-    })
+    let name = input.stem.to_uppercase(alloc)?;
+    let base = input.def.base.unwrap_or(LIBRARY_BASE);
+    one_object(
+        alloc,
+        name,
+        base,
+        first_data(object),
+        object.fixes.as_slice(),
+    )
 }
 
 /// Links the input to the bytes of a module ("32-bit Linear eXecutable Module Format").
