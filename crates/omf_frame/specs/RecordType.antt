@@ -6,22 +6,22 @@ use Rattle.std.specs.List.{list_any}
 
 abbrev pub record_types : List ℕ
 record_types =
-    0x80 ∷ -- THEADR
-    0x82 ∷ -- LHEADR
-    0x88 ∷ -- COMENT
-    0x8A ∷ 0x8B ∷ -- MODEND
-    0x8C ∷ -- EXTDEF
-    0x90 ∷ 0x91 ∷ -- PUBDEF
-    0x94 ∷ 0x95 ∷ -- LINNUM
-    0x96 ∷ -- LNAMES
-    0x98 ∷ 0x99 ∷ -- SEGDEF
-    0x9A ∷ -- GRPDEF
-    0x9C ∷ 0x9D ∷ -- FIXUPP
-    0xA0 ∷ 0xA1 ∷ -- LEDATA
-    0xA2 ∷ 0xA3 ∷ -- LIDATA
-    0xB0 ∷ -- COMDEF
-    0xB4 ∷ 0xB5 ∷ -- LEXTDEF
-    0xB6 ∷ 0xB7 ∷ -- LPUBDEF
+    0x80 ∷  -- THEADR
+    0x82 ∷  -- LHEADR
+    0x88 ∷  -- COMENT
+    0x8A ∷ 0x8B ∷  -- MODEND
+    0x8C ∷  -- EXTDEF
+    0x90 ∷ 0x91 ∷  -- PUBDEF
+    0x94 ∷ 0x95 ∷  -- LINNUM
+    0x96 ∷  -- LNAMES
+    0x98 ∷ 0x99 ∷  -- SEGDEF
+    0x9A ∷  -- GRPDEF
+    0x9C ∷ 0x9D ∷  -- FIXUPP
+    0xA0 ∷ 0xA1 ∷  -- LEDATA
+    0xA2 ∷ 0xA3 ∷  -- LIDATA
+    0xB0 ∷  -- COMDEF
+    0xB4 ∷ 0xB5 ∷  -- LEXTDEF
+    0xB6 ∷ 0xB7 ∷  -- LPUBDEF
     []
 
 abbrev pub is_record_type : ℕ → Bool

@@ -95,13 +95,21 @@ pub fn next_record<'a>(cur: &mut Cur<'a>) -> Result<Rec<'a>, FrameRefusal>
     ensures read { IfOk result (λ r. (r.at ≡ cur.old.at) × BeginsRecord cur.old.left r.ty r.body.now cur.new.left) }
     ensures behind { IfOk result (λ r. cur.new.at ≡ cur.old.at + 4 + length r.body.now) }
     // What is spelled there is read.
-    ensures only { (ty : ℕ) (body rest : List ℕ) → BeginsRecord cur.old.left ty body rest → IsOkAnd result (λ r. (r.ty ≡ ty) × (r.body.now ≡ body)) }
+    ensures only { (ty : ℕ) (body rest : List ℕ) → BeginsRecord cur.old.left ty body rest → IsOkAnd result (λ r. (r.ty ≡ ty) × (r.body.now ≡ body) × (cur.new.left ≡ rest)) }
     ensures refused { IfErr result (λ refusal. Refuses cur.old refusal) }
     ensures stays { OnErr result (cur.new ≡ cur.old) }
 {
     let at = cur.at();
     let mut ahead = cur.fork();
-    let Some(Whole { ty, body, checksum, sum }) = whole_record(&mut ahead) else {
+    let Some(
+        Whole {
+            ty,
+            body,
+            checksum,
+            sum,
+        },
+    ) = whole_record(&mut ahead)
+    else {
         return Err(FrameRefusal::Short { at });
     };
     if !record_type::is_known(ty) {

@@ -1,4 +1,4 @@
-use Rattle.std.proofs.Common.{◌≡◌, ap}
+use Rattle.std.proofs.Common.{ap}
 use Rattle.omf_frame.proofs.Records.{not_checksum, whole_one}
 use Rattle.omf_frame.proofs.frame.next_record.Goals as goal
 
@@ -10,4 +10,4 @@ returns-then-sum-ne0-clause-only c = λ ty body rest r.
 pub returns-clause-only : goal.returns-clause-only
 returns-clause-only c = λ ty body rest r.
     let one = whole_one (ap (λ k. k.left) c.fork-ahead.ensures) c.in-Some.ensures.whole r.whole in
-    (one.0, one.1)
+    (one.0, one.1, one.3)

@@ -1,4 +1,4 @@
-use Rattle.std.proofs.Common.{◌≡◌, ◌+◌, ◌-◌, ◌%◌, ◌++◌, length, sum, take, drop, get_or, ap, ◌∙◌, arith}
+use Rattle.std.proofs.Common.{◌-◌, ◌%◌, ◌++◌, length, sum, ap, ◌∙◌, arith}
 use Rattle.omf_frame.specs.Frame.{record_bytes}
 use Rattle.omf_frame.proofs.Records.{IsDelimited-record_bytes, record_bytes-from_delimited}
 use Rattle.omf_frame.proofs.frame.whole_record.Goals as goal
@@ -12,8 +12,8 @@ returns-clause-whole c =
     let bytes = c.in-Ok.bytes.now in
     let parts = record_bytes-from_delimited bytes (length bytes - 1 - 3) (length bytes - 1) c.in-Ok.ensures.bytes c.in-Ok.ensures.delimited (omega (arith, c.in-len4-up.len_at_least)) (omega (arith, c.in-len4-up.len_at_least)) in
     record {
-        joined = c.in-Ok.ensures.taken ∙ ap (λ front. front ++ c.delimited.new.cur.left) parts.0;
-        counted = parts.1
+      joined = c.in-Ok.ensures.taken ∙ ap (λ front. front ++ c.delimited.new.cur.left) parts.0;
+      counted = parts.1;
     }
 
 pub returns-clause-sum : goal.returns-clause-sum
