@@ -12,3 +12,5 @@ pub mod Library
 pub mod Entries
 pub mod Fixed
 pub mod Reach
+pub mod WorkedRecords
+pub mod WorkedFile

@@ -3,5 +3,6 @@
 #![tactic(auto)]
 
 mod library;
+mod worked;
 
 pub use library::{EntryFault, Health, Spot};
