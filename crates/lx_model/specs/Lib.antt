@@ -14,3 +14,4 @@ pub mod Fixed
 pub mod Reach
 pub mod WorkedRecords
 pub mod WorkedFile
+pub mod WorkedLibrary

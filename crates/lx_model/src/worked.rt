@@ -3,6 +3,7 @@
 
 ghost use Rattle.lx_model.specs.WorkedRecords.{WorkedRecords, WorkedRecordFaults, WorkedGroups};
 ghost use Rattle.lx_model.specs.WorkedFile.{WorkedFile, WorkedFaults};
+ghost use Rattle.lx_model.specs.WorkedLibrary.{WorkedFields, WorkedLibrary};
 
 /// Fixup records of each form, and what is wrong first with others.
 pub fn records_read()
@@ -26,5 +27,17 @@ pub fn file_means()
 /// What is wrong with that module after a change, and where.
 pub fn file_refused()
     ensures { WorkedFaults }
+{
+}
+
+/// What the sources of each kind put, and where they cross a page's end.
+pub fn fields_put()
+    ensures { WorkedFields }
+{
+}
+
+/// Where entries lead through forwarders, and which modules can be loaded.
+pub fn library_means()
+    ensures { WorkedLibrary }
 {
 }
