@@ -1,7 +1,6 @@
 -- Bytes and numbers stand for one another.
 use Rattle.std.proofs.Common.{◌≡◌, ℕ, zero, suc, ◌+◌, ◌*◌, ◌/◌, ◌%◌, ◌^◌, ◌<◌, List, [], ◌∷◌, length, refl, arith}
-use Rattle.std.proofs.Math.Nat.{add-mul-mod_self_left, div-lt_iff_lt-mul, mod-add-div, mod-eq_of_lt, pow-suc}
-use Rattle.std.proofs.lemmas.Nat.{div-mul-add}
+use Rattle.std.proofs.Math.Nat.{div-lt_iff_lt-mul, mod-add-div, pow-suc}
 use Rattle.lx_bytes.specs.LittleEndian.{AreBytes, little, little_bytes}
 
 pub length-little_bytes : (n x : ℕ) → length (little_bytes n x) ≡ n

@@ -1,8 +1,8 @@
 //! A place in a byte slice, and reads that move it on.
 
-ghost use Rattle.std.specs.Prelude.{◌≡◌, ◌+◌, ◌<◌, ◌^◌, [], ◌∷◌, length};
+ghost use Rattle.std.specs.Prelude.{◌≡◌, ◌+◌, ◌<◌, ◌^◌, [], ◌∷◌, length, IfOk};
 ghost use Rattle.lx_bytes.specs.Cursor.{Reads};
-ghost use Rattle.lx_bytes.specs.LittleEndian.{little};
+ghost use Rattle.lx_bytes.specs.LittleEndian.{AreBytes, little};
 
 use byteorder::{ByteOrder, LittleEndian};
 use std::marker::Model;
@@ -25,12 +25,13 @@ pub struct Cur<'a> {
 impl<'a> Model for Cur<'a> {
     ghost use Rattle.std.specs.Prelude.{◌+◌, ◌<◌, ◌^◌, length};
     ghost use Rattle.lx_bytes.specs.Cursor.{Cursor};
+    ghost use Rattle.lx_bytes.specs.LittleEndian.{AreBytes};
 
     ghost Value = { Cursor };
 
     ghost view = { λ c. record { at = c.at; left = c.left.now } };
 
-    ghost invariant = { λ c. c.at + length c.left.now < 2 ^ 64 };
+    ghost invariant = { λ c. (c.at + length c.left.now < 2 ^ 64) × AreBytes c.left.now };
 }
 
 impl<'a> Cur<'a> {
@@ -63,7 +64,8 @@ impl<'a> Cur<'a> {
 
     /// How many bytes are left.
     pub fn left(&self) -> usize
-        ensures { result ≡ length self.now.left }
+        ensures count { result ≡ length self.now.left }
+        ensures bytes { AreBytes self.now.left }
     {
         self.left.len()
     }
@@ -91,7 +93,8 @@ impl<'a> Cur<'a> {
 
     /// The next `n` bytes.
     pub fn take(&mut self, n: usize) -> Result<&'a [u8], Short>
-        ensures { Reads n (λ bytes taken. taken.now ≡ bytes) self.old result self.new }
+        ensures read { Reads n (λ bytes taken. taken.now ≡ bytes) self.old result self.new }
+        ensures bytes { IfOk result (λ taken. AreBytes taken.now) }
     {
         if self.left.len() < n {
             return Err(Short { at: self.at });

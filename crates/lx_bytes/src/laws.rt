@@ -8,5 +8,4 @@ pub fn numbers_are_bytes()
     ensures length { (n x : ℕ) → length (little_bytes n x) ≡ n }
     ensures read_back { (n x : ℕ) → x < 256 ^ n → little (little_bytes n x) ≡ x }
     ensures written_back { (bs : List ℕ) → AreBytes bs → little_bytes (length bs) (little bs) ≡ bs }
-{
-}
+{}
