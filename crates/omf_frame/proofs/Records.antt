@@ -1,0 +1,84 @@
+-- A whole record's bytes are told from its length word, and bytes begin with one whole record at most.
+use Rattle.std.proofs.Common.{◌≡◌, ℕ, zero, suc, ◌+◌, ◌-◌, ◌*◌, ◌/◌, ◌%◌, ◌^◌, ◌<◌, ◌≤◌, List, [], ◌∷◌, ◌++◌, length, take, drop, get_or, ◌⊎◌, inl, inr, refl, sym, ap, ◌∙◌, arith, length-append, append_assoc}
+use Rattle.std.proofs.Math.Seq.{take-append_seam, drop-append_seam, take-suc, take-length}
+use Rattle.lx_bytes.specs.LittleEndian.{AreBytes, little, little_bytes}
+use Rattle.lx_bytes.proofs.Numbers.{little-little_bytes, little_bytes-little}
+use Rattle.omf_frame.specs.Frame.{BeginsWhole, IsChecksum, record_bytes, record_sum}
+use Rattle.omf_frame.specs.Delimited.{IsDelimited, length_word}
+
+-- the front of two equal lists
+append_one : (xs ys r s : List ℕ) → length xs ≡ length ys → xs ++ r ≡ ys ++ s → (xs ≡ ys) × (r ≡ s)
+append_one xs ys r s long same =
+    let front : xs ≡ ys =
+    sym (take-append_seam xs r) ∙ ap (take (length xs)) same ∙ ap (λ (n : ℕ). take n (ys ++ s)) long ∙ take-append_seam ys s in
+    let back : r ≡ s =
+    sym (drop-append_seam xs r) ∙ ap (drop (length xs)) same ∙ ap (λ (n : ℕ). drop n (ys ++ s)) long ∙ drop-append_seam ys s in
+    (front, back)
+
+-- a whole record's bytes are as many as its length word says
+pub IsDelimited-record_bytes : (ty : ℕ) (body : List ℕ) (checksum : ℕ) → length body + 1 < 2 ^ 16 → IsDelimited (record_bytes ty body checksum)
+IsDelimited-record_bytes ty body checksum counted =
+    let word : little (little_bytes 2 (length body + 1)) ≡ length body + 1 = little-little_bytes 2 (length body + 1) counted in
+    omega (arith, word, length-append body (checksum ∷ []))
+
+-- the length word stands in the front of the bytes
+length_word-append : (xs r : List ℕ) → 3 ≤ length xs → length_word (xs ++ r) ≡ length_word xs
+length_word-append [] r long = omega (arith, long)
+length_word-append (a ∷ []) r long = omega (arith, long)
+length_word-append (a ∷ b ∷ []) r long = omega (arith, long)
+length_word-append (a ∷ b ∷ c ∷ xs) r long = refl
+
+-- bytes begin with one delimited list at most
+pub delimited_one : (xs ys r s : List ℕ) → IsDelimited xs → IsDelimited ys → xs ++ r ≡ ys ++ s → (xs ≡ ys) × (r ≡ s)
+delimited_one xs ys r s dx dy same =
+    let words = ap length_word same in
+    let x = length_word-append xs r (omega (arith, dx)) in
+    let y = length_word-append ys s (omega (arith, dy)) in
+    append_one xs ys r s (omega (arith, dx, dy, words, x, y)) same
+
+-- two whole records of the same bytes are one
+pub record_bytes_one : (ty uy : ℕ) (body cody : List ℕ) (c d : ℕ) → record_bytes ty body c ≡ record_bytes uy cody d → (ty ≡ uy) × (body ≡ cody) × (c ≡ d)
+record_bytes_one ty uy body cody c d same =
+    let tys = ap (λ (l : List ℕ). get_or l 0 0) same in
+    let tails : body ++ c ∷ [] ≡ cody ++ d ∷ [] = ap (drop 3) same in
+    let lengths = ap length tails in
+    let long : length body ≡ length cody = omega (arith, lengths, length-append body (c ∷ []), length-append cody (d ∷ [])) in
+    let both = append_one body cody (c ∷ []) (d ∷ []) long tails in
+    (tys, both.0, ap (λ (l : List ℕ). get_or l 0 0) both.1)
+
+pair_of_bytes : (l h : ℕ) → l < 256 → h < 256 → AreBytes (l ∷ h ∷ [])
+pair_of_bytes l h low high zero = low
+pair_of_bytes l h low high (suc zero) = high
+pair_of_bytes l h low high (suc (suc i)) = omega arith
+
+-- delimited bytes are those of a whole record, if there is a checksum byte
+pub record_bytes-from_delimited : (bytes : List ℕ) (k last : ℕ) → AreBytes bytes → IsDelimited bytes → length bytes ≡ k + 4 → last ≡ suc (suc (suc k)) → (bytes ≡ record_bytes (get_or bytes 0 0) (take k (drop 3 bytes)) (get_or bytes last 0)) × (length (take k (drop 3 bytes)) + 1 < 2 ^ 16)
+record_bytes-from_delimited [] k last fit delimited long end = absurd (omega (arith, long))
+record_bytes-from_delimited (t ∷ []) k last fit delimited long end = absurd (omega (arith, long))
+record_bytes-from_delimited (t ∷ l ∷ []) k last fit delimited long end = absurd (omega (arith, long))
+record_bytes-from_delimited (t ∷ l ∷ h ∷ xs) k last fit delimited long end =
+    let low : l < 256 = fit 1 in
+    let high : h < 256 = fit 2 in
+    let count : length xs ≡ suc k = omega (arith, long) in
+    let whole : take (suc k) xs ≡ xs = ap (λ (n : ℕ). take n xs) (sym count) ∙ take-length xs in
+    let parts : take k xs ++ get_or xs k 0 ∷ [] ≡ xs = sym (take-suc xs k 0 (omega (arith, count))) ∙ whole in
+    let body : length (take k xs) + 1 ≡ length xs = sym (length-append (take k xs) (get_or xs k 0 ∷ [])) ∙ ap length parts in
+    let word : little (l ∷ h ∷ []) ≡ length (take k xs) + 1 = omega (arith, delimited, body) in
+    let spelled : little_bytes 2 (length (take k xs) + 1) ≡ l ∷ h ∷ [] =
+    ap (little_bytes 2) (sym word) ∙ little_bytes-little (l ∷ h ∷ []) (pair_of_bytes l h low high) in
+    let joined : t ∷ l ∷ h ∷ xs ≡ record_bytes t (take k xs) (get_or xs k 0) =
+    ap (λ (ys : List ℕ). t ∷ l ∷ h ∷ ys) (sym parts) ∙ ap (λ (ws : List ℕ). t ∷ ws ++ take k xs ++ get_or xs k 0 ∷ []) (sym spelled) in
+    (rw end joined, omega (arith, word, low, high))
+
+-- bytes begin with one whole record at most
+pub whole_one : {bytes cytes : List ℕ} {ty uy : ℕ} {body cody : List ℕ} {c d : ℕ} {rest sest : List ℕ} → bytes ≡ cytes → BeginsWhole bytes ty body c rest → BeginsWhole cytes uy cody d sest → (ty ≡ uy) × (body ≡ cody) × (c ≡ d) × (rest ≡ sest)
+whole_one {ty = ty} {uy = uy} {body = body} {cody = cody} {c = c} {d = d} {rest = rest} {sest = sest} same a b =
+    let ends = delimited_one (record_bytes ty body c) (record_bytes uy cody d) rest sest (IsDelimited-record_bytes ty body c a.counted) (IsDelimited-record_bytes uy cody d b.counted) (sym a.joined ∙ same ∙ b.joined) in
+    let parts = record_bytes_one ty uy body cody c d ends.0 in
+    (parts.0, parts.1, parts.2, ends.1)
+
+-- a checksum byte and a sum that are both not 0 are not right
+pub not_checksum : {ty uy : ℕ} {body cody : List ℕ} {c d total : ℕ} → ty ≡ uy → body ≡ cody → c ≡ d → total ≡ record_sum ty body c → ¬ c ≡ 0 → ¬ total ≡ 0 → IsChecksum uy cody d → ⊥
+not_checksum types bodies checksums sums checksum_not sum_not (inl zero_byte) = checksum_not (checksums ∙ zero_byte)
+not_checksum types bodies checksums sums checksum_not sum_not (inr zero_sum) =
+    sum_not (sums ∙ rw (types, bodies, checksums) zero_sum)

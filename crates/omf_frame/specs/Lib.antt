@@ -1,0 +1,4 @@
+pub mod RecordType
+pub mod Frame
+pub mod Delimited
+pub mod Refusal
