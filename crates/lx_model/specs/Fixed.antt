@@ -1,6 +1,6 @@
 -- The bytes of a page: as the file has them, and with its fixups at the bases of a load.
 -- LX: "Object Page Table", "Fixup Record Table".
-use Rattle.std.specs.Prelude.{ℕ, suc, ◌+◌, ◌*◌, ◌-◌, ◌^◌, ◌%◌, ◌==◌, Bool, List, [], ◌∷◌, ◌++◌, map, reverse, find, slice_get, slice_index, Option, Some, None, unwrap_or, Result, Ok, Err, nat_le, if◌then◌else◌, ℤ, pos, negsuc}
+use Rattle.std.specs.Prelude.{ℕ, suc, ◌+◌, ◌*◌, ◌-◌, ◌^◌, ◌%◌, ◌==◌, Bool, List, [], ◌++◌, map, reverse, find, slice_get, slice_index, Option, Some, None, unwrap_or, Result, Ok, Err, nat_le, if◌then◌else◌, ℤ, pos, negsuc}
 use Rattle.lx_bytes.specs.LittleEndian.{little_bytes}
 use Rattle.lx_types.specs.Addresses.{address, selector, selected_offset}
 use Rattle.lx_types.specs.Parts.{object_of, page_at, data_at, fix_span_at, fixes_at}

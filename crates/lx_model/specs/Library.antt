@@ -1,5 +1,5 @@
 -- A library of modules, numbered from 0, and which module a name means.
-use Rattle.std.specs.Prelude.{◌≡◌, ℕ, ◌-◌, ◌&&◌, Bool, List, [], map, position, bytes_eq, slice_get, slice_index_or, Option, Some, None, option_and_then}
+use Rattle.std.specs.Prelude.{ℕ, ◌-◌, ◌&&◌, Bool, List, [], position, bytes_eq, slice_get, slice_index_or, Option, None, option_and_then}
 use Rattle.lx_types.specs.declared.parts.Parts.{Parts}
 use Rattle.lx_types.specs.Names.{uppercase}
 use Rattle.lx_types.specs.Parts.{is_library_of}

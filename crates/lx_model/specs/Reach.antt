@@ -40,9 +40,9 @@ visit zero lib before m = before
 visit (suc n) lib before m =
     if is_among before.visited m then before
     else
-      let marked : Visits = record { visited = m ∷ before.visited; order = before.order } in
-      let after = fold (visit n lib) marked (imports_of lib m) in
-      record { visited = after.visited; order = after.order ++ m ∷ [] }
+    let marked : Visits = record { visited = m ∷ before.visited; order = before.order } in
+    let after = fold (visit n lib) marked (imports_of lib m) in
+    record { visited = after.visited; order = after.order ++ m ∷ [] }
 
 -- what m reaches, each after what it imports
 unfoldable pub Order : List Parts → ℕ → List ℕ
@@ -77,9 +77,9 @@ unfoldable pub HealthOf : List Parts → ℕ → Health
 HealthOf lib m =
     let members = Order lib m in
     unwrap_or
-      (first (map (lost_import lib) members)
-      then first (map (cycle_of lib) members)
-      then first (map (λ by. target_of_fault faults.NoEntry (NoEntry by) lib by) members)
-      then first (map (λ by. target_of_fault faults.ForwardLoop (ForwardLoop by) lib by) members)
-      then first (map (λ by. target_of_fault faults.Gate286 (Gate286 by) lib by) members))
-      Fit
+    (first (map (lost_import lib) members)
+    then first (map (cycle_of lib) members)
+    then first (map (λ by. target_of_fault faults.NoEntry (NoEntry by) lib by) members)
+    then first (map (λ by. target_of_fault faults.ForwardLoop (ForwardLoop by) lib by) members)
+    then first (map (λ by. target_of_fault faults.Gate286 (Gate286 by) lib by) members))
+    Fit

@@ -1,6 +1,6 @@
 -- A worked file: the module that links one segment of eight zero bytes with a fixup to its own start. Its
 -- page is zeros, so the file has no page data.
-use Rattle.std.specs.Prelude.{◌≡◌, ℕ, ◌+◌, List, [], ◌∷◌, ◌++◌, length, map, take, drop, codes, Option, Some, None}
+use Rattle.std.specs.Prelude.{◌≡◌, ℕ, ◌+◌, List, [], ◌∷◌, ◌++◌, length, map, take, drop, codes, Some, None}
 use Rattle.std.specs.List.{flat_map, range_with_len}
 use Rattle.lx_bytes.specs.LittleEndian.{little_bytes}
 use Rattle.lx_types.specs.declared.object.PageKind.TheVariants.{Zero}

@@ -1,5 +1,5 @@
 -- Worked values: what fixups put under bases, where entries lead, and which modules can be loaded.
-use Rattle.std.specs.Prelude.{◌≡◌, ℕ, ◌+◌, List, [], ◌∷◌, ◌++◌, length, map, codes, Option, Some, None, Ok, Err}
+use Rattle.std.specs.Prelude.{◌≡◌, ℕ, ◌+◌, List, [], ◌∷◌, ◌++◌, length, map, codes, Some, Ok, Err}
 use Rattle.std.specs.List.{range_with_len}
 use Rattle.lx_types.specs.declared.object.ObjHead.{ObjHead}
 use Rattle.lx_types.specs.declared.entry.EntryHead.TheVariants.{At, Gate286, Forward}
@@ -7,13 +7,12 @@ use Rattle.lx_types.specs.declared.entry.FwdKey.TheVariants.{NameAt}
 use Rattle.lx_types.specs.declared.fix.FixTarget.{FixTarget}
 use Rattle.lx_types.specs.declared.fix.FixTarget.TheVariants.{Ordinal, Named}
 use Rattle.lx_types.specs.declared.parts.Parts.{Parts}
-use Rattle.lx_types.specs.declared.bases.Bases.{Bases}
 use Rattle.lx_types.specs.declared.bases.ModBases.{ModBases}
 use Rattle.lx_types.specs.Object.{zero_page}
 use Rattle.lx_model.specs.declared.library.Spot.{Spot}
 use Rattle.lx_model.specs.declared.library.EntryFault.TheVariants as faults
 use Rattle.lx_model.specs.declared.library.Health.TheVariants as health
-use Rattle.lx_model.specs.Library.{no_module, module_named, library_named}
+use Rattle.lx_model.specs.Library.{no_module, library_named}
 use Rattle.lx_model.specs.Entries.{Entry, EntryNamed}
 use Rattle.lx_model.specs.Fixed.{Fixed}
 use Rattle.lx_model.specs.Reach.{Order, HealthOf}
@@ -84,8 +83,8 @@ pub record WorkedFields : Type 0 where
   pub last : put_by 0x2005 (0x07 ∷ 0x00 ∷ 0x00 ∷ 0x00 ∷ 0x01 ∷ 0x00 ∷ 0x00 ∷ 0x05 ∷ 0x00 ∷ 0x01 ∷ 0x00 ∷ 0x01 ∷ 0x34 ∷ 0x12 ∷ []) 0x10000000 0 4 ≡ 0x00 ∷ 0x34 ∷ 0x12 ∷ 0x10 ∷ []
   -- a field over a page's end, whose page 1 is fixed alone
   pub page_end :
-    let lib = fixed_up 0x2005 (codes "B") (0x07 ∷ 0x00 ∷ 0xFE ∷ 0x0F ∷ 0x01 ∷ 0x00 ∷ 0x00 ∷ []) (0x07 ∷ 0x00 ∷ 0xFE ∷ 0xFF ∷ 0x01 ∷ 0x00 ∷ 0x00 ∷ []) [] ∷ [] in
-    (bytes_of lib (base 0 0x10000000 ∷ []) 0 4092 4 ++ bytes_of lib (base 0 0x10000000 ∷ []) 1 0 4) ≡ 0x00 ∷ 0x00 ∷ 0x00 ∷ 0x00 ∷ 0x00 ∷ 0x10 ∷ 0x00 ∷ 0x00 ∷ []
+      let lib = fixed_up 0x2005 (codes "B") (0x07 ∷ 0x00 ∷ 0xFE ∷ 0x0F ∷ 0x01 ∷ 0x00 ∷ 0x00 ∷ []) (0x07 ∷ 0x00 ∷ 0xFE ∷ 0xFF ∷ 0x01 ∷ 0x00 ∷ 0x00 ∷ []) [] ∷ [] in
+      (bytes_of lib (base 0 0x10000000 ∷ []) 0 4092 4 ++ bytes_of lib (base 0 0x10000000 ∷ []) 1 0 4) ≡ 0x00 ∷ 0x00 ∷ 0x00 ∷ 0x00 ∷ 0x00 ∷ 0x10 ∷ 0x00 ∷ 0x00 ∷ []
 
 -- ---- entries and loads
 

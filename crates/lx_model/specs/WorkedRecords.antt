@@ -1,15 +1,15 @@
 -- Worked values: fixup records and iterated data.
-use Rattle.std.specs.Prelude.{◌≡◌, ℕ, List, [], ◌∷◌, ◌++◌, Option, Some, None, Result, Ok, Err, true, false, ℤ, pos, negsuc}
+use Rattle.std.specs.Prelude.{◌≡◌, ℕ, List, [], ◌∷◌, Some, None, Ok, Err, true, false, ℤ, pos, negsuc}
 use Rattle.std.specs.List.{repeat}
 use Rattle.lx_types.specs.declared.refusal.LxRefusal.{LxRefusal}
 use Rattle.lx_types.specs.declared.refusal.LxKind.TheVariants.{Short, TooLong, BadSource, Straddle}
 use Rattle.lx_types.specs.declared.fix.Source.{Source}
-use Rattle.lx_types.specs.declared.fix.Source.TheVariants.{Sel, Far16, Far32, Off32, Self32}
+use Rattle.lx_types.specs.declared.fix.Source.TheVariants.{Sel, Far32, Off32, Self32}
 use Rattle.lx_types.specs.declared.fix.FixTarget.{FixTarget}
 use Rattle.lx_types.specs.declared.fix.FixTarget.TheVariants.{Internal, Ordinal, Named, Own}
 use Rattle.lx_types.specs.declared.fix.Fix.{Fix}
 use Rattle.lx_model.specs.Reading.{fault}
-use Rattle.lx_model.specs.Records.{Records, Record, records_at}
+use Rattle.lx_model.specs.Records.{records_at}
 use Rattle.lx_model.specs.Iterated.{expansion}
 
 -- The bytes are records, of which the first stands at place 100h and has these fixups.
@@ -32,7 +32,7 @@ pub record WorkedRecords : Type 0 where
   pub page_start : IsRecord (0x07 ∷ 0x00 ∷ 0xFE ∷ 0xFF ∷ 0x01 ∷ 0x00 ∷ 0x00 ∷ []) (fix Off32 (negsuc 1) (Internal 1 0) 0 ∷ [])
   -- three sources of one target, at 0, 8 and 4092
   pub listed : IsRecord (0x27 ∷ 0x00 ∷ 0x03 ∷ 0x01 ∷ 0x00 ∷ 0x00 ∷ 0x00 ∷ 0x00 ∷ 0x08 ∷ 0x00 ∷ 0xFC ∷ 0x0F ∷ [])
-    (fix Off32 (pos 0) (Internal 1 0) 0 ∷ fix Off32 (pos 8) (Internal 1 0) 0 ∷ fix Off32 (pos 4092) (Internal 1 0) 0 ∷ [])
+      (fix Off32 (pos 0) (Internal 1 0) 0 ∷ fix Off32 (pos 8) (Internal 1 0) 0 ∷ fix Off32 (pos 4092) (Internal 1 0) 0 ∷ [])
   -- an import by ordinal, with an ordinal of one byte and an additive of two
   pub import : IsRecord (0x07 ∷ 0x85 ∷ 0x04 ∷ 0x00 ∷ 0x01 ∷ 0x01 ∷ 0x04 ∷ 0x00 ∷ []) (fix Off32 (pos 4) (Ordinal 1 1) 4 ∷ [])
   -- an import by name, in wide numbers; an additive of four bytes

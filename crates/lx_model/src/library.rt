@@ -25,22 +25,11 @@ pub enum EntryFault {
 pub enum Health {
     Fit,
     /// Name `name_no` of its import modules, from 1, means no library.
-    NoModule {
-        by: u32,
-        name_no: u32,
-    },
+    NoModule { by: u32, name_no: u32 },
     /// It reaches itself through its imports.
-    Cycle {
-        by: u32,
-    },
+    Cycle { by: u32 },
     /// A fixup's target names no entry.
-    NoEntry {
-        by: u32,
-    },
-    ForwardLoop {
-        by: u32,
-    },
-    Gate286 {
-        by: u32,
-    },
+    NoEntry { by: u32 },
+    ForwardLoop { by: u32 },
+    Gate286 { by: u32 },
 }
