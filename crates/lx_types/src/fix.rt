@@ -22,7 +22,7 @@ pub enum Source {
 }
 
 /// Where the address comes from. Objects and imports count from 1.
-#[derive(Clone, Copy, Debug, PartialEq, Eq)]
+#[derive(Clone, Copy, Debug, PartialEq, Eq, Hash)]
 pub enum FixTarget {
     Internal { object: u32, offset: u32 },
     Ordinal { import: u32, ordinal: u32 },

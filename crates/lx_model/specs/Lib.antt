@@ -1,0 +1,17 @@
+pub mod Reading
+pub mod Header
+pub mod Iterated
+pub mod Tables
+pub mod NameTables
+pub mod EntryTable
+pub mod Sources
+pub mod Records
+pub mod FixupPages
+pub mod Module
+pub mod Library
+pub mod Entries
+pub mod Fixed
+pub mod Reach
+pub mod WorkedRecords
+pub mod WorkedFile
+pub mod WorkedLibrary

@@ -1,0 +1,108 @@
+-- What an LX file means: its parts, and its first fault.
+use Rattle.std.specs.Prelude.{◌≡◌, ℕ, ◌==◌, ◌&&◌, not, Bool, true, false, List, [], ◌∷◌, ◌++◌, length, map, filter, Option, Some, None, is_some, if◌then◌else◌}
+use Rattle.std.specs.List.{range_with_len, flat_map}
+use Rattle.lx_types.specs.declared.refusal.LxRefusal.{LxRefusal}
+use Rattle.lx_types.specs.declared.refusal.LxKind.TheVariants.{BadTarget}
+use Rattle.lx_types.specs.declared.fix.FixTarget.{FixTarget}
+use Rattle.lx_types.specs.declared.fix.FixTarget.TheVariants.{Internal, Ordinal, Named, Own}
+use Rattle.lx_types.specs.declared.parts.Parts.{Parts}
+use Rattle.lx_types.specs.Parts.{span, proc_name_of, entry_of}
+use Rattle.lx_model.specs.Reading.{fault, first, first_of, ◌then◌, value_or}
+use Rattle.lx_model.specs.Header.{field, table, page_count, start_of, start_fault, header_fault}
+use Rattle.lx_model.specs.Tables.{objects_of, objects_fault, pages_of, pages_fault}
+use Rattle.lx_model.specs.NameTables.{name_of, names_after_first, resident_names, other_names, import_names, resident_fault, others_fault, imports_fault}
+use Rattle.lx_model.specs.EntryTable.{names_one_of, entries_of, entries_fault}
+use Rattle.lx_model.specs.FixupPages.{spans_of, records_span, spans_fault}
+use Rattle.lx_model.specs.Records.{Record, Records, records_at, fixes_of}
+
+-- ---- the targets that records name
+
+-- the records of entry k of the page table, from 0
+abbrev pub page_records : List ℕ → ℕ → Records
+page_records file k = let s = records_span file k in records_at s.0 (span file s.0 s.1)
+
+-- the targets of all records, in the order of pages and of sources
+abbrev pub targets_of : List ℕ → List FixTarget
+targets_of file = flat_map (λ k. map (λ f. f.target) (fixes_of (page_records file k))) (range_with_len 0 (page_count file))
+
+abbrev pub same_target : FixTarget → FixTarget → Bool
+same_target (Internal o x) (Internal p y) = o == p && x == y
+same_target (Ordinal i x) (Ordinal j y) = i == j && x == y
+same_target (Named i x) (Named j y) = i == j && x == y
+same_target (Own x) (Own y) = x == y
+same_target t u = false
+
+-- a target outside the module's own objects
+abbrev pub is_reference : FixTarget → Bool
+is_reference (Internal o x) = false
+is_reference (Ordinal i x) = true
+is_reference (Named i x) = true
+is_reference (Own x) = true
+
+-- each of them once, where it stands first
+abbrev pub once : List FixTarget → List FixTarget
+once [] = []
+once (t ∷ ts) = t ∷ filter (λ u. not (same_target t u)) (once ts)
+
+unfoldable pub refs_of : List ℕ → List FixTarget
+refs_of file = once (filter is_reference (targets_of file))
+
+-- ---- the parts that a file lists
+
+unfoldable pub parts_of : List ℕ → Parts
+parts_of file = record {
+  file = file;
+  name = name_of file;
+  flags = field file 0x10;
+  start = start_of file;
+  objects = objects_of file;
+  pages = pages_of file;
+  fix_spans = spans_of file;
+  imports = value_or [] (import_names file);
+  procs_at = table file 0x78;
+  entries = value_or [] (entries_of file);
+  names = names_after_first (value_or [] (resident_names file)) ++ names_after_first (value_or [] (other_names file));
+  refs = refs_of file;
+}
+
+-- ---- the first fault
+
+-- A target's object, import or name is there, or its ordinal has an entry. Ordinals of other modules are
+-- not judged.
+abbrev pub is_target : Parts → FixTarget → Bool
+is_target m (Internal object offset) = names_one_of (length m.objects) object
+is_target m (Ordinal import ordinal) = names_one_of (length m.imports) import
+is_target m (Named import name_at) = names_one_of (length m.imports) import && is_some (proc_name_of m name_at)
+is_target m (Own ordinal) = is_some (entry_of m.entries ordinal)
+
+-- A record with a source has one target, which is wrong at the record's first byte.
+abbrev pub target_fault : Parts → Record → Option LxRefusal
+target_fault m r = first (map (λ f. if is_target m f.target then None else Some (fault BadTarget r.at)) r.fixes)
+
+-- the first fault of a page's records: a target of the good ones, or what follows them
+abbrev pub records_fault : Parts → Records → Option LxRefusal
+records_fault m records = first (map (target_fault m) records.good) then records.fault
+
+abbrev pub page_records_fault : List ℕ → ℕ → Option LxRefusal
+page_records_fault file k = records_fault (parts_of file) (page_records file k)
+
+-- The first fault of a file, in this order. What stands behind a fault is not judged.
+unfoldable pub LxFault : List ℕ → Option LxRefusal
+LxFault file =
+    header_fault file
+    then objects_fault file
+    then pages_fault file
+    then resident_fault file
+    then others_fault file
+    then imports_fault file
+    then entries_fault file
+    then start_fault file
+    then spans_fault file
+    then first_of (page_count file) (page_records_fault file)
+
+-- ---- what a file means
+
+-- The file is an LX module with these parts: it has no fault, and lists them.
+pub record Lx (file : List ℕ) (m : Parts) : Type 0 where
+  pub faultless : LxFault file ≡ None
+  pub parts : m ≡ parts_of file

@@ -1,0 +1,35 @@
+//! What is asked of a library: where an entry point is, and whether a module can be loaded.
+
+/// A place in an object of a module. Modules count from 0, objects from 1.
+#[derive(Clone, Copy, Debug, PartialEq, Eq)]
+pub struct Spot {
+    pub module: u32,
+    pub object: u32,
+    pub offset: u32,
+}
+
+/// Why a key has no spot.
+#[derive(Clone, Copy, Debug, PartialEq, Eq)]
+pub enum EntryFault {
+    /// The key names no entry, or a forwarder leads to a module or an entry that is not there.
+    NoEntry,
+    /// The entry is a call gate of the 80286.
+    Gate286,
+    /// Forwarders lead back to where they came from.
+    ForwardLoop,
+}
+
+/// Whether a module can be loaded: the first of these kinds that a module has which it reaches, and
+/// the first such module, `by`.
+#[derive(Clone, Copy, Debug, PartialEq, Eq)]
+pub enum Health {
+    Fit,
+    /// Name `name_no` of its import modules, from 1, means no library.
+    NoModule { by: u32, name_no: u32 },
+    /// It reaches itself through its imports.
+    Cycle { by: u32 },
+    /// A fixup's target names no entry.
+    NoEntry { by: u32 },
+    ForwardLoop { by: u32 },
+    Gate286 { by: u32 },
+}

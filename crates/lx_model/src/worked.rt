@@ -1,0 +1,37 @@
+//! Worked values of the definitions, from outside them: each function's contract is a table of values
+//! that the definitions give.
+
+ghost use Rattle.lx_model.specs.WorkedRecords.{WorkedRecords, WorkedRecordFaults, WorkedGroups};
+ghost use Rattle.lx_model.specs.WorkedFile.{WorkedFile, WorkedFaults};
+ghost use Rattle.lx_model.specs.WorkedLibrary.{WorkedFields, WorkedLibrary};
+
+/// Fixup records of each form, and what is wrong first with others.
+pub fn records_read()
+    ensures read { WorkedRecords }
+    ensures refused { WorkedRecordFaults }
+{}
+
+/// Groups of iterated data.
+pub fn groups_read()
+    ensures { WorkedGroups }
+{}
+
+/// A module of one page: its parts, and its bytes at two bases.
+pub fn file_means()
+    ensures { WorkedFile }
+{}
+
+/// What is wrong with that module after a change, and where.
+pub fn file_refused()
+    ensures { WorkedFaults }
+{}
+
+/// What the sources of each kind put, and where they cross a page's end.
+pub fn fields_put()
+    ensures { WorkedFields }
+{}
+
+/// Where entries lead through forwarders, and which modules can be loaded.
+pub fn library_means()
+    ensures { WorkedLibrary }
+{}
