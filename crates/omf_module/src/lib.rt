@@ -1,0 +1,4 @@
+//! Reads object files: "Relocatable Object Module Format".
+#![tactic(auto)]
+
+mod records;
