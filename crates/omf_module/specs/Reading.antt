@@ -82,14 +82,26 @@ pub record Told : Type 0 where
 abbrev pub told_of : Records → Told
 told_of r = record { name = r.name.now; bytes = r.data.now; fixups = option_copied r.fixups }
 
+-- THEADR and LNAMES: the module's name.
+unfoldable pub heading_at : List ℕ → Option (List ℕ × List ℕ)
+heading_at bytes = do
+  r ← record_at 0x80 bytes
+  name ← counted r.0
+  rest ← after_record 0x96 names_contents r.1
+  Some (name, rest)
+
+-- SEGDEF and GRPDEF: the segment's length.
+unfoldable pub segment_at : List ℕ → Option (ℕ × List ℕ)
+segment_at bytes = do
+  r ← record_at 0x99 bytes
+  len ← segment_len r.0
+  rest ← after_record 0x9A (4 ∷ []) r.1
+  Some (len, rest)
+
 unfoldable pub told : List ℕ → Option Told
 told bytes = do
-  header ← record_at 0x80 bytes
-  name ← counted header.0
-  names ← after_record 0x96 names_contents header.1
-  seg ← record_at 0x99 names
-  len ← segment_len seg.0
-  group ← after_record 0x9A (4 ∷ []) seg.1
-  field ← data_at len group
+  heading ← heading_at bytes
+  seg ← segment_at heading.1
+  field ← data_at seg.0 seg.1
   rest ← after_record 0x8A (0 ∷ []) field.2
-  Some (record { name = name; bytes = field.0; fixups = field.1 })
+  Some (record { name = heading.0; bytes = field.0; fixups = field.1 })

@@ -1,7 +1,7 @@
 //! The records of a file of the first form.
 
 ghost use Rattle.std.specs.Prelude.{◌≡◌, bytes_eq, option_copied};
-ghost use Rattle.omf_module.specs.Reading.{Gives, record_at, body_at, after_record, counted, segment_len, data_of, optional_at, data_at, told, told_of};
+ghost use Rattle.omf_module.specs.Reading.{Gives, record_at, body_at, after_record, counted, segment_len, data_of, optional_at, data_at, heading_at, segment_at, told, told_of};
 
 /// The types of the records.
 const THEADR: u8 = 0x80;
@@ -88,6 +88,28 @@ fn segment_length(contents: &[u8]) -> Option<u32>
     }
 }
 
+/// The module's name, from the records THEADR and LNAMES, and what follows them.
+#[tactic(auto, unfolding(crate::specs::Reading::heading_at))]
+fn heading(bytes: &[u8]) -> Option<(&[u8], &[u8])>
+    ensures { Gives (λ x. (x.0.now, x.1.now)) result (heading_at bytes.now) }
+{
+    let (contents, rest) = record(THEADR, bytes)?;
+    let name = name(contents)?;
+    let rest = fixed(LNAMES, b"\0\x06CODE32\x04CODE\x04FLAT", rest)?;
+    Some((name, rest))
+}
+
+/// The segment's length, from the records SEGDEF and GRPDEF, and what follows them.
+#[tactic(auto, unfolding(crate::specs::Reading::segment_at))]
+fn segment(bytes: &[u8]) -> Option<(u32, &[u8])>
+    ensures { Gives (λ x. (x.0, x.1.now)) result (segment_at bytes.now) }
+{
+    let (contents, rest) = record(SEGDEF, bytes)?;
+    let len = segment_length(contents)?;
+    let rest = fixed(GRPDEF, &[4], rest)?;
+    Some((len, rest))
+}
+
 /// The data in the contents of the LEDATA record: all of the segment's `len` bytes, from offset 0.
 #[tactic(auto, unfolding(crate::specs::Reading::data_of))]
 fn data(len: u32, contents: &[u8]) -> Option<&[u8]>
@@ -128,12 +150,8 @@ fn data_records(len: u32, bytes: &[u8]) -> Option<(&[u8], Option<&[u8]>, &[u8])>
 pub fn read_records(bytes: &[u8]) -> Option<Records<'_>>
     ensures { Gives told_of result (told bytes.now) }
 {
-    let (contents, rest) = record(THEADR, bytes)?;
-    let name = name(contents)?;
-    let rest = fixed(LNAMES, b"\0\x06CODE32\x04CODE\x04FLAT", rest)?;
-    let (contents, rest) = record(SEGDEF, rest)?;
-    let len = segment_length(contents)?;
-    let rest = fixed(GRPDEF, &[4], rest)?;
+    let (name, rest) = heading(bytes)?;
+    let (len, rest) = segment(rest)?;
     let (data, fixups, rest) = data_records(len, rest)?;
     let _after = fixed(MODEND, &[0], rest)?;
     Some(Records { name, data, fixups })
