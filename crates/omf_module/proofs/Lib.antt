@@ -1,3 +1,4 @@
 mod Frames
 mod Fields
 mod Whole
+mod Offsets

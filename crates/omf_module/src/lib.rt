@@ -1,4 +1,5 @@
 //! Reads object files: "Relocatable Object Module Format".
 #![tactic(auto)]
 
+mod fixups;
 mod records;
