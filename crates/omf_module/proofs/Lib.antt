@@ -2,3 +2,5 @@ mod Frames
 mod Fields
 mod Whole
 mod Offsets
+mod Marks
+mod Apartness

@@ -1,9 +1,10 @@
 //! The FIXUPP record of a file of the first form.
 
-ghost use Rattle.std.specs.Prelude.{◌≡◌, ◌≢◌, ◌<◌, ◌+◌, ◌++◌, ◌↔◌, ℕ, List, IfOk, IsTrue, MatchOption, length};
+ghost use Rattle.std.specs.Prelude.{◌≡◌, ◌≢◌, ◌<◌, ◌+◌, ◌++◌, ◌↔◌, ℕ, List, IfOk, IsTrue, MatchOption, length, slice_index_or, false, ◌||◌};
 ghost use Rattle.std.specs.List.{flat_map};
 ghost use Rattle.first_form.specs.ObjectFile.{fixup};
-ghost use Rattle.omf_module.specs.Places.{AreOffsets, LieApart};
+ghost use Rattle.first_form.specs.Segment.{covers};
+ghost use Rattle.omf_module.specs.Places.{AreOffsets, LieApart, IsFree};
 
 use lx_types::NoMemory;
 use std::alloc::Global;
@@ -35,4 +36,34 @@ pub fn places_of(alloc: Global, contents: &[u8]) -> Result<Option<Vec<u32>>, NoM
         rest = after;
     }
     Ok(Some(places))
+}
+
+/// Marks the four bytes at `place`. False where some of them are not there or marked already; then
+/// nothing is marked.
+fn mark(marks: &mut [bool], place: u32) -> bool
+    ensures free { IsTrue result ↔ IsFree marks.old place }
+    ensures marked { IsTrue result → (x : ℕ) → slice_index_or marks.new x false ≡ (slice_index_or marks.old x false || covers x place) }
+{
+    let start = place as usize;
+    if start + 4 > marks.len() {
+        return false;
+    }
+    if marks[start..start + 4].contains(&true) {
+        return false;
+    }
+    marks[start..start + 4].fill(true);
+    true
+}
+
+/// Whether the four bytes at each place lie in data of `len` bytes, and no two places share one.
+pub fn lie_apart(alloc: Global, len: usize, places: &[u32]) -> Result<bool, NoMemory>
+    ensures { IfOk result (λ apart. IsTrue apart ↔ LieApart len places.now) }
+{
+    let mut marks = vec![in alloc; false; len]?;
+    for place in places {
+        if !mark(&mut marks, *place) {
+            return Ok(false);
+        }
+    }
+    Ok(true)
 }
