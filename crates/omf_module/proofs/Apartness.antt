@@ -1,15 +1,15 @@
 -- Places lie apart where each finds its four bytes unmarked by those before it.
-use Rattle.std.proofs.Common.{◌≡◌, ℕ, ◌+◌, ◌-◌, ◌<◌, ◌≤◌, Bool, true, false, ◌||◌, List, [], ◌∷◌, ◌++◌, length, get_or, take, refl, sym, ap, ◌∙◌, arith, inl, inr}
+use Rattle.std.proofs.Common.{◌≡◌, ℕ, ◌+◌, ◌-◌, ◌<◌, ◌≤◌, Bool, true, false, ◌||◌, List, [], ◌∷◌, ◌++◌, length, get_or, take, drop, refl, sym, ap, ◌∙◌, arith, inl, inr}
 use Rattle.std.specs.List.{AllByRecursion, AllPairs, list_any}
 use Rattle.std.proofs.Math.Bool.{or-false}
 use Rattle.std.proofs.lemmas.Bool.{cases_lt}
 use Rattle.std.proofs.lemmas.Bool.Decides.{nat_tests}
-use Rattle.std.proofs.lemmas.List.{get_or-take, get_or_default, length-take}
+use Rattle.std.proofs.lemmas.List.{get_or-take, get_or_default, length-take, take_more, take_at}
 use Rattle.std.proofs.lemmas.List.Elements.{All-from_recursion}
 use Rattle.std.proofs.lemmas.List.Folds.{list_any-append, list_any-from_Any, list_any_none}
 use Rattle.std.proofs.lemmas.List.Quantifiers.{all_pairs_push}
 use Rattle.first_form.specs.Segment.{covers, Apart}
-use Rattle.omf_module.specs.Places.{LieApart}
+use Rattle.omf_module.specs.Places.{LieApart, IsFree}
 
 abbrev pub covered : ℕ → List ℕ → Bool
 covered x places = list_any (covers x) places
@@ -65,3 +65,28 @@ each_clear len i d places apart lt =
         let here : k < i = omega (arith, length-take i places) in
         let same : get_or (take i places) k e ≡ get_or places k d = get_or-take i places k e here ∙ get_or_default places k e d (omega arith) in
         ap (covers x) same ∙ off x (get_or places i d) (get_or places k d) (apart.1 k i d here lt) le below))
+
+-- ---- The marks after the first places.
+
+pub record Marked (len : ℕ) (marks : List Bool) (places : List ℕ) : Type 0 where
+  pub size : length marks ≡ len
+  pub each : (x : ℕ) → get_or marks x false ≡ covered x places
+  pub apart : LieApart len places
+
+-- a place that lies apart from those before it is free
+pub stays_free : (len i : ℕ) (places : List ℕ) (old now : List Bool) → Marked len old (take i places) → now ≡ old → i < length places → LieApart len places → IsFree now (get_or places i 0)
+stays_free len i places old now so_far same lt apart =
+    let e = each_clear len i 0 places apart lt in
+    (omega (arith, e.0, ap length same, so_far.size), λ x le below. rw same (so_far.each x ∙ e.1 x le below))
+
+-- one more place
+pub one_more : (len i n : ℕ) (places : List ℕ) (old now new : List Bool) → Marked len old (take i places) → now ≡ old → i < length places → IsFree now (get_or places i 0)
+    → ((x : ℕ) → get_or new x false ≡ (get_or now x false || covers x (get_or places i 0))) → n ≡ length old → length new ≡ length now
+    → Marked len (take n (new ++ drop (length new) old)) (take (i + 1) places)
+one_more len i n places old now new so_far same lt free marked size kept =
+    let p : ℕ = get_or places i 0 in
+    let more : take (i + 1) places ≡ take i places ++ get_or places i 0 ∷ [] = take_more places i 0 lt in
+    let whole : take n (new ++ drop (length new) old) ≡ new = take_at new (drop (length new) old) n (omega (arith, ap length same)) in
+    let each : (x : ℕ) → get_or new x false ≡ covered x (take i places ++ get_or places i 0 ∷ []) = λ x. marked x ∙ ap (λ (b : Bool). b || covers x (get_or places i 0)) (ap (λ (m : List Bool). get_or m x false) same ∙ so_far.each x) ∙ sym (covered_push x (get_or places i 0) (take i places)) in
+    let clear : IsClear (take i places) (get_or places i 0) = λ x le below. sym (so_far.each x) ∙ ap (λ (m : List Bool). get_or m x false) (sym same) ∙ free.1 x le below in
+    rw (more, whole) (record { size = omega (arith, ap length same, so_far.size); each = each; apart = apart_push len (get_or places i 0) (take i places) so_far.apart (omega (arith, free.0, ap length same, so_far.size)) clear })
