@@ -37,17 +37,17 @@ apart_from places k d p lt clear =
         | inr after ↦ inr after
         | inl close ↦ elim (cases_lt p (get_or places k d)) [
           | inl below ↦
-            let on : covers (get_or places k d) (get_or places k d) ≡ true = grind (arith, nat_tests) in
-            let yes : covered (get_or places k d) places ≡ true = is_covered places k d (get_or places k d) lt on in
-            let no : covered (get_or places k d) places ≡ false = clear (get_or places k d) (omega arith) close in
-            absurd cc
+              let on : covers (get_or places k d) (get_or places k d) ≡ true = grind (arith, nat_tests) in
+              let yes : covered (get_or places k d) places ≡ true = is_covered places k d (get_or places k d) lt on in
+              let no : covered (get_or places k d) places ≡ false = clear (get_or places k d) (omega arith) close in
+              absurd cc
           | inr above ↦
-            let on : covers p (get_or places k d) ≡ true = grind (arith, nat_tests) in
-            let yes : covered p places ≡ true = is_covered places k d p lt on in
-            let no : covered p places ≡ false = clear p (omega arith) (omega arith) in
-            absurd cc
-          ]
+              let on : covers p (get_or places k d) ≡ true = grind (arith, nat_tests) in
+              let yes : covered p places ≡ true = is_covered places k d p lt on in
+              let no : covered p places ≡ false = clear p (omega arith) (omega arith) in
+              absurd cc
         ]
+      ]
     ]
 
 pub apart_push : (len p : ℕ) (places : List ℕ) → LieApart len places → p + 4 ≤ len → IsClear places p → LieApart len (places ++ p ∷ [])
@@ -59,12 +59,13 @@ off x p q (inl before) le lt = grind (arith, nat_tests)
 off x p q (inr after) le lt = grind (arith, nat_tests)
 
 pub each_clear : (len i d : ℕ) (places : List ℕ) → LieApart len places → i < length places → (get_or places i d + 4 ≤ len) × IsClear (take i places) (get_or places i d)
-each_clear len i d places apart lt =
-    (All-from_recursion (λ place. place + 4 ≤ len) places apart.0 i d lt,
-     λ x le below. list_any_none (covers x) (take i places) (λ k e small.
-        let here : k < i = omega (arith, length-take i places) in
-        let same : get_or (take i places) k e ≡ get_or places k d = get_or-take i places k e here ∙ get_or_default places k e d (omega arith) in
-        ap (covers x) same ∙ off x (get_or places i d) (get_or places k d) (apart.1 k i d here lt) le below))
+each_clear len i d places apart lt = (
+  All-from_recursion (λ place. place + 4 ≤ len) places apart.0 i d lt,
+  λ x le below. list_any_none (covers x) (take i places) (λ k e small.
+      let here : k < i = omega (arith, length-take i places) in
+      let same : get_or (take i places) k e ≡ get_or places k d = get_or-take i places k e here ∙ get_or_default places k e d (omega arith) in
+      ap (covers x) same ∙ off x (get_or places i d) (get_or places k d) (apart.1 k i d here lt) le below),
+)
 
 -- ---- The marks after the first places.
 

@@ -32,13 +32,16 @@ is_true false e = absurd cc
 
 pub is_free : (marks : List Bool) (a : ℕ) → a + 4 ≤ length marks
     → ((k : ℕ) (d : Bool) → 0 ≤ k → k < length (field marks a) → beq (get_or (field marks a) k d) true ≡ false) → IsFree marks a
-is_free marks a there none = (there, λ x le lt.
-    let k : x - a < 4 = omega arith in
-    let at : a + (x - a) ≡ x = omega arith in
-    let len = field_len marks a there in
-    let one : get_or (field marks a) (x - a) false ≡ get_or marks (a + (x - a)) false = field_at marks a (x - a) false k in
-    let same : get_or marks (a + (x - a)) false ≡ get_or marks x false = ap (λ (n : ℕ). get_or marks n false) at in
-    sym same ∙ sym one ∙ is_false (get_or (field marks a) (x - a) false) (none (x - a) false (omega arith) (omega arith)))
+is_free marks a there none = (
+  there,
+  λ x le lt.
+      let k : x - a < 4 = omega arith in
+      let at : a + (x - a) ≡ x = omega arith in
+      let len = field_len marks a there in
+      let one : get_or (field marks a) (x - a) false ≡ get_or marks (a + (x - a)) false = field_at marks a (x - a) false k in
+      let same : get_or marks (a + (x - a)) false ≡ get_or marks x false = ap (λ (n : ℕ). get_or marks n false) at in
+      sym same ∙ sym one ∙ is_false (get_or (field marks a) (x - a) false) (none (x - a) false (omega arith) (omega arith)),
+)
 
 pub not_free : (marks : List Bool) (a : ℕ) → a + 4 ≤ length marks
     → (k : ℕ) × (k < length (field marks a)) × HoldsAt (λ y. beq y true ≡ true) (field marks a) k → IsFree marks a → ⊥
@@ -59,15 +62,15 @@ written marks ys a x there is =
     let rest = post_of a (a + 4 - a) marks in
     elim (cases_lt x a) [
       | inl lt ↦
-        let off : covers x a ≡ false = grind (arith, nat_tests) in
-        rw (get_or_append_left (take a marks) (ys ++ rest) false x (omega arith), get_or-take a marks x false lt, off, or-false) refl
+          let off : covers x a ≡ false = grind (arith, nat_tests) in
+          rw (get_or_append_left (take a marks) (ys ++ rest) false x (omega arith), get_or-take a marks x false lt, off, or-false) refl
       | inr le ↦ elim (cases_lt x (a + 4)) [
         | inl lt ↦
-          let on : covers x a ≡ true = grind (arith, nat_tests) in
-          rw (get_or-append_right (take a marks) (ys ++ rest) a x false front le, get_or_append_left ys rest false (x - a) (omega arith), four, get_or-replicate 4 (x - a) true false (omega arith), on, or-true) refl
+            let on : covers x a ≡ true = grind (arith, nat_tests) in
+            rw (get_or-append_right (take a marks) (ys ++ rest) a x false front le, get_or_append_left ys rest false (x - a) (omega arith), four, get_or-replicate 4 (x - a) true false (omega arith), on, or-true) refl
         | inr past ↦
-          let off : covers x a ≡ false = grind (arith, nat_tests) in
-          let at : a + (a + 4 - a + (x - a - 4)) ≡ x = omega arith in
-          rw (get_or-append_right (take a marks) (ys ++ rest) a x false front le, get_or-append_right ys rest 4 (x - a) false n (omega arith), get_or-drop, get_or-drop, at, off, or-false) refl
-        ]
+            let off : covers x a ≡ false = grind (arith, nat_tests) in
+            let at : a + (a + 4 - a + (x - a - 4)) ≡ x = omega arith in
+            rw (get_or-append_right (take a marks) (ys ++ rest) a x false front le, get_or-append_right ys rest 4 (x - a) false n (omega arith), get_or-drop, get_or-drop, at, off, or-false) refl
+      ]
     ]

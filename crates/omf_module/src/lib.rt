@@ -2,4 +2,7 @@
 #![tactic(auto)]
 
 mod fixups;
+mod object;
 mod records;
+
+//pub use object::read_object;
