@@ -1,0 +1,6 @@
+mod Frames
+mod Fields
+mod Whole
+mod Offsets
+mod Marks
+mod Apartness
