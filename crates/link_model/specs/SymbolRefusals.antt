@@ -1,5 +1,5 @@
 -- Where names have no meaning, and which refusal is answered.
-use Rattle.std.specs.Prelude.{Bool, true, false, not, ◌&&◌, [], ◌∷◌, Option, Some, None, length, if◌then◌else◌, nat_lt, bytes_eq, is_none}
+use Rattle.std.specs.Prelude.{ℕ, Bool, true, false, not, ◌&&◌, [], ◌∷◌, Option, Some, None, length, if◌then◌else◌, nat_lt, bytes_eq, is_none}
 use Rattle.std.specs.List.{find}
 use Rattle.std.specs.Option.{option_map, option_and_then}
 use Rattle.link_model.specs.declared.symbols.SymDef.{SymDef}
@@ -43,11 +43,14 @@ abbrev pub missing_export : Link → Option SymRefusal
 missing_export l =
     option_map (λ x. Missing x.internal) (find (λ x. not (is_exportable (global l x.internal))) (exports l))
 
--- `ImportsMany`: more than 65,535 different modules are named.
-abbrev pub imports_many : Link → Option SymRefusal
-imports_many l =
+-- `ImportsMany`: more different modules are named than the format's 16-bit numbers count.
+abbrev pub imports_past : ℕ → Link → Option SymRefusal
+imports_past most l =
     let count = length (firsts (λ a b. same_module a.module b.module) (imports l)) in
-    if nat_lt 65535 count then Some (ImportsMany count) else None
+    if nat_lt most count then Some (ImportsMany count) else None
+
+abbrev pub imports_many : Link → Option SymRefusal
+imports_many l = imports_past 65535 l
 
 -- The refusal, in this order. Where there is none, every external has a meaning.
 abbrev pub sym_refusal : Link → Option SymRefusal

@@ -1,0 +1,4 @@
+pub mod Samples
+pub mod TrialsOfSymbols
+pub mod TrialsOfLayout
+pub mod TrialsOfValues
