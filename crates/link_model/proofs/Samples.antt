@@ -19,35 +19,6 @@ use Rattle.obj_types.specs.Fresh.{empty_module}
 use Rattle.link_model.specs.Link.{Link}
 use Rattle.link_model.specs.Value.{World}
 
--- ---- definition files
-
-abbrev pub code_attrs : Attrs
-code_attrs =
-    record { read = true; write = false; exec = true; shared = false; preload = false; conforming = false; iopl = false }
-
-abbrev pub data_attrs : Attrs
-data_attrs =
-    record { read = true; write = true; exec = false; shared = false; preload = false; conforming = false; iopl = false }
-
--- No definition file's statements but the kind and the base.
-abbrev pub plain_def : ModKind → Option ℕ → DefFile
-plain_def kind base =
-    record {
-      kind = kind;
-      name = None;
-      init_each = false;
-      term_each = false;
-      about = [];
-      stack = 0;
-      heap = 0;
-      base = base;
-      code = code_attrs;
-      plain = data_attrs;
-      segs = [];
-      exports = [];
-      imports = [];
-    }
-
 -- ---- segments and modules
 
 abbrev pub seg : List ℕ → List ℕ → ℕ → ℕ → Bool → ℕ → Seg

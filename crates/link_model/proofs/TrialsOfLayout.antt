@@ -11,13 +11,14 @@ use Rattle.link_model.specs.declared.refusals.LayRefusal.TheVariants.{AbsoluteSe
 use Rattle.link_model.specs.Link.{Link}
 use Rattle.link_model.specs.Layout.{objects, spot, common_spot, stack_top}
 use Rattle.link_model.specs.LayoutRefusals.{lay_refusal}
-use Rattle.link_model.proofs.Samples.{code_attrs, plain_def, seg, with_segs, linked, comdef, code32, data32, code16, common32}
+use Rattle.link_model.specs.Defaults.{code_attrs, default_def}
+use Rattle.link_model.proofs.Samples.{seg, with_segs, linked, comdef, code32, data32, code16, common32}
 
 abbrev library : List ObjModule → Link
-library modules = linked (plain_def Library None) modules
+library modules = linked (default_def Library None) modules
 
 abbrev program : List ObjModule → Link
-program modules = linked (plain_def Program None) modules
+program modules = linked (default_def Program None) modules
 
 abbrev object : ℕ → ℕ → ℕ → LaidObject
 object size base flags = record { size = size; base = base; flags = flags }
@@ -47,7 +48,7 @@ code_together = refl
 -- 16-bit segments in no group are an object each, with the 16:16 alias.
 abbrev two_narrow : Link
 two_narrow =
-    linked (plain_def Library (Some 0x12340000)) (with_segs (code16 (codes "A") 5 ∷ code16 (codes "B") 0 ∷ code16 (codes "C") 7 ∷ []) ∷ [])
+    linked (default_def Library (Some 0x12340000)) (with_segs (code16 (codes "A") 5 ∷ code16 (codes "B") 0 ∷ code16 (codes "C") 7 ∷ []) ∷ [])
 
 narrow_objects : objects two_narrow ≡ object 5 0x12340000 0x1005 ∷ object 0 0x12350000 0x1005 ∷ object 7 0x12360000 0x1005 ∷ []
 narrow_objects = refl
@@ -116,7 +117,7 @@ dgroup_is_laid_out = refl
 -- ---- the stack
 
 abbrev with_stack : ℕ → DefFile
-with_stack n = record (plain_def Program None) { stack = n }
+with_stack n = record (default_def Program None) { stack = n }
 
 -- A program gets a stack of its own, behind its data, on a paragraph.
 abbrev own : Link
@@ -148,7 +149,7 @@ no_top = refl
 -- An item of SEGMENTS overrides CODE and DATA, and parts objects.
 abbrev with_item : Link
 with_item =
-    linked (record (plain_def Library None) { segs = record { name = codes "DATA32"; class = None; attrs = record code_attrs { shared = true } } ∷ [] })
+    linked (record (default_def Library None) { segs = record { name = codes "DATA32"; class = None; attrs = record code_attrs { shared = true } } ∷ [] })
     (with_segs (data32 4 ∷ seg (codes "OTHER") (codes "code") 1 2 true 1 ∷ []) ∷ [])
 
 item_flags : objects with_item ≡ object 4 0x10000000 0x2025 ∷ object 1 0x10010000 0x2005 ∷ []

@@ -12,7 +12,8 @@ use Rattle.link_model.specs.Link.{Link}
 use Rattle.link_model.specs.Choosing.{next_pick}
 use Rattle.link_model.specs.Symbols.{commons, imports, global}
 use Rattle.link_model.specs.SymbolRefusals.{sym_refusal, imports_past}
-use Rattle.link_model.proofs.Samples.{plain_def, linked, public, constant, extern, comdef, import, export, code32}
+use Rattle.link_model.specs.Defaults.{default_def}
+use Rattle.link_model.proofs.Samples.{linked, public, constant, extern, comdef, import, export, code32}
 
 -- ---- choosing: object 0 wants `f`; library module 0 defines `g` and module 1 defines `f` and wants `h`
 
@@ -27,7 +28,7 @@ with_library last =
     record {
       objects = wants (codes "f") ∷ [];
       libs = has (codes "g") ∷ record (has (codes "f")) { exts = extern (codes "h") ∷ [] } ∷ has last ∷ [];
-      def = plain_def Library None;
+      def = default_def Library None;
       stem = codes "S";
     }
 
@@ -51,13 +52,13 @@ h_is_drawn = refl
 -- ---- refusals
 
 abbrev x_and_y : Link
-x_and_y = linked (plain_def Library None) (record empty_module { exts = extern (codes "x") ∷ extern (codes "y") ∷ [] } ∷ [])
+x_and_y = linked (default_def Library None) (record empty_module { exts = extern (codes "x") ∷ extern (codes "y") ∷ [] } ∷ [])
 
 missing_x : sym_refusal x_and_y ≡ Some (Missing (codes "x"))
 missing_x = refl
 
 abbrev m_and_m : Link
-m_and_m = linked (plain_def Library None) (has (codes "m") ∷ has (codes "m") ∷ [])
+m_and_m = linked (default_def Library None) (has (codes "m") ∷ has (codes "m") ∷ [])
 
 twice_m : sym_refusal m_and_m ≡ Some (Twice (codes "m") 1 2)
 twice_m = refl
@@ -65,7 +66,7 @@ twice_m = refl
 -- An item of IMPORTS beside a public: the definition file is number 0.
 abbrev m_and_import : Link
 m_and_import =
-    linked (record (plain_def Library None) { imports = import (codes "m") (codes "LIB") (Ordinal 1) ∷ [] }) (has (codes "m") ∷ [])
+    linked (record (default_def Library None) { imports = import (codes "m") (codes "LIB") (Ordinal 1) ∷ [] }) (has (codes "m") ∷ [])
 
 twice_in_def : sym_refusal m_and_import ≡ Some (Twice (codes "m") 1 0)
 twice_in_def = refl
@@ -73,7 +74,7 @@ twice_in_def = refl
 -- An export of a constant means nothing, and so does one of a name without definition.
 abbrev exports_constant : Link
 exports_constant =
-    linked (plain_def Library None)
+    linked (default_def Library None)
     (record empty_module { pubs = constant (codes "k") 5 ∷ []; exports = export (codes "K") (codes "k") None ∷ [] } ∷ [])
 
 missing_constant : sym_refusal exports_constant ≡ Some (Missing (codes "k"))
@@ -82,7 +83,7 @@ missing_constant = refl
 -- Two modules are one too many where one is allowed.
 abbrev two_imports : Link
 two_imports =
-    linked (plain_def Library None)
+    linked (default_def Library None)
     (record empty_module { imports = import (codes "a") (codes "LIB") (Ordinal 1) ∷ import (codes "b") (codes "OTHER") (Ordinal 1) ∷ import (codes "c") (codes "lib") (Named (codes "c")) ∷ [] } ∷ [])
 
 many_imports : imports_past 1 two_imports ≡ Some (ImportsMany 2)
@@ -96,7 +97,7 @@ few_imports = refl
 -- COMDEFs of 4 and 12 near bytes make one communal of 12.
 abbrev c_and_c : Link
 c_and_c =
-    linked (plain_def Library None)
+    linked (default_def Library None)
     (record empty_module { exts = comdef (codes "c") false 4 ∷ [] } ∷ record empty_module { exts = comdef (codes "c") true 12 ∷ [] } ∷ [])
 
 one_communal : commons c_and_c ≡ (codes "c", record { far = false; len = 12 }) ∷ []
@@ -107,7 +108,7 @@ communal_meaning = refl
 
 -- A public of the name takes the COMDEFs' place.
 abbrev c_and_public : Link
-c_and_public = linked (plain_def Library None) (record empty_module { exts = comdef (codes "c") false 4 ∷ [] } ∷ has (codes "c") ∷ [])
+c_and_public = linked (default_def Library None) (record empty_module { exts = comdef (codes "c") false 4 ∷ [] } ∷ has (codes "c") ∷ [])
 
 no_communal : commons c_and_public ≡ []
 no_communal = refl
@@ -118,7 +119,7 @@ public_meaning = refl
 -- A local external means a local public of its own module alone.
 abbrev local_names : Link
 local_names =
-    linked (plain_def Library None)
+    linked (default_def Library None)
     (record empty_module { exts = record (extern (codes "m")) { local = true } ∷ [] } ∷ has (codes "m") ∷ [])
 
 local_is_missing : sym_refusal local_names ≡ Some (Missing (codes "m"))
@@ -127,7 +128,7 @@ local_is_missing = refl
 -- Equal pairs count once under one name, and the first spelling stays.
 abbrev same_pairs : Link
 same_pairs =
-    linked (plain_def Library None)
+    linked (default_def Library None)
     (record empty_module { imports = import (codes "a") (codes "LIB") (Ordinal 1) ∷ import (codes "a") (codes "Lib") (Ordinal 1) ∷ import (codes "b") (codes "LIB") (Ordinal 1) ∷ [] } ∷ [])
 
 two_slots : imports same_pairs ≡ import (codes "a") (codes "LIB") (Ordinal 1) ∷ import (codes "b") (codes "LIB") (Ordinal 1) ∷ []

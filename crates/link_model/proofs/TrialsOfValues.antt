@@ -13,10 +13,11 @@ use Rattle.link_model.specs.Layout.{objects}
 use Rattle.link_model.specs.Fixups.{fixups}
 use Rattle.link_model.specs.Mean.{live_fixups, Mean}
 use Rattle.link_model.specs.Out.{At, Forward, count_from, Out, Start, place_refusal}
-use Rattle.link_model.proofs.Samples.{plain_def, linked, piece, fix, at_bases, public, constant, extern, import, export, code32, data32, code16, common32, code_module}
+use Rattle.link_model.specs.Defaults.{default_def}
+use Rattle.link_model.proofs.Samples.{linked, piece, fix, at_bases, public, constant, extern, import, export, code32, data32, code16, common32, code_module}
 
 abbrev library : List ObjModule → Link
-library modules = linked (plain_def Library None) modules
+library modules = linked (default_def Library None) modules
 
 abbrev linked_bases : Link → List ℕ
 linked_bases l = map (λ o. o.base) (objects l)
@@ -50,7 +51,7 @@ call_bytes = refl
 -- A 16:16 pointer from one 16-bit segment to offset 10h of another, in a program.
 abbrev far_pointer : Link
 far_pointer =
-    linked (plain_def Program None)
+    linked (default_def Program None)
     (record empty_module { segs = code16 (codes "A") 4 ∷ code16 (codes "B") 0x20 ∷ []; fixes = fix 1 0 3 false frames.OfTarget (goals.Seg 2) 0x10 ∷ [] } ∷ [])
 
 pointer_bytes : bytes far_pointer 1 4 ≡ 0x10 ∷ 0 ∷ 0x17 ∷ 0 ∷ []

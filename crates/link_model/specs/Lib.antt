@@ -16,3 +16,5 @@ pub mod Fixups
 pub mod Value
 pub mod Mean
 pub mod Out
+pub mod Defaults
+pub mod OneSegment

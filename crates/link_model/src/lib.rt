@@ -5,9 +5,11 @@
 //! functions here are plain and slow programs that compute the definitions on small inputs.
 #![tactic(auto)]
 
+mod laws;
 mod refusals;
 mod symbols;
 
+pub use laws::one_segment_links_plainly;
 pub use obj_types::{Bytes, EntryKey, Fail, Name, NoMemory, Seq};
 pub use refusals::{FixRefusal, LayRefusal, SymRefusal};
 pub use symbols::{LaidObject, Pick, SymDef};
