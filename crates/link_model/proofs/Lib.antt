@@ -5,3 +5,4 @@ pub mod TrialsOfValues
 pub mod PlainBytes
 pub mod SmallestLink
 pub mod OneSegmentLaw
+pub mod TrialsOfRecords

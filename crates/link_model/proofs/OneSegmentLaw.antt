@@ -1,6 +1,6 @@
 -- The law of the smallest link, put together.
-use Rattle.std.specs.Prelude.{◌≡◌, ℕ, suc, zero, ◌+◌, ◌≤◌, ◌<◌, true, false, cond, List, [], ◌∷◌, ◌++◌, Option, Some, None, map, max, length, nat_lt, refl}
-use Rattle.std.proofs.Common.{ap, sym, ◌∙◌, arith}
+use Rattle.std.specs.Prelude.{◌≡◌, ℕ, ◌+◌, ◌≤◌, false, List, [], ◌∷◌, ◌++◌, None, map, max, length, nat_lt, refl}
+use Rattle.std.proofs.Common.{ap, ◌∙◌, arith}
 use Rattle.std.proofs.lemmas.Bool.{le-ltb}
 use Rattle.obj_types.specs.declared.object.ObjModule.{ObjModule}
 use Rattle.link_model.specs.Words.{first_of}
@@ -11,7 +11,7 @@ use Rattle.link_model.specs.Layout.{objects}
 use Rattle.link_model.specs.LayoutRefusals.{lay_refusal}
 use Rattle.link_model.specs.Fixups.{Fixup, fix_refusal}
 use Rattle.link_model.specs.Out.{place_refusal}
-use Rattle.link_model.specs.OneSegment.{IsOneSegment, one_segment, alone, only_pick, OneSegmentLaw, LinksOneSegment}
+use Rattle.link_model.specs.OneSegment.{one_segment, alone, only_pick, OneSegmentLaw}
 use Rattle.link_model.proofs.SmallestLink.{link, placed, fixups-link, Mean-link}
 
 its_chosen : (name bytes places stem : List ℕ) (base : ℕ) → Chosen (alone (one_segment name bytes places) stem base) only_pick
@@ -49,5 +49,5 @@ one_segment_law name bytes places stem base one =
       layout = its_layout name bytes places stem base one.one_page;
       fixups = its_fixups name bytes places stem base;
       object = its_object name bytes places stem base;
-      mean = λ at imp x. Mean-link name bytes places stem base at imp x one
+      mean = λ at imp x. Mean-link name bytes places stem base at imp x one;
     }

@@ -12,9 +12,7 @@ use Rattle.obj_types.specs.declared.symbol.Ext.{Ext}
 use Rattle.obj_types.specs.declared.symbol.Imp.{Imp}
 use Rattle.obj_types.specs.declared.symbol.Exp.{Exp}
 use Rattle.lx_types.specs.declared.entry.EntryKey.{EntryKey}
-use Rattle.obj_types.specs.declared.definition.Attrs.{Attrs}
 use Rattle.obj_types.specs.declared.definition.DefFile.{DefFile}
-use Rattle.obj_types.specs.declared.definition.ModKind.{ModKind}
 use Rattle.obj_types.specs.Fresh.{empty_module}
 use Rattle.link_model.specs.Link.{Link}
 use Rattle.link_model.specs.Value.{World}

@@ -1,9 +1,9 @@
 -- The smallest link: where its fixups and its data stand, which fixups are live, and its bytes.
-use Rattle.std.specs.Prelude.{◌≡◌, ℕ, suc, zero, ◌+◌, ◌-◌, ◌%◌, ◌^◌, ◌≤◌, ◌<◌, ◌⊎◌, Bool, true, false, cond, not, ◌&&◌, ◌||◌, List, [], ◌∷◌, ◌++◌, Option, Some, None, map, length, nat_lt, nat_le, find, reverse, slice_index, slice_index_or, unwrap_or, max, refl, IfSome}
+use Rattle.std.specs.Prelude.{◌≡◌, ℕ, suc, ◌+◌, ◌-◌, ◌%◌, ◌≤◌, Bool, true, false, cond, ◌&&◌, List, [], ◌∷◌, Option, Some, None, map, length, nat_lt, nat_le, find, slice_index, unwrap_or, refl, IfSome}
 use Rattle.std.specs.List.{filter_map, list_any, AllByRecursion, AllPairs}
-use Rattle.std.specs.Option.{option_map, option_map_or, option_and_then}
-use Rattle.std.specs.Int.{w32, from_le_bytes, to_le_bytes}
-use Rattle.std.proofs.Common.{ap, sym, ◌∙◌, arith, inl, inr}
+use Rattle.std.specs.Option.{option_map, option_and_then}
+use Rattle.std.specs.Int.{w32, to_le_bytes}
+use Rattle.std.proofs.Common.{ap, ◌∙◌, arith, inl, inr}
 use Rattle.std.proofs.Math.Bool.{and-false}
 use Rattle.std.proofs.Math.Nat.{sub-zero}
 use Rattle.std.proofs.lemmas.Bool.{le-ltb}
@@ -12,9 +12,9 @@ use Rattle.std.proofs.lemmas.List.Elements.{recursion_from_All}
 use Rattle.obj_types.specs.declared.object.ObjModule.{ObjModule}
 use Rattle.obj_types.specs.declared.object.Piece.{Piece}
 use Rattle.obj_types.specs.declared.symbol.Imp.{Imp}
-use Rattle.link_model.specs.Words.{wrapped, little_endian, number_of}
+use Rattle.link_model.specs.Words.{wrapped}
 use Rattle.link_model.specs.Link.{Link, link_of}
-use Rattle.link_model.specs.Data.{Data, data_bytes}
+use Rattle.link_model.specs.Data.{Data}
 use Rattle.link_model.specs.Goals.{Internal}
 use Rattle.link_model.specs.Fixups.{Fixup, fixups, fixup_of, standing_in}
 use Rattle.link_model.specs.Value.{Far, World, Value}
@@ -38,7 +38,7 @@ placed m place =
       narrow = false;
       target = Internal 1 0;
       frame = None;
-      standing = standing_in m (fix_of place)
+      standing = standing_in m (fix_of place);
     }
 
 all_placed :
@@ -137,7 +137,6 @@ live_at-link name bytes places stem base x one =
     let inside = in_page bytes places one.one_page one.within in
     let alive : live_fixups (link name bytes places stem base) ≡ map (placed m) places = ap live (fixups-link name bytes places stem base) ∙ all_live m places inside one.apart in
     ap (find (fixup_covers 1 x)) alive ∙ find-placed m x places inside
-
 
 found_by : (p : ℕ) (b : Bool) (rest : Option ℕ) → InPage p → IfSome rest InPage → IfSome (cond b (Some p) rest) InPage
 found_by p true rest h hs = h

@@ -1,5 +1,6 @@
 -- Values and bytes, tried on small inputs: each line is a value that the rules give by hand.
 use Rattle.std.specs.Prelude.{◌≡◌, ℕ, true, false, List, [], ◌∷◌, Some, None, refl, codes, map}
+use Rattle.std.specs.List.{range_with_len}
 use Rattle.lx_types.specs.declared.entry.EntryKey.TheVariants.{Ordinal}
 use Rattle.obj_types.specs.declared.object.FixAt.{FixAt}
 use Rattle.obj_types.specs.declared.object.Frame.TheVariants as frames
@@ -12,7 +13,7 @@ use Rattle.link_model.specs.Link.{Link}
 use Rattle.link_model.specs.Layout.{objects}
 use Rattle.link_model.specs.Fixups.{fixups}
 use Rattle.link_model.specs.Mean.{live_fixups, Mean}
-use Rattle.link_model.specs.Out.{At, Forward, count_from, Out, Start, place_refusal}
+use Rattle.link_model.specs.Out.{At, Forward, Out, Start, place_refusal}
 use Rattle.link_model.specs.Defaults.{default_def}
 use Rattle.link_model.proofs.Samples.{linked, piece, fix, at_bases, public, constant, extern, import, export, code32, data32, code16, common32, code_module}
 
@@ -24,7 +25,7 @@ linked_bases l = map (λ o. o.base) (objects l)
 
 -- The first n bytes of an object at the linked bases.
 abbrev bytes : Link → ℕ → ℕ → List ℕ
-bytes l object n = map (Mean l (at_bases (linked_bases l)) object) (count_from n 0)
+bytes l object n = map (Mean l (at_bases (linked_bases l)) object) (range_with_len 0 n)
 
 -- ---- one segment
 

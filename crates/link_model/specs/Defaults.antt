@@ -28,5 +28,5 @@ default_def kind base =
       plain = data_attrs;
       segs = [];
       exports = [];
-      imports = []
+      imports = [];
     }

@@ -18,3 +18,4 @@ pub mod Mean
 pub mod Out
 pub mod Defaults
 pub mod OneSegment
+pub mod Records

@@ -13,9 +13,8 @@ use Rattle.obj_types.specs.declared.definition.ModKind.TheVariants.{Library}
 use Rattle.obj_types.specs.declared.input.LinkInput.{LinkInput}
 use Rattle.obj_types.specs.Fresh.{empty_module}
 use Rattle.link_model.specs.declared.symbols.Pick.{Pick}
-use Rattle.link_model.specs.declared.symbols.LaidObject.{LaidObject}
 use Rattle.link_model.specs.Choosing.{Chosen}
-use Rattle.link_model.specs.Link.{Link, link_of}
+use Rattle.link_model.specs.Link.{link_of}
 use Rattle.link_model.specs.SymbolRefusals.{sym_refusal}
 use Rattle.link_model.specs.Layout.{objects}
 use Rattle.link_model.specs.LayoutRefusals.{lay_refusal}
@@ -73,7 +72,7 @@ one_segment name bytes places =
       segs = record { name = codes "CODE32"; class = codes "CODE"; align = 5; combine = 2; wide = true; len = length bytes; debug = false } ∷ [];
       groups = record { name = codes "FLAT"; members = [] } ∷ [];
       pieces = pieces_of bytes;
-      fixes = map fix_of places
+      fixes = map fix_of places;
     }
 
 -- It is linked alone as a library from a base.

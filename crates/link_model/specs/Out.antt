@@ -1,6 +1,6 @@
 -- The exports and the start of a linked module.
-use Rattle.std.specs.Prelude.{ℕ, zero, suc, ◌+◌, Bool, true, false, not, List, [], ◌∷◌, ◌++◌, Option, Some, None, map, length, if◌then◌else◌, nat_lt, ◌==◌, find, is_some, unwrap_or, slice_get}
-use Rattle.std.specs.List.{list_any, filter_map, zip, enumerate_from}
+use Rattle.std.specs.Prelude.{ℕ, ◌+◌, Bool, true, false, not, List, [], ◌∷◌, ◌++◌, Option, Some, None, map, length, if◌then◌else◌, nat_lt, ◌==◌, find, is_some, unwrap_or, slice_get}
+use Rattle.std.specs.List.{list_any, filter_map, zip, enumerate_from, range_with_len}
 use Rattle.std.specs.Option.{option_map, option_and_then, option_map_or}
 use Rattle.obj_types.specs.declared.symbol.Exp.{Exp}
 use Rattle.obj_types.specs.declared.symbol.Imp.{Imp}
@@ -22,14 +22,10 @@ use Rattle.link_model.specs.Fixups.{fixups, fix_refusal}
 abbrev pub given_ordinals : List Exp → List ℕ
 given_ordinals xs = filter_map (λ x. x.ordinal) xs
 
-abbrev pub count_from : ℕ → ℕ → List ℕ
-count_from zero from = []
-count_from (suc n) from = from ∷ count_from n (from + 1)
-
 -- The least ordinal that is not taken: it is one of the first of as many as are taken, and one more.
 abbrev pub least_free : List ℕ → ℕ
 least_free taken =
-    unwrap_or (find (λ n. not (list_any (λ t. t == n) taken)) (count_from (length taken + 1) 1)) 0
+    unwrap_or (find (λ n. not (list_any (λ t. t == n) taken)) (range_with_len 1 (length taken + 1))) 0
 
 -- An export without ordinal takes the least that no export has, in order.
 abbrev pub ordinals_from : List ℕ → List (Option ℕ) → List ℕ

@@ -6,5 +6,4 @@ ghost use Rattle.link_model.specs.OneSegment.{OneSegmentLaw};
 /// base and the number that stands there where a fixup covers the byte, else the data.
 pub fn one_segment_links_plainly()
     ensures { OneSegmentLaw }
-{
-}
+{}
