@@ -1,0 +1,40 @@
+-- The attributes of segments, and the flags of objects ("Object table" in the LX document).
+use Rattle.std.specs.Prelude.{ℕ, ◌+◌, ◌-◌, ◌/◌, ◌%◌, Bool, true, ◌&&◌, List, length, drop, if◌then◌else◌, ◌==◌, bytes_eq, codes}
+use Rattle.std.specs.List.{find}
+use Rattle.std.specs.Option.{option_map_or}
+use Rattle.lx_types.specs.Names.{uppercase}
+use Rattle.obj_types.specs.declared.definition.Attrs.{Attrs}
+use Rattle.obj_types.specs.declared.definition.SegAttrs.{SegAttrs}
+use Rattle.link_model.specs.Link.{Link}
+use Rattle.link_model.specs.Parts.{Part}
+
+-- The class of a code segment ends in CODE, in any case.
+abbrev pub is_code_class : List ℕ → Bool
+is_code_class class = bytes_eq (drop (length class - 4) (uppercase class)) (codes "CODE")
+
+-- An item of SEGMENTS is for the segments of its name and class; one without a class is for every class.
+abbrev pub is_for : Part → SegAttrs → Bool
+is_for p item = bytes_eq item.name p.name && option_map_or (λ class. bytes_eq class p.class) item.class true
+
+-- The first item of SEGMENTS that is for the segment, else CODE for code classes and DATA for others.
+abbrev pub attrs_of : Link → Part → Attrs
+attrs_of l p =
+    option_map_or (λ item. item.attrs) (find (is_for p) l.def.segs) (if is_code_class p.class then l.def.code else l.def.plain)
+
+abbrev pub flag : Bool → ℕ → ℕ
+flag b value = if b then value else 0
+
+-- Object flags: 1 read, 2 write, 4 execute, 20h shared, 40h preload, 4000h conforming, 8000h IOPL; 2000h
+-- big for use32, and 1000h 16:16 alias for others.
+abbrev pub flags_with : Attrs → Bool → ℕ
+flags_with a wide =
+    flag a.read 1 + flag a.write 2 + flag a.exec 4 + flag a.shared 32 + flag a.preload 64 + flag a.conforming 16384 + flag a.iopl 32768 + (if wide then 8192 else 4096)
+
+abbrev pub flags_of : Link → Part → ℕ
+flags_of l p = flags_with (attrs_of l p) p.wide
+
+abbrev pub is_big : ℕ → Bool
+is_big flags = flags / 8192 % 2 == 1
+
+abbrev pub is_executable : ℕ → Bool
+is_executable flags = flags / 4 % 2 == 1

@@ -1,0 +1,92 @@
+-- The bytes that a fixup's location gets ("9Ch FIXUPP", location types).
+--
+-- p is the location's address, T the target's address with the displacement, and V is T and the number that
+-- stands in the location. All are numbers modulo 2^32.
+use Rattle.std.specs.Prelude.{ℕ, ◌+◌, ◌*◌, ◌/◌, ◌%◌, Bool, false, not, ◌||◌, List, ◌++◌, Option, Some, None, if◌then◌else◌, ◌==◌, slice_get, is_some, unwrap_or}
+use Rattle.std.specs.Option.{option_map_or}
+use Rattle.obj_types.specs.declared.symbol.Imp.{Imp}
+use Rattle.obj_types.specs.Items.{item}
+use Rattle.obj_types.specs.Location.{location_len}
+use Rattle.link_model.specs.Words.{wrapped, difference, little_endian}
+use Rattle.link_model.specs.Link.{Link}
+use Rattle.link_model.specs.Symbols.{imports}
+use Rattle.link_model.specs.Flags.{is_big, is_executable}
+use Rattle.link_model.specs.Layout.{objects}
+use Rattle.link_model.specs.Goals.{Target, Internal, Constant, Entry}
+use Rattle.link_model.specs.Fixups.{Fixup, fix_refusal}
+
+-- Where an import pair leads: an address, and the flags of the object in which it lies.
+pub record Far : Type 0 where
+  pub address : ℕ
+  pub flags : ℕ
+
+-- The bases of the objects, in order, and where import pairs lead.
+pub record World : Type 0 where
+  pub bases : List ℕ
+  pub imp : Imp → Far
+
+-- ---- addresses
+
+abbrev pub address : World → ℕ → ℕ → ℕ
+address w object offset = wrapped (unwrap_or (item w.bases object) 0 + offset)
+
+abbrev pub far_of : Link → World → ℕ → Far
+far_of l w slot = option_map_or w.imp (slice_get (imports l) slot) (record { address = 0; flags = 0 })
+
+abbrev pub target_address : Link → World → Target → ℕ
+target_address l w (Internal o offset) = address w o offset
+target_address l w (Constant value) = value
+target_address l w (Entry slot) = (far_of l w slot).address
+
+abbrev pub object_flags : Link → ℕ → ℕ
+object_flags l o = option_map_or (λ x. x.flags) (item (objects l) o) 0
+
+abbrev pub target_flags : Link → World → Target → ℕ
+target_flags l w (Internal o offset) = object_flags l o
+target_flags l w (Constant value) = 0
+target_flags l w (Entry slot) = (far_of l w slot).flags
+
+-- ---- selectors
+
+-- The tiled selector of an address.
+abbrev pub tiled : ℕ → ℕ
+tiled a = (a / 65536 * 8 + 7) % 65536
+
+-- Of an address in an object with these flags: tiled where the object is not big, else the flat code or
+-- data selector.
+abbrev pub selector : ℕ → Bool → ℕ → ℕ
+selector flags in_16_bit a =
+    if in_16_bit || not (is_big flags) then tiled a else if is_executable flags then 91 else 83
+
+-- ---- values
+
+-- A segment-relative location, from T, V, the flags of the target's object, and whether the location's segment
+-- is 16-bit.
+abbrev pub relative_to_segment : ℕ → ℕ → ℕ → ℕ → Bool → List ℕ
+relative_to_segment loc t v flags narrow =
+    if loc == 0 then little_endian 1 v
+    else if loc == 1 || loc == 5 then little_endian 2 v
+    else if loc == 2 then little_endian 2 (selector flags narrow t)
+    else if loc == 3 then little_endian 2 v ++ little_endian 2 (tiled v)
+    else if loc == 11 then little_endian 4 (if is_big flags then v else v % 65536) ++ little_endian 2 (selector flags false v)
+    else little_endian 4 v
+
+-- A self-relative location: V less the address after the location.
+abbrev pub relative_to_self : ℕ → ℕ → ℕ → List ℕ
+relative_to_self loc p v = little_endian (location_len loc) (difference v (p + location_len loc))
+
+-- T and V of a fixup.
+abbrev pub target_number : Link → World → Fixup → ℕ
+target_number l w q = wrapped (target_address l w q.target + q.fix.disp)
+
+abbrev pub sum_number : Link → World → Fixup → ℕ
+sum_number l w q = wrapped (target_number l w q + q.standing)
+
+-- The bytes that the location gets, unless the fixup is refused.
+abbrev pub value_bytes : Link → World → Fixup → List ℕ
+value_bytes l w q =
+    if q.fix.selfrel then relative_to_self q.fix.loc (address w q.object q.offset) (sum_number l w q)
+    else relative_to_segment q.fix.loc (target_number l w q) (sum_number l w q) (target_flags l w q.target) q.narrow
+
+abbrev pub Value : Link → World → Fixup → Option (List ℕ)
+Value l w q = if is_some (fix_refusal q) then None else Some (value_bytes l w q)

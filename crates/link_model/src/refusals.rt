@@ -1,0 +1,41 @@
+//! Why a link is refused.
+
+use obj_types::Name;
+use thiserror::Error;
+
+/// Why the names of a link have no meaning. Modules count from 1; 0 is the definition file.
+#[derive(Debug, PartialEq, Drop, Error)]
+pub enum SymRefusal {
+    #[error("a name is defined in modules {first} and {second}")]
+    Twice { name: Name, first: u32, second: u32 },
+    #[error("a name has no definition")]
+    Missing { name: Name },
+    #[error("{count} modules are imported")]
+    ImportsMany { count: u32 },
+}
+
+/// Why the segments of a link have no layout.
+#[derive(Debug, PartialEq, Drop, Error)]
+pub enum LayRefusal {
+    #[error("a segment is absolute")]
+    AbsoluteSeg { seg: Name },
+    #[error("a segment is joined with 16-bit and 32-bit ones")]
+    UseMixed { seg: Name },
+    #[error("a group's segments can't be one object")]
+    GroupSplit { group: Name },
+    #[error("a segment has no room")]
+    TooLarge { seg: Name },
+}
+
+/// Why a fixup has no value, by its chosen module, segment and offset.
+#[derive(Debug, Clone, Copy, PartialEq, Eq, Error)]
+pub enum FixRefusal {
+    #[error("module {module} segment {seg} offset {offset}: the target is too far")]
+    FarSelf { module: u32, seg: u32, offset: u32 },
+    #[error("module {module} segment {seg} offset {offset}: the frame is in another object")]
+    FrameApart { module: u32, seg: u32, offset: u32 },
+    #[error("module {module} segment {seg} offset {offset}: a constant has no selector")]
+    ConstSelector { module: u32, seg: u32, offset: u32 },
+    #[error("module {module}: the start address is in no object")]
+    StartOutside { module: u32 },
+}
