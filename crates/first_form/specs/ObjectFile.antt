@@ -2,17 +2,13 @@
 -- in the group FLAT, its data in one LEDATA record and its fixups in one FIXUPP record.
 -- Relocatable Object Module Format, "80H THEADR", "96H LNAMES", "99H SEGDEF", "9AH GRPDEF",
 -- "A1H LEDATA", "9DH FIXUPP", "8AH MODEND". Each checksum byte is 0.
-use Rattle.std.specs.Prelude.{◌<◌, ◌≡◌, ℕ, ◌+◌, ◌/◌, ◌%◌, List, [], ◌∷◌, ◌++◌, length, map, codes, true, false, Option, Some, None}
+use Rattle.std.specs.Prelude.{◌<◌, ◌≡◌, ℕ, ◌+◌, ◌/◌, ◌%◌, List, [], ◌∷◌, ◌++◌, length, Option, Some, None}
 use Rattle.std.specs.List.{flat_map}
 use Rattle.std.specs.Int.{w16, w32, to_le_bytes}
 use Rattle.lx_types.specs.Names.{IsName}
-use Rattle.obj_types.specs.Fresh.{empty_module}
-use Rattle.obj_types.specs.declared.object.Seg.{Seg}
-use Rattle.obj_types.specs.declared.object.Piece.{Piece}
-use Rattle.obj_types.specs.declared.object.FixAt.{FixAt}
-use Rattle.obj_types.specs.declared.object.Frame.TheVariants as frames
-use Rattle.obj_types.specs.declared.object.Goal.TheVariants as goals
 use Rattle.obj_types.specs.declared.object.ObjModule.{ObjModule}
+pub use Rattle.link_model.specs.OneSegment.{fix_of, pieces_of}
+use Rattle.link_model.specs.OneSegment.{one_segment}
 use Rattle.first_form.specs.Segment.{Segment, IsSegment}
 
 -- A record: its type, the length of what follows, the contents, and a checksum of 0.
@@ -95,21 +91,6 @@ Spells bytes form = IsForm form × ((rest : List ℕ) × (bytes ≡ spelling for
 
 -- ---- The module that a file of this form means.
 
-abbrev pub seg_of : List ℕ → Seg
-seg_of bytes = record { name = codes "CODE32"; class = codes "CODE"; align = 5; combine = 2; wide = true; len = length bytes; debug = false }
-
-abbrev pub pieces_of : List ℕ → List Piece
-pieces_of [] = []
-pieces_of (b ∷ bytes) = record { seg = 1; offset = 0; bytes = b ∷ bytes } ∷ []
-
-abbrev pub fix_of : ℕ → FixAt
-fix_of place = record { seg = 1; offset = place; loc = 9; selfrel = false; frame = frames.Group 1; goal = goals.Seg 1; disp = 0 }
-
+-- The smallest module: CODE32 in FLAT, its data and its fixups.
 abbrev pub object_of : Form → ObjModule
-object_of form = record empty_module {
-  name = form.name;
-  segs = seg_of form.bytes ∷ [];
-  groups = record { name = codes "FLAT"; members = [] } ∷ [];
-  pieces = pieces_of form.bytes;
-  fixes = map fix_of (places form.fixups);
-}
+object_of form = one_segment form.name form.bytes (places form.fixups)

@@ -1,3 +1,4 @@
 mod Zeros
 mod Input
 pub mod Meaning
+pub mod Links

@@ -67,7 +67,7 @@ find_source bytes x (a ∷ places) = elim (covers x a) as (λ b. cond b (Some (s
     [ true ↦ refl | false ↦ find_source bytes x places ]
 
 fixed_by_source : (base : ℕ) (page bytes : List ℕ) (x : ℕ) (o : Option ℕ) → (o ≡ None → slice_index page x ≡ slice_index bytes x)
-    → fixed_by base page x (option_map (source_of bytes) o) ≡ mean_by base (record { bytes = bytes; fixups = [] }) x o
+    → fixed_by base page x (option_map (source_of bytes) o) ≡ mean_by base bytes x o
 fixed_by_source base page bytes x None plain = plain refl
 fixed_by_source base page bytes x (Some place) plain = refl
 
@@ -95,7 +95,7 @@ fixed_is_mean base s page x is paged within =
 
 -- ---- The whole object.
 
-same_images : (f g : ℕ → ℕ) (from n : ℕ) → ((x : ℕ) → from ≤ x → x < from + n → f x ≡ g x) → map f (range_with_len from n) ≡ map g (range_with_len from n)
+pub same_images : (f g : ℕ → ℕ) (from n : ℕ) → ((x : ℕ) → from ≤ x → x < from + n → f x ≡ g x) → map f (range_with_len from n) ≡ map g (range_with_len from n)
 same_images f g from zero same = refl
 same_images f g from (suc n) same = rw (same from (omega arith) (omega arith), same_images f g (from + 1) n (λ x after before. same x (omega arith) (omega arith))) refl
 

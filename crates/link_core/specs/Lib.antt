@@ -1,2 +1,4 @@
 pub mod Fields
 pub mod FirstInput
+pub mod Memory
+pub mod Links

@@ -1,5 +1,5 @@
 //! From a link's input to the module's bytes.
-ghost use Rattle.std.specs.Prelude.{◌≡◌, ◌<◌, IfOk, length};
+ghost use Rattle.std.specs.Prelude.{◌≡◌, ◌<◌, ℕ, IfOk, length};
 ghost use Rattle.lx_types.specs.Names.{IsName};
 ghost use Rattle.first_form.specs.Segment.{IsSegment};
 ghost use Rattle.first_form.specs.Fixing.{IsLinked};
@@ -7,10 +7,12 @@ ghost use Rattle.link_core.specs.Fields.{segment_of};
 ghost use Rattle.first_form.specs.ObjectFile.{Form};
 ghost use Rattle.first_form.specs.ModuleFile.{IsOneObject, file};
 ghost use Rattle.first_form.specs.declared.module_file.OneObject.{OneObject as Linked};
-ghost use Rattle.link_core.specs.FirstInput.{FirstInput, LinksTo, data_of, base_of};
+ghost use Rattle.link_core.specs.FirstInput.{FirstInput, data_of};
+ghost use Rattle.link_core.specs.Links.{LinksTo};
 
 use crate::page::{cleared_data, page_sources, trim};
 use first_form::{OneObject, write_file};
+use link_model::one_segment_links_plainly;
 use lx_types::{Name, NoMemory, Seq};
 use obj_types::{FixAt, LinkInput, ObjModule};
 use std::alloc::Global;
@@ -55,30 +57,25 @@ fn one_object(
 
 /// What the input is linked to.
 fn linked(alloc: Global, input: &LinkInput) -> Result<OneObject, NoMemory>
-    requires { (form : Form) × FirstInput input.now form }
-    ensures { IfOk result (λ m. IsOneObject m × ((form : Form) → FirstInput input.now form → LinksTo input.now form m)) }
+    requires { (form : Form) × (at : ℕ) × FirstInput input.now form at }
+    ensures { IfOk result (λ m. IsOneObject m × LinksTo input.now m) }
 {
+    one_segment_links_plainly();
     let object = &input.objects.as_slice()[0];
     let name = input.stem.to_uppercase(alloc)?;
     let base = input.def.base.unwrap_or(LIBRARY_BASE);
-    one_object(
-        alloc,
-        name,
-        base,
-        first_data(object),
-        object.fixes.as_slice(),
-    )
+    let fixes = object.fixes.as_slice();
+    one_object(alloc, name, base, first_data(object), fixes)
 }
 
 /// Links the input to the bytes of a module ("32-bit Linear eXecutable Module Format").
 ///
-/// Until other forms are linked the input is one object file of the first form, with the definition of
-/// a library that says nothing but its base. At the linked base the module's bytes are what the object
-/// file's segment means there.
+/// Until other forms are linked the input is one object file of the first form, alone, as a library
+/// from a base. The file is that of a module whose bytes at its linked base are those that the link
+/// means there.
 pub fn link(alloc: Global, input: &LinkInput) -> Result<Vec<u8>, NoMemory>
-    requires { (form : Form) × FirstInput input.now form }
-    ensures { IfOk result (λ written. (m : Linked) × IsOneObject m × (written.items ≡ file m)
-        × ((form : Form) → FirstInput input.now form → LinksTo input.now form m)) }
+    requires { (form : Form) × (at : ℕ) × FirstInput input.now form at }
+    ensures { IfOk result (λ written. (m : Linked) × IsOneObject m × (written.items ≡ file m) × LinksTo input.now m) }
 {
     let module = linked(alloc, input)?;
     write_file(alloc, &module)
