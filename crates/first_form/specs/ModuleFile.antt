@@ -23,6 +23,12 @@ source_record s = if nat_lt s.target 65536
     then 7 ∷ 0 ∷ [] ++ to_le_bytes w16 s.offset ++ 1 ∷ [] ++ to_le_bytes w16 s.target
     else 7 ∷ 0x10 ∷ [] ++ to_le_bytes w16 s.offset ++ 1 ∷ [] ++ to_le_bytes w32 s.target
 
+-- The bytes are the record of a source whose numbers fit their fields, and what follows it.
+pub record BeginsWith (bytes : List ℕ) (s : Source) (rest : List ℕ) : Type 0 where
+  pub offset : s.offset < 2 ^ 16
+  pub target : s.target < 2 ^ 32
+  pub spelled : bytes ≡ source_record s ++ rest
+
 abbrev pub records : List Source → List ℕ
 records sources = flat_map source_record sources
 

@@ -1,13 +1,18 @@
 //! Fixup records of the first form.
-ghost use Rattle.std.specs.Prelude.{◌≡◌, ◌++◌, ◌<◌, ◌^◌, IfSome, MatchOption};
-ghost use Rattle.first_form.specs.ModuleFile.{source_record};
+ghost use Rattle.std.specs.Prelude.{◌≡◌, ℕ, List, IfSome, MatchOption};
+ghost use Rattle.first_form.specs.declared.module_file.Source.{Source};
+ghost use Rattle.first_form.specs.ModuleFile.{BeginsWith};
 
 use crate::Source;
 
 /// The source that the first record gives, and the bytes after it. `None` comes exactly where the
 /// bytes begin with no record of the first form.
 pub fn next_source(bytes: &[u8]) -> Option<(Source, &[u8])>
-    ensures read { IfSome result (λ x. bytes.now ≡ source_record x.0 ++ x.1.now) }
+    ensures read { IfSome result (λ x. BeginsWith bytes.now x.0 x.1.now) }
+    ensures whole {
+        (s : Source) (rest : List ℕ) → BeginsWith bytes.now s rest
+        → MatchOption result ⊥ (λ x. (x.0 ≡ s) × (x.1.now ≡ rest))
+    }
 {
     match bytes {
         [7, 0, a, b, 1, c, d, rest @ ..] => {
