@@ -109,3 +109,8 @@ pub record IsOneObject (m : OneObject) : Type 0 where
   pub sources : AllByRecursion (λ s. (s.offset < 4096) × (s.target < 2 ^ 32)) m.sources
   pub count : length m.sources < 16384
   pub empty : m.size ≡ 0 → length m.sources ≡ 0
+
+-- The bytes are the file of this module.
+pub record IsFileOf (bytes : List ℕ) (m : OneObject) : Type 0 where
+  pub object : IsOneObject m
+  pub spelled : bytes ≡ file m

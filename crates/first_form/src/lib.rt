@@ -3,9 +3,11 @@
 #![tactic(auto)]
 
 mod module_file;
+mod reading;
 mod records;
 mod writing;
 
 pub use module_file::{OneObject, Source, Sources};
+pub use reading::{read_file, sections_stand};
 pub use records::next_source;
 pub use writing::write_file;

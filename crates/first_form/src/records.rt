@@ -9,10 +9,8 @@ use crate::Source;
 /// bytes begin with no record of the first form.
 pub fn next_source(bytes: &[u8]) -> Option<(Source, &[u8])>
     ensures read { IfSome result (λ x. BeginsWith bytes.now x.0 x.1.now) }
-    ensures whole {
-        (s : Source) (rest : List ℕ) → BeginsWith bytes.now s rest
-        → MatchOption result ⊥ (λ x. (x.0 ≡ s) × (x.1.now ≡ rest))
-    }
+    ensures whole { (s : Source) (rest : List ℕ) → BeginsWith bytes.now s rest
+        → MatchOption result ⊥ (λ x. (x.0 ≡ s) × (x.1.now ≡ rest)) }
 {
     match bytes {
         [7, 0, a, b, 1, c, d, rest @ ..] => {
