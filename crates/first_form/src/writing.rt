@@ -134,7 +134,8 @@ fn push_fixup_page_table(
 #[tactic(auto, using(crate::proofs::Lengths::records_fit), unfolding(crate::specs::ModuleFile::file))]
 pub fn write_file(alloc: Global, m: &OneObject) -> Result<Vec<u8>, NoMemory>
     requires { IsOneObject m.now }
-    ensures { IfOk result (λ f. f.items ≡ file m.now) }
+    ensures spelled { IfOk result (λ f. f.items ≡ file m.now) }
+    ensures short { IfOk result (λ f. length f.items < 2 ^ 32) }
 {
     let records = records_of(alloc, m.sources.as_slice())?;
     let records_len = records.len() as u32;

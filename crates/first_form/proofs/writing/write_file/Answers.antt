@@ -1,5 +1,6 @@
-use Rattle.std.proofs.Common.{◌≡◌, ℕ, List, [], ◌∷◌, ◌++◌, rules}
+use Rattle.std.proofs.Common.{ap, arith, length, ◌≡◌, ℕ, List, [], ◌∷◌, ◌++◌, rules}
 use Rattle.first_form.specs.ModuleFile.{header, object_table, page_table, name_table, fixup_page_table, records, file}
+use Rattle.first_form.proofs.Places.{file_stands}
 use Rattle.first_form.proofs.writing.write_file.Goals as goal
 
 -- One section after another.
@@ -9,9 +10,9 @@ joined : (header objects pages names fixups records page : List ℕ) (a b c d e 
     → j ≡ header ++ objects ++ pages ++ names ++ 0 ∷ [] ++ fixups ++ records ++ 0 ∷ [] ++ page ++ names
 joined header objects pages names fixups records page a b c d e f g h i j _1 _2 _3 _4 _5 _6 _7 _8 _9 _10 = cc
 
-pub returns : goal.returns
+pub returns-clause-spelled : goal.returns-clause-spelled
 unfolding file
-returns c = let m = c.args.m.now in
+returns-clause-spelled c = let m = c.args.m.now in
     joined (header m) (object_table m) (page_table m) (name_table m.name) (fixup_page_table m) (records m.sources) m.page
     c.push_header.new.out.items c.push_object_table.new.out.items c.push_page_table.new.out.items c.push_name_table.new.out.items
     c.push.new.self.items c.push_fixup_page_table.new.out.items c.extend_from_slice.new.self.items c.push-2.new.self.items
@@ -21,3 +22,8 @@ returns c = let m = c.args.m.now in
     c.in_ok-push.ensures.items c.in_ok-push_fixup_page_table.ensures
     (search rules) c.in_ok-push-2.ensures.items (search rules)
     (rw (c.bytes-2.ensures.same) at c.in_ok-push_name_table-2.ensures)
+
+pub returns-clause-short : goal.returns-clause-short
+returns-clause-short c =
+    let stands = file_stands c.args.m.now c.requires in
+    omega (arith, stands.short, ap length (returns-clause-spelled c))
