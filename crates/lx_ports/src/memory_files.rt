@@ -1,6 +1,8 @@
 // Files in memory, of which chosen loads and saves fail.
-ghost use Rattle.std.specs.Prelude.{◌≡◌, ◌≢◌, List, ℕ, Some, OnOk, option_map};
+ghost use Rattle.std.specs.Prelude.{◌≡◌, ◌≢◌, ◌≤◌, ◌↔◌, List, ℕ, length, Some, IfOk, OnOk, OnErr, IsErrOf, option_map};
 ghost use Rattle.std.specs.List.{position};
+ghost use Rattle.lx_ports.specs.Causes.{Rose};
+ghost use Rattle.lx_ports.specs.Files.{Answers, IsSaved, KeepsOthers};
 ghost use Rattle.lx_ports.specs.Names.{held_in, is_named};
 
 use crate::{Files, LoadFault, SaveFault};
@@ -72,7 +74,7 @@ fn find<'a>(entries: &'a [(String, Vec<u8>)], name: &str) -> Option<&'a [u8]>
 }
 
 impl Files for MemFiles {
-    ghost use Rattle.lx_ports.specs.Memory.{held};
+    ghost use Rattle.lx_ports.specs.Memory.{held, LoadIsToFail, SaveIsToFail, IsOneLoadLater, IsOneSaveLater};
 
     ghost contents = { λ files. Some (held files) };
 
@@ -84,7 +86,21 @@ impl Files for MemFiles {
 
     ghost overs = { λ files. files.overs };
 
-    fn load(&mut self, alloc: Global, name: &str, max: u32) -> Result<Vec<u8>, LoadFault> {
+    fn load(&mut self, alloc: Global, name: &str, max: u32) -> Result<Vec<u8>, LoadFault>
+        ensures answer { Answers (held self.old name.now) max result }
+        ensures planned { IsErrOf result LoadFault.Failed ↔ LoadIsToFail self.old }
+        ensures limit { IfOk result (λ bytes. length bytes.items ≤ max) }
+        ensures kept { ⟦<MemFiles as Files>⟧.contents self.new ≡ ⟦<MemFiles as Files>⟧.contents self.old }
+        ensures numbered { IsOneLoadLater self.old self.new }
+
+        ensures failed { IsErrOf result LoadFault.Failed → Rose (⟦<MemFiles as Files>⟧.faults self.old) (⟦<MemFiles as Files>⟧.faults self.new) }
+        ensures absent { IsErrOf result LoadFault.Absent → Rose (⟦<MemFiles as Files>⟧.misses self.old) (⟦<MemFiles as Files>⟧.misses self.new) }
+        ensures too_long { IsErrOf result LoadFault.TooLong → Rose (⟦<MemFiles as Files>⟧.overs self.old) (⟦<MemFiles as Files>⟧.overs self.new) }
+        ensures faults_stand { ⟦<MemFiles as Files>⟧.faults self.old ≤ ⟦<MemFiles as Files>⟧.faults self.new }
+        ensures save_faults_stand { ⟦<MemFiles as Files>⟧.save_faults self.old ≤ ⟦<MemFiles as Files>⟧.save_faults self.new }
+        ensures misses_stand { ⟦<MemFiles as Files>⟧.misses self.old ≤ ⟦<MemFiles as Files>⟧.misses self.new }
+        ensures overs_stand { ⟦<MemFiles as Files>⟧.overs self.old ≤ ⟦<MemFiles as Files>⟧.overs self.new }
+    {
         self.loads = self.loads.saturating_add(1);
         if self.failing_loads.contains(&self.loads) {
             self.faults = self.faults.saturating_add(1);
@@ -101,7 +117,18 @@ impl Files for MemFiles {
         Ok(bytes.to_vec(alloc)?)
     }
 
-    fn save(&mut self, name: &str, bytes: &[u8]) -> Result<(), SaveFault> {
+    fn save(&mut self, name: &str, bytes: &[u8]) -> Result<(), SaveFault>
+        ensures planned { SaveIsToFail self.old → IsErrOf result SaveFault.Failed }
+        ensures saved { OnOk result (IsSaved (⟦<MemFiles as Files>⟧.contents self.old) (⟦<MemFiles as Files>⟧.contents self.new) name.now bytes.now) }
+        ensures others { KeepsOthers (⟦<MemFiles as Files>⟧.contents self.old) (⟦<MemFiles as Files>⟧.contents self.new) name.now }
+        ensures numbered { IsOneSaveLater self.old self.new }
+
+        ensures failed { OnErr result (Rose (⟦<MemFiles as Files>⟧.save_faults self.old) (⟦<MemFiles as Files>⟧.save_faults self.new)) }
+        ensures faults_stand { ⟦<MemFiles as Files>⟧.faults self.old ≤ ⟦<MemFiles as Files>⟧.faults self.new }
+        ensures save_faults_stand { ⟦<MemFiles as Files>⟧.save_faults self.old ≤ ⟦<MemFiles as Files>⟧.save_faults self.new }
+        ensures misses_stand { ⟦<MemFiles as Files>⟧.misses self.old ≤ ⟦<MemFiles as Files>⟧.misses self.new }
+        ensures overs_stand { ⟦<MemFiles as Files>⟧.overs self.old ≤ ⟦<MemFiles as Files>⟧.overs self.new }
+    {
         self.saves = self.saves.saturating_add(1);
         if self.failing_saves.contains(&self.saves)
             || put(self.alloc, &mut self.entries, name, bytes).is_err()

@@ -1,5 +1,8 @@
 // A sink in memory that takes pieces of a bounded size, and of which chosen puts fail.
-ghost use Rattle.std.specs.Prelude.{◌≡◌, ◌≤◌, Some, IfOk, [], vec_capacity};
+ghost use Rattle.std.specs.Prelude.{◌≡◌, ◌≤◌, ◌<◌, ◌↔◌, ◌⊎◌, [], length, Some, Ok, IfOk, OnErr, IsErr, IsTrue, vec_capacity};
+ghost use Rattle.std.specs.Io.{WritesAtMost};
+ghost use Rattle.std.specs.Io.KnownBytes.{WriteAppends};
+ghost use Rattle.lx_ports.specs.Causes.{Rose};
 
 use crate::{Sink, SinkFailed};
 use std::alloc::{AllocError, Global};
@@ -49,24 +52,51 @@ impl MemSink {
     }
 }
 
+impl MemSink {
+    ghost use Rattle.lx_ports.specs.MemorySink.{PutIsToFail, IsFull};
+
+    // Whether the next put of a piece that is not empty is to fail, or finds no room.
+    fn refuses_next(&self) -> bool
+        ensures { IsTrue result ↔ (PutIsToFail self.now ⊎ IsFull self.now) }
+    {
+        self.failing.contains(&self.puts.saturating_add(1)) || self.bytes.len() >= self.room
+    }
+}
+
 impl Sink for MemSink {
-    ghost use Rattle.lx_ports.specs.MemorySink.{taken};
+    ghost use Rattle.lx_ports.specs.MemorySink.{taken, share, PutIsToFail, IsFull, IsOnePutLater};
 
     ghost told = { λ sink. Some (taken sink) };
 
     ghost faults = { λ sink. sink.faults };
 
-    fn put(&mut self, bytes: &[u8]) -> Result<usize, SinkFailed> {
+    fn put(&mut self, bytes: &[u8]) -> Result<usize, SinkFailed>
+        ensures share { IfOk result (λ count. count ≡ share self.old (length bytes.now)) }
+        ensures planned { IsErr result ↔ ((0 < length bytes.now) × (PutIsToFail self.old ⊎ IsFull self.old)) }
+        ensures numbered { IsOnePutLater (length bytes.now) self.old self.new }
+
+        ensures at_most { WritesAtMost result bytes.now }
+        ensures at_least { IfOk result (λ count. 0 < length bytes.now → 0 < count) }
+        ensures appended { WriteAppends (⟦<MemSink as Sink>⟧.told self.old) (⟦<MemSink as Sink>⟧.told self.new) result bytes.now }
+        ensures empty { bytes.now ≡ [] → result ≡ Ok 0 }
+        ensures empty_told { bytes.now ≡ [] → ⟦<MemSink as Sink>⟧.told self.new ≡ ⟦<MemSink as Sink>⟧.told self.old }
+        ensures empty_faults { bytes.now ≡ [] → ⟦<MemSink as Sink>⟧.faults self.new ≡ ⟦<MemSink as Sink>⟧.faults self.old }
+        ensures failed { OnErr result (Rose (⟦<MemSink as Sink>⟧.faults self.old) (⟦<MemSink as Sink>⟧.faults self.new)) }
+        ensures faults_stand { ⟦<MemSink as Sink>⟧.faults self.old ≤ ⟦<MemSink as Sink>⟧.faults self.new }
+    {
         if bytes.is_empty() {
             return Ok(0);
         }
+        let refused = self.refuses_next();
         self.puts = self.puts.saturating_add(1);
-        let free = self.room.saturating_sub(self.bytes.len());
-        let count = bytes.len().min(self.most).min(free);
-        if count == 0 || self.failing.contains(&self.puts) {
+        if refused {
             self.faults = self.faults.saturating_add(1);
             return Err(SinkFailed);
         }
+        let count = bytes
+            .len()
+            .min(self.most)
+            .min(self.room - self.bytes.len());
         match self.bytes.extend_from_slice(&bytes[..count]) {
             Ok(()) => Ok(count),
             Err(_) => unreachable!(),
