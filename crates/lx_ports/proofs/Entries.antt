@@ -46,7 +46,7 @@ pub held-set_other : (name other : List ℕ) (entries : List Entry) (place : ℕ
 held-set_other name other entries place entry d is named differ =
     let was : is_named name (get_or entries place d) ≡ true = (position-Some (is_named name) entries place d is).1 in
     bytes_of (set entries place entry) other (find (is_named other) entries)
-        (find_past (is_named other) entries place entry d (other_name name other (get_or entries place d) differ was) (other_name name other entry differ named))
+    (find_past (is_named other) entries place entry d (other_name name other (get_or entries place d) differ was) (other_name name other entry differ named))
 
 pub held-push : (name : List ℕ) (entries : List Entry) (entry : Entry) → position (is_named name) entries ≡ None → is_named name entry ≡ true → held_in (entries ++ entry ∷ []) name ≡ Some entry.1.items
 held-push name entries entry none named =

@@ -3,3 +3,4 @@ pub mod Files
 pub mod Memory
 pub mod Names
 pub mod MemorySink
+pub mod Sure

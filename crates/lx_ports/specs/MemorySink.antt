@@ -1,11 +1,19 @@
 -- A sink in memory, and the puts of it that are to fail.
-use Rattle.std.specs.Prelude.{◌≡◌, ℕ, ◌-◌, ◌≤◌, min, List, length, Contains, if◌then◌else◌, ◌==◌}
+use Rattle.std.specs.Prelude.{◌≡◌, ℕ, ◌-◌, ◌≤◌, min, List, [], length, Contains, if◌then◌else◌, ◌==◌}
 use Rattle.lx_ports.specs.Causes.{next}
 use Rattle.lx_ports.specs.declared.memory_sink.MemSink.{MemSink}
 
 -- The bytes that it took.
 abbrev pub taken : MemSink → List ℕ
 taken sink = sink.bytes.items
+
+-- It took nothing yet, with this room, at most this much of a piece, and these puts to fail.
+pub record IsNew (sink : MemSink) (room most : ℕ) (failing : List ℕ) : Type 0 where
+  pub nothing : taken sink ≡ []
+  pub puts : sink.puts ≡ 0
+  pub room_is : sink.room ≡ room
+  pub most_is : sink.most ≡ most
+  pub failing_is : sink.failing.items ≡ failing
 
 -- It has no room left.
 abbrev pub IsFull : MemSink → Type 0

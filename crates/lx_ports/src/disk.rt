@@ -3,10 +3,8 @@ ghost use Rattle.std.specs.Prelude.{None};
 
 use crate::{Files, LoadFault, SaveFault, Sink, SinkFailed};
 use std::alloc::Global;
-use std::fs;
-use std::io;
 use std::io::{ErrorKind, Read, Write};
-use std::rt;
+use std::{fs, io, rt};
 
 /// The files of the system, by their paths.
 #[derive(Drop)]
@@ -83,7 +81,7 @@ fn read<R: rt::Files>(rt: &R, alloc: Global, name: &str, max: u32) -> io::Result
     Ok(bytes)
 }
 
-/// Standard output, or any writer in its place.
+/// Standard output, or any writer in its place. It tells what the writer tells, which is nothing for standard output.
 #[derive(Drop)]
 pub struct StdSink<W> {
     out: W,
@@ -97,7 +95,7 @@ impl<W: Write> StdSink<W> {
 }
 
 impl<W: Write> Sink for StdSink<W> {
-    ghost told = { λ _. None };
+    ghost told = { λ sink. W.contents sink.out };
 
     ghost faults = { λ sink. sink.faults };
 

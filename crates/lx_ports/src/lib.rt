@@ -9,6 +9,7 @@ mod gate;
 mod memory_files;
 mod memory_sink;
 mod sink;
+mod sure;
 
 pub use disk::{DiskFiles, StdSink};
 pub use files::{Files, LoadFault, SaveFault};
@@ -16,3 +17,7 @@ pub use gate::{Gate, NoGate};
 pub use memory_files::MemFiles;
 pub use memory_sink::MemSink;
 pub use sink::{Sink, SinkFailed};
+pub use sure::{SureFiles, SureSink};
+
+#[cfg(test)]
+mod tests;

@@ -24,7 +24,7 @@ pub struct MemFiles {
 }
 
 impl MemFiles {
-    ghost use Rattle.lx_ports.specs.Memory.{held};
+    ghost use Rattle.lx_ports.specs.Memory.{held, IsPlanned};
 
     /// Files of these names. Of two entries of one name the first counts.
     pub fn of(
@@ -34,6 +34,7 @@ impl MemFiles {
         failing_saves: Vec<u64>,
     ) -> MemFiles
         ensures files { held result ≡ held_in files.items }
+        ensures planned { IsPlanned result failing_loads.items failing_saves.items }
     {
         MemFiles {
             alloc,
@@ -61,9 +62,7 @@ impl MemFiles {
 fn place_of(entries: &[(String, Vec<u8>)], name: &str) -> Option<usize>
     ensures { result ≡ position (is_named name.now) entries.now }
 {
-    entries
-        .iter()
-        .position(|(entry, _)| name == entry.as_str())
+    entries.iter().position(|(entry, _)| name == entry.as_str())
 }
 
 fn find<'a>(entries: &'a [(String, Vec<u8>)], name: &str) -> Option<&'a [u8]>

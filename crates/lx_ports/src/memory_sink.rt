@@ -22,7 +22,7 @@ pub struct MemSink {
 }
 
 impl MemSink {
-    ghost use Rattle.lx_ports.specs.MemorySink.{taken};
+    ghost use Rattle.lx_ports.specs.MemorySink.{taken, IsNew};
 
     /// A sink with room for so many bytes, which takes at most `most` of a piece. It takes its room at once.
     pub fn of(
@@ -32,7 +32,7 @@ impl MemSink {
         failing: Vec<u64>,
     ) -> Result<MemSink, AllocError>
         requires { 1 ≤ most }
-        ensures { IfOk result (λ sink. taken sink ≡ []) }
+        ensures { IfOk result (λ sink. IsNew sink room most failing.items) }
     {
         Ok(MemSink {
             bytes: Vec::with_capacity(alloc, room)?,
@@ -93,10 +93,7 @@ impl Sink for MemSink {
             self.faults = self.faults.saturating_add(1);
             return Err(SinkFailed);
         }
-        let count = bytes
-            .len()
-            .min(self.most)
-            .min(self.room - self.bytes.len());
+        let count = bytes.len().min(self.most).min(self.room - self.bytes.len());
         match self.bytes.extend_from_slice(&bytes[..count]) {
             Ok(()) => Ok(count),
             Err(_) => unreachable!(),

@@ -8,4 +8,4 @@ returns-in_err-place c = rw c.from_residual.ensures (sym (held-none c.args.name.
 pub returns : goal.returns
 returns c =
     rw c.deref.ensures.value
-        (sym (held-place c.args.name.now c.args.entries.now c.in_ok-place.place c.index-entries-place.result (sym c.place_of.ensures ∙ c.in_ok-place.was)))
+    (sym (held-place c.args.name.now c.args.entries.now c.in_ok-place.place c.index-entries-place.result (sym c.place_of.ensures ∙ c.in_ok-place.was)))

@@ -11,7 +11,7 @@ returns-in-Some-clause-saved c =
     let found : position (is_named name) entries ≡ Some c.in-Some.place = cc in
     let copied : c.in_ok-copy.copy.items ≡ c.args.bytes.now = search rules in
     held-set name entries c.in-Some.place (c.index_mut.result.now.0, c.in_ok-copy.copy) found
-        (place_named name entries c.in-Some.place c.index_mut.result.now found c.index_mut.ensures.value)
+    (place_named name entries c.in-Some.place c.index_mut.result.now found c.index_mut.ensures.value)
     ∙ ap Some copied
 
 pub returns-in-Some-clause-others : goal.returns-in-Some-clause-others
@@ -20,7 +20,7 @@ returns-in-Some-clause-others c =
     let name = c.args.name.now in
     let found : position (is_named name) entries ≡ Some c.in-Some.place = cc in
     λ other. held-set_other name other entries c.in-Some.place (c.index_mut.result.now.0, c.in_ok-copy.copy) c.index_mut.result.now found
-        (place_named name entries c.in-Some.place c.index_mut.result.now found c.index_mut.ensures.value)
+    (place_named name entries c.in-Some.place c.index_mut.result.now found c.index_mut.ensures.value)
 
 pub returns-in_ok-push-in-None-clause-saved : goal.returns-in_ok-push-in-None-clause-saved
 returns-in_ok-push-in-None-clause-saved c =
