@@ -1,5 +1,5 @@
 // The real files and the real standard output. They tell nothing of what they hold, and count what failed.
-ghost use Rattle.std.specs.Prelude.{None};
+ghost use Rattle.std.specs.Prelude.{◌≡◌, None};
 
 use crate::{Files, LoadFault, SaveFault, Sink, SinkFailed};
 use std::alloc::Global;
@@ -89,7 +89,9 @@ pub struct StdSink<W> {
 }
 
 impl<W: Write> StdSink<W> {
-    pub fn new(out: W) -> StdSink<W> {
+    pub fn new(out: W) -> StdSink<W>
+        ensures { ⟦<StdSink<W> as Sink>⟧.told result ≡ W.contents out }
+    {
         StdSink { out, faults: 0 }
     }
 }
