@@ -5,7 +5,8 @@ ghost use Rattle.std.specs.Io.KnownBytes.{WriteAppends};
 ghost use Rattle.lx_ports.specs.Causes.{Rose};
 
 use crate::{Sink, SinkFailed};
-use std::alloc::{AllocError, Global};
+use lx_types::NoMemory;
+use std::alloc::Global;
 
 /// A sink in memory. The puts that are to fail are given by their numbers, counted from 1 over the puts of pieces that
 /// are not empty.
@@ -30,7 +31,7 @@ impl MemSink {
         room: usize,
         most: usize,
         failing: Vec<u64>,
-    ) -> Result<MemSink, AllocError>
+    ) -> Result<MemSink, NoMemory>
         requires { 1 ≤ most }
         ensures { IfOk result (λ sink. IsNew sink room most failing.items) }
     {
