@@ -1,0 +1,63 @@
+// Files and a sink that never fail, for callers that are to have no fault to tell.
+ghost use Rattle.std.specs.Prelude.{◌≡◌, Some, None};
+ghost use Rattle.lx_ports.specs.Memory.{NoLoadIsToFail};
+ghost use Rattle.lx_ports.specs.Names.{held_in};
+
+use crate::{Files, LoadFault, MemFiles, SaveFault, Sink, SinkFailed};
+use std::alloc::Global;
+
+/// Files in memory of which no load fails.
+#[derive(Drop)]
+pub struct SureFiles {
+    files: MemFiles,
+    ghost sure: { NoLoadIsToFail files },
+}
+
+impl SureFiles {
+    ghost use Rattle.lx_ports.specs.Sure.{sure_held};
+
+    /// Files of these names. Of two entries of one name the first counts.
+    pub fn of(alloc: Global, files: Vec<(String, Vec<u8>)>) -> SureFiles
+        ensures { sure_held result ≡ held_in files.items }
+    {
+        SureFiles {
+            files: MemFiles::of(alloc, files, Vec::new(alloc), Vec::new(alloc)),
+        }
+    }
+}
+
+impl Files for SureFiles {
+    ghost use Rattle.lx_ports.specs.Sure.{sure_held};
+
+    ghost contents = { λ sure. Some (sure_held sure) };
+
+    ghost faults = { λ _. 0 };
+
+    ghost save_faults = { λ sure. sure.files.save_faults };
+
+    ghost misses = { λ sure. sure.files.misses };
+
+    ghost overs = { λ sure. sure.files.overs };
+
+    fn load(&mut self, alloc: Global, name: &str, max: u32) -> Result<Vec<u8>, LoadFault> {
+        self.files.load(alloc, name, max)
+    }
+
+    fn save(&mut self, name: &str, bytes: &[u8]) -> Result<(), SaveFault> {
+        self.files.save(name, bytes)
+    }
+}
+
+/// A sink that takes every piece whole and keeps nothing.
+#[derive(Clone, Copy, Debug)]
+pub struct SureSink;
+
+impl Sink for SureSink {
+    ghost told = { λ _. None };
+
+    ghost faults = { λ _. 0 };
+
+    fn put(&mut self, bytes: &[u8]) -> Result<usize, SinkFailed> {
+        Ok(bytes.len())
+    }
+}

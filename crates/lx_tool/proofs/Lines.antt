@@ -1,0 +1,28 @@
+-- The text of an object's bytes, line by line.
+use Rattle.std.proofs.Common.{◌≡◌, ℕ, zero, suc, ◌+◌, ◌-◌, ◌*◌, ◌<◌, ◌≤◌, min, List, [], ◌∷◌, ◌++◌, length, take, drop, refl, sym, ◌∙◌, ap, arith, add-zero, add-one, zero-add, length-drop}
+use Rattle.std.proofs.lemmas.List.{take_min, flat_map_more}
+use Rattle.std.specs.List.{flat_map, range_with_len}
+use Rattle.lx_tool.specs.ImageText.{line, line_of}
+
+range_more : (a n : ℕ) → range_with_len a (suc n) ≡ range_with_len a n ++ (a + n) ∷ []
+range_more a zero = ap (λ (k : ℕ). k ∷ []) (sym (add-zero a))
+range_more a (suc n) =
+    let same : (a + 1) + n ≡ a + suc n = omega arith in
+    ap (λ (l : List ℕ). a ∷ l) (range_more (a + 1) n ∙ ap (λ (k : ℕ). range_with_len (a + 1) n ++ k ∷ []) same)
+
+-- a piece that ends with the list at the latest
+pub piece : (bytes : List ℕ) (start end : ℕ) → end ≡ min (start + 16) (length bytes) → start ≤ length bytes → take (end - start) (drop start bytes) ≡ take 16 (drop start bytes)
+piece bytes start end ends within =
+    let cut : end - start ≡ min 16 (length (drop start bytes)) = omega (arith, length-drop start bytes) in
+    rw cut (take_min 16 (drop start bytes))
+
+-- one line more, of the lines f 0, f 1 and so on
+pub lines_more : (f : ℕ → List ℕ) (number : ℕ) (text : List ℕ) → text ≡ flat_map f (range_with_len 0 number) → text ++ f number ≡ flat_map f (range_with_len 0 (number + 1))
+lines_more f number text so_far =
+    ap (λ (l : List ℕ). l ++ f number) so_far
+    ∙ flat_map_more f [] (range_with_len 0 number) number
+    ∙ ap (λ (l : List ℕ). flat_map f l) (sym (rw add-one (range_more 0 number ∙ ap (λ (k : ℕ). range_with_len 0 number ++ k ∷ []) (zero-add number))))
+
+pub line_piece : (base number end : ℕ) (bytes : List ℕ) → end ≡ min (16 * number + 16) (length bytes) → 16 * number ≤ length bytes
+    → line (base + 16 * number) (take (end - 16 * number) (drop (16 * number) bytes)) ≡ line_of base bytes number
+line_piece base number end bytes ends within = ap (λ (l : List ℕ). line (base + 16 * number) l) (piece bytes (16 * number) end ends within)

@@ -1,0 +1,13 @@
+use Rattle.std.proofs.Common.{◌≤◌, ◌*◌, length, ◌++◌, List, ℕ, ◌∙◌, ap, rules}
+use Rattle.lx_tool.specs.ImageText.{line_of}
+use Rattle.lx_tool.proofs.Lines.{lines_more, line_piece}
+use Rattle.lx_tool.proofs.text.image_text.Goals as goal
+
+pub loop-number-preserved : goal.loop-number-preserved
+loop-number-preserved c =
+    let number = c.loop-number.number in
+    let bytes = c.args.bytes.now in
+    let within : 16 * number ≤ length bytes = search rules in
+    c.in_ok-push_line.ensures
+    ∙ ap (λ (l : List ℕ). c.loop-number.text.items ++ l) (line_piece c.args.base number c.min-end.result bytes c.min-end.ensures within)
+    ∙ lines_more (line_of c.args.base bytes) number c.loop-number.text.items c.loop-number.invariant

@@ -1,0 +1,6 @@
+pub mod FileLine
+pub mod FaultLines
+pub mod ImageText
+pub mod Written
+pub mod Words
+pub mod Asked
