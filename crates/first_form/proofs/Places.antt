@@ -87,10 +87,6 @@ file-length m =
     let e = length-ten (header m) (object_table m) (page_table m) (name_table m.name) (0 ∷ []) (fixup_page_table m) (records m.sources) (0 ∷ []) m.page (name_table m.name) in
     omega (arith, e, page_table-length m, name_table-length m.name, fixup_page_table-length m)
 
-<<<<<<< HEAD
-pub file_stands : (m : OneObject) → Stands (file m) m
-file_stands m = record { names = names-span m; records = records-span m; page = page-span m; len = file-length m }
-=======
 pub file_stands : (m : OneObject) → IsOneObject m → Stands (file m) m
 file_stands m is = record {
   names = names-span m;
@@ -99,7 +95,6 @@ file_stands m is = record {
   len = file-length m;
   short = omega (arith, file-length m, pages-few m, records_fit m is, is.name, is.page, is.size);
 }
->>>>>>> origin/readmodule
 
 -- ---- The header's doublewords.
 

@@ -28,7 +28,4 @@ pub record Stands (bytes : List ℕ) (m : OneObject) : Type 0 where
   pub records : span bytes (records_at m) (imports_at m) ≡ records m.sources
   pub page : span bytes (data_at m) (others_at m) ≡ m.page
   pub len : length bytes ≡ others_at m + length m.name + 4
-<<<<<<< HEAD
-=======
   pub short : length bytes < 2 ^ 32
->>>>>>> origin/readmodule

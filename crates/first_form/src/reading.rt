@@ -141,13 +141,7 @@ pub fn read_file(alloc: Global, bytes: &[u8]) -> Result<Option<OneObject>, NoMem
     }
 }
 
-<<<<<<< HEAD
-/// A law: where the fixup records and the page's data of a module stand in its file.
-pub fn sections_stand()
-    ensures { (m : OneObject) → Stands (file m) m }
-=======
 /// A law: where the sections of a module's file stand, and that each place has 32 bits.
 pub fn sections_stand()
     ensures { (m : OneObject) → IsOneObject m → Stands (file m) m }
->>>>>>> origin/readmodule
 {}

@@ -11,11 +11,7 @@ leads-to : (bytes : List ℕ) (m : OneObject) → IsFileOf bytes m → LeadsTo b
 leads-to bytes m is = let P : List ℕ → Type 0 = λ v. LeadsTo v m in rw is.spelled (file_leads m is.object)
 
 stands-in : (bytes : List ℕ) (m : OneObject) → IsFileOf bytes m → Stands bytes m
-<<<<<<< HEAD
-stands-in bytes m is = rw is.spelled (file_stands m)
-=======
 stands-in bytes m is = rw is.spelled (file_stands m is.object)
->>>>>>> origin/readmodule
 
 same : (m : OneObject) (name : List ℕ) (base size : ℕ) (page : List ℕ) (sources : List Source) → name ≡ m.name → base ≡ m.base → size ≡ m.size
     → page ≡ m.page → sources ≡ m.sources → let o : OneObject = record { name = name; base = base; size = size; page = page; sources = sources } in o ≡ m
