@@ -2,10 +2,11 @@
 -- in the group FLAT, its data in one LEDATA record and its fixups in one FIXUPP record.
 -- Relocatable Object Module Format, "80H THEADR", "96H LNAMES", "99H SEGDEF", "9AH GRPDEF",
 -- "A1H LEDATA", "9DH FIXUPP", "8AH MODEND". Each checksum byte is 0.
-use Rattle.std.specs.Prelude.{◌<◌, ◌≡◌, ℕ, ◌+◌, ◌/◌, ◌%◌, List, [], ◌∷◌, ◌++◌, length, Option, Some, None}
+use Rattle.std.specs.Prelude.{codes, true, false, ◌<◌, ◌≡◌, ℕ, ◌+◌, ◌/◌, ◌%◌, List, [], ◌∷◌, ◌++◌, length, Option, Some, None}
 use Rattle.std.specs.List.{flat_map}
 use Rattle.std.specs.Int.{w16, w32, to_le_bytes}
 use Rattle.lx_types.specs.Names.{IsName}
+use Rattle.obj_types.specs.declared.object.Seg.{Seg}
 use Rattle.obj_types.specs.declared.object.ObjModule.{ObjModule}
 pub use Rattle.link_model.specs.OneSegment.{fix_of, pieces_of}
 use Rattle.link_model.specs.OneSegment.{one_segment}
@@ -90,6 +91,9 @@ abbrev pub Spells : List ℕ → Form → Type 0
 Spells bytes form = IsForm form × ((rest : List ℕ) × (bytes ≡ spelling form ++ rest))
 
 -- ---- The module that a file of this form means.
+
+abbrev pub seg_of : List ℕ → Seg
+seg_of bytes = record { name = codes "CODE32"; class = codes "CODE"; align = 5; combine = 2; wide = true; len = length bytes; debug = false }
 
 -- The smallest module: CODE32 in FLAT, its data and its fixups.
 abbrev pub object_of : Form → ObjModule

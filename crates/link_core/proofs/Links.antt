@@ -1,5 +1,5 @@
 -- A link of the first form in the words of the definitions of a link.
-use Rattle.std.proofs.Common.{◌≡◌, ℕ, ◌+◌, ◌≤◌, ◌<◌, List, [], ◌∷◌, length, map, ap, sym, ◌∙◌, subst}
+use Rattle.std.proofs.Common.{◌≡◌, ℕ, ◌+◌, ◌≤◌, ◌<◌, List, [], ◌∷◌, length, map, ap, sym, ◌∙◌, subst, Some}
 use Rattle.std.specs.List.{AllByRecursion, range_with_len}
 use Rattle.lx_types.specs.Names.{uppercase}
 use Rattle.obj_types.specs.declared.symbol.Imp.{Imp}
@@ -44,6 +44,7 @@ links_alone form stem at m law whole linked =
     let links = law form.name form.bytes (places form.fixups) stem at (is_one_segment (segment form) whole.segment) in
     record {
       name = linked.name;
+      base = ap Some (sym linked.base);
       chosen = links.chosen;
       object = rw (linked.size, linked.base) (links.object);
       bytes = bytes_alone form stem at m links whole linked;

@@ -1,5 +1,5 @@
 -- When a module is what an input is linked to.
-use Rattle.std.specs.Prelude.{◌≡◌, ◌∷◌, []}
+use Rattle.std.specs.Prelude.{◌≡◌, ◌∷◌, [], Some}
 use Rattle.lx_types.specs.Names.{uppercase}
 use Rattle.obj_types.specs.declared.symbol.Imp.{Imp}
 use Rattle.obj_types.specs.declared.input.LinkInput.{LinkInput}
@@ -16,6 +16,7 @@ use Rattle.link_core.specs.Memory.{object_bytes}
 -- linked base are those of the module with its fixups applied.
 pub record LinksTo (input : LinkInput) (m : OneObject) : Type 0 where
   pub name : m.name ≡ uppercase input.stem
+  pub base : input.def.base ≡ Some m.base
   pub chosen : Chosen input only_pick
   pub object : objects (link_of input only_pick) ≡ (record { size = m.size; base = m.base; flags = 0x2005 }) ∷ []
   pub bytes : (imp : Imp → Far) → object_bytes (link_of input only_pick) imp 1 m.size ≡ image m

@@ -1,2 +1,5 @@
+mod Fixups
 mod Lines
+mod ModulePage
 mod Putting
+mod Shown

@@ -1,5 +1,5 @@
 -- The text of an object's bytes, line by line.
-use Rattle.std.proofs.Common.{◌≡◌, ℕ, zero, suc, ◌+◌, ◌-◌, ◌*◌, ◌<◌, ◌≤◌, min, List, [], ◌∷◌, ◌++◌, length, take, drop, refl, sym, ◌∙◌, ap, arith, add-zero, add-one, zero-add, length-drop}
+use Rattle.std.proofs.Common.{◌≡◌, ℕ, zero, suc, ◌+◌, ◌-◌, ◌*◌, ◌≤◌, min, List, [], ◌∷◌, ◌++◌, length, take, drop, sym, ◌∙◌, ap, arith, add-zero, add-one, zero-add, length-drop}
 use Rattle.std.proofs.lemmas.List.{take_min, flat_map_more}
 use Rattle.std.specs.List.{flat_map, range_with_len}
 use Rattle.lx_tool.specs.ImageText.{line, line_of}

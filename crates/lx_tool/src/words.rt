@@ -1,5 +1,5 @@
 // The words of the command line.
-ghost use Rattle.std.specs.Prelude.{◌≡◌, map, option_map, string_bytes};
+ghost use Rattle.std.specs.Prelude.{◌≡◌, ◌≤◌, IfSome, map, option_map, string_bytes};
 ghost use Rattle.lx_tool.specs.Words.{command_of, base_of};
 
 use hex::FromHex;
@@ -16,7 +16,8 @@ impl<'a> Command<'a> {
 
     /// The command that the words are, or None where they are none.
     pub fn of(words: &'a [String]) -> Option<Command<'a>>
-        ensures { option_map asked result ≡ command_of (map string_bytes words.now) }
+        ensures command { option_map asked result ≡ command_of (map string_bytes words.now) }
+        ensures in_arenas { IfSome result (λ command. (asked command).base ≤ 0x1FFF0000) }
     {
         match words {
             [word, object, base] if word.as_str() == "image" => Some(Command::Image {
@@ -30,7 +31,8 @@ impl<'a> Command<'a> {
 
 // The base that eight hexadecimal digits name.
 fn base_of(word: &str) -> Option<u32>
-    ensures { result ≡ base_of word.now }
+    ensures named { result ≡ base_of word.now }
+    ensures in_arenas { IfSome result (λ base. base ≤ 0x1FFF0000) }
 {
     let bytes = <[u8; 4] as FromHex>::from_hex(word).ok()?;
     let base = u32::from_be_bytes(bytes);

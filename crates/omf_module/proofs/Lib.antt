@@ -4,3 +4,4 @@ mod Whole
 mod Offsets
 mod Marks
 mod Apartness
+mod Forms

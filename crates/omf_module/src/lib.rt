@@ -5,4 +5,4 @@ mod fixups;
 mod object;
 mod records;
 
-//pub use object::read_object;
+pub use object::read_object;
