@@ -1,3 +1,4 @@
+mod Causes
 mod Fixups
 mod Lines
 mod ModulePage

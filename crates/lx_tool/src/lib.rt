@@ -10,4 +10,4 @@ mod text;
 mod tool;
 mod words;
 
-pub use tool::lx_build;
+pub use tool::{lx_build, lx_main};
