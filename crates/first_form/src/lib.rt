@@ -11,3 +11,6 @@ pub use module_file::{OneObject, Source, Sources};
 pub use reading::{read_file, sections_stand};
 pub use records::next_source;
 pub use writing::write_file;
+
+#[cfg(test)]
+mod tests;

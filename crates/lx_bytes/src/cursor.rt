@@ -43,6 +43,15 @@ impl<'a> Cur<'a> {
         Cur { left: bytes, at: 0 }
     }
 
+    /// A cursor at the first of some bytes of a file, where `at` bytes stand before them.
+    pub fn of_part(bytes: &'a [u8], at: usize) -> Cur<'a>
+        requires { at + length bytes.now < 2 ^ 64 }
+        ensures place { result.at ≡ at }
+        ensures bytes { result.left ≡ bytes.now }
+    {
+        Cur { left: bytes, at }
+    }
+
     /// A second cursor at the same place, to read ahead with.
     pub fn fork(&self) -> Cur<'a>
         ensures { result ≡ self.now }

@@ -14,5 +14,6 @@ fn fields_one_after_another(rt: HostRuntime) -> Result<(), Short> {
     assert_eq!(rt; cur.u32()?, 0x7FFE_FF1B);
     assert_eq!(rt; cur.u8(), Err(Short { at: 9 }));
     assert_eq!(rt; cur.take(0)?, [].as_slice());
+    assert_eq!(rt; Cur::of_part(&BYTES[1..2], 1).u16(), Err(Short { at: 1 }));
     Ok(())
 }

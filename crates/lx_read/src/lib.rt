@@ -6,3 +6,6 @@ mod reading;
 
 pub use parts::first_module;
 pub use reading::{Unread, read_module};
+
+#[cfg(test)]
+mod tests;

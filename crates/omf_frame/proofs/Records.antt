@@ -1,5 +1,5 @@
 -- A whole record's bytes are told from its length word, and bytes begin with one whole record at most.
-use Rattle.std.proofs.Common.{◌≡◌, ℕ, zero, suc, ◌+◌, ◌^◌, ◌<◌, ◌≤◌, List, [], ◌∷◌, ◌++◌, length, take, drop, get_or, inl, inr, refl, sym, ap, ◌∙◌, arith, length-append}
+use Rattle.std.proofs.Common.{◌≡◌, ℕ, zero, suc, ◌+◌, ◌-◌, ◌^◌, ◌<◌, ◌≤◌, List, [], ◌∷◌, ◌++◌, length, take, drop, get_or, inl, inr, refl, sym, ap, ◌∙◌, arith, length-append}
 use Rattle.std.proofs.Math.Seq.{take-append_seam, drop-append_seam, take-suc, take-length}
 use Rattle.lx_bytes.specs.LittleEndian.{AreBytes, little, little_bytes}
 use Rattle.lx_bytes.proofs.Numbers.{little-little_bytes, little_bytes-little}
@@ -37,13 +37,13 @@ delimited_one xs ys r s dx dy same =
     append_one xs ys r s (omega (arith, dx, dy, words, x, y)) same
 
 -- two whole records of the same bytes are one
-pub record_bytes_one : (ty uy : ℕ) (body cody : List ℕ) (c d : ℕ) → record_bytes ty body c ≡ record_bytes uy cody d → (ty ≡ uy) × (body ≡ cody) × (c ≡ d)
-record_bytes_one ty uy body cody c d same =
+pub record_bytes_one : (ty ty' : ℕ) (body body' : List ℕ) (c c' : ℕ) → record_bytes ty body c ≡ record_bytes ty' body' c' → (ty ≡ ty') × (body ≡ body') × (c ≡ c')
+record_bytes_one ty ty' body body' c c' same =
     let tys = ap (λ (l : List ℕ). get_or l 0 0) same in
-    let tails : body ++ c ∷ [] ≡ cody ++ d ∷ [] = ap (drop 3) same in
+    let tails : body ++ c ∷ [] ≡ body' ++ c' ∷ [] = ap (drop 3) same in
     let lengths = ap length tails in
-    let long : length body ≡ length cody = omega (arith, lengths, length-append body (c ∷ []), length-append cody (d ∷ [])) in
-    let both = append_one body cody (c ∷ []) (d ∷ []) long tails in
+    let long : length body ≡ length body' = omega (arith, lengths, length-append body (c ∷ []), length-append body' (c' ∷ [])) in
+    let both = append_one body body' (c ∷ []) (c' ∷ []) long tails in
     (tys, both.0, ap (λ (l : List ℕ). get_or l 0 0) both.1)
 
 pair_of_bytes : (l h : ℕ) → l < 256 → h < 256 → AreBytes (l ∷ h ∷ [])
@@ -51,12 +51,14 @@ pair_of_bytes l h low high zero = low
 pair_of_bytes l h low high (suc zero) = high
 pair_of_bytes l h low high (suc (suc i)) = omega arith
 
--- delimited bytes are those of a whole record, if there is a checksum byte
-pub record_bytes-from_delimited : (bytes : List ℕ) (k last : ℕ) → AreBytes bytes → IsDelimited bytes → length bytes ≡ k + 4 → last ≡ suc (suc (suc k)) → (bytes ≡ record_bytes (get_or bytes 0 0) (take k (drop 3 bytes)) (get_or bytes last 0)) × (length (take k (drop 3 bytes)) + 1 < 2 ^ 16)
-record_bytes-from_delimited [] k last fit delimited long end = absurd (omega (arith, long))
-record_bytes-from_delimited (t ∷ []) k last fit delimited long end = absurd (omega (arith, long))
-record_bytes-from_delimited (t ∷ l ∷ []) k last fit delimited long end = absurd (omega (arith, long))
-record_bytes-from_delimited (t ∷ l ∷ h ∷ xs) k last fit delimited long end =
+-- delimited bytes of which k are contents are those of a whole record
+record_bytes-from_contents :
+    (bytes : List ℕ) (k last : ℕ) → AreBytes bytes → IsDelimited bytes → length bytes ≡ k + 4 → last ≡ suc (suc (suc k))
+    → (bytes ≡ record_bytes (get_or bytes 0 0) (take k (drop 3 bytes)) (get_or bytes last 0)) × (length (take k (drop 3 bytes)) + 1 < 2 ^ 16)
+record_bytes-from_contents [] k last fit delimited long end = absurd (omega (arith, long))
+record_bytes-from_contents (t ∷ []) k last fit delimited long end = absurd (omega (arith, long))
+record_bytes-from_contents (t ∷ l ∷ []) k last fit delimited long end = absurd (omega (arith, long))
+record_bytes-from_contents (t ∷ l ∷ h ∷ xs) k last fit delimited long end =
     let low : l < 256 = fit 1 in
     let high : h < 256 = fit 2 in
     let count : length xs ≡ suc k = omega (arith, long) in
@@ -70,15 +72,29 @@ record_bytes-from_delimited (t ∷ l ∷ h ∷ xs) k last fit delimited long end
     ap (λ (ys : List ℕ). t ∷ l ∷ h ∷ ys) (sym parts) ∙ ap (λ (ws : List ℕ). t ∷ ws ++ take k xs ++ get_or xs k 0 ∷ []) (sym spelled) in
     (rw end joined, omega (arith, word, low, high))
 
+-- delimited bytes are those of a whole record, if there is a checksum byte
+pub record_bytes-from_delimited :
+    (bytes : List ℕ) → AreBytes bytes → IsDelimited bytes → 4 ≤ length bytes
+    → (bytes ≡ record_bytes (get_or bytes 0 0) (take (length bytes - 1 - 3) (drop 3 bytes)) (get_or bytes (length bytes - 1) 0))
+    × (length (take (length bytes - 1 - 3) (drop 3 bytes)) + 1 < 2 ^ 16)
+record_bytes-from_delimited bytes fit delimited long =
+    record_bytes-from_contents bytes (length bytes - 1 - 3) (length bytes - 1) fit delimited (omega (arith, long)) (omega (arith, long))
+
 -- bytes begin with one whole record at most
-pub whole_one : {bytes cytes : List ℕ} {ty uy : ℕ} {body cody : List ℕ} {c d : ℕ} {rest sest : List ℕ} → bytes ≡ cytes → BeginsWhole bytes ty body c rest → BeginsWhole cytes uy cody d sest → (ty ≡ uy) × (body ≡ cody) × (c ≡ d) × (rest ≡ sest)
-whole_one {ty = ty} {uy = uy} {body = body} {cody = cody} {c = c} {d = d} {rest = rest} {sest = sest} same a b =
-    let ends = delimited_one (record_bytes ty body c) (record_bytes uy cody d) rest sest (IsDelimited-record_bytes ty body c a.counted) (IsDelimited-record_bytes uy cody d b.counted) (sym a.joined ∙ same ∙ b.joined) in
-    let parts = record_bytes_one ty uy body cody c d ends.0 in
+pub whole_one :
+    {bytes bytes' : List ℕ} {ty ty' : ℕ} {body body' : List ℕ} {c c' : ℕ} {rest rest' : List ℕ}
+    → bytes ≡ bytes' → BeginsWhole bytes ty body c rest → BeginsWhole bytes' ty' body' c' rest' → (ty ≡ ty') × (body ≡ body') × (c ≡ c') × (rest ≡ rest')
+whole_one {ty = ty} {ty' = ty'} {body = body} {body' = body'} {c = c} {c' = c'} {rest = rest} {rest' = rest'} same a b =
+    let here = IsDelimited-record_bytes ty body c a.counted in
+    let there = IsDelimited-record_bytes ty' body' c' b.counted in
+    let ends = delimited_one (record_bytes ty body c) (record_bytes ty' body' c') rest rest' here there (sym a.joined ∙ same ∙ b.joined) in
+    let parts = record_bytes_one ty ty' body body' c c' ends.0 in
     (parts.0, parts.1, parts.2, ends.1)
 
 -- a checksum byte and a sum that are both not 0 are not right
-pub not_checksum : {ty uy : ℕ} {body cody : List ℕ} {c d total : ℕ} → ty ≡ uy → body ≡ cody → c ≡ d → total ≡ record_sum ty body c → ¬ c ≡ 0 → ¬ total ≡ 0 → IsChecksum uy cody d → ⊥
+pub not_checksum :
+    {ty ty' : ℕ} {body body' : List ℕ} {c c' total : ℕ}
+    → ty ≡ ty' → body ≡ body' → c ≡ c' → total ≡ record_sum ty body c → ¬ c ≡ 0 → ¬ total ≡ 0 → IsChecksum ty' body' c' → ⊥
 not_checksum types bodies checksums sums checksum_not sum_not (inl zero_byte) = checksum_not (checksums ∙ zero_byte)
 not_checksum types bodies checksums sums checksum_not sum_not (inr zero_sum) =
     sum_not (sums ∙ rw (types, bodies, checksums) zero_sum)

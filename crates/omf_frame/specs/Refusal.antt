@@ -1,8 +1,8 @@
 -- Why no record is read.
 use Rattle.std.specs.Prelude.{◌≡◌, ℕ, List}
 use Rattle.lx_bytes.specs.Cursor.{Cursor}
-use Rattle.omf_frame.specs.declared.frame.FrameRefusal.{FrameRefusal}
-use Rattle.omf_frame.specs.declared.frame.FrameRefusal.TheVariants.{Short, UnknownType, BadChecksum}
+use Rattle.omf_frame.specs.declared.refusal.FrameRefusal.{FrameRefusal}
+use Rattle.omf_frame.specs.declared.refusal.FrameRefusal.TheVariants.{Short, UnknownType, BadChecksum}
 use Rattle.omf_frame.specs.Frame.{BeginsWhole, IsChecksum, record_sum}
 use Rattle.omf_frame.specs.RecordType.{IsRecordType}
 

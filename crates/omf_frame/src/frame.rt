@@ -6,31 +6,10 @@ ghost use Rattle.omf_frame.specs.Delimited.{IsDelimited};
 ghost use Rattle.omf_frame.specs.Frame.{BeginsRecord, BeginsWhole, record_sum};
 ghost use Rattle.omf_frame.specs.Refusal.{IsCutOff, Refuses};
 
+use crate::omf_record::Rec;
 use crate::record_type;
+use crate::refusal::FrameRefusal;
 use lx_bytes::{Cur, Short};
-use thiserror::Error;
-
-/// A record. Its contents are `body`, without the checksum byte, and begin at `at + 3`.
-#[derive(Clone, Copy, Debug)]
-pub struct Rec<'a> {
-    /// The place of its first byte.
-    pub at: usize,
-    pub ty: u8,
-    pub body: &'a [u8],
-}
-
-/// Why no record is read; `at` is the place of the first byte of what stands there.
-#[derive(Clone, Copy, Debug, PartialEq, Eq, Error)]
-pub enum FrameRefusal {
-    /// The length is 0, or the record passes the end.
-    #[error("the record at {at} is cut off")]
-    Short { at: usize },
-    /// The checksum byte is not 0, and the bytes of the record have this sum, which is not 0.
-    #[error("the bytes of the record at {at} have the sum {sum}")]
-    BadChecksum { at: usize, sum: u8 },
-    #[error("the record at {at} has the unknown type {ty}")]
-    UnknownType { at: usize, ty: u8 },
-}
 
 // The sum of the bytes, as one byte.
 fn sum_of(bytes: &[u8]) -> u8
@@ -49,7 +28,8 @@ fn delimited<'a>(cur: &mut Cur<'a>) -> Result<&'a [u8], Short>
     ensures delimited { IfOk result (λ bytes. IsDelimited bytes.now) }
     ensures taken { IfOk result (λ bytes. cur.old.left ≡ bytes.now ++ cur.new.left) }
     ensures behind { IfOk result (λ bytes. cur.new.at ≡ cur.old.at + length bytes.now) }
-    ensures short { OnErr result ((bytes rest : List ℕ) → IsDelimited bytes → cur.old.left ≡ bytes ++ rest → ⊥) }
+    ensures short { OnErr result (
+        (bytes rest : List ℕ) → IsDelimited bytes → cur.old.left ≡ bytes ++ rest → ⊥) }
 {
     let mut header = cur.fork();
     header.u8()?;
@@ -92,10 +72,12 @@ fn whole_record<'a>(cur: &mut Cur<'a>) -> Option<Whole<'a>>
 /// is refused before its type is looked at, and its type before its checksum.
 pub fn next_record<'a>(cur: &mut Cur<'a>) -> Result<Rec<'a>, FrameRefusal>
     // A record's spelling stood at the cursor.
-    ensures read { IfOk result (λ r. (r.at ≡ cur.old.at) × BeginsRecord cur.old.left r.ty r.body.now cur.new.left) }
+    ensures read { IfOk result (λ r. (r.at ≡ cur.old.at)
+        × BeginsRecord cur.old.left r.ty r.body.now cur.new.left) }
     ensures behind { IfOk result (λ r. cur.new.at ≡ cur.old.at + 4 + length r.body.now) }
     // What is spelled there is read.
-    ensures only { (ty : ℕ) (body rest : List ℕ) → BeginsRecord cur.old.left ty body rest → IsOkAnd result (λ r. (r.ty ≡ ty) × (r.body.now ≡ body) × (cur.new.left ≡ rest)) }
+    ensures only { (ty : ℕ) (body rest : List ℕ) → BeginsRecord cur.old.left ty body rest
+        → IsOkAnd result (λ r. (r.ty ≡ ty) × (r.body.now ≡ body) × (cur.new.left ≡ rest)) }
     ensures refused { IfErr result (λ refusal. Refuses cur.old refusal) }
     ensures stays { OnErr result (cur.new ≡ cur.old) }
 {

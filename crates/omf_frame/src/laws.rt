@@ -5,5 +5,8 @@ ghost use Rattle.omf_frame.specs.Frame.{BeginsWhole};
 
 /// Bytes begin with one record at most: no record's bytes are the front of another's.
 pub fn one_record()
-    ensures { (bytes : List ℕ) (t u : ℕ) (b c : List ℕ) (x y : ℕ) (r s : List ℕ) → BeginsWhole bytes t b x r → BeginsWhole bytes u c y s → (t ≡ u) × (b ≡ c) × (x ≡ y) × (r ≡ s) }
+    ensures { (bytes : List ℕ) (ty other_ty : ℕ) (body other_body : List ℕ) (checksum other : ℕ) (rest other_rest : List ℕ)
+        → BeginsWhole bytes ty body checksum rest
+        → BeginsWhole bytes other_ty other_body other other_rest
+        → (ty ≡ other_ty) × (body ≡ other_body) × (checksum ≡ other) × (rest ≡ other_rest) }
 {}

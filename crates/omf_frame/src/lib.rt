@@ -3,10 +3,14 @@
 
 mod frame;
 mod laws;
+mod omf_record;
 pub mod record_type;
+mod refusal;
 
-pub use frame::{FrameRefusal, Rec, next_record};
+pub use frame::next_record;
 pub use laws::one_record;
+pub use omf_record::Rec;
+pub use refusal::FrameRefusal;
 
 #[cfg(test)]
 mod tests;

@@ -6,3 +6,6 @@ mod object;
 mod records;
 
 pub use object::read_object;
+
+#[cfg(test)]
+mod tests;

@@ -1,16 +1,16 @@
-use Rattle.std.proofs.Common.{◌-◌, ◌%◌, ◌++◌, length, sum, ap, ◌∙◌, arith}
+use Rattle.std.proofs.Common.{◌%◌, ◌++◌, sum, ap, ◌∙◌}
 use Rattle.omf_frame.specs.Frame.{record_bytes}
 use Rattle.omf_frame.proofs.Records.{IsDelimited-record_bytes, record_bytes-from_delimited}
 use Rattle.omf_frame.proofs.frame.whole_record.Goals as goal
 
 pub returns-in_default-clause-cut_off : goal.returns-in_default-clause-cut_off
 returns-in_default-clause-cut_off c = λ ty checksum body rest whole.
-    c.in_default.ensures.short (record_bytes ty body checksum) rest (IsDelimited-record_bytes ty body checksum whole.counted) whole.joined
+    let delimited = IsDelimited-record_bytes ty body checksum whole.counted in
+    c.in_default.ensures.short (record_bytes ty body checksum) rest delimited whole.joined
 
 pub returns-clause-whole : goal.returns-clause-whole
 returns-clause-whole c =
-    let bytes = c.in-Ok.bytes.now in
-    let parts = record_bytes-from_delimited bytes (length bytes - 1 - 3) (length bytes - 1) c.in-Ok.ensures.bytes c.in-Ok.ensures.delimited (omega (arith, c.in-len4-up.len_at_least)) (omega (arith, c.in-len4-up.len_at_least)) in
+    let parts = record_bytes-from_delimited c.in-Ok.bytes.now c.in-Ok.ensures.bytes c.in-Ok.ensures.delimited c.in-len4-up.len_at_least in
     record {
       joined = c.in-Ok.ensures.taken ∙ ap (λ front. front ++ c.delimited.new.cur.left) parts.0;
       counted = parts.1;
@@ -18,6 +18,5 @@ returns-clause-whole c =
 
 pub returns-clause-sum : goal.returns-clause-sum
 returns-clause-sum c =
-    let bytes = c.in-Ok.bytes.now in
-    let parts = record_bytes-from_delimited bytes (length bytes - 1 - 3) (length bytes - 1) c.in-Ok.ensures.bytes c.in-Ok.ensures.delimited (omega (arith, c.in-len4-up.len_at_least)) (omega (arith, c.in-len4-up.len_at_least)) in
+    let parts = record_bytes-from_delimited c.in-Ok.bytes.now c.in-Ok.ensures.bytes c.in-Ok.ensures.delimited c.in-len4-up.len_at_least in
     c.sum_of.ensures ∙ ap (λ bytes. sum bytes % 256) parts.0

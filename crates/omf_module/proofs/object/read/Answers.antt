@@ -20,7 +20,7 @@ returns-then-not-branch c =
     let contents = contents_now c.in-Some.records.fixups _ c.unwrap_or.result c.unwrap_or.ensures refl in
     let some = rw c.in-Some-2.is at c.in_ok-places.ensures in
     none_apart c.args.bytes.now (told_of c.in-Some.records) c.in-Some-2.places.items c.in-Some.ensures (sym contents ∙ some.0) some.1
-        (λ apart. let yes = c.in_ok-lie_apart.ensures.1 (subst (LieApart (length c.in-Some.records.data.now)) (sym c.deref.ensures.value) apart) in absurd (cc (sym c.if-not-branch.true ∙ yes)))
+    (λ apart. let yes = c.in_ok-lie_apart.ensures.1 (subst (LieApart (length c.in-Some.records.data.now)) (sym c.deref.ensures.value) apart) in absurd (cc (sym c.if-not-branch.true ∙ yes)))
 
 pub object-requires-clause-name : goal.object-requires-clause-name
 object-requires-clause-name c = (told_takes c.args.bytes.now (told_of c.in-Some.records) (λ i. omega (arith, c.type_inv.bytes i)) c.in-Some.ensures).0.name
