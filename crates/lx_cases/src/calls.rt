@@ -1,0 +1,49 @@
+//! Calls that take memory, each once with enough of it.
+
+use crate::object_file::object_file;
+use lx_ports::{MemFiles, NoGate, SureSink};
+use lx_tool::lx_main;
+use lx_types::{Bytes, Fail as Refused, Name, NameLong};
+use obj_types::Goal;
+use omf_module::read_object;
+use std::test::Fail;
+
+#[test]
+fn names_and_lists(rt: HostRuntime) -> Result<(), Fail> {
+    let alloc = rt.alloc();
+    let name = Name::of(alloc, b"a$1.obj").ok().ok_or("a name")?;
+    assert_eq!(rt; name.bytes(), b"a$1.obj".as_slice());
+    let upper = name.to_uppercase(alloc).ok().ok_or("memory")?;
+    assert_eq!(rt; upper.bytes(), b"A$1.OBJ".as_slice());
+    assert!(rt; upper.same_module(&name));
+    assert!(rt; Name::of(alloc, &[0; 255]).is_ok());
+    assert!(rt; matches!(Name::of(alloc, &[0; 256]), Err(Refused::Said(NameLong))));
+    let mut list = Bytes::new(alloc);
+    assert!(rt; list.push(7).is_ok());
+    assert_eq!(rt; list.as_slice(), [7].as_slice());
+    Ok(())
+}
+
+#[test]
+fn an_object_file_is_read(rt: HostRuntime) -> Result<(), Fail> {
+    let alloc = rt.alloc();
+    let file = object_file(alloc, &[0; 8], &[4])?;
+    let object = read_object(alloc, &file).ok().ok_or("the first form")?;
+    assert_eq!(rt; object.name.bytes(), b"a".as_slice());
+    assert_eq!(rt; object.pieces.as_slice().len(), 1);
+    for fix in object.fixes.as_slice() {
+        assert_eq!(rt; fix.offset, 4);
+        assert_eq!(rt; fix.goal, Goal::Seg(1));
+    }
+    Ok(())
+}
+
+#[test]
+fn the_program_ends_with_the_status_of_its_call(rt: HostRuntime) -> Result<(), Fail> {
+    let alloc = rt.alloc();
+    let mut files = MemFiles::of(alloc, Vec::new(alloc), Vec::new(alloc), Vec::new(alloc));
+    let words = Vec::new(alloc);
+    let status = lx_main(&rt, alloc, &words, &mut files, &mut SureSink, &NoGate);
+    assert_eq!(rt; status, 2);
+    Ok(())
+}

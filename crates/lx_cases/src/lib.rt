@@ -1,0 +1,10 @@
+//! Tests that cross crates: the commands over files and a sink in memory, and the calls that take
+//! memory, each once with enough of it.
+#![tactic(auto)]
+
+#[cfg(test)]
+mod calls;
+#[cfg(test)]
+mod image;
+#[cfg(test)]
+mod object_file;
