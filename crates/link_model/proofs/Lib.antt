@@ -6,3 +6,7 @@ pub mod PlainBytes
 pub mod SmallestLink
 pub mod OneSegmentLaw
 pub mod TrialsOfRecords
+pub mod Searching
+pub mod Growing
+pub mod OneChoice
+pub mod LiveFixups

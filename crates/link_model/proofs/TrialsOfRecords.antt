@@ -12,9 +12,9 @@ use Rattle.obj_types.specs.declared.object.ObjModule.{ObjModule}
 use Rattle.obj_types.specs.declared.definition.ModKind.TheVariants.{Library}
 use Rattle.obj_types.specs.Fresh.{empty_module}
 use Rattle.link_model.specs.Link.{Link}
-use Rattle.link_model.specs.Records.{object_bytes, object_records, page_records, used_pairs, modules_in, procs_in}
+use Rattle.link_model.specs.Records.{object_bytes, object_records, page_records, used_pairs, link_pairs, modules_in, procs_in}
 use Rattle.link_model.specs.Defaults.{default_def}
-use Rattle.link_model.proofs.Samples.{linked, fix, constant, extern, import, code32, data32, code16, code_module}
+use Rattle.link_model.proofs.Samples.{linked, fix, constant, extern, export, import, code32, data32, code16, code_module}
 
 abbrev library : List ObjModule → Link
 library modules = linked (default_def Library None) modules
@@ -110,3 +110,16 @@ import_modules = refl
 
 import_procs : procs_in (used_pairs importing) ≡ codes "Proc" ∷ []
 import_procs = refl
+
+-- Forwarders use import pairs too, after the records.
+abbrev forwarding : Link
+forwarding =
+    library
+    (record (code_module (0 ∷ 0 ∷ 0 ∷ 0 ∷ []) (fix 1 0 9 false frames.OfTarget (goals.Ext 1) 0 ∷ [])) {
+      exts = extern (codes "a") ∷ [];
+      imports = import (codes "a") (codes "One") (keys.Ordinal 1) ∷ import (codes "b") (codes "Two") (keys.Ordinal 2) ∷ [];
+      exports = export (codes "B") (codes "b") None ∷ [];
+    } ∷ [])
+
+forwarder_modules : modules_in (link_pairs forwarding) ≡ codes "ONE" ∷ codes "TWO" ∷ []
+forwarder_modules = refl

@@ -19,3 +19,6 @@ pub mod Out
 pub mod Defaults
 pub mod OneSegment
 pub mod Records
+pub mod PlainChoosing
+pub mod ChosenOnce
+pub mod Fixing

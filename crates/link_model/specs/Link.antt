@@ -1,5 +1,5 @@
 -- A link, as the pages on symbols, layout and values see it.
-use Rattle.std.specs.Prelude.{ℕ, List, ◌++◌, Option, map}
+use Rattle.std.specs.Prelude.{◌≡◌, ℕ, List, ◌++◌, Option, map}
 use Rattle.std.specs.List.{flat_map, enumerate_from}
 use Rattle.obj_types.specs.declared.object.ObjModule.{ObjModule}
 use Rattle.obj_types.specs.declared.symbol.Ext.{Ext}
@@ -8,7 +8,7 @@ use Rattle.obj_types.specs.declared.definition.DefFile.{DefFile}
 use Rattle.obj_types.specs.declared.input.LinkInput.{LinkInput}
 use Rattle.link_model.specs.declared.symbols.Pick.{Pick}
 use Rattle.obj_types.specs.Items.{item}
-use Rattle.link_model.specs.Choosing.{modules_of}
+use Rattle.link_model.specs.Choosing.{modules_of, Chosen}
 
 -- The chosen modules in order, and the definition file.
 pub record Link : Type 0 where
@@ -17,6 +17,12 @@ pub record Link : Type 0 where
 
 abbrev pub link_of : LinkInput → List Pick → Link
 link_of input picks = record { modules = modules_of input picks; def = input.def }
+
+-- The link of an input is that of the modules that it chooses. There is one (`ChosenOnce`).
+pub record IsLinkOf (input : LinkInput) (l : Link) : Type 0 where
+  pub picks : List Pick
+  pub chosen : Chosen input picks
+  pub same : l ≡ link_of input picks
 
 -- Chosen modules are numbered from 1.
 abbrev pub chosen_module : Link → ℕ → Option ObjModule

@@ -1,6 +1,6 @@
 -- What is written for a link's fixups: bytes that no base changes are patched into the pages, and the others are
 -- left to the loader by records ("Fixup record table" in the LX document).
-use Rattle.std.specs.Prelude.{ℕ, ◌+◌, ◌-◌, ◌*◌, ◌/◌, Bool, not, ◌&&◌, ◌||◌, List, Option, Some, None, map, if◌then◌else◌, nat_lt, nat_le, ◌==◌, slice_get, slice_index, bytes_eq, filter, pos, ◌-ℤ◌}
+use Rattle.std.specs.Prelude.{ℕ, ◌+◌, ◌-◌, ◌*◌, ◌/◌, Bool, not, ◌&&◌, ◌||◌, List, ◌++◌, Option, Some, None, map, if◌then◌else◌, nat_lt, nat_le, ◌==◌, slice_get, slice_index, bytes_eq, filter, pos, ◌-ℤ◌}
 use Rattle.std.specs.List.{filter_map, position, range_with_len, enumerate_from}
 use Rattle.std.specs.Option.{option_map, option_and_then, option_map_or}
 use Rattle.lx_types.specs.Names.{uppercase}
@@ -20,6 +20,7 @@ use Rattle.link_model.specs.Layout.{objects}
 use Rattle.link_model.specs.Goals.{Target, Internal, Constant, Entry, object_of_group}
 use Rattle.link_model.specs.Fixups.{Fixup, is_constant, stays_in_object}
 use Rattle.link_model.specs.Value.{World, value_bytes}
+use Rattle.link_model.specs.Out.{Exit, At, Forward, Out}
 use Rattle.link_model.specs.Mean.{fixup_end, live_fixups, live_at, data_at}
 
 -- ---- which
@@ -71,6 +72,14 @@ modules_in pairs = firsts bytes_eq (map (λ pair. uppercase pair.module) pairs)
 
 abbrev pub procs_in : List Imp → List (List ℕ)
 procs_in pairs = firsts bytes_eq (filter_map (λ pair. proc_name pair.entry) pairs)
+
+-- A link has the pairs of its forwarders too, after them and in order of exports.
+abbrev pub forwarded : Exit → Option Imp
+forwarded (At o offset) = None
+forwarded (Forward pair) = Some pair
+
+abbrev pub link_pairs : Link → List Imp
+link_pairs l = used_pairs l ++ filter_map (λ x. forwarded x.exit) (Out l)
 
 -- ---- records
 

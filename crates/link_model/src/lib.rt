@@ -5,11 +5,20 @@
 //! functions here are plain and slow programs that compute the definitions on small inputs.
 #![tactic(auto)]
 
+mod choosing;
 mod laws;
 mod refusals;
 mod symbols;
+#[cfg(test)]
+mod tests;
+mod values;
 
-pub use laws::one_segment_links_plainly;
+pub use choosing::choose;
+pub use laws::{
+    live_fixups_are_apart, modules_are_chosen_once, one_segment_links_plainly,
+    patches_stand_at_all_bases,
+};
 pub use obj_types::{Bytes, EntryKey, Fail, Name, NoMemory, Seq};
 pub use refusals::{FixRefusal, LayRefusal, SymRefusal};
 pub use symbols::{LaidObject, Pick, SymDef};
+pub use values::{alignment_len, data_byte, distance, object_flags, selector_of, tiled_selector};

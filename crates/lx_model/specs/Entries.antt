@@ -1,6 +1,6 @@
 -- Entry points: where a key of a module leads, through forwarders.
 -- LX: "Entry Table" (forwarder entries).
-use Rattle.std.specs.Prelude.{ℕ, zero, suc, List, length, sum_by, Option, Some, None, option_map, option_and_then, Result, Ok, Err}
+use Rattle.std.specs.Prelude.{◌≡◌, ◌<◌, ℕ, zero, suc, List, length, sum_by, Option, Some, None, option_map, option_and_then, Result, Ok, Err}
 use Rattle.lx_types.specs.declared.parts.Parts.{Parts}
 use Rattle.lx_types.specs.declared.entry.EntryHead.{EntryHead}
 use Rattle.lx_types.specs.declared.entry.EntryHead.TheVariants.{At, Gate286, Forward}
@@ -23,7 +23,7 @@ abbrev pub place_named : List Parts → ℕ → List ℕ → Option Place
 place_named lib m name = option_map (λ ordinal. (m, ordinal)) (ordinal_named (module_of lib m).names name)
 
 -- Where module m means a key of another module. A name stands in the import procedures of m.
-abbrev key_place : List Parts → ℕ → FwdKey → ℕ → Option Place
+abbrev pub key_place : List Parts → ℕ → FwdKey → ℕ → Option Place
 key_place lib m (Ordinal ordinal) other = Some (other, ordinal)
 key_place lib m (NameAt at) other = option_and_then (place_named lib other) (proc_name_of (module_of lib m) at)
 
@@ -39,11 +39,11 @@ pub data Stands : Type 0 where
   fails : EntryFault → Stands
   forwards : Place → Stands
 
-abbrev place_or_none : Option Place → Stands
+abbrev pub place_or_none : Option Place → Stands
 place_or_none (Some place) = forwards place
 place_or_none None = fails faults.NoEntry
 
-abbrev head_at : List Parts → ℕ → Option EntryHead → Stands
+abbrev pub head_at : List Parts → ℕ → Option EntryHead → Stands
 head_at lib m None = fails faults.NoEntry
 head_at lib m (Some (At object offset)) = spot (record { «module» = m; object = object; offset = offset })
 head_at lib m (Some (Gate286 object offset)) = fails faults.Gate286
@@ -63,6 +63,19 @@ followed (suc n) lib place = elim (stands_at lib place) [
   | forwards next ↦ followed n lib next
 ]
 
+-- the place to which n forwarders lead, where there are as many
+unfoldable pub forwarded : ℕ → List Parts → Place → Option Place
+forwarded zero lib place = Some place
+forwarded (suc n) lib place = elim (stands_at lib place) [
+  | spot s ↦ None
+  | fails e ↦ None
+  | forwards next ↦ forwarded n lib next
+]
+
+-- forwarders lead to a place a second time
+abbrev pub ComesBack : List Parts → Place → Type 0
+ComesBack lib place = (i : ℕ) × (j : ℕ) × (i < j) × ((p : Place) × (forwarded i lib place ≡ Some p) × (forwarded j lib place ≡ Some p))
+
 -- how many entries a library has: a walk over more places than that comes to one of them a second time
 abbrev pub entry_count : List Parts → ℕ
 entry_count lib = sum_by (λ m. length m.entries) lib
@@ -71,7 +84,7 @@ entry_count lib = sum_by (λ m. length m.entries) lib
 unfoldable pub Entry : List Parts → Place → Result Spot EntryFault
 Entry lib place = followed (suc (entry_count lib)) lib place
 
-abbrev entry_or_none : List Parts → Option Place → Result Spot EntryFault
+abbrev pub entry_or_none : List Parts → Option Place → Result Spot EntryFault
 entry_or_none lib (Some place) = Entry lib place
 entry_or_none lib None = Err faults.NoEntry
 

@@ -12,8 +12,8 @@ use Rattle.lx_model.specs.Reading.{fault, cursor, number, Read, ◌>>=◌, place
 use Rattle.lx_model.specs.Header.{table, object_count, import_count}
 
 -- an ordinal and what it stands for
-abbrev pub Entry : Type 0
-Entry = ℕ × EntryHead
+abbrev pub Numbered : Type 0
+Numbered = ℕ × EntryHead
 
 -- the greatest ordinal
 abbrev pub LAST_ORDINAL : ℕ
@@ -54,7 +54,7 @@ forward_entry imports c = do
     Ok (Forward import.0 (forward_key flags.0 key.0), key.1)
 
 -- n entries, with the ordinals from `ordinal` on
-unfoldable pub bundle_entries : ℕ → ℕ → (Cursor → Read EntryHead) → Cursor → Read (List Entry)
+unfoldable pub bundle_entries : ℕ → ℕ → (Cursor → Read EntryHead) → Cursor → Read (List Numbered)
 bundle_entries zero ordinal read c = Ok ([], c)
 bundle_entries (suc n) ordinal read c = do
   head ← read c
@@ -62,7 +62,7 @@ bundle_entries (suc n) ordinal read c = do
   Ok ((ordinal, head.0) ∷ others.0, others.1)
 
 -- an object's number, which the entries of a bundle share
-unfoldable pub object_entries : ℕ → ℕ → ℕ → ℕ → (ℕ → Cursor → Read EntryHead) → Cursor → Read (List Entry)
+unfoldable pub object_entries : ℕ → ℕ → ℕ → ℕ → (ℕ → Cursor → Read EntryHead) → Cursor → Read (List Numbered)
 object_entries objects bundle n ordinal read c = do
   object ← number 2 c
   if not (names_one_of objects object.0) then Err (fault kinds.EntryTable bundle) else bundle_entries n ordinal (read object.0) object.1
@@ -71,7 +71,7 @@ object_entries objects bundle n ordinal read c = do
 
 -- What stands behind the count and the type of a bundle. Type 0 has nothing: its ordinals are unused.
 -- Then there are 16-bit entries, gates of the 80286, 32-bit entries, and forwarders.
-unfoldable pub bundle_of_type : ℕ → ℕ → ℕ → ℕ → ℕ → ℕ → Cursor → Read (List Entry)
+unfoldable pub bundle_of_type : ℕ → ℕ → ℕ → ℕ → ℕ → ℕ → Cursor → Read (List Numbered)
 bundle_of_type zero objects imports bundle n ordinal c = Ok ([], c)
 bundle_of_type (suc zero) objects imports bundle n ordinal c = object_entries objects bundle n ordinal (at_entry 2) c
 bundle_of_type (suc (suc zero)) objects imports bundle n ordinal c = object_entries objects bundle n ordinal gate_entry c
@@ -81,7 +81,7 @@ bundle_of_type (suc (suc (suc (suc (suc k))))) objects imports bundle n ordinal 
 
 -- The bundles that follow ordinal `last`, up to a count of 0. A bundle whose ordinals pass the last one
 -- is wrong at its count. There are at most n bundles; each takes a byte or more.
-unfoldable pub entries_from : ℕ → ℕ → ℕ → ℕ → Cursor → Result (List Entry) LxRefusal
+unfoldable pub entries_from : ℕ → ℕ → ℕ → ℕ → Cursor → Result (List Numbered) LxRefusal
 entries_from zero objects imports last c = Ok []
 entries_from (suc n) objects imports last c = do
   count ← number 1 c
@@ -92,12 +92,12 @@ entries_from (suc n) objects imports last c = do
     Ok (bundle.0 ++ others)
 
 -- the entries of a table, for so many objects and import modules; places are places in the table
-unfoldable pub entries_in : ℕ → ℕ → List ℕ → Result (List Entry) LxRefusal
+unfoldable pub entries_in : ℕ → ℕ → List ℕ → Result (List Numbered) LxRefusal
 entries_in objects imports bytes = entries_from (suc (length bytes)) objects imports 0 (cursor 0 bytes)
 
 -- ---- the table of a module
 
-abbrev pub entries_of : List ℕ → Result (List Entry) LxRefusal
+abbrev pub entries_of : List ℕ → Result (List Numbered) LxRefusal
 entries_of file = placed (table file 0x5C) (entries_in (object_count file) (import_count file) (drop (table file 0x5C) file))
 
 abbrev pub entries_fault : List ℕ → Option LxRefusal

@@ -3,7 +3,7 @@
 use Rattle.std.specs.Prelude.{ℕ, suc, ◌+◌, ◌*◌, ◌-◌, ◌^◌, ◌%◌, ◌==◌, Bool, List, [], ◌++◌, map, reverse, find, slice_get, slice_index, Option, Some, None, unwrap_or, Result, Ok, Err, nat_le, if◌then◌else◌, ℤ, pos, negsuc}
 use Rattle.lx_bytes.specs.LittleEndian.{little_bytes}
 use Rattle.lx_types.specs.Addresses.{address, selector, selected_offset}
-use Rattle.lx_types.specs.Parts.{object_of, page_at, data_at, fix_span_at, fixes_at}
+use Rattle.lx_types.specs.Parts.{object_of, page_at, data_at, fixes_at}
 use Rattle.lx_types.specs.declared.object.PageId.{PageId}
 use Rattle.lx_types.specs.declared.object.PageKind.{PageKind}
 use Rattle.lx_types.specs.declared.object.PageKind.TheVariants.{Plain, Iterated, Invalid, Zero}
@@ -19,14 +19,14 @@ use Rattle.lx_model.specs.declared.library.EntryFault.{EntryFault}
 use Rattle.lx_model.specs.Reading.{first, value_or}
 use Rattle.lx_model.specs.Iterated.{expansion}
 use Rattle.lx_model.specs.Sources.{size_of}
-use Rattle.lx_model.specs.Records.{records_at, fixes_of}
+use Rattle.lx_model.specs.Records.{records_in, fixes_of}
 use Rattle.lx_model.specs.Library.{module_of}
 use Rattle.lx_model.specs.Entries.{target_spot}
 
 -- ---- as the file has them
 
 -- the bytes that a page's data gives; zeros follow them
-abbrev kind_bytes : PageKind → List ℕ → List ℕ
+abbrev pub kind_bytes : PageKind → List ℕ → List ℕ
 kind_bytes Plain bytes = bytes
 kind_bytes Iterated bytes = value_or [] (expansion bytes)
 kind_bytes Invalid bytes = []
@@ -42,7 +42,7 @@ Raw m p i = slice_index (page_bytes m p) i
 
 -- ---- addresses under the bases of a load
 
-abbrev bases_of : Option ModBases → List ℕ
+abbrev pub bases_of : Option ModBases → List ℕ
 bases_of (Some b) = b.objects
 bases_of None = []
 
@@ -84,7 +84,7 @@ abbrev pub bytes_for : List Parts → ℕ → Bases → PageId → Fix → Spot 
 bytes_for lib m bases p f s =
     field_bytes f.source f.alias (object_of (module_of lib s.«module») s.object).flags (address (spot_address bases s) f.additive) (end_address bases m p f)
 
-abbrev bytes_if : List Parts → ℕ → Bases → PageId → Fix → Result Spot EntryFault → List ℕ
+abbrev pub bytes_if : List Parts → ℕ → Bases → PageId → Fix → Result Spot EntryFault → List ℕ
 bytes_if lib m bases p f (Ok s) = bytes_for lib m bases p f s
 bytes_if lib m bases p f (Err e) = []
 
@@ -98,7 +98,7 @@ abbrev pub index_in : ℤ → ℕ → Option ℕ
 index_in (pos n) i = if nat_le n i then Some (i - n) else None
 index_in (negsuc n) i = Some (i + suc n)
 
-abbrev byte_if : List ℕ → Option ℕ → Option ℕ
+abbrev pub byte_if : List ℕ → Option ℕ → Option ℕ
 byte_if bytes (Some k) = slice_get bytes k
 byte_if bytes None = None
 
@@ -110,7 +110,7 @@ patched q i = byte_if q.bytes (index_in q.offset i)
 
 -- the sources of a page, in the order of its records
 unfoldable pub sources_of : Parts → PageId → List Fix
-sources_of m p = fixes_of (records_at (fix_span_at m p).0 (fixes_at m p))
+sources_of m p = fixes_of (records_in (fixes_at m p))
 
 abbrev pub patches_of : List Parts → ℕ → Bases → PageId → List Patch
 patches_of lib m bases p = map (patch_of lib m bases p) (sources_of (module_of lib m) p)

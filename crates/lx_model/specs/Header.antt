@@ -16,7 +16,7 @@ abbrev pub is_lx_at : List ℕ → ℕ → Bool
 is_lx_at file at = number_at 2 file at == 0x584C
 
 -- where the header stands: at 0, or where the doubleword at 3Ch of a DOS program says
-abbrev pub header_place : List ℕ → ℕ
+unfoldable pub header_place : List ℕ → ℕ
 header_place file = if is_lx_at file 0 then 0 else number_at 4 file 0x3C
 
 abbrev pub place_fault : List ℕ → Option LxRefusal
@@ -96,7 +96,7 @@ header_fault file = place_fault file then first (map (row_fault file (header_pla
 -- ---- what its fields say
 
 -- the doubleword at an offset of the header
-abbrev pub field : List ℕ → ℕ → ℕ
+unfoldable pub field : List ℕ → ℕ → ℕ
 field file offset = number_at 4 file (header_place file + offset)
 
 -- where a table stands whose offset from the header is in a field

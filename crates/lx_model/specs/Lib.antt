@@ -4,10 +4,14 @@ pub mod Iterated
 pub mod Tables
 pub mod NameTables
 pub mod EntryTable
+pub mod Bundles
 pub mod Sources
+pub mod Spelling
+pub mod RecordFields
 pub mod Records
 pub mod FixupPages
 pub mod Module
+pub mod Laws
 pub mod Library
 pub mod Entries
 pub mod Fixed

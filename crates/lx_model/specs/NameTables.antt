@@ -71,8 +71,12 @@ imports_from (suc n) c = do
     others ← imports_from n name.1
     Ok (name.0 ∷ others)
 
+-- the names of n import modules; places are places in the table
+abbrev pub imports_in : ℕ → List ℕ → Result (List (List ℕ)) LxRefusal
+imports_in n bytes = imports_from n (cursor 0 bytes)
+
 abbrev pub import_names : List ℕ → Result (List (List ℕ)) LxRefusal
-import_names file = imports_from (import_count file) (cursor (table file 0x70) (drop (table file 0x70) file))
+import_names file = placed (table file 0x70) (imports_in (import_count file) (drop (table file 0x70) file))
 
 abbrev pub imports_fault : List ℕ → Option LxRefusal
 imports_fault file = fault_of (import_names file)

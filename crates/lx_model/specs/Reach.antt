@@ -58,13 +58,13 @@ lost_import lib m = option_map (λ k. NoModule m (k + 1)) (position (λ name. is
 abbrev pub cycle_of : List Parts → ℕ → Option Health
 cycle_of lib m = if list_any (λ import. is_among (Order lib import) m) (imports_of lib m) then Some (Cycle m) else None
 
-abbrev same_fault : EntryFault → EntryFault → Bool
+abbrev pub same_fault : EntryFault → EntryFault → Bool
 same_fault faults.NoEntry faults.NoEntry = true
 same_fault faults.Gate286 faults.Gate286 = true
 same_fault faults.ForwardLoop faults.ForwardLoop = true
 same_fault e f = false
 
-abbrev ends_in : EntryFault → Result Spot EntryFault → Bool
+abbrev pub ends_in : EntryFault → Result Spot EntryFault → Bool
 ends_in e (Ok s) = false
 ends_in e (Err f) = same_fault e f
 

@@ -56,11 +56,11 @@ LISTED = 0x20
 abbrev pub source_byte : SourceKind → ℕ
 source_byte kind = code_of kind.source + (if kind.alias then ALIAS else 0) + (if kind.listed then LISTED else 0)
 
-abbrev kind_with : ℕ → Source → SourceKind
+abbrev pub kind_with : ℕ → Source → SourceKind
 kind_with byte source = record { source = source; alias = not (bit_and byte ALIAS == 0); listed = not (bit_and byte LISTED == 0) }
 
 -- Bits 40h and 80h are never set, and the alias bit only for a source with a selector.
-abbrev kind_allowed : ℕ → Option Source → Option SourceKind
+abbrev pub kind_allowed : ℕ → Option Source → Option SourceKind
 kind_allowed byte None = None
 kind_allowed byte (Some source) =
     if nat_lt byte 0x40 && (has_selector source || bit_and byte ALIAS == 0) then Some (kind_with byte source) else None

@@ -72,10 +72,15 @@ page_data file at Iterated = record { kind = Iterated; at = field file 0x4C + nu
 page_data file at Invalid = record { kind = Invalid; at = 0; len = 0 }
 page_data file at Zero = zero_page
 
-abbrev pub page_entry : List ℕ → ℕ → Option PageHead
-page_entry file at = elim (page_kind (number_at 2 file (at + 6))) [ Some kind ↦ Some (page_data file at kind) | None ↦ None ]
+abbrev pub page_of_kind : List ℕ → ℕ → Option PageKind → Option PageHead
+page_of_kind file at (Some kind) = Some (page_data file at kind)
+page_of_kind file at None = None
 
-abbrev page_or_zero : Option PageHead → PageHead
+-- the page of an entry, unless its flags are none
+abbrev pub page_entry : List ℕ → ℕ → Option PageHead
+page_entry file at = page_of_kind file at (page_kind (number_at 2 file (at + 6)))
+
+abbrev pub page_or_zero : Option PageHead → PageHead
 page_or_zero (Some page) = page
 page_or_zero None = zero_page
 

@@ -12,6 +12,9 @@ mod parts;
 mod refusal;
 mod seq;
 
+#[cfg(test)]
+mod tests;
+
 pub use bases::{Bases, ModBases};
 pub use entry::{EntryHead, EntryKey, FwdKey};
 pub use fail::{Fail, NoMemory};

@@ -68,8 +68,11 @@ impl Module {
         self.parts.start
     }
 
+    /// The object table.
     pub fn objects(&self) -> &[ObjHead]
-        ensures { result.now ≡ self.now.objects }
+        ensures list { result.now ≡ self.now.objects }
+        // The module's numbers name what is there, and its places lie in its file.
+        ensures sound { Sound self.now }
     {
         self.parts.objects.as_slice()
     }

@@ -14,8 +14,13 @@ pub enum LastData {
     None,
     /// An LEDATA record.
     Straight { seg: u32, offset: u32, len: u32 },
-    /// An LIDATA record, with its blocks unexpanded.
-    Blocks { seg: u32, offset: u32, body: Bytes },
+    /// An LIDATA record, with its blocks unexpanded. Their repeat counts have 4 bytes where it is `wide`.
+    Blocks {
+        seg: u32,
+        offset: u32,
+        wide: bool,
+        body: Bytes,
+    },
     /// Data of a debug segment.
     Dropped,
 }

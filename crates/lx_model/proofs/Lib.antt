@@ -1,0 +1,13 @@
+pub mod BundlesRead
+pub mod Each
+pub mod Entries
+pub mod Firsts
+pub mod Loops
+pub mod Meaning
+pub mod NamesRead
+pub mod PagesRead
+pub mod ReadsAs
+pub mod RecordsRead
+pub mod References
+pub mod Soundness
+pub mod Visits

@@ -1,0 +1,16 @@
+use Rattle.lx_model.proofs.BundlesRead.{table_reads as bundles_again}
+use Rattle.lx_model.proofs.NamesRead.{table_reads}
+use Rattle.lx_model.proofs.PagesRead.{records_again, groups_again}
+use Rattle.lx_model.proofs.laws.written_is_read.Goals as goal
+
+pub returns-clause-names : goal.returns-clause-names
+returns-clause-names c = table_reads
+
+pub returns-clause-records : goal.returns-clause-records
+returns-clause-records c = records_again
+
+pub returns-clause-groups : goal.returns-clause-groups
+returns-clause-groups c = groups_again
+
+pub returns-clause-entries : goal.returns-clause-entries
+returns-clause-entries c = bundles_again

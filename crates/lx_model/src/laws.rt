@@ -1,0 +1,36 @@
+//! What the definitions say together.
+
+ghost use Rattle.lx_model.specs.Laws.{MeansOne, MeansOrFails, FaultMeansNone, MeansSound, NamesReadAgain, EntriesReadAgain, RecordsReadAgain, GroupsReadAgain, OrderIsReached, ReachedIsOrdered, LoopComesBack, ComesBackLoops};
+
+/// A file has one meaning or one first fault.
+pub fn files_mean_one_module()
+    ensures one { MeansOne }
+    ensures either { MeansOrFails }
+    ensures not_both { FaultMeansNone }
+{}
+
+/// The parts that a file lists are those of a `Module`.
+pub fn parts_are_sound()
+    ensures { MeansSound }
+{}
+
+/// Name tables, entry tables, fixup records and groups of iterated data that are written by the format
+/// are read as what was written.
+pub fn written_is_read()
+    ensures names { NamesReadAgain }
+    ensures entries { EntriesReadAgain }
+    ensures records { RecordsReadAgain }
+    ensures groups { GroupsReadAgain }
+{}
+
+/// The order in which a module is loaded has exactly the modules that it reaches.
+pub fn order_is_reach()
+    ensures order { OrderIsReached }
+    ensures reach { ReachedIsOrdered }
+{}
+
+/// Forwarders that come to an ordinal of a module a second time are a loop, and nothing else is.
+pub fn loops_come_back()
+    ensures loops { LoopComesBack }
+    ensures returns { ComesBackLoops }
+{}

@@ -1,0 +1,153 @@
+-- Reading an object file and a library from their first byte on.
+-- "Record Format"; "Object Record Order"; "Microsoft LIB Library Format".
+use Rattle.std.specs.Prelude.{ℕ, zero, suc, ◌+◌, ◌-◌, ◌%◌, Bool, true, false, ◌&&◌, ◌||◌, not, List, [], ◌∷◌, length, take, drop, slice_index, Result, Ok, Err, nat_le, ◌==◌, if◌then◌else◌}
+use Rattle.std.specs.List.{list_any}
+use Rattle.lx_bytes.specs.Cursor.{Cursor, advance}
+use Rattle.lx_bytes.specs.LittleEndian.{little}
+use Rattle.omf_frame.specs.RecordType.{is_record_type}
+use Rattle.omf_frame.specs.Frame.{record_sum}
+use Rattle.obj_types.specs.declared.refusal.OmfRefusal.{OmfRefusal}
+use Rattle.obj_types.specs.declared.refusal.OmfRefusal.TheVariants.{Short, BadField, BadChecksum, UnknownType}
+use Rattle.obj_types.specs.declared.object.ObjModule.{ObjModule}
+use Rattle.obj_types.specs.declared.parts.ObjParts.{ObjParts}
+use Rattle.obj_types.specs.Fresh.{fresh_parts}
+use Rattle.omf_model.specs.Fields.{Reading, ◌>>=◌, check, name_at}
+use Rattle.omf_model.specs.Record.{Record, header, passed, modend}
+use Rattle.omf_model.specs.ReadNames.{lnames_at, segdef_at, grpdef_at, pubdef_at, extdef_at, comdef_at, coment_at}
+use Rattle.omf_model.specs.ReadData.{ledata_at, lidata_at, fixupp_at, modend_at}
+use Rattle.omf_model.specs.Add.{add}
+
+-- ---- records
+
+-- A record's bytes: its first place, its type, its contents, its checksum byte, and what is behind it.
+pub record Frame : Type 0 where
+  pub at : ℕ
+  pub ty : ℕ
+  pub contents : List ℕ
+  pub checksum : ℕ
+  pub after : Cursor
+
+-- The bytes of a record with this length word: a type byte, the word, contents and a checksum byte.
+abbrev pub frame_of : ℕ → Cursor → Frame
+frame_of len c = record {
+  at = c.at;
+  ty = slice_index c.left 0;
+  contents = take (len - 1) (drop 3 c.left);
+  checksum = slice_index c.left (len + 2);
+  after = advance (3 + len) c;
+}
+
+-- A record that is cut off, or one of length 0, is Short at its first byte.
+abbrev pub is_whole : ℕ → List ℕ → Bool
+is_whole len bytes = nat_le 3 (length bytes) && not (len == 0) && nat_le (3 + len) (length bytes)
+
+unfoldable pub whole_at : Cursor → Result Frame OmfRefusal
+whole_at c =
+    let len : ℕ = little (take 2 (drop 1 c.left)) in
+    if is_whole len c.left then Ok (frame_of len c) else Err (Short c.at)
+
+abbrev pub sum_of : Frame → ℕ
+sum_of f = record_sum f.ty f.contents f.checksum
+
+-- The next record's bytes: whole, of a known type, and with all bytes' sum 0 modulo 256 or a checksum 0.
+unfoldable pub frame_at : Cursor → Result Frame OmfRefusal
+frame_at c = do
+  f ← whole_at c
+  _ ← check (is_record_type f.ty) (UnknownType c.at f.ty)
+  _ ← check (f.checksum == 0 || sum_of f == 0) (BadChecksum c.at (sum_of f))
+  Ok f
+
+-- ---- contents
+
+abbrev pub contents_of : Frame → Cursor
+contents_of f = record { at = f.at + 3; left = f.contents }
+
+-- The odd type of a pair has offsets and lengths of 4 bytes.
+abbrev pub is_wide : ℕ → Bool
+is_wide ty = ty % 2 == 1
+
+-- How the contents of a record of a type are read after the records before it.
+abbrev pub reader_of : ℕ → ObjParts → ℕ → Cursor → Result Record OmfRefusal
+reader_of ty =
+    if ty == 0x88 then (λ p at c. coment_at c)
+    else if ty == 0x8A || ty == 0x8B then (λ p at c. modend_at (is_wide ty) p c)
+    else if ty == 0x8C then (λ p at c. extdef_at false c)
+    else if ty == 0x90 || ty == 0x91 then (λ p at c. pubdef_at false (is_wide ty) p c)
+    else if ty == 0x96 then (λ p at c. lnames_at c)
+    else if ty == 0x98 || ty == 0x99 then (λ p at c. segdef_at (is_wide ty) p c)
+    else if ty == 0x9A then (λ p at c. grpdef_at p c)
+    else if ty == 0x9C || ty == 0x9D then (λ p at c. fixupp_at (is_wide ty) p at c)
+    else if ty == 0xA0 || ty == 0xA1 then (λ p at c. ledata_at (is_wide ty) p at c)
+    else if ty == 0xA2 || ty == 0xA3 then (λ p at c. lidata_at (is_wide ty) p at c)
+    else if ty == 0xB0 then (λ p at c. comdef_at c)
+    else if ty == 0xB4 || ty == 0xB5 then (λ p at c. extdef_at true c)
+    else if ty == 0xB6 || ty == 0xB7 then (λ p at c. pubdef_at true (is_wide ty) p c)
+    else if ty == 0x80 || ty == 0x82 || ty == 0x94 || ty == 0x95 then (λ p at c. Ok passed)
+    else (λ p at c. Err (UnknownType at ty))
+
+-- The next record.
+unfoldable pub record_at : ObjParts → Cursor → Reading Record
+record_at p c = do
+  f ← frame_at c
+  r ← reader_of f.ty p f.at (contents_of f)
+  Ok (r, f.after)
+
+-- The first record of a module is a THEADR or an LHEADR.
+unfoldable pub header_at : Cursor → Reading Record
+header_at c = do
+  f ← frame_at c
+  _ ← check (f.ty == 0x80 || f.ty == 0x82) (BadField c.at)
+  name ← name_at (contents_of f)
+  Ok (header name.0, f.after)
+
+-- ---- modules
+
+abbrev pub is_end : Record → Bool
+is_end (modend kind start) = true
+is_end _ = false
+
+-- The records up to MODEND. There are no more of them than bytes.
+unfoldable pub rest_within : ℕ → ObjParts → Cursor → Reading ObjParts
+rest_within zero p c = Err (Short c.at)
+rest_within (suc most) p c = do
+  r ← record_at p c
+  if is_end r.0 then Ok (add p r.0, r.1) else rest_within most (add p r.0) r.1
+
+unfoldable pub module_at : Cursor → Reading ObjModule
+module_at c = do
+  first ← header_at c
+  p ← rest_within (length c.left) (add fresh_parts first.0) first.1
+  Ok (p.0.module, p.1)
+
+-- An object file. The bytes after MODEND are not read.
+unfoldable pub object_of : List ℕ → Result ObjModule OmfRefusal
+object_of bytes = module_at (record { at = 0; left = bytes }) >>= λ m. Ok m.0
+
+-- ---- libraries
+
+abbrev pub is_page_size : ℕ → Bool
+is_page_size n = list_any (λ size. size == n) (16 ∷ 32 ∷ 64 ∷ 128 ∷ 256 ∷ 512 ∷ 1024 ∷ 2048 ∷ 4096 ∷ 8192 ∷ 16384 ∷ 32768 ∷ [])
+
+-- The cursor at the next multiple of the page size.
+abbrev pub up_to_page : ℕ → Cursor → Cursor
+up_to_page size c = advance ((size - c.at % size) % size) c
+
+-- F1h in a module's place ends a library, and nothing after its type byte is read.
+abbrev pub ends_library : List ℕ → Bool
+ends_library [] = false
+ends_library (b ∷ rest) = b == 0xF1
+
+unfoldable pub modules_within : ℕ → ℕ → Cursor → Result (List ObjModule) OmfRefusal
+modules_within zero size c = Err (Short c.at)
+modules_within (suc most) size c = if ends_library c.left then Ok [] else do
+  m ← module_at c
+  others ← modules_within most size (up_to_page size m.1)
+  Ok (m.0 ∷ others)
+
+-- A library's header: F0h, and a length that gives the page size. Its checksum is not tried.
+unfoldable pub library_of : List ℕ → Result (List ObjModule) OmfRefusal
+library_of bytes = do
+  f ← whole_at (record { at = 0; left = bytes })
+  _ ← check (f.ty == 0xF0) (BadField 0)
+  _ ← check (is_page_size f.after.at) (BadField 1)
+  modules_within (length bytes) f.after.at f.after

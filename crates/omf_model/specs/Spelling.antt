@@ -1,0 +1,122 @@
+-- What bytes spell a record: its type, its contents, and the record around them.
+-- "Relocatable Object Module Format", the sections of the record types.
+use Rattle.std.specs.Prelude.{◌≡◌, ◌≢◌, ℕ, ◌+◌, ◌≤◌, ◌<◌, ◌⊎◌, Bool, true, false, ◌&&◌, not, List, [], ◌∷◌, Contains, nat_le, ◌==◌, if◌then◌else◌}
+use Rattle.omf_frame.specs.Frame.{BeginsRecord}
+use Rattle.omf_model.specs.Blocks.{block_bytes}
+use Rattle.omf_model.specs.Fields.{width}
+use Rattle.omf_model.specs.Forms.{Form, Then, ◌then◌, anything, each, present, byte, number, name, index, length_form}
+use Rattle.omf_model.specs.Fixups.{has_index}
+use Rattle.omf_model.specs.Record.{Record, header, passed, comment, default_library, impdef, expdef, lnames, segdef, grpdef, pubdef, extdef, comdef, ledata, lidata, fixupp, modend, SegDef, align_of, is_too_long, PubDef, ExtDef, ComDef, Communal, far, near, ImpDef, ImpEntry, by_ordinal, by_name, ExpDef, FixData, FixField, thread, fixup, by_frame_thread, frame_bits, by_target_thread, has_displacement, thread_method, has_start}
+
+-- ---- the types. Of a pair the odd type has offsets and lengths of 4 bytes.
+
+abbrev pub pair : ℕ → List (ℕ × Bool)
+pair ty = (ty, false) ∷ (ty + 1, true) ∷ []
+
+abbrev pub types_of : Record → List (ℕ × Bool)
+types_of (header text) = (0x80, false) ∷ (0x82, false) ∷ []
+types_of passed = (0x80, false) ∷ (0x82, false) ∷ pair 0x94
+types_of comment = (0x88, false) ∷ []
+types_of (default_library text) = (0x88, false) ∷ []
+types_of (impdef d) = (0x88, false) ∷ []
+types_of (expdef d) = (0x88, false) ∷ []
+types_of (lnames texts) = (0x96, false) ∷ []
+types_of (segdef d) = pair 0x98
+types_of (grpdef i members) = (0x9A, false) ∷ []
+types_of (pubdef local group segment frame defs) = if local then pair 0xB6 else pair 0x90
+types_of (extdef local defs) = if local then pair 0xB4 else (0x8C, false) ∷ []
+types_of (comdef defs) = (0xB0, false) ∷ []
+types_of (ledata segment offset content) = pair 0xA0
+types_of (lidata wide segment offset blocks) = (if wide then 0xA3 else 0xA2, wide) ∷ []
+types_of (fixupp fields) = pair 0x9C
+types_of (modend kind start) = pair 0x8A
+
+-- ---- the contents
+
+-- A COMENT's flags and class.
+abbrev pub class_form : ℕ → Form
+class_form class = Then (λ bytes. (flags : ℕ) × byte flags bytes) (byte class)
+
+-- Another class than 9Fh and A0h, or another subtype of A0h than 01h and 02h.
+abbrev pub other_comment : Form
+other_comment bytes =
+    ((class : ℕ) × (class ≢ 0x9F) × (class ≢ 0xA0) × (class_form class then anything) bytes)
+    ⊎ ((subtype : ℕ) × (subtype ≢ 1) × (subtype ≢ 2) × (class_form 0xA0 then byte subtype then anything) bytes)
+
+abbrev pub entry_form : ℕ → ImpEntry → Form
+entry_form flag (by_ordinal n) bytes = (flag ≢ 0) × number 2 n bytes
+entry_form flag (by_name text) bytes = (flag ≡ 0) × name text bytes
+
+abbrev pub impdef_form : ImpDef → Form
+impdef_form d = class_form 0xA0 then byte 1 then byte d.flag then name d.internal then name d.from then entry_form d.flag d.entry then anything
+
+abbrev pub expdef_form : ExpDef → Form
+expdef_form d = class_form 0xA0 then byte 2 then byte d.flag then name d.exported then name d.internal then present (nat_le 128 d.flag) (number 2) d.ordinal then anything
+
+abbrev pub segdef_form : Bool → SegDef → Form
+segdef_form wide d bytes = (is_too_long wide d.attributes d.len ≡ false) × (
+    byte d.attributes
+    then present (align_of d.attributes == 0) (number 2) d.frame
+    then present (align_of d.attributes == 0) byte d.offset
+    then number (width wide) d.len
+    then index d.name then index d.class then index d.overlay then anything) bytes
+
+abbrev pub member_form : ℕ → Form
+member_form i = byte 255 then index i
+
+abbrev pub pub_form : Bool → PubDef → Form
+pub_form wide d = name d.name then number (width wide) d.offset then index d.type
+
+abbrev pub ext_form : ExtDef → Form
+ext_form d = name d.name then index d.type
+
+abbrev pub communal_form : Communal → Form
+communal_form (far count size) = byte 0x61 then length_form count then length_form size
+communal_form (near size) = byte 0x62 then length_form size
+
+abbrev pub com_form : ComDef → Form
+com_form d = name d.name then index d.type then communal_form d.communal
+
+-- The fix byte says which of the fields after it stand there.
+abbrev pub fix_data_form : Bool → FixData → Form
+fix_data_form wide d =
+    byte d.fix
+    then present (not (by_frame_thread d.fix) && has_index (frame_bits d.fix)) index d.frame
+    then present (not (by_target_thread d.fix)) index d.target
+    then present (has_displacement d.fix) (number (width wide)) d.displacement
+
+abbrev pub field_form : Bool → FixField → Form
+field_form wide (thread b i) bytes = (b < 128) × (byte b then present (has_index (thread_method b)) index i) bytes
+field_form wide (fixup high low what) bytes = (128 ≤ high) × (byte high then byte low then fix_data_form wide what) bytes
+
+abbrev pub contents_form : Bool → Record → Form
+contents_form wide (header text) = name text then anything
+contents_form wide passed = anything
+contents_form wide comment = other_comment
+contents_form wide (default_library text) = class_form 0x9F then λ bytes. bytes ≡ text
+contents_form wide (impdef d) = impdef_form d
+contents_form wide (expdef d) = expdef_form d
+contents_form wide (lnames texts) = each name texts
+contents_form wide (segdef d) = segdef_form wide d
+contents_form wide (grpdef i members) = index i then each member_form members
+contents_form wide (pubdef local group segment frame defs) = index group then index segment then present (segment == 0) (number 2) frame then each (pub_form wide) defs
+contents_form wide (extdef local defs) = each ext_form defs
+contents_form wide (comdef defs) = each com_form defs
+contents_form wide (ledata segment offset content) = index segment then number (width wide) offset then λ bytes. bytes ≡ content
+contents_form wide (lidata w segment offset blocks) = index segment then number (width w) offset then λ bytes. bytes ≡ block_bytes w blocks
+contents_form wide (fixupp fields) = each (field_form wide) fields
+contents_form wide (modend kind start) = byte kind then present (has_start kind) (fix_data_form wide) start then anything
+
+-- ---- the record around them
+
+pub record Spells (bytes : List ℕ) (r : Record) : Type 0 where
+  pub ty : ℕ
+  pub wide : Bool
+  pub contents : List ℕ
+  pub is_type : Contains (types_of r) (ty, wide)
+  pub framed : BeginsRecord bytes ty contents []
+  pub content : contents_form wide r contents
+
+-- The records, one after another.
+abbrev pub SpellsAll : List Record → Form
+SpellsAll rs = each (λ r bytes. Spells bytes r) rs
