@@ -8,6 +8,9 @@ pub mod NamesRead
 pub mod PagesRead
 pub mod ReadsAs
 pub mod RecordsRead
+pub mod RecordsTaken
 pub mod References
 pub mod Soundness
+pub mod TablesTaken
+pub mod Takes
 pub mod Visits

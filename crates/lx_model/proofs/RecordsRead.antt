@@ -85,11 +85,11 @@ source_below Self32 false false = lit< tt
 
 -- ---- the flags byte
 
-left_true : (a b : Bool) → (a && b) ≡ true → a ≡ true
+pub left_true : (a b : Bool) → (a && b) ≡ true → a ≡ true
 left_true true b e = refl
 left_true false b e = e
 
-right_true : (a b : Bool) → (a && b) ≡ true → b ≡ true
+pub right_true : (a b : Bool) → (a && b) ≡ true → b ≡ true
 right_true true b e = e
 right_true false b e = absurd cc
 
@@ -98,7 +98,7 @@ at_each : (p : Bool → Bool) → (p true && p false) ≡ true → (b : Bool) �
 at_each p h true = left_true (p true) (p false) h
 at_each p h false = right_true (p true) (p false) h
 
-abbrev same : Bool → Bool → Bool
+abbrev pub same : Bool → Bool → Bool
 same true b = b
 same false b = not b
 
@@ -138,13 +138,13 @@ not_true : (b : Bool) → not b ≡ true → b ≡ false
 not_true true h = absurd cc
 not_true false h = refl
 
-same_true : (a b : Bool) → same a b ≡ true → a ≡ b
+pub same_true : (a b : Bool) → same a b ≡ true → a ≡ b
 same_true true true h = refl
 same_true true false h = absurd cc
 same_true false true h = absurd cc
 same_true false false h = refl
 
-equal : (m n : ℕ) → (m == n) ≡ true → m ≡ n
+pub equal : (m n : ℕ) → (m == n) ≡ true → m ≡ n
 equal m n h = grind (arith, nat_tests)
 
 pub record GoodFlags (s : Sizes) (code : ℕ) : Type 0 where
@@ -208,7 +208,7 @@ additive_reads false flags additive is h at rest = let end : at + 0 ≡ at = ome
 
 -- ---- offsets
 
-size_small : (source : Source) → size_of source ≤ 6
+pub size_small : (source : Source) → size_of source ≤ 6
 size_small Byte = omega arith
 size_small Sel = omega arith
 size_small Far16 = omega arith

@@ -10,7 +10,10 @@ use Rattle.lx_model.specs.Iterated.{Group, groups_spelling, groups_data, GroupFi
 use Rattle.lx_model.specs.NameTables.{Named, names_in}
 use Rattle.lx_model.specs.EntryTable.{LAST_ORDINAL, entries_in}
 use Rattle.lx_model.specs.Bundles.{Bundle, sizes_of, table_spelling, entries_after, BundleFits}
-use Rattle.lx_model.specs.Records.{records_in, fixes_of}
+use Rattle.lx_bytes.specs.Cursor.{Cursor}
+use Rattle.lx_bytes.specs.LittleEndian.{AreBytes}
+use Rattle.lx_types.specs.declared.fix.Fix.{Fix}
+use Rattle.lx_model.specs.Records.{record_at, records_in, fixes_of}
 use Rattle.lx_model.specs.declared.library.EntryFault.TheVariants.{ForwardLoop}
 use Rattle.lx_model.specs.Entries.{Place, Entry, ComesBack}
 use Rattle.lx_model.specs.Reach.{Reach, Order}
@@ -52,6 +55,26 @@ RecordsReadAgain =
 -- groups that give no more than a page
 abbrev pub GroupsReadAgain : Type 0
 GroupsReadAgain = (gs : List Group) → AllByRecursion GroupFits gs → length (groups_data gs) ≤ PAGE_SIZE → expansion (groups_spelling gs) ≡ Ok (groups_data gs)
+
+-- ---- What is read is spelled so, each byte of it.
+
+-- a record, with the sizes that its flags name
+abbrev pub RecordIsSpelled : Type 0
+RecordIsSpelled =
+    (c d : Cursor) (fixes : List Fix) → AreBytes c.left → record_at c ≡ Ok (fixes, d) →
+    (w : Written) × RecordFits w × (fixes ≡ fixes_written w) × (c.left ≡ record_spelling w ++ d.left)
+
+-- a name table, and what follows it
+abbrev pub NamesAreSpelled : Type 0
+NamesAreSpelled =
+    (bytes : List ℕ) (ns : List Named) → AreBytes bytes → names_in bytes ≡ Ok ns →
+    (rest : List ℕ) × AllByRecursion NameFits ns × (bytes ≡ names_spelling ns ++ rest)
+
+-- iterated data
+abbrev pub GroupsAreSpelled : Type 0
+GroupsAreSpelled =
+    (bytes given : List ℕ) → AreBytes bytes → expansion bytes ≡ Ok given →
+    (gs : List Group) × AllByRecursion GroupFits gs × (bytes ≡ groups_spelling gs) × (given ≡ groups_data gs)
 
 -- ---- The order of a module has what it reaches, and nothing else.
 

@@ -1,6 +1,6 @@
 //! What the definitions say together.
 
-ghost use Rattle.lx_model.specs.Laws.{MeansOne, MeansOrFails, FaultMeansNone, MeansSound, NamesReadAgain, EntriesReadAgain, RecordsReadAgain, GroupsReadAgain, OrderIsReached, ReachedIsOrdered, LoopComesBack, ComesBackLoops};
+ghost use Rattle.lx_model.specs.Laws.{MeansOne, MeansOrFails, FaultMeansNone, MeansSound, NamesReadAgain, EntriesReadAgain, RecordsReadAgain, GroupsReadAgain, RecordIsSpelled, NamesAreSpelled, GroupsAreSpelled, OrderIsReached, ReachedIsOrdered, LoopComesBack, ComesBackLoops};
 
 /// A file has one meaning or one first fault.
 pub fn files_mean_one_module()
@@ -21,6 +21,14 @@ pub fn written_is_read()
     ensures entries { EntriesReadAgain }
     ensures records { RecordsReadAgain }
     ensures groups { GroupsReadAgain }
+{}
+
+/// Of fixup records, name tables and groups of iterated data, each that is read is spelled as the format
+/// says.
+pub fn read_is_spelled()
+    ensures record_spelled { RecordIsSpelled }
+    ensures names_spelled { NamesAreSpelled }
+    ensures groups_spelled { GroupsAreSpelled }
 {}
 
 /// The order in which a module is loaded has exactly the modules that it reaches.

@@ -7,6 +7,7 @@ mod library;
 mod worked;
 
 pub use laws::{
-    files_mean_one_module, loops_come_back, order_is_reach, parts_are_sound, written_is_read,
+    files_mean_one_module, loops_come_back, order_is_reach, parts_are_sound, read_is_spelled,
+    written_is_read,
 };
 pub use library::{EntryFault, Health, Spot};

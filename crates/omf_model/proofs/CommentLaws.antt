@@ -9,7 +9,7 @@ use Rattle.obj_types.specs.declared.parts.ObjParts.{ObjParts}
 use Rattle.omf_model.specs.Fields.{◌>>=◌, byte_at, name_at, number_at}
 use Rattle.omf_model.specs.Forms.{Form, ◌then◌, anything, present, byte, number, name}
 use Rattle.omf_model.specs.Record.{Record, comment, default_library, impdef, expdef, ImpDef, ImpEntry, by_ordinal, by_name, ExpDef}
-use Rattle.omf_model.specs.ReadNames.{given_name_at, entry_at, impdef_at, expdef_at, extension_at, library_at, coment_at}
+use Rattle.omf_model.specs.ReadComments.{given_name_at, entry_at, impdef_at, expdef_at, extension_at, library_at, coment_at}
 use Rattle.omf_model.specs.Spelling.{contents_form, class_form, entry_form}
 use Rattle.omf_model.proofs.Takes.{Takes, then_takes, then_splits, then_left, left_splits, Sound, Complete, given, ok_is, step, checked_step}
 use Rattle.omf_model.proofs.FieldLaws.{Free, chosen, guard_ok, name_sound, name_complete, number_sound, number_complete, byte_sound, byte_complete}

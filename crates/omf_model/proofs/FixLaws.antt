@@ -15,7 +15,7 @@ use Rattle.omf_model.specs.Record.{FixData, by_frame_thread, frame_bits, by_targ
 use Rattle.omf_model.specs.Items.{is_debug_seg}
 use Rattle.omf_model.specs.Fixups.{has_index, frame_by, goal_by}
 use Rattle.omf_model.specs.ReadNames.{plain_seg_at}
-use Rattle.omf_model.specs.ReadData.{have_of, method_index_at, are_methods, check_plain, check_frame, check_goal, thread_frame, thread_goal, has_threads, fix_data_at}
+use Rattle.omf_model.specs.ReadFixups.{have_of, method_index_at, are_methods, check_plain, check_frame, check_goal, thread_frame, thread_goal, has_threads, fix_data_at}
 use Rattle.omf_model.specs.Spelling.{fix_data_form}
 use Rattle.omf_model.specs.Good.{GoodMethods, GoodFixData, IsPlainFrame, IsPlainGoal, HasMethod}
 use Rattle.omf_model.proofs.Takes.{Takes, then_takes, then_splits, Sound, Complete, given, done, ok_is, bind_ok, step, checked_step}

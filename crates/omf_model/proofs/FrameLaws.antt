@@ -7,13 +7,16 @@ use Rattle.std.proofs.lemmas.List.{take_at, drop_at, take-append-drop, length-ta
 use Rattle.lx_bytes.specs.Cursor.{Cursor}
 use Rattle.lx_bytes.specs.LittleEndian.{AreBytes, little, little_bytes}
 use Rattle.lx_bytes.proofs.Numbers.{little-little_bytes, little_bytes-little}
-use Rattle.omf_frame.specs.Frame.{record_sum, IsChecksum, BeginsWhole}
+use Rattle.omf_frame.specs.Frame.{record_sum, IsChecksum, BeginsWhole, BeginsRecord}
 use Rattle.omf_frame.specs.RecordType.{is_record_type}
+use Rattle.omf_frame.specs.Refusal.{IsCutOff, Refuses}
+use Rattle.omf_frame.specs.declared.frame.FrameRefusal.{FrameRefusal}
+use Rattle.omf_frame.specs.declared.frame.FrameRefusal.TheVariants as frames
 use Rattle.obj_types.specs.declared.refusal.OmfRefusal.{OmfRefusal}
-use Rattle.obj_types.specs.declared.refusal.OmfRefusal.TheVariants.{Short}
-use Rattle.omf_model.specs.ReadModule.{Frame, frame_of, is_whole, whole_at, frame_at, sum_of}
+use Rattle.obj_types.specs.declared.refusal.OmfRefusal.TheVariants.{Short, UnknownType, BadChecksum}
+use Rattle.omf_model.specs.ReadFrame.{Frame, frame_of, is_whole, whole_at, frame_at, sum_of, of_frame}
 use Rattle.omf_model.proofs.Takes.{done, ok_is, bind_ok, checked_step}
-use Rattle.omf_model.proofs.FieldLaws.{guard_so}
+use Rattle.omf_model.proofs.FieldLaws.{guard_so, chosen}
 use Rattle.omf_model.proofs.PlainLaws.{not_true}
 use Rattle.omf_model.proofs.FixLaws.{and_true}
 use Rattle.omf_model.proofs.DataLaws.{bool_cases}
@@ -149,3 +152,47 @@ pub frame_complete : (c : Cursor) (ty : ℕ) (body : List ℕ) (checksum : ℕ) 
 unfolding frame_at
 frame_complete c ty body checksum rest whole known right =
     rw (whole_complete c ty body checksum rest whole, known, right_again checksum (record_sum ty body checksum) right) refl
+
+-- ---- what is refused
+
+refusal_is : (x y : OmfRefusal) → (let r : Result Frame OmfRefusal = Err x in r) ≡ Err y → x ≡ y
+refusal_is x y e = cc
+
+pub whole_short : (c : Cursor) (f : OmfRefusal) → whole_at c ≡ Err f → Short c.at ≡ f
+unfolding whole_at
+whole_short c f e =
+    elim (chosen (is_whole (little (take 2 (drop 1 c.left))) c.left) (Ok (frame_of (little (take 2 (drop 1 c.left))) c)) (Err (Short c.at)) (Err f) e) [
+      | inl h ↦ absurd cc
+      | inr h ↦ refusal_is (Short c.at) f h.1
+    ]
+
+cut_off_by : (c : Cursor) → AreBytes c.left → IsCutOff c.left → (r : Result Frame OmfRefusal) → whole_at c ≡ r → whole_at c ≡ Err (Short c.at)
+cut_off_by c bytes cut (Ok x) e = absurd (cut _ _ _ _ (whole_sound c x bytes e).whole)
+cut_off_by c bytes cut (Err f) e = e ∙ ap (λ (q : OmfRefusal). Err q) (sym (whole_short c f e))
+
+pub cut_off : (c : Cursor) → AreBytes c.left → IsCutOff c.left → whole_at c ≡ Err (Short c.at)
+cut_off c bytes cut = cut_off_by c bytes cut (whole_at c) refl
+
+wrong_again : (checksum total : ℕ) → (((checksum ≡ 0) ⊎ (total ≡ 0)) → ⊥) → (eqb checksum 0 || eqb total 0) ≡ false
+wrong_again checksum total wrong = rw (ne_eqb checksum 0 (λ z. wrong (inl z)), ne_eqb total 0 (λ z. wrong (inr z))) refl
+
+unknown_again : (b : Bool) → (b ≡ true → ⊥) → b ≡ false
+unknown_again true h = absurd (h refl)
+unknown_again false h = refl
+
+at_place : {A : Type 0} (x y : ℕ) (f : ℕ → OmfRefusal) → x ≡ y → (let r : Result A OmfRefusal = Err (f y) in r) ≡ Err (f x)
+at_place x y f e = ap (λ (n : ℕ). Err (f n)) (sym e)
+
+-- The frame's refusal is what is read there.
+pub frame_refused : (c : Cursor) (refusal : FrameRefusal) → AreBytes c.left → Refuses c refusal → frame_at c ≡ Err (of_frame refusal)
+unfolding frame_at
+frame_refused c (frames.Short at) bytes h = rw (cut_off c bytes h.1) (at_place at c.at (λ n. Short n) h.0)
+frame_refused c (frames.UnknownType at ty) bytes h =
+    rw (whole_complete c ty h.1.body h.1.checksum h.1.rest h.1.whole, unknown_again (is_record_type ty) h.1.unknown) (at_place at c.at (λ n. UnknownType n ty) h.0)
+frame_refused c (frames.BadChecksum at total) bytes h =
+    rw (whole_complete c h.1.ty h.1.body h.1.checksum h.1.rest h.1.whole, h.1.known, wrong_again h.1.checksum (record_sum h.1.ty h.1.body h.1.checksum) h.1.wrong)
+      (λ i. Err (BadChecksum (sym h.0 i) (sym h.1.sum i)))
+
+-- A record that begins there is the frame that is read.
+pub frame_begun : (c : Cursor) (ty : ℕ) (body rest : List ℕ) (b : BeginsRecord c.left ty body rest) → frame_at c ≡ Ok (frame c.at ty body b.checksum rest)
+frame_begun c ty body rest b = frame_complete c ty body b.checksum rest b.whole b.known b.right

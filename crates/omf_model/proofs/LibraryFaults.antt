@@ -1,5 +1,5 @@
 -- The first fault of a library.
-use Rattle.std.proofs.Common.{◌≡◌, ◌≢◌, ℕ, zero, suc, ◌+◌, ◌<◌, ◌≤◌, Bool, true, false, cond, eqb, List, [], ◌∷◌, ◌++◌, length, take, drop, Result, Ok, Err, refl, sym, ap, subst, ◌∙◌, arith, inl, inr, length-append}
+use Rattle.std.proofs.Common.{◌≡◌, ℕ, zero, suc, ◌+◌, ◌≤◌, Bool, true, false, eqb, List, [], ◌∷◌, ◌++◌, length, take, drop, Result, Ok, Err, refl, sym, ap, subst, ◌∙◌, arith, inl, inr, length-append}
 use Rattle.std.specs.Prelude.{◌⊎◌}
 use Rattle.std.proofs.lemmas.Bool.{eqb-true, eqb-false, ne_eqb}
 use Rattle.std.proofs.lemmas.List.{nil_from_length, take-append-drop}
@@ -11,12 +11,12 @@ use Rattle.obj_types.specs.declared.refusal.OmfRefusal.{OmfRefusal}
 use Rattle.obj_types.specs.declared.refusal.OmfRefusal.TheVariants.{Short, BadField}
 use Rattle.obj_types.specs.declared.object.ObjModule.{ObjModule}
 use Rattle.omf_model.specs.Fields.{Reading, ◌>>=◌, check}
-use Rattle.omf_model.specs.ReadModule.{Frame, frame_of, is_whole, whole_at, frame_at, header_at, module_at, is_page_size, up_to_page, ends_library, modules_within, library_of}
-use Rattle.omf_model.specs.Object.{IsModule, IsHeader, Lib, FaultAt, PageFault, in_module, behind_module, LibraryFault, no_record, other_type, no_page, in_modules, behind}
-use Rattle.omf_model.proofs.Takes.{Takes, bytes_behind, given, done, ok_is, bind_ok}
+use Rattle.omf_model.specs.ReadFrame.{Frame, frame_of, is_whole, whole_at, frame_at}
+use Rattle.omf_model.specs.ReadModule.{header_at, module_at, is_page_size, up_to_page, ends_library, modules_within, library_of}
+use Rattle.omf_model.specs.Object.{Lib, FaultAt, PageFault, in_module, behind_module, LibraryFault, no_record, other_type, no_page, in_modules, behind}
+use Rattle.omf_model.proofs.Takes.{Takes, bytes_behind}
 use Rattle.omf_model.proofs.FieldLaws.{chosen}
-use Rattle.omf_model.proofs.DataLaws.{bool_cases}
-use Rattle.omf_model.proofs.FrameLaws.{frame, whole_sound, whole_complete}
+use Rattle.omf_model.proofs.FrameLaws.{frame, whole_short, cut_off, whole_sound, whole_complete}
 use Rattle.omf_model.proofs.PageLaws.{up_from}
 use Rattle.omf_model.proofs.ModuleLaws.{ModuleForm, bind_err, module_sound, module_complete, module_faults, module_meets}
 use Rattle.omf_model.proofs.LibraryLaws.{AreBytes-back, module_long, header_begins, header_first, header_place, whole_header, library_sound, library_complete}
@@ -39,23 +39,23 @@ pages_sound (suc most) size c f bytes few e =
     elim (chosen (ends_library c.left) (Ok []) (module_at c >>= λ m. modules_within most size (up_to_page size m.1) >>= λ others. Ok (m.0 ∷ others)) (Err f) e) [
       | inl h ↦ absurd cc
       | inr h ↦ elim (bind_err (module_at c) _ f h.1) [
-          | inl k ↦ in_module h.0 (module_faults c.at c.left f bytes k)
-          | inr k ↦
-              let m = k.0.0 in
-              let d = k.0.1 in
-              let t = (module_sound c m d bytes k.1).0 in
-              elim (bind_err (modules_within most size (up_to_page size d)) _ f k.2) [
-                | inl l ↦
-                    let shorter : length c.left ≡ length t.front + length d.left = ap (λ (xs : List ℕ). length xs) t.joined ∙ length-append t.front d.left in
-                    let cut : length (drop (up_from size d.at) d.left) ≤ length d.left =
-                          let parts : length (take (up_from size d.at) d.left ++ drop (up_from size d.at) d.left) ≡ length d.left = ap (λ (xs : List ℕ). length xs) (take-append-drop (up_from size d.at) d.left) in
-                          omega (arith, parts, length-append (take (up_from size d.at) d.left) (drop (up_from size d.at) d.left)) in
-                    let rest = pages_sound most size (up_to_page size d) f (AreBytes-back (take (up_from size d.at) d.left) (drop (up_from size d.at) d.left) 0 d.left (sym (take-append-drop (up_from size d.at) d.left)) (bytes_behind (ModuleForm m) c d t bytes)) (omega (arith, few, shorter, cut, module_long m t.front t.so)) l in
-                    let place : (let x : Cursor = record { at = d.at; left = d.left } in x) ≡ behind c.at t.front d.left = λ i. record { at = t.moved i; left = d.left } in
-                    behind_module m t.front d.left t.joined t.so (subst (λ (x : Cursor). PageFault size (up_to_page size x).at (up_to_page size x).left f) place rest)
-                | inr l ↦ absurd cc
-              ]
-        ]
+        | inl k ↦ in_module h.0 (module_faults c.at c.left f bytes k)
+        | inr k ↦
+            let m = k.0.0 in
+            let d = k.0.1 in
+            let t = (module_sound c m d bytes k.1).0 in
+            elim (bind_err (modules_within most size (up_to_page size d)) _ f k.2) [
+              | inl l ↦
+                  let shorter : length c.left ≡ length t.front + length d.left = ap (λ (xs : List ℕ). length xs) t.joined ∙ length-append t.front d.left in
+                  let cut : length (drop (up_from size d.at) d.left) ≤ length d.left =
+                  let parts : length (take (up_from size d.at) d.left ++ drop (up_from size d.at) d.left) ≡ length d.left = ap (λ (xs : List ℕ). length xs) (take-append-drop (up_from size d.at) d.left) in
+                  omega (arith, parts, length-append (take (up_from size d.at) d.left) (drop (up_from size d.at) d.left)) in
+                  let rest = pages_sound most size (up_to_page size d) f (AreBytes-back (take (up_from size d.at) d.left) (drop (up_from size d.at) d.left) 0 d.left (sym (take-append-drop (up_from size d.at) d.left)) (bytes_behind (ModuleForm m) c d t bytes)) (omega (arith, few, shorter, cut, module_long m t.front t.so)) l in
+                  let place : (let x : Cursor = record { at = d.at; left = d.left } in x) ≡ behind c.at t.front d.left = λ i. record { at = t.moved i; left = d.left } in
+                  behind_module m t.front d.left t.joined t.so (subst (λ (x : Cursor). PageFault size (up_to_page size x).at (up_to_page size x).left f) place rest)
+              | inr l ↦ absurd cc
+            ]
+      ]
     ]
 
 pub pages_complete : (most size : ℕ) (at : ℕ) (bytes : List ℕ) (f : OmfRefusal) → length bytes ≤ most → PageFault size at bytes f → modules_within most size (record { at = at; left = bytes }) ≡ Err f
@@ -67,6 +67,7 @@ pages_complete zero size at bytes f few (in_module opens h) =
   where
     failed : OmfRefusal → Reading ObjModule
     failed q = Err q
+
     refused : (x y : OmfRefusal) → failed x ≡ failed y → ◌≡◌ {A = Result (List ObjModule) OmfRefusal} (Err x) (Err y)
     refused x y e = let same : x ≡ y = cc in ap (λ (q : OmfRefusal). Err q) same
 pages_complete zero size at bytes f few (behind_module m body rest joined is h) =
@@ -78,23 +79,12 @@ pages_complete (suc most) size at bytes f few (behind_module m body rest joined 
     let opens : ends_library bytes ≡ false = subst (λ (xs : List ℕ). ends_library xs ≡ false) (sym joined) (header_first m body rest is) in
     let shorter : length bytes ≡ length body + length rest = ap (λ (xs : List ℕ). length xs) joined ∙ length-append body rest in
     let cut : length (drop (up_from size d.at) rest) ≤ length rest =
-          let parts : length (take (up_from size d.at) rest ++ drop (up_from size d.at) rest) ≡ length rest = ap (λ (xs : List ℕ). length xs) (take-append-drop (up_from size d.at) rest) in
-          omega (arith, parts, length-append (take (up_from size d.at) rest) (drop (up_from size d.at) rest)) in
+    let parts : length (take (up_from size d.at) rest ++ drop (up_from size d.at) rest) ≡ length rest = ap (λ (xs : List ℕ). length xs) (take-append-drop (up_from size d.at) rest) in
+    omega (arith, parts, length-append (take (up_from size d.at) rest) (drop (up_from size d.at) rest)) in
     let others = pages_complete most size (up_to_page size d).at (up_to_page size d).left f (omega (arith, few, shorter, cut, module_long m body is)) h in
     rw (opens, module_complete (record { at = at; left = bytes }) m d t tt, others) refl
 
 -- ---- the header
-
-refusal_is : (x y : OmfRefusal) → (let r : Result Frame OmfRefusal = Err x in r) ≡ Err y → x ≡ y
-refusal_is x y e = cc
-
-whole_short : (c : Cursor) (f : OmfRefusal) → whole_at c ≡ Err f → Short c.at ≡ f
-unfolding whole_at
-whole_short c f e =
-    elim (chosen (is_whole (little (take 2 (drop 1 c.left))) c.left) (Ok (frame_of (little (take 2 (drop 1 c.left))) c)) (Err (Short c.at)) (Err f) e) [
-      | inl h ↦ absurd cc
-      | inr h ↦ refusal_is (Short c.at) f h.1
-    ]
 
 not_both : (x : Frame) (f : OmfRefusal) → (let r : Result Frame OmfRefusal = Ok x in r) ≡ Err f → ⊥
 not_both x f e = absurd cc
@@ -104,10 +94,6 @@ whole_fault c f e = (λ ty checksum body rest w. not_both _ f (sym (found ty che
   where
     found : (ty checksum : ℕ) (body rest : List ℕ) → BeginsWhole c.left ty body checksum rest → whole_at c ≡ Ok (frame c.at ty body checksum rest)
     found ty checksum body rest w = whole_complete c ty body checksum rest w
-
-cut_off : (c : Cursor) → AreBytes c.left → IsCutOff c.left → (r : Result Frame OmfRefusal) → whole_at c ≡ r → whole_at c ≡ Err (Short c.at)
-cut_off c bytes cut (Ok x) e = absurd (cut _ _ _ _ (whole_sound c x bytes e).whole)
-cut_off c bytes cut (Err f) e = e ∙ ap (λ (q : OmfRefusal). Err q) (sym (whole_short c f e))
 
 check_fault : {B : Type 0} (b : Bool) (refusal : OmfRefusal) (g : Unit {0} → Result B OmfRefusal) (f : OmfRefusal) → (check b refusal >>= g) ≡ Err f → ((b ≡ false) × (refusal ≡ f)) ⊎ ((b ≡ true) × (g tt ≡ Err f))
 check_fault true refusal g f e = inr (refl, e)
@@ -132,18 +118,18 @@ library_faults bytes f are e =
                   | inr l ↦
                       let header = whole_header bytes x.contents x.checksum x.after.left is (subst (λ (n : ℕ). is_page_size n ≡ true) place l.0) in
                       let few : length x.after.left ≤ length bytes =
-                            let all : length bytes ≡ length (record_bytes 0xF0 x.contents x.checksum) + length x.after.left = ap (λ (xs : List ℕ). length xs) is.joined ∙ length-append (record_bytes 0xF0 x.contents x.checksum) x.after.left in
-                            omega (arith, all) in
+                      let all : length bytes ≡ length (record_bytes 0xF0 x.contents x.checksum) + length x.after.left = ap (λ (xs : List ℕ). length xs) is.joined ∙ length-append (record_bytes 0xF0 x.contents x.checksum) x.after.left in
+                      omega (arith, all) in
                       let rest = pages_sound (length bytes) x.after.at x.after f (AreBytes-back (record_bytes 0xF0 x.contents x.checksum) x.after.left 0 bytes is.joined are) few l.1 in
                       in_modules (4 + length x.contents) (record_bytes 0xF0 x.contents x.checksum) x.after.left is.joined header
-                        (subst (λ (n : ℕ). PageFault n n x.after.left f) place rest)
+                      (subst (λ (n : ℕ). PageFault n n x.after.left f) place rest)
                 ]
           ]
     ]
 
 pub library_meets : (bytes : List ℕ) (f : OmfRefusal) → AreBytes bytes → LibraryFault bytes f → library_of bytes ≡ Err f
 unfolding library_of
-library_meets bytes f are (no_record cut) = rw (cut_off (record { at = 0; left = bytes }) are cut (whole_at (record { at = 0; left = bytes })) refl) refl
+library_meets bytes f are (no_record cut) = rw (cut_off (record { at = 0; left = bytes }) are cut) refl
 library_meets bytes f are (other_type ty body checksum rest w other) = rw (whole_complete (record { at = 0; left = bytes }) ty body checksum rest w, ne_eqb ty 0xF0 other) refl
 library_meets bytes f are (no_page body checksum rest w bad) =
     let place : is_page_size (0 + 4 + length body) ≡ false = subst (λ (n : ℕ). is_page_size n ≡ false) (let e : 4 + length body ≡ 0 + 4 + length body = omega arith in e) bad in
@@ -152,8 +138,8 @@ library_meets bytes f are (in_modules size front back joined header fault) =
     let place = header_place size front header in
     let whole = header_begins bytes size front back joined header in
     let few : length back ≤ length bytes =
-          let all : length bytes ≡ length front + length back = ap (λ (xs : List ℕ). length xs) joined ∙ length-append front back in
-          omega (arith, all) in
+    let all : length bytes ≡ length front + length back = ap (λ (xs : List ℕ). length xs) joined ∙ length-append front back in
+    omega (arith, all) in
     rw (whole_complete (record { at = 0; left = bytes }) 0xF0 _ _ back whole, place, header.page, pages_complete (length bytes) size size back f few fault) refl
 
 pub library_fault_one : (bytes : List ℕ) (f g : OmfRefusal) → AreBytes bytes → LibraryFault bytes f → LibraryFault bytes g → f ≡ g

@@ -1,26 +1,24 @@
 -- Libraries: what is read is meant, and what is meant is read. "Microsoft LIB Library Format".
-use Rattle.std.proofs.Common.{◌≡◌, ℕ, zero, suc, ◌+◌, ◌-◌, ◌*◌, ◌%◌, ◌^◌, ◌<◌, ◌≤◌, Bool, true, false, cond, eqb, leb, List, [], ◌∷◌, ◌++◌, length, take, drop, get_or, Option, Some, None, Result, Ok, Err, refl, sym, ap, subst, ◌∙◌, arith, inl, inr, append_assoc, length-append}
-use Rattle.std.specs.Prelude.{◌⊎◌, ◌||◌}
+use Rattle.std.proofs.Common.{◌≡◌, ℕ, zero, suc, ◌+◌, ◌-◌, ◌*◌, ◌<◌, ◌≤◌, Bool, true, false, eqb, leb, List, [], ◌∷◌, ◌++◌, length, take, drop, get_or, Ok, refl, sym, ap, subst, ◌∙◌, arith, inl, inr, append_assoc, length-append}
+use Rattle.std.specs.Prelude.{◌||◌}
 use Rattle.std.specs.List.{list_any, AllByRecursion}
-use Rattle.std.proofs.lemmas.Bool.{cases_lt, eqb-true, leb-true, eq-eqb, lt-ltb}
+use Rattle.std.proofs.lemmas.Bool.{cases_lt, eqb-true, leb-true, eq-eqb}
 use Rattle.std.proofs.Math.Seq.{take-suc, take-length}
-use Rattle.std.proofs.lemmas.List.{append-nil, take_at, drop_at, take-append-drop, length-take, drop_all}
-use Rattle.lx_bytes.specs.Cursor.{Cursor, advance}
+use Rattle.std.proofs.lemmas.List.{drop_at, take-append-drop, length-take, drop_all}
+use Rattle.lx_bytes.specs.Cursor.{Cursor}
 use Rattle.lx_bytes.specs.LittleEndian.{AreBytes, little_bytes}
 use Rattle.lx_bytes.proofs.Numbers.{length-little_bytes}
 use Rattle.omf_frame.specs.Frame.{record_bytes, BeginsWhole}
-use Rattle.obj_types.specs.declared.refusal.OmfRefusal.{OmfRefusal}
-use Rattle.obj_types.specs.declared.refusal.OmfRefusal.TheVariants.{Short}
 use Rattle.obj_types.specs.declared.object.ObjModule.{ObjModule}
-use Rattle.omf_model.specs.Fields.{Reading, ◌>>=◌}
-use Rattle.omf_model.specs.Forms.{Form, Then, ◌then◌}
+use Rattle.omf_model.specs.Fields.{◌>>=◌}
 use Rattle.omf_model.specs.Record.{Record, header}
-use Rattle.omf_model.specs.Spelling.{Spells, SpellsAll}
-use Rattle.omf_model.specs.ReadModule.{whole_at, frame_at, header_at, module_at, is_page_size, up_to_page, ends_library, modules_within, library_of}
+use Rattle.omf_model.specs.Spelling.{SpellsAll}
+use Rattle.omf_model.specs.ReadFrame.{whole_at, frame_at}
+use Rattle.omf_model.specs.ReadModule.{header_at, module_at, is_page_size, up_to_page, ends_library, modules_within, library_of}
 use Rattle.omf_model.specs.Object.{IsModule, IsPaged, ArePaged, IsHeader, Lib}
-use Rattle.omf_model.proofs.Takes.{Takes, cursor_is, bytes_behind, Sound, given, done, ok_is, bind_ok, step, checked_step}
-use Rattle.omf_model.proofs.FieldLaws.{Free, chosen}
-use Rattle.omf_model.proofs.FrameLaws.{frame, whole_sound, whole_complete}
+use Rattle.omf_model.proofs.Takes.{Takes, bytes_behind, done, ok_is, bind_ok, step, checked_step}
+use Rattle.omf_model.proofs.FieldLaws.{chosen}
+use Rattle.omf_model.proofs.FrameLaws.{whole_sound, whole_complete}
 use Rattle.omf_model.proofs.DataLaws.{bool_cases}
 use Rattle.omf_model.proofs.PageLaws.{up_from, IsMultiple, up_below, up_multiple, up_one, multiple_sum, up_behind}
 use Rattle.omf_model.proofs.RecordLaws.{by_two, spelled_long}
@@ -61,11 +59,12 @@ paged size c d m some at_page t long =
     let len : length fill ≡ k = omega (arith, long, length-take k d.left) in
     let same : k ≡ up_from size n = ap (λ (x : ℕ). up_from size x) t.moved ∙ up_behind size c.at n at_page in
     let up : IsMultiple size (n + up_from size n) = up_multiple size n some in
-    let whole : length (t.front ++ fill) ≡ up.times * size = length-append t.front fill ∙ (let e : n + length fill ≡ n + up_from size n = omega (arith, len, same) in e) ∙ up.is in
-    (t.front ++ fill,
-     t.joined ∙ ap (λ (xs : List ℕ). t.front ++ xs) (sym (take-append-drop k d.left)) ∙ sym (append_assoc t.front fill (drop k d.left)),
-     record { body = t.front; fill = fill; joined = refl; is_module = t.so; fewer = (let e : length fill < size = omega (arith, len, up_below size d.at some) in e); pages = up.times; whole = whole },
-     subst (λ (x : ℕ). IsMultiple size x) (let e : c.at + (n + up_from size n) ≡ d.at + k = omega (arith, t.moved, same) in e) (multiple_sum size c.at (n + up_from size n) at_page up))
+    let whole : length (t.front ++ fill) ≡ up.times * size = length-append t.front fill ∙ (let e : n + length fill ≡ n + up_from size n = omega (arith, len, same) in e) ∙ up.is in (
+      t.front ++ fill,
+      t.joined ∙ ap (λ (xs : List ℕ). t.front ++ xs) (sym (take-append-drop k d.left)) ∙ sym (append_assoc t.front fill (drop k d.left)),
+      record { body = t.front; fill = fill; joined = refl; is_module = t.so; fewer = (let e : length fill < size = omega (arith, len, up_below size d.at some) in e); pages = up.times; whole = whole },
+      subst (λ (x : ℕ). IsMultiple size x) (let e : c.at + (n + up_from size n) ≡ d.at + k = omega (arith, t.moved, same) in e) (multiple_sum size c.at (n + up_from size n) at_page up),
+    )
 
 pub AreBytes-back : (front back : List ℕ) (i : ℕ) (bytes : List ℕ) → bytes ≡ front ++ back → AreBytes bytes → AreBytes back
 AreBytes-back front back i bytes joined h =
@@ -83,7 +82,7 @@ modules_sound (suc most) size c ms some at_page bytes e =
           let p = paged size c d m some at_page t (fill_fits most size d a.0 a.1) in
           let rest = modules_sound most size (up_to_page size d) a.0 some p.3 (AreBytes-back (take (up_from size d.at) d.left) (drop (up_from size d.at) d.left) 0 d.left (sym (take-append-drop (up_from size d.at) d.left)) b) a.1 in
           subst (λ (qs : List ObjModule). ArePaged size qs c.left) (ok_is (m ∷ a.0) ms a.2)
-            (record { front = p.0; back = drop (up_from size d.at) d.left; joined = p.1; first_so = p.2; second_so = rest })
+          (record { front = p.0; back = drop (up_from size d.at) d.left; joined = p.1; first_so = p.2; second_so = rest })
     ]
 
 -- ---- the header
@@ -124,11 +123,13 @@ library_sound bytes ms are e =
     let rest = modules_sound (length bytes) size f.after ms (omega (arith, bounds.0)) (record { times = 1; is = omega arith }) (AreBytes-back (record_bytes f.ty f.contents f.checksum) f.after.left 0 bytes w.whole.joined are) k2.1 in
     let word : length f.contents + 1 ≡ size - 3 = omega (arith, w.behind) in
     let header_is : record_bytes f.ty f.contents f.checksum ≡ 0xF0 ∷ little_bytes 2 (size - 3) ++ (f.contents ++ f.checksum ∷ []) =
-          append_assoc (f.ty ∷ little_bytes 2 (length f.contents + 1)) f.contents (f.checksum ∷ []) ∙ (λ i. eqb-true f.ty 0xF0 k1.0 i ∷ little_bytes 2 (word i) ++ (f.contents ++ f.checksum ∷ [])) in
+    append_assoc (f.ty ∷ little_bytes 2 (length f.contents + 1)) f.contents (f.checksum ∷ []) ∙ (λ i. eqb-true f.ty 0xF0 k1.0 i ∷ little_bytes 2 (word i) ++ (f.contents ++ f.checksum ∷ [])) in
     record {
       size = size;
       paged = record {
-        front = record_bytes f.ty f.contents f.checksum; back = f.after.left; joined = w.whole.joined;
+        front = record_bytes f.ty f.contents f.checksum;
+        back = f.after.left;
+        joined = w.whole.joined;
         first_so = record { contents = f.contents ++ f.checksum ∷ []; joined = header_is; whole = omega (arith, w.behind, length-append f.contents (f.checksum ∷ [])); page = k2.0 };
         second_so = rest;
       };
@@ -142,7 +143,7 @@ header_first m body rest w =
     let s = all.first_so in
     let bytes_is : body ++ rest ≡ record_bytes s.ty s.contents s.framed.checksum ++ [] ++ all.back ++ rest = ap (λ (xs : List ℕ). xs ++ rest) (all.joined ∙ ap (λ (xs : List ℕ). xs ++ all.back) s.framed.whole.joined) in
     subst (λ (xs : List ℕ). ends_library xs ≡ false) (sym bytes_is)
-      (by_two 0x80 0x82 false false s.ty s.wide s.is_type (λ ty wide. eqb ty 0xF1 ≡ false) refl refl)
+    (by_two 0x80 0x82 false false s.ty s.wide s.is_type (λ ty wide. eqb ty 0xF1 ≡ false) refl refl)
 
 pub module_long : (m : ObjModule) (body : List ℕ) → IsModule body m → 1 ≤ length body
 module_long m body w =
@@ -192,7 +193,7 @@ header_begins bytes size front back joined h =
     let word : size - 3 ≡ length (take (size - 4) h.contents) + 1 = omega (arith, body, bounds.0) in
     record {
       joined = joined ∙ ap (λ (xs : List ℕ). xs ++ back) (h.joined ∙ (λ i. 0xF0 ∷ little_bytes 2 (word i) ++ sym parts i)
-        ∙ sym (append_assoc (0xF0 ∷ little_bytes 2 (length (take (size - 4) h.contents) + 1)) (take (size - 4) h.contents) (get_or h.contents (size - 4) 0 ∷ [])));
+          ∙ sym (append_assoc (0xF0 ∷ little_bytes 2 (length (take (size - 4) h.contents) + 1)) (take (size - 4) h.contents) (get_or h.contents (size - 4) 0 ∷ [])));
       counted = omega (arith, body, bounds.1);
     }
 
@@ -223,7 +224,7 @@ library_complete bytes ms l =
     let place : 0 + 4 + length (take (l.size - 4) h.contents) ≡ l.size = omega (arith, body, bounds.0) in
     let all : length bytes ≡ length l.paged.front + length l.paged.back = ap (λ (xs : List ℕ). length xs) l.paged.joined ∙ length-append l.paged.front l.paged.back in
     let modules : modules_within (length bytes) l.size (record { at = l.size; left = l.paged.back }) ≡ Ok ms =
-          modules_complete ms (length bytes) l.size (record { at = l.size; left = l.paged.back }) (omega (arith, bounds.0)) (record { times = 1; is = omega arith }) l.paged.second_so (omega (arith, all, paged_long l.size ms l.paged.back l.paged.second_so)) in
+    modules_complete ms (length bytes) l.size (record { at = l.size; left = l.paged.back }) (omega (arith, bounds.0)) (record { times = 1; is = omega arith }) l.paged.second_so (omega (arith, all, paged_long l.size ms l.paged.back l.paged.second_so)) in
     rw (whole_complete (record { at = 0; left = bytes }) 0xF0 (take (l.size - 4) h.contents) (get_or h.contents (l.size - 4) 0) l.paged.back whole, place, h.page, modules) refl
 
 pub library_one : (bytes : List ℕ) (ms ns : List ObjModule) → Lib bytes ms → Lib bytes ns → ms ≡ ns

@@ -16,7 +16,8 @@ use Rattle.omf_model.specs.Add.{add}
 use Rattle.omf_model.specs.Parts.{parts_of, module_of}
 use Rattle.omf_model.specs.Good.{EachGood}
 use Rattle.omf_model.specs.Spelling.{Spells, SpellsAll}
-use Rattle.omf_model.specs.ReadModule.{whole_at, frame_at, record_at, header_at, is_end, rest_within, module_at, object_of}
+use Rattle.omf_model.specs.ReadFrame.{whole_at, frame_at}
+use Rattle.omf_model.specs.ReadModule.{record_at, header_at, is_end, rest_within, module_at, object_of}
 use Rattle.omf_model.specs.Object.{IsOpen, IsModule, Obj, FaultAt, at_header, after_records, FirstFault}
 use Rattle.omf_model.proofs.Takes.{Takes, bytes_behind, then_takes, then_splits, takes_nothing, nothing_takes, Sound, Complete, given, done, ok_is, bind_ok, step}
 use Rattle.omf_model.proofs.FieldLaws.{Free, chosen}

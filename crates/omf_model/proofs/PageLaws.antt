@@ -1,5 +1,5 @@
 -- Multiples of a page's size.
-use Rattle.std.proofs.Common.{◌≡◌, ℕ, zero, suc, ◌+◌, ◌-◌, ◌*◌, ◌/◌, ◌%◌, ◌<◌, ◌≤◌, refl, sym, ap, subst, ◌∙◌, arith, inl, inr}
+use Rattle.std.proofs.Common.{◌≡◌, ℕ, zero, suc, ◌+◌, ◌-◌, ◌*◌, ◌/◌, ◌%◌, ◌<◌, ◌≤◌, refl, sym, ap, ◌∙◌, arith, inl, inr}
 use Rattle.std.proofs.Math.Nat.{mod_self, mod-lt, mod-add-div', mod-eq_of_lt, add-mul, mul-le-mul_left, mul_comm, mul-add-mod_self_right}
 use Rattle.std.proofs.lemmas.Bool.{cases_lt, cases_eq}
 
@@ -39,12 +39,12 @@ up_one size n f k a b small little =
     elim (cases_lt a.times b.times) [
       | inl lt ↦ absurd (omega (arith, a.is, b.is, grows a.times b.times lt, small, little))
       | inr le ↦ elim (cases_lt b.times a.times) [
-          | inl gt ↦ absurd (omega (arith, a.is, b.is, grows b.times a.times gt, small, little))
-          | inr ge ↦
-              let same : a.times ≡ b.times = omega (arith, le, ge) in
-              let both : n + f ≡ n + k = a.is ∙ ap (λ (t : ℕ). t * size) same ∙ sym b.is in
-              omega (arith, both)
-        ]
+        | inl gt ↦ absurd (omega (arith, a.is, b.is, grows b.times a.times gt, small, little))
+        | inr ge ↦
+            let same : a.times ≡ b.times = omega (arith, le, ge) in
+            let both : n + f ≡ n + k = a.is ∙ ap (λ (t : ℕ). t * size) same ∙ sym b.is in
+            omega (arith, both)
+      ]
     ]
   where
     grows : (x y : ℕ) → x < y → x * size + size ≤ y * size

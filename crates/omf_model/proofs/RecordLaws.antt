@@ -12,7 +12,8 @@ use Rattle.obj_types.specs.declared.refusal.OmfRefusal.{OmfRefusal}
 use Rattle.obj_types.specs.declared.parts.ObjParts.{ObjParts}
 use Rattle.omf_model.specs.Forms.{Form, anything, name}
 use Rattle.omf_model.specs.Record.{Record, header, passed, comment, default_library, impdef, expdef, lnames, segdef, grpdef, pubdef, extdef, comdef, ledata, lidata, fixupp, modend}
-use Rattle.omf_model.specs.ReadModule.{Frame, frame_at, contents_of, is_wide, reader_of, record_at, header_at}
+use Rattle.omf_model.specs.ReadFrame.{Frame, frame_at}
+use Rattle.omf_model.specs.ReadModule.{contents_of, is_wide, reader_of, record_at, header_at}
 use Rattle.omf_model.specs.Spelling.{pair, types_of, contents_form, Spells}
 use Rattle.omf_model.specs.Good.{GoodAfter}
 use Rattle.omf_model.proofs.Takes.{Takes, cursor_is, then_left, left_splits, Sound, Complete, given, ok_is, bind_ok, step, checked_step}

@@ -17,7 +17,8 @@ use Rattle.omf_model.specs.Record.{Record, header, passed, comment, default_libr
 use Rattle.omf_model.specs.Items.{name_with, is_debug_seg, communal_of}
 use Rattle.omf_model.specs.Fixups.{frame_meant, goal_meant, has_data, fixes_by}
 use Rattle.omf_model.specs.ReadNames.{are_attributes}
-use Rattle.omf_model.specs.ReadData.{data_so_far, touches, have_of, are_methods, is_thread_method, is_location, are_apart}
+use Rattle.omf_model.specs.ReadData.{data_so_far, touches}
+use Rattle.omf_model.specs.ReadFixups.{have_of, are_methods, is_thread_method, is_location, are_apart}
 use Rattle.omf_model.specs.Add.{add_field}
 use Rattle.omf_model.specs.Parts.{parts_of}
 

@@ -8,10 +8,13 @@ pub mod Items
 pub mod Parts
 pub mod Add
 pub mod ReadNames
+pub mod ReadComments
 pub mod ReadData
+pub mod ReadFixups
 pub mod Forms
 pub mod Spelling
 pub mod Good
+pub mod ReadFrame
 pub mod ReadModule
 pub mod Object
 pub mod Examples

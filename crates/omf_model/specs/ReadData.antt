@@ -1,32 +1,22 @@
 -- Reading data, fixups and a module's end after the records before them.
 -- "A0h LEDATA", "A2h LIDATA", "9Ch FIXUPP", "8Ah MODEND".
-use Rattle.std.specs.Prelude.{ℕ, zero, suc, ◌+◌, ◌%◌, min, Bool, true, false, ◌&&◌, ◌||◌, not, List, [], ◌∷◌, length, Option, Some, None, Result, Ok, Err, nat_lt, nat_le, ◌==◌, if◌then◌else◌, is_some, unwrap_or, option_map, get_or}
+use Rattle.std.specs.Prelude.{ℕ, ◌+◌, min, Bool, ◌&&◌, not, List, length, Result, Ok, nat_lt, nat_le, ◌==◌, if◌then◌else◌, unwrap_or, option_map}
 use Rattle.std.specs.List.{list_any, sum_by}
 use Rattle.lx_bytes.specs.Cursor.{Cursor}
-use Rattle.obj_types.specs.declared.limits.TheConstants.{MAX_DATA, MAX_FIXES}
+use Rattle.obj_types.specs.declared.limits.TheConstants.{MAX_DATA}
 use Rattle.obj_types.specs.declared.refusal.OmfRefusal.{OmfRefusal}
-use Rattle.obj_types.specs.declared.refusal.OmfRefusal.TheVariants.{Short, BadField, BadIndex, DataRange, NoThread, BadLocation, NoData, FixOverlap, DataOverFix, TooMany}
+use Rattle.obj_types.specs.declared.refusal.OmfRefusal.TheVariants.{DataRange, DataOverFix, TooMany}
 use Rattle.obj_types.specs.declared.object.Seg.{Seg}
 use Rattle.obj_types.specs.declared.object.Piece.{Piece}
-use Rattle.obj_types.specs.declared.object.Frame.{Frame}
-use Rattle.obj_types.specs.declared.object.Frame.TheVariants as frames
-use Rattle.obj_types.specs.declared.object.Goal.{Goal}
-use Rattle.obj_types.specs.declared.object.Goal.TheVariants as goals
 use Rattle.obj_types.specs.declared.object.FixAt.{FixAt}
-use Rattle.obj_types.specs.declared.parts.LastData.{LastData}
-use Rattle.obj_types.specs.declared.parts.LastData.TheVariants as datas
-use Rattle.obj_types.specs.declared.parts.Threads.{Threads}
 use Rattle.obj_types.specs.declared.parts.ObjParts.{ObjParts}
 use Rattle.obj_types.specs.Items.{item}
-use Rattle.obj_types.specs.Location.{location_len, has_selector, end_of, meets}
+use Rattle.obj_types.specs.Location.{end_of}
 use Rattle.omf_model.specs.Blocks.{Blocks, expanded_len}
-use Rattle.omf_model.specs.Fields.{Reading, ◌>>=◌, check, width, byte_at, number_at, index_at, index_below, where_so}
-use Rattle.omf_model.specs.Record.{Record, ledata, lidata, fixupp, modend, FixData, FixField, thread, fixup, by_frame_thread, frame_bits, by_target_thread, target_bits, has_displacement, is_frame_thread, thread_method, location_of, offset_of, is_self_relative, has_start}
+use Rattle.omf_model.specs.Fields.{◌>>=◌, check, width, number_at, index_below}
+use Rattle.omf_model.specs.Record.{Record, ledata, lidata}
 use Rattle.omf_model.specs.ReadBlocks.{blocks_at}
-use Rattle.omf_model.specs.ReadNames.{plain_seg_at}
-use Rattle.omf_model.specs.Fixups.{is_frame_method, is_target_method, has_index, frame_meant, goal_meant, has_data, fixes_by}
 use Rattle.omf_model.specs.Items.{is_debug_seg}
-use Rattle.omf_model.specs.Add.{add_field}
 
 -- ---- data
 
@@ -67,131 +57,3 @@ lidata_at wide p at c = do
   blocks ← blocks_at wide offset.1
   _ ← judge_data p at seg.1.at seg.0 offset.0 (counted_len blocks)
   Ok (lidata wide seg.0 offset.0 blocks)
-
--- ---- what stands behind a fix byte
-
--- How many items of a method's kind there are.
-abbrev pub have_of : ObjParts → ℕ → ℕ
-have_of p m = if m == 0 then length p.module.segs else if m == 1 then length p.module.groups else length p.module.exts
-
--- An index of a method's kind; of a fixup on data of a debug segment it may be any.
-abbrev pub method_index_at : Bool → ObjParts → ℕ → Cursor → Reading ℕ
-method_index_at judged p m c = if not judged then index_at c else if m == 0 then plain_seg_at p c else index_below (have_of p m) c
-
-abbrev pub are_methods : ℕ → Bool
-are_methods fix = (by_frame_thread fix || is_frame_method (frame_bits fix)) && (by_target_thread fix || is_target_method (target_bits fix))
-
-abbrev pub are_set : Threads → FixData → Bool
-are_set ts d = is_some (frame_meant ts d) && is_some (goal_meant ts d)
-
--- The debug segment that a thread names is a fault of the fix byte.
-abbrev pub check_plain : Bool → ObjParts → ℕ → ℕ → Result (Unit {0}) OmfRefusal
-check_plain judged p at i = check (not judged || not (is_debug_seg p.module.segs i)) (BadIndex at i (length p.module.segs))
-
-abbrev pub check_frame : Bool → ObjParts → ℕ → Option Frame → Result (Unit {0}) OmfRefusal
-check_frame judged p at None = Ok tt
-check_frame judged p at (Some (frames.Seg i)) = check_plain judged p at i
-check_frame judged p at (Some (frames.Group i)) = Ok tt
-check_frame judged p at (Some (frames.Ext i)) = Ok tt
-check_frame judged p at (Some frames.Here) = Ok tt
-check_frame judged p at (Some frames.OfTarget) = Ok tt
-
-abbrev pub check_goal : Bool → ObjParts → ℕ → Option Goal → Result (Unit {0}) OmfRefusal
-check_goal judged p at None = Ok tt
-check_goal judged p at (Some (goals.Seg i)) = check_plain judged p at i
-check_goal judged p at (Some (goals.Group i)) = Ok tt
-check_goal judged p at (Some (goals.Ext i)) = Ok tt
-
--- The threads that a fix byte names, where it names any.
-abbrev pub thread_frame : ObjParts → ℕ → Option Frame
-thread_frame p fix = if by_frame_thread fix then get_or p.threads.frame (frame_bits fix % 4) None else None
-
-abbrev pub thread_goal : ObjParts → ℕ → Option Goal
-thread_goal p fix = if by_target_thread fix then get_or p.threads.goal (target_bits fix) None else None
-
-abbrev pub has_threads : ObjParts → ℕ → Bool
-has_threads p fix = (not (by_frame_thread fix) || is_some (thread_frame p fix)) && (not (by_target_thread fix) || is_some (thread_goal p fix))
-
-unfoldable pub fix_data_at : Bool → Bool → ObjParts → Cursor → Reading FixData
-fix_data_at judged wide p c = do
-  fix ← byte_at c
-  _ ← check (has_threads p fix.0) (NoThread c.at)
-  _ ← check (are_methods fix.0) (BadField c.at)
-  _ ← check_frame judged p c.at (thread_frame p fix.0)
-  _ ← check_goal judged p c.at (thread_goal p fix.0)
-  frame ← where_so (not (by_frame_thread fix.0) && has_index (frame_bits fix.0)) (method_index_at judged p (frame_bits fix.0)) fix.1
-  target ← where_so (not (by_target_thread fix.0)) (method_index_at judged p (target_bits fix.0)) frame.1
-  displacement ← where_so (has_displacement fix.0) (number_at (width wide)) target.1
-  Ok (record { fix = fix.0; frame = frame.0; target = target.0; displacement = displacement.0 }, displacement.1)
-
--- ---- the fields of FIXUPP
-
-abbrev pub is_thread_method : ℕ → Bool
-is_thread_method b = if is_frame_thread b then is_frame_method (thread_method b) else is_target_method (thread_method b)
-
--- A THREAD may name a debug segment.
-unfoldable pub thread_at : ObjParts → ℕ → ℕ → Cursor → Reading FixField
-thread_at p at b c = do
-  _ ← check (is_thread_method b) (BadField at)
-  index ← where_so (has_index (thread_method b)) (index_below (have_of p (thread_method b))) c
-  Ok (thread b index.0, index.1)
-
-abbrev pub is_dropped : LastData → Bool
-is_dropped datas.None = false
-is_dropped (datas.Straight seg start len) = false
-is_dropped (datas.Blocks seg start wide body) = false
-is_dropped datas.Dropped = true
-
--- A location that there is, and that is not self-relative where it has a selector.
-abbrev pub is_location : ℕ → Bool
-is_location high = nat_lt 0 (location_len (location_of high)) && not (is_self_relative high && has_selector (location_of high))
-
--- The second byte of a field of two bytes that began at a place.
-abbrev pub second_of : ℕ → Cursor → Reading ℕ
-second_of at c = if length c.left == 0 then Err (Short at) else byte_at c
-
--- New fixes share no byte with earlier ones.
-abbrev pub are_apart : List FixAt → List FixAt → Bool
-are_apart earlier new = not (list_any (λ g. list_any (λ f. meets f g) earlier) new)
-
--- The conditions on a fixup's place: within the last data record's data, apart from earlier locations,
--- and within the module's limit.
-unfoldable pub judge_fixup : ObjParts → ℕ → ℕ → FixField → ℕ → ℕ → Result (Unit {0}) OmfRefusal
-judge_fixup p record_at at field high low = do
-  _ ← check (has_data p.last (offset_of high low) (location_len (location_of high))) (NoData at)
-  _ ← check (are_apart p.module.fixes (fixes_by p.last p.threads field)) (FixOverlap at)
-  check (nat_le (length p.module.fixes + length (fixes_by p.last p.threads field)) MAX_FIXES) (TooMany record_at)
-
--- A fixup that begins with the byte high at a place. Of one on data of a debug segment its thread and its
--- methods alone are judged.
-unfoldable pub fixup_at : Bool → ObjParts → ℕ → ℕ → ℕ → Cursor → Reading FixField
-fixup_at wide p record_at at high c = do
-  _ ← check (is_dropped p.last || is_location high) (BadLocation at (location_of high))
-  low ← second_of at c
-  what ← fix_data_at (not (is_dropped p.last)) wide p low.1
-  _ ← if is_dropped p.last then Ok tt else judge_fixup p record_at at (fixup high low.0 what.0) high low.0
-  Ok (fixup high low.0 what.0, what.1)
-
-unfoldable pub field_at : Bool → ObjParts → ℕ → Cursor → Reading FixField
-field_at wide p record_at c = do
-  first ← byte_at c
-  if nat_lt first.0 128 then thread_at p c.at first.0 first.1 else fixup_at wide p record_at c.at first.0 first.1
-
--- Each field is read after those before it.
-unfoldable pub fields_within : Bool → ℕ → ℕ → ObjParts → Cursor → Result (List FixField) OmfRefusal
-fields_within wide record_at zero p c = Ok []
-fields_within wide record_at (suc most) p c = if length c.left == 0 then Ok [] else do
-  first ← field_at wide p record_at c
-  others ← fields_within wide record_at most (add_field p first.0) first.1
-  Ok (first.0 ∷ others)
-
-unfoldable pub fixupp_at : Bool → ObjParts → ℕ → Cursor → Result Record OmfRefusal
-fixupp_at wide p record_at c = fields_within wide record_at (length c.left) p c >>= λ fields. Ok (fixupp fields)
-
--- ---- the end
-
-unfoldable pub modend_at : Bool → ObjParts → Cursor → Result Record OmfRefusal
-modend_at wide p c = do
-  kind ← byte_at c
-  start ← where_so (has_start kind.0) (fix_data_at true wide p) kind.1
-  Ok (modend kind.0 start.0)

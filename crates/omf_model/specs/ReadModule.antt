@@ -1,61 +1,21 @@
 -- Reading an object file and a library from their first byte on.
 -- "Record Format"; "Object Record Order"; "Microsoft LIB Library Format".
-use Rattle.std.specs.Prelude.{ℕ, zero, suc, ◌+◌, ◌-◌, ◌%◌, Bool, true, false, ◌&&◌, ◌||◌, not, List, [], ◌∷◌, length, take, drop, slice_index, Result, Ok, Err, nat_le, ◌==◌, if◌then◌else◌}
+use Rattle.omf_model.specs.ReadFrame.{Frame, frame_at, whole_at}
+use Rattle.std.specs.Prelude.{ℕ, zero, suc, ◌+◌, ◌-◌, ◌%◌, Bool, true, false, ◌||◌, List, [], ◌∷◌, length, Result, Ok, Err, ◌==◌, if◌then◌else◌}
 use Rattle.std.specs.List.{list_any}
 use Rattle.lx_bytes.specs.Cursor.{Cursor, advance}
-use Rattle.lx_bytes.specs.LittleEndian.{little}
-use Rattle.omf_frame.specs.RecordType.{is_record_type}
-use Rattle.omf_frame.specs.Frame.{record_sum}
 use Rattle.obj_types.specs.declared.refusal.OmfRefusal.{OmfRefusal}
-use Rattle.obj_types.specs.declared.refusal.OmfRefusal.TheVariants.{Short, BadField, BadChecksum, UnknownType}
+use Rattle.obj_types.specs.declared.refusal.OmfRefusal.TheVariants.{Short, BadField, UnknownType}
 use Rattle.obj_types.specs.declared.object.ObjModule.{ObjModule}
 use Rattle.obj_types.specs.declared.parts.ObjParts.{ObjParts}
 use Rattle.obj_types.specs.Fresh.{fresh_parts}
 use Rattle.omf_model.specs.Fields.{Reading, ◌>>=◌, check, name_at}
 use Rattle.omf_model.specs.Record.{Record, header, passed, modend}
-use Rattle.omf_model.specs.ReadNames.{lnames_at, segdef_at, grpdef_at, pubdef_at, extdef_at, comdef_at, coment_at}
-use Rattle.omf_model.specs.ReadData.{ledata_at, lidata_at, fixupp_at, modend_at}
+use Rattle.omf_model.specs.ReadNames.{lnames_at, segdef_at, grpdef_at, pubdef_at, extdef_at, comdef_at}
+use Rattle.omf_model.specs.ReadComments.{coment_at}
+use Rattle.omf_model.specs.ReadData.{ledata_at, lidata_at}
+use Rattle.omf_model.specs.ReadFixups.{fixupp_at, modend_at}
 use Rattle.omf_model.specs.Add.{add}
-
--- ---- records
-
--- A record's bytes: its first place, its type, its contents, its checksum byte, and what is behind it.
-pub record Frame : Type 0 where
-  pub at : ℕ
-  pub ty : ℕ
-  pub contents : List ℕ
-  pub checksum : ℕ
-  pub after : Cursor
-
--- The bytes of a record with this length word: a type byte, the word, contents and a checksum byte.
-abbrev pub frame_of : ℕ → Cursor → Frame
-frame_of len c = record {
-  at = c.at;
-  ty = slice_index c.left 0;
-  contents = take (len - 1) (drop 3 c.left);
-  checksum = slice_index c.left (len + 2);
-  after = advance (3 + len) c;
-}
-
--- A record that is cut off, or one of length 0, is Short at its first byte.
-abbrev pub is_whole : ℕ → List ℕ → Bool
-is_whole len bytes = nat_le 3 (length bytes) && not (len == 0) && nat_le (3 + len) (length bytes)
-
-unfoldable pub whole_at : Cursor → Result Frame OmfRefusal
-whole_at c =
-    let len : ℕ = little (take 2 (drop 1 c.left)) in
-    if is_whole len c.left then Ok (frame_of len c) else Err (Short c.at)
-
-abbrev pub sum_of : Frame → ℕ
-sum_of f = record_sum f.ty f.contents f.checksum
-
--- The next record's bytes: whole, of a known type, and with all bytes' sum 0 modulo 256 or a checksum 0.
-unfoldable pub frame_at : Cursor → Result Frame OmfRefusal
-frame_at c = do
-  f ← whole_at c
-  _ ← check (is_record_type f.ty) (UnknownType c.at f.ty)
-  _ ← check (f.checksum == 0 || sum_of f == 0) (BadChecksum c.at (sum_of f))
-  Ok f
 
 -- ---- contents
 

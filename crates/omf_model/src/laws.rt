@@ -17,8 +17,7 @@ pub fn object_is_read()
     ensures only { (bytes : List ℕ) (m : ObjModule) → Obj bytes m → object_of bytes ≡ Ok m }
     ensures refused { (bytes : List ℕ) (f : OmfRefusal) → AreBytes bytes → object_of bytes ≡ Err f → FirstFault bytes f }
     ensures first { (bytes : List ℕ) (f : OmfRefusal) → FirstFault bytes f → object_of bytes ≡ Err f }
-{
-}
+{}
 
 /// Bytes are an object file of one module, or have one first fault.
 pub fn object_is_one()
@@ -26,8 +25,7 @@ pub fn object_is_one()
     ensures fault { (bytes : List ℕ) (f g : OmfRefusal) → FirstFault bytes f → FirstFault bytes g → f ≡ g }
     ensures either { (bytes : List ℕ) → AreBytes bytes → ((m : ObjModule) × Obj bytes m) ⊎ ((f : OmfRefusal) × FirstFault bytes f) }
     ensures apart { (bytes : List ℕ) (m : ObjModule) (f : OmfRefusal) → Obj bytes m → FirstFault bytes f → ⊥ }
-{
-}
+{}
 
 /// Reading from left to right gives what a library means, and refuses it by its first fault.
 pub fn library_is_read()
@@ -35,8 +33,7 @@ pub fn library_is_read()
     ensures only { (bytes : List ℕ) (ms : List ObjModule) → Lib bytes ms → library_of bytes ≡ Ok ms }
     ensures refused { (bytes : List ℕ) (f : OmfRefusal) → AreBytes bytes → library_of bytes ≡ Err f → LibraryFault bytes f }
     ensures first { (bytes : List ℕ) (f : OmfRefusal) → AreBytes bytes → LibraryFault bytes f → library_of bytes ≡ Err f }
-{
-}
+{}
 
 /// Bytes are a library of one list of modules, or have one first fault.
 pub fn library_is_one()
@@ -44,18 +41,15 @@ pub fn library_is_one()
     ensures fault { (bytes : List ℕ) (f g : OmfRefusal) → AreBytes bytes → LibraryFault bytes f → LibraryFault bytes g → f ≡ g }
     ensures either { (bytes : List ℕ) → AreBytes bytes → ((ms : List ObjModule) × Lib bytes ms) ⊎ ((f : OmfRefusal) × LibraryFault bytes f) }
     ensures apart { (bytes : List ℕ) (ms : List ObjModule) (f : OmfRefusal) → AreBytes bytes → Lib bytes ms → LibraryFault bytes f → ⊥ }
-{
-}
+{}
 
 /// What records say together is what the records before the last say, and what the last one adds.
 pub fn one_more_record()
     ensures { (records : List Record) (r : Record) → parts_of (records ++ r ∷ []) ≡ add (parts_of records) r }
-{
-}
+{}
 
 /// A FIXUPP record adds what its first field adds, and then what the others add.
 pub fn one_more_field()
     ensures field { (p : ObjParts) (f : FixField) (fields : List FixField) → add p (fixupp (f ∷ fields)) ≡ add (add_field p f) (fixupp fields) }
     ensures none { (p : ObjParts) → length p.threads.frame ≡ 4 → length p.threads.goal ≡ 4 → add p (fixupp []) ≡ p }
-{
-}
+{}

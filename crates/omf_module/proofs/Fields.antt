@@ -1,15 +1,14 @@
 -- The fields of the records: what is read is what was written, and what was written is read again.
-use Rattle.std.proofs.Common.{◌≡◌, ℕ, zero, suc, ◌+◌, ◌-◌, ◌^◌, ◌<◌, ◌≤◌, Bool, true, false, cond, ltb, leb, eqb, ◌&&◌, List, [], ◌∷◌, ◌++◌, length, get_or, take, drop, Option, Some, None, refl, sym, ap, subst, ◌∙◌, append_assoc, arith, inl, inr, rules}
+use Rattle.std.proofs.Common.{◌≡◌, ℕ, ◌<◌, ◌≤◌, true, cond, leb, eqb, ◌&&◌, List, [], ◌∷◌, ◌++◌, length, Some, None, refl, sym, ap, subst, ◌∙◌, arith}
 use Rattle.std.specs.Prelude.{bytes_eq}
-use Rattle.std.specs.Int.{w16, w32, from_le_bytes, to_le_bytes}
-use Rattle.std.proofs.lemmas.Bool.{eqb-true, ltb-true, leb-true, cases_lt}
+use Rattle.std.specs.Int.{w32, from_le_bytes, to_le_bytes}
+use Rattle.std.proofs.lemmas.Bool.{eqb-true, leb-true}
 use Rattle.std.proofs.lemmas.Bool.Decides.{nat_tests}
 use Rattle.std.proofs.lemmas.Slice.Eq.{bytes_eq-Decides}
 use Rattle.std.proofs.lemmas.Nat.{le_bytes_4, from_le_bytes-to_le_bytes_4}
-use Rattle.std.proofs.lemmas.Grind.{common_steps}
 use Rattle.first_form.specs.ObjectFile.{record_of}
-use Rattle.omf_module.specs.Reading.{◌>>=◌, record_at, after_record, counted, segment_len, data_of}
-use Rattle.omf_module.proofs.Frames.{IsBytes, IsBytes-left, IsBytes-right, bind_some, chosen, both, some_is, record_takes, record_again}
+use Rattle.omf_module.specs.Reading.{record_at, after_record, counted, segment_len, data_of}
+use Rattle.omf_module.proofs.Frames.{IsBytes, IsBytes-left, IsBytes-right, bind_some, chosen, both, record_takes, record_again}
 
 pub after_takes : (type : ℕ) (contents bytes rest : List ℕ) → IsBytes bytes → after_record type contents bytes ≡ Some rest → (bytes ≡ record_of type contents ++ rest) × IsBytes rest
 unfolding after_record

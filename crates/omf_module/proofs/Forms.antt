@@ -1,8 +1,7 @@
 -- A file's form and what its records say.
-use Rattle.std.proofs.Common.{◌≡◌, ◌≢◌, ℕ, zero, suc, ◌+◌, ◌*◌, ◌<◌, ◌≤◌, List, [], ◌∷◌, ◌++◌, length, map, Option, Some, None, refl, sym, ap, subst, lit<, ◌∙◌, append_assoc, arith, IfSome, Bor}
+use Rattle.std.proofs.Common.{◌≡◌, ◌≢◌, ℕ, ◌+◌, ◌*◌, ◌<◌, ◌≤◌, List, [], ◌∷◌, ◌++◌, length, Option, Some, None, refl, sym, ap, subst, lit<, ◌∙◌, arith, IfSome, Bor}
 use Rattle.std.specs.Prelude.{option_map, unwrap_or, option_copied}
 use Rattle.std.specs.List.{flat_map, AllByRecursion, AllPairs}
-use Rattle.std.proofs.lemmas.List.{length-append}
 use Rattle.obj_types.specs.declared.object.ObjModule.{ObjModule}
 use Rattle.first_form.specs.Segment.{Apart, IsSegment}
 use Rattle.first_form.specs.ObjectFile.{Form, IsForm, Spells, NoRecord, places, segment, fixup, theadr, lnames, segdef, grpdef, modend, data_spelling, spelling, object_of}

@@ -1,14 +1,10 @@
 -- The records of a whole file: what is read is spelled so, and what is spelled so is read.
-use Rattle.std.proofs.Common.{◌≡◌, ℕ, zero, suc, ◌+◌, ◌-◌, ◌^◌, ◌<◌, ◌≤◌, Bool, true, false, cond, ltb, leb, eqb, ◌&&◌, List, [], ◌∷◌, ◌++◌, length, get_or, take, drop, Option, Some, None, refl, sym, ap, subst, ◌∙◌, append_assoc, arith, inl, inr, rules, IfSome, lit<}
-use Rattle.std.specs.Int.{w32, to_le_bytes}
-use Rattle.std.proofs.lemmas.Bool.{eqb-true}
+use Rattle.std.proofs.Common.{◌≡◌, ℕ, zero, suc, ◌<◌, ◌≤◌, false, eqb, List, [], ◌∷◌, ◌++◌, length, get_or, Option, Some, None, refl, sym, ap, subst, ◌∙◌, append_assoc, arith, IfSome, lit<}
 use Rattle.std.proofs.lemmas.Bool.Decides.{nat_tests}
-use Rattle.std.proofs.lemmas.List.{nil_from_length, length-append}
-use Rattle.std.proofs.lemmas.Grind.{common_steps}
 use Rattle.lx_types.specs.Names.{IsName}
 use Rattle.first_form.specs.ObjectFile.{record_of, theadr, lnames, segdef, grpdef, ledata, modend, NoRecord}
 use Rattle.omf_module.specs.Reading.{◌>>=◌, names_contents, record_at, after_record, counted, segment_len, data_of, optional_by, optional_at, data_at, heading_at, segment_at, Told, told}
-use Rattle.omf_module.proofs.Frames.{IsBytes, IsBytes-left, IsBytes-right, bind_some, chosen, both, some_is, record_takes, record_again}
+use Rattle.omf_module.proofs.Frames.{IsBytes, bind_some, some_is, record_takes, record_again}
 use Rattle.omf_module.proofs.Fields.{segdef_contents, ledata_contents, after_takes, after_again, counted_takes, counted_again, segment_takes, segment_again, data_takes, data_again}
 
 abbrev pub fixups_text : Option (List ℕ) → List ℕ

@@ -1,6 +1,6 @@
 -- Reading the records of a file of the first form from left to right: a field is a value and the bytes
 -- after it, and None where the bytes do not begin with one.
-use Rattle.std.specs.Prelude.{◌≡◌, ℕ, ◌-◌, Bool, ◌&&◌, nat_lt, nat_le, ◌==◌, if◌then◌else◌, List, [], ◌∷◌, length, take, drop, slice_index, bytes_eq, Option, Some, None, option_copied}
+use Rattle.std.specs.Prelude.{◌≡◌, ℕ, ◌-◌, ◌&&◌, nat_lt, nat_le, ◌==◌, if◌then◌else◌, List, [], ◌∷◌, length, take, drop, slice_index, bytes_eq, Option, Some, None, option_copied}
 use Rattle.std.specs.Int.{w16, w32, from_le_bytes}
 use Rattle.omf_module.specs.declared.records.Records.{Records}
 

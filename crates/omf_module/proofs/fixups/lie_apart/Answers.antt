@@ -1,5 +1,4 @@
-use Rattle.std.proofs.Common.{◌≡◌, true, false, refl, arith, rules}
-use Rattle.std.proofs.lemmas.Grind.{common_steps}
+use Rattle.std.proofs.Common.{◌≡◌, true, false, refl, rules}
 use Rattle.omf_module.proofs.Apartness.{stays_free, one_more}
 use Rattle.omf_module.proofs.fixups.lie_apart.Goals as goal
 

@@ -1,4 +1,4 @@
-use Rattle.std.proofs.Common.{◌≡◌, ◌∙◌, List, ℕ, length, Some, sym, refl, subst, ap, arith}
+use Rattle.std.proofs.Common.{◌∙◌, List, ℕ, length, Some, sym, refl, subst, ap, arith}
 use Rattle.first_form.specs.ObjectFile.{object_of}
 use Rattle.omf_module.specs.Reading.{told_of}
 use Rattle.omf_module.specs.Places.{LieApart}

@@ -1,0 +1,12 @@
+use Rattle.lx_model.proofs.RecordsTaken.{record_taken}
+use Rattle.lx_model.proofs.TablesTaken.{table_taken, data_taken}
+use Rattle.lx_model.proofs.laws.read_is_spelled.Goals as goal
+
+pub returns-clause-record_spelled : goal.returns-clause-record_spelled
+returns-clause-record_spelled c = λ a b fixes h e. let t = record_taken a b fixes h e in (t.written, t.fits, t.means, t.taken.parts)
+
+pub returns-clause-names_spelled : goal.returns-clause-names_spelled
+returns-clause-names_spelled c = λ bytes ns h e. let t = table_taken bytes ns h e in (t.end.left, t.fits, t.taken.parts)
+
+pub returns-clause-groups_spelled : goal.returns-clause-groups_spelled
+returns-clause-groups_spelled c = λ bytes given h e. let t = data_taken bytes given h e in (t.groups, t.fits, t.parts, t.means)
