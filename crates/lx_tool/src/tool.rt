@@ -72,7 +72,7 @@ pub fn lx_build<F: Files, S: Sink>(
     // Over told files, where nothing failed, the answer is the one by what they hold, or want of memory.
     ensures complete { (Rose (F.faults files.old) (F.faults files.new) → ⊥) → (Rose (S.faults out.old) (S.faults out.new) → ⊥)
         → IfSome (F.contents files.old) (λ held. (result ≡ 8) ⊎ ((text : List ℕ)
-            × Answer (map string_bytes words.now) held result text × Appends (S.told out.old) (S.told out.new) text)) }
+        × Answer (map string_bytes words.now) held result text × Appends (S.told out.old) (S.told out.new) text)) }
 {
     ended(alloc, words, files, out)
 }
@@ -100,7 +100,7 @@ pub fn lx_main<R, F: Files, S: Sink, G: Gate>(
     ensures kept { F.contents files.new ≡ F.contents files.old }
     ensures complete { (Rose (F.faults files.old) (F.faults files.new) → ⊥) → (Rose (S.faults out.old) (S.faults out.new) → ⊥)
         → IfSome (F.contents files.old) (λ held. (result ≡ 8) ⊎ ((text : List ℕ)
-            × Answer (map string_bytes words.now) held result text × Appends (S.told out.old) (S.told out.new) text)) }
+        × Answer (map string_bytes words.now) held result text × Appends (S.told out.old) (S.told out.new) text)) }
 {
     lx_build(alloc, words, files, out)
 }

@@ -11,7 +11,6 @@ mod object;
 mod parts;
 mod refusal;
 mod seq;
-
 #[cfg(test)]
 mod tests;
 

@@ -13,7 +13,11 @@ pub enum LastData {
     /// No data record came.
     None,
     /// An LEDATA record.
-    Straight { seg: u32, offset: u32, len: u32 },
+    Straight {
+        seg: u32,
+        offset: u32,
+        len: u32,
+    },
     /// An LIDATA record, with its blocks unexpanded. Their repeat counts have 4 bytes where it is `wide`.
     Blocks {
         seg: u32,

@@ -191,7 +191,7 @@ frame_refused c (frames.UnknownType at ty) bytes h =
     rw (whole_complete c ty h.1.body h.1.checksum h.1.rest h.1.whole, unknown_again (is_record_type ty) h.1.unknown) (at_place at c.at (λ n. UnknownType n ty) h.0)
 frame_refused c (frames.BadChecksum at total) bytes h =
     rw (whole_complete c h.1.ty h.1.body h.1.checksum h.1.rest h.1.whole, h.1.known, wrong_again h.1.checksum (record_sum h.1.ty h.1.body h.1.checksum) h.1.wrong)
-      (λ i. Err (BadChecksum (sym h.0 i) (sym h.1.sum i)))
+    (λ i. Err (BadChecksum (sym h.0 i) (sym h.1.sum i)))
 
 -- A record that begins there is the frame that is read.
 pub frame_begun : (c : Cursor) (ty : ℕ) (body rest : List ℕ) (b : BeginsRecord c.left ty body rest) → frame_at c ≡ Ok (frame c.at ty body b.checksum rest)
