@@ -4,3 +4,4 @@ pub mod Fresh
 pub mod Whole
 pub mod Definition
 pub mod Input
+pub mod Data
