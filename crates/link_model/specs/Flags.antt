@@ -1,5 +1,5 @@
 -- The attributes of segments, and the flags of objects ("Object table" in the LX document).
-use Rattle.std.specs.Prelude.{ℕ, ◌+◌, ◌-◌, ◌/◌, ◌%◌, Bool, true, ◌&&◌, List, length, drop, if◌then◌else◌, ◌==◌, bytes_eq, codes}
+use Rattle.std.specs.Prelude.{ℕ, ◌+◌, ◌-◌, Bool, true, ◌&&◌, List, length, drop, if◌then◌else◌, bytes_eq, codes}
 use Rattle.std.specs.List.{find}
 use Rattle.std.specs.Option.{option_map_or}
 use Rattle.lx_types.specs.Names.{uppercase}
@@ -7,6 +7,7 @@ use Rattle.obj_types.specs.declared.definition.Attrs.{Attrs}
 use Rattle.obj_types.specs.declared.definition.SegAttrs.{SegAttrs}
 use Rattle.link_model.specs.Link.{Link}
 use Rattle.link_model.specs.Parts.{Part}
+pub use Rattle.lx_types.specs.Addresses.{is_big, is_executable}
 
 -- The class of a code segment ends in CODE, in any case.
 abbrev pub is_code_class : List ℕ → Bool
@@ -32,9 +33,3 @@ flags_with a wide =
 
 abbrev pub flags_of : Link → Part → ℕ
 flags_of l p = flags_with (attrs_of l p) p.wide
-
-abbrev pub is_big : ℕ → Bool
-is_big flags = flags / 8192 % 2 == 1
-
-abbrev pub is_executable : ℕ → Bool
-is_executable flags = flags / 4 % 2 == 1

@@ -1,8 +1,7 @@
 -- The layout of a link: its objects with size, linked base and flags, and the place of each contribution and
 -- of each communal.
-use Rattle.std.specs.Prelude.{ℕ, ◌+◌, List, [], ◌∷◌, Option, map, max, find}
+use Rattle.std.specs.Prelude.{ℕ, ◌+◌, List, [], ◌∷◌, Option, map, find}
 use Rattle.std.specs.Option.{option_map, option_and_then, unwrap_or}
-use Rattle.std.specs.Int.{next_multiple_of}
 use Rattle.obj_types.specs.declared.definition.ModKind.{ModKind}
 use Rattle.obj_types.specs.declared.definition.ModKind.TheVariants.{Program, Library}
 use Rattle.link_model.specs.declared.symbols.LaidObject.{LaidObject}
@@ -13,10 +12,7 @@ use Rattle.link_model.specs.Groups.{parts}
 use Rattle.link_model.specs.Flags.{flags_of}
 use Rattle.link_model.specs.Order.{object_heads, object_of}
 use Rattle.link_model.specs.Offsets.{object_size, offset_in, stack_segment, stack_end}
-
--- The address space that an object takes.
-abbrev pub room : ℕ → ℕ
-room size = next_multiple_of (max 1 size) 65536
+pub use Rattle.lx_types.specs.Addresses.{room}
 
 -- The first object's linked base: BASE, or 00010000h for a program and 10000000h for a library.
 abbrev pub usual_base : ModKind → ℕ

@@ -2,7 +2,7 @@
 --
 -- p is the location's address, T the target's address with the displacement, and V is T and the number that
 -- stands in the location. All are numbers modulo 2^32.
-use Rattle.std.specs.Prelude.{ℕ, ◌+◌, ◌*◌, ◌/◌, ◌%◌, Bool, false, not, ◌||◌, List, ◌++◌, Option, Some, None, if◌then◌else◌, ◌==◌, slice_get, is_some, unwrap_or}
+use Rattle.std.specs.Prelude.{ℕ, ◌+◌, Bool, false, ◌||◌, List, ◌++◌, Option, Some, None, if◌then◌else◌, ◌==◌, slice_get, is_some, unwrap_or}
 use Rattle.std.specs.Option.{option_map_or}
 use Rattle.obj_types.specs.declared.symbol.Imp.{Imp}
 use Rattle.obj_types.specs.Items.{item}
@@ -10,7 +10,8 @@ use Rattle.obj_types.specs.Location.{location_len}
 use Rattle.link_model.specs.Words.{wrapped, difference, little_endian}
 use Rattle.link_model.specs.Link.{Link}
 use Rattle.link_model.specs.Symbols.{imports}
-use Rattle.link_model.specs.Flags.{is_big, is_executable}
+use Rattle.lx_types.specs.Addresses.{selector as selector_for, selected_offset}
+pub use Rattle.lx_types.specs.Addresses.{tiled_selector as tiled}
 use Rattle.link_model.specs.Layout.{objects}
 use Rattle.link_model.specs.Goals.{Target, Internal, Constant, Entry}
 use Rattle.link_model.specs.Fixups.{Fixup, fix_refusal}
@@ -46,17 +47,10 @@ target_flags l w (Internal o offset) = object_flags l o
 target_flags l w (Constant value) = 0
 target_flags l w (Entry slot) = (far_of l w slot).flags
 
--- ---- selectors
+-- ---- selectors: tiled where the object is not big, and of location 2 in a 16-bit segment
 
--- The tiled selector of an address.
-abbrev pub tiled : ℕ → ℕ
-tiled a = (a / 65536 * 8 + 7) % 65536
-
--- Of an address in an object with these flags: tiled where the object is not big, else the flat code or
--- data selector.
 abbrev pub selector : ℕ → Bool → ℕ → ℕ
-selector flags in_16_bit a =
-    if in_16_bit || not (is_big flags) then tiled a else if is_executable flags then 91 else 83
+selector flags in_16_bit a = selector_for in_16_bit flags a
 
 -- ---- values
 
@@ -68,7 +62,7 @@ relative_to_segment loc t v flags narrow =
     else if loc == 1 || loc == 5 then little_endian 2 v
     else if loc == 2 then little_endian 2 (selector flags narrow t)
     else if loc == 3 then little_endian 2 v ++ little_endian 2 (tiled v)
-    else if loc == 11 then little_endian 4 (if is_big flags then v else v % 65536) ++ little_endian 2 (selector flags false v)
+    else if loc == 11 then little_endian 4 (selected_offset false flags v) ++ little_endian 2 (selector flags false v)
     else little_endian 4 v
 
 -- A self-relative location: V less the address after the location.

@@ -6,6 +6,7 @@ ghost use Rattle.link_model.specs.Flags as flags;
 ghost use Rattle.link_model.specs.Data.{Data, covers};
 ghost use Rattle.link_model.specs.Value as value;
 
+use lx_types::{OBJECT_BIG, OBJECT_EXECUTABLE};
 use obj_types::{Attrs, ObjModule, Piece};
 
 /// The bytes of an alignment of SEGDEF.
@@ -62,9 +63,9 @@ pub fn tiled_selector(address: u32) -> u16
 pub fn selector_of(flags: u32, narrow: bool, address: u32) -> u16
     ensures { result ≡ value.selector flags narrow address }
 {
-    if narrow || flags / 0x2000 % 2 != 1 {
+    if narrow || flags & OBJECT_BIG == 0 {
         tiled_selector(address)
-    } else if flags / 4 % 2 == 1 {
+    } else if flags & OBJECT_EXECUTABLE != 0 {
         0x5B
     } else {
         0x53

@@ -83,17 +83,17 @@ body_reads objects imports bad ordinal (gates object es) h at rest =
 body_reads objects imports bad ordinal (wide object es) h at rest =
     object_read objects bad (length es) ordinal object (at_entry 4) (flat_map (at_spelling 4) es) (enumerate_from ordinal (map (λ e. At object e.offset) es)) h.0
     (entries_read (AtFits (2 ^ 32)) (at_spelling 4) (λ e. At object e.offset) (at_entry 4 object) es ordinal (λ e fits. at_reads 4 (2 ^ 32) object e refl fits) h.1) at rest
-body_reads objects imports bad ordinal (forwarders es) h at rest =
-    bind_reads (number 2) (λ reserved. bundle_entries (length es) ordinal (forward_entry imports) reserved.1) (little_bytes 2 0) (flat_map forward_spelling es) 0 (enumerate_from ordinal (map (λ e. Forward e.import (forward_key e.flags e.key)) es))
-    (number_reads 2 0 (omega arith))
-    (entries_read (ForwardFits imports) forward_spelling (λ e. Forward e.import (forward_key e.flags e.key)) (forward_entry imports) es ordinal (λ e fits. forward_reads imports e fits) h) at rest
+body_reads objects imports bad ordinal (forwarders reserved es) h at rest =
+    bind_reads (number 2) (λ word. bundle_entries (length es) ordinal (forward_entry imports) word.1) (little_bytes 2 reserved) (flat_map forward_spelling es) reserved (enumerate_from ordinal (map (λ e. Forward e.import (forward_key e.flags e.key)) es))
+    (number_reads 2 reserved h.0)
+    (entries_read (ForwardFits imports) forward_spelling (λ e. Forward e.import (forward_key e.flags e.key)) (forward_entry imports) es ordinal (λ e fits. forward_reads imports e fits) h.1) at rest
 
 -- ---- the table
 
-abbrev behind_type : ℕ → ℕ → ℕ → ℕ → ℕ → ℕ → ℕ × Cursor → Result (List Numbered) LxRefusal
+abbrev pub behind_type : ℕ → ℕ → ℕ → ℕ → ℕ → ℕ → ℕ × Cursor → Result (List Numbered) LxRefusal
 behind_type n objects imports last at count kind = bundle_of_type kind.0 objects imports at count (last + 1) kind.1 >>= λ bundle. entries_from n objects imports (last + count) bundle.1 >>= λ others. done (bundle.0 ++ others)
 
-abbrev behind_count : ℕ → ℕ → ℕ → ℕ → ℕ → ℕ × Cursor → Result (List Numbered) LxRefusal
+abbrev pub behind_count : ℕ → ℕ → ℕ → ℕ → ℕ → ℕ × Cursor → Result (List Numbered) LxRefusal
 behind_count n objects imports last at count = cond (eqb count.0 0) (done []) (cond (ltb LAST_ORDINAL (last + count.0)) (Err (fault kinds.EntryTable at)) (further n objects imports last at count))
 
 not_zero : (n : ℕ) → 0 < n → eqb n 0 ≡ false
@@ -104,7 +104,7 @@ type_small (unused n) = omega arith
 type_small (narrow object es) = omega arith
 type_small (gates object es) = omega arith
 type_small (wide object es) = omega arith
-type_small (forwarders es) = omega arith
+type_small (forwarders reserved es) = omega arith
 
 -- one bundle more
 more : (n objects imports last at : ℕ) (b : Bundle) (tail : List ℕ) (others : List Numbered) → BundleFits objects imports b → last + size_of b ≤ LAST_ORDINAL →

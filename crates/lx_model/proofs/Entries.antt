@@ -82,7 +82,7 @@ gate_fits objects imports object there c y e =
     let same : (Gate286 object second.0.0, third.0.1) ≡ y = cc in
     subst (λ (z : EntryHead × Cursor). HeadFits objects imports z.0) same there
 
-numbered : (count number : ℕ) → not (names_one_of count number) ≡ false → IsNumberOf number count
+pub numbered : (count number : ℕ) → not (names_one_of count number) ≡ false → IsNumberOf number count
 numbered count number e = (grind (arith, nat_tests), grind (arith, nat_tests))
 
 forward_fits : (objects imports : ℕ) (c : Cursor) (y : EntryHead × Cursor) → forward_entry imports c ≡ Ok y → HeadFits objects imports y.0

@@ -1,7 +1,9 @@
 pub mod BundlesRead
+pub mod BundlesTaken
 pub mod Each
 pub mod Entries
 pub mod Firsts
+pub mod ImportsRead
 pub mod Loops
 pub mod Meaning
 pub mod NamesRead

@@ -22,7 +22,7 @@ use Rattle.lx_model.specs.Records.{fixes_at_offsets, single_at, list_at, behind_
 use Rattle.lx_model.specs.Spelling.{Sizes, Written, target_code, flags_of, flags_byte, target_spelling, additive_spelling, offset_spelling, offsets_spelling, record_spelling, fixes_written, TargetFits, AdditiveFits, OffsetFits, CountFits, AliasFits, RecordFits}
 use Rattle.lx_model.proofs.Entries.{bind_ok, guard_ok, done}
 use Rattle.lx_model.proofs.RecordsRead.{left_true, right_true, equal, size_small}
-use Rattle.lx_model.proofs.Takes.{Takes, Takes-then, number_takes, byte_spelled}
+use Rattle.lx_model.proofs.Takes.{Takes, Takes-then, takes_nothing, number_takes, byte_spelled}
 
 -- ---- tests over all bytes
 
@@ -138,9 +138,6 @@ target_taken (suc (suc (suc (suc k)))) source flags c d t kind small h e = absur
 record AdditiveTaken (there : Bool) (flags : ℕ) (c : Cursor) (a : ℕ) (d : Cursor) : Type 0 where
   taken : Takes c (cond there (little_bytes (additive_width flags) a) []) d
   fits : AdditiveFits there flags a
-
-takes_nothing : (c : Cursor) → AreBytes c.left → Takes c [] c
-takes_nothing c h = record { parts = refl; rest = h }
 
 additive_by : (there : Bool) (flags : ℕ) (c d : Cursor) (a : ℕ) → AreBytes c.left → cond there (number (additive_width flags) c) (Ok (0, c)) ≡ Ok (a, d) → AdditiveTaken there flags c a d
 additive_by true flags c d a h e = let n = number_takes (additive_width flags) c d a h e in record { taken = n.taken; fits = n.below }

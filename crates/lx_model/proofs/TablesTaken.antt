@@ -23,13 +23,13 @@ abbrev EntryTaken : Cursor → Option Named → Cursor → Type 0
 EntryTaken c None d = Takes c (0 ∷ []) d
 EntryTaken c (Some n) d = NameFits n × Takes c (name_spelling n) d
 
-byte_taken : (c d : Cursor) (x : ℕ) → x < 256 ^ 1 → Takes c (little_bytes 1 x) d → Takes c (x ∷ []) d
+pub byte_taken : (c d : Cursor) (x : ℕ) → x < 256 ^ 1 → Takes c (little_bytes 1 x) d → Takes c (x ∷ []) d
 byte_taken c d x lt h = subst (λ (t : List ℕ). Takes c t d) (byte_spelled x lt) h
 
-equal : (m n : ℕ) → eqb m n ≡ true → m ≡ n
+pub equal : (m n : ℕ) → eqb m n ≡ true → m ≡ n
 equal m n h = grind (arith, nat_tests)
 
-positive : (n : ℕ) → eqb n 0 ≡ false → 0 < n
+pub positive : (n : ℕ) → eqb n 0 ≡ false → 0 < n
 positive n h = grind (arith, nat_tests)
 
 abbrev named_read : List ℕ → ℕ → Cursor → Read (Option Named)

@@ -18,6 +18,9 @@ pub record Takes (c : Cursor) (bytes : List ℕ) (d : Cursor) : Type 0 where
 pub Takes-then : (c d e : Cursor) (xs ys : List ℕ) → Takes c xs d → Takes d ys e → Takes c (xs ++ ys) e
 Takes-then c d e xs ys p q = record { parts = p.parts ∙ ap (λ (t : List ℕ). xs ++ t) q.parts ∙ sym (append_assoc xs ys e.left); rest = q.rest }
 
+pub takes_nothing : (c : Cursor) → AreBytes c.left → Takes c [] c
+takes_nothing c h = record { parts = refl; rest = h }
+
 AreBytes-drop : (n : ℕ) (bytes : List ℕ) → AreBytes bytes → AreBytes (drop n bytes)
 AreBytes-drop n bytes h i = rw get_or-drop (h (n + i))
 

@@ -38,13 +38,13 @@ forward_spelling e = e.flags ∷ little_bytes 2 e.import ++ little_bytes 4 e.key
 -- ---- bundles
 
 -- so many unused ordinals; entries of one object, with offsets of 16 bits, as gates, or with offsets of 32
--- bits; forwarders
+-- bits; a word that is reserved, and forwarders
 pub data Bundle : Type 0 where
   unused : ℕ → Bundle
   narrow : ℕ → List AtEntry → Bundle
   gates : ℕ → List GateEntry → Bundle
   wide : ℕ → List AtEntry → Bundle
-  forwarders : List ForwardEntry → Bundle
+  forwarders : ℕ → List ForwardEntry → Bundle
 
 -- how many ordinals a bundle has
 abbrev pub size_of : Bundle → ℕ
@@ -52,7 +52,7 @@ size_of (unused n) = n
 size_of (narrow object es) = length es
 size_of (gates object es) = length es
 size_of (wide object es) = length es
-size_of (forwarders es) = length es
+size_of (forwarders reserved es) = length es
 
 -- how many ordinals bundles have together
 abbrev pub sizes_of : List Bundle → ℕ
@@ -64,14 +64,14 @@ body_spelling (unused n) = []
 body_spelling (narrow object es) = little_bytes 2 object ++ flat_map (at_spelling 2) es
 body_spelling (gates object es) = little_bytes 2 object ++ flat_map gate_spelling es
 body_spelling (wide object es) = little_bytes 2 object ++ flat_map (at_spelling 4) es
-body_spelling (forwarders es) = little_bytes 2 0 ++ flat_map forward_spelling es
+body_spelling (forwarders reserved es) = little_bytes 2 reserved ++ flat_map forward_spelling es
 
 abbrev pub type_of : Bundle → ℕ
 type_of (unused n) = 0
 type_of (narrow object es) = 1
 type_of (gates object es) = 2
 type_of (wide object es) = 3
-type_of (forwarders es) = 4
+type_of (forwarders reserved es) = 4
 
 abbrev pub bundle_spelling : Bundle → List ℕ
 bundle_spelling b = size_of b ∷ type_of b ∷ body_spelling b
@@ -86,7 +86,7 @@ heads_of (unused n) = []
 heads_of (narrow object es) = map (λ e. At object e.offset) es
 heads_of (gates object es) = map (λ e. Gate286 object e.offset) es
 heads_of (wide object es) = map (λ e. At object e.offset) es
-heads_of (forwarders es) = map (λ e. Forward e.import (forward_key e.flags e.key)) es
+heads_of (forwarders reserved es) = map (λ e. Forward e.import (forward_key e.flags e.key)) es
 
 -- the entries of bundles that follow an ordinal
 abbrev pub entries_after : ℕ → List Bundle → List Numbered
@@ -119,7 +119,7 @@ BodyFits objects imports (unused n) = Unit {0}
 BodyFits objects imports (narrow object es) = ObjectFits objects object × AllByRecursion (AtFits (2 ^ 16)) es
 BodyFits objects imports (gates object es) = ObjectFits objects object × AllByRecursion GateFits es
 BodyFits objects imports (wide object es) = ObjectFits objects object × AllByRecursion (AtFits (2 ^ 32)) es
-BodyFits objects imports (forwarders es) = AllByRecursion (ForwardFits imports) es
+BodyFits objects imports (forwarders reserved es) = (reserved < 2 ^ 16) × AllByRecursion (ForwardFits imports) es
 
 pub record BundleFits (objects imports : ℕ) (b : Bundle) : Type 0 where
   pub some : 0 < size_of b

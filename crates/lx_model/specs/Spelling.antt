@@ -33,6 +33,10 @@ pub record NameFits (n : Named) : Type 0 where
 abbrev pub import_spelling : List ℕ → List ℕ
 import_spelling name = length name ∷ name
 
+pub record ImportFits (name : List ℕ) : Type 0 where
+  pub some : 0 < length name
+  pub short : length name < 256
+
 -- ---- records
 
 -- the sizes that a writer chooses for the fields of a record, and whether there is an additive

@@ -1,6 +1,6 @@
 //! What the definitions say together.
 
-ghost use Rattle.lx_model.specs.Laws.{MeansOne, MeansOrFails, FaultMeansNone, MeansSound, NamesReadAgain, EntriesReadAgain, RecordsReadAgain, GroupsReadAgain, RecordIsSpelled, NamesAreSpelled, GroupsAreSpelled, OrderIsReached, ReachedIsOrdered, LoopComesBack, ComesBackLoops};
+ghost use Rattle.lx_model.specs.Laws.{MeansOne, MeansOrFails, FaultMeansNone, MeansSound, NamesReadAgain, ImportsReadAgain, EntriesReadAgain, RecordsReadAgain, GroupsReadAgain, RecordIsSpelled, NamesAreSpelled, ImportsAreSpelled, EntriesAreSpelled, GroupsAreSpelled, OrderIsReached, ReachedIsOrdered, LoopComesBack, ComesBackLoops};
 
 /// A file has one meaning or one first fault.
 pub fn files_mean_one_module()
@@ -14,20 +14,23 @@ pub fn parts_are_sound()
     ensures { MeansSound }
 {}
 
-/// Name tables, entry tables, fixup records and groups of iterated data that are written by the format
+/// Name tables, import modules, entry tables, fixup records and groups of iterated data that are written by the format
 /// are read as what was written.
 pub fn written_is_read()
     ensures names { NamesReadAgain }
+    ensures imports { ImportsReadAgain }
     ensures entries { EntriesReadAgain }
     ensures records { RecordsReadAgain }
     ensures groups { GroupsReadAgain }
 {}
 
-/// Of fixup records, name tables and groups of iterated data, each that is read is spelled as the format
-/// says.
+/// Fixup records, name tables, import modules, entry tables and groups of iterated data that are read are
+/// spelled as the format says.
 pub fn read_is_spelled()
     ensures record_spelled { RecordIsSpelled }
     ensures names_spelled { NamesAreSpelled }
+    ensures imports_spelled { ImportsAreSpelled }
+    ensures entries_spelled { EntriesAreSpelled }
     ensures groups_spelled { GroupsAreSpelled }
 {}
 

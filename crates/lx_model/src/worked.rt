@@ -2,6 +2,7 @@
 //! that the definitions give.
 
 ghost use Rattle.lx_model.specs.WorkedRecords.{WorkedRecords, WorkedRecordFaults, WorkedGroups};
+ghost use Rattle.lx_model.specs.WorkedTables.{WorkedNames, WorkedEntries};
 ghost use Rattle.lx_model.specs.WorkedFile.{WorkedFile, WorkedFaults};
 ghost use Rattle.lx_model.specs.WorkedLibrary.{WorkedFields, WorkedLibrary};
 
@@ -14,6 +15,12 @@ pub fn records_read()
 /// Groups of iterated data.
 pub fn groups_read()
     ensures { WorkedGroups }
+{}
+
+/// Name tables, import modules and entry tables, and what is wrong first with others.
+pub fn tables_read()
+    ensures names { WorkedNames }
+    ensures entries { WorkedEntries }
 {}
 
 /// A module of one page: its parts, and its bytes at two bases.

@@ -1,6 +1,6 @@
 //! A module as it was read from a file.
 
-ghost use Rattle.std.specs.Prelude.{◌≡◌, ◌+◌, ◌<◌, ◌≤◌, length, option_copied};
+ghost use Rattle.std.specs.Prelude.{◌≡◌, ◌+◌, ◌<◌, ◌≤◌, length, AllPairs, option_copied};
 ghost use Rattle.lx_types.specs.Object.{pages_of};
 ghost use Rattle.lx_types.specs.Parts.{is_library_of, object_of, page_at, data_at, fixes_at, proc_name_of, entry_of, ordinal_named};
 ghost use Rattle.lx_types.specs.Sound.{IsNumberOf, Sound};
@@ -10,6 +10,28 @@ use crate::{
     PageKind, Parts,
 };
 use std::marker::Model;
+
+/// The entry with an ordinal, found by halves.
+fn entry_with(entries: &[(u32, EntryHead)], ordinal: u32) -> Option<EntryHead>
+    requires { AllPairs (λ a b. a.0 < b.0) entries.now }
+    ensures { result ≡ entry_of entries.now ordinal }
+{
+    let mut low = 0;
+    let mut high = entries.len();
+    while low < high {
+        let middle = low + (high - low) / 2;
+        let (found, head) = entries[middle];
+        if found == ordinal {
+            return Some(head);
+        }
+        if found < ordinal {
+            low = middle + 1;
+        } else {
+            high = middle;
+        }
+    }
+    None
+}
 
 /// A module whose numbers name what is there, and whose places lie in its file.
 ///
@@ -159,11 +181,11 @@ impl Module {
         ensures { result ≡ entry_of self.now.entries ordinal }
     {
         let entries = self.parts.entries.as_slice();
-        entries.iter().find(|e| e.0 == ordinal).map(|e| e.1)
+        entry_with(entries, ordinal)
     }
 
     /// The ordinal of the first name with these bytes, in the resident name table and then in the
-    /// other.
+    /// other. It looks at one name after the other.
     pub fn ordinal_of(&self, name: &[u8]) -> Option<u32>
         ensures { result ≡ ordinal_named self.now.names name.now }
     {

@@ -10,7 +10,7 @@ use Rattle.obj_types.specs.declared.limits.TheConstants.{MAX_DEPTH}
 use Rattle.obj_types.specs.declared.refusal.OmfRefusal.TheVariants.{Short}
 use Rattle.omf_model.specs.Fields.{Reading, width, bytes_at, number_at, items_at, list_at}
 use Rattle.omf_model.specs.Blocks.{Blocks, none, bytes, nested, count_of, depth_of, head_bytes, block_bytes, FitBlocks}
-use Rattle.omf_model.specs.ReadBlocks.{Block, innermost, outer, joined, block_rest, block_at, blocks_at}
+use Rattle.omf_model.specs.ReadBlocks.{Block, innermost, outer, joined, block_rest, block_at, blocks_at, blocks_in}
 use Rattle.omf_model.specs.Forms.{Form, ◌then◌, each, byte, number}
 use Rattle.omf_model.specs.Good.{GoodBlocks}
 use Rattle.omf_model.proofs.Takes.{Takes, cursor_is, then_takes, then_splits, takes_nothing, nothing_takes, Sound, Complete, given, ok_is, bind_ok, step}
@@ -262,3 +262,8 @@ blocks_complete wide c blocks so good =
     let spelled = subst (λ (xs : List ℕ). each (block_form wide) (split blocks) xs) (sym so) (spelled-split wide blocks good.fit) in
     let l = list_complete _ _ _ (block_complete wide MAX_DEPTH) (block_one wide) c (split blocks) spelled (good-split wide MAX_DEPTH blocks good.fit good.depth) in
     rw (l, joined-split blocks) refl
+
+-- the blocks that good blocks' bytes spell are these
+pub blocks_in-bytes : (wide : Bool) (blocks : Blocks) → GoodBlocks wide blocks → blocks_in wide (block_bytes wide blocks) ≡ blocks
+unfolding blocks_in
+blocks_in-bytes wide blocks good = rw (blocks_complete wide (record { at = 0; left = block_bytes wide blocks }) blocks refl good) refl

@@ -158,7 +158,7 @@ goal_by_plain : (p : ObjParts) (m i : ℕ) → (m ≡ 0 → is_debug_seg p.modul
 goal_by_plain p m i h = goal_of_two p (eqb m 0) (goals.Seg i) _ (λ e. h (eqb-true m 0 e)) (later_goals p (eqb m 1) i)
 
 -- where a test failed there is no field
-absent : (b : Bool) (o : Option ℕ) (front : List ℕ) → present b index o front → is_some o ≡ b
+pub absent : (b : Bool) (o : Option ℕ) (front : List ℕ) → present b index o front → is_some o ≡ b
 absent true None front h = absurd h
 absent true (Some i) front h = refl
 absent false None front h = refl
@@ -205,10 +205,12 @@ judged_good p wide at d u v f t meant ef eg so_f ok_f so_t ok_t =
       goal = goal_plain p at v (by_target_thread d.fix) (get_or p.threads.goal (target_bits d.fix) None) (goal_by (target_bits d.fix) (unwrap_or d.target 0)) eg (own_goal p (target_bits d.fix) (by_target_thread d.fix) d.target t so_t mt);
     }
 
-methods_good : (p : ObjParts) (d : FixData) → has_threads p d.fix ≡ true → are_methods d.fix ≡ true → GoodMethods p d
-methods_good p d threads methods =
+methods_good : (p : ObjParts) (d : FixData) (f t : List ℕ) → has_threads p d.fix ≡ true → are_methods d.fix ≡ true → present (not (by_frame_thread d.fix) && has_index (frame_bits d.fix)) index d.frame f → present (not (by_target_thread d.fix)) index d.target t → GoodMethods p d
+methods_good p d f t threads methods so_f so_t =
     let both = and_true _ _ threads in
     record {
+      frame_there = absent (not (by_frame_thread d.fix) && has_index (frame_bits d.fix)) d.frame f so_f;
+      target_there = absent (not (by_target_thread d.fix)) d.target t so_t;
       methods = methods;
       frame_set = set_by (by_frame_thread d.fix) (get_or p.threads.frame (frame_bits d.fix % 4) None) (frame_by (frame_bits d.fix) (unwrap_or d.frame 0)) both.0;
       goal_set = set_by (by_target_thread d.fix) (get_or p.threads.goal (target_bits d.fix) None) (goal_by (target_bits d.fix) (unwrap_or d.target 0)) both.1;
@@ -226,7 +228,7 @@ fix_sound p wide judged c x d bytes e =
     step _ _ _ (present_sound (not (by_target_thread fix)) _ _ _ (method_sound p judged (target_bits fix))) c2 _ (x, d) b2 e2 λ target c3 t3 g3 b3 e3.
     step _ _ _ (present_sound (has_displacement fix) (number_at (width wide)) (number (width wide)) Free (number_sound (width wide))) c3 _ (x, d) b3 e3 λ disp c4 t4 f4 b4 e4.
     let value : FixData = record { fix = fix; frame = frame; target = target; displacement = disp } in
-    let meant = methods_good p value k1.0 k2.0 in
+    let meant = methods_good p value t2.front t3.front k1.0 k2.0 t2.so t3.so in
     let good : judged ≡ true → GoodFixData p value = λ yes. judged_good p wide c.at value k3.0 k4.0 t2.front t3.front meant
     (subst (λ (j : Bool). check_frame j p c.at (thread_frame p fix) ≡ done k3.0) yes k3.1) (subst (λ (j : Bool). check_goal j p c.at (thread_goal p fix) ≡ done k4.0) yes k4.1)
     t2.so (subst (λ (j : Bool). IfSome frame (Judged j p (frame_bits fix))) yes g2) t3.so (subst (λ (j : Bool). IfSome target (Judged j p (target_bits fix))) yes g3) in

@@ -23,7 +23,7 @@ use Rattle.omf_model.proofs.Takes.{Takes, then_takes, then_splits, then_left, le
 use Rattle.omf_model.proofs.FieldLaws.{Free, chosen, byte_sound, byte_complete, below_sound, below_complete}
 use Rattle.omf_model.proofs.ListLaws.{Takes1, present_sound, present_complete}
 use Rattle.omf_model.proofs.DataLaws.{bool_cases, check_so}
-use Rattle.omf_model.proofs.FixLaws.{GoodFix, fix_sound, fix_complete}
+use Rattle.omf_model.proofs.FixLaws.{absent, GoodFix, fix_sound, fix_complete}
 use Rattle.omf_model.proofs.NameLaws.{Reads, then_one}
 
 -- ---- THREAD
@@ -35,7 +35,7 @@ thread_sound p wide b c0 c x d bytes small front e =
     step _ _ _ (present_sound (has_index (thread_method b)) _ _ _ (below_sound (have_of p (thread_method b)))) c _ (x, d) bytes k.1 λ i c1 t1 g1 b1 e1.
     let t = then_takes (byte b) (present (has_index (thread_method b)) index i) c0 c c1 front t1 in
     subst (λ (q : FixField × Cursor). Takes (field_form wide q.0) c0 q.1 × GoodField p q.0) (ok_is (thread b i, c1) (x, d) e1)
-    (record { front = t.front; joined = t.joined; moved = t.moved; so = (small, t.so) }, record { method = k.0; index = g1 })
+    (record { front = t.front; joined = t.joined; moved = t.moved; so = (small, t.so) }, record { method = k.0; there = absent (has_index (thread_method b)) i t1.front t1.so; index = g1 })
 
 -- ---- FIXUP
 

@@ -10,8 +10,8 @@ use Rattle.lx_bytes.proofs.Numbers.{little-little_bytes, little_bytes-little}
 use Rattle.omf_frame.specs.Frame.{record_sum, IsChecksum, BeginsWhole, BeginsRecord}
 use Rattle.omf_frame.specs.RecordType.{is_record_type}
 use Rattle.omf_frame.specs.Refusal.{IsCutOff, Refuses}
-use Rattle.omf_frame.specs.declared.frame.FrameRefusal.{FrameRefusal}
-use Rattle.omf_frame.specs.declared.frame.FrameRefusal.TheVariants as frames
+use Rattle.omf_frame.specs.declared.refusal.FrameRefusal.{FrameRefusal}
+use Rattle.omf_frame.specs.declared.refusal.FrameRefusal.TheVariants as frames
 use Rattle.obj_types.specs.declared.refusal.OmfRefusal.{OmfRefusal}
 use Rattle.obj_types.specs.declared.refusal.OmfRefusal.TheVariants.{Short, UnknownType, BadChecksum}
 use Rattle.omf_model.specs.ReadFrame.{Frame, frame_of, is_whole, whole_at, frame_at, sum_of, of_frame}

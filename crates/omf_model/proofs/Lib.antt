@@ -17,3 +17,9 @@ pub mod ModuleLaws
 pub mod PageLaws
 pub mod LibraryLaws
 pub mod LibraryFaults
+pub mod CopyLaws
+pub mod PairLaws
+pub mod GrowLaws
+pub mod SaneLaws
+pub mod SaneStep
+pub mod WholeLaws

@@ -4,14 +4,14 @@ use Rattle.std.specs.Prelude.{◌⊎◌}
 use Rattle.std.proofs.lemmas.Bool.{eqb-true, eqb-false, ne_eqb}
 use Rattle.std.proofs.lemmas.List.{nil_from_length, take-append-drop}
 use Rattle.lx_bytes.specs.Cursor.{Cursor}
-use Rattle.lx_bytes.specs.LittleEndian.{AreBytes, little}
+use Rattle.lx_bytes.specs.LittleEndian.{AreBytes}
 use Rattle.omf_frame.specs.Frame.{record_bytes, BeginsWhole}
 use Rattle.omf_frame.specs.Refusal.{IsCutOff}
 use Rattle.obj_types.specs.declared.refusal.OmfRefusal.{OmfRefusal}
 use Rattle.obj_types.specs.declared.refusal.OmfRefusal.TheVariants.{Short, BadField}
 use Rattle.obj_types.specs.declared.object.ObjModule.{ObjModule}
 use Rattle.omf_model.specs.Fields.{Reading, ◌>>=◌, check}
-use Rattle.omf_model.specs.ReadFrame.{Frame, frame_of, is_whole, whole_at, frame_at}
+use Rattle.omf_model.specs.ReadFrame.{Frame, whole_at, frame_at}
 use Rattle.omf_model.specs.ReadModule.{header_at, module_at, is_page_size, up_to_page, ends_library, modules_within, library_of}
 use Rattle.omf_model.specs.Object.{Lib, FaultAt, PageFault, in_module, behind_module, LibraryFault, no_record, other_type, no_page, in_modules, behind}
 use Rattle.omf_model.proofs.Takes.{Takes, bytes_behind}

@@ -109,10 +109,10 @@ rest_sound (suc most) before c q d bytes e =
           }
     ]
 
-parts_header : (text : List ℕ) → parts_of (header text ∷ []) ≡ add fresh_parts (header text)
+pub parts_header : (text : List ℕ) → parts_of (header text ∷ []) ≡ add fresh_parts (header text)
 parts_header text = parts_of-snoc [] (header text) ∙ ap (λ (p : ObjParts). add p (header text)) parts_of-none
 
-module_is : (rs : List Record) → (parts_of rs).module ≡ module_of rs
+pub module_is : (rs : List Record) → (parts_of rs).module ≡ module_of rs
 unfolding parts_of
 module_is rs = refl
 

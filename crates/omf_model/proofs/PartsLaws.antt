@@ -157,7 +157,7 @@ add-fields p f fs = λ i. record {
   threads = set_threads-append p.threads (f ∷ []) fs i;
 }
 
-four-items : {A : Type 0} (xs : List (Option A)) → length xs ≡ 4 → of_each_number (λ n. get_or xs n None) ≡ xs
+pub four-items : {A : Type 0} (xs : List (Option A)) → length xs ≡ 4 → of_each_number (λ n. get_or xs n None) ≡ xs
 four-items [] e = absurd (omega (arith, e))
 four-items (a ∷ []) e = absurd (omega (arith, e))
 four-items (a ∷ b ∷ []) e = absurd (omega (arith, e))

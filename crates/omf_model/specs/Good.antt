@@ -1,5 +1,5 @@
 -- Which records are good after those before them.
-use Rattle.std.specs.Prelude.{◌≡◌, ◌≢◌, ℕ, ◌+◌, ◌≤◌, Bool, true, false, List, [], ◌∷◌, ◌++◌, length, Option, IfSome, IsSome, bytes_eq, codes}
+use Rattle.std.specs.Prelude.{◌≡◌, ◌≢◌, ℕ, ◌+◌, ◌≤◌, Bool, true, false, List, [], ◌∷◌, ◌++◌, length, Option, IfSome, IsSome, is_some, not, ◌&&◌, bytes_eq, codes}
 use Rattle.std.specs.List.{AllByRecursion, list_any}
 use Rattle.obj_types.specs.declared.limits.TheConstants.{MAX_DATA, MAX_FIXES, MAX_DEPTH}
 use Rattle.obj_types.specs.declared.object.Frame.{Frame}
@@ -13,9 +13,9 @@ use Rattle.obj_types.specs.Items.{IsIndex}
 use Rattle.obj_types.specs.Location.{location_len}
 use Rattle.obj_types.specs.Whole.{IsPlainSeg, LiesIn}
 use Rattle.omf_model.specs.Blocks.{Blocks, FitBlocks, depth_of, expanded_len}
-use Rattle.omf_model.specs.Record.{Record, header, passed, comment, default_library, impdef, expdef, lnames, segdef, grpdef, pubdef, extdef, comdef, ledata, lidata, fixupp, modend, SegDef, PubDef, ExtDef, ComDef, FixData, FixField, thread, fixup, thread_method, frame_bits, target_bits, location_of, offset_of}
+use Rattle.omf_model.specs.Record.{Record, header, passed, comment, default_library, impdef, expdef, lnames, segdef, grpdef, pubdef, extdef, comdef, ledata, lidata, fixupp, modend, SegDef, PubDef, ExtDef, ComDef, FixData, FixField, thread, fixup, thread_method, by_frame_thread, frame_bits, by_target_thread, target_bits, location_of, offset_of}
 use Rattle.omf_model.specs.Items.{name_with, is_debug_seg, communal_of}
-use Rattle.omf_model.specs.Fixups.{frame_meant, goal_meant, has_data, fixes_by}
+use Rattle.omf_model.specs.Fixups.{frame_meant, goal_meant, has_data, has_index, fixes_by}
 use Rattle.omf_model.specs.ReadNames.{are_attributes}
 use Rattle.omf_model.specs.ReadData.{data_so_far, touches}
 use Rattle.omf_model.specs.ReadFixups.{have_of, are_methods, is_thread_method, is_location, are_apart}
@@ -55,8 +55,10 @@ pub record GoodBlocks (wide : Bool) (blocks : Blocks) : Type 0 where
   pub fit : FitBlocks wide blocks
   pub depth : depth_of blocks ≤ MAX_DEPTH
 
--- "9Ch FIXUPP": the methods are some, and the threads are set.
+-- "9Ch FIXUPP": the methods are some, the indices that they call for are there, and the threads are set.
 pub record GoodMethods (p : ObjParts) (d : FixData) : Type 0 where
+  pub frame_there : is_some d.frame ≡ (not (by_frame_thread d.fix) && has_index (frame_bits d.fix))
+  pub target_there : is_some d.target ≡ not (by_target_thread d.fix)
   pub methods : are_methods d.fix ≡ true
   pub frame_set : IsSome (frame_meant p.threads d)
   pub goal_set : IsSome (goal_meant p.threads d)
@@ -90,6 +92,7 @@ pub record GoodFixData (p : ObjParts) (d : FixData) : Type 0 where
 -- A THREAD's index names something that came before, which may be a debug segment.
 pub record GoodThread (p : ObjParts) (b : ℕ) (i : Option ℕ) : Type 0 where
   pub method : is_thread_method b ≡ true
+  pub there : is_some i ≡ has_index (thread_method b)
   pub index : IfSome i (HasMethod p (thread_method b))
 
 -- A FIXUP on data outside debug segments: a location that there is, within the last data record's data,

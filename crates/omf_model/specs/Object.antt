@@ -121,15 +121,5 @@ pub data LibraryFault : List ℕ → OmfRefusal → Type 0 where
   no_page : {bytes : List ℕ} (body : List ℕ) (checksum : ℕ) (rest : List ℕ) → BeginsWhole bytes 0xF0 body checksum rest → is_page_size (4 + length body) ≡ false → LibraryFault bytes (BadField 1)
   in_modules : {bytes : List ℕ} {refusal : OmfRefusal} (size : ℕ) (front back : List ℕ) → bytes ≡ front ++ back → IsHeader size front → PageFault size size back refusal → LibraryFault bytes refusal
 
--- ---- data
-
--- The byte of a piece at an offset of a segment, where the piece covers it.
-abbrev pub covers : ℕ → ℕ → Piece → Bool
-covers seg x piece = piece.seg == seg && nat_le piece.offset x && nat_le (x + 1) (piece.offset + length piece.bytes)
-
-abbrev pub byte_in : ℕ → ℕ → Piece → List ℕ
-byte_in seg x piece = if covers seg x piece then slice_index piece.bytes (x - piece.offset) ∷ [] else []
-
--- The byte of the last piece that covers the place, and 0 where none does.
-unfoldable pub data_at : ObjModule → ℕ → ℕ → ℕ
-data_at m seg x = latest 0 (flat_map (byte_in seg x) m.pieces)
+-- ---- data: the byte of the last piece that covers a place
+pub use Rattle.obj_types.specs.Data.{Data}

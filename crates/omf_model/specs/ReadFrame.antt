@@ -1,6 +1,6 @@
 -- Reading the bytes of a record. "Record Format".
-use Rattle.omf_frame.specs.declared.frame.FrameRefusal.{FrameRefusal}
-use Rattle.omf_frame.specs.declared.frame.FrameRefusal.TheVariants as frames
+use Rattle.omf_frame.specs.declared.refusal.FrameRefusal.{FrameRefusal}
+use Rattle.omf_frame.specs.declared.refusal.FrameRefusal.TheVariants as frames
 use Rattle.std.specs.Prelude.{ℕ, ◌+◌, ◌-◌, Bool, ◌&&◌, ◌||◌, not, List, length, take, drop, slice_index, Result, Ok, Err, nat_le, ◌==◌, if◌then◌else◌}
 use Rattle.lx_bytes.specs.Cursor.{Cursor, advance}
 use Rattle.lx_bytes.specs.LittleEndian.{little}

@@ -1,6 +1,8 @@
 //! What the definitions say together.
 
 ghost use Rattle.std.specs.Prelude.{◌≡◌, ◌++◌, ◌∷◌, ◌⊎◌, [], Ok, Err, ℕ, List, length};
+ghost use Rattle.std.specs.List.{All};
+ghost use Rattle.obj_types.specs.Whole.{WholeModule};
 ghost use Rattle.lx_bytes.specs.LittleEndian.{AreBytes};
 ghost use Rattle.obj_types.specs.declared.object.ObjModule.{ObjModule};
 ghost use Rattle.obj_types.specs.declared.parts.ObjParts.{ObjParts};
@@ -41,6 +43,12 @@ pub fn library_is_one()
     ensures fault { (bytes : List ℕ) (f g : OmfRefusal) → AreBytes bytes → LibraryFault bytes f → LibraryFault bytes g → f ≡ g }
     ensures either { (bytes : List ℕ) → AreBytes bytes → ((ms : List ObjModule) × Lib bytes ms) ⊎ ((f : OmfRefusal) × LibraryFault bytes f) }
     ensures apart { (bytes : List ℕ) (ms : List ObjModule) (f : OmfRefusal) → AreBytes bytes → Lib bytes ms → LibraryFault bytes f → ⊥ }
+{}
+
+/// What an object file or a library means is whole.
+pub fn meaning_is_whole()
+    ensures object { (bytes : List ℕ) (m : ObjModule) → Obj bytes m → WholeModule m }
+    ensures library { (bytes : List ℕ) (ms : List ObjModule) → Lib bytes ms → All WholeModule ms }
 {}
 
 /// What records say together is what the records before the last say, and what the last one adds.

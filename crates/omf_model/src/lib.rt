@@ -14,5 +14,6 @@ pub use examples::{
 };
 pub use fields::Fields;
 pub use laws::{
-    library_is_one, library_is_read, object_is_one, object_is_read, one_more_field, one_more_record,
+    library_is_one, library_is_read, meaning_is_whole, object_is_one, object_is_read,
+    one_more_field, one_more_record,
 };

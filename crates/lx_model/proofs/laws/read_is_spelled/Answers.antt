@@ -1,3 +1,6 @@
+use Rattle.std.proofs.Common.{arith}
+use Rattle.lx_model.proofs.BundlesTaken.{table_taken as bundles_taken}
+use Rattle.lx_model.proofs.ImportsRead.{names_taken}
 use Rattle.lx_model.proofs.RecordsTaken.{record_taken}
 use Rattle.lx_model.proofs.TablesTaken.{table_taken, data_taken}
 use Rattle.lx_model.proofs.laws.read_is_spelled.Goals as goal
@@ -10,3 +13,9 @@ returns-clause-names_spelled c = λ bytes ns h e. let t = table_taken bytes ns h
 
 pub returns-clause-groups_spelled : goal.returns-clause-groups_spelled
 returns-clause-groups_spelled c = λ bytes given h e. let t = data_taken bytes given h e in (t.groups, t.fits, t.parts, t.means)
+
+pub returns-clause-imports_spelled : goal.returns-clause-imports_spelled
+returns-clause-imports_spelled c = λ n bytes names h e. let t = names_taken n bytes names h e in (t.end.left, t.fits, t.taken.parts)
+
+pub returns-clause-entries_spelled : goal.returns-clause-entries_spelled
+returns-clause-entries_spelled c = λ objects imports bytes es h e. let t = bundles_taken objects imports bytes es h e in let room = t.room in (t.bundles, t.end.left, t.fits, omega (arith, room), t.means, t.taken.parts)

@@ -1,4 +1,5 @@
 use Rattle.lx_model.proofs.BundlesRead.{table_reads as bundles_again}
+use Rattle.lx_model.proofs.ImportsRead.{imports_again}
 use Rattle.lx_model.proofs.NamesRead.{table_reads}
 use Rattle.lx_model.proofs.PagesRead.{records_again, groups_again}
 use Rattle.lx_model.proofs.laws.written_is_read.Goals as goal
@@ -14,3 +15,6 @@ returns-clause-groups c = groups_again
 
 pub returns-clause-entries : goal.returns-clause-entries
 returns-clause-entries c = bundles_again
+
+pub returns-clause-imports : goal.returns-clause-imports
+returns-clause-imports c = imports_again

@@ -1,0 +1,266 @@
+-- A good record keeps an unfinished module whole, so what is read is whole.
+use Rattle.std.proofs.Common.{◌≡◌, ℕ, zero, suc, ◌%◌, ◌≤◌, Bool, true, false, cond, eqb, List, [], ◌∷◌, ◌++◌, length, get_or, Option, Some, None, refl, sym, ap, subst, ◌∙◌, arith, inl, inr, length-append}
+use Rattle.std.specs.Prelude.{◌&&◌, IfSome, is_some, not, unwrap_or}
+use Rattle.std.specs.List.{AllByRecursion}
+use Rattle.std.proofs.lemmas.List.{append-nil}
+use Rattle.std.proofs.lemmas.List.Sums.{sum_by-append}
+use Rattle.std.proofs.lemmas.Bool.{eqb-true}
+use Rattle.obj_types.specs.declared.limits.TheConstants.{MAX_DATA, MAX_FIXES}
+use Rattle.obj_types.specs.declared.object.Seg.{Seg}
+use Rattle.obj_types.specs.declared.object.Piece.{Piece}
+use Rattle.obj_types.specs.declared.object.Frame.{Frame}
+use Rattle.obj_types.specs.declared.object.Frame.TheVariants as frames
+use Rattle.obj_types.specs.declared.object.Goal.{Goal}
+use Rattle.obj_types.specs.declared.object.Goal.TheVariants as goals
+use Rattle.obj_types.specs.declared.object.FixAt.{FixAt}
+use Rattle.obj_types.specs.declared.object.StartAt.{StartAt}
+use Rattle.obj_types.specs.declared.object.ObjModule.{ObjModule}
+use Rattle.obj_types.specs.declared.parts.LastData.{LastData}
+use Rattle.obj_types.specs.declared.parts.LastData.TheVariants as datas
+use Rattle.obj_types.specs.declared.parts.Threads.{Threads}
+use Rattle.obj_types.specs.declared.parts.ObjParts.{ObjParts}
+use Rattle.obj_types.specs.Items.{IsIndex}
+use Rattle.obj_types.specs.Location.{meets}
+use Rattle.obj_types.specs.Whole.{WholeSeg, WholeGroup, WholeFrame, WholeGoal, WholeFix, WholeStart, WholeExp}
+use Rattle.omf_model.specs.Lists.{collect, latest}
+use Rattle.omf_model.specs.Record.{Record, header, passed, comment, default_library, impdef, expdef, lnames, segdef, grpdef, pubdef, extdef, comdef, ledata, lidata, fixupp, modend, FixField, FixData, by_frame_thread, frame_bits, by_target_thread, target_bits}
+use Rattle.omf_model.specs.Items.{segs_in, groups_in, pubs_in, exts_in, imports_in, exports_in, fields_in, pieces_in, datas_in, starts_in}
+use Rattle.omf_model.specs.Fixups.{has_index, frame_by, goal_by, frame_meant, goal_meant, set_threads, fixes_by}
+use Rattle.omf_model.specs.Add.{add_to_module, add}
+use Rattle.omf_model.specs.ReadData.{data_so_far}
+use Rattle.omf_model.specs.ReadFixups.{have_of}
+use Rattle.omf_model.specs.Good.{GoodAfter, GoodFixData, IsPlainFrame, IsPlainGoal, HasMethod}
+use Rattle.omf_model.proofs.FieldLaws.{FromOne}
+use Rattle.omf_model.proofs.DataLaws.{bool_cases}
+use Rattle.omf_model.proofs.PlainLaws.{plain_from}
+use Rattle.omf_model.proofs.PairLaws.{Pairs, all-app}
+use Rattle.omf_model.proofs.GrowLaws.{Grows, all-each, lies-grows, group-grows, place-grows, fix-grows, start-grows}
+use Rattle.omf_model.proofs.PartsLaws.{four-items}
+use Rattle.omf_model.proofs.SaneLaws.{LastFits, PubIn, PieceIn, HasModule, segs-whole, groups-whole, pubs-whole, imports-whole, exports-whole, data-whole}
+
+-- what a thread names came before
+abbrev pub InFrame : ObjModule → Frame → Type 0
+InFrame m (frames.Seg i) = FromOne (length m.segs) i
+InFrame m (frames.Group i) = IsIndex m.groups i
+InFrame m (frames.Ext i) = IsIndex m.exts i
+InFrame m frames.Here = Unit {0}
+InFrame m frames.OfTarget = Unit {0}
+
+abbrev pub InGoal : ObjModule → Goal → Type 0
+InGoal m (goals.Seg i) = FromOne (length m.segs) i
+InGoal m (goals.Group i) = IsIndex m.groups i
+InGoal m (goals.Ext i) = IsIndex m.exts i
+
+abbrev pub FrameSet : ObjModule → Option Frame → Type 0
+FrameSet m o = IfSome o (InFrame m)
+
+abbrev pub GoalSet : ObjModule → Option Goal → Type 0
+GoalSet m o = IfSome o (InGoal m)
+
+abbrev pub Apart : FixAt → FixAt → Type 0
+Apart f g = meets f g ≡ false
+
+abbrev pub StartSet : ObjModule → Option StartAt → Type 0
+StartSet m o = IfSome o (WholeStart m)
+
+-- An unfinished module that is whole so far.
+pub record Sane (p : ObjParts) : Type 0 where
+  pub segs : AllByRecursion WholeSeg p.module.segs
+  pub groups : AllByRecursion (WholeGroup p.module) p.module.groups
+  pub pubs : AllByRecursion (PubIn p.module) p.module.pubs
+  pub pieces : AllByRecursion (PieceIn p.module) p.module.pieces
+  pub fixes : AllByRecursion (WholeFix p.module) p.module.fixes
+  pub apart : Pairs Apart p.module.fixes
+  pub imports : AllByRecursion HasModule p.module.imports
+  pub exports : AllByRecursion WholeExp p.module.exports
+  pub start : StartSet p.module p.module.start
+  pub data_limit : data_so_far p ≤ MAX_DATA
+  pub fix_limit : length p.module.fixes ≤ MAX_FIXES
+  pub last : LastFits p.module p.last
+  pub frames : AllByRecursion (FrameSet p.module) p.threads.frame
+  pub goals : AllByRecursion (GoalSet p.module) p.threads.goal
+  pub four_frames : length p.threads.frame ≡ 4
+  pub four_goals : length p.threads.goal ≡ 4
+
+pub latest-all : {A : Type 0} (P : A → Type 0) (x : A) (ys : List A) → P x → AllByRecursion P ys → P (latest x ys)
+latest-all P x [] h a = h
+latest-all P x (y ∷ ys) h a = latest-all P y ys a.0 a.1
+
+pub get-all : {A : Type 0} (P : A → Type 0) (xs : List A) (n : ℕ) (d : A) → P d → AllByRecursion P xs → P (get_or xs n d)
+get-all P [] n d h a = h
+get-all P (x ∷ xs) zero d h a = a.0
+get-all P (x ∷ xs) (suc n) d h a = get-all P xs n d h a.1
+
+-- ---- frames and goals
+
+whole_frame : (m : ObjModule) (p : ObjParts) → m ≡ p.module → (f : Frame) → InFrame p.module f → IsPlainFrame p f → WholeFrame p.module f
+whole_frame m p e (frames.Seg i) h plain = plain_from p.module.segs i h plain
+whole_frame m p e (frames.Group i) h plain = h
+whole_frame m p e (frames.Ext i) h plain = h
+whole_frame m p e frames.Here h plain = tt
+whole_frame m p e frames.OfTarget h plain = tt
+
+whole_goal : (p : ObjParts) (f : Goal) → InGoal p.module f → IsPlainGoal p f → WholeGoal p.module f
+whole_goal p (goals.Seg i) h plain = plain_from p.module.segs i h plain
+whole_goal p (goals.Group i) h plain = h
+whole_goal p (goals.Ext i) h plain = h
+
+both_frame : (p : ObjParts) (o : Option Frame) → IfSome o (InFrame p.module) → IfSome o (IsPlainFrame p) → IfSome o (WholeFrame p.module)
+both_frame p None h k = tt
+both_frame p (Some f) h k = whole_frame p.module p refl f h k
+
+both_goal : (p : ObjParts) (o : Option Goal) → IfSome o (InGoal p.module) → IfSome o (IsPlainGoal p) → IfSome o (WholeGoal p.module)
+both_goal p None h k = tt
+both_goal p (Some f) h k = whole_goal p f h k
+
+-- an index of a method's own names what came before, where the method has one
+pub frame_by-in : (p : ObjParts) (m : ℕ) (o : Option ℕ) → is_some o ≡ has_index m → IfSome o (HasMethod p m) → InFrame p.module (frame_by m (unwrap_or o 0))
+frame_by-in p m o there h =
+    elim (bool_cases (eqb m 0)) [
+      | inl z ↦ let e = eqb-true m 0 z in subst (λ (k : ℕ). InFrame p.module (frame_by k (unwrap_or o 0))) (sym e) (at p o 0 (subst (λ (k : ℕ). is_some o ≡ has_index k) e there) (subst (λ (k : ℕ). IfSome o (HasMethod p k)) e h))
+      | inr n0 ↦ elim (bool_cases (eqb m 1)) [
+        | inl z ↦ let e = eqb-true m 1 z in subst (λ (k : ℕ). InFrame p.module (frame_by k (unwrap_or o 0))) (sym e) (at p o 1 (subst (λ (k : ℕ). is_some o ≡ has_index k) e there) (subst (λ (k : ℕ). IfSome o (HasMethod p k)) e h))
+        | inr n1 ↦ elim (bool_cases (eqb m 2)) [
+          | inl z ↦ let e = eqb-true m 2 z in subst (λ (k : ℕ). InFrame p.module (frame_by k (unwrap_or o 0))) (sym e) (at p o 2 (subst (λ (k : ℕ). is_some o ≡ has_index k) e there) (subst (λ (k : ℕ). IfSome o (HasMethod p k)) e h))
+          | inr n2 ↦ elim (bool_cases (eqb m 4)) [
+            | inl z ↦ rw (n0, n1, n2, z) tt
+            | inr z ↦ rw (n0, n1, n2, z) tt
+          ]
+        ]
+      ]
+    ]
+  where
+    at : (p : ObjParts) (o : Option ℕ) (k : ℕ) → is_some o ≡ true → IfSome o (HasMethod p k) → FromOne (have_of p k) (unwrap_or o 0)
+    at p None k t h = absurd cc
+    at p (Some i) k t h = h
+
+pub goal_by-in : (p : ObjParts) (m : ℕ) (o : Option ℕ) → is_some o ≡ true → IfSome o (HasMethod p m) → InGoal p.module (goal_by m (unwrap_or o 0))
+goal_by-in p m None there h = absurd cc
+goal_by-in p m (Some i) there h =
+    elim (bool_cases (eqb m 0)) [
+      | inl z ↦ let e = eqb-true m 0 z in subst (λ (k : ℕ). InGoal p.module (goal_by k i)) (sym e) (subst (λ (k : ℕ). HasMethod p k i) e h)
+      | inr n0 ↦ elim (bool_cases (eqb m 1)) [
+        | inl z ↦ let e = eqb-true m 1 z in subst (λ (k : ℕ). InGoal p.module (goal_by k i)) (sym e) (subst (λ (k : ℕ). HasMethod p k i) e h)
+        | inr n1 ↦
+            let high : i ≤ length p.module.exts = subst (λ (b : Bool). i ≤ cond b (length p.module.groups) (length p.module.exts)) n1 (subst (λ (b : Bool). i ≤ cond b (length p.module.segs) (cond (eqb m 1) (length p.module.groups) (length p.module.exts))) n0 h.1) in
+            rw (n0, n1) (h.0, high)
+      ]
+    ]
+
+meant_frame : (p : ObjParts) (b : Bool) (t : Option Frame) (m : ℕ) (o : Option ℕ) → FrameSet p.module t → is_some o ≡ (not b && has_index m) → IfSome o (HasMethod p m) → IfSome (cond b t (Some (frame_by m (unwrap_or o 0)))) (InFrame p.module)
+meant_frame p true t m o set there h = set
+meant_frame p false t m o set there h = frame_by-in p m o there h
+
+meant_goal : (p : ObjParts) (b : Bool) (t : Option Goal) (m : ℕ) (o : Option ℕ) → GoalSet p.module t → is_some o ≡ not b → IfSome o (HasMethod p m) → IfSome (cond b t (Some (goal_by m (unwrap_or o 0)))) (InGoal p.module)
+meant_goal p true t m o set there h = set
+meant_goal p false t m o set there h = goal_by-in p m o there h
+
+pub frame_whole : (p : ObjParts) (d : FixData) → Sane p → GoodFixData p d → IfSome (frame_meant p.threads d) (WholeFrame p.module)
+frame_whole p d s g =
+    both_frame p (frame_meant p.threads d)
+    (meant_frame p (by_frame_thread d.fix) (get_or p.threads.frame (frame_bits d.fix % 4) None) (frame_bits d.fix) d.frame (get-all (FrameSet p.module) p.threads.frame (frame_bits d.fix % 4) None tt s.frames) g.meant.frame_there g.frame_index)
+    g.frame
+
+pub goal_whole : (p : ObjParts) (d : FixData) → Sane p → GoodFixData p d → IfSome (goal_meant p.threads d) (WholeGoal p.module)
+goal_whole p d s g =
+    both_goal p (goal_meant p.threads d)
+    (meant_goal p (by_target_thread d.fix) (get_or p.threads.goal (target_bits d.fix) None) (target_bits d.fix) d.target (get-all (GoalSet p.module) p.threads.goal (target_bits d.fix) None tt s.goals) g.meant.target_there g.target_index)
+    g.goal
+
+or_default : {A : Type 0} (P : A → Type 0) (o : Option A) (x : A) → IfSome o P → is_some o ≡ true → P (unwrap_or o x)
+or_default P None x h e = absurd cc
+or_default P (Some y) x h e = h
+
+pub fix_frame : (p : ObjParts) (d : FixData) → Sane p → GoodFixData p d → WholeFrame p.module (unwrap_or (frame_meant p.threads d) frames.Here)
+fix_frame p d s g = or_default (WholeFrame p.module) (frame_meant p.threads d) frames.Here (frame_whole p d s g) g.meant.frame_set
+
+pub fix_goal : (p : ObjParts) (d : FixData) → Sane p → GoodFixData p d → WholeGoal p.module (unwrap_or (goal_meant p.threads d) (goals.Seg 0))
+fix_goal p d s g = or_default (WholeGoal p.module) (goal_meant p.threads d) (goals.Seg 0) (goal_whole p d s g) g.meant.goal_set
+
+-- ---- the start
+
+starts-whole : (p : ObjParts) (r : Record) → Sane p → GoodAfter p r → AllByRecursion (StartSet p.module) (starts_in p.threads r)
+starts-whole p (modend kind None) s g = (tt, tt)
+starts-whole p (modend kind (Some d)) s g = ((fix_frame p d s g, fix_goal p d s g), tt)
+starts-whole p (header text) s g = tt
+starts-whole p passed s g = tt
+starts-whole p comment s g = tt
+starts-whole p (default_library text) s g = tt
+starts-whole p (impdef d) s g = tt
+starts-whole p (expdef d) s g = tt
+starts-whole p (lnames texts) s g = tt
+starts-whole p (segdef d) s g = tt
+starts-whole p (grpdef n members) s g = tt
+starts-whole p (pubdef local group segment frame defs) s g = tt
+starts-whole p (extdef local defs) s g = tt
+starts-whole p (comdef defs) s g = tt
+starts-whole p (ledata segment offset content) s g = tt
+starts-whole p (lidata wide segment offset blocks) s g = tt
+starts-whole p (fixupp fields) s g = tt
+
+-- ---- one more record that is no FIXUPP
+
+add-grows : (p : ObjParts) (r : Record) → Grows p.module (add_to_module p r)
+unfolding add_to_module
+add-grows p r = record { more_segs = segs_in p.names r; segs = refl; groups = omega (arith, length-append p.module.groups (groups_in p.names r)); exts = omega (arith, length-append p.module.exts (exts_in r)) }
+
+pub last-grows : (old m : ObjModule) → Grows old m → (l : LastData) → LastFits old l → LastFits m l
+last-grows old m g datas.None h = tt
+last-grows old m g (datas.Straight seg offset len) h = lies-grows old m g seg offset len h
+last-grows old m g (datas.Blocks seg offset wide body) h = lies-grows old m g seg offset _ h
+last-grows old m g datas.Dropped h = tt
+
+pub in_frame-grows : (old m : ObjModule) → Grows old m → (f : Frame) → InFrame old f → InFrame m f
+in_frame-grows old m g (frames.Seg i) h = (h.0, omega (arith, h.1, ap (λ (ss : List Seg). length ss) g.segs, length-append old.segs g.more_segs))
+in_frame-grows old m g (frames.Group i) h = (h.0, omega (arith, h.1, g.groups))
+in_frame-grows old m g (frames.Ext i) h = (h.0, omega (arith, h.1, g.exts))
+in_frame-grows old m g frames.Here h = tt
+in_frame-grows old m g frames.OfTarget h = tt
+
+pub in_goal-grows : (old m : ObjModule) → Grows old m → (f : Goal) → InGoal old f → InGoal m f
+in_goal-grows old m g (goals.Seg i) h = (h.0, omega (arith, h.1, ap (λ (ss : List Seg). length ss) g.segs, length-append old.segs g.more_segs))
+in_goal-grows old m g (goals.Group i) h = (h.0, omega (arith, h.1, g.groups))
+in_goal-grows old m g (goals.Ext i) h = (h.0, omega (arith, h.1, g.exts))
+
+pub option-grows : {A : Type 0} (P Q : A → Type 0) → ((x : A) → P x → Q x) → (o : Option A) → IfSome o P → IfSome o Q
+option-grows P Q h None a = tt
+option-grows P Q h (Some x) a = h x a
+
+pub no_threads : (ts : Threads) → length ts.frame ≡ 4 → length ts.goal ≡ 4 → set_threads ts [] ≡ ts
+unfolding set_threads
+no_threads ts f g = λ i. record { frame = four-items ts.frame f i; goal = four-items ts.goal g i }
+
+no_fixes : (p : ObjParts) (r : Record) → fields_in r ≡ [] → (add p r).module.fixes ≡ p.module.fixes
+unfolding add add_to_module
+no_fixes p r none = ap (λ (fs : List FixField). p.module.fixes ++ collect (λ fields f. fixes_by p.last (set_threads p.threads fields) f) fs) none ∙ append-nil p.module.fixes
+
+same_threads : (p : ObjParts) (r : Record) → Sane p → fields_in r ≡ [] → (add p r).threads ≡ p.threads
+unfolding add
+same_threads p r s none = ap (λ (fs : List FixField). set_threads p.threads fs) none ∙ no_threads p.threads s.four_frames s.four_goals
+
+pub add-sane : (p : ObjParts) (r : Record) → fields_in r ≡ [] → Sane p → GoodAfter p r → Sane (add p r)
+unfolding add add_to_module
+add-sane p r none s good =
+    let m : ObjModule = add_to_module p r in
+    let g = add-grows p r in
+    let d = data-whole p r good in
+    let fixes = no_fixes p r none in
+    let threads = same_threads p r s none in
+    record {
+      segs = all-app WholeSeg p.module.segs (segs_in p.names r) s.segs (segs-whole p r good);
+      groups = all-app (WholeGroup m) p.module.groups (groups_in p.names r) (all-each (WholeGroup p.module) (WholeGroup m) (group-grows p.module m g) p.module.groups s.groups) (all-each (WholeGroup p.module) (WholeGroup m) (group-grows p.module m g) (groups_in p.names r) (groups-whole p r good));
+      pubs = all-app (PubIn m) p.module.pubs (pubs_in r) (all-each (PubIn p.module) (PubIn m) (λ q h. place-grows p.module m g q.place h) p.module.pubs s.pubs) (all-each (PubIn p.module) (PubIn m) (λ q h. place-grows p.module m g q.place h) (pubs_in r) (pubs-whole p r good));
+      pieces = all-app (PieceIn m) p.module.pieces (pieces_in p.module.segs r) (all-each (PieceIn p.module) (PieceIn m) (λ q h. lies-grows p.module m g q.seg q.offset _ h) p.module.pieces s.pieces) (all-each (PieceIn p.module) (PieceIn m) (λ q h. lies-grows p.module m g q.seg q.offset _ h) (pieces_in p.module.segs r) d.pieces);
+      fixes = subst (AllByRecursion (WholeFix m)) (sym fixes) (all-each (WholeFix p.module) (WholeFix m) (fix-grows p.module m g) p.module.fixes s.fixes);
+      apart = subst (Pairs Apart) (sym fixes) s.apart;
+      imports = all-app HasModule p.module.imports (imports_in r) s.imports (imports-whole p r good);
+      exports = all-app WholeExp p.module.exports (exports_in r) s.exports (exports-whole p r good);
+      start = latest-all (StartSet m) p.module.start (starts_in p.threads r) (option-grows (WholeStart p.module) (WholeStart m) (start-grows p.module m g) p.module.start s.start) (all-each (StartSet p.module) (StartSet m) (option-grows (WholeStart p.module) (WholeStart m) (start-grows p.module m g)) (starts_in p.threads r) (starts-whole p r s good));
+      data_limit = omega (arith, d.limit s.data_limit, sum_by-append (λ (q : Piece). length q.bytes) p.module.pieces (pieces_in p.module.segs r));
+      fix_limit = subst (λ (fs : List FixAt). length fs ≤ MAX_FIXES) (sym fixes) s.fix_limit;
+      last = latest-all (LastFits m) p.last (datas_in p.module.segs r) (last-grows p.module m g p.last s.last) (all-each (LastFits p.module) (LastFits m) (last-grows p.module m g) (datas_in p.module.segs r) d.last);
+      frames = subst (λ (ts : Threads). AllByRecursion (FrameSet m) ts.frame) (sym threads) (all-each (FrameSet p.module) (FrameSet m) (option-grows (InFrame p.module) (InFrame m) (in_frame-grows p.module m g)) p.threads.frame s.frames);
+      goals = subst (λ (ts : Threads). AllByRecursion (GoalSet m) ts.goal) (sym threads) (all-each (GoalSet p.module) (GoalSet m) (option-grows (InGoal p.module) (InGoal m) (in_goal-grows p.module m g)) p.threads.goal s.goals);
+      four_frames = subst (λ (ts : Threads). length ts.frame ≡ 4) (sym threads) s.four_frames;
+      four_goals = subst (λ (ts : Threads). length ts.goal ≡ 4) (sym threads) s.four_goals;
+    }
