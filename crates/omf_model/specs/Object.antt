@@ -1,22 +1,21 @@
 -- What an object file and a library mean, and their first faults.
 -- "Object Record Order"; "Microsoft LIB Library Format".
-use Rattle.std.specs.Prelude.{◌≡◌, ◌≢◌, ℕ, ◌+◌, ◌-◌, ◌*◌, ◌<◌, Bool, true, false, ◌&&◌, List, [], ◌∷◌, ◌++◌, length, slice_index, Option, Err, nat_le, ◌==◌, if◌then◌else◌}
-use Rattle.std.specs.List.{AllByRecursion, flat_map}
+use Rattle.std.specs.Prelude.{◌≡◌, ◌≢◌, ℕ, ◌+◌, ◌-◌, ◌*◌, ◌<◌, true, false, List, [], ◌∷◌, ◌++◌, length, slice_index, Option, Err, if◌then◌else◌}
+use Rattle.std.specs.List.{AllByRecursion}
 use Rattle.lx_bytes.specs.LittleEndian.{little_bytes}
 use Rattle.lx_bytes.specs.Cursor.{Cursor}
 use Rattle.omf_frame.specs.Frame.{BeginsWhole}
 use Rattle.omf_frame.specs.Refusal.{IsCutOff}
 use Rattle.obj_types.specs.declared.refusal.OmfRefusal.{OmfRefusal}
 use Rattle.obj_types.specs.declared.refusal.OmfRefusal.TheVariants.{Short, BadField}
-use Rattle.obj_types.specs.declared.object.Piece.{Piece}
 use Rattle.obj_types.specs.declared.object.ObjModule.{ObjModule}
-use Rattle.omf_model.specs.Lists.{latest}
 use Rattle.omf_model.specs.Record.{Record, header, modend, FixData}
 use Rattle.omf_model.specs.Forms.{Form, ◌then◌, anything}
 use Rattle.omf_model.specs.Spelling.{SpellsAll}
 use Rattle.omf_model.specs.Parts.{parts_of, module_of}
 use Rattle.omf_model.specs.Good.{EachGood}
 use Rattle.omf_model.specs.ReadModule.{header_at, record_at, is_end, is_page_size, up_to_page, ends_library}
+pub use Rattle.obj_types.specs.Data.{Data}
 
 -- ---- an object file
 
@@ -120,6 +119,3 @@ pub data LibraryFault : List ℕ → OmfRefusal → Type 0 where
   other_type : {bytes : List ℕ} (ty : ℕ) (body : List ℕ) (checksum : ℕ) (rest : List ℕ) → BeginsWhole bytes ty body checksum rest → ty ≢ 0xF0 → LibraryFault bytes (BadField 0)
   no_page : {bytes : List ℕ} (body : List ℕ) (checksum : ℕ) (rest : List ℕ) → BeginsWhole bytes 0xF0 body checksum rest → is_page_size (4 + length body) ≡ false → LibraryFault bytes (BadField 1)
   in_modules : {bytes : List ℕ} {refusal : OmfRefusal} (size : ℕ) (front back : List ℕ) → bytes ≡ front ++ back → IsHeader size front → PageFault size size back refusal → LibraryFault bytes refusal
-
--- ---- data: the byte of the last piece that covers a place
-pub use Rattle.obj_types.specs.Data.{Data}
