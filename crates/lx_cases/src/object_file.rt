@@ -13,12 +13,13 @@ const GROUP: [u8; 9] = *b"\x02\x03\x01\x00\x9A\x02\x00\x04\x00";
 const MODEND: [u8; 5] = *b"\x8A\x02\x00\x00\x00";
 
 fn push_word(out: &mut Vec<u8>, number: usize) -> Result<(), AllocError> {
-    out.extend_from_slice(&(number as u16).to_le_bytes())
+    let word = u16::try_from(number).unwrap_or(u16::MAX);
+    out.extend_from_slice(&word.to_le_bytes())
 }
 
 fn push_data(out: &mut Vec<u8>, bytes: &[u8]) -> Result<(), AllocError> {
     out.push(0xA1)?;
-    push_word(out, bytes.len() + 6)?;
+    push_word(out, bytes.len().saturating_add(6))?;
     out.extend_from_slice(b"\x01\x00\x00\x00\x00")?;
     out.extend_from_slice(bytes)?;
     out.push(0)?;
@@ -27,7 +28,7 @@ fn push_data(out: &mut Vec<u8>, bytes: &[u8]) -> Result<(), AllocError> {
 
 fn push_fixups(out: &mut Vec<u8>, places: &[u16]) -> Result<(), AllocError> {
     out.push(0x9D)?;
-    push_word(out, 5 * places.len() + 1)?;
+    push_word(out, places.len().saturating_mul(5).saturating_add(1))?;
     for place in places {
         let [low, high] = place.to_le_bytes();
         out.extend_from_slice(&[0xE4 | high, low, 0x14, 1, 1])?;
@@ -40,7 +41,8 @@ fn push_fixups(out: &mut Vec<u8>, places: &[u16]) -> Result<(), AllocError> {
 pub fn object_file(alloc: Global, bytes: &[u8], places: &[u16]) -> Result<Vec<u8>, AllocError> {
     let mut out = Vec::new(alloc);
     out.extend_from_slice(&HEAD)?;
-    out.extend_from_slice(&(bytes.len() as u32).to_le_bytes())?;
+    let length = u32::try_from(bytes.len()).unwrap_or(u32::MAX);
+    out.extend_from_slice(&length.to_le_bytes())?;
     out.extend_from_slice(&GROUP)?;
     if !bytes.is_empty() {
         push_data(&mut out, bytes)?;
