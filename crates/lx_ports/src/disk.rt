@@ -1,4 +1,4 @@
-// The real files and the real standard output. They tell nothing of what they hold, and count what failed.
+//! The real files and the real standard output. They tell nothing of what they hold, and count what failed.
 ghost use Rattle.std.specs.Prelude.{◌≡◌, None};
 
 use crate::{Files, LoadFault, SaveFault, Sink, SinkFailed};

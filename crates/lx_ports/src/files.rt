@@ -1,4 +1,4 @@
-// Files by name, as the commands see them.
+//! Files by name, as the commands see them.
 ghost use Rattle.std.specs.Prelude.{◌≡◌, ◌≤◌, List, ℕ, length, Option, IfOk, IfSome, OnOk, OnErr, IsErrOf};
 ghost use Rattle.lx_ports.specs.Files.{Answers, IsSaved, KeepsOthers};
 ghost use Rattle.lx_ports.specs.Causes.{Rose};
@@ -34,6 +34,7 @@ impl From<AllocError> for LoadFault {
     }
 }
 
+/// Files, each of them whole: what a command loads and saves.
 pub trait Files {
     /// The bytes that each name holds, where they are told. Real files tell nothing.
     ghost contents: { Self → Option (List ℕ → Option (List ℕ)) };

@@ -1,4 +1,4 @@
-// Files in memory, of which chosen loads and saves fail.
+//! Files in memory, of which chosen loads and saves fail.
 ghost use Rattle.std.specs.Prelude.{◌≡◌, ◌≢◌, ◌≤◌, ◌↔◌, List, ℕ, length, Some, IfOk, OnOk, OnErr, IsErrOf, option_map};
 ghost use Rattle.std.specs.List.{position};
 ghost use Rattle.lx_ports.specs.Causes.{Rose};

@@ -1,4 +1,4 @@
-// A sink in memory that takes pieces of a bounded size, and of which chosen puts fail.
+//! A sink in memory that takes pieces of a bounded size, and of which chosen puts fail.
 ghost use Rattle.std.specs.Prelude.{◌≡◌, ◌≤◌, ◌<◌, ◌↔◌, ◌⊎◌, [], length, Some, Ok, IfOk, OnErr, IsErr, IsTrue, vec_capacity};
 ghost use Rattle.std.specs.Io.{WritesAtMost};
 ghost use Rattle.std.specs.Io.KnownBytes.{WriteAppends};

@@ -1,4 +1,4 @@
-// Where the text of a command goes.
+//! Where the text of a command goes.
 ghost use Rattle.std.specs.Prelude.{◌≡◌, ◌≤◌, ◌<◌, List, [], ℕ, length, Option, IfOk, OnErr, Ok};
 ghost use Rattle.std.specs.Io.KnownBytes.{WriteAppends};
 ghost use Rattle.std.specs.Io.{WritesAtMost};
@@ -8,6 +8,7 @@ ghost use Rattle.lx_ports.specs.Causes.{Rose};
 #[derive(Clone, Copy, Debug, PartialEq, Eq, Drop)]
 pub struct SinkFailed;
 
+/// Takes text, piece by piece.
 pub trait Sink {
     /// All the bytes that it took so far, where they are told. Standard output tells nothing.
     ghost told: { Self → Option (List ℕ) };

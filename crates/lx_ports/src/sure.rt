@@ -1,4 +1,4 @@
-// Files and a sink that never fail, for callers that are to have no fault to tell.
+//! Files and a sink that never fail, for callers that are to have no fault to tell.
 ghost use Rattle.std.specs.Prelude.{◌≡◌, Some, None};
 ghost use Rattle.lx_ports.specs.Memory.{NoLoadIsToFail};
 ghost use Rattle.lx_ports.specs.Names.{held_in};

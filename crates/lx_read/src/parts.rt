@@ -17,7 +17,7 @@ const CODE_OBJECT: u32 = 0x2005;
 struct Places {
     records: u32,
     imports: u32,
-    data: u32,
+    page: u32,
 }
 
 fn page_count(m: &OneObject) -> u32
@@ -32,15 +32,15 @@ fn places_of(m: &OneObject, file_len: u32) -> Places
     requires file { file_len ≡ length (file m.now) }
     ensures records { result.records ≡ records_at m.now }
     ensures imports { result.imports ≡ imports_at m.now }
-    ensures data { result.data ≡ data_at m.now }
+    ensures page { result.page ≡ data_at m.now }
 {
     sections_stand();
     let name = m.name.bytes().len() as u32;
-    let data = file_len - name - 4 - m.page.as_slice().len() as u32;
+    let page = file_len - name - 4 - m.page.as_slice().len() as u32;
     Places {
         records: 220 + 8 * page_count(m) + name + 4 + 1 + 4 * page_count(m) + 4,
-        imports: data - 1,
-        data,
+        imports: page - 1,
+        page,
     }
 }
 
@@ -99,7 +99,7 @@ pub fn tables_of(alloc: Global, m: &OneObject, file_len: u32) -> Result<Tables, 
     })?;
     Ok(Tables {
         objects,
-        pages: page_table(alloc, m, places.data)?,
+        pages: page_table(alloc, m, places.page)?,
         fix_spans: fix_spans(alloc, m, places.records, places.imports)?,
         procs_at: places.imports,
     })

@@ -1,4 +1,4 @@
-// Why the tool did not do what the words ask for.
+//! Why the tool did not do what the words ask for.
 ghost use Rattle.std.specs.Prelude.{◌≡◌, IfOk, string_bytes};
 ghost use Rattle.lx_tool.specs.FileLine.{file_line};
 

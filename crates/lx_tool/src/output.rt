@@ -1,4 +1,4 @@
-// Putting a text into a sink.
+//! Putting a text into a sink.
 ghost use Rattle.std.specs.Prelude.{◌≤◌, OnOk, OnErr};
 ghost use Rattle.std.specs.Io.KnownBytes.{Appends};
 ghost use Rattle.lx_ports.specs.Causes.{Rose};

@@ -1,4 +1,4 @@
-// The bytes of a module's object at its linked base.
+//! The bytes of a module's object at its linked base.
 ghost use Rattle.std.specs.Prelude.{if◌then◌else◌, nat_lt, ◌≡◌, ◌≤◌, ◌+◌, ◌-◌, ℕ, length, IfOk, slice_index};
 ghost use Rattle.first_form.specs.Segment.{covers};
 ghost use Rattle.first_form.specs.Fixing.{image};
@@ -36,7 +36,7 @@ fn put_field(page: &mut [u8], at: usize, field: [u8; 4])
 /// Puts the fixups of a page of an object at this base.
 fn put_fixups(page: &mut [u8], base: u32, records: &[u8])
     requires room { length page.old ≡ 4099 }
-    requires module { (m : OneObject) × IsPage m base page.old records.now }
+    requires page { (m : OneObject) × IsPage m base page.old records.now }
     ensures { (m : OneObject) → IsPage m base page.old records.now → IsFixed m page.new }
 {
     let mut rest = records;
@@ -52,7 +52,7 @@ fn fill_page(page: &mut [u8], base: u32, bytes: &[u8], records: &[u8])
     requires zeros { (x : ℕ) → slice_index page.old x ≡ 0 }
     requires room { length page.old ≡ 4099 }
     requires short { length bytes.now ≤ 4096 }
-    requires module { (m : OneObject) × IsPage m base bytes.now records.now }
+    requires page { (m : OneObject) × IsPage m base bytes.now records.now }
     ensures { (m : OneObject) → IsPage m base bytes.now records.now → IsFixed m page.new }
 {
     put_front(page, bytes);
@@ -60,12 +60,12 @@ fn fill_page(page: &mut [u8], base: u32, bytes: &[u8], records: &[u8])
 }
 
 /// The bytes of the module's object at its linked base.
-pub fn object_bytes(alloc: Global, module: &Module) -> Result<Vec<u8>, NoMemory>
-    requires { (m : OneObject) × IsOneObject m × (module.now ≡ parts_of m) }
-    ensures { IfOk result (λ bytes. (m : OneObject) → IsOneObject m → module.now ≡ parts_of m → bytes.items ≡ image m) }
+pub fn object_bytes(alloc: Global, linked: &Module) -> Result<Vec<u8>, NoMemory>
+    requires { (m : OneObject) × IsOneObject m × (linked.now ≡ parts_of m) }
+    ensures { IfOk result (λ bytes. (m : OneObject) → IsOneObject m → linked.now ≡ parts_of m → bytes.items ≡ image m) }
 {
     first_module();
-    let head = module.objects()[0];
+    let head = linked.objects()[0];
     if head.size == 0 {
         return Ok(Vec::new(alloc));
     }
@@ -74,8 +74,8 @@ pub fn object_bytes(alloc: Global, module: &Module) -> Result<Vec<u8>, NoMemory>
     fill_page(
         &mut page,
         head.base,
-        module.page_bytes(first),
-        module.fix_bytes(first),
+        linked.page_bytes(first),
+        linked.fix_bytes(first),
     );
     page.truncate(head.size as usize);
     Ok(page)

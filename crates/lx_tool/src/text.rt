@@ -1,4 +1,4 @@
-// The bytes of an object as text.
+//! The bytes of an object as text.
 ghost use Rattle.std.specs.Prelude.{◌≡◌, ◌≤◌, ◌+◌, ◌^◌, ◌++◌, length, IfOk, OnOk, List};
 ghost use Rattle.lx_tool.specs.ImageText.{line, image_text, two_digits};
 

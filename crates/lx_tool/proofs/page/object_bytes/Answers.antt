@@ -8,8 +8,8 @@ pub fill_page-requires-clause-zeros : goal.fill_page-requires-clause-zeros
 fill_page-requires-clause-zeros c x =
     ap (λ (l : List ℕ). slice_index l x) (c.deref_mut.ensures.value ∙ c.in_ok-page.ensures.items_if_clones_equal (λ y is. is)) ∙ all_zeros 4099 x
 
-pub fill_page-requires-clause-module : goal.fill_page-requires-clause-module
-fill_page-requires-clause-module c =
+pub fill_page-requires-clause-page : goal.fill_page-requires-clause-page
+fill_page-requires-clause-page c =
     let m = c.requires.0 in
     (m, page_shown m _ c.requires.2 _ c.objects.ensures.list c.requires.1 (c.first_module.ensures m c.requires.1) _ _ c.page_bytes.ensures c.fix_bytes.ensures)
 

@@ -7,8 +7,8 @@ loop-source-init c m is = none_out m _ _ _ is
 
 pub put_field-requires : goal.put_field-requires
 put_field-requires c =
-    let m = c.requires.module.0 in
-    let is = c.requires.module.1 in
+    let m = c.requires.page.0 in
+    let is = c.requires.page.1 in
     let fits = field_fits m is.object _ _ (c.loop-source.invariant m is) c.in-Some.source c.in-Some.after.now c.in-Some.ensures.read c.in-Some.ensures.whole in
     omega (arith, fits)
 
