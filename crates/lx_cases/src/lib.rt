@@ -7,4 +7,6 @@ mod calls;
 #[cfg(test)]
 mod image;
 #[cfg(test)]
+mod linking;
+#[cfg(test)]
 mod object_file;
