@@ -1,16 +1,16 @@
 -- How long the records of a page are.
 use Rattle.std.proofs.Common.{◌*◌, ◌≤◌, List, [], ◌∷◌, length, arith, length-append}
-use Rattle.first_form.specs.ModuleFile.{IsOneObject, source_record, records}
-use Rattle.first_form.specs.declared.module_file.Source.{Source}
+use Rattle.first_form.specs.ModuleFile.{IsOneObject, reference_record, records}
+use Rattle.first_form.specs.declared.module_file.Reference.{Reference}
 use Rattle.first_form.specs.declared.module_file.OneObject.{OneObject}
 
-source_record-length : (s : Source) → length (source_record s) ≤ 9
-source_record-length s = grind arith
+reference_record-length : (s : Reference) → length (reference_record s) ≤ 9
+reference_record-length s = grind arith
 
-records-length : (sources : List Source) → length (records sources) ≤ 9 * length sources
+records-length : (references : List Reference) → length (records references) ≤ 9 * length references
 records-length [] = omega arith
-records-length (s ∷ sources) =
-    omega (arith, length-append (source_record s) (records sources), source_record-length s, records-length sources)
+records-length (s ∷ references) =
+    omega (arith, length-append (reference_record s) (records references), reference_record-length s, records-length references)
 
-pub records_fit : (m : OneObject) → IsOneObject m → length (records m.sources) ≤ 147456
-records_fit m is = omega (arith, records-length m.sources, is.count)
+pub records_fit : (m : OneObject) → IsOneObject m → length (records m.references) ≤ 147456
+records_fit m is = omega (arith, records-length m.references, is.count)

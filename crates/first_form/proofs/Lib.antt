@@ -1,3 +1,3 @@
 mod Lengths
 mod Places
-mod Sources
+mod References

@@ -3,7 +3,7 @@ use Rattle.std.proofs.Common.{◌≡◌, ℕ, ◌+◌, ◌-◌, ◌*◌, ◌≤�
 use Rattle.std.proofs.Math.Seq.{drop-append_seam, take-append_seam}
 use Rattle.lx_types.specs.Parts.{span}
 use Rattle.first_form.proofs.Lengths.{records_fit}
-use Rattle.first_form.specs.ModuleFile.{IsOneObject, has_page, pages, header, object_table, page_entry, page_table, name_table, fixup_page_table, records, resident_at, entries_at, records_at, imports_at, data_at, others_at, file}
+use Rattle.first_form.specs.ModuleFile.{IsOneObject, has_page, pages, header, object_table, page_entry, page_table, name_table, fixup_page_table, records, resident_at, entries_at, records_at, imports_at, page_data_at, others_at, file}
 use Rattle.first_form.specs.Places.{LeadsTo, Stands}
 use Rattle.first_form.specs.declared.module_file.OneObject.{OneObject}
 
@@ -66,25 +66,25 @@ head-at a b c d e f g h i j = simp append_assoc
 names-span : (m : OneObject) → span (file m) (resident_at m) (entries_at m) ≡ name_table m.name
 unfolding file
 names-span m =
-    fourth-at (header m) (object_table m) (page_table m) (name_table m.name) (0 ∷ []) (fixup_page_table m) (records m.sources) (0 ∷ []) m.page (name_table m.name)
+    fourth-at (header m) (object_table m) (page_table m) (name_table m.name) (0 ∷ []) (fixup_page_table m) (records m.references) (0 ∷ []) m.page (name_table m.name)
     (resident_at m) (entries_at m) (omega (arith, page_table-length m)) (omega (arith, name_table-length m.name))
 
-records-span : (m : OneObject) → span (file m) (records_at m) (imports_at m) ≡ records m.sources
+records-span : (m : OneObject) → span (file m) (records_at m) (imports_at m) ≡ records m.references
 unfolding file
 records-span m =
-    seventh-at (header m) (object_table m) (page_table m) (name_table m.name) (0 ∷ []) (fixup_page_table m) (records m.sources) (0 ∷ []) m.page (name_table m.name)
+    seventh-at (header m) (object_table m) (page_table m) (name_table m.name) (0 ∷ []) (fixup_page_table m) (records m.references) (0 ∷ []) m.page (name_table m.name)
     (records_at m) (imports_at m) (omega (arith, page_table-length m, name_table-length m.name, fixup_page_table-length m)) refl
 
-page-span : (m : OneObject) → span (file m) (data_at m) (others_at m) ≡ m.page
+page-span : (m : OneObject) → span (file m) (page_data_at m) (others_at m) ≡ m.page
 unfolding file
 page-span m =
-    ninth-at (header m) (object_table m) (page_table m) (name_table m.name) (0 ∷ []) (fixup_page_table m) (records m.sources) (0 ∷ []) m.page (name_table m.name)
-    (data_at m) (others_at m) (omega (arith, page_table-length m, name_table-length m.name, fixup_page_table-length m)) refl
+    ninth-at (header m) (object_table m) (page_table m) (name_table m.name) (0 ∷ []) (fixup_page_table m) (records m.references) (0 ∷ []) m.page (name_table m.name)
+    (page_data_at m) (others_at m) (omega (arith, page_table-length m, name_table-length m.name, fixup_page_table-length m)) refl
 
 file-length : (m : OneObject) → length (file m) ≡ others_at m + length m.name + 4
 unfolding file
 file-length m =
-    let e = length-ten (header m) (object_table m) (page_table m) (name_table m.name) (0 ∷ []) (fixup_page_table m) (records m.sources) (0 ∷ []) m.page (name_table m.name) in
+    let e = length-ten (header m) (object_table m) (page_table m) (name_table m.name) (0 ∷ []) (fixup_page_table m) (records m.references) (0 ∷ []) m.page (name_table m.name) in
     omega (arith, e, page_table-length m, name_table-length m.name, fixup_page_table-length m)
 
 pub file_stands : (m : OneObject) → IsOneObject m → Stands (file m) m
@@ -101,7 +101,7 @@ file_stands m is = record {
 begins : (m : OneObject) → (rest : List ℕ) × (file m ≡ header m ++ (object_table m ++ rest))
 unfolding file
 begins m =
-    (_, head-at (header m) (object_table m) (page_table m) (name_table m.name) (0 ∷ []) (fixup_page_table m) (records m.sources) (0 ∷ []) m.page (name_table m.name))
+    (_, head-at (header m) (object_table m) (page_table m) (name_table m.name) (0 ∷ []) (fixup_page_table m) (records m.references) (0 ∷ []) m.page (name_table m.name))
 
 leads : (m : OneObject) (rest : List ℕ) → IsOneObject m → LeadsTo (header m ++ (object_table m ++ rest)) m
 leads m rest is =

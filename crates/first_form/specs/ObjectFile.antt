@@ -22,7 +22,8 @@ theadr name = record_of 0x80 (length name ∷ name)
 -- The empty name, CODE32, CODE and FLAT.
 abbrev pub lnames : List ℕ
 lnames = record_of 0x96
-    (0 ∷ 6 ∷ 0x43 ∷ 0x4F ∷ 0x44 ∷ 0x45 ∷ 0x33 ∷ 0x32 ∷ 4 ∷ 0x43 ∷ 0x4F ∷ 0x44 ∷ 0x45 ∷ 4 ∷ 0x46 ∷ 0x4C ∷ 0x41 ∷ 0x54 ∷ [])
+    (0 ∷ 6 ∷ 0x43 ∷ 0x4F ∷ 0x44 ∷ 0x45 ∷ 0x33 ∷ 0x32 ∷ 4 ∷ 0x43 ∷ 0x4F ∷ 0x44 ∷ 0x45
+    ∷ 4 ∷ 0x46 ∷ 0x4C ∷ 0x41 ∷ 0x54 ∷ [])
 
 -- Doubleword-aligned, public, use32; its length, segment name CODE32, class CODE, the empty overlay.
 abbrev pub segdef : ℕ → List ℕ
@@ -93,8 +94,16 @@ Spells bytes form = IsForm form × ((rest : List ℕ) × (bytes ≡ spelling for
 -- ---- The module that a file of this form means.
 
 abbrev pub seg_of : List ℕ → Seg
-seg_of bytes = record { name = codes "CODE32"; class = codes "CODE"; align = 5; combine = 2; wide = true; len = length bytes; debug = false }
+seg_of bytes = record {
+  name = codes "CODE32";
+  class = codes "CODE";
+  align = 5;
+  combine = 2;
+  wide = true;
+  len = length bytes;
+  debug = false;
+}
 
 -- The smallest module: CODE32 in FLAT, its data and its fixups.
-abbrev pub object_of : Form → ObjModule
-object_of form = one_segment form.name form.bytes (places form.fixups)
+abbrev pub object_module_of : Form → ObjModule
+object_module_of form = one_segment form.name form.bytes (places form.fixups)

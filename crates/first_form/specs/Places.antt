@@ -3,7 +3,7 @@ use Rattle.std.specs.Prelude.{◌≡◌, ℕ, ◌+◌, ◌^◌, ◌<◌, List, l
 use Rattle.std.specs.Int.{w32, to_le_bytes}
 use Rattle.lx_types.specs.Parts.{span}
 use Rattle.first_form.specs.declared.module_file.OneObject.{OneObject}
-use Rattle.first_form.specs.ModuleFile.{name_table, records, resident_at, entries_at, records_at, imports_at, data_at, others_at}
+use Rattle.first_form.specs.ModuleFile.{name_table, records, resident_at, entries_at, records_at, imports_at, page_data_at, others_at}
 
 -- A doubleword of a file.
 pub record IsDoubleword (bytes : List ℕ) (at : ℕ) (n : ℕ) : Type 0 where
@@ -17,7 +17,7 @@ pub record LeadsTo (bytes : List ℕ) (m : OneObject) : Type 0 where
   pub entries : IsDoubleword bytes 0x5C (entries_at m)
   pub records : IsDoubleword bytes 0x6C (records_at m)
   pub imports : IsDoubleword bytes 0x70 (imports_at m)
-  pub page : IsDoubleword bytes 0x80 (data_at m)
+  pub page : IsDoubleword bytes 0x80 (page_data_at m)
   pub others : IsDoubleword bytes 0x88 (others_at m)
   pub size : IsDoubleword bytes 196 m.size
   pub base : IsDoubleword bytes 200 m.base
@@ -25,7 +25,7 @@ pub record LeadsTo (bytes : List ℕ) (m : OneObject) : Type 0 where
 -- What stands at those places, and how long the file is.
 pub record Stands (bytes : List ℕ) (m : OneObject) : Type 0 where
   pub names : span bytes (resident_at m) (entries_at m) ≡ name_table m.name
-  pub records : span bytes (records_at m) (imports_at m) ≡ records m.sources
-  pub page : span bytes (data_at m) (others_at m) ≡ m.page
+  pub records : span bytes (records_at m) (imports_at m) ≡ records m.references
+  pub page : span bytes (page_data_at m) (others_at m) ≡ m.page
   pub len : length bytes ≡ others_at m + length m.name + 4
   pub short : length bytes < 2 ^ 32

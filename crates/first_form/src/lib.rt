@@ -7,10 +7,7 @@ mod reading;
 mod records;
 mod writing;
 
-pub use module_file::{OneObject, Source, Sources};
-pub use reading::{read_file, sections_stand};
-pub use records::next_source;
+pub use module_file::{OneObject, Reference, References};
+pub use reading::read_file;
+pub use records::next_reference;
 pub use writing::write_file;
-
-#[cfg(test)]
-mod tests;

@@ -2,19 +2,19 @@
 
 use lx_types::{Bytes, Name, Seq};
 
-/// A fixup source: a 32-bit field at `offset` in the page, which gets the address of `target`, an
-/// offset in object 1. ("32-bit Linear eXecutable Module Format", "Fixup Record Table".)
-#[derive(Debug, Clone, Copy, PartialEq, Eq)]
-pub struct Source {
+/// An internal reference: a 32-bit field at `offset` in the page gets the address of `target`, an offset in
+/// object 1. ("32-bit Linear eXecutable Module Format", "Fixup Record Table".)
+#[derive(Clone, Copy)]
+pub struct Reference {
     pub offset: u32,
     pub target: u32,
 }
 
-/// The sources of a page.
-pub type Sources = Seq<Source>;
+/// The internal references of a page.
+pub type References = Seq<Reference>;
 
 /// A library of one 32-bit code object of at most one page.
-#[derive(Debug, PartialEq, Drop)]
+#[derive(Drop)]
 pub struct OneObject {
     /// The module's name, which is its description too.
     pub name: Name,
@@ -24,5 +24,5 @@ pub struct OneObject {
     pub size: u32,
     /// The page's data up to its last byte that is not 0; empty where the page is zero-filled.
     pub page: Bytes,
-    pub sources: Sources,
+    pub references: References,
 }

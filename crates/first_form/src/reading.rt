@@ -5,13 +5,32 @@ ghost use Rattle.std.specs.List.{All, AllByRecursion};
 ghost use Rattle.lx_types.specs.Names.{IsName};
 ghost use Rattle.lx_types.specs.Parts.{span};
 ghost use Rattle.first_form.specs.declared.module_file.OneObject.{OneObject};
-ghost use Rattle.first_form.specs.declared.module_file.Source.{Source};
+ghost use Rattle.first_form.specs.declared.module_file.Reference.{Reference};
 ghost use Rattle.first_form.specs.ModuleFile.{IsOneObject, IsFileOf, name_table, records, file};
 ghost use Rattle.first_form.specs.Places.{IsDoubleword, LeadsTo, Stands};
 
-use crate::{OneObject, Source, next_source, write_file};
-use lx_types::{Fail, Name, NoMemory, Seq};
+use crate::{OneObject, Reference, next_reference, write_file};
+use lx_types::{Name, NoMemory, Seq};
 use std::alloc::{AllocError, Global};
+
+/// Where the header has the places of the sections that are read ("LX Header"). A section ends where the
+/// next one begins.
+const RESIDENT_NAMES: usize = 0x58;
+
+const ENTRY_TABLE: usize = 0x5C;
+
+const FIXUP_RECORDS: usize = 0x6C;
+
+const IMPORT_MODULES: usize = 0x70;
+
+const DATA_PAGES: usize = 0x80;
+
+const NONRESIDENT_NAMES: usize = 0x88;
+
+/// The object table follows the header: the first entry's size and its base.
+const OBJECT_SIZE: usize = 196;
+
+const OBJECT_BASE: usize = 200;
 
 /// The bytes from a place on: `len` of them, or as many as there are.
 fn part(bytes: &[u8], from: usize, len: usize) -> &[u8]
@@ -43,7 +62,8 @@ fn section(bytes: &[u8], begin: usize, end: usize) -> &[u8]
 
 /// The first name of a name table.
 fn first_name(table: &[u8]) -> &[u8]
-    ensures whole { (name : List ℕ) → IsName name → table.now ≡ name_table name → result.now ≡ name }
+    ensures whole { (name : List ℕ) → IsName name → table.now ≡ name_table name
+        → result.now ≡ name }
     ensures short { IsName result.now }
 {
     match table {
@@ -53,59 +73,57 @@ fn first_name(table: &[u8]) -> &[u8]
 }
 
 fn name_of(alloc: Global, table: &[u8]) -> Result<Name, NoMemory>
-    ensures { (name : List ℕ) → IsName name → table.now ≡ name_table name → IfOk result (λ n. n ≡ name) }
+    ensures { (name : List ℕ) → IsName name → table.now ≡ name_table name
+        → IfOk result (λ n. n ≡ name) }
 {
-    match Name::of(alloc, first_name(table)) {
-        Ok(name) => Ok(name),
-        Err(Fail::NoMemory) => Err(NoMemory),
-        Err(Fail::Said(_)) => unreachable!(),
-    }
+    Name::of_short(alloc, first_name(table))
 }
 
-/// The sources of the fixup records with which the bytes begin.
-fn sources_of(alloc: Global, bytes: &[u8]) -> Result<Vec<Source>, AllocError>
-    ensures { (sources : List Source) → AllByRecursion (λ s. (s.offset < 4096) × (s.target < 2 ^ 32)) sources
-        → bytes.now ≡ records sources → IfOk result (λ v. v.items ≡ sources) }
+/// The references of the fixup records with which the bytes begin.
+fn references_of(alloc: Global, bytes: &[u8]) -> Result<Vec<Reference>, AllocError>
+    ensures { (references : List Reference)
+        → AllByRecursion (λ s. (s.offset < 4096) × (s.target < 2 ^ 32)) references
+        → bytes.now ≡ records references → IfOk result (λ v. v.items ≡ references) }
 {
-    let mut sources = Vec::new(alloc);
+    let mut references = Vec::new(alloc);
     let mut rest = bytes;
-    while let Some((source, after)) = next_source(rest) {
-        sources.push(source)?;
+    while let Some((reference, after)) = next_reference(rest) {
+        references.push(reference)?;
         rest = after;
     }
-    Ok(sources)
+    Ok(references)
 }
 
 /// What stands at the places of a module's file.
-fn taken(alloc: Global, bytes: &[u8]) -> Result<OneObject, NoMemory>
+fn candidate(alloc: Global, bytes: &[u8]) -> Result<OneObject, NoMemory>
     ensures { (m : OneObject) → IsFileOf bytes.now m → IfOk result (λ r. r ≡ m) }
 {
-    let name = name_of(alloc, section(bytes, 0x58, 0x5C))?;
-    let sources = sources_of(alloc, section(bytes, 0x6C, 0x70))?;
-    let page = Vec::from_slice(alloc, section(bytes, 0x80, 0x88))?;
+    let name = name_of(alloc, section(bytes, RESIDENT_NAMES, ENTRY_TABLE))?;
+    let references = references_of(alloc, section(bytes, FIXUP_RECORDS, IMPORT_MODULES))?;
+    let page = Vec::from_slice(alloc, section(bytes, DATA_PAGES, NONRESIDENT_NAMES))?;
     Ok(OneObject {
         name,
-        base: doubleword_at(bytes, 200),
-        size: doubleword_at(bytes, 196),
+        base: doubleword_at(bytes, OBJECT_BASE),
+        size: doubleword_at(bytes, OBJECT_SIZE),
         page: Seq::from_vec(page),
-        sources: Seq::from_vec(sources),
+        references: Seq::from_vec(references),
     })
 }
 
-fn is_source(source: &Source) -> bool
-    ensures { IsTrue result ↔ ((source.now.offset < 4096) × (source.now.target < 2 ^ 32)) }
+fn is_reference(reference: &Reference) -> bool
+    ensures { IsTrue result ↔ ((reference.now.offset < 4096) × (reference.now.target < 2 ^ 32)) }
 {
-    let Source {
+    let Reference {
         offset,
         target: _target,
-    } = *source;
+    } = *reference;
     offset < 4096
 }
 
-fn are_sources(sources: &[Source]) -> bool
-    ensures { IsTrue result ↔ All (λ s. (s.offset < 4096) × (s.target < 2 ^ 32)) sources.now }
+fn are_references(references: &[Reference]) -> bool
+    ensures { IsTrue result ↔ All (λ s. (s.offset < 4096) × (s.target < 2 ^ 32)) references.now }
 {
-    sources.iter().all(is_source)
+    references.iter().all(is_reference)
 }
 
 fn is_one_object(m: &OneObject) -> bool
@@ -113,14 +131,14 @@ fn is_one_object(m: &OneObject) -> bool
 {
     let _name = m.name.bytes();
     let _base = m.base;
-    let sources = m.sources.as_slice();
-    if m.size > 4096 || m.page.as_slice().len() > m.size as usize || sources.len() >= 16384 {
+    let references = m.references.as_slice();
+    if m.size > 4096 || m.page.as_slice().len() > m.size as usize || references.len() >= 16384 {
         return false;
     }
-    if m.size == 0 && !sources.is_empty() {
+    if m.size == 0 && !references.is_empty() {
         return false;
     }
-    are_sources(sources)
+    are_references(references)
 }
 
 /// The module whose file the bytes are. `None` comes exactly where they are the file of none.
@@ -128,8 +146,10 @@ fn is_one_object(m: &OneObject) -> bool
 pub fn read_file(alloc: Global, bytes: &[u8]) -> Result<Option<OneObject>, NoMemory>
     ensures read { IfOk result (λ r. IfSome r (λ m. IsFileOf bytes.now m)) }
     ensures whole { (m : OneObject) → IsFileOf bytes.now m → IfOk result (λ r. r ≡ Some m) }
+    // Where the sections of the module's file stand, and that each place has 32 bits.
+    ensures stands { IfOk result (λ r. IfSome r (λ m. Stands (file m) m)) }
 {
-    let m = taken(alloc, bytes)?;
+    let m = candidate(alloc, bytes)?;
     if !is_one_object(&m) {
         return Ok(None);
     }
@@ -140,8 +160,3 @@ pub fn read_file(alloc: Global, bytes: &[u8]) -> Result<Option<OneObject>, NoMem
         Ok(None)
     }
 }
-
-/// A law: where the sections of a module's file stand, and that each place has 32 bits.
-pub fn sections_stand()
-    ensures { (m : OneObject) → IsOneObject m → Stands (file m) m }
-{}

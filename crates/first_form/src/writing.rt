@@ -1,9 +1,9 @@
 //! Writing a module of the first form: its sections one after another, without gaps.
 ghost use Rattle.std.specs.Prelude.{◌≡◌, ◌+◌, ◌*◌, ◌++◌, ◌<◌, ◌≤◌, ◌^◌, IfOk, OnOk, length};
 ghost use Rattle.std.specs.List.{AllByRecursion};
-ghost use Rattle.first_form.specs.ModuleFile.{IsOneObject, pages, doublewords, header_fields, header, object_table, page_entry, page_table, name_table, fixup_page_table, source_record, records, file};
+ghost use Rattle.first_form.specs.ModuleFile.{IsOneObject, pages, doublewords, header_fields, header, object_table, page_entry, page_table, name_table, fixup_page_table, reference_record, records, file};
 
-use crate::{OneObject, Source};
+use crate::{OneObject, Reference};
 use lx_types::NoMemory;
 use std::alloc::{AllocError, Global};
 
@@ -16,28 +16,28 @@ fn push_doublewords(out: &mut Vec<u8>, numbers: &[u32]) -> Result<(), AllocError
     Ok(())
 }
 
-fn push_record(out: &mut Vec<u8>, source: &Source) -> Result<(), AllocError>
-    requires { source.now.offset < 2 ^ 16 }
-    ensures { OnOk result (out.new.items ≡ out.old.items ++ source_record source.now) }
+fn push_record(out: &mut Vec<u8>, reference: &Reference) -> Result<(), AllocError>
+    requires { reference.now.offset < 2 ^ 16 }
+    ensures { OnOk result (out.new.items ≡ out.old.items ++ reference_record reference.now) }
 {
-    let offset = (source.offset as u16).to_le_bytes();
-    if source.target < 65536 {
+    let offset = (reference.offset as u16).to_le_bytes();
+    if reference.target < 65536 {
         out.extend_from_slice(&[7, 0, offset[0], offset[1], 1])?;
-        out.extend_from_slice(&(source.target as u16).to_le_bytes())?;
+        out.extend_from_slice(&(reference.target as u16).to_le_bytes())?;
     } else {
         out.extend_from_slice(&[7, 0x10, offset[0], offset[1], 1])?;
-        out.extend_from_slice(&source.target.to_le_bytes())?;
+        out.extend_from_slice(&reference.target.to_le_bytes())?;
     }
     Ok(())
 }
 
-fn records_of(alloc: Global, sources: &[Source]) -> Result<Vec<u8>, AllocError>
-    requires { AllByRecursion (λ s. (s.offset < 4096) × (s.target < 2 ^ 32)) sources.now }
-    ensures { IfOk result (λ v. v.items ≡ records sources.now) }
+fn records_of(alloc: Global, references: &[Reference]) -> Result<Vec<u8>, AllocError>
+    requires { AllByRecursion (λ s. (s.offset < 4096) × (s.target < 2 ^ 32)) references.now }
+    ensures { IfOk result (λ v. v.items ≡ records references.now) }
 {
     let mut out = Vec::new(alloc);
-    for source in sources {
-        push_record(&mut out, source)?;
+    for reference in references {
+        push_record(&mut out, reference)?;
     }
     Ok(out)
 }
@@ -52,7 +52,7 @@ fn page_count(m: &OneObject) -> u32
 #[tactic(auto, using(crate::proofs::Lengths::records_fit))]
 fn header_numbers(m: &OneObject, records_len: u32) -> [u32; 43]
     requires fits { IsOneObject m.now }
-    requires records { records_len ≡ length (records m.now.sources) }
+    requires records { records_len ≡ length (records m.now.references) }
     ensures { result ≡ header_fields m.now }
 {
     let pages = page_count(m);
@@ -76,7 +76,7 @@ fn header_numbers(m: &OneObject, records_len: u32) -> [u32; 43]
 
 fn push_header(out: &mut Vec<u8>, m: &OneObject, records_len: u32) -> Result<(), AllocError>
     requires fits { IsOneObject m.now }
-    requires records { records_len ≡ length (records m.now.sources) }
+    requires records { records_len ≡ length (records m.now.references) }
     ensures { OnOk result (out.new.items ≡ out.old.items ++ header m.now) }
 {
     push_doublewords(out, &header_numbers(m, records_len))?;
@@ -118,7 +118,7 @@ fn push_fixup_page_table(
     m: &OneObject,
     records_len: u32,
 ) -> Result<(), AllocError>
-    requires { records_len ≡ length (records m.now.sources) }
+    requires { records_len ≡ length (records m.now.references) }
     ensures { OnOk result (out.new.items ≡ out.old.items ++ fixup_page_table m.now) }
 {
     if m.size == 0 {
@@ -137,7 +137,7 @@ pub fn write_file(alloc: Global, m: &OneObject) -> Result<Vec<u8>, NoMemory>
     ensures spelled { IfOk result (λ f. f.items ≡ file m.now) }
     ensures short { IfOk result (λ f. length f.items < 2 ^ 32) }
 {
-    let records = records_of(alloc, m.sources.as_slice())?;
+    let records = records_of(alloc, m.references.as_slice())?;
     let records_len = records.len() as u32;
     let mut out = Vec::new(alloc);
     push_header(&mut out, m, records_len)?;

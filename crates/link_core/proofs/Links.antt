@@ -9,7 +9,7 @@ use Rattle.link_model.specs.Link.{link_of}
 use Rattle.link_model.specs.Value.{Far}
 use Rattle.link_model.specs.Mean.{Mean}
 use Rattle.first_form.specs.Segment.{Segment, IsSegment}
-use Rattle.first_form.specs.ObjectFile.{Form, IsForm, object_of, segment, places}
+use Rattle.first_form.specs.ObjectFile.{Form, IsForm, object_module_of, segment, places}
 use Rattle.first_form.specs.Fixing.{IsLinked, image}
 use Rattle.first_form.specs.declared.module_file.OneObject.{OneObject}
 use Rattle.link_core.specs.FirstInput.{FirstInput}
@@ -26,11 +26,11 @@ is_one_segment s is = record { one_page = is.one_page; within = within_data s.by
 
 -- The link's object at its linked base has the bytes of the plain equation.
 bytes_alone : (form : Form) (stem : List ℕ) (at : ℕ) (m : OneObject)
-    → LinksOneSegment (alone (object_of form) stem at) form.bytes (places form.fixups) at
+    → LinksOneSegment (alone (object_module_of form) stem at) form.bytes (places form.fixups) at
     → IsForm form → IsLinked (uppercase stem) at (segment form) m → (imp : Imp → Far)
-    → object_bytes (link_of (alone (object_of form) stem at) only_pick) imp 1 m.size ≡ image m
+    → object_bytes (link_of (alone (object_module_of form) stem at) only_pick) imp 1 m.size ≡ image m
 bytes_alone form stem at m law whole linked imp =
-    let l = link_of (alone (object_of form) stem at) only_pick in
+    let l = link_of (alone (object_module_of form) stem at) only_pick in
     let bases : linked_bases l ≡ at ∷ [] = ap (map (λ o. o.base)) law.object in
     let world : ℕ → List ℕ → ℕ = λ x list. Mean l (record { bases = list; imp = imp }) 1 x in
     let each : (x : ℕ) → Mean l (linked_world l imp) 1 x ≡ one_segment_mean at form.bytes (places form.fixups) x = λ x. ap (world x) bases ∙ law.mean at imp x in
@@ -39,7 +39,7 @@ bytes_alone form stem at m law whole linked imp =
     ∙ sym (image_is_meaning (uppercase stem) at (segment form) m whole.segment linked)
 
 links_alone : (form : Form) (stem : List ℕ) (at : ℕ) (m : OneObject) → OneSegmentLaw → IsForm form
-    → IsLinked (uppercase stem) at (segment form) m → LinksTo (alone (object_of form) stem at) m
+    → IsLinked (uppercase stem) at (segment form) m → LinksTo (alone (object_module_of form) stem at) m
 links_alone form stem at m law whole linked =
     let links = law form.name form.bytes (places form.fixups) stem at (is_one_segment (segment form) whole.segment) in
     record {

@@ -7,7 +7,7 @@ use Rattle.std.proofs.lemmas.List.Elements.{recursion_from_All}
 use Rattle.std.specs.List.{find, list_any, range_with_len, AllPairs, AllByRecursion}
 use Rattle.std.specs.Option.{option_or, option_map}
 use Rattle.first_form.specs.Segment.{Segment, IsSegment, covers, mean, mean_by, meaning, Apart}
-use Rattle.first_form.specs.Fixing.{source_covers, fixed, fixed_by, source_of, sources_of, cleared, IsPageOf, IsLinked, image}
+use Rattle.first_form.specs.Fixing.{reference_covers, memory_byte, memory_byte_by, reference_of, references_of, file_byte, IsPageOf, IsLinked, image}
 use Rattle.first_form.specs.declared.module_file.OneObject.{OneObject}
 
 -- ---- The last that passes a test is the first, where at most one does.
@@ -59,23 +59,23 @@ one_covers : (x : ℕ) (xs : List ℕ) → AllPairs Apart xs → AtMostOne (cove
 one_covers x [] h = tt
 one_covers x (a ∷ xs) h = (λ is. others_do_not x a xs is (first_apart a xs h), one_covers x xs (rest_apart a xs h))
 
--- ---- Sources are fixups.
+-- ---- References are fixups.
 
-find_source : (bytes : List ℕ) (x : ℕ) (places : List ℕ) → find (source_covers x) (map (source_of bytes) places) ≡ option_map (source_of bytes) (find (covers x) places)
-find_source bytes x [] = refl
-find_source bytes x (a ∷ places) = elim (covers x a) as (λ b. cond b (Some (source_of bytes a)) (find (source_covers x) (map (source_of bytes) places)) ≡ option_map (source_of bytes) (cond b (Some a) (find (covers x) places)))
-    [ true ↦ refl | false ↦ find_source bytes x places ]
+find_reference : (bytes : List ℕ) (x : ℕ) (places : List ℕ) → find (reference_covers x) (map (reference_of bytes) places) ≡ option_map (reference_of bytes) (find (covers x) places)
+find_reference bytes x [] = refl
+find_reference bytes x (a ∷ places) = elim (covers x a) as (λ b. cond b (Some (reference_of bytes a)) (find (reference_covers x) (map (reference_of bytes) places)) ≡ option_map (reference_of bytes) (cond b (Some a) (find (covers x) places)))
+    [ true ↦ refl | false ↦ find_reference bytes x places ]
 
-fixed_by_source : (base : ℕ) (page bytes : List ℕ) (x : ℕ) (o : Option ℕ) → (o ≡ None → slice_index page x ≡ slice_index bytes x)
-    → fixed_by base page x (option_map (source_of bytes) o) ≡ mean_by base bytes x o
-fixed_by_source base page bytes x None plain = plain refl
-fixed_by_source base page bytes x (Some place) plain = refl
+fixed_by_reference : (base : ℕ) (page bytes : List ℕ) (x : ℕ) (o : Option ℕ) → (o ≡ None → slice_index page x ≡ slice_index bytes x)
+    → memory_byte_by base page x (option_map (reference_of bytes) o) ≡ mean_by base bytes x o
+fixed_by_reference base page bytes x None plain = plain refl
+fixed_by_reference base page bytes x (Some place) plain = refl
 
 none_any : (p : ℕ → Bool) (xs : List ℕ) → find p xs ≡ None → list_any p xs ≡ false
 none_any p [] h = refl
 none_any p (a ∷ xs) h = grind (arith, none_any p xs)
 
-uncovered : (s : Segment) (x : ℕ) → find (covers x) s.fixups ≡ None → cleared s x ≡ slice_index s.bytes x
+uncovered : (s : Segment) (x : ℕ) → find (covers x) s.fixups ≡ None → file_byte s x ≡ slice_index s.bytes x
 uncovered s x none = rw (none_any (covers x) s.fixups none) refl
 
 map-reverse_aux : {A B : Type 0} (f : A → B) (xs ys : List A) → reverse_aux (map f xs) (map f ys) ≡ map f (reverse_aux xs ys)
@@ -86,12 +86,12 @@ map-reverse : {A B : Type 0} (f : A → B) (xs : List A) → reverse (map f xs) 
 map-reverse f xs = map-reverse_aux f xs []
 
 fixed_is_mean : (base : ℕ) (s : Segment) (page : List ℕ) (x : ℕ) → IsSegment s → IsPageOf s page → x < length s.bytes
-    → fixed base page (sources_of s) x ≡ mean base s x
+    → memory_byte base page (references_of s) x ≡ mean base s x
 fixed_is_mean base s page x is paged within =
-    ap (λ list. fixed_by base page x (find (source_covers x) list)) (map-reverse (source_of s.bytes) s.fixups)
-    ∙ ap (fixed_by base page x) (find_source s.bytes x (reverse s.fixups))
-    ∙ ap (λ o. fixed_by base page x (option_map (source_of s.bytes) o)) (last_is_first (covers x) s.fixups (one_covers x s.fixups is.apart))
-    ∙ fixed_by_source base page s.bytes x (find (covers x) s.fixups) (λ none. paged.bytes x within ∙ uncovered s x none)
+    ap (λ list. memory_byte_by base page x (find (reference_covers x) list)) (map-reverse (reference_of s.bytes) s.fixups)
+    ∙ ap (memory_byte_by base page x) (find_reference s.bytes x (reverse s.fixups))
+    ∙ ap (λ o. memory_byte_by base page x (option_map (reference_of s.bytes) o)) (last_is_first (covers x) s.fixups (one_covers x s.fixups is.apart))
+    ∙ fixed_by_reference base page s.bytes x (find (covers x) s.fixups) (λ none. paged.bytes x within ∙ uncovered s x none)
 
 -- ---- The whole object.
 
@@ -101,5 +101,5 @@ same_images f g from (suc n) same = rw (same from (omega arith) (omega arith), s
 
 pub image_is_meaning : (called : List ℕ) (at : ℕ) (s : Segment) (m : OneObject) → IsSegment s → IsLinked called at s m → image m ≡ meaning at s
 image_is_meaning called at s m is linked =
-    rw (linked.base, linked.size, linked.sources)
-    (same_images (fixed at m.page (sources_of s)) (mean at s) 0 (length s.bytes) (λ x after before. fixed_is_mean at s m.page x is linked.page (omega arith)))
+    rw (linked.base, linked.size, linked.references)
+    (same_images (memory_byte at m.page (references_of s)) (mean at s) 0 (length s.bytes) (λ x after before. fixed_is_mean at s m.page x is linked.page (omega arith)))

@@ -1,5 +1,5 @@
 //! From a link's input to the module's bytes.
-ghost use Rattle.std.specs.Prelude.{◌≡◌, ◌<◌, ℕ, IfOk, length};
+ghost use Rattle.std.specs.Prelude.{◌≡◌, ◌<◌, ◌^◌, ℕ, IfOk, length};
 ghost use Rattle.lx_types.specs.Names.{IsName};
 ghost use Rattle.first_form.specs.Segment.{IsSegment};
 ghost use Rattle.first_form.specs.Fixing.{IsLinked};
@@ -10,9 +10,8 @@ ghost use Rattle.first_form.specs.declared.module_file.OneObject.{OneObject as L
 ghost use Rattle.link_core.specs.FirstInput.{FirstInput, data_of};
 ghost use Rattle.link_core.specs.Links.{LinksTo};
 
-use crate::page::{cleared_data, page_sources, trim};
+use crate::page::{cleared_data, page_references, trim};
 use first_form::{OneObject, write_file};
-use link_model::one_segment_links_plainly;
 use lx_types::{Name, NoMemory, Seq};
 use obj_types::{FixAt, LinkInput, ObjModule};
 use std::alloc::Global;
@@ -41,26 +40,26 @@ fn one_object(
     requires segment { IsSegment (segment_of bytes.now fixes.now) }
     requires few { length fixes.now < 13107 }
     requires short { IsName name }
-    ensures { IfOk result (λ m. IsOneObject m × IsLinked name base (segment_of bytes.now fixes.now) m) }
+    ensures { IfOk result (λ m.
+        IsOneObject m × IsLinked name base (segment_of bytes.now fixes.now) m) }
 {
     let mut page = cleared_data(alloc, bytes, fixes)?;
     trim(&mut page);
-    let sources = page_sources(alloc, bytes, fixes)?;
+    let references = page_references(alloc, bytes, fixes)?;
     Ok(OneObject {
         name,
         base,
         size: bytes.len() as u32,
         page: Seq::from_vec(page),
-        sources: Seq::from_vec(sources),
+        references: Seq::from_vec(references),
     })
 }
 
 /// What the input is linked to.
-fn linked(alloc: Global, input: &LinkInput) -> Result<OneObject, NoMemory>
+fn linked_object(alloc: Global, input: &LinkInput) -> Result<OneObject, NoMemory>
     requires { (form : Form) × (at : ℕ) × FirstInput input.now form at }
     ensures { IfOk result (λ m. IsOneObject m × LinksTo input.now m) }
 {
-    one_segment_links_plainly();
     let object = &input.objects.as_slice()[0];
     let name = input.stem.to_uppercase(alloc)?;
     let base = input.def.base.unwrap_or(LIBRARY_BASE);
@@ -75,8 +74,10 @@ fn linked(alloc: Global, input: &LinkInput) -> Result<OneObject, NoMemory>
 /// means there.
 pub fn link(alloc: Global, input: &LinkInput) -> Result<Vec<u8>, NoMemory>
     requires { (form : Form) × (at : ℕ) × FirstInput input.now form at }
-    ensures { IfOk result (λ written. (m : Linked) × IsOneObject m × (written.items ≡ file m) × LinksTo input.now m) }
+    ensures linked { IfOk result (λ written.
+        (m : Linked) × IsOneObject m × (written.items ≡ file m) × LinksTo input.now m) }
+    ensures short { IfOk result (λ written. length written.items < 2 ^ 32) }
 {
-    let module = linked(alloc, input)?;
+    let module = linked_object(alloc, input)?;
     write_file(alloc, &module)
 }

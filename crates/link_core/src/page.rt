@@ -1,17 +1,18 @@
-//! The page of an object: its data, and the sources of its fixups.
+//! The page of an object: its data, and the references of its fixups.
 ghost use Rattle.std.specs.Prelude.{◌≡◌, ◌+◌, ◌<◌, ◌≤◌, ℕ, IfOk, length, map, slice_index, if◌then◌else◌};
 ghost use Rattle.first_form.specs.Segment.{covers};
-ghost use Rattle.first_form.specs.Fixing.{cleared, sources_of as sources};
+ghost use Rattle.first_form.specs.Fixing.{file_byte, references_of as references};
 ghost use Rattle.link_core.specs.Fields.{HasFields, segment_of};
 
-use first_form::Source;
+use first_form::Reference;
 use obj_types::FixAt;
 use std::alloc::{AllocError, Global};
 
 /// Writes zeros over the four bytes at `place`.
 pub fn clear_field(page: &mut [u8], place: usize)
     requires { place + 4 ≤ length page.old }
-    ensures { (x : ℕ) → x < length page.old → slice_index page.new x ≡ (if covers x place then 0 else slice_index page.old x) }
+    ensures { (x : ℕ) → x < length page.old → slice_index page.new x
+        ≡ (if covers x place then 0 else slice_index page.old x) }
 {
     page[place..place + 4].fill(0);
 }
@@ -19,7 +20,9 @@ pub fn clear_field(page: &mut [u8], place: usize)
 /// The data with zeros where fixups are, whose bytes come from fixup records.
 pub fn cleared_data(alloc: Global, bytes: &[u8], fixes: &[FixAt]) -> Result<Vec<u8>, AllocError>
     requires { HasFields bytes.now fixes.now }
-    ensures { IfOk result (λ page. (length page.items ≡ length bytes.now) × ((x : ℕ) → x < length bytes.now → slice_index page.items x ≡ cleared (segment_of bytes.now fixes.now) x)) }
+    ensures { IfOk result (λ page. (length page.items ≡ length bytes.now)
+        × ((x : ℕ) → x < length bytes.now → slice_index page.items x
+        ≡ file_byte (segment_of bytes.now fixes.now) x)) }
 {
     let mut page = Vec::from_slice(alloc, bytes)?;
     for fix in fixes {
@@ -39,13 +42,17 @@ pub fn trim(page: &mut Vec<u8>)
     }
 }
 
-/// The sources of the fixups, in their order: the number that stands at a fixup's place is the offset
+/// The references of the fixups, in their order: the number that stands at a fixup's place is the offset
 /// of its target.
-pub fn page_sources(alloc: Global, bytes: &[u8], fixes: &[FixAt]) -> Result<Vec<Source>, AllocError>
+pub fn page_references(
+    alloc: Global,
+    bytes: &[u8],
+    fixes: &[FixAt],
+) -> Result<Vec<Reference>, AllocError>
     requires { HasFields bytes.now fixes.now }
-    ensures { IfOk result (λ v. v.items ≡ sources (segment_of bytes.now fixes.now)) }
+    ensures { IfOk result (λ v. v.items ≡ references (segment_of bytes.now fixes.now)) }
 {
-    let mut sources = Vec::new(alloc);
+    let mut references = Vec::new(alloc);
     for fix in fixes {
         let place = fix.offset as usize;
         let target = u32::from_le_bytes([
@@ -54,10 +61,10 @@ pub fn page_sources(alloc: Global, bytes: &[u8], fixes: &[FixAt]) -> Result<Vec<
             bytes[place + 2],
             bytes[place + 3],
         ]);
-        sources.push(Source {
+        references.push(Reference {
             offset: fix.offset,
             target,
         })?;
     }
-    Ok(sources)
+    Ok(references)
 }

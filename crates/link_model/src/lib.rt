@@ -8,10 +8,7 @@
 mod choosing;
 mod laws;
 mod refusals;
-mod symbols;
-#[cfg(test)]
-mod tests;
-mod values;
+mod symbols;mod values;
 
 pub use choosing::choose;
 pub use laws::{

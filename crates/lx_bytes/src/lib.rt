@@ -6,6 +6,3 @@ mod laws;
 
 pub use cursor::{Cur, Short};
 pub use laws::numbers_are_bytes;
-
-#[cfg(test)]
-mod tests;

@@ -3,10 +3,18 @@
 use crate::object_file::object_file;
 use lx_ports::{MemFiles, NoGate, SureSink};
 use lx_tool::lx_main;
-use lx_types::{Bytes, Fail as Refused, Name, NameLong};
+use lx_types::{Bytes, Fail as Refused, Module, Name, NameLong};
 use obj_types::Goal;
 use omf_module::read_object;
 use std::test::Fail;
+
+/// Threads may share a value of this type.
+fn can_be_shared<T: Send + Sync>(_value: &T) {}
+
+#[allow(dead_code)]
+fn modules_can_be_shared(module: &Module) {
+    can_be_shared(module);
+}
 
 #[test]
 fn names_and_lists(rt: HostRuntime) -> Result<(), Fail> {
@@ -15,12 +23,13 @@ fn names_and_lists(rt: HostRuntime) -> Result<(), Fail> {
     assert_eq!(rt; name.bytes(), b"a$1.obj".as_slice());
     let upper = name.to_uppercase(alloc).ok().ok_or("memory")?;
     assert_eq!(rt; upper.bytes(), b"A$1.OBJ".as_slice());
-    assert!(rt; upper.same_module(&name));
+    assert!(rt; upper.same_module(&name) && upper != name);
     assert!(rt; Name::of(alloc, &[0; 255]).is_ok());
     assert!(rt; matches!(Name::of(alloc, &[0; 256]), Err(Refused::Said(NameLong))));
     let mut list = Bytes::new(alloc);
     assert!(rt; list.push(7).is_ok());
-    assert_eq!(rt; list.as_slice(), [7].as_slice());
+    assert!(rt; list == Bytes::from_vec(vec![in alloc; 7]?));
+    assert_eq!(rt; list.into_vec().as_slice(), [7].as_slice());
     Ok(())
 }
 
@@ -33,7 +42,7 @@ fn an_object_file_is_read(rt: HostRuntime) -> Result<(), Fail> {
     assert_eq!(rt; object.pieces.as_slice().len(), 1);
     for fix in object.fixes.as_slice() {
         assert_eq!(rt; fix.offset, 4);
-        assert_eq!(rt; fix.goal, Goal::Seg(1));
+        assert!(rt; fix.goal == Goal::Seg(1));
     }
     Ok(())
 }

@@ -5,8 +5,22 @@
 #[cfg(test)]
 mod calls;
 #[cfg(test)]
+mod choosing;
+#[cfg(test)]
+mod fields;
+#[cfg(test)]
 mod image;
 #[cfg(test)]
 mod linking;
 #[cfg(test)]
+mod module_file;
+#[cfg(test)]
+mod modules;
+#[cfg(test)]
 mod object_file;
+#[cfg(test)]
+mod object_forms;
+#[cfg(test)]
+mod ports;
+#[cfg(test)]
+mod records;

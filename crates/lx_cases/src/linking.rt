@@ -2,12 +2,12 @@
 
 ghost use Rattle.std.specs.Prelude.{◌≡◌, IfSome, codes};
 ghost use Rattle.link_model.specs.OneSegment.{alone};
-ghost use Rattle.first_form.specs.ObjectFile.{Form, IsForm, object_of};
+ghost use Rattle.first_form.specs.ObjectFile.{Form, IsForm, object_module_of};
 
 use crate::object_file::object_file;
 use link_core::link;
 use lx_types::{Name, Seq};
-use obj_types::{Attrs, DefFile, LinkInput, ModKind, ObjModule};
+use obj_types::{DefFile, LinkInput, ModKind, ObjModule};
 use omf_module::read_object;
 use std::alloc::Global;
 use std::test::Fail;
@@ -28,26 +28,6 @@ const FILE: [u8; 263] = [
     0x47, 0x45, 0, 0, 0,
 ];
 
-const CODE: Attrs = Attrs {
-    read: true,
-    write: false,
-    exec: true,
-    shared: false,
-    preload: false,
-    conforming: false,
-    iopl: false,
-};
-
-const DATA: Attrs = Attrs {
-    read: true,
-    write: true,
-    exec: false,
-    shared: false,
-    preload: false,
-    conforming: false,
-    iopl: false,
-};
-
 /// The object module alone, as the library IMAGE from 10000000h.
 fn input_of(alloc: Global, object: ObjModule) -> Option<LinkInput>
     ensures { IfSome result (λ input. input ≡ alone object (codes "IMAGE") 0x10000000) }
@@ -60,21 +40,7 @@ fn input_of(alloc: Global, object: ObjModule) -> Option<LinkInput>
     if objects.push(object).is_err() {
         return None;
     }
-    let def = DefFile {
-        kind: ModKind::Library,
-        name: None,
-        init_each: false,
-        term_each: false,
-        about: Name::empty(alloc),
-        stack: 0,
-        heap: 0,
-        base: Some(0x1000_0000),
-        code: CODE,
-        plain: DATA,
-        segs: Seq::new(alloc),
-        exports: Seq::new(alloc),
-        imports: Seq::new(alloc),
-    };
+    let def = DefFile::empty(alloc, ModKind::Library, Some(0x1000_0000));
     Some(LinkInput {
         objects,
         libs: Seq::new(alloc),
@@ -84,7 +50,7 @@ fn input_of(alloc: Global, object: ObjModule) -> Option<LinkInput>
 }
 
 fn linked(alloc: Global, object: ObjModule) -> Option<Vec<u8>>
-    requires { (form : Form) × IsForm form × (object ≡ object_of form) }
+    requires { (form : Form) × IsForm form × (object ≡ object_module_of form) }
 {
     let input = input_of(alloc, object)?;
     match link(alloc, &input) {

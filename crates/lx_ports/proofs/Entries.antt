@@ -9,9 +9,9 @@ use Rattle.std.specs.List.{position, position_or_len}
 use Rattle.std.specs.Option.{option_or}
 use Rattle.std.proofs.lemmas.Slice.Eq.{bytes_eq-Decides}
 use Rattle.std.proofs.Math.ListN.{set}
-use Rattle.lx_ports.specs.Names.{Entry, is_named, held_in}
+use Rattle.lx_ports.specs.Names.{Entry, is_named, contents_in}
 
-bytes_of : (entries : List Entry) (name : List ℕ) (found : Option Entry) → find (is_named name) entries ≡ found → held_in entries name ≡ option_map (λ (e : Entry). e.1.items) found
+bytes_of : (entries : List Entry) (name : List ℕ) (found : Option Entry) → find (is_named name) entries ≡ found → contents_in entries name ≡ option_map (λ (e : Entry). e.1.items) found
 bytes_of entries name found is = ap (option_map (λ (e : Entry). e.1.items)) is
 
 -- an entry of one name has no other
@@ -28,26 +28,26 @@ past_all p entries is = grind (arith, nat_tests)
 none_found : (p : Entry → Bool) (entries : List Entry) → position p entries ≡ None → find p entries ≡ None
 none_found p entries is = find_at p entries ∙ slice_get_past entries _ (past_all p entries is)
 
-pub held-place : (name : List ℕ) (entries : List Entry) (place : ℕ) (d : Entry) → position (is_named name) entries ≡ Some place → held_in entries name ≡ Some (get_or entries place d).1.items
+pub held-place : (name : List ℕ) (entries : List Entry) (place : ℕ) (d : Entry) → position (is_named name) entries ≡ Some place → contents_in entries name ≡ Some (get_or entries place d).1.items
 held-place name entries place d is =
     let found = place_found (is_named name) entries place is in
     bytes_of entries name (Some (get_or entries place d)) (find_at (is_named name) entries ∙ rw (← found.0) (slice_get-get_or entries place d found.1))
 
-pub held-none : (name : List ℕ) (entries : List Entry) → position (is_named name) entries ≡ None → held_in entries name ≡ None
+pub held-none : (name : List ℕ) (entries : List Entry) → position (is_named name) entries ≡ None → contents_in entries name ≡ None
 held-none name entries is = bytes_of entries name None (none_found (is_named name) entries is)
 
-pub held-set : (name : List ℕ) (entries : List Entry) (place : ℕ) (entry : Entry) → position (is_named name) entries ≡ Some place → is_named name entry ≡ true → held_in (set entries place entry) name ≡ Some entry.1.items
+pub held-set : (name : List ℕ) (entries : List Entry) (place : ℕ) (entry : Entry) → position (is_named name) entries ≡ Some place → is_named name entry ≡ true → contents_in (set entries place entry) name ≡ Some entry.1.items
 held-set name entries place entry is named =
     let found = place_found (is_named name) entries place is in
     bytes_of (set entries place entry) name (Some entry) (find-set (is_named name) entries place entry found.0 found.1 named)
 
-pub held-set_other : (name other : List ℕ) (entries : List Entry) (place : ℕ) (entry d : Entry) → position (is_named name) entries ≡ Some place → is_named name entry ≡ true → other ≢ name → held_in (set entries place entry) other ≡ held_in entries other
+pub held-set_other : (name other : List ℕ) (entries : List Entry) (place : ℕ) (entry d : Entry) → position (is_named name) entries ≡ Some place → is_named name entry ≡ true → other ≢ name → contents_in (set entries place entry) other ≡ contents_in entries other
 held-set_other name other entries place entry d is named differ =
     let was : is_named name (get_or entries place d) ≡ true = (position-Some (is_named name) entries place d is).1 in
     bytes_of (set entries place entry) other (find (is_named other) entries)
     (find_past (is_named other) entries place entry d (other_name name other (get_or entries place d) differ was) (other_name name other entry differ named))
 
-pub held-push : (name : List ℕ) (entries : List Entry) (entry : Entry) → position (is_named name) entries ≡ None → is_named name entry ≡ true → held_in (entries ++ entry ∷ []) name ≡ Some entry.1.items
+pub held-push : (name : List ℕ) (entries : List Entry) (entry : Entry) → position (is_named name) entries ≡ None → is_named name entry ≡ true → contents_in (entries ++ entry ∷ []) name ≡ Some entry.1.items
 held-push name entries entry none named =
     let none_there : find (is_named name) entries ≡ None = none_found (is_named name) entries none in
     bytes_of (entries ++ entry ∷ []) name (Some entry) (find-append (is_named name) entries (entry ∷ []) ∙ rw (none_there, named) refl)
@@ -56,7 +56,7 @@ or_none : (found : Option Entry) → option_or found None ≡ found
 or_none None = refl
 or_none (Some entry) = refl
 
-pub held-push_other : (name other : List ℕ) (entries : List Entry) (entry : Entry) → is_named name entry ≡ true → other ≢ name → held_in (entries ++ entry ∷ []) other ≡ held_in entries other
+pub held-push_other : (name other : List ℕ) (entries : List Entry) (entry : Entry) → is_named name entry ≡ true → other ≢ name → contents_in (entries ++ entry ∷ []) other ≡ contents_in entries other
 held-push_other name other entries entry named differ =
     let apart : is_named other entry ≡ false = other_name name other entry differ named in
     bytes_of (entries ++ entry ∷ []) other (find (is_named other) entries) (find-append (is_named other) entries (entry ∷ []) ∙ rw apart (or_none _))

@@ -1,6 +1,10 @@
-pub mod Causes
+pub mod Calls
+pub mod CallCode
+pub mod Notes
 pub mod Files
-pub mod Memory
+pub mod Sinks
+pub mod Counts
 pub mod Names
+pub mod Memory
 pub mod MemorySink
 pub mod Sure

@@ -1,13 +1,13 @@
 -- Files in memory, and the calls of them that are to fail.
 use Rattle.std.specs.Prelude.{◌≡◌, ℕ, List, [], Contains}
-use Rattle.lx_ports.specs.Causes.{next}
+use Rattle.lx_ports.specs.Counts.{next}
 use Rattle.lx_ports.specs.Files.{Contents}
-use Rattle.lx_ports.specs.Names.{held_in}
+use Rattle.lx_ports.specs.Names.{contents_in}
 use Rattle.lx_ports.specs.declared.memory_files.MemFiles.{MemFiles}
 
--- The bytes that each name holds.
-abbrev pub held : MemFiles → Contents
-held files = held_in files.entries.items
+-- The bytes that each name has.
+abbrev pub contents_of : MemFiles → Contents
+contents_of files = contents_in files.entries.items
 
 -- No call has been made yet, and these are to fail.
 pub record IsPlanned (files : MemFiles) (failing_loads failing_saves : List ℕ) : Type 0 where

@@ -1,15 +1,15 @@
 -- A sink in memory, and the puts of it that are to fail.
 use Rattle.std.specs.Prelude.{◌≡◌, ℕ, ◌-◌, ◌≤◌, min, List, [], length, Contains, if◌then◌else◌, ◌==◌}
-use Rattle.lx_ports.specs.Causes.{next}
+use Rattle.lx_ports.specs.Counts.{next}
 use Rattle.lx_ports.specs.declared.memory_sink.MemSink.{MemSink}
 
 -- The bytes that it took.
-abbrev pub taken : MemSink → List ℕ
-taken sink = sink.bytes.items
+abbrev pub text_of : MemSink → List ℕ
+text_of sink = sink.bytes.items
 
 -- It took nothing yet, with this room, at most this much of a piece, and these puts to fail.
 pub record IsNew (sink : MemSink) (room most : ℕ) (failing : List ℕ) : Type 0 where
-  pub nothing : taken sink ≡ []
+  pub nothing : text_of sink ≡ []
   pub puts : sink.puts ≡ 0
   pub room_is : sink.room ≡ room
   pub most_is : sink.most ≡ most
@@ -17,11 +17,11 @@ pub record IsNew (sink : MemSink) (room most : ℕ) (failing : List ℕ) : Type 
 
 -- It has no room left.
 abbrev pub IsFull : MemSink → Type 0
-IsFull sink = sink.room ≤ length (taken sink)
+IsFull sink = sink.room ≤ length (text_of sink)
 
 -- How much it takes of a piece of this size.
 abbrev pub share : MemSink → ℕ → ℕ
-share sink size = min (min size sink.most) (sink.room - length (taken sink))
+share sink size = min (min size sink.most) (sink.room - length (text_of sink))
 
 -- The next put of a piece that is not empty is one of those that are to fail.
 abbrev pub PutIsToFail : MemSink → Type 0

@@ -11,5 +11,5 @@ abbrev pub is_named : List ℕ → Entry → Bool
 is_named name entry = bytes_eq name (string_bytes entry.0)
 
 -- The bytes of the first entry of each name.
-abbrev pub held_in : List Entry → Contents
-held_in entries name = option_map (λ entry. entry.1.items) (find (is_named name) entries)
+abbrev pub contents_in : List Entry → Contents
+contents_in entries name = option_map (λ entry. entry.1.items) (find (is_named name) entries)

@@ -1,6 +1,8 @@
-//! The real files and the real standard output. They tell nothing of what they hold, and count what failed.
-ghost use Rattle.std.specs.Prelude.{◌≡◌, None};
+//! The real files and the real standard output. They tell nothing of what a file or a terminal has: files tell which
+//! calls they had, and the sink counts what failed.
+ghost use Rattle.std.specs.Prelude.{◌≡◌, ◌≤◌, [], IfOk, length, None};
 
+use crate::log::{Log, Note};
 use crate::{Files, LoadFault, SaveFault, Sink, SinkFailed};
 use std::alloc::Global;
 use std::io::{ErrorKind, Read, Write};
@@ -10,70 +12,66 @@ use std::{fs, io, rt};
 #[derive(Drop)]
 pub struct DiskFiles<R> {
     rt: R,
-    faults: u64,
-    save_faults: u64,
-    misses: u64,
-    overs: u64,
+    log: Log,
 }
 
 impl<R: rt::Files> DiskFiles<R> {
-    /// The files that this runtime reaches.
-    pub fn new(rt: R) -> DiskFiles<R> {
+    /// The files that this runtime reaches. No call has been made yet.
+    pub fn new(rt: R) -> DiskFiles<R>
+        ensures { (⟦<DiskFiles<R> as Files>⟧.state result).calls ≡ [] }
+    {
         DiskFiles {
             rt,
-            faults: 0,
-            save_faults: 0,
-            misses: 0,
-            overs: 0,
+            log: Log::new(),
         }
     }
 }
 
 impl<R: rt::Files> Files for DiskFiles<R> {
-    ghost contents = { λ _. None };
-
-    ghost faults = { λ files. files.faults };
-
-    ghost save_faults = { λ files. files.save_faults };
-
-    ghost misses = { λ files. files.misses };
-
-    ghost overs = { λ files. files.overs };
+    ghost state = { λ files. record { contents = None; calls = files.log.calls } };
 
     fn load(&mut self, alloc: Global, name: &str, max: u32) -> Result<Vec<u8>, LoadFault> {
-        match read(&self.rt, alloc, name, max) {
-            Ok(bytes) if bytes.len() <= max as usize => Ok(bytes),
-            Ok(_) => {
-                self.overs = self.overs.saturating_add(1);
-                Err(LoadFault::TooLong)
-            }
-            Err(e) => match e.kind() {
-                ErrorKind::NotFound => {
-                    self.misses = self.misses.saturating_add(1);
-                    Err(LoadFault::Absent)
-                }
-                ErrorKind::OutOfMemory => Err(LoadFault::NoMemory),
-                _ => {
-                    self.faults = self.faults.saturating_add(1);
-                    Err(LoadFault::Failed)
-                }
-            },
-        }
+        let answer = whole_file(&self.rt, alloc, name, max);
+        self.log = self.log.and(&Note::Load {
+            name,
+            answer: &answer,
+        });
+        answer
     }
 
     fn save(&mut self, name: &str, bytes: &[u8]) -> Result<(), SaveFault> {
-        match fs::write(&self.rt, name, bytes) {
-            Ok(()) => Ok(()),
-            Err(_) => {
-                self.save_faults = self.save_faults.saturating_add(1);
-                Err(SaveFault::Failed)
-            }
-        }
+        let answer = fs::write(&self.rt, name, bytes).map_err(|_| SaveFault::Failed);
+        self.log = self.log.and(&Note::Save {
+            name,
+            bytes,
+            answer: &answer,
+        });
+        answer
+    }
+}
+
+// The file's bytes, if there are at most `max` of them.
+fn whole_file<R: rt::Files>(
+    rt: &R,
+    alloc: Global,
+    name: &str,
+    max: u32,
+) -> Result<Vec<u8>, LoadFault>
+    ensures { IfOk result (λ bytes. length bytes.items ≤ max) }
+{
+    match front(rt, alloc, name, max) {
+        Ok(bytes) if bytes.len() <= max as usize => Ok(bytes),
+        Ok(_) => Err(LoadFault::TooLong),
+        Err(e) => Err(match e.kind() {
+            ErrorKind::NotFound => LoadFault::Absent,
+            ErrorKind::OutOfMemory => LoadFault::NoMemory,
+            _ => LoadFault::Failed,
+        }),
     }
 }
 
 // The file's bytes, but at most one more than `max` of them.
-fn read<R: rt::Files>(rt: &R, alloc: Global, name: &str, max: u32) -> io::Result<Vec<u8>> {
+fn front<R: rt::Files>(rt: &R, alloc: Global, name: &str, max: u32) -> io::Result<Vec<u8>> {
     let mut bytes = Vec::new(alloc);
     fs::open(rt, name)?
         .take(max as u64 + 1)
@@ -89,17 +87,16 @@ pub struct StdSink<W> {
 }
 
 impl<W: Write> StdSink<W> {
+    /// A sink that puts into this writer.
     pub fn new(out: W) -> StdSink<W>
-        ensures { ⟦<StdSink<W> as Sink>⟧.told result ≡ W.contents out }
+        ensures { (⟦<StdSink<W> as Sink>⟧.state result).contents ≡ W.contents out }
     {
         StdSink { out, faults: 0 }
     }
 }
 
 impl<W: Write> Sink for StdSink<W> {
-    ghost told = { λ sink. W.contents sink.out };
-
-    ghost faults = { λ sink. sink.faults };
+    ghost state = { λ sink. record { contents = W.contents sink.out; faults = sink.faults } };
 
     fn put(&mut self, bytes: &[u8]) -> Result<usize, SinkFailed> {
         if bytes.is_empty() {

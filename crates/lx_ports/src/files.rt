@@ -1,7 +1,7 @@
 //! Files by name, as the commands see them.
-ghost use Rattle.std.specs.Prelude.{◌≡◌, ◌≤◌, List, ℕ, length, Option, IfOk, IfSome, OnOk, OnErr, IsErrOf};
-ghost use Rattle.lx_ports.specs.Files.{Answers, IsSaved, KeepsOthers};
-ghost use Rattle.lx_ports.specs.Causes.{Rose};
+ghost use Rattle.std.specs.Prelude.{◌≡◌, ◌≤◌, ◌++◌, ◌∷◌, [], length, IfOk, IfSome, OnOk};
+ghost use Rattle.lx_ports.specs.Calls.{load, save, load_answer};
+ghost use Rattle.lx_ports.specs.Files.{FilesState, after_call, IsLoadOf, IsSaved, KeepsOthers};
 ghost use Rattle.lx_ports.specs.declared.files.LoadFault.TheVariants.{NoMemory};
 
 use std::alloc::{AllocError, Global};
@@ -36,45 +36,23 @@ impl From<AllocError> for LoadFault {
 
 /// Files, each of them whole: what a command loads and saves.
 pub trait Files {
-    /// The bytes that each name holds, where they are told. Real files tell nothing.
-    ghost contents: { Self → Option (List ℕ → Option (List ℕ)) };
-
-    /// How often a load has failed.
-    ghost faults: { Self → ℕ };
-
-    /// How often a save has failed.
-    ghost save_faults: { Self → ℕ };
-
-    /// How often a load has found no file of its name.
-    ghost misses: { Self → ℕ };
-
-    /// How often a load has found a file longer than its limit.
-    ghost overs: { Self → ℕ };
+    /// What the files tell of themselves: the bytes that each name has, and every call so far with its answer.
+    ghost state: { Self → FilesState };
 
     /// The whole file of this name, if it has at most `max` bytes. A load changes no file.
     fn load(&mut self, alloc: Global, name: &str, max: u32) -> Result<Vec<u8>, LoadFault>
-        ensures answer { IfSome (contents self.old) (λ held. Answers (held name.now) max result) }
+        ensures answer { IfSome (state self.old).contents
+            (λ contents. IsLoadOf (contents name.now) max (load_answer result)) }
         ensures limit { IfOk result (λ bytes. length bytes.items ≤ max) }
-        ensures kept { contents self.new ≡ contents self.old }
+        ensures call { state self.new
+            ≡ after_call (state self.old) (load name.now (load_answer result)) };
 
-        ensures failed { IsErrOf result LoadFault.Failed → Rose (faults self.old) (faults self.new) }
-        ensures absent { IsErrOf result LoadFault.Absent → Rose (misses self.old) (misses self.new) }
-        ensures too_long { IsErrOf result LoadFault.TooLong → Rose (overs self.old) (overs self.new) }
-
-        ensures faults_stand { faults self.old ≤ faults self.new }
-        ensures save_faults_stand { save_faults self.old ≤ save_faults self.new }
-        ensures misses_stand { misses self.old ≤ misses self.new }
-        ensures overs_stand { overs self.old ≤ overs self.new };
-
-    /// Makes these bytes the whole file of this name. After an `Err` the file of this name may be anything; the others stand.
+    /// Makes these bytes the whole file of this name. After an `Err` the file of this name may be anything; the others
+    /// stand.
     fn save(&mut self, name: &str, bytes: &[u8]) -> Result<(), SaveFault>
-        ensures saved { OnOk result (IsSaved (contents self.old) (contents self.new) name.now bytes.now) }
-        ensures others { KeepsOthers (contents self.old) (contents self.new) name.now }
-
-        ensures failed { OnErr result (Rose (save_faults self.old) (save_faults self.new)) }
-
-        ensures faults_stand { faults self.old ≤ faults self.new }
-        ensures save_faults_stand { save_faults self.old ≤ save_faults self.new }
-        ensures misses_stand { misses self.old ≤ misses self.new }
-        ensures overs_stand { overs self.old ≤ overs self.new };
+        ensures saved { OnOk result
+            (IsSaved (state self.old).contents (state self.new).contents name.now bytes.now) }
+        ensures others { KeepsOthers (state self.old).contents (state self.new).contents name.now }
+        ensures call { (state self.new).calls
+            ≡ (state self.old).calls ++ save name.now bytes.now result ∷ [] };
 }

@@ -1,4 +1,5 @@
 //! A place to stop the scripts of a session, for tests of their threads.
+
 /// Holds a script back before its commands.
 pub trait Gate: Sync {
     /// Called before each command of each script, with the script's process number and the command's index from 1.
@@ -6,7 +7,7 @@ pub trait Gate: Sync {
 }
 
 /// The gate that the program ships: it is always open.
-#[derive(Clone, Copy, Debug)]
+#[derive(Clone, Copy)]
 pub struct NoGate;
 
 impl Gate for NoGate {

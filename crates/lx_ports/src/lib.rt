@@ -1,11 +1,12 @@
-//! What the linker needs of the world outside: files by name, a sink for its text, and a gate before each command of a
-//! session. Each is a trait with a written meaning, so that the code above is proved once for real files and for files in
-//! memory.
+//! What the linker needs of the world outside: files by name, a sink for its text, and a gate before each command
+//! of a session. Each is a trait with a written meaning, so that the code above is proved once for real files and
+//! for files in memory.
 #![tactic(auto)]
 
 mod disk;
 mod files;
 mod gate;
+mod log;
 mod memory_files;
 mod memory_sink;
 mod sink;
@@ -18,6 +19,3 @@ pub use memory_files::MemFiles;
 pub use memory_sink::MemSink;
 pub use sink::{Sink, SinkFailed};
 pub use sure::{SureFiles, SureSink};
-
-#[cfg(test)]
-mod tests;

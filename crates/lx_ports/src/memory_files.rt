@@ -1,10 +1,11 @@
 //! Files in memory, of which chosen loads and saves fail.
-ghost use Rattle.std.specs.Prelude.{◌≡◌, ◌≢◌, ◌≤◌, ◌↔◌, List, ℕ, length, Some, IfOk, OnOk, OnErr, IsErrOf, option_map};
+ghost use Rattle.std.specs.Prelude.{◌≡◌, ◌≢◌, ◌≤◌, ◌↔◌, ◌++◌, ◌∷◌, [], List, ℕ, length, Some, IfOk, OnOk, IsErrOf, option_map};
 ghost use Rattle.std.specs.List.{position};
-ghost use Rattle.lx_ports.specs.Causes.{Rose};
-ghost use Rattle.lx_ports.specs.Files.{Answers, IsSaved, KeepsOthers};
-ghost use Rattle.lx_ports.specs.Names.{held_in, is_named};
+ghost use Rattle.lx_ports.specs.Calls.{load, save, load_answer};
+ghost use Rattle.lx_ports.specs.Files.{after_call, IsLoadOf, IsSaved, KeepsOthers};
+ghost use Rattle.lx_ports.specs.Names.{contents_in, is_named};
 
+use crate::log::{Log, Note};
 use crate::{Files, LoadFault, SaveFault};
 use std::alloc::{AllocError, Global};
 
@@ -17,24 +18,22 @@ pub struct MemFiles {
     failing_saves: Vec<u64>,
     loads: u64,
     saves: u64,
-    faults: u64,
-    save_faults: u64,
-    misses: u64,
-    overs: u64,
+    log: Log,
 }
 
 impl MemFiles {
-    ghost use Rattle.lx_ports.specs.Memory.{held, IsPlanned};
+    ghost use Rattle.lx_ports.specs.Memory.{contents_of, IsPlanned};
 
-    /// Files of these names. Of two entries of one name the first counts.
+    /// Files of these names. Of two entries of one name the first counts. No call has been made yet.
     pub fn of(
         alloc: Global,
         files: Vec<(String, Vec<u8>)>,
         failing_loads: Vec<u64>,
         failing_saves: Vec<u64>,
     ) -> MemFiles
-        ensures files { held result ≡ held_in files.items }
+        ensures files { contents_of result ≡ contents_in files.items }
         ensures planned { IsPlanned result failing_loads.items failing_saves.items }
+        ensures calls { (⟦<MemFiles as Files>⟧.state result).calls ≡ [] }
     {
         MemFiles {
             alloc,
@@ -43,16 +42,13 @@ impl MemFiles {
             failing_saves,
             loads: 0,
             saves: 0,
-            faults: 0,
-            save_faults: 0,
-            misses: 0,
-            overs: 0,
+            log: Log::new(),
         }
     }
 
     /// The bytes under this name.
     pub fn get(&self, name: &str) -> Option<&[u8]>
-        ensures { option_map (λ bytes. bytes.now) result ≡ held self.now name.now }
+        ensures { option_map (λ bytes. bytes.now) result ≡ contents_of self.now name.now }
     {
         find(&self.entries, name)
     }
@@ -66,76 +62,80 @@ fn place_of(entries: &[(String, Vec<u8>)], name: &str) -> Option<usize>
 }
 
 fn find<'a>(entries: &'a [(String, Vec<u8>)], name: &str) -> Option<&'a [u8]>
-    ensures { option_map (λ bytes. bytes.now) result ≡ held_in entries.now name.now }
+    ensures { option_map (λ bytes. bytes.now) result ≡ contents_in entries.now name.now }
 {
     let place = place_of(entries, name)?;
     Some(&entries[place].1)
 }
 
-impl Files for MemFiles {
-    ghost use Rattle.lx_ports.specs.Memory.{held, LoadIsToFail, SaveIsToFail, IsOneLoadLater, IsOneSaveLater};
+impl MemFiles {
+    ghost use Rattle.lx_ports.specs.Memory.{contents_of, LoadIsToFail};
 
-    ghost contents = { λ files. Some (held files) };
-
-    ghost faults = { λ files. files.faults };
-
-    ghost save_faults = { λ files. files.save_faults };
-
-    ghost misses = { λ files. files.misses };
-
-    ghost overs = { λ files. files.overs };
-
-    fn load(&mut self, alloc: Global, name: &str, max: u32) -> Result<Vec<u8>, LoadFault>
-        ensures answer { Answers (held self.old name.now) max result }
-        ensures planned { IsErrOf result LoadFault.Failed ↔ LoadIsToFail self.old }
-        ensures limit { IfOk result (λ bytes. length bytes.items ≤ max) }
-        ensures kept { ⟦<MemFiles as Files>⟧.contents self.new ≡ ⟦<MemFiles as Files>⟧.contents self.old }
-        ensures numbered { IsOneLoadLater self.old self.new }
-
-        ensures failed { IsErrOf result LoadFault.Failed → Rose (⟦<MemFiles as Files>⟧.faults self.old) (⟦<MemFiles as Files>⟧.faults self.new) }
-        ensures absent { IsErrOf result LoadFault.Absent → Rose (⟦<MemFiles as Files>⟧.misses self.old) (⟦<MemFiles as Files>⟧.misses self.new) }
-        ensures too_long { IsErrOf result LoadFault.TooLong → Rose (⟦<MemFiles as Files>⟧.overs self.old) (⟦<MemFiles as Files>⟧.overs self.new) }
-        ensures faults_stand { ⟦<MemFiles as Files>⟧.faults self.old ≤ ⟦<MemFiles as Files>⟧.faults self.new }
-        ensures save_faults_stand { ⟦<MemFiles as Files>⟧.save_faults self.old ≤ ⟦<MemFiles as Files>⟧.save_faults self.new }
-        ensures misses_stand { ⟦<MemFiles as Files>⟧.misses self.old ≤ ⟦<MemFiles as Files>⟧.misses self.new }
-        ensures overs_stand { ⟦<MemFiles as Files>⟧.overs self.old ≤ ⟦<MemFiles as Files>⟧.overs self.new }
+    // The answer to the next load.
+    fn next_answer(&self, alloc: Global, name: &str, max: u32) -> Result<Vec<u8>, LoadFault>
+        ensures planned { IsErrOf result LoadFault.Failed ↔ LoadIsToFail self.now }
+        ensures answer { IsLoadOf (contents_of self.now name.now) max (load_answer result) }
     {
-        self.loads = self.loads.saturating_add(1);
-        if self.failing_loads.contains(&self.loads) {
-            self.faults = self.faults.saturating_add(1);
+        if self.failing_loads.contains(&self.loads.saturating_add(1)) {
             return Err(LoadFault::Failed);
         }
         let Some(bytes) = find(&self.entries, name) else {
-            self.misses = self.misses.saturating_add(1);
             return Err(LoadFault::Absent);
         };
         if bytes.len() > max as usize {
-            self.overs = self.overs.saturating_add(1);
             return Err(LoadFault::TooLong);
         }
         Ok(bytes.to_vec(alloc)?)
     }
+}
+
+impl Files for MemFiles {
+    ghost use Rattle.lx_ports.specs.Memory.{contents_of, LoadIsToFail, SaveIsToFail, IsOneLoadLater, IsOneSaveLater};
+
+    ghost state = { λ files. record { contents = Some (contents_of files); calls = files.log.calls } };
+
+    fn load(&mut self, alloc: Global, name: &str, max: u32) -> Result<Vec<u8>, LoadFault>
+        ensures planned { IsErrOf result LoadFault.Failed ↔ LoadIsToFail self.old }
+        ensures numbered { IsOneLoadLater self.old self.new }
+
+        ensures answer { IsLoadOf (contents_of self.old name.now) max (load_answer result) }
+        ensures limit { IfOk result (λ bytes. length bytes.items ≤ max) }
+        ensures call { ⟦<MemFiles as Files>⟧.state self.new
+            ≡ after_call (⟦<MemFiles as Files>⟧.state self.old) (load name.now (load_answer result)) }
+    {
+        let answer = self.next_answer(alloc, name, max);
+        self.loads = self.loads.saturating_add(1);
+        self.log = self.log.and(&Note::Load {
+            name,
+            answer: &answer,
+        });
+        answer
+    }
 
     fn save(&mut self, name: &str, bytes: &[u8]) -> Result<(), SaveFault>
         ensures planned { SaveIsToFail self.old → IsErrOf result SaveFault.Failed }
-        ensures saved { OnOk result (IsSaved (⟦<MemFiles as Files>⟧.contents self.old) (⟦<MemFiles as Files>⟧.contents self.new) name.now bytes.now) }
-        ensures others { KeepsOthers (⟦<MemFiles as Files>⟧.contents self.old) (⟦<MemFiles as Files>⟧.contents self.new) name.now }
         ensures numbered { IsOneSaveLater self.old self.new }
 
-        ensures failed { OnErr result (Rose (⟦<MemFiles as Files>⟧.save_faults self.old) (⟦<MemFiles as Files>⟧.save_faults self.new)) }
-        ensures faults_stand { ⟦<MemFiles as Files>⟧.faults self.old ≤ ⟦<MemFiles as Files>⟧.faults self.new }
-        ensures save_faults_stand { ⟦<MemFiles as Files>⟧.save_faults self.old ≤ ⟦<MemFiles as Files>⟧.save_faults self.new }
-        ensures misses_stand { ⟦<MemFiles as Files>⟧.misses self.old ≤ ⟦<MemFiles as Files>⟧.misses self.new }
-        ensures overs_stand { ⟦<MemFiles as Files>⟧.overs self.old ≤ ⟦<MemFiles as Files>⟧.overs self.new }
+        ensures saved { OnOk result (IsSaved (⟦<MemFiles as Files>⟧.state self.old).contents
+            (⟦<MemFiles as Files>⟧.state self.new).contents name.now bytes.now) }
+        ensures others { KeepsOthers (⟦<MemFiles as Files>⟧.state self.old).contents
+            (⟦<MemFiles as Files>⟧.state self.new).contents name.now }
+        ensures call { (⟦<MemFiles as Files>⟧.state self.new).calls
+            ≡ (⟦<MemFiles as Files>⟧.state self.old).calls ++ save name.now bytes.now result ∷ [] }
     {
         self.saves = self.saves.saturating_add(1);
-        if self.failing_saves.contains(&self.saves)
-            || put(self.alloc, &mut self.entries, name, bytes).is_err()
-        {
-            self.save_faults = self.save_faults.saturating_add(1);
-            return Err(SaveFault::Failed);
-        }
-        Ok(())
+        let fails = self.failing_saves.contains(&self.saves);
+        let answer = if fails || put(self.alloc, &mut self.entries, name, bytes).is_err() {
+            Err(SaveFault::Failed)
+        } else {
+            Ok(())
+        };
+        self.log = self.log.and(&Note::Save {
+            name,
+            bytes,
+            answer: &answer,
+        });
+        answer
     }
 }
 
@@ -146,9 +146,9 @@ fn put(
     name: &str,
     bytes: &[u8],
 ) -> Result<(), AllocError>
-    ensures saved { OnOk result (held_in entries.new.items name.now ≡ Some bytes.now) }
+    ensures saved { OnOk result (contents_in entries.new.items name.now ≡ Some bytes.now) }
     ensures others { (other : List ℕ) → other ≢ name.now
-        → held_in entries.new.items other ≡ held_in entries.old.items other }
+        → contents_in entries.new.items other ≡ contents_in entries.old.items other }
 {
     let copy = bytes.to_vec(alloc)?;
     match place_of(entries, name) {

@@ -2,7 +2,7 @@
 ghost use Rattle.std.specs.Prelude.{◌≡◌, ◌≤◌, ◌<◌, ◌↔◌, ◌⊎◌, [], length, Some, Ok, IfOk, OnErr, IsErr, IsTrue, vec_capacity};
 ghost use Rattle.std.specs.Io.{WritesAtMost};
 ghost use Rattle.std.specs.Io.KnownBytes.{WriteAppends};
-ghost use Rattle.lx_ports.specs.Causes.{Rose};
+ghost use Rattle.lx_ports.specs.Counts.{Rose};
 
 use crate::{Sink, SinkFailed};
 use lx_types::NoMemory;
@@ -23,7 +23,7 @@ pub struct MemSink {
 }
 
 impl MemSink {
-    ghost use Rattle.lx_ports.specs.MemorySink.{taken, IsNew};
+    ghost use Rattle.lx_ports.specs.MemorySink.{text_of, IsNew};
 
     /// A sink with room for so many bytes, which takes at most `most` of a piece. It takes its room at once.
     pub fn of(
@@ -47,7 +47,7 @@ impl MemSink {
 
     /// All the bytes that it took.
     pub fn written(&self) -> &[u8]
-        ensures { result.now ≡ taken self.now }
+        ensures { result.now ≡ text_of self.now }
     {
         &self.bytes
     }
@@ -65,25 +65,27 @@ impl MemSink {
 }
 
 impl Sink for MemSink {
-    ghost use Rattle.lx_ports.specs.MemorySink.{taken, share, PutIsToFail, IsFull, IsOnePutLater};
+    ghost use Rattle.lx_ports.specs.MemorySink.{text_of, share, PutIsToFail, IsFull, IsOnePutLater};
 
-    ghost told = { λ sink. Some (taken sink) };
-
-    ghost faults = { λ sink. sink.faults };
+    ghost state = { λ sink. record { contents = Some (text_of sink); faults = sink.faults } };
 
     fn put(&mut self, bytes: &[u8]) -> Result<usize, SinkFailed>
         ensures share { IfOk result (λ count. count ≡ share self.old (length bytes.now)) }
-        ensures planned { IsErr result ↔ ((0 < length bytes.now) × (PutIsToFail self.old ⊎ IsFull self.old)) }
+        ensures planned { IsErr result
+            ↔ ((0 < length bytes.now) × (PutIsToFail self.old ⊎ IsFull self.old)) }
         ensures numbered { IsOnePutLater (length bytes.now) self.old self.new }
 
         ensures at_most { WritesAtMost result bytes.now }
         ensures at_least { IfOk result (λ count. 0 < length bytes.now → 0 < count) }
-        ensures appended { WriteAppends (⟦<MemSink as Sink>⟧.told self.old) (⟦<MemSink as Sink>⟧.told self.new) result bytes.now }
+        ensures appended { WriteAppends (⟦<MemSink as Sink>⟧.state self.old).contents
+            (⟦<MemSink as Sink>⟧.state self.new).contents result bytes.now }
+        ensures failed { OnErr result (Rose (⟦<MemSink as Sink>⟧.state self.old).faults
+            (⟦<MemSink as Sink>⟧.state self.new).faults) }
+        ensures faults_stand { (⟦<MemSink as Sink>⟧.state self.old).faults
+            ≤ (⟦<MemSink as Sink>⟧.state self.new).faults }
         ensures empty { bytes.now ≡ [] → result ≡ Ok 0 }
-        ensures empty_told { bytes.now ≡ [] → ⟦<MemSink as Sink>⟧.told self.new ≡ ⟦<MemSink as Sink>⟧.told self.old }
-        ensures empty_faults { bytes.now ≡ [] → ⟦<MemSink as Sink>⟧.faults self.new ≡ ⟦<MemSink as Sink>⟧.faults self.old }
-        ensures failed { OnErr result (Rose (⟦<MemSink as Sink>⟧.faults self.old) (⟦<MemSink as Sink>⟧.faults self.new)) }
-        ensures faults_stand { ⟦<MemSink as Sink>⟧.faults self.old ≤ ⟦<MemSink as Sink>⟧.faults self.new }
+        ensures empty_state { bytes.now ≡ []
+            → ⟦<MemSink as Sink>⟧.state self.new ≡ ⟦<MemSink as Sink>⟧.state self.old }
     {
         if bytes.is_empty() {
             return Ok(0);

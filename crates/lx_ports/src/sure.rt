@@ -1,7 +1,8 @@
 //! Files and a sink that never fail, for callers that are to have no fault to tell.
 ghost use Rattle.std.specs.Prelude.{◌≡◌, Some, None};
+ghost use Rattle.lx_ports.specs.Calls.{load_faults};
 ghost use Rattle.lx_ports.specs.Memory.{NoLoadIsToFail};
-ghost use Rattle.lx_ports.specs.Names.{held_in};
+ghost use Rattle.lx_ports.specs.Names.{contents_in};
 
 use crate::{Files, LoadFault, MemFiles, SaveFault, Sink, SinkFailed};
 use std::alloc::Global;
@@ -11,14 +12,15 @@ use std::alloc::Global;
 pub struct SureFiles {
     files: MemFiles,
     ghost sure: { NoLoadIsToFail files },
+    pub ghost no_fault: { load_faults files.log.calls ≡ 0 },
 }
 
 impl SureFiles {
-    ghost use Rattle.lx_ports.specs.Sure.{sure_held};
+    ghost use Rattle.lx_ports.specs.Sure.{contents_of_sure};
 
     /// Files of these names. Of two entries of one name the first counts.
     pub fn of(alloc: Global, files: Vec<(String, Vec<u8>)>) -> SureFiles
-        ensures { sure_held result ≡ held_in files.items }
+        ensures { contents_of_sure result ≡ contents_in files.items }
     {
         SureFiles {
             files: MemFiles::of(alloc, files, Vec::new(alloc), Vec::new(alloc)),
@@ -27,17 +29,9 @@ impl SureFiles {
 }
 
 impl Files for SureFiles {
-    ghost use Rattle.lx_ports.specs.Sure.{sure_held};
+    ghost use Rattle.lx_ports.specs.Sure.{contents_of_sure};
 
-    ghost contents = { λ sure. Some (sure_held sure) };
-
-    ghost faults = { λ _. 0 };
-
-    ghost save_faults = { λ sure. sure.files.save_faults };
-
-    ghost misses = { λ sure. sure.files.misses };
-
-    ghost overs = { λ sure. sure.files.overs };
+    ghost state = { λ sure. record { contents = Some (contents_of_sure sure); calls = sure.files.log.calls } };
 
     fn load(&mut self, alloc: Global, name: &str, max: u32) -> Result<Vec<u8>, LoadFault> {
         self.files.load(alloc, name, max)
@@ -49,13 +43,11 @@ impl Files for SureFiles {
 }
 
 /// A sink that takes every piece whole and keeps nothing.
-#[derive(Clone, Copy, Debug)]
+#[derive(Clone, Copy)]
 pub struct SureSink;
 
 impl Sink for SureSink {
-    ghost told = { λ _. None };
-
-    ghost faults = { λ _. 0 };
+    ghost state = { λ _. record { contents = None; faults = 0 } };
 
     fn put(&mut self, bytes: &[u8]) -> Result<usize, SinkFailed> {
         Ok(bytes.len())

@@ -10,7 +10,7 @@ use Rattle.lx_types.specs.declared.object.PageKind.TheVariants.{Plain}
 use Rattle.lx_types.specs.declared.parts.Parts.{Parts}
 use Rattle.first_form.specs.declared.module_file.OneObject.{OneObject}
 use Rattle.first_form.specs.ModuleFile.{has_page, pages, records, records_at, imports_at, file}
-use Rattle.first_form.specs.ModuleFile.{data_at as page_data_at}
+use Rattle.first_form.specs.ModuleFile.{page_data_at}
 
 -- The object may be read and executed, and is 32-bit. Its page is the first of the table, if it has one.
 abbrev pub head_of : OneObject → ObjHead
@@ -54,4 +54,4 @@ pub record Shows (m : OneObject) : Type 0 where
   pub count : pages_of (head_of m) ≡ pages m
   pub page : page_at (parts_of m) first_page ≡ page_head (page_data_at m) m.page
   pub bytes : data_at (parts_of m) first_page ≡ m.page
-  pub fixes : fixes_at (parts_of m) first_page ≡ records m.sources
+  pub fixes : fixes_at (parts_of m) first_page ≡ records m.references

@@ -4,8 +4,4 @@
 mod parts;
 mod reading;
 
-pub use parts::first_module;
 pub use reading::{Unread, read_module};
-
-#[cfg(test)]
-mod tests;

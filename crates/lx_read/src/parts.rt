@@ -1,11 +1,12 @@
 //! The parts of a module of the first form.
-ghost use Rattle.std.specs.Prelude.{◌≡◌, ◌+◌, ◌∷◌, ◌<◌, ◌^◌, [], IfOk, length};
+ghost use Rattle.std.specs.Prelude.{◌≡◌, ◌+◌, ◌∷◌, ◌<◌, ◌^◌, [], IfOk, OnOk, length};
 ghost use Rattle.first_form.specs.declared.module_file.OneObject.{OneObject};
-ghost use Rattle.first_form.specs.ModuleFile.{IsFileOf, IsOneObject, data_at, imports_at, records_at, file, pages};
+ghost use Rattle.first_form.specs.ModuleFile.{IsFileOf, IsOneObject, page_data_at, imports_at, records_at, file, pages};
+ghost use Rattle.first_form.specs.Places.{Stands};
 ghost use Rattle.lx_read.specs.FirstModule.{Shows, head_of, page_head, page_heads, fix_spans, parts_of};
 ghost use Rattle.lx_read.specs.Reading.{IsTablesOf};
 
-use first_form::{OneObject, sections_stand};
+use first_form::OneObject;
 use lx_types::{MODULE_LIBRARY, Module, NoMemory, ObjHead, PageHead, PageKind, Parts, Seq};
 use std::alloc::Global;
 
@@ -30,11 +31,11 @@ fn page_count(m: &OneObject) -> u32
 fn places_of(m: &OneObject, file_len: u32) -> Places
     requires object { IsOneObject m.now }
     requires file { file_len ≡ length (file m.now) }
+    requires stands { Stands (file m.now) m.now }
     ensures records { result.records ≡ records_at m.now }
     ensures imports { result.imports ≡ imports_at m.now }
-    ensures page { result.page ≡ data_at m.now }
+    ensures page { result.page ≡ page_data_at m.now }
 {
-    sections_stand();
     let name = m.name.bytes().len() as u32;
     let page = file_len - name - 4 - m.page.as_slice().len() as u32;
     Places {
@@ -46,7 +47,7 @@ fn places_of(m: &OneObject, file_len: u32) -> Places
 
 fn page_table(alloc: Global, m: &OneObject, at: u32) -> Result<Seq<PageHead>, NoMemory>
     requires object { IsOneObject m.now }
-    requires at { at ≡ data_at m.now }
+    requires at { at ≡ page_data_at m.now }
     ensures { IfOk result (λ pages. pages ≡ page_heads m.now) }
 {
     let mut pages = Seq::new(alloc);
@@ -86,7 +87,10 @@ pub struct Tables {
 pub fn tables_of(alloc: Global, m: &OneObject, file_len: u32) -> Result<Tables, NoMemory>
     requires object { IsOneObject m.now }
     requires file { file_len ≡ length (file m.now) }
-    ensures { IfOk result (λ t. IsTablesOf m.now t) }
+    requires stands { Stands (file m.now) m.now }
+    ensures tables { IfOk result (λ t. IsTablesOf m.now t) }
+    // What the parts answer of the object and its page.
+    ensures shows { OnOk result (Shows m.now) }
 {
     let places = places_of(m, file_len);
     let mut objects = Seq::new(alloc);
@@ -109,9 +113,9 @@ pub fn tables_of(alloc: Global, m: &OneObject, file_len: u32) -> Result<Tables, 
 pub fn module_of(alloc: Global, file: Vec<u8>, m: OneObject, tables: Tables) -> Module
     requires file { IsFileOf file.items m }
     requires tables { IsTablesOf m tables }
+    requires shows { Shows m }
     ensures { result ≡ parts_of m }
 {
-    first_module();
     Module::of_parts(Parts {
         file: Seq::from_vec(file),
         name: m.name,
@@ -126,11 +130,4 @@ pub fn module_of(alloc: Global, file: Vec<u8>, m: OneObject, tables: Tables) -> 
         names: Seq::new(alloc),
         refs: Seq::new(alloc),
     })
-}
-
-/// A law: what the parts of a module of the first form answer of its object and its page.
-pub fn first_module()
-    ensures { (m : OneObject) → IsOneObject m → Shows m }
-{
-    sections_stand();
 }

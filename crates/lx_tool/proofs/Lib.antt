@@ -1,4 +1,4 @@
-mod Causes
+mod Endings
 mod Fixups
 mod Lines
 mod ModulePage

@@ -2,7 +2,7 @@
 use Rattle.std.proofs.Common.{◌≡◌, ℕ, zero, suc, ◌+◌, ◌-◌, ◌*◌, ◌≤◌, min, List, [], ◌∷◌, ◌++◌, length, take, drop, sym, ◌∙◌, ap, arith, add-zero, add-one, zero-add, length-drop}
 use Rattle.std.proofs.lemmas.List.{take_min, flat_map_more}
 use Rattle.std.specs.List.{flat_map, range_with_len}
-use Rattle.lx_tool.specs.ImageText.{line, line_of}
+use Rattle.lx_answer.specs.ImageText.{line, line_of}
 
 range_more : (a n : ℕ) → range_with_len a (suc n) ≡ range_with_len a n ++ (a + n) ∷ []
 range_more a zero = ap (λ (k : ℕ). k ∷ []) (sym (add-zero a))

@@ -10,19 +10,19 @@ use Rattle.link_model.specs.Link.{Link, link_of}
 use Rattle.link_model.specs.Layout.{objects}
 use Rattle.link_model.specs.OneSegment.{alone, only_pick}
 use Rattle.link_model.specs.Value.{Far}
-use Rattle.first_form.specs.Fixing.{fixed, image}
-use Rattle.first_form.specs.ObjectFile.{Form, object_of}
+use Rattle.first_form.specs.Fixing.{memory_byte, image}
+use Rattle.first_form.specs.ObjectFile.{Form, object_module_of}
 use Rattle.first_form.specs.ModuleFile.{IsOneObject}
 use Rattle.first_form.specs.declared.module_file.OneObject.{OneObject}
 use Rattle.link_core.specs.Links.{LinksTo}
 use Rattle.link_core.specs.Memory.{object_bytes}
-use Rattle.lx_tool.specs.Answer.{image_input}
+use Rattle.lx_answer.specs.Answer.{image_input}
 use Rattle.lx_tool.specs.HasObject.{HasObject}
-use Rattle.lx_tool.specs.ImageText.{image_text}
-use Rattle.lx_tool.specs.MemoryText.{IsTextOf, memory_text, object_text}
+use Rattle.lx_answer.specs.ImageText.{image_text}
+use Rattle.lx_answer.specs.MemoryText.{IsTextOf, memory_text, object_text}
 
 length-image : (m : OneObject) → length (image m) ≡ m.size
-length-image m = length-map-range_with_len (fixed m.base m.page m.sources) 0 m.size
+length-image m = length-map-range_with_len (memory_byte m.base m.page m.references) 0 m.size
 
 same_base : (a b : ℕ) → Some a ≡ Some b → a ≡ b
 same_base a b same = cc
@@ -50,7 +50,7 @@ is_text input at bytes has = record {
 }
 
 pub has_bytes : (input : LinkInput) (object : ObjModule) (form : Form) (at : ℕ) (m : OneObject) (bytes : List ℕ)
-    → input ≡ alone object (codes "IMAGE") at → object ≡ object_of form → IsOneObject m → LinksTo input m → bytes ≡ image m
+    → input ≡ alone object (codes "IMAGE") at → object ≡ object_module_of form → IsOneObject m → LinksTo input m → bytes ≡ image m
     → HasObject (image_input form at) at bytes
 has_bytes input object form at m bytes input_is object_is whole links bytes_are =
     let found : HasObject input at (image m) = has_object input at m whole links (ap (λ (i : LinkInput). i.def.base) input_is) in

@@ -1,6 +1,6 @@
 -- The lines by which the tool tells why it did not do what the words ask for, and the status of each.
 use Rattle.std.specs.Prelude.{ℕ, List, codes}
-use Rattle.lx_tool.specs.FileLine.{file_line, usage_line}
+use Rattle.lx_answer.specs.FileLine.{file_line, usage_line}
 use Rattle.lx_tool.specs.declared.fault.Fault.{Fault}
 use Rattle.lx_tool.specs.declared.fault.Fault.TheVariants.{Usage, Absent, TooLong, ReadFailed, Unbuilt}
 

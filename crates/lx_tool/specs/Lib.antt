@@ -1,11 +1,4 @@
-pub mod FileLine
 pub mod FaultLines
-pub mod ImageText
-pub mod MemoryText
 pub mod HasObject
-pub mod Answer
-pub mod Says
-pub mod Written
-pub mod Words
-pub mod Asked
+pub mod Requests
 pub mod Page

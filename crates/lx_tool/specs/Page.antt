@@ -1,6 +1,6 @@
 -- A page of a module, and the same with its fixups.
 use Rattle.std.specs.Prelude.{◌≡◌, ℕ, List, slice_index}
-use Rattle.first_form.specs.Fixing.{fixed}
+use Rattle.first_form.specs.Fixing.{memory_byte}
 use Rattle.first_form.specs.ModuleFile.{IsOneObject, records}
 use Rattle.first_form.specs.declared.module_file.OneObject.{OneObject}
 
@@ -10,8 +10,8 @@ pub record IsPage (m : OneObject) (base : ℕ) (page fixups : List ℕ) : Type 0
   pub object : IsOneObject m
   pub base_is : base ≡ m.base
   pub page_is : (x : ℕ) → slice_index page x ≡ slice_index m.page x
-  pub fixups_are : fixups ≡ records m.sources
+  pub fixups_are : fixups ≡ records m.references
 
--- Each byte is as the module's sources fix it.
+-- Each byte is as the module's references fix it.
 abbrev pub IsFixed : OneObject → List ℕ → Type 0
-IsFixed m page = (x : ℕ) → slice_index page x ≡ fixed m.base m.page m.sources x
+IsFixed m page = (x : ℕ) → slice_index page x ≡ memory_byte m.base m.page m.references x

@@ -1,9 +1,12 @@
 //! What a command has to say: a status and a text.
-ghost use Rattle.std.specs.Prelude.{◌≡◌, ◌≤◌, IfOk, length, map, string_bytes};
-ghost use Rattle.lx_tool.specs.Answer.{AnswersFile, file_limit};
+ghost use Rattle.std.specs.Prelude.{◌≡◌, ◌≤◌, ℕ, List, Result, IfOk, IfSome, length, map, string_bytes};
+ghost use Rattle.lx_ports.specs.Calls.{Call, load, load_answer};
+ghost use Rattle.lx_ports.specs.Files.{after_call, IsLoadOf};
+ghost use Rattle.lx_ports.specs.declared.files.LoadFault.{LoadFault};
+ghost use Rattle.lx_answer.specs.Answer.{AnswersBytes, file_limit};
+ghost use Rattle.lx_answer.specs.Ends.{Loads};
+ghost use Rattle.lx_answer.specs.Says.{Says, SaysFile};
 ghost use Rattle.lx_tool.specs.FaultLines.{line_of, status_of};
-ghost use Rattle.lx_tool.specs.Says.{Says, SaysImage, loads};
-ghost use Rattle.lx_tool.specs.Words.{Image as Asked};
 
 use crate::fault::Fault;
 use crate::image::shown_text;
@@ -23,8 +26,9 @@ pub struct Output {
 }
 
 /// A fault as its line.
-fn told(alloc: Global, fault: Fault) -> Result<Output, NoMemory>
-    ensures { IfOk result (λ o. (o.status ≡ status_of fault.entry) × (o.text.items ≡ line_of fault.entry)) }
+fn fault_output(alloc: Global, fault: Fault) -> Result<Output, NoMemory>
+    ensures { IfOk result (λ o.
+        (o.status ≡ status_of fault.entry) × (o.text.items ≡ line_of fault.entry)) }
 {
     let line = fault.line(alloc)?;
     Ok(Output {
@@ -34,15 +38,37 @@ fn told(alloc: Global, fault: Fault) -> Result<Output, NoMemory>
 }
 
 /// The answer to `image` for a file with these bytes.
-fn file_output(alloc: Global, object: &str, base: u32, bytes: &[u8]) -> Result<Output, NoMemory>
+fn bytes_output(alloc: Global, object: &str, base: u32, bytes: &[u8]) -> Result<Output, NoMemory>
     requires short { length bytes.now ≤ file_limit }
     requires in_arenas { base ≤ 0x1FFF0000 }
-    ensures { IfOk result (λ o. AnswersFile (record { object = object.now; base = base }) bytes.now o.status o.text.items) }
+    ensures { IfOk result (λ o. AnswersBytes (record { object = object.now; base = base })
+        bytes.now o.status o.text.items) }
 {
     match shown_text(alloc, base, bytes) {
         Ok(text) => Ok(Output { status: 0, text }),
-        Err(Fail::Said(_)) => told(alloc, Fault::Unbuilt(object)),
+        Err(Fail::Said(_)) => fault_output(alloc, Fault::Unbuilt(object)),
         Err(Fail::NoMemory) => Err(NoMemory),
+    }
+}
+
+/// The answer to `image` by the answer to the load of its file.
+fn loaded_output(
+    alloc: Global,
+    object: &str,
+    base: u32,
+    loaded: Result<Vec<u8>, LoadFault>,
+) -> Result<Output, NoMemory>
+    requires short { IfOk loaded (λ bytes. length bytes.items ≤ file_limit) }
+    requires in_arenas { base ≤ 0x1FFF0000 }
+    ensures { IfOk result (λ o. SaysFile (record { object = object.now; base = base })
+        (load_answer loaded) o.status o.text.items) }
+{
+    match loaded {
+        Ok(bytes) => bytes_output(alloc, object, base, &bytes),
+        Err(LoadFault::Absent) => fault_output(alloc, Fault::Absent(object)),
+        Err(LoadFault::TooLong) => fault_output(alloc, Fault::TooLong(object)),
+        Err(LoadFault::Failed) => fault_output(alloc, Fault::ReadFailed(object)),
+        Err(LoadFault::NoMemory) => Err(NoMemory),
     }
 }
 
@@ -54,27 +80,25 @@ fn image_output<F: Files>(
     files: &mut F,
 ) -> Result<Output, NoMemory>
     requires { base ≤ 0x1FFF0000 }
-    ensures said { IfOk result (λ o. SaysImage (record { object = object.now; base = base })
-        (loads F.contents F.faults F.misses F.overs files.old files.new)
-        o.status o.text.items) }
-    ensures kept { F.contents files.new ≡ F.contents files.old }
+    ensures { (answer : Result (List ℕ) LoadFault)
+        × (F.state files.new ≡ after_call (F.state files.old) (load object.now answer))
+        × IfSome (F.state files.old).contents
+        (λ contents. IsLoadOf (contents object.now) file_limit answer)
+        × IfOk result (λ o. SaysFile (record { object = object.now; base = base })
+        answer o.status o.text.items) }
 {
-    match files.load(alloc, object, FILE_LIMIT) {
-        Ok(bytes) => file_output(alloc, object, base, &bytes),
-        Err(LoadFault::Absent) => told(alloc, Fault::Absent(object)),
-        Err(LoadFault::TooLong) => told(alloc, Fault::TooLong(object)),
-        Err(LoadFault::Failed) => told(alloc, Fault::ReadFailed(object)),
-        Err(LoadFault::NoMemory) => Err(NoMemory),
-    }
+    let loaded = files.load(alloc, object, FILE_LIMIT);
+    loaded_output(alloc, object, base, loaded)
 }
 
 /// What the words have to say.
 pub fn answer<F: Files>(alloc: Global, words: &[String], files: &mut F) -> Result<Output, NoMemory>
-    ensures said { IfOk result (λ o. Says (map string_bytes words.now) (loads F.contents F.faults F.misses F.overs files.old files.new) o.status o.text.items) }
-    ensures kept { F.contents files.new ≡ F.contents files.old }
+    ensures { (calls : List Call)
+        × Loads (map string_bytes words.now) (F.state files.old) (F.state files.new) calls
+        × IfOk result (λ o. Says (map string_bytes words.now) calls o.status o.text.items) }
 {
     match Command::of(words) {
         Some(Command::Image { object, base }) => image_output(alloc, object, base, files),
-        None => told(alloc, Fault::Usage),
+        None => fault_output(alloc, Fault::Usage),
     }
 }

@@ -1,11 +1,11 @@
 //! Why the tool did not do what the words ask for.
 ghost use Rattle.std.specs.Prelude.{◌≡◌, IfOk, string_bytes};
-ghost use Rattle.lx_tool.specs.FileLine.{file_line};
+ghost use Rattle.lx_answer.specs.FileLine.{file_line};
 
 use std::alloc::{AllocError, Global};
 
-/// A fault, with the file that it is told of.
-#[derive(Clone, Copy, Debug)]
+/// A fault, with the name of its file.
+#[derive(Clone, Copy)]
 pub enum Fault<'a> {
     /// The words are no command.
     Usage,
@@ -19,7 +19,7 @@ pub enum Fault<'a> {
 impl Fault<'_> {
     ghost use Rattle.lx_tool.specs.FaultLines.{line_of, status_of};
 
-    /// The line by which it is told.
+    /// Its line.
     pub fn line(self, alloc: Global) -> Result<String, AllocError>
         ensures { IfOk result (λ line. string_bytes line ≡ line_of self.entry) }
     {

@@ -4,11 +4,10 @@ ghost use Rattle.first_form.specs.Segment.{covers};
 ghost use Rattle.first_form.specs.Fixing.{image};
 ghost use Rattle.first_form.specs.ModuleFile.{IsOneObject};
 ghost use Rattle.first_form.specs.declared.module_file.OneObject.{OneObject};
-ghost use Rattle.lx_read.specs.FirstModule.{parts_of};
+ghost use Rattle.lx_read.specs.FirstModule.{Shows, parts_of};
 ghost use Rattle.lx_tool.specs.Page.{IsPage, IsFixed};
 
-use first_form::next_source;
-use lx_read::first_module;
+use first_form::next_reference;
 use lx_types::{Module, NoMemory, PAGE_SIZE, PageId};
 use std::alloc::{AllocError, Global};
 
@@ -40,9 +39,9 @@ fn put_fixups(page: &mut [u8], base: u32, records: &[u8])
     ensures { (m : OneObject) → IsPage m base page.old records.now → IsFixed m page.new }
 {
     let mut rest = records;
-    while let Some((source, after)) = next_source(rest) {
-        let address = base.wrapping_add(source.target);
-        put_field(page, source.offset as usize, address.to_le_bytes());
+    while let Some((reference, after)) = next_reference(rest) {
+        let address = base.wrapping_add(reference.target);
+        put_field(page, reference.offset as usize, address.to_le_bytes());
         rest = after;
     }
 }
@@ -61,10 +60,10 @@ fn fill_page(page: &mut [u8], base: u32, bytes: &[u8], records: &[u8])
 
 /// The bytes of the module's object at its linked base.
 pub fn object_bytes(alloc: Global, linked: &Module) -> Result<Vec<u8>, NoMemory>
-    requires { (m : OneObject) × IsOneObject m × (linked.now ≡ parts_of m) }
-    ensures { IfOk result (λ bytes. (m : OneObject) → IsOneObject m → linked.now ≡ parts_of m → bytes.items ≡ image m) }
+    requires { (m : OneObject) × IsOneObject m × Shows m × (linked.now ≡ parts_of m) }
+    ensures { IfOk result (λ bytes. (m : OneObject) → IsOneObject m → Shows m
+        → linked.now ≡ parts_of m → bytes.items ≡ image m) }
 {
-    first_module();
     let head = linked.objects()[0];
     if head.size == 0 {
         return Ok(Vec::new(alloc));

@@ -1,6 +1,6 @@
 //! The bytes of an object as text.
 ghost use Rattle.std.specs.Prelude.{◌≡◌, ◌≤◌, ◌+◌, ◌^◌, ◌++◌, length, IfOk, OnOk, List};
-ghost use Rattle.lx_tool.specs.ImageText.{line, image_text, two_digits};
+ghost use Rattle.lx_answer.specs.ImageText.{line, image_text, two_digits};
 
 use std::alloc::{AllocError, Global};
 

@@ -47,7 +47,8 @@ fixes_at p id = let s = fix_span_at p id in span p.file s.0 s.1
 abbrev pub name_at : List ℕ → ℕ → Option (List ℕ)
 name_at file at =
     let len = slice_index file at in
-    if nat_lt at (length file) && nat_le (at + 1 + len) (length file) then Some (span file (at + 1) (at + 1 + len)) else None
+    if nat_lt at (length file) && nat_le (at + 1 + len) (length file)
+    then Some (span file (at + 1) (at + 1 + len)) else None
 
 -- a name of the import procedure table
 abbrev pub proc_name_of : Parts → ℕ → Option (List ℕ)

@@ -3,7 +3,7 @@
 use crate::{Numbers, Seq};
 
 /// The bases of a module's objects, in order.
-#[derive(Debug, PartialEq, Drop)]
+#[derive(Drop)]
 pub struct ModBases {
     /// The module's number in its library.
     pub module: u32,
@@ -11,7 +11,7 @@ pub struct ModBases {
 }
 
 /// The bases of each module that a module reaches, itself among them.
-#[derive(Debug, PartialEq, Drop)]
+#[derive(Drop)]
 pub struct Bases {
     pub mods: Seq<ModBases>,
 }

@@ -5,14 +5,14 @@
 use crate::Name;
 
 /// How an entry point is asked for.
-#[derive(Debug, PartialEq, Drop)]
+#[derive(Drop)]
 pub enum EntryKey {
     Ordinal(u32),
     Named(Name),
 }
 
 /// How a forwarder asks for the entry point that it stands for.
-#[derive(Clone, Copy, Debug, PartialEq, Eq)]
+#[derive(Clone, Copy)]
 pub enum FwdKey {
     Ordinal(u32),
     /// The name's offset in the import procedure table.
@@ -20,7 +20,7 @@ pub enum FwdKey {
 }
 
 /// What an ordinal stands for. Objects and imports count from 1.
-#[derive(Clone, Copy, Debug, PartialEq, Eq)]
+#[derive(Clone, Copy)]
 pub enum EntryHead {
     At { object: u32, offset: u32 },
     /// A call gate of the 80286: it is read, and a reference to it is refused.

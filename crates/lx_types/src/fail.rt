@@ -6,7 +6,7 @@ ghost use Rattle.lx_types.specs.declared.fail.Fail.TheVariants as fail;
 use std::alloc::{AllocError, AllocFailed};
 
 /// A call found no memory. It says nothing of its input.
-#[derive(Debug, Clone, Copy, PartialEq, Eq, Drop)]
+#[derive(Debug, Clone, Copy, Drop)]
 pub struct NoMemory;
 
 /// Why a call that takes memory did not succeed.

@@ -3,7 +3,7 @@
 //! LX: "Fixup Record Table".
 
 /// What a field gets. Far fields end with a selector.
-#[derive(Clone, Copy, Debug, PartialEq, Eq)]
+#[derive(Clone, Copy)]
 pub enum Source {
     /// The low byte of the address.
     Byte,
@@ -22,7 +22,7 @@ pub enum Source {
 }
 
 /// Where the address comes from. Objects and imports count from 1.
-#[derive(Clone, Copy, Debug, PartialEq, Eq, Hash)]
+#[derive(Clone, Copy, PartialEq, Eq, Hash)]
 pub enum FixTarget {
     Internal { object: u32, offset: u32 },
     Ordinal { import: u32, ordinal: u32 },
@@ -33,7 +33,7 @@ pub enum FixTarget {
 }
 
 /// One source of a fixup record.
-#[derive(Clone, Copy, Debug, PartialEq, Eq)]
+#[derive(Clone, Copy)]
 pub struct Fix {
     pub source: Source,
     /// The selector is that of the 16:16 alias.

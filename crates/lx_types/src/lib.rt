@@ -5,24 +5,25 @@ mod bases;
 mod entry;
 mod fail;
 mod fix;
+mod laws;
 mod module;
 mod name;
 mod object;
 mod parts;
 mod refusal;
 mod seq;
-#[cfg(test)]
-mod tests;
 
 pub use bases::{Bases, ModBases};
 pub use entry::{EntryHead, EntryKey, FwdKey};
 pub use fail::{Fail, NoMemory};
 pub use fix::{Fix, FixTarget, Source};
+pub use laws::format_numbers;
 pub use module::Module;
 pub use name::{Name, NameLong};
 pub use object::{
-    Class, OBJECT_ALIAS, OBJECT_BIG, OBJECT_EXECUTABLE, OBJECT_SHARED, OBJECT_WRITABLE, ObjHead,
-    PAGE_SIZE, PageHead, PageId, PageKind,
+    Class, OBJECT_ALIAS, OBJECT_BIG, OBJECT_CONFORMING, OBJECT_EXECUTABLE, OBJECT_IOPL,
+    OBJECT_PRELOAD, OBJECT_READABLE, OBJECT_SHARED, OBJECT_WRITABLE, ObjHead, PAGE_SIZE, PageHead,
+    PageId, PageKind,
 };
 pub use parts::{MODULE_INIT_EACH, MODULE_KIND, MODULE_LIBRARY, MODULE_TERM_EACH, Parts};
 pub use refusal::{LxKind, LxRefusal};

@@ -37,7 +37,7 @@ fn entry_with(entries: &[(u32, EntryHead)], ordinal: u32) -> Option<EntryHead>
 ///
 /// A reader that takes an object's number or a page asks that it is in range: objects count from 1,
 /// and the pages of an object from 0 up to `pages` of it.
-#[derive(Debug, Drop)]
+#[derive(Drop)]
 pub struct Module {
     parts: Parts,
 }

@@ -17,7 +17,7 @@ pub struct Name {
 }
 
 /// More than 255 bytes were given for a name.
-#[derive(Debug, Clone, Copy, PartialEq, Eq, Drop)]
+#[derive(Debug, Clone, Copy, Drop)]
 pub struct NameLong;
 
 impl Model for Name {
@@ -49,10 +49,16 @@ impl Name {
         if bytes.len() > 255 {
             return Err(Fail::Said(NameLong));
         }
-        match Vec::from_slice(alloc, bytes) {
-            Ok(bytes) => Ok(Name { bytes }),
-            Err(_) => Err(Fail::NoMemory),
-        }
+        Ok(Name::of_short(alloc, bytes)?)
+    }
+
+    /// The name with these bytes, where it is known that there are at most 255.
+    pub fn of_short(alloc: Global, bytes: &[u8]) -> Result<Name, NoMemory>
+        requires { IsName bytes.now }
+        ensures { IfOk result (λ name. name ≡ bytes.now) }
+    {
+        let bytes = Vec::from_slice(alloc, bytes)?;
+        Ok(Name { bytes })
     }
 
     /// The bytes of the name.

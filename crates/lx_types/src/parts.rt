@@ -15,7 +15,7 @@ pub const MODULE_INIT_EACH: u32 = 0x0004;
 pub const MODULE_TERM_EACH: u32 = 0x4000_0000;
 
 /// What a file says of its module. Places are places in the file.
-#[derive(Debug, PartialEq, Drop)]
+#[derive(Drop)]
 pub struct Parts {
     pub file: Bytes,
     /// The module's name: the first entry of the resident name table.

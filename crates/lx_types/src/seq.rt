@@ -65,7 +65,8 @@ impl<T> Seq<T> {
 impl<T: Drop> Seq<T> {
     /// Adds `item` at the end. Where it finds no memory the list is as it was.
     pub fn push(&mut self, item: T) -> Result<(), NoMemory>
-        ensures { MatchResult result (λ _. self.new ≡ self.old ++ item ∷ []) (λ _. self.new ≡ self.old) }
+        ensures { MatchResult result
+            (λ _. self.new ≡ self.old ++ item ∷ []) (λ _. self.new ≡ self.old) }
     {
         match self.vec.push(item) {
             Ok(()) => Ok(()),

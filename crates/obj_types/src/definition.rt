@@ -1,10 +1,13 @@
 //! What a module definition file says.
 
+ghost use Rattle.std.specs.Prelude.{◌≡◌};
+
 use crate::{Exports, Imports};
 use lx_types::{Name, Seq};
+use std::alloc::Global;
 
 /// The attributes of a segment.
-#[derive(Debug, Clone, Copy, PartialEq, Eq)]
+#[derive(Clone, Copy)]
 pub struct Attrs {
     pub read: bool,
     pub write: bool,
@@ -15,8 +18,32 @@ pub struct Attrs {
     pub iopl: bool,
 }
 
+impl Attrs {
+    /// Those of CODE where a definition file says nothing of them: read and execute.
+    pub const CODE: Attrs = Attrs {
+        read: true,
+        write: false,
+        exec: true,
+        shared: false,
+        preload: false,
+        conforming: false,
+        iopl: false,
+    };
+
+    /// Those of DATA where a definition file says nothing of them: read and write.
+    pub const DATA: Attrs = Attrs {
+        read: true,
+        write: true,
+        exec: false,
+        shared: false,
+        preload: false,
+        conforming: false,
+        iopl: false,
+    };
+}
+
 /// An item of SEGMENTS. One without a class is for every class.
-#[derive(Debug, PartialEq, Drop)]
+#[derive(Drop)]
 pub struct SegAttrs {
     pub name: Name,
     pub class: Option<Name>,
@@ -27,14 +54,14 @@ pub struct SegAttrs {
 pub type SegRules = Seq<SegAttrs>;
 
 /// Whether a program or a library is linked.
-#[derive(Debug, Clone, Copy, PartialEq, Eq)]
+#[derive(Clone, Copy)]
 pub enum ModKind {
     Program,
     Library,
 }
 
 /// A module definition file.
-#[derive(Debug, PartialEq, Drop)]
+#[derive(Drop)]
 pub struct DefFile {
     pub kind: ModKind,
     pub name: Option<Name>,
@@ -54,4 +81,29 @@ pub struct DefFile {
     pub segs: SegRules,
     pub exports: Exports,
     pub imports: Imports,
+}
+
+impl DefFile {
+    ghost use Rattle.obj_types.specs.Defaults.{default_def};
+
+    /// The definition file that says nothing but the kind of module and its base. It takes no memory.
+    pub fn empty(alloc: Global, kind: ModKind, base: Option<u32>) -> DefFile
+        ensures { result ≡ default_def kind base }
+    {
+        DefFile {
+            kind,
+            name: None,
+            init_each: false,
+            term_each: false,
+            about: Name::empty(alloc),
+            stack: 0,
+            heap: 0,
+            base,
+            code: Attrs::CODE,
+            plain: Attrs::DATA,
+            segs: Seq::new(alloc),
+            exports: Seq::new(alloc),
+            imports: Seq::new(alloc),
+        }
+    }
 }

@@ -7,7 +7,7 @@ use lx_types::{Name, Seq};
 pub type ObjModules = Seq<ObjModule>;
 
 /// All that one link reads.
-#[derive(Debug, PartialEq, Drop)]
+#[derive(Drop)]
 pub struct LinkInput {
     /// The modules of the object files.
     pub objects: ObjModules,

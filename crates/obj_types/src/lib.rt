@@ -7,6 +7,7 @@
 
 mod definition;
 mod input;
+mod laws;
 mod limits;
 mod object;
 mod parts;
@@ -15,6 +16,7 @@ mod symbol;
 
 pub use definition::{Attrs, DefFile, ModKind, SegAttrs, SegRules};
 pub use input::{LinkInput, ObjModules};
+pub use laws::limit_numbers;
 pub use limits::{MAX_DATA, MAX_DEPTH, MAX_FIXES};
 pub use lx_types::{Bytes, EntryKey, Fail, Name, Names, NoMemory, Seq};
 pub use object::{

@@ -4,7 +4,7 @@ use crate::{Exports, Exts, Imports, Pubs};
 use lx_types::{Bytes, Name, Names, Numbers, Seq};
 
 /// A contribution to a logical segment ("98h SEGDEF").
-#[derive(Debug, PartialEq, Drop)]
+#[derive(Drop)]
 pub struct Seg {
     pub name: Name,
     pub class: Name,
@@ -27,7 +27,7 @@ pub type Segs = Seq<Seg>;
 pub type Members = Numbers;
 
 /// Segments that one frame reaches ("9Ah GRPDEF"). The group FLAT has no members.
-#[derive(Debug, PartialEq, Drop)]
+#[derive(Drop)]
 pub struct Group {
     pub name: Name,
     pub members: Members,
@@ -37,7 +37,7 @@ pub struct Group {
 pub type Groups = Seq<Group>;
 
 /// Data of a segment ("A0h LEDATA" and "A2h LIDATA", which is expanded here).
-#[derive(Debug, PartialEq, Drop)]
+#[derive(Drop)]
 pub struct Piece {
     pub seg: u32,
     pub offset: u32,
@@ -48,7 +48,7 @@ pub struct Piece {
 pub type Pieces = Seq<Piece>;
 
 /// From where a fixup's location is reached: the frame methods of "9Ch FIXUPP".
-#[derive(Debug, Clone, Copy, PartialEq, Eq)]
+#[derive(Clone, Copy, PartialEq, Eq)]
 pub enum Frame {
     Seg(u32),
     Group(u32),
@@ -60,7 +60,7 @@ pub enum Frame {
 }
 
 /// What a fixup refers to: the target methods of "9Ch FIXUPP".
-#[derive(Debug, Clone, Copy, PartialEq, Eq)]
+#[derive(Clone, Copy, PartialEq, Eq)]
 pub enum Goal {
     Seg(u32),
     Group(u32),
@@ -68,7 +68,7 @@ pub enum Goal {
 }
 
 /// A FIXUP of "9Ch FIXUPP": what is to be put at an offset of a segment.
-#[derive(Debug, Clone, Copy, PartialEq, Eq)]
+#[derive(Clone, Copy)]
 pub struct FixAt {
     pub seg: u32,
     pub offset: u32,
@@ -85,7 +85,7 @@ pub struct FixAt {
 pub type Fixes = Seq<FixAt>;
 
 /// The place where a program starts, or a library's initialisation ("8Ah MODEND").
-#[derive(Debug, Clone, Copy, PartialEq, Eq)]
+#[derive(Clone, Copy)]
 pub struct StartAt {
     pub frame: Frame,
     pub goal: Goal,
@@ -93,7 +93,7 @@ pub struct StartAt {
 }
 
 /// An object module as its records say it.
-#[derive(Debug, PartialEq, Drop)]
+#[derive(Drop)]
 pub struct ObjModule {
     pub name: Name,
     pub segs: Segs,

@@ -8,7 +8,7 @@ use lx_types::{Bytes, Name, Names, Seq};
 use std::alloc::Global;
 
 /// The data record to which a fixup's offset refers.
-#[derive(Debug, PartialEq, Drop)]
+#[derive(Drop)]
 pub enum LastData {
     /// No data record came.
     None,
@@ -30,14 +30,14 @@ pub enum LastData {
 }
 
 /// What the THREAD fields so far mean, by number from 0 to 3.
-#[derive(Debug, Clone, Copy, PartialEq, Eq)]
+#[derive(Clone, Copy)]
 pub struct Threads {
     pub frame: [Option<Frame>; 4],
     pub goal: [Option<Goal>; 4],
 }
 
 /// An unfinished module.
-#[derive(Debug, PartialEq, Drop)]
+#[derive(Drop)]
 pub struct ObjParts {
     /// The names of the LNAMES records.
     pub names: Names,

@@ -3,14 +3,14 @@
 use lx_types::{EntryKey, Name, Seq};
 
 /// What a public name stands for.
-#[derive(Debug, Clone, Copy, PartialEq, Eq)]
+#[derive(Clone, Copy)]
 pub enum PubPlace {
     In { seg: u32, offset: u32 },
     Const { value: u32 },
 }
 
 /// A public name ("90h PUBDEF"; local in "B6h LPUBDEF").
-#[derive(Debug, PartialEq, Drop)]
+#[derive(Drop)]
 pub struct Pub {
     pub name: Name,
     pub local: bool,
@@ -21,7 +21,7 @@ pub struct Pub {
 pub type Pubs = Seq<Pub>;
 
 /// A communal name's storage ("B0h COMDEF").
-#[derive(Debug, Clone, Copy, PartialEq, Eq)]
+#[derive(Clone, Copy)]
 pub struct Common {
     pub far: bool,
     /// The length in bytes.
@@ -29,7 +29,7 @@ pub struct Common {
 }
 
 /// An external name ("8Ch EXTDEF"; local in "B4h LEXTDEF"; with storage in "B0h COMDEF").
-#[derive(Debug, PartialEq, Drop)]
+#[derive(Drop)]
 pub struct Ext {
     pub name: Name,
     pub local: bool,
@@ -40,7 +40,7 @@ pub struct Ext {
 pub type Exts = Seq<Ext>;
 
 /// A name that another module exports ("88h COMENT", IMPDEF).
-#[derive(Debug, PartialEq, Drop)]
+#[derive(Drop)]
 pub struct Imp {
     pub name: Name,
     pub module: Name,
@@ -51,7 +51,7 @@ pub struct Imp {
 pub type Imports = Seq<Imp>;
 
 /// A name that the linked module exports ("88h COMENT", EXPDEF).
-#[derive(Debug, PartialEq, Drop)]
+#[derive(Drop)]
 pub struct Exp {
     pub name: Name,
     pub internal: Name,

@@ -3,7 +3,7 @@ use Rattle.std.proofs.Common.{◌≡◌, ℕ, zero, suc, ◌<◌, ◌≤◌, fal
 use Rattle.std.proofs.lemmas.Bool.Decides.{nat_tests}
 use Rattle.lx_types.specs.Names.{IsName}
 use Rattle.first_form.specs.ObjectFile.{record_of, theadr, lnames, segdef, grpdef, ledata, modend, NoRecord}
-use Rattle.omf_module.specs.Reading.{◌>>=◌, names_contents, record_at, after_record, counted, segment_len, data_of, optional_by, optional_at, data_at, heading_at, segment_at, Told, told}
+use Rattle.omf_module.specs.Reading.{◌>>=◌, names_contents, record_at, after_record, counted, segment_len, data_of, optional_by, optional_at, segment_data_at, heading_at, segment_at, FileRecords, file_records}
 use Rattle.omf_module.proofs.Frames.{IsBytes, bind_some, some_is, record_takes, record_again}
 use Rattle.omf_module.proofs.Fields.{segdef_contents, ledata_contents, after_takes, after_again, counted_takes, counted_again, segment_takes, segment_again, data_takes, data_again}
 
@@ -15,13 +15,13 @@ abbrev pub data_text : List ℕ → Option (List ℕ) → List ℕ
 data_text [] fixups = []
 data_text (b ∷ bytes) fixups = ledata (b ∷ bytes) ++ fixups_text fixups
 
-abbrev pub text : Told → List ℕ
+abbrev pub text : FileRecords → List ℕ
 text t = theadr t.name ++ lnames ++ segdef (length t.bytes) ++ grpdef ++ data_text t.bytes t.fixups ++ modend
 
 abbrev pub IsShort : List ℕ → Type 0
 IsShort contents = length contents < 65535
 
-pub record IsTold (t : Told) : Type 0 where
+pub record IsFileRecords (t : FileRecords) : Type 0 where
   pub name : IsName t.name
   pub one_page : length t.bytes ≤ 4096
   pub empty : t.bytes ≡ [] → NoRecord t.fixups
@@ -53,10 +53,10 @@ data_text_some n (b ∷ bytes) fixups e = refl
 abbrev pub TakesData : (len : ℕ) (bytes : List ℕ) (x : List ℕ × Option (List ℕ) × List ℕ) → Type 0
 TakesData len bytes x = (bytes ≡ data_text x.0 x.1 ++ x.2) × IsBytes x.2 × (length x.0 ≡ len) × (x.0 ≡ [] → NoRecord x.1) × IfSome x.1 IsShort
 
-pub data_at_takes : (len : ℕ) (bytes : List ℕ) (x : List ℕ × Option (List ℕ) × List ℕ) → IsBytes bytes → data_at len bytes ≡ Some x → TakesData len bytes x
-unfolding data_at
-data_at_takes zero bytes x fits e = subst (TakesData zero bytes) (some_is ([], None, bytes) x e) (refl, fits, refl, λ _. tt, tt)
-data_at_takes (suc n) bytes x fits e =
+pub segment_data_at_takes : (len : ℕ) (bytes : List ℕ) (x : List ℕ × Option (List ℕ) × List ℕ) → IsBytes bytes → segment_data_at len bytes ≡ Some x → TakesData len bytes x
+unfolding segment_data_at
+segment_data_at_takes zero bytes x fits e = subst (TakesData zero bytes) (some_is ([], None, bytes) x e) (refl, fits, refl, λ _. tt, tt)
+segment_data_at_takes (suc n) bytes x fits e =
     let positive : eqb (suc n) 0 ≡ false = grind (arith, nat_tests) in
     let e2 = rw positive at e in
     let a = bind_some (record_at 0xA1 bytes) (λ r. data_of (suc n) r.0 >>= λ found. Some (found, (optional_at 0x9D r.1).0, (optional_at 0x9D r.1).1)) x e2 in
@@ -70,22 +70,22 @@ data_at_takes (suc n) bytes x fits e =
     ∙ sym (append_assoc (ledata b.0) (fixups_text fixups) rest) ∙ ap (λ (w : List ℕ). w ++ rest) (sym (data_text_some n b.0 fixups d.1)) in
     subst (TakesData (suc n) bytes) (some_is (b.0, fixups, rest) x b.2) (parts, o.1, d.1, λ z. absurd (omega (arith, ap length z, d.1)), o.2)
 
-data_at_steps : (n : ℕ) (bytes found rest : List ℕ) (r : List ℕ × List ℕ) (o : Option (List ℕ)) → record_at 0xA1 bytes ≡ Some r → data_of (suc n) r.0 ≡ Some found → optional_at 0x9D r.1 ≡ (o, rest)
-    → data_at (suc n) bytes ≡ Some (found, o, rest)
-unfolding data_at
-data_at_steps n bytes found rest r o a b c =
+segment_data_at_steps : (n : ℕ) (bytes found rest : List ℕ) (r : List ℕ × List ℕ) (o : Option (List ℕ)) → record_at 0xA1 bytes ≡ Some r → data_of (suc n) r.0 ≡ Some found → optional_at 0x9D r.1 ≡ (o, rest)
+    → segment_data_at (suc n) bytes ≡ Some (found, o, rest)
+unfolding segment_data_at
+segment_data_at_steps n bytes found rest r o a b c =
     let positive : eqb (suc n) 0 ≡ false = grind (arith, nat_tests) in
     rw (positive, a, b, c) refl
 
-pub data_at_again : (bytes : List ℕ) (fixups : Option (List ℕ)) (rest : List ℕ) → length bytes ≤ 4096 → (bytes ≡ [] → NoRecord fixups) → IfSome fixups IsShort
-    → data_at (length bytes) (data_text bytes fixups ++ (modend ++ rest)) ≡ Some (bytes, fixups, modend ++ rest)
-unfolding data_at
-data_at_again [] None rest one_page empty short = refl
-data_at_again [] (Some contents) rest one_page empty short = absurd (empty refl)
-data_at_again (b ∷ bytes) fixups rest one_page empty short =
+pub segment_data_at_again : (bytes : List ℕ) (fixups : Option (List ℕ)) (rest : List ℕ) → length bytes ≤ 4096 → (bytes ≡ [] → NoRecord fixups) → IfSome fixups IsShort
+    → segment_data_at (length bytes) (data_text bytes fixups ++ (modend ++ rest)) ≡ Some (bytes, fixups, modend ++ rest)
+unfolding segment_data_at
+segment_data_at_again [] None rest one_page empty short = refl
+segment_data_at_again [] (Some contents) rest one_page empty short = absurd (empty refl)
+segment_data_at_again (b ∷ bytes) fixups rest one_page empty short =
     let after = fixups_text fixups ++ (modend ++ rest) in
-    ap (data_at (suc (length bytes))) (append_assoc (ledata (b ∷ bytes)) (fixups_text fixups) (modend ++ rest))
-    ∙ data_at_steps (length bytes) (ledata (b ∷ bytes) ++ after) (b ∷ bytes) (modend ++ rest) (ledata_contents (b ∷ bytes), after) fixups
+    ap (segment_data_at (suc (length bytes))) (append_assoc (ledata (b ∷ bytes)) (fixups_text fixups) (modend ++ rest))
+    ∙ segment_data_at_steps (length bytes) (ledata (b ∷ bytes) ++ after) (b ∷ bytes) (modend ++ rest) (ledata_contents (b ∷ bytes), after) fixups
     (record_again 0xA1 (ledata_contents (b ∷ bytes)) after (omega arith)) (data_again (b ∷ bytes)) (optional_again fixups rest short)
 
 -- ---- The heading and the segment.
@@ -130,37 +130,37 @@ segment_at_again len rest le =
 regroup : (a b c d e f rest : List ℕ) → (((((a ++ b) ++ c) ++ d) ++ e) ++ f) ++ rest ≡ a ++ (b ++ (c ++ (d ++ (e ++ (f ++ rest)))))
 regroup a b c d e f rest = simp append_assoc
 
-grouped : (t : Told) (rest : List ℕ) → text t ++ rest ≡ theadr t.name ++ (lnames ++ (segdef (length t.bytes) ++ (grpdef ++ (data_text t.bytes t.fixups ++ (modend ++ rest)))))
+grouped : (t : FileRecords) (rest : List ℕ) → text t ++ rest ≡ theadr t.name ++ (lnames ++ (segdef (length t.bytes) ++ (grpdef ++ (data_text t.bytes t.fixups ++ (modend ++ rest)))))
 grouped t rest = regroup (theadr t.name) lnames (segdef (length t.bytes)) grpdef (data_text t.bytes t.fixups) modend rest
 
-pub told_takes : (bytes : List ℕ) (t : Told) → IsBytes bytes → told bytes ≡ Some t → IsTold t × ((rest : List ℕ) × (bytes ≡ text t ++ rest))
-unfolding told
-told_takes bytes t fits e =
-    let a = bind_some (heading_at bytes) (λ heading. segment_at heading.1 >>= λ seg. data_at seg.0 seg.1 >>= λ field. after_record 0x8A (0 ∷ []) field.2 >>= λ rest. Some (record { name = heading.0; bytes = field.0; fixups = field.1 })) t e in
-    let b = bind_some (segment_at a.0.1) (λ seg. data_at seg.0 seg.1 >>= λ field. after_record 0x8A (0 ∷ []) field.2 >>= λ rest. Some (record { name = a.0.0; bytes = field.0; fixups = field.1 })) t a.2 in
-    let c = bind_some (data_at b.0.0 b.0.1) (λ field. after_record 0x8A (0 ∷ []) field.2 >>= λ rest. Some (record { name = a.0.0; bytes = field.0; fixups = field.1 })) t b.2 in
+pub file_records_takes : (bytes : List ℕ) (t : FileRecords) → IsBytes bytes → file_records bytes ≡ Some t → IsFileRecords t × ((rest : List ℕ) × (bytes ≡ text t ++ rest))
+unfolding file_records
+file_records_takes bytes t fits e =
+    let a = bind_some (heading_at bytes) (λ heading. segment_at heading.1 >>= λ seg. segment_data_at seg.0 seg.1 >>= λ field. after_record 0x8A (0 ∷ []) field.2 >>= λ rest. Some (record { name = heading.0; bytes = field.0; fixups = field.1 })) t e in
+    let b = bind_some (segment_at a.0.1) (λ seg. segment_data_at seg.0 seg.1 >>= λ field. after_record 0x8A (0 ∷ []) field.2 >>= λ rest. Some (record { name = a.0.0; bytes = field.0; fixups = field.1 })) t a.2 in
+    let c = bind_some (segment_data_at b.0.0 b.0.1) (λ field. after_record 0x8A (0 ∷ []) field.2 >>= λ rest. Some (record { name = a.0.0; bytes = field.0; fixups = field.1 })) t b.2 in
     let d = bind_some (after_record 0x8A (0 ∷ []) c.0.2) (λ rest. Some (record { name = a.0.0; bytes = c.0.0; fixups = c.0.1 })) t c.2 in
-    let made : Told = record { name = a.0.0; bytes = c.0.0; fixups = c.0.1 } in
+    let made : FileRecords = record { name = a.0.0; bytes = c.0.0; fixups = c.0.1 } in
     let h = heading_takes bytes a.0 fits a.1 in
     let s = segment_at_takes a.0.1 b.0 h.1 b.1 in
-    let f = data_at_takes b.0.0 b.0.1 c.0 s.1 c.1 in
+    let f = segment_data_at_takes b.0.0 b.0.1 c.0 s.1 c.1 in
     let m = after_takes 0x8A (0 ∷ []) c.0.2 d.0 f.1 d.1 in
     let sized : segdef b.0.0 ≡ segdef (length c.0.0) = ap segdef (sym f.2) in
     let parts : bytes ≡ theadr a.0.0 ++ (lnames ++ (segdef (length c.0.0) ++ (grpdef ++ (data_text c.0.0 c.0.1 ++ (modend ++ d.0))))) =
     h.0 ∙ ap (λ (r : List ℕ). theadr a.0.0 ++ (lnames ++ r)) (s.0 ∙ ap (λ (w : List ℕ). w ++ (grpdef ++ b.0.1)) sized ∙ ap (λ (r : List ℕ). segdef (length c.0.0) ++ (grpdef ++ r)) (f.0 ∙ ap (λ (r : List ℕ). data_text c.0.0 c.0.1 ++ r) m.0)) in
-    let is : IsTold made = record { name = h.2; one_page = rw f.2 s.2; empty = f.3; fixups = f.4 } in
-    subst (λ (y : Told). IsTold y × ((rest : List ℕ) × (bytes ≡ text y ++ rest))) (some_is made t d.2) (is, (d.0, parts ∙ sym (grouped made d.0)))
+    let is : IsFileRecords made = record { name = h.2; one_page = rw f.2 s.2; empty = f.3; fixups = f.4 } in
+    subst (λ (y : FileRecords). IsFileRecords y × ((rest : List ℕ) × (bytes ≡ text y ++ rest))) (some_is made t d.2) (is, (d.0, parts ∙ sym (grouped made d.0)))
 
-told_steps : (bytes after : List ℕ) (heading : List ℕ × List ℕ) (seg : ℕ × List ℕ) (field : List ℕ × Option (List ℕ) × List ℕ)
-    → heading_at bytes ≡ Some heading → segment_at heading.1 ≡ Some seg → data_at seg.0 seg.1 ≡ Some field → after_record 0x8A (0 ∷ []) field.2 ≡ Some after
-    → told bytes ≡ Some (record { name = heading.0; bytes = field.0; fixups = field.1 })
-unfolding told
-told_steps bytes after heading seg field a b c d = rw (a, b, c, d) refl
+file_records_steps : (bytes after : List ℕ) (heading : List ℕ × List ℕ) (seg : ℕ × List ℕ) (field : List ℕ × Option (List ℕ) × List ℕ)
+    → heading_at bytes ≡ Some heading → segment_at heading.1 ≡ Some seg → segment_data_at seg.0 seg.1 ≡ Some field → after_record 0x8A (0 ∷ []) field.2 ≡ Some after
+    → file_records bytes ≡ Some (record { name = heading.0; bytes = field.0; fixups = field.1 })
+unfolding file_records
+file_records_steps bytes after heading seg field a b c d = rw (a, b, c, d) refl
 
-pub told_again : (t : Told) (rest : List ℕ) → IsTold t → told (text t ++ rest) ≡ Some t
-told_again t rest is =
+pub file_records_again : (t : FileRecords) (rest : List ℕ) → IsFileRecords t → file_records (text t ++ rest) ≡ Some t
+file_records_again t rest is =
     let after = data_text t.bytes t.fixups ++ (modend ++ rest) in
     let middle = segdef (length t.bytes) ++ (grpdef ++ after) in
-    ap told (grouped t rest)
-    ∙ told_steps (theadr t.name ++ (lnames ++ middle)) rest (t.name, middle) (length t.bytes, after) (t.bytes, t.fixups, modend ++ rest)
-    (heading_again t.name middle is.name) (segment_at_again (length t.bytes) after is.one_page) (data_at_again t.bytes t.fixups rest is.one_page is.empty is.fixups) (after_again 0x8A (0 ∷ []) rest (lit< tt))
+    ap file_records (grouped t rest)
+    ∙ file_records_steps (theadr t.name ++ (lnames ++ middle)) rest (t.name, middle) (length t.bytes, after) (t.bytes, t.fixups, modend ++ rest)
+    (heading_again t.name middle is.name) (segment_at_again (length t.bytes) after is.one_page) (segment_data_at_again t.bytes t.fixups rest is.one_page is.empty is.fixups) (after_again 0x8A (0 ∷ []) rest (lit< tt))

@@ -13,4 +13,5 @@ LieApart len places = AllByRecursion (λ place. place + 4 ≤ len) places × All
 
 -- The four bytes at a place are there, and not marked.
 abbrev pub IsFree : List Bool → ℕ → Type 0
-IsFree marks place = (place + 4 ≤ length marks) × ((x : ℕ) → place ≤ x → x < place + 4 → slice_index_or marks x false ≡ false)
+IsFree marks place =
+    (place + 4 ≤ length marks) × ((x : ℕ) → place ≤ x → x < place + 4 → slice_index_or marks x false ≡ false)

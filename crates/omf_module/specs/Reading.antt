@@ -23,7 +23,8 @@ body_at len bytes = if nat_lt 0 len && nat_le len (length bytes) && slice_index 
 
 -- A record of this type.
 unfoldable pub record_at : ℕ → List ℕ → Option (List ℕ × List ℕ)
-record_at type (first ∷ low ∷ high ∷ bytes) = if first == type then body_at (from_le_bytes w16 (low ∷ high ∷ [])) bytes else None
+record_at type (first ∷ low ∷ high ∷ bytes) =
+    if first == type then body_at (from_le_bytes w16 (low ∷ high ∷ [])) bytes else None
 record_at type _ = None
 
 -- What follows the record of this type with just these contents.
@@ -41,12 +42,14 @@ counted (n ∷ name) = if n == length name then Some name else None
 
 -- LNAMES: the empty name, CODE32, CODE and FLAT.
 abbrev pub names_contents : List ℕ
-names_contents = 0 ∷ 6 ∷ 0x43 ∷ 0x4F ∷ 0x44 ∷ 0x45 ∷ 0x33 ∷ 0x32 ∷ 4 ∷ 0x43 ∷ 0x4F ∷ 0x44 ∷ 0x45 ∷ 4 ∷ 0x46 ∷ 0x4C ∷ 0x41 ∷ 0x54 ∷ []
+names_contents =
+    0 ∷ 6 ∷ 0x43 ∷ 0x4F ∷ 0x44 ∷ 0x45 ∷ 0x33 ∷ 0x32 ∷ 4 ∷ 0x43 ∷ 0x4F ∷ 0x44 ∷ 0x45 ∷ 4 ∷ 0x46 ∷ 0x4C ∷ 0x41 ∷ 0x54 ∷ []
 
 -- SEGDEF: the segment's length.
 unfoldable pub segment_len : List ℕ → Option ℕ
 segment_len (attributes ∷ a ∷ b ∷ c ∷ d ∷ name ∷ class ∷ overlay ∷ []) =
-    if attributes == 0xA9 && name == 2 && class == 3 && overlay == 1 && nat_le (from_le_bytes w32 (a ∷ b ∷ c ∷ d ∷ [])) 4096
+    if attributes == 0xA9 && name == 2 && class == 3 && overlay == 1
+        && nat_le (from_le_bytes w32 (a ∷ b ∷ c ∷ d ∷ [])) 4096
     then Some (from_le_bytes w32 (a ∷ b ∷ c ∷ d ∷ [])) else None
 segment_len _ = None
 
@@ -67,20 +70,20 @@ abbrev pub optional_at : ℕ → List ℕ → Option (List ℕ) × List ℕ
 optional_at type bytes = optional_by bytes (record_at type bytes)
 
 -- The data of a segment with this length, the contents of its FIXUPP record, and what follows.
-unfoldable pub data_at : ℕ → List ℕ → Option (List ℕ × Option (List ℕ) × List ℕ)
-data_at len bytes = if len == 0 then Some ([], None, bytes) else do
+unfoldable pub segment_data_at : ℕ → List ℕ → Option (List ℕ × Option (List ℕ) × List ℕ)
+segment_data_at len bytes = if len == 0 then Some ([], None, bytes) else do
   r ← record_at 0xA1 bytes
   found ← data_of len r.0
   let fixups = optional_at 0x9D r.1 in Some (found, fixups.0, fixups.1)
 
 -- What the records of a file say, with the FIXUPP record's contents unread.
-pub record Told : Type 0 where
+pub record FileRecords : Type 0 where
   pub name : List ℕ
   pub bytes : List ℕ
   pub fixups : Option (List ℕ)
 
-abbrev pub told_of : Records → Told
-told_of r = record { name = r.name.now; bytes = r.data.now; fixups = option_copied r.fixups }
+abbrev pub file_records_of : Records → FileRecords
+file_records_of r = record { name = r.name.now; bytes = r.data.now; fixups = option_copied r.fixups }
 
 -- THEADR and LNAMES: the module's name.
 unfoldable pub heading_at : List ℕ → Option (List ℕ × List ℕ)
@@ -98,10 +101,10 @@ segment_at bytes = do
   rest ← after_record 0x9A (4 ∷ []) r.1
   Some (len, rest)
 
-unfoldable pub told : List ℕ → Option Told
-told bytes = do
+unfoldable pub file_records : List ℕ → Option FileRecords
+file_records bytes = do
   heading ← heading_at bytes
   seg ← segment_at heading.1
-  field ← data_at seg.0 seg.1
+  field ← segment_data_at seg.0 seg.1
   rest ← after_record 0x8A (0 ∷ []) field.2
   Some (record { name = heading.0; bytes = field.0; fixups = field.1 })

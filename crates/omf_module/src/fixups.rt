@@ -12,7 +12,9 @@ use std::alloc::Global;
 /// The place that the fixup at the front names, and what follows the fixup: a segment-relative 32-bit
 /// offset in the group FLAT, with segment 1 as its target.
 fn next_place(bytes: &[u8]) -> Option<(u32, &[u8])>
-    ensures { MatchOption result ((place : ℕ) (rest : List ℕ) → place < 1024 → bytes.now ≢ fixup place ++ rest) (λ x. (bytes.now ≡ fixup x.0 ++ x.1.now) × (x.0 < 1024)) }
+    ensures { MatchOption result
+        ((place : ℕ) (rest : List ℕ) → place < 1024 → bytes.now ≢ fixup place ++ rest)
+        (λ x. (bytes.now ≡ fixup x.0 ++ x.1.now) × (x.0 < 1024)) }
 {
     match bytes {
         [high @ 0xE4..=0xE7, low, 0x14, 1, 1, rest @ ..] => {
@@ -24,7 +26,9 @@ fn next_place(bytes: &[u8]) -> Option<(u32, &[u8])>
 
 /// The places of the fixups that the contents of a FIXUPP record are, in their order.
 pub fn places_of(alloc: Global, contents: &[u8]) -> Result<Option<Vec<u32>>, NoMemory>
-    ensures { IfOk result (λ found. MatchOption found ((places : List ℕ) → AreOffsets places → contents.now ≢ flat_map fixup places) (λ v. (contents.now ≡ flat_map fixup v.items) × AreOffsets v.items)) }
+    ensures { IfOk result (λ found. MatchOption found
+        ((places : List ℕ) → AreOffsets places → contents.now ≢ flat_map fixup places)
+        (λ v. (contents.now ≡ flat_map fixup v.items) × AreOffsets v.items)) }
 {
     let mut places = Vec::new(alloc);
     let mut rest = contents;
@@ -42,7 +46,8 @@ pub fn places_of(alloc: Global, contents: &[u8]) -> Result<Option<Vec<u32>>, NoM
 /// nothing is marked.
 fn mark(marks: &mut [bool], place: u32) -> bool
     ensures free { IsTrue result ↔ IsFree marks.old place }
-    ensures marked { IsTrue result → (x : ℕ) → slice_index_or marks.new x false ≡ (slice_index_or marks.old x false || covers x place) }
+    ensures marked { IsTrue result → (x : ℕ) → slice_index_or marks.new x false
+        ≡ (slice_index_or marks.old x false || covers x place) }
 {
     let start = place as usize;
     if start + 4 > marks.len() {

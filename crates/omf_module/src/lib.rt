@@ -6,6 +6,3 @@ mod object;
 mod records;
 
 pub use object::read_object;
-
-#[cfg(test)]
-mod tests;

@@ -4,7 +4,7 @@ ghost use Rattle.std.specs.Prelude.{◌≡◌, ◌∷◌, [], IfOk, MatchOption,
 ghost use Rattle.lx_types.specs.Answers.{Answers};
 ghost use Rattle.lx_types.specs.Names.{IsName};
 ghost use Rattle.obj_types.specs.declared.refusal.OmfRefusal.TheVariants.{Unbuilt};
-ghost use Rattle.first_form.specs.ObjectFile.{Form, Spells, object_of, fix_of, pieces_of, seg_of};
+ghost use Rattle.first_form.specs.ObjectFile.{Form, Spells, object_module_of, fix_of, pieces_of, seg_of};
 
 use crate::fixups::{lie_apart, places_of};
 use crate::records::{Records, read_records};
@@ -23,26 +23,14 @@ fn one<T: Drop>(alloc: Global, item: T) -> Result<Seq<T>, NoMemory>
     Ok(items)
 }
 
-/// The name with these bytes.
-fn name(alloc: Global, bytes: &[u8]) -> Result<Name, NoMemory>
-    requires { IsName bytes.now }
-    ensures { IfOk result (λ name. name ≡ bytes.now) }
-{
-    match Name::of(alloc, bytes) {
-        Ok(name) => Ok(name),
-        Err(Fail::NoMemory) => Err(NoMemory),
-        Err(Fail::Said(_)) => unreachable!(),
-    }
-}
-
 /// The segment with these bytes of data.
 fn segment(alloc: Global, bytes: &[u8]) -> Result<Seg, NoMemory>
     requires { length bytes.now < 2 ^ 32 }
     ensures { IfOk result (λ seg. seg ≡ seg_of bytes.now) }
 {
     Ok(Seg {
-        name: name(alloc, b"CODE32")?,
-        class: name(alloc, b"CODE")?,
+        name: Name::of_short(alloc, b"CODE32")?,
+        class: Name::of_short(alloc, b"CODE")?,
         align: 5,
         combine: 2,
         wide: true,
@@ -99,15 +87,16 @@ fn fixes(alloc: Global, places: &[u32]) -> Result<Fixes, NoMemory>
 fn object(alloc: Global, records: &Records<'_>, places: &[u32]) -> Result<ObjModule, NoMemory>
     requires name { IsName records.now.name.now }
     requires bytes { length records.now.data.now < 2 ^ 32 }
-    ensures { IfOk result (λ object. object ≡ object_of (record { name = records.now.name.now; bytes = records.now.data.now; fixups = Some places.now })) }
+    ensures { IfOk result (λ object. object ≡ object_module_of (record {
+        name = records.now.name.now; bytes = records.now.data.now; fixups = Some places.now })) }
 {
     let mut object = ObjParts::fresh(alloc).module;
-    object.name = name(alloc, records.name)?;
+    object.name = Name::of_short(alloc, records.name)?;
     object.segs = one(alloc, segment(alloc, records.data)?)?;
     object.groups = one(
         alloc,
         Group {
-            name: name(alloc, b"FLAT")?,
+            name: Name::of_short(alloc, b"FLAT")?,
             members: Seq::new(alloc),
         },
     )?;
@@ -118,7 +107,8 @@ fn object(alloc: Global, records: &Records<'_>, places: &[u32]) -> Result<ObjMod
 
 /// The module that the bytes spell. `None` comes exactly where they spell none.
 fn read(alloc: Global, bytes: &[u8]) -> Result<Option<ObjModule>, NoMemory>
-    ensures { IfOk result (λ found. MatchOption found ((form : Form) → Spells bytes.now form → ⊥) (λ object. (form : Form) × Spells bytes.now form × (object ≡ object_of form))) }
+    ensures { IfOk result (λ found. MatchOption found ((form : Form) → Spells bytes.now form → ⊥)
+        (λ object. (form : Form) × Spells bytes.now form × (object ≡ object_module_of form))) }
 {
     let Some(records) = read_records(bytes) else {
         return Ok(None);
@@ -140,9 +130,11 @@ fn read(alloc: Global, bytes: &[u8]) -> Result<Option<ObjModule>, NoMemory>
 /// LEDATA", "9DH FIXUPP", "8AH MODEND".)
 pub fn read_object(alloc: Global, bytes: &[u8]) -> Result<ObjModule, Fail<OmfRefusal>>
     // What is read is spelled so.
-    ensures found { IfOk result (λ object. (form : Form) × Spells bytes.now form × (object ≡ object_of form)) }
+    ensures found { IfOk result (λ object.
+        (form : Form) × Spells bytes.now form × (object ≡ object_module_of form)) }
     // What is spelled so is read, unless memory runs out.
-    ensures only { (form : Form) → Spells bytes.now form → Answers result (λ object. object ≡ object_of form) (λ _. ⊥) }
+    ensures only { (form : Form) → Spells bytes.now form
+        → Answers result (λ object. object ≡ object_module_of form) (λ _. ⊥) }
     // The one refusal; so it comes exactly where nothing is spelled.
     ensures refused { Answers result (λ _. Unit {0}) (λ refusal. refusal ≡ Unbuilt 0) }
 {

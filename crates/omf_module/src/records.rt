@@ -1,25 +1,12 @@
 //! The records of a file of the first form.
 
 ghost use Rattle.std.specs.Prelude.{◌≡◌, bytes_eq, option_copied};
-ghost use Rattle.omf_module.specs.Reading.{Gives, record_at, body_at, after_record, counted, segment_len, data_of, optional_at, data_at, heading_at, segment_at, told, told_of};
+ghost use Rattle.omf_module.specs.Reading.{Gives, record_at, body_at, after_record, counted, segment_len, data_of, optional_at, segment_data_at, heading_at, segment_at, file_records, file_records_of};
 
-/// The types of the records.
-const THEADR: u8 = 0x80;
-
-const LNAMES: u8 = 0x96;
-
-const SEGDEF: u8 = 0x99;
-
-const GRPDEF: u8 = 0x9A;
-
-const LEDATA: u8 = 0xA1;
-
-const FIXUPP: u8 = 0x9D;
-
-const MODEND: u8 = 0x8A;
+use omf_frame::record_type::{FIXUPP_32, GRPDEF, LEDATA_32, LNAMES, MODEND, SEGDEF_32, THEADR};
 
 /// What the records of a file say, where it stands in the file.
-#[derive(Clone, Copy, Debug)]
+#[derive(Clone, Copy)]
 pub struct Records<'a> {
     /// The module's name.
     pub name: &'a [u8],
@@ -56,7 +43,7 @@ fn record(kind: u8, bytes: &[u8]) -> Option<(&[u8], &[u8])>
 
 /// What follows the record of type `kind` that has just these contents.
 #[tactic(auto, unfolding(crate::specs::Reading::after_record))]
-fn fixed<'a>(kind: u8, contents: &[u8], bytes: &'a [u8]) -> Option<&'a [u8]>
+fn skip_record<'a>(kind: u8, contents: &[u8], bytes: &'a [u8]) -> Option<&'a [u8]>
     ensures { Gives (λ x. x.now) result (after_record kind contents.now bytes.now) }
 {
     let (found, rest) = record(kind, bytes)?;
@@ -95,7 +82,7 @@ fn heading(bytes: &[u8]) -> Option<(&[u8], &[u8])>
 {
     let (contents, rest) = record(THEADR, bytes)?;
     let name = name(contents)?;
-    let rest = fixed(LNAMES, b"\0\x06CODE32\x04CODE\x04FLAT", rest)?;
+    let rest = skip_record(LNAMES, b"\0\x06CODE32\x04CODE\x04FLAT", rest)?;
     Some((name, rest))
 }
 
@@ -104,9 +91,9 @@ fn heading(bytes: &[u8]) -> Option<(&[u8], &[u8])>
 fn segment(bytes: &[u8]) -> Option<(u32, &[u8])>
     ensures { Gives (λ x. (x.0, x.1.now)) result (segment_at bytes.now) }
 {
-    let (contents, rest) = record(SEGDEF, bytes)?;
+    let (contents, rest) = record(SEGDEF_32, bytes)?;
     let len = segment_length(contents)?;
-    let rest = fixed(GRPDEF, &[4], rest)?;
+    let rest = skip_record(GRPDEF, &[4], rest)?;
     Some((len, rest))
 }
 
@@ -132,27 +119,28 @@ fn optional(kind: u8, bytes: &[u8]) -> (Option<&[u8]>, &[u8])
 }
 
 /// The data of a segment of `len` bytes, the contents of its FIXUPP record, and what follows.
-#[tactic(auto, unfolding(crate::specs::Reading::data_at))]
+#[tactic(auto, unfolding(crate::specs::Reading::segment_data_at))]
 fn data_records(len: u32, bytes: &[u8]) -> Option<(&[u8], Option<&[u8]>, &[u8])>
-    ensures { Gives (λ x. (x.0.now, option_copied x.1, x.2.now)) result (data_at len bytes.now) }
+    ensures { Gives (λ x. (x.0.now, option_copied x.1, x.2.now)) result
+        (segment_data_at len bytes.now) }
 {
     if len == 0 {
         return Some((&[], None, bytes));
     }
-    let (contents, rest) = record(LEDATA, bytes)?;
+    let (contents, rest) = record(LEDATA_32, bytes)?;
     let data = data(len, contents)?;
-    let (fixups, rest) = optional(FIXUPP, rest);
+    let (fixups, rest) = optional(FIXUPP_32, rest);
     Some((data, fixups, rest))
 }
 
 /// What the records of a file say. What follows MODEND is not read.
-#[tactic(auto, unfolding(crate::specs::Reading::told))]
+#[tactic(auto, unfolding(crate::specs::Reading::file_records))]
 pub fn read_records(bytes: &[u8]) -> Option<Records<'_>>
-    ensures { Gives told_of result (told bytes.now) }
+    ensures { Gives file_records_of result (file_records bytes.now) }
 {
     let (name, rest) = heading(bytes)?;
     let (len, rest) = segment(rest)?;
     let (data, fixups, rest) = data_records(len, rest)?;
-    let _after = fixed(MODEND, &[0], rest)?;
+    let _after = skip_record(MODEND, &[0], rest)?;
     Some(Records { name, data, fixups })
 }

@@ -13,7 +13,7 @@ joined header objects pages names fixups records page a b c d e f g h i j _1 _2 
 pub returns-clause-spelled : goal.returns-clause-spelled
 unfolding file
 returns-clause-spelled c = let m = c.args.m.now in
-    joined (header m) (object_table m) (page_table m) (name_table m.name) (fixup_page_table m) (records m.sources) m.page
+    joined (header m) (object_table m) (page_table m) (name_table m.name) (fixup_page_table m) (records m.references) m.page
     c.push_header.new.out.items c.push_object_table.new.out.items c.push_page_table.new.out.items c.push_name_table.new.out.items
     c.push.new.self.items c.push_fixup_page_table.new.out.items c.extend_from_slice.new.self.items c.push-2.new.self.items
     c.extend_from_slice-2.new.self.items c.push_name_table-2.new.out.items

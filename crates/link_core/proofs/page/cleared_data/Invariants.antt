@@ -1,7 +1,7 @@
 use Rattle.std.proofs.Common.{◌≡◌, ◌<◌, ℕ, length, slice_index, if◌then◌else◌, drop}
 use Rattle.std.specs.List.{list_any}
 use Rattle.first_form.specs.Segment.{covers}
-use Rattle.first_form.specs.Fixing.{cleared}
+use Rattle.first_form.specs.Fixing.{file_byte}
 use Rattle.link_core.specs.Fields.{offsets}
 use Rattle.link_core.proofs.page.cleared_data.Given as goal
 
@@ -10,4 +10,4 @@ abbrev pub invariant-loop-fix : goal.invariant-loop-fix
 invariant-loop-fix l = (length l.page.items ≡ length l.bytes)
     × ((x : ℕ) → x < length l.bytes
     → (if list_any (covers x) (offsets (drop l.fix-index l.fixes)) then 0 else slice_index l.page.items x)
-    ≡ cleared (record { bytes = l.bytes; fixups = offsets l.fixes }) x)
+    ≡ file_byte (record { bytes = l.bytes; fixups = offsets l.fixes }) x)

@@ -1,4 +1,4 @@
-use Rattle.lx_tool.specs.Answer.{image_input}
+use Rattle.lx_answer.specs.Answer.{image_input}
 use Rattle.lx_tool.proofs.Shown.{text_is}
 use Rattle.lx_tool.proofs.image.shown_text.Goals as goal
 

@@ -4,6 +4,6 @@ use Rattle.lx_tool.proofs.output.put_whole.Goals as goal
 
 pub loop-rest-preserved : goal.loop-rest-preserved
 loop-rest-preserved g c = record {
-  put = put_more_slice _ _ _ _ _ _ c.loop-rest.invariant.put c.in_ok-taken.ensures.at_most c.in_ok-taken.ensures.appended;
-  faults = omega (arith, c.loop-rest.invariant.faults, c.in_ok-taken.ensures.faults_stand);
+  put = put_more_slice _ _ _ _ _ _ c.loop-rest.invariant.put c.in_ok-count.ensures.at_most c.in_ok-count.ensures.appended;
+  faults = omega (arith, c.loop-rest.invariant.faults, c.in_ok-count.ensures.faults_stand);
 }

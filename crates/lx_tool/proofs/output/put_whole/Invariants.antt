@@ -4,8 +4,8 @@ use Rattle.lx_tool.proofs.output.put_whole.Given as goal
 
 abbrev pub invariant-loop-rest : goal.invariant-loop-rest
 invariant-loop-rest g l = record {
-  put : IsPutUpTo (g.S.Sink.told l.initial.out) (g.S.Sink.told l.out) l.text l.rest;
-  faults : g.S.Sink.faults l.initial.out ≤ g.S.Sink.faults l.out;
+  put : IsPutUpTo (g.S.Sink.state l.initial.out).contents (g.S.Sink.state l.out).contents l.text l.rest;
+  faults : (g.S.Sink.state l.initial.out).faults ≤ (g.S.Sink.state l.out).faults;
 }
 
 abbrev pub decreases-loop-rest : goal.decreases-loop-rest

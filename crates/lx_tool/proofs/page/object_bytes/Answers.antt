@@ -11,11 +11,11 @@ fill_page-requires-clause-zeros c x =
 pub fill_page-requires-clause-page : goal.fill_page-requires-clause-page
 fill_page-requires-clause-page c =
     let m = c.requires.0 in
-    (m, page_shown m _ c.requires.2 _ c.objects.ensures.list c.requires.1 (c.first_module.ensures m c.requires.1) _ _ c.page_bytes.ensures c.fix_bytes.ensures)
+    (m, page_shown m _ c.requires.3 _ c.objects.ensures.list c.requires.1 c.requires.2 _ _ c.page_bytes.ensures c.fix_bytes.ensures)
 
 pub returns : goal.returns
-returns c m object is =
-    let page = page_shown m _ is _ c.objects.ensures.list object (c.first_module.ensures m object) _ _ c.page_bytes.ensures c.fix_bytes.ensures in
+returns c m object shows is =
+    let page = page_shown m _ is _ c.objects.ensures.list object shows _ _ c.page_bytes.ensures c.fix_bytes.ensures in
     let size = head_size m _ is _ c.objects.ensures.list in
     let stands : vec_len c.in_ok-page.page ≡ length c.in_ok-page.page.items = search rules in
     let same : length c.fill_page.new.page ≡ length c.in_ok-page.page.items = search rules in

@@ -1,6 +1,6 @@
 use Rattle.std.proofs.Common.{◌≡◌, ◌++◌, take}
 use Rattle.std.specs.List.{flat_map}
-use Rattle.lx_tool.specs.ImageText.{two_digits, spaced}
+use Rattle.lx_answer.specs.ImageText.{two_digits, spaced}
 use Rattle.lx_tool.proofs.text.push_line.Given as goal
 
 abbrev pub invariant-loop-byte : goal.invariant-loop-byte

@@ -1,0 +1,3 @@
+//! What each command of `lx` answers: the words, the text and the status, and how a call ends. These are
+//! definitions alone, in specs/; `lx_tool` meets them.
+#![tactic(auto)]

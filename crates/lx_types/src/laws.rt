@@ -1,0 +1,31 @@
+//! The numbers of the format, written out. The definitions name them as the code does, so this law alone
+//! refuses a wrong one.
+//!
+//! LX: "LX Header" (module flags, page size), "Object Table" (flags).
+
+ghost use Rattle.std.specs.Prelude.{◌≡◌};
+
+use crate::object::{
+    OBJECT_ALIAS, OBJECT_BIG, OBJECT_CONFORMING, OBJECT_EXECUTABLE, OBJECT_IOPL, OBJECT_PRELOAD,
+    OBJECT_READABLE, OBJECT_SHARED, OBJECT_WRITABLE, PAGE_SIZE,
+};
+use crate::parts::{MODULE_INIT_EACH, MODULE_KIND, MODULE_LIBRARY, MODULE_TERM_EACH};
+
+/// A law: each flag of objects and of modules, and the size of a page.
+pub fn format_numbers()
+    ensures readable { OBJECT_READABLE ≡ 0x0001 }
+    ensures writable { OBJECT_WRITABLE ≡ 0x0002 }
+    ensures executable { OBJECT_EXECUTABLE ≡ 0x0004 }
+    ensures shared { OBJECT_SHARED ≡ 0x0020 }
+    ensures preload { OBJECT_PRELOAD ≡ 0x0040 }
+    ensures alias { OBJECT_ALIAS ≡ 0x1000 }
+    ensures big { OBJECT_BIG ≡ 0x2000 }
+    ensures conforming { OBJECT_CONFORMING ≡ 0x4000 }
+    ensures iopl { OBJECT_IOPL ≡ 0x8000 }
+    ensures page_size { PAGE_SIZE ≡ 4096 }
+
+    ensures init_each { MODULE_INIT_EACH ≡ 0x0000_0004 }
+    ensures library { MODULE_LIBRARY ≡ 0x0000_8000 }
+    ensures kind { MODULE_KIND ≡ 0x0003_8000 }
+    ensures term_each { MODULE_TERM_EACH ≡ 0x4000_0000 }
+{}
