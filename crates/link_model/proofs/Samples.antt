@@ -38,7 +38,7 @@ linked def modules = record { modules = modules; def = def }
 
 -- A world of these bases in which imports lead to 10000h.
 abbrev pub at_bases : List ℕ → World
-at_bases bases = record { bases = bases; imp = λ pair. record { address = 65536; flags = 8197 } }
+at_bases bases = record { bases = bases; imp = λ from entry. record { address = 65536; flags = 8197 } }
 
 -- ---- names
 

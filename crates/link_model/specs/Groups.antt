@@ -34,14 +34,36 @@ is_listed l g p =
 
 -- ---- communals
 
--- The logical segment of the near communals.
-abbrev pub is_c_common : Part → Bool
-is_c_common p = is_joint p && (bytes_eq p.name (codes "c_common") && bytes_eq p.class (codes "BSS"))
+-- The logical segment of the near communals, and that of the far ones.
+abbrev pub is_near_bss : Part → Bool
+is_near_bss p = is_joint p && (bytes_eq p.name (codes "c_common") && bytes_eq p.class (codes "BSS"))
 
--- Communals are use32. In DGROUP the near ones follow the group's first other member.
+abbrev pub is_far_bss : Part → Bool
+is_far_bss p = is_joint p && (bytes_eq p.name (codes "FAR_BSS") && bytes_eq p.class (codes "FAR_BSS"))
+
+abbrev pub has_near : Link → Bool
+has_near l = list_any (λ c. not c.1.far) (commons l)
+
+-- A part is in a group where the group lists its logical segment. The segment of the near communals is in
+-- DGROUP too, where a chosen module declares one.
+abbrev pub in_group : Link → List ℕ → Part → Bool
+in_group l g p =
+    is_listed l g p || (bytes_eq g DGROUP && list_any (bytes_eq DGROUP) (group_names l) && (is_near_bss p && has_near l))
+
+-- Communals are use32, but in DGROUP their segment follows the group's first other member. The near communals
+-- stand before the far ones, and after all contributions.
+abbrev pub follows : Link → (Part → Bool) → Bool → Bool
+follows l own otherwise =
+    option_map_or (λ p. p.wide) (find (λ p. in_group l DGROUP p && not (own p)) (contributions l)) otherwise
+
 abbrev pub near_wide : Link → Bool
-near_wide l =
-    option_map_or (λ p. p.wide) (find (λ p. is_listed l DGROUP p && not (is_c_common p)) (contributions l)) true
+near_wide l = follows l is_near_bss true
+
+abbrev pub far_wide : Link → Bool
+far_wide l =
+    if list_any (λ p. is_far_bss p && in_group l DGROUP p) (contributions l)
+    then follows l is_far_bss (if has_near l then near_wide l else true)
+    else true
 
 -- A communal is a part that is public and doubleword-aligned.
 abbrev pub of_common : Link → ℕ → Common → Part
@@ -52,7 +74,7 @@ of_common l slot c =
       class = if c.far then codes "FAR_BSS" else codes "BSS";
       align = 5;
       combine = 2;
-      wide = if c.far then true else near_wide l;
+      wide = if c.far then far_wide l else near_wide l;
       len = c.len;
     }
 
@@ -63,12 +85,6 @@ communals l = map (λ q. of_common l q.0 q.1.1) (enumerate_from 0 (commons l))
 
 abbrev pub parts : Link → List Part
 parts l = contributions l ++ communals l
-
--- A part is in a group where the group lists its logical segment. The segment of the near communals is in
--- DGROUP too, where a chosen module declares one.
-abbrev pub in_group : Link → List ℕ → Part → Bool
-in_group l g p =
-    is_listed l g p || (bytes_eq g DGROUP && is_c_common p && list_any is_c_common (communals l))
 
 -- The groups of a part's logical segment.
 abbrev pub groups_of : Link → Part → List (List ℕ)

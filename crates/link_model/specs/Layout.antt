@@ -12,12 +12,12 @@ use Rattle.link_model.specs.Groups.{parts}
 use Rattle.link_model.specs.Flags.{flags_of}
 use Rattle.link_model.specs.Order.{object_heads, object_of}
 use Rattle.link_model.specs.Offsets.{object_size, offset_in, stack_segment, stack_end}
-pub use Rattle.lx_types.specs.Addresses.{room}
+pub use Rattle.lx_types.specs.Addresses.{PRIVATE_FROM, SHARED_FROM, room}
 
--- The first object's linked base: BASE, or 00010000h for a program and 10000000h for a library.
+-- The first object's linked base: BASE, or the begin of the arena in which programs or libraries stand.
 abbrev pub usual_base : ModKind → ℕ
-usual_base Program = 65536
-usual_base Library = 268435456
+usual_base Program = PRIVATE_FROM
+usual_base Library = SHARED_FROM
 
 abbrev pub first_base : Link → ℕ
 first_base l = unwrap_or l.def.base (usual_base l.def.kind)

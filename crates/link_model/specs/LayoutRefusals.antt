@@ -3,6 +3,7 @@ use Rattle.std.specs.Prelude.{ℕ, Bool, not, ◌&&◌, ◌||◌, List, [], ◌�
 use Rattle.std.specs.List.{list_any, enumerate_from}
 use Rattle.std.specs.Option.{option_map}
 use Rattle.std.specs.Bool.{beq}
+use Rattle.link_model.specs.declared.limits.TheConstants.{MAX_NARROW_OBJECT, MAX_MEMORY, MAX_OBJECTS}
 use Rattle.link_model.specs.declared.refusals.LayRefusal.{LayRefusal}
 use Rattle.link_model.specs.declared.refusals.LayRefusal.TheVariants.{AbsoluteSeg, UseMixed, GroupSplit, TooLarge}
 use Rattle.link_model.specs.Words.{firsts, first_after_rival, first_of}
@@ -41,12 +42,12 @@ group_split l =
 -- `TooLarge`: the first logical segment, in standing order, with which its object ends past its limit, all objects
 -- together are longer than 16 MiB, or there are more than 1,024 objects. `ss` are the logical segments up to it.
 abbrev pub object_limit : Part → ℕ
-object_limit s = if s.wide then 16777216 else 65536
+object_limit s = if s.wide then MAX_MEMORY else MAX_NARROW_OBJECT
 
 abbrev pub passes_limits : Link → List Part → Part → Bool
 passes_limits l ss s =
     let heads = firsts (same_object l) ss in
-    nat_lt (object_limit s) (end_of_segments l (filter (same_object l s) ss)) || nat_lt 16777216 (sum_by (λ h. end_of_segments l (filter (same_object l h) ss)) heads) || nat_lt 1024 (length heads)
+    nat_lt (object_limit s) (end_of_segments l (filter (same_object l s) ss)) || nat_lt MAX_MEMORY (sum_by (λ h. end_of_segments l (filter (same_object l h) ss)) heads) || nat_lt MAX_OBJECTS (length heads)
 
 abbrev pub too_large : Link → Option LayRefusal
 too_large l =

@@ -1,4 +1,5 @@
 pub mod Words
+pub mod Numbers
 pub mod Choosing
 pub mod Link
 pub mod Symbols

@@ -4,6 +4,8 @@ use Rattle.std.specs.Prelude.{ℕ, ◌+◌, ◌-◌, ◌*◌, ◌/◌, Bool, not
 use Rattle.std.specs.List.{filter_map, position, range_with_len, enumerate_from}
 use Rattle.std.specs.Option.{option_map, option_and_then, option_map_or}
 use Rattle.lx_types.specs.Names.{uppercase}
+use Rattle.lx_types.specs.Addresses.{UNIT}
+use Rattle.lx_types.specs.declared.object.TheConstants.{PAGE_SIZE}
 use Rattle.lx_types.specs.declared.entry.EntryKey.{EntryKey}
 use Rattle.lx_types.specs.declared.entry.EntryKey.TheVariants as keys
 use Rattle.lx_types.specs.declared.fix.Fix.{Fix}
@@ -37,7 +39,7 @@ recorded l = filter (λ q. not (is_patched q)) (live_fixups l)
 
 -- Patched bytes are the same at all bases.
 abbrev pub linked_world : Link → World
-linked_world l = record { bases = map (λ o. o.base) (objects l); imp = λ pair. record { address = 0; flags = 0 } }
+linked_world l = record { bases = map (λ o. o.base) (objects l); imp = λ from entry. record { address = 0; flags = 0 } }
 
 abbrev pub patch_at : Link → ℕ → Fixup → ℕ
 patch_at l x q = if is_patched q then slice_index (value_bytes l (linked_world l) q) (x - q.offset) else 0
@@ -113,7 +115,7 @@ import_target pairs pair =
 abbrev pub target_and_additive : Link → Fixup → Target → Option (FixTarget × ℕ)
 target_and_additive l q (Internal o offset) =
     let at = wrapped (offset + q.fix.disp) in
-    Some (if q.fix.loc == 2 then (leads.Internal o 0, if nat_le 65536 at then at else 0) else (leads.Internal o (wrapped (at + q.standing)), 0))
+    Some (if q.fix.loc == 2 then (leads.Internal o 0, if nat_le UNIT at then at else 0) else (leads.Internal o (wrapped (at + q.standing)), 0))
 target_and_additive l q (Constant value) = None
 target_and_additive l q (Entry slot) =
     option_map (λ target. (target, wrapped (q.fix.disp + q.standing)))
@@ -122,19 +124,19 @@ target_and_additive l q (Entry slot) =
 -- The record on page k of the location's object. Where the field began in the page before, its offset is negative.
 abbrev pub record_on : Link → ℕ → Fixup → Option Fix
 record_on l k q =
-    option_map (λ t. record { source = source_of q; alias = has_alias q; offset = pos q.offset -ℤ pos (k * 4096); target = t.0; additive = t.1 })
+    option_map (λ t. record { source = source_of q; alias = has_alias q; offset = pos q.offset -ℤ pos (k * PAGE_SIZE); target = t.0; additive = t.1 })
     (target_and_additive l q q.target)
 
 -- A field stands on each page that has a byte of it.
 abbrev pub stands_on : ℕ → ℕ → Fixup → Bool
-stands_on object k q = q.object == object && nat_lt (k * 4096) (fixup_end q) && nat_lt q.offset (k * 4096 + 4096)
+stands_on object k q = q.object == object && nat_lt (k * PAGE_SIZE) (fixup_end q) && nat_lt q.offset (k * PAGE_SIZE + PAGE_SIZE)
 
 -- The records of page k of an object, in chosen order and in file order.
 abbrev pub page_records : Link → ℕ → ℕ → List Fix
 page_records l object k = filter_map (record_on l k) (filter (stands_on object k) (recorded l))
 
 abbrev pub page_count : ℕ → ℕ
-page_count size = (size + 4095) / 4096
+page_count size = (size + (PAGE_SIZE - 1)) / PAGE_SIZE
 
 -- The records of all objects, by object and page.
 abbrev pub object_records : Link → List (List (List Fix))

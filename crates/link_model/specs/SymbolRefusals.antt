@@ -4,6 +4,7 @@ use Rattle.std.specs.List.{find}
 use Rattle.std.specs.Option.{option_map, option_and_then}
 use Rattle.link_model.specs.declared.symbols.SymDef.{SymDef}
 use Rattle.link_model.specs.declared.symbols.SymDef.TheVariants as means
+use Rattle.link_model.specs.declared.limits.TheConstants.{MAX_NUMBER}
 use Rattle.link_model.specs.declared.refusals.SymRefusal.{SymRefusal}
 use Rattle.link_model.specs.declared.refusals.SymRefusal.TheVariants.{Twice, Missing, ImportsMany}
 use Rattle.link_model.specs.Words.{firsts, first_after_rival, first_of}
@@ -50,7 +51,7 @@ imports_past most l =
     if nat_lt most count then Some (ImportsMany count) else None
 
 abbrev pub imports_many : Link → Option SymRefusal
-imports_many l = imports_past 65535 l
+imports_many l = imports_past MAX_NUMBER l
 
 -- The refusal, in this order. Where there is none, every external has a meaning.
 abbrev pub sym_refusal : Link → Option SymRefusal

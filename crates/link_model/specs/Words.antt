@@ -1,5 +1,5 @@
 -- Words on lists and numbers that the other pages use.
-use Rattle.std.specs.Prelude.{ℕ, zero, suc, ◌+◌, ◌-◌, ◌*◌, ◌/◌, ◌%◌, ◌^◌, Bool, false, not, List, [], ◌∷◌, ◌++◌, Option, Some, None, if◌then◌else◌, filter}
+use Rattle.std.specs.Prelude.{ℕ, ◌+◌, ◌-◌, ◌%◌, ◌^◌, Bool, false, not, List, [], ◌∷◌, ◌++◌, Option, Some, None, if◌then◌else◌, filter}
 use Rattle.std.specs.Option.{option_or}
 use Rattle.std.specs.List.{list_any}
 
@@ -31,13 +31,3 @@ wrapped n = n % 2 ^ 32
 -- `a - b`, wrapped.
 abbrev pub difference : ℕ → ℕ → ℕ
 difference a b = wrapped (a + (2 ^ 32 - wrapped b))
-
--- The lowest n bytes of a number, the lowest first.
-abbrev pub little_endian : ℕ → ℕ → List ℕ
-little_endian zero v = []
-little_endian (suc n) v = v % 256 ∷ little_endian n (v / 256)
-
--- The number whose bytes these are, the lowest first.
-abbrev pub number_of : List ℕ → ℕ
-number_of [] = 0
-number_of (b ∷ bs) = b + 256 * number_of bs

@@ -1,6 +1,7 @@
 //! Laws over the definitions, each the contract of a function that does nothing.
 ghost use Rattle.link_model.specs.ChosenOnce.{ChosenOnce};
 ghost use Rattle.link_model.specs.Fixing.{LiveApart, PatchesStand};
+ghost use Rattle.link_model.specs.Numbers.{LinkNumbers};
 ghost use Rattle.link_model.specs.OneSegment.{OneSegmentLaw};
 
 /// A link of one object module with one 32-bit code segment, whose fixups are 32-bit references to the
@@ -23,4 +24,9 @@ pub fn live_fixups_are_apart()
 /// What is patched into a page is the same whatever the bases and imports are.
 pub fn patches_stand_at_all_bases()
     ensures { PatchesStand }
+{}
+
+/// The numbers that the definitions name by words are those of the formats and of this project.
+pub fn link_numbers_are_the_formats()
+    ensures { LinkNumbers }
 {}

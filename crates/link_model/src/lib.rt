@@ -7,6 +7,7 @@
 
 mod choosing;
 mod laws;
+mod limits;
 mod refusals;
 mod symbols;
 #[cfg(test)]
@@ -15,8 +16,11 @@ mod values;
 
 pub use choosing::choose;
 pub use laws::{
-    live_fixups_are_apart, modules_are_chosen_once, one_segment_links_plainly,
+    link_numbers_are_the_formats,     live_fixups_are_apart, modules_are_chosen_once, one_segment_links_plainly,
     patches_stand_at_all_bases,
+};
+pub use limits::{
+    MAX_MEMORY, MAX_NARROW_OBJECT, MAX_NUMBER, MAX_OBJECTS, OBJECT_CONFORMING, OBJECT_IOPL, OBJECT_PRELOAD, OBJECT_READABLE,
 };
 pub use obj_types::{Bytes, EntryKey, Fail, Name, NoMemory, Seq};
 pub use refusals::{FixRefusal, LayRefusal, SymRefusal};
