@@ -1,4 +1,5 @@
 pub mod Samples
+pub mod Tables
 pub mod TrialsOfSymbols
 pub mod TrialsOfLayout
 pub mod TrialsOfValues
@@ -6,6 +7,7 @@ pub mod PlainBytes
 pub mod SmallestLink
 pub mod OneSegmentLaw
 pub mod TrialsOfRecords
+pub mod TrialsOfExports
 pub mod Searching
 pub mod Growing
 pub mod OneChoice

@@ -10,7 +10,7 @@ use Rattle.link_model.specs.SymbolRefusals.{sym_refusal}
 use Rattle.link_model.specs.Layout.{objects}
 use Rattle.link_model.specs.LayoutRefusals.{lay_refusal}
 use Rattle.link_model.specs.Fixups.{Fixup, fix_refusal}
-use Rattle.link_model.specs.Out.{place_refusal}
+use Rattle.link_model.specs.Refusal.{place_refusal}
 use Rattle.link_model.specs.OneSegment.{one_segment, alone, only_pick, OneSegmentLaw}
 use Rattle.link_model.proofs.SmallestLink.{link, placed, fixups-link, Mean-link}
 
@@ -20,7 +20,7 @@ its_chosen name bytes places stem base = record { begins = refl; grows = λ k fr
 its_names : (name bytes places stem : List ℕ) (base : ℕ) → sym_refusal (link name bytes places stem base) ≡ None
 its_names name bytes places stem base = refl
 
-its_size : (bytes : List ℕ) → max (0 + length bytes) (0 + 0) ≡ length bytes
+its_size : (bytes : List ℕ) → max 0 (max (0 + length bytes) (0 + 0)) ≡ length bytes
 its_size bytes = omega arith
 
 its_object : (name bytes places stem : List ℕ) (base : ℕ) → objects (link name bytes places stem base) ≡ record { size = length bytes; base = base; flags = 0x2005 } ∷ []
@@ -30,7 +30,7 @@ its_object name bytes places stem base =
 its_layout : (name bytes places stem : List ℕ) (base : ℕ) → length bytes ≤ 4096 → lay_refusal (link name bytes places stem base) ≡ None
 its_layout name bytes places stem base h =
     let own : nat_lt 16777216 (max (0 + length bytes) (0 + 0)) ≡ false = le-ltb _ _ (omega arith) in
-    let all : nat_lt 16777216 (0 + max (0 + length bytes) (0 + 0)) ≡ false = le-ltb _ _ (omega arith) in
+    let all : nat_lt 16777216 (0 + max 0 (max (0 + length bytes) (0 + 0))) ≡ false = le-ltb _ _ (omega arith) in
     rw (own, all) refl
 
 none_refused : (m : ObjModule) (ps : List ℕ) → first_of (map fix_refusal (map (placed m) ps) ++ None ∷ []) ≡ None

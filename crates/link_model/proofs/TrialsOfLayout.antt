@@ -1,5 +1,5 @@
 -- Layout, tried on small inputs: each line is a value that the rules give by hand.
-use Rattle.std.specs.Prelude.{◌≡◌, ℕ, true, false, List, [], ◌∷◌, Some, None, refl, codes}
+use Rattle.std.specs.Prelude.{◌≡◌, ℕ, Bool, true, false, List, [], ◌∷◌, Some, None, refl, codes}
 use Rattle.obj_types.specs.declared.object.Seg.{Seg}
 use Rattle.obj_types.specs.declared.object.Group.{Group}
 use Rattle.obj_types.specs.declared.object.ObjModule.{ObjModule}
@@ -11,6 +11,7 @@ use Rattle.link_model.specs.declared.refusals.LayRefusal.TheVariants.{AbsoluteSe
 use Rattle.link_model.specs.Link.{Link}
 use Rattle.link_model.specs.Layout.{objects, spot, common_spot, stack_top}
 use Rattle.link_model.specs.LayoutRefusals.{lay_refusal}
+use Rattle.link_model.specs.Header.{auto_data}
 use Rattle.link_model.specs.Defaults.{code_attrs, default_def}
 use Rattle.link_model.proofs.Samples.{seg, with_segs, linked, comdef, code32, data32, code16, common32}
 
@@ -113,6 +114,40 @@ far_place = refl
 
 dgroup_is_laid_out : lay_refusal dgroup ≡ None
 dgroup_is_laid_out = refl
+
+-- The automatic data object is that of DGROUP.
+dgroup_is_automatic : auto_data dgroup ≡ 2
+dgroup_is_automatic = refl
+
+-- Where no module declares DGROUP there is none, near communals or not.
+abbrev no_dgroup : Link
+no_dgroup = library (record (with_segs (code32 4 ∷ [])) { exts = comdef (codes "c") false 12 ∷ [] } ∷ [])
+
+none_is_automatic : auto_data no_dgroup ≡ 0
+none_is_automatic = refl
+
+near_alone : objects no_dgroup ≡ object 4 0x10000000 0x2005 ∷ object 12 0x10010000 0x2003 ∷ []
+near_alone = refl
+
+-- Where DGROUP lists the segment of the far communals, they follow its first other member too.
+abbrev far_in_dgroup : List Seg → Link
+far_in_dgroup segs =
+    library (record (grouped segs (group (codes "DGROUP") (1 ∷ 2 ∷ []) ∷ [])) { exts = comdef (codes "f") true 3 ∷ [] } ∷ [])
+
+abbrev far_bss : Bool → Seg
+far_bss wide = seg (codes "FAR_BSS") (codes "FAR_BSS") 2 2 wide 2
+
+far_follows : objects (far_in_dgroup (seg (codes "D") (codes "DATA") 2 2 false 5 ∷ far_bss false ∷ [])) ≡ object 11 0x10000000 0x1003 ∷ []
+far_follows = refl
+
+far_is_laid_out : lay_refusal (far_in_dgroup (seg (codes "D") (codes "DATA") 2 2 false 5 ∷ far_bss false ∷ [])) ≡ None
+far_is_laid_out = refl
+
+far_place_there : common_spot (far_in_dgroup (seg (codes "D") (codes "DATA") 2 2 false 5 ∷ far_bss false ∷ [])) 0 ≡ Some (1, 8)
+far_place_there = refl
+
+far_is_mixed : lay_refusal (far_in_dgroup (seg (codes "D") (codes "DATA") 2 2 true 5 ∷ far_bss false ∷ [])) ≡ Some (UseMixed (codes "FAR_BSS"))
+far_is_mixed = refl
 
 -- ---- the stack
 

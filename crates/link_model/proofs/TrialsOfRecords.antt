@@ -1,5 +1,5 @@
 -- Patches and records, tried on small inputs: each line is a value that the rules give by hand.
-use Rattle.std.specs.Prelude.{◌≡◌, ℕ, ℤ, pos, negsuc, true, false, List, [], ◌∷◌, None, refl, codes}
+use Rattle.std.specs.Prelude.{◌≡◌, ℕ, ℤ, pos, negsuc, true, false, List, [], ◌∷◌, Some, None, refl, codes}
 use Rattle.lx_types.specs.declared.entry.EntryKey.TheVariants as keys
 use Rattle.lx_types.specs.declared.fix.Fix.{Fix}
 use Rattle.lx_types.specs.declared.fix.Source.{Source}
@@ -9,10 +9,14 @@ use Rattle.lx_types.specs.declared.fix.FixTarget.TheVariants as leads
 use Rattle.obj_types.specs.declared.object.Frame.TheVariants as frames
 use Rattle.obj_types.specs.declared.object.Goal.TheVariants as goals
 use Rattle.obj_types.specs.declared.object.ObjModule.{ObjModule}
+use Rattle.obj_types.specs.declared.definition.DefFile.{DefFile}
 use Rattle.obj_types.specs.declared.definition.ModKind.TheVariants.{Library}
 use Rattle.obj_types.specs.Fresh.{empty_module}
 use Rattle.link_model.specs.Link.{Link}
-use Rattle.link_model.specs.Records.{object_bytes, object_records, page_records, used_pairs, link_pairs, modules_in, procs_in}
+use Rattle.link_model.specs.Patches.{object_bytes}
+use Rattle.link_model.specs.ImportTables.{used_pairs, link_pairs, modules_in, procs_in, name_table, with_offset}
+use Rattle.link_model.specs.Records.{object_records, page_records}
+use Rattle.link_model.specs.Header.{module_name, description}
 use Rattle.link_model.specs.Defaults.{default_def}
 use Rattle.link_model.proofs.Samples.{linked, fix, constant, extern, export, import, code32, data32, code16, code_module}
 
@@ -123,3 +127,28 @@ forwarding =
 
 forwarder_modules : modules_in (link_pairs forwarding) ≡ codes "ONE" ∷ codes "TWO" ∷ []
 forwarder_modules = refl
+
+-- ---- names
+
+-- A name's place in the table of procedure names, which begins with an empty one.
+two_names : name_table (codes "One" ∷ codes "Second" ∷ []) ≡ 0 ∷ 3 ∷ 79 ∷ 110 ∷ 101 ∷ 6 ∷ 83 ∷ 101 ∷ 99 ∷ 111 ∷ 110 ∷ 100 ∷ []
+two_names = refl
+
+second_offset : with_offset (codes "One" ∷ codes "Second" ∷ []) (leads.Named 2 1) ≡ leads.Named 2 5
+second_offset = refl
+
+-- The stem names the module in upper case, and the name describes it, where the definition file does neither.
+abbrev named : DefFile → Link
+named def = record (linked def []) { stem = codes "stem" }
+
+named_by_stem : module_name (named (default_def Library None)) ≡ codes "STEM"
+named_by_stem = refl
+
+described_by_name : description (named (default_def Library None)) ≡ codes "STEM"
+described_by_name = refl
+
+named_by_library : module_name (named (record (default_def Library None) { name = Some (codes "Lib") })) ≡ codes "LIB"
+named_by_library = refl
+
+described : description (named (record (default_def Library None) { about = codes "Text" })) ≡ codes "Text"
+described = refl

@@ -13,9 +13,10 @@ use Rattle.link_model.specs.Link.{Link}
 use Rattle.link_model.specs.Layout.{objects}
 use Rattle.link_model.specs.Fixups.{fixups}
 use Rattle.link_model.specs.Mean.{live_fixups, Mean}
-use Rattle.link_model.specs.Out.{At, Forward, Out, Start, place_refusal}
+use Rattle.link_model.specs.Start.{Start}
+use Rattle.link_model.specs.Refusal.{place_refusal}
 use Rattle.link_model.specs.Defaults.{default_def}
-use Rattle.link_model.proofs.Samples.{linked, piece, fix, at_bases, public, constant, extern, import, export, code32, data32, code16, common32, code_module}
+use Rattle.link_model.proofs.Samples.{linked, piece, fix, at_bases, constant, extern, import, code32, data32, code16, common32, code_module}
 
 abbrev library : List ObjModule → Link
 library modules = linked (default_def Library None) modules
@@ -129,7 +130,7 @@ wide_never_apart = refl
 const_selector : place_refusal (library (refused (fix 1 4 2 false frames.OfTarget (goals.Ext 1) 0))) ≡ Some (ConstSelector 1 1 4)
 const_selector = refl
 
--- ---- the start, and exports
+-- ---- the start
 
 abbrev starts_at : ℕ → Link
 starts_at disp =
@@ -141,18 +142,3 @@ start = refl
 
 start_outside : place_refusal (starts_at 8) ≡ Some (StartOutside 2)
 start_outside = refl
-
--- Ordinals 2 and 1 are given, so `G` gets 3; its name is resident. `H` leads to another module.
-abbrev exporting : Link
-exporting =
-    library
-    (record empty_module {
-      segs = code32 8 ∷ [];
-      pubs = public (codes "F") 1 0 ∷ public (codes "G") 1 4 ∷ [];
-      imports = import (codes "H") (codes "LIB") (Ordinal 9) ∷ [];
-      exports = export (codes "F") (codes "F") (Some 2) ∷ export (codes "G") (codes "G") None ∷ export (codes "H") (codes "H") (Some 1) ∷ [];
-    } ∷ [])
-
-three_exports :
-    Out exporting ≡ record { ordinal = 2; name = codes "F"; resident = false; exit = At 1 0 } ∷ record { ordinal = 3; name = codes "G"; resident = true; exit = At 1 4 } ∷ record { ordinal = 1; name = codes "H"; resident = false; exit = Forward (import (codes "H") (codes "LIB") (Ordinal 9)) } ∷ []
-three_exports = refl

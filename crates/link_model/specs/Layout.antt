@@ -1,17 +1,18 @@
 -- The layout of a link: its objects with size, linked base and flags, and the place of each contribution and
 -- of each communal.
 use Rattle.std.specs.Prelude.{ℕ, ◌+◌, List, [], ◌∷◌, Option, map, find}
-use Rattle.std.specs.Option.{option_map, option_and_then, unwrap_or}
+use Rattle.std.specs.List.{enumerate_from}
+use Rattle.std.specs.Option.{option_map, option_and_then, option_map_or, unwrap_or}
 use Rattle.obj_types.specs.declared.definition.ModKind.{ModKind}
 use Rattle.obj_types.specs.declared.definition.ModKind.TheVariants.{Program, Library}
 use Rattle.link_model.specs.declared.symbols.LaidObject.{LaidObject}
 use Rattle.obj_types.specs.Items.{item}
 use Rattle.link_model.specs.Link.{Link}
 use Rattle.link_model.specs.Parts.{Origin, Segment, Communal, same_origin, Part}
-use Rattle.link_model.specs.Groups.{parts}
+use Rattle.link_model.specs.Communals.{parts}
 use Rattle.link_model.specs.Flags.{flags_of}
-use Rattle.link_model.specs.Order.{object_heads, object_of}
-use Rattle.link_model.specs.Offsets.{object_size, offset_in, stack_segment, stack_end}
+use Rattle.link_model.specs.Order.{object_heads}
+use Rattle.link_model.specs.Rows.{end_in, rows, row_of, offset_in, stack_row}
 pub use Rattle.lx_types.specs.Addresses.{PRIVATE_FROM, SHARED_FROM, room}
 
 -- The first object's linked base: BASE, or the begin of the arena in which programs or libraries stand.
@@ -29,13 +30,19 @@ placed_from base (q ∷ qs) = record { size = q.0; base = base; flags = q.1 } �
 
 -- The objects, numbered from 1.
 abbrev pub objects : Link → List LaidObject
-objects l = placed_from (first_base l) (map (λ h. (object_size l h, flags_of l h)) (object_heads l))
+objects l =
+    placed_from (first_base l) (map (λ q. (end_in q.0 (rows l), flags_of l q.1)) (enumerate_from 1 (object_heads l)))
+
+abbrev pub object_flags : Link → ℕ → ℕ
+object_flags l o = option_map_or (λ x. x.flags) (item (objects l) o) 0
 
 -- ---- places: an object's number and an offset in it
 
+abbrev pub object_of : Link → Part → Option ℕ
+object_of l p = option_map (λ r. r.object) (row_of l p)
+
 abbrev pub place_of_part : Link → Part → Option (ℕ × ℕ)
-place_of_part l p =
-    option_and_then (λ n. option_map (λ h. (n, offset_in l h p)) (item (object_heads l) n)) (object_of l p)
+place_of_part l p = option_map (λ r. (r.object, offset_in l r p)) (row_of l p)
 
 abbrev pub place_of_origin : Link → Origin → Option (ℕ × ℕ)
 place_of_origin l o =
@@ -50,5 +57,4 @@ common_spot l slot = place_of_origin l (Communal slot)
 
 -- The stack pointer at the start is the end of the stack segment.
 abbrev pub stack_top : Link → Option (ℕ × ℕ)
-stack_top l =
-    option_and_then (λ s. option_and_then (λ n. option_map (λ h. (n, stack_end l h s)) (item (object_heads l) n)) (object_of l s)) (stack_segment l)
+stack_top l = option_map (λ r. (r.object, r.end)) (stack_row l)

@@ -1,4 +1,5 @@
 pub mod Words
+pub mod Appearance
 pub mod Numbers
 pub mod Choosing
 pub mod Link
@@ -6,9 +7,10 @@ pub mod Symbols
 pub mod SymbolRefusals
 pub mod Parts
 pub mod Groups
+pub mod Communals
 pub mod Flags
 pub mod Order
-pub mod Offsets
+pub mod Rows
 pub mod Layout
 pub mod LayoutRefusals
 pub mod Data
@@ -16,10 +18,15 @@ pub mod Goals
 pub mod Fixups
 pub mod Value
 pub mod Mean
-pub mod Out
+pub mod Exports
+pub mod Start
+pub mod Refusal
 pub mod Defaults
 pub mod OneSegment
+pub mod Patches
+pub mod ImportTables
 pub mod Records
+pub mod Header
 pub mod PlainChoosing
 pub mod ChosenOnce
 pub mod Fixing

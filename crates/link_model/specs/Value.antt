@@ -13,9 +13,9 @@ use Rattle.obj_types.specs.Location.{location_len}
 use Rattle.link_model.specs.Words.{wrapped, difference}
 use Rattle.link_model.specs.Link.{Link}
 use Rattle.link_model.specs.Symbols.{imports}
-use Rattle.lx_types.specs.Addresses.{selector as selector_for, selected_offset}
+use Rattle.lx_types.specs.Addresses.{address, selector as selector_for, selected_offset}
 pub use Rattle.lx_types.specs.Addresses.{tiled_selector as tiled}
-use Rattle.link_model.specs.Layout.{objects}
+use Rattle.link_model.specs.Layout.{object_flags}
 use Rattle.link_model.specs.Goals.{Target, Internal, Constant, Entry}
 use Rattle.link_model.specs.Fixups.{Fixup, fix_refusal}
 
@@ -39,19 +39,16 @@ entry_point w pair = w.imp (uppercase pair.module) pair.entry
 
 -- ---- addresses
 
-abbrev pub address : World → ℕ → ℕ → ℕ
-address w object offset = wrapped (unwrap_or (item w.bases object) 0 + offset)
+abbrev pub place_address : World → ℕ → ℕ → ℕ
+place_address w object offset = address (unwrap_or (item w.bases object) 0) offset
 
 abbrev pub far_of : Link → World → ℕ → Far
 far_of l w slot = option_map_or (entry_point w) (slice_get (imports l) slot) (record { address = 0; flags = 0 })
 
 abbrev pub target_address : Link → World → Target → ℕ
-target_address l w (Internal o offset) = address w o offset
+target_address l w (Internal o offset) = place_address w o offset
 target_address l w (Constant value) = value
 target_address l w (Entry slot) = (far_of l w slot).address
-
-abbrev pub object_flags : Link → ℕ → ℕ
-object_flags l o = option_map_or (λ x. x.flags) (item (objects l) o) 0
 
 abbrev pub target_flags : Link → World → Target → ℕ
 target_flags l w (Internal o offset) = object_flags l o
@@ -90,7 +87,7 @@ sum_number l w q = wrapped (target_number l w q + q.standing)
 -- The bytes that the location gets, unless the fixup is refused.
 abbrev pub value_bytes : Link → World → Fixup → List ℕ
 value_bytes l w q =
-    if q.fix.selfrel then relative_to_self q.fix.loc (address w q.object q.offset) (sum_number l w q)
+    if q.fix.selfrel then relative_to_self q.fix.loc (place_address w q.object q.offset) (sum_number l w q)
     else relative_to_segment q.fix.loc (target_number l w q) (sum_number l w q) (target_flags l w q.target) q.narrow
 
 abbrev pub Value : Link → World → Fixup → Option (List ℕ)

@@ -1,18 +1,13 @@
 -- Words on lists and numbers that the other pages use.
-use Rattle.std.specs.Prelude.{ℕ, ◌+◌, ◌-◌, ◌%◌, ◌^◌, Bool, false, not, List, [], ◌∷◌, ◌++◌, Option, Some, None, if◌then◌else◌, filter}
+use Rattle.std.specs.Prelude.{ℕ, ◌+◌, ◌-◌, ◌%◌, ◌^◌, Bool, false, List, [], ◌∷◌, ◌++◌, Option, Some, None, if◌then◌else◌}
 use Rattle.std.specs.Option.{option_or}
 use Rattle.std.specs.List.{list_any}
 
--- Each item that is not the same as one before it.
-abbrev pub firsts : {X : Type 0} → (X → X → Bool) → List X → List X
-firsts same [] = []
-firsts same (x ∷ xs) = x ∷ filter (λ y. not (same x y)) (firsts same xs)
-
--- The first item to which an earlier one stands in the relation; `earlier` are those before the list.
-abbrev pub first_after_rival : {X : Type 0} → (X → X → Bool) → List X → List X → Option X
-first_after_rival rival earlier [] = None
-first_after_rival rival earlier (x ∷ xs) =
-    if list_any (λ y. rival y x) earlier then Some x else first_after_rival rival (earlier ++ x ∷ []) xs
+-- The first item with which an earlier one is in conflict; `earlier` are those before the list.
+abbrev pub first_conflict : {X : Type 0} → (X → X → Bool) → List X → List X → Option X
+first_conflict conflicts earlier [] = None
+first_conflict conflicts earlier (x ∷ xs) =
+    if list_any (λ y. conflicts y x) earlier then Some x else first_conflict conflicts (earlier ++ x ∷ []) xs
 
 -- The first that there is.
 abbrev pub first_of : {X : Type 0} → List (Option X) → Option X

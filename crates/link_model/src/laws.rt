@@ -1,4 +1,5 @@
 //! Laws over the definitions, each the contract of a function that does nothing.
+ghost use Rattle.link_model.specs.Appearance.{NameTables};
 ghost use Rattle.link_model.specs.ChosenOnce.{ChosenOnce};
 ghost use Rattle.link_model.specs.Fixing.{LiveApart, PatchesStand};
 ghost use Rattle.link_model.specs.Numbers.{LinkNumbers};
@@ -29,4 +30,10 @@ pub fn patches_stand_at_all_bases()
 /// The numbers that the definitions name by words are those of the formats and of this project.
 pub fn link_numbers_are_the_formats()
     ensures { LinkNumbers }
+{}
+
+/// A table by first appearance gets one more item last, unless its key is there; it has the keys of all
+/// items, and each once.
+pub fn tables_grow_by_new_keys()
+    ensures { NameTables }
 {}

@@ -6,6 +6,7 @@
 #![tactic(auto)]
 
 mod choosing;
+mod keys;
 mod laws;
 mod limits;
 mod refusals;
@@ -15,14 +16,16 @@ mod tests;
 mod values;
 
 pub use choosing::choose;
+pub use keys::{ObjectKey, Origin, SegmentKey};
 pub use laws::{
-    link_numbers_are_the_formats,     live_fixups_are_apart, modules_are_chosen_once, one_segment_links_plainly,
-    patches_stand_at_all_bases,
+    link_numbers_are_the_formats, live_fixups_are_apart, modules_are_chosen_once,
+    one_segment_links_plainly, patches_stand_at_all_bases, tables_grow_by_new_keys,
 };
 pub use limits::{
-    MAX_MEMORY, MAX_NARROW_OBJECT, MAX_NUMBER, MAX_OBJECTS, OBJECT_CONFORMING, OBJECT_IOPL, OBJECT_PRELOAD, OBJECT_READABLE,
+    MAX_MEMORY, MAX_NARROW_OBJECT, MAX_NUMBER, MAX_OBJECTS, OBJECT_CONFORMING, OBJECT_IOPL,
+    OBJECT_PRELOAD, OBJECT_READABLE,
 };
 pub use obj_types::{Bytes, EntryKey, Fail, Name, NoMemory, Seq};
-pub use refusals::{FixRefusal, LayRefusal, SymRefusal};
+pub use refusals::{EntryRefusal, FixRefusal, LayRefusal, LinkRefusal, SymRefusal};
 pub use symbols::{LaidObject, Pick, SymDef};
 pub use values::{alignment_len, data_byte, distance, object_flags, selector_of, tiled_selector};
