@@ -8,7 +8,17 @@ pub mod SmallestLink
 pub mod OneSegmentLaw
 pub mod TrialsOfRecords
 pub mod TrialsOfExports
+pub mod TrialsOfLaws
 pub mod Searching
 pub mod Growing
 pub mod OneChoice
 pub mod LiveFixups
+pub mod Members
+pub mod ValueLengths
+pub mod KeyTests
+pub mod RowsStand
+pub mod SegmentsStand
+pub mod ExternalsMean
+pub mod LiveMeans
+pub mod FixupsStay
+pub mod ExportsStay

@@ -22,6 +22,7 @@ pub mod Exports
 pub mod Start
 pub mod Refusal
 pub mod Defaults
+pub mod NothingDropped
 pub mod OneSegment
 pub mod Patches
 pub mod ImportTables

@@ -3,12 +3,12 @@
 -- In an object each part stands at the least offset that its alignment divides, after the one before.
 -- Common contributions of one logical segment share one start, which the greatest of their alignments
 -- divides, and the next part stands after the longest.
-use Rattle.std.specs.Prelude.{ℕ, ◌+◌, Bool, not, List, [], ◌∷◌, ◌++◌, Option, max, if◌then◌else◌, ◌==◌, filter}
-use Rattle.std.specs.List.{find, fold, list_any, take_while}
+use Rattle.std.specs.Prelude.{ℕ, ◌+◌, Bool, List, [], ◌∷◌, ◌++◌, Option, max, if◌then◌else◌, ◌==◌, filter}
+use Rattle.std.specs.List.{find, fold, list_any}
 use Rattle.std.specs.Int.{next_multiple_of}
 use Rattle.link_model.specs.Words.{option_any}
 use Rattle.link_model.specs.Link.{Link}
-use Rattle.link_model.specs.Parts.{same_origin, Part, alignment, is_common, is_stack, joins}
+use Rattle.link_model.specs.Parts.{Origin, same_origin, Part, alignment, is_common, is_stack, joins}
 use Rattle.link_model.specs.Order.{ordered, parts_of, object_number}
 
 -- The least offset from `at` on that the part's alignment divides.
@@ -87,11 +87,16 @@ rows l = rows_after l [] (ordered l)
 abbrev pub row_of : Link → Part → Option Row
 row_of l p = find (λ r. joins r.segment p) (rows l)
 
+-- The parts before the first one of an origin.
+abbrev pub before : Origin → List Part → List Part
+before o [] = []
+before o (q ∷ qs) = if same_origin q.origin o then [] else q ∷ before o qs
+
 -- The offset of a part in its row's object.
 abbrev pub offset_in : Link → Row → Part → ℕ
 offset_in l r p =
-    if is_common p then r.start
-    else aligned (end_of_parts r.start (take_while (λ q. not (same_origin q.origin p.origin)) (parts_of l r.segment))) p
+    if is_common r.segment then r.start
+    else aligned (end_of_parts r.start (before p.origin (parts_of l r.segment))) p
 
 abbrev pub stack_row : Link → Option Row
 stack_row l = find (λ r. has_stack l r.segment) (rows l)

@@ -3,6 +3,7 @@ ghost use Rattle.link_model.specs.Appearance.{NameTables};
 ghost use Rattle.link_model.specs.ChosenOnce.{ChosenOnce};
 ghost use Rattle.link_model.specs.Fixing.{LiveApart, PatchesStand};
 ghost use Rattle.link_model.specs.Numbers.{LinkNumbers};
+ghost use Rattle.link_model.specs.NothingDropped.{ChosenAreWhole, CommunalsStand, ExportsStay, ExternalsMean, FixupsStay, LiveFixupsMean, SegmentsStand, ValuesFit};
 ghost use Rattle.link_model.specs.OneSegment.{OneSegmentLaw};
 
 /// A link of one object module with one 32-bit code segment, whose fixups are 32-bit references to the
@@ -36,4 +37,41 @@ pub fn link_numbers_are_the_formats()
 /// items, and each once.
 pub fn tables_grow_by_new_keys()
     ensures { NameTables }
+{}
+
+/// A value has as many bytes as its location.
+pub fn values_fit_their_locations()
+    ensures { ValuesFit }
+{}
+
+/// The chosen modules of a whole input are whole, whichever are chosen.
+pub fn chosen_modules_are_whole()
+    ensures { ChosenAreWhole }
+{}
+
+/// Where the names of a link are not refused, each external has a meaning.
+pub fn externals_have_meanings()
+    ensures { ExternalsMean }
+{}
+
+/// Each segment outside debug and each communal stands in an object, and all of it lies there.
+pub fn segments_stand_in_objects()
+    ensures segments { SegmentsStand }
+    ensures communals { CommunalsStand }
+{}
+
+/// Where the names of a link of whole modules are not refused, all fixups of its modules are there, in order.
+pub fn no_fixup_is_dropped()
+    ensures { FixupsStay }
+{}
+
+/// Where no fixup is refused, the bytes of a live fixup's location are those of its value, at any bases.
+pub fn live_fixups_give_their_values()
+    ensures { LiveFixupsMean }
+{}
+
+/// Where the names of a link of whole modules are not refused, there is one export for each that is asked, in
+/// order, by its name and with its ordinal.
+pub fn no_export_is_dropped()
+    ensures { ExportsStay }
 {}
