@@ -20,6 +20,7 @@ use Rattle.link_model.specs.Layout.{spot, common_spot}
 use Rattle.link_model.specs.Goals.{internal, shifted, of_symbol}
 use Rattle.link_model.specs.Exports.{Export, ExportTarget, Forward, is_resident, is_wide, export_target, export_of, ordinal_at, ordinals, asked_ordinals}
 use Rattle.link_model.specs.NothingDropped.{WholeLink, ChosenAreWhole, ExportsStay}
+use Rattle.link_model.proofs.Rules.{rules}
 use Rattle.link_model.proofs.Members.{in_at, all_in, item_at}
 use Rattle.link_model.proofs.ExternalsMean.{exports_lead}
 use Rattle.link_model.proofs.FixupsStay.{IsThere, global_there, symbol_target}
@@ -31,11 +32,13 @@ place_leads l None h = h
 place_leads l (Some q) h = refl
 
 import_leads : (l : Link) (slot : ℕ) → slot < length (imports l) → IsSome (option_and_then (export_target l) (of_symbol l (means.Import slot)))
+unfolding rules
 import_leads l slot h =
     let pair = item_at (imports l) slot h in
     subst (λ o. is_some (option_map Forward o) ≡ true) (sym pair.is) refl
 
 symbol_leads : (l : Link) (d : SymDef) → IsThere l d → is_exportable (Some d) ≡ true → IsSome (option_and_then (export_target l) (of_symbol l d))
+unfolding rules
 symbol_leads l (means.In n seg offset) h e =
     place_leads l (option_map (shifted offset) (spot l n seg)) (symbol_target l (means.In n seg offset) h)
 symbol_leads l (means.Const value) h e = absurd (true≢false (sym e))
@@ -43,10 +46,12 @@ symbol_leads l (means.Common slot) h e = place_leads l (common_spot l slot) (sym
 symbol_leads l (means.Import slot) h e = import_leads l slot h
 
 leads_by : (l : Link) (name : List ℕ) (o : Option SymDef) → WholeLink l → global l name ≡ o → is_exportable o ≡ true → IsSome (option_and_then (export_target l) (option_and_then (of_symbol l) o))
+unfolding rules
 leads_by l name None whole is e = absurd (true≢false (sym e))
 leads_by l name (Some d) whole is e = symbol_leads l d (global_there l name d whole is) e
 
 name_leads : (l : Link) (name : List ℕ) → WholeLink l → is_exportable (global l name) ≡ true → IsSome (option_and_then (export_target l) (option_and_then (of_symbol l) (global l name)))
+unfolding rules
 name_leads l name whole e = leads_by l name (global l name) whole refl e
 
 -- ---- none is left out
@@ -60,6 +65,7 @@ export_by l n x None h = absurd (true≢false (sym h))
 export_by l n x (Some t) h = (refl, refl)
 
 export_there : (l : Link) (n : ℕ) (x : Exp) → WholeLink l → is_exportable (global l x.internal) ≡ true → IsSomeAnd (export_of l n x) (IsAs n x)
+unfolding rules
 export_there l n x whole e =
     export_by l n x (option_and_then (export_target l) (option_and_then (of_symbol l) (global l x.internal))) (name_leads l x.internal whole e)
 
@@ -101,6 +107,7 @@ length-mapped f [] = refl
 length-mapped f (x ∷ xs) = ap suc (length-mapped f xs)
 
 pub exports_stay : ExportsStay
+unfolding rules
 exports_stay l whole e =
     let os = asked_ordinals l in
     let as_many : length (ordinals os) ≡ length (exports l) = length-numbered (λ q. ordinal_at os q.0 q.1) 0 os ∙ length-mapped (λ (x : Exp). x.ordinal) (exports l) in
@@ -110,6 +117,7 @@ exports_stay l whole e =
 -- ---- the chosen modules of a whole input
 
 picked_by : (input : LinkInput) (lib : Bool) (index : ℕ) (m : ObjModule) → WholeInput input → slice_get (if lib then input.libs else input.objects) index ≡ Some m → WholeModule m
+unfolding rules
 picked_by input true index m whole e = all_in WholeModule input.libs whole.libs (in_at input.libs index m e)
 picked_by input false index m whole e = all_in WholeModule input.objects whole.objects (in_at input.objects index m e)
 

@@ -11,6 +11,7 @@ use Rattle.link_model.specs.Link.{Link, externals, exports}
 use Rattle.link_model.specs.Symbols.{Sym, global}
 use Rattle.link_model.specs.SymbolRefusals.{sym_refusal, twice, missing_external, missing_export, imports_many, is_exportable}
 use Rattle.link_model.specs.NothingDropped.{ExternalsMean}
+use Rattle.link_model.proofs.Rules.{rules}
 
 -- ---- where there is none of several
 
@@ -41,12 +42,14 @@ each_is f [] h = tt
 each_is f (x ∷ xs) h = (there_is (f x) h.0, each_is f xs h.1)
 
 pub externals_by_recursion : (l : Link) → sym_refusal l ≡ None → AllByRecursion (λ q. IsSome (Sym l q.0 q.1)) (externals l)
+unfolding rules
 externals_by_recursion l e =
     let rest = (neither (twice l) (first_of (missing_external l ∷ missing_export l ∷ imports_many l ∷ [])) e).1 in
     let none = (neither (missing_external l) (first_of (missing_export l ∷ imports_many l ∷ [])) rest).0 in
     each_is (λ q. Sym l q.0 q.1) (externals l) (none_passes (λ q. is_none (Sym l q.0 q.1)) (externals l) (not_mapped (λ q. Missing q.1.name) (find (λ q. is_none (Sym l q.0 q.1)) (externals l)) none))
 
 pub externals_mean : ExternalsMean
+unfolding rules
 externals_mean l e =
     All-from_recursion (λ q. IsSome (Sym l q.0 q.1)) (externals l) (externals_by_recursion l e)
 
@@ -57,6 +60,7 @@ each_passes test [] h = tt
 each_passes test (x ∷ xs) h = (not-false (test x) h.0, each_passes test xs h.1)
 
 pub exports_lead : (l : Link) → sym_refusal l ≡ None → AllByRecursion (λ x. is_exportable (global l x.internal) ≡ true) (exports l)
+unfolding rules
 exports_lead l e =
     let rest = (neither (twice l) (first_of (missing_external l ∷ missing_export l ∷ imports_many l ∷ [])) e).1 in
     let later = (neither (missing_external l) (first_of (missing_export l ∷ imports_many l ∷ [])) rest).1 in

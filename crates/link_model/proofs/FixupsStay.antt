@@ -25,6 +25,7 @@ use Rattle.link_model.specs.Layout.{spot, common_spot}
 use Rattle.link_model.specs.Goals.{Target, shifted, of_symbol, of_external, target_of}
 use Rattle.link_model.specs.Fixups.{Fixup, fixup_at, fixup_of}
 use Rattle.link_model.specs.NothingDropped.{WholeLink, LiesInObject, FixupsStay}
+use Rattle.link_model.proofs.Rules.{rules}
 use Rattle.link_model.proofs.Members.{In, here, there, in_map, in_flat_map, in_at, each_in, all_in, in_either, Mapped, from_map, from_filter, from_flat_map, from_numbered, value_of, value_is, item_at, found_as}
 use Rattle.link_model.proofs.ExternalsMean.{externals_by_recursion}
 use Rattle.link_model.proofs.SegmentsStand.{segments_stand, communals_stand}
@@ -47,6 +48,7 @@ some_by None P h = absurd h
 some_by (Some x) P h = refl
 
 plain_stands : (l : Link) (n index : ℕ) (m : ObjModule) → chosen_module l n ≡ Some m → IsPlainSeg m index → IsSome (spot l n index)
+unfolding rules
 plain_stands l n index m em plain =
     let s = value_of (item m.segs index) (λ s. s.debug ≡ false) plain in
     some_by (spot l n index) (LiesInObject l s.item.len) (segments_stand l n index m s.item em s.is s.holds)
@@ -111,11 +113,13 @@ no_public l n is d place r e =
     absurd (true≢false (sym (ap is_some (ap (λ (t : Definition). place_in t.meaning) r.is ∙ e))))
 
 in_module_from : (l : Link) (q : ℕ × ObjModule) (d : Definition) (place : PubPlace) → WholeLink l → In q (enumerate_from 1 l.modules) → In d (definitions_in q.0 q.1) → place_in d.meaning ≡ Some place → Defined l d place
+unfolding rules
 in_module_from l q d place whole iq i e =
     let em = numbered_module l q iq in
     elim (in_either (map (of_public q.0) (filter (λ p. not p.local) q.1.pubs)) (map (of_import q.0) q.1.imports) i) as (λ s. Defined l d place) [ inl j ↦ public_from l q.0 q.1 d place (module_whole l q.0 q.1 whole em) em (from_map (of_public q.0) (filter (λ p. not p.local) q.1.pubs) j) e | inr j ↦ no_public l q.0 q.1.imports d place (from_map (of_import q.0) q.1.imports j) e ]
 
 public_defined : (l : Link) (d : Definition) (place : PubPlace) → WholeLink l → In d (definitions l) → place_in d.meaning ≡ Some place → Defined l d place
+unfolding rules
 public_defined l d place whole i e =
     elim (in_either (flat_map (λ q. definitions_in q.0 q.1) (enumerate_from 1 l.modules)) (map (of_import 0) l.def.imports) i) as (λ s. Defined l d place) [ inl j ↦ let r = from_flat_map (λ (q : ℕ × ObjModule). definitions_in q.0 q.1) (enumerate_from 1 l.modules) j in in_module_from l r.item d place whole r.inside r.gives e | inr j ↦ no_public l 0 l.def.imports d place (from_map (of_import 0) l.def.imports j) e ]
 
@@ -124,19 +128,23 @@ below test [] k e = absurd (true≢false (sym (ap is_some e)))
 below test (x ∷ xs) k e = (position-Some test (x ∷ xs) k x e).0
 
 communal_by : (l : Link) (name : List ℕ) (d : SymDef) (o : Option ℕ) → place_by bytes_eq (λ c. c.0) name (commons l) ≡ o → option_map (λ slot. means.Common slot) o ≡ Some d → IsThere l d
+unfolding rules
 communal_by l name d None is e = absurd (true≢false (sym (ap is_some e)))
 communal_by l name d (Some slot) is e =
     subst (IsThere l) (option_is (means.Common slot) d e) (below (λ c. bytes_eq name c.0) (commons l) slot is)
 
 communal_there : (l : Link) (name : List ℕ) (d : SymDef) → option_map (λ slot. means.Common slot) (place_by bytes_eq (λ c. c.0) name (commons l)) ≡ Some d → IsThere l d
+unfolding rules
 communal_there l name d e = communal_by l name d (place_by bytes_eq (λ c. c.0) name (commons l)) refl e
 
 import_by : (l : Link) (name : List ℕ) (pair : Imp) (d : SymDef) (o : Option ℕ) → place_by same_import import_key (import_key pair) (imports l) ≡ o → option_or (option_map (λ slot. means.Import slot) o) (option_map (λ slot. means.Common slot) (place_by bytes_eq (λ c. c.0) name (commons l))) ≡ Some d → IsThere l d
+unfolding rules
 import_by l name pair d None is e = communal_there l name d e
 import_by l name pair d (Some slot) is e =
     subst (IsThere l) (option_is (means.Import slot) d e) (below (λ i. same_import (import_key pair) (import_key i)) (imports l) slot is)
 
 meaning_by : (l : Link) (name : List ℕ) (d : SymDef) (df : Definition) (m : Meaning) → WholeLink l → In df (definitions l) → df.meaning ≡ m → option_or (by_definition l df m) (option_map (λ slot. means.Common slot) (place_by bytes_eq (λ c. c.0) name (commons l))) ≡ Some d → IsThere l d
+unfolding rules
 meaning_by l name d df (Public place) whole i is e =
     let r = public_defined l df place whole i (ap place_in is) in
     subst (IsThere l) (option_is (at_place df.by place) d e) (place_there l df.by r.owner place r.chosen r.whole)
@@ -144,14 +152,17 @@ meaning_by l name d df (Imported pair) whole i is e =
     import_by l name pair d (place_by same_import import_key (import_key pair) (imports l)) refl e
 
 global_by : (l : Link) (name : List ℕ) (d : SymDef) (o : Option Definition) → WholeLink l → definition_of l name ≡ o → option_or (option_and_then (λ d. by_definition l d d.meaning) o) (option_map (λ slot. means.Common slot) (place_by bytes_eq (λ c. c.0) name (commons l))) ≡ Some d → IsThere l d
+unfolding rules
 global_by l name d None whole is e = communal_there l name d e
 global_by l name d (Some df) whole is e =
     meaning_by l name d df df.meaning whole (found_as (λ (t : Definition). bytes_eq t.name name) (definitions l) df is).inside refl e
 
 pub global_there : (l : Link) (name : List ℕ) (d : SymDef) → WholeLink l → global l name ≡ Some d → IsThere l d
+unfolding rules
 global_there l name d whole e = global_by l name d (definition_of l name) whole refl e
 
 sym_by : (l : Link) (n : ℕ) (m : ObjModule) (name : List ℕ) (local : Bool) (d : SymDef) → WholeLink l → chosen_module l n ≡ Some m → cond local (local_meaning l n name) (global l name) ≡ Some d → IsThere l d
+unfolding rules
 sym_by l n m name true d whole em e = local_there l n m name d whole em e
 sym_by l n m name false d whole em e = global_there l name d whole e
 
@@ -162,6 +173,7 @@ mapped f None h = h
 mapped f (Some x) h = refl
 
 pub symbol_target : (l : Link) (d : SymDef) → IsThere l d → IsSome (of_symbol l d)
+unfolding rules
 symbol_target l (means.In n seg offset) h =
     mapped _ _ (mapped (shifted offset) (spot l n seg) (plain_stands l n seg h.owner h.chosen h.plain))
 symbol_target l (means.Const value) h = refl
@@ -197,6 +209,7 @@ chosen_in l (suc n) m e =
     subst (λ (k : ℕ). In (k, m) (enumerate_from 1 l.modules)) at (module_in_list l.modules 1 n m e)
 
 external_target : (l : Link) (n i : ℕ) (m : ObjModule) → WholeLink l → sym_refusal l ≡ None → chosen_module l n ≡ Some m → IsIndex m.exts i → IsSome (of_external l n i)
+unfolding rules
 external_target l n i m whole e em index =
     let x = at_index m.exts i index in
     let listed : In (n, x.value) (externals l) = in_flat_map (λ (q : ℕ × ObjModule). map (λ e. (q.0, e)) q.1.exts) (chosen_in l n m em) (in_map (λ (e : Ext). (n, e)) x.inside) in
@@ -206,6 +219,7 @@ external_target l n i m whole e em index =
     subst (λ (o : Option Target). is_some o ≡ true) (sym opened) (symbol_target l meant.item there)
 
 goal_target : (l : Link) (n : ℕ) (m : ObjModule) (goal : Goal) → WholeLink l → sym_refusal l ≡ None → chosen_module l n ≡ Some m → WholeGoal m goal → IsSome (target_of l n goal)
+unfolding rules
 goal_target l n m (goals.Seg i) whole e em h = mapped _ _ (plain_stands l n i m em h)
 goal_target l n m (goals.Ext i) whole e em h = external_target l n i m whole e em h
 goal_target l n m (goals.Group i) whole e em h =
@@ -224,6 +238,7 @@ weaker None P Q f h = h
 weaker (Some x) P Q f h = f x h
 
 fixup_there : (l : Link) (n : ℕ) (m : ObjModule) (f : FixAt) → WholeLink l → sym_refusal l ≡ None → chosen_module l n ≡ Some m → WholeFix m f → IsSomeAnd (fixup_of l n m f) (λ x. x.fix ≡ f)
+unfolding rules
 fixup_there l n m f whole e em h =
     let plain : IsPlainSeg m f.seg = weaker (item m.segs f.seg) _ (λ s. s.debug ≡ false) (λ s both. both.0) h.place in
     fixup_by l n m f (target_of l n f.goal) (spot l n f.seg) (goal_target l n m f.goal whole e em h.goal) (plain_stands l n f.seg m em plain)
@@ -241,6 +256,7 @@ map-both f [] ys = refl
 map-both f (x ∷ xs) ys = ap (λ t. f x ∷ t) (map-both f xs ys)
 
 stay_in_modules : (l : Link) (b : ℕ) (ms : List ObjModule) → WholeLink l → sym_refusal l ≡ None → ((q : ℕ × ObjModule) → In q (enumerate_from b ms) → chosen_module l q.0 ≡ Some q.1) → map (λ x. x.fix) (flat_map (λ q. filter_map (fixup_of l q.0 q.1) q.1.fixes) (enumerate_from b ms)) ≡ flat_map (λ m. m.fixes) ms
+unfolding rules
 stay_in_modules l b [] whole e chosen = refl
 stay_in_modules l b (m ∷ ms) whole e chosen =
     let em = chosen (b, m) here in
@@ -250,4 +266,5 @@ stay_in_modules l b (m ∷ ms) whole e chosen =
     map-both (λ (x : Fixup). x.fix) (filter_map (fixup_of l b m) m.fixes) rest ∙ (ap (λ (t : List FixAt). t ++ map (λ x. x.fix) rest) first ∙ ap (λ (t : List FixAt). m.fixes ++ t) (stay_in_modules l (b + 1) ms whole e (λ q i. chosen q (there i))))
 
 pub fixups_stay : FixupsStay
+unfolding rules
 fixups_stay l whole e = stay_in_modules l 1 l.modules whole e (λ q i. numbered_module l q i)

@@ -1,3 +1,4 @@
+pub mod Rules
 pub mod Samples
 pub mod Tables
 pub mod TrialsOfSymbols
@@ -22,3 +23,4 @@ pub mod ExternalsMean
 pub mod LiveMeans
 pub mod FixupsStay
 pub mod ExportsStay
+pub mod NamesAtOffsets

@@ -18,6 +18,7 @@ use Rattle.link_model.specs.Value.{World, place_address, relative_to_self, value
 use Rattle.link_model.specs.Mean.{overlap, live}
 use Rattle.link_model.specs.Patches.{is_patched}
 use Rattle.link_model.specs.Fixing.{LiveApart, PatchesStand}
+use Rattle.link_model.proofs.Rules.{rules}
 
 -- ---- live fixups
 
@@ -81,6 +82,7 @@ stands_within w v o loc x d s y =
 
 stands :
     (l : Link) (w v : World) (by seg place loc : ℕ) (selfrel : Bool) (f : Frame) (goal : Goal) (disp object offset : ℕ) (narrow : Bool) (target : Target) (frame : Option ℕ) (standing : ℕ) → is_patched (made by seg place loc selfrel f goal disp object offset narrow target frame standing) ≡ true → Value l w (made by seg place loc selfrel f goal disp object offset narrow target frame standing) ≡ Value l v (made by seg place loc selfrel f goal disp object offset narrow target frame standing)
+unfolding rules
 stands l w v by seg place loc true f goal disp object offset narrow (Internal o x) frame standing e =
     let same : o ≡ object = eqb-true o object e in
     let bytes : value_bytes l w (made by seg place loc true f goal disp object offset narrow (Internal o x) frame standing) ≡ value_bytes l v (made by seg place loc true f goal disp object offset narrow (Internal o x) frame standing) = subst (λ (k : ℕ). relative_to_self loc (place_address w k offset) (wrapped (wrapped (place_address w o x + disp) + standing)) ≡ relative_to_self loc (place_address v k offset) (wrapped (wrapped (place_address v o x + disp) + standing))) same (stands_within w v o loc x disp standing offset) in

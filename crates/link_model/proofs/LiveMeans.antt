@@ -11,6 +11,7 @@ use Rattle.link_model.specs.Start.{start_outside}
 use Rattle.link_model.specs.Value.{value_bytes, Value}
 use Rattle.link_model.specs.Mean.{fixup_end, overlap, live, live_fixups, fixup_covers, live_at, data_at, value_at}
 use Rattle.link_model.specs.NothingDropped.{LiveFixupsMean}
+use Rattle.link_model.proofs.Rules.{rules}
 use Rattle.link_model.proofs.LiveFixups.{live_apart}
 use Rattle.link_model.proofs.Members.{In, here, there, in_contained, each_in}
 use Rattle.link_model.proofs.ExternalsMean.{neither}
@@ -69,6 +70,7 @@ none_refused f (q ∷ qs) rest e =
 -- ---- the law
 
 pub live_fixups_mean : LiveFixupsMean
+unfolding rules
 live_fixups_mean l w q x e inside from below =
     let i = in_contained (live_fixups l) q inside in
     let covers : fixup_covers q.object x q ≡ true = and_from (q.object == q.object && nat_le q.offset x) (nat_lt x (fixup_end q)) (and_from (q.object == q.object) (nat_le q.offset x) (eq-eqb q.object q.object refl) (le-leb q.offset x from)) (lt-ltb x (fixup_end q) below) in

@@ -19,6 +19,7 @@ use Rattle.link_model.specs.Order.{segments, classes, by_class, own_stacks, orde
 use Rattle.link_model.specs.Rows.{aligned, end_of_parts, longest, least_len, parts_end, segment_end, Row, end_in, row_after, rows_after, rows, row_of, before, offset_in}
 use Rattle.link_model.specs.Layout.{room, placed_from, first_base, objects, place_of_part, place_of_origin}
 use Rattle.link_model.specs.NothingDropped.{LiesInObject}
+use Rattle.link_model.proofs.Rules.{rules}
 use Rattle.link_model.proofs.Tables.{any-firsts}
 use Rattle.link_model.proofs.Members.{In, here, there, in_left, in_map, in_filter, in_flat_map, any_in, Found, found, found_as, finds, placed, position_is, item_at}
 use Rattle.link_model.proofs.KeyTests.{origin_equal, joining, in_one_object}
@@ -33,6 +34,7 @@ in_class l s i =
     in_flat_map (λ c. filter (λ t. bytes_eq t.class c) (segments l)) c.inside (in_filter (λ (t : Part). bytes_eq t.class c.item) i c.passes)
 
 has_segment : (l : Link) (p : Part) → In p (parts l) → Found (joins p) (ordered l)
+unfolding rules
 has_segment l p i =
     let s = found (joins p) (segments l) (any-firsts joining p (parts l) ∙ any_in (joins p) i (joining.refl p)) in
     record { item = s.item; inside = in_left (own_stacks l) (in_class l s.item s.inside); passes = s.passes }
@@ -65,6 +67,7 @@ in_push x (z ∷ xs) y here = inl here
 in_push x (z ∷ xs) y (there i) = elim (in_push x xs y i) as (λ s. In x (z ∷ xs) ⊎ (y ≡ x)) [ inl j ↦ inl (there j) | inr e ↦ inr e ]
 
 rows_stand : (l : Link) (earlier : List Row) (ss : List Part) → ((r : Row) → In r earlier → Stands l r) → ((s : Part) → In s ss → In s (ordered l)) → (r : Row) → In r (rows_after l earlier ss) → Stands l r
+unfolding rules
 rows_stand l earlier [] all sub r i = all r i
 rows_stand l earlier (s ∷ ss) all sub r i =
     let new : Row = row_after l earlier s in
@@ -83,6 +86,7 @@ pub record HasRow (l : Link) (p : Part) : Type 0 where
   pub stands : Stands l row
 
 pub has_row : (l : Link) (p : Part) → In p (parts l) → HasRow l p
+unfolding rules
 has_row l p i =
     let s = has_segment l p i in
     let same = segments_of_rows l [] (ordered l) in
@@ -106,6 +110,7 @@ max_in {r = r} n {rs = q ∷ rs} here =
 max_in {r = r} n {rs = q ∷ rs} (there i) = max_in (max n q.end) i
 
 row_within : (l : Link) (r : Row) → In r (rows l) → r.end ≤ end_in r.object (rows l)
+unfolding rules
 row_within l r i = max_in 0 (in_filter (λ (q : Row). q.object == r.object) i (eq-eqb r.object r.object refl))
 
 -- ---- the object of a row
@@ -128,6 +133,7 @@ abbrev IsObject : Link → ℕ → Type 0
 IsObject l n = IsSomeAnd (item (objects l) n) (λ o. o.size ≡ end_in n (rows l))
 
 object_there : (l : Link) (k : ℕ) → k < length (object_heads l) → IsObject l (suc k)
+unfolding rules
 object_there l k h =
     let head = item_at (object_heads l) k h in
     let f : ℕ × Part → ℕ × ℕ = λ q. (end_in q.0 (rows l), flags_of l q.1) in
@@ -136,6 +142,7 @@ object_there l k h =
     subst (λ (n : ℕ). IsSomeAnd (slice_get (objects l) k) (λ o. o.size ≡ end_in n (rows l))) same at
 
 numbered_object : (l : Link) (s : Part) → In s (ordered l) → IsObject l (object_number l s)
+unfolding rules
 numbered_object l s i =
     let test : Part → Bool = λ h. same_object (object_key l s) (object_key l h) in
     let any : list_any test (object_heads l) ≡ true = any-firsts (in_one_object l) s (ordered l) ∙ any_in test i ((in_one_object l).refl s) in
@@ -189,6 +196,7 @@ row_fits_by true start far near len long h g = h
 row_fits_by false start far near len long h g = g
 
 part_in_row : (l : Link) (r : Row) (o : Origin) (p : Part) → find (λ t. same_origin t.origin o) (parts l) ≡ Some p → joins r.segment p ≡ true → p.origin ≡ o → offset_in l r p + p.len ≤ segment_end l r.start r.segment
+unfolding rules
 part_in_row l r o p e joined same =
     let ps : List Part = parts_of l r.segment in
     let found : find (λ t. same_origin t.origin o) ps ≡ Some p = find_kept (λ t. same_origin t.origin o) (joins r.segment) (parts l ++ own_stacks l) p joined (find-append (λ t. same_origin t.origin o) (parts l) (own_stacks l) ∙ ap (λ (t : Option Part). option_or t (find (λ t. same_origin t.origin o) (own_stacks l))) e) in
@@ -207,6 +215,7 @@ size_by None n m h le = h
 size_by (Some x) n m h le = omega (arith, h, le)
 
 pub part_stands : (l : Link) (o : Origin) (p : Part) → find (λ t. same_origin t.origin o) (parts l) ≡ Some p → IsSomeAnd (place_of_origin l o) (LiesInObject l p.len)
+unfolding rules
 part_stands l o p e =
     let is = found_as (λ t. same_origin t.origin o) (parts l) p e in
     let r = has_row l p is.inside in

@@ -13,6 +13,7 @@ use Rattle.link_model.specs.Symbols.{commons}
 use Rattle.link_model.specs.Parts.{Origin, Segment, Communal, same_origin, Part, of_seg, contributions_in, contributions}
 use Rattle.link_model.specs.Communals.{of_common, communals, parts}
 use Rattle.link_model.specs.NothingDropped.{SegmentsStand, CommunalsStand}
+use Rattle.link_model.proofs.Rules.{rules}
 use Rattle.link_model.proofs.RowsStand.{part_stands}
 
 abbrev of : Origin → Part → Bool
@@ -66,10 +67,12 @@ among_modules b n i (suc k) (x ∷ ms) m p at e h =
     find-append (of (Segment n i)) (contributions_in b x) rest ∙ (ap (λ (t : Option Part). option_or t (find (of (Segment n i)) rest)) none ∙ among_modules (b + 1) n i k ms m p later e h)
 
 in_parts : (l : Link) (o : Origin) (p : Part) → find (of o) (contributions l) ≡ Some p → find (of o) (parts l) ≡ Some p
+unfolding rules
 in_parts l o p e =
     find-append (of o) (contributions l) (communals l) ∙ ap (λ (t : Option Part). option_or t (find (of o) (communals l))) e
 
 pub segments_stand : SegmentsStand
+unfolding rules
 segments_stand l zero index m s em es plain = absurd (true≢false (sym (ap is_some em)))
 segments_stand l (suc n) zero m s em es plain = absurd (true≢false (sym (ap is_some es)))
 segments_stand l (suc n) (suc index) m s em es plain =
@@ -104,6 +107,7 @@ communal_found l b slot (suc k) (x ∷ cs) c at e =
     ap (λ (t : Bool). cond t (Some (of_common l b x.1)) (find (of (Communal slot)) (map (communal l) (enumerate_from (b + 1) cs)))) (ne_eqb b slot (λ same. omega (arith, at, same))) ∙ communal_found l (b + 1) slot k cs c later e
 
 pub communals_stand : CommunalsStand
+unfolding rules
 communals_stand l slot c e =
     let from_0 : slot ≡ 0 + slot = omega arith in
     let found = communal_found l 0 slot slot (commons l) c from_0 e in

@@ -19,6 +19,7 @@ use Rattle.link_model.specs.Fixups.{Fixup, fixups, fixup_of, standing_in}
 use Rattle.link_model.specs.Value.{EntryPoints, World, Value}
 use Rattle.link_model.specs.Mean.{overlap, live, live_fixups, fixup_covers, live_at, PlacedPiece, data_at, value_at, Mean}
 use Rattle.link_model.specs.OneSegment.{covers, standing, value, mean_by, one_segment_mean, Apart, IsOneSegment, fix_of, one_segment, alone, only_pick}
+use Rattle.link_model.proofs.Rules.{rules}
 use Rattle.link_model.proofs.PlainBytes.{wrapped_small, four_bytes, sum_wrapped, in_piece, number_at}
 
 abbrev pub link : List ℕ → List ℕ → List ℕ → List ℕ → ℕ → Link
@@ -42,12 +43,14 @@ placed m place =
 
 all_placed :
     (name bytes places stem : List ℕ) (base : ℕ) (ps : List ℕ) → filter_map (fixup_of (link name bytes places stem base) 1 (one_segment name bytes places)) (map fix_of ps) ≡ map (placed (one_segment name bytes places)) ps
+unfolding rules
 all_placed name bytes places stem base [] = refl
 all_placed name bytes places stem base (p ∷ ps) =
     ap (λ t. placed (one_segment name bytes places) p ∷ t) (all_placed name bytes places stem base ps)
 
 pub fixups-link :
     (name bytes places stem : List ℕ) (base : ℕ) → fixups (link name bytes places stem base) ≡ map (placed (one_segment name bytes places)) places
+unfolding rules
 fixups-link name bytes places stem base =
     append-nil (filter_map (fixup_of (link name bytes places stem base) 1 (one_segment name bytes places)) (map fix_of places)) ∙ all_placed name bytes places stem base places
 
@@ -112,6 +115,7 @@ standing-placed name bytes places p =
 
 pub Value-placed :
     (name bytes places stem : List ℕ) (base at : ℕ) (imp : EntryPoints) (p : ℕ) → Value (link name bytes places stem base) (record { bases = at ∷ []; imp = imp }) (placed (one_segment name bytes places) p) ≡ Some (value at bytes p)
+unfolding rules
 Value-placed name bytes places stem base at imp p =
     let v : ℕ = wrapped (wrapped (wrapped (at + 0) + 0) + standing_in (one_segment name bytes places) (fix_of p)) in
     let same : v ≡ (at + standing bytes p) % 4294967296 = sum_wrapped at (standing_in (one_segment name bytes places) (fix_of p)) ∙ ap (λ (n : ℕ). (at + n) % 4294967296) (standing-placed name bytes places p) in
@@ -121,6 +125,7 @@ Value-placed name bytes places stem base at imp p =
 
 pub data_at-link :
     (name bytes places stem : List ℕ) (base x : ℕ) → data_at (link name bytes places stem base) 1 x ≡ slice_index bytes x
+unfolding rules
 data_at-link name [] places stem base x = refl
 data_at-link name (b ∷ bytes) places stem base x =
     in_piece (λ (p : PlacedPiece). slice_index p.bytes (x - p.offset)) (record { object = 1; offset = 0; bytes = b ∷ bytes }) (b ∷ bytes) x (ap (λ (n : ℕ). slice_index (b ∷ bytes) n) (sub-zero x))
@@ -131,6 +136,7 @@ in_page bytes (p ∷ ps) len h = let first = h.0 in (omega arith, in_page bytes 
 
 pub live_at-link :
     (name bytes places stem : List ℕ) (base x : ℕ) → IsOneSegment bytes places → live_at (link name bytes places stem base) 1 x ≡ option_map (placed (one_segment name bytes places)) (find (covers x) places)
+unfolding rules
 live_at-link name bytes places stem base x one =
     let m = one_segment name bytes places in
     let inside = in_page bytes places one.one_page one.within in
@@ -149,6 +155,7 @@ found_in_page x (p ∷ ps) hs =
 -- The byte of a value where a fixup was found, else of the data.
 byte_found :
     (name bytes places stem : List ℕ) (base at : ℕ) (imp : EntryPoints) (x : ℕ) (found : Option ℕ) → IfSome found InPage → unwrap_or (option_and_then (value_at (link name bytes places stem base) (record { bases = at ∷ []; imp = imp }) x) (option_map (placed (one_segment name bytes places)) found)) (slice_index bytes x) ≡ mean_by at bytes x found
+unfolding rules
 byte_found name bytes places stem base at imp x None h = refl
 byte_found name bytes places stem base at imp x (Some p) h =
     let e : wrapped (0 + p) ≡ p = wrapped_small p (omega (arith, h)) in
@@ -156,6 +163,7 @@ byte_found name bytes places stem base at imp x (Some p) h =
 
 pub Mean-link :
     (name bytes places stem : List ℕ) (base at : ℕ) (imp : EntryPoints) (x : ℕ) → IsOneSegment bytes places → Mean (link name bytes places stem base) (record { bases = at ∷ []; imp = imp }) 1 x ≡ one_segment_mean at bytes places x
+unfolding rules
 Mean-link name bytes places stem base at imp x one =
     let l = link name bytes places stem base in
     let w : World = record { bases = at ∷ []; imp = imp } in

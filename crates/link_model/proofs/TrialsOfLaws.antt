@@ -17,6 +17,7 @@ use Rattle.link_model.specs.Mean.{Mean}
 use Rattle.link_model.specs.Exports.{Out}
 use Rattle.link_model.specs.Refusal.{link_refusal}
 use Rattle.link_model.specs.Defaults.{default_def}
+use Rattle.link_model.proofs.Rules.{rules}
 use Rattle.link_model.proofs.Samples.{linked, seg, piece, fix, at_bases, public, constant, extern, comdef, import, export, code32, code16}
 
 abbrev debug_segment : ObjModule
@@ -41,32 +42,41 @@ of_all_kinds =
     } ∷ debug_segment ∷ [])
 
 is_accepted : link_refusal of_all_kinds ≡ None
+unfolding rules
 is_accepted = refl
 
 externals_mean : map (λ q. is_some (Sym of_all_kinds q.0 q.1)) (externals of_all_kinds) ≡ true ∷ true ∷ true ∷ true ∷ []
+unfolding rules
 externals_mean = refl
 
 -- The second object has the 16-bit segment alone, the third the communal.
 sizes : map (λ o. o.size) (objects of_all_kinds) ≡ 24 ∷ 6 ∷ 12 ∷ []
+unfolding rules
 sizes = refl
 
 segments_stand : spot of_all_kinds 1 1 ∷ spot of_all_kinds 2 2 ∷ common_spot of_all_kinds 0 ∷ [] ≡ Some (1, 0) ∷ Some (2, 0) ∷ Some (3, 0) ∷ []
+unfolding rules
 segments_stand = refl
 
 -- A debug segment has no spot.
 debug_has_none : spot of_all_kinds 2 1 ≡ None
+unfolding rules
 debug_has_none = refl
 
 fixups_stay : map (λ q. q.fix) (fixups of_all_kinds) ≡ fixes
+unfolding rules
 fixups_stay = refl
 
 values_fit : map (λ q. length (value_bytes of_all_kinds (at_bases (0x10000 ∷ 0x20000 ∷ 0x30000 ∷ [])) q)) (fixups of_all_kinds) ≡ 4 ∷ 4 ∷ 4 ∷ 4 ∷ 2 ∷ 4 ∷ []
+unfolding rules
 values_fit = refl
 
 exports_stay : map {B = ℕ × List ℕ} (λ x. (x.ordinal, x.name)) (Out of_all_kinds) ≡ (2, codes "P") ∷ (3, codes "I") ∷ (1, codes "C") ∷ []
+unfolding rules
 exports_stay = refl
 
 -- The bytes of each live fixup, at other bases than the linked ones: 5 and what stands there, the public, the import,
 -- the communal, 0, and a tiled pointer.
 live_bytes : map (λ x. Mean of_all_kinds (at_bases (0x10000 ∷ 0x20000 ∷ 0x30000 ∷ [])) 1 x) (0 ∷ 1 ∷ 4 ∷ 6 ∷ 10 ∷ 14 ∷ 16 ∷ 18 ∷ 20 ∷ []) ≡ 6 ∷ 1 ∷ 2 ∷ 1 ∷ 1 ∷ 3 ∷ 0 ∷ 0 ∷ 15 ∷ []
+unfolding rules
 live_bytes = refl

@@ -8,6 +8,7 @@ use Rattle.link_model.specs.Link.{Link}
 use Rattle.link_model.specs.Fixups.{Fixup, fix_refusal}
 use Rattle.link_model.specs.Value.{World, relative_to_segment, relative_to_self, value_bytes, place_address, sum_number, target_number, target_flags}
 use Rattle.link_model.specs.NothingDropped.{ValuesFit}
+use Rattle.link_model.proofs.Rules.{rules}
 
 length-little : (n v : ℕ) → length (little_bytes n v) ≡ n
 length-little zero v = refl
@@ -38,6 +39,7 @@ bytes_fit_by true a b n ea eb = ea
 bytes_fit_by false a b n ea eb = eb
 
 pub bytes_fit : (l : Link) (w : World) (q : Fixup) → 0 < location_len q.fix.loc → length (value_bytes l w q) ≡ location_len q.fix.loc
+unfolding rules
 bytes_fit l w q h =
     bytes_fit_by q.fix.selfrel (relative_to_self q.fix.loc (place_address w q.object q.offset) (sum_number l w q)) (relative_to_segment q.fix.loc (target_number l w q) (sum_number l w q) (target_flags l w q.target) q.narrow) (location_len q.fix.loc) (length-little (location_len q.fix.loc) _) (segment_fits (target_number l w q) (sum_number l w q) (target_flags l w q.target) q.fix.loc q.narrow h)
 
@@ -46,5 +48,6 @@ is_bytes true bytes all e = absurd (true≢false (sym (ap is_some e)))
 is_bytes false bytes all e = ap (λ (o : Option (List ℕ)). unwrap_or o bytes) e
 
 pub values_fit : ValuesFit
+unfolding rules
 values_fit l w q bytes h e =
     ap length (sym (is_bytes (is_some (fix_refusal q)) bytes (value_bytes l w q) e)) ∙ bytes_fit l w q h

@@ -40,5 +40,5 @@ of_common l slot c =
 abbrev pub communals : Link → List Part
 communals l = map (λ q. of_common l q.0 q.1.1) (enumerate_from 0 (commons l))
 
-abbrev pub parts : Link → List Part
+unfoldable pub parts : Link → List Part
 parts l = contributions l ++ communals l

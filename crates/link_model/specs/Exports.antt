@@ -69,7 +69,7 @@ abbrev pub asked_ordinals : Link → List (Option ℕ)
 asked_ordinals l = map (λ x. x.ordinal) (exports l)
 
 -- The exports in order: EXPDEF records in chosen order, then EXPORTS.
-abbrev pub Out : Link → List Export
+unfoldable pub Out : Link → List Export
 Out l = filter_map (λ q. export_of l q.0 q.1) (zip (ordinals (asked_ordinals l)) (exports l))
 
 -- ---- refusals
@@ -89,6 +89,6 @@ abbrev pub name_twice : List (List ℕ) → Option EntryRefusal
 name_twice names = option_map NameTwice (first_conflict bytes_eq [] names)
 
 -- The refusal, in this order.
-abbrev pub entry_refusal : Link → Option EntryRefusal
+unfoldable pub entry_refusal : Link → Option EntryRefusal
 entry_refusal l =
     first_of (wrong_ordinal (asked_ordinals l) ∷ ordinal_past MAX_NUMBER (asked_ordinals l) ∷ name_twice (map (λ x. x.name) (exports l)) ∷ [])

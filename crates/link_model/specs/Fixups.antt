@@ -63,7 +63,7 @@ fixup_of l n m f =
     option_and_then (λ target. option_map (fixup_at l n m f target) (location l n f)) (target_of l n f.goal)
 
 -- All fixups, in chosen order and in file order.
-abbrev pub fixups : Link → List Fixup
+unfoldable pub fixups : Link → List Fixup
 fixups l = of_modules l (λ n m. filter_map (fixup_of l n m) m.fixes)
 
 -- ---- refusals, which no base changes
@@ -107,7 +107,7 @@ abbrev pub is_const_selector : Fixup → Bool
 is_const_selector q = has_selector q.fix.loc && is_constant q.target
 
 -- The refusal of a fixup, by its module, segment and offset. Of one fixup at most one is due.
-abbrev pub fix_refusal : Fixup → Option FixRefusal
+unfoldable pub fix_refusal : Fixup → Option FixRefusal
 fix_refusal q =
     if is_far_self q then Some (FarSelf q.by q.fix.seg q.fix.offset)
     else if is_frame_apart q then Some (FrameApart q.by q.fix.seg q.fix.offset)

@@ -49,7 +49,7 @@ object_of_group l g =
 
 -- A segment goal is its contribution's start, and a group goal its object's start. FLAT and a group without
 -- members are the constant 0.
-abbrev pub target_of : Link → ℕ → Goal → Option Target
+unfoldable pub target_of : Link → ℕ → Goal → Option Target
 target_of l n (goals.Seg index) = internal (spot l n index)
 target_of l n (goals.Ext index) = of_external l n index
 target_of l n (goals.Group index) =

@@ -6,13 +6,13 @@ use Rattle.link_model.specs.Groups.{DGROUP}
 use Rattle.link_model.specs.Goals.{object_of_group}
 
 -- The name of NAME or LIBRARY, else the stem; in upper case, as all names of modules are written.
-abbrev pub module_name : Link → List ℕ
+unfoldable pub module_name : Link → List ℕ
 module_name l = uppercase (unwrap_or l.def.name l.stem)
 
 -- The text of DESCRIPTION, in its own case, else the module's name.
-abbrev pub description : Link → List ℕ
+unfoldable pub description : Link → List ℕ
 description l = if length l.def.about == 0 then module_name l else l.def.about
 
 -- The automatic data object: that of DGROUP, or 0 where no module declares that group or it has no members.
-abbrev pub auto_data : Link → ℕ
+unfoldable pub auto_data : Link → ℕ
 auto_data l = unwrap_or (object_of_group l DGROUP) 0

@@ -1,6 +1,6 @@
 -- The import modules and the names of import procedures ("Import module name table", "Import procedure name table" in
 -- the LX document), in order of first use.
-use Rattle.std.specs.Prelude.{ℕ, ◌+◌, List, ◌++◌, ◌∷◌, Option, Some, None, map, length, take, slice_get, bytes_eq, sum_by}
+use Rattle.std.specs.Prelude.{◌≡◌, ℕ, suc, drop, ◌+◌, List, ◌++◌, ◌∷◌, Option, Some, None, map, length, take, slice_get, bytes_eq, sum_by}
 use Rattle.std.specs.List.{filter_map, flat_map}
 use Rattle.std.specs.Option.{option_map, option_and_then}
 use Rattle.lx_types.specs.Names.{uppercase}
@@ -22,7 +22,7 @@ pair_used l (Constant value) = None
 pair_used l (Entry slot) = slice_get (imports l) slot
 
 -- The import pairs that records name.
-abbrev pub used_pairs : Link → List Imp
+unfoldable pub used_pairs : Link → List Imp
 used_pairs l = filter_map (λ q. pair_used l q.target) (recorded l)
 
 abbrev pub proc_name : EntryKey → Option (List ℕ)
@@ -42,7 +42,7 @@ abbrev pub forwarded : ExportTarget → Option Imp
 forwarded (At o offset) = None
 forwarded (Forward pair) = Some pair
 
-abbrev pub link_pairs : Link → List Imp
+unfoldable pub link_pairs : Link → List Imp
 link_pairs l = used_pairs l ++ filter_map (λ x. forwarded x.target) (Out l)
 
 -- ---- how a record names an entry point
@@ -76,3 +76,8 @@ with_offset names (leads.Internal object offset) = leads.Internal object offset
 with_offset names (leads.Ordinal number ordinal) = leads.Ordinal number ordinal
 with_offset names (leads.Named number k) = leads.Named number (name_offset names k)
 with_offset names (leads.Own ordinal) = leads.Own ordinal
+
+-- At its offset a name stands behind its length, and behind it the names that follow.
+abbrev pub NamesAtOffsets : Type 0
+NamesAtOffsets =
+    (names : List (List ℕ)) (k : ℕ) (name : List ℕ) → slice_get names k ≡ Some name → drop (name_offset names k) (name_table names) ≡ name_bytes name ++ flat_map name_bytes (drop (suc k) names)

@@ -29,7 +29,7 @@ placed_from base [] = []
 placed_from base (q ∷ qs) = record { size = q.0; base = base; flags = q.1 } ∷ placed_from (base + room q.0) qs
 
 -- The objects, numbered from 1.
-abbrev pub objects : Link → List LaidObject
+unfoldable pub objects : Link → List LaidObject
 objects l =
     placed_from (first_base l) (map (λ q. (end_in q.0 (rows l), flags_of l q.1)) (enumerate_from 1 (object_heads l)))
 
@@ -49,12 +49,12 @@ place_of_origin l o =
     option_and_then (place_of_part l) (find (λ p. same_origin p.origin o) (parts l))
 
 -- The place of segment `index` of chosen module n, and of a communal.
-abbrev pub spot : Link → ℕ → ℕ → Option (ℕ × ℕ)
+unfoldable pub spot : Link → ℕ → ℕ → Option (ℕ × ℕ)
 spot l n index = place_of_origin l (Segment n index)
 
-abbrev pub common_spot : Link → ℕ → Option (ℕ × ℕ)
+unfoldable pub common_spot : Link → ℕ → Option (ℕ × ℕ)
 common_spot l slot = place_of_origin l (Communal slot)
 
 -- The stack pointer at the start is the end of the stack segment.
-abbrev pub stack_top : Link → Option (ℕ × ℕ)
+unfoldable pub stack_top : Link → Option (ℕ × ℕ)
 stack_top l = option_map (λ r. (r.object, r.end)) (stack_row l)

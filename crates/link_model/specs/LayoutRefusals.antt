@@ -57,5 +57,5 @@ too_large l =
     option_map (λ q. TooLarge q.1.segment.name) (find (λ q. passes_limits (take q.0 (rows l)) q.1) (enumerate_from 1 (rows l)))
 
 -- The refusal, in this order.
-abbrev pub lay_refusal : Link → Option LayRefusal
+unfoldable pub lay_refusal : Link → Option LayRefusal
 lay_refusal l = first_of (absolute l ∷ use_mixed l ∷ group_split l ∷ too_large l ∷ [])

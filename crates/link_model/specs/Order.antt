@@ -41,7 +41,7 @@ abbrev pub own_stacks : Link → List Part
 own_stacks l = if is_program l.def.kind && not (list_any is_stack (parts l)) then own_stack ∷ [] else []
 
 -- The logical segments in the order in which they stand; the linker's own stack is the last.
-abbrev pub ordered : Link → List Part
+unfoldable pub ordered : Link → List Part
 ordered l = by_class l ++ own_stacks l
 
 -- The parts of a logical segment, in order.

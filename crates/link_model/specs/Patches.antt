@@ -16,7 +16,7 @@ abbrev pub is_patched : Fixup → Bool
 is_patched q = is_constant q.target || q.fix.selfrel && stays_in_object q
 
 -- The live fixups that get records, in chosen order and in file order.
-abbrev pub recorded : Link → List Fixup
+unfoldable pub recorded : Link → List Fixup
 recorded l = filter (λ q. not (is_patched q)) (live_fixups l)
 
 -- ---- bytes
@@ -29,9 +29,9 @@ abbrev pub patch_at : Link → ℕ → Fixup → ℕ
 patch_at l x q = if is_patched q then slice_index (value_bytes l (linked_world l) q) (x - q.offset) else 0
 
 -- Byte x of an object before the loader: of a patch, 0 where a record's field stands, else of the data.
-abbrev pub page_byte : Link → ℕ → ℕ → ℕ
+unfoldable pub page_byte : Link → ℕ → ℕ → ℕ
 page_byte l object x = option_map_or (patch_at l x) (live_at l object x) (data_at l object x)
 
 -- The bytes of all objects.
-abbrev pub object_bytes : Link → List (List ℕ)
+unfoldable pub object_bytes : Link → List (List ℕ)
 object_bytes l = map (λ q. map (page_byte l q.0) (range_with_len 0 q.1.size)) (enumerate_from 1 (objects l))

@@ -57,13 +57,13 @@ abbrev pub stands_on : ℕ → ℕ → Fixup → Bool
 stands_on object k q = q.object == object && nat_lt (k * PAGE_SIZE) (fixup_end q) && nat_lt q.offset (k * PAGE_SIZE + PAGE_SIZE)
 
 -- The records of page k of an object, in chosen order and in file order.
-abbrev pub page_records : Link → ℕ → ℕ → List Fix
+unfoldable pub page_records : Link → ℕ → ℕ → List Fix
 page_records l object k = filter_map (record_on l k) (filter (stands_on object k) (recorded l))
 
 abbrev pub page_count : ℕ → ℕ
 page_count size = (size + (PAGE_SIZE - 1)) / PAGE_SIZE
 
 -- The records of all objects, by object and page.
-abbrev pub object_records : Link → List (List (List Fix))
+unfoldable pub object_records : Link → List (List (List Fix))
 object_records l =
     map (λ q. map (page_records l q.0) (range_with_len 0 (page_count q.1.size))) (enumerate_from 1 (objects l))

@@ -14,10 +14,10 @@ use Rattle.link_model.specs.Exports.{entry_refusal}
 
 -- Of a link whose names have meanings and whose segments have a layout: the refusal of the first fixup that has one,
 -- in chosen order and in file order, then that of the start.
-abbrev pub place_refusal : Link → Option FixRefusal
+unfoldable pub place_refusal : Link → Option FixRefusal
 place_refusal l = first_of (map fix_refusal (fixups l) ++ start_outside l ∷ [])
 
 -- Symbols are tried first, then the layout, the fixups with the start, and the exports.
-abbrev pub link_refusal : Link → Option LinkRefusal
+unfoldable pub link_refusal : Link → Option LinkRefusal
 link_refusal l =
     first_of (option_map Sym (sym_refusal l) ∷ option_map Lay (lay_refusal l) ∷ option_map Fixing (place_refusal l) ∷ option_map Entry (entry_refusal l) ∷ [])

@@ -78,7 +78,7 @@ abbrev pub rows_after : Link → List Row → List Part → List Row
 rows_after l earlier [] = earlier
 rows_after l earlier (s ∷ ss) = rows_after l (earlier ++ row_after l earlier s ∷ []) ss
 
-abbrev pub rows : Link → List Row
+unfoldable pub rows : Link → List Row
 rows l = rows_after l [] (ordered l)
 
 -- ---- look-ups

@@ -33,10 +33,10 @@ abbrev pub place_of_start : Link → ℕ × StartAt → Option (ℕ × ℕ)
 place_of_start l q = option_and_then (start_place l q.1) (target_of l q.0 q.1.goal)
 
 -- The start's object and offset.
-abbrev pub Start : Link → Option (ℕ × ℕ)
+unfoldable pub Start : Link → Option (ℕ × ℕ)
 Start l = option_and_then (place_of_start l) (first_start l)
 
 -- `StartOutside`: the start is in no object.
-abbrev pub start_outside : Link → Option FixRefusal
+unfoldable pub start_outside : Link → Option FixRefusal
 start_outside l =
     option_and_then (λ q. if is_some (place_of_start l q) then None else Some (StartOutside q.0)) (first_start l)

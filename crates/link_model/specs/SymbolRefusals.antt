@@ -56,5 +56,5 @@ abbrev pub imports_many : Link → Option SymRefusal
 imports_many l = imports_past MAX_NUMBER l
 
 -- The refusal, in this order. Where there is none, every external has a meaning.
-abbrev pub sym_refusal : Link → Option SymRefusal
+unfoldable pub sym_refusal : Link → Option SymRefusal
 sym_refusal l = first_of (twice l ∷ missing_external l ∷ missing_export l ∷ imports_many l ∷ [])

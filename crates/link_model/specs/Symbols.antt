@@ -48,7 +48,7 @@ definitions_in n m = map (of_public n) (filter (λ p. not p.local) m.pubs) ++ ma
 abbrev pub definitions : Link → List Definition
 definitions l = of_modules l definitions_in ++ map (of_import 0) l.def.imports
 
-abbrev pub definition_of : Link → List ℕ → Option Definition
+unfoldable pub definition_of : Link → List ℕ → Option Definition
 definition_of l name = find (λ d. bytes_eq d.name name) (definitions l)
 
 -- ---- imports
@@ -85,7 +85,7 @@ pair_of (Imported pair) = Some pair
 
 -- The import pairs that the link knows, in order of definition. Pairs that are equal count once under one
 -- name, in the first spelling. A pair's slot is its place here, from 0.
-abbrev pub imports : Link → List Imp
+unfoldable pub imports : Link → List Imp
 imports l =
     firsts_by same_import import_key (filter_map (λ d. pair_of d.meaning) (definitions l))
 
@@ -104,7 +104,7 @@ greatest_len l name = fold (λ len c. max len c.1.len) 0 (filter (λ c. bytes_eq
 
 -- The communals: each name without definition that a COMDEF has, in order of its first COMDEF. A communal's
 -- slot is its place here, from 0.
-abbrev pub commons : Link → List (List ℕ × Common)
+unfoldable pub commons : Link → List (List ℕ × Common)
 commons l =
     map (λ c. (c.0, record { far = c.1.far; len = greatest_len l c.0 }))
     (firsts_by bytes_eq (λ c. c.0) (filter (λ c. is_none (definition_of l c.0)) (comdefs l)))
@@ -121,7 +121,7 @@ by_definition l d (Imported pair) =
     option_map (λ slot. means.Import slot) (place_by same_import import_key (import_key pair) (imports l))
 
 -- The meaning of a name that is not local.
-abbrev pub global : Link → List ℕ → Option SymDef
+unfoldable pub global : Link → List ℕ → Option SymDef
 global l name =
     option_or (option_and_then (λ d. by_definition l d d.meaning) (definition_of l name))
     (option_map (λ slot. means.Common slot) (place_by bytes_eq (λ c. c.0) name (commons l)))
@@ -132,5 +132,5 @@ local_meaning l n name =
     option_and_then (λ m. option_map (λ p. at_place n p.place) (find (λ p. p.local && bytes_eq p.name name) m.pubs)) (chosen_module l n)
 
 -- The meaning of an external of module n.
-abbrev pub Sym : Link → ℕ → Ext → Option SymDef
+unfoldable pub Sym : Link → ℕ → Ext → Option SymDef
 Sym l n e = if e.local then local_meaning l n e.name else global l e.name

@@ -85,10 +85,10 @@ abbrev pub sum_number : Link → World → Fixup → ℕ
 sum_number l w q = wrapped (target_number l w q + q.standing)
 
 -- The bytes that the location gets, unless the fixup is refused.
-abbrev pub value_bytes : Link → World → Fixup → List ℕ
+unfoldable pub value_bytes : Link → World → Fixup → List ℕ
 value_bytes l w q =
     if q.fix.selfrel then relative_to_self q.fix.loc (place_address w q.object q.offset) (sum_number l w q)
     else relative_to_segment q.fix.loc (target_number l w q) (sum_number l w q) (target_flags l w q.target) q.narrow
 
-abbrev pub Value : Link → World → Fixup → Option (List ℕ)
+unfoldable pub Value : Link → World → Fixup → Option (List ℕ)
 Value l w q = if is_some (fix_refusal q) then None else Some (value_bytes l w q)

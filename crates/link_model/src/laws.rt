@@ -3,6 +3,7 @@ ghost use Rattle.link_model.specs.Appearance.{NameTables};
 ghost use Rattle.link_model.specs.ChosenOnce.{ChosenOnce};
 ghost use Rattle.link_model.specs.Fixing.{LiveApart, PatchesStand};
 ghost use Rattle.link_model.specs.Numbers.{LinkNumbers};
+ghost use Rattle.link_model.specs.ImportTables.{NamesAtOffsets};
 ghost use Rattle.link_model.specs.NothingDropped.{ChosenAreWhole, CommunalsStand, ExportsStay, ExternalsMean, FixupsStay, LiveFixupsMean, SegmentsStand, ValuesFit};
 ghost use Rattle.link_model.specs.OneSegment.{OneSegmentLaw};
 
@@ -74,4 +75,9 @@ pub fn live_fixups_give_their_values()
 /// order, by its name and with its ordinal.
 pub fn no_export_is_dropped()
     ensures { ExportsStay }
+{}
+
+/// In the table of procedure names of a written module, each name stands at its offset.
+pub fn names_stand_at_their_offsets()
+    ensures { NamesAtOffsets }
 {}
