@@ -14,7 +14,8 @@ use Rattle.obj_types.specs.declared.symbol.PubPlace.TheVariants as places
 use Rattle.obj_types.specs.declared.symbol.Ext.{Ext}
 use Rattle.obj_types.specs.declared.symbol.Imp.{Imp}
 use Rattle.obj_types.specs.Items.{item, IsIndex}
-use Rattle.obj_types.specs.Whole.{IsPlainSeg, WholePlace, WholeFix, WholeGoal, WholeModule}
+use Rattle.obj_types.specs.Location.{location_len}
+use Rattle.obj_types.specs.Whole.{IsPlainSeg, LiesIn, WholePlace, WholeFix, WholeGoal, WholeModule}
 use Rattle.link_model.specs.declared.symbols.SymDef.{SymDef}
 use Rattle.link_model.specs.declared.symbols.SymDef.TheVariants as means
 use Rattle.link_model.specs.Appearance.{place_by}
@@ -237,11 +238,14 @@ weaker : {X : Type 0} (o : Option X) (P Q : X → Type 0) → ((x : X) → P x �
 weaker None P Q f h = h
 weaker (Some x) P Q f h = f x h
 
+pub lies_stands : (l : Link) (n : ℕ) (m : ObjModule) (seg offset len : ℕ) → chosen_module l n ≡ Some m → LiesIn m seg offset len → IsSome (spot l n seg)
+lies_stands l n m seg offset len em h =
+    plain_stands l n seg m em (weaker (item m.segs seg) _ (λ s. s.debug ≡ false) (λ s both. both.0) h)
+
 fixup_there : (l : Link) (n : ℕ) (m : ObjModule) (f : FixAt) → WholeLink l → sym_refusal l ≡ None → chosen_module l n ≡ Some m → WholeFix m f → IsSomeAnd (fixup_of l n m f) (λ x. x.fix ≡ f)
 unfolding rules
 fixup_there l n m f whole e em h =
-    let plain : IsPlainSeg m f.seg = weaker (item m.segs f.seg) _ (λ s. s.debug ≡ false) (λ s both. both.0) h.place in
-    fixup_by l n m f (target_of l n f.goal) (spot l n f.seg) (goal_target l n m f.goal whole e em h.goal) (plain_stands l n f.seg m em plain)
+    fixup_by l n m f (target_of l n f.goal) (spot l n f.seg) (goal_target l n m f.goal whole e em h.goal) (lies_stands l n m f.seg f.offset (location_len f.loc) em h.place)
 
 stays_by : (f : FixAt) (o : Option Fixup) (rest : List Fixup) (fs : List FixAt) → IsSomeAnd o (λ x. x.fix ≡ f) → map (λ x. x.fix) rest ≡ fs → map (λ x. x.fix) (cons_option o rest) ≡ f ∷ fs
 stays_by f None rest fs h e = absurd h
@@ -251,7 +255,7 @@ stay : (h : FixAt → Option Fixup) (fs : List FixAt) → ((f : FixAt) → In f 
 stay h [] all = refl
 stay h (f ∷ fs) all = stays_by f (h f) (filter_map h fs) fs (all f here) (stay h fs (λ g i. all g (there i)))
 
-map-both : {X Y : Type 0} (f : X → Y) (xs ys : List X) → map f (xs ++ ys) ≡ map f xs ++ map f ys
+pub map-both : {X Y : Type 0} (f : X → Y) (xs ys : List X) → map f (xs ++ ys) ≡ map f xs ++ map f ys
 map-both f [] ys = refl
 map-both f (x ∷ xs) ys = ap (λ t. f x ∷ t) (map-both f xs ys)
 

@@ -22,5 +22,6 @@ pub mod SegmentsStand
 pub mod ExternalsMean
 pub mod LiveMeans
 pub mod FixupsStay
+pub mod PiecesStay
 pub mod ExportsStay
 pub mod NamesAtOffsets

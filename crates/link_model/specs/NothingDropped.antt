@@ -20,7 +20,7 @@ use Rattle.link_model.specs.SymbolRefusals.{sym_refusal}
 use Rattle.link_model.specs.Layout.{objects, spot, common_spot}
 use Rattle.link_model.specs.Fixups.{Fixup, fixups}
 use Rattle.link_model.specs.Value.{World, value_bytes, Value}
-use Rattle.link_model.specs.Mean.{fixup_end, live_fixups, Mean}
+use Rattle.link_model.specs.Mean.{fixup_end, live_fixups, pieces, Mean}
 use Rattle.link_model.specs.Exports.{asked_ordinals, ordinals, Out}
 use Rattle.link_model.specs.Refusal.{place_refusal}
 
@@ -52,6 +52,11 @@ CommunalsStand =
 abbrev pub FixupsStay : Type 0
 FixupsStay =
     (l : Link) → WholeLink l → sym_refusal l ≡ None → map (λ q. q.fix) (fixups l) ≡ flat_map (λ m. m.fixes) l.modules
+
+-- So is all their data.
+abbrev pub PiecesStay : Type 0
+PiecesStay =
+    (l : Link) → WholeLink l → map (λ p. p.bytes) (pieces l) ≡ flat_map (λ m. map (λ p. p.bytes) m.pieces) l.modules
 
 -- A value has as many bytes as its location.
 abbrev pub ValuesFit : Type 0

@@ -20,7 +20,7 @@ pub use keys::{ObjectKey, Origin, SegmentKey};
 pub use laws::{
     chosen_modules_are_whole, externals_have_meanings, link_numbers_are_the_formats,
     live_fixups_are_apart, live_fixups_give_their_values, modules_are_chosen_once,
-    no_export_is_dropped, no_fixup_is_dropped, names_stand_at_their_offsets, one_segment_links_plainly,
+    no_export_is_dropped, no_fixup_is_dropped, no_data_is_dropped, names_stand_at_their_offsets, one_segment_links_plainly,
     patches_stand_at_all_bases, segments_stand_in_objects, tables_grow_by_new_keys,
     values_fit_their_locations,
 };
