@@ -1,5 +1,5 @@
 //! Laws over the definitions, each the contract of a function that does nothing.
-ghost use Rattle.link_model.specs.Appearance.{NameTables};
+ghost use Rattle.link_model.specs.Appearance.{NamesAppear};
 ghost use Rattle.link_model.specs.ChosenOnce.{ChosenOnce};
 ghost use Rattle.link_model.specs.Fixing.{LiveApart, PatchesStand};
 ghost use Rattle.link_model.specs.Numbers.{LinkNumbers};
@@ -34,10 +34,10 @@ pub fn link_numbers_are_the_formats()
     ensures { LinkNumbers }
 {}
 
-/// A table by first appearance gets one more item last, unless its key is there; it has the keys of all
-/// items, and each once.
+/// A table by first appearance gets one more item last, unless its key is there. A key that is there keeps its
+/// place and its first item, and none stands twice.
 pub fn tables_grow_by_new_keys()
-    ensures { NameTables }
+    ensures { NamesAppear }
 {}
 
 /// A value has as many bytes as its location.
