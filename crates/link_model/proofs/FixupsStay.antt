@@ -167,6 +167,10 @@ unfolding rules
 sym_by l n m name true d whole em e = local_there l n m name d whole em e
 sym_by l n m name false d whole em e = global_there l name d whole e
 
+pub sym_there : (l : Link) (n : ℕ) (m : ObjModule) (e : Ext) (d : SymDef) → WholeLink l → chosen_module l n ≡ Some m → Sym l n e ≡ Some d → IsThere l d
+unfolding rules
+sym_there l n m e d whole em is = sym_by l n m e.name e.local d whole em is
+
 -- ---- targets
 
 mapped : {X Y : Type 0} (f : X → Y) (o : Option X) → IsSome o → IsSome (option_map f o)

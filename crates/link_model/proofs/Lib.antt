@@ -23,5 +23,6 @@ pub mod ExternalsMean
 pub mod LiveMeans
 pub mod FixupsStay
 pub mod PiecesStay
+pub mod RecordsStay
 pub mod ExportsStay
 pub mod NamesAtOffsets

@@ -58,7 +58,7 @@ is_live_by y qs rest true i more = there (more i)
 is_live_by y qs rest false here more = here
 is_live_by y qs rest false (there i) more = there (more i)
 
-is_live : (qs : List Fixup) {q : Fixup} → In q (live qs) → In q qs
+pub is_live : (qs : List Fixup) {q : Fixup} → In q (live qs) → In q qs
 is_live [] i = i
 is_live (y ∷ qs) i = is_live_by y qs (live qs) (list_any (overlap y) qs) i (λ j. is_live qs j)
 

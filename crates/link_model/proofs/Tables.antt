@@ -1,5 +1,5 @@
 -- Tables by first appearance: one more item, look-ups, and that no key stands twice.
-use Rattle.std.specs.Prelude.{◌≡◌, ℕ, suc, ◌+◌, Option, Some, length, Bool, true, false, cond, not, ◌||◌, List, [], ◌∷◌, ◌++◌, filter, bytes_eq, refl}
+use Rattle.std.specs.Prelude.{◌≡◌, ℕ, suc, ◌+◌, Some, length, Bool, true, false, cond, not, ◌||◌, List, [], ◌∷◌, ◌++◌, filter, bytes_eq, refl}
 use Rattle.std.specs.List.{find, list_any, position, position_or_len, AllPairs}
 use Rattle.std.specs.Cmp.{IsEquivalence}
 use Rattle.std.specs.Cmp.Lexicographic.{nat_list_eq_equiv, on_texts_equal}

@@ -1,5 +1,5 @@
 -- Values and bytes, tried on small inputs: each line is a value that the rules give by hand.
-use Rattle.std.specs.Prelude.{◌≡◌, ℕ, true, false, List, [], ◌∷◌, Some, None, refl, codes, map}
+use Rattle.std.specs.Prelude.{◌≡◌, ℕ, true, false, List, [], ◌∷◌, Some, None, refl, codes, map, if◌then◌else◌, bytes_eq}
 use Rattle.std.specs.List.{range_with_len}
 use Rattle.lx_types.specs.declared.entry.EntryKey.TheVariants.{Ordinal}
 use Rattle.obj_types.specs.declared.object.FixAt.{FixAt}
@@ -12,6 +12,7 @@ use Rattle.link_model.specs.declared.refusals.FixRefusal.TheVariants.{FarSelf, F
 use Rattle.link_model.specs.Link.{Link}
 use Rattle.link_model.specs.Layout.{objects}
 use Rattle.link_model.specs.Fixups.{fixups}
+use Rattle.link_model.specs.Value.{World}
 use Rattle.link_model.specs.Mean.{live_fixups, Mean}
 use Rattle.link_model.specs.Start.{Start}
 use Rattle.link_model.specs.Refusal.{place_refusal}
@@ -84,6 +85,24 @@ imported =
 imported_bytes : bytes imported 1 4 ≡ 5 ∷ 0 ∷ 1 ∷ 0 ∷ []
 unfolding rules
 imported_bytes = refl
+
+-- A world is asked by the module's name in upper case, however a module spells it.
+abbrev with_lib : World
+with_lib =
+    record { bases = 0x10000000 ∷ []; imp = λ from entry. if bytes_eq from (codes "LIB") then record { address = 0x20000; flags = 0x2005 } else record { address = 0; flags = 0 } }
+
+abbrev spelled : List ℕ → Link
+spelled from =
+    library
+    (record (code_module (0 ∷ 0 ∷ 0 ∷ 0 ∷ []) (fix 1 0 9 false frames.OfTarget (goals.Ext 1) 0 ∷ [])) { exts = extern (codes "f") ∷ []; imports = import (codes "f") from (Ordinal 1) ∷ [] } ∷ [])
+
+lower_case : map (Mean (spelled (codes "lib")) with_lib 1) (range_with_len 0 4) ≡ 0 ∷ 0 ∷ 2 ∷ 0 ∷ []
+unfolding rules
+lower_case = refl
+
+mixed_case : map (Mean (spelled (codes "Lib")) with_lib 1) (range_with_len 0 4) ≡ 0 ∷ 0 ∷ 2 ∷ 0 ∷ []
+unfolding rules
+mixed_case = refl
 
 -- ---- live fixups
 

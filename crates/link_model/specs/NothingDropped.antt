@@ -2,7 +2,7 @@
 --
 -- `fixups`, `pieces` and `Out` leave out what has no place, and `Mean` has the data where a value is missing. These
 -- laws say that none is left out and none is missing.
-use Rattle.std.specs.Prelude.{◌≡◌, ℕ, ◌+◌, ◌-◌, ◌<◌, ◌≤◌, false, List, Some, None, IsSome, map, length, slice_get, slice_index}
+use Rattle.std.specs.Prelude.{◌≡◌, ℕ, ◌+◌, ◌-◌, ◌<◌, ◌≤◌, false, List, Some, None, IsSome, map, filter, length, slice_get, slice_index}
 use Rattle.std.specs.List.{All, Contains, flat_map}
 use Rattle.std.specs.Option.{IsSomeAnd}
 use Rattle.obj_types.specs.declared.object.ObjModule.{ObjModule}
@@ -23,6 +23,8 @@ use Rattle.link_model.specs.Value.{World, value_bytes, Value}
 use Rattle.link_model.specs.Mean.{fixup_end, live_fixups, pieces, Mean}
 use Rattle.link_model.specs.Exports.{asked_ordinals, ordinals, Out}
 use Rattle.link_model.specs.Refusal.{place_refusal}
+use Rattle.link_model.specs.Patches.{recorded}
+use Rattle.link_model.specs.Records.{offset_on, stands_on, page_records}
 
 -- The chosen modules are whole, as the readers of object files make sure.
 abbrev pub WholeLink : Link → Type 0
@@ -67,6 +69,11 @@ ValuesFit =
 abbrev pub LiveFixupsMean : Type 0
 LiveFixupsMean =
     (l : Link) (w : World) (q : Fixup) (x : ℕ) → place_refusal l ≡ None → Contains (live_fixups l) q → q.offset ≤ x → x < fixup_end q → Mean l w q.object x ≡ slice_index (value_bytes l w q) (x - q.offset)
+
+-- Each live fixup that is not patched has a record on each page on which it stands, in order.
+abbrev pub RecordsStay : Type 0
+RecordsStay =
+    (l : Link) (object k : ℕ) → WholeLink l → sym_refusal l ≡ None → map (λ r. r.offset) (page_records l object k) ≡ map (offset_on k) (filter (stands_on object k) (recorded l))
 
 -- There is one export for each that is asked, in order, by its name and with its ordinal.
 pub record ExportsOf (l : Link) : Type 0 where

@@ -1,6 +1,6 @@
 -- The fixup records that are left to the loader ("Fixup record table" in the LX document). A target by name has the
 -- name's place in `procs_in`; `with_offset` gives its offset in a file.
-use Rattle.std.specs.Prelude.{ℕ, ◌+◌, ◌-◌, ◌*◌, ◌/◌, Bool, ◌&&◌, ◌||◌, List, Option, Some, None, map, if◌then◌else◌, nat_lt, nat_le, ◌==◌, slice_get, filter, pos, ◌-ℤ◌}
+use Rattle.std.specs.Prelude.{ℕ, ℤ, ◌+◌, ◌-◌, ◌*◌, ◌/◌, Bool, ◌&&◌, ◌||◌, List, Option, Some, None, map, if◌then◌else◌, nat_lt, nat_le, ◌==◌, slice_get, filter, pos, ◌-ℤ◌}
 use Rattle.std.specs.List.{filter_map, range_with_len, enumerate_from}
 use Rattle.std.specs.Option.{option_map, option_and_then}
 use Rattle.lx_types.specs.Addresses.{UNIT}
@@ -46,10 +46,14 @@ target_and_additive l q (Entry slot) =
     option_map (λ target. (target, wrapped (q.fix.disp + q.standing)))
     (option_and_then (import_target (used_pairs l)) (slice_get (imports l) slot))
 
--- The record on page k of the location's object. Where the field began in the page before, its offset is negative.
+-- A field's offset on page k. Where the field began in the page before, it is negative.
+abbrev pub offset_on : ℕ → Fixup → ℤ
+offset_on k q = pos q.offset -ℤ pos (k * PAGE_SIZE)
+
+-- The record on page k of the location's object.
 abbrev pub record_on : Link → ℕ → Fixup → Option Fix
 record_on l k q =
-    option_map (λ t. record { source = source_of q; alias = has_alias q; offset = pos q.offset -ℤ pos (k * PAGE_SIZE); target = t.0; additive = t.1 })
+    option_map (λ t. record { source = source_of q; alias = has_alias q; offset = offset_on k q; target = t.0; additive = t.1 })
     (target_and_additive l q q.target)
 
 -- A field stands on each page that has a byte of it.

@@ -4,7 +4,7 @@ ghost use Rattle.link_model.specs.ChosenOnce.{ChosenOnce};
 ghost use Rattle.link_model.specs.Fixing.{LiveApart, PatchesStand};
 ghost use Rattle.link_model.specs.Numbers.{LinkNumbers};
 ghost use Rattle.link_model.specs.ImportTables.{NamesAtOffsets};
-ghost use Rattle.link_model.specs.NothingDropped.{ChosenAreWhole, CommunalsStand, ExportsStay, ExternalsMean, FixupsStay, LiveFixupsMean, PiecesStay, SegmentsStand, ValuesFit};
+ghost use Rattle.link_model.specs.NothingDropped.{ChosenAreWhole, CommunalsStand, ExportsStay, ExternalsMean, FixupsStay, LiveFixupsMean, PiecesStay, RecordsStay, SegmentsStand, ValuesFit};
 ghost use Rattle.link_model.specs.OneSegment.{OneSegmentLaw};
 
 /// A link of one object module with one 32-bit code segment, whose fixups are 32-bit references to the
@@ -64,6 +64,12 @@ pub fn segments_stand_in_objects()
 /// Where the names of a link of whole modules are not refused, all fixups of its modules are there, in order.
 pub fn no_fixup_is_dropped()
     ensures { FixupsStay }
+{}
+
+/// Where the names of a link of whole modules are not refused, each live fixup that is not patched has a record on
+/// each page on which it stands.
+pub fn no_record_is_dropped()
+    ensures { RecordsStay }
 {}
 
 /// All data of a link of whole modules is there, in order.
