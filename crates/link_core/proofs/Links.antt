@@ -2,11 +2,10 @@
 use Rattle.std.proofs.Common.{◌≡◌, ℕ, ◌+◌, ◌≤◌, ◌<◌, List, [], ◌∷◌, length, map, ap, sym, ◌∙◌, subst, Some}
 use Rattle.std.specs.List.{AllByRecursion, range_with_len}
 use Rattle.lx_types.specs.Names.{uppercase}
-use Rattle.obj_types.specs.declared.symbol.Imp.{Imp}
 use Rattle.obj_types.specs.declared.input.LinkInput.{LinkInput}
 use Rattle.link_model.specs.OneSegment.{OneSegmentLaw, LinksOneSegment, IsOneSegment, alone, one_segment_mean, only_pick}
 use Rattle.link_model.specs.Link.{link_of}
-use Rattle.link_model.specs.Value.{Far}
+use Rattle.link_model.specs.Value.{EntryPoints}
 use Rattle.link_model.specs.Mean.{Mean}
 use Rattle.first_form.specs.Segment.{Segment, IsSegment}
 use Rattle.first_form.specs.ObjectFile.{Form, IsForm, object_module_of, segment, places}
@@ -27,7 +26,7 @@ is_one_segment s is = record { one_page = is.one_page; within = within_data s.by
 -- The link's object at its linked base has the bytes of the plain equation.
 bytes_alone : (form : Form) (stem : List ℕ) (at : ℕ) (m : OneObject)
     → LinksOneSegment (alone (object_module_of form) stem at) form.bytes (places form.fixups) at
-    → IsForm form → IsLinked (uppercase stem) at (segment form) m → (imp : Imp → Far)
+    → IsForm form → IsLinked (uppercase stem) at (segment form) m → (imp : EntryPoints)
     → object_bytes (link_of (alone (object_module_of form) stem at) only_pick) imp 1 m.size ≡ image m
 bytes_alone form stem at m law whole linked imp =
     let l = link_of (alone (object_module_of form) stem at) only_pick in

@@ -8,18 +8,19 @@ use Rattle.std.proofs.Math.ListN.{get_or-eq_default}
 use Rattle.std.proofs.lemmas.List.{get_or-take, get_or-drop}
 use Rattle.std.proofs.lemmas.Bool.{ltb-false}
 use Rattle.std.proofs.Math.Dec.{leb-zero}
-use Rattle.link_model.specs.Words.{wrapped, little_endian, number_of}
+use Rattle.lx_bytes.specs.LittleEndian.{little_bytes, little}
+use Rattle.link_model.specs.Words.{wrapped}
 
 pub wrapped_small : (a : ℕ) → a < 4294967296 → wrapped (0 + a) ≡ a
 wrapped_small a h = mod-eq_of_lt (omega arith) ∙ zero-add a
 
 -- The four low bytes, both ways of writing them.
-pub four_bytes : (v : ℕ) → little_endian 4 v ≡ to_le_bytes w32 v
+pub four_bytes : (v : ℕ) → little_bytes 4 v ≡ to_le_bytes w32 v
 four_bytes v =
     rw (div-div-eq-div-mul (v / 256) 256 256, div-div-eq-div-mul v 256 256, div-div-eq-div-mul v 256 65536) refl
 
 -- The number of four bytes.
-pub four_number : (a b c d : ℕ) → number_of (a ∷ b ∷ c ∷ d ∷ []) ≡ from_le_bytes w32 (a ∷ b ∷ c ∷ d ∷ [])
+pub four_number : (a b c d : ℕ) → little (a ∷ b ∷ c ∷ d ∷ []) ≡ from_le_bytes w32 (a ∷ b ∷ c ∷ d ∷ [])
 four_number a b c d = omega arith
 
 collapsed : (at : ℕ) → ((at + 0) % 4294967296 + 0) % 4294967296 ≡ at % 4294967296
@@ -47,7 +48,7 @@ pub at_place :
 at_place bytes place i h = get_or-take 4 (drop place bytes) i 0 h ∙ get_or-drop place bytes i 0
 
 pub number_at :
-    (bytes : List ℕ) (place : ℕ) → number_of (slice_index bytes place ∷ slice_index bytes (place + 1) ∷ slice_index bytes (place + 1 + 1) ∷ slice_index bytes (place + 1 + 1 + 1) ∷ []) ≡ from_le_bytes w32 (take 4 (drop place bytes))
+    (bytes : List ℕ) (place : ℕ) → little (slice_index bytes place ∷ slice_index bytes (place + 1) ∷ slice_index bytes (place + 1 + 1) ∷ slice_index bytes (place + 1 + 1 + 1) ∷ []) ≡ from_le_bytes w32 (take 4 (drop place bytes))
 number_at bytes place =
     let zeroth : place + 0 ≡ place = add-zero place in
     let second : place + 1 + 1 ≡ place + 2 = omega arith in

@@ -34,11 +34,11 @@ abbrev pub with_segs : List Seg → ObjModule
 with_segs segs = record empty_module { segs = segs }
 
 abbrev pub linked : DefFile → List ObjModule → Link
-linked def modules = record { modules = modules; def = def }
+linked def modules = record { modules = modules; def = def; stem = codes "S" }
 
 -- A world of these bases in which imports lead to 10000h.
 abbrev pub at_bases : List ℕ → World
-at_bases bases = record { bases = bases; imp = λ pair. record { address = 65536; flags = 8197 } }
+at_bases bases = record { bases = bases; imp = λ from entry. record { address = 65536; flags = 8197 } }
 
 -- ---- names
 

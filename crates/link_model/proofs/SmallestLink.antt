@@ -11,15 +11,15 @@ use Rattle.std.proofs.lemmas.List.{append-nil}
 use Rattle.std.proofs.lemmas.List.Elements.{recursion_from_All}
 use Rattle.obj_types.specs.declared.object.ObjModule.{ObjModule}
 use Rattle.obj_types.specs.declared.object.Piece.{Piece}
-use Rattle.obj_types.specs.declared.symbol.Imp.{Imp}
 use Rattle.link_model.specs.Words.{wrapped}
 use Rattle.link_model.specs.Link.{Link, link_of}
 use Rattle.link_model.specs.Data.{Data}
 use Rattle.link_model.specs.Goals.{Internal}
 use Rattle.link_model.specs.Fixups.{Fixup, fixups, fixup_of, standing_in}
-use Rattle.link_model.specs.Value.{Far, World, Value}
+use Rattle.link_model.specs.Value.{EntryPoints, World, Value}
 use Rattle.link_model.specs.Mean.{overlap, live, live_fixups, fixup_covers, live_at, PlacedPiece, data_at, value_at, Mean}
 use Rattle.link_model.specs.OneSegment.{covers, standing, value, mean_by, one_segment_mean, Apart, IsOneSegment, fix_of, one_segment, alone, only_pick}
+use Rattle.link_model.proofs.Rules.{rules}
 use Rattle.link_model.proofs.PlainBytes.{wrapped_small, four_bytes, sum_wrapped, in_piece, number_at}
 
 abbrev pub link : List ℕ → List ℕ → List ℕ → List ℕ → ℕ → Link
@@ -43,12 +43,14 @@ placed m place =
 
 all_placed :
     (name bytes places stem : List ℕ) (base : ℕ) (ps : List ℕ) → filter_map (fixup_of (link name bytes places stem base) 1 (one_segment name bytes places)) (map fix_of ps) ≡ map (placed (one_segment name bytes places)) ps
+unfolding rules
 all_placed name bytes places stem base [] = refl
 all_placed name bytes places stem base (p ∷ ps) =
     ap (λ t. placed (one_segment name bytes places) p ∷ t) (all_placed name bytes places stem base ps)
 
 pub fixups-link :
     (name bytes places stem : List ℕ) (base : ℕ) → fixups (link name bytes places stem base) ≡ map (placed (one_segment name bytes places)) places
+unfolding rules
 fixups-link name bytes places stem base =
     append-nil (filter_map (fixup_of (link name bytes places stem base) 1 (one_segment name bytes places)) (map fix_of places)) ∙ all_placed name bytes places stem base places
 
@@ -112,7 +114,8 @@ standing-placed name bytes places p =
     rw (Data-module name bytes places p, Data-module name bytes places (p + 1), Data-module name bytes places (p + 1 + 1), Data-module name bytes places (p + 1 + 1 + 1)) (number_at bytes p)
 
 pub Value-placed :
-    (name bytes places stem : List ℕ) (base at : ℕ) (imp : Imp → Far) (p : ℕ) → Value (link name bytes places stem base) (record { bases = at ∷ []; imp = imp }) (placed (one_segment name bytes places) p) ≡ Some (value at bytes p)
+    (name bytes places stem : List ℕ) (base at : ℕ) (imp : EntryPoints) (p : ℕ) → Value (link name bytes places stem base) (record { bases = at ∷ []; imp = imp }) (placed (one_segment name bytes places) p) ≡ Some (value at bytes p)
+unfolding rules
 Value-placed name bytes places stem base at imp p =
     let v : ℕ = wrapped (wrapped (wrapped (at + 0) + 0) + standing_in (one_segment name bytes places) (fix_of p)) in
     let same : v ≡ (at + standing bytes p) % 4294967296 = sum_wrapped at (standing_in (one_segment name bytes places) (fix_of p)) ∙ ap (λ (n : ℕ). (at + n) % 4294967296) (standing-placed name bytes places p) in
@@ -122,6 +125,7 @@ Value-placed name bytes places stem base at imp p =
 
 pub data_at-link :
     (name bytes places stem : List ℕ) (base x : ℕ) → data_at (link name bytes places stem base) 1 x ≡ slice_index bytes x
+unfolding rules
 data_at-link name [] places stem base x = refl
 data_at-link name (b ∷ bytes) places stem base x =
     in_piece (λ (p : PlacedPiece). slice_index p.bytes (x - p.offset)) (record { object = 1; offset = 0; bytes = b ∷ bytes }) (b ∷ bytes) x (ap (λ (n : ℕ). slice_index (b ∷ bytes) n) (sub-zero x))
@@ -132,6 +136,7 @@ in_page bytes (p ∷ ps) len h = let first = h.0 in (omega arith, in_page bytes 
 
 pub live_at-link :
     (name bytes places stem : List ℕ) (base x : ℕ) → IsOneSegment bytes places → live_at (link name bytes places stem base) 1 x ≡ option_map (placed (one_segment name bytes places)) (find (covers x) places)
+unfolding rules
 live_at-link name bytes places stem base x one =
     let m = one_segment name bytes places in
     let inside = in_page bytes places one.one_page one.within in
@@ -149,14 +154,16 @@ found_in_page x (p ∷ ps) hs =
 
 -- The byte of a value where a fixup was found, else of the data.
 byte_found :
-    (name bytes places stem : List ℕ) (base at : ℕ) (imp : Imp → Far) (x : ℕ) (found : Option ℕ) → IfSome found InPage → unwrap_or (option_and_then (value_at (link name bytes places stem base) (record { bases = at ∷ []; imp = imp }) x) (option_map (placed (one_segment name bytes places)) found)) (slice_index bytes x) ≡ mean_by at bytes x found
+    (name bytes places stem : List ℕ) (base at : ℕ) (imp : EntryPoints) (x : ℕ) (found : Option ℕ) → IfSome found InPage → unwrap_or (option_and_then (value_at (link name bytes places stem base) (record { bases = at ∷ []; imp = imp }) x) (option_map (placed (one_segment name bytes places)) found)) (slice_index bytes x) ≡ mean_by at bytes x found
+unfolding rules
 byte_found name bytes places stem base at imp x None h = refl
 byte_found name bytes places stem base at imp x (Some p) h =
     let e : wrapped (0 + p) ≡ p = wrapped_small p (omega (arith, h)) in
     ap (λ (o : Option (List ℕ)). unwrap_or (option_map (λ (b : List ℕ). slice_index b (x - wrapped (0 + p))) o) (slice_index bytes x)) (Value-placed name bytes places stem base at imp p) ∙ ap (λ (n : ℕ). slice_index (value at bytes p) (x - n)) e
 
 pub Mean-link :
-    (name bytes places stem : List ℕ) (base at : ℕ) (imp : Imp → Far) (x : ℕ) → IsOneSegment bytes places → Mean (link name bytes places stem base) (record { bases = at ∷ []; imp = imp }) 1 x ≡ one_segment_mean at bytes places x
+    (name bytes places stem : List ℕ) (base at : ℕ) (imp : EntryPoints) (x : ℕ) → IsOneSegment bytes places → Mean (link name bytes places stem base) (record { bases = at ∷ []; imp = imp }) 1 x ≡ one_segment_mean at bytes places x
+unfolding rules
 Mean-link name bytes places stem base at imp x one =
     let l = link name bytes places stem base in
     let w : World = record { bases = at ∷ []; imp = imp } in

@@ -13,6 +13,7 @@ use Rattle.link_model.specs.Choosing.{next_pick}
 use Rattle.link_model.specs.Symbols.{commons, imports, global}
 use Rattle.link_model.specs.SymbolRefusals.{sym_refusal, imports_past}
 use Rattle.link_model.specs.Defaults.{default_def}
+use Rattle.link_model.proofs.Rules.{rules}
 use Rattle.link_model.proofs.Samples.{linked, public, constant, extern, comdef, import, export, code32}
 
 -- ---- choosing: object 0 wants `f`; library module 0 defines `g` and module 1 defines `f` and wants `h`
@@ -40,13 +41,16 @@ library k = record { lib = true; index = k }
 
 -- The module that defines `f` is chosen; the one that defines `g`, which nobody wants, never is.
 f_is_drawn : next_pick (with_library (codes "i")) (object0 ∷ []) ≡ Some (library 1)
+unfolding rules
 f_is_drawn = refl
 
 nothing_more : next_pick (with_library (codes "i")) (object0 ∷ library 1 ∷ []) ≡ None
+unfolding rules
 nothing_more = refl
 
 -- A chosen library module draws others.
 h_is_drawn : next_pick (with_library (codes "h")) (object0 ∷ library 1 ∷ []) ≡ Some (library 2)
+unfolding rules
 h_is_drawn = refl
 
 -- ---- refusals
@@ -55,12 +59,14 @@ abbrev x_and_y : Link
 x_and_y = linked (default_def Library None) (record empty_module { exts = extern (codes "x") ∷ extern (codes "y") ∷ [] } ∷ [])
 
 missing_x : sym_refusal x_and_y ≡ Some (Missing (codes "x"))
+unfolding rules
 missing_x = refl
 
 abbrev m_and_m : Link
 m_and_m = linked (default_def Library None) (has (codes "m") ∷ has (codes "m") ∷ [])
 
 twice_m : sym_refusal m_and_m ≡ Some (Twice (codes "m") 1 2)
+unfolding rules
 twice_m = refl
 
 -- An item of IMPORTS beside a public: the definition file is number 0.
@@ -69,6 +75,7 @@ m_and_import =
     linked (record (default_def Library None) { imports = import (codes "m") (codes "LIB") (Ordinal 1) ∷ [] }) (has (codes "m") ∷ [])
 
 twice_in_def : sym_refusal m_and_import ≡ Some (Twice (codes "m") 1 0)
+unfolding rules
 twice_in_def = refl
 
 -- An export of a constant means nothing, and so does one of a name without definition.
@@ -78,6 +85,7 @@ exports_constant =
     (record empty_module { pubs = constant (codes "k") 5 ∷ []; exports = export (codes "K") (codes "k") None ∷ [] } ∷ [])
 
 missing_constant : sym_refusal exports_constant ≡ Some (Missing (codes "k"))
+unfolding rules
 missing_constant = refl
 
 -- Two modules are one too many where one is allowed.
@@ -87,9 +95,11 @@ two_imports =
     (record empty_module { imports = import (codes "a") (codes "LIB") (Ordinal 1) ∷ import (codes "b") (codes "OTHER") (Ordinal 1) ∷ import (codes "c") (codes "lib") (Named (codes "c")) ∷ [] } ∷ [])
 
 many_imports : imports_past 1 two_imports ≡ Some (ImportsMany 2)
+unfolding rules
 many_imports = refl
 
 few_imports : sym_refusal two_imports ≡ None
+unfolding rules
 few_imports = refl
 
 -- ---- meanings
@@ -101,9 +111,11 @@ c_and_c =
     (record empty_module { exts = comdef (codes "c") false 4 ∷ [] } ∷ record empty_module { exts = comdef (codes "c") true 12 ∷ [] } ∷ [])
 
 one_communal : commons c_and_c ≡ (codes "c", record { far = false; len = 12 }) ∷ []
+unfolding rules
 one_communal = refl
 
 communal_meaning : global c_and_c (codes "c") ≡ Some (means.Common 0)
+unfolding rules
 communal_meaning = refl
 
 -- A public of the name takes the COMDEFs' place.
@@ -111,9 +123,11 @@ abbrev c_and_public : Link
 c_and_public = linked (default_def Library None) (record empty_module { exts = comdef (codes "c") false 4 ∷ [] } ∷ has (codes "c") ∷ [])
 
 no_communal : commons c_and_public ≡ []
+unfolding rules
 no_communal = refl
 
 public_meaning : global c_and_public (codes "c") ≡ Some (means.In 2 1 0)
+unfolding rules
 public_meaning = refl
 
 -- A local external means a local public of its own module alone.
@@ -123,6 +137,7 @@ local_names =
     (record empty_module { exts = record (extern (codes "m")) { local = true } ∷ [] } ∷ has (codes "m") ∷ [])
 
 local_is_missing : sym_refusal local_names ≡ Some (Missing (codes "m"))
+unfolding rules
 local_is_missing = refl
 
 -- Equal pairs count once under one name, and the first spelling stays.
@@ -132,10 +147,13 @@ same_pairs =
     (record empty_module { imports = import (codes "a") (codes "LIB") (Ordinal 1) ∷ import (codes "a") (codes "Lib") (Ordinal 1) ∷ import (codes "b") (codes "LIB") (Ordinal 1) ∷ [] } ∷ [])
 
 two_slots : imports same_pairs ≡ import (codes "a") (codes "LIB") (Ordinal 1) ∷ import (codes "b") (codes "LIB") (Ordinal 1) ∷ []
+unfolding rules
 two_slots = refl
 
 not_twice : sym_refusal same_pairs ≡ None
+unfolding rules
 not_twice = refl
 
 second_slot : global same_pairs (codes "b") ≡ Some (means.Import 1)
+unfolding rules
 second_slot = refl

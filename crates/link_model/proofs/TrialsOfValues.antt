@@ -1,5 +1,5 @@
 -- Values and bytes, tried on small inputs: each line is a value that the rules give by hand.
-use Rattle.std.specs.Prelude.{◌≡◌, ℕ, true, false, List, [], ◌∷◌, Some, None, refl, codes, map}
+use Rattle.std.specs.Prelude.{◌≡◌, ℕ, true, false, List, [], ◌∷◌, Some, None, refl, codes, map, if◌then◌else◌, bytes_eq}
 use Rattle.std.specs.List.{range_with_len}
 use Rattle.lx_types.specs.declared.entry.EntryKey.TheVariants.{Ordinal}
 use Rattle.obj_types.specs.declared.object.FixAt.{FixAt}
@@ -12,10 +12,13 @@ use Rattle.link_model.specs.declared.refusals.FixRefusal.TheVariants.{FarSelf, F
 use Rattle.link_model.specs.Link.{Link}
 use Rattle.link_model.specs.Layout.{objects}
 use Rattle.link_model.specs.Fixups.{fixups}
+use Rattle.link_model.specs.Value.{World}
 use Rattle.link_model.specs.Mean.{live_fixups, Mean}
-use Rattle.link_model.specs.Out.{At, Forward, Out, Start, place_refusal}
+use Rattle.link_model.specs.Start.{Start}
+use Rattle.link_model.specs.Refusal.{place_refusal}
 use Rattle.link_model.specs.Defaults.{default_def}
-use Rattle.link_model.proofs.Samples.{linked, piece, fix, at_bases, public, constant, extern, import, export, code32, data32, code16, common32, code_module}
+use Rattle.link_model.proofs.Rules.{rules}
+use Rattle.link_model.proofs.Samples.{linked, piece, fix, at_bases, constant, extern, import, code32, data32, code16, common32, code_module}
 
 abbrev library : List ObjModule → Link
 library modules = linked (default_def Library None) modules
@@ -34,9 +37,11 @@ abbrev to_itself : ℕ → FixAt
 to_itself offset = fix 1 offset 9 false (frames.Group 1) (goals.Seg 1) 0
 
 first_path : bytes (library (code_module (0 ∷ 0 ∷ 0 ∷ 0 ∷ 0 ∷ 0 ∷ 0 ∷ 0 ∷ []) (to_itself 4 ∷ []) ∷ [])) 1 8 ≡ 0 ∷ 0 ∷ 0 ∷ 0 ∷ 0 ∷ 0 ∷ 0 ∷ 0x10 ∷ []
+unfolding rules
 first_path = refl
 
 with_8_standing : bytes (library (code_module (0 ∷ 0 ∷ 0 ∷ 0 ∷ 8 ∷ 0 ∷ 0 ∷ 0 ∷ []) (to_itself 4 ∷ []) ∷ [])) 1 8 ≡ 0 ∷ 0 ∷ 0 ∷ 0 ∷ 8 ∷ 0 ∷ 0 ∷ 0x10 ∷ []
+unfolding rules
 with_8_standing = refl
 
 -- A call of offset 20h of its own segment.
@@ -45,6 +50,7 @@ call =
     library (record (code_module (0xE8 ∷ 0 ∷ 0 ∷ 0 ∷ 0 ∷ []) (fix 1 1 9 true frames.Here (goals.Seg 1) 0x20 ∷ [])) { segs = code32 0x30 ∷ [] } ∷ [])
 
 call_bytes : bytes call 1 5 ≡ 0xE8 ∷ 0x1B ∷ 0 ∷ 0 ∷ 0 ∷ []
+unfolding rules
 call_bytes = refl
 
 -- ---- far pointers
@@ -56,6 +62,7 @@ far_pointer =
     (record empty_module { segs = code16 (codes "A") 4 ∷ code16 (codes "B") 0x20 ∷ []; fixes = fix 1 0 3 false frames.OfTarget (goals.Seg 2) 0x10 ∷ [] } ∷ [])
 
 pointer_bytes : bytes far_pointer 1 4 ≡ 0x10 ∷ 0 ∷ 0x17 ∷ 0 ∷ []
+unfolding rules
 pointer_bytes = refl
 
 -- 16:32 pointers into wide objects have the flat selectors: 5Bh for code, 53h for data.
@@ -65,6 +72,7 @@ flat_pointers =
     (record empty_module { segs = code32 12 ∷ data32 4 ∷ []; fixes = fix 1 0 11 false frames.OfTarget (goals.Seg 1) 1 ∷ fix 1 6 11 false frames.OfTarget (goals.Seg 2) 2 ∷ [] } ∷ [])
 
 flat_bytes : bytes flat_pointers 1 12 ≡ 1 ∷ 0 ∷ 0 ∷ 0x10 ∷ 0x5B ∷ 0 ∷ 2 ∷ 0 ∷ 1 ∷ 0x10 ∷ 0x53 ∷ 0 ∷ []
+unfolding rules
 flat_bytes = refl
 
 -- ---- imports: they lead to 10000h here
@@ -75,7 +83,26 @@ imported =
     (record (code_module (1 ∷ 0 ∷ 0 ∷ 0 ∷ []) (fix 1 0 9 false frames.OfTarget (goals.Ext 1) 4 ∷ [])) { exts = extern (codes "f") ∷ []; imports = import (codes "f") (codes "LIB") (Ordinal 1) ∷ [] } ∷ [])
 
 imported_bytes : bytes imported 1 4 ≡ 5 ∷ 0 ∷ 1 ∷ 0 ∷ []
+unfolding rules
 imported_bytes = refl
+
+-- A world is asked by the module's name in upper case, however a module spells it.
+abbrev with_lib : World
+with_lib =
+    record { bases = 0x10000000 ∷ []; imp = λ from entry. if bytes_eq from (codes "LIB") then record { address = 0x20000; flags = 0x2005 } else record { address = 0; flags = 0 } }
+
+abbrev spelled : List ℕ → Link
+spelled from =
+    library
+    (record (code_module (0 ∷ 0 ∷ 0 ∷ 0 ∷ []) (fix 1 0 9 false frames.OfTarget (goals.Ext 1) 0 ∷ [])) { exts = extern (codes "f") ∷ []; imports = import (codes "f") from (Ordinal 1) ∷ [] } ∷ [])
+
+lower_case : map (Mean (spelled (codes "lib")) with_lib 1) (range_with_len 0 4) ≡ 0 ∷ 0 ∷ 2 ∷ 0 ∷ []
+unfolding rules
+lower_case = refl
+
+mixed_case : map (Mean (spelled (codes "Lib")) with_lib 1) (range_with_len 0 4) ≡ 0 ∷ 0 ∷ 2 ∷ 0 ∷ []
+unfolding rules
+mixed_case = refl
 
 -- ---- live fixups
 
@@ -89,12 +116,15 @@ abbrev overlapping : Link
 overlapping = library (shared (1 ∷ 2 ∷ 3 ∷ 4 ∷ []) 0 ∷ shared (5 ∷ []) 2 ∷ [])
 
 two_fixups : map (λ q. q.by) (fixups overlapping) ≡ 1 ∷ 2 ∷ []
+unfolding rules
 two_fixups = refl
 
 later_is_live : map (λ q. q.by) (live_fixups overlapping) ≡ 2 ∷ []
+unfolding rules
 later_is_live = refl
 
 overlapping_bytes : bytes overlapping 1 8 ≡ 5 ∷ 2 ∷ 0x44 ∷ 0 ∷ 0 ∷ 0x10 ∷ 0 ∷ 0 ∷ []
+unfolding rules
 overlapping_bytes = refl
 
 -- ---- refusals
@@ -103,33 +133,42 @@ abbrev refused : FixAt → List ObjModule
 refused f = record empty_module { segs = code32 0x1000 ∷ data32 8 ∷ []; pubs = constant (codes "k") 5 ∷ []; exts = extern (codes "k") ∷ []; fixes = f ∷ [] } ∷ []
 
 far_self : place_refusal (library (refused (fix 1 0 0 true frames.Here (goals.Seg 1) 129))) ≡ Some (FarSelf 1 1 0)
+unfolding rules
 far_self = refl
 
 near_self : place_refusal (library (refused (fix 1 0 0 true frames.Here (goals.Seg 1) 128))) ≡ None
+unfolding rules
 near_self = refl
 
 near_back : place_refusal (library (refused (fix 1 0x100 0 true frames.Here (goals.Seg 1) 0x81))) ≡ None
+unfolding rules
 near_back = refl
 
 far_back : place_refusal (library (refused (fix 1 0x100 0 true frames.Here (goals.Seg 1) 0x80))) ≡ Some (FarSelf 1 1 0x100)
+unfolding rules
 far_back = refl
 
 other_object : place_refusal (library (refused (fix 1 4 1 true frames.Here (goals.Seg 2) 0))) ≡ Some (FarSelf 1 1 4)
+unfolding rules
 other_object = refl
 
 self_to_constant : place_refusal (library (refused (fix 1 4 9 true frames.Here (goals.Ext 1) 0))) ≡ Some (FarSelf 1 1 4)
+unfolding rules
 self_to_constant = refl
 
 frame_apart : place_refusal (library (refused (fix 1 4 5 false (frames.Seg 1) (goals.Seg 2) 0))) ≡ Some (FrameApart 1 1 4)
+unfolding rules
 frame_apart = refl
 
 wide_never_apart : place_refusal (library (refused (fix 1 4 9 false (frames.Seg 1) (goals.Seg 2) 0))) ≡ None
+unfolding rules
 wide_never_apart = refl
 
 const_selector : place_refusal (library (refused (fix 1 4 2 false frames.OfTarget (goals.Ext 1) 0))) ≡ Some (ConstSelector 1 1 4)
+unfolding rules
 const_selector = refl
 
--- ---- the start, and exports
+-- ---- the start
 
 abbrev starts_at : ℕ → Link
 starts_at disp =
@@ -137,22 +176,9 @@ starts_at disp =
     (empty_module ∷ record empty_module { segs = code32 8 ∷ []; start = Some (record { frame = frames.OfTarget; goal = goals.Seg 1; disp = disp }) } ∷ [])
 
 start : Start (starts_at 7) ≡ Some (1, 7)
+unfolding rules
 start = refl
 
 start_outside : place_refusal (starts_at 8) ≡ Some (StartOutside 2)
+unfolding rules
 start_outside = refl
-
--- Ordinals 2 and 1 are given, so `G` gets 3; its name is resident. `H` leads to another module.
-abbrev exporting : Link
-exporting =
-    library
-    (record empty_module {
-      segs = code32 8 ∷ [];
-      pubs = public (codes "F") 1 0 ∷ public (codes "G") 1 4 ∷ [];
-      imports = import (codes "H") (codes "LIB") (Ordinal 9) ∷ [];
-      exports = export (codes "F") (codes "F") (Some 2) ∷ export (codes "G") (codes "G") None ∷ export (codes "H") (codes "H") (Some 1) ∷ [];
-    } ∷ [])
-
-three_exports :
-    Out exporting ≡ record { ordinal = 2; name = codes "F"; resident = false; exit = At 1 0 } ∷ record { ordinal = 3; name = codes "G"; resident = true; exit = At 1 4 } ∷ record { ordinal = 1; name = codes "H"; resident = false; exit = Forward (import (codes "H") (codes "LIB") (Ordinal 9)) } ∷ []
-three_exports = refl

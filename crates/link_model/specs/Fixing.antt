@@ -5,7 +5,7 @@ use Rattle.link_model.specs.Link.{Link}
 use Rattle.link_model.specs.Fixups.{Fixup}
 use Rattle.link_model.specs.Value.{World, Value}
 use Rattle.link_model.specs.Mean.{overlap, live}
-use Rattle.link_model.specs.Records.{is_patched}
+use Rattle.link_model.specs.Patches.{is_patched}
 
 -- No two live fixups share a byte, so the order in which they are written does not matter.
 abbrev pub LiveApart : Type 0

@@ -2,13 +2,14 @@
 use Rattle.std.specs.Prelude.{ℕ, ◌+◌, ◌-◌, ◌^◌, Bool, true, false, not, ◌&&◌, ◌||◌, List, Option, Some, None, if◌then◌else◌, nat_lt, ◌==◌}
 use Rattle.std.specs.List.{filter_map}
 use Rattle.std.specs.Option.{option_map, option_and_then}
+use Rattle.lx_bytes.specs.LittleEndian.{little}
 use Rattle.obj_types.specs.declared.object.ObjModule.{ObjModule}
 use Rattle.obj_types.specs.declared.object.FixAt.{FixAt}
 use Rattle.obj_types.specs.Items.{item}
 use Rattle.obj_types.specs.Location.{has_selector}
 use Rattle.link_model.specs.declared.refusals.FixRefusal.{FixRefusal}
 use Rattle.link_model.specs.declared.refusals.FixRefusal.TheVariants.{FarSelf, FrameApart, ConstSelector}
-use Rattle.link_model.specs.Words.{difference, number_of, option_any}
+use Rattle.link_model.specs.Words.{difference, option_any}
 use Rattle.link_model.specs.Link.{Link, of_modules}
 use Rattle.link_model.specs.Data.{data_bytes}
 use Rattle.link_model.specs.Goals.{Target, Internal, Constant, Entry, target_of, location, object_of_target, object_of_frame}
@@ -19,7 +20,7 @@ offset_width loc =
     if loc == 0 then 1 else if loc == 2 then 0 else if loc == 1 || loc == 5 || loc == 3 then 2 else 4
 
 abbrev pub standing_number : ObjModule → FixAt → ℕ
-standing_number m f = number_of (data_bytes m f.seg f.offset (offset_width f.loc))
+standing_number m f = little (data_bytes m f.seg f.offset (offset_width f.loc))
 
 -- A number of one byte, with its sign, modulo 2^32.
 abbrev pub signed_byte : ℕ → ℕ
@@ -62,7 +63,7 @@ fixup_of l n m f =
     option_and_then (λ target. option_map (fixup_at l n m f target) (location l n f)) (target_of l n f.goal)
 
 -- All fixups, in chosen order and in file order.
-abbrev pub fixups : Link → List Fixup
+unfoldable pub fixups : Link → List Fixup
 fixups l = of_modules l (λ n m. filter_map (fixup_of l n m) m.fixes)
 
 -- ---- refusals, which no base changes
@@ -106,7 +107,7 @@ abbrev pub is_const_selector : Fixup → Bool
 is_const_selector q = has_selector q.fix.loc && is_constant q.target
 
 -- The refusal of a fixup, by its module, segment and offset. Of one fixup at most one is due.
-abbrev pub fix_refusal : Fixup → Option FixRefusal
+unfoldable pub fix_refusal : Fixup → Option FixRefusal
 fix_refusal q =
     if is_far_self q then Some (FarSelf q.by q.fix.seg q.fix.offset)
     else if is_frame_apart q then Some (FrameApart q.by q.fix.seg q.fix.offset)

@@ -3,8 +3,10 @@ use Rattle.std.specs.Prelude.{ℕ, ◌+◌, ◌-◌, Bool, true, ◌&&◌, List,
 use Rattle.std.specs.List.{find}
 use Rattle.std.specs.Option.{option_map_or}
 use Rattle.lx_types.specs.Names.{uppercase}
+use Rattle.lx_types.specs.declared.object.TheConstants.{OBJECT_WRITABLE, OBJECT_EXECUTABLE, OBJECT_SHARED, OBJECT_ALIAS, OBJECT_BIG}
 use Rattle.obj_types.specs.declared.definition.Attrs.{Attrs}
 use Rattle.obj_types.specs.declared.definition.SegAttrs.{SegAttrs}
+use Rattle.link_model.specs.declared.limits.TheConstants.{OBJECT_READABLE, OBJECT_PRELOAD, OBJECT_CONFORMING, OBJECT_IOPL}
 use Rattle.link_model.specs.Link.{Link}
 use Rattle.link_model.specs.Parts.{Part}
 pub use Rattle.lx_types.specs.Addresses.{is_big, is_executable}
@@ -25,11 +27,10 @@ attrs_of l p =
 abbrev pub flag : Bool → ℕ → ℕ
 flag b value = if b then value else 0
 
--- Object flags: 1 read, 2 write, 4 execute, 20h shared, 40h preload, 4000h conforming, 8000h IOPL; 2000h
--- big for use32, and 1000h 16:16 alias for others.
+-- An object's flags: one for each attribute, big for use32, and the 16:16 alias for others.
 abbrev pub flags_with : Attrs → Bool → ℕ
 flags_with a wide =
-    flag a.read 1 + flag a.write 2 + flag a.exec 4 + flag a.shared 32 + flag a.preload 64 + flag a.conforming 16384 + flag a.iopl 32768 + (if wide then 8192 else 4096)
+    flag a.read OBJECT_READABLE + flag a.write OBJECT_WRITABLE + flag a.exec OBJECT_EXECUTABLE + flag a.shared OBJECT_SHARED + flag a.preload OBJECT_PRELOAD + flag a.conforming OBJECT_CONFORMING + flag a.iopl OBJECT_IOPL + (if wide then OBJECT_BIG else OBJECT_ALIAS)
 
 abbrev pub flags_of : Link → Part → ℕ
 flags_of l p = flags_with (attrs_of l p) p.wide

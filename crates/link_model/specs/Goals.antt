@@ -12,9 +12,9 @@ use Rattle.obj_types.specs.Items.{item}
 use Rattle.link_model.specs.Words.{wrapped}
 use Rattle.link_model.specs.Link.{Link, chosen_module}
 use Rattle.link_model.specs.Symbols.{Sym}
-use Rattle.link_model.specs.Groups.{FLAT, in_group, parts}
-use Rattle.link_model.specs.Order.{object_of}
-use Rattle.link_model.specs.Layout.{spot, common_spot}
+use Rattle.link_model.specs.Groups.{FLAT, in_group}
+use Rattle.link_model.specs.Communals.{parts}
+use Rattle.link_model.specs.Layout.{object_of, spot, common_spot}
 
 -- What a goal is: a place in an object, a number, or an entry point of another module.
 pub data Target : Type 0 where
@@ -25,12 +25,12 @@ pub data Target : Type 0 where
 abbrev pub internal : Option (ℕ × ℕ) → Option Target
 internal place = option_map (λ q. Internal q.0 q.1) place
 
--- A public's place: its offset may pass its segment, so it is wrapped.
-abbrev pub past : ℕ → ℕ × ℕ → ℕ × ℕ
-past offset q = (q.0, wrapped (q.1 + offset))
+-- The place so many bytes on. It may pass its segment, so it is wrapped.
+abbrev pub shifted : ℕ → ℕ × ℕ → ℕ × ℕ
+shifted offset q = (q.0, wrapped (q.1 + offset))
 
 abbrev pub of_symbol : Link → SymDef → Option Target
-of_symbol l (means.In n seg offset) = internal (option_map (past offset) (spot l n seg))
+of_symbol l (means.In n seg offset) = internal (option_map (shifted offset) (spot l n seg))
 of_symbol l (means.Const value) = Some (Constant value)
 of_symbol l (means.Common slot) = internal (common_spot l slot)
 of_symbol l (means.Import slot) = Some (Entry slot)
@@ -49,7 +49,7 @@ object_of_group l g =
 
 -- A segment goal is its contribution's start, and a group goal its object's start. FLAT and a group without
 -- members are the constant 0.
-abbrev pub target_of : Link → ℕ → Goal → Option Target
+unfoldable pub target_of : Link → ℕ → Goal → Option Target
 target_of l n (goals.Seg index) = internal (spot l n index)
 target_of l n (goals.Ext index) = of_external l n index
 target_of l n (goals.Group index) =
@@ -57,7 +57,7 @@ target_of l n (goals.Group index) =
 
 -- A fixup's location.
 abbrev pub location : Link → ℕ → FixAt → Option (ℕ × ℕ)
-location l n f = option_map (past f.offset) (spot l n f.seg)
+location l n f = option_map (shifted f.offset) (spot l n f.seg)
 
 -- The object of a target.
 abbrev pub object_of_target : Target → Option ℕ

@@ -10,13 +10,14 @@ use Rattle.link_model.specs.declared.symbols.Pick.{Pick}
 use Rattle.obj_types.specs.Items.{item}
 use Rattle.link_model.specs.Choosing.{modules_of, Chosen}
 
--- The chosen modules in order, and the definition file.
+-- The chosen modules in order, the definition file, and the stem of the module to be written.
 pub record Link : Type 0 where
   pub modules : List ObjModule
   pub def : DefFile
+  pub stem : List ℕ
 
 abbrev pub link_of : LinkInput → List Pick → Link
-link_of input picks = record { modules = modules_of input picks; def = input.def }
+link_of input picks = record { modules = modules_of input picks; def = input.def; stem = input.stem }
 
 -- The link of an input is that of the modules that it chooses. There is one (`ChosenOnce`).
 pub record IsLinkOf (input : LinkInput) (l : Link) : Type 0 where

@@ -26,7 +26,7 @@ abbrev pub live : List Fixup → List Fixup
 live [] = []
 live (q ∷ qs) = if list_any (overlap q) qs then live qs else q ∷ live qs
 
-abbrev pub live_fixups : Link → List Fixup
+unfoldable pub live_fixups : Link → List Fixup
 live_fixups l = live (fixups l)
 
 -- The live fixup that covers offset x of an object.
@@ -55,7 +55,7 @@ pieces l = of_modules l (λ n m. filter_map (placed_piece l n) m.pieces)
 abbrev pub piece_covers : ℕ → ℕ → PlacedPiece → Bool
 piece_covers object x p = p.object == object && nat_le p.offset x && nat_lt x (p.offset + length p.bytes)
 
-abbrev pub data_at : Link → ℕ → ℕ → ℕ
+unfoldable pub data_at : Link → ℕ → ℕ → ℕ
 data_at l object x =
     option_map_or (λ p. slice_index p.bytes (x - p.offset)) (find (piece_covers object x) (reverse (pieces l))) 0
 
@@ -65,6 +65,6 @@ abbrev pub value_at : Link → World → ℕ → Fixup → Option ℕ
 value_at l w x q = option_map (λ bytes. slice_index bytes (x - q.offset)) (Value l w q)
 
 -- Byte x of an object under the bases and imports of a world.
-abbrev pub Mean : Link → World → ℕ → ℕ → ℕ
+unfoldable pub Mean : Link → World → ℕ → ℕ → ℕ
 Mean l w object x =
     unwrap_or (option_and_then (value_at l w x) (live_at l object x)) (data_at l object x)

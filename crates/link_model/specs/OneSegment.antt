@@ -8,7 +8,6 @@ use Rattle.obj_types.specs.declared.object.FixAt.{FixAt}
 use Rattle.obj_types.specs.declared.object.Frame.TheVariants as frames
 use Rattle.obj_types.specs.declared.object.Goal.TheVariants as goals
 use Rattle.obj_types.specs.declared.object.ObjModule.{ObjModule}
-use Rattle.obj_types.specs.declared.symbol.Imp.{Imp}
 use Rattle.obj_types.specs.declared.definition.ModKind.TheVariants.{Library}
 use Rattle.obj_types.specs.declared.input.LinkInput.{LinkInput}
 use Rattle.obj_types.specs.Fresh.{empty_module}
@@ -18,9 +17,9 @@ use Rattle.link_model.specs.Link.{link_of}
 use Rattle.link_model.specs.SymbolRefusals.{sym_refusal}
 use Rattle.link_model.specs.Layout.{objects}
 use Rattle.link_model.specs.LayoutRefusals.{lay_refusal}
-use Rattle.link_model.specs.Value.{Far}
+use Rattle.link_model.specs.Value.{EntryPoints}
 use Rattle.link_model.specs.Mean.{Mean}
-use Rattle.link_model.specs.Out.{place_refusal}
+use Rattle.link_model.specs.Refusal.{place_refusal}
 use Rattle.link_model.specs.Defaults.{default_def}
 
 -- ---- the plain equation, for data and the places of its fixups
@@ -92,7 +91,7 @@ pub record LinksOneSegment (input : LinkInput) (bytes places : List ℕ) (base :
   pub layout : lay_refusal (link_of input only_pick) ≡ None
   pub fixups : place_refusal (link_of input only_pick) ≡ None
   pub object : objects (link_of input only_pick) ≡ record { size = length bytes; base = base; flags = 0x2005 } ∷ []
-  pub mean : (at : ℕ) (imp : Imp → Far) (x : ℕ) → Mean (link_of input only_pick) (record { bases = at ∷ []; imp = imp }) 1 x ≡ one_segment_mean at bytes places x
+  pub mean : (at : ℕ) (imp : EntryPoints) (x : ℕ) → Mean (link_of input only_pick) (record { bases = at ∷ []; imp = imp }) 1 x ≡ one_segment_mean at bytes places x
 
 abbrev pub OneSegmentLaw : Type 0
 OneSegmentLaw =

@@ -4,15 +4,13 @@
 -- common ones of one name and class join among themselves.
 use Rattle.std.specs.Prelude.{ℕ, Bool, true, false, not, ◌&&◌, ◌||◌, List, map, if◌then◌else◌, ◌==◌, bytes_eq, filter}
 use Rattle.std.specs.List.{enumerate_from}
+pub use Rattle.link_model.specs.declared.keys.Origin.{Origin}
+pub use Rattle.link_model.specs.declared.keys.Origin.TheVariants.{Segment, Communal, OwnStack}
+pub use Rattle.link_model.specs.declared.keys.SegmentKey.{SegmentKey}
+pub use Rattle.link_model.specs.declared.keys.SegmentKey.TheVariants.{Private, Public, Common}
 use Rattle.obj_types.specs.declared.object.Seg.{Seg}
 use Rattle.obj_types.specs.declared.object.ObjModule.{ObjModule}
 use Rattle.link_model.specs.Link.{Link, of_modules}
-
--- Where a part comes from.
-pub data Origin : Type 0 where
-  Segment : (by index : ℕ) → Origin  -- a segment of a chosen module
-  Communal : (slot : ℕ) → Origin
-  OwnStack : Origin  -- the stack of a program that has none
 
 abbrev pub same_origin : Origin → Origin → Bool
 same_origin (Segment n i) (Segment m j) = n == m && i == j
@@ -52,6 +50,29 @@ is_joint p = not (is_private p || is_common p)
 abbrev pub is_stack : Part → Bool
 is_stack p = p.combine == 5 || same_origin p.origin OwnStack
 
+-- ---- logical segments
+
+-- The logical segment of a part: its own where it is private, else that of its name and class, of which there are a
+-- public and a common one.
+abbrev pub segment_key : Part → SegmentKey
+segment_key p =
+    if is_private p then Private p.origin else if is_common p then Common p.name p.class else Public p.name p.class
+
+abbrev pub same_segment : SegmentKey → SegmentKey → Bool
+same_segment (Private a) (Private b) = same_origin a b
+same_segment (Public name class) (Public other in_class) = bytes_eq name other && bytes_eq class in_class
+same_segment (Common name class) (Common other in_class) = bytes_eq name other && bytes_eq class in_class
+same_segment (Private a) (Public name class) = false
+same_segment (Private a) (Common name class) = false
+same_segment (Public name class) (Private b) = false
+same_segment (Public name class) (Common other in_class) = false
+same_segment (Common name class) (Private b) = false
+same_segment (Common name class) (Public other in_class) = false
+
+-- Two parts are of one logical segment.
+abbrev pub joins : Part → Part → Bool
+joins a b = same_segment (segment_key a) (segment_key b)
+
 -- ---- contributions
 
 abbrev pub of_seg : ℕ → ℕ → Seg → Part
@@ -64,8 +85,3 @@ contributions_in n m = map (λ q. of_seg n q.0 q.1) (filter (λ q. not q.1.debug
 
 abbrev pub contributions : Link → List Part
 contributions l = of_modules l contributions_in
-
--- Two parts are of one logical segment.
-abbrev pub joins : Part → Part → Bool
-joins a b =
-    same_origin a.origin b.origin || ((is_joint a && is_joint b || is_common a && is_common b) && (bytes_eq a.name b.name && bytes_eq a.class b.class))

@@ -1,14 +1,17 @@
 -- Where names have no meaning, and which refusal is answered.
-use Rattle.std.specs.Prelude.{ℕ, Bool, true, false, not, ◌&&◌, [], ◌∷◌, Option, Some, None, length, if◌then◌else◌, nat_lt, bytes_eq, is_none}
+use Rattle.std.specs.Prelude.{ℕ, Bool, true, false, not, ◌&&◌, [], ◌∷◌, Option, Some, None, map, length, if◌then◌else◌, nat_lt, bytes_eq, is_none}
 use Rattle.std.specs.List.{find}
 use Rattle.std.specs.Option.{option_map, option_and_then}
 use Rattle.link_model.specs.declared.symbols.SymDef.{SymDef}
 use Rattle.link_model.specs.declared.symbols.SymDef.TheVariants as means
+use Rattle.lx_types.specs.Names.{uppercase}
+use Rattle.link_model.specs.declared.limits.TheConstants.{MAX_NUMBER}
 use Rattle.link_model.specs.declared.refusals.SymRefusal.{SymRefusal}
 use Rattle.link_model.specs.declared.refusals.SymRefusal.TheVariants.{Twice, Missing, ImportsMany}
-use Rattle.link_model.specs.Words.{firsts, first_after_rival, first_of}
+use Rattle.link_model.specs.Words.{first_conflict, first_of}
+use Rattle.link_model.specs.Appearance.{firsts}
 use Rattle.link_model.specs.Link.{Link, externals, exports}
-use Rattle.link_model.specs.Symbols.{Meaning, Public, Imported, Definition, definitions, definition_of, imports, same_module, same_pair, global, Sym}
+use Rattle.link_model.specs.Symbols.{Meaning, Public, Imported, Definition, definitions, definition_of, imports, same_pair, global, Sym}
 
 -- Definitions count once where they are equal import pairs.
 abbrev pub counts_once : Meaning → Meaning → Bool
@@ -17,14 +20,14 @@ counts_once (Public a) other = false
 counts_once (Imported a) (Public b) = false
 
 -- The second is a second definition of the first one's name.
-abbrev pub rivals : Definition → Definition → Bool
-rivals a b = bytes_eq a.name b.name && not (counts_once a.meaning b.meaning)
+abbrev pub conflicts : Definition → Definition → Bool
+conflicts a b = bytes_eq a.name b.name && not (counts_once a.meaning b.meaning)
 
 -- `Twice`: the first second definition, with the modules of the first definition of its name and of itself.
 abbrev pub twice : Link → Option SymRefusal
 twice l =
     option_and_then (λ second. option_map (λ first. Twice second.name first.by second.by) (definition_of l second.name))
-    (first_after_rival rivals [] (definitions l))
+    (first_conflict conflicts [] (definitions l))
 
 -- `Missing`: the first external, in chosen order, that means nothing.
 abbrev pub missing_external : Link → Option SymRefusal
@@ -46,12 +49,12 @@ missing_export l =
 -- `ImportsMany`: more different modules are named than the format's 16-bit numbers count.
 abbrev pub imports_past : ℕ → Link → Option SymRefusal
 imports_past most l =
-    let count = length (firsts (λ a b. same_module a.module b.module) (imports l)) in
+    let count = length (firsts bytes_eq (map (λ i. uppercase i.module) (imports l))) in
     if nat_lt most count then Some (ImportsMany count) else None
 
 abbrev pub imports_many : Link → Option SymRefusal
-imports_many l = imports_past 65535 l
+imports_many l = imports_past MAX_NUMBER l
 
 -- The refusal, in this order. Where there is none, every external has a meaning.
-abbrev pub sym_refusal : Link → Option SymRefusal
+unfoldable pub sym_refusal : Link → Option SymRefusal
 sym_refusal l = first_of (twice l ∷ missing_external l ∷ missing_export l ∷ imports_many l ∷ [])

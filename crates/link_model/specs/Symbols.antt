@@ -4,7 +4,7 @@
 -- IMPORTS. A name without definition that some COMDEF has is a communal. A local external means a
 -- local public of its own module.
 use Rattle.std.specs.Prelude.{ℕ, Bool, false, not, ◌&&◌, List, ◌++◌, Option, Some, None, map, max, if◌then◌else◌, ◌==◌, bytes_eq, filter, is_none}
-use Rattle.std.specs.List.{find, filter_map, fold, position}
+use Rattle.std.specs.List.{find, filter_map, fold}
 use Rattle.std.specs.Option.{option_map, option_and_then, option_or}
 use Rattle.lx_types.specs.Names.{uppercase}
 use Rattle.lx_types.specs.declared.entry.EntryKey.{EntryKey}
@@ -18,7 +18,7 @@ use Rattle.obj_types.specs.declared.symbol.Ext.{Ext}
 use Rattle.obj_types.specs.declared.symbol.Imp.{Imp}
 use Rattle.link_model.specs.declared.symbols.SymDef.{SymDef}
 use Rattle.link_model.specs.declared.symbols.SymDef.TheVariants as means
-use Rattle.link_model.specs.Words.{firsts}
+use Rattle.link_model.specs.Appearance.{firsts_by, place_by}
 use Rattle.link_model.specs.Link.{Link, chosen_module, of_modules, externals}
 
 -- ---- definitions
@@ -48,7 +48,7 @@ definitions_in n m = map (of_public n) (filter (λ p. not p.local) m.pubs) ++ ma
 abbrev pub definitions : Link → List Definition
 definitions l = of_modules l definitions_in ++ map (of_import 0) l.def.imports
 
-abbrev pub definition_of : Link → List ℕ → Option Definition
+unfoldable pub definition_of : Link → List ℕ → Option Definition
 definition_of l name = find (λ d. bytes_eq d.name name) (definitions l)
 
 -- ---- imports
@@ -67,15 +67,27 @@ same_module a b = bytes_eq (uppercase a) (uppercase b)
 abbrev pub same_pair : Imp → Imp → Bool
 same_pair a b = same_module a.module b.module && same_entry a.entry b.entry
 
+-- What tells imports apart: the name that is defined, the module in upper case, and the entry.
+pub record ImportKey : Type 0 where
+  pub name : List ℕ
+  pub from : List ℕ
+  pub entry : EntryKey
+
+abbrev pub import_key : Imp → ImportKey
+import_key i = record { name = i.name; from = uppercase i.module; entry = i.entry }
+
+abbrev pub same_import : ImportKey → ImportKey → Bool
+same_import a b = bytes_eq a.name b.name && bytes_eq a.from b.from && same_entry a.entry b.entry
+
 abbrev pub pair_of : Meaning → Option Imp
 pair_of (Public place) = None
 pair_of (Imported pair) = Some pair
 
 -- The import pairs that the link knows, in order of definition. Pairs that are equal count once under one
 -- name, in the first spelling. A pair's slot is its place here, from 0.
-abbrev pub imports : Link → List Imp
+unfoldable pub imports : Link → List Imp
 imports l =
-    firsts (λ a b. bytes_eq a.name b.name && same_pair a b) (filter_map (λ d. pair_of d.meaning) (definitions l))
+    firsts_by same_import import_key (filter_map (λ d. pair_of d.meaning) (definitions l))
 
 -- ---- communals
 
@@ -92,10 +104,10 @@ greatest_len l name = fold (λ len c. max len c.1.len) 0 (filter (λ c. bytes_eq
 
 -- The communals: each name without definition that a COMDEF has, in order of its first COMDEF. A communal's
 -- slot is its place here, from 0.
-abbrev pub commons : Link → List (List ℕ × Common)
+unfoldable pub commons : Link → List (List ℕ × Common)
 commons l =
     map (λ c. (c.0, record { far = c.1.far; len = greatest_len l c.0 }))
-    (firsts (λ a b. bytes_eq a.0 b.0) (filter (λ c. is_none (definition_of l c.0)) (comdefs l)))
+    (firsts_by bytes_eq (λ c. c.0) (filter (λ c. is_none (definition_of l c.0)) (comdefs l)))
 
 -- ---- meanings
 
@@ -106,13 +118,13 @@ at_place n (places.Const value) = means.Const value
 abbrev pub by_definition : Link → Definition → Meaning → Option SymDef
 by_definition l d (Public place) = Some (at_place d.by place)
 by_definition l d (Imported pair) =
-    option_map (λ slot. means.Import slot) (position (λ i. bytes_eq i.name d.name && same_pair i pair) (imports l))
+    option_map (λ slot. means.Import slot) (place_by same_import import_key (import_key pair) (imports l))
 
 -- The meaning of a name that is not local.
-abbrev pub global : Link → List ℕ → Option SymDef
+unfoldable pub global : Link → List ℕ → Option SymDef
 global l name =
     option_or (option_and_then (λ d. by_definition l d d.meaning) (definition_of l name))
-    (option_map (λ slot. means.Common slot) (position (λ c. bytes_eq c.0 name) (commons l)))
+    (option_map (λ slot. means.Common slot) (place_by bytes_eq (λ c. c.0) name (commons l)))
 
 -- The meaning of a local name of module n: the first local public of that name in the module.
 abbrev pub local_meaning : Link → ℕ → List ℕ → Option SymDef
@@ -120,5 +132,5 @@ local_meaning l n name =
     option_and_then (λ m. option_map (λ p. at_place n p.place) (find (λ p. p.local && bytes_eq p.name name) m.pubs)) (chosen_module l n)
 
 -- The meaning of an external of module n.
-abbrev pub Sym : Link → ℕ → Ext → Option SymDef
+unfoldable pub Sym : Link → ℕ → Ext → Option SymDef
 Sym l n e = if e.local then local_meaning l n e.name else global l e.name

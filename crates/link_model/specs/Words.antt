@@ -1,18 +1,13 @@
 -- Words on lists and numbers that the other pages use.
-use Rattle.std.specs.Prelude.{ℕ, zero, suc, ◌+◌, ◌-◌, ◌*◌, ◌/◌, ◌%◌, ◌^◌, Bool, false, not, List, [], ◌∷◌, ◌++◌, Option, Some, None, if◌then◌else◌, filter}
+use Rattle.std.specs.Prelude.{ℕ, ◌+◌, ◌-◌, ◌%◌, ◌^◌, Bool, false, List, [], ◌∷◌, ◌++◌, Option, Some, None, if◌then◌else◌}
 use Rattle.std.specs.Option.{option_or}
 use Rattle.std.specs.List.{list_any}
 
--- Each item that is not the same as one before it.
-abbrev pub firsts : {X : Type 0} → (X → X → Bool) → List X → List X
-firsts same [] = []
-firsts same (x ∷ xs) = x ∷ filter (λ y. not (same x y)) (firsts same xs)
-
--- The first item to which an earlier one stands in the relation; `earlier` are those before the list.
-abbrev pub first_after_rival : {X : Type 0} → (X → X → Bool) → List X → List X → Option X
-first_after_rival rival earlier [] = None
-first_after_rival rival earlier (x ∷ xs) =
-    if list_any (λ y. rival y x) earlier then Some x else first_after_rival rival (earlier ++ x ∷ []) xs
+-- The first item with which an earlier one is in conflict; `earlier` are those before the list.
+abbrev pub first_conflict : {X : Type 0} → (X → X → Bool) → List X → List X → Option X
+first_conflict conflicts earlier [] = None
+first_conflict conflicts earlier (x ∷ xs) =
+    if list_any (λ y. conflicts y x) earlier then Some x else first_conflict conflicts (earlier ++ x ∷ []) xs
 
 -- The first that there is.
 abbrev pub first_of : {X : Type 0} → List (Option X) → Option X
@@ -31,13 +26,3 @@ wrapped n = n % 2 ^ 32
 -- `a - b`, wrapped.
 abbrev pub difference : ℕ → ℕ → ℕ
 difference a b = wrapped (a + (2 ^ 32 - wrapped b))
-
--- The lowest n bytes of a number, the lowest first.
-abbrev pub little_endian : ℕ → ℕ → List ℕ
-little_endian zero v = []
-little_endian (suc n) v = v % 256 ∷ little_endian n (v / 256)
-
--- The number whose bytes these are, the lowest first.
-abbrev pub number_of : List ℕ → ℕ
-number_of [] = 0
-number_of (b ∷ bs) = b + 256 * number_of bs

@@ -6,16 +6,26 @@
 #![tactic(auto)]
 
 mod choosing;
+mod keys;
 mod laws;
+mod limits;
 mod refusals;
 mod symbols;mod values;
 
 pub use choosing::choose;
+pub use keys::{ObjectKey, Origin, SegmentKey};
 pub use laws::{
-    live_fixups_are_apart, modules_are_chosen_once, one_segment_links_plainly,
-    patches_stand_at_all_bases,
+    chosen_modules_are_whole, externals_have_meanings, link_numbers_are_the_formats,
+    live_fixups_are_apart, live_fixups_give_their_values, modules_are_chosen_once,
+    names_stand_at_their_offsets, no_data_is_dropped, no_export_is_dropped, no_fixup_is_dropped,
+    no_record_is_dropped, one_segment_links_plainly, patches_stand_at_all_bases,
+    segments_stand_in_objects, tables_grow_by_new_keys, values_fit_their_locations,
+};
+pub use limits::{
+    MAX_MEMORY, MAX_NARROW_OBJECT, MAX_NUMBER, MAX_OBJECTS, OBJECT_CONFORMING, OBJECT_IOPL,
+    OBJECT_PRELOAD, OBJECT_READABLE,
 };
 pub use obj_types::{Bytes, EntryKey, Fail, Name, NoMemory, Seq};
-pub use refusals::{FixRefusal, LayRefusal, SymRefusal};
+pub use refusals::{EntryRefusal, FixRefusal, LayRefusal, LinkRefusal, SymRefusal};
 pub use symbols::{LaidObject, Pick, SymDef};
 pub use values::{alignment_len, data_byte, distance, object_flags, selector_of, tiled_selector};

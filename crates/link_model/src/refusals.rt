@@ -39,3 +39,25 @@ pub enum FixRefusal {
     #[error("module {module}: the start address is in no object")]
     StartOutside { module: u32 },
 }
+
+/// Why the exports of a link have no place in the entry table and the name tables.
+#[derive(Debug, PartialEq, Drop, Error)]
+pub enum EntryRefusal {
+    #[error("ordinal {n} is given twice or is none")]
+    Ordinal { n: u32 },
+    #[error("two exports have one name")]
+    NameTwice { name: Name },
+}
+
+/// Why an input is not linked. The kinds are tried in this order.
+#[derive(Debug, PartialEq, Drop, Error)]
+pub enum LinkRefusal {
+    #[error("{0}")]
+    Sym(SymRefusal),
+    #[error("{0}")]
+    Lay(LayRefusal),
+    #[error("{0}")]
+    Fixing(FixRefusal),
+    #[error("{0}")]
+    Entry(EntryRefusal),
+}

@@ -6,7 +6,8 @@ ghost use Rattle.link_model.specs.Flags as flags;
 ghost use Rattle.link_model.specs.Data.{Data, covers};
 ghost use Rattle.link_model.specs.Value as value;
 
-use lx_types::{OBJECT_BIG, OBJECT_EXECUTABLE};
+use crate::{OBJECT_CONFORMING, OBJECT_IOPL, OBJECT_PRELOAD, OBJECT_READABLE};
+use lx_types::{OBJECT_ALIAS, OBJECT_BIG, OBJECT_EXECUTABLE, OBJECT_SHARED, OBJECT_WRITABLE};
 use obj_types::{Attrs, ObjModule, Piece};
 
 /// The bytes of an alignment of SEGDEF.
@@ -34,14 +35,14 @@ fn flag(set: bool, value: u32) -> u32
 pub fn object_flags(attrs: Attrs, wide: bool) -> u32
     ensures { result ≡ flags.flags_with attrs wide }
 {
-    flag(attrs.read, 1)
-        + flag(attrs.write, 2)
-        + flag(attrs.exec, 4)
-        + flag(attrs.shared, 0x20)
-        + flag(attrs.preload, 0x40)
-        + flag(attrs.conforming, 0x4000)
-        + flag(attrs.iopl, 0x8000)
-        + if wide { 0x2000 } else { 0x1000 }
+    flag(attrs.read, OBJECT_READABLE)
+        + flag(attrs.write, OBJECT_WRITABLE)
+        + flag(attrs.exec, OBJECT_EXECUTABLE)
+        + flag(attrs.shared, OBJECT_SHARED)
+        + flag(attrs.preload, OBJECT_PRELOAD)
+        + flag(attrs.conforming, OBJECT_CONFORMING)
+        + flag(attrs.iopl, OBJECT_IOPL)
+        + if wide { OBJECT_BIG } else { OBJECT_ALIAS }
 }
 
 /// `a` less `b`, modulo 2^32.

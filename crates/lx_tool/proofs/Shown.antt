@@ -3,13 +3,12 @@ use Rattle.std.proofs.Common.{◌≡◌, ℕ, List, [], ◌∷◌, length, ap, s
 use Rattle.std.proofs.lemmas.List.{append-nil}
 use Rattle.std.proofs.lemmas.List.FromFn.{length-map-range_with_len}
 use Rattle.std.specs.List.{flat_map, enumerate_from}
-use Rattle.obj_types.specs.declared.symbol.Imp.{Imp}
 use Rattle.obj_types.specs.declared.input.LinkInput.{LinkInput}
 use Rattle.obj_types.specs.declared.object.ObjModule.{ObjModule}
 use Rattle.link_model.specs.Link.{Link, link_of}
 use Rattle.link_model.specs.Layout.{objects}
 use Rattle.link_model.specs.OneSegment.{alone, only_pick}
-use Rattle.link_model.specs.Value.{Far}
+use Rattle.link_model.specs.Value.{EntryPoints}
 use Rattle.first_form.specs.Fixing.{memory_byte, image}
 use Rattle.first_form.specs.ObjectFile.{Form, object_module_of}
 use Rattle.first_form.specs.ModuleFile.{IsOneObject}
@@ -37,7 +36,7 @@ has_object input at m whole links base =
       meaning = λ imp. rw (length-image m) (links.bytes imp);
     }
 
-one_object_text : (l : Link) (imp : Imp → Far) (at : ℕ) (bytes : List ℕ) → objects l ≡ (record { size = length bytes; base = at; flags = 0x2005 }) ∷ []
+one_object_text : (l : Link) (imp : EntryPoints) (at : ℕ) (bytes : List ℕ) → objects l ≡ (record { size = length bytes; base = at; flags = 0x2005 }) ∷ []
     → object_bytes l imp 1 (length bytes) ≡ bytes → image_text at bytes ≡ memory_text l imp
 one_object_text l imp at bytes object meaning =
     sym (ap (λ list. flat_map (object_text l imp) (enumerate_from 1 list)) object ∙ append-nil (image_text at (object_bytes l imp 1 (length bytes))) ∙ ap (image_text at) meaning)
