@@ -1,0 +1,9 @@
+use Rattle.std.proofs.Common.{rules}
+use Rattle.std.proofs.lemmas.List.Sorted.{IsNonDecreasingBy-from_sort, answers_always}
+use Rattle.base_pick.specs.declared.occupied.AddressRange.{AddressRange}
+use Rattle.base_pick.proofs.picking.put_in_order.Goals as goal
+
+pub returns-clause-rising : goal.returns-clause-rising
+returns-clause-rising c =
+    IsNonDecreasingBy-from_sort (λ (range : AddressRange). range.from) _
+    (c.sort_unstable_by_key.ensures.sorted (λ (range : AddressRange). range.from) (answers_always _ _ _ (λ f a r g h. search rules)))

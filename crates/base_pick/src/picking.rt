@@ -1,0 +1,96 @@
+//! The bases of a module's objects.
+
+ghost use Rattle.std.specs.Prelude.{◌≡◌, ◌+◌, ◌%◌, ◌^◌, ◌<◌, IfOk, Ok, Err, []};
+ghost use Rattle.std.specs.List.Sorted.{IsPermutation, IsNonDecreasingBy};
+ghost use Rattle.lx_types.specs.Addresses.{UNIT};
+ghost use Rattle.lx_types.specs.Answers.{Answers};
+ghost use Rattle.base_pick.specs.declared.occupied.AddressRange.{AddressRange};
+ghost use Rattle.base_pick.specs.Places.{places_from, places_of, private_arena, shared_arena};
+
+use crate::search::{place_for, range_at};
+use crate::{AddressRange, Occupied};
+use lx_types::{Fail, Module, NoMemory, ObjHead};
+use std::alloc::Global;
+
+/// An object has no place in its arena: its number, from 1, and its size in bytes.
+#[derive(Clone, Copy, Debug, PartialEq, Eq, Drop)]
+pub struct ArenaFull {
+    pub object: u32,
+    pub size: u32,
+}
+
+/// Where the objects of programs stand.
+const PRIVATE_ARENA: AddressRange = AddressRange {
+    from: 0x0001_0000,
+    to: 0x1000_0000,
+};
+
+/// Where the objects of libraries stand.
+const SHARED_ARENA: AddressRange = AddressRange {
+    from: 0x1000_0000,
+    to: 0x2000_0000,
+};
+
+/// Puts the ranges in the order in which they begin.
+fn put_in_order(ranges: &mut Vec<AddressRange>)
+    ensures moved { IsPermutation ranges.old.items ranges.new.items }
+    ensures rising { IsNonDecreasingBy (λ (range : AddressRange). range.from) ranges.new.items }
+{
+    ranges.sort_unstable_by_key(|range| range.from);
+}
+
+/// The number of the object behind so many. One past 32 bits is want of memory.
+fn number_behind(count: usize) -> Result<u32, NoMemory>
+    requires { count < 2 ^ 63 }
+    ensures { IfOk result (λ number. number ≡ count + 1) }
+{
+    u32::try_from(count + 1).map_err(|_| NoMemory)
+}
+
+/// Places the objects, one after another, beside what is occupied.
+fn place_all(
+    alloc: Global,
+    arena: AddressRange,
+    occupied: &[AddressRange],
+    objects: &[ObjHead],
+) -> Result<Vec<u32>, Fail<ArenaFull>>
+    requires { arena.from % UNIT ≡ 0 }
+    ensures { Answers result
+        (λ bases. places_from arena occupied.now 1 objects.now ≡ Ok bases.items)
+        (λ full. places_from arena occupied.now 1 objects.now ≡ Err full) }
+{
+    let mut ranges = occupied.to_vec(alloc)?;
+    let mut bases = Vec::new(alloc);
+    for object in objects {
+        put_in_order(&mut ranges);
+        let Some(base) = place_for(arena, &ranges, object) else {
+            let number = number_behind(bases.len())?;
+            return Err(Fail::Said(ArenaFull {
+                object: number,
+                size: object.size,
+            }));
+        };
+        ranges.push(range_at(base, object.size))?;
+        bases.push(base)?;
+    }
+    Ok(bases)
+}
+
+/// The bases of a module's objects, in their order: each its linked base where that is a multiple of
+/// 65,536 in its arena and free, otherwise the least free multiple. A program's objects stand from
+/// 00010000h to 0FFFFFFFh, a library's from 10000000h to 1FFFFFFFh, beside what is occupied there. The
+/// first object for which there is no place is refused.
+///
+/// It takes time that grows as objects times occupied ranges; an arena has room for 4,096 of both.
+/// (LX: "Object Table". The arenas and the choice are this loader's own.)
+pub fn pick(alloc: Global, occupied: &Occupied, m: &Module) -> Result<Vec<u32>, Fail<ArenaFull>>
+    ensures { Answers result
+        (λ bases. places_of occupied.now m.now ≡ Ok bases.items)
+        (λ full. places_of occupied.now m.now ≡ Err full) }
+{
+    if m.is_library() {
+        place_all(alloc, SHARED_ARENA, occupied.ranges(), m.objects())
+    } else {
+        place_all(alloc, PRIVATE_ARENA, &[], m.objects())
+    }
+}
