@@ -17,7 +17,4 @@ pub mod Library
 pub mod Entries
 pub mod Fixed
 pub mod Reach
-pub mod WorkedTables
-pub mod WorkedRecords
-pub mod WorkedFile
-pub mod WorkedLibrary
+pub mod Worked
