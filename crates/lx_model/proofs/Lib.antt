@@ -3,6 +3,7 @@ pub mod BundlesTaken
 pub mod Each
 pub mod Entries
 pub mod Firsts
+pub mod FitModules
 pub mod ImportsRead
 pub mod Loops
 pub mod Many
@@ -13,6 +14,7 @@ pub mod PagesRead
 pub mod ReadsAs
 pub mod RecordsRead
 pub mod RecordsTaken
+pub mod ReadModules
 pub mod References
 pub mod Shortening
 pub mod Soundness

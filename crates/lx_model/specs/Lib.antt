@@ -17,4 +17,5 @@ pub mod Library
 pub mod Entries
 pub mod Fixed
 pub mod Reach
+pub mod ModuleLaws
 pub mod Worked
