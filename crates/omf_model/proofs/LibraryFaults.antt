@@ -10,27 +10,28 @@ use Rattle.omf_frame.specs.Refusal.{IsCutOff}
 use Rattle.obj_types.specs.declared.refusal.OmfRefusal.{OmfRefusal}
 use Rattle.obj_types.specs.declared.refusal.OmfRefusal.TheVariants.{Short, BadField}
 use Rattle.obj_types.specs.declared.object.ObjModule.{ObjModule}
-use Rattle.omf_model.specs.Fields.{Reading, ◌>>=◌, check}
-use Rattle.omf_model.specs.ReadFrame.{Frame, whole_at, frame_at}
+use Rattle.omf_fields.specs.Within.{within}
+use Rattle.omf_fields.specs.Fields.{Reading, ◌>>=◌, check}
+use Rattle.omf_model.specs.RawRecord.{RawRecord, whole_at, raw_at}
 use Rattle.omf_model.specs.ReadModule.{header_at, module_at, is_page_size, up_to_page, ends_library, modules_within, library_of}
 use Rattle.omf_model.specs.Object.{Lib, FaultAt, PageFault, in_module, behind_module, LibraryFault, no_record, other_type, no_page, in_modules, behind}
-use Rattle.omf_model.proofs.Takes.{Takes, bytes_behind}
-use Rattle.omf_model.proofs.FieldLaws.{chosen}
-use Rattle.omf_model.proofs.FrameLaws.{frame, whole_short, cut_off, whole_sound, whole_complete}
+use Rattle.omf_fields.proofs.SpanLaws.{Spans, bytes_behind}
+use Rattle.omf_fields.proofs.FieldLaws.{chosen}
+use Rattle.omf_model.proofs.RawLaws.{raw, whole_short, cut_off, whole_sound, whole_complete}
 use Rattle.omf_model.proofs.PageLaws.{up_from}
 use Rattle.omf_model.proofs.ModuleLaws.{ModuleForm, bind_err, module_sound, module_complete, module_faults, module_meets}
 use Rattle.omf_model.proofs.LibraryLaws.{AreBytes-back, module_long, header_begins, header_first, header_place, whole_header, library_sound, library_complete}
 
 -- nothing stands there
 nothing_there : (at : ℕ) → module_at (record { at = at; left = [] }) ≡ Err (Short at)
-unfolding module_at header_at frame_at whole_at
+unfolding module_at header_at raw_at whole_at
 nothing_there at = refl
 
 module_refused : (at : ℕ) (f : OmfRefusal) → module_at (record { at = at; left = [] }) ≡ Err f → FaultAt at [] f
 module_refused at f e = module_faults at [] f (λ i. omega arith) e
 
 pub pages_sound : (most size : ℕ) (c : Cursor) (f : OmfRefusal) → AreBytes c.left → length c.left ≤ most → modules_within most size c ≡ Err f → PageFault size c.at c.left f
-unfolding modules_within
+unfolding modules_within within
 pages_sound zero size c f bytes few e =
     let none : c.left ≡ [] = nil_from_length c.left (omega (arith, few)) in
     let same : Short c.at ≡ f = cc in
@@ -59,7 +60,7 @@ pages_sound (suc most) size c f bytes few e =
     ]
 
 pub pages_complete : (most size : ℕ) (at : ℕ) (bytes : List ℕ) (f : OmfRefusal) → length bytes ≤ most → PageFault size at bytes f → modules_within most size (record { at = at; left = bytes }) ≡ Err f
-unfolding modules_within
+unfolding modules_within within
 pages_complete zero size at bytes f few (in_module opens h) =
     let none : bytes ≡ [] = nil_from_length bytes (omega (arith, few)) in
     let both : module_at (record { at = at; left = [] }) ≡ Err f = subst (λ (xs : List ℕ). module_at (record { at = at; left = xs }) ≡ failed f) none (module_meets at bytes f h) in
@@ -75,7 +76,7 @@ pages_complete zero size at bytes f few (behind_module m body rest joined is h) 
 pages_complete (suc most) size at bytes f few (in_module opens h) = rw (opens, module_meets at bytes f h) refl
 pages_complete (suc most) size at bytes f few (behind_module m body rest joined is h) =
     let d : Cursor = behind at body rest in
-    let t : Takes (ModuleForm m) (record { at = at; left = bytes }) d = record { front = body; joined = joined; moved = refl; so = is } in
+    let t : Spans (ModuleForm m) (record { at = at; left = bytes }) d = record { front = body; joined = joined; moved = refl; so = is } in
     let opens : ends_library bytes ≡ false = subst (λ (xs : List ℕ). ends_library xs ≡ false) (sym joined) (header_first m body rest is) in
     let shorter : length bytes ≡ length body + length rest = ap (λ (xs : List ℕ). length xs) joined ∙ length-append body rest in
     let cut : length (drop (up_from size d.at) rest) ≤ length rest =
@@ -86,13 +87,13 @@ pages_complete (suc most) size at bytes f few (behind_module m body rest joined 
 
 -- ---- the header
 
-not_both : (x : Frame) (f : OmfRefusal) → (let r : Result Frame OmfRefusal = Ok x in r) ≡ Err f → ⊥
+not_both : (x : RawRecord) (f : OmfRefusal) → (let r : Result RawRecord OmfRefusal = Ok x in r) ≡ Err f → ⊥
 not_both x f e = absurd cc
 
 whole_fault : (c : Cursor) (f : OmfRefusal) → whole_at c ≡ Err f → IsCutOff c.left × (Short c.at ≡ f)
 whole_fault c f e = (λ ty checksum body rest w. not_both _ f (sym (found ty checksum body rest w) ∙ e), whole_short c f e)
   where
-    found : (ty checksum : ℕ) (body rest : List ℕ) → BeginsWhole c.left ty body checksum rest → whole_at c ≡ Ok (frame c.at ty body checksum rest)
+    found : (ty checksum : ℕ) (body rest : List ℕ) → BeginsWhole c.left ty body checksum rest → whole_at c ≡ Ok (raw c.at ty body checksum rest)
     found ty checksum body rest w = whole_complete c ty body checksum rest w
 
 check_fault : {B : Type 0} (b : Bool) (refusal : OmfRefusal) (g : Unit {0} → Result B OmfRefusal) (f : OmfRefusal) → (check b refusal >>= g) ≡ Err f → ((b ≡ false) × (refusal ≡ f)) ⊎ ((b ≡ true) × (g tt ≡ Err f))
