@@ -17,7 +17,7 @@ use Rattle.omf_model.specs.ReadModule.{header_at, module_at, is_page_size, up_to
 use Rattle.omf_model.specs.Object.{Lib, FaultAt, PageFault, in_module, behind_module, LibraryFault, no_record, other_type, no_page, in_modules, behind}
 use Rattle.omf_fields.proofs.SpanLaws.{Spans, bytes_behind}
 use Rattle.omf_fields.proofs.FieldLaws.{chosen}
-use Rattle.omf_model.proofs.RawLaws.{raw, whole_short, cut_off, whole_sound, whole_complete}
+use Rattle.omf_model.proofs.RawLaws.{whole_short, whole_cut, cut_off, whole_sound, whole_complete}
 use Rattle.omf_model.proofs.PageLaws.{up_from}
 use Rattle.omf_model.proofs.ModuleLaws.{ModuleForm, bind_err, module_sound, module_complete, module_faults, module_meets}
 use Rattle.omf_model.proofs.LibraryLaws.{AreBytes-back, module_long, header_begins, header_first, header_place, whole_header, library_sound, library_complete}
@@ -87,15 +87,6 @@ pages_complete (suc most) size at bytes f few (behind_module m body rest joined 
 
 -- ---- the header
 
-not_both : (x : RawRecord) (f : OmfRefusal) → (let r : Result RawRecord OmfRefusal = Ok x in r) ≡ Err f → ⊥
-not_both x f e = absurd cc
-
-whole_fault : (c : Cursor) (f : OmfRefusal) → whole_at c ≡ Err f → IsCutOff c.left × (Short c.at ≡ f)
-whole_fault c f e = (λ ty checksum body rest w. not_both _ f (sym (found ty checksum body rest w) ∙ e), whole_short c f e)
-  where
-    found : (ty checksum : ℕ) (body rest : List ℕ) → BeginsWhole c.left ty body checksum rest → whole_at c ≡ Ok (raw c.at ty body checksum rest)
-    found ty checksum body rest w = whole_complete c ty body checksum rest w
-
 check_fault : {B : Type 0} (b : Bool) (refusal : OmfRefusal) (g : Unit {0} → Result B OmfRefusal) (f : OmfRefusal) → (check b refusal >>= g) ≡ Err f → ((b ≡ false) × (refusal ≡ f)) ⊎ ((b ≡ true) × (g tt ≡ Err f))
 check_fault true refusal g f e = inr (refl, e)
 check_fault false refusal g f e = inl (refl, cc)
@@ -105,7 +96,7 @@ unfolding library_of
 library_faults bytes f are e =
     let start : Cursor = record { at = 0; left = bytes } in
     elim (bind_err (whole_at start) _ f e) [
-      | inl h ↦ let w = whole_fault start f h in subst (λ (q : OmfRefusal). LibraryFault bytes q) w.1 (no_record w.0)
+      | inl h ↦ subst (λ (q : OmfRefusal). LibraryFault bytes q) (whole_short start f h) (no_record (whole_cut start f h))
       | inr h ↦
           let x = h.0 in
           let w = whole_sound start x are h.1 in
@@ -128,14 +119,14 @@ library_faults bytes f are e =
           ]
     ]
 
-pub library_meets : (bytes : List ℕ) (f : OmfRefusal) → AreBytes bytes → LibraryFault bytes f → library_of bytes ≡ Err f
+pub library_meets : (bytes : List ℕ) (f : OmfRefusal) → LibraryFault bytes f → library_of bytes ≡ Err f
 unfolding library_of
-library_meets bytes f are (no_record cut) = rw (cut_off (record { at = 0; left = bytes }) are cut) refl
-library_meets bytes f are (other_type ty body checksum rest w other) = rw (whole_complete (record { at = 0; left = bytes }) ty body checksum rest w, ne_eqb ty 0xF0 other) refl
-library_meets bytes f are (no_page body checksum rest w bad) =
+library_meets bytes f (no_record cut) = rw (cut_off (record { at = 0; left = bytes }) cut) refl
+library_meets bytes f (other_type ty body checksum rest w other) = rw (whole_complete (record { at = 0; left = bytes }) ty body checksum rest w, ne_eqb ty 0xF0 other) refl
+library_meets bytes f (no_page body checksum rest w bad) =
     let place : is_page_size (0 + 4 + length body) ≡ false = subst (λ (n : ℕ). is_page_size n ≡ false) (let e : 4 + length body ≡ 0 + 4 + length body = omega arith in e) bad in
     rw (whole_complete (record { at = 0; left = bytes }) 0xF0 body checksum rest w, place) refl
-library_meets bytes f are (in_modules size front back joined header fault) =
+library_meets bytes f (in_modules size front back joined header fault) =
     let place = header_place size front header in
     let whole = header_begins bytes size front back joined header in
     let few : length back ≤ length bytes =
@@ -143,8 +134,8 @@ library_meets bytes f are (in_modules size front back joined header fault) =
     omega (arith, all) in
     rw (whole_complete (record { at = 0; left = bytes }) 0xF0 _ _ back whole, place, header.page, pages_complete (length bytes) size size back f few fault) refl
 
-pub library_fault_one : (bytes : List ℕ) (f g : OmfRefusal) → AreBytes bytes → LibraryFault bytes f → LibraryFault bytes g → f ≡ g
-library_fault_one bytes f g are h k = same f g (sym (library_meets bytes f are h) ∙ library_meets bytes g are k)
+pub library_fault_one : (bytes : List ℕ) (f g : OmfRefusal) → LibraryFault bytes f → LibraryFault bytes g → f ≡ g
+library_fault_one bytes f g h k = same f g (sym (library_meets bytes f h) ∙ library_meets bytes g k)
   where
     same : (x y : OmfRefusal) → (let r : Result (List ObjModule) OmfRefusal = Err x in r) ≡ Err y → x ≡ y
     same x y e = cc
@@ -156,8 +147,8 @@ library_either bytes are = by (library_of bytes) refl
     by (Ok ms) e = inl (ms, library_sound bytes ms are e)
     by (Err f) e = inr (f, library_faults bytes f are e)
 
-pub library_not_both : (bytes : List ℕ) (ms : List ObjModule) (f : OmfRefusal) → AreBytes bytes → Lib bytes ms → LibraryFault bytes f → ⊥
-library_not_both bytes ms f are h k = apart (sym (library_complete bytes ms h) ∙ library_meets bytes f are k)
+pub library_not_both : (bytes : List ℕ) (ms : List ObjModule) (f : OmfRefusal) → Lib bytes ms → LibraryFault bytes f → ⊥
+library_not_both bytes ms f h k = apart (sym (library_complete bytes ms h) ∙ library_meets bytes f k)
   where
     apart : (let r : Result (List ObjModule) OmfRefusal = Ok ms in r) ≡ Err f → ⊥
     apart e = absurd cc

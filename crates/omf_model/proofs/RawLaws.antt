@@ -2,14 +2,15 @@
 use Rattle.std.proofs.Common.{◌≡◌, ℕ, zero, suc, ◌+◌, ◌-◌, ◌/◌, ◌%◌, ◌<◌, ◌≤◌, Bool, true, false, cond, eqb, List, [], ◌∷◌, ◌++◌, length, take, drop, get_or, Result, Ok, Err, refl, sym, ap, subst, ◌∙◌, arith, inl, inr, append_assoc, length-append}
 use Rattle.std.specs.Prelude.{◌⊎◌, ◌||◌}
 use Rattle.std.proofs.Math.Seq.{take-suc, get_or-append_seam}
-use Rattle.std.proofs.lemmas.Bool.{eqb-true, eq-eqb, ne_eqb, leb-true, le-leb}
+use Rattle.std.proofs.lemmas.Bool.{cases_lt, eqb-false, eqb-true, eq-eqb, ne_eqb, leb-true, le-leb}
 use Rattle.std.proofs.lemmas.List.{take_at, drop_at, take-append-drop, length-take}
 use Rattle.lx_bytes.specs.Cursor.{Cursor}
 use Rattle.lx_bytes.specs.LittleEndian.{AreBytes, little, little_bytes}
 use Rattle.lx_bytes.proofs.Numbers.{little-little_bytes, little_bytes-little}
 use Rattle.omf_frame.specs.Frame.{record_sum, IsChecksum, BeginsWhole, BeginsRecord}
 use Rattle.omf_frame.specs.RecordType.{is_record_type}
-use Rattle.omf_frame.specs.Refusal.{IsCutOff, Refuses}
+use Rattle.omf_frame.specs.Delimited.{length_word}
+use Rattle.omf_frame.specs.Refusal.{IsCutOff, no_length, length_0, past_end, Refuses}
 use Rattle.omf_frame.specs.declared.refusal.FrameRefusal.{FrameRefusal}
 use Rattle.omf_frame.specs.declared.refusal.FrameRefusal.TheVariants as framing
 use Rattle.obj_types.specs.declared.refusal.OmfRefusal.{OmfRefusal}
@@ -166,30 +167,62 @@ whole_short c f e =
       | inr h ↦ refusal_is (Short c.at) f h.1
     ]
 
-cut_off_by : (c : Cursor) → AreBytes c.left → IsCutOff c.left → (r : Result RawRecord OmfRefusal) → whole_at c ≡ r → whole_at c ≡ Err (Short c.at)
-cut_off_by c bytes cut (Ok x) e = absurd (cut _ _ _ _ (whole_sound c x bytes e).whole)
-cut_off_by c bytes cut (Err f) e = e ∙ ap (λ (q : OmfRefusal). Err q) (sym (whole_short c f e))
-
-pub cut_off : (c : Cursor) → AreBytes c.left → IsCutOff c.left → whole_at c ≡ Err (Short c.at)
-cut_off c bytes cut = cut_off_by c bytes cut (whole_at c) refl
-
-wrong_again : (checksum total : ℕ) → (((checksum ≡ 0) ⊎ (total ≡ 0)) → ⊥) → (eqb checksum 0 || eqb total 0) ≡ false
-wrong_again checksum total wrong = rw (ne_eqb checksum 0 (λ z. wrong (inl z)), ne_eqb total 0 (λ z. wrong (inr z))) refl
-
 unknown_again : (b : Bool) → (b ≡ true → ⊥) → b ≡ false
 unknown_again true h = absurd (h refl)
 unknown_again false h = refl
+
+-- what a whole record is, by its test
+whole_parts : (len : ℕ) (bytes : List ℕ) → is_whole len bytes ≡ true → (3 ≤ length bytes) × (eqb len 0 ≡ false) × (3 + len ≤ length bytes)
+whole_parts len bytes e =
+    let a = and_true _ _ e in
+    let b = and_true _ _ a.0 in
+    (leb-true _ _ b.0, not_true _ b.1, leb-true _ _ a.1)
+
+not_whole : (bytes : List ℕ) → IsCutOff bytes → is_whole (length_word bytes) bytes ≡ true → ⊥
+not_whole bytes (no_length h) e = omega (arith, h, (whole_parts _ bytes e).0)
+not_whole bytes (length_0 h) e = eqb-false _ _ (whole_parts _ bytes e).1 h
+not_whole bytes (past_end h) e = omega (arith, h, (whole_parts _ bytes e).2)
+
+pub cut_off : (c : Cursor) → IsCutOff c.left → whole_at c ≡ Err (Short c.at)
+unfolding whole_at
+cut_off c cut = rw (unknown_again (is_whole (length_word c.left) c.left) (not_whole c.left cut)) refl
+
+cut_off_from : (bytes : List ℕ) → is_whole (length_word bytes) bytes ≡ false → IsCutOff bytes
+cut_off_from bytes e =
+    elim (cases_lt (length bytes) 3) [
+      | inl few ↦ no_length few
+      | inr three ↦ elim (bool_cases (eqb (length_word bytes) 0)) [
+        | inl none ↦ length_0 (eqb-true _ _ none)
+        | inr some ↦ elim (cases_lt (length bytes) (3 + length_word bytes)) [
+          | inl short ↦ past_end short
+          | inr long ↦
+              let whole : is_whole (length_word bytes) bytes ≡ true = rw (le-leb 3 (length bytes) three, some, le-leb (3 + length_word bytes) (length bytes) long) refl in
+              let bad : true ≡ false = sym whole ∙ e in absurd cc
+        ]
+      ]
+    ]
+
+pub whole_cut : (c : Cursor) (f : OmfRefusal) → whole_at c ≡ Err f → IsCutOff c.left
+unfolding whole_at
+whole_cut c f e =
+    elim (chosen (is_whole (length_word c.left) c.left) (Ok (raw_of (length_word c.left) c)) (Err (Short c.at)) (Err f) e) [
+      | inl h ↦ absurd cc
+      | inr h ↦ cut_off_from c.left h.0
+    ]
+
+wrong_again : (checksum total : ℕ) → (((checksum ≡ 0) ⊎ (total ≡ 0)) → ⊥) → (eqb checksum 0 || eqb total 0) ≡ false
+wrong_again checksum total wrong = rw (ne_eqb checksum 0 (λ z. wrong (inl z)), ne_eqb total 0 (λ z. wrong (inr z))) refl
 
 at_place : {A : Type 0} (x y : ℕ) (f : ℕ → OmfRefusal) → x ≡ y → (let r : Result A OmfRefusal = Err (f y) in r) ≡ Err (f x)
 at_place x y f e = ap (λ (n : ℕ). Err (f n)) (sym e)
 
 -- The raw's refusal is what is read there.
-pub raw_refused : (c : Cursor) (refusal : FrameRefusal) → AreBytes c.left → Refuses c refusal → raw_at c ≡ Err (as_omf refusal)
+pub raw_refused : (c : Cursor) (refusal : FrameRefusal) → Refuses c refusal → raw_at c ≡ Err (as_omf refusal)
 unfolding raw_at
-raw_refused c (framing.Short at) bytes h = rw (cut_off c bytes h.1) (at_place at c.at (λ n. Short n) h.0)
-raw_refused c (framing.UnknownType at ty) bytes h =
+raw_refused c (framing.Short at) h = rw (cut_off c h.1) (at_place at c.at (λ n. Short n) h.0)
+raw_refused c (framing.UnknownType at ty) h =
     rw (whole_complete c ty h.1.body h.1.checksum h.1.rest h.1.whole, unknown_again (is_record_type ty) h.1.unknown) (at_place at c.at (λ n. UnknownType n ty) h.0)
-raw_refused c (framing.BadChecksum at total) bytes h =
+raw_refused c (framing.BadChecksum at total) h =
     rw (whole_complete c h.1.ty h.1.body h.1.checksum h.1.rest h.1.whole, h.1.known, wrong_again h.1.checksum (record_sum h.1.ty h.1.body h.1.checksum) h.1.wrong)
     (λ i. Err (BadChecksum (sym h.0 i) (sym h.1.sum i)))
 

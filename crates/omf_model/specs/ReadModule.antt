@@ -73,11 +73,11 @@ rest_turn others_at s = do
   r ← record_at s.0 s.1
   if is_end r.0 then Ok (add s.0 r.0, r.1) else others_at (add s.0 r.0, r.1)
 
-abbrev pub no_record : ObjParts × Cursor → Reading ObjParts
-no_record s = Err (Short s.1.at)
+abbrev pub records_missing : ObjParts × Cursor → Reading ObjParts
+records_missing s = Err (Short s.1.at)
 
 unfoldable pub rest_within : ℕ → ObjParts → Cursor → Reading ObjParts
-rest_within most p c = within rest_turn no_record most (p, c)
+rest_within most p c = within rest_turn records_missing most (p, c)
 
 unfoldable pub module_at : Cursor → Reading ObjModule
 module_at c = do
@@ -109,11 +109,11 @@ modules_turn size others_at c = if ends_library c.left then Ok [] else do
   others ← others_at (up_to_page size m.1)
   Ok (m.0 ∷ others)
 
-abbrev pub no_module : Cursor → Result (List ObjModule) OmfRefusal
-no_module c = Err (Short c.at)
+abbrev pub module_missing : Cursor → Result (List ObjModule) OmfRefusal
+module_missing c = Err (Short c.at)
 
 unfoldable pub modules_within : ℕ → ℕ → Cursor → Result (List ObjModule) OmfRefusal
-modules_within most size c = within (modules_turn size) no_module most c
+modules_within most size c = within (modules_turn size) module_missing most c
 
 -- A library's header: F0h, and a length that gives the page size. Its checksum is not tried.
 unfoldable pub library_of : List ℕ → Result (List ObjModule) OmfRefusal

@@ -35,15 +35,15 @@ pub fn library_is_read()
     ensures found { (bytes : List ℕ) (ms : List ObjModule) → AreBytes bytes → library_of bytes ≡ Ok ms → Lib bytes ms }
     ensures only { (bytes : List ℕ) (ms : List ObjModule) → Lib bytes ms → library_of bytes ≡ Ok ms }
     ensures refused { (bytes : List ℕ) (f : OmfRefusal) → AreBytes bytes → library_of bytes ≡ Err f → LibraryFault bytes f }
-    ensures first { (bytes : List ℕ) (f : OmfRefusal) → AreBytes bytes → LibraryFault bytes f → library_of bytes ≡ Err f }
+    ensures first { (bytes : List ℕ) (f : OmfRefusal) → LibraryFault bytes f → library_of bytes ≡ Err f }
 {}
 
 /// Bytes are a library of one list of modules, or have one first fault.
 pub fn library_is_one()
     ensures modules { (bytes : List ℕ) (ms ns : List ObjModule) → Lib bytes ms → Lib bytes ns → ms ≡ ns }
-    ensures fault { (bytes : List ℕ) (f g : OmfRefusal) → AreBytes bytes → LibraryFault bytes f → LibraryFault bytes g → f ≡ g }
+    ensures fault { (bytes : List ℕ) (f g : OmfRefusal) → LibraryFault bytes f → LibraryFault bytes g → f ≡ g }
     ensures either { (bytes : List ℕ) → AreBytes bytes → ((ms : List ObjModule) × Lib bytes ms) ⊎ ((f : OmfRefusal) × LibraryFault bytes f) }
-    ensures apart { (bytes : List ℕ) (ms : List ObjModule) (f : OmfRefusal) → AreBytes bytes → Lib bytes ms → LibraryFault bytes f → ⊥ }
+    ensures apart { (bytes : List ℕ) (ms : List ObjModule) (f : OmfRefusal) → Lib bytes ms → LibraryFault bytes f → ⊥ }
 {}
 
 /// What an object file or a library means is whole.
