@@ -19,3 +19,4 @@ pub mod GrowLaws
 pub mod SaneLaws
 pub mod SaneStep
 pub mod WholeLaws
+pub mod BegunLaws

@@ -6,15 +6,15 @@ use Rattle.std.proofs.lemmas.List.{nil_from_length, take-append-drop}
 use Rattle.lx_bytes.specs.Cursor.{Cursor}
 use Rattle.lx_bytes.specs.LittleEndian.{AreBytes}
 use Rattle.omf_frame.specs.Frame.{record_bytes, BeginsWhole}
-use Rattle.omf_frame.specs.Refusal.{IsCutOff}
 use Rattle.obj_types.specs.declared.refusal.OmfRefusal.{OmfRefusal}
 use Rattle.obj_types.specs.declared.refusal.OmfRefusal.TheVariants.{Short, BadField}
 use Rattle.obj_types.specs.declared.object.ObjModule.{ObjModule}
 use Rattle.omf_fields.specs.Within.{within}
 use Rattle.omf_fields.specs.Fields.{Reading, ◌>>=◌, check}
-use Rattle.omf_model.specs.RawRecord.{RawRecord, whole_at, raw_at}
+use Rattle.omf_model.specs.RawRecord.{whole_at, raw_at}
 use Rattle.omf_model.specs.ReadModule.{header_at, module_at, is_page_size, up_to_page, ends_library, modules_within, library_of}
-use Rattle.omf_model.specs.Object.{Lib, FaultAt, PageFault, in_module, behind_module, LibraryFault, no_record, other_type, no_page, in_modules, behind}
+use Rattle.omf_model.specs.Object.{FaultAt}
+use Rattle.omf_model.specs.Library.{Lib, PageFault, in_module, behind_module, LibraryFault, no_record, other_type, no_page, in_modules, behind}
 use Rattle.omf_fields.proofs.SpanLaws.{Spans, bytes_behind}
 use Rattle.omf_fields.proofs.FieldLaws.{chosen}
 use Rattle.omf_model.proofs.RawLaws.{whole_short, whole_cut, cut_off, whole_sound, whole_complete}

@@ -16,7 +16,8 @@ use Rattle.omf_model.specs.Record.{Record, header}
 use Rattle.omf_model.specs.Spelling.{SpellsAll}
 use Rattle.omf_model.specs.RawRecord.{whole_at, raw_at}
 use Rattle.omf_model.specs.ReadModule.{header_at, module_at, is_page_size, up_to_page, ends_library, modules_within, library_of}
-use Rattle.omf_model.specs.Object.{IsModule, IsPaged, ArePaged, IsHeader, Lib}
+use Rattle.omf_model.specs.Object.{IsModule}
+use Rattle.omf_model.specs.Library.{IsPaged, ArePaged, IsHeader, Lib}
 use Rattle.omf_fields.proofs.SpanLaws.{Spans, bytes_behind, done, ok_is, bind_ok, step, checked_step}
 use Rattle.omf_fields.proofs.FieldLaws.{chosen}
 use Rattle.omf_model.proofs.RawLaws.{whole_sound, whole_complete}

@@ -19,7 +19,8 @@ use Rattle.omf_model.specs.Good.{EachGood}
 use Rattle.omf_model.specs.Spelling.{Spells, SpellsAll}
 use Rattle.omf_model.specs.RawRecord.{whole_at, raw_at}
 use Rattle.omf_model.specs.ReadModule.{record_at, header_at, is_end, rest_within, module_at, object_of}
-use Rattle.omf_model.specs.Object.{IsOpen, IsModule, Obj, FaultAt, at_header, after_records, FirstFault}
+use Rattle.omf_model.specs.Begun.{IsOpen}
+use Rattle.omf_model.specs.Object.{IsModule, Obj, FaultAt, at_header, after_records, FirstFault}
 use Rattle.omf_fields.proofs.SpanLaws.{Spans, bytes_behind, then_spans, then_splits, spans_nothing, nothing_spans, Sound, Complete, given, done, ok_is, bind_ok, step}
 use Rattle.omf_fields.proofs.FieldLaws.{Free, chosen}
 use Rattle.omf_model.proofs.PartsLaws.{parts_of-snoc, parts_of-none}

@@ -19,7 +19,6 @@ use Rattle.obj_types.specs.declared.parts.LastData.{LastData}
 use Rattle.obj_types.specs.declared.parts.LastData.TheVariants as datas
 use Rattle.obj_types.specs.declared.parts.Threads.{Threads}
 use Rattle.obj_types.specs.declared.parts.ObjParts.{ObjParts}
-use Rattle.obj_types.specs.Items.{IsIndex}
 use Rattle.obj_types.specs.Location.{meets}
 use Rattle.obj_types.specs.Whole.{WholeSeg, WholeGroup, WholeFrame, WholeGoal, WholeFix, WholeStart, WholeExp}
 use Rattle.omf_model.specs.Lists.{collect, latest}
@@ -30,6 +29,7 @@ use Rattle.omf_model.specs.Add.{add}
 use Rattle.omf_model.specs.AddLists.{module_with, parts_with, HasFour}
 use Rattle.omf_model.specs.ReadData.{data_so_far}
 use Rattle.omf_model.specs.ReadFixups.{have_of}
+use Rattle.omf_model.specs.Begun.{LastFits, InFrame, InGoal}
 use Rattle.omf_model.specs.Good.{GoodAfter, GoodFixData, IsPlainFrame, IsPlainGoal, HasMethod}
 use Rattle.omf_fields.proofs.FieldLaws.{FromOne}
 use Rattle.omf_model.proofs.DataLaws.{bool_cases}
@@ -37,20 +37,7 @@ use Rattle.omf_model.proofs.PlainLaws.{plain_from}
 use Rattle.omf_model.proofs.PairLaws.{Pairs, all-app}
 use Rattle.omf_model.proofs.GrowLaws.{Grows, all-each, lies-grows, group-grows, place-grows, fix-grows, start-grows}
 use Rattle.omf_model.proofs.PartsLaws.{no_threads, add-lists}
-use Rattle.omf_model.proofs.SaneLaws.{LastFits, PubIn, PieceIn, HasModule, segs-whole, groups-whole, pubs-whole, imports-whole, exports-whole, data-whole}
-
--- what a thread names came before
-abbrev pub InFrame : ObjModule → Frame → Type 0
-InFrame m (frames.Seg i) = FromOne (length m.segs) i
-InFrame m (frames.Group i) = IsIndex m.groups i
-InFrame m (frames.Ext i) = IsIndex m.exts i
-InFrame m frames.Here = Unit {0}
-InFrame m frames.OfTarget = Unit {0}
-
-abbrev pub InGoal : ObjModule → Goal → Type 0
-InGoal m (goals.Seg i) = FromOne (length m.segs) i
-InGoal m (goals.Group i) = IsIndex m.groups i
-InGoal m (goals.Ext i) = IsIndex m.exts i
+use Rattle.omf_model.proofs.SaneLaws.{PubIn, PieceIn, HasModule, segs-whole, groups-whole, pubs-whole, imports-whole, exports-whole, data-whole}
 
 abbrev pub FrameSet : ObjModule → Option Frame → Type 0
 FrameSet m o = IfSome o (InFrame m)

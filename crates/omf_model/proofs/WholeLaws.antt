@@ -1,5 +1,5 @@
 -- What is read is whole.
-use Rattle.std.proofs.Common.{◌≡◌, ℕ, ◌+◌, ◌<◌, ◌≤◌, Bool, true, false, cond, eqb, ltb, List, [], ◌∷◌, ◌++◌, length, map, get_or, Option, Some, None, refl, sym, ap, subst, ◌∙◌, arith, inl, inr, length-append, append_assoc}
+use Rattle.std.proofs.Common.{◌≡◌, ℕ, ◌+◌, ◌<◌, ◌≤◌, Bool, true, false, cond, eqb, ltb, List, [], ◌∷◌, ◌++◌, length, map, get_or, Option, Some, None, refl, sym, subst, ◌∙◌, arith, inl, inr, length-append, append_assoc}
 use Rattle.std.specs.Prelude.{◌&&◌, ◌||◌, IfSome, IsSomeAnd, not, unwrap_or}
 use Rattle.std.specs.List.{All, AllByRecursion, cons_option, list_any}
 use Rattle.std.proofs.lemmas.List.{append-nil}
@@ -24,18 +24,20 @@ use Rattle.omf_model.specs.ReadBlocks.{blocks_in}
 use Rattle.omf_model.specs.Record.{Record, header, passed, comment, default_library, impdef, expdef, lnames, segdef, grpdef, pubdef, extdef, comdef, ledata, lidata, fixupp, modend, FixField, thread, fixup, FixData, thread_method, thread_number, is_frame_thread, location_of, offset_of, is_self_relative}
 use Rattle.omf_model.specs.Fixups.{some, is_frame_method, is_target_method, frame_by, goal_by, frame_meant, goal_meant, frame_set, goal_set, set_threads, has_data, data_segment, copies_of, places_of, fixes_by}
 use Rattle.omf_model.specs.Add.{add, add_field, add_fields}
-use Rattle.omf_model.specs.Parts.{parts_of, module_of}
+use Rattle.omf_model.specs.Parts.{parts_of}
 use Rattle.omf_model.specs.ReadFixups.{are_apart}
+use Rattle.omf_model.specs.Begun.{AreBegun, LastFits, InFrame, InGoal}
 use Rattle.omf_model.specs.Good.{GoodAfter, GoodThread, GoodFixup, GoodAfterData, GoodField, GoodFields, EachGood}
-use Rattle.omf_model.specs.Object.{IsModule, Obj, ArePaged, Lib}
+use Rattle.omf_model.specs.Object.{IsModule, Obj}
+use Rattle.omf_model.specs.Library.{ArePaged, Lib}
 use Rattle.omf_model.proofs.DataLaws.{bool_cases}
 use Rattle.omf_model.proofs.PlainLaws.{not_true}
 use Rattle.omf_model.proofs.FixLaws.{and_true}
 use Rattle.omf_model.proofs.PairLaws.{Pairs, all-at, pairs-at, all-app, pairs-append, pairs-map, all-mapped, copies}
 use Rattle.omf_model.proofs.GrowLaws.{Grows, all-each, lies-grows, group-grows, place-grows, fix-grows, start-grows}
 use Rattle.omf_model.proofs.PartsLaws.{parts_of-snoc}
-use Rattle.omf_model.proofs.SaneLaws.{LastFits, PubIn, PieceIn, HasModule}
-use Rattle.omf_model.proofs.SaneStep.{InFrame, InGoal, FrameSet, GoalSet, Apart, Sane, latest-all, get-all, frame_by-in, goal_by-in, fix_frame, fix_goal, last-grows, in_frame-grows, in_goal-grows, option-grows, add-sane}
+use Rattle.omf_model.proofs.SaneLaws.{PubIn, PieceIn, HasModule}
+use Rattle.omf_model.proofs.SaneStep.{FrameSet, GoalSet, Apart, Sane, latest-all, get-all, frame_by-in, goal_by-in, fix_frame, fix_goal, last-grows, in_frame-grows, in_goal-grows, option-grows, add-sane}
 use Rattle.omf_model.proofs.ModuleLaws.{parts_header, module_is}
 
 -- ---- other fixes and threads
@@ -202,7 +204,7 @@ own p high low d s g (datas.Blocks seg start wide body) fits on =
       apart = pairs-map (λ x y. x + len_of high ≤ y) Apart (fix_of p seg high d) (apart_fixes p seg high d) (map (λ x. start + x) xs) (shifted start (len_of high) xs c.1);
     }
 
-none-any : {A : Type 0} (test : A → Bool) (xs : List A) → list_any test xs ≡ false → AllByRecursion (λ x. test x ≡ false) xs
+pub none-any : {A : Type 0} (test : A → Bool) (xs : List A) → list_any test xs ≡ false → AllByRecursion (λ x. test x ≡ false) xs
 none-any test [] e = tt
 none-any test (x ∷ xs) e =
     elim (bool_cases (test x)) [
@@ -303,7 +305,7 @@ records-sane (r ∷ rs) before s g =
     let next : Sane (parts_of (before ++ r ∷ [])) = subst Sane (sym (parts_of-snoc before r)) (record-sane (parts_of before) r s g.0) in
     subst (λ (qs : List Record). Sane (parts_of qs)) (append_assoc before (r ∷ []) rs) (records-sane rs (before ++ r ∷ []) next g.1)
 
-sane-whole : (p : ObjParts) → Sane p → WholeModule p.module
+pub sane-whole : (p : ObjParts) → Sane p → WholeModule p.module
 sane-whole p s = record {
   segs = all-at WholeSeg p.module.segs s.segs;
   groups = all-at (WholeGroup p.module) p.module.groups s.groups;
@@ -318,14 +320,16 @@ sane-whole p s = record {
   fix_limit = s.fix_limit;
 }
 
+-- Records of a module that is begun are sane.
+pub begun_records-sane : (rs : List Record) → AreBegun rs → Sane (parts_of rs)
+begun_records-sane rs b =
+    let first : Sane (parts_of (header b.name ∷ [])) = subst Sane (sym (parts_header b.name)) (begun-sane b.name) in
+    subst (λ (qs : List Record). Sane (parts_of qs)) (sym b.headed) (records-sane b.others (header b.name ∷ []) first b.good)
+
 -- A module that bytes mean is whole.
 pub module_whole : (bytes : List ℕ) (m : ObjModule) → IsModule bytes m → WholeModule m
 module_whole bytes m w =
-    let begun = w.are.begun in
-    let first : Sane (parts_of (header begun.name ∷ [])) = subst Sane (sym (parts_header begun.name)) (begun-sane begun.name) in
-    let all = records-sane begun.others (header begun.name ∷ []) first begun.good in
-    let same : (parts_of (header begun.name ∷ begun.others)).module ≡ m = module_is (header begun.name ∷ begun.others) ∙ ap (λ (rs : List Record). module_of rs) (sym begun.headed) ∙ sym w.meant in
-    subst WholeModule same (sane-whole (parts_of (header begun.name ∷ begun.others)) all)
+    subst WholeModule (module_is w.records ∙ sym w.meant) (sane-whole (parts_of w.records) (begun_records-sane w.records w.are.begun))
 
 pub object_whole : (bytes : List ℕ) (m : ObjModule) → Obj bytes m → WholeModule m
 object_whole bytes m h = module_whole h.front m h.first_so

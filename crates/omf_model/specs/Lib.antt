@@ -15,7 +15,9 @@ pub mod Spelling
 pub mod Good
 pub mod RawRecord
 pub mod ReadModule
+pub mod Begun
 pub mod Object
+pub mod Library
 pub mod Examples
 pub mod FaultExamples
 pub mod Gives

@@ -12,7 +12,8 @@ ghost use Rattle.omf_model.specs.Parts.{parts_of};
 ghost use Rattle.omf_model.specs.Add.{add};
 ghost use Rattle.omf_model.specs.AddLists.{parts_with, HasFour};
 ghost use Rattle.omf_model.specs.ReadModule.{object_of, library_of};
-ghost use Rattle.omf_model.specs.Object.{Obj, FirstFault, Lib, LibraryFault};
+ghost use Rattle.omf_model.specs.Object.{Obj, FirstFault};
+ghost use Rattle.omf_model.specs.Library.{Lib, LibraryFault};
 
 /// Reading from left to right gives what an object file means, and refuses it by its first fault.
 pub fn object_is_read()

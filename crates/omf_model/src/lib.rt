@@ -4,9 +4,11 @@
 //! The definitions stand in specs/; the functions here run nothing, and say what holds of them.
 #![tactic(auto)]
 
+mod begun;
 mod examples;
 mod laws;
 
+pub use begun::unfinished_module;
 pub use examples::{
     copies_of_blocks, each_refusal, import_library, one_segment, symbols_of_each_kind,
     the_first_bytes, threads,
