@@ -2,7 +2,7 @@
 
 ghost use Rattle.std.specs.Prelude.{◌≡◌, ◌+◌, ◌<◌, ◌≤◌, ◌^◌, ◌↔◌, [], IsTrue, IfOk, IfErr, length};
 ghost use Rattle.lx_bytes.specs.LittleEndian.{AreBytes};
-ghost use Rattle.omf_fields.specs.Fields.{width, byte_at, bytes_at, number_at, name_at, index_at, index_below, index_or_zero, length_at};
+ghost use Rattle.omf_fields.specs.Fields.{width, byte_at, bytes_at, number_at, name_at, index_at, index_below, index_or_zero, length_at, where_so};
 ghost use Rattle.omf_fields.specs.Yields.{Yields, with_short};
 
 use lx_bytes::{Cur, Short};
@@ -98,6 +98,28 @@ impl<'a> Fields<'a> {
             self.double()
         } else {
             Ok(u32::from(self.word()?))
+        }
+    }
+
+    /// The next byte, where it stands there.
+    pub fn byte_where(&mut self, present: bool) -> Result<Option<u8>, OmfRefusal>
+        ensures { Yields (λ b. b) result (where_so present byte_at) self.old self.new }
+    {
+        if present {
+            Ok(Some(self.byte()?))
+        } else {
+            Ok(None)
+        }
+    }
+
+    /// The next number of two bytes, where it stands there.
+    pub fn word_where(&mut self, present: bool) -> Result<Option<u16>, OmfRefusal>
+        ensures { Yields (λ n. n) result (where_so present (number_at 2)) self.old self.new }
+    {
+        if present {
+            Ok(Some(self.word()?))
+        } else {
+            Ok(None)
         }
     }
 

@@ -2,10 +2,10 @@
 //! ("Relocatable Object Module Format", "Record Format").
 #![tactic(auto)]
 
-mod counting;
 mod fields;
 mod laws;
+mod memory;
 
-pub use counting::count;
 pub use fields::Fields;
 pub use laws::{field_is_read, list_item_by_item, list_of_items};
+pub use memory::{count, name_of, said};

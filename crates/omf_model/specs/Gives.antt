@@ -7,7 +7,9 @@ use Rattle.obj_types.specs.declared.refusal.OmfRefusal.{OmfRefusal}
 use Rattle.obj_types.specs.declared.parts.ObjParts.{ObjParts}
 use Rattle.omf_fields.specs.Fields.{◌>>=◌}
 use Rattle.omf_model.specs.Record.{Record}
+use Rattle.omf_frame.specs.declared.omf_record.Rec.{Rec}
 use Rattle.omf_model.specs.Add.{add}
+use Rattle.omf_model.specs.ReadModule.{reader_of}
 
 -- The value, seen by view, or the refusal. Want of memory is free.
 abbrev pub Gives : {A B : Type 0} → (A → B) → Result A (Fail OmfRefusal) → Result B OmfRefusal → Type 0
@@ -22,3 +24,7 @@ contents_at at contents = record { at = at + 3; left = contents }
 -- The unfinished module after a record that was read behind it.
 abbrev pub then_add : ObjParts → Result Record OmfRefusal → Result ObjParts OmfRefusal
 then_add p read = read >>= λ r. Ok (add p r)
+
+-- The unfinished module after a record, or the record's first fault.
+abbrev pub read_after : ObjParts → Rec → Result ObjParts OmfRefusal
+read_after p rec = then_add p (reader_of rec.ty p rec.at (contents_at rec.at rec.body.now))
