@@ -27,7 +27,8 @@ pub bind-same : {A B : Type 0} (r : Result A OmfRefusal) (f g : A → Result B O
 bind-same (Ok x) f g same = same x refl
 bind-same (Err e) f g same = refl
 
-cond-same : {A : Type 0} (b : Bool) (x y z : A) → (b ≡ false → y ≡ z) → cond b x y ≡ cond b x z
+-- a choice between what a test gives and what is the same where it does not hold
+pub cond-same : {A : Type 0} (b : Bool) (x y z : A) → (b ≡ false → y ≡ z) → cond b x y ≡ cond b x z
 cond-same true x y z h = refl
 cond-same false x y z h = h refl
 
@@ -60,7 +61,7 @@ list-first {A} one spans c bytes =
     ∙ one_turn HasBytes left_at (list_turn one) no_items (list_shortens one spans) (list_ends one) c bytes
     ∙ ap (λ (f : Cursor → Result (List A) OmfRefusal). list_turn one f c) (λ i d. sym (list_through one d) i)
 
-not-empty : (xs : List ℕ) → xs ≢ [] → eqb (length xs) 0 ≡ false
+pub not-empty : (xs : List ℕ) → xs ≢ [] → eqb (length xs) 0 ≡ false
 not-empty xs some = ne_eqb (length xs) 0 (λ none. some (nil_from_length xs none))
 
 -- A list with something left is its first item, and then the others.

@@ -145,7 +145,7 @@ field_complete p wide record_at c (fixup high low what) d t ok =
 
 -- ---- the fields
 
-field_one : (wide : Bool) → OneByte (field_form wide)
+pub field_one : (wide : Bool) → OneByte (field_form wide)
 field_one wide (thread b i) bytes h = then_one (byte b) _ bytes h.1 (λ front f. let len : length front ≡ 1 = ap (λ (xs : List ℕ). length xs) f.1 in omega (arith, len))
 field_one wide (fixup high low what) bytes h = then_one (byte high) _ bytes h.1 (λ front f. let len : length front ≡ 1 = ap (λ (xs : List ℕ). length xs) f.1 in omega (arith, len))
 

@@ -20,3 +20,4 @@ pub mod SaneLaws
 pub mod SaneStep
 pub mod WholeLaws
 pub mod BegunLaws
+pub mod TurnLaws

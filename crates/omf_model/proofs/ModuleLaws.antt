@@ -230,7 +230,7 @@ pub bind_err : {A B : Type 0} (r : Result A OmfRefusal) (f : A → Result B OmfR
 bind_err (Ok x) f y e = inr (x, refl, e)
 bind_err (Err d) f y e = inl (let same : d ≡ y = cc in ap (λ (q : OmfRefusal). Err q) same)
 
-nothing_left : (p : ObjParts) (c : Cursor) → c.left ≡ [] → record_at p c ≡ Err (Short c.at)
+pub nothing_left : (p : ObjParts) (c : Cursor) → c.left ≡ [] → record_at p c ≡ Err (Short c.at)
 unfolding record_at raw_at whole_at
 nothing_left p c none = rw none refl
 

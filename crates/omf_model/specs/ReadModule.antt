@@ -79,6 +79,9 @@ records_missing s = Err (Short s.1.at)
 unfoldable pub rest_within : ℕ → ObjParts → Cursor → Reading ObjParts
 rest_within most p c = within rest_turn records_missing most (p, c)
 
+abbrev pub rest_at : ObjParts → Cursor → Reading ObjParts
+rest_at p c = rest_within (length c.left) p c
+
 unfoldable pub module_at : Cursor → Reading ObjModule
 module_at c = do
   first ← header_at c
@@ -114,6 +117,9 @@ module_missing c = Err (Short c.at)
 
 unfoldable pub modules_within : ℕ → ℕ → Cursor → Result (List ObjModule) OmfRefusal
 modules_within most size c = within (modules_turn size) module_missing most c
+
+abbrev pub modules_at : ℕ → Cursor → Result (List ObjModule) OmfRefusal
+modules_at size c = modules_within (length c.left) size c
 
 -- A library's header: F0h, and a length that gives the page size. Its checksum is not tried.
 unfoldable pub library_of : List ℕ → Result (List ObjModule) OmfRefusal

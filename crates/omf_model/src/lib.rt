@@ -7,6 +7,7 @@
 mod begun;
 mod examples;
 mod laws;
+mod turns;
 
 pub use begun::unfinished_module;
 pub use examples::{
@@ -17,3 +18,4 @@ pub use laws::{
     library_is_one, library_is_read, meaning_is_whole, object_is_one, object_is_read,
     one_more_record,
 };
+pub use turns::{fields_turn_by_turn, modules_turn_by_turn, records_turn_by_turn};
