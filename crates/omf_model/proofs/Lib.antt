@@ -21,3 +21,5 @@ pub mod SaneStep
 pub mod WholeLaws
 pub mod BegunLaws
 pub mod TurnLaws
+pub mod PlaceLaws
+pub mod CopiesLaws

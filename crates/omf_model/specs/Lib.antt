@@ -3,6 +3,7 @@ pub mod Blocks
 pub mod Record
 pub mod ReadBlocks
 pub mod Fixups
+pub mod Copies
 pub mod Items
 pub mod Parts
 pub mod Add

@@ -5,11 +5,13 @@
 #![tactic(auto)]
 
 mod begun;
+mod blocks;
 mod examples;
 mod laws;
 mod turns;
 
 pub use begun::unfinished_module;
+pub use blocks::{blocks_are_measured, copies_are_computed, locations_on_blocks};
 pub use examples::{
     copies_of_blocks, each_refusal, import_library, one_segment, symbols_of_each_kind,
     the_first_bytes, threads,
