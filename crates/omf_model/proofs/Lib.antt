@@ -23,3 +23,5 @@ pub mod BegunLaws
 pub mod TurnLaws
 pub mod PlaceLaws
 pub mod CopiesLaws
+pub mod WholeValues
+pub mod TooManyLaws

@@ -57,7 +57,7 @@ pub fields-more : (wide : Bool) (at most : ℕ) (p : ObjParts) (c : Cursor) → 
 unfolding fields_within
 fields-more wide at most p c bytes long = enough HasBytes left_of (fields_turn wide at) no_fields (fields_shorten wide at) (fields_end wide at) most (p, c) bytes long ∙ sym (fields_through wide at p c)
 
-fields-next : (wide : Bool) (at : ℕ) (p : ObjParts) (c : Cursor) → AreBytes c.left → c.left ≢ []
+pub fields-next : (wide : Bool) (at : ℕ) (p : ObjParts) (c : Cursor) → AreBytes c.left → c.left ≢ []
     → fields_at wide at p c ≡ (field_at wide p at c >>= λ first. (fields_at wide at (add_field p first.0) first.1 >>= λ others. Ok (first.0 ∷ others)))
 fields-next wide at p c bytes some =
     fields_through wide at p c

@@ -21,4 +21,5 @@ pub mod Object
 pub mod Library
 pub mod Examples
 pub mod FaultExamples
+pub mod WholeExamples
 pub mod Gives
