@@ -1,7 +1,9 @@
 //! What the definition of a record says of all byte strings.
 
 ghost use Rattle.std.specs.Prelude.{◌≡◌, ℕ, List};
+ghost use Rattle.lx_bytes.specs.LittleEndian.{AreBytes};
 ghost use Rattle.omf_frame.specs.Frame.{BeginsWhole};
+ghost use Rattle.omf_frame.specs.Refusal.{IsCutOff};
 
 use crate::record_type::{
     COMDEF, COMENT, EXTDEF, FIXUPP, FIXUPP_32, GRPDEF, LEDATA, LEDATA_32, LEXTDEF, LEXTDEF_32,
@@ -45,4 +47,10 @@ pub fn type_numbers()
     ensures lextdef_32 { LEXTDEF_32 ≡ 0xB5 }
     ensures lpubdef { LPUBDEF ≡ 0xB6 }
     ensures lpubdef_32 { LPUBDEF_32 ≡ 0xB7 }
+{}
+
+/// A record is cut off exactly where no whole record begins.
+pub fn cut_off_or_whole()
+    ensures not_both { (bytes : List ℕ) (ty : ℕ) (body : List ℕ) (checksum : ℕ) (rest : List ℕ) → IsCutOff bytes → BeginsWhole bytes ty body checksum rest → ⊥ }
+    ensures either { (bytes : List ℕ) → AreBytes bytes → ((ty checksum : ℕ) (body rest : List ℕ) → BeginsWhole bytes ty body checksum rest → ⊥) → IsCutOff bytes }
 {}

@@ -8,6 +8,6 @@ pub mod record_type;
 mod refusal;
 
 pub use frame::next_record;
-pub use laws::{one_record, type_numbers};
+pub use laws::{cut_off_or_whole, one_record, type_numbers};
 pub use omf_record::Rec;
 pub use refusal::FrameRefusal;

@@ -7,7 +7,7 @@ use Rattle.std.proofs.Math.ListN.{get_or-append}
 use Rattle.std.proofs.Math.Seq.{get_or-append_right}
 use Rattle.lx_bytes.specs.LittleEndian.{little_bytes}
 use Rattle.lx_bytes.proofs.Numbers.{length-little_bytes}
-use Rattle.omf_model.specs.Fields.{width}
+use Rattle.omf_fields.specs.Fields.{width}
 use Rattle.omf_model.specs.Blocks.{Blocks, none, bytes, nested, block_bytes, head_bytes, count_of, origins, contents, expanded, expanded_len}
 
 -- what has an origin in an interval goes on as the interval does
@@ -60,7 +60,7 @@ between-repeat (suc n) xs lo hi h = between-append xs (repeat n xs) lo hi h (bet
 between-wider : (xs : List ℕ) (lo hi a z : ℕ) → a ≤ lo → hi ≤ z → Between xs lo hi → Between xs a z
 between-wider xs lo hi a z low high h x lt = let b = h x lt in (omega (arith, low, b.0), omega (arith, high, b.1))
 
-length-range : (a n : ℕ) → length (range_with_len a n) ≡ n
+pub length-range : (a n : ℕ) → length (range_with_len a n) ≡ n
 length-range a zero = refl
 length-range a (suc n) = omega (arith, length-range (a + 1) n)
 
@@ -190,7 +190,7 @@ origins-run wide at (nested times inner rest) =
 
 -- ---- lengths
 
-length-repeat : (n : ℕ) (xs : List ℕ) → length (repeat n xs) ≡ n * length xs
+pub length-repeat : (n : ℕ) (xs : List ℕ) → length (repeat n xs) ≡ n * length xs
 length-repeat zero xs = omega arith
 length-repeat (suc n) xs = length-append xs (repeat n xs) ∙ (let e : length xs + length (repeat n xs) ≡ n * length xs + length xs = omega (arith, length-repeat n xs) in e) ∙ sym (suc-mul n (length xs))
 

@@ -91,10 +91,10 @@ range-pairs a (suc n) = (later (range_with_len (a + 1) n) (range-all (a + 1) n),
     later [] h = tt
     later (x ∷ xs) h = (omega (arith, h.0.0), later xs h.1)
 
-abbrev IsPlace : ℕ → List ℕ → ℕ → Type 0
+abbrev pub IsPlace : ℕ → List ℕ → ℕ → Type 0
 IsPlace o xs x = (x < length xs) × (get_or xs x 0 ≡ o)
 
-places-are : (o : ℕ) (xs : List ℕ) → AllByRecursion (IsPlace o xs) (places_of o xs)
+pub places-are : (o : ℕ) (xs : List ℕ) → AllByRecursion (IsPlace o xs) (places_of o xs)
 places-are o xs = turn (places_of o xs) (filter-all (λ x. (0 ≤ x) × (x < 0 + length xs)) (λ x. eqb (get_or xs x 0) o) (range_with_len 0 (length xs)) (range-all 0 (length xs)))
   where
     turn : (ys : List ℕ) → AllByRecursion (λ x. ((0 ≤ x) × (x < 0 + length xs)) × (eqb (get_or xs x 0) o ≡ true)) ys → AllByRecursion (IsPlace o xs) ys

@@ -8,8 +8,6 @@ use Rattle.obj_types.specs.declared.object.Piece.{Piece}
 use Rattle.obj_types.specs.declared.object.ObjModule.{ObjModule}
 use Rattle.obj_types.specs.declared.symbol.Pub.{Pub}
 use Rattle.obj_types.specs.declared.symbol.Imp.{Imp}
-use Rattle.obj_types.specs.declared.parts.LastData.{LastData}
-use Rattle.obj_types.specs.declared.parts.LastData.TheVariants as datas
 use Rattle.obj_types.specs.declared.parts.ObjParts.{ObjParts}
 use Rattle.obj_types.specs.Whole.{WholeSeg, IsPlainSeg, LiesIn, WholeGroup, WholePlace, WholeExp}
 use Rattle.omf_model.specs.Blocks.{Blocks, block_bytes, expanded, expanded_len}
@@ -17,6 +15,7 @@ use Rattle.omf_model.specs.ReadBlocks.{blocks_in}
 use Rattle.omf_model.specs.Record.{Record, header, passed, comment, default_library, impdef, expdef, lnames, segdef, grpdef, pubdef, extdef, comdef, ledata, lidata, fixupp, modend, align_of, combine_of, PubDef}
 use Rattle.omf_model.specs.Items.{name_with, segs_in, groups_in, pub_of, pubs_in, imports_in, exports_in, is_debug_seg, pieces_in, datas_in}
 use Rattle.omf_model.specs.ReadNames.{are_attributes}
+use Rattle.omf_model.specs.Begun.{LastFits}
 use Rattle.omf_model.specs.Good.{GoodMember, GoodData, GoodAfter}
 use Rattle.omf_model.proofs.DataLaws.{bool_cases}
 use Rattle.omf_model.proofs.FixLaws.{and_true}
@@ -25,13 +24,6 @@ use Rattle.omf_model.proofs.PairLaws.{all-at}
 use Rattle.omf_model.proofs.GrowLaws.{all-each}
 use Rattle.omf_model.proofs.CopyLaws.{length-expanded}
 use Rattle.omf_model.proofs.BlockLaws.{blocks_in-bytes}
-
--- the last data lies in its segment
-abbrev pub LastFits : ObjModule → LastData → Type 0
-LastFits m datas.None = Unit {0}
-LastFits m (datas.Straight seg offset len) = LiesIn m seg offset len
-LastFits m (datas.Blocks seg offset wide body) = LiesIn m seg offset (expanded_len (blocks_in wide body))
-LastFits m datas.Dropped = Unit {0}
 
 -- ---- what a good record gives is whole
 

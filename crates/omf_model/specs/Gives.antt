@@ -5,9 +5,11 @@ use Rattle.lx_types.specs.declared.fail.Fail.TheVariants.{Said, NoMemory}
 use Rattle.lx_bytes.specs.Cursor.{Cursor}
 use Rattle.obj_types.specs.declared.refusal.OmfRefusal.{OmfRefusal}
 use Rattle.obj_types.specs.declared.parts.ObjParts.{ObjParts}
-use Rattle.omf_model.specs.Fields.{Reading, ◌>>=◌}
+use Rattle.omf_fields.specs.Fields.{◌>>=◌}
 use Rattle.omf_model.specs.Record.{Record}
+use Rattle.omf_frame.specs.declared.omf_record.Rec.{Rec}
 use Rattle.omf_model.specs.Add.{add}
+use Rattle.omf_model.specs.ReadModule.{reader_of}
 
 -- The value, seen by view, or the refusal. Want of memory is free.
 abbrev pub Gives : {A B : Type 0} → (A → B) → Result A (Fail OmfRefusal) → Result B OmfRefusal → Type 0
@@ -23,7 +25,6 @@ contents_at at contents = record { at = at + 3; left = contents }
 abbrev pub then_add : ObjParts → Result Record OmfRefusal → Result ObjParts OmfRefusal
 then_add p read = read >>= λ r. Ok (add p r)
 
--- The same of a call that takes no memory and moves a cursor on.
-abbrev pub Takes : {A B : Type 0} → (A → B) → Result A OmfRefusal → (Cursor → Reading B) → Cursor → Cursor → Type 0
-Takes view (Ok x) read old new = read old ≡ Ok (view x, new)
-Takes view (Err refusal) read old new = read old ≡ Err refusal
+-- The unfinished module after a record, or the record's first fault.
+abbrev pub read_after : ObjParts → Rec → Result ObjParts OmfRefusal
+read_after p rec = then_add p (reader_of rec.ty p rec.at (contents_at rec.at rec.body.now))

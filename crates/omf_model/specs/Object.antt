@@ -1,34 +1,14 @@
--- What an object file and a library mean, and their first faults.
--- "Object Record Order"; "Microsoft LIB Library Format".
-use Rattle.std.specs.Prelude.{◌≡◌, ◌≢◌, ℕ, ◌+◌, ◌-◌, ◌*◌, ◌<◌, true, false, List, [], ◌∷◌, ◌++◌, length, slice_index, Option, Err, if◌then◌else◌}
-use Rattle.std.specs.List.{AllByRecursion}
-use Rattle.lx_bytes.specs.LittleEndian.{little_bytes}
-use Rattle.lx_bytes.specs.Cursor.{Cursor}
-use Rattle.omf_frame.specs.Frame.{BeginsWhole}
-use Rattle.omf_frame.specs.Refusal.{IsCutOff}
+-- What an object file means, and its first fault. "Object Record Order".
+use Rattle.std.specs.Prelude.{◌≡◌, ℕ, ◌+◌, List, [], ◌∷◌, ◌++◌, length, Option, Err}
 use Rattle.obj_types.specs.declared.refusal.OmfRefusal.{OmfRefusal}
-use Rattle.obj_types.specs.declared.refusal.OmfRefusal.TheVariants.{Short, BadField}
 use Rattle.obj_types.specs.declared.object.ObjModule.{ObjModule}
-use Rattle.omf_model.specs.Record.{Record, header, modend, FixData}
-use Rattle.omf_model.specs.Forms.{Form, ◌then◌, anything}
+use Rattle.omf_fields.specs.Forms.{◌then◌, anything}
+use Rattle.omf_model.specs.Record.{Record, modend, FixData}
 use Rattle.omf_model.specs.Spelling.{SpellsAll}
 use Rattle.omf_model.specs.Parts.{parts_of, module_of}
-use Rattle.omf_model.specs.Good.{EachGood}
-use Rattle.omf_model.specs.ReadModule.{header_at, record_at, is_end, is_page_size, up_to_page, ends_library}
+use Rattle.omf_model.specs.Begun.{AreBegun, IsOpen}
+use Rattle.omf_model.specs.ReadModule.{header_at, record_at}
 pub use Rattle.obj_types.specs.Data.{Data}
-
--- ---- an object file
-
--- The records of a module so far: a header, and records each good after those before it.
-pub record AreBegun (rs : List Record) : Type 0 where
-  pub name : List ℕ
-  pub others : List Record
-  pub headed : rs ≡ header name ∷ others
-  pub good : EachGood (header name ∷ []) others
-
--- None of them ends the module.
-abbrev pub IsOpen : List Record → Type 0
-IsOpen rs = AllByRecursion (λ r. is_end r ≡ false) rs
 
 -- All records of a module: the last is its only MODEND.
 pub record AreModule (rs : List Record) : Type 0 where
@@ -49,35 +29,6 @@ pub record IsModule (bytes : List ℕ) (m : ObjModule) : Type 0 where
 -- An object file means m: it begins with the records of such a module. Bytes behind them are not read.
 abbrev pub Obj : List ℕ → ObjModule → Type 0
 Obj bytes m = ((λ front. IsModule front m) then anything) bytes
-
--- ---- a library
-
--- A module, and zeros or other bytes up to a multiple of the page size, the file's place of the first
--- byte being a multiple.
-pub record IsPaged (size : ℕ) (bytes : List ℕ) (m : ObjModule) : Type 0 where
-  pub body : List ℕ
-  pub fill : List ℕ
-  pub joined : bytes ≡ body ++ fill
-  pub is_module : IsModule body m
-  pub fewer : length fill < size
-  pub pages : ℕ
-  pub whole : length bytes ≡ pages * size
-
--- Modules, each up to a page's end, and then F1h and anything.
-abbrev pub ArePaged : ℕ → List ObjModule → Form
-ArePaged size [] bytes = slice_index bytes 0 ≡ 0xF1
-ArePaged size (m ∷ ms) bytes = ((λ front. IsPaged size front m) then ArePaged size ms) bytes
-
--- The header: F0h, a length that is the page size less 3, and so many bytes.
-pub record IsHeader (size : ℕ) (bytes : List ℕ) : Type 0 where
-  pub contents : List ℕ
-  pub joined : bytes ≡ 0xF0 ∷ little_bytes 2 (size - 3) ++ contents
-  pub whole : length bytes ≡ size
-  pub page : is_page_size size ≡ true
-
-pub record Lib (bytes : List ℕ) (ms : List ObjModule) : Type 0 where
-  pub size : ℕ
-  pub paged : (IsHeader size then ArePaged size ms) bytes
 
 -- ---- faults
 
@@ -100,22 +51,3 @@ pub data FaultAt : ℕ → List ℕ → OmfRefusal → Type 0 where
 
 abbrev pub FirstFault : List ℕ → OmfRefusal → Type 0
 FirstFault bytes refusal = FaultAt 0 bytes refusal
-
--- A cursor behind a module.
-abbrev pub behind : ℕ → List ℕ → List ℕ → Cursor
-behind at body rest = record { at = at + length body; left = rest }
-
--- The first fault in a module's place: that of the module, or behind a module one in the next place, which
--- is the next multiple of the page size, also where it is past the end.
-pub data PageFault (size : ℕ) : ℕ → List ℕ → OmfRefusal → Type 0 where
-  in_module : {at : ℕ} {bytes : List ℕ} {refusal : OmfRefusal} → ends_library bytes ≡ false → FaultAt at bytes refusal → PageFault size at bytes refusal
-  behind_module : {at : ℕ} {bytes : List ℕ} {refusal : OmfRefusal} (m : ObjModule) (body rest : List ℕ) → bytes ≡ body ++ rest → IsModule body m
-      → PageFault size (up_to_page size (behind at body rest)).at (up_to_page size (behind at body rest)).left refusal → PageFault size at bytes refusal
-
--- The first fault of a library: no whole record stands first, or one of another type, or one whose length
--- gives no page size, or its modules have one.
-pub data LibraryFault : List ℕ → OmfRefusal → Type 0 where
-  no_record : {bytes : List ℕ} → IsCutOff bytes → LibraryFault bytes (Short 0)
-  other_type : {bytes : List ℕ} (ty : ℕ) (body : List ℕ) (checksum : ℕ) (rest : List ℕ) → BeginsWhole bytes ty body checksum rest → ty ≢ 0xF0 → LibraryFault bytes (BadField 0)
-  no_page : {bytes : List ℕ} (body : List ℕ) (checksum : ℕ) (rest : List ℕ) → BeginsWhole bytes 0xF0 body checksum rest → is_page_size (4 + length body) ≡ false → LibraryFault bytes (BadField 1)
-  in_modules : {bytes : List ℕ} {refusal : OmfRefusal} (size : ℕ) (front back : List ℕ) → bytes ≡ front ++ back → IsHeader size front → PageFault size size back refusal → LibraryFault bytes refusal

@@ -1,0 +1,11 @@
+//! The fields of a record's contents, read one after another, each refusal at its place
+//! ("Relocatable Object Module Format", "Record Format").
+#![tactic(auto)]
+
+mod fields;
+mod laws;
+mod memory;
+
+pub use fields::Fields;
+pub use laws::{field_is_read, list_item_by_item, list_of_items};
+pub use memory::{count, name_of, said};

@@ -1,0 +1,30 @@
+//! "96h LNAMES".
+
+ghost use Rattle.std.specs.Prelude.{◌≡◌};
+ghost use Rattle.omf_model.specs.Begun.{IsBegun};
+ghost use Rattle.omf_model.specs.Gives.{Gives, read_after};
+
+use lx_types::Fail;
+use obj_types::{ObjParts, OmfRefusal};
+use omf_fields::{Fields, name_of};
+use omf_frame::Rec;
+use omf_frame::record_type::LNAMES;
+use std::alloc::Global;
+
+/// Adds the names of an LNAMES record, up to its end. After a refusal nothing is told of the parts.
+pub fn names(alloc: Global, rec: &Rec, into: &mut ObjParts) -> Result<(), Fail<OmfRefusal>>
+    requires kind { rec.now.ty ≡ LNAMES }
+    requires begun { IsBegun into.old }
+    ensures { Gives (λ _. into.new) result (read_after into.old rec.now) }
+{
+    let mut fields = Fields::of(rec);
+    'names: while !fields.is_empty() {
+        let bytes = match fields.name() {
+            Ok(bytes) => bytes,
+            Err(refusal) => return Err(Fail::Said(refusal)),
+        };
+        let name = name_of(alloc, bytes)?;
+        into.names.push(name)?;
+    }
+    Ok(())
+}
