@@ -1,5 +1,5 @@
 -- What an entry asks of the loader, and what the loader does then.
-use Rattle.std.specs.Prelude.{◌≡◌, ℕ, ◌*◌, ◌==◌, ◌&&◌, ◌||◌, not, Bool, true, false, List, [], map, length, Option, Some, None, is_none, nat_lt, nat_le, if◌then◌else◌}
+use Rattle.std.specs.Prelude.{ℕ, ◌*◌, ◌==◌, ◌&&◌, not, Bool, true, false, List, [], map, length, Option, Some, None, is_none, nat_lt}
 use Rattle.lx_types.specs.Object.{class_of}
 use Rattle.lx_types.specs.declared.object.Class.{Class}
 use Rattle.lx_types.specs.declared.object.Class.TheVariants as classes
@@ -7,12 +7,11 @@ use Rattle.lx_types.specs.declared.object.PageId.{PageId}
 use Rattle.load_model.specs.declared.deeds.How.{How}
 use Rattle.load_model.specs.declared.deeds.Deed.{Deed}
 use Rattle.load_model.specs.declared.deeds.Deed.TheVariants.{Enter, Full, Free, Exit, Fault, Write, Shared}
-use Rattle.load_model.specs.declared.deeds.Fresh.{Fresh}
-use Rattle.load_model.specs.Modules.{Library, Held, module_count, object_at, address_in}
-use Rattle.load_model.specs.State.{Written, Residence, Process, Eager, with_process, residence_at, attached_residence, pids, is_among}
+use Rattle.load_model.specs.Modules.{Library, Held, module_count, object_at}
+use Rattle.load_model.specs.State.{Written, Residence, Eager, with_process, residence_at, attached_residence}
 use Rattle.load_model.specs.Entering.{enter_deed, entered}
 use Rattle.load_model.specs.Leaving.{freeing, exiting, leaving_calls, gone, after_leaving}
-use Rattle.load_model.specs.Memory.{Bytes, pages_over, page, writing, with_write}
+use Rattle.load_model.specs.Memory.{Bytes, pages_over, writing, with_write}
 use Rattle.load_model.specs.Refusals.{Purpose, write, share, touch, enter_refusal, free_refusal, span_refusal}
 
 -- A start or a load of a module; a free of one; an exit; a page's first touch; bytes to write; a length of

@@ -1,6 +1,6 @@
 -- What a load attaches, where it places what is new, and what it calls.
 -- Control Program reference: DosLoadModule; LX: "LX Header" (per-process initialisation).
-use Rattle.std.specs.Prelude.{ℕ, suc, ◌+◌, ◌&&◌, ◌||◌, not, Bool, List, [], ◌∷◌, ◌++◌, map, filter, filter_map, flat_map, zip, length, Option, Some, None, option_map, option_to_list, is_none, Result, Ok, Err, if◌then◌else◌}
+use Rattle.std.specs.Prelude.{ℕ, suc, ◌+◌, ◌&&◌, ◌||◌, not, List, [], ◌∷◌, ◌++◌, map, filter, filter_map, flat_map, zip, length, Option, Some, None, option_map, option_to_list, is_none, Result, Ok, Err, if◌then◌else◌}
 use Rattle.lx_types.specs.Addresses.{room}
 use Rattle.lx_types.specs.declared.object.ObjHead.{ObjHead}
 use Rattle.load_model.specs.declared.deeds.How.{How}
@@ -12,7 +12,7 @@ use Rattle.load_model.specs.declared.deeds.Fresh.{Fresh}
 use Rattle.load_model.specs.declared.deeds.Deed.{Deed}
 use Rattle.load_model.specs.declared.deeds.Deed.TheVariants.{Enter, Full}
 use Rattle.load_model.specs.Modules.{Library, is_library, order_of, start_of, inits_each, objects_of, address_in}
-use Rattle.load_model.specs.Places.{Arena, Span, NoPlace, private_arena, shared_arena, bases_from}
+use Rattle.load_model.specs.Places.{Span, NoPlace, private_arena, shared_arena, bases_from}
 use Rattle.load_model.specs.State.{Residence, Process, Eager, with_process, is_among, reaches, residence_of, serial_of, bases_of}
 
 -- ---- what is attached, and what of it is new

@@ -1,15 +1,14 @@
 -- What a process sees: a byte of a residence, under its own writes or those that all share.
-use Rattle.std.specs.Prelude.{◌≡◌, ℕ, ◌+◌, ◌-◌, ◌/◌, ◌==◌, ◌&&◌, Bool, not, List, [], ◌∷◌, ◌++◌, map, filter, reverse, find, filter_map, Option, Some, None, unwrap_or, slice_get, nat_le, if◌then◌else◌}
+use Rattle.std.specs.Prelude.{ℕ, ◌+◌, ◌-◌, ◌/◌, ◌==◌, ◌&&◌, Bool, not, List, [], ◌∷◌, ◌++◌, map, filter, reverse, find, filter_map, Option, None, slice_get, nat_le, if◌then◌else◌}
 use Rattle.std.specs.List.{list_any, range_with_len}
 use Rattle.lx_types.specs.Object.{class_of}
 use Rattle.lx_types.specs.declared.bases.Bases.{Bases}
-use Rattle.lx_types.specs.declared.bases.ModBases.{ModBases}
 use Rattle.lx_types.specs.declared.object.Class.{Class}
 use Rattle.lx_types.specs.declared.object.Class.TheVariants.{Code, Private, Shared}
 use Rattle.lx_types.specs.declared.object.PageId.{PageId}
 use Rattle.lx_types.specs.declared.object.TheConstants.{PAGE_SIZE}
 use Rattle.load_model.specs.Modules.{Library, Held, order_of, object_at}
-use Rattle.load_model.specs.State.{Written, OwnWrite, PageOf, Residence, Process, Eager, residence_of, bases_of}
+use Rattle.load_model.specs.State.{Written, Residence, Process, Eager, residence_of, bases_of}
 
 -- ---- bases
 

@@ -1,6 +1,6 @@
 -- What a run takes of a library of modules: this page alone says how the words of LX modules serve here.
 -- Modules count from 0, objects from 1, and the pages of an object from 0.
-use Rattle.std.specs.Prelude.{ℕ, ◌+◌, ◌-◌, ◌/◌, ◌%◌, ◌==◌, Bool, not, true, false, List, [], length, Option, Some, None, Result, slice_index, bit_and}
+use Rattle.std.specs.Prelude.{ℕ, ◌-◌, ◌/◌, ◌%◌, ◌==◌, Bool, not, true, false, List, length, Option, Some, None, Result, slice_index, bit_and}
 use Rattle.lx_types.specs.declared.parts.Parts.{Parts}
 use Rattle.lx_types.specs.declared.parts.TheConstants.{MODULE_INIT_EACH, MODULE_TERM_EACH}
 use Rattle.lx_types.specs.declared.object.ObjHead.{ObjHead}
@@ -19,8 +19,9 @@ use Rattle.lx_model.specs.declared.library.EntryFault.TheVariants as faults
 use Rattle.lx_model.specs.declared.library.Health.{Health}
 use Rattle.lx_model.specs.declared.library.Health.TheVariants as kinds
 use Rattle.lx_model.specs.Library.{no_module, module_of, module_named}
-use Rattle.lx_model.specs.Reach.{Order, HealthOf}
-use Rattle.lx_model.specs.Entries.{Entry, EntryNamed}
+unfoldable pub use Rattle.lx_model.specs.Reach.{Order, visit, HealthOf}
+unfoldable pub use Rattle.lx_model.specs.Entries.{Entry, followed}
+use Rattle.lx_model.specs.Entries.{EntryNamed}
 use Rattle.lx_model.specs.Fixed.{Fixed}
 use Rattle.load_model.specs.declared.commands.Refusal.{Refusal}
 use Rattle.load_model.specs.declared.commands.Refusal.TheVariants.{NoModule, ImportCycle, NoEntry, ForwardLoop, Gate286}

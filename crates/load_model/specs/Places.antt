@@ -1,5 +1,5 @@
 -- Where objects are placed: the two arenas, and the least place that is free.
-use Rattle.std.specs.Prelude.{◌≡◌, ℕ, zero, suc, ◌+◌, ◌*◌, ◌-◌, ◌/◌, ◌%◌, ◌≤◌, ◌==◌, ◌&&◌, ◌||◌, nat_le, Bool, List, [], ◌∷◌, map, find, Option, Some, None, Result, Ok, Err, if◌then◌else◌, IsTrue}
+use Rattle.std.specs.Prelude.{ℕ, suc, ◌+◌, ◌*◌, ◌-◌, ◌/◌, ◌%◌, ◌≤◌, ◌==◌, ◌&&◌, ◌||◌, nat_le, Bool, List, [], ◌∷◌, map, find, Option, Some, None, Result, Ok, Err, if◌then◌else◌, IsTrue}
 use Rattle.std.specs.List.{list_all, range_with_len}
 use Rattle.lx_types.specs.Addresses.{UNIT, room, PRIVATE_FROM, SHARED_FROM, SHARED_END}
 use Rattle.lx_types.specs.declared.object.ObjHead.{ObjHead}

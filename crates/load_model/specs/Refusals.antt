@@ -1,6 +1,6 @@
 -- Why a command is refused: for each command its refusals, in the order in which they are tried.
 -- Control Program reference: DosLoadModule, DosFreeModule, DosQueryProcAddr.
-use Rattle.std.specs.Prelude.{◌≡◌, ℕ, ◌+◌, ◌==◌, ◌||◌, ◌&&◌, not, Bool, true, false, List, length, Option, Some, None, option_map, is_some, is_none, nat_lt, nat_le, Result, Ok, Err, if◌then◌else◌}
+use Rattle.std.specs.Prelude.{ℕ, ◌+◌, ◌==◌, ◌||◌, not, Bool, false, List, length, Option, Some, None, option_map, is_some, nat_lt, nat_le, Result, Ok, Err, if◌then◌else◌}
 use Rattle.std.specs.List.{list_any}
 use Rattle.lx_types.specs.Object.{class_of}
 use Rattle.lx_types.specs.declared.object.Class.{Class}

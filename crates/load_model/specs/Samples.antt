@@ -1,5 +1,5 @@
 -- What the trials share: small libraries, commands of processes, and what they are answered.
-use Rattle.std.specs.Prelude.{ℕ, List, [], ◌∷◌, ◌++◌, map, codes, fold, Some}
+use Rattle.std.specs.Prelude.{ℕ, List, [], ◌∷◌, fold, Some}
 use Rattle.lx_types.specs.declared.parts.Parts.{Parts}
 use Rattle.lx_types.specs.declared.object.ObjHead.{ObjHead}
 use Rattle.load_model.specs.declared.commands.Place.{Place}

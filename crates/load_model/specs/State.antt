@@ -1,10 +1,10 @@
 -- The state of a loader with one thread: residences and processes, as plain values. Nothing is kept that
 -- can be computed: what a process reaches, and whether a module is resident, follow from who holds what.
 -- Control Program reference: DosLoadModule, DosFreeModule.
-use Rattle.std.specs.Prelude.{◌≡◌, ℕ, ◌+◌, ◌==◌, Bool, false, List, [], ◌∷◌, ◌++◌, length, filter, find, count_by, Contains, Option, Some, None, option_to_list, option_map, is_some, if◌then◌else◌}
+use Rattle.std.specs.Prelude.{ℕ, ◌==◌, Bool, false, List, [], ◌++◌, find, count_by, Option, Some, None, option_to_list, if◌then◌else◌}
 use Rattle.std.specs.List.{list_any, range_with_len}
 use Rattle.lx_types.specs.declared.object.PageId.{PageId}
-use Rattle.load_model.specs.Modules.{Library, order_of, module_count}
+use Rattle.load_model.specs.Modules.{Library, order_of}
 
 -- bytes that were written at an offset of an object
 pub record Written : Type 0 where

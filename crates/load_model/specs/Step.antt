@@ -1,12 +1,11 @@
 -- One step of the loader with one thread: what a command of a process is answered, and the state after it.
-use Rattle.std.specs.Prelude.{◌≡◌, ℕ, List, [], length, Option, Some, None, unwrap_or, Result, Ok, Err}
+use Rattle.std.specs.Prelude.{ℕ, List, [], Option, Some, None, unwrap_or, Result, Ok, Err}
 use Rattle.lx_types.specs.declared.entry.EntryKey.{EntryKey}
 use Rattle.lx_model.specs.declared.library.Spot.{Spot}
 use Rattle.lx_model.specs.declared.library.EntryFault.{EntryFault}
 use Rattle.load_model.specs.declared.commands.Place.{Place}
 use Rattle.load_model.specs.declared.commands.Command.{Command}
 use Rattle.load_model.specs.declared.commands.Command.TheVariants.{Start, Load, Free, Touch, Peek, Shared, Write, Query, Exit}
-use Rattle.load_model.specs.declared.commands.Refusal.{Refusal}
 use Rattle.load_model.specs.declared.commands.Reply.{Reply}
 use Rattle.load_model.specs.declared.commands.Reply.TheVariants as replies
 use Rattle.load_model.specs.declared.deeds.How.TheVariants as ways
@@ -15,7 +14,7 @@ use Rattle.load_model.specs.Modules.{Library, Held, number_of, entry_spot, addre
 use Rattle.load_model.specs.State.{Residence, Eager, with_process, residence_of, serial_of, bases_of}
 use Rattle.load_model.specs.Memory.{Bytes, touching}
 use Rattle.load_model.specs.Refusals.{refusal_of, residence_named}
-use Rattle.load_model.specs.Asks.{Ask, enter, free, exit, put, get, deed_of, after_deed}
+use Rattle.load_model.specs.Asks.{enter, free, exit, put, get, deed_of, after_deed}
 
 -- A command gives an entry of the history, or is answered without one: touches, peeks, queries and what is
 -- refused are steady, since nothing that others do can change the answer.

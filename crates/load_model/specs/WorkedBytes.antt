@@ -1,26 +1,14 @@
 -- Worked values: shared and private writes of two processes, touches, addresses, and each refusal.
-use Rattle.std.specs.Prelude.{◌≡◌, ℕ, List, [], ◌∷◌, ◌++◌, codes, replicate, Some, None}
-use Rattle.lx_types.specs.declared.parts.Parts.{Parts}
-use Rattle.lx_types.specs.declared.entry.EntryHead.TheVariants.{At, Gate286, Forward}
-use Rattle.lx_types.specs.declared.entry.EntryKey.TheVariants.{Ordinal, Named}
-use Rattle.lx_types.specs.declared.entry.FwdKey.TheVariants as keys
-use Rattle.lx_types.specs.declared.fix.FixTarget.{FixTarget}
-use Rattle.lx_types.specs.declared.fix.FixTarget.TheVariants as targets
-use Rattle.lx_types.specs.declared.object.ObjHead.{ObjHead}
-use Rattle.lx_types.specs.declared.object.PageHead.{PageHead}
-use Rattle.lx_types.specs.declared.object.PageKind.TheVariants.{Invalid}
+use Rattle.std.specs.Prelude.{◌≡◌, ℕ, [], ◌∷◌, ◌++◌, codes}
 use Rattle.load_model.specs.declared.commands.Command.{Command}
 use Rattle.load_model.specs.declared.commands.Command.TheVariants as commands
 use Rattle.load_model.specs.declared.commands.Command.TheVariants.{Start, Load, Free, Touch, Peek, Write, Query, Exit}
-use Rattle.load_model.specs.declared.commands.Reply.TheVariants.{Fine, Bytes, Address}
+use Rattle.load_model.specs.declared.commands.Reply.TheVariants.{Bytes}
 use Rattle.load_model.specs.declared.commands.Refusal.TheVariants as why
-use Rattle.load_model.specs.declared.deeds.How.TheVariants as ways
 use Rattle.load_model.specs.declared.deeds.Deed.TheVariants as deeds
 use Rattle.load_model.specs.Modules.{Library}
-use Rattle.load_model.specs.State.{Process, new_process}
-use Rattle.load_model.specs.Refusals.{enter_refusal}
 use Rattle.load_model.specs.Step.{entry, steady}
-use Rattle.load_model.specs.Samples.{Commands, code, own_data, shared_data, object, starting, library, answer_after, place, refused}
+use Rattle.load_model.specs.Samples.{Commands, code, own_data, shared_data, object, library, answer_after, place, refused}
 
 -- ---- two processes, and a library with code, a shared object and a private one
 

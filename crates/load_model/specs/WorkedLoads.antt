@@ -1,10 +1,9 @@
 -- Worked values: what loads attach, place and call, and what leaves.
-use Rattle.std.specs.Prelude.{◌≡◌, ℕ, List, [], ◌∷◌, codes}
+use Rattle.std.specs.Prelude.{◌≡◌, ℕ, [], ◌∷◌, codes}
 use Rattle.lx_types.specs.declared.parts.Parts.{Parts}
 use Rattle.load_model.specs.declared.commands.Command.{Command}
 use Rattle.load_model.specs.declared.commands.Command.TheVariants.{Start, Load, Free, Exit}
 use Rattle.load_model.specs.declared.deeds.How.TheVariants as ways
-use Rattle.load_model.specs.declared.deeds.Call.{Call}
 use Rattle.load_model.specs.declared.deeds.CallKind.TheVariants.{Init, Term, Main}
 use Rattle.load_model.specs.declared.deeds.Deed.TheVariants as deeds
 use Rattle.load_model.specs.Modules.{Library}
@@ -33,16 +32,16 @@ pub record WorkedDiamond : Type 0 where
   pub first :
       answer_after diamond [] 1 (Load (codes "A")) ≡
       entry (deeds.Enter ways.Load 0
-        (fresh 1 3 (0x10000000 ∷ []) ∷ fresh 2 1 (0x10010000 ∷ []) ∷ fresh 3 2 (0x10020000 ∷ []) ∷ fresh 4 0 (0x10030000 ∷ []) ∷ [])
-        (call Init 1 3 0x10000000 ∷ call Init 2 1 0x10010000 ∷ call Init 3 2 0x10020000 ∷ call Init 4 0 0x10030000 ∷ []))
+      (fresh 1 3 (0x10000000 ∷ []) ∷ fresh 2 1 (0x10010000 ∷ []) ∷ fresh 3 2 (0x10020000 ∷ []) ∷ fresh 4 0 (0x10030000 ∷ []) ∷ [])
+      (call Init 1 3 0x10000000 ∷ call Init 2 1 0x10010000 ∷ call Init 3 2 0x10020000 ∷ call Init 4 0 0x10030000 ∷ []))
   -- for a second process nothing is new
   pub second : answer_after diamond (load_A ∷ []) 2 (Load (codes "A")) ≡ entry (deeds.Enter ways.Load 0 [] [])
   pub one_left : answer_after diamond both_load_A 1 Exit ≡ entry (deeds.Exit [] [])
   pub none_left :
       answer_after diamond ((1, Load (codes "A")) ∷ (2, Load (codes "A")) ∷ (1, Exit) ∷ []) 2 Exit ≡
       entry (deeds.Exit
-        (call Term 4 0 0x10030000 ∷ call Term 3 2 0x10020000 ∷ call Term 2 1 0x10010000 ∷ call Term 1 3 0x10000000 ∷ [])
-        (gone 4 0 ∷ gone 3 2 ∷ gone 2 1 ∷ gone 1 3 ∷ []))
+      (call Term 4 0 0x10030000 ∷ call Term 3 2 0x10020000 ∷ call Term 2 1 0x10010000 ∷ call Term 1 3 0x10000000 ∷ [])
+      (gone 4 0 ∷ gone 3 2 ∷ gone 2 1 ∷ gone 1 3 ∷ []))
   -- a free takes the two that no process reaches, and a load brings them back as new residences
   pub freed :
       answer_after diamond (load_A ∷ (2, Load (codes "C")) ∷ []) 1 (Free (codes "A")) ≡
@@ -50,7 +49,7 @@ pub record WorkedDiamond : Type 0 where
   pub again :
       answer_after diamond A_freed 1 (Load (codes "a")) ≡
       entry (deeds.Enter ways.Load 0 (fresh 5 1 (0x10010000 ∷ []) ∷ fresh 6 0 (0x10030000 ∷ []) ∷ [])
-        (call Init 5 1 0x10010000 ∷ call Init 6 0 0x10030000 ∷ []))
+      (call Init 5 1 0x10010000 ∷ call Init 6 0 0x10030000 ∷ []))
 
 -- ---- places
 

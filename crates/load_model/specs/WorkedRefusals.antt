@@ -1,23 +1,21 @@
 -- Worked values: one case of each refusal, and what changes nothing.
-use Rattle.std.specs.Prelude.{◌≡◌, ℕ, List, [], ◌∷◌, ◌++◌, codes, replicate, Option, Some, None}
+use Rattle.std.specs.Prelude.{◌≡◌, ℕ, List, [], ◌∷◌, ◌++◌, codes, replicate, Some, None}
 use Rattle.lx_types.specs.declared.parts.Parts.{Parts}
 use Rattle.lx_types.specs.declared.entry.EntryHead.TheVariants.{At, Gate286}
 use Rattle.lx_types.specs.declared.entry.EntryKey.TheVariants.{Ordinal, Named}
-use Rattle.lx_types.specs.declared.fix.FixTarget.{FixTarget}
 use Rattle.lx_types.specs.declared.fix.FixTarget.TheVariants.{Own}
 use Rattle.lx_types.specs.declared.object.PageKind.TheVariants.{Invalid}
 use Rattle.lx_types.specs.Object.{zero_page}
-use Rattle.load_model.specs.declared.commands.Command.{Command}
 use Rattle.load_model.specs.declared.commands.Command.TheVariants as commands
 use Rattle.load_model.specs.declared.commands.Command.TheVariants.{Start, Load, Free, Touch, Peek, Write, Query, Exit}
 use Rattle.load_model.specs.declared.commands.Reply.TheVariants.{Fine, Bytes, Address}
 use Rattle.load_model.specs.declared.commands.Refusal.TheVariants as why
 use Rattle.load_model.specs.declared.deeds.How.TheVariants as ways
 use Rattle.load_model.specs.Modules.{Library}
-use Rattle.load_model.specs.State.{Process, new_process}
-use Rattle.load_model.specs.Refusals.{enter_refusal, key_refusal, refusal_of}
-use Rattle.load_model.specs.Step.{entry, steady}
-use Rattle.load_model.specs.Samples.{Commands, code, own_data, object, library, answer_after, place, refused}
+use Rattle.load_model.specs.State.{new_process}
+use Rattle.load_model.specs.Refusals.{enter_refusal}
+use Rattle.load_model.specs.Step.{steady}
+use Rattle.load_model.specs.Samples.{Commands, own_data, library, answer_after, place, refused}
 use Rattle.load_model.specs.WorkedBytes.{store, both_write}
 
 -- ---- modules that cannot be loaded, and others

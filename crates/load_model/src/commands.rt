@@ -81,7 +81,9 @@ pub enum Refusal {
     Invalid,
     /// The first page of the place, from 0 in its object, that the process has not touched since it
     /// attached the module.
-    NotTouched { page: u32 },
+    NotTouched {
+        page: u32,
+    },
 }
 
 /// What a command without an entry is answered.

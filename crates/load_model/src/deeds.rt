@@ -78,7 +78,10 @@ pub enum Deed {
         gone: Leavers,
     },
     /// The process ended.
-    Exit { calls: Calls, gone: Leavers },
+    Exit {
+        calls: Calls,
+        gone: Leavers,
+    },
     /// A page of a residence was touched for the first time.
     Fault {
         serial: u64,

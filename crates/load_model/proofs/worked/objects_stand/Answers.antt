@@ -1,7 +1,5 @@
 use Rattle.std.proofs.Common.{refl}
-use Rattle.lx_model.specs.Reach.{Order, visit, HealthOf}
-use Rattle.lx_model.specs.Entries.{Entry, followed}
-use Rattle.load_model.specs.Modules.{number_of, is_library, start_of, inits_each, terms_each, order_of, unfit, entry_spot, objects_of, object_at, is_invalid}
+use Rattle.load_model.specs.Modules.{Order, visit, HealthOf, Entry, followed, number_of, is_library, start_of, inits_each, terms_each, order_of, unfit, entry_spot, objects_of, object_at, is_invalid}
 use Rattle.load_model.specs.Places.{is_free, least_free, place_for, bases_from}
 use Rattle.load_model.specs.State.{with_process, reaches, is_reached, residence_of, residence_at, attached_residence}
 use Rattle.load_model.specs.Entering.{joined, newcomers, resident_spans, bases_for, placed_from, placed, entered, entering_calls, enter_deed}

@@ -1,0 +1,9 @@
+//! What a session says, how its run is merged from a history and steady lines, and the transcript.
+#![tactic(auto)]
+
+mod sessions;
+mod worked;
+
+pub use sessions::{
+    Commands, Line, ModLine, Script, ScriptLines, Session, SessionKind, SessionRefusal,
+};
