@@ -8,6 +8,7 @@ pub mod Refusals
 pub mod Asks
 pub mod Step
 pub mod Histories
+pub mod Laws
 pub mod Samples
 pub mod WorkedLoads
 pub mod WorkedBytes

@@ -3,9 +3,11 @@
 
 mod commands;
 mod deeds;
+mod laws;
 mod worked;
 
 pub use commands::{Command, Place, Refusal, Reply};
 pub use deeds::{
     Call, CallKind, Calls, Deed, Entry, Fresh, Gone, History, How, Leavers, Newcomers,
 };
+pub use laws::{asks_decide, faults_come_once, gone_is_unreached, histories_grow, residents_are_reached};

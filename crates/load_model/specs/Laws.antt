@@ -1,0 +1,80 @@
+-- What the definitions say together, entry by entry.
+use Rattle.std.specs.Prelude.{◌≡◌, ℕ, List, [], ◌∷◌, ◌++◌, map, Bool, true, false, not, ◌&&◌, is_some}
+use Rattle.lx_types.specs.declared.object.PageId.{PageId}
+use Rattle.load_model.specs.declared.deeds.Gone.{Gone}
+use Rattle.load_model.specs.declared.deeds.Deed.{Deed}
+use Rattle.load_model.specs.declared.deeds.Deed.TheVariants as deeds
+use Rattle.load_model.specs.declared.deeds.Entry.{Entry}
+use Rattle.load_model.specs.Modules.{Library, Held}
+use Rattle.load_model.specs.State.{is_among, reaches, is_reached, residence_of}
+use Rattle.load_model.specs.Asks.{Ask, asked}
+use Rattle.load_model.specs.Histories.{after_entry, state_after, is_fault_of, has_fault, Follows, Legal}
+
+-- ---- histories
+
+-- the process of an entry, and what it asks
+abbrev pub ask_of : Entry → ℕ × Ask
+ask_of entry = (entry.pid, asked entry.deed)
+
+-- Two legal histories whose entries ask the same, place by place, are the same.
+abbrev pub AsksDecide : Type 0
+AsksDecide = (lib : Library) (held : Held) (h k : List Entry) → Legal lib held h → Legal lib held k → map ask_of h ≡ map ask_of k → h ≡ k
+
+-- What a legal history begins with is legal.
+abbrev pub PrefixIsLegal : Type 0
+PrefixIsLegal = (lib : Library) (held : Held) (h more : List Entry) → Legal lib held (h ++ more) → Legal lib held h
+
+-- Each entry of a legal history follows those before it.
+abbrev pub EachFollows : Type 0
+EachFollows =
+    (lib : Library) (held : Held) (before : List Entry) (entry : Entry) (behind : List Entry) → Legal lib held (before ++ entry ∷ behind) →
+    Follows lib held before entry
+
+-- A legal history and an entry that follows it are legal.
+abbrev pub OneMoreIsLegal : Type 0
+OneMoreIsLegal =
+    (lib : Library) (held : Held) (h : List Entry) (entry : Entry) → Legal lib held h → Follows lib held h entry → Legal lib held (h ++ entry ∷ [])
+
+-- the empty history is
+abbrev pub NothingIsLegal : Type 0
+NothingIsLegal = (lib : Library) (held : Held) → Legal lib held []
+
+-- One more entry takes the state one step on.
+abbrev pub OneMoreIsAfter : Type 0
+OneMoreIsAfter = (lib : Library) (h : List Entry) (entry : Entry) → state_after lib (h ++ entry ∷ []) ≡ after_entry lib (state_after lib h) entry
+
+-- A page of a residence has its fault once.
+abbrev pub FaultOnce : Type 0
+FaultOnce =
+    (lib : Library) (held : Held) (before : List Entry) (entry : Entry) (behind : List Entry) (serial : ℕ) (p : PageId) →
+    Legal lib held (before ++ entry ∷ behind) → is_fault_of serial p entry.deed ≡ true → has_fault before serial p ≡ false
+
+-- ---- residences
+
+-- A module is resident exactly while some process reaches it.
+abbrev pub ReachedIsResident : Type 0
+ReachedIsResident =
+    (lib : Library) (held : Held) (h : List Entry) → Legal lib held h → (m : ℕ) → is_some (residence_of (state_after lib h) m) ≡ is_reached lib (state_after lib h) m
+
+-- A process has attached exactly what it reaches.
+abbrev pub AttachedIsReached : Type 0
+AttachedIsReached =
+    (lib : Library) (held : Held) (h : List Entry) → Legal lib held h → (pid m : ℕ) →
+    is_among ((state_after lib h).processes pid).attached m ≡ reaches lib ((state_after lib h).processes pid) m
+
+-- what an entry says is gone
+abbrev pub gone_in : Deed → List Gone
+gone_in (deeds.Free m calls gone) = gone
+gone_in (deeds.Exit calls gone) = gone
+gone_in (deeds.Enter how m fresh calls) = []
+gone_in (deeds.Full how m of object size) = []
+gone_in (deeds.Fault serial m p) = []
+gone_in (deeds.Write serial m object offset bytes) = []
+gone_in (deeds.Shared serial m object offset bytes) = []
+
+-- What is gone with an entry is what was resident and no process reaches after it.
+abbrev pub GoneIsUnreached : Type 0
+GoneIsUnreached =
+    (lib : Library) (held : Held) (h : List Entry) (entry : Entry) (m : ℕ) → Legal lib held h → Follows lib held h entry →
+    is_among (map (λ g. g.«module») (gone_in entry.deed)) m ≡
+    is_some (residence_of (state_after lib h) m) && not (is_reached lib (after_entry lib (state_after lib h) entry) m)

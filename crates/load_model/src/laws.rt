@@ -1,0 +1,35 @@
+//! What the definitions say together. Each law is the contract of a function that does nothing, which a
+//! crate above calls where it needs the law.
+
+ghost use Rattle.load_model.specs.Laws.{AsksDecide, PrefixIsLegal, EachFollows, OneMoreIsLegal, NothingIsLegal, OneMoreIsAfter, FaultOnce, ReachedIsResident, AttachedIsReached, GoneIsUnreached};
+
+/// Two legal histories whose entries ask the same are the same: nothing else in them was free.
+pub fn asks_decide()
+    ensures { AsksDecide }
+{}
+
+/// A legal history grows by one entry that follows it, and each of its entries follows those before.
+pub fn histories_grow()
+    ensures nothing { NothingIsLegal }
+    ensures grows { OneMoreIsLegal }
+    ensures shrinks { PrefixIsLegal }
+    ensures follows { EachFollows }
+    ensures after { OneMoreIsAfter }
+{}
+
+/// A page of a residence has its fault once.
+pub fn faults_come_once()
+    ensures { FaultOnce }
+{}
+
+/// A module is resident exactly while some process reaches it, and a process has attached what it
+/// reaches.
+pub fn residents_are_reached()
+    ensures resident { ReachedIsResident }
+    ensures attached { AttachedIsReached }
+{}
+
+/// What is gone with an entry is what was resident and no process reaches after it.
+pub fn gone_is_unreached()
+    ensures { GoneIsUnreached }
+{}
