@@ -1,5 +1,5 @@
 -- Legal histories: cut anywhere, and longer by one entry.
-use Rattle.std.proofs.Common.{◌≡◌, ℕ, Bool, true, false, not, List, [], ◌∷◌, ◌++◌, map, refl, sym, ◌∙◌, ap, subst, append_assoc}
+use Rattle.std.proofs.Common.{◌≡◌, ℕ, true, false, List, [], ◌∷◌, ◌++◌, map, refl, sym, ◌∙◌, ap, subst, append_assoc}
 use Rattle.std.proofs.lemmas.Bool.{eqb-true}
 use Rattle.std.proofs.lemmas.List.{append-nil}
 use Rattle.std.proofs.lemmas.List.Sums.{fold-append}
@@ -8,9 +8,9 @@ use Rattle.load_model.specs.declared.deeds.Deed.{Deed}
 use Rattle.load_model.specs.declared.deeds.Deed.TheVariants as deeds
 use Rattle.load_model.specs.declared.deeds.Entry.{Entry}
 use Rattle.load_model.specs.Modules.{Library, Held}
-use Rattle.load_model.specs.Asks.{Ask, asked, deed_of}
+use Rattle.load_model.specs.Asks.{Ask, deed_of}
 use Rattle.load_model.specs.Memory.{is_page}
-use Rattle.load_model.specs.Histories.{after_entry, state_after, is_fault_of, is_first_fault, has_fault, Follows, AllFollow, Legal}
+use Rattle.load_model.specs.Histories.{state_after, is_fault_of, is_first_fault, has_fault, Follows, AllFollow, Legal}
 use Rattle.load_model.proofs.Bools.{and_left, and_right, negated}
 use Rattle.load_model.specs.Laws.{ask_of, AsksDecide, PrefixIsLegal, EachFollows, OneMoreIsLegal, NothingIsLegal, OneMoreIsAfter, FaultOnce}
 

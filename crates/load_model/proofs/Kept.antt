@@ -1,24 +1,21 @@
 -- What each entry keeps: a process has attached what it reaches, and what some process reaches is resident.
-use Rattle.std.proofs.Common.{◌≡◌, ℕ, suc, ◌+◌, ◌==◌, Bool, true, false, cond, if◌then◌else◌, not, ◌&&◌, ◌||◌, List, [], ◌∷◌, ◌++◌, map, filter, find, reverse, Option, Some, None, Result, Ok, Err, is_some, is_none, option_to_list, refl, sym, ◌∙◌, ap, subst}
+use Rattle.std.proofs.Common.{◌≡◌, ℕ, suc, ◌==◌, Bool, true, false, if◌then◌else◌, not, ◌&&◌, ◌||◌, List, [], ◌∷◌, ◌++◌, map, Option, Some, None, Result, Ok, Err, is_some, is_none, option_to_list, refl, sym, ◌∙◌, ap}
 use Rattle.std.specs.List.{list_any}
-use Rattle.std.proofs.lemmas.Bool.{eqb-true, eq-eqb}
+use Rattle.std.proofs.lemmas.Bool.{eq-eqb}
 use Rattle.load_model.specs.declared.commands.Refusal.{Refusal}
 use Rattle.load_model.specs.declared.commands.Refusal.TheVariants.{Ended, Started}
 use Rattle.load_model.specs.declared.deeds.How.{How}
 use Rattle.load_model.specs.declared.deeds.How.TheVariants.{Start, Load}
 use Rattle.load_model.specs.declared.deeds.Fresh.{Fresh}
-use Rattle.load_model.specs.declared.deeds.Deed.{Deed}
 use Rattle.load_model.specs.declared.deeds.Deed.TheVariants as deeds
-use Rattle.load_model.specs.Modules.{Library, Held, order_of}
+use Rattle.load_model.specs.Modules.{Library, order_of}
 use Rattle.load_model.specs.Places.{NoPlace}
-use Rattle.load_model.specs.State.{Residence, Process, Eager, Written, with_process, is_among, roots, pids, reaches, is_reached, residence_of}
+use Rattle.load_model.specs.State.{Process, Eager, with_process, is_among, pids, reaches, is_reached, residence_of}
 use Rattle.load_model.specs.declared.deeds.Call.{Call}
 use Rattle.load_model.specs.Entering.{NoRoom, spans_of, with_fresh_residences, joined, newcomers, bases_for, placed, placed_from, with_fresh, holding, attaching, residence_from, entered, enter_deed, entering_calls}
-use Rattle.load_model.specs.Leaving.{left, gone_modules, keeping, after_leaving, without_one, freeing, exiting}
-use Rattle.load_model.specs.Memory.{with_write, writing}
-use Rattle.load_model.specs.Refusals.{when, ◌orelse◌, enter_refusal, started_refusal, module_or_none}
-use Rattle.load_model.proofs.Bools.{and_left, and_right, or_assoc, or_swap, or_false, or_true}
-use Rattle.load_model.proofs.Among.{any_append, any_map, any_same, any_filter_at, among_append, among_filter, some_find, any_reverse, any_split}
+use Rattle.load_model.specs.Refusals.{when, ◌orelse◌, enter_refusal}
+use Rattle.load_model.proofs.Bools.{or_swap}
+use Rattle.load_model.proofs.Among.{any_append, any_map, any_same, among_append, among_filter, some_find, any_split}
 
 -- ---- processes
 
@@ -34,7 +31,7 @@ process_at : (e : Eager) (pid : ℕ) (p : Process) → (with_process e pid p).pr
 unfolding with_process
 process_at e pid p = ap (λ b. if b then p else e.processes pid) (same_number pid)
 
-process_apart : (e : Eager) (pid : ℕ) (p : Process) (q : ℕ) → (q == pid) ≡ false → (with_process e pid p).processes q ≡ e.processes q
+pub process_apart : (e : Eager) (pid : ℕ) (p : Process) (q : ℕ) → (q == pid) ≡ false → (with_process e pid p).processes q ≡ e.processes q
 unfolding with_process
 process_apart e pid p q h = ap (λ b. if b then p else e.processes q) h
 
@@ -175,7 +172,7 @@ resident_more lib e pid m k fresh there kept new =
     any_append (λ r. r.«module» == k) e.residences (map residence_from fresh)
     ∙ ap (λ b. b || list_any (λ r. r.«module» == k) (map residence_from fresh)) (kept.resident k)
     ∙ ap (λ b. is_reached lib e k || b)
-      (any_map (λ r. r.«module» == k) residence_from fresh ∙ sym (any_map (λ x. x == k) (λ f. f.«module») fresh) ∙ ap (λ ms. is_among ms k) new ∙ new_among lib e pid m k kept)
+    (any_map (λ r. r.«module» == k) residence_from fresh ∙ sym (any_map (λ x. x == k) (λ f. f.«module») fresh) ∙ ap (λ ms. is_among ms k) new ∙ new_among lib e pid m k kept)
     ∙ ap (λ b. b || ((is_among (order_of lib m) k && not (reaches lib (e.processes pid) k)) && not b)) (reached_apart lib e pid k there)
     ∙ enter_resident (is_among (order_of lib m) k) (reaches lib (e.processes pid) k) (others lib e pid k)
 
@@ -201,13 +198,13 @@ entered_kept lib e pid how m fresh there may new kept =
     let js : List ℕ = joined lib e pid m in
     record {
       attached =
-        attached_elsewhere lib (with_fresh_residences e fresh) pid (holding how m (attaching js p))
-        (λ k.
+          attached_elsewhere lib (with_fresh_residences e fresh) pid (holding how m (attaching js p))
+          (λ k.
           ap (λ xs. is_among xs k) (holding_attached how m (attaching js p)) ∙ attached_more lib e pid m k kept ∙ sym (reaches_more lib p js how m k may))
-        kept.attached;
+          kept.attached;
       resident = λ k.
-        resident_more lib e pid m k fresh there kept new
-        ∙ sym (reached_with lib (with_fresh_residences e fresh) pid (holding how m (attaching js p)) k there ∙ ap (λ b. b || others lib e pid k) (reaches_more lib p js how m k may));
+          resident_more lib e pid m k fresh there kept new
+          ∙ sym (reached_with lib (with_fresh_residences e fresh) pid (holding how m (attaching js p)) k there ∙ ap (λ b. b || others lib e pid k) (reaches_more lib p js how m k may));
     }
 
 -- what is reached by an entry that enters

@@ -1,15 +1,15 @@
 -- What leaves: a process keeps what it still reaches, and residences that somebody reaches stay.
-use Rattle.std.proofs.Common.{◌≡◌, ℕ, ◌==◌, Bool, true, false, if◌then◌else◌, not, ◌&&◌, ◌||◌, List, [], ◌∷◌, ◌++◌, map, filter, reverse, Option, Some, None, option_to_list, refl, sym, ◌∙◌, ap}
+use Rattle.std.proofs.Common.{◌≡◌, ℕ, ◌==◌, Bool, true, false, if◌then◌else◌, not, ◌&&◌, ◌||◌, List, [], ◌∷◌, ◌++◌, map, filter, Option, Some, None, option_to_list, refl, sym, ◌∙◌, ap}
 use Rattle.std.specs.List.{list_any}
 use Rattle.lx_types.specs.declared.object.Class.{Class}
 use Rattle.lx_types.specs.declared.object.Class.TheVariants as classes
 use Rattle.load_model.specs.Modules.{Library, order_of}
-use Rattle.load_model.specs.State.{Residence, Process, Eager, Written, with_process, is_among, pids, reaches, is_reached, residence_of}
+use Rattle.load_model.specs.State.{Residence, Process, Eager, Written, with_process, is_among, pids, reaches, is_reached}
 use Rattle.load_model.specs.Leaving.{left, gone_modules, gone_of, gone, keeping, after_leaving, without_one, freeing, exiting}
 use Rattle.load_model.specs.Memory.{with_write, writing}
 use Rattle.load_model.specs.Asks.{written}
-use Rattle.load_model.proofs.Bools.{or_true, or_false}
-use Rattle.load_model.proofs.Among.{any_append, any_map, any_same, any_filter_at, among_filter, any_reverse}
+use Rattle.load_model.proofs.Bools.{or_true}
+use Rattle.load_model.proofs.Among.{any_map, any_same, any_filter_at, among_filter, any_reverse}
 use Rattle.load_model.proofs.Kept.{Kept, others, reached_apart, reached_with, attached_elsewhere}
 
 -- the process after it gave something up: it has attached what it had, and reaches no more
@@ -80,7 +80,7 @@ left_among lib e pid p k kept gives =
     any_reverse (λ x. x == k) _ ∙ among_filter (λ x. not (reaches lib p x)) p.attached k
     ∙ ap (λ xs. is_among xs k && not (reaches lib p k)) gives.attached ∙ ap (λ b. b && not (reaches lib p k)) (kept.attached pid k)
 
-gone_among : (lib : Library) (e : Eager) (pid : ℕ) (p : Process) (k : ℕ) → is_among pids pid ≡ true → Kept lib e → GivesUp lib (e.processes pid) p →
+pub gone_among : (lib : Library) (e : Eager) (pid : ℕ) (p : Process) (k : ℕ) → is_among pids pid ≡ true → Kept lib e → GivesUp lib (e.processes pid) p →
     is_among (gone_modules lib e pid p) k ≡ (reaches lib (e.processes pid) k && not (reaches lib p k)) && not (reaches lib p k || others lib e pid k)
 unfolding gone_modules
 gone_among lib e pid p k there kept gives =
@@ -107,18 +107,18 @@ pub left_kept : (lib : Library) (e : Eager) (pid : ℕ) (p : Process) → is_amo
 unfolding after_leaving
 left_kept lib e pid p there gives kept = record {
   attached =
-    attached_elsewhere lib e pid (keeping lib e p)
-    (λ k.
+      attached_elsewhere lib e pid (keeping lib e p)
+      (λ k.
       ap (λ xs. is_among xs k) (keeping_attached lib e p) ∙ among_filter (reaches lib p) p.attached k ∙ ap (λ xs. is_among xs k && reaches lib p k) gives.attached
       ∙ ap (λ b. b && reaches lib p k) (kept.attached pid k) ∙ keep_attached (reaches lib (e.processes pid) k) (reaches lib p k) (gives.reaches k)
       ∙ sym (reaches_keeping lib e p k))
-    kept.attached;
+      kept.attached;
   resident = λ k.
-    any_filter_at (λ r. r.«module») (λ x. not (is_among (gone_modules lib e pid p) x)) k e.residences
-    ∙ ap (λ b. b && not (is_among (gone_modules lib e pid p) k)) (kept.resident k ∙ reached_apart lib e pid k there)
-    ∙ ap (λ b. (reaches lib (e.processes pid) k || others lib e pid k) && not b) (gone_among lib e pid p k there kept gives)
-    ∙ keep_resident (reaches lib (e.processes pid) k) (reaches lib p k) (others lib e pid k) (gives.reaches k)
-    ∙ sym (left_reached lib e pid p k there);
+      any_filter_at (λ r. r.«module») (λ x. not (is_among (gone_modules lib e pid p) x)) k e.residences
+      ∙ ap (λ b. b && not (is_among (gone_modules lib e pid p) k)) (kept.resident k ∙ reached_apart lib e pid k there)
+      ∙ ap (λ b. (reaches lib (e.processes pid) k || others lib e pid k) && not b) (gone_among lib e pid p k there kept gives)
+      ∙ keep_resident (reaches lib (e.processes pid) k) (reaches lib p k) (others lib e pid k) (gives.reaches k)
+      ∙ sym (left_reached lib e pid p k there);
 }
 
 -- exactly what was resident is gone that nobody reaches any more
@@ -166,12 +166,12 @@ pub written_kept : (lib : Library) (e : Eager) (pid serial : ℕ) (w : Written) 
 written_kept lib e pid serial w classes.Code there kept = kept
 written_kept lib e pid serial w classes.Private there kept = record {
   attached =
-    attached_elsewhere lib e pid (writing serial w (e.processes pid)) (λ k. kept.attached pid k ∙ sym (reaches_writing lib serial w (e.processes pid) k)) kept.attached;
+      attached_elsewhere lib e pid (writing serial w (e.processes pid)) (λ k. kept.attached pid k ∙ sym (reaches_writing lib serial w (e.processes pid) k)) kept.attached;
   resident = λ k. same_residences e pid (writing serial w (e.processes pid)) k ∙ kept.resident k ∙ sym (written_reached lib e pid serial w classes.Private k there);
 }
 written_kept lib e pid serial w classes.Shared there kept = record {
   attached = kept.attached;
   resident = λ k.
-    any_map (λ r. r.«module» == k) (with_write serial w) e.residences ∙ any_same _ _ (λ r. same_module serial w r k) e.residences ∙ kept.resident k
-    ∙ sym (written_reached lib e pid serial w classes.Shared k there);
+      any_map (λ r. r.«module» == k) (with_write serial w) e.residences ∙ any_same _ _ (λ r. same_module serial w r k) e.residences ∙ kept.resident k
+      ∙ sym (written_reached lib e pid serial w classes.Shared k there);
 }

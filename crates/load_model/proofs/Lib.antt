@@ -4,3 +4,9 @@ pub mod Kept
 pub mod KeptLeaving
 pub mod Growing
 pub mod Residents
+pub mod Orders
+pub mod Stays
+pub mod Apart
+pub mod Bytes
+pub mod EntryReach
+pub mod Answers

@@ -1,19 +1,17 @@
 -- What every legal history keeps, entry by entry.
-use Rattle.std.proofs.Common.{◌≡◌, ℕ, ◌==◌, ◌<◌, Bool, true, false, not, ◌&&◌, ◌||◌, List, [], ◌∷◌, ◌++◌, map, Option, Some, None, is_some, is_none, refl, sym, ◌∙◌, ap, subst, append_assoc}
+use Rattle.std.proofs.Common.{◌≡◌, ℕ, ◌==◌, Bool, true, false, not, ◌&&◌, ◌||◌, List, [], ◌∷◌, ◌++◌, map, refl, sym, ◌∙◌, ap, subst, append_assoc}
 use Rattle.std.specs.List.{list_any}
 use Rattle.std.proofs.lemmas.List.{append-nil}
-use Rattle.lx_types.specs.Object.{class_of}
 use Rattle.load_model.specs.declared.deeds.Call.{Call}
 use Rattle.load_model.specs.declared.deeds.Gone.{Gone}
-use Rattle.load_model.specs.declared.deeds.How.{How}
 use Rattle.load_model.specs.declared.deeds.Deed.{Deed}
 use Rattle.load_model.specs.declared.deeds.Deed.TheVariants as deeds
 use Rattle.load_model.specs.declared.deeds.Entry.{Entry}
-use Rattle.load_model.specs.Modules.{Library, Held, object_at, order_of}
-use Rattle.load_model.specs.State.{Process, Eager, Written, nothing_yet, with_process, is_among, pids, reaches, is_reached, residence_of}
-use Rattle.load_model.specs.Leaving.{gone, leaving_calls, freeing, exiting, after_leaving}
-use Rattle.load_model.specs.Asks.{Ask, asked, enter, free, exit, deed_of, may_ask, after_deed}
-use Rattle.load_model.specs.Histories.{after_entry, state_after, Follows, AllFollow, Legal}
+use Rattle.load_model.specs.Modules.{Library, Held, order_of}
+use Rattle.load_model.specs.State.{Eager, nothing_yet, is_among, pids, reaches, is_reached}
+use Rattle.load_model.specs.Leaving.{gone, freeing, exiting}
+use Rattle.load_model.specs.Asks.{asked, deed_of, may_ask, after_deed}
+use Rattle.load_model.specs.Histories.{state_after, Follows, AllFollow, Legal}
 use Rattle.load_model.specs.Laws.{gone_in, ReachedIsResident, AttachedIsReached, GoneIsUnreached}
 use Rattle.load_model.proofs.Bools.{and_right}
 use Rattle.load_model.proofs.Kept.{Kept, others, is_resident, reached_apart, entered_kept, entered_reached, fresh_are_new}
@@ -21,12 +19,12 @@ use Rattle.load_model.proofs.KeptLeaving.{freeing_gives_up, exiting_gives_up, le
 use Rattle.load_model.proofs.Growing.{one_more_is_after}
 
 -- a process asked it, and it was done
-record Done (lib : Library) (held : Held) (e : Eager) (pid : ℕ) (d : Deed) : Type 0 where
-  there : is_among pids pid ≡ true
-  may : may_ask lib e pid (asked d) ≡ true
-  is : d ≡ deed_of lib held e pid (asked d)
+pub record Done (lib : Library) (held : Held) (e : Eager) (pid : ℕ) (d : Deed) : Type 0 where
+  pub there : is_among pids pid ≡ true
+  pub may : may_ask lib e pid (asked d) ≡ true
+  pub is : d ≡ deed_of lib held e pid (asked d)
 
-after_kept : (lib : Library) (held : Held) (e : Eager) (pid : ℕ) (d : Deed) → Done lib held e pid d → Kept lib e → Kept lib (after_deed lib e pid d)
+pub after_kept : (lib : Library) (held : Held) (e : Eager) (pid : ℕ) (d : Deed) → Done lib held e pid d → Kept lib e → Kept lib (after_deed lib e pid d)
 unfolding after_deed may_ask deed_of
 after_kept lib held e pid (deeds.Enter how m fresh calls) done kept =
     entered_kept lib e pid how m fresh done.there (and_right _ _ done.may) (fresh_are_new lib e pid how m fresh calls done.is) kept
@@ -38,7 +36,7 @@ after_kept lib held e pid (deeds.Fault serial m p) done kept = kept
 after_kept lib held e pid (deeds.Write serial m object offset bytes) done kept = written_kept lib e pid serial _ _ done.there kept
 after_kept lib held e pid (deeds.Shared serial m object offset bytes) done kept = kept
 
-done_by : (lib : Library) (held : Held) (h : List Entry) (x : Entry) → Follows lib held h x → Done lib held (state_after lib h) x.pid x.deed
+pub done_by : (lib : Library) (held : Held) (h : List Entry) (x : Entry) → Follows lib held h x → Done lib held (state_after lib h) x.pid x.deed
 done_by lib held h x f = record { there = f.process; may = f.may; is = f.done }
 
 -- ---- along a history
@@ -47,7 +45,7 @@ all_kept : (lib : Library) (held : Held) (before h : List Entry) → AllFollow l
 all_kept lib held before [] all kept = subst (λ b. Kept lib (state_after lib b)) (sym (append-nil before)) kept
 all_kept lib held before (x ∷ h) all kept =
     let next : Kept lib (state_after lib (before ++ x ∷ [])) =
-      subst (Kept lib) (sym (one_more_is_after lib before x)) (after_kept lib held (state_after lib before) x.pid x.deed (done_by lib held before x all.0) kept)
+    subst (Kept lib) (sym (one_more_is_after lib before x)) (after_kept lib held (state_after lib before) x.pid x.deed (done_by lib held before x all.0) kept)
     in
     subst (λ b. Kept lib (state_after lib b)) (append_assoc before (x ∷ []) h) (all_kept lib held (before ++ x ∷ []) h all.1 next)
 

@@ -1,12 +1,16 @@
 -- What the definitions say together, entry by entry.
-use Rattle.std.specs.Prelude.{◌≡◌, ℕ, List, [], ◌∷◌, ◌++◌, map, Bool, true, false, not, ◌&&◌, is_some}
+use Rattle.std.specs.Prelude.{◌≡◌, ℕ, List, [], ◌∷◌, ◌++◌, map, true, false, not, ◌&&◌, ◌==◌, is_some, Option, Some, None}
 use Rattle.lx_types.specs.declared.object.PageId.{PageId}
 use Rattle.load_model.specs.declared.deeds.Gone.{Gone}
 use Rattle.load_model.specs.declared.deeds.Deed.{Deed}
 use Rattle.load_model.specs.declared.deeds.Deed.TheVariants as deeds
 use Rattle.load_model.specs.declared.deeds.Entry.{Entry}
-use Rattle.load_model.specs.Modules.{Library, Held}
-use Rattle.load_model.specs.State.{is_among, reaches, is_reached, residence_of}
+use Rattle.load_model.specs.declared.commands.Command.{Command}
+use Rattle.load_model.specs.declared.commands.Command.TheVariants as commands
+use Rattle.load_model.specs.Modules.{Library, Held, order_of}
+use Rattle.load_model.specs.State.{Residence, pids, is_among, reaches, is_reached, residence_of}
+use Rattle.load_model.specs.Refusals.{refusal_of}
+use Rattle.load_model.specs.Step.{answer_of}
 use Rattle.load_model.specs.Asks.{Ask, asked}
 use Rattle.load_model.specs.Histories.{after_entry, state_after, is_fault_of, has_fault, Follows, Legal}
 
@@ -78,3 +82,51 @@ GoneIsUnreached =
     (lib : Library) (held : Held) (h : List Entry) (entry : Entry) (m : ℕ) → Legal lib held h → Follows lib held h entry →
     is_among (map (λ g. g.«module») (gone_in entry.deed)) m ≡
     is_some (residence_of (state_after lib h) m) && not (is_reached lib (after_entry lib (state_after lib h) entry) m)
+
+-- a residence without the writes that are shared
+abbrev pub stay_of : Option Residence → Option Residence
+stay_of None = None
+stay_of (Some r) = Some (record r { writes = [] })
+
+-- A residence whose module is still reached after an entry stands as it was.
+abbrev pub ResidenceStays : Type 0
+ResidenceStays =
+    (lib : Library) (held : Held) (h : List Entry) (entry : Entry) (m : ℕ) → Legal lib held h → Follows lib held h entry →
+    is_some (residence_of (state_after lib h) m) ≡ true → is_reached lib (after_entry lib (state_after lib h) entry) m ≡ true →
+    stay_of (residence_of (after_entry lib (state_after lib h) entry) m) ≡ stay_of (residence_of (state_after lib h) m)
+
+-- While a residence stands, each module that its module reaches is resident, and keeps its residence.
+abbrev pub ReachStays : Type 0
+ReachStays =
+    (lib : Library) (held : Held) (h : List Entry) (entry : Entry) (m k : ℕ) → Legal lib held h → Follows lib held h entry →
+    is_some (residence_of (state_after lib h) m) ≡ true → is_some (residence_of (after_entry lib (state_after lib h) entry) m) ≡ true →
+    is_among (order_of lib m) k ≡ true →
+    (is_some (residence_of (state_after lib h) k) ≡ true)
+    × (stay_of (residence_of (after_entry lib (state_after lib h) entry) k) ≡ stay_of (residence_of (state_after lib h) k))
+
+-- ---- other processes
+
+-- a command that is answered without an entry: a touch, a peek or a query
+abbrev pub IsSteady : Command → Type 0
+IsSteady (commands.Touch place) = Unit {0}
+IsSteady (commands.Peek place) = Unit {0}
+IsSteady (commands.Query name key) = Unit {0}
+IsSteady (commands.Start name) = ⊥
+IsSteady (commands.Load name) = ⊥
+IsSteady (commands.Free name) = ⊥
+IsSteady (commands.Shared place) = ⊥
+IsSteady (commands.Write place bytes) = ⊥
+IsSteady commands.Exit = ⊥
+
+-- An entry of another process changes no refusal of a process, and no answer of a touch, a peek or a query.
+abbrev pub OthersRefuseAlike : Type 0
+OthersRefuseAlike =
+    (lib : Library) (held : Held) (h : List Entry) (entry : Entry) (pid : ℕ) (command : Command) → Legal lib held h → Follows lib held h entry →
+    is_among pids pid ≡ true → (pid == entry.pid) ≡ false →
+    refusal_of lib (after_entry lib (state_after lib h) entry) pid command ≡ refusal_of lib (state_after lib h) pid command
+
+abbrev pub OthersAnswerAlike : Type 0
+OthersAnswerAlike =
+    (lib : Library) (held : Held) (h : List Entry) (entry : Entry) (pid : ℕ) (command : Command) → Legal lib held h → Follows lib held h entry →
+    is_among pids pid ≡ true → (pid == entry.pid) ≡ false → IsSteady command →
+    answer_of lib held (after_entry lib (state_after lib h) entry) pid command ≡ answer_of lib held (state_after lib h) pid command

@@ -1,7 +1,7 @@
 //! What the definitions say together. Each law is the contract of a function that does nothing, which a
 //! crate above calls where it needs the law.
 
-ghost use Rattle.load_model.specs.Laws.{AsksDecide, PrefixIsLegal, EachFollows, OneMoreIsLegal, NothingIsLegal, OneMoreIsAfter, FaultOnce, ReachedIsResident, AttachedIsReached, GoneIsUnreached};
+ghost use Rattle.load_model.specs.Laws.{AsksDecide, PrefixIsLegal, EachFollows, OneMoreIsLegal, NothingIsLegal, OneMoreIsAfter, FaultOnce, ReachedIsResident, AttachedIsReached, GoneIsUnreached, ResidenceStays, ReachStays, OthersRefuseAlike, OthersAnswerAlike};
 
 /// Two legal histories whose entries ask the same are the same: nothing else in them was free.
 pub fn asks_decide()
@@ -33,3 +33,21 @@ pub fn residents_are_reached()
 pub fn gone_is_unreached()
     ensures { GoneIsUnreached }
 {}
+
+/// A residence whose module is still reached stands as it was; and while one stands, so do those of all
+/// modules that its module reaches.
+pub fn residences_stay()
+    ensures still { ResidenceStays }
+    ensures reach { ReachStays }
+{
+    lx_model::order_is_reach();
+}
+
+/// An entry of another process changes no refusal of a process, and no answer of a touch, a peek or a
+/// query.
+pub fn others_change_nothing()
+    ensures refusals { OthersRefuseAlike }
+    ensures answers { OthersAnswerAlike }
+{
+    lx_model::order_is_reach();
+}

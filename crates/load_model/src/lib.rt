@@ -10,4 +10,7 @@ pub use commands::{Command, Place, Refusal, Reply};
 pub use deeds::{
     Call, CallKind, Calls, Deed, Entry, Fresh, Gone, History, How, Leavers, Newcomers,
 };
-pub use laws::{asks_decide, faults_come_once, gone_is_unreached, histories_grow, residents_are_reached};
+pub use laws::{
+    asks_decide, faults_come_once, gone_is_unreached, histories_grow, others_change_nothing,
+    residences_stay, residents_are_reached,
+};
