@@ -46,7 +46,7 @@ find_is m (r ∷ rs) a e = step (r.«module» == m) refl (find_is m rs a) e
     step true h later e = (let same : r ≡ a = cc in ap (λ x. x.«module») (sym same) ∙ eqb-true r.«module» m h)
     step false h later e = later e
 
-attached_is : (lib : Library) (e : Eager) (q m : ℕ) (a : Residence) → attached_residence lib e q m ≡ Some a → (reaches lib (e.processes q) m ≡ true) × (a.«module» ≡ m)
+pub attached_is : (lib : Library) (e : Eager) (q m : ℕ) (a : Residence) → attached_residence lib e q m ≡ Some a → (reaches lib (e.processes q) m ≡ true) × (a.«module» ≡ m)
 unfolding attached_residence residence_of
 attached_is lib e q m a is = step (reaches lib (e.processes q) m) refl is
   where
@@ -104,7 +104,7 @@ not_shared classes.Code p r ws h = refl
 not_shared classes.Private p r ws h = refl
 not_shared classes.Shared p r ws h = cc
 
-left_none : (a b : Option Refusal) → a orelse b ≡ None → a ≡ None
+pub left_none : (a b : Option Refusal) → a orelse b ≡ None → a ≡ None
 left_none None b h = refl
 left_none (Some r) b h = cc
 

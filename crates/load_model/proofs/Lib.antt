@@ -10,3 +10,5 @@ pub mod Apart
 pub mod Bytes
 pub mod EntryReach
 pub mod Answers
+pub mod Holding
+pub mod Least

@@ -1,6 +1,9 @@
 -- What every legal history keeps, entry by entry.
 use Rattle.std.proofs.Common.{◌≡◌, ℕ, ◌==◌, Bool, true, false, not, ◌&&◌, ◌||◌, List, [], ◌∷◌, ◌++◌, map, refl, sym, ◌∙◌, ap, subst, append_assoc}
 use Rattle.std.specs.List.{list_any}
+use Rattle.std.specs.Prelude.{nat_lt, count_by, fold, cond}
+use Rattle.std.proofs.Common.{◌+◌, arith}
+use Rattle.std.proofs.lemmas.Bool.{lt-ltb}
 use Rattle.std.proofs.lemmas.List.{append-nil}
 use Rattle.load_model.specs.declared.deeds.Call.{Call}
 use Rattle.load_model.specs.declared.deeds.Gone.{Gone}
@@ -12,8 +15,8 @@ use Rattle.load_model.specs.State.{Eager, nothing_yet, is_among, pids, reaches, 
 use Rattle.load_model.specs.Leaving.{gone, freeing, exiting}
 use Rattle.load_model.specs.Asks.{asked, deed_of, may_ask, after_deed}
 use Rattle.load_model.specs.Histories.{state_after, Follows, AllFollow, Legal}
-use Rattle.load_model.specs.Laws.{gone_in, ReachedIsResident, AttachedIsReached, GoneIsUnreached}
-use Rattle.load_model.proofs.Bools.{and_right}
+use Rattle.load_model.specs.Laws.{gone_in, ReachedIsResident, AttachedIsReached, GoneIsUnreached, CountsAreResidence}
+use Rattle.load_model.proofs.Bools.{and_right, or_assoc, or_false, or_true}
 use Rattle.load_model.proofs.Kept.{Kept, others, is_resident, reached_apart, entered_kept, entered_reached, fresh_are_new}
 use Rattle.load_model.proofs.KeptLeaving.{freeing_gives_up, exiting_gives_up, left_kept, gone_unreached, written_kept, written_reached}
 use Rattle.load_model.proofs.Growing.{one_more_is_after}
@@ -107,3 +110,22 @@ gone_is_unreached lib held h x k legal follows =
     let e : Eager = state_after lib h in
     gone_after lib held e x.pid x.deed k (done_by lib held h x follows) (legal_kept lib held h legal)
     ∙ ap (λ b. b && not (is_reached lib (after_deed lib e x.pid x.deed) k)) (sym (is_resident e k))
+
+-- ---- counts
+
+one_more : (a : ℕ) (b : Bool) → nat_lt 0 (a + cond b 1 0) ≡ nat_lt 0 a || b
+one_more a true = lt-ltb 0 (a + 1) (omega arith) ∙ sym (or_true (nat_lt 0 a))
+one_more a false = (let same : a + 0 ≡ a = omega arith in ap (nat_lt 0) same ∙ sym (or_false (nat_lt 0 a)))
+
+any_from : {X : Type 0} (f : X → Bool) (a : ℕ) (xs : List X) → nat_lt 0 (fold (λ n x. n + cond (f x) 1 0) a xs) ≡ nat_lt 0 a || list_any f xs
+any_from f a [] = sym (or_false (nat_lt 0 a))
+any_from f a (x ∷ xs) =
+    any_from f (a + cond (f x) 1 0) xs ∙ ap (λ b. b || list_any f xs) (one_more a (f x)) ∙ or_assoc (nat_lt 0 a) (f x) (list_any f xs)
+
+any_counts : {X : Type 0} (f : X → Bool) (xs : List X) → list_any f xs ≡ nat_lt 0 (count_by f xs)
+any_counts f xs = sym (any_from f 0 xs)
+
+pub counts_are_residence : CountsAreResidence
+unfolding is_reached
+counts_are_residence lib held h legal m =
+    reached_is_resident lib held h legal m ∙ any_counts (λ pid. reaches lib ((state_after lib h).processes pid) m) pids

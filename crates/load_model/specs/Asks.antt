@@ -4,14 +4,15 @@ use Rattle.lx_types.specs.Object.{class_of}
 use Rattle.lx_types.specs.declared.object.Class.{Class}
 use Rattle.lx_types.specs.declared.object.Class.TheVariants as classes
 use Rattle.lx_types.specs.declared.object.PageId.{PageId}
+use Rattle.lx_types.specs.declared.object.TheConstants.{PAGE_SIZE}
 use Rattle.load_model.specs.declared.deeds.How.{How}
 use Rattle.load_model.specs.declared.deeds.Deed.{Deed}
 use Rattle.load_model.specs.declared.deeds.Deed.TheVariants.{Enter, Full, Free, Exit, Fault, Write, Shared}
 use Rattle.load_model.specs.Modules.{Library, Held, module_count, object_at}
-use Rattle.load_model.specs.State.{Written, Residence, Eager, with_process, residence_at, attached_residence}
+use Rattle.load_model.specs.State.{Written, Residence, Eager, with_process, attached_residence}
 use Rattle.load_model.specs.Entering.{enter_deed, entered}
 use Rattle.load_model.specs.Leaving.{freeing, exiting, leaving_calls, gone, after_leaving}
-use Rattle.load_model.specs.Memory.{Bytes, pages_over, writing, with_write}
+use Rattle.load_model.specs.Memory.{Bytes, writing, with_write}
 use Rattle.load_model.specs.Refusals.{Purpose, write, share, touch, enter_refusal, free_refusal, span_refusal}
 
 -- A start or a load of a module; a free of one; an exit; a page's first touch; bytes to write; a length of
@@ -49,7 +50,7 @@ deed_of lib held e pid exit =
 deed_of lib held e pid (fault serial m p) = Fault serial m p
 deed_of lib held e pid (put serial m object offset bytes) = Write serial m object offset bytes
 deed_of lib held e pid (get serial m object offset len) =
-    Shared serial m object offset (bytes_at lib held e pid object offset len (residence_at e serial))
+    Shared serial m object offset (bytes_at lib held e pid object offset len (attached_residence lib e pid m))
 
 -- ---- when it may be asked, whatever was touched
 
@@ -66,9 +67,9 @@ is_own classes.Private = true
 is_own classes.Code = false
 is_own classes.Shared = false
 
--- a page has its fault as a byte of it may be touched; private pages have none
+-- a page that may be touched has its fault as it is, where its object is not private
 abbrev pub may_fault : Library → ℕ → PageId → Bool
-may_fault lib m p = nat_lt p.page (length (pages_over 0 (object_at lib m p.object).size)) && not (is_own (class_of (object_at lib m p.object)))
+may_fault lib m p = not (is_own (class_of (object_at lib m p.object)))
 
 -- the bytes may be used so, and the process has not ended
 abbrev pub may_use : Library → Eager → ℕ → Purpose → ℕ → ℕ → ℕ → ℕ → ℕ → Bool
@@ -78,7 +79,7 @@ unfoldable pub may_ask : Library → Eager → ℕ → Ask → Bool
 may_ask lib e pid (enter how m) = nat_lt m (module_count lib) && is_none (enter_refusal lib (e.processes pid) how (Some m))
 may_ask lib e pid (free m) = is_none (free_refusal (e.processes pid) (Some m))
 may_ask lib e pid exit = not (e.processes pid).ended
-may_ask lib e pid (fault serial m p) = not (e.processes pid).ended && may_use lib e pid touch serial m p.object (p.page * 4096) 1 && may_fault lib m p
+may_ask lib e pid (fault serial m p) = not (e.processes pid).ended && may_use lib e pid touch serial m p.object (p.page * PAGE_SIZE) 1 && may_fault lib m p
 may_ask lib e pid (put serial m object offset bytes) = not (e.processes pid).ended && may_use lib e pid write serial m object offset (length bytes)
 may_ask lib e pid (get serial m object offset len) = not (e.processes pid).ended && may_use lib e pid share serial m object offset len
 

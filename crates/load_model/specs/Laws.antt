@@ -1,5 +1,5 @@
 -- What the definitions say together, entry by entry.
-use Rattle.std.specs.Prelude.{◌≡◌, ℕ, List, [], ◌∷◌, ◌++◌, map, true, false, not, ◌&&◌, ◌==◌, is_some, Option, Some, None}
+use Rattle.std.specs.Prelude.{◌≡◌, ◌<◌, length, ℕ, List, [], ◌∷◌, ◌++◌, map, true, false, not, ◌&&◌, ◌==◌, is_some, Option, Some, None, ◌%◌, nat_lt, count_by, MatchOption}
 use Rattle.lx_types.specs.declared.object.PageId.{PageId}
 use Rattle.load_model.specs.declared.deeds.Gone.{Gone}
 use Rattle.load_model.specs.declared.deeds.Deed.{Deed}
@@ -7,8 +7,12 @@ use Rattle.load_model.specs.declared.deeds.Deed.TheVariants as deeds
 use Rattle.load_model.specs.declared.deeds.Entry.{Entry}
 use Rattle.load_model.specs.declared.commands.Command.{Command}
 use Rattle.load_model.specs.declared.commands.Command.TheVariants as commands
-use Rattle.load_model.specs.Modules.{Library, Held, order_of}
-use Rattle.load_model.specs.State.{Residence, pids, is_among, reaches, is_reached, residence_of}
+use Rattle.lx_types.specs.Sound.{IsNumberOf}
+use Rattle.load_model.specs.Modules.{Library, Held, order_of, objects_of, object_at}
+use Rattle.lx_types.specs.Addresses.{UNIT}
+use Rattle.load_model.specs.Places.{Arena, Span, is_free, least_free, IsLeastFree}
+use Rattle.load_model.specs.Memory.{bases_seen}
+use Rattle.load_model.specs.State.{Eager, Residence, pids, is_among, reaches, is_reached, residence_of}
 use Rattle.load_model.specs.Refusals.{refusal_of}
 use Rattle.load_model.specs.Step.{answer_of}
 use Rattle.load_model.specs.Asks.{Ask, asked}
@@ -130,3 +134,38 @@ OthersAnswerAlike =
     (lib : Library) (held : Held) (h : List Entry) (entry : Entry) (pid : ℕ) (command : Command) → Legal lib held h → Follows lib held h entry →
     is_among pids pid ≡ true → (pid == entry.pid) ≡ false → IsSteady command →
     answer_of lib held (after_entry lib (state_after lib h) entry) pid command ≡ answer_of lib held (state_after lib h) pid command
+
+-- ---- what objects hold
+
+-- Two ways to say what objects hold agree on what a process can see in a state: each byte of an object of a
+-- module that is reached, at the bases of its residence and of those that it reaches.
+abbrev pub AgreeAt : Library → Held → Held → Eager → Type 0
+AgreeAt lib a b e =
+    (m object x : ℕ) → is_reached lib e m ≡ true → IsNumberOf object (length (objects_of lib m)) → x < (object_at lib m object).size →
+    a m (bases_seen lib e m) object x ≡ b m (bases_seen lib e m) object x
+
+-- Where they agree, each command has one answer.
+abbrev pub HeldAnswersAlike : Type 0
+HeldAnswersAlike =
+    (lib : Library) (a b : Held) (e : Eager) (pid : ℕ) (command : Command) → is_among pids pid ≡ true → AgreeAt lib a b e →
+    answer_of lib a e pid command ≡ answer_of lib b e pid command
+
+-- Where they agree in each state along a history, it is legal by both.
+abbrev pub HeldHistoriesAlike : Type 0
+HeldHistoriesAlike =
+    (lib : Library) (a b : Held) (h : List Entry) → ((before behind : List Entry) → h ≡ before ++ behind → AgreeAt lib a b (state_after lib before)) →
+    Legal lib a h → Legal lib b h
+
+-- ---- places and counts
+
+-- The place that is found is the least free one, and none is found exactly where no place is free.
+abbrev pub LeastIsFound : Type 0
+LeastIsFound =
+    (arena : Arena) (spans : List Span) (size : ℕ) → arena.from % UNIT ≡ 0 →
+    MatchOption (least_free arena spans size) ((other : ℕ) → is_free arena spans size other ≡ false) (IsLeastFree arena spans size)
+
+-- How many processes reach a module says whether it is resident.
+abbrev pub CountsAreResidence : Type 0
+CountsAreResidence =
+    (lib : Library) (held : Held) (h : List Entry) → Legal lib held h → (m : ℕ) →
+    is_some (residence_of (state_after lib h) m) ≡ nat_lt 0 (count_by (λ pid. reaches lib ((state_after lib h).processes pid) m) pids)

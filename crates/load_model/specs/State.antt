@@ -87,12 +87,9 @@ is_reached lib e m = list_any (λ pid. reaches lib (e.processes pid) m) pids
 
 -- ---- residences
 
--- the residence of a module, and the one with a serial number
+-- the residence of a module
 unfoldable pub residence_of : Eager → ℕ → Option Residence
 residence_of e m = find (λ r. r.«module» == m) e.residences
-
-unfoldable pub residence_at : Eager → ℕ → Option Residence
-residence_at e serial = find (λ r. r.serial == serial) e.residences
 
 abbrev pub serial_of : Option Residence → ℕ
 serial_of (Some r) = r.serial

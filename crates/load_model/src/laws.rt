@@ -1,7 +1,7 @@
 //! What the definitions say together. Each law is the contract of a function that does nothing, which a
 //! crate above calls where it needs the law.
 
-ghost use Rattle.load_model.specs.Laws.{AsksDecide, PrefixIsLegal, EachFollows, OneMoreIsLegal, NothingIsLegal, OneMoreIsAfter, FaultOnce, ReachedIsResident, AttachedIsReached, GoneIsUnreached, ResidenceStays, ReachStays, OthersRefuseAlike, OthersAnswerAlike};
+ghost use Rattle.load_model.specs.Laws.{AsksDecide, PrefixIsLegal, EachFollows, OneMoreIsLegal, NothingIsLegal, OneMoreIsAfter, FaultOnce, ReachedIsResident, AttachedIsReached, GoneIsUnreached, ResidenceStays, ReachStays, OthersRefuseAlike, OthersAnswerAlike, HeldAnswersAlike, HeldHistoriesAlike, LeastIsFound, CountsAreResidence};
 
 /// Two legal histories whose entries ask the same are the same: nothing else in them was free.
 pub fn asks_decide()
@@ -27,6 +27,7 @@ pub fn faults_come_once()
 pub fn residents_are_reached()
     ensures resident { ReachedIsResident }
     ensures attached { AttachedIsReached }
+    ensures counts { CountsAreResidence }
 {}
 
 /// What is gone with an entry is what was resident and no process reaches after it.
@@ -51,3 +52,15 @@ pub fn others_change_nothing()
 {
     lx_model::order_is_reach();
 }
+
+/// Where two ways to say what objects hold agree on what a process can see, each command has one answer,
+/// and the same histories are legal.
+pub fn agreement_is_enough()
+    ensures answers { HeldAnswersAlike }
+    ensures histories { HeldHistoriesAlike }
+{}
+
+/// An object that does not get its linked base gets the least free place, where there is one.
+pub fn least_place_is_found()
+    ensures { LeastIsFound }
+{}

@@ -4,5 +4,6 @@ pub mod Transcript
 pub mod Lines
 pub mod Statements
 pub mod Sessions
+pub mod Laws
 pub mod WorkedSessions
 pub mod WorkedRuns
