@@ -1,0 +1,121 @@
+-- The first of the places in their order that is free is the least.
+use Rattle.std.proofs.Common.{◌≡◌, ℕ, zero, suc, ◌+◌, ◌*◌, ◌-◌, ◌/◌, ◌%◌, ◌<◌, ◌≤◌, ◌==◌, Bool, true, false, cond, ◌&&◌, List, map, find, Option, Some, None, refl, sym, ◌∙◌, ap, subst, arith}
+use Rattle.std.specs.Prelude.{MatchOption, nat_le}
+use Rattle.std.specs.List.{range_with_len}
+use Rattle.std.proofs.lemmas.Bool.{eqb-true, eqb-false, leb-true}
+use Rattle.lx_types.specs.Addresses.{UNIT, room}
+use Rattle.load_model.specs.Places.{Arena, Span, is_free, least_free, multiples, IsLeastFree}
+use Rattle.load_model.specs.Laws.{LeastIsFound}
+use Rattle.load_model.proofs.Bools.{and_left, and_right}
+
+-- ---- the first number of some that passes
+
+pub record Least (p : ℕ → Bool) (f : ℕ → ℕ) (from n base : ℕ) : Type 0 where
+  pub passes : p base ≡ true
+  pub least : (k : ℕ) → from ≤ k → k < from + n → p (f k) ≡ true → base ≤ f k
+
+first_is : (p : ℕ → Bool) (f : ℕ → ℕ) → ((k l : ℕ) → k ≤ l → f k ≤ f l) → (n from base : ℕ) → find p (map f (range_with_len from n)) ≡ Some base → Least p f from n base
+first_is p f rises zero from base e = cc
+first_is p f rises (suc n) from base e = step (p (f from)) refl (first_is p f rises n (from + 1) base) e
+  where
+    step : (b : Bool) → p (f from) ≡ b → (find p (map f (range_with_len (from + 1) n)) ≡ Some base → Least p f (from + 1) n base) →
+        cond b (Some (f from)) (find p (map f (range_with_len (from + 1) n))) ≡ Some base → Least p f from (suc n) base
+    step true h later e =
+        let same : f from ≡ base = cc in
+        record { passes = ap p (sym same) ∙ h; least = λ k low high is. subst (λ x. x ≤ f k) same (rises from k low) }
+    step false h later e =
+        let r : Least p f (from + 1) n base = later e in
+        record {
+          passes = r.passes;
+          least = λ k low high is. other k low high is (k == from) refl r;
+        }
+      where
+        other : (k : ℕ) → from ≤ k → k < from + suc n → p (f k) ≡ true → (b : Bool) → (k == from) ≡ b → Least p f (from + 1) n base → base ≤ f k
+        other k low high is true same r =
+            let at : k ≡ from = eqb-true k from same in
+            let wrong : true ≡ false = sym is ∙ ap (λ x. p (f x)) at ∙ h in
+            cc
+        other k low high is false apart r =
+            let more : k ≡ from → ⊥ = eqb-false k from apart in
+            r.least k (omega arith) (omega arith) is
+
+none_is : (p : ℕ → Bool) (f : ℕ → ℕ) (n from : ℕ) → find p (map f (range_with_len from n)) ≡ None → (k : ℕ) → from ≤ k → k < from + n → p (f k) ≡ false
+none_is p f zero from e k low high = absurd (let wrong : ⊥ = omega arith in wrong)
+none_is p f (suc n) from e k low high = step (p (f from)) refl (none_is p f n (from + 1)) e (k == from) refl
+  where
+    step : (b : Bool) → p (f from) ≡ b →
+        (find p (map f (range_with_len (from + 1) n)) ≡ None → (j : ℕ) → from + 1 ≤ j → j < (from + 1) + n → p (f j) ≡ false) →
+        cond b (Some (f from)) (find p (map f (range_with_len (from + 1) n))) ≡ None → (c : Bool) → (k == from) ≡ c → p (f k) ≡ false
+    step true h later e c is = cc
+    step false h later e true is = ap (λ x. p (f x)) (eqb-true k from is) ∙ h
+    step false h later e false is =
+        let more : k ≡ from → ⊥ = eqb-false k from is in
+        later e k (omega arith) (omega arith)
+
+-- ---- a free place is one of the multiples
+
+pub record Multiple (arena : Arena) (place : ℕ) : Type 0 where
+  pub number : ℕ
+  pub below : number < (arena.end - arena.from) / 65536
+  pub is : place ≡ arena.from + 65536 * number
+
+room_is : (size : ℕ) → 65536 ≤ room size
+room_is size = omega arith
+
+apart_by : (from place : ℕ) → from % 65536 ≡ 0 → place % 65536 ≡ 0 → from ≤ place → place ≡ from + 65536 * ((place - from) / 65536)
+apart_by from place even is low = omega arith
+
+number_below : (from end place : ℕ) → from ≤ place → place + 65536 ≤ end → (place - from) / 65536 < (end - from) / 65536
+number_below from end place low high = omega arith
+
+free_is : (arena : Arena) (spans : List Span) (size place : ℕ) → arena.from % 65536 ≡ 0 → is_free arena spans size place ≡ true → Multiple arena place
+unfolding is_free
+free_is arena spans size place even free =
+    let rest : (((place % UNIT == 0) && nat_le arena.from place) && nat_le (place + room size) arena.end) ≡ true = and_left _ _ free in
+    let low : arena.from ≤ place = leb-true _ _ (and_right (place % UNIT == 0) _ (and_left _ _ rest)) in
+    let fits : place + room size ≤ arena.end = leb-true _ _ (and_right _ _ rest) in
+    let is : place % 65536 ≡ 0 = eqb-true _ _ (and_left (place % UNIT == 0) _ (and_left _ _ rest)) in
+    let more : 65536 ≤ room size = room_is size in
+    let high : place + 65536 ≤ arena.end = above place (room size) arena.end more fits in
+    record {
+      number = (place - arena.from) / 65536;
+      below = number_below arena.from arena.end place low high;
+      is = apart_by arena.from place even is low;
+    }
+  where
+    above : (a b c : ℕ) → 65536 ≤ b → a + b ≤ c → a + 65536 ≤ c
+    above a b c h k = omega arith
+
+rises : (from k l : ℕ) → k ≤ l → from + UNIT * k ≤ from + UNIT * l
+rises from k l h = omega arith
+
+found_is : (arena : Arena) (spans : List Span) (size : ℕ) → arena.from % UNIT ≡ 0 → (r : Option ℕ) → find (is_free arena spans size) (multiples arena) ≡ r →
+    MatchOption r ((other : ℕ) → is_free arena spans size other ≡ false) (IsLeastFree arena spans size)
+found_is arena spans size even None is = λ other. step other (is_free arena spans size other) refl
+  where
+    step : (other : ℕ) (b : Bool) → is_free arena spans size other ≡ b → is_free arena spans size other ≡ false
+    step other false h = h
+    step other true h =
+        let it : Multiple arena other = free_is arena spans size other even h in
+        ap (is_free arena spans size) it.is
+        ∙ none_is (is_free arena spans size) (λ k. arena.from + UNIT * k) ((arena.end - arena.from) / UNIT) 0 is it.number (omega arith) (below_all it.number _ it.below)
+      where
+        below_all : (k n : ℕ) → k < n → k < 0 + n
+        below_all k n h = omega arith
+found_is arena spans size even (Some base) is =
+    let r : Least (is_free arena spans size) (λ k. arena.from + UNIT * k) 0 ((arena.end - arena.from) / UNIT) base =
+    first_is (is_free arena spans size) (λ k. arena.from + UNIT * k) (rises arena.from) ((arena.end - arena.from) / UNIT) 0 base is
+    in
+    record {
+      free = r.passes;
+      least = λ other free.
+          (let it : Multiple arena other = free_is arena spans size other even free in
+          subst (λ x. base ≤ x) (sym it.is) (r.least it.number (omega arith) (below_all it.number _ it.below) (ap (is_free arena spans size) (sym it.is) ∙ free)));
+    }
+  where
+    below_all : (k n : ℕ) → k < n → k < 0 + n
+    below_all k n h = omega arith
+
+pub least_is_found : LeastIsFound
+unfolding least_free
+least_is_found arena spans size even = found_is arena spans size even (least_free arena spans size) refl

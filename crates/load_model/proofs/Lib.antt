@@ -1,0 +1,14 @@
+pub mod Bools
+pub mod Among
+pub mod Kept
+pub mod KeptLeaving
+pub mod Growing
+pub mod Residents
+pub mod Orders
+pub mod Stays
+pub mod Apart
+pub mod Bytes
+pub mod EntryReach
+pub mod Answers
+pub mod Holding
+pub mod Least

@@ -1,0 +1,171 @@
+-- What the definitions say together, entry by entry.
+use Rattle.std.specs.Prelude.{◌≡◌, ◌<◌, length, ℕ, List, [], ◌∷◌, ◌++◌, map, true, false, not, ◌&&◌, ◌==◌, is_some, Option, Some, None, ◌%◌, nat_lt, count_by, MatchOption}
+use Rattle.lx_types.specs.declared.object.PageId.{PageId}
+use Rattle.load_model.specs.declared.deeds.Gone.{Gone}
+use Rattle.load_model.specs.declared.deeds.Deed.{Deed}
+use Rattle.load_model.specs.declared.deeds.Deed.TheVariants as deeds
+use Rattle.load_model.specs.declared.deeds.Entry.{Entry}
+use Rattle.load_model.specs.declared.commands.Command.{Command}
+use Rattle.load_model.specs.declared.commands.Command.TheVariants as commands
+use Rattle.lx_types.specs.Sound.{IsNumberOf}
+use Rattle.load_model.specs.Modules.{Library, Held, order_of, objects_of, object_at}
+use Rattle.lx_types.specs.Addresses.{UNIT}
+use Rattle.load_model.specs.Places.{Arena, Span, is_free, least_free, IsLeastFree}
+use Rattle.load_model.specs.Memory.{bases_seen}
+use Rattle.load_model.specs.State.{Eager, Residence, pids, is_among, reaches, is_reached, residence_of}
+use Rattle.load_model.specs.Refusals.{refusal_of}
+use Rattle.load_model.specs.Step.{answer_of}
+use Rattle.load_model.specs.Asks.{Ask, asked}
+use Rattle.load_model.specs.Histories.{after_entry, state_after, is_fault_of, has_fault, Follows, Legal}
+
+-- ---- histories
+
+-- the process of an entry, and what it asks
+abbrev pub ask_of : Entry → ℕ × Ask
+ask_of entry = (entry.pid, asked entry.deed)
+
+-- Two legal histories whose entries ask the same, place by place, are the same.
+abbrev pub AsksDecide : Type 0
+AsksDecide = (lib : Library) (held : Held) (h k : List Entry) → Legal lib held h → Legal lib held k → map ask_of h ≡ map ask_of k → h ≡ k
+
+-- What a legal history begins with is legal.
+abbrev pub PrefixIsLegal : Type 0
+PrefixIsLegal = (lib : Library) (held : Held) (h more : List Entry) → Legal lib held (h ++ more) → Legal lib held h
+
+-- Each entry of a legal history follows those before it.
+abbrev pub EachFollows : Type 0
+EachFollows =
+    (lib : Library) (held : Held) (before : List Entry) (entry : Entry) (behind : List Entry) → Legal lib held (before ++ entry ∷ behind) →
+    Follows lib held before entry
+
+-- A legal history and an entry that follows it are legal.
+abbrev pub OneMoreIsLegal : Type 0
+OneMoreIsLegal =
+    (lib : Library) (held : Held) (h : List Entry) (entry : Entry) → Legal lib held h → Follows lib held h entry → Legal lib held (h ++ entry ∷ [])
+
+-- the empty history is
+abbrev pub NothingIsLegal : Type 0
+NothingIsLegal = (lib : Library) (held : Held) → Legal lib held []
+
+-- One more entry takes the state one step on.
+abbrev pub OneMoreIsAfter : Type 0
+OneMoreIsAfter = (lib : Library) (h : List Entry) (entry : Entry) → state_after lib (h ++ entry ∷ []) ≡ after_entry lib (state_after lib h) entry
+
+-- A page of a residence has its fault once.
+abbrev pub FaultOnce : Type 0
+FaultOnce =
+    (lib : Library) (held : Held) (before : List Entry) (entry : Entry) (behind : List Entry) (serial : ℕ) (p : PageId) →
+    Legal lib held (before ++ entry ∷ behind) → is_fault_of serial p entry.deed ≡ true → has_fault before serial p ≡ false
+
+-- ---- residences
+
+-- A module is resident exactly while some process reaches it.
+abbrev pub ReachedIsResident : Type 0
+ReachedIsResident =
+    (lib : Library) (held : Held) (h : List Entry) → Legal lib held h → (m : ℕ) → is_some (residence_of (state_after lib h) m) ≡ is_reached lib (state_after lib h) m
+
+-- A process has attached exactly what it reaches.
+abbrev pub AttachedIsReached : Type 0
+AttachedIsReached =
+    (lib : Library) (held : Held) (h : List Entry) → Legal lib held h → (pid m : ℕ) →
+    is_among ((state_after lib h).processes pid).attached m ≡ reaches lib ((state_after lib h).processes pid) m
+
+-- what an entry says is gone
+abbrev pub gone_in : Deed → List Gone
+gone_in (deeds.Free m calls gone) = gone
+gone_in (deeds.Exit calls gone) = gone
+gone_in (deeds.Enter how m fresh calls) = []
+gone_in (deeds.Full how m of object size) = []
+gone_in (deeds.Fault serial m p) = []
+gone_in (deeds.Write serial m object offset bytes) = []
+gone_in (deeds.Shared serial m object offset bytes) = []
+
+-- What is gone with an entry is what was resident and no process reaches after it.
+abbrev pub GoneIsUnreached : Type 0
+GoneIsUnreached =
+    (lib : Library) (held : Held) (h : List Entry) (entry : Entry) (m : ℕ) → Legal lib held h → Follows lib held h entry →
+    is_among (map (λ g. g.«module») (gone_in entry.deed)) m ≡
+    is_some (residence_of (state_after lib h) m) && not (is_reached lib (after_entry lib (state_after lib h) entry) m)
+
+-- a residence without the writes that are shared
+abbrev pub stay_of : Option Residence → Option Residence
+stay_of None = None
+stay_of (Some r) = Some (record r { writes = [] })
+
+-- A residence whose module is still reached after an entry stands as it was.
+abbrev pub ResidenceStays : Type 0
+ResidenceStays =
+    (lib : Library) (held : Held) (h : List Entry) (entry : Entry) (m : ℕ) → Legal lib held h → Follows lib held h entry →
+    is_some (residence_of (state_after lib h) m) ≡ true → is_reached lib (after_entry lib (state_after lib h) entry) m ≡ true →
+    stay_of (residence_of (after_entry lib (state_after lib h) entry) m) ≡ stay_of (residence_of (state_after lib h) m)
+
+-- While a residence stands, each module that its module reaches is resident, and keeps its residence.
+abbrev pub ReachStays : Type 0
+ReachStays =
+    (lib : Library) (held : Held) (h : List Entry) (entry : Entry) (m k : ℕ) → Legal lib held h → Follows lib held h entry →
+    is_some (residence_of (state_after lib h) m) ≡ true → is_some (residence_of (after_entry lib (state_after lib h) entry) m) ≡ true →
+    is_among (order_of lib m) k ≡ true →
+    (is_some (residence_of (state_after lib h) k) ≡ true)
+    × (stay_of (residence_of (after_entry lib (state_after lib h) entry) k) ≡ stay_of (residence_of (state_after lib h) k))
+
+-- ---- other processes
+
+-- a command that is answered without an entry: a touch, a peek or a query
+abbrev pub IsSteady : Command → Type 0
+IsSteady (commands.Touch place) = Unit {0}
+IsSteady (commands.Peek place) = Unit {0}
+IsSteady (commands.Query name key) = Unit {0}
+IsSteady (commands.Start name) = ⊥
+IsSteady (commands.Load name) = ⊥
+IsSteady (commands.Free name) = ⊥
+IsSteady (commands.Shared place) = ⊥
+IsSteady (commands.Write place bytes) = ⊥
+IsSteady commands.Exit = ⊥
+
+-- An entry of another process changes no refusal of a process, and no answer of a touch, a peek or a query.
+abbrev pub OthersRefuseAlike : Type 0
+OthersRefuseAlike =
+    (lib : Library) (held : Held) (h : List Entry) (entry : Entry) (pid : ℕ) (command : Command) → Legal lib held h → Follows lib held h entry →
+    is_among pids pid ≡ true → (pid == entry.pid) ≡ false →
+    refusal_of lib (after_entry lib (state_after lib h) entry) pid command ≡ refusal_of lib (state_after lib h) pid command
+
+abbrev pub OthersAnswerAlike : Type 0
+OthersAnswerAlike =
+    (lib : Library) (held : Held) (h : List Entry) (entry : Entry) (pid : ℕ) (command : Command) → Legal lib held h → Follows lib held h entry →
+    is_among pids pid ≡ true → (pid == entry.pid) ≡ false → IsSteady command →
+    answer_of lib held (after_entry lib (state_after lib h) entry) pid command ≡ answer_of lib held (state_after lib h) pid command
+
+-- ---- what objects hold
+
+-- Two ways to say what objects hold agree on what a process can see in a state: each byte of an object of a
+-- module that is reached, at the bases of its residence and of those that it reaches.
+abbrev pub AgreeAt : Library → Held → Held → Eager → Type 0
+AgreeAt lib a b e =
+    (m object x : ℕ) → is_reached lib e m ≡ true → IsNumberOf object (length (objects_of lib m)) → x < (object_at lib m object).size →
+    a m (bases_seen lib e m) object x ≡ b m (bases_seen lib e m) object x
+
+-- Where they agree, each command has one answer.
+abbrev pub HeldAnswersAlike : Type 0
+HeldAnswersAlike =
+    (lib : Library) (a b : Held) (e : Eager) (pid : ℕ) (command : Command) → is_among pids pid ≡ true → AgreeAt lib a b e →
+    answer_of lib a e pid command ≡ answer_of lib b e pid command
+
+-- Where they agree in each state along a history, it is legal by both.
+abbrev pub HeldHistoriesAlike : Type 0
+HeldHistoriesAlike =
+    (lib : Library) (a b : Held) (h : List Entry) → ((before behind : List Entry) → h ≡ before ++ behind → AgreeAt lib a b (state_after lib before)) →
+    Legal lib a h → Legal lib b h
+
+-- ---- places and counts
+
+-- The place that is found is the least free one, and none is found exactly where no place is free.
+abbrev pub LeastIsFound : Type 0
+LeastIsFound =
+    (arena : Arena) (spans : List Span) (size : ℕ) → arena.from % UNIT ≡ 0 →
+    MatchOption (least_free arena spans size) ((other : ℕ) → is_free arena spans size other ≡ false) (IsLeastFree arena spans size)
+
+-- How many processes reach a module says whether it is resident.
+abbrev pub CountsAreResidence : Type 0
+CountsAreResidence =
+    (lib : Library) (held : Held) (h : List Entry) → Legal lib held h → (m : ℕ) →
+    is_some (residence_of (state_after lib h) m) ≡ nat_lt 0 (count_by (λ pid. reaches lib ((state_after lib h).processes pid) m) pids)

@@ -1,0 +1,66 @@
+//! What the definitions say together. Each law is the contract of a function that does nothing, which a
+//! crate above calls where it needs the law.
+
+ghost use Rattle.load_model.specs.Laws.{AsksDecide, PrefixIsLegal, EachFollows, OneMoreIsLegal, NothingIsLegal, OneMoreIsAfter, FaultOnce, ReachedIsResident, AttachedIsReached, GoneIsUnreached, ResidenceStays, ReachStays, OthersRefuseAlike, OthersAnswerAlike, HeldAnswersAlike, HeldHistoriesAlike, LeastIsFound, CountsAreResidence};
+
+/// Two legal histories whose entries ask the same are the same: nothing else in them was free.
+pub fn asks_decide()
+    ensures { AsksDecide }
+{}
+
+/// A legal history grows by one entry that follows it, and each of its entries follows those before.
+pub fn histories_grow()
+    ensures nothing { NothingIsLegal }
+    ensures grows { OneMoreIsLegal }
+    ensures shrinks { PrefixIsLegal }
+    ensures follows { EachFollows }
+    ensures after { OneMoreIsAfter }
+{}
+
+/// A page of a residence has its fault once.
+pub fn faults_come_once()
+    ensures { FaultOnce }
+{}
+
+/// A module is resident exactly while some process reaches it, and a process has attached what it
+/// reaches.
+pub fn residents_are_reached()
+    ensures resident { ReachedIsResident }
+    ensures attached { AttachedIsReached }
+    ensures counts { CountsAreResidence }
+{}
+
+/// What is gone with an entry is what was resident and no process reaches after it.
+pub fn gone_is_unreached()
+    ensures { GoneIsUnreached }
+{}
+
+/// A residence whose module is still reached stands as it was; and while one stands, so do those of all
+/// modules that its module reaches.
+pub fn residences_stay()
+    ensures still { ResidenceStays }
+    ensures reach { ReachStays }
+{
+    lx_model::order_is_reach();
+}
+
+/// An entry of another process changes no refusal of a process, and no answer of a touch, a peek or a
+/// query.
+pub fn others_change_nothing()
+    ensures refusals { OthersRefuseAlike }
+    ensures answers { OthersAnswerAlike }
+{
+    lx_model::order_is_reach();
+}
+
+/// Where two ways to say what objects hold agree on what a process can see, each command has one answer,
+/// and the same histories are legal.
+pub fn agreement_is_enough()
+    ensures answers { HeldAnswersAlike }
+    ensures histories { HeldHistoriesAlike }
+{}
+
+/// An object that does not get its linked base gets the least free place, where there is one.
+pub fn least_place_is_found()
+    ensures { LeastIsFound }
+{}

@@ -1,0 +1,16 @@
+//! What a run means: the loader with one thread, its steps, and which histories are legal.
+#![tactic(auto)]
+
+mod commands;
+mod deeds;
+mod laws;
+mod worked;
+
+pub use commands::{Command, Place, Refusal, Reply};
+pub use deeds::{
+    Call, CallKind, Calls, Deed, Entry, Fresh, Gone, History, How, Leavers, Newcomers,
+};
+pub use laws::{
+    agreement_is_enough, asks_decide, faults_come_once, gone_is_unreached, histories_grow,
+    least_place_is_found, others_change_nothing, residences_stay, residents_are_reached,
+};

@@ -1,0 +1,112 @@
+-- Sessions: which bytes are one, what it says, and otherwise the first line that is wrong.
+use Rattle.std.specs.Prelude.{◌≡◌, ℕ, ◌+◌, ◌&&◌, Bool, List, [], ◌∷◌, ◌++◌, length, filter_map, fold, Option, Some, None, nat_lt, nat_le, if◌then◌else◌}
+use Rattle.load_model.specs.declared.commands.Command.{Command}
+use Rattle.session_model.specs.declared.sessions.ModLine.{ModLine}
+use Rattle.session_model.specs.declared.sessions.Script.{Script}
+use Rattle.session_model.specs.declared.sessions.Session.{Session}
+use Rattle.session_model.specs.declared.sessions.SessionKind.{SessionKind}
+use Rattle.session_model.specs.declared.sessions.SessionKind.TheVariants as kinds
+use Rattle.session_model.specs.declared.sessions.SessionRefusal.{SessionRefusal}
+use Rattle.session_model.specs.Lines.{lines_in}
+use Rattle.session_model.specs.Statements.{Statement, gives, process, command, Reading, nothing, says, wrong, reading_of}
+
+-- ---- what statements say together
+
+abbrev pub module_of : Statement → Option ModLine
+module_of (gives m) = Some m
+module_of (process n) = None
+module_of (command c) = None
+
+-- the commands up to the next script
+abbrev pub commands_of : List Statement → List Command
+commands_of [] = []
+commands_of (command c ∷ others) = c ∷ commands_of others
+commands_of (process n ∷ others) = []
+commands_of (gives m ∷ others) = []
+
+-- each script has the commands below its number
+abbrev pub scripts_of : List Statement → List Script
+scripts_of [] = []
+scripts_of (process n ∷ others) = record { pid = n; commands = commands_of others } ∷ scripts_of others
+scripts_of (command c ∷ others) = scripts_of others
+scripts_of (gives m ∷ others) = scripts_of others
+
+unfoldable pub session_of : List Statement → Session
+session_of statements = record { modules = filter_map module_of statements; scripts = scripts_of statements }
+
+-- ---- a line among others
+
+-- the statement of a line, where it has one
+abbrev pub said : Reading → Option Statement
+said nothing = None
+said (says statement) = Some statement
+said (wrong kind) = None
+
+abbrev pub statements_of : List (List ℕ) → List Statement
+statements_of lines = filter_map (λ line. said (reading_of line)) lines
+
+abbrev pub number_or : Option ℕ → Statement → Option ℕ
+number_or so_far (process n) = Some n
+number_or so_far (gives m) = so_far
+number_or so_far (command c) = so_far
+
+abbrev pub count_or : ℕ → Statement → ℕ
+count_or n (process number) = 0
+count_or n (gives m) = n
+count_or n (command c) = n + 1
+
+-- the number of the script above, and how many commands it has so far
+abbrev pub last_number : List Statement → Option ℕ
+last_number before = fold number_or None before
+
+abbrev pub commands_so_far : List Statement → ℕ
+commands_so_far before = fold count_or 0 before
+
+-- the most processes, and the most commands of one script
+abbrev pub MOST_PROCESSES : ℕ
+MOST_PROCESSES = 16
+
+abbrev pub MOST_COMMANDS : ℕ
+MOST_COMMANDS = 1024
+
+-- a process number is from 1 to 16 and above the last one
+abbrev pub rises : Option ℕ → ℕ → Bool
+rises None n = nat_le 1 n && nat_le n MOST_PROCESSES
+rises (Some last) n = nat_lt last n && nat_le n MOST_PROCESSES
+
+-- Modules come before all scripts, and commands belong to a script. A script may be full.
+abbrev pub fault_among : Option ℕ → ℕ → Statement → Option SessionKind
+fault_among None n (gives m) = None
+fault_among (Some last) n (gives m) = Some kinds.Order
+fault_among last n (process number) = if rises last number then None else Some kinds.Order
+fault_among None n (command c) = Some kinds.Order
+fault_among (Some last) n (command c) = if nat_lt n MOST_COMMANDS then None else Some kinds.TooMany
+
+abbrev pub fault_behind : List Statement → Reading → Option SessionKind
+fault_behind before nothing = None
+fault_behind before (wrong kind) = Some kind
+fault_behind before (says s) = fault_among (last_number before) (commands_so_far before) s
+
+-- what is wrong with a line behind others
+unfoldable pub line_fault : List (List ℕ) → List ℕ → Option SessionKind
+line_fault before line = fault_behind (statements_of before) (reading_of line)
+
+-- ---- sessions
+
+abbrev pub or_next : List (List ℕ) → Option SessionKind → Option SessionRefusal → Option SessionRefusal
+or_next before (Some kind) later = Some (record { line = length before + 1; kind = kind })
+or_next before None later = later
+
+-- the first line that is wrong, of those behind others
+abbrev pub fault_from : List (List ℕ) → List (List ℕ) → Option SessionRefusal
+fault_from before [] = None
+fault_from before (line ∷ behind) = or_next before (line_fault before line) (fault_from (before ++ line ∷ []) behind)
+
+-- the first fault of bytes that are no session; lines count from 1
+unfoldable pub SesFault : List ℕ → Option SessionRefusal
+SesFault bytes = fault_from [] (lines_in bytes)
+
+-- The bytes are this session: no line is wrong, and the statements say it.
+pub record Ses (bytes : List ℕ) (s : Session) : Type 0 where
+  pub good : SesFault bytes ≡ None
+  pub says : s ≡ session_of (statements_of (lines_in bytes))

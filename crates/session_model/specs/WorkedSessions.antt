@@ -1,0 +1,96 @@
+-- Worked values: sessions, and one of each fault.
+use Rattle.std.specs.Prelude.{◌≡◌, ℕ, List, [], ◌∷◌, ◌++◌, codes, replicate, Option, Some, None}
+use Rattle.lx_types.specs.declared.entry.EntryKey.TheVariants.{Ordinal, Named}
+use Rattle.load_model.specs.declared.commands.Command.{Command}
+use Rattle.load_model.specs.declared.commands.Command.TheVariants.{Start, Load, Free, Touch, Peek, Shared, Write, Query, Exit}
+use Rattle.session_model.specs.declared.sessions.ModLine.TheVariants.{Take, Build}
+use Rattle.session_model.specs.declared.sessions.Session.{Session}
+use Rattle.session_model.specs.declared.sessions.SessionKind.{SessionKind}
+use Rattle.session_model.specs.declared.sessions.SessionKind.TheVariants as kinds
+use Rattle.session_model.specs.declared.sessions.SessionRefusal.{SessionRefusal}
+use Rattle.session_model.specs.Statements.{place_of, command}
+use Rattle.session_model.specs.Sessions.{fault_among, SesFault, Ses}
+
+-- a line, and one that ends as in DOS
+abbrev pub ln : List ℕ → List ℕ
+ln text = text ++ 0x0A ∷ []
+
+abbrev pub dos : List ℕ → List ℕ
+dos text = text ++ 0x0D ∷ 0x0A ∷ []
+
+-- one module and one process
+abbrev pub one_module : List ℕ
+one_module =
+    ln (codes "build D d.def a.obj") ++ ln (codes "process 1") ++ ln (codes "load D") ++ ln (codes "touch D 1 4 4") ++ ln (codes "peek D 1 0 8")
+    ++ ln (codes "free D") ++ ln (codes "exit")
+
+abbrev pub commands_of_D : List Command
+commands_of_D =
+    Load (codes "D") ∷ Touch (place_of (codes "D") 1 4 4) ∷ Peek (place_of (codes "D") 1 0 8) ∷ Free (codes "D") ∷ Exit ∷ []
+
+abbrev pub session_of_D : Session
+session_of_D = record {
+  modules = Build (codes "D") (codes "d.def") (codes "a.obj" ∷ []) ∷ [];
+  scripts = record { pid = 1; commands = commands_of_D } ∷ [];
+}
+
+-- comments, blanks, numbers of both kinds, and no end of the last line
+abbrev pub of_all_kinds : List ℕ
+of_all_kinds =
+    dos (codes "# a comment") ++ dos [] ++ ln (codes "  take  m.dll") ++ ln (codes "build P - a.obj b.lib") ++ ln (codes "process 2")
+    ++ ln (codes "start P") ++ ln (0x09 ∷ codes "shared M 0x2 0x10 4096") ++ ln (codes "write M 1 0 aBcD") ++ ln (codes "query M @7")
+    ++ ln (codes "process 16") ++ codes "query M F"
+
+pub record WorkedSessions : Type 0 where
+  pub one : Ses one_module session_of_D
+  pub empty : Ses [] (record { modules = []; scripts = [] })
+  pub kinds : Ses of_all_kinds (record {
+    modules = Take (codes "m.dll") ∷ Build (codes "P") (codes "-") (codes "a.obj" ∷ codes "b.lib" ∷ []) ∷ [];
+    scripts =
+        record {
+          pid = 2;
+          commands =
+              Start (codes "P") ∷ Shared (place_of (codes "M") 2 16 4096) ∷ Write (place_of (codes "M") 1 0 2) (0xAB ∷ 0xCD ∷ []) ∷ Query (codes "M") (Ordinal 7) ∷ [];
+        }
+        ∷ record { pid = 16; commands = Query (codes "M") (Named (codes "F")) ∷ [] } ∷ [];
+  })
+
+-- ---- faults
+
+abbrev at : ℕ → SessionKind → Option SessionRefusal
+at line kind = Some (record { line = line; kind = kind })
+
+-- a line of the script of process 1
+abbrev in_script : List ℕ → Option SessionRefusal
+in_script line = SesFault (ln (codes "process 1") ++ ln line)
+
+pub record WorkedFaults : Type 0 where
+  pub byte : SesFault (ln (codes "# a comment" ++ 0x80 ∷ [])) ≡ at 1 kinds.Byte
+  pub lone_cr : SesFault (codes "take" ++ 0x0D ∷ codes " m") ≡ at 1 kinds.Byte
+  pub statement : SesFault (ln [] ++ ln (codes "Take m")) ≡ at 2 kinds.Statement
+  pub count : SesFault (ln (codes "build D d.def")) ≡ at 1 kinds.Count
+  pub long_word : SesFault (codes "take " ++ replicate 256 0x61) ≡ at 1 kinds.Count
+  pub word_fits : SesFault (codes "take " ++ replicate 255 0x61) ≡ None
+  pub number : in_script (codes "touch M 1 x 1") ≡ at 2 kinds.Number
+  pub number_large : in_script (codes "touch M 1 4294967296 1") ≡ at 2 kinds.Number
+  pub number_fits : in_script (codes "touch M 1 4294967295 1") ≡ None
+  pub no_digits : in_script (codes "touch M 0x 0 1") ≡ at 2 kinds.Number
+  pub length_0 : in_script (codes "touch M 1 0 0") ≡ at 2 kinds.Number
+  pub length_large : in_script (codes "peek M 1 0 4097") ≡ at 2 kinds.Number
+  pub touch_large : in_script (codes "touch M 1 0 4097") ≡ None
+  pub ordinal : in_script (codes "query M @") ≡ at 2 kinds.Number
+  pub hex : in_script (codes "write M 1 0 ABC") ≡ at 2 kinds.Hex
+  pub hex_digit : in_script (codes "write M 1 0 AG") ≡ at 2 kinds.Hex
+  pub number_first : in_script (codes "write M 1 x AG") ≡ at 2 kinds.Number
+  pub hex_large : in_script (codes "write M 1 0 " ++ replicate 8194 0x30) ≡ at 2 kinds.Hex
+  pub hex_fits : in_script (codes "write M 1 0 " ++ replicate 8192 0x30) ≡ None
+  pub module_late : in_script (codes "take M") ≡ at 2 kinds.Order
+  pub no_process : SesFault (codes "load M") ≡ at 1 kinds.Order
+  pub process_0 : SesFault (codes "process 0") ≡ at 1 kinds.Order
+  pub process_17 : SesFault (codes "process 17") ≡ at 1 kinds.Order
+  pub same_process : in_script (codes "process 1") ≡ at 2 kinds.Order
+  -- command 1,024 of a script is its last
+  pub last_command : fault_among (Some 1) 1023 (command Exit) ≡ None
+  pub too_many : fault_among (Some 1) 1024 (command Exit) ≡ Some kinds.TooMany
+  -- the first line counts, and in it the first kind
+  pub first : SesFault (ln (codes "load M") ++ ln (codes "what")) ≡ at 1 kinds.Order

@@ -1,0 +1,12 @@
+//! What the definitions of sessions say together.
+
+ghost use Rattle.session_model.specs.Laws.{MeansOne, MeansOrFails, FaultMeansNone, FaultIsFirst};
+
+/// Bytes are one session at most; they are one or have a fault, and not both; and the fault is that of
+/// the first line that is wrong.
+pub fn sessions_are_one()
+    ensures one { MeansOne }
+    ensures either { MeansOrFails }
+    ensures not_both { FaultMeansNone }
+    ensures first { FaultIsFirst }
+{}

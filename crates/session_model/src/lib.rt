@@ -1,0 +1,11 @@
+//! What a session says, how its run is merged from a history and steady lines, and the transcript.
+#![tactic(auto)]
+
+mod laws;
+mod sessions;
+mod worked;
+
+pub use laws::sessions_are_one;
+pub use sessions::{
+    Commands, Line, ModLine, Script, ScriptLines, Session, SessionKind, SessionRefusal,
+};

@@ -1,0 +1,71 @@
+//! What a session says: modules, and scripts of commands.
+
+use load_model::{Command, Reply};
+use lx_types::{Name, Names, Seq};
+
+/// A line that gives a module.
+#[derive(Debug, PartialEq, Drop)]
+pub enum ModLine {
+    /// The module in a file.
+    Take { file: Name },
+    /// A module that is linked from object files and libraries. `def` is the definition file's name,
+    /// or `-`.
+    Build { stem: Name, def: Name, files: Names },
+}
+
+/// The commands of a script, in their order.
+pub type Commands = Seq<Command>;
+
+/// What one process does. Its number is from 1 to 16.
+#[derive(Debug, PartialEq, Drop)]
+pub struct Script {
+    pub pid: u32,
+    pub commands: Commands,
+}
+
+/// A session: the modules, and the scripts by rising numbers.
+#[derive(Debug, PartialEq, Drop)]
+pub struct Session {
+    pub modules: Seq<ModLine>,
+    pub scripts: Seq<Script>,
+}
+
+/// What is wrong with a line. The kinds are tried in this order.
+#[derive(Clone, Copy, Debug, PartialEq, Eq)]
+pub enum SessionKind {
+    /// A byte that is neither a blank nor a visible ASCII character.
+    Byte,
+    /// The first word is no statement.
+    Statement,
+    /// The statement has another number of words, or one of them is too long.
+    Count,
+    Number,
+    Hex,
+    /// The statement stands in the wrong part, or its process number is out of range or does not rise.
+    Order,
+    /// The script has too many commands.
+    TooMany,
+}
+
+/// The first fault of a session; lines count from 1.
+#[derive(Clone, Copy, Debug, PartialEq, Eq)]
+pub struct SessionRefusal {
+    pub line: u32,
+    pub kind: SessionKind,
+}
+
+/// A steady line: a command that was answered without an entry, with how many entries of the history
+/// its process had made or was shown.
+#[derive(Debug, PartialEq, Drop)]
+pub struct Line {
+    pub front: u64,
+    pub command: Command,
+    pub reply: Reply,
+}
+
+/// The steady lines of a script.
+#[derive(Debug, PartialEq, Drop)]
+pub struct ScriptLines {
+    pub pid: u32,
+    pub lines: Seq<Line>,
+}
