@@ -8,3 +8,5 @@ pub mod Exports
 pub mod Imports
 pub mod Meaning
 pub mod Reading
+pub mod Whole
+pub mod Examples

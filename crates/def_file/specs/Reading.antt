@@ -1,5 +1,5 @@
 -- A definition file, token by token.
-use Rattle.std.specs.Prelude.{ℕ, List, [], ◌∷◌, Result, Ok, Err, if◌then◌else◌}
+use Rattle.std.specs.Prelude.{◌≡◌, ℕ, List, [], ◌∷◌, Result, Ok, Err, if◌then◌else◌}
 use Rattle.lx_types.specs.declared.fail.Fail.{Fail}
 use Rattle.lx_types.specs.declared.fail.Fail.TheVariants.{Said, NoMemory}
 use Rattle.obj_types.specs.declared.definition.DefFile.{DefFile}
@@ -66,3 +66,11 @@ run r (t ∷ ts) = at_line t.line (step r t.lexeme) >>= (λ next. run next ts)
 -- What the bytes of a file say, or their first fault.
 abbrev pub read_of : List ℕ → Result DefFile DefRefusal
 read_of bytes = run fresh (tokens_of bytes)
+
+-- The bytes are a definition file that says so.
+abbrev pub Def : List ℕ → DefFile → Type 0
+Def bytes d = read_of bytes ≡ Ok d
+
+-- They are none, and this is their first fault.
+abbrev pub FirstFault : List ℕ → DefRefusal → Type 0
+FirstFault bytes fault = read_of bytes ≡ Err fault

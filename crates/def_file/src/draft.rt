@@ -2,6 +2,7 @@
 
 ghost use Rattle.std.specs.Prelude.{◌≡◌};
 ghost use Rattle.def_file.specs.Draft.{fresh};
+ghost use Rattle.def_file.specs.Whole.{WholeReading};
 
 use lx_types::{Name, Seq};
 use obj_types::{Exp, Exports, Imports, ModKind};
@@ -161,7 +162,8 @@ pub struct Reading {
 
 /// Before the first token.
 pub fn fresh(alloc: Global) -> Reading
-    ensures { result ≡ fresh }
+    ensures value { result ≡ fresh }
+    ensures whole { WholeReading result }
 {
     Reading {
         draft: Draft {

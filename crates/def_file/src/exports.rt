@@ -1,7 +1,10 @@
 //! EXPORTS.
 
+ghost use Rattle.std.specs.Prelude.{IfOk};
 ghost use Rattle.def_tokens.specs.Tokens.{lexeme_of};
+ghost use Rattle.obj_types.specs.Definition.{WholeExport};
 ghost use Rattle.def_file.specs.Answer.{Reads};
+ghost use Rattle.def_file.specs.Whole.{WholeReading, WholeDraft};
 ghost use Rattle.def_file.specs.Exports.{exports, behind_nodata, behind_resident, behind_ordinal, behind_internal, behind_name, export, internal, ordinal};
 
 use crate::DefKind;
@@ -17,7 +20,9 @@ use std::alloc::Global;
 /// Another item of EXPORTS, or the next statement.
 #[tactic(auto, unfolding(crate::specs::Exports::exports))]
 pub fn exports(alloc: Global, draft: Draft, token: Token<'_>) -> Result<Reading, Fail<DefKind>>
-    ensures { Reads result (exports draft (lexeme_of token.entry)) }
+    requires { WholeDraft draft }
+    ensures value { Reads result (exports draft (lexeme_of token.entry)) }
+    ensures whole { IfOk result (λ r. WholeReading r) }
 {
     match token.name() {
         Some(bytes) => {
@@ -42,14 +47,17 @@ pub fn exports(alloc: Global, draft: Draft, token: Token<'_>) -> Result<Reading,
 }
 
 // The number of parameter words, or the next item.
-#[tactic(auto, unfolding(crate::specs::Exports::behind_nodata))]
+#[tactic(auto, using(crate::proofs::WholeLaws::all_pushed), unfolding(crate::specs::Exports::behind_nodata))]
 fn behind_nodata(
     alloc: Global,
     mut draft: Draft,
     mut item: Exp,
     token: Token<'_>,
 ) -> Result<Reading, Fail<DefKind>>
-    ensures { Reads result (behind_nodata draft item (lexeme_of token.entry)) }
+    requires whole { WholeDraft draft }
+    requires item { WholeExport item }
+    ensures value { Reads result (behind_nodata draft item (lexeme_of token.entry)) }
+    ensures whole { IfOk result (λ r. WholeReading r) }
 {
     match token.number() {
         Some(value) => {
@@ -71,7 +79,10 @@ fn behind_resident(
     mut item: Exp,
     token: Token<'_>,
 ) -> Result<Reading, Fail<DefKind>>
-    ensures { Reads result (behind_resident draft item (lexeme_of token.entry)) }
+    requires whole { WholeDraft draft }
+    requires item { WholeExport item }
+    ensures value { Reads result (behind_resident draft item (lexeme_of token.entry)) }
+    ensures whole { IfOk result (λ r. WholeReading r) }
 {
     match token.keyword() {
         Some(Keyword::NoData) => {
@@ -90,7 +101,10 @@ fn behind_ordinal(
     mut item: Exp,
     token: Token<'_>,
 ) -> Result<Reading, Fail<DefKind>>
-    ensures { Reads result (behind_ordinal draft item (lexeme_of token.entry)) }
+    requires whole { WholeDraft draft }
+    requires item { WholeExport item }
+    ensures value { Reads result (behind_ordinal draft item (lexeme_of token.entry)) }
+    ensures whole { IfOk result (λ r. WholeReading r) }
 {
     match token.keyword() {
         Some(Keyword::ResidentName) => {
@@ -109,7 +123,10 @@ fn behind_internal(
     item: Exp,
     token: Token<'_>,
 ) -> Result<Reading, Fail<DefKind>>
-    ensures { Reads result (behind_internal draft item (lexeme_of token.entry)) }
+    requires whole { WholeDraft draft }
+    requires item { WholeExport item }
+    ensures value { Reads result (behind_internal draft item (lexeme_of token.entry)) }
+    ensures whole { IfOk result (λ r. WholeReading r) }
 {
     if token.is_at() {
         at(draft, Place::Ordinal { item })
@@ -125,7 +142,10 @@ fn behind_name(
     item: Exp,
     token: Token<'_>,
 ) -> Result<Reading, Fail<DefKind>>
-    ensures { Reads result (behind_name draft item (lexeme_of token.entry)) }
+    requires whole { WholeDraft draft }
+    requires item { WholeExport item }
+    ensures value { Reads result (behind_name draft item (lexeme_of token.entry)) }
+    ensures whole { IfOk result (λ r. WholeReading r) }
 {
     if token.is_equals() {
         at(draft, Place::Internal { item })
@@ -143,7 +163,10 @@ pub fn export(
     part: Part,
     token: Token<'_>,
 ) -> Result<Reading, Fail<DefKind>>
-    ensures { Reads result (export draft item part (lexeme_of token.entry)) }
+    requires whole { WholeDraft draft }
+    requires item { WholeExport item }
+    ensures value { Reads result (export draft item part (lexeme_of token.entry)) }
+    ensures whole { IfOk result (λ r. WholeReading r) }
 {
     match part {
         Part::Name => behind_name(alloc, draft, item, token),
@@ -162,7 +185,10 @@ pub fn internal(
     mut item: Exp,
     token: Token<'_>,
 ) -> Result<Reading, Fail<DefKind>>
-    ensures { Reads result (internal draft item (lexeme_of token.entry)) }
+    requires whole { WholeDraft draft }
+    requires item { WholeExport item }
+    ensures value { Reads result (internal draft item (lexeme_of token.entry)) }
+    ensures whole { IfOk result (λ r. WholeReading r) }
 {
     match token.name() {
         Some(bytes) => {
@@ -177,7 +203,10 @@ pub fn internal(
 /// Behind `@` in an item of EXPORTS.
 #[tactic(auto, unfolding(crate::specs::Exports::ordinal))]
 pub fn ordinal(draft: Draft, mut item: Exp, token: Token<'_>) -> Result<Reading, Fail<DefKind>>
-    ensures { Reads result (ordinal draft item (lexeme_of token.entry)) }
+    requires whole { WholeDraft draft }
+    requires item { WholeExport item }
+    ensures value { Reads result (ordinal draft item (lexeme_of token.entry)) }
+    ensures whole { IfOk result (λ r. WholeReading r) }
 {
     match token.number() {
         Some(value) => {

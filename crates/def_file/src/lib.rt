@@ -5,6 +5,7 @@ mod attributes;
 mod draft;
 mod exports;
 mod imports;
+mod laws;
 mod meaning;
 mod names;
 mod numbers;
@@ -13,6 +14,7 @@ mod refusal;
 mod segments;
 mod statements;
 
+pub use laws::{file_is_one, worked_files};
 pub use reading::read_def;
 pub use refusal::{DefKind, DefRefusal};
 

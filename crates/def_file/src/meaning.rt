@@ -1,6 +1,8 @@
 //! What a whole definition file says.
 
 ghost use Rattle.std.specs.Prelude.{◌≡◌, IfOk, map};
+ghost use Rattle.obj_types.specs.Definition.{WholeDef};
+ghost use Rattle.def_file.specs.Whole.{WholeDraft};
 ghost use Rattle.def_file.specs.Meaning.{code_attrs, data_attrs, is_code_class, is_code, segment_of, file_of};
 
 use crate::attributes::attrs_with;
@@ -75,8 +77,11 @@ fn segments_of(
 }
 
 /// The value of the statements.
+#[tactic(auto, using(crate::proofs::WholeLaws::named_segments))]
 pub fn file_of(alloc: Global, draft: Draft) -> Result<DefFile, NoMemory>
-    ensures { IfOk result (λ file. file ≡ file_of draft) }
+    requires { WholeDraft draft }
+    ensures value { IfOk result (λ file. file ≡ file_of draft) }
+    ensures whole { IfOk result (λ file. WholeDef file) }
 {
     let code = attrs_with(CODE, draft.code.unwrap_or(Words::NONE));
     let plain = attrs_with(DATA, draft.plain.unwrap_or(Words::NONE));

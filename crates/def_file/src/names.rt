@@ -1,5 +1,6 @@
 //! Names and texts.
 
+ghost use Rattle.std.specs.Prelude.{◌≢◌, [], IfOk};
 ghost use Rattle.def_file.specs.Answer.{Reads};
 ghost use Rattle.def_file.specs.Tokens.{name_of, text_of};
 
@@ -22,7 +23,8 @@ pub fn text_of(alloc: Global, bytes: &[u8]) -> Result<Name, Fail<DefKind>>
 
 /// A name has 1 to 255 bytes.
 pub fn name_of(alloc: Global, bytes: &[u8]) -> Result<Name, Fail<DefKind>>
-    ensures { Reads result (name_of bytes.now) }
+    ensures value { Reads result (name_of bytes.now) }
+    ensures some { IfOk result (λ name. name ≢ []) }
 {
     if bytes.is_empty() {
         return Err(Fail::Said(DefKind::Expected));

@@ -1,6 +1,7 @@
 //! Numbers in their ranges.
 
 ghost use Rattle.std.specs.Prelude.{◌≤◌, IfOk};
+ghost use Rattle.obj_types.specs.Definition.{IsBase};
 ghost use Rattle.def_file.specs.Answer.{Reads};
 ghost use Rattle.def_file.specs.Tokens.{within, base_of};
 
@@ -21,7 +22,8 @@ pub fn within(low: u32, high: u32, value: Option<u32>) -> Result<u32, Fail<DefKi
 
 /// A base is a multiple of 64 KiB in the two arenas.
 pub fn base_of(value: Option<u32>) -> Result<u32, Fail<DefKind>>
-    ensures { Reads result (base_of value) }
+    ensures value { Reads result (base_of value) }
+    ensures base { IfOk result (λ n. IsBase n) }
 {
     let base = within(0x1_0000, 0x1FFF_0000, value)?;
     if base % 0x1_0000 == 0 {

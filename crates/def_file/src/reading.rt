@@ -1,8 +1,10 @@
 //! A definition file, token by token.
 
-ghost use Rattle.std.specs.Prelude.{◌≡◌};
+ghost use Rattle.std.specs.Prelude.{◌≡◌, IfOk};
 ghost use Rattle.def_tokens.specs.Tokens.{lexeme_of};
+ghost use Rattle.obj_types.specs.Definition.{WholeDef};
 ghost use Rattle.def_file.specs.Answer.{Reads};
+ghost use Rattle.def_file.specs.Whole.{WholeReading, WholeDraft, WholePlace};
 ghost use Rattle.def_file.specs.Reading.{token_at, step, fail_at, read_of};
 
 use crate::draft::{Draft, Place, Reading, fresh};
@@ -27,7 +29,10 @@ fn token_at(
     place: Place,
     token: Token<'_>,
 ) -> Result<Reading, Fail<DefKind>>
-    ensures { Reads result (token_at draft place (lexeme_of token.entry)) }
+    requires whole { WholeDraft draft }
+    requires place { WholePlace place }
+    ensures value { Reads result (token_at draft place (lexeme_of token.entry)) }
+    ensures whole { IfOk result (λ r. WholeReading r) }
 {
     match place {
         Place::Statement => statement(draft, token),
@@ -58,7 +63,9 @@ fn token_at(
 // The next token. Bytes that are none are refused first.
 #[tactic(auto, unfolding(crate::specs::Reading::step))]
 fn step(alloc: Global, reading: Reading, token: Token<'_>) -> Result<Reading, Fail<DefKind>>
-    ensures { Reads result (step reading (lexeme_of token.entry)) }
+    requires { WholeReading reading }
+    ensures value { Reads result (step reading (lexeme_of token.entry)) }
+    ensures whole { IfOk result (λ r. WholeReading r) }
 {
     if token.is_stray() {
         return Err(Fail::Said(DefKind::Token));
@@ -80,7 +87,8 @@ fn at_line(line: u32, fail: Fail<DefKind>) -> Fail<DefRefusal>
 /// Reads a definition file, in time linear in its length. It is refused by its first fault in the
 /// order of the file.
 pub fn read_def(alloc: Global, bytes: &[u8]) -> Result<DefFile, Fail<DefRefusal>>
-    ensures { Reads result (read_of bytes.now) }
+    ensures read { Reads result (read_of bytes.now) }
+    ensures whole { IfOk result (λ file. WholeDef file) }
 {
     let mut lexer = Lexer::of(bytes);
     let mut reading = fresh(alloc);

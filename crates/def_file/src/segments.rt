@@ -1,7 +1,9 @@
 //! CODE, DATA and SEGMENTS.
 
+ghost use Rattle.std.specs.Prelude.{IfOk, ◌≢◌, []};
 ghost use Rattle.def_tokens.specs.Tokens.{lexeme_of};
 ghost use Rattle.def_file.specs.Answer.{Reads};
+ghost use Rattle.def_file.specs.Whole.{WholeReading, WholeDraft, WholeOwner};
 ghost use Rattle.def_file.specs.Segments.{segments, behind_list, attributes, segment, class};
 
 use crate::DefKind;
@@ -16,7 +18,9 @@ use std::alloc::Global;
 /// Another item of SEGMENTS, or the next statement.
 #[tactic(auto, unfolding(crate::specs::Segments::segments))]
 pub fn segments(alloc: Global, draft: Draft, token: Token<'_>) -> Result<Reading, Fail<DefKind>>
-    ensures { Reads result (segments draft (lexeme_of token.entry)) }
+    requires { WholeDraft draft }
+    ensures value { Reads result (segments draft (lexeme_of token.entry)) }
+    ensures whole { IfOk result (λ r. WholeReading r) }
 {
     match token.name() {
         Some(bytes) => {
@@ -28,7 +32,7 @@ pub fn segments(alloc: Global, draft: Draft, token: Token<'_>) -> Result<Reading
 }
 
 // Behind the last attribute of a list.
-#[tactic(auto, unfolding(crate::specs::Segments::behind_list))]
+#[tactic(auto, using(crate::proofs::WholeLaws::all_pushed), unfolding(crate::specs::Segments::behind_list))]
 fn behind_list(
     alloc: Global,
     mut draft: Draft,
@@ -36,7 +40,10 @@ fn behind_list(
     words: Words,
     token: Token<'_>,
 ) -> Result<Reading, Fail<DefKind>>
-    ensures { Reads result (behind_list draft of words (lexeme_of token.entry)) }
+    requires whole { WholeDraft draft }
+    requires owner { WholeOwner of }
+    ensures value { Reads result (behind_list draft of words (lexeme_of token.entry)) }
+    ensures whole { IfOk result (λ r. WholeReading r) }
 {
     match of {
         Owner::Code => {
@@ -63,7 +70,10 @@ pub fn attributes(
     words: Words,
     token: Token<'_>,
 ) -> Result<Reading, Fail<DefKind>>
-    ensures { Reads result (attributes draft of words (lexeme_of token.entry)) }
+    requires whole { WholeDraft draft }
+    requires owner { WholeOwner of }
+    ensures value { Reads result (attributes draft of words (lexeme_of token.entry)) }
+    ensures whole { IfOk result (λ r. WholeReading r) }
 {
     match token.keyword() {
         Some(Keyword::Attribute(pair, on)) => {
@@ -83,7 +93,10 @@ pub fn segment(
     name: Name,
     token: Token<'_>,
 ) -> Result<Reading, Fail<DefKind>>
-    ensures { Reads result (segment draft name (lexeme_of token.entry)) }
+    requires whole { WholeDraft draft }
+    requires name { name ≢ [] }
+    ensures value { Reads result (segment draft name (lexeme_of token.entry)) }
+    ensures whole { IfOk result (λ r. WholeReading r) }
 {
     match token.keyword() {
         Some(Keyword::Class) => at(draft, Place::Class { name }),
@@ -102,7 +115,10 @@ pub fn class(
     name: Name,
     token: Token<'_>,
 ) -> Result<Reading, Fail<DefKind>>
-    ensures { Reads result (class draft name (lexeme_of token.entry)) }
+    requires whole { WholeDraft draft }
+    requires name { name ≢ [] }
+    ensures value { Reads result (class draft name (lexeme_of token.entry)) }
+    ensures whole { IfOk result (λ r. WholeReading r) }
 {
     match token.text() {
         Some(bytes) => {

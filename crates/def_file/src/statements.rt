@@ -1,8 +1,9 @@
 //! The statements, and those that give one thing.
 
-ghost use Rattle.std.specs.Prelude.{◌≡◌};
+ghost use Rattle.std.specs.Prelude.{◌≡◌, IfOk, IfSome};
 ghost use Rattle.def_tokens.specs.Tokens.{lexeme_of};
 ghost use Rattle.def_file.specs.Answer.{Reads};
+ghost use Rattle.def_file.specs.Whole.{WholeReading, WholeDraft, WholePlace};
 ghost use Rattle.def_file.specs.Draft.{at};
 ghost use Rattle.def_file.specs.Statements.{begun_by, is_second, keyword_statement, statement, program_name, program, library_words, library, description, sized, size, base, exe_type};
 
@@ -18,14 +19,18 @@ use std::alloc::Global;
 
 /// The next token may stand behind `place`.
 pub fn at(draft: Draft, place: Place) -> Result<Reading, Fail<DefKind>>
-    ensures { Reads result (at draft place) }
+    requires whole { WholeDraft draft }
+    requires place { WholePlace place }
+    ensures value { Reads result (at draft place) }
+    ensures whole { IfOk result (λ r. WholeReading r) }
 {
     Ok(Reading { draft, place })
 }
 
 // What a keyword begins, if it begins a statement that is read.
 fn begun_by(keyword: Keyword) -> Option<Place>
-    ensures { result ≡ begun_by keyword }
+    ensures value { result ≡ begun_by keyword }
+    ensures whole { IfSome result (λ place. WholePlace place) }
 {
     let place = match keyword {
         Keyword::Name => Place::Program,
@@ -70,7 +75,9 @@ fn is_second(draft: &Draft, keyword: Keyword) -> bool
 
 #[tactic(auto, unfolding(crate::specs::Statements::keyword_statement))]
 fn keyword_statement(draft: Draft, keyword: Keyword) -> Result<Reading, Fail<DefKind>>
-    ensures { Reads result (keyword_statement draft keyword) }
+    requires { WholeDraft draft }
+    ensures value { Reads result (keyword_statement draft keyword) }
+    ensures whole { IfOk result (λ r. WholeReading r) }
 {
     match begun_by(keyword) {
         Some(place) => {
@@ -86,7 +93,9 @@ fn keyword_statement(draft: Draft, keyword: Keyword) -> Result<Reading, Fail<Def
 /// A statement, or the file's end.
 #[tactic(auto, unfolding(crate::specs::Statements::statement))]
 pub fn statement(draft: Draft, token: Token<'_>) -> Result<Reading, Fail<DefKind>>
-    ensures { Reads result (statement draft (lexeme_of token.entry)) }
+    requires { WholeDraft draft }
+    ensures value { Reads result (statement draft (lexeme_of token.entry)) }
+    ensures whole { IfOk result (λ r. WholeReading r) }
 {
     match token.keyword() {
         Some(keyword) => keyword_statement(draft, keyword),
@@ -98,7 +107,9 @@ pub fn statement(draft: Draft, token: Token<'_>) -> Result<Reading, Fail<DefKind
 /// Behind NAME and a name: a window word may stand.
 #[tactic(auto, unfolding(crate::specs::Statements::program_name))]
 pub fn program_name(draft: Draft, token: Token<'_>) -> Result<Reading, Fail<DefKind>>
-    ensures { Reads result (program_name draft (lexeme_of token.entry)) }
+    requires { WholeDraft draft }
+    ensures value { Reads result (program_name draft (lexeme_of token.entry)) }
+    ensures whole { IfOk result (λ r. WholeReading r) }
 {
     match token.keyword() {
         Some(Keyword::Window) => at(draft, Place::Statement),
@@ -109,7 +120,9 @@ pub fn program_name(draft: Draft, token: Token<'_>) -> Result<Reading, Fail<DefK
 /// Behind NAME.
 #[tactic(auto, unfolding(crate::specs::Statements::program))]
 pub fn program(alloc: Global, mut draft: Draft, token: Token<'_>) -> Result<Reading, Fail<DefKind>>
-    ensures { Reads result (program draft (lexeme_of token.entry)) }
+    requires { WholeDraft draft }
+    ensures value { Reads result (program draft (lexeme_of token.entry)) }
+    ensures whole { IfOk result (λ r. WholeReading r) }
 {
     draft.kind = Some(ModKind::Program);
     match token.name() {
@@ -124,7 +137,9 @@ pub fn program(alloc: Global, mut draft: Draft, token: Token<'_>) -> Result<Read
 /// Behind LIBRARY and its name or words: a word on its calls may stand.
 #[tactic(auto, unfolding(crate::specs::Statements::library_words))]
 pub fn library_words(mut draft: Draft, token: Token<'_>) -> Result<Reading, Fail<DefKind>>
-    ensures { Reads result (library_words draft (lexeme_of token.entry)) }
+    requires { WholeDraft draft }
+    ensures value { Reads result (library_words draft (lexeme_of token.entry)) }
+    ensures whole { IfOk result (λ r. WholeReading r) }
 {
     match token.keyword() {
         Some(Keyword::Init { each }) => {
@@ -142,7 +157,9 @@ pub fn library_words(mut draft: Draft, token: Token<'_>) -> Result<Reading, Fail
 /// Behind LIBRARY.
 #[tactic(auto, unfolding(crate::specs::Statements::library))]
 pub fn library(alloc: Global, mut draft: Draft, token: Token<'_>) -> Result<Reading, Fail<DefKind>>
-    ensures { Reads result (library draft (lexeme_of token.entry)) }
+    requires { WholeDraft draft }
+    ensures value { Reads result (library draft (lexeme_of token.entry)) }
+    ensures whole { IfOk result (λ r. WholeReading r) }
 {
     draft.kind = Some(ModKind::Library);
     match token.name() {
@@ -161,7 +178,9 @@ pub fn description(
     mut draft: Draft,
     token: Token<'_>,
 ) -> Result<Reading, Fail<DefKind>>
-    ensures { Reads result (description draft (lexeme_of token.entry)) }
+    requires { WholeDraft draft }
+    ensures value { Reads result (description draft (lexeme_of token.entry)) }
+    ensures whole { IfOk result (λ r. WholeReading r) }
 {
     match token.text() {
         Some(bytes) => {
@@ -175,7 +194,9 @@ pub fn description(
 // The number of STACKSIZE, HEAPSIZE or BASE.
 #[tactic(auto, unfolding(crate::specs::Statements::sized))]
 fn sized(mut draft: Draft, which: Size, value: Option<u32>) -> Result<Reading, Fail<DefKind>>
-    ensures { Reads result (sized draft which value) }
+    requires { WholeDraft draft }
+    ensures value { Reads result (sized draft which value) }
+    ensures whole { IfOk result (λ r. WholeReading r) }
 {
     match which {
         Size::Stack => draft.stack = Some(within(0, MAX_DATA, value)?),
@@ -188,7 +209,9 @@ fn sized(mut draft: Draft, which: Size, value: Option<u32>) -> Result<Reading, F
 /// Where the number of STACKSIZE, HEAPSIZE or BASE has to stand.
 #[tactic(auto, unfolding(crate::specs::Statements::size))]
 pub fn size(draft: Draft, which: Size, token: Token<'_>) -> Result<Reading, Fail<DefKind>>
-    ensures { Reads result (size draft which (lexeme_of token.entry)) }
+    requires { WholeDraft draft }
+    ensures value { Reads result (size draft which (lexeme_of token.entry)) }
+    ensures whole { IfOk result (λ r. WholeReading r) }
 {
     match token.number() {
         Some(value) => sized(draft, which, value),
@@ -199,7 +222,9 @@ pub fn size(draft: Draft, which: Size, token: Token<'_>) -> Result<Reading, Fail
 /// Behind BASE.
 #[tactic(auto, unfolding(crate::specs::Statements::base))]
 pub fn base(draft: Draft, token: Token<'_>) -> Result<Reading, Fail<DefKind>>
-    ensures { Reads result (base draft (lexeme_of token.entry)) }
+    requires { WholeDraft draft }
+    ensures value { Reads result (base draft (lexeme_of token.entry)) }
+    ensures whole { IfOk result (λ r. WholeReading r) }
 {
     if token.is_equals() {
         at(draft, Place::Size(Size::Base))
@@ -211,7 +236,9 @@ pub fn base(draft: Draft, token: Token<'_>) -> Result<Reading, Fail<DefKind>>
 /// Behind EXETYPE.
 #[tactic(auto, unfolding(crate::specs::Statements::exe_type))]
 pub fn exe_type(alloc: Global, draft: Draft, token: Token<'_>) -> Result<Reading, Fail<DefKind>>
-    ensures { Reads result (exe_type draft (lexeme_of token.entry)) }
+    requires { WholeDraft draft }
+    ensures value { Reads result (exe_type draft (lexeme_of token.entry)) }
+    ensures whole { IfOk result (λ r. WholeReading r) }
 {
     match token.name() {
         Some(bytes) => {
