@@ -1,0 +1,3 @@
+pub mod RunLaws
+pub mod WholeLaws
+pub mod Compute

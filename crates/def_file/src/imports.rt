@@ -1,0 +1,213 @@
+//! IMPORTS.
+
+ghost use Rattle.std.specs.Prelude.{IfOk, IfSome, ◌≢◌, []};
+ghost use Rattle.def_tokens.specs.Tokens.{lexeme_of};
+ghost use Rattle.obj_types.specs.Definition.{WholeImport};
+ghost use Rattle.def_file.specs.declared.draft.Place.TheVariants as place;
+ghost use Rattle.def_file.specs.Answer.{Reads};
+ghost use Rattle.def_file.specs.Draft.{at};
+ghost use Rattle.def_file.specs.Whole.{WholeReading, WholeDraft};
+ghost use Rattle.def_file.specs.Imports.{imports, import_first, import_equals, import_module, import_by_name, import_ordinal, import_dot, with_import};
+
+use crate::DefKind;
+use crate::draft::{Draft, Place, Reading};
+use crate::names::name_of;
+use crate::numbers::within;
+use crate::statements::{at, statement};
+use def_tokens::Token;
+use lx_types::{EntryKey, Fail, Name};
+use obj_types::Imp;
+use std::alloc::Global;
+
+/// Another item of IMPORTS, or the next statement.
+#[tactic(auto, unfolding(crate::specs::Imports::imports))]
+pub fn imports(alloc: Global, draft: Draft, token: Token<'_>) -> Result<Reading, Fail<DefKind>>
+    requires { WholeDraft draft }
+    ensures value { Reads result (imports draft (lexeme_of token.entry)) }
+    ensures whole { IfOk result (λ r. WholeReading r) }
+{
+    match token.name() {
+        Some(bytes) => {
+            let name = name_of(alloc, bytes)?;
+            at(draft, Place::Import { name })
+        }
+        None => statement(draft, token),
+    }
+}
+
+/// Behind the first name of an item.
+#[tactic(auto, unfolding(crate::specs::Imports::import_first))]
+pub fn import_first(draft: Draft, name: Name, token: Token<'_>) -> Result<Reading, Fail<DefKind>>
+    requires whole { WholeDraft draft }
+    requires name { name ≢ [] }
+    ensures value { Reads result (import_first draft name (lexeme_of token.entry)) }
+    ensures whole { IfOk result (λ r. WholeReading r) }
+{
+    if token.is_equals() {
+        at(draft, Place::ImportEquals { internal: name })
+    } else if token.is_dot() {
+        let internal = None;
+        at(
+            draft,
+            Place::ImportDot {
+                internal,
+                module: name,
+            },
+        )
+    } else {
+        Err(Fail::Said(DefKind::Expected))
+    }
+}
+
+/// Behind `=` in an item.
+#[tactic(auto, unfolding(crate::specs::Imports::import_equals))]
+pub fn import_equals(
+    alloc: Global,
+    draft: Draft,
+    internal: Name,
+    token: Token<'_>,
+) -> Result<Reading, Fail<DefKind>>
+    requires whole { WholeDraft draft }
+    requires internal { internal ≢ [] }
+    ensures value { Reads result (import_equals draft internal (lexeme_of token.entry)) }
+    ensures whole { IfOk result (λ r. WholeReading r) }
+{
+    match token.name() {
+        Some(bytes) => {
+            let module = name_of(alloc, bytes)?;
+            at(draft, Place::ImportModule { internal, module })
+        }
+        None => Err(Fail::Said(DefKind::Expected)),
+    }
+}
+
+/// Behind the module's name of an item that has an internal name.
+#[tactic(auto, unfolding(crate::specs::Imports::import_module))]
+pub fn import_module(
+    draft: Draft,
+    internal: Name,
+    from: Name,
+    token: Token<'_>,
+) -> Result<Reading, Fail<DefKind>>
+    requires whole { WholeDraft draft }
+    requires internal { internal ≢ [] }
+    requires from { from ≢ [] }
+    ensures value { Reads result (import_module draft internal from (lexeme_of token.entry)) }
+    ensures whole { IfOk result (λ r. WholeReading r) }
+{
+    if token.is_dot() {
+        let internal = Some(internal);
+        at(
+            draft,
+            Place::ImportDot {
+                internal,
+                module: from,
+            },
+        )
+    } else {
+        Err(Fail::Said(DefKind::Expected))
+    }
+}
+
+#[tactic(auto, using(crate::proofs::WholeLaws::all_pushed))]
+fn with_import(mut draft: Draft, item: Imp) -> Result<Reading, Fail<DefKind>>
+    requires whole { WholeDraft draft }
+    requires item { WholeImport item }
+    ensures value { Reads result (at (with_import draft item) place.Imports) }
+    ensures whole { IfOk result (λ r. WholeReading r) }
+{
+    draft.imports.push(item)?;
+    at(draft, Place::Imports)
+}
+
+// An entry by name, which is the internal name too where there is none.
+fn import_by_name(
+    alloc: Global,
+    draft: Draft,
+    internal: Option<Name>,
+    from: Name,
+    bytes: &[u8],
+) -> Result<Reading, Fail<DefKind>>
+    requires whole { WholeDraft draft }
+    requires internal { IfSome internal (λ n. n ≢ []) }
+    requires from { from ≢ [] }
+    ensures value { Reads result (import_by_name draft internal from bytes.now) }
+    ensures whole { IfOk result (λ r. WholeReading r) }
+{
+    let module = from;
+    let entry = EntryKey::Named(name_of(alloc, bytes)?);
+    match internal {
+        Some(name) => with_import(
+            draft,
+            Imp {
+                name,
+                module,
+                entry,
+            },
+        ),
+        None => {
+            let name = name_of(alloc, bytes)?;
+            with_import(
+                draft,
+                Imp {
+                    name,
+                    module,
+                    entry,
+                },
+            )
+        }
+    }
+}
+
+// An entry by ordinal, which wants an internal name.
+fn import_ordinal(
+    draft: Draft,
+    internal: Option<Name>,
+    from: Name,
+    value: Option<u32>,
+) -> Result<Reading, Fail<DefKind>>
+    requires whole { WholeDraft draft }
+    requires internal { IfSome internal (λ n. n ≢ []) }
+    requires from { from ≢ [] }
+    ensures value { Reads result (import_ordinal draft internal from value) }
+    ensures whole { IfOk result (λ r. WholeReading r) }
+{
+    match internal {
+        Some(name) => {
+            let entry = EntryKey::Ordinal(within(1, 65_535, value)?);
+            with_import(
+                draft,
+                Imp {
+                    name,
+                    module: from,
+                    entry,
+                },
+            )
+        }
+        None => Err(Fail::Said(DefKind::Expected)),
+    }
+}
+
+/// Behind `.` in an item.
+#[tactic(auto, unfolding(crate::specs::Imports::import_dot))]
+pub fn import_dot(
+    alloc: Global,
+    draft: Draft,
+    internal: Option<Name>,
+    from: Name,
+    token: Token<'_>,
+) -> Result<Reading, Fail<DefKind>>
+    requires whole { WholeDraft draft }
+    requires internal { IfSome internal (λ n. n ≢ []) }
+    requires from { from ≢ [] }
+    ensures value { Reads result (import_dot draft internal from (lexeme_of token.entry)) }
+    ensures whole { IfOk result (λ r. WholeReading r) }
+{
+    if let Some(bytes) = token.name() {
+        return import_by_name(alloc, draft, internal, from, bytes);
+    }
+    match token.number() {
+        Some(value) => import_ordinal(draft, internal, from, value),
+        None => Err(Fail::Said(DefKind::Expected)),
+    }
+}

@@ -1,0 +1,22 @@
+//! Module definition files, both ways (Toolkit tools reference, "Module Definition Files").
+#![tactic(auto)]
+
+mod attributes;
+mod draft;
+mod exports;
+mod imports;
+mod laws;
+mod meaning;
+mod names;
+mod numbers;
+mod reading;
+mod refusal;
+mod segments;
+mod statements;
+
+pub use laws::{file_is_one, worked_files};
+pub use reading::read_def;
+pub use refusal::{DefKind, DefRefusal};
+
+#[cfg(test)]
+mod tests;

@@ -1,0 +1,103 @@
+//! What a whole definition file says.
+
+ghost use Rattle.std.specs.Prelude.{◌≡◌, IfOk, map};
+ghost use Rattle.obj_types.specs.Definition.{WholeDef};
+ghost use Rattle.def_file.specs.Whole.{WholeDraft};
+ghost use Rattle.def_file.specs.Meaning.{code_attrs, data_attrs, is_code_class, is_code, segment_of, file_of};
+
+use crate::attributes::attrs_with;
+use crate::draft::{Draft, SegDraft, Words};
+use lx_types::{Name, NoMemory, Seq};
+use obj_types::{Attrs, DefFile, ModKind, SegAttrs, SegRules};
+use std::alloc::Global;
+
+/// Read and executed.
+pub const CODE: Attrs = Attrs {
+    read: true,
+    write: false,
+    exec: true,
+    shared: false,
+    preload: false,
+    conforming: false,
+    iopl: false,
+};
+
+/// Read and written.
+pub const DATA: Attrs = Attrs {
+    read: true,
+    write: true,
+    exec: false,
+    shared: false,
+    preload: false,
+    conforming: false,
+    iopl: false,
+};
+
+// The class of a code segment ends in CODE, in any case.
+fn is_code_class(class: &[u8]) -> bool
+    ensures { result ≡ is_code_class class.now }
+{
+    class.len() >= 4 && class[class.len() - 4..].eq_ignore_ascii_case(b"CODE")
+}
+
+// Whether an item of SEGMENTS starts from the attributes of CODE.
+fn is_code(segment: &SegDraft) -> bool
+    ensures { result ≡ is_code segment.now }
+{
+    match &segment.class {
+        Some(class) => is_code_class(class.bytes()),
+        None => segment.words.read.is_some(),
+    }
+}
+
+fn segment_of(code: Attrs, plain: Attrs, segment: SegDraft) -> SegAttrs
+    ensures { result ≡ segment_of code plain segment }
+{
+    let start = if is_code(&segment) { code } else { plain };
+    SegAttrs {
+        name: segment.name,
+        class: segment.class,
+        attrs: attrs_with(start, segment.words),
+    }
+}
+
+fn segments_of(
+    alloc: Global,
+    code: Attrs,
+    plain: Attrs,
+    segs: Seq<SegDraft>,
+) -> Result<SegRules, NoMemory>
+    ensures { IfOk result (λ rules. rules ≡ map (segment_of code plain) segs) }
+{
+    let mut rules = Seq::new(alloc);
+    for segment in segs.into_vec() {
+        rules.push(segment_of(code, plain, segment))?;
+    }
+    Ok(rules)
+}
+
+/// The value of the statements.
+#[tactic(auto, using(crate::proofs::WholeLaws::named_segments))]
+pub fn file_of(alloc: Global, draft: Draft) -> Result<DefFile, NoMemory>
+    requires { WholeDraft draft }
+    ensures value { IfOk result (λ file. file ≡ file_of draft) }
+    ensures whole { IfOk result (λ file. WholeDef file) }
+{
+    let code = attrs_with(CODE, draft.code.unwrap_or(Words::NONE));
+    let plain = attrs_with(DATA, draft.plain.unwrap_or(Words::NONE));
+    Ok(DefFile {
+        kind: draft.kind.unwrap_or(ModKind::Program),
+        name: draft.name,
+        init_each: draft.init_each.unwrap_or(false),
+        term_each: draft.term_each.unwrap_or(false),
+        about: draft.about.unwrap_or(Name::empty(alloc)),
+        stack: draft.stack.unwrap_or(0),
+        heap: draft.heap.unwrap_or(0),
+        base: draft.base,
+        code,
+        plain,
+        segs: segments_of(alloc, code, plain, draft.segs)?,
+        exports: draft.exports,
+        imports: draft.imports,
+    })
+}

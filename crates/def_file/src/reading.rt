@@ -1,0 +1,105 @@
+//! A definition file, token by token.
+
+ghost use Rattle.std.specs.Prelude.{◌≡◌, IfOk};
+ghost use Rattle.def_tokens.specs.Tokens.{lexeme_of};
+ghost use Rattle.obj_types.specs.Definition.{WholeDef};
+ghost use Rattle.def_file.specs.Answer.{Reads};
+ghost use Rattle.def_file.specs.Whole.{WholeReading, WholeDraft, WholePlace};
+ghost use Rattle.def_file.specs.Reading.{token_at, step, fail_at, read_of};
+
+use crate::draft::{Draft, Place, Reading, fresh};
+use crate::exports::{export, exports, internal, ordinal};
+use crate::imports::{import_dot, import_equals, import_first, import_module, imports};
+use crate::meaning::file_of;
+use crate::segments::{attributes, class, segment, segments};
+use crate::statements::{
+    base, description, exe_type, library, library_words, program, program_name, size, statement,
+};
+use crate::{DefKind, DefRefusal};
+use def_tokens::{Lexer, Token};
+use lx_types::Fail;
+use obj_types::DefFile;
+use std::alloc::Global;
+
+// What a token says behind each place.
+#[tactic(auto, unfolding(crate::specs::Reading::token_at))]
+fn token_at(
+    alloc: Global,
+    draft: Draft,
+    place: Place,
+    token: Token<'_>,
+) -> Result<Reading, Fail<DefKind>>
+    requires whole { WholeDraft draft }
+    requires place { WholePlace place }
+    ensures value { Reads result (token_at draft place (lexeme_of token.entry)) }
+    ensures whole { IfOk result (λ r. WholeReading r) }
+{
+    match place {
+        Place::Statement => statement(draft, token),
+        Place::Program => program(alloc, draft, token),
+        Place::ProgramName => program_name(draft, token),
+        Place::Library => library(alloc, draft, token),
+        Place::LibraryWords => library_words(draft, token),
+        Place::Description => description(alloc, draft, token),
+        Place::Attributes { of, words } => attributes(alloc, draft, of, words, token),
+        Place::Segments => segments(alloc, draft, token),
+        Place::Segment { name } => segment(alloc, draft, name, token),
+        Place::Class { name } => class(alloc, draft, name, token),
+        Place::Exports => exports(alloc, draft, token),
+        Place::Export { item, part } => export(alloc, draft, item, part, token),
+        Place::Internal { item } => internal(alloc, draft, item, token),
+        Place::Ordinal { item } => ordinal(draft, item, token),
+        Place::Imports => imports(alloc, draft, token),
+        Place::Import { name } => import_first(draft, name, token),
+        Place::ImportEquals { internal } => import_equals(alloc, draft, internal, token),
+        Place::ImportModule { internal, module } => import_module(draft, internal, module, token),
+        Place::ImportDot { internal, module } => import_dot(alloc, draft, internal, module, token),
+        Place::Size(which) => size(draft, which, token),
+        Place::Base => base(draft, token),
+        Place::ExeType => exe_type(alloc, draft, token),
+    }
+}
+
+// The next token. Bytes that are none are refused first.
+#[tactic(auto, unfolding(crate::specs::Reading::step))]
+fn step(alloc: Global, reading: Reading, token: Token<'_>) -> Result<Reading, Fail<DefKind>>
+    requires { WholeReading reading }
+    ensures value { Reads result (step reading (lexeme_of token.entry)) }
+    ensures whole { IfOk result (λ r. WholeReading r) }
+{
+    if token.is_stray() {
+        return Err(Fail::Said(DefKind::Token));
+    }
+    let Reading { draft, place } = reading;
+    token_at(alloc, draft, place, token)
+}
+
+// A refusal has the line of its token.
+fn at_line(line: u32, fail: Fail<DefKind>) -> Fail<DefRefusal>
+    ensures { result ≡ fail_at line fail }
+{
+    match fail {
+        Fail::Said(kind) => Fail::Said(DefRefusal { line, kind }),
+        Fail::NoMemory => Fail::NoMemory,
+    }
+}
+
+/// Reads a definition file, in time linear in its length. It is refused by its first fault in the
+/// order of the file.
+pub fn read_def(alloc: Global, bytes: &[u8]) -> Result<DefFile, Fail<DefRefusal>>
+    ensures read { Reads result (read_of bytes.now) }
+    ensures whole { IfOk result (λ file. WholeDef file) }
+{
+    let mut lexer = Lexer::of(bytes);
+    let mut reading = fresh(alloc);
+    loop {
+        let at = lexer.next();
+        reading = match step(alloc, reading, at.token) {
+            Ok(next) => next,
+            Err(fail) => return Err(at_line(at.line, fail)),
+        };
+        if at.token.is_end() {
+            return Ok(file_of(alloc, reading.draft)?);
+        }
+    }
+}

@@ -1,0 +1,250 @@
+//! The statements, and those that give one thing.
+
+ghost use Rattle.std.specs.Prelude.{◌≡◌, IfOk, IfSome};
+ghost use Rattle.def_tokens.specs.Tokens.{lexeme_of};
+ghost use Rattle.def_file.specs.Answer.{Reads};
+ghost use Rattle.def_file.specs.Whole.{WholeReading, WholeDraft, WholePlace};
+ghost use Rattle.def_file.specs.Draft.{at};
+ghost use Rattle.def_file.specs.Statements.{begun_by, is_second, keyword_statement, statement, program_name, program, library_words, library, description, sized, size, base, exe_type};
+
+use crate::DefKind;
+use crate::attributes::agreed;
+use crate::draft::{Draft, Owner, Place, Reading, Size, Words};
+use crate::names::{name_of, text_of};
+use crate::numbers::{base_of, within};
+use def_tokens::{Keyword, Token};
+use lx_types::Fail;
+use obj_types::{MAX_DATA, ModKind};
+use std::alloc::Global;
+
+/// The next token may stand behind `place`.
+pub fn at(draft: Draft, place: Place) -> Result<Reading, Fail<DefKind>>
+    requires whole { WholeDraft draft }
+    requires place { WholePlace place }
+    ensures value { Reads result (at draft place) }
+    ensures whole { IfOk result (λ r. WholeReading r) }
+{
+    Ok(Reading { draft, place })
+}
+
+// What a keyword begins, if it begins a statement that is read.
+fn begun_by(keyword: Keyword) -> Option<Place>
+    ensures value { result ≡ begun_by keyword }
+    ensures whole { IfSome result (λ place. WholePlace place) }
+{
+    let place = match keyword {
+        Keyword::Name => Place::Program,
+        Keyword::Library => Place::Library,
+        Keyword::Description => Place::Description,
+        Keyword::Code => Place::Attributes {
+            of: Owner::Code,
+            words: Words::NONE,
+        },
+        Keyword::Data => Place::Attributes {
+            of: Owner::Data,
+            words: Words::NONE,
+        },
+        Keyword::Segments => Place::Segments,
+        Keyword::Exports => Place::Exports,
+        Keyword::Imports => Place::Imports,
+        Keyword::StackSize => Place::Size(Size::Stack),
+        Keyword::HeapSize => Place::Size(Size::Heap),
+        Keyword::Base => Place::Base,
+        Keyword::ProtMode => Place::Statement,
+        Keyword::ExeType => Place::ExeType,
+        _ => return None,
+    };
+    Some(place)
+}
+
+// Whether the keyword begins a statement that stands in the file already, and may stand there once.
+fn is_second(draft: &Draft, keyword: Keyword) -> bool
+    ensures { result ≡ is_second draft.now keyword }
+{
+    match keyword {
+        Keyword::Name | Keyword::Library => draft.kind.is_some(),
+        Keyword::Description => draft.about.is_some(),
+        Keyword::Code => draft.code.is_some(),
+        Keyword::Data => draft.plain.is_some(),
+        Keyword::StackSize => draft.stack.is_some(),
+        Keyword::HeapSize => draft.heap.is_some(),
+        Keyword::Base => draft.base.is_some(),
+        _ => false,
+    }
+}
+
+#[tactic(auto, unfolding(crate::specs::Statements::keyword_statement))]
+fn keyword_statement(draft: Draft, keyword: Keyword) -> Result<Reading, Fail<DefKind>>
+    requires { WholeDraft draft }
+    ensures value { Reads result (keyword_statement draft keyword) }
+    ensures whole { IfOk result (λ r. WholeReading r) }
+{
+    match begun_by(keyword) {
+        Some(place) => {
+            if is_second(&draft, keyword) {
+                return Err(Fail::Said(DefKind::Twice));
+            }
+            at(draft, place)
+        }
+        None => Err(Fail::Said(DefKind::Statement)),
+    }
+}
+
+/// A statement, or the file's end.
+#[tactic(auto, unfolding(crate::specs::Statements::statement))]
+pub fn statement(draft: Draft, token: Token<'_>) -> Result<Reading, Fail<DefKind>>
+    requires { WholeDraft draft }
+    ensures value { Reads result (statement draft (lexeme_of token.entry)) }
+    ensures whole { IfOk result (λ r. WholeReading r) }
+{
+    match token.keyword() {
+        Some(keyword) => keyword_statement(draft, keyword),
+        None if token.is_end() => at(draft, Place::Statement),
+        None => Err(Fail::Said(DefKind::Statement)),
+    }
+}
+
+/// Behind NAME and a name: a window word may stand.
+#[tactic(auto, unfolding(crate::specs::Statements::program_name))]
+pub fn program_name(draft: Draft, token: Token<'_>) -> Result<Reading, Fail<DefKind>>
+    requires { WholeDraft draft }
+    ensures value { Reads result (program_name draft (lexeme_of token.entry)) }
+    ensures whole { IfOk result (λ r. WholeReading r) }
+{
+    match token.keyword() {
+        Some(Keyword::Window) => at(draft, Place::Statement),
+        _ => statement(draft, token),
+    }
+}
+
+/// Behind NAME.
+#[tactic(auto, unfolding(crate::specs::Statements::program))]
+pub fn program(alloc: Global, mut draft: Draft, token: Token<'_>) -> Result<Reading, Fail<DefKind>>
+    requires { WholeDraft draft }
+    ensures value { Reads result (program draft (lexeme_of token.entry)) }
+    ensures whole { IfOk result (λ r. WholeReading r) }
+{
+    draft.kind = Some(ModKind::Program);
+    match token.name() {
+        Some(bytes) => {
+            draft.name = Some(name_of(alloc, bytes)?);
+            at(draft, Place::ProgramName)
+        }
+        None => program_name(draft, token),
+    }
+}
+
+/// Behind LIBRARY and its name or words: a word on its calls may stand.
+#[tactic(auto, unfolding(crate::specs::Statements::library_words))]
+pub fn library_words(mut draft: Draft, token: Token<'_>) -> Result<Reading, Fail<DefKind>>
+    requires { WholeDraft draft }
+    ensures value { Reads result (library_words draft (lexeme_of token.entry)) }
+    ensures whole { IfOk result (λ r. WholeReading r) }
+{
+    match token.keyword() {
+        Some(Keyword::Init { each }) => {
+            draft.init_each = agreed(draft.init_each, each)?;
+            at(draft, Place::LibraryWords)
+        }
+        Some(Keyword::Term { each }) => {
+            draft.term_each = agreed(draft.term_each, each)?;
+            at(draft, Place::LibraryWords)
+        }
+        _ => statement(draft, token),
+    }
+}
+
+/// Behind LIBRARY.
+#[tactic(auto, unfolding(crate::specs::Statements::library))]
+pub fn library(alloc: Global, mut draft: Draft, token: Token<'_>) -> Result<Reading, Fail<DefKind>>
+    requires { WholeDraft draft }
+    ensures value { Reads result (library draft (lexeme_of token.entry)) }
+    ensures whole { IfOk result (λ r. WholeReading r) }
+{
+    draft.kind = Some(ModKind::Library);
+    match token.name() {
+        Some(bytes) => {
+            draft.name = Some(name_of(alloc, bytes)?);
+            at(draft, Place::LibraryWords)
+        }
+        None => library_words(draft, token),
+    }
+}
+
+/// Behind DESCRIPTION.
+#[tactic(auto, unfolding(crate::specs::Statements::description))]
+pub fn description(
+    alloc: Global,
+    mut draft: Draft,
+    token: Token<'_>,
+) -> Result<Reading, Fail<DefKind>>
+    requires { WholeDraft draft }
+    ensures value { Reads result (description draft (lexeme_of token.entry)) }
+    ensures whole { IfOk result (λ r. WholeReading r) }
+{
+    match token.text() {
+        Some(bytes) => {
+            draft.about = Some(text_of(alloc, bytes)?);
+            at(draft, Place::Statement)
+        }
+        None => Err(Fail::Said(DefKind::Expected)),
+    }
+}
+
+// The number of STACKSIZE, HEAPSIZE or BASE.
+#[tactic(auto, unfolding(crate::specs::Statements::sized))]
+fn sized(mut draft: Draft, which: Size, value: Option<u32>) -> Result<Reading, Fail<DefKind>>
+    requires { WholeDraft draft }
+    ensures value { Reads result (sized draft which value) }
+    ensures whole { IfOk result (λ r. WholeReading r) }
+{
+    match which {
+        Size::Stack => draft.stack = Some(within(0, MAX_DATA, value)?),
+        Size::Heap => draft.heap = Some(within(0, u32::MAX, value)?),
+        Size::Base => draft.base = Some(base_of(value)?),
+    }
+    at(draft, Place::Statement)
+}
+
+/// Where the number of STACKSIZE, HEAPSIZE or BASE has to stand.
+#[tactic(auto, unfolding(crate::specs::Statements::size))]
+pub fn size(draft: Draft, which: Size, token: Token<'_>) -> Result<Reading, Fail<DefKind>>
+    requires { WholeDraft draft }
+    ensures value { Reads result (size draft which (lexeme_of token.entry)) }
+    ensures whole { IfOk result (λ r. WholeReading r) }
+{
+    match token.number() {
+        Some(value) => sized(draft, which, value),
+        None => Err(Fail::Said(DefKind::Expected)),
+    }
+}
+
+/// Behind BASE.
+#[tactic(auto, unfolding(crate::specs::Statements::base))]
+pub fn base(draft: Draft, token: Token<'_>) -> Result<Reading, Fail<DefKind>>
+    requires { WholeDraft draft }
+    ensures value { Reads result (base draft (lexeme_of token.entry)) }
+    ensures whole { IfOk result (λ r. WholeReading r) }
+{
+    if token.is_equals() {
+        at(draft, Place::Size(Size::Base))
+    } else {
+        Err(Fail::Said(DefKind::Expected))
+    }
+}
+
+/// Behind EXETYPE.
+#[tactic(auto, unfolding(crate::specs::Statements::exe_type))]
+pub fn exe_type(alloc: Global, draft: Draft, token: Token<'_>) -> Result<Reading, Fail<DefKind>>
+    requires { WholeDraft draft }
+    ensures value { Reads result (exe_type draft (lexeme_of token.entry)) }
+    ensures whole { IfOk result (λ r. WholeReading r) }
+{
+    match token.name() {
+        Some(bytes) => {
+            name_of(alloc, bytes)?;
+            at(draft, Place::Statement)
+        }
+        None => Err(Fail::Said(DefKind::Expected)),
+    }
+}

@@ -1,0 +1,57 @@
+use super::*;
+use lx_types::{EntryKey, Fail as Failure};
+use obj_types::{DefFile, ModKind};
+use std::alloc::Global;
+use std::test::*;
+
+const WHOLE: &[u8] = b"library counter INITINSTANCE ; two exports
+DESCRIPTION 'counts'
+SEGMENTS 'TABLES' CLASS 'CODE' SHARED
+EXPORTS Count @1 RESIDENTNAME Reset=DoReset NODATA 3
+IMPORTS Beep=DOSCALLS.286
+STACKSIZE 0x1000
+";
+
+fn read(alloc: Global, bytes: &[u8]) -> Result<DefFile, Option<DefRefusal>> {
+    match read_def(alloc, bytes) {
+        Ok(file) => Ok(file),
+        Err(Failure::Said(refusal)) => Err(Some(refusal)),
+        Err(Failure::NoMemory) => Err(None),
+    }
+}
+
+#[test]
+fn a_whole_file(rt: HostRuntime) -> Result<(), Fail> {
+    let file = read(rt.alloc(), WHOLE).ok().ok_or("a definition file")?;
+    assert_eq!(rt; file.kind, ModKind::Library);
+    assert!(rt; file.init_each && !file.term_each);
+    assert_eq!(rt; file.about.bytes(), b"counts".as_slice());
+    assert_eq!(rt; (file.stack, file.heap), (4096, 0));
+    let segs = file.segs.as_slice();
+    assert_eq!(rt; segs.len(), 1);
+    assert!(rt; segs[0].attrs.exec && segs[0].attrs.shared && !segs[0].attrs.write);
+    let exports = file.exports.as_slice();
+    assert_eq!(rt; exports.len(), 2);
+    assert_eq!(rt; (exports[0].ordinal, exports[0].resident), (Some(1), true));
+    assert_eq!(rt; exports[1].internal.bytes(), b"DoReset".as_slice());
+    assert_eq!(rt; (exports[1].nodata, exports[1].words), (true, 3));
+    let imports = file.imports.as_slice();
+    assert_eq!(rt; imports.len(), 1);
+    assert_eq!(rt; imports[0].name.bytes(), b"Beep".as_slice());
+    assert!(rt; imports[0].entry == EntryKey::Ordinal(286));
+    Ok(())
+}
+
+#[test]
+fn first_faults(rt: HostRuntime) {
+    for (bytes, line, kind) in [
+        (b"NAME A\nNAME B".as_slice(), 2, DefKind::Twice),
+        (b"EXPORTS F @0", 1, DefKind::Number),
+        (b"STUB 'x'", 1, DefKind::Statement),
+        (b"BASE =\r\n", 2, DefKind::Expected),
+        (b"HEAPSIZE 12abc", 1, DefKind::Token),
+    ] {
+        let refusal = read(rt.alloc(), bytes).err().flatten();
+        assert_eq!(rt; refusal, Some(DefRefusal { line, kind }));
+    }
+}

@@ -1,0 +1,204 @@
+//! Tokens one after another.
+
+ghost use Rattle.std.specs.Prelude.{◌≡◌, ◌+◌, ◌<◌, ◌≤◌, ◌∷◌, true, false, Some, None, length, drop, take};
+ghost use Rattle.std.specs.List.{prefix_len};
+ghost use Rattle.def_tokens.specs.Tokens.{front, front_of, text_front, word_front, word_lexeme, lexeme_of, placed_of, is_word_byte, blank_len, comment_len, text_len, line_behind, tokens_from, tokens_behind, tokens_of, before, is_ending};
+
+use crate::keyword::keyword_of;
+use crate::number::number_of;
+use crate::{Token, TokenAt};
+use std::marker::Model;
+
+/// A place in a file from which tokens are read.
+#[derive(Debug, Drop)]
+pub struct Lexer<'a> {
+    line: u32,
+    left: &'a [u8],
+}
+
+impl<'a> Model for Lexer<'a> {
+    ghost use Rattle.def_tokens.specs.Tokens.{Place};
+
+    ghost Value = { Place };
+
+    ghost view = { λ l. record { line = l.line; left = l.left.now } };
+}
+
+// A token and how many bytes it has.
+struct Sized<'a> {
+    token: Token<'a>,
+    len: usize,
+}
+
+fn is_word_byte(byte: u8) -> bool
+    ensures { result ≡ is_word_byte byte }
+{
+    byte.is_ascii_alphanumeric() || byte == b'_' || byte == b'$' || byte == b'?'
+}
+
+// How many bytes a run of letters, digits and signs has.
+fn word_len(bytes: &[u8]) -> usize
+    ensures value { result ≡ prefix_len (λ b. is_word_byte b) bytes.now }
+    ensures within { result ≤ length bytes.now }
+{
+    bytes.iter().take_while(|b| is_word_byte(**b)).count()
+}
+
+// How many bytes stand before the line's end.
+fn comment_len(bytes: &[u8]) -> usize
+    ensures value { result ≡ comment_len bytes.now }
+    ensures within { result ≤ length bytes.now }
+{
+    bytes.iter().take_while(|b| !(**b == b'\n')).count()
+}
+
+// How many bytes stand before the quote or the line's end.
+fn text_len(quote: u8, bytes: &[u8]) -> usize
+    ensures value { result ≡ text_len quote bytes.now }
+    ensures within { result ≤ length bytes.now }
+{
+    bytes
+        .iter()
+        .take_while(|b| !(**b == quote) && !(**b == b'\n'))
+        .count()
+}
+
+// The token that a run of letters, digits and signs is.
+fn word_token(run: &[u8]) -> Token<'_>
+    requires { 0 < length run.now }
+    ensures found { lexeme_of result ≡ word_lexeme run.now }
+    ensures not_end { is_ending (lexeme_of result) ≡ false }
+{
+    if run[0].is_ascii_digit() {
+        match number_of(run) {
+            Some(value) => Token::Number(value),
+            None => Token::Stray,
+        }
+    } else {
+        match keyword_of(run) {
+            Some(keyword) => Token::Keyword(keyword),
+            None => Token::Word(run),
+        }
+    }
+}
+
+fn word<'a>(bytes: &'a [u8]) -> Sized<'a>
+    requires { 0 < prefix_len (λ b. is_word_byte b) bytes.now }
+    ensures not_end { is_ending (lexeme_of result.token) ≡ false }
+    ensures found { word_front bytes.now ≡ front result.len (lexeme_of result.token) }
+{
+    let len = word_len(bytes);
+    Sized {
+        token: word_token(&bytes[..len]),
+        len,
+    }
+}
+
+// The text behind its first quote, with both quotes.
+fn text<'a>(quote: u8, bytes: &'a [u8]) -> Sized<'a>
+    ensures not_end { is_ending (lexeme_of result.token) ≡ false }
+    ensures found { text_front quote bytes.now ≡ front result.len (lexeme_of result.token) }
+{
+    let len = text_len(quote, bytes);
+    if len < bytes.len() && bytes[len] == quote {
+        Sized {
+            token: Token::Text(&bytes[..len]),
+            len: len + 2,
+        }
+    } else {
+        Sized {
+            token: Token::Stray,
+            len: 1,
+        }
+    }
+}
+
+// The line behind a byte. There is none past the last number.
+fn line_behind(byte: u8, line: u32) -> u32
+    ensures { result ≡ line_behind byte line }
+{
+    if byte == b'\n' {
+        line.saturating_add(1)
+    } else {
+        line
+    }
+}
+
+// How many bytes at the front separate tokens.
+fn blank_len(bytes: &[u8]) -> usize
+    ensures value { result ≡ blank_len bytes.now }
+    ensures within { result ≤ length bytes.now }
+{
+    match bytes {
+        [b' ' | b'\t' | b'\n', ..] => 1,
+        [b'\r', b'\n', ..] => 1,
+        [b';', comment @ ..] => 1 + comment_len(comment),
+        _ => 0,
+    }
+}
+
+// The token at the front, where no blank stands.
+fn token<'a>(first: u8, behind: &'a [u8], bytes: &'a [u8]) -> Sized<'a>
+    requires { bytes.now ≡ first ∷ behind.now }
+    ensures found { front_of first behind.now ≡ front result.len (lexeme_of result.token) }
+    ensures not_end { is_ending (lexeme_of result.token) ≡ false }
+    ensures some { 0 < result.len }
+    ensures within { result.len ≤ length bytes.now }
+{
+    let sign = |token| Sized { token, len: 1 };
+    match first {
+        b'\'' | b'"' => text(first, behind),
+        b'=' => sign(Token::Equals),
+        b'@' => sign(Token::At),
+        b'.' => sign(Token::Dot),
+        _ if is_word_byte(first) => word(bytes),
+        _ => sign(Token::Stray),
+    }
+}
+
+impl<'a> Lexer<'a> {
+    /// The place before the first token of a file.
+    pub fn of(bytes: &'a [u8]) -> Lexer<'a>
+        ensures { tokens_from result ≡ tokens_of bytes.now }
+    {
+        Lexer {
+            line: 1,
+            left: bytes,
+        }
+    }
+
+    // Moves behind blanks and comments.
+    fn pass_blanks(&mut self)
+        ensures same { tokens_from self.new ≡ tokens_from self.old }
+        ensures shorter { length self.new.left ≤ length self.old.left }
+        ensures none { blank_len self.new.left ≡ 0 }
+    {
+        loop {
+            let len = blank_len(self.left);
+            if len == 0 {
+                return;
+            }
+            self.line = line_behind(self.left[0], self.line);
+            self.left = &self.left[len..];
+        }
+    }
+
+    /// The next token, which the place is behind then. At the end of the file it is `End`, and the
+    /// place stays there.
+    pub fn next(&mut self) -> TokenAt<'a>
+        ensures token { tokens_from self.old ≡ before (placed_of result) (tokens_from self.new) }
+        ensures shorter { is_ending (placed_of result).lexeme ≡ false → length self.new.left < length self.old.left }
+    {
+        self.pass_blanks();
+        let line = self.line;
+        let [first, behind @ ..] = self.left else {
+            return TokenAt {
+                line,
+                token: Token::End,
+            };
+        };
+        let Sized { token, len } = token(*first, behind, self.left);
+        self.left = &self.left[len..];
+        TokenAt { line, token }
+    }
+}

@@ -1,0 +1,12 @@
+//! The tokens of a module definition file, with their lines (Toolkit tools reference, "Module
+//! Definition Files").
+#![tactic(auto)]
+
+mod keyword;
+mod lexer;
+mod number;
+mod token;
+
+pub use keyword::{Keyword, Pair};
+pub use lexer::Lexer;
+pub use token::{Token, TokenAt};
