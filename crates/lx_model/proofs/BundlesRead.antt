@@ -1,5 +1,5 @@
 -- Entry tables that were written are read again.
-use Rattle.std.proofs.Common.{◌≡◌, ℕ, zero, suc, ◌+◌, ◌<◌, ◌≤◌, ◌^◌, false, cond, eqb, ltb, not, List, [], ◌∷◌, ◌++◌, length, map, Result, Ok, Err, refl, sym, subst, ◌∙◌, append_assoc, arith, length-append}
+use Rattle.std.proofs.Common.{◌≡◌, ℕ, ◌+◌, ◌<◌, ◌≤◌, ◌^◌, false, cond, eqb, ltb, not, List, [], ◌∷◌, ◌++◌, length, map, Option, Some, None, Result, Ok, Err, refl, sym, subst, ap, ◌∙◌, append_assoc, arith}
 use Rattle.std.specs.List.{flat_map, enumerate_from, AllByRecursion as Each}
 use Rattle.std.proofs.lemmas.Bool.{le-ltb}
 use Rattle.std.proofs.lemmas.Bool.Decides.{nat_tests}
@@ -10,13 +10,16 @@ use Rattle.lx_types.specs.declared.refusal.LxKind.TheVariants as kinds
 use Rattle.lx_types.specs.declared.entry.EntryHead.{EntryHead}
 use Rattle.lx_types.specs.declared.entry.EntryHead.TheVariants.{At, Gate286, Forward}
 use Rattle.lx_types.specs.Sound.{IsNumberOf}
-use Rattle.lx_model.specs.Reading.{fault, cursor, number, Read, ◌>>=◌}
-use Rattle.lx_model.specs.EntryTable.{Numbered, LAST_ORDINAL, names_one_of, at_entry, gate_entry, forward_key, forward_entry, bundle_entries, object_entries, bundle_of_type, entries_from, entries_in}
+use Rattle.lx_model.specs.Reading.{fault, cursor, number, Read, ◌>>=◌, ends, many}
+use Rattle.lx_model.specs.EntryTable.{Numbered, LAST_ORDINAL, names_one_of, at_entry, gate_entry, forward_key, forward_entry, bundle_entries, object_entries, bundle_of_type, bundle_at}
 use Rattle.lx_model.specs.Bundles.{AtEntry, GateEntry, ForwardEntry, at_spelling, gate_spelling, forward_spelling, Bundle, unused, narrow, gates, wide, forwarders, size_of, sizes_of, type_of, body_spelling, bundle_spelling, table_spelling, heads_of, entries_after, AtFits, GateFits, ForwardFits, ObjectFits, BodyFits, BundleFits}
-use Rattle.lx_model.specs.Laws.{EntriesReadAgain}
+use Rattle.lx_model.specs.TableLaws.{EntriesReadAgain}
 use Rattle.lx_model.proofs.ReadsAs.{ReadsAs, number_reads, byte_reads, bind_reads, done_reads}
-use Rattle.lx_model.proofs.RecordsRead.{then_ok, other}
-use Rattle.lx_model.proofs.Entries.{further, done}
+use Rattle.lx_model.proofs.Steps.{done, then_ok, other}
+use Rattle.lx_model.proofs.Entries.{further, behind_count}
+use Rattle.lx_model.proofs.Many.{Whole, none_whole, more_whole, whole_is}
+use Rattle.lx_model.proofs.NamesRead.{not_zero}
+use Rattle.lx_model.proofs.Shortening.{bundle_shortens}
 
 -- ---- entries
 
@@ -90,15 +93,6 @@ body_reads objects imports bad ordinal (forwarders reserved es) h at rest =
 
 -- ---- the table
 
-abbrev pub behind_type : ℕ → ℕ → ℕ → ℕ → ℕ → ℕ → ℕ × Cursor → Result (List Numbered) LxRefusal
-behind_type n objects imports last at count kind = bundle_of_type kind.0 objects imports at count (last + 1) kind.1 >>= λ bundle. entries_from n objects imports (last + count) bundle.1 >>= λ others. done (bundle.0 ++ others)
-
-abbrev pub behind_count : ℕ → ℕ → ℕ → ℕ → ℕ → ℕ × Cursor → Result (List Numbered) LxRefusal
-behind_count n objects imports last at count = cond (eqb count.0 0) (done []) (cond (ltb LAST_ORDINAL (last + count.0)) (Err (fault kinds.EntryTable at)) (further n objects imports last at count))
-
-not_zero : (n : ℕ) → 0 < n → eqb n 0 ≡ false
-not_zero n lt = grind (arith, nat_tests)
-
 type_small : (b : Bundle) → type_of b < 256
 type_small (unused n) = omega arith
 type_small (narrow object es) = omega arith
@@ -106,53 +100,64 @@ type_small (gates object es) = omega arith
 type_small (wide object es) = omega arith
 type_small (forwarders reserved es) = omega arith
 
--- one bundle more
-more : (n objects imports last at : ℕ) (b : Bundle) (tail : List ℕ) (others : List Numbered) → BundleFits objects imports b → last + size_of b ≤ LAST_ORDINAL →
-    entries_from n objects imports (last + size_of b) (cursor (at + length (bundle_spelling b)) tail) ≡ Ok others →
-    entries_from (suc n) objects imports last (cursor at (bundle_spelling b ++ tail)) ≡ Ok (enumerate_from (last + 1) (heads_of b) ++ others)
-unfolding entries_from
-more n objects imports last at b tail others fits room next =
+abbrev item : ℕ → Bundle → List Numbered → Option (List Numbered × ℕ)
+item last b es = Some (es, last + size_of b)
+
+pub bundle_reads : (objects imports last : ℕ) (b : Bundle) → BundleFits objects imports b → last + size_of b ≤ LAST_ORDINAL →
+    ReadsAs (bundle_at objects imports last) (bundle_spelling b) (item last b (enumerate_from (last + 1) (heads_of b)))
+unfolding bundle_at
+bundle_reads objects imports last b fits room at rest =
     let count = size_of b in
     let kind = type_of b in
     let es = enumerate_from (last + 1) (heads_of b) in
-    let all : Result (List Numbered) LxRefusal = Ok (es ++ others) in
-    let at_kind = cursor (at + 1) (kind ∷ body_spelling b ++ tail) in
-    let at_body = cursor (at + 1 + 1) (body_spelling b ++ tail) in
-    let at_next = cursor (at + 1 + 1 + length (body_spelling b)) tail in
-    let end : at + length (bundle_spelling b) ≡ at + 1 + 1 + length (body_spelling b) = omega arith in
-    let next' : entries_from n objects imports (last + count) at_next ≡ Ok others = subst (λ (x : ℕ). entries_from n objects imports (last + count) (cursor x tail) ≡ Ok others) end next in
-    let by_body : behind_type n objects imports last at count (kind, at_body) ≡ all
-    = then_ok (bundle_of_type kind objects imports at count (last + 1) at_body) (λ bundle. entries_from n objects imports (last + count) bundle.1 >>= λ more. done (bundle.0 ++ more)) (es, at_next) all
-    (body_reads objects imports at (last + 1) b fits.body (at + 1 + 1) tail)
-    (then_ok (entries_from n objects imports (last + count) at_next) (λ more. done (es ++ more)) others all next' refl) in
-    let by_kind : further n objects imports last at (count, at_kind) ≡ all
-    = then_ok (number 1 at_kind) (behind_type n objects imports last at count) (kind, at_body) all (byte_reads kind (type_small b) (at + 1) (body_spelling b ++ tail)) by_body in
-    let by_count : behind_count n objects imports last at (count, at_kind) ≡ all
-    = other (eqb count 0) (done []) (cond (ltb LAST_ORDINAL (last + count)) (Err (fault kinds.EntryTable at)) (further n objects imports last at (count, at_kind))) (not_zero count fits.some)
-    ∙ other (ltb LAST_ORDINAL (last + count)) (Err (fault kinds.EntryTable at)) (further n objects imports last at (count, at_kind)) (le-ltb LAST_ORDINAL (last + count) room)
+    let at_kind = cursor (at + 1) (kind ∷ body_spelling b ++ rest) in
+    let at_body = cursor (at + 1 + 1) (body_spelling b ++ rest) in
+    let at_next = cursor (at + 1 + 1 + length (body_spelling b)) rest in
+    let all : Read (Option (List Numbered × ℕ)) = Ok (item last b es, at_next) in
+    let end : at + 1 + 1 + length (body_spelling b) ≡ at + length (bundle_spelling b) = omega arith in
+    let by_kind : further objects imports last at (count, at_kind) ≡ all
+    = then_ok (number 1 at_kind) (λ k. bundle_of_type k.0 objects imports at count (last + 1) k.1 >>= λ entries. done (item last b entries.0, entries.1)) (kind, at_body) all
+    (byte_reads kind (type_small b) (at + 1) (body_spelling b ++ rest))
+    (then_ok (bundle_of_type kind objects imports at count (last + 1) at_body) (λ entries. done (item last b entries.0, entries.1)) (es, at_next) all
+    (body_reads objects imports at (last + 1) b fits.body (at + 1 + 1) rest) refl) in
+    let by_count : behind_count objects imports last at (count, at_kind) ≡ all
+    = other (eqb count 0) (ends at_kind) (cond (ltb LAST_ORDINAL (last + count)) (Err (fault kinds.EntryTable at)) (further objects imports last at (count, at_kind))) (not_zero count fits.some)
+    ∙ other (ltb LAST_ORDINAL (last + count)) (Err (fault kinds.EntryTable at)) (further objects imports last at (count, at_kind)) (le-ltb LAST_ORDINAL (last + count) room)
     ∙ by_kind in
-    then_ok (number 1 (cursor at (bundle_spelling b ++ tail))) (behind_count n objects imports last at) (count, at_kind) all (byte_reads count fits.few at (kind ∷ body_spelling b ++ tail)) by_count
+    let read : (number 1 (cursor at (bundle_spelling b ++ rest)) >>= behind_count objects imports last at) ≡ all
+    = then_ok (number 1 (cursor at (bundle_spelling b ++ rest))) (behind_count objects imports last at) (count, at_kind) all (byte_reads count fits.few at (kind ∷ body_spelling b ++ rest)) by_count in
+    read ∙ ap (λ (n : ℕ). done (item last b es, cursor n rest)) end
+
+end_reads : (objects imports last : ℕ) → ReadsAs (bundle_at objects imports last) (0 ∷ []) None
+unfolding bundle_at
+end_reads objects imports last at rest = then_ok (number 1 (cursor at (0 ∷ rest))) (behind_count objects imports last at) (0, cursor (at + 1) rest) (Ok (None, cursor (at + 1) rest)) (byte_reads 0 (omega arith) at rest) refl
 
 regroup : (a b c d : List ℕ) → ((a ++ b) ++ c) ++ d ≡ a ++ ((b ++ c) ++ d)
 regroup a b c d = simp append_assoc
 
-bundles_read : (objects imports : ℕ) (bs : List Bundle) (n last at : ℕ) (rest : List ℕ) → length bs < n → Each (BundleFits objects imports) bs → last + sizes_of bs ≤ LAST_ORDINAL →
-    entries_from n objects imports last (cursor at (table_spelling bs ++ rest)) ≡ Ok (entries_after last bs)
-unfolding entries_from
-bundles_read objects imports bs zero last at rest lt fits room = absurd (omega arith)
-bundles_read objects imports [] (suc n) last at rest lt fits room = then_ok (number 1 (cursor at (0 ∷ rest))) (behind_count n objects imports last at) (0, cursor (at + 1) rest) (Ok []) (byte_reads 0 (omega arith) at rest) refl
-bundles_read objects imports (b ∷ bs) (suc n) last at rest lt fits room =
-    let tail = table_spelling bs ++ rest in
-    let others = bundles_read objects imports bs n (last + size_of b) (at + length (bundle_spelling b)) rest (omega arith) fits.1 (omega arith) in
-    let together = more n objects imports last at b tail (entries_after (last + size_of b) bs) fits.0 (omega arith) others in
-    subst (λ (x : List ℕ). entries_from (suc n) objects imports last (cursor at x) ≡ Ok (entries_after last (b ∷ bs))) (sym (regroup (bundle_spelling b) (flat_map bundle_spelling bs) (0 ∷ []) rest)) together
+-- the entries of each bundle
+abbrev each_after : ℕ → List Bundle → List (List Numbered)
+each_after last [] = []
+each_after last (b ∷ bs) = enumerate_from (last + 1) (heads_of b) ∷ each_after (last + size_of b) bs
 
-count_below : (bs : List Bundle) → length bs ≤ length (flat_map bundle_spelling bs)
-count_below [] = omega arith
-count_below (b ∷ bs) = let others = count_below bs in omega (arith, length-append (bundle_spelling b) (flat_map bundle_spelling bs))
+each_joined : (last : ℕ) (bs : List Bundle) → flat_map (λ es. es) (each_after last bs) ≡ entries_after last bs
+each_joined last [] = refl
+each_joined last (b ∷ bs) = ap (λ (es : List Numbered). enumerate_from (last + 1) (heads_of b) ++ es) (each_joined (last + size_of b) bs)
+
+bundles_read : (objects imports : ℕ) (bs : List Bundle) (last at : ℕ) (rest : List ℕ) → Each (BundleFits objects imports) bs → last + sizes_of bs ≤ LAST_ORDINAL →
+    Whole (many (bundle_at objects imports) last (cursor at (table_spelling bs ++ rest))) (each_after last bs) rest
+bundles_read objects imports [] last at rest fits room = none_whole (bundle_at objects imports) last (cursor at (0 ∷ rest)) (at + 1) rest (end_reads objects imports last at rest)
+bundles_read objects imports (b ∷ bs) last at rest fits room =
+    let bytes = bundle_spelling b in
+    let tail = table_spelling bs ++ rest in
+    let es = enumerate_from (last + 1) (heads_of b) in
+    let together = more_whole (bundle_at objects imports) (bundle_shortens objects imports) last (cursor at (bytes ++ tail)) (cursor (at + length bytes) tail) (es, last + size_of b) (each_after (last + size_of b) bs) rest
+    (bundle_reads objects imports last b fits.0 (omega arith) at tail)
+    (bundles_read objects imports bs (last + size_of b) (at + length bytes) rest fits.1 (omega arith)) in
+    subst (λ (x : List ℕ). Whole (many (bundle_at objects imports) last (cursor at x)) (es ∷ each_after (last + size_of b) bs) rest) (sym (regroup bytes (flat_map bundle_spelling bs) (0 ∷ []) rest)) together
 
 pub table_reads : EntriesReadAgain
-unfolding entries_in
 table_reads objects imports bs rest fits room =
-    bundles_read objects imports bs (suc (length (table_spelling bs ++ rest))) 0 0 rest
-    (omega (arith, count_below bs, length-append (flat_map bundle_spelling bs ++ 0 ∷ []) rest, length-append (flat_map bundle_spelling bs) (0 ∷ []))) fits (omega arith)
+    let m = many (bundle_at objects imports) 0 (cursor 0 (table_spelling bs ++ rest)) in
+    let read = whole_is m (each_after 0 bs) rest (bundles_read objects imports bs 0 0 rest fits (omega arith)) in
+    ap (λ (r : Result (List (List Numbered)) LxRefusal). r >>= λ bundles. Ok (flat_map (λ es. es) bundles)) read ∙ ap done (each_joined 0 bs)

@@ -1,5 +1,5 @@
 -- Entry tables that are read are spelled so.
-use Rattle.std.proofs.Common.{◌≡◌, ℕ, zero, suc, ◌+◌, ◌<◌, ◌≤◌, ◌^◌, Bool, true, false, cond, eqb, ltb, not, List, [], ◌∷◌, ◌++◌, length, map, Ok, Err, refl, sym, subst, ap, ◌∙◌, append_assoc, arith, length-append}
+use Rattle.std.proofs.Common.{◌≡◌, ℕ, zero, suc, ◌+◌, ◌<◌, ◌≤◌, ◌^◌, Bool, true, false, cond, eqb, ltb, not, List, [], ◌∷◌, ◌++◌, length, map, Option, Some, None, Ok, Err, refl, sym, subst, ap, ◌∙◌, append_assoc, arith}
 use Rattle.std.specs.List.{flat_map, enumerate_from, AllByRecursion as Each}
 use Rattle.std.proofs.lemmas.Bool.{ltb-false}
 use Rattle.lx_bytes.specs.Cursor.{Cursor}
@@ -7,11 +7,13 @@ use Rattle.lx_bytes.specs.LittleEndian.{AreBytes, little_bytes}
 use Rattle.lx_types.specs.declared.refusal.LxKind.TheVariants as kinds
 use Rattle.lx_types.specs.declared.entry.EntryHead.{EntryHead}
 use Rattle.lx_types.specs.declared.entry.EntryHead.TheVariants.{At, Gate286, Forward}
-use Rattle.lx_model.specs.Reading.{fault, cursor, number, Read, ◌>>=◌}
-use Rattle.lx_model.specs.EntryTable.{Numbered, LAST_ORDINAL, names_one_of, at_entry, gate_entry, forward_key, forward_entry, bundle_entries, object_entries, bundle_of_type, entries_from, entries_in}
+use Rattle.lx_model.specs.Reading.{fault, cursor, number, Read, ◌>>=◌, ends, Many, many}
+use Rattle.lx_model.specs.EntryTable.{Numbered, LAST_ORDINAL, names_one_of, at_entry, gate_entry, forward_key, forward_entry, bundle_entries, object_entries, bundle_of_type, bundle_at, entries_in}
 use Rattle.lx_model.specs.Bundles.{at_spelling, gate_spelling, forward_spelling, Bundle, unused, narrow, gates, wide, forwarders, size_of, sizes_of, type_of, body_spelling, bundle_spelling, table_spelling, heads_of, entries_after, AtFits, GateFits, ForwardFits, ObjectFits, BodyFits, BundleFits}
-use Rattle.lx_model.proofs.Entries.{bind_ok, guard_ok, done, further, numbered}
-use Rattle.lx_model.proofs.BundlesRead.{behind_type, behind_count}
+use Rattle.lx_model.proofs.Entries.{further, behind_count, numbered}
+use Rattle.lx_model.proofs.Many.{whole_ends, Cases, many_holds}
+use Rattle.lx_model.proofs.Shortening.{bundle_shortens}
+use Rattle.lx_model.proofs.Steps.{bind_ok, guard_ok, done}
 use Rattle.lx_model.proofs.TablesTaken.{byte_taken, equal, positive}
 use Rattle.lx_model.proofs.Takes.{Takes, Takes-then, number_takes, takes_nothing}
 
@@ -217,78 +219,117 @@ body_taken (suc (suc (suc (suc (suc k))))) objects imports bad n ordinal c d es 
 
 -- ---- the table
 
-pub record TableTaken (objects imports last : ℕ) (c : Cursor) (es : List Numbered) : Type 0 where
+-- a bundle that was read behind the last ordinal of those before it
+pub record BundleTaken (objects imports last : ℕ) (c : Cursor) (x : List Numbered × ℕ) (d : Cursor) : Type 0 where
+  pub bundle : Bundle
+  pub fits : BundleFits objects imports bundle
+  pub room : x.1 ≤ LAST_ORDINAL
+  pub last_is : last + size_of bundle ≡ x.1
+  pub means : x.0 ≡ enumerate_from (last + 1) (heads_of bundle)
+  pub taken : Takes c (bundle_spelling bundle) d
+
+-- what a step took: the end, or a bundle
+abbrev pub StepTaken : ℕ → ℕ → ℕ → Cursor → Option (List Numbered × ℕ) → Cursor → Type 0
+StepTaken objects imports last c None d = Takes c (0 ∷ []) d
+StepTaken objects imports last c (Some x) d = BundleTaken objects imports last c x d
+
+-- one bundle more
+more : (objects imports last kind count : ℕ) (c f g d : Cursor) (es : List Numbered) → 0 < count → count < 256 → last + count ≤ LAST_ORDINAL →
+    Takes c (count ∷ []) f → Takes f (kind ∷ []) g → BodyTaken objects imports kind count (last + 1) g es d → BundleTaken objects imports last c (es, last + count) d
+more objects imports last kind count c f g d es some few room first second body =
+    let b = body.bundle in
+    let all : Takes c (count ∷ kind ∷ body_spelling b) d = Takes-then c f d (count ∷ []) (kind ∷ body_spelling b) first (Takes-then f g d (kind ∷ []) (body_spelling b) second body.taken) in
+    let with_count : Takes c (size_of b ∷ kind ∷ body_spelling b) d = subst (λ (x : ℕ). Takes c (x ∷ kind ∷ body_spelling b) d) (sym body.size) all in
+    let size = body.size in
+    record {
+      bundle = b;
+      fits = record { some = rw size some; few = rw size few; body = body.fits };
+      room = room;
+      last_is = omega (arith, size);
+      means = body.means;
+      taken = subst (λ (x : ℕ). Takes c (size_of b ∷ x ∷ body_spelling b) d) (sym body.type) with_count;
+    }
+
+by_count : (objects imports last at count : ℕ) (none : Bool) (c f d : Cursor) (o : Option (List Numbered × ℕ)) → eqb count 0 ≡ none → count < 256 → Takes c (count ∷ []) f →
+    cond none (ends f) (cond (ltb LAST_ORDINAL (last + count)) (Err (fault kinds.EntryTable at)) (further objects imports last at (count, f))) ≡ Ok (o, d) → StepTaken objects imports last c o d
+by_count objects imports last at count true c f d o is few first e =
+    let pair : (None, f) ≡ (o, d) = cc in
+    let zero_count = equal count 0 is in
+    subst (λ (p : Option (List Numbered × ℕ) × Cursor). StepTaken objects imports last c p.0 p.1) pair (subst (λ (x : ℕ). Takes c (x ∷ []) f) zero_count first)
+by_count objects imports last at count false c f d o is few first e =
+    let guard = guard_ok (ltb LAST_ORDINAL (last + count)) (fault kinds.EntryTable at) (further objects imports last at (count, f)) (o, d) e in
+    let room : last + count ≤ LAST_ORDINAL = ltb-false LAST_ORDINAL (last + count) guard.0 in
+    let step = bind_ok (number 1 f) (λ kind. bundle_of_type kind.0 objects imports at count (last + 1) kind.1 >>= λ entries. done (Some (entries.0, last + count), entries.1)) (o, d) guard.1 in
+    let kind = step.0 in
+    let k = number_takes 1 f kind.1 kind.0 first.rest step.1 in
+    let second = bind_ok (bundle_of_type kind.0 objects imports at count (last + 1) kind.1) (λ entries. done (Some (entries.0, last + count), entries.1)) (o, d) step.2 in
+    let entries = second.0 in
+    let body = body_taken kind.0 objects imports at count (last + 1) kind.1 entries.1 entries.0 k.taken.rest second.1 in
+    let pair : (Some (entries.0, last + count), entries.1) ≡ (o, d) = (let end = second.2 in cc) in
+    let type_byte = byte_taken f kind.1 kind.0 k.below k.taken in
+    subst (λ (p : Option (List Numbered × ℕ) × Cursor). StepTaken objects imports last c p.0 p.1) pair
+    (more objects imports last kind.0 count c f kind.1 entries.1 entries.0 (positive count is) few room first type_byte body)
+
+pub bundle_taken : (objects imports last : ℕ) (c d : Cursor) (o : Option (List Numbered × ℕ)) → AreBytes c.left → bundle_at objects imports last c ≡ Ok (o, d) → StepTaken objects imports last c o d
+unfolding bundle_at
+bundle_taken objects imports last c d o h e =
+    let step = bind_ok (number 1 c) (behind_count objects imports last c.at) (o, d) e in
+    let count = step.0 in
+    let a = number_takes 1 c count.1 count.0 h step.1 in
+    by_count objects imports last c.at count.0 (eqb count.0 0) c count.1 d o refl a.below (byte_taken c count.1 count.0 a.below a.taken) step.2
+
+pub record BundlesTaken (objects imports last : ℕ) (c : Cursor) (es : List Numbered) (d : Cursor) : Type 0 where
   pub bundles : List Bundle
-  pub end : Cursor
   pub fits : Each (BundleFits objects imports) bundles
   pub room : last + sizes_of bundles ≤ LAST_ORDINAL
   pub means : es ≡ entries_after last bundles
-  pub taken : Takes c (table_spelling bundles) end
+  pub taken : Takes c (table_spelling bundles) d
 
-abbrev pub TablesAre : ℕ → ℕ → ℕ → Type 0
-TablesAre n objects imports = (last : ℕ) (c : Cursor) (es : List Numbered) → last ≤ LAST_ORDINAL → length c.left < n → AreBytes c.left → entries_from n objects imports last c ≡ Ok es → TableTaken objects imports last c es
+abbrev AreTaken : ℕ → ℕ → ℕ → Cursor → Many (List Numbered) → Type 0
+AreTaken objects imports last c m = AreBytes c.left → last ≤ LAST_ORDINAL → (d : Cursor) → m.end ≡ Ok d → BundlesTaken objects imports last c (flat_map (λ es. es) m.items) d
 
 regroup : (a b c : List ℕ) → a ++ (b ++ c) ≡ (a ++ b) ++ c
 regroup a b c = sym (append_assoc a b c)
 
--- one bundle more
-more : (objects imports last kind count : ℕ) (c f g d : Cursor) (es others : List Numbered) → 0 < count → count < 256 → last + count ≤ LAST_ORDINAL →
-    Takes c (count ∷ []) f → Takes f (kind ∷ []) g → BodyTaken objects imports kind count (last + 1) g es d → TableTaken objects imports (last + count) d others → TableTaken objects imports last c (es ++ others)
-more objects imports last kind count c f g d es others some few room first second body rest =
-    let b = body.bundle in
-    let all : Takes c (count ∷ kind ∷ body_spelling b) d = Takes-then c f d (count ∷ []) (kind ∷ body_spelling b) first (Takes-then f g d (kind ∷ []) (body_spelling b) second body.taken) in
-    let with_count : Takes c (size_of b ∷ kind ∷ body_spelling b) d = subst (λ (x : ℕ). Takes c (x ∷ kind ∷ body_spelling b) d) (sym body.size) all in
-    let spelled : Takes c (bundle_spelling b) d = subst (λ (x : ℕ). Takes c (size_of b ∷ x ∷ body_spelling b) d) (sym body.type) with_count in
-    let whole = Takes-then c d rest.end (bundle_spelling b) (table_spelling rest.bundles) spelled rest.taken in
-    let size = body.size in
+together : (objects imports last : ℕ) (c d end : Cursor) (x : List Numbered × ℕ) (others : List Numbered) → BundleTaken objects imports last c x d → BundlesTaken objects imports x.1 d others end → BundlesTaken objects imports last c (x.0 ++ others) end
+together objects imports last c d end x others b rest =
+    let all = Takes-then c d end (bundle_spelling b.bundle) (table_spelling rest.bundles) b.taken rest.taken in
+    let at = b.last_is in
     let below = rest.room in
-    let means : es ++ others ≡ enumerate_from (last + 1) (heads_of b) ++ entries_after (last + count) rest.bundles = let x = body.means in let y = rest.means in cc in
+    let means : x.0 ++ others ≡ enumerate_from (last + 1) (heads_of b.bundle) ++ entries_after x.1 rest.bundles = (let p = b.means in let q = rest.means in cc) in
     record {
-      bundles = b ∷ rest.bundles;
-      end = rest.end;
-      fits = (record { some = rw size some; few = rw size few; body = body.fits }, rest.fits);
-      room = omega (arith, size, below);
-      means = means ∙ ap (λ (n : ℕ). enumerate_from (last + 1) (heads_of b) ++ entries_after (last + n) rest.bundles) (sym size);
-      taken = subst (λ (x : List ℕ). Takes c x rest.end) (regroup (bundle_spelling b) (flat_map bundle_spelling rest.bundles) (0 ∷ [])) whole;
+      bundles = b.bundle ∷ rest.bundles;
+      fits = (b.fits, rest.fits);
+      room = omega (arith, at, below);
+      means = means ∙ ap (λ (n : ℕ). enumerate_from (last + 1) (heads_of b.bundle) ++ entries_after n rest.bundles) (sym at);
+      taken = subst (λ (t : List ℕ). Takes c t end) (regroup (bundle_spelling b.bundle) (flat_map bundle_spelling rest.bundles) (0 ∷ [])) all;
     }
 
-shorter : (c d : Cursor) (x : ℕ) (xs : List ℕ) → Takes c (x ∷ xs) d → length d.left < length c.left
-shorter c d x xs t = let len = ap length t.parts in omega (arith, len, length-append xs d.left)
+bundles_taken : (objects imports : ℕ) → Cases (bundle_at objects imports) (AreTaken objects imports)
+bundles_taken objects imports = record {
+  none = λ last c d e h low end is.
+      let same : d ≡ end = cc in
+      let here : BundlesTaken objects imports last c [] d = record { bundles = []; fits = tt; room = omega arith; means = refl; taken = bundle_taken objects imports last c d None h e } in
+      subst (λ (x : Cursor). BundlesTaken objects imports last c [] x) same here;
+  wrong = λ last c e is h low end ok. absurd cc;
+  more = λ last c d x m e again h low end is.
+      let b = bundle_taken objects imports last c d (Some x) h e in
+      together objects imports last c d end x (flat_map (λ es. es) m.items) b (again b.taken.rest b.room end is);
+}
 
-by_count : (n objects imports last at count : ℕ) (ends : Bool) → TablesAre n objects imports → (c f : Cursor) (es : List Numbered) → eqb count 0 ≡ ends → last ≤ LAST_ORDINAL → length c.left < suc n → count < 256 → Takes c (count ∷ []) f →
-    cond ends (done []) (cond (ltb LAST_ORDINAL (last + count)) (Err (fault kinds.EntryTable at)) (further n objects imports last at (count, f))) ≡ Ok es → TableTaken objects imports last c es
-by_count n objects imports last at count true again c f es is low lt few first e =
-    let none : [] ≡ es = cc in
-    let zero_count = equal count 0 is in
-    let here : TableTaken objects imports last c [] = record { bundles = []; end = f; fits = tt; room = omega arith; means = refl; taken = subst (λ (x : ℕ). Takes c (x ∷ []) f) zero_count first } in
-    subst (λ (x : List Numbered). TableTaken objects imports last c x) none here
-by_count n objects imports last at count false again c f es is low lt few first e =
-    let guard = guard_ok (ltb LAST_ORDINAL (last + count)) (fault kinds.EntryTable at) (further n objects imports last at (count, f)) es e in
-    let room : last + count ≤ LAST_ORDINAL = ltb-false LAST_ORDINAL (last + count) guard.0 in
-    let step = bind_ok (number 1 f) (behind_type n objects imports last at count) es guard.1 in
-    let kind = step.0 in
-    let k = number_takes 1 f kind.1 kind.0 first.rest step.1 in
-    let second = bind_ok (bundle_of_type kind.0 objects imports at count (last + 1) kind.1) (λ bundle. entries_from n objects imports (last + count) bundle.1 >>= λ others. done (bundle.0 ++ others)) es step.2 in
-    let bundle = second.0 in
-    let body = body_taken kind.0 objects imports at count (last + 1) kind.1 bundle.1 bundle.0 k.taken.rest second.1 in
-    let third = bind_ok (entries_from n objects imports (last + count) bundle.1) (λ others. done (bundle.0 ++ others)) es second.2 in
-    let same : bundle.0 ++ third.0 ≡ es = cc in
-    let type_byte = byte_taken f kind.1 kind.0 k.below k.taken in
-    let all : Takes c (count ∷ kind.0 ∷ body_spelling body.bundle) bundle.1 = Takes-then c f bundle.1 (count ∷ []) (kind.0 ∷ body_spelling body.bundle) first (Takes-then f kind.1 bundle.1 (kind.0 ∷ []) (body_spelling body.bundle) type_byte body.taken) in
-    let less = shorter c bundle.1 count (kind.0 ∷ body_spelling body.bundle) all in
-    let rest = again (last + count) bundle.1 third.0 room (omega arith) body.taken.rest third.1 in
-    subst (λ (x : List Numbered). TableTaken objects imports last c x) same
-    (more objects imports last kind.0 count c f kind.1 bundle.1 bundle.0 third.0 (positive count is) few room first type_byte body rest)
+pub record TableTaken (objects imports : ℕ) (bytes : List ℕ) (es : List Numbered) : Type 0 where
+  pub end : Cursor
+  pub all : BundlesTaken objects imports 0 (cursor 0 bytes) es end
 
-tables_taken : (n objects imports : ℕ) → TablesAre n objects imports
-unfolding entries_from
-tables_taken zero objects imports last c es low lt h e = absurd (omega arith)
-tables_taken (suc n) objects imports last c es low lt h e =
-    let step = bind_ok (number 1 c) (behind_count n objects imports last c.at) es e in
-    let count = step.0 in
-    let a = number_takes 1 c count.1 count.0 h step.1 in
-    by_count n objects imports last c.at count.0 (eqb count.0 0) (tables_taken n objects imports) c count.1 es refl low lt a.below (byte_taken c count.1 count.0 a.below a.taken) step.2
-
-pub table_taken : (objects imports : ℕ) (bytes : List ℕ) (es : List Numbered) → AreBytes bytes → entries_in objects imports bytes ≡ Ok es → TableTaken objects imports 0 (cursor 0 bytes) es
-unfolding entries_in
-table_taken objects imports bytes es h e = tables_taken (suc (length bytes)) objects imports 0 (cursor 0 bytes) es (omega arith) (omega arith) h e
+pub table_taken : (objects imports : ℕ) (bytes : List ℕ) (es : List Numbered) → AreBytes bytes → entries_in objects imports bytes ≡ Ok es → TableTaken objects imports bytes es
+table_taken objects imports bytes es h e =
+    let m = many (bundle_at objects imports) 0 (cursor 0 bytes) in
+    let first = bind_ok (m.end >>= λ _. Ok m.items) (λ bundles. done (flat_map (λ es. es) bundles)) es e in
+    let ok = whole_ends m first.0 first.1 in
+    let last : flat_map (λ es. es) first.0 ≡ es = (let end = first.2 in cc) in
+    let joined : flat_map (λ es. es) m.items ≡ es = ap (λ (bs : List (List Numbered)). flat_map (λ es. es) bs) ok.2 ∙ last in
+    record {
+      end = ok.0;
+      all = subst (λ (xs : List Numbered). BundlesTaken objects imports 0 (cursor 0 bytes) xs ok.0) joined
+          (many_holds (bundle_at objects imports) (AreTaken objects imports) (bundle_shortens objects imports) (bundles_taken objects imports) 0 (cursor 0 bytes) h (omega arith) ok.0 ok.1);
+    }

@@ -1,32 +1,20 @@
 -- The parts of a faultless file fit each other: the entry table and the import modules.
-use Rattle.std.proofs.Common.{◌≡◌, ℕ, zero, suc, ◌+◌, ◌<◌, ◌≤◌, Bool, true, false, cond, not, eqb, ltb, List, [], ◌∷◌, ◌++◌, length, get_or, Result, Ok, Err, refl, subst, ap, arith}
+use Rattle.std.proofs.Common.{◌≡◌, ℕ, zero, suc, ◌+◌, ◌<◌, ◌≤◌, Bool, true, false, cond, Option, Some, not, eqb, ltb, List, [], ◌∷◌, ◌++◌, length, get_or, Ok, Err, refl, subst, ap, ◌∙◌, arith}
 use Rattle.std.specs.Prelude.{All, AllPairs}
-use Rattle.std.specs.List.{AllByRecursion as Each}
+use Rattle.std.specs.List.{flat_map, AllByRecursion as Each}
 use Rattle.std.proofs.lemmas.Bool.Decides.{nat_tests}
 use Rattle.std.proofs.lemmas.Bool.{ltb-false}
 use Rattle.std.proofs.lemmas.List.Elements.{All-from_recursion}
 use Rattle.lx_bytes.specs.Cursor.{Cursor}
-use Rattle.lx_types.specs.declared.refusal.LxRefusal.{LxRefusal}
 use Rattle.lx_types.specs.declared.refusal.LxKind.TheVariants as kinds
 use Rattle.lx_types.specs.declared.entry.EntryHead.{EntryHead}
 use Rattle.lx_types.specs.declared.entry.EntryHead.TheVariants.{At, Gate286, Forward}
 use Rattle.lx_types.specs.Sound.{HeadFits, IsNumberOf}
-use Rattle.lx_model.specs.Reading.{fault, text, number, Read, ◌>>=◌}
-use Rattle.lx_model.specs.NameTables.{imports_from}
-use Rattle.lx_model.specs.EntryTable.{Numbered, LAST_ORDINAL, names_one_of, at_entry, gate_entry, forward_key, forward_entry, bundle_entries, object_entries, bundle_of_type, entries_from}
-
--- ---- readings that succeed
-
-pub bind_ok : {A B : Type 0} (r : Result A LxRefusal) (f : A → Result B LxRefusal) (y : B) → (r >>= f) ≡ Ok y → (x : A) × (r ≡ Ok x) × (f x ≡ Ok y)
-bind_ok (Ok x) f y e = (x, refl, e)
-bind_ok (Err d) f y e = absurd cc
-
-abbrev pub done : {A : Type 0} → A → Result A LxRefusal
-done x = Ok x
-
-pub guard_ok : {A : Type 0} (b : Bool) (e : LxRefusal) (r : Result A LxRefusal) (y : A) → cond b (Err e) r ≡ Ok y → (b ≡ false) × (r ≡ Ok y)
-guard_ok true e r y h = absurd cc
-guard_ok false e r y h = (refl, h)
+use Rattle.lx_model.specs.Reading.{fault, cursor, number, Read, ◌>>=◌, ends, Many, many}
+use Rattle.lx_model.specs.EntryTable.{Numbered, LAST_ORDINAL, names_one_of, at_entry, gate_entry, forward_key, forward_entry, bundle_entries, object_entries, bundle_of_type, bundle_at, entries_in}
+use Rattle.lx_model.proofs.Many.{whole_ends, Cases, many_holds}
+use Rattle.lx_model.proofs.Shortening.{bundle_shortens}
+use Rattle.lx_model.proofs.Steps.{bind_ok, guard_ok, done, never, at_item}
 
 -- ---- entries
 
@@ -123,36 +111,61 @@ run_of_type (suc (suc (suc (suc (suc k))))) objects imports bundle n ordinal c x
 
 -- ---- the table
 
--- what stands behind the count of a bundle, and the bundles behind it
-abbrev pub further : ℕ → ℕ → ℕ → ℕ → ℕ → ℕ × Cursor → Result (List Numbered) LxRefusal
-further n objects imports last at count = number 1 count.1 >>= λ kind. bundle_of_type kind.0 objects imports at count.0 (last + 1) kind.1 >>= λ bundle. entries_from n objects imports (last + count.0) bundle.1 >>= λ others. done (bundle.0 ++ others)
+-- what stands behind the count of a bundle
+abbrev pub further : ℕ → ℕ → ℕ → ℕ → ℕ × Cursor → Read (Option (List Numbered × ℕ))
+further objects imports last at count = number 1 count.1 >>= λ kind. bundle_of_type kind.0 objects imports at count.0 (last + 1) kind.1 >>= λ entries. done (Some (entries.0, last + count.0), entries.1)
 
-abbrev pub Runs : ℕ → ℕ → ℕ → Type 0
-Runs n objects imports = (last : ℕ) (c : Cursor) (es : List Numbered) → last ≤ LAST_ORDINAL → entries_from n objects imports last c ≡ Ok es → Run objects imports (last + 1) (LAST_ORDINAL + 1) es
+abbrev pub behind_count : ℕ → ℕ → ℕ → ℕ → ℕ × Cursor → Read (Option (List Numbered × ℕ))
+behind_count objects imports last at count = cond (eqb count.0 0) (ends count.1) (cond (ltb LAST_ORDINAL (last + count.0)) (Err (fault kinds.EntryTable at)) (further objects imports last at count))
 
-run_of_count : (n objects imports last at : ℕ) (es : List Numbered) → Runs n objects imports → (ends : Bool) (count : ℕ × Cursor) →
-    cond ends (done []) (cond (ltb LAST_ORDINAL (last + count.0)) (Err (fault kinds.EntryTable at)) (further n objects imports last at count)) ≡ Ok es → Run objects imports (last + 1) (LAST_ORDINAL + 1) es
-run_of_count n objects imports last at es again true count h = let same : [] ≡ es = cc in subst (λ (y : List Numbered). Run objects imports (last + 1) (LAST_ORDINAL + 1) y) same tt
-run_of_count n objects imports last at es again false count h =
-    let guard = guard_ok (ltb LAST_ORDINAL (last + count.0)) (fault kinds.EntryTable at) (further n objects imports last at count) es h in
+-- the entries of a bundle, and the last ordinal up to its end
+record BundleRun (objects imports last : ℕ) (x : List Numbered × ℕ) : Type 0 where
+  higher : last ≤ x.1
+  low : x.1 ≤ LAST_ORDINAL
+  run : Run objects imports (last + 1) (x.1 + 1) x.0
+
+run_of_count : (objects imports last at : ℕ) (none : Bool) (count : ℕ × Cursor) (x : List Numbered × ℕ) (d : Cursor) →
+    cond none (ends count.1) (cond (ltb LAST_ORDINAL (last + count.0)) (Err (fault kinds.EntryTable at)) (further objects imports last at count)) ≡ Ok (Some x, d) → BundleRun objects imports last x
+run_of_count objects imports last at true count x d e = absurd (never count.1 d x (ends count.1) refl e)
+run_of_count objects imports last at false count x d e =
+    let guard = guard_ok (ltb LAST_ORDINAL (last + count.0)) (fault kinds.EntryTable at) (further objects imports last at count) (Some x, d) e in
     let below : last + count.0 ≤ LAST_ORDINAL = ltb-false LAST_ORDINAL (last + count.0) guard.0 in
-    let first = bind_ok (number 1 count.1) (λ kind. bundle_of_type kind.0 objects imports at count.0 (last + 1) kind.1 >>= λ bundle. entries_from n objects imports (last + count.0) bundle.1 >>= λ others. done (bundle.0 ++ others)) es guard.1 in
+    let first = bind_ok (number 1 count.1) (λ kind. bundle_of_type kind.0 objects imports at count.0 (last + 1) kind.1 >>= λ entries. done (Some (entries.0, last + count.0), entries.1)) (Some x, d) guard.1 in
     let kind = first.0 in
-    let second = bind_ok (bundle_of_type kind.0 objects imports at count.0 (last + 1) kind.1) (λ bundle. entries_from n objects imports (last + count.0) bundle.1 >>= λ others. done (bundle.0 ++ others)) es first.2 in
-    let bundle = second.0 in
-    let third = bind_ok (entries_from n objects imports (last + count.0) bundle.1) (λ others. done (bundle.0 ++ others)) es second.2 in
-    let same : bundle.0 ++ third.0 ≡ es = cc in
-    let front = Run-higher objects imports (last + 1) (last + 1 + count.0) (last + count.0 + 1) bundle.0 (omega arith) (run_of_type kind.0 objects imports at count.0 (last + 1) kind.1 bundle second.1) in
-    let back = again (last + count.0) bundle.1 third.0 below third.1 in
-    subst (λ (y : List Numbered). Run objects imports (last + 1) (LAST_ORDINAL + 1) y) same
-    (Run-append objects imports (last + 1) (last + count.0 + 1) (LAST_ORDINAL + 1) bundle.0 third.0 (omega arith) (omega arith) front back)
+    let second = bind_ok (bundle_of_type kind.0 objects imports at count.0 (last + 1) kind.1) (λ entries. done (Some (entries.0, last + count.0), entries.1)) (Some x, d) first.2 in
+    let entries = second.0 in
+    let run = Run-higher objects imports (last + 1) (last + 1 + count.0) (last + count.0 + 1) entries.0 (omega arith) (run_of_type kind.0 objects imports at count.0 (last + 1) kind.1 entries second.1) in
+    let here : BundleRun objects imports last (entries.0, last + count.0) = record { higher = omega arith; low = below; run = run } in
+    at_item (λ y _. BundleRun objects imports last y) (entries.0, last + count.0) x entries.1 d second.2 here
 
-pub run_of_table : (n objects imports : ℕ) → Runs n objects imports
-unfolding entries_from
-run_of_table zero objects imports last c es low e = let same : [] ≡ es = cc in subst (λ (y : List Numbered). Run objects imports (last + 1) (LAST_ORDINAL + 1) y) same tt
-run_of_table (suc n) objects imports last c es low e =
-    let first = bind_ok (number 1 c) (λ count. cond (eqb count.0 0) (done []) (cond (ltb LAST_ORDINAL (last + count.0)) (Err (fault kinds.EntryTable c.at)) (further n objects imports last c.at count))) es e in
-    run_of_count n objects imports last c.at es (run_of_table n objects imports) (eqb first.0.0 0) first.0 first.2
+run_of_step : (objects imports last : ℕ) (c d : Cursor) (x : List Numbered × ℕ) → bundle_at objects imports last c ≡ Ok (Some x, d) → BundleRun objects imports last x
+unfolding bundle_at
+run_of_step objects imports last c d x e =
+    let first = bind_ok (number 1 c) (behind_count objects imports last c.at) (Some x, d) e in
+    run_of_count objects imports last c.at (eqb first.0.0 0) first.0 x d first.2
+
+abbrev Runs : ℕ → ℕ → ℕ → Cursor → Many (List Numbered) → Type 0
+Runs objects imports last c m = last ≤ LAST_ORDINAL → (d : Cursor) → m.end ≡ Ok d → Run objects imports (last + 1) (LAST_ORDINAL + 1) (flat_map (λ es. es) m.items)
+
+runs : (objects imports : ℕ) → Cases (bundle_at objects imports) (Runs objects imports)
+runs objects imports = record {
+  none = λ last c d e low end is. tt;
+  wrong = λ last c e is low end ok. absurd cc;
+  more = λ last c d x m e again low end is.
+      let b = run_of_step objects imports last c d x e in
+      let higher = b.higher in
+      let below = b.low in
+      Run-append objects imports (last + 1) (x.1 + 1) (LAST_ORDINAL + 1) x.0 (flat_map (λ es. es) m.items) (omega (arith, higher)) (omega (arith, below)) b.run (again below end is);
+}
+
+pub run_of_table : (objects imports : ℕ) (bytes : List ℕ) (es : List Numbered) → entries_in objects imports bytes ≡ Ok es → Run objects imports 1 (LAST_ORDINAL + 1) es
+run_of_table objects imports bytes es e =
+    let m = many (bundle_at objects imports) 0 (cursor 0 bytes) in
+    let first = bind_ok (m.end >>= λ _. Ok m.items) (λ bundles. done (flat_map (λ es. es) bundles)) es e in
+    let ok = whole_ends m first.0 first.1 in
+    let joined : flat_map (λ es. es) m.items ≡ es = (let a = ap (λ (bs : List (List Numbered)). flat_map (λ es. es) bs) ok.2 in let b = first.2 in let c : flat_map (λ es. es) first.0 ≡ es = cc in a ∙ c) in
+    subst (λ (xs : List Numbered). Run objects imports 1 (LAST_ORDINAL + 1) xs) joined
+    (many_holds (bundle_at objects imports) (Runs objects imports) (bundle_shortens objects imports) (runs objects imports) 0 (cursor 0 bytes) (omega arith) ok.0 ok.1)
 
 -- ---- what the sound parts say of them
 
@@ -173,18 +186,3 @@ each_head objects imports low high (e ∷ es) run = (run.2, each_head objects im
 
 pub Run-heads : (objects imports low high : ℕ) (es : List Numbered) → Run objects imports low high es → All (λ e. HeadFits objects imports e.1) es
 Run-heads objects imports low high es run = All-from_recursion (λ e. HeadFits objects imports e.1) es (each_head objects imports low high es run)
-
--- ---- import modules
-
-pub imports_are : (n : ℕ) (c : Cursor) (names : List (List ℕ)) → imports_from n c ≡ Ok names → length names ≡ n
-unfolding imports_from
-imports_are zero c names e = let same : [] ≡ names = cc in subst (λ (x : List (List ℕ)). length x ≡ 0) same refl
-imports_are (suc n) c names e =
-    let first = bind_ok (number 1 c) (λ len. cond (eqb len.0 0) (Err (fault kinds.ImportTable c.at)) (text len.0 len.1 >>= λ name. imports_from n name.1 >>= λ others. done (name.0 ∷ others))) names e in
-    let len = first.0 in
-    let second = guard_ok (eqb len.0 0) (fault kinds.ImportTable c.at) (text len.0 len.1 >>= λ name. imports_from n name.1 >>= λ others. done (name.0 ∷ others)) names first.2 in
-    let third = bind_ok (text len.0 len.1) (λ name. imports_from n name.1 >>= λ others. done (name.0 ∷ others)) names second.1 in
-    let fourth = bind_ok (imports_from n third.0.1) (λ others. done (third.0.0 ∷ others)) names third.2 in
-    let same : third.0.0 ∷ fourth.0 ≡ names = cc in
-    let inner = imports_are n third.0.1 fourth.0 fourth.1 in
-    subst (λ (x : List (List ℕ)). length x ≡ suc n) same (ap suc inner)

@@ -1,84 +1,154 @@
 -- The names of import modules are read as they were written, and spelled as they are read.
-use Rattle.std.proofs.Common.{◌≡◌, ℕ, zero, suc, ◌+◌, ◌<◌, false, cond, eqb, List, [], ◌∷◌, ◌++◌, length, Result, Ok, Err, refl, sym, subst, ap, ◌∙◌, append_assoc, arith}
+use Rattle.std.proofs.Common.{◌≡◌, ℕ, zero, suc, ◌+◌, ◌<◌, cond, eqb, Option, Some, None, List, [], ◌∷◌, ◌++◌, length, Ok, Err, refl, sym, subst, ap, append_assoc, arith}
 use Rattle.std.specs.List.{flat_map, AllByRecursion as Each}
-use Rattle.std.proofs.lemmas.Bool.Decides.{nat_tests}
 use Rattle.lx_bytes.specs.Cursor.{Cursor}
 use Rattle.lx_bytes.specs.LittleEndian.{AreBytes}
-use Rattle.lx_types.specs.declared.refusal.LxRefusal.{LxRefusal}
 use Rattle.lx_types.specs.declared.refusal.LxKind.TheVariants as kinds
-use Rattle.lx_model.specs.Reading.{fault, cursor, text, number, ◌>>=◌}
-use Rattle.lx_model.specs.NameTables.{imports_from, imports_in}
-use Rattle.lx_model.specs.Spelling.{import_spelling, ImportFits}
-use Rattle.lx_model.specs.Laws.{ImportsReadAgain}
-use Rattle.lx_model.proofs.Entries.{bind_ok, guard_ok, done}
-use Rattle.lx_model.proofs.ReadsAs.{text_reads, byte_reads}
-use Rattle.lx_model.proofs.RecordsRead.{then_ok, other}
+use Rattle.lx_model.specs.Reading.{fault, cursor, text, number, Read, ◌>>=◌, ends, Many, many}
+use Rattle.lx_model.specs.NameTables.{import_entry, imports_in, import_spelling, ImportFits}
+use Rattle.lx_model.specs.TableLaws.{ImportsReadAgain}
+use Rattle.lx_model.proofs.Many.{Whole, none_whole, more_whole, whole_is, whole_ends, Cases, many_holds}
+use Rattle.lx_model.proofs.NamesRead.{not_zero}
+use Rattle.lx_model.proofs.ReadsAs.{ReadsAs, text_reads, byte_reads, bind_reads, done_reads}
+use Rattle.lx_model.proofs.Shortening.{import_shortens}
+use Rattle.lx_model.proofs.Steps.{bind_ok, guard_ok, done, never, at_item}
 use Rattle.lx_model.proofs.TablesTaken.{byte_taken, positive}
 use Rattle.lx_model.proofs.Takes.{Takes, Takes-then, takes_nothing, number_takes, text_takes}
 
-not_zero : (n : ℕ) → 0 < n → eqb n 0 ≡ false
-not_zero n lt = grind (arith, nat_tests)
+abbrev item : ℕ → List ℕ → Option (List ℕ × ℕ)
+item n name = Some (name, n)
 
-abbrev behind_length : ℕ → ℕ → ℕ × Cursor → Result (List (List ℕ)) LxRefusal
-behind_length n at len = cond (eqb len.0 0) (Err (fault kinds.ImportTable at)) (text len.0 len.1 >>= λ name. imports_from n name.1 >>= λ others. done (name.0 ∷ others))
+abbrev behind_length : ℕ → ℕ → ℕ × Cursor → Read (Option (List ℕ × ℕ))
+behind_length n at len = cond (eqb len.0 0) (Err (fault kinds.ImportTable at)) (text len.0 len.1 >>= λ name. done (item n name.0, name.1))
 
--- one name more
-more : (n at : ℕ) (name tail : List ℕ) (others : List (List ℕ)) → ImportFits name → imports_from n (cursor (at + 1 + length name) tail) ≡ Ok others →
-    imports_from (suc n) (cursor at (length name ∷ (name ++ tail))) ≡ Ok (name ∷ others)
-unfolding imports_from
-more n at name tail others fits next =
-    let len = length name in
-    let all : Result (List (List ℕ)) LxRefusal = Ok (name ∷ others) in
-    let at_text = cursor (at + 1) (name ++ tail) in
-    let at_next = cursor (at + 1 + len) tail in
-    then_ok (number 1 (cursor at (len ∷ (name ++ tail)))) (behind_length n at) (len, at_text) all (byte_reads len fits.short at (name ++ tail))
-    (other (eqb len 0) (Err (fault kinds.ImportTable at)) (text len at_text >>= λ x. imports_from n x.1 >>= λ others. done (x.0 ∷ others)) (not_zero len fits.some)
-    ∙ then_ok (text len at_text) (λ x. imports_from n x.1 >>= λ others. done (x.0 ∷ others)) (name, at_next) all (text_reads name (at + 1) tail)
-    (then_ok (imports_from n at_next) (λ x. done (name ∷ x)) others all next refl))
+name_reads : (n : ℕ) (name : List ℕ) → ImportFits name → ReadsAs (import_entry (suc n)) (import_spelling name) (item n name)
+unfolding import_entry
+name_reads n name fits at rest =
+    bind_reads (number 1) (behind_length n at) (length name ∷ []) name (length name) (item n name) (byte_reads (length name) fits.short)
+    (λ at' rest'. rw (not_zero (length name) fits.some) (done_reads (text (length name)) (item n) name name (text_reads name) at' rest')) at rest
 
-names_read : (names : List (List ℕ)) (at : ℕ) (rest : List ℕ) → Each ImportFits names → imports_from (length names) (cursor at (flat_map import_spelling names ++ rest)) ≡ Ok names
-unfolding imports_from
-names_read [] at rest fits = refl
+names_end : (c : Cursor) → import_entry 0 c ≡ Ok (None, c)
+unfolding import_entry
+names_end c = refl
+
+pub names_read : (names : List (List ℕ)) (at : ℕ) (rest : List ℕ) → Each ImportFits names → Whole (many import_entry (length names) (cursor at (flat_map import_spelling names ++ rest))) names rest
+names_read [] at rest fits = none_whole import_entry 0 (cursor at rest) at rest (names_end (cursor at rest))
 names_read (name ∷ names) at rest fits =
+    let bytes = import_spelling name in
     let tail = flat_map import_spelling names ++ rest in
-    let next = names_read names (at + 1 + length name) rest fits.1 in
-    let same : length name ∷ (name ++ tail) ≡ flat_map import_spelling (name ∷ names) ++ rest = ap (λ (x : List ℕ). length name ∷ x) (sym (append_assoc name (flat_map import_spelling names) rest)) in
-    subst (λ (x : List ℕ). imports_from (suc (length names)) (cursor at x) ≡ Ok (name ∷ names)) same (more (length names) at name tail names fits.0 next)
+    let together = more_whole import_entry import_shortens (suc (length names)) (cursor at (bytes ++ tail)) (cursor (at + length bytes) tail) (name, length names) names rest (name_reads (length names) name fits.0 at tail)
+    (names_read names (at + length bytes) rest fits.1) in
+    let same : bytes ++ tail ≡ flat_map import_spelling (name ∷ names) ++ rest = sym (append_assoc bytes (flat_map import_spelling names) rest) in
+    subst (λ (x : List ℕ). Whole (many import_entry (suc (length names)) (cursor at x)) (name ∷ names) rest) same together
 
 pub imports_again : ImportsReadAgain
-imports_again names rest fits = names_read names 0 rest fits
+imports_again names rest fits = whole_is (many import_entry (length names) (cursor 0 (flat_map import_spelling names ++ rest))) names rest (names_read names 0 rest fits)
 
 -- ---- what was taken
 
-pub record ImportsTaken (c : Cursor) (names : List (List ℕ)) : Type 0 where
-  pub end : Cursor
-  pub fits : Each ImportFits names
-  pub taken : Takes c (flat_map import_spelling names) end
+-- a name that is there, and as many behind it
+pub record NameTaken (n : ℕ) (c : Cursor) (x : List ℕ × ℕ) (d : Cursor) : Type 0 where
+  pub count : n ≡ suc x.1
+  pub fits : ImportFits x.0
+  pub taken : Takes c (import_spelling x.0) d
 
-imports_taken : (n : ℕ) (c : Cursor) (names : List (List ℕ)) → AreBytes c.left → imports_from n c ≡ Ok names → ImportsTaken c names
-unfolding imports_from
-imports_taken zero c names h e =
-    let none : [] ≡ names = cc in
-    let here : ImportsTaken c [] = record { end = c; fits = tt; taken = takes_nothing c h } in
-    subst (λ (x : List (List ℕ)). ImportsTaken c x) none here
-imports_taken (suc n) c names h e =
-    let first = bind_ok (number 1 c) (behind_length n c.at) names e in
+pub name_taken : (n : ℕ) (c d : Cursor) (x : List ℕ × ℕ) → AreBytes c.left → import_entry n c ≡ Ok (Some x, d) → NameTaken n c x d
+unfolding import_entry
+name_taken zero c d x h e = absurd (never c d x (ends c) refl e)
+name_taken (suc n) c d x h e =
+    let first = bind_ok (number 1 c) (behind_length n c.at) (Some x, d) e in
     let len = first.0 in
     let a = number_takes 1 c len.1 len.0 h first.1 in
-    let guard = guard_ok (eqb len.0 0) (fault kinds.ImportTable c.at) (text len.0 len.1 >>= λ name. imports_from n name.1 >>= λ others. done (name.0 ∷ others)) names first.2 in
-    let second = bind_ok (text len.0 len.1) (λ name. imports_from n name.1 >>= λ others. done (name.0 ∷ others)) names guard.1 in
+    let guard = guard_ok (eqb len.0 0) (fault kinds.ImportTable c.at) (text len.0 len.1 >>= λ name. done (item n name.0, name.1)) (Some x, d) first.2 in
+    let second = bind_ok (text len.0 len.1) (λ name. done (item n name.0, name.1)) (Some x, d) guard.1 in
     let name = second.0 in
     let b = text_takes len.0 len.1 name.1 name.0 a.taken.rest second.1 in
-    let third = bind_ok (imports_from n name.1) (λ others. done (name.0 ∷ others)) names second.2 in
-    let rest = imports_taken n name.1 third.0 b.taken.rest third.1 in
-    let same : name.0 ∷ third.0 ≡ names = cc in
     let size = b.len in
-    let byte : Takes c (length name.0 ∷ []) len.1 = subst (λ (x : ℕ). Takes c (x ∷ []) len.1) (sym size) (byte_taken c len.1 len.0 a.below a.taken) in
-    let whole = Takes-then c name.1 rest.end (import_spelling name.0) (flat_map import_spelling third.0) (Takes-then c len.1 name.1 (length name.0 ∷ []) name.0 byte b.taken) rest.taken in
+    let byte : Takes c (length name.0 ∷ []) len.1 = subst (λ (k : ℕ). Takes c (k ∷ []) len.1) (sym size) (byte_taken c len.1 len.0 a.below a.taken) in
     let some : 0 < length name.0 = rw size (positive len.0 guard.0) in
     let short : length name.0 < 256 = rw size a.below in
-    let here : ImportsTaken c (name.0 ∷ third.0) = record { end = rest.end; fits = (record { some = some; short = short }, rest.fits); taken = whole } in
-    subst (λ (x : List (List ℕ)). ImportsTaken c x) same here
+    let here : NameTaken (suc n) c (name.0, n) name.1 = record {
+      count = refl;
+      fits = record { some = some; short = short };
+      taken = Takes-then c len.1 name.1 (length name.0 ∷ []) name.0 byte b.taken;
+    } in
+    at_item (NameTaken (suc n) c) (name.0, n) x name.1 d second.2 here
 
-pub names_taken : (n : ℕ) (bytes : List ℕ) (names : List (List ℕ)) → AreBytes bytes → imports_in n bytes ≡ Ok names → ImportsTaken (cursor 0 bytes) names
-names_taken n bytes names h e = imports_taken n (cursor 0 bytes) names h e
+abbrev no_name : Option (List ℕ × ℕ)
+no_name = None
+
+ends_at_zero : (n : ℕ) (c d : Cursor) → import_entry n c ≡ Ok (None, d) → (n ≡ 0) × (c ≡ d)
+unfolding import_entry
+ends_at_zero zero c d e =
+    let pair : (no_name, c) ≡ (no_name, d) = cc in
+    (refl, ap (λ (p : Option (List ℕ × ℕ) × Cursor). p.1) pair)
+ends_at_zero (suc n) c d e =
+    let first = bind_ok (number 1 c) (behind_length n c.at) (None, d) e in
+    let len = first.0 in
+    let guard = guard_ok (eqb len.0 0) (fault kinds.ImportTable c.at) (text len.0 len.1 >>= λ name. done (item n name.0, name.1)) (None, d) first.2 in
+    let second = bind_ok (text len.0 len.1) (λ name. done (item n name.0, name.1)) (None, d) guard.1 in
+    absurd (never d second.0.1 (second.0.0, n) (done (item n second.0.0, second.0.1)) second.2 refl)
+
+-- how many names there are, and how they stand there
+pub record ImportsTaken (n : ℕ) (c : Cursor) (names : List (List ℕ)) (d : Cursor) : Type 0 where
+  pub count : length names ≡ n
+  pub fits : Each ImportFits names
+  pub taken : Takes c (flat_map import_spelling names) d
+
+abbrev AreTaken : ℕ → Cursor → Many (List ℕ) → Type 0
+AreTaken n c m = AreBytes c.left → (d : Cursor) → m.end ≡ Ok d → ImportsTaken n c m.items d
+
+imports_taken : Cases import_entry AreTaken
+imports_taken = record {
+  none = λ n c d e h end is.
+      let zero = ends_at_zero n c d e in
+      let same : c ≡ end = (let a = zero.1 in let b : d ≡ end = cc in cc) in
+      let here : ImportsTaken n c [] c = record { count = sym zero.0; fits = tt; taken = takes_nothing c h } in
+      subst (λ (x : Cursor). ImportsTaken n c [] x) same here;
+  wrong = λ n c e is h end ok. absurd cc;
+  more = λ n c d x m e again h end is.
+      let first = name_taken n c d x h e in
+      let rest = again first.taken.rest end is in
+      let size = first.count in
+      let others = rest.count in
+      let sum : suc (length m.items) ≡ n = (omega (arith, size, others)) in
+      record { count = sum; fits = (first.fits, rest.fits); taken = Takes-then c d end (import_spelling x.0) (flat_map import_spelling m.items) first.taken rest.taken };
+}
+
+pub record TableTaken (n : ℕ) (bytes : List ℕ) (names : List (List ℕ)) : Type 0 where
+  pub end : Cursor
+  pub all : ImportsTaken n (cursor 0 bytes) names end
+
+pub names_taken : (n : ℕ) (bytes : List ℕ) (names : List (List ℕ)) → AreBytes bytes → imports_in n bytes ≡ Ok names → TableTaken n bytes names
+names_taken n bytes names h e =
+    let m = many import_entry n (cursor 0 bytes) in
+    let ok = whole_ends m names e in
+    record { end = ok.0; all = subst (λ (x : List (List ℕ)). ImportsTaken n (cursor 0 bytes) x ok.0) ok.2 (many_holds import_entry AreTaken import_shortens imports_taken n (cursor 0 bytes) h ok.0 ok.1) }
+
+-- ---- how many there are
+
+abbrev AreCounted : ℕ → Cursor → Many (List ℕ) → Type 0
+AreCounted n c m = (d : Cursor) → m.end ≡ Ok d → length m.items ≡ n
+
+count_of_step : (n : ℕ) (c d : Cursor) (x : List ℕ × ℕ) → import_entry n c ≡ Ok (Some x, d) → n ≡ suc x.1
+unfolding import_entry
+count_of_step zero c d x e = absurd (never c d x (ends c) refl e)
+count_of_step (suc n) c d x e =
+    let first = bind_ok (number 1 c) (behind_length n c.at) (Some x, d) e in
+    let len = first.0 in
+    let guard = guard_ok (eqb len.0 0) (fault kinds.ImportTable c.at) (text len.0 len.1 >>= λ name. done (item n name.0, name.1)) (Some x, d) first.2 in
+    let second = bind_ok (text len.0 len.1) (λ name. done (item n name.0, name.1)) (Some x, d) guard.1 in
+    at_item (λ y _. suc n ≡ suc y.1) (second.0.0, n) x second.0.1 d second.2 refl
+
+counted : Cases import_entry AreCounted
+counted = record {
+  none = λ n c d e end is. sym (ends_at_zero n c d e).0;
+  wrong = λ n c e is end ok. absurd cc;
+  more = λ n c d x m e again end is. let size = count_of_step n c d x e in let others = again end is in (omega (arith, size, others));
+}
+
+pub names_counted : (n : ℕ) (bytes : List ℕ) (names : List (List ℕ)) → imports_in n bytes ≡ Ok names → length names ≡ n
+names_counted n bytes names e =
+    let m = many import_entry n (cursor 0 bytes) in
+    let ok = whole_ends m names e in
+    subst (λ (x : List (List ℕ)). length x ≡ n) ok.2 (many_holds import_entry AreCounted import_shortens counted n (cursor 0 bytes) ok.0 ok.1)

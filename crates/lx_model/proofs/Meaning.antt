@@ -1,9 +1,9 @@
 -- The laws of what a file means.
-use Rattle.std.proofs.Common.{◌≡◌, ℕ, suc, ◌+◌, ◌<◌, ◌^◌, ◌⊎◌, inl, inr, List, [], length, drop, Option, Some, None, Result, Ok, Err, refl, sym, subst, ◌∙◌, arith}
+use Rattle.std.proofs.Common.{◌≡◌, ℕ, ◌+◌, ◌<◌, ◌^◌, ◌⊎◌, inl, inr, List, [], length, drop, Option, Some, None, Result, Ok, Err, refl, sym, subst, ◌∙◌}
 use Rattle.std.proofs.lemmas.List.FromFn.{length-map-range_with_len}
 use Rattle.lx_types.specs.declared.refusal.LxRefusal.{LxRefusal}
 use Rattle.lx_types.specs.Sound.{Sound}
-use Rattle.lx_model.specs.Reading.{cursor, first_of, ◌then◌, placed, fault_of, value_or}
+use Rattle.lx_model.specs.Reading.{first_of, ◌then◌, placed, fault_of, value_or}
 use Rattle.lx_model.specs.Header.{table, page_count, object_count, import_count, header_fault, start_fault}
 use Rattle.lx_model.specs.Tables.{object_entry, object_place, objects_of, objects_fault, page_entry, page_place, page_or_zero, pages_of, pages_fault}
 use Rattle.lx_model.specs.NameTables.{import_names, imports_in, resident_fault, others_fault, imports_fault}
@@ -12,7 +12,8 @@ use Rattle.lx_model.specs.FixupPages.{records_span, spans_of, spans_fault}
 use Rattle.lx_model.specs.Module.{parts_of, page_records_fault, Lx, LxFault}
 use Rattle.lx_model.specs.Laws.{MeansOne, MeansOrFails, FaultMeansNone, MeansSound}
 use Rattle.lx_model.proofs.Firsts.{then_none}
-use Rattle.lx_model.proofs.Entries.{Run, Run-pairs, Run-heads, run_of_table, imports_are}
+use Rattle.lx_model.proofs.Entries.{Run, Run-pairs, Run-heads, run_of_table}
+use Rattle.lx_model.proofs.ImportsRead.{names_counted}
 use Rattle.lx_model.proofs.References.{refs_fit}
 use Rattle.lx_model.proofs.Soundness.{objects_fit, pages_fit, spans_fit, start_fits}
 
@@ -36,17 +37,16 @@ read_ok at other (Ok x) e = refl
 read_ok at other (Err f) e = absurd cc
 
 entries_run : (file : List ℕ) → entries_fault file ≡ None → Run (object_count file) (import_count file) 1 (LAST_ORDINAL + 1) (value_or [] (entries_of file))
-unfolding entries_in
 entries_run file e =
     let bytes = drop (table file 0x5C) file in
     let read = read_ok (table file 0x5C) [] (entries_in (object_count file) (import_count file) bytes) e in
-    run_of_table (suc (length bytes)) (object_count file) (import_count file) 0 (cursor 0 bytes) (value_or [] (entries_of file)) (omega arith) read
+    run_of_table (object_count file) (import_count file) bytes (value_or [] (entries_of file)) read
 
 imports_count : (file : List ℕ) → imports_fault file ≡ None → length (value_or [] (import_names file)) ≡ import_count file
 imports_count file e =
     let bytes = drop (table file 0x70) file in
     let read = read_ok (table file 0x70) [] (imports_in (import_count file) bytes) e in
-    imports_are (import_count file) (cursor 0 bytes) (value_or [] (import_names file)) read
+    names_counted (import_count file) bytes (value_or [] (import_names file)) read
 
 -- ---- the parts
 
@@ -90,7 +90,7 @@ sound_parts file short j =
       records = spans_fit file j.spans;
       ordinals = Run-pairs (object_count file) (import_count file) 1 (LAST_ORDINAL + 1) (value_or [] (entries_of file)) run;
       entries = rw (objects-are, imports-are) (Run-heads (object_count file) (import_count file) 1 (LAST_ORDINAL + 1) (value_or [] (entries_of file)) run);
-      refs = refs_fit file j.records;
+      refs = rw imports-are (refs_fit file j.records);
     }
 
 pub sound : MeansSound

@@ -1,90 +1,107 @@
 -- The records of a page, and groups of iterated data, that were written are read again.
-use Rattle.std.proofs.Common.{◌≡◌, ℕ, zero, suc, ◌+◌, ◌*◌, ◌<◌, ◌≤◌, List, [], ◌∷◌, ◌++◌, length, take, drop, None, Ok, refl, sym, subst, ap, arith, length-append}
-use Rattle.std.specs.List.{flat_map, repeat, AllByRecursion as Each}
-use Rattle.std.proofs.lemmas.Bool.{lt-ltb, le-ltb}
-use Rattle.std.proofs.Math.Nat.{suc-mul}
-use Rattle.std.proofs.lemmas.List.{take_at, drop_at}
+use Rattle.std.proofs.Common.{◌≡◌, ℕ, ◌+◌, ◌*◌, ◌<◌, ◌≤◌, cond, eqb, ltb, List, [], ◌∷◌, ◌++◌, length, Option, Some, None, Result, Ok, Err, refl, sym, subst, ap, ◌∙◌, append_assoc, arith, length-append}
+use Rattle.std.specs.List.{flat_map, AllByRecursion as Each}
+use Rattle.std.proofs.lemmas.Bool.{le-ltb}
 use Rattle.lx_bytes.specs.Cursor.{Cursor}
-use Rattle.lx_bytes.proofs.Numbers.{little-little_bytes}
+use Rattle.lx_bytes.specs.LittleEndian.{little_bytes}
+use Rattle.lx_types.specs.declared.refusal.LxRefusal.{LxRefusal}
+use Rattle.lx_types.specs.declared.refusal.LxKind.TheVariants.{TooLong}
 use Rattle.lx_types.specs.declared.object.TheConstants.{PAGE_SIZE}
 use Rattle.lx_types.specs.declared.fix.Fix.{Fix}
-use Rattle.lx_model.specs.Reading.{number_at, cursor}
-use Rattle.lx_model.specs.Iterated.{Group, group_spelling, groups_spelling, groups_data, GroupFits, expansion_from, expansion}
-use Rattle.lx_model.specs.Records.{Records, with_front, record_at, records_from, records_in, fixes_of}
-use Rattle.lx_model.specs.Spelling.{Written, record_spelling, fixes_written, RecordFits}
-use Rattle.lx_model.specs.Laws.{RecordsReadAgain, GroupsReadAgain}
+use Rattle.lx_model.specs.Reading.{fault, cursor, text, number, Read, ◌>>=◌, ends, Many, many, fault_of}
+use Rattle.lx_model.specs.Iterated.{Group, group_spelling, groups_spelling, group_data, groups_data, GroupFits, group_fields, fault_at, group_at}
+use Rattle.lx_model.specs.Records.{Record, record_at, next_record, fixes_of}
+use Rattle.lx_model.specs.RecordSpelling.{Written, record_spelling, fixes_written, RecordFits}
+use Rattle.lx_model.specs.TableLaws.{RecordsReadAgain, GroupsReadAgain}
+use Rattle.lx_model.proofs.Many.{many_ends, many_more, Whole, none_whole, more_whole, whole_is}
+use Rattle.lx_model.proofs.NamesRead.{not_zero}
+use Rattle.lx_model.proofs.ReadsAs.{ReadsAs, text_reads, number_reads, bind_reads, done_reads}
 use Rattle.lx_model.proofs.RecordsRead.{record_reads}
+use Rattle.lx_model.proofs.Shortening.{record_shortens, group_shortens}
+use Rattle.lx_model.proofs.Steps.{done, other}
+use Rattle.lx_model.proofs.TablesTaken.{length-repeat}
 
 -- ---- records
 
 -- the records mean what was written, and nothing is wrong
-record Means (records : Records) (fixes : List Fix) : Type 0 where
+record Means (records : Many Record) (fixes : List Fix) : Type 0 where
   fixes_are : fixes_of records ≡ fixes
-  faultless : records.fault ≡ None
+  faultless : fault_of records.end ≡ None
 
-more : (n at : ℕ) (left : List ℕ) (fixes : List Fix) (d : Cursor) → 0 < length left → record_at (cursor at left) ≡ Ok (fixes, d) → records_from (suc n) (cursor at left) ≡ with_front (record { at = at; fixes = fixes }) (records_from n d)
-unfolding records_from
-more n at left fixes d some is = rw (lt-ltb 0 (length left) some, is) refl
+abbrev item : ℕ → List Fix → Option (Record × Unit {0})
+item at fixes = Some (record { at = at; fixes = fixes }, tt)
 
-records_mean : (ws : List Written) (n at : ℕ) → length ws ≤ n → Each RecordFits ws → Means (records_from n (cursor at (flat_map record_spelling ws))) (flat_map fixes_written ws)
-unfolding records_from
-records_mean [] zero at few fits = record { fixes_are = refl; faultless = refl }
-records_mean [] (suc n) at few fits = record { fixes_are = refl; faultless = refl }
-records_mean (w ∷ ws) zero at few fits = absurd (omega arith)
-records_mean (w ∷ ws) (suc n) at few fits =
+next_ends : (at : ℕ) → next_record tt (cursor at []) ≡ Ok (None, cursor at [])
+unfolding next_record
+next_ends at = refl
+
+next_reads : (c d : Cursor) (fixes : List Fix) → 0 < length c.left → record_at c ≡ Ok (fixes, d) → next_record tt c ≡ Ok (item c.at fixes, d)
+unfolding next_record
+next_reads c d fixes some is = other (eqb (length c.left) 0) (ends c) (record_at c >>= λ read. done (item c.at read.0, read.1)) (not_zero (length c.left) some) ∙ rw is refl
+
+records_mean : (ws : List Written) (at : ℕ) → Each RecordFits ws → Means (many next_record tt (cursor at (flat_map record_spelling ws))) (flat_map fixes_written ws)
+records_mean [] at fits =
+    let none = many_ends next_record tt (cursor at []) (cursor at []) (next_ends at) in
+    subst (λ (m : Many Record). Means m []) (sym none) (record { fixes_are = refl; faultless = refl })
+records_mean (w ∷ ws) at fits =
     let bytes = record_spelling w in
     let tail = flat_map record_spelling ws in
-    let here = more n at (bytes ++ tail) (fixes_written w) (cursor (at + length bytes) tail) (omega arith) (record_reads w fits.0 at tail) in
-    let others = records_mean ws n (at + length bytes) (omega arith) fits.1 in
-    subst (λ (r : Records). Means r (fixes_written w ++ flat_map fixes_written ws)) (sym here)
+    let here = next_reads (cursor at (bytes ++ tail)) (cursor (at + length bytes) tail) (fixes_written w) (omega arith) (record_reads w fits.0 at tail) in
+    let step = many_more next_record record_shortens tt (cursor at (bytes ++ tail)) (cursor (at + length bytes) tail) (record { at = at; fixes = fixes_written w }, tt) here in
+    let others = records_mean ws (at + length bytes) fits.1 in
+    subst (λ (m : Many Record). Means m (fixes_written w ++ flat_map fixes_written ws)) (sym step)
     (record { fixes_are = ap (λ (x : List Fix). fixes_written w ++ x) others.fixes_are; faultless = others.faultless })
 
-count : (ws : List Written) → length ws ≤ length (flat_map record_spelling ws)
-count [] = omega arith
-count (w ∷ ws) = let others = count ws in omega (arith, length-append (record_spelling w) (flat_map record_spelling ws))
-
 pub records_again : RecordsReadAgain
-unfolding records_in
-records_again ws fits =
-    let means = records_mean ws (length (flat_map record_spelling ws)) 0 (count ws) fits in
-    (means.fixes_are, means.faultless)
+records_again ws fits = let means = records_mean ws 0 fits in (means.fixes_are, means.faultless)
 
 -- ---- groups
 
-group_step : (n before at times : ℕ) (left bytes tail others : List ℕ) → number_at 2 left 0 ≡ times → number_at 2 left 2 ≡ length bytes → 4 + length bytes ≤ length left →
-    before + times * length bytes ≤ PAGE_SIZE → take (length bytes) (drop 4 left) ≡ bytes → drop (4 + length bytes) left ≡ tail →
-    expansion_from n (before + times * length bytes) (cursor (at + (4 + length bytes)) tail) ≡ Ok others → expansion_from (suc n) before (cursor at left) ≡ Ok (repeat times bytes ++ others)
-unfolding expansion_from
-group_step n before at times left bytes tail others times-is len-is fits small data-is tail-is next =
-    rw (times-is, len-is, lt-ltb 0 (length left) (omega arith), le-ltb (length left) (4 + length bytes) fits, le-ltb PAGE_SIZE (before + times * length bytes) small, data-is, tail-is, next) refl
+abbrev behind_times : ℕ → List ℕ × Cursor → Read Group
+behind_times times bytes = Ok (record { times = times; bytes = bytes.0 }, bytes.1)
 
-length-repeat : (n : ℕ) (xs : List ℕ) → length (repeat n xs) ≡ n * length xs
-length-repeat zero xs = omega arith
-length-repeat (suc n) xs = let rest = length-repeat n xs in let product = suc-mul n (length xs) in omega (arith, rest, product, length-append xs (repeat n xs))
-
-groups_read : (gs : List Group) (n before at : ℕ) → length gs ≤ n → Each GroupFits gs → before + length (groups_data gs) ≤ PAGE_SIZE → expansion_from n before (cursor at (groups_spelling gs)) ≡ Ok (groups_data gs)
-unfolding expansion_from
-groups_read [] zero before at few fits small = refl
-groups_read [] (suc n) before at few fits small = refl
-groups_read (g ∷ gs) zero before at few fits small = absurd (omega arith)
-groups_read (g ∷ gs) (suc n) before at few fits small =
+fields_read : (g : Group) → GroupFits g → ReadsAs group_fields (group_spelling g) g
+unfolding group_fields
+fields_read g fits at rest =
     let bytes = g.bytes in
-    let tail = groups_spelling gs in
-    let here = group_spelling g in
-    let len = length-append here tail in
-    let size = length-repeat g.times bytes in
-    let sum = length-append (repeat g.times bytes) (groups_data gs) in
-    let room : before + g.times * length bytes ≤ PAGE_SIZE = omega (arith, size, sum) in
-    let rest = groups_read gs n (before + g.times * length bytes) (at + (4 + length bytes)) (omega arith) fits.1 (omega (arith, size, sum)) in
-    let spelled : length here ≡ 4 + length bytes = omega arith in
-    group_step n before at g.times (here ++ tail) bytes tail (groups_data gs)
-    (little-little_bytes 2 g.times fits.0.times) (little-little_bytes 2 (length bytes) fits.0.bytes) (omega (arith, len)) room
-    (take_at bytes tail (length bytes) refl) (drop_at here tail (4 + length bytes) spelled) rest
+    let head = little_bytes 2 (length bytes) in
+    let last : ReadsAs (λ d. number 2 d >>= λ len. text len.0 len.1 >>= behind_times g.times) (head ++ bytes) g
+    = bind_reads (number 2) (λ len. text len.0 len.1 >>= behind_times g.times) head bytes (length bytes) g (number_reads 2 (length bytes) fits.bytes)
+    (done_reads (text (length bytes)) (λ b. record { times = g.times; bytes = b }) bytes bytes (text_reads bytes)) in
+    let all = bind_reads (number 2) (λ times. number 2 times.1 >>= λ len. text len.0 len.1 >>= behind_times times.0) (little_bytes 2 g.times) (head ++ bytes) g.times g (number_reads 2 g.times fits.times) last at rest in
+    subst (λ (x : List ℕ). group_fields (cursor at (x ++ rest)) ≡ Ok (g, cursor (at + length x) rest)) (sym (append_assoc (little_bytes 2 g.times) head bytes)) all
 
-groups_count : (gs : List Group) → length gs ≤ length (groups_spelling gs)
-groups_count [] = omega arith
-groups_count (g ∷ gs) = let others = groups_count gs in omega (arith, length-append (group_spelling g) (groups_spelling gs))
+-- what is made of the fields of a group that stands at a place
+abbrev after : ℕ → ℕ → Read Group → Read (Option (Group × ℕ))
+after before at fields = fault_at at fields >>= λ group. cond (ltb PAGE_SIZE (before + group.0.times * length group.0.bytes)) (Err (fault TooLong at)) (done (Some (group.0, before + group.0.times * length group.0.bytes), group.1))
+
+group_read : (before at : ℕ) (g : Group) (rest : List ℕ) → GroupFits g → before + g.times * length g.bytes ≤ PAGE_SIZE →
+    group_at before (cursor at (group_spelling g ++ rest)) ≡ Ok (Some (g, before + g.times * length g.bytes), cursor (at + length (group_spelling g)) rest)
+unfolding group_at
+group_read before at g rest fits small =
+    let given = before + g.times * length g.bytes in
+    let end = cursor (at + length (group_spelling g)) rest in
+    let here = fields_read g fits at rest in
+    let limit = le-ltb PAGE_SIZE given small in
+    other (eqb (length (group_spelling g ++ rest)) 0) (ends (cursor at (group_spelling g ++ rest))) (after before at (group_fields (cursor at (group_spelling g ++ rest)))) (not_zero (length (group_spelling g ++ rest)) (omega arith))
+    ∙ ap (after before at) here
+    ∙ other (ltb PAGE_SIZE given) (Err (fault TooLong at)) (done (Some (g, given), end)) limit
+
+group_ends : (before at : ℕ) → group_at before (cursor at []) ≡ Ok (None, cursor at [])
+unfolding group_at
+group_ends before at = refl
+
+groups_read : (gs : List Group) (before at : ℕ) → Each GroupFits gs → before + length (groups_data gs) ≤ PAGE_SIZE → Whole (many group_at before (cursor at (groups_spelling gs))) gs []
+groups_read [] before at fits small = none_whole group_at before (cursor at []) at [] (group_ends before at)
+groups_read (g ∷ gs) before at fits small =
+    let bytes = group_spelling g in
+    let tail = groups_spelling gs in
+    let size = length-repeat g.times g.bytes in
+    let sum = length-append (group_data g) (groups_data gs) in
+    more_whole group_at group_shortens before (cursor at (bytes ++ tail)) (cursor (at + length bytes) tail) (g, before + g.times * length g.bytes) gs [] (group_read before at g tail fits.0 (omega (arith, size, sum)))
+    (groups_read gs (before + g.times * length g.bytes) (at + length bytes) fits.1 (omega (arith, size, sum)))
 
 pub groups_again : GroupsReadAgain
-unfolding expansion
-groups_again gs fits small = groups_read gs (length (groups_spelling gs)) 0 0 (groups_count gs) fits (omega arith)
+groups_again gs fits small =
+    let read = whole_is (many group_at 0 (cursor 0 (groups_spelling gs))) gs [] (groups_read gs 0 0 fits (omega arith)) in
+    ap (λ (r : Result (List Group) LxRefusal). r >>= λ groups. Ok (groups_data groups)) read

@@ -18,7 +18,8 @@ use Rattle.lx_model.specs.Reading.{fault, cursor, number, Read, ◌>>=◌}
 use Rattle.lx_model.specs.Sources.{SourceKind, source_byte, source_of_byte, size_of}
 use Rattle.lx_model.specs.RecordFields.{ADDITIVE, CHAIN, has, number_width, target_width, ordinal_width, additive_width, internal_at, target_of_kind, target_at, additive_at, reaches_page, offset_at, offsets_at}
 use Rattle.lx_model.specs.Records.{fixes_at_offsets, single_at, list_at, behind_source, record_at}
-use Rattle.lx_model.specs.Spelling.{Sizes, Written, target_code, flags_of, flags_byte, internal_spelling, target_spelling, additive_spelling, offset_spelling, offsets_spelling, record_spelling, fixes_written, InternalFits, TargetFits, AdditiveFits, OffsetFits, CountFits, AliasFits, RecordFits}
+use Rattle.lx_model.specs.RecordSpelling.{Sizes, Written, target_code, flags_of, flags_byte, internal_spelling, target_spelling, additive_spelling, offset_spelling, offsets_spelling, record_spelling, fixes_written, InternalFits, TargetFits, AdditiveFits, OffsetFits, CountFits, AliasFits, RecordFits}
+use Rattle.lx_model.proofs.Steps.{then_ok, chosen, other}
 use Rattle.lx_model.proofs.ReadsAs.{ReadsAs, number_reads, byte_reads, bind_reads, done_reads}
 
 -- ---- the source byte
@@ -230,17 +231,6 @@ word_again source (pos n) h = to_z_pos w16 (omega arith)
 word_again source (negsuc n) h = let small = size_small source in to_z-neg w16 n (omega arith)
 
 -- a step that is followed by another
-pub then_ok : {A B : Type 0} (r : Result A LxRefusal) (f : A → Result B LxRefusal) (x : A) (y : Result B LxRefusal) → r ≡ Ok x → f x ≡ y → (r >>= f) ≡ y
-then_ok r f x y is next = rw is next
-
-pub chosen : {A : Type 0} (b : Bool) (r s : Result A LxRefusal) → b ≡ true → cond b r s ≡ r
-chosen true r s h = refl
-chosen false r s h = absurd cc
-
-pub other : {A : Type 0} (b : Bool) (r s : Result A LxRefusal) → b ≡ false → cond b r s ≡ s
-other true r s h = absurd cc
-other false r s h = refl
-
 offset_reads : (source : Source) (offset : ℤ) → OffsetFits source offset → ReadsAs (offset_at source) (offset_spelling offset) offset
 offset_reads source offset h at rest =
     let word = cast_unsigned w16 offset in

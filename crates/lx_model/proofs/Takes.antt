@@ -8,7 +8,7 @@ use Rattle.lx_bytes.specs.LittleEndian.{AreBytes, little, little_bytes}
 use Rattle.lx_bytes.proofs.Numbers.{little_bytes-little}
 use Rattle.lx_types.specs.declared.refusal.LxKind.TheVariants.{Short}
 use Rattle.lx_model.specs.Reading.{fault, text, number}
-use Rattle.lx_model.proofs.Entries.{guard_ok}
+use Rattle.lx_model.proofs.Steps.{guard_ok}
 
 -- The bytes of c are these bytes and then those of d.
 pub record Takes (c : Cursor) (bytes : List ℕ) (d : Cursor) : Type 0 where

@@ -1,6 +1,7 @@
 -- The entry table: bundles of entry points with consecutive ordinals.
 -- LX: "Entry Table".
-use Rattle.std.specs.Prelude.{ℕ, zero, suc, ◌+◌, ◌==◌, ◌&&◌, ◌%◌, not, Bool, List, [], ◌∷◌, ◌++◌, length, drop, Result, Ok, Err, Option, nat_lt, nat_le, if◌then◌else◌}
+use Rattle.std.specs.Prelude.{ℕ, zero, suc, ◌+◌, ◌==◌, ◌&&◌, ◌%◌, not, Bool, List, [], ◌∷◌, drop, Some, Result, Ok, Err, Option, nat_lt, nat_le, if◌then◌else◌}
+use Rattle.std.specs.List.{flat_map}
 use Rattle.lx_bytes.specs.Cursor.{Cursor}
 use Rattle.lx_types.specs.declared.refusal.LxRefusal.{LxRefusal}
 use Rattle.lx_types.specs.declared.refusal.LxKind.TheVariants as kinds
@@ -8,7 +9,7 @@ use Rattle.lx_types.specs.declared.entry.EntryHead.{EntryHead}
 use Rattle.lx_types.specs.declared.entry.EntryHead.TheVariants.{At, Gate286, Forward}
 use Rattle.lx_types.specs.declared.entry.FwdKey.{FwdKey}
 use Rattle.lx_types.specs.declared.entry.FwdKey.TheVariants as keys
-use Rattle.lx_model.specs.Reading.{fault, cursor, number, Read, ◌>>=◌, placed, fault_of}
+use Rattle.lx_model.specs.Reading.{fault, cursor, number, Read, ◌>>=◌, Step, ends, many, whole, placed, fault_of}
 use Rattle.lx_model.specs.Header.{table, object_count, import_count}
 
 -- an ordinal and what it stands for
@@ -79,21 +80,19 @@ bundle_of_type (suc (suc (suc zero))) objects imports bundle n ordinal c = objec
 bundle_of_type (suc (suc (suc (suc zero)))) objects imports bundle n ordinal c = number 2 c >>= λ reserved. bundle_entries n ordinal (forward_entry imports) reserved.1
 bundle_of_type (suc (suc (suc (suc (suc k))))) objects imports bundle n ordinal c = Err (fault kinds.EntryTable bundle)
 
--- The bundles that follow ordinal `last`, up to a count of 0. A bundle whose ordinals pass the last one
--- is wrong at its count. There are at most n bundles; each takes a byte or more.
-unfoldable pub entries_from : ℕ → ℕ → ℕ → ℕ → Cursor → Result (List Numbered) LxRefusal
-entries_from zero objects imports last c = Ok []
-entries_from (suc n) objects imports last c = do
+-- A bundle, behind the last ordinal of those before it: a count byte, which ends the table where it is 0, a
+-- type byte, and the entries. A bundle whose ordinals pass the last one is wrong at its count.
+unfoldable pub bundle_at : ℕ → ℕ → Step ℕ (List Numbered)
+bundle_at objects imports last c = do
   count ← number 1 c
-  if count.0 == 0 then Ok [] else if nat_lt LAST_ORDINAL (last + count.0) then Err (fault kinds.EntryTable c.at) else do
+  if count.0 == 0 then ends count.1 else if nat_lt LAST_ORDINAL (last + count.0) then Err (fault kinds.EntryTable c.at) else do
     type ← number 1 count.1
-    bundle ← bundle_of_type type.0 objects imports c.at count.0 (last + 1) type.1
-    others ← entries_from n objects imports (last + count.0) bundle.1
-    Ok (bundle.0 ++ others)
+    entries ← bundle_of_type type.0 objects imports c.at count.0 (last + 1) type.1
+    Ok (Some (entries.0, last + count.0), entries.1)
 
 -- the entries of a table, for so many objects and import modules; places are places in the table
-unfoldable pub entries_in : ℕ → ℕ → List ℕ → Result (List Numbered) LxRefusal
-entries_in objects imports bytes = entries_from (suc (length bytes)) objects imports 0 (cursor 0 bytes)
+abbrev pub entries_in : ℕ → ℕ → List ℕ → Result (List Numbered) LxRefusal
+entries_in objects imports bytes = whole (many (bundle_at objects imports) 0 (cursor 0 bytes)) >>= λ bundles. Ok (flat_map (λ es. es) bundles)
 
 -- ---- the table of a module
 

@@ -1,13 +1,13 @@
 -- Iterated data: groups of bytes that are repeated, and what they give.
 -- LX: "Iterated Data Pages".
-use Rattle.std.specs.Prelude.{ℕ, zero, suc, ◌+◌, ◌*◌, ◌<◌, ◌^◌, List, [], ◌++◌, length, take, drop, Result, Ok, Err, nat_lt, if◌then◌else◌}
+use Rattle.std.specs.Prelude.{ℕ, ◌+◌, ◌*◌, ◌<◌, ◌^◌, ◌==◌, List, ◌++◌, length, Some, Result, Ok, Err, nat_lt, if◌then◌else◌}
 use Rattle.std.specs.List.{repeat, flat_map}
-use Rattle.lx_bytes.specs.Cursor.{Cursor, advance}
+use Rattle.lx_bytes.specs.Cursor.{Cursor}
 use Rattle.lx_bytes.specs.LittleEndian.{little_bytes}
 use Rattle.lx_types.specs.declared.refusal.LxRefusal.{LxRefusal}
-use Rattle.lx_types.specs.declared.refusal.LxKind.TheVariants.{Short, TooLong}
+use Rattle.lx_types.specs.declared.refusal.LxKind.TheVariants.{TooLong}
 use Rattle.lx_types.specs.declared.object.TheConstants.{PAGE_SIZE}
-use Rattle.lx_model.specs.Reading.{fault, number_at, cursor, ◌>>=◌}
+use Rattle.lx_model.specs.Reading.{fault, cursor, text, number, Read, ◌>>=◌, Step, ends, many, whole}
 
 -- ---- what is written
 
@@ -37,22 +37,28 @@ pub record GroupFits (g : Group) : Type 0 where
 
 -- ---- what is read
 
--- The bytes that groups give, of which `before` stand before these. A group that passes the end of the
--- data is short; then one with which there are more bytes than a page has is too long. There are at
--- most n groups; each takes four bytes or more.
-unfoldable pub expansion_from : ℕ → ℕ → Cursor → Result (List ℕ) LxRefusal
-expansion_from zero before c = Ok []
-expansion_from (suc n) before c =
-    let times = number_at 2 c.left 0 in
-    let len = number_at 2 c.left 2 in
-    if nat_lt 0 (length c.left)
-    then if nat_lt (length c.left) (4 + len)
-    then Err (fault Short c.at)
-    else if nat_lt PAGE_SIZE (before + times * len)
-    then Err (fault TooLong c.at)
-    else (expansion_from n (before + times * len) (advance (4 + len) c) >>= λ others. Ok (repeat times (take len (drop 4 c.left)) ++ others))
-    else Ok []
+-- a count word, a length word, and as many bytes
+unfoldable pub group_fields : Cursor → Read Group
+group_fields c = do
+  times ← number 2 c
+  len ← number 2 times.1
+  bytes ← text len.0 len.1
+  Ok (record { times = times.0; bytes = bytes.0 }, bytes.1)
+
+-- a fault of a part stands where the whole begins
+abbrev pub fault_at : {A : Type 0} → ℕ → Result A LxRefusal → Result A LxRefusal
+fault_at at (Ok x) = Ok x
+fault_at at (Err e) = Err (fault e.kind at)
+
+-- A group, of so many bytes that are given before it. One that passes the end of the data is short; then one
+-- with which there are more bytes than a page has is too long. The data ends with its last group.
+unfoldable pub group_at : Step ℕ Group
+group_at before c =
+    if length c.left == 0 then ends c else do
+      group ← fault_at c.at (group_fields c)
+      let given = before + group.0.times * length group.0.bytes in
+          if nat_lt PAGE_SIZE given then Err (fault TooLong c.at) else Ok (Some (group.0, given), group.1)
 
 -- the bytes that iterated data gives; places are places in the data
-unfoldable pub expansion : List ℕ → Result (List ℕ) LxRefusal
-expansion bytes = expansion_from (length bytes) 0 (cursor 0 bytes)
+abbrev pub expansion : List ℕ → Result (List ℕ) LxRefusal
+expansion bytes = whole (many group_at 0 (cursor 0 bytes)) >>= λ groups. Ok (groups_data groups)

@@ -6,12 +6,13 @@ pub mod NameTables
 pub mod EntryTable
 pub mod Bundles
 pub mod Sources
-pub mod Spelling
 pub mod RecordFields
 pub mod Records
+pub mod RecordSpelling
 pub mod FixupPages
 pub mod Module
 pub mod Laws
+pub mod TableLaws
 pub mod Library
 pub mod Entries
 pub mod Fixed

@@ -1,24 +1,24 @@
 -- What an LX file means: its parts, and its first fault.
-use Rattle.std.specs.Prelude.{◌≡◌, ℕ, ◌==◌, ◌&&◌, not, Bool, true, false, List, [], ◌∷◌, ◌++◌, length, map, filter, Option, Some, None, is_some, if◌then◌else◌}
+use Rattle.std.specs.Prelude.{◌≡◌, ℕ, ◌+◌, ◌==◌, ◌&&◌, not, Bool, true, false, List, [], ◌∷◌, ◌++◌, map, filter, Option, Some, None, is_some, if◌then◌else◌}
 use Rattle.std.specs.List.{range_with_len, flat_map}
 use Rattle.lx_types.specs.declared.refusal.LxRefusal.{LxRefusal}
 use Rattle.lx_types.specs.declared.refusal.LxKind.TheVariants.{BadTarget}
 use Rattle.lx_types.specs.declared.fix.FixTarget.{FixTarget}
 use Rattle.lx_types.specs.declared.fix.FixTarget.TheVariants.{Internal, Ordinal, Named, Own}
 use Rattle.lx_types.specs.declared.parts.Parts.{Parts}
-use Rattle.lx_types.specs.Parts.{span, proc_name_of, entry_of}
-use Rattle.lx_model.specs.Reading.{fault, first, first_of, ◌then◌, value_or}
-use Rattle.lx_model.specs.Header.{field, table, page_count, start_of, start_fault, header_fault}
+use Rattle.lx_types.specs.Parts.{span, name_at, entry_of}
+use Rattle.lx_model.specs.Reading.{fault, first, first_of, ◌then◌, Many, fault_of, value_or}
+use Rattle.lx_model.specs.Header.{field, table, page_count, object_count, import_count, start_of, start_fault, header_fault}
 use Rattle.lx_model.specs.Tables.{objects_of, objects_fault, pages_of, pages_fault}
 use Rattle.lx_model.specs.NameTables.{name_of, names_after_first, resident_names, other_names, import_names, resident_fault, others_fault, imports_fault}
-use Rattle.lx_model.specs.EntryTable.{names_one_of, entries_of, entries_fault}
+use Rattle.lx_model.specs.EntryTable.{Numbered, names_one_of, entries_of, entries_fault}
 use Rattle.lx_model.specs.FixupPages.{spans_of, records_span, spans_fault}
-use Rattle.lx_model.specs.Records.{Record, Records, records_at, fixes_of}
+use Rattle.lx_model.specs.Records.{Record, records_at, fixes_of}
 
 -- ---- the targets that records name
 
 -- the records of entry k of the page table, from 0
-abbrev pub page_records : List ℕ → ℕ → Records
+abbrev pub page_records : List ℕ → ℕ → Many Record
 page_records file k = let s = records_span file k in records_at s.0 (span file s.0 s.1)
 
 -- the targets of all records, in the order of pages and of sources
@@ -67,24 +67,42 @@ parts_of file = record {
 
 -- ---- the first fault
 
+-- What targets name: so many objects and import modules, the names of the import procedures, which begin at a
+-- place of the file, and the entries.
+pub record Targets : Type 0 where
+  pub objects : ℕ
+  pub imports : ℕ
+  pub file : List ℕ
+  pub procs_at : ℕ
+  pub entries : List Numbered
+
+abbrev pub targets_in : List ℕ → Targets
+targets_in file = record {
+  objects = object_count file;
+  imports = import_count file;
+  file = file;
+  procs_at = table file 0x78;
+  entries = value_or [] (entries_of file);
+}
+
 -- A target's object, import or name is there, or its ordinal has an entry. Ordinals of other modules are
 -- not judged.
-abbrev pub is_target : Parts → FixTarget → Bool
-is_target m (Internal object offset) = names_one_of (length m.objects) object
-is_target m (Ordinal import ordinal) = names_one_of (length m.imports) import
-is_target m (Named import name_at) = names_one_of (length m.imports) import && is_some (proc_name_of m name_at)
-is_target m (Own ordinal) = is_some (entry_of m.entries ordinal)
+abbrev pub is_target : Targets → FixTarget → Bool
+is_target within (Internal object offset) = names_one_of within.objects object
+is_target within (Ordinal import ordinal) = names_one_of within.imports import
+is_target within (Named import name) = names_one_of within.imports import && is_some (name_at within.file (within.procs_at + name))
+is_target within (Own ordinal) = is_some (entry_of within.entries ordinal)
 
 -- A record with a source has one target, which is wrong at the record's first byte.
-abbrev pub target_fault : Parts → Record → Option LxRefusal
-target_fault m r = first (map (λ f. if is_target m f.target then None else Some (fault BadTarget r.at)) r.fixes)
+abbrev pub target_fault : Targets → Record → Option LxRefusal
+target_fault within r = first (map (λ f. if is_target within f.target then None else Some (fault BadTarget r.at)) r.fixes)
 
 -- the first fault of a page's records: a target of the good ones, or what follows them
-abbrev pub records_fault : Parts → Records → Option LxRefusal
-records_fault m records = first (map (target_fault m) records.good) then records.fault
+abbrev pub records_fault : Targets → Many Record → Option LxRefusal
+records_fault within records = first (map (target_fault within) records.items) then fault_of records.end
 
 abbrev pub page_records_fault : List ℕ → ℕ → Option LxRefusal
-page_records_fault file k = records_fault (parts_of file) (page_records file k)
+page_records_fault file k = records_fault (targets_in file) (page_records file k)
 
 -- The first fault of a file, in this order. What stands behind a fault is not judged.
 unfoldable pub LxFault : List ℕ → Option LxRefusal

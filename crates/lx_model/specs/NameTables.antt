@@ -1,11 +1,12 @@
 -- The resident and the non-resident name table, and the import tables.
 -- LX: "Resident or Non-resident Name Table Entry", "Import Module Name Table", "Import Procedure Name
 -- Table".
-use Rattle.std.specs.Prelude.{ℕ, zero, suc, ◌==◌, List, [], ◌∷◌, length, take, drop, Option, Some, None, Result, Ok, Err, if◌then◌else◌}
-use Rattle.lx_bytes.specs.Cursor.{Cursor}
+use Rattle.std.specs.Prelude.{ℕ, zero, suc, ◌<◌, ◌^◌, ◌==◌, List, [], ◌∷◌, ◌++◌, length, take, drop, Option, Some, None, Result, Ok, Err, if◌then◌else◌}
+use Rattle.std.specs.List.{flat_map}
+use Rattle.lx_bytes.specs.LittleEndian.{little_bytes}
 use Rattle.lx_types.specs.declared.refusal.LxRefusal.{LxRefusal}
 use Rattle.lx_types.specs.declared.refusal.LxKind.TheVariants as kinds
-use Rattle.lx_model.specs.Reading.{fault, cursor, text, number, Read, ◌>>=◌, placed, fault_of, value_or}
+use Rattle.lx_model.specs.Reading.{fault, cursor, text, number, ◌>>=◌, Step, ends, many, whole, placed, fault_of, value_or}
 use Rattle.lx_model.specs.Header.{field, table, import_count}
 
 -- ---- a table of names with ordinals
@@ -14,28 +15,33 @@ use Rattle.lx_model.specs.Header.{field, table, import_count}
 abbrev pub Named : Type 0
 Named = List ℕ × ℕ
 
--- An entry is a length byte, as many bytes, and an ordinal word; a length of 0 ends the table.
-unfoldable pub name_entry : Cursor → Read (Option Named)
-name_entry c = do
+-- An entry is a length byte, as many bytes, and an ordinal word; a length of 0 ends the table. Nothing has
+-- to be known of the entries before it.
+unfoldable pub name_entry : Step (Unit {0}) Named
+name_entry known c = do
   len ← number 1 c
-  if len.0 == 0 then Ok (None, len.1) else do
+  if len.0 == 0 then ends len.1 else do
     name ← text len.0 len.1
     ordinal ← number 2 name.1
-    Ok (Some (name.0, ordinal.0), ordinal.1)
-
--- at most n entries; each takes a byte or more
-unfoldable pub names_from : ℕ → Cursor → Result (List Named) LxRefusal
-names_from zero c = Ok []
-names_from (suc n) c = do
-  entry ← name_entry c
-  elim entry.0 [
-    | None ↦ Ok []
-    | Some named ↦ names_from n entry.1 >>= λ others. Ok (named ∷ others)
-  ]
+    Ok (Some ((name.0, ordinal.0), tt), ordinal.1)
 
 -- the names of a table; places are places in the table
-unfoldable pub names_in : List ℕ → Result (List Named) LxRefusal
-names_in bytes = names_from (suc (length bytes)) (cursor 0 bytes)
+abbrev pub names_in : List ℕ → Result (List Named) LxRefusal
+names_in bytes = whole (many name_entry tt (cursor 0 bytes))
+
+-- ---- how it is written
+
+abbrev pub name_spelling : Named → List ℕ
+name_spelling n = length n.0 ∷ n.0 ++ little_bytes 2 n.1
+
+-- a table ends with a length of 0
+abbrev pub names_spelling : List Named → List ℕ
+names_spelling ns = flat_map name_spelling ns ++ 0 ∷ []
+
+pub record NameFits (n : Named) : Type 0 where
+  pub some : 0 < length n.0
+  pub short : length n.0 < 256
+  pub ordinal : n.1 < 2 ^ 16
 
 -- ---- the two tables of a module
 
@@ -61,19 +67,27 @@ others_fault file = fault_of (other_names file)
 
 -- ---- import modules
 
--- n names, none of them empty: a length byte, and as many bytes
-unfoldable pub imports_from : ℕ → Cursor → Result (List (List ℕ)) LxRefusal
-imports_from zero c = Ok []
-imports_from (suc n) c = do
+-- A name that is not empty: a length byte, and as many bytes. What is known is how many names there are
+-- from here on.
+unfoldable pub import_entry : Step ℕ (List ℕ)
+import_entry zero c = ends c
+import_entry (suc n) c = do
   len ← number 1 c
   if len.0 == 0 then Err (fault kinds.ImportTable c.at) else do
     name ← text len.0 len.1
-    others ← imports_from n name.1
-    Ok (name.0 ∷ others)
+    Ok (Some (name.0, n), name.1)
 
 -- the names of n import modules; places are places in the table
 abbrev pub imports_in : ℕ → List ℕ → Result (List (List ℕ)) LxRefusal
-imports_in n bytes = imports_from n (cursor 0 bytes)
+imports_in n bytes = whole (many import_entry n (cursor 0 bytes))
+
+-- how a name is written
+abbrev pub import_spelling : List ℕ → List ℕ
+import_spelling name = length name ∷ name
+
+pub record ImportFits (name : List ℕ) : Type 0 where
+  pub some : 0 < length name
+  pub short : length name < 256
 
 abbrev pub import_names : List ℕ → Result (List (List ℕ)) LxRefusal
 import_names file = placed (table file 0x70) (imports_in (import_count file) (drop (table file 0x70) file))

@@ -1,5 +1,5 @@
 -- Reading from left to right, with the first fault that is met.
-use Rattle.std.specs.Prelude.{ℕ, ◌+◌, List, [], ◌∷◌, length, take, drop, map, Option, Some, None, Result, Ok, Err, nat_lt, if◌then◌else◌}
+use Rattle.std.specs.Prelude.{◌≡◌, ℕ, zero, suc, ◌+◌, ◌<◌, List, [], ◌∷◌, length, take, drop, map, Option, Some, None, Result, Ok, Err, nat_lt, if◌then◌else◌}
 use Rattle.std.specs.List.{range_with_len}
 use Rattle.lx_bytes.specs.Cursor.{Cursor, advance}
 use Rattle.lx_bytes.specs.LittleEndian.{little}
@@ -58,6 +58,65 @@ text n c = if nat_lt (length c.left) n then Err (fault Short c.at) else Ok (take
 
 abbrev pub number : ℕ → Cursor → Read ℕ
 number n c = if nat_lt (length c.left) n then Err (fault Short c.at) else Ok (little (take n c.left), advance n c)
+
+-- ---- many, one behind the other
+
+-- What a step of a table reads behind a cursor, where something is known: an item and what is known behind
+-- it, or that the table ends.
+abbrev pub Step : Type 0 → Type 0 → Type 0
+Step S A = S → Cursor → Read (Option (A × S))
+
+abbrev pub ends : {S A : Type 0} → Cursor → Read (Option (A × S))
+ends c = Ok (None, c)
+
+-- The items of a table up to its end, and the cursor behind it; or up to the first fault, and that fault.
+pub record Many (A : Type 0) : Type 0 where
+  pub items : List A
+  pub end : Result Cursor LxRefusal
+
+abbrev pub ends_at : {A : Type 0} → Cursor → Many A
+ends_at c = record { items = []; end = Ok c }
+
+abbrev pub faulty : {A : Type 0} → LxRefusal → Many A
+faulty e = record { items = []; end = Err e }
+
+abbrev pub with_front : {A : Type 0} → A → Many A → Many A
+with_front x others = record { items = x ∷ others.items; end = others.end }
+
+abbrev pub behind_item : {S A : Type 0} → (S → Cursor → Many A) → Cursor → Option (A × S) → Many A
+behind_item others c None = ends_at c
+behind_item others c (Some item) = with_front item.0 (others item.1 c)
+
+abbrev pub behind_step : {S A : Type 0} → (S → Cursor → Many A) → Read (Option (A × S)) → Many A
+behind_step others (Ok read) = behind_item others read.1 read.0
+behind_step others (Err e) = faulty e
+
+-- what at most n steps read
+unfoldable pub many_from : {S A : Type 0} → Step S A → ℕ → S → Cursor → Many A
+many_from step zero known c = ends_at c
+many_from step (suc n) known c = behind_step (many_from step n) (step known c)
+
+-- What the steps read, one behind the other, up to the one that ends. Each step takes a byte or more, so
+-- that they are never more than the bytes.
+unfoldable pub many : {S A : Type 0} → Step S A → S → Cursor → Many A
+many step known c = many_from step (suc (length c.left)) known c
+
+-- What stands behind the first step decides what many give: nothing where the step ends; the item and what
+-- is read behind it; the step's fault.
+abbrev pub Shortens : {S A : Type 0} → Step S A → Type 0
+Shortens {S} {A} step = (known : S) (c d : Cursor) (item : A × S) → step known c ≡ Ok (Some item, d) → length d.left < length c.left
+
+pub record OneByOne {S A : Type 0} (step : Step S A) : Type 0 where
+  pub shorter : Shortens step
+  pub none : (known : S) (c d : Cursor) → step known c ≡ Ok (None, d) → many step known c ≡ ends_at d
+  pub more : (known : S) (c d : Cursor) (item : A × S) → step known c ≡ Ok (Some item, d) → many step known c ≡ with_front item.0 (many step item.1 d)
+  pub wrong : (known : S) (c : Cursor) (e : LxRefusal) → step known c ≡ Err e → many step known c ≡ faulty e
+
+-- the items of a table that is read whole, or its fault
+abbrev pub whole : {A : Type 0} → Many A → Result (List A) LxRefusal
+whole m = m.end >>= λ _. Ok m.items
+
+-- ---- tables of a file
 
 -- What is read of a table that stands at a place of the file, by itself: a fault's place in the table
 -- becomes one in the file.

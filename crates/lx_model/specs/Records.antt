@@ -1,13 +1,12 @@
 -- Fixup records: how records are read up to the first fault.
 -- LX: "Fixup Record Table".
-use Rattle.std.specs.Prelude.{ℕ, zero, suc, ◌+◌, List, [], ◌∷◌, length, map, Option, option_map, Some, None, Ok, Err, nat_lt, if◌then◌else◌, ℤ}
+use Rattle.std.specs.Prelude.{ℕ, ◌==◌, List, [], ◌∷◌, length, map, Option, Some, None, Ok, Err, if◌then◌else◌, ℤ}
 use Rattle.std.specs.List.{flat_map}
 use Rattle.lx_bytes.specs.Cursor.{Cursor}
-use Rattle.lx_types.specs.declared.refusal.LxRefusal.{LxRefusal}
 use Rattle.lx_types.specs.declared.refusal.LxKind.TheVariants as kinds
 use Rattle.lx_types.specs.declared.fix.FixTarget.{FixTarget}
 use Rattle.lx_types.specs.declared.fix.Fix.{Fix}
-use Rattle.lx_model.specs.Reading.{fault, cursor, number, Read, ◌>>=◌}
+use Rattle.lx_model.specs.Reading.{fault, cursor, number, Read, ◌>>=◌, Step, ends, Many, many}
 use Rattle.lx_model.specs.Sources.{SourceKind, source_of_byte}
 use Rattle.lx_model.specs.RecordFields.{CHAIN, has, target_at, additive_at, offset_at, offsets_at}
 
@@ -55,44 +54,21 @@ pub record Record : Type 0 where
   pub at : ℕ
   pub fixes : List Fix
 
--- the records up to the first fault, and that fault
-pub record Records : Type 0 where
-  pub good : List Record
-  pub fault : Option LxRefusal
+-- Records stand up to the end of the bytes. Nothing has to be known of those before.
+unfoldable pub next_record : Step (Unit {0}) Record
+next_record known c =
+    if length c.left == 0 then ends c else do
+      fixes ← record_at c
+      Ok (Some (record { at = c.at; fixes = fixes.0 }, tt), fixes.1)
 
-abbrev pub none : Records
-none = record { good = []; fault = None }
+-- the records in bytes that stand at a place of the file, up to the first fault
+abbrev pub records_at : ℕ → List ℕ → Many Record
+records_at at bytes = many next_record tt (cursor at bytes)
 
-abbrev pub faulty : LxRefusal → Records
-faulty e = record { good = []; fault = Some e }
-
-abbrev pub with_front : Record → Records → Records
-with_front front others = record { good = front ∷ others.good; fault = others.fault }
-
--- at most n records; each takes a byte or more
-unfoldable pub records_from : ℕ → Cursor → Records
-records_from zero c = none
-records_from (suc n) c =
-    if nat_lt 0 (length c.left)
-    then elim (record_at c) [
-      | Ok read ↦ with_front (record { at = c.at; fixes = read.0 }) (records_from n read.1)
-      | Err e ↦ faulty e
-    ]
-    else none
-
--- the records in the bytes; places are places in the bytes
-unfoldable pub records_in : List ℕ → Records
-records_in bytes = records_from (length bytes) (cursor 0 bytes)
-
--- the same where the bytes stand at a place of the file
-abbrev pub placed_record : ℕ → Record → Record
-placed_record at r = record { at = at + r.at; fixes = r.fixes }
-
-abbrev pub records_at : ℕ → List ℕ → Records
-records_at at bytes =
-    let read = records_in bytes in
-    record { good = map (placed_record at) read.good; fault = option_map (λ e. fault e.kind (at + e.at)) read.fault }
+-- the same where places are places in the bytes
+abbrev pub records_in : List ℕ → Many Record
+records_in bytes = records_at 0 bytes
 
 -- the fixups of the records, in order
-abbrev pub fixes_of : Records → List Fix
-fixes_of records = flat_map (λ r. r.fixes) records.good
+abbrev pub fixes_of : Many Record → List Fix
+fixes_of records = flat_map (λ r. r.fixes) records.items

@@ -1,5 +1,5 @@
 -- Worked values: fixup records and iterated data.
-use Rattle.std.specs.Prelude.{◌≡◌, ℕ, List, [], ◌∷◌, Some, None, Ok, Err, true, false, ℤ, pos, negsuc}
+use Rattle.std.specs.Prelude.{◌≡◌, ℕ, ◌+◌, List, [], ◌∷◌, length, Ok, Err, true, false, ℤ, pos, negsuc}
 use Rattle.std.specs.List.{repeat}
 use Rattle.lx_types.specs.declared.refusal.LxRefusal.{LxRefusal}
 use Rattle.lx_types.specs.declared.refusal.LxKind.TheVariants.{Short, TooLong, BadSource, Straddle}
@@ -14,11 +14,11 @@ use Rattle.lx_model.specs.Iterated.{expansion}
 
 -- The bytes are records, of which the first stands at place 100h and has these fixups.
 abbrev pub IsRecord : List ℕ → List Fix → Type 0
-IsRecord bytes fixes = records_at 0x100 bytes ≡ record { good = record { at = 0x100; fixes = fixes } ∷ []; fault = None }
+IsRecord bytes fixes = records_at 0x100 bytes ≡ record { items = record { at = 0x100; fixes = fixes } ∷ []; end = Ok (record { at = 0x100 + length bytes; left = [] }) }
 
 -- the bytes are wrong at once
 abbrev pub IsNoRecord : List ℕ → LxRefusal → Type 0
-IsNoRecord bytes e = records_at 0x100 bytes ≡ record { good = []; fault = Some e }
+IsNoRecord bytes e = records_at 0x100 bytes ≡ record { items = []; end = Err e }
 
 abbrev fix : Source → ℤ → FixTarget → ℕ → Fix
 fix source offset target additive = record { source = source; alias = false; offset = offset; target = target; additive = additive }

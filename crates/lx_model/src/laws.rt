@@ -1,6 +1,7 @@
 //! What the definitions say together.
 
-ghost use Rattle.lx_model.specs.Laws.{MeansOne, MeansOrFails, FaultMeansNone, MeansSound, NamesReadAgain, ImportsReadAgain, EntriesReadAgain, RecordsReadAgain, GroupsReadAgain, RecordIsSpelled, NamesAreSpelled, ImportsAreSpelled, EntriesAreSpelled, GroupsAreSpelled, OrderIsReached, ReachedIsOrdered, LoopComesBack, ComesBackLoops};
+ghost use Rattle.lx_model.specs.Laws.{MeansOne, MeansOrFails, FaultMeansNone, MeansSound, OrderIsReached, ReachedIsOrdered, LoopComesBack, ComesBackLoops};
+ghost use Rattle.lx_model.specs.TableLaws.{NamesGoOn, ImportsGoOn, BundlesGoOn, RecordsGoOn, GroupsGoOn, OneTargetMore, NamesReadAgain, ImportsReadAgain, EntriesReadAgain, RecordsReadAgain, GroupsReadAgain, RecordIsSpelled, NamesAreSpelled, ImportsAreSpelled, EntriesAreSpelled, GroupsAreSpelled};
 
 /// A file has one meaning or one first fault.
 pub fn files_mean_one_module()
@@ -12,6 +13,21 @@ pub fn files_mean_one_module()
 /// The parts that a file lists are those of a `Module`.
 pub fn parts_are_sound()
     ensures { MeansSound }
+{}
+
+/// What stands behind the first item of a table is read as a table that begins there, and an item takes a
+/// byte or more.
+pub fn tables_go_on()
+    ensures names { NamesGoOn }
+    ensures imports { ImportsGoOn }
+    ensures bundles { BundlesGoOn }
+    ensures records { RecordsGoOn }
+    ensures groups { GroupsGoOn }
+{}
+
+/// The different targets of one target more.
+pub fn one_target_more()
+    ensures { OneTargetMore }
 {}
 
 /// Name tables, import modules, entry tables, fixup records and groups of iterated data that are written by the format

@@ -7,7 +7,7 @@ mod library;
 mod worked;
 
 pub use laws::{
-    files_mean_one_module, loops_come_back, order_is_reach, parts_are_sound, read_is_spelled,
-    written_is_read,
+    files_mean_one_module, loops_come_back, one_target_more, order_is_reach, parts_are_sound,
+    read_is_spelled, tables_go_on, written_is_read,
 };
 pub use library::{EntryFault, Health, Spot};

@@ -1,6 +1,6 @@
--- How names, import modules and fixup records are written, in sizes of the writer's choice. The readings
--- give back what was written: `Laws.antt`.
--- LX: "Resident or Non-resident Name Table Entry", "Import Module Name Table", "Fixup Record Table".
+-- How fixup records are written, in sizes of the writer's choice. The readings give back what was written:
+-- `Laws.antt`.
+-- LX: "Fixup Record Table".
 use Rattle.std.specs.Prelude.{◌≡◌, ℕ, ◌+◌, ◌<◌, ◌^◌, Bool, true, false, List, [], ◌∷◌, ◌++◌, length, if◌then◌else◌, ℤ, pos, negsuc}
 use Rattle.std.specs.List.{flat_map, AllByRecursion}
 use Rattle.std.specs.Int.{w16, cast_unsigned}
@@ -12,30 +12,8 @@ use Rattle.lx_types.specs.declared.fix.FixTarget.TheVariants as targets
 use Rattle.lx_types.specs.declared.fix.Fix.{Fix}
 use Rattle.lx_types.specs.declared.object.TheConstants.{PAGE_SIZE}
 use Rattle.lx_model.specs.Sources.{SourceKind, size_of, has_selector, source_byte}
-use Rattle.lx_model.specs.NameTables.{Named}
 use Rattle.lx_model.specs.RecordFields.{ADDITIVE, WIDE_TARGET, WIDE_ADDITIVE, WIDE_NUMBER, BYTE_ORDINAL, has, number_width, target_width, ordinal_width, additive_width}
 use Rattle.lx_model.specs.Records.{fixes_at_offsets}
-
--- ---- names
-
-abbrev pub name_spelling : Named → List ℕ
-name_spelling n = length n.0 ∷ n.0 ++ little_bytes 2 n.1
-
--- a table ends with a length of 0
-abbrev pub names_spelling : List Named → List ℕ
-names_spelling ns = flat_map name_spelling ns ++ 0 ∷ []
-
-pub record NameFits (n : Named) : Type 0 where
-  pub some : 0 < length n.0
-  pub short : length n.0 < 256
-  pub ordinal : n.1 < 2 ^ 16
-
-abbrev pub import_spelling : List ℕ → List ℕ
-import_spelling name = length name ∷ name
-
-pub record ImportFits (name : List ℕ) : Type 0 where
-  pub some : 0 < length name
-  pub short : length name < 256
 
 -- ---- records
 
