@@ -1,10 +1,13 @@
 -- A whole record's bytes are told from its length word, and bytes begin with one whole record at most.
-use Rattle.std.proofs.Common.{◌≡◌, ℕ, zero, suc, ◌+◌, ◌-◌, ◌^◌, ◌<◌, ◌≤◌, List, [], ◌∷◌, ◌++◌, length, take, drop, get_or, inl, inr, refl, sym, ap, ◌∙◌, arith, length-append}
+use Rattle.std.proofs.Common.{◌≡◌, ◌≢◌, ℕ, zero, suc, ◌+◌, ◌-◌, ◌^◌, ◌<◌, ◌≤◌, List, [], ◌∷◌, ◌++◌, length, take, drop, get_or, inl, inr, refl, sym, ap, ◌∙◌, arith, length-append}
 use Rattle.std.proofs.Math.Seq.{take-append_seam, drop-append_seam, take-suc, take-length}
 use Rattle.lx_bytes.specs.LittleEndian.{AreBytes, little, little_bytes}
 use Rattle.lx_bytes.proofs.Numbers.{little-little_bytes, little_bytes-little}
 use Rattle.omf_frame.specs.Frame.{BeginsWhole, IsChecksum, record_bytes, record_sum}
 use Rattle.omf_frame.specs.Delimited.{IsDelimited, length_word}
+use Rattle.omf_frame.specs.Refusal.{IsCutOff, no_length, length_0, past_end}
+use Rattle.std.proofs.lemmas.Bool.{cases_lt}
+use Rattle.std.proofs.lemmas.List.{take-append-drop, length-take, get_or-take, get_or_past}
 
 -- the front of two equal lists
 append_one : (xs ys r s : List ℕ) → length xs ≡ length ys → xs ++ r ≡ ys ++ s → (xs ≡ ys) × (r ≡ s)
@@ -98,3 +101,66 @@ pub not_checksum :
 not_checksum types bodies checksums sums checksum_not sum_not (inl zero_byte) = checksum_not (checksums ∙ zero_byte)
 not_checksum types bodies checksums sums checksum_not sum_not (inr zero_sum) =
     sum_not (sums ∙ rw (types, bodies, checksums) zero_sum)
+
+-- ---- records that are cut off
+
+AreBytes-take : (n : ℕ) (bs : List ℕ) → AreBytes bs → AreBytes (take n bs)
+AreBytes-take n bs h i =
+    elim (cases_lt i n) [
+      | inl lt ↦ rw (get_or-take n bs i 0 lt) (h i)
+      | inr le ↦ rw (get_or_past (take n bs) i 0 (omega (arith, length-take n bs))) (omega arith)
+    ]
+
+-- a whole record has its length, which is not 0, and passes no end
+pub cut_off-not : (bytes : List ℕ) (ty : ℕ) (body : List ℕ) (checksum : ℕ) (rest : List ℕ) → IsCutOff bytes → BeginsWhole bytes ty body checksum rest → ⊥
+cut_off-not bytes ty body checksum rest cut whole =
+    let delimited = IsDelimited-record_bytes ty body checksum whole.counted in
+    let long : length (record_bytes ty body checksum) ≡ 4 + length body = omega (arith, length-append body (checksum ∷ [])) in
+    let word : length_word bytes ≡ length body + 1 =
+    ap length_word whole.joined ∙ length_word-append (record_bytes ty body checksum) rest (omega (arith, long)) ∙ (let e : length_word (record_bytes ty body checksum) ≡ length body + 1 = omega (arith, delimited, long) in e) in
+    let all : length bytes ≡ 4 + length body + length rest = ap length whole.joined ∙ length-append (record_bytes ty body checksum) rest ∙ ap (λ (n : ℕ). n + length rest) long in
+    elim cut [
+      | no_length h ↦ omega (arith, h, all)
+      | length_0 h ↦ omega (arith, h, word)
+      | past_end h ↦ omega (arith, h, all, word)
+    ]
+
+-- the bytes that a length word tells, where they are there
+front_whole : (bytes : List ℕ) → AreBytes bytes → 3 ≤ length bytes → 3 + length_word bytes ≤ length bytes → length_word bytes ≢ 0 → (ty checksum : ℕ) × (body rest : List ℕ) × BeginsWhole bytes ty body checksum rest
+front_whole bytes fit three long some =
+    let n : ℕ = 3 + length_word bytes in
+    let front : List ℕ = take n bytes in
+    let len : length front ≡ n = omega (arith, length-take n bytes, long) in
+    let joined : bytes ≡ front ++ drop n bytes = sym (take-append-drop n bytes) in
+    let word : length_word bytes ≡ length_word front = ap length_word joined ∙ length_word-append front (drop n bytes) (omega (arith, len)) in
+    let one : 1 ≤ length_word bytes = positive (length_word bytes) some in
+    let parts = record_bytes-from_delimited front (AreBytes-take n bytes fit) (omega (arith, len, word)) (omega (arith, len, one)) in (
+      get_or front 0 0,
+      get_or front (length front - 1) 0,
+      take (length front - 1 - 3) (drop 3 front),
+      drop n bytes,
+      record {
+        joined = joined ∙ ap (λ (xs : List ℕ). xs ++ drop n bytes) parts.0;
+        counted = parts.1;
+      },
+    )
+  where
+    positive : (m : ℕ) → m ≢ 0 → 1 ≤ m
+    positive zero h = absurd (h refl)
+    positive (suc m) h = omega arith
+
+pub cut_off-else : (bytes : List ℕ) → AreBytes bytes → ((ty checksum : ℕ) (body rest : List ℕ) → BeginsWhole bytes ty body checksum rest → ⊥) → IsCutOff bytes
+cut_off-else bytes fit none =
+    elim (cases_lt (length bytes) 3) [
+      | inl few ↦ no_length few
+      | inr three ↦ elim (cases_lt (length bytes) (3 + length_word bytes)) [
+        | inl short ↦ past_end short
+        | inr long ↦ by (length_word bytes) refl three long
+      ]
+    ]
+  where
+    by : (m : ℕ) → length_word bytes ≡ m → 3 ≤ length bytes → 3 + length_word bytes ≤ length bytes → IsCutOff bytes
+    by zero e three long = length_0 e
+    by (suc m) e three long =
+        let w = front_whole bytes fit three long (λ z. omega (arith, e, z)) in
+        absurd (none w.0 w.1 w.2 w.3 w.4)

@@ -1,14 +1,17 @@
 -- Why no record is read.
-use Rattle.std.specs.Prelude.{◌≡◌, ℕ, List}
+use Rattle.std.specs.Prelude.{◌≡◌, ℕ, ◌+◌, ◌<◌, List, length}
 use Rattle.lx_bytes.specs.Cursor.{Cursor}
 use Rattle.omf_frame.specs.declared.refusal.FrameRefusal.{FrameRefusal}
 use Rattle.omf_frame.specs.declared.refusal.FrameRefusal.TheVariants.{Short, UnknownType, BadChecksum}
+use Rattle.omf_frame.specs.Delimited.{length_word}
 use Rattle.omf_frame.specs.Frame.{BeginsWhole, IsChecksum, record_sum}
 use Rattle.omf_frame.specs.RecordType.{IsRecordType}
 
--- No whole record stands here: the length is 0, or the record passes the end.
-abbrev pub IsCutOff : List ℕ → Type 0
-IsCutOff bytes = (ty checksum : ℕ) (body rest : List ℕ) → BeginsWhole bytes ty body checksum rest → ⊥
+-- No whole record stands here: there is no length word, or it is 0, or the record passes the end.
+pub data IsCutOff (bytes : List ℕ) : Type 0 where
+  no_length : length bytes < 3 → IsCutOff bytes
+  length_0 : length_word bytes ≡ 0 → IsCutOff bytes
+  past_end : length bytes < 3 + length_word bytes → IsCutOff bytes
 
 -- A whole record of a type that is not known stands here.
 pub record BeginsUnknown (bytes : List ℕ) (ty : ℕ) : Type 0 where

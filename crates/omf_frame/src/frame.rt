@@ -28,8 +28,7 @@ fn delimited<'a>(cur: &mut Cur<'a>) -> Result<&'a [u8], Short>
     ensures delimited { IfOk result (λ bytes. IsDelimited bytes.now) }
     ensures taken { IfOk result (λ bytes. cur.old.left ≡ bytes.now ++ cur.new.left) }
     ensures behind { IfOk result (λ bytes. cur.new.at ≡ cur.old.at + length bytes.now) }
-    ensures short { OnErr result (
-        (bytes rest : List ℕ) → IsDelimited bytes → cur.old.left ≡ bytes ++ rest → ⊥) }
+    ensures short { OnErr result (IsCutOff cur.old.left) }
 {
     let mut header = cur.fork();
     header.u8()?;

@@ -8,7 +8,7 @@ pub mod record_type;
 mod refusal;
 
 pub use frame::next_record;
-pub use laws::one_record;
+pub use laws::{cut_off_or_whole, one_record};
 pub use omf_record::Rec;
 pub use refusal::FrameRefusal;
 

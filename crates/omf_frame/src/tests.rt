@@ -13,8 +13,6 @@ fn records_one_after_another(rt: HostRuntime) -> Result<(), FrameRefusal> {
     let name = next_record(&mut cur)?;
     assert_eq!(rt; (name.at, name.ty), (0, record_type::THEADR));
     assert_eq!(rt; name.body, [0x01, 0x61].as_slice());
-    let fields = name.fields();
-    assert_eq!(rt; (fields.at(), fields.left()), (3, 2));
     let end = next_record(&mut cur)?;
     assert_eq!(rt; (end.at, end.ty), (6, record_type::MODEND));
     assert_eq!(rt; end.body, [0x00].as_slice());

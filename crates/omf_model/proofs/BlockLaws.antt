@@ -8,31 +8,31 @@ use Rattle.lx_bytes.specs.LittleEndian.{AreBytes, little_bytes}
 use Rattle.lx_bytes.proofs.Numbers.{length-little_bytes}
 use Rattle.obj_types.specs.declared.limits.TheConstants.{MAX_DEPTH}
 use Rattle.obj_types.specs.declared.refusal.OmfRefusal.TheVariants.{Short}
-use Rattle.omf_model.specs.Fields.{Reading, width, bytes_at, number_at, items_at, list_at}
+use Rattle.omf_fields.specs.Fields.{Reading, width, bytes_at, number_at, items_at, list_at}
 use Rattle.omf_model.specs.Blocks.{Blocks, none, bytes, nested, count_of, depth_of, head_bytes, block_bytes, FitBlocks}
 use Rattle.omf_model.specs.ReadBlocks.{Block, innermost, outer, joined, block_rest, block_at, blocks_at, blocks_in}
-use Rattle.omf_model.specs.Forms.{Form, ◌then◌, each, byte, number}
+use Rattle.omf_fields.specs.Forms.{Form, ◌then◌, each, byte, number}
 use Rattle.omf_model.specs.Good.{GoodBlocks}
-use Rattle.omf_model.proofs.Takes.{Takes, cursor_is, then_takes, then_splits, takes_nothing, nothing_takes, Sound, Complete, given, ok_is, bind_ok, step}
-use Rattle.omf_model.proofs.FieldLaws.{guard_ok, number_sound, number_complete, byte_sound, byte_complete}
-use Rattle.omf_model.proofs.ListLaws.{Takes1, list_sound, list_complete}
+use Rattle.omf_fields.proofs.SpanLaws.{Spans, cursor_is, then_spans, then_splits, spans_nothing, nothing_spans, Sound, Complete, given, ok_is, bind_ok, step}
+use Rattle.omf_fields.proofs.FieldLaws.{guard_ok, number_sound, number_complete, byte_sound, byte_complete}
+use Rattle.omf_fields.proofs.ListLaws.{OneByte, list_sound, list_complete}
 
 -- ---- a list of so many items
 
-pub items_sound : {A : Type 0} (read : Cursor → Reading A) (form : A → Form) (P : A → Type 0) → Sound read form P → (n : ℕ) (c : Cursor) (xs : List A) (d : Cursor) → AreBytes c.left → items_at read n c ≡ Ok (xs, d) → Takes (each form xs) c d × AllByRecursion P xs × (length xs ≡ n)
+pub items_sound : {A : Type 0} (read : Cursor → Reading A) (form : A → Form) (P : A → Type 0) → Sound read form P → (n : ℕ) (c : Cursor) (xs : List A) (d : Cursor) → AreBytes c.left → items_at read n c ≡ Ok (xs, d) → Spans (each form xs) c d × AllByRecursion P xs × (length xs ≡ n)
 unfolding items_at
 items_sound {A} read form P sound zero c xs d bs e =
-    subst (λ (q : List A × Cursor). Takes (each form q.0) c q.1 × AllByRecursion P q.0 × (length q.0 ≡ 0)) (ok_is ([], c) (xs, d) e) (takes_nothing c, tt, refl)
+    subst (λ (q : List A × Cursor). Spans (each form q.0) c q.1 × AllByRecursion P q.0 × (length q.0 ≡ 0)) (ok_is ([], c) (xs, d) e) (spans_nothing c, tt, refl)
 items_sound {A} read form P sound (suc n) c xs d bs e =
     step read form P sound c _ (xs, d) bs e λ x c1 t1 g1 b1 e1.
     let a = bind_ok (items_at read n c1) _ (xs, d) e1 in
     let rest = items_sound read form P sound n c1 a.0.0 a.0.1 b1 a.1 in
-    subst (λ (q : List A × Cursor). Takes (each form q.0) c q.1 × AllByRecursion P q.0 × (length q.0 ≡ suc n)) (ok_is (x ∷ a.0.0, a.0.1) (xs, d) a.2)
-    (then_takes (form x) (each form a.0.0) c c1 a.0.1 t1 rest.0, (g1, rest.1), ap suc rest.2)
+    subst (λ (q : List A × Cursor). Spans (each form q.0) c q.1 × AllByRecursion P q.0 × (length q.0 ≡ suc n)) (ok_is (x ∷ a.0.0, a.0.1) (xs, d) a.2)
+    (then_spans (form x) (each form a.0.0) c c1 a.0.1 t1 rest.0, (g1, rest.1), ap suc rest.2)
 
-pub items_complete : {A : Type 0} (read : Cursor → Reading A) (form : A → Form) (P : A → Type 0) → Complete read form P → (xs : List A) (c d : Cursor) → Takes (each form xs) c d → AllByRecursion P xs → items_at read (length xs) c ≡ Ok (xs, d)
+pub items_complete : {A : Type 0} (read : Cursor → Reading A) (form : A → Form) (P : A → Type 0) → Complete read form P → (xs : List A) (c d : Cursor) → Spans (each form xs) c d → AllByRecursion P xs → items_at read (length xs) c ≡ Ok (xs, d)
 unfolding items_at
-items_complete {A} read form P complete [] c d t ok = ap (λ (k : Cursor). given {A = List A} [] k) (nothing_takes c d t)
+items_complete {A} read form P complete [] c d t ok = ap (λ (k : Cursor). given {A = List A} [] k) (nothing_spans c d t)
 items_complete {A} read form P complete (x ∷ xs) c d t ok =
     let s = then_splits (form x) (each form xs) c d t in
     rw (complete c x s.0 s.1 ok.0, items_complete read form P complete xs s.0 d s.2 ok.1) refl
@@ -46,7 +46,7 @@ bytes_sound : (n : ℕ) → Sound (bytes_at n) exactly (λ content. length conte
 bytes_sound n c x d bs e =
     let g = guard_ok (ltb (length c.left) n) (Short c.at) (take n c.left, advance n c) (x, d) e in
     let len : length (take n c.left) ≡ n = omega (arith, ltb-false _ _ g.0, length-take n c.left) in
-    subst (λ (p : List ℕ × Cursor). Takes (exactly p.0) c p.1 × (length p.0 ≡ n)) g.1
+    subst (λ (p : List ℕ × Cursor). Spans (exactly p.0) c p.1 × (length p.0 ≡ n)) g.1
     (record { front = take n c.left; joined = sym (take-append-drop n c.left); moved = ap (λ (k : ℕ). c.at + k) (sym len); so = refl }, len)
 
 bytes_complete : (n : ℕ) → Complete (bytes_at n) exactly (λ content. length content ≡ n)
@@ -78,7 +78,7 @@ GoodBlock wide zero b = ⊥
 GoodBlock wide (suc left) (innermost times content) = length content < 256
 GoodBlock wide (suc left) (outer times inner) = (1 ≤ count_of inner) × FitBlocks wide inner × (depth_of inner ≤ left)
 
-block_one : (wide : Bool) → Takes1 (block_form wide)
+block_one : (wide : Bool) → OneByte (block_form wide)
 block_one wide b bs h =
     let front : length h.front ≡ width wide = ap (λ (xs : List ℕ). length xs) h.first_so.1 ∙ length-little_bytes (width wide) (times_of b) in
     let all : length bs ≡ length h.front + length h.back = ap (λ (xs : List ℕ). length xs) h.joined ∙ length-append h.front h.back in
@@ -135,21 +135,21 @@ depth-joined wide (suc left) (outer times inner ∷ bs) ok = omega (arith, ok.0.
 -- ---- what is read
 
 rest_sound : (wide : Bool) (left : ℕ) (read : Cursor → Reading Block) → Sound read (block_form wide) (GoodBlock wide left) → (times count : ℕ) (c : Cursor) (b : Block) (d : Cursor) → AreBytes c.left → block_rest read times count c ≡ Ok (b, d)
-    → Takes (exactly (rest_bytes wide b)) c d × GoodBlock wide (suc left) b × (times ≡ times_of b) × (count ≡ blocks_of b)
+    → Spans (exactly (rest_bytes wide b)) c d × GoodBlock wide (suc left) b × (times ≡ times_of b) × (count ≡ blocks_of b)
 rest_sound wide left read sound times zero c b d bs e =
     step _ _ _ byte_sound c _ (b, d) bs e λ len c1 t1 f1 b1 e1.
     step _ _ _ (bytes_sound len) c1 _ (b, d) b1 e1 λ content c2 t2 long b2 e2.
     let small : len < 256 = t1.so.0 in
-    let both = then_takes (byte len) (exactly content) c c1 c2 t1 t2 in
+    let both = then_spans (byte len) (exactly content) c c1 c2 t1 t2 in
     let front : both.front ≡ length content ∷ content = both.so.joined ∙ (λ i. both.so.first_so.1 i ++ both.so.second_so i) ∙ ap (λ (k : ℕ). k ∷ content) (sym long) in
-    subst (λ (q : Block × Cursor). Takes (exactly (rest_bytes wide q.0)) c q.1 × GoodBlock wide (suc left) q.0 × (times ≡ times_of q.0) × (0 ≡ blocks_of q.0)) (ok_is (innermost times content, c2) (b, d) e2)
+    subst (λ (q : Block × Cursor). Spans (exactly (rest_bytes wide q.0)) c q.1 × GoodBlock wide (suc left) q.0 × (times ≡ times_of q.0) × (0 ≡ blocks_of q.0)) (ok_is (innermost times content, c2) (b, d) e2)
     (record { front = both.front; joined = both.joined; moved = both.moved; so = front }, omega (arith, small, long), refl, refl)
 rest_sound wide left read sound times (suc more) c b d bs e =
     let a = bind_ok (items_at read (suc more) c) _ (b, d) e in
     let s = items_sound read (block_form wide) (GoodBlock wide left) sound (suc more) c a.0.0 a.0.1 bs a.1 in
     let count : suc more ≡ count_of (joined a.0.0) = sym s.2 ∙ sym (count-joined a.0.0) in
     let fits = fit-joined wide left a.0.0 (each_fits wide left a.0.0 s.0.front s.0.so s.1) in
-    subst (λ (q : Block × Cursor). Takes (exactly (rest_bytes wide q.0)) c q.1 × GoodBlock wide (suc left) q.0 × (times ≡ times_of q.0) × (suc more ≡ blocks_of q.0)) (ok_is (outer times (joined a.0.0), a.0.1) (b, d) a.2) (
+    subst (λ (q : Block × Cursor). Spans (exactly (rest_bytes wide q.0)) c q.1 × GoodBlock wide (suc left) q.0 × (times ≡ times_of q.0) × (suc more ≡ blocks_of q.0)) (ok_is (outer times (joined a.0.0), a.0.1) (b, d) a.2) (
       record { front = s.0.front; joined = s.0.joined; moved = s.0.moved; so = bytes-joined wide a.0.0 s.0.front s.0.so },
       (omega (arith, count), fits, depth-joined wide left a.0.0 s.1),
       refl,
@@ -164,8 +164,8 @@ block_sound wide (suc left) c b d bs e =
     step _ _ _ (number_sound (width wide)) c _ (b, d) bs e λ times c1 t1 f1 b1 e1.
     step _ _ _ (number_sound 2) c1 _ (b, d) b1 e1 λ count c2 t2 f2 b2 e2.
     let r = rest_sound wide left (block_at left wide) (block_sound wide left) times count c2 b d b2 e2 in (
-      then_takes _ _ c c1 d (subst (λ (k : ℕ). Takes (number (width wide) k) c c1) r.2 t1)
-          (then_takes (number 2 (blocks_of b)) _ c1 c2 d (subst (λ (k : ℕ). Takes (number 2 k) c1 c2) r.3 t2) r.0),
+      then_spans _ _ c c1 d (subst (λ (k : ℕ). Spans (number (width wide) k) c c1) r.2 t1)
+          (then_spans (number 2 (blocks_of b)) _ c1 c2 d (subst (λ (k : ℕ). Spans (number 2 k) c1 c2) r.3 t2) r.0),
       r.1,
     )
 
@@ -233,13 +233,13 @@ good-split wide (suc left) (bytes times content rest) fit deep = (fit.1, good-sp
 good-split wide zero (nested times inner rest) fit deep = absurd (omega (arith, deep))
 good-split wide (suc left) (nested times inner rest) fit deep = ((fit.1, fit.3, omega (arith, deep)), good-split wide (suc left) rest fit.4 (omega (arith, deep)))
 
-rest_complete : (wide : Bool) (left : ℕ) (read : Cursor → Reading Block) → Complete read (block_form wide) (GoodBlock wide left) → (b : Block) (c d : Cursor) → Takes (exactly (rest_bytes wide b)) c d → GoodBlock wide (suc left) b → block_rest read (times_of b) (blocks_of b) c ≡ Ok (b, d)
+rest_complete : (wide : Bool) (left : ℕ) (read : Cursor → Reading Block) → Complete read (block_form wide) (GoodBlock wide left) → (b : Block) (c d : Cursor) → Spans (exactly (rest_bytes wide b)) c d → GoodBlock wide (suc left) b → block_rest read (times_of b) (blocks_of b) c ≡ Ok (b, d)
 rest_complete wide left read complete (innermost times content) c d t ok =
-    let cut : Takes (byte (length content) then exactly content) c d = record { front = t.front; joined = t.joined; moved = t.moved; so = record { front = length content ∷ []; back = content; joined = t.so; first_so = (ok, refl); second_so = refl } } in
+    let cut : Spans (byte (length content) then exactly content) c d = record { front = t.front; joined = t.joined; moved = t.moved; so = record { front = length content ∷ []; back = content; joined = t.so; first_so = (ok, refl); second_so = refl } } in
     let s = then_splits (byte (length content)) (exactly content) c d cut in
     rw (byte_complete c (length content) s.0 s.1 tt, bytes_complete (length content) s.0 content d s.2 refl) refl
 rest_complete wide left read complete (outer times inner) c d t ok =
-    let cut : Takes (each (block_form wide) (split inner)) c d = record { front = t.front; joined = t.joined; moved = t.moved; so = subst (λ (xs : List ℕ). each (block_form wide) (split inner) xs) (sym t.so) (spelled-split wide inner ok.1) } in
+    let cut : Spans (each (block_form wide) (split inner)) c d = record { front = t.front; joined = t.joined; moved = t.moved; so = subst (λ (xs : List ℕ). each (block_form wide) (split inner) xs) (sym t.so) (spelled-split wide inner ok.1) } in
     let items = items_complete read (block_form wide) (GoodBlock wide left) complete (split inner) c d cut (good-split wide left inner ok.1 ok.2) in
     some (count_of inner) ok.0 (subst (λ (n : ℕ). items_at read n c ≡ given (split inner) d) (length-split inner) items)
   where

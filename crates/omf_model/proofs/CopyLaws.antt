@@ -7,7 +7,7 @@ use Rattle.std.proofs.Math.ListN.{get_or-append}
 use Rattle.std.proofs.Math.Seq.{get_or-append_right}
 use Rattle.lx_bytes.specs.LittleEndian.{little_bytes}
 use Rattle.lx_bytes.proofs.Numbers.{length-little_bytes}
-use Rattle.omf_model.specs.Fields.{width}
+use Rattle.omf_fields.specs.Fields.{width}
 use Rattle.omf_model.specs.Blocks.{Blocks, none, bytes, nested, block_bytes, head_bytes, count_of, origins, contents, expanded, expanded_len}
 
 -- what has an origin in an interval goes on as the interval does

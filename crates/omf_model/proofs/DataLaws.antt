@@ -11,7 +11,7 @@ use Rattle.obj_types.specs.declared.refusal.OmfRefusal.TheVariants.{DataRange, T
 use Rattle.obj_types.specs.declared.object.Seg.{Seg}
 use Rattle.obj_types.specs.declared.parts.ObjParts.{ObjParts}
 use Rattle.obj_types.specs.Items.{item}
-use Rattle.omf_model.specs.Fields.{◌>>=◌, check, width}
+use Rattle.omf_fields.specs.Fields.{◌>>=◌, check, width}
 use Rattle.omf_model.specs.Blocks.{Blocks, block_bytes, expanded_len}
 use Rattle.omf_model.specs.ReadBlocks.{blocks_at}
 use Rattle.omf_model.specs.Record.{Record, ledata, lidata}
@@ -19,11 +19,11 @@ use Rattle.omf_model.specs.Items.{is_debug_seg}
 use Rattle.omf_model.specs.ReadData.{seg_len, data_so_far, touches, judge_data, ledata_at, counted_len, lidata_at}
 use Rattle.omf_model.specs.Spelling.{pair, contents_form}
 use Rattle.omf_model.specs.Good.{GoodAfter, GoodPlace, GoodData}
-use Rattle.omf_model.proofs.Takes.{then_left, left_splits, ok_is, bind_ok, step, checked_step}
-use Rattle.omf_model.proofs.FieldLaws.{FromOne, chosen, number_sound, number_complete, below_sound, below_complete}
+use Rattle.omf_fields.proofs.SpanLaws.{then_left, left_splits, ok_is, bind_ok, step, checked_step}
+use Rattle.omf_fields.proofs.FieldLaws.{FromOne, chosen, number_sound, number_complete, below_sound, below_complete}
 use Rattle.omf_model.proofs.PlainLaws.{some_at, not_true}
 use Rattle.omf_model.proofs.BlockLaws.{blocks_sound, blocks_complete}
-use Rattle.omf_model.proofs.NameLaws.{Reads}
+use Rattle.omf_model.proofs.NameLaws.{IsRead}
 
 abbrev pub block_types : Bool → List (ℕ × Bool)
 block_types wide = (cond wide 0xA3 0xA2, wide) ∷ []
@@ -85,13 +85,13 @@ judge_complete p at offset_at seg offset len good =
           rw (h, le-leb _ _ (lies_fits offset len (item p.module.segs seg) g.range), le-leb _ _ g.limit, g.on_no_fix) refl
     ]
 
-pub ledata_sound : (p : ObjParts) (wide : Bool) (at : ℕ) (c : Cursor) (r : Record) → AreBytes c.left → ledata_at wide p at c ≡ Ok r → Reads (pair 0xA0) p wide c r
+pub ledata_sound : (p : ObjParts) (wide : Bool) (at : ℕ) (c : Cursor) (r : Record) → AreBytes c.left → ledata_at wide p at c ≡ Ok r → IsRead (pair 0xA0) p wide c r
 unfolding ledata_at
 ledata_sound p wide at c r bytes e =
     step _ _ _ (below_sound (length p.module.segs)) c _ r bytes e λ seg c1 t1 g1 b1 e1.
     step _ _ _ (number_sound (width wide)) c1 _ r b1 e1 λ offset c2 t2 f2 b2 e2.
     let a = bind_ok (judge_data p at c1.at seg offset (length c2.left)) _ r e2 in
-    subst (λ (q : Record). Reads (pair 0xA0) p wide c q) (ok_is (ledata seg offset c2.left) r a.2) (
+    subst (λ (q : Record). IsRead (pair 0xA0) p wide c q) (ok_is (ledata seg offset c2.left) r a.2) (
       then_left _ _ c c1 t1 (then_left _ (λ bs. bs ≡ c2.left) c1 c2 t2 refl),
       record { segment = g1; place = judge_sound p at c1.at seg offset (length c2.left) a.0 g1 a.1 },
       refl,
@@ -117,7 +117,7 @@ counted_place p seg offset blocks g = subst (λ (n : ℕ). GoodPlace p seg offse
 expanded_place : (p : ObjParts) (seg offset : ℕ) (blocks : Blocks) → GoodPlace p seg offset (expanded_len blocks) → GoodPlace p seg offset (counted_len blocks)
 expanded_place p seg offset blocks g = subst (λ (n : ℕ). GoodPlace p seg offset n) (sym (counted_again blocks (data_so_far p) g.limit)) g
 
-pub lidata_sound : (p : ObjParts) (wide : Bool) (at : ℕ) (c : Cursor) (r : Record) → AreBytes c.left → lidata_at wide p at c ≡ Ok r → Reads (block_types wide) p wide c r
+pub lidata_sound : (p : ObjParts) (wide : Bool) (at : ℕ) (c : Cursor) (r : Record) → AreBytes c.left → lidata_at wide p at c ≡ Ok r → IsRead (block_types wide) p wide c r
 unfolding lidata_at
 lidata_sound p wide at c r bytes e =
     step _ _ _ (below_sound (length p.module.segs)) c _ r bytes e λ seg c1 t1 g1 b1 e1.
@@ -125,7 +125,7 @@ lidata_sound p wide at c r bytes e =
     let k = bind_ok (blocks_at wide c2) _ r e2 in
     let a = bind_ok (judge_data p at c1.at seg offset (counted_len k.0)) _ r k.2 in
     let s = blocks_sound wide c2 k.0 b2 k.1 in
-    subst (λ (q : Record). Reads (block_types wide) p wide c q) (ok_is (lidata wide seg offset k.0) r a.2) (
+    subst (λ (q : Record). IsRead (block_types wide) p wide c q) (ok_is (lidata wide seg offset k.0) r a.2) (
       then_left _ _ c c1 t1 (then_left _ (λ bs. bs ≡ block_bytes wide k.0) c1 c2 t2 s.0),
       (s.1, record { segment = g1; place = λ plain. counted_place p seg offset k.0 (judge_sound p at c1.at seg offset (counted_len k.0) a.0 g1 a.1 plain) }),
       refl,

@@ -9,8 +9,8 @@ use Rattle.obj_types.specs.declared.object.Frame.TheVariants as frames
 use Rattle.obj_types.specs.declared.object.Goal.{Goal}
 use Rattle.obj_types.specs.declared.object.Goal.TheVariants as goals
 use Rattle.obj_types.specs.declared.parts.ObjParts.{ObjParts}
-use Rattle.omf_model.specs.Fields.{check, width, number_at, index_below}
-use Rattle.omf_model.specs.Forms.{present, byte, number, index}
+use Rattle.omf_fields.specs.Fields.{check, width, number_at, index_below}
+use Rattle.omf_fields.specs.Forms.{present, byte, number, index}
 use Rattle.omf_model.specs.Record.{FixData, by_frame_thread, frame_bits, by_target_thread, target_bits, has_displacement}
 use Rattle.omf_model.specs.Items.{is_debug_seg}
 use Rattle.omf_model.specs.Fixups.{has_index, frame_by, goal_by}
@@ -18,9 +18,9 @@ use Rattle.omf_model.specs.ReadNames.{plain_seg_at}
 use Rattle.omf_model.specs.ReadFixups.{have_of, method_index_at, are_methods, check_plain, check_frame, check_goal, thread_frame, thread_goal, has_threads, fix_data_at}
 use Rattle.omf_model.specs.Spelling.{fix_data_form}
 use Rattle.omf_model.specs.Good.{GoodMethods, GoodFixData, IsPlainFrame, IsPlainGoal, HasMethod}
-use Rattle.omf_model.proofs.Takes.{Takes, then_takes, then_splits, Sound, Complete, given, done, ok_is, bind_ok, step, checked_step}
-use Rattle.omf_model.proofs.FieldLaws.{Free, FromOne, chosen, number_sound, number_complete, byte_sound, byte_complete, below_sound, below_complete, index_sound, index_complete}
-use Rattle.omf_model.proofs.ListLaws.{present_sound, present_complete}
+use Rattle.omf_fields.proofs.SpanLaws.{Spans, then_spans, then_splits, Sound, Complete, given, done, ok_is, bind_ok, step, checked_step}
+use Rattle.omf_fields.proofs.FieldLaws.{Free, FromOne, chosen, number_sound, number_complete, byte_sound, byte_complete, below_sound, below_complete, index_sound, index_complete}
+use Rattle.omf_fields.proofs.ListLaws.{present_sound, present_complete}
 use Rattle.omf_model.proofs.PlainLaws.{plain_sound, plain_complete, plain_from, plain_index, plain_not_debug}
 use Rattle.omf_model.proofs.DataLaws.{bool_cases}
 use Rattle.omf_model.proofs.NameLaws.{free_option}
@@ -232,8 +232,8 @@ fix_sound p wide judged c x d bytes e =
     let good : judged ≡ true → GoodFixData p value = λ yes. judged_good p wide c.at value k3.0 k4.0 t2.front t3.front meant
     (subst (λ (j : Bool). check_frame j p c.at (thread_frame p fix) ≡ done k3.0) yes k3.1) (subst (λ (j : Bool). check_goal j p c.at (thread_goal p fix) ≡ done k4.0) yes k4.1)
     t2.so (subst (λ (j : Bool). IfSome frame (Judged j p (frame_bits fix))) yes g2) t3.so (subst (λ (j : Bool). IfSome target (Judged j p (target_bits fix))) yes g3) in
-    subst (λ (q : FixData × Cursor). Takes (fix_data_form wide q.0) c q.1 × GoodFix judged p q.0) (ok_is (value, c4) (x, d) e4)
-    (then_takes (byte fix) _ c c1 c4 t1 (then_takes _ _ c1 c2 c4 t2 (then_takes _ _ c2 c3 c4 t3 t4)), (meant, good))
+    subst (λ (q : FixData × Cursor). Spans (fix_data_form wide q.0) c q.1 × GoodFix judged p q.0) (ok_is (value, c4) (x, d) e4)
+    (then_spans (byte fix) _ c c1 c4 t1 (then_spans _ _ c1 c2 c4 t2 (then_spans _ _ c2 c3 c4 t3 t4)), (meant, good))
 
 -- ---- what is so is read
 

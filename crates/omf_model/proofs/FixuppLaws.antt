@@ -11,30 +11,34 @@ use Rattle.obj_types.specs.declared.parts.LastData.{LastData}
 use Rattle.obj_types.specs.declared.parts.LastData.TheVariants as datas
 use Rattle.obj_types.specs.declared.parts.ObjParts.{ObjParts}
 use Rattle.obj_types.specs.Location.{location_len}
-use Rattle.omf_model.specs.Fields.{◌>>=◌, byte_at}
-use Rattle.omf_model.specs.Forms.{◌then◌, anything, each, present, byte, index}
+use Rattle.omf_fields.specs.Within.{within}
+use Rattle.omf_fields.specs.Fields.{◌>>=◌, byte_at}
+use Rattle.omf_fields.specs.Forms.{◌then◌, anything, each, present, byte, index}
 use Rattle.omf_model.specs.Record.{Record, fixupp, modend, FixData, FixField, thread, fixup, thread_method, location_of, offset_of, has_start}
 use Rattle.omf_model.specs.Fixups.{has_index, has_data, fixes_by}
 use Rattle.omf_model.specs.Add.{add_field}
-use Rattle.omf_model.specs.ReadFixups.{have_of, is_thread_method, thread_at, is_dropped, is_location, second_of, are_apart, judge_fixup, fixup_at, field_at, fields_within, fixupp_at, modend_at}
+use Rattle.omf_model.specs.ReadFixups.{FirstByte, have_of, is_thread_method, thread_at, is_dropped, is_location, second_of, are_apart, judge_fixup, fixup_at, field_at, fields_within, fixupp_at, modend_at}
 use Rattle.omf_model.specs.Spelling.{pair, contents_form, field_form, fix_data_form}
 use Rattle.omf_model.specs.Good.{GoodAfter, GoodMethods, GoodFixData, GoodFixup, GoodAfterData, GoodField, GoodFields}
-use Rattle.omf_model.proofs.Takes.{Takes, then_takes, then_splits, then_left, left_splits, Sound, Complete, given, done, ok_is, bind_ok, step, checked_step}
-use Rattle.omf_model.proofs.FieldLaws.{Free, chosen, byte_sound, byte_complete, below_sound, below_complete}
-use Rattle.omf_model.proofs.ListLaws.{Takes1, present_sound, present_complete}
+use Rattle.omf_fields.proofs.SpanLaws.{Spans, then_spans, then_splits, then_left, left_splits, Sound, Complete, given, done, ok_is, bind_ok, step, checked_step}
+use Rattle.omf_fields.proofs.FieldLaws.{Free, chosen, byte_sound, byte_complete, below_sound, below_complete}
+use Rattle.omf_fields.proofs.ListLaws.{OneByte, present_sound, present_complete}
 use Rattle.omf_model.proofs.DataLaws.{bool_cases, check_so}
 use Rattle.omf_model.proofs.FixLaws.{absent, GoodFix, fix_sound, fix_complete}
-use Rattle.omf_model.proofs.NameLaws.{Reads, then_one}
+use Rattle.omf_model.proofs.NameLaws.{IsRead, then_one}
 
 -- ---- THREAD
 
-thread_sound : (p : ObjParts) (wide : Bool) (b : ℕ) (c0 c : Cursor) (x : FixField) (d : Cursor) → AreBytes c.left → b < 128 → Takes (byte b) c0 c → thread_at p c0.at b c ≡ Ok (x, d) → Takes (field_form wide x) c0 d × GoodField p x
+abbrev first_byte : ℕ → ℕ → ℕ → FirstByte
+first_byte of_record at b = record { of_record = of_record; at = at; byte = b }
+
+thread_sound : (p : ObjParts) (wide : Bool) (record_at b : ℕ) (c0 c : Cursor) (x : FixField) (d : Cursor) → AreBytes c.left → b < 128 → Spans (byte b) c0 c → thread_at p (first_byte record_at c0.at b) c ≡ Ok (x, d) → Spans (field_form wide x) c0 d × GoodField p x
 unfolding thread_at
-thread_sound p wide b c0 c x d bytes small front e =
+thread_sound p wide record_at b c0 c x d bytes small front e =
     let k = checked_step (is_thread_method b) _ _ (x, d) e in
     step _ _ _ (present_sound (has_index (thread_method b)) _ _ _ (below_sound (have_of p (thread_method b)))) c _ (x, d) bytes k.1 λ i c1 t1 g1 b1 e1.
-    let t = then_takes (byte b) (present (has_index (thread_method b)) index i) c0 c c1 front t1 in
-    subst (λ (q : FixField × Cursor). Takes (field_form wide q.0) c0 q.1 × GoodField p q.0) (ok_is (thread b i, c1) (x, d) e1)
+    let t = then_spans (byte b) (present (has_index (thread_method b)) index i) c0 c c1 front t1 in
+    subst (λ (q : FixField × Cursor). Spans (field_form wide q.0) c0 q.1 × GoodField p q.0) (ok_is (thread b i, c1) (x, d) e1)
     (record { front = t.front; joined = t.joined; moved = t.moved; so = (small, t.so) }, record { method = k.0; there = absent (has_index (thread_method b)) i t1.front t1.so; index = g1 })
 
 -- ---- FIXUP
@@ -73,7 +77,7 @@ good_kept (datas.Straight seg start len) p high low d g e = g
 good_kept (datas.Blocks seg start wide body) p high low d g e = g
 good_kept datas.Dropped p high low d g e = absurd cc
 
-judge_so : (p : ObjParts) (record_at at high low : ℕ) (d : FixData) (u : Unit {0}) → judge_fixup p record_at at (fixup high low d) high low ≡ Ok u → is_location high ≡ true → GoodFixData p d → GoodFixup p high low d
+judge_so : (p : ObjParts) (record_at at high low : ℕ) (d : FixData) (u : Unit {0}) → judge_fixup p (first_byte record_at at high) low d ≡ Ok u → is_location high ≡ true → GoodFixData p d → GoodFixup p high low d
 unfolding judge_fixup
 judge_so p record_at at high low d u e loc good =
     let a = checked_step (has_data p.last (offset_of high low) (location_len (location_of high))) _ _ u e in
@@ -81,7 +85,7 @@ judge_so p record_at at high low d u e loc good =
     let c = check_so (leb (length p.module.fixes + length (fixes_by p.last p.threads (fixup high low d))) MAX_FIXES) _ u b.1 in
     record { location = loc; what = good; on_data = a.0; apart = b.0; limit = leb-true _ _ c }
 
-judge_again : (p : ObjParts) (record_at at high low : ℕ) (d : FixData) → GoodFixup p high low d → judge_fixup p record_at at (fixup high low d) high low ≡ Ok tt
+judge_again : (p : ObjParts) (record_at at high low : ℕ) (d : FixData) → GoodFixup p high low d → judge_fixup p (first_byte record_at at high) low d ≡ Ok tt
 unfolding judge_fixup
 judge_again p record_at at high low d g = rw (g.on_data, g.apart, le-leb _ _ g.limit) refl
 
@@ -89,25 +93,25 @@ or_right : (a b : Bool) → (a || b) ≡ true → a ≡ false → b ≡ true
 or_right true b e n = absurd cc
 or_right false b e n = e
 
-fixup_sound : (p : ObjParts) (wide : Bool) (record_at high : ℕ) (c0 c : Cursor) (x : FixField) (d : Cursor) → AreBytes c.left → 128 ≤ high → Takes (byte high) c0 c → fixup_at wide p record_at c0.at high c ≡ Ok (x, d) → Takes (field_form wide x) c0 d × GoodField p x
+fixup_sound : (p : ObjParts) (wide : Bool) (record_at high : ℕ) (c0 c : Cursor) (x : FixField) (d : Cursor) → AreBytes c.left → 128 ≤ high → Spans (byte high) c0 c → fixup_at wide p (first_byte record_at c0.at high) c ≡ Ok (x, d) → Spans (field_form wide x) c0 d × GoodField p x
 unfolding fixup_at
 fixup_sound p wide record_at high c0 c x d bytes large front e =
     let k = checked_step (is_dropped p.last || is_location high) _ _ (x, d) e in
     step _ _ _ (second_sound c0.at) c _ (x, d) bytes k.1 λ low c1 t1 f1 b1 e1.
     step _ _ _ (fix_sound p wide (not (is_dropped p.last))) c1 _ (x, d) b1 e1 λ what c2 t2 g2 b2 e2.
-    let j = bind_ok (cond (is_dropped p.last) (Ok tt) (judge_fixup p record_at c0.at (fixup high low what) high low)) _ (x, d) e2 in
-    let t = then_takes (byte high) (byte low then fix_data_form wide what) c0 c c2 front (then_takes (byte low) (fix_data_form wide what) c c1 c2 t1 t2) in
+    let j = bind_ok (cond (is_dropped p.last) (Ok tt) (judge_fixup p (first_byte record_at c0.at high) low what)) _ (x, d) e2 in
+    let t = then_spans (byte high) (byte low then fix_data_form wide what) c0 c c2 front (then_spans (byte low) (fix_data_form wide what) c c1 c2 t1 t2) in
     let kept : is_dropped p.last ≡ false → GoodFixup p high low what = λ n.
-    judge_so p record_at c0.at high low what j.0 (subst (λ (b : Bool). cond b (Ok tt) (judge_fixup p record_at c0.at (fixup high low what) high low) ≡ done j.0) n j.1) (or_right _ _ k.0 n) (g2.1 (ap (λ (b : Bool). not b) n)) in
-    subst (λ (q : FixField × Cursor). Takes (field_form wide q.0) c0 q.1 × GoodField p q.0) (ok_is (fixup high low what, c2) (x, d) j.2)
+    judge_so p record_at c0.at high low what j.0 (subst (λ (b : Bool). cond b (Ok tt) (judge_fixup p (first_byte record_at c0.at high) low what) ≡ done j.0) n j.1) (or_right _ _ k.0 n) (g2.1 (ap (λ (b : Bool). not b) n)) in
+    subst (λ (q : FixField × Cursor). Spans (field_form wide q.0) c0 q.1 × GoodField p q.0) (ok_is (fixup high low what, c2) (x, d) j.2)
     (record { front = t.front; joined = t.joined; moved = t.moved; so = (large, t.so) }, good_by p.last p high low what (λ y. g2.0) kept)
 
 pub field_sound : (p : ObjParts) (wide : Bool) (record_at : ℕ) → Sound (field_at wide p record_at) (field_form wide) (GoodField p)
 unfolding field_at
 field_sound p wide record_at c x d bytes e =
     step _ _ _ byte_sound c _ (x, d) bytes e λ b c1 t1 f1 b1 e1.
-    elim (chosen (ltb b 128) (thread_at p c.at b c1) (fixup_at wide p record_at c.at b c1) (given x d) e1) [
-      | inl h ↦ thread_sound p wide b c c1 x d b1 (ltb-true _ _ h.0) t1 h.1
+    elim (chosen (ltb b 128) (thread_at p (first_byte record_at c.at b) c1) (fixup_at wide p (first_byte record_at c.at b) c1) (given x d) e1) [
+      | inl h ↦ thread_sound p wide record_at b c c1 x d b1 (ltb-true _ _ h.0) t1 h.1
       | inr h ↦ fixup_sound p wide record_at b c c1 x d b1 (ltb-false _ _ h.0) t1 h.1
     ]
 
@@ -118,7 +122,7 @@ fixup_so p high low d g =
       | inr h ↦ let k = good_kept p.last p high low d g h in (rw (h, k.location) refl, (k.what.meant, λ y. k.what))
     ]
 
-judged_again : (p : ObjParts) (record_at at high low : ℕ) (d : FixData) → GoodAfterData p.last p high low d → cond (is_dropped p.last) (Ok tt) (judge_fixup p record_at at (fixup high low d) high low) ≡ Ok tt
+judged_again : (p : ObjParts) (record_at at high low : ℕ) (d : FixData) → GoodAfterData p.last p high low d → cond (is_dropped p.last) (Ok tt) (judge_fixup p (first_byte record_at at high) low d) ≡ Ok tt
 judged_again p record_at at high low d g =
     elim (bool_cases (is_dropped p.last)) [
       | inl h ↦ rw h refl
@@ -128,12 +132,12 @@ judged_again p record_at at high low d g =
 pub field_complete : (p : ObjParts) (wide : Bool) (record_at : ℕ) → Complete (field_at wide p record_at) (field_form wide) (GoodField p)
 unfolding field_at thread_at fixup_at
 field_complete p wide record_at c (thread b i) d t ok =
-    let plain : Takes (byte b then present (has_index (thread_method b)) index i) c d = record { front = t.front; joined = t.joined; moved = t.moved; so = t.so.1 } in
+    let plain : Spans (byte b then present (has_index (thread_method b)) index i) c d = record { front = t.front; joined = t.joined; moved = t.moved; so = t.so.1 } in
     let s = then_splits (byte b) (present (has_index (thread_method b)) index i) c d plain in
     let r = present_complete (has_index (thread_method b)) _ _ _ (below_complete (have_of p (thread_method b))) s.0 i d s.2 ok.index in
     rw (byte_complete c b s.0 s.1 tt, lt-ltb b 128 t.so.0, ok.method, r) refl
 field_complete p wide record_at c (fixup high low what) d t ok =
-    let plain : Takes (byte high then byte low then fix_data_form wide what) c d = record { front = t.front; joined = t.joined; moved = t.moved; so = t.so.1 } in
+    let plain : Spans (byte high then byte low then fix_data_form wide what) c d = record { front = t.front; joined = t.joined; moved = t.moved; so = t.so.1 } in
     let s1 = then_splits (byte high) (byte low then fix_data_form wide what) c d plain in
     let s2 = then_splits (byte low) (fix_data_form wide what) s1.0 d s1.2 in
     let so = fixup_so p high low what ok in
@@ -141,12 +145,12 @@ field_complete p wide record_at c (fixup high low what) d t ok =
 
 -- ---- the fields
 
-field_one : (wide : Bool) → Takes1 (field_form wide)
+field_one : (wide : Bool) → OneByte (field_form wide)
 field_one wide (thread b i) bytes h = then_one (byte b) _ bytes h.1 (λ front f. let len : length front ≡ 1 = ap (λ (xs : List ℕ). length xs) f.1 in omega (arith, len))
 field_one wide (fixup high low what) bytes h = then_one (byte high) _ bytes h.1 (λ front f. let len : length front ≡ 1 = ap (λ (xs : List ℕ). length xs) f.1 in omega (arith, len))
 
 fields_sound : (wide : Bool) (record_at most : ℕ) (p : ObjParts) (c : Cursor) (xs : List FixField) → AreBytes c.left → length c.left ≤ most → fields_within wide record_at most p c ≡ Ok xs → each (field_form wide) xs c.left × GoodFields p xs
-unfolding fields_within
+unfolding fields_within within
 fields_sound wide record_at zero p c xs bytes few e =
     subst (λ (ys : List FixField). each (field_form wide) ys c.left × GoodFields p ys) (ok_is [] xs e) (nil_from_length c.left (omega (arith, few)), tt)
 fields_sound wide record_at (suc most) p c xs bytes few e =
@@ -161,7 +165,7 @@ fields_sound wide record_at (suc most) p c xs bytes few e =
     ]
 
 fields_complete : (wide : Bool) (record_at : ℕ) (xs : List FixField) (most : ℕ) (p : ObjParts) (c : Cursor) → length c.left ≤ most → each (field_form wide) xs c.left → GoodFields p xs → fields_within wide record_at most p c ≡ Ok xs
-unfolding fields_within
+unfolding fields_within within
 fields_complete wide record_at [] zero p c few so ok = refl
 fields_complete wide record_at [] (suc most) p c few so ok = rw so refl
 fields_complete wide record_at (x ∷ xs) zero p c few so ok =
@@ -176,12 +180,12 @@ fields_complete wide record_at (x ∷ xs) (suc most) p c few so ok =
     let rest = fields_complete wide record_at xs most (add_field p x) s.0 (omega (arith, few, long, grows)) s.2 ok.1 in
     rw (some, field_complete p wide record_at c x s.0 s.1 ok.0, rest) refl
 
-pub fixupp_sound : (p : ObjParts) (wide : Bool) (at : ℕ) (c : Cursor) (r : Record) → AreBytes c.left → fixupp_at wide p at c ≡ Ok r → Reads (pair 0x9C) p wide c r
+pub fixupp_sound : (p : ObjParts) (wide : Bool) (at : ℕ) (c : Cursor) (r : Record) → AreBytes c.left → fixupp_at wide p at c ≡ Ok r → IsRead (pair 0x9C) p wide c r
 unfolding fixupp_at
 fixupp_sound p wide at c r bytes e =
     let a = bind_ok (fields_within wide at (length c.left) p c) _ r e in
     let f = fields_sound wide at (length c.left) p c a.0 bytes (omega arith) a.1 in
-    subst (λ (q : Record). Reads (pair 0x9C) p wide c q) (ok_is (fixupp a.0) r a.2) (f.0, f.1, refl)
+    subst (λ (q : Record). IsRead (pair 0x9C) p wide c q) (ok_is (fixupp a.0) r a.2) (f.0, f.1, refl)
 
 pub fixupp_complete : (p : ObjParts) (wide : Bool) (at : ℕ) (c : Cursor) (fields : List FixField) → each (field_form wide) fields c.left → GoodFields p fields → fixupp_at wide p at c ≡ Ok (fixupp fields)
 unfolding fixupp_at
@@ -197,12 +201,12 @@ start_judged : (p : ObjParts) (o : Option FixData) → IfSome o (GoodFixData p) 
 start_judged p None h = tt
 start_judged p (Some d) h = (h.meant, λ y. h)
 
-pub modend_sound : (p : ObjParts) (wide : Bool) (c : Cursor) (r : Record) → AreBytes c.left → modend_at wide p c ≡ Ok r → Reads (pair 0x8A) p wide c r
+pub modend_sound : (p : ObjParts) (wide : Bool) (c : Cursor) (r : Record) → AreBytes c.left → modend_at wide p c ≡ Ok r → IsRead (pair 0x8A) p wide c r
 unfolding modend_at
 modend_sound p wide c r bytes e =
     step _ _ _ byte_sound c _ r bytes e λ kind c1 t1 f1 b1 e1.
     step _ _ _ (present_sound (has_start kind) _ _ _ (fix_sound p wide true)) c1 _ r b1 e1 λ start c2 t2 g2 b2 e2.
-    subst (λ (q : Record). Reads (pair 0x8A) p wide c q) (ok_is (modend kind start) r e2)
+    subst (λ (q : Record). IsRead (pair 0x8A) p wide c q) (ok_is (modend kind start) r e2)
     (then_left (byte kind) _ c c1 t1 (then_left _ anything c1 c2 t2 tt), judged_start p start g2, refl)
 
 pub modend_complete : (p : ObjParts) (wide : Bool) (c : Cursor) (kind : ℕ) (start : Option FixData) → contents_form wide (modend kind start) c.left → GoodAfter p (modend kind start) → modend_at wide p c ≡ Ok (modend kind start)

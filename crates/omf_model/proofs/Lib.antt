@@ -1,8 +1,4 @@
 pub mod Compute
-pub mod Takes
-pub mod FieldLaws
-pub mod ListLaws
-pub mod LengthLaws
 pub mod PlainLaws
 pub mod NameLaws
 pub mod CommentLaws
@@ -10,7 +6,7 @@ pub mod BlockLaws
 pub mod DataLaws
 pub mod FixLaws
 pub mod FixuppLaws
-pub mod FrameLaws
+pub mod RawLaws
 pub mod RecordLaws
 pub mod PartsLaws
 pub mod ModuleLaws

@@ -10,27 +10,28 @@ use Rattle.omf_frame.specs.Refusal.{IsCutOff}
 use Rattle.obj_types.specs.declared.refusal.OmfRefusal.{OmfRefusal}
 use Rattle.obj_types.specs.declared.refusal.OmfRefusal.TheVariants.{Short, BadField}
 use Rattle.obj_types.specs.declared.object.ObjModule.{ObjModule}
-use Rattle.omf_model.specs.Fields.{Reading, ◌>>=◌, check}
-use Rattle.omf_model.specs.ReadFrame.{Frame, whole_at, frame_at}
+use Rattle.omf_fields.specs.Within.{within}
+use Rattle.omf_fields.specs.Fields.{Reading, ◌>>=◌, check}
+use Rattle.omf_model.specs.RawRecord.{RawRecord, whole_at, raw_at}
 use Rattle.omf_model.specs.ReadModule.{header_at, module_at, is_page_size, up_to_page, ends_library, modules_within, library_of}
 use Rattle.omf_model.specs.Object.{Lib, FaultAt, PageFault, in_module, behind_module, LibraryFault, no_record, other_type, no_page, in_modules, behind}
-use Rattle.omf_model.proofs.Takes.{Takes, bytes_behind}
-use Rattle.omf_model.proofs.FieldLaws.{chosen}
-use Rattle.omf_model.proofs.FrameLaws.{frame, whole_short, cut_off, whole_sound, whole_complete}
+use Rattle.omf_fields.proofs.SpanLaws.{Spans, bytes_behind}
+use Rattle.omf_fields.proofs.FieldLaws.{chosen}
+use Rattle.omf_model.proofs.RawLaws.{whole_short, whole_cut, cut_off, whole_sound, whole_complete}
 use Rattle.omf_model.proofs.PageLaws.{up_from}
 use Rattle.omf_model.proofs.ModuleLaws.{ModuleForm, bind_err, module_sound, module_complete, module_faults, module_meets}
 use Rattle.omf_model.proofs.LibraryLaws.{AreBytes-back, module_long, header_begins, header_first, header_place, whole_header, library_sound, library_complete}
 
 -- nothing stands there
 nothing_there : (at : ℕ) → module_at (record { at = at; left = [] }) ≡ Err (Short at)
-unfolding module_at header_at frame_at whole_at
+unfolding module_at header_at raw_at whole_at
 nothing_there at = refl
 
 module_refused : (at : ℕ) (f : OmfRefusal) → module_at (record { at = at; left = [] }) ≡ Err f → FaultAt at [] f
 module_refused at f e = module_faults at [] f (λ i. omega arith) e
 
 pub pages_sound : (most size : ℕ) (c : Cursor) (f : OmfRefusal) → AreBytes c.left → length c.left ≤ most → modules_within most size c ≡ Err f → PageFault size c.at c.left f
-unfolding modules_within
+unfolding modules_within within
 pages_sound zero size c f bytes few e =
     let none : c.left ≡ [] = nil_from_length c.left (omega (arith, few)) in
     let same : Short c.at ≡ f = cc in
@@ -59,7 +60,7 @@ pages_sound (suc most) size c f bytes few e =
     ]
 
 pub pages_complete : (most size : ℕ) (at : ℕ) (bytes : List ℕ) (f : OmfRefusal) → length bytes ≤ most → PageFault size at bytes f → modules_within most size (record { at = at; left = bytes }) ≡ Err f
-unfolding modules_within
+unfolding modules_within within
 pages_complete zero size at bytes f few (in_module opens h) =
     let none : bytes ≡ [] = nil_from_length bytes (omega (arith, few)) in
     let both : module_at (record { at = at; left = [] }) ≡ Err f = subst (λ (xs : List ℕ). module_at (record { at = at; left = xs }) ≡ failed f) none (module_meets at bytes f h) in
@@ -75,7 +76,7 @@ pages_complete zero size at bytes f few (behind_module m body rest joined is h) 
 pages_complete (suc most) size at bytes f few (in_module opens h) = rw (opens, module_meets at bytes f h) refl
 pages_complete (suc most) size at bytes f few (behind_module m body rest joined is h) =
     let d : Cursor = behind at body rest in
-    let t : Takes (ModuleForm m) (record { at = at; left = bytes }) d = record { front = body; joined = joined; moved = refl; so = is } in
+    let t : Spans (ModuleForm m) (record { at = at; left = bytes }) d = record { front = body; joined = joined; moved = refl; so = is } in
     let opens : ends_library bytes ≡ false = subst (λ (xs : List ℕ). ends_library xs ≡ false) (sym joined) (header_first m body rest is) in
     let shorter : length bytes ≡ length body + length rest = ap (λ (xs : List ℕ). length xs) joined ∙ length-append body rest in
     let cut : length (drop (up_from size d.at) rest) ≤ length rest =
@@ -86,15 +87,6 @@ pages_complete (suc most) size at bytes f few (behind_module m body rest joined 
 
 -- ---- the header
 
-not_both : (x : Frame) (f : OmfRefusal) → (let r : Result Frame OmfRefusal = Ok x in r) ≡ Err f → ⊥
-not_both x f e = absurd cc
-
-whole_fault : (c : Cursor) (f : OmfRefusal) → whole_at c ≡ Err f → IsCutOff c.left × (Short c.at ≡ f)
-whole_fault c f e = (λ ty checksum body rest w. not_both _ f (sym (found ty checksum body rest w) ∙ e), whole_short c f e)
-  where
-    found : (ty checksum : ℕ) (body rest : List ℕ) → BeginsWhole c.left ty body checksum rest → whole_at c ≡ Ok (frame c.at ty body checksum rest)
-    found ty checksum body rest w = whole_complete c ty body checksum rest w
-
 check_fault : {B : Type 0} (b : Bool) (refusal : OmfRefusal) (g : Unit {0} → Result B OmfRefusal) (f : OmfRefusal) → (check b refusal >>= g) ≡ Err f → ((b ≡ false) × (refusal ≡ f)) ⊎ ((b ≡ true) × (g tt ≡ Err f))
 check_fault true refusal g f e = inr (refl, e)
 check_fault false refusal g f e = inl (refl, cc)
@@ -104,7 +96,7 @@ unfolding library_of
 library_faults bytes f are e =
     let start : Cursor = record { at = 0; left = bytes } in
     elim (bind_err (whole_at start) _ f e) [
-      | inl h ↦ let w = whole_fault start f h in subst (λ (q : OmfRefusal). LibraryFault bytes q) w.1 (no_record w.0)
+      | inl h ↦ subst (λ (q : OmfRefusal). LibraryFault bytes q) (whole_short start f h) (no_record (whole_cut start f h))
       | inr h ↦
           let x = h.0 in
           let w = whole_sound start x are h.1 in
@@ -127,14 +119,14 @@ library_faults bytes f are e =
           ]
     ]
 
-pub library_meets : (bytes : List ℕ) (f : OmfRefusal) → AreBytes bytes → LibraryFault bytes f → library_of bytes ≡ Err f
+pub library_meets : (bytes : List ℕ) (f : OmfRefusal) → LibraryFault bytes f → library_of bytes ≡ Err f
 unfolding library_of
-library_meets bytes f are (no_record cut) = rw (cut_off (record { at = 0; left = bytes }) are cut) refl
-library_meets bytes f are (other_type ty body checksum rest w other) = rw (whole_complete (record { at = 0; left = bytes }) ty body checksum rest w, ne_eqb ty 0xF0 other) refl
-library_meets bytes f are (no_page body checksum rest w bad) =
+library_meets bytes f (no_record cut) = rw (cut_off (record { at = 0; left = bytes }) cut) refl
+library_meets bytes f (other_type ty body checksum rest w other) = rw (whole_complete (record { at = 0; left = bytes }) ty body checksum rest w, ne_eqb ty 0xF0 other) refl
+library_meets bytes f (no_page body checksum rest w bad) =
     let place : is_page_size (0 + 4 + length body) ≡ false = subst (λ (n : ℕ). is_page_size n ≡ false) (let e : 4 + length body ≡ 0 + 4 + length body = omega arith in e) bad in
     rw (whole_complete (record { at = 0; left = bytes }) 0xF0 body checksum rest w, place) refl
-library_meets bytes f are (in_modules size front back joined header fault) =
+library_meets bytes f (in_modules size front back joined header fault) =
     let place = header_place size front header in
     let whole = header_begins bytes size front back joined header in
     let few : length back ≤ length bytes =
@@ -142,8 +134,8 @@ library_meets bytes f are (in_modules size front back joined header fault) =
     omega (arith, all) in
     rw (whole_complete (record { at = 0; left = bytes }) 0xF0 _ _ back whole, place, header.page, pages_complete (length bytes) size size back f few fault) refl
 
-pub library_fault_one : (bytes : List ℕ) (f g : OmfRefusal) → AreBytes bytes → LibraryFault bytes f → LibraryFault bytes g → f ≡ g
-library_fault_one bytes f g are h k = same f g (sym (library_meets bytes f are h) ∙ library_meets bytes g are k)
+pub library_fault_one : (bytes : List ℕ) (f g : OmfRefusal) → LibraryFault bytes f → LibraryFault bytes g → f ≡ g
+library_fault_one bytes f g h k = same f g (sym (library_meets bytes f h) ∙ library_meets bytes g k)
   where
     same : (x y : OmfRefusal) → (let r : Result (List ObjModule) OmfRefusal = Err x in r) ≡ Err y → x ≡ y
     same x y e = cc
@@ -155,8 +147,8 @@ library_either bytes are = by (library_of bytes) refl
     by (Ok ms) e = inl (ms, library_sound bytes ms are e)
     by (Err f) e = inr (f, library_faults bytes f are e)
 
-pub library_not_both : (bytes : List ℕ) (ms : List ObjModule) (f : OmfRefusal) → AreBytes bytes → Lib bytes ms → LibraryFault bytes f → ⊥
-library_not_both bytes ms f are h k = apart (sym (library_complete bytes ms h) ∙ library_meets bytes f are k)
+pub library_not_both : (bytes : List ℕ) (ms : List ObjModule) (f : OmfRefusal) → Lib bytes ms → LibraryFault bytes f → ⊥
+library_not_both bytes ms f h k = apart (sym (library_complete bytes ms h) ∙ library_meets bytes f k)
   where
     apart : (let r : Result (List ObjModule) OmfRefusal = Ok ms in r) ≡ Err f → ⊥
     apart e = absurd cc

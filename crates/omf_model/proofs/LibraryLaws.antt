@@ -10,15 +10,16 @@ use Rattle.lx_bytes.specs.LittleEndian.{AreBytes, little_bytes}
 use Rattle.lx_bytes.proofs.Numbers.{length-little_bytes}
 use Rattle.omf_frame.specs.Frame.{record_bytes, BeginsWhole}
 use Rattle.obj_types.specs.declared.object.ObjModule.{ObjModule}
-use Rattle.omf_model.specs.Fields.{◌>>=◌}
+use Rattle.omf_fields.specs.Within.{within}
+use Rattle.omf_fields.specs.Fields.{◌>>=◌}
 use Rattle.omf_model.specs.Record.{Record, header}
 use Rattle.omf_model.specs.Spelling.{SpellsAll}
-use Rattle.omf_model.specs.ReadFrame.{whole_at, frame_at}
+use Rattle.omf_model.specs.RawRecord.{whole_at, raw_at}
 use Rattle.omf_model.specs.ReadModule.{header_at, module_at, is_page_size, up_to_page, ends_library, modules_within, library_of}
 use Rattle.omf_model.specs.Object.{IsModule, IsPaged, ArePaged, IsHeader, Lib}
-use Rattle.omf_model.proofs.Takes.{Takes, bytes_behind, done, ok_is, bind_ok, step, checked_step}
-use Rattle.omf_model.proofs.FieldLaws.{chosen}
-use Rattle.omf_model.proofs.FrameLaws.{whole_sound, whole_complete}
+use Rattle.omf_fields.proofs.SpanLaws.{Spans, bytes_behind, done, ok_is, bind_ok, step, checked_step}
+use Rattle.omf_fields.proofs.FieldLaws.{chosen}
+use Rattle.omf_model.proofs.RawLaws.{whole_sound, whole_complete}
 use Rattle.omf_model.proofs.DataLaws.{bool_cases}
 use Rattle.omf_model.proofs.PageLaws.{up_from, IsMultiple, up_below, up_multiple, up_one, multiple_sum, up_behind}
 use Rattle.omf_model.proofs.RecordLaws.{by_two, spelled_long}
@@ -35,7 +36,7 @@ does_end [] e = absurd (let no : 0 ≡ 0xF1 = e in omega (arith, no))
 does_end (b ∷ rest) e = eq-eqb b 0xF1 e
 
 nothing_more : (most size at : ℕ) (ms : List ObjModule) → modules_within most size (record { at = at; left = [] }) ≡ Ok ms → ⊥
-unfolding modules_within module_at header_at frame_at whole_at
+unfolding modules_within module_at header_at raw_at whole_at within
 nothing_more zero size at ms e = absurd cc
 nothing_more (suc most) size at ms e = absurd cc
 
@@ -50,7 +51,7 @@ fill_fits most size d ms e =
     ]
 
 -- a module with its filling, where its first place is a multiple
-paged : (size : ℕ) (c d : Cursor) (m : ObjModule) → 1 ≤ size → IsMultiple size c.at → Takes (ModuleForm m) c d → up_from size d.at ≤ length d.left
+paged : (size : ℕ) (c d : Cursor) (m : ObjModule) → 1 ≤ size → IsMultiple size c.at → Spans (ModuleForm m) c d → up_from size d.at ≤ length d.left
     → (front : List ℕ) × (c.left ≡ front ++ drop (up_from size d.at) d.left) × IsPaged size front m × IsMultiple size (d.at + up_from size d.at)
 paged size c d m some at_page t long =
     let k : ℕ = up_from size d.at in
@@ -71,7 +72,7 @@ AreBytes-back front back i bytes joined h =
     bytes_behind (λ bs. Unit {0}) (record { at = 0; left = bytes }) (record { at = length front; left = back }) (record { front = front; joined = joined; moved = omega arith; so = tt }) h
 
 pub modules_sound : (most size : ℕ) (c : Cursor) (ms : List ObjModule) → 1 ≤ size → IsMultiple size c.at → AreBytes c.left → modules_within most size c ≡ Ok ms → ArePaged size ms c.left
-unfolding modules_within
+unfolding modules_within within
 modules_sound zero size c ms some at_page bytes e = absurd cc
 modules_sound (suc most) size c ms some at_page bytes e =
     elim (chosen (ends_library c.left) (Ok []) (module_at c >>= λ m. modules_within most size (up_to_page size m.1) >>= λ others. Ok (m.0 ∷ others)) (Ok ms) e) [
@@ -164,7 +165,7 @@ paged_long size (m ∷ ms) bytes so =
     omega (arith, long, part, module_long m p.body p.is_module, paged_long size ms so.back so.second_so)
 
 pub modules_complete : (ms : List ObjModule) (most size : ℕ) (c : Cursor) → 1 ≤ size → IsMultiple size c.at → ArePaged size ms c.left → length ms < most → modules_within most size c ≡ Ok ms
-unfolding modules_within
+unfolding modules_within within
 modules_complete ms zero size c some at_page so few = absurd (omega (arith, few))
 modules_complete [] (suc most) size c some at_page so few = rw (does_end c.left so) refl
 modules_complete (m ∷ ms) (suc most) size c some at_page so few =
@@ -172,7 +173,7 @@ modules_complete (m ∷ ms) (suc most) size c some at_page so few =
     let n : ℕ = length p.body in
     let d : Cursor = record { at = c.at + n; left = p.fill ++ so.back } in
     let all : c.left ≡ p.body ++ (p.fill ++ so.back) = so.joined ∙ ap (λ (xs : List ℕ). xs ++ so.back) p.joined ∙ append_assoc p.body p.fill so.back in
-    let t : Takes (ModuleForm m) c d = record { front = p.body; joined = all; moved = refl; so = p.is_module } in
+    let t : Spans (ModuleForm m) c d = record { front = p.body; joined = all; moved = refl; so = p.is_module } in
     let part : length so.front ≡ n + length p.fill = ap (λ (xs : List ℕ). length xs) p.joined ∙ length-append p.body p.fill in
     let filled : IsMultiple size (n + length p.fill) = record { times = p.pages; is = sym part ∙ p.whole } in
     let k : length p.fill ≡ up_from size n = up_one size n (length p.fill) (up_from size n) filled (up_multiple size n some) p.fewer (up_below size n some) in

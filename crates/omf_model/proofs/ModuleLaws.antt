@@ -9,18 +9,19 @@ use Rattle.obj_types.specs.declared.refusal.OmfRefusal.TheVariants.{Short}
 use Rattle.obj_types.specs.declared.object.ObjModule.{ObjModule}
 use Rattle.obj_types.specs.declared.parts.ObjParts.{ObjParts}
 use Rattle.obj_types.specs.Fresh.{fresh_parts}
-use Rattle.omf_model.specs.Fields.{◌>>=◌}
-use Rattle.omf_model.specs.Forms.{Form, nothing}
+use Rattle.omf_fields.specs.Within.{within}
+use Rattle.omf_fields.specs.Fields.{◌>>=◌}
+use Rattle.omf_fields.specs.Forms.{Form, nothing}
 use Rattle.omf_model.specs.Record.{Record, header, passed, comment, default_library, impdef, expdef, lnames, segdef, grpdef, pubdef, extdef, comdef, ledata, lidata, fixupp, modend, FixData}
 use Rattle.omf_model.specs.Add.{add}
 use Rattle.omf_model.specs.Parts.{parts_of, module_of}
 use Rattle.omf_model.specs.Good.{EachGood}
 use Rattle.omf_model.specs.Spelling.{Spells, SpellsAll}
-use Rattle.omf_model.specs.ReadFrame.{whole_at, frame_at}
+use Rattle.omf_model.specs.RawRecord.{whole_at, raw_at}
 use Rattle.omf_model.specs.ReadModule.{record_at, header_at, is_end, rest_within, module_at, object_of}
 use Rattle.omf_model.specs.Object.{IsOpen, IsModule, Obj, FaultAt, at_header, after_records, FirstFault}
-use Rattle.omf_model.proofs.Takes.{Takes, bytes_behind, then_takes, then_splits, takes_nothing, nothing_takes, Sound, Complete, given, done, ok_is, bind_ok, step}
-use Rattle.omf_model.proofs.FieldLaws.{Free, chosen}
+use Rattle.omf_fields.proofs.SpanLaws.{Spans, bytes_behind, then_spans, then_splits, spans_nothing, nothing_spans, Sound, Complete, given, done, ok_is, bind_ok, step}
+use Rattle.omf_fields.proofs.FieldLaws.{Free, chosen}
 use Rattle.omf_model.proofs.PartsLaws.{parts_of-snoc, parts_of-none}
 use Rattle.omf_model.proofs.RecordLaws.{SpellForm, HeaderForm, record_sound, record_complete, header_sound, header_complete, spelled_long}
 
@@ -72,7 +73,7 @@ ends_after (r ∷ s ∷ front) kind start open_ = (open_.0, ends_after (s ∷ fr
 
 record Rest (before : List Record) (c d : Cursor) (q : ObjParts) : Type 0 where
   records : List Record
-  takes : Takes (SpellsAll records) c d
+  spans : Spans (SpellsAll records) c d
   good : EachGood before records
   ends : Ends records
   meant : q ≡ parts_of (before ++ records)
@@ -82,17 +83,17 @@ more_ends r [] n h = absurd h
 more_ends r (s ∷ rs) n h = (n, h)
 
 rest_sound : (most : ℕ) (before : List Record) (c : Cursor) (q : ObjParts) (d : Cursor) → AreBytes c.left → rest_within most (parts_of before) c ≡ Ok (q, d) → Rest before c d q
-unfolding rest_within
+unfolding rest_within within
 rest_sound zero before c q d bytes e = absurd cc
 rest_sound (suc most) before c q d bytes e =
     step _ _ _ (record_sound (parts_of before)) c _ (q, d) bytes e λ r c1 t1 g1 b1 e1.
     elim (chosen (is_end r) (given (add (parts_of before) r) c1) (rest_within most (add (parts_of before) r) c1) (Ok (q, d)) e1) [
       | inl h ↦
           let same = ok_is (add (parts_of before) r, c1) (q, d) h.1 in
-          let one = then_takes (SpellForm r) nothing c c1 c1 t1 (takes_nothing c1) in
+          let one = then_spans (SpellForm r) nothing c c1 c1 t1 (spans_nothing c1) in
           record {
             records = r ∷ [];
-            takes = subst (λ (k : Cursor). Takes (SpellsAll (r ∷ [])) c k) (ap (λ (x : ObjParts × Cursor). x.1) same) one;
+            spans = subst (λ (k : Cursor). Spans (SpellsAll (r ∷ [])) c k) (ap (λ (x : ObjParts × Cursor). x.1) same) one;
             good = (g1, tt);
             ends = h.0;
             meant = ap (λ (x : ObjParts × Cursor). x.0) (sym same) ∙ sym (parts_of-snoc before r);
@@ -102,7 +103,7 @@ rest_sound (suc most) before c q d bytes e =
           let k = rest_sound most (before ++ r ∷ []) c1 q d b1 there in
           record {
             records = r ∷ k.records;
-            takes = then_takes (SpellForm r) (SpellsAll k.records) c c1 d t1 k.takes;
+            spans = then_spans (SpellForm r) (SpellsAll k.records) c c1 d t1 k.spans;
             good = (g1, k.good);
             ends = more_ends r k.records h.0 k.ends;
             meant = k.meant ∙ ap (λ (rs : List Record). parts_of rs) (append_assoc before (r ∷ []) k.records);
@@ -127,10 +128,10 @@ module_sound c m d bytes e =
     let text = t1.so.0 in
     let there : rest_within (length c.left) (parts_of (header text ∷ [])) c1 ≡ Ok a.0 = subst (λ (p : ObjParts). rest_within (length c.left) p c1 ≡ done a.0) (ap (λ (q : Record). add fresh_parts q) t1.so.1 ∙ sym (parts_header text)) a.1 in
     let k = rest_sound (length c.left) (header text ∷ []) c1 a.0.0 a.0.1 b1 there in
-    let first : Takes (SpellForm (header text)) c c1 = record { front = t1.front; joined = t1.joined; moved = t1.moved; so = subst (λ (q : Record). Spells t1.front q) t1.so.1 t1.so.2 } in
-    let whole = then_takes (SpellForm (header text)) (SpellsAll k.records) c c1 a.0.1 first k.takes in
+    let first : Spans (SpellForm (header text)) c c1 = record { front = t1.front; joined = t1.joined; moved = t1.moved; so = subst (λ (q : Record). Spells t1.front q) t1.so.1 t1.so.2 } in
+    let whole = then_spans (SpellForm (header text)) (SpellsAll k.records) c c1 a.0.1 first k.spans in
     let last = ended k.records k.ends in
-    subst (λ (x : ObjModule × Cursor). Takes (ModuleForm x.0) c x.1 × Unit {0}) (ok_is (a.0.0.module, a.0.1) (m, d) a.2) (
+    subst (λ (x : ObjModule × Cursor). Spans (ModuleForm x.0) c x.1 × Unit {0}) (ok_is (a.0.0.module, a.0.1) (m, d) a.2) (
       record {
         front = whole.front;
         joined = whole.joined;
@@ -160,13 +161,13 @@ long_enough (r ∷ rs) bytes so =
     let long : length bytes ≡ length so.front + length so.back = ap (λ (xs : List ℕ). length xs) so.joined ∙ length-append so.front so.back in
     omega (arith, long, spelled_long r so.front so.first_so, long_enough rs so.back so.second_so)
 
-rest_complete : (rs before : List Record) (most : ℕ) (c d : Cursor) → Ends rs → EachGood before rs → Takes (SpellsAll rs) c d → length rs ≤ most → rest_within most (parts_of before) c ≡ Ok (parts_of (before ++ rs), d)
-unfolding rest_within
+rest_complete : (rs before : List Record) (most : ℕ) (c d : Cursor) → Ends rs → EachGood before rs → Spans (SpellsAll rs) c d → length rs ≤ most → rest_within most (parts_of before) c ≡ Ok (parts_of (before ++ rs), d)
+unfolding rest_within within
 rest_complete [] before most c d ends good t few = absurd ends
 rest_complete (r ∷ rs) before zero c d ends good t few = absurd (omega (arith, few))
 rest_complete (r ∷ []) before (suc most) c d ends good t few =
     let s = then_splits (SpellForm r) nothing c d t in
-    rw (record_complete (parts_of before) c r s.0 s.1 good.0, ends, nothing_takes s.0 d s.2, parts_of-snoc before r) refl
+    rw (record_complete (parts_of before) c r s.0 s.1 good.0, ends, nothing_spans s.0 d s.2, parts_of-snoc before r) refl
 rest_complete (r ∷ x ∷ rs) before (suc most) c d ends good t few =
     let s = then_splits (SpellForm r) (SpellsAll (x ∷ rs)) c d t in
     let rest = rest_complete (x ∷ rs) (before ++ r ∷ []) most s.0 d ends.1 good.1 s.2 (omega (arith, few)) in
@@ -184,7 +185,7 @@ module_complete c m d t free =
     let w = t.so in
     let name = w.are.begun.name in
     let others = w.are.begun.others in
-    let spelled : Takes (SpellsAll (header name ∷ others)) c d = record { front = t.front; joined = t.joined; moved = t.moved; so = subst (λ (rs : List Record). SpellsAll rs t.front) w.are.begun.headed w.spelled } in
+    let spelled : Spans (SpellsAll (header name ∷ others)) c d = record { front = t.front; joined = t.joined; moved = t.moved; so = subst (λ (rs : List Record). SpellsAll rs t.front) w.are.begun.headed w.spelled } in
     let s = then_splits (SpellForm (header name)) (SpellsAll others) c d spelled in
     let same : w.are.front ++ modend w.are.kind w.are.start ∷ [] ≡ header name ∷ others = sym w.are.ended ∙ w.are.begun.headed in
     let ends = ends_others name others (subst Ends same (ends_after w.are.front w.are.kind w.are.start w.are.once)) in
@@ -215,7 +216,7 @@ pub object_complete : (bytes : List ℕ) (m : ObjModule) → Obj bytes m → obj
 unfolding object_of
 object_complete bytes m h =
     let d : Cursor = record { at = 0 + length h.front; left = h.back } in
-    let t : Takes (ModuleForm m) (start_of bytes) d = record { front = h.front; joined = h.joined; moved = refl; so = h.first_so } in
+    let t : Spans (ModuleForm m) (start_of bytes) d = record { front = h.front; joined = h.joined; moved = refl; so = h.first_so } in
     rw (module_complete (start_of bytes) m d t tt) refl
 
 -- bytes mean one module at most
@@ -229,27 +230,27 @@ bind_err (Ok x) f y e = inr (x, refl, e)
 bind_err (Err d) f y e = inl (let same : d ≡ y = cc in ap (λ (q : OmfRefusal). Err q) same)
 
 nothing_left : (p : ObjParts) (c : Cursor) → c.left ≡ [] → record_at p c ≡ Err (Short c.at)
-unfolding record_at frame_at whole_at
+unfolding record_at raw_at whole_at
 nothing_left p c none = rw none refl
 
 -- behind records that are good and open the next one is at fault
 record Faults (before : List Record) (c : Cursor) (refusal : OmfRefusal) : Type 0 where
   records : List Record
   behind : Cursor
-  takes : Takes (SpellsAll records) c behind
+  spans : Spans (SpellsAll records) c behind
   good : EachGood before records
   still : IsOpen records
   fault : record_at (parts_of (before ++ records)) behind ≡ Err refusal
 
 rest_faults : (most : ℕ) (before : List Record) (c : Cursor) (refusal : OmfRefusal) → AreBytes c.left → length c.left ≤ most → rest_within most (parts_of before) c ≡ Err refusal → Faults before c refusal
-unfolding rest_within
+unfolding rest_within within
 rest_faults zero before c refusal bytes few e =
     let none : c.left ≡ [] = nil_from_length c.left (omega (arith, few)) in
     let same : Short c.at ≡ refusal = cc in
     record {
       records = [];
       behind = c;
-      takes = takes_nothing c;
+      spans = spans_nothing c;
       good = tt;
       still = tt;
       fault = nothing_left (parts_of (before ++ [])) c none ∙ ap (λ (q : OmfRefusal). Err q) same;
@@ -259,7 +260,7 @@ rest_faults (suc most) before c refusal bytes few e =
       | inl h ↦ record {
         records = [];
         behind = c;
-        takes = takes_nothing c;
+        spans = spans_nothing c;
         good = tt;
         still = tt;
         fault = ap (λ (rs : List Record). record_at (parts_of rs) c) (append-nil before) ∙ h;
@@ -278,7 +279,7 @@ rest_faults (suc most) before c refusal bytes few e =
                 record {
                   records = r ∷ rest.records;
                   behind = rest.behind;
-                  takes = then_takes (SpellForm r) (SpellsAll rest.records) c c1 rest.behind s.0 rest.takes;
+                  spans = then_spans (SpellForm r) (SpellsAll rest.records) c c1 rest.behind s.0 rest.spans;
                   good = (s.1, rest.good);
                   still = (k.0, rest.still);
                   fault = ap (λ (rs : List Record). record_at (parts_of rs) rest.behind) (sym (append_assoc before (r ∷ []) rest.records)) ∙ rest.fault;
@@ -305,8 +306,8 @@ module_faults at bytes refusal are e =
                 let there : rest_within (length bytes) (parts_of (header text ∷ [])) c1 ≡ Err refusal = subst (λ (p : ObjParts). rest_within (length bytes) p c1 ≡ failed refusal) (ap (λ (q : Record). add fresh_parts q) t1.so.1 ∙ sym (parts_header text)) k in
                 let long : length bytes ≡ length t1.front + length c1.left = ap (λ (ys : List ℕ). length ys) t1.joined ∙ length-append t1.front c1.left in
                 let rest = rest_faults (length bytes) (header text ∷ []) c1 refusal (bytes_behind (HeaderForm r) c c1 t1 are) (omega (arith, long)) there in
-                let first : Takes (SpellForm (header text)) c c1 = record { front = t1.front; joined = t1.joined; moved = t1.moved; so = subst (λ (q : Record). Spells t1.front q) t1.so.1 t1.so.2 } in
-                let whole = then_takes (SpellForm (header text)) (SpellsAll rest.records) c c1 rest.behind first rest.takes in
+                let first : Spans (SpellForm (header text)) c c1 = record { front = t1.front; joined = t1.joined; moved = t1.moved; so = subst (λ (q : Record). Spells t1.front q) t1.so.1 t1.so.2 } in
+                let whole = then_spans (SpellForm (header text)) (SpellsAll rest.records) c c1 rest.behind first rest.spans in
                 after_records (record {
                   records = header text ∷ rest.records;
                   front = whole.front;
@@ -325,11 +326,11 @@ module_faults at bytes refusal are e =
     failed q = Err q
 
 -- a fault that is the first is found
-rest_meets : (rs before : List Record) (most : ℕ) (c d : Cursor) (refusal : OmfRefusal) → IsOpen rs → EachGood before rs → Takes (SpellsAll rs) c d → length rs < most → record_at (parts_of (before ++ rs)) d ≡ Err refusal → rest_within most (parts_of before) c ≡ Err refusal
-unfolding rest_within
+rest_meets : (rs before : List Record) (most : ℕ) (c d : Cursor) (refusal : OmfRefusal) → IsOpen rs → EachGood before rs → Spans (SpellsAll rs) c d → length rs < most → record_at (parts_of (before ++ rs)) d ≡ Err refusal → rest_within most (parts_of before) c ≡ Err refusal
+unfolding rest_within within
 rest_meets rs before zero c d refusal still good t few e = absurd (omega (arith, few))
 rest_meets [] before (suc most) c d refusal still good t few e =
-    let here : record_at (parts_of before) c ≡ Err refusal = ap (λ (rs : List Record). record_at (parts_of rs) c) (sym (append-nil before)) ∙ ap (λ (k : Cursor). record_at (parts_of (before ++ [])) k) (nothing_takes c d t) ∙ e in
+    let here : record_at (parts_of before) c ≡ Err refusal = ap (λ (rs : List Record). record_at (parts_of rs) c) (sym (append-nil before)) ∙ ap (λ (k : Cursor). record_at (parts_of (before ++ [])) k) (nothing_spans c d t) ∙ e in
     rw here refl
 rest_meets (r ∷ rs) before (suc most) c d refusal still good t few e =
     let s = then_splits (SpellForm r) (SpellsAll rs) c d t in
@@ -348,7 +349,7 @@ module_meets at bytes refusal (after_records h) =
     let d : Cursor = record { at = at + length h.front; left = h.back } in
     let name = h.begun.name in
     let others = h.begun.others in
-    let spelled : Takes (SpellsAll (header name ∷ others)) c d = record { front = h.front; joined = h.joined; moved = refl; so = subst (λ (rs : List Record). SpellsAll rs h.front) h.begun.headed h.spelled } in
+    let spelled : Spans (SpellsAll (header name ∷ others)) c d = record { front = h.front; joined = h.joined; moved = refl; so = subst (λ (rs : List Record). SpellsAll rs h.front) h.begun.headed h.spelled } in
     let s = then_splits (SpellForm (header name)) (SpellsAll others) c d spelled in
     let still : IsOpen (header name ∷ others) = subst IsOpen h.begun.headed h.open_ended in
     let enough : length others < length bytes =

@@ -1,7 +1,8 @@
 -- What the records say together, one record after another.
-use Rattle.std.proofs.Common.{◌≡◌, ℕ, List, [], ◌∷◌, ◌++◌, map, length, get_or, Option, Some, None, refl, sym, ap, ◌∙◌, append_assoc, arith}
+use Rattle.std.proofs.Common.{◌≡◌, ℕ, Bool, true, false, cond, List, [], ◌∷◌, ◌++◌, map, length, get_or, Option, Some, None, refl, sym, ap, ◌∙◌, append_assoc, arith}
 use Rattle.std.specs.List.{flat_map, filter_map, cons_option}
 use Rattle.std.proofs.lemmas.List.{append-nil}
+use Rattle.obj_types.specs.declared.object.Piece.{Piece}
 use Rattle.obj_types.specs.declared.object.FixAt.{FixAt}
 use Rattle.obj_types.specs.declared.object.StartAt.{StartAt}
 use Rattle.obj_types.specs.declared.parts.LastData.{LastData}
@@ -10,11 +11,13 @@ use Rattle.obj_types.specs.declared.parts.Threads.{Threads}
 use Rattle.obj_types.specs.declared.parts.ObjParts.{ObjParts}
 use Rattle.obj_types.specs.Fresh.{fresh_parts}
 use Rattle.omf_model.specs.Lists.{collect_after, collect, latest}
-use Rattle.omf_model.specs.Record.{Record, fixupp, FixField}
+use Rattle.omf_model.specs.Blocks.{block_bytes, expanded}
+use Rattle.omf_model.specs.Record.{Record, header, passed, comment, default_library, impdef, expdef, lnames, segdef, grpdef, pubdef, extdef, comdef, ledata, lidata, fixupp, modend, FixField}
 use Rattle.omf_model.specs.Fixups.{some, frame_set, goal_set, of_each_number, set_threads, unset, threads_of, fixes_by}
-use Rattle.omf_model.specs.Items.{names_in, segs_in, groups_in, pubs_in, exts_in, imports_in, exports_in, deflibs_in, pieces_in, datas_in, fields_in, header_in, starts_in}
+use Rattle.omf_model.specs.Items.{names_in, segs_in, groups_in, pubs_in, exts_in, imports_in, exports_in, deflibs_in, pieces_in, datas_in, fields_in, header_in, starts_in, name_with, seg_of, group_of, pub_of, ext_of, com_of, import_of, export_of, is_debug_seg, start_of}
 use Rattle.omf_model.specs.Parts.{names_of, segs_of, groups_of, pieces_of, last_of, fields_of, fixes_in, fixes_of, starts_of, module_of, parts_of}
-use Rattle.omf_model.specs.Add.{add_to_module, add, add_field}
+use Rattle.omf_model.specs.Add.{add, add_data, add_field, add_fields}
+use Rattle.omf_model.specs.AddLists.{module_with, parts_with, HasFour}
 
 -- ---- lists
 
@@ -88,8 +91,8 @@ fixes_of-snoc rs r =
     collect-snoc (λ before r. fixes_in (last_of before) (fields_of before) r) rs r
     ∙ ap (λ (fs : List FixAt). collect (λ before r. fixes_in (last_of before) (fields_of before) r) rs ++ fs) (fixes_in-is (last_of rs) (fields_of rs) r)
 
-module_of-snoc : (rs : List Record) (r : Record) → module_of (rs ++ r ∷ []) ≡ add_to_module (parts_of rs) r
-unfolding module_of add_to_module parts_of names_of segs_of groups_of pieces_of starts_of
+module_of-snoc : (rs : List Record) (r : Record) → module_of (rs ++ r ∷ []) ≡ module_with (parts_of rs) r
+unfolding module_of module_with parts_of names_of segs_of groups_of pieces_of starts_of
 module_of-snoc rs r = λ i. record {
   name = (ap (λ (ns : List (List ℕ)). latest [] ns) (flat_map-snoc header_in rs r) ∙ latest-append [] (flat_map header_in rs) (header_in r)) i;
   segs = collect-snoc (λ before r. segs_in (names_of before) r) rs r i;
@@ -105,9 +108,9 @@ module_of-snoc rs r = λ i. record {
 }
 
 -- What the records say with one more is what they said and what it adds.
-pub parts_of-snoc : (rs : List Record) (r : Record) → parts_of (rs ++ r ∷ []) ≡ add (parts_of rs) r
-unfolding parts_of add names_of last_of segs_of module_of
-parts_of-snoc rs r = λ i. record {
+pub parts_of-lists : (rs : List Record) (r : Record) → parts_of (rs ++ r ∷ []) ≡ parts_with (parts_of rs) r
+unfolding parts_of parts_with names_of last_of segs_of module_of
+parts_of-lists rs r = λ i. record {
   names = flat_map-snoc names_in rs r i;
   «module» = module_of-snoc rs r i;
   last = (ap (λ (ds : List LastData). latest datas.None ds) (collect-snoc (λ before r. datas_in (segs_of before) r) rs r) ∙ latest-append datas.None (collect (λ before r. datas_in (segs_of before) r) rs) (datas_in (segs_of rs) r)) i;
@@ -135,10 +138,10 @@ add_field-fixes last ts old f fs =
     ∙ (λ i. old ++ (sym (append-nil first) i ++ collect (λ fields g. fixes_by last (set_threads (set_threads ts (f ∷ [])) fields) g) fs))
     ∙ sym (append_assoc old (first ++ []) (collect (λ fields g. fixes_by last (set_threads (set_threads ts (f ∷ [])) fields) g) fs))
 
--- A FIXUPP record adds what its first field adds, and then what the others add.
-pub add-fields : (p : ObjParts) (f : FixField) (fs : List FixField) → add p (fixupp (f ∷ fs)) ≡ add (add_field p f) (fixupp fs)
-unfolding add add_to_module add_field
-add-fields p f fs = λ i. record {
+-- A FIXUPP record's items are those of its first field, and then those of the others.
+lists-fields : (p : ObjParts) (f : FixField) (fs : List FixField) → parts_with p (fixupp (f ∷ fs)) ≡ parts_with (parts_with p (fixupp (f ∷ []))) (fixupp fs)
+unfolding parts_with module_with
+lists-fields p f fs = λ i. record {
   names = sym (append-nil (p.names ++ [])) i;
   «module» = record {
     name = p.module.name;
@@ -165,24 +168,116 @@ four-items (a ∷ b ∷ c ∷ []) e = absurd (omega (arith, e))
 four-items (a ∷ b ∷ c ∷ d ∷ []) e = refl
 four-items (a ∷ b ∷ c ∷ d ∷ x ∷ xs) e = absurd (omega (arith, e))
 
--- A FIXUPP record without fields adds nothing. There are four threads of each kind.
-pub add-no_fields : (p : ObjParts) → length p.threads.frame ≡ 4 → length p.threads.goal ≡ 4 → add p (fixupp []) ≡ p
-unfolding add add_to_module set_threads
-add-no_fields p frames goals = λ i. record {
-  names = append-nil p.names i;
-  «module» = record {
-    name = p.module.name;
-    segs = append-nil p.module.segs i;
-    groups = append-nil p.module.groups i;
-    pubs = append-nil p.module.pubs i;
-    exts = append-nil p.module.exts i;
-    pieces = append-nil p.module.pieces i;
-    fixes = append-nil p.module.fixes i;
-    imports = append-nil p.module.imports i;
-    exports = append-nil p.module.exports i;
-    deflibs = append-nil p.module.deflibs i;
-    start = p.module.start;
-  };
-  last = p.last;
-  threads = record { frame = four-items p.threads.frame frames i; goal = four-items p.threads.goal goals i };
-}
+pub no_threads : (ts : Threads) → HasFour ts → set_threads ts [] ≡ ts
+unfolding set_threads
+no_threads ts four = λ i. record { frame = four-items ts.frame four.frames i; goal = four-items ts.goal four.goals i }
+
+-- what a record adds that has nothing
+module _ (p : ObjParts) (four : HasFour p.threads) where
+  abbrev padded : ObjParts
+  padded = record {
+    names = p.names ++ [];
+    «module» = record {
+      name = p.module.name;
+      segs = p.module.segs ++ [];
+      groups = p.module.groups ++ [];
+      pubs = p.module.pubs ++ [];
+      exts = p.module.exts ++ [];
+      pieces = p.module.pieces ++ [];
+      fixes = p.module.fixes ++ [];
+      imports = p.module.imports ++ [];
+      exports = p.module.exports ++ [];
+      deflibs = p.module.deflibs ++ [];
+      start = p.module.start;
+    };
+    last = p.last;
+    threads = set_threads p.threads [];
+  }
+
+  unpadded : p ≡ padded
+  unpadded = λ i. record {
+    names = sym (append-nil p.names) i;
+    «module» = record {
+      name = p.module.name;
+      segs = sym (append-nil p.module.segs) i;
+      groups = sym (append-nil p.module.groups) i;
+      pubs = sym (append-nil p.module.pubs) i;
+      exts = sym (append-nil p.module.exts) i;
+      pieces = sym (append-nil p.module.pieces) i;
+      fixes = sym (append-nil p.module.fixes) i;
+      imports = sym (append-nil p.module.imports) i;
+      exports = sym (append-nil p.module.exports) i;
+      deflibs = sym (append-nil p.module.deflibs) i;
+      start = p.module.start;
+    };
+    last = p.last;
+    threads = sym (no_threads p.threads four) i;
+  }
+
+  data-lists : (piece : Piece) (last : LastData) (b : Bool) → is_debug_seg p.module.segs piece.seg ≡ b
+      → add_data p piece last ≡ record padded { «module» = record padded.module { pieces = p.module.pieces ++ cond b [] (piece ∷ []) }; last = cond b datas.Dropped last }
+  data-lists piece last true e = rw e (ap (λ (q : ObjParts). record q { last = datas.Dropped }) unpadded)
+  data-lists piece last false e = rw e (ap (λ (q : ObjParts). record q { «module» = record q.module { pieces = p.module.pieces ++ piece ∷ [] }; last = last }) unpadded)
+
+  one-field : (f : FixField) → parts_with p (fixupp (f ∷ [])) ≡ add_field p f
+  unfolding parts_with module_with add_field
+  one-field f = λ i. record {
+    names = append-nil p.names i;
+    «module» = record {
+      name = p.module.name;
+      segs = append-nil p.module.segs i;
+      groups = append-nil p.module.groups i;
+      pubs = append-nil p.module.pubs i;
+      exts = append-nil p.module.exts i;
+      pieces = append-nil p.module.pieces i;
+      fixes = p.module.fixes ++ (append-nil (fixes_by p.last (set_threads p.threads []) f) ∙ ap (λ (ts : Threads). fixes_by p.last ts f) (no_threads p.threads four)) i;
+      imports = append-nil p.module.imports i;
+      exports = append-nil p.module.exports i;
+      deflibs = append-nil p.module.deflibs i;
+      start = p.module.start;
+    };
+    last = p.last;
+    threads = set_threads p.threads (f ∷ []);
+  }
+
+pub four-field : (p : ObjParts) (f : FixField) → HasFour (add_field p f).threads
+unfolding add_field set_threads
+four-field p f = record { frames = refl; goals = refl }
+
+fields-lists : (fs : List FixField) (p : ObjParts) → HasFour p.threads → add_fields p fs ≡ parts_with p (fixupp fs)
+unfolding add_fields
+fields-lists [] p four = no_fields p four
+  where
+    no_fields : (p : ObjParts) → HasFour p.threads → p ≡ parts_with p (fixupp [])
+    no_fields p four = unfold parts_with module_with in unpadded p four
+fields-lists (f ∷ fs) p four =
+    fields-lists fs (add_field p f) (four-field p f)
+    ∙ ap (λ (q : ObjParts). parts_with q (fixupp fs)) (sym (one-field p four f))
+    ∙ sym (lists-fields p f fs)
+
+-- A record adds its items to each list.
+pub add-lists : (p : ObjParts) (r : Record) → HasFour p.threads → add p r ≡ parts_with p r
+unfolding add parts_with module_with
+add-lists p (header name) four = ap (λ (q : ObjParts). record q { «module» = record q.module { name = name } }) (unpadded p four)
+add-lists p passed four = unpadded p four
+add-lists p comment four = unpadded p four
+add-lists p (default_library name) four = ap (λ (q : ObjParts). record q { «module» = record q.module { deflibs = p.module.deflibs ++ name ∷ [] } }) (unpadded p four)
+add-lists p (impdef d) four = ap (λ (q : ObjParts). record q { «module» = record q.module { imports = p.module.imports ++ import_of d ∷ [] } }) (unpadded p four)
+add-lists p (expdef d) four = ap (λ (q : ObjParts). record q { «module» = record q.module { exports = p.module.exports ++ export_of d ∷ [] } }) (unpadded p four)
+add-lists p (lnames names) four = ap (λ (q : ObjParts). record q { names = p.names ++ names }) (unpadded p four)
+add-lists p (segdef d) four = ap (λ (q : ObjParts). record q { «module» = record q.module { segs = p.module.segs ++ seg_of p.names d ∷ [] } }) (unpadded p four)
+add-lists p (grpdef name members) four = ap (λ (q : ObjParts). record q { «module» = record q.module { groups = p.module.groups ++ group_of (name_with p.names name) members ∷ [] } }) (unpadded p four)
+add-lists p (pubdef local group segment frame defs) four = ap (λ (q : ObjParts). record q { «module» = record q.module { pubs = p.module.pubs ++ map (pub_of local segment) defs } }) (unpadded p four)
+add-lists p (extdef local defs) four = ap (λ (q : ObjParts). record q { «module» = record q.module { exts = p.module.exts ++ map (ext_of local) defs } }) (unpadded p four)
+add-lists p (comdef defs) four = ap (λ (q : ObjParts). record q { «module» = record q.module { exts = p.module.exts ++ map com_of defs } }) (unpadded p four)
+add-lists p (ledata seg offset content) four = data-lists p four (record { seg = seg; offset = offset; bytes = content }) (datas.Straight seg offset (length content)) (is_debug_seg p.module.segs seg) refl
+add-lists p (lidata wide seg offset blocks) four = data-lists p four (record { seg = seg; offset = offset; bytes = expanded blocks }) (datas.Blocks seg offset wide (block_bytes wide blocks)) (is_debug_seg p.module.segs seg) refl
+add-lists p (fixupp fields) four = fields-lists fields p four
+add-lists p (modend kind start) four = ap (λ (q : ObjParts). record q { «module» = record q.module { start = start_of p.threads start } }) (unpadded p four)
+
+pub parts-four : (rs : List Record) → HasFour (parts_of rs).threads
+unfolding parts_of threads_of set_threads
+parts-four rs = record { frames = refl; goals = refl }
+
+pub parts_of-snoc : (rs : List Record) (r : Record) → parts_of (rs ++ r ∷ []) ≡ add (parts_of rs) r
+parts_of-snoc rs r = parts_of-lists rs r ∙ sym (add-lists (parts_of rs) r (parts-four rs))

@@ -8,11 +8,11 @@ use Rattle.omf_model.specs.Items.{is_debug_seg}
 use Rattle.std.proofs.Common.{◌≡◌, ◌≢◌, ℕ, zero, suc, ◌<◌, ◌≤◌, Bool, true, false, List, [], ◌∷◌, length, Option, Some, None, refl, sym, ap, subst, arith}
 use Rattle.lx_bytes.specs.Cursor.{Cursor}
 use Rattle.obj_types.specs.declared.parts.ObjParts.{ObjParts}
-use Rattle.omf_model.specs.Fields.{checked, is_among, index_at}
-use Rattle.omf_model.specs.Forms.{index}
+use Rattle.omf_fields.specs.Fields.{checked, is_among, index_at}
+use Rattle.omf_fields.specs.Forms.{index}
 use Rattle.omf_model.specs.ReadNames.{checked_plain, plain_seg_at, plain_seg_or_zero}
-use Rattle.omf_model.proofs.Takes.{Takes, Sound, Complete, ok_is, bind_ok, step, checked_step}
-use Rattle.omf_model.proofs.FieldLaws.{Free, FromOne, guard_so, among, is_among_index, among_or_zero, is_among_zero, index_sound, index_complete}
+use Rattle.omf_fields.proofs.SpanLaws.{Spans, Sound, Complete, ok_is, bind_ok, step, checked_step}
+use Rattle.omf_fields.proofs.FieldLaws.{Free, FromOne, guard_so, among, is_among_index, among_or_zero, is_among_zero, index_sound, index_complete}
 
 -- ---- segments that are no debug segments
 
@@ -65,10 +65,10 @@ plain_sound p c x d bytes e =
     let g = guard_so (is_among false (length p.module.segs) i) (BadIndex c.at i (length p.module.segs)) (i, b) a.0 a.1 in
     let h = checked_step (not (is_debug_seg p.module.segs a.0.0)) _ _ (x, d) a.2 in
     let same : a.0.0 ≡ i = ap (λ (q : ℕ × Cursor). q.0) (sym g.1) in
-    let takes : Takes (index a.0.0) c a.0.1 = subst (λ (q : ℕ × Cursor). Takes (index q.0) c q.1) g.1 t in
+    let spans : Spans (index a.0.0) c a.0.1 = subst (λ (q : ℕ × Cursor). Spans (index q.0) c q.1) g.1 t in
     let range : FromOne (length p.module.segs) a.0.0 = subst (λ (k : ℕ). FromOne (length p.module.segs) k) (sym same) (among _ i g.0) in
-    subst (λ (q : ℕ × Cursor). Takes (index q.0) c q.1 × IsPlainSeg p.module q.0) (ok_is a.0 (x, d) h.1)
-    (takes, plain_from p.module.segs a.0.0 range (not_true _ h.0))
+    subst (λ (q : ℕ × Cursor). Spans (index q.0) c q.1 × IsPlainSeg p.module q.0) (ok_is a.0 (x, d) h.1)
+    (spans, plain_from p.module.segs a.0.0 range (not_true _ h.0))
 
 pub plain_complete : (p : ObjParts) → Complete (plain_seg_at p) index (IsPlainSeg p.module)
 unfolding plain_seg_at
@@ -99,10 +99,10 @@ or_zero_plain_sound p c x d bytes e =
     let g = guard_so (is_among true (length p.module.segs) i) (BadIndex c.at i (length p.module.segs)) (i, b) a.0 a.1 in
     let h = checked_step (not (is_debug_seg p.module.segs a.0.0)) _ _ (x, d) a.2 in
     let same : a.0.0 ≡ i = ap (λ (q : ℕ × Cursor). q.0) (sym g.1) in
-    let takes : Takes (index a.0.0) c a.0.1 = subst (λ (q : ℕ × Cursor). Takes (index q.0) c q.1) g.1 t in
+    let spans : Spans (index a.0.0) c a.0.1 = subst (λ (q : ℕ × Cursor). Spans (index q.0) c q.1) g.1 t in
     let range : a.0.0 ≤ length p.module.segs = subst (λ (k : ℕ). k ≤ length p.module.segs) (sym same) (among_or_zero _ i g.0) in
-    subst (λ (q : ℕ × Cursor). Takes (index q.0) c q.1 × PlainOrZero p q.0) (ok_is a.0 (x, d) h.1)
-    (takes, or_zero_from p.module.segs a.0.0 range (not_true _ h.0))
+    subst (λ (q : ℕ × Cursor). Spans (index q.0) c q.1 × PlainOrZero p q.0) (ok_is a.0 (x, d) h.1)
+    (spans, or_zero_from p.module.segs a.0.0 range (not_true _ h.0))
 
 pub or_zero_plain_complete : (p : ObjParts) → Complete (plain_seg_or_zero p) index (PlainOrZero p)
 unfolding plain_seg_or_zero

@@ -10,19 +10,19 @@ use Rattle.omf_frame.specs.Frame.{record_bytes, BeginsWhole, IsChecksum}
 use Rattle.omf_frame.specs.RecordType.{is_record_type}
 use Rattle.obj_types.specs.declared.refusal.OmfRefusal.{OmfRefusal}
 use Rattle.obj_types.specs.declared.parts.ObjParts.{ObjParts}
-use Rattle.omf_model.specs.Forms.{Form, anything, name}
+use Rattle.omf_fields.specs.Forms.{Form, anything, name}
 use Rattle.omf_model.specs.Record.{Record, header, passed, comment, default_library, impdef, expdef, lnames, segdef, grpdef, pubdef, extdef, comdef, ledata, lidata, fixupp, modend}
-use Rattle.omf_model.specs.ReadFrame.{Frame, frame_at}
+use Rattle.omf_model.specs.RawRecord.{RawRecord, raw_at}
 use Rattle.omf_model.specs.ReadModule.{contents_of, is_wide, reader_of, record_at, header_at}
 use Rattle.omf_model.specs.Spelling.{pair, types_of, contents_form, Spells}
 use Rattle.omf_model.specs.Good.{GoodAfter}
-use Rattle.omf_model.proofs.Takes.{Takes, cursor_is, then_left, left_splits, Sound, Complete, given, ok_is, bind_ok, step, checked_step}
-use Rattle.omf_model.proofs.FieldLaws.{Free, AreBytes-take, name_sound, name_complete}
-use Rattle.omf_model.proofs.NameLaws.{Reads, ext_types, pub_types, lnames_sound, lnames_complete, segdef_sound, segdef_complete, grpdef_sound, grpdef_complete, pubdef_sound, pubdef_complete, extdef_sound, extdef_complete, comdef_sound, comdef_complete}
+use Rattle.omf_fields.proofs.SpanLaws.{Spans, cursor_is, then_left, left_splits, Sound, Complete, given, ok_is, bind_ok, step, checked_step}
+use Rattle.omf_fields.proofs.FieldLaws.{Free, AreBytes-take, name_sound, name_complete}
+use Rattle.omf_model.proofs.NameLaws.{IsRead, ext_types, pub_types, lnames_sound, lnames_complete, segdef_sound, segdef_complete, grpdef_sound, grpdef_complete, pubdef_sound, pubdef_complete, extdef_sound, extdef_complete, comdef_sound, comdef_complete}
 use Rattle.omf_model.proofs.CommentLaws.{comment_types, coment_sound, library_complete, impdef_read, expdef_read, comment_read}
 use Rattle.omf_model.proofs.DataLaws.{block_types, ledata_sound, ledata_complete, lidata_sound, lidata_complete}
 use Rattle.omf_model.proofs.FixuppLaws.{fixupp_sound, fixupp_complete, modend_sound, modend_complete}
-use Rattle.omf_model.proofs.FrameLaws.{IsFrame, frame, frame_sound, frame_complete}
+use Rattle.omf_model.proofs.RawLaws.{IsRaw, raw, raw_sound, raw_complete}
 
 -- ---- what is read
 
@@ -44,7 +44,7 @@ one_of : (b c : Bool) → (b || c) ≡ true → (b ≡ true) ⊎ (c ≡ true)
 one_of true c e = inl refl
 one_of false c e = inr e
 
-found : (types : List (ℕ × Bool)) (ty : ℕ) (p : ObjParts) (c : Cursor) (r : Record) (wide : Bool) → Contains types (ty, wide) → Reads types p wide c r → Found ty p c r
+found : (types : List (ℕ × Bool)) (ty : ℕ) (p : ObjParts) (c : Cursor) (r : Record) (wide : Bool) → Contains types (ty, wide) → IsRead types p wide c r → Found ty p c r
 found types ty p c r wide is h = record { wide = wide; is_type = subst (λ (ts : List (ℕ × Bool)). Contains ts (ty, wide)) (sym h.2) is; content = h.0; good = h.1 }
 
 -- a type, by its byte and its width
@@ -194,8 +194,8 @@ length-record : (ty : ℕ) (body : List ℕ) (checksum : ℕ) → length (record
 length-record ty body checksum = omega (arith, length-append body (checksum ∷ []))
 
 -- the bytes at a cursor begin with a frame's
-frame_takes : (c : Cursor) (f : Frame) → IsFrame c f → (r : Record) (wide : Bool) → HasType (types_of r) f.ty wide → is_record_type f.ty ≡ true → IsChecksum f.ty f.contents f.checksum → contents_form wide r f.contents → Takes (SpellForm r) c f.after
-frame_takes c f is r wide ty known right content = record {
+raw_spans : (c : Cursor) (f : RawRecord) → IsRaw c f → (r : Record) (wide : Bool) → HasType (types_of r) f.ty wide → is_record_type f.ty ≡ true → IsChecksum f.ty f.contents f.checksum → contents_form wide r f.contents → Spans (SpellForm r) c f.after
+raw_spans c f is r wide ty known right content = record {
   front = record_bytes f.ty f.contents f.checksum;
   joined = is.whole.joined;
   moved = omega (arith, is.behind, length-record f.ty f.contents f.checksum);
@@ -218,7 +218,7 @@ AreBytes-front : (xs ys : List ℕ) → AreBytes (xs ++ ys) → AreBytes xs
 AreBytes-front xs ys h = subst AreBytes (take_at xs ys (length xs) refl) (AreBytes-take (length xs) (xs ++ ys) h)
 
 -- a record's contents are bytes
-contents_bytes : (c : Cursor) (f : Frame) → IsFrame c f → AreBytes c.left → AreBytes f.contents
+contents_bytes : (c : Cursor) (f : RawRecord) → IsRaw c f → AreBytes c.left → AreBytes f.contents
 contents_bytes c f is h =
     let all : AreBytes (record_bytes f.ty f.contents f.checksum ++ f.after.left) = subst AreBytes is.whole.joined h in
     let record_is : AreBytes (record_bytes f.ty f.contents f.checksum) = AreBytes-front (record_bytes f.ty f.contents f.checksum) f.after.left all in
@@ -227,21 +227,21 @@ contents_bytes c f is h =
 pub record_sound : (p : ObjParts) → Sound (record_at p) SpellForm (GoodAfter p)
 unfolding record_at
 record_sound p c r d bytes e =
-    let a = bind_ok (frame_at c) _ (r, d) e in
-    let g = frame_sound c a.0 bytes a.1 in
+    let a = bind_ok (raw_at c) _ (r, d) e in
+    let g = raw_sound c a.0 bytes a.1 in
     let b = bind_ok (reader_of a.0.ty p a.0.at (contents_of a.0)) _ (r, d) a.2 in
     let s = reader_sound a.0.ty a.0.at p (contents_of a.0) b.0 (contents_bytes c a.0 g.is bytes) b.1 in
-    subst (λ (q : Record × Cursor). Takes (SpellForm q.0) c q.1 × GoodAfter p q.0) (ok_is (b.0, a.0.after) (r, d) b.2)
-    (frame_takes c a.0 g.is b.0 s.wide s.is_type g.known g.right s.content, s.good)
+    subst (λ (q : Record × Cursor). Spans (SpellForm q.0) c q.1 × GoodAfter p q.0) (ok_is (b.0, a.0.after) (r, d) b.2)
+    (raw_spans c a.0 g.is b.0 s.wide s.is_type g.known g.right s.content, s.good)
 
 -- a record that is spelled there is taken so
-spelled_begins : (c d : Cursor) (r : Record) (t : Takes (SpellForm r) c d) → BeginsWhole c.left t.so.ty t.so.contents t.so.framed.checksum d.left
+spelled_begins : (c d : Cursor) (r : Record) (t : Spans (SpellForm r) c d) → BeginsWhole c.left t.so.ty t.so.contents t.so.framed.checksum d.left
 spelled_begins c d r t = record {
   joined = t.joined ∙ ap (λ (xs : List ℕ). xs ++ d.left) (t.so.framed.whole.joined ∙ append-nil (record_bytes t.so.ty t.so.contents t.so.framed.checksum));
   counted = t.so.framed.whole.counted;
 }
 
-behind_is : (c d : Cursor) (r : Record) (t : Takes (SpellForm r) c d) → (frame c.at t.so.ty t.so.contents t.so.framed.checksum d.left).after ≡ d
+behind_is : (c d : Cursor) (r : Record) (t : Spans (SpellForm r) c d) → (raw c.at t.so.ty t.so.contents t.so.framed.checksum d.left).after ≡ d
 behind_is c d r t =
     let long : length t.front ≡ 4 + length t.so.contents = ap (λ (xs : List ℕ). length xs) (t.so.framed.whole.joined ∙ append-nil (record_bytes t.so.ty t.so.contents t.so.framed.checksum)) ∙ length-record t.so.ty t.so.contents t.so.framed.checksum in
     cursor_is d (c.at + 4 + length t.so.contents) d.left (omega (arith, t.moved, long)) refl
@@ -250,7 +250,7 @@ pub record_complete : (p : ObjParts) → Complete (record_at p) SpellForm (GoodA
 unfolding record_at
 record_complete p c r d t ok =
     let x = reader_complete p c.at (record { at = c.at + 3; left = t.so.contents }) r t.so.ty t.so.wide t.so.is_type ok t.so.content in
-    rw (frame_complete c t.so.ty t.so.contents t.so.framed.checksum d.left (spelled_begins c d r t) x.1 t.so.framed.right, x.0) (ap (λ (k : Cursor). given r k) (behind_is c d r t))
+    rw (raw_complete c t.so.ty t.so.contents t.so.framed.checksum d.left (spelled_begins c d r t) x.1 t.so.framed.right, x.0) (ap (λ (k : Cursor). given r k) (behind_is c d r t))
 
 -- ---- a module's first record
 
@@ -260,13 +260,13 @@ HeaderForm r bytes = (text : List ℕ) × (r ≡ header text) × Spells bytes r
 pub header_sound : Sound header_at HeaderForm Free
 unfolding header_at
 header_sound c r d bytes e =
-    let a = bind_ok (frame_at c) _ (r, d) e in
-    let g = frame_sound c a.0 bytes a.1 in
+    let a = bind_ok (raw_at c) _ (r, d) e in
+    let g = raw_sound c a.0 bytes a.1 in
     let k = checked_step (eqb a.0.ty 0x80 || eqb a.0.ty 0x82) _ _ (r, d) a.2 in
     step _ _ _ name_sound (contents_of a.0) _ (r, d) (contents_bytes c a.0 g.is bytes) k.1 λ text c1 t1 f1 b1 e1.
     let is : HasType (types_of (header text)) a.0.ty false = header_type a.0.ty k.0 in
-    let t = frame_takes c a.0 g.is (header text) false is g.known g.right (then_left (name text) anything (contents_of a.0) c1 t1 tt) in
-    subst (λ (q : Record × Cursor). Takes (HeaderForm q.0) c q.1 × Unit {0}) (ok_is (header text, a.0.after) (r, d) e1)
+    let t = raw_spans c a.0 g.is (header text) false is g.known g.right (then_left (name text) anything (contents_of a.0) c1 t1 tt) in
+    subst (λ (q : Record × Cursor). Spans (HeaderForm q.0) c q.1 × Unit {0}) (ok_is (header text, a.0.after) (r, d) e1)
     (record { front = t.front; joined = t.joined; moved = t.moved; so = (text, refl, t.so) }, tt)
   where
     header_type : (ty : ℕ) → (eqb ty 0x80 || eqb ty 0x82) ≡ true → HasType (let ts : List (ℕ × Bool) = (0x80, false) ∷ (0x82, false) ∷ [] in ts) ty false
@@ -276,12 +276,12 @@ header_sound c r d bytes e =
           | inr h ↦ subst (λ (k : ℕ). HasType ((0x80, false) ∷ (0x82, false) ∷ []) k false) (sym (eqb-true ty 0x82 h)) (1, omega arith, refl)
         ]
 
-pub header_complete : (c : Cursor) (text : List ℕ) (d : Cursor) → Takes (SpellForm (header text)) c d → header_at c ≡ Ok (header text, d)
+pub header_complete : (c : Cursor) (text : List ℕ) (d : Cursor) → Spans (SpellForm (header text)) c d → header_at c ≡ Ok (header text, d)
 unfolding header_at
 header_complete c text d t =
     let s = left_splits (name text) anything (record { at = c.at + 3; left = t.so.contents }) t.so.content in
     let known = by_two 0x80 0x82 false false t.so.ty t.so.wide t.so.is_type (λ ty wide. ((eqb ty 0x80 || eqb ty 0x82) ≡ true) × (is_record_type ty ≡ true)) (refl, refl) (refl, refl) in
-    rw (frame_complete c t.so.ty t.so.contents t.so.framed.checksum d.left (spelled_begins c d (header text) t) known.1 t.so.framed.right, known.0, name_complete (record { at = c.at + 3; left = t.so.contents }) text s.0 s.1 tt) (ap (λ (k : Cursor). given (header text) k) (behind_is c d (header text) t))
+    rw (raw_complete c t.so.ty t.so.contents t.so.framed.checksum d.left (spelled_begins c d (header text) t) known.1 t.so.framed.right, known.0, name_complete (record { at = c.at + 3; left = t.so.contents }) text s.0 s.1 tt) (ap (λ (k : Cursor). given (header text) k) (behind_is c d (header text) t))
 
 pub spelled_long : (r : Record) (bytes : List ℕ) → Spells bytes r → 1 ≤ length bytes
 spelled_long r bytes s =

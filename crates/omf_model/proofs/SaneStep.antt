@@ -26,16 +26,17 @@ use Rattle.omf_model.specs.Lists.{collect, latest}
 use Rattle.omf_model.specs.Record.{Record, header, passed, comment, default_library, impdef, expdef, lnames, segdef, grpdef, pubdef, extdef, comdef, ledata, lidata, fixupp, modend, FixField, FixData, by_frame_thread, frame_bits, by_target_thread, target_bits}
 use Rattle.omf_model.specs.Items.{segs_in, groups_in, pubs_in, exts_in, imports_in, exports_in, fields_in, pieces_in, datas_in, starts_in}
 use Rattle.omf_model.specs.Fixups.{has_index, frame_by, goal_by, frame_meant, goal_meant, set_threads, fixes_by}
-use Rattle.omf_model.specs.Add.{add_to_module, add}
+use Rattle.omf_model.specs.Add.{add}
+use Rattle.omf_model.specs.AddLists.{module_with, parts_with, HasFour}
 use Rattle.omf_model.specs.ReadData.{data_so_far}
 use Rattle.omf_model.specs.ReadFixups.{have_of}
 use Rattle.omf_model.specs.Good.{GoodAfter, GoodFixData, IsPlainFrame, IsPlainGoal, HasMethod}
-use Rattle.omf_model.proofs.FieldLaws.{FromOne}
+use Rattle.omf_fields.proofs.FieldLaws.{FromOne}
 use Rattle.omf_model.proofs.DataLaws.{bool_cases}
 use Rattle.omf_model.proofs.PlainLaws.{plain_from}
 use Rattle.omf_model.proofs.PairLaws.{Pairs, all-app}
 use Rattle.omf_model.proofs.GrowLaws.{Grows, all-each, lies-grows, group-grows, place-grows, fix-grows, start-grows}
-use Rattle.omf_model.proofs.PartsLaws.{four-items}
+use Rattle.omf_model.proofs.PartsLaws.{no_threads, add-lists}
 use Rattle.omf_model.proofs.SaneLaws.{LastFits, PubIn, PieceIn, HasModule, segs-whole, groups-whole, pubs-whole, imports-whole, exports-whole, data-whole}
 
 -- what a thread names came before
@@ -81,6 +82,9 @@ pub record Sane (p : ObjParts) : Type 0 where
   pub goals : AllByRecursion (GoalSet p.module) p.threads.goal
   pub four_frames : length p.threads.frame ≡ 4
   pub four_goals : length p.threads.goal ≡ 4
+
+pub sane-four : (p : ObjParts) → Sane p → HasFour p.threads
+sane-four p s = record { frames = s.four_frames; goals = s.four_goals }
 
 pub latest-all : {A : Type 0} (P : A → Type 0) (x : A) (ys : List A) → P x → AllByRecursion P ys → P (latest x ys)
 latest-all P x [] h a = h
@@ -200,8 +204,8 @@ starts-whole p (fixupp fields) s g = tt
 
 -- ---- one more record that is no FIXUPP
 
-add-grows : (p : ObjParts) (r : Record) → Grows p.module (add_to_module p r)
-unfolding add_to_module
+add-grows : (p : ObjParts) (r : Record) → Grows p.module (module_with p r)
+unfolding module_with
 add-grows p r = record { more_segs = segs_in p.names r; segs = refl; groups = omega (arith, length-append p.module.groups (groups_in p.names r)); exts = omega (arith, length-append p.module.exts (exts_in r)) }
 
 pub last-grows : (old m : ObjModule) → Grows old m → (l : LastData) → LastFits old l → LastFits m l
@@ -226,22 +230,18 @@ pub option-grows : {A : Type 0} (P Q : A → Type 0) → ((x : A) → P x → Q 
 option-grows P Q h None a = tt
 option-grows P Q h (Some x) a = h x a
 
-pub no_threads : (ts : Threads) → length ts.frame ≡ 4 → length ts.goal ≡ 4 → set_threads ts [] ≡ ts
-unfolding set_threads
-no_threads ts f g = λ i. record { frame = four-items ts.frame f i; goal = four-items ts.goal g i }
-
-no_fixes : (p : ObjParts) (r : Record) → fields_in r ≡ [] → (add p r).module.fixes ≡ p.module.fixes
-unfolding add add_to_module
+no_fixes : (p : ObjParts) (r : Record) → fields_in r ≡ [] → (parts_with p r).module.fixes ≡ p.module.fixes
+unfolding parts_with module_with
 no_fixes p r none = ap (λ (fs : List FixField). p.module.fixes ++ collect (λ fields f. fixes_by p.last (set_threads p.threads fields) f) fs) none ∙ append-nil p.module.fixes
 
-same_threads : (p : ObjParts) (r : Record) → Sane p → fields_in r ≡ [] → (add p r).threads ≡ p.threads
-unfolding add
-same_threads p r s none = ap (λ (fs : List FixField). set_threads p.threads fs) none ∙ no_threads p.threads s.four_frames s.four_goals
+same_threads : (p : ObjParts) (r : Record) → Sane p → fields_in r ≡ [] → (parts_with p r).threads ≡ p.threads
+unfolding parts_with
+same_threads p r s none = ap (λ (fs : List FixField). set_threads p.threads fs) none ∙ no_threads p.threads (sane-four p s)
 
-pub add-sane : (p : ObjParts) (r : Record) → fields_in r ≡ [] → Sane p → GoodAfter p r → Sane (add p r)
-unfolding add add_to_module
-add-sane p r none s good =
-    let m : ObjModule = add_to_module p r in
+lists-sane : (p : ObjParts) (r : Record) → fields_in r ≡ [] → Sane p → GoodAfter p r → Sane (parts_with p r)
+unfolding parts_with module_with
+lists-sane p r none s good =
+    let m : ObjModule = module_with p r in
     let g = add-grows p r in
     let d = data-whole p r good in
     let fixes = no_fixes p r none in
@@ -264,3 +264,6 @@ add-sane p r none s good =
       four_frames = subst (λ (ts : Threads). length ts.frame ≡ 4) (sym threads) s.four_frames;
       four_goals = subst (λ (ts : Threads). length ts.goal ≡ 4) (sym threads) s.four_goals;
     }
+
+pub add-sane : (p : ObjParts) (r : Record) → fields_in r ≡ [] → Sane p → GoodAfter p r → Sane (add p r)
+add-sane p r none s good = subst Sane (sym (add-lists p r (sane-four p s))) (lists-sane p r none s good)

@@ -23,7 +23,7 @@ use Rattle.omf_model.specs.Blocks.{origins, expanded_len}
 use Rattle.omf_model.specs.ReadBlocks.{blocks_in}
 use Rattle.omf_model.specs.Record.{Record, header, passed, comment, default_library, impdef, expdef, lnames, segdef, grpdef, pubdef, extdef, comdef, ledata, lidata, fixupp, modend, FixField, thread, fixup, FixData, thread_method, thread_number, is_frame_thread, location_of, offset_of, is_self_relative}
 use Rattle.omf_model.specs.Fixups.{some, is_frame_method, is_target_method, frame_by, goal_by, frame_meant, goal_meant, frame_set, goal_set, set_threads, has_data, data_segment, copies_of, places_of, fixes_by}
-use Rattle.omf_model.specs.Add.{add_to_module, add, add_field}
+use Rattle.omf_model.specs.Add.{add, add_field, add_fields}
 use Rattle.omf_model.specs.Parts.{parts_of, module_of}
 use Rattle.omf_model.specs.ReadFixups.{are_apart}
 use Rattle.omf_model.specs.Good.{GoodAfter, GoodThread, GoodFixup, GoodAfterData, GoodField, GoodFields, EachGood}
@@ -33,9 +33,9 @@ use Rattle.omf_model.proofs.PlainLaws.{not_true}
 use Rattle.omf_model.proofs.FixLaws.{and_true}
 use Rattle.omf_model.proofs.PairLaws.{Pairs, all-at, pairs-at, all-app, pairs-append, pairs-map, all-mapped, copies}
 use Rattle.omf_model.proofs.GrowLaws.{Grows, all-each, lies-grows, group-grows, place-grows, fix-grows, start-grows}
-use Rattle.omf_model.proofs.PartsLaws.{parts_of-snoc, add-fields, add-no_fields}
+use Rattle.omf_model.proofs.PartsLaws.{parts_of-snoc}
 use Rattle.omf_model.proofs.SaneLaws.{LastFits, PubIn, PieceIn, HasModule}
-use Rattle.omf_model.proofs.SaneStep.{InFrame, InGoal, FrameSet, GoalSet, Apart, Sane, latest-all, get-all, frame_by-in, goal_by-in, fix_frame, fix_goal, last-grows, in_frame-grows, in_goal-grows, option-grows, no_threads, add-sane}
+use Rattle.omf_model.proofs.SaneStep.{InFrame, InGoal, FrameSet, GoalSet, Apart, Sane, latest-all, get-all, frame_by-in, goal_by-in, fix_frame, fix_goal, last-grows, in_frame-grows, in_goal-grows, option-grows, add-sane}
 use Rattle.omf_model.proofs.ModuleLaws.{parts_header, module_is}
 
 -- ---- other fixes and threads
@@ -80,26 +80,9 @@ with-sane p fs ts s f t =
       four_goals = t.four_goals;
     }
 
-add_field-is : (p : ObjParts) (f : FixField) → length p.threads.frame ≡ 4 → length p.threads.goal ≡ 4 → add_field p f ≡ with_fixes p (p.module.fixes ++ fixes_by p.last p.threads f) (set_threads p.threads (f ∷ []))
-unfolding add_field add add_to_module
-add_field-is p f ff fg = λ i. record {
-  names = append-nil p.names i;
-  «module» = record {
-    name = p.module.name;
-    segs = append-nil p.module.segs i;
-    groups = append-nil p.module.groups i;
-    pubs = append-nil p.module.pubs i;
-    exts = append-nil p.module.exts i;
-    pieces = append-nil p.module.pieces i;
-    fixes = p.module.fixes ++ (append-nil (fixes_by p.last (set_threads p.threads []) f) ∙ ap (λ (ts : Threads). fixes_by p.last ts f) (no_threads p.threads ff fg)) i;
-    imports = append-nil p.module.imports i;
-    exports = append-nil p.module.exports i;
-    deflibs = append-nil p.module.deflibs i;
-    start = p.module.start;
-  };
-  last = p.last;
-  threads = set_threads p.threads (f ∷ []);
-}
+add_field-is : (p : ObjParts) (f : FixField) → add_field p f ≡ with_fixes p (p.module.fixes ++ fixes_by p.last p.threads f) (set_threads p.threads (f ∷ []))
+unfolding add_field
+add_field-is p f = refl
 
 -- ---- THREAD
 
@@ -261,19 +244,21 @@ thread_fixes p b i s = no_new p s
 
 field-sane : (p : ObjParts) (f : FixField) → Sane p → GoodField p f → Sane (add_field p f)
 field-sane p (thread b i) s g =
-    subst Sane (sym (add_field-is p (thread b i) s.four_frames s.four_goals))
+    subst Sane (sym (add_field-is p (thread b i)))
     (with-sane p _ _ s (thread_fixes p b i s) (frames_set p (thread b i) s (λ n. set_frame p n b i g) (λ n. set_goal p n b i g)))
 field-sane p (fixup high low d) s g =
-    subst Sane (sym (add_field-is p (fixup high low d) s.four_frames s.four_goals))
+    subst Sane (sym (add_field-is p (fixup high low d)))
     (with-sane p _ _ s (fixup_fixes p high low d p.last refl s g) (frames_set p (fixup high low d) s (λ n. tt) (λ n. tt)))
 
-fields-sane : (fs : List FixField) (p : ObjParts) → Sane p → GoodFields p fs → Sane (add p (fixupp fs))
-fields-sane [] p s g = subst Sane (sym (add-no_fields p s.four_frames s.four_goals)) s
-fields-sane (f ∷ fs) p s g = subst Sane (sym (add-fields p f fs)) (fields-sane fs (add_field p f) (field-sane p f s g.0) g.1)
+fields-sane : (fs : List FixField) (p : ObjParts) → Sane p → GoodFields p fs → Sane (add_fields p fs)
+unfolding add_fields
+fields-sane [] p s g = s
+fields-sane (f ∷ fs) p s g = fields-sane fs (add_field p f) (field-sane p f s g.0) g.1
 
 -- ---- records
 
-record-sane : (p : ObjParts) (r : Record) → Sane p → GoodAfter p r → Sane (add p r)
+pub record-sane : (p : ObjParts) (r : Record) → Sane p → GoodAfter p r → Sane (add p r)
+unfolding add
 record-sane p (fixupp fields) s g = fields-sane fields p s g
 record-sane p (header text) s g = add-sane p (header text) refl s g
 record-sane p passed s g = add-sane p passed refl s g
@@ -292,7 +277,7 @@ record-sane p (lidata wide segment offset blocks) s g = add-sane p (lidata wide 
 record-sane p (modend kind start) s g = add-sane p (modend kind start) refl s g
 
 begun-sane : (text : List ℕ) → Sane (add fresh_parts (header text))
-unfolding add add_to_module set_threads
+unfolding add
 begun-sane text = record {
   segs = tt;
   groups = tt;

@@ -1,36 +1,45 @@
--- What one more record adds to an unfinished module.
-use Rattle.std.specs.Prelude.{[], ◌∷◌, ◌++◌}
-use Rattle.obj_types.specs.declared.object.ObjModule.{ObjModule}
+-- What one more record adds to an unfinished module: each kind of record changes the lists that it is for.
+use Rattle.std.specs.Prelude.{List, [], ◌∷◌, ◌++◌, map, length, if◌then◌else◌}
+use Rattle.obj_types.specs.declared.object.Piece.{Piece}
+use Rattle.obj_types.specs.declared.parts.LastData.{LastData}
+use Rattle.obj_types.specs.declared.parts.LastData.TheVariants as datas
 use Rattle.obj_types.specs.declared.parts.ObjParts.{ObjParts}
-use Rattle.omf_model.specs.Lists.{collect, latest}
-use Rattle.omf_model.specs.Record.{Record, fixupp, FixField}
+use Rattle.omf_model.specs.Blocks.{block_bytes, expanded}
+use Rattle.omf_model.specs.Record.{Record, header, passed, comment, default_library, impdef, expdef, lnames, segdef, grpdef, pubdef, extdef, comdef, ledata, lidata, fixupp, modend, FixField}
 use Rattle.omf_model.specs.Fixups.{set_threads, fixes_by}
-use Rattle.omf_model.specs.Items.{names_in, segs_in, groups_in, pubs_in, exts_in, imports_in, exports_in, deflibs_in, pieces_in, datas_in, fields_in, header_in, starts_in}
+use Rattle.omf_model.specs.Items.{name_with, seg_of, group_of, pub_of, ext_of, com_of, import_of, export_of, is_debug_seg, start_of}
 
--- The module with the record's items behind its own.
-unfoldable pub add_to_module : ObjParts → Record → ObjModule
-add_to_module p r = record {
-  name = latest p.module.name (header_in r);
-  segs = p.module.segs ++ segs_in p.names r;
-  groups = p.module.groups ++ groups_in p.names r;
-  pubs = p.module.pubs ++ pubs_in r;
-  exts = p.module.exts ++ exts_in r;
-  pieces = p.module.pieces ++ pieces_in p.module.segs r;
-  fixes = p.module.fixes ++ collect (λ fields f. fixes_by p.last (set_threads p.threads fields) f) (fields_in r);
-  imports = p.module.imports ++ imports_in r;
-  exports = p.module.exports ++ exports_in r;
-  deflibs = p.module.deflibs ++ deflibs_in r;
-  start = latest p.module.start (starts_in p.threads r);
+-- Data: a piece, to which later fixups refer. The data of a debug segment is dropped.
+abbrev pub add_data : ObjParts → Piece → LastData → ObjParts
+add_data p piece last =
+    if is_debug_seg p.module.segs piece.seg then record p { last = datas.Dropped }
+    else record p { «module» = record p.module { pieces = p.module.pieces ++ piece ∷ [] }; last = last }
+
+-- A THREAD or a FIXUP.
+unfoldable pub add_field : ObjParts → FixField → ObjParts
+add_field p f = record p {
+  «module» = record p.module { fixes = p.module.fixes ++ fixes_by p.last p.threads f };
+  threads = set_threads p.threads (f ∷ []);
 }
+
+unfoldable pub add_fields : ObjParts → List FixField → ObjParts
+add_fields p [] = p
+add_fields p (f ∷ rest) = add_fields (add_field p f) rest
 
 unfoldable pub add : ObjParts → Record → ObjParts
-add p r = record {
-  names = p.names ++ names_in r;
-  «module» = add_to_module p r;
-  last = latest p.last (datas_in p.module.segs r);
-  threads = set_threads p.threads (fields_in r);
-}
-
--- The same after one field of a FIXUPP record.
-unfoldable pub add_field : ObjParts → FixField → ObjParts
-add_field p f = add p (fixupp (f ∷ []))
+add p (header name) = record p { «module» = record p.module { name = name } }
+add p passed = p
+add p comment = p
+add p (default_library name) = record p { «module» = record p.module { deflibs = p.module.deflibs ++ name ∷ [] } }
+add p (impdef d) = record p { «module» = record p.module { imports = p.module.imports ++ import_of d ∷ [] } }
+add p (expdef d) = record p { «module» = record p.module { exports = p.module.exports ++ export_of d ∷ [] } }
+add p (lnames names) = record p { names = p.names ++ names }
+add p (segdef d) = record p { «module» = record p.module { segs = p.module.segs ++ seg_of p.names d ∷ [] } }
+add p (grpdef name members) = record p { «module» = record p.module { groups = p.module.groups ++ group_of (name_with p.names name) members ∷ [] } }
+add p (pubdef local group segment frame defs) = record p { «module» = record p.module { pubs = p.module.pubs ++ map (pub_of local segment) defs } }
+add p (extdef local defs) = record p { «module» = record p.module { exts = p.module.exts ++ map (ext_of local) defs } }
+add p (comdef defs) = record p { «module» = record p.module { exts = p.module.exts ++ map com_of defs } }
+add p (ledata seg offset content) = add_data p (record { seg = seg; offset = offset; bytes = content }) (datas.Straight seg offset (length content))
+add p (lidata wide seg offset blocks) = add_data p (record { seg = seg; offset = offset; bytes = expanded blocks }) (datas.Blocks seg offset wide (block_bytes wide blocks))
+add p (fixupp fields) = add_fields p fields
+add p (modend kind start) = record p { «module» = record p.module { start = start_of p.threads start } }

@@ -2,7 +2,7 @@
 use Rattle.std.specs.Prelude.{ℕ, ◌+◌, ◌*◌, ◌≤◌, ◌<◌, ◌^◌, max, Bool, List, [], ◌∷◌, ◌++◌, length}
 use Rattle.std.specs.List.{repeat, range_with_len}
 use Rattle.lx_bytes.specs.LittleEndian.{little_bytes}
-use Rattle.omf_model.specs.Fields.{width}
+use Rattle.omf_fields.specs.Fields.{width}
 
 -- A list of blocks. An innermost block has its content, and each other one has blocks in it.
 pub data Blocks : Type 0 where

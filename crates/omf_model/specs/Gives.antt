@@ -5,7 +5,7 @@ use Rattle.lx_types.specs.declared.fail.Fail.TheVariants.{Said, NoMemory}
 use Rattle.lx_bytes.specs.Cursor.{Cursor}
 use Rattle.obj_types.specs.declared.refusal.OmfRefusal.{OmfRefusal}
 use Rattle.obj_types.specs.declared.parts.ObjParts.{ObjParts}
-use Rattle.omf_model.specs.Fields.{Reading, ◌>>=◌}
+use Rattle.omf_fields.specs.Fields.{◌>>=◌}
 use Rattle.omf_model.specs.Record.{Record}
 use Rattle.omf_model.specs.Add.{add}
 
@@ -22,8 +22,3 @@ contents_at at contents = record { at = at + 3; left = contents }
 -- The unfinished module after a record that was read behind it.
 abbrev pub then_add : ObjParts → Result Record OmfRefusal → Result ObjParts OmfRefusal
 then_add p read = read >>= λ r. Ok (add p r)
-
--- The same of a call that takes no memory and moves a cursor on.
-abbrev pub Takes : {A B : Type 0} → (A → B) → Result A OmfRefusal → (Cursor → Reading B) → Cursor → Cursor → Type 0
-Takes view (Ok x) read old new = read old ≡ Ok (view x, new)
-Takes view (Err refusal) read old new = read old ≡ Err refusal

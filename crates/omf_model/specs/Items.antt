@@ -19,7 +19,7 @@ use Rattle.obj_types.specs.declared.parts.LastData.TheVariants as datas
 use Rattle.obj_types.specs.declared.parts.Threads.{Threads}
 use Rattle.obj_types.specs.Items.{item}
 use Rattle.omf_model.specs.Blocks.{block_bytes, expanded}
-use Rattle.omf_model.specs.Record.{Record, header, default_library, impdef, expdef, lnames, segdef, grpdef, pubdef, extdef, comdef, ledata, lidata, fixupp, modend, SegDef, align_of, combine_of, is_big, is_use32, PubDef, ExtDef, ComDef, Communal, far, near, ImpEntry, by_ordinal, by_name, FixData, FixField}
+use Rattle.omf_model.specs.Record.{Record, header, default_library, impdef, expdef, lnames, segdef, grpdef, pubdef, extdef, comdef, ledata, lidata, fixupp, modend, SegDef, align_of, combine_of, is_big, is_use32, PubDef, ExtDef, ComDef, Communal, far, near, ImpDef, ExpDef, ImpEntry, by_ordinal, by_name, FixData, FixField}
 use Rattle.omf_model.specs.Fixups.{frame_meant, goal_meant}
 
 -- "96h LNAMES". The names count from 1.
@@ -92,19 +92,25 @@ abbrev pub entry_of : List ℕ → ImpEntry → EntryKey
 entry_of internal (by_ordinal n) = Ordinal n
 entry_of internal (by_name name) = Named (or_else name internal)
 
+abbrev pub import_of : ImpDef → Imp
+import_of d = record { name = d.internal; «module» = d.from; entry = entry_of d.internal d.entry }
+
 abbrev pub imports_in : Record → List Imp
-imports_in (impdef d) = record { name = d.internal; «module» = d.from; entry = entry_of d.internal d.entry } ∷ []
+imports_in (impdef d) = import_of d ∷ []
 imports_in _ = []
 
-abbrev pub exports_in : Record → List Exp
-exports_in (expdef d) = record {
+abbrev pub export_of : ExpDef → Exp
+export_of d = record {
   name = d.exported;
   internal = or_else d.internal d.exported;
   ordinal = d.ordinal;
   resident = d.flag / 64 % 2 == 1;
   nodata = d.flag / 32 % 2 == 1;
   words = d.flag % 32;
-} ∷ []
+}
+
+abbrev pub exports_in : Record → List Exp
+exports_in (expdef d) = export_of d ∷ []
 exports_in _ = []
 
 abbrev pub deflibs_in : Record → List (List ℕ)

@@ -1,5 +1,4 @@
 pub mod Lists
-pub mod Fields
 pub mod Blocks
 pub mod Record
 pub mod ReadBlocks
@@ -7,14 +6,14 @@ pub mod Fixups
 pub mod Items
 pub mod Parts
 pub mod Add
+pub mod AddLists
 pub mod ReadNames
 pub mod ReadComments
 pub mod ReadData
 pub mod ReadFixups
-pub mod Forms
 pub mod Spelling
 pub mod Good
-pub mod ReadFrame
+pub mod RawRecord
 pub mod ReadModule
 pub mod Object
 pub mod Examples

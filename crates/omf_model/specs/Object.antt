@@ -10,7 +10,7 @@ use Rattle.obj_types.specs.declared.refusal.OmfRefusal.{OmfRefusal}
 use Rattle.obj_types.specs.declared.refusal.OmfRefusal.TheVariants.{Short, BadField}
 use Rattle.obj_types.specs.declared.object.ObjModule.{ObjModule}
 use Rattle.omf_model.specs.Record.{Record, header, modend, FixData}
-use Rattle.omf_model.specs.Forms.{Form, ◌then◌, anything}
+use Rattle.omf_fields.specs.Forms.{Form, ◌then◌, anything}
 use Rattle.omf_model.specs.Spelling.{SpellsAll}
 use Rattle.omf_model.specs.Parts.{parts_of, module_of}
 use Rattle.omf_model.specs.Good.{EachGood}

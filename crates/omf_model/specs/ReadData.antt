@@ -13,7 +13,7 @@ use Rattle.obj_types.specs.declared.parts.ObjParts.{ObjParts}
 use Rattle.obj_types.specs.Items.{item}
 use Rattle.obj_types.specs.Location.{end_of}
 use Rattle.omf_model.specs.Blocks.{Blocks, expanded_len}
-use Rattle.omf_model.specs.Fields.{◌>>=◌, check, width, number_at, index_below}
+use Rattle.omf_fields.specs.Fields.{◌>>=◌, check, width, number_at, index_below}
 use Rattle.omf_model.specs.Record.{Record, ledata, lidata}
 use Rattle.omf_model.specs.ReadBlocks.{blocks_at}
 use Rattle.omf_model.specs.Items.{is_debug_seg}

@@ -1,5 +1,5 @@
 -- Reading fixups and a module's end after the records before them. "9Ch FIXUPP", "8Ah MODEND".
-use Rattle.std.specs.Prelude.{ℕ, zero, suc, ◌+◌, ◌%◌, Bool, true, false, ◌&&◌, ◌||◌, not, List, [], ◌∷◌, length, Option, Some, None, Result, Ok, Err, nat_lt, nat_le, ◌==◌, if◌then◌else◌, is_some, get_or}
+use Rattle.std.specs.Prelude.{ℕ, ◌+◌, ◌%◌, Bool, true, false, ◌&&◌, ◌||◌, not, List, [], ◌∷◌, length, Option, Some, None, Result, Ok, Err, nat_lt, nat_le, ◌==◌, if◌then◌else◌, is_some, get_or}
 use Rattle.std.specs.List.{list_any}
 use Rattle.lx_bytes.specs.Cursor.{Cursor}
 use Rattle.obj_types.specs.declared.limits.TheConstants.{MAX_FIXES}
@@ -15,7 +15,8 @@ use Rattle.obj_types.specs.declared.parts.LastData.TheVariants as datas
 use Rattle.obj_types.specs.declared.parts.Threads.{Threads}
 use Rattle.obj_types.specs.declared.parts.ObjParts.{ObjParts}
 use Rattle.obj_types.specs.Location.{location_len, has_selector, meets}
-use Rattle.omf_model.specs.Fields.{Reading, ◌>>=◌, check, width, byte_at, number_at, index_at, index_below, where_so}
+use Rattle.omf_fields.specs.Within.{within}
+use Rattle.omf_fields.specs.Fields.{Reading, ◌>>=◌, check, width, byte_at, number_at, index_at, index_below, where_so}
 use Rattle.omf_model.specs.Record.{Record, fixupp, modend, FixData, FixField, thread, fixup, by_frame_thread, frame_bits, by_target_thread, target_bits, has_displacement, is_frame_thread, thread_method, location_of, offset_of, is_self_relative, has_start}
 use Rattle.omf_model.specs.ReadNames.{plain_seg_at}
 use Rattle.omf_model.specs.Fixups.{is_frame_method, is_target_method, has_index, frame_meant, goal_meant, has_data, fixes_by}
@@ -83,12 +84,18 @@ fix_data_at judged wide p c = do
 abbrev pub is_thread_method : ℕ → Bool
 is_thread_method b = if is_frame_thread b then is_frame_method (thread_method b) else is_target_method (thread_method b)
 
+-- The first byte of a field, its place, and the place of its record.
+pub record FirstByte : Type 0 where
+  pub of_record : ℕ
+  pub at : ℕ
+  pub byte : ℕ
+
 -- A THREAD may name a debug segment.
-unfoldable pub thread_at : ObjParts → ℕ → ℕ → Cursor → Reading FixField
-thread_at p at b c = do
-  _ ← check (is_thread_method b) (BadField at)
-  index ← where_so (has_index (thread_method b)) (index_below (have_of p (thread_method b))) c
-  Ok (thread b index.0, index.1)
+unfoldable pub thread_at : ObjParts → FirstByte → Cursor → Reading FixField
+thread_at p first c = do
+  _ ← check (is_thread_method first.byte) (BadField first.at)
+  index ← where_so (has_index (thread_method first.byte)) (index_below (have_of p (thread_method first.byte))) c
+  Ok (thread first.byte index.0, index.1)
 
 abbrev pub is_dropped : LastData → Bool
 is_dropped datas.None = false
@@ -110,37 +117,49 @@ are_apart earlier new = not (list_any (λ g. list_any (λ f. meets f g) earlier)
 
 -- The conditions on a fixup's place: within the last data record's data, apart from earlier locations,
 -- and within the module's limit.
-unfoldable pub judge_fixup : ObjParts → ℕ → ℕ → FixField → ℕ → ℕ → Result (Unit {0}) OmfRefusal
-judge_fixup p record_at at field high low = do
-  _ ← check (has_data p.last (offset_of high low) (location_len (location_of high))) (NoData at)
-  _ ← check (are_apart p.module.fixes (fixes_by p.last p.threads field)) (FixOverlap at)
-  check (nat_le (length p.module.fixes + length (fixes_by p.last p.threads field)) MAX_FIXES) (TooMany record_at)
+unfoldable pub judge_fixup : ObjParts → FirstByte → (low : ℕ) → FixData → Result (Unit {0}) OmfRefusal
+judge_fixup p first low what = do
+  _ ← check (has_data p.last (offset_of first.byte low) (location_len (location_of first.byte))) (NoData first.at)
+  _ ← check (are_apart p.module.fixes (fixes_by p.last p.threads (fixup first.byte low what))) (FixOverlap first.at)
+  check (nat_le (length p.module.fixes + length (fixes_by p.last p.threads (fixup first.byte low what))) MAX_FIXES) (TooMany first.of_record)
 
--- A fixup that begins with the byte high at a place. Of one on data of a debug segment its thread and its
--- methods alone are judged.
-unfoldable pub fixup_at : Bool → ObjParts → ℕ → ℕ → ℕ → Cursor → Reading FixField
-fixup_at wide p record_at at high c = do
-  _ ← check (is_dropped p.last || is_location high) (BadLocation at (location_of high))
-  low ← second_of at c
+-- A fixup. Of one on data of a debug segment its thread and its methods alone are judged.
+unfoldable pub fixup_at : Bool → ObjParts → FirstByte → Cursor → Reading FixField
+fixup_at wide p first c = do
+  _ ← check (is_dropped p.last || is_location first.byte) (BadLocation first.at (location_of first.byte))
+  low ← second_of first.at c
   what ← fix_data_at (not (is_dropped p.last)) wide p low.1
-  _ ← if is_dropped p.last then Ok tt else judge_fixup p record_at at (fixup high low.0 what.0) high low.0
-  Ok (fixup high low.0 what.0, what.1)
+  _ ← if is_dropped p.last then Ok tt else judge_fixup p first low.0 what.0
+  Ok (fixup first.byte low.0 what.0, what.1)
+
+-- A field of a record that begins at a place.
+abbrev pub field_by : Bool → ObjParts → FirstByte → Cursor → Reading FixField
+field_by wide p first c = if nat_lt first.byte 128 then thread_at p first c else fixup_at wide p first c
 
 unfoldable pub field_at : Bool → ObjParts → ℕ → Cursor → Reading FixField
-field_at wide p record_at c = do
+field_at wide p of_record c = do
   first ← byte_at c
-  if nat_lt first.0 128 then thread_at p c.at first.0 first.1 else fixup_at wide p record_at c.at first.0 first.1
+  field_by wide p (record { of_record = of_record; at = c.at; byte = first.0 }) first.1
 
 -- Each field is read after those before it.
-unfoldable pub fields_within : Bool → ℕ → ℕ → ObjParts → Cursor → Result (List FixField) OmfRefusal
-fields_within wide record_at zero p c = Ok []
-fields_within wide record_at (suc most) p c = if length c.left == 0 then Ok [] else do
-  first ← field_at wide p record_at c
-  others ← fields_within wide record_at most (add_field p first.0) first.1
+abbrev pub fields_turn : Bool → ℕ → (ObjParts × Cursor → Result (List FixField) OmfRefusal) → ObjParts × Cursor → Result (List FixField) OmfRefusal
+fields_turn wide of_record others_at s = if length s.1.left == 0 then Ok [] else do
+  first ← field_at wide s.0 of_record s.1
+  others ← others_at (add_field s.0 first.0, first.1)
   Ok (first.0 ∷ others)
 
+abbrev pub no_fields : ObjParts × Cursor → Result (List FixField) OmfRefusal
+no_fields s = Ok []
+
+unfoldable pub fields_within : Bool → ℕ → ℕ → ObjParts → Cursor → Result (List FixField) OmfRefusal
+fields_within wide of_record most p c = within (fields_turn wide of_record) no_fields most (p, c)
+
+-- The fields of a record that begins at a place.
+abbrev pub fields_at : Bool → ℕ → ObjParts → Cursor → Result (List FixField) OmfRefusal
+fields_at wide of_record p c = fields_within wide of_record (length c.left) p c
+
 unfoldable pub fixupp_at : Bool → ObjParts → ℕ → Cursor → Result Record OmfRefusal
-fixupp_at wide p record_at c = fields_within wide record_at (length c.left) p c >>= λ fields. Ok (fixupp fields)
+fixupp_at wide p of_record c = fields_at wide of_record p c >>= λ fields. Ok (fixupp fields)
 
 -- ---- the end
 

@@ -1,7 +1,7 @@
 -- Reading an object file and a library from their first byte on.
 -- "Record Format"; "Object Record Order"; "Microsoft LIB Library Format".
-use Rattle.omf_model.specs.ReadFrame.{Frame, frame_at, whole_at}
-use Rattle.std.specs.Prelude.{ℕ, zero, suc, ◌+◌, ◌-◌, ◌%◌, Bool, true, false, ◌||◌, List, [], ◌∷◌, length, Result, Ok, Err, ◌==◌, if◌then◌else◌}
+use Rattle.omf_model.specs.RawRecord.{RawRecord, raw_at, whole_at}
+use Rattle.std.specs.Prelude.{ℕ, ◌+◌, ◌-◌, ◌%◌, Bool, true, false, ◌||◌, List, [], ◌∷◌, length, Result, Ok, Err, ◌==◌, if◌then◌else◌}
 use Rattle.std.specs.List.{list_any}
 use Rattle.lx_bytes.specs.Cursor.{Cursor, advance}
 use Rattle.obj_types.specs.declared.refusal.OmfRefusal.{OmfRefusal}
@@ -9,7 +9,8 @@ use Rattle.obj_types.specs.declared.refusal.OmfRefusal.TheVariants.{Short, BadFi
 use Rattle.obj_types.specs.declared.object.ObjModule.{ObjModule}
 use Rattle.obj_types.specs.declared.parts.ObjParts.{ObjParts}
 use Rattle.obj_types.specs.Fresh.{fresh_parts}
-use Rattle.omf_model.specs.Fields.{Reading, ◌>>=◌, check, name_at}
+use Rattle.omf_fields.specs.Within.{within}
+use Rattle.omf_fields.specs.Fields.{Reading, ◌>>=◌, check, name_at}
 use Rattle.omf_model.specs.Record.{Record, header, passed, modend}
 use Rattle.omf_model.specs.ReadNames.{lnames_at, segdef_at, grpdef_at, pubdef_at, extdef_at, comdef_at}
 use Rattle.omf_model.specs.ReadComments.{coment_at}
@@ -19,7 +20,7 @@ use Rattle.omf_model.specs.Add.{add}
 
 -- ---- contents
 
-abbrev pub contents_of : Frame → Cursor
+abbrev pub contents_of : RawRecord → Cursor
 contents_of f = record { at = f.at + 3; left = f.contents }
 
 -- The odd type of a pair has offsets and lengths of 4 bytes.
@@ -48,14 +49,14 @@ reader_of ty =
 -- The next record.
 unfoldable pub record_at : ObjParts → Cursor → Reading Record
 record_at p c = do
-  f ← frame_at c
+  f ← raw_at c
   r ← reader_of f.ty p f.at (contents_of f)
   Ok (r, f.after)
 
 -- The first record of a module is a THEADR or an LHEADR.
 unfoldable pub header_at : Cursor → Reading Record
 header_at c = do
-  f ← frame_at c
+  f ← raw_at c
   _ ← check (f.ty == 0x80 || f.ty == 0x82) (BadField c.at)
   name ← name_at (contents_of f)
   Ok (header name.0, f.after)
@@ -67,11 +68,16 @@ is_end (modend kind start) = true
 is_end _ = false
 
 -- The records up to MODEND. There are no more of them than bytes.
+abbrev pub rest_turn : (ObjParts × Cursor → Reading ObjParts) → ObjParts × Cursor → Reading ObjParts
+rest_turn others_at s = do
+  r ← record_at s.0 s.1
+  if is_end r.0 then Ok (add s.0 r.0, r.1) else others_at (add s.0 r.0, r.1)
+
+abbrev pub records_missing : ObjParts × Cursor → Reading ObjParts
+records_missing s = Err (Short s.1.at)
+
 unfoldable pub rest_within : ℕ → ObjParts → Cursor → Reading ObjParts
-rest_within zero p c = Err (Short c.at)
-rest_within (suc most) p c = do
-  r ← record_at p c
-  if is_end r.0 then Ok (add p r.0, r.1) else rest_within most (add p r.0) r.1
+rest_within most p c = within rest_turn records_missing most (p, c)
 
 unfoldable pub module_at : Cursor → Reading ObjModule
 module_at c = do
@@ -97,12 +103,17 @@ abbrev pub ends_library : List ℕ → Bool
 ends_library [] = false
 ends_library (b ∷ rest) = b == 0xF1
 
-unfoldable pub modules_within : ℕ → ℕ → Cursor → Result (List ObjModule) OmfRefusal
-modules_within zero size c = Err (Short c.at)
-modules_within (suc most) size c = if ends_library c.left then Ok [] else do
+abbrev pub modules_turn : ℕ → (Cursor → Result (List ObjModule) OmfRefusal) → Cursor → Result (List ObjModule) OmfRefusal
+modules_turn size others_at c = if ends_library c.left then Ok [] else do
   m ← module_at c
-  others ← modules_within most size (up_to_page size m.1)
+  others ← others_at (up_to_page size m.1)
   Ok (m.0 ∷ others)
+
+abbrev pub module_missing : Cursor → Result (List ObjModule) OmfRefusal
+module_missing c = Err (Short c.at)
+
+unfoldable pub modules_within : ℕ → ℕ → Cursor → Result (List ObjModule) OmfRefusal
+modules_within most size c = within (modules_turn size) module_missing most c
 
 -- A library's header: F0h, and a length that gives the page size. Its checksum is not tried.
 unfoldable pub library_of : List ℕ → Result (List ObjModule) OmfRefusal

@@ -3,8 +3,8 @@
 use Rattle.std.specs.Prelude.{◌≡◌, ◌≢◌, ℕ, ◌+◌, ◌≤◌, ◌<◌, ◌⊎◌, Bool, true, false, ◌&&◌, not, List, [], ◌∷◌, Contains, nat_le, ◌==◌, if◌then◌else◌}
 use Rattle.omf_frame.specs.Frame.{BeginsRecord}
 use Rattle.omf_model.specs.Blocks.{block_bytes}
-use Rattle.omf_model.specs.Fields.{width}
-use Rattle.omf_model.specs.Forms.{Form, Then, ◌then◌, anything, each, present, byte, number, name, index, length_form}
+use Rattle.omf_fields.specs.Fields.{width}
+use Rattle.omf_fields.specs.Forms.{Form, Then, ◌then◌, anything, each, present, byte, number, name, index, length_form}
 use Rattle.omf_model.specs.Fixups.{has_index}
 use Rattle.omf_model.specs.Record.{Record, header, passed, comment, default_library, impdef, expdef, lnames, segdef, grpdef, pubdef, extdef, comdef, ledata, lidata, fixupp, modend, SegDef, align_of, is_too_long, PubDef, ExtDef, ComDef, Communal, far, near, ImpDef, ImpEntry, by_ordinal, by_name, ExpDef, FixData, FixField, thread, fixup, by_frame_thread, frame_bits, by_target_thread, has_displacement, thread_method, has_start}
 

@@ -7,9 +7,10 @@ ghost use Rattle.lx_bytes.specs.LittleEndian.{AreBytes};
 ghost use Rattle.obj_types.specs.declared.object.ObjModule.{ObjModule};
 ghost use Rattle.obj_types.specs.declared.parts.ObjParts.{ObjParts};
 ghost use Rattle.obj_types.specs.declared.refusal.OmfRefusal.{OmfRefusal};
-ghost use Rattle.omf_model.specs.Record.{Record, FixField, fixupp};
+ghost use Rattle.omf_model.specs.Record.{Record};
 ghost use Rattle.omf_model.specs.Parts.{parts_of};
-ghost use Rattle.omf_model.specs.Add.{add, add_field};
+ghost use Rattle.omf_model.specs.Add.{add};
+ghost use Rattle.omf_model.specs.AddLists.{parts_with, HasFour};
 ghost use Rattle.omf_model.specs.ReadModule.{object_of, library_of};
 ghost use Rattle.omf_model.specs.Object.{Obj, FirstFault, Lib, LibraryFault};
 
@@ -34,15 +35,15 @@ pub fn library_is_read()
     ensures found { (bytes : List ℕ) (ms : List ObjModule) → AreBytes bytes → library_of bytes ≡ Ok ms → Lib bytes ms }
     ensures only { (bytes : List ℕ) (ms : List ObjModule) → Lib bytes ms → library_of bytes ≡ Ok ms }
     ensures refused { (bytes : List ℕ) (f : OmfRefusal) → AreBytes bytes → library_of bytes ≡ Err f → LibraryFault bytes f }
-    ensures first { (bytes : List ℕ) (f : OmfRefusal) → AreBytes bytes → LibraryFault bytes f → library_of bytes ≡ Err f }
+    ensures first { (bytes : List ℕ) (f : OmfRefusal) → LibraryFault bytes f → library_of bytes ≡ Err f }
 {}
 
 /// Bytes are a library of one list of modules, or have one first fault.
 pub fn library_is_one()
     ensures modules { (bytes : List ℕ) (ms ns : List ObjModule) → Lib bytes ms → Lib bytes ns → ms ≡ ns }
-    ensures fault { (bytes : List ℕ) (f g : OmfRefusal) → AreBytes bytes → LibraryFault bytes f → LibraryFault bytes g → f ≡ g }
+    ensures fault { (bytes : List ℕ) (f g : OmfRefusal) → LibraryFault bytes f → LibraryFault bytes g → f ≡ g }
     ensures either { (bytes : List ℕ) → AreBytes bytes → ((ms : List ObjModule) × Lib bytes ms) ⊎ ((f : OmfRefusal) × LibraryFault bytes f) }
-    ensures apart { (bytes : List ℕ) (ms : List ObjModule) (f : OmfRefusal) → AreBytes bytes → Lib bytes ms → LibraryFault bytes f → ⊥ }
+    ensures apart { (bytes : List ℕ) (ms : List ObjModule) (f : OmfRefusal) → Lib bytes ms → LibraryFault bytes f → ⊥ }
 {}
 
 /// What an object file or a library means is whole.
@@ -51,13 +52,9 @@ pub fn meaning_is_whole()
     ensures library { (bytes : List ℕ) (ms : List ObjModule) → Lib bytes ms → All WholeModule ms }
 {}
 
-/// What records say together is what the records before the last say, and what the last one adds.
+/// What records say together is what the records before the last say, and what the last one adds. Whatever kind
+/// it is, it adds to each list the items that it has for it.
 pub fn one_more_record()
-    ensures { (records : List Record) (r : Record) → parts_of (records ++ r ∷ []) ≡ add (parts_of records) r }
-{}
-
-/// A FIXUPP record adds what its first field adds, and then what the others add.
-pub fn one_more_field()
-    ensures field { (p : ObjParts) (f : FixField) (fields : List FixField) → add p (fixupp (f ∷ fields)) ≡ add (add_field p f) (fixupp fields) }
-    ensures none { (p : ObjParts) → length p.threads.frame ≡ 4 → length p.threads.goal ≡ 4 → add p (fixupp []) ≡ p }
+    ensures records { (records : List Record) (r : Record) → parts_of (records ++ r ∷ []) ≡ add (parts_of records) r }
+    ensures lists { (p : ObjParts) (r : Record) → HasFour p.threads → add p r ≡ parts_with p r }
 {}

@@ -5,15 +5,13 @@
 #![tactic(auto)]
 
 mod examples;
-mod fields;
 mod laws;
 
 pub use examples::{
     copies_of_blocks, each_refusal, import_library, one_segment, symbols_of_each_kind,
     the_first_bytes, threads,
 };
-pub use fields::Fields;
 pub use laws::{
     library_is_one, library_is_read, meaning_is_whole, object_is_one, object_is_read,
-    one_more_field, one_more_record,
+    one_more_record,
 };

@@ -1,12 +1,6 @@
 use Rattle.std.proofs.Common.{◌%◌, ◌++◌, sum, ap, ◌∙◌}
-use Rattle.omf_frame.specs.Frame.{record_bytes}
-use Rattle.omf_frame.proofs.Records.{IsDelimited-record_bytes, record_bytes-from_delimited}
+use Rattle.omf_frame.proofs.Records.{record_bytes-from_delimited}
 use Rattle.omf_frame.proofs.frame.whole_record.Goals as goal
-
-pub returns-in_default-clause-cut_off : goal.returns-in_default-clause-cut_off
-returns-in_default-clause-cut_off c = λ ty checksum body rest whole.
-    let delimited = IsDelimited-record_bytes ty body checksum whole.counted in
-    c.in_default.ensures.short (record_bytes ty body checksum) rest delimited whole.joined
 
 pub returns-clause-whole : goal.returns-clause-whole
 returns-clause-whole c =

@@ -1,36 +1,31 @@
--- What a reader took: the bytes between two cursors, and that they have a form.
+-- What stands between two cursors, form after form.
 use Rattle.std.proofs.Common.{◌≡◌, ℕ, ◌+◌, Bool, true, false, List, [], ◌++◌, length, get_or, Result, Ok, Err, refl, sym, ap, ◌∙◌, append_assoc, arith, length-append}
 use Rattle.std.proofs.Math.Seq.{get_or-append-add}
 use Rattle.lx_bytes.specs.Cursor.{Cursor}
 use Rattle.lx_bytes.specs.LittleEndian.{AreBytes}
 use Rattle.obj_types.specs.declared.refusal.OmfRefusal.{OmfRefusal}
-use Rattle.omf_model.specs.Fields.{Reading, ◌>>=◌, check}
-use Rattle.omf_model.specs.Forms.{Form, ◌then◌, nothing}
-
-pub record Takes (form : Form) (c d : Cursor) : Type 0 where
-  pub front : List ℕ
-  pub joined : c.left ≡ front ++ d.left
-  pub moved : d.at ≡ c.at + length front
-  pub so : form front
+use Rattle.omf_fields.specs.Fields.{Reading, ◌>>=◌, check}
+use Rattle.omf_fields.specs.Forms.{Form, ◌then◌, nothing}
+pub use Rattle.omf_fields.specs.Spans.{Spans}
 
 pub cursor_is : (d : Cursor) (at : ℕ) (left : List ℕ) → at ≡ d.at → left ≡ d.left → (let c : Cursor = record { at = at; left = left } in c) ≡ d
 cursor_is d at left p q = λ i. record { at = p i; left = q i }
 
-pub bytes_behind : (form : Form) (c d : Cursor) → Takes form c d → AreBytes c.left → AreBytes d.left
+pub bytes_behind : (form : Form) (c d : Cursor) → Spans form c d → AreBytes c.left → AreBytes d.left
 bytes_behind form c d t h i =
     let there : get_or c.left (length t.front + i) 0 ≡ get_or d.left i 0 = ap (λ (xs : List ℕ). get_or xs (length t.front + i) 0) t.joined ∙ get_or-append-add t.front d.left i 0 in
     rw (← there) (h (length t.front + i))
 
 -- a form and then another, from cursor to cursor
-pub then_takes : (first second : Form) (c d e : Cursor) → Takes first c d → Takes second d e → Takes (first then second) c e
-then_takes first second c d e s t = record {
+pub then_spans : (first second : Form) (c d e : Cursor) → Spans first c d → Spans second d e → Spans (first then second) c e
+then_spans first second c d e s t = record {
   front = s.front ++ t.front;
   joined = s.joined ∙ ap (λ (xs : List ℕ). s.front ++ xs) t.joined ∙ sym (append_assoc s.front t.front e.left);
   moved = omega (arith, s.moved, t.moved, length-append s.front t.front);
   so = record { front = s.front; back = t.front; joined = refl; first_so = s.so; second_so = t.so };
 }
 
-pub then_splits : (first second : Form) (c e : Cursor) → Takes (first then second) c e → (d : Cursor) × Takes first c d × Takes second d e
+pub then_splits : (first second : Form) (c e : Cursor) → Spans (first then second) c e → (d : Cursor) × Spans first c d × Spans second d e
 then_splits first second c e t =
     let f = t.so.front in
     let b = t.so.back in
@@ -41,30 +36,30 @@ then_splits first second c e t =
     )
 
 -- a form at a cursor, and then one for all bytes that are left
-pub then_left : (first second : Form) (c d : Cursor) → Takes first c d → second d.left → (first then second) c.left
+pub then_left : (first second : Form) (c d : Cursor) → Spans first c d → second d.left → (first then second) c.left
 then_left first second c d t h = record { front = t.front; back = d.left; joined = t.joined; first_so = t.so; second_so = h }
 
-pub left_splits : (first second : Form) (c : Cursor) → (first then second) c.left → (d : Cursor) × Takes first c d × second d.left
+pub left_splits : (first second : Form) (c : Cursor) → (first then second) c.left → (d : Cursor) × Spans first c d × second d.left
 left_splits first second c t = (
   record { at = c.at + length t.front; left = t.back },
   record { front = t.front; joined = t.joined; moved = refl; so = t.first_so },
   t.second_so,
 )
 
-pub takes_nothing : (c : Cursor) → Takes nothing c c
-takes_nothing c = record { front = []; joined = refl; moved = omega arith; so = refl }
+pub spans_nothing : (c : Cursor) → Spans nothing c c
+spans_nothing c = record { front = []; joined = refl; moved = omega arith; so = refl }
 
-pub nothing_takes : (c d : Cursor) → Takes nothing c d → c ≡ d
-nothing_takes c d t =
+pub nothing_spans : (c d : Cursor) → Spans nothing c d → c ≡ d
+nothing_spans c d t =
     let empty : length t.front ≡ 0 = ap (λ (xs : List ℕ). length xs) t.so in
     cursor_is d c.at c.left (omega (arith, t.moved, empty)) (t.joined ∙ ap (λ (xs : List ℕ). xs ++ d.left) t.so)
 
 -- What is read has its form, and what has the form is read.
 abbrev pub Sound : {A : Type 0} → (Cursor → Reading A) → (A → Form) → (A → Type 0) → Type 0
-Sound {A} read form P = (c : Cursor) (x : A) (d : Cursor) → AreBytes c.left → read c ≡ Ok (x, d) → Takes (form x) c d × P x
+Sound {A} read form P = (c : Cursor) (x : A) (d : Cursor) → AreBytes c.left → read c ≡ Ok (x, d) → Spans (form x) c d × P x
 
 abbrev pub Complete : {A : Type 0} → (Cursor → Reading A) → (A → Form) → (A → Type 0) → Type 0
-Complete {A} read form P = (c : Cursor) (x : A) (d : Cursor) → Takes (form x) c d → P x → read c ≡ Ok (x, d)
+Complete {A} read form P = (c : Cursor) (x : A) (d : Cursor) → Spans (form x) c d → P x → read c ≡ Ok (x, d)
 
 abbrev pub done : {A : Type 0} → A → Result A OmfRefusal
 done x = Ok x
@@ -83,7 +78,7 @@ bind_ok (Err d) f y e = absurd cc
 
 -- a step of a reading that did not fail, and what stands there
 pub step : {A B G : Type 0} (read : Cursor → Reading A) (form : A → Form) (P : A → Type 0) → Sound read form P → (c : Cursor) (f : A × Cursor → Result B OmfRefusal) (y : B) → AreBytes c.left → (read c >>= f) ≡ Ok y
-    → ((x : A) (d : Cursor) → Takes (form x) c d → P x → AreBytes d.left → f (x, d) ≡ Ok y → G) → G
+    → ((x : A) (d : Cursor) → Spans (form x) c d → P x → AreBytes d.left → f (x, d) ≡ Ok y → G) → G
 step read form P sound c f y bytes e k =
     let a = bind_ok (read c) f y e in
     let t = sound c a.0.0 a.0.1 bytes a.1 in

@@ -6,10 +6,10 @@ use Rattle.lx_bytes.specs.Cursor.{Cursor}
 use Rattle.lx_bytes.specs.LittleEndian.{AreBytes, little, little_bytes}
 use Rattle.lx_bytes.proofs.Numbers.{length-little_bytes, little-little_bytes, little_bytes-little}
 use Rattle.obj_types.specs.declared.refusal.OmfRefusal.TheVariants.{Short}
-use Rattle.omf_model.specs.Fields.{rest_of, length_bytes, sized, length_of, length_at}
-use Rattle.omf_model.specs.Forms.{length_form}
-use Rattle.omf_model.proofs.Takes.{Takes, cursor_is, Sound, Complete, given, ok_is, bind_ok}
-use Rattle.omf_model.proofs.FieldLaws.{Free, guard_ok, chosen, AreBytes-take, AreBytes-rest, little-below}
+use Rattle.omf_fields.specs.Fields.{rest_of, length_bytes, sized, length_of, length_at}
+use Rattle.omf_fields.specs.Forms.{length_form}
+use Rattle.omf_fields.proofs.SpanLaws.{Spans, cursor_is, Sound, Complete, given, ok_is, bind_ok}
+use Rattle.omf_fields.proofs.FieldLaws.{Free, guard_ok, chosen, AreBytes-take, AreBytes-rest, little-below}
 
 abbrev some : ℕ → Option ℕ
 some n = Some n
@@ -29,10 +29,10 @@ sized_ok at b n rest x d e =
     let g = guard_ok (ltb (length rest) n) (Short at) (take n rest, record { at = at + 1 + n; left = drop n rest }) a.0 a.1 in
     record { long = ltb-false _ _ g.0; is = ap (λ (p : List ℕ × Cursor). given (cond (eqb n 0) b (little p.0)) p.1) g.1 ∙ a.2 }
 
-sized_takes : (at b n : ℕ) (rest : List ℕ) (x : ℕ) (d : Cursor) → Sized at b n rest x d → length_form (value b n rest) (b ∷ take n rest) → Takes (length_form x) (record { at = at; left = b ∷ rest }) d
-sized_takes at b n rest x d s so =
+sized_spans : (at b n : ℕ) (rest : List ℕ) (x : ℕ) (d : Cursor) → Sized at b n rest x d → length_form (value b n rest) (b ∷ take n rest) → Spans (length_form x) (record { at = at; left = b ∷ rest }) d
+sized_spans at b n rest x d s so =
     let len : length (take n rest) ≡ n = omega (arith, s.long, length-take n rest) in
-    subst (λ (p : ℕ × Cursor). Takes (length_form p.0) (record { at = at; left = b ∷ rest }) p.1) (ok_is (value b n rest, record { at = at + 1 + n; left = drop n rest }) (x, d) s.is)
+    subst (λ (p : ℕ × Cursor). Spans (length_form p.0) (record { at = at; left = b ∷ rest }) p.1) (ok_is (value b n rest, record { at = at + 1 + n; left = drop n rest }) (x, d) s.is)
     (record { front = b ∷ take n rest; joined = ap (λ (xs : List ℕ). b ∷ xs) (sym (take-append-drop n rest)); moved = omega (arith, len); so = so })
 
 -- a number of n bytes behind b
@@ -45,29 +45,29 @@ behind b n rest bytes long =
     )
 
 -- by the first byte
-small : (at b : ℕ) (rest : List ℕ) (x : ℕ) (d : Cursor) → b ≤ 0x80 → sized at b (Some 0) rest ≡ Ok (x, d) → Takes (length_form x) (record { at = at; left = b ∷ rest }) d
-small at b rest x d le e = sized_takes at b 0 rest x d (sized_ok at b 0 rest x d e) (inl (le, refl))
+small : (at b : ℕ) (rest : List ℕ) (x : ℕ) (d : Cursor) → b ≤ 0x80 → sized at b (Some 0) rest ≡ Ok (x, d) → Spans (length_form x) (record { at = at; left = b ∷ rest }) d
+small at b rest x d le e = sized_spans at b 0 rest x d (sized_ok at b 0 rest x d e) (inl (le, refl))
 
-two : (at b : ℕ) (rest : List ℕ) (x : ℕ) (d : Cursor) → AreBytes rest → b ≡ 0x81 → sized at b (Some 2) rest ≡ Ok (x, d) → Takes (length_form x) (record { at = at; left = b ∷ rest }) d
+two : (at b : ℕ) (rest : List ℕ) (x : ℕ) (d : Cursor) → AreBytes rest → b ≡ 0x81 → sized at b (Some 2) rest ≡ Ok (x, d) → Spans (length_form x) (record { at = at; left = b ∷ rest }) d
 two at b rest x d bytes is e =
     let s = sized_ok at b 2 rest x d e in
     let n = behind b 2 rest bytes s.long in
-    sized_takes at b 2 rest x d s (inr (inl (n.0, n.1 ∙ ap (λ (k : ℕ). k ∷ little_bytes 2 (little (take 2 rest))) is)))
+    sized_spans at b 2 rest x d s (inr (inl (n.0, n.1 ∙ ap (λ (k : ℕ). k ∷ little_bytes 2 (little (take 2 rest))) is)))
 
-three : (at b : ℕ) (rest : List ℕ) (x : ℕ) (d : Cursor) → AreBytes rest → b ≡ 0x84 → sized at b (Some 3) rest ≡ Ok (x, d) → Takes (length_form x) (record { at = at; left = b ∷ rest }) d
+three : (at b : ℕ) (rest : List ℕ) (x : ℕ) (d : Cursor) → AreBytes rest → b ≡ 0x84 → sized at b (Some 3) rest ≡ Ok (x, d) → Spans (length_form x) (record { at = at; left = b ∷ rest }) d
 three at b rest x d bytes is e =
     let s = sized_ok at b 3 rest x d e in
     let n = behind b 3 rest bytes s.long in
-    sized_takes at b 3 rest x d s (inr (inr (inl (n.0, n.1 ∙ ap (λ (k : ℕ). k ∷ little_bytes 3 (little (take 3 rest))) is))))
+    sized_spans at b 3 rest x d s (inr (inr (inl (n.0, n.1 ∙ ap (λ (k : ℕ). k ∷ little_bytes 3 (little (take 3 rest))) is))))
 
-four : (at b : ℕ) (rest : List ℕ) (x : ℕ) (d : Cursor) → AreBytes rest → b ≡ 0x88 → sized at b (Some 4) rest ≡ Ok (x, d) → Takes (length_form x) (record { at = at; left = b ∷ rest }) d
+four : (at b : ℕ) (rest : List ℕ) (x : ℕ) (d : Cursor) → AreBytes rest → b ≡ 0x88 → sized at b (Some 4) rest ≡ Ok (x, d) → Spans (length_form x) (record { at = at; left = b ∷ rest }) d
 four at b rest x d bytes is e =
     let s = sized_ok at b 4 rest x d e in
     let n = behind b 4 rest bytes s.long in
-    sized_takes at b 4 rest x d s (inr (inr (inr (n.0, n.1 ∙ ap (λ (k : ℕ). k ∷ little_bytes 4 (little (take 4 rest))) is))))
+    sized_spans at b 4 rest x d s (inr (inr (inr (n.0, n.1 ∙ ap (λ (k : ℕ). k ∷ little_bytes 4 (little (take 4 rest))) is))))
 
 -- what the first byte calls for
-by_first : (at b : ℕ) (rest : List ℕ) (x : ℕ) (d : Cursor) → AreBytes rest → (o : Option ℕ) → length_bytes b ≡ o → sized at b o rest ≡ Ok (x, d) → Takes (length_form x) (record { at = at; left = b ∷ rest }) d
+by_first : (at b : ℕ) (rest : List ℕ) (x : ℕ) (d : Cursor) → AreBytes rest → (o : Option ℕ) → length_bytes b ≡ o → sized at b o rest ≡ Ok (x, d) → Spans (length_form x) (record { at = at; left = b ∷ rest }) d
 by_first at b rest x d bytes o is e =
     elim (chosen (leb b 0x80) (some 0) (cond (eqb b 0x81) (Some 2) (cond (eqb b 0x84) (Some 3) (cond (eqb b 0x88) (Some 4) None))) o is) [
       | inl h ↦ small at b rest x d (leb-true _ _ h.0) (subst (λ (p : Option ℕ). sized at b p rest ≡ given x d) (sym h.1) e)
@@ -83,7 +83,7 @@ by_first at b rest x d bytes o is e =
       ]
     ]
 
-length_left : (at : ℕ) (left : List ℕ) (x : ℕ) (d : Cursor) → AreBytes left → length_of at left ≡ Ok (x, d) → Takes (length_form x) (record { at = at; left = left }) d × Unit {0}
+length_left : (at : ℕ) (left : List ℕ) (x : ℕ) (d : Cursor) → AreBytes left → length_of at left ≡ Ok (x, d) → Spans (length_form x) (record { at = at; left = left }) d × Unit {0}
 length_left at [] x d bytes e = absurd cc
 length_left at (b ∷ rest) x d bytes e = (by_first at b rest x d (AreBytes-rest b rest bytes) (length_bytes b) refl e, tt)
 

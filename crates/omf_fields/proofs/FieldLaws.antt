@@ -9,12 +9,10 @@ use Rattle.lx_bytes.specs.LittleEndian.{AreBytes, little, little_bytes}
 use Rattle.lx_bytes.proofs.Numbers.{length-little_bytes, little-little_bytes, little_bytes-little}
 use Rattle.obj_types.specs.declared.refusal.OmfRefusal.{OmfRefusal}
 use Rattle.obj_types.specs.declared.refusal.OmfRefusal.TheVariants.{Short, BadIndex}
-use Rattle.omf_model.specs.Fields.{number_at, byte_of, byte_at, name_of, name_at, index_of, index_at, is_among, checked, index_below, index_or_zero}
-use Rattle.omf_model.specs.Forms.{byte, number, name, index}
-use Rattle.omf_model.proofs.Takes.{Takes, cursor_is, Sound, Complete, given, ok_is, bind_ok}
-
-abbrev pub Free : {A : Type 0} → A → Type 0
-Free x = Unit {0}
+use Rattle.omf_fields.specs.Fields.{number_at, byte_of, byte_at, name_of, name_at, index_of, index_at, is_among, checked, index_below, index_or_zero}
+use Rattle.omf_fields.specs.Forms.{byte, number, name, index}
+pub use Rattle.omf_fields.specs.Spans.{Free}
+use Rattle.omf_fields.proofs.SpanLaws.{Spans, cursor_is, Sound, Complete, given, ok_is, bind_ok}
 
 -- a test that did not fail
 pub guard_ok : {A : Type 0} (b : Bool) (d : OmfRefusal) (x y : A) → cond b (Err d) (Ok x) ≡ Ok y → (b ≡ false) × (x ≡ y)
@@ -26,10 +24,10 @@ guard_ok false d x y e = (refl, ok_is x y e)
 pub byte_sound : Sound byte_at byte Free
 byte_sound c x d bytes e = of c.at c.left x d bytes e
   where
-    of : (at : ℕ) (left : List ℕ) (x : ℕ) (d : Cursor) → AreBytes left → byte_of at left ≡ Ok (x, d) → Takes (byte x) (record { at = at; left = left }) d × Unit {0}
+    of : (at : ℕ) (left : List ℕ) (x : ℕ) (d : Cursor) → AreBytes left → byte_of at left ≡ Ok (x, d) → Spans (byte x) (record { at = at; left = left }) d × Unit {0}
     of at [] x d bytes e = absurd cc
     of at (b ∷ rest) x d bytes e =
-        subst (λ (p : ℕ × Cursor). Takes (byte p.0) (record { at = at; left = b ∷ rest }) p.1 × Unit {0}) (ok_is (b, record { at = at + 1; left = rest }) (x, d) e)
+        subst (λ (p : ℕ × Cursor). Spans (byte p.0) (record { at = at; left = b ∷ rest }) p.1 × Unit {0}) (ok_is (b, record { at = at + 1; left = rest }) (x, d) e)
         (record { front = b ∷ []; joined = refl; moved = refl; so = (bytes 0, refl) }, tt)
 
 pub byte_complete : Complete byte_at byte Free
@@ -65,7 +63,7 @@ number_sound n c x d bytes e =
     let fit = AreBytes-take n c.left bytes in
     let below : little (take n c.left) < 256 ^ n = subst (λ (k : ℕ). little (take n c.left) < 256 ^ k) len (little-below (take n c.left) fit) in
     let back : take n c.left ≡ little_bytes n (little (take n c.left)) = subst (λ (k : ℕ). take n c.left ≡ little_bytes k (little (take n c.left))) len (sym (little_bytes-little (take n c.left) fit)) in
-    subst (λ (p : ℕ × Cursor). Takes (number n p.0) c p.1 × Unit {0}) g.1
+    subst (λ (p : ℕ × Cursor). Spans (number n p.0) c p.1 × Unit {0}) g.1
     (record { front = take n c.left; joined = sym (take-append-drop n c.left); moved = ap (λ (k : ℕ). c.at + k) (sym len); so = (below, back) }, tt)
 
 pub number_complete : (n : ℕ) → Complete (number_at n) (number n) Free
@@ -77,7 +75,7 @@ number_complete n c x d t ok =
 
 -- ---- names
 
-name_front : (at n : ℕ) (rest : List ℕ) → n < 256 → n ≤ length rest → Takes (name (take n rest)) (record { at = at; left = n ∷ rest }) (record { at = at + 1 + n; left = drop n rest })
+name_front : (at n : ℕ) (rest : List ℕ) → n < 256 → n ≤ length rest → Spans (name (take n rest)) (record { at = at; left = n ∷ rest }) (record { at = at + 1 + n; left = drop n rest })
 name_front at n rest small long =
     let len : length (take n rest) ≡ n = omega (arith, length-take n rest) in
     record {
@@ -90,11 +88,11 @@ name_front at n rest small long =
 pub name_sound : Sound name_at name Free
 name_sound c x d bytes e = of c.at c.left x d bytes e
   where
-    of : (at : ℕ) (left : List ℕ) (x : List ℕ) (d : Cursor) → AreBytes left → name_of at left ≡ Ok (x, d) → Takes (name x) (record { at = at; left = left }) d × Unit {0}
+    of : (at : ℕ) (left : List ℕ) (x : List ℕ) (d : Cursor) → AreBytes left → name_of at left ≡ Ok (x, d) → Spans (name x) (record { at = at; left = left }) d × Unit {0}
     of at [] x d bytes e = absurd cc
     of at (n ∷ rest) x d bytes e =
         let g = guard_ok (ltb (length rest) n) (Short at) (take n rest, record { at = at + 1 + n; left = drop n rest }) (x, d) e in
-        subst (λ (p : List ℕ × Cursor). Takes (name p.0) (record { at = at; left = n ∷ rest }) p.1 × Unit {0}) g.1
+        subst (λ (p : List ℕ × Cursor). Spans (name p.0) (record { at = at; left = n ∷ rest }) p.1 × Unit {0}) g.1
         (name_front at n rest (bytes 0) (ltb-false _ _ g.0), tt)
 
 pub name_complete : Complete name_at name Free
@@ -111,19 +109,19 @@ pub chosen : {A : Type 0} (b : Bool) (x y z : A) → cond b x y ≡ z → ((b �
 chosen true x y z e = inl (refl, e)
 chosen false x y z e = inr (refl, e)
 
-index_one : (at b : ℕ) (rest : List ℕ) (x : ℕ) (d : Cursor) → b < 128 → given b (record { at = at + 1; left = rest }) ≡ given x d → Takes (index x) (record { at = at; left = b ∷ rest }) d × Unit {0}
+index_one : (at b : ℕ) (rest : List ℕ) (x : ℕ) (d : Cursor) → b < 128 → given b (record { at = at + 1; left = rest }) ≡ given x d → Spans (index x) (record { at = at; left = b ∷ rest }) d × Unit {0}
 index_one at b rest x d small e =
-    subst (λ (p : ℕ × Cursor). Takes (index p.0) (record { at = at; left = b ∷ rest }) p.1 × Unit {0}) (ok_is (b, record { at = at + 1; left = rest }) (x, d) e)
+    subst (λ (p : ℕ × Cursor). Spans (index p.0) (record { at = at; left = b ∷ rest }) p.1 × Unit {0}) (ok_is (b, record { at = at + 1; left = rest }) (x, d) e)
     (record { front = b ∷ []; joined = refl; moved = refl; so = inl (small, refl) }, tt)
 
-index_two : (at b low : ℕ) (rest : List ℕ) (x : ℕ) (d : Cursor) → 128 ≤ b → b < 256 → low < 256 → given ((b - 128) * 256 + low) (record { at = at + 2; left = rest }) ≡ given x d → Takes (index x) (record { at = at; left = b ∷ low ∷ rest }) d × Unit {0}
+index_two : (at b low : ℕ) (rest : List ℕ) (x : ℕ) (d : Cursor) → 128 ≤ b → b < 256 → low < 256 → given ((b - 128) * 256 + low) (record { at = at + 2; left = rest }) ≡ given x d → Spans (index x) (record { at = at; left = b ∷ low ∷ rest }) d × Unit {0}
 index_two at b low rest x d large fits low_fits e =
     let high : (128 + ((b - 128) * 256 + low) / 256) ≡ b = omega (arith, large, low_fits) in
     let back : ((b - 128) * 256 + low) % 256 ≡ low = omega (arith, low_fits) in
-    subst (λ (p : ℕ × Cursor). Takes (index p.0) (record { at = at; left = b ∷ low ∷ rest }) p.1 × Unit {0}) (ok_is ((b - 128) * 256 + low, record { at = at + 2; left = rest }) (x, d) e)
+    subst (λ (p : ℕ × Cursor). Spans (index p.0) (record { at = at; left = b ∷ low ∷ rest }) p.1 × Unit {0}) (ok_is ((b - 128) * 256 + low, record { at = at + 2; left = rest }) (x, d) e)
     (record { front = b ∷ low ∷ []; joined = refl; moved = refl; so = inr (omega (arith, fits, low_fits), λ i. sym high i ∷ sym back i ∷ []) }, tt)
 
-index_left : (at : ℕ) (left : List ℕ) (x : ℕ) (d : Cursor) → AreBytes left → index_of at left ≡ Ok (x, d) → Takes (index x) (record { at = at; left = left }) d × Unit {0}
+index_left : (at : ℕ) (left : List ℕ) (x : ℕ) (d : Cursor) → AreBytes left → index_of at left ≡ Ok (x, d) → Spans (index x) (record { at = at; left = left }) d × Unit {0}
 index_left at [] x d bytes e = absurd cc
 index_left at (b ∷ []) x d bytes e =
     elim (chosen (ltb b 128) (given b (record { at = at + 1; left = [] })) (Err (Short at)) (Ok (x, d)) e) [
@@ -196,7 +194,7 @@ below_sound have c x d bytes e =
     let b = bind_ok (index_at c) (checked false have c.at) (x, d) e in
     let g = guard_so (is_among false have b.0.0) (BadIndex c.at b.0.0 have) b.0 (x, d) b.2 in
     let t = index_sound c b.0.0 b.0.1 bytes b.1 in
-    subst (λ (p : ℕ × Cursor). Takes (index p.0) c p.1 × FromOne have p.0) g.1 (t.0, among have b.0.0 g.0)
+    subst (λ (p : ℕ × Cursor). Spans (index p.0) c p.1 × FromOne have p.0) g.1 (t.0, among have b.0.0 g.0)
 
 pub below_complete : (have : ℕ) → Complete (index_below have) index (FromOne have)
 unfolding index_below
@@ -208,7 +206,7 @@ or_zero_sound have c x d bytes e =
     let b = bind_ok (index_at c) (checked true have c.at) (x, d) e in
     let g = guard_so (is_among true have b.0.0) (BadIndex c.at b.0.0 have) b.0 (x, d) b.2 in
     let t = index_sound c b.0.0 b.0.1 bytes b.1 in
-    subst (λ (p : ℕ × Cursor). Takes (index p.0) c p.1 × (p.0 ≤ have)) g.1 (t.0, among_or_zero have b.0.0 g.0)
+    subst (λ (p : ℕ × Cursor). Spans (index p.0) c p.1 × (p.0 ≤ have)) g.1 (t.0, among_or_zero have b.0.0 g.0)
 
 pub or_zero_complete : (have : ℕ) → Complete (index_or_zero have) index (λ i. i ≤ have)
 unfolding index_or_zero

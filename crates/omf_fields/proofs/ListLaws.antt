@@ -7,10 +7,11 @@ use Rattle.std.proofs.lemmas.List.{nil_from_length}
 use Rattle.lx_bytes.specs.Cursor.{Cursor}
 use Rattle.lx_bytes.specs.LittleEndian.{AreBytes}
 use Rattle.obj_types.specs.declared.refusal.OmfRefusal.{OmfRefusal}
-use Rattle.omf_model.specs.Fields.{Reading, ◌>>=◌, where_so, list_within, list_at}
-use Rattle.omf_model.specs.Forms.{Form, each, present}
-use Rattle.omf_model.proofs.Takes.{Takes, bytes_behind, then_left, left_splits, takes_nothing, nothing_takes, Sound, Complete, given, done, ok_is, bind_ok}
-use Rattle.omf_model.proofs.FieldLaws.{chosen}
+use Rattle.omf_fields.specs.Fields.{Reading, ◌>>=◌, where_so, list_within, list_at}
+use Rattle.omf_fields.specs.Within.{within}
+use Rattle.omf_fields.specs.Forms.{Form, each, present}
+use Rattle.omf_fields.proofs.SpanLaws.{Spans, bytes_behind, then_left, left_splits, spans_nothing, nothing_spans, Sound, Complete, given, done, ok_is, bind_ok}
+use Rattle.omf_fields.proofs.FieldLaws.{chosen}
 
 -- ---- in some cases only
 
@@ -18,24 +19,24 @@ pub present_sound : {A : Type 0} (b : Bool) (read : Cursor → Reading A) (form 
 present_sound {A} true read form P sound c o d bytes e =
     let b = bind_ok (read c) (λ x. given (Some x.0) x.1) (o, d) e in
     let t = sound c b.0.0 b.0.1 bytes b.1 in
-    subst (λ (p : Option A × Cursor). Takes (present true form p.0) c p.1 × IfSome p.0 P) (ok_is (Some b.0.0, b.0.1) (o, d) b.2) t
+    subst (λ (p : Option A × Cursor). Spans (present true form p.0) c p.1 × IfSome p.0 P) (ok_is (Some b.0.0, b.0.1) (o, d) b.2) t
 present_sound {A} false read form P sound c o d bytes e =
-    subst (λ (p : Option A × Cursor). Takes (present false form p.0) c p.1 × IfSome p.0 P) (ok_is (None, c) (o, d) e) (takes_nothing c, tt)
+    subst (λ (p : Option A × Cursor). Spans (present false form p.0) c p.1 × IfSome p.0 P) (ok_is (None, c) (o, d) e) (spans_nothing c, tt)
 
 pub present_complete : {A : Type 0} (b : Bool) (read : Cursor → Reading A) (form : A → Form) (P : A → Type 0) → Complete read form P → Complete (where_so b read) (present b form) (λ o. IfSome o P)
 present_complete true read form P complete c (Some x) d t ok = rw (complete c x d t ok) refl
 present_complete true read form P complete c None d t ok = absurd t.so
 present_complete false read form P complete c (Some x) d t ok = absurd t.so
-present_complete {A} false read form P complete c None d t ok = ap (λ (k : Cursor). given {A = Option A} None k) (nothing_takes c d t)
+present_complete {A} false read form P complete c None d t ok = ap (λ (k : Cursor). given {A = Option A} None k) (nothing_spans c d t)
 
 -- ---- lists up to the end
 
--- an item takes a byte at least
-abbrev pub Takes1 : {A : Type 0} → (A → Form) → Type 0
-Takes1 {A} form = (x : A) (bytes : List ℕ) → form x bytes → 1 ≤ length bytes
+-- an item spans a byte at least
+abbrev pub OneByte : {A : Type 0} → (A → Form) → Type 0
+OneByte {A} form = (x : A) (bytes : List ℕ) → form x bytes → 1 ≤ length bytes
 
-within_sound : {A : Type 0} (read : Cursor → Reading A) (form : A → Form) (P : A → Type 0) → Sound read form P → Takes1 form → (most : ℕ) (c : Cursor) (xs : List A) → AreBytes c.left → length c.left ≤ most → list_within read most c ≡ Ok xs → each form xs c.left × AllByRecursion P xs
-unfolding list_within
+within_sound : {A : Type 0} (read : Cursor → Reading A) (form : A → Form) (P : A → Type 0) → Sound read form P → OneByte form → (most : ℕ) (c : Cursor) (xs : List A) → AreBytes c.left → length c.left ≤ most → list_within read most c ≡ Ok xs → each form xs c.left × AllByRecursion P xs
+unfolding list_within within
 within_sound {A} read form P sound one zero c xs bytes few e =
     subst (λ (ys : List A). each form ys c.left × AllByRecursion P ys) (ok_is [] xs e) (nil_from_length c.left (omega (arith, few)), tt)
 within_sound {A} read form P sound one (suc most) c xs bytes few e =
@@ -52,11 +53,11 @@ within_sound {A} read form P sound one (suc most) c xs bytes few e =
           subst (λ (ys : List A). each form ys c.left × AllByRecursion P ys) (ok_is (a.0.0 ∷ b.0) xs b.2) (then_left (form a.0.0) (each form b.0) c a.0.1 t.0 rest.0, (t.1, rest.1))
     ]
 
-pub list_sound : {A : Type 0} (read : Cursor → Reading A) (form : A → Form) (P : A → Type 0) → Sound read form P → Takes1 form → (c : Cursor) (xs : List A) → AreBytes c.left → list_at read c ≡ Ok xs → each form xs c.left × AllByRecursion P xs
+pub list_sound : {A : Type 0} (read : Cursor → Reading A) (form : A → Form) (P : A → Type 0) → Sound read form P → OneByte form → (c : Cursor) (xs : List A) → AreBytes c.left → list_at read c ≡ Ok xs → each form xs c.left × AllByRecursion P xs
 list_sound read form P sound one c xs bytes e = within_sound read form P sound one (length c.left) c xs bytes (omega arith) e
 
-within_complete : {A : Type 0} (read : Cursor → Reading A) (form : A → Form) (P : A → Type 0) → Complete read form P → Takes1 form → (xs : List A) (most : ℕ) (c : Cursor) → length c.left ≤ most → each form xs c.left → AllByRecursion P xs → list_within read most c ≡ Ok xs
-unfolding list_within
+within_complete : {A : Type 0} (read : Cursor → Reading A) (form : A → Form) (P : A → Type 0) → Complete read form P → OneByte form → (xs : List A) (most : ℕ) (c : Cursor) → length c.left ≤ most → each form xs c.left → AllByRecursion P xs → list_within read most c ≡ Ok xs
+unfolding list_within within
 within_complete {A} read form P complete one [] zero c few so ok = refl
 within_complete {A} read form P complete one [] (suc most) c few so ok = rw so refl
 within_complete {A} read form P complete one (x ∷ xs) zero c few so ok =
@@ -71,5 +72,5 @@ within_complete {A} read form P complete one (x ∷ xs) (suc most) c few so ok =
     let rest = within_complete read form P complete one xs most s.0 (omega (arith, few, long, grows)) s.2 ok.1 in
     rw (some, complete c x s.0 s.1 ok.0, rest) refl
 
-pub list_complete : {A : Type 0} (read : Cursor → Reading A) (form : A → Form) (P : A → Type 0) → Complete read form P → Takes1 form → (c : Cursor) (xs : List A) → each form xs c.left → AllByRecursion P xs → list_at read c ≡ Ok xs
+pub list_complete : {A : Type 0} (read : Cursor → Reading A) (form : A → Form) (P : A → Type 0) → Complete read form P → OneByte form → (c : Cursor) (xs : List A) → each form xs c.left → AllByRecursion P xs → list_at read c ≡ Ok xs
 list_complete read form P complete one c xs so ok = within_complete read form P complete one xs (length c.left) c (omega arith) so ok

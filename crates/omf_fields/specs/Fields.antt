@@ -3,6 +3,7 @@
 use Rattle.std.specs.Prelude.{ℕ, ◌+◌, ◌-◌, ◌*◌, Bool, true, false, zero, suc, List, [], ◌∷◌, length, take, drop, Option, Some, None, Result, Ok, Err, nat_lt, nat_le, ◌==◌, if◌then◌else◌}
 use Rattle.lx_bytes.specs.Cursor.{Cursor, advance}
 use Rattle.lx_bytes.specs.LittleEndian.{little}
+use Rattle.omf_fields.specs.Within.{within}
 use Rattle.obj_types.specs.declared.refusal.OmfRefusal.{OmfRefusal}
 use Rattle.obj_types.specs.declared.refusal.OmfRefusal.TheVariants.{Short, BadField, BadIndex}
 
@@ -106,12 +107,20 @@ items_at one (suc n) c = do
   Ok (first.0 ∷ others.0, others.1)
 
 -- Items up to the record's end. There are no more of them than bytes.
-unfoldable pub list_within : {A : Type 0} → (Cursor → Reading A) → ℕ → Cursor → Result (List A) OmfRefusal
-list_within one zero c = Ok []
-list_within one (suc most) c = if length c.left == 0 then Ok [] else do
+abbrev pub item_and_others : {A : Type 0} → (Cursor → Reading A) → (Cursor → Result (List A) OmfRefusal) → Cursor → Result (List A) OmfRefusal
+item_and_others one others_at c = do
   first ← one c
-  others ← list_within one most first.1
+  others ← others_at first.1
   Ok (first.0 ∷ others)
+
+abbrev pub list_turn : {A : Type 0} → (Cursor → Reading A) → (Cursor → Result (List A) OmfRefusal) → Cursor → Result (List A) OmfRefusal
+list_turn one others_at c = if length c.left == 0 then Ok [] else item_and_others one others_at c
+
+abbrev pub no_items : {A : Type 0} → Cursor → Result (List A) OmfRefusal
+no_items c = Ok []
+
+unfoldable pub list_within : {A : Type 0} → (Cursor → Reading A) → ℕ → Cursor → Result (List A) OmfRefusal
+list_within one most c = within (list_turn one) no_items most c
 
 abbrev pub list_at : {A : Type 0} → (Cursor → Reading A) → Cursor → Result (List A) OmfRefusal
 list_at one c = list_within one (length c.left) c

@@ -1,0 +1,6 @@
+pub mod Turns
+pub mod SpanLaws
+pub mod FieldLaws
+pub mod ListLaws
+pub mod LengthLaws
+pub mod ItemLaws

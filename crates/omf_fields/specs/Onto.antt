@@ -1,0 +1,8 @@
+-- A list that is read on behind the items that were read already.
+use Rattle.std.specs.Prelude.{List, ◌++◌, Result, Ok}
+use Rattle.obj_types.specs.declared.refusal.OmfRefusal.{OmfRefusal}
+use Rattle.omf_fields.specs.Fields.{◌>>=◌}
+
+-- The items, and behind them those that are read.
+abbrev pub onto : {A : Type 0} → List A → Result (List A) OmfRefusal → Result (List A) OmfRefusal
+onto items read = read >>= λ others. Ok (items ++ others)
