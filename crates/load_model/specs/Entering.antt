@@ -1,0 +1,113 @@
+-- What a load attaches, where it places what is new, and what it calls.
+-- Control Program reference: DosLoadModule; LX: "LX Header" (per-process initialisation).
+use Rattle.std.specs.Prelude.{ℕ, suc, ◌+◌, ◌&&◌, ◌||◌, not, Bool, List, [], ◌∷◌, ◌++◌, map, filter, filter_map, flat_map, zip, length, Option, Some, None, option_map, option_to_list, is_none, Result, Ok, Err, if◌then◌else◌}
+use Rattle.lx_types.specs.Addresses.{room}
+use Rattle.lx_types.specs.declared.object.ObjHead.{ObjHead}
+use Rattle.load_model.specs.declared.deeds.How.{How}
+use Rattle.load_model.specs.declared.deeds.How.TheVariants.{Start, Load}
+use Rattle.load_model.specs.declared.deeds.Call.{Call}
+use Rattle.load_model.specs.declared.deeds.CallKind.{CallKind}
+use Rattle.load_model.specs.declared.deeds.CallKind.TheVariants.{Init, Main}
+use Rattle.load_model.specs.declared.deeds.Fresh.{Fresh}
+use Rattle.load_model.specs.declared.deeds.Deed.{Deed}
+use Rattle.load_model.specs.declared.deeds.Deed.TheVariants.{Enter, Full}
+use Rattle.load_model.specs.Modules.{Library, is_library, order_of, start_of, inits_each, objects_of, address_in}
+use Rattle.load_model.specs.Places.{Arena, Span, NoPlace, private_arena, shared_arena, bases_from}
+use Rattle.load_model.specs.State.{Residence, Process, Eager, with_process, is_among, reaches, residence_of, serial_of, bases_of}
+
+-- ---- what is attached, and what of it is new
+
+-- the members of the order that the process does not reach
+unfoldable pub joined : Library → Eager → ℕ → ℕ → List ℕ
+joined lib e pid m = filter (λ k. not (reaches lib (e.processes pid) k)) (order_of lib m)
+
+-- those of them that are not resident
+unfoldable pub newcomers : Library → Eager → ℕ → ℕ → List ℕ
+newcomers lib e pid m = filter (λ k. is_none (residence_of e k)) (joined lib e pid m)
+
+-- ---- where it is placed
+
+abbrev pub span_of : ObjHead × ℕ → Span
+span_of at = (at.1, room at.0.size)
+
+-- the addresses that a library's objects take; a program's are in no one's way
+abbrev pub spans_of : Library → ℕ → List ℕ → List Span
+spans_of lib m bases = if is_library lib m then map span_of (zip (objects_of lib m) bases) else []
+
+-- what is taken in the shared arena
+unfoldable pub resident_spans : Library → Eager → List Span
+resident_spans lib e = flat_map (λ r. spans_of lib r.«module» r.bases) e.residences
+
+-- The bases of a module's objects beside what is taken. The private arena is empty for each program.
+unfoldable pub bases_for : Library → List Span → ℕ → Result (List ℕ) NoPlace
+bases_for lib spans m =
+    if is_library lib m then bases_from 1 shared_arena spans (objects_of lib m)
+    else bases_from 1 private_arena [] (objects_of lib m)
+
+-- a module that has no place, with its object
+pub record NoRoom : Type 0 where
+  pub of : ℕ
+  pub object : NoPlace
+
+abbrev pub with_fresh : Fresh → Result (List Fresh) NoRoom → Result (List Fresh) NoRoom
+with_fresh fresh (Ok others) = Ok (fresh ∷ others)
+with_fresh fresh (Err e) = Err e
+
+-- the residences of new modules in their order, where the last serial that was given is `serials`
+unfoldable pub placed_from : Library → ℕ → List Span → List ℕ → Result (List Fresh) NoRoom
+placed_from lib serials spans [] = Ok []
+placed_from lib serials spans (m ∷ others) = elim (bases_for lib spans m) [
+  | Err e ↦ Err (record { of = m; object = e })
+  | Ok bases ↦ with_fresh (record { serial = suc serials; «module» = m; bases = bases }) (placed_from lib (suc serials) (spans_of lib m bases ++ spans) others)
+]
+
+unfoldable pub placed : Library → Eager → ℕ → ℕ → Result (List Fresh) NoRoom
+placed lib e pid m = placed_from lib e.serials (resident_spans lib e) (newcomers lib e pid m)
+
+-- ---- the state after it
+
+abbrev pub residence_from : Fresh → Residence
+residence_from f = record { serial = f.serial; «module» = f.«module»; bases = f.bases; writes = [] }
+
+abbrev pub holding : How → ℕ → Process → Process
+holding Start m p = record p { started = Some m }
+holding Load m p = record p { loads = m ∷ p.loads }
+
+abbrev pub attaching : List ℕ → Process → Process
+attaching ms p = record p { attached = p.attached ++ ms }
+
+abbrev pub with_fresh_residences : Eager → List Fresh → Eager
+with_fresh_residences e fresh = record e { residences = e.residences ++ map residence_from fresh; serials = e.serials + length fresh }
+
+unfoldable pub entered : Library → Eager → ℕ → How → ℕ → List Fresh → Eager
+entered lib e pid how m fresh =
+    with_process (with_fresh_residences e fresh) pid (holding how m (attaching (joined lib e pid m) (e.processes pid)))
+
+-- ---- what is called
+
+abbrev pub call_of : CallKind → Option Residence → ℕ → ℕ × ℕ → Call
+call_of kind r m start = record { kind = kind; serial = serial_of r; «module» = m; address = address_in (bases_of r) start.0 start.1 }
+
+-- A library with a start address is initialised where it is marked for that in each process, or is new.
+abbrev pub init_of : Library → Eager → List ℕ → ℕ → Option Call
+init_of lib after new m =
+    if is_library lib m && (inits_each lib m || is_among new m) then option_map (call_of Init (residence_of after m) m) (start_of lib m) else None
+
+-- a program's start address is called last, where it has one
+abbrev pub main_of : Library → Eager → How → ℕ → List Call
+main_of lib after Start m = option_to_list (option_map (call_of Main (residence_of after m) m) (start_of lib m))
+main_of lib after Load m = []
+
+unfoldable pub entering_calls : Library → Eager → ℕ → How → ℕ → List Fresh → List Call
+entering_calls lib e pid how m fresh =
+    let after = entered lib e pid how m fresh in
+    filter_map (init_of lib after (newcomers lib e pid m)) (joined lib e pid m) ++ main_of lib after how m
+
+-- ---- the entry
+
+-- the first object that has no place keeps all of it out
+unfoldable pub enter_deed : Library → Eager → ℕ → How → ℕ → Deed
+enter_deed lib e pid how m = elim (placed lib e pid m) [
+  | Ok fresh ↦ Enter how m fresh (entering_calls lib e pid how m fresh)
+  | Err none ↦ Full how m none.of none.object.object none.object.size
+]

@@ -1,0 +1,63 @@
+-- Legal histories: each entry is the one that the loader with one thread gives at its place.
+use Rattle.std.specs.Prelude.{◌≡◌, ℕ, ◌==◌, ◌&&◌, Bool, true, false, not, List, [], ◌∷◌, ◌++◌, fold, IsTrue}
+use Rattle.std.specs.List.{list_any, list_all}
+use Rattle.lx_types.specs.declared.object.PageId.{PageId}
+use Rattle.load_model.specs.declared.deeds.Deed.{Deed}
+use Rattle.load_model.specs.declared.deeds.Deed.TheVariants as deeds
+use Rattle.load_model.specs.declared.deeds.Entry.{Entry}
+use Rattle.load_model.specs.Modules.{Library, Held}
+use Rattle.load_model.specs.State.{Eager, nothing_yet, pids, is_among}
+use Rattle.load_model.specs.Memory.{is_page}
+use Rattle.load_model.specs.Asks.{asked, deed_of, may_ask, after_deed}
+
+abbrev pub after_entry : Library → Eager → Entry → Eager
+after_entry lib e entry = after_deed lib e entry.pid entry.deed
+
+-- the state after a history
+unfoldable pub state_after : Library → List Entry → Eager
+state_after lib h = fold (after_entry lib) nothing_yet h
+
+-- ---- faults
+
+-- an entry is the fault of a page of a residence
+abbrev pub is_fault_of : ℕ → PageId → Deed → Bool
+is_fault_of serial p (deeds.Fault other m q) = (other == serial) && is_page q p
+is_fault_of serial p (deeds.Enter how m fresh calls) = false
+is_fault_of serial p (deeds.Full how m of object size) = false
+is_fault_of serial p (deeds.Free m calls gone) = false
+is_fault_of serial p (deeds.Exit calls gone) = false
+is_fault_of serial p (deeds.Write s m object offset bytes) = false
+is_fault_of serial p (deeds.Shared s m object offset bytes) = false
+
+-- a page of a residence has its fault in a history
+unfoldable pub has_fault : List Entry → ℕ → PageId → Bool
+has_fault h serial p = list_any (λ entry. is_fault_of serial p entry.deed) h
+
+-- a fault that the history has not
+abbrev pub is_first_fault : List Entry → Deed → Bool
+is_first_fault h (deeds.Fault serial m p) = not (has_fault h serial p)
+is_first_fault h (deeds.Enter how m fresh calls) = true
+is_first_fault h (deeds.Full how m of object size) = true
+is_first_fault h (deeds.Free m calls gone) = true
+is_first_fault h (deeds.Exit calls gone) = true
+is_first_fault h (deeds.Write s m object offset bytes) = true
+is_first_fault h (deeds.Shared s m object offset bytes) = true
+
+-- ---- what may follow, and what is legal
+
+-- An entry may follow a history: a process may ask it there, it is what the loader does then, and it is no
+-- second fault of a page of a residence. What was touched is not judged here.
+pub record Follows (lib : Library) (held : Held) (h : List Entry) (entry : Entry) : Type 0 where
+  pub process : IsTrue (is_among pids entry.pid)
+  pub may : IsTrue (may_ask lib (state_after lib h) entry.pid (asked entry.deed))
+  pub done : entry.deed ≡ deed_of lib held (state_after lib h) entry.pid (asked entry.deed)
+  pub first : IsTrue (is_first_fault h entry.deed)
+
+-- entries follow a history, one behind the other
+abbrev pub AllFollow : Library → Held → List Entry → List Entry → Type 0
+AllFollow lib held h [] = Unit {0}
+AllFollow lib held h (entry ∷ others) = Follows lib held h entry × AllFollow lib held (h ++ entry ∷ []) others
+
+-- from the state in which nothing was done yet
+unfoldable pub Legal : Library → Held → List Entry → Type 0
+Legal lib held h = AllFollow lib held [] h

@@ -1,0 +1,14 @@
+pub mod Modules
+pub mod Places
+pub mod State
+pub mod Entering
+pub mod Leaving
+pub mod Memory
+pub mod Refusals
+pub mod Asks
+pub mod Step
+pub mod Histories
+pub mod Samples
+pub mod WorkedLoads
+pub mod WorkedBytes
+pub mod WorkedRefusals

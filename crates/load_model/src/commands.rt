@@ -1,0 +1,95 @@
+//! What a process can ask for, and what it is answered.
+
+use lx_types::{Bytes, EntryKey, Name};
+
+/// `len` bytes of an object of a module, from `offset` on. Objects count from 1.
+#[derive(Debug, PartialEq, Drop)]
+pub struct Place {
+    pub module: Name,
+    pub object: u32,
+    pub offset: u32,
+    pub len: u32,
+}
+
+/// A command of a process.
+#[derive(Debug, PartialEq, Drop)]
+pub enum Command {
+    /// Starts a program.
+    Start(Name),
+    /// Loads a library (DosLoadModule).
+    Load(Name),
+    /// Gives up one load of a library (DosFreeModule).
+    Free(Name),
+    /// Makes the pages of a place present.
+    Touch(Place),
+    /// Reads bytes of code or of the process's own data.
+    Peek(Place),
+    /// Reads bytes that all processes share.
+    Shared(Place),
+    /// Writes bytes. There are as many as the place is long.
+    Write(Place, Bytes),
+    /// Asks for the address of an entry point (DosQueryProcAddr).
+    Query(Name, EntryKey),
+    /// Ends the process (DosExit).
+    Exit,
+}
+
+/// Why a command was refused.
+#[derive(Clone, Copy, Debug, PartialEq, Eq)]
+pub enum Refusal {
+    /// The process has ended.
+    Ended,
+    /// The process has drawn too many turns.
+    Worn,
+    /// The process has started a program before.
+    Started,
+    /// No module has the name, or a name of an import table means no library.
+    NoModule,
+    NotLibrary,
+    NotProgram,
+    /// Modules import each other.
+    ImportCycle,
+    /// The key, or a fixup's target, names no entry.
+    NoEntry,
+    /// Forwarders lead back to where they came from.
+    ForwardLoop,
+    /// The entry is a call gate of the 80286.
+    Gate286,
+    /// The process has 65,535 loads of the module.
+    CountFull,
+    /// Object `object` of module `of`, of `size` bytes, has no place; entry `number` of the history
+    /// says so.
+    ArenaFull {
+        number: u64,
+        of: u32,
+        object: u32,
+        size: u32,
+    },
+    /// The process has no load of the module.
+    NotHeld,
+    /// The process does not reach the module.
+    NotAttached,
+    /// There is no such object, or the place passes its end.
+    Range,
+    /// The object is code.
+    ReadOnly,
+    /// The object is shared.
+    IsShared,
+    /// The object is not shared.
+    NotShared,
+    /// The place covers an invalid page.
+    Invalid,
+    /// The first page of the place, from 0 in its object, that the process has not touched since it
+    /// attached the module.
+    NotTouched { page: u32 },
+}
+
+/// What a command without an entry is answered.
+#[derive(Debug, PartialEq, Drop)]
+pub enum Reply {
+    /// A place was touched.
+    Fine,
+    Bytes(Bytes),
+    Address(u32),
+    Refused(Refusal),
+}

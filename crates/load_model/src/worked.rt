@@ -1,0 +1,36 @@
+//! Worked values of the definitions, from outside them: each function's contract is a table of values
+//! that the definitions give.
+
+ghost use Rattle.load_model.specs.WorkedLoads.{WorkedDiamond, WorkedPlaces};
+ghost use Rattle.load_model.specs.WorkedBytes.{WorkedWrites};
+ghost use Rattle.load_model.specs.WorkedRefusals.{WorkedLoadRefusals, WorkedPlaceRefusals, WorkedQueries};
+
+/// A diamond of imports: what is new at each load, in which order it is initialised, and what leaves.
+pub fn diamond_loads()
+    ensures { WorkedDiamond }
+{}
+
+/// Where objects stand beside others, and where there is no place for one.
+pub fn objects_stand()
+    ensures { WorkedPlaces }
+{}
+
+/// What two processes see of each other's writes, and when writes and touches end.
+pub fn writes_are_seen()
+    ensures { WorkedWrites }
+{}
+
+/// One case of each refusal of a start, a load, a free and an exit.
+pub fn loads_are_refused()
+    ensures { WorkedLoadRefusals }
+{}
+
+/// One case of each refusal of a place.
+pub fn places_are_refused()
+    ensures { WorkedPlaceRefusals }
+{}
+
+/// Addresses of entry points, and one case of each refusal of a query.
+pub fn queries_are_answered()
+    ensures { WorkedQueries }
+{}
