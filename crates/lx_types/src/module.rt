@@ -184,6 +184,21 @@ impl Module {
         entry_with(entries, ordinal)
     }
 
+    /// The ordinals that have an entry, rising, and what each stands for.
+    pub fn entries(&self) -> &[(u32, EntryHead)]
+        ensures { result.now ≡ self.now.entries }
+    {
+        self.parts.entries.as_slice()
+    }
+
+    /// The names of the resident name table and then of the other, after the first of each, with their
+    /// ordinals.
+    pub fn names(&self) -> &[(Name, u32)]
+        ensures { result.now ≡ self.now.names }
+    {
+        self.parts.names.as_slice()
+    }
+
     /// The ordinal of the first name with these bytes, in the resident name table and then in the
     /// other. It looks at one name after the other.
     pub fn ordinal_of(&self, name: &[u8]) -> Option<u32>

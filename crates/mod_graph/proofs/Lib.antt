@@ -1,0 +1,6 @@
+pub mod Lists
+pub mod Orders
+pub mod Following
+pub mod Healths
+pub mod Tables
+pub mod Gathered

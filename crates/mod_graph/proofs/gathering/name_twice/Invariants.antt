@@ -1,0 +1,9 @@
+use Rattle.std.proofs.Common.{◌≡◌, ◌-◌, length, map}
+use Rattle.std.specs.List.{range_with_len}
+use Rattle.lx_model.specs.Reading.{first}
+use Rattle.mod_graph.specs.Gathering.{name_twice, earlier}
+use Rattle.mod_graph.proofs.gathering.name_twice.Given as goal
+
+-- no module so far has the name of an earlier one
+abbrev pub invariant-loop-second : goal.invariant-loop-second
+invariant-loop-second l = name_twice l.mods ≡ first (map (earlier l.mods) (range_with_len l.second (length l.mods - l.second)))

@@ -1,0 +1,175 @@
+//! Where the entry points of a library's modules are.
+
+ghost use Rattle.std.specs.Prelude.{◌≡◌, ◌≤◌, ◌<◌, ◌+◌, IfOk, IfSome, length, option_copied};
+ghost use Rattle.std.specs.Option.{ForSome};
+ghost use Rattle.lx_types.specs.Parts.{entry_of, proc_name_of, ordinal_named};
+ghost use Rattle.lx_model.specs.Library.{module_of, import_of};
+ghost use Rattle.lx_model.specs.Entries as spots;
+ghost use Rattle.lx_model.specs.Entries.{place_named, followed, entry_or_none, entry_count};
+
+use crate::imports::library_with_name;
+use lx_model::{EntryFault, Spot};
+use lx_types::{EntryHead, FixTarget, FwdKey, Module, NoMemory};
+
+/// What a place stands for: a module's number, and an ordinal of it.
+fn head_at(mods: &[Module], place: (u32, u32)) -> Option<EntryHead>
+    requires { place.0 < length mods.now }
+    ensures { result ≡ entry_of (module_of mods.now place.0).entries place.1 }
+{
+    mods[place.0 as usize].entry(place.1)
+}
+
+/// The name that module `m` has at an offset of its import procedures.
+fn proc_name(mods: &[Module], m: u32, at: u32) -> Option<&[u8]>
+    requires { m < length mods.now }
+    ensures { option_copied result ≡ proc_name_of (module_of mods.now m) at }
+{
+    mods[m as usize].proc_name(at)
+}
+
+/// The place of a name in module `m`.
+pub fn name_place(mods: &[Module], m: u32, name: &[u8]) -> Option<(u32, u32)>
+    requires { m < length mods.now }
+    ensures place { result ≡ place_named mods.now m name.now }
+    ensures within { IfSome result (λ place. place.0 < length mods.now) }
+{
+    match mods[m as usize].ordinal_of(name) {
+        Some(ordinal) => Some((m, ordinal)),
+        None => None,
+    }
+}
+
+/// What number `import` of a module's import modules means.
+fn import_with_number(mods: &[Module], m: u32, import: u32) -> Option<u32>
+    requires few { length mods.now ≤ 64 }
+    requires module { m < length mods.now }
+    ensures number { result ≡ import_of mods.now m import }
+    ensures within { IfSome result (λ other. other < length mods.now) }
+{
+    match mods[m as usize]
+        .imports()
+        .get(import.saturating_sub(1) as usize)
+    {
+        Some(name) => library_with_name(mods, name),
+        None => None,
+    }
+}
+
+/// The place that module `m` means by a key of another one.
+fn key_place(mods: &[Module], m: u32, key: FwdKey, other: u32) -> Option<(u32, u32)>
+    requires module { m < length mods.now }
+    requires other { other < length mods.now }
+    ensures place { result ≡ spots.key_place mods.now m key other }
+    ensures within { IfSome result (λ place. place.0 < length mods.now) }
+{
+    match key {
+        FwdKey::Ordinal(ordinal) => Some((other, ordinal)),
+        FwdKey::NameAt(at) => match proc_name(mods, m, at) {
+            Some(name) => name_place(mods, other, name),
+            None => None,
+        },
+    }
+}
+
+/// The place that a key of number `import` of a module's import modules means.
+fn import_place(mods: &[Module], m: u32, import: u32, key: FwdKey) -> Option<(u32, u32)>
+    requires few { length mods.now ≤ 64 }
+    requires module { m < length mods.now }
+    ensures place { result ≡ spots.import_place mods.now m import key }
+    ensures within { IfSome result (λ place. place.0 < length mods.now) }
+{
+    match import_with_number(mods, m, import) {
+        Some(other) => key_place(mods, m, key, other),
+        None => None,
+    }
+}
+
+/// The spot to which at most so many places lead, the first of them given: each forwarder leads to the next.
+pub fn spot_behind(mods: &[Module], places: usize, first: (u32, u32)) -> Result<Spot, EntryFault>
+    requires few { length mods.now ≤ 64 }
+    requires module { first.0 < length mods.now }
+    ensures { result ≡ followed places mods.now first }
+{
+    let mut place = first;
+    for _ in 0..places {
+        match head_at(mods, place) {
+            None => return Err(EntryFault::NoEntry),
+            Some(EntryHead::At { object, offset }) => {
+                return Ok(Spot {
+                    module: place.0,
+                    object,
+                    offset,
+                });
+            }
+            Some(EntryHead::Gate286 { .. }) => return Err(EntryFault::Gate286),
+            Some(EntryHead::Forward { import, key }) => {
+                match import_place(mods, place.0, import, key) {
+                    Some(next) => place = next,
+                    None => return Err(EntryFault::NoEntry),
+                }
+            }
+        }
+    }
+    Err(EntryFault::ForwardLoop)
+}
+
+/// The spot of a place that a key means, where it means one.
+pub fn spot_or_none(
+    mods: &[Module],
+    places: usize,
+    place: Option<(u32, u32)>,
+) -> Result<Spot, EntryFault>
+    requires few { length mods.now ≤ 64 }
+    requires within { ForSome place (λ p. p.0 < length mods.now) }
+    requires places { places ≡ entry_count mods.now + 1 }
+    ensures { result ≡ entry_or_none mods.now place }
+{
+    match place {
+        Some(place) => spot_behind(mods, places, place),
+        None => Err(EntryFault::NoEntry),
+    }
+}
+
+/// The spot of a target of module `m`'s fixups.
+pub fn target_spot(
+    mods: &[Module],
+    places: usize,
+    m: u32,
+    target: &FixTarget,
+) -> Result<Spot, EntryFault>
+    requires few { length mods.now ≤ 64 }
+    requires module { m < length mods.now }
+    requires places { places ≡ entry_count mods.now + 1 }
+    ensures { result ≡ spots.target_spot mods.now m target.now }
+{
+    match *target {
+        FixTarget::Internal { object, offset } => Ok(Spot {
+            module: m,
+            object,
+            offset,
+        }),
+        FixTarget::Ordinal { import, ordinal } => spot_or_none(
+            mods,
+            places,
+            import_place(mods, m, import, FwdKey::Ordinal(ordinal)),
+        ),
+        FixTarget::Named { import, name_at } => spot_or_none(
+            mods,
+            places,
+            import_place(mods, m, import, FwdKey::NameAt(name_at)),
+        ),
+        FixTarget::Own { ordinal } => spot_or_none(mods, places, Some((m, ordinal))),
+    }
+}
+
+/// How many entries the modules have together, and one: so many places a walk along forwarders may come to before
+/// it comes to one of them again. More than a number holds is want of memory.
+pub fn place_count(mods: &[Module]) -> Result<usize, NoMemory>
+    ensures { IfOk result (λ places. places ≡ entry_count mods.now + 1) }
+{
+    let mut places: usize = 1;
+    for m in mods {
+        places = places.checked_add(m.entries().len()).ok_or(NoMemory)?;
+    }
+    Ok(places)
+}

@@ -1,0 +1,93 @@
+//! From modules to a library.
+
+ghost use Rattle.std.specs.Prelude.{◌≡◌, ◌≤◌, ◌<◌, ◌^◌, IfOk, None, length};
+ghost use Rattle.lx_model.specs.Library.{module_of};
+ghost use Rattle.mod_graph.specs.Gathering as gathering;
+ghost use Rattle.mod_graph.specs.Gathering.{refusal_of, IsLibrary};
+
+use crate::LibraryRefusal;
+use crate::entries::place_count;
+use crate::health::healths_of;
+use crate::imports::{graph_of, module_with_name};
+use crate::order::orders_of;
+use lx_model::Health;
+use lx_types::{Module, Name, NoMemory, Numbers};
+use std::alloc::Global;
+
+/// The most modules that a library has.
+const MOST_MODULES: usize = 64;
+
+/// What a library knows of its modules.
+#[derive(Debug, Drop)]
+pub struct Tables {
+    pub orders: Vec<Numbers>,
+    pub healths: Vec<Health>,
+    pub places: usize,
+}
+
+/// The name of module `m`.
+fn name_of(mods: &[Module], m: usize) -> &Name
+    requires { m < length mods.now }
+    ensures { result.now ≡ (module_of mods.now m).name }
+{
+    mods[m].name()
+}
+
+/// The earlier module that has the name of module `second`.
+fn earlier(mods: &[Module], second: usize) -> Option<LibraryRefusal>
+    requires few { length mods.now ≤ 64 }
+    requires module { second < length mods.now }
+    ensures { result ≡ gathering.earlier mods.now second }
+{
+    match module_with_name(&mods[..second], name_of(mods, second)) {
+        Some(first) => Some(LibraryRefusal::NameTwice {
+            first,
+            second: second as u32,
+        }),
+        None => None,
+    }
+}
+
+/// The least module whose name an earlier one has.
+fn name_twice(mods: &[Module]) -> Option<LibraryRefusal>
+    requires { length mods.now ≤ 64 }
+    ensures { result ≡ gathering.name_twice mods.now }
+{
+    for second in 0..mods.len() {
+        if let Some(refusal) = earlier(mods, second) {
+            return Some(refusal);
+        }
+    }
+    None
+}
+
+/// Why modules make no library.
+pub fn refusal(mods: &[Module]) -> Option<LibraryRefusal>
+    requires { length mods.now < 2 ^ 32 }
+    ensures { result ≡ refusal_of mods.now }
+{
+    if mods.len() > MOST_MODULES {
+        Some(LibraryRefusal::TooManyModules {
+            count: mods.len() as u32,
+        })
+    } else {
+        name_twice(mods)
+    }
+}
+
+/// What a library of these modules knows of them.
+pub fn tables_of(alloc: Global, mods: &[Module]) -> Result<Tables, NoMemory>
+    requires few { length mods.now ≤ 64 }
+    requires accepted { refusal_of mods.now ≡ None }
+    ensures { IfOk result (λ tables. IsLibrary mods.now tables.orders.items tables.healths.items tables.places) }
+{
+    let graph = graph_of(alloc, mods)?;
+    let orders = orders_of(alloc, mods, &graph)?;
+    let places = place_count(mods)?;
+    let healths = healths_of(alloc, mods, places, &graph, &orders)?;
+    Ok(Tables {
+        orders,
+        healths,
+        places,
+    })
+}

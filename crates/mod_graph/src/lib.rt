@@ -1,0 +1,13 @@
+//! A library of modules: which module a name means, what a module reaches through imports, where an entry
+//! point is, and whether a module can be loaded.
+#![tactic(auto)]
+
+mod entries;
+mod gathering;
+mod health;
+mod imports;
+mod library;
+mod order;
+
+pub use library::{Library, LibraryRefusal, Ungathered};
+pub use lx_model::{EntryFault, Health, Spot};

@@ -1,0 +1,153 @@
+//! A library of modules.
+
+ghost use Rattle.std.specs.Prelude.{◌≡◌, ◌≤◌, ◌<◌, ◌^◌, ◌↔◌, IfOk, IfErr, IfSome, IsTrue, None, length};
+ghost use Rattle.lx_model.specs.Library.{module_of, module_named};
+ghost use Rattle.lx_model.specs.Entries.{Entry, EntryNamed};
+ghost use Rattle.lx_model.specs.Reach.{Order, HealthOf};
+
+use crate::entries::{name_place, spot_or_none};
+use crate::gathering::{refusal, tables_of};
+use crate::health::{health_at, list_at};
+use crate::imports::module_with_name;
+use lx_model::{EntryFault, Health, Spot};
+use lx_types::{Fail, Module, Name, NoMemory, Numbers};
+use std::alloc::Global;
+use std::marker::Model;
+
+/// Why modules make no library.
+#[derive(Clone, Copy, Debug, PartialEq, Eq, Drop)]
+pub enum LibraryRefusal {
+    /// There are more than 64.
+    TooManyModules { count: u32 },
+    /// Two modules have one name: `second` is the least, from 0, whose name an earlier one has.
+    NameTwice { first: u32, second: u32 },
+}
+
+/// Modules that make no library, and why.
+#[derive(Debug, Drop)]
+pub struct Ungathered {
+    pub mods: Vec<Module>,
+    pub why: Fail<LibraryRefusal>,
+}
+
+/// The modules of a session, numbered from 0, with what follows from their imports and fixups.
+#[derive(Debug, Drop)]
+pub struct Library {
+    mods: Vec<Module>,
+    orders: Vec<Numbers>,
+    healths: Vec<Health>,
+    places: usize,
+}
+
+impl Model for Library {
+    ghost use Rattle.std.specs.Prelude.{List};
+    ghost use Rattle.lx_types.specs.declared.parts.Parts.{Parts};
+    ghost use Rattle.mod_graph.specs.Gathering.{IsLibrary};
+
+    ghost Value = { List Parts };
+
+    ghost view = { λ l. l.mods.items };
+
+    ghost invariant = { λ l. IsLibrary l.mods.items l.orders.items l.healths.items l.places };
+}
+
+impl Library {
+    /// The library of these modules, of which there are fewer than 2^32. It finds the orders and the healths, in
+    /// time that grows as modules, imports and fixups' targets do. Where the modules are refused, or there is no
+    /// memory, they come back.
+    pub fn gather(alloc: Global, mods: Vec<Module>) -> Result<Library, Ungathered>
+        requires { length mods.items < 2 ^ 32 }
+        ensures gathered { IfOk result (λ library. library ≡ mods.items) }
+        ensures accepted { IfOk result (λ _. refusal_of mods.items ≡ None) }
+        ensures refused { IfErr result (λ ungathered. IsRefused ungathered.why (refusal_of mods.items)) }
+        ensures handed_back { IfErr result (λ ungathered. ungathered.mods.items ≡ mods.items) }
+    {
+        if let Some(why) = refusal(&mods) {
+            return Err(Ungathered {
+                mods,
+                why: Fail::Said(why),
+            });
+        }
+        match tables_of(alloc, &mods) {
+            Ok(tables) => Ok(Library {
+                mods,
+                orders: tables.orders,
+                healths: tables.healths,
+                places: tables.places,
+            }),
+            Err(NoMemory) => Err(Ungathered {
+                mods,
+                why: Fail::NoMemory,
+            }),
+        }
+    }
+
+    ghost use Rattle.mod_graph.specs.Gathering.{refusal_of, MOST_MODULES, IsRefused};
+
+    /// How many modules there are, at most 64.
+    pub fn len(&self) -> u32
+        ensures count { result ≡ length self.now }
+        ensures few { result ≤ MOST_MODULES }
+    {
+        self.mods.len() as u32
+    }
+
+    /// Whether there is no module.
+    pub fn is_empty(&self) -> bool
+        ensures { IsTrue result ↔ (length self.now ≡ 0) }
+    {
+        self.mods.is_empty()
+    }
+
+    /// The module of a name, ASCII letters in upper case. It looks at one module after the other.
+    pub fn find(&self, name: &Name) -> Option<u32>
+        ensures number { result ≡ module_named self.now name.now }
+        ensures within { IfSome result (λ m. m < length self.now) }
+    {
+        module_with_name(&self.mods, name)
+    }
+
+    /// Module `m`.
+    pub fn module(&self, m: u32) -> &Module
+        requires { m < length self.now }
+        ensures { result.now ≡ module_of self.now m }
+    {
+        &self.mods[m as usize]
+    }
+
+    /// Whether module `m` can be loaded: the first kind of fault that a module has which it reaches, and
+    /// the first such module in its order.
+    pub fn health(&self, m: u32) -> Health
+        requires { m < length self.now }
+        ensures { result ≡ HealthOf self.now m }
+    {
+        health_at(&self.healths, m)
+    }
+
+    /// What module `m` reaches through imports, each module after what it imports, itself last.
+    /// (Control Program reference: DosLoadModule.)
+    pub fn order(&self, m: u32) -> &[u32]
+        requires { m < length self.now }
+        ensures { result.now ≡ Order self.now m }
+    {
+        list_at(&self.orders, m)
+    }
+
+    /// Where an ordinal of module `m` leads, through forwarders. (LX: "Entry Table".)
+    ///
+    /// It takes no memory, and time that grows as the forwarders that it follows.
+    pub fn entry(&self, m: u32, ordinal: u32) -> Result<Spot, EntryFault>
+        requires { m < length self.now }
+        ensures { result ≡ Entry self.now (m, ordinal) }
+    {
+        spot_or_none(&self.mods, self.places, Some((m, ordinal)))
+    }
+
+    /// Where a name of module `m` leads, through forwarders. (LX: "Resident or Non-resident Name Table Entry".)
+    pub fn entry_named(&self, m: u32, name: &[u8]) -> Result<Spot, EntryFault>
+        requires { m < length self.now }
+        ensures { result ≡ EntryNamed self.now m name.now }
+    {
+        spot_or_none(&self.mods, self.places, name_place(&self.mods, m, name))
+    }
+}
