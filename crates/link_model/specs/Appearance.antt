@@ -30,11 +30,14 @@ has_key key k x = bytes_eq k (key x)
 
 pub record NameTables (key : ℕ → List ℕ) (xs : List ℕ) : Type 0 where
   -- one more item goes last, unless its key is there
-  pub one_more : (x : ℕ) → table key (xs ++ x ∷ []) ≡ (if list_any (has_key key (key x)) (table key xs) then table key xs else table key xs ++ x ∷ [])
+  pub one_more : (x : ℕ) → table key (xs ++ x ∷ [])
+      ≡ (if list_any (has_key key (key x)) (table key xs) then table key xs else table key xs ++ x ∷ [])
   -- it is found where the table had its key, or else behind the table
-  pub place : (x : ℕ) → place_by bytes_eq key (key x) (table key (xs ++ x ∷ [])) ≡ Some (position_or_len (has_key key (key x)) (table key xs))
+  pub place : (x : ℕ) → place_by bytes_eq key (key x) (table key (xs ++ x ∷ []))
+      ≡ Some (position_or_len (has_key key (key x)) (table key xs))
   -- a key that is there keeps its place
-  pub stays : (x : ℕ) (k : List ℕ) → list_any (has_key key k) (table key xs) ≡ true → place_by bytes_eq key k (table key (xs ++ x ∷ [])) ≡ place_by bytes_eq key k (table key xs)
+  pub stays : (x : ℕ) (k : List ℕ) → list_any (has_key key k) (table key xs) ≡ true
+      → place_by bytes_eq key k (table key (xs ++ x ∷ [])) ≡ place_by bytes_eq key k (table key xs)
   -- a key is there where some item has it, with the first such item
   pub found : (k : List ℕ) → find (has_key key k) (table key xs) ≡ find (has_key key k) xs
   pub once : AllPairs (λ a b. bytes_eq (key a) (key b) ≡ false) (table key xs)

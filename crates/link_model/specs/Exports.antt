@@ -62,7 +62,14 @@ is_wide l (Forward pair) = false
 
 abbrev pub export_of : Link → ℕ → Exp → Option Export
 export_of l ordinal x =
-    option_map (λ target. record { ordinal = ordinal; name = x.name; resident = is_resident x; words = x.words; wide = is_wide l target; target = target })
+    option_map (λ target. record {
+      ordinal = ordinal;
+      name = x.name;
+      resident = is_resident x;
+      words = x.words;
+      wide = is_wide l target;
+      target = target;
+    })
     (option_and_then (export_target l) (option_and_then (of_symbol l) (global l x.internal)))
 
 abbrev pub asked_ordinals : Link → List (Option ℕ)
@@ -91,4 +98,6 @@ name_twice names = option_map NameTwice (first_conflict bytes_eq [] names)
 -- The refusal, in this order.
 unfoldable pub entry_refusal : Link → Option EntryRefusal
 entry_refusal l =
-    first_of (wrong_ordinal (asked_ordinals l) ∷ ordinal_past MAX_NUMBER (asked_ordinals l) ∷ name_twice (map (λ x. x.name) (exports l)) ∷ [])
+    first_of
+    (wrong_ordinal (asked_ordinals l) ∷ ordinal_past MAX_NUMBER (asked_ordinals l)
+    ∷ name_twice (map (λ x. x.name) (exports l)) ∷ [])

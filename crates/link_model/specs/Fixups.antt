@@ -94,13 +94,16 @@ is_past_reach d = nat_lt 127 d && nat_lt d (2 ^ 32 - 128)
 -- reach.
 abbrev pub is_far_self : Fixup → Bool
 is_far_self q =
-    q.fix.selfrel && (is_constant q.target || is_short q.fix.loc && not (stays_in_object q) || q.fix.loc == 0 && is_past_reach (distance q q.target))
+    q.fix.selfrel && (is_constant q.target
+    || is_short q.fix.loc && not (stays_in_object q)
+    || q.fix.loc == 0 && is_past_reach (distance q q.target))
 
 -- `FrameApart`: a segment-relative location other than 9 and 13 to a place in the link, whose frame names another
 -- object than the goal's.
 abbrev pub is_frame_apart : Fixup → Bool
 is_frame_apart q =
-    not q.fix.selfrel && not (q.fix.loc == 9 || q.fix.loc == 13) && option_any (λ o. option_any (λ f. not (f == o)) q.frame) (object_of_target q.target)
+    not q.fix.selfrel && not (q.fix.loc == 9 || q.fix.loc == 13)
+    && option_any (λ o. option_any (λ f. not (f == o)) q.frame) (object_of_target q.target)
 
 -- `ConstSelector`: a location with a selector to a constant.
 abbrev pub is_const_selector : Fixup → Bool

@@ -22,7 +22,8 @@ is_for p item = bytes_eq item.name p.name && option_map_or (λ class. bytes_eq c
 -- The first item of SEGMENTS that is for the segment, else CODE for code classes and DATA for others.
 abbrev pub attrs_of : Link → Part → Attrs
 attrs_of l p =
-    option_map_or (λ item. item.attrs) (find (is_for p) l.def.segs) (if is_code_class p.class then l.def.code else l.def.plain)
+    option_map_or (λ item. item.attrs) (find (is_for p) l.def.segs)
+    (if is_code_class p.class then l.def.code else l.def.plain)
 
 abbrev pub flag : Bool → ℕ → ℕ
 flag b value = if b then value else 0
@@ -30,7 +31,9 @@ flag b value = if b then value else 0
 -- An object's flags: one for each attribute, big for use32, and the 16:16 alias for others.
 abbrev pub flags_with : Attrs → Bool → ℕ
 flags_with a wide =
-    flag a.read OBJECT_READABLE + flag a.write OBJECT_WRITABLE + flag a.exec OBJECT_EXECUTABLE + flag a.shared OBJECT_SHARED + flag a.preload OBJECT_PRELOAD + flag a.conforming OBJECT_CONFORMING + flag a.iopl OBJECT_IOPL + (if wide then OBJECT_BIG else OBJECT_ALIAS)
+    flag a.read OBJECT_READABLE + flag a.write OBJECT_WRITABLE + flag a.exec OBJECT_EXECUTABLE
+    + flag a.shared OBJECT_SHARED + flag a.preload OBJECT_PRELOAD + flag a.conforming OBJECT_CONFORMING + flag a.iopl OBJECT_IOPL
+    + (if wide then OBJECT_BIG else OBJECT_ALIAS)
 
 abbrev pub flags_of : Link → Part → ℕ
 flags_of l p = flags_with (attrs_of l p) p.wide

@@ -55,7 +55,8 @@ entry_target pairs number (keys.Named name) =
 
 abbrev pub import_target : List Imp → Imp → Option FixTarget
 import_target pairs pair =
-    option_and_then (λ k. entry_target pairs (k + 1) pair.entry) (place_by bytes_eq (λ n. n) (uppercase pair.module) (modules_in pairs))
+    option_and_then (λ k. entry_target pairs (k + 1) pair.entry)
+    (place_by bytes_eq (λ n. n) (uppercase pair.module) (modules_in pairs))
 
 -- ---- in a file
 
@@ -80,4 +81,5 @@ with_offset names (leads.Own ordinal) = leads.Own ordinal
 -- At its offset a name stands behind its length, and behind it the names that follow.
 abbrev pub NamesAtOffsets : Type 0
 NamesAtOffsets =
-    (names : List (List ℕ)) (k : ℕ) (name : List ℕ) → slice_get names k ≡ Some name → drop (name_offset names k) (name_table names) ≡ name_bytes name ++ flat_map name_bytes (drop (suc k) names)
+    (names : List (List ℕ)) (k : ℕ) (name : List ℕ) → slice_get names k ≡ Some name
+    → drop (name_offset names k) (name_table names) ≡ name_bytes name ++ flat_map name_bytes (drop (suc k) names)

@@ -54,7 +54,8 @@ passes_limits earlier r =
 
 abbrev pub too_large : Link → Option LayRefusal
 too_large l =
-    option_map (λ q. TooLarge q.1.segment.name) (find (λ q. passes_limits (take q.0 (rows l)) q.1) (enumerate_from 1 (rows l)))
+    option_map (λ q. TooLarge q.1.segment.name)
+    (find (λ q. passes_limits (take q.0 (rows l)) q.1) (enumerate_from 1 (rows l)))
 
 -- The refusal, in this order.
 unfoldable pub lay_refusal : Link → Option LayRefusal

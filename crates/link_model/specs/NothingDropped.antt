@@ -44,11 +44,13 @@ LiesInObject l len q = IsSomeAnd (item (objects l) q.0) (λ o. q.1 + len ≤ o.s
 -- Each segment outside debug and each communal stands in an object, and all of it lies there.
 abbrev pub SegmentsStand : Type 0
 SegmentsStand =
-    (l : Link) (n index : ℕ) (m : ObjModule) (s : Seg) → chosen_module l n ≡ Some m → item m.segs index ≡ Some s → s.debug ≡ false → IsSomeAnd (spot l n index) (LiesInObject l s.len)
+    (l : Link) (n index : ℕ) (m : ObjModule) (s : Seg) → chosen_module l n ≡ Some m → item m.segs index ≡ Some s
+    → s.debug ≡ false → IsSomeAnd (spot l n index) (LiesInObject l s.len)
 
 abbrev pub CommunalsStand : Type 0
 CommunalsStand =
-    (l : Link) (slot : ℕ) (c : List ℕ × Common) → slice_get (commons l) slot ≡ Some c → IsSomeAnd (common_spot l slot) (LiesInObject l c.1.len)
+    (l : Link) (slot : ℕ) (c : List ℕ × Common) → slice_get (commons l) slot ≡ Some c
+    → IsSomeAnd (common_spot l slot) (LiesInObject l c.1.len)
 
 -- All fixups of the chosen modules are there, in chosen order and in file order.
 abbrev pub FixupsStay : Type 0
@@ -63,17 +65,21 @@ PiecesStay =
 -- A value has as many bytes as its location.
 abbrev pub ValuesFit : Type 0
 ValuesFit =
-    (l : Link) (w : World) (q : Fixup) (bytes : List ℕ) → 0 < location_len q.fix.loc → Value l w q ≡ Some bytes → length bytes ≡ location_len q.fix.loc
+    (l : Link) (w : World) (q : Fixup) (bytes : List ℕ) → 0 < location_len q.fix.loc
+    → Value l w q ≡ Some bytes → length bytes ≡ location_len q.fix.loc
 
 -- The bytes of a live fixup's location are those of its value.
 abbrev pub LiveFixupsMean : Type 0
 LiveFixupsMean =
-    (l : Link) (w : World) (q : Fixup) (x : ℕ) → place_refusal l ≡ None → Contains (live_fixups l) q → q.offset ≤ x → x < fixup_end q → Mean l w q.object x ≡ slice_index (value_bytes l w q) (x - q.offset)
+    (l : Link) (w : World) (q : Fixup) (x : ℕ) → place_refusal l ≡ None → Contains (live_fixups l) q
+    → q.offset ≤ x → x < fixup_end q
+    → Mean l w q.object x ≡ slice_index (value_bytes l w q) (x - q.offset)
 
 -- Each live fixup that is not patched has a record on each page on which it stands, in order.
 abbrev pub RecordsStay : Type 0
 RecordsStay =
-    (l : Link) (object k : ℕ) → WholeLink l → sym_refusal l ≡ None → map (λ r. r.offset) (page_records l object k) ≡ map (offset_on k) (filter (stands_on object k) (recorded l))
+    (l : Link) (object k : ℕ) → WholeLink l → sym_refusal l ≡ None
+    → map (λ r. r.offset) (page_records l object k) ≡ map (offset_on k) (filter (stands_on object k) (recorded l))
 
 -- There is one export for each that is asked, in order, by its name and with its ordinal.
 pub record ExportsOf (l : Link) : Type 0 where

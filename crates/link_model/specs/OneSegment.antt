@@ -91,8 +91,10 @@ pub record LinksOneSegment (input : LinkInput) (bytes places : List ℕ) (base :
   pub layout : lay_refusal (link_of input only_pick) ≡ None
   pub fixups : place_refusal (link_of input only_pick) ≡ None
   pub object : objects (link_of input only_pick) ≡ record { size = length bytes; base = base; flags = 0x2005 } ∷ []
-  pub mean : (at : ℕ) (imp : EntryPoints) (x : ℕ) → Mean (link_of input only_pick) (record { bases = at ∷ []; imp = imp }) 1 x ≡ one_segment_mean at bytes places x
+  pub mean : (at : ℕ) (imp : EntryPoints) (x : ℕ)
+      → Mean (link_of input only_pick) (record { bases = at ∷ []; imp = imp }) 1 x ≡ one_segment_mean at bytes places x
 
 abbrev pub OneSegmentLaw : Type 0
 OneSegmentLaw =
-    (name bytes places stem : List ℕ) (base : ℕ) → IsOneSegment bytes places → LinksOneSegment (alone (one_segment name bytes places) stem base) bytes places base
+    (name bytes places stem : List ℕ) (base : ℕ) → IsOneSegment bytes places
+    → LinksOneSegment (alone (one_segment name bytes places) stem base) bytes places base

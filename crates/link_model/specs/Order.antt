@@ -53,7 +53,8 @@ parts_of l s = filter (joins s) (parts l ++ own_stacks l)
 -- The object of a part: that of its first group, else that of its flags or of its logical segment.
 abbrev pub object_key : Link → Part → ObjectKey
 object_key l p =
-    option_map_or (λ g. Group g) (find (λ g. in_group l g p) (group_names l)) (if p.wide then Wide (flags_of l p) else Narrow (segment_key p))
+    option_map_or (λ g. Group g) (find (λ g. in_group l g p) (group_names l))
+    (if p.wide then Wide (flags_of l p) else Narrow (segment_key p))
 
 abbrev pub same_object : ObjectKey → ObjectKey → Bool
 same_object (Group a) (Group b) = bytes_eq a b

@@ -40,7 +40,8 @@ has_alias q = q.fix.loc == 3 || q.fix.loc == 2 && q.narrow
 abbrev pub target_and_additive : Link → Fixup → Target → Option (FixTarget × ℕ)
 target_and_additive l q (Internal o offset) =
     let at = wrapped (offset + q.fix.disp) in
-    Some (if q.fix.loc == 2 then (leads.Internal o 0, if nat_le UNIT at then at else 0) else (leads.Internal o (wrapped (at + q.standing)), 0))
+    Some (if q.fix.loc == 2 then (leads.Internal o 0, if nat_le UNIT at then at else 0)
+    else (leads.Internal o (wrapped (at + q.standing)), 0))
 target_and_additive l q (Constant value) = None
 target_and_additive l q (Entry slot) =
     option_map (λ target. (target, wrapped (q.fix.disp + q.standing)))
@@ -58,7 +59,8 @@ record_on l k q =
 
 -- A field stands on each page that has a byte of it.
 abbrev pub stands_on : ℕ → ℕ → Fixup → Bool
-stands_on object k q = q.object == object && nat_lt (k * PAGE_SIZE) (fixup_end q) && nat_lt q.offset (k * PAGE_SIZE + PAGE_SIZE)
+stands_on object k q = q.object == object && nat_lt (k * PAGE_SIZE) (fixup_end q)
+    && nat_lt q.offset (k * PAGE_SIZE + PAGE_SIZE)
 
 -- The records of page k of an object, in chosen order and in file order.
 unfoldable pub page_records : Link → ℕ → ℕ → List Fix

@@ -20,4 +20,6 @@ place_refusal l = first_of (map fix_refusal (fixups l) ++ start_outside l ∷ []
 -- Symbols are tried first, then the layout, the fixups with the start, and the exports.
 unfoldable pub link_refusal : Link → Option LinkRefusal
 link_refusal l =
-    first_of (option_map Sym (sym_refusal l) ∷ option_map Lay (lay_refusal l) ∷ option_map Fixing (place_refusal l) ∷ option_map Entry (entry_refusal l) ∷ [])
+    first_of
+    (option_map Sym (sym_refusal l) ∷ option_map Lay (lay_refusal l)
+    ∷ option_map Fixing (place_refusal l) ∷ option_map Entry (entry_refusal l) ∷ [])
