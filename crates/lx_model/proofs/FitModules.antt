@@ -144,9 +144,9 @@ spot_by lib m (Named i x) sure listed = reference_spot lib m (Named i x) sure (l
 spot_by lib m (Own x) sure listed = reference_spot lib m (Own x) sure (listed refl)
 
 pub fit_has_spots : FitHasSpots
-fit_has_spots lib m p read lt fit =
+fit_has_spots lib m p library lt fit =
     let sure = fit_is_sure lib m fit in
-    let own = read m no_module lt in
+    let own = library.read m no_module lt in
     All-from_recursion _ _ (each_more _ (HasSpot lib m) (sources_of (module_of lib m) p) (λ f listed. spot_by lib m f.target sure listed) (references_listed (module_of lib m) p own))
 
 -- ---- iterated pages

@@ -10,6 +10,7 @@ pub mod Many
 pub mod Meaning
 pub mod NamesRead
 pub mod Once
+pub mod Orders
 pub mod PagesRead
 pub mod ReadsAs
 pub mod RecordsRead

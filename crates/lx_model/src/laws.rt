@@ -1,6 +1,6 @@
 //! What the definitions say together.
 
-ghost use Rattle.lx_model.specs.Laws.{MeansOne, MeansOrFails, FaultMeansNone, MeansSound, OrderIsReached, ReachedIsOrdered, LoopComesBack, ComesBackLoops};
+ghost use Rattle.lx_model.specs.Laws.{MeansOne, MeansOrFails, FaultMeansNone, MeansSound, OrderIsReached, ReachedIsOrdered, OrderHasEachOnce, OrderIsInLibrary, OrderIsClosed, OrderEndsWithItself, LoopComesBack, ComesBackLoops};
 ghost use Rattle.lx_model.specs.ModuleLaws.{ReadIsSound, DataExpands, FitHasSpots, RecordsAreGood, TargetsAreThere, ReferencesAreListed};
 ghost use Rattle.lx_model.specs.TableLaws.{NamesGoOn, ImportsGoOn, BundlesGoOn, RecordsGoOn, GroupsGoOn, OneTargetMore, NamesReadAgain, ImportsReadAgain, EntriesReadAgain, RecordsReadAgain, GroupsReadAgain, RecordIsSpelled, NamesAreSpelled, ImportsAreSpelled, EntriesAreSpelled, GroupsAreSpelled};
 
@@ -67,10 +67,14 @@ pub fn read_is_spelled()
     ensures groups_spelled { GroupsAreSpelled }
 {}
 
-/// The order in which a module is loaded has exactly the modules that it reaches.
+/// The order in which a module is loaded has exactly the modules that it reaches, each once, and the module last.
 pub fn order_is_reach()
     ensures order { OrderIsReached }
     ensures reach { ReachedIsOrdered }
+    ensures once { OrderHasEachOnce }
+    ensures within { OrderIsInLibrary }
+    ensures closed { OrderIsClosed }
+    ensures last { OrderEndsWithItself }
 {}
 
 /// Forwarders that come to an ordinal of a module a second time are a loop, and nothing else is.
