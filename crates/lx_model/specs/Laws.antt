@@ -5,7 +5,7 @@ use Rattle.lx_types.specs.declared.parts.Parts.{Parts}
 use Rattle.lx_types.specs.Sound.{Sound}
 use Rattle.lx_model.specs.Module.{Lx, LxFault, parts_of}
 use Rattle.lx_model.specs.declared.library.EntryFault.TheVariants.{ForwardLoop}
-use Rattle.lx_model.specs.Entries.{Place, Entry, ComesBack}
+use Rattle.lx_model.specs.Entries.{OrdinalOf, Entry, ComesBack}
 use Rattle.lx_model.specs.Reach.{imports_of, Reach, Order}
 
 -- A file means one module at most.
@@ -48,7 +48,7 @@ OrderEndsWithItself = (lib : List Parts) (m : ℕ) → (others : List ℕ) × (O
 -- ---- Forwarders are a loop exactly where they lead to a place a second time.
 
 abbrev pub LoopComesBack : Type 0
-LoopComesBack = (lib : List Parts) (place : Place) → Entry lib place ≡ Err ForwardLoop → ComesBack lib place
+LoopComesBack = (lib : List Parts) (place : OrdinalOf) → Entry lib place ≡ Err ForwardLoop → ComesBack lib place
 
 abbrev pub ComesBackLoops : Type 0
-ComesBackLoops = (lib : List Parts) (place : Place) → ComesBack lib place → Entry lib place ≡ Err ForwardLoop
+ComesBackLoops = (lib : List Parts) (place : OrdinalOf) → ComesBack lib place → Entry lib place ≡ Err ForwardLoop

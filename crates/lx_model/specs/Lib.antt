@@ -12,6 +12,7 @@ pub mod RecordSpelling
 pub mod FixupPages
 pub mod Module
 pub mod Laws
+pub mod TableSpelling
 pub mod TableLaws
 pub mod Library
 pub mod Entries
