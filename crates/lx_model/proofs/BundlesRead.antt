@@ -12,7 +12,7 @@ use Rattle.lx_types.specs.declared.entry.EntryHead.TheVariants.{At, Gate286, For
 use Rattle.lx_types.specs.Sound.{IsNumberOf}
 use Rattle.lx_model.specs.Reading.{fault, cursor, number, Read, ◌>>=◌, ends, many}
 use Rattle.lx_model.specs.EntryTable.{Numbered, LAST_ORDINAL, names_one_of, at_entry, gate_entry, forward_key, forward_entry, bundle_entries, object_entries, bundle_of_type, bundle_at}
-use Rattle.lx_model.specs.Bundles.{AtEntry, GateEntry, ForwardEntry, at_spelling, gate_spelling, forward_spelling, Bundle, unused, narrow, gates, wide, forwarders, size_of, sizes_of, type_of, body_spelling, bundle_spelling, table_spelling, heads_of, entries_after, AtFits, GateFits, ForwardFits, ObjectFits, BodyFits, BundleFits}
+use Rattle.lx_model.specs.Bundles.{AtEntry, GateEntry, ForwardEntry, at_spelling, gate_spelling, forward_spelling, Bundle, unused, narrow, gates, wide, forwarders, ordinal_count, ordinals_together, type_of, body_spelling, bundle_spelling, table_spelling, heads_of, entries_after, AtFits, GateFits, ForwardFits, ObjectFits, BodyFits, BundleFits}
 use Rattle.lx_model.specs.TableLaws.{EntriesReadAgain}
 use Rattle.lx_model.proofs.ReadsAs.{ReadsAs, number_reads, byte_reads, bind_reads, done_reads}
 use Rattle.lx_model.proofs.Steps.{done, then_ok, other}
@@ -74,7 +74,7 @@ object_read objects bad n ordinal object read bytes es fits behind =
     (number_reads 2 object fits.1)
     (λ at rest. other (not (names_one_of objects object)) (Err (fault kinds.EntryTable bad)) (bundle_entries n ordinal (read object) (cursor at (bytes ++ rest))) (names objects object fits.0) ∙ behind at rest)
 
-body_reads : (objects imports bad ordinal : ℕ) (b : Bundle) → BodyFits objects imports b → ReadsAs (bundle_of_type (type_of b) objects imports bad (size_of b) ordinal) (body_spelling b) (enumerate_from ordinal (heads_of b))
+body_reads : (objects imports bad ordinal : ℕ) (b : Bundle) → BodyFits objects imports b → ReadsAs (bundle_of_type (type_of b) objects imports bad (ordinal_count b) ordinal) (body_spelling b) (enumerate_from ordinal (heads_of b))
 unfolding bundle_of_type
 body_reads objects imports bad ordinal (unused n) h at rest = let end : at + 0 ≡ at = omega arith in rw end refl
 body_reads objects imports bad ordinal (narrow object es) h at rest =
@@ -101,13 +101,13 @@ type_small (wide object es) = omega arith
 type_small (forwarders reserved es) = omega arith
 
 abbrev item : ℕ → Bundle → List Numbered → Option (List Numbered × ℕ)
-item last b es = Some (es, last + size_of b)
+item last b es = Some (es, last + ordinal_count b)
 
-pub bundle_reads : (objects imports last : ℕ) (b : Bundle) → BundleFits objects imports b → last + size_of b ≤ LAST_ORDINAL →
+pub bundle_reads : (objects imports last : ℕ) (b : Bundle) → BundleFits objects imports b → last + ordinal_count b ≤ LAST_ORDINAL →
     ReadsAs (bundle_at objects imports last) (bundle_spelling b) (item last b (enumerate_from (last + 1) (heads_of b)))
 unfolding bundle_at
 bundle_reads objects imports last b fits room at rest =
-    let count = size_of b in
+    let count = ordinal_count b in
     let kind = type_of b in
     let es = enumerate_from (last + 1) (heads_of b) in
     let at_kind = cursor (at + 1) (kind ∷ body_spelling b ++ rest) in
@@ -138,23 +138,23 @@ regroup a b c d = simp append_assoc
 -- the entries of each bundle
 abbrev each_after : ℕ → List Bundle → List (List Numbered)
 each_after last [] = []
-each_after last (b ∷ bs) = enumerate_from (last + 1) (heads_of b) ∷ each_after (last + size_of b) bs
+each_after last (b ∷ bs) = enumerate_from (last + 1) (heads_of b) ∷ each_after (last + ordinal_count b) bs
 
 each_joined : (last : ℕ) (bs : List Bundle) → flat_map (λ es. es) (each_after last bs) ≡ entries_after last bs
 each_joined last [] = refl
-each_joined last (b ∷ bs) = ap (λ (es : List Numbered). enumerate_from (last + 1) (heads_of b) ++ es) (each_joined (last + size_of b) bs)
+each_joined last (b ∷ bs) = ap (λ (es : List Numbered). enumerate_from (last + 1) (heads_of b) ++ es) (each_joined (last + ordinal_count b) bs)
 
-bundles_read : (objects imports : ℕ) (bs : List Bundle) (last at : ℕ) (rest : List ℕ) → Each (BundleFits objects imports) bs → last + sizes_of bs ≤ LAST_ORDINAL →
+bundles_read : (objects imports : ℕ) (bs : List Bundle) (last at : ℕ) (rest : List ℕ) → Each (BundleFits objects imports) bs → last + ordinals_together bs ≤ LAST_ORDINAL →
     Whole (many (bundle_at objects imports) last (cursor at (table_spelling bs ++ rest))) (each_after last bs) rest
 bundles_read objects imports [] last at rest fits room = none_whole (bundle_at objects imports) last (cursor at (0 ∷ rest)) (at + 1) rest (end_reads objects imports last at rest)
 bundles_read objects imports (b ∷ bs) last at rest fits room =
     let bytes = bundle_spelling b in
     let tail = table_spelling bs ++ rest in
     let es = enumerate_from (last + 1) (heads_of b) in
-    let together = more_whole (bundle_at objects imports) (bundle_shortens objects imports) last (cursor at (bytes ++ tail)) (cursor (at + length bytes) tail) (es, last + size_of b) (each_after (last + size_of b) bs) rest
+    let together = more_whole (bundle_at objects imports) (bundle_shortens objects imports) last (cursor at (bytes ++ tail)) (cursor (at + length bytes) tail) (es, last + ordinal_count b) (each_after (last + ordinal_count b) bs) rest
     (bundle_reads objects imports last b fits.0 (omega arith) at tail)
-    (bundles_read objects imports bs (last + size_of b) (at + length bytes) rest fits.1 (omega arith)) in
-    subst (λ (x : List ℕ). Whole (many (bundle_at objects imports) last (cursor at x)) (es ∷ each_after (last + size_of b) bs) rest) (sym (regroup bytes (flat_map bundle_spelling bs) (0 ∷ []) rest)) together
+    (bundles_read objects imports bs (last + ordinal_count b) (at + length bytes) rest fits.1 (omega arith)) in
+    subst (λ (x : List ℕ). Whole (many (bundle_at objects imports) last (cursor at x)) (es ∷ each_after (last + ordinal_count b) bs) rest) (sym (regroup bytes (flat_map bundle_spelling bs) (0 ∷ []) rest)) together
 
 pub table_reads : EntriesReadAgain
 table_reads objects imports bs rest fits room =

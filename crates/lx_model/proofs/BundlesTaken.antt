@@ -9,7 +9,7 @@ use Rattle.lx_types.specs.declared.entry.EntryHead.{EntryHead}
 use Rattle.lx_types.specs.declared.entry.EntryHead.TheVariants.{At, Gate286, Forward}
 use Rattle.lx_model.specs.Reading.{fault, cursor, number, Read, ◌>>=◌, ends, Many, many}
 use Rattle.lx_model.specs.EntryTable.{Numbered, LAST_ORDINAL, names_one_of, at_entry, gate_entry, forward_key, forward_entry, bundle_entries, object_entries, bundle_of_type, bundle_at, entries_in}
-use Rattle.lx_model.specs.Bundles.{at_spelling, gate_spelling, forward_spelling, Bundle, unused, narrow, gates, wide, forwarders, size_of, sizes_of, type_of, body_spelling, bundle_spelling, table_spelling, heads_of, entries_after, AtFits, GateFits, ForwardFits, ObjectFits, BodyFits, BundleFits}
+use Rattle.lx_model.specs.Bundles.{at_spelling, gate_spelling, forward_spelling, Bundle, unused, narrow, gates, wide, forwarders, ordinal_count, ordinals_together, type_of, body_spelling, bundle_spelling, table_spelling, heads_of, entries_after, AtFits, GateFits, ForwardFits, ObjectFits, BodyFits, BundleFits}
 use Rattle.lx_model.proofs.Entries.{further, behind_count, numbered}
 use Rattle.lx_model.proofs.Many.{whole_ends, Cases, many_holds}
 use Rattle.lx_model.proofs.Shortening.{bundle_shortens}
@@ -134,7 +134,7 @@ entries_taken Fits spell head read one (suc n) ordinal c d es bytes e =
 -- a bundle, without its count and its type, of n ordinals
 pub record BodyTaken (objects imports kind n ordinal : ℕ) (c : Cursor) (es : List Numbered) (d : Cursor) : Type 0 where
   pub bundle : Bundle
-  pub size : size_of bundle ≡ n
+  pub size : ordinal_count bundle ≡ n
   pub type : type_of bundle ≡ kind
   pub fits : BodyFits objects imports bundle
   pub means : es ≡ enumerate_from ordinal (heads_of bundle)
@@ -224,7 +224,7 @@ pub record BundleTaken (objects imports last : ℕ) (c : Cursor) (x : List Numbe
   pub bundle : Bundle
   pub fits : BundleFits objects imports bundle
   pub room : x.1 ≤ LAST_ORDINAL
-  pub last_is : last + size_of bundle ≡ x.1
+  pub last_is : last + ordinal_count bundle ≡ x.1
   pub means : x.0 ≡ enumerate_from (last + 1) (heads_of bundle)
   pub taken : Takes c (bundle_spelling bundle) d
 
@@ -239,7 +239,7 @@ more : (objects imports last kind count : ℕ) (c f g d : Cursor) (es : List Num
 more objects imports last kind count c f g d es some few room first second body =
     let b = body.bundle in
     let all : Takes c (count ∷ kind ∷ body_spelling b) d = Takes-then c f d (count ∷ []) (kind ∷ body_spelling b) first (Takes-then f g d (kind ∷ []) (body_spelling b) second body.taken) in
-    let with_count : Takes c (size_of b ∷ kind ∷ body_spelling b) d = subst (λ (x : ℕ). Takes c (x ∷ kind ∷ body_spelling b) d) (sym body.size) all in
+    let with_count : Takes c (ordinal_count b ∷ kind ∷ body_spelling b) d = subst (λ (x : ℕ). Takes c (x ∷ kind ∷ body_spelling b) d) (sym body.size) all in
     let size = body.size in
     record {
       bundle = b;
@@ -247,7 +247,7 @@ more objects imports last kind count c f g d es some few room first second body 
       room = room;
       last_is = omega (arith, size);
       means = body.means;
-      taken = subst (λ (x : ℕ). Takes c (size_of b ∷ x ∷ body_spelling b) d) (sym body.type) with_count;
+      taken = subst (λ (x : ℕ). Takes c (ordinal_count b ∷ x ∷ body_spelling b) d) (sym body.type) with_count;
     }
 
 by_count : (objects imports last at count : ℕ) (none : Bool) (c f d : Cursor) (o : Option (List Numbered × ℕ)) → eqb count 0 ≡ none → count < 256 → Takes c (count ∷ []) f →
@@ -281,7 +281,7 @@ bundle_taken objects imports last c d o h e =
 pub record BundlesTaken (objects imports last : ℕ) (c : Cursor) (es : List Numbered) (d : Cursor) : Type 0 where
   pub bundles : List Bundle
   pub fits : Each (BundleFits objects imports) bundles
-  pub room : last + sizes_of bundles ≤ LAST_ORDINAL
+  pub room : last + ordinals_together bundles ≤ LAST_ORDINAL
   pub means : es ≡ entries_after last bundles
   pub taken : Takes c (table_spelling bundles) d
 

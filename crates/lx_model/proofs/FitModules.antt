@@ -23,7 +23,7 @@ use Rattle.lx_model.specs.declared.library.Spot.{Spot}
 use Rattle.lx_model.specs.Reading.{fault, number_at, first, ◌then◌, placed, fault_of}
 use Rattle.lx_model.specs.Header.{page_count}
 use Rattle.lx_model.specs.Iterated.{expansion}
-use Rattle.lx_model.specs.Tables.{page_kind, page_of_kind, page_or_zero, page_entry, page_place, page_data, page_fault, pages_of, pages_fault, data_fault}
+use Rattle.lx_model.specs.Tables.{page_kind, page_of_kind, page_or_zero, page_entry, page_place, page_data, page_fault, page_heads, pages_fault, data_fault}
 use Rattle.lx_model.specs.Module.{same_target, is_reference, parts_of, IsRead}
 use Rattle.lx_model.specs.Library.{no_module, module_of, library_named}
 use Rattle.lx_model.specs.Entries.{target_spot}
@@ -144,9 +144,9 @@ spot_by lib m (Named i x) sure listed = reference_spot lib m (Named i x) sure (l
 spot_by lib m (Own x) sure listed = reference_spot lib m (Own x) sure (listed refl)
 
 pub fit_has_spots : FitHasSpots
-fit_has_spots lib m p read lt fit =
+fit_has_spots lib m p library lt fit =
     let sure = fit_is_sure lib m fit in
-    let own = read m no_module lt in
+    let own = library.read m no_module lt in
     All-from_recursion _ _ (each_more _ (HasSpot lib m) (sources_of (module_of lib m) p) (λ f listed. spot_by lib m f.target sure listed) (references_listed (module_of lib m) p own))
 
 -- ---- iterated pages
@@ -189,13 +189,13 @@ at_page file pages i true good = at_index file pages i good
 at_page file pages i false good = zero_good file
 
 pages_good : (m : Parts) → IsRead m → All (PageGood m.file) m.pages
-unfolding pages_of parts_of pages_fault
+unfolding page_heads parts_of pages_fault
 pages_good m read =
     let file = m.file in
     let j = judged file read.means.faultless in
     let all = each_entry (PageGood file) (λ k. page_or_zero (page_entry file (page_place file k))) (page_count file)
     (λ k lt. page_good file (page_place file k) (page_kind (number_at 2 file (page_place file k + 6))) (page_is_whole file k (each_none (page_count file) (page_fault file) k j.pages lt))) in
-    let same : pages_of file ≡ m.pages = sym (ap (λ (x : Parts). x.pages) read.means.parts) in
+    let same : page_heads file ≡ m.pages = sym (ap (λ (x : Parts). x.pages) read.means.parts) in
     subst (λ (pages : List PageHead). All (PageGood file) pages) same all
 
 pub data_expands : DataExpands

@@ -10,10 +10,13 @@ pub mod Many
 pub mod Meaning
 pub mod NamesRead
 pub mod Once
+pub mod Orders
+pub mod PageRecords
 pub mod PagesRead
 pub mod ReadsAs
 pub mod RecordsRead
 pub mod RecordsTaken
+pub mod PlacesRead
 pub mod ReadModules
 pub mod References
 pub mod Shortening

@@ -15,23 +15,23 @@ use Rattle.lx_model.specs.declared.library.Spot.{Spot}
 use Rattle.lx_model.specs.declared.library.EntryFault.{EntryFault}
 use Rattle.lx_model.specs.declared.library.EntryFault.TheVariants as faults
 use Rattle.lx_model.specs.Library.{module_of}
-use Rattle.lx_model.specs.Entries.{Place, Stands, spot, fails, forwards, place_or_none, head_at, stands_at, import_place, followed, entry_count, Entry, forwarded, ComesBack}
+use Rattle.lx_model.specs.Entries.{OrdinalOf, Stands, spot, fails, forwards, place_or_none, head_at, stands_at, import_place, followed, entry_count, Entry, forwarded, ComesBack}
 use Rattle.lx_model.proofs.Each.{each_map, each_in_range}
 use Rattle.lx_model.proofs.Visits.{In, In-among}
 
 -- ---- one forwarder more, or many
 
-pub forwarded_if : Stands → ℕ → List Parts → Option Place
+pub forwarded_if : Stands → ℕ → List Parts → Option OrdinalOf
 unfolding forwarded
 forwarded_if s n lib = elim s [ spot a ↦ None | fails e ↦ None | forwards q ↦ forwarded n lib q ]
 
 -- a walk of one forwarder or more begins with one
-pub record Begins (n : ℕ) (lib : List Parts) (p q : Place) : Type 0 where
-  next : Place
+pub record Begins (n : ℕ) (lib : List Parts) (p q : OrdinalOf) : Type 0 where
+  next : OrdinalOf
   here : stands_at lib p ≡ forwards next
   behind : forwarded n lib next ≡ Some q
 
-begins : (n : ℕ) (lib : List Parts) (p q : Place) → forwarded (suc n) lib p ≡ Some q → Begins n lib p q
+begins : (n : ℕ) (lib : List Parts) (p q : OrdinalOf) → forwarded (suc n) lib p ≡ Some q → Begins n lib p q
 unfolding forwarded forwarded_if
 begins n lib p q e = by_stands (stands_at lib p) refl e
   where
@@ -40,7 +40,7 @@ begins n lib p q e = by_stands (stands_at lib p) refl e
     by_stands (fails f) is h = absurd cc
     by_stands (forwards r) is h = record { next = r; here = is; behind = h }
 
-step_is : (n : ℕ) (lib : List Parts) (p r : Place) → stands_at lib p ≡ forwards r → forwarded (suc n) lib p ≡ forwarded n lib r
+step_is : (n : ℕ) (lib : List Parts) (p r : OrdinalOf) → stands_at lib p ≡ forwards r → forwarded (suc n) lib p ≡ forwarded n lib r
 unfolding forwarded forwarded_if
 step_is n lib p r here = ap (λ (s : Stands). forwarded_if s n lib) here
 
@@ -48,7 +48,7 @@ pub followed_if : Stands → ℕ → List Parts → Result Spot EntryFault
 unfolding followed
 followed_if s n lib = elim s [ spot a ↦ Ok a | fails e ↦ Err e | forwards q ↦ followed n lib q ]
 
-follow_is : (n : ℕ) (lib : List Parts) (p r : Place) → stands_at lib p ≡ forwards r → followed (suc n) lib p ≡ followed n lib r
+follow_is : (n : ℕ) (lib : List Parts) (p r : OrdinalOf) → stands_at lib p ≡ forwards r → followed (suc n) lib p ≡ followed n lib r
 unfolding followed followed_if
 follow_is n lib p r here = ap (λ (s : Stands). followed_if s n lib) here
 
@@ -56,7 +56,7 @@ suc-first : (a b : ℕ) → suc a + b ≡ suc (a + b)
 suc-first a b = omega arith
 
 -- what follows a + b forwarders
-forwarded-add : (a b : ℕ) (lib : List Parts) (p q : Place) → forwarded a lib p ≡ Some q → forwarded (a + b) lib p ≡ forwarded b lib q
+forwarded-add : (a b : ℕ) (lib : List Parts) (p q : OrdinalOf) → forwarded a lib p ≡ Some q → forwarded (a + b) lib p ≡ forwarded b lib q
 unfolding forwarded
 forwarded-add zero b lib p q e = let same : p ≡ q = cc in let none : 0 + b ≡ b = omega arith in rw (none, same) refl
 forwarded-add (suc a) b lib p q e =
@@ -64,7 +64,7 @@ forwarded-add (suc a) b lib p q e =
     rw (suc-first a b) (step_is (a + b) lib p s.next s.here ∙ forwarded-add a b lib s.next q s.behind)
 
 -- a front of a walk is a walk
-forwarded-front : (a b : ℕ) (lib : List Parts) (p r : Place) → forwarded (a + b) lib p ≡ Some r → (q : Place) × (forwarded a lib p ≡ Some q)
+forwarded-front : (a b : ℕ) (lib : List Parts) (p r : OrdinalOf) → forwarded (a + b) lib p ≡ Some r → (q : OrdinalOf) × (forwarded a lib p ≡ Some q)
 unfolding forwarded
 forwarded-front zero b lib p r e = (p, refl)
 forwarded-front (suc a) b lib p r e =
@@ -74,13 +74,13 @@ forwarded-front (suc a) b lib p r e =
 
 -- ---- a walk that goes on is a loop, and a loop goes on
 
-goes_on : (n : ℕ) (lib : List Parts) (p q : Place) → forwarded n lib p ≡ Some q → followed n lib p ≡ Err faults.ForwardLoop
+goes_on : (n : ℕ) (lib : List Parts) (p q : OrdinalOf) → forwarded n lib p ≡ Some q → followed n lib p ≡ Err faults.ForwardLoop
 unfolding followed
 goes_on zero lib p q e = refl
 goes_on (suc n) lib p q e = let s = begins n lib p q e in follow_is n lib p s.next s.here ∙ goes_on n lib s.next q s.behind
 
 -- no place is a loop by itself
-import_is_no_loop : (o : Option Place) → place_or_none o ≡ fails faults.ForwardLoop → ⊥
+import_is_no_loop : (o : Option OrdinalOf) → place_or_none o ≡ fails faults.ForwardLoop → ⊥
 import_is_no_loop (Some p) e = cc
 import_is_no_loop None e = cc
 
@@ -90,12 +90,12 @@ head_is_no_loop lib m (Some (At object offset)) e = cc
 head_is_no_loop lib m (Some (Gate286 object offset)) e = cc
 head_is_no_loop lib m (Some (Forward import key)) e = import_is_no_loop (import_place lib m import key) e
 
-loop_goes_on : (n : ℕ) (lib : List Parts) (p : Place) → followed n lib p ≡ Err faults.ForwardLoop → (q : Place) × (forwarded n lib p ≡ Some q)
+loop_goes_on : (n : ℕ) (lib : List Parts) (p : OrdinalOf) → followed n lib p ≡ Err faults.ForwardLoop → (q : OrdinalOf) × (forwarded n lib p ≡ Some q)
 unfolding forwarded followed followed_if
 loop_goes_on zero lib p e = (p, refl)
 loop_goes_on (suc n) lib p e = by_stands (λ r h. loop_goes_on n lib r h) (stands_at lib p) refl e
   where
-    by_stands : ((r : Place) → followed n lib r ≡ Err faults.ForwardLoop → (q : Place) × (forwarded n lib r ≡ Some q)) → (s : Stands) → stands_at lib p ≡ s → followed_if s n lib ≡ Err faults.ForwardLoop → (q : Place) × (forwarded (suc n) lib p ≡ Some q)
+    by_stands : ((r : OrdinalOf) → followed n lib r ≡ Err faults.ForwardLoop → (q : OrdinalOf) × (forwarded n lib r ≡ Some q)) → (s : Stands) → stands_at lib p ≡ s → followed_if s n lib ≡ Err faults.ForwardLoop → (q : OrdinalOf) × (forwarded (suc n) lib p ≡ Some q)
     by_stands again (spot a) is h = absurd cc
     by_stands again (fails f) is h = let loop : f ≡ faults.ForwardLoop = cc in absurd (head_is_no_loop lib p.0 (entry_of (module_of lib p.0).entries p.1) (is ∙ ap (λ (x : EntryFault). fails x) loop))
     by_stands again (forwards r) is h = let rest = again r h in (rest.0, step_is n lib p r is ∙ rest.1)
@@ -103,7 +103,7 @@ loop_goes_on (suc n) lib p e = by_stands (λ r h. loop_goes_on n lib r h) (stand
 -- ---- a walk that comes back goes on for ever
 
 -- d forwarders and one lead from a place to itself
-turns : (k d : ℕ) (lib : List Parts) (p : Place) → forwarded (suc d) lib p ≡ Some p → forwarded (k * suc d) lib p ≡ Some p
+turns : (k d : ℕ) (lib : List Parts) (p : OrdinalOf) → forwarded (suc d) lib p ≡ Some p → forwarded (k * suc d) lib p ≡ Some p
 unfolding forwarded
 turns zero d lib p e = let none : 0 * suc d ≡ 0 = omega arith in rw none refl
 turns (suc k) d lib p e =
@@ -114,7 +114,7 @@ mul-suc-ge : (n d : ℕ) → n ≤ n * suc d
 mul-suc-ge zero d = omega arith
 mul-suc-ge (suc n) d = let rest = mul-suc-ge n d in let product = suc-mul n (suc d) in omega (arith, rest, product)
 
-pub comes_back_loops : (lib : List Parts) (place : Place) → ComesBack lib place → Entry lib place ≡ Err faults.ForwardLoop
+pub comes_back_loops : (lib : List Parts) (place : OrdinalOf) → ComesBack lib place → Entry lib place ≡ Err faults.ForwardLoop
 unfolding Entry
 comes_back_loops lib place (i, j, lt, back) =
     let p = back.0 in
@@ -184,38 +184,38 @@ number_same (x ∷ lib) (suc m) a (suc n) b h g same = let rest = number_same li
 -- ---- a walk over more places than there are entries
 
 -- a walk that goes on stands at entries
-has_entry : (lib : List Parts) (m : ℕ) (o : Option EntryHead) (r : Place) → head_at lib m o ≡ forwards r → (h : EntryHead) × (o ≡ Some h)
+has_entry : (lib : List Parts) (m : ℕ) (o : Option EntryHead) (r : OrdinalOf) → head_at lib m o ≡ forwards r → (h : EntryHead) × (o ≡ Some h)
 has_entry lib m None r e = absurd cc
 has_entry lib m (Some h) r e = (h, refl)
 
-abbrev pub place_at : List Parts → Place → ℕ → Place
+abbrev pub place_at : List Parts → OrdinalOf → ℕ → OrdinalOf
 place_at lib start k = unwrap_or (forwarded k lib start) start
 
 -- a place of a walk that goes on from it
-pub record Stood (lib : List Parts) (start : Place) (k : ℕ) : Type 0 where
+pub record Stood (lib : List Parts) (start : OrdinalOf) (k : ℕ) : Type 0 where
   is_there : forwarded k lib start ≡ Some (place_at lib start k)
   has : Has (module_of lib (place_at lib start k).0).entries (place_at lib start k).1
 
-stood : (lib : List Parts) (start q : Place) (n k : ℕ) → k < n → forwarded n lib start ≡ Some q → Stood lib start k
+stood : (lib : List Parts) (start q : OrdinalOf) (n k : ℕ) → k < n → forwarded n lib start ≡ Some q → Stood lib start k
 unfolding forwarded
 stood lib start q n k lt e =
     let split : n ≡ k + (n - k) = omega arith in
     let split_more : n ≡ (k + 1) + (n - (k + 1)) = omega arith in
     let front = forwarded-front k (n - k) lib start q (subst (λ (x : ℕ). forwarded x lib start ≡ Some q) split e) in
     let more = forwarded-front (k + 1) (n - (k + 1)) lib start q (subst (λ (x : ℕ). forwarded x lib start ≡ Some q) split_more e) in
-    let here : place_at lib start k ≡ front.0 = ap (λ (o : Option Place). unwrap_or o start) front.1 in
+    let here : place_at lib start k ≡ front.0 = ap (λ (o : Option OrdinalOf). unwrap_or o start) front.1 in
     let one : forwarded 1 lib front.0 ≡ Some more.0 = sym (forwarded-add k 1 lib start front.0 front.1) ∙ more.1 in
     let s = begins 0 lib front.0 more.0 one in
     let entry = has_entry lib front.0.0 (entry_of (module_of lib front.0.0).entries front.0.1) s.next s.here in
     record {
-      is_there = front.1 ∙ ap (λ (x : Place). some_place x) (sym here);
-      has = subst (λ (x : Place). Has (module_of lib x.0).entries x.1) (sym here) entry;
+      is_there = front.1 ∙ ap (λ (x : OrdinalOf). some_place x) (sym here);
+      has = subst (λ (x : OrdinalOf). Has (module_of lib x.0).entries x.1) (sym here) entry;
     }
   where
-    some_place : Place → Option Place
+    some_place : OrdinalOf → Option OrdinalOf
     some_place x = Some x
 
-abbrev pub number_of : List Parts → Place → ℕ → ℕ
+abbrev pub number_of : List Parts → OrdinalOf → ℕ → ℕ
 number_of lib start k = let p = place_at lib start k in place_number lib p.0 p.1
 
 -- two of the numbers are equal, or all are different
@@ -258,10 +258,10 @@ crowded n xs lt each = elim (distinct_or_not xs) [
   | inr r ↦ r
 ]
 
-same_place : (p q : Place) → p.0 ≡ q.0 → p.1 ≡ q.1 → q ≡ p
+same_place : (p q : OrdinalOf) → p.0 ≡ q.0 → p.1 ≡ q.1 → q ≡ p
 same_place (m, a) (n, b) x y = cc
 
-pub loop_comes_back : (lib : List Parts) (place : Place) → Entry lib place ≡ Err faults.ForwardLoop → ComesBack lib place
+pub loop_comes_back : (lib : List Parts) (place : OrdinalOf) → Entry lib place ≡ Err faults.ForwardLoop → ComesBack lib place
 unfolding Entry
 loop_comes_back lib place e =
     let count = entry_count lib in
@@ -283,4 +283,4 @@ loop_comes_back lib place e =
     let q = place_at lib place j in
     let parts = number_same lib p.0 p.1 q.0 q.1 first.has second.has numbers_same in
     let same = same_place p q parts.0 parts.1 in
-    (i, j, r.order, (p, first.is_there, subst (λ (x : Place). forwarded j lib place ≡ Some x) same second.is_there))
+    (i, j, r.order, (p, first.is_there, subst (λ (x : OrdinalOf). forwarded j lib place ≡ Some x) same second.is_there))

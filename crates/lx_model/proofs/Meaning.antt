@@ -5,7 +5,7 @@ use Rattle.lx_types.specs.declared.refusal.LxRefusal.{LxRefusal}
 use Rattle.lx_types.specs.Sound.{Sound}
 use Rattle.lx_model.specs.Reading.{first_of, ◌then◌, placed, fault_of, value_or}
 use Rattle.lx_model.specs.Header.{table, page_count, object_count, import_count, header_fault, start_fault}
-use Rattle.lx_model.specs.Tables.{object_entry, object_place, objects_of, objects_fault, page_entry, page_place, page_or_zero, pages_of, pages_fault}
+use Rattle.lx_model.specs.Tables.{object_entry, object_place, objects_of, objects_fault, page_entry, page_place, page_or_zero, page_heads, pages_fault}
 use Rattle.lx_model.specs.NameTables.{import_names, imports_in, resident_fault, others_fault, imports_fault}
 use Rattle.lx_model.specs.EntryTable.{LAST_ORDINAL, entries_in, entries_of, entries_fault}
 use Rattle.lx_model.specs.FixupPages.{records_span, spans_of, spans_fault}
@@ -74,10 +74,10 @@ judged file e =
     record { objects = b.0; pages = c.0; imports = g.0; entries = h.0; start = i.0; spans = j.0; records = j.1 }
 
 sound_parts : (file : List ℕ) → length file < 2 ^ 32 → Judged file → Sound (parts_of file)
-unfolding parts_of objects_of pages_of spans_of
+unfolding parts_of objects_of page_heads spans_of
 sound_parts file short j =
     let objects-are : length (objects_of file) ≡ object_count file = length-map-range_with_len (λ k. object_entry file (object_place file k)) 0 (object_count file) in
-    let pages-are : length (pages_of file) ≡ page_count file = length-map-range_with_len (λ k. page_or_zero (page_entry file (page_place file k))) 0 (page_count file) in
+    let pages-are : length (page_heads file) ≡ page_count file = length-map-range_with_len (λ k. page_or_zero (page_entry file (page_place file k))) 0 (page_count file) in
     let spans-are : length (spans_of file) ≡ page_count file = length-map-range_with_len (records_span file) 0 (page_count file) in
     let imports-are = imports_count file j.imports in
     let run = entries_run file j.entries in

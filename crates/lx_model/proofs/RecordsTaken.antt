@@ -16,7 +16,7 @@ use Rattle.lx_types.specs.declared.fix.FixTarget.TheVariants.{Internal, Ordinal,
 use Rattle.lx_types.specs.declared.fix.Fix.{Fix}
 use Rattle.lx_types.specs.declared.object.TheConstants.{PAGE_SIZE}
 use Rattle.lx_model.specs.Reading.{fault, number, Read, ◌>>=◌}
-use Rattle.lx_model.specs.Sources.{SourceKind, has_selector, source_byte, source_of_byte, size_of}
+use Rattle.lx_model.specs.Sources.{SourceKind, has_selector, source_byte, source_of_byte, source_size}
 use Rattle.lx_model.specs.RecordFields.{ADDITIVE, CHAIN, WIDE_TARGET, WIDE_ADDITIVE, WIDE_NUMBER, BYTE_ORDINAL, has, number_width, target_width, ordinal_width, additive_width, internal_at, target_of_kind, target_at, additive_at, reaches_page, offset_at, offsets_at}
 use Rattle.lx_model.specs.Records.{fixes_at_offsets, single_at, list_at, behind_source, record_at}
 use Rattle.lx_model.specs.RecordSpelling.{Sizes, Written, target_code, flags_of, flags_byte, target_spelling, additive_spelling, offset_spelling, offsets_spelling, record_spelling, fixes_written, TargetFits, AdditiveFits, OffsetFits, CountFits, AliasFits, RecordFits}
@@ -165,16 +165,16 @@ either_true true b h = inl refl
 either_true false b h = inr h
 
 word_fits : (source : Source) (w : ℕ) → w < 2 ^ 16 → reaches_page source w ≡ true → OffsetFits source (cast_signed w16 w)
-word_fits source w lt h = elim (either_true (ltb w PAGE_SIZE) (ltb (2 ^ 16) (w + size_of source)) h) [
+word_fits source w lt h = elim (either_true (ltb w PAGE_SIZE) (ltb (2 ^ 16) (w + source_size source)) h) [
   | inl low ↦
       let below : w < PAGE_SIZE = ltb-true w PAGE_SIZE low in
       subst (λ (z : ℤ). OffsetFits source z) (sym (to_z_pos w16 {n = w} (omega arith))) below
   | inr high ↦
-      let above : 2 ^ 16 < w + size_of source = ltb-true (2 ^ 16) (w + size_of source) high in
+      let above : 2 ^ 16 < w + source_size source = ltb-true (2 ^ 16) (w + source_size source) high in
       let small = size_small source in
       let k = 2 ^ 16 - w - 1 in
       let is : 2 ^ 16 - suc k ≡ w = omega arith in
-      let fits : k + 1 < size_of source = omega arith in
+      let fits : k + 1 < source_size source = omega arith in
       let back : cast_signed w16 (2 ^ 16 - suc k) ≡ negsuc k = to_z-neg w16 k (omega arith) in
       subst (λ (z : ℤ). OffsetFits source z) (sym back ∙ ap (λ (x : ℕ). cast_signed w16 x) is) fits
 ]

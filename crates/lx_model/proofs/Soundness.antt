@@ -11,7 +11,7 @@ use Rattle.lx_types.specs.Sound.{HasPages, DataFits, IsNumberOf}
 use Rattle.std.specs.Prelude.{IfSome}
 use Rattle.lx_model.specs.Reading.{fault, number_at, ◌then◌, short_at, first_of}
 use Rattle.lx_model.specs.Header.{header_place, page_count, object_count, start_of, start_fault, field}
-use Rattle.lx_model.specs.Tables.{object_entry, object_place, object_fault, objects_fault, lacks_pages, objects_of, page_place, page_entry, page_fault, data_fault, page_data, page_of_kind, page_kind, page_or_zero, pages_fault, pages_of}
+use Rattle.lx_model.specs.Tables.{object_entry, object_place, object_fault, objects_fault, lacks_pages, objects_of, page_place, page_entry, page_fault, data_fault, page_data, page_of_kind, page_kind, page_or_zero, pages_fault, page_heads}
 use Rattle.lx_model.specs.FixupPages.{records_place, records_span, span_fault, spans_fault, spans_of, has_records, is_out_of_order, offset_place}
 use Rattle.lx_model.proofs.Firsts.{then_none, each_none, each_entry, first_none}
 
@@ -65,8 +65,8 @@ page_is_whole file k e =
     let behind_size = then_none (short_at 2 file (at + 4)) (short_at 2 file (at + 6) then judged) behind_offset.1 in
     (then_none (short_at 2 file (at + 6)) judged behind_size.1).1
 
-pub pages_fit : (file : List ℕ) → pages_fault file ≡ None → All (DataFits (length file)) (pages_of file)
-unfolding pages_fault pages_of
+pub pages_fit : (file : List ℕ) → pages_fault file ≡ None → All (DataFits (length file)) (page_heads file)
+unfolding pages_fault page_heads
 pages_fit file e = each_entry (DataFits (length file)) (λ k. page_or_zero (page_entry file (page_place file k))) (page_count file)
     (λ k lt. page_fits file (page_place file k) (page_kind (number_at 2 file (page_place file k + 6))) (page_is_whole file k (each_none (page_count file) (page_fault file) k e lt)))
 

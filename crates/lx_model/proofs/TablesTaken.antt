@@ -169,7 +169,7 @@ pub record GroupsTaken (before : ℕ) (c : Cursor) (gs : List Group) : Type 0 wh
 abbrev GroupsAre : ℕ → Cursor → Many Group → Type 0
 GroupsAre before c m = AreBytes c.left → (d : Cursor) → m.end ≡ Ok d → GroupsTaken before c m.items
 
-empty : (xs : List ℕ) → length xs ≡ 0 → xs ≡ []
+pub empty : (xs : List ℕ) → length xs ≡ 0 → xs ≡ []
 empty [] e = refl
 empty (x ∷ xs) e = absurd (omega arith)
 

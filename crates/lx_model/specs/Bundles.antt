@@ -47,17 +47,17 @@ pub data Bundle : Type 0 where
   forwarders : ℕ → List ForwardEntry → Bundle
 
 -- how many ordinals a bundle has
-abbrev pub size_of : Bundle → ℕ
-size_of (unused n) = n
-size_of (narrow object es) = length es
-size_of (gates object es) = length es
-size_of (wide object es) = length es
-size_of (forwarders reserved es) = length es
+abbrev pub ordinal_count : Bundle → ℕ
+ordinal_count (unused n) = n
+ordinal_count (narrow object es) = length es
+ordinal_count (gates object es) = length es
+ordinal_count (wide object es) = length es
+ordinal_count (forwarders reserved es) = length es
 
 -- how many ordinals bundles have together
-abbrev pub sizes_of : List Bundle → ℕ
-sizes_of [] = 0
-sizes_of (b ∷ bs) = size_of b + sizes_of bs
+abbrev pub ordinals_together : List Bundle → ℕ
+ordinals_together [] = 0
+ordinals_together (b ∷ bs) = ordinal_count b + ordinals_together bs
 
 abbrev pub body_spelling : Bundle → List ℕ
 body_spelling (unused n) = []
@@ -74,7 +74,7 @@ type_of (wide object es) = 3
 type_of (forwarders reserved es) = 4
 
 abbrev pub bundle_spelling : Bundle → List ℕ
-bundle_spelling b = size_of b ∷ type_of b ∷ body_spelling b
+bundle_spelling b = ordinal_count b ∷ type_of b ∷ body_spelling b
 
 -- a count of 0 ends the table
 abbrev pub table_spelling : List Bundle → List ℕ
@@ -91,7 +91,7 @@ heads_of (forwarders reserved es) = map (λ e. Forward e.import (forward_key e.f
 -- the entries of bundles that follow an ordinal
 abbrev pub entries_after : ℕ → List Bundle → List Numbered
 entries_after last [] = []
-entries_after last (b ∷ bs) = enumerate_from (last + 1) (heads_of b) ++ entries_after (last + size_of b) bs
+entries_after last (b ∷ bs) = enumerate_from (last + 1) (heads_of b) ++ entries_after (last + ordinal_count b) bs
 
 -- ---- which bundles can be written
 
@@ -122,6 +122,6 @@ BodyFits objects imports (wide object es) = ObjectFits objects object × AllByRe
 BodyFits objects imports (forwarders reserved es) = (reserved < 2 ^ 16) × AllByRecursion (ForwardFits imports) es
 
 pub record BundleFits (objects imports : ℕ) (b : Bundle) : Type 0 where
-  pub some : 0 < size_of b
-  pub few : size_of b < 256
+  pub some : 0 < ordinal_count b
+  pub few : ordinal_count b < 256
   pub body : BodyFits objects imports b

@@ -18,7 +18,7 @@ use Rattle.lx_model.specs.declared.library.Spot.{Spot}
 use Rattle.lx_model.specs.declared.library.EntryFault.{EntryFault}
 use Rattle.lx_model.specs.Reading.{first, value_or, Many}
 use Rattle.lx_model.specs.Iterated.{expansion}
-use Rattle.lx_model.specs.Sources.{size_of}
+use Rattle.lx_model.specs.Sources.{source_size}
 use Rattle.lx_model.specs.Records.{Record, records_at, fixes_of}
 use Rattle.lx_model.specs.Library.{module_of}
 use Rattle.lx_model.specs.Entries.{target_spot}
@@ -60,7 +60,7 @@ behind at (negsuc n) = at - suc n
 
 -- the address at which a source of a page ends
 abbrev pub end_address : Bases → ℕ → PageId → Fix → ℕ
-end_address bases m p f = behind (2 ^ 32 + base_of bases m p.object + PAGE_SIZE * p.page + size_of f.source) f.offset % 2 ^ 32
+end_address bases m p f = behind (2 ^ 32 + base_of bases m p.object + PAGE_SIZE * p.page + source_size f.source) f.offset % 2 ^ 32
 
 -- ---- what a source puts
 

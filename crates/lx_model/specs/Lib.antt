@@ -12,10 +12,14 @@ pub mod RecordSpelling
 pub mod FixupPages
 pub mod Module
 pub mod Laws
+pub mod TableSpelling
 pub mod TableLaws
 pub mod Library
 pub mod Entries
 pub mod Fixed
 pub mod Reach
+pub mod Gathering
+pub mod ModuleBytes
+pub mod Placed
 pub mod ModuleLaws
 pub mod Worked

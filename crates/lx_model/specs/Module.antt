@@ -9,7 +9,7 @@ use Rattle.lx_types.specs.declared.parts.Parts.{Parts}
 use Rattle.lx_types.specs.Parts.{span, name_at, entry_of}
 use Rattle.lx_model.specs.Reading.{fault, first, first_of, ◌then◌, Many, fault_of, value_or}
 use Rattle.lx_model.specs.Header.{field, table, page_count, object_count, import_count, start_of, start_fault, header_fault}
-use Rattle.lx_model.specs.Tables.{objects_of, objects_fault, pages_of, pages_fault}
+use Rattle.lx_model.specs.Tables.{objects_of, objects_fault, page_heads, pages_fault}
 use Rattle.lx_model.specs.NameTables.{name_of, names_after_first, resident_names, other_names, import_names, resident_fault, others_fault, imports_fault}
 use Rattle.lx_model.specs.EntryTable.{Numbered, names_one_of, entries_of, entries_fault}
 use Rattle.lx_model.specs.FixupPages.{spans_of, records_span, spans_fault}
@@ -56,7 +56,7 @@ parts_of file = record {
   flags = field file 0x10;
   start = start_of file;
   objects = objects_of file;
-  pages = pages_of file;
+  pages = page_heads file;
   fix_spans = spans_of file;
   imports = value_or [] (import_names file);
   procs_at = table file 0x78;

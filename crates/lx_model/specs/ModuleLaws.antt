@@ -6,14 +6,14 @@ use Rattle.lx_types.specs.declared.fix.Fix.{Fix}
 use Rattle.lx_types.specs.declared.object.PageId.{PageId}
 use Rattle.lx_types.specs.declared.object.PageKind.TheVariants.{Iterated}
 use Rattle.lx_types.specs.declared.parts.Parts.{Parts}
-use Rattle.lx_model.specs.declared.library.Health.TheVariants.{Fit}
 use Rattle.lx_model.specs.declared.library.Spot.{Spot}
 use Rattle.lx_model.specs.Reading.{fault_of}
 use Rattle.lx_model.specs.Iterated.{expansion}
 use Rattle.lx_model.specs.Module.{IsRead, is_reference, is_target, targets_in}
 use Rattle.lx_model.specs.Library.{module_of}
 use Rattle.lx_model.specs.Entries.{target_spot}
-use Rattle.lx_model.specs.Reach.{HealthOf}
+use Rattle.lx_model.specs.Reach.{IsFit}
+use Rattle.lx_model.specs.Gathering.{IsLibrary}
 use Rattle.lx_model.specs.Fixed.{records_of_page, sources_of}
 
 -- A module that was read fits together.
@@ -39,6 +39,6 @@ ReferencesAreListed = (m : Parts) (p : PageId) → IsRead m → All (λ f. is_re
 abbrev pub HasSpot : List Parts → ℕ → Fix → Type 0
 HasSpot lib m f = (s : Spot) × (target_spot lib m f.target ≡ Ok s)
 
--- In a library of modules that were read, each source of a module that is fit has a spot.
+-- In a library each source of a module that is fit has a spot.
 abbrev pub FitHasSpots : Type 0
-FitHasSpots = (lib : List Parts) (m : ℕ) (p : PageId) → All IsRead lib → m < length lib → HealthOf lib m ≡ Fit → All (HasSpot lib m) (sources_of (module_of lib m) p)
+FitHasSpots = (lib : List Parts) (m : ℕ) (p : PageId) → IsLibrary lib → m < length lib → IsFit lib m → All (HasSpot lib m) (sources_of (module_of lib m) p)

@@ -10,7 +10,7 @@ use Rattle.lx_types.specs.declared.fix.Source.TheVariants.{Sel}
 use Rattle.lx_types.specs.declared.fix.FixTarget.{FixTarget}
 use Rattle.lx_types.specs.declared.fix.FixTarget.TheVariants as targets
 use Rattle.lx_model.specs.Reading.{fault, number, Read, ◌>>=◌}
-use Rattle.lx_model.specs.Sources.{size_of}
+use Rattle.lx_model.specs.Sources.{source_size}
 
 -- ---- the flags byte
 
@@ -87,7 +87,7 @@ additive_at flags c = if has ADDITIVE flags then number (additive_width flags) c
 -- A source has a byte in the page: it begins there, or less than its size before it. The offset is a
 -- signed word.
 abbrev pub reaches_page : Source → ℕ → Bool
-reaches_page source word = nat_lt word PAGE_SIZE || nat_lt (2 ^ 16) (word + size_of source)
+reaches_page source word = nat_lt word PAGE_SIZE || nat_lt (2 ^ 16) (word + source_size source)
 
 abbrev pub offset_at : Source → Cursor → Read ℤ
 offset_at source c = do

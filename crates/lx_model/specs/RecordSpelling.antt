@@ -11,7 +11,7 @@ use Rattle.lx_types.specs.declared.fix.FixTarget.{FixTarget}
 use Rattle.lx_types.specs.declared.fix.FixTarget.TheVariants as targets
 use Rattle.lx_types.specs.declared.fix.Fix.{Fix}
 use Rattle.lx_types.specs.declared.object.TheConstants.{PAGE_SIZE}
-use Rattle.lx_model.specs.Sources.{SourceKind, size_of, has_selector, source_byte}
+use Rattle.lx_model.specs.Sources.{SourceKind, source_size, has_selector, source_byte}
 use Rattle.lx_model.specs.RecordFields.{ADDITIVE, WIDE_TARGET, WIDE_ADDITIVE, WIDE_NUMBER, BYTE_ORDINAL, has, number_width, target_width, ordinal_width, additive_width}
 use Rattle.lx_model.specs.Records.{fixes_at_offsets}
 
@@ -100,7 +100,7 @@ AdditiveFits false flags additive = additive ≡ 0
 -- the source has a byte in the page
 abbrev pub OffsetFits : Source → ℤ → Type 0
 OffsetFits source (pos n) = n < PAGE_SIZE
-OffsetFits source (negsuc n) = n + 1 < size_of source
+OffsetFits source (negsuc n) = n + 1 < source_size source
 
 abbrev pub CountFits : Bool → List ℤ → Type 0
 CountFits true offsets = length offsets < 256

@@ -5,14 +5,14 @@ use Rattle.lx_types.specs.declared.fix.Source.{Source}
 use Rattle.lx_types.specs.declared.fix.Source.TheVariants.{Byte, Sel, Far16, Off16, Far32, Off32, Self32}
 
 -- how many bytes a source has
-abbrev pub size_of : Source → ℕ
-size_of Byte = 1
-size_of Sel = 2
-size_of Far16 = 4
-size_of Off16 = 2
-size_of Far32 = 6
-size_of Off32 = 4
-size_of Self32 = 4
+abbrev pub source_size : Source → ℕ
+source_size Byte = 1
+source_size Sel = 2
+source_size Far16 = 4
+source_size Off16 = 2
+source_size Far32 = 6
+source_size Off32 = 4
+source_size Self32 = 4
 
 -- the low four bits of the source byte
 abbrev pub code_of : Source → ℕ

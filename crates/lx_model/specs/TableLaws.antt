@@ -1,18 +1,23 @@
 -- What the definitions say of tables, records and iterated data.
-use Rattle.std.specs.Prelude.{◌≡◌, ℕ, ◌≤◌, List, [], ◌∷◌, ◌++◌, length, None, Ok, if◌then◌else◌}
-use Rattle.std.specs.List.{flat_map, list_any, AllByRecursion}
+use Rattle.std.specs.Prelude.{◌≡◌, ℕ, ◌+◌, ◌*◌, ◌≤◌, map, Some, List, [], ◌∷◌, ◌++◌, length, None, Ok, if◌then◌else◌}
+use Rattle.std.specs.List.{flat_map, list_any, range_with_len, AllByRecursion}
 use Rattle.lx_bytes.specs.Cursor.{Cursor}
 use Rattle.lx_bytes.specs.LittleEndian.{AreBytes}
 use Rattle.lx_types.specs.declared.object.TheConstants.{PAGE_SIZE}
 use Rattle.lx_types.specs.declared.fix.Fix.{Fix}
 use Rattle.lx_types.specs.declared.fix.FixTarget.{FixTarget}
-use Rattle.lx_model.specs.Reading.{fault_of, OneByOne}
+use Rattle.lx_types.specs.declared.object.ObjHead.{ObjHead}
+use Rattle.lx_types.specs.declared.object.PageHead.{PageHead}
+use Rattle.lx_model.specs.Reading.{fault_of, number_at, OneByOne}
+use Rattle.lx_model.specs.Header.{header_fields}
+use Rattle.lx_model.specs.Tables.{object_entry}
+use Rattle.lx_model.specs.TableSpelling.{doublewords, AreDoublewords, header_spelling, HeaderFits, objects_spelling, ObjectHeadFits, page_fields, pages_spelling, PageHeadFits}
 use Rattle.lx_model.specs.Module.{same_target, once}
 use Rattle.lx_model.specs.Iterated.{Group, groups_spelling, groups_data, GroupFits, group_at, expansion}
 use Rattle.lx_model.specs.NameTables.{Named, name_entry, names_in, names_spelling, NameFits, import_entry, imports_in, import_spelling, ImportFits}
 use Rattle.lx_model.specs.EntryTable.{Numbered, LAST_ORDINAL, bundle_at, entries_in}
-use Rattle.lx_model.specs.Bundles.{Bundle, sizes_of, table_spelling, entries_after, BundleFits}
-use Rattle.lx_model.specs.Records.{record_at, next_record, records_in, fixes_of}
+use Rattle.lx_model.specs.Bundles.{Bundle, ordinals_together, table_spelling, entries_after, BundleFits}
+use Rattle.lx_model.specs.Records.{record_at, next_record, records_at, records_in, fixes_of}
 use Rattle.lx_model.specs.RecordSpelling.{Written, record_spelling, fixes_written, RecordFits}
 
 -- ---- A table goes on behind its first item, and each item takes a byte or more.
@@ -49,7 +54,7 @@ ImportsReadAgain = (names : List (List ℕ)) (rest : List ℕ) → AllByRecursio
 -- an entry table, whatever follows it: the ordinals of its bundles, one behind the other
 abbrev pub EntriesReadAgain : Type 0
 EntriesReadAgain =
-    (objects imports : ℕ) (bs : List Bundle) (rest : List ℕ) → AllByRecursion (BundleFits objects imports) bs → sizes_of bs ≤ LAST_ORDINAL →
+    (objects imports : ℕ) (bs : List Bundle) (rest : List ℕ) → AllByRecursion (BundleFits objects imports) bs → ordinals_together bs ≤ LAST_ORDINAL →
     entries_in objects imports (table_spelling bs ++ rest) ≡ Ok (entries_after 0 bs)
 
 -- the records of a page: one fixup for each source, in the order in which they stand
@@ -62,6 +67,27 @@ RecordsReadAgain =
 abbrev pub GroupsReadAgain : Type 0
 GroupsReadAgain = (gs : List Group) → AllByRecursion GroupFits gs → length (groups_data gs) ≤ PAGE_SIZE → expansion (groups_spelling gs) ≡ Ok (groups_data gs)
 
+-- entries of tables by places, wherever the table begins and whatever follows it: the fixup page table, the object table,
+-- and the page table
+abbrev pub DoublewordsReadAgain : Type 0
+DoublewordsReadAgain =
+    (before ns rest : List ℕ) → AreDoublewords ns →
+    map (λ k. number_at 4 (before ++ (doublewords ns ++ rest)) (length before + 4 * k)) (range_with_len 0 (length ns)) ≡ ns
+
+abbrev pub ObjectsReadAgain : Type 0
+ObjectsReadAgain =
+    (before : List ℕ) (os : List ObjHead) (rest : List ℕ) → AllByRecursion ObjectHeadFits os →
+    map (λ k. object_entry (before ++ (objects_spelling os ++ rest)) (length before + 24 * k)) (range_with_len 0 (length os)) ≡ os
+
+abbrev pub PagesReadAgain : Type 0
+PagesReadAgain =
+    (before : List ℕ) (ps : List PageHead) (rest : List ℕ) → AllByRecursion PageHeadFits ps →
+    map (λ k. page_fields (before ++ (pages_spelling ps ++ rest)) (length before + 8 * k)) (range_with_len 0 (length ps)) ≡ map Some ps
+
+-- the fields of a header at the file's start
+abbrev pub HeaderReadAgain : Type 0
+HeaderReadAgain = (fields rest : List ℕ) → HeaderFits fields → header_fields (header_spelling fields ++ rest) ≡ fields
+
 -- ---- What is read is spelled so, each byte of it.
 
 -- a record, with the sizes that its flags name
@@ -69,6 +95,12 @@ abbrev pub RecordIsSpelled : Type 0
 RecordIsSpelled =
     (c d : Cursor) (fixes : List Fix) → AreBytes c.left → record_at c ≡ Ok (fixes, d) →
     (w : Written) × RecordFits w × (fixes ≡ fixes_written w) × (c.left ≡ record_spelling w ++ d.left)
+
+-- the records of a page, where none of them has a fault: all of them, and nothing else
+abbrev pub RecordsAreSpelled : Type 0
+RecordsAreSpelled =
+    (at : ℕ) (bytes : List ℕ) → AreBytes bytes → fault_of (records_at at bytes).end ≡ None →
+    (ws : List Written) × AllByRecursion RecordFits ws × (fixes_of (records_at at bytes) ≡ flat_map fixes_written ws) × (bytes ≡ flat_map record_spelling ws)
 
 -- a name table, and what follows it
 abbrev pub NamesAreSpelled : Type 0
@@ -86,11 +118,11 @@ ImportsAreSpelled =
 abbrev pub EntriesAreSpelled : Type 0
 EntriesAreSpelled =
     (objects imports : ℕ) (bytes : List ℕ) (es : List Numbered) → AreBytes bytes → entries_in objects imports bytes ≡ Ok es →
-    (bs : List Bundle) × (rest : List ℕ) × AllByRecursion (BundleFits objects imports) bs × (sizes_of bs ≤ LAST_ORDINAL) × (es ≡ entries_after 0 bs)
+    (bs : List Bundle) × (rest : List ℕ) × AllByRecursion (BundleFits objects imports) bs × (ordinals_together bs ≤ LAST_ORDINAL) × (es ≡ entries_after 0 bs)
     × (bytes ≡ table_spelling bs ++ rest)
 
--- iterated data
+-- iterated data, which gives a page or less
 abbrev pub GroupsAreSpelled : Type 0
 GroupsAreSpelled =
     (bytes given : List ℕ) → AreBytes bytes → expansion bytes ≡ Ok given →
-    (gs : List Group) × AllByRecursion GroupFits gs × (bytes ≡ groups_spelling gs) × (given ≡ groups_data gs)
+    (gs : List Group) × AllByRecursion GroupFits gs × (bytes ≡ groups_spelling gs) × (given ≡ groups_data gs) × (length given ≤ PAGE_SIZE)

@@ -84,8 +84,8 @@ abbrev pub page_or_zero : Option PageHead → PageHead
 page_or_zero (Some page) = page
 page_or_zero None = zero_page
 
-unfoldable pub pages_of : List ℕ → List PageHead
-pages_of file = map (λ k. page_or_zero (page_entry file (page_place file k))) (range_with_len 0 (page_count file))
+unfoldable pub page_heads : List ℕ → List PageHead
+page_heads file = map (λ k. page_or_zero (page_entry file (page_place file k))) (range_with_len 0 (page_count file))
 
 -- What is wrong with the data of the page of an entry: data that is not in the file, plain data that
 -- is longer than a page, or a group of iterated data.

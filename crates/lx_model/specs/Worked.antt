@@ -6,3 +6,4 @@ pub mod File
 pub mod Header
 pub mod Pages
 pub mod Library
+pub mod Words

@@ -1,8 +1,8 @@
 //! What the definitions say together.
 
-ghost use Rattle.lx_model.specs.Laws.{MeansOne, MeansOrFails, FaultMeansNone, MeansSound, OrderIsReached, ReachedIsOrdered, LoopComesBack, ComesBackLoops};
+ghost use Rattle.lx_model.specs.Laws.{MeansOne, MeansOrFails, FaultMeansNone, MeansSound, OrderIsReached, ReachedIsOrdered, OrderHasEachOnce, OrderIsInLibrary, OrderIsClosed, OrderEndsWithItself, LoopComesBack, ComesBackLoops};
 ghost use Rattle.lx_model.specs.ModuleLaws.{ReadIsSound, DataExpands, FitHasSpots, RecordsAreGood, TargetsAreThere, ReferencesAreListed};
-ghost use Rattle.lx_model.specs.TableLaws.{NamesGoOn, ImportsGoOn, BundlesGoOn, RecordsGoOn, GroupsGoOn, OneTargetMore, NamesReadAgain, ImportsReadAgain, EntriesReadAgain, RecordsReadAgain, GroupsReadAgain, RecordIsSpelled, NamesAreSpelled, ImportsAreSpelled, EntriesAreSpelled, GroupsAreSpelled};
+ghost use Rattle.lx_model.specs.TableLaws.{NamesGoOn, ImportsGoOn, BundlesGoOn, RecordsGoOn, GroupsGoOn, OneTargetMore, NamesReadAgain, ImportsReadAgain, EntriesReadAgain, RecordsReadAgain, GroupsReadAgain, HeaderReadAgain, ObjectsReadAgain, PagesReadAgain, DoublewordsReadAgain, RecordIsSpelled, RecordsAreSpelled, NamesAreSpelled, ImportsAreSpelled, EntriesAreSpelled, GroupsAreSpelled};
 
 /// A file has one meaning or one first fault.
 pub fn files_mean_one_module()
@@ -48,29 +48,39 @@ pub fn fit_modules_have_spots()
 {}
 
 /// Name tables, import modules, entry tables, fixup records and groups of iterated data that are written by the format
-/// are read as what was written.
+/// are read as what was written; so are the header, the object table, the page table, and the doublewords of
+/// the fixup page table.
 pub fn written_is_read()
     ensures names { NamesReadAgain }
     ensures imports { ImportsReadAgain }
     ensures entries { EntriesReadAgain }
     ensures records { RecordsReadAgain }
     ensures groups { GroupsReadAgain }
+    ensures header { HeaderReadAgain }
+    ensures objects { ObjectsReadAgain }
+    ensures pages { PagesReadAgain }
+    ensures doublewords { DoublewordsReadAgain }
 {}
 
 /// Fixup records, name tables, import modules, entry tables and groups of iterated data that are read are
 /// spelled as the format says.
 pub fn read_is_spelled()
     ensures record_spelled { RecordIsSpelled }
+    ensures records_spelled { RecordsAreSpelled }
     ensures names_spelled { NamesAreSpelled }
     ensures imports_spelled { ImportsAreSpelled }
     ensures entries_spelled { EntriesAreSpelled }
     ensures groups_spelled { GroupsAreSpelled }
 {}
 
-/// The order in which a module is loaded has exactly the modules that it reaches.
+/// The order in which a module is loaded has exactly the modules that it reaches, each once, and the module last.
 pub fn order_is_reach()
     ensures order { OrderIsReached }
     ensures reach { ReachedIsOrdered }
+    ensures once { OrderHasEachOnce }
+    ensures within { OrderIsInLibrary }
+    ensures closed { OrderIsClosed }
+    ensures last { OrderEndsWithItself }
 {}
 
 /// Forwarders that come to an ordinal of a module a second time are a loop, and nothing else is.

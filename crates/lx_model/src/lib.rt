@@ -11,4 +11,4 @@ pub use laws::{
     order_is_reach, parts_are_sound, read_is_spelled, read_modules_are_whole, tables_go_on,
     written_is_read,
 };
-pub use library::{EntryFault, Health, Spot};
+pub use library::{EntryFault, Health, LibraryRefusal, Spot};

@@ -6,6 +6,7 @@ ghost use Rattle.lx_model.specs.Worked.Tables.{WorkedNames, WorkedEntries};
 ghost use Rattle.lx_model.specs.Worked.File.{WorkedFile, WorkedFaults};
 ghost use Rattle.lx_model.specs.Worked.Header.{WorkedHeader, WorkedOrder, WorkedStub};
 ghost use Rattle.lx_model.specs.Worked.Pages.{WorkedPages, WorkedTargets, WorkedClasses};
+ghost use Rattle.lx_model.specs.Worked.Words.{WorkedGathering, WorkedBytes};
 ghost use Rattle.lx_model.specs.Worked.Library.{WorkedFields, WorkedLibrary};
 
 /// Fixup records of each form, and what is wrong first with others.
@@ -61,4 +62,10 @@ pub fn fields_put()
 /// Where entries lead through forwarders, and which modules can be loaded.
 pub fn library_means()
     ensures { WorkedLibrary }
+{}
+
+/// Which modules are a library, entry points by key, and bytes and invalid pages by offset.
+pub fn libraries_gathered()
+    ensures gathered { WorkedGathering }
+    ensures bytes { WorkedBytes }
 {}

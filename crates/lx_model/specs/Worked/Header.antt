@@ -8,7 +8,7 @@ use Rattle.lx_types.specs.declared.refusal.LxKind.TheVariants as kinds
 use Rattle.lx_model.specs.Reading.{fault}
 use Rattle.lx_model.specs.Header.{header_fault}
 use Rattle.lx_model.specs.Module.{Lx}
-use Rattle.lx_model.specs.Tables.{pages_of}
+use Rattle.lx_model.specs.Tables.{page_heads}
 use Rattle.lx_model.specs.Worked.File.{worked_file, worked_parts, put, changed, Accepts, Refuses}
 
 -- ---- what fields may be
@@ -78,8 +78,8 @@ stub_parts = record worked_parts { file = behind_stub worked_file; fix_spans = (
 pub record WorkedStub : Type 0 where
   pub meaning : Lx (behind_stub worked_file) stub_parts
   -- a page with four bytes at 3, as plain data and as groups
-  pub plain : pages_of (behind_stub (changed 0xDC (3 ∷ 0 ∷ 0 ∷ 0 ∷ 4 ∷ 0 ∷ 0 ∷ []))) ≡ record { kind = Plain; at = 0x141; len = 4 } ∷ []
-  pub iterated : pages_of (behind_stub (changed 0xDC (3 ∷ 0 ∷ 0 ∷ 0 ∷ 4 ∷ 0 ∷ 1 ∷ []))) ≡ record { kind = Iterated; at = 0x141; len = 4 } ∷ []
+  pub plain : page_heads (behind_stub (changed 0xDC (3 ∷ 0 ∷ 0 ∷ 0 ∷ 4 ∷ 0 ∷ 0 ∷ []))) ≡ record { kind = Plain; at = 0x141; len = 4 } ∷ []
+  pub iterated : page_heads (behind_stub (changed 0xDC (3 ∷ 0 ∷ 0 ∷ 0 ∷ 4 ∷ 0 ∷ 1 ∷ []))) ≡ record { kind = Iterated; at = 0x141; len = 4 } ∷ []
   -- faults have places of the file
   pub signature : Refuses (behind_stub (changed 0 (0x4E ∷ []))) (fault kinds.Signature 0x40)
   pub field : Refuses (behind_stub (changed 0x2C (13 ∷ []))) (fault kinds.Field 0x6C)

@@ -10,7 +10,7 @@ use Rattle.lx_types.specs.declared.fix.FixTarget.TheVariants.{Internal, Ordinal,
 use Rattle.lx_types.specs.declared.refusal.LxKind.TheVariants as kinds
 use Rattle.lx_types.specs.Object.{class_of}
 use Rattle.lx_model.specs.Reading.{fault}
-use Rattle.lx_model.specs.Tables.{pages_of}
+use Rattle.lx_model.specs.Tables.{page_heads}
 use Rattle.lx_model.specs.Module.{Targets, is_target}
 use Rattle.lx_model.specs.Worked.File.{put, changed, Accepts, Refuses}
 
@@ -26,13 +26,13 @@ page kind at len = record { kind = kind; at = at; len = len }
 
 pub record WorkedPages : Type 0 where
   -- offsets count from the data pages or from the iterated pages, and are shifted
-  pub plain : pages_of (paged 0 3 8 0) ≡ page Plain 0x83 8 ∷ []
-  pub iterated : pages_of (paged 0 3 4 1) ≡ page Iterated 0x103 4 ∷ []
-  pub shifted : pages_of (paged 4 3 8 0) ≡ page Plain 0xB0 8 ∷ []
-  pub shifted_iterated : pages_of (paged 4 3 4 1) ≡ page Iterated 0x130 4 ∷ []
+  pub plain : page_heads (paged 0 3 8 0) ≡ page Plain 0x83 8 ∷ []
+  pub iterated : page_heads (paged 0 3 4 1) ≡ page Iterated 0x103 4 ∷ []
+  pub shifted : page_heads (paged 4 3 8 0) ≡ page Plain 0xB0 8 ∷ []
+  pub shifted_iterated : page_heads (paged 4 3 4 1) ≡ page Iterated 0x130 4 ∷ []
   -- other pages have no data, whatever stands there
-  pub invalid : pages_of (paged 0 3 8 2) ≡ page Invalid 0 0 ∷ []
-  pub zero : pages_of (paged 0 3 8 3) ≡ page Zero 0 0 ∷ []
+  pub invalid : page_heads (paged 0 3 8 2) ≡ page Invalid 0 0 ∷ []
+  pub zero : page_heads (paged 0 3 8 3) ≡ page Zero 0 0 ∷ []
   pub accepted : Accepts (paged 0 3 8 0)
   pub no_data : Accepts (paged 0 0xFF 8 2)
   pub flags_4 : Refuses (paged 0 3 8 4) (fault kinds.PageKind 0xDC)
