@@ -4,3 +4,4 @@ pub mod FieldLaws
 pub mod ListLaws
 pub mod LengthLaws
 pub mod ItemLaws
+pub mod FaultLaws

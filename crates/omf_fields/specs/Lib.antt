@@ -4,3 +4,4 @@ pub mod Forms
 pub mod Spans
 pub mod Yields
 pub mod Onto
+pub mod Faults

@@ -1,11 +1,12 @@
 //! What the definitions say together.
 
-ghost use Rattle.std.specs.Prelude.{◌≡◌, ◌≢◌, ℕ, ◌≤◌, List, [], ◌∷◌, ◌++◌, length, Ok, Err};
+ghost use Rattle.std.specs.Prelude.{◌≡◌, ◌≢◌, ◌⊎◌, ℕ, ◌≤◌, List, [], ◌∷◌, ◌++◌, length, Ok, Err};
 ghost use Rattle.lx_bytes.specs.Cursor.{Cursor};
 ghost use Rattle.lx_bytes.specs.LittleEndian.{AreBytes};
 ghost use Rattle.obj_types.specs.declared.refusal.OmfRefusal.{OmfRefusal};
 ghost use Rattle.omf_fields.specs.Fields.{Reading, item_and_others, byte_at, number_at, name_at, index_at, index_below, index_or_zero, length_at, list_within, list_at};
 ghost use Rattle.omf_fields.specs.Forms.{byte, number, name, index, length_form};
+ghost use Rattle.omf_fields.specs.Faults.{PassesEnd, IsNoIndex};
 ghost use Rattle.omf_fields.specs.Spans.{IsReadAs, Free};
 ghost use Rattle.omf_fields.specs.Yields.{TakesBytes};
 ghost use Rattle.omf_fields.specs.Onto.{onto};
@@ -19,6 +20,17 @@ pub fn field_is_read()
     ensures below { (have : ℕ) → IsReadAs (index_below have) index (λ i. (1 ≤ i) × (i ≤ have)) }
     ensures or_zero { (have : ℕ) → IsReadAs (index_or_zero have) index (λ i. i ≤ have) }
     ensures lengths { IsReadAs length_at length_form Free }
+{}
+
+/// What a field's refusal means: `Short` at the cursor where the field that begins there passes the end, and
+/// `BadIndex` there where an index is spelled that is not allowed.
+pub fn field_is_refused()
+    ensures bytes { (c : Cursor) (f : OmfRefusal) → byte_at c ≡ Err f → PassesEnd byte c f }
+    ensures numbers { (n : ℕ) (c : Cursor) (f : OmfRefusal) → AreBytes c.left → number_at n c ≡ Err f → PassesEnd (number n) c f }
+    ensures names { (c : Cursor) (f : OmfRefusal) → AreBytes c.left → name_at c ≡ Err f → PassesEnd name c f }
+    ensures indices { (c : Cursor) (f : OmfRefusal) → AreBytes c.left → index_at c ≡ Err f → PassesEnd index c f }
+    ensures below { (have : ℕ) (c : Cursor) (f : OmfRefusal) → AreBytes c.left → index_below have c ≡ Err f → PassesEnd index c f ⊎ IsNoIndex (λ i. (1 ≤ i) × (i ≤ have)) have c f }
+    ensures or_zero { (have : ℕ) (c : Cursor) (f : OmfRefusal) → AreBytes c.left → index_or_zero have c ≡ Err f → PassesEnd index c f ⊎ IsNoIndex (λ i. i ≤ have) have c f }
 {}
 
 /// A list up to the end is its first item and then the list of what is behind it: `more` turns than bytes change

@@ -14,11 +14,10 @@ use Rattle.obj_types.specs.Fresh.{fresh_parts}
 use Rattle.obj_types.specs.Location.{location_len}
 use Rattle.obj_types.specs.Whole.{WholeModule}
 use Rattle.omf_model.specs.Blocks.{Blocks, block_bytes, expanded_len}
-use Rattle.omf_model.specs.Record.{Record, header, passed, comment, default_library, impdef, expdef, lnames, segdef, grpdef, pubdef, extdef, comdef, ledata, lidata, fixupp, modend, FixField, thread, fixup, FixData, location_of, offset_of}
+use Rattle.omf_model.specs.Record.{Record, header, passed, comment, default_library, impdef, expdef, lnames, segdef, grpdef, pubdef, extdef, comdef, ledata, lidata, fixupp, modend, FixField, thread, fixup, FixData, location_of, offset_of, is_end}
 use Rattle.omf_model.specs.Items.{is_debug_seg}
-use Rattle.omf_model.specs.Fixups.{has_data, data_segment, copies_of, fixes_by}
-use Rattle.omf_model.specs.ReadData.{touches}
-use Rattle.omf_model.specs.ReadModule.{reader_of, is_end}
+use Rattle.omf_model.specs.Fixups.{has_data, data_segment, copies_of, fixes_by, touches}
+use Rattle.omf_model.specs.ReadModule.{reader_of}
 use Rattle.omf_model.specs.Add.{add, add_field, add_fields}
 use Rattle.omf_model.specs.Parts.{parts_of}
 use Rattle.omf_model.specs.Good.{GoodAfter, GoodData, GoodFixup, GoodAfterData, GoodField, GoodFields, EachGood}

@@ -1,4 +1,5 @@
 -- The data records: what is read is spelled so and good, and what is so is read. "A0h LEDATA", "A2h LIDATA".
+use Rattle.omf_model.specs.Fixups.{touches}
 use Rattle.std.proofs.Common.{◌≡◌, ℕ, zero, suc, ◌+◌, ◌≤◌, Bool, true, false, cond, leb, List, [], ◌∷◌, length, Option, Some, None, Ok, refl, sym, subst, arith, inl, inr}
 use Rattle.std.specs.Prelude.{◌⊎◌, IsSomeAnd, not, unwrap_or, option_map}
 use Rattle.std.specs.List.{list_any}
@@ -15,8 +16,8 @@ use Rattle.omf_fields.specs.Fields.{◌>>=◌, check, width}
 use Rattle.omf_model.specs.Blocks.{Blocks, block_bytes, expanded_len}
 use Rattle.omf_model.specs.ReadBlocks.{blocks_at}
 use Rattle.omf_model.specs.Record.{Record, ledata, lidata}
-use Rattle.omf_model.specs.Items.{is_debug_seg}
-use Rattle.omf_model.specs.ReadData.{seg_len, data_so_far, touches, judge_data, ledata_at, counted_len, lidata_at}
+use Rattle.omf_model.specs.Items.{is_debug_seg, data_so_far}
+use Rattle.omf_model.specs.ReadData.{seg_len, judge_data, ledata_at, counted_len, lidata_at}
 use Rattle.omf_model.specs.Spelling.{pair, contents_form}
 use Rattle.omf_model.specs.Good.{GoodAfter, GoodPlace, GoodData}
 use Rattle.omf_fields.proofs.SpanLaws.{then_left, left_splits, ok_is, bind_ok, step, checked_step}

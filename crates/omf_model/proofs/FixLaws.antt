@@ -13,9 +13,9 @@ use Rattle.omf_fields.specs.Fields.{check, width, number_at, index_below}
 use Rattle.omf_fields.specs.Forms.{present, byte, number, index}
 use Rattle.omf_model.specs.Record.{FixData, by_frame_thread, frame_bits, by_target_thread, target_bits, has_displacement}
 use Rattle.omf_model.specs.Items.{is_debug_seg}
-use Rattle.omf_model.specs.Fixups.{has_index, frame_by, goal_by}
+use Rattle.omf_model.specs.Fixups.{has_index, frame_by, goal_by, are_methods, have_of}
 use Rattle.omf_model.specs.ReadNames.{plain_seg_at}
-use Rattle.omf_model.specs.ReadFixups.{have_of, method_index_at, are_methods, check_plain, check_frame, check_goal, thread_frame, thread_goal, has_threads, fix_data_at}
+use Rattle.omf_model.specs.ReadFixups.{method_index_at, check_plain, check_frame, check_goal, thread_frame, thread_goal, has_threads, fix_data_at}
 use Rattle.omf_model.specs.Spelling.{fix_data_form}
 use Rattle.omf_model.specs.Good.{GoodMethods, GoodFixData, IsPlainFrame, IsPlainGoal, HasMethod}
 use Rattle.omf_fields.proofs.SpanLaws.{Spans, then_spans, then_splits, Sound, Complete, given, done, ok_is, bind_ok, step, checked_step}

@@ -15,9 +15,9 @@ use Rattle.omf_fields.specs.Within.{within}
 use Rattle.omf_fields.specs.Fields.{◌>>=◌, byte_at}
 use Rattle.omf_fields.specs.Forms.{◌then◌, anything, each, present, byte, index}
 use Rattle.omf_model.specs.Record.{Record, fixupp, modend, FixData, FixField, thread, fixup, thread_method, location_of, offset_of, has_start}
-use Rattle.omf_model.specs.Fixups.{has_index, has_data, fixes_by}
+use Rattle.omf_model.specs.Fixups.{has_index, has_data, fixes_by, are_apart, have_of, is_location, is_thread_method}
 use Rattle.omf_model.specs.Add.{add_field}
-use Rattle.omf_model.specs.ReadFixups.{FirstByte, have_of, is_thread_method, thread_at, is_dropped, is_location, second_of, are_apart, judge_fixup, fixup_at, field_at, fields_within, fixupp_at, modend_at}
+use Rattle.omf_model.specs.ReadFixups.{FirstByte, thread_at, is_dropped, second_of, judge_fixup, fixup_at, field_at, fields_within, fixupp_at, modend_at}
 use Rattle.omf_model.specs.Spelling.{pair, contents_form, field_form, fix_data_form}
 use Rattle.omf_model.specs.Good.{GoodAfter, GoodMethods, GoodFixData, GoodFixup, GoodAfterData, GoodField, GoodFields}
 use Rattle.omf_fields.proofs.SpanLaws.{Spans, then_spans, then_splits, then_left, left_splits, Sound, Complete, given, done, ok_is, bind_ok, step, checked_step}

@@ -25,3 +25,5 @@ pub mod PlaceLaws
 pub mod CopiesLaws
 pub mod WholeValues
 pub mod TooManyLaws
+pub mod StayLaws
+pub mod PlacedLaws

@@ -12,13 +12,13 @@ use Rattle.obj_types.specs.Fresh.{fresh_parts}
 use Rattle.omf_fields.specs.Within.{within}
 use Rattle.omf_fields.specs.Fields.{◌>>=◌}
 use Rattle.omf_fields.specs.Forms.{Form, nothing}
-use Rattle.omf_model.specs.Record.{Record, header, passed, comment, default_library, impdef, expdef, lnames, segdef, grpdef, pubdef, extdef, comdef, ledata, lidata, fixupp, modend, FixData}
+use Rattle.omf_model.specs.Record.{Record, header, passed, comment, default_library, impdef, expdef, lnames, segdef, grpdef, pubdef, extdef, comdef, ledata, lidata, fixupp, modend, FixData, is_end}
 use Rattle.omf_model.specs.Add.{add}
 use Rattle.omf_model.specs.Parts.{parts_of, module_of}
 use Rattle.omf_model.specs.Good.{EachGood}
 use Rattle.omf_model.specs.Spelling.{Spells, SpellsAll}
 use Rattle.omf_model.specs.RawRecord.{whole_at, raw_at}
-use Rattle.omf_model.specs.ReadModule.{record_at, header_at, is_end, rest_within, module_at, object_of}
+use Rattle.omf_model.specs.ReadModule.{record_at, header_at, rest_within, module_at, object_of}
 use Rattle.omf_model.specs.Begun.{IsOpen}
 use Rattle.omf_model.specs.Object.{IsModule, Obj, FaultAt, at_header, after_records, FirstFault}
 use Rattle.omf_fields.proofs.SpanLaws.{Spans, bytes_behind, then_spans, then_splits, spans_nothing, nothing_spans, Sound, Complete, given, done, ok_is, bind_ok, step}

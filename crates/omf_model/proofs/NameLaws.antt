@@ -11,9 +11,9 @@ use Rattle.obj_types.specs.declared.parts.ObjParts.{ObjParts}
 use Rattle.obj_types.specs.Whole.{IsPlainSeg}
 use Rattle.omf_fields.specs.Fields.{width, name_at, number_at, byte_at, index_below, list_at}
 use Rattle.omf_fields.specs.Forms.{Form, ◌then◌, anything, each, byte, number, name, index, length_form}
-use Rattle.omf_model.specs.Record.{Record, lnames, grpdef, segdef, SegDef, align_of, is_too_long, extdef, ExtDef, pubdef, PubDef, comdef, ComDef, Communal, far, near}
+use Rattle.omf_model.specs.Record.{Record, lnames, grpdef, segdef, SegDef, align_of, is_too_long, extdef, ExtDef, pubdef, PubDef, comdef, ComDef, Communal, far, near, are_attributes}
 use Rattle.omf_model.specs.Items.{communal_of, name_with}
-use Rattle.omf_model.specs.ReadNames.{lnames_at, segdef_at, are_attributes, ext_at, extdef_at, pub_at, pubdef_at, far_at, near_at, communal_at, com_at, comdef_at, plain_seg_at, member_at, grpdef_at}
+use Rattle.omf_model.specs.ReadNames.{lnames_at, segdef_at, ext_at, extdef_at, pub_at, pubdef_at, far_at, near_at, communal_at, com_at, comdef_at, plain_seg_at, member_at, grpdef_at}
 use Rattle.omf_model.specs.Spelling.{pair, types_of, contents_form, ext_form, member_form, pub_form, com_form, communal_form}
 use Rattle.omf_model.specs.Good.{GoodAfter, GoodSegDef, GoodPubDef}
 use Rattle.omf_fields.proofs.SpanLaws.{Spans, then_spans, then_splits, then_left, left_splits, Sound, Complete, given, ok_is, bind_ok, step, checked_step}

@@ -12,9 +12,8 @@ use Rattle.obj_types.specs.declared.parts.ObjParts.{ObjParts}
 use Rattle.obj_types.specs.Whole.{WholeSeg, IsPlainSeg, LiesIn, WholeGroup, WholePlace, WholeExp}
 use Rattle.omf_model.specs.Blocks.{Blocks, block_bytes, expanded, expanded_len}
 use Rattle.omf_model.specs.ReadBlocks.{blocks_in}
-use Rattle.omf_model.specs.Record.{Record, header, passed, comment, default_library, impdef, expdef, lnames, segdef, grpdef, pubdef, extdef, comdef, ledata, lidata, fixupp, modend, align_of, combine_of, PubDef}
+use Rattle.omf_model.specs.Record.{Record, header, passed, comment, default_library, impdef, expdef, lnames, segdef, grpdef, pubdef, extdef, comdef, ledata, lidata, fixupp, modend, align_of, combine_of, PubDef, are_attributes}
 use Rattle.omf_model.specs.Items.{name_with, segs_in, groups_in, pub_of, pubs_in, imports_in, exports_in, is_debug_seg, pieces_in, datas_in}
-use Rattle.omf_model.specs.ReadNames.{are_attributes}
 use Rattle.omf_model.specs.Begun.{LastFits}
 use Rattle.omf_model.specs.Good.{GoodMember, GoodData, GoodAfter}
 use Rattle.omf_model.proofs.DataLaws.{bool_cases}

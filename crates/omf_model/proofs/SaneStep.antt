@@ -23,12 +23,10 @@ use Rattle.obj_types.specs.Location.{meets}
 use Rattle.obj_types.specs.Whole.{WholeSeg, WholeGroup, WholeFrame, WholeGoal, WholeFix, WholeStart, WholeExp}
 use Rattle.omf_model.specs.Lists.{collect, latest}
 use Rattle.omf_model.specs.Record.{Record, header, passed, comment, default_library, impdef, expdef, lnames, segdef, grpdef, pubdef, extdef, comdef, ledata, lidata, fixupp, modend, FixField, FixData, by_frame_thread, frame_bits, by_target_thread, target_bits}
-use Rattle.omf_model.specs.Items.{segs_in, groups_in, pubs_in, exts_in, imports_in, exports_in, fields_in, pieces_in, datas_in, starts_in}
-use Rattle.omf_model.specs.Fixups.{has_index, frame_by, goal_by, frame_meant, goal_meant, set_threads, fixes_by}
+use Rattle.omf_model.specs.Items.{segs_in, groups_in, pubs_in, exts_in, imports_in, exports_in, fields_in, pieces_in, datas_in, starts_in, data_so_far}
+use Rattle.omf_model.specs.Fixups.{has_index, frame_by, goal_by, frame_meant, goal_meant, set_threads, fixes_by, have_of}
 use Rattle.omf_model.specs.Add.{add}
 use Rattle.omf_model.specs.AddLists.{module_with, parts_with, HasFour}
-use Rattle.omf_model.specs.ReadData.{data_so_far}
-use Rattle.omf_model.specs.ReadFixups.{have_of}
 use Rattle.omf_model.specs.Begun.{LastFits, InFrame, InGoal}
 use Rattle.omf_model.specs.Good.{GoodAfter, GoodFixData, IsPlainFrame, IsPlainGoal, HasMethod}
 use Rattle.omf_fields.proofs.FieldLaws.{FromOne}

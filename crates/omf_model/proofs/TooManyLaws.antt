@@ -28,10 +28,10 @@ use Rattle.omf_model.specs.ReadData.{judge_data, lidata_at}
 use Rattle.omf_model.specs.ReadModule.{record_at, header_at, rest_within, module_at, object_of}
 use Rattle.omf_model.specs.WholeExamples.{many_body, byte_fixup, one_too_many}
 use Rattle.omf_model.specs.Record.{Record, header, lnames, segdef, grpdef, lidata, FixField, fixup, FixData, location_of, offset_of}
-use Rattle.omf_model.specs.Fixups.{has_data, copies_of, fixes_by}
+use Rattle.omf_model.specs.Fixups.{has_data, copies_of, fixes_by, are_apart}
 use Rattle.omf_model.specs.Copies.{copy_count}
 use Rattle.omf_model.specs.ReadBlocks.{block_at, blocks_at, blocks_in}
-use Rattle.omf_model.specs.ReadFixups.{FirstByte, are_apart, judge_fixup, fix_data_at, fixup_at, field_at, fields_at, fixupp_at}
+use Rattle.omf_model.specs.ReadFixups.{FirstByte, judge_fixup, fix_data_at, fixup_at, field_at, fields_at, fixupp_at}
 use Rattle.omf_model.proofs.DataLaws.{bool_cases}
 use Rattle.omf_model.proofs.FixLaws.{and_true}
 use Rattle.omf_model.proofs.TurnLaws.{fields-next, rest-more, rest-next, rest-refused}

@@ -13,14 +13,14 @@ use Rattle.omf_fields.specs.Onto.{onto}
 use Rattle.omf_fields.specs.Spans.{Free}
 use Rattle.omf_fields.proofs.Turns.{enough, one_turn}
 use Rattle.omf_fields.proofs.ItemLaws.{bind-same, cond-same, not-empty, takes-form}
-use Rattle.omf_model.specs.Record.{Record, FixField, fixupp}
+use Rattle.omf_model.specs.Record.{Record, FixField, fixupp, is_end}
 use Rattle.omf_model.specs.Add.{add, add_field, add_fields}
 use Rattle.omf_model.specs.Good.{GoodAfter, GoodField}
 use Rattle.omf_model.specs.Gives.{then_add}
 use Rattle.omf_model.specs.Spelling.{field_form}
 use Rattle.omf_model.specs.RawRecord.{whole_at, raw_at}
 use Rattle.omf_model.specs.ReadFixups.{field_at, fields_turn, no_fields, fields_within, fields_at, fixupp_at}
-use Rattle.omf_model.specs.ReadModule.{record_at, header_at, is_end, rest_turn, records_missing, rest_within, rest_at, module_at, up_to_page, ends_library, modules_turn, module_missing, modules_within, modules_at}
+use Rattle.omf_model.specs.ReadModule.{record_at, header_at, rest_turn, records_missing, rest_within, rest_at, module_at, up_to_page, ends_library, modules_turn, module_missing, modules_within, modules_at}
 use Rattle.omf_model.proofs.FixuppLaws.{field_sound, field_one}
 use Rattle.omf_model.proofs.RecordLaws.{SpellForm, record_sound, spelled_long}
 use Rattle.omf_model.proofs.ModuleLaws.{ModuleForm, module_sound, nothing_left}

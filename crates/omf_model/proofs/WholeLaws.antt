@@ -22,10 +22,9 @@ use Rattle.omf_model.specs.Lists.{latest}
 use Rattle.omf_model.specs.Blocks.{origins, expanded_len}
 use Rattle.omf_model.specs.ReadBlocks.{blocks_in}
 use Rattle.omf_model.specs.Record.{Record, header, passed, comment, default_library, impdef, expdef, lnames, segdef, grpdef, pubdef, extdef, comdef, ledata, lidata, fixupp, modend, FixField, thread, fixup, FixData, thread_method, thread_number, is_frame_thread, location_of, offset_of, is_self_relative}
-use Rattle.omf_model.specs.Fixups.{some, is_frame_method, is_target_method, frame_by, goal_by, frame_meant, goal_meant, frame_set, goal_set, set_threads, has_data, data_segment, copies_of, places_of, fixes_by}
+use Rattle.omf_model.specs.Fixups.{some, is_frame_method, is_target_method, frame_by, goal_by, frame_meant, goal_meant, frame_set, goal_set, set_threads, has_data, data_segment, copies_of, places_of, fixes_by, are_apart}
 use Rattle.omf_model.specs.Add.{add, add_field, add_fields}
 use Rattle.omf_model.specs.Parts.{parts_of}
-use Rattle.omf_model.specs.ReadFixups.{are_apart}
 use Rattle.omf_model.specs.Begun.{AreBegun, LastFits, InFrame, InGoal}
 use Rattle.omf_model.specs.Good.{GoodAfter, GoodThread, GoodFixup, GoodAfterData, GoodField, GoodFields, EachGood}
 use Rattle.omf_model.specs.Object.{IsModule, Obj}

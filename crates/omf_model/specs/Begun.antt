@@ -14,14 +14,12 @@ use Rattle.obj_types.specs.Items.{IsIndex}
 use Rattle.obj_types.specs.Location.{location_len}
 use Rattle.obj_types.specs.Whole.{LiesIn, WholeModule}
 use Rattle.omf_model.specs.Blocks.{expanded_len}
-use Rattle.omf_model.specs.Record.{Record, header}
-use Rattle.omf_model.specs.Fixups.{has_data, data_segment, copies_of}
+use Rattle.omf_model.specs.Record.{Record, header, is_end}
+use Rattle.omf_model.specs.Fixups.{has_data, data_segment, copies_of, touches}
 use Rattle.omf_model.specs.ReadBlocks.{blocks_in}
-use Rattle.omf_model.specs.ReadData.{touches}
 use Rattle.omf_model.specs.Parts.{parts_of}
 use Rattle.omf_model.specs.AddLists.{HasFour}
 use Rattle.omf_model.specs.Good.{EachGood}
-use Rattle.omf_model.specs.ReadModule.{is_end}
 
 -- The records of a module so far: a header, and records each good after those before it.
 pub record AreBegun (rs : List Record) : Type 0 where

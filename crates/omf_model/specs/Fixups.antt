@@ -1,5 +1,5 @@
 -- What the fields of "9Ch FIXUPP" mean: threads, frames, targets and locations.
-use Rattle.std.specs.Prelude.{ℕ, ◌+◌, ◌%◌, Bool, true, false, ◌&&◌, ◌||◌, List, [], ◌∷◌, length, map, get_or, replicate, slice_index, Option, Some, None, nat_le, ◌==◌, if◌then◌else◌, unwrap_or}
+use Rattle.std.specs.Prelude.{ℕ, ◌+◌, ◌%◌, Bool, true, false, ◌&&◌, ◌||◌, List, [], ◌∷◌, length, map, get_or, replicate, slice_index, not, Option, Some, None, nat_lt, nat_le, ◌==◌, if◌then◌else◌, unwrap_or}
 use Rattle.std.specs.List.{filter, filter_map, list_any, range_with_len}
 use Rattle.obj_types.specs.declared.object.Frame.{Frame}
 use Rattle.obj_types.specs.declared.object.Frame.TheVariants as frames
@@ -9,6 +9,8 @@ use Rattle.obj_types.specs.declared.object.FixAt.{FixAt}
 use Rattle.obj_types.specs.declared.parts.LastData.{LastData}
 use Rattle.obj_types.specs.declared.parts.LastData.TheVariants as datas
 use Rattle.obj_types.specs.declared.parts.Threads.{Threads}
+use Rattle.obj_types.specs.declared.parts.ObjParts.{ObjParts}
+use Rattle.obj_types.specs.Location.{location_len, has_selector, end_of, meets}
 use Rattle.omf_model.specs.Lists.{latest}
 use Rattle.omf_model.specs.Blocks.{origins, contents}
 use Rattle.omf_model.specs.ReadBlocks.{blocks_in}
@@ -108,3 +110,27 @@ fixes_by last ts (fixup high low d) = map (λ x. record {
   goal = unwrap_or (goal_meant ts d) (goals.Seg 0);
   disp = unwrap_or d.displacement 0;
 }) (copies_of last (offset_of high low))
+
+-- ---- what is asked of them
+
+-- How many items of a method's kind there are.
+abbrev pub have_of : ObjParts → ℕ → ℕ
+have_of p m = if m == 0 then length p.module.segs else if m == 1 then length p.module.groups else length p.module.exts
+
+abbrev pub are_methods : ℕ → Bool
+are_methods fix = (by_frame_thread fix || is_frame_method (frame_bits fix)) && (by_target_thread fix || is_target_method (target_bits fix))
+
+abbrev pub is_thread_method : ℕ → Bool
+is_thread_method b = if is_frame_thread b then is_frame_method (thread_method b) else is_target_method (thread_method b)
+
+-- A location that there is, and that is not self-relative where it has a selector.
+abbrev pub is_location : ℕ → Bool
+is_location high = nat_lt 0 (location_len (location_of high)) && not (is_self_relative high && has_selector (location_of high))
+
+-- So many bytes from an offset on share one with a fix.
+abbrev pub touches : ℕ → ℕ → ℕ → FixAt → Bool
+touches seg offset len f = f.seg == seg && nat_lt 0 len && nat_lt f.offset (offset + len) && nat_lt offset (end_of f)
+
+-- New fixes share no byte with earlier ones.
+abbrev pub are_apart : List FixAt → List FixAt → Bool
+are_apart earlier new = not (list_any (λ g. list_any (λ f. meets f g) earlier) new)

@@ -13,12 +13,9 @@ use Rattle.obj_types.specs.Items.{IsIndex}
 use Rattle.obj_types.specs.Location.{location_len}
 use Rattle.obj_types.specs.Whole.{IsPlainSeg, LiesIn}
 use Rattle.omf_model.specs.Blocks.{Blocks, FitBlocks, depth_of, expanded_len}
-use Rattle.omf_model.specs.Record.{Record, header, passed, comment, default_library, impdef, expdef, lnames, segdef, grpdef, pubdef, extdef, comdef, ledata, lidata, fixupp, modend, SegDef, PubDef, ExtDef, ComDef, FixData, FixField, thread, fixup, thread_method, by_frame_thread, frame_bits, by_target_thread, target_bits, location_of, offset_of}
-use Rattle.omf_model.specs.Items.{name_with, is_debug_seg, communal_of}
-use Rattle.omf_model.specs.Fixups.{frame_meant, goal_meant, has_data, has_index, fixes_by}
-use Rattle.omf_model.specs.ReadNames.{are_attributes}
-use Rattle.omf_model.specs.ReadData.{data_so_far, touches}
-use Rattle.omf_model.specs.ReadFixups.{have_of, are_methods, is_thread_method, is_location, are_apart}
+use Rattle.omf_model.specs.Record.{Record, header, passed, comment, default_library, impdef, expdef, lnames, segdef, grpdef, pubdef, extdef, comdef, ledata, lidata, fixupp, modend, SegDef, PubDef, ExtDef, ComDef, FixData, FixField, thread, fixup, thread_method, by_frame_thread, frame_bits, by_target_thread, target_bits, location_of, offset_of, are_attributes}
+use Rattle.omf_model.specs.Items.{name_with, is_debug_seg, communal_of, data_so_far}
+use Rattle.omf_model.specs.Fixups.{frame_meant, goal_meant, has_data, has_index, fixes_by, are_apart, are_methods, have_of, is_location, is_thread_method, touches}
 use Rattle.omf_model.specs.Add.{add_field}
 use Rattle.omf_model.specs.Parts.{parts_of}
 

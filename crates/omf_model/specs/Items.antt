@@ -14,6 +14,8 @@ use Rattle.obj_types.specs.declared.symbol.Common.{Common}
 use Rattle.obj_types.specs.declared.symbol.Ext.{Ext}
 use Rattle.obj_types.specs.declared.symbol.Imp.{Imp}
 use Rattle.obj_types.specs.declared.symbol.Exp.{Exp}
+use Rattle.std.specs.List.{sum_by}
+use Rattle.obj_types.specs.declared.parts.ObjParts.{ObjParts}
 use Rattle.obj_types.specs.declared.parts.LastData.{LastData}
 use Rattle.obj_types.specs.declared.parts.LastData.TheVariants as datas
 use Rattle.obj_types.specs.declared.parts.Threads.{Threads}
@@ -158,3 +160,7 @@ start_of ts (Some d) = Some (record {
 abbrev pub starts_in : Threads → Record → List (Option StartAt)
 starts_in ts (modend kind start) = start_of ts start ∷ []
 starts_in ts _ = []
+
+-- The bytes of the pieces so far.
+abbrev pub data_so_far : ObjParts → ℕ
+data_so_far p = sum_by (λ (piece : Piece). length piece.bytes) p.module.pieces

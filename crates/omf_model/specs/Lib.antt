@@ -23,3 +23,4 @@ pub mod Examples
 pub mod FaultExamples
 pub mod WholeExamples
 pub mod Gives
+pub mod Places

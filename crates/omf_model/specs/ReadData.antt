@@ -1,35 +1,25 @@
 -- Reading data, fixups and a module's end after the records before them.
 -- "A0h LEDATA", "A2h LIDATA", "9Ch FIXUPP", "8Ah MODEND".
-use Rattle.std.specs.Prelude.{ℕ, ◌+◌, min, Bool, ◌&&◌, not, List, length, Result, Ok, nat_lt, nat_le, ◌==◌, if◌then◌else◌, unwrap_or, option_map}
-use Rattle.std.specs.List.{list_any, sum_by}
+use Rattle.omf_model.specs.Fixups.{touches}
+use Rattle.std.specs.Prelude.{ℕ, ◌+◌, min, Bool, not, List, length, Result, Ok, nat_le, if◌then◌else◌, unwrap_or, option_map}
+use Rattle.std.specs.List.{list_any}
 use Rattle.lx_bytes.specs.Cursor.{Cursor}
 use Rattle.obj_types.specs.declared.limits.TheConstants.{MAX_DATA}
 use Rattle.obj_types.specs.declared.refusal.OmfRefusal.{OmfRefusal}
 use Rattle.obj_types.specs.declared.refusal.OmfRefusal.TheVariants.{DataRange, DataOverFix, TooMany}
 use Rattle.obj_types.specs.declared.object.Seg.{Seg}
-use Rattle.obj_types.specs.declared.object.Piece.{Piece}
-use Rattle.obj_types.specs.declared.object.FixAt.{FixAt}
 use Rattle.obj_types.specs.declared.parts.ObjParts.{ObjParts}
 use Rattle.obj_types.specs.Items.{item}
-use Rattle.obj_types.specs.Location.{end_of}
 use Rattle.omf_model.specs.Blocks.{Blocks, expanded_len}
 use Rattle.omf_fields.specs.Fields.{◌>>=◌, check, width, number_at, index_below}
 use Rattle.omf_model.specs.Record.{Record, ledata, lidata}
 use Rattle.omf_model.specs.ReadBlocks.{blocks_at}
-use Rattle.omf_model.specs.Items.{is_debug_seg}
+use Rattle.omf_model.specs.Items.{is_debug_seg, data_so_far}
 
 -- ---- data
 
 abbrev pub seg_len : List Seg → ℕ → ℕ
 seg_len segs i = unwrap_or (option_map (λ (s : Seg). s.len) (item segs i)) 0
-
--- The bytes of the pieces so far.
-abbrev pub data_so_far : ObjParts → ℕ
-data_so_far p = sum_by (λ (piece : Piece). length piece.bytes) p.module.pieces
-
--- So many bytes from an offset on share one with a fix.
-abbrev pub touches : ℕ → ℕ → ℕ → FixAt → Bool
-touches seg offset len f = f.seg == seg && nat_lt 0 len && nat_lt f.offset (offset + len) && nat_lt offset (end_of f)
 
 -- The conditions on data: within its segment, within the module's limit, and on no location of an
 -- earlier fixup. Of data of a debug segment none is judged.

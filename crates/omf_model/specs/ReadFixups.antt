@@ -1,6 +1,5 @@
 -- Reading fixups and a module's end after the records before them. "9Ch FIXUPP", "8Ah MODEND".
 use Rattle.std.specs.Prelude.{ℕ, ◌+◌, ◌%◌, Bool, true, false, ◌&&◌, ◌||◌, not, List, [], ◌∷◌, length, Option, Some, None, Result, Ok, Err, nat_lt, nat_le, ◌==◌, if◌then◌else◌, is_some, get_or}
-use Rattle.std.specs.List.{list_any}
 use Rattle.lx_bytes.specs.Cursor.{Cursor}
 use Rattle.obj_types.specs.declared.limits.TheConstants.{MAX_FIXES}
 use Rattle.obj_types.specs.declared.refusal.OmfRefusal.{OmfRefusal}
@@ -9,32 +8,24 @@ use Rattle.obj_types.specs.declared.object.Frame.{Frame}
 use Rattle.obj_types.specs.declared.object.Frame.TheVariants as frames
 use Rattle.obj_types.specs.declared.object.Goal.{Goal}
 use Rattle.obj_types.specs.declared.object.Goal.TheVariants as goals
-use Rattle.obj_types.specs.declared.object.FixAt.{FixAt}
 use Rattle.obj_types.specs.declared.parts.LastData.{LastData}
 use Rattle.obj_types.specs.declared.parts.LastData.TheVariants as datas
 use Rattle.obj_types.specs.declared.parts.Threads.{Threads}
 use Rattle.obj_types.specs.declared.parts.ObjParts.{ObjParts}
-use Rattle.obj_types.specs.Location.{location_len, has_selector, meets}
+use Rattle.obj_types.specs.Location.{location_len}
 use Rattle.omf_fields.specs.Within.{within}
 use Rattle.omf_fields.specs.Fields.{Reading, ◌>>=◌, check, width, byte_at, number_at, index_at, index_below, where_so}
-use Rattle.omf_model.specs.Record.{Record, fixupp, modend, FixData, FixField, thread, fixup, by_frame_thread, frame_bits, by_target_thread, target_bits, has_displacement, is_frame_thread, thread_method, location_of, offset_of, is_self_relative, has_start}
+use Rattle.omf_model.specs.Record.{Record, fixupp, modend, FixData, FixField, thread, fixup, by_frame_thread, frame_bits, by_target_thread, target_bits, has_displacement, thread_method, location_of, offset_of, has_start}
 use Rattle.omf_model.specs.ReadNames.{plain_seg_at}
-use Rattle.omf_model.specs.Fixups.{is_frame_method, is_target_method, has_index, frame_meant, goal_meant, has_data, fixes_by}
+use Rattle.omf_model.specs.Fixups.{has_index, frame_meant, goal_meant, has_data, fixes_by, are_apart, are_methods, have_of, is_location, is_thread_method}
 use Rattle.omf_model.specs.Items.{is_debug_seg}
 use Rattle.omf_model.specs.Add.{add_field}
 
 -- ---- what stands behind a fix byte
 
--- How many items of a method's kind there are.
-abbrev pub have_of : ObjParts → ℕ → ℕ
-have_of p m = if m == 0 then length p.module.segs else if m == 1 then length p.module.groups else length p.module.exts
-
 -- An index of a method's kind; of a fixup on data of a debug segment it may be any.
 abbrev pub method_index_at : Bool → ObjParts → ℕ → Cursor → Reading ℕ
 method_index_at judged p m c = if not judged then index_at c else if m == 0 then plain_seg_at p c else index_below (have_of p m) c
-
-abbrev pub are_methods : ℕ → Bool
-are_methods fix = (by_frame_thread fix || is_frame_method (frame_bits fix)) && (by_target_thread fix || is_target_method (target_bits fix))
 
 abbrev pub are_set : Threads → FixData → Bool
 are_set ts d = is_some (frame_meant ts d) && is_some (goal_meant ts d)
@@ -81,9 +72,6 @@ fix_data_at judged wide p c = do
 
 -- ---- the fields of FIXUPP
 
-abbrev pub is_thread_method : ℕ → Bool
-is_thread_method b = if is_frame_thread b then is_frame_method (thread_method b) else is_target_method (thread_method b)
-
 -- The first byte of a field, its place, and the place of its record.
 pub record FirstByte : Type 0 where
   pub of_record : ℕ
@@ -103,17 +91,9 @@ is_dropped (datas.Straight seg start len) = false
 is_dropped (datas.Blocks seg start wide body) = false
 is_dropped datas.Dropped = true
 
--- A location that there is, and that is not self-relative where it has a selector.
-abbrev pub is_location : ℕ → Bool
-is_location high = nat_lt 0 (location_len (location_of high)) && not (is_self_relative high && has_selector (location_of high))
-
 -- The second byte of a field of two bytes that began at a place.
 abbrev pub second_of : ℕ → Cursor → Reading ℕ
 second_of at c = if length c.left == 0 then Err (Short at) else byte_at c
-
--- New fixes share no byte with earlier ones.
-abbrev pub are_apart : List FixAt → List FixAt → Bool
-are_apart earlier new = not (list_any (λ g. list_any (λ f. meets f g) earlier) new)
 
 -- The conditions on a fixup's place: within the last data record's data, apart from earlier locations,
 -- and within the module's limit.

@@ -11,7 +11,7 @@ use Rattle.obj_types.specs.declared.parts.ObjParts.{ObjParts}
 use Rattle.obj_types.specs.Fresh.{fresh_parts}
 use Rattle.omf_fields.specs.Within.{within}
 use Rattle.omf_fields.specs.Fields.{Reading, ◌>>=◌, check, name_at}
-use Rattle.omf_model.specs.Record.{Record, header, passed, modend}
+use Rattle.omf_model.specs.Record.{Record, header, passed, is_end}
 use Rattle.omf_model.specs.ReadNames.{lnames_at, segdef_at, grpdef_at, pubdef_at, extdef_at, comdef_at}
 use Rattle.omf_model.specs.ReadComments.{coment_at}
 use Rattle.omf_model.specs.ReadData.{ledata_at, lidata_at}
@@ -62,10 +62,6 @@ header_at c = do
   Ok (header name.0, f.after)
 
 -- ---- modules
-
-abbrev pub is_end : Record → Bool
-is_end (modend kind start) = true
-is_end _ = false
 
 -- The records up to MODEND. There are no more of them than bytes.
 abbrev pub rest_turn : (ObjParts × Cursor → Reading ObjParts) → ObjParts × Cursor → Reading ObjParts

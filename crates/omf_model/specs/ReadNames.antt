@@ -1,21 +1,17 @@
 -- Reading the records of names, segments, groups, symbols and comments after the records before them.
 -- "96h LNAMES", "98h SEGDEF", "9Ah GRPDEF", "90h PUBDEF", "8Ch EXTDEF", "B0h COMDEF", "88h COMENT".
-use Rattle.std.specs.Prelude.{ℕ, ◌*◌, Bool, true, false, ◌&&◌, not, length, Result, Ok, Err, nat_le, ◌==◌, if◌then◌else◌, bytes_eq, codes}
+use Rattle.std.specs.Prelude.{ℕ, ◌*◌, Bool, true, false, not, length, Result, Ok, Err, nat_le, ◌==◌, if◌then◌else◌, bytes_eq, codes}
 use Rattle.lx_bytes.specs.Cursor.{Cursor}
 use Rattle.obj_types.specs.declared.limits.TheConstants.{MAX_DATA}
 use Rattle.obj_types.specs.declared.refusal.OmfRefusal.{OmfRefusal}
 use Rattle.obj_types.specs.declared.refusal.OmfRefusal.TheVariants.{BadField, BadIndex}
 use Rattle.obj_types.specs.declared.parts.ObjParts.{ObjParts}
 use Rattle.omf_fields.specs.Fields.{Reading, ◌>>=◌, check, checked, width, byte_at, number_at, name_at, index_at, index_below, index_or_zero, length_at, where_so, list_at}
-use Rattle.omf_model.specs.Record.{Record, lnames, segdef, grpdef, pubdef, extdef, comdef, align_of, combine_of, is_too_long, PubDef, ExtDef, ComDef, Communal, far, near}
+use Rattle.omf_model.specs.Record.{Record, lnames, segdef, grpdef, pubdef, extdef, comdef, align_of, is_too_long, PubDef, ExtDef, ComDef, Communal, far, near, are_attributes}
 use Rattle.omf_model.specs.Items.{name_with, is_debug_seg}
 
 unfoldable pub lnames_at : Cursor → Result Record OmfRefusal
 lnames_at c = list_at name_at c >>= λ names. Ok (lnames names)
-
--- The alignments 6 and 7 and the combine types 1 and 3 are not used.
-abbrev pub are_attributes : ℕ → Bool
-are_attributes a = nat_le (align_of a) 5 && not (combine_of a == 1) && not (combine_of a == 3)
 
 unfoldable pub segdef_at : Bool → ObjParts → Cursor → Result Record OmfRefusal
 segdef_at wide p c = do

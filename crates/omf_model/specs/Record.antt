@@ -1,6 +1,6 @@
 -- The records of an object module as values: their fields, without the forms in which bytes spell them.
 -- "Relocatable Object Module Format", the sections of the record types.
-use Rattle.std.specs.Prelude.{ℕ, ◌+◌, ◌*◌, ◌/◌, ◌%◌, Bool, ◌&&◌, List, Option, nat_le, ◌==◌, if◌then◌else◌}
+use Rattle.std.specs.Prelude.{ℕ, ◌+◌, ◌*◌, ◌/◌, ◌%◌, Bool, true, false, ◌&&◌, not, List, Option, nat_le, ◌==◌, if◌then◌else◌}
 use Rattle.omf_model.specs.Blocks.{Blocks}
 
 -- "98h SEGDEF". The frame and the offset stand there for the alignment 0.
@@ -143,3 +143,11 @@ pub data Record : Type 0 where
   lidata : (wide : Bool) (segment offset : ℕ) → Blocks → Record
   fixupp : List FixField → Record
   modend : (kind : ℕ) (start : Option FixData) → Record
+
+-- The alignments 6 and 7 and the combine types 1 and 3 are not used.
+abbrev pub are_attributes : ℕ → Bool
+are_attributes a = nat_le (align_of a) 5 && not (combine_of a == 1) && not (combine_of a == 3)
+
+abbrev pub is_end : Record → Bool
+is_end (modend kind start) = true
+is_end _ = false

@@ -6,11 +6,11 @@ ghost use Rattle.lx_bytes.specs.LittleEndian.{AreBytes};
 ghost use Rattle.obj_types.specs.declared.parts.ObjParts.{ObjParts};
 ghost use Rattle.obj_types.specs.Fresh.{fresh_parts};
 ghost use Rattle.obj_types.specs.Whole.{WholeModule};
-ghost use Rattle.omf_model.specs.Record.{Record, header};
+ghost use Rattle.omf_model.specs.Record.{Record, header, is_end};
 ghost use Rattle.omf_model.specs.Add.{add};
 ghost use Rattle.omf_model.specs.Begun.{IsBegun, IsWholeSoFar};
 ghost use Rattle.omf_model.specs.Good.{GoodAfter};
-ghost use Rattle.omf_model.specs.ReadModule.{reader_of, is_end};
+ghost use Rattle.omf_model.specs.ReadModule.{reader_of};
 
 /// A module is begun by its header and goes on with good records, which are those that are read. It is whole so
 /// far, and the record that ends it makes a whole module.

@@ -8,6 +8,7 @@ mod begun;
 mod blocks;
 mod examples;
 mod laws;
+mod places;
 mod turns;
 
 pub use begun::unfinished_module;
@@ -20,4 +21,5 @@ pub use laws::{
     library_is_one, library_is_read, meaning_is_whole, object_is_one, object_is_read,
     one_more_record,
 };
+pub use places::faults_lie_in_their_record;
 pub use turns::{fields_turn_by_turn, modules_turn_by_turn, records_turn_by_turn};

@@ -1,12 +1,13 @@
 //! "98h SEGDEF".
 
+ghost use Rattle.omf_model.specs.Record.{are_attributes};
 ghost use Rattle.std.specs.Prelude.{◌≡◌, ◌⊎◌, ◌≤◌, ◌<◌, IfOk, length};
 ghost use Rattle.omf_fields.specs.Yields.{Finds};
 ghost use Rattle.omf_model.specs.Begun.{IsBegun};
 ghost use Rattle.omf_model.specs.Gives.{Gives, read_after, contents_at};
 ghost use Rattle.omf_model.specs.Items.{is_debug, name_with, seg_of};
 ghost use Rattle.omf_model.specs.ReadModule.{is_wide};
-ghost use Rattle.omf_model.specs.ReadNames.{are_attributes, segdef_at};
+ghost use Rattle.omf_model.specs.ReadNames.{segdef_at};
 ghost use Rattle.omf_names.specs.Segments.{def_of, segdef_record};
 
 use lx_types::{Fail, Name, NoMemory};
