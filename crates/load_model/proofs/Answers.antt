@@ -2,14 +2,12 @@
 use Rattle.std.proofs.Common.{◌≡◌, ℕ, true, List, Option, Some, None, Result, Ok, Err, refl, sym, ◌∙◌, ap}
 use Rattle.std.specs.Prelude.{unwrap_or}
 use Rattle.lx_types.specs.declared.entry.EntryKey.{EntryKey}
-use Rattle.lx_model.specs.declared.library.Spot.{Spot}
-use Rattle.lx_model.specs.declared.library.EntryFault.{EntryFault}
 use Rattle.load_model.specs.declared.commands.Command.{Command}
 use Rattle.load_model.specs.declared.commands.Command.TheVariants as commands
 use Rattle.load_model.specs.declared.commands.Refusal.{Refusal}
 use Rattle.load_model.specs.declared.commands.Refusal.TheVariants.{Ended}
 use Rattle.load_model.specs.declared.commands.Reply.TheVariants as replies
-use Rattle.load_model.specs.Modules.{Library, Held, number_of, entry_spot, address_in}
+use Rattle.load_model.specs.Modules.{Spot, EntryFault, Library, Held, number_of, entry_spot, address_in}
 use Rattle.load_model.specs.State.{Residence, Eager, reaches, residence_of}
 use Rattle.load_model.specs.Refusals.{when, key_refusal, residence_named, query_refusal, refusal_of}
 use Rattle.load_model.specs.Step.{Answer, steady, done, answer_of, meant, spot_address, address_of}

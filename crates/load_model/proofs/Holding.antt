@@ -38,7 +38,7 @@ range_same f g (suc n) from h =
 
 -- ---- a span that is not refused lies in its object
 
-when_none : (b : Bool) (r : Refusal) → when b r ≡ None → b ≡ false
+pub when_none : (b : Bool) (r : Refusal) → when b r ≡ None → b ≡ false
 when_none true r h = cc
 when_none false r h = refl
 
@@ -146,7 +146,7 @@ held_histories_alike lib a b h agree all = all_by lib a b [] h agree all
 
 -- ---- commands
 
-no_name : (lib : Library) (e : Eager) (pid : ℕ) (how : Purpose) (place : Place) → place_refusal lib e pid how place ≡ None → number_of lib place.«module» ≡ None → ⊥
+pub no_name : (lib : Library) (e : Eager) (pid : ℕ) (how : Purpose) (place : Place) → place_refusal lib e pid how place ≡ None → number_of lib place.«module» ≡ None → ⊥
 unfolding place_refusal residence_named
 no_name lib e pid how place fine is =
     let wrong : Some NotAttached ≡ None =
@@ -157,7 +157,7 @@ no_name lib e pid how place fine is =
     some_none : (r : Refusal) → Some r ≡ None → ⊥
     some_none r h = cc
 
-attached_named : (lib : Library) (e : Eager) (pid : ℕ) (name : List ℕ) (m : ℕ) → number_of lib name ≡ Some m →
+pub attached_named : (lib : Library) (e : Eager) (pid : ℕ) (name : List ℕ) (m : ℕ) → number_of lib name ≡ Some m →
     attached_residence lib e pid (meant lib name) ≡ residence_named lib e pid name
 unfolding residence_named
 attached_named lib e pid name m is = ap (λ n. attached_residence lib e pid (unwrap_or n 0)) is ∙ sym (ap (found lib e pid) is)

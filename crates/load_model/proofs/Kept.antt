@@ -93,7 +93,7 @@ fresh_modules lib (m ∷ ms) serials spans fresh e =
     (λ bases xs h. fresh_modules lib ms (suc serials) (spans_of lib m bases ++ spans) xs h) (λ bases. refl) e
 
 -- an entry that enters was placed
-enter_step : (how : How) (m : ℕ) (calls : List Fresh → List Call) (r : Result (List Fresh) NoRoom) (fresh : List Fresh) (made : List Call) →
+pub enter_step : (how : How) (m : ℕ) (calls : List Fresh → List Call) (r : Result (List Fresh) NoRoom) (fresh : List Fresh) (made : List Call) →
     deeds.Enter how m fresh made ≡ elim r [ Ok xs ↦ deeds.Enter how m xs (calls xs) | Err none ↦ deeds.Full how m none.of none.object.object none.object.size ] →
     r ≡ Ok fresh
 enter_step how m calls (Ok xs) fresh made e = (let same : fresh ≡ xs = cc in ap Ok (sym same))

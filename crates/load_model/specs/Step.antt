@@ -1,8 +1,6 @@
 -- One step of the loader with one thread: what a command of a process is answered, and the state after it.
-use Rattle.std.specs.Prelude.{ℕ, List, [], Option, Some, None, unwrap_or, Result, Ok, Err}
+use Rattle.std.specs.Prelude.{◌≡◌, ℕ, List, [], Option, Some, None, unwrap_or, Result, Ok, Err, length}
 use Rattle.lx_types.specs.declared.entry.EntryKey.{EntryKey}
-use Rattle.lx_model.specs.declared.library.Spot.{Spot}
-use Rattle.lx_model.specs.declared.library.EntryFault.{EntryFault}
 use Rattle.load_model.specs.declared.commands.Place.{Place}
 use Rattle.load_model.specs.declared.commands.Command.{Command}
 use Rattle.load_model.specs.declared.commands.Command.TheVariants.{Start, Load, Free, Touch, Peek, Shared, Write, Query, Exit}
@@ -10,11 +8,11 @@ use Rattle.load_model.specs.declared.commands.Reply.{Reply}
 use Rattle.load_model.specs.declared.commands.Reply.TheVariants as replies
 use Rattle.load_model.specs.declared.deeds.How.TheVariants as ways
 use Rattle.load_model.specs.declared.deeds.Deed.{Deed}
-use Rattle.load_model.specs.Modules.{Library, Held, number_of, entry_spot, address_in}
+use Rattle.load_model.specs.Modules.{Spot, EntryFault, Library, Held, number_of, entry_spot, address_in}
 use Rattle.load_model.specs.State.{Residence, Eager, with_process, residence_of, serial_of, bases_of}
 use Rattle.load_model.specs.Memory.{Bytes, touching}
 use Rattle.load_model.specs.Refusals.{refusal_of, residence_named}
-use Rattle.load_model.specs.Asks.{enter, free, exit, put, get, deed_of, after_deed}
+use Rattle.load_model.specs.Asks.{Ask, enter, free, exit, put, get, deed_of, after_deed}
 
 -- A command gives an entry of the history, or is answered without one: touches, peeks, queries and what is
 -- refused are steady, since nothing that others do can change the answer.
@@ -83,3 +81,29 @@ after_answer lib e pid command (steady reply) = after_steady lib e pid command r
 unfoldable pub Step : Library → Held → Eager → ℕ → Command → Eager × Answer
 Step lib held e pid command =
     let answer = answer_of lib held e pid command in (after_answer lib e pid command answer, answer)
+
+-- ---- what a command asks
+
+-- what the entry of a command asks; a touch, a peek and a query ask nothing that others could see
+abbrev pub ask_by : Library → Eager → ℕ → Command → Option Ask
+ask_by lib e pid (Start name) = Some (enter ways.Start (meant lib name))
+ask_by lib e pid (Load name) = Some (enter ways.Load (meant lib name))
+ask_by lib e pid (Free name) = Some (free (meant lib name))
+ask_by lib e pid (Shared place) = Some (get (serial_named lib e pid place) (meant lib place.«module») place.object place.offset place.len)
+ask_by lib e pid (Write place bytes) = Some (put (serial_named lib e pid place) (meant lib place.«module») place.object place.offset bytes)
+ask_by lib e pid Exit = Some exit
+ask_by lib e pid (Touch place) = None
+ask_by lib e pid (Peek place) = None
+ask_by lib e pid (Query name key) = None
+
+-- a write has as many bytes as its place is long
+abbrev pub FitsPlace : Command → Type 0
+FitsPlace (Write place bytes) = length bytes ≡ place.len
+FitsPlace (Start name) = Unit {0}
+FitsPlace (Load name) = Unit {0}
+FitsPlace (Free name) = Unit {0}
+FitsPlace (Touch place) = Unit {0}
+FitsPlace (Peek place) = Unit {0}
+FitsPlace (Shared place) = Unit {0}
+FitsPlace (Query name key) = Unit {0}
+FitsPlace Exit = Unit {0}
