@@ -15,7 +15,7 @@ use Rattle.load_model.specs.Modules.{no_parts, Library, Held, module_count, numb
 use Rattle.load_model.specs.State.{serial_of, Residence, Process, Eager}
 use Rattle.load_model.specs.Refusals.{Purpose, write, share, when, started_refusal, enter_refusal, free_refusal, span_refusal, residence_refusal, residence_named, place_refusal, refusal_of}
 use Rattle.load_model.specs.Asks.{Ask, enter, free, exit, put, get, deed_of, may_ask, is_attached, is_serial}
-use Rattle.load_model.specs.Step.{Answer, entry, steady, meant, serial_named, done, answer_of, ask_by, FitsPlace}
+use Rattle.load_model.specs.Step.{Answer, entry, steady, meant, serial_named, fine_answer, answer_of, ask_by, FitsPlace}
 use Rattle.load_model.specs.Accepted.{AcceptedMayAsk}
 use Rattle.load_model.proofs.Bools.{and_true}
 use Rattle.load_model.proofs.Bytes.{named_is, left_none, right_none}
@@ -123,26 +123,26 @@ may_by lib e pid (commands.Shared place) ask fits h is = same_ask lib e pid _ as
 may_by lib e pid (commands.Write place bytes) ask fits h is = same_ask lib e pid _ ask (put_may lib e pid place bytes fits (opened lib e pid write place h)) is
 may_by lib e pid commands.Exit ask fits h is = same_ask lib e pid exit ask (exit_may lib e pid (when_none _ Ended h)) is
 
-accepted_by : (lib : Library) (held : Held) (e : Eager) (pid : ℕ) (command : Command) (ask : Ask) → ask_by lib e pid command ≡ Some ask →
-    done lib held e pid command ≡ entry (deed_of lib held e pid ask)
-unfolding done
-accepted_by lib held e pid (commands.Start name) ask is = (let same : enter ways.Start (meant lib name) ≡ ask = cc in ap (λ a. entry (deed_of lib held e pid a)) same)
-accepted_by lib held e pid (commands.Load name) ask is = (let same : enter ways.Load (meant lib name) ≡ ask = cc in ap (λ a. entry (deed_of lib held e pid a)) same)
-accepted_by lib held e pid (commands.Free name) ask is = (let same : free (meant lib name) ≡ ask = cc in ap (λ a. entry (deed_of lib held e pid a)) same)
-accepted_by lib held e pid (commands.Touch place) ask is = cc
-accepted_by lib held e pid (commands.Peek place) ask is = cc
-accepted_by lib held e pid (commands.Query name key) ask is = cc
-accepted_by lib held e pid (commands.Shared place) ask is =
+accepted_by : (lib : Library) (contents : Held) (e : Eager) (pid : ℕ) (command : Command) (ask : Ask) → ask_by lib e pid command ≡ Some ask →
+    fine_answer lib contents e pid command ≡ entry (deed_of lib contents e pid ask)
+unfolding fine_answer
+accepted_by lib contents e pid (commands.Start name) ask is = (let same : enter ways.Start (meant lib name) ≡ ask = cc in ap (λ a. entry (deed_of lib contents e pid a)) same)
+accepted_by lib contents e pid (commands.Load name) ask is = (let same : enter ways.Load (meant lib name) ≡ ask = cc in ap (λ a. entry (deed_of lib contents e pid a)) same)
+accepted_by lib contents e pid (commands.Free name) ask is = (let same : free (meant lib name) ≡ ask = cc in ap (λ a. entry (deed_of lib contents e pid a)) same)
+accepted_by lib contents e pid (commands.Touch place) ask is = cc
+accepted_by lib contents e pid (commands.Peek place) ask is = cc
+accepted_by lib contents e pid (commands.Query name key) ask is = cc
+accepted_by lib contents e pid (commands.Shared place) ask is =
     let same : get (serial_named lib e pid place) (meant lib place.«module») place.object place.offset place.len ≡ ask = cc in
-    ap (λ a. entry (deed_of lib held e pid a)) same
-accepted_by lib held e pid (commands.Write place bytes) ask is =
+    ap (λ a. entry (deed_of lib contents e pid a)) same
+accepted_by lib contents e pid (commands.Write place bytes) ask is =
     let same : put (serial_named lib e pid place) (meant lib place.«module») place.object place.offset bytes ≡ ask = cc in
-    ap (λ a. entry (deed_of lib held e pid a)) same
-accepted_by lib held e pid commands.Exit ask is = (let same : exit ≡ ask = cc in ap (λ a. entry (deed_of lib held e pid a)) same)
+    ap (λ a. entry (deed_of lib contents e pid a)) same
+accepted_by lib contents e pid commands.Exit ask is = (let same : exit ≡ ask = cc in ap (λ a. entry (deed_of lib contents e pid a)) same)
 
 pub accepted_may_ask : AcceptedMayAsk
 unfolding answer_of
-accepted_may_ask lib held e pid command ask fits h is = (
+accepted_may_ask lib contents e pid command ask fits h is = (
   may_by lib e pid command ask fits h is,
-  ap (λ r. elim r as (λ _. Answer) [ Some refusal ↦ steady (replies.Refused refusal) | None ↦ done lib held e pid command ]) h ∙ accepted_by lib held e pid command ask is,
+  ap (λ r. elim r as (λ _. Answer) [ Some refusal ↦ steady (replies.Refused refusal) | None ↦ fine_answer lib contents e pid command ]) h ∙ accepted_by lib contents e pid command ask is,
 )

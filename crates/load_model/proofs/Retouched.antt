@@ -10,9 +10,9 @@ use Rattle.load_model.specs.declared.deeds.How.TheVariants.{Start, Load}
 use Rattle.load_model.specs.declared.deeds.Deed.TheVariants as deeds
 use Rattle.load_model.specs.Modules.{Library, Held, object_at}
 use Rattle.load_model.specs.State.{PageOf, Residence, Process, Eager, with_process, reaches, is_reached, pids, residence_of, attached_residence}
-use Rattle.load_model.specs.Entering.{joined, newcomers, placed, resident_spans, entered, entering_calls, enter_deed}
+use Rattle.load_model.specs.Entering.{joined, newcomers, placing, resident_spans, after_entering, entering_calls, enter_deed}
 use Rattle.load_model.specs.Leaving.{left, gone_modules, gone, gone_of, term_of, leaving_calls, freeing, exiting}
-use Rattle.load_model.specs.Memory.{writes_of_class, covered, bases_seen, writes_seen, Byte, Bytes}
+use Rattle.load_model.specs.Memory.{writes_of_class, last_put, bases_seen, writes_seen, Byte, Bytes}
 use Rattle.load_model.specs.Refusals.{enter_refusal, module_refusal}
 use Rattle.load_model.specs.Asks.{bytes_at, Ask, enter, free, exit, fault, put, get, deed_of, may_ask}
 use Rattle.load_model.specs.Accepted.{retouched, TouchedIsApart}
@@ -59,7 +59,7 @@ may_same lib e touched pid (put serial m object offset bytes) = refl
 may_same lib e touched pid (get serial m object offset len) = refl
 
 enter_same : (lib : Library) (e : Eager) (touched : ℕ → List PageOf) (pid : ℕ) (how : How) (m : ℕ) → enter_deed lib (retouched touched e) pid how m ≡ enter_deed lib e pid how m
-unfolding enter_deed placed resident_spans newcomers joined entering_calls entered with_process reaches residence_of
+unfolding enter_deed placing resident_spans newcomers joined entering_calls after_entering with_process reaches residence_of
 enter_same lib e touched pid how m = refl
 
 class_same : (c : Class) (p : Process) (ts : List PageOf) (r : Residence) → writes_of_class c (record p { touched = ts }) r ≡ writes_of_class c p r
@@ -67,29 +67,29 @@ class_same classes.Code p ts r = refl
 class_same classes.Private p ts r = refl
 class_same classes.Shared p ts r = refl
 
-bytes_same : (lib : Library) (held : Held) (e : Eager) (touched : ℕ → List PageOf) (pid object offset len : ℕ) (r : Option Residence) →
-    bytes_at lib held (retouched touched e) pid object offset len r ≡ bytes_at lib held e pid object offset len r
+bytes_same : (lib : Library) (contents : Held) (e : Eager) (touched : ℕ → List PageOf) (pid object offset len : ℕ) (r : Option Residence) →
+    bytes_at lib contents (retouched touched e) pid object offset len r ≡ bytes_at lib contents e pid object offset len r
 unfolding Bytes Byte bases_seen writes_seen residence_of
-bytes_same lib held e touched pid object offset len None = refl
-bytes_same lib held e touched pid object offset len (Some r) =
-    ap (λ writes. map (λ x. covered (filter (λ w. w.object == object) writes) x (held r.«module» (bases_seen lib e r.«module») object x)) (range_with_len offset len))
+bytes_same lib contents e touched pid object offset len None = refl
+bytes_same lib contents e touched pid object offset len (Some r) =
+    ap (λ writes. map (λ x. last_put (filter (λ w. w.object == object) writes) x (contents r.«module» (bases_seen lib e r.«module») object x)) (range_with_len offset len))
     (class_same (class_of (object_at lib r.«module» object)) (e.processes pid) (touched pid) r)
 
-deed_same : (lib : Library) (held : Held) (e : Eager) (touched : ℕ → List PageOf) (pid : ℕ) (ask : Ask) → deed_of lib held (retouched touched e) pid ask ≡ deed_of lib held e pid ask
+deed_same : (lib : Library) (contents : Held) (e : Eager) (touched : ℕ → List PageOf) (pid : ℕ) (ask : Ask) → deed_of lib contents (retouched touched e) pid ask ≡ deed_of lib contents e pid ask
 unfolding deed_of attached_residence residence_of reaches Bytes Byte bases_seen writes_seen
-deed_same lib held e touched pid (enter how m) = enter_same lib e touched pid how m
-deed_same lib held e touched pid (free m) =
+deed_same lib contents e touched pid (enter how m) = enter_same lib e touched pid how m
+deed_same lib contents e touched pid (free m) =
     ap (λ calls. deeds.Free m calls (gone lib (retouched touched e) pid (record (freeing m (e.processes pid)) { touched = touched pid })))
     (calls_same lib e touched pid (freeing m (e.processes pid)) (touched pid))
     ∙ ap (deeds.Free m (leaving_calls lib e pid (freeing m (e.processes pid)))) (gone_list_same lib e touched pid (freeing m (e.processes pid)) (touched pid))
-deed_same lib held e touched pid exit =
+deed_same lib contents e touched pid exit =
     ap (λ calls. deeds.Exit calls (gone lib (retouched touched e) pid (record (exiting (e.processes pid)) { touched = touched pid })))
     (calls_same lib e touched pid (exiting (e.processes pid)) (touched pid))
     ∙ ap (deeds.Exit (leaving_calls lib e pid (exiting (e.processes pid)))) (gone_list_same lib e touched pid (exiting (e.processes pid)) (touched pid))
-deed_same lib held e touched pid (fault serial m p) = refl
-deed_same lib held e touched pid (put serial m object offset bytes) = refl
-deed_same lib held e touched pid (get serial m object offset len) =
-    ap (deeds.Shared serial m object offset) (bytes_same lib held e touched pid object offset len (attached_residence lib e pid m))
+deed_same lib contents e touched pid (fault serial m p) = refl
+deed_same lib contents e touched pid (put serial m object offset bytes) = refl
+deed_same lib contents e touched pid (get serial m object offset len) =
+    ap (deeds.Shared serial m object offset) (bytes_same lib contents e touched pid object offset len (attached_residence lib e pid m))
 
 pub touched_is_apart : TouchedIsApart
-touched_is_apart lib held e touched pid ask = (may_same lib e touched pid ask, deed_same lib held e touched pid ask)
+touched_is_apart lib contents e touched pid ask = (may_same lib e touched pid ask, deed_same lib contents e touched pid ask)

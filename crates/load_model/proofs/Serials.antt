@@ -11,10 +11,10 @@ use Rattle.load_model.specs.declared.deeds.Entry.{Entry}
 use Rattle.load_model.specs.Modules.{Library, Held}
 use Rattle.load_model.specs.Places.{NoPlace, Span}
 use Rattle.load_model.specs.State.{Residence, Process, Eager, Written, with_process}
-use Rattle.load_model.specs.Entering.{NoRoom, spans_of, bases_for, placed, placed_from, with_fresh, residence_from, entered, enter_deed, entering_calls, newcomers}
+use Rattle.load_model.specs.Entering.{NoRoom, spans_of, bases_for, placing, placed_from, with_fresh, residence_from, after_entering, enter_deed, entering_calls, newcomers}
 use Rattle.load_model.specs.Leaving.{after_leaving}
 use Rattle.load_model.specs.Memory.{with_write}
-use Rattle.load_model.specs.Asks.{written, asked, deed_of, after_deed}
+use Rattle.load_model.specs.Asks.{after_write, ask_in, deed_of, after_deed}
 use Rattle.load_model.specs.Histories.{state_after, AllFollow, Legal}
 use Rattle.load_model.specs.Serials.{Rise, SerialsRise}
 use Rattle.load_model.proofs.Growing.{one_more_is_after}
@@ -104,14 +104,14 @@ written_serials serial w (r ∷ rs) = ap (λ n. n ∷ map (λ x. x.serial) (map 
     step true = refl
     step false = refl
 
-written_rises : (e : Eager) (pid serial : ℕ) (w : Written) (class : Class) → Rising e → Rising (written e pid serial w class)
+written_rises : (e : Eager) (pid serial : ℕ) (w : Written) (class : Class) → Rising e → Rising (after_write e pid serial w class)
 unfolding with_process
 written_rises e pid serial w classes.Code h = h
 written_rises e pid serial w classes.Private h = h
 written_rises e pid serial w classes.Shared h = subst (λ ns. Rise 0 ns e.serials) (sym (written_serials serial w e.residences)) h
 
-entered_rises : (lib : Library) (e : Eager) (pid : ℕ) (how : How) (m : ℕ) (fresh : List Fresh) → placed lib e pid m ≡ Ok fresh → Rising e → Rising (entered lib e pid how m fresh)
-unfolding entered with_process placed
+entered_rises : (lib : Library) (e : Eager) (pid : ℕ) (how : How) (m : ℕ) (fresh : List Fresh) → placing lib e pid m ≡ Ok fresh → Rising e → Rising (after_entering lib e pid how m fresh)
+unfolding after_entering with_process placing
 entered_rises lib e pid how m fresh is h =
     subst (λ ns. Rise 0 ns (e.serials + length fresh)) (sym (map_append (λ r. r.serial) e.residences (map residence_from fresh) ∙ ap (λ ns. map (λ r. r.serial) e.residences ++ ns) (fresh_serials fresh)))
     (rise_join 0 (map (λ r. r.serial) e.residences) e.serials (map (λ f. f.serial) fresh) (e.serials + length fresh) h
@@ -121,28 +121,28 @@ left_rises : (lib : Library) (e : Eager) (pid : ℕ) (p : Process) → Rising e 
 unfolding after_leaving with_process
 left_rises lib e pid p h = rise_filter _ 0 e.residences e.serials h
 
-deed_rises : (lib : Library) (held : Held) (e : Eager) (pid : ℕ) (d : Deed) → d ≡ deed_of lib held e pid (asked d) → Rising e → Rising (after_deed lib e pid d)
+deed_rises : (lib : Library) (contents : Held) (e : Eager) (pid : ℕ) (d : Deed) → d ≡ deed_of lib contents e pid (ask_in d) → Rising e → Rising (after_deed lib e pid d)
 unfolding after_deed deed_of enter_deed
-deed_rises lib held e pid (deeds.Enter how m fresh calls) is h =
-    entered_rises lib e pid how m fresh (enter_step how m (λ xs. entering_calls lib e pid how m xs) (placed lib e pid m) fresh calls is) h
-deed_rises lib held e pid (deeds.Full how m of object size) is h = h
-deed_rises lib held e pid (deeds.Free m calls gone) is h = left_rises lib e pid _ h
-deed_rises lib held e pid (deeds.Exit calls gone) is h = left_rises lib e pid _ h
-deed_rises lib held e pid (deeds.Fault serial m p) is h = h
-deed_rises lib held e pid (deeds.Write serial m object offset bytes) is h = written_rises e pid serial _ _ h
-deed_rises lib held e pid (deeds.Shared serial m object offset bytes) is h = h
+deed_rises lib contents e pid (deeds.Enter how m fresh calls) is h =
+    entered_rises lib e pid how m fresh (enter_step how m (λ xs. entering_calls lib e pid how m xs) (placing lib e pid m) fresh calls is) h
+deed_rises lib contents e pid (deeds.Full how m of object size) is h = h
+deed_rises lib contents e pid (deeds.Free m calls gone) is h = left_rises lib e pid _ h
+deed_rises lib contents e pid (deeds.Exit calls gone) is h = left_rises lib e pid _ h
+deed_rises lib contents e pid (deeds.Fault serial m p) is h = h
+deed_rises lib contents e pid (deeds.Write serial m object offset bytes) is h = written_rises e pid serial _ _ h
+deed_rises lib contents e pid (deeds.Shared serial m object offset bytes) is h = h
 
-all_rise : (lib : Library) (held : Held) (before h : List Entry) → AllFollow lib held before h → Rising (state_after lib before) → Rising (state_after lib (before ++ h))
-all_rise lib held before [] all r = subst (λ b. Rising (state_after lib b)) (sym (append-nil before)) r
-all_rise lib held before (x ∷ h) all r =
+all_rise : (lib : Library) (contents : Held) (before h : List Entry) → AllFollow lib contents before h → Rising (state_after lib before) → Rising (state_after lib (before ++ h))
+all_rise lib contents before [] all r = subst (λ b. Rising (state_after lib b)) (sym (append-nil before)) r
+all_rise lib contents before (x ∷ h) all r =
     let next : Rising (state_after lib (before ++ x ∷ [])) =
-    subst Rising (sym (one_more_is_after lib before x)) (deed_rises lib held (state_after lib before) x.pid x.deed all.0.done r)
+    subst Rising (sym (one_more_is_after lib before x)) (deed_rises lib contents (state_after lib before) x.pid x.deed all.0.done r)
     in
-    subst (λ b. Rising (state_after lib b)) (append_assoc before (x ∷ []) h) (all_rise lib held (before ++ x ∷ []) h all.1 next)
+    subst (λ b. Rising (state_after lib b)) (append_assoc before (x ∷ []) h) (all_rise lib contents (before ++ x ∷ []) h all.1 next)
 
 pub serials_rise : SerialsRise
 unfolding Legal state_after
-serials_rise lib held h all = all_rise lib held [] h all (none 0)
+serials_rise lib contents h all = all_rise lib contents [] h all (none 0)
   where
     none : (n : ℕ) → n ≤ n
     none n = omega arith

@@ -10,8 +10,8 @@ use Rattle.load_model.specs.Step.{entry, answer_of, ask_by, FitsPlace}
 -- What a command asks that is not refused may be asked, and its entry is what the loader does then.
 abbrev pub AcceptedMayAsk : Type 0
 AcceptedMayAsk =
-    (lib : Library) (held : Held) (e : Eager) (pid : ℕ) (command : Command) (ask : Ask) → FitsPlace command → refusal_of lib e pid command ≡ None →
-    ask_by lib e pid command ≡ Some ask → (may_ask lib e pid ask ≡ true) × (answer_of lib held e pid command ≡ entry (deed_of lib held e pid ask))
+    (lib : Library) (contents : Held) (e : Eager) (pid : ℕ) (command : Command) (ask : Ask) → FitsPlace command → refusal_of lib e pid command ≡ None →
+    ask_by lib e pid command ≡ Some ask → (may_ask lib e pid ask ≡ true) × (answer_of lib contents e pid command ≡ entry (deed_of lib contents e pid ask))
 
 -- the state with other touched pages of each process
 abbrev pub retouched : (ℕ → List PageOf) → Eager → Eager
@@ -20,5 +20,5 @@ retouched touched e = record e { processes = λ pid. record (e.processes pid) { 
 -- Whatever the processes touched, the same may be asked, and the same is done.
 abbrev pub TouchedIsApart : Type 0
 TouchedIsApart =
-    (lib : Library) (held : Held) (e : Eager) (touched : ℕ → List PageOf) (pid : ℕ) (ask : Ask) →
-    (may_ask lib (retouched touched e) pid ask ≡ may_ask lib e pid ask) × (deed_of lib held (retouched touched e) pid ask ≡ deed_of lib held e pid ask)
+    (lib : Library) (contents : Held) (e : Eager) (touched : ℕ → List PageOf) (pid : ℕ) (ask : Ask) →
+    (may_ask lib (retouched touched e) pid ask ≡ may_ask lib e pid ask) × (deed_of lib contents (retouched touched e) pid ask ≡ deed_of lib contents e pid ask)

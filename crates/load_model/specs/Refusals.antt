@@ -112,12 +112,12 @@ residence_refusal lib p purpose place (Some r) =
     orelse touch_refusal purpose p r.serial place.object place.offset place.len
 
 -- the residence of a module by name, where a process reaches it
-abbrev pub found : Library → Eager → ℕ → Option ℕ → Option Residence
-found lib e pid None = None
-found lib e pid (Some m) = attached_residence lib e pid m
+abbrev pub residence_if : Library → Eager → ℕ → Option ℕ → Option Residence
+residence_if lib e pid None = None
+residence_if lib e pid (Some m) = attached_residence lib e pid m
 
 unfoldable pub residence_named : Library → Eager → ℕ → List ℕ → Option Residence
-residence_named lib e pid name = found lib e pid (number_of lib name)
+residence_named lib e pid name = residence_if lib e pid (number_of lib name)
 
 unfoldable pub place_refusal : Library → Eager → ℕ → Purpose → Place → Option Refusal
 place_refusal lib e pid purpose place =

@@ -12,5 +12,5 @@ Rise low (n ∷ ns) high = (low < n) × Rise n ns high
 -- In every legal history the residences stand by rising serial numbers, from 1 to the last that was given.
 abbrev pub SerialsRise : Type 0
 SerialsRise =
-    (lib : Library) (held : Held) (h : List Entry) → Legal lib held h →
+    (lib : Library) (contents : Held) (h : List Entry) → Legal lib contents h →
     Rise 0 (map (λ r. r.serial) (state_after lib h).residences) (state_after lib h).serials

@@ -35,33 +35,33 @@ unfoldable pub address_of : Library → Eager → ℕ → List ℕ → EntryKey 
 address_of lib e pid name key = spot_address e (entry_spot lib (meant lib name) key)
 
 abbrev pub bytes_of : Library → Held → Eager → ℕ → Place → Option Residence → List ℕ
-bytes_of lib held e pid place None = []
-bytes_of lib held e pid place (Some r) = Bytes lib held e pid r place.object place.offset place.len
+bytes_of lib contents e pid place None = []
+bytes_of lib contents e pid place (Some r) = Bytes lib contents e pid r place.object place.offset place.len
 
 -- the serial number of the residence in which a place is
 abbrev pub serial_named : Library → Eager → ℕ → Place → ℕ
 serial_named lib e pid place = serial_of (residence_named lib e pid place.«module»)
 
-unfoldable pub done : Library → Held → Eager → ℕ → Command → Answer
-done lib held e pid (Start name) = entry (deed_of lib held e pid (enter ways.Start (meant lib name)))
-done lib held e pid (Load name) = entry (deed_of lib held e pid (enter ways.Load (meant lib name)))
-done lib held e pid (Free name) = entry (deed_of lib held e pid (free (meant lib name)))
-done lib held e pid (Touch place) = steady replies.Fine
-done lib held e pid (Peek place) = steady (replies.Bytes (bytes_of lib held e pid place (residence_named lib e pid place.«module»)))
-done lib held e pid (Shared place) =
-    entry (deed_of lib held e pid (get (serial_named lib e pid place) (meant lib place.«module») place.object place.offset place.len))
-done lib held e pid (Write place bytes) =
-    entry (deed_of lib held e pid (put (serial_named lib e pid place) (meant lib place.«module») place.object place.offset bytes))
-done lib held e pid (Query name key) = steady (replies.Address (address_of lib e pid name key))
-done lib held e pid Exit = entry (deed_of lib held e pid exit)
+unfoldable pub fine_answer : Library → Held → Eager → ℕ → Command → Answer
+fine_answer lib contents e pid (Start name) = entry (deed_of lib contents e pid (enter ways.Start (meant lib name)))
+fine_answer lib contents e pid (Load name) = entry (deed_of lib contents e pid (enter ways.Load (meant lib name)))
+fine_answer lib contents e pid (Free name) = entry (deed_of lib contents e pid (free (meant lib name)))
+fine_answer lib contents e pid (Touch place) = steady replies.Fine
+fine_answer lib contents e pid (Peek place) = steady (replies.Bytes (bytes_of lib contents e pid place (residence_named lib e pid place.«module»)))
+fine_answer lib contents e pid (Shared place) =
+    entry (deed_of lib contents e pid (get (serial_named lib e pid place) (meant lib place.«module») place.object place.offset place.len))
+fine_answer lib contents e pid (Write place bytes) =
+    entry (deed_of lib contents e pid (put (serial_named lib e pid place) (meant lib place.«module») place.object place.offset bytes))
+fine_answer lib contents e pid (Query name key) = steady (replies.Address (address_of lib e pid name key))
+fine_answer lib contents e pid Exit = entry (deed_of lib contents e pid exit)
 
 -- ---- the step
 
 -- the first refusal of a command, or what it does
 unfoldable pub answer_of : Library → Held → Eager → ℕ → Command → Answer
-answer_of lib held e pid command = elim (refusal_of lib e pid command) [
+answer_of lib contents e pid command = elim (refusal_of lib e pid command) [
   | Some refusal ↦ steady (replies.Refused refusal)
-  | None ↦ done lib held e pid command
+  | None ↦ fine_answer lib contents e pid command
 ]
 
 abbrev pub after_touch : Library → Eager → ℕ → Place → Eager
@@ -79,8 +79,8 @@ after_answer lib e pid command (steady reply) = after_steady lib e pid command r
 
 -- the state after a command, and its answer
 unfoldable pub Step : Library → Held → Eager → ℕ → Command → Eager × Answer
-Step lib held e pid command =
-    let answer = answer_of lib held e pid command in (after_answer lib e pid command answer, answer)
+Step lib contents e pid command =
+    let answer = answer_of lib contents e pid command in (after_answer lib e pid command answer, answer)
 
 -- ---- what a command asks
 
