@@ -2,17 +2,15 @@
 use Rattle.std.proofs.Common.{◌≡◌, ℕ, true, List, Option, Some, None, Result, Ok, Err, refl, sym, ◌∙◌, ap}
 use Rattle.std.specs.Prelude.{unwrap_or}
 use Rattle.lx_types.specs.declared.entry.EntryKey.{EntryKey}
-use Rattle.lx_model.specs.declared.library.Spot.{Spot}
-use Rattle.lx_model.specs.declared.library.EntryFault.{EntryFault}
 use Rattle.load_model.specs.declared.commands.Command.{Command}
 use Rattle.load_model.specs.declared.commands.Command.TheVariants as commands
 use Rattle.load_model.specs.declared.commands.Refusal.{Refusal}
 use Rattle.load_model.specs.declared.commands.Refusal.TheVariants.{Ended}
 use Rattle.load_model.specs.declared.commands.Reply.TheVariants as replies
-use Rattle.load_model.specs.Modules.{Library, Held, number_of, entry_spot, address_in}
+use Rattle.load_model.specs.Modules.{Spot, EntryFault, Library, Held, number_of, entry_spot, address_in}
 use Rattle.load_model.specs.State.{Residence, Eager, reaches, residence_of}
 use Rattle.load_model.specs.Refusals.{when, key_refusal, residence_named, query_refusal, refusal_of}
-use Rattle.load_model.specs.Step.{Answer, steady, done, answer_of, meant, spot_address, address_of}
+use Rattle.load_model.specs.Step.{Answer, steady, fine_answer, answer_of, meant, spot_address, address_of}
 use Rattle.load_model.specs.Histories.{state_after}
 use Rattle.load_model.specs.Laws.{IsSteady, OthersAnswerAlike}
 use Rattle.load_model.proofs.Residents.{done_by, legal_kept}
@@ -47,43 +45,43 @@ address_alike nest spots lib e after q name key alike fine =
 
 -- ---- answers
 
-done_alike : OrdersNest → SpotsAreOrdered → (lib : Library) (held : Held) (e after : Eager) (q : ℕ) (command : Command) → Alike lib e after q → IsSteady command →
-    refusal_of lib e q command ≡ None → done lib held after q command ≡ done lib held e q command
-unfolding done refusal_of
-done_alike nest spots lib held e after q (commands.Touch place) alike is fine = refl
-done_alike nest spots lib held e after q (commands.Peek place) alike is fine = ap (λ bytes. steady (replies.Bytes bytes)) (peek_alike nest lib held e after q place alike fine)
-done_alike nest spots lib held e after q (commands.Query name key) alike is fine =
+done_alike : OrdersNest → SpotsAreOrdered → (lib : Library) (contents : Held) (e after : Eager) (q : ℕ) (command : Command) → Alike lib e after q → IsSteady command →
+    refusal_of lib e q command ≡ None → fine_answer lib contents after q command ≡ fine_answer lib contents e q command
+unfolding fine_answer refusal_of
+done_alike nest spots lib contents e after q (commands.Touch place) alike is fine = refl
+done_alike nest spots lib contents e after q (commands.Peek place) alike is fine = ap (λ bytes. steady (replies.Bytes bytes)) (peek_alike nest lib contents e after q place alike fine)
+done_alike nest spots lib contents e after q (commands.Query name key) alike is fine =
     ap (λ a. steady (replies.Address a)) (address_alike nest spots lib e after q name key alike fine)
-done_alike nest spots lib held e after q (commands.Start name) alike is fine = absurd is
-done_alike nest spots lib held e after q (commands.Load name) alike is fine = absurd is
-done_alike nest spots lib held e after q (commands.Free name) alike is fine = absurd is
-done_alike nest spots lib held e after q (commands.Shared place) alike is fine = absurd is
-done_alike nest spots lib held e after q (commands.Write place bytes) alike is fine = absurd is
-done_alike nest spots lib held e after q commands.Exit alike is fine = absurd is
+done_alike nest spots lib contents e after q (commands.Start name) alike is fine = absurd is
+done_alike nest spots lib contents e after q (commands.Load name) alike is fine = absurd is
+done_alike nest spots lib contents e after q (commands.Free name) alike is fine = absurd is
+done_alike nest spots lib contents e after q (commands.Shared place) alike is fine = absurd is
+done_alike nest spots lib contents e after q (commands.Write place bytes) alike is fine = absurd is
+done_alike nest spots lib contents e after q commands.Exit alike is fine = absurd is
 
 abbrev answer_by : Answer → Option Refusal → Answer
 answer_by other (Some refusal) = steady (replies.Refused refusal)
 answer_by other None = other
 
-answer_is : (lib : Library) (held : Held) (e : Eager) (q : ℕ) (command : Command) → answer_of lib held e q command ≡ answer_by (done lib held e q command) (refusal_of lib e q command)
+answer_is : (lib : Library) (contents : Held) (e : Eager) (q : ℕ) (command : Command) → answer_of lib contents e q command ≡ answer_by (fine_answer lib contents e q command) (refusal_of lib e q command)
 unfolding answer_of
-answer_is lib held e q command = step (refusal_of lib e q command)
+answer_is lib contents e q command = step (refusal_of lib e q command)
   where
-    step : (r : Option Refusal) → elim r as (λ _. Answer) [ Some refusal ↦ steady (replies.Refused refusal) | None ↦ done lib held e q command ] ≡ answer_by (done lib held e q command) r
+    step : (r : Option Refusal) → elim r as (λ _. Answer) [ Some refusal ↦ steady (replies.Refused refusal) | None ↦ fine_answer lib contents e q command ] ≡ answer_by (fine_answer lib contents e q command) r
     step None = refl
     step (Some refusal) = refl
 
-answer_alike : OrdersNest → SpotsAreOrdered → (lib : Library) (held : Held) (e after : Eager) (q : ℕ) (command : Command) → Alike lib e after q → IsSteady command →
-    answer_of lib held after q command ≡ answer_of lib held e q command
-answer_alike nest spots lib held e after q command alike is =
-    answer_is lib held after q command ∙ ap (answer_by (done lib held after q command)) (refusal_alike lib e after q command alike)
-    ∙ step (refusal_of lib e q command) refl ∙ sym (answer_is lib held e q command)
+answer_alike : OrdersNest → SpotsAreOrdered → (lib : Library) (contents : Held) (e after : Eager) (q : ℕ) (command : Command) → Alike lib e after q → IsSteady command →
+    answer_of lib contents after q command ≡ answer_of lib contents e q command
+answer_alike nest spots lib contents e after q command alike is =
+    answer_is lib contents after q command ∙ ap (answer_by (fine_answer lib contents after q command)) (refusal_alike lib e after q command alike)
+    ∙ step (refusal_of lib e q command) refl ∙ sym (answer_is lib contents e q command)
   where
-    step : (r : Option Refusal) → refusal_of lib e q command ≡ r → answer_by (done lib held after q command) r ≡ answer_by (done lib held e q command) r
+    step : (r : Option Refusal) → refusal_of lib e q command ≡ r → answer_by (fine_answer lib contents after q command) r ≡ answer_by (fine_answer lib contents e q command) r
     step (Some refusal) h = refl
-    step None h = done_alike nest spots lib held e after q command alike is h
+    step None h = done_alike nest spots lib contents e after q command alike is h
 
 pub others_answer_alike : OrdersNest → SpotsAreOrdered → OthersAnswerAlike
-others_answer_alike nest spots lib held h x pid command legal follows there apart is =
-    answer_alike nest spots lib held (state_after lib h) _ pid command
-    (deed_alike lib held (state_after lib h) x.pid x.deed pid (done_by lib held h x follows) (legal_kept lib held h legal) there apart) is
+others_answer_alike nest spots lib contents h x pid command legal follows there apart is =
+    answer_alike nest spots lib contents (state_after lib h) _ pid command
+    (deed_alike lib contents (state_after lib h) x.pid x.deed pid (done_by lib contents h x follows) (legal_kept lib contents h legal) there apart) is

@@ -12,11 +12,10 @@ use Rattle.load_model.specs.declared.deeds.Deed.{Deed}
 use Rattle.load_model.specs.declared.deeds.Deed.TheVariants as deeds
 use Rattle.load_model.specs.Modules.{Library, Held, number_of}
 use Rattle.load_model.specs.State.{Residence, Process, Eager, Written, is_among, pids, reaches, residence_of, attached_residence}
-use Rattle.load_model.specs.Entering.{entered, with_fresh_residences}
+use Rattle.load_model.specs.Entering.{after_entering, with_fresh_residences}
 use Rattle.load_model.specs.Leaving.{after_leaving}
-use Rattle.load_model.specs.Refusals.{Purpose, touch, write, share, peek, ◌orelse◌, when, enter_refusal, free_refusal, residence_refusal, found, residence_named, place_refusal, key_refusal, query_refusal, refusal_of}
-use Rattle.load_model.specs.Asks.{written, after_deed}
-use Rattle.load_model.specs.Step.{done}
+use Rattle.load_model.specs.Refusals.{Purpose, touch, write, share, peek, ◌orelse◌, when, enter_refusal, free_refusal, residence_refusal, residence_if, residence_named, place_refusal, key_refusal, query_refusal, refusal_of}
+use Rattle.load_model.specs.Asks.{after_write, after_deed}
 use Rattle.load_model.specs.Histories.{state_after}
 use Rattle.load_model.specs.Laws.{stay_of, OthersRefuseAlike}
 use Rattle.load_model.proofs.Kept.{Kept, process_apart}
@@ -26,13 +25,13 @@ use Rattle.load_model.proofs.Stays.{deed_stays, resident_reached}
 
 -- ---- the process itself
 
-written_apart : (e : Eager) (pid serial : ℕ) (w : Written) (class : Class) (q : ℕ) → (q == pid) ≡ false → (written e pid serial w class).processes q ≡ e.processes q
+written_apart : (e : Eager) (pid serial : ℕ) (w : Written) (class : Class) (q : ℕ) → (q == pid) ≡ false → (after_write e pid serial w class).processes q ≡ e.processes q
 written_apart e pid serial w classes.Code q h = refl
 written_apart e pid serial w classes.Private q h = process_apart e pid _ q h
 written_apart e pid serial w classes.Shared q h = refl
 
 process_stays : (lib : Library) (e : Eager) (pid : ℕ) (d : Deed) (q : ℕ) → (q == pid) ≡ false → (after_deed lib e pid d).processes q ≡ e.processes q
-unfolding after_deed entered after_leaving
+unfolding after_deed after_entering after_leaving
 process_stays lib e pid (deeds.Enter how m fresh calls) q h = process_apart (with_fresh_residences e fresh) pid _ q h
 process_stays lib e pid (deeds.Full how m of object size) q h = refl
 process_stays lib e pid (deeds.Free m calls gone) q h = process_apart e pid _ q h
@@ -47,14 +46,14 @@ pub record Alike (lib : Library) (e after : Eager) (q : ℕ) : Type 0 where
   pub process : after.processes q ≡ e.processes q
   pub stays : (m : ℕ) → reaches lib (e.processes q) m ≡ true → stay_of (residence_of after m) ≡ stay_of (residence_of e m)
 
-pub deed_alike : (lib : Library) (held : Held) (e : Eager) (pid : ℕ) (d : Deed) (q : ℕ) → Done lib held e pid d → Kept lib e → is_among pids q ≡ true →
+pub deed_alike : (lib : Library) (contents : Held) (e : Eager) (pid : ℕ) (d : Deed) (q : ℕ) → Done lib contents e pid d → Kept lib e → is_among pids q ≡ true →
     (q == pid) ≡ false → Alike lib e (after_deed lib e pid d) q
-deed_alike lib held e pid d q done kept there h =
+deed_alike lib contents e pid d q done kept there h =
     let same : (after_deed lib e pid d).processes q ≡ e.processes q = process_stays lib e pid d q h in
     record {
       process = same;
       stays = λ m reached.
-          deed_stays lib held e pid d m done kept (resident_reached lib e m kept ∙ one_reaches lib e q m there reached)
+          deed_stays lib contents e pid d m done kept (resident_reached lib e m kept ∙ one_reaches lib e q m there reached)
           (one_reaches lib (after_deed lib e pid d) q m there (ap (λ p. reaches lib p m) same ∙ reached));
     }
 
@@ -72,7 +71,7 @@ pub named_stays : (lib : Library) (e after : Eager) (q : ℕ) (name : List ℕ) 
 unfolding residence_named
 named_stays lib e after q name alike = step (number_of lib name)
   where
-    step : (n : Option ℕ) → stay_of (found lib after q n) ≡ stay_of (found lib e q n)
+    step : (n : Option ℕ) → stay_of (residence_if lib after q n) ≡ stay_of (residence_if lib e q n)
     step None = refl
     step (Some m) = attached_stays lib e after q m alike
 
@@ -116,5 +115,5 @@ refusal_alike lib e after q (commands.Query name key) alike = query_alike lib e 
 refusal_alike lib e after q commands.Exit alike = ap (λ p. when p.ended Ended) alike.process
 
 pub others_refuse_alike : OthersRefuseAlike
-others_refuse_alike lib held h x pid command legal follows there apart =
-    refusal_alike lib (state_after lib h) _ pid command (deed_alike lib held (state_after lib h) x.pid x.deed pid (done_by lib held h x follows) (legal_kept lib held h legal) there apart)
+others_refuse_alike lib contents h x pid command legal follows there apart =
+    refusal_alike lib (state_after lib h) _ pid command (deed_alike lib contents (state_after lib h) x.pid x.deed pid (done_by lib contents h x follows) (legal_kept lib contents h legal) there apart)

@@ -13,8 +13,8 @@ use Rattle.load_model.specs.declared.commands.Refusal.{Refusal}
 use Rattle.load_model.specs.declared.commands.Refusal.TheVariants.{Ended}
 use Rattle.load_model.specs.Modules.{Library, Held, number_of, order_of, object_at}
 use Rattle.load_model.specs.State.{Residence, Process, Eager, Written, is_among, reaches, residence_of, attached_residence, bases_of}
-use Rattle.load_model.specs.Memory.{writes_of_class, writes_seen, bases_seen, covered, Byte, Bytes}
-use Rattle.load_model.specs.Refusals.{peek, ◌orelse◌, when, class_refusal, span_refusal, residence_refusal, found, residence_named, place_refusal}
+use Rattle.load_model.specs.Memory.{writes_of_class, writes_seen, bases_seen, last_put, Byte, Bytes}
+use Rattle.load_model.specs.Refusals.{peek, ◌orelse◌, when, class_refusal, span_refusal, residence_refusal, residence_if, residence_named, place_refusal}
 use Rattle.load_model.specs.Step.{bytes_of}
 use Rattle.load_model.specs.Laws.{stay_of}
 use Rattle.load_model.proofs.Orders.{OrdersNest, reaches_closed}
@@ -61,7 +61,7 @@ pub named_is : (lib : Library) (e : Eager) (q : ℕ) (name : List ℕ) (a : Resi
 unfolding residence_named
 named_is lib e q name a is = step (number_of lib name) refl is
   where
-    step : (n : Option ℕ) → number_of lib name ≡ n → found lib e q n ≡ Some a → (reaches lib (e.processes q) a.«module» ≡ true) × (number_of lib name ≡ Some a.«module»)
+    step : (n : Option ℕ) → number_of lib name ≡ n → residence_if lib e q n ≡ Some a → (reaches lib (e.processes q) a.«module» ≡ true) × (number_of lib name ≡ Some a.«module»)
     step None h is = cc
     step (Some m) h is =
         let it : (reaches lib (e.processes q) m ≡ true) × (a.«module» ≡ m) = attached_is lib e q m a is in
@@ -123,29 +123,29 @@ seen_alike : (lib : Library) (p : Process) (a : Residence) (ws : List Written) (
 unfolding writes_seen
 seen_alike lib p a ws object h = ap (filter (λ w. w.object == object)) (not_shared (class_of (object_at lib a.«module» object)) p a ws h)
 
-bytes_alike : OrdersNest → (lib : Library) (held : Held) (e after : Eager) (q : ℕ) (a : Residence) (ws : List Written) (object offset len : ℕ) → Alike lib e after q →
+bytes_alike : OrdersNest → (lib : Library) (contents : Held) (e after : Eager) (q : ℕ) (a : Residence) (ws : List Written) (object offset len : ℕ) → Alike lib e after q →
     reaches lib (e.processes q) a.«module» ≡ true → class_refusal peek (class_of (object_at lib a.«module» object)) ≡ None →
-    Bytes lib held after q (with_writes a ws) object offset len ≡ Bytes lib held e q a object offset len
+    Bytes lib contents after q (with_writes a ws) object offset len ≡ Bytes lib contents e q a object offset len
 unfolding Bytes Byte
-bytes_alike nest lib held e after q a ws object offset len alike reached class =
-    let F : List Written → Bases → List ℕ = λ writes bases. map (λ x. covered writes x (held a.«module» bases object x)) (range_with_len offset len) in
+bytes_alike nest lib contents e after q a ws object offset len alike reached class =
+    let F : List Written → Bases → List ℕ = λ writes bases. map (λ x. last_put writes x (contents a.«module» bases object x)) (range_with_len offset len) in
     ap (λ p. F (writes_seen lib p (with_writes a ws) object) (bases_seen lib after a.«module»)) alike.process
     ∙ ap (λ writes. F writes (bases_seen lib after a.«module»)) (seen_alike lib (e.processes q) a ws object class)
     ∙ ap (F (writes_seen lib (e.processes q) a object)) (bases_alike nest lib e after q a.«module» alike reached)
 
-pub peek_alike : OrdersNest → (lib : Library) (held : Held) (e after : Eager) (q : ℕ) (place : Place) → Alike lib e after q → place_refusal lib e q peek place ≡ None →
-    bytes_of lib held after q place (residence_named lib after q place.«module») ≡ bytes_of lib held e q place (residence_named lib e q place.«module»)
+pub peek_alike : OrdersNest → (lib : Library) (contents : Held) (e after : Eager) (q : ℕ) (place : Place) → Alike lib e after q → place_refusal lib e q peek place ≡ None →
+    bytes_of lib contents after q place (residence_named lib after q place.«module») ≡ bytes_of lib contents e q place (residence_named lib e q place.«module»)
 unfolding place_refusal
-peek_alike nest lib held e after q place alike fine =
+peek_alike nest lib contents e after q place alike fine =
     step (residence_named lib after q place.«module») (residence_named lib e q place.«module») refl (named_stays lib e after q place.«module» alike)
     (right_none (when (e.processes q).ended Ended) _ fine)
   where
     step : (r s : Option Residence) → residence_named lib e q place.«module» ≡ s → stay_of r ≡ stay_of s → residence_refusal lib (e.processes q) peek place s ≡ None →
-        bytes_of lib held after q place r ≡ bytes_of lib held e q place s
+        bytes_of lib contents after q place r ≡ bytes_of lib contents e q place s
     step None None is same h = refl
     step None (Some a) is same h = absurd (some_stay a same)
     step (Some b) None is same h = absurd (none_stay b same)
     step (Some b) (Some a) is same h =
-        ap (λ r. Bytes lib held after q r place.object place.offset place.len) (same_stay a b same)
-        ∙ bytes_alike nest lib held e after q a b.writes place.object place.offset place.len alike (named_is lib e q place.«module» a is).0
+        ap (λ r. Bytes lib contents after q r place.object place.offset place.len) (same_stay a b same)
+        ∙ bytes_alike nest lib contents e after q a b.writes place.object place.offset place.len alike (named_is lib e q place.«module» a is).0
         (peeked_class lib (e.processes q) place a h)

@@ -14,61 +14,61 @@ use Rattle.load_model.specs.Histories.{state_after, is_fault_of, is_first_fault,
 use Rattle.load_model.proofs.Bools.{and_left, and_right, negated}
 use Rattle.load_model.specs.Laws.{ask_of, AsksDecide, PrefixIsLegal, EachFollows, OneMoreIsLegal, NothingIsLegal, OneMoreIsAfter, FaultOnce}
 
-first_follow : (lib : Library) (held : Held) (before h more : List Entry) → AllFollow lib held before (h ++ more) → AllFollow lib held before h
-first_follow lib held before [] more all = tt
-first_follow lib held before (x ∷ h) more all = (all.0, first_follow lib held (before ++ x ∷ []) h more all.1)
+first_follow : (lib : Library) (contents : Held) (before h more : List Entry) → AllFollow lib contents before (h ++ more) → AllFollow lib contents before h
+first_follow lib contents before [] more all = tt
+first_follow lib contents before (x ∷ h) more all = (all.0, first_follow lib contents (before ++ x ∷ []) h more all.1)
 
 pub prefix_is_legal : PrefixIsLegal
 unfolding Legal
-prefix_is_legal lib held h more all = first_follow lib held [] h more all
+prefix_is_legal lib contents h more all = first_follow lib contents [] h more all
 
-rest_follow : (lib : Library) (held : Held) (before h more : List Entry) → AllFollow lib held before (h ++ more) → AllFollow lib held (before ++ h) more
-rest_follow lib held before [] more all = subst (λ b. AllFollow lib held b more) (sym (append-nil before)) all
-rest_follow lib held before (x ∷ h) more all =
-    subst (λ b. AllFollow lib held b more) (append_assoc before (x ∷ []) h) (rest_follow lib held (before ++ x ∷ []) h more all.1)
+rest_follow : (lib : Library) (contents : Held) (before h more : List Entry) → AllFollow lib contents before (h ++ more) → AllFollow lib contents (before ++ h) more
+rest_follow lib contents before [] more all = subst (λ b. AllFollow lib contents b more) (sym (append-nil before)) all
+rest_follow lib contents before (x ∷ h) more all =
+    subst (λ b. AllFollow lib contents b more) (append_assoc before (x ∷ []) h) (rest_follow lib contents (before ++ x ∷ []) h more all.1)
 
 pub each_follows : EachFollows
 unfolding Legal
-each_follows lib held before entry behind all = (rest_follow lib held [] before (entry ∷ behind) all).0
+each_follows lib contents before entry behind all = (rest_follow lib contents [] before (entry ∷ behind) all).0
 
-joined_follow : (lib : Library) (held : Held) (before h more : List Entry) → AllFollow lib held before h → AllFollow lib held (before ++ h) more → AllFollow lib held before (h ++ more)
-joined_follow lib held before [] more all others = subst (λ b. AllFollow lib held b more) (append-nil before) others
-joined_follow lib held before (x ∷ h) more all others =
-    (all.0, joined_follow lib held (before ++ x ∷ []) h more all.1 (subst (λ b. AllFollow lib held b more) (sym (append_assoc before (x ∷ []) h)) others))
+joined_follow : (lib : Library) (contents : Held) (before h more : List Entry) → AllFollow lib contents before h → AllFollow lib contents (before ++ h) more → AllFollow lib contents before (h ++ more)
+joined_follow lib contents before [] more all others = subst (λ b. AllFollow lib contents b more) (append-nil before) others
+joined_follow lib contents before (x ∷ h) more all others =
+    (all.0, joined_follow lib contents (before ++ x ∷ []) h more all.1 (subst (λ b. AllFollow lib contents b more) (sym (append_assoc before (x ∷ []) h)) others))
 
 pub one_more_is_legal : OneMoreIsLegal
 unfolding Legal
-one_more_is_legal lib held h entry all follows = joined_follow lib held [] h (entry ∷ []) all (follows, tt)
+one_more_is_legal lib contents h entry all follows = joined_follow lib contents [] h (entry ∷ []) all (follows, tt)
 
 pub nothing_is_legal : NothingIsLegal
 unfolding Legal
-nothing_is_legal lib held = tt
+nothing_is_legal lib contents = tt
 
 -- ---- asks decide
 
-same_entry : (lib : Library) (held : Held) (before : List Entry) (x y : Entry) → Follows lib held before x → Follows lib held before y → ask_of x ≡ ask_of y → x ≡ y
-same_entry lib held before x y f g same =
-    let P : ℕ × Ask → Deed = λ a. deed_of lib held (state_after lib before) a.0 a.1 in
+same_entry : (lib : Library) (contents : Held) (before : List Entry) (x y : Entry) → Follows lib contents before x → Follows lib contents before y → ask_of x ≡ ask_of y → x ≡ y
+same_entry lib contents before x y f g same =
+    let P : ℕ × Ask → Deed = λ a. deed_of lib contents (state_after lib before) a.0 a.1 in
     let pids : x.pid ≡ y.pid = ap (λ a. a.0) same in
     let deeds : x.deed ≡ y.deed = f.done ∙ ap P same ∙ sym g.done in
     let E : ℕ → Deed → Entry = λ pid deed. record { pid = pid; deed = deed } in
     ap (λ pid. E pid x.deed) pids ∙ ap (E y.pid) deeds
 
-all_same : (lib : Library) (held : Held) (before h k : List Entry) → AllFollow lib held before h → AllFollow lib held before k → map ask_of h ≡ map ask_of k → h ≡ k
-all_same lib held before [] [] f g same = refl
-all_same lib held before [] (y ∷ k) f g same = cc
-all_same lib held before (x ∷ h) [] f g same = cc
-all_same lib held before (x ∷ h) (y ∷ k) f g same =
+all_same : (lib : Library) (contents : Held) (before h k : List Entry) → AllFollow lib contents before h → AllFollow lib contents before k → map ask_of h ≡ map ask_of k → h ≡ k
+all_same lib contents before [] [] f g same = refl
+all_same lib contents before [] (y ∷ k) f g same = cc
+all_same lib contents before (x ∷ h) [] f g same = cc
+all_same lib contents before (x ∷ h) (y ∷ k) f g same =
     let first : ask_of x ≡ ask_of y = cc in
     let others : map ask_of h ≡ map ask_of k = cc in
-    let e : x ≡ y = same_entry lib held before x y f.0 g.0 first in
-    let moved : AllFollow lib held (before ++ x ∷ []) k = subst (λ z. AllFollow lib held (before ++ z ∷ []) k) (sym e) g.1 in
-    let r : h ≡ k = all_same lib held (before ++ x ∷ []) h k f.1 moved others in
+    let e : x ≡ y = same_entry lib contents before x y f.0 g.0 first in
+    let moved : AllFollow lib contents (before ++ x ∷ []) k = subst (λ z. AllFollow lib contents (before ++ z ∷ []) k) (sym e) g.1 in
+    let r : h ≡ k = all_same lib contents (before ++ x ∷ []) h k f.1 moved others in
     ap (λ z. z ∷ h) e ∙ ap (λ zs. y ∷ zs) r
 
 pub asks_decide : AsksDecide
 unfolding Legal
-asks_decide lib held h k f g same = all_same lib held [] h k f g same
+asks_decide lib contents h k f g same = all_same lib contents [] h k f g same
 
 pub one_more_is_after : OneMoreIsAfter
 unfolding state_after
@@ -93,4 +93,4 @@ first_of_page h serial p (deeds.Write s m object offset bytes) is first = cc
 first_of_page h serial p (deeds.Shared s m object offset bytes) is first = cc
 
 pub fault_once : FaultOnce
-fault_once lib held before entry behind serial p all is = first_of_page before serial p entry.deed is (each_follows lib held before entry behind all).first
+fault_once lib contents before entry behind serial p all is = first_of_page before serial p entry.deed is (each_follows lib contents before entry behind all).first

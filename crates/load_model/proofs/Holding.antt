@@ -15,10 +15,10 @@ use Rattle.load_model.specs.declared.deeds.Deed.TheVariants as deeds
 use Rattle.load_model.specs.declared.deeds.Entry.{Entry}
 use Rattle.load_model.specs.Modules.{Library, Held, number_of, objects_of, object_at}
 use Rattle.load_model.specs.State.{Residence, Eager, is_among, pids, reaches, is_reached, attached_residence}
-use Rattle.load_model.specs.Memory.{writes_seen, covered, Byte, Bytes}
-use Rattle.load_model.specs.Refusals.{Purpose, peek, share, when, is_outside, span_refusal, residence_refusal, found, residence_named, place_refusal, refusal_of}
-use Rattle.load_model.specs.Asks.{Ask, enter, free, exit, fault, put, get, asked, bytes_at, deed_of, may_ask, may_use}
-use Rattle.load_model.specs.Step.{Answer, entry, steady, meant, bytes_of, serial_named, done, answer_of}
+use Rattle.load_model.specs.Memory.{writes_seen, last_put, Byte, Bytes}
+use Rattle.load_model.specs.Refusals.{Purpose, peek, share, when, is_outside, span_refusal, residence_refusal, residence_if, residence_named, place_refusal, refusal_of}
+use Rattle.load_model.specs.Asks.{Ask, enter, free, exit, fault, put, get, ask_in, bytes_at, deed_of, may_ask, may_use}
+use Rattle.load_model.specs.Step.{Answer, entry, steady, meant, bytes_of, serial_named, fine_answer, answer_of}
 use Rattle.load_model.specs.Histories.{state_after, Follows, AllFollow, Legal}
 use Rattle.load_model.specs.Laws.{AgreeAt, HeldAnswersAlike, HeldHistoriesAlike}
 use Rattle.load_model.proofs.Bools.{and_right}
@@ -38,7 +38,7 @@ range_same f g (suc n) from h =
 
 -- ---- a span that is not refused lies in its object
 
-when_none : (b : Bool) (r : Refusal) → when b r ≡ None → b ≡ false
+pub when_none : (b : Bool) (r : Refusal) → when b r ≡ None → b ≡ false
 when_none true r h = cc
 when_none false r h = refl
 
@@ -76,7 +76,7 @@ bytes_by lib a b e pid r object offset len agree reached inside =
     (λ x low high.
     let end : offset + len ≤ (object_at lib r.«module» object).size = inside.end in
     let below : x < (object_at lib r.«module» object).size = omega arith in
-    ap (covered (writes_seen lib (e.processes pid) r object) x) (agree r.«module» object x reached inside.there below))
+    ap (last_put (writes_seen lib (e.processes pid) r object) x) (agree r.«module» object x reached inside.there below))
 
 -- ---- answers
 
@@ -127,7 +127,7 @@ follows_by : (lib : Library) (a b : Held) (h : List Entry) (x : Entry) → Agree
 follows_by lib a b h x agree f = record {
   process = f.process;
   may = f.may;
-  done = f.done ∙ deed_by lib a b (state_after lib h) x.pid (asked x.deed) f.process agree f.may;
+  done = f.done ∙ deed_by lib a b (state_after lib h) x.pid (ask_in x.deed) f.process agree f.may;
   first = f.first;
 }
 
@@ -146,21 +146,21 @@ held_histories_alike lib a b h agree all = all_by lib a b [] h agree all
 
 -- ---- commands
 
-no_name : (lib : Library) (e : Eager) (pid : ℕ) (how : Purpose) (place : Place) → place_refusal lib e pid how place ≡ None → number_of lib place.«module» ≡ None → ⊥
+pub no_name : (lib : Library) (e : Eager) (pid : ℕ) (how : Purpose) (place : Place) → place_refusal lib e pid how place ≡ None → number_of lib place.«module» ≡ None → ⊥
 unfolding place_refusal residence_named
 no_name lib e pid how place fine is =
     let wrong : Some NotAttached ≡ None =
-    ap (λ n. residence_refusal lib (e.processes pid) how place (found lib e pid n)) (sym is) ∙ right_none (when (e.processes pid).ended Ended) _ fine
+    ap (λ n. residence_refusal lib (e.processes pid) how place (residence_if lib e pid n)) (sym is) ∙ right_none (when (e.processes pid).ended Ended) _ fine
     in
     some_none NotAttached wrong
   where
     some_none : (r : Refusal) → Some r ≡ None → ⊥
     some_none r h = cc
 
-attached_named : (lib : Library) (e : Eager) (pid : ℕ) (name : List ℕ) (m : ℕ) → number_of lib name ≡ Some m →
+pub attached_named : (lib : Library) (e : Eager) (pid : ℕ) (name : List ℕ) (m : ℕ) → number_of lib name ≡ Some m →
     attached_residence lib e pid (meant lib name) ≡ residence_named lib e pid name
 unfolding residence_named
-attached_named lib e pid name m is = ap (λ n. attached_residence lib e pid (unwrap_or n 0)) is ∙ sym (ap (found lib e pid) is)
+attached_named lib e pid name m is = ap (λ n. attached_residence lib e pid (unwrap_or n 0)) is ∙ sym (ap (residence_if lib e pid) is)
 
 shared_bytes : (lib : Library) (a b : Held) (e : Eager) (pid : ℕ) (place : Place) → is_among pids pid ≡ true → AgreeAt lib a b e →
     place_refusal lib e pid share place ≡ None → (n : Option ℕ) → number_of lib place.«module» ≡ n →
@@ -177,8 +177,8 @@ shared_bytes lib a b e pid place there agree fine (Some m) is =
     one (Some r) found_is = place_bytes lib a b e pid share place there agree fine (Some r) found_is
 
 done_by : (lib : Library) (a b : Held) (e : Eager) (pid : ℕ) (command : Command) → is_among pids pid ≡ true → AgreeAt lib a b e → refusal_of lib e pid command ≡ None →
-    done lib a e pid command ≡ done lib b e pid command
-unfolding done refusal_of deed_of
+    fine_answer lib a e pid command ≡ fine_answer lib b e pid command
+unfolding fine_answer refusal_of deed_of
 done_by lib a b e pid (commands.Start name) there agree fine = refl
 done_by lib a b e pid (commands.Load name) there agree fine = refl
 done_by lib a b e pid (commands.Free name) there agree fine = refl
@@ -192,8 +192,8 @@ done_by lib a b e pid (commands.Query name key) there agree fine = refl
 done_by lib a b e pid commands.Exit there agree fine = refl
 
 answer_by : (lib : Library) (a b : Held) (e : Eager) (pid : ℕ) (command : Command) → is_among pids pid ≡ true → AgreeAt lib a b e → (r : Option Refusal) → refusal_of lib e pid command ≡ r →
-    elim r as (λ _. Answer) [ Some refusal ↦ steady (replies.Refused refusal) | None ↦ done lib a e pid command ]
-    ≡ elim r as (λ _. Answer) [ Some refusal ↦ steady (replies.Refused refusal) | None ↦ done lib b e pid command ]
+    elim r as (λ _. Answer) [ Some refusal ↦ steady (replies.Refused refusal) | None ↦ fine_answer lib a e pid command ]
+    ≡ elim r as (λ _. Answer) [ Some refusal ↦ steady (replies.Refused refusal) | None ↦ fine_answer lib b e pid command ]
 answer_by lib a b e pid command there agree (Some refusal) is = refl
 answer_by lib a b e pid command there agree None is = done_by lib a b e pid command there agree is
 

@@ -12,7 +12,7 @@ use Rattle.load_model.specs.Modules.{Library, order_of}
 use Rattle.load_model.specs.Places.{NoPlace}
 use Rattle.load_model.specs.State.{Process, Eager, with_process, is_among, pids, reaches, is_reached, residence_of}
 use Rattle.load_model.specs.declared.deeds.Call.{Call}
-use Rattle.load_model.specs.Entering.{NoRoom, spans_of, with_fresh_residences, joined, newcomers, bases_for, placed, placed_from, with_fresh, holding, attaching, residence_from, entered, enter_deed, entering_calls}
+use Rattle.load_model.specs.Entering.{NoRoom, spans_of, with_fresh_residences, joined, newcomers, bases_for, placing, placed_from, with_fresh, holding, attaching, residence_from, after_entering, enter_deed, entering_calls}
 use Rattle.load_model.specs.Refusals.{when, ◌orelse◌, enter_refusal}
 use Rattle.load_model.proofs.Bools.{or_swap}
 use Rattle.load_model.proofs.Among.{any_append, any_map, any_same, among_append, among_filter, some_find, any_split}
@@ -93,7 +93,7 @@ fresh_modules lib (m ∷ ms) serials spans fresh e =
     (λ bases xs h. fresh_modules lib ms (suc serials) (spans_of lib m bases ++ spans) xs h) (λ bases. refl) e
 
 -- an entry that enters was placed
-enter_step : (how : How) (m : ℕ) (calls : List Fresh → List Call) (r : Result (List Fresh) NoRoom) (fresh : List Fresh) (made : List Call) →
+pub enter_step : (how : How) (m : ℕ) (calls : List Fresh → List Call) (r : Result (List Fresh) NoRoom) (fresh : List Fresh) (made : List Call) →
     deeds.Enter how m fresh made ≡ elim r [ Ok xs ↦ deeds.Enter how m xs (calls xs) | Err none ↦ deeds.Full how m none.of none.object.object none.object.size ] →
     r ≡ Ok fresh
 enter_step how m calls (Ok xs) fresh made e = (let same : fresh ≡ xs = cc in ap Ok (sym same))
@@ -101,9 +101,9 @@ enter_step how m calls (Err none) fresh made e = cc
 
 pub fresh_are_new : (lib : Library) (e : Eager) (pid : ℕ) (how : How) (m : ℕ) (fresh : List Fresh) (made : List Call) →
     deeds.Enter how m fresh made ≡ enter_deed lib e pid how m → modules_of fresh ≡ newcomers lib e pid m
-unfolding enter_deed placed
+unfolding enter_deed placing
 fresh_are_new lib e pid how m fresh made is =
-    fresh_modules lib (newcomers lib e pid m) e.serials _ fresh (enter_step how m (λ xs. entering_calls lib e pid how m xs) (placed lib e pid m) fresh made is)
+    fresh_modules lib (newcomers lib e pid m) e.serials _ fresh (enter_step how m (λ xs. entering_calls lib e pid how m xs) (placing lib e pid m) fresh made is)
 
 -- ---- what a process reaches with one root more
 
@@ -191,8 +191,8 @@ holding_attached Start m p = refl
 holding_attached Load m p = refl
 
 pub entered_kept : (lib : Library) (e : Eager) (pid : ℕ) (how : How) (m : ℕ) (fresh : List Fresh) → is_among pids pid ≡ true →
-    is_none (enter_refusal lib (e.processes pid) how (Some m)) ≡ true → modules_of fresh ≡ newcomers lib e pid m → Kept lib e → Kept lib (entered lib e pid how m fresh)
-unfolding entered with_process
+    is_none (enter_refusal lib (e.processes pid) how (Some m)) ≡ true → modules_of fresh ≡ newcomers lib e pid m → Kept lib e → Kept lib (after_entering lib e pid how m fresh)
+unfolding after_entering with_process
 entered_kept lib e pid how m fresh there may new kept =
     let p : Process = e.processes pid in
     let js : List ℕ = joined lib e pid m in
@@ -210,8 +210,8 @@ entered_kept lib e pid how m fresh there may new kept =
 -- what is reached by an entry that enters
 pub entered_reached : (lib : Library) (e : Eager) (pid : ℕ) (how : How) (m : ℕ) (fresh : List Fresh) (k : ℕ) → is_among pids pid ≡ true →
     is_none (enter_refusal lib (e.processes pid) how (Some m)) ≡ true →
-    is_reached lib (entered lib e pid how m fresh) k ≡ (is_among (order_of lib m) k || reaches lib (e.processes pid) k) || others lib e pid k
-unfolding entered
+    is_reached lib (after_entering lib e pid how m fresh) k ≡ (is_among (order_of lib m) k || reaches lib (e.processes pid) k) || others lib e pid k
+unfolding after_entering
 entered_reached lib e pid how m fresh k there may =
     reached_with lib (with_fresh_residences e fresh) pid (holding how m (attaching (joined lib e pid m) (e.processes pid))) k there
     ∙ ap (λ b. b || others lib e pid k) (reaches_more lib (e.processes pid) (joined lib e pid m) how m k may)

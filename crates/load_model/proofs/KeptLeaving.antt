@@ -7,7 +7,7 @@ use Rattle.load_model.specs.Modules.{Library, order_of}
 use Rattle.load_model.specs.State.{Residence, Process, Eager, Written, with_process, is_among, pids, reaches, is_reached}
 use Rattle.load_model.specs.Leaving.{left, gone_modules, gone_of, gone, keeping, after_leaving, without_one, freeing, exiting}
 use Rattle.load_model.specs.Memory.{with_write, writing}
-use Rattle.load_model.specs.Asks.{written}
+use Rattle.load_model.specs.Asks.{after_write}
 use Rattle.load_model.proofs.Bools.{or_true}
 use Rattle.load_model.proofs.Among.{any_map, any_same, any_filter_at, among_filter, any_reverse}
 use Rattle.load_model.proofs.Kept.{Kept, others, reached_apart, reached_with, attached_elsewhere}
@@ -143,7 +143,7 @@ unfolding is_reached
 shared_reached lib e serial w k = refl
 
 pub written_reached : (lib : Library) (e : Eager) (pid serial : ℕ) (w : Written) (class : Class) (k : ℕ) → is_among pids pid ≡ true →
-    is_reached lib (written e pid serial w class) k ≡ is_reached lib e k
+    is_reached lib (after_write e pid serial w class) k ≡ is_reached lib e k
 written_reached lib e pid serial w classes.Code k there = refl
 written_reached lib e pid serial w classes.Private k there =
     reached_with lib e pid (writing serial w (e.processes pid)) k there ∙ ap (λ b. b || others lib e pid k) (reaches_writing lib serial w (e.processes pid) k)
@@ -162,7 +162,7 @@ same_residences : (e : Eager) (pid : ℕ) (p : Process) (k : ℕ) →
 unfolding with_process
 same_residences e pid p k = refl
 
-pub written_kept : (lib : Library) (e : Eager) (pid serial : ℕ) (w : Written) (class : Class) → is_among pids pid ≡ true → Kept lib e → Kept lib (written e pid serial w class)
+pub written_kept : (lib : Library) (e : Eager) (pid serial : ℕ) (w : Written) (class : Class) → is_among pids pid ≡ true → Kept lib e → Kept lib (after_write e pid serial w class)
 written_kept lib e pid serial w classes.Code there kept = kept
 written_kept lib e pid serial w classes.Private there kept = record {
   attached =

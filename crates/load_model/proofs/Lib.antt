@@ -12,3 +12,6 @@ pub mod EntryReach
 pub mod Answers
 pub mod Holding
 pub mod Least
+pub mod Serials
+pub mod Accepted
+pub mod Retouched

@@ -10,7 +10,7 @@ use Rattle.load_model.specs.declared.deeds.Deed.{Deed}
 use Rattle.load_model.specs.declared.deeds.Deed.TheVariants.{Enter, Full, Free, Exit, Fault, Write, Shared}
 use Rattle.load_model.specs.Modules.{Library, Held, module_count, object_at}
 use Rattle.load_model.specs.State.{Written, Residence, Eager, with_process, attached_residence}
-use Rattle.load_model.specs.Entering.{enter_deed, entered}
+use Rattle.load_model.specs.Entering.{enter_deed, after_entering}
 use Rattle.load_model.specs.Leaving.{freeing, exiting, leaving_calls, gone, after_leaving}
 use Rattle.load_model.specs.Memory.{Bytes, writing, with_write}
 use Rattle.load_model.specs.Refusals.{Purpose, write, share, touch, enter_refusal, free_refusal, span_refusal}
@@ -25,32 +25,32 @@ pub data Ask : Type 0 where
   put : ℕ → ℕ → ℕ → ℕ → List ℕ → Ask
   get : ℕ → ℕ → ℕ → ℕ → ℕ → Ask
 
-abbrev pub asked : Deed → Ask
-asked (Enter how m fresh calls) = enter how m
-asked (Full how m of object size) = enter how m
-asked (Free m calls gone) = free m
-asked (Exit calls gone) = exit
-asked (Fault serial m p) = fault serial m p
-asked (Write serial m object offset bytes) = put serial m object offset bytes
-asked (Shared serial m object offset bytes) = get serial m object offset (length bytes)
+abbrev pub ask_in : Deed → Ask
+ask_in (Enter how m fresh calls) = enter how m
+ask_in (Full how m of object size) = enter how m
+ask_in (Free m calls gone) = free m
+ask_in (Exit calls gone) = exit
+ask_in (Fault serial m p) = fault serial m p
+ask_in (Write serial m object offset bytes) = put serial m object offset bytes
+ask_in (Shared serial m object offset bytes) = get serial m object offset (length bytes)
 
 -- ---- what is done
 
 abbrev pub bytes_at : Library → Held → Eager → ℕ → ℕ → ℕ → ℕ → Option Residence → List ℕ
-bytes_at lib held e pid object offset len None = []
-bytes_at lib held e pid object offset len (Some r) = Bytes lib held e pid r object offset len
+bytes_at lib contents e pid object offset len None = []
+bytes_at lib contents e pid object offset len (Some r) = Bytes lib contents e pid r object offset len
 
 -- the entry of what a process asks
 unfoldable pub deed_of : Library → Held → Eager → ℕ → Ask → Deed
-deed_of lib held e pid (enter how m) = enter_deed lib e pid how m
-deed_of lib held e pid (free m) =
+deed_of lib contents e pid (enter how m) = enter_deed lib e pid how m
+deed_of lib contents e pid (free m) =
     let p = freeing m (e.processes pid) in Free m (leaving_calls lib e pid p) (gone lib e pid p)
-deed_of lib held e pid exit =
+deed_of lib contents e pid exit =
     let p = exiting (e.processes pid) in Exit (leaving_calls lib e pid p) (gone lib e pid p)
-deed_of lib held e pid (fault serial m p) = Fault serial m p
-deed_of lib held e pid (put serial m object offset bytes) = Write serial m object offset bytes
-deed_of lib held e pid (get serial m object offset len) =
-    Shared serial m object offset (bytes_at lib held e pid object offset len (attached_residence lib e pid m))
+deed_of lib contents e pid (fault serial m p) = Fault serial m p
+deed_of lib contents e pid (put serial m object offset bytes) = Write serial m object offset bytes
+deed_of lib contents e pid (get serial m object offset len) =
+    Shared serial m object offset (bytes_at lib contents e pid object offset len (attached_residence lib e pid m))
 
 -- ---- when it may be asked, whatever was touched
 
@@ -86,18 +86,18 @@ may_ask lib e pid (get serial m object offset len) = not (e.processes pid).ended
 -- ---- the state after it
 
 -- a write to a private object is the process's own, one to a shared object is the residence's
-abbrev pub written : Eager → ℕ → ℕ → Written → Class → Eager
-written e pid serial w classes.Code = e
-written e pid serial w classes.Private = with_process e pid (writing serial w (e.processes pid))
-written e pid serial w classes.Shared = record e { residences = map (with_write serial w) e.residences }
+abbrev pub after_write : Eager → ℕ → ℕ → Written → Class → Eager
+after_write e pid serial w classes.Code = e
+after_write e pid serial w classes.Private = with_process e pid (writing serial w (e.processes pid))
+after_write e pid serial w classes.Shared = record e { residences = map (with_write serial w) e.residences }
 
 -- the state after an entry of a process
 unfoldable pub after_deed : Library → Eager → ℕ → Deed → Eager
-after_deed lib e pid (Enter how m fresh calls) = entered lib e pid how m fresh
+after_deed lib e pid (Enter how m fresh calls) = after_entering lib e pid how m fresh
 after_deed lib e pid (Full how m of object size) = e
 after_deed lib e pid (Free m calls gone) = after_leaving lib e pid (freeing m (e.processes pid))
 after_deed lib e pid (Exit calls gone) = after_leaving lib e pid (exiting (e.processes pid))
 after_deed lib e pid (Fault serial m p) = e
 after_deed lib e pid (Write serial m object offset bytes) =
-    written e pid serial (record { object = object; offset = offset; bytes = bytes }) (class_of (object_at lib m object))
+    after_write e pid serial (record { object = object; offset = offset; bytes = bytes }) (class_of (object_at lib m object))
 after_deed lib e pid (Shared serial m object offset bytes) = e

@@ -61,8 +61,8 @@ placed_from lib serials spans (m ∷ others) = elim (bases_for lib spans m) [
   | Ok bases ↦ with_fresh (record { serial = suc serials; «module» = m; bases = bases }) (placed_from lib (suc serials) (spans_of lib m bases ++ spans) others)
 ]
 
-unfoldable pub placed : Library → Eager → ℕ → ℕ → Result (List Fresh) NoRoom
-placed lib e pid m = placed_from lib e.serials (resident_spans lib e) (newcomers lib e pid m)
+unfoldable pub placing : Library → Eager → ℕ → ℕ → Result (List Fresh) NoRoom
+placing lib e pid m = placed_from lib e.serials (resident_spans lib e) (newcomers lib e pid m)
 
 -- ---- the state after it
 
@@ -79,8 +79,8 @@ attaching ms p = record p { attached = p.attached ++ ms }
 abbrev pub with_fresh_residences : Eager → List Fresh → Eager
 with_fresh_residences e fresh = record e { residences = e.residences ++ map residence_from fresh; serials = e.serials + length fresh }
 
-unfoldable pub entered : Library → Eager → ℕ → How → ℕ → List Fresh → Eager
-entered lib e pid how m fresh =
+unfoldable pub after_entering : Library → Eager → ℕ → How → ℕ → List Fresh → Eager
+after_entering lib e pid how m fresh =
     with_process (with_fresh_residences e fresh) pid (holding how m (attaching (joined lib e pid m) (e.processes pid)))
 
 -- ---- what is called
@@ -100,14 +100,14 @@ main_of lib after Load m = []
 
 unfoldable pub entering_calls : Library → Eager → ℕ → How → ℕ → List Fresh → List Call
 entering_calls lib e pid how m fresh =
-    let after = entered lib e pid how m fresh in
+    let after = after_entering lib e pid how m fresh in
     filter_map (init_of lib after (newcomers lib e pid m)) (joined lib e pid m) ++ main_of lib after how m
 
 -- ---- the entry
 
 -- the first object that has no place keeps all of it out
 unfoldable pub enter_deed : Library → Eager → ℕ → How → ℕ → Deed
-enter_deed lib e pid how m = elim (placed lib e pid m) [
+enter_deed lib e pid how m = elim (placing lib e pid m) [
   | Ok fresh ↦ Enter how m fresh (entering_calls lib e pid how m fresh)
   | Err none ↦ Full how m none.of none.object.object none.object.size
 ]

@@ -8,7 +8,7 @@ use Rattle.load_model.specs.declared.deeds.Entry.{Entry}
 use Rattle.load_model.specs.Modules.{Library, Held}
 use Rattle.load_model.specs.State.{Eager, nothing_yet, pids, is_among}
 use Rattle.load_model.specs.Memory.{is_page}
-use Rattle.load_model.specs.Asks.{asked, deed_of, may_ask, after_deed}
+use Rattle.load_model.specs.Asks.{ask_in, deed_of, may_ask, after_deed}
 
 abbrev pub after_entry : Library → Eager → Entry → Eager
 after_entry lib e entry = after_deed lib e entry.pid entry.deed
@@ -47,17 +47,17 @@ is_first_fault h (deeds.Shared s m object offset bytes) = true
 
 -- An entry may follow a history: a process may ask it there, it is what the loader does then, and it is no
 -- second fault of a page of a residence. What was touched is not judged here.
-pub record Follows (lib : Library) (held : Held) (h : List Entry) (entry : Entry) : Type 0 where
+pub record Follows (lib : Library) (contents : Held) (h : List Entry) (entry : Entry) : Type 0 where
   pub process : IsTrue (is_among pids entry.pid)
-  pub may : IsTrue (may_ask lib (state_after lib h) entry.pid (asked entry.deed))
-  pub done : entry.deed ≡ deed_of lib held (state_after lib h) entry.pid (asked entry.deed)
+  pub may : IsTrue (may_ask lib (state_after lib h) entry.pid (ask_in entry.deed))
+  pub done : entry.deed ≡ deed_of lib contents (state_after lib h) entry.pid (ask_in entry.deed)
   pub first : IsTrue (is_first_fault h entry.deed)
 
 -- entries follow a history, one behind the other
 abbrev pub AllFollow : Library → Held → List Entry → List Entry → Type 0
-AllFollow lib held h [] = Unit {0}
-AllFollow lib held h (entry ∷ others) = Follows lib held h entry × AllFollow lib held (h ++ entry ∷ []) others
+AllFollow lib contents h [] = Unit {0}
+AllFollow lib contents h (entry ∷ others) = Follows lib contents h entry × AllFollow lib contents (h ++ entry ∷ []) others
 
 -- from the state in which nothing was done yet
 unfoldable pub Legal : Library → Held → List Entry → Type 0
-Legal lib held h = AllFollow lib held [] h
+Legal lib contents h = AllFollow lib contents [] h

@@ -15,37 +15,37 @@ use Rattle.load_model.specs.Memory.{bases_seen}
 use Rattle.load_model.specs.State.{Eager, Residence, pids, is_among, reaches, is_reached, residence_of}
 use Rattle.load_model.specs.Refusals.{refusal_of}
 use Rattle.load_model.specs.Step.{answer_of}
-use Rattle.load_model.specs.Asks.{Ask, asked}
+use Rattle.load_model.specs.Asks.{Ask, ask_in}
 use Rattle.load_model.specs.Histories.{after_entry, state_after, is_fault_of, has_fault, Follows, Legal}
 
 -- ---- histories
 
 -- the process of an entry, and what it asks
 abbrev pub ask_of : Entry → ℕ × Ask
-ask_of entry = (entry.pid, asked entry.deed)
+ask_of entry = (entry.pid, ask_in entry.deed)
 
 -- Two legal histories whose entries ask the same, place by place, are the same.
 abbrev pub AsksDecide : Type 0
-AsksDecide = (lib : Library) (held : Held) (h k : List Entry) → Legal lib held h → Legal lib held k → map ask_of h ≡ map ask_of k → h ≡ k
+AsksDecide = (lib : Library) (contents : Held) (h k : List Entry) → Legal lib contents h → Legal lib contents k → map ask_of h ≡ map ask_of k → h ≡ k
 
 -- What a legal history begins with is legal.
 abbrev pub PrefixIsLegal : Type 0
-PrefixIsLegal = (lib : Library) (held : Held) (h more : List Entry) → Legal lib held (h ++ more) → Legal lib held h
+PrefixIsLegal = (lib : Library) (contents : Held) (h more : List Entry) → Legal lib contents (h ++ more) → Legal lib contents h
 
 -- Each entry of a legal history follows those before it.
 abbrev pub EachFollows : Type 0
 EachFollows =
-    (lib : Library) (held : Held) (before : List Entry) (entry : Entry) (behind : List Entry) → Legal lib held (before ++ entry ∷ behind) →
-    Follows lib held before entry
+    (lib : Library) (contents : Held) (before : List Entry) (entry : Entry) (behind : List Entry) → Legal lib contents (before ++ entry ∷ behind) →
+    Follows lib contents before entry
 
 -- A legal history and an entry that follows it are legal.
 abbrev pub OneMoreIsLegal : Type 0
 OneMoreIsLegal =
-    (lib : Library) (held : Held) (h : List Entry) (entry : Entry) → Legal lib held h → Follows lib held h entry → Legal lib held (h ++ entry ∷ [])
+    (lib : Library) (contents : Held) (h : List Entry) (entry : Entry) → Legal lib contents h → Follows lib contents h entry → Legal lib contents (h ++ entry ∷ [])
 
 -- the empty history is
 abbrev pub NothingIsLegal : Type 0
-NothingIsLegal = (lib : Library) (held : Held) → Legal lib held []
+NothingIsLegal = (lib : Library) (contents : Held) → Legal lib contents []
 
 -- One more entry takes the state one step on.
 abbrev pub OneMoreIsAfter : Type 0
@@ -54,20 +54,20 @@ OneMoreIsAfter = (lib : Library) (h : List Entry) (entry : Entry) → state_afte
 -- A page of a residence has its fault once.
 abbrev pub FaultOnce : Type 0
 FaultOnce =
-    (lib : Library) (held : Held) (before : List Entry) (entry : Entry) (behind : List Entry) (serial : ℕ) (p : PageId) →
-    Legal lib held (before ++ entry ∷ behind) → is_fault_of serial p entry.deed ≡ true → has_fault before serial p ≡ false
+    (lib : Library) (contents : Held) (before : List Entry) (entry : Entry) (behind : List Entry) (serial : ℕ) (p : PageId) →
+    Legal lib contents (before ++ entry ∷ behind) → is_fault_of serial p entry.deed ≡ true → has_fault before serial p ≡ false
 
 -- ---- residences
 
 -- A module is resident exactly while some process reaches it.
 abbrev pub ReachedIsResident : Type 0
 ReachedIsResident =
-    (lib : Library) (held : Held) (h : List Entry) → Legal lib held h → (m : ℕ) → is_some (residence_of (state_after lib h) m) ≡ is_reached lib (state_after lib h) m
+    (lib : Library) (contents : Held) (h : List Entry) → Legal lib contents h → (m : ℕ) → is_some (residence_of (state_after lib h) m) ≡ is_reached lib (state_after lib h) m
 
 -- A process has attached exactly what it reaches.
 abbrev pub AttachedIsReached : Type 0
 AttachedIsReached =
-    (lib : Library) (held : Held) (h : List Entry) → Legal lib held h → (pid m : ℕ) →
+    (lib : Library) (contents : Held) (h : List Entry) → Legal lib contents h → (pid m : ℕ) →
     is_among ((state_after lib h).processes pid).attached m ≡ reaches lib ((state_after lib h).processes pid) m
 
 -- what an entry says is gone
@@ -83,7 +83,7 @@ gone_in (deeds.Shared serial m object offset bytes) = []
 -- What is gone with an entry is what was resident and no process reaches after it.
 abbrev pub GoneIsUnreached : Type 0
 GoneIsUnreached =
-    (lib : Library) (held : Held) (h : List Entry) (entry : Entry) (m : ℕ) → Legal lib held h → Follows lib held h entry →
+    (lib : Library) (contents : Held) (h : List Entry) (entry : Entry) (m : ℕ) → Legal lib contents h → Follows lib contents h entry →
     is_among (map (λ g. g.«module») (gone_in entry.deed)) m ≡
     is_some (residence_of (state_after lib h) m) && not (is_reached lib (after_entry lib (state_after lib h) entry) m)
 
@@ -95,14 +95,14 @@ stay_of (Some r) = Some (record r { writes = [] })
 -- A residence whose module is still reached after an entry stands as it was.
 abbrev pub ResidenceStays : Type 0
 ResidenceStays =
-    (lib : Library) (held : Held) (h : List Entry) (entry : Entry) (m : ℕ) → Legal lib held h → Follows lib held h entry →
+    (lib : Library) (contents : Held) (h : List Entry) (entry : Entry) (m : ℕ) → Legal lib contents h → Follows lib contents h entry →
     is_some (residence_of (state_after lib h) m) ≡ true → is_reached lib (after_entry lib (state_after lib h) entry) m ≡ true →
     stay_of (residence_of (after_entry lib (state_after lib h) entry) m) ≡ stay_of (residence_of (state_after lib h) m)
 
 -- While a residence stands, each module that its module reaches is resident, and keeps its residence.
 abbrev pub ReachStays : Type 0
 ReachStays =
-    (lib : Library) (held : Held) (h : List Entry) (entry : Entry) (m k : ℕ) → Legal lib held h → Follows lib held h entry →
+    (lib : Library) (contents : Held) (h : List Entry) (entry : Entry) (m k : ℕ) → Legal lib contents h → Follows lib contents h entry →
     is_some (residence_of (state_after lib h) m) ≡ true → is_some (residence_of (after_entry lib (state_after lib h) entry) m) ≡ true →
     is_among (order_of lib m) k ≡ true →
     (is_some (residence_of (state_after lib h) k) ≡ true)
@@ -125,15 +125,15 @@ IsSteady commands.Exit = ⊥
 -- An entry of another process changes no refusal of a process, and no answer of a touch, a peek or a query.
 abbrev pub OthersRefuseAlike : Type 0
 OthersRefuseAlike =
-    (lib : Library) (held : Held) (h : List Entry) (entry : Entry) (pid : ℕ) (command : Command) → Legal lib held h → Follows lib held h entry →
+    (lib : Library) (contents : Held) (h : List Entry) (entry : Entry) (pid : ℕ) (command : Command) → Legal lib contents h → Follows lib contents h entry →
     is_among pids pid ≡ true → (pid == entry.pid) ≡ false →
     refusal_of lib (after_entry lib (state_after lib h) entry) pid command ≡ refusal_of lib (state_after lib h) pid command
 
 abbrev pub OthersAnswerAlike : Type 0
 OthersAnswerAlike =
-    (lib : Library) (held : Held) (h : List Entry) (entry : Entry) (pid : ℕ) (command : Command) → Legal lib held h → Follows lib held h entry →
+    (lib : Library) (contents : Held) (h : List Entry) (entry : Entry) (pid : ℕ) (command : Command) → Legal lib contents h → Follows lib contents h entry →
     is_among pids pid ≡ true → (pid == entry.pid) ≡ false → IsSteady command →
-    answer_of lib held (after_entry lib (state_after lib h) entry) pid command ≡ answer_of lib held (state_after lib h) pid command
+    answer_of lib contents (after_entry lib (state_after lib h) entry) pid command ≡ answer_of lib contents (state_after lib h) pid command
 
 -- ---- what objects hold
 
@@ -167,5 +167,5 @@ LeastIsFound =
 -- How many processes reach a module says whether it is resident.
 abbrev pub CountsAreResidence : Type 0
 CountsAreResidence =
-    (lib : Library) (held : Held) (h : List Entry) → Legal lib held h → (m : ℕ) →
+    (lib : Library) (contents : Held) (h : List Entry) → Legal lib contents h → (m : ℕ) →
     is_some (residence_of (state_after lib h) m) ≡ nat_lt 0 (count_by (λ pid. reaches lib ((state_after lib h).processes pid) m) pids)

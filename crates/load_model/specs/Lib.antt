@@ -9,6 +9,8 @@ pub mod Asks
 pub mod Step
 pub mod Histories
 pub mod Laws
+pub mod Accepted
+pub mod Serials
 pub mod Samples
 pub mod WorkedLoads
 pub mod WorkedBytes

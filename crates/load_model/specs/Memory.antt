@@ -36,18 +36,18 @@ first_or other [] = other
 first_or other (x ∷ xs) = x
 
 -- what the last write there put, or else the byte itself
-abbrev pub covered : List Written → ℕ → ℕ → ℕ
-covered writes x byte = first_or byte (filter_map (put_at x) (reverse writes))
+abbrev pub last_put : List Written → ℕ → ℕ → ℕ
+last_put writes x byte = first_or byte (filter_map (put_at x) (reverse writes))
 
 -- ---- bytes
 
 -- Byte x of an object of a residence, as a process sees it. Nobody asks for it on an invalid page.
 unfoldable pub Byte : Library → Held → Eager → ℕ → Residence → ℕ → ℕ → ℕ
-Byte lib held e pid r object x =
-    covered (writes_seen lib (e.processes pid) r object) x (held r.«module» (bases_seen lib e r.«module») object x)
+Byte lib contents e pid r object x =
+    last_put (writes_seen lib (e.processes pid) r object) x (contents r.«module» (bases_seen lib e r.«module») object x)
 
 unfoldable pub Bytes : Library → Held → Eager → ℕ → Residence → ℕ → ℕ → ℕ → List ℕ
-Bytes lib held e pid r object offset len = map (Byte lib held e pid r object) (range_with_len offset len)
+Bytes lib contents e pid r object offset len = map (Byte lib contents e pid r object) (range_with_len offset len)
 
 -- ---- pages
 

@@ -13,8 +13,8 @@ use Rattle.lx_types.specs.declared.entry.EntryKey.TheVariants.{Ordinal, Named}
 use Rattle.lx_types.specs.declared.bases.Bases.{Bases}
 use Rattle.lx_types.specs.Addresses.{address}
 use Rattle.lx_types.specs.Parts.{is_library_of, object_of, page_at}
-use Rattle.lx_model.specs.declared.library.Spot.{Spot}
-use Rattle.lx_model.specs.declared.library.EntryFault.{EntryFault}
+pub use Rattle.lx_model.specs.declared.library.Spot.{Spot}
+pub use Rattle.lx_model.specs.declared.library.EntryFault.{EntryFault}
 use Rattle.lx_model.specs.declared.library.EntryFault.TheVariants as faults
 use Rattle.lx_model.specs.declared.library.Health.{Health}
 use Rattle.lx_model.specs.declared.library.Health.TheVariants as kinds

@@ -6,8 +6,6 @@ use Rattle.lx_types.specs.Object.{class_of}
 use Rattle.lx_types.specs.declared.object.Class.{Class}
 use Rattle.lx_types.specs.declared.object.Class.TheVariants as classes
 use Rattle.lx_types.specs.declared.entry.EntryKey.{EntryKey}
-use Rattle.lx_model.specs.declared.library.Spot.{Spot}
-use Rattle.lx_model.specs.declared.library.EntryFault.{EntryFault}
 use Rattle.load_model.specs.declared.commands.Place.{Place}
 use Rattle.load_model.specs.declared.commands.Command.{Command}
 use Rattle.load_model.specs.declared.commands.Command.TheVariants as commands
@@ -15,7 +13,7 @@ use Rattle.load_model.specs.declared.commands.Refusal.{Refusal}
 use Rattle.load_model.specs.declared.commands.Refusal.TheVariants.{Ended, Started, NoModule, NotLibrary, NotProgram, CountFull, NotHeld, NotAttached, Range, ReadOnly, IsShared, NotShared, Invalid, NotTouched}
 use Rattle.load_model.specs.declared.deeds.How.{How}
 use Rattle.load_model.specs.declared.deeds.How.TheVariants.{Start, Load}
-use Rattle.load_model.specs.Modules.{Library, number_of, is_library, unfit, entry_spot, refusal_of_entry, objects_of, object_at, is_invalid}
+use Rattle.load_model.specs.Modules.{Spot, EntryFault, Library, number_of, is_library, unfit, entry_spot, refusal_of_entry, objects_of, object_at, is_invalid}
 use Rattle.load_model.specs.State.{Residence, Process, Eager, count_of, attached_residence}
 use Rattle.load_model.specs.Memory.{page, pages_over, first_untouched}
 
@@ -114,12 +112,12 @@ residence_refusal lib p purpose place (Some r) =
     orelse touch_refusal purpose p r.serial place.object place.offset place.len
 
 -- the residence of a module by name, where a process reaches it
-abbrev pub found : Library → Eager → ℕ → Option ℕ → Option Residence
-found lib e pid None = None
-found lib e pid (Some m) = attached_residence lib e pid m
+abbrev pub residence_if : Library → Eager → ℕ → Option ℕ → Option Residence
+residence_if lib e pid None = None
+residence_if lib e pid (Some m) = attached_residence lib e pid m
 
 unfoldable pub residence_named : Library → Eager → ℕ → List ℕ → Option Residence
-residence_named lib e pid name = found lib e pid (number_of lib name)
+residence_named lib e pid name = residence_if lib e pid (number_of lib name)
 
 unfoldable pub place_refusal : Library → Eager → ℕ → Purpose → Place → Option Refusal
 place_refusal lib e pid purpose place =

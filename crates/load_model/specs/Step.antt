@@ -1,8 +1,6 @@
 -- One step of the loader with one thread: what a command of a process is answered, and the state after it.
-use Rattle.std.specs.Prelude.{ℕ, List, [], Option, Some, None, unwrap_or, Result, Ok, Err}
+use Rattle.std.specs.Prelude.{◌≡◌, ℕ, List, [], Option, Some, None, unwrap_or, Result, Ok, Err, length}
 use Rattle.lx_types.specs.declared.entry.EntryKey.{EntryKey}
-use Rattle.lx_model.specs.declared.library.Spot.{Spot}
-use Rattle.lx_model.specs.declared.library.EntryFault.{EntryFault}
 use Rattle.load_model.specs.declared.commands.Place.{Place}
 use Rattle.load_model.specs.declared.commands.Command.{Command}
 use Rattle.load_model.specs.declared.commands.Command.TheVariants.{Start, Load, Free, Touch, Peek, Shared, Write, Query, Exit}
@@ -10,11 +8,11 @@ use Rattle.load_model.specs.declared.commands.Reply.{Reply}
 use Rattle.load_model.specs.declared.commands.Reply.TheVariants as replies
 use Rattle.load_model.specs.declared.deeds.How.TheVariants as ways
 use Rattle.load_model.specs.declared.deeds.Deed.{Deed}
-use Rattle.load_model.specs.Modules.{Library, Held, number_of, entry_spot, address_in}
+use Rattle.load_model.specs.Modules.{Spot, EntryFault, Library, Held, number_of, entry_spot, address_in}
 use Rattle.load_model.specs.State.{Residence, Eager, with_process, residence_of, serial_of, bases_of}
 use Rattle.load_model.specs.Memory.{Bytes, touching}
 use Rattle.load_model.specs.Refusals.{refusal_of, residence_named}
-use Rattle.load_model.specs.Asks.{enter, free, exit, put, get, deed_of, after_deed}
+use Rattle.load_model.specs.Asks.{Ask, enter, free, exit, put, get, deed_of, after_deed}
 
 -- A command gives an entry of the history, or is answered without one: touches, peeks, queries and what is
 -- refused are steady, since nothing that others do can change the answer.
@@ -37,33 +35,33 @@ unfoldable pub address_of : Library → Eager → ℕ → List ℕ → EntryKey 
 address_of lib e pid name key = spot_address e (entry_spot lib (meant lib name) key)
 
 abbrev pub bytes_of : Library → Held → Eager → ℕ → Place → Option Residence → List ℕ
-bytes_of lib held e pid place None = []
-bytes_of lib held e pid place (Some r) = Bytes lib held e pid r place.object place.offset place.len
+bytes_of lib contents e pid place None = []
+bytes_of lib contents e pid place (Some r) = Bytes lib contents e pid r place.object place.offset place.len
 
 -- the serial number of the residence in which a place is
 abbrev pub serial_named : Library → Eager → ℕ → Place → ℕ
 serial_named lib e pid place = serial_of (residence_named lib e pid place.«module»)
 
-unfoldable pub done : Library → Held → Eager → ℕ → Command → Answer
-done lib held e pid (Start name) = entry (deed_of lib held e pid (enter ways.Start (meant lib name)))
-done lib held e pid (Load name) = entry (deed_of lib held e pid (enter ways.Load (meant lib name)))
-done lib held e pid (Free name) = entry (deed_of lib held e pid (free (meant lib name)))
-done lib held e pid (Touch place) = steady replies.Fine
-done lib held e pid (Peek place) = steady (replies.Bytes (bytes_of lib held e pid place (residence_named lib e pid place.«module»)))
-done lib held e pid (Shared place) =
-    entry (deed_of lib held e pid (get (serial_named lib e pid place) (meant lib place.«module») place.object place.offset place.len))
-done lib held e pid (Write place bytes) =
-    entry (deed_of lib held e pid (put (serial_named lib e pid place) (meant lib place.«module») place.object place.offset bytes))
-done lib held e pid (Query name key) = steady (replies.Address (address_of lib e pid name key))
-done lib held e pid Exit = entry (deed_of lib held e pid exit)
+unfoldable pub fine_answer : Library → Held → Eager → ℕ → Command → Answer
+fine_answer lib contents e pid (Start name) = entry (deed_of lib contents e pid (enter ways.Start (meant lib name)))
+fine_answer lib contents e pid (Load name) = entry (deed_of lib contents e pid (enter ways.Load (meant lib name)))
+fine_answer lib contents e pid (Free name) = entry (deed_of lib contents e pid (free (meant lib name)))
+fine_answer lib contents e pid (Touch place) = steady replies.Fine
+fine_answer lib contents e pid (Peek place) = steady (replies.Bytes (bytes_of lib contents e pid place (residence_named lib e pid place.«module»)))
+fine_answer lib contents e pid (Shared place) =
+    entry (deed_of lib contents e pid (get (serial_named lib e pid place) (meant lib place.«module») place.object place.offset place.len))
+fine_answer lib contents e pid (Write place bytes) =
+    entry (deed_of lib contents e pid (put (serial_named lib e pid place) (meant lib place.«module») place.object place.offset bytes))
+fine_answer lib contents e pid (Query name key) = steady (replies.Address (address_of lib e pid name key))
+fine_answer lib contents e pid Exit = entry (deed_of lib contents e pid exit)
 
 -- ---- the step
 
 -- the first refusal of a command, or what it does
 unfoldable pub answer_of : Library → Held → Eager → ℕ → Command → Answer
-answer_of lib held e pid command = elim (refusal_of lib e pid command) [
+answer_of lib contents e pid command = elim (refusal_of lib e pid command) [
   | Some refusal ↦ steady (replies.Refused refusal)
-  | None ↦ done lib held e pid command
+  | None ↦ fine_answer lib contents e pid command
 ]
 
 abbrev pub after_touch : Library → Eager → ℕ → Place → Eager
@@ -81,5 +79,31 @@ after_answer lib e pid command (steady reply) = after_steady lib e pid command r
 
 -- the state after a command, and its answer
 unfoldable pub Step : Library → Held → Eager → ℕ → Command → Eager × Answer
-Step lib held e pid command =
-    let answer = answer_of lib held e pid command in (after_answer lib e pid command answer, answer)
+Step lib contents e pid command =
+    let answer = answer_of lib contents e pid command in (after_answer lib e pid command answer, answer)
+
+-- ---- what a command asks
+
+-- what the entry of a command asks; a touch, a peek and a query ask nothing that others could see
+abbrev pub ask_by : Library → Eager → ℕ → Command → Option Ask
+ask_by lib e pid (Start name) = Some (enter ways.Start (meant lib name))
+ask_by lib e pid (Load name) = Some (enter ways.Load (meant lib name))
+ask_by lib e pid (Free name) = Some (free (meant lib name))
+ask_by lib e pid (Shared place) = Some (get (serial_named lib e pid place) (meant lib place.«module») place.object place.offset place.len)
+ask_by lib e pid (Write place bytes) = Some (put (serial_named lib e pid place) (meant lib place.«module») place.object place.offset bytes)
+ask_by lib e pid Exit = Some exit
+ask_by lib e pid (Touch place) = None
+ask_by lib e pid (Peek place) = None
+ask_by lib e pid (Query name key) = None
+
+-- a write has as many bytes as its place is long
+abbrev pub FitsPlace : Command → Type 0
+FitsPlace (Write place bytes) = length bytes ≡ place.len
+FitsPlace (Start name) = Unit {0}
+FitsPlace (Load name) = Unit {0}
+FitsPlace (Free name) = Unit {0}
+FitsPlace (Touch place) = Unit {0}
+FitsPlace (Peek place) = Unit {0}
+FitsPlace (Shared place) = Unit {0}
+FitsPlace (Query name key) = Unit {0}
+FitsPlace Exit = Unit {0}

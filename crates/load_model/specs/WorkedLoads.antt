@@ -1,5 +1,6 @@
 -- Worked values: what loads attach, place and call, and what leaves.
-use Rattle.std.specs.Prelude.{◌≡◌, ℕ, [], ◌∷◌, codes}
+use Rattle.std.specs.Prelude.{◌≡◌, ℕ, [], ◌∷◌, ◌++◌, codes, map}
+use Rattle.std.specs.List.{range_with_len}
 use Rattle.lx_types.specs.declared.parts.Parts.{Parts}
 use Rattle.load_model.specs.declared.commands.Command.{Command}
 use Rattle.load_model.specs.declared.commands.Command.TheVariants.{Start, Load, Free, Exit}
@@ -83,3 +84,30 @@ pub record WorkedPlaces : Type 0 where
   pub shared :
       answer_after with_program ((1, Start (codes "P")) ∷ []) 2 (Start (codes "P")) ≡
       entry (deeds.Enter ways.Start 1 [] (call Main 2 1 0x00010000 ∷ []))
+
+-- ---- calls for each process
+
+-- a library that is initialised and terminated for each process
+abbrev each : Library
+each = record (starting (codes "I") []) { flags = 0x4000_8004 } ∷ []
+
+abbrev both_load_I : Commands
+both_load_I = (1, Load (codes "I")) ∷ (2, Load (codes "I")) ∷ []
+
+-- the first 15 processes load D
+abbrev fifteen : Commands
+fifteen = map (λ pid. (pid, Load (codes "D"))) (range_with_len 1 15)
+
+pub record WorkedCalls : Type 0 where
+  pub first : answer_after each [] 1 (Load (codes "I")) ≡ entry (deeds.Enter ways.Load 0 (fresh 1 0 (0x10000000 ∷ []) ∷ []) (call Init 1 0 0x10000000 ∷ []))
+  pub second : answer_after each ((1, Load (codes "I")) ∷ []) 2 (Load (codes "I")) ≡ entry (deeds.Enter ways.Load 0 [] (call Init 1 0 0x10000000 ∷ []))
+  -- a second load by one process attaches nothing, and a free of one of two gives up nothing
+  pub again : answer_after each ((1, Load (codes "I")) ∷ []) 1 (Load (codes "I")) ≡ entry (deeds.Enter ways.Load 0 [] [])
+  pub one_of_two : answer_after each ((1, Load (codes "I")) ∷ (1, Load (codes "I")) ∷ []) 1 (Free (codes "I")) ≡ entry (deeds.Free 0 [] [])
+  pub freed : answer_after each both_load_I 1 (Free (codes "I")) ≡ entry (deeds.Free 0 (call Term 1 0 0x10000000 ∷ []) [])
+  pub all_gone : answer_after each (both_load_I ++ (1, Free (codes "I")) ∷ []) 2 Exit ≡ entry (deeds.Exit (call Term 1 0 0x10000000 ∷ []) (gone 1 0 ∷ []))
+  -- of sixteen processes the last one ends the residence
+  pub sixteenth : answer_after diamond fifteen 16 (Load (codes "D")) ≡ entry (deeds.Enter ways.Load 3 [] [])
+  pub last :
+      answer_after diamond (fifteen ++ map (λ pid. (pid, Exit)) (range_with_len 2 14)) 1 Exit ≡
+      entry (deeds.Exit (call Term 1 3 0x10000000 ∷ []) (gone 1 3 ∷ []))

@@ -2,6 +2,8 @@
 //! crate above calls where it needs the law.
 
 ghost use Rattle.load_model.specs.Laws.{AsksDecide, PrefixIsLegal, EachFollows, OneMoreIsLegal, NothingIsLegal, OneMoreIsAfter, FaultOnce, ReachedIsResident, AttachedIsReached, GoneIsUnreached, ResidenceStays, ReachStays, OthersRefuseAlike, OthersAnswerAlike, HeldAnswersAlike, HeldHistoriesAlike, LeastIsFound, CountsAreResidence};
+ghost use Rattle.load_model.specs.Accepted.{AcceptedMayAsk, TouchedIsApart};
+ghost use Rattle.load_model.specs.Serials.{SerialsRise};
 
 /// Two legal histories whose entries ask the same are the same: nothing else in them was free.
 pub fn asks_decide()
@@ -63,4 +65,16 @@ pub fn agreement_is_enough()
 /// An object that does not get its linked base gets the least free place, where there is one.
 pub fn least_place_is_found()
     ensures { LeastIsFound }
+{}
+
+/// Residences stand by rising serial numbers, so each has its own.
+pub fn serials_rise()
+    ensures { SerialsRise }
+{}
+
+/// A command that is not refused and has an entry may ask for it, and the entry is what the loader does
+/// then; what was touched decides neither.
+pub fn commands_are_asked()
+    ensures accepted { AcceptedMayAsk }
+    ensures touched { TouchedIsApart }
 {}

@@ -1,13 +1,18 @@
 //! Worked values of the definitions, from outside them: each function's contract is a table of values
 //! that the definitions give.
 
-ghost use Rattle.load_model.specs.WorkedLoads.{WorkedDiamond, WorkedPlaces};
+ghost use Rattle.load_model.specs.WorkedLoads.{WorkedDiamond, WorkedPlaces, WorkedCalls};
 ghost use Rattle.load_model.specs.WorkedBytes.{WorkedWrites};
 ghost use Rattle.load_model.specs.WorkedRefusals.{WorkedLoadRefusals, WorkedPlaceRefusals, WorkedQueries};
 
 /// A diamond of imports: what is new at each load, in which order it is initialised, and what leaves.
 pub fn diamond_loads()
     ensures { WorkedDiamond }
+{}
+
+/// Libraries that are called for each process, loads that are counted, and sixteen processes.
+pub fn processes_are_called()
+    ensures { WorkedCalls }
 {}
 
 /// Where objects stand beside others, and where there is no place for one.

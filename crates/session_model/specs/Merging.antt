@@ -16,7 +16,7 @@ use Rattle.load_model.specs.Modules.{Library, Held, number_of, object_at}
 use Rattle.load_model.specs.State.{Residence, Eager, nothing_yet, is_among}
 use Rattle.load_model.specs.Memory.{page, pages_over, is_touched, first_untouched}
 use Rattle.load_model.specs.Refusals.{residence_named}
-use Rattle.load_model.specs.Asks.{Ask, enter, free, exit, put, get, asked, deed_of, may_ask, after_deed, is_own}
+use Rattle.load_model.specs.Asks.{Ask, enter, free, exit, put, get, ask_in, deed_of, may_ask, after_deed, is_own}
 use Rattle.load_model.specs.Step.{steady, answer_of, after_steady, serial_named}
 use Rattle.load_model.specs.Histories.{is_fault_of}
 use Rattle.session_model.specs.declared.sessions.Line.{Line}
@@ -38,8 +38,8 @@ abbrev pub lines_at : List ScriptLines → ℕ → List Item
 lines_at s front = flat_map (lines_of front) (enumerate_from 1 s)
 
 -- each entry, and the lines behind it
-unfoldable pub merged : List Entry → List ScriptLines → List Item
-merged h s = lines_at s 0 ++ flat_map (λ e. entry e.1 ∷ lines_at s e.0) (enumerate_from 1 h)
+unfoldable pub merge_of : List Entry → List ScriptLines → List Item
+merge_of h s = lines_at s 0 ++ flat_map (λ e. entry e.1 ∷ lines_at s e.0) (enumerate_from 1 h)
 
 -- ---- the state at a place of it
 
@@ -84,7 +84,7 @@ AsksFor lib (commands.Peek p) ask = ⊥
 AsksFor lib (commands.Query name key) ask = ⊥
 
 abbrev pub IsFor : Library → Item → Command → Type 0
-IsFor lib (entry x) command = AsksFor lib command (asked x.deed)
+IsFor lib (entry x) command = AsksFor lib command (ask_in x.deed)
 IsFor lib (line pid l) command = l.command ≡ command
 
 abbrev pub AreFor : Library → List Item → List Command → Type 0
@@ -166,14 +166,14 @@ uses_touched e pid (deeds.Write serial m object offset bytes) = is_none (first_u
 uses_touched e pid (deeds.Shared serial m object offset bytes) = is_none (first_untouched (e.processes pid) serial object offset (length bytes))
 uses_touched e pid deed = true
 
-pub record EntryReplies (lib : Library) (held : Held) (e : Eager) (x : Entry) : Type 0 where
-  pub may : IsTrue (may_ask lib e x.pid (asked x.deed))
-  pub done : x.deed ≡ deed_of lib held e x.pid (asked x.deed)
+pub record EntryReplies (lib : Library) (contents : Held) (e : Eager) (x : Entry) : Type 0 where
+  pub may : IsTrue (may_ask lib e x.pid (ask_in x.deed))
+  pub done : x.deed ≡ deed_of lib contents e x.pid (ask_in x.deed)
   pub touched : IsTrue (uses_touched e x.pid x.deed)
 
 abbrev pub Replies : Library → Held → List Item → Item → List Item → Type 0
-Replies lib held before (entry x) behind = EntryReplies lib held (state_behind lib before) x
-Replies lib held before (line pid l) behind = answer_of lib held (state_behind lib before) pid l.command ≡ steady l.reply
+Replies lib contents before (entry x) behind = EntryReplies lib contents (state_behind lib before) x
+Replies lib contents before (line pid l) behind = answer_of lib contents (state_behind lib before) pid l.command ≡ steady l.reply
 
 -- ---- all of it
 
@@ -181,12 +181,12 @@ abbrev pub numbers_of : List ScriptLines → List ℕ
 numbers_of s = map (λ lines. lines.pid) s
 
 -- A history, the steady lines of each process, and the scripts.
-pub record Merge (lib : Library) (held : Held) (h : List Entry) (s : List ScriptLines) (scripts : List Script) : Type 0 where
+pub record Merge (lib : Library) (contents : Held) (h : List Entry) (s : List ScriptLines) (scripts : List Script) : Type 0 where
   -- there are lines for each script, and entries of no other process
   pub processes : numbers_of s ≡ map (λ script. script.pid) scripts
   pub entries : AllByRecursion (λ x. x.pid ≤ length scripts) h
   pub fronts : FrontsRise h s
-  pub commands : AllCommands lib (merged h s) scripts
-  pub faults : AllItems (FaultLeads lib) (merged h s)
-  pub touches : AllItems (TouchFollows lib) (merged h s)
-  pub replies : AllItems (Replies lib held) (merged h s)
+  pub commands : AllCommands lib (merge_of h s) scripts
+  pub faults : AllItems (FaultLeads lib) (merge_of h s)
+  pub touches : AllItems (TouchFollows lib) (merge_of h s)
+  pub replies : AllItems (Replies lib contents) (merge_of h s)

@@ -37,13 +37,13 @@ session_of statements = record { modules = filter_map module_of statements; scri
 -- ---- a line among others
 
 -- the statement of a line, where it has one
-abbrev pub said : Reading → Option Statement
-said nothing = None
-said (says statement) = Some statement
-said (wrong kind) = None
+abbrev pub statement_in : Reading → Option Statement
+statement_in nothing = None
+statement_in (says statement) = Some statement
+statement_in (wrong kind) = None
 
 abbrev pub statements_of : List (List ℕ) → List Statement
-statements_of lines = filter_map (λ line. said (reading_of line)) lines
+statements_of lines = filter_map (λ line. statement_in (reading_of line)) lines
 
 abbrev pub number_or : Option ℕ → Statement → Option ℕ
 number_or so_far (process n) = Some n

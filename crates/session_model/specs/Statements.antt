@@ -126,9 +126,9 @@ statement_of (w ∷ a ∷ b ∷ c ∷ []) = says (gives (Build a b (c ∷ [])))
 statement_of (w ∷ a ∷ b ∷ c ∷ d ∷ ws) =
     if is_word w (codes "build") then says (gives (Build a b (c ∷ d ∷ ws))) else five_words w a b c d
 
-abbrev pub counted : Option (ℕ × Option ℕ) → List (List ℕ) → Reading
-counted None ws = wrong kinds.Statement
-counted (Some counts) ws = if not (is_within (length ws) counts) || has_long ws then wrong kinds.Count else statement_of ws
+abbrev pub by_count : Option (ℕ × Option ℕ) → List (List ℕ) → Reading
+by_count None ws = wrong kinds.Statement
+by_count (Some counts) ws = if not (is_within (length ws) counts) || has_long ws then wrong kinds.Count else statement_of ws
 
 abbrev pub is_comment : List ℕ → Bool
 is_comment [] = false
@@ -136,7 +136,7 @@ is_comment (b ∷ bytes) = b == 0x23
 
 abbrev pub of_words : List (List ℕ) → Reading
 of_words [] = nothing
-of_words (w ∷ ws) = if is_comment w then nothing else counted (word_count w) (w ∷ ws)
+of_words (w ∷ ws) = if is_comment w then nothing else by_count (word_count w) (w ∷ ws)
 
 -- ---- the line: its bytes are judged first, in a comment too
 

@@ -13,11 +13,11 @@ abbrev pub hex_address : ℕ → List ℕ
 hex_address a = hex_byte (a / 0x100_0000) ++ hex_byte (a / 0x1_0000) ++ hex_byte (a / 0x100) ++ hex_byte a
 
 -- a byte of a name: one outside 21h to 7Eh, and `%`, as `%` and two digits
-abbrev pub escaped : ℕ → List ℕ
-escaped b = if nat_lt b 0x21 || nat_lt 0x7E b || (b == 0x25) then 0x25 ∷ hex_byte b else b ∷ []
+abbrev pub escape : ℕ → List ℕ
+escape b = if nat_lt b 0x21 || nat_lt 0x7E b || (b == 0x25) then 0x25 ∷ hex_byte b else b ∷ []
 
 abbrev pub name_text : List ℕ → List ℕ
-name_text name = flat_map escaped name
+name_text name = flat_map escape name
 
 -- words with one blank between each two
 abbrev pub words : List (List ℕ) → List ℕ

@@ -31,24 +31,24 @@ D = library (codes "D") (object code 8 0x10000000 ∷ []) ∷ []
 abbrev bytes_of_D : Held
 bytes_of_D m bases o x = slice_index (0 ∷ 0 ∷ 0 ∷ 0 ∷ 0 ∷ 0 ∷ 0 ∷ 0x10 ∷ []) x
 
-abbrev did : ℕ → Deed → Entry
-did pid deed = record { pid = pid; deed = deed }
+abbrev entry_of : ℕ → Deed → Entry
+entry_of pid deed = record { pid = pid; deed = deed }
 
-abbrev said : ℕ → Command → Reply → Line
-said front command reply = record { front = front; command = command; reply = reply }
+abbrev line_at : ℕ → Command → Reply → Line
+line_at front command reply = record { front = front; command = command; reply = reply }
 
 abbrev history_of_D : List Entry
 history_of_D =
-    did 1 (Enter ways.Load 0 (fresh 1 0 (0x10000000 ∷ []) ∷ []) []) ∷ did 1 (Fault 1 0 (page 1 0)) ∷ did 1 (Free 0 [] (gone 1 0 ∷ []))
-    ∷ did 1 (Exit [] []) ∷ []
+    entry_of 1 (Enter ways.Load 0 (fresh 1 0 (0x10000000 ∷ []) ∷ []) []) ∷ entry_of 1 (Fault 1 0 (page 1 0)) ∷ entry_of 1 (Free 0 [] (gone 1 0 ∷ []))
+    ∷ entry_of 1 (Exit [] []) ∷ []
 
 abbrev lines_of_D : List ScriptLines
 lines_of_D =
     record {
       pid = 1;
       lines =
-          said 2 (commands.Touch (place (codes "D") 1 4 4)) replies.Fine
-          ∷ said 2 (commands.Peek (place (codes "D") 1 0 8)) (replies.Bytes (0 ∷ 0 ∷ 0 ∷ 0 ∷ 0 ∷ 0 ∷ 0 ∷ 0x10 ∷ [])) ∷ [];
+          line_at 2 (commands.Touch (place (codes "D") 1 4 4)) replies.Fine
+          ∷ line_at 2 (commands.Peek (place (codes "D") 1 0 8)) (replies.Bytes (0 ∷ 0 ∷ 0 ∷ 0 ∷ 0 ∷ 0 ∷ 0 ∷ 0x10 ∷ [])) ∷ [];
     }
     ∷ []
 
@@ -70,13 +70,13 @@ pub record WorkedRun : Type 0 where
 
 -- a second fault of a page, and a history that frees what is not loaded
 abbrev twice : List Entry
-twice = did 1 (Enter ways.Load 0 (fresh 1 0 (0x10000000 ∷ []) ∷ []) []) ∷ did 1 (Fault 1 0 (page 1 0)) ∷ did 1 (Fault 1 0 (page 1 0)) ∷ []
+twice = entry_of 1 (Enter ways.Load 0 (fresh 1 0 (0x10000000 ∷ []) ∷ []) []) ∷ entry_of 1 (Fault 1 0 (page 1 0)) ∷ entry_of 1 (Fault 1 0 (page 1 0)) ∷ []
 
 pub record WorkedIllegal : Type 0 where
   pub twice : Legal D bytes_of_D twice → ⊥
-  pub not_loaded : Legal D bytes_of_D (did 1 (Free 0 [] []) ∷ []) → ⊥
+  pub not_loaded : Legal D bytes_of_D (entry_of 1 (Free 0 [] []) ∷ []) → ⊥
   -- a serial number that is not the next one
-  pub serial : Legal D bytes_of_D (did 1 (Enter ways.Load 0 (fresh 2 0 (0x10000000 ∷ []) ∷ []) []) ∷ []) → ⊥
+  pub serial : Legal D bytes_of_D (entry_of 1 (Enter ways.Load 0 (fresh 2 0 (0x10000000 ∷ []) ∷ []) []) ∷ []) → ⊥
 
 -- ---- each kind of line
 
@@ -88,10 +88,10 @@ abbrev numbers : List ℕ
 numbers = 3 ∷ 7 ∷ []
 
 abbrev entry_is : Deed → List ℕ → Type 0
-entry_is deed text = entry_text named numbers (12, did 2 deed) ≡ text
+entry_is deed text = entry_text named numbers (12, entry_of 2 deed) ≡ text
 
 abbrev line_is : Command → Reply → List ℕ → Type 0
-line_is command reply text = line_text (said 5 command reply) ≡ ln text
+line_is command reply text = line_text (line_at 5 command reply) ≡ ln text
 
 pub record WorkedLines : Type 0 where
   pub start : entry_is (Enter ways.Start 0 (fresh 1 0 [] ∷ []) (call Main 1 0 0x10000 ∷ [])) (ln (codes "12 P7 start A") ++ ln (codes "  new 1 A") ++ ln (codes "  call main 1 A 00010000"))

@@ -1,0 +1,16 @@
+-- Serial numbers: each residence has its own, of those that were given.
+use Rattle.std.specs.Prelude.{ℕ, ◌≤◌, ◌<◌, List, [], ◌∷◌, map}
+use Rattle.load_model.specs.declared.deeds.Entry.{Entry}
+use Rattle.load_model.specs.Modules.{Library, Held}
+use Rattle.load_model.specs.Histories.{state_after, Legal}
+
+-- numbers that rise, from behind one up to another
+abbrev pub Rise : ℕ → List ℕ → ℕ → Type 0
+Rise low [] high = low ≤ high
+Rise low (n ∷ ns) high = (low < n) × Rise n ns high
+
+-- In every legal history the residences stand by rising serial numbers, from 1 to the last that was given.
+abbrev pub SerialsRise : Type 0
+SerialsRise =
+    (lib : Library) (contents : Held) (h : List Entry) → Legal lib contents h →
+    Rise 0 (map (λ r. r.serial) (state_after lib h).residences) (state_after lib h).serials
