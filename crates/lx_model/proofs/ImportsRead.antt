@@ -4,8 +4,8 @@ use Rattle.std.specs.List.{flat_map, AllByRecursion as Each}
 use Rattle.lx_bytes.specs.Cursor.{Cursor}
 use Rattle.lx_bytes.specs.LittleEndian.{AreBytes}
 use Rattle.lx_types.specs.declared.refusal.LxKind.TheVariants as kinds
-use Rattle.lx_model.specs.Reading.{fault, cursor, text, number, Read, ◌>>=◌, ends, Many, many}
-use Rattle.lx_model.specs.NameTables.{import_entry, imports_in, import_spelling, ImportFits}
+use Rattle.lx_model.specs.Reading.{fault, cursor, text, number, Read, ends, Many, many}
+use Rattle.lx_model.specs.NameTables.{import_name, import_entry, imports_in, import_spelling, ImportFits}
 use Rattle.lx_model.specs.TableLaws.{ImportsReadAgain}
 use Rattle.lx_model.proofs.Many.{Whole, none_whole, more_whole, whole_is, whole_ends, Cases, many_holds}
 use Rattle.lx_model.proofs.NamesRead.{not_zero}
@@ -18,14 +18,18 @@ use Rattle.lx_model.proofs.Takes.{Takes, Takes-then, takes_nothing, number_takes
 abbrev item : ℕ → List ℕ → Option (List ℕ × ℕ)
 item n name = Some (name, n)
 
-abbrev behind_length : ℕ → ℕ → ℕ × Cursor → Read (Option (List ℕ × ℕ))
-behind_length n at len = cond (eqb len.0 0) (Err (fault kinds.ImportTable at)) (text len.0 len.1 >>= λ name. done (item n name.0, name.1))
+abbrev behind_length : ℕ → ℕ × Cursor → Read (List ℕ)
+behind_length at len = cond (eqb len.0 0) (Err (fault kinds.ImportTable at)) (text len.0 len.1)
+
+alone_reads : (name : List ℕ) → ImportFits name → ReadsAs import_name (import_spelling name) name
+unfolding import_name
+alone_reads name fits at rest =
+    bind_reads (number 1) (behind_length at) (length name ∷ []) name (length name) name (byte_reads (length name) fits.short)
+    (λ at' rest'. rw (not_zero (length name) fits.some) (text_reads name at' rest')) at rest
 
 name_reads : (n : ℕ) (name : List ℕ) → ImportFits name → ReadsAs (import_entry (suc n)) (import_spelling name) (item n name)
 unfolding import_entry
-name_reads n name fits at rest =
-    bind_reads (number 1) (behind_length n at) (length name ∷ []) name (length name) (item n name) (byte_reads (length name) fits.short)
-    (λ at' rest'. rw (not_zero (length name) fits.some) (done_reads (text (length name)) (item n) name name (text_reads name) at' rest')) at rest
+name_reads n name fits = done_reads import_name (item n) (import_spelling name) name (alone_reads name fits)
 
 names_end : (c : Cursor) → import_entry 0 c ≡ Ok (None, c)
 unfolding import_entry
@@ -46,33 +50,36 @@ imports_again names rest fits = whole_is (many import_entry (length names) (curs
 
 -- ---- what was taken
 
+pub record AloneTaken (c : Cursor) (name : List ℕ) (d : Cursor) : Type 0 where
+  pub fits : ImportFits name
+  pub taken : Takes c (import_spelling name) d
+
+pub alone_taken : (c d : Cursor) (name : List ℕ) → AreBytes c.left → import_name c ≡ Ok (name, d) → AloneTaken c name d
+unfolding import_name
+alone_taken c d name h e =
+    let first = bind_ok (number 1 c) (behind_length c.at) (name, d) e in
+    let len = first.0 in
+    let a = number_takes 1 c len.1 len.0 h first.1 in
+    let guard = guard_ok (eqb len.0 0) (fault kinds.ImportTable c.at) (text len.0 len.1) (name, d) first.2 in
+    let b = text_takes len.0 len.1 d name a.taken.rest guard.1 in
+    let size = b.len in
+    let byte : Takes c (length name ∷ []) len.1 = subst (λ (k : ℕ). Takes c (k ∷ []) len.1) (sym size) (byte_taken c len.1 len.0 a.below a.taken) in
+    let some : 0 < length name = rw size (positive len.0 guard.0) in
+    let short : length name < 256 = rw size a.below in
+    record { fits = record { some = some; short = short }; taken = Takes-then c len.1 d (length name ∷ []) name byte b.taken }
+
 -- a name that is there, and as many behind it
 pub record NameTaken (n : ℕ) (c : Cursor) (x : List ℕ × ℕ) (d : Cursor) : Type 0 where
   pub count : n ≡ suc x.1
-  pub fits : ImportFits x.0
-  pub taken : Takes c (import_spelling x.0) d
+  pub alone : AloneTaken c x.0 d
 
-pub name_taken : (n : ℕ) (c d : Cursor) (x : List ℕ × ℕ) → AreBytes c.left → import_entry n c ≡ Ok (Some x, d) → NameTaken n c x d
+name_taken : (n : ℕ) (c d : Cursor) (x : List ℕ × ℕ) → AreBytes c.left → import_entry n c ≡ Ok (Some x, d) → NameTaken n c x d
 unfolding import_entry
 name_taken zero c d x h e = absurd (never c d x (ends c) refl e)
 name_taken (suc n) c d x h e =
-    let first = bind_ok (number 1 c) (behind_length n c.at) (Some x, d) e in
-    let len = first.0 in
-    let a = number_takes 1 c len.1 len.0 h first.1 in
-    let guard = guard_ok (eqb len.0 0) (fault kinds.ImportTable c.at) (text len.0 len.1 >>= λ name. done (item n name.0, name.1)) (Some x, d) first.2 in
-    let second = bind_ok (text len.0 len.1) (λ name. done (item n name.0, name.1)) (Some x, d) guard.1 in
-    let name = second.0 in
-    let b = text_takes len.0 len.1 name.1 name.0 a.taken.rest second.1 in
-    let size = b.len in
-    let byte : Takes c (length name.0 ∷ []) len.1 = subst (λ (k : ℕ). Takes c (k ∷ []) len.1) (sym size) (byte_taken c len.1 len.0 a.below a.taken) in
-    let some : 0 < length name.0 = rw size (positive len.0 guard.0) in
-    let short : length name.0 < 256 = rw size a.below in
-    let here : NameTaken (suc n) c (name.0, n) name.1 = record {
-      count = refl;
-      fits = record { some = some; short = short };
-      taken = Takes-then c len.1 name.1 (length name.0 ∷ []) name.0 byte b.taken;
-    } in
-    at_item (NameTaken (suc n) c) (name.0, n) x name.1 d second.2 here
+    let first = bind_ok (import_name c) (λ name. done (item n name.0, name.1)) (Some x, d) e in
+    let name = first.0 in
+    at_item (NameTaken (suc n) c) (name.0, n) x name.1 d first.2 (record { count = refl; alone = alone_taken c name.1 name.0 h first.1 })
 
 abbrev no_name : Option (List ℕ × ℕ)
 no_name = None
@@ -83,11 +90,8 @@ ends_at_zero zero c d e =
     let pair : (no_name, c) ≡ (no_name, d) = cc in
     (refl, ap (λ (p : Option (List ℕ × ℕ) × Cursor). p.1) pair)
 ends_at_zero (suc n) c d e =
-    let first = bind_ok (number 1 c) (behind_length n c.at) (None, d) e in
-    let len = first.0 in
-    let guard = guard_ok (eqb len.0 0) (fault kinds.ImportTable c.at) (text len.0 len.1 >>= λ name. done (item n name.0, name.1)) (None, d) first.2 in
-    let second = bind_ok (text len.0 len.1) (λ name. done (item n name.0, name.1)) (None, d) guard.1 in
-    absurd (never d second.0.1 (second.0.0, n) (done (item n second.0.0, second.0.1)) second.2 refl)
+    let first = bind_ok (import_name c) (λ name. done (item n name.0, name.1)) (None, d) e in
+    absurd (never d first.0.1 (first.0.0, n) (done (item n first.0.0, first.0.1)) first.2 refl)
 
 -- how many names there are, and how they stand there
 pub record ImportsTaken (n : ℕ) (c : Cursor) (names : List (List ℕ)) (d : Cursor) : Type 0 where
@@ -108,11 +112,11 @@ imports_taken = record {
   wrong = λ n c e is h end ok. absurd cc;
   more = λ n c d x m e again h end is.
       let first = name_taken n c d x h e in
-      let rest = again first.taken.rest end is in
+      let rest = again first.alone.taken.rest end is in
       let size = first.count in
       let others = rest.count in
       let sum : suc (length m.items) ≡ n = (omega (arith, size, others)) in
-      record { count = sum; fits = (first.fits, rest.fits); taken = Takes-then c d end (import_spelling x.0) (flat_map import_spelling m.items) first.taken rest.taken };
+      record { count = sum; fits = (first.alone.fits, rest.fits); taken = Takes-then c d end (import_spelling x.0) (flat_map import_spelling m.items) first.alone.taken rest.taken };
 }
 
 pub record TableTaken (n : ℕ) (bytes : List ℕ) (names : List (List ℕ)) : Type 0 where
@@ -134,11 +138,8 @@ count_of_step : (n : ℕ) (c d : Cursor) (x : List ℕ × ℕ) → import_entry 
 unfolding import_entry
 count_of_step zero c d x e = absurd (never c d x (ends c) refl e)
 count_of_step (suc n) c d x e =
-    let first = bind_ok (number 1 c) (behind_length n c.at) (Some x, d) e in
-    let len = first.0 in
-    let guard = guard_ok (eqb len.0 0) (fault kinds.ImportTable c.at) (text len.0 len.1 >>= λ name. done (item n name.0, name.1)) (Some x, d) first.2 in
-    let second = bind_ok (text len.0 len.1) (λ name. done (item n name.0, name.1)) (Some x, d) guard.1 in
-    at_item (λ y _. suc n ≡ suc y.1) (second.0.0, n) x second.0.1 d second.2 refl
+    let first = bind_ok (import_name c) (λ name. done (item n name.0, name.1)) (Some x, d) e in
+    at_item (λ y _. suc n ≡ suc y.1) (first.0.0, n) x first.0.1 d first.2 refl
 
 counted : Cases import_entry AreCounted
 counted = record {

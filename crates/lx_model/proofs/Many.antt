@@ -1,12 +1,12 @@
 -- Items of a table, one behind the other: what a step that reads one more says of all of them.
-use Rattle.std.proofs.Common.{◌≡◌, ℕ, zero, suc, ◌<◌, ◌≤◌, Bool, true, false, cond, ltb, List, [], ◌∷◌, length, take, Option, Some, None, Ok, Err, refl, subst, ap, ◌∙◌, arith}
+use Rattle.std.proofs.Common.{◌≡◌, ℕ, zero, suc, ◌<◌, ◌≤◌, Bool, true, false, cond, ltb, List, [], ◌∷◌, ◌++◌, length, take, Option, Some, None, Ok, Err, refl, sym, subst, ap, ◌∙◌, append_assoc, append-nil, arith}
 use Rattle.std.proofs.lemmas.Bool.{ltb-false}
 use Rattle.std.proofs.lemmas.List.{length-drop}
 use Rattle.lx_bytes.specs.Cursor.{Cursor, advance}
 use Rattle.lx_bytes.specs.LittleEndian.{little}
 use Rattle.lx_types.specs.declared.refusal.LxRefusal.{LxRefusal}
 use Rattle.lx_types.specs.declared.refusal.LxKind.TheVariants.{Short}
-use Rattle.lx_model.specs.Reading.{fault, cursor, text, number, Read, ◌>>=◌, Step, Many, ends_at, faulty, with_front, behind_item, behind_step, many_from, many, whole, Shortens, OneByOne}
+use Rattle.lx_model.specs.Reading.{fault, cursor, text, number, Read, ◌>>=◌, Step, Many, ends_at, faulty, with_front, front, behind_item, behind_step, many_from, many, whole, Shortens, OneByOne}
 use Rattle.lx_model.proofs.Steps.{bind_ok, guard_ok}
 
 -- ---- steps enough
@@ -52,6 +52,24 @@ many_more step h s c d x e =
 
 pub one_by_one : {S A : Type 0} (step : Step S A) → Shortens step → OneByOne step
 one_by_one step h = record { shorter = h; none = many_ends step; more = many_more step h; wrong = many_fails step }
+
+-- ---- what a loop keeps: the items so far, and what is read behind them, are the whole table
+
+pub front_none : {S A : Type 0} (step : Step S A) (s : S) (c d : Cursor) (before : List A) (all : Many A) → step s c ≡ Ok (None, d) → front before (many step s c) ≡ all → whole all ≡ Ok before
+front_none {S} {A} step s c d before all e kept =
+    let here : front before (many step s c) ≡ front before (ends_at d) = ap (front before) (many_ends step s c d e) in
+    ap whole (sym kept ∙ here) ∙ ap (λ (xs : List A). Ok xs) (append-nil before)
+
+pub front_wrong : {S A : Type 0} (step : Step S A) (s : S) (c : Cursor) (e : LxRefusal) (before : List A) (all : Many A) → step s c ≡ Err e → front before (many step s c) ≡ all → whole all ≡ Err e
+front_wrong step s c e before all is kept = ap whole (sym kept ∙ ap (front before) (many_fails step s c e is))
+
+pub front_more : {S A : Type 0} (step : Step S A) → Shortens step → (s : S) (c d : Cursor) (x : A × S) (before : List A) (all : Many A) → step s c ≡ Ok (Some x, d) → front before (many step s c) ≡ all →
+    front (before ++ x.0 ∷ []) (many step x.1 d) ≡ all
+front_more {S} {A} step h s c d x before all e kept =
+    let others = many step x.1 d in
+    let here : front before (many step s c) ≡ front before (with_front x.0 others) = ap (front before) (many_more step h s c d x e) in
+    let same : (before ++ x.0 ∷ []) ++ others.items ≡ before ++ x.0 ∷ others.items = append_assoc before (x.0 ∷ []) others.items in
+    ap (λ (xs : List A). record { items = xs; end = others.end }) same ∙ sym here ∙ kept
 
 -- ---- tables that are read whole
 

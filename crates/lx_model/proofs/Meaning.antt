@@ -50,16 +50,16 @@ imports_count file e =
 
 -- ---- the parts
 
-record Judged (file : List ℕ) : Type 0 where
-  objects : objects_fault file ≡ None
-  pages : pages_fault file ≡ None
-  imports : imports_fault file ≡ None
-  entries : entries_fault file ≡ None
-  start : start_fault file ≡ None
-  spans : spans_fault file ≡ None
-  records : first_of (page_count file) (page_records_fault file) ≡ None
+pub record Judged (file : List ℕ) : Type 0 where
+  pub objects : objects_fault file ≡ None
+  pub pages : pages_fault file ≡ None
+  pub imports : imports_fault file ≡ None
+  pub entries : entries_fault file ≡ None
+  pub start : start_fault file ≡ None
+  pub spans : spans_fault file ≡ None
+  pub records : first_of (page_count file) (page_records_fault file) ≡ None
 
-judged : (file : List ℕ) → LxFault file ≡ None → Judged file
+pub judged : (file : List ℕ) → LxFault file ≡ None → Judged file
 unfolding LxFault
 judged file e =
     let a = then_none (header_fault file) (objects_fault file then pages_fault file then resident_fault file then others_fault file then imports_fault file then entries_fault file then start_fault file then spans_fault file then first_of (page_count file) (page_records_fault file)) e in

@@ -11,7 +11,7 @@ use Rattle.lx_model.specs.TableLaws.{OneTargetMore}
 both_equal : (a b c d : ℕ) → (eqb a b && eqb c d) ≡ true → (a ≡ b) × (c ≡ d)
 both_equal a b c d e = (grind (arith, nat_tests), grind (arith, nat_tests))
 
-same_is : (t u : FixTarget) → same_target t u ≡ true → t ≡ u
+pub same_is : (t u : FixTarget) → same_target t u ≡ true → t ≡ u
 same_is (Internal o x) (Internal p y) e = let parts = both_equal o p x y e in let a = parts.0 in let b = parts.1 in cc
 same_is (Internal o x) (Ordinal p y) e = absurd cc
 same_is (Internal o x) (Named p y) e = absurd cc
@@ -38,11 +38,11 @@ filter_more p (u ∷ ts) t = by_test (p u) (filter_more p ts t)
     by_test true e = ap (λ (xs : List FixTarget). u ∷ xs) e
     by_test false e = e
 
-abbrev among : FixTarget → List FixTarget → Bool
+abbrev pub among : FixTarget → List FixTarget → Bool
 among t ts = list_any (λ u. same_target u t) ts
 
 -- targets that are another one's are none of a target that is not the same
-still_among : (u t : FixTarget) (ts : List FixTarget) → same_target u t ≡ false → among t (filter (λ v. not (same_target u v)) ts) ≡ among t ts
+pub still_among : (u t : FixTarget) (ts : List FixTarget) → same_target u t ≡ false → among t (filter (λ v. not (same_target u v)) ts) ≡ among t ts
 still_among u t [] e = refl
 still_among u t (v ∷ ts) e = by_test (same_target u v) refl (still_among u t ts e)
   where

@@ -31,7 +31,7 @@ record Means (records : Many Record) (fixes : List Fix) : Type 0 where
 abbrev item : ℕ → List Fix → Option (Record × Unit {0})
 item at fixes = Some (record { at = at; fixes = fixes }, tt)
 
-next_ends : (at : ℕ) → next_record tt (cursor at []) ≡ Ok (None, cursor at [])
+pub next_ends : (at : ℕ) → next_record tt (cursor at []) ≡ Ok (None, cursor at [])
 unfolding next_record
 next_ends at = refl
 

@@ -34,13 +34,13 @@ record_there m r h =
     (λ f e. there m f.target (fault BadTarget r.at) e)
     (each_first (λ f. cond (is_target m f.target) None (Some (fault BadTarget r.at))) r.fixes h)
 
-records_there : (m : Targets) (rs : Many Record) → records_fault m rs ≡ None → Each (λ f. IsThere m f.target) (fixes_of rs)
+pub records_there : (m : Targets) (rs : Many Record) → records_fault m rs ≡ None → Each (λ f. IsThere m f.target) (fixes_of rs)
 records_there m rs h =
     let good = then_none (first (map (target_fault m) rs.items)) (fault_of rs.end) h in
     each_flat_map (λ f. IsThere m f.target) (λ r. r.fixes) rs.items
     (each_more (λ r. target_fault m r ≡ None) (λ r. Each (λ f. IsThere m f.target) r.fixes) rs.items (record_there m) (each_first (target_fault m) rs.items good.0))
 
-targets_there : (file : List ℕ) → first_of (page_count file) (page_records_fault file) ≡ None → Each (IsThere (targets_in file)) (targets_of file)
+pub targets_there : (file : List ℕ) → first_of (page_count file) (page_records_fault file) ≡ None → Each (IsThere (targets_in file)) (targets_of file)
 targets_there file h =
     each_flat_map (IsThere (targets_in file)) (λ k. map (λ f. f.target) (fixes_of (page_records file k))) (range_with_len 0 (page_count file))
     (each_in_range _ 0 (page_count file) (λ k low lt.

@@ -4,7 +4,7 @@ use Rattle.lx_bytes.specs.Cursor.{Cursor}
 use Rattle.lx_types.specs.declared.refusal.LxKind.TheVariants as kinds
 use Rattle.lx_types.specs.declared.entry.EntryHead.{EntryHead}
 use Rattle.lx_model.specs.Reading.{fault, text, number, Read, ◌>>=◌, ends, Shortens}
-use Rattle.lx_model.specs.NameTables.{name_entry, import_entry}
+use Rattle.lx_model.specs.NameTables.{name_entry, import_name, import_entry}
 use Rattle.lx_model.specs.EntryTable.{LAST_ORDINAL, names_one_of, at_entry, gate_entry, forward_entry, bundle_entries, object_entries, bundle_of_type, bundle_at}
 use Rattle.lx_types.specs.declared.object.TheConstants.{PAGE_SIZE}
 use Rattle.lx_types.specs.declared.fix.Source.{Source}
@@ -26,13 +26,16 @@ name_shortens known c d x e =
     (bind_leaves _ (text len at) _ (text_leaves len _ at lt) (λ name at lt.
     bind_leaves _ (number 2 at) _ (number_leaves 2 _ at lt) (λ ordinal at lt. done_leaves _ _ at lt)))) (Some x) d e
 
+name_leaves : (c : Cursor) → Leaves (length c.left) (import_name c)
+unfolding import_name
+name_leaves c =
+    bind_leaves (length c.left) (number 1 c) _ (number_takes_some 1 c (omega arith)) (λ len at lt.
+    cond_leaves _ (eqb len 0) _ _ (err_leaves _ _) (text_leaves len _ at lt))
+
 pub import_shortens : Shortens import_entry
 unfolding import_entry
 import_shortens zero c d x e = absurd (never c d x (ends c) refl e)
-import_shortens (suc n) c d x e =
-    bind_leaves (length c.left) (number 1 c) _ (number_takes_some 1 c (omega arith)) (λ len at lt.
-    cond_leaves _ (eqb len 0) _ _ (err_leaves _ _)
-    (bind_leaves _ (text len at) _ (text_leaves len _ at lt) (λ name at lt. done_leaves _ _ at lt))) (Some x) d e
+import_shortens (suc n) c d x e = bind_leaves (length c.left) (import_name c) _ (name_leaves c) (λ name at lt. done_leaves _ _ at lt) (Some x) d e
 
 -- ---- entries
 

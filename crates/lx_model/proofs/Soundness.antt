@@ -57,7 +57,7 @@ page_fits : (file : List ℕ) (at : ℕ) (kind : Option PageKind) → data_fault
 page_fits file at (Some kind) e = kind_fits file at kind e
 page_fits file at None e = absurd cc
 
-page_is_whole : (file : List ℕ) (k : ℕ) → page_fault file k ≡ None → data_fault file (page_place file k) (page_entry file (page_place file k)) ≡ None
+pub page_is_whole : (file : List ℕ) (k : ℕ) → page_fault file k ≡ None → data_fault file (page_place file k) (page_entry file (page_place file k)) ≡ None
 page_is_whole file k e =
     let at = page_place file k in
     let judged = data_fault file at (page_entry file at) in

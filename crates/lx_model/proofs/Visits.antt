@@ -14,7 +14,7 @@ abbrev pub In : ℕ → List ℕ → Type 0
 In x [] = ⊥
 In x (y ∷ ys) = (x ≡ y) ⊎ In x ys
 
-In-front : (x : ℕ) (ys zs : List ℕ) → In x ys → In x (ys ++ zs)
+pub In-front : (x : ℕ) (ys zs : List ℕ) → In x ys → In x (ys ++ zs)
 In-front x [] zs h = absurd h
 In-front x (y ∷ ys) zs (inl e) = inl e
 In-front x (y ∷ ys) zs (inr h) = inr (In-front x ys zs h)
@@ -23,7 +23,7 @@ In-back : (x : ℕ) (ys zs : List ℕ) → In x zs → In x (ys ++ zs)
 In-back x [] zs h = h
 In-back x (y ∷ ys) zs h = inr (In-back x ys zs h)
 
-In-split : (x : ℕ) (ys zs : List ℕ) → In x (ys ++ zs) → In x ys ⊎ In x zs
+pub In-split : (x : ℕ) (ys zs : List ℕ) → In x (ys ++ zs) → In x ys ⊎ In x zs
 In-split x [] zs h = inr h
 In-split x (y ∷ ys) zs (inl e) = inl (inl e)
 In-split x (y ∷ ys) zs (inr h) = elim (In-split x ys zs h) [ inl a ↦ inl (inr a) | inr b ↦ inr b ]

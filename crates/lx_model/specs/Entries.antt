@@ -4,6 +4,8 @@ use Rattle.std.specs.Prelude.{◌≡◌, ◌<◌, ℕ, zero, suc, List, length, 
 use Rattle.lx_types.specs.declared.parts.Parts.{Parts}
 use Rattle.lx_types.specs.declared.entry.EntryHead.{EntryHead}
 use Rattle.lx_types.specs.declared.entry.EntryHead.TheVariants.{At, Gate286, Forward}
+use Rattle.lx_types.specs.declared.entry.EntryKey.{EntryKey}
+use Rattle.lx_types.specs.declared.entry.EntryKey.TheVariants as entry_keys
 use Rattle.lx_types.specs.declared.entry.FwdKey.{FwdKey}
 use Rattle.lx_types.specs.declared.entry.FwdKey.TheVariants.{Ordinal, NameAt}
 use Rattle.lx_types.specs.declared.fix.FixTarget.{FixTarget}
@@ -91,6 +93,11 @@ entry_or_none lib None = Err faults.NoEntry
 -- the spot of a name of a module
 abbrev pub EntryNamed : List Parts → ℕ → List ℕ → Result Spot EntryFault
 EntryNamed lib m name = entry_or_none lib (place_named lib m name)
+
+-- the spot of an entry point that is asked for by ordinal or by name
+abbrev pub EntryOf : List Parts → ℕ → EntryKey → Result Spot EntryFault
+EntryOf lib m (entry_keys.Ordinal ordinal) = Entry lib (m, ordinal)
+EntryOf lib m (entry_keys.Named name) = EntryNamed lib m name
 
 -- the spot of a fixup's target
 abbrev pub target_spot : List Parts → ℕ → FixTarget → Result Spot EntryFault

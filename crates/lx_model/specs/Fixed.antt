@@ -3,7 +3,7 @@
 use Rattle.std.specs.Prelude.{ℕ, suc, ◌+◌, ◌*◌, ◌-◌, ◌^◌, ◌%◌, ◌==◌, Bool, List, [], ◌++◌, map, reverse, find, slice_get, slice_index, Option, Some, None, unwrap_or, Result, Ok, Err, nat_le, if◌then◌else◌, ℤ, pos, negsuc}
 use Rattle.lx_bytes.specs.LittleEndian.{little_bytes}
 use Rattle.lx_types.specs.Addresses.{address, selector, selected_offset}
-use Rattle.lx_types.specs.Parts.{object_of, page_at, data_at, fixes_at}
+use Rattle.lx_types.specs.Parts.{object_of, page_at, data_at, fix_span_at, fixes_at}
 use Rattle.lx_types.specs.declared.object.PageId.{PageId}
 use Rattle.lx_types.specs.declared.object.PageKind.{PageKind}
 use Rattle.lx_types.specs.declared.object.PageKind.TheVariants.{Plain, Iterated, Invalid, Zero}
@@ -16,10 +16,10 @@ use Rattle.lx_types.specs.declared.fix.Source.TheVariants.{Byte, Sel, Far16, Off
 use Rattle.lx_types.specs.declared.fix.Fix.{Fix}
 use Rattle.lx_model.specs.declared.library.Spot.{Spot}
 use Rattle.lx_model.specs.declared.library.EntryFault.{EntryFault}
-use Rattle.lx_model.specs.Reading.{first, value_or}
+use Rattle.lx_model.specs.Reading.{first, value_or, Many}
 use Rattle.lx_model.specs.Iterated.{expansion}
 use Rattle.lx_model.specs.Sources.{size_of}
-use Rattle.lx_model.specs.Records.{records_in, fixes_of}
+use Rattle.lx_model.specs.Records.{Record, records_at, fixes_of}
 use Rattle.lx_model.specs.Library.{module_of}
 use Rattle.lx_model.specs.Entries.{target_spot}
 
@@ -108,9 +108,13 @@ patched q i = byte_if q.bytes (index_in q.offset i)
 
 -- ---- with its fixups
 
+-- the records of a page, at their place of the file
+abbrev pub records_of_page : Parts → PageId → Many Record
+records_of_page m p = records_at (fix_span_at m p).0 (fixes_at m p)
+
 -- the sources of a page, in the order of its records
 unfoldable pub sources_of : Parts → PageId → List Fix
-sources_of m p = fixes_of (records_in (fixes_at m p))
+sources_of m p = fixes_of (records_of_page m p)
 
 abbrev pub patches_of : List Parts → ℕ → Bases → PageId → List Patch
 patches_of lib m bases p = map (patch_of lib m bases p) (sources_of (module_of lib m) p)

@@ -17,7 +17,8 @@ pub mod Library
 pub mod Entries
 pub mod Fixed
 pub mod Reach
-pub mod WorkedTables
-pub mod WorkedRecords
-pub mod WorkedFile
-pub mod WorkedLibrary
+pub mod Gathering
+pub mod ModuleBytes
+pub mod Placed
+pub mod ModuleLaws
+pub mod Worked

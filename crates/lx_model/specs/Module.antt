@@ -1,5 +1,5 @@
 -- What an LX file means: its parts, and its first fault.
-use Rattle.std.specs.Prelude.{◌≡◌, ℕ, ◌+◌, ◌==◌, ◌&&◌, not, Bool, true, false, List, [], ◌∷◌, ◌++◌, map, filter, Option, Some, None, is_some, if◌then◌else◌}
+use Rattle.std.specs.Prelude.{◌≡◌, ℕ, ◌+◌, ◌<◌, ◌^◌, ◌==◌, ◌&&◌, not, Bool, true, false, List, [], ◌∷◌, ◌++◌, length, map, filter, Option, Some, None, is_some, if◌then◌else◌}
 use Rattle.std.specs.List.{range_with_len, flat_map}
 use Rattle.lx_types.specs.declared.refusal.LxRefusal.{LxRefusal}
 use Rattle.lx_types.specs.declared.refusal.LxKind.TheVariants.{BadTarget}
@@ -124,3 +124,9 @@ LxFault file =
 pub record Lx (file : List ℕ) (m : Parts) : Type 0 where
   pub faultless : LxFault file ≡ None
   pub parts : m ≡ parts_of file
+
+-- A module that was read: its parts are those that its own file means. A library has no others.
+pub record IsRead (m : Parts) : Type 0 where
+  -- a place in the file has 32 bits
+  pub short : length m.file < 2 ^ 32
+  pub means : Lx m.file m

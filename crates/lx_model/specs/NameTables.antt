@@ -3,10 +3,11 @@
 -- Table".
 use Rattle.std.specs.Prelude.{ℕ, zero, suc, ◌<◌, ◌^◌, ◌==◌, List, [], ◌∷◌, ◌++◌, length, take, drop, Option, Some, None, Result, Ok, Err, if◌then◌else◌}
 use Rattle.std.specs.List.{flat_map}
+use Rattle.lx_bytes.specs.Cursor.{Cursor}
 use Rattle.lx_bytes.specs.LittleEndian.{little_bytes}
 use Rattle.lx_types.specs.declared.refusal.LxRefusal.{LxRefusal}
 use Rattle.lx_types.specs.declared.refusal.LxKind.TheVariants as kinds
-use Rattle.lx_model.specs.Reading.{fault, cursor, text, number, ◌>>=◌, Step, ends, many, whole, placed, fault_of, value_or}
+use Rattle.lx_model.specs.Reading.{fault, cursor, text, number, Read, ◌>>=◌, Step, ends, many, whole, placed, fault_of, value_or}
 use Rattle.lx_model.specs.Header.{field, table, import_count}
 
 -- ---- a table of names with ordinals
@@ -67,15 +68,16 @@ others_fault file = fault_of (other_names file)
 
 -- ---- import modules
 
--- A name that is not empty: a length byte, and as many bytes. What is known is how many names there are
--- from here on.
+-- a name that is not empty: a length byte, and as many bytes
+unfoldable pub import_name : Cursor → Read (List ℕ)
+import_name c = do
+  len ← number 1 c
+  if len.0 == 0 then Err (fault kinds.ImportTable c.at) else text len.0 len.1
+
+-- What is known at a name is how many there are from there on.
 unfoldable pub import_entry : Step ℕ (List ℕ)
 import_entry zero c = ends c
-import_entry (suc n) c = do
-  len ← number 1 c
-  if len.0 == 0 then Err (fault kinds.ImportTable c.at) else do
-    name ← text len.0 len.1
-    Ok (Some (name.0, n), name.1)
+import_entry (suc n) c = import_name c >>= λ name. Ok (Some (name.0, n), name.1)
 
 -- the names of n import modules; places are places in the table
 abbrev pub imports_in : ℕ → List ℕ → Result (List (List ℕ)) LxRefusal

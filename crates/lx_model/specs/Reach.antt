@@ -1,5 +1,5 @@
 -- What a module reaches through imports, in which order that is loaded, and whether it can be loaded.
-use Rattle.std.specs.Prelude.{ℕ, zero, suc, ◌+◌, ◌==◌, Bool, true, false, List, [], ◌∷◌, ◌++◌, length, map, filter_map, fold, position, Contains, Option, Some, None, option_map, is_none, unwrap_or, Result, Ok, Err, if◌then◌else◌}
+use Rattle.std.specs.Prelude.{◌≡◌, ℕ, zero, suc, ◌+◌, ◌==◌, Bool, true, false, List, [], ◌∷◌, ◌++◌, length, map, filter_map, fold, position, Contains, Option, Some, None, option_map, is_none, unwrap_or, Result, Ok, Err, if◌then◌else◌}
 use Rattle.std.specs.List.{list_any}
 use Rattle.lx_types.specs.declared.parts.Parts.{Parts}
 use Rattle.lx_model.specs.declared.library.Spot.{Spot}
@@ -83,3 +83,7 @@ HealthOf lib m =
     then first (map (λ by. target_of_fault faults.ForwardLoop (ForwardLoop by) lib by) members)
     then first (map (λ by. target_of_fault faults.Gate286 (Gate286 by) lib by) members))
     Fit
+
+-- the module can be loaded
+abbrev pub IsFit : List Parts → ℕ → Type 0
+IsFit lib m = HealthOf lib m ≡ Fit

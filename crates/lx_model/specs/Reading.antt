@@ -1,5 +1,5 @@
 -- Reading from left to right, with the first fault that is met.
-use Rattle.std.specs.Prelude.{◌≡◌, ℕ, zero, suc, ◌+◌, ◌<◌, List, [], ◌∷◌, length, take, drop, map, Option, Some, None, Result, Ok, Err, nat_lt, if◌then◌else◌}
+use Rattle.std.specs.Prelude.{◌≡◌, ℕ, zero, suc, ◌+◌, ◌<◌, List, [], ◌∷◌, ◌++◌, length, take, drop, map, Option, Some, None, Result, Ok, Err, nat_lt, if◌then◌else◌}
 use Rattle.std.specs.List.{range_with_len}
 use Rattle.lx_bytes.specs.Cursor.{Cursor, advance}
 use Rattle.lx_bytes.specs.LittleEndian.{little}
@@ -82,6 +82,10 @@ faulty e = record { items = []; end = Err e }
 
 abbrev pub with_front : {A : Type 0} → A → Many A → Many A
 with_front x others = record { items = x ∷ others.items; end = others.end }
+
+-- items, and then those of the rest of a table
+abbrev pub front : {A : Type 0} → List A → Many A → Many A
+front before others = record { items = before ++ others.items; end = others.end }
 
 abbrev pub behind_item : {S A : Type 0} → (S → Cursor → Many A) → Cursor → Option (A × S) → Many A
 behind_item others c None = ends_at c

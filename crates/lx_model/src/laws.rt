@@ -1,6 +1,7 @@
 //! What the definitions say together.
 
-ghost use Rattle.lx_model.specs.Laws.{MeansOne, MeansOrFails, FaultMeansNone, MeansSound, OrderIsReached, ReachedIsOrdered, LoopComesBack, ComesBackLoops};
+ghost use Rattle.lx_model.specs.Laws.{MeansOne, MeansOrFails, FaultMeansNone, MeansSound, OrderIsReached, ReachedIsOrdered, OrderHasEachOnce, OrderIsInLibrary, OrderIsClosed, OrderEndsWithItself, LoopComesBack, ComesBackLoops};
+ghost use Rattle.lx_model.specs.ModuleLaws.{ReadIsSound, DataExpands, FitHasSpots, RecordsAreGood, TargetsAreThere, ReferencesAreListed};
 ghost use Rattle.lx_model.specs.TableLaws.{NamesGoOn, ImportsGoOn, BundlesGoOn, RecordsGoOn, GroupsGoOn, OneTargetMore, NamesReadAgain, ImportsReadAgain, EntriesReadAgain, RecordsReadAgain, GroupsReadAgain, RecordIsSpelled, NamesAreSpelled, ImportsAreSpelled, EntriesAreSpelled, GroupsAreSpelled};
 
 /// A file has one meaning or one first fault.
@@ -30,6 +31,22 @@ pub fn one_target_more()
     ensures { OneTargetMore }
 {}
 
+/// A module that was read fits together, its iterated pages give bytes, its records have no fault, their targets are there, and those outside
+/// its own objects are listed.
+pub fn read_modules_are_whole()
+    ensures sound { ReadIsSound }
+    ensures pages { DataExpands }
+    ensures records { RecordsAreGood }
+    ensures targets { TargetsAreThere }
+    ensures references { ReferencesAreListed }
+{}
+
+/// In a library of modules that were read, each source of a fit module has a spot: what its fixups put is what the
+/// definitions say of an address.
+pub fn fit_modules_have_spots()
+    ensures { FitHasSpots }
+{}
+
 /// Name tables, import modules, entry tables, fixup records and groups of iterated data that are written by the format
 /// are read as what was written.
 pub fn written_is_read()
@@ -50,10 +67,14 @@ pub fn read_is_spelled()
     ensures groups_spelled { GroupsAreSpelled }
 {}
 
-/// The order in which a module is loaded has exactly the modules that it reaches.
+/// The order in which a module is loaded has exactly the modules that it reaches, each once, and the module last.
 pub fn order_is_reach()
     ensures order { OrderIsReached }
     ensures reach { ReachedIsOrdered }
+    ensures once { OrderHasEachOnce }
+    ensures within { OrderIsInLibrary }
+    ensures closed { OrderIsClosed }
+    ensures last { OrderEndsWithItself }
 {}
 
 /// Forwarders that come to an ordinal of a module a second time are a loop, and nothing else is.

@@ -33,3 +33,12 @@ pub enum Health {
     ForwardLoop { by: u32 },
     Gate286 { by: u32 },
 }
+
+/// Why modules are no library.
+#[derive(Clone, Copy, Debug, PartialEq, Eq)]
+pub enum LibraryRefusal {
+    /// There are `count` modules, more than 64.
+    TooManyModules { count: u32 },
+    /// Modules `first` and `second`, from 0, have one name.
+    NameTwice { first: u32, second: u32 },
+}

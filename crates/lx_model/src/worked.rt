@@ -1,10 +1,13 @@
 //! Worked values of the definitions, from outside them: each function's contract is a table of values
 //! that the definitions give.
 
-ghost use Rattle.lx_model.specs.WorkedRecords.{WorkedRecords, WorkedRecordFaults, WorkedGroups};
-ghost use Rattle.lx_model.specs.WorkedTables.{WorkedNames, WorkedEntries};
-ghost use Rattle.lx_model.specs.WorkedFile.{WorkedFile, WorkedFaults};
-ghost use Rattle.lx_model.specs.WorkedLibrary.{WorkedFields, WorkedLibrary};
+ghost use Rattle.lx_model.specs.Worked.Records.{WorkedRecords, WorkedRecordFaults, WorkedGroups};
+ghost use Rattle.lx_model.specs.Worked.Tables.{WorkedNames, WorkedEntries};
+ghost use Rattle.lx_model.specs.Worked.File.{WorkedFile, WorkedFaults};
+ghost use Rattle.lx_model.specs.Worked.Header.{WorkedHeader, WorkedOrder, WorkedStub};
+ghost use Rattle.lx_model.specs.Worked.Pages.{WorkedPages, WorkedTargets, WorkedClasses};
+ghost use Rattle.lx_model.specs.Worked.Words.{WorkedGathering, WorkedBytes};
+ghost use Rattle.lx_model.specs.Worked.Library.{WorkedFields, WorkedLibrary};
 
 /// Fixup records of each form, and what is wrong first with others.
 pub fn records_read()
@@ -33,6 +36,24 @@ pub fn file_refused()
     ensures { WorkedFaults }
 {}
 
+/// What each field of the header may be, and which of two faults of a file comes first.
+pub fn header_judged()
+    ensures fields { WorkedHeader }
+    ensures order { WorkedOrder }
+{}
+
+/// The module of one page behind a DOS stub: its parts, and the places of its faults.
+pub fn stub_passed()
+    ensures { WorkedStub }
+{}
+
+/// Where the data of pages stands, which targets there are, and who sees writes to objects.
+pub fn pages_placed()
+    ensures pages { WorkedPages }
+    ensures targets { WorkedTargets }
+    ensures classes { WorkedClasses }
+{}
+
 /// What the sources of each kind put, and where they cross a page's end.
 pub fn fields_put()
     ensures { WorkedFields }
@@ -41,4 +62,10 @@ pub fn fields_put()
 /// Where entries lead through forwarders, and which modules can be loaded.
 pub fn library_means()
     ensures { WorkedLibrary }
+{}
+
+/// Which modules are a library, entry points by key, and bytes and invalid pages by offset.
+pub fn libraries_gathered()
+    ensures gathered { WorkedGathering }
+    ensures bytes { WorkedBytes }
 {}

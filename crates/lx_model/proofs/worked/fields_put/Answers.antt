@@ -9,4 +9,4 @@ use Rattle.lx_model.proofs.worked.fields_put.Goals as goal
 
 pub returns : goal.returns
 unfolding Fixed Raw page_bytes patch_of sources_of Entry followed group_at group_fields many many_from next_record record_at single_at list_at target_of_kind internal_at additive_at offsets_at
-returns c = record { alias = refl; import = refl; low_byte = refl; offset = refl; code = refl; plain = refl; tiled = refl; relative = refl; last = refl; page_end = refl }
+returns c = record { alias = refl; import = refl; low_byte = refl; offset = refl; code = refl; plain = refl; tiled = refl; additive = refl; sum = refl; alias_offset = refl; alias_selector = refl; target_flags = refl; relative = refl; second_page = refl; last = refl; page_end = refl }

@@ -79,9 +79,15 @@ pub record WorkedFile : Type 0 where
 
 -- ---- its faults, after a change
 
--- the file with other bytes from a place on
-abbrev changed : ℕ → List ℕ → List ℕ
-changed at bytes = take at worked_file ++ bytes ++ drop (at + length bytes) worked_file
+-- a file with other bytes from a place on
+abbrev pub put : List ℕ → ℕ → List ℕ → List ℕ
+put file at bytes = take at file ++ bytes ++ drop (at + length bytes) file
+
+abbrev pub changed : ℕ → List ℕ → List ℕ
+changed at bytes = put worked_file at bytes
+
+abbrev pub Accepts : List ℕ → Type 0
+Accepts file = LxFault file ≡ None
 
 abbrev pub Refuses : List ℕ → LxRefusal → Type 0
 Refuses file e = LxFault file ≡ Some e

@@ -1,0 +1,4 @@
+pub mod ImportLoop
+pub mod EntryLoop
+pub mod Refusals
+pub mod BundleLoop

@@ -1,0 +1,12 @@
+//! The entry table and the tables of names of an LX module ("LX - Linear eXecutable Module Format",
+//! "Entry Table", "Import Module Name Table").
+#![tactic(auto)]
+
+mod bundles;
+mod fields;
+mod imports;
+mod refusal;
+
+pub use bundles::{Entries, read_entries};
+pub use imports::read_imports;
+pub use refusal::TableRefusal;

@@ -1,0 +1,9 @@
+-- Worked values: what the definitions give for bytes and libraries whose meaning was worked out by hand from
+-- the format. They stand apart; no definition uses them.
+pub mod Records
+pub mod Tables
+pub mod File
+pub mod Header
+pub mod Pages
+pub mod Library
+pub mod Words
