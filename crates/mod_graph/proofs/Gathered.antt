@@ -4,8 +4,9 @@ use Rattle.std.proofs.lemmas.Bool.{cases_lt, lt-ltb, le-ltb}
 use Rattle.std.specs.List.{range_with_len}
 use Rattle.lx_types.specs.declared.parts.Parts.{Parts}
 use Rattle.lx_model.specs.Reading.{first}
-use Rattle.mod_graph.specs.declared.library.LibraryRefusal.TheVariants.{TooManyModules}
-use Rattle.mod_graph.specs.Gathering.{refusal_of, name_twice}
+use Rattle.lx_model.specs.declared.library.LibraryRefusal.TheVariants.{TooManyModules}
+use Rattle.lx_model.specs.Gathering.{LibraryFault}
+use Rattle.mod_graph.specs.Gathering.{name_fault}
 
 pub first_passed : {A : Type 0} (f : ℕ → Option A) (i n : ℕ) → 0 < n → f i ≡ None → first (map f (range_with_len i n)) ≡ first (map f (range_with_len (i + 1) (n - 1)))
 first_passed f i zero some none = absurd (omega (arith, some))
@@ -13,19 +14,19 @@ first_passed f i (suc n) some none =
     let less : n ≡ suc n - 1 = omega arith in
     rw none (ap (λ k. first (map f (range_with_len (i + 1) k))) less)
 
-pub refusal_of-many : (mods : List Parts) → 64 < length mods → refusal_of mods ≡ Some (TooManyModules (length mods))
-unfolding refusal_of
-refusal_of-many mods many = rw (lt-ltb 64 (length mods) many) refl
+pub LibraryFault-many : (mods : List Parts) → 64 < length mods → LibraryFault mods ≡ Some (TooManyModules (length mods))
+unfolding LibraryFault
+LibraryFault-many mods many = rw (lt-ltb 64 (length mods) many) refl
 
-pub refusal_of-few : (mods : List Parts) → length mods ≤ 64 → refusal_of mods ≡ name_twice mods
-unfolding refusal_of
-refusal_of-few mods few = rw (le-ltb 64 (length mods) few) refl
+pub LibraryFault-few : (mods : List Parts) → length mods ≤ 64 → LibraryFault mods ≡ name_fault mods
+unfolding LibraryFault
+LibraryFault-few mods few = rw (le-ltb 64 (length mods) few) refl
 
 never_some : {A : Type 0} (x : A) → Some x ≡ None → ⊥
 never_some x is = cc
 
-pub few_accepted : (mods : List Parts) → refusal_of mods ≡ None → length mods ≤ 64
+pub few_accepted : (mods : List Parts) → LibraryFault mods ≡ None → length mods ≤ 64
 few_accepted mods accepted = elim (cases_lt 64 (length mods)) [
-  | inl many ↦ absurd (never_some (TooManyModules (length mods)) (sym (refusal_of-many mods many) ∙ accepted))
+  | inl many ↦ absurd (never_some (TooManyModules (length mods)) (sym (LibraryFault-many mods many) ∙ accepted))
   | inr few ↦ few
 ]

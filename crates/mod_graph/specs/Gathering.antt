@@ -1,36 +1,24 @@
--- What modules make a library, and what a library knows of them.
-use Rattle.std.specs.Prelude.{◌≡◌, ℕ, ◌+◌, ◌≤◌, List, length, take, map, Option, Some, None, option_map, nat_lt, if◌then◌else◌}
+-- What a library knows of its modules, and how it refuses modules.
+use Rattle.std.specs.Prelude.{◌≡◌, ℕ, ◌+◌, ◌≤◌, List, length, map, Option, Some}
 use Rattle.std.specs.List.{range_with_len}
 use Rattle.lx_types.specs.declared.fail.Fail.{Fail}
 use Rattle.lx_types.specs.declared.fail.Fail.TheVariants.{Said, NoMemory}
 use Rattle.lx_types.specs.declared.parts.Parts.{Parts}
 use Rattle.lx_model.specs.declared.library.Health.{Health}
-use Rattle.lx_model.specs.Library.{module_of, module_named}
+use Rattle.lx_model.specs.declared.library.LibraryRefusal.{LibraryRefusal}
 use Rattle.lx_model.specs.Entries.{entry_count}
+use Rattle.lx_model.specs.Gathering.{MOST_MODULES, IsLibrary, twice_at}
 use Rattle.lx_model.specs.Reach.{Order, HealthOf}
-use Rattle.lx_model.specs.Reading.{first, ◌then◌}
-use Rattle.mod_graph.specs.declared.library.LibraryRefusal.{LibraryRefusal}
-use Rattle.mod_graph.specs.declared.library.LibraryRefusal.TheVariants.{TooManyModules, NameTwice}
-
--- the most modules that a library has
-abbrev pub MOST_MODULES : ℕ
-MOST_MODULES = 64
-
--- the earlier module that has the name of module `second`
-abbrev pub earlier : List Parts → ℕ → Option LibraryRefusal
-earlier mods second = option_map (λ first. NameTwice first second) (module_named (take second mods) (module_of mods second).name)
+use Rattle.lx_model.specs.Reading.{first}
 
 -- the least module whose name an earlier one has
-abbrev pub name_twice : List Parts → Option LibraryRefusal
-name_twice mods = first (map (earlier mods) (range_with_len 0 (length mods)))
+abbrev pub name_fault : List Parts → Option LibraryRefusal
+name_fault mods = first (map (twice_at mods) (range_with_len 0 (length mods)))
 
--- why modules make no library
-unfoldable pub refusal_of : List Parts → Option LibraryRefusal
-refusal_of mods = if nat_lt MOST_MODULES (length mods) then Some (TooManyModules (length mods)) else name_twice mods
-
--- What a library knows of its modules: their orders and healths, and how many places forwarders can come to.
-pub record IsLibrary (mods : List Parts) (orders : List (List ℕ)) (healths : List Health) (places : ℕ) : Type 0 where
-  pub accepted : refusal_of mods ≡ None
+-- The modules make a library. Of each its order and its health are known, and how many places forwarders can
+-- come to.
+pub record Knows (mods : List Parts) (orders : List (List ℕ)) (healths : List Health) (places : ℕ) : Type 0 where
+  pub library : IsLibrary mods
   pub few : length mods ≤ MOST_MODULES
   pub ordered : orders ≡ map (Order mods) (range_with_len 0 (length mods))
   pub orders_count : length orders ≡ length mods

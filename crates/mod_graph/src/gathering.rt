@@ -1,9 +1,10 @@
 //! From modules to a library.
 
-ghost use Rattle.std.specs.Prelude.{◌≡◌, ◌≤◌, ◌<◌, ◌^◌, IfOk, None, length};
+ghost use Rattle.std.specs.Prelude.{◌≡◌, ◌≤◌, ◌<◌, ◌^◌, IfOk, length};
 ghost use Rattle.lx_model.specs.Library.{module_of};
-ghost use Rattle.mod_graph.specs.Gathering as gathering;
-ghost use Rattle.mod_graph.specs.Gathering.{refusal_of, IsLibrary};
+ghost use Rattle.lx_model.specs.Gathering as gathering;
+ghost use Rattle.lx_model.specs.Gathering.{LibraryFault, IsLibrary};
+ghost use Rattle.mod_graph.specs.Gathering.{name_fault, Knows};
 
 use crate::LibraryRefusal;
 use crate::entries::place_count;
@@ -33,28 +34,25 @@ fn name_of(mods: &[Module], m: usize) -> &Name
     mods[m].name()
 }
 
-/// The earlier module that has the name of module `second`.
-fn earlier(mods: &[Module], second: usize) -> Option<LibraryRefusal>
+/// What is wrong with the name of module `second`: an earlier one has it.
+fn twice_at(mods: &[Module], second: u32) -> Option<LibraryRefusal>
     requires few { length mods.now ≤ 64 }
     requires module { second < length mods.now }
-    ensures { result ≡ gathering.earlier mods.now second }
+    ensures { result ≡ gathering.twice_at mods.now second }
 {
-    match module_with_name(&mods[..second], name_of(mods, second)) {
-        Some(first) => Some(LibraryRefusal::NameTwice {
-            first,
-            second: second as u32,
-        }),
-        None => None,
+    match module_with_name(mods, name_of(mods, second as usize)) {
+        Some(first) if first < second => Some(LibraryRefusal::NameTwice { first, second }),
+        _ => None,
     }
 }
 
 /// The least module whose name an earlier one has.
 fn name_twice(mods: &[Module]) -> Option<LibraryRefusal>
     requires { length mods.now ≤ 64 }
-    ensures { result ≡ gathering.name_twice mods.now }
+    ensures { result ≡ name_fault mods.now }
 {
     for second in 0..mods.len() {
-        if let Some(refusal) = earlier(mods, second) {
+        if let Some(refusal) = twice_at(mods, second as u32) {
             return Some(refusal);
         }
     }
@@ -64,7 +62,7 @@ fn name_twice(mods: &[Module]) -> Option<LibraryRefusal>
 /// Why modules make no library.
 pub fn refusal(mods: &[Module]) -> Option<LibraryRefusal>
     requires { length mods.now < 2 ^ 32 }
-    ensures { result ≡ refusal_of mods.now }
+    ensures { result ≡ LibraryFault mods.now }
 {
     if mods.len() > MOST_MODULES {
         Some(LibraryRefusal::TooManyModules {
@@ -78,8 +76,8 @@ pub fn refusal(mods: &[Module]) -> Option<LibraryRefusal>
 /// What a library of these modules knows of them.
 pub fn tables_of(alloc: Global, mods: &[Module]) -> Result<Tables, NoMemory>
     requires few { length mods.now ≤ 64 }
-    requires accepted { refusal_of mods.now ≡ None }
-    ensures { IfOk result (λ tables. IsLibrary mods.now tables.orders.items tables.healths.items tables.places) }
+    requires library { IsLibrary mods.now }
+    ensures { IfOk result (λ tables. Knows mods.now tables.orders.items tables.healths.items tables.places) }
 {
     let graph = graph_of(alloc, mods)?;
     let orders = orders_of(alloc, mods, &graph)?;

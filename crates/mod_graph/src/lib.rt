@@ -9,5 +9,5 @@ mod imports;
 mod library;
 mod order;
 
-pub use library::{Library, LibraryRefusal, Ungathered};
-pub use lx_model::{EntryFault, Health, Spot};
+pub use library::{Library, Ungathered};
+pub use lx_model::{EntryFault, Health, LibraryRefusal, Spot};

@@ -1,6 +1,6 @@
 //! A library of modules.
 
-ghost use Rattle.std.specs.Prelude.{◌≡◌, ◌≤◌, ◌<◌, ◌^◌, ◌↔◌, IfOk, IfErr, IfSome, IsTrue, None, length};
+ghost use Rattle.std.specs.Prelude.{◌≡◌, ◌≤◌, ◌<◌, ◌^◌, ◌↔◌, IfOk, IfErr, IfSome, IsTrue, All, length};
 ghost use Rattle.lx_model.specs.Library.{module_of, module_named};
 ghost use Rattle.lx_model.specs.Entries.{Entry, EntryNamed};
 ghost use Rattle.lx_model.specs.Reach.{Order, HealthOf};
@@ -9,19 +9,10 @@ use crate::entries::{name_place, spot_or_none};
 use crate::gathering::{refusal, tables_of};
 use crate::health::{health_at, list_at};
 use crate::imports::module_with_name;
-use lx_model::{EntryFault, Health, Spot};
+use lx_model::{EntryFault, Health, LibraryRefusal, Spot};
 use lx_types::{Fail, Module, Name, NoMemory, Numbers};
 use std::alloc::Global;
 use std::marker::Model;
-
-/// Why modules make no library.
-#[derive(Clone, Copy, Debug, PartialEq, Eq, Drop)]
-pub enum LibraryRefusal {
-    /// There are more than 64.
-    TooManyModules { count: u32 },
-    /// Two modules have one name: `second` is the least, from 0, whose name an earlier one has.
-    NameTwice { first: u32, second: u32 },
-}
 
 /// Modules that make no library, and why.
 #[derive(Debug, Drop)]
@@ -42,13 +33,13 @@ pub struct Library {
 impl Model for Library {
     ghost use Rattle.std.specs.Prelude.{List};
     ghost use Rattle.lx_types.specs.declared.parts.Parts.{Parts};
-    ghost use Rattle.mod_graph.specs.Gathering.{IsLibrary};
+    ghost use Rattle.mod_graph.specs.Gathering.{Knows};
 
     ghost Value = { List Parts };
 
     ghost view = { λ l. l.mods.items };
 
-    ghost invariant = { λ l. IsLibrary l.mods.items l.orders.items l.healths.items l.places };
+    ghost invariant = { λ l. Knows l.mods.items l.orders.items l.healths.items l.places };
 }
 
 impl Library {
@@ -56,10 +47,11 @@ impl Library {
     /// time that grows as modules, imports and fixups' targets do. Where the modules are refused, or there is no
     /// memory, they come back.
     pub fn gather(alloc: Global, mods: Vec<Module>) -> Result<Library, Ungathered>
-        requires { length mods.items < 2 ^ 32 }
+        requires few { length mods.items < 2 ^ 32 }
+        requires read { All IsRead mods.items }
         ensures gathered { IfOk result (λ library. library ≡ mods.items) }
-        ensures accepted { IfOk result (λ _. refusal_of mods.items ≡ None) }
-        ensures refused { IfErr result (λ ungathered. IsRefused ungathered.why (refusal_of mods.items)) }
+        ensures accepted { IfOk result IsLibrary }
+        ensures refused { IfErr result (λ ungathered. IsRefused ungathered.why (LibraryFault mods.items)) }
         ensures handed_back { IfErr result (λ ungathered. ungathered.mods.items ≡ mods.items) }
     {
         if let Some(why) = refusal(&mods) {
@@ -82,12 +74,15 @@ impl Library {
         }
     }
 
-    ghost use Rattle.mod_graph.specs.Gathering.{refusal_of, MOST_MODULES, IsRefused};
+    ghost use Rattle.lx_model.specs.Gathering.{LibraryFault, IsLibrary, MOST_MODULES};
+    ghost use Rattle.lx_model.specs.Module.{IsRead};
+    ghost use Rattle.mod_graph.specs.Gathering.{IsRefused};
 
-    /// How many modules there are, at most 64.
+    /// How many modules there are, at most 64. They make a library: no two have one name, and each was read.
     pub fn len(&self) -> u32
         ensures count { result ≡ length self.now }
         ensures few { result ≤ MOST_MODULES }
+        ensures library { IsLibrary self.now }
     {
         self.mods.len() as u32
     }
