@@ -18,8 +18,8 @@ const LAST_ORDINAL: u32 = 65_535;
 /// Entries, each with its ordinal.
 pub type Entries = Seq<(u32, EntryHead)>;
 
-/// How the entries of a bundle are written: with an offset of 16 bits, with a gate word too, with an
-/// offset of 32 bits, or as forwarders.
+/// How the entries of a bundle are written: with an offset of 16 bits, with a gate word too, with
+/// an offset of 32 bits, or as forwarders.
 #[derive(Clone, Copy, Debug)]
 pub enum Form {
     Narrow { object: u32 },
@@ -28,7 +28,8 @@ pub enum Form {
     Forwarder,
 }
 
-/// What stands before the entries of a bundle: how many ordinals it has, and how its entries are written.
+/// What stands before the entries of a bundle: how many ordinals it has, and how its entries are
+/// written.
 #[derive(Clone, Copy, Debug)]
 pub struct Head {
     pub count: u8,
@@ -39,7 +40,8 @@ pub struct Head {
 
 #[tactic(auto, unfolding(lx_model::specs::EntryTable::at_entry))]
 fn narrow_entry(fields: &mut Fields, object: u32) -> Result<EntryHead, TableRefusal>
-    ensures { Takes kinds.EntryTable (λ head. head) result (at_entry 2 object) fields.old fields.new }
+    ensures { Takes kinds.EntryTable (λ head. head) result (at_entry 2 object)
+        fields.old fields.new }
 {
     let _flags = fields.byte()?;
     let offset = u32::from(fields.word()?);
@@ -48,7 +50,8 @@ fn narrow_entry(fields: &mut Fields, object: u32) -> Result<EntryHead, TableRefu
 
 #[tactic(auto, unfolding(lx_model::specs::EntryTable::gate_entry))]
 fn gate_entry(fields: &mut Fields, object: u32) -> Result<EntryHead, TableRefusal>
-    ensures { Takes kinds.EntryTable (λ head. head) result (gate_entry object) fields.old fields.new }
+    ensures { Takes kinds.EntryTable (λ head. head) result (gate_entry object)
+        fields.old fields.new }
 {
     let _flags = fields.byte()?;
     let offset = u32::from(fields.word()?);
@@ -58,7 +61,8 @@ fn gate_entry(fields: &mut Fields, object: u32) -> Result<EntryHead, TableRefusa
 
 #[tactic(auto, unfolding(lx_model::specs::EntryTable::at_entry))]
 fn wide_entry(fields: &mut Fields, object: u32) -> Result<EntryHead, TableRefusal>
-    ensures { Takes kinds.EntryTable (λ head. head) result (at_entry 4 object) fields.old fields.new }
+    ensures { Takes kinds.EntryTable (λ head. head) result (at_entry 4 object)
+        fields.old fields.new }
 {
     let _flags = fields.byte()?;
     let offset = fields.doubleword()?;
@@ -67,7 +71,8 @@ fn wide_entry(fields: &mut Fields, object: u32) -> Result<EntryHead, TableRefusa
 
 #[tactic(auto, unfolding(lx_model::specs::EntryTable::forward_entry))]
 fn forward_entry(fields: &mut Fields, imports: u32) -> Result<EntryHead, TableRefusal>
-    ensures { Takes kinds.EntryTable (λ head. head) result (forward_entry imports) fields.old fields.new }
+    ensures { Takes kinds.EntryTable (λ head. head) result (forward_entry imports)
+        fields.old fields.new }
 {
     let at = fields.at();
     let flags = fields.byte()?;
@@ -85,7 +90,8 @@ fn forward_entry(fields: &mut Fields, imports: u32) -> Result<EntryHead, TableRe
 }
 
 fn entry(fields: &mut Fields, form: Form, imports: u32) -> Result<EntryHead, TableRefusal>
-    ensures { Takes kinds.EntryTable (λ head. head) result (entry_at form imports) fields.old fields.new }
+    ensures { Takes kinds.EntryTable (λ head. head) result (entry_at form imports)
+        fields.old fields.new }
 {
     match form {
         Form::Narrow { object } => narrow_entry(fields, object),
@@ -105,7 +111,8 @@ fn add_entries(
     into: &mut Entries,
 ) -> Result<(), Fail<TableRefusal>>
     requires { ordinal + count ≤ 65536 }
-    ensures { Adds result (bundle_entries count ordinal (entry_at form imports) fields.old) into.old into.new fields.new }
+    ensures { Adds result (bundle_entries count ordinal (entry_at form imports) fields.old)
+        into.old into.new fields.new }
 {
     for i in 0..count {
         let head = entry(fields, form, imports)?;
@@ -118,7 +125,8 @@ fn add_entries(
 
 // The number of an object that is there, in a bundle that begins at a place.
 fn object_number(fields: &mut Fields, objects: u32, bundle: u32) -> Result<u32, TableRefusal>
-    ensures { Takes kinds.EntryTable (λ object. object) result (object_at objects bundle) fields.old fields.new }
+    ensures { Takes kinds.EntryTable (λ object. object) result (object_at objects bundle)
+        fields.old fields.new }
 {
     let object = u32::from(fields.word()?);
     if object == 0 || objects < object {
@@ -137,7 +145,8 @@ fn form_of(
     objects: u32,
     bundle: u32,
 ) -> Result<Option<Form>, TableRefusal>
-    ensures { Takes kinds.EntryTable (λ form. form) result (form_at kind objects bundle) fields.old fields.new }
+    ensures { Takes kinds.EntryTable (λ form. form) result (form_at kind objects bundle)
+        fields.old fields.new }
 {
     match kind {
         0 => Ok(None),
@@ -164,10 +173,11 @@ fn form_of(
     }
 }
 
-// What stands before the entries of the next bundle, behind the ordinal `last`. There is nothing at the
-// table's end.
+// What stands before the entries of the next bundle, behind the ordinal `last`. There is nothing
+// at the table's end.
 fn head_of(fields: &mut Fields, objects: u32, last: u32) -> Result<Option<Head>, TableRefusal>
-    ensures read { Takes kinds.EntryTable (λ head. head) result (head_at objects last) fields.old fields.new }
+    ensures read { Takes kinds.EntryTable (λ head. head) result (head_at objects last)
+        fields.old fields.new }
     ensures room { IfOk result (λ head. IfSome head (λ h. last + h.count ≤ 65535)) }
 {
     let at = fields.at();
@@ -183,8 +193,8 @@ fn head_of(fields: &mut Fields, objects: u32, last: u32) -> Result<Option<Head>,
     Ok(Some(Head { count, form }))
 }
 
-// Adds the entries of the next bundle, behind the ordinal `last`, and tells its last ordinal. At the table's
-// end there is none.
+// Adds the entries of the next bundle, behind the ordinal `last`, and tells its last ordinal. At
+// the table's end there is none.
 fn add_bundle(
     fields: &mut Fields,
     objects: u32,
@@ -193,7 +203,8 @@ fn add_bundle(
     into: &mut Entries,
 ) -> Result<Option<u32>, Fail<TableRefusal>>
     requires { last ≤ 65535 }
-    ensures read { AddsBundle result (bundle_at objects imports last fields.old) into.old into.new fields.new }
+    ensures read { AddsBundle result (bundle_at objects imports last fields.old)
+        into.old into.new fields.new }
     ensures room { IfOk result (λ next. IfSome next (λ n. n ≤ 65535)) }
 {
     let Some(head) = head_of(fields, objects, last)? else {
@@ -207,12 +218,12 @@ fn add_bundle(
     Ok(Some(next))
 }
 
-/// The entries of an entry table, from the bytes at the table's place up to the file's end, for a module
-/// with so many objects and import modules. Their ordinals rise.
+/// The entries of an entry table, from the bytes at the table's place up to the file's end, for a
+/// module with so many objects and import modules. Their ordinals rise.
 ///
-/// A refusal is `short` where a field passes the end. Otherwise it is a type over 4, an object that is not
-/// there or ordinals past 65,535, at the bundle's count byte, or a forwarder's module that is not there, at its
-/// flags byte.
+/// A refusal is `short` where a field passes the end. Otherwise it is a type over 4, an object
+/// that is not there or ordinals past 65,535, at the bundle's count byte, or a forwarder's module
+/// that is not there, at its flags byte.
 pub fn read_entries(
     alloc: Global,
     bytes: &[u8],
@@ -220,7 +231,8 @@ pub fn read_entries(
     imports: u32,
 ) -> Result<Entries, Fail<TableRefusal>>
     requires { length bytes.now < 2 ^ 32 }
-    ensures { Gives kinds.EntryTable (λ entries. entries) result (entries_in objects imports bytes.now) }
+    ensures { Gives kinds.EntryTable (λ entries. entries) result
+        (entries_in objects imports bytes.now) }
 {
     let mut fields = Fields::of(bytes);
     let mut entries = Seq::new(alloc);

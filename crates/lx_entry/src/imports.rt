@@ -14,7 +14,8 @@ use std::alloc::Global;
 // A name that is not empty, of at most 255 bytes.
 #[tactic(auto, unfolding(lx_model::specs::NameTables::import_name))]
 fn import_name<'a>(fields: &mut Fields<'a>) -> Result<&'a [u8], TableRefusal>
-    ensures read { Takes kinds.ImportTable (λ name. name.now) result import_name fields.old fields.new }
+    ensures read { Takes kinds.ImportTable (λ name. name.now) result import_name
+        fields.old fields.new }
     ensures short { IfOk result (λ name. IsName name.now) }
 {
     let at = fields.at();
@@ -27,8 +28,8 @@ fn import_name<'a>(fields: &mut Fields<'a>) -> Result<&'a [u8], TableRefusal>
 
 /// The names of `count` import modules, from the bytes at the table's place up to the file's end.
 ///
-/// A refusal is `short` where a name passes the end, at the length byte or at the text, and otherwise an
-/// empty name, at its length byte.
+/// A refusal is `short` where a name passes the end, at the length byte or at the text, and
+/// otherwise an empty name, at its length byte.
 pub fn read_imports(alloc: Global, bytes: &[u8], count: u32) -> Result<Names, Fail<TableRefusal>>
     requires { length bytes.now < 2 ^ 32 }
     ensures { Gives kinds.ImportTable (λ names. names) result (imports_in count bytes.now) }

@@ -6,8 +6,8 @@ ghost use Rattle.lx_types.specs.declared.fail.Fail.TheVariants as fail;
 use crate::fields::Short;
 use lx_types::Fail;
 
-/// The first fault of a table: its place in the table's bytes, and whether it is a field that passes their
-/// end. Otherwise it is of the table's own kind.
+/// The first fault of a table: its place in the table's bytes, and whether it is a field that
+/// passes their end. Otherwise it is of the table's own kind.
 #[derive(Clone, Copy, Debug, PartialEq, Eq)]
 pub struct TableRefusal {
     pub at: u32,

@@ -67,8 +67,8 @@ RecordsReadAgain =
 abbrev pub GroupsReadAgain : Type 0
 GroupsReadAgain = (gs : List Group) → AllByRecursion GroupFits gs → length (groups_data gs) ≤ PAGE_SIZE → expansion (groups_spelling gs) ≡ Ok (groups_data gs)
 
--- entries of tables by places, wherever the table begins and whatever follows it: the fixup page table, the object table,
--- and the page table
+-- entries of tables by places, wherever the table begins and whatever follows it: the fixup page table, the
+-- object table, and the page table
 abbrev pub DoublewordsReadAgain : Type 0
 DoublewordsReadAgain =
     (before ns rest : List ℕ) → AreDoublewords ns →

@@ -16,8 +16,8 @@ pub fn parts_are_sound()
     ensures { MeansSound }
 {}
 
-/// What stands behind the first item of a table is read as a table that begins there, and an item takes a
-/// byte or more.
+/// What stands behind the first item of a table is read as a table that begins there, and an item
+/// takes a byte or more.
 pub fn tables_go_on()
     ensures names { NamesGoOn }
     ensures imports { ImportsGoOn }
@@ -31,8 +31,8 @@ pub fn one_target_more()
     ensures { OneTargetMore }
 {}
 
-/// A module that was read fits together, its iterated pages give bytes, its records have no fault, their targets are there, and those outside
-/// its own objects are listed.
+/// A module that was read fits together, its iterated pages give bytes, its records have no fault,
+/// their targets are there, and those outside its own objects are listed.
 pub fn read_modules_are_whole()
     ensures sound { ReadIsSound }
     ensures pages { DataExpands }
@@ -41,15 +41,15 @@ pub fn read_modules_are_whole()
     ensures references { ReferencesAreListed }
 {}
 
-/// In a library of modules that were read, each source of a fit module has a spot: what its fixups put is what the
-/// definitions say of an address.
+/// In a library of modules that were read, each source of a fit module has a spot: what its fixups
+/// put is what the definitions say of an address.
 pub fn fit_modules_have_spots()
     ensures { FitHasSpots }
 {}
 
-/// Name tables, import modules, entry tables, fixup records and groups of iterated data that are written by the format
-/// are read as what was written; so are the header, the object table, the page table, and the doublewords of
-/// the fixup page table.
+/// Name tables, import modules, entry tables, fixup records and groups of iterated data that are
+/// written by the format are read as what was written; so are the header, the object table, the
+/// page table, and the doublewords of the fixup page table.
 pub fn written_is_read()
     ensures names { NamesReadAgain }
     ensures imports { ImportsReadAgain }
@@ -62,8 +62,8 @@ pub fn written_is_read()
     ensures doublewords { DoublewordsReadAgain }
 {}
 
-/// Fixup records, name tables, import modules, entry tables and groups of iterated data that are read are
-/// spelled as the format says.
+/// Fixup records, name tables, import modules, entry tables and groups of iterated data that are
+/// read are spelled as the format says.
 pub fn read_is_spelled()
     ensures record_spelled { RecordIsSpelled }
     ensures records_spelled { RecordsAreSpelled }
@@ -73,7 +73,8 @@ pub fn read_is_spelled()
     ensures groups_spelled { GroupsAreSpelled }
 {}
 
-/// The order in which a module is loaded has exactly the modules that it reaches, each once, and the module last.
+/// The order in which a module is loaded has exactly the modules that it reaches, each once, and
+/// the module last.
 pub fn order_is_reach()
     ensures order { OrderIsReached }
     ensures reach { ReachedIsOrdered }

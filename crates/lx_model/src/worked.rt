@@ -1,5 +1,5 @@
-//! Worked values of the definitions, from outside them: each function's contract is a table of values
-//! that the definitions give.
+//! Worked values of the definitions, from outside them: each function's contract is a table of
+//! values that the definitions give.
 
 ghost use Rattle.lx_model.specs.Worked.Records.{WorkedRecords, WorkedRecordFaults, WorkedGroups};
 ghost use Rattle.lx_model.specs.Worked.Tables.{WorkedNames, WorkedEntries};
