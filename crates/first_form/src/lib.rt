@@ -8,6 +8,6 @@ mod records;
 mod writing;
 
 pub use module_file::{OneObject, Reference, References};
-pub use reading::read_file;
+pub use reading::{doubleword_at, read_file};
 pub use records::next_reference;
 pub use writing::write_file;

@@ -1,6 +1,6 @@
 //! Reading a module of the first form: its values are taken from the places that the header gives, and
 //! the module is accepted where its file is the bytes that were read.
-ghost use Rattle.std.specs.Prelude.{◌≡◌, ◌++◌, ◌<◌, ◌≤◌, ◌^◌, ◌↔◌, IfOk, IfSome, OnOk, Some, List, ℕ, length, take, drop, IsTrue};
+ghost use Rattle.std.specs.Prelude.{◌≡◌, ◌+◌, ◌++◌, ◌<◌, ◌≤◌, ◌^◌, ◌↔◌, IfOk, IfSome, OnOk, Some, List, ℕ, length, take, drop, IsTrue};
 ghost use Rattle.std.specs.List.{All, AllByRecursion};
 ghost use Rattle.lx_types.specs.Names.{IsName};
 ghost use Rattle.lx_types.specs.Parts.{span};
@@ -8,6 +8,7 @@ ghost use Rattle.first_form.specs.declared.module_file.OneObject.{OneObject};
 ghost use Rattle.first_form.specs.declared.module_file.Reference.{Reference};
 ghost use Rattle.first_form.specs.ModuleFile.{IsOneObject, IsFileOf, name_table, records, file};
 ghost use Rattle.first_form.specs.Places.{IsDoubleword, LeadsTo, Stands};
+ghost use Rattle.first_form.specs.Segment.{standing};
 
 use crate::{OneObject, Reference, next_reference, write_file};
 use lx_types::{Name, NoMemory, Seq};
@@ -40,9 +41,10 @@ fn part(bytes: &[u8], from: usize, len: usize) -> &[u8]
     &rest[..len.min(rest.len())]
 }
 
-/// The doubleword at a place. It is 0 where that passes the end.
-fn doubleword_at(bytes: &[u8], at: usize) -> u32
-    ensures { (n : ℕ) → IsDoubleword bytes.now at n → result ≡ n }
+/// The number in the four bytes at a place, lowest byte first. It is 0 where they pass the end.
+pub fn doubleword_at(bytes: &[u8], at: usize) -> u32
+    ensures stands { at + 4 ≤ length bytes.now → result ≡ standing bytes.now at }
+    ensures written { (n : ℕ) → IsDoubleword bytes.now at n → result ≡ n }
 {
     match part(bytes, at, 4) {
         [a, b, c, d] => u32::from_le_bytes([*a, *b, *c, *d]),

@@ -4,7 +4,7 @@ ghost use Rattle.first_form.specs.Segment.{covers};
 ghost use Rattle.first_form.specs.Fixing.{file_byte, references_of as references};
 ghost use Rattle.link_core.specs.Fields.{HasFields, segment_of};
 
-use first_form::Reference;
+use first_form::{Reference, doubleword_at};
 use obj_types::FixAt;
 use std::alloc::{AllocError, Global};
 
@@ -54,13 +54,7 @@ pub fn page_references(
 {
     let mut references = Vec::new(alloc);
     for fix in fixes {
-        let place = fix.offset as usize;
-        let target = u32::from_le_bytes([
-            bytes[place],
-            bytes[place + 1],
-            bytes[place + 2],
-            bytes[place + 3],
-        ]);
+        let target = doubleword_at(bytes, fix.offset as usize);
         references.push(Reference {
             offset: fix.offset,
             target,

@@ -1,12 +1,11 @@
-//! Modules of the first form are read, and handed back where they are changed.
+//! A module of the first form is read.
 
 ghost use Rattle.std.specs.Prelude.{◌<◌, ◌≤◌, ◌^◌, IfOk, length};
 
 use first_form::{OneObject, Reference, write_file};
-use lx_read::{Unread, read_module};
-use lx_types::{Fail as Refused, LxKind, LxRefusal, Name, NoMemory, ObjHead, Seq};
+use lx_read::read_module;
+use lx_types::{Name, NoMemory, ObjHead, Seq};
 use std::alloc::Global;
-use std::process::Abort;
 use std::test::Fail;
 
 const NEAR: Reference = Reference {
@@ -48,16 +47,6 @@ fn first_object(alloc: Global, file: Vec<u8>) -> Option<ObjHead>
     }
 }
 
-/// The refusal of a file, and the file that was handed back.
-fn refused(rt: &impl Abort, alloc: Global, file: Vec<u8>) -> Unread
-    requires { length file.items < 2 ^ 32 }
-{
-    match read_module(alloc, file) {
-        Ok(_) => panic!(rt; "read"),
-        Err(unread) => unread,
-    }
-}
-
 #[test]
 fn reads_what_is_written(rt: HostRuntime) -> Result<(), Fail> {
     let alloc = rt.alloc();
@@ -65,26 +54,5 @@ fn reads_what_is_written(rt: HostRuntime) -> Result<(), Fail> {
     let object = first_object(alloc, file).ok_or("a module")?;
     assert_eq!(rt; (object.size, object.base), (12, 0x1000_0000));
     assert_eq!(rt; (object.flags, object.first, object.count), (0x2005, 1, 1));
-    Ok(())
-}
-
-/// A byte of each section is changed: the file is handed back as it was given.
-#[test]
-fn refuses_a_changed_byte(rt: HostRuntime) -> Result<(), Fail> {
-    let alloc = rt.alloc();
-    let unbuilt = LxRefusal {
-        at: 0,
-        kind: LxKind::Unbuilt,
-    };
-    for at in [
-        0, 0x14, 0x58, 0xC3, 204, 226, 229, 233, 234, 242, 250, 258, 265,
-    ] {
-        let mut file = written(alloc, &[0x90, 0xC3])?;
-        assert!(rt; at < file.len());
-        file[at] ^= 0x20;
-        let unread = refused(&rt, alloc, file.clone()?);
-        assert!(rt; unread.why == Refused::Said(unbuilt), "at {at}");
-        assert!(rt; unread.file.as_slice() == file.as_slice());
-    }
     Ok(())
 }

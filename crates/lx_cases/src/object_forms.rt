@@ -21,10 +21,6 @@ const END: &[u8] = b"\x8A\x02\x00\0\0";
 
 const EMPTY: &[u8] = b"\x99\x09\x00\xA9\0\0\0\0\x02\x03\x01\0";
 
-const LONG: &[u8] = b"\x99\x09\x00\xA9\x00\x10\0\0\x02\x03\x01\0";
-
-const LONGER: &[u8] = b"\x99\x09\x00\xA9\x01\x10\0\0\x02\x03\x01\0";
-
 const NO_FIXUPS: &[u8] = b"\x9D\x01\x00\0";
 
 const FALLING: &[u8] = b"\x9D\x0B\x00\xE4\x04\x14\x01\x01\xE4\x00\x14\x01\x01\0";
@@ -32,8 +28,6 @@ const FALLING: &[u8] = b"\x9D\x0B\x00\xE4\x04\x14\x01\x01\xE4\x00\x14\x01\x01\0"
 const OVERLAP: &[u8] = b"\x9D\x0B\x00\xE4\x00\x14\x01\x01\xE4\x03\x14\x01\x01\0";
 
 const PAST: &[u8] = b"\x9D\x06\x00\xE4\x05\x14\x01\x01\0";
-
-const LAST: &[u8] = b"\x9D\x06\x00\xE7\xFF\x14\x01\x01\0";
 
 fn joined(alloc: Global, parts: &[&[u8]]) -> Result<Vec<u8>, AllocError> {
     let mut bytes = Vec::new(alloc);
@@ -117,52 +111,6 @@ fn forms(rt: HostRuntime) -> Result<(), std::test::Fail> {
         bytes.extend_from_slice(&joined(alloc, parts)?)?;
         let found = places(alloc, &bytes)?;
         assert_eq!(rt; found.as_ref().map(|places| places.as_slice()), *wanted);
-    }
-    Ok(())
-}
-
-/// 4,096 bytes with a fixup at 1,023, the last place that a fixup can name, and one byte more.
-#[test]
-fn long_segments(rt: HostRuntime) -> Result<(), std::test::Fail> {
-    let alloc = rt.alloc();
-    let zeros = vec![in alloc; 0; 4096]?;
-    let mut bytes = joined(
-        alloc,
-        &[NAME, NAMES, LONG, GROUP, b"\xA1\x06\x10\x01\0\0\0\0"],
-    )?;
-    bytes.extend_from_slice(&zeros)?;
-    bytes.extend_from_slice(&joined(alloc, &[b"\0", LAST, END])?)?;
-    let found = places(alloc, &bytes)?;
-    assert_eq!(rt;
-        found.as_ref().map(|places| places.as_slice()),
-        Some([1023].as_slice())
-    );
-    let mut bytes = joined(
-        alloc,
-        &[NAME, NAMES, LONGER, GROUP, b"\xA1\x07\x10\x01\0\0\0\0"],
-    )?;
-    bytes.extend_from_slice(&zeros)?;
-    bytes.extend_from_slice(&joined(alloc, &[b"\0\0", LAST, END])?)?;
-    assert!(rt; places(alloc, &bytes)?.is_none());
-    Ok(())
-}
-
-/// A file that is cut anywhere is not read, and neither is one with another byte, but where that is
-/// the letter of the name, at 4, or data, at 53 to 60.
-#[test]
-fn other_bytes(rt: HostRuntime) -> Result<(), std::test::Fail> {
-    let alloc = rt.alloc();
-    let bytes = joined(alloc, &[NAME, NAMES, SEGMENT, GROUP, DATA, FIXUP, END])?;
-    for i in 0..bytes.len() {
-        let cut = read_object(alloc, &bytes[..i]);
-        assert!(rt;
-            matches!(cut, Err(Fail::Said(OmfRefusal::Unbuilt { at: 0 }))),
-            "up to {i}"
-        );
-        let mut other = bytes.clone()?;
-        other[i] ^= 1;
-        let found = read_object(alloc, &other);
-        assert_eq!(rt; found.is_ok(), i == 4 || (53..61).contains(&i), "byte {i}");
     }
     Ok(())
 }

@@ -49,7 +49,7 @@ names_contents =
 unfoldable pub segment_len : List ℕ → Option ℕ
 segment_len (attributes ∷ a ∷ b ∷ c ∷ d ∷ name ∷ class ∷ overlay ∷ []) =
     if attributes == 0xA9 && name == 2 && class == 3 && overlay == 1
-        && nat_le (from_le_bytes w32 (a ∷ b ∷ c ∷ d ∷ [])) 4096
+    && nat_le (from_le_bytes w32 (a ∷ b ∷ c ∷ d ∷ [])) 4096
     then Some (from_le_bytes w32 (a ∷ b ∷ c ∷ d ∷ [])) else None
 segment_len _ = None
 

@@ -88,7 +88,10 @@ fn object(alloc: Global, records: &Records<'_>, places: &[u32]) -> Result<ObjMod
     requires name { IsName records.now.name.now }
     requires bytes { length records.now.data.now < 2 ^ 32 }
     ensures { IfOk result (λ object. object ≡ object_module_of (record {
-        name = records.now.name.now; bytes = records.now.data.now; fixups = Some places.now })) }
+      name = records.now.name.now;
+      bytes = records.now.data.now;
+      fixups = Some places.now;
+    })) }
 {
     let mut object = ObjParts::fresh(alloc).module;
     object.name = Name::of_short(alloc, records.name)?;

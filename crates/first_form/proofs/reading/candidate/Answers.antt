@@ -26,6 +26,6 @@ returns c m is =
     let page = c.section-3.ensures _ _ to.page to.others ∙ at.page in
     same m c.in_ok-name.name c.doubleword_at.result c.doubleword_at-2.result c.from_vec.result c.from_vec-2.result
     (c.in_ok-name.ensures m.name is.object.name names)
-    (c.doubleword_at.ensures _ to.base) (c.doubleword_at-2.ensures _ to.size)
+    (c.doubleword_at.ensures.written _ to.base) (c.doubleword_at-2.ensures.written _ to.size)
     (c.from_vec.ensures ∙ c.in_ok-page.ensures.items ∙ page)
     (c.from_vec-2.ensures ∙ c.in_ok-references.ensures m.references is.object.references records)
