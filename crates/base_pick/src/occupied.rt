@@ -10,14 +10,14 @@ use std::alloc::Global;
 use std::marker::Model;
 
 /// The addresses from one up to before another.
-#[derive(Clone, Copy, Debug, PartialEq, Eq)]
+#[derive(Clone, Copy)]
 pub struct AddressRange {
     pub from: u32,
     pub to: u32,
 }
 
 /// The ranges of the shared arena that are taken.
-#[derive(Debug, Drop)]
+#[derive(Drop)]
 pub struct Occupied {
     ranges: Vec<AddressRange>,
 }

@@ -10,7 +10,7 @@ use std::alloc::Global;
 
 /// The words of a list of attributes: of each pair, whether its setting word or the other stands
 /// there.
-#[derive(Debug, Clone, Copy, PartialEq, Eq)]
+#[derive(Clone, Copy)]
 pub struct Words {
     pub write: Option<bool>,
     pub read: Option<bool>,
@@ -32,7 +32,7 @@ impl Words {
 }
 
 /// An item of SEGMENTS, as it is written.
-#[derive(Debug, PartialEq, Drop)]
+#[derive(Drop)]
 pub struct SegDraft {
     pub name: Name,
     pub class: Option<Name>,
@@ -40,7 +40,7 @@ pub struct SegDraft {
 }
 
 /// What the statements so far say.
-#[derive(Debug, PartialEq, Drop)]
+#[derive(Drop)]
 pub struct Draft {
     pub kind: Option<ModKind>,
     pub name: Option<Name>,
@@ -58,7 +58,7 @@ pub struct Draft {
 }
 
 /// What has a list of attributes.
-#[derive(Debug, PartialEq, Drop)]
+#[derive(Drop)]
 pub enum Owner {
     Code,
     Data,
@@ -66,7 +66,7 @@ pub enum Owner {
 }
 
 /// The statements that give one number.
-#[derive(Debug, Clone, Copy, PartialEq, Eq)]
+#[derive(Clone, Copy)]
 pub enum Size {
     Stack,
     Heap,
@@ -74,7 +74,7 @@ pub enum Size {
 }
 
 /// The parts of an item of EXPORTS that may end it.
-#[derive(Debug, Clone, Copy, PartialEq, Eq)]
+#[derive(Clone, Copy)]
 pub enum Part {
     Name,
     Internal,
@@ -84,7 +84,7 @@ pub enum Part {
 }
 
 /// Behind what the next token stands.
-#[derive(Debug, PartialEq, Drop)]
+#[derive(Drop)]
 pub enum Place {
     /// A whole statement, or none.
     Statement,
@@ -154,7 +154,7 @@ pub enum Place {
 }
 
 /// A file that is read up to a place.
-#[derive(Debug, PartialEq, Drop)]
+#[derive(Drop)]
 pub struct Reading {
     pub draft: Draft,
     pub place: Place,

@@ -12,7 +12,7 @@ use Rattle.lx_types.specs.Parts.{entry_of, ordinal_named, proc_name_of}
 use Rattle.lx_model.specs.declared.library.Spot.{Spot}
 use Rattle.lx_model.specs.declared.library.EntryFault.{EntryFault}
 use Rattle.lx_model.specs.Library.{module_of, library_named, import_of}
-use Rattle.lx_model.specs.Entries.{Place, place_named, key_place, import_place, Stands, spot, fails, forwards, place_or_none, head_at, stands_at, followed, entry_count, entry_or_none, Entry}
+use Rattle.lx_model.specs.Entries.{OrdinalOf, place_named, key_place, import_place, Stands, spot, fails, forwards, place_or_none, head_at, stands_at, followed, entry_count, entry_or_none, Entry}
 use Rattle.lx_model.specs.Reach.{Reach, Order, imports_of}
 use Rattle.lx_model.specs.Reach.Reach.{itself, further}
 use Rattle.lx_model.specs.Laws.{ReachedIsOrdered}
@@ -43,19 +43,19 @@ import_contains lib [] i other e = (let wrong : None ≡ Some other = e in cc)
 import_contains lib (name ∷ names) zero other e = first_contains (library_named lib name) (filter_map (library_named lib) names) other e
 import_contains lib (name ∷ names) (suc i) other e = kept_contains (library_named lib name) (filter_map (library_named lib) names) other (import_contains lib names i other e)
 
-named_in : (m : ℕ) (o : Option ℕ) (next : Place) → option_map (λ ordinal. (m, ordinal)) o ≡ Some next → next.0 ≡ m
+named_in : (m : ℕ) (o : Option ℕ) (next : OrdinalOf) → option_map (λ ordinal. (m, ordinal)) o ≡ Some next → next.0 ≡ m
 named_in m None next e = cc
 named_in m (Some ordinal) next e = (let same : (m, ordinal) ≡ next = cc in ap (λ p. p.0) (sym same))
 
-some_named_in : (lib : Library) (m : ℕ) (o : Option (List ℕ)) (next : Place) → option_and_then (place_named lib m) o ≡ Some next → next.0 ≡ m
+some_named_in : (lib : Library) (m : ℕ) (o : Option (List ℕ)) (next : OrdinalOf) → option_and_then (place_named lib m) o ≡ Some next → next.0 ≡ m
 some_named_in lib m None next e = cc
 some_named_in lib m (Some name) next e = named_in m (ordinal_named (module_of lib m).names name) next e
 
-key_in : (lib : Library) (m : ℕ) (key : FwdKey) (other : ℕ) (next : Place) → key_place lib m key other ≡ Some next → next.0 ≡ other
+key_in : (lib : Library) (m : ℕ) (key : FwdKey) (other : ℕ) (next : OrdinalOf) → key_place lib m key other ≡ Some next → next.0 ≡ other
 key_in lib m (forward.Ordinal ordinal) other next e = (let same : (other, ordinal) ≡ next = cc in ap (λ p. p.0) (sym same))
 key_in lib m (forward.NameAt at) other next e = some_named_in lib other (proc_name_of (module_of lib m) at) next e
 
-import_in : (lib : Library) (m import : ℕ) (key : FwdKey) (next : Place) → import_place lib m import key ≡ Some next → Contains (imports_of lib m) next.0
+import_in : (lib : Library) (m import : ℕ) (key : FwdKey) (next : OrdinalOf) → import_place lib m import key ≡ Some next → Contains (imports_of lib m) next.0
 import_in lib m import key next e = step (import_of lib m import) refl e
   where
     step : (o : Option ℕ) → import_of lib m import ≡ o → option_and_then (key_place lib m key) o ≡ Some next → Contains (imports_of lib m) next.0
@@ -73,30 +73,30 @@ spot_in lib m (Some (heads.At object offset)) s e =
 spot_in lib m (Some (heads.Gate286 object offset)) s e = cc
 spot_in lib m (Some (heads.Forward import key)) s e = step (import_place lib m import key) e
   where
-    step : (o : Option Place) → place_or_none o ≡ spot s → s.«module» ≡ m
+    step : (o : Option OrdinalOf) → place_or_none o ≡ spot s → s.«module» ≡ m
     step None e = cc
     step (Some place) e = cc
 
-forward_in : (lib : Library) (m : ℕ) (head : Option EntryHead) (next : Place) → head_at lib m head ≡ forwards next → Contains (imports_of lib m) next.0
+forward_in : (lib : Library) (m : ℕ) (head : Option EntryHead) (next : OrdinalOf) → head_at lib m head ≡ forwards next → Contains (imports_of lib m) next.0
 forward_in lib m None next e = cc
 forward_in lib m (Some (heads.At object offset)) next e = cc
 forward_in lib m (Some (heads.Gate286 object offset)) next e = cc
 forward_in lib m (Some (heads.Forward import key)) next e = step (import_place lib m import key) refl e
   where
-    step : (o : Option Place) → import_place lib m import key ≡ o → place_or_none o ≡ forwards next → Contains (imports_of lib m) next.0
+    step : (o : Option OrdinalOf) → import_place lib m import key ≡ o → place_or_none o ≡ forwards next → Contains (imports_of lib m) next.0
     step None is e = cc
     step (Some place) is e = (let same : place ≡ next = cc in import_in lib m import key next (is ∙ ap Some same))
 
 -- ---- from place to place
 
-followed_in : (n : ℕ) (lib : Library) (place : Place) (s : Spot) → followed n lib place ≡ Ok s → Reach lib place.0 s.«module»
+followed_in : (n : ℕ) (lib : Library) (place : OrdinalOf) (s : Spot) → followed n lib place ≡ Ok s → Reach lib place.0 s.«module»
 unfolding followed
 followed_in zero lib place s e = cc
 followed_in (suc n) lib place s e = step (stands_at lib place) refl e (λ next f. followed_in n lib next s f)
   where
     step : (st : Stands) → stands_at lib place ≡ st →
         elim st as (λ _. Result Spot EntryFault) [ spot t ↦ Ok t | fails x ↦ Err x | forwards next ↦ followed n lib next ] ≡ Ok s →
-        ((next : Place) → followed n lib next ≡ Ok s → Reach lib next.0 s.«module») → Reach lib place.0 s.«module»
+        ((next : OrdinalOf) → followed n lib next ≡ Ok s → Reach lib next.0 s.«module») → Reach lib place.0 s.«module»
     step (spot t) is e later =
         let same : t ≡ s = cc in
         subst (Reach lib place.0) (sym (spot_in lib place.0 (entry_of (module_of lib place.0).entries place.1) s (is ∙ ap spot same))) itself
@@ -104,7 +104,7 @@ followed_in (suc n) lib place s e = step (stands_at lib place) refl e (λ next f
     step (forwards next) is e later =
         through lib place.0 next.0 s.«module» (further itself (forward_in lib place.0 (entry_of (module_of lib place.0).entries place.1) next is)) (later next e)
 
-entry_in : (lib : Library) (place : Place) (s : Spot) → Entry lib place ≡ Ok s → Reach lib place.0 s.«module»
+entry_in : (lib : Library) (place : OrdinalOf) (s : Spot) → Entry lib place ≡ Ok s → Reach lib place.0 s.«module»
 unfolding Entry
 entry_in lib place s e = followed_in (suc (entry_count lib)) lib place s e
 
@@ -113,7 +113,7 @@ unfolding entry_spot
 key_reach lib m (keys.Ordinal ordinal) s e = entry_in lib (m, ordinal) s e
 key_reach lib m (keys.Named name) s e = step (place_named lib m name) refl e
   where
-    step : (o : Option Place) → place_named lib m name ≡ o → entry_or_none lib o ≡ Ok s → Reach lib m s.«module»
+    step : (o : Option OrdinalOf) → place_named lib m name ≡ o → entry_or_none lib o ≡ Ok s → Reach lib m s.«module»
     step None is e = cc
     step (Some place) is e =
         subst (λ k. Reach lib k s.«module») (named_in m (ordinal_named (module_of lib m).names name) place is) (entry_in lib place s e)

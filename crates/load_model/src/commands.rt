@@ -3,7 +3,7 @@
 use lx_types::{Bytes, EntryKey, Name};
 
 /// `len` bytes of an object of a module, from `offset` on. Objects count from 1.
-#[derive(Debug, PartialEq, Drop)]
+#[derive(Drop)]
 pub struct Place {
     pub module: Name,
     pub object: u32,
@@ -12,7 +12,7 @@ pub struct Place {
 }
 
 /// A command of a process.
-#[derive(Debug, PartialEq, Drop)]
+#[derive(Drop)]
 pub enum Command {
     /// Starts a program.
     Start(Name),
@@ -35,7 +35,7 @@ pub enum Command {
 }
 
 /// Why a command was refused.
-#[derive(Clone, Copy, Debug, PartialEq, Eq)]
+#[derive(Clone, Copy)]
 pub enum Refusal {
     /// The process has ended.
     Ended,
@@ -87,7 +87,7 @@ pub enum Refusal {
 }
 
 /// What a command without an entry is answered.
-#[derive(Debug, PartialEq, Drop)]
+#[derive(Drop)]
 pub enum Reply {
     /// A place was touched.
     Fine,

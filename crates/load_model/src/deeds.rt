@@ -3,14 +3,14 @@
 use lx_types::{Bytes, Numbers, PageId, Seq};
 
 /// Whether a program is started (DosExecPgm) or a library loaded (DosLoadModule).
-#[derive(Clone, Copy, Debug, PartialEq, Eq)]
+#[derive(Clone, Copy)]
 pub enum How {
     Start,
     Load,
 }
 
 /// Which entry point of a module is called.
-#[derive(Clone, Copy, Debug, PartialEq, Eq)]
+#[derive(Clone, Copy)]
 pub enum CallKind {
     /// A library's initialisation.
     Init,
@@ -21,7 +21,7 @@ pub enum CallKind {
 }
 
 /// A call of a module's start address, for the process of the entry. Modules count from 0.
-#[derive(Clone, Copy, Debug, PartialEq, Eq)]
+#[derive(Clone, Copy)]
 pub struct Call {
     pub kind: CallKind,
     pub serial: u64,
@@ -33,7 +33,7 @@ pub struct Call {
 pub type Calls = Seq<Call>;
 
 /// A residence that begins, with the bases of the module's objects in their order.
-#[derive(Debug, PartialEq, Drop)]
+#[derive(Drop)]
 pub struct Fresh {
     pub serial: u64,
     pub module: u32,
@@ -44,7 +44,7 @@ pub struct Fresh {
 pub type Newcomers = Seq<Fresh>;
 
 /// A residence that ends.
-#[derive(Clone, Copy, Debug, PartialEq, Eq)]
+#[derive(Clone, Copy)]
 pub struct Gone {
     pub serial: u64,
     pub module: u32,
@@ -54,7 +54,7 @@ pub struct Gone {
 pub type Leavers = Seq<Gone>;
 
 /// What one process did in one step.
-#[derive(Debug, PartialEq, Drop)]
+#[derive(Drop)]
 pub enum Deed {
     /// A program was started or a library loaded.
     Enter {
@@ -107,7 +107,7 @@ pub enum Deed {
 }
 
 /// An entry of a history. Processes count from 1 to 16.
-#[derive(Debug, PartialEq, Drop)]
+#[derive(Drop)]
 pub struct Entry {
     pub pid: u32,
     pub deed: Deed,

@@ -19,7 +19,7 @@ use std::alloc::Global;
 const MOST_MODULES: usize = 64;
 
 /// What a library knows of its modules.
-#[derive(Debug, Drop)]
+#[derive(Drop)]
 pub struct Tables {
     pub orders: Vec<Numbers>,
     pub healths: Vec<Health>,

@@ -20,7 +20,7 @@ use lx_types::{FixTarget, Module, Name, NoMemory, Numbers};
 use std::alloc::Global;
 
 /// The faults that a module has by itself, each kind where it has it.
-#[derive(Clone, Copy, Debug, PartialEq, Eq)]
+#[derive(Clone, Copy)]
 pub struct Faults {
     pub lost: Option<Health>,
     pub cycle: Option<Health>,
@@ -30,7 +30,7 @@ pub struct Faults {
 }
 
 /// A kind of fault.
-#[derive(Clone, Copy, Debug, PartialEq, Eq)]
+#[derive(Clone, Copy)]
 pub enum Kind {
     /// A name of the import modules means no library.
     Lost,

@@ -15,14 +15,14 @@ use std::alloc::Global;
 use std::marker::Model;
 
 /// Modules that make no library, and why.
-#[derive(Debug, Drop)]
+#[derive(Drop)]
 pub struct Ungathered {
     pub mods: Vec<Module>,
     pub why: Fail<LibraryRefusal>,
 }
 
 /// The modules of a session, numbered from 0, with what follows from their imports and fixups.
-#[derive(Debug, Drop)]
+#[derive(Drop)]
 pub struct Library {
     mods: Vec<Module>,
     orders: Vec<Numbers>,

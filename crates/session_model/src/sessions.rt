@@ -4,7 +4,7 @@ use load_model::{Command, Reply};
 use lx_types::{Name, Names, Seq};
 
 /// A line that gives a module.
-#[derive(Debug, PartialEq, Drop)]
+#[derive(Drop)]
 pub enum ModLine {
     /// The module in a file.
     Take { file: Name },
@@ -17,21 +17,21 @@ pub enum ModLine {
 pub type Commands = Seq<Command>;
 
 /// What one process does. Its number is from 1 to 16.
-#[derive(Debug, PartialEq, Drop)]
+#[derive(Drop)]
 pub struct Script {
     pub pid: u32,
     pub commands: Commands,
 }
 
 /// A session: the modules, and the scripts by rising numbers.
-#[derive(Debug, PartialEq, Drop)]
+#[derive(Drop)]
 pub struct Session {
     pub modules: Seq<ModLine>,
     pub scripts: Seq<Script>,
 }
 
 /// What is wrong with a line. The kinds are tried in this order.
-#[derive(Clone, Copy, Debug, PartialEq, Eq)]
+#[derive(Clone, Copy)]
 pub enum SessionKind {
     /// A byte that is neither a blank nor a visible ASCII character.
     Byte,
@@ -48,7 +48,7 @@ pub enum SessionKind {
 }
 
 /// The first fault of a session; lines count from 1.
-#[derive(Clone, Copy, Debug, PartialEq, Eq)]
+#[derive(Clone, Copy)]
 pub struct SessionRefusal {
     pub line: u32,
     pub kind: SessionKind,
@@ -56,7 +56,7 @@ pub struct SessionRefusal {
 
 /// A steady line: a command that was answered without an entry, with how many entries of the history
 /// its process had made or was shown.
-#[derive(Debug, PartialEq, Drop)]
+#[derive(Drop)]
 pub struct Line {
     pub front: u64,
     pub command: Command,
@@ -64,7 +64,7 @@ pub struct Line {
 }
 
 /// The steady lines of a script.
-#[derive(Debug, PartialEq, Drop)]
+#[derive(Drop)]
 pub struct ScriptLines {
     pub pid: u32,
     pub lines: Seq<Line>,
