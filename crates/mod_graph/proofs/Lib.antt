@@ -4,3 +4,5 @@ pub mod Following
 pub mod Healths
 pub mod Tables
 pub mod Gathered
+pub mod NameIndexes
+pub mod Indexed

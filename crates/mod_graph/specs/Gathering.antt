@@ -10,16 +10,18 @@ use Rattle.lx_model.specs.Entries.{entry_count}
 use Rattle.lx_model.specs.Gathering.{MOST_MODULES, IsLibrary, twice_at}
 use Rattle.lx_model.specs.Reach.{Order, HealthOf}
 use Rattle.lx_model.specs.Reading.{first}
+use Rattle.mod_graph.specs.Names.{AreIndexed}
 
 -- the least module whose name an earlier one has
 abbrev pub name_fault : List Parts → Option LibraryRefusal
 name_fault mods = first (map (twice_at mods) (range_with_len 0 (length mods)))
 
--- The modules make a library. Of each its order and its health are known, and how many places forwarders can
+-- The modules make a library. Of each its names are indexed, its order and its health are known, and how many places forwarders can
 -- come to.
-pub record Knows (mods : List Parts) (orders : List (List ℕ)) (healths : List Health) (places : ℕ) : Type 0 where
+pub record Knows (mods : List Parts) (names : List (List (List ℕ × ℕ))) (orders : List (List ℕ)) (healths : List Health) (places : ℕ) : Type 0 where
   pub library : IsLibrary mods
   pub few : length mods ≤ MOST_MODULES
+  pub indexed : AreIndexed mods names
   pub ordered : orders ≡ map (Order mods) (range_with_len 0 (length mods))
   pub orders_count : length orders ≡ length mods
   pub judged : healths ≡ map (HealthOf mods) (range_with_len 0 (length mods))

@@ -1,3 +1,4 @@
 pub mod Visiting
 pub mod Faults
 pub mod Gathering
+pub mod Names

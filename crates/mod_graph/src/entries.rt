@@ -5,9 +5,11 @@ ghost use Rattle.std.specs.Option.{ForSome};
 ghost use Rattle.lx_types.specs.Parts.{entry_of, proc_name_of, ordinal_named};
 ghost use Rattle.lx_model.specs.Library.{module_of, import_of};
 ghost use Rattle.lx_model.specs.Entries as spots;
+ghost use Rattle.mod_graph.specs.Names.{AreIndexed};
 ghost use Rattle.lx_model.specs.Entries.{place_named, followed, entry_or_none, entry_count};
 
 use crate::imports::library_with_name;
+use crate::names::{NameIndex, index_at};
 use lx_model::{EntryFault, Spot};
 use lx_types::{EntryHead, FixTarget, FwdKey, Module, NoMemory};
 
@@ -28,12 +30,13 @@ fn proc_name(mods: &[Module], m: u32, at: u32) -> Option<&[u8]>
 }
 
 /// The place of a name in module `m`.
-pub fn name_place(mods: &[Module], m: u32, name: &[u8]) -> Option<(u32, u32)>
-    requires { m < length mods.now }
+pub fn name_place(mods: &[Module], names: &[NameIndex], m: u32, name: &[u8]) -> Option<(u32, u32)>
+    requires module { m < length mods.now }
+    requires names { AreIndexed mods.now names.now }
     ensures place { result ≡ place_named mods.now m name.now }
     ensures within { IfSome result (λ place. place.0 < length mods.now) }
 {
-    match mods[m as usize].ordinal_of(name) {
+    match index_at(names, m).ordinal_of(name) {
         Some(ordinal) => Some((m, ordinal)),
         None => None,
     }
@@ -56,38 +59,58 @@ fn import_with_number(mods: &[Module], m: u32, import: u32) -> Option<u32>
 }
 
 /// The place that module `m` means by a key of another one.
-fn key_place(mods: &[Module], m: u32, key: FwdKey, other: u32) -> Option<(u32, u32)>
+fn key_place(
+    mods: &[Module],
+    names: &[NameIndex],
+    m: u32,
+    key: FwdKey,
+    other: u32,
+) -> Option<(u32, u32)>
     requires module { m < length mods.now }
     requires other { other < length mods.now }
+    requires names { AreIndexed mods.now names.now }
     ensures place { result ≡ spots.key_place mods.now m key other }
     ensures within { IfSome result (λ place. place.0 < length mods.now) }
 {
     match key {
         FwdKey::Ordinal(ordinal) => Some((other, ordinal)),
         FwdKey::NameAt(at) => match proc_name(mods, m, at) {
-            Some(name) => name_place(mods, other, name),
+            Some(name) => name_place(mods, names, other, name),
             None => None,
         },
     }
 }
 
 /// The place that a key of number `import` of a module's import modules means.
-fn import_place(mods: &[Module], m: u32, import: u32, key: FwdKey) -> Option<(u32, u32)>
+fn import_place(
+    mods: &[Module],
+    names: &[NameIndex],
+    m: u32,
+    import: u32,
+    key: FwdKey,
+) -> Option<(u32, u32)>
     requires few { length mods.now ≤ 64 }
     requires module { m < length mods.now }
+    requires names { AreIndexed mods.now names.now }
     ensures place { result ≡ spots.import_place mods.now m import key }
     ensures within { IfSome result (λ place. place.0 < length mods.now) }
 {
     match import_with_number(mods, m, import) {
-        Some(other) => key_place(mods, m, key, other),
+        Some(other) => key_place(mods, names, m, key, other),
         None => None,
     }
 }
 
 /// The spot to which at most so many places lead, the first of them given: each forwarder leads to the next.
-pub fn spot_behind(mods: &[Module], places: usize, first: (u32, u32)) -> Result<Spot, EntryFault>
+pub fn spot_behind(
+    mods: &[Module],
+    names: &[NameIndex],
+    places: usize,
+    first: (u32, u32),
+) -> Result<Spot, EntryFault>
     requires few { length mods.now ≤ 64 }
     requires module { first.0 < length mods.now }
+    requires names { AreIndexed mods.now names.now }
     ensures { result ≡ followed places mods.now first }
 {
     let mut place = first;
@@ -103,7 +126,7 @@ pub fn spot_behind(mods: &[Module], places: usize, first: (u32, u32)) -> Result<
             }
             Some(EntryHead::Gate286 { .. }) => return Err(EntryFault::Gate286),
             Some(EntryHead::Forward { import, key }) => {
-                match import_place(mods, place.0, import, key) {
+                match import_place(mods, names, place.0, import, key) {
                     Some(next) => place = next,
                     None => return Err(EntryFault::NoEntry),
                 }
@@ -116,16 +139,18 @@ pub fn spot_behind(mods: &[Module], places: usize, first: (u32, u32)) -> Result<
 /// The spot of a place that a key means, where it means one.
 pub fn spot_or_none(
     mods: &[Module],
+    names: &[NameIndex],
     places: usize,
     place: Option<(u32, u32)>,
 ) -> Result<Spot, EntryFault>
     requires few { length mods.now ≤ 64 }
     requires within { ForSome place (λ p. p.0 < length mods.now) }
     requires places { places ≡ entry_count mods.now + 1 }
+    requires names { AreIndexed mods.now names.now }
     ensures { result ≡ entry_or_none mods.now place }
 {
     match place {
-        Some(place) => spot_behind(mods, places, place),
+        Some(place) => spot_behind(mods, names, places, place),
         None => Err(EntryFault::NoEntry),
     }
 }
@@ -133,6 +158,7 @@ pub fn spot_or_none(
 /// The spot of a target of module `m`'s fixups.
 pub fn target_spot(
     mods: &[Module],
+    names: &[NameIndex],
     places: usize,
     m: u32,
     target: &FixTarget,
@@ -140,6 +166,7 @@ pub fn target_spot(
     requires few { length mods.now ≤ 64 }
     requires module { m < length mods.now }
     requires places { places ≡ entry_count mods.now + 1 }
+    requires names { AreIndexed mods.now names.now }
     ensures { result ≡ spots.target_spot mods.now m target.now }
 {
     match *target {
@@ -150,15 +177,17 @@ pub fn target_spot(
         }),
         FixTarget::Ordinal { import, ordinal } => spot_or_none(
             mods,
+            names,
             places,
-            import_place(mods, m, import, FwdKey::Ordinal(ordinal)),
+            import_place(mods, names, m, import, FwdKey::Ordinal(ordinal)),
         ),
         FixTarget::Named { import, name_at } => spot_or_none(
             mods,
+            names,
             places,
-            import_place(mods, m, import, FwdKey::NameAt(name_at)),
+            import_place(mods, names, m, import, FwdKey::NameAt(name_at)),
         ),
-        FixTarget::Own { ordinal } => spot_or_none(mods, places, Some((m, ordinal))),
+        FixTarget::Own { ordinal } => spot_or_none(mods, names, places, Some((m, ordinal))),
     }
 }
 

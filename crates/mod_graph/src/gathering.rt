@@ -10,6 +10,7 @@ use crate::LibraryRefusal;
 use crate::entries::place_count;
 use crate::health::healths_of;
 use crate::imports::{graph_of, module_with_name};
+use crate::names::{NameIndex, indexes_of};
 use crate::order::orders_of;
 use lx_model::Health;
 use lx_types::{Module, Name, NoMemory, Numbers};
@@ -21,6 +22,7 @@ const MOST_MODULES: usize = 64;
 /// What a library knows of its modules.
 #[derive(Drop)]
 pub struct Tables {
+    pub names: Vec<NameIndex>,
     pub orders: Vec<Numbers>,
     pub healths: Vec<Health>,
     pub places: usize,
@@ -77,13 +79,15 @@ pub fn refusal(mods: &[Module]) -> Option<LibraryRefusal>
 pub fn tables_of(alloc: Global, mods: &[Module]) -> Result<Tables, NoMemory>
     requires few { length mods.now ≤ 64 }
     requires library { IsLibrary mods.now }
-    ensures { IfOk result (λ tables. Knows mods.now tables.orders.items tables.healths.items tables.places) }
+    ensures { IfOk result (λ tables. Knows mods.now tables.names.items tables.orders.items tables.healths.items tables.places) }
 {
     let graph = graph_of(alloc, mods)?;
     let orders = orders_of(alloc, mods, &graph)?;
     let places = place_count(mods)?;
-    let healths = healths_of(alloc, mods, places, &graph, &orders)?;
+    let names = indexes_of(alloc, mods)?;
+    let healths = healths_of(alloc, mods, &names, places, &graph, &orders)?;
     Ok(Tables {
+        names,
         orders,
         healths,
         places,

@@ -7,6 +7,7 @@ ghost use Rattle.lx_model.specs.Entries.{entry_count};
 ghost use Rattle.lx_model.specs.Library.{module_of, library_named};
 ghost use Rattle.lx_model.specs.Reach.{is_among, ends_in, imports_of, Order, HealthOf};
 ghost use Rattle.lx_model.specs.Reach as faults;
+ghost use Rattle.mod_graph.specs.Names.{AreIndexed};
 ghost use Rattle.mod_graph.specs.Visiting.{AreWithin};
 ghost use Rattle.lx_model.specs.Reading.{◌then◌};
 ghost use Rattle.mod_graph.specs.Faults as firsts;
@@ -14,6 +15,7 @@ ghost use Rattle.mod_graph.specs.Faults.{faults_of, listed};
 
 use crate::entries::target_spot;
 use crate::imports::library_with_name;
+use crate::names::NameIndex;
 use crate::order::is_in;
 use lx_model::{EntryFault, Health, Spot};
 use lx_types::{FixTarget, Module, Name, NoMemory, Numbers};
@@ -74,6 +76,7 @@ fn is_fault(found: Result<Spot, EntryFault>, fault: EntryFault) -> bool
 /// Whether a target of module `m`'s fixups has this fault.
 fn has_target_fault(
     mods: &[Module],
+    names: &[NameIndex],
     places: usize,
     m: u32,
     target: &FixTarget,
@@ -82,14 +85,16 @@ fn has_target_fault(
     requires few { length mods.now ≤ 64 }
     requires module { m < length mods.now }
     requires places { places ≡ entry_count mods.now + 1 }
+    requires names { AreIndexed mods.now names.now }
     ensures { result ≡ ends_in fault (spots.target_spot mods.now m target.now) }
 {
-    is_fault(target_spot(mods, places, m, target), fault)
+    is_fault(target_spot(mods, names, places, m, target), fault)
 }
 
 /// Whether one of these targets has this fault.
 fn has_fault(
     mods: &[Module],
+    names: &[NameIndex],
     places: usize,
     m: u32,
     targets: &[FixTarget],
@@ -98,11 +103,10 @@ fn has_fault(
     requires few { length mods.now ≤ 64 }
     requires module { m < length mods.now }
     requires places { places ≡ entry_count mods.now + 1 }
+    requires names { AreIndexed mods.now names.now }
     ensures { result ≡ list_any (λ t. ends_in fault (spots.target_spot mods.now m t)) targets.now }
 {
-    targets
-        .iter()
-        .any(|target| has_target_fault(mods, places, m, target, fault))
+    targets.iter().any(|target| has_target_fault(mods, names, places, m, target, fault))
 }
 
 /// The targets of module `m` outside its own objects.
@@ -210,6 +214,7 @@ fn where_so(holds: bool, fault: Health) -> Option<Health>
 /// The faults of module `m`.
 fn faults_of_module(
     mods: &[Module],
+    names: &[NameIndex],
     places: usize,
     graph: &[Numbers],
     orders: &[Numbers],
@@ -223,6 +228,7 @@ fn faults_of_module(
     requires within { AreWithin (length mods.now) graph.now }
     requires orders { orders.now ≡ map (Order mods.now) (range_with_len 0 (length mods.now)) }
     requires orders_length { length orders.now ≡ length mods.now }
+    requires names { AreIndexed mods.now names.now }
     ensures { IfOk result (λ found. found ≡ faults_of mods.now m) }
 {
     let refs = refs_of(mods, m);
@@ -233,15 +239,15 @@ fn faults_of_module(
             Health::Cycle { by: m },
         ),
         no_entry: where_so(
-            has_fault(mods, places, m, refs, EntryFault::NoEntry),
+            has_fault(mods, names, places, m, refs, EntryFault::NoEntry),
             Health::NoEntry { by: m },
         ),
         forward_loop: where_so(
-            has_fault(mods, places, m, refs, EntryFault::ForwardLoop),
+            has_fault(mods, names, places, m, refs, EntryFault::ForwardLoop),
             Health::ForwardLoop { by: m },
         ),
         gate: where_so(
-            has_fault(mods, places, m, refs, EntryFault::Gate286),
+            has_fault(mods, names, places, m, refs, EntryFault::Gate286),
             Health::Gate286 { by: m },
         ),
     })
@@ -251,6 +257,7 @@ fn faults_of_module(
 fn faults_of_all(
     alloc: Global,
     mods: &[Module],
+    names: &[NameIndex],
     places: usize,
     graph: &[Numbers],
     orders: &[Numbers],
@@ -262,12 +269,13 @@ fn faults_of_all(
     requires within { AreWithin (length mods.now) graph.now }
     requires orders { orders.now ≡ map (Order mods.now) (range_with_len 0 (length mods.now)) }
     requires orders_length { length orders.now ≡ length mods.now }
+    requires names { AreIndexed mods.now names.now }
     ensures faults { IfOk result (λ found. found.items ≡ map (faults_of mods.now) (range_with_len 0 (length mods.now))) }
     ensures length { IfOk result (λ found. length found.items ≡ length mods.now) }
 {
     let mut faults = Vec::new(alloc);
     for m in 0..mods.len() {
-        faults.push(faults_of_module(mods, places, graph, orders, m as u32)?)?;
+        faults.push(faults_of_module(mods, names, places, graph, orders, m as u32)?)?;
     }
     Ok(faults)
 }
@@ -314,6 +322,7 @@ fn health_among(faults: &[Faults], order: &[u32]) -> Health
 pub fn healths_of(
     alloc: Global,
     mods: &[Module],
+    names: &[NameIndex],
     places: usize,
     graph: &[Numbers],
     orders: &[Numbers],
@@ -326,9 +335,10 @@ pub fn healths_of(
     requires orders { orders.now ≡ map (Order mods.now) (range_with_len 0 (length mods.now)) }
     requires orders_length { length orders.now ≡ length mods.now }
     requires orders_within { AreWithin (length mods.now) orders.now }
+    requires names { AreIndexed mods.now names.now }
     ensures { IfOk result (λ healths. healths.items ≡ map (HealthOf mods.now) (range_with_len 0 (length mods.now))) }
 {
-    let faults = faults_of_all(alloc, mods, places, graph, orders)?;
+    let faults = faults_of_all(alloc, mods, names, places, graph, orders)?;
     let mut healths = Vec::new(alloc);
     for m in 0..mods.len() {
         healths.push(health_among(&faults, list_at(orders, m as u32)))?;

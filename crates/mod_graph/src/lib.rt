@@ -7,6 +7,7 @@ mod gathering;
 mod health;
 mod imports;
 mod library;
+mod names;
 mod order;
 
 pub use library::{Library, Ungathered};

@@ -9,6 +9,7 @@ use crate::entries::{name_place, spot_or_none};
 use crate::gathering::{refusal, tables_of};
 use crate::health::{health_at, list_at};
 use crate::imports::module_with_name;
+use crate::names::NameIndex;
 use lx_model::{EntryFault, Health, LibraryRefusal, Spot};
 use lx_types::{Fail, Module, Name, NoMemory, Numbers};
 use std::alloc::Global;
@@ -25,6 +26,7 @@ pub struct Ungathered {
 #[derive(Drop)]
 pub struct Library {
     mods: Vec<Module>,
+    names: Vec<NameIndex>,
     orders: Vec<Numbers>,
     healths: Vec<Health>,
     places: usize,
@@ -39,7 +41,7 @@ impl Model for Library {
 
     ghost view = { λ l. l.mods.items };
 
-    ghost invariant = { λ l. Knows l.mods.items l.orders.items l.healths.items l.places };
+    ghost invariant = { λ l. Knows l.mods.items l.names.items l.orders.items l.healths.items l.places };
 }
 
 impl Library {
@@ -63,6 +65,7 @@ impl Library {
         match tables_of(alloc, &mods) {
             Ok(tables) => Ok(Library {
                 mods,
+                names: tables.names,
                 orders: tables.orders,
                 healths: tables.healths,
                 places: tables.places,
@@ -135,7 +138,7 @@ impl Library {
         requires { m < length self.now }
         ensures { result ≡ Entry self.now (m, ordinal) }
     {
-        spot_or_none(&self.mods, self.places, Some((m, ordinal)))
+        spot_or_none(&self.mods, &self.names, self.places, Some((m, ordinal)))
     }
 
     /// Where a name of module `m` leads, through forwarders. (LX: "Resident or Non-resident Name Table Entry".)
@@ -143,6 +146,7 @@ impl Library {
         requires { m < length self.now }
         ensures { result ≡ EntryNamed self.now m name.now }
     {
-        spot_or_none(&self.mods, self.places, name_place(&self.mods, m, name))
+        let place = name_place(&self.mods, &self.names, m, name);
+        spot_or_none(&self.mods, &self.names, self.places, place)
     }
 }
