@@ -3,9 +3,13 @@
 #![tactic(auto)]
 
 #[cfg(test)]
+mod bases;
+#[cfg(test)]
 mod calls;
 #[cfg(test)]
 mod choosing;
+#[cfg(test)]
+mod definition_files;
 #[cfg(test)]
 mod fields;
 #[cfg(test)]
@@ -24,3 +28,5 @@ mod object_forms;
 mod ports;
 #[cfg(test)]
 mod records;
+#[cfg(test)]
+mod tables;
