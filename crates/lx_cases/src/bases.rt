@@ -1,7 +1,5 @@
 //! The bases of a library's object, beside what is occupied.
 
-ghost use Rattle.std.specs.Prelude.{◌≡◌, ◌∷◌, [], IfOk};
-
 use base_pick::{ArenaFull, Occupied, pick};
 use lx_types::{Fail, MODULE_LIBRARY, Module, Name, NoMemory, ObjHead, Parts, Seq};
 use std::alloc::Global;

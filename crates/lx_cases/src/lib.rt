@@ -21,6 +21,8 @@ mod module_file;
 #[cfg(test)]
 mod modules;
 #[cfg(test)]
+mod names;
+#[cfg(test)]
 mod object_file;
 #[cfg(test)]
 mod object_forms;
