@@ -17,6 +17,3 @@ mod statements;
 pub use laws::{file_is_one, worked_files};
 pub use reading::read_def;
 pub use refusal::{DefKind, DefRefusal};
-
-#[cfg(test)]
-mod tests;

@@ -3,9 +3,13 @@
 #![tactic(auto)]
 
 #[cfg(test)]
+mod bases;
+#[cfg(test)]
 mod calls;
 #[cfg(test)]
 mod choosing;
+#[cfg(test)]
+mod definition_files;
 #[cfg(test)]
 mod fields;
 #[cfg(test)]
@@ -17,6 +21,8 @@ mod module_file;
 #[cfg(test)]
 mod modules;
 #[cfg(test)]
+mod names;
+#[cfg(test)]
 mod object_file;
 #[cfg(test)]
 mod object_forms;
@@ -24,3 +30,5 @@ mod object_forms;
 mod ports;
 #[cfg(test)]
 mod records;
+#[cfg(test)]
+mod tables;

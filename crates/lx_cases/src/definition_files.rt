@@ -1,8 +1,10 @@
-use super::*;
+//! Module definition files.
+
+use def_file::{DefKind, DefRefusal, read_def};
 use lx_types::{EntryKey, Fail as Failure};
 use obj_types::{DefFile, ModKind};
 use std::alloc::Global;
-use std::test::*;
+use std::test::Fail;
 
 const WHOLE: &[u8] = b"library counter INITINSTANCE ; two exports
 DESCRIPTION 'counts'
@@ -23,7 +25,7 @@ fn read(alloc: Global, bytes: &[u8]) -> Result<DefFile, Option<DefRefusal>> {
 #[test]
 fn a_whole_file(rt: HostRuntime) -> Result<(), Fail> {
     let file = read(rt.alloc(), WHOLE).ok().ok_or("a definition file")?;
-    assert_eq!(rt; file.kind, ModKind::Library);
+    assert!(rt; matches!(file.kind, ModKind::Library));
     assert!(rt; file.init_each && !file.term_each);
     assert_eq!(rt; file.about.bytes(), b"counts".as_slice());
     assert_eq!(rt; (file.stack, file.heap), (4096, 0));
@@ -38,7 +40,7 @@ fn a_whole_file(rt: HostRuntime) -> Result<(), Fail> {
     let imports = file.imports.as_slice();
     assert_eq!(rt; imports.len(), 1);
     assert_eq!(rt; imports[0].name.bytes(), b"Beep".as_slice());
-    assert!(rt; imports[0].entry == EntryKey::Ordinal(286));
+    assert!(rt; matches!(imports[0].entry, EntryKey::Ordinal(286)));
     Ok(())
 }
 
