@@ -1,4 +1,4 @@
-//! The program `lx` once more, for a second stored run: this one shows an object file, that of `lx` ends with 1.
+//! The program `lx` once more, for a second stored run: the file that it names is absent, and it ends with 1.
 #![tactic(auto)]
 
 use lx_start::program;
