@@ -10,7 +10,8 @@ mod keys;
 mod laws;
 mod limits;
 mod refusals;
-mod symbols;mod values;
+mod symbols;
+mod values;
 
 pub use choosing::choose;
 pub use keys::{ObjectKey, Origin, SegmentKey};
