@@ -1,6 +1,6 @@
 -- That nothing is dropped, computed on a small input: a 32-bit code segment, a 16-bit segment and a debug segment, one
 -- external of each kind, and fixups to all of them.
-use Rattle.std.specs.Prelude.{◌≡◌, ℕ, true, false, List, [], ◌∷◌, Some, None, map, length, is_some, refl, codes}
+use Rattle.std.specs.Prelude.{◌≡◌, ℕ, pos, true, false, List, [], ◌∷◌, Some, None, map, length, is_some, refl, codes}
 use Rattle.lx_types.specs.declared.entry.EntryKey.TheVariants as keys
 use Rattle.obj_types.specs.declared.object.Frame.TheVariants as frames
 use Rattle.obj_types.specs.declared.object.Goal.TheVariants as goals
@@ -13,7 +13,8 @@ use Rattle.link_model.specs.Symbols.{Sym}
 use Rattle.link_model.specs.Layout.{objects, spot, common_spot}
 use Rattle.link_model.specs.Fixups.{fixups}
 use Rattle.link_model.specs.Value.{value_bytes}
-use Rattle.link_model.specs.Mean.{Mean}
+use Rattle.link_model.specs.Mean.{pieces, Mean}
+use Rattle.link_model.specs.Records.{page_records}
 use Rattle.link_model.specs.Exports.{Out}
 use Rattle.link_model.specs.Refusal.{link_refusal}
 use Rattle.link_model.specs.Defaults.{default_def}
@@ -35,7 +36,7 @@ of_all_kinds =
       groups = record { name = codes "FLAT"; members = [] } ∷ [];
       pubs = constant (codes "k") 5 ∷ public (codes "p") 1 2 ∷ [];
       exts = extern (codes "k") ∷ extern (codes "p") ∷ extern (codes "i") ∷ comdef (codes "c") false 12 ∷ [];
-      pieces = piece 1 0 (1 ∷ 1 ∷ 1 ∷ 1 ∷ []) ∷ [];
+      pieces = piece 1 0 (1 ∷ 1 ∷ 1 ∷ 1 ∷ []) ∷ piece 1 22 (0 ∷ 0 ∷ []) ∷ [];
       fixes = fixes;
       imports = import (codes "i") (codes "LIB") (keys.Ordinal 1) ∷ [];
       exports = export (codes "P") (codes "p") None ∷ export (codes "I") (codes "i") None ∷ export (codes "C") (codes "c") (Some 1) ∷ [];
@@ -66,6 +67,15 @@ debug_has_none = refl
 fixups_stay : map (λ q. q.fix) (fixups of_all_kinds) ≡ fixes
 unfolding rules
 fixups_stay = refl
+
+data_stays : map (λ p. p.bytes) (pieces of_all_kinds) ≡ (1 ∷ 1 ∷ 1 ∷ 1 ∷ []) ∷ (0 ∷ 0 ∷ []) ∷ []
+unfolding rules
+data_stays = refl
+
+-- The constant and the offset in FLAT are patched; each other fixup has a record.
+records_stay : map (λ r. r.offset) (page_records of_all_kinds 1 0) ≡ pos 4 ∷ pos 8 ∷ pos 12 ∷ pos 18 ∷ []
+unfolding rules
+records_stay = refl
 
 values_fit : map (λ q. length (value_bytes of_all_kinds (at_bases (0x10000 ∷ 0x20000 ∷ 0x30000 ∷ [])) q)) (fixups of_all_kinds) ≡ 4 ∷ 4 ∷ 4 ∷ 4 ∷ 2 ∷ 4 ∷ []
 unfolding rules
