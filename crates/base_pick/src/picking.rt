@@ -81,7 +81,8 @@ fn place_all(
 /// 00010000h to 0FFFFFFFh, a library's from 10000000h to 1FFFFFFFh, beside what is occupied there. The
 /// first object for which there is no place is refused.
 ///
-/// It takes time that grows as objects times occupied ranges; an arena has room for 4,096 of both.
+/// It takes time that grows as objects times occupied ranges and their logarithm; an arena has room for 4,096
+/// of both.
 /// (LX: "Object Table". The arenas and the choice are this loader's own.)
 pub fn pick(alloc: Global, occupied: &Occupied, m: &Module) -> Result<Vec<u32>, Fail<ArenaFull>>
     ensures { Answers result

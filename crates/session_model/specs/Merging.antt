@@ -184,7 +184,7 @@ numbers_of s = map (λ lines. lines.pid) s
 pub record Merge (lib : Library) (contents : Held) (h : List Entry) (s : List ScriptLines) (scripts : List Script) : Type 0 where
   -- there are lines for each script, and entries of no other process
   pub processes : numbers_of s ≡ map (λ script. script.pid) scripts
-  pub entries : AllByRecursion (λ x. x.pid ≤ length scripts) h
+  pub entries : AllByRecursion (λ x. (1 ≤ x.pid) × (x.pid ≤ length scripts)) h
   pub fronts : FrontsRise h s
   pub commands : AllCommands lib (merge_of h s) scripts
   pub faults : AllItems (FaultLeads lib) (merge_of h s)

@@ -21,7 +21,7 @@ returns c = record {
   legal = (record { process = refl; may = refl; done = refl; first = refl }, (record { process = refl; may = refl; done = refl; first = refl }, (record { process = refl; may = refl; done = refl; first = refl }, (record { process = refl; may = refl; done = refl; first = refl }, tt))));
   merge = record {
     processes = refl;
-    entries = (lit≤ tt, (lit≤ tt, (lit≤ tt, (lit≤ tt, tt))));
+    entries = ((lit≤ tt, lit≤ tt), ((lit≤ tt, lit≤ tt), ((lit≤ tt, lit≤ tt), ((lit≤ tt, lit≤ tt), tt))));
     fronts = ((lit≤ tt, lit≤ tt, (lit≤ tt, lit≤ tt, tt)), tt);
     commands = ((((0, refl, refl), (refl, (refl, ((0, refl, refl), (refl, tt)))))), tt);
     faults = (refl, (refl, (tt, (tt, (refl, (refl, tt))))));
