@@ -27,7 +27,7 @@ alone_reads name fits at rest =
     bind_reads (number 1) (behind_length at) (length name ∷ []) name (length name) name (byte_reads (length name) fits.short)
     (λ at' rest'. rw (not_zero (length name) fits.some) (text_reads name at' rest')) at rest
 
-name_reads : (n : ℕ) (name : List ℕ) → ImportFits name → ReadsAs (import_entry (suc n)) (import_spelling name) (item n name)
+pub name_reads : (n : ℕ) (name : List ℕ) → ImportFits name → ReadsAs (import_entry (suc n)) (import_spelling name) (item n name)
 unfolding import_entry
 name_reads n name fits = done_reads import_name (item n) (import_spelling name) name (alone_reads name fits)
 
@@ -73,7 +73,7 @@ pub record NameTaken (n : ℕ) (c : Cursor) (x : List ℕ × ℕ) (d : Cursor) :
   pub count : n ≡ suc x.1
   pub alone : AloneTaken c x.0 d
 
-name_taken : (n : ℕ) (c d : Cursor) (x : List ℕ × ℕ) → AreBytes c.left → import_entry n c ≡ Ok (Some x, d) → NameTaken n c x d
+pub name_taken : (n : ℕ) (c d : Cursor) (x : List ℕ × ℕ) → AreBytes c.left → import_entry n c ≡ Ok (Some x, d) → NameTaken n c x d
 unfolding import_entry
 name_taken zero c d x h e = absurd (never c d x (ends c) refl e)
 name_taken (suc n) c d x h e =

@@ -1,8 +1,14 @@
 pub mod BundlesRead
 pub mod BundlesTaken
 pub mod Each
+pub mod FaultsBehind
+pub mod FaultyFields
+pub mod FaultyTables
+pub mod FaultyBundles
+pub mod FaultyRecords
 pub mod Entries
 pub mod Firsts
+pub mod FirstFaults
 pub mod FitModules
 pub mod ImportsRead
 pub mod Loops

@@ -19,7 +19,7 @@ item n = Some (n, tt)
 abbrev behind_text : List ℕ × Cursor → Read (Option (Named × Unit {0}))
 behind_text name = number 2 name.1 >>= λ ordinal. Ok (item (name.0, ordinal.0), ordinal.1)
 
-entry_reads : (n : Named) → NameFits n → ReadsAs (name_entry tt) (name_spelling n) (item n)
+pub entry_reads : (n : Named) → NameFits n → ReadsAs (name_entry tt) (name_spelling n) (item n)
 unfolding name_entry
 entry_reads n fits =
     let last : ReadsAs (λ d. behind_text (n.0, d)) (little_bytes 2 n.1) (item n) = done_reads (number 2) (λ ordinal. item (n.0, ordinal)) (little_bytes 2 n.1) n.1 (number_reads 2 n.1 fits.ordinal) in

@@ -35,7 +35,7 @@ pub next_ends : (at : ℕ) → next_record tt (cursor at []) ≡ Ok (None, curso
 unfolding next_record
 next_ends at = refl
 
-next_reads : (c d : Cursor) (fixes : List Fix) → 0 < length c.left → record_at c ≡ Ok (fixes, d) → next_record tt c ≡ Ok (item c.at fixes, d)
+pub next_reads : (c d : Cursor) (fixes : List Fix) → 0 < length c.left → record_at c ≡ Ok (fixes, d) → next_record tt c ≡ Ok (item c.at fixes, d)
 unfolding next_record
 next_reads c d fixes some is = other (eqb (length c.left) 0) (ends c) (record_at c >>= λ read. done (item c.at read.0, read.1)) (not_zero (length c.left) some) ∙ rw is refl
 
@@ -75,7 +75,7 @@ fields_read g fits at rest =
 abbrev after : ℕ → ℕ → Read Group → Read (Option (Group × ℕ))
 after before at fields = fault_at at fields >>= λ group. cond (ltb PAGE_SIZE (before + group.0.times * length group.0.bytes)) (Err (fault TooLong at)) (done (Some (group.0, before + group.0.times * length group.0.bytes), group.1))
 
-group_read : (before at : ℕ) (g : Group) (rest : List ℕ) → GroupFits g → before + g.times * length g.bytes ≤ PAGE_SIZE →
+pub group_read : (before at : ℕ) (g : Group) (rest : List ℕ) → GroupFits g → before + g.times * length g.bytes ≤ PAGE_SIZE →
     group_at before (cursor at (group_spelling g ++ rest)) ≡ Ok (Some (g, before + g.times * length g.bytes), cursor (at + length (group_spelling g)) rest)
 unfolding group_at
 group_read before at g rest fits small =

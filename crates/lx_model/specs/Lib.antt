@@ -14,6 +14,8 @@ pub mod Module
 pub mod Laws
 pub mod TableSpelling
 pub mod TableLaws
+pub mod Faults
+pub mod FaultLaws
 pub mod Library
 pub mod Entries
 pub mod Fixed

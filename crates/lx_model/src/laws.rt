@@ -2,6 +2,7 @@
 
 ghost use Rattle.lx_model.specs.Laws.{MeansOne, MeansOrFails, FaultMeansNone, MeansSound, OrderIsReached, ReachedIsOrdered, OrderHasEachOnce, OrderIsInLibrary, OrderIsClosed, OrderEndsWithItself, LoopComesBack, ComesBackLoops};
 ghost use Rattle.lx_model.specs.ModuleLaws.{ReadIsSound, DataExpands, FitHasSpots, RecordsAreGood, TargetsAreThere, ReferencesAreListed};
+ghost use Rattle.lx_model.specs.FaultLaws.{EntryFaults, HeaderFaults, NameFaults, ImportFaults, GroupFaults, BundleFaults, RecordFaults};
 ghost use Rattle.lx_model.specs.TableLaws.{NamesGoOn, ImportsGoOn, BundlesGoOn, RecordsGoOn, GroupsGoOn, OneTargetMore, NamesReadAgain, ImportsReadAgain, EntriesReadAgain, RecordsReadAgain, GroupsReadAgain, HeaderReadAgain, ObjectsReadAgain, PagesReadAgain, DoublewordsReadAgain, RecordIsSpelled, RecordsAreSpelled, NamesAreSpelled, ImportsAreSpelled, EntriesAreSpelled, GroupsAreSpelled};
 
 /// A file has one meaning or one first fault.
@@ -88,4 +89,17 @@ pub fn order_is_reach()
 pub fn loops_come_back()
     ensures loops { LoopComesBack }
     ensures returns { ComesBackLoops }
+{}
+
+/// A table has a fault exactly where a good part of it ends and a field follows that is cut off or not
+/// allowed: name tables, import modules, groups of iterated data, entry bundles and fixup records. Of the
+/// header's fields, and of the entries of the other tables, it is that of the first one that has a fault.
+pub fn faults_follow_good_parts()
+    ensures names { NameFaults }
+    ensures imports { ImportFaults }
+    ensures groups { GroupFaults }
+    ensures bundles { BundleFaults }
+    ensures records { RecordFaults }
+    ensures entries { EntryFaults }
+    ensures header { HeaderFaults }
 {}
