@@ -1,0 +1,8 @@
+//! Writes object files and libraries ("Relocatable Object Module Format"). What is written is read again as
+//! what was to be written.
+#![tactic(auto)]
+
+mod framed;
+mod imports;
+
+pub use imports::import_module;
