@@ -1,29 +1,27 @@
 -- A written import module is read as what it was to be.
-use Rattle.std.proofs.Common.{◌≡◌, ◌≢◌, ℕ, ◌+◌, ◌-◌, ◌%◌, ◌<◌, ◌≤◌, ◌^◌, Bool, true, false, cond, eqb, List, [], ◌∷◌, ◌++◌, length, map, sum, None, refl, sym, subst, ap, ◌∙◌, append_assoc, append-nil, length-append, arith, inl, inr}
+use Rattle.std.proofs.Common.{◌≡◌, ◌≢◌, ℕ, ◌<◌, ◌≤◌, Bool, true, false, cond, eqb, List, [], ◌∷◌, ◌++◌, length, None, refl, sym, ap, append-nil, length-append, arith, inr}
 use Rattle.std.proofs.lemmas.List.{length-map}
 use Rattle.std.proofs.lemmas.List.Sums.{sum_by-append}
 use Rattle.std.proofs.lemmas.Slice.Eq.{bytes_eq-Decides}
 use Rattle.std.proofs.lemmas.Bool.Decides.{nat_tests}
 use Rattle.std.specs.Char.{to_ascii_uppercase}
 use Rattle.std.specs.Prelude.{bytes_eq, Contains}
-use Rattle.lx_bytes.specs.LittleEndian.{little_bytes}
 use Rattle.lx_types.specs.Names.{uppercase}
 use Rattle.lx_types.specs.declared.entry.EntryKey.{EntryKey}
 use Rattle.lx_types.specs.declared.entry.EntryKey.TheVariants.{Ordinal, Named}
 use Rattle.obj_types.specs.Fresh.{empty_module}
 use Rattle.obj_types.specs.declared.object.ObjModule.{ObjModule}
 use Rattle.obj_types.specs.declared.symbol.Imp.{Imp}
-use Rattle.omf_frame.specs.Frame.{record_bytes, record_sum, BeginsRecord}
+use Rattle.omf_frame.specs.Frame.{record_sum, BeginsRecord}
 use Rattle.omf_frame.specs.RecordType.{IsRecordType}
-use Rattle.omf_fields.specs.Forms.{Form, Then, ◌then◌, anything, nothing, each, byte, number, name}
+use Rattle.omf_fields.specs.Forms.{Form, ◌then◌, anything, nothing, byte, name}
 use Rattle.omf_model.specs.Record.{Record, header, impdef, modend, ImpDef, ImpEntry, by_ordinal, by_name}
 use Rattle.omf_model.specs.Items.{entry_of, or_else}
-use Rattle.omf_model.specs.Spelling.{Spells, SpellsAll, types_of, contents_form, class_form, entry_form, impdef_form}
-use Rattle.omf_model.specs.Begun.{AreBegun}
+use Rattle.omf_model.specs.Spelling.{Spells, types_of, contents_form, class_form, entry_form}
 use Rattle.omf_model.specs.Object.{AreModule, IsModule}
 use Rattle.omf_model.specs.Parts.{module_of, names_of, segs_of, groups_of, pieces_of, fixes_of, fixes_in, starts_of, fields_of, last_of}
 use Rattle.omf_write.specs.Framed.{front_of, checksum_of, record_of, name_bytes}
-use Rattle.omf_write.specs.ImportModule.{EntryFits, ImportFits, IsShortEntry, NamesFit, flag_of, entry_bytes, import_comment, import_bytes, import_meant, import_object}
+use Rattle.omf_write.specs.ImportModule.{EntryFits, ImportFits, IsShortEntry, NamesFit, flag_of, entry_bytes, import_comment, import_bytes, import_object}
 
 -- ---- a record
 

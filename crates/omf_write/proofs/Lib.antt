@@ -1,1 +1,3 @@
 mod ImportRead
+mod LibraryRead
+mod Mapped

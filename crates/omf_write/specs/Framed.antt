@@ -1,5 +1,5 @@
 -- A record with the checksum that makes the sum of its bytes 0. "Record Format".
-use Rattle.std.specs.Prelude.{ℕ, ◌+◌, ◌-◌, ◌%◌, List, [], ◌∷◌, ◌++◌, length, sum}
+use Rattle.std.specs.Prelude.{ℕ, ◌+◌, ◌-◌, ◌%◌, List, ◌∷◌, ◌++◌, length, sum}
 use Rattle.lx_bytes.specs.LittleEndian.{little_bytes}
 use Rattle.omf_frame.specs.Frame.{record_bytes}
 

@@ -1,6 +1,6 @@
 -- The object module that gives one import: what an import library has for each export.
 -- "80h THEADR"; "88h COMENT", IMPDEF; "8Ah MODEND".
-use Rattle.std.specs.Prelude.{◌≡◌, ◌≢◌, ℕ, ◌<◌, ◌^◌, Bool, List, [], ◌∷◌, ◌++◌, bytes_eq, if◌then◌else◌}
+use Rattle.std.specs.Prelude.{◌≢◌, ℕ, ◌<◌, ◌^◌, List, [], ◌∷◌, ◌++◌, bytes_eq, if◌then◌else◌}
 use Rattle.lx_bytes.specs.LittleEndian.{little_bytes}
 use Rattle.lx_types.specs.Names.{IsName, uppercase}
 use Rattle.lx_types.specs.declared.entry.EntryKey.{EntryKey}

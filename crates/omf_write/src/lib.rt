@@ -4,5 +4,7 @@
 
 mod framed;
 mod imports;
+mod libraries;
 
 pub use imports::import_module;
+pub use libraries::{LIBRARY_LIMIT, LibraryLong, library};
