@@ -1,0 +1,3 @@
+mod ImportRead
+mod LibraryRead
+mod Mapped

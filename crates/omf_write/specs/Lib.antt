@@ -1,0 +1,3 @@
+pub mod Framed
+pub mod ImportModule
+pub mod Library

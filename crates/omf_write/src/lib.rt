@@ -1,0 +1,10 @@
+//! Writes object files and libraries ("Relocatable Object Module Format"). What is written is read again as
+//! what was to be written.
+#![tactic(auto)]
+
+mod framed;
+mod imports;
+mod libraries;
+
+pub use imports::import_module;
+pub use libraries::{LIBRARY_LIMIT, LibraryLong, library};
