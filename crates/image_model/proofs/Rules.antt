@@ -1,0 +1,31 @@
+-- All definitions of a link and of its file opened at once, for trials on values and for proofs about the definitions
+-- themselves: a declaration with the line `unfolding rules` computes with them.
+use Rattle.link_model.specs.Symbols.{definition_of, imports, commons, global, Sym}
+use Rattle.link_model.specs.SymbolRefusals.{sym_refusal}
+use Rattle.link_model.specs.Communals.{parts}
+use Rattle.link_model.specs.Order.{ordered}
+use Rattle.link_model.specs.Rows.{rows}
+use Rattle.link_model.specs.Layout.{objects, spot, common_spot, stack_top}
+use Rattle.link_model.specs.LayoutRefusals.{lay_refusal}
+use Rattle.link_model.specs.Goals.{target_of}
+use Rattle.link_model.specs.Fixups.{fixups, fix_refusal}
+use Rattle.link_model.specs.Value.{value_bytes, Value}
+use Rattle.link_model.specs.Mean.{live_fixups, data_at, Mean}
+use Rattle.link_model.specs.Exports.{Out, entry_refusal}
+use Rattle.link_model.specs.Start.{Start, start_outside}
+use Rattle.link_model.specs.Refusal.{place_refusal, link_refusal}
+use Rattle.link_model.specs.Patches.{recorded, page_byte, object_bytes}
+use Rattle.link_model.specs.ImportTables.{used_pairs, link_pairs}
+use Rattle.link_model.specs.Records.{page_records, object_records}
+use Rattle.link_model.specs.Header.{module_name, description, auto_data}
+use Rattle.image_model.specs.Sections.{sections}
+use Rattle.image_model.specs.File.{header_fields_of, file_of}
+use Rattle.image_model.specs.PageForms.{form_of_page}
+use Rattle.image_model.specs.Exported.{residents, others, entries}
+use Rattle.image_model.specs.Linked.{page_forms, page_fixes, fixup_records, image_of}
+use Rattle.lx_model.specs.JoinedEntries.{bundles_for}
+use Rattle.lx_model.specs.JoinedRecords.{records_for}
+
+unfoldable pub rules : Unit {0}
+unfolding definition_of imports commons global Sym sym_refusal parts ordered rows objects spot common_spot stack_top lay_refusal target_of fixups fix_refusal value_bytes Value live_fixups data_at Mean Out entry_refusal Start start_outside place_refusal link_refusal recorded page_byte object_bytes used_pairs link_pairs page_records object_records module_name description auto_data sections header_fields_of file_of form_of_page page_forms page_fixes fixup_records image_of residents others entries bundles_for records_for
+rules = tt

@@ -1,0 +1,32 @@
+//! Worked files: each function's contract is a table of values that the definitions give.
+
+ghost use Rattle.image_model.specs.Worked.OneObject.{WorkedOneObject};
+ghost use Rattle.image_model.specs.Worked.Program.{WorkedProgram};
+ghost use Rattle.image_model.specs.Worked.Forwarder.{WorkedForwarder};
+ghost use Rattle.image_model.specs.Worked.Iterated.{WorkedIterated};
+ghost use Rattle.image_model.specs.Worked.Loads.{WorkedLoads};
+
+/// The file of one object file with one 32-bit reference, byte by byte.
+pub fn one_object_file()
+    ensures { WorkedOneObject }
+{}
+
+/// The file of a program with its own stack and an entry behind ordinals that nothing uses.
+pub fn program_file()
+    ensures { WorkedProgram }
+{}
+
+/// The file of a library with forwarders, import tables and entries of several kinds.
+pub fn forwarder_file()
+    ensures { WorkedForwarder }
+{}
+
+/// The file of a program with an iterated page and records of 16-bit and 32-bit sources.
+pub fn iterated_file()
+    ensures { WorkedIterated }
+{}
+
+/// The bases and entry points of a load through forwarders.
+pub fn loads_have_worlds()
+    ensures { WorkedLoads }
+{}
