@@ -5,4 +5,6 @@ pub mod OneObject
 pub mod Program
 pub mod Forwarder
 pub mod Iterated
+pub mod Straddling
+pub mod Choices
 pub mod Loads

@@ -4,6 +4,8 @@ ghost use Rattle.image_model.specs.Worked.OneObject.{WorkedOneObject};
 ghost use Rattle.image_model.specs.Worked.Program.{WorkedProgram};
 ghost use Rattle.image_model.specs.Worked.Forwarder.{WorkedForwarder};
 ghost use Rattle.image_model.specs.Worked.Iterated.{WorkedIterated};
+ghost use Rattle.image_model.specs.Worked.Straddling.{WorkedStraddling};
+ghost use Rattle.image_model.specs.Worked.Choices.{WorkedForms, WorkedRecords, WorkedBundles};
 ghost use Rattle.image_model.specs.Worked.Loads.{WorkedLoads};
 
 /// The file of one object file with one 32-bit reference, byte by byte.
@@ -29,4 +31,16 @@ pub fn iterated_file()
 /// The bases and entry points of a load through forwarders.
 pub fn loads_have_worlds()
     ensures { WorkedLoads }
+{}
+
+/// The file of a library with a reference over a page's end to another module.
+pub fn straddling_file()
+    ensures { WorkedStraddling }
+{}
+
+/// Which form a page has, which records its fixups, and which bundles the entries of a module.
+pub fn choices_made()
+    ensures forms { WorkedForms }
+    ensures records { WorkedRecords }
+    ensures bundles { WorkedBundles }
 {}
