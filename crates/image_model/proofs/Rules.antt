@@ -25,7 +25,26 @@ use Rattle.image_model.specs.Exported.{residents, others, entries}
 use Rattle.image_model.specs.Linked.{page_forms, page_fixes, fixup_records, image_of}
 use Rattle.lx_model.specs.JoinedEntries.{bundles_for}
 use Rattle.lx_model.specs.JoinedRecords.{records_for}
+-- What a file means, for trials that read a written file.
+use Rattle.lx_model.specs.Reading.{many, many_from}
+use Rattle.lx_model.specs.Entries.{Entry, followed}
+use Rattle.lx_model.specs.EntryTable.{at_entry, gate_entry, forward_entry, bundle_entries, object_entries, bundle_of_type, bundle_at}
+use Rattle.lx_model.specs.Fixed.{Fixed, Raw, page_bytes, patch_of, sources_of}
+use Rattle.lx_model.specs.FixupPages.{spans_of, spans_fault}
+use Rattle.lx_model.specs.Header.{header_fault, header_place, field}
+use Rattle.lx_model.specs.Iterated.{group_at, group_fields}
+use Rattle.lx_model.specs.Module.{LxFault, parts_of, refs_of}
+use Rattle.lx_model.specs.NameTables.{name_entry, import_name, import_entry}
+use Rattle.lx_model.specs.RecordFields.{target_of_kind, internal_at, additive_at, offsets_at}
+use Rattle.lx_model.specs.Records.{next_record, record_at, single_at, list_at}
+use Rattle.lx_model.specs.Tables.{objects_of, objects_fault, page_heads, pages_fault}
+use Rattle.image_model.specs.ReadBack.{parts_of_image}
+use Rattle.image_model.specs.World.{world_of}
 
 unfoldable pub rules : Unit {0}
 unfolding definition_of imports commons global Sym sym_refusal parts ordered rows objects spot common_spot stack_top lay_refusal target_of fixups fix_refusal value_bytes Value live_fixups data_at Mean Out entry_refusal Start start_outside place_refusal link_refusal recorded page_byte object_bytes used_pairs link_pairs page_records object_records module_name description auto_data sections header_fields_of file_of form_of_page page_forms page_fixes fixup_records image_of residents others entries bundles_for records_for
 rules = tt
+
+unfoldable pub reading : Unit {0}
+unfolding rules header_place field LxFault parts_of header_fault objects_of objects_fault page_heads pages_fault name_entry import_name import_entry at_entry gate_entry forward_entry bundle_entries object_entries bundle_of_type bundle_at spans_of spans_fault refs_of group_at group_fields many many_from next_record record_at single_at list_at target_of_kind internal_at additive_at offsets_at Fixed Raw page_bytes patch_of sources_of Entry followed parts_of_image world_of
+reading = tt

@@ -7,4 +7,5 @@ pub mod Forwarder
 pub mod Iterated
 pub mod Straddling
 pub mod Choices
+pub mod ReadAgain
 pub mod Loads

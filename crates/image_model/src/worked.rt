@@ -6,6 +6,7 @@ ghost use Rattle.image_model.specs.Worked.Forwarder.{WorkedForwarder};
 ghost use Rattle.image_model.specs.Worked.Iterated.{WorkedIterated};
 ghost use Rattle.image_model.specs.Worked.Straddling.{WorkedStraddling};
 ghost use Rattle.image_model.specs.Worked.Choices.{WorkedForms, WorkedRecords, WorkedBundles};
+ghost use Rattle.image_model.specs.Worked.ReadAgain.{WorkedReadAgain, WorkedBytes};
 ghost use Rattle.image_model.specs.Worked.Loads.{WorkedLoads};
 
 /// The file of one object file with one 32-bit reference, byte by byte.
@@ -43,4 +44,10 @@ pub fn choices_made()
     ensures forms { WorkedForms }
     ensures records { WorkedRecords }
     ensures bundles { WorkedBundles }
+{}
+
+/// These files are read again, and what they mean at other bases is what their links mean.
+pub fn files_read_again()
+    ensures parts { WorkedReadAgain }
+    ensures bytes { WorkedBytes }
 {}
