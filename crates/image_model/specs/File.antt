@@ -40,7 +40,7 @@ header_fields_of m s =
 
 abbrev pub sections_bytes : Sections → List ℕ
 sections_bytes s =
-    s.objects ++ s.pages ++ s.residents ++ s.entries ++ s.spans ++ s.records ++ s.imports ++ s.procs ++ s.contents ++ s.others
+    s.objects ++ (s.pages ++ (s.residents ++ (s.entries ++ (s.spans ++ (s.records ++ (s.imports ++ (s.procs ++ (s.contents ++ s.others))))))))
 
 unfoldable pub file_of : Image → List ℕ
 file_of m = header_spelling (header_fields_of m (sections m)) ++ sections_bytes (sections m)

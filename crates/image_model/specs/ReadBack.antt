@@ -107,6 +107,8 @@ pub record ImageFits (m : Image) : Type 0 where
   pub others : AllByRecursion NameFits m.others
   pub entries : AllByRecursion (BundleFits (length m.objects) (length m.imports)) m.entries
   pub ordinals : ordinals_together m.entries ≤ LAST_ORDINAL
+  -- a module's number has 16 bits
+  pub few_imports : length m.imports < 2 ^ 16
   pub imports : AllByRecursion ImportFits m.imports
 
 -- ---- laws
