@@ -1,3 +1,6 @@
 pub mod Rules
 pub mod Places
 pub mod HeaderRead
+pub mod Standing
+pub mod Fields
+pub mod SectionsRead

@@ -1,5 +1,5 @@
 -- What a written file is read as: the parts of its image.
-use Rattle.std.specs.Prelude.{◌≡◌, ◌≢◌, ℕ, ◌+◌, ◌<◌, ◌≤◌, ◌^◌, true, All, IfSome, List, [], ◌∷◌, ◌++◌, length, map, filter}
+use Rattle.std.specs.Prelude.{◌≡◌, ◌≢◌, ℕ, ◌+◌, ◌<◌, ◌≤◌, ◌^◌, true, All, IfSome, List, [], ◌∷◌, ◌++◌, length, map, filter, Ok}
 use Rattle.std.specs.List.{flat_map, AllByRecursion}
 use Rattle.lx_types.specs.declared.fix.FixTarget.{FixTarget}
 use Rattle.lx_types.specs.declared.object.PageHead.{PageHead}
@@ -9,13 +9,14 @@ use Rattle.lx_types.specs.declared.object.TheConstants.{PAGE_SIZE}
 use Rattle.lx_types.specs.declared.parts.Parts.{Parts}
 use Rattle.lx_types.specs.Sound.{IsNumberOf, HasPages}
 use Rattle.lx_model.specs.Bundles.{entries_after, ordinals_together, BundleFits}
-use Rattle.lx_model.specs.EntryTable.{LAST_ORDINAL}
+use Rattle.lx_model.specs.EntryTable.{LAST_ORDINAL, entries_of}
 use Rattle.lx_model.specs.Header.{MOST_OBJECTS, MOST_PAGES, is_module_flags, header_fields}
 use Rattle.lx_model.specs.Iterated.{groups_spelling, groups_data, GroupFits}
 use Rattle.lx_model.specs.Module.{once, is_reference, is_target, Lx, Targets}
-use Rattle.lx_model.specs.NameTables.{first_name, names_after_first, NameFits, ImportFits}
+use Rattle.lx_model.specs.NameTables.{first_name, names_after_first, NameFits, ImportFits, resident_names, other_names, import_names}
 use Rattle.lx_model.specs.RecordSpelling.{Written, fixes_written, RecordFits}
 use Rattle.lx_model.specs.TableSpelling.{ObjectHeadFits}
+use Rattle.lx_model.specs.Tables.{objects_of}
 use Rattle.image_model.specs.Image.{Image, PageForm, plain, iterated, zeros}
 use Rattle.image_model.specs.PageTables.{page_heads_from, page_records}
 use Rattle.image_model.specs.Sections.{sections, data_at, records_at, procs_at}
@@ -116,6 +117,17 @@ pub record ImageFits (m : Image) : Type 0 where
 -- The header of a file has the fields that were written.
 abbrev pub FieldsReadBack : Type 0
 FieldsReadBack = (m : Image) → ImageFits m → header_fields (file_of m) ≡ header_fields_of m (sections m)
+
+-- So do the object table, the name tables, the import modules and the entry table.
+pub record SectionsRead (m : Image) : Type 0 where
+  pub objects : objects_of (file_of m) ≡ m.objects
+  pub residents : resident_names (file_of m) ≡ Ok m.residents
+  pub others : other_names (file_of m) ≡ Ok m.others
+  pub imports : import_names (file_of m) ≡ Ok m.imports
+  pub entries : entries_of (file_of m) ≡ Ok (entries_after 0 m.entries)
+
+abbrev pub SectionsReadBack : Type 0
+SectionsReadBack = (m : Image) → ImageFits m → SectionsRead m
 
 -- The file of an image has no fault, and its parts are those of the image.
 abbrev pub FilesReadBack : Type 0

@@ -1,8 +1,10 @@
 //! Laws over the definitions, each the contract of a function that does nothing.
 
-ghost use Rattle.image_model.specs.ReadBack.{FieldsReadBack};
+ghost use Rattle.image_model.specs.ReadBack.{FieldsReadBack, SectionsReadBack};
 
-/// The header of a written file has the fields that were written.
-pub fn headers_read_again()
-    ensures { FieldsReadBack }
+/// The header of a written file has the fields that were written, and its object table, name
+/// tables, import modules and entry table are read as those of the image.
+pub fn sections_read_again()
+    ensures fields { FieldsReadBack }
+    ensures sections { SectionsReadBack }
 {}

@@ -4,4 +4,4 @@
 mod laws;
 mod worked;
 
-pub use laws::headers_read_again;
+pub use laws::sections_read_again;
