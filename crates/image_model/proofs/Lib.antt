@@ -3,4 +3,5 @@ pub mod Places
 pub mod HeaderRead
 pub mod Standing
 pub mod Fields
+pub mod PagesRead
 pub mod SectionsRead

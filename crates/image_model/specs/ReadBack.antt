@@ -16,7 +16,7 @@ use Rattle.lx_model.specs.Module.{once, is_reference, is_target, Lx, Targets}
 use Rattle.lx_model.specs.NameTables.{first_name, names_after_first, NameFits, ImportFits, resident_names, other_names, import_names}
 use Rattle.lx_model.specs.RecordSpelling.{Written, fixes_written, RecordFits}
 use Rattle.lx_model.specs.TableSpelling.{ObjectHeadFits}
-use Rattle.lx_model.specs.Tables.{objects_of}
+use Rattle.lx_model.specs.Tables.{objects_of, page_heads}
 use Rattle.image_model.specs.Image.{Image, PageForm, plain, iterated, zeros}
 use Rattle.image_model.specs.PageTables.{page_heads_from, page_records}
 use Rattle.image_model.specs.Sections.{sections, data_at, records_at, procs_at}
@@ -118,9 +118,10 @@ pub record ImageFits (m : Image) : Type 0 where
 abbrev pub FieldsReadBack : Type 0
 FieldsReadBack = (m : Image) → ImageFits m → header_fields (file_of m) ≡ header_fields_of m (sections m)
 
--- So do the object table, the name tables, the import modules and the entry table.
+-- So do the object table, the page table, the name tables, the import modules and the entry table.
 pub record SectionsRead (m : Image) : Type 0 where
   pub objects : objects_of (file_of m) ≡ m.objects
+  pub pages : page_heads (file_of m) ≡ map (placed_page (data_at (sections m))) (page_heads_from 0 m.pages)
   pub residents : resident_names (file_of m) ≡ Ok m.residents
   pub others : other_names (file_of m) ≡ Ok m.others
   pub imports : import_names (file_of m) ≡ Ok m.imports
