@@ -36,6 +36,7 @@ pub record Tables (m : Image) : Type 0 where
   pub iterated : field (file_of m) 0x4C ≡ data_at (sections m)
   pub residents : table (file_of m) 0x58 ≡ residents_at (sections m)
   pub entries : table (file_of m) 0x5C ≡ entries_at (sections m)
+  pub span_offset : field (file_of m) 0x68 ≡ spans_at (sections m)
   pub spans : table (file_of m) 0x68 ≡ spans_at (sections m)
   pub records : table (file_of m) 0x6C ≡ records_at (sections m)
   pub imports : table (file_of m) 0x70 ≡ imports_at (sections m)
@@ -59,6 +60,7 @@ tables m fits = record {
   iterated = field_number m fits 19;
   residents = table_number m fits 0x58 22 (field_number m fits 22);
   entries = table_number m fits 0x5C 23 (field_number m fits 23);
+  span_offset = field_number m fits 26;
   spans = table_number m fits 0x68 26 (field_number m fits 26);
   records = table_number m fits 0x6C 27 (field_number m fits 27);
   imports = table_number m fits 0x70 28 (field_number m fits 28);

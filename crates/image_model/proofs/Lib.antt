@@ -4,4 +4,5 @@ pub mod HeaderRead
 pub mod Standing
 pub mod Fields
 pub mod PagesRead
+pub mod SpansRead
 pub mod SectionsRead

@@ -21,6 +21,7 @@ use Rattle.image_model.specs.File.{file_of}
 use Rattle.image_model.specs.ReadBack.{ImageFits, SectionsRead, SectionsReadBack}
 use Rattle.image_model.proofs.Fields.{Tables, tables}
 use Rattle.image_model.proofs.PagesRead.{pages_read}
+use Rattle.image_model.proofs.SpansRead.{spans_read}
 use Rattle.image_model.proofs.Standing.{HasFrom, Standing, standing, dropped, from_pages, from_entries, from_spans, from_procs}
 
 -- ---- names
@@ -98,6 +99,7 @@ pub sections_read : SectionsReadBack
 sections_read m fits = record {
   objects = objects_read m fits;
   pages = pages_read m fits;
+  spans = spans_read m fits;
   residents = residents_read m fits;
   others = others_read m fits;
   imports = imports_read m fits;

@@ -10,6 +10,7 @@ use Rattle.lx_types.specs.declared.parts.Parts.{Parts}
 use Rattle.lx_types.specs.Sound.{IsNumberOf, HasPages}
 use Rattle.lx_model.specs.Bundles.{entries_after, ordinals_together, BundleFits}
 use Rattle.lx_model.specs.EntryTable.{LAST_ORDINAL, entries_of}
+use Rattle.lx_model.specs.FixupPages.{spans_of}
 use Rattle.lx_model.specs.Header.{MOST_OBJECTS, MOST_PAGES, is_module_flags, header_fields}
 use Rattle.lx_model.specs.Iterated.{groups_spelling, groups_data, GroupFits}
 use Rattle.lx_model.specs.Module.{once, is_reference, is_target, Lx, Targets}
@@ -118,10 +119,11 @@ pub record ImageFits (m : Image) : Type 0 where
 abbrev pub FieldsReadBack : Type 0
 FieldsReadBack = (m : Image) → ImageFits m → header_fields (file_of m) ≡ header_fields_of m (sections m)
 
--- So do the object table, the page table, the name tables, the import modules and the entry table.
+-- So do the object table, the page table, the fixup page table, the name tables, the import modules and the entry table.
 pub record SectionsRead (m : Image) : Type 0 where
   pub objects : objects_of (file_of m) ≡ m.objects
   pub pages : page_heads (file_of m) ≡ map (placed_page (data_at (sections m))) (page_heads_from 0 m.pages)
+  pub spans : spans_of (file_of m) ≡ spans_from (records_at (sections m)) m.records
   pub residents : resident_names (file_of m) ≡ Ok m.residents
   pub others : other_names (file_of m) ≡ Ok m.others
   pub imports : import_names (file_of m) ≡ Ok m.imports
