@@ -6,3 +6,5 @@ pub mod Fields
 pub mod PagesRead
 pub mod SpansRead
 pub mod SectionsRead
+pub mod RecordsRead
+pub mod PartsRead

@@ -13,7 +13,7 @@ pub record HasFrom (file : List ℕ) (at : ℕ) (rest : List ℕ) : Type 0 where
   pub spelled : file ≡ before ++ rest
 
 -- Behind some of them it has the others.
-behind : (file : List ℕ) (at : ℕ) (some rest : List ℕ) → HasFrom file at (some ++ rest) → HasFrom file (at + length some) rest
+pub behind : (file : List ℕ) (at : ℕ) (some rest : List ℕ) → HasFrom file at (some ++ rest) → HasFrom file (at + length some) rest
 behind file at some rest has = record {
   before = has.before ++ some;
   long = length-append has.before some ∙ ap (λ (n : ℕ). n + length some) has.long;
