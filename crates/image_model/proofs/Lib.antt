@@ -8,3 +8,4 @@ pub mod SpansRead
 pub mod SectionsRead
 pub mod RecordsRead
 pub mod PartsRead
+pub mod Faultless
