@@ -24,9 +24,9 @@ use Rattle.lx_model.proofs.TablesTaken.{length-repeat}
 -- ---- records
 
 -- the records mean what was written, and nothing is wrong
-record Means (records : Many Record) (fixes : List Fix) : Type 0 where
-  fixes_are : fixes_of records ≡ fixes
-  faultless : fault_of records.end ≡ None
+pub record Means (records : Many Record) (fixes : List Fix) : Type 0 where
+  pub fixes_are : fixes_of records ≡ fixes
+  pub faultless : fault_of records.end ≡ None
 
 abbrev item : ℕ → List Fix → Option (Record × Unit {0})
 item at fixes = Some (record { at = at; fixes = fixes }, tt)
@@ -39,7 +39,7 @@ pub next_reads : (c d : Cursor) (fixes : List Fix) → 0 < length c.left → rec
 unfolding next_record
 next_reads c d fixes some is = other (eqb (length c.left) 0) (ends c) (record_at c >>= λ read. done (item c.at read.0, read.1)) (not_zero (length c.left) some) ∙ rw is refl
 
-records_mean : (ws : List Written) (at : ℕ) → Each RecordFits ws → Means (many next_record tt (cursor at (flat_map record_spelling ws))) (flat_map fixes_written ws)
+pub records_mean : (ws : List Written) (at : ℕ) → Each RecordFits ws → Means (many next_record tt (cursor at (flat_map record_spelling ws))) (flat_map fixes_written ws)
 records_mean [] at fits =
     let none = many_ends next_record tt (cursor at []) (cursor at []) (next_ends at) in
     subst (λ (m : Many Record). Means m []) (sym none) (record { fixes_are = refl; faultless = refl })

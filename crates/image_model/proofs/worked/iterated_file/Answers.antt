@@ -1,0 +1,7 @@
+use Rattle.std.proofs.Common.{refl}
+use Rattle.image_model.proofs.Rules.{rules}
+use Rattle.image_model.proofs.worked.iterated_file.Goals as goal
+
+pub returns : goal.returns
+unfolding rules
+returns c = record { file = refl }

@@ -1,0 +1,50 @@
+-- The names and the entries of a linked module.
+-- LX: "Resident or Non-resident Name Table Entry", "Entry Table".
+use Rattle.std.specs.Prelude.{not, List, ◌∷◌, map, filter, Option, Some, None}
+use Rattle.std.specs.List.{filter_map}
+use Rattle.std.specs.Option.{option_map, option_and_then}
+use Rattle.lx_types.specs.declared.entry.EntryHead.{EntryHead}
+use Rattle.lx_types.specs.declared.entry.EntryHead.TheVariants as heads
+use Rattle.lx_types.specs.declared.entry.FwdKey.TheVariants as keys
+use Rattle.lx_types.specs.declared.fix.FixTarget.{FixTarget}
+use Rattle.lx_types.specs.declared.fix.FixTarget.TheVariants.{Internal, Ordinal, Named, Own}
+use Rattle.link_model.specs.Link.{Link}
+use Rattle.link_model.specs.Exports.{Export, ExportTarget, At, Forward, Out}
+use Rattle.link_model.specs.Header.{module_name, description}
+use Rattle.link_model.specs.ImportTables.{link_pairs, procs_in, import_target, with_offset}
+use Rattle.lx_model.specs.Bundles.{Bundle}
+use Rattle.lx_model.specs.JoinedEntries.{Exported, bundles_for}
+use Rattle.lx_model.specs.NameTables.{Named as NamedOrdinal}
+
+-- ---- names
+
+abbrev pub named : Export → NamedOrdinal
+named x = (x.name, x.ordinal)
+
+-- The module's name, and the exports whose names are resident, in order.
+unfoldable pub residents : Link → List NamedOrdinal
+residents l = (module_name l, 0) ∷ map named (filter (λ x. x.resident) (Out l))
+
+-- The description, and the other exports, in order.
+unfoldable pub others : Link → List NamedOrdinal
+others l = (description l, 0) ∷ map named (filter (λ x. not x.resident) (Out l))
+
+-- ---- entries
+
+-- A forwarder names its entry point as a fixup would.
+abbrev pub forwarder_to : FixTarget → Option EntryHead
+forwarder_to (Internal object offset) = None
+forwarder_to (Ordinal import ordinal) = Some (heads.Forward import (keys.Ordinal ordinal))
+forwarder_to (Named import name_at) = Some (heads.Forward import (keys.NameAt name_at))
+forwarder_to (Own ordinal) = None
+
+abbrev pub head_of : Link → ExportTarget → Option EntryHead
+head_of l (At object offset) = Some (heads.At object offset)
+head_of l (Forward pair) =
+    option_and_then (λ target. forwarder_to (with_offset (procs_in (link_pairs l)) target)) (import_target (link_pairs l) pair)
+
+abbrev pub exported : Link → Export → Option Exported
+exported l x = option_map (λ head. record { ordinal = x.ordinal; head = head; words = x.words; long = x.wide }) (head_of l x.target)
+
+unfoldable pub entries : Link → List Bundle
+entries l = bundles_for (filter_map (exported l) (Out l))

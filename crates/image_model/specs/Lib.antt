@@ -1,0 +1,11 @@
+pub mod Image
+pub mod PageTables
+pub mod Sections
+pub mod File
+pub mod ObjectTable
+pub mod PageForms
+pub mod Exported
+pub mod Linked
+pub mod ReadBack
+pub mod World
+pub mod Worked

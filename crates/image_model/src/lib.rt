@@ -1,0 +1,7 @@
+//! What file a link writes: the written module as a value, its one file, and laws over both.
+#![tactic(auto)]
+
+mod laws;
+mod worked;
+
+pub use laws::{parts_read_again, sections_read_again};
