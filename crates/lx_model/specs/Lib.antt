@@ -1,6 +1,7 @@
 pub mod Reading
 pub mod Header
 pub mod Iterated
+pub mod Packed
 pub mod Tables
 pub mod NameTables
 pub mod EntryTable
