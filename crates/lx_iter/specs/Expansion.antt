@@ -8,7 +8,7 @@ use Rattle.lx_types.specs.declared.refusal.LxKind.TheVariants as kinds
 use Rattle.lx_model.specs.Reading.{fault, Read, ◌>>=◌, Many, whole}
 use Rattle.lx_model.specs.Iterated as iterated
 use Rattle.lx_model.specs.Iterated.{expansion, groups_data}
-use Rattle.lx_model.specs.Packed.{filled}
+use Rattle.lx_model.specs.Packed.{filled, packed}
 use Rattle.lx_iter.specs.declared.expansion.Group.{Group}
 use Rattle.lx_iter.specs.declared.refusal.IterRefusal.{IterRefusal}
 use Rattle.lx_iter.specs.declared.refusal.IterRefusal.TheVariants.{TooLong, Short as ShortGroup}
@@ -35,11 +35,19 @@ Continues (Ok (Some g)) before read new =
     (read ≡ Ok (Some (group_of g, before + g.times * length g.bytes.now), new)) × (before + g.times * length g.bytes.now ≤ PAGE_SIZE)
 Continues (Err r) before read new = read ≡ Err (refusal r)
 
+-- the page of iterated data
+abbrev pub page_of : List ℕ → Result (List ℕ) LxRefusal
+page_of bytes = expansion bytes >>= λ given. Ok (filled given)
+
 -- What a call answers that writes the page of iterated data: the page is full, or the data has a fault.
 abbrev pub Expands : Result (Unit {0}) IterRefusal → List ℕ → List ℕ → Type 0
-Expands (Ok done) bytes page = (expansion bytes >>= λ given. Ok (filled given)) ≡ Ok page
+Expands (Ok done) bytes page = page_of bytes ≡ Ok page
 Expands (Err r) bytes page = expansion bytes ≡ Err (refusal r)
 
 -- what groups give, behind what is given before them
 abbrev pub behind_given : List ℕ → Many iterated.Group → Result (List ℕ) LxRefusal
 behind_given before groups = whole groups >>= λ gs. Ok (before ++ groups_data gs)
+
+-- a law: what a page is packed to gives the page
+abbrev pub PackedExpands : Type 0
+PackedExpands = (page bytes : List ℕ) → length page ≡ PAGE_SIZE → packed page ≡ Some bytes → page_of bytes ≡ Ok page

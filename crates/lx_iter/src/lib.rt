@@ -2,7 +2,11 @@
 #![tactic(auto)]
 
 mod expansion;
+mod laws;
+mod packing;
 mod refusal;
 
 pub use expansion::expand;
+pub use laws::packed_expands;
+pub use packing::pack;
 pub use refusal::IterRefusal;
