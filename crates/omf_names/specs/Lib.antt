@@ -1,1 +1,5 @@
 pub mod Segments
+pub mod Reads
+pub mod Symbols
+pub mod Publics
+pub mod Comments

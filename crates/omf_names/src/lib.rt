@@ -2,8 +2,19 @@
 //! ("Relocatable Object Module Format").
 #![tactic(auto)]
 
+mod comments;
+mod communals;
+mod externals;
+mod group;
+mod indices;
 mod lnames;
+mod publics;
 mod segment;
 
+pub use comments::coment;
+pub use communals::comdef;
+pub use externals::extdef;
+pub use group::grpdef;
 pub use lnames::names;
+pub use publics::pubdef;
 pub use segment::segdef;

@@ -1,15 +1,16 @@
 //! "98h SEGDEF".
 
 ghost use Rattle.omf_model.specs.Record.{are_attributes};
-ghost use Rattle.std.specs.Prelude.{◌≡◌, ◌⊎◌, ◌≤◌, ◌<◌, IfOk, length};
+ghost use Rattle.std.specs.Prelude.{◌≡◌, ◌⊎◌, ◌≤◌, IfOk, length};
 ghost use Rattle.omf_fields.specs.Yields.{Finds};
 ghost use Rattle.omf_model.specs.Begun.{IsBegun};
 ghost use Rattle.omf_model.specs.Gives.{Gives, read_after, contents_at};
-ghost use Rattle.omf_model.specs.Items.{is_debug, name_with, seg_of};
+ghost use Rattle.omf_model.specs.Items.{is_debug, seg_of};
 ghost use Rattle.omf_model.specs.ReadModule.{is_wide};
 ghost use Rattle.omf_model.specs.ReadNames.{segdef_at};
 ghost use Rattle.omf_names.specs.Segments.{def_of, segdef_record};
 
+use crate::indices::text;
 use lx_types::{Fail, Name, NoMemory};
 use obj_types::{ObjParts, OmfRefusal, Seg};
 use omf_fields::{Fields, count, name_of, said};
@@ -71,16 +72,6 @@ fn fields_of(rec: &Rec, before: &ObjParts, have: u32) -> Result<SegFields, OmfRe
         class,
         overlay,
     })
-}
-
-// The bytes of the name with an index, which counts from 1.
-fn text(names: &[Name], index: u32) -> &[u8]
-    requires some { 1 ≤ index }
-    requires there { index ≤ length names.now }
-    ensures name { result.now ≡ name_with names.now index }
-    ensures short { length result.now < 256 }
-{
-    names[index as usize - 1].bytes()
 }
 
 // Whether a segment of this name and class holds a debugger's symbols or types.

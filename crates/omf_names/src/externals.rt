@@ -1,0 +1,50 @@
+//! "8Ch EXTDEF", "B4h LEXTDEF".
+
+ghost use Rattle.std.specs.Prelude.{◌≡◌, ◌⊎◌, ◌<◌, IfOk, length};
+ghost use Rattle.omf_model.specs.Begun.{IsBegun};
+ghost use Rattle.omf_model.specs.Gives.{Gives, read_after};
+ghost use Rattle.omf_model.specs.ReadNames.{ext_at};
+ghost use Rattle.omf_names.specs.Reads.{Reads};
+ghost use Rattle.omf_names.specs.Symbols.{ext_named};
+
+use lx_types::Fail;
+use obj_types::{Ext, ObjParts, OmfRefusal};
+use omf_fields::{Fields, name_of};
+use omf_frame::Rec;
+use omf_frame::record_type::{EXTDEF, LEXTDEF, LEXTDEF_32};
+use std::alloc::Global;
+
+/// The name of the next external. Its type index is 0.
+#[tactic(auto, unfolding(omf_model::specs::ReadNames::ext_at))]
+fn external<'a>(fields: &mut Fields<'a>) -> Result<&'a [u8], OmfRefusal>
+    ensures read { Reads (λ name. ext_named name.now) result (ext_at fields.old) fields.new }
+    ensures short { IfOk result (λ name. length name.now < 256) }
+{
+    let name = fields.name()?;
+    fields.index_or_zero(0)?;
+    Ok(name)
+}
+
+/// Adds the externals of an EXTDEF or LEXTDEF record, up to its end. Those of the latter are local. After a
+/// refusal nothing is told of the parts.
+pub fn extdef(alloc: Global, rec: &Rec, into: &mut ObjParts) -> Result<(), Fail<OmfRefusal>>
+    requires kind { (rec.now.ty ≡ EXTDEF) ⊎ (rec.now.ty ≡ LEXTDEF) ⊎ (rec.now.ty ≡ LEXTDEF_32) }
+    requires begun { IsBegun into.old }
+    ensures { Gives (λ _. into.new) result (read_after into.old rec.now) }
+{
+    let local = rec.ty != EXTDEF;
+    let mut fields = Fields::of(rec);
+    'externals: while !fields.is_empty() {
+        let name = match external(&mut fields) {
+            Ok(name) => name,
+            Err(refusal) => return Err(Fail::Said(refusal)),
+        };
+        let name = name_of(alloc, name)?;
+        into.module.exts.push(Ext {
+            name,
+            local,
+            common: None,
+        })?;
+    }
+    Ok(())
+}
