@@ -15,6 +15,8 @@ mod fields;
 #[cfg(test)]
 mod image;
 #[cfg(test)]
+mod import_libraries;
+#[cfg(test)]
 mod linking;
 #[cfg(test)]
 mod module_file;

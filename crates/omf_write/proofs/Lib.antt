@@ -1,3 +1,4 @@
 mod ImportRead
+mod JoinedRead
 mod LibraryRead
 mod Mapped

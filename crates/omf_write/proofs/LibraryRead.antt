@@ -1,5 +1,6 @@
 -- How long a library is, and that it is read as its modules.
 use Rattle.std.proofs.Common.{◌≡◌, ℕ, zero, suc, ◌+◌, ◌-◌, ◌%◌, ◌<◌, ◌≤◌, List, [], ◌∷◌, ◌++◌, length, take, replicate, slice_index_or, ◌/◌, refl, sym, ap, append_assoc, length-append, arith}
+use Rattle.std.specs.List.{flat_map}
 use Rattle.lx_bytes.specs.LittleEndian.{little_bytes}
 use Rattle.lx_bytes.proofs.Numbers.{length-little_bytes}
 use Rattle.obj_types.specs.declared.object.ObjModule.{ObjModule}
@@ -7,13 +8,13 @@ use Rattle.omf_model.specs.Object.{IsModule}
 use Rattle.omf_model.specs.Library.{Lib, IsPaged, ArePaged}
 use Rattle.omf_write.specs.Library.{PAGE, fill_of, page_up, pages_of, library_len, header_bytes, end_bytes, library_bytes, AreModules}
 
--- what stands before a module and the module together are no longer than all
-pub prefix_len : (k : ℕ) (ms : List (List ℕ)) (d : List ℕ) → k < length ms → length (pages_of (take k ms)) + length (page_up (slice_index_or ms k d)) ≤ length (pages_of ms)
-prefix_len k [] d lt = absurd (omega arith)
-prefix_len zero (m ∷ ms) d lt = omega (arith, length-append (page_up m) (pages_of ms))
-prefix_len (suc k) (m ∷ ms) d lt =
-    let rest = prefix_len k ms d (omega arith) in
-    omega (arith, rest, length-append (page_up m) (pages_of ms), length-append (page_up m) (pages_of (take k ms)))
+-- what some items before one give and what that one gives are no longer together than what all give
+pub prefix_len : {A : Type 0} (f : A → List ℕ) (k : ℕ) (xs : List A) (d : A) → k < length xs → length (flat_map f (take k xs)) + length (f (slice_index_or xs k d)) ≤ length (flat_map f xs)
+prefix_len f k [] d lt = absurd (omega arith)
+prefix_len f zero (x ∷ xs) d lt = omega (arith, length-append (f x) (flat_map f xs))
+prefix_len f (suc k) (x ∷ xs) d lt =
+    let rest = prefix_len f k xs d (omega arith) in
+    omega (arith, rest, length-append (f x) (flat_map f xs), length-append (f x) (flat_map f (take k xs)))
 
 pub length-replicate : (n x : ℕ) → length (replicate n x) ≡ n
 length-replicate zero x = refl
@@ -68,5 +69,5 @@ pub too_long : (ms : List (List ℕ)) (k limit len size fill : ℕ) (own : List 
 too_long ms k limit len size fill own lt is size_is fill_is len_is over =
     let whole : length (page_up own) ≡ size + fill = (let zeros = length-replicate ((PAGE - length own % PAGE) % PAGE) 0 in omega (arith, zeros, size_is, fill_is, length-append own (fill_of (length own)))) in
     let same : length (page_up (slice_index_or ms k own)) ≡ length (page_up own) = ap (λ (b : List ℕ). length (page_up b)) (sym is) in
-    let front = prefix_len k ms own lt in
+    let front = prefix_len page_up k ms own lt in
     omega (arith, whole, same, front, len_is, over)

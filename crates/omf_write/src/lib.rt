@@ -4,7 +4,9 @@
 
 mod framed;
 mod imports;
+mod joining;
 mod libraries;
 
 pub use imports::import_module;
+pub use joining::join;
 pub use libraries::{LIBRARY_LIMIT, LibraryLong, library};

@@ -14,10 +14,10 @@ use thiserror::Error;
 pub const LIBRARY_LIMIT: u32 = 16_777_216;
 
 // The bytes of a page. The header is one page, and so is the end.
-const PAGE: usize = 16;
+pub const PAGE: usize = 16;
 
 // F1h, and a length that fills the page.
-const END: [u8; PAGE] = [0xF1, 0x0D, 0, 0, 0, 0, 0, 0, 0, 0, 0, 0, 0, 0, 0, 0];
+pub const END: [u8; PAGE] = [0xF1, 0x0D, 0, 0, 0, 0, 0, 0, 0, 0, 0, 0, 0, 0, 0, 0];
 
 /// The library would have more than 16,777,216 bytes.
 #[derive(Clone, Copy, Debug, PartialEq, Eq, Drop, Error)]
@@ -59,7 +59,7 @@ fn push_page(out: &mut Vec<u8>, body: &[u8]) -> Result<(), AllocError>
 }
 
 // Writes the header of a library of so many bytes.
-fn push_header(out: &mut Vec<u8>, len: u32) -> Result<(), AllocError>
+pub fn push_header(out: &mut Vec<u8>, len: u32) -> Result<(), AllocError>
     ensures { OnOk result (out.new.items ≡ out.old.items ++ header_bytes len) }
 {
     let [a, b, c, d] = len.to_le_bytes();

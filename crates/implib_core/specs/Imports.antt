@@ -1,0 +1,45 @@
+-- Which imports a definition file gives to those that link with its module.
+-- "IMPLIB"; "EXPORTS".
+use Rattle.std.specs.Prelude.{ℕ, List, map, Option, Some, None}
+use Rattle.lx_types.specs.declared.entry.EntryKey.{EntryKey}
+use Rattle.lx_types.specs.declared.entry.EntryKey.TheVariants.{Ordinal, Named}
+use Rattle.obj_types.specs.declared.definition.DefFile.{DefFile}
+use Rattle.obj_types.specs.declared.object.ObjModule.{ObjModule}
+use Rattle.obj_types.specs.declared.symbol.Exp.{Exp}
+use Rattle.obj_types.specs.declared.symbol.Imp.{Imp}
+use Rattle.omf_write.specs.ImportModule.{import_bytes, import_object}
+
+-- The module's name is the definition file's, or the stem where it gives none.
+abbrev pub name_or : Option (List ℕ) → List ℕ → List ℕ
+name_or (Some name) stem = name
+name_or None stem = stem
+
+-- An export is imported by its ordinal where it has one, otherwise by its name.
+abbrev pub key_of : List ℕ → Option ℕ → EntryKey
+key_of name (Some ordinal) = Ordinal ordinal
+key_of name None = Named name
+
+abbrev pub import_for : List ℕ → Exp → Imp
+import_for from x = record { name = x.name; «module» = from; entry = key_of x.name x.ordinal }
+
+-- The object module of an export, and those of several.
+abbrev pub module_for : List ℕ → Exp → List ℕ
+module_for from x = import_bytes (import_for from x)
+
+abbrev pub modules_for : List ℕ → List Exp → List (List ℕ)
+modules_for from exports = map (module_for from) exports
+
+-- What they mean.
+abbrev pub objects_for : List ℕ → List Exp → List ObjModule
+objects_for from exports = map (λ x. import_object (import_for from x)) exports
+
+-- One import for each export, in their order.
+abbrev pub imports_in : DefFile → List ℕ → List Imp
+imports_in d stem = map (import_for (name_or d.name stem)) d.exports
+
+-- The object modules of their library.
+abbrev pub modules_in : DefFile → List ℕ → List (List ℕ)
+modules_in d stem = modules_for (name_or d.name stem) d.exports
+
+abbrev pub objects_in : DefFile → List ℕ → List ObjModule
+objects_in d stem = objects_for (name_or d.name stem) d.exports
