@@ -5,3 +5,6 @@ mod Offsets
 mod Marks
 mod Apartness
 mod Forms
+mod RecordRead
+mod BeginRead
+mod WholeObject

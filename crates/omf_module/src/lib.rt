@@ -3,6 +3,9 @@
 
 mod fixups;
 mod object;
+mod objects;
 mod records;
+mod start;
 
 pub use object::read_object;
+pub use objects::read_whole_object;
