@@ -1,2 +1,4 @@
 mod Placed
 mod StraightRead
+mod Onto
+mod Measured

@@ -2,6 +2,7 @@
 //! "A2h LIDATA").
 #![tactic(auto)]
 
+mod measure;
 mod place;
 mod straight;
 
