@@ -2,8 +2,11 @@
 //! "A2h LIDATA").
 #![tactic(auto)]
 
+mod expand;
+mod iterated;
 mod measure;
 mod place;
 mod straight;
 
+pub use iterated::lidata;
 pub use straight::ledata;

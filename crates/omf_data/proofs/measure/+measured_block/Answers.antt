@@ -1,5 +1,4 @@
-use Rattle.std.proofs.Common.{◌≡◌, ℕ, ◌≤◌, ◌+◌, ◌-◌, ◌*◌, ◌<◌, ◌^◌, Ok, Err, rules, arith, ap, ◌∙◌, sym}
-use Rattle.obj_types.specs.declared.limits.TheConstants.{MAX_DATA}
+use Rattle.std.proofs.Common.{ℕ, ◌-◌, Ok, arith, ap, ◌∙◌, sym}
 use Rattle.std.proofs.lemmas.Result.{err_from_is_err_and}
 use Rattle.omf_data.proofs.Measured.{lens_at, next_len, refused_len, outer_measured, outer_refused}
 use Rattle.omf_data.proofs.measure.+measured_block.Goals as goal
@@ -14,10 +13,10 @@ returns-in_err-len-2 t c =
 
 pub inner-preserved : goal.inner-preserved
 inner-preserved t c = (
-    ap (λ (n : ℕ). lens_at (c.args.left - 1) c.args.wide (c.inner.more - 1) n c.measured_block.new.fields) c.sum-inner.ensures
-    ∙ sym (next_len (c.args.left - 1) c.args.wide c.inner.more c.inner.inner c.in_ok-len-2.len c.inner.fields c.measured_block.new.fields (omega arith) c.in_ok-len-2.ensures)
-    ∙ c.inner.invariant.0,
-    omega (arith, c.sum-inner.ensures),
+  ap (λ (n : ℕ). lens_at (c.args.left - 1) c.args.wide (c.inner.more - 1) n c.measured_block.new.fields) c.sum-inner.ensures
+      ∙ sym (next_len (c.args.left - 1) c.args.wide c.inner.more c.inner.inner c.in_ok-len-2.len c.inner.fields c.measured_block.new.fields (omega arith) c.in_ok-len-2.ensures)
+      ∙ c.inner.invariant.0,
+  omega (arith, c.sum-inner.ensures),
 )
 
 pub returns : goal.returns

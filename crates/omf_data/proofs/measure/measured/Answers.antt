@@ -1,5 +1,4 @@
-use Rattle.std.proofs.Common.{◌≡◌, ◌≤◌, ◌+◌, ◌≢◌, List, ℕ, [], arith, ap, ◌∙◌, sym}
-use Rattle.obj_types.specs.declared.limits.TheConstants.{MAX_DEPTH}
+use Rattle.std.proofs.Common.{◌≢◌, ℕ, [], arith, ap, ◌∙◌, sym}
 use Rattle.std.proofs.lemmas.Result.{err_from_is_err_and}
 use Rattle.omf_data.proofs.Measured.{total_at, next_total, shorter, refused_total, whole_total}
 use Rattle.omf_data.proofs.measure.measured.Goals as goal
@@ -18,8 +17,8 @@ pub all-preserved : goal.all-preserved
 all-preserved c =
     let some : c.all.fields.left ≢ [] = λ none. let full = c.is_empty.ensures.empty.1 none in absurd cc in (
       ap (λ (n : ℕ). total_at c.args.wide n c.measured_block.new.fields) c.sum-len.ensures
-      ∙ sym (next_total c.args.wide c.all.len c.in_ok-next.next c.all.fields c.measured_block.new.fields c.is_empty.ensures.bytes some c.in_ok-next.ensures)
-      ∙ c.all.invariant.0,
+          ∙ sym (next_total c.args.wide c.all.len c.in_ok-next.next c.all.fields c.measured_block.new.fields c.is_empty.ensures.bytes some c.in_ok-next.ensures)
+          ∙ c.all.invariant.0,
       omega (arith, c.sum-len.ensures),
     )
 
