@@ -1,0 +1,91 @@
+//! "A2h LIDATA".
+
+ghost use Rattle.std.specs.Prelude.{◌≡◌, ◌⊎◌, ◌≤◌, IfOk, length};
+ghost use Rattle.obj_types.specs.Items.{IsIndex};
+ghost use Rattle.obj_types.specs.declared.limits.TheConstants.{MAX_DATA};
+ghost use Rattle.omf_fields.specs.Yields.{Finds};
+ghost use Rattle.omf_model.specs.Begun.{IsBegun};
+ghost use Rattle.omf_model.specs.Gives.{Gives, read_after, contents_at};
+ghost use Rattle.omf_model.specs.Items.{data_so_far};
+ghost use Rattle.omf_model.specs.ReadData.{lidata_at};
+ghost use Rattle.omf_model.specs.ReadModule.{is_wide};
+ghost use Rattle.omf_data.specs.Data.{lidata_record};
+ghost use Rattle.omf_data.specs.Expanding.{SpellsBlocks};
+
+use crate::expand::expanded;
+use crate::measure::measured;
+use crate::place::{Place, judge, segment};
+use lx_types::{Bytes, Fail};
+use obj_types::{LastData, ObjParts, OmfRefusal, Piece};
+use omf_fields::{Fields, count, said};
+use omf_frame::Rec;
+use omf_frame::record_type::{LIDATA, LIDATA_32};
+use std::alloc::Global;
+
+/// The fields of an LIDATA record: its blocks are not expanded, and `len` is the length of their data.
+#[derive(Clone, Copy, Debug)]
+pub struct Iterated<'a> {
+    place: Place,
+    wide: bool,
+    body: &'a [u8],
+    len: u32,
+}
+
+// The fields of the record, which are good behind those of `have` segments.
+#[tactic(auto, unfolding(omf_model::specs::ReadData::lidata_at))]
+fn fields_of<'a>(rec: &Rec<'a>, before: &ObjParts, have: u32) -> Result<Iterated<'a>, OmfRefusal>
+    requires have { have ≡ length before.now.module.segs }
+    requires limit { data_so_far before.now ≤ MAX_DATA }
+    ensures read { Finds lidata_record result (lidata_at (is_wide rec.now.ty) before.now rec.now.at (contents_at rec.now.at rec.now.body.now)) }
+    ensures range { IfOk result (λ d. IsIndex before.now.module.segs d.place.seg) }
+    ensures spelled { IfOk result (λ d. SpellsBlocks d.wide d.body.now) }
+{
+    let wide = rec.ty % 2 == 1;
+    let mut fields = Fields::of(rec);
+    let seg = fields.index_below(have)?;
+    let offset_at = fields.at();
+    let offset = fields.number(wide)?;
+    let body = fields.rest();
+    let len = measured(&mut fields, wide)?;
+    let place = Place {
+        seg,
+        offset,
+        offset_at,
+    };
+    judge(before, rec.at, place, len as usize)?;
+    Ok(Iterated {
+        place,
+        wide,
+        body,
+        len,
+    })
+}
+
+/// Adds the data of an LIDATA record as one piece, expanded; later fixups refer to its blocks. Data of a debug
+/// segment is dropped. Its length is measured and judged before it is expanded. After a refusal nothing is told of
+/// the parts.
+pub fn lidata(alloc: Global, rec: &Rec, into: &mut ObjParts) -> Result<(), Fail<OmfRefusal>>
+    requires kind { (rec.now.ty ≡ LIDATA) ⊎ (rec.now.ty ≡ LIDATA_32) }
+    requires begun { IsBegun into.old }
+    ensures { Gives (λ _. into.new) result (read_after into.old rec.now) }
+{
+    let have = count(into.module.segs.as_slice().len())?;
+    let fields = said(fields_of(rec, into, have))?;
+    let Place { seg, offset, .. } = fields.place;
+    if segment(into, seg).debug {
+        into.last = LastData::Dropped;
+        return Ok(());
+    }
+    let wide = fields.wide;
+    let data = expanded(alloc, wide, fields.body, fields.len)?;
+    let bytes = Bytes::from_vec(data);
+    let body = Bytes::from_vec(Vec::from_slice(alloc, fields.body)?);
+    into.module.pieces.push(Piece { seg, offset, bytes })?;
+    into.last = LastData::Blocks {
+        seg,
+        offset,
+        wide,
+        body,
+    };
+    Ok(())
+}
