@@ -1,0 +1,3 @@
+pub mod FixData
+pub mod Methods
+pub mod Reads
