@@ -3,6 +3,7 @@
 ghost use Rattle.std.specs.Prelude.{◌≡◌, [], ◌∷◌, ◌<◌};
 ghost use Rattle.omf_fix.specs.Methods.{Counts};
 ghost use Rattle.omf_fix.specs.Reads.{Reads};
+ghost use Rattle.omf_model.specs.AddLists.{HasFour};
 ghost use Rattle.omf_model.specs.Fixups.{set_threads, is_thread_method as thread_has_method};
 ghost use Rattle.omf_model.specs.ReadFixups.{thread_at};
 ghost use Rattle.omf_model.specs.Record.{is_frame_thread as frame_thread, thread, thread_method as method_of};
@@ -67,6 +68,7 @@ pub fn thread_index(
 
 /// Sets the thread that a THREAD names.
 pub fn set_thread(threads: &mut Threads, byte: u8, index: Option<u32>)
+    requires four { HasFour threads.old }
     ensures { threads.new ≡ set_threads threads.old (thread byte index ∷ []) }
 {
     let number = usize::from(byte % 4);
