@@ -2,9 +2,11 @@
 //! ("Relocatable Object Module Format", "9Ch FIXUPP").
 #![tactic(auto)]
 
-mod have;
 mod fix_data;
+mod have;
+mod location;
 mod methods;
+mod place;
 mod threads;
 
 pub use fix_data::{FixFields, fix_fields, start_at};
