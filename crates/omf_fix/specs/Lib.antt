@@ -1,0 +1,4 @@
+pub mod FixData
+pub mod Methods
+pub mod Placed
+pub mod Reads

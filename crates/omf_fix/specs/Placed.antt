@@ -1,0 +1,29 @@
+-- What is done with a fixup whose fields are good: it is judged for its place, and adds its fixes.
+use Rattle.std.specs.Prelude.{ℕ, Result, Ok}
+use Rattle.obj_types.specs.declared.refusal.OmfRefusal.{OmfRefusal}
+use Rattle.obj_types.specs.declared.object.FixAt.{FixAt}
+use Rattle.obj_types.specs.declared.object.StartAt.{StartAt}
+use Rattle.obj_types.specs.declared.parts.ObjParts.{ObjParts}
+use Rattle.omf_fields.specs.Fields.{◌>>=◌}
+use Rattle.omf_model.specs.Record.{FixData, fixup, location_of, is_self_relative}
+use Rattle.omf_model.specs.ReadFixups.{FirstByte, judge_fixup}
+use Rattle.omf_model.specs.Add.{add_field}
+use Rattle.omf_fix.specs.declared.place.FixPlace.{FixPlace}
+
+abbrev pub first_of : FixPlace → FirstByte
+first_of place = record { of_record = place.of_record; at = place.at; byte = place.high }
+
+abbrev pub placed : ObjParts → FixPlace → FixData → Result ObjParts OmfRefusal
+placed p place d = judge_fixup p (first_of place) place.low d >>= λ good. Ok (add_field p (fixup place.high place.low d))
+
+-- The fix at an offset of a segment.
+abbrev pub fix_of : ℕ → ℕ → ℕ → StartAt → FixAt
+fix_of seg offset high what = record {
+  seg = seg;
+  offset = offset;
+  loc = location_of high;
+  selfrel = is_self_relative high;
+  frame = what.frame;
+  goal = what.goal;
+  disp = what.disp;
+}

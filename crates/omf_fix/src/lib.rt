@@ -1,0 +1,13 @@
+//! The fixup records, read field after field behind the records before them
+//! ("Relocatable Object Module Format", "9Ch FIXUPP").
+#![tactic(auto)]
+
+mod fix_data;
+mod have;
+mod location;
+mod methods;
+mod place;
+mod threads;
+
+pub use fix_data::{FixFields, fix_fields, start_at};
+pub use have::Have;

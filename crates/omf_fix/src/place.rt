@@ -1,0 +1,91 @@
+//! What a good fixup adds, and when it is refused for its place.
+
+ghost use Rattle.std.specs.Prelude.{◌≡◌, ◌+◌, ◌≤◌, IsSomeAnd};
+ghost use Rattle.obj_types.specs.Items.{item};
+ghost use Rattle.std.specs.List.{list_any};
+ghost use Rattle.obj_types.specs.Location.{meets as share_byte};
+ghost use Rattle.omf_fix.specs.Placed.{placed, fix_of};
+ghost use Rattle.omf_fix.specs.FixData.{data_of};
+ghost use Rattle.omf_model.specs.Begun.{IsBegun};
+ghost use Rattle.omf_model.specs.Gives.{Gives};
+ghost use Rattle.obj_types.specs.declared.parts.LastData.TheVariants.{Straight};
+
+use crate::fix_data::{FixFields, meaning};
+use crate::location::{is_self_relative, location, location_len, meets, offset};
+use lx_types::Fail;
+use obj_types::{FixAt, LastData, MAX_FIXES, ObjParts, OmfRefusal, Seg, StartAt};
+use std::alloc::Global;
+
+/// The first two bytes of a fixup, its place and the place of its record.
+#[derive(Clone, Copy, Debug)]
+pub struct FixPlace {
+    pub of_record: usize,
+    pub at: usize,
+    pub high: u8,
+    pub low: u8,
+}
+
+/// The fix at an offset of a segment.
+fn fix_at(seg: u32, offset: u32, place: FixPlace, what: StartAt) -> FixAt
+    ensures { result ≡ fix_of seg offset place.high what }
+{
+    FixAt {
+        seg,
+        offset,
+        loc: location(place.high),
+        selfrel: is_self_relative(place.high),
+        frame: what.frame,
+        goal: what.goal,
+        disp: what.disp,
+    }
+}
+
+/// The offset in a segment of an offset of data that begins at `start` and lies in the segment.
+fn in_segment(segs: &[Seg], index: u32, start: u32, offset: u32) -> u32
+    requires { IsSomeAnd (item segs.now index) (λ segment. start + offset ≤ segment.len) }
+    ensures { result ≡ start + offset }
+{
+    // The segment's end has 32 bits, and the sum is not past it.
+    let _end = segs[index as usize - 1].len;
+    start + offset
+}
+
+/// Whether a fix shares a byte with one of these.
+fn meets_any(fixes: &[FixAt], new: FixAt) -> bool
+    ensures { result ≡ list_any (λ f. share_byte f new) fixes.now }
+{
+    fixes.iter().any(|fix| meets(fix, new))
+}
+
+/// Adds the fixup on the data of an LEDATA record that begins at an offset of a segment and has `len` bytes.
+fn add_straight(
+    into: &mut ObjParts,
+    seg: u32,
+    start: u32,
+    len: u32,
+    place: FixPlace,
+    d: FixFields,
+) -> Result<(), Fail<OmfRefusal>>
+    requires begun { IsBegun into.old }
+    requires last { into.old.last ≡ Straight seg start len }
+    ensures { Gives (λ _. into.new) result (placed into.old place (data_of d)) }
+{
+    let at = place.at;
+    let offset = u32::from(offset(place.high, place.low));
+    let size = u32::from(location_len(location(place.high)));
+    if offset + size > len {
+        return Err(Fail::Said(OmfRefusal::NoData { at }));
+    }
+    let segment_offset = in_segment(into.module.segs.as_slice(), seg, start, offset);
+    let fix = fix_at(seg, segment_offset, place, meaning(d, into));
+    if meets_any(into.module.fixes.as_slice(), fix) {
+        return Err(Fail::Said(OmfRefusal::FixOverlap { at }));
+    }
+    if into.module.fixes.as_slice().len() >= MAX_FIXES as usize {
+        return Err(Fail::Said(OmfRefusal::TooMany {
+            at: place.of_record,
+        }));
+    }
+    into.module.fixes.push(fix)?;
+    Ok(())
+}
