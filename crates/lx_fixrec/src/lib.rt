@@ -3,7 +3,11 @@
 
 mod fields;
 mod record;
+mod reader;
 mod refusal;
 mod sources;
+mod start;
 
+pub use reader::Records;
 pub use refusal::RecRefusal;
+pub use start::records;
