@@ -1,0 +1,72 @@
+-- The sources that are left of a page's records, and how they are given.
+use Rattle.std.specs.Prelude.{◌≡◌, ℕ, List, [], ◌∷◌, ◌++◌, ◌+◌, ◌≤◌, length, map, Bool, true, false, Option, Some, None, Result, Ok, Err}
+use Rattle.std.specs.List.{flat_map}
+use Rattle.lx_bytes.specs.Cursor.{Cursor}
+use Rattle.lx_types.specs.declared.fix.Fix.{Fix}
+use Rattle.lx_types.specs.declared.refusal.LxRefusal.{LxRefusal}
+use Rattle.lx_types.specs.declared.refusal.LxKind.TheVariants as kinds
+use Rattle.lx_model.specs.Reading.{fault, fault_of, cursor, Many, many}
+use Rattle.lx_model.specs.Records as model
+use Rattle.lx_model.specs.Records.{next_record, records_at}
+use Rattle.lx_fixrec.specs.Sources.{record_fixes, IsGood}
+use Rattle.lx_fixrec.specs.Reads.{fault_said}
+use Rattle.lx_fixrec.specs.declared.refusal.Fault.{Fault}
+use Rattle.lx_fixrec.specs.declared.reader.Found.{Found}
+use Rattle.lx_fixrec.specs.declared.record.Record.{Record}
+use Rattle.lx_fixrec.specs.declared.refusal.RecRefusal.{RecRefusal}
+use Rattle.lx_fixrec.specs.declared.refusal.RecRefusal.TheVariants.{Short, BadSource, Straddle}
+
+-- a source, and the place of its record
+abbrev pub Placed : Type 0
+Placed = ℕ × Fix
+
+abbrev pub sources_of : model.Record → List Placed
+sources_of r = map (λ f. (r.at, f)) r.fixes
+
+-- What is left: the place of the record that gave the last source, the sources that come, and the refusal
+-- behind them.
+pub record Left : Type 0 where
+  pub at : ℕ
+  pub items : List Placed
+  pub end : Option LxRefusal
+
+abbrev pub left_behind : ℕ → List Placed → Many model.Record → Left
+left_behind at before records = record { at = at; items = before ++ flat_map sources_of records.items; end = fault_of records.end }
+
+-- the sources in bytes that stand at a place of the file
+abbrev pub left_in : ℕ → List ℕ → Left
+left_in at bytes = left_behind at [] (records_at at bytes)
+
+abbrev pub sources_left : ℕ → Option Record → List Placed
+sources_left at None = []
+sources_left at (Some r) = map (λ f. (at, f)) (record_fixes r)
+
+-- what a reader has left: of the record that it gives, and of the bytes behind it, where it has not ended
+abbrev pub left_of : ℕ → Option Record → Bool → Cursor → Left
+left_of at current true c = record { at = at; items = sources_left at current; end = None }
+left_of at current false c = left_behind at (sources_left at current) (many next_record tt c)
+
+abbrev pub refusal : RecRefusal → LxRefusal
+refusal (Short at) = fault kinds.Short at
+refusal (BadSource at) = fault kinds.BadSource at
+refusal (Straddle at) = fault kinds.Straddle at
+
+-- A call that gives the next source, or the refusal behind the last one.
+abbrev pub GivesNext : Option (Result Fix RecRefusal) → Left → Left → Type 0
+GivesNext (Some (Ok f)) old new = (old.items ≡ (new.at, f) ∷ new.items) × (new.end ≡ old.end)
+GivesNext (Some (Err r)) old new = (old.items ≡ []) × (old.end ≡ Some (refusal r)) × (new ≡ record { at = old.at; items = []; end = None })
+GivesNext None old new = (old.items ≡ []) × (old.end ≡ None) × (new ≡ old)
+
+-- the sources behind a cursor, and their end
+abbrev pub behind : Cursor → Many model.Record
+behind c = many next_record tt c
+
+abbrev pub items_behind : Cursor → List Placed
+items_behind c = flat_map sources_of (behind c).items
+
+-- A call that looks for the next record with a source: it passes over records without one.
+abbrev pub Finds : Result (Option Found) Fault → Cursor → Cursor → Type 0
+Finds (Ok None) old new = (items_behind old ≡ []) × (fault_of (behind old).end ≡ None) × (length new.left ≡ 0)
+Finds (Ok (Some found)) old new =
+    (items_behind old ≡ (found.at, found.fix) ∷ map (λ f. (found.at, f)) (record_fixes found.«record») ++ items_behind new) × (fault_of (behind old).end ≡ fault_of (behind new).end) × IsGood found.«record»
+Finds (Err f) old new = (items_behind old ≡ []) × (fault_of (behind old).end ≡ Some (fault_said f)) × ((fault_said f).at ≤ old.at + length old.left)

@@ -1,0 +1,80 @@
+//! The records of a page, one source after another.
+
+ghost use Rattle.std.specs.Prelude.{◌≡◌, ◌+◌, ◌<◌, ◌^◌, length};
+ghost use Rattle.std.specs.Prelude.{OnOk};
+ghost use Rattle.lx_fixrec.specs.Left.{left_in, GivesNext, Finds};
+
+use crate::record::{Record, next_fix, record_at};
+use crate::refusal::{Fault, RecRefusal};
+use lx_bytes::Cur;
+use lx_types::Fix;
+use std::marker::Model;
+
+/// A source, the place of its record, and the record with those that are left.
+#[derive(Drop)]
+pub struct Found<'a> {
+    pub at: u32,
+    pub fix: Fix,
+    pub record: Record<'a>,
+}
+
+// The next record that has a source, and its first source. There is none where the bytes end.
+fn next_record<'a>(cur: &mut Cur<'a>) -> Result<Option<Found<'a>>, Fault>
+    requires { cur.old.at + length cur.old.left < 2 ^ 32 }
+    ensures found { Finds result cur.old cur.new }
+    ensures within { OnOk result (cur.new.at + length cur.new.left ≡ cur.old.at + length cur.old.left) }
+{
+    while cur.left() > 0 {
+        let at = cur.at() as u32;
+        let mut record = record_at(cur)?;
+        if let Some(fix) = next_fix(&mut record) {
+            return Ok(Some(Found { at, fix, record }));
+        }
+    }
+    Ok(None)
+}
+
+/// The sources of a page's records: an iterator that ends after its first refusal, and without one
+/// only at the end of the records.
+#[derive(Drop)]
+pub struct Records<'a> {
+    cur: Cur<'a>,
+    at: u32,
+    current: Option<Record<'a>>,
+    ended: bool,
+}
+
+impl<'a> Model for Records<'a> {
+    ghost use Rattle.std.specs.Prelude.{◌+◌, ◌<◌, ◌^◌, length};
+    ghost use Rattle.std.specs.Option.{ForSome};
+    ghost use Rattle.lx_fixrec.specs.Left.{Left, left_of};
+    ghost use Rattle.lx_fixrec.specs.Sources.{IsGood};
+
+    ghost Value = { Left };
+
+    ghost view = { λ r. left_of r.at r.current r.ended r.cur };
+
+    ghost invariant = { λ r. (r.cur.at + length r.cur.left < 2 ^ 32) × ForSome r.current IsGood };
+}
+
+impl<'a> Records<'a> {
+    /// The sources of the records in some bytes of a file, of which `at` bytes stand before.
+    pub fn of(bytes: &'a [u8], at: u32) -> Records<'a>
+        requires { at + length bytes.now < 2 ^ 32 }
+        ensures { result ≡ left_in at bytes.now }
+    {
+        Records {
+            cur: Cur::of_part(bytes, at as usize),
+            at,
+            current: None,
+            ended: false,
+        }
+    }
+
+    /// The place of the record that gave the last source.
+    pub fn at(&self) -> u32
+        ensures { result ≡ self.now.at }
+    {
+        self.at
+    }
+}

@@ -1,0 +1,126 @@
+//! One record: its spelling, and its sources one after another.
+
+ghost use Rattle.std.specs.Prelude.{◌≡◌, IfOk, IfSome, MatchOption};
+ghost use Rattle.lx_model.specs.RecordFields.{offsets_at};
+ghost use Rattle.lx_model.specs.Records.{single_at, list_at, record_at};
+ghost use Rattle.lx_fixrec.specs.Reads.{Takes, kind_of};
+ghost use Rattle.lx_fixrec.specs.Sources.{record_fixes, fix_of, IsGood, Skips, GivesFix};
+
+use crate::fields::{additive, byte, offset, target};
+use crate::refusal::Fault;
+use crate::sources::{Kind, kind_of};
+use lx_bytes::Cur;
+use lx_types::{Fix, FixTarget, Source};
+
+/// A flag: the record begins a chain of fixups in the page image.
+const CHAIN: u8 = 0x08;
+
+/// A record whose spelling was found good: what its sources share, and the offsets of those that
+/// were not given yet.
+#[derive(Drop)]
+pub struct Record<'a> {
+    pub kind: Kind,
+    pub target: FixTarget,
+    pub additive: u32,
+    pub left: u8,
+    pub offsets: Cur<'a>,
+}
+
+// Passes over the offsets of a list, and judges them.
+fn skip_offsets(cur: &mut Cur, count: u8, source: Source) -> Result<(), Fault>
+    ensures { Skips result (offsets_at count source) cur.old cur.new }
+{
+    for _ in 0..count {
+        offset(cur, source)?;
+    }
+    Ok(())
+}
+
+// One source: the offset, the target, the additive.
+#[tactic(auto, unfolding(lx_model::specs::Records::single_at))]
+fn single<'a>(cur: &mut Cur<'a>, kind: Kind, flags: u8) -> Result<Record<'a>, Fault>
+    ensures read { Takes record_fixes result (single_at (kind_of kind) flags) cur.old cur.new }
+    ensures good { IfOk result (λ r. IsGood r) }
+{
+    let offsets = cur.fork();
+    offset(cur, kind.source)?;
+    let target = target(cur, kind.source, flags)?;
+    let additive = additive(cur, flags)?;
+    Ok(Record {
+        kind,
+        target,
+        additive,
+        left: 1,
+        offsets,
+    })
+}
+
+// A list: how many, the target, the additive, the offsets.
+#[tactic(auto, unfolding(lx_model::specs::Records::list_at))]
+fn list<'a>(cur: &mut Cur<'a>, kind: Kind, flags: u8) -> Result<Record<'a>, Fault>
+    ensures read { Takes record_fixes result (list_at (kind_of kind) flags) cur.old cur.new }
+    ensures good { IfOk result (λ r. IsGood r) }
+{
+    let left = byte(cur)?;
+    let target = target(cur, kind.source, flags)?;
+    let additive = additive(cur, flags)?;
+    let offsets = cur.fork();
+    skip_offsets(cur, left, kind.source)?;
+    Ok(Record {
+        kind,
+        target,
+        additive,
+        left,
+        offsets,
+    })
+}
+
+/// The record that stands at the cursor, judged whole.
+#[tactic(auto, unfolding(lx_model::specs::Records::record_at))]
+pub fn record_at<'a>(cur: &mut Cur<'a>) -> Result<Record<'a>, Fault>
+    ensures read { Takes record_fixes result record_at cur.old cur.new }
+    ensures good { IfOk result (λ r. IsGood r) }
+{
+    let at = cur.at();
+    let source = byte(cur)?;
+    let Some(kind) = kind_of(source) else {
+        return Err(Fault::BadSource { at });
+    };
+    let flags = byte(cur)?;
+    if flags & CHAIN != 0 {
+        Err(Fault::BadSource { at })
+    } else if kind.listed {
+        list(cur, kind, flags)
+    } else {
+        single(cur, kind, flags)
+    }
+}
+
+// The source of a record that begins at an offset.
+fn fix_at(current: &Record, offset: i32) -> Fix
+    ensures { result ≡ fix_of current.now offset }
+{
+    Fix {
+        source: current.kind.source,
+        alias: current.kind.alias,
+        offset,
+        target: current.target,
+        additive: current.additive,
+    }
+}
+
+/// The next source of a record.
+pub fn next_fix(current: &mut Record) -> Option<Fix>
+    requires { IsGood current.old }
+    ensures { GivesFix result current.old current.new }
+{
+    if current.left == 0 {
+        return None;
+    }
+    let Ok(offset) = offset(&mut current.offsets, current.kind.source) else {
+        unreachable!()
+    };
+    let fix = fix_at(current, offset);
+    current.left -= 1;
+    Some(fix)
+}
