@@ -13,6 +13,8 @@ pub mod FixupPages
 pub mod Module
 pub mod Laws
 pub mod TableSpelling
+pub mod ExportTables
+pub mod ExportLaws
 pub mod TableLaws
 pub mod Library
 pub mod Entries
