@@ -9,3 +9,4 @@ pub mod SectionsRead
 pub mod RecordsRead
 pub mod PartsRead
 pub mod Faultless
+pub mod TablesFaultless

@@ -1,5 +1,5 @@
 -- What a written file is read as: the parts of its image.
-use Rattle.std.specs.Prelude.{◌≡◌, ◌≢◌, ℕ, ◌+◌, ◌<◌, ◌≤◌, ◌^◌, true, All, IfSome, List, [], ◌∷◌, ◌++◌, length, map, filter, Ok}
+use Rattle.std.specs.Prelude.{◌≡◌, ◌≢◌, ℕ, ◌+◌, ◌<◌, ◌≤◌, ◌^◌, true, IfSome, List, [], ◌∷◌, ◌++◌, length, map, filter, Ok}
 use Rattle.std.specs.List.{flat_map, AllByRecursion}
 use Rattle.lx_types.specs.declared.fix.FixTarget.{FixTarget}
 use Rattle.lx_types.specs.declared.object.PageHead.{PageHead}
@@ -96,13 +96,13 @@ pub record ImageFits (m : Image) : Type 0 where
   -- objects, and the pages of each
   pub few_objects : length m.objects ≤ MOST_OBJECTS
   pub objects : AllByRecursion ObjectHeadFits m.objects
-  pub own_pages : All (HasPages (length m.pages)) m.objects
+  pub own_pages : AllByRecursion (HasPages (length m.pages)) m.objects
   pub few_pages : length m.pages ≤ MOST_PAGES
   pub pages : AllByRecursion FormFits m.pages
   -- records of each page, and what they name
   pub each : length m.records ≡ length m.pages
   pub records : AllByRecursion (AllByRecursion RecordFits) m.records
-  pub targets : All (λ target. is_target (targets_there m) target ≡ true) (targets_of m)
+  pub targets : AllByRecursion (λ target. is_target (targets_there m) target ≡ true) (targets_of m)
   -- names, the module's first, and entries
   pub named : m.residents ≢ []
   pub residents : AllByRecursion NameFits m.residents
