@@ -10,3 +10,4 @@ pub mod RecordsRead
 pub mod PartsRead
 pub mod Faultless
 pub mod TablesFaultless
+pub mod PagesFaultless

@@ -42,7 +42,7 @@ targets_of_records records = map (λ f. f.target) (fixes_of records)
 abbrev targets_of_page : List Written → List FixTarget
 targets_of_page page = map (λ f. f.target) (flat_map fixes_written page)
 
-regrouped : (file : List ℕ) (at : ℕ) (a b rest : List ℕ) → HasFrom file at ((a ++ b) ++ rest) → HasFrom file at (a ++ (b ++ rest))
+pub regrouped : (file : List ℕ) (at : ℕ) (a b rest : List ℕ) → HasFrom file at ((a ++ b) ++ rest) → HasFrom file at (a ++ (b ++ rest))
 regrouped file at a b rest has = subst (λ (ys : List ℕ). HasFrom file at ys) (append_assoc a b rest) has
 
 pages_mean : (file : List ℕ) (pages : List (List Written)) (at : ℕ) (rest : List ℕ) → HasFrom file at (flat_map page_records pages ++ rest) → Each (Each RecordFits) pages
