@@ -1,6 +1,6 @@
 -- A written file has no fault in its header, its names, its imports, its entries and its start.
 use Rattle.std.proofs.Common.{◌≡◌, ℕ, zero, suc, ◌+◌, ◌<◌, ◌≤◌, ◌^◌, Bool, true, false, List, [], ◌∷◌, length, map, Option, Some, None, Result, Ok, Err, refl, sym, subst, ap, ◌∙◌, arith, inl, inr}
-use Rattle.std.specs.Prelude.{◌==◌, ◌≢◌, nat_lt, nat_le, if◌then◌else◌, IfSome}
+use Rattle.std.specs.Prelude.{◌≢◌, nat_lt, nat_le, if◌then◌else◌, IfSome}
 use Rattle.std.specs.List.{range_with_len, AllByRecursion as Each}
 use Rattle.std.proofs.lemmas.Bool.{cases_lt}
 use Rattle.std.proofs.lemmas.Bool.Decides.{nat_tests}
@@ -9,14 +9,14 @@ use Rattle.lx_types.specs.declared.refusal.LxKind.TheVariants.{Short, Field}
 use Rattle.lx_types.specs.Sound.{IsNumberOf}
 use Rattle.lx_model.specs.Reading.{fault, number_at, short_at, first, ◌then◌, fault_of}
 use Rattle.lx_model.specs.Header.{Row, row_fault, rows, header_place, field, place_fault, header_fault, object_count, start_fault, is_module_flags, MOST_PAGES, MOST_OBJECTS}
-use Rattle.lx_model.specs.NameTables.{Named, lacks_name, resident_names, other_names, import_names, resident_fault, others_fault, imports_fault}
-use Rattle.lx_model.specs.EntryTable.{Numbered, entries_of, entries_fault}
+use Rattle.lx_model.specs.NameTables.{Named, lacks_name, resident_fault, others_fault, imports_fault}
+use Rattle.lx_model.specs.EntryTable.{entries_fault}
 use Rattle.image_model.specs.Image.{Image}
-use Rattle.image_model.specs.Sections.{sections, HEADER_LEN}
+use Rattle.image_model.specs.Sections.{HEADER_LEN}
 use Rattle.image_model.specs.File.{file_of, header_fields_of, object_field}
-use Rattle.image_model.specs.ReadBack.{ImageFits, SectionsRead}
-use Rattle.image_model.proofs.Fields.{Tables, tables, place_read}
-use Rattle.image_model.proofs.Places.{sections_length, file_long}
+use Rattle.image_model.specs.ReadBack.{ImageFits}
+use Rattle.image_model.proofs.Fields.{tables, place_read}
+use Rattle.image_model.proofs.Places.{file_long}
 use Rattle.image_model.proofs.SectionsRead.{sections_read}
 
 -- ---- tests that are known

@@ -11,3 +11,5 @@ pub mod PartsRead
 pub mod Faultless
 pub mod TablesFaultless
 pub mod PagesFaultless
+pub mod RecordsFaultless
+pub mod FilesRead

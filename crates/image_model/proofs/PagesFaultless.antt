@@ -1,5 +1,5 @@
 -- A written file has no fault in its page table and its page data.
-use Rattle.std.proofs.Common.{◌≡◌, ℕ, ◌+◌, ◌*◌, ◌<◌, ◌≤◌, Bool, true, List, [], ◌∷◌, ◌++◌, length, map, Option, Some, None, Result, Ok, refl, sym, subst, ap, ◌∙◌, append_assoc, length-append, arith}
+use Rattle.std.proofs.Common.{◌≡◌, ℕ, ◌+◌, ◌*◌, ◌<◌, ◌≤◌, Bool, true, List, [], ◌∷◌, ◌++◌, length, map, Option, Some, None, Result, refl, sym, subst, ap, ◌∙◌, length-append, arith}
 use Rattle.std.specs.Prelude.{◌&&◌, nat_le, if◌then◌else◌}
 use Rattle.std.specs.List.{flat_map, range_with_len, AllByRecursion as Each}
 use Rattle.lx_types.specs.Parts.{span}
@@ -9,21 +9,21 @@ use Rattle.lx_types.specs.declared.refusal.LxRefusal.{LxRefusal}
 use Rattle.lx_types.specs.declared.refusal.LxKind.TheVariants as kinds
 use Rattle.lx_model.specs.Reading.{fault, short_at, ◌then◌, placed, fault_of}
 use Rattle.lx_model.specs.Header.{page_count}
-use Rattle.lx_model.specs.Iterated.{groups_spelling, groups_data, expansion}
+use Rattle.lx_model.specs.Iterated.{groups_spelling, expansion}
 use Rattle.lx_model.specs.Tables.{page_entry, page_place, kind_fault, data_fault, page_fault, pages_fault}
 use Rattle.lx_model.specs.TableSpelling.{page_spelling, pages_spelling}
 use Rattle.lx_model.proofs.PagesRead.{groups_again}
 use Rattle.image_model.specs.Image.{Image, PageForm, plain, iterated, zeros}
 use Rattle.image_model.specs.PageTables.{form_data, page_head, page_heads_from}
-use Rattle.image_model.specs.Sections.{sections, pages_at, data_at}
+use Rattle.image_model.specs.Sections.{sections, data_at}
 use Rattle.image_model.specs.File.{file_of}
 use Rattle.image_model.specs.ReadBack.{FormFits, placed_page, ImageFits}
-use Rattle.image_model.proofs.Fields.{Tables, tables}
+use Rattle.image_model.proofs.Fields.{tables}
 use Rattle.image_model.proofs.Faultless.{then_this, no_more, all_none, each_at, not_short, behind_none}
 use Rattle.image_model.proofs.PagesRead.{heads_long, page_entries_read}
-use Rattle.image_model.proofs.Places.{sections_length, file_long}
+use Rattle.image_model.proofs.Places.{file_long}
 use Rattle.image_model.proofs.RecordsRead.{spanned, regrouped}
-use Rattle.image_model.proofs.Standing.{HasFrom, Standing, standing, behind, from_others}
+use Rattle.image_model.proofs.Standing.{HasFrom, standing, behind, from_others}
 
 -- ---- data
 

@@ -1,5 +1,5 @@
 -- The page table of a file is read as the forms of its image.
-use Rattle.std.proofs.Common.{◌≡◌, ℕ, zero, suc, ◌+◌, ◌*◌, ◌^◌, ◌<◌, ◌≤◌, List, [], ◌∷◌, ◌++◌, length, map, Option, Some, None, refl, sym, ap, ◌∙◌, length-append, arith}
+use Rattle.std.proofs.Common.{◌≡◌, ℕ, suc, ◌+◌, ◌*◌, ◌^◌, ◌<◌, List, [], ◌∷◌, length, map, Option, Some, None, refl, sym, ap, ◌∙◌, length-append, arith}
 use Rattle.std.specs.Prelude.{option_map}
 use Rattle.std.specs.List.{flat_map, range_with_len, AllByRecursion as Each}
 use Rattle.lx_types.specs.Object.{zero_page}
@@ -7,19 +7,19 @@ use Rattle.lx_types.specs.declared.object.PageHead.{PageHead}
 use Rattle.lx_types.specs.declared.object.PageKind.{PageKind}
 use Rattle.lx_types.specs.declared.object.PageKind.TheVariants.{Plain, Iterated, Invalid, Zero}
 use Rattle.lx_model.specs.Reading.{number_at}
-use Rattle.lx_model.specs.Header.{field, table, page_count}
+use Rattle.lx_model.specs.Header.{field, page_count}
 use Rattle.lx_model.specs.Iterated.{groups_spelling}
 use Rattle.lx_model.specs.Tables.{page_kind, page_of_kind, page_entry, page_or_zero, page_place, page_heads}
-use Rattle.lx_model.specs.TableSpelling.{page_fields, pages_spelling, PageHeadFits}
+use Rattle.lx_model.specs.TableSpelling.{page_fields, PageHeadFits}
 use Rattle.lx_model.proofs.PlacesRead.{pages_again}
 use Rattle.image_model.specs.Image.{Image, PageForm, plain, iterated, zeros}
 use Rattle.image_model.specs.PageTables.{form_data, page_head, page_heads_from}
 use Rattle.image_model.specs.Sections.{sections, pages_at, data_at}
 use Rattle.image_model.specs.File.{file_of}
 use Rattle.image_model.specs.ReadBack.{FormFits, placed_page, ImageFits}
-use Rattle.image_model.proofs.Fields.{Tables, tables}
-use Rattle.image_model.proofs.Places.{sections_length, file_long}
-use Rattle.image_model.proofs.Standing.{HasFrom, Standing, standing, from_residents}
+use Rattle.image_model.proofs.Fields.{tables}
+use Rattle.image_model.proofs.Places.{file_long}
+use Rattle.image_model.proofs.Standing.{standing, from_residents}
 
 -- ---- the entries of the table fit
 

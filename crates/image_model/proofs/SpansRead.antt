@@ -1,7 +1,7 @@
 -- The fixup page table of a file leads to the records of each page.
-use Rattle.std.proofs.Common.{◌≡◌, ℕ, zero, suc, ◌+◌, ◌*◌, ◌^◌, ◌<◌, ◌≤◌, Bool, true, List, [], ◌∷◌, ◌++◌, length, map, refl, sym, ap, ◌∙◌, length-append, arith}
+use Rattle.std.proofs.Common.{◌≡◌, ℕ, suc, ◌+◌, ◌*◌, ◌^◌, ◌<◌, Bool, true, List, [], ◌∷◌, ◌++◌, length, map, refl, sym, ap, ◌∙◌, length-append, arith}
 use Rattle.std.specs.Prelude.{nat_lt, if◌then◌else◌}
-use Rattle.std.specs.List.{flat_map, range_with_len, AllByRecursion as Each}
+use Rattle.std.specs.List.{flat_map, range_with_len}
 use Rattle.std.proofs.lemmas.Bool.Decides.{nat_tests}
 use Rattle.lx_model.specs.Reading.{number_at}
 use Rattle.lx_model.specs.Header.{field, table, page_count}
@@ -14,9 +14,9 @@ use Rattle.image_model.specs.PageTables.{page_records, record_offsets_from}
 use Rattle.image_model.specs.Sections.{sections, spans_at, records_at}
 use Rattle.image_model.specs.File.{file_of}
 use Rattle.image_model.specs.ReadBack.{spans_from, ImageFits}
-use Rattle.image_model.proofs.Fields.{Tables, tables}
-use Rattle.image_model.proofs.Places.{sections_length, file_long}
-use Rattle.image_model.proofs.Standing.{HasFrom, Standing, standing, from_records}
+use Rattle.image_model.proofs.Fields.{tables}
+use Rattle.image_model.proofs.Places.{file_long}
+use Rattle.image_model.proofs.Standing.{standing, from_records}
 
 -- ---- the offsets fit
 

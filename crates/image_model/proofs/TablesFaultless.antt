@@ -1,11 +1,9 @@
 -- A written file has no fault in its object table and its fixup page table.
-use Rattle.std.proofs.Common.{◌≡◌, ℕ, zero, suc, ◌+◌, ◌-◌, ◌*◌, ◌<◌, ◌≤◌, Bool, true, false, List, [], ◌∷◌, length, map, Option, Some, None, refl, sym, subst, ap, ◌∙◌, arith, length-append, inl, inr}
+use Rattle.std.proofs.Common.{◌≡◌, ℕ, suc, ◌+◌, ◌-◌, ◌*◌, ◌<◌, ◌≤◌, Bool, true, false, List, [], ◌∷◌, length, map, Some, None, refl, sym, subst, ap, ◌∙◌, arith, length-append, inl, inr}
 use Rattle.std.specs.Prelude.{◌==◌, ◌&&◌, ◌||◌, not, nat_lt, nat_le, if◌then◌else◌, ◌++◌}
 use Rattle.std.specs.List.{flat_map, range_with_len, AllByRecursion as Each}
 use Rattle.std.proofs.lemmas.Bool.{cases_lt}
-use Rattle.std.proofs.lemmas.Bool.Decides.{nat_tests}
 use Rattle.lx_types.specs.declared.object.ObjHead.{ObjHead}
-use Rattle.lx_types.specs.declared.refusal.LxRefusal.{LxRefusal}
 use Rattle.lx_types.specs.declared.refusal.LxKind.TheVariants as kinds
 use Rattle.lx_types.specs.Sound.{HasPages}
 use Rattle.lx_model.specs.Reading.{fault, number_at, short_at, first, ◌then◌}
@@ -17,12 +15,12 @@ use Rattle.lx_model.specs.TableSpelling.{doublewords, objects_spelling, object_s
 use Rattle.lx_model.proofs.NamesRead.{not_zero}
 use Rattle.image_model.specs.Image.{Image}
 use Rattle.image_model.specs.PageTables.{page_records, record_offsets_from}
-use Rattle.image_model.specs.Sections.{sections, objects_at, spans_at, records_at}
+use Rattle.image_model.specs.Sections.{sections, spans_at, records_at}
 use Rattle.image_model.specs.File.{file_of}
-use Rattle.image_model.specs.ReadBack.{ImageFits, SectionsRead}
-use Rattle.image_model.proofs.Fields.{Tables, tables}
+use Rattle.image_model.specs.ReadBack.{ImageFits}
+use Rattle.image_model.proofs.Fields.{tables}
 use Rattle.image_model.proofs.Faultless.{otherwise, then_this, not_less, all_none, each_at, not_short, behind_none}
-use Rattle.image_model.proofs.Places.{sections_length, file_long}
+use Rattle.image_model.proofs.Places.{file_long}
 use Rattle.image_model.proofs.SectionsRead.{sections_read}
 use Rattle.image_model.proofs.SpansRead.{offsets_long, offsets_read, has_some, head_of, tail_of, first_offset}
 

@@ -1,6 +1,6 @@
 //! Laws over the definitions, each the contract of a function that does nothing.
 
-ghost use Rattle.image_model.specs.ReadBack.{FieldsReadBack, PartsReadBack, SectionsReadBack};
+ghost use Rattle.image_model.specs.ReadBack.{FieldsReadBack, FilesReadBack, SectionsReadBack};
 
 /// The header of a written file has the fields that were written, and its object table, name
 /// tables, import modules and entry table are read as those of the image.
@@ -9,8 +9,8 @@ pub fn sections_read_again()
     ensures sections { SectionsReadBack }
 {}
 
-/// The parts of a written file are those of its image: name, flags, start, objects, pages, records,
-/// imports, entries, names and references.
-pub fn parts_read_again()
-    ensures { PartsReadBack }
+/// A written file is read again: it has no fault, and its parts are those of the image, which are
+/// name, flags, start, objects, pages, records, imports, entries, names and references.
+pub fn files_read_again()
+    ensures { FilesReadBack }
 {}

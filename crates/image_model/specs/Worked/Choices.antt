@@ -14,7 +14,7 @@ use Rattle.lx_model.specs.Bundles.{table_spelling}
 use Rattle.lx_model.specs.RecordSpelling.{record_spelling}
 use Rattle.lx_model.specs.JoinedEntries.{Exported, bundles_for}
 use Rattle.lx_model.specs.JoinedRecords.{begins, records_for}
-use Rattle.image_model.specs.Image.{PageForm, plain, iterated, zeros}
+use Rattle.image_model.specs.Image.{plain, iterated, zeros}
 use Rattle.image_model.specs.PageForms.{form_of_page}
 
 -- ---- page forms
