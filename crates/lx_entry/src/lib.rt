@@ -5,8 +5,10 @@
 mod bundles;
 mod fields;
 mod imports;
+mod names;
 mod refusal;
 
 pub use bundles::{Entries, read_entries};
 pub use imports::read_imports;
+pub use names::{NameTable, read_names};
 pub use refusal::TableRefusal;

@@ -25,3 +25,4 @@ pub mod Steps
 pub mod TablesTaken
 pub mod Takes
 pub mod Visits
+pub mod ExportsRead

@@ -16,6 +16,8 @@ pub mod Module
 pub mod JoinedRecords
 pub mod Laws
 pub mod TableSpelling
+pub mod ExportTables
+pub mod ExportLaws
 pub mod TableLaws
 pub mod Library
 pub mod Entries

@@ -3,6 +3,7 @@
 ghost use Rattle.lx_model.specs.Laws.{MeansOne, MeansOrFails, FaultMeansNone, MeansSound, OrderIsReached, ReachedIsOrdered, OrderHasEachOnce, OrderIsInLibrary, OrderIsClosed, OrderEndsWithItself, LoopComesBack, ComesBackLoops};
 ghost use Rattle.lx_model.specs.ModuleLaws.{ReadIsSound, DataExpands, FitHasSpots, RecordsAreGood, TargetsAreThere, ReferencesAreListed};
 ghost use Rattle.lx_model.specs.TableLaws.{NamesGoOn, ImportsGoOn, BundlesGoOn, RecordsGoOn, GroupsGoOn, OneTargetMore, NamesReadAgain, ImportsReadAgain, EntriesReadAgain, RecordsReadAgain, GroupsReadAgain, HeaderReadAgain, ObjectsReadAgain, PagesReadAgain, DoublewordsReadAgain, RecordIsSpelled, RecordsAreSpelled, NamesAreSpelled, ImportsAreSpelled, EntriesAreSpelled, GroupsAreSpelled};
+ghost use Rattle.lx_model.specs.ExportLaws.{ExportsReadAgain};
 
 /// A file has one meaning or one first fault.
 pub fn files_mean_one_module()
@@ -60,6 +61,11 @@ pub fn written_is_read()
     ensures objects { ObjectsReadAgain }
     ensures pages { PagesReadAgain }
     ensures doublewords { DoublewordsReadAgain }
+{}
+
+/// An entry table that is written for exports is read as their entries, by rising ordinals.
+pub fn exports_are_read()
+    ensures { ExportsReadAgain }
 {}
 
 /// Fixup records, name tables, import modules, entry tables and groups of iterated data that are

@@ -1,0 +1,5 @@
+pub mod FieldLoop
+pub mod Places
+pub mod Numbers
+pub mod Headers
+pub mod Written

@@ -1,0 +1,12 @@
+//! The header of an LX module, and the entries of its object table and its object page table, both
+//! ways ("LX - Linear eXecutable Module Format": "LX Header", "Object Table", "Object Page Table").
+#![tactic(auto)]
+
+mod head;
+mod reading;
+mod rows;
+mod tables;
+
+pub use head::{Head, write_head};
+pub use reading::read_head;
+pub use tables::{object_head, page_entry, write_objects, write_pages};
