@@ -2,6 +2,7 @@
 //! values that the definitions give.
 
 ghost use Rattle.lx_model.specs.Worked.Records.{WorkedRecords, WorkedRecordFaults, WorkedGroups};
+ghost use Rattle.lx_model.specs.Worked.Packed.{WorkedPacking};
 ghost use Rattle.lx_model.specs.Worked.Tables.{WorkedNames, WorkedEntries};
 ghost use Rattle.lx_model.specs.Worked.File.{WorkedFile, WorkedFaults};
 ghost use Rattle.lx_model.specs.Worked.Header.{WorkedHeader, WorkedOrder, WorkedStub};
@@ -18,6 +19,11 @@ pub fn records_read()
 /// Groups of iterated data.
 pub fn groups_read()
     ensures { WorkedGroups }
+{}
+
+/// Pages, and the iterated data that they are written in.
+pub fn pages_packed()
+    ensures { WorkedPacking }
 {}
 
 /// Name tables, import modules and entry tables, and what is wrong first with others.

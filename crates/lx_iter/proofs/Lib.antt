@@ -1,0 +1,5 @@
+pub mod Repeats
+pub mod Groups
+pub mod Periods
+pub mod Runs
+pub mod Unpacking

@@ -1,0 +1,12 @@
+//! Iterated pages of an LX module ("LX - Linear eXecutable Module Format", "Iterated Data Pages").
+#![tactic(auto)]
+
+mod expansion;
+mod laws;
+mod packing;
+mod refusal;
+
+pub use expansion::expand;
+pub use laws::packed_expands;
+pub use packing::pack;
+pub use refusal::IterRefusal;
