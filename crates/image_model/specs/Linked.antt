@@ -10,16 +10,18 @@ use Rattle.link_model.specs.Order.{is_program}
 use Rattle.link_model.specs.Flags.{flag}
 use Rattle.link_model.specs.Layout.{objects, stack_top}
 use Rattle.link_model.specs.Start.{Start}
-use Rattle.link_model.specs.Header.{auto_data}
+use Rattle.link_model.specs.Header.{module_name, description, auto_data}
 use Rattle.link_model.specs.Patches.{object_bytes}
 use Rattle.link_model.specs.Records.{object_records}
 use Rattle.link_model.specs.ImportTables.{modules_in, procs_in, link_pairs, with_offset}
+use Rattle.lx_model.specs.ExportTables.{resident_table, other_table}
+use Rattle.lx_model.specs.JoinedEntries.{bundles_for}
 use Rattle.lx_model.specs.JoinedRecords.{records_for}
 use Rattle.lx_model.specs.RecordSpelling.{Written}
 use Rattle.image_model.specs.Image.{Image, PageForm}
 use Rattle.image_model.specs.PageForms.{pages_in, form_of_page}
 use Rattle.image_model.specs.ObjectTable.{object_heads_from}
-use Rattle.image_model.specs.Exported.{residents, others, entries}
+use Rattle.image_model.specs.Exported.{exported_of}
 use Rattle.image_model.specs.File.{file_of}
 
 -- "LX Header", module flags: a library; its initialisation and its termination for each process.
@@ -64,9 +66,9 @@ image_of l = record {
   objects = object_heads_from 1 (objects l);
   pages = page_forms l;
   records = fixup_records l;
-  residents = residents l;
-  others = others l;
-  entries = entries l;
+  residents = resident_table (module_name l) (exported_of l);
+  others = other_table (module_name l) (description l) (exported_of l);
+  entries = bundles_for (exported_of l);
   imports = link_modules l;
   procs = link_procs l;
 }
