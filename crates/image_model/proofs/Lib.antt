@@ -13,3 +13,4 @@ pub mod TablesFaultless
 pub mod PagesFaultless
 pub mod RecordsFaultless
 pub mod FilesRead
+pub mod LinksRead

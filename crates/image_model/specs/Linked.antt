@@ -1,5 +1,5 @@
 -- The module that is written of a link.
-use Rattle.std.specs.Prelude.{◌≡◌, ℕ, ◌+◌, not, List, map}
+use Rattle.std.specs.Prelude.{◌≡◌, ℕ, ◌+◌, not, List, map, unwrap_or}
 use Rattle.std.specs.List.{flat_map}
 use Rattle.lx_types.specs.declared.fix.Fix.{Fix}
 use Rattle.lx_types.specs.declared.parts.TheConstants.{MODULE_LIBRARY, MODULE_INIT_EACH, MODULE_TERM_EACH}
@@ -10,7 +10,7 @@ use Rattle.link_model.specs.Order.{is_program}
 use Rattle.link_model.specs.Flags.{flag}
 use Rattle.link_model.specs.Layout.{objects, stack_top}
 use Rattle.link_model.specs.Start.{Start}
-use Rattle.link_model.specs.Header.{module_name, description, auto_data}
+use Rattle.link_model.specs.Header.{auto_data}
 use Rattle.link_model.specs.Patches.{object_bytes}
 use Rattle.link_model.specs.Records.{object_records}
 use Rattle.link_model.specs.ImportTables.{modules_in, procs_in, link_pairs, with_offset}
@@ -56,6 +56,10 @@ fixup_records l = map records_for (page_fixes l)
 
 -- ---- the module
 
+-- The name of NAME or LIBRARY, else the stem. The tables have it in upper case.
+abbrev pub called : Link → List ℕ
+called l = unwrap_or l.def.name l.stem
+
 unfoldable pub image_of : Link → Image
 image_of l = record {
   flags = module_flags l.def;
@@ -66,8 +70,8 @@ image_of l = record {
   objects = object_heads_from 1 (objects l);
   pages = page_forms l;
   records = fixup_records l;
-  residents = resident_table (module_name l) (exported_of l);
-  others = other_table (module_name l) (description l) (exported_of l);
+  residents = resident_table (called l) (exported_of l);
+  others = other_table (called l) l.def.about (exported_of l);
   entries = bundles_for (exported_of l);
   imports = link_modules l;
   procs = link_procs l;

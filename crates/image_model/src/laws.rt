@@ -1,5 +1,6 @@
 //! Laws over the definitions, each the contract of a function that does nothing.
 
+ghost use Rattle.image_model.specs.LinkLaws.{LinksReadBack};
 ghost use Rattle.image_model.specs.ReadBack.{FieldsReadBack, FilesReadBack, SectionsReadBack};
 
 /// The header of a written file has the fields that were written, and its object table, name
@@ -13,4 +14,10 @@ pub fn sections_read_again()
 /// name, flags, start, objects, pages, records, imports, entries, names and references.
 pub fn files_read_again()
     ensures { FilesReadBack }
+{}
+
+/// The file of a link whose image fits has the link's name, flags, start and import modules, and
+/// objects with the layout's sizes, linked bases and flags.
+pub fn links_read_again()
+    ensures { LinksReadBack }
 {}
