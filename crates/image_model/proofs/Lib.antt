@@ -14,3 +14,4 @@ pub mod PagesFaultless
 pub mod RecordsFaultless
 pub mod FilesRead
 pub mod LinksRead
+pub mod LinkTables

@@ -8,5 +8,6 @@ pub mod Exported
 pub mod Linked
 pub mod ReadBack
 pub mod LinkLaws
+pub mod LinkTables
 pub mod World
 pub mod Worked

@@ -1,6 +1,7 @@
 //! Laws over the definitions, each the contract of a function that does nothing.
 
 ghost use Rattle.image_model.specs.LinkLaws.{LinksReadBack};
+ghost use Rattle.image_model.specs.LinkTables.{LinkTablesFit};
 ghost use Rattle.image_model.specs.ReadBack.{FieldsReadBack, FilesReadBack, SectionsReadBack};
 
 /// The header of a written file has the fields that were written, and its object table, name
@@ -20,4 +21,10 @@ pub fn files_read_again()
 /// objects with the layout's sizes, linked bases and flags.
 pub fn links_read_again()
     ensures { LinksReadBack }
+{}
+
+/// In the image of a link each page has its records, the pages of each object are in the page
+/// table, and the module flags are those of a program or a library.
+pub fn link_tables_fit()
+    ensures { LinkTablesFit }
 {}
