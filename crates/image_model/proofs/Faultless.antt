@@ -1,21 +1,22 @@
 -- A written file has no fault in its header, its names, its imports, its entries and its start.
-use Rattle.std.proofs.Common.{◌≡◌, ℕ, zero, suc, ◌+◌, ◌<◌, ◌≤◌, ◌^◌, Bool, true, false, List, [], ◌∷◌, length, map, Option, Some, None, Result, Ok, Err, refl, sym, subst, ap, ◌∙◌, arith}
-use Rattle.std.specs.Prelude.{◌==◌, ◌≢◌, nat_lt, nat_le, if◌then◌else◌, IfSome}
+use Rattle.std.proofs.Common.{◌≡◌, ℕ, zero, suc, ◌+◌, ◌<◌, ◌≤◌, ◌^◌, Bool, true, false, List, [], ◌∷◌, length, map, Option, Some, None, Result, Ok, Err, refl, sym, subst, ap, ◌∙◌, arith, inl, inr}
+use Rattle.std.specs.Prelude.{◌≢◌, nat_lt, nat_le, if◌then◌else◌, IfSome}
 use Rattle.std.specs.List.{range_with_len, AllByRecursion as Each}
+use Rattle.std.proofs.lemmas.Bool.{cases_lt}
 use Rattle.std.proofs.lemmas.Bool.Decides.{nat_tests}
 use Rattle.lx_types.specs.declared.refusal.LxRefusal.{LxRefusal}
 use Rattle.lx_types.specs.declared.refusal.LxKind.TheVariants.{Short, Field}
 use Rattle.lx_types.specs.Sound.{IsNumberOf}
-use Rattle.lx_model.specs.Reading.{fault, number_at, first, ◌then◌, fault_of}
+use Rattle.lx_model.specs.Reading.{fault, number_at, short_at, first, ◌then◌, fault_of}
 use Rattle.lx_model.specs.Header.{Row, row_fault, rows, header_place, field, place_fault, header_fault, object_count, start_fault, is_module_flags, MOST_PAGES, MOST_OBJECTS}
-use Rattle.lx_model.specs.NameTables.{Named, lacks_name, resident_names, other_names, import_names, resident_fault, others_fault, imports_fault}
-use Rattle.lx_model.specs.EntryTable.{Numbered, entries_of, entries_fault}
+use Rattle.lx_model.specs.NameTables.{Named, lacks_name, resident_fault, others_fault, imports_fault}
+use Rattle.lx_model.specs.EntryTable.{entries_fault}
 use Rattle.image_model.specs.Image.{Image}
-use Rattle.image_model.specs.Sections.{sections, HEADER_LEN}
+use Rattle.image_model.specs.Sections.{HEADER_LEN}
 use Rattle.image_model.specs.File.{file_of, header_fields_of, object_field}
-use Rattle.image_model.specs.ReadBack.{ImageFits, SectionsRead}
-use Rattle.image_model.proofs.Fields.{Tables, tables, place_read}
-use Rattle.image_model.proofs.Places.{sections_length, file_long}
+use Rattle.image_model.specs.ReadBack.{ImageFits}
+use Rattle.image_model.proofs.Fields.{tables, place_read}
+use Rattle.image_model.proofs.Places.{file_long}
 use Rattle.image_model.proofs.SectionsRead.{sections_read}
 
 -- ---- tests that are known
@@ -37,6 +38,24 @@ no_more m n le = grind (arith, nat_tests)
 pub none_first : {A B : Type 0} (f : B → Option A) (xs : List B) → Each (λ x. f x ≡ None) xs → first (map f xs) ≡ None
 none_first f [] are = refl
 none_first {A} f (x ∷ xs) are = ap (λ (o : Option A). first (o ∷ map f xs)) are.0 ∙ none_first f xs are.1
+
+pub all_none : {A : Type 0} (f : ℕ → Option A) (a n : ℕ) → ((k : ℕ) → a ≤ k → k < a + n → f k ≡ None) → first (map f (range_with_len a n)) ≡ None
+all_none f a zero none = refl
+all_none {A} f a (suc n) none =
+    ap (λ (o : Option A). first (o ∷ map f (range_with_len (a + 1) n))) (none a (omega arith) (omega arith))
+    ∙ all_none f (a + 1) n (λ k low high. none k (omega (arith, low)) (omega (arith, high)))
+
+-- what holds of each item of a list that is given by numbers holds of what a number gives
+pub each_at : {X : Type 0} (P : X → Type 0) (f : ℕ → X) (a n k : ℕ) → Each P (map f (range_with_len a n)) → a ≤ k → k < a + n → P (f k)
+each_at P f a zero k each low high = absurd (omega (arith, low, high))
+each_at P f a (suc n) k each low high =
+    elim (cases_lt a k) [
+      | inl lt ↦ each_at P f (a + 1) n k each.1 (omega (arith, lt)) (omega (arith, high))
+      | inr ge ↦ let same : a ≡ k = omega (arith, ge, low) in subst (λ (j : ℕ). P (f j)) same each.0
+    ]
+
+pub not_short : (n : ℕ) (file : List ℕ) (at : ℕ) → at + n ≤ length file → short_at n file at ≡ None
+not_short n file at le = otherwise (nat_lt (length file) (at + n)) (Some (fault Short at)) None (not_less (length file) (at + n) le)
 
 pub behind_none : {A : Type 0} (a b : Option A) → a ≡ None → b ≡ None → (a then b) ≡ None
 behind_none {A} a b is that = ap (λ (o : Option A). o then b) is ∙ that

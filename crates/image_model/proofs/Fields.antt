@@ -3,7 +3,7 @@ use Rattle.std.proofs.Common.{◌≡◌, ℕ, ◌+◌, List, refl, ap, ◌∙◌
 use Rattle.std.specs.Prelude.{slice_index}
 use Rattle.lx_model.specs.Header.{header_place, field, table, header_fields, page_count, object_count, import_count}
 use Rattle.image_model.specs.Image.{Image}
-use Rattle.image_model.specs.Sections.{Sections, sections, objects_at, pages_at, residents_at, entries_at, spans_at, records_at, imports_at, procs_at, data_at, others_at}
+use Rattle.image_model.specs.Sections.{sections, objects_at, pages_at, residents_at, entries_at, spans_at, records_at, imports_at, procs_at, data_at, others_at}
 use Rattle.image_model.specs.File.{header_fields_of, file_of, object_field, offset_field}
 use Rattle.image_model.specs.ReadBack.{ImageFits}
 use Rattle.image_model.proofs.HeaderRead.{fields_read}

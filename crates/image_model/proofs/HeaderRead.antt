@@ -1,14 +1,14 @@
 -- The header of a file has the fields that were written.
-use Rattle.std.proofs.Common.{◌≡◌, ℕ, ◌+◌, ◌<◌, ◌≤◌, ◌^◌, List, ◌++◌, length, Option, Some, None, refl, arith}
+use Rattle.std.proofs.Common.{ℕ, ◌<◌, ◌^◌, length, Option, Some, None, refl, arith}
 use Rattle.std.specs.Prelude.{IfSome}
 use Rattle.lx_types.specs.Sound.{IsNumberOf}
 use Rattle.lx_model.specs.TableSpelling.{HeaderFits}
 use Rattle.lx_model.proofs.PlacesRead.{header_again}
 use Rattle.image_model.specs.Image.{Image}
-use Rattle.image_model.specs.Sections.{Sections, sections}
+use Rattle.image_model.specs.Sections.{sections}
 use Rattle.image_model.specs.File.{object_field, offset_field, header_fields_of, sections_bytes, file_of}
 use Rattle.image_model.specs.ReadBack.{PlaceFits, ImageFits, FieldsReadBack}
-use Rattle.image_model.proofs.Places.{sections_length, file_long}
+use Rattle.image_model.proofs.Places.{file_long}
 
 start_fits : (count : ℕ) (start : Option (ℕ × ℕ)) → count < 2 ^ 32 → IfSome start (λ place. IsNumberOf place.0 count × (place.1 < 2 ^ 32)) → (object_field start < 2 ^ 32) × (offset_field start < 2 ^ 32)
 start_fits count None few fits = (omega arith, omega arith)

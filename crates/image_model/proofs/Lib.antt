@@ -9,3 +9,9 @@ pub mod SectionsRead
 pub mod RecordsRead
 pub mod PartsRead
 pub mod Faultless
+pub mod TablesFaultless
+pub mod PagesFaultless
+pub mod RecordsFaultless
+pub mod FilesRead
+pub mod LinksRead
+pub mod LinkTables

@@ -1,6 +1,6 @@
 -- The parts of a written file are those of its image.
-use Rattle.std.proofs.Common.{◌≡◌, ℕ, ◌<◌, ◌^◌, List, [], length, filter, Option, Some, None, Result, refl, sym, ap, ◌∙◌, arith}
-use Rattle.std.specs.Prelude.{◌==◌, ◌++◌, IfSome, Bool, false, if◌then◌else◌}
+use Rattle.std.proofs.Common.{◌≡◌, ℕ, ◌<◌, ◌^◌, List, [], length, filter, Option, Some, None, Result, refl, ap, ◌∙◌, arith}
+use Rattle.std.specs.Prelude.{◌==◌, ◌++◌, IfSome, Bool, if◌then◌else◌}
 use Rattle.lx_types.specs.declared.fix.FixTarget.{FixTarget}
 use Rattle.lx_types.specs.declared.object.ObjHead.{ObjHead}
 use Rattle.lx_types.specs.declared.object.PageHead.{PageHead}
@@ -8,15 +8,15 @@ use Rattle.lx_types.specs.declared.parts.Parts.{Parts}
 use Rattle.lx_types.specs.declared.refusal.LxRefusal.{LxRefusal}
 use Rattle.lx_types.specs.Sound.{IsNumberOf}
 use Rattle.lx_model.specs.Reading.{value_or}
-use Rattle.lx_model.specs.Header.{field, table, start_of}
+use Rattle.lx_model.specs.Header.{field, start_of}
 use Rattle.lx_model.specs.EntryTable.{Numbered}
 use Rattle.lx_model.specs.Module.{once, is_reference, refs_of, parts_of}
-use Rattle.lx_model.specs.NameTables.{Named, first_name, names_after_first, name_of, resident_names, other_names}
+use Rattle.lx_model.specs.NameTables.{Named, first_name, names_after_first, other_names}
 use Rattle.lx_model.proofs.NamesRead.{not_zero}
 use Rattle.image_model.specs.Image.{Image}
 use Rattle.image_model.specs.File.{file_of, object_field, offset_field}
-use Rattle.image_model.specs.ReadBack.{ImageFits, SectionsRead, parts_of_image, PartsReadBack, targets_of}
-use Rattle.image_model.proofs.Fields.{Tables, tables}
+use Rattle.image_model.specs.ReadBack.{ImageFits, parts_of_image}
+use Rattle.image_model.proofs.Fields.{tables}
 use Rattle.image_model.proofs.RecordsRead.{targets_read}
 use Rattle.image_model.proofs.SectionsRead.{sections_read}
 
@@ -57,7 +57,7 @@ same : {file name name' : List ℕ} {flags flags' : ℕ} {start start' : Option 
     → parts file name flags start objects pages spans imports procs_at entries names refs ≡ parts file name' flags' start' objects' pages' spans' imports' procs_at' entries' names' refs'
 same a b c d e f g h i j k = cc
 
-pub parts_read : PartsReadBack
+pub parts_read : (m : Image) → ImageFits m → parts_of (file_of m) ≡ parts_of_image m
 unfolding parts_of parts_of_image refs_of
 parts_read m fits =
     let t = tables m fits in

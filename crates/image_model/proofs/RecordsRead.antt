@@ -1,5 +1,5 @@
 -- The fixup records of a file's pages are read as those of its image.
-use Rattle.std.proofs.Common.{◌≡◌, ℕ, ◌+◌, ◌-◌, ◌<◌, List, [], ◌∷◌, ◌++◌, length, map, take, drop, refl, sym, subst, ap, ◌∙◌, append_assoc, arith}
+use Rattle.std.proofs.Common.{◌≡◌, ℕ, ◌+◌, ◌-◌, List, [], ◌∷◌, ◌++◌, length, map, take, drop, refl, sym, subst, ap, ◌∙◌, append_assoc, arith}
 use Rattle.std.specs.List.{flat_map, range_with_len, AllByRecursion as Each}
 use Rattle.std.proofs.lemmas.List.{take_at}
 use Rattle.lx_types.specs.declared.fix.Fix.{Fix}
@@ -10,7 +10,7 @@ use Rattle.lx_model.specs.Header.{page_count}
 use Rattle.lx_model.specs.FixupPages.{records_span, spans_of}
 use Rattle.lx_model.specs.Module.{targets_of}
 use Rattle.lx_model.specs.Records.{Record, records_at, fixes_of}
-use Rattle.lx_model.specs.RecordSpelling.{Written, record_spelling, fixes_written, RecordFits}
+use Rattle.lx_model.specs.RecordSpelling.{Written, fixes_written, RecordFits}
 use Rattle.lx_model.proofs.PagesRead.{Means, records_mean}
 use Rattle.image_model.specs.Image.{Image}
 use Rattle.image_model.specs.PageTables.{page_records}
@@ -18,7 +18,7 @@ use Rattle.image_model.specs.Sections.{sections, records_at as records_place}
 use Rattle.image_model.specs.File.{file_of}
 use Rattle.image_model.specs.ReadBack.{spans_from, ImageFits, targets_of as targets_written}
 use Rattle.image_model.proofs.SpansRead.{spans_read}
-use Rattle.image_model.proofs.Standing.{HasFrom, Standing, standing, behind, dropped, from_imports}
+use Rattle.image_model.proofs.Standing.{HasFrom, standing, behind, dropped, from_imports}
 
 -- The records that stand in a span of the file.
 abbrev pub records_in_span : List ℕ → ℕ × ℕ → Many Record
@@ -33,7 +33,7 @@ spanned file at some rest has =
     ∙ take_at some rest (length some) refl
 
 -- The records of a page, where they stand.
-page_means : (file : List ℕ) (at : ℕ) (page : List Written) (rest : List ℕ) → HasFrom file at (page_records page ++ rest) → Each RecordFits page → Means (records_in_span file (at, at + length (page_records page))) (flat_map fixes_written page)
+pub page_means : (file : List ℕ) (at : ℕ) (page : List Written) (rest : List ℕ) → HasFrom file at (page_records page ++ rest) → Each RecordFits page → Means (records_in_span file (at, at + length (page_records page))) (flat_map fixes_written page)
 page_means file at page rest has fits = subst (λ (bytes : List ℕ). Means (records_at at bytes) (flat_map fixes_written page)) (sym (spanned file at (page_records page) rest has)) (records_mean page at fits)
 
 abbrev targets_of_records : Many Record → List FixTarget
@@ -42,7 +42,7 @@ targets_of_records records = map (λ f. f.target) (fixes_of records)
 abbrev targets_of_page : List Written → List FixTarget
 targets_of_page page = map (λ f. f.target) (flat_map fixes_written page)
 
-regrouped : (file : List ℕ) (at : ℕ) (a b rest : List ℕ) → HasFrom file at ((a ++ b) ++ rest) → HasFrom file at (a ++ (b ++ rest))
+pub regrouped : (file : List ℕ) (at : ℕ) (a b rest : List ℕ) → HasFrom file at ((a ++ b) ++ rest) → HasFrom file at (a ++ (b ++ rest))
 regrouped file at a b rest has = subst (λ (ys : List ℕ). HasFrom file at ys) (append_assoc a b rest) has
 
 pages_mean : (file : List ℕ) (pages : List (List Written)) (at : ℕ) (rest : List ℕ) → HasFrom file at (flat_map page_records pages ++ rest) → Each (Each RecordFits) pages

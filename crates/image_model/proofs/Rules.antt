@@ -21,7 +21,7 @@ use Rattle.link_model.specs.Header.{module_name, description, auto_data}
 use Rattle.image_model.specs.Sections.{sections}
 use Rattle.image_model.specs.File.{header_fields_of, file_of}
 use Rattle.image_model.specs.PageForms.{form_of_page}
-use Rattle.image_model.specs.Exported.{residents, others, entries}
+use Rattle.image_model.specs.Exported.{exported_of}
 use Rattle.image_model.specs.Linked.{page_forms, page_fixes, fixup_records, image_of}
 use Rattle.lx_model.specs.JoinedEntries.{bundles_for}
 use Rattle.lx_model.specs.JoinedRecords.{records_for}
@@ -42,7 +42,7 @@ use Rattle.image_model.specs.ReadBack.{parts_of_image}
 use Rattle.image_model.specs.World.{world_of}
 
 unfoldable pub rules : Unit {0}
-unfolding definition_of imports commons global Sym sym_refusal parts ordered rows objects spot common_spot stack_top lay_refusal target_of fixups fix_refusal value_bytes Value live_fixups data_at Mean Out entry_refusal Start start_outside place_refusal link_refusal recorded page_byte object_bytes used_pairs link_pairs page_records object_records module_name description auto_data sections header_fields_of file_of form_of_page page_forms page_fixes fixup_records image_of residents others entries bundles_for records_for
+unfolding definition_of imports commons global Sym sym_refusal parts ordered rows objects spot common_spot stack_top lay_refusal target_of fixups fix_refusal value_bytes Value live_fixups data_at Mean Out entry_refusal Start start_outside place_refusal link_refusal recorded page_byte object_bytes used_pairs link_pairs page_records object_records module_name description auto_data sections header_fields_of file_of form_of_page page_forms page_fixes fixup_records image_of exported_of bundles_for records_for
 rules = tt
 
 unfoldable pub reading : Unit {0}

@@ -1,14 +1,13 @@
 -- The tables of a file are read as those of its image.
-use Rattle.std.proofs.Common.{◌≡◌, ℕ, zero, suc, ◌+◌, ◌*◌, ◌<◌, false, true, List, [], ◌∷◌, ◌++◌, length, map, take, drop, Ok, Result, refl, sym, ap, subst, ◌∙◌, append-nil, length-append, arith}
+use Rattle.std.proofs.Common.{◌≡◌, ℕ, ◌+◌, ◌*◌, ◌<◌, false, List, [], ◌∷◌, length, map, take, drop, Ok, Result, refl, sym, ap, ◌∙◌, append-nil, length-append, arith}
 use Rattle.std.specs.Prelude.{◌==◌, if◌then◌else◌, Bool}
 use Rattle.std.specs.List.{flat_map, range_with_len}
 use Rattle.std.proofs.lemmas.List.{take_at}
-use Rattle.lx_types.specs.declared.object.ObjHead.{ObjHead}
 use Rattle.lx_types.specs.declared.refusal.LxRefusal.{LxRefusal}
 use Rattle.lx_model.specs.Reading.{placed}
-use Rattle.lx_model.specs.Header.{field, table, object_count, import_count}
+use Rattle.lx_model.specs.Header.{field, object_count, import_count}
 use Rattle.lx_model.specs.Tables.{object_entry, objects_of}
-use Rattle.lx_model.specs.NameTables.{Named, names_in, names_spelling, name_spelling, resident_names, other_names, imports_in, import_names}
+use Rattle.lx_model.specs.NameTables.{Named, names_in, name_spelling, resident_names, other_names, imports_in, import_names}
 use Rattle.lx_model.specs.EntryTable.{Numbered, entries_in, entries_of}
 use Rattle.lx_model.specs.Bundles.{entries_after}
 use Rattle.lx_model.proofs.NamesRead.{not_zero, table_reads}
@@ -18,11 +17,11 @@ use Rattle.lx_model.proofs.PlacesRead.{objects_again}
 use Rattle.image_model.specs.Image.{Image}
 use Rattle.image_model.specs.Sections.{sections, objects_at, residents_at, entries_at, imports_at, others_at}
 use Rattle.image_model.specs.File.{file_of}
-use Rattle.image_model.specs.ReadBack.{ImageFits, SectionsRead, SectionsReadBack}
-use Rattle.image_model.proofs.Fields.{Tables, tables}
+use Rattle.image_model.specs.ReadBack.{ImageFits, SectionsReadBack}
+use Rattle.image_model.proofs.Fields.{tables}
 use Rattle.image_model.proofs.PagesRead.{pages_read}
 use Rattle.image_model.proofs.SpansRead.{spans_read}
-use Rattle.image_model.proofs.Standing.{HasFrom, Standing, standing, dropped, from_pages, from_entries, from_spans, from_procs}
+use Rattle.image_model.proofs.Standing.{standing, dropped, from_pages, from_entries, from_spans, from_procs}
 
 -- ---- names
 

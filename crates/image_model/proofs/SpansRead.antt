@@ -1,7 +1,7 @@
 -- The fixup page table of a file leads to the records of each page.
-use Rattle.std.proofs.Common.{◌≡◌, ℕ, zero, suc, ◌+◌, ◌*◌, ◌^◌, ◌<◌, ◌≤◌, Bool, true, List, [], ◌∷◌, ◌++◌, length, map, refl, sym, ap, ◌∙◌, length-append, arith}
+use Rattle.std.proofs.Common.{◌≡◌, ℕ, suc, ◌+◌, ◌*◌, ◌^◌, ◌<◌, Bool, true, List, [], ◌∷◌, ◌++◌, length, map, refl, sym, ap, ◌∙◌, length-append, arith}
 use Rattle.std.specs.Prelude.{nat_lt, if◌then◌else◌}
-use Rattle.std.specs.List.{flat_map, range_with_len, AllByRecursion as Each}
+use Rattle.std.specs.List.{flat_map, range_with_len}
 use Rattle.std.proofs.lemmas.Bool.Decides.{nat_tests}
 use Rattle.lx_model.specs.Reading.{number_at}
 use Rattle.lx_model.specs.Header.{field, table, page_count}
@@ -14,9 +14,9 @@ use Rattle.image_model.specs.PageTables.{page_records, record_offsets_from}
 use Rattle.image_model.specs.Sections.{sections, spans_at, records_at}
 use Rattle.image_model.specs.File.{file_of}
 use Rattle.image_model.specs.ReadBack.{spans_from, ImageFits}
-use Rattle.image_model.proofs.Fields.{Tables, tables}
-use Rattle.image_model.proofs.Places.{sections_length, file_long}
-use Rattle.image_model.proofs.Standing.{HasFrom, Standing, standing, from_records}
+use Rattle.image_model.proofs.Fields.{tables}
+use Rattle.image_model.proofs.Places.{file_long}
+use Rattle.image_model.proofs.Standing.{standing, from_records}
 
 -- ---- the offsets fit
 
@@ -26,21 +26,21 @@ offsets_fit (page ∷ pages) at short =
     let long = length-append (page_records page) (flat_map page_records pages) in
     (omega (arith, short), offsets_fit pages (at + length (page_records page)) (omega (arith, short, long)))
 
-offsets_long : (pages : List (List Written)) (at : ℕ) → length (record_offsets_from at pages) ≡ suc (length pages)
+pub offsets_long : (pages : List (List Written)) (at : ℕ) → length (record_offsets_from at pages) ≡ suc (length pages)
 offsets_long [] at = refl
 offsets_long (page ∷ pages) at = ap suc (offsets_long pages (at + length (page_records page)))
 
 -- ---- from offsets to spans
 
-head_of : List ℕ → ℕ
+unfoldable pub head_of : List ℕ → ℕ
 head_of [] = 0
 head_of (x ∷ xs) = x
 
-tail_of : List ℕ → List ℕ
+unfoldable pub tail_of : List ℕ → List ℕ
 tail_of [] = []
 tail_of (x ∷ xs) = xs
 
-first_offset : (pages : List (List Written)) (at : ℕ) → head_of (record_offsets_from at pages) ≡ at
+pub first_offset : (pages : List (List Written)) (at : ℕ) → head_of (record_offsets_from at pages) ≡ at
 unfolding head_of
 first_offset [] at = refl
 first_offset (page ∷ pages) at = refl
@@ -70,7 +70,7 @@ records_short m fits = omega (arith, fits.short, file_long m)
 yes : (n : ℕ) → 0 < n → nat_lt 0 n ≡ true
 yes n lt = grind (arith, nat_tests)
 
-has_some : (m : Image) → ImageFits m → has_records (file_of m) ≡ true
+pub has_some : (m : Image) → ImageFits m → has_records (file_of m) ≡ true
 has_some m fits = yes (field (file_of m) 0x68) (omega (arith, (tables m fits).span_offset))
 
 then_this : {A : Type 0} (b : Bool) (x y : A) → b ≡ true → (if b then x else y) ≡ x
@@ -85,7 +85,7 @@ each_span file is (k ∷ ks) =
 abbrev spans_with : List ℕ → ℕ → ℕ → List ℕ → List (ℕ × ℕ)
 spans_with file at from ks = map (λ k. (from + number_at 4 file (at + 4 * k), from + number_at 4 file (at + 4 * (k + 1)))) ks
 
-offsets_read : (m : Image) → ImageFits m → map (λ k. number_at 4 (file_of m) (spans_at (sections m) + 4 * k)) (range_with_len 0 (suc (length m.records))) ≡ record_offsets_from 0 m.records
+pub offsets_read : (m : Image) → ImageFits m → map (λ k. number_at 4 (file_of m) (spans_at (sections m) + 4 * k)) (range_with_len 0 (suc (length m.records))) ≡ record_offsets_from 0 m.records
 unfolding sections
 offsets_read m fits =
     let s = sections m in

@@ -1,9 +1,9 @@
 -- Where the sections of a file stand.
-use Rattle.std.proofs.Common.{◌≡◌, ℕ, ◌+◌, List, ◌++◌, length, drop, refl, sym, ap, subst, ◌∙◌, append_assoc, length-append}
+use Rattle.std.proofs.Common.{◌≡◌, ℕ, ◌+◌, List, ◌++◌, length, drop, refl, sym, ap, ◌∙◌, append_assoc, length-append}
 use Rattle.std.proofs.lemmas.List.{drop_at}
 use Rattle.image_model.specs.Image.{Image}
-use Rattle.image_model.specs.Sections.{Sections, sections, HEADER_LEN, objects_at, pages_at, residents_at, entries_at, spans_at, records_at, imports_at, procs_at, data_at, others_at}
-use Rattle.image_model.specs.File.{header_fields_of, sections_bytes, file_of}
+use Rattle.image_model.specs.Sections.{Sections, sections, objects_at, pages_at, residents_at, entries_at, spans_at, records_at, imports_at, procs_at, data_at, others_at}
+use Rattle.image_model.specs.File.{header_fields_of, file_of}
 use Rattle.lx_model.specs.TableSpelling.{header_spelling}
 
 -- From a place on, the file has these bytes.

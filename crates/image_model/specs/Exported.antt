@@ -1,6 +1,6 @@
--- The names and the entries of a linked module.
--- LX: "Resident or Non-resident Name Table Entry", "Entry Table".
-use Rattle.std.specs.Prelude.{not, List, ◌∷◌, map, filter, Option, Some, None}
+-- The exports of a linked module as its tables tell them.
+-- LX: "Entry Table".
+use Rattle.std.specs.Prelude.{List, Option, Some, None}
 use Rattle.std.specs.List.{filter_map}
 use Rattle.std.specs.Option.{option_map, option_and_then}
 use Rattle.lx_types.specs.declared.entry.EntryHead.{EntryHead}
@@ -10,26 +10,8 @@ use Rattle.lx_types.specs.declared.fix.FixTarget.{FixTarget}
 use Rattle.lx_types.specs.declared.fix.FixTarget.TheVariants.{Internal, Ordinal, Named, Own}
 use Rattle.link_model.specs.Link.{Link}
 use Rattle.link_model.specs.Exports.{Export, ExportTarget, At, Forward, Out}
-use Rattle.link_model.specs.Header.{module_name, description}
 use Rattle.link_model.specs.ImportTables.{link_pairs, procs_in, import_target, with_offset}
-use Rattle.lx_model.specs.Bundles.{Bundle}
-use Rattle.lx_model.specs.JoinedEntries.{Exported, bundles_for}
-use Rattle.lx_model.specs.NameTables.{Named as NamedOrdinal}
-
--- ---- names
-
-abbrev pub named : Export → NamedOrdinal
-named x = (x.name, x.ordinal)
-
--- The module's name, and the exports whose names are resident, in order.
-unfoldable pub residents : Link → List NamedOrdinal
-residents l = (module_name l, 0) ∷ map named (filter (λ x. x.resident) (Out l))
-
--- The description, and the other exports, in order.
-unfoldable pub others : Link → List NamedOrdinal
-others l = (description l, 0) ∷ map named (filter (λ x. not x.resident) (Out l))
-
--- ---- entries
+use Rattle.lx_model.specs.ExportTables.{Exported}
 
 -- A forwarder names its entry point as a fixup would.
 abbrev pub forwarder_to : FixTarget → Option EntryHead
@@ -44,7 +26,9 @@ head_of l (Forward pair) =
     option_and_then (λ target. forwarder_to (with_offset (procs_in (link_pairs l)) target)) (import_target (link_pairs l) pair)
 
 abbrev pub exported : Link → Export → Option Exported
-exported l x = option_map (λ head. record { ordinal = x.ordinal; head = head; words = x.words; long = x.wide }) (head_of l x.target)
+exported l x =
+    option_map (λ head. record { name = x.name; ordinal = x.ordinal; resident = x.resident; words = x.words; head = head; wide = x.wide }) (head_of l x.target)
 
-unfoldable pub entries : Link → List Bundle
-entries l = bundles_for (filter_map (exported l) (Out l))
+-- The exports, each with what its entry says.
+unfoldable pub exported_of : Link → List Exported
+exported_of l = filter_map (exported l) (Out l)

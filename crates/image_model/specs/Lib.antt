@@ -7,5 +7,7 @@ pub mod PageForms
 pub mod Exported
 pub mod Linked
 pub mod ReadBack
+pub mod LinkLaws
+pub mod LinkTables
 pub mod World
 pub mod Worked

@@ -1,5 +1,5 @@
 -- The module that is written of a link.
-use Rattle.std.specs.Prelude.{◌≡◌, ℕ, ◌+◌, not, List, map}
+use Rattle.std.specs.Prelude.{◌≡◌, ℕ, ◌+◌, not, List, map, unwrap_or}
 use Rattle.std.specs.List.{flat_map}
 use Rattle.lx_types.specs.declared.fix.Fix.{Fix}
 use Rattle.lx_types.specs.declared.parts.TheConstants.{MODULE_LIBRARY, MODULE_INIT_EACH, MODULE_TERM_EACH}
@@ -14,12 +14,14 @@ use Rattle.link_model.specs.Header.{auto_data}
 use Rattle.link_model.specs.Patches.{object_bytes}
 use Rattle.link_model.specs.Records.{object_records}
 use Rattle.link_model.specs.ImportTables.{modules_in, procs_in, link_pairs, with_offset}
+use Rattle.lx_model.specs.ExportTables.{resident_table, other_table}
+use Rattle.lx_model.specs.JoinedEntries.{bundles_for}
 use Rattle.lx_model.specs.JoinedRecords.{records_for}
 use Rattle.lx_model.specs.RecordSpelling.{Written}
 use Rattle.image_model.specs.Image.{Image, PageForm}
 use Rattle.image_model.specs.PageForms.{pages_in, form_of_page}
 use Rattle.image_model.specs.ObjectTable.{object_heads_from}
-use Rattle.image_model.specs.Exported.{residents, others, entries}
+use Rattle.image_model.specs.Exported.{exported_of}
 use Rattle.image_model.specs.File.{file_of}
 
 -- "LX Header", module flags: a library; its initialisation and its termination for each process.
@@ -54,6 +56,10 @@ fixup_records l = map records_for (page_fixes l)
 
 -- ---- the module
 
+-- The name of NAME or LIBRARY, else the stem. The tables have it in upper case.
+abbrev pub called : Link → List ℕ
+called l = unwrap_or l.def.name l.stem
+
 unfoldable pub image_of : Link → Image
 image_of l = record {
   flags = module_flags l.def;
@@ -64,9 +70,9 @@ image_of l = record {
   objects = object_heads_from 1 (objects l);
   pages = page_forms l;
   records = fixup_records l;
-  residents = residents l;
-  others = others l;
-  entries = entries l;
+  residents = resident_table (called l) (exported_of l);
+  others = other_table (called l) l.def.about (exported_of l);
+  entries = bundles_for (exported_of l);
   imports = link_modules l;
   procs = link_procs l;
 }

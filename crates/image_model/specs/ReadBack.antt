@@ -1,9 +1,8 @@
 -- What a written file is read as: the parts of its image.
-use Rattle.std.specs.Prelude.{◌≡◌, ◌≢◌, ℕ, ◌+◌, ◌<◌, ◌≤◌, ◌^◌, true, All, IfSome, List, [], ◌∷◌, ◌++◌, length, map, filter, Ok}
+use Rattle.std.specs.Prelude.{◌≡◌, ◌≢◌, ℕ, ◌+◌, ◌<◌, ◌≤◌, ◌^◌, true, IfSome, List, [], ◌∷◌, ◌++◌, length, map, filter, Ok}
 use Rattle.std.specs.List.{flat_map, AllByRecursion}
 use Rattle.lx_types.specs.declared.fix.FixTarget.{FixTarget}
 use Rattle.lx_types.specs.declared.object.PageHead.{PageHead}
-use Rattle.lx_types.specs.declared.object.PageKind.{PageKind}
 use Rattle.lx_types.specs.declared.object.PageKind.TheVariants.{Plain, Iterated, Invalid, Zero}
 use Rattle.lx_types.specs.declared.object.TheConstants.{PAGE_SIZE}
 use Rattle.lx_types.specs.declared.parts.Parts.{Parts}
@@ -13,7 +12,7 @@ use Rattle.lx_model.specs.EntryTable.{LAST_ORDINAL, entries_of}
 use Rattle.lx_model.specs.FixupPages.{spans_of}
 use Rattle.lx_model.specs.Header.{MOST_OBJECTS, MOST_PAGES, is_module_flags, header_fields}
 use Rattle.lx_model.specs.Iterated.{groups_spelling, groups_data, GroupFits}
-use Rattle.lx_model.specs.Module.{once, is_reference, is_target, parts_of, Targets}
+use Rattle.lx_model.specs.Module.{once, is_reference, is_target, Lx, Targets}
 use Rattle.lx_model.specs.NameTables.{first_name, names_after_first, NameFits, ImportFits, resident_names, other_names, import_names}
 use Rattle.lx_model.specs.RecordSpelling.{Written, fixes_written, RecordFits}
 use Rattle.lx_model.specs.TableSpelling.{ObjectHeadFits}
@@ -96,13 +95,13 @@ pub record ImageFits (m : Image) : Type 0 where
   -- objects, and the pages of each
   pub few_objects : length m.objects ≤ MOST_OBJECTS
   pub objects : AllByRecursion ObjectHeadFits m.objects
-  pub own_pages : All (HasPages (length m.pages)) m.objects
+  pub own_pages : AllByRecursion (HasPages (length m.pages)) m.objects
   pub few_pages : length m.pages ≤ MOST_PAGES
   pub pages : AllByRecursion FormFits m.pages
   -- records of each page, and what they name
   pub each : length m.records ≡ length m.pages
   pub records : AllByRecursion (AllByRecursion RecordFits) m.records
-  pub targets : All (λ target. is_target (targets_there m) target ≡ true) (targets_of m)
+  pub targets : AllByRecursion (λ target. is_target (targets_there m) target ≡ true) (targets_of m)
   -- names, the module's first, and entries
   pub named : m.residents ≢ []
   pub residents : AllByRecursion NameFits m.residents
@@ -132,6 +131,6 @@ pub record SectionsRead (m : Image) : Type 0 where
 abbrev pub SectionsReadBack : Type 0
 SectionsReadBack = (m : Image) → ImageFits m → SectionsRead m
 
--- The parts of the file are those of its image.
-abbrev pub PartsReadBack : Type 0
-PartsReadBack = (m : Image) → ImageFits m → parts_of (file_of m) ≡ parts_of_image m
+-- The file of an image has no fault, and the parts that it lists are those of the image.
+abbrev pub FilesReadBack : Type 0
+FilesReadBack = (m : Image) → ImageFits m → Lx (file_of m) (parts_of_image m)

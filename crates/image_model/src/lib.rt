@@ -4,4 +4,4 @@
 mod laws;
 mod worked;
 
-pub use laws::{parts_read_again, sections_read_again};
+pub use laws::{files_read_again, link_tables_fit, links_read_again, sections_read_again};

@@ -6,7 +6,6 @@ pub mod Tables
 pub mod NameTables
 pub mod EntryTable
 pub mod Bundles
-pub mod JoinedEntries
 pub mod Sources
 pub mod RecordFields
 pub mod Records
@@ -18,6 +17,7 @@ pub mod Laws
 pub mod TableSpelling
 pub mod ExportTables
 pub mod ExportLaws
+pub mod JoinedEntries
 pub mod TableLaws
 pub mod Faults
 pub mod FaultLaws

@@ -1,5 +1,5 @@
 -- Worked choices: the form of a page, the records of its fixups, and the bundles of entries.
-use Rattle.std.specs.Prelude.{◌≡◌, ℕ, ℤ, pos, negsuc, Bool, false, true, List, [], ◌∷◌, ◌++◌, replicate}
+use Rattle.std.specs.Prelude.{◌≡◌, ℕ, ℤ, pos, negsuc, Bool, false, true, List, [], ◌∷◌, ◌++◌, replicate, codes}
 use Rattle.std.specs.List.{repeat, flat_map}
 use Rattle.lx_types.specs.declared.entry.EntryHead.{EntryHead}
 use Rattle.lx_types.specs.declared.entry.EntryHead.TheVariants.{At, Forward}
@@ -12,9 +12,10 @@ use Rattle.lx_types.specs.declared.fix.FixTarget.{FixTarget}
 use Rattle.lx_types.specs.declared.fix.FixTarget.TheVariants.{Internal, Ordinal, Named}
 use Rattle.lx_model.specs.Bundles.{table_spelling}
 use Rattle.lx_model.specs.RecordSpelling.{record_spelling}
-use Rattle.lx_model.specs.JoinedEntries.{Exported, bundles_for}
+use Rattle.lx_model.specs.JoinedEntries.{bundles_for}
+use Rattle.lx_model.specs.ExportTables.{Exported}
 use Rattle.lx_model.specs.JoinedRecords.{begins, records_for}
-use Rattle.image_model.specs.Image.{PageForm, plain, iterated, zeros}
+use Rattle.image_model.specs.Image.{plain, iterated, zeros}
 use Rattle.image_model.specs.PageForms.{form_of_page}
 
 -- ---- page forms
@@ -65,7 +66,7 @@ pub record WorkedRecords : Type 0 where
 -- ---- entries
 
 abbrev entry : ℕ → EntryHead → Bool → Exported
-entry ordinal head long = record { ordinal = ordinal; head = head; words = 0; long = long }
+entry ordinal head wide = record { name = codes "F"; ordinal = ordinal; resident = true; words = 0; head = head; wide = wide }
 
 pub record WorkedBundles : Type 0 where
   pub none : table_spelling (bundles_for []) ≡ 0 ∷ []

@@ -9,7 +9,6 @@ use Rattle.lx_model.specs.ModuleBytes.{FixedByte}
 use Rattle.lx_model.specs.Worked.Library.{owner}
 use Rattle.link_model.specs.Link.{Link}
 use Rattle.link_model.specs.Mean.{Mean}
-use Rattle.image_model.specs.Image.{Image}
 use Rattle.image_model.specs.File.{file_of}
 use Rattle.image_model.specs.Linked.{image_of}
 use Rattle.image_model.specs.ReadBack.{parts_of_image}

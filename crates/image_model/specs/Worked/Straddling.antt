@@ -1,5 +1,5 @@
 -- A worked library whose one reference, to an entry point of another module, begins two bytes before a page's end.
-use Rattle.std.specs.Prelude.{◌≡◌, ℕ, List, [], ◌∷◌, ◌++◌, None, Some, true, false, codes, replicate}
+use Rattle.std.specs.Prelude.{◌≡◌, ℕ, List, [], ◌∷◌, ◌++◌, None, true, false, codes}
 use Rattle.std.specs.List.{flat_map}
 use Rattle.lx_bytes.specs.LittleEndian.{little_bytes}
 use Rattle.lx_types.specs.declared.entry.EntryKey.TheVariants as keys
