@@ -12,8 +12,11 @@ mod numbers;
 mod reading;
 mod refusal;
 mod segments;
+mod spelled;
 mod statements;
+mod writing;
 
-pub use laws::{file_is_one, worked_files};
+pub use laws::{file_is_one, worked_files, worked_texts};
 pub use reading::read_def;
 pub use refusal::{DefKind, DefRefusal};
+pub use writing::write_def;
