@@ -9,3 +9,4 @@ pub mod ReadImports
 pub mod FileLaws
 pub mod ReadBack
 pub mod WritingLaws
+pub mod QuotableLaws

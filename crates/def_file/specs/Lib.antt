@@ -13,3 +13,4 @@ pub mod Examples
 pub mod Names
 pub mod Writing
 pub mod Stated
+pub mod Quotable

@@ -1,6 +1,6 @@
 //! A definition file, written.
 
-ghost use Rattle.std.specs.Prelude.{◌≡◌, ◌∷◌, ◌++◌, ◌<◌, ◌^◌, [], map, IfOk, IfSome};
+ghost use Rattle.std.specs.Prelude.{true, ◌≡◌, ◌∷◌, ◌++◌, ◌<◌, ◌^◌, [], map, IfOk, IfSome};
 ghost use Rattle.std.specs.List.{All};
 ghost use Rattle.lx_types.specs.Names.{IsName};
 ghost use Rattle.obj_types.specs.Definition.{WholeDef};
@@ -8,9 +8,9 @@ ghost use Rattle.obj_types.specs.declared.definition.SegAttrs.{SegAttrs};
 ghost use Rattle.obj_types.specs.declared.symbol.Exp.{Exp};
 ghost use Rattle.obj_types.specs.declared.symbol.Imp.{Imp};
 ghost use Rattle.def_tokens.specs.Lexemes.{lexeme_of, number, text};
-ghost use Rattle.def_tokens.specs.Spelling.{IsQuotable};
 ghost use Rattle.def_tokens.specs.declared.keyword.Keyword.TheVariants as kw;
 ghost use Rattle.def_file.specs.Names.{SegmentNames, ExportNames, ImportNames, EachName};
+ghost use Rattle.def_file.specs.Quotable.{file_fits};
 ghost use Rattle.def_file.specs.Reading.{Def};
 ghost use Rattle.def_file.specs.Stated.{Stated};
 ghost use Rattle.def_file.specs.Writing.{attribute_tokens, segment_tokens, export_tokens, import_tokens, statement_text, base_text, item_text, items_text, kind_text, text_of};
@@ -139,8 +139,8 @@ fn written(alloc: Global, d: &DefFile) -> Result<Vec<u8>, NoMemory>
 /// again, if statements can give `d` at all.
 pub fn write_def(alloc: Global, d: &DefFile) -> Result<Bytes, NoMemory>
     requires whole { WholeDef d.now }
-    // No name or text has a single quote, CR or LF.
-    requires quotable { EachName IsQuotable d.now }
+    // No name or text has a single quote, CR or LF: `is_quotable` tells.
+    requires quotable { file_fits d.now ≡ true }
     ensures text { IfOk result (λ bytes. bytes ≡ text_of d.now) }
     ensures read_back { IfOk result (λ bytes. Stated d.now → Def bytes d.now) }
 {
