@@ -1,3 +1,12 @@
 pub mod RunLaws
 pub mod WholeLaws
 pub mod Compute
+pub mod SaysLaws
+pub mod ReadHead
+pub mod ReadSegments
+pub mod ReadExports
+pub mod ReadImports
+pub mod FileLaws
+pub mod ReadBack
+pub mod WritingLaws
+pub mod QuotableLaws

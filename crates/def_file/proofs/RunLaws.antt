@@ -1,6 +1,7 @@
 -- One more token of a file.
 use Rattle.std.proofs.Common.{◌≡◌, List, [], Ok, Err, Bool, true, false, cond, refl, ap, ◌∙◌}
-use Rattle.def_tokens.specs.Tokens.{Placed, before, is_ending}
+use Rattle.def_tokens.specs.Lexemes.{is_ending}
+use Rattle.def_tokens.specs.Tokens.{Placed, before}
 use Rattle.def_file.specs.declared.refusal.DefKind.{DefKind}
 use Rattle.def_file.specs.declared.draft.Reading.{Reading}
 use Rattle.def_file.specs.Answer.{◌>>=◌}

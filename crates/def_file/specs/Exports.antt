@@ -3,7 +3,7 @@ use Rattle.std.specs.Prelude.{ℕ, List, [], ◌∷◌, ◌++◌, true, false, O
 use Rattle.obj_types.specs.declared.symbol.Exp.{Exp}
 use Rattle.def_tokens.specs.declared.keyword.Keyword.{Keyword}
 use Rattle.def_tokens.specs.declared.keyword.Keyword.TheVariants as kw
-use Rattle.def_tokens.specs.Tokens.{Lexeme, keyword_of_lexeme, is_equals, is_at}
+use Rattle.def_tokens.specs.Lexemes.{Lexeme, keyword_of_lexeme, is_equals, is_at}
 use Rattle.def_file.specs.declared.refusal.DefKind.{DefKind}
 use Rattle.def_file.specs.declared.refusal.DefKind.TheVariants as kinds
 use Rattle.def_file.specs.declared.draft.Draft.{Draft}

@@ -3,7 +3,7 @@ use Rattle.std.specs.Prelude.{ℕ, List, [], ◌∷◌, ◌++◌, Option, Some, 
 use Rattle.std.specs.Option.{option_map_or}
 use Rattle.lx_types.specs.declared.entry.EntryKey.TheVariants.{Ordinal, Named}
 use Rattle.obj_types.specs.declared.symbol.Imp.{Imp}
-use Rattle.def_tokens.specs.Tokens.{Lexeme, is_equals, is_dot, name_of_lexeme}
+use Rattle.def_tokens.specs.Lexemes.{Lexeme, is_equals, is_dot, name_of_lexeme}
 use Rattle.def_file.specs.declared.refusal.DefKind.{DefKind}
 use Rattle.def_file.specs.declared.refusal.DefKind.TheVariants as kinds
 use Rattle.def_file.specs.declared.draft.Draft.{Draft}

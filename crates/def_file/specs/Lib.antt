@@ -10,3 +10,7 @@ pub mod Meaning
 pub mod Reading
 pub mod Whole
 pub mod Examples
+pub mod Names
+pub mod Writing
+pub mod Stated
+pub mod Quotable

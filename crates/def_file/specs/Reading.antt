@@ -3,7 +3,8 @@ use Rattle.std.specs.Prelude.{◌≡◌, ℕ, List, [], ◌∷◌, Result, Ok, E
 use Rattle.lx_types.specs.declared.fail.Fail.{Fail}
 use Rattle.lx_types.specs.declared.fail.Fail.TheVariants.{Said, NoMemory}
 use Rattle.obj_types.specs.declared.definition.DefFile.{DefFile}
-use Rattle.def_tokens.specs.Tokens.{Lexeme, Placed, is_stray, tokens_of}
+use Rattle.def_tokens.specs.Lexemes.{Lexeme, is_stray}
+use Rattle.def_tokens.specs.Tokens.{Placed, tokens_of}
 use Rattle.def_file.specs.declared.refusal.DefKind.{DefKind}
 use Rattle.def_file.specs.declared.refusal.DefKind.TheVariants as kinds
 use Rattle.def_file.specs.declared.refusal.DefRefusal.{DefRefusal}

@@ -2,7 +2,7 @@
 use Rattle.std.specs.Prelude.{ℕ, List, [], ◌∷◌, ◌++◌, Option, Some, None, Result}
 use Rattle.def_tokens.specs.declared.keyword.Keyword.{Keyword}
 use Rattle.def_tokens.specs.declared.keyword.Keyword.TheVariants as kw
-use Rattle.def_tokens.specs.Tokens.{Lexeme, keyword_of_lexeme}
+use Rattle.def_tokens.specs.Lexemes.{Lexeme, keyword_of_lexeme}
 use Rattle.def_file.specs.declared.refusal.DefKind.{DefKind}
 use Rattle.def_file.specs.declared.draft.Words.{Words}
 use Rattle.def_file.specs.declared.draft.Draft.{Draft}

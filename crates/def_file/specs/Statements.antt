@@ -5,7 +5,7 @@ use Rattle.obj_types.specs.declared.limits.TheConstants.{MAX_DATA}
 use Rattle.obj_types.specs.declared.definition.ModKind.TheVariants as modules
 use Rattle.def_tokens.specs.declared.keyword.Keyword.{Keyword}
 use Rattle.def_tokens.specs.declared.keyword.Keyword.TheVariants as kw
-use Rattle.def_tokens.specs.Tokens.{Lexeme, keyword_of_lexeme, is_ending, is_equals}
+use Rattle.def_tokens.specs.Lexemes.{Lexeme, keyword_of_lexeme, is_ending, is_equals}
 use Rattle.def_file.specs.declared.refusal.DefKind.{DefKind}
 use Rattle.def_file.specs.declared.refusal.DefKind.TheVariants as kinds
 use Rattle.def_file.specs.declared.draft.Draft.{Draft}

@@ -1,7 +1,7 @@
 //! IMPORTS.
 
 ghost use Rattle.std.specs.Prelude.{IfOk, IfSome, ◌≢◌, []};
-ghost use Rattle.def_tokens.specs.Tokens.{lexeme_of};
+ghost use Rattle.def_tokens.specs.Lexemes.{lexeme_of};
 ghost use Rattle.obj_types.specs.Definition.{WholeImport};
 ghost use Rattle.def_file.specs.declared.draft.Place.TheVariants as place;
 ghost use Rattle.def_file.specs.Answer.{Reads};

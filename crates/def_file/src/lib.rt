@@ -9,11 +9,16 @@ mod laws;
 mod meaning;
 mod names;
 mod numbers;
+mod quotable;
 mod reading;
 mod refusal;
 mod segments;
+mod spelled;
 mod statements;
+mod writing;
 
-pub use laws::{file_is_one, worked_files};
+pub use laws::{file_is_one, worked_files, worked_texts};
+pub use quotable::is_quotable;
 pub use reading::read_def;
 pub use refusal::{DefKind, DefRefusal};
+pub use writing::write_def;

@@ -1,7 +1,7 @@
 //! A definition file, token by token.
 
 ghost use Rattle.std.specs.Prelude.{◌≡◌, IfOk};
-ghost use Rattle.def_tokens.specs.Tokens.{lexeme_of};
+ghost use Rattle.def_tokens.specs.Lexemes.{lexeme_of};
 ghost use Rattle.obj_types.specs.Definition.{WholeDef};
 ghost use Rattle.def_file.specs.Answer.{Reads};
 ghost use Rattle.def_file.specs.Whole.{WholeReading, WholeDraft, WholePlace};

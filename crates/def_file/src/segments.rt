@@ -1,7 +1,7 @@
 //! CODE, DATA and SEGMENTS.
 
 ghost use Rattle.std.specs.Prelude.{IfOk, ◌≢◌, []};
-ghost use Rattle.def_tokens.specs.Tokens.{lexeme_of};
+ghost use Rattle.def_tokens.specs.Lexemes.{lexeme_of};
 ghost use Rattle.def_file.specs.Answer.{Reads};
 ghost use Rattle.def_file.specs.Whole.{WholeReading, WholeDraft, WholeOwner};
 ghost use Rattle.def_file.specs.Segments.{segments, behind_list, attributes, segment, class};

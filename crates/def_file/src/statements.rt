@@ -1,7 +1,7 @@
 //! The statements, and those that give one thing.
 
 ghost use Rattle.std.specs.Prelude.{◌≡◌, IfOk, IfSome};
-ghost use Rattle.def_tokens.specs.Tokens.{lexeme_of};
+ghost use Rattle.def_tokens.specs.Lexemes.{lexeme_of};
 ghost use Rattle.def_file.specs.Answer.{Reads};
 ghost use Rattle.def_file.specs.Whole.{WholeReading, WholeDraft, WholePlace};
 ghost use Rattle.def_file.specs.Draft.{at};

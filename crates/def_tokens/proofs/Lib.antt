@@ -1,1 +1,3 @@
 pub mod TokenLaws
+pub mod LexemeLaws
+pub mod SpellingLaws

@@ -5,17 +5,18 @@ use Rattle.std.proofs.lemmas.Bool.Decides.{nat_tests}
 use Rattle.std.proofs.lemmas.List.{take_rest}
 use Rattle.std.proofs.Math.Nat.{mul-le-mul_left}
 use Rattle.def_tokens.specs.Numbers.{value_from, value_of, digit_of}
-use Rattle.def_tokens.specs.Tokens.{tokens_behind, blank_len, front_of, front, line_behind, Lexeme, ending, Placed, before, is_ending}
+use Rattle.def_tokens.specs.Lexemes.{Lexeme, ending, is_ending}
+use Rattle.def_tokens.specs.Tokens.{tokens_behind, blank_len, front_of, front, line_behind, Placed, before}
 
-if-first : {A : Type 0} (test : Bool) (x y : A) → test ≡ true → cond test x y ≡ x
+pub if-first : {A : Type 0} (test : Bool) (x y : A) → test ≡ true → cond test x y ≡ x
 if-first true x y h = refl
 if-first false x y h = cc
 
-if-second : {A : Type 0} (test : Bool) (x y : A) → test ≡ false → cond test x y ≡ y
+pub if-second : {A : Type 0} (test : Bool) (x y : A) → test ≡ false → cond test x y ≡ y
 if-second true x y h = cc
 if-second false x y h = refl
 
-below-is_true : (m n : ℕ) → m < n → nat_lt m n ≡ true
+pub below-is_true : (m n : ℕ) → m < n → nat_lt m n ≡ true
 below-is_true m n h = grind (arith, nat_tests)
 
 above-is_false : (m n : ℕ) → n ≤ m → nat_lt m n ≡ false
@@ -43,7 +44,7 @@ tokens-blank line b bytes some =
     ∙ tokens-behind (blank_len (b ∷ bytes)) (line_behind b line) b bytes some
 
 -- A token at the front.
-tokens-token : (line b : ℕ) (bytes : List ℕ) → blank_len (b ∷ bytes) ≡ 0 → 0 < (front_of b bytes).len
+pub tokens-token : (line b : ℕ) (bytes : List ℕ) → blank_len (b ∷ bytes) ≡ 0 → 0 < (front_of b bytes).len
     → tokens_behind 0 line (b ∷ bytes)
     ≡ record { line = line; lexeme = (front_of b bytes).lexeme } ∷ tokens_behind 0 line (drop (front_of b bytes).len (b ∷ bytes))
 unfolding tokens_behind

@@ -1,40 +1,12 @@
 -- The tokens of a definition file.
-use Rattle.std.specs.Prelude.{ℕ, zero, suc, ◌+◌, ◌-◌, Bool, true, false, not, ◌&&◌, ◌||◌, ◌==◌, nat_lt, List, [], ◌∷◌, length, take, slice_index, Option, Some, None, if◌then◌else◌}
+use Rattle.std.specs.Prelude.{ℕ, zero, suc, ◌+◌, ◌-◌, Bool, not, ◌&&◌, ◌||◌, ◌==◌, nat_lt, List, [], ◌∷◌, length, take, slice_index, if◌then◌else◌}
 use Rattle.std.specs.List.{prefix_len}
 use Rattle.std.specs.Char.{is_ascii_alphanumeric, is_ascii_digit}
 use Rattle.std.specs.Option.{option_map_or}
-use Rattle.def_tokens.specs.declared.keyword.Keyword.{Keyword}
-use Rattle.def_tokens.specs.declared.token.Token.{Token}
-use Rattle.def_tokens.specs.declared.token.Token.TheVariants as tokens
 use Rattle.def_tokens.specs.declared.token.TokenAt.{TokenAt}
 use Rattle.def_tokens.specs.Keywords.{keyword_of}
 use Rattle.def_tokens.specs.Numbers.{number_of}
-
--- ---- words
-
--- A token as its bytes give it. A number of 2^32 or more has no value. Bytes that are no token are a stray.
-pub data Lexeme : Type 0 where
-  number : Option ℕ → Lexeme
-  equals : Lexeme
-  at : Lexeme
-  dot : Lexeme
-  text : List ℕ → Lexeme
-  word : List ℕ → Lexeme
-  keyword : Keyword → Lexeme
-  stray : Lexeme
-  ending : Lexeme
-
--- A token of the program, without where it lies in memory.
-abbrev pub lexeme_of : Token → Lexeme
-lexeme_of (tokens.Number value) = number value
-lexeme_of tokens.Equals = equals
-lexeme_of tokens.At = at
-lexeme_of tokens.Dot = dot
-lexeme_of (tokens.Text bytes) = text bytes.now
-lexeme_of (tokens.Word bytes) = word bytes.now
-lexeme_of (tokens.Keyword k) = keyword k
-lexeme_of tokens.Stray = stray
-lexeme_of tokens.End = ending
+use Rattle.def_tokens.specs.Lexemes.{Lexeme, lexeme_of, number, equals, at, dot, text, word, keyword, stray, ending, is_ending}
 
 -- A token and the line that it begins in.
 pub record Placed : Type 0 where
@@ -132,46 +104,5 @@ abbrev pub tokens_from : Place → List Placed
 tokens_from place = tokens_behind 0 place.line place.left
 
 -- Nothing follows the end.
-abbrev pub is_ending : Lexeme → Bool
-is_ending ending = true
-is_ending _ = false
-
 abbrev pub before : Placed → List Placed → List Placed
 before t others = t ∷ (if is_ending t.lexeme then [] else others)
-
--- ---- what a token is
-
--- The value of a number.
-abbrev pub number_of_lexeme : Lexeme → Option (Option ℕ)
-number_of_lexeme (number value) = Some value
-number_of_lexeme _ = None
-
--- The bytes that may be a name.
-abbrev pub name_of_lexeme : Lexeme → Option (List ℕ)
-name_of_lexeme (text bytes) = Some bytes
-name_of_lexeme (word bytes) = Some bytes
-name_of_lexeme _ = None
-
-abbrev pub text_of_lexeme : Lexeme → Option (List ℕ)
-text_of_lexeme (text bytes) = Some bytes
-text_of_lexeme _ = None
-
-abbrev pub keyword_of_lexeme : Lexeme → Option Keyword
-keyword_of_lexeme (keyword k) = Some k
-keyword_of_lexeme _ = None
-
-abbrev pub is_equals : Lexeme → Bool
-is_equals equals = true
-is_equals _ = false
-
-abbrev pub is_at : Lexeme → Bool
-is_at at = true
-is_at _ = false
-
-abbrev pub is_dot : Lexeme → Bool
-is_dot dot = true
-is_dot _ = false
-
-abbrev pub is_stray : Lexeme → Bool
-is_stray stray = true
-is_stray _ = false

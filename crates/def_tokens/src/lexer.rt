@@ -2,7 +2,8 @@
 
 ghost use Rattle.std.specs.Prelude.{◌≡◌, ◌+◌, ◌<◌, ◌≤◌, ◌∷◌, true, false, Some, None, length, drop, take};
 ghost use Rattle.std.specs.List.{prefix_len};
-ghost use Rattle.def_tokens.specs.Tokens.{front, front_of, text_front, word_front, word_lexeme, lexeme_of, placed_of, is_word_byte, blank_len, comment_len, text_len, line_behind, tokens_from, tokens_behind, tokens_of, before, is_ending};
+ghost use Rattle.def_tokens.specs.Lexemes.{lexeme_of, is_ending};
+ghost use Rattle.def_tokens.specs.Tokens.{front, front_of, text_front, word_front, word_lexeme, placed_of, is_word_byte, blank_len, comment_len, text_len, line_behind, tokens_from, tokens_behind, tokens_of, before};
 
 use crate::keyword::keyword_of;
 use crate::number::number_of;

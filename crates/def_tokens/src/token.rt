@@ -2,7 +2,7 @@
 
 ghost use Rattle.std.specs.Prelude.{◌≡◌};
 ghost use Rattle.std.specs.Option.{option_copied};
-ghost use Rattle.def_tokens.specs.Tokens.{lexeme_of, number_of_lexeme, name_of_lexeme, text_of_lexeme, keyword_of_lexeme, is_equals, is_at, is_dot, is_stray, is_ending};
+ghost use Rattle.def_tokens.specs.Lexemes.{lexeme_of, number_of_lexeme, name_of_lexeme, text_of_lexeme, keyword_of_lexeme, is_equals, is_at, is_dot, is_stray, is_ending};
 
 use crate::Keyword;
 

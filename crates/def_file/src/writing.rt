@@ -1,0 +1,148 @@
+//! A definition file, written.
+
+ghost use Rattle.std.specs.Prelude.{true, ◌≡◌, ◌∷◌, ◌++◌, ◌<◌, ◌^◌, [], map, IfOk, IfSome};
+ghost use Rattle.std.specs.List.{All};
+ghost use Rattle.lx_types.specs.Names.{IsName};
+ghost use Rattle.obj_types.specs.Definition.{WholeDef};
+ghost use Rattle.obj_types.specs.declared.definition.SegAttrs.{SegAttrs};
+ghost use Rattle.obj_types.specs.declared.symbol.Exp.{Exp};
+ghost use Rattle.obj_types.specs.declared.symbol.Imp.{Imp};
+ghost use Rattle.def_tokens.specs.Lexemes.{lexeme_of, number, text};
+ghost use Rattle.def_tokens.specs.declared.keyword.Keyword.TheVariants as kw;
+ghost use Rattle.def_file.specs.Names.{SegmentNames, ExportNames, ImportNames, EachName};
+ghost use Rattle.def_file.specs.Quotable.{file_fits};
+ghost use Rattle.def_file.specs.Reading.{Def};
+ghost use Rattle.def_file.specs.Stated.{Stated};
+ghost use Rattle.def_file.specs.Writing.{attribute_tokens, segment_tokens, export_tokens, import_tokens, statement_text, base_text, item_text, items_text, kind_text, text_of};
+
+use crate::spelled::{attributes_of, export_tokens, import_tokens, kind_tokens, segment_tokens};
+use def_tokens::{Keyword, Token, write_line};
+use lx_types::{Bytes, NoMemory, Seq};
+use obj_types::{DefFile, Exp, Imp, SegAttrs};
+use std::alloc::Global;
+
+// A line of one item. It stands behind a space.
+fn put_item(out: &mut Vec<u8>, tokens: &[Token<'_>]) -> Result<(), NoMemory>
+    ensures { IfOk result (λ _. out.new.items ≡ out.old.items ++ item_text (map lexeme_of tokens.now)) }
+{
+    out.push(b' ')?;
+    write_line(out, tokens)?;
+    Ok(())
+}
+
+// NAME or LIBRARY, DESCRIPTION, CODE and DATA.
+fn put_head(alloc: Global, out: &mut Vec<u8>, d: &DefFile) -> Result<(), NoMemory>
+    ensures text { IfOk result (λ _. out.new.items ≡ out.old.items
+        ++ kind_text d.now
+        ++ statement_text kw.Description (text d.now.about ∷ [])
+        ++ statement_text kw.Code (attribute_tokens d.now.code)
+        ++ statement_text kw.Data (attribute_tokens d.now.plain)) }
+    ensures name { IfOk result (λ _. IfSome d.now.name IsName) }
+    ensures about { IfOk result (λ _. IsName d.now.about) }
+{
+    write_line(out, kind_tokens(alloc, d)?.as_slice())?;
+    let about = Token::Text(d.about.bytes());
+    write_line(out, &[Token::Keyword(Keyword::Description), about])?;
+    write_line(out, attributes_of(alloc, Keyword::Code, d.code)?.as_slice())?;
+    write_line(
+        out,
+        attributes_of(alloc, Keyword::Data, d.plain)?.as_slice(),
+    )?;
+    Ok(())
+}
+
+// The items of SEGMENTS.
+fn put_segments(alloc: Global, out: &mut Vec<u8>, segs: &[SegAttrs]) -> Result<(), NoMemory>
+    ensures text { IfOk result (λ _. out.new.items ≡ out.old.items ++ items_text (map segment_tokens segs.now)) }
+    ensures short { IfOk result (λ _. All (λ (s : SegAttrs). SegmentNames IsName s) segs.now) }
+{
+    for segment in segs {
+        put_item(out, segment_tokens(alloc, segment)?.as_slice())?;
+    }
+    Ok(())
+}
+
+// The items of EXPORTS.
+fn put_exports(alloc: Global, out: &mut Vec<u8>, exports: &[Exp]) -> Result<(), NoMemory>
+    ensures text { IfOk result (λ _. out.new.items ≡ out.old.items ++ items_text (map export_tokens exports.now)) }
+    ensures short { IfOk result (λ _. All (λ (e : Exp). ExportNames IsName e) exports.now) }
+{
+    for export in exports {
+        put_item(out, export_tokens(alloc, export)?.as_slice())?;
+    }
+    Ok(())
+}
+
+// The items of IMPORTS.
+fn put_imports(alloc: Global, out: &mut Vec<u8>, imports: &[Imp]) -> Result<(), NoMemory>
+    ensures text { IfOk result (λ _. out.new.items ≡ out.old.items ++ items_text (map import_tokens imports.now)) }
+    ensures short { IfOk result (λ _. All (λ (i : Imp). ImportNames IsName i) imports.now) }
+{
+    for import in imports {
+        put_item(out, import_tokens(alloc, import)?.as_slice())?;
+    }
+    Ok(())
+}
+
+// The keyword before items.
+fn put_heading(out: &mut Vec<u8>, begins: Keyword) -> Result<(), NoMemory>
+    ensures { IfOk result (λ _. out.new.items ≡ out.old.items ++ statement_text begins []) }
+{
+    write_line(out, &[Token::Keyword(begins)])?;
+    Ok(())
+}
+
+// A statement that gives one number.
+fn put_size(out: &mut Vec<u8>, begins: Keyword, size: u32) -> Result<(), NoMemory>
+    ensures { IfOk result (λ _. out.new.items
+        ≡ out.old.items ++ statement_text begins (number (Some size) ∷ [])) }
+{
+    let size = Token::Number(Some(size));
+    write_line(out, &[Token::Keyword(begins), size])?;
+    Ok(())
+}
+
+fn put_base(out: &mut Vec<u8>, base: Option<u32>) -> Result<(), NoMemory>
+    ensures { IfOk result (λ _. out.new.items ≡ out.old.items ++ base_text base) }
+{
+    if let Some(base) = base {
+        let base = Token::Number(Some(base));
+        write_line(out, &[Token::Keyword(Keyword::Base), Token::Equals, base])?;
+    }
+    Ok(())
+}
+
+// The written file. Its names are as short as names are.
+#[tactic(auto, unfolding(crate::specs::Writing::text_of))]
+fn written(alloc: Global, d: &DefFile) -> Result<Vec<u8>, NoMemory>
+    ensures text { IfOk result (λ out. out.items ≡ text_of d.now) }
+    ensures short { IfOk result (λ _. EachName IsName d.now) }
+    ensures heap { IfOk result (λ _. d.now.heap < 2 ^ 32) }
+{
+    let mut out = Vec::new(alloc);
+    put_head(alloc, &mut out, d)?;
+    put_heading(&mut out, Keyword::Segments)?;
+    put_segments(alloc, &mut out, d.segs.as_slice())?;
+    put_heading(&mut out, Keyword::Exports)?;
+    put_exports(alloc, &mut out, d.exports.as_slice())?;
+    put_heading(&mut out, Keyword::Imports)?;
+    put_imports(alloc, &mut out, d.imports.as_slice())?;
+    put_size(&mut out, Keyword::StackSize, d.stack)?;
+    put_size(&mut out, Keyword::HeapSize, d.heap)?;
+    put_base(&mut out, d.base)?;
+    Ok(out)
+}
+
+/// Writes a definition file that says `d`: a statement on a line, and each item of a list on a line
+/// of its own behind a space. Names and texts stand in single quotes, and numbers in decimal. Each
+/// statement but BASE is written, also where it says what holds without it. Reading it gives `d`
+/// again, if statements can give `d` at all.
+pub fn write_def(alloc: Global, d: &DefFile) -> Result<Bytes, NoMemory>
+    requires whole { WholeDef d.now }
+    // No name or text has a single quote, CR or LF: `is_quotable` tells.
+    requires quotable { file_fits d.now ≡ true }
+    ensures text { IfOk result (λ bytes. bytes ≡ text_of d.now) }
+    ensures read_back { IfOk result (λ bytes. Stated d.now → Def bytes d.now) }
+{
+    Ok(Seq::from_vec(written(alloc, d)?))
+}
