@@ -46,7 +46,11 @@ pub fn copied(alloc: Global, name: &Name) -> Result<Name, NoMemory>
     Name::of_short(alloc, name.bytes())
 }
 
-fn twice(alloc: Global, first: &Definition<'_>, second: &Definition<'_>) -> Result<SymRefusal, NoMemory>
+fn twice(
+    alloc: Global,
+    first: &Definition<'_>,
+    second: &Definition<'_>,
+) -> Result<SymRefusal, NoMemory>
     ensures { IfOk result (λ r. r ≡ Twice second.now.name.now first.now.by second.now.by) }
 {
     Ok(SymRefusal::Twice {

@@ -30,9 +30,10 @@ loop-definition-preserved c =
     elim c.match-first.branch [
       | in-Some+else-not-counts_once w ↦ ap (λ o. late (shown d) (option_map shown o)) (looked ∙ ap option_copied w.in-Some.is) ∙ ap not (sym w.counts_once.ensures ∙ w.if-not-counts_once.false)
       | in_default w ↦ ap (λ o. late (shown d) (option_map shown o)) (looked ∙ ap option_copied w.in_default.is)
-    ] in
-    ( c.in_ok-push.ensures.entries
-    ∙ ap (λ t. with_entry t c.bytes-in-loop-definition.result.now d) c.loop-definition.invariant.0
-    ∙ ap (λ n. with_entry (firsts_of (take i found)) n d) c.bytes-in-loop-definition.ensures.same
-    ∙ first_more found i d c.loop-definition-test.true c.definition-item.is,
-    no_second found i d c.loop-definition-test.true c.definition-item.is c.loop-definition.invariant.1 on_time)
+    ] in (
+      c.in_ok-push.ensures.entries
+          ∙ ap (λ t. with_entry t c.bytes-in-loop-definition.result.now d) c.loop-definition.invariant.0
+          ∙ ap (λ n. with_entry (firsts_of (take i found)) n d) c.bytes-in-loop-definition.ensures.same
+          ∙ first_more found i d c.loop-definition-test.true c.definition-item.is,
+      no_second found i d c.loop-definition-test.true c.definition-item.is c.loop-definition.invariant.1 on_time,
+    )

@@ -23,7 +23,6 @@ returns-in-Some-clause-entries g c =
     ∙ ap (λ es. position (is_named c.args.name.now) es) c.self.view_is)).0 in
     ap (λ b. cond b c.args.self.now (c.args.self.now ++ (c.args.name.now, c.args.value) ∷ [])) (sym is)
 
-
 pub returns-clause-place : goal.returns-clause-place
 returns-clause-place g c =
     let none : list_any (is_named c.args.name.now) c.args.self.now ≡ false =
