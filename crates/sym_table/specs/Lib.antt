@@ -2,3 +2,4 @@ pub mod Links
 pub mod Definitions
 pub mod Firsts
 pub mod Counting
+pub mod Meanings

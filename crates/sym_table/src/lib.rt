@@ -4,6 +4,7 @@
 mod definitions;
 mod firsts;
 mod imports;
+mod meanings;
 mod modules;
 mod names;
 
@@ -11,5 +12,6 @@ pub use definitions::{Definition, Meaning, definitions_of};
 pub use firsts::{first_definitions, same_entry, same_pair};
 pub use imports::{imports_of, slot_of};
 pub use link_model::{Pick, SymDef, SymRefusal};
+pub use meanings::{Globals, check_exports, defined_of, externals_of};
 pub use modules::{modules_at, number};
 pub use names::check_imports;
