@@ -1,0 +1,6 @@
+//! Tables by first appearance: each name once, in the order in which names first appear.
+#![tactic(auto)]
+
+mod table;
+
+pub use table::NameTable;

@@ -1,0 +1,4 @@
+pub mod Lists
+pub mod Conflicts
+pub mod FirstOnes
+pub mod ImportPairs

@@ -1,0 +1,6 @@
+use Rattle.std.proofs.Common.{◌≡◌, map, take}
+use Rattle.sym_table.specs.Definitions.{shown, imports_among}
+use Rattle.sym_table.proofs.imports.imports_of.Given as goal
+
+abbrev pub invariant-loop-definition : goal.invariant-loop-definition
+invariant-loop-definition l = l.imports ≡ imports_among (map shown (take l.definition-index l.found))

@@ -1,0 +1,5 @@
+pub mod Links
+pub mod Definitions
+pub mod Firsts
+pub mod Counting
+pub mod Meanings

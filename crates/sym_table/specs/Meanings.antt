@@ -1,0 +1,52 @@
+-- What names mean, by tables of names.
+use Rattle.std.specs.Prelude.{ℕ, ◌&&◌, not, List, Option, map, find, bytes_eq, is_none, if◌then◌else◌}
+use Rattle.std.specs.List.{enumerate_from}
+use Rattle.std.specs.Option.{option_map, option_or, option_and_then}
+use Rattle.obj_types.specs.declared.object.ObjModule.{ObjModule}
+use Rattle.obj_types.specs.declared.symbol.Ext.{Ext}
+use Rattle.obj_types.specs.declared.symbol.Imp.{Imp}
+use Rattle.link_model.specs.declared.symbols.SymDef.{SymDef}
+use Rattle.obj_types.specs.declared.symbol.Exp.{Exp}
+use Rattle.link_model.specs.declared.refusals.SymRefusal.{SymRefusal}
+use Rattle.link_model.specs.declared.refusals.SymRefusal.TheVariants.{Missing}
+use Rattle.link_model.specs.Words.{first_of}
+use Rattle.link_model.specs.Link.{Link}
+use Rattle.link_model.specs.SymbolRefusals.{is_exportable}
+use Rattle.link_model.specs.Symbols as rules
+use Rattle.first_table.specs.Entries.{value_named}
+use Rattle.sym_table.specs.Definitions.{meaning_among}
+use Rattle.sym_table.specs.declared.meanings.Globals.{Globals}
+
+-- A definition's name with its meaning, where these are the import pairs.
+abbrev pub defined_by : List Imp → rules.Definition → List ℕ × Option SymDef
+defined_by imports d = (d.name, meaning_among imports d d.meaning)
+
+abbrev pub global_in : Globals → List ℕ → Option SymDef
+global_in globals name = option_or (option_and_then (λ m. m) (value_named name globals.defined)) (value_named name globals.communal)
+
+abbrev pub local_in : ℕ → ObjModule → List ℕ → Option SymDef
+local_in by m name = option_map (λ p. rules.at_place by p.place) (find (λ p. p.local && bytes_eq p.name name) m.pubs)
+
+abbrev pub meaning_in : Globals → ℕ → ObjModule → Ext → Option SymDef
+meaning_in globals by m e = if e.local then local_in by m e.name else global_in globals e.name
+
+abbrev pub row_in : Globals → ℕ → ObjModule → List (Option SymDef)
+row_in globals by m = map (meaning_in globals by m) m.exts
+
+-- The meanings of all externals, module by module.
+abbrev pub rows_in : Globals → Link → List (List (Option SymDef))
+rows_in globals l = map (λ q. row_in globals q.0 q.1) (enumerate_from 1 l.modules)
+
+-- The first external of a module that means nothing.
+abbrev pub missing_row : Globals → ℕ → ObjModule → Option SymRefusal
+missing_row globals by m =
+    option_map (λ e. Missing e.name) (find (λ e. is_none (meaning_in globals by m e)) m.exts)
+
+-- The first of all modules that has one.
+abbrev pub missing_external_in : Globals → Link → Option SymRefusal
+missing_external_in globals l = first_of (map (λ q. missing_row globals q.0 q.1) (enumerate_from 1 l.modules))
+
+-- The first of these exports whose internal name means nothing or a constant.
+abbrev pub missing_export_in : Globals → List Exp → Option SymRefusal
+missing_export_in globals xs =
+    option_map (λ x. Missing x.internal) (find (λ x. not (is_exportable (global_in globals x.internal))) xs)

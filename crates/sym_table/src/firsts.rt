@@ -1,0 +1,83 @@
+//! Each name's first definition, and whether a name has a second one.
+
+ghost use Rattle.std.specs.Prelude.{◌≡◌, None, Some, IfOk, map};
+ghost use Rattle.lx_types.specs.Answers.{Answers};
+ghost use Rattle.link_model.specs.Symbols.{same_pair, same_entry};
+ghost use Rattle.link_model.specs.SymbolRefusals.{counts_once};
+ghost use Rattle.link_model.specs.declared.refusals.SymRefusal.TheVariants.{Twice};
+ghost use Rattle.sym_table.specs.Definitions.{meaning_shown, shown, twice_among};
+ghost use Rattle.sym_table.specs.Firsts.{firsts_of};
+
+use crate::definitions::{Definition, Meaning};
+use first_table::NameTable;
+use link_model::SymRefusal;
+use obj_types::{EntryKey, Fail, Imp, Name, NoMemory};
+use std::alloc::Global;
+
+pub fn same_entry(one: &EntryKey, other: &EntryKey) -> bool
+    ensures { result ≡ same_entry one.now other.now }
+{
+    match (one, other) {
+        (EntryKey::Ordinal(a), EntryKey::Ordinal(b)) => a == b,
+        (EntryKey::Named(a), EntryKey::Named(b)) => a == b,
+        _ => false,
+    }
+}
+
+/// Whether two import pairs name one module and one entry.
+pub fn same_pair(one: &Imp, other: &Imp) -> bool
+    ensures { result ≡ same_pair one.now other.now }
+{
+    one.module.same_module(&other.module) && same_entry(&one.entry, &other.entry)
+}
+
+fn counts_once(one: &Definition<'_>, other: &Definition<'_>) -> bool
+    ensures { result ≡ counts_once (meaning_shown one.now.meaning) (meaning_shown other.now.meaning) }
+{
+    match (one.meaning, other.meaning) {
+        (Meaning::Imported(a), Meaning::Imported(b)) => same_pair(a, b),
+        _ => false,
+    }
+}
+
+pub fn copied(alloc: Global, name: &Name) -> Result<Name, NoMemory>
+    ensures { IfOk result (λ copy. copy ≡ name.now) }
+{
+    Name::of_short(alloc, name.bytes())
+}
+
+fn twice(
+    alloc: Global,
+    first: &Definition<'_>,
+    second: &Definition<'_>,
+) -> Result<SymRefusal, NoMemory>
+    ensures { IfOk result (λ r. r ≡ Twice second.now.name.now first.now.by second.now.by) }
+{
+    Ok(SymRefusal::Twice {
+        name: copied(alloc, second.name)?,
+        first: first.by,
+        second: second.by,
+    })
+}
+
+/// The table of first definitions.
+pub fn first_definitions<'a>(
+    alloc: Global,
+    found: &[Definition<'a>],
+) -> Result<NameTable<Definition<'a>>, Fail<SymRefusal>>
+    ensures { Answers result
+        (λ table. (table ≡ firsts_of found.entry.now) × (twice_among (map shown found.entry.now) ≡ None))
+        (λ refusal. twice_among (map shown found.entry.now) ≡ Some refusal) }
+{
+    let mut table = NameTable::new(alloc);
+    for definition in found {
+        let first: Option<&Definition<'a>> = table.get(definition.name.bytes());
+        if let Some(first) = first {
+            if !counts_once(first, definition) {
+                return Err(Fail::Said(twice(alloc, first, definition)?));
+            }
+        }
+        table.push(alloc, definition.name.bytes(), *definition)?;
+    }
+    Ok(table)
+}

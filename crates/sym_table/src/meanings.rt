@@ -1,0 +1,180 @@
+//! What each name means, and whether each external and each export means something.
+
+ghost use Rattle.std.specs.Prelude.{◌≡◌, ◌&&◌, not, Some, None, map, find, is_none, bytes_eq, option_map, option_copied, IfOk};
+ghost use Rattle.lx_types.specs.Answers.{Answers};
+ghost use Rattle.link_model.specs.Appearance.{firsts};
+ghost use Rattle.link_model.specs.Symbols.{at_place, same_import, import_key};
+ghost use Rattle.link_model.specs.Appearance.{place_by};
+ghost use Rattle.link_model.specs.declared.symbols.SymDef.TheVariants.{Import};
+ghost use Rattle.link_model.specs.declared.refusals.SymRefusal.TheVariants.{Missing};
+ghost use Rattle.sym_table.specs.Firsts.{same_name};
+ghost use Rattle.sym_table.specs.Definitions.{meaning_shown, shown, meaning_among};
+ghost use Rattle.link_model.specs.SymbolRefusals.{is_exportable};
+ghost use Rattle.sym_table.specs.Meanings.{defined_by, global_in, local_in, meaning_in, row_in, missing_row, missing_export_in};
+
+use crate::definitions::{Definition, Meaning};
+use crate::firsts::copied;
+use crate::imports::slot_of;
+use crate::modules::number;
+use first_table::NameTable;
+use link_model::{SymDef, SymRefusal};
+use obj_types::{Exp, Ext, Fail, Imp, Name, NoMemory, ObjModule, Pub, PubPlace, Seq};
+use std::alloc::Global;
+
+/// What each name means that is not local.
+#[derive(Drop)]
+pub struct Globals {
+    /// By its definition.
+    pub defined: NameTable<Option<SymDef>>,
+    /// As a communal, where it has no definition.
+    pub communal: NameTable<SymDef>,
+}
+
+fn at_place(by: u32, place: PubPlace) -> SymDef
+    ensures { result ≡ at_place by place }
+{
+    match place {
+        PubPlace::In { seg, offset } => SymDef::In {
+            module: by,
+            seg,
+            offset,
+        },
+        PubPlace::Const { value } => SymDef::Const { value },
+    }
+}
+
+fn import_meaning(imports: &[Imp], import: &Imp) -> Result<Option<SymDef>, NoMemory>
+    ensures { IfOk result (λ m. m ≡ option_map (λ slot. Import slot) (place_by same_import import_key (import_key import.now) imports.now)) }
+{
+    match slot_of(imports, import) {
+        None => Ok(None),
+        Some(slot) => Ok(Some(SymDef::Import {
+            slot: number(slot)?,
+        })),
+    }
+}
+
+fn meaning_of(imports: &[Imp], definition: &Definition<'_>) -> Result<Option<SymDef>, NoMemory>
+    ensures { IfOk result (λ m. m ≡ meaning_among imports.now (shown definition.now) (meaning_shown definition.now.meaning)) }
+{
+    match definition.meaning {
+        Meaning::Public(place) => Ok(Some(at_place(definition.by, place))),
+        Meaning::Imported(import) => import_meaning(imports, import),
+    }
+}
+
+/// What the definitions mean, by their names.
+pub fn defined_of(
+    alloc: Global,
+    imports: &[Imp],
+    found: &[Definition<'_>],
+) -> Result<NameTable<Option<SymDef>>, NoMemory>
+    ensures { IfOk result (λ table. table ≡ firsts same_name (map (defined_by imports.now) (map shown found.now))) }
+{
+    let mut table = NameTable::new(alloc);
+    for definition in found {
+        let meaning = meaning_of(imports, definition)?;
+        table.push(alloc, definition.name.bytes(), meaning)?;
+    }
+    Ok(table)
+}
+
+impl Globals {
+    /// The meaning of a name that is not local.
+    pub fn meaning(&self, name: &[u8]) -> Option<SymDef>
+        ensures { result ≡ global_in self.now name.now }
+    {
+        match self.defined.get(name) {
+            Some(Some(meaning)) => Some(*meaning),
+            _ => self.communal.get(name).copied(),
+        }
+    }
+}
+
+fn local_public<'a>(publics: &'a [Pub], name: &Name) -> Option<&'a Pub>
+    ensures { option_copied result ≡ find (λ p. p.local && bytes_eq p.name name.now) publics.entry.now }
+{
+    publics
+        .iter()
+        .find(|public| public.local && public.name == *name)
+}
+
+fn local_meaning(by: u32, object: &ObjModule, name: &Name) -> Option<SymDef>
+    ensures { result ≡ local_in by object.now name.now }
+{
+    match local_public(object.pubs.as_slice(), name) {
+        None => None,
+        Some(public) => Some(at_place(by, public.place)),
+    }
+}
+
+fn external_meaning(
+    globals: &Globals,
+    by: u32,
+    object: &ObjModule,
+    external: &Ext,
+) -> Option<SymDef>
+    ensures { result ≡ meaning_in globals.now by object.now external.now }
+{
+    if external.local {
+        local_meaning(by, object, &external.name)
+    } else {
+        globals.meaning(external.name.bytes())
+    }
+}
+
+fn missing(alloc: Global, name: &Name) -> Result<SymRefusal, NoMemory>
+    ensures { IfOk result (λ r. r ≡ Missing name.now) }
+{
+    Ok(SymRefusal::Missing {
+        name: copied(alloc, name)?,
+    })
+}
+
+/// The meanings of a module's externals; the first that means nothing is `Missing`.
+pub fn externals_of(
+    alloc: Global,
+    globals: &Globals,
+    by: u32,
+    object: &ObjModule,
+) -> Result<Seq<SymDef>, Fail<SymRefusal>>
+    ensures { Answers result
+        (λ row. map Some row ≡ row_in globals.now by object.now)
+        (λ refusal. missing_row globals.now by object.now ≡ Some refusal) }
+{
+    let mut row = Seq::new(alloc);
+    for external in object.exts.as_slice() {
+        match external_meaning(globals, by, object, external) {
+            None => return Err(Fail::Said(missing(alloc, &external.name)?)),
+            Some(meaning) => row.push(meaning)?,
+        }
+    }
+    Ok(row)
+}
+
+fn is_exportable(meaning: Option<SymDef>) -> bool
+    ensures { result ≡ is_exportable meaning }
+{
+    match meaning {
+        None | Some(SymDef::Const { .. }) => false,
+        Some(_) => true,
+    }
+}
+
+/// The first of these exports whose internal name means nothing or a constant is `Missing`.
+pub fn check_exports(
+    alloc: Global,
+    globals: &Globals,
+    exports: &[Exp],
+) -> Result<(), Fail<SymRefusal>>
+    ensures { Answers result
+        (λ _. missing_export_in globals.now exports.now ≡ None)
+        (λ refusal. missing_export_in globals.now exports.now ≡ Some refusal) }
+{
+    for export in exports {
+        if !is_exportable(globals.meaning(export.internal.bytes())) {
+            return Err(Fail::Said(missing(alloc, &export.internal)?));
+        }
+    }
+    Ok(())
+}
