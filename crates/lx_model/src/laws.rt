@@ -1,5 +1,6 @@
 //! What the definitions say together.
 
+ghost use Rattle.lx_model.specs.JoinedEntries.{BundlesAreJoined};
 ghost use Rattle.lx_model.specs.Laws.{MeansOne, MeansOrFails, FaultMeansNone, MeansSound, OrderIsReached, ReachedIsOrdered, OrderHasEachOnce, OrderIsInLibrary, OrderIsClosed, OrderEndsWithItself, LoopComesBack, ComesBackLoops};
 ghost use Rattle.lx_model.specs.ModuleLaws.{ReadIsSound, DataExpands, FitHasSpots, RecordsAreGood, TargetsAreThere, ReferencesAreListed};
 ghost use Rattle.lx_model.specs.TableLaws.{NamesGoOn, ImportsGoOn, BundlesGoOn, RecordsGoOn, GroupsGoOn, OneTargetMore, NamesReadAgain, ImportsReadAgain, EntriesReadAgain, RecordsReadAgain, GroupsReadAgain, HeaderReadAgain, ObjectsReadAgain, PagesReadAgain, DoublewordsReadAgain, RecordIsSpelled, RecordsAreSpelled, NamesAreSpelled, ImportsAreSpelled, EntriesAreSpelled, GroupsAreSpelled};
@@ -94,4 +95,9 @@ pub fn order_is_reach()
 pub fn loops_come_back()
     ensures loops { LoopComesBack }
     ensures returns { ComesBackLoops }
+{}
+
+/// The bundles to which the ordinals of exports are joined are those of the exports.
+pub fn bundles_are_joined()
+    ensures { BundlesAreJoined }
 {}
