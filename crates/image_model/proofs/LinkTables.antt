@@ -1,5 +1,5 @@
 -- The tables of a link's image fit each other.
-use Rattle.std.proofs.Common.{◌≡◌, ℕ, zero, suc, ◌+◌, ◌-◌, ◌≤◌, Bool, true, false, List, [], ◌∷◌, ◌++◌, length, map, refl, sym, ap, ◌∙◌, length-append, arith, inl, inr}
+use Rattle.std.proofs.Common.{◌≡◌, ℕ, zero, suc, ◌+◌, ◌≤◌, Bool, true, false, List, [], ◌∷◌, length, map, refl, sym, ap, ◌∙◌, length-append, arith, inl, inr}
 use Rattle.std.specs.Prelude.{◌==◌, if◌then◌else◌, not}
 use Rattle.std.specs.List.{flat_map, range_with_len, enumerate_from, AllByRecursion as Each}
 use Rattle.std.proofs.lemmas.Bool.{cases_lt}
@@ -16,18 +16,18 @@ use Rattle.link_model.specs.Order.{is_program}
 use Rattle.lx_types.specs.declared.parts.TheConstants.{MODULE_LIBRARY, MODULE_INIT_EACH, MODULE_TERM_EACH}
 use Rattle.link_model.specs.Patches.{page_byte, object_bytes}
 use Rattle.link_model.specs.Records.{page_count, page_records, object_records}
-use Rattle.image_model.specs.Linked.{module_flags, page_forms, page_fixes, fixup_records, image_of}
-use Rattle.image_model.specs.LinkTables.{TablesFit, LinkTablesFit}
+use Rattle.image_model.specs.Linked.{page_forms, page_fixes, fixup_records, image_of}
+use Rattle.image_model.specs.LinkTables.{LinkTablesFit}
 use Rattle.image_model.specs.ObjectTable.{object_head, object_heads_from}
 use Rattle.image_model.specs.PageForms.{page_in, pages_in}
 
 -- ---- lengths
 
-mapped : {A B : Type 0} (f : A → B) (xs : List A) → length (map f xs) ≡ length xs
+pub mapped : {A B : Type 0} (f : A → B) (xs : List A) → length (map f xs) ≡ length xs
 mapped f [] = refl
 mapped f (x ∷ xs) = ap suc (mapped f xs)
 
-ranged : (a n : ℕ) → length (range_with_len a n) ≡ n
+pub ranged : (a n : ℕ) → length (range_with_len a n) ≡ n
 ranged a zero = refl
 ranged a (suc n) = ap suc (ranged (a + 1) n)
 

@@ -1,10 +1,10 @@
 -- The bundles of exports: the ordinals in order, joined as far as they can be. `ExportTables.antt` says what bundles of
 -- exports are; these are the ones.
 -- LX: "Entry Table".
-use Rattle.std.specs.Prelude.{ℕ, ◌+◌, ◌-◌, ◌*◌, ◌/◌, ◌==◌, Bool, true, false, List, [], ◌∷◌, length, map, take, drop, Option, Some, None, if◌then◌else◌}
-use Rattle.std.specs.List.{flat_map, filter_map, range_with_len}
+use Rattle.std.specs.Prelude.{ℕ, zero, suc, ◌==◌, Bool, true, false, List, [], ◌∷◌, length, map, take, drop, Option, Some, None, if◌then◌else◌}
+use Rattle.std.specs.List.{flat_map, filter_map}
 use Rattle.lx_model.specs.Bundles.{AtEntry, GateEntry, ForwardEntry, Bundle, unused, narrow, gates, wide, forwarders}
-use Rattle.lx_model.specs.ExportTables.{Exported, Slot, empty, narrow_at, gate_at, wide_at, forwarder, slots, MOST_ENTRIES}
+use Rattle.lx_model.specs.ExportTables.{Exported, Slot, empty, narrow_at, gate_at, wide_at, forwarder, slots, MOST_ENTRIES, AreBundlesOf}
 
 -- ---- neighbours of one type, and of one object where the type has one
 
@@ -13,7 +13,7 @@ joins empty empty = true
 joins (narrow_at object e) (narrow_at other f) = object == other
 joins (gate_at object e) (gate_at other f) = object == other
 joins (wide_at object e) (wide_at other f) = object == other
-joins (forwarder reserved e) (forwarder other f) = true
+joins (forwarder reserved e) (forwarder other f) = reserved == other
 joins s t = false
 
 -- A slot, and the neighbours behind it that join.
@@ -30,9 +30,14 @@ abbrev pub runs_of : List Slot → List Run
 runs_of [] = []
 runs_of (s ∷ ss) = before_runs s (runs_of ss)
 
--- A run in parts, each as long as it can be.
+-- A run in parts, each as long as it can be, and at most n of them.
+abbrev pub parts_from : ℕ → List Slot → List (List Slot)
+parts_from zero ss = []
+parts_from (suc n) [] = []
+parts_from (suc n) (s ∷ ss) = take MOST_ENTRIES (s ∷ ss) ∷ parts_from n (drop MOST_ENTRIES (s ∷ ss))
+
 abbrev pub parts_of : List Slot → List (List Slot)
-parts_of ss = map (λ k. take MOST_ENTRIES (drop (k * MOST_ENTRIES) ss)) (range_with_len 0 ((length ss + (MOST_ENTRIES - 1)) / MOST_ENTRIES))
+parts_of ss = parts_from (length ss) ss
 
 -- ---- the bundle of slots that join
 
@@ -66,3 +71,7 @@ bundle_of (forwarder reserved e) ss = forwarders reserved (filter_map forwarder_
 
 unfoldable pub bundles_for : List Exported → List Bundle
 bundles_for xs = flat_map (λ r. map (bundle_of r.first) (parts_of (r.first ∷ r.others))) (runs_of (slots xs))
+
+-- They are the bundles of the exports.
+abbrev pub BundlesAreJoined : Type 0
+BundlesAreJoined = (xs : List Exported) → AreBundlesOf xs (bundles_for xs)

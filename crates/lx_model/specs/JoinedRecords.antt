@@ -1,6 +1,6 @@
 -- Which records the fixups of a page get: their order, which sources are one list, and the sizes of fields.
 -- LX: "Fixup Record Table".
-use Rattle.std.specs.Prelude.{ℕ, ◌-◌, ◌^◌, ◌%◌, ◌==◌, ◌&&◌, ◌||◌, not, Bool, false, List, [], ◌∷◌, ◌++◌, length, map, take, filter, nat_lt, nat_le, int_lt, int_le, if◌then◌else◌, ℤ, pos, ◌+ℤ◌}
+use Rattle.std.specs.Prelude.{ℕ, ◌-◌, ◌^◌, ◌%◌, ◌==◌, ◌&&◌, ◌||◌, not, Bool, false, List, [], ◌∷◌, ◌++◌, length, map, take, filter, nat_lt, nat_le, int_lt, int_le, if◌then◌else◌, pos, ◌+ℤ◌}
 use Rattle.lx_types.specs.declared.fix.Fix.{Fix}
 use Rattle.lx_types.specs.declared.fix.FixTarget.{FixTarget}
 use Rattle.lx_types.specs.declared.fix.FixTarget.TheVariants.{Internal, Ordinal, Named, Own}

@@ -1,5 +1,6 @@
 //! What the definitions say together.
 
+ghost use Rattle.lx_model.specs.JoinedEntries.{BundlesAreJoined};
 ghost use Rattle.lx_model.specs.Laws.{MeansOne, MeansOrFails, FaultMeansNone, MeansSound, OrderIsReached, ReachedIsOrdered, OrderHasEachOnce, OrderIsInLibrary, OrderIsClosed, OrderEndsWithItself, LoopComesBack, ComesBackLoops};
 ghost use Rattle.lx_model.specs.ModuleLaws.{ReadIsSound, DataExpands, FitHasSpots, RecordsAreGood, TargetsAreThere, ReferencesAreListed};
 ghost use Rattle.lx_model.specs.FaultLaws.{EntryFaults, HeaderFaults, NameFaults, ImportFaults, GroupFaults, BundleFaults, RecordFaults};
@@ -108,4 +109,9 @@ pub fn faults_follow_good_parts()
     ensures records { RecordFaults }
     ensures entries { EntryFaults }
     ensures header { HeaderFaults }
+{}
+
+/// The bundles to which the ordinals of exports are joined are those of the exports.
+pub fn bundles_are_joined()
+    ensures { BundlesAreJoined }
 {}
