@@ -26,3 +26,4 @@ pub mod TablesTaken
 pub mod Takes
 pub mod Visits
 pub mod ExportsRead
+pub mod OneList

@@ -2,6 +2,7 @@
 -- the format. They stand apart; no definition uses them.
 pub mod Records
 pub mod Tables
+pub mod Exports
 pub mod File
 pub mod Header
 pub mod Pages
