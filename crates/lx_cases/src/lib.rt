@@ -19,6 +19,8 @@ mod import_libraries;
 #[cfg(test)]
 mod linking;
 #[cfg(test)]
+mod lx_tables;
+#[cfg(test)]
 mod module_file;
 #[cfg(test)]
 mod modules;

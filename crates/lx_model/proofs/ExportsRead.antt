@@ -1,16 +1,15 @@
 -- The entry table of exports is read as the exports, by rising ordinals.
-use Rattle.std.proofs.Common.{◌≡◌, ℕ, zero, suc, ◌+◌, ◌<◌, ◌≤◌, Bool, true, false, Option, Some, None, List, [], ◌∷◌, ◌++◌, map, length, Ok, refl, sym, subst, ap, ◌∙◌, append_assoc, arith, length-append}
+use Rattle.std.proofs.Common.{◌≡◌, ℕ, zero, suc, ◌+◌, ◌≤◌, Bool, true, false, Option, Some, None, List, [], ◌∷◌, ◌++◌, map, length, Ok, refl, sym, subst, ap, ◌∙◌, arith, length-append}
 use Rattle.std.specs.Prelude.{option_map, replicate}
-use Rattle.std.specs.List.{flat_map, filter_map, cons_option, range_with_len, enumerate_from, AllByRecursion}
+use Rattle.std.specs.List.{flat_map, filter_map, cons_option, range_with_len, enumerate_from}
 use Rattle.std.proofs.lemmas.List.FromFn.{length-map-range_with_len}
 use Rattle.std.proofs.lemmas.List.{length-map, length-replicate}
 use Rattle.lx_types.specs.declared.entry.EntryHead.{EntryHead}
 use Rattle.lx_types.specs.declared.entry.EntryHead.TheVariants.{At, Gate286, Forward}
-use Rattle.lx_types.specs.declared.entry.FwdKey.{FwdKey}
 use Rattle.lx_types.specs.declared.entry.FwdKey.TheVariants.{Ordinal, NameAt}
-use Rattle.lx_model.specs.EntryTable.{Numbered, LAST_ORDINAL, forward_key, entries_in}
-use Rattle.lx_model.specs.Bundles.{AtEntry, GateEntry, ForwardEntry, Bundle, unused, narrow, gates, wide, forwarders, ordinal_count, ordinals_together, heads_of, entries_after, table_spelling, BundleFits}
-use Rattle.lx_model.specs.ExportTables.{Exported, Slot, empty, narrow_at, gate_at, wide_at, forwarder, head_slot, slot_of, slot_or_empty, export_at, greatest, slots, slots_of, AreBundlesOf, entries_by_ordinal}
+use Rattle.lx_model.specs.EntryTable.{Numbered, LAST_ORDINAL, forward_key}
+use Rattle.lx_model.specs.Bundles.{Bundle, unused, narrow, gates, wide, forwarders, ordinal_count, ordinals_together, heads_of, entries_after}
+use Rattle.lx_model.specs.ExportTables.{Exported, Slot, empty, narrow_at, gate_at, wide_at, forwarder, head_slot, slot_or_empty, export_at, greatest, slots_of, AreBundlesOf}
 use Rattle.lx_model.specs.ExportLaws.{ExportsReadAgain}
 use Rattle.lx_model.proofs.BundlesRead.{table_reads}
 
@@ -88,7 +87,7 @@ exports_used xs (suc k) n =
 
 -- ---- the table
 
-length-slots_of : (b : Bundle) → length (slots_of b) ≡ ordinal_count b
+pub length-slots_of : (b : Bundle) → length (slots_of b) ≡ ordinal_count b
 length-slots_of (unused n) = length-replicate n empty
 length-slots_of (narrow object es) = length-map es (narrow_at object)
 length-slots_of (gates object es) = length-map es (gate_at object)

@@ -33,3 +33,4 @@ pub mod Takes
 pub mod Visits
 pub mod ExportsRead
 pub mod JoinedBundles
+pub mod OneList

@@ -10,3 +10,7 @@ abbrev pub ExportsReadAgain : Type 0
 ExportsReadAgain =
     (objects imports : ℕ) (xs : List Exported) (bs : List Bundle) (rest : List ℕ) → AreBundlesOf xs bs → AllByRecursion (BundleFits objects imports) bs → greatest xs ≤ LAST_ORDINAL →
     entries_in objects imports (table_spelling bs ++ rest) ≡ Ok (entries_by_ordinal xs)
+
+-- No two lists of bundles are those of the same exports.
+abbrev pub BundlesAreOne : Type 0
+BundlesAreOne = (xs : List Exported) (bs cs : List Bundle) → AreBundlesOf xs bs → AreBundlesOf xs cs → bs ≡ cs

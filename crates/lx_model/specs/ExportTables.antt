@@ -1,9 +1,8 @@
 -- The tables that tell a module's exports: which names they have, and which bundles of entries. The exports have
 -- their ordinals already; which ordinals a linker gives stands with the linker.
 -- LX: "Entry Table", "Resident or Non-resident Name Table Entry".
-use Rattle.std.specs.Prelude.{◌≡◌, ℕ, ◌+◌, ◌*◌, ◌<◌, ◌≤◌, ◌==◌, ◌&&◌, Bool, true, false, not, IsTrue, List, [], ◌∷◌, length, map, filter, find, max, replicate, Option, Some, None, option_map, if◌then◌else◌}
+use Rattle.std.specs.Prelude.{◌≡◌, ℕ, ◌+◌, ◌*◌, ◌<◌, ◌≤◌, ◌==◌, Bool, true, false, not, IsTrue, List, [], ◌∷◌, map, filter, find, max, replicate, Option, Some, None, option_map}
 use Rattle.std.specs.List.{flat_map, filter_map, range_with_len, AllByRecursion}
-use Rattle.std.specs.Option.{option_map_or}
 use Rattle.lx_types.specs.Names.{uppercase}
 use Rattle.lx_types.specs.declared.entry.EntryHead.{EntryHead}
 use Rattle.lx_types.specs.declared.entry.EntryHead.TheVariants.{At, Gate286, Forward}

@@ -3,6 +3,7 @@
 pub mod Records
 pub mod Packed
 pub mod Tables
+pub mod Exports
 pub mod File
 pub mod Header
 pub mod Pages

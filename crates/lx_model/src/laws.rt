@@ -5,7 +5,7 @@ ghost use Rattle.lx_model.specs.Laws.{MeansOne, MeansOrFails, FaultMeansNone, Me
 ghost use Rattle.lx_model.specs.ModuleLaws.{ReadIsSound, DataExpands, FitHasSpots, RecordsAreGood, TargetsAreThere, ReferencesAreListed};
 ghost use Rattle.lx_model.specs.FaultLaws.{EntryFaults, HeaderFaults, NameFaults, ImportFaults, GroupFaults, BundleFaults, RecordFaults};
 ghost use Rattle.lx_model.specs.TableLaws.{NamesGoOn, ImportsGoOn, BundlesGoOn, RecordsGoOn, GroupsGoOn, OneTargetMore, NamesReadAgain, ImportsReadAgain, EntriesReadAgain, RecordsReadAgain, GroupsReadAgain, HeaderReadAgain, ObjectsReadAgain, PagesReadAgain, DoublewordsReadAgain, RecordIsSpelled, RecordsAreSpelled, NamesAreSpelled, ImportsAreSpelled, EntriesAreSpelled, GroupsAreSpelled};
-ghost use Rattle.lx_model.specs.ExportLaws.{ExportsReadAgain};
+ghost use Rattle.lx_model.specs.ExportLaws.{ExportsReadAgain, BundlesAreOne};
 
 /// A file has one meaning or one first fault.
 pub fn files_mean_one_module()
@@ -65,9 +65,11 @@ pub fn written_is_read()
     ensures doublewords { DoublewordsReadAgain }
 {}
 
-/// An entry table that is written for exports is read as their entries, by rising ordinals.
+/// An entry table that is written for exports is read as their entries, by rising ordinals, and
+/// there is one such table.
 pub fn exports_are_read()
-    ensures { ExportsReadAgain }
+    ensures read { ExportsReadAgain }
+    ensures one { BundlesAreOne }
 {}
 
 /// Fixup records, name tables, import modules, entry tables and groups of iterated data that are

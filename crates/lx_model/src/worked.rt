@@ -4,6 +4,7 @@
 ghost use Rattle.lx_model.specs.Worked.Records.{WorkedRecords, WorkedRecordFaults, WorkedGroups};
 ghost use Rattle.lx_model.specs.Worked.Packed.{WorkedPacking};
 ghost use Rattle.lx_model.specs.Worked.Tables.{WorkedNames, WorkedEntries};
+ghost use Rattle.lx_model.specs.Worked.Exports.{WorkedExports};
 ghost use Rattle.lx_model.specs.Worked.File.{WorkedFile, WorkedFaults};
 ghost use Rattle.lx_model.specs.Worked.Header.{WorkedHeader, WorkedOrder, WorkedStub};
 ghost use Rattle.lx_model.specs.Worked.Pages.{WorkedPages, WorkedTargets, WorkedClasses};
@@ -30,6 +31,12 @@ pub fn pages_packed()
 pub fn tables_read()
     ensures names { WorkedNames }
     ensures entries { WorkedEntries }
+{}
+
+/// The tables of three exports, one of them without an ordinal of its own, and of two of other
+/// kinds.
+pub fn exports_written()
+    ensures { WorkedExports }
 {}
 
 /// A module of one page: its parts, and its bytes at two bases.
