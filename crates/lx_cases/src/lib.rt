@@ -17,6 +17,8 @@ mod image;
 #[cfg(test)]
 mod linking;
 #[cfg(test)]
+mod lx_parts;
+#[cfg(test)]
 mod module_file;
 #[cfg(test)]
 mod modules;
