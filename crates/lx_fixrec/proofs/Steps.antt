@@ -1,20 +1,22 @@
 -- One record after another.
-use Rattle.std.proofs.Common.{◌≡◌, ℕ, ◌+◌, ◌<◌, ◌≤◌, Bool, true, false, cond, eqb, List, [], ◌∷◌, ◌++◌, length, map, Option, Some, None, Result, Ok, Err, refl, sym, ap, subst, ◌∙◌, append_assoc, arith}
+use Rattle.std.proofs.Common.{◌≡◌, ℕ, ◌+◌, ◌<◌, ◌≤◌, Bool, cond, List, [], ◌∷◌, ◌++◌, length, map, Option, Some, None, Result, Ok, Err, sym, ap, subst, ◌∙◌, arith}
 use Rattle.std.specs.Prelude.{IsErrAnd}
 use Rattle.std.proofs.lemmas.Bool.{ne_eqb, eq-eqb}
 use Rattle.lx_bytes.specs.Cursor.{Cursor}
 use Rattle.lx_types.specs.declared.fix.Fix.{Fix}
 use Rattle.lx_types.specs.declared.refusal.LxRefusal.{LxRefusal}
-use Rattle.lx_model.specs.Reading.{Read, ◌>>=◌, ends, fault_of, ends_at, faulty, with_front, Many, many}
+use Rattle.lx_model.specs.Reading.{Read, ◌>>=◌, ends, fault_of, ends_at, faulty, with_front, Many}
 use Rattle.std.specs.List.{flat_map}
 use Rattle.lx_model.specs.Records as model
 use Rattle.lx_model.specs.Records.{next_record, record_at}
 use Rattle.lx_model.proofs.Many.{many_ends, many_more, many_fails}
 use Rattle.lx_model.proofs.Shortening.{record_shortens, record_leaves}
-use Rattle.lx_fixrec.specs.Left.{Placed, sources_of, behind, items_behind, Finds}
+use Rattle.lx_fixrec.specs.Left.{Placed, Left, left_of, sources_left, sources_of, behind, items_behind, Finds}
 use Rattle.lx_fixrec.specs.Reads.{fault_said}
 use Rattle.lx_fixrec.specs.declared.refusal.Fault.{Fault}
 use Rattle.lx_fixrec.specs.declared.reader.Found.{Found}
+use Rattle.lx_fixrec.specs.declared.record.Record.{Record}
+use Rattle.lx_fixrec.specs.Sources.{fixes_left}
 
 abbrev item_of : ℕ → List Fix × Cursor → Read (Option (model.Record × Unit {0}))
 item_of at fixes = Ok (Some (record { at = at; fixes = fixes.0 }, tt), fixes.1)
@@ -48,3 +50,49 @@ end_at c d fixes some is = ap (λ (m : Many model.Record). fault_of m.end) (at_r
 pub found_said : (answer : Result (Option Found) Fault) (old new : Cursor) (f : Fault) → IsErrAnd answer (λ e. e ≡ f) → items_behind old ≡ [] → fault_of (behind old).end ≡ Some (fault_said f) → (fault_said f).at ≤ old.at + length old.left → Finds answer old new
 found_said (Ok x) old new f is items end le = absurd is
 found_said (Err g) old new f is items end le = subst (λ (h : Fault). Finds (Err h) old new) (sym is) (items, end, le)
+
+pub items_end : (c : Cursor) → length c.left ≡ 0 → items_behind c ≡ []
+items_end c none = ap (λ (m : Many model.Record). flat_map sources_of m.items) (at_end c none)
+
+pub end_end : (c : Cursor) → length c.left ≡ 0 → fault_of (behind c).end ≡ None
+end_end c none = ap (λ (m : Many model.Record). fault_of m.end) (at_end c none)
+
+pub items_fault : (c : Cursor) (e : LxRefusal) → (length c.left ≡ 0 → ⊥) → record_at c ≡ Err e → items_behind c ≡ []
+items_fault c e some is = ap (λ (m : Many model.Record). flat_map sources_of m.items) (at_fault c e some is)
+
+pub end_fault : (c : Cursor) (e : LxRefusal) → (length c.left ≡ 0 → ⊥) → record_at c ≡ Err e → fault_of (behind c).end ≡ Some e
+end_fault c e some is = ap (λ (m : Many model.Record). fault_of m.end) (at_fault c e some is)
+
+pub some_left : (n k : ℕ) → k ≡ n → 0 < k → n ≡ 0 → ⊥
+some_left n k count some none = omega (arith, count, some, none)
+
+pub first_found : (old c d : Cursor) (at : ℕ) (f : Fix) (fixes others : List Fix) → items_behind old ≡ items_behind c → (length c.left ≡ 0 → ⊥) → record_at c ≡ Ok (fixes, d) → fixes ≡ f ∷ others → at ≡ c.at →
+    items_behind old ≡ (at, f) ∷ map (λ (g : Fix). (at, g)) others ++ items_behind d
+first_found old c d at f fixes others before some is first same =
+    before ∙ items_at c d fixes some is ∙ ap (λ (gs : List Fix). map (λ (g : Fix). (c.at, g)) gs ++ items_behind d) first ∙ ap (λ (n : ℕ). (n, f) ∷ map (λ (g : Fix). (n, g)) others ++ items_behind d) (sym same)
+
+pub none_found : (old c d : Cursor) (fixes : List Fix) → items_behind old ≡ items_behind c → (length c.left ≡ 0 → ⊥) → record_at c ≡ Ok (fixes, d) → fixes ≡ [] → items_behind old ≡ items_behind d
+none_found old c d fixes before some is none =
+    before ∙ items_at c d fixes some is ∙ ap (λ (gs : List Fix). map (λ (g : Fix). (c.at, g)) gs ++ items_behind d) none
+
+-- ---- what a reader has left
+
+abbrev left_with : ℕ → List Placed → Option LxRefusal → Left
+left_with at items end = record { at = at; items = items; end = end }
+
+-- nothing comes
+pub left_none : (at : ℕ) (current : Option Record) (c d : Cursor) → fixes_left current ≡ [] → items_behind c ≡ [] → fault_of (behind c).end ≡ None → length d.left ≡ 0 →
+    ((left_of at current c).items ≡ []) × ((left_of at current c).end ≡ None) × (left_of at None d ≡ left_of at current c)
+left_none at current c d given items end none =
+    let here : sources_left at current ++ items_behind c ≡ [] = ap (λ (fs : List Fix). map (λ (f : Fix). (at, f)) fs ++ items_behind c) given ∙ items in
+    let there = items_end d none in
+    let same_items : items_behind d ≡ sources_left at current ++ items_behind c = there ∙ sym here in
+    let same_end : fault_of (behind d).end ≡ fault_of (behind c).end = end_end d none ∙ sym end in
+    (here, end, ap (λ (xs : List Placed). left_with at xs (fault_of (behind d).end)) same_items ∙ ap (λ (e : Option LxRefusal). left_with at (sources_left at current ++ items_behind c) e) same_end)
+
+-- a refusal comes
+pub left_refused : (at : ℕ) (current : Option Record) (c d : Cursor) (e : LxRefusal) (r : LxRefusal) → fixes_left current ≡ [] → items_behind c ≡ [] → fault_of (behind c).end ≡ Some e → r ≡ e → length d.left ≡ 0 →
+    ((left_of at current c).items ≡ []) × ((left_of at current c).end ≡ Some r) × (left_of at None d ≡ record { at = at; items = []; end = None })
+left_refused at current c d e r given items end same none =
+    let here : sources_left at current ++ items_behind c ≡ [] = ap (λ (fs : List Fix). map (λ (f : Fix). (at, f)) fs ++ items_behind c) given ∙ items in
+    (here, end ∙ ap (λ (x : LxRefusal). Some x) (sym same), ap (λ (xs : List Placed). left_with at xs (fault_of (behind d).end)) (items_end d none) ∙ ap (λ (x : Option LxRefusal). left_with at [] x) (end_end d none))

@@ -1,14 +1,14 @@
 -- The sources that are left of a page's records, and how they are given.
-use Rattle.std.specs.Prelude.{◌≡◌, ℕ, List, [], ◌∷◌, ◌++◌, ◌+◌, ◌≤◌, length, map, Bool, true, false, Option, Some, None, Result, Ok, Err}
+use Rattle.std.specs.Prelude.{◌≡◌, ℕ, List, [], ◌∷◌, ◌++◌, ◌+◌, ◌≤◌, length, map, Option, Some, None, Result, Ok, Err}
 use Rattle.std.specs.List.{flat_map}
 use Rattle.lx_bytes.specs.Cursor.{Cursor}
 use Rattle.lx_types.specs.declared.fix.Fix.{Fix}
 use Rattle.lx_types.specs.declared.refusal.LxRefusal.{LxRefusal}
 use Rattle.lx_types.specs.declared.refusal.LxKind.TheVariants as kinds
-use Rattle.lx_model.specs.Reading.{fault, fault_of, cursor, Many, many}
+use Rattle.lx_model.specs.Reading.{fault, fault_of, Many, many}
 use Rattle.lx_model.specs.Records as model
 use Rattle.lx_model.specs.Records.{next_record, records_at}
-use Rattle.lx_fixrec.specs.Sources.{record_fixes, IsGood}
+use Rattle.lx_fixrec.specs.Sources.{record_fixes, fixes_left, IsGood}
 use Rattle.lx_fixrec.specs.Reads.{fault_said}
 use Rattle.lx_fixrec.specs.declared.refusal.Fault.{Fault}
 use Rattle.lx_fixrec.specs.declared.reader.Found.{Found}
@@ -38,13 +38,11 @@ abbrev pub left_in : ℕ → List ℕ → Left
 left_in at bytes = left_behind at [] (records_at at bytes)
 
 abbrev pub sources_left : ℕ → Option Record → List Placed
-sources_left at None = []
-sources_left at (Some r) = map (λ f. (at, f)) (record_fixes r)
+sources_left at current = map (λ f. (at, f)) (fixes_left current)
 
--- what a reader has left: of the record that it gives, and of the bytes behind it, where it has not ended
-abbrev pub left_of : ℕ → Option Record → Bool → Cursor → Left
-left_of at current true c = record { at = at; items = sources_left at current; end = None }
-left_of at current false c = left_behind at (sources_left at current) (many next_record tt c)
+-- what a reader has left: of the record that it gives, and of the bytes behind it
+abbrev pub left_of : ℕ → Option Record → Cursor → Left
+left_of at current c = left_behind at (sources_left at current) (many next_record tt c)
 
 abbrev pub refusal : RecRefusal → LxRefusal
 refusal (Short at) = fault kinds.Short at
@@ -70,3 +68,11 @@ Finds (Ok None) old new = (items_behind old ≡ []) × (fault_of (behind old).en
 Finds (Ok (Some found)) old new =
     (items_behind old ≡ (found.at, found.fix) ∷ map (λ f. (found.at, f)) (record_fixes found.«record») ++ items_behind new) × (fault_of (behind old).end ≡ fault_of (behind new).end) × IsGood found.«record»
 Finds (Err f) old new = (items_behind old ≡ []) × (fault_of (behind old).end ≡ Some (fault_said f)) × ((fault_said f).at ≤ old.at + length old.left)
+
+-- how many items come
+abbrev pub end_count : Option LxRefusal → ℕ
+end_count None = 0
+end_count (Some e) = 1
+
+abbrev pub count_of : Left → ℕ
+count_of l = length l.items + end_count l.end

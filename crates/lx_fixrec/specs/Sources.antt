@@ -1,5 +1,6 @@
 -- A record and its sources, those that are left of it.
 use Rattle.std.specs.Prelude.{◌≡◌, ℕ, ◌+◌, ◌≤◌, ◌∷◌, [], List, length, ℤ, Option, Some, None, Result, Ok, Err}
+use Rattle.std.specs.Option.{ForSome}
 use Rattle.lx_bytes.specs.Cursor.{Cursor}
 use Rattle.lx_types.specs.declared.fix.Fix.{Fix}
 use Rattle.lx_types.specs.declared.fix.Source.{Source}
@@ -33,3 +34,13 @@ Skips (Err f) read old new = (read old ≡ Err (fault_said f)) × ((fault_said f
 abbrev pub GivesFix : Option Fix → Record → Record → Type 0
 GivesFix (Some f) old new = (record_fixes old ≡ f ∷ record_fixes new) × IsGood new
 GivesFix None old new = (record_fixes old ≡ []) × (new ≡ old)
+
+-- the sources that are left of a record, where there is one
+abbrev pub fixes_left : Option Record → List Fix
+fixes_left None = []
+fixes_left (Some r) = record_fixes r
+
+-- the same call where there may be no record
+abbrev pub GivesLeft : Option Fix → Option Record → Option Record → Type 0
+GivesLeft (Some f) old new = (fixes_left old ≡ f ∷ fixes_left new) × ForSome new IsGood
+GivesLeft None old new = (fixes_left old ≡ []) × (new ≡ old)

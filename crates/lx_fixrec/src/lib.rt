@@ -2,8 +2,8 @@
 #![tactic(auto)]
 
 mod fields;
-mod record;
 mod reader;
+mod record;
 mod refusal;
 mod sources;
 mod start;

@@ -2,10 +2,10 @@
 
 ghost use Rattle.std.specs.Prelude.{◌≡◌, ◌+◌, ◌<◌, ◌^◌, length};
 ghost use Rattle.std.specs.Prelude.{OnOk};
-ghost use Rattle.lx_fixrec.specs.Left.{left_in, GivesNext, Finds};
+ghost use Rattle.lx_fixrec.specs.Left.{left_in, Finds};
 
-use crate::record::{Record, next_fix, record_at};
-use crate::refusal::{Fault, RecRefusal};
+use crate::record::{Record, next_fix, next_of, record_at};
+use crate::refusal::{Fault, RecRefusal, refusal_of};
 use lx_bytes::Cur;
 use lx_types::Fix;
 use std::marker::Model;
@@ -41,7 +41,6 @@ pub struct Records<'a> {
     cur: Cur<'a>,
     at: u32,
     current: Option<Record<'a>>,
-    ended: bool,
 }
 
 impl<'a> Model for Records<'a> {
@@ -52,7 +51,7 @@ impl<'a> Model for Records<'a> {
 
     ghost Value = { Left };
 
-    ghost view = { λ r. left_of r.at r.current r.ended r.cur };
+    ghost view = { λ r. left_of r.at r.current r.cur };
 
     ghost invariant = { λ r. (r.cur.at + length r.cur.left < 2 ^ 32) × ForSome r.current IsGood };
 }
@@ -67,7 +66,6 @@ impl<'a> Records<'a> {
             cur: Cur::of_part(bytes, at as usize),
             at,
             current: None,
-            ended: false,
         }
     }
 
@@ -76,5 +74,39 @@ impl<'a> Records<'a> {
         ensures { result ≡ self.now.at }
     {
         self.at
+    }
+}
+
+impl<'a> Iterator for Records<'a> {
+    type Item = Result<Fix, RecRefusal>;
+
+    ghost use Rattle.std.specs.Iterator.{at_most};
+    ghost use Rattle.lx_fixrec.specs.Left.{GivesNext, count_of};
+
+    ghost next_gives = { λ before item after. GivesNext item before after };
+
+    ghost remaining = { λ r. at_most (count_of r) };
+
+    fn next(&mut self) -> Option<Result<Fix, RecRefusal>> {
+        if let Some(fix) = next_of(&mut self.current) {
+            return Some(Ok(fix));
+        }
+        match next_record(&mut self.cur) {
+            Ok(Some(found)) => {
+                self.at = found.at;
+                self.current = Some(found.record);
+                Some(Ok(found.fix))
+            }
+            Ok(None) => {
+                self.current = None;
+                None
+            }
+            Err(fault) => {
+                // Nothing is read behind a refusal.
+                self.cur = Cur::of(&[]);
+                self.current = None;
+                Some(Err(refusal_of(fault)))
+            }
+        }
     }
 }

@@ -1,10 +1,11 @@
 //! One record: its spelling, and its sources one after another.
 
 ghost use Rattle.std.specs.Prelude.{◌≡◌, IfOk, IfSome, MatchOption};
+ghost use Rattle.std.specs.Option.{ForSome};
 ghost use Rattle.lx_model.specs.RecordFields.{offsets_at};
 ghost use Rattle.lx_model.specs.Records.{single_at, list_at, record_at};
 ghost use Rattle.lx_fixrec.specs.Reads.{Takes, kind_of};
-ghost use Rattle.lx_fixrec.specs.Sources.{record_fixes, fix_of, IsGood, Skips, GivesFix};
+ghost use Rattle.lx_fixrec.specs.Sources.{record_fixes, fix_of, IsGood, Skips, GivesFix, GivesLeft};
 
 use crate::fields::{additive, byte, offset, target};
 use crate::refusal::Fault;
@@ -123,4 +124,15 @@ pub fn next_fix(current: &mut Record) -> Option<Fix>
     let fix = fix_at(current, offset);
     current.left -= 1;
     Some(fix)
+}
+
+/// The next source of a record, where there is one.
+pub fn next_of(current: &mut Option<Record>) -> Option<Fix>
+    requires { ForSome current.old IsGood }
+    ensures { GivesLeft result current.old current.new }
+{
+    match current {
+        Some(rest) => next_fix(rest),
+        None => None,
+    }
 }

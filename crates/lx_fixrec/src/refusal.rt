@@ -1,6 +1,8 @@
 //! Why fixup records are not read.
 
-ghost use Rattle.std.specs.Prelude.{◌≡◌};
+ghost use Rattle.std.specs.Prelude.{◌≡◌, ◌<◌, ◌^◌};
+ghost use Rattle.lx_fixrec.specs.Reads.{fault_said};
+ghost use Rattle.lx_fixrec.specs.Left.{refusal};
 ghost use Rattle.lx_fixrec.specs.declared.refusal.Fault.TheVariants as fault;
 
 use lx_bytes::Short;
@@ -33,5 +35,17 @@ impl From<Short> for Fault {
 
     fn from(short: Short) -> Fault {
         Fault::Short { at: short.at }
+    }
+}
+
+/// The refusal of a fault.
+pub fn refusal_of(fault: Fault) -> RecRefusal
+    requires { (fault_said fault).at < 2 ^ 32 }
+    ensures { refusal result ≡ fault_said fault }
+{
+    match fault {
+        Fault::Short { at } => RecRefusal::Short { at: at as u32 },
+        Fault::BadSource { at } => RecRefusal::BadSource { at: at as u32 },
+        Fault::Straddle { at } => RecRefusal::Straddle { at: at as u32 },
     }
 }

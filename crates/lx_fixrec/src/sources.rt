@@ -7,6 +7,7 @@ ghost use Rattle.lx_fixrec.specs.Reads.{kind_of};
 use lx_types::Source;
 
 const ALIAS: u8 = 0x10;
+
 const LISTED: u8 = 0x20;
 
 /// What a source byte says: the source, whether its selector is that of the alias, and whether

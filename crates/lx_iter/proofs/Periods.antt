@@ -8,7 +8,7 @@ use Rattle.std.proofs.lemmas.Bool.{eq-eqb}
 use Rattle.std.proofs.lemmas.Bool.Decides.{Decides-eqb, Decides-like, same_from_decides}
 use Rattle.std.proofs.lemmas.Slice.Eq.{slice_eq-Decides, bytes_eq-Decides}
 use Rattle.std.proofs.lemmas.List.{nil_from_length, take-append-drop, take-take, take_at, drop_at, drop-take, take_more, drop_more, take_rest, length-take-le}
-use Rattle.std.proofs.Math.Nat.{mod-add-div, mul-le-mul_left}
+use Rattle.std.proofs.Math.Nat.{mod-add-div}
 use Rattle.lx_model.specs.Packed.{before_data, data_of, repeats}
 use Rattle.lx_iter.proofs.Repeats.{repeat_end, length-repeat}
 

@@ -1,6 +1,6 @@
 -- Iterated data as it is written: what of a page is written, and in which groups.
 -- LX: "Iterated Data Pages".
-use Rattle.std.specs.Prelude.{ℕ, zero, suc, ◌+◌, ◌-◌, ◌*◌, ◌/◌, ◌%◌, ◌==◌, ◌&&◌, not, Bool, List, [], ◌∷◌, ◌++◌, length, take, replicate, find, Option, Some, None, nat_lt, bytes_eq, if◌then◌else◌}
+use Rattle.std.specs.Prelude.{ℕ, zero, suc, ◌+◌, ◌-◌, ◌/◌, ◌%◌, ◌==◌, ◌&&◌, Bool, List, [], ◌∷◌, ◌++◌, length, take, replicate, find, Option, Some, None, nat_lt, bytes_eq, if◌then◌else◌}
 use Rattle.std.specs.List.{repeat}
 use Rattle.lx_types.specs.declared.object.TheConstants.{PAGE_SIZE}
 use Rattle.lx_model.specs.Iterated.{Group, groups_spelling}

@@ -1,5 +1,5 @@
 -- Worked values: pages and the iterated data that they are written in.
-use Rattle.std.specs.Prelude.{◌≡◌, ℕ, List, [], ◌∷◌, ◌++◌, replicate, Some, None}
+use Rattle.std.specs.Prelude.{◌≡◌, [], ◌∷◌, ◌++◌, replicate, Some, None}
 use Rattle.std.specs.List.{repeat}
 use Rattle.lx_model.specs.Packed.{packed}
 

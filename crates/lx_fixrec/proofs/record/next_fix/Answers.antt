@@ -1,7 +1,7 @@
 use Rattle.std.proofs.Common.{◌≡◌, ◌-◌, ◌∷◌, ◌∙◌, List, ap, sym, refl, to_z, of_z, to_z-of_z, w32, arith}
 use Rattle.lx_types.specs.declared.fix.Fix.{Fix}
 use Rattle.lx_fixrec.specs.Sources.{offsets_left, fix_of}
-use Rattle.std.specs.Prelude.{ℤ, map}
+use Rattle.std.specs.Prelude.{ℤ}
 use Rattle.lx_model.specs.Records.{fixes_at_offsets}
 use Rattle.lx_fixrec.specs.Reads.{kind_of, fault_said}
 use Rattle.lx_fixrec.proofs.Offsets.{left_next, left_wrong, nothing_left}

@@ -1,5 +1,5 @@
-use Rattle.std.proofs.Common.{ℕ, ◌≡◌, ◌-◌, ◌≤◌, ◌+◌, ◌∙◌, length, arith, refl, subst}
-use Rattle.lx_model.specs.RecordFields.{offset_at, offsets_at}
+use Rattle.std.proofs.Common.{ℕ, ◌≤◌, ◌∙◌, arith, refl, subst}
+use Rattle.lx_model.specs.RecordFields.{offsets_at}
 use Rattle.lx_fixrec.specs.Reads.{fault_said}
 use Rattle.lx_fixrec.proofs.Offsets.{follows_start, follows_more, follows_wrong, follows_none, skip_said}
 use Rattle.lx_fixrec.proofs.record.skip_offsets.Goals as goal

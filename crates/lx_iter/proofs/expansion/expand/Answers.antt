@@ -1,6 +1,5 @@
-use Rattle.std.proofs.Common.{◌≡◌, ◌+◌, ◌*◌, ◌-◌, ◌≤◌, ◌++◌, List, ℕ, Option, Ok, Some, None, sym, subst, ap, ◌∙◌, arith, take, drop, replicate, length, length-take, length-drop}
+use Rattle.std.proofs.Common.{◌≡◌, ◌+◌, ◌*◌, ◌-◌, ◌≤◌, List, ℕ, Option, Ok, Some, None, sym, subst, ap, ◌∙◌, arith, take, drop, replicate, length, length-take, length-drop}
 use borrow.Rule.Slice.PartMut.{mid_of}
-use Rattle.std.specs.List.{repeat}
 use Rattle.lx_types.specs.declared.object.TheConstants.{PAGE_SIZE}
 use Rattle.lx_model.specs.Iterated.{group_at, expansion}
 use Rattle.lx_model.specs.Reading.{many}

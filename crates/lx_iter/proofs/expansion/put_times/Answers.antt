@@ -1,4 +1,4 @@
-use Rattle.std.proofs.Common.{◌≡◌, ◌+◌, ◌*◌, ◌≤◌, arith, length}
+use Rattle.std.proofs.Common.{◌≤◌, arith, length}
 use Rattle.std.proofs.Math.Nat.{mul-le-mul_left}
 use Rattle.lx_iter.proofs.Repeats.{none_written, written_more}
 use Rattle.lx_iter.proofs.expansion.put_times.Goals as goal

@@ -1,8 +1,8 @@
-use Rattle.std.proofs.Common.{Vec, Global, length-drop, ◌≡◌, ◌++◌, ◌+◌, ◌<◌, ◌≤◌, [], ◌∷◌, List, ℕ, length, drop, take, replicate, get_or, arith, subst, sym, ◌∙◌, ap}
+use Rattle.std.proofs.Common.{Vec, Global, length-drop, ◌≡◌, ◌++◌, ◌+◌, ◌≤◌, [], ◌∷◌, List, ℕ, length, drop, take, replicate, get_or, arith, subst, sym, ◌∙◌, ap}
 use Rattle.std.specs.List.{between}
 use Rattle.std.proofs.lemmas.List.{take_rest}
 use Rattle.lx_model.specs.Iterated.{groups_spelling, group_spelling}
-use Rattle.lx_model.specs.Packed.{runs_of, groups_of_runs, before_groups, LONG_RUN}
+use Rattle.lx_model.specs.Packed.{runs_of, groups_of_runs, before_groups}
 use Rattle.lx_iter.proofs.Runs.{run, Kept, kept_short, kept_long, byte_at}
 use Rattle.lx_iter.proofs.packing.push_runs.Goals as goal
 use Rattle.lx_iter.proofs.packing.push_runs.Goals.{then-len-ge-LONG_RUN+in_ok-push_once+in_ok-push_group, else-len-ge-LONG_RUN}
