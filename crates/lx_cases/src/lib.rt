@@ -20,6 +20,7 @@ mod import_libraries;
 mod linking;
 #[cfg(test)]
 mod lx_tables;
+#[cfg(test)]
 mod lx_parts;
 #[cfg(test)]
 mod module_file;

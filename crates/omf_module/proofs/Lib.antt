@@ -5,6 +5,3 @@ mod Offsets
 mod Marks
 mod Apartness
 mod Forms
-mod RecordRead
-mod BeginRead
-mod WholeObject
