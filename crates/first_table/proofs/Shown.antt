@@ -1,14 +1,14 @@
 -- The entries of a table by the bytes of their names: places, look-ups and one more name.
-use Rattle.std.specs.Prelude.{◌≡◌, ℕ, suc, ◌+◌, ◌<◌, Bool, true, false, cond, not, ◌||◌, List, [], ◌∷◌, ◌++◌, Option, Some, None, map, length, bytes_eq, nat_lt, position, is_some, refl}
+use Rattle.std.specs.Prelude.{◌≡◌, ℕ, suc, ◌+◌, Bool, true, false, cond, not, ◌||◌, List, [], ◌∷◌, ◌++◌, Option, Some, None, map, length, bytes_eq, nat_lt, position, is_some, refl}
 use Rattle.std.specs.List.{find, list_any, position_or_len}
 use Rattle.std.specs.Option.{option_map}
 use Rattle.std.specs.Map.{lookup, keys_of}
-use Rattle.std.proofs.Common.{ap, sym, ◌∙◌, arith, true≢false, subst}
+use Rattle.std.proofs.Common.{ap, sym, ◌∙◌, arith, true≢false}
 use Rattle.std.proofs.lemmas.Bool.{lt-ltb}
 use Rattle.std.proofs.lemmas.Bool.Decides.{nat_tests}
-use Rattle.std.proofs.lemmas.List.{length-map, map-append}
+use Rattle.std.proofs.lemmas.List.{length-map}
 use Rattle.indexmap.specs.IndexMap.{insert_entry}
-use Rattle.first_table.specs.Entries.{is_named, value_named, with_entry}
+use Rattle.first_table.specs.Entries.{is_named, value_named}
 
 abbrev pub shown : {K V : Type 0} → (K → List ℕ) → List (K × V) → List (List ℕ × V)
 shown bytes es = map (λ e. (bytes e.0, e.1)) es

@@ -10,7 +10,6 @@ use Rattle.std.specs.Option.{option_or, option_and_then}
 use Rattle.std.proofs.Math.ListN.{get_or}
 use Rattle.std.proofs.lemmas.List.{take_more, take-append-drop}
 use Rattle.std.proofs.lemmas.List.Folds.{find-append}
-use Rattle.link_model.specs.declared.refusals.SymRefusal.{SymRefusal}
 use Rattle.link_model.specs.declared.refusals.SymRefusal.TheVariants.{Twice}
 use Rattle.link_model.specs.Words.{first_conflict}
 use Rattle.link_model.specs.SymbolRefusals.{counts_once, conflicts}

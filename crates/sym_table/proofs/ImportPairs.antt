@@ -1,5 +1,5 @@
 -- The table of import pairs, with one more definition.
-use Rattle.std.specs.Prelude.{◌≡◌, Bool, true, false, cond, ◌&&◌, ◌==◌, List, [], ◌∷◌, ◌++◌, ℕ, Option, Some, None, bytes_eq, refl}
+use Rattle.std.specs.Prelude.{◌≡◌, true, false, cond, ◌&&◌, List, [], ◌∷◌, ◌++◌, ℕ, Option, Some, None, bytes_eq, refl}
 use Rattle.std.specs.List.{list_any, filter_map, cons_option}
 use Rattle.std.specs.Cmp.{IsEquivalence}
 use Rattle.std.proofs.Common.{ap, sym, ◌∙◌, true≢false}
@@ -11,7 +11,7 @@ use Rattle.lx_types.specs.declared.entry.EntryKey.{EntryKey}
 use Rattle.lx_types.specs.declared.entry.EntryKey.TheVariants.{Ordinal, Named}
 use Rattle.obj_types.specs.declared.symbol.Imp.{Imp}
 use Rattle.link_model.specs.Appearance.{firsts_by}
-use Rattle.link_model.specs.Symbols.{Definition, Public, Imported, ImportKey, import_key, same_import, same_entry, pair_of}
+use Rattle.link_model.specs.Symbols.{Definition, ImportKey, import_key, same_import, same_entry, pair_of}
 use Rattle.link_model.proofs.KeyTests.{Decided, equivalence}
 use Rattle.link_model.proofs.Tables.{firsts-push}
 use Rattle.sym_table.specs.Definitions.{imports_among}

@@ -1,6 +1,7 @@
 //! The definitions of a link's names: which there are, which is a name's first, and which import pairs there are.
 #![tactic(auto)]
 
+mod communals;
 mod definitions;
 mod firsts;
 mod imports;
@@ -8,6 +9,7 @@ mod meanings;
 mod modules;
 mod names;
 
+pub use communals::{Comdef, Communals, comdefs_of, communals_of, undefined_of};
 pub use definitions::{Definition, Meaning, definitions_of};
 pub use firsts::{first_definitions, same_entry, same_pair};
 pub use imports::{imports_of, slot_of};

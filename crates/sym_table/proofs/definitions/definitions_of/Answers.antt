@@ -1,4 +1,4 @@
-use Rattle.std.proofs.Common.{◌≡◌, ◌∙◌, ◌++◌, ap, sym}
+use Rattle.std.proofs.Common.{◌∙◌, ◌++◌, ap, sym}
 use Rattle.link_model.specs.Symbols.{definitions_in}
 use Rattle.link_model.specs.Link.{of_modules}
 use Rattle.sym_table.specs.Links.{link_with}

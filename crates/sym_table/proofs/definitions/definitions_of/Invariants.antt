@@ -1,4 +1,4 @@
-use Rattle.std.proofs.Common.{◌≡◌, ◌++◌, map, take}
+use Rattle.std.proofs.Common.{◌≡◌, map, take}
 use Rattle.link_model.specs.Link.{of_modules}
 use Rattle.link_model.specs.Symbols.{definitions_in}
 use Rattle.sym_table.specs.Links.{link_with}

@@ -1,8 +1,7 @@
-use Rattle.std.proofs.Common.{◌≡◌, ◌∙◌, ap, sym, Some, None, take, false, not, refl, option_copied}
+use Rattle.std.proofs.Common.{◌≡◌, ◌∙◌, ap, sym, Some, take, false, not, option_copied}
 use Rattle.std.specs.Option.{option_map}
 use Rattle.first_table.specs.Entries.{value_named, with_entry}
-use Rattle.link_model.specs.SymbolRefusals.{counts_once}
-use Rattle.sym_table.specs.Definitions.{meaning_shown, shown}
+use Rattle.sym_table.specs.Definitions.{shown}
 use Rattle.sym_table.specs.Firsts.{firsts_of}
 use Rattle.sym_table.proofs.Conflicts.{late}
 use Rattle.sym_table.proofs.FirstOnes.{first_more, no_second, second_found}

@@ -1,9 +1,9 @@
-use Rattle.std.proofs.Common.{◌≡◌, ◌∙◌, ap, sym, take, Some, None, not, true, false, Bool, find}
+use Rattle.std.proofs.Common.{◌≡◌, ◌∙◌, ap, sym, take, Some, not, true, false, Bool, find}
 use Rattle.std.specs.Option.{option_map}
 use Rattle.obj_types.specs.declared.symbol.Exp.{Exp}
 use Rattle.link_model.specs.declared.refusals.SymRefusal.TheVariants.{Missing}
 use Rattle.link_model.specs.SymbolRefusals.{is_exportable}
-use Rattle.sym_table.specs.Meanings.{global_in, missing_export_in}
+use Rattle.sym_table.specs.Meanings.{global_in}
 use Rattle.sym_table.proofs.Lists.{find-here, find-past, not_mapped}
 use Rattle.sym_table.proofs.meanings.check_exports.Goals as goal
 

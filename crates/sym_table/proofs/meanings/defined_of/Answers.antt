@@ -1,4 +1,4 @@
-use Rattle.std.proofs.Common.{◌≡◌, ◌∙◌, ◌++◌, ◌∷◌, [], ap, sym, map, take, List, Option, ℕ}
+use Rattle.std.proofs.Common.{◌∙◌, ◌++◌, ◌∷◌, [], ap, sym, map, take, List, Option, ℕ}
 use Rattle.std.proofs.lemmas.List.{map-append}
 use Rattle.link_model.specs.declared.symbols.SymDef.{SymDef}
 use Rattle.first_table.specs.Entries.{with_entry}

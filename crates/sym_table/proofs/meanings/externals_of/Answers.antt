@@ -1,9 +1,9 @@
-use Rattle.std.proofs.Common.{◌≡◌, ◌∙◌, ap, sym, map, take, Some, is_none, true, find, Option}
+use Rattle.std.proofs.Common.{◌∙◌, ap, sym, take, Some, is_none, find, Option}
 use Rattle.link_model.specs.declared.symbols.SymDef.{SymDef}
 use Rattle.std.specs.Option.{option_map}
 use Rattle.obj_types.specs.declared.symbol.Ext.{Ext}
 use Rattle.link_model.specs.declared.refusals.SymRefusal.TheVariants.{Missing}
-use Rattle.sym_table.specs.Meanings.{meaning_in, missing_row}
+use Rattle.sym_table.specs.Meanings.{meaning_in}
 use Rattle.sym_table.proofs.Lists.{find-here, none_is_none}
 use Rattle.sym_table.proofs.meanings.externals_of.Goals as goal
 

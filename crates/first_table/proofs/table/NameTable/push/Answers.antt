@@ -1,7 +1,7 @@
-use Rattle.std.proofs.Common.{◌≡◌, ◌∙◌, ◌++◌, ◌∷◌, [], ap, sym, refl, Some, None, position, length, cond, false, bytes_eq}
+use Rattle.std.proofs.Common.{◌≡◌, ◌∙◌, ◌++◌, ◌∷◌, [], ap, sym, refl, position, length, cond, false, bytes_eq}
 use Rattle.std.specs.List.{list_any}
 use Rattle.std.proofs.lemmas.List.{length-map}
-use Rattle.first_table.specs.Entries.{is_named, with_entry}
+use Rattle.first_table.specs.Entries.{is_named}
 use Rattle.first_table.proofs.Shown.{position-shown, there, not_there, behind, insert-shown, shown}
 use Rattle.first_table.proofs.table.NameTable.push.Goals as goal
 

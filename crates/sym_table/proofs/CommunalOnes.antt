@@ -1,0 +1,119 @@
+-- Communals: one more module's COMDEFs, and one more COMDEF without definition.
+use Rattle.std.specs.Prelude.{◌≡◌, ℕ, ◌+◌, ◌<◌, Bool, true, false, cond, ◌||◌, List, [], ◌∷◌, ◌++◌, Option, Some, None, map, length, take, nat_lt, bytes_eq, refl}
+use Rattle.std.specs.List.{list_any, position_or_len, filter_map, enumerate_from, cons_option}
+use Rattle.std.specs.Borrow.{Bor}
+use Rattle.std.proofs.Common.{ap, sym, ◌∙◌, arith}
+use Rattle.std.proofs.Math.ListN.{get_or}
+use Rattle.std.proofs.lemmas.Bool.Decides.{nat_tests}
+use Rattle.std.proofs.lemmas.List.{length-map, map-append, take_more, append_assoc, append-nil}
+use Rattle.std.proofs.lemmas.List.FromFn.{length-enumerate_from}
+use Rattle.std.proofs.lemmas.List.Elements.{filter_map-append}
+use Rattle.obj_types.specs.declared.object.ObjModule.{ObjModule}
+use Rattle.obj_types.specs.declared.symbol.Common.{Common}
+use Rattle.obj_types.specs.declared.symbol.Ext.{Ext}
+use Rattle.obj_types.specs.declared.input.LinkInput.{LinkInput}
+use Rattle.link_model.specs.declared.symbols.SymDef.{SymDef}
+use Rattle.link_model.specs.declared.symbols.SymDef.TheVariants as means
+use Rattle.link_model.specs.Appearance.{firsts}
+use Rattle.link_model.specs.Link.{externals}
+use Rattle.link_model.specs.Symbols.{comdefs, comdef_of}
+use Rattle.first_table.specs.Entries.{is_named, with_entry}
+use Rattle.first_table.proofs.Shown.{any-place, behind}
+use Rattle.sym_table.specs.Links.{link_with}
+use Rattle.sym_table.specs.Firsts.{same_name}
+use Rattle.sym_table.specs.Communals.{with_greatest, slotted}
+use Rattle.sym_table.proofs.FirstOnes.{entry-push}
+use Rattle.sym_table.proofs.Lists.{modules-push}
+
+without_number : (n : ℕ) (es : List Ext) → filter_map (λ (q : ℕ × Ext). comdef_of q.1) (map (λ (e : Ext). (n, e)) es) ≡ filter_map comdef_of es
+without_number n [] = refl
+without_number n (e ∷ es) = ap (λ (t : List (List ℕ × Common)). cons_option (comdef_of e) t) (without_number n es)
+
+pub comdefs-push : (input : LinkInput) (mods : List (Bor ObjModule)) (i : ℕ) (m : Bor ObjModule) → i < length mods → m ≡ get_or mods i m →
+    comdefs (link_with input (take (i + 1) mods)) ≡ comdefs (link_with input (take i mods)) ++ filter_map comdef_of m.now.exts
+comdefs-push input mods i m there is =
+    let of : ℕ → ObjModule → List (ℕ × Ext) = λ n o. map (λ (e : Ext). (n, e)) o.exts in
+    ap (filter_map (λ (q : ℕ × Ext). comdef_of q.1)) (modules-push of input mods i m there is)
+    ∙ filter_map-append (λ (q : ℕ × Ext). comdef_of q.1) (externals (link_with input (take i mods))) (of (i + 1) m.now)
+    ∙ ap (λ (t : List (List ℕ × Common)). comdefs (link_with input (take i mods)) ++ t) (without_number (i + 1) m.now.exts)
+
+-- ---- slots
+
+abbrev slotted_from : ℕ → List (List ℕ × Common) → List (List ℕ × SymDef)
+slotted_from s cs = map (λ q. (q.1.0, means.Common q.0)) (enumerate_from s cs)
+
+named_slots : (name : List ℕ) (s : ℕ) (cs : List (List ℕ × Common)) → list_any (is_named {V = SymDef} name) (slotted_from s cs) ≡ list_any (is_named {V = Common} name) cs
+named_slots name s [] = refl
+named_slots name s (c ∷ cs) = ap (λ (b : Bool). bytes_eq name c.0 || b) (named_slots name (s + 1) cs)
+
+named_greatest : (name : List ℕ) (all cs : List (List ℕ × Common)) → list_any (is_named {V = Common} name) (map (with_greatest all) cs) ≡ list_any (is_named {V = Common} name) cs
+named_greatest name all [] = refl
+named_greatest name all (c ∷ cs) = ap (λ (b : Bool). bytes_eq name c.0 || b) (named_greatest name all cs)
+
+slotted-push : (s : ℕ) (cs : List (List ℕ × Common)) (c : List ℕ × Common) → slotted_from s (cs ++ c ∷ []) ≡ slotted_from s cs ++ (c.0, means.Common (s + length cs)) ∷ []
+slotted-push s [] c = ap (λ (n : ℕ). let e : List ℕ × SymDef = (c.0, means.Common n) in e ∷ []) (omega arith)
+slotted-push s (d ∷ cs) c =
+    let first : List ℕ × SymDef = (d.0, means.Common s) in
+    ap (λ (t : List (List ℕ × SymDef)). first ∷ t) (slotted-push (s + 1) cs c)
+    ∙ ap (λ (n : ℕ). let e : List ℕ × SymDef = (c.0, means.Common n) in first ∷ (slotted_from (s + 1) cs ++ e ∷ [])) (omega arith)
+
+length-slotted : (cs : List (List ℕ × Common)) → length (slotted cs) ≡ length cs
+length-slotted cs = length-map (enumerate_from 0 cs) (λ q. (q.1.0, means.Common q.0)) ∙ length-enumerate_from 0 cs
+
+not_below : (n m : ℕ) → n ≡ m → nat_lt n m ≡ false
+not_below n m e = grind (arith, nat_tests)
+
+absent_by : (name : List ℕ) (slots : List (List ℕ × SymDef)) (place : ℕ) → place ≡ position_or_len (is_named {V = SymDef} name) slots → place ≡ length slots → list_any (is_named {V = SymDef} name) slots ≡ false
+absent_by name slots place at last = any-place (is_named {V = SymDef} name) slots ∙ not_below _ _ (sym at ∙ last)
+
+present_by : (name : List ℕ) (slots : List (List ℕ × SymDef)) (place : ℕ) (b : Bool) → list_any (is_named {V = SymDef} name) slots ≡ b → place ≡ position_or_len (is_named {V = SymDef} name) slots → (place ≡ length slots → ⊥) → b ≡ true
+present_by name slots place true is at not_last = refl
+present_by name slots place false is at not_last = absurd (not_last (at ∙ sym (behind (is_named {V = SymDef} name) slots is)))
+
+-- The slots' names are those of the first COMDEFs.
+same_names : (all es : List (List ℕ × Common)) (name : List ℕ) (list : List (List ℕ × Common)) (slots : List (List ℕ × SymDef)) → list ≡ map (with_greatest all) (firsts same_name es) → slots ≡ slotted list →
+    list_any (is_named {V = Common} name) (firsts same_name es) ≡ list_any (is_named {V = SymDef} name) slots
+same_names all es name list slots e f =
+    sym (ap (list_any (is_named {V = SymDef} name)) f ∙ (named_slots name 0 list ∙ (ap (list_any (is_named {V = Common} name)) e ∙ named_greatest name all (firsts same_name es))))
+
+pub new_communal : (all es : List (List ℕ × Common)) (x : List ℕ × Common) (list : List (List ℕ × Common)) (slots : List (List ℕ × SymDef)) (place : ℕ) →
+    list ≡ map (with_greatest all) (firsts same_name es) → slots ≡ slotted list → place ≡ position_or_len (is_named {V = SymDef} x.0) slots → place ≡ length slots →
+    (list ++ with_greatest all x ∷ [] ≡ map (with_greatest all) (firsts same_name (es ++ x ∷ []))) × (with_entry slots x.0 (means.Common (length slots)) ≡ slotted (list ++ with_greatest all x ∷ []))
+new_communal all es x list slots place e f at last =
+    let none : list_any (is_named {V = SymDef} x.0) slots ≡ false = absent_by x.0 slots place at last in
+    let new : List ℕ × SymDef = (x.0, means.Common (length slots)) in
+    let table : List (List ℕ × Common) = firsts same_name es in (
+      ap (λ (t : List (List ℕ × Common)). t ++ with_greatest all x ∷ []) e
+          ∙ sym (map-append (with_greatest all) table (x ∷ []))
+          ∙ ap (map (with_greatest all)) (sym (sym (entry-push es x.0 x.1) ∙ ap (λ (b : Bool). cond b table (table ++ x ∷ [])) (same_names all es x.0 list slots e f ∙ none))),
+      ap (λ (b : Bool). cond b slots (slots ++ new ∷ [])) none
+          ∙ ap (λ (n : ℕ). let v : List ℕ × SymDef = (x.0, means.Common n) in slots ++ v ∷ []) (ap length f ∙ length-slotted list)
+          ∙ ap (λ (t : List (List ℕ × SymDef)). let v : List ℕ × SymDef = (x.0, means.Common (length list)) in t ++ v ∷ []) f
+          ∙ sym (slotted-push 0 list (with_greatest all x) ∙ ap (λ (n : ℕ). let v : List ℕ × SymDef = (x.0, means.Common n) in slotted list ++ v ∷ []) (omega arith)),
+    )
+
+pub old_communal : (all es : List (List ℕ × Common)) (x : List ℕ × Common) (list : List (List ℕ × Common)) (slots : List (List ℕ × SymDef)) (place : ℕ) (value : SymDef) →
+    list ≡ map (with_greatest all) (firsts same_name es) → slots ≡ slotted list → place ≡ position_or_len (is_named {V = SymDef} x.0) slots → (place ≡ length slots → ⊥) →
+    (list ≡ map (with_greatest all) (firsts same_name (es ++ x ∷ []))) × (with_entry slots x.0 value ≡ slotted list)
+old_communal all es x list slots place value e f at not_last =
+    let some : list_any (is_named {V = SymDef} x.0) slots ≡ true = present_by x.0 slots place (list_any (is_named {V = SymDef} x.0) slots) refl at not_last in
+    let table : List (List ℕ × Common) = firsts same_name es in
+    let new : List ℕ × SymDef = (x.0, value) in (
+      e ∙ ap (map (with_greatest all)) (sym (sym (entry-push es x.0 x.1) ∙ ap (λ (b : Bool). cond b table (table ++ x ∷ [])) (same_names all es x.0 list slots e f ∙ some))),
+      ap (λ (b : Bool). cond b slots (slots ++ new ∷ [])) some ∙ f,
+    )
+
+-- ---- one more external of a module
+
+filter_map-more : {X Y : Type 0} (h : X → Option Y) (xs : List X) (i : ℕ) (x : X) → i < length xs → x ≡ get_or xs i x → filter_map h (take (i + 1) xs) ≡ filter_map h (take i xs) ++ cons_option (h x) []
+filter_map-more {X} {Y} h xs i x there is =
+    ap (filter_map h) (take_more xs i x there ∙ ap (λ (y : X). take i xs ++ y ∷ []) (sym is)) ∙ filter_map-append h (take i xs) (x ∷ [])
+
+pub added : {X Y : Type 0} (h : X → Option Y) (base now next : List Y) (xs : List X) (i : ℕ) (x : X) (y : Y) → i < length xs → x ≡ get_or xs i x → h x ≡ Some y → now ≡ base ++ filter_map h (take i xs) → next ≡ now ++ y ∷ [] → next ≡ base ++ filter_map h (take (i + 1) xs)
+added {X} {Y} h base now next xs i x y there is value e f =
+    f ∙ ap (λ (t : List Y). t ++ y ∷ []) e ∙ append_assoc base (filter_map h (take i xs)) (y ∷ [])
+    ∙ ap (λ (t : List Y). base ++ t) (sym (filter_map-more h xs i x there is ∙ ap (λ (o : Option Y). filter_map h (take i xs) ++ cons_option o []) value))
+
+pub passed : {X Y : Type 0} (h : X → Option Y) (base now : List Y) (xs : List X) (i : ℕ) (x : X) → i < length xs → x ≡ get_or xs i x → h x ≡ None → now ≡ base ++ filter_map h (take i xs) → now ≡ base ++ filter_map h (take (i + 1) xs)
+passed {X} {Y} h base now xs i x there is none e =
+    e ∙ ap (λ (t : List Y). base ++ t) (sym (filter_map-more h xs i x there is ∙ (ap (λ (o : Option Y). filter_map h (take i xs) ++ cons_option o []) none ∙ append-nil (filter_map h (take i xs)))))

@@ -1,0 +1,19 @@
+-- Communals, from COMDEFs that are lent.
+use Rattle.std.specs.Prelude.{ℕ, List, map, max, filter, bytes_eq}
+use Rattle.std.specs.List.{fold, enumerate_from}
+use Rattle.obj_types.specs.declared.symbol.Common.{Common}
+use Rattle.link_model.specs.declared.symbols.SymDef.{SymDef}
+use Rattle.link_model.specs.declared.symbols.SymDef.TheVariants as means
+use Rattle.sym_table.specs.declared.communals.Comdef.{Comdef}
+
+abbrev pub comdef_shown : Comdef → List ℕ × Common
+comdef_shown c = (c.name.now, c.common)
+
+-- A communal is as long as the longest of these COMDEFs of its name.
+abbrev pub with_greatest : List (List ℕ × Common) → (List ℕ × Common) → List ℕ × Common
+with_greatest comdefs c =
+    (c.0, record { far = c.1.far; len = fold (λ len c. max len c.1.len) 0 (filter (λ q. bytes_eq q.0 c.0) comdefs) })
+
+-- Each name with its slot.
+abbrev pub slotted : List (List ℕ × Common) → List (List ℕ × SymDef)
+slotted communals = map (λ q. (q.1.0, means.Common q.0)) (enumerate_from 0 communals)

@@ -1,0 +1,133 @@
+//! Communals: the names without definition that a COMDEF has, in order of the first COMDEF.
+
+ghost use Rattle.std.specs.Prelude.{◌≡◌, ◌++◌, map, max, filter, is_none, bytes_eq, fold, option_map, IfOk, OnOk};
+ghost use Rattle.std.specs.List.{filter_map};
+ghost use Rattle.first_table.specs.Entries.{value_named};
+ghost use Rattle.link_model.specs.Appearance.{firsts};
+ghost use Rattle.link_model.specs.Symbols.{comdef_of, comdefs};
+ghost use Rattle.sym_table.specs.Links.{link_with};
+ghost use Rattle.sym_table.specs.Firsts.{same_name};
+ghost use Rattle.sym_table.specs.Communals.{comdef_shown, with_greatest, slotted};
+
+use crate::definitions::Definition;
+use crate::firsts::copied;
+use crate::modules::number;
+use first_table::NameTable;
+use link_model::SymDef;
+use obj_types::{Common, Ext, LinkInput, Name, NoMemory, ObjModule, Seq};
+use std::alloc::Global;
+
+/// A COMDEF: a name and its storage.
+#[derive(Clone, Copy)]
+pub struct Comdef<'a> {
+    pub name: &'a Name,
+    pub common: Common,
+}
+
+// The COMDEF of an external that has one.
+fn comdef_in<'a>(external: &'a Ext) -> Option<Comdef<'a>>
+    ensures { option_map comdef_shown result ≡ comdef_of external.entry.now }
+{
+    if external.local {
+        return None;
+    }
+    match external.common {
+        None => None,
+        Some(common) => Some(Comdef {
+            name: &external.name,
+            common,
+        }),
+    }
+}
+
+fn add_comdefs<'a>(found: &mut Vec<Comdef<'a>>, externals: &'a [Ext]) -> Result<(), NoMemory>
+    ensures { OnOk result (map comdef_shown found.new.items
+        ≡ map comdef_shown found.old.items ++ filter_map comdef_of externals.entry.now) }
+{
+    for external in externals {
+        if let Some(comdef) = comdef_in(external) {
+            found.push(comdef)?;
+        }
+    }
+    Ok(())
+}
+
+/// All COMDEFs, in chosen order.
+pub fn comdefs_of<'a>(
+    alloc: Global,
+    input: &'a LinkInput,
+    modules: &[&'a ObjModule],
+) -> Result<Vec<Comdef<'a>>, NoMemory>
+    ensures { IfOk result (λ found. map comdef_shown found.items ≡ comdefs (link_with input.entry.now modules.entry.now)) }
+{
+    let mut found = Vec::new(alloc);
+    for object in modules {
+        add_comdefs(&mut found, object.exts.as_slice())?;
+    }
+    Ok(found)
+}
+
+/// Those COMDEFs whose name has no definition.
+pub fn undefined_of<'a>(
+    alloc: Global,
+    table: &NameTable<Definition<'_>>,
+    comdefs: &[Comdef<'a>],
+) -> Result<Vec<Comdef<'a>>, NoMemory>
+    ensures { IfOk result (λ found. map comdef_shown found.items
+        ≡ filter (λ c. is_none (value_named c.0 table.entry.now)) (map comdef_shown comdefs.entry.now)) }
+{
+    let mut found = Vec::new(alloc);
+    for comdef in comdefs {
+        if table.get(comdef.name.bytes()).is_none() {
+            found.push(*comdef)?;
+        }
+    }
+    Ok(found)
+}
+
+fn greatest_len(comdefs: &[Comdef<'_>], name: &Name) -> u32
+    ensures { result ≡ fold (λ len c. max len c.1.len) 0 (filter (λ c. bytes_eq c.0 name.now) (map comdef_shown comdefs.now)) }
+{
+    let mut greatest = 0;
+    for comdef in comdefs {
+        if comdef.name == name {
+            greatest = u32::max(greatest, comdef.common.len);
+        }
+    }
+    greatest
+}
+
+/// The communals with the greatest length that a COMDEF of the name has, and the slot of each name.
+#[derive(Drop)]
+pub struct Communals {
+    pub list: Seq<(Name, Common)>,
+    pub slots: NameTable<SymDef>,
+}
+
+/// The communals of these COMDEFs without definition, among all COMDEFs. It looks at all COMDEFs for each communal.
+pub fn communals_of(
+    alloc: Global,
+    comdefs: &[Comdef<'_>],
+    undefined: &[Comdef<'_>],
+) -> Result<Communals, NoMemory>
+    ensures list { IfOk result (λ c. c.list
+        ≡ map (with_greatest (map comdef_shown comdefs.now)) (firsts same_name (map comdef_shown undefined.now))) }
+    ensures slots { IfOk result (λ c. c.slots ≡ slotted c.list) }
+{
+    let mut list = Seq::new(alloc);
+    let mut slots = NameTable::new(alloc);
+    for comdef in undefined {
+        let slot = slots.len();
+        let meaning = SymDef::Common {
+            slot: number(slot)?,
+        };
+        if slots.push(alloc, comdef.name.bytes(), meaning)? == slot {
+            let common = Common {
+                far: comdef.common.far,
+                len: greatest_len(comdefs, comdef.name),
+            };
+            list.push((copied(alloc, comdef.name)?, common))?;
+        }
+    }
+    Ok(Communals { list, slots })
+}
