@@ -1,5 +1,6 @@
 pub mod RunLaws
 pub mod WholeLaws
+pub mod KindLaws
 pub mod Compute
 pub mod SaysLaws
 pub mod ReadHead

@@ -2,6 +2,7 @@
 
 ghost use Rattle.std.specs.Prelude.{◌≡◌, IfOk, map};
 ghost use Rattle.obj_types.specs.Definition.{WholeDef};
+ghost use Rattle.def_file.specs.Stated.{Stated};
 ghost use Rattle.def_file.specs.Whole.{WholeDraft};
 ghost use Rattle.def_file.specs.Meaning.{code_attrs, data_attrs, is_code_class, is_code, segment_of, file_of};
 
@@ -77,11 +78,12 @@ fn segments_of(
 }
 
 /// The value of the statements.
-#[tactic(auto, using(crate::proofs::WholeLaws::named_segments))]
+#[tactic(auto, using(crate::proofs::WholeLaws::named_segments, crate::proofs::KindLaws::stated))]
 pub fn file_of(alloc: Global, draft: Draft) -> Result<DefFile, NoMemory>
     requires { WholeDraft draft }
     ensures value { IfOk result (λ file. file ≡ file_of draft) }
     ensures whole { IfOk result (λ file. WholeDef file) }
+    ensures stated { IfOk result (λ file. Stated file) }
 {
     let code = attrs_with(CODE, draft.code.unwrap_or(Words::NONE));
     let plain = attrs_with(DATA, draft.plain.unwrap_or(Words::NONE));

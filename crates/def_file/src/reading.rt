@@ -4,7 +4,8 @@ ghost use Rattle.std.specs.Prelude.{◌≡◌, IfOk};
 ghost use Rattle.def_tokens.specs.Lexemes.{lexeme_of};
 ghost use Rattle.obj_types.specs.Definition.{WholeDef};
 ghost use Rattle.def_file.specs.Answer.{Reads};
-ghost use Rattle.def_file.specs.Whole.{WholeReading, WholeDraft, WholePlace};
+ghost use Rattle.def_file.specs.Stated.{Stated};
+ghost use Rattle.def_file.specs.Whole.{WholeReading, WholeDraft, WholePlace, FitsKind};
 ghost use Rattle.def_file.specs.Reading.{token_at, step, fail_at, read_of};
 
 use crate::draft::{Draft, Place, Reading, fresh};
@@ -31,6 +32,7 @@ fn token_at(
 ) -> Result<Reading, Fail<DefKind>>
     requires whole { WholeDraft draft }
     requires place { WholePlace place }
+    requires kind { FitsKind place draft.kind }
     ensures value { Reads result (token_at draft place (lexeme_of token.entry)) }
     ensures whole { IfOk result (λ r. WholeReading r) }
 {
@@ -85,10 +87,11 @@ fn at_line(line: u32, fail: Fail<DefKind>) -> Fail<DefRefusal>
 }
 
 /// Reads a definition file, in time linear in its length. It is refused by its first fault in the
-/// order of the file.
+/// order of the file. What is read is whole, and statements can give it, so that it can be written again.
 pub fn read_def(alloc: Global, bytes: &[u8]) -> Result<DefFile, Fail<DefRefusal>>
     ensures read { Reads result (read_of bytes.now) }
     ensures whole { IfOk result (λ file. WholeDef file) }
+    ensures stated { IfOk result (λ file. Stated file) }
 {
     let mut lexer = Lexer::of(bytes);
     let mut reading = fresh(alloc);

@@ -1,9 +1,10 @@
 //! The statements, and those that give one thing.
 
-ghost use Rattle.std.specs.Prelude.{◌≡◌, IfOk, IfSome};
+ghost use Rattle.std.specs.Prelude.{◌≡◌, IfOk, IfSome, None, Some};
+ghost use Rattle.obj_types.specs.declared.definition.ModKind.TheVariants as modules;
 ghost use Rattle.def_tokens.specs.Lexemes.{lexeme_of};
 ghost use Rattle.def_file.specs.Answer.{Reads};
-ghost use Rattle.def_file.specs.Whole.{WholeReading, WholeDraft, WholePlace};
+ghost use Rattle.def_file.specs.Whole.{WholeReading, WholeDraft, WholePlace, FitsKind};
 ghost use Rattle.def_file.specs.Draft.{at};
 ghost use Rattle.def_file.specs.Statements.{begun_by, is_second, keyword_statement, statement, program_name, program, library_words, library, description, sized, size, base, exe_type};
 
@@ -21,6 +22,7 @@ use std::alloc::Global;
 pub fn at(draft: Draft, place: Place) -> Result<Reading, Fail<DefKind>>
     requires whole { WholeDraft draft }
     requires place { WholePlace place }
+    requires kind { FitsKind place draft.kind }
     ensures value { Reads result (at draft place) }
     ensures whole { IfOk result (λ r. WholeReading r) }
 {
@@ -73,7 +75,7 @@ fn is_second(draft: &Draft, keyword: Keyword) -> bool
     }
 }
 
-#[tactic(auto, unfolding(crate::specs::Statements::keyword_statement))]
+#[tactic(auto, using(crate::proofs::KindLaws::begun_kind), unfolding(crate::specs::Statements::keyword_statement))]
 fn keyword_statement(draft: Draft, keyword: Keyword) -> Result<Reading, Fail<DefKind>>
     requires { WholeDraft draft }
     ensures value { Reads result (keyword_statement draft keyword) }
@@ -118,9 +120,10 @@ pub fn program_name(draft: Draft, token: Token<'_>) -> Result<Reading, Fail<DefK
 }
 
 /// Behind NAME.
-#[tactic(auto, unfolding(crate::specs::Statements::program))]
+#[tactic(auto, using(crate::proofs::KindLaws::calls_none), unfolding(crate::specs::Statements::program))]
 pub fn program(alloc: Global, mut draft: Draft, token: Token<'_>) -> Result<Reading, Fail<DefKind>>
-    requires { WholeDraft draft }
+    requires whole { WholeDraft draft }
+    requires kind { draft.kind ≡ None }
     ensures value { Reads result (program draft (lexeme_of token.entry)) }
     ensures whole { IfOk result (λ r. WholeReading r) }
 {
@@ -135,9 +138,10 @@ pub fn program(alloc: Global, mut draft: Draft, token: Token<'_>) -> Result<Read
 }
 
 /// Behind LIBRARY and its name or words: a word on its calls may stand.
-#[tactic(auto, unfolding(crate::specs::Statements::library_words))]
+#[tactic(auto, using(crate::proofs::KindLaws::calls_of_library), unfolding(crate::specs::Statements::library_words))]
 pub fn library_words(mut draft: Draft, token: Token<'_>) -> Result<Reading, Fail<DefKind>>
-    requires { WholeDraft draft }
+    requires whole { WholeDraft draft }
+    requires kind { draft.kind ≡ Some modules.Library }
     ensures value { Reads result (library_words draft (lexeme_of token.entry)) }
     ensures whole { IfOk result (λ r. WholeReading r) }
 {
@@ -157,7 +161,8 @@ pub fn library_words(mut draft: Draft, token: Token<'_>) -> Result<Reading, Fail
 /// Behind LIBRARY.
 #[tactic(auto, unfolding(crate::specs::Statements::library))]
 pub fn library(alloc: Global, mut draft: Draft, token: Token<'_>) -> Result<Reading, Fail<DefKind>>
-    requires { WholeDraft draft }
+    requires whole { WholeDraft draft }
+    requires kind { draft.kind ≡ None }
     ensures value { Reads result (library draft (lexeme_of token.entry)) }
     ensures whole { IfOk result (λ r. WholeReading r) }
 {
