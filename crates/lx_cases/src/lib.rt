@@ -19,9 +19,9 @@ mod import_libraries;
 #[cfg(test)]
 mod linking;
 #[cfg(test)]
-mod lx_tables;
-#[cfg(test)]
 mod lx_parts;
+#[cfg(test)]
+mod lx_tables;
 #[cfg(test)]
 mod module_file;
 #[cfg(test)]
