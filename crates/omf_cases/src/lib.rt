@@ -1,0 +1,6 @@
+//! Tests of the readers of object files, each call once with enough memory: apart from `lx_cases`, so that
+//! the two are proved side by side.
+#![tactic(auto)]
+
+#[cfg(test)]
+mod data_records;
