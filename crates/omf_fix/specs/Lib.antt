@@ -1,3 +1,4 @@
+pub mod Field
 pub mod FixData
 pub mod Methods
 pub mod Placed

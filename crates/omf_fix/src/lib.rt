@@ -2,7 +2,10 @@
 //! ("Relocatable Object Module Format", "9Ch FIXUPP").
 #![tactic(auto)]
 
+mod blocks;
+mod field;
 mod fix_data;
+mod fixupp;
 mod have;
 mod location;
 mod methods;
@@ -10,4 +13,5 @@ mod place;
 mod threads;
 
 pub use fix_data::{FixFields, fix_fields, start_at};
+pub use fixupp::fixups;
 pub use have::Have;
