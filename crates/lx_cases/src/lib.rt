@@ -27,6 +27,8 @@ mod object_file;
 #[cfg(test)]
 mod object_forms;
 #[cfg(test)]
+mod omf_fixups;
+#[cfg(test)]
 mod ports;
 #[cfg(test)]
 mod records;

@@ -78,7 +78,9 @@ fn fixup(
     requires have { Counts have into.old }
     ensures { Adds into.new result (then_field into.old (fixup_at wide into.old (first_byte of_record at high) fields.old)) fields.new }
 {
-    let FixupFields { low, data } = match fixup_fields(fields, wide, into, have, of_record, at, high) {
+    let FixupFields { low, data } = match fixup_fields(
+        fields, wide, into, have, of_record, at, high,
+    ) {
         Ok(read) => read,
         Err(refusal) => return Err(Fail::Said(refusal)),
     };

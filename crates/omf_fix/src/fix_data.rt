@@ -10,7 +10,10 @@ ghost use Rattle.omf_model.specs.ReadFixups.{fix_data_at, method_index_at};
 ghost use Rattle.omf_model.specs.Record.{by_frame_thread, by_target_thread, frame_bits, has_displacement, target_bits};
 
 use crate::have::Have;
-use crate::methods::{are_methods, check_frame, check_goal, frame_by, goal_by, has_index, has_threads, method_index, thread_frame, thread_goal};
+use crate::methods::{
+    are_methods, check_frame, check_goal, frame_by, goal_by, has_index, has_threads, method_index,
+    thread_frame, thread_goal,
+};
 use obj_types::{Frame, Goal, ObjParts, OmfRefusal, StartAt};
 use omf_fields::Fields;
 

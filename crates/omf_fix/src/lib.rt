@@ -11,6 +11,7 @@ mod location;
 mod methods;
 mod place;
 mod threads;
+mod way;
 
 pub use fix_data::{FixFields, fix_fields, start_at};
 pub use fixupp::fixups;

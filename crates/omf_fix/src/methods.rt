@@ -88,7 +88,8 @@ pub fn has_threads(before: &ObjParts, fix: u8) -> bool
 pub fn are_methods(fix: u8) -> bool
     ensures { result ≡ both_methods fix }
 {
-    (fix >= 0x80 || is_frame_method(fix / 16 % 8)) && (fix / 8 % 2 == 1 || is_target_method(fix % 4))
+    (fix >= 0x80 || is_frame_method(fix / 16 % 8))
+        && (fix / 8 % 2 == 1 || is_target_method(fix % 4))
 }
 
 /// Judges a segment that a thread names: it is no debug segment, unless the fixup is on a debugger's data.

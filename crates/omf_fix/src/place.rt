@@ -29,7 +29,7 @@ pub struct FixPlace {
 }
 
 /// The fix at an offset of a segment.
-fn fix_at(seg: u32, offset: u32, place: FixPlace, what: StartAt) -> FixAt
+pub fn fix_at(seg: u32, offset: u32, place: FixPlace, what: StartAt) -> FixAt
     ensures { result ≡ fix_of seg offset place.high what }
 {
     FixAt {
@@ -54,7 +54,7 @@ fn in_segment(segs: &[Seg], index: u32, start: u32, offset: u32) -> u32
 }
 
 /// Whether a fix shares a byte with one of these.
-fn meets_any(fixes: &[FixAt], new: FixAt) -> bool
+pub fn meets_any(fixes: &[FixAt], new: FixAt) -> bool
     ensures { result ≡ list_any (λ f. share_byte f new) fixes.now }
 {
     fixes.iter().any(|fix| meets(fix, new))
