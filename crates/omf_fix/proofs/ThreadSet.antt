@@ -1,5 +1,5 @@
 -- A thread that is set in its array is what THREAD says.
-use Rattle.std.proofs.Common.{◌≡◌, ℕ, zero, suc, ◌<◌, Bool, true, false, List, [], ◌∷◌, length, map, Option, Some, None, get_or, slice_set, refl, sym, ap, ◌∙◌, arith}
+use Rattle.std.proofs.Common.{◌≡◌, ℕ, zero, suc, ◌<◌, Bool, true, false, List, [], ◌∷◌, length, map, Option, Some, None, get_or, slice_set, refl, sym, ◌∙◌, arith}
 use Rattle.std.specs.Prelude.{◌&&◌, ◌==◌, ◌%◌, if◌then◌else◌, unwrap_or}
 use Rattle.std.specs.List.{cons_option}
 use Rattle.obj_types.specs.declared.object.Frame.{Frame}
@@ -7,7 +7,7 @@ use Rattle.obj_types.specs.declared.object.Goal.{Goal}
 use Rattle.obj_types.specs.declared.parts.Threads.{Threads}
 use Rattle.omf_model.specs.Lists.{latest}
 use Rattle.omf_model.specs.AddLists.{HasFour}
-use Rattle.omf_model.specs.Record.{thread, is_frame_thread, thread_method, thread_number}
+use Rattle.omf_model.specs.Record.{thread, is_frame_thread, thread_method}
 use Rattle.omf_model.specs.Fixups.{some, of_each_number, set_threads, frame_by, goal_by}
 use Rattle.omf_model.proofs.PartsLaws.{four-items}
 

@@ -1,11 +1,9 @@
-use Rattle.std.proofs.Common.{rules, ◌≡◌, ◌++◌, ◌∷◌, [], ◌+◌, ◌≤◌, true, false, ℕ, ◌<◌, length, Bool, List, Ok, refl, sym, ap, subst, ◌∙◌, arith}
+use Rattle.std.proofs.Common.{◌∷◌, [], ◌+◌, true, false, ℕ, length, List, sym, ap, ◌∙◌, arith}
 use Rattle.std.specs.List.{list_any}
 use Rattle.std.proofs.lemmas.Bool.{le-leb, lt-leb}
 use Rattle.obj_types.specs.declared.object.FixAt.{FixAt}
 use Rattle.obj_types.specs.Location.{location_len, meets}
-use Rattle.omf_model.specs.Record.{location_of, offset_of}
 use Rattle.omf_model.proofs.BegunLaws.{begun-whole}
-use Rattle.omf_fix.specs.FixData.{data_of, meant}
 use Rattle.omf_fix.specs.Placed.{fix_of}
 use Rattle.omf_fix.proofs.Judged.{no-data, overlap, too-many, good, straight-news, straight-on, straight-lies, apart-one}
 use Rattle.omf_fix.proofs.place.add_straight.Goals as goal

@@ -1,5 +1,4 @@
-use Rattle.std.proofs.Common.{rules, ◌≡◌, ℕ, length, sym, ap, ◌∙◌}
-use Rattle.omf_model.specs.AddLists.{HasFour}
+use Rattle.std.proofs.Common.{rules, sym, ◌∙◌}
 use Rattle.omf_fix.proofs.ThreadSet.{frame-set, goal-set}
 use Rattle.omf_fix.proofs.threads.set_thread.Goals as goal
 
