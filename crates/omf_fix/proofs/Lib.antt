@@ -1,3 +1,6 @@
+mod BlockWritten
+mod Copied
 mod Fields
 mod Judged
+mod Onto
 mod ThreadSet

@@ -11,7 +11,7 @@ mod location;
 mod methods;
 mod place;
 mod threads;
-mod way;
+mod written;
 
 pub use fix_data::{FixFields, fix_fields, start_at};
 pub use fixupp::fixups;
