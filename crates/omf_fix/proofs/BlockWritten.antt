@@ -184,6 +184,10 @@ pub gives_refused : {A B C : Type 0} (view : A → C) (e : Fail OmfRefusal) (rea
 gives_refused view (Said f) read other on h = on f h
 gives_refused view NoMemory read other on h = tt
 
+pub refusal_given : {A B : Type 0} (view : A → B) (e : Fail OmfRefusal) (f : OmfRefusal) (read : Result B OmfRefusal) → Gives view (Err e) read → e ≡ Said f → read ≡ Err f
+refusal_given view (Said g) f read h is = let same : g ≡ f = cc in h ∙ (λ i. Err (same i))
+refusal_given view NoMemory f read h is = absurd cc
+
 -- ---- the blocks of a body
 
 module _ (wide : Bool) (body : List ℕ) (start : Cursor) (there : start.left ≡ body) (first : start.at ≡ 3) (bytes : AreBytes start.left) where

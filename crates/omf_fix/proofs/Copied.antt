@@ -43,7 +43,7 @@ copied_all {A} old now start times done so some low high =
 
 -- ---- numbers one after another
 
-range-snoc : (a n : ℕ) → range_with_len a (suc n) ≡ range_with_len a n ++ (a + n) ∷ []
+pub range-snoc : (a n : ℕ) → range_with_len a (suc n) ≡ range_with_len a n ++ (a + n) ∷ []
 range-snoc a zero = λ i. (let e : a ≡ a + 0 = omega arith in e) i ∷ []
 range-snoc a (suc n) = λ i. a ∷ (range-snoc (a + 1) n ∙ ap (λ (k : ℕ). range_with_len (a + 1) n ++ k ∷ []) (let e : a + 1 + n ≡ a + suc n = omega arith in e)) i
 

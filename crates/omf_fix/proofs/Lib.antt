@@ -1,5 +1,6 @@
 mod BlockWritten
 mod Copied
+mod CopiesFound
 mod Fields
 mod Judged
 mod Onto
