@@ -3,5 +3,6 @@ mod Copied
 mod CopiesFound
 mod Fields
 mod Judged
+mod OnBlocks
 mod Onto
 mod ThreadSet
