@@ -1,5 +1,5 @@
 -- A block of "A2h LIDATA", written behind others.
-use Rattle.std.proofs.Common.{◌≡◌, ◌≢◌, ℕ, zero, suc, ◌+◌, ◌-◌, ◌<◌, ◌≤◌, Bool, true, false, ltb, List, [], ◌∷◌, ◌++◌, length, take, drop, Result, Ok, Err, refl, sym, ap, subst, ◌∙◌, arith, append_assoc, length-append}
+use Rattle.std.proofs.Common.{◌≡◌, ◌≢◌, ℕ, zero, suc, ◌+◌, ◌-◌, ◌<◌, ◌≤◌, Bool, true, false, ltb, List, [], ◌∷◌, ◌++◌, length, take, drop, Result, Ok, Err, refl, sym, ap, subst, ◌∙◌, arith, length-append}
 use Rattle.std.specs.Prelude.{IsTrue}
 use Rattle.std.specs.List.{repeat, range_with_len}
 use Rattle.std.proofs.lemmas.List.{append-nil, length-take}
@@ -66,9 +66,11 @@ items_written left wide live count w c = seen (written_behind wide live (c.at - 
 pub next_written : (left : ℕ) (wide live : Bool) (more : ℕ) (w new : Written) (c d : Cursor) → 0 < more → IsInContents c → written_at left wide live w c ≡ Ok (new, d) → (items_written left wide live more w c ≡ items_written left wide live (more - 1) new d) × IsInContents d
 next_written left wide live more w new c d some ok e =
     let b = seen-ok (with_block wide live (c.at - 3) w) (block_at left wide c) new d e in
-    let m = block-moves left wide c d b.0 ok b.1 in
-    (items-next (written_behind wide live) (more_written wide live) (written-law wide live) (block_at left wide) more (c.at - 3, w) c d b.0 some b.1
-    ∙ (λ i. seen (written_behind wide live (m.0 i, b.2 i)) (items_at (block_at left wide) (more - 1) d)), m.1)
+    let m = block-moves left wide c d b.0 ok b.1 in (
+      items-next (written_behind wide live) (more_written wide live) (written-law wide live) (block_at left wide) more (c.at - 3, w) c d b.0 some b.1
+          ∙ (λ i. seen (written_behind wide live (m.0 i, b.2 i)) (items_at (block_at left wide) (more - 1) d)),
+      m.1,
+    )
 
 pub refused_written : (left : ℕ) (wide live : Bool) (more : ℕ) (w : Written) (c : Cursor) (e : OmfRefusal) → 0 < more → written_at left wide live w c ≡ Err e → items_written left wide live more w c ≡ Err e
 refused_written left wide live more w c e some is =
@@ -163,11 +165,14 @@ through-joined wide w c = by (list_at (block_at MAX_DEPTH wide) c)
 pub next_blocks : (wide : Bool) (w new : Written) (c d : Cursor) → IsInContents c → c.left ≢ [] → written_at MAX_DEPTH wide true w c ≡ Ok (new, d) → (blocks_written wide w c ≡ blocks_written wide new d) × IsInContents d × (length d.left < length c.left)
 next_blocks wide w new c d ok some e =
     let b = seen-ok (with_block wide true (c.at - 3) w) (block_at MAX_DEPTH wide c) new d e in
-    let m = block-moves MAX_DEPTH wide c d b.0 ok b.1 in
-    (through-joined wide w c
-    ∙ list-more (written_behind wide true) (more_written wide true) (written-law wide true) (block_at MAX_DEPTH wide) (block-takes MAX_DEPTH wide) (c.at - 3, w) c d b.0 ok.bytes some b.1
-    ∙ (λ i. through (written_behind wide true (m.0 i, b.2 i)) (list_at (block_at MAX_DEPTH wide) d))
-    ∙ sym (through-joined wide new d), m.1, (block-takes MAX_DEPTH wide c b.0 d ok.bytes b.1).0)
+    let m = block-moves MAX_DEPTH wide c d b.0 ok b.1 in (
+      through-joined wide w c
+          ∙ list-more (written_behind wide true) (more_written wide true) (written-law wide true) (block_at MAX_DEPTH wide) (block-takes MAX_DEPTH wide) (c.at - 3, w) c d b.0 ok.bytes some b.1
+          ∙ (λ i. through (written_behind wide true (m.0 i, b.2 i)) (list_at (block_at MAX_DEPTH wide) d))
+          ∙ sym (through-joined wide new d),
+      m.1,
+      (block-takes MAX_DEPTH wide c b.0 d ok.bytes b.1).0,
+    )
 
 pub refused_blocks : (wide : Bool) (w : Written) (c : Cursor) (e : OmfRefusal) → IsInContents c → c.left ≢ [] → written_at MAX_DEPTH wide true w c ≡ Err e → blocks_written wide w c ≡ Err e
 refused_blocks wide w c e ok some is =

@@ -1,10 +1,9 @@
 -- The places at which a number stands, one after another; and a fix at each.
-use Rattle.std.proofs.Common.{◌≡◌, ℕ, zero, suc, ◌+◌, ◌-◌, ◌<◌, ◌≤◌, Bool, true, false, eqb, List, [], ◌∷◌, ◌++◌, length, map, drop, Option, None, Some, refl, sym, ap, subst, ◌∙◌, arith, append_assoc}
+use Rattle.std.proofs.Common.{◌≡◌, ℕ, zero, suc, ◌+◌, ◌<◌, ◌≤◌, Bool, true, false, eqb, List, [], ◌∷◌, ◌++◌, length, map, drop, Option, None, Some, refl, sym, ap, ◌∙◌, arith, append_assoc}
 use Rattle.std.specs.Prelude.{IsSomeAnd, slice_index, ◌||◌}
 use Rattle.std.specs.List.{filter, range_with_len, list_any}
 use Rattle.std.proofs.lemmas.List.{append-nil, map-append}
 use Rattle.std.proofs.lemmas.List.Elements.{filter-append}
-use Rattle.obj_types.specs.Items.{item}
 use Rattle.obj_types.specs.declared.object.Seg.{Seg}
 use Rattle.omf_model.specs.Fixups.{places_of}
 use Rattle.omf_fix.proofs.Copied.{range-snoc}

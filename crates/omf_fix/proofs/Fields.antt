@@ -1,5 +1,5 @@
 -- A field that is read and added, by its parts; and a record's fields, one after another.
-use Rattle.std.proofs.Common.{◌≡◌, ◌≢◌, ℕ, ◌<◌, ◌+◌, Bool, true, false, cond, eqb, List, [], ◌∷◌, ◌++◌, length, Ok, Err, Result, inl, inr, refl, sym, ap, subst, ◌∙◌}
+use Rattle.std.proofs.Common.{◌≡◌, ◌≢◌, ℕ, ◌<◌, Bool, true, false, cond, List, [], ◌∷◌, ◌++◌, length, Ok, Err, Result, inl, inr, refl, sym, ap, subst, ◌∙◌}
 use Rattle.std.specs.Prelude.{◌⊎◌, ◌||◌, not}
 use Rattle.std.proofs.lemmas.List.{append-nil}
 use Rattle.lx_bytes.specs.Cursor.{Cursor}
@@ -15,7 +15,7 @@ use Rattle.omf_fields.specs.Fields.{Reading, ◌>>=◌, check}
 use Rattle.omf_fields.proofs.SpanLaws.{ok_is}
 use Rattle.omf_frame.specs.declared.omf_record.Rec.{Rec}
 use Rattle.omf_model.specs.AddLists.{HasFour}
-use Rattle.omf_model.specs.Begun.{IsBegun, IsWholeSoFar}
+use Rattle.omf_model.specs.Begun.{IsBegun}
 use Rattle.omf_model.specs.Record.{FixData, FixField, thread, fixup, fixupp, location_of}
 use Rattle.omf_model.specs.Fixups.{set_threads, fixes_by, is_location}
 use Rattle.omf_model.specs.ReadFixups.{FirstByte, is_dropped, second_of, fix_data_at, judge_fixup, thread_at, fixup_at, field_at, fixupp_at}
@@ -28,8 +28,8 @@ use Rattle.omf_fields.proofs.ItemLaws.{takes-form}
 use Rattle.omf_model.specs.Spelling.{field_form}
 use Rattle.omf_model.proofs.FixuppLaws.{field_sound, field_one}
 use Rattle.omf_model.proofs.TurnLaws.{fixupp-next, fixupp-refused, fixupp-done}
-use Rattle.omf_model.proofs.BegunLaws.{begun-kept, begun-whole}
-use Rattle.omf_fix.specs.Field.{Adds, then_field, unplaced_at, first_byte}
+use Rattle.omf_model.proofs.BegunLaws.{begun-kept}
+use Rattle.omf_fix.specs.Field.{Adds, then_field, unplaced_at}
 use Rattle.lx_types.specs.declared.fail.Fail.TheVariants.{Said, NoMemory}
 use Rattle.lx_types.specs.declared.fail.Fail.{Fail}
 use Rattle.omf_fields.specs.Yields.{as_said}

@@ -1,19 +1,18 @@
 -- Blocks that are read one after another: what is written of them, behind what came before.
-use Rattle.std.proofs.Common.{◌≡◌, ◌≢◌, ℕ, zero, suc, ◌+◌, ◌-◌, ◌*◌, ◌<◌, ◌≤◌, Bool, true, false, cond, List, [], ◌∷◌, ◌++◌, length, Result, Ok, Err, refl, sym, ap, subst, ◌∙◌, arith, append_assoc, length-append, inl, inr}
+use Rattle.std.proofs.Common.{◌≡◌, ◌≢◌, ℕ, zero, suc, ◌+◌, ◌-◌, ◌<◌, ◌≤◌, Bool, true, false, cond, List, [], ◌∷◌, ◌++◌, length, Result, Ok, Err, refl, sym, ap, ◌∙◌, arith, append_assoc, length-append}
 use Rattle.std.specs.List.{repeat, range_with_len}
 use Rattle.lx_bytes.specs.Cursor.{Cursor}
 use Rattle.lx_bytes.specs.LittleEndian.{AreBytes}
 use Rattle.lx_bytes.proofs.Numbers.{length-little_bytes}
 use Rattle.obj_types.specs.declared.refusal.OmfRefusal.{OmfRefusal}
-use Rattle.omf_fields.specs.Fields.{Reading, ◌>>=◌, width, number_at, byte_at, bytes_at, items_at, list_at}
+use Rattle.omf_fields.specs.Fields.{Reading, ◌>>=◌, width, number_at, items_at, list_at}
 use Rattle.omf_fields.specs.Yields.{TakesBytes}
 use Rattle.omf_fields.proofs.SpanLaws.{bytes_behind, ok_is}
-use Rattle.omf_fields.proofs.FieldLaws.{number_sound, byte_sound}
 use Rattle.omf_fields.proofs.ItemLaws.{list-next, list-none}
 use Rattle.omf_model.specs.Blocks.{block_bytes, count_of, origins, contents}
 use Rattle.omf_model.specs.ReadBlocks.{Block, innermost, outer, joined, block_at}
 use Rattle.omf_model.proofs.BlockLaws.{block_sound}
-use Rattle.omf_fix.specs.Written.{Written, live_times, block_origins, block_contents, with_block, seen, written_at, IsInContents}
+use Rattle.omf_fix.specs.Written.{Written, live_times, with_block, seen, IsInContents}
 
 -- ---- for any view of blocks that goes on from what came before
 

@@ -61,18 +61,10 @@ fn copies_of(
 }
 
 /// Whether a fix at one of these offsets shares a byte with an earlier one.
-fn meets_copies(
-    fixes: &[FixAt],
-    seg: u32,
-    copies: &[u32],
-    place: FixPlace,
-    what: StartAt,
-) -> bool
+fn meets_copies(fixes: &[FixAt], seg: u32, copies: &[u32], place: FixPlace, what: StartAt) -> bool
     ensures { result ≡ list_any (λ x. list_any (λ f. share_byte f (fix_of seg x place.high what)) fixes.now) copies.now }
 {
-    copies
-        .iter()
-        .any(|offset| meets_any(fixes, fix_at(seg, *offset, place, what)))
+    copies.iter().any(|offset| meets_any(fixes, fix_at(seg, *offset, place, what)))
 }
 
 /// Adds a fix at each of these offsets.

@@ -1,4 +1,4 @@
-use Rattle.std.proofs.Common.{◌≡◌, ℕ, ◌+◌, List, [], ◌∷◌, ◌++◌, ap, ◌∙◌, arith}
+use Rattle.std.proofs.Common.{ℕ, [], ◌∷◌, ◌++◌, ap, ◌∙◌, arith}
 use Rattle.std.proofs.lemmas.Bool.{eq-eqb, ne_eqb}
 use Rattle.omf_fix.proofs.CopiesFound.{found_more, found_no_more}
 use Rattle.omf_fix.proofs.blocks.copies_of.Goals as goal
@@ -9,7 +9,7 @@ places-preserved c =
     elim c.if-list-next.branch [
       | then-list-next+in_ok-push w ↦ (
         found_more c.args.number c.args.start c.args.list.now c.places.next c.places.copies.items c.if-list-next.copies.items c.places.invariant.0 (eq-eqb _ _ w.if-list-next.true)
-        (ap (λ v. v.items) w.copies-is ∙ w.in_ok-push.ensures.items ∙ ap (λ (k : ℕ). c.places.copies.items ++ k ∷ []) w.in_segment.ensures),
+            (ap (λ v. v.items) w.copies-is ∙ w.in_ok-push.ensures.items ∙ ap (λ (k : ℕ). c.places.copies.items ++ k ∷ []) w.in_segment.ensures),
         omega arith,
       )
       | else-list-next w ↦ (

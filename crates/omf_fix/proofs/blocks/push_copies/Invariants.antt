@@ -1,4 +1,4 @@
-use Rattle.std.proofs.Common.{◌≡◌, ◌++◌, ◌-◌, ◌≤◌, length, map, drop}
+use Rattle.std.proofs.Common.{◌≡◌, ◌++◌, ◌-◌, length, map, drop}
 use Rattle.omf_fix.specs.Placed.{fix_of}
 use Rattle.omf_fix.proofs.blocks.push_copies.Given as goal
 

@@ -1,4 +1,4 @@
-use Rattle.std.proofs.Common.{rules, ◌≡◌, refl, sym, ap, ◌∙◌}
+use Rattle.std.proofs.Common.{refl, sym, ◌∙◌}
 use Rattle.omf_model.proofs.BegunLaws.{begun-whole}
 use Rattle.omf_fix.specs.Field.{first_byte, unplaced}
 use Rattle.omf_fix.proofs.Fields.{fixup-refused, fixup-dropped, fixup-kept, gives-adds}

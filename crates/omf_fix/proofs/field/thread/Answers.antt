@@ -1,4 +1,4 @@
-use Rattle.std.proofs.Common.{◌≡◌, sym, ap, ◌∙◌, Ok}
+use Rattle.std.proofs.Common.{sym, ◌∙◌}
 use Rattle.omf_model.proofs.BegunLaws.{begun-whole}
 use Rattle.omf_fix.proofs.Fields.{thread-read, said-read}
 use Rattle.omf_fix.proofs.field.thread.Goals as goal

@@ -1,4 +1,4 @@
-use Rattle.std.proofs.Common.{rules, ◌≡◌, [], ℕ, length, refl, sym, ap, ◌∙◌}
+use Rattle.std.proofs.Common.{rules, ◌∙◌}
 use Rattle.omf_model.specs.Gives.{contents_at}
 use Rattle.omf_model.specs.ReadModule.{is_wide}
 use Rattle.omf_fix.proofs.Fields.{one-more, after, refused, done, shrinks, gives-refusal}

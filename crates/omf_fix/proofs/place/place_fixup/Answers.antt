@@ -1,4 +1,4 @@
-use Rattle.std.proofs.Common.{◌≡◌, Bool, false, ap, subst, inl, inr}
+use Rattle.std.proofs.Common.{◌≡◌, false, ap, subst, inl, inr}
 use Rattle.obj_types.specs.declared.parts.LastData.{LastData}
 use Rattle.obj_types.specs.declared.parts.LastData.TheVariants.{Dropped}
 use Rattle.obj_types.specs.Location.{location_len}

@@ -1,9 +1,9 @@
-use Rattle.std.proofs.Common.{arith, ◌∙◌, sym, ap, ◌-◌, ℕ, List, ltb, true, false, refl, Ok}
+use Rattle.std.proofs.Common.{arith, ◌∙◌, sym, ap, ◌-◌, ℕ, ltb, refl, Ok}
 use Rattle.std.proofs.lemmas.Bool.{lt-ltb, le-ltb}
 use Rattle.std.proofs.lemmas.Result.{err_from_is_err_and}
 use Rattle.omf_fields.specs.Fields.{width, number_at, byte_at, bytes_at}
-use Rattle.omf_fix.specs.Written.{live_times, written_at}
-use Rattle.omf_fix.proofs.BlockWritten.{refused_on, said_yields, number-moves, byte-moves, next_written, refused_written, in_block, front_fits, outer_refused, outer_copied, outer_dead, innermost_written}
+use Rattle.omf_fix.specs.Written.{written_at}
+use Rattle.omf_fix.proofs.BlockWritten.{refused_on, said_yields, next_written, refused_written, in_block, front_fits, outer_refused, outer_copied, outer_dead, innermost_written}
 use Rattle.omf_fix.proofs.written.+write_block.Goals as goal
 
 pub returns-then-count-eq0 : goal.returns-then-count-eq0

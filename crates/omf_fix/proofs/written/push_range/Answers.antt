@@ -1,4 +1,4 @@
-use Rattle.std.proofs.Common.{arith, ◌∙◌}
+use Rattle.std.proofs.Common.{arith}
 use Rattle.omf_fix.proofs.Copied.{range_none, range_more, range_all}
 use Rattle.omf_fix.proofs.written.push_range.Goals as goal
 

@@ -1,4 +1,4 @@
-use Rattle.std.proofs.Common.{◌∙◌, sym, ap, [], ◌≢◌, Ok, true}
+use Rattle.std.proofs.Common.{◌∙◌, sym, [], ◌≢◌, true}
 use Rattle.std.proofs.lemmas.Result.{err_from_is_err_and}
 use Rattle.obj_types.specs.declared.limits.TheConstants.{MAX_DEPTH}
 use Rattle.omf_fix.specs.Written.{Written, written_at}

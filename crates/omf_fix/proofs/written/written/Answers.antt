@@ -1,4 +1,4 @@
-use Rattle.std.proofs.Common.{arith, ◌≡◌, ℕ, List, [], Ok, sym, ap, subst, ◌∙◌}
+use Rattle.std.proofs.Common.{arith, ℕ, List, [], sym, ap, subst, ◌∙◌}
 use Rattle.lx_bytes.specs.LittleEndian.{AreBytes}
 use Rattle.omf_model.specs.Blocks.{Blocks, origins, contents}
 use Rattle.omf_fix.specs.Written.{Written, blocks_written}
