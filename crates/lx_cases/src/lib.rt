@@ -27,7 +27,6 @@ mod object_file;
 #[cfg(test)]
 mod object_forms;
 #[cfg(test)]
-#[cfg(test)]
 mod ports;
 #[cfg(test)]
 mod records;
