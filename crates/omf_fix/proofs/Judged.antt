@@ -23,10 +23,10 @@ use Rattle.omf_fix.specs.declared.place.FixPlace.{FixPlace}
 use Rattle.omf_fix.specs.FixData.{meant}
 use Rattle.omf_fix.specs.Placed.{placed, fix_of}
 
-abbrev OnData : ObjParts → FixPlace → Bool
+abbrev pub OnData : ObjParts → FixPlace → Bool
 OnData p place = has_data p.last (offset_of place.high place.low) (location_len (location_of place.high))
 
-abbrev News : ObjParts → FixPlace → FixData → List FixAt
+abbrev pub News : ObjParts → FixPlace → FixData → List FixAt
 News p place d = fixes_by p.last p.threads (fixup place.high place.low d)
 
 pub no-data : (p : ObjParts) (place : FixPlace) (d : FixData) → OnData p place ≡ false → placed p place d ≡ Err (NoData place.at)

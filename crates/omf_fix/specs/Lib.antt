@@ -1,4 +1,6 @@
+pub mod Field
 pub mod FixData
 pub mod Methods
 pub mod Placed
 pub mod Reads
+pub mod Written

@@ -3,6 +3,8 @@ use Rattle.std.specs.Prelude.{ℕ, Result, Ok}
 use Rattle.obj_types.specs.declared.refusal.OmfRefusal.{OmfRefusal}
 use Rattle.obj_types.specs.declared.object.FixAt.{FixAt}
 use Rattle.obj_types.specs.declared.object.StartAt.{StartAt}
+use Rattle.obj_types.specs.declared.parts.LastData.{LastData}
+use Rattle.obj_types.specs.declared.parts.LastData.TheVariants as datas
 use Rattle.obj_types.specs.declared.parts.ObjParts.{ObjParts}
 use Rattle.omf_fields.specs.Fields.{◌>>=◌}
 use Rattle.omf_model.specs.Record.{FixData, fixup, location_of, is_self_relative}
@@ -27,3 +29,10 @@ fix_of seg offset high what = record {
   goal = what.goal;
   disp = what.disp;
 }
+
+-- An LIDATA record's data.
+abbrev pub IsBlocks : LastData → Type 0
+IsBlocks datas.None = ⊥
+IsBlocks (datas.Straight seg start len) = ⊥
+IsBlocks (datas.Blocks seg start wide body) = Unit {0}
+IsBlocks datas.Dropped = ⊥

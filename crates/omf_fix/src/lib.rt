@@ -2,12 +2,17 @@
 //! ("Relocatable Object Module Format", "9Ch FIXUPP").
 #![tactic(auto)]
 
+mod blocks;
+mod field;
 mod fix_data;
+mod fixupp;
 mod have;
 mod location;
 mod methods;
 mod place;
 mod threads;
+mod written;
 
 pub use fix_data::{FixFields, fix_fields, start_at};
+pub use fixupp::fixups;
 pub use have::Have;

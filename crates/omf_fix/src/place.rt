@@ -1,15 +1,18 @@
 //! What a good fixup adds, and when it is refused for its place.
 
-ghost use Rattle.std.specs.Prelude.{◌≡◌, ◌+◌, ◌≤◌, IsSomeAnd};
+ghost use Rattle.std.specs.Prelude.{◌≡◌, ◌+◌, ◌≤◌, IsSomeAnd, true, false};
 ghost use Rattle.obj_types.specs.Items.{item};
 ghost use Rattle.std.specs.List.{list_any};
 ghost use Rattle.obj_types.specs.Location.{meets as share_byte};
 ghost use Rattle.omf_fix.specs.Placed.{placed, fix_of};
 ghost use Rattle.omf_fix.specs.FixData.{data_of};
 ghost use Rattle.omf_model.specs.Begun.{IsBegun};
+ghost use Rattle.omf_model.specs.Fixups.{is_location as location_there};
 ghost use Rattle.omf_model.specs.Gives.{Gives};
+ghost use Rattle.omf_model.specs.ReadFixups.{is_dropped};
 ghost use Rattle.obj_types.specs.declared.parts.LastData.TheVariants.{Straight};
 
+use crate::blocks::add_blocks;
 use crate::fix_data::{FixFields, meaning};
 use crate::location::{is_self_relative, location, location_len, meets, offset};
 use lx_types::Fail;
@@ -26,7 +29,7 @@ pub struct FixPlace {
 }
 
 /// The fix at an offset of a segment.
-fn fix_at(seg: u32, offset: u32, place: FixPlace, what: StartAt) -> FixAt
+pub fn fix_at(seg: u32, offset: u32, place: FixPlace, what: StartAt) -> FixAt
     ensures { result ≡ fix_of seg offset place.high what }
 {
     FixAt {
@@ -51,7 +54,7 @@ fn in_segment(segs: &[Seg], index: u32, start: u32, offset: u32) -> u32
 }
 
 /// Whether a fix shares a byte with one of these.
-fn meets_any(fixes: &[FixAt], new: FixAt) -> bool
+pub fn meets_any(fixes: &[FixAt], new: FixAt) -> bool
     ensures { result ≡ list_any (λ f. share_byte f new) fixes.now }
 {
     fixes.iter().any(|fix| meets(fix, new))
@@ -88,4 +91,25 @@ fn add_straight(
     }
     into.module.fixes.push(fix)?;
     Ok(())
+}
+
+/// Adds the fixes of a fixup whose fields are good: one on the data of an LEDATA record, one in each copy of an LIDATA
+/// record's block. It is refused where its location is not within the data (`NoData`), shares a byte with an earlier
+/// one (`FixOverlap`), or has more copies than a module may have fixups (`TooMany`).
+pub fn place_fixup(
+    alloc: Global,
+    into: &mut ObjParts,
+    place: FixPlace,
+    d: FixFields,
+) -> Result<(), Fail<OmfRefusal>>
+    requires begun { IsBegun into.old }
+    requires location { location_there place.high ≡ true }
+    requires kept { is_dropped into.old.last ≡ false }
+    ensures { Gives (λ _. into.new) result (placed into.old place (data_of d)) }
+{
+    match into.last {
+        LastData::Straight { seg, offset, len } => add_straight(into, seg, offset, len, place, d),
+        LastData::Blocks { .. } => add_blocks(alloc, into, place, d),
+        LastData::None | LastData::Dropped => Err(Fail::Said(OmfRefusal::NoData { at: place.at })),
+    }
 }

@@ -1,0 +1,5 @@
+mod RecordRead
+mod BeginRead
+mod WholeObject
+mod LibraryRead
+mod WholeLibrary

@@ -1,0 +1,14 @@
+use Rattle.std.proofs.Common.{◌≡◌, ◌≤◌, length}
+use Rattle.omf_model.specs.Begun.{IsBegun}
+use Rattle.omf_model.specs.ReadModule.{rest_at}
+use Rattle.omf_files.proofs.objects.finish.Given as goal
+
+abbrev pub invariant-records : goal.invariant-records
+invariant-records l = record {
+  begun : IsBegun l.parts;
+  read : rest_at l.parts l.cur ≡ rest_at l.fn.begun l.fn.cur;
+  behind : length l.cur.left ≤ length l.fn.cur.left;
+}
+
+abbrev pub decreases-records : goal.decreases-records
+decreases-records l = length l.cur.left

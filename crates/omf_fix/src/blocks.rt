@@ -1,0 +1,130 @@
+//! Fixups on the blocks of an LIDATA record. Each is found in the blocks written out: nothing here is fast.
+
+ghost use Rattle.std.specs.Prelude.{◌≡◌, ◌+◌, ◌++◌, ◌≤◌, ◌&&◌, IfOk, OnOk, IsSomeAnd, length, nat_le, map};
+ghost use Rattle.std.specs.List.{list_any};
+ghost use Rattle.obj_types.specs.Items.{item};
+ghost use Rattle.obj_types.specs.Location.{meets as share_byte};
+ghost use Rattle.omf_fix.specs.FixData.{data_of};
+ghost use Rattle.omf_fix.specs.Placed.{placed, fix_of, IsBlocks};
+ghost use Rattle.omf_model.specs.Begun.{IsBegun};
+ghost use Rattle.omf_model.specs.Fixups.{places_of};
+ghost use Rattle.omf_model.specs.Gives.{Gives};
+
+use crate::fix_data::{FixFields, meaning};
+use crate::location::{location, location_len, offset};
+use crate::place::{FixPlace, fix_at, meets_any};
+use crate::written::written;
+use lx_types::{Fail, NoMemory, Seq};
+use obj_types::{FixAt, LastData, MAX_FIXES, ObjParts, OmfRefusal, Seg, StartAt};
+use std::alloc::Global;
+
+/// Whether so many bytes from an offset on are among those of one innermost block.
+fn is_in_block(contents: &[(usize, usize)], offset: usize, past: usize) -> bool
+    ensures { result ≡ list_any (λ block. nat_le block.0 offset && nat_le past block.1) contents.now }
+{
+    contents
+        .iter()
+        .any(|block| block.0 <= offset && past <= block.1)
+}
+
+/// Where the data that begins at `start` and lies in a segment has a place.
+fn in_segment(segs: &[Seg], index: u32, start: u32, place: usize) -> u32
+    requires { IsSomeAnd (item segs.now index) (λ segment. start + place ≤ segment.len) }
+    ensures { result ≡ start + place }
+{
+    // The segment's end has 32 bits, and the sum is not past it.
+    let _end = segs[index as usize - 1].len;
+    start + place as u32
+}
+
+/// The offsets in a segment of the places at which a number stands, where the list's first has the offset `start`.
+fn copies_of(
+    alloc: Global,
+    number: usize,
+    list: &[usize],
+    segs: &[Seg],
+    seg: u32,
+    start: u32,
+) -> Result<Vec<u32>, NoMemory>
+    requires { IsSomeAnd (item segs.now seg) (λ segment. start + length list.now ≤ segment.len) }
+    ensures { IfOk result (λ copies. copies.items ≡ map (λ x. start + x) (places_of number list.now)) }
+{
+    let mut copies = Vec::new(alloc);
+    let mut next = 0;
+    'places: while next < list.len() {
+        if list[next] == number {
+            copies.push(in_segment(segs, seg, start, next))?;
+        }
+        next += 1;
+    }
+    Ok(copies)
+}
+
+/// Whether a fix at one of these offsets shares a byte with an earlier one.
+fn meets_copies(fixes: &[FixAt], seg: u32, copies: &[u32], place: FixPlace, what: StartAt) -> bool
+    ensures { result ≡ list_any (λ x. list_any (λ f. share_byte f (fix_of seg x place.high what)) fixes.now) copies.now }
+{
+    copies.iter().any(|offset| meets_any(fixes, fix_at(seg, *offset, place, what)))
+}
+
+/// Adds a fix at each of these offsets.
+fn push_copies(
+    fixes: &mut Seq<FixAt>,
+    seg: u32,
+    copies: &[u32],
+    place: FixPlace,
+    what: StartAt,
+) -> Result<(), NoMemory>
+    ensures { OnOk result (fixes.new ≡ fixes.old ++ map (λ x. fix_of seg x place.high what) copies.now) }
+{
+    let mut next = 0;
+    'copies: while next < copies.len() {
+        fixes.push(fix_at(seg, copies[next], place, what))?;
+        next += 1;
+    }
+    Ok(())
+}
+
+/// Adds a fixup on the blocks of the last data record, one fix in each copy, in ascending order. The fixes are
+/// counted before memory is taken for them. A block that repeats 0 times has none.
+pub fn add_blocks(
+    alloc: Global,
+    into: &mut ObjParts,
+    place: FixPlace,
+    d: FixFields,
+) -> Result<(), Fail<OmfRefusal>>
+    requires begun { IsBegun into.old }
+    requires last { IsBlocks into.old.last }
+    ensures { Gives (λ _. into.new) result (placed into.old place (data_of d)) }
+{
+    let at = place.at;
+    let low = usize::from(offset(place.high, place.low));
+    let size = usize::from(location_len(location(place.high)));
+    let what = meaning(d, into);
+    let (seg, start, blocks) = match &into.last {
+        LastData::Blocks {
+            seg,
+            offset,
+            wide,
+            body,
+        } => (*seg, *offset, written(alloc, *wide, body.as_slice())?),
+        _ => return Err(Fail::Said(OmfRefusal::NoData { at })),
+    };
+    if !is_in_block(blocks.contents.as_slice(), low, low + size) {
+        return Err(Fail::Said(OmfRefusal::NoData { at }));
+    }
+    let origins = blocks.origins.as_slice();
+    let segs = into.module.segs.as_slice();
+    let copies = copies_of(alloc, low, origins, segs, seg, start)?;
+    let fixes = into.module.fixes.as_slice();
+    if meets_copies(fixes, seg, copies.as_slice(), place, what) {
+        return Err(Fail::Said(OmfRefusal::FixOverlap { at }));
+    }
+    if into.module.fixes.as_slice().len() + copies.len() > MAX_FIXES as usize {
+        return Err(Fail::Said(OmfRefusal::TooMany {
+            at: place.of_record,
+        }));
+    }
+    push_copies(&mut into.module.fixes, seg, copies.as_slice(), place, what)?;
+    Ok(())
+}
