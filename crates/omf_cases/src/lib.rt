@@ -4,3 +4,5 @@
 
 #[cfg(test)]
 mod data_records;
+#[cfg(test)]
+mod object_files;
