@@ -8,7 +8,9 @@ use Rattle.std.proofs.lemmas.Bool.{lt-ltb}
 use Rattle.std.proofs.lemmas.Bool.Decides.{nat_tests}
 use Rattle.std.proofs.lemmas.List.{length-map}
 use Rattle.indexmap.specs.IndexMap.{insert_entry}
-use Rattle.first_table.specs.Entries.{is_named, value_named}
+use Rattle.std.specs.Cmp.Lexicographic.{nat_list_eq_equiv}
+use Rattle.std.proofs.lemmas.Slice.Eq.{bytes_eq-Decides}
+use Rattle.first_table.specs.Entries.{is_named, value_named, with_value}
 
 abbrev pub shown : {K V : Type 0} → (K → List ℕ) → List (K × V) → List (List ℕ × V)
 shown bytes es = map (λ e. (bytes e.0, e.1)) es
@@ -105,3 +107,52 @@ insert-shown {K} {V} eq bytes same (e ∷ es) k v none =
     inserted eq bytes e es k v (eq k e.0) refl
     (ap (λ (b : Bool). b || list_any (is_named {V = V} (bytes k)) (shown bytes es)) (same k e.0) ∙ none)
     (insert-shown eq bytes same es k v)
+
+-- ---- another value
+
+set_by : {K V : Type 0} (eq : K → K → Bool) (bytes : K → List ℕ) (e : K × V) (es : List (K × V)) (k : K) (v : V) (b : Bool) → shown bytes (insert_entry eq es k v) ≡ with_value (shown bytes es) (bytes k) v →
+    shown bytes (cond b ((e.0, v) ∷ es) (e ∷ insert_entry eq es k v)) ≡ cond b ((bytes e.0, v) ∷ shown bytes es) ((bytes e.0, e.1) ∷ with_value (shown bytes es) (bytes k) v)
+set_by eq bytes e es k v true rest = refl
+set_by {K} {V} eq bytes e es k v false rest = ap (λ (t : List (List ℕ × V)). (bytes e.0, e.1) ∷ t) rest
+
+pub set-shown : {K V : Type 0} (eq : K → K → Bool) (bytes : K → List ℕ) → TestsPairs eq bytes → (es : List (K × V)) (k : K) (v : V) → shown bytes (insert_entry eq es k v) ≡ with_value (shown bytes es) (bytes k) v
+set-shown eq bytes same [] k v = refl
+set-shown {K} {V} eq bytes same (e ∷ es) k v =
+    set_by eq bytes e es k v (eq k e.0) (set-shown eq bytes same es k v)
+    ∙ ap (λ (b : Bool). cond b ((bytes e.0, v) ∷ shown bytes es) ((bytes e.0, e.1) ∷ with_value (shown bytes es) (bytes k) v)) (same k e.0)
+
+-- ---- what is found behind another value
+
+found_here : (b : Bool) {V : Type 0} (v w : V) (o : Option V) → cond b (Some v) o ≡ cond b (Some v) (cond b (Some w) o)
+found_here true v w o = refl
+found_here false v w o = refl
+
+found_there : (b c : Bool) {V : Type 0} (v w : V) (o : Option V) → (b ≡ true → c ≡ true → ⊥) → cond b (Some w) (cond c (Some v) o) ≡ cond c (Some v) (cond b (Some w) o)
+found_there true true v w o apart = absurd (apart refl refl)
+found_there true false v w o apart = refl
+found_there false c v w o apart = refl
+
+first_value : {V : Type 0} (name : List ℕ) (e : List ℕ × V) (es : List (List ℕ × V)) → value_named name (e ∷ es) ≡ cond (bytes_eq name e.0) (Some e.1) (value_named name es)
+first_value {V} name e es = sym (mapped (λ (q : List ℕ × V). q.1) (bytes_eq name e.0) e (find (is_named name) es))
+
+value_by : {V : Type 0} (other name : List ℕ) (v : V) (e : List ℕ × V) (es : List (List ℕ × V)) (b : Bool) → bytes_eq name e.0 ≡ b → value_named other (with_value es name v) ≡ cond (bytes_eq name other) (Some v) (value_named other es) →
+    value_named other (cond b ((e.0, v) ∷ es) (e ∷ with_value es name v)) ≡ cond (bytes_eq name other) (Some v) (value_named other (e ∷ es))
+value_by {V} other name v e es true is rest =
+    let same : name ≡ e.0 = (bytes_eq-Decides name e.0).0 is in
+    let test : bytes_eq name other ≡ bytes_eq other e.0 = nat_list_eq_equiv.symm name other ∙ ap (bytes_eq other) same in
+    first_value other (e.0, v) es
+    ∙ found_here (bytes_eq other e.0) v e.1 (value_named other es)
+    ∙ ap (λ (t : Bool). cond t (Some v) (cond (bytes_eq other e.0) (Some e.1) (value_named other es))) (sym test)
+    ∙ ap (λ (o : Option V). cond (bytes_eq name other) (Some v) o) (sym (first_value other e es))
+value_by {V} other name v e es false is rest =
+    first_value other e (with_value es name v)
+    ∙ ap (λ (o : Option V). cond (bytes_eq other e.0) (Some e.1) o) rest
+    ∙ found_there (bytes_eq other e.0) (bytes_eq name other) v e.1 (value_named other es)
+    (λ at named. true≢false (sym ((bytes_eq-Decides name e.0).1 ((bytes_eq-Decides name other).0 named ∙ (bytes_eq-Decides other e.0).0 at)) ∙ is))
+    ∙ ap (λ (o : Option V). cond (bytes_eq name other) (Some v) o) (sym (first_value other e es))
+
+-- A name's value after one name was given another.
+pub value-set : {V : Type 0} (other name : List ℕ) (v : V) (es : List (List ℕ × V)) → value_named other (with_value es name v) ≡ cond (bytes_eq name other) (Some v) (value_named other es)
+value-set {V} other name v [] =
+    first_value other (name, v) [] ∙ ap (λ (t : Bool). cond t (Some v) None) (nat_list_eq_equiv.symm other name)
+value-set other name v (e ∷ es) = value_by other name v e es (bytes_eq name e.0) refl (value-set other name v es)

@@ -14,3 +14,8 @@ value_named name entries = option_map (λ e. e.1) (find (is_named name) entries)
 abbrev pub with_entry : {V : Type 0} → List (List ℕ × V) → List ℕ → V → List (List ℕ × V)
 with_entry entries name value =
     if list_any (is_named name) entries then entries else entries ++ (name, value) ∷ []
+
+-- A name's first entry with this value; a new name goes last.
+abbrev pub with_value : {V : Type 0} → List (List ℕ × V) → List ℕ → V → List (List ℕ × V)
+with_value [] name value = (name, value) ∷ []
+with_value (e ∷ es) name value = if bytes_eq name e.0 then (e.0, value) ∷ es else e ∷ with_value es name value

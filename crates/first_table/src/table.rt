@@ -2,7 +2,7 @@
 
 ghost use Rattle.std.specs.Prelude.{◌≡◌, ◌<◌, [], IfSome, MatchResult, option_copied, length, position};
 ghost use Rattle.std.specs.List.{position_or_len};
-ghost use Rattle.first_table.specs.Entries.{is_named, value_named, with_entry};
+ghost use Rattle.first_table.specs.Entries.{is_named, value_named, with_entry, with_value};
 
 use indexmap::IndexMap;
 use lx_types::NoMemory;
@@ -71,5 +71,16 @@ impl<V: Drop> NameTable<V> {
         let name = Vec::from_slice(alloc, name)?;
         self.entries.insert(name, value)?;
         Ok(place)
+    }
+
+    /// Gives a name this value in the place of the one that it has; a new name goes last. Where it finds no memory
+    /// the table is as it was.
+    pub fn set(&mut self, alloc: Global, name: &[u8], value: V) -> Result<(), NoMemory>
+        ensures { MatchResult result
+            (λ _. self.new ≡ with_value self.old name.now value) (λ _. self.new ≡ self.old) }
+    {
+        let owned = Vec::from_slice(alloc, name)?;
+        self.entries.insert(owned, value)?;
+        Ok(())
     }
 }

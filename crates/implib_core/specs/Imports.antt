@@ -22,24 +22,17 @@ key_of name None = Named name
 abbrev pub import_for : List ℕ → Exp → Imp
 import_for from x = record { name = x.name; «module» = from; entry = key_of x.name x.ordinal }
 
--- The object module of an export, and those of several.
-abbrev pub module_for : List ℕ → Exp → List ℕ
-module_for from x = import_bytes (import_for from x)
-
-abbrev pub modules_for : List ℕ → List Exp → List (List ℕ)
-modules_for from exports = map (module_for from) exports
-
--- What they mean.
-abbrev pub objects_for : List ℕ → List Exp → List ObjModule
-objects_for from exports = map (λ x. import_object (import_for from x)) exports
-
 -- One import for each export, in their order.
+abbrev pub imports_for : List ℕ → List Exp → List Imp
+imports_for from exports = map (import_for from) exports
+
 abbrev pub imports_in : DefFile → List ℕ → List Imp
-imports_in d stem = map (import_for (name_or d.name stem)) d.exports
+imports_in d stem = imports_for (name_or d.name stem) d.exports
 
--- The object modules of their library.
-abbrev pub modules_in : DefFile → List ℕ → List (List ℕ)
-modules_in d stem = modules_for (name_or d.name stem) d.exports
+-- ---- what imports are written as, and what that means
 
-abbrev pub objects_in : DefFile → List ℕ → List ObjModule
-objects_in d stem = objects_for (name_or d.name stem) d.exports
+abbrev pub modules_of : List Imp → List (List ℕ)
+modules_of imports = map import_bytes imports
+
+abbrev pub objects_of : List Imp → List ObjModule
+objects_of imports = map import_object imports

@@ -1,27 +1,20 @@
 //! The import library of a definition file.
 
-ghost use Rattle.std.specs.Prelude.{◌≡◌, ◌≢◌, ◌≤◌, ◌<◌, [], IfOk, length, map};
-ghost use Rattle.std.specs.List.{All};
+ghost use Rattle.std.specs.Prelude.{◌≡◌, ◌≢◌, ◌≤◌, ◌<◌, [], IfOk};
+ghost use Rattle.std.specs.List.{All, AllByRecursion};
 ghost use Rattle.lx_types.specs.Answers.{Answers};
 ghost use Rattle.obj_types.specs.Definition.{WholeDef, WholeExport};
 ghost use Rattle.omf_model.specs.Library.{Lib};
-ghost use Rattle.omf_model.specs.Object.{IsModule};
-ghost use Rattle.omf_write.specs.ImportModule.{ImportFits, import_object};
-ghost use Rattle.omf_write.specs.Library.{library_bytes, library_len, AreModules};
+ghost use Rattle.omf_write.specs.ImportModule.{ImportFits};
+ghost use Rattle.omf_write.specs.Library.{library_bytes, library_len};
 ghost use Rattle.omf_write.specs.declared.libraries.TheConstants.{LIBRARY_LIMIT as limit};
-ghost use Rattle.implib_core.specs.Imports.{name_or, import_for, imports_in, module_for, modules_for, modules_in, objects_for, objects_in};
+ghost use Rattle.implib_core.specs.Imports.{name_or, import_for, imports_for, imports_in, modules_of, objects_of};
 
-use lx_types::{Bytes, EntryKey, Fail, Name, NoMemory, Seq};
+use crate::imports::{copy_of, library_of};
+use lx_types::{EntryKey, Fail, Name, NoMemory, Seq};
 use obj_types::{DefFile, Exp, Imp};
-use omf_write::{LibraryLong, import_module, library};
+use omf_write::LibraryLong;
 use std::alloc::Global;
-
-// The name again.
-fn copy_of(alloc: Global, name: &Name) -> Result<Name, NoMemory>
-    ensures { IfOk result (λ copy. copy ≡ name.now) }
-{
-    Name::of_short(alloc, name.bytes())
-}
 
 // How an export is named where it is imported.
 fn key_of(alloc: Global, export: &Exp) -> Result<EntryKey, NoMemory>
@@ -33,34 +26,33 @@ fn key_of(alloc: Global, export: &Exp) -> Result<EntryKey, NoMemory>
     }
 }
 
-// The object module by which an export of a module is imported.
-fn module_of(alloc: Global, from: &Name, export: &Exp) -> Result<Bytes, NoMemory>
+// The import of an export of a module.
+fn import_of(alloc: Global, from: &Name, export: &Exp) -> Result<Imp, NoMemory>
     requires from { from.now ≢ [] }
     requires whole { WholeExport export.now }
-    ensures written { IfOk result (λ bytes. bytes ≡ module_for from.now export.now) }
-    ensures read { IfOk result (λ bytes. IsModule bytes (import_object (import_for from.now export.now))) }
+    ensures is { IfOk result (λ import. import ≡ import_for from.now export.now) }
+    ensures fits { IfOk result (λ import. ImportFits import) }
 {
-    let import = Imp {
+    Ok(Imp {
         name: copy_of(alloc, &export.name)?,
         module: copy_of(alloc, from)?,
         entry: key_of(alloc, export)?,
-    };
-    Ok(Seq::from_vec(import_module(alloc, &import)?))
+    })
 }
 
-// The object modules by which the exports of a module are imported, in their order.
-fn modules_of(alloc: Global, from: &Name, exports: &[Exp]) -> Result<Seq<Bytes>, NoMemory>
+// The imports of the exports of a module, in their order.
+fn imports_for(alloc: Global, from: &Name, exports: &[Exp]) -> Result<Seq<Imp>, NoMemory>
     requires from { from.now ≢ [] }
     requires whole { All WholeExport exports.now }
-    ensures written { IfOk result (λ modules. modules ≡ modules_for from.now exports.now) }
-    ensures read { IfOk result (λ modules. AreModules modules (objects_for from.now exports.now)) }
+    ensures are { IfOk result (λ imports. imports ≡ imports_for from.now exports.now) }
+    ensures fit { IfOk result (λ imports. AllByRecursion ImportFits imports) }
 {
-    let mut modules = Seq::new(alloc);
+    let mut imports = Seq::new(alloc);
     for export in exports {
-        let module = module_of(alloc, from, export)?;
-        modules.push(module)?;
+        let import = import_of(alloc, from, export)?;
+        imports.push(import)?;
     }
-    Ok(modules)
+    Ok(imports)
 }
 
 /// The import library of the module that is linked with a definition file: an object module for each of its
@@ -73,12 +65,12 @@ pub fn imports_of(alloc: Global, d: &DefFile, stem: &Name) -> Result<Vec<u8>, Fa
     requires whole { WholeDef d.now }
     requires stem { stem.now ≢ [] }
     ensures written { Answers result
-        (λ bytes. (bytes.items ≡ library_bytes (modules_in d.now stem.now))
-        × (library_len (modules_in d.now stem.now) ≤ limit))
-        (λ _. limit < library_len (modules_in d.now stem.now)) }
-    ensures read { IfOk result (λ bytes. Lib bytes.items (objects_in d.now stem.now)) }
+        (λ bytes. (bytes.items ≡ library_bytes (modules_of (imports_in d.now stem.now)))
+        × (library_len (modules_of (imports_in d.now stem.now)) ≤ limit))
+        (λ _. limit < library_len (modules_of (imports_in d.now stem.now))) }
+    ensures read { IfOk result (λ bytes. Lib bytes.items (objects_of (imports_in d.now stem.now))) }
 {
     let from = d.name.as_ref().unwrap_or(stem);
-    let modules = modules_of(alloc, from, d.exports.as_slice())?;
-    library(alloc, modules.as_slice())
+    let imports = imports_for(alloc, from, d.exports.as_slice())?;
+    library_of(alloc, imports.as_slice())
 }

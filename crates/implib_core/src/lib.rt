@@ -2,6 +2,10 @@
 #![tactic(auto)]
 
 mod definition;
+mod imports;
+mod module;
+mod places;
 
 pub use definition::imports_of;
+pub use module::imports_of_module;
 pub use omf_write::{LibraryLong, join};

@@ -9,19 +9,11 @@ mod calls;
 #[cfg(test)]
 mod choosing;
 #[cfg(test)]
-mod definition_files;
-#[cfg(test)]
 mod fields;
 #[cfg(test)]
 mod image;
 #[cfg(test)]
-mod import_libraries;
-#[cfg(test)]
 mod linking;
-#[cfg(test)]
-mod lx_parts;
-#[cfg(test)]
-mod lx_tables;
 #[cfg(test)]
 mod module_file;
 #[cfg(test)]
@@ -36,5 +28,3 @@ mod object_forms;
 mod ports;
 #[cfg(test)]
 mod records;
-#[cfg(test)]
-mod tables;

@@ -3,7 +3,7 @@
 ghost use Rattle.std.specs.Prelude.{◌<◌, ◌≤◌, ◌^◌, IfOk, length};
 
 use first_form::{OneObject, Reference, write_file};
-use lx_read::read_module;
+use first_read::read_module;
 use lx_types::{Name, NoMemory, ObjHead, Seq};
 use std::alloc::Global;
 use std::test::Fail;

@@ -4,7 +4,7 @@ ghost use Rattle.std.specs.Prelude.{◌≡◌, ◌+◌, ◌<◌, ◌^◌, length
 ghost use Rattle.lx_model.specs.Reading.{number, text};
 ghost use Rattle.lx_entry.specs.Gives.{TakesField};
 
-use byteorder::{ByteOrder, LittleEndian};
+use lx_bytes::Cur;
 use std::marker::Model;
 
 /// A field at a place passes the end.
@@ -13,11 +13,10 @@ pub struct Short {
     pub at: u32,
 }
 
-/// The fields that are left of a table, and the place in the table of the first one.
+/// The fields that are left of a table, whose places have 32 bits.
 #[derive(Debug, Drop)]
 pub struct Fields<'a> {
-    left: &'a [u8],
-    at: u32,
+    cur: Cur<'a>,
 }
 
 impl<'a> Model for Fields<'a> {
@@ -26,9 +25,9 @@ impl<'a> Model for Fields<'a> {
 
     ghost Value = { Cursor };
 
-    ghost view = { λ c. record { at = c.at; left = c.left.now } };
+    ghost view = { λ c. c.cur };
 
-    ghost invariant = { λ c. c.at + length c.left.now < 2 ^ 32 };
+    ghost invariant = { λ c. c.cur.at + length c.cur.left < 2 ^ 32 };
 }
 
 impl<'a> Fields<'a> {
@@ -38,47 +37,59 @@ impl<'a> Fields<'a> {
         ensures place { result.at ≡ 0 }
         ensures bytes { result.left ≡ bytes.now }
     {
-        Fields { left: bytes, at: 0 }
+        Fields {
+            cur: Cur::of(bytes),
+        }
     }
 
     /// The place of the next field.
     pub fn at(&self) -> u32
         ensures { result ≡ self.now.at }
     {
-        self.at
+        self.cur.at() as u32
     }
 
     /// The next `n` bytes.
     pub fn bytes(&mut self, n: usize) -> Result<&'a [u8], Short>
         ensures { TakesField (λ b. b.now) result (text n) self.old self.new }
     {
-        if self.left.len() < n {
-            return Err(Short { at: self.at });
+        let at = self.at();
+        match self.cur.take(n) {
+            Ok(bytes) => Ok(bytes),
+            Err(_short) => Err(Short { at }),
         }
-        let (bytes, rest) = self.left.split_at(n);
-        self.left = rest;
-        self.at += n as u32;
-        Ok(bytes)
     }
 
     /// The next byte.
     pub fn byte(&mut self) -> Result<u8, Short>
         ensures { TakesField (λ n. n) result (number 1) self.old self.new }
     {
-        Ok(self.bytes(1)?[0])
+        let at = self.at();
+        match self.cur.u8() {
+            Ok(byte) => Ok(byte),
+            Err(_short) => Err(Short { at }),
+        }
     }
 
     /// The next number of two bytes.
     pub fn word(&mut self) -> Result<u16, Short>
         ensures { TakesField (λ n. n) result (number 2) self.old self.new }
     {
-        Ok(LittleEndian::read_u16(self.bytes(2)?))
+        let at = self.at();
+        match self.cur.u16() {
+            Ok(number) => Ok(number),
+            Err(_short) => Err(Short { at }),
+        }
     }
 
     /// The next number of four bytes.
     pub fn doubleword(&mut self) -> Result<u32, Short>
         ensures { TakesField (λ n. n) result (number 4) self.old self.new }
     {
-        Ok(LittleEndian::read_u32(self.bytes(4)?))
+        let at = self.at();
+        match self.cur.u32() {
+            Ok(number) => Ok(number),
+            Err(_short) => Err(Short { at }),
+        }
     }
 }

@@ -1,2 +1,17 @@
 pub mod Offsets
 pub mod Steps
+pub mod Shared
+pub mod Derived
+pub mod Written
+pub mod Fits
+pub mod Grouping
+pub mod Others
+pub mod Beginning
+pub mod Sorting
+pub mod Pages
+pub mod Joined
+pub mod RecordsFit
+pub mod Filters
+pub mod Kept
+pub mod Permuted
+pub mod PageRead

@@ -10,15 +10,15 @@ use crate::sources::source_size;
 use lx_bytes::Cur;
 use lx_types::{FixTarget, PAGE_SIZE, Source};
 
-const ADDITIVE: u8 = 0x04;
+pub const ADDITIVE: u8 = 0x04;
 
-const WIDE_TARGET: u8 = 0x10;
+pub const WIDE_TARGET: u8 = 0x10;
 
-const WIDE_ADDITIVE: u8 = 0x20;
+pub const WIDE_ADDITIVE: u8 = 0x20;
 
-const WIDE_NUMBER: u8 = 0x40;
+pub const WIDE_NUMBER: u8 = 0x40;
 
-const BYTE_ORDINAL: u8 = 0x80;
+pub const BYTE_ORDINAL: u8 = 0x80;
 
 // ---- numbers
 

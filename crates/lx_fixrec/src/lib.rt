@@ -2,12 +2,20 @@
 #![tactic(auto)]
 
 mod fields;
+mod laws;
+mod lists;
+mod page;
 mod reader;
 mod record;
 mod refusal;
 mod sources;
+mod spelling;
 mod start;
+mod worked;
+mod writer;
 
+pub use laws::records_keep_fixes;
+pub use page::encode_page;
 pub use reader::Records;
 pub use refusal::RecRefusal;
 pub use start::records;

@@ -1,7 +1,7 @@
 //! The source byte of a record.
 
 ghost use Rattle.std.specs.Prelude.{◌≡◌, ◌%◌, option_map};
-ghost use Rattle.lx_model.specs.Sources.{source_size, has_selector, source_of_code, source_of_byte};
+ghost use Rattle.lx_model.specs.Sources.{source_size, code_of, has_selector, source_of_code, source_of_byte, source_byte};
 ghost use Rattle.lx_fixrec.specs.Reads.{kind_of};
 
 use lx_types::Source;
@@ -28,6 +28,21 @@ pub fn source_size(source: Source) -> u32
         Source::Sel | Source::Off16 => 2,
         Source::Far16 | Source::Off32 | Source::Self32 => 4,
         Source::Far32 => 6,
+    }
+}
+
+/// The low four bits of the source byte.
+pub fn code_of(source: Source) -> u8
+    ensures { result ≡ code_of source }
+{
+    match source {
+        Source::Byte => 0,
+        Source::Sel => 2,
+        Source::Far16 => 3,
+        Source::Off16 => 5,
+        Source::Far32 => 6,
+        Source::Off32 => 7,
+        Source::Self32 => 8,
     }
 }
 
@@ -70,4 +85,12 @@ pub fn kind_of(byte: u8) -> Option<Kind>
         alias,
         listed,
     })
+}
+
+/// The source byte: the source, whether its selector is that of the alias, and whether offsets are
+/// listed. The alias bit is for a source with a selector alone.
+pub fn source_byte(source: Source, alias: bool, listed: bool) -> u8
+    ensures { result ≡ source_byte (record { source = source; alias = alias; listed = listed }) }
+{
+    code_of(source) + if alias { ALIAS } else { 0 } + if listed { LISTED } else { 0 }
 }

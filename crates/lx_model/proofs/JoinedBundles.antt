@@ -117,7 +117,7 @@ forwarder_same o e f (gate_at p g) = refl
 forwarder_same o e f (wide_at p g) = refl
 forwarder_same o e f (forwarder p g) = refl
 
-joins_as : (s t u : Slot) → joins s t ≡ true → joins s u ≡ joins t u
+pub joins_as : (s t u : Slot) → joins s t ≡ true → joins s u ≡ joins t u
 joins_as empty empty u is = refl
 joins_as (narrow_at o e) (narrow_at p f) u is = ap (λ (n : ℕ). joins (narrow_at n e) u) (equal o p is) ∙ narrow_same p e f u
 joins_as (gate_at o e) (gate_at p f) u is = ap (λ (n : ℕ). joins (gate_at n e) u) (equal o p is) ∙ gate_same p e f u

@@ -34,3 +34,4 @@ pub mod Visits
 pub mod ExportsRead
 pub mod JoinedBundles
 pub mod OneList
+pub mod ReadNames

@@ -53,6 +53,7 @@ imports_count file e =
 pub record Judged (file : List ℕ) : Type 0 where
   pub objects : objects_fault file ≡ None
   pub pages : pages_fault file ≡ None
+  pub residents : resident_fault file ≡ None
   pub imports : imports_fault file ≡ None
   pub entries : entries_fault file ≡ None
   pub start : start_fault file ≡ None
@@ -71,7 +72,7 @@ judged file e =
     let h = then_none (entries_fault file) (start_fault file then spans_fault file then first_of (page_count file) (page_records_fault file)) g.1 in
     let i = then_none (start_fault file) (spans_fault file then first_of (page_count file) (page_records_fault file)) h.1 in
     let j = then_none (spans_fault file) (first_of (page_count file) (page_records_fault file)) i.1 in
-    record { objects = b.0; pages = c.0; imports = g.0; entries = h.0; start = i.0; spans = j.0; records = j.1 }
+    record { objects = b.0; pages = c.0; residents = d.0; imports = g.0; entries = h.0; start = i.0; spans = j.0; records = j.1 }
 
 sound_parts : (file : List ℕ) → length file < 2 ^ 32 → Judged file → Sound (parts_of file)
 unfolding parts_of objects_of page_heads spans_of

@@ -1,5 +1,6 @@
 -- What holds of modules that were read, and of libraries of them.
-use Rattle.std.specs.Prelude.{◌≡◌, ℕ, ◌<◌, true, All, Contains, List, length, None, Ok}
+use Rattle.std.specs.Prelude.{◌≡◌, ℕ, ◌<◌, ◌^◌, true, All, Contains, List, length, None, Ok}
+use Rattle.std.specs.List.{AllByRecursion}
 use Rattle.lx_types.specs.Parts.{page_at, data_at}
 use Rattle.lx_types.specs.Sound.{Sound}
 use Rattle.lx_types.specs.declared.fix.Fix.{Fix}
@@ -19,6 +20,10 @@ use Rattle.lx_model.specs.Fixed.{records_of_page, sources_of}
 -- A module that was read fits together.
 abbrev pub ReadIsSound : Type 0
 ReadIsSound = (m : Parts) → IsRead m → Sound m
+
+-- It has a name, and its ordinals are numbers of 16 bits from 1 on.
+abbrev pub ReadIsNamed : Type 0
+ReadIsNamed = (m : Parts) → IsRead m → (0 < length m.name) × AllByRecursion (λ e. (0 < e.0) × (e.0 < 2 ^ 16)) m.entries
 
 -- The data of its iterated pages gives bytes.
 abbrev pub DataExpands : Type 0

@@ -2,7 +2,7 @@
 
 ghost use Rattle.lx_model.specs.JoinedEntries.{BundlesAreJoined};
 ghost use Rattle.lx_model.specs.Laws.{MeansOne, MeansOrFails, FaultMeansNone, MeansSound, OrderIsReached, ReachedIsOrdered, OrderHasEachOnce, OrderIsInLibrary, OrderIsClosed, OrderEndsWithItself, LoopComesBack, ComesBackLoops};
-ghost use Rattle.lx_model.specs.ModuleLaws.{ReadIsSound, DataExpands, FitHasSpots, RecordsAreGood, TargetsAreThere, ReferencesAreListed};
+ghost use Rattle.lx_model.specs.ModuleLaws.{ReadIsSound, ReadIsNamed, DataExpands, FitHasSpots, RecordsAreGood, TargetsAreThere, ReferencesAreListed};
 ghost use Rattle.lx_model.specs.FaultLaws.{EntryFaults, HeaderFaults, NameFaults, ImportFaults, GroupFaults, BundleFaults, RecordFaults};
 ghost use Rattle.lx_model.specs.TableLaws.{NamesGoOn, ImportsGoOn, BundlesGoOn, RecordsGoOn, GroupsGoOn, OneTargetMore, NamesReadAgain, ImportsReadAgain, EntriesReadAgain, RecordsReadAgain, GroupsReadAgain, HeaderReadAgain, ObjectsReadAgain, PagesReadAgain, DoublewordsReadAgain, RecordIsSpelled, RecordsAreSpelled, NamesAreSpelled, ImportsAreSpelled, EntriesAreSpelled, GroupsAreSpelled};
 ghost use Rattle.lx_model.specs.ExportLaws.{ExportsReadAgain, BundlesAreOne};
@@ -34,10 +34,11 @@ pub fn one_target_more()
     ensures { OneTargetMore }
 {}
 
-/// A module that was read fits together, its iterated pages give bytes, its records have no fault,
+/// A module that was read fits together and has a name, its iterated pages give bytes, its records have no fault,
 /// their targets are there, and those outside its own objects are listed.
 pub fn read_modules_are_whole()
     ensures sound { ReadIsSound }
+    ensures named { ReadIsNamed }
     ensures pages { DataExpands }
     ensures records { RecordsAreGood }
     ensures targets { TargetsAreThere }

@@ -1,2 +1,7 @@
-pub mod FirstModule
+pub mod Judging
+pub mod Headers
+pub mod Pages
+pub mod Tables
+pub mod Targets
+pub mod References
 pub mod Reading

@@ -5,7 +5,7 @@ use Rattle.lx_types.specs.declared.object.ObjHead.{ObjHead}
 use Rattle.lx_types.specs.declared.parts.Parts.{Parts}
 use Rattle.first_form.specs.ModuleFile.{IsOneObject}
 use Rattle.first_form.specs.declared.module_file.OneObject.{OneObject}
-use Rattle.lx_read.specs.FirstModule.{parts_of, first_page, Shows}
+use Rattle.first_read.specs.FirstModule.{parts_of, first_page, Shows}
 use Rattle.lx_tool.specs.Page.{IsPage}
 
 module _ (m : OneObject) (p : Parts) (is : p ≡ parts_of m) (objects : List ObjHead) (objects_are : objects ≡ p.objects) where

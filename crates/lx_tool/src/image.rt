@@ -7,14 +7,14 @@ ghost use Rattle.link_core.specs.FirstInput.{FirstInput};
 ghost use Rattle.link_core.specs.Links.{LinksTo};
 ghost use Rattle.first_form.specs.ModuleFile.{IsOneObject};
 ghost use Rattle.first_form.specs.declared.module_file.OneObject.{OneObject};
-ghost use Rattle.lx_read.specs.FirstModule.{Shows, parts_of};
+ghost use Rattle.first_read.specs.FirstModule.{Shows, parts_of};
 ghost use Rattle.lx_tool.specs.HasObject.{HasObject};
 ghost use Rattle.lx_answer.specs.Answer.{IsNoForm, ShowsFile, image_input};
 
 use crate::page::object_bytes;
 use crate::text::image_text;
+use first_read::{Unread, read_module};
 use link_core::link;
-use lx_read::{Unread, read_module};
 use lx_types::{Fail, Module, Name, NoMemory, Seq};
 use obj_types::{DefFile, LinkInput, ModKind, ObjModule, OmfRefusal};
 use omf_module::read_object;

@@ -4,7 +4,7 @@ ghost use Rattle.first_form.specs.Segment.{covers};
 ghost use Rattle.first_form.specs.Fixing.{image};
 ghost use Rattle.first_form.specs.ModuleFile.{IsOneObject};
 ghost use Rattle.first_form.specs.declared.module_file.OneObject.{OneObject};
-ghost use Rattle.lx_read.specs.FirstModule.{Shows, parts_of};
+ghost use Rattle.first_read.specs.FirstModule.{Shows, parts_of};
 ghost use Rattle.lx_tool.specs.Page.{IsPage, IsFixed};
 
 use first_form::next_reference;

@@ -9,10 +9,13 @@ use Rattle.sym_table.specs.declared.communals.Comdef.{Comdef}
 abbrev pub comdef_shown : Comdef → List ℕ × Common
 comdef_shown c = (c.name.now, c.common)
 
+-- The length of the longest of these COMDEFs of a name.
+abbrev pub greatest_of : List (List ℕ × Common) → List ℕ → ℕ
+greatest_of comdefs name = fold (λ len c. max len c.1.len) 0 (filter (λ q. bytes_eq q.0 name) comdefs)
+
 -- A communal is as long as the longest of these COMDEFs of its name.
 abbrev pub with_greatest : List (List ℕ × Common) → (List ℕ × Common) → List ℕ × Common
-with_greatest comdefs c =
-    (c.0, record { far = c.1.far; len = fold (λ len c. max len c.1.len) 0 (filter (λ q. bytes_eq q.0 c.0) comdefs) })
+with_greatest comdefs c = (c.0, record { far = c.1.far; len = greatest_of comdefs c.0 })
 
 -- Each name with its slot.
 abbrev pub slotted : List (List ℕ × Common) → List (List ℕ × SymDef)

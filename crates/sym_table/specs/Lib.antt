@@ -4,3 +4,10 @@ pub mod Firsts
 pub mod Counting
 pub mod Communals
 pub mod Meanings
+pub mod Symbols
+pub mod Binding
+pub mod Refusing
+pub mod Leading
+pub mod Finding
+pub mod ImportKeys
+pub mod ImportLists

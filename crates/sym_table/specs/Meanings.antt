@@ -5,12 +5,12 @@ use Rattle.std.specs.Option.{option_map, option_or, option_and_then}
 use Rattle.obj_types.specs.declared.object.ObjModule.{ObjModule}
 use Rattle.obj_types.specs.declared.symbol.Ext.{Ext}
 use Rattle.obj_types.specs.declared.symbol.Imp.{Imp}
+use Rattle.obj_types.specs.declared.symbol.PubPlace.{PubPlace}
 use Rattle.link_model.specs.declared.symbols.SymDef.{SymDef}
 use Rattle.obj_types.specs.declared.symbol.Exp.{Exp}
 use Rattle.link_model.specs.declared.refusals.SymRefusal.{SymRefusal}
 use Rattle.link_model.specs.declared.refusals.SymRefusal.TheVariants.{Missing}
 use Rattle.link_model.specs.Words.{first_of}
-use Rattle.link_model.specs.Link.{Link}
 use Rattle.link_model.specs.SymbolRefusals.{is_exportable}
 use Rattle.link_model.specs.Symbols as rules
 use Rattle.first_table.specs.Entries.{value_named}
@@ -30,12 +30,17 @@ local_in by m name = option_map (λ p. rules.at_place by p.place) (find (λ p. p
 abbrev pub meaning_in : Globals → ℕ → ObjModule → Ext → Option SymDef
 meaning_in globals by m e = if e.local then local_in by m e.name else global_in globals e.name
 
+-- The same, by a table of the module's local publics.
+abbrev pub meaning_by : Globals → ℕ → List (List ℕ × PubPlace) → Ext → Option SymDef
+meaning_by globals by locals e =
+    if e.local then option_map (rules.at_place by) (value_named e.name locals) else global_in globals e.name
+
 abbrev pub row_in : Globals → ℕ → ObjModule → List (Option SymDef)
 row_in globals by m = map (meaning_in globals by m) m.exts
 
 -- The meanings of all externals, module by module.
-abbrev pub rows_in : Globals → Link → List (List (Option SymDef))
-rows_in globals l = map (λ q. row_in globals q.0 q.1) (enumerate_from 1 l.modules)
+abbrev pub rows_in : Globals → List ObjModule → List (List (Option SymDef))
+rows_in globals modules = map (λ q. row_in globals q.0 q.1) (enumerate_from 1 modules)
 
 -- The first external of a module that means nothing.
 abbrev pub missing_row : Globals → ℕ → ObjModule → Option SymRefusal
@@ -43,8 +48,8 @@ missing_row globals by m =
     option_map (λ e. Missing e.name) (find (λ e. is_none (meaning_in globals by m e)) m.exts)
 
 -- The first of all modules that has one.
-abbrev pub missing_external_in : Globals → Link → Option SymRefusal
-missing_external_in globals l = first_of (map (λ q. missing_row globals q.0 q.1) (enumerate_from 1 l.modules))
+abbrev pub missing_external_in : Globals → List ObjModule → Option SymRefusal
+missing_external_in globals modules = first_of (map (λ q. missing_row globals q.0 q.1) (enumerate_from 1 modules))
 
 -- The first of these exports whose internal name means nothing or a constant.
 abbrev pub missing_export_in : Globals → List Exp → Option SymRefusal

@@ -1,13 +1,13 @@
 //! Communals: the names without definition that a COMDEF has, in order of the first COMDEF.
 
-ghost use Rattle.std.specs.Prelude.{◌≡◌, ◌++◌, map, max, filter, is_none, bytes_eq, fold, option_map, IfOk, OnOk};
+ghost use Rattle.std.specs.Prelude.{◌≡◌, ◌++◌, ℕ, List, map, filter, is_none, option_map, unwrap_or, IfOk, OnOk};
 ghost use Rattle.std.specs.List.{filter_map};
 ghost use Rattle.first_table.specs.Entries.{value_named};
 ghost use Rattle.link_model.specs.Appearance.{firsts};
 ghost use Rattle.link_model.specs.Symbols.{comdef_of, comdefs};
 ghost use Rattle.sym_table.specs.Links.{link_with};
 ghost use Rattle.sym_table.specs.Firsts.{same_name};
-ghost use Rattle.sym_table.specs.Communals.{comdef_shown, with_greatest, slotted};
+ghost use Rattle.sym_table.specs.Communals.{comdef_shown, greatest_of, with_greatest, slotted};
 
 use crate::definitions::Definition;
 use crate::firsts::copied;
@@ -85,16 +85,26 @@ pub fn undefined_of<'a>(
     Ok(found)
 }
 
-fn greatest_len(comdefs: &[Comdef<'_>], name: &Name) -> u32
-    ensures { result ≡ fold (λ len c. max len c.1.len) 0 (filter (λ c. bytes_eq c.0 name.now) (map comdef_shown comdefs.now)) }
+fn len_in(lens: &NameTable<u32>, name: &Name) -> u32
+    ensures { result ≡ unwrap_or (value_named name.now lens.now) 0 }
 {
-    let mut greatest = 0;
-    for comdef in comdefs {
-        if comdef.name == name {
-            greatest = u32::max(greatest, comdef.common.len);
-        }
+    match lens.get(name.bytes()) {
+        None => 0,
+        Some(len) => *len,
     }
-    greatest
+}
+
+// The greatest length that a COMDEF of each name has.
+fn lens_of(alloc: Global, comdefs: &[Comdef<'_>]) -> Result<NameTable<u32>, NoMemory>
+    ensures { IfOk result (λ lens. (name : List ℕ) → unwrap_or (value_named name lens) 0
+        ≡ greatest_of (map comdef_shown comdefs.now) name) }
+{
+    let mut lens = NameTable::new(alloc);
+    for comdef in comdefs {
+        let len = u32::max(len_in(&lens, comdef.name), comdef.common.len);
+        lens.set(alloc, comdef.name.bytes(), len)?;
+    }
+    Ok(lens)
 }
 
 /// The communals with the greatest length that a COMDEF of the name has, and the slot of each name.
@@ -104,7 +114,7 @@ pub struct Communals {
     pub slots: NameTable<SymDef>,
 }
 
-/// The communals of these COMDEFs without definition, among all COMDEFs. It looks at all COMDEFs for each communal.
+/// The communals of these COMDEFs without definition, among all COMDEFs.
 pub fn communals_of(
     alloc: Global,
     comdefs: &[Comdef<'_>],
@@ -114,6 +124,7 @@ pub fn communals_of(
         ≡ map (with_greatest (map comdef_shown comdefs.now)) (firsts same_name (map comdef_shown undefined.now))) }
     ensures slots { IfOk result (λ c. c.slots ≡ slotted c.list) }
 {
+    let lens = lens_of(alloc, comdefs)?;
     let mut list = Seq::new(alloc);
     let mut slots = NameTable::new(alloc);
     for comdef in undefined {
@@ -124,7 +135,7 @@ pub fn communals_of(
         if slots.push(alloc, comdef.name.bytes(), meaning)? == slot {
             let common = Common {
                 far: comdef.common.far,
-                len: greatest_len(comdefs, comdef.name),
+                len: len_in(&lens, comdef.name),
             };
             list.push((copied(alloc, comdef.name)?, common))?;
         }

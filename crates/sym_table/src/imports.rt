@@ -1,23 +1,17 @@
 //! The import pairs that a link knows, in order of definition.
 
-ghost use Rattle.std.specs.Prelude.{◌≡◌, map, IfOk};
-ghost use Rattle.std.specs.List.{list_any};
+ghost use Rattle.std.specs.Prelude.{◌≡◌, map, IfOk, OnOk};
 ghost use Rattle.link_model.specs.Appearance.{place_by};
 ghost use Rattle.link_model.specs.Symbols.{import_key, same_import};
 ghost use Rattle.sym_table.specs.Definitions.{shown, imports_among};
+ghost use Rattle.sym_table.specs.ImportLists.{AreListed, with_import};
 
 use crate::definitions::{Definition, Meaning};
-use crate::firsts::{copied, same_entry};
+use crate::firsts::copied;
+use crate::import_keys::{ImportPart, key_of, place_in};
+use indexmap::IndexMap;
 use obj_types::{EntryKey, Imp, NoMemory, Seq};
 use std::alloc::Global;
-
-fn same_import(one: &Imp, other: &Imp) -> bool
-    ensures { result ≡ same_import (import_key one.now) (import_key other.now) }
-{
-    one.name == other.name
-        && one.module.same_module(&other.module)
-        && same_entry(&one.entry, &other.entry)
-}
 
 fn copied_entry(alloc: Global, entry: &EntryKey) -> Result<EntryKey, NoMemory>
     ensures { IfOk result (λ copy. copy ≡ entry.now) }
@@ -38,30 +32,48 @@ fn copied_import(alloc: Global, import: &Imp) -> Result<Imp, NoMemory>
     })
 }
 
-fn is_listed(imports: &[Imp], import: &Imp) -> bool
-    ensures { result ≡ list_any (λ known. same_import (import_key import.now) (import_key known)) imports.now }
+/// Import pairs, each once, with a table of their keys in the same order.
+#[derive(Drop)]
+pub struct Imports {
+    pub list: Seq<Imp>,
+    pub places: IndexMap<ImportPart, ()>,
+}
+
+// Adds a pair unless it is there.
+fn add_import(alloc: Global, imports: &mut Imports, import: &Imp) -> Result<(), NoMemory>
+    requires { AreListed imports.old }
+    ensures listed { OnOk result (AreListed imports.new) }
+    ensures list { OnOk result (imports.new.list ≡ with_import imports.old.list import.now) }
 {
-    imports.iter().any(|known| same_import(import, known))
+    let key = key_of(alloc, import)?;
+    if place_in(&imports.places, &key).is_none() {
+        imports.list.push(copied_import(alloc, import)?)?;
+        imports.places.insert(key, ())?;
+    }
+    Ok(())
 }
 
 /// The place of an import pair among these, from 0.
-pub fn slot_of(imports: &[Imp], import: &Imp) -> Option<usize>
-    ensures { result ≡ place_by same_import import_key (import_key import.now) imports.now }
+pub fn slot_of(alloc: Global, imports: &Imports, import: &Imp) -> Result<Option<usize>, NoMemory>
+    requires { AreListed imports.now }
+    ensures { IfOk result (λ slot. slot ≡ place_by same_import import_key (import_key import.now) imports.now.list) }
 {
-    imports.iter().position(|known| same_import(import, known))
+    let key = key_of(alloc, import)?;
+    Ok(place_in(&imports.places, &key))
 }
 
-/// The import pairs of these definitions: each once, in the first spelling. It compares each pair with those before
-/// it.
-pub fn imports_of(alloc: Global, found: &[Definition<'_>]) -> Result<Seq<Imp>, NoMemory>
-    ensures { IfOk result (λ imports. imports ≡ imports_among (map shown found.now)) }
+/// The import pairs of these definitions: each once, in the first spelling.
+pub fn imports_of(alloc: Global, found: &[Definition<'_>]) -> Result<Imports, NoMemory>
+    ensures listed { IfOk result (λ imports. AreListed imports) }
+    ensures list { IfOk result (λ imports. imports.list ≡ imports_among (map shown found.now)) }
 {
-    let mut imports = Seq::new(alloc);
+    let mut imports = Imports {
+        list: Seq::new(alloc),
+        places: IndexMap::new(alloc),
+    };
     for definition in found {
         if let Meaning::Imported(import) = definition.meaning {
-            if !is_listed(imports.as_slice(), import) {
-                imports.push(copied_import(alloc, import)?)?;
-            }
+            add_import(alloc, &mut imports, import)?;
         }
     }
     Ok(imports)

@@ -1,24 +1,27 @@
 //! What each name means, and whether each external and each export means something.
 
-ghost use Rattle.std.specs.Prelude.{◌≡◌, ◌&&◌, not, Some, None, map, find, is_none, bytes_eq, option_map, option_copied, IfOk};
+ghost use Rattle.std.specs.Prelude.{◌≡◌, Some, None, map, option_map, IfOk};
 ghost use Rattle.lx_types.specs.Answers.{Answers};
+ghost use Rattle.first_table.specs.Entries.{value_named};
 ghost use Rattle.link_model.specs.Appearance.{firsts};
 ghost use Rattle.link_model.specs.Symbols.{at_place, same_import, import_key};
 ghost use Rattle.link_model.specs.Appearance.{place_by};
 ghost use Rattle.link_model.specs.declared.symbols.SymDef.TheVariants.{Import};
 ghost use Rattle.link_model.specs.declared.refusals.SymRefusal.TheVariants.{Missing};
 ghost use Rattle.sym_table.specs.Firsts.{same_name};
+ghost use Rattle.sym_table.specs.ImportLists.{AreListed};
 ghost use Rattle.sym_table.specs.Definitions.{meaning_shown, shown, meaning_among};
 ghost use Rattle.link_model.specs.SymbolRefusals.{is_exportable};
-ghost use Rattle.sym_table.specs.Meanings.{defined_by, global_in, local_in, meaning_in, row_in, missing_row, missing_export_in};
+ghost use Rattle.sym_table.specs.Meanings.{defined_by, global_in, meaning_by, row_in, missing_row, missing_export_in};
 
 use crate::definitions::{Definition, Meaning};
 use crate::firsts::copied;
-use crate::imports::slot_of;
+use crate::imports::{Imports, slot_of};
+use crate::locals::locals_of;
 use crate::modules::number;
 use first_table::NameTable;
 use link_model::{SymDef, SymRefusal};
-use obj_types::{Exp, Ext, Fail, Imp, Name, NoMemory, ObjModule, Pub, PubPlace, Seq};
+use obj_types::{Exp, Ext, Fail, Imp, Name, NoMemory, ObjModule, PubPlace, Seq};
 use std::alloc::Global;
 
 /// What each name means that is not local.
@@ -43,10 +46,15 @@ fn at_place(by: u32, place: PubPlace) -> SymDef
     }
 }
 
-fn import_meaning(imports: &[Imp], import: &Imp) -> Result<Option<SymDef>, NoMemory>
-    ensures { IfOk result (λ m. m ≡ option_map (λ slot. Import slot) (place_by same_import import_key (import_key import.now) imports.now)) }
+fn import_meaning(
+    alloc: Global,
+    imports: &Imports,
+    import: &Imp,
+) -> Result<Option<SymDef>, NoMemory>
+    requires { AreListed imports.now }
+    ensures { IfOk result (λ m. m ≡ option_map (λ slot. Import slot) (place_by same_import import_key (import_key import.now) imports.now.list)) }
 {
-    match slot_of(imports, import) {
+    match slot_of(alloc, imports, import)? {
         None => Ok(None),
         Some(slot) => Ok(Some(SymDef::Import {
             slot: number(slot)?,
@@ -54,26 +62,32 @@ fn import_meaning(imports: &[Imp], import: &Imp) -> Result<Option<SymDef>, NoMem
     }
 }
 
-fn meaning_of(imports: &[Imp], definition: &Definition<'_>) -> Result<Option<SymDef>, NoMemory>
-    ensures { IfOk result (λ m. m ≡ meaning_among imports.now (shown definition.now) (meaning_shown definition.now.meaning)) }
+fn meaning_of(
+    alloc: Global,
+    imports: &Imports,
+    definition: &Definition<'_>,
+) -> Result<Option<SymDef>, NoMemory>
+    requires { AreListed imports.now }
+    ensures { IfOk result (λ m. m ≡ meaning_among imports.now.list (shown definition.now) (meaning_shown definition.now.meaning)) }
 {
     match definition.meaning {
         Meaning::Public(place) => Ok(Some(at_place(definition.by, place))),
-        Meaning::Imported(import) => import_meaning(imports, import),
+        Meaning::Imported(import) => import_meaning(alloc, imports, import),
     }
 }
 
 /// What the definitions mean, by their names.
 pub fn defined_of(
     alloc: Global,
-    imports: &[Imp],
+    imports: &Imports,
     found: &[Definition<'_>],
 ) -> Result<NameTable<Option<SymDef>>, NoMemory>
-    ensures { IfOk result (λ table. table ≡ firsts same_name (map (defined_by imports.now) (map shown found.now))) }
+    requires { AreListed imports.now }
+    ensures { IfOk result (λ table. table ≡ firsts same_name (map (defined_by imports.now.list) (map shown found.now))) }
 {
     let mut table = NameTable::new(alloc);
     for definition in found {
-        let meaning = meaning_of(imports, definition)?;
+        let meaning = meaning_of(alloc, imports, definition)?;
         table.push(alloc, definition.name.bytes(), meaning)?;
     }
     Ok(table)
@@ -91,33 +105,25 @@ impl Globals {
     }
 }
 
-fn local_public<'a>(publics: &'a [Pub], name: &Name) -> Option<&'a Pub>
-    ensures { option_copied result ≡ find (λ p. p.local && bytes_eq p.name name.now) publics.entry.now }
+fn local_meaning(by: u32, locals: &NameTable<PubPlace>, name: &Name) -> Option<SymDef>
+    ensures { result ≡ option_map (at_place by) (value_named name.now locals.now) }
 {
-    publics
-        .iter()
-        .find(|public| public.local && public.name == *name)
-}
-
-fn local_meaning(by: u32, object: &ObjModule, name: &Name) -> Option<SymDef>
-    ensures { result ≡ local_in by object.now name.now }
-{
-    match local_public(object.pubs.as_slice(), name) {
+    match locals.get(name.bytes()) {
         None => None,
-        Some(public) => Some(at_place(by, public.place)),
+        Some(place) => Some(at_place(by, *place)),
     }
 }
 
 fn external_meaning(
     globals: &Globals,
     by: u32,
-    object: &ObjModule,
+    locals: &NameTable<PubPlace>,
     external: &Ext,
 ) -> Option<SymDef>
-    ensures { result ≡ meaning_in globals.now by object.now external.now }
+    ensures { result ≡ meaning_by globals.now by locals.now external.now }
 {
     if external.local {
-        local_meaning(by, object, &external.name)
+        local_meaning(by, locals, &external.name)
     } else {
         globals.meaning(external.name.bytes())
     }
@@ -142,9 +148,10 @@ pub fn externals_of(
         (λ row. map Some row ≡ row_in globals.now by object.now)
         (λ refusal. missing_row globals.now by object.now ≡ Some refusal) }
 {
+    let locals = locals_of(alloc, object.pubs.as_slice())?;
     let mut row = Seq::new(alloc);
     for external in object.exts.as_slice() {
-        match external_meaning(globals, by, object, external) {
+        match external_meaning(globals, by, &locals, external) {
             None => return Err(Fail::Said(missing(alloc, &external.name)?)),
             Some(meaning) => row.push(meaning)?,
         }

@@ -1,3 +1,4 @@
+use Rattle.lx_model.proofs.ReadNames.{read_is_named}
 use Rattle.lx_model.proofs.FitModules.{data_expands}
 use Rattle.lx_model.proofs.ReadModules.{read_is_sound, records_are_good, targets_are_there, references_are_listed}
 use Rattle.lx_model.proofs.laws.read_modules_are_whole.Goals as goal
@@ -16,3 +17,6 @@ returns-clause-references c = references_are_listed
 
 pub returns-clause-pages : goal.returns-clause-pages
 returns-clause-pages c = data_expands
+
+pub returns-clause-named : goal.returns-clause-named
+returns-clause-named c = read_is_named

@@ -4,7 +4,7 @@ use Rattle.first_form.specs.ObjectFile.{Form, object_module_of}
 use Rattle.first_form.specs.Fixing.{image}
 use Rattle.first_form.specs.ModuleFile.{IsOneObject}
 use Rattle.first_form.specs.declared.module_file.OneObject.{OneObject}
-use Rattle.lx_read.specs.FirstModule.{Shows, parts_of}
+use Rattle.first_read.specs.FirstModule.{Shows, parts_of}
 use Rattle.std.specs.Prelude.{Vec}
 use Rattle.std.specs.declared.alloc.Global.{Global}
 use Rattle.lx_answer.specs.Answer.{image_input}

@@ -35,8 +35,8 @@ loop-comdef-preserved c =
           let both = new_communal all es (comdef_shown x) list slots c.in_ok-push.field-0 c.loop-comdef.invariant.0 c.loop-comdef.invariant.1 place (w.if-branch-slot.true ∙ c.len-slot.ensures) in
           let grown : c.if-branch-slot.list ≡ list ++ w_of (comdef_shown x) ∷ [] =
           w.list-is ∙ w.in_ok-push-2.ensures
-          ∙ ap (λ n. list ++ (n, common w.greatest_len.result) ∷ []) w.in_ok-copied.ensures
-          ∙ ap (λ k. list ++ (x.name.now, common k) ∷ []) w.greatest_len.ensures in
+          ∙ ap (λ n. list ++ (n, common w.len_in.result) ∷ []) w.in_ok-copied.ensures
+          ∙ ap (λ k. list ++ (x.name.now, common k) ∷ []) (w.len_in.ensures ∙ c.in_ok-lens.ensures x.name.now) in
           (grown ∙ both.0 ∙ ap (λ t. map (with_greatest all) (firsts same_name t)) (sym more), entries ∙ both.1 ∙ ap slotted (sym grown))
       | else-branch-slot w ↦
           let both = old_communal all es (comdef_shown x) list slots c.in_ok-push.field-0 (means.Common (length slots)) c.loop-comdef.invariant.0 c.loop-comdef.invariant.1 place

@@ -7,4 +7,4 @@ use Rattle.sym_table.proofs.meanings.defined_of.Given as goal
 
 abbrev pub invariant-loop-definition : goal.invariant-loop-definition
 invariant-loop-definition l =
-    l.table ≡ firsts same_name (map (defined_by l.imports) (map shown (take l.definition-index l.found)))
+    l.table ≡ firsts same_name (map (defined_by l.imports.list) (map shown (take l.definition-index l.found)))

@@ -1,0 +1,2 @@
+pub mod FirstModule
+pub mod Reading

@@ -1,0 +1,8 @@
+use Rattle.std.proofs.Common.{◌≡◌, map, take}
+use Rattle.std.specs.List.{AllByRecursion}
+use Rattle.omf_write.specs.ImportModule.{ImportFits}
+use Rattle.implib_core.specs.ModuleImports.{import_named, name_at}
+use Rattle.implib_core.proofs.module.imports_at.Given as goal
+
+abbrev pub invariant-loop-place : goal.invariant-loop-place
+invariant-loop-place l = (l.imports ≡ map (λ p. import_named l.from (name_at l.names p)) (take l.place-index l.places)) × AllByRecursion ImportFits l.imports

@@ -1,0 +1,35 @@
+use Rattle.std.proofs.Common.{◌≡◌, ◌∙◌, ap, sym, subst, ℕ, List, Result, Ok, Err, map}
+use Rattle.std.specs.Prelude.{IfOk}
+use Rattle.std.specs.List.{flat_map}
+use Rattle.lx_types.specs.declared.entry.EntryHead.{EntryHead}
+use Rattle.implib_core.specs.ModuleImports.{Named, import_named, name_at, places_in, places_from, imports_named, ArePlaces}
+use Rattle.implib_core.proofs.NamePlaces.{Entries, ordered_are, same_order, imports_are}
+use Rattle.implib_core.proofs.module.imports_named.Goals as goal
+
+ok_follows : {A E : Type 0} (P Q : A → Type 0) (r : Result A E) → ((a : A) → P a → Q a) → IfOk r P → IfOk r Q
+ok_follows P Q (Ok a) f h = f a h
+ok_follows P Q (Err e) f h = h
+
+pub imports_at-requires-clause-places : goal.imports_at-requires-clause-places
+imports_at-requires-clause-places c =
+    let m = c.args.m.now in
+    let named = c.read_modules_are_whole.ensures.named m c.requires in
+    let order : c.deref.result.now ≡ flat_map (λ e. places_from e.0 0 m.names) m.entries =
+    c.deref.ensures.value ∙ c.in_ok-order.ensures ∙ ap (λ (es : Entries). flat_map (λ e. places_in c.in_ok-places.places e.0) es) c.entries.ensures
+    ∙ same_order c.in_ok-places.places m.names m.entries (λ o. c.in_ok-places.ensures o ∙ ap (places_from o 0) c.names-names.ensures) in
+    subst (λ (ns : List Named). ArePlaces ns c.deref.result.now) (sym c.names-names.ensures)
+    (subst (ArePlaces m.names) (sym order) (ordered_are m.names m.entries named.1))
+
+pub returns-clause-are : goal.returns-clause-are
+returns-clause-are c =
+    let m = c.args.m.now in
+    let order : c.deref.result.now ≡ flat_map (λ e. places_from e.0 0 m.names) m.entries =
+    c.deref.ensures.value ∙ c.in_ok-order.ensures ∙ ap (λ (es : Entries). flat_map (λ e. places_in c.in_ok-places.places e.0) es) c.entries.ensures
+    ∙ same_order c.in_ok-places.places m.names m.entries (λ o. c.in_ok-places.ensures o ∙ ap (places_from o 0) c.names-names.ensures) in
+    ok_follows
+    (λ imports. imports ≡ map (λ p. import_named c.name.result.now (name_at c.names-names.result.now p)) c.deref.result.now)
+    (λ imports. imports ≡ imports_named m)
+    c.imports_at.result
+    (λ imports are. are ∙ ap (λ (ns : List Named). map (λ p. import_named c.name.result.now (name_at ns p)) c.deref.result.now) c.names-names.ensures
+    ∙ imports_are m c.name.result.now c.deref.result.now c.name.ensures order)
+    c.imports_at.ensures.are

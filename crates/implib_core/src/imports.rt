@@ -1,0 +1,49 @@
+//! The library of imports.
+
+ghost use Rattle.std.specs.Prelude.{◌≡◌, ◌≤◌, ◌<◌, IfOk};
+ghost use Rattle.std.specs.List.{AllByRecursion};
+ghost use Rattle.lx_types.specs.Answers.{Answers};
+ghost use Rattle.omf_model.specs.Library.{Lib};
+ghost use Rattle.omf_write.specs.ImportModule.{ImportFits};
+ghost use Rattle.omf_write.specs.Library.{library_bytes, library_len, AreModules};
+ghost use Rattle.omf_write.specs.declared.libraries.TheConstants.{LIBRARY_LIMIT as limit};
+ghost use Rattle.implib_core.specs.Imports.{modules_of, objects_of};
+
+use lx_types::{Bytes, Fail, Name, NoMemory, Seq};
+use obj_types::Imp;
+use omf_write::{LibraryLong, import_module, library};
+use std::alloc::Global;
+
+/// The name again.
+pub fn copy_of(alloc: Global, name: &Name) -> Result<Name, NoMemory>
+    ensures { IfOk result (λ copy. copy ≡ name.now) }
+{
+    Name::of_short(alloc, name.bytes())
+}
+
+// The object modules that give these imports, in their order.
+fn modules_of(alloc: Global, imports: &[Imp]) -> Result<Seq<Bytes>, NoMemory>
+    requires { AllByRecursion ImportFits imports.now }
+    ensures written { IfOk result (λ modules. modules ≡ modules_of imports.now) }
+    ensures read { IfOk result (λ modules. AreModules modules (objects_of imports.now)) }
+{
+    let mut modules = Seq::new(alloc);
+    for import in imports {
+        let module = import_module(alloc, import)?;
+        modules.push(Seq::from_vec(module))?;
+    }
+    Ok(modules)
+}
+
+/// The library with an object module for each of these imports.
+pub fn library_of(alloc: Global, imports: &[Imp]) -> Result<Vec<u8>, Fail<LibraryLong>>
+    requires { AllByRecursion ImportFits imports.now }
+    ensures written { Answers result
+        (λ bytes. (bytes.items ≡ library_bytes (modules_of imports.now))
+        × (library_len (modules_of imports.now) ≤ limit))
+        (λ _. limit < library_len (modules_of imports.now)) }
+    ensures read { IfOk result (λ bytes. Lib bytes.items (objects_of imports.now)) }
+{
+    let modules = modules_of(alloc, imports)?;
+    library(alloc, modules.as_slice())
+}

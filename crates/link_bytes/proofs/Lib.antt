@@ -1,0 +1,14 @@
+pub mod ImageRows
+pub mod PatchValues
+pub mod AcceptedFixups
+pub mod StartPlaces
+pub mod PagesMade
+pub mod LinkPages
+pub mod PageRows
+pub mod PagedFixes
+pub mod PairTables
+pub mod FirstTables
+pub mod NumberedLists
+pub mod PaintedFields
+pub mod PaintedPieces
+pub mod MarkedBytes

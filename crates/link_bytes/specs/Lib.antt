@@ -1,0 +1,10 @@
+pub mod Shown
+pub mod Images
+pub mod Values
+pub mod Standing
+pub mod Pieces
+pub mod Marks
+pub mod Tables
+pub mod Paging
+pub mod Placed
+pub mod Start

@@ -1,0 +1,27 @@
+//! The bytes of a link's objects before the loader, and the fixups that are left to it.
+#![tactic(auto)]
+
+mod fixup;
+mod images;
+mod location;
+mod marks;
+mod pages;
+mod paging;
+mod painting;
+mod refusal;
+mod standing;
+mod start;
+mod tables;
+mod values;
+
+pub use fixup::{Fixup, Target};
+pub use images::Images;
+pub use marks::live_of;
+pub use pages::{Pages, first_refusal, have_bytes, place_pages};
+pub use paging::{PageFixes, object_fixes, page_fixes};
+pub use painting::{PlacedPiece, object_rows, paint_fields, placed_data};
+pub use refusal::refusal_of;
+pub use standing::standings_of;
+pub use start::start_place;
+pub use tables::{FirstNames, ImportTables, tables_of};
+pub use values::{field_of, is_patched};

@@ -1,0 +1,4 @@
+pub mod Places
+pub mod Fixed
+pub mod PlacedData
+pub mod Placing

@@ -1,0 +1,105 @@
+//! What a link puts into the pages of its module, from its layout.
+
+ghost use Rattle.std.specs.Prelude.{◌≡◌, All, Some, None, map};
+ghost use Rattle.lx_types.specs.Answers.{Answers};
+ghost use Rattle.link_model.specs.Link.{Link};
+ghost use Rattle.link_model.specs.Refusal.{place_refusal};
+ghost use Rattle.link_fix.specs.Placing.{HasLocations, AreLaid, ArePlaced, fixup_refusal};
+ghost use Rattle.link_bytes.specs.Placed.{ArePages};
+
+use crate::fixups::fixups_among;
+use crate::pieces::pieces_of;
+use crate::places::Places;
+use crate::start::start_of;
+use link_bytes::{Pages, place_pages};
+use link_model::{FixRefusal, LaidObject};
+use lx_types::{Bytes, Fix, Names, Seq};
+use obj_types::{Fail, ObjModule};
+use std::alloc::Global;
+use sym_table::Symbols;
+
+/// What a link puts into the pages of its module, and what it leaves to the loader.
+#[derive(Drop)]
+pub struct Placed {
+    /// The bytes of each object before the loader.
+    pub bytes: Seq<Bytes>,
+    /// The fixups that are left to the loader, by object and page of 4,096 bytes.
+    pub fixes: Seq<Seq<Seq<Fix>>>,
+    /// The modules that fixups name, in upper case.
+    pub imports: Names,
+    /// The names of procedures that fixups name.
+    pub procs: Names,
+    /// The object and the offset at which the module starts.
+    pub start: Option<(u32, u32)>,
+    /// The object and the offset of the stack's end.
+    pub stack: Option<(u32, u32)>,
+}
+
+// The parts of what is placed.
+fn with_start(pages: Pages, start: Option<(u32, u32)>, stack: Option<(u32, u32)>) -> Placed
+    ensures { result ≡ record { bytes = pages.bytes; fixes = pages.fixes; imports = pages.imports; procs = pages.procs; start = start; stack = stack } }
+{
+    let Pages {
+        bytes,
+        fixes,
+        imports,
+        procs,
+    } = pages;
+    Placed {
+        bytes,
+        fixes,
+        imports,
+        procs,
+        start,
+        stack,
+    }
+}
+
+// The pages of a link, or the first refusal of its fixups.
+fn pages_of(
+    alloc: Global,
+    modules: &[&ObjModule],
+    syms: &Symbols,
+    places: &Places,
+    objects: &[LaidObject],
+) -> Result<Pages, Fail<FixRefusal>>
+    requires { All HasLocations (map (λ m. m.now) modules.now) }
+    ensures { Answers result
+        (λ pages. (l : Link) → AreLaid l (map (λ m. m.now) modules.now) syms.now places.now objects.now → (fixup_refusal l ≡ None) × ArePages l pages)
+        (λ refusal. (l : Link) → AreLaid l (map (λ m. m.now) modules.now) syms.now places.now objects.now → fixup_refusal l ≡ Some refusal) }
+{
+    let fixups = fixups_among(alloc, places, syms, modules)?;
+    let pieces = pieces_of(alloc, places, modules)?;
+    place_pages(
+        alloc,
+        pieces.as_slice(),
+        fixups.as_slice(),
+        objects,
+        syms.imports(),
+    )
+}
+
+/// What the link of these modules puts into its pages, where these are its symbols, its places and its objects, and
+/// `stack` is the end of its stack. The first refusal of a fixup is answered, in chosen order and in file order, and
+/// `StartOutside` after all of them.
+pub fn place_at(
+    alloc: Global,
+    modules: &[&ObjModule],
+    syms: &Symbols,
+    places: &Places,
+    objects: &[LaidObject],
+    stack: Option<(u32, u32)>,
+) -> Result<Placed, Fail<FixRefusal>>
+    requires { All HasLocations (map (λ m. m.now) modules.now) }
+    ensures { Answers result
+        (λ placed. (l : Link) → AreLaid l (map (λ m. m.now) modules.now) syms.now places.now objects.now → (place_refusal l ≡ None) × ArePlaced l stack placed)
+        (λ refusal. (l : Link) → AreLaid l (map (λ m. m.now) modules.now) syms.now places.now objects.now → place_refusal l ≡ Some refusal) }
+{
+    match pages_of(alloc, modules, syms, places, objects) {
+        Err(fail) => Err(fail),
+        Ok(pages) => match start_of(places, syms, objects, modules)? {
+            Err(refusal) => Err(Fail::Said(refusal)),
+            Ok(start) => Ok(with_start(pages, start, stack)),
+        },
+    }
+}

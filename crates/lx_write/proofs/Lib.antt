@@ -1,0 +1,11 @@
+mod NameOffsets
+mod Forms
+mod PagesAdded
+mod RecordsAdded
+mod InFile
+mod LinkImages
+mod Short
+mod SameFixes
+mod RecordsWritten
+mod TablesWritten
+mod Fields

@@ -1,0 +1,10 @@
+//! What is told of a refusal behind the name of its file: where it is, its kind, and its fields.
+#![tactic(auto)]
+
+mod files;
+mod links;
+mod names;
+
+pub use files::{def_text, lx_text, omf_text};
+pub use links::{entry_text, fix_text, lay_text, sym_text};
+pub use names::push_escaped;

@@ -1,0 +1,34 @@
+//! Names, as they are told.
+
+ghost use Rattle.std.specs.Prelude.{◌≡◌, ◌++◌, ◌<◌, OnOk, slice_index, codes};
+ghost use Rattle.refusal_text.specs.Names.{digit, escaped_byte, escaped};
+
+use std::alloc::AllocError;
+
+fn digit(n: u8) -> u8
+    requires { n < 16 }
+    ensures { result ≡ digit n }
+{
+    b"0123456789ABCDEF"[usize::from(n)]
+}
+
+fn push_byte(out: &mut Vec<u8>, byte: u8) -> Result<(), AllocError>
+    ensures { OnOk result (out.new.items ≡ out.old.items ++ escaped_byte byte) }
+{
+    if (0x21..=0x7E).contains(&byte) && byte != b'%' {
+        out.push(byte)?;
+        return Ok(());
+    }
+    out.extend_from_slice(&[b'%', digit(byte / 16), digit(byte % 16)])
+}
+
+/// Writes a name: bytes outside 21h to 7Eh, and `%`, as `%` and two hexadecimal digits in upper
+/// case.
+pub fn push_escaped(out: &mut Vec<u8>, name: &[u8]) -> Result<(), AllocError>
+    ensures { OnOk result (out.new.items ≡ out.old.items ++ escaped name.now) }
+{
+    for &byte in name {
+        push_byte(out, byte)?;
+    }
+    Ok(())
+}

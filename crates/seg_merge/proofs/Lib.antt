@@ -1,0 +1,10 @@
+pub mod GroupPlaces
+pub mod MixedUse
+pub mod UseWalk
+pub mod OriginsOfParts
+pub mod AgreeingParts
+pub mod SplitMarks
+pub mod HeadsStand
+pub mod PartOffsets
+pub mod PartsBySegment
+pub mod NumbersOfObjects

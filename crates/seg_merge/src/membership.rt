@@ -1,0 +1,60 @@
+//! Which groups the logical segments are in.
+
+ghost use Rattle.std.specs.Prelude.{◌≡◌, ℕ, [], map, position, bytes_eq, AllPairs, false, IfOk};
+ghost use Rattle.std.specs.List.{range_with_len};
+ghost use Rattle.link_model.specs.Parts.{same_segment};
+ghost use Rattle.seg_parts.specs.LogicalSegments.{name_shown, heads_of, segment_keys_of};
+ghost use Rattle.seg_parts.specs.Members.{member_shown, is_member};
+ghost use Rattle.seg_merge.specs.Membership.{both, AreGroupsOf};
+
+use link_model::NoMemory;
+use seg_parts::{GroupNames, LogicalSegments, Member};
+use std::alloc::Global;
+
+fn empty_lists(alloc: Global, count: usize) -> Result<Vec<Vec<usize>>, NoMemory>
+    ensures { IfOk result (λ lists. map (λ v. v.items) lists.items ≡ map (λ _. []) (range_with_len 0 count)) }
+{
+    let mut lists = Vec::new(alloc);
+    for _place in 0..count {
+        lists.push(Vec::new(alloc))?;
+    }
+    Ok(lists)
+}
+
+// The places of a member's group and of its logical segment.
+fn places_of(
+    segments: &LogicalSegments<'_>,
+    names: &GroupNames<'_>,
+    member: &Member<'_>,
+) -> Option<(usize, usize)>
+    ensures { result ≡ both (position (bytes_eq member.now.group.now) names.now)
+        (position (same_segment (name_shown member.now.segment)) (segment_keys_of segments.now)) }
+{
+    match names.place_of(member.group) {
+        None => None,
+        Some(group) => match segments.number_of(member.segment) {
+            None => None,
+            Some(segment) => Some((group, segment)),
+        },
+    }
+}
+
+/// For each logical segment the places of the groups that it is in. A place may stand there several times.
+pub fn membership_of(
+    alloc: Global,
+    segments: &LogicalSegments<'_>,
+    names: &GroupNames<'_>,
+    members: &[Member<'_>],
+) -> Result<Vec<Vec<usize>>, NoMemory>
+    requires apart { AllPairs (λ a b. bytes_eq a b ≡ false) names.now }
+    ensures { IfOk result (λ lists. AreGroupsOf (is_member (map member_shown members.now)) names.now (heads_of segments.now)
+        (map (λ v. v.items) lists.items)) }
+{
+    let mut lists = empty_lists(alloc, segments.heads().len())?;
+    for member in members {
+        if let Some((group, segment)) = places_of(segments, names, member) {
+            lists[segment].push(group)?;
+        }
+    }
+    Ok(lists)
+}

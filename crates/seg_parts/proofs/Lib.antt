@@ -1,0 +1,15 @@
+pub mod Lists
+pub mod Tables
+pub mod Names
+pub mod NameLists
+pub mod PartEnds
+pub mod Ranges
+pub mod EndSums
+pub mod Walk
+pub mod ObjectNames
+pub mod Bases
+pub mod Listed
+pub mod StepsAreRules
+pub mod ClassOrder
+pub mod GroupMembers
+pub mod DgroupNames

@@ -1,0 +1,14 @@
+pub mod Parts
+pub mod FixedNames
+pub mod LogicalSegments
+pub mod Communals
+pub mod Groups
+pub mod Offsets
+pub mod Order
+pub mod Refusals
+pub mod Rows
+pub mod Placing
+pub mod Objects
+pub mod Members
+pub mod Steps
+pub mod Attributes

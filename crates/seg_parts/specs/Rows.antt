@@ -1,0 +1,42 @@
+-- The rows of logical segments whose objects, parts and least lengths are known, and the limits on them.
+use Rattle.std.specs.Prelude.{ℕ, List, [], ◌∷◌, ◌++◌, Option, find, take, if◌then◌else◌, Some, None}
+use Rattle.std.specs.List.{enumerate_from}
+use Rattle.std.specs.Option.{option_map}
+use Rattle.link_model.specs.declared.refusals.LayRefusal.{LayRefusal}
+use Rattle.link_model.specs.declared.refusals.LayRefusal.TheVariants.{TooLarge}
+use Rattle.link_model.specs.Parts.{Part}
+use Rattle.link_model.specs.Rows.{Row, end_in}
+use Rattle.link_model.specs.LayoutRefusals.{passes_limits}
+use Rattle.seg_parts.specs.Offsets.{start_of, end_of}
+
+-- A logical segment that has no place yet.
+pub record Unplaced : Type 0 where
+  pub head : Part
+  pub object : ℕ
+  pub parts : List Part
+  pub least : ℕ
+
+-- Its row behind what ends at `at`, and behind earlier rows.
+abbrev pub row_at : ℕ → Unplaced → Row
+row_at at u =
+    let start = start_of at u.head u.parts in
+    record { segment = u.head; object = u.object; start = start; end = end_of start u.head u.parts u.least }
+
+abbrev pub row_behind : List Row → Unplaced → Row
+row_behind earlier u = row_at (end_in u.object earlier) u
+
+-- The rows of these logical segments, behind earlier ones.
+abbrev pub rows_behind : List Row → List Unplaced → List Row
+rows_behind earlier [] = []
+rows_behind earlier (u ∷ us) = row_behind earlier u ∷ rows_behind (earlier ++ row_behind earlier u ∷ []) us
+
+-- The first of these rows, behind earlier ones, that passes a limit.
+abbrev pub past_limits : List Row → List Row → Option Row
+past_limits earlier [] = None
+past_limits earlier (r ∷ rs) =
+    if passes_limits (earlier ++ r ∷ []) r then Some r else past_limits (earlier ++ r ∷ []) rs
+
+-- `TooLarge` of these rows.
+abbrev pub too_large_in : List Row → Option LayRefusal
+too_large_in rs =
+    option_map (λ q. TooLarge q.1.segment.name) (find (λ q. passes_limits (take q.0 rs) q.1) (enumerate_from 1 rs))

@@ -1,0 +1,103 @@
+//! All parts of a link: its contributions and, behind them, its communals.
+
+ghost use Rattle.std.specs.Prelude.{◌≡◌, not, map, IfOk};
+ghost use Rattle.std.specs.List.{list_any};
+ghost use Rattle.link_model.specs.Communals.{parts, near_wide, far_wide};
+ghost use Rattle.link_model.specs.Groups as groups;
+ghost use Rattle.link_model.specs.Parts as rules;
+ghost use Rattle.link_model.specs.Symbols as symbols;
+ghost use Rattle.link_model.specs.Link.{link_of};
+ghost use Rattle.sym_table.specs.Binding.{IsBound};
+ghost use Rattle.sym_table.specs.Links.{link_with};
+ghost use Rattle.seg_parts.specs.Communals.{is_in};
+ghost use Rattle.seg_parts.specs.FixedNames.{AreFixed};
+ghost use Rattle.seg_parts.specs.Members.{is_member, all_memberships};
+ghost use Rattle.seg_parts.specs.Parts.{shown};
+
+use crate::communals::{Widths, add_communals, widths_of};
+use crate::groups::group_names_of;
+use crate::logical_segments::SegmentName;
+use crate::members::{add_near, dgroup_of, members_of};
+use crate::modules::modules_at;
+use crate::parts::{FixedNames, Part, contributions_of};
+use indexmap::IndexSet;
+use link_model::{Name, NoMemory};
+use obj_types::{Common, LinkInput, ObjModule};
+use std::alloc::Global;
+use sym_table::Symbols;
+
+fn has_near(commons: &[(Name, Common)]) -> bool
+    ensures { result ≡ list_any (λ c. not c.1.far) commons.now }
+{
+    commons.iter().any(|common| !common.1.far)
+}
+
+fn dgroup_in<'a>(
+    alloc: Global,
+    input: &'a LinkInput,
+    modules: &[&'a ObjModule],
+    fixed: &'a FixedNames,
+    near: bool,
+) -> Result<IndexSet<SegmentName<'a>>, NoMemory>
+    requires fixed { AreFixed fixed.now }
+    requires near { near ≡ groups.has_near (link_with input.now modules.now) }
+    ensures { IfOk result (λ names. (p : rules.Part) → is_in names.keys p
+        ≡ is_member (all_memberships (link_with input.entry.now modules.entry.now)) groups.DGROUP p) }
+{
+    let names = group_names_of(alloc, input, modules)?;
+    let mut members = members_of(alloc, input, modules)?;
+    add_near(&mut members, &names, fixed, near)?;
+    dgroup_of(alloc, members.as_slice())
+}
+
+fn widths_in(
+    alloc: Global,
+    input: &LinkInput,
+    modules: &[&ObjModule],
+    fixed: &FixedNames,
+    commons: &[(Name, Common)],
+    contributions: &[Part<'_>],
+) -> Result<Widths, NoMemory>
+    requires fixed { AreFixed fixed.now }
+    requires commons { commons.now ≡ symbols.commons (link_with input.now modules.now) }
+    requires contributions { map shown contributions.now ≡ rules.contributions (link_with input.now modules.now) }
+    ensures near { IfOk result (λ w. w.near ≡ near_wide (link_with input.now modules.now)) }
+    ensures far { IfOk result (λ w. w.far ≡ far_wide (link_with input.now modules.now)) }
+{
+    let near = has_near(commons);
+    let dgroup = dgroup_in(alloc, input, modules, fixed, near)?;
+    Ok(widths_of(contributions, &dgroup, fixed, near))
+}
+
+/// The parts of a link of these modules whose communals are these, in order.
+pub fn parts_of<'a>(
+    alloc: Global,
+    input: &'a LinkInput,
+    modules: &[&'a ObjModule],
+    fixed: &'a FixedNames,
+    commons: &[(Name, Common)],
+) -> Result<Vec<Part<'a>>, NoMemory>
+    requires fixed { AreFixed fixed.now }
+    requires commons { commons.now ≡ symbols.commons (link_with input.now modules.now) }
+    ensures { IfOk result (λ found. map shown found.items ≡ parts (link_with input.entry.now modules.entry.now)) }
+{
+    let mut found = contributions_of(alloc, input, modules)?;
+    let widths = widths_in(alloc, input, modules, fixed, commons, found.as_slice())?;
+    add_communals(&mut found, commons, fixed, widths)?;
+    Ok(found)
+}
+
+/// The parts of a link whose symbols these are, in order.
+pub fn link_parts<'a>(
+    alloc: Global,
+    input: &'a LinkInput,
+    syms: &Symbols,
+    fixed: &'a FixedNames,
+) -> Result<Vec<Part<'a>>, NoMemory>
+    requires bound { IsBound input.now syms.now }
+    requires fixed { AreFixed fixed.now }
+    ensures { IfOk result (λ found. map shown found.items ≡ parts (link_of input.entry.now syms.now.chosen)) }
+{
+    let modules = modules_at(alloc, input, syms.chosen())?;
+    parts_of(alloc, input, modules.as_slice(), fixed, syms.commons())
+}

@@ -1,0 +1,127 @@
+//! Which parts make one logical segment.
+
+ghost use Rattle.std.specs.Prelude.{◌≡◌, map, position, IfOk};
+ghost use Rattle.link_model.specs.declared.keys.SegmentKey.TheVariants as keys;
+ghost use Rattle.link_model.specs.Parts as rules;
+ghost use Rattle.seg_parts.specs.Parts.{shown};
+ghost use Rattle.seg_parts.specs.LogicalSegments.{name_shown, heads_of, numbers_of, segment_keys_of};
+
+use crate::parts::Part;
+use indexmap::IndexSet;
+use link_model::{NoMemory, Origin};
+use std::alloc::Global;
+use std::marker::Model;
+
+/// What tells logical segments apart ("98h SEGDEF", combine types).
+#[derive(Clone, Copy, PartialEq, Eq, Hash)]
+pub enum SegmentName<'a> {
+    /// A private part stands alone.
+    InModule { module: u32, index: u32 },
+    OfCommunal { slot: u32 },
+    OwnStack,
+    /// Public and stack parts of one name and class.
+    Public { name: &'a [u8], class: &'a [u8] },
+    /// Common parts of one name and class.
+    Common { name: &'a [u8], class: &'a [u8] },
+}
+
+fn own_name<'a>(origin: Origin) -> SegmentName<'a>
+    ensures { name_shown result ≡ keys.Private origin }
+{
+    match origin {
+        Origin::Segment { module, index } => SegmentName::InModule { module, index },
+        Origin::Communal { slot } => SegmentName::OfCommunal { slot },
+        Origin::OwnStack => SegmentName::OwnStack,
+    }
+}
+
+/// The logical segment of a part.
+pub fn name_of<'a>(part: &Part<'a>) -> SegmentName<'a>
+    ensures { name_shown result ≡ rules.segment_key (shown part.now) }
+{
+    match part.combine {
+        0 => own_name(part.origin),
+        6 => SegmentName::Common {
+            name: part.name.bytes(),
+            class: part.class.bytes(),
+        },
+        _ => SegmentName::Public {
+            name: part.name.bytes(),
+            class: part.class.bytes(),
+        },
+    }
+}
+
+/// Parts with their logical segments, which are numbered from 0 in the order in which their first parts come.
+#[derive(Drop)]
+pub struct LogicalSegments<'a> {
+    names: IndexSet<SegmentName<'a>>,
+    parts: Vec<Part<'a>>,
+    heads: Vec<Part<'a>>,
+    numbers: Vec<usize>,
+}
+
+impl<'a> Model for LogicalSegments<'a> {
+    ghost use Rattle.std.specs.Prelude.{List, ◌≡◌, map};
+    ghost use Rattle.link_model.specs.Parts as rules;
+    ghost use Rattle.seg_parts.specs.Parts.{shown};
+    ghost use Rattle.seg_parts.specs.LogicalSegments.{AreSegmentsOf};
+
+    ghost Value = { List rules.Part };
+
+    ghost view = { λ s. map shown s.parts.items };
+
+    ghost invariant = { λ s. AreSegmentsOf s.names.keys s.parts.items s.heads.items s.numbers.items };
+}
+
+impl<'a> LogicalSegments<'a> {
+    /// The parts, in order.
+    pub fn parts(&self) -> &[Part<'a>]
+        ensures { map shown result.now ≡ self.now }
+    {
+        self.parts.as_slice()
+    }
+
+    /// The first part of each logical segment.
+    pub fn heads(&self) -> &[Part<'a>]
+        ensures { map shown result.now ≡ heads_of self.now }
+    {
+        self.heads.as_slice()
+    }
+
+    /// The number of the logical segment of a name.
+    pub fn number_of(&self, name: SegmentName<'_>) -> Option<usize>
+        ensures { result ≡ position (rules.same_segment (name_shown name.entry)) (segment_keys_of self.now) }
+    {
+        self.names.get_index_of(&name)
+    }
+
+    /// The number of each part's logical segment.
+    pub fn numbers(&self) -> &[usize]
+        ensures { result.now ≡ numbers_of self.now }
+    {
+        self.numbers.as_slice()
+    }
+}
+
+/// The logical segments of these parts.
+pub fn segments_of<'a>(alloc: Global, parts: Vec<Part<'a>>) -> Result<LogicalSegments<'a>, NoMemory>
+    ensures { IfOk result (λ s. s ≡ map shown parts.entry.items) }
+{
+    let mut names = IndexSet::new(alloc);
+    let mut heads = Vec::new(alloc);
+    let mut numbers = Vec::new(alloc);
+    for part in parts.as_slice() {
+        let (number, is_new) = names.insert_full(name_of(part))?;
+        if is_new {
+            heads.push(*part)?;
+        }
+        numbers.push(number)?;
+    }
+    Ok(LogicalSegments {
+        names,
+        parts,
+        heads,
+        numbers,
+    })
+}

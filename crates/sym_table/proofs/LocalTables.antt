@@ -1,0 +1,44 @@
+-- The table of a module's local publics gives what a search of its publics gives.
+use Rattle.std.specs.Prelude.{◌≡◌, ℕ, ◌+◌, ◌<◌, ◌&&◌, Bool, cond, List, [], ◌∷◌, ◌++◌, Option, Some, None, length, take, find, bytes_eq, refl}
+use Rattle.std.specs.Option.{option_map, option_or}
+use Rattle.std.proofs.Common.{ap, sym, ◌∙◌}
+use Rattle.std.proofs.Math.ListN.{get_or}
+use Rattle.std.proofs.lemmas.List.{take_more}
+use Rattle.std.proofs.lemmas.List.Folds.{find-append}
+use Rattle.obj_types.specs.declared.object.ObjModule.{ObjModule}
+use Rattle.obj_types.specs.declared.symbol.Ext.{Ext}
+use Rattle.obj_types.specs.declared.symbol.Pub.{Pub}
+use Rattle.obj_types.specs.declared.symbol.PubPlace.{PubPlace}
+use Rattle.link_model.specs.declared.symbols.SymDef.{SymDef}
+use Rattle.link_model.specs.Symbols as rules
+use Rattle.first_table.specs.Entries.{value_named}
+use Rattle.sym_table.specs.declared.meanings.Globals.{Globals}
+use Rattle.sym_table.specs.Meanings.{global_in, meaning_in, meaning_by}
+use Rattle.sym_table.proofs.LeaderTables.{when, map-or, map-when}
+
+-- The place of the first local public of a name.
+abbrev pub local_place : List ℕ → List Pub → Option PubPlace
+local_place name publics = option_map (λ p. p.place) (find (λ p. p.local && bytes_eq p.name name) publics)
+
+pub place-more : (name : List ℕ) (xs : List Pub) (i : ℕ) (x : Pub) → i < length xs → x ≡ get_or xs i x → local_place name (take (i + 1) xs) ≡ option_or (local_place name (take i xs)) (when (x.local && bytes_eq x.name name) x.place)
+place-more name xs i x below is =
+    let test : Pub → Bool = λ p. p.local && bytes_eq p.name name in
+    let place : Pub → PubPlace = λ p. p.place in
+    ap (λ (ps : List Pub). option_map place (find test ps)) (take_more xs i x below ∙ ap (λ (y : Pub). take i xs ++ y ∷ []) (sym is))
+    ∙ ap (option_map place) (find-append test (take i xs) (x ∷ []))
+    ∙ map-or place (find test (take i xs)) (when (test x) x)
+    ∙ ap (λ (o : Option PubPlace). option_or (local_place name (take i xs)) o) (map-when place (test x) x)
+
+pub or_none : {V : Type 0} (o : Option V) → o ≡ option_or o None
+or_none None = refl
+or_none (Some x) = refl
+
+composed : (by : ℕ) (o : Option Pub) → option_map (rules.at_place by) (option_map (λ (p : Pub). p.place) o) ≡ option_map (λ (p : Pub). rules.at_place by p.place) o
+composed by None = refl
+composed by (Some p) = refl
+
+-- An external's meaning by the table.
+pub meaning_is_by : (globals : Globals) (by : ℕ) (m : ObjModule) (locals : List (List ℕ × PubPlace)) (e : Ext) → ((name : List ℕ) → value_named name locals ≡ local_place name m.pubs) → meaning_by globals by locals e ≡ meaning_in globals by m e
+meaning_is_by globals by m locals e are =
+    ap (λ (o : Option SymDef). cond e.local o (global_in globals e.name))
+    (ap (option_map (rules.at_place by)) (are e.name) ∙ composed by (find (λ p. p.local && bytes_eq p.name e.name) m.pubs))

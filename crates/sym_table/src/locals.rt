@@ -1,0 +1,22 @@
+//! A module's local publics by their names.
+
+ghost use Rattle.std.specs.Prelude.{◌≡◌, ◌&&◌, ℕ, List, find, bytes_eq, option_map, IfOk};
+ghost use Rattle.first_table.specs.Entries.{value_named};
+
+use first_table::NameTable;
+use obj_types::{NoMemory, Pub, PubPlace};
+use std::alloc::Global;
+
+/// The places of the local publics; of one name the first counts.
+pub fn locals_of(alloc: Global, publics: &[Pub]) -> Result<NameTable<PubPlace>, NoMemory>
+    ensures { IfOk result (λ table. (name : List ℕ) → value_named name table
+        ≡ option_map (λ p. p.place) (find (λ p. p.local && bytes_eq p.name name) publics.now)) }
+{
+    let mut table = NameTable::new(alloc);
+    for public in publics {
+        if public.local {
+            table.push(alloc, public.name.bytes(), public.place)?;
+        }
+    }
+    Ok(table)
+}
