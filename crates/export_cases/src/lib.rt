@@ -1,4 +1,4 @@
-//! Tests of the tables of exports and of import libraries, from bytes that were worked out by hand:
+//! Tests of import libraries and of what is told of refusals, from bytes that were worked out by hand:
 //! apart from the other tests, so that they are proved side by side.
 #![tactic(auto)]
 
@@ -6,5 +6,3 @@
 mod import_libraries;
 #[cfg(test)]
 mod refusal_lines;
-#[cfg(test)]
-mod tables;

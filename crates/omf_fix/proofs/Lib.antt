@@ -5,4 +5,5 @@ mod Fields
 mod Judged
 mod OnBlocks
 mod Onto
+mod OwnLast
 mod ThreadSet
