@@ -197,7 +197,7 @@ found_by f g s x false false o r e is rest = rest
 found_by f g s x true false o r e is rest = cc
 found_by f g s x false true o r e is rest = cc
 
-find-range : {X : Type 0} (t : ℕ → Bool) (f : ℕ → ℕ) (p : X → Bool) (g : X → ℕ) (s : ℕ) (xs : List X) → ((k : ℕ) (d : X) → k < length xs → t (s + k) ≡ p (get_or xs k d)) → ((k : ℕ) (d : X) → k < length xs → f (s + k) ≡ g (get_or xs k d)) →
+pub find-range : {X : Type 0} (t : ℕ → Bool) (f : ℕ → ℕ) (p : X → Bool) (g : X → ℕ) (s : ℕ) (xs : List X) → ((k : ℕ) (d : X) → k < length xs → t (s + k) ≡ p (get_or xs k d)) → ((k : ℕ) (d : X) → k < length xs → f (s + k) ≡ g (get_or xs k d)) →
     option_map f (find t (range_with_len s (length xs))) ≡ option_map g (find p xs)
 find-range t f p g s [] same value = refl
 find-range t f p g s (x ∷ xs) same value =

@@ -5,3 +5,13 @@ pub mod Agreeing
 pub mod Splits
 pub mod Offsets
 pub mod ObjectNumbers
+pub mod Places
+pub mod Layout
+pub mod Standing
+pub mod Placing
+pub mod Ordered
+pub mod Laid
+pub mod ByNumber
+pub mod Refused
+pub mod Grouped
+pub mod InOrder

@@ -1,19 +1,40 @@
 //! The layout of a link: which logical segments and objects the chosen modules' segments form, and where each stands.
 #![tactic(auto)]
 
+mod by_number;
+mod grouped;
+mod in_order;
+mod laid;
 mod laws;
+mod layout;
 mod membership;
+mod memberships;
+mod modules;
+mod object_names;
+mod objects;
 mod offsets;
+mod ordered;
+mod own_stack;
+mod places;
+mod placing;
+mod placing_groups;
+mod placing_parts;
+mod placing_spots;
+mod refused;
 mod segment_parts;
 mod splits;
 mod stack;
+mod units;
 mod uses;
 
 pub use laws::{
     objects_are_numbered, origins_are_apart, parts_stand_in_order, segments_have_flags,
 };
+pub use layout::{Layout, lay_out};
 pub use membership::membership_of;
 pub use offsets::offsets_of;
+pub use places::Places;
+pub use placing::places_of;
 pub use segment_parts::parts_of_segments;
 pub use splits::check_groups;
 pub use stack::stack_place;

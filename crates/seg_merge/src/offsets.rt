@@ -29,8 +29,8 @@ fn next_multiple(at: u32, len: u32) -> u32
     u64::from(at).next_multiple_of(u64::from(len)) as u32
 }
 
-// The least offset from `at` on that the part's alignment divides.
-fn part_start(at: u32, part: &Part<'_>) -> u32
+/// The least offset from `at` on that the part's alignment divides.
+pub fn part_start(at: u32, part: &Part<'_>) -> u32
     requires { aligned at (shown part.now) ≤ MAX_MEMORY }
     ensures { result ≡ aligned at (shown part.now) }
 {

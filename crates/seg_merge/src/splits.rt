@@ -21,7 +21,7 @@ fn differs(known: Option<u32>, flags: u32) -> bool
 }
 
 // The least of these places, which are below `count`.
-fn least(groups: &[usize], count: usize) -> usize
+pub fn least(groups: &[usize], count: usize) -> usize
     ensures { result ≡ fold (λ (a : ℕ) (g : ℕ). min a g) count groups.now }
 {
     let mut first = count;
@@ -80,8 +80,8 @@ fn no_marks(alloc: Global, count: usize) -> Result<Vec<bool>, NoMemory>
     Ok(split)
 }
 
-// The flags of each group's first logical segment.
-fn flags_of_groups(
+/// The flags of each group's first logical segment.
+pub fn flags_of_groups(
     alloc: Global,
     lists: &[Vec<usize>],
     flags: &[u32],

@@ -7,7 +7,7 @@ ghost use Rattle.seg_parts.specs.Parts.{shown};
 
 use seg_parts::{Part, is_stack};
 
-fn any_stack(parts: &[Part<'_>]) -> bool
+pub fn any_stack(parts: &[Part<'_>]) -> bool
     ensures { result ≡ list_any (λ p. rules.is_stack (shown p)) parts.now }
 {
     parts.iter().any(|part| is_stack(part))
