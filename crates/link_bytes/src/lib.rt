@@ -23,5 +23,5 @@ pub use painting::{PlacedPiece, object_rows, paint_fields, placed_data};
 pub use refusal::refusal_of;
 pub use standing::standings_of;
 pub use start::start_place;
-pub use tables::{FirstNames, ImportTables, tables_of};
+pub use tables::{FirstNames, ImportTables, pair_of, tables_of};
 pub use values::{field_of, is_patched};

@@ -23,7 +23,8 @@ pub struct FirstNames {
 }
 
 impl FirstNames {
-    fn new(alloc: Global) -> FirstNames
+    /// No names. It takes no memory.
+    pub fn new(alloc: Global) -> FirstNames
         ensures { AreFirst result [] }
     {
         FirstNames {
@@ -32,8 +33,8 @@ impl FirstNames {
         }
     }
 
-    // Adds a name, unless it is there.
-    fn push(&mut self, alloc: Global, name: Name) -> Result<(), NoMemory>
+    /// Adds a name, unless it is there.
+    pub fn push(&mut self, alloc: Global, name: Name) -> Result<(), NoMemory>
         ensures { OnOk result ((pushed : List (List ℕ)) → AreFirst self.old (firsts bytes_eq pushed) → AreFirst self.new (firsts bytes_eq (pushed ++ name ∷ []))) }
     {
         if !self.has(&name) {
@@ -111,8 +112,22 @@ impl ImportTables {
         }
     }
 
-    // Adds the names of an import pair.
-    fn push(&mut self, alloc: Global, pair: &Imp) -> Result<(), NoMemory>
+    /// The tables of these names.
+    pub fn of(modules: FirstNames, procs: FirstNames) -> ImportTables
+        ensures { result ≡ record { modules = modules; procs = procs } }
+    {
+        ImportTables { modules, procs }
+    }
+
+    /// The names of the procedures.
+    pub fn procs(&self) -> &[Name]
+        ensures { result.now ≡ self.now.procs.names }
+    {
+        self.procs.names.as_slice()
+    }
+
+    /// Adds the names of an import pair.
+    pub fn push(&mut self, alloc: Global, pair: &Imp) -> Result<(), NoMemory>
         ensures { OnOk result ((pairs : List Imp) → ArePairs self.old pairs → ArePairs self.new (pairs ++ pair.now ∷ [])) }
     {
         let module = pair.module.to_uppercase(alloc)?;

@@ -1,4 +1,10 @@
-mod Zeros
-mod Input
-pub mod Meaning
-pub mod Links
+pub mod ObjectsThere
+pub mod TargetsThere
+pub mod FewImports
+pub mod ExportsAre
+pub mod RecordsFit
+pub mod Writable
+pub mod AutoData
+pub mod Steps
+pub mod PageCounts
+pub mod Assembled

@@ -1,4 +1,5 @@
-pub mod Fields
-pub mod FirstInput
-pub mod Memory
 pub mod Links
+pub mod Exports
+pub mod Ranges
+pub mod Parts
+pub mod Planned

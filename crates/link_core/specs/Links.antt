@@ -1,21 +1,49 @@
--- When a module is what an input is linked to.
-use Rattle.std.specs.Prelude.{◌≡◌, ◌∷◌, [], Some}
+-- What an input is linked to, and why it is refused.
+use Rattle.std.specs.Prelude.{◌≡◌, ℕ, List, None, Some, length, sum_by}
 use Rattle.lx_types.specs.Names.{uppercase}
 use Rattle.obj_types.specs.declared.input.LinkInput.{LinkInput}
-use Rattle.link_model.specs.Choosing.{Chosen}
-use Rattle.link_model.specs.Link.{link_of}
-use Rattle.link_model.specs.Layout.{objects}
-use Rattle.link_model.specs.OneSegment.{only_pick}
-use Rattle.link_model.specs.Value.{EntryPoints}
-use Rattle.first_form.specs.Fixing.{image}
-use Rattle.first_form.specs.declared.module_file.OneObject.{OneObject}
-use Rattle.link_core.specs.Memory.{object_bytes}
+use Rattle.link_model.specs.declared.refusals.LinkRefusal.{LinkRefusal}
+use Rattle.link_model.specs.Link.{Link, IsLinkOf}
+use Rattle.link_model.specs.Layout as layout
+use Rattle.link_model.specs.Refusal.{link_refusal}
+use Rattle.image_model.specs.File.{file_of}
+use Rattle.image_model.specs.Linked.{image_of, called, page_forms, page_fixes}
+use Rattle.lx_write.specs.declared.image.Image.{Image}
+use Rattle.link_core.specs.declared.linking.Linked.{Linked}
 
--- The one module is chosen. The link's object has the module's size and base, and its bytes at its
--- linked base are those of the module with its fixups applied.
-pub record LinksTo (input : LinkInput) (m : OneObject) : Type 0 where
-  pub name : m.name ≡ uppercase input.stem
-  pub base : input.def.base ≡ Some m.base
-  pub chosen : Chosen input only_pick
-  pub object : objects (link_of input only_pick) ≡ (record { size = m.size; base = m.base; flags = 0x2005 }) ∷ []
-  pub bytes : (imp : EntryPoints) → object_bytes (link_of input only_pick) imp 1 m.size ≡ image m
+-- The input's link is accepted, and this is the one file of its module.
+pub record IsLinkedFile (input : LinkInput) (written : List ℕ) : Type 0 where
+  pub link : Link
+  pub of_input : IsLinkOf input link
+  pub accepted : link_refusal link ≡ None
+  pub file : written ≡ file_of (image_of link)
+
+-- The fixups of all pages. One whose field stands on two pages counts on each.
+abbrev pub source_count : Link → ℕ
+source_count l = sum_by length (page_fixes l)
+
+-- The input's link is accepted; this is the file of its module, with the module's name, which is in upper case, and the
+-- numbers of its objects, its pages and the fixups of these.
+pub record IsLinked (input : LinkInput) (linked : Linked) : Type 0 where
+  pub link : Link
+  pub of_input : IsLinkOf input link
+  pub accepted : link_refusal link ≡ None
+  pub file : linked.file ≡ file_of (image_of link)
+  pub name : linked.name ≡ uppercase (called link)
+  pub objects : linked.objects ≡ length (layout.objects link)
+  pub pages : linked.pages ≡ length (page_forms link)
+  pub sources : linked.sources ≡ source_count link
+
+-- The input's link has this refusal.
+pub record RefusesLink (input : LinkInput) (refusal : LinkRefusal) : Type 0 where
+  pub link : Link
+  pub of_input : IsLinkOf input link
+  pub refused : link_refusal link ≡ Some refusal
+
+-- What was linked has this file, and what the image tells of it.
+pub record IsLinkedImage (m : Image) (written : List ℕ) (linked : Linked) : Type 0 where
+  pub file : linked.file ≡ written
+  pub name : linked.name ≡ uppercase m.name
+  pub objects : linked.objects ≡ length m.objects
+  pub pages : linked.pages ≡ sum_by length m.fixes
+  pub sources : linked.sources ≡ sum_by (λ pages. sum_by length pages) m.fixes

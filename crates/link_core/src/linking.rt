@@ -1,83 +1,85 @@
-//! From a link's input to the module's bytes.
-ghost use Rattle.std.specs.Prelude.{◌≡◌, ◌<◌, ◌^◌, ℕ, IfOk, length};
-ghost use Rattle.lx_types.specs.Names.{IsName};
-ghost use Rattle.first_form.specs.Segment.{IsSegment};
-ghost use Rattle.first_form.specs.Fixing.{IsLinked};
-ghost use Rattle.link_core.specs.Fields.{segment_of};
-ghost use Rattle.first_form.specs.ObjectFile.{Form};
-ghost use Rattle.first_form.specs.ModuleFile.{IsOneObject, file};
-ghost use Rattle.first_form.specs.declared.module_file.OneObject.{OneObject as Linked};
-ghost use Rattle.link_core.specs.FirstInput.{FirstInput, data_of};
-ghost use Rattle.link_core.specs.Links.{LinksTo};
+//! From a link's input to the file of its module.
 
-use crate::page::{cleared_data, page_references, trim};
-use first_form::{OneObject, write_file};
-use lx_types::{Name, NoMemory, Seq};
-use obj_types::{FixAt, LinkInput, ObjModule};
+ghost use Rattle.std.specs.Prelude.{◌≡◌, ◌<◌, ◌^◌, IfOk, length};
+ghost use Rattle.lx_types.specs.Answers.{Answers};
+ghost use Rattle.obj_types.specs.Input.{WholeInput};
+ghost use Rattle.link_core.specs.Links.{IsLinked, IsLinkedFile, IsLinkedImage, RefusesLink};
+ghost use Rattle.link_core.specs.Planned.{IsPlanned};
+
+use crate::auto::number;
+use crate::counts::{page_count, source_count};
+use crate::failing::entry_failed;
+use crate::planning::{Plan, plan_link};
+use link_model::LinkRefusal;
+use lx_types::{Bytes, Name, NoMemory, Seq};
+use lx_write::{Image, link_images_are_written, write_module};
+use obj_types::{Fail, LinkInput};
 use std::alloc::Global;
 
-/// The linked base of a library's first object where the definition file gives none.
-const LIBRARY_BASE: u32 = 0x1000_0000;
-
-/// The data of the object's first data record.
-fn first_data(object: &ObjModule) -> &[u8]
-    ensures { result.now ≡ data_of object.now.pieces }
-{
-    match object.pieces.as_slice() {
-        [] => &[],
-        [piece, ..] => piece.bytes.as_slice(),
-    }
+/// A linked module.
+#[derive(Drop)]
+pub struct Linked {
+    /// The bytes of the module's file, fewer than 2^32.
+    pub file: Bytes,
+    /// The module's name, in upper case.
+    pub name: Name,
+    /// The number of objects.
+    pub objects: u32,
+    /// The number of pages of 4,096 bytes, in all objects.
+    pub pages: u32,
+    /// The number of fixups that are left to the loader; one on two pages counts twice.
+    pub sources: u32,
 }
 
-/// The object of a segment with this data and these fixups.
-fn one_object(
-    alloc: Global,
-    name: Name,
-    base: u32,
-    bytes: &[u8],
-    fixes: &[FixAt],
-) -> Result<OneObject, NoMemory>
-    requires segment { IsSegment (segment_of bytes.now fixes.now) }
-    requires few { length fixes.now < 13107 }
-    requires short { IsName name }
-    ensures { IfOk result (λ m.
-        IsOneObject m × IsLinked name base (segment_of bytes.now fixes.now) m) }
+// What was linked, from its parts and its file.
+fn linked_of(alloc: Global, image: &Image, file: Vec<u8>) -> Result<Linked, NoMemory>
+    ensures { IfOk result (λ linked. IsLinkedImage image.now file.items linked) }
 {
-    let mut page = cleared_data(alloc, bytes, fixes)?;
-    trim(&mut page);
-    let references = page_references(alloc, bytes, fixes)?;
-    Ok(OneObject {
-        name,
-        base,
-        size: bytes.len() as u32,
-        page: Seq::from_vec(page),
-        references: Seq::from_vec(references),
+    Ok(Linked {
+        file: Seq::from_vec(file),
+        name: image.name.to_uppercase(alloc)?,
+        objects: number(image.objects.as_slice().len())?,
+        pages: page_count(image.fixes.as_slice())?,
+        sources: source_count(image.fixes.as_slice())?,
     })
 }
 
-/// What the input is linked to.
-fn linked_object(alloc: Global, input: &LinkInput) -> Result<OneObject, NoMemory>
-    requires { (form : Form) × (at : ℕ) × FirstInput input.now form at }
-    ensures { IfOk result (λ m. IsOneObject m × LinksTo input.now m) }
+// The file of a plan, and what was linked with it.
+fn write_plan(alloc: Global, input: &LinkInput, plan: &Plan) -> Result<Linked, Fail<LinkRefusal>>
+    requires planned { IsPlanned input.now plan.now }
+    ensures linked { Answers result (λ linked. IsLinked input.now linked) (λ refusal. RefusesLink input.now refusal) }
+    ensures short { IfOk result (λ linked. length linked.file < 2 ^ 32) }
 {
-    let object = &input.objects.as_slice()[0];
-    let name = input.stem.to_uppercase(alloc)?;
-    let base = input.def.base.unwrap_or(LIBRARY_BASE);
-    let fixes = object.fixes.as_slice();
-    one_object(alloc, name, base, first_data(object), fixes)
+    link_images_are_written();
+    match write_module(alloc, &plan.image) {
+        Err(fail) => Err(entry_failed(fail)),
+        Ok(file) => Ok(linked_of(alloc, &plan.image, file)?),
+    }
 }
 
-/// Links the input to the bytes of a module ("32-bit Linear eXecutable Module Format").
+/// Links the input to the file of a module ("32-bit Linear eXecutable Module Format").
 ///
-/// Until other forms are linked the input is one object file of the first form, alone, as a library
-/// from a base. The file is that of a module whose bytes at its linked base are those that the link
-/// means there.
-pub fn link(alloc: Global, input: &LinkInput) -> Result<Vec<u8>, NoMemory>
-    requires { (form : Form) × (at : ℕ) × FirstInput input.now form at }
-    ensures linked { IfOk result (λ written.
-        (m : Linked) × IsOneObject m × (written.items ≡ file m) × LinksTo input.now m) }
-    ensures short { IfOk result (λ written. length written.items < 2 ^ 32) }
+/// Names are tried first, then the layout, the fixups with the start, and the exports, and the first refusal is answered.
+/// Where the file would have 2^32 bytes or more no memory is found.
+pub fn link_module(alloc: Global, input: &LinkInput) -> Result<Linked, Fail<LinkRefusal>>
+    requires whole { WholeInput input.now }
+    ensures linked { Answers result (λ linked. IsLinked input.now linked) (λ refusal. RefusesLink input.now refusal) }
+    ensures short { IfOk result (λ linked. length linked.file < 2 ^ 32) }
 {
-    let module = linked_object(alloc, input)?;
-    write_file(alloc, &module)
+    match plan_link(alloc, input) {
+        Err(fail) => Err(fail),
+        Ok(plan) => write_plan(alloc, input, &plan),
+    }
+}
+
+/// The file alone of what the input is linked to, as `link_module` answers it.
+pub fn link(alloc: Global, input: &LinkInput) -> Result<Vec<u8>, Fail<LinkRefusal>>
+    requires whole { WholeInput input.now }
+    ensures linked { Answers result (λ file. IsLinkedFile input.now file.items) (λ refusal. RefusesLink input.now refusal) }
+    ensures short { IfOk result (λ file. length file.items < 2 ^ 32) }
+{
+    match link_module(alloc, input) {
+        Err(fail) => Err(fail),
+        Ok(linked) => Ok(linked.file.into_vec()),
+    }
 }

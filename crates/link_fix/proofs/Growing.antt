@@ -9,7 +9,7 @@ use Rattle.obj_types.specs.declared.object.FixAt.{FixAt}
 use Rattle.obj_types.specs.declared.object.ObjModule.{ObjModule}
 use Rattle.link_model.specs.Fixups.{Fixup, standing_in}
 use Rattle.sym_table.specs.Symbols.{SymbolTable}
-use Rattle.link_fix.specs.declared.places.Places.{Places}
+use Rattle.seg_merge.specs.declared.places.Places.{Places}
 use Rattle.link_fix.specs.Fixed.{fixup_at}
 
 one_option : {Y : Type 0} (o : Option Y) → cons_option o [] ≡ option_to_list o

@@ -5,3 +5,4 @@ pub mod PlacedPieces
 pub mod PlacedPages
 pub mod AnswersMapped
 pub mod Meanings
+pub mod WholeModules

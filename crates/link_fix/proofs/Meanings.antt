@@ -10,7 +10,7 @@ use Rattle.link_model.specs.declared.symbols.SymDef.{SymDef}
 use Rattle.link_model.specs.Link.{Link, chosen_module}
 use Rattle.link_model.specs.Symbols.{Sym}
 use Rattle.sym_table.specs.Symbols.{SymbolTable}
-use Rattle.link_fix.specs.Places.{HasMeanings}
+use Rattle.link_fix.specs.Meanings.{HasMeanings}
 
 get_map : {X Y : Type 0} (f : X → Y) (xs : List X) (i : ℕ) → slice_get (map f xs) i ≡ option_map f (slice_get xs i)
 get_map f [] i = refl

@@ -18,7 +18,7 @@ use Rattle.sym_table.specs.Symbols.{SymbolTable}
 use Rattle.link_bytes.specs.declared.fixup.Fixup.{Fixup}
 use Rattle.link_bytes.specs.Shown.{shown}
 use Rattle.link_bytes.specs.Marks.{HasBytes}
-use Rattle.link_fix.specs.declared.places.Places.{Places}
+use Rattle.seg_merge.specs.declared.places.Places.{Places}
 use Rattle.link_fix.specs.Fixed.{target_at, location_at, frame_at, fixup_at, fixups_in}
 use Rattle.link_fix.specs.Placing.{HasLocations, fixup_refusal}
 

@@ -13,8 +13,9 @@ use Rattle.link_model.specs.Link.{Link}
 use Rattle.link_model.specs.Goals.{Target}
 use Rattle.link_model.specs.Start as rules
 use Rattle.sym_table.specs.Symbols.{SymbolTable}
-use Rattle.link_fix.specs.declared.places.Places.{Places}
-use Rattle.link_fix.specs.Places.{ArePlaces, HasMeanings}
+use Rattle.seg_merge.specs.declared.places.Places.{Places}
+use Rattle.seg_merge.specs.Places.{ArePlaces}
+use Rattle.link_fix.specs.Meanings.{HasMeanings}
 use Rattle.link_fix.specs.Fixed.{target_at}
 use Rattle.link_fix.proofs.Located.{target_is}
 

@@ -1,4 +1,4 @@
-pub mod Places
+pub mod Meanings
 pub mod Fixed
 pub mod PlacedData
 pub mod Placing

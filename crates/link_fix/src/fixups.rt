@@ -8,12 +8,13 @@ ghost use Rattle.link_model.specs.Fixups as rules;
 ghost use Rattle.link_model.specs.Link.{Link};
 ghost use Rattle.link_bytes.specs.Shown.{shown};
 ghost use Rattle.link_fix.specs.Fixed.{fixup_at, fixups_in};
-ghost use Rattle.link_fix.specs.Places.{ArePlaces, HasMeanings};
+ghost use Rattle.seg_merge.specs.Places.{ArePlaces};
+ghost use Rattle.link_fix.specs.Meanings.{HasMeanings};
 
 use crate::goals::{frame_of, location_of, target_of};
-use crate::places::Places;
 use link_bytes::{Fixup, standings_of};
 use obj_types::{FixAt, NoMemory, ObjModule, Seg};
+use seg_merge::Places;
 use std::alloc::Global;
 use sym_table::Symbols;
 

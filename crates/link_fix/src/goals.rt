@@ -4,11 +4,11 @@ ghost use Rattle.std.specs.Prelude.{◌≡◌, option_map, option_and_then};
 ghost use Rattle.link_bytes.specs.Shown.{target_shown};
 ghost use Rattle.link_model.specs.Goals.{internal as internal_at, shifted as place_after, object_of_target as object_in};
 ghost use Rattle.link_fix.specs.Fixed.{group_target, symbol_at, external_at, target_at, location_at, frame_at};
-ghost use Rattle.link_fix.specs.Places.{spot_in};
+ghost use Rattle.seg_merge.specs.Places.{spot_in};
 
-use crate::places::Places;
 use link_bytes::Target;
 use obj_types::{FixAt, Frame, Goal};
+use seg_merge::Places;
 use sym_table::{SymDef, Symbols};
 
 // The place so many bytes on. It may pass its segment, so it is wrapped.
@@ -36,7 +36,8 @@ fn spot_after(places: &Places, module: u32, seg: u32, offset: u32) -> Option<(u3
     }
 }
 
-fn of_symbol(places: &Places, symbol: SymDef) -> Option<Target>
+/// What a name leads to: a place in an object, a number, or an entry point of another module.
+pub fn of_symbol(places: &Places, symbol: SymDef) -> Option<Target>
     ensures { option_map target_shown result ≡ symbol_at places.now symbol }
 {
     match symbol {

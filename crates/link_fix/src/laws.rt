@@ -3,7 +3,7 @@
 ghost use Rattle.link_model.specs.Link.{Link};
 ghost use Rattle.sym_table.specs.Symbols.{SymbolTable};
 ghost use Rattle.sym_table.specs.Binding.{AreSymbolsOf};
-ghost use Rattle.link_fix.specs.Places.{HasMeanings};
+ghost use Rattle.link_fix.specs.Meanings.{HasMeanings};
 
 /// The symbols of a link have the meaning of each external of each chosen module, and of nothing else.
 pub fn symbols_have_meanings()

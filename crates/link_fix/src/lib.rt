@@ -4,15 +4,15 @@
 mod fixups;
 mod goals;
 mod laws;
+mod modules;
 mod pieces;
-mod places;
 mod placing;
 mod start;
 
 pub use fixups::fixups_of;
-pub use goals::{frame_of, location_of, target_of};
+pub use goals::{frame_of, location_of, of_symbol, target_of};
 pub use laws::symbols_have_meanings;
+pub use modules::modules_at;
 pub use pieces::pieces_of;
-pub use places::Places;
-pub use placing::{Placed, place_at};
+pub use placing::{Placed, place_at, place_fixes};
 pub use start::start_of;

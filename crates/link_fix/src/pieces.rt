@@ -4,14 +4,14 @@ ghost use Rattle.std.specs.Prelude.{◌≡◌, ◌++◌, IfOk, OnOk, map, option
 ghost use Rattle.std.specs.List.{filter_map, flat_map, enumerate_from};
 ghost use Rattle.link_model.specs.Link.{Link};
 ghost use Rattle.link_model.specs.Mean as mean;
-ghost use Rattle.link_fix.specs.Places.{ArePlaces};
+ghost use Rattle.seg_merge.specs.Places.{ArePlaces};
 ghost use Rattle.link_bytes.specs.Shown.{piece_shown};
 ghost use Rattle.link_fix.specs.PlacedData.{placed_at, placed_in};
 
 use crate::fixups::number;
-use crate::places::Places;
 use link_bytes::PlacedPiece;
 use obj_types::{NoMemory, ObjModule, Piece};
+use seg_merge::Places;
 use std::alloc::Global;
 
 // A piece at its place, where its segment has one.

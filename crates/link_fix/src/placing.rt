@@ -2,19 +2,24 @@
 
 ghost use Rattle.std.specs.Prelude.{◌≡◌, All, Some, None, map};
 ghost use Rattle.lx_types.specs.Answers.{Answers};
-ghost use Rattle.link_model.specs.Link.{Link};
+ghost use Rattle.obj_types.specs.Input.{WholeInput};
+ghost use Rattle.link_model.specs.Link.{Link, link_of};
+ghost use Rattle.link_model.specs.Layout.{stack_top};
 ghost use Rattle.link_model.specs.Refusal.{place_refusal};
 ghost use Rattle.link_fix.specs.Placing.{HasLocations, AreLaid, ArePlaced, fixup_refusal};
 ghost use Rattle.link_bytes.specs.Placed.{ArePages};
+ghost use Rattle.sym_table.specs.Binding.{IsBound};
+ghost use Rattle.seg_merge.specs.Layout.{IsLaidOut};
 
 use crate::fixups::fixups_among;
+use crate::modules::modules_at;
 use crate::pieces::pieces_of;
-use crate::places::Places;
 use crate::start::start_of;
 use link_bytes::{Pages, place_pages};
 use link_model::{FixRefusal, LaidObject};
 use lx_types::{Bytes, Fix, Names, Seq};
-use obj_types::{Fail, ObjModule};
+use obj_types::{Fail, LinkInput, ObjModule};
+use seg_merge::{Layout, Places};
 use std::alloc::Global;
 use sym_table::Symbols;
 
@@ -102,4 +107,31 @@ pub fn place_at(
             Ok(start) => Ok(with_start(pages, start, stack)),
         },
     }
+}
+
+/// What a link puts into the pages of its module, from its symbols and its layout ("9Ch FIXUPP", "8Ah MODEND"). The first
+/// refusal of a fixup is answered, in chosen order and in file order, and `StartOutside` after all of them.
+pub fn place_fixes(
+    alloc: Global,
+    input: &LinkInput,
+    syms: &Symbols,
+    layout: &Layout,
+) -> Result<Placed, Fail<FixRefusal>>
+    requires whole { WholeInput input.now }
+    requires bound { IsBound input.now syms.now }
+    requires laid { IsLaidOut (link_of input.now syms.now.chosen) layout.now }
+    ensures { Answers result
+        (λ placed. (place_refusal (link_of input.now syms.now.chosen) ≡ None)
+        × ArePlaced (link_of input.now syms.now.chosen) (stack_top (link_of input.now syms.now.chosen)) placed)
+        (λ refusal. place_refusal (link_of input.now syms.now.chosen) ≡ Some refusal) }
+{
+    let modules = modules_at(alloc, input, syms.chosen())?;
+    place_at(
+        alloc,
+        modules.as_slice(),
+        syms,
+        &layout.places,
+        layout.objects(),
+        layout.stack,
+    )
 }

@@ -6,14 +6,15 @@ ghost use Rattle.link_model.specs.Words.{first_of};
 ghost use Rattle.link_model.specs.Link.{Link};
 ghost use Rattle.link_model.specs.Layout as layout;
 ghost use Rattle.link_model.specs.Start as rules;
-ghost use Rattle.link_fix.specs.Places.{ArePlaces, HasMeanings};
+ghost use Rattle.seg_merge.specs.Places.{ArePlaces};
+ghost use Rattle.link_fix.specs.Meanings.{HasMeanings};
 
 use crate::fixups::number;
 use crate::goals::target_of;
-use crate::places::Places;
 use link_bytes::start_place;
 use link_model::{FixRefusal, LaidObject};
 use obj_types::{NoMemory, ObjModule, StartAt};
+use seg_merge::Places;
 use sym_table::Symbols;
 
 // The start address of the first chosen module that has one, with the module's number.

@@ -1,0 +1,169 @@
+-- The plan of a link from its parts, and what its steps refuse.
+use Rattle.std.specs.Prelude.{◌≡◌, ◌≢◌, ℕ, ◌+◌, List, [], ◌∷◌, Option, Some, None, Result, Ok, Err, map, length, sum_by, refl}
+use Rattle.std.specs.List.{All, AllByRecursion, flat_map}
+use Rattle.std.specs.Option.{option_map, option_or}
+use Rattle.std.proofs.Common.{ap, sym, ◌∙◌, subst}
+use Rattle.lx_types.specs.Answers.{Answers}
+use Rattle.lx_types.specs.Names.{uppercase}
+use Rattle.lx_types.specs.declared.fail.Fail.{Fail}
+use Rattle.lx_types.specs.declared.fail.Fail.TheVariants.{Said, NoMemory}
+use Rattle.lx_types.specs.declared.parts.TheConstants.{MODULE_INIT_EACH, MODULE_TERM_EACH}
+use Rattle.obj_types.specs.Input.{WholeInput}
+use Rattle.obj_types.specs.declared.input.LinkInput.{LinkInput}
+use Rattle.link_model.specs.declared.symbols.Pick.{Pick}
+use Rattle.link_model.specs.declared.refusals.SymRefusal.{SymRefusal}
+use Rattle.link_model.specs.declared.refusals.LayRefusal.{LayRefusal}
+use Rattle.link_model.specs.declared.refusals.FixRefusal.{FixRefusal}
+use Rattle.link_model.specs.declared.refusals.EntryRefusal.{EntryRefusal}
+use Rattle.link_model.specs.declared.refusals.LinkRefusal.{LinkRefusal}
+use Rattle.link_model.specs.declared.refusals.LinkRefusal.TheVariants.{Sym, Lay, Fixing, Entry}
+use Rattle.link_model.specs.declared.symbols.LaidObject.{LaidObject}
+use Rattle.lx_types.specs.declared.fix.Fix.{Fix}
+use Rattle.link_model.specs.Words.{first_of}
+use Rattle.link_model.specs.Choosing.{Chosen}
+use Rattle.link_model.specs.Link.{Link, IsLinkOf, link_of, exports}
+use Rattle.link_model.specs.SymbolRefusals.{sym_refusal}
+use Rattle.link_model.specs.LayoutRefusals.{lay_refusal}
+use Rattle.link_model.specs.Layout.{stack_top, objects}
+use Rattle.link_model.specs.Exports.{entry_refusal}
+use Rattle.link_model.specs.Refusal.{place_refusal, link_refusal}
+use Rattle.link_model.specs.Header.{auto_data}
+use Rattle.link_model.specs.ImportTables.{used_pairs, modules_in, procs_in}
+use Rattle.link_model.proofs.ExportsStay.{chosen_are_whole}
+use Rattle.lx_entry.specs.Exports.{export_refusal}
+use Rattle.image_model.specs.File.{file_of}
+use Rattle.image_model.specs.Linked.{image_of}
+use Rattle.lx_write.specs.declared.image.Image.{Image}
+use Rattle.lx_write.specs.LinkImages.{IsImageOfLink, LinkImagesAreWritten}
+use Rattle.lx_write.specs.Value.{CanBeWritten, image_value}
+use Rattle.sym_table.specs.Symbols.{SymbolTable}
+use Rattle.sym_table.specs.Binding.{IsBound, IsRefused}
+use Rattle.seg_merge.specs.declared.layout.Layout.{Layout}
+use Rattle.seg_merge.specs.Layout.{IsLaidOut}
+use Rattle.seg_merge.specs.Places.{ArePlaces}
+use Rattle.link_fix.specs.declared.placing.Placed.{Placed}
+use Rattle.link_fix.specs.Placing.{ArePlaced}
+use Rattle.link_core.specs.declared.image.LinkTables.{LinkTables}
+use Rattle.link_core.specs.declared.planning.Plan.{Plan}
+use Rattle.link_core.specs.Exports.{exports_of}
+use Rattle.link_core.specs.Parts.{all_pairs, AreTables, HasParts}
+use Rattle.link_core.specs.Planned.{IsPlannedLink, IsPlanned, sym_failed, lay_failed, place_failed, entry_failed}
+use Rattle.link_core.specs.declared.linking.Linked.{Linked}
+use Rattle.link_core.specs.Links.{IsLinked, IsLinkedFile, IsLinkedImage, RefusesLink}
+use Rattle.link_core.proofs.ExportsAre.{pairs-are, AreEntries, entries-of-link, exports-named}
+use Rattle.link_core.proofs.Writable.{can-be-written}
+use Rattle.link_core.proofs.PageCounts.{pages-are, sources-are}
+
+-- ---- the plan
+
+pub planned : (input : LinkInput) (s : SymbolTable) (layout : Layout) (placed : Placed) (t : LinkTables) (auto : ℕ) (m : Image) → WholeInput input → IsBound input s → IsLaidOut (link_of input s.chosen) layout → lay_refusal (link_of input s.chosen) ≡ None
+    → ArePlaced (link_of input s.chosen) (stack_top (link_of input s.chosen)) placed → auto ≡ auto_data (link_of input s.chosen) → AreTables layout.places s layout.objects (exports (link_of input s.chosen)) (used_pairs (link_of input s.chosen)) t
+    → HasParts input layout.objects auto placed t m → (place : place_refusal (link_of input s.chosen) ≡ None) → (p : Plan) → p.places ≡ layout.places → p.image ≡ m → IsPlannedLink (link_of input s.chosen) p
+planned input s layout placed t auto m whole bound laid lay fixed is_auto tables parts place p same_places same_image =
+    let l : Link = link_of input s.chosen in
+    let are_whole = chosen_are_whole input s.chosen whole in
+    let pairs = pairs-are l layout.places s (exports l) laid.places bound.symbols refl in
+    let named = exports-named l are_whole whole.def in
+    let entries : AreEntries l t.exports = entries-of-link l layout.places s layout.objects (exports l) t.exports laid.places bound.symbols laid.objects refl are_whole lay named tables.exports in
+    let of_image : AreEntries l m.exports = subst (AreEntries l) (sym parts.exports) entries in
+    let image : IsImageOfLink l m = record {
+      kind = parts.kind;
+      name = parts.name;
+      about = parts.about;
+      flags = parts.flags;
+      start = parts.start ∙ fixed.start;
+      stack = parts.stack ∙ fixed.top;
+      heap = parts.heap;
+      auto = parts.auto ∙ is_auto;
+      objects = parts.objects ∙ laid.objects;
+      bytes = parts.bytes ∙ fixed.bytes;
+      fixes = parts.fixes ∙ fixed.fixes;
+      imports = parts.imports ∙ tables.imports ∙ ap modules_in pairs;
+      procs = parts.procs ∙ tables.procs ∙ ap procs_in pairs;
+      exports = of_image.exported;
+    } in
+    let written = can-be-written l m image are_whole whole.def whole.stem bound.symbols.accepted lay parts.ranges of_image.fit in
+    record {
+      lay = lay;
+      place = place;
+      places = subst (ArePlaces l) (sym same_places) laid.places;
+      image = subst (IsImageOfLink l) (sym same_image) image;
+      writable = subst CanBeWritten (sym same_image) written;
+      entries = ap (λ (x : Image). export_refusal x.exports) same_image ∙ of_image.refused;
+    }
+
+-- ---- refusals
+
+refusal_is : (l : Link) (a b c d : Option LinkRefusal) → option_map Sym (sym_refusal l) ≡ a → option_map Lay (lay_refusal l) ≡ b → option_map Fixing (place_refusal l) ≡ c → option_map Entry (entry_refusal l) ≡ d → link_refusal l ≡ first_of (a ∷ b ∷ c ∷ d ∷ [])
+unfolding link_refusal
+refusal_is l a b c d ea eb ec ed =
+    ap (λ (o : Option LinkRefusal). first_of (o ∷ option_map Lay (lay_refusal l) ∷ option_map Fixing (place_refusal l) ∷ option_map Entry (entry_refusal l) ∷ [])) ea
+    ∙ ap (λ (o : Option LinkRefusal). first_of (a ∷ o ∷ option_map Fixing (place_refusal l) ∷ option_map Entry (entry_refusal l) ∷ [])) eb
+    ∙ ap (λ (o : Option LinkRefusal). first_of (a ∷ b ∷ o ∷ option_map Entry (entry_refusal l) ∷ [])) ec
+    ∙ ap (λ (o : Option LinkRefusal). first_of (a ∷ b ∷ c ∷ o ∷ [])) ed
+
+pub sym-refused : (input : LinkInput) (r : SymRefusal) → IsRefused input r → RefusesLink input (Sym r)
+sym-refused input r h = record {
+  link = link_of input h.picks;
+  of_input = record { picks = h.picks; chosen = h.chosen; same = refl };
+  refused = refusal_is (link_of input h.picks) (Some (Sym r)) _ _ _ (ap (option_map Sym) h.is) refl refl refl;
+}
+
+pub lay-refused : (input : LinkInput) (s : SymbolTable) (r : LayRefusal) → IsBound input s → lay_refusal (link_of input s.chosen) ≡ Some r → RefusesLink input (Lay r)
+lay-refused input s r bound e = record {
+  link = link_of input s.chosen;
+  of_input = record { picks = s.chosen; chosen = bound.chosen; same = refl };
+  refused = refusal_is (link_of input s.chosen) None (Some (Lay r)) _ _ (ap (option_map Sym) bound.symbols.accepted) (ap (option_map Lay) e) refl refl;
+}
+
+pub place-refused : (input : LinkInput) (s : SymbolTable) (r : FixRefusal) → IsBound input s → lay_refusal (link_of input s.chosen) ≡ None → place_refusal (link_of input s.chosen) ≡ Some r → RefusesLink input (Fixing r)
+place-refused input s r bound lay e = record {
+  link = link_of input s.chosen;
+  of_input = record { picks = s.chosen; chosen = bound.chosen; same = refl };
+  refused = refusal_is (link_of input s.chosen) None None (Some (Fixing r)) _ (ap (option_map Sym) bound.symbols.accepted) (ap (option_map Lay) lay) (ap (option_map Fixing) e) refl;
+}
+
+pub entry-refused : (input : LinkInput) (p : Plan) (r : EntryRefusal) → IsPlanned input p → export_refusal p.image.exports ≡ Some r → RefusesLink input (Entry r)
+entry-refused input p r h e = record {
+  link = link_of input p.syms.chosen;
+  of_input = record { picks = p.syms.chosen; chosen = h.bound.chosen; same = refl };
+  refused = refusal_is (link_of input p.syms.chosen) None None None (Some (Entry r)) (ap (option_map Sym) h.bound.symbols.accepted) (ap (option_map Lay) h.planned.lay) (ap (option_map Fixing) h.planned.place) (ap (option_map Entry) (sym h.planned.entries ∙ e));
+}
+
+pub accepted : (input : LinkInput) (p : Plan) → IsPlanned input p → export_refusal p.image.exports ≡ None → link_refusal (link_of input p.syms.chosen) ≡ None
+accepted input p h e =
+    refusal_is (link_of input p.syms.chosen) None None None None (ap (option_map Sym) h.bound.symbols.accepted) (ap (option_map Lay) h.planned.lay) (ap (option_map Fixing) h.planned.place) (ap (option_map Entry) (sym h.planned.entries ∙ e))
+
+-- ---- failures that are passed on as those of the link
+
+pub failed-by : {A B R : Type 0} (r : Result A (Fail R)) (fail : Fail R) (given_as : Fail R → Fail LinkRefusal) (told : R → LinkRefusal) (given : Fail LinkRefusal) (P : A → Type 0) (Q : R → Type 0) (P' : B → Type 0) (Q' : LinkRefusal → Type 0)
+    → ((e : R) → given_as (Said e) ≡ Said (told e)) → given_as NoMemory ≡ NoMemory → given ≡ given_as fail → r ≡ Err fail → ((e : R) → Q e → Q' (told e)) → Answers r P Q → Answers {A = B} (Err given) P' Q'
+failed-by {A} {B} {R} r fail given_as told given P Q P' Q' says runs_out is was f h =
+    subst (λ (g : Fail LinkRefusal). Answers {A = B} (Err g) P' Q') (sym is) (passed fail (subst (λ (x : Result A (Fail R)). Answers x P Q) was h))
+  where
+    passed : (fail : Fail R) → Answers {A = A} (Err fail) P Q → Answers {A = B} (Err (given_as fail)) P' Q'
+    passed (Said e) g = subst (λ (x : Fail LinkRefusal). Answers {A = B} (Err x) P' Q') (sym (says e)) (f e g)
+    passed NoMemory g = subst (λ (x : Fail LinkRefusal). Answers {A = B} (Err x) P' Q') (sym runs_out) tt
+
+-- ---- the file
+
+pub file-of-plan : (input : LinkInput) (p : Plan) (file : List ℕ) → LinkImagesAreWritten → IsPlanned input p → file ≡ file_of (image_value p.image) → file ≡ file_of (image_of (link_of input p.syms.chosen))
+file-of-plan input p file law h e = e ∙ ap file_of (law (link_of input p.syms.chosen) p.image h.planned.image)
+
+pub linked-is : (input : LinkInput) (p : Plan) (file : List ℕ) (linked : Linked) → LinkImagesAreWritten → IsPlanned input p → export_refusal p.image.exports ≡ None → file ≡ file_of (image_value p.image) → IsLinkedImage p.image file linked → IsLinked input linked
+linked-is input p file linked law h none e is =
+    let l : Link = link_of input p.syms.chosen in
+    let image = h.planned.image in
+    record {
+      link = l;
+      of_input = record { picks = p.syms.chosen; chosen = h.bound.chosen; same = refl };
+      accepted = accepted input p h none;
+      file = is.file ∙ file-of-plan input p file law h e;
+      name = is.name ∙ ap uppercase image.name;
+      objects = is.objects ∙ ap (λ (os : List LaidObject). length os) image.objects;
+      pages = is.pages ∙ ap (λ (xss : List (List (List Fix))). sum_by length xss) image.fixes ∙ pages-are l;
+      sources = is.sources ∙ ap (λ (xss : List (List (List Fix))). sum_by (λ pages. sum_by length pages) xss) image.fixes ∙ sources-are l;
+    }
+
+pub file-alone : (input : LinkInput) (linked : Linked) (file : List ℕ) → file ≡ linked.file → IsLinked input linked → IsLinkedFile input file
+file-alone input linked file e h = record { link = h.link; of_input = h.of_input; accepted = h.accepted; file = e ∙ h.file }

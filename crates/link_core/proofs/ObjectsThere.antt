@@ -1,0 +1,127 @@
+-- The object of each row of a link is there, and its number fits the entry table.
+use Rattle.std.specs.Prelude.{◌≡◌, ℕ, zero, suc, ◌+◌, ◌≤◌, ◌<◌, Bool, true, false, cond, not, ◌||◌, ◌==◌, nat_lt, List, [], ◌∷◌, ◌++◌, Option, Some, None, map, length, take, slice_get, is_some, unwrap_or, refl}
+use Rattle.std.specs.List.{find, list_any, enumerate_from, position_or_len, AllByRecursion}
+use Rattle.std.specs.Option.{option_map, option_and_then, option_map_or, IsSomeAnd}
+use Rattle.std.proofs.Common.{ap, sym, ◌∙◌, arith, true≢false, subst, inl, inr, ◌⊎◌}
+use Rattle.std.proofs.Math.Numerals.{add-one}
+use Rattle.std.proofs.lemmas.Bool.{or_left, or_right, ltb-false}
+use Rattle.lx_types.specs.Sound.{IsNumberOf}
+use Rattle.obj_types.specs.Items.{item}
+use Rattle.link_model.specs.declared.symbols.LaidObject.{LaidObject}
+use Rattle.link_model.specs.declared.limits.TheConstants.{MAX_MEMORY, MAX_OBJECTS}
+use Rattle.link_model.specs.declared.refusals.LayRefusal.TheVariants.{TooLarge}
+use Rattle.link_model.specs.Words.{first_of}
+use Rattle.link_model.specs.Link.{Link}
+use Rattle.link_model.specs.Parts.{Part}
+use Rattle.link_model.specs.Flags.{flags_of}
+use Rattle.link_model.specs.Order.{ordered, object_key, same_object, object_heads, object_number}
+use Rattle.link_model.specs.Rows.{end_in, Row, row_after, rows_after, rows, stack_row, has_stack}
+use Rattle.link_model.specs.Layout.{room, placed_from, first_base, objects, stack_top}
+use Rattle.link_model.specs.LayoutRefusals.{lay_refusal, absolute, use_mixed, group_split, too_large, passes_limits, object_limit, size_of_rows}
+use Rattle.link_model.proofs.Rules.{rules}
+use Rattle.link_model.proofs.Tables.{any-firsts}
+use Rattle.link_model.proofs.Members.{In, here, there, any_in, placed, position_is, item_at, found_as}
+use Rattle.link_model.proofs.KeyTests.{in_one_object}
+use Rattle.link_model.proofs.RowsStand.{Stands}
+use Rattle.link_model.proofs.ExternalsMean.{neither, not_mapped, none_passes}
+
+-- An object of the link, whose number fits the entry table.
+pub record IsThere (l : Link) (n : ℕ) : Type 0 where
+  pub number : IsNumberOf n (length (objects l))
+  pub small : n ≤ MAX_OBJECTS
+
+-- ---- a row has the number of its logical segment's object
+
+in_push : {X : Type 0} (x : X) (xs : List X) (y : X) → In x (xs ++ y ∷ []) → In x xs ⊎ (y ≡ x)
+in_push x [] y here = inr refl
+in_push x [] y (there i) = elim i [ ]
+in_push x (z ∷ xs) y here = inl here
+in_push x (z ∷ xs) y (there i) = elim (in_push x xs y i) as (λ s. In x (z ∷ xs) ⊎ (y ≡ x)) [ inl j ↦ inl (there j) | inr e ↦ inr e ]
+
+rows_stand : (l : Link) (earlier : List Row) (ss : List Part) → ((r : Row) → In r earlier → Stands l r) → ((s : Part) → In s ss → In s (ordered l)) → (r : Row) → In r (rows_after l earlier ss) → Stands l r
+unfolding rules
+rows_stand l earlier [] all sub r i = all r i
+rows_stand l earlier (s ∷ ss) all sub r i =
+    let new : Row = row_after l earlier s in
+    let stands : Stands l new = record { object = refl; end = refl; inside = sub s here } in
+    rows_stand l (earlier ++ new ∷ []) ss (λ q j. elim (in_push q earlier new j) as (λ t. Stands l q) [ inl k ↦ all q k | inr e ↦ subst (λ t. Stands l t) e stands ]) (λ t j. sub t (there j)) r i
+
+none_yet : (l : Link) (r : Row) → In r [] → Stands l r
+none_yet l r i = elim i [ ]
+
+pub row_stands : (l : Link) (r : Row) → In r (rows l) → Stands l r
+unfolding rules
+row_stands l r i = rows_stand l [] (ordered l) (none_yet l) (λ t j. j) r i
+
+-- ---- such a number is that of an object
+
+placed_at : (base : ℕ) (qs : List (ℕ × ℕ)) → length (placed_from base qs) ≡ length qs
+placed_at base [] = refl
+placed_at base (q ∷ qs) = ap suc (placed_at (base + room q.0) qs)
+
+length-numbered : {X Y : Type 0} (f : ℕ × X → Y) (b : ℕ) (xs : List X) → length (map f (enumerate_from b xs)) ≡ length xs
+length-numbered f b [] = refl
+length-numbered f b (x ∷ xs) = ap suc (length-numbered f (b + 1) xs)
+
+count-objects : (l : Link) → length (objects l) ≡ length (object_heads l)
+unfolding rules
+count-objects l =
+    let f : ℕ × Part → ℕ × ℕ = λ q. (end_in q.0 (rows l), flags_of l q.1) in
+    placed_at (first_base l) (map f (enumerate_from 1 (object_heads l))) ∙ length-numbered f 1 (object_heads l)
+
+number_there : (l : Link) (s : Part) → In s (ordered l) → IsNumberOf (object_number l s) (length (objects l))
+number_there l s i =
+    let test : Part → Bool = λ h. same_object (object_key l s) (object_key l h) in
+    let any : list_any test (object_heads l) ≡ true = any-firsts (in_one_object l) s (ordered l) ∙ any_in test i ((in_one_object l).refl s) in
+    let k : ℕ = position_or_len test (object_heads l) in
+    let number : object_number l s ≡ k + 1 = ap (λ (o : Option ℕ). option_map_or (λ n. n + 1) o 0) (position_is test (object_heads l) any) in
+    let below : k < length (object_heads l) = placed test (object_heads l) any in
+    let count = count-objects l in
+    (omega (arith, number), omega (arith, number, below, count))
+
+-- ---- and it fits, where the layout is not refused
+
+nothing_large : (l : Link) → lay_refusal l ≡ None → find (λ q. passes_limits (take q.0 (rows l)) q.1) (enumerate_from 1 (rows l)) ≡ None
+unfolding lay_refusal
+nothing_large l e =
+    let first = (neither (absolute l) (first_of (use_mixed l ∷ group_split l ∷ too_large l ∷ [])) e).1 in
+    let second = (neither (use_mixed l) (first_of (group_split l ∷ too_large l ∷ [])) first).1 in
+    let third = (neither (group_split l) (first_of (too_large l ∷ [])) second).1 in
+    let fourth = (neither (too_large l) (first_of []) third).0 in
+    not_mapped (λ q. TooLarge q.1.segment.name) (find (λ q. passes_limits (take q.0 (rows l)) q.1) (enumerate_from 1 (rows l))) fourth
+
+or_second : (a b : Bool) → (a || b) ≡ false → b ≡ false
+or_second false b e = e
+or_second true b e = absurd (true≢false e)
+
+small_row : (earlier : List Row) (r : Row) → passes_limits earlier r ≡ false → r.object ≤ MAX_OBJECTS
+small_row earlier r e =
+    ltb-false MAX_OBJECTS r.object (or_second (nat_lt (object_limit r.segment) r.end || nat_lt MAX_MEMORY (size_of_rows earlier)) (nat_lt MAX_OBJECTS r.object) e)
+
+small_among : (firsts : ℕ → List Row) (b : ℕ) (rs : List Row) {r : Row} → AllByRecursion (λ q. passes_limits (firsts q.0) q.1 ≡ false) (enumerate_from b rs) → In r rs → r.object ≤ MAX_OBJECTS
+small_among firsts b [] h i = elim i [ ]
+small_among firsts b (r ∷ rs) h here = small_row (firsts b) r h.0
+small_among firsts b (r ∷ rs) h (there i) = small_among firsts (b + 1) rs h.1 i
+
+pub row_there : (l : Link) (r : Row) → lay_refusal l ≡ None → In r (rows l) → IsThere l r.object
+row_there l r e i =
+    let stands = row_stands l r i in record {
+      number = subst (λ (n : ℕ). IsNumberOf n (length (objects l))) (sym stands.object) (number_there l r.segment stands.inside);
+      small = small_among (λ n. take n (rows l)) 1 (rows l) (none_passes (λ q. passes_limits (take q.0 (rows l)) q.1) (enumerate_from 1 (rows l)) (nothing_large l e)) i;
+    }
+
+-- ---- the object of the stack
+
+some_is : {X : Type 0} (x y : X) → Some x ≡ Some y → x ≡ y
+some_is {X} x y e = ap (λ (o : Option X). unwrap_or o x) e
+
+stack_by : (l : Link) (o : Option Row) (q : ℕ × ℕ) → stack_row l ≡ o → option_map (λ r. (r.object, r.end)) o ≡ Some q → lay_refusal l ≡ None → IsThere l q.0
+stack_by l None q is e none = absurd (true≢false (sym (ap is_some e)))
+stack_by l (Some r) q is e none =
+    let found = found_as (λ (r : Row). has_stack l r.segment) (rows l) r is in
+    let same : r.object ≡ q.0 = ap (λ (o : Option (ℕ × ℕ)). (unwrap_or o q).0) e in
+    subst (IsThere l) same (row_there l r none found.inside)
+
+pub stack_there : (l : Link) (q : ℕ × ℕ) → lay_refusal l ≡ None → stack_top l ≡ Some q → IsThere l q.0
+unfolding stack_top
+stack_there l q none e = stack_by l (stack_row l) q refl e none

@@ -1,0 +1,6 @@
+use Rattle.std.proofs.Common.{◌≡◌, length, take}
+use Rattle.std.specs.List.{sum_by}
+use Rattle.link_core.proofs.counts.source_count.Given as goal
+
+abbrev pub invariant-loop-pages : goal.invariant-loop-pages
+invariant-loop-pages l = l.count ≡ sum_by (λ pages. sum_by length pages) (take l.pages-index l.objects)

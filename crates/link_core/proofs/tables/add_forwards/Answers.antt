@@ -1,0 +1,12 @@
+use Rattle.std.proofs.Common.{map, take, List, subst}
+use Rattle.std.specs.List.{filter_map}
+use Rattle.obj_types.specs.declared.symbol.Imp.{Imp}
+use Rattle.link_bytes.specs.Tables.{ArePairs}
+use Rattle.link_core.specs.Exports.{pair_in}
+use Rattle.link_core.proofs.Steps.{picked-more}
+use Rattle.link_core.proofs.tables.add_forwards.Goals as goal
+
+pub loop-export-preserved : goal.loop-export-preserved
+loop-export-preserved c = λ pairs are.
+    subst (λ (ps : List Imp). ArePairs c.add_forward.new.tables ps) (picked-more (pair_in c.args.places.now c.args.syms.now) pairs c.args.exports.now c.loop-export.export-index c.export-item.result c.loop-export-test.true c.export-item.is)
+    (c.in_ok-add_forward.ensures _ (c.loop-export.invariant pairs are))

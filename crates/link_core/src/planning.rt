@@ -1,0 +1,113 @@
+//! A link before its file is written: symbols, then the layout, then fixups, and with them all parts of the module.
+
+ghost use Rattle.std.specs.Prelude.{◌≡◌, None, IfOk};
+ghost use Rattle.lx_types.specs.Answers.{Answers};
+ghost use Rattle.obj_types.specs.Input.{WholeInput};
+ghost use Rattle.link_model.specs.Layout.{stack_top};
+ghost use Rattle.link_model.specs.LayoutRefusals.{lay_refusal};
+ghost use Rattle.link_model.specs.Link.{link_of};
+ghost use Rattle.link_model.specs.Refusal.{place_refusal};
+ghost use Rattle.sym_table.specs.Binding.{IsBound};
+ghost use Rattle.seg_merge.specs.Layout.{IsLaidOut};
+ghost use Rattle.link_fix.specs.Placing.{ArePlaced};
+ghost use Rattle.link_core.specs.Links.{RefusesLink};
+ghost use Rattle.link_core.specs.Planned.{IsPlanned};
+
+use crate::auto::auto_of;
+use crate::failing::{lay_failed, place_failed, sym_failed};
+use crate::image::{image_of, tables_of};
+use link_fix::{Placed, modules_at, place_fixes};
+use link_model::LinkRefusal;
+use lx_types::NoMemory;
+use lx_write::Image;
+use obj_types::{Fail, LinkInput};
+use seg_merge::{Layout, Places, lay_out};
+use std::alloc::Global;
+use sym_table::{Symbols, bind};
+
+/// A link whose names, segments and fixups are not refused.
+#[derive(Drop)]
+pub struct Plan {
+    /// Which modules are chosen, and what names mean.
+    pub syms: Symbols,
+    /// Where segments, communals and groups stand.
+    pub places: Places,
+    /// What the module's file says.
+    pub image: Image,
+}
+
+// The plan of a link whose fixups are placed.
+fn plan_placed(
+    alloc: Global,
+    input: &LinkInput,
+    syms: Symbols,
+    layout: Layout,
+    placed: Placed,
+) -> Result<Plan, NoMemory>
+    requires whole { WholeInput input.now }
+    requires bound { IsBound input.now syms }
+    requires laid { IsLaidOut (link_of input.now syms.chosen) layout }
+    requires lay { lay_refusal (link_of input.now syms.chosen) ≡ None }
+    requires place { place_refusal (link_of input.now syms.chosen) ≡ None }
+    requires placed { ArePlaced (link_of input.now syms.chosen) (stack_top (link_of input.now syms.chosen)) placed }
+    ensures { IfOk result (λ plan. IsPlanned input.now plan) }
+{
+    let modules = modules_at(alloc, input, syms.chosen())?;
+    let modules = modules.as_slice();
+    let auto = auto_of(&layout.places, modules)?;
+    let tables = tables_of(alloc, input, modules, &syms, &layout, &placed)?;
+    let Layout {
+        objects,
+        places,
+        stack: _stack,
+    } = layout;
+    let image = image_of(alloc, input, objects, auto, placed, tables)?;
+    Ok(Plan {
+        syms,
+        places,
+        image,
+    })
+}
+
+// The plan of a link that has a layout.
+fn plan_laid(
+    alloc: Global,
+    input: &LinkInput,
+    syms: Symbols,
+    layout: Layout,
+) -> Result<Plan, Fail<LinkRefusal>>
+    requires whole { WholeInput input.now }
+    requires bound { IsBound input.now syms }
+    requires laid { IsLaidOut (link_of input.now syms.chosen) layout }
+    requires lay { lay_refusal (link_of input.now syms.chosen) ≡ None }
+    ensures { Answers result (λ plan. IsPlanned input.now plan) (λ refusal. RefusesLink input.now refusal) }
+{
+    match place_fixes(alloc, input, &syms, &layout) {
+        Err(fail) => Err(place_failed(fail)),
+        Ok(placed) => Ok(plan_placed(alloc, input, syms, layout, placed)?),
+    }
+}
+
+// The plan of a link whose names have meanings.
+fn plan_bound(alloc: Global, input: &LinkInput, syms: Symbols) -> Result<Plan, Fail<LinkRefusal>>
+    requires whole { WholeInput input.now }
+    requires bound { IsBound input.now syms }
+    ensures { Answers result (λ plan. IsPlanned input.now plan) (λ refusal. RefusesLink input.now refusal) }
+{
+    match lay_out(alloc, input, &syms) {
+        Err(fail) => Err(lay_failed(fail)),
+        Ok(layout) => plan_laid(alloc, input, syms, layout),
+    }
+}
+
+/// The parts of the module that the input is linked to. The first refusal of its names, its layout, its fixups and its
+/// start is answered; what is to be refused of its exports is not tried yet.
+pub fn plan_link(alloc: Global, input: &LinkInput) -> Result<Plan, Fail<LinkRefusal>>
+    requires whole { WholeInput input.now }
+    ensures { Answers result (λ plan. IsPlanned input.now plan) (λ refusal. RefusesLink input.now refusal) }
+{
+    match bind(alloc, input) {
+        Err(fail) => Err(sym_failed(fail)),
+        Ok(syms) => plan_bound(alloc, input, syms),
+    }
+}

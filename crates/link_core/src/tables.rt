@@ -1,0 +1,91 @@
+//! The import tables of a module: what its fixups name, and behind it what its forwarders name ("Import Module Name
+//! Table", "Import Procedure Name Table").
+
+ghost use Rattle.std.specs.Prelude.{◌≡◌, ◌++◌, IfOk, OnOk, List, map, bytes_eq, option_to_list};
+ghost use Rattle.std.specs.List.{filter_map};
+ghost use Rattle.obj_types.specs.declared.symbol.Imp.{Imp};
+ghost use Rattle.link_model.specs.Appearance.{firsts};
+ghost use Rattle.link_model.specs.ImportTables.{modules_in, procs_in};
+ghost use Rattle.link_bytes.specs.Tables.{AreFirst, ArePairs};
+ghost use Rattle.link_core.specs.Exports.{pair_in};
+
+use crate::exports::forwarded;
+use link_bytes::{FirstNames, ImportTables};
+use lx_types::{Name, NoMemory};
+use obj_types::Exp;
+use seg_merge::Places;
+use std::alloc::Global;
+use sym_table::Symbols;
+
+/// A copy of a name.
+pub fn copied(alloc: Global, name: &Name) -> Result<Name, NoMemory>
+    ensures { IfOk result (λ copy. copy ≡ name.now) }
+{
+    Name::of_short(alloc, name.bytes())
+}
+
+// The names in the order in which each first stands.
+fn first_names(alloc: Global, names: &[Name]) -> Result<FirstNames, NoMemory>
+    ensures { IfOk result (λ table. AreFirst table (firsts bytes_eq names.now)) }
+{
+    let mut table = FirstNames::new(alloc);
+    for name in names {
+        let name = copied(alloc, name)?;
+        table.push(alloc, name)?;
+    }
+    Ok(table)
+}
+
+// Adds the import pair of an export that leads to another module.
+fn add_forward(
+    alloc: Global,
+    tables: &mut ImportTables,
+    places: &Places,
+    syms: &Symbols,
+    export: &Exp,
+) -> Result<(), NoMemory>
+    ensures { OnOk result ((pairs : List Imp) → ArePairs tables.old pairs
+        → ArePairs tables.new (pairs ++ option_to_list (pair_in places.now syms.now export.now))) }
+{
+    if let Some(pair) = forwarded(places, syms, export) {
+        tables.push(alloc, pair)?;
+    }
+    Ok(())
+}
+
+// Adds the import pairs of exports that lead to other modules.
+fn add_forwards(
+    alloc: Global,
+    tables: &mut ImportTables,
+    places: &Places,
+    syms: &Symbols,
+    exports: &[&Exp],
+) -> Result<(), NoMemory>
+    ensures { OnOk result ((pairs : List Imp) → ArePairs tables.old pairs
+        → ArePairs tables.new (pairs ++ filter_map (pair_in places.now syms.now) (map (λ x. x.now) exports.now))) }
+{
+    for export in exports {
+        add_forward(alloc, tables, places, syms, export)?;
+    }
+    Ok(())
+}
+
+/// The import tables of the pairs whose modules and procedures these are, and behind them of the exports that lead to
+/// other modules.
+pub fn link_tables(
+    alloc: Global,
+    imports: &[Name],
+    procs: &[Name],
+    places: &Places,
+    syms: &Symbols,
+    exports: &[&Exp],
+) -> Result<ImportTables, NoMemory>
+    ensures { IfOk result (λ tables. (pairs : List Imp) → imports.now ≡ modules_in pairs → procs.now ≡ procs_in pairs
+        → ArePairs tables (pairs ++ filter_map (pair_in places.now syms.now) (map (λ x. x.now) exports.now))) }
+{
+    let modules = first_names(alloc, imports)?;
+    let procs = first_names(alloc, procs)?;
+    let mut tables = ImportTables::of(modules, procs);
+    add_forwards(alloc, &mut tables, places, syms, exports)?;
+    Ok(tables)
+}

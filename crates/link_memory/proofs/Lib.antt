@@ -1,0 +1,3 @@
+pub mod ValuesAre
+pub mod PaintedValues
+pub mod MemoryIs
