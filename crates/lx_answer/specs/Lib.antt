@@ -1,7 +1,13 @@
 pub mod Words
+pub mod Stem
 pub mod FileLine
 pub mod ImageText
-pub mod MemoryText
-pub mod Answer
+pub mod Reading
+pub mod Loading
+pub mod Outcome
+pub mod LinkAnswer
+pub mod ImageAnswer
+pub mod ImplibAnswer
 pub mod Says
+pub mod Answer
 pub mod Ends

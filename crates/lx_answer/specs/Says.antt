@@ -1,38 +1,76 @@
--- What the tool says, by the answers to its loads: this holds of real files too, whatever they have.
-use Rattle.std.specs.Prelude.{◌≡◌, ℕ, List, [], ◌∷◌, codes, Option, Some, None, Result, Ok, Err}
-use Rattle.lx_ports.specs.Calls.{Call, load, save}
-use Rattle.lx_ports.specs.declared.files.LoadFault.{LoadFault}
-use Rattle.lx_ports.specs.declared.files.LoadFault.TheVariants as fault
-use Rattle.lx_answer.specs.Answer.{AnswersBytes, IsAbsent, IsTooLong}
+-- What the tool says, by the answers to its calls: this holds of real files too, whatever they have.
+use Rattle.std.specs.Prelude.{◌≡◌, ◌⊎◌, ℕ, List, [], ◌∷◌, ◌++◌, codes, map, Option, Some, None, Result, Ok, Err}
+use Rattle.lx_ports.specs.Calls.{Call, save}
+use Rattle.lx_ports.specs.declared.files.SaveFault.{SaveFault}
 use Rattle.lx_answer.specs.FileLine.{file_line, usage_line}
-use Rattle.lx_answer.specs.Words.{Image, command_of}
+use Rattle.lx_answer.specs.ImageAnswer.{ImageAnswer}
+use Rattle.lx_answer.specs.ImplibAnswer.{all_imports, implib_outcome}
+use Rattle.lx_answer.specs.LinkAnswer.{LinkAnswer}
+use Rattle.lx_answer.specs.Loading.{Asked, AreRead, IsStopped}
+use Rattle.lx_answer.specs.Outcome.{Outcome, Saved}
+use Rattle.lx_answer.specs.Reading.{Item, object_file, object_or_library, definition_file, module_or_definition}
+use Rattle.lx_answer.specs.Stem.{stem_of}
+use Rattle.lx_answer.specs.Words.{Command, command_of, image, link, implib}
+use Rattle.lx_answer.specs.declared.said.Said.{Said}
 
--- The names of the files that a command loads, in their order.
-abbrev pub named_files : Option Image → List (List ℕ)
-named_files None = []
-named_files (Some image) = image.object ∷ []
+-- ---- the files of a command
 
--- The calls are one load of each of the names, in their order, and no others.
-abbrev pub AreLoadsOf : List (List ℕ) → List Call → Type 0
-AreLoadsOf [] [] = Unit {0}
-AreLoadsOf [] (call ∷ calls) = ⊥
-AreLoadsOf (name ∷ names) [] = ⊥
-AreLoadsOf (name ∷ names) (load other answer ∷ calls) = (other ≡ name) × AreLoadsOf names calls
-AreLoadsOf (name ∷ names) (save other bytes answer ∷ calls) = ⊥
+abbrev pub asked_definition : Option (List ℕ) → List Asked
+asked_definition None = []
+asked_definition (Some name) = record { kind = definition_file; name = name } ∷ []
 
--- What is said by the answer to the load of the object file. For want of memory nothing is.
-abbrev pub SaysFile : Image → Result (List ℕ) LoadFault → ℕ → List ℕ → Type 0
-SaysFile image (Ok bytes) status text = AnswersBytes image bytes status text
-SaysFile image (Err fault.Absent) status text = IsAbsent image status text
-SaysFile image (Err fault.TooLong) status text = IsTooLong image status text
-SaysFile image (Err fault.Failed) status text = (status ≡ 3) × (text ≡ file_line image.object (codes "read failed"))
-SaysFile image (Err fault.NoMemory) status text = ⊥
+abbrev pub asked_inputs : List (List ℕ) → List Asked
+asked_inputs names = map (λ name. record { kind = object_or_library; name = name }) names
 
-abbrev pub SaysCommand : Option Image → List Call → ℕ → List ℕ → Type 0
-SaysCommand None calls status text = (status ≡ 2) × (text ≡ usage_line)
-SaysCommand (Some image) calls status text =
-    (answer : Result (List ℕ) LoadFault) × (calls ≡ load image.object answer ∷ []) × SaysFile image answer status text
+abbrev pub asked_exporters : List (List ℕ) → List Asked
+asked_exporters names = map (λ name. record { kind = module_or_definition; name = name }) names
 
--- The words, with these loads and their answers, have this status and text.
-abbrev pub Says : List (List ℕ) → List Call → ℕ → List ℕ → Type 0
-Says words calls status text = SaysCommand (command_of words) calls status text
+-- The files that a command loads, in their order.
+abbrev pub asked_files : Command → List Asked
+asked_files (image object base) = record { kind = object_file; name = object } ∷ []
+asked_files (link out definition inputs) = asked_definition definition ++ asked_inputs inputs
+asked_files (implib out inputs) = asked_exporters inputs
+
+-- What the command comes to, by what its files mean.
+abbrev pub ComesTo : Command → List Item → Outcome → Type 0
+ComesTo (image object base) items outcome = ImageAnswer base items outcome
+ComesTo (link out definition inputs) items outcome = LinkAnswer out items outcome
+ComesTo (implib out inputs) items outcome = outcome ≡ implib_outcome out (all_imports (stem_of out) items)
+
+-- ---- saving, behind all loads
+
+abbrev pub said_after : Outcome → List ℕ → Result (Unit {0}) SaveFault → Said
+said_after outcome name (Ok _) = outcome.said
+said_after outcome name (Err _) = record { status = 4; text = file_line name (codes "write failed") }
+
+-- One save, of the file that is to be saved.
+pub record IsSaved (outcome : Outcome) (saved : Saved) (calls : List Call) (said : Said) : Type 0 where
+  pub answer : Result (Unit {0}) SaveFault
+  pub calls_are : calls ≡ save saved.name saved.bytes answer ∷ []
+  pub is_said : said ≡ said_after outcome saved.name answer
+
+-- The calls behind the loads, and what is said after them.
+abbrev pub Finishes : Option Saved → Outcome → List Call → Said → Type 0
+Finishes None outcome calls said = (calls ≡ []) × (said ≡ outcome.said)
+Finishes (Some saved) outcome calls said = IsSaved outcome saved calls said
+
+-- ---- the whole command
+
+-- All files were read. Nothing was saved before the outcome was known.
+pub record IsDone (command : Command) (calls : List Call) (said : Said) : Type 0 where
+  pub loads : List Call
+  pub items : List Item
+  pub read : AreRead (asked_files command) loads items
+  pub outcome : Outcome
+  pub comes_to : ComesTo command items outcome
+  pub saves : List Call
+  pub finished : Finishes outcome.saved outcome saves said
+  pub calls_are : calls ≡ loads ++ saves
+
+abbrev pub SaysCommand : Option Command → List Call → Said → Type 0
+SaysCommand None calls said = (calls ≡ []) × (said ≡ record { status = 2; text = usage_line })
+SaysCommand (Some command) calls said = IsStopped (asked_files command) calls said ⊎ IsDone command calls said
+
+-- The words, with these calls and their answers, have this status and text.
+abbrev pub Says : List (List ℕ) → List Call → Said → Type 0
+Says words calls said = SaysCommand (command_of words) calls said

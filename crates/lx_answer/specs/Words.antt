@@ -5,10 +5,13 @@ use Rattle.std.specs.Str.{bytes_eq}
 use Rattle.hex.specs.Hex.{decode_sized}
 use Rattle.hex.specs.declared.error.FromHexError.{FromHexError}
 
--- An object file, and the base at which its bytes are to be shown.
-pub record Image : Type 0 where
-  pub object : List ℕ
-  pub base : ℕ
+-- A command with the names of its files. A link may have no definition file.
+pub data Command : Type 0 where
+  image : (object : List ℕ) → (base : ℕ) → Command
+  link : (out : List ℕ) → (definition : Option (List ℕ)) → (inputs : List (List ℕ)) → Command
+  implib : (out : List ℕ) → (inputs : List (List ℕ)) → Command
+
+-- ---- `image OBJ BASE`
 
 -- A base is a multiple of 65,536 in the private or the shared arena.
 abbrev pub in_arenas : ℕ → Option ℕ
@@ -22,8 +25,33 @@ base_of_bytes (Err _) = None
 abbrev pub base_of : List ℕ → Option ℕ
 base_of word = base_of_bytes (decode_sized word 4)
 
--- The one command so far is `image OBJ BASE`. All other words are none.
-abbrev pub command_of : List (List ℕ) → Option Image
-command_of (word ∷ object ∷ base ∷ []) =
-    if bytes_eq word (codes "image") then option_map (λ n. record { object = object; base = n }) (base_of base) else None
-command_of _ = None
+abbrev pub image_of : List (List ℕ) → Option Command
+image_of (object ∷ base ∷ []) = option_map (image object) (base_of base)
+image_of _ = None
+
+-- ---- `link OUT DEF IN ..`
+
+-- DEF `-` is none.
+abbrev pub definition_of : List ℕ → Option (List ℕ)
+definition_of word = if bytes_eq word (codes "-") then None else Some word
+
+abbrev pub link_of : List (List ℕ) → Option Command
+link_of (out ∷ definition ∷ input ∷ inputs) = Some (link out (definition_of definition) (input ∷ inputs))
+link_of _ = None
+
+-- ---- `implib OUT IN ..`
+
+abbrev pub implib_of : List (List ℕ) → Option Command
+implib_of (out ∷ input ∷ inputs) = Some (implib out (input ∷ inputs))
+implib_of _ = None
+
+-- ---- all
+
+-- All other words are no command.
+abbrev pub command_of : List (List ℕ) → Option Command
+command_of [] = None
+command_of (word ∷ words) =
+    if bytes_eq word (codes "image") then image_of words
+    else if bytes_eq word (codes "link") then link_of words
+    else if bytes_eq word (codes "implib") then implib_of words
+    else None

@@ -8,13 +8,26 @@ ghost use Rattle.lx_answer.specs.Ends.{Ends};
 use lx_ports::{DiskFiles, Files, NoGate, Sink, StdSink};
 use lx_tool::lx_main;
 use std::alloc::{AllocError, Global};
-use std::io::ErrorKind;
+use std::io::{ErrorKind, Write};
 use std::process::ExitCode;
 use std::rt::Runtime;
 use std::{env, io};
 
+/// The status after standard output failed.
+const WRITE_FAILED: u8 = 4;
+
 /// The status of want of memory.
 const NO_MEMORY: u8 = 8;
+
+/// What `--help` puts: a line for each command.
+const HELP: &str = "\
+lx image OBJ BASE      shows an object file's objects in memory, as: lx image a.obj 10000000
+lx link OUT DEF IN ..  links object files and libraries, DEF may be -, as: lx link d.dll d.def a.obj b.lib
+lx implib OUT IN ..    writes an import library of modules and definition files, as: lx implib d.lib d.def
+";
+
+/// What `--version` puts.
+const VERSION: &str = "lx 0.1\n";
 
 /// The words after the program's name. Words that are not text are no command, so there are none.
 fn words<R: Runtime + AllocGlobal>(rt: &R) -> io::Result<Vec<String>> {
@@ -39,11 +52,30 @@ fn run<R, F: Files, S: Sink>(
     ExitCode::from(lx_main(rt, alloc, words, files, out, &NoGate))
 }
 
+/// What is told of the program itself, where that is all that the words ask for.
+fn about(words: &[String]) -> Option<&'static str> {
+    match words {
+        [word] if word.as_str() == "--help" => Some(HELP),
+        [word] if word.as_str() == "--version" => Some(VERSION),
+        _ => None,
+    }
+}
+
+fn tell<W: Write>(out: &mut W, text: &str) -> ExitCode {
+    match out.write_all(text.as_bytes()) {
+        Ok(()) => ExitCode::SUCCESS,
+        Err(_) => ExitCode::from(WRITE_FAILED),
+    }
+}
+
 /// Does what the command line asks for, over real files and standard output. This is all that `main` does.
 pub fn program<R: Runtime + AllocGlobal>(rt: &R) -> ExitCode {
     let Ok(words) = words(rt) else {
         return ExitCode::from(NO_MEMORY);
     };
+    if let Some(text) = about(&words) {
+        return tell(&mut io::writer(rt), text);
+    }
     let own: Result<R, AllocError> = rt.clone();
     let Ok(own) = own else {
         return ExitCode::from(NO_MEMORY);

@@ -1,134 +1,97 @@
--- How a call ends, from what was loaded, what was said and what was put.
-use Rattle.std.proofs.Common.{◌≡◌, ◌≢◌, ℕ, ◌<◌, ◌≤◌, List, [], ◌∷◌, Option, Some, None, Result, Ok, Err, refl, sym, inl, inr, arith, subst}
+-- How a call ends, from what was done, what was said and what was put.
+use Rattle.std.proofs.Common.{◌≡◌, ℕ, ◌⊎◌, List, Option, Some, None, Ok, Err, refl, subst, inl, inr, arith}
 use Rattle.std.specs.Prelude.{IfSome}
 use Rattle.std.specs.List.{AllByRecursion}
 use Rattle.std.specs.Io.KnownBytes.{Appends}
-use Rattle.lx_ports.specs.Calls.{Call, load, load_faults}
+use Rattle.lx_types.specs.declared.fail.NoMemory.{NoMemory}
+use Rattle.lx_ports.specs.Calls.{Call, load_faults}
 use Rattle.lx_ports.specs.Counts.{Rose}
-use Rattle.lx_ports.specs.Files.{Contents, FilesState, IsLoadOf}
+use Rattle.lx_ports.specs.Files.{Contents, FilesState}
 use Rattle.lx_ports.specs.Sinks.{SinkState}
-use Rattle.lx_ports.specs.declared.files.LoadFault.{LoadFault}
-use Rattle.lx_ports.specs.declared.files.LoadFault.TheVariants as fault
-use Rattle.lx_answer.specs.Answer.{AnswersBytes, AnswersCommand, AnswersFile, file_limit}
-use Rattle.lx_answer.specs.Says.{Says, SaysCommand, SaysFile}
-use Rattle.lx_answer.specs.Ends.{AppendsPart, Ends, IsAnswered, IsTold, Loads}
-use Rattle.lx_answer.specs.Words.{Image, command_of}
+use Rattle.lx_answer.specs.declared.said.Said.{Said}
+use Rattle.lx_answer.specs.Ends.{AppendsPart, Ends, IsAnswered, IsPut, IsTold, save_faults}
+use Rattle.lx_answer.specs.Says.{Says}
+use Rattle.lx_answer.specs.Words.{command_of}
+use Rattle.lx_tool.specs.Doing.{DoesWords}
+use Rattle.lx_tool.proofs.Sound.{sound_all}
+use Rattle.lx_tool.proofs.Statuses.{StatusSays, status_says}
 
--- ---- the statuses of what is said
+answered : (told : Option Contents) (words : List (List ℕ)) (calls : List Call) (out out_now : SinkState) (said : Said) → Says words calls said → StatusSays (command_of words ≡ None) calls said
+    → IfSome told (λ contents. AllByRecursion (IsTold contents) calls) → load_faults calls ≡ 0 → save_faults calls ≡ 0 → Appends out.contents out_now.contents said.text
+    → IfSome told (λ contents. (said.status ≡ 8) ⊎ IsAnswered words contents calls out out_now said.status)
+answered None words calls out out_now said says facts are loads saves put = tt
+answered (Some contents) words calls out out_now said says facts are loads saves put = inr (record {
+  text = said.text;
+  answer = record { calls = calls; sound = sound_all contents calls are facts.plain loads saves; says = says; saves_are = refl };
+  put = put;
+})
 
-file_status : (image : Image) (answer : Result (List ℕ) LoadFault) (status : ℕ) (text : List ℕ) → SaysFile image answer status text → (status ≤ 3) × (status ≢ 2)
-file_status image (Ok bytes) status text says = elim says.1 [
-  | inl shown ↦ (omega (arith, shown.ended), λ is. absurd (omega (arith, shown.ended, is)))
-  | inr unbuilt ↦ (omega (arith, unbuilt.ended), λ is. absurd (omega (arith, unbuilt.ended, is)))
-]
-file_status image (Err fault.Absent) status text says = (omega (arith, says.0), λ is. absurd (omega (arith, says.0, is)))
-file_status image (Err fault.TooLong) status text says = (omega (arith, says.0), λ is. absurd (omega (arith, says.0, is)))
-file_status image (Err fault.Failed) status text says = (omega (arith, says.0), λ is. absurd (omega (arith, says.0, is)))
-file_status image (Err fault.NoMemory) status text says = absurd says
+no_memory_told : (told : Option Contents) (words : List (List ℕ)) (calls : List Call) (out out_now : SinkState)
+    → IfSome told (λ contents. (◌≡◌ {A = ℕ} 8 8) ⊎ IsAnswered words contents calls out out_now 8)
+no_memory_told None words calls out out_now = tt
+no_memory_told (Some contents) words calls out out_now = inl refl
 
-small : (command : Option Image) (calls : List Call) (status : ℕ) (text : List ℕ) → SaysCommand command calls status text → status ≤ 3
-small None calls status text says = omega (arith, says.0)
-small (Some image) calls status text says = (file_status image says.0 status text says.2).0
-
-no_command : (command : Option Image) (calls : List Call) (status : ℕ) (text : List ℕ) → SaysCommand command calls status text → status ≡ 2 → command ≡ None
-no_command None calls status text says is = refl
-no_command (Some image) calls status text says is = absurd ((file_status image says.0 status text says.2).1 is)
-
-one_failed : (image : Image) (answer : Result (List ℕ) LoadFault) (status : ℕ) (text : List ℕ) → SaysFile image answer status text → status ≡ 3 → 0 < load_faults (load image.object answer ∷ [])
-one_failed image (Ok bytes) status text says is = elim says.1 [
-  | inl shown ↦ absurd (omega (arith, shown.ended, is))
-  | inr unbuilt ↦ absurd (omega (arith, unbuilt.ended, is))
-]
-one_failed image (Err fault.Absent) status text says is = absurd (omega (arith, says.0, is))
-one_failed image (Err fault.TooLong) status text says is = absurd (omega (arith, says.0, is))
-one_failed image (Err fault.Failed) status text says is = omega arith
-one_failed image (Err fault.NoMemory) status text says is = absurd says
-
-failed : (command : Option Image) (calls : List Call) (status : ℕ) (text : List ℕ) → SaysCommand command calls status text → status ≡ 3 → 0 < load_faults calls
-failed None calls status text says is = absurd (omega (arith, says.0, is))
-failed (Some image) calls status text says is =
-    let P : List Call → Type 0 = λ cs. 0 < load_faults cs in
-    subst P (sym says.1) (one_failed image says.0 status text says.2 is)
-
--- ---- over told files
-
-file_answer : (image : Image) (has : Option (List ℕ)) (answer : Result (List ℕ) LoadFault) (status : ℕ) (text : List ℕ) → SaysFile image answer status text
-    → IsLoadOf has file_limit answer → load_faults (load image.object answer ∷ []) ≡ 0 → AnswersFile image has status text
-file_answer image None (Ok bytes) status text says told none = let is = told.0 in absurd cc
-file_answer image (Some b) (Ok bytes) status text says told none =
-    let some = told.0 in
-    let same : b ≡ bytes = cc in
-    let P : List ℕ → Type 0 = λ l. AnswersBytes image l status text in
-    inl (subst P (sym same) says)
-file_answer image None (Err fault.Absent) status text says told none = says
-file_answer image (Some b) (Err fault.Absent) status text says told none = absurd cc
-file_answer image None (Err fault.TooLong) status text says told none = absurd told
-file_answer image (Some b) (Err fault.TooLong) status text says told none = inr (told, says)
-file_answer image has (Err fault.Failed) status text says told none = absurd (omega (arith, none))
-file_answer image has (Err fault.NoMemory) status text says told none = absurd says
-
-command_answer : (command : Option Image) (contents : Contents) (calls : List Call) (status : ℕ) (text : List ℕ) → SaysCommand command calls status text
-    → AllByRecursion (IsTold contents) calls → load_faults calls ≡ 0 → AnswersCommand command contents status text
-command_answer None contents calls status text says told none = says
-command_answer (Some image) contents calls status text says told none =
-    let P : List Call → Type 0 = λ cs. AllByRecursion (IsTold contents) cs in
-    let Q : List Call → Type 0 = λ cs. load_faults cs ≡ 0 in
-    file_answer image (contents image.object) says.0 status text says.2 (subst P says.1 told).0 (subst Q says.1 none)
-
-told_answer : (told : Option Contents) (words : List (List ℕ)) (calls : List Call) (out out_now : Option (List ℕ)) (status : ℕ) (text : List ℕ) → Says words calls status text
-    → IfSome told (λ contents. AllByRecursion (IsTold contents) calls) → load_faults calls ≡ 0 → Appends out out_now text
-    → IfSome told (λ contents. IsAnswered words contents out out_now status)
-told_answer None words calls out out_now status text says are none put = tt
-told_answer (Some contents) words calls out out_now status text says are none put =
-    record { answer = inr (text, command_answer (command_of words) contents calls status text says are none, put) }
-
-no_memory_told : (told : Option Contents) (words : List (List ℕ)) (out out_now : Option (List ℕ)) (status : ℕ) → status ≡ 8 → IfSome told (λ contents. IsAnswered words contents out out_now status)
-no_memory_told None words out out_now status is = tt
-no_memory_told (Some contents) words out out_now status is = record { answer = inl is }
-
--- ---- the three ends
-
-module _ (words : List (List ℕ)) (files files_now : FilesState) (out out_now : SinkState) (calls : List Call) (loads : Loads words files files_now calls) where
-  pub ends_whole : (status : ℕ) (text : List ℕ) → Says words calls status text → Appends out.contents out_now.contents text → Ends words files files_now out out_now status
-  ends_whole status text says put =
-      let low = small (command_of words) calls status text says in
+module _ (words : List (List ℕ)) (files files_now : FilesState) (out out_now : SinkState) where
+  pub ends_whole : (said : Said) → DoesWords (command_of words) files files_now (Ok said) → Appends out.contents out_now.contents said.text → Ends words files files_now out out_now said.status
+  ends_whole said does put =
+      let facts = status_says (command_of words) does.calls said does.says in
+      let whole : IsPut words does.calls out out_now said.status = record { text = said.text; says = does.says; put = put } in
       record {
-        known = inl (omega (arith, low));
-        calls = calls;
-        loads = loads;
-        whole = λ is. (text, says, put);
-        usage = λ is. no_command (command_of words) calls status text says is;
-        read_failed = λ is. failed (command_of words) calls status text says is;
-        put_failed = λ is. absurd (omega (arith, low, is));
-        part = λ is. absurd (omega (arith, low, is));
-        nothing = λ is. absurd (omega (arith, low, is));
-        complete = λ none well. told_answer files.contents words calls out.contents out_now.contents status text says loads.answers none put;
+        known = inl facts.low;
+        calls = does.calls;
+        had = does.runs.had;
+        named = does.runs.named;
+        told = does.runs.told;
+        held = does.runs.held;
+        whole = λ _. whole;
+        usage = facts.usage;
+        read_failed = facts.read_failed;
+        write_failed = λ four. inl (facts.write_failed four, by_status (λ n. IsPut words does.calls out out_now n) four whole);
+        unsaved = λ either. elim either [
+          | inl few ↦ facts.unsaved few.0 few.1
+          | inr eight ↦ let low = facts.low in absurd (omega (arith, low, eight))
+        ];
+        nothing = λ eight. let low = facts.low in absurd (omega (arith, low, eight));
+        complete = λ loads saves well. answered files.contents words does.calls out out_now said does.says facts does.runs.told loads saves put;
       }
+    where
+      by_status : (P : ℕ → Type 0) → said.status ≡ 4 → P said.status → P 4
+      by_status P four is = subst P four is
 
-  pub ends_in_part : (said : ℕ) (text : List ℕ) → Says words calls said text → AppendsPart out.contents out_now.contents text → Rose out.faults out_now.faults → Ends words files files_now out out_now 4
-  ends_in_part said text says put rose = record {
+  pub ends_in_part : (said : Said) → DoesWords (command_of words) files files_now (Ok said) → AppendsPart out.contents out_now.contents said.text → Rose out.faults out_now.faults
+      → Ends words files files_now out out_now 4
+  ends_in_part said does part rose = record {
     known = inl (omega arith);
-    calls = calls;
-    loads = loads;
+    calls = does.calls;
+    had = does.runs.had;
+    named = does.runs.named;
+    told = does.runs.told;
+    held = does.runs.held;
     whole = λ is. absurd (omega (arith, is));
     usage = λ is. absurd (omega (arith, is));
     read_failed = λ is. absurd (omega (arith, is));
-    put_failed = λ is. rose;
-    part = λ is. (said, text, says, put);
+    write_failed = λ _. inr (record { said = said; says = does.says; part = part; failed = rose });
+    unsaved = λ either. elim either [
+      | inl few ↦ let four = few.1 in absurd (omega (arith, four))
+      | inr eight ↦ absurd (omega (arith, eight))
+    ];
     nothing = λ is. absurd (omega (arith, is));
-    complete = λ none well. absurd (well rose);
+    complete = λ loads saves well. absurd (well rose);
   }
 
-  pub ends_without_memory : out_now.contents ≡ out.contents → Ends words files files_now out out_now 8
-  ends_without_memory same = record {
+  pub ends_without_memory : (why : NoMemory) → DoesWords (command_of words) files files_now (Err why) → out_now.contents ≡ out.contents → Ends words files files_now out out_now 8
+  ends_without_memory why does same = record {
     known = inr refl;
-    calls = calls;
-    loads = loads;
+    calls = does.calls;
+    had = does.runs.had;
+    named = does.runs.named;
+    told = does.runs.told;
+    held = does.runs.held;
     whole = λ is. absurd (omega (arith, is));
     usage = λ is. absurd (omega (arith, is));
     read_failed = λ is. absurd (omega (arith, is));
-    put_failed = λ is. absurd (omega (arith, is));
-    part = λ is. absurd (omega (arith, is));
-    nothing = λ is. same;
-    complete = λ none well. no_memory_told files.contents words out.contents out_now.contents 8 refl;
+    write_failed = λ is. absurd (omega (arith, is));
+    unsaved = λ _. does.says;
+    nothing = λ _. same;
+    complete = λ loads saves well. no_memory_told files.contents words does.calls out out_now;
   }

@@ -1,4 +1,4 @@
-pub mod FaultLines
-pub mod HasObject
-pub mod Requests
-pub mod Page
+pub mod Doing
+pub mod Refusals
+pub mod Rows
+pub mod ImportLibraries

@@ -1,84 +1,101 @@
 //! The command `image`: what an object file means at a base.
-ghost use Rattle.std.specs.Prelude.{◌≡◌, ◌≤◌, ℕ, IfOk, Some, codes};
-ghost use Rattle.lx_types.specs.Answers.{Answers};
-ghost use Rattle.first_form.specs.ObjectFile.{Form, IsForm, object_module_of};
+ghost use Rattle.std.specs.Prelude.{◌≡◌, ◌^◌, IfOk, codes, nat_lt};
+ghost use Rattle.obj_types.specs.Definition.{IsBase};
+ghost use Rattle.obj_types.specs.Input.{WholeInput, counted};
+ghost use Rattle.obj_types.specs.Whole.{WholeModule};
 ghost use Rattle.link_model.specs.OneSegment.{alone};
-ghost use Rattle.link_core.specs.FirstInput.{FirstInput};
-ghost use Rattle.link_core.specs.Links.{LinksTo};
-ghost use Rattle.first_form.specs.ModuleFile.{IsOneObject};
-ghost use Rattle.first_form.specs.declared.module_file.OneObject.{OneObject};
-ghost use Rattle.first_read.specs.FirstModule.{Shows, parts_of};
-ghost use Rattle.lx_tool.specs.HasObject.{HasObject};
-ghost use Rattle.lx_answer.specs.Answer.{IsNoForm, ShowsFile, image_input};
+ghost use Rattle.lx_answer.specs.ImageAnswer.{NAME, ShowsObject};
+ghost use Rattle.lx_answer.specs.Outcome.{says_only};
+ghost use Rattle.lx_answer.specs.Words as words;
+ghost use Rattle.lx_tool.specs.Doing.{Does};
+ghost use Rattle.lx_tool.specs.Refusals.{RefusesImageAs};
 
-use crate::page::object_bytes;
-use crate::text::image_text;
-use first_read::{Unread, read_module};
-use link_core::link;
-use lx_types::{Fail, Module, Name, NoMemory, Seq};
-use obj_types::{DefFile, LinkInput, ModKind, ObjModule, OmfRefusal};
-use omf_module::read_object;
+use crate::refusals::{image_text, in_full};
+use crate::text::memory_text;
+use link_memory::{ImageRefusal, memory};
+use lx_answer::Said;
+use lx_ports::Files;
+use lx_types::{Fail, Name, NoMemory, Seq};
+use obj_types::{DefFile, LinkInput, ModKind, ObjModule};
 use std::alloc::Global;
+use tool_read::{read_object, said};
 
-/// The name of the module that `image` links.
-const STEM: [u8; 5] = *b"IMAGE";
+/// The name of the module that `image` links, and of its refusals.
+const MODULE: &str = "IMAGE";
 
-/// The object module alone, as the library IMAGE from a base.
-fn input_of(alloc: Global, object: ObjModule, base: u32) -> Result<LinkInput, NoMemory>
-    ensures { IfOk result (λ input. input ≡ alone object (codes "IMAGE") base) }
+// Whether the number of the module, its externals and its imports has 32 bits.
+fn is_counted(object: &ObjModule) -> bool
+    ensures { result ≡ nat_lt (counted object.now) (2 ^ 32) }
 {
+    let externals = object.exts.as_slice().len();
+    let imports = object.imports.as_slice().len();
+    match externals.checked_add(imports) {
+        Some(count) => count < u32::MAX as usize,
+        None => false,
+    }
+}
+
+/// The object module alone, as the library IMAGE from a base. There is no memory for one whose items are more than an
+/// input may have.
+fn input_of(alloc: Global, object: ObjModule, base: u32) -> Result<LinkInput, NoMemory>
+    requires object { WholeModule object }
+    requires base { IsBase base }
+    ensures is { IfOk result (λ input. input ≡ alone object NAME base) }
+    ensures whole { IfOk result WholeInput }
+{
+    if !is_counted(&object) {
+        return Err(NoMemory);
+    }
     let mut objects = Seq::new(alloc);
     objects.push(object)?;
     Ok(LinkInput {
         objects,
         libs: Seq::new(alloc),
         def: DefFile::empty(alloc, ModKind::Library, Some(base)),
-        stem: Name::of_short(alloc, &STEM)?,
+        stem: Name::of_short(alloc, MODULE.as_bytes())?,
     })
 }
 
-/// The module that the input is linked to, read back from its file.
-fn linked_module(alloc: Global, input: &LinkInput) -> Result<Module, NoMemory>
-    requires { (form : Form) × (at : ℕ) × FirstInput input.now form at }
-    ensures { IfOk result (λ read.
-        (m : OneObject) × IsOneObject m × Shows m × (read ≡ parts_of m) × LinksTo input.now m) }
+fn refused(alloc: Global, why: Fail<ImageRefusal>) -> Result<Said, NoMemory>
+    ensures { RefusesImageAs NAME why result }
 {
-    let file = link(alloc, input)?;
-    match read_module(alloc, file) {
-        Ok(module) => Ok(module),
-        Err(
-            Unread {
-                file: _,
-                why: Fail::NoMemory,
-            },
-        ) => Err(NoMemory),
-        Err(
-            Unread {
-                file: _,
-                why: Fail::Said(_),
-            },
-        ) => unreachable!(),
+    match why {
+        Fail::Said(refusal) => {
+            let text = image_text(alloc, &refusal)?;
+            said(alloc, 1, MODULE, &text)
+        }
+        Fail::NoMemory => Err(NoMemory),
     }
 }
 
-/// The bytes in memory of the object that the object module is linked to, with its fixups applied.
-fn linked_bytes(alloc: Global, object: ObjModule, base: u32) -> Result<Vec<u8>, NoMemory>
-    requires { (form : Form) × IsForm form × (object ≡ object_module_of form) }
-    ensures { IfOk result (λ bytes. (form : Form) → object ≡ object_module_of form
-        → HasObject (image_input form base) base bytes.items) }
+// What is said of an object module alone at a base.
+fn shown(alloc: Global, object: ObjModule, base: u32) -> Result<Said, NoMemory>
+    requires object { WholeModule object }
+    requires base { IsBase base }
+    ensures { IfOk result (λ said. ShowsObject base object (says_only said)) }
 {
     let input = input_of(alloc, object, base)?;
-    let module = linked_module(alloc, &input)?;
-    object_bytes(alloc, &module)
+    match memory(alloc, &input) {
+        Ok(rows) => Ok(Said {
+            status: 0,
+            text: memory_text(alloc, &rows)?,
+        }),
+        Err(why) => refused(alloc, why),
+    }
 }
 
-/// What the object file means at a base, as text.
-pub fn shown_text(alloc: Global, base: u32, bytes: &[u8]) -> Result<Vec<u8>, Fail<OmfRefusal>>
-    requires { base ≤ 0x1FFF0000 }
-    ensures { Answers result
-        (λ text. ShowsFile base bytes.now text.items) (λ _. IsNoForm bytes.now) }
+/// Shows the bytes of an object file's objects in memory, where it is linked alone from the base.
+pub fn image<F: Files>(
+    alloc: Global,
+    files: &mut F,
+    object: &str,
+    base: u32,
+) -> Result<Said, NoMemory>
+    requires { IsBase base }
+    ensures { Does (words.image object.now base) (F.state files.old) (F.state files.new) result }
 {
-    let object = read_object(alloc, bytes)?;
-    let bytes = linked_bytes(alloc, object, base)?;
-    Ok(image_text(alloc, base, &bytes)?)
+    match read_object(alloc, files, object) {
+        Ok(module) => shown(alloc, module, base),
+        Err(why) => in_full(why),
+    }
 }

@@ -1,12 +1,22 @@
 //! The top calls: all that the program does, over the files and the sink that it is handed.
-ghost use Rattle.std.specs.Prelude.{map, string_bytes};
+ghost use Rattle.std.specs.Prelude.{◌≡◌, IfOk, map, string_bytes};
+ghost use Rattle.lx_answer.specs.FileLine.{usage_line};
 ghost use Rattle.lx_answer.specs.Ends.{Ends};
+ghost use Rattle.lx_answer.specs.Words.{command_of};
+ghost use Rattle.lx_tool.specs.Doing.{DoesWords};
 
-use crate::answers::answer;
+use crate::image::image;
+use crate::implib::implib;
+use crate::link::link;
 use crate::output::put_whole;
+use command_words::Command;
+use lx_answer::Said;
 use lx_ports::{Files, Gate, Sink};
-use lx_types::NoMemory;
+use lx_types::{NoMemory, Seq};
 use std::alloc::Global;
+
+/// The status where the words are no command.
+const USAGE: u8 = 2;
 
 /// The status after the sink failed.
 const WRITE_FAILED: u8 = 4;
@@ -14,16 +24,47 @@ const WRITE_FAILED: u8 = 4;
 /// The status of want of memory.
 const NO_MEMORY: u8 = 8;
 
+fn usage(alloc: Global) -> Result<Said, NoMemory>
+    ensures { IfOk result (λ said. said ≡ record { status = 2; text = usage_line }) }
+{
+    let line = Vec::from_slice(alloc, b"lx: usage\n".as_slice())?;
+    Ok(Said {
+        status: USAGE,
+        text: Seq::from_vec(line),
+    })
+}
+
+/// Does what the words ask for, up to what is said at the end.
+fn answer<F: Files>(alloc: Global, words: &[String], files: &mut F) -> Result<Said, NoMemory>
+    ensures { DoesWords (command_of (map string_bytes words.now)) (F.state files.old) (F.state files.new) result }
+{
+    match Command::of(words) {
+        Some(Command::Image { object, base }) => image(alloc, files, object, base),
+        Some(
+            Command::Link {
+                out,
+                definition,
+                inputs,
+            },
+        ) => link(alloc, files, out, definition, inputs),
+        Some(Command::Implib { out, inputs }) => implib(alloc, files, out, inputs),
+        None => usage(alloc),
+    }
+}
+
 /// Does what the words ask for, and answers the status with which the program ends.
 ///
-/// `image OBJ BASE` links the object file OBJ alone as the library IMAGE from BASE, eight hexadecimal
-/// digits, and puts the bytes that its objects have in memory there, 16 on a line. All other words are
-/// no command.
+/// `image OBJ BASE` links the object file OBJ alone as the library IMAGE from BASE, eight hexadecimal digits, and puts
+/// the bytes that its objects have in memory there, 16 on a line. `link OUT DEF IN ..` links object files and libraries
+/// by the definition file DEF, or without one where DEF is `-`, saves the module OUT and puts its name and counts.
+/// `implib OUT IN ..` saves the import library OUT of modules and definition files and puts how many imports it has. All
+/// other words are no command.
 ///
-/// The statuses: 0, the whole text was put; 1, the file is absent, too long (over 16,777,216 bytes) or
-/// of a form that is not read yet; 2, the words are no command; 3, reading failed; 4, putting failed,
-/// after some of the text; 8, there was no memory, and nothing was put. With 1, 2 and 3 one line was
-/// put. OBJ is loaded once, whatever the status, and no other file.
+/// The statuses: 0, the whole text was put; 1, a file is absent, too long (over 16,777,216 bytes) or has a fault, or the
+/// link or the library is refused; 2, the words are no command; 3, reading failed; 4, saving failed, or putting, after
+/// some of the text; 8, there was no memory, and nothing was saved or put. With 1, 2, 3 and a failed save one line was
+/// put. Each file is loaded once for each time that it is named, in the order of the words, and none behind the first
+/// that is refused; OUT is saved behind all loads, once.
 pub fn lx_build<F: Files, S: Sink>(
     alloc: Global,
     words: &[String],
@@ -34,7 +75,7 @@ pub fn lx_build<F: Files, S: Sink>(
         (S.state out.old) (S.state out.new) result }
 {
     match answer(alloc, words, files) {
-        Ok(said) => match put_whole(out, &said.text) {
+        Ok(said) => match put_whole(out, said.text.as_slice()) {
             Ok(()) => said.status,
             Err(_) => WRITE_FAILED,
         },

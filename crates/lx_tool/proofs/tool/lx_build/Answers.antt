@@ -5,6 +5,5 @@ use Rattle.lx_tool.proofs.tool.lx_build.Goals as goal
 
 pub returns-in-Ok-put_whole : goal.returns-in-Ok-put_whole
 returns-in-Ok-put_whole g c =
-    let said = c.in-Ok.ensures in
     let P : List ℕ → Type 0 = λ text. Appends (g.S.Sink.state c.args.out.now).contents (g.S.Sink.state c.put_whole.new.out).contents text in
-    ends_whole _ _ _ _ _ said.0 said.1 _ c.in-Ok.said.text.items said.2 (subst P c.deref.ensures.value c.in-Ok-put_whole.ensures.whole)
+    ends_whole _ _ _ _ _ c.in-Ok.said c.in-Ok.ensures (subst P c.as_slice.ensures c.in-Ok-put_whole.ensures.whole)

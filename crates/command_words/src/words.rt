@@ -1,0 +1,109 @@
+//! Which command the words are.
+ghost use Rattle.std.specs.Prelude.{◌≡◌, IfSome, map, option_map, string_bytes};
+ghost use Rattle.obj_types.specs.Definition.{IsBase};
+ghost use Rattle.lx_answer.specs.Words.{command_of, base_of, definition_of, image_of, implib_of, link_of};
+ghost use Rattle.command_words.specs.Commands.{HasBase, meant};
+
+use hex::FromHex;
+
+/// What the words ask for.
+#[derive(Clone, Copy)]
+pub enum Command<'a> {
+    /// `image OBJ BASE`: the bytes that an object file means at a base.
+    Image {
+        object: &'a str,
+        base: u32,
+    },
+    /// `link OUT DEF IN ..`: a module is linked from object files and libraries.
+    Link {
+        out: &'a str,
+        definition: Option<&'a str>,
+        inputs: &'a [String],
+    },
+    /// `implib OUT IN ..`: an import library for modules and definition files.
+    Implib {
+        out: &'a str,
+        inputs: &'a [String],
+    },
+}
+
+impl<'a> Command<'a> {
+    /// The command that the words are, or None where they are none.
+    pub fn of(words: &'a [String]) -> Option<Command<'a>>
+        ensures command { option_map meant result ≡ command_of (map string_bytes words.now) }
+        ensures based { IfSome result HasBase }
+    {
+        let [word, rest @ ..] = words else {
+            return None;
+        };
+        match word.as_str() {
+            "image" => image(rest),
+            "link" => link(rest),
+            "implib" => implib(rest),
+            _ => None,
+        }
+    }
+}
+
+fn image<'a>(words: &'a [String]) -> Option<Command<'a>>
+    ensures command { option_map meant result ≡ image_of (map string_bytes words.now) }
+    ensures based { IfSome result HasBase }
+{
+    let [object, base] = words else {
+        return None;
+    };
+    Some(Command::Image {
+        object,
+        base: base_of(base)?,
+    })
+}
+
+// The base that eight hexadecimal digits name.
+fn base_of(word: &str) -> Option<u32>
+    ensures named { result ≡ base_of word.now }
+    ensures in_arenas { IfSome result IsBase }
+{
+    let bytes = <[u8; 4] as FromHex>::from_hex(word).ok()?;
+    let base = u32::from_be_bytes(bytes);
+    if base % 0x1_0000 == 0 && base >= 0x0001_0000 && base <= 0x1FFF_0000 {
+        Some(base)
+    } else {
+        None
+    }
+}
+
+fn link<'a>(words: &'a [String]) -> Option<Command<'a>>
+    ensures command { option_map meant result ≡ link_of (map string_bytes words.now) }
+    ensures based { IfSome result HasBase }
+{
+    let [out, definition, inputs @ ..] = words else {
+        return None;
+    };
+    if inputs.is_empty() {
+        return None;
+    }
+    Some(Command::Link {
+        out,
+        definition: definition_of(definition),
+        inputs,
+    })
+}
+
+fn definition_of(word: &str) -> Option<&str>
+    ensures { option_map (λ name. name.now) result ≡ definition_of word.now }
+{
+    if word == "-" { None } else { Some(word) }
+}
+
+fn implib<'a>(words: &'a [String]) -> Option<Command<'a>>
+    ensures command { option_map meant result ≡ implib_of (map string_bytes words.now) }
+    ensures based { IfSome result HasBase }
+{
+    let [out, inputs @ ..] = words else {
+        return None;
+    };
+    if inputs.is_empty() {
+        return None;
+    }
+    Some(Command::Implib { out, inputs })
+}

@@ -1,3 +1,0 @@
-mod Lengths
-mod Places
-mod References

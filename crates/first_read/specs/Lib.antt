@@ -1,2 +1,0 @@
-pub mod FirstModule
-pub mod Reading

@@ -1,0 +1,113 @@
+-- What holds of the loads of a command.
+use Rattle.std.proofs.Common.{◌≡◌, ℕ, List, [], ◌∷◌, ◌++◌, Option, Result, Ok, Err, sym, subst, refl}
+use Rattle.lx_ports.specs.Calls.{Call, load, save}
+use Rattle.lx_ports.specs.Files.{Contents}
+use Rattle.lx_ports.specs.declared.files.LoadFault.{LoadFault}
+use Rattle.lx_ports.specs.declared.files.LoadFault.TheVariants as fault
+use Rattle.std.specs.List.{AllByRecursion}
+use Rattle.lx_answer.specs.declared.said.Said.{Said}
+use Rattle.lx_answer.specs.Answer.{saves_in}
+use Rattle.lx_answer.specs.Ends.{Holds}
+use Rattle.lx_answer.specs.Loading.{Asked, AreBegun, AreRead, IsLoadWith, IsRead, IsRefused, IsStopped}
+use Rattle.lx_answer.specs.Reading.{Item}
+
+-- ---- the calls are loads
+
+abbrev pub IsLoad : Call → Type 0
+IsLoad (load name answer) = Unit {0}
+IsLoad (save name bytes answer) = ⊥
+
+load_of : (a : Asked) (call : Call) (P : Result (List ℕ) LoadFault → Type 0) → IsLoadWith a call P → IsLoad call
+load_of a (load name answer) P is = tt
+load_of a (save name bytes answer) P is = absurd is
+
+pub begun_loads : (asked : List Asked) (calls : List Call) → AreBegun asked calls → AllByRecursion IsLoad calls
+begun_loads asked [] begun = tt
+begun_loads [] (call ∷ calls) begun = absurd begun
+begun_loads (a ∷ asked) (call ∷ []) begun = (load_of a call _ begun, tt)
+begun_loads (a ∷ asked) (call ∷ next ∷ calls) begun = (load_of a call _ begun.0.1, begun_loads asked (next ∷ calls) begun.1)
+
+pub no_saves : (loads saves : List Call) → AllByRecursion IsLoad loads → saves_in (loads ++ saves) ≡ saves_in saves
+no_saves [] saves are = refl
+no_saves (load name answer ∷ loads) saves are = no_saves loads saves are.1
+no_saves (save name bytes answer ∷ loads) saves are = absurd are.0
+
+pub holds_behind : (loads saves : List Call) (had now : Option Contents) → AllByRecursion IsLoad loads → Holds had saves now → Holds had (loads ++ saves) now
+holds_behind [] saves had now are held = held
+holds_behind (load name answer ∷ loads) saves had now are held = holds_behind loads saves had now are.1 held
+holds_behind (save name bytes answer ∷ loads) saves had now are held = absurd are.0
+
+-- ---- what was read was begun
+
+load_read : (a : Asked) (call : Call) (item : Item) → IsRead a call item → IsLoadWith a call (λ answer. Unit {0})
+load_read a (load name answer) item is = (is.0, tt)
+load_read a (save name bytes answer) item is = absurd is
+
+load_refused : (a : Asked) (call : Call) (said : Said) → IsRefused a call said → IsLoadWith a call (λ answer. Unit {0})
+load_refused a (load name answer) said is = (is.0, tt)
+load_refused a (save name bytes answer) said is = absurd is
+
+begun_behind : (a : Asked) (call : Call) (item : Item) (asked : List Asked) (calls : List Call) → IsRead a call item → AreBegun asked calls → AreBegun (a ∷ asked) (call ∷ calls)
+begun_behind a call item asked [] is begun = load_read a call item is
+begun_behind a call item asked (next ∷ calls) is begun = ((item, is), begun)
+
+begun_after : (f g : List Asked) (xs ys : List Call) (is : List Item) → AreRead f xs is → AreBegun g ys → AreBegun (f ++ g) (xs ++ ys)
+begun_after [] g [] ys [] one two = two
+begun_after [] g [] ys (i ∷ is) one two = absurd one
+begun_after [] g (x ∷ xs) ys is one two = absurd one
+begun_after (a ∷ f) g [] ys is one two = absurd one
+begun_after (a ∷ f) g (x ∷ xs) ys [] one two = absurd one
+begun_after (a ∷ f) g (x ∷ xs) ys (i ∷ is) one two = begun_behind a x i (f ++ g) (xs ++ ys) one.0 (begun_after f g xs ys is one.1 two)
+
+pub read_begun : (asked : List Asked) (calls : List Call) (items : List Item) → AreRead asked calls items → AreBegun asked calls
+read_begun [] [] [] are = tt
+read_begun [] [] (i ∷ is) are = absurd are
+read_begun [] (x ∷ xs) is are = absurd are
+read_begun (a ∷ f) [] is are = absurd are
+read_begun (a ∷ f) (x ∷ xs) [] are = absurd are
+read_begun (a ∷ f) (x ∷ xs) (i ∷ is) are = begun_behind a x i f xs are.0 (read_begun f xs is are.1)
+
+begun_at : (f after : List Asked) (here : Asked) (xs : List Call) (is : List Item) (call : Call) (said : Said) → AreRead f xs is → IsRefused here call said → AreBegun (f ++ here ∷ after) (xs ++ call ∷ [])
+begun_at f after here xs is call said are refused = begun_after f (here ∷ after) xs (call ∷ []) is are (load_refused here call said refused)
+
+pub stopped_begun : (asked : List Asked) (calls : List Call) (said : Said) → IsStopped asked calls said → AreBegun asked calls
+stopped_begun asked calls said is =
+    let P : List Asked → Type 0 = λ f. AreBegun f calls in
+    let Q : List Call → Type 0 = λ xs. AreBegun (is.before ++ is.here ∷ is.after) xs in
+    subst P (sym is.are) (subst Q (sym is.calls_are) (begun_at is.before is.after is.here is.earlier is.items is.call said is.read is.refused))
+
+-- ---- no load found no memory
+
+abbrev pub IsPlain : Call → Type 0
+IsPlain (load name (Err fault.NoMemory)) = ⊥
+IsPlain _ = Unit {0}
+
+pub plain_joined : (xs ys : List Call) → AllByRecursion IsPlain xs → AllByRecursion IsPlain ys → AllByRecursion IsPlain (xs ++ ys)
+plain_joined [] ys one two = two
+plain_joined (x ∷ xs) ys one two = (one.0, plain_joined xs ys one.1 two)
+
+plain_read : (a : Asked) (call : Call) (item : Item) → IsRead a call item → IsPlain call
+plain_read a (load name (Ok bytes)) item is = tt
+plain_read a (load name (Err why)) item is = absurd is.1
+plain_read a (save name bytes answer) item is = absurd is
+
+plain_refused : (a : Asked) (call : Call) (said : Said) → IsRefused a call said → IsPlain call
+plain_refused a (load name (Ok bytes)) said is = tt
+plain_refused a (load name (Err fault.Absent)) said is = tt
+plain_refused a (load name (Err fault.TooLong)) said is = tt
+plain_refused a (load name (Err fault.Failed)) said is = tt
+plain_refused a (load name (Err fault.NoMemory)) said is = absurd is.1
+plain_refused a (save name bytes answer) said is = absurd is
+
+pub read_plain : (asked : List Asked) (calls : List Call) (items : List Item) → AreRead asked calls items → AllByRecursion IsPlain calls
+read_plain [] [] [] are = tt
+read_plain [] [] (i ∷ is) are = absurd are
+read_plain [] (x ∷ xs) is are = absurd are
+read_plain (a ∷ f) [] is are = absurd are
+read_plain (a ∷ f) (x ∷ xs) [] are = absurd are
+read_plain (a ∷ f) (x ∷ xs) (i ∷ is) are = (plain_read a x i are.0, read_plain f xs is are.1)
+
+pub stopped_plain : (asked : List Asked) (calls : List Call) (said : Said) → IsStopped asked calls said → AllByRecursion IsPlain calls
+stopped_plain asked calls said is =
+    let P : List Call → Type 0 = λ xs. AllByRecursion IsPlain xs in
+    subst P (sym is.calls_are) (plain_joined is.earlier (is.call ∷ []) (read_plain is.before is.earlier is.items is.read) (plain_refused is.here is.call said is.refused, tt))

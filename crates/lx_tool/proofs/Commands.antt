@@ -1,0 +1,114 @@
+-- What each command does, from what its steps answer.
+use Rattle.std.proofs.Common.{◌≡◌, ℕ, ◌<◌, ◌≤◌, Bool, true, false, List, [], ◌∷◌, length, Option, Some, None, Result, Ok, Err, ◌∙◌, ap, sym, subst, refl, arith, codes, nat_le}
+use Rattle.std.specs.Prelude.{IfOk, if◌then◌else◌}
+use Rattle.std.proofs.lemmas.List.{append-nil}
+use Rattle.lx_types.specs.declared.fail.Fail.{Fail}
+use Rattle.lx_types.specs.declared.fail.Fail.TheVariants as fail
+use Rattle.lx_types.specs.declared.fail.NoMemory.{NoMemory}
+use Rattle.obj_types.specs.declared.input.LinkInput.{LinkInput}
+use Rattle.obj_types.specs.declared.object.ObjModule.{ObjModule}
+use Rattle.obj_types.specs.declared.symbol.Imp.{Imp}
+use Rattle.omf_write.specs.Library.{library_bytes, library_len}
+use Rattle.omf_write.specs.declared.libraries.LibraryLong.{LibraryLong}
+use Rattle.implib_core.specs.Imports.{modules_of}
+use Rattle.link_model.specs.Link.{IsLinkOf}
+use Rattle.lx_ports.specs.Calls.{Call}
+use Rattle.lx_ports.specs.Files.{FilesState}
+use Rattle.lx_answer.specs.declared.said.Said.{Said}
+use Rattle.lx_answer.specs.ImageAnswer.{ShowsObject}
+use Rattle.lx_answer.specs.ImplibAnswer.{exports_line, implib_outcome}
+use Rattle.lx_answer.specs.LinkAnswer.{input_of, link_outcome}
+use Rattle.lx_answer.specs.Loading.{AreRead, IsStopped, file_limit}
+use Rattle.lx_answer.specs.Outcome.{Outcome, kept, refused, refused_or, says_only}
+use Rattle.lx_answer.specs.Reading.{Item, object}
+use Rattle.lx_answer.specs.Says.{ComesTo, asked_files}
+use Rattle.lx_answer.specs.Words.{Command, image, link, implib}
+use Rattle.tool_read.specs.Steps.{AreLoads, GivesAll, ReadsAll}
+use Rattle.lx_tool.specs.declared.library.ImportLibrary.{ImportLibrary}
+use Rattle.lx_tool.specs.Doing.{Does, DoesLink, DoesOutcome, Keeps}
+use Rattle.lx_tool.specs.ImportLibraries.{IsLibraryOf, IsTooLong}
+use Rattle.lx_tool.specs.Refusals.{Gives, RefusesLibrary}
+use Rattle.lx_tool.proofs.Begun.{read_begun}
+use Rattle.lx_tool.proofs.Done.{SavesAs, done_begun, done_kept, done_stopped}
+
+-- ---- files that were not all read
+
+pub not_read : {T : Type 0} (P : T → List Item → Type 0) (command : Command) (calls : List Call) (before now : FilesState) (why : Fail Said) (r : Result Said NoMemory) → AreLoads calls before now
+    → ReadsAll P (asked_files command) calls (Err why) → Gives why r → Does command before now r
+not_read P command calls before now (fail.Said own) (Ok said) loads stopped same =
+    let Q : Said → Type 0 = λ s. IsStopped (asked_files command) calls s in
+    done_stopped command calls before now said loads (subst Q (sym same) stopped)
+not_read P command calls before now (fail.Said own) (Err none) loads stopped same = absurd same
+not_read P command calls before now fail.NoMemory (Ok said) loads begun same = absurd same
+not_read P command calls before now fail.NoMemory (Err none) loads begun same = done_begun command calls before now none loads begun
+
+-- ---- something is said, and nothing saved
+
+pub says_alone : (said : Said) (state : FilesState) → Keeps (says_only said) state state said
+says_alone said state = record { saves = []; finished = (refl, refl); had = sym (append-nil state.calls); held = refl }
+
+-- ---- `image`
+
+pub image_done : (name : List ℕ) (base : ℕ) (m : ObjModule) (calls : List Call) (before now : FilesState) (r : Result Said NoMemory) → AreLoads calls before now
+    → GivesAll (λ v items. items ≡ object v ∷ []) (asked_files (image name base)) calls m → IfOk r (λ said. ShowsObject base m (says_only said)) → Does (image name base) before now r
+image_done name base m calls before now (Ok said) loads all shows =
+    let P : List Item → Type 0 = λ items. ComesTo (image name base) items (says_only said) in
+    done_kept (image name base) calls all.items (says_only said) before now loads all.read (subst P (sym all.given) shows) tt now (Ok said) (says_alone said now)
+image_done name base m calls before now (Err none) loads all shows = done_begun (image name base) calls before now none loads (read_begun (asked_files (image name base)) calls all.items all.read)
+
+-- ---- `link`
+
+saves_or : (name : List ℕ) (refusal : Option (List ℕ)) (bytes text : List ℕ) → SavesAs (Some name) (refused_or name refusal (kept name bytes text)).saved
+saves_or name None bytes text = refl
+saves_or name (Some why) bytes text = tt
+
+pub link_done : (out : List ℕ) (definition : Option (List ℕ)) (names : List (List ℕ)) (input : LinkInput) (calls : List Call) (before between now : FilesState) (r : Result Said NoMemory)
+    → AreLoads calls before between → GivesAll (λ v items. v ≡ input_of out items) (asked_files (link out definition names)) calls input → DoesLink out input between now r
+    → Does (link out definition names) before now r
+link_done out definition names input calls before between now (Ok said) loads all does =
+    let P : LinkInput → Type 0 = λ i. IsLinkOf i does.link in
+    done_kept (link out definition names) calls all.items (link_outcome out does.link) before between loads all.read
+    (record { link = does.link; of_input = subst P all.given does.of_input; comes_to = refl })
+    (saves_or out _ _ _) now (Ok said) does.kept
+link_done out definition names input calls before between now (Err none) loads all does =
+    let P : FilesState → Type 0 = λ s. AreLoads calls before s in
+    done_begun (link out definition names) calls before now none (subst P (sym does) loads) (read_begun (asked_files (link out definition names)) calls all.items all.read)
+
+-- ---- `implib`
+
+le_true : (a b : ℕ) → a ≤ b → nat_le a b ≡ true
+le_true a b le = grind (arith, le)
+
+le_false : (a b : ℕ) → b < a → nat_le a b ≡ false
+le_false a b lt = grind (arith, lt)
+
+saves_if : (b : Bool) (name bytes text why : List ℕ) → SavesAs (Some name) (if b then kept name bytes text else refused name why).saved
+saves_if true name bytes text why = refl
+saves_if false name bytes text why = tt
+
+pub implib_done : (out : List ℕ) (names : List (List ℕ)) (imports : List Imp) (calls : List Call) (items : List Item) (before between now : FilesState) (r : Result Said NoMemory)
+    → AreLoads calls before between → (read : AreRead (asked_files (implib out names)) calls items) → ComesTo (implib out names) items (implib_outcome out imports) → DoesOutcome (implib_outcome out imports) between now r
+    → Does (implib out names) before now r
+implib_done out names imports calls items before between now r loads read comes_to does =
+    done_kept (implib out names) calls items (implib_outcome out imports) before between loads read comes_to (saves_if (nat_le (library_len (modules_of imports)) file_limit) out (library_bytes (modules_of imports)) (exports_line (length imports)) (codes "LibraryLong")) now r does
+
+pub library_kept : (out : List ℕ) (imports : List Imp) (library : ImportLibrary) (line : List ℕ) (before now : FilesState) (r : Result Said NoMemory) → IsLibraryOf library imports → line ≡ exports_line library.imports
+    → DoesOutcome (kept out library.bytes.items line) before now r → DoesOutcome (implib_outcome out imports) before now r
+library_kept out imports library line before now r is line_is does =
+    let P : Outcome → Type 0 = λ o. DoesOutcome o before now r in
+    let same : kept out library.bytes.items line ≡ implib_outcome out imports =
+    (λ k. kept out (is.written.bytes_are k) ((line_is ∙ ap (λ n. exports_line n) is.count) k))
+    ∙ sym (ap (λ b. if b then kept out (library_bytes (modules_of imports)) (exports_line (length imports)) else refused out (codes "LibraryLong")) (le_true (library_len (modules_of imports)) file_limit is.written.short)) in
+    subst P same does
+
+pub library_refused : (out : List ℕ) (imports : List Imp) (why : Fail LibraryLong) (state : FilesState) (r : Result Said NoMemory) → ((refusal : LibraryLong) → why ≡ fail.Said refusal → IsTooLong imports)
+    → RefusesLibrary out why r → DoesOutcome (implib_outcome out imports) state state r
+library_refused out imports (fail.Said refusal) state (Ok said) long same =
+    let P : Outcome → Type 0 = λ o. Keeps o state state said in
+    let at : says_only said ≡ implib_outcome out imports =
+    ap (λ s. says_only s) same
+    ∙ sym (ap (λ b. if b then kept out (library_bytes (modules_of imports)) (exports_line (length imports)) else refused out (codes "LibraryLong")) (le_false (library_len (modules_of imports)) file_limit (long refusal refl))) in
+    subst P at (says_alone said state)
+library_refused out imports (fail.Said refusal) state (Err none) long same = refl
+library_refused out imports fail.NoMemory state (Ok said) long same = absurd same
+library_refused out imports fail.NoMemory state (Err none) long same = refl

@@ -1,0 +1,146 @@
+-- From what the steps of a command do to what the command does.
+use Rattle.std.proofs.Common.{◌≡◌, ℕ, List, [], ◌∷◌, ◌++◌, Option, Some, None, Result, Ok, Err, ◌∙◌, ap, sym, subst, refl, inl, inr, append_assoc}
+use Rattle.std.proofs.lemmas.List.{append-nil}
+use Rattle.std.specs.Prelude.{IfOk, IfSome, MatchResult}
+use Rattle.std.specs.List.{AllByRecursion}
+use Rattle.lx_types.specs.declared.fail.NoMemory.{NoMemory}
+use Rattle.lx_ports.specs.Calls.{Call}
+use Rattle.lx_ports.specs.Files.{Contents, FilesState}
+use Rattle.lx_answer.specs.declared.said.Said.{Said}
+use Rattle.lx_answer.specs.Answer.{saves_in}
+use Rattle.lx_answer.specs.Ends.{Holds, IsTold, SavesOnce, output_of}
+use Rattle.lx_answer.specs.FileLine.{usage_line}
+use Rattle.lx_answer.specs.Loading.{AreBegun, AreRead, IsStopped}
+use Rattle.lx_answer.specs.Outcome.{Outcome, Saved}
+use Rattle.lx_answer.specs.Reading.{Item}
+use Rattle.lx_answer.specs.Says.{ComesTo, Finishes, SaysCommand, asked_files}
+use Rattle.lx_answer.specs.Words.{Command}
+use Rattle.tool_read.specs.Steps.{AreLoads}
+use Rattle.lx_tool.specs.Doing.{Does, DoesOutcome, DoesWords, Keeps, Runs}
+use Rattle.lx_tool.proofs.Begun.{begun_loads, holds_behind, no_saves, read_begun, stopped_begun}
+
+-- ---- loads alone
+
+loads_run : (command : Command) (calls : List Call) (before now : FilesState) → AreLoads calls before now → AreBegun (asked_files command) calls → Runs (Some command) calls before now
+loads_run command calls before now loads begun =
+    let P : Option Contents → Type 0 = λ has. Holds before.contents calls has in
+    let same : now.contents ≡ before.contents = ap (λ (s : FilesState). s.contents) loads.files in
+    let Q : List Call → Type 0 = λ cs. Holds before.contents cs before.contents in
+    record {
+      had = ap (λ (s : FilesState). s.calls) loads.files;
+      named = record { loads = calls; begun = begun; saves = []; once = tt; are = sym (append-nil calls) };
+      told = loads.told;
+      held = subst P (sym same) (subst Q (append-nil calls) (holds_behind calls [] before.contents before.contents (begun_loads (asked_files command) calls begun) refl));
+    }
+
+loads_save_nothing : (command : Command) (calls : List Call) → AreBegun (asked_files command) calls → saves_in calls ≡ []
+loads_save_nothing command calls begun =
+    let P : List Call → Type 0 = λ cs. saves_in cs ≡ [] in
+    subst P (append-nil calls) (no_saves calls [] (begun_loads (asked_files command) calls begun))
+
+pub done_stopped : (command : Command) (calls : List Call) (before now : FilesState) (said : Said) → AreLoads calls before now → IsStopped (asked_files command) calls said → Does command before now (Ok said)
+done_stopped command calls before now said loads stopped = record {
+  calls = calls;
+  runs = loads_run command calls before now loads (stopped_begun (asked_files command) calls said stopped);
+  says = inl stopped;
+}
+
+pub done_begun : (command : Command) (calls : List Call) (before now : FilesState) (why : NoMemory) → AreLoads calls before now → AreBegun (asked_files command) calls → Does command before now (Err why)
+done_begun command calls before now why loads begun = record {
+  calls = calls;
+  runs = loads_run command calls before now loads begun;
+  says = loads_save_nothing command calls begun;
+}
+
+-- ---- loads, and what is saved behind them
+
+-- What an outcome saves is the command's output.
+abbrev pub SavesAs : Option (List ℕ) → Option Saved → Type 0
+SavesAs out None = Unit {0}
+SavesAs out (Some saved) = out ≡ Some saved.name
+
+saves_once : (out : Option (List ℕ)) (saved : Option Saved) (outcome : Outcome) (saves : List Call) (said : Said) → SavesAs out saved → Finishes saved outcome saves said → SavesOnce out saves
+saves_once out None outcome saves said fits finished =
+    let P : List Call → Type 0 = λ cs. SavesOnce out cs in
+    subst P (sym finished.0) tt
+saves_once out (Some saved) outcome saves said fits finished =
+    let P : List Call → Type 0 = λ cs. SavesOnce out cs in
+    subst P (sym finished.calls_are) fits
+
+saves_told : (c : Contents) (saved : Option Saved) (outcome : Outcome) (saves : List Call) (said : Said) → Finishes saved outcome saves said → AllByRecursion (IsTold c) saves
+saves_told c None outcome saves said finished =
+    let P : List Call → Type 0 = λ cs. AllByRecursion (IsTold c) cs in
+    subst P (sym finished.0) tt
+saves_told c (Some saved) outcome saves said finished =
+    let P : List Call → Type 0 = λ cs. AllByRecursion (IsTold c) cs in
+    subst P (sym finished.calls_are) (tt, tt)
+
+all_joined : {X : Type 0} (P : X → Type 0) (xs ys : List X) → AllByRecursion P xs → AllByRecursion P ys → AllByRecursion P (xs ++ ys)
+all_joined P [] ys one two = two
+all_joined P (x ∷ xs) ys one two = (one.0, all_joined P xs ys one.1 two)
+
+told_behind : (had : Option Contents) (loads saves : List Call) (saved : Option Saved) (outcome : Outcome) (said : Said) → Finishes saved outcome saves said
+    → IfSome had (λ c. AllByRecursion (IsTold c) loads) → IfSome had (λ c. AllByRecursion (IsTold c) (loads ++ saves))
+told_behind None loads saves saved outcome said finished told = tt
+told_behind (Some c) loads saves saved outcome said finished told = all_joined (IsTold c) loads saves told (saves_told c saved outcome saves said finished)
+
+module _ (command : Command) (loads : List Call) (items : List Item) (outcome : Outcome) (before between : FilesState) (are : AreLoads loads before between)
+    (read : AreRead (asked_files command) loads items) (comes_to : ComesTo command items outcome) (fits : SavesAs (output_of command) outcome.saved) where
+  kept : (now : FilesState) (said : Said) → Keeps outcome between now said → Does command before now (Ok said)
+  kept now said keeps =
+      let begun : AreBegun (asked_files command) loads = read_begun (asked_files command) loads items read in
+      let P : Option Contents → Type 0 = λ has. Holds has keeps.saves now.contents in
+      let same : between.contents ≡ before.contents = ap (λ (s : FilesState). s.contents) are.files in
+      record {
+        calls = loads ++ keeps.saves;
+        runs = record {
+          had = keeps.had ∙ ap (λ (s : FilesState). s.calls ++ keeps.saves) are.files ∙ append_assoc before.calls loads keeps.saves;
+          named = record {
+            loads = loads;
+            begun = begun;
+            saves = keeps.saves;
+            once = saves_once (output_of command) outcome.saved outcome keeps.saves said fits keeps.finished;
+            are = refl;
+          };
+          told = told_behind before.contents loads keeps.saves outcome.saved outcome said keeps.finished are.told;
+          held = holds_behind loads keeps.saves before.contents now.contents (begun_loads (asked_files command) loads begun) (subst P same keeps.held);
+        };
+        says = inr (record {
+          loads = loads;
+          items = items;
+          read = read;
+          outcome = outcome;
+          comes_to = comes_to;
+          saves = keeps.saves;
+          finished = keeps.finished;
+          calls_are = refl;
+        });
+      }
+
+  pub done_kept : (now : FilesState) (r : Result Said NoMemory) → DoesOutcome outcome between now r → Does command before now r
+  done_kept now (Ok said) does = kept now said does
+  done_kept now (Err why) does =
+      let P : FilesState → Type 0 = λ s. AreLoads loads before s in
+      done_begun command loads before now why (subst P (sym does) are) (read_begun (asked_files command) loads items read)
+
+-- ---- words that are no command
+
+usage_said : (r : Result Said NoMemory) → IfOk r (λ said. said ≡ record { status = 2; text = usage_line }) → MatchResult r (λ said. SaysCommand None [] said) (λ _. saves_in [] ≡ [])
+usage_said (Ok said) is = (refl, is)
+usage_said (Err why) is = refl
+
+told_nothing : (told : Option Contents) → IfSome told (λ contents. AllByRecursion (IsTold contents) [])
+told_nothing None = tt
+told_nothing (Some contents) = tt
+
+pub done_usage : (state : FilesState) (r : Result Said NoMemory) → IfOk r (λ said. said ≡ record { status = 2; text = usage_line }) → DoesWords None state state r
+done_usage state r is = record {
+  calls = [];
+  runs = record { had = sym (append-nil state.calls); named = refl; told = told_nothing state.contents; held = refl };
+  says = usage_said r is;
+}
+
+-- ---- words that are a command
+
+pub done_words : (command words : Option Command) (before now : FilesState) (r : Result Said NoMemory) → command ≡ words → DoesWords command before now r → DoesWords words before now r
+done_words command words before now r same does = subst (λ (c : Option Command). DoesWords c before now r) same does

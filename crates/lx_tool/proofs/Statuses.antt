@@ -1,0 +1,169 @@
+-- What the statuses of a command say of its calls.
+use Rattle.std.proofs.Common.{◌≡◌, ℕ, ◌+◌, ◌<◌, ◌≤◌, ◌⊎◌, Bool, true, false, List, [], ◌∷◌, ◌++◌, Option, Some, None, Result, Ok, Err, ◌∙◌, ap, sym, subst, refl, inl, inr, arith}
+use Rattle.std.specs.Prelude.{codes, if◌then◌else◌}
+use Rattle.std.specs.List.{AllByRecursion}
+use Rattle.lx_ports.specs.Calls.{Call, load, save, load_faults, is_failed_load}
+use Rattle.lx_ports.specs.declared.files.LoadFault.TheVariants as fault
+use Rattle.lx_ports.specs.declared.files.SaveFault.{SaveFault}
+use Rattle.lx_answer.specs.declared.said.Said.{Said}
+use Rattle.lx_answer.specs.Answer.{saves_in}
+use Rattle.lx_answer.specs.Ends.{is_failed_save, save_faults}
+use Rattle.lx_answer.specs.ImageAnswer.{ImageAnswer, image_refusal, memory_text, NAME}
+use Rattle.lx_answer.specs.LinkAnswer.{counts_of}
+use Rattle.lx_answer.specs.Loading.{Asked, IsRefused, IsStopped}
+use Rattle.lx_answer.specs.Outcome.{Outcome, Saved, shown, kept, refused, refused_or}
+use Rattle.lx_answer.specs.Reading.{Item, object, library, definition, linked}
+use Rattle.lx_answer.specs.Says.{ComesTo, Finishes, IsDone, SaysCommand, asked_files, said_after}
+use Rattle.lx_answer.specs.Words.{Command, image, link, implib}
+use Rattle.lx_tool.proofs.Counts.{count-append}
+use Rattle.lx_tool.proofs.Begun.{IsPlain, begun_loads, no_saves, plain_joined, read_begun, read_plain, stopped_begun, stopped_plain}
+
+-- ---- outcomes
+
+-- A refusal saves nothing.
+abbrev pub IsOutcome : Outcome → Type 0
+IsOutcome o = (o.said.status ≡ 0) ⊎ ((o.said.status ≡ 1) × (o.saved ≡ None))
+
+or_refused : (name : List ℕ) (refusal : Option (List ℕ)) (o : Outcome) → o.said.status ≡ 0 → IsOutcome (refused_or name refusal o)
+or_refused name None o is = inl is
+or_refused name (Some text) o is = inr (refl, refl)
+
+image_is : (base : ℕ) (items : List Item) (o : Outcome) → ImageAnswer base items o → IsOutcome o
+image_is base [] o is = absurd is
+image_is base (object m ∷ []) o is = subst IsOutcome (sym is.comes_to) (or_refused NAME (image_refusal is.link) (shown (memory_text is.link)) refl)
+image_is base (object m ∷ i ∷ items) o is = absurd is
+image_is base (library m ∷ items) o is = absurd is
+image_is base (definition m ∷ items) o is = absurd is
+image_is base (linked m ∷ items) o is = absurd is
+
+if_kept : (b : Bool) (one two : Outcome) → one.said.status ≡ 0 → two.said.status ≡ 1 → two.saved ≡ None → IsOutcome (if b then one else two)
+if_kept true one two zero one_ none = inl zero
+if_kept false one two zero one_ none = inr (one_, none)
+
+come_to_is : (command : Command) (items : List Item) (o : Outcome) → ComesTo command items o → IsOutcome o
+come_to_is (image name base) items o is = image_is base items o is
+come_to_is (link out d names) items o is = subst IsOutcome (sym is.comes_to) (or_refused out _ (kept out _ (counts_of is.link)) refl)
+come_to_is (implib out names) items o is = subst IsOutcome (sym is) (if_kept _ (kept out _ _) (refused out (codes "LibraryLong")) refl refl refl)
+
+-- ---- what a status says
+
+pub record StatusSays (none : Type 0) (calls : List Call) (said : Said) : Type 0 where
+  pub low : said.status ≤ 4
+  pub usage : said.status ≡ 2 → none
+  pub read_failed : said.status ≡ 3 → 0 < load_faults calls
+  pub write_failed : said.status ≡ 4 → 0 < save_faults calls
+  pub unsaved : 1 ≤ said.status → said.status ≤ 3 → saves_in calls ≡ []
+  pub plain : AllByRecursion IsPlain calls
+
+-- a refused file
+
+one_failed : (a : Asked) (call : Call) (said : Said) → IsRefused a call said → (said.status ≡ 1) ⊎ ((said.status ≡ 3) × (0 < load_faults (call ∷ [])))
+one_failed a (load name (Ok bytes)) said is = inl (ap (λ (s : Said). s.status) is.1.line)
+one_failed a (load name (Err fault.Absent)) said is = inl (ap (λ (s : Said). s.status) is.1)
+one_failed a (load name (Err fault.TooLong)) said is = inl (ap (λ (s : Said). s.status) is.1)
+one_failed a (load name (Err fault.Failed)) said is = inr (ap (λ (s : Said). s.status) is.1, omega arith)
+one_failed a (load name (Err fault.NoMemory)) said is = absurd is.1
+one_failed a (save name bytes answer) said is = absurd is
+
+stopped_says : (none : Type 0) (asked : List Asked) (calls : List Call) (said : Said) → IsStopped asked calls said → StatusSays none calls said
+stopped_says none asked calls said is =
+    let by = one_failed is.here is.call said is.refused in
+    let nil : saves_in calls ≡ [] =
+    let P : List Call → Type 0 = λ cs. saves_in cs ≡ [] in
+    subst P (nothing calls) (no_saves calls [] (begun_loads asked calls (stopped_begun asked calls said is))) in
+    let counted : load_faults calls ≡ load_faults is.earlier + load_faults (is.call ∷ []) =
+    ap (λ (cs : List Call). load_faults cs) is.calls_are ∙ count-append is_failed_load is.earlier (is.call ∷ []) in
+    record {
+      low = elim by [ inl one ↦ omega (arith, one) | inr three ↦ omega (arith, three.0) ];
+      usage = λ two. elim by [ inl one ↦ absurd (omega (arith, one, two)) | inr three ↦ absurd (omega (arith, three.0, two)) ];
+      read_failed = λ same. elim by [ inl one ↦ absurd (omega (arith, one, same)) | inr three ↦ omega (arith, counted, three.1) ];
+      write_failed = λ four. elim by [ inl one ↦ absurd (omega (arith, one, four)) | inr three ↦ absurd (omega (arith, three.0, four)) ];
+      unsaved = λ _ _. nil;
+      plain = stopped_plain asked calls said is;
+    }
+  where
+    nothing : (cs : List Call) → cs ++ [] ≡ cs
+    nothing [] = refl
+    nothing (c ∷ cs) = ap (λ (t : List Call). c ∷ t) (nothing cs)
+
+-- a finished command
+
+record Finished (saves : List Call) (said : Said) : Type 0 where
+  low : (said.status ≤ 1) ⊎ ((said.status ≡ 4) × (0 < save_faults saves))
+  unsaved : said.status ≡ 1 → saves_in saves ≡ []
+  plain : AllByRecursion IsPlain saves
+
+none_finished : (outcome : Outcome) (saves : List Call) (said : Said) → IsOutcome outcome → saves ≡ [] → said ≡ outcome.said → Finished saves said
+none_finished outcome saves said is none same =
+    let status : said.status ≡ outcome.said.status = ap (λ (s : Said). s.status) same in
+    let P : List Call → Type 0 = λ cs. AllByRecursion IsPlain cs in
+    record {
+      low = inl (elim is [ inl zero ↦ omega (arith, status, zero) | inr one ↦ omega (arith, status, one.0) ]);
+      unsaved = λ _. ap (λ (cs : List Call). saves_in cs) none;
+      plain = subst P (sym none) tt;
+    }
+
+save_said : (outcome : Outcome) (saved : Saved) (answer : Result (Unit {0}) SaveFault) (said : Said) → outcome.said.status ≡ 0 → said ≡ said_after outcome saved.name answer
+    → Finished (save saved.name saved.bytes answer ∷ []) said
+save_said outcome saved (Ok u) said zero same =
+    let status : said.status ≡ outcome.said.status = ap (λ (s : Said). s.status) same in
+    record {
+      low = inl (omega (arith, status, zero));
+      unsaved = λ one. absurd (omega (arith, status, zero, one));
+      plain = (tt, tt);
+    }
+save_said outcome saved (Err why) said zero same =
+    let status : said.status ≡ 4 = ap (λ (s : Said). s.status) same in
+    record {
+      low = inr (status, omega arith);
+      unsaved = λ one. absurd (omega (arith, status, one));
+      plain = (tt, tt);
+    }
+
+zero_status : (outcome : Outcome) (saved : Saved) → IsOutcome outcome → outcome.saved ≡ Some saved → outcome.said.status ≡ 0
+zero_status outcome saved (inl zero) some = zero
+zero_status outcome saved (inr one) some = let none : None ≡ Some saved = sym one.1 ∙ some in absurd cc
+
+save_finished : (outcome : Outcome) (saved : Saved) (saves : List Call) (said : Said) → IsOutcome outcome → outcome.saved ≡ Some saved → Finishes (Some saved) outcome saves said → Finished saves said
+save_finished outcome saved saves said is some finished =
+    let P : List Call → Type 0 = λ cs. Finished cs said in
+    subst P (sym finished.calls_are) (save_said outcome saved finished.answer said (zero_status outcome saved is some) finished.is_said)
+
+finish : (saved : Option Saved) (outcome : Outcome) (saves : List Call) (said : Said) → IsOutcome outcome → outcome.saved ≡ saved → Finishes saved outcome saves said → Finished saves said
+finish None outcome saves said is same finished = none_finished outcome saves said is finished.0 finished.1
+finish (Some saved) outcome saves said is same finished = save_finished outcome saved saves said is same finished
+
+done_says : (none : Type 0) (command : Command) (calls : List Call) (said : Said) → IsDone command calls said → StatusSays none calls said
+done_says none command calls said is =
+    let fin = finish is.outcome.saved is.outcome is.saves said (come_to_is command is.items is.outcome is.comes_to) refl is.finished in
+    let nil : saves_in calls ≡ saves_in is.saves =
+    ap (λ (cs : List Call). saves_in cs) is.calls_are ∙ no_saves is.loads is.saves (begun_loads (asked_files command) is.loads (read_begun (asked_files command) is.loads is.items is.read)) in
+    let counted : save_faults calls ≡ save_faults is.loads + save_faults is.saves =
+    ap (λ (cs : List Call). save_faults cs) is.calls_are ∙ count-append is_failed_save is.loads is.saves in
+    let P : List Call → Type 0 = λ cs. AllByRecursion IsPlain cs in
+    record {
+      low = elim fin.low [ inl one ↦ omega (arith, one) | inr four ↦ omega (arith, four.0) ];
+      usage = λ two. elim fin.low [ inl one ↦ absurd (omega (arith, one, two)) | inr four ↦ absurd (omega (arith, four.0, two)) ];
+      read_failed = λ three. elim fin.low [ inl one ↦ absurd (omega (arith, one, three)) | inr four ↦ absurd (omega (arith, four.0, three)) ];
+      write_failed = λ same. elim fin.low [ inl one ↦ absurd (omega (arith, one, same)) | inr four ↦ omega (arith, counted, four.1) ];
+      unsaved = λ some few. elim fin.low [ inl one ↦ nil ∙ fin.unsaved (omega (arith, one, some)) | inr four ↦ absurd (omega (arith, four.0, few)) ];
+      plain = subst P (sym is.calls_are) (plain_joined is.loads is.saves (read_plain (asked_files command) is.loads is.items is.read) fin.plain);
+    }
+
+no_command_says : (calls : List Call) (said : Said) → SaysCommand None calls said → StatusSays (let none : Option Command = None in none ≡ None) calls said
+no_command_says calls said says =
+    let status : said.status ≡ 2 = ap (λ (s : Said). s.status) says.1 in
+    let P : List Call → Type 0 = λ cs. AllByRecursion IsPlain cs in
+    record {
+      low = omega (arith, status);
+      usage = λ _. refl;
+      read_failed = λ three. absurd (omega (arith, status, three));
+      write_failed = λ four. absurd (omega (arith, status, four));
+      unsaved = λ _ _. ap (λ (cs : List Call). saves_in cs) says.0;
+      plain = subst P (sym says.0) tt;
+    }
+
+pub status_says : (command : Option Command) (calls : List Call) (said : Said) → SaysCommand command calls said → StatusSays (command ≡ None) calls said
+status_says None calls said says = no_command_says calls said says
+status_says (Some command) calls said (inl stopped) = stopped_says _ (asked_files command) calls said stopped
+status_says (Some command) calls said (inr done) = done_says _ command calls said done

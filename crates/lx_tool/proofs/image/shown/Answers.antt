@@ -1,0 +1,18 @@
+use Rattle.std.proofs.Common.{List, subst, ap, ◌∙◌}
+use Rattle.std.specs.List.{flat_map}
+use Rattle.obj_types.specs.declared.input.LinkInput.{LinkInput}
+use Rattle.link_memory.specs.Memory.{IsMemory}
+use Rattle.lx_tool.specs.Rows.{Row, row_text}
+use Rattle.lx_tool.proofs.Memory.{memory_fits, memory_shows}
+use Rattle.lx_tool.proofs.image.shown.Goals as goal
+
+pub memory_text-requires : goal.memory_text-requires
+memory_text-requires c =
+    let is = c.in-Ok.ensures in
+    memory_fits is.link c.deref.result.now is.accepted (c.deref.ensures.value ∙ is.rows)
+
+pub returns-in-Ok : goal.returns-in-Ok
+returns-in-Ok c =
+    let P : LinkInput → Type 0 = λ i. IsMemory i c.in-Ok.rows.items in
+    memory_shows c.args.base c.args.object c.in_ok-memory_text-in-Ok.field-0 c.in-Ok.rows.items (subst P c.in_ok-input.ensures.is c.in-Ok.ensures)
+    (c.in_ok-memory_text-in-Ok.ensures ∙ ap (λ (rows : List Row). flat_map row_text rows) c.deref.ensures.value)

@@ -1,0 +1,13 @@
+use Rattle.std.proofs.Common.{◌≡◌, length, map, take}
+use Rattle.std.specs.List.{flat_map}
+use Rattle.omf_write.specs.Library.{library_bytes}
+use Rattle.implib_core.specs.Imports.{modules_of}
+use Rattle.lx_answer.specs.ImplibAnswer.{imports_of}
+use Rattle.tool_read.specs.Readings.{exporter_item}
+use Rattle.lx_tool.proofs.library.joined.Given as goal
+
+abbrev pub invariant-loop-exporter : goal.invariant-loop-exporter
+invariant-loop-exporter l = record {
+  libraries : l.libraries.items ≡ map library_bytes (map (λ x. modules_of (imports_of l.stem (exporter_item x))) (take l.exporter-index l.exporters));
+  imports : l.imports ≡ length (flat_map (λ x. imports_of l.stem (exporter_item x)) (take l.exporter-index l.exporters));
+}

@@ -1,0 +1,26 @@
+use Rattle.std.proofs.Common.{Some, ap, subst, sym, ◌∙◌}
+use Rattle.command_words.specs.Commands.{HasBase, meant}
+use Rattle.command_words.specs.declared.words.Command.{Command}
+use Rattle.lx_tool.proofs.Done.{done_usage, done_words}
+use Rattle.lx_tool.proofs.tool.answer.Goals as goal
+
+pub image-requires : goal.image-requires
+image-requires g c = subst HasBase c.in-Some-Image.field-0-is c.in-Some-Image.ensures.based
+
+pub returns-in-Some-Image : goal.returns-in-Some-Image
+returns-in-Some-Image g c =
+    let same = c.in-Some-Image.field-0-is in
+    done_words _ _ _ _ _ (ap (λ (one : Command). Some (meant one)) (sym same) ∙ c.in-Some-Image.ensures.command) c.image.ensures
+
+pub returns-in-Some-Link : goal.returns-in-Some-Link
+returns-in-Some-Link g c =
+    let same = c.in-Some-Link.field-0-is in
+    done_words _ _ _ _ _ (ap (λ (one : Command). Some (meant one)) (sym same) ∙ c.in-Some-Link.ensures.command) c.link.ensures
+
+pub returns-in-Some-Implib : goal.returns-in-Some-Implib
+returns-in-Some-Implib g c =
+    let same = c.in-Some-Implib.field-0-is in
+    done_words _ _ _ _ _ (ap (λ (one : Command). Some (meant one)) (sym same) ∙ c.in-Some-Implib.ensures.command) c.implib.ensures
+
+pub returns-in-None : goal.returns-in-None
+returns-in-None g c = done_words _ _ _ _ _ c.in-None.ensures.command (done_usage _ _ c.usage.ensures)

@@ -1,0 +1,40 @@
+-- What is said of refusals.
+use Rattle.std.specs.Prelude.{◌≡◌, ℕ, List, ◌++◌, codes, Result, Ok, Err}
+use Rattle.lx_types.specs.declared.fail.Fail.{Fail}
+use Rattle.lx_types.specs.declared.fail.Fail.TheVariants as fail
+use Rattle.lx_types.specs.declared.fail.NoMemory.{NoMemory}
+use Rattle.link_model.specs.declared.refusals.LinkRefusal.{LinkRefusal}
+use Rattle.link_memory.specs.declared.loaded.ImageRefusal.{ImageRefusal}
+use Rattle.link_memory.specs.declared.loaded.ImageRefusal.TheVariants as image
+use Rattle.omf_write.specs.declared.libraries.LibraryLong.{LibraryLong}
+use Rattle.refusal_text.specs.Files.{field}
+use Rattle.lx_answer.specs.declared.said.Said.{Said}
+use Rattle.lx_answer.specs.FileLine.{file_line}
+use Rattle.lx_answer.specs.LinkAnswer.{link_text}
+
+-- A refused step says what it says, or finds no memory.
+abbrev pub Gives : Fail Said → Result Said NoMemory → Type 0
+Gives (fail.Said own) (Ok said) = said ≡ own
+Gives (fail.Said own) (Err _) = ⊥
+Gives fail.NoMemory (Ok said) = ⊥
+Gives fail.NoMemory (Err _) = Unit {0}
+
+-- A refusal with this text is said under a name.
+abbrev pub RefusesBy : {R : Type 0} → (R → List ℕ) → List ℕ → Fail R → Result Said NoMemory → Type 0
+RefusesBy text name (fail.Said refusal) (Ok said) = said ≡ record { status = 1; text = file_line name (text refusal) }
+RefusesBy text name fail.NoMemory (Ok said) = ⊥
+RefusesBy text name why (Err _) = Unit {0}
+
+abbrev pub RefusesAs : List ℕ → Fail LinkRefusal → Result Said NoMemory → Type 0
+RefusesAs name why result = RefusesBy link_text name why result
+
+abbrev pub image_text_of : ImageRefusal → List ℕ
+image_text_of (image.Link refusal) = link_text refusal
+image_text_of image.NoModule = codes "NoModule"
+image_text_of (image.ArenaFull object size) = codes "ArenaFull" ++ (field object ++ field size)
+
+abbrev pub RefusesImageAs : List ℕ → Fail ImageRefusal → Result Said NoMemory → Type 0
+RefusesImageAs name why result = RefusesBy image_text_of name why result
+
+abbrev pub RefusesLibrary : List ℕ → Fail LibraryLong → Result Said NoMemory → Type 0
+RefusesLibrary name why result = RefusesBy (λ _. codes "LibraryLong") name why result

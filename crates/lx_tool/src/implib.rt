@@ -1,0 +1,73 @@
+//! The command `implib`: an import library for modules and definition files.
+ghost use Rattle.std.specs.Prelude.{◌≡◌, IfOk, map, string_bytes};
+ghost use Rattle.std.specs.List.{All};
+ghost use Rattle.lx_answer.specs.ImplibAnswer.{all_imports, exports_line, implib_outcome};
+ghost use Rattle.lx_answer.specs.Stem.{stem_of};
+ghost use Rattle.lx_answer.specs.Words as words;
+ghost use Rattle.tool_read.specs.Readings.{WholeExporter, exporter_item};
+ghost use Rattle.lx_tool.specs.Doing.{Does, DoesOutcome};
+ghost use Rattle.lx_tool.specs.Refusals.{RefusesLibrary};
+
+use crate::library::joined;
+use crate::refusals::in_full;
+use crate::saving::keep;
+use command_words::stem_of;
+use implib_core::LibraryLong;
+use lx_answer::Said;
+use lx_ports::Files;
+use lx_types::{Bytes, Fail, NoMemory, Seq};
+use std::alloc::{AllocError, Global};
+use tool_read::{Exporter, read_exporters, said};
+
+// `exports N`
+fn exports_line(alloc: Global, count: usize) -> Result<Bytes, AllocError>
+    ensures { IfOk result (λ line. line ≡ exports_line count) }
+{
+    let line = format!(in alloc; "exports {count}\n")?;
+    Ok(Seq::from_vec(line.into_bytes()))
+}
+
+fn refused(alloc: Global, out: &str, why: Fail<LibraryLong>) -> Result<Said, NoMemory>
+    ensures { RefusesLibrary out.now why result }
+{
+    match why {
+        Fail::Said(_) => said(alloc, 1, out, b"LibraryLong".as_slice()),
+        Fail::NoMemory => Err(NoMemory),
+    }
+}
+
+fn write_library<F: Files>(
+    alloc: Global,
+    files: &mut F,
+    out: &str,
+    exporters: &[Exporter],
+) -> Result<Said, NoMemory>
+    requires { All WholeExporter exporters.now }
+    ensures { DoesOutcome (implib_outcome out.now (all_imports (stem_of out.now) (map exporter_item exporters.now)))
+        (F.state files.old) (F.state files.new) result }
+{
+    let stem = stem_of(alloc, out)?;
+    match joined(alloc, &stem, exporters) {
+        Ok(library) => {
+            let line = exports_line(alloc, library.imports)?;
+            keep(alloc, files, out, &library.bytes, line)
+        }
+        Err(why) => refused(alloc, out, why),
+    }
+}
+
+/// Writes the import library OUT: loads the files in turn, joins their import libraries, saves that, and says how many
+/// imports it has.
+pub fn implib<F: Files>(
+    alloc: Global,
+    files: &mut F,
+    out: &str,
+    inputs: &[String],
+) -> Result<Said, NoMemory>
+    ensures { Does (words.implib out.now (map string_bytes inputs.now)) (F.state files.old) (F.state files.new) result }
+{
+    match read_exporters(alloc, files, inputs) {
+        Ok(read) => write_library(alloc, files, out, &read),
+        Err(why) => in_full(why),
+    }
+}

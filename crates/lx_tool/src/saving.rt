@@ -1,0 +1,31 @@
+//! Saving a command's output.
+ghost use Rattle.std.specs.Prelude.{◌≡◌};
+ghost use Rattle.lx_answer.specs.Outcome.{kept};
+ghost use Rattle.lx_tool.specs.Doing.{DoesOutcome};
+
+use lx_answer::Said;
+use lx_ports::Files;
+use lx_types::{Bytes, NoMemory};
+use std::alloc::Global;
+use tool_read::file_line;
+
+/// Saves the output, and says this text, or that writing failed. All that is said is made before the save: behind it no
+/// memory is wanted.
+pub fn keep<F: Files>(
+    alloc: Global,
+    files: &mut F,
+    name: &str,
+    bytes: &[u8],
+    text: Bytes,
+) -> Result<Said, NoMemory>
+    ensures { DoesOutcome (kept name.now bytes.now text) (F.state files.old) (F.state files.new) result }
+{
+    let failed = file_line(alloc, name, b"write failed".as_slice())?;
+    match files.save(name, bytes) {
+        Ok(()) => Ok(Said { status: 0, text }),
+        Err(_) => Ok(Said {
+            status: 4,
+            text: failed,
+        }),
+    }
+}

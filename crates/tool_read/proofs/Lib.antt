@@ -1,0 +1,4 @@
+pub mod Walk
+pub mod Names
+mod LinkInput
+mod Readers

@@ -1,0 +1,14 @@
+use Rattle.lx_answer.specs.Reading.{definition, definition_file}
+use Rattle.tool_read.proofs.Readers.{err_read, ok_read}
+use Rattle.tool_read.proofs.definitions.read_definition_file.Goals as goal
+
+pub returns-in-Ok-definition-clause-read : goal.returns-in-Ok-definition-clause-read
+returns-in-Ok-definition-clause-read c =
+    ok_read definition_file c.args.name.now _ c.in-Ok.bytes.items c.deref.result.now (c.in-Ok.ensures.opened definition_file) c.in-Ok.ensures.short c.deref.ensures.value (definition c.in-Ok-definition.file) c.in-Ok-definition.ensures.read
+
+pub returns-in-Ok-clause-read : goal.returns-in-Ok-clause-read
+returns-in-Ok-clause-read c =
+    err_read definition_file c.args.name.now _ c.in-Ok.bytes.items c.deref.result.now (c.in-Ok.ensures.opened definition_file) c.in-Ok.ensures.short c.deref.ensures.value c.in-Err-definition.why c.told.result c.in-Err-definition.ensures.read c.told.ensures
+
+pub returns-clause-read : goal.returns-clause-read
+returns-clause-read c = c.in-Err.ensures.opened definition_file

@@ -1,0 +1,98 @@
+//! Files that tell what a module exports.
+ghost use Rattle.std.specs.Prelude.{◌≡◌, ◌≤◌, ◌<◌, ◌^◌, IfOk, length};
+ghost use Rattle.lx_model.specs.Module.{IsRead};
+ghost use Rattle.lx_ports.specs.Calls.{load_answer};
+ghost use Rattle.refusal_text.specs.Files.{lx_text};
+ghost use Rattle.lx_answer.specs.Loading.{file_limit};
+ghost use Rattle.lx_answer.specs.Reading.{form_of, is_module, linked, module_form, module_or_definition};
+ghost use Rattle.tool_read.specs.Readings.{ReadsForm, ReadsLoad, SaysOf, WholeExporter, exporter_item};
+
+use crate::definitions::definition;
+use crate::lines::told;
+use crate::loads::opened;
+use lx_answer::Said;
+use lx_ports::LoadFault;
+use lx_read::read_module;
+use lx_types::{Bytes, Fail, LxRefusal, Module, Seq};
+use obj_types::DefFile;
+use refusal_text::lx_text;
+use std::alloc::Global;
+
+/// What a file gives to an import library.
+#[derive(Drop)]
+pub enum Exporter {
+    Definition(DefFile),
+    Module(Module),
+}
+
+fn fault(alloc: Global, refusal: LxRefusal) -> Fail<Bytes>
+    ensures { SaysOf (λ text. text ≡ lx_text refusal) result }
+{
+    match lx_text(alloc, refusal) {
+        Ok(text) => Fail::Said(Seq::from_vec(text.into_bytes())),
+        Err(_) => Fail::NoMemory,
+    }
+}
+
+fn linked(alloc: Global, bytes: Vec<u8>) -> Result<Module, Fail<Bytes>>
+    requires { length bytes.items < 2 ^ 32 }
+    ensures read { ReadsForm linked module_form bytes.items result }
+    ensures whole { IfOk result IsRead }
+{
+    match read_module(alloc, bytes) {
+        Ok(module) => Ok(module),
+        Err(unread) => match unread.why {
+            Fail::Said(refusal) => Err(fault(alloc, refusal)),
+            Fail::NoMemory => Err(Fail::NoMemory),
+        },
+    }
+}
+
+/// Whether the bytes begin with `LX`, or with the `MZ` of a program for DOS.
+fn is_module(bytes: &[u8]) -> bool
+    ensures { result ≡ is_module bytes.now }
+{
+    match bytes {
+        [first, second, ..] => {
+            *first == b'L' && *second == b'X' || *first == b'M' && *second == b'Z'
+        }
+        _ => false,
+    }
+}
+
+fn exporter_in(alloc: Global, bytes: Vec<u8>) -> Result<Exporter, Fail<Bytes>>
+    requires { length bytes.items < 2 ^ 32 }
+    ensures read { ReadsForm exporter_item (form_of module_or_definition bytes.items) bytes.items result }
+    ensures whole { IfOk result WholeExporter }
+{
+    if is_module(&bytes) {
+        match linked(alloc, bytes) {
+            Ok(module) => Ok(Exporter::Module(module)),
+            Err(why) => Err(why),
+        }
+    } else {
+        match definition(alloc, &bytes) {
+            Ok(file) => Ok(Exporter::Definition(file)),
+            Err(why) => Err(why),
+        }
+    }
+}
+
+/// What a file gives to an import library: a module, where it begins with `LX` or `MZ`, else a definition file.
+pub fn read_exporter(
+    alloc: Global,
+    name: &str,
+    loaded: Result<Vec<u8>, LoadFault>,
+) -> Result<Exporter, Fail<Said>>
+    requires { IfOk loaded (λ bytes. length bytes.items ≤ file_limit) }
+    ensures read { ReadsLoad exporter_item module_or_definition name.now (load_answer loaded) result }
+    ensures whole { IfOk result WholeExporter }
+{
+    match opened(alloc, name, loaded) {
+        Ok(bytes) => match exporter_in(alloc, bytes) {
+            Ok(read) => Ok(read),
+            Err(why) => Err(told(alloc, name, why)),
+        },
+        Err(why) => Err(why),
+    }
+}

@@ -1,0 +1,19 @@
+//! What the answer to a load of a file is read as: an object file, a library, a definition file or a module; or what is
+//! said of a file that was not loaded, or has a fault.
+#![tactic(auto)]
+
+mod counts;
+mod definitions;
+mod export_files;
+mod exporters;
+mod inputs;
+mod lines;
+mod link_files;
+mod loads;
+mod modules;
+
+pub use export_files::read_exporters;
+pub use exporters::Exporter;
+pub use inputs::Input;
+pub use lines::{file_line, said};
+pub use link_files::{read_link_input, read_object};

@@ -1,0 +1,144 @@
+//! The files of a link, loaded and read in turn.
+ghost use Rattle.std.specs.Prelude.{◌≡◌, ◌∷◌, ◌++◌, [], ℕ, List, Result, IfOk, OnOk, map, option_map, string_bytes};
+ghost use Rattle.lx_ports.specs.declared.files.LoadFault.{LoadFault};
+ghost use Rattle.obj_types.specs.Definition.{WholeDef};
+ghost use Rattle.obj_types.specs.Input.{WholeInput};
+ghost use Rattle.obj_types.specs.Whole.{WholeModule};
+ghost use Rattle.lx_answer.specs.LinkAnswer.{input_of};
+ghost use Rattle.lx_answer.specs.Reading.{object, object_file, object_or_library};
+ghost use Rattle.lx_answer.specs.Says.{asked_definition, asked_inputs};
+ghost use Rattle.tool_read.specs.Readings.{ReadsLoad, asked};
+ghost use Rattle.tool_read.specs.Steps.{AddsInput, AreModulesOf, AreWhole, GivesDefinition, IsInputWith, IsOneLoad, ReadsInTurn};
+
+use crate::counts::total;
+use crate::definitions::read_definition_file;
+use crate::inputs::{read_input, read_object_file};
+use crate::loads::FILE_LIMIT;
+use crate::modules::Modules;
+use command_words::stem_of;
+use lx_answer::Said;
+use lx_ports::Files;
+use lx_types::{Fail, NoMemory, Seq};
+use obj_types::{DefFile, LinkInput, ModKind, ObjModule};
+use std::alloc::Global;
+
+/// The object module of a file, which is loaded, whatever its first byte is.
+pub fn read_object<F: Files>(
+    alloc: Global,
+    files: &mut F,
+    name: &str,
+) -> Result<ObjModule, Fail<Said>>
+    ensures read { (answer : Result (List ℕ) LoadFault)
+        × IsOneLoad name.now answer (F.state files.old) (F.state files.new)
+        × ReadsLoad object object_file name.now answer result }
+    ensures whole { IfOk result WholeModule }
+{
+    let loaded = files.load(alloc, name, FILE_LIMIT);
+    read_object_file(alloc, name, loaded)
+}
+
+// The definition file, where there is one, else an empty one of a program.
+fn read_definition<F: Files>(
+    alloc: Global,
+    files: &mut F,
+    name: Option<&str>,
+) -> Result<DefFile, Fail<Said>>
+    ensures read { ReadsInTurn GivesDefinition (asked_definition (option_map (λ name. name.now) name.entry))
+        (F.state files.old) (F.state files.new) result }
+    ensures whole { IfOk result WholeDef }
+{
+    match name {
+        Some(name) => {
+            let loaded = files.load(alloc, name, FILE_LIMIT);
+            read_definition_file(alloc, name, loaded)
+        }
+        None => Ok(DefFile::empty(alloc, ModKind::Program, None)),
+    }
+}
+
+// The modules with those of one file more.
+fn read_next<F: Files>(
+    alloc: Global,
+    files: &mut F,
+    name: &str,
+    modules: &mut Modules,
+) -> Result<(), Fail<Said>>
+    requires { AreWhole modules.old }
+    ensures read { (answer : Result (List ℕ) LoadFault)
+        × IsOneLoad name.now answer (F.state files.old) (F.state files.new)
+        × AddsInput (asked object_or_library name.now) answer modules.old modules.new result }
+    ensures whole { OnOk result (AreWhole modules.new) }
+{
+    let loaded = files.load(alloc, name, FILE_LIMIT);
+    match read_input(alloc, name, loaded) {
+        Ok(input) => Ok(modules.add(input)?),
+        Err(why) => Err(why),
+    }
+}
+
+fn read_modules<F: Files>(
+    alloc: Global,
+    files: &mut F,
+    names: &[String],
+) -> Result<Modules, Fail<Said>>
+    ensures read { ReadsInTurn AreModulesOf (asked_inputs (map string_bytes names.now))
+        (F.state files.old) (F.state files.new) result }
+    ensures whole { IfOk result AreWhole }
+{
+    let mut modules = Modules::new(alloc);
+    for name in names {
+        match read_next(alloc, files, name, &mut modules) {
+            Ok(()) => {}
+            Err(why) => return Err(why),
+        }
+    }
+    Ok(modules)
+}
+
+// The input, where its counts have 32 bits.
+fn input_with(
+    alloc: Global,
+    out: &str,
+    def: DefFile,
+    modules: Modules,
+) -> Result<LinkInput, NoMemory>
+    requires def { WholeDef def }
+    requires modules { AreWhole modules }
+    ensures is { IfOk result (λ input. IsInputWith out.now def modules input) }
+    ensures whole { IfOk result WholeInput }
+{
+    let Modules { objects, libs } = modules;
+    let input = LinkInput {
+        objects: Seq::from_vec(objects),
+        libs: Seq::from_vec(libs),
+        def,
+        stem: stem_of(alloc, out)?,
+    };
+    match total(&input) {
+        Some(_) => Ok(input),
+        None => Err(NoMemory),
+    }
+}
+
+/// The input of a link to `out`: the definition file, where there is one, and the object files and libraries are loaded
+/// and read in turn.
+pub fn read_link_input<F: Files>(
+    alloc: Global,
+    files: &mut F,
+    out: &str,
+    definition: Option<&str>,
+    inputs: &[String],
+) -> Result<LinkInput, Fail<Said>>
+    ensures read { ReadsInTurn (λ input items. input ≡ input_of out.now items)
+        (asked_definition (option_map (λ name. name.now) definition.entry) ++ asked_inputs (map string_bytes inputs.now))
+        (F.state files.old) (F.state files.new) result }
+    ensures whole { IfOk result WholeInput }
+{
+    match read_definition(alloc, files, definition) {
+        Ok(def) => match read_modules(alloc, files, inputs) {
+            Ok(modules) => Ok(input_with(alloc, out, def, modules)?),
+            Err(why) => Err(why),
+        },
+        Err(why) => Err(why),
+    }
+}
