@@ -1,9 +1,14 @@
 //! Import libraries.
 
+ghost use Rattle.std.specs.Prelude.{◌≢◌, []};
+ghost use Rattle.obj_types.specs.Definition.{WholeDef};
+
 use def_file::read_def;
-use implib_core::{imports_of, imports_of_module};
+use implib_core::{LibraryLong, imports_of, imports_of_module, join};
 use lx_read::read_module;
-use lx_types::Name;
+use lx_types::{Bytes, Fail as Failed, Name};
+use obj_types::DefFile;
+use std::alloc::Global;
 use std::test::Fail;
 
 /// The library by which the export F of D, with the ordinal 1, is imported: its header, THEADR F, IMPDEF of F from D by
@@ -51,5 +56,31 @@ fn library_of_a_module(rt: HostRuntime) -> Result<(), Fail> {
     let module = read_module(alloc, file).map_err(|_| "a module")?;
     let bytes = imports_of_module(alloc, &module).map_err(|_| "a library")?;
     assert_eq!(rt; bytes.as_slice(), LIBRARY.as_slice());
+    Ok(())
+}
+
+// The import library of a definition file, twice in one.
+fn joined_twice(alloc: Global, file: &DefFile, stem: &Name) -> Result<Vec<u8>, Failed<LibraryLong>>
+    requires whole { WholeDef file.now }
+    requires stem { stem.now ≢ [] }
+{
+    let one = imports_of(alloc, file, stem)?;
+    let other = imports_of(alloc, file, stem)?;
+    let libraries = [Bytes::from_vec(one), Bytes::from_vec(other)];
+    join(alloc, &libraries)
+}
+
+#[test]
+fn libraries_joined(rt: HostRuntime) -> Result<(), Fail> {
+    let alloc = rt.alloc();
+    let stem = Name::of_short(alloc, b"D").map_err(|_| "memory")?;
+    let file = read_def(alloc, b"EXPORTS F @1\n").map_err(|_| "a definition file")?;
+    let joined = joined_twice(alloc, &file, &stem).map_err(|_| "a library")?;
+    // One header, whose dictionary would stand behind the 96 bytes, both modules, and one end.
+    let mut expected = Vec::from_slice(alloc, &LIBRARY)?;
+    expected[3] = 96;
+    expected.truncate(48);
+    expected.extend_from_slice(&LIBRARY[16..])?;
+    assert_eq!(rt; joined.as_slice(), expected.as_slice());
     Ok(())
 }

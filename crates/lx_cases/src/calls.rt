@@ -1,11 +1,8 @@
 //! Calls that take memory, each once with enough of it.
 
-use crate::object_file::object_file;
 use lx_ports::{MemFiles, NoGate, SureSink};
 use lx_tool::lx_main;
 use lx_types::{Bytes, Fail as Refused, Module, Name, NameLong};
-use obj_types::Goal;
-use omf_module::read_object;
 use std::test::Fail;
 
 /// Threads may share a value of this type.
@@ -30,20 +27,6 @@ fn names_and_lists(rt: HostRuntime) -> Result<(), Fail> {
     assert!(rt; list.push(7).is_ok());
     assert!(rt; list == Bytes::from_vec(vec![in alloc; 7]?));
     assert_eq!(rt; list.into_vec().as_slice(), [7].as_slice());
-    Ok(())
-}
-
-#[test]
-fn an_object_file_is_read(rt: HostRuntime) -> Result<(), Fail> {
-    let alloc = rt.alloc();
-    let file = object_file(alloc, &[0; 8], &[4])?;
-    let object = read_object(alloc, &file).ok().ok_or("the first form")?;
-    assert_eq!(rt; object.name.bytes(), b"a".as_slice());
-    assert_eq!(rt; object.pieces.as_slice().len(), 1);
-    for fix in object.fixes.as_slice() {
-        assert_eq!(rt; fix.offset, 4);
-        assert!(rt; fix.goal == Goal::Seg(1));
-    }
     Ok(())
 }
 

@@ -1,64 +1,12 @@
-//! The command `image` over files and a sink in memory.
+//! The command `image`.
 
-use crate::object_file::object_file;
-use lx_ports::{MemFiles, MemSink};
-use lx_tool::lx_build;
-use std::alloc::{AllocError, Global};
+use crate::object_file::{object_file, segment_file};
+use crate::runs::{WELL, World, run_in, run_over};
 use std::test::Fail;
-
-/// What a run ended with: its status, and what it wrote.
-#[derive(Drop)]
-struct Run {
-    status: u8,
-    text: Vec<u8>,
-}
-
-/// What may fail in a run: the first load, and the sink after so many bytes.
-#[derive(Drop)]
-struct World {
-    loads_fail: bool,
-    room: usize,
-}
-
-const WELL: World = World {
-    loads_fail: false,
-    room: 4096,
-};
-
-fn words(alloc: Global, line: &str) -> Result<Vec<String>, AllocError> {
-    let mut words = Vec::new(alloc);
-    for word in line.split(' ') {
-        words.push(word.to_string(alloc)?)?;
-    }
-    Ok(words)
-}
-
-/// Runs the words over one file `a.obj` with these bytes.
-fn run_of(alloc: Global, line: &str, bytes: Vec<u8>, world: &World) -> Option<Run> {
-    let mut entries = Vec::new(alloc);
-    entries.push(("a.obj".to_string(alloc).ok()?, bytes)).ok()?;
-    let mut failing = Vec::new(alloc);
-    if world.loads_fail {
-        failing.push(1).ok()?;
-    }
-    let mut files = MemFiles::of(alloc, entries, failing, Vec::new(alloc));
-    let mut out = MemSink::of(alloc, world.room, 7, Vec::new(alloc)).ok()?;
-    let words = words(alloc, line).ok()?;
-    let status = lx_build(alloc, &words, &mut files, &mut out);
-    Some(Run {
-        status,
-        text: out.written().to_vec(alloc).ok()?,
-    })
-}
-
-/// A run of `image` on an object file with these bytes and fixups, at 10000000h.
-fn image_of(alloc: Global, bytes: &[u8], places: &[u16]) -> Option<Run> {
-    let file = object_file(alloc, bytes, places).ok()?;
-    run_of(alloc, "image a.obj 10000000", file, &WELL)
-}
 
 #[test]
 fn shows_what_an_object_file_means(rt: HostRuntime) -> Result<(), Fail> {
+    let alloc = rt.alloc();
     let cases: [(&[u8], &[u16], &str); 4] = [
         (
             b"\0\0\0\0\0\0\0\0",
@@ -78,16 +26,18 @@ fn shows_what_an_object_file_means(rt: HostRuntime) -> Result<(), Fail> {
         (b"", &[], ""),
     ];
     for (bytes, places, text) in cases {
-        let run = image_of(rt.alloc(), bytes, places).ok_or("memory")?;
-        assert_eq!(rt; run.status, 0);
-        assert_eq!(rt; run.text.as_slice(), text.as_bytes());
+        let file = object_file(alloc, bytes, places)?;
+        let shown = run_over(alloc, "image a.obj 10000000", &[("a.obj", &file)])?;
+        assert_eq!(rt; shown.status, 0);
+        assert_eq!(rt; shown.text.as_slice(), text.as_bytes());
     }
     Ok(())
 }
 
 #[test]
 fn ends_with_the_status_of_its_words(rt: HostRuntime) -> Result<(), Fail> {
-    let cases: [(&str, u8, &str); 9] = [
+    let alloc = rt.alloc();
+    let cases: [(&str, u8, &str); 12] = [
         (
             "image a.obj 1fff0000",
             0,
@@ -105,12 +55,15 @@ fn ends_with_the_status_of_its_words(rt: HostRuntime) -> Result<(), Fail> {
         ("image a.obj 00000000", 2, "lx: usage\n"),
         ("image a.obj 20000000", 2, "lx: usage\n"),
         ("show a.obj 10000000", 2, "lx: usage\n"),
+        ("link a.dll -", 2, "lx: usage\n"),
+        ("implib a.lib", 2, "lx: usage\n"),
+        ("run a.obj", 2, "lx: usage\n"),
     ];
+    let file = object_file(alloc, &[0; 8], &[4])?;
     for (line, status, text) in cases {
-        let file = object_file(rt.alloc(), &[0; 8], &[4])?;
-        let run = run_of(rt.alloc(), line, file, &WELL).ok_or("memory")?;
-        assert_eq!(rt; run.status, status, "{line}");
-        assert_eq!(rt; run.text.as_slice(), text.as_bytes(), "{line}");
+        let ended = run_over(alloc, line, &[("a.obj", &file)])?;
+        assert_eq!(rt; ended.status, status, "{line}");
+        assert_eq!(rt; ended.text.as_slice(), text.as_bytes(), "{line}");
     }
     Ok(())
 }
@@ -119,32 +72,67 @@ fn ends_with_the_status_of_its_words(rt: HostRuntime) -> Result<(), Fail> {
 fn ends_with_the_status_of_its_files_and_its_sink(rt: HostRuntime) -> Result<(), Fail> {
     let alloc = rt.alloc();
     let line = "image a.obj 10000000";
-    let loads_fail = World {
-        loads_fail: true,
-        room: 4096,
-    };
-    let small = World {
-        loads_fail: false,
-        room: 10,
-    };
     let file = object_file(alloc, &[0; 8], &[4])?;
-    let failed = run_of(alloc, line, file.to_vec(alloc)?, &loads_fail).ok_or("memory")?;
+    let failing = World {
+        loads: &[1],
+        ..WELL
+    };
+    let failed = run_in(alloc, line, &[("a.obj", &file)], failing)?;
     assert_eq!(rt; failed.status, 3);
     assert_eq!(rt;
         failed.text.as_slice(),
         b"lx: a.obj: read failed\n".as_slice()
     );
-    let cut = run_of(alloc, line, file, &small).ok_or("memory")?;
+    let small = World { room: 10, ..WELL };
+    let cut = run_in(alloc, line, &[("a.obj", &file)], small)?;
     assert_eq!(rt; cut.status, 4);
     assert_eq!(rt; cut.text.as_slice(), b"10000000: ".as_slice());
-    let long = run_of(alloc, line, vec![in alloc; 0; 16_777_217]?, &WELL).ok_or("memory")?;
+    let long = run_over(alloc, line, &[("a.obj", &vec![in alloc; 0; 16_777_217]?)])?;
     assert_eq!(rt; long.status, 1);
     assert_eq!(rt; long.text.as_slice(), b"lx: a.obj: too long\n".as_slice());
-    let other = run_of(alloc, line, vec![in alloc; 0; 16_777_216]?, &WELL).ok_or("memory")?;
-    assert_eq!(rt; other.status, 1);
+    let mut cut_off = file.to_vec(alloc)?;
+    cut_off.truncate(73);
+    let short = run_over(alloc, line, &[("a.obj", &cut_off)])?;
+    assert_eq!(rt; short.status, 1);
+    assert_eq!(rt; short.text.as_slice(), b"lx: a.obj: @71 Short\n".as_slice());
+    Ok(())
+}
+
+/// An object that imports: THEADR; EXTDEF F; IMPDEF F of D by ordinal 1; a data segment of four bytes with a reference to
+/// F; MODEND.
+const IMPORTER: &[u8] = b"\x80\x03\x00\x01b\x00\
+\x96\x09\x00\x00\x01D\x04DATA\x00\x99\x09\x00\xA9\x04\x00\x00\x00\x02\x03\x01\x00\
+\x8C\x04\x00\x01F\x00\x00\
+\x88\x0B\x00\x00\xA0\x01\x01\x01F\x01D\x01\x00\x00\
+\xA1\x0A\x00\x01\x00\x00\x00\x00\x00\x00\x00\x00\x00\
+\x9D\x05\x00\xE4\x00\x56\x01\x00\
+\x8A\x02\x00\x00\x00";
+
+#[test]
+fn imports_have_no_bytes_without_their_modules(rt: HostRuntime) -> Result<(), Fail> {
+    let shown = run_over(rt.alloc(), "image b.obj 10000000", &[("b.obj", IMPORTER)])?;
+    assert_eq!(rt; shown.status, 1);
+    assert_eq!(rt; shown.text.as_slice(), b"lx: IMAGE: NoModule\n".as_slice());
+    Ok(())
+}
+
+#[test]
+fn objects_end_within_the_arenas(rt: HostRuntime) -> Result<(), Fail> {
+    let alloc = rt.alloc();
+    // From 1FFF0000h on there are 65,536 bytes.
+    let file = segment_file(alloc, 65_536, &[], &[])?;
+    let long = segment_file(alloc, 65_537, &[], &[])?;
+    let wide = World {
+        room: 300_000,
+        ..WELL
+    };
+    let whole = run_in(alloc, "image a.obj 1FFF0000", &[("a.obj", &file)], wide)?;
+    assert_eq!(rt; whole.status, 0);
+    let past = run_over(alloc, "image a.obj 1FFF0000", &[("a.obj", &long)])?;
+    assert_eq!(rt; past.status, 1);
     assert_eq!(rt;
-        other.text.as_slice(),
-        b"lx: a.obj: @0 Unbuilt\n".as_slice()
+        past.text.as_slice(),
+        b"lx: IMAGE: ArenaFull 1 65537\n".as_slice()
     );
     Ok(())
 }

@@ -13,18 +13,16 @@ mod fields;
 #[cfg(test)]
 mod image;
 #[cfg(test)]
-mod linking;
+mod implib;
 #[cfg(test)]
-mod module_file;
-#[cfg(test)]
-mod modules;
+mod link;
 #[cfg(test)]
 mod names;
 #[cfg(test)]
 mod object_file;
 #[cfg(test)]
-mod object_forms;
-#[cfg(test)]
 mod ports;
 #[cfg(test)]
 mod records;
+#[cfg(test)]
+mod runs;

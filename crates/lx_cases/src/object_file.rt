@@ -39,9 +39,19 @@ fn push_fixups(out: &mut Vec<u8>, places: &[u16]) -> Result<(), AllocError> {
 
 /// An object file whose segment has these bytes, and 32-bit fixups to itself at these places.
 pub fn object_file(alloc: Global, bytes: &[u8], places: &[u16]) -> Result<Vec<u8>, AllocError> {
+    let length = u32::try_from(bytes.len()).unwrap_or(u32::MAX);
+    segment_file(alloc, length, bytes, places)
+}
+
+/// The same with a segment of this length, which begins with these bytes.
+pub fn segment_file(
+    alloc: Global,
+    length: u32,
+    bytes: &[u8],
+    places: &[u16],
+) -> Result<Vec<u8>, AllocError> {
     let mut out = Vec::new(alloc);
     out.extend_from_slice(&HEAD)?;
-    let length = u32::try_from(bytes.len()).unwrap_or(u32::MAX);
     out.extend_from_slice(&length.to_le_bytes())?;
     out.extend_from_slice(&GROUP)?;
     if !bytes.is_empty() {

@@ -5,4 +5,6 @@
 #[cfg(test)]
 mod data_records;
 #[cfg(test)]
+mod nasm_objects;
+#[cfg(test)]
 mod object_files;

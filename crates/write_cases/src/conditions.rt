@@ -1,4 +1,4 @@
-//! Whether an image can be written, as it is asked of a caller.
+//! Whether an image and the tables of exports can be written, as it is asked of a caller.
 
 ghost use Rattle.std.specs.Prelude.{◌≡◌, ◌<◌, ◌^◌, All, AllPairs, IsTrue, IfSome, length, map, pos, ◌+ℤ◌, ◌≤ℤ◌};
 ghost use Rattle.std.specs.List.{AllByRecursion};
@@ -12,7 +12,7 @@ ghost use Rattle.lx_write.specs.Value.{TargetIsThere, CanBeWritten};
 
 use link_model::LaidObject;
 use lx_entry::OutEntry;
-use lx_types::{Bytes, EntryHead, Fix, FixTarget, PAGE_SIZE, Seq, Source};
+use lx_types::{Bytes, EntryHead, Fix, FixTarget, Name, PAGE_SIZE, Seq, Source};
 use lx_write::Image;
 
 fn source_size(source: Source) -> u32
@@ -228,7 +228,8 @@ fn export_fits(export: &OutEntry) -> bool
     !export.name.bytes().is_empty() && export.words <= 31 && head_fits(export.wide, export.head)
 }
 
-fn exports_fit(exports: &[OutEntry]) -> bool
+/// Whether all these exports can stand in the tables of a module.
+pub fn exports_fit(exports: &[OutEntry]) -> bool
     ensures { IsTrue result → AllByRecursion ExportFits exports.now }
 {
     for export in exports {
@@ -237,6 +238,13 @@ fn exports_fit(exports: &[OutEntry]) -> bool
         }
     }
     true
+}
+
+/// Whether this can be the name of a module.
+pub fn is_named(name: &Name) -> bool
+    ensures { IsTrue result → 0 < length name.now }
+{
+    !name.bytes().is_empty()
 }
 
 fn sizes_are(bytes: &[Bytes], objects: &[LaidObject]) -> bool

@@ -1,5 +1,5 @@
-//! Tests of the writer of modules on the files of worked links, apart from `lx_cases`, so that the
-//! two are proved side by side.
+//! Tests of the writer of modules on the files of worked links, and of the tables of a module's exports: apart from
+//! `lx_cases`, so that they are proved side by side.
 #![tactic(auto)]
 
 #[cfg(test)]
@@ -8,3 +8,5 @@ mod conditions;
 mod files;
 #[cfg(test)]
 mod images;
+#[cfg(test)]
+mod tables;
