@@ -1,0 +1,143 @@
+#!/usr/bin/env python3
+"""Times the commands of lx on inputs of n, 2n, 4n and 8n, with their peak memory.
+
+Usage: bench.py LX [SCALE]     LX: the program as built; SCALE: a factor for all sizes, 1 by default
+
+Prints a line a size: seconds, MiB, and the ratio to the line before. It takes less than two minutes and is
+no part of the gate. Inputs are made here, in a temporary folder: object files with many publics and fixups,
+many object files, libraries of many modules, and definition files with many exports.
+"""
+import os
+import struct
+import subprocess
+import sys
+import tempfile
+import time
+
+
+def record(kind, body):
+    """An OMF record with its checksum."""
+    data = bytes([kind]) + struct.pack("<H", len(body) + 1) + body
+    return data + bytes([-sum(data) % 256])
+
+
+def text(name):
+    return bytes([len(name)]) + name.encode()
+
+
+def index(number):
+    return bytes([number]) if number < 0x80 else bytes([0x80 | number >> 8, number & 0xFF])
+
+
+def begun(name, size, publics, externals):
+    """The records of an object file up to its data: one 32-bit segment of class CODE."""
+    out = record(0x80, text(name)) + record(0x96, b"\0" + text("CODE32") + text("CODE"))
+    out += record(0x99, b"\xA9" + struct.pack("<I", size) + index(2) + index(3) + index(1))
+    for at in range(0, len(publics), 32):
+        rows = b"".join(text(p) + struct.pack("<I", o) + b"\0" for p, o in publics[at : at + 32])
+        out += record(0x91, b"\0\1" + rows)
+    for at in range(0, len(externals), 64):
+        out += record(0x8C, b"".join(text(x) + b"\0" for x in externals[at : at + 64]))
+    return out
+
+
+def with_fixups(count):
+    """An object file of so many 32-bit references to its own segment, 250 in each data record."""
+    out = begun("fixups", 4 * count, [], [])
+    for first in range(0, count, 250):
+        here = min(250, count - first)
+        out += record(0xA1, b"\1" + struct.pack("<I", 4 * first) + bytes(4 * here))
+        # location 9, segment-relative, in the target's frame, target segment 1 without a displacement
+        out += record(0x9D, b"".join(bytes([0xE4 | 4 * k >> 8, 4 * k & 0xFF, 0x54, 1]) for k in range(here)))
+    return out + record(0x8A, b"\0")
+
+
+def with_names(number, count, others):
+    """An object file that defines names and calls those of the file before it, 250 in each data record."""
+    wanted = ["f%d_%d" % ((number - 1) % others, k) for k in range(count)]
+    out = begun("m%d" % number, 5 * count, [("f%d_%d" % (number, k), 5 * k) for k in range(count)], wanted)
+    for first in range(0, count, 200):
+        here = range(first, min(first + 200, count))
+        out += record(0xA1, b"\1" + struct.pack("<I", 5 * first) + b"\xE8\0\0\0\0" * len(here))
+        rows = b"".join(bytes([0xA4 | (5 * (k - first) + 1) >> 8, 5 * (k - first) + 1 & 0xFF, 0x56]) + index(k + 1) for k in here)
+        out += record(0x9D, rows)
+    return out + record(0x8A, b"\0")
+
+
+def run(command, folder):
+    """The seconds and the peak memory in MiB of a command, which has to end with 0."""
+    begin = time.monotonic()
+    child = subprocess.Popen(command, cwd=folder, stdout=subprocess.PIPE)
+    put = child.stdout.read()
+    _, status, usage = os.wait4(child.pid, 0)
+    seconds = time.monotonic() - begin
+    if status:
+        sys.exit("%s ended with %d: %s" % (" ".join(command[1:4]), os.waitstatus_to_exitcode(status), put[:200]))
+    return seconds, usage.ru_maxrss / 1024
+
+
+def row(what, sizes, prepare):
+    last = None
+    for size in sizes:
+        with tempfile.TemporaryDirectory() as folder:
+            command = prepare(folder, size)
+            seconds, memory = run(command, folder)
+        ratio = "" if last is None else "%6.2f" % (seconds / last)
+        print("%-44s %9d %9.3f %8.1f %6s" % (what, size, seconds, memory, ratio), flush=True)
+        last = seconds
+
+
+def put(folder, name, data):
+    with open(os.path.join(folder, name), "wb") as file:
+        file.write(data)
+    return name
+
+
+def main():
+    if len(sys.argv) not in (2, 3):
+        sys.exit(__doc__)
+    lx = os.path.realpath(sys.argv[1])
+    scale = float(sys.argv[2]) if len(sys.argv) == 3 else 1.0
+
+    def sizes(first):
+        return [max(1, int(first * scale)) * k for k in (1, 2, 4, 8)]
+
+    def fixups(folder, size):
+        put(folder, "lib.def", b"LIBRARY\n")
+        return [lx, "link", "out.dll", "lib.def", put(folder, "a.obj", with_fixups(size))]
+
+    def objects(folder, size):
+        put(folder, "lib.def", b"LIBRARY\n")
+        names = [put(folder, "m%d.obj" % k, with_names(k, 50, size)) for k in range(size)]
+        return [lx, "link", "out.dll", "lib.def"] + names
+
+    def publics(folder, size):
+        put(folder, "lib.def", b"LIBRARY\n")
+        names = [put(folder, "m%d.obj" % k, with_names(k, size, 8)) for k in range(8)]
+        return [lx, "link", "out.dll", "lib.def"] + names
+
+    def exports(folder, size):
+        lines = "".join("  f%d @%d\n" % (k, k + 1) for k in range(size))
+        return [lx, "implib", "out.lib", put(folder, "d.def", b"LIBRARY D\nEXPORTS\n" + lines.encode())]
+
+    def import_library(folder, size):
+        run(exports(folder, size), folder)
+        lines = "".join("f%d\n" % k for k in range(0, size, 100))
+        put(folder, "use.def", b"LIBRARY\nEXPORTS\n" + lines.encode())
+        calls = ["f%d" % k for k in range(0, size, 100)]
+        out = begun("calls", 5 * len(calls), [], calls)
+        return [lx, "link", "out.dll", "use.def", put(folder, "a.obj", out + record(0x8A, b"\0")), "out.lib"]
+
+    def image(folder, size):
+        return [lx, "image", put(folder, "a.obj", with_fixups(size)), "00010000"]
+
+    print("%-44s %9s %9s %8s %6s" % ("what", "size", "seconds", "MiB", "ratio"))
+    row("link: fixups of one object file", sizes(10_000), fixups)
+    row("link: object files of 50 names each", sizes(20), objects)
+    row("link: publics and externals of 8 files", sizes(250), publics)
+    row("link: exports through an import library", sizes(500), import_library)
+    row("implib: exports of a definition file", sizes(1_000), exports)
+    row("image: fixups of one object file", sizes(2_000), image)
+
+
+main()
