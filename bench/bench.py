@@ -3,8 +3,7 @@
 
 Usage: bench.py LX [SCALE]     LX: the program as built; SCALE: a factor for all sizes, 1 by default
 
-Prints a line a size: seconds, MiB, and the ratio to the line before. It takes less than two minutes and is
-no part of the gate. Inputs are made here, in a temporary folder: object files with many publics and fixups,
+Prints a line a size: seconds, MiB, and the ratio to the line before. It is no part of the gate. Inputs are made here, in a temporary folder: object files with many publics and fixups,
 many object files, libraries of many modules, and definition files with many exports.
 """
 import os
