@@ -11,6 +11,7 @@ ghost use Rattle.link_bytes.specs.Tables.{AreFirst, ArePairs, pair_among, pairs_
 
 use crate::fixup::{Fixup, Target};
 use first_table::NameTable;
+use link_model::number;
 use lx_types::{EntryKey, FixTarget, Name, Names, NoMemory, Seq};
 use obj_types::Imp;
 use std::alloc::Global;
@@ -76,16 +77,6 @@ impl FirstNames {
 pub struct ImportTables {
     modules: FirstNames,
     procs: FirstNames,
-}
-
-// A count as one of 32 bits. What has more items is want of memory: no number could tell it.
-fn number(count: usize) -> Result<u32, NoMemory>
-    ensures { IfOk result (λ n. n ≡ count) }
-{
-    match u32::try_from(count) {
-        Ok(number) => Ok(number),
-        Err(_) => Err(NoMemory),
-    }
 }
 
 impl ImportTables {

@@ -8,18 +8,9 @@ ghost use Rattle.link_model.specs.Header.{auto_data};
 ghost use Rattle.link_model.specs.Link.{Link};
 ghost use Rattle.seg_merge.specs.Places.{ArePlaces};
 
+use link_model::number;
 use obj_types::{Group, NoMemory, ObjModule};
 use seg_merge::Places;
-
-// A count as one of 32 bits. What has more items is want of memory: no number could tell it.
-pub fn number(count: usize) -> Result<u32, NoMemory>
-    ensures { IfOk result (λ n. n ≡ count) }
-{
-    match u32::try_from(count) {
-        Ok(number) => Ok(number),
-        Err(_) => Err(NoMemory),
-    }
-}
 
 // The place of DGROUP among groups, from 0.
 fn dgroup_in(groups: &[Group]) -> Option<usize>

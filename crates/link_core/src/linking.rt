@@ -6,11 +6,10 @@ ghost use Rattle.obj_types.specs.Input.{WholeInput};
 ghost use Rattle.link_core.specs.Links.{IsLinked, IsLinkedFile, IsLinkedImage, RefusesLink};
 ghost use Rattle.link_core.specs.Planned.{IsPlanned};
 
-use crate::auto::number;
 use crate::counts::{page_count, source_count};
 use crate::failing::entry_failed;
 use crate::planning::{Plan, plan_link};
-use link_model::LinkRefusal;
+use link_model::{LinkRefusal, number};
 use lx_types::{Bytes, Name, NoMemory, Seq};
 use lx_write::{Image, link_images_are_written, write_module};
 use obj_types::{Fail, LinkInput};

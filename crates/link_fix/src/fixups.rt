@@ -13,6 +13,7 @@ ghost use Rattle.link_fix.specs.Meanings.{HasMeanings};
 
 use crate::goals::{frame_of, location_of, target_of};
 use link_bytes::{Fixup, standings_of};
+use link_model::number;
 use obj_types::{FixAt, NoMemory, ObjModule, Seg};
 use seg_merge::Places;
 use std::alloc::Global;
@@ -122,16 +123,6 @@ fn add_module(
     let numbers = standings_of(alloc, object)?;
     add_fixups(found, places, syms, module, object, numbers.as_slice())?;
     Ok(())
-}
-
-// A count as one of 32 bits. What has more items is want of memory: no number could tell it.
-pub fn number(count: usize) -> Result<u32, NoMemory>
-    ensures { IfOk result (λ n. n ≡ count) }
-{
-    match u32::try_from(count) {
-        Ok(number) => Ok(number),
-        Err(_) => Err(NoMemory),
-    }
 }
 
 // The fixups of these chosen modules.

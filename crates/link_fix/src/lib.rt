@@ -4,7 +4,6 @@
 mod fixups;
 mod goals;
 mod laws;
-mod modules;
 mod pieces;
 mod placing;
 mod start;
@@ -12,7 +11,6 @@ mod start;
 pub use fixups::fixups_of;
 pub use goals::{frame_of, location_of, of_symbol, target_of};
 pub use laws::symbols_have_meanings;
-pub use modules::modules_at;
 pub use pieces::pieces_of;
 pub use placing::{Placed, place_at, place_fixes};
 pub use start::start_of;

@@ -8,8 +8,8 @@ ghost use Rattle.seg_merge.specs.Places.{ArePlaces};
 ghost use Rattle.link_bytes.specs.Shown.{piece_shown};
 ghost use Rattle.link_fix.specs.PlacedData.{placed_at, placed_in};
 
-use crate::fixups::number;
 use link_bytes::PlacedPiece;
+use link_model::number;
 use obj_types::{NoMemory, ObjModule, Piece};
 use seg_merge::Places;
 use std::alloc::Global;

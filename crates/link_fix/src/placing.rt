@@ -12,11 +12,10 @@ ghost use Rattle.sym_table.specs.Binding.{IsBound};
 ghost use Rattle.seg_merge.specs.Layout.{IsLaidOut};
 
 use crate::fixups::fixups_among;
-use crate::modules::modules_at;
 use crate::pieces::pieces_of;
 use crate::start::start_of;
 use link_bytes::{Pages, place_pages};
-use link_model::{FixRefusal, LaidObject};
+use link_model::{FixRefusal, LaidObject, modules_at};
 use lx_types::{Bytes, Fix, Names, Seq};
 use obj_types::{Fail, LinkInput, ObjModule};
 use seg_merge::{Layout, Places};

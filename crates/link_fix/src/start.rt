@@ -9,10 +9,9 @@ ghost use Rattle.link_model.specs.Start as rules;
 ghost use Rattle.seg_merge.specs.Places.{ArePlaces};
 ghost use Rattle.link_fix.specs.Meanings.{HasMeanings};
 
-use crate::fixups::number;
 use crate::goals::target_of;
 use link_bytes::start_place;
-use link_model::{FixRefusal, LaidObject};
+use link_model::{FixRefusal, LaidObject, number};
 use obj_types::{NoMemory, ObjModule, StartAt};
 use seg_merge::Places;
 use sym_table::Symbols;

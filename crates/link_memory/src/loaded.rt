@@ -13,8 +13,8 @@ ghost use Rattle.link_memory.specs.Memory.{full_from, IsMemory, RefusesMemory, m
 use crate::painting::{paint_values, rows_of};
 use link_bytes::{live_of, placed_data};
 use link_core::{Plan, plan_link};
-use link_fix::{fixups_of, modules_at, pieces_of};
-use link_model::{EntryRefusal, LaidObject, LinkRefusal};
+use link_fix::{fixups_of, pieces_of};
+use link_model::{EntryRefusal, LaidObject, LinkRefusal, modules_at, number};
 use lx_entry::write_tables;
 use lx_types::{Bytes, NoMemory};
 use obj_types::{Fail, LinkInput};
@@ -52,16 +52,6 @@ fn entry_failed(fail: Fail<EntryRefusal>) -> Fail<ImageRefusal>
     match fail {
         Fail::Said(refusal) => Fail::Said(ImageRefusal::Link(LinkRefusal::Entry(refusal))),
         Fail::NoMemory => Fail::NoMemory,
-    }
-}
-
-// A count as one of 32 bits. What has more items is want of memory: no number could tell it.
-fn number(count: usize) -> Result<u32, NoMemory>
-    ensures { IfOk result (λ n. n ≡ count) }
-{
-    match u32::try_from(count) {
-        Ok(number) => Ok(number),
-        Err(_) => Err(NoMemory),
     }
 }
 

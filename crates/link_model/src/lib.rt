@@ -9,6 +9,7 @@ mod choosing;
 mod keys;
 mod laws;
 mod limits;
+mod modules;
 mod refusals;
 mod symbols;
 mod values;
@@ -26,6 +27,7 @@ pub use limits::{
     MAX_MEMORY, MAX_NARROW_OBJECT, MAX_NUMBER, MAX_OBJECTS, OBJECT_CONFORMING, OBJECT_IOPL,
     OBJECT_PRELOAD, OBJECT_READABLE,
 };
+pub use modules::{modules_at, number};
 pub use obj_types::{Bytes, EntryKey, Fail, Name, NoMemory, Seq};
 pub use refusals::{EntryRefusal, FixRefusal, LayRefusal, LinkRefusal, SymRefusal};
 pub use symbols::{LaidObject, Pick, SymDef};

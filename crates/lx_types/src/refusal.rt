@@ -33,8 +33,6 @@ pub enum LxKind {
     BadTarget,
     /// A fixup's source has no byte in its page.
     Straddle,
-    /// The file goes on to parts of the format that are not read yet.
-    Unbuilt,
 }
 
 /// The first fault of a file: what it is, and its place in the file.

@@ -44,7 +44,4 @@ pub enum OmfRefusal {
     /// More expanded data or more fixups than a module may have.
     #[error("@{at} TooMany")]
     TooMany { at: usize },
-    /// A form that is not read yet.
-    #[error("@{at} Unbuilt")]
-    Unbuilt { at: usize },
 }

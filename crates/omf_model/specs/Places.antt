@@ -2,7 +2,7 @@
 use Rattle.std.specs.Prelude.{ℕ, ◌+◌, ◌≤◌, length}
 use Rattle.lx_bytes.specs.Cursor.{Cursor}
 use Rattle.obj_types.specs.declared.refusal.OmfRefusal.{OmfRefusal}
-use Rattle.obj_types.specs.declared.refusal.OmfRefusal.TheVariants.{Short, BadChecksum, UnknownType, BadIndex, BadField, DataRange, Nested, NoThread, BadLocation, NoData, FixOverlap, DataOverFix, TooMany, Unbuilt}
+use Rattle.obj_types.specs.declared.refusal.OmfRefusal.TheVariants.{Short, BadChecksum, UnknownType, BadIndex, BadField, DataRange, Nested, NoThread, BadLocation, NoData, FixOverlap, DataOverFix, TooMany}
 
 abbrev pub place : OmfRefusal → ℕ
 place (Short at) = at
@@ -18,7 +18,6 @@ place (NoData at) = at
 place (FixOverlap at) = at
 place (DataOverFix at) = at
 place (TooMany at) = at
-place (Unbuilt at) = at
 
 -- From one place to another, the last one among them.
 abbrev pub IsFromTo : ℕ → ℕ → OmfRefusal → Type 0

@@ -5,7 +5,7 @@ use Rattle.lx_types.specs.declared.refusal.LxKind.{LxKind}
 use Rattle.lx_types.specs.declared.refusal.LxKind.TheVariants as lx
 use Rattle.lx_types.specs.declared.refusal.LxRefusal.{LxRefusal}
 use Rattle.obj_types.specs.declared.refusal.OmfRefusal.{OmfRefusal}
-use Rattle.obj_types.specs.declared.refusal.OmfRefusal.TheVariants.{Short, BadChecksum, UnknownType, BadIndex, BadField, DataRange, Nested, NoThread, BadLocation, NoData, FixOverlap, DataOverFix, TooMany, Unbuilt}
+use Rattle.obj_types.specs.declared.refusal.OmfRefusal.TheVariants.{Short, BadChecksum, UnknownType, BadIndex, BadField, DataRange, Nested, NoThread, BadLocation, NoData, FixOverlap, DataOverFix, TooMany}
 use Rattle.def_file.specs.declared.refusal.DefKind.{DefKind}
 use Rattle.def_file.specs.declared.refusal.DefKind.TheVariants as def
 use Rattle.def_file.specs.declared.refusal.DefRefusal.{DefRefusal}
@@ -32,7 +32,6 @@ omf_text (NoData at) = placed at (codes "NoData")
 omf_text (FixOverlap at) = placed at (codes "FixOverlap")
 omf_text (DataOverFix at) = placed at (codes "DataOverFix")
 omf_text (TooMany at) = placed at (codes "TooMany")
-omf_text (Unbuilt at) = placed at (codes "Unbuilt")
 
 abbrev pub lx_kind : LxKind → List ℕ
 lx_kind lx.Signature = codes "Signature"
@@ -50,7 +49,6 @@ lx_kind lx.FixTable = codes "FixTable"
 lx_kind lx.BadSource = codes "BadSource"
 lx_kind lx.BadTarget = codes "BadTarget"
 lx_kind lx.Straddle = codes "Straddle"
-lx_kind lx.Unbuilt = codes "Unbuilt"
 
 abbrev pub lx_text : LxRefusal → List ℕ
 lx_text r = placed r.at (lx_kind r.kind)

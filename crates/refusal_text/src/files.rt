@@ -53,7 +53,6 @@ pub fn omf_text(alloc: Global, refusal: &OmfRefusal) -> Result<String, AllocErro
         OmfRefusal::FixOverlap { at } => placed(alloc, at, "FixOverlap"),
         OmfRefusal::DataOverFix { at } => placed(alloc, at, "DataOverFix"),
         OmfRefusal::TooMany { at } => placed(alloc, at, "TooMany"),
-        OmfRefusal::Unbuilt { at } => placed(alloc, at, "Unbuilt"),
     }
 }
 
@@ -76,7 +75,6 @@ fn lx_kind(kind: LxKind) -> &'static str
         LxKind::BadSource => "BadSource",
         LxKind::BadTarget => "BadTarget",
         LxKind::Straddle => "Straddle",
-        LxKind::Unbuilt => "Unbuilt",
     }
 }
 

@@ -10,10 +10,9 @@ ghost use Rattle.seg_parts.specs.Communals.{is_in, is_of, is_other, followed, fa
 ghost use Rattle.seg_parts.specs.FixedNames.{AreFixed};
 
 use crate::logical_segments::{SegmentName, name_of};
-use crate::modules::number;
 use crate::parts::{FixedNames, Part, is_stack};
 use indexmap::IndexSet;
-use link_model::{Name, NoMemory, Origin};
+use link_model::{Name, NoMemory, Origin, number};
 use obj_types::{Common, ModKind};
 
 fn is_public(part: &Part<'_>, name: &Name, class: &Name) -> bool

@@ -8,7 +8,6 @@ mod groups;
 mod laws;
 mod logical_segments;
 mod members;
-mod modules;
 mod objects;
 mod offsets;
 mod order;

@@ -12,10 +12,9 @@ ghost use Rattle.link_model.specs.Parts.{Part};
 
 use crate::groups::GroupNames;
 use crate::logical_segments::{SegmentName, name_of};
-use crate::modules::number;
 use crate::parts::{FixedNames, part_of};
 use indexmap::IndexSet;
-use link_model::NoMemory;
+use link_model::{NoMemory, number};
 use obj_types::{Group, LinkInput, ObjModule, Seg};
 use std::alloc::Global;
 

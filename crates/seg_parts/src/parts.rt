@@ -7,8 +7,7 @@ ghost use Rattle.sym_table.specs.Links.{link_with};
 ghost use Rattle.seg_parts.specs.Parts.{shown};
 ghost use Rattle.seg_parts.specs.FixedNames.{AreFixed};
 
-use crate::modules::number;
-use link_model::{Name, NoMemory, Origin};
+use link_model::{Name, NoMemory, Origin, number};
 use obj_types::{LinkInput, ObjModule, Seg};
 use std::alloc::Global;
 

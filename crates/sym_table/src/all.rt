@@ -8,8 +8,7 @@ ghost use Rattle.sym_table.specs.Links.{link_with};
 ghost use Rattle.sym_table.specs.Meanings.{rows_in, missing_external_in, missing_export_in};
 
 use crate::meanings::{Globals, check_exports, externals_of};
-use crate::modules::number;
-use link_model::{SymDef, SymRefusal};
+use link_model::{SymDef, SymRefusal, number};
 use obj_types::{Fail, LinkInput, ObjModule, Seq};
 use std::alloc::Global;
 

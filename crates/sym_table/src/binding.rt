@@ -11,9 +11,8 @@ use crate::Symbols;
 use crate::all::{check_all_exports, meanings_of};
 use crate::choosing::choose_by_names;
 use crate::global_names::{GlobalNames, global_names_of};
-use crate::modules::modules_at;
 use crate::names::check_imports;
-use link_model::{SymDef, SymRefusal};
+use link_model::{SymDef, SymRefusal, modules_at};
 use obj_types::{Fail, LinkInput, ObjModule, Seq};
 use std::alloc::Global;
 

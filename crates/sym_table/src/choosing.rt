@@ -9,9 +9,8 @@ ghost use Rattle.first_table.specs.Entries.{value_named};
 ghost use Rattle.link_model.specs.Choosing.{Chosen, defines, is_defined, modules_of, object_picks};
 ghost use Rattle.sym_table.specs.Leading.{leader, waits, has_public, has_import, given, awaited, awaits};
 
-use crate::modules::number;
 use first_table::NameTable;
-use link_model::Pick;
+use link_model::{Pick, number};
 use obj_types::{Ext, Imp, LinkInput, NoMemory, ObjModule, Pub, Seq};
 use std::alloc::Global;
 use std::collections::BTreeSet;

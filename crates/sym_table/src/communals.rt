@@ -11,9 +11,8 @@ ghost use Rattle.sym_table.specs.Communals.{comdef_shown, greatest_of, with_grea
 
 use crate::definitions::Definition;
 use crate::firsts::copied;
-use crate::modules::number;
 use first_table::NameTable;
-use link_model::SymDef;
+use link_model::{SymDef, number};
 use obj_types::{Common, Ext, LinkInput, Name, NoMemory, ObjModule, Seq};
 use std::alloc::Global;
 

@@ -6,7 +6,7 @@ ghost use Rattle.link_model.specs.Symbols.{of_public, of_import, definitions_in,
 ghost use Rattle.sym_table.specs.Links.{link_with};
 ghost use Rattle.sym_table.specs.Definitions.{shown};
 
-use crate::modules::number;
+use link_model::number;
 use obj_types::{Imp, LinkInput, Name, NoMemory, ObjModule, Pub, PubPlace};
 use std::alloc::Global;
 

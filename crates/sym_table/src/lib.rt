@@ -14,7 +14,6 @@ mod imports;
 mod laws;
 mod locals;
 mod meanings;
-mod modules;
 mod names;
 
 pub use binding::bind;

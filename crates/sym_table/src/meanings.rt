@@ -18,9 +18,8 @@ use crate::definitions::{Definition, Meaning};
 use crate::firsts::copied;
 use crate::imports::{Imports, slot_of};
 use crate::locals::locals_of;
-use crate::modules::number;
 use first_table::NameTable;
-use link_model::{SymDef, SymRefusal};
+use link_model::{SymDef, SymRefusal, number};
 use obj_types::{Exp, Ext, Fail, Imp, Name, NoMemory, ObjModule, PubPlace, Seq};
 use std::alloc::Global;
 

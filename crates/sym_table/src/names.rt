@@ -6,9 +6,8 @@ ghost use Rattle.lx_types.specs.Names.{uppercase};
 ghost use Rattle.link_model.specs.Appearance.{firsts};
 ghost use Rattle.sym_table.specs.Counting.{imports_many_of};
 
-use crate::modules::number;
 use first_table::NameTable;
-use link_model::{MAX_NUMBER, SymRefusal};
+use link_model::{MAX_NUMBER, SymRefusal, number};
 use obj_types::{Fail, Imp, NoMemory};
 use std::alloc::Global;
 

@@ -1,9 +1,9 @@
 //! The chosen modules, and numbers of 32 bits.
 
-ghost use Rattle.std.specs.Prelude.{◌≡◌, IfOk, IfSome, map, option_map, option_copied};
+ghost use Rattle.std.specs.Prelude.{◌≡◌, IfOk, map, option_copied};
 ghost use Rattle.link_model.specs.Choosing.{module_of, modules_of};
 
-use link_model::Pick;
+use crate::Pick;
 use obj_types::{LinkInput, NoMemory, ObjModule};
 use std::alloc::Global;
 
