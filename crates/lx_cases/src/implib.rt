@@ -89,7 +89,21 @@ fn a_link_through_a_library_imports(rt: HostRuntime) -> Result<(), Fail> {
         linked.text.as_slice(),
         b"U objects 1 pages 1 sources 1\n".as_slice()
     );
-    assert!(rt; linked.files.get("u.dll").is_some());
+    // Behind the fixup page table stand a 32-bit offset at 0, by the ordinal 1 of the first module, and that module's name.
+    let dll = linked.files.get("u.dll").ok_or("a module")?;
+    let record = [
+        (0xF2, 7),
+        (0xF3, 0x81),
+        (0xF4, 0),
+        (0xF5, 0),
+        (0xF6, 1),
+        (0xF7, 1),
+        (0xF8, 1),
+        (0xF9, b'D'),
+    ];
+    for (place, byte) in record {
+        assert_eq!(rt; dll.get(place).copied(), Some(byte));
+    }
     // Without the library F has no meaning.
     let shown = run_over(alloc, "image u.obj 10000000", &inputs)?;
     assert_eq!(rt; shown.text.as_slice(), b"lx: IMAGE: Missing F\n".as_slice());
