@@ -1,4 +1,4 @@
-use Rattle.std.proofs.Common.{◌∙◌, ◌++◌, ap}
+use Rattle.std.proofs.Common.{◌++◌, ap}
 use Rattle.image_model.specs.File.{sections_bytes}
 use Rattle.lx_write.specs.Sections.{sections_value}
 use Rattle.lx_write.proofs.Fields.{more, last}
