@@ -1,3 +1,4 @@
+mod Goes
 mod ImportRead
 mod JoinedRead
 mod LibraryRead
