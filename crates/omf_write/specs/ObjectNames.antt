@@ -1,7 +1,6 @@
 -- The names of an object file that is written, each once. "96h LNAMES".
-use Rattle.std.specs.Prelude.{ℕ, ◌+◌, List, [], ◌∷◌, ◌++◌, map, length, position}
-use Rattle.std.specs.List.{flat_map}
-use Rattle.std.specs.Option.{option_map_or}
+use Rattle.std.specs.Prelude.{ℕ, ◌+◌, List, [], ◌∷◌, ◌++◌, map, length}
+use Rattle.std.specs.List.{flat_map, position_or_len}
 use Rattle.first_table.specs.Entries.{is_named, with_entry}
 use Rattle.obj_types.specs.declared.object.Seg.{Seg}
 use Rattle.obj_types.specs.declared.object.Group.{Group}
@@ -28,6 +27,6 @@ names_of m = with_names [] ([] ∷ seg_names m.segs ++ group_names m.groups)
 abbrev pub texts : NameList → List (List ℕ)
 texts entries = map (λ (e : List ℕ × ℕ). e.0) entries
 
--- A name's index, which counts from 1, and 0 where it is not there.
+-- A name's index, which counts from 1.
 abbrev pub name_index : NameList → List ℕ → ℕ
-name_index entries name = option_map_or (λ place. place + 1) (position (is_named name) entries) 0
+name_index entries name = position_or_len (is_named name) entries + 1

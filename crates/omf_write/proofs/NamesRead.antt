@@ -1,0 +1,79 @@
+-- Each name of a written object file has its index.
+use Rattle.std.proofs.Common.{◌≡◌, ℕ, zero, suc, ◌+◌, ◌<◌, ◌≤◌, Bool, true, false, cond, List, [], ◌∷◌, ◌++◌, length, map, get_or, refl, sym, ap, ◌∙◌, arith, add-one}
+use Rattle.std.proofs.lemmas.List.{length-map, get_or-map}
+use Rattle.std.proofs.lemmas.List.Sums.{passes_at_first}
+use Rattle.std.proofs.lemmas.List.Folds.{list_any-append}
+use Rattle.std.proofs.lemmas.Option.{unwrap_or-slice_get}
+use Rattle.std.proofs.lemmas.Slice.Eq.{bytes_eq-Decides}
+use Rattle.std.specs.Prelude.{bytes_eq, unwrap_or}
+use Rattle.std.specs.List.{list_any, position_or_len, slice_get}
+use Rattle.obj_types.specs.Items.{item}
+use Rattle.first_table.specs.Entries.{is_named, with_entry}
+use Rattle.omf_model.specs.Items.{name_with}
+use Rattle.omf_write.specs.ObjectNames.{NameList, with_names, texts, name_index}
+
+abbrev pub IsThere : NameList → List ℕ → Type 0
+IsThere entries name = list_any (is_named name) entries ≡ true
+
+place_by : (b : Bool) (name : List ℕ) (e : List ℕ × ℕ) (xs : NameList) → is_named name e ≡ b → ((list_any (is_named name) xs ≡ true) → position_or_len (is_named name) xs < length xs) → list_any (is_named name) (e ∷ xs) ≡ true → position_or_len (is_named name) (e ∷ xs) < length (e ∷ xs)
+place_by true name e xs is rest there = rw is (omega arith)
+place_by false name e xs is rest there = rw is (let r = rest (rw is at there) in omega (arith, r))
+
+place_below : (name : List ℕ) (entries : NameList) → IsThere entries name → position_or_len (is_named name) entries < length entries
+place_below name [] there = absurd cc
+place_below name (e ∷ xs) there = place_by (is_named name e) name e xs refl (place_below name xs) there
+
+-- what an index of a name gives back
+pub record HasName (entries : NameList) (name : List ℕ) : Type 0 where
+  pub low : 1 ≤ name_index entries name
+  pub high : name_index entries name ≤ length (texts entries)
+  pub most : name_index entries name ≤ length entries
+  pub is : name_with (texts entries) (name_index entries name) ≡ name
+
+pub named : (entries : NameList) (name : List ℕ) → IsThere entries name → HasName entries name
+named entries name there =
+    let test = is_named name in
+    let i : ℕ = position_or_len test entries in
+    let below = place_below name entries there in
+    let count : length (texts entries) ≡ length entries = length-map entries (λ (e : List ℕ × ℕ). e.0) in
+    let d : List ℕ × ℕ = ([], 0) in
+    let same : name ≡ (get_or entries i d).0 = (bytes_eq-Decides name (get_or entries i d).0).0 (passes_at_first test entries d below) in
+    record {
+      low = omega arith;
+      high = omega (arith, below, count);
+      most = omega (arith, below);
+      is =
+        ap (λ (k : ℕ). unwrap_or (item (texts entries) k) []) (add-one i)
+        ∙ unwrap_or-slice_get (texts entries) i []
+        ∙ get_or-map (λ (e : List ℕ × ℕ). e.0) entries i d [] below
+        ∙ sym same;
+    }
+
+-- ---- each name is in the table
+
+stays_by : (b : Bool) (name : List ℕ) (entries : NameList) (other : List ℕ) → list_any (is_named other) entries ≡ b → IsThere entries name → IsThere (cond b entries (entries ++ (other, 0) ∷ [])) name
+stays_by true name entries other e there = there
+stays_by false name entries other e there = list_any-append (is_named name) entries ((other, 0) ∷ []) ∙ rw there refl
+
+stays_there : (name : List ℕ) (entries : NameList) (other : List ℕ) → IsThere entries name → IsThere (with_entry entries other 0) name
+stays_there name entries other there = stays_by (list_any (is_named other) entries) name entries other refl there
+
+or_true : (a b : Bool) → b ≡ true → (cond a true b) ≡ true
+or_true true b e = refl
+or_true false b e = e
+
+comes_by : (b : Bool) (name : List ℕ) (entries : NameList) → list_any (is_named name) entries ≡ b → IsThere (cond b entries (entries ++ (name, 0) ∷ [])) name
+comes_by true name entries e = e
+comes_by false name entries e =
+    list_any-append (is_named name) entries ((name, 0) ∷ []) ∙ rw e (let same : bytes_eq name name ≡ true = (bytes_eq-Decides name name).1 refl in rw same refl)
+
+comes_there : (name : List ℕ) (entries : NameList) → IsThere (with_entry entries name 0) name
+comes_there name entries = comes_by (list_any (is_named name) entries) name entries refl
+
+pub kept_there : (name : List ℕ) (more : List (List ℕ)) (entries : NameList) → IsThere entries name → IsThere (with_names entries more) name
+kept_there name [] entries there = there
+kept_there name (other ∷ more) entries there = kept_there name more (with_entry entries other 0) (stays_there name entries other there)
+
+pub all_there : (names more : List (List ℕ)) (entries : NameList) (name : List ℕ) → IsThere (with_names entries (names ++ name ∷ more)) name
+all_there [] more entries name = kept_there name more (with_entry entries name 0) (comes_there name entries)
+all_there (other ∷ names) more entries name = all_there names more (with_entry entries other 0) name
