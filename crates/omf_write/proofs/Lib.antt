@@ -1,8 +1,10 @@
 mod FieldBytes
 mod Goes
+mod GroupsRead
 mod ImportRead
 mod JoinedRead
 mod LibraryRead
+mod Listed
 mod Mapped
 mod NamesRead
 mod SegmentsRead
