@@ -1,3 +1,4 @@
+mod CommentsRead
 mod FieldBytes
 mod Goes
 mod GroupsRead
@@ -8,3 +9,4 @@ mod Listed
 mod Mapped
 mod NamesRead
 mod SegmentsRead
+mod SymbolsRead

@@ -66,11 +66,11 @@ attributes align combine w least most one_bit = record {
   use32 = omega (arith, least, most, one_bit);
 }
 
-bit_most : (b : Bool) → bit b ≤ 1
+pub bit_most : (b : Bool) → bit b ≤ 1
 bit_most true = omega arith
 bit_most false = omega arith
 
-bit_is : (b : Bool) (n : ℕ) → n ≡ bit b → (n == 1) ≡ b
+pub bit_is : (b : Bool) (n : ℕ) → n ≡ bit b → (n == 1) ≡ b
 bit_is true n e = ap (λ (k : ℕ). k == 1) e
 bit_is false n e = ap (λ (k : ℕ). k == 1) e
 
