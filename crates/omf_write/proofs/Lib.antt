@@ -1,5 +1,7 @@
 mod CommentsRead
 mod FieldBytes
+mod FixDataRead
+mod FixupsRead
 mod Goes
 mod GroupsRead
 mod ImportRead
