@@ -172,6 +172,37 @@ alone before f all = let none = none_meets f before all in rw none refl
 fits : (a b c : ℕ) → a + b ≤ c → nat_le (a + b) c ≡ true
 fits a b c e = grind (arith, nat_tests)
 
+-- no two of them share a byte, and they keep the limit
+pub record Allowed (fixes : List FixAt) : Type 0 where
+  pub apart : Pairs Apart fixes
+  pub few : length fixes ≤ MAX_FIXES
+
+each_before : (xs : List FixAt) (f : FixAt) (ys : List FixAt) → Pairs Apart (xs ++ f ∷ ys) → AllByRecursion (λ g. Apart g f) xs
+each_before [] f ys pairs = tt
+each_before (x ∷ xs) f ys pairs = (found xs pairs.0, each_before xs f ys pairs.1)
+  where
+    found : (zs : List FixAt) → AllByRecursion (Apart x) (zs ++ f ∷ ys) → Apart x f
+    found [] all = all.0
+    found (z ∷ zs) all = found zs all.1
+
+all_front : {A : Type 0} (P : A → Type 0) (xs ys : List A) → AllByRecursion P (xs ++ ys) → AllByRecursion P xs
+all_front P [] ys all = tt
+all_front P (x ∷ xs) ys all = (all.0, all_front P xs ys all.1)
+
+all_back : {A : Type 0} (P : A → Type 0) (xs ys : List A) → AllByRecursion P (xs ++ ys) → AllByRecursion P ys
+all_back P [] ys all = all
+all_back P (x ∷ xs) ys all = all_back P xs ys all.1
+
+pairs_front : (xs ys : List FixAt) → Pairs Apart (xs ++ ys) → Pairs Apart xs
+pairs_front [] ys pairs = tt
+pairs_front (x ∷ xs) ys pairs = (all_front (Apart x) xs ys pairs.0, pairs_front xs ys pairs.1)
+
+pub allowed_front : (xs ys : List FixAt) → Allowed (xs ++ ys) → Allowed xs
+allowed_front xs ys all = let few = all.few in let n = length-append xs ys in record { apart = pairs_front xs ys all.apart; few = omega (arith, few, n) }
+
+pub allowed_on : (xs ys zs : List FixAt) → Allowed (xs ++ (ys ++ zs)) → Allowed ((xs ++ ys) ++ zs)
+allowed_on xs ys zs all = subst (λ (fs : List FixAt). Allowed fs) (sym (append_assoc xs ys zs)) all
+
 module _ (names : List (List ℕ)) (m : ObjModule) (pieces : List Piece) (p : Piece) where
   abbrev behind : List FixAt → ObjParts
   behind fixes = data_parts names m pieces fixes (last_of p)
@@ -202,3 +233,75 @@ module _ (names : List (List ℕ)) (m : ObjModule) (pieces : List Piece) (p : Pi
   added_field : (before : List FixAt) (f : FixAt) → IsFix m p f → add_field (behind before) (field_of p f) ≡ behind (before ++ f ∷ [])
   unfolding add_field set_threads
   added_field before f is = ap (λ (new : List FixAt). behind (before ++ new)) (fixes_are m p f is)
+
+  -- ---- the fields of a record
+
+  record FieldsGo (before fixes : List FixAt) : Type 0 where
+    good : GoodFields (behind before) (map (field_of p) fixes)
+    added : add_fields (behind before) (map (field_of p) fixes) ≡ behind (before ++ fixes)
+    spelled : each (field_form true) (map (field_of p) fixes) (flat_map (fixup_bytes p.offset) fixes)
+
+  none_added : (before : List FixAt) → add_fields (behind before) [] ≡ behind (before ++ [])
+  unfolding add_fields
+  none_added before = ap behind (sym (append-nil before))
+
+  one_more : (before : List FixAt) (f : FixAt) (fixes : List FixAt) → IsFix m p f → add_fields (behind (before ++ f ∷ [])) (map (field_of p) fixes) ≡ behind ((before ++ f ∷ []) ++ fixes) → add_fields (behind before) (map (field_of p) (f ∷ fixes)) ≡ behind (before ++ f ∷ fixes)
+  unfolding add_fields
+  one_more before f fixes is rest =
+      ap (λ (q : ObjParts). add_fields q (map (field_of p) fixes)) (added_field before f is) ∙ rest ∙ ap behind (append_assoc before (f ∷ []) fixes)
+
+  fields_go : Few m → (before fixes : List FixAt) → AllByRecursion (IsFix m p) fixes → Allowed (before ++ fixes) → FieldsGo before fixes
+  fields_go counts before [] all fine = record { good = tt; added = none_added before; spelled = refl }
+  fields_go counts before (f ∷ fixes) all fine =
+      let few = fine.few in
+      let n = length-append before (f ∷ fixes) in
+      let rest = fields_go counts (before ++ f ∷ []) fixes all.1 (allowed_on before (f ∷ []) fixes fine) in
+      record {
+        good = (good_field before f all.0 (each_before before f fixes fine.apart) (omega (arith, few, n)),
+          subst (λ (q : ObjParts). GoodFields q (map (field_of p) fixes)) (sym (added_field before f all.0)) rest.good);
+        added = one_more before f fixes all.0 rest.added;
+        spelled = both (field_form true (field_of p f)) (each (field_form true) (map (field_of p) fixes)) (fixup_bytes p.offset f) (flat_map (fixup_bytes p.offset) fixes) (field_spelled m counts p f all.0) rest.spelled;
+      }
+
+  -- ---- records
+
+  bytes_len : (fixes : List FixAt) → length (flat_map (fixup_bytes p.offset) fixes) ≤ 11 * length fixes
+  bytes_len [] = omega arith
+  bytes_len (f ∷ fixes) =
+      let rest = bytes_len fixes in
+      let own = fix_data_len f.frame f.goal f.disp in
+      let n = length-append (fixup_bytes p.offset f) (flat_map (fixup_bytes p.offset) fixes) in
+      omega (arith, rest, own, n)
+
+  record_goes : Few m → (before fixes : List FixAt) → AllByRecursion (IsFix m p) fixes → Allowed (before ++ fixes) → length fixes ≤ 64 → Goes (behind before) (fixupp_record p.offset fixes) (behind (before ++ fixes))
+  unfolding add
+  record_goes counts before fixes all fine few =
+      let go = fields_go counts before fixes all fine in
+      let n = bytes_len fixes in
+      one (behind before) (behind (before ++ fixes)) (fixupp (map (field_of p) fixes)) (fixupp_record p.offset fixes) go.good refl
+      (spells_as (fixupp (map (field_of p) fixes)) 0x9D true (flat_map (fixup_bytes p.offset) fixes) (1, omega arith, refl) (omega (arith, n, few)) refl go.spelled)
+      go.added
+
+  records_go : Few m → (n : ℕ) (before fixes : List FixAt) → AllByRecursion (IsFix m p) fixes → Allowed (before ++ fixes) → length fixes ≤ 64 * n → Goes (behind before) (fixupp_records n p.offset fixes) (behind (before ++ fixes))
+  records_go counts zero before [] all fine few = subst (λ (fs : List FixAt). Goes (behind before) [] (behind fs)) (sym (append-nil before)) (stays (behind before))
+  records_go counts zero before (f ∷ fixes) all fine few = absurd (omega (arith, few))
+  records_go counts (suc n) before fixes all fine few =
+      let first : List FixAt = take PER_RECORD fixes in
+      let others : List FixAt = drop PER_RECORD fixes in
+      let joined : first ++ others ≡ fixes = take-append-drop PER_RECORD fixes in
+      let every : AllByRecursion (IsFix m p) (first ++ others) = subst (λ (fs : List FixAt). AllByRecursion (IsFix m p) fs) (sym joined) all in
+      let whole : Allowed (before ++ (first ++ others)) = subst (λ (fs : List FixAt). Allowed (before ++ fs)) (sym joined) fine in
+      let split : Allowed ((before ++ first) ++ others) = allowed_on before first others whole in
+      let most = length-take PER_RECORD fixes in
+      let left = length-drop PER_RECORD fixes in
+      let one_record = record_goes counts before first (all_front (IsFix m p) first others every) (allowed_front (before ++ first) others split) (omega (arith, most)) in
+      let rest = records_go counts n (before ++ first) others (all_back (IsFix m p) first others every) split (omega (arith, left, few)) in
+      subst (λ (fs : List FixAt). Goes (behind before) (fixupp_records (suc n) p.offset fixes) (behind fs)) (append_assoc before first others ∙ ap (λ (fs : List FixAt). before ++ fs) joined)
+      (goes_on (behind before) (behind (before ++ first)) (behind ((before ++ first) ++ others)) (fixupp_record p.offset first) (fixupp_records n p.offset others) one_record rest)
+
+  are_fixes : (fixes : List FixAt) → length p.bytes ≤ 1024 → AllByRecursion (ReadyFix m) fixes → AllByRecursion (LiesOn p) fixes → AllByRecursion (IsFix m p) fixes
+  are_fixes [] short ready lie = tt
+  are_fixes (f ∷ fixes) short ready lie = (is_fix m p f short ready.0 lie.0, are_fixes fixes short ready.1 lie.1)
+
+  pub fixups_go : Few m → (before fixes : List FixAt) → length p.bytes ≤ 1024 → AllByRecursion (ReadyFix m) fixes → AllByRecursion (LiesOn p) fixes → Allowed (before ++ fixes) → Goes (behind before) (fixupp_records (records_needed fixes) p.offset fixes) (behind (before ++ fixes))
+  fixups_go counts before fixes short ready lie fine = records_go counts (records_needed fixes) before fixes (are_fixes fixes short ready lie) fine (omega arith)
