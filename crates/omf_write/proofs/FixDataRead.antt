@@ -125,7 +125,7 @@ abbrev form_by : Bits → ℕ → Option ℕ → ℕ → ℕ → Form
 form_by t fix frame goal disp =
     byte fix then present (not t.0 && has_index t.1) index frame then present (not t.2) index (Some goal) then present t.4 (number 4) (Some disp)
 
-seg_least : (m : ObjModule) (i : ℕ) → IsPlainSeg m i → IsIndex m.segs i
+pub seg_least : (m : ObjModule) (i : ℕ) → IsPlainSeg m i → IsIndex m.segs i
 seg_least m i plain = index_there (λ (s : Seg). s.debug ≡ false) m.segs i plain
 
 within : (i n : ℕ) → i ≤ n → n ≤ 32767 → i ≤ 32767

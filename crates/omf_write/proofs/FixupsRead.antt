@@ -39,7 +39,7 @@ pub record ReadyFix (m : ObjModule) (f : FixAt) : Type 0 where
   pub whole : WholeFix m f
   pub disp : f.disp < 0x100000000
 
-abbrev last_of : Piece → LastData
+abbrev pub last_of : Piece → LastData
 last_of p = datas.Straight p.seg p.offset (length p.bytes)
 
 abbrev from_piece : Piece → FixAt → ℕ
@@ -185,11 +185,11 @@ each_before (x ∷ xs) f ys pairs = (found xs pairs.0, each_before xs f ys pairs
     found [] all = all.0
     found (z ∷ zs) all = found zs all.1
 
-all_front : {A : Type 0} (P : A → Type 0) (xs ys : List A) → AllByRecursion P (xs ++ ys) → AllByRecursion P xs
+pub all_front : {A : Type 0} (P : A → Type 0) (xs ys : List A) → AllByRecursion P (xs ++ ys) → AllByRecursion P xs
 all_front P [] ys all = tt
 all_front P (x ∷ xs) ys all = (all.0, all_front P xs ys all.1)
 
-all_back : {A : Type 0} (P : A → Type 0) (xs ys : List A) → AllByRecursion P (xs ++ ys) → AllByRecursion P ys
+pub all_back : {A : Type 0} (P : A → Type 0) (xs ys : List A) → AllByRecursion P (xs ++ ys) → AllByRecursion P ys
 all_back P [] ys all = all
 all_back P (x ∷ xs) ys all = all_back P xs ys all.1
 

@@ -1,4 +1,5 @@
 mod CommentsRead
+mod DataRead
 mod FieldBytes
 mod FixDataRead
 mod FixupsRead

@@ -193,5 +193,9 @@ symbol_records m = flat_map extdef_record m.exts ++ (flat_map pubdef_record m.pu
 abbrev pub segment_records : NameList → ObjModule → List ℕ
 segment_records names m = flat_map lnames_record (texts names) ++ (flat_map (segdef_record names) m.segs ++ flat_map (grpdef_record names) m.groups)
 
+-- what stands between the header and the end
+abbrev pub body_records : ObjModule → List ℕ
+body_records m = segment_records (names_of m) m ++ (symbol_records m ++ data_records m.pieces m.fixes)
+
 abbrev pub object_bytes : ObjModule → List ℕ
-object_bytes m = record_of 0x80 (name_bytes m.name) ++ (segment_records (names_of m) m ++ (symbol_records m ++ (data_records m.pieces m.fixes ++ end_record m.start)))
+object_bytes m = record_of 0x80 (name_bytes m.name) ++ (body_records m ++ end_record m.start)
