@@ -11,5 +11,6 @@ mod LibraryRead
 mod Listed
 mod Mapped
 mod NamesRead
+mod ObjectReady
 mod SegmentsRead
 mod SymbolsRead

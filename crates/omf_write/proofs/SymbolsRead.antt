@@ -20,6 +20,7 @@ use Rattle.omf_model.specs.Spelling.{contents_form, ext_form, pub_form}
 use Rattle.omf_model.specs.Good.{GoodPubDef}
 use Rattle.omf_write.specs.Framed.{record_of, name_bytes}
 use Rattle.omf_write.specs.ObjectBytes.{index_bytes, extdef_record, pubdef_bytes, pubdef_record}
+use Rattle.omf_write.specs.ObjectFits.{PlaceFits}
 use Rattle.omf_write.specs.Writable.{IsPlainExt, IsPlainPub, IsInSegment}
 use Rattle.omf_write.proofs.FieldBytes.{spells_as, index_spelled, index_len, name_spelled}
 use Rattle.omf_write.proofs.Goes.{Goes, one, items}
@@ -67,11 +68,6 @@ exts_go names m exts all = items (λ es. parts names (with_exts m es)) extdef_re
 
 abbrev pub with_pubs : ObjModule → List Pub → ObjModule
 with_pubs m pubs = record m { pubs = pubs }
-
--- what the type of a place says of its offset
-abbrev pub PlaceFits : PubPlace → Type 0
-PlaceFits (In seg offset) = offset < 0x100000000
-PlaceFits (Const value) = Unit {0}
 
 pub record ReadyPub (m : ObjModule) (p : Pub) : Type 0 where
   pub plain : IsPlainPub p
