@@ -11,6 +11,7 @@ mod LibraryRead
 mod Listed
 mod Mapped
 mod NamesRead
+mod ObjectRead
 mod ObjectReady
 mod SegmentsRead
 mod SymbolsRead
