@@ -103,7 +103,7 @@ record Flags (ordinal resident nodata words flag : ℕ) : Type 0 where
   nodata_is : flag / 32 % 2 ≡ nodata
   words_are : flag % 32 ≡ words
 
-flags : (o r d w : ℕ) → o ≤ 1 → r ≤ 1 → d ≤ 1 → w ≤ 31 → Flags o r d w (o * 128 + r * 64 + d * 32 + w)
+flags : (o r d w : ℕ) → o ≤ 1 → r ≤ 1 → d ≤ 1 → w ≤ 31 → Flags o r d w (o * 128 + r * 64 + d * 32 + w % 32)
 flags o r d w a b c e = record {
   small = omega (arith, a, b, c, e);
   resident_is = omega (arith, a, b, c, e);
@@ -111,7 +111,7 @@ flags o r d w a b c e = record {
   words_are = omega (arith, a, b, c, e);
 }
 
-flags_of : (ordinal : Option ℕ) (r d w : ℕ) → r ≤ 1 → d ≤ 1 → w ≤ 31 → Flags (ordinal_bit ordinal / 128) r d w (ordinal_bit ordinal + r * 64 + d * 32 + w)
+flags_of : (ordinal : Option ℕ) (r d w : ℕ) → r ≤ 1 → d ≤ 1 → w ≤ 31 → Flags (ordinal_bit ordinal / 128) r d w (ordinal_bit ordinal + r * 64 + d * 32 + w % 32)
 flags_of (Some n) r d w b c e = flags 1 r d w (omega arith) b c e
 flags_of None r d w b c e = flags 0 r d w (omega arith) b c e
 
@@ -127,10 +127,10 @@ ordinal_len : (ordinal : Option ℕ) → length (ordinal_bytes ordinal) ≤ 2
 ordinal_len (Some n) = omega arith
 ordinal_len None = omega arith
 
-rest_small : (r d w : ℕ) → r ≤ 1 → d ≤ 1 → w ≤ 31 → r * 64 + d * 32 + w < 128
+rest_small : (r d w : ℕ) → r ≤ 1 → d ≤ 1 → w ≤ 31 → r * 64 + d * 32 + w % 32 < 128
 rest_small r d w b c e = omega (arith, b, c, e)
 
-sum_is : (o r d w : ℕ) → o + r * 64 + d * 32 + w ≡ o + (r * 64 + d * 32 + w)
+sum_is : (o r d w : ℕ) → o + r * 64 + d * 32 + w % 32 ≡ o + (r * 64 + d * 32 + w % 32)
 sum_is o r d w = omega arith
 
 export_spelled : (e : Exp) → ReadyExport e → contents_form false (expdef (expdef_of e)) (expdef_bytes e)
@@ -146,7 +146,7 @@ export_spelled e ready =
     let f2 : Form = name e.internal then f3 in
     let f1 : Form = name e.name then f2 in
     let third : f3 tail = passed_over (present (nat_le 128 flag) (number 2) e.ordinal) tail
-      (ordinal_spelled e.ordinal flag (r * 64 + d * 32 + e.words) (rest_small r d e.words (bit_most e.resident) (bit_most e.nodata) ready.whole.1) (sum_is (ordinal_bit e.ordinal) r d e.words) ready.ordinal) in
+      (ordinal_spelled e.ordinal flag (r * 64 + d * 32 + e.words % 32) (rest_small r d e.words (bit_most e.resident) (bit_most e.nodata) ready.whole.1) (sum_is (ordinal_bit e.ordinal) r d e.words) ready.ordinal) in
     let second : f2 (inner ++ tail) = both (name e.internal) f3 inner tail (name_spelled e.internal ready.short_internal) third in
     let first : f1 (text ++ (inner ++ tail)) = both (name e.name) f2 text (inner ++ tail) (name_spelled e.name ready.short) second in
     let flagged = both (byte flag) f1 (flag ∷ []) (text ++ (inner ++ tail)) (fine.small, refl) first in

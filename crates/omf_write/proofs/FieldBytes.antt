@@ -14,14 +14,16 @@ use Rattle.omf_write.proofs.ImportRead.{framed}
 pub spells_as : (r : Record) (ty : ℕ) (wide : Bool) (body : List ℕ) → Contains (types_of r) (ty, wide) → length body < 65535 → IsRecordType ty → contents_form wide r body → Spells (record_of ty body) r
 spells_as r ty wide body is short known content = record { ty = ty; wide = wide; contents = body; is_type = is; framed = framed ty body short known; content = content }
 
-index_by : (b : Bool) (i : ℕ) → nat_lt i 128 ≡ b → i ≤ 32767 → index i (cond b (i ∷ []) ((128 + i / 256) ∷ (i % 256) ∷ []))
+index_by : (b : Bool) (i : ℕ) → nat_lt i 128 ≡ b → i ≤ 32767 → index i (cond b (i ∷ []) ((128 + i / 256 % 128) ∷ (i % 256) ∷ []))
 index_by true i e most = inl (grind (arith, nat_tests), refl)
-index_by false i e most = inr (omega (arith, most), refl)
+index_by false i e most =
+    let same : i / 256 % 128 ≡ i / 256 = omega (arith, most) in
+    inr (omega (arith, most), ap (λ (k : ℕ). (128 + k) ∷ (i % 256) ∷ []) same)
 
 pub index_spelled : (i : ℕ) → i ≤ 32767 → index i (index_bytes i)
 index_spelled i most = index_by (nat_lt i 128) i refl most
 
-index_len_by : (b : Bool) (i : ℕ) → length (cond b (i ∷ []) ((128 + i / 256) ∷ (i % 256) ∷ [])) ≤ 2
+index_len_by : (b : Bool) (i : ℕ) → length (cond b (i ∷ []) ((128 + i / 256 % 128) ∷ (i % 256) ∷ [])) ≤ 2
 index_len_by true i = omega arith
 index_len_by false i = omega arith
 

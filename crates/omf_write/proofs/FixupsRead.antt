@@ -60,10 +60,10 @@ record Place (b loc offset high low : ℕ) : Type 0 where
   relative : high / 64 % 2 ≡ b
   offset_is : offset_of high low ≡ offset
 
-place : (b loc offset : ℕ) → b ≤ 1 → loc ≤ 13 → offset < 1024 → Place b loc offset (128 + b * 64 + loc * 4 + offset / 256) (offset % 256)
+place : (b loc offset : ℕ) → b ≤ 1 → loc ≤ 13 → offset < 1024 → Place b loc offset (128 + b * 64 + loc % 16 * 4 + offset / 256 % 4) (offset % 256)
 place b loc offset one_bit most short = record {
   high_small = omega (arith, one_bit, most, short);
-  high_least = omega arith;
+  high_least = omega (arith, one_bit, most, short);
   low_small = omega arith;
   location = omega (arith, one_bit, most, short);
   relative = omega (arith, one_bit, most, short);

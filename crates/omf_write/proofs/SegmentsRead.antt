@@ -57,7 +57,7 @@ record Attributes (align combine w a : ℕ) : Type 0 where
   no_big : a / 2 % 2 ≡ 0
   use32 : a % 2 ≡ w
 
-attributes : (align combine w : ℕ) → align ≤ 5 → combine ≤ 7 → w ≤ 1 → Attributes align combine w (align * 32 + combine * 4 + w)
+attributes : (align combine w : ℕ) → align ≤ 5 → combine ≤ 7 → w ≤ 1 → Attributes align combine w (align % 8 * 32 + combine % 8 * 4 + w)
 attributes align combine w least most one_bit = record {
   align_is = omega (arith, least, most, one_bit);
   combine_is = omega (arith, least, most, one_bit);
@@ -128,9 +128,9 @@ seg_spelled names s few ready =
     let second : f2 b2 = both (index n) f3 (index_bytes n) b3 (index_spelled n (omega (arith, most_n, few))) third in
     let first : f1 b1 = both (number 4 s.len) f2 (little_bytes 4 s.len) b2 (omega (arith, len), refl) second in
     let place = placed (s.align == 0) f1 b1 first in
-    let here : (present (align_of (attributes_of s) == 0) (number 2) (def_of names s).frame then present (align_of (attributes_of s) == 0) byte (def_of names s).offset then f1) (place_bytes s ++ b1)
-        = subst (λ (k : ℕ). (present (k == 0) (number 2) (def_of names s).frame then present (k == 0) byte (def_of names s).offset then f1) (place_bytes s ++ b1)) (sym a.align_is) place in
-    (not_long (attributes_of s) (s.len == 0) a.no_big, both (byte (attributes_of s)) _ (attributes_of s ∷ []) (place_bytes s ++ b1) (a.small, refl) here)
+    let here : (present (align_of (attributes_of s) == 0) (number 2) (def_of names s).frame then present (align_of (attributes_of s) == 0) byte (def_of names s).offset then f1) (place_bytes s.align ++ b1)
+        = subst (λ (k : ℕ). (present (k == 0) (number 2) (def_of names s).frame then present (k == 0) byte (def_of names s).offset then f1) (place_bytes s.align ++ b1)) (sym a.align_is) place in
+    (not_long (attributes_of s) (s.len == 0) a.no_big, both (byte (attributes_of s)) _ (attributes_of s ∷ []) (place_bytes s.align ++ b1) (a.small, refl) here)
 
 place_len : (b : Bool) → length {A = ℕ} (cond b (0 ∷ 0 ∷ 0 ∷ []) []) ≤ 3
 place_len true = omega arith
@@ -143,8 +143,8 @@ seg_short names s =
     let four = length-little_bytes 4 s.len in
     let i = index_len (name_index names s.name) in
     let j = index_len (name_index names s.class) in
-    let p : length (place_bytes s) ≤ 3 = place_len (s.align == 0) in
-    let l4 = length-append (place_bytes s) (little_bytes 4 s.len ++ (n ++ (c ++ 0 ∷ []))) in
+    let p : length (place_bytes s.align) ≤ 3 = place_len (s.align == 0) in
+    let l4 = length-append (place_bytes s.align) (little_bytes 4 s.len ++ (n ++ (c ++ 0 ∷ []))) in
     let l3 = length-append (little_bytes 4 s.len) (n ++ (c ++ 0 ∷ [])) in
     let l2 = length-append n (c ++ 0 ∷ []) in
     let l1 = length-append c (0 ∷ []) in

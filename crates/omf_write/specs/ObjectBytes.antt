@@ -29,7 +29,7 @@ use Rattle.omf_write.specs.ObjectNames.{NameList, names_of, texts, name_index}
 
 -- an index in its shortest form
 abbrev pub index_bytes : ℕ → List ℕ
-index_bytes i = if nat_lt i 128 then i ∷ [] else (128 + i / 256) ∷ (i % 256) ∷ []
+index_bytes i = if nat_lt i 128 then i ∷ [] else (128 + i / 256 % 128) ∷ (i % 256) ∷ []
 
 abbrev pub bit : Bool → ℕ
 bit b = if b then 1 else 0
@@ -41,15 +41,15 @@ lnames_record name = record_of 0x96 (name_bytes name)
 
 -- Alignment, combine type and use32; the big bit stays clear, since the length has 4 bytes.
 abbrev pub attributes_of : Seg → ℕ
-attributes_of s = s.align * 32 + s.combine * 4 + bit s.wide
+attributes_of s = s.align % 8 * 32 + s.combine % 8 * 4 + bit s.wide
 
 -- An absolute segment's frame and offset are 0.
-abbrev pub place_bytes : Seg → List ℕ
-place_bytes s = if s.align == 0 then 0 ∷ 0 ∷ 0 ∷ [] else []
+abbrev pub place_bytes : ℕ → List ℕ
+place_bytes align = if align == 0 then 0 ∷ 0 ∷ 0 ∷ [] else []
 
 abbrev pub segdef_bytes : NameList → Seg → List ℕ
 segdef_bytes names s =
-    attributes_of s ∷ (place_bytes s ++ (little_bytes 4 s.len ++ (index_bytes (name_index names s.name) ++ (index_bytes (name_index names s.class) ++ 0 ∷ []))))
+    attributes_of s ∷ (place_bytes s.align ++ (little_bytes 4 s.len ++ (index_bytes (name_index names s.name) ++ (index_bytes (name_index names s.class) ++ 0 ∷ []))))
 
 abbrev pub segdef_record : NameList → Seg → List ℕ
 segdef_record names s = record_of 0x99 (segdef_bytes names s)
@@ -94,7 +94,7 @@ ordinal_bytes (Some n) = little_bytes 2 n
 ordinal_bytes None = []
 
 abbrev pub export_flag : Exp → ℕ
-export_flag e = ordinal_bit e.ordinal + bit e.resident * 64 + bit e.nodata * 32 + e.words
+export_flag e = ordinal_bit e.ordinal + bit e.resident * 64 + bit e.nodata * 32 + e.words % 32
 
 abbrev pub expdef_bytes : Exp → List ℕ
 expdef_bytes e =
@@ -142,7 +142,7 @@ fix_data_bytes frame goal disp =
 
 -- The first two bytes: 80h, 40h where the location is segment-relative, its kind and its offset in the data.
 abbrev pub location_high : FixAt → ℕ → ℕ
-location_high f offset = 128 + bit (not f.selfrel) * 64 + f.loc * 4 + offset / 256
+location_high f offset = 128 + bit (not f.selfrel) * 64 + f.loc % 16 * 4 + offset / 256 % 4
 
 abbrev pub fixup_bytes : ℕ → FixAt → List ℕ
 fixup_bytes from f =
