@@ -1,12 +1,14 @@
 -- Each name of a written object file has its index.
-use Rattle.std.proofs.Common.{◌≡◌, ℕ, zero, suc, ◌+◌, ◌<◌, ◌≤◌, Bool, true, false, cond, List, [], ◌∷◌, ◌++◌, length, map, get_or, refl, sym, ap, ◌∙◌, arith, add-one}
+use Rattle.std.proofs.Common.{◌≡◌, ℕ, zero, suc, ◌+◌, ◌<◌, ◌≤◌, Bool, true, false, cond, List, [], ◌∷◌, ◌++◌, length, map, get_or, Option, Some, None, refl, sym, ap, ◌∙◌, arith, add-one}
 use Rattle.std.proofs.lemmas.List.{length-map, get_or-map}
 use Rattle.std.proofs.lemmas.List.Sums.{passes_at_first}
 use Rattle.std.proofs.lemmas.List.Folds.{list_any-append}
 use Rattle.std.proofs.lemmas.Option.{unwrap_or-slice_get}
 use Rattle.std.proofs.lemmas.Slice.Eq.{bytes_eq-Decides}
-use Rattle.std.specs.Prelude.{bytes_eq, unwrap_or}
-use Rattle.std.specs.List.{list_any, position_or_len, slice_get}
+use Rattle.std.proofs.lemmas.Bool.Decides.{nat_tests}
+use Rattle.std.proofs.lemmas.List.Sums.{prefix_len-le-length}
+use Rattle.std.specs.Prelude.{bytes_eq, unwrap_or, nat_lt, not}
+use Rattle.std.specs.List.{list_any, position, position_or_len, slice_get}
 use Rattle.obj_types.specs.Items.{item}
 use Rattle.first_table.specs.Entries.{is_named, with_entry}
 use Rattle.omf_model.specs.Items.{name_with}
@@ -77,3 +79,20 @@ kept_there name (other ∷ more) entries there = kept_there name more (with_entr
 pub all_there : (names more : List (List ℕ)) (entries : NameList) (name : List ℕ) → IsThere (with_names entries (names ++ name ∷ more)) name
 all_there [] more entries name = kept_there name more (with_entry entries name 0) (comes_there name entries)
 all_there (other ∷ names) more entries name = all_there names more (with_entry entries other 0) name
+
+-- ---- the table in the code
+
+no_place_by : (b : Bool) (n m : ℕ) → cond b (Some n) None ≡ None → nat_lt n m ≡ b → m ≤ n
+no_place_by true n m none e = absurd cc
+no_place_by false n m none e = grind (arith, nat_tests)
+
+-- a name that has no place would go last
+pub no_place : (test : (List ℕ × ℕ) → Bool) (entries : NameList) → position test entries ≡ None → position_or_len test entries ≡ length entries
+no_place test entries none =
+    let low = no_place_by (nat_lt (position_or_len test entries) (length entries)) (position_or_len test entries) (length entries) none refl in
+    let high : position_or_len test entries ≤ length entries = prefix_len-le-length (λ e. not (test e)) entries in
+    omega (arith, low, high)
+
+pub with_both : (entries : NameList) (xs ys : List (List ℕ)) → with_names entries (xs ++ ys) ≡ with_names (with_names entries xs) ys
+with_both entries [] ys = refl
+with_both entries (x ∷ xs) ys = with_both (with_entry entries x 0) xs ys

@@ -136,7 +136,7 @@ place_len : (b : Bool) → length {A = ℕ} (cond b (0 ∷ 0 ∷ 0 ∷ []) []) �
 place_len true = omega arith
 place_len false = omega arith
 
-seg_short : (names : NameList) (s : Seg) → length (segdef_bytes names s) < 65535
+pub seg_short : (names : NameList) (s : Seg) → length (segdef_bytes names s) < 65535
 seg_short names s =
     let n : List ℕ = index_bytes (name_index names s.name) in
     let c : List ℕ = index_bytes (name_index names s.class) in

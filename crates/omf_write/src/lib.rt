@@ -2,10 +2,13 @@
 //! what was to be written.
 #![tactic(auto)]
 
+mod fields;
 mod framed;
 mod imports;
 mod joining;
 mod libraries;
+mod segments;
+mod tables;
 
 pub use imports::import_module;
 pub use joining::join;
