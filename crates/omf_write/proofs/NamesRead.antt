@@ -1,17 +1,19 @@
 -- Each name of a written object file has its index.
-use Rattle.std.proofs.Common.{◌≡◌, ℕ, zero, suc, ◌+◌, ◌<◌, ◌≤◌, Bool, true, false, cond, List, [], ◌∷◌, ◌++◌, length, map, get_or, Option, Some, None, refl, sym, ap, ◌∙◌, arith, add-one}
-use Rattle.std.proofs.lemmas.List.{length-map, get_or-map}
+use Rattle.std.proofs.Common.{◌≡◌, ℕ, zero, suc, ◌+◌, ◌<◌, ◌≤◌, Bool, true, false, cond, List, [], ◌∷◌, ◌++◌, length, map, get_or, Option, Some, None, refl, sym, ap, ◌∙◌, append_assoc, arith, add-one}
+use Rattle.std.proofs.lemmas.List.{length-map, get_or-map, append-nil}
 use Rattle.std.proofs.lemmas.List.Sums.{passes_at_first}
 use Rattle.std.proofs.lemmas.List.Folds.{list_any-append}
 use Rattle.std.proofs.lemmas.Option.{unwrap_or-slice_get}
 use Rattle.std.proofs.lemmas.Slice.Eq.{bytes_eq-Decides}
 use Rattle.std.proofs.lemmas.Bool.Decides.{nat_tests}
 use Rattle.std.proofs.lemmas.List.Sums.{prefix_len-le-length}
-use Rattle.std.specs.Prelude.{bytes_eq, unwrap_or, nat_lt, not}
+use Rattle.std.specs.Prelude.{bytes_eq, unwrap_or, nat_lt, not, is_some}
 use Rattle.std.specs.List.{list_any, position, position_or_len, slice_get}
 use Rattle.obj_types.specs.Items.{item}
 use Rattle.first_table.specs.Entries.{is_named, with_entry}
 use Rattle.omf_model.specs.Items.{name_with}
+use Rattle.omf_write.specs.Framed.{record_of, name_bytes}
+use Rattle.omf_write.specs.ObjectBytes.{lnames_record, name_records}
 use Rattle.omf_write.specs.ObjectNames.{NameList, with_names, texts, name_index}
 
 abbrev pub IsThere : NameList → List ℕ → Type 0
@@ -96,3 +98,35 @@ no_place test entries none =
 pub with_both : (entries : NameList) (xs ys : List (List ℕ)) → with_names entries (xs ++ ys) ≡ with_names (with_names entries xs) ys
 with_both entries [] ys = refl
 with_both entries (x ∷ xs) ys = with_both (with_entry entries x 0) xs ys
+
+some_place_by : (b : Bool) (n : ℕ) → is_some (cond b (Some n) None) ≡ b
+some_place_by true n = refl
+some_place_by false n = refl
+
+below_is_there_by : (b : Bool) (test : (List ℕ × ℕ) → Bool) (e : List ℕ × ℕ) (xs : NameList) → test e ≡ b → nat_lt (position_or_len test xs) (length xs) ≡ list_any test xs → nat_lt (position_or_len test (e ∷ xs)) (length (e ∷ xs)) ≡ list_any test (e ∷ xs)
+below_is_there_by true test e xs is rest = rw is (first_below (length xs))
+  where
+    first_below : (n : ℕ) → nat_lt 0 (suc n) ≡ true
+    first_below n = grind (arith, nat_tests)
+below_is_there_by false test e xs is rest = rw is (one_on (position_or_len test xs) (length xs) ∙ rest)
+  where
+    one_on : (a b : ℕ) → nat_lt (1 + a) (suc b) ≡ nat_lt a b
+    one_on a b = grind (arith, nat_tests)
+
+below_is_there : (test : (List ℕ × ℕ) → Bool) (entries : NameList) → nat_lt (position_or_len test entries) (length entries) ≡ list_any test entries
+below_is_there test [] = refl
+below_is_there test (e ∷ xs) = below_is_there_by (test e) test e xs refl (below_is_there test xs)
+
+-- a name has a place exactly where it is there
+pub place_is : (test : (List ℕ × ℕ) → Bool) (entries : NameList) → is_some (position test entries) ≡ list_any test entries
+place_is test entries = some_place_by (nat_lt (position_or_len test entries) (length entries)) (position_or_len test entries) ∙ below_is_there test entries
+
+pub found : (name : List ℕ) (entries : NameList) → is_some (position (is_named name) entries) ≡ true → with_entry entries name 0 ≡ entries
+found name entries some = let there : list_any (is_named name) entries ≡ true = sym (place_is (is_named name) entries) ∙ some in rw there refl
+
+pub not_found : (name : List ℕ) (entries : NameList) → is_some (position (is_named name) entries) ≡ false → with_entry entries name 0 ≡ entries ++ (name, 0) ∷ []
+not_found name entries none = let absent : list_any (is_named name) entries ≡ false = sym (place_is (is_named name) entries) ∙ none in rw absent refl
+
+pub one_more_record : (entries : NameList) (name : List ℕ) → name_records (entries ++ (name, 0) ∷ []) ≡ name_records entries ++ record_of 0x96 (name_bytes name)
+one_more_record [] name = append-nil (record_of 0x96 (name_bytes name))
+one_more_record (e ∷ entries) name = ap (λ (rest : List ℕ). lnames_record e.0 ++ rest) (one_more_record entries name) ∙ sym (append_assoc (lnames_record e.0) (name_records entries) (record_of 0x96 (name_bytes name)))

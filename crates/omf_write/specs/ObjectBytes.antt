@@ -39,6 +39,9 @@ bit b = if b then 1 else 0
 abbrev pub lnames_record : List ℕ → List ℕ
 lnames_record name = record_of 0x96 (name_bytes name)
 
+abbrev pub name_records : NameList → List ℕ
+name_records names = flat_map lnames_record (texts names)
+
 -- Alignment, combine type and use32; the big bit stays clear, since the length has 4 bytes.
 abbrev pub attributes_of : Seg → ℕ
 attributes_of s = s.align % 8 * 32 + s.combine % 8 * 4 + bit s.wide
@@ -191,7 +194,7 @@ abbrev pub symbol_records : ObjModule → List ℕ
 symbol_records m = flat_map extdef_record m.exts ++ (flat_map pubdef_record m.pubs ++ (flat_map impdef_record m.imports ++ (flat_map expdef_record m.exports ++ flat_map deflib_record m.deflibs)))
 
 abbrev pub segment_records : NameList → ObjModule → List ℕ
-segment_records names m = flat_map lnames_record (texts names) ++ (flat_map (segdef_record names) m.segs ++ flat_map (grpdef_record names) m.groups)
+segment_records names m = name_records names ++ (flat_map (segdef_record names) m.segs ++ flat_map (grpdef_record names) m.groups)
 
 -- what stands between the header and the end
 abbrev pub body_records : ObjModule → List ℕ
