@@ -67,8 +67,11 @@ abbrev pub grpdef_record : NameList → Group → List ℕ
 grpdef_record names g = record_of 0x9A (grpdef_bytes names g)
 
 -- No type is defined, so its index is 0.
+abbrev pub extdef_bytes : Ext → List ℕ
+extdef_bytes e = name_bytes e.name ++ 0 ∷ []
+
 abbrev pub extdef_record : Ext → List ℕ
-extdef_record e = record_of 0x8C (name_bytes e.name ++ 0 ∷ [])
+extdef_record e = record_of 0x8C (extdef_bytes e)
 
 -- no group
 abbrev pub pubdef_bytes : List ℕ → PubPlace → List ℕ
@@ -106,8 +109,11 @@ expdef_bytes e =
 abbrev pub expdef_record : Exp → List ℕ
 expdef_record e = record_of 0x88 (expdef_bytes e)
 
+abbrev pub deflib_bytes : List ℕ → List ℕ
+deflib_bytes name = 0 ∷ 0x9F ∷ name
+
 abbrev pub deflib_record : List ℕ → List ℕ
-deflib_record name = record_of 0x88 (0 ∷ 0x9F ∷ name)
+deflib_record name = record_of 0x88 (deflib_bytes name)
 
 -- ---- data and fixups
 

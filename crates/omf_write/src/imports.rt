@@ -12,8 +12,8 @@ use obj_types::Imp;
 use omf_frame::record_type::{COMENT, MODEND, THEADR};
 use std::alloc::{AllocError, Global};
 
-// The flags of a COMENT, the class of extensions, and the subtype of IMPDEF.
-const IMPDEF: [u8; 3] = [0, 0xA0, 1];
+/// The flags of a COMENT, the class of extensions, and the subtype of IMPDEF.
+pub const IMPDEF: [u8; 3] = [0, 0xA0, 1];
 
 /// Writes the entry that is imported under an internal name.
 pub fn push_entry(out: &mut Vec<u8>, internal: &[u8], entry: &EntryKey) -> Result<(), AllocError>
@@ -49,8 +49,8 @@ fn comment_of(alloc: Global, imp: &Imp) -> Result<Vec<u8>, NoMemory>
     Ok(contents)
 }
 
-// What the type of a name says of the import's.
-fn names_fit(imp: &Imp)
+/// What the type of a name says of the import's.
+pub fn names_fit(imp: &Imp)
     ensures { NamesFit imp.now }
 {
     let _internal = imp.name.bytes();

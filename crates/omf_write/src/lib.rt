@@ -2,12 +2,14 @@
 //! what was to be written.
 #![tactic(auto)]
 
+mod comments;
 mod fields;
 mod framed;
 mod imports;
 mod joining;
 mod libraries;
 mod segments;
+mod symbols;
 mod tables;
 
 pub use imports::import_module;
