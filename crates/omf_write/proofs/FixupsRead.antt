@@ -28,7 +28,8 @@ use Rattle.omf_write.specs.Framed.{record_of}
 use Rattle.omf_write.specs.ObjectBytes.{bit, location_high, fixup_bytes, fix_data_bytes, fixupp_record, fixupp_records, PER_RECORD, records_needed, lies_on}
 use Rattle.omf_write.specs.Writable.{LiesOn}
 use Rattle.omf_write.proofs.FieldBytes.{spells_as}
-use Rattle.omf_write.proofs.FixDataRead.{data_parts, data_of, frame_is, goal_is, Few, fix_data_spelled, fix_data_len, good_data}
+use Rattle.omf_write.proofs.FixupBytes.{bytes_len}
+use Rattle.omf_write.proofs.FixDataRead.{data_parts, data_of, frame_is, goal_is, Few, fix_data_spelled, good_data}
 use Rattle.omf_write.proofs.Goes.{Goes, one, stays, goes_on}
 use Rattle.omf_write.proofs.ImportRead.{both}
 
@@ -265,19 +266,11 @@ module _ (names : List (List ℕ)) (m : ObjModule) (pieces : List Piece) (p : Pi
 
   -- ---- records
 
-  bytes_len : (fixes : List FixAt) → length (flat_map (fixup_bytes p.offset) fixes) ≤ 11 * length fixes
-  bytes_len [] = omega arith
-  bytes_len (f ∷ fixes) =
-      let rest = bytes_len fixes in
-      let own = fix_data_len f.frame f.goal f.disp in
-      let n = length-append (fixup_bytes p.offset f) (flat_map (fixup_bytes p.offset) fixes) in
-      omega (arith, rest, own, n)
-
   record_goes : Few m → (before fixes : List FixAt) → AllByRecursion (IsFix m p) fixes → Allowed (before ++ fixes) → length fixes ≤ 64 → Goes (behind before) (fixupp_record p.offset fixes) (behind (before ++ fixes))
   unfolding add
   record_goes counts before fixes all fine few =
       let go = fields_go counts before fixes all fine in
-      let n = bytes_len fixes in
+      let n = bytes_len p.offset fixes in
       one (behind before) (behind (before ++ fixes)) (fixupp (map (field_of p) fixes)) (fixupp_record p.offset fixes) go.good refl
       (spells_as (fixupp (map (field_of p) fixes)) 0x9D true (flat_map (fixup_bytes p.offset) fixes) (1, omega arith, refl) (omega (arith, n, few)) refl go.spelled)
       go.added

@@ -2,6 +2,7 @@ mod CommentsRead
 mod DataRead
 mod FieldBytes
 mod FixDataRead
+mod FixupBytes
 mod FixupsRead
 mod Goes
 mod GroupsRead

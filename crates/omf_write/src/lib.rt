@@ -4,6 +4,7 @@
 
 mod comments;
 mod fields;
+mod fixups;
 mod framed;
 mod imports;
 mod joining;
