@@ -99,7 +99,7 @@ symbols_go m can fits ns =
     let b = pubs_go ns m3 can.segs m.pubs (pubs_at m m3 m.pubs refl (ready_pubs m can fits)) in
     let c = imports_go ns m4 m.imports (ready_imports m can fits) in
     let d = exports_go ns m5 m.exports (ready_exports m can fits) in
-    let e = deflibs_go ns m6 m.deflibs fits.deflibs in
+    let e = deflibs_go ns m6 m.deflibs fits.symbols.deflibs in
     goes_on (parts ns m2) (parts ns m3) (parts ns m7) exts (pubs ++ (imports ++ (exports ++ deflibs))) a
     (goes_on (parts ns m3) (parts ns m4) (parts ns m7) pubs (imports ++ (exports ++ deflibs)) b
     (goes_on (parts ns m4) (parts ns m5) (parts ns m7) imports (exports ++ deflibs) c

@@ -52,7 +52,7 @@ abbrev all_names : ObjModule → List (List ℕ)
 all_names m = [] ∷ seg_names m.segs ++ group_names m.groups
 
 pub names_short : (m : ObjModule) → ObjectFits m → AllByRecursion IsShort (texts (names_of m))
-names_short m fits = short_names (all_names m) [] tt (omega arith, seg_names_short m.segs (group_names m.groups) fits.segs (group_names_short m.groups fits.groups))
+names_short m fits = short_names (all_names m) [] tt (omega arith, seg_names_short m.segs (group_names m.groups) fits.segments.segs (group_names_short m.groups fits.segments.groups))
 
 abbrev AreThere : NameList → Seg → Type 0
 AreThere entries s = IsThere entries s.name × IsThere entries s.class
@@ -81,7 +81,7 @@ ready_segs_by names (s ∷ segs) a b c d =
 
 pub ready_segs : (m : ObjModule) → IsWritable m → ObjectFits m → AllByRecursion (ReadySeg (names_of m)) m.segs
 ready_segs m can fits =
-    ready_segs_by (names_of m) m.segs (recursion_from_All WholeSeg m.segs can.whole.segs) can.no_debug fits.segs
+    ready_segs_by (names_of m) m.segs (recursion_from_All WholeSeg m.segs can.whole.segs) can.no_debug fits.segments.segs
     (segs_there (all_names m) ([] ∷ []) m.segs (group_names m.groups) refl)
 
 ready_groups_by : (names : NameList) (m : ObjModule) (groups : List Group) → AllByRecursion (WholeGroup m) groups → AllByRecursion (λ g. length (grpdef_bytes names g) < 65535) groups → AllByRecursion (λ (g : Group). IsThere names g.name) groups → AllByRecursion (ReadyGroup names m) groups
@@ -99,21 +99,21 @@ ready_exts_by [] a b = tt
 ready_exts_by (e ∷ exts) a b = (record { plain = a.0; name = b.0 }, ready_exts_by exts a.1 b.1)
 
 pub ready_exts : (m : ObjModule) → IsWritable m → ObjectFits m → AllByRecursion ReadyExt m.exts
-ready_exts m can fits = ready_exts_by m.exts can.plain_exts fits.exts
+ready_exts m can fits = ready_exts_by m.exts can.plain_exts fits.symbols.exts
 
 ready_pubs_by : (m : ObjModule) (pubs : List Pub) → AllByRecursion (λ (p : Pub). WholePlace m p.place) pubs → AllByRecursion IsPlainPub pubs → AllByRecursion PubFits pubs → AllByRecursion (ReadyPub m) pubs
 ready_pubs_by m [] a b c = tt
 ready_pubs_by m (p ∷ pubs) a b c = (record { plain = b.0; place = a.0; name = c.0.name; fits = c.0.place }, ready_pubs_by m pubs a.1 b.1 c.1)
 
 pub ready_pubs : (m : ObjModule) → IsWritable m → ObjectFits m → AllByRecursion (ReadyPub m) m.pubs
-ready_pubs m can fits = ready_pubs_by m m.pubs (recursion_from_All (λ (p : Pub). WholePlace m p.place) m.pubs can.whole.pubs) can.plain_pubs fits.pubs
+ready_pubs m can fits = ready_pubs_by m m.pubs (recursion_from_All (λ (p : Pub). WholePlace m p.place) m.pubs can.whole.pubs) can.plain_pubs fits.symbols.pubs
 
 ready_imports_by : (imports : List Imp) → AllByRecursion ImportFits imports → AllByRecursion NamesFit imports → AllByRecursion ReadyImport imports
 ready_imports_by [] a b = tt
 ready_imports_by (i ∷ imports) a b = (record { fits = a.0; names = b.0 }, ready_imports_by imports a.1 b.1)
 
 pub ready_imports : (m : ObjModule) → IsWritable m → ObjectFits m → AllByRecursion ReadyImport m.imports
-ready_imports m can fits = ready_imports_by m.imports can.fit_imports fits.imports
+ready_imports m can fits = ready_imports_by m.imports can.fit_imports fits.symbols.imports
 
 ready_exports_by : (exports : List Exp) → AllByRecursion WholeExp exports → AllByRecursion (λ (e : Exp). e.internal ≡ [] → ⊥) exports → AllByRecursion ExpFits exports → AllByRecursion ReadyExport exports
 ready_exports_by [] a b c = tt
@@ -121,7 +121,7 @@ ready_exports_by (e ∷ exports) a b c =
     (record { whole = a.0; internal = b.0; short = c.0.name; short_internal = c.0.internal; ordinal = c.0.ordinal }, ready_exports_by exports a.1 b.1 c.1)
 
 pub ready_exports : (m : ObjModule) → IsWritable m → ObjectFits m → AllByRecursion ReadyExport m.exports
-ready_exports m can fits = ready_exports_by m.exports (recursion_from_All WholeExp m.exports can.whole.exports) can.internal fits.exports
+ready_exports m can fits = ready_exports_by m.exports (recursion_from_All WholeExp m.exports can.whole.exports) can.internal fits.symbols.exports
 
 ready_pieces_by : (m : ObjModule) (pieces : List Piece) → AllByRecursion (λ (p : Piece). LiesIn m p.seg p.offset (length p.bytes)) pieces → AllByRecursion (λ (p : Piece). length p.bytes ≤ 1024) pieces → AllByRecursion PieceFits pieces → AllByRecursion (ReadyPiece m) pieces
 ready_pieces_by m [] a b c = tt

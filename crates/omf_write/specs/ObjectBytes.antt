@@ -117,8 +117,11 @@ deflib_record name = record_of 0x88 (deflib_bytes name)
 
 -- ---- data and fixups
 
+abbrev pub ledata_bytes : Piece → List ℕ
+ledata_bytes p = index_bytes p.seg ++ (little_bytes 4 p.offset ++ p.bytes)
+
 abbrev pub ledata_record : Piece → List ℕ
-ledata_record p = record_of 0xA1 (index_bytes p.seg ++ (little_bytes 4 p.offset ++ p.bytes))
+ledata_record p = record_of 0xA1 (ledata_bytes p)
 
 abbrev pub frame_method : Frame → ℕ
 frame_method (frames.Seg i) = 0
@@ -192,9 +195,12 @@ data_records (p ∷ ps) fixes = piece_records p (on_piece p fixes) ++ data_recor
 -- ---- the module
 
 -- Module type C1h: a main module, with a start address that is relocated.
+abbrev pub start_bytes : StartAt → List ℕ
+start_bytes s = 0xC1 ∷ fix_data_bytes s.frame s.goal s.disp
+
 abbrev pub end_record : Option StartAt → List ℕ
 end_record None = record_of 0x8A (0 ∷ [])
-end_record (Some s) = record_of 0x8B (0xC1 ∷ fix_data_bytes s.frame s.goal s.disp)
+end_record (Some s) = record_of 0x8B (start_bytes s)
 
 abbrev pub symbol_records : ObjModule → List ℕ
 symbol_records m = flat_map extdef_record m.exts ++ (flat_map pubdef_record m.pubs ++ (flat_map impdef_record m.imports ++ (flat_map expdef_record m.exports ++ flat_map deflib_record m.deflibs)))

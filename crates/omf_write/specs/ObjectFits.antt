@@ -48,15 +48,21 @@ FixFits f = f.disp < 2 ^ 32
 abbrev pub StartFits : StartAt → Type 0
 StartFits s = s.disp < 2 ^ 32
 
-pub record ObjectFits (m : ObjModule) : Type 0 where
-  pub name : IsName m.name
+pub record SegmentsFit (m : ObjModule) : Type 0 where
   pub segs : AllByRecursion SegFits m.segs
   pub groups : AllByRecursion GroupFits m.groups
+
+pub record SymbolsFit (m : ObjModule) : Type 0 where
   pub exts : AllByRecursion ExtFits m.exts
   pub pubs : AllByRecursion PubFits m.pubs
   pub imports : AllByRecursion NamesFit m.imports
   pub exports : AllByRecursion ExpFits m.exports
   pub deflibs : AllByRecursion IsName m.deflibs
+
+pub record ObjectFits (m : ObjModule) : Type 0 where
+  pub name : IsName m.name
+  pub segments : SegmentsFit m
+  pub symbols : SymbolsFit m
   pub pieces : AllByRecursion PieceFits m.pieces
   pub fixes : AllByRecursion FixFits m.fixes
   pub start : IfSome m.start StartFits
