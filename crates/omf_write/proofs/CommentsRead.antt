@@ -1,20 +1,19 @@
 -- Written imports, exports and default libraries are read as what they were.
-use Rattle.std.proofs.Common.{◌≡◌, ◌≢◌, ℕ, ◌+◌, ◌*◌, ◌/◌, ◌%◌, ◌<◌, ◌≤◌, Bool, true, false, cond, eqb, List, [], ◌∷◌, ◌++◌, length, Option, Some, None, refl, sym, ap, subst, ◌∙◌, arith, length-append}
+use Rattle.std.proofs.Common.{◌≡◌, ◌≢◌, ℕ, ◌+◌, ◌*◌, ◌/◌, ◌%◌, ◌<◌, ◌≤◌, true, false, List, [], ◌∷◌, ◌++◌, length, Option, Some, None, refl, ap, arith, length-append}
 use Rattle.std.proofs.lemmas.Bool.Decides.{nat_tests}
 use Rattle.std.specs.Prelude.{◌==◌, nat_le, IfSome}
 use Rattle.std.specs.List.{AllByRecursion, flat_map}
-use Rattle.lx_bytes.specs.LittleEndian.{little_bytes}
 use Rattle.lx_types.specs.declared.entry.EntryKey.{EntryKey}
 use Rattle.obj_types.specs.declared.object.ObjModule.{ObjModule}
 use Rattle.obj_types.specs.declared.symbol.Imp.{Imp}
 use Rattle.obj_types.specs.declared.symbol.Exp.{Exp}
 use Rattle.obj_types.specs.Whole.{WholeExp}
-use Rattle.omf_fields.specs.Forms.{Form, ◌then◌, nothing, anything, present, byte, number, name}
-use Rattle.omf_model.specs.Record.{Record, impdef, expdef, default_library, ImpDef, ExpDef}
+use Rattle.omf_fields.specs.Forms.{Form, ◌then◌, anything, present, byte, number, name}
+use Rattle.omf_model.specs.Record.{impdef, expdef, default_library, ImpDef, ExpDef}
 use Rattle.omf_model.specs.Add.{add}
 use Rattle.omf_model.specs.Items.{import_of, export_of, or_else}
 use Rattle.omf_model.specs.Spelling.{contents_form, class_form, entry_form}
-use Rattle.omf_write.specs.Framed.{record_of, name_bytes}
+use Rattle.omf_write.specs.Framed.{name_bytes}
 use Rattle.omf_write.specs.ImportModule.{ImportFits, NamesFit, flag_of, entry_bytes}
 use Rattle.omf_write.specs.ObjectBytes.{bit, impdef_bytes, impdef_record, ordinal_bit, ordinal_bytes, export_flag, expdef_bytes, expdef_record, deflib_record}
 use Rattle.omf_write.proofs.FieldBytes.{spells_as, name_spelled}
@@ -146,7 +145,7 @@ export_spelled e ready =
     let f2 : Form = name e.internal then f3 in
     let f1 : Form = name e.name then f2 in
     let third : f3 tail = passed_over (present (nat_le 128 flag) (number 2) e.ordinal) tail
-      (ordinal_spelled e.ordinal flag (r * 64 + d * 32 + e.words % 32) (rest_small r d e.words (bit_most e.resident) (bit_most e.nodata) ready.whole.1) (sum_is (ordinal_bit e.ordinal) r d e.words) ready.ordinal) in
+    (ordinal_spelled e.ordinal flag (r * 64 + d * 32 + e.words % 32) (rest_small r d e.words (bit_most e.resident) (bit_most e.nodata) ready.whole.1) (sum_is (ordinal_bit e.ordinal) r d e.words) ready.ordinal) in
     let second : f2 (inner ++ tail) = both (name e.internal) f3 inner tail (name_spelled e.internal ready.short_internal) third in
     let first : f1 (text ++ (inner ++ tail)) = both (name e.name) f2 text (inner ++ tail) (name_spelled e.name ready.short) second in
     let flagged = both (byte flag) f1 (flag ∷ []) (text ++ (inner ++ tail)) (fine.small, refl) first in

@@ -1,10 +1,9 @@
 -- Written data is read as what it was, with the fixups on it.
-use Rattle.std.proofs.Common.{◌≡◌, ℕ, ◌+◌, ◌<◌, ◌≤◌, Bool, true, false, cond, List, [], ◌∷◌, ◌++◌, length, take, drop, Option, Some, None, refl, sym, ap, subst, ◌∙◌, append_assoc, arith, length-append}
+use Rattle.std.proofs.Common.{◌≡◌, ℕ, ◌+◌, ◌<◌, ◌≤◌, Bool, true, false, cond, List, [], ◌∷◌, ◌++◌, length, Option, Some, None, refl, sym, ap, subst, ◌∙◌, append_assoc, arith, length-append}
 use Rattle.std.proofs.lemmas.List.{append-nil, take_at, drop_at}
 use Rattle.std.proofs.lemmas.List.Sums.{sum_by-append}
 use Rattle.std.proofs.lemmas.Bool.Decides.{nat_tests}
-use Rattle.std.specs.Prelude.{◌==◌, ◌&&◌, nat_le, nat_lt}
-use Rattle.std.specs.List.{AllByRecursion, flat_map, list_any, sum_by, prefix_len}
+use Rattle.std.specs.List.{AllByRecursion, list_any, sum_by, prefix_len}
 use Rattle.lx_bytes.specs.LittleEndian.{little_bytes}
 use Rattle.lx_bytes.proofs.Numbers.{length-little_bytes}
 use Rattle.obj_types.specs.declared.limits.TheConstants.{MAX_DATA}
@@ -14,8 +13,8 @@ use Rattle.obj_types.specs.declared.object.ObjModule.{ObjModule}
 use Rattle.obj_types.specs.declared.object.Seg.{Seg}
 use Rattle.obj_types.specs.declared.parts.LastData.{LastData}
 use Rattle.obj_types.specs.declared.parts.ObjParts.{ObjParts}
-use Rattle.obj_types.specs.Location.{location_len, end_of}
-use Rattle.obj_types.specs.Items.{item, IsIndex}
+use Rattle.obj_types.specs.Location.{location_len}
+use Rattle.obj_types.specs.Items.{item}
 use Rattle.obj_types.specs.Whole.{IsPlainSeg, LiesIn}
 use Rattle.std.specs.Prelude.{IsSomeAnd}
 use Rattle.omf_fields.specs.Forms.{Form, ◌then◌, number, index}

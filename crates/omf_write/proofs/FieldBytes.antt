@@ -1,10 +1,9 @@
 -- The fields of records that are written, as bytes spell them.
-use Rattle.std.proofs.Common.{◌≡◌, ℕ, ◌+◌, ◌/◌, ◌%◌, ◌^◌, ◌<◌, ◌≤◌, Bool, true, false, cond, ltb, List, [], ◌∷◌, ◌++◌, length, refl, ap, arith, inl, inr}
+use Rattle.std.proofs.Common.{◌≡◌, ℕ, ◌+◌, ◌/◌, ◌%◌, ◌<◌, ◌≤◌, Bool, true, false, cond, List, [], ◌∷◌, length, refl, ap, arith, inl, inr}
 use Rattle.std.proofs.lemmas.Bool.Decides.{nat_tests}
 use Rattle.std.specs.Prelude.{Contains, nat_lt}
-use Rattle.lx_bytes.specs.LittleEndian.{little_bytes}
 use Rattle.omf_frame.specs.RecordType.{IsRecordType}
-use Rattle.omf_fields.specs.Forms.{Form, byte, number, name, index}
+use Rattle.omf_fields.specs.Forms.{byte, name, index}
 use Rattle.omf_model.specs.Record.{Record}
 use Rattle.omf_model.specs.Spelling.{Spells, types_of, contents_form}
 use Rattle.omf_write.specs.Framed.{record_of, name_bytes}

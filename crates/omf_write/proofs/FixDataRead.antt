@@ -1,5 +1,5 @@
 -- A written fix byte and what stands behind it are read as their frame, goal and displacement.
-use Rattle.std.proofs.Common.{◌≡◌, ◌≢◌, ℕ, ◌+◌, ◌*◌, ◌/◌, ◌%◌, ◌<◌, ◌≤◌, Bool, true, false, cond, eqb, List, [], ◌∷◌, ◌++◌, length, get_or, Option, Some, None, refl, sym, ap, subst, ◌∙◌, arith, length-append}
+use Rattle.std.proofs.Common.{◌≡◌, ℕ, ◌+◌, ◌*◌, ◌/◌, ◌%◌, ◌<◌, ◌≤◌, Bool, true, false, cond, List, [], ◌∷◌, ◌++◌, length, get_or, Option, Some, None, refl, sym, ap, subst, ◌∙◌, arith, length-append}
 use Rattle.std.proofs.lemmas.Bool.Decides.{nat_tests}
 use Rattle.std.specs.Prelude.{◌==◌, ◌&&◌, ◌||◌, not, nat_le, IfSome, IsSome, IsSomeAnd, is_some, unwrap_or, option_map}
 use Rattle.lx_bytes.specs.LittleEndian.{little_bytes}
@@ -20,7 +20,7 @@ use Rattle.obj_types.specs.Whole.{IsPlainSeg, WholeFrame, WholeGoal}
 use Rattle.omf_fields.specs.Forms.{Form, ◌then◌, present, byte, number, index}
 use Rattle.omf_model.specs.Record.{FixData, by_frame_thread, frame_bits, by_target_thread, target_bits, has_displacement}
 use Rattle.omf_model.specs.Items.{is_debug_seg, start_of}
-use Rattle.omf_model.specs.Fixups.{unset, is_frame_method, is_target_method, has_index, frame_by, goal_by, frame_meant, goal_meant, have_of}
+use Rattle.omf_model.specs.Fixups.{unset, is_frame_method, is_target_method, has_index, frame_by, goal_by, frame_meant, goal_meant}
 use Rattle.omf_model.specs.Spelling.{fix_data_form}
 use Rattle.omf_model.specs.Good.{GoodFixData, HasMethod, IsPlainFrame, IsPlainGoal}
 use Rattle.omf_write.specs.ObjectBytes.{index_bytes, frame_method, frame_bytes, goal_method, goal_index, fix_data_bytes}
@@ -155,7 +155,7 @@ fix_data_spelled m few frame goal disp whole_frame whole_goal fits =
     let target : (index g then number 4 disp) (index_bytes g ++ tail) = both (index g) (number 4 disp) (index_bytes g) tail (index_spelled g (goal_few m few goal whole_goal)) end in
     let framed = both (present (has_index (frame_method frame)) index (frame_index frame)) (index g then number 4 disp) (frame_bytes frame) (index_bytes g ++ tail) (frame_spelled m few frame whole_frame) target in
     let plain : form_by (plain_bits (frame_method frame) (goal_method goal)) fix (frame_index frame) g disp (fix_data_bytes frame goal disp)
-        = both (byte fix) _ (fix ∷ []) (frame_bytes frame ++ (index_bytes g ++ tail)) (fix_small (frame_method frame) (goal_method goal) (frame_most frame) (goal_most goal), refl) framed in
+    = both (byte fix) _ (fix ∷ []) (frame_bytes frame ++ (index_bytes g ++ tail)) (fix_small (frame_method frame) (goal_method goal) (frame_most frame) (goal_most goal), refl) framed in
     subst (λ (t : Bits). form_by t fix (frame_index frame) g disp (fix_data_bytes frame goal disp)) (sym (byte_bits frame goal)) plain
 
 frame_len : (frame : Frame) → length (frame_bytes frame) ≤ 2

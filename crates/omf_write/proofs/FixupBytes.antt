@@ -1,12 +1,11 @@
 -- The bytes of fixups, record by record.
-use Rattle.std.proofs.Common.{◌≡◌, ℕ, zero, suc, ◌+◌, ◌-◌, ◌*◌, ◌/◌, ◌<◌, ◌≤◌, Bool, true, false, min, List, [], ◌∷◌, ◌++◌, length, take, drop, refl, sym, ap, ◌∙◌, append_assoc, arith, length-append, drop-drop}
-use Rattle.std.proofs.lemmas.List.{append-nil, take_all, drop_all, length-drop}
+use Rattle.std.proofs.Common.{◌≡◌, ℕ, suc, ◌+◌, ◌-◌, ◌*◌, ◌<◌, ◌≤◌, Bool, true, false, min, List, [], ◌∷◌, ◌++◌, length, take, drop, refl, sym, ap, ◌∙◌, append_assoc, arith, length-append, drop-drop}
+use Rattle.std.proofs.lemmas.List.{take_all, length-drop}
 use Rattle.std.proofs.lemmas.Bool.Decides.{nat_tests}
 use Rattle.std.specs.Prelude.{nat_le}
 use Rattle.std.specs.List.{flat_map}
 use Rattle.obj_types.specs.declared.object.FixAt.{FixAt}
-use Rattle.omf_write.specs.Framed.{record_of}
-use Rattle.omf_write.specs.ObjectBytes.{fixup_bytes, fixupp_record, fixupp_records, records_needed, PER_RECORD}
+use Rattle.omf_write.specs.ObjectBytes.{fixup_bytes, fixupp_record, fixupp_records, PER_RECORD}
 use Rattle.omf_write.proofs.FixDataRead.{fix_data_len}
 
 pub bytes_len : (from : ℕ) (fixes : List FixAt) → length (flat_map (fixup_bytes from) fixes) ≤ 11 * length fixes

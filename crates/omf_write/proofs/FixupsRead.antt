@@ -1,10 +1,9 @@
 -- Written fixups are read as what they were, behind the data on which they lie.
-use Rattle.std.proofs.Common.{◌≡◌, ◌≢◌, ℕ, zero, suc, ◌+◌, ◌-◌, ◌*◌, ◌/◌, ◌%◌, ◌<◌, ◌≤◌, Bool, true, false, cond, eqb, List, [], ◌∷◌, ◌++◌, length, map, take, drop, Option, Some, None, refl, sym, ap, subst, ◌∙◌, append_assoc, arith, length-append}
+use Rattle.std.proofs.Common.{◌≡◌, ℕ, zero, suc, ◌+◌, ◌-◌, ◌*◌, ◌/◌, ◌%◌, ◌<◌, ◌≤◌, Bool, true, false, List, [], ◌∷◌, ◌++◌, length, map, take, drop, refl, sym, ap, subst, ◌∙◌, append_assoc, arith, length-append}
 use Rattle.std.proofs.lemmas.List.{append-nil, take-append-drop, length-take, length-drop}
 use Rattle.std.proofs.lemmas.Bool.Decides.{nat_tests}
-use Rattle.std.specs.Prelude.{◌==◌, ◌&&◌, ◌||◌, not, nat_le, nat_lt, unwrap_or}
+use Rattle.std.specs.Prelude.{◌==◌, ◌&&◌, not, nat_le, nat_lt, unwrap_or}
 use Rattle.std.specs.List.{AllByRecursion, flat_map, list_any}
-use Rattle.lx_bytes.specs.LittleEndian.{little_bytes}
 use Rattle.obj_types.specs.declared.limits.TheConstants.{MAX_FIXES}
 use Rattle.obj_types.specs.declared.object.Piece.{Piece}
 use Rattle.obj_types.specs.declared.object.Frame.TheVariants as frames
@@ -16,16 +15,15 @@ use Rattle.obj_types.specs.declared.parts.LastData.TheVariants as datas
 use Rattle.obj_types.specs.declared.parts.ObjParts.{ObjParts}
 use Rattle.obj_types.specs.Location.{location_len, has_selector, end_of, meets}
 use Rattle.obj_types.specs.Whole.{WholeFix}
-use Rattle.omf_fields.specs.Forms.{Form, ◌then◌, byte, each}
+use Rattle.omf_fields.specs.Forms.{◌then◌, byte, each}
 use Rattle.omf_model.specs.Record.{FixData, FixField, fixup, fixupp, location_of, offset_of, is_self_relative}
-use Rattle.omf_model.specs.Fixups.{unset, set_threads, fixes_by, frame_meant, goal_meant, has_data, is_location, are_apart}
+use Rattle.omf_model.specs.Fixups.{unset, set_threads, fixes_by, has_data, is_location, are_apart}
 use Rattle.omf_model.specs.Add.{add, add_field, add_fields}
 use Rattle.omf_model.specs.Spelling.{field_form, fix_data_form}
-use Rattle.omf_model.specs.Good.{GoodField, GoodFields, GoodFixup}
+use Rattle.omf_model.specs.Good.{GoodField, GoodFields}
 use Rattle.omf_model.proofs.FixLaws.{and_true}
 use Rattle.omf_model.proofs.PairLaws.{Pairs}
-use Rattle.omf_write.specs.Framed.{record_of}
-use Rattle.omf_write.specs.ObjectBytes.{bit, location_high, fixup_bytes, fix_data_bytes, fixupp_record, fixupp_records, PER_RECORD, records_needed, lies_on}
+use Rattle.omf_write.specs.ObjectBytes.{bit, location_high, fixup_bytes, fix_data_bytes, fixupp_record, fixupp_records, PER_RECORD, records_needed}
 use Rattle.omf_write.specs.Writable.{LiesOn}
 use Rattle.omf_write.proofs.FieldBytes.{spells_as}
 use Rattle.omf_write.proofs.FixupBytes.{bytes_len}
@@ -222,7 +220,7 @@ module _ (names : List (List ℕ)) (m : ObjModule) (pieces : List Piece) (p : Pi
       let inside : from_piece p f + location_len f.loc ≤ length p.bytes = omega (arith, end_high, end_low) in
       let kinds : is_location high ≡ true = (λ i. (nat_lt 0 (location_len (loc i)) && not (relative i && has_selector (loc i)))) ∙ located (location_len f.loc) f.selfrel (has_selector f.loc) whole.location whole.relative in
       let data_there : has_data (last_of p) (offset_of high low) (location_len (location_of high)) ≡ true
-          = (λ i. nat_le (at_offset i + location_len (loc i)) (length p.bytes)) ∙ fits (from_piece p f) (location_len f.loc) (length p.bytes) inside in
+      = (λ i. nat_le (at_offset i + location_len (loc i)) (length p.bytes)) ∙ fits (from_piece p f) (location_len f.loc) (length p.bytes) inside in
       record {
         location = kinds;
         what = good_data names m pieces before (last_of p) f.frame f.goal f.disp whole.frame whole.goal;
@@ -258,8 +256,10 @@ module _ (names : List (List ℕ)) (m : ObjModule) (pieces : List Piece) (p : Pi
       let n = length-append before (f ∷ fixes) in
       let rest = fields_go counts (before ++ f ∷ []) fixes all.1 (allowed_on before (f ∷ []) fixes fine) in
       record {
-        good = (good_field before f all.0 (each_before before f fixes fine.apart) (omega (arith, few, n)),
-          subst (λ (q : ObjParts). GoodFields q (map (field_of p) fixes)) (sym (added_field before f all.0)) rest.good);
+        good = (
+          good_field before f all.0 (each_before before f fixes fine.apart) (omega (arith, few, n)),
+          subst (λ (q : ObjParts). GoodFields q (map (field_of p) fixes)) (sym (added_field before f all.0)) rest.good,
+        );
         added = one_more before f fixes all.0 rest.added;
         spelled = both (field_form true (field_of p f)) (each (field_form true) (map (field_of p) fixes)) (fixup_bytes p.offset f) (flat_map (fixup_bytes p.offset) fixes) (field_spelled m counts p f all.0) rest.spelled;
       }

@@ -1,18 +1,17 @@
 -- Bytes that can stand behind an unfinished module, and what they make of it: the parts of an object file, put
 -- together from the front.
-use Rattle.std.proofs.Common.{◌≡◌, ℕ, Bool, false, List, [], ◌∷◌, ◌++◌, Option, refl, sym, ap, subst, ◌∙◌, append_assoc}
+use Rattle.std.proofs.Common.{◌≡◌, ℕ, false, List, [], ◌∷◌, ◌++◌, Option, refl, sym, ap, subst, ◌∙◌, append_assoc}
 use Rattle.std.proofs.lemmas.List.{append-nil}
 use Rattle.std.specs.List.{AllByRecursion, flat_map}
-use Rattle.obj_types.specs.declared.object.ObjModule.{ObjModule}
 use Rattle.obj_types.specs.declared.parts.ObjParts.{ObjParts}
 use Rattle.omf_fields.specs.Forms.{Form, each}
 use Rattle.omf_model.specs.Record.{Record, header, modend, FixData, is_end}
 use Rattle.omf_model.specs.Add.{add}
-use Rattle.omf_model.specs.Parts.{parts_of, module_of}
+use Rattle.omf_model.specs.Parts.{parts_of}
 use Rattle.omf_model.specs.Good.{GoodAfter, EachGood}
 use Rattle.omf_model.specs.Begun.{IsOpen}
 use Rattle.omf_model.specs.Spelling.{Spells, SpellsAll}
-use Rattle.omf_model.specs.Object.{AreModule, IsModule}
+use Rattle.omf_model.specs.Object.{IsModule}
 use Rattle.omf_model.proofs.PartsLaws.{parts_of-snoc}
 use Rattle.omf_model.proofs.ModuleLaws.{module_is}
 
@@ -126,9 +125,9 @@ finished name first middle last q kind start head goes good end =
         second_so = each_both (λ r bytes. Spells bytes r) goes.records (modend kind start ∷ []) middle last goes.spelled ended;
       };
       meant =
-        ap (λ (s : ObjParts). (add s (modend kind start)).module) goes.meant
-        ∙ ap (λ (s : ObjParts). s.module) (sym (with_both begun goes.records (modend kind start ∷ [])) ∙ sym (parts_with_records (header name ∷ []) others))
-        ∙ module_is (header name ∷ others);
+          ap (λ (s : ObjParts). (add s (modend kind start)).module) goes.meant
+          ∙ ap (λ (s : ObjParts). s.module) (sym (with_both begun goes.records (modend kind start ∷ [])) ∙ sym (parts_with_records (header name ∷ []) others))
+          ∙ module_is (header name ∷ others);
     }
   where
     one_end : each (λ r bytes. Spells bytes r) (modend kind start ∷ []) last

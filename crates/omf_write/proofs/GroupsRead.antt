@@ -1,15 +1,14 @@
 -- Written groups are read as what they were.
-use Rattle.std.proofs.Common.{◌≡◌, ℕ, ◌+◌, ◌<◌, ◌≤◌, Bool, true, false, cond, List, [], ◌∷◌, ◌++◌, length, Option, Some, None, refl, sym, ap, ◌∙◌, arith}
+use Rattle.std.proofs.Common.{◌≡◌, ℕ, ◌<◌, ◌≤◌, Bool, true, false, cond, List, [], ◌∷◌, ◌++◌, length, refl, sym, ap, ◌∙◌, arith}
 use Rattle.std.proofs.lemmas.Slice.Eq.{bytes_eq-Decides}
 use Rattle.std.specs.Prelude.{bytes_eq, codes}
 use Rattle.std.specs.List.{AllByRecursion, flat_map}
 use Rattle.obj_types.specs.declared.object.Seg.{Seg}
 use Rattle.obj_types.specs.declared.object.Group.{Group}
 use Rattle.obj_types.specs.declared.object.ObjModule.{ObjModule}
-use Rattle.obj_types.specs.Items.{IsIndex}
 use Rattle.obj_types.specs.Whole.{IsPlainSeg}
-use Rattle.omf_fields.specs.Forms.{Form, ◌then◌, byte, index, each}
-use Rattle.omf_model.specs.Record.{Record, grpdef}
+use Rattle.omf_fields.specs.Forms.{byte, index, each}
+use Rattle.omf_model.specs.Record.{grpdef}
 use Rattle.omf_model.specs.Items.{group_of}
 use Rattle.omf_model.specs.Add.{add}
 use Rattle.omf_model.specs.Spelling.{contents_form, member_form}

@@ -1,5 +1,5 @@
 -- Each name of a written object file has its index.
-use Rattle.std.proofs.Common.{◌≡◌, ℕ, zero, suc, ◌+◌, ◌<◌, ◌≤◌, Bool, true, false, cond, List, [], ◌∷◌, ◌++◌, length, map, get_or, Option, Some, None, refl, sym, ap, ◌∙◌, append_assoc, arith, add-one}
+use Rattle.std.proofs.Common.{◌≡◌, ℕ, suc, ◌+◌, ◌<◌, ◌≤◌, Bool, true, false, cond, List, [], ◌∷◌, ◌++◌, length, get_or, Some, None, refl, sym, ap, ◌∙◌, append_assoc, arith, add-one}
 use Rattle.std.proofs.lemmas.List.{length-map, get_or-map, append-nil}
 use Rattle.std.proofs.lemmas.List.Sums.{passes_at_first}
 use Rattle.std.proofs.lemmas.List.Folds.{list_any-append}
@@ -8,7 +8,7 @@ use Rattle.std.proofs.lemmas.Slice.Eq.{bytes_eq-Decides}
 use Rattle.std.proofs.lemmas.Bool.Decides.{nat_tests}
 use Rattle.std.proofs.lemmas.List.Sums.{prefix_len-le-length}
 use Rattle.std.specs.Prelude.{bytes_eq, unwrap_or, nat_lt, not, is_some}
-use Rattle.std.specs.List.{list_any, position, position_or_len, slice_get}
+use Rattle.std.specs.List.{list_any, position, position_or_len}
 use Rattle.obj_types.specs.Items.{item}
 use Rattle.first_table.specs.Entries.{is_named, with_entry}
 use Rattle.omf_model.specs.Items.{name_with}
@@ -47,10 +47,10 @@ named entries name there =
       high = omega (arith, below, count);
       most = omega (arith, below);
       is =
-        ap (λ (k : ℕ). unwrap_or (item (texts entries) k) []) (add-one i)
-        ∙ unwrap_or-slice_get (texts entries) i []
-        ∙ get_or-map (λ (e : List ℕ × ℕ). e.0) entries i d [] below
-        ∙ sym same;
+          ap (λ (k : ℕ). unwrap_or (item (texts entries) k) []) (add-one i)
+          ∙ unwrap_or-slice_get (texts entries) i []
+          ∙ get_or-map (λ (e : List ℕ × ℕ). e.0) entries i d [] below
+          ∙ sym same;
     }
 
 -- ---- each name is in the table

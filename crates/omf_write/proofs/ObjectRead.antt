@@ -1,5 +1,5 @@
 -- A written object file is read as its module.
-use Rattle.std.proofs.Common.{◌≡◌, ℕ, ◌+◌, ◌<◌, ◌≤◌, List, [], ◌∷◌, ◌++◌, length, Option, Some, None, refl, sym, ap, subst, ◌∙◌, arith, length-append}
+use Rattle.std.proofs.Common.{◌≡◌, ℕ, List, [], ◌∷◌, ◌++◌, Option, Some, None, refl, sym, ap, subst, ◌∙◌, arith}
 use Rattle.std.specs.Prelude.{true, false, IfSome, IsSomeAnd}
 use Rattle.std.specs.List.{AllByRecursion, flat_map}
 use Rattle.lx_types.specs.Names.{IsName}
@@ -18,13 +18,12 @@ use Rattle.obj_types.specs.declared.parts.ObjParts.{ObjParts}
 use Rattle.obj_types.specs.Fresh.{empty_module, fresh_parts}
 use Rattle.obj_types.specs.Items.{item}
 use Rattle.obj_types.specs.Whole.{WholePlace, WholeStart}
-use Rattle.omf_fields.specs.Forms.{Form, ◌then◌, anything, nothing, byte, name}
-use Rattle.omf_model.specs.Record.{Record, header, modend, FixData}
+use Rattle.omf_fields.specs.Forms.{◌then◌, anything, nothing, byte, name}
+use Rattle.omf_model.specs.Record.{header, modend, FixData}
 use Rattle.omf_model.specs.Add.{add}
 use Rattle.omf_model.specs.Parts.{parts_of}
 use Rattle.omf_model.specs.Spelling.{Spells, fix_data_form}
-use Rattle.omf_model.specs.Good.{GoodAfter}
-use Rattle.omf_model.specs.Object.{IsModule}
+use Rattle.omf_model.specs.Object.{IsModule, Obj}
 use Rattle.omf_model.proofs.ModuleLaws.{parts_header}
 use Rattle.omf_write.specs.Framed.{record_of, name_bytes}
 use Rattle.omf_write.specs.ObjectNames.{NameList, names_of, texts}
@@ -32,7 +31,7 @@ use Rattle.omf_write.specs.ObjectBytes.{lnames_record, segdef_record, grpdef_rec
 use Rattle.omf_write.specs.ObjectFits.{ObjectFits, StartFits}
 use Rattle.omf_write.specs.Writable.{IsOff, IsWritable}
 use Rattle.omf_write.proofs.CommentsRead.{with_imports, imports_go, with_exports, exports_go, with_deflibs, deflibs_go}
-use Rattle.omf_write.proofs.DataRead.{DataGo, data_go}
+use Rattle.omf_write.proofs.DataRead.{data_go}
 use Rattle.omf_write.proofs.FieldBytes.{spells_as, name_spelled}
 use Rattle.omf_write.proofs.FixDataRead.{data_parts, data_of, Few, fix_data_spelled, fix_data_len, good_data, start_is}
 use Rattle.omf_write.proofs.Goes.{Goes, goes_on, finished}
@@ -126,7 +125,7 @@ body_go m can fits =
     let k = data_go ns m (few_items m can) [] m.pieces [] m.fixes datas.None (ready_pieces m can fits) can.whole.data_limit (ready_fixes m can fits) (none_off m.pieces) can.follow (allowed m can.whole) in
     let s3 : ObjParts = data_parts ns m m.pieces m.fixes k.then_last in
     let all = goes_on s0 s1 s3 (segment_records (names_of m) m) (symbol_records m ++ data_records m.pieces m.fixes) (segments_go m can fits)
-      (goes_on s1 s2 s3 (symbol_records m) (data_records m.pieces m.fixes) (symbols_go m can fits ns) k.goes) in
+    (goes_on s1 s2 s3 (symbol_records m) (data_records m.pieces m.fixes) (symbols_go m can fits ns) k.goes) in
     record { then_last = k.then_last; goes = subst (λ (p : ObjParts). Goes p (body_records m) s3) (begin m) all }
 
 -- ---- the end
@@ -172,3 +171,7 @@ object_is_read m can fits =
     let k = body_go m can fits in
     let ns : List (List ℕ) = texts (names_of m) in
     ended m ns k.then_last (body_records m) m.start (few_items m can) fits.name can.whole.start fits.start k.goes
+
+-- nothing stands behind the module
+pub module_is_file : (m : ObjModule) {bytes : List ℕ} → IsModule bytes m → Obj bytes m
+module_is_file m {bytes} is = passed_over (λ front. IsModule front m) bytes is

@@ -1,8 +1,7 @@
 -- What is known of each item of a module that is written.
-use Rattle.std.proofs.Common.{◌≡◌, ℕ, suc, ◌<◌, ◌≤◌, Bool, true, false, cond, List, [], ◌∷◌, ◌++◌, length, map, Option, Some, None, refl, sym, ap, subst, ◌∙◌, append_assoc, arith}
+use Rattle.std.proofs.Common.{◌≡◌, ℕ, suc, ◌<◌, ◌≤◌, Bool, true, false, cond, List, [], ◌∷◌, ◌++◌, length, refl, sym, subst, ◌∙◌, append_assoc, arith}
 use Rattle.std.proofs.lemmas.List.Elements.{recursion_from_All}
-use Rattle.std.specs.Prelude.{IfSome}
-use Rattle.std.specs.List.{AllByRecursion, AllPairs, flat_map, list_any}
+use Rattle.std.specs.List.{AllByRecursion, AllPairs, list_any}
 use Rattle.lx_types.specs.Names.{IsName}
 use Rattle.obj_types.specs.declared.object.Seg.{Seg}
 use Rattle.obj_types.specs.declared.object.Group.{Group}
@@ -25,7 +24,7 @@ use Rattle.omf_write.proofs.CommentsRead.{ReadyImport, ReadyExport}
 use Rattle.omf_write.proofs.DataRead.{ReadyPiece}
 use Rattle.omf_write.proofs.FixupsRead.{ReadyFix, Apart, Allowed}
 use Rattle.omf_write.proofs.GroupsRead.{ReadyGroup}
-use Rattle.omf_write.proofs.NamesRead.{IsThere, HasName, named, all_there}
+use Rattle.omf_write.proofs.NamesRead.{IsThere, named, all_there}
 use Rattle.omf_write.proofs.SegmentsRead.{ReadySeg, IsShort}
 use Rattle.omf_write.proofs.SymbolsRead.{ReadyExt, ReadyPub}
 
@@ -68,9 +67,10 @@ segs_there all front (s ∷ segs) rest is =
 
 groups_there : (all front : List (List ℕ)) (groups : List Group) → all ≡ front ++ group_names groups → AllByRecursion (λ (g : Group). IsThere (with_names [] all) g.name) groups
 groups_there all front [] is = tt
-groups_there all front (g ∷ groups) is =
-    (subst (λ (ns : List (List ℕ)). IsThere (with_names [] ns) g.name) (sym is) (all_there front (group_names groups) [] g.name),
-      groups_there all (front ++ g.name ∷ []) groups (is ∙ sym (append_assoc front (g.name ∷ []) (group_names groups))))
+groups_there all front (g ∷ groups) is = (
+  subst (λ (ns : List (List ℕ)). IsThere (with_names [] ns) g.name) (sym is) (all_there front (group_names groups) [] g.name),
+  groups_there all (front ++ g.name ∷ []) groups (is ∙ sym (append_assoc front (g.name ∷ []) (group_names groups))),
+)
 
 -- ---- items
 
@@ -141,9 +141,10 @@ ready_fixes m can fits = ready_fixes_by m m.fixes (recursion_from_All (WholeFix 
 
 pairs_of : (fixes : List FixAt) → AllPairs Apart fixes → Pairs Apart fixes
 pairs_of [] all = tt
-pairs_of (f ∷ fixes) all =
-    (recursion_from_All (Apart f) fixes (λ k d lt. all 0 (suc k) d (omega arith) (omega (arith, lt))),
-      pairs_of fixes (λ i j d below lt. all (suc i) (suc j) d (omega (arith, below)) (omega (arith, lt))))
+pairs_of (f ∷ fixes) all = (
+  recursion_from_All (Apart f) fixes (λ k d lt. all 0 (suc k) d (omega arith) (omega (arith, lt))),
+  pairs_of fixes (λ i j d below lt. all (suc i) (suc j) d (omega (arith, below)) (omega (arith, lt))),
+)
 
 pub allowed : (m : ObjModule) → WholeModule m → Allowed m.fixes
 allowed m whole = record { apart = pairs_of m.fixes whole.apart; few = whole.fix_limit }

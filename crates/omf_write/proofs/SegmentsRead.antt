@@ -1,26 +1,23 @@
 -- Written names, segments and groups are read as what they were.
-use Rattle.std.proofs.Common.{◌≡◌, ◌≢◌, ℕ, zero, suc, ◌+◌, ◌*◌, ◌/◌, ◌%◌, ◌<◌, ◌≤◌, Bool, true, false, cond, eqb, List, [], ◌∷◌, ◌++◌, length, Option, Some, None, refl, sym, ap, subst, ◌∙◌, arith, length-append}
+use Rattle.std.proofs.Common.{◌≡◌, ◌≢◌, ℕ, ◌+◌, ◌*◌, ◌/◌, ◌%◌, ◌<◌, ◌≤◌, Bool, true, false, cond, List, [], ◌∷◌, ◌++◌, length, Some, None, refl, sym, ap, subst, ◌∙◌, arith, length-append}
 use Rattle.std.proofs.lemmas.Bool.Decides.{nat_tests}
-use Rattle.std.proofs.lemmas.Slice.Eq.{bytes_eq-Decides}
-use Rattle.std.specs.Prelude.{◌&&◌, not, nat_le, ◌==◌, bytes_eq, codes}
+use Rattle.std.specs.Prelude.{◌&&◌, not, nat_le, ◌==◌}
 use Rattle.std.specs.List.{AllByRecursion, flat_map}
 use Rattle.lx_bytes.specs.LittleEndian.{little_bytes}
 use Rattle.lx_bytes.proofs.Numbers.{length-little_bytes}
 use Rattle.obj_types.specs.declared.object.Seg.{Seg}
-use Rattle.obj_types.specs.declared.object.Group.{Group}
 use Rattle.obj_types.specs.declared.object.ObjModule.{ObjModule}
-use Rattle.obj_types.specs.declared.parts.LastData.{LastData}
 use Rattle.obj_types.specs.declared.parts.LastData.TheVariants as datas
 use Rattle.obj_types.specs.declared.parts.ObjParts.{ObjParts}
 use Rattle.obj_types.specs.Whole.{WholeSeg}
-use Rattle.omf_fields.specs.Forms.{Form, ◌then◌, anything, nothing, present, byte, number, name, index, each}
-use Rattle.omf_model.specs.Record.{Record, lnames, segdef, grpdef, SegDef, align_of, combine_of, is_big, is_use32, is_too_long, are_attributes}
-use Rattle.omf_model.specs.Items.{name_with, seg_of, is_debug, group_of}
+use Rattle.omf_fields.specs.Forms.{Form, ◌then◌, anything, nothing, present, byte, number, name, index}
+use Rattle.omf_model.specs.Record.{lnames, segdef, SegDef, align_of, combine_of, is_big}
+use Rattle.omf_model.specs.Items.{name_with, seg_of, is_debug}
 use Rattle.omf_model.specs.Fixups.{unset}
 use Rattle.omf_model.specs.Add.{add}
-use Rattle.omf_model.specs.Spelling.{Spells, contents_form}
-use Rattle.omf_model.specs.Good.{GoodAfter, GoodSegDef}
-use Rattle.omf_write.specs.Framed.{record_of, name_bytes}
+use Rattle.omf_model.specs.Spelling.{contents_form}
+use Rattle.omf_model.specs.Good.{GoodSegDef}
+use Rattle.omf_write.specs.Framed.{name_bytes}
 use Rattle.omf_write.specs.ObjectNames.{NameList, texts, name_index}
 use Rattle.omf_write.specs.ObjectBytes.{index_bytes, bit, lnames_record, attributes_of, place_bytes, segdef_bytes, segdef_record}
 use Rattle.omf_write.specs.Writable.{IsNoDebug}
@@ -129,7 +126,7 @@ seg_spelled names s few ready =
     let first : f1 b1 = both (number 4 s.len) f2 (little_bytes 4 s.len) b2 (omega (arith, len), refl) second in
     let place = placed (s.align == 0) f1 b1 first in
     let here : (present (align_of (attributes_of s) == 0) (number 2) (def_of names s).frame then present (align_of (attributes_of s) == 0) byte (def_of names s).offset then f1) (place_bytes s.align ++ b1)
-        = subst (λ (k : ℕ). (present (k == 0) (number 2) (def_of names s).frame then present (k == 0) byte (def_of names s).offset then f1) (place_bytes s.align ++ b1)) (sym a.align_is) place in
+    = subst (λ (k : ℕ). (present (k == 0) (number 2) (def_of names s).frame then present (k == 0) byte (def_of names s).offset then f1) (place_bytes s.align ++ b1)) (sym a.align_is) place in
     (not_long (attributes_of s) (s.len == 0) a.no_big, both (byte (attributes_of s)) _ (attributes_of s ∷ []) (place_bytes s.align ++ b1) (a.small, refl) here)
 
 place_len : (b : Bool) → length {A = ℕ} (cond b (0 ∷ 0 ∷ 0 ∷ []) []) ≤ 3
@@ -161,7 +158,7 @@ seg_meant names s ready =
     let wide = bit_is s.wide (attributes_of s % 2) a.use32 in
     let len = same_len (attributes_of s) s.len a.no_big in
     let debug : is_debug (name_with (texts names) (name_index names s.name)) (name_with (texts names) (name_index names s.class)) ≡ s.debug
-        = (λ i. is_debug (n i) (c i)) ∙ ready.no_debug.1 ∙ sym ready.no_debug.0 in
+    = (λ i. is_debug (n i) (c i)) ∙ ready.no_debug.1 ∙ sym ready.no_debug.0 in
     λ i. record { name = n i; class = c i; align = a.align_is i; combine = a.combine_is i; wide = wide i; len = len i; debug = debug i }
 
 good_seg : (names : NameList) (s : Seg) (m : ObjModule) → ReadySeg names s → GoodSegDef (parts (texts names) m) (def_of names s)
@@ -169,8 +166,8 @@ good_seg names s m ready =
     let a = attributes_are s ready.whole in
     record {
       attributes = subst (λ (k : ℕ). (nat_le k 5 && not (combine_of (attributes_of s) == 1) && not (combine_of (attributes_of s) == 3)) ≡ true) (sym a.align_is)
-      (subst (λ (k : ℕ). (nat_le s.align 5 && not (k == 1) && not (k == 3)) ≡ true) (sym a.combine_is)
-      (allowed s.align s.combine ready.whole.align ready.whole.not_reserved.0 ready.whole.not_reserved.1));
+          (subst (λ (k : ℕ). (nat_le s.align 5 && not (k == 1) && not (k == 3)) ≡ true) (sym a.combine_is)
+          (allowed s.align s.combine ready.whole.align ready.whole.not_reserved.0 ready.whole.not_reserved.1));
       name = (ready.name.low, ready.name.high);
       class = (ready.class.low, ready.class.high);
       overlay = omega arith;

@@ -1,5 +1,5 @@
 -- Written externals and publics are read as what they were.
-use Rattle.std.proofs.Common.{◌≡◌, ◌≢◌, ℕ, ◌+◌, ◌<◌, ◌≤◌, Bool, true, false, cond, eqb, List, [], ◌∷◌, ◌++◌, length, Option, Some, None, refl, sym, ap, subst, ◌∙◌, arith, length-append}
+use Rattle.std.proofs.Common.{◌≡◌, ℕ, ◌<◌, ◌≤◌, Bool, true, false, cond, List, [], ◌∷◌, ◌++◌, length, None, refl, sym, ap, subst, arith, length-append}
 use Rattle.std.proofs.lemmas.Bool.Decides.{nat_tests}
 use Rattle.std.specs.Prelude.{◌==◌}
 use Rattle.std.specs.List.{AllByRecursion, flat_map}
@@ -12,12 +12,10 @@ use Rattle.obj_types.specs.declared.symbol.Pub.{Pub}
 use Rattle.obj_types.specs.declared.symbol.PubPlace.{PubPlace}
 use Rattle.obj_types.specs.declared.symbol.PubPlace.TheVariants.{In, Const}
 use Rattle.obj_types.specs.Whole.{WholePlace}
-use Rattle.omf_fields.specs.Forms.{Form, ◌then◌, nothing, present, byte, number, name, index, each}
+use Rattle.omf_fields.specs.Forms.{Form, ◌then◌, nothing, present, number, name, index, each}
 use Rattle.omf_model.specs.Record.{Record, extdef, ExtDef, pubdef, PubDef}
 use Rattle.omf_model.specs.Add.{add}
-use Rattle.omf_model.specs.Items.{pub_of}
 use Rattle.omf_model.specs.Spelling.{contents_form, ext_form, pub_form}
-use Rattle.omf_model.specs.Good.{GoodPubDef}
 use Rattle.omf_write.specs.Framed.{record_of, name_bytes}
 use Rattle.omf_write.specs.ObjectBytes.{index_bytes, extdef_record, pubdef_bytes, pubdef_record}
 use Rattle.omf_write.specs.ObjectFits.{PlaceFits}

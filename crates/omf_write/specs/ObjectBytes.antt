@@ -1,7 +1,7 @@
 -- The bytes of an object file: one record for each name, segment, group, external, public, import, export and
 -- default library, and for each piece of data its record and those of its fixups.
 -- "Relocatable Object Module Format", the sections of the record types.
-use Rattle.std.specs.Prelude.{ℕ, zero, suc, ◌+◌, ◌-◌, ◌*◌, ◌/◌, ◌%◌, Bool, true, false, ◌&&◌, not, List, [], ◌∷◌, ◌++◌, length, take, drop, Option, Some, None, nat_lt, nat_le, ◌==◌, if◌then◌else◌}
+use Rattle.std.specs.Prelude.{ℕ, zero, suc, ◌+◌, ◌-◌, ◌*◌, ◌/◌, ◌%◌, Bool, ◌&&◌, not, List, [], ◌∷◌, ◌++◌, length, take, drop, Option, Some, None, nat_lt, nat_le, ◌==◌, if◌then◌else◌}
 use Rattle.std.specs.List.{flat_map, prefix_len}
 use Rattle.lx_bytes.specs.LittleEndian.{little_bytes}
 use Rattle.obj_types.specs.declared.object.Seg.{Seg}

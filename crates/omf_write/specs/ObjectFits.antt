@@ -1,5 +1,5 @@
 -- What the types of a module's fields say: names fit a length byte, and numbers their fields.
-use Rattle.std.specs.Prelude.{ℕ, ◌<◌, ◌^◌, IfSome}
+use Rattle.std.specs.Prelude.{◌<◌, ◌^◌, IfSome}
 use Rattle.std.specs.List.{AllByRecursion}
 use Rattle.lx_types.specs.Names.{IsName}
 use Rattle.obj_types.specs.declared.object.Seg.{Seg}

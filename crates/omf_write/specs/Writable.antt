@@ -1,8 +1,7 @@
 -- Which modules can be written as an object file of plain records.
-use Rattle.std.specs.Prelude.{◌≡◌, ◌≢◌, ℕ, ◌≤◌, ◌<◌, true, false, List, [], ◌∷◌, ◌++◌, length, Option, None}
+use Rattle.std.specs.Prelude.{◌≡◌, ◌≢◌, ◌≤◌, ◌<◌, true, false, List, [], ◌∷◌, ◌++◌, length, None}
 use Rattle.std.specs.List.{AllByRecursion}
 use Rattle.obj_types.specs.declared.object.Seg.{Seg}
-use Rattle.obj_types.specs.declared.object.Group.{Group}
 use Rattle.obj_types.specs.declared.object.Piece.{Piece}
 use Rattle.obj_types.specs.declared.object.FixAt.{FixAt}
 use Rattle.obj_types.specs.declared.object.ObjModule.{ObjModule}

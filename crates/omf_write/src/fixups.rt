@@ -65,7 +65,12 @@ fn goal_index(goal: Goal) -> u32
 
 /// Writes a fix byte and what it says stands behind it: the indices of frame and target, and a displacement of 4
 /// bytes.
-pub fn push_fix_data(out: &mut Vec<u8>, frame: Frame, goal: Goal, disp: u32) -> Result<(), AllocError>
+pub fn push_fix_data(
+    out: &mut Vec<u8>,
+    frame: Frame,
+    goal: Goal,
+    disp: u32,
+) -> Result<(), AllocError>
     ensures is { OnOk result (out.new.items ≡ out.old.items ++ fix_data_bytes frame goal disp) }
     ensures fits { disp < 2 ^ 32 }
 {
@@ -130,7 +135,12 @@ fn fixups_at(fixes: &[FixAt], place: usize) -> &[FixAt]
 }
 
 /// Writes the fixups on a data record whose data begins at an offset of the segment, 64 to a record.
-pub fn push_fixups(alloc: Global, out: &mut Vec<u8>, from: u32, fixes: &[FixAt]) -> Result<(), NoMemory>
+pub fn push_fixups(
+    alloc: Global,
+    out: &mut Vec<u8>,
+    from: u32,
+    fixes: &[FixAt],
+) -> Result<(), NoMemory>
     ensures { OnOk result (out.new.items ≡ out.old.items ++ fixupp_records (records_needed fixes.now) from fixes.now) }
 {
     let count = (fixes.len() + (PER_RECORD - 1)) / PER_RECORD;

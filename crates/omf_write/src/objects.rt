@@ -1,7 +1,7 @@
 //! Object files ("Relocatable Object Module Format").
 
 ghost use Rattle.std.specs.Prelude.{◌≡◌, ◌++◌, ◌≤◌, ◌<◌, ◌^◌, OnOk, IfOk, IfSome, length};
-ghost use Rattle.omf_model.specs.Object.{IsModule};
+ghost use Rattle.omf_model.specs.Object.{IsModule, Obj};
 ghost use Rattle.omf_write.specs.Framed.{record_of, name_bytes};
 ghost use Rattle.omf_write.specs.ObjectBytes.{segment_records, symbol_records, body_records, start_bytes, end_record, object_bytes};
 ghost use Rattle.omf_write.specs.ObjectFits.{SegmentsFit, SymbolsFit, StartFits, ObjectFits};
@@ -116,6 +116,7 @@ pub fn object(alloc: Global, m: &ObjModule) -> Result<Vec<u8>, NoMemory>
     requires { IsWritable m.now }
     ensures written { IfOk result (λ bytes. bytes.items ≡ object_bytes m.now) }
     ensures read { IfOk result (λ bytes. IsModule bytes.items m.now) }
+    ensures file { IfOk result (λ bytes. Obj bytes.items m.now) }
 {
     written(alloc, m)
 }

@@ -77,7 +77,12 @@ fn ledata_contents(alloc: Global, piece: &Piece) -> Result<Vec<u8>, NoMemory>
 
 /// Writes a record for each piece, of at most 1,024 bytes, and behind it those of the fixups on it, which stand in the
 /// order of their pieces.
-pub fn push_data(alloc: Global, out: &mut Vec<u8>, pieces: &[Piece], fixes: &[FixAt]) -> Result<(), NoMemory>
+pub fn push_data(
+    alloc: Global,
+    out: &mut Vec<u8>,
+    pieces: &[Piece],
+    fixes: &[FixAt],
+) -> Result<(), NoMemory>
     requires { AllByRecursion (λ (p : PieceOf). length p.bytes ≤ 1024) pieces.now }
     ensures is { OnOk result (out.new.items ≡ out.old.items ++ data_records pieces.now fixes.now) }
     ensures fits { OnOk result (AllByRecursion PieceFits pieces.now) }

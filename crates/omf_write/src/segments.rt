@@ -43,7 +43,12 @@ fn segdef_contents(alloc: Global, names: &NameTable<u8>, seg: &Seg) -> Result<Ve
 }
 
 /// Writes a record for each segment.
-pub fn push_segments(alloc: Global, out: &mut Vec<u8>, names: &NameTable<u8>, segs: &[Seg]) -> Result<(), NoMemory>
+pub fn push_segments(
+    alloc: Global,
+    out: &mut Vec<u8>,
+    names: &NameTable<u8>,
+    segs: &[Seg],
+) -> Result<(), NoMemory>
     requires { length names.now ≤ 32767 }
     ensures is { OnOk result (out.new.items ≡ out.old.items ++ flat_map (segdef_record names.now) segs.now) }
     ensures fits { OnOk result (AllByRecursion SegFits segs.now) }
@@ -79,7 +84,12 @@ fn grpdef_contents(alloc: Global, names: &NameTable<u8>, group: &Group) -> Resul
 }
 
 /// Writes a record for each group, which has room for its members.
-pub fn push_groups(alloc: Global, out: &mut Vec<u8>, names: &NameTable<u8>, groups: &[Group]) -> Result<(), NoMemory>
+pub fn push_groups(
+    alloc: Global,
+    out: &mut Vec<u8>,
+    names: &NameTable<u8>,
+    groups: &[Group],
+) -> Result<(), NoMemory>
     requires few { length names.now ≤ 32767 }
     requires room { AllByRecursion (λ g. length (grpdef_bytes names.now g) < 65535) groups.now }
     ensures is { OnOk result (out.new.items ≡ out.old.items ++ flat_map (grpdef_record names.now) groups.now) }

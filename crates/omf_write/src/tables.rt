@@ -22,7 +22,12 @@ pub struct NameRecords {
 
 // Adds a name and its record, unless the name is there.
 #[tactic(auto, using(crate::proofs::NamesRead::found, crate::proofs::NamesRead::not_found, crate::proofs::NamesRead::one_more_record))]
-fn add_name(alloc: Global, names: &mut NameTable<u8>, records: &mut Vec<u8>, name: &[u8]) -> Result<(), NoMemory>
+fn add_name(
+    alloc: Global,
+    names: &mut NameTable<u8>,
+    records: &mut Vec<u8>,
+    name: &[u8],
+) -> Result<(), NoMemory>
     requires short { length name.now ≤ 255 }
     requires so_far { records.old.items ≡ name_records names.old }
     ensures table { OnOk result (names.new ≡ with_entry names.old name.now 0) }
@@ -39,7 +44,12 @@ fn add_name(alloc: Global, names: &mut NameTable<u8>, records: &mut Vec<u8>, nam
 }
 
 // Adds the names of segments and of their classes.
-fn add_segments(alloc: Global, names: &mut NameTable<u8>, records: &mut Vec<u8>, segs: &[Seg]) -> Result<(), NoMemory>
+fn add_segments(
+    alloc: Global,
+    names: &mut NameTable<u8>,
+    records: &mut Vec<u8>,
+    segs: &[Seg],
+) -> Result<(), NoMemory>
     requires { records.old.items ≡ name_records names.old }
     ensures table { OnOk result (names.new ≡ with_names names.old (seg_names segs.now)) }
     ensures records { OnOk result (records.new.items ≡ name_records names.new) }
@@ -52,7 +62,12 @@ fn add_segments(alloc: Global, names: &mut NameTable<u8>, records: &mut Vec<u8>,
 }
 
 // Adds the names of groups.
-fn add_groups(alloc: Global, names: &mut NameTable<u8>, records: &mut Vec<u8>, groups: &[Group]) -> Result<(), NoMemory>
+fn add_groups(
+    alloc: Global,
+    names: &mut NameTable<u8>,
+    records: &mut Vec<u8>,
+    groups: &[Group],
+) -> Result<(), NoMemory>
     requires { records.old.items ≡ name_records names.old }
     ensures table { OnOk result (names.new ≡ with_names names.old (group_names groups.now)) }
     ensures records { OnOk result (records.new.items ≡ name_records names.new) }
