@@ -2,7 +2,6 @@
 
 ghost use Rattle.std.specs.Prelude.{◌≡◌, ◌+◌, ◌++◌, ◌≤◌, OnOk, IfOk, length};
 ghost use Rattle.omf_model.specs.Object.{IsModule};
-ghost use Rattle.omf_write.specs.Framed.{name_bytes};
 ghost use Rattle.omf_write.specs.ImportModule.{ImportFits, NamesFit, EntryFits, import_comment, entry_bytes, import_bytes, import_object};
 
 use crate::fields::push_name;

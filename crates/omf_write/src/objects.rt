@@ -1,9 +1,9 @@
 //! Object files ("Relocatable Object Module Format").
 
-ghost use Rattle.std.specs.Prelude.{◌≡◌, ◌++◌, ◌≤◌, ◌<◌, ◌^◌, OnOk, IfOk, IfSome, length};
+ghost use Rattle.std.specs.Prelude.{◌≡◌, ◌++◌, ◌≤◌, ◌<◌, OnOk, IfOk, IfSome, length};
 ghost use Rattle.omf_model.specs.Object.{IsModule, Obj};
 ghost use Rattle.omf_write.specs.Framed.{record_of, name_bytes};
-ghost use Rattle.omf_write.specs.ObjectBytes.{segment_records, symbol_records, body_records, start_bytes, end_record, object_bytes};
+ghost use Rattle.omf_write.specs.ObjectBytes.{segment_records, symbol_records, start_bytes, end_record, object_bytes};
 ghost use Rattle.omf_write.specs.ObjectFits.{SegmentsFit, SymbolsFit, StartFits, ObjectFits};
 ghost use Rattle.omf_write.specs.ObjectNames.{names_of};
 ghost use Rattle.omf_write.specs.Writable.{IsWritable};
@@ -112,6 +112,7 @@ fn written(alloc: Global, m: &ObjModule) -> Result<Vec<u8>, NoMemory>
 /// and groups, no debug segment, no local or communal name and no constant. A group's record has room for its
 /// members, an import fits `import_module`, and an export has an internal name. A piece has at most 1,024 bytes. Each
 /// fixup lies within one piece and shares no byte with another, and the fixups stand in the order of their pieces.
+/// `NoMemory` comes only where memory is short.
 pub fn object(alloc: Global, m: &ObjModule) -> Result<Vec<u8>, NoMemory>
     requires { IsWritable m.now }
     ensures written { IfOk result (λ bytes. bytes.items ≡ object_bytes m.now) }

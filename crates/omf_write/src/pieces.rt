@@ -4,7 +4,7 @@ ghost use Rattle.std.specs.Prelude.{◌≡◌, ◌++◌, ◌+◌, ◌≤◌, ◌
 ghost use Rattle.std.specs.List.{AllByRecursion, prefix_len};
 ghost use Rattle.obj_types.specs.declared.object.Piece.{Piece as PieceOf};
 ghost use Rattle.obj_types.specs.Location.{location_len};
-ghost use Rattle.omf_write.specs.ObjectBytes.{lies_on, ledata_bytes, ledata_record, data_records};
+ghost use Rattle.omf_write.specs.ObjectBytes.{lies_on, ledata_bytes, data_records};
 ghost use Rattle.omf_write.specs.ObjectFits.{PieceFits};
 
 use crate::fields::push_index;

@@ -1,8 +1,7 @@
 //! The records of externals and publics ("8Ch EXTDEF", "90h PUBDEF").
 
-ghost use Rattle.std.specs.Prelude.{◌≡◌, ◌++◌, ◌≤◌, ◌<◌, IfOk, OnOk, length};
+ghost use Rattle.std.specs.Prelude.{◌≡◌, ◌++◌, ◌≤◌, IfOk, OnOk, length};
 ghost use Rattle.std.specs.List.{AllByRecursion, flat_map};
-ghost use Rattle.omf_write.specs.Framed.{name_bytes};
 ghost use Rattle.omf_write.specs.ObjectBytes.{extdef_bytes, extdef_record, pubdef_bytes, pubdef_record};
 ghost use Rattle.omf_write.specs.ObjectFits.{ExtFits, PlaceFits, PubFits};
 

@@ -1,6 +1,6 @@
 //! The names of a module, each once ("96h LNAMES").
 
-ghost use Rattle.std.specs.Prelude.{◌≡◌, ◌++◌, ◌≤◌, IfOk, OnOk, length};
+ghost use Rattle.std.specs.Prelude.{◌≡◌, ◌≤◌, IfOk, OnOk, length};
 ghost use Rattle.first_table.specs.Entries.{with_entry};
 ghost use Rattle.omf_write.specs.ObjectBytes.{name_records};
 ghost use Rattle.omf_write.specs.ObjectNames.{with_names, seg_names, group_names, names_of, name_index};
