@@ -1,0 +1,16 @@
+pub mod Given
+pub mod Sizes
+pub mod Objects
+pub mod Groups
+pub mod Forms
+pub mod Known
+pub mod NameOffsets
+pub mod Exports
+pub mod Names
+pub mod Entries
+pub mod Records
+pub mod Targets
+pub mod Places
+pub mod ImagesFit
+pub mod TablePages
+pub mod RawBytes

@@ -1,0 +1,6 @@
+//! Laws over whole links: that the image of every input that links fits the format, so that its file is read again.
+#![tactic(auto)]
+
+mod laws;
+
+pub use laws::{linked_files_are_read, linked_images_fit};
