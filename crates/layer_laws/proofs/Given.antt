@@ -34,6 +34,7 @@ pub record Given (l : Link) : Type 0 where
   pub stem_range : IsName l.stem
   pub sym_none : sym_refusal l ≡ None
   pub lay_none : lay_refusal l ≡ None
+  pub place_none : place_refusal l ≡ None
   pub entry_none : entry_refusal l ≡ None
 
 -- ---- the chosen modules of an input
@@ -56,6 +57,7 @@ picks_in_range input (pick ∷ picks) range =
 record NoRefusal (l : Link) : Type 0 where
   sym_none : sym_refusal l ≡ None
   lay_none : lay_refusal l ≡ None
+  place_none : place_refusal l ≡ None
   entry_none : entry_refusal l ≡ None
 
 none_of : (l : Link) → link_refusal l ≡ None → NoRefusal l
@@ -68,6 +70,7 @@ none_of l e =
     record {
       sym_none = not_mapped Sym (sym_refusal l) first.0;
       lay_none = not_mapped Lay (lay_refusal l) second.0;
+      place_none = not_mapped Fixing (place_refusal l) third.0;
       entry_none = not_mapped Entry (entry_refusal l) fourth.0;
     }
 
@@ -85,6 +88,7 @@ given_by input picks links =
       stem_range = links.range.stem;
       sym_none = none.sym_none;
       lay_none = none.lay_none;
+      place_none = none.place_none;
       entry_none = none.entry_none;
     }
 

@@ -14,3 +14,8 @@ pub mod Places
 pub mod ImagesFit
 pub mod TablePages
 pub mod RawBytes
+pub mod PageSources
+pub mod MeanBytes
+pub mod FixedBytes
+pub mod RecordBytes
+pub mod LoadedPages

@@ -1,6 +1,7 @@
 //! Laws over the definitions, each the contract of a function that does nothing.
 
 ghost use Rattle.layer_laws.specs.LinkedImages.{LinkedFilesRead, LinkedImagesFit};
+ghost use Rattle.layer_laws.specs.LoadedBytes.{PlainBytesLoaded};
 
 /// The image of every input that links fits the format, where its file is shorter than 2^32 bytes.
 pub fn linked_images_fit()
@@ -11,4 +12,10 @@ pub fn linked_images_fit()
 /// link's image, with the link's name, flags, start, objects, import modules and entries.
 pub fn linked_files_are_read()
     ensures { LinkedFilesRead }
+{}
+
+/// Wherever a module that was linked is loaded, its bytes are those that the link means at each place that no fixup left to
+/// the loader covers: data of plain, iterated and zero-filled pages, and what the linker patched.
+pub fn plain_bytes_are_loaded()
+    ensures { PlainBytesLoaded }
 {}

@@ -3,4 +3,4 @@
 
 mod laws;
 
-pub use laws::{linked_files_are_read, linked_images_fit};
+pub use laws::{linked_files_are_read, linked_images_fit, plain_bytes_are_loaded};
