@@ -1,5 +1,5 @@
 -- The exports of a link fit the name tables and the entry table.
-use Rattle.std.specs.Prelude.{◌≡◌, ◌≢◌, ℕ, suc, ◌+◌, ◌<◌, ◌≤◌, ◌^◌, ◌×◌, Bool, true, false, not, ◌||◌, nat_lt, List, [], ◌∷◌, Option, Some, None, length, slice_get, is_some, unwrap_or, bytes_eq, sum_by, refl}
+use Rattle.std.specs.Prelude.{◌≡◌, ◌≢◌, ℕ, suc, ◌+◌, ◌<◌, ◌≤◌, ◌^◌, Bool, true, false, not, ◌||◌, nat_lt, List, [], ◌∷◌, Option, Some, None, length, slice_get, is_some, unwrap_or, bytes_eq, sum_by, refl}
 use Rattle.std.specs.List.{All, AllByRecursion, filter_map, zip, position}
 use Rattle.std.specs.Option.{option_map, option_and_then}
 use Rattle.std.proofs.Common.{ap, sym, ◌∙◌, arith, subst, true≢false, take}

@@ -136,8 +136,8 @@ index-from a b i from =
     elim (cases_lt a b) as (λ s. index_in (pos a -ℤ pos b) i ≡ Some (b + i - a)) [
       | inl below ↦ ap (λ (z : ℤ). index_in z i) (sym (place_before a b below)) ∙ ap (λ (n : ℕ). Some n) (let e : i + suc (b - a - 1) ≡ b + i - a = omega (arith, below) in e)
       | inr past ↦
-        ap (λ (z : ℤ). index_in z i) (sym (place_is a b past)) ∙ ap (λ (t : Bool). cond t (Some (i - (a - b))) None) (le_true (a - b) i (omega (arith, from, past)))
-        ∙ ap (λ (n : ℕ). Some n) (let e : i - (a - b) ≡ b + i - a = omega (arith, past, from) in e)
+          ap (λ (z : ℤ). index_in z i) (sym (place_is a b past)) ∙ ap (λ (t : Bool). cond t (Some (i - (a - b))) None) (le_true (a - b) i (omega (arith, from, past)))
+          ∙ ap (λ (n : ℕ). Some n) (let e : i - (a - b) ≡ b + i - a = omega (arith, past, from) in e)
     ]
 
 -- Behind its field a source puts nothing.

@@ -1,5 +1,5 @@
 -- What the imports, the exports and the places of a link have.
-use Rattle.std.specs.Prelude.{◌≡◌, ◌≢◌, ℕ, zero, suc, ◌+◌, ◌<◌, ◌≤◌, ◌^◌, ◌×◌, Bool, true, false, cond, not, nat_lt, List, [], ◌∷◌, ◌++◌, Option, Some, None, map, filter, length, slice_get, bytes_eq, is_some, unwrap_or, sum_by, refl}
+use Rattle.std.specs.Prelude.{◌≡◌, ◌≢◌, ℕ, zero, suc, ◌+◌, ◌<◌, ◌≤◌, ◌^◌, Bool, true, false, cond, ◌||◌, not, nat_lt, List, [], ◌∷◌, ◌++◌, Option, Some, None, map, filter, length, slice_get, bytes_eq, is_some, unwrap_or, sum_by, refl}
 use Rattle.std.specs.List.{All, AllByRecursion, flat_map, filter_map, enumerate_from, list_any, zip}
 use Rattle.std.specs.Option.{option_map, option_and_then, IsSomeAnd}
 use Rattle.std.proofs.Common.{ap, sym, ◌∙◌, arith, subst, true≢false, inl, inr}
@@ -120,12 +120,12 @@ none_any : {X : Type 0} (test : X → Bool) (xs : List X) {x : X} → list_any t
 none_any test [] e i = elim i [ ]
 none_any test (y ∷ xs) e here = first (test y) (list_any test xs) e
   where
-    first : (a b : Bool) → (if a then true else b) ≡ false → a ≡ false
+    first : (a b : Bool) → (a || b) ≡ false → a ≡ false
     first true b e = absurd (true≢false e)
     first false b e = refl
 none_any test (y ∷ xs) e (there i) = none_any test xs (second (test y) (list_any test xs) e) i
   where
-    second : (a b : Bool) → (if a then true else b) ≡ false → b ≡ false
+    second : (a b : Bool) → (a || b) ≡ false → b ≡ false
     second true b e = absurd (true≢false e)
     second false b e = e
 

@@ -124,11 +124,15 @@ all_pages l = regroup l 1 (objects l)
 
 -- ---- one byte
 
+zero_behind : (n j : ℕ) → slice_index (replicate n 0) j ≡ 0
+zero_behind zero j = refl
+zero_behind (suc n) zero = refl
+zero_behind (suc n) (suc j) = zero_behind n j
+
 -- Zeros follow the data of a page.
 data_byte : (page : List ℕ) (i : ℕ) → slice_index (data_of page) i ≡ slice_index page i
 data_byte page i =
-    let d = data_of page in
-    by (nat_lt i (length d)) refl
+    by (nat_lt i (length (data_of page))) refl
   where
     by : (b : Bool) → nat_lt i (length (data_of page)) ≡ b → slice_index (data_of page) i ≡ slice_index page i
     by true is =
@@ -139,11 +143,6 @@ data_byte page i =
         get_or-eq_default (data_of page) 0 past
         ∙ sym (zero_behind (length page - length (data_of page)) (i - length (data_of page)))
         ∙ sym (get_or-append_right (data_of page) (replicate (length page - length (data_of page)) 0) (length (data_of page)) i 0 refl past) ∙ ap (λ (xs : List ℕ). get_or xs i 0) (data-filled page)
-      where
-        zero_behind : (n j : ℕ) → get_or (replicate n 0) j 0 ≡ 0
-        zero_behind zero j = get_or-eq_default [] 0 (omega arith)
-        zero_behind (suc n) zero = refl
-        zero_behind (suc n) (suc j) = zero_behind n j
 
 -- Byte i of page k of an object's bytes.
 page_item : (bytes : List ℕ) (k i : ℕ) → i < PAGE_SIZE → slice_index (page_in bytes k) i ≡ slice_index bytes (k * PAGE_SIZE + i)

@@ -12,6 +12,8 @@ use Rattle.lx_types.specs.declared.fix.FixTarget.{FixTarget}
 use Rattle.lx_types.specs.declared.object.PageId.{PageId}
 use Rattle.lx_types.specs.declared.object.TheConstants.{PAGE_SIZE}
 use Rattle.lx_types.specs.declared.parts.Parts.{Parts}
+use Rattle.lx_types.specs.Addresses.{address}
+use Rattle.lx_types.specs.Parts.{object_of}
 use Rattle.obj_types.specs.Location.{location_len}
 use Rattle.link_model.specs.Link.{Link}
 use Rattle.link_model.specs.Fixups.{Fixup}
@@ -20,9 +22,10 @@ use Rattle.link_model.specs.Patches.{recorded}
 use Rattle.link_model.specs.Records.{source_of, has_alias, target_and_additive, offset_on, record_on, stands_on, page_records}
 use Rattle.link_model.proofs.Members.{In, here, there, from_filter, from_map}
 use Rattle.lx_model.specs.Entries.{target_spot}
-use Rattle.lx_model.specs.Fixed.{field_bytes, bytes_for, bytes_if, patch_of, index_in, byte_if}
+use Rattle.lx_model.specs.Fixed.{spot_address, end_address, field_bytes, bytes_for, bytes_if, patch_of, index_in, byte_if}
 use Rattle.lx_model.specs.declared.library.EntryFault.{EntryFault}
 use Rattle.lx_model.specs.declared.library.Spot.{Spot}
+use Rattle.lx_model.specs.Library.{module_of}
 use Rattle.lx_model.specs.Sources.{source_size}
 use Rattle.image_model.specs.Linked.{fix_in_file}
 use Rattle.link_core.proofs.TargetsThere.{mapped, from_filter_map}
@@ -71,7 +74,9 @@ field-long Off32 alias flags v end_at = refl
 field-long Self32 alias flags v end_at = refl
 
 bytes_short : (lib : List Parts) (m : ℕ) (bases : Bases) (p : PageId) (f : Fix) (s : Result Spot EntryFault) → length (bytes_if lib m bases p f s) ≤ source_size f.source
-bytes_short lib m bases p f (Ok s) = let long = field-long f.source f.alias _ _ _ in omega (arith, long)
+bytes_short lib m bases p f (Ok s) =
+    let long = field-long f.source f.alias (object_of (module_of lib s.module) s.object).flags (address (spot_address bases s) f.additive) (end_address bases m p f) in
+    omega (arith, long)
 bytes_short lib m bases p f (Err e) = omega arith
 
 -- ---- the fixup of a record

@@ -1,5 +1,5 @@
 -- The fixup records of a link fit the record table, and their targets are there.
-use Rattle.std.specs.Prelude.{◌≡◌, ℕ, zero, suc, ◌+◌, ◌-◌, ◌<◌, ◌≤◌, ◌^◌, ◌×◌, ◌==◌, ◌&&◌, nat_lt, nat_le, Bool, true, false, cond, List, [], ◌∷◌, ◌++◌, Option, Some, None, map, filter, length, take, drop, slice_get, slice_index, is_some, unwrap_or, refl}
+use Rattle.std.specs.Prelude.{◌≡◌, ℕ, zero, suc, ◌+◌, ◌-◌, ◌<◌, ◌≤◌, ◌^◌, ◌==◌, ◌&&◌, nat_lt, nat_le, Bool, true, false, cond, List, [], ◌∷◌, ◌++◌, Option, Some, None, map, filter, length, take, drop, slice_get, slice_index, is_some, unwrap_or, refl}
 use Rattle.std.specs.List.{All, AllByRecursion, flat_map, filter_map, enumerate_from, range_with_len}
 use Rattle.std.specs.Option.{option_map, option_and_then}
 use Rattle.std.proofs.Common.{ap, sym, ◌∙◌, arith, subst, true≢false, length-append, append_assoc}
@@ -150,8 +150,8 @@ pub all-pages : (l : Link) (P : List Fix → Type 0) → ((n k : ℕ) → P (pag
 unfolding object_records
 all-pages l P all = all_objects P (page_records l) 1 (objects l) all
 
-pub in-all : {P : Fix → Type 0} (fs : List Fix) → All P fs → (f : Fix) → In f fs → P f
-in-all {P} fs all f i = by fs (recursion_from_All P fs all) i
+pub in-all : (P : Fix → Type 0) (fs : List Fix) → All P fs → (f : Fix) → In f fs → P f
+in-all P fs all f i = by fs (recursion_from_All P fs all) i
   where
     by : (xs : List Fix) → AllByRecursion P xs → In f xs → P f
     by [] each j = elim j [ ]
@@ -162,7 +162,7 @@ page_fits : (l : Link) → Given l → length (name_table (procs_in (link_pairs 
 page_fits l g short n k =
     let few = few-modules l g.sym_none in
     let fits = core.page-fits l n k g.lay_none g.whole in
-    let each = mapped-all l IsWritable (page_records l n k) (λ f i. writable l f few short (in-all (page_records l n k) fits f i) (page_ranged l g n k f i)) in
+    let each = mapped-all l IsWritable (page_records l n k) (λ f i. writable l f few short (in-all (core.RecordFits l) (page_records l n k) fits f i) (page_ranged l g n k f i)) in
     records_fit (map (fix_in_file l) (page_records l n k)) (All-from_recursion IsWritable (map (fix_in_file l) (page_records l n k)) each)
 
 pages_fit : (l : Link) (pages : List (List Fix)) → AllByRecursion (λ fs. AllByRecursion RecordFits (records_for (map (fix_in_file l) fs))) pages → AllByRecursion (AllByRecursion RecordFits) (map records_for (map (map (fix_in_file l)) pages))

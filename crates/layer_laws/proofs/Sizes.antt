@@ -28,7 +28,7 @@ use Rattle.link_model.proofs.KeyTests.{in_one_object}
 use Rattle.link_model.proofs.ExternalsMean.{neither}
 use Rattle.seg_parts.proofs.EndSums.{end-here, end-other, sum-more}
 use Rattle.seg_merge.proofs.RowLimits.{size-within}
-use Rattle.link_core.proofs.ObjectsThere.{count-objects, row_stands, row_there}
+use Rattle.link_core.proofs.ObjectsThere.{row_stands, row_there}
 
 -- ---- sums over numbers that follow each other
 
@@ -169,7 +169,21 @@ heads_within l (suc k) none count =
     let number = own_place l k last.item last.is (omega (arith, count)) in
     omega (arith, within, number)
 
+placed_long : (base : ℕ) (qs : List (ℕ × ℕ)) → length (placed_from base qs) ≡ length qs
+placed_long base [] = refl
+placed_long base (q ∷ qs) = ap suc (placed_long (base + room q.0) qs)
+
+numbered_long : {X Y : Type 0} (f : ℕ × X → Y) (b : ℕ) (xs : List X) → length (map f (enumerate_from b xs)) ≡ length xs
+numbered_long f b [] = refl
+numbered_long f b (x ∷ xs) = ap suc (numbered_long f (b + 1) xs)
+
+count_objects : (l : Link) → length (objects l) ≡ length (object_heads l)
+unfolding objects
+count_objects l =
+    let f : ℕ × Part → ℕ × ℕ = λ q. (end_in q.0 (rows l), flags_of l q.1) in
+    placed_long (first_base l) (map f (enumerate_from 1 (object_heads l))) ∙ numbered_long f 1 (object_heads l)
+
 -- There are at most 1,024 objects.
 pub few-objects : (l : Link) → lay_refusal l ≡ None → length (objects l) ≤ MAX_OBJECTS
 few-objects l none =
-    let count = count-objects l in let few = heads_within l (length (object_heads l)) none refl in omega (arith, count, few)
+    let count = count_objects l in let few = heads_within l (length (object_heads l)) none refl in omega (arith, count, few)

@@ -124,7 +124,7 @@ page_there l g n k =
     let fs = page_records l n k in
     let file : List Fix = map (fix_in_file l) fs in
     let fits = core.page-fits l n k g.lay_none g.whole in
-    let each = mapped-all l (λ f. IsThere l f.target) fs (λ f i. target_there l f.target (in-all fs fits f i).names) in
+    let each = mapped-all l (λ f. IsThere l f.target) fs (λ f i. target_there l f.target (in-all (core.RecordFits l) fs fits f i).names) in
     let written = flat_map fixes_written (records_for file) in
     let all = All-permutation (λ (f : Fix). IsThere l f.target) file written (records_keep_fixes file) (All-from_recursion (λ f. IsThere l f.target) file each) in
     targets_of_fixes l written (recursion_from_All (λ f. IsThere l f.target) written all)
