@@ -19,3 +19,7 @@ pub mod MeanBytes
 pub mod FixedBytes
 pub mod RecordBytes
 pub mod LoadedPages
+pub mod FieldsAgree
+pub mod LoadedFields
+pub mod InsideFields
+pub mod SelfFields

@@ -53,8 +53,8 @@ each_of : (P : Fix → Type 0) (fs : List Fix) → ((f : Fix) → In f fs → P 
 each_of P [] all = tt
 each_of P (f ∷ fs) all = (all f here, each_of P fs (λ g i. all g (there i)))
 
-stands_there : (n k : ℕ) (q : Fixup) → stands_on n k q ≡ true → q.object ≡ n
-stands_there n k q e =
+pub stands-there : (n k : ℕ) (q : Fixup) → stands_on n k q ≡ true → q.object ≡ n
+stands-there n k q e =
     let last = and_parts (q.object == n && nat_lt (k * PAGE_SIZE) (fixup_end q)) (nat_lt q.offset (k * PAGE_SIZE + PAGE_SIZE)) e in
     let first = and_parts (q.object == n) (nat_lt (k * PAGE_SIZE) (fixup_end q)) last.0 in
     eqb-true q.object n first.0
@@ -93,7 +93,7 @@ nothing_put l lib m loaded bases n x none f i =
     let r = of-fixup l n k f i in
     let q = r.fixup in
     ap (put lib m bases (page_with n x) (x % PAGE_SIZE)) r.is
-    ∙ put-outside lib m bases (page_with n x) n x k (x % PAGE_SIZE) l q r.target (location-some l q loaded.known r.inside) (in-page x) (stands_there n k q r.stands) (none_covers (fixup_covers n x) (recorded l) q none r.inside)
+    ∙ put-outside lib m bases (page_with n x) n x k (x % PAGE_SIZE) l q r.target (location-some l q loaded.known r.inside) (in-page x) (stands-there n k q r.stands) (none_covers (fixup_covers n x) (recorded l) q none r.inside)
 
 plain_byte : (l : Link) (lib : List Parts) (m : ℕ) → Loaded l lib m → (bases : Bases) (w : World) (i x : ℕ) (o : LaidObject) → slice_get (objects l) i ≡ Some o → x < o.size → NoneLeft l (suc i) x → FixedByte lib m bases (suc i) x ≡ Mean l w (suc i) x
 plain_byte l lib m loaded bases w i x o e below none =

@@ -1,6 +1,7 @@
 -- A module that a link wrote means the object files' bytes, wherever it is loaded.
-use Rattle.std.specs.Prelude.{◌≡◌, ℕ, ◌<◌, ◌^◌, Bool, false, List, length, Some}
+use Rattle.std.specs.Prelude.{◌≡◌, ℕ, ◌+◌, ◌%◌, ◌<◌, ◌≤◌, ◌^◌, Bool, false, List, length, Some}
 use Rattle.std.specs.List.{list_any}
+use Rattle.lx_types.specs.Addresses.{UNIT, SHARED_END}
 use Rattle.lx_types.specs.declared.bases.Bases.{Bases}
 use Rattle.lx_types.specs.declared.parts.Parts.{Parts}
 use Rattle.obj_types.specs.Items.{item}
@@ -10,6 +11,7 @@ use Rattle.link_model.specs.Link.{Link}
 use Rattle.link_model.specs.Layout.{objects}
 use Rattle.link_model.specs.Mean.{fixup_covers, Mean}
 use Rattle.link_model.specs.Patches.{recorded}
+use Rattle.lx_model.specs.Fixed.{base_of}
 use Rattle.lx_model.specs.Library.{module_of}
 use Rattle.lx_model.specs.Module.{parts_of}
 use Rattle.lx_model.specs.ModuleBytes.{FixedByte}
@@ -21,6 +23,12 @@ use Rattle.layer_laws.specs.LinkedImages.{Links}
 -- Module m of a library is the one that the link's file means.
 abbrev pub Holds : List Parts → ℕ → Link → Type 0
 Holds lib m l = module_of lib m ≡ parts_of (file_of (image_of l))
+
+-- Each object of module m stands at a multiple of 65,536, and ends at 20000000h at most.
+abbrev pub StandsWell : Link → Bases → ℕ → Type 0
+StandsWell l bases m =
+    (object : ℕ) (o : LaidObject) → item (objects l) object ≡ Some o
+    → (base_of bases m object % UNIT ≡ 0) × (base_of bases m object + o.size ≤ SHARED_END)
 
 -- The loaded byte is the one that the link means.
 abbrev pub MeansThere : Link → List Parts → ℕ → Bases → ℕ → ℕ → Type 0
