@@ -28,6 +28,7 @@ use Rattle.image_model.specs.Linked.{fix_in_file, page_fixes, fixup_records, ima
 use Rattle.image_model.specs.ObjectTable.{object_heads_from}
 use Rattle.image_model.specs.ReadBack.{targets_of, targets_there}
 use Rattle.image_model.specs.Sections.{sections, procs_at}
+use Rattle.image_model.proofs.RecordsRead.{spanned}
 use Rattle.image_model.proofs.Standing.{HasFrom, standing, behind}
 use Rattle.link_core.proofs.RecordsFit as core
 use Rattle.layer_laws.proofs.Given.{Given}
@@ -51,10 +52,10 @@ item_behind [] x rest (suc at) e = absurd (omega (arith, e))
 item_behind (b ∷ before) x rest zero e = absurd (omega (arith, e))
 item_behind (b ∷ before) x rest (suc at) e = item_behind before x rest at (omega (arith, e))
 
-some_when : (b : Bool) (name : List ℕ) → b ≡ true → is_some (cond b (Some name) None) ≡ true
-some_when b name e = ap (λ (t : Bool). is_some (cond t (Some name) None)) e
+some_when : (b : Bool) (name : List ℕ) → b ≡ true → cond b (Some name) None ≡ Some name
+some_when b name e = ap (λ (t : Bool). cond t (Some name) None) e
 
-name_stands : (file : List ℕ) (at : ℕ) (name rest : List ℕ) → HasFrom file at (name_bytes name ++ rest) → is_some (name_at file at) ≡ true
+name_stands : (file : List ℕ) (at : ℕ) (name rest : List ℕ) → HasFrom file at (name_bytes name ++ rest) → name_at file at ≡ Some name
 name_stands file at name rest has =
     let len : slice_index file at ≡ length name = ap (λ (f : List ℕ). slice_index f at) has.spelled ∙ item_behind has.before (length name) (name ++ rest) at has.long in
     let size : length file ≡ at + (1 + (length name + length rest)) =
@@ -63,6 +64,8 @@ name_stands file at name rest has =
     let n = slice_index file at in
     some_when (nat_lt at (length file) && nat_le (at + 1 + n) (length file)) (span file (at + 1) (at + 1 + n))
     (both (nat_lt at (length file)) (nat_le (at + 1 + n) (length file)) (lt_true at (length file) (omega (arith, size))) (le_true (at + 1 + n) (length file) (omega (arith, len, size))))
+    ∙ ap (λ (k : ℕ). Some (span file (at + 1) (at + 1 + k))) len
+    ∙ ap Some (spanned file (at + 1) name rest (behind file at (length name ∷ []) (name ++ rest) has))
 
 -- The table of names, from a name's offset on.
 split_at : (xs : List ℕ) (n : ℕ) (ys : List ℕ) → 0 < length ys → drop n xs ≡ ys → (xs ≡ take n xs ++ ys) × (length (take n xs) ≡ n)
@@ -82,12 +85,12 @@ table_from file at names k name rest is has =
     subst (λ (n : ℕ). HasFrom file (at + n) (name_bytes name ++ (tail ++ rest))) cut.1
     (subst (HasFrom file (at + length (take (name_offset names k) (name_table names)))) (append_assoc (name_bytes name) tail rest) moved)
 
-proc_stands : (l : Link) (k : ℕ) → k < length (procs_in (link_pairs l)) → is_some (name_at (file_of (image_of l)) (procs_at (sections (image_of l)) + name_offset (procs_in (link_pairs l)) k)) ≡ true
+-- A procedure name of a link stands in its file.
+pub proc-stands : (l : Link) (k : ℕ) (name : List ℕ) → slice_get (procs_in (link_pairs l)) k ≡ Some name → name_at (file_of (image_of l)) (procs_at (sections (image_of l)) + name_offset (procs_in (link_pairs l)) k) ≡ Some name
 unfolding sections image_of
-proc_stands l k below =
-    let name = item_at (procs_in (link_pairs l)) k below in
-    name_stands (file_of (image_of l)) (procs_at (sections (image_of l)) + name_offset (procs_in (link_pairs l)) k) name.item _
-    (table_from (file_of (image_of l)) (procs_at (sections (image_of l))) (procs_in (link_pairs l)) k name.item _ name.is (standing (image_of l)).procs)
+proc-stands l k name is =
+    name_stands (file_of (image_of l)) (procs_at (sections (image_of l)) + name_offset (procs_in (link_pairs l)) k) name _
+    (table_from (file_of (image_of l)) (procs_at (sections (image_of l))) (procs_in (link_pairs l)) k name _ is (standing (image_of l)).procs)
 
 -- ---- one target
 
@@ -104,7 +107,7 @@ target_there l (leads.Internal o x) names =
     ap (λ (n : ℕ). names_one_of n o) (objects-counted (objects l) 1) ∙ one_of (length (objects l)) o names.number
 target_there l (leads.Ordinal import n) names = one_of (length (modules_in (link_pairs l))) import names
 target_there l (leads.Named import k) names =
-    both (names_one_of (length (modules_in (link_pairs l))) import) _ (one_of (length (modules_in (link_pairs l))) import names.0) (proc_stands l k names.1)
+    both (names_one_of (length (modules_in (link_pairs l))) import) _ (one_of (length (modules_in (link_pairs l))) import names.0) (let name = item_at (procs_in (link_pairs l)) k names.1 in ap is_some (proc-stands l k name.item name.is))
 target_there l (leads.Own n) names = absurd names
 
 -- ---- all targets
