@@ -23,3 +23,5 @@ pub mod FieldsAgree
 pub mod LoadedFields
 pub mod InsideFields
 pub mod SelfFields
+pub mod ImportNames
+pub mod ImportFields
