@@ -1,9 +1,8 @@
 -- The bundles of a link's exports fit the entry table.
-use Rattle.std.specs.Prelude.{◌≡◌, ℕ, zero, suc, ◌+◌, ◌*◌, ◌<◌, ◌≤◌, ◌^◌, ◌==◌, Bool, true, false, List, [], ◌∷◌, ◌++◌, Option, Some, None, find, map, max, replicate, length, refl}
+use Rattle.std.specs.Prelude.{◌≡◌, ℕ, zero, suc, ◌<◌, ◌≤◌, ◌^◌, ◌==◌, Bool, true, false, List, [], ◌∷◌, ◌++◌, Option, Some, None, map, replicate, length, refl}
 use Rattle.std.specs.List.{AllByRecursion, flat_map, range_with_len}
 use Rattle.std.proofs.Common.{ap, sym, ◌∙◌, arith, subst, length-append}
 use Rattle.std.proofs.Math.Nat.{max-le}
-use Rattle.lx_types.specs.Sound.{IsNumberOf}
 use Rattle.lx_types.specs.declared.entry.EntryHead.{EntryHead}
 use Rattle.lx_types.specs.declared.entry.EntryHead.TheVariants as heads
 use Rattle.lx_types.specs.declared.entry.FwdKey.TheVariants as keys
@@ -13,7 +12,7 @@ use Rattle.link_model.specs.Layout.{objects}
 use Rattle.link_model.specs.ImportTables.{link_pairs, modules_in}
 use Rattle.lx_model.specs.EntryTable.{LAST_ORDINAL}
 use Rattle.lx_model.specs.Bundles.{AtEntry, GateEntry, ForwardEntry, Bundle, unused, narrow, gates, wide, forwarders, ordinal_count, ordinals_together, AtFits, GateFits, ForwardFits, ObjectFits, BodyFits, BundleFits}
-use Rattle.lx_model.specs.ExportTables.{Exported, Slot, empty, narrow_at, gate_at, wide_at, forwarder, entry_flags, head_slot, slot_of, slot_or_empty, export_at, greatest, slots, slots_of, MOST_ENTRIES, AreBundlesOf}
+use Rattle.lx_model.specs.ExportTables.{Exported, Slot, empty, narrow_at, gate_at, wide_at, forwarder, head_slot, slot_or_empty, export_at, greatest, slots_of, MOST_ENTRIES, AreBundlesOf}
 use Rattle.lx_model.specs.JoinedEntries.{bundles_for}
 use Rattle.lx_model.proofs.JoinedBundles.{bundles_joined}
 use Rattle.link_model.proofs.Members.{each_in, found_as}

@@ -1,10 +1,9 @@
 -- The exports of a link fit the name tables and the entry table.
-use Rattle.std.specs.Prelude.{◌≡◌, ◌≢◌, ℕ, suc, ◌+◌, ◌<◌, ◌≤◌, ◌^◌, Bool, true, false, not, ◌||◌, nat_lt, List, [], ◌∷◌, Option, Some, None, length, slice_get, is_some, unwrap_or, bytes_eq, sum_by, refl}
-use Rattle.std.specs.List.{All, AllByRecursion, filter_map, zip, position}
-use Rattle.std.specs.Option.{option_map, option_and_then}
-use Rattle.std.proofs.Common.{ap, sym, ◌∙◌, arith, subst, true≢false, take}
+use Rattle.std.specs.Prelude.{◌≡◌, ◌≢◌, ℕ, ◌+◌, ◌<◌, ◌≤◌, ◌^◌, Bool, true, false, not, ◌||◌, nat_lt, List, [], ◌∷◌, Option, Some, length, slice_get, is_some, unwrap_or, bytes_eq, refl}
+use Rattle.std.specs.List.{AllByRecursion, zip, position}
+use Rattle.std.specs.Option.{option_and_then}
+use Rattle.std.proofs.Common.{ap, sym, ◌∙◌, arith, subst, true≢false}
 use Rattle.std.proofs.lemmas.Bool.Decides.{nat_tests}
-use Rattle.std.proofs.lemmas.List.Elements.{recursion_from_All}
 use Rattle.lx_types.specs.Addresses.{UNIT, is_big}
 use Rattle.lx_types.specs.Names.{IsName, uppercase}
 use Rattle.lx_types.specs.Sound.{IsNumberOf}
@@ -18,14 +17,13 @@ use Rattle.lx_types.specs.declared.fix.FixTarget.{FixTarget}
 use Rattle.lx_types.specs.declared.fix.FixTarget.TheVariants as leads
 use Rattle.obj_types.specs.declared.symbol.Exp.{Exp}
 use Rattle.obj_types.specs.declared.symbol.Imp.{Imp}
-use Rattle.link_model.specs.declared.limits.TheConstants.{MAX_NUMBER, MAX_OBJECTS}
+use Rattle.link_model.specs.declared.limits.TheConstants.{MAX_NUMBER}
 use Rattle.link_model.specs.Link.{Link, exports}
 use Rattle.link_model.specs.Symbols.{imports, global}
-use Rattle.link_model.specs.Layout.{objects, object_flags}
-use Rattle.link_model.specs.LayoutRefusals.{lay_refusal}
+use Rattle.link_model.specs.Layout.{object_flags}
 use Rattle.link_model.specs.Goals.{Target, Internal, Constant, Entry, of_symbol}
-use Rattle.link_model.specs.Exports.{ExportTarget, At, Forward, Export, export_target, is_resident, is_wide, export_of, ordinals, asked_ordinals, Out}
-use Rattle.link_model.specs.ImportTables.{link_pairs, modules_in, procs_in, entry_target, import_target, name_bytes, name_table, name_offset, with_offset}
+use Rattle.link_model.specs.Exports.{ExportTarget, At, Forward, Export, export_target, is_wide, export_of, ordinals, asked_ordinals, Out}
+use Rattle.link_model.specs.ImportTables.{link_pairs, modules_in, procs_in, entry_target, import_target, name_table, name_offset, with_offset}
 use Rattle.link_model.proofs.Members.{In, here, there, in_at}
 use Rattle.link_model.proofs.FixupsStay.{global_there}
 use Rattle.lx_model.specs.ExportTables.{Exported}
@@ -36,7 +34,7 @@ use Rattle.link_core.proofs.FewImports.{export_with}
 use Rattle.link_core.proofs.RecordsFit.{AmongPairs, import-among}
 use Rattle.layer_laws.specs.Ranges.{KeyInRange}
 use Rattle.layer_laws.proofs.Given.{Given}
-use Rattle.layer_laws.proofs.Known.{KnownExport, known-export, known-import, small-ordinal, OffsetSmall, symbol-offset}
+use Rattle.layer_laws.proofs.Known.{known-export, known-import, small-ordinal, OffsetSmall, symbol-offset}
 use Rattle.layer_laws.proofs.NameOffsets.{offset-small}
 
 -- ---- targets by ordinal

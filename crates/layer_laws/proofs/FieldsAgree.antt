@@ -1,19 +1,16 @@
 -- A fixup record to a place in the link puts there what the fixup means.
-use Rattle.std.specs.Prelude.{◌≡◌, ℕ, ℤ, zero, suc, ◌+◌, ◌-◌, ◌*◌, ◌/◌, ◌%◌, ◌<◌, ◌≤◌, ◌^◌, ◌==◌, ◌&&◌, ◌||◌, nat_le, Bool, true, false, cond, not, if◌then◌else◌, List, [], ◌∷◌, ◌++◌, Option, Some, None, find, length, get_or, slice_get, slice_index, is_some, unwrap_or, refl}
+use Rattle.std.specs.Prelude.{◌≡◌, ℕ, zero, suc, ◌+◌, ◌-◌, ◌*◌, ◌/◌, ◌%◌, ◌<◌, ◌≤◌, ◌^◌, ◌==◌, ◌&&◌, ◌||◌, nat_le, Bool, true, false, cond, not, if◌then◌else◌, List, [], ◌∷◌, ◌++◌, Option, Some, find, length, get_or, slice_get, slice_index, is_some, unwrap_or, refl}
 use Rattle.std.specs.Option.{option_map_or}
-use Rattle.std.proofs.Common.{ap, sym, ◌∙◌, arith, subst, true≢false, inl, inr}
+use Rattle.std.proofs.Common.{ap, sym, ◌∙◌, arith, true≢false, inl, inr}
 use Rattle.std.proofs.Math.Nat.{add-mod-mod, mod-eq_of_lt}
 use Rattle.std.proofs.lemmas.Bool.{eqb-true, or_cases, leb-false}
-use Rattle.std.proofs.lemmas.Option.{unwrap_or-slice_get, get_or_from_slice_get}
+use Rattle.std.proofs.lemmas.Option.{unwrap_or-slice_get}
 use Rattle.lx_bytes.specs.LittleEndian.{little_bytes}
 use Rattle.lx_types.specs.Addresses.{address, UNIT, SHARED_END, is_big, tiled_selector, flat_selector, selector, selected_offset}
 use Rattle.lx_types.specs.Parts.{no_object, object_of}
 use Rattle.lx_types.specs.declared.bases.Bases.{Bases}
 use Rattle.lx_types.specs.declared.fix.Source.{Source}
 use Rattle.lx_types.specs.declared.fix.Source.TheVariants.{Byte, Sel, Far16, Off16, Far32, Off32, Self32}
-use Rattle.lx_types.specs.declared.fix.FixTarget.{FixTarget}
-use Rattle.lx_types.specs.declared.fix.FixTarget.TheVariants as leads
-use Rattle.lx_types.specs.declared.object.PageId.{PageId}
 use Rattle.lx_types.specs.declared.parts.Parts.{Parts}
 use Rattle.obj_types.specs.Items.{item}
 use Rattle.link_model.specs.declared.symbols.LaidObject.{LaidObject}
@@ -21,18 +18,15 @@ use Rattle.link_model.specs.Words.{wrapped}
 use Rattle.link_model.specs.Link.{Link}
 use Rattle.link_model.specs.Fixups.{Fixup}
 use Rattle.link_model.specs.Layout.{objects, object_flags}
-use Rattle.link_model.specs.Goals.{Target, Internal, Constant, Entry}
-use Rattle.link_model.specs.Records.{source_of, has_alias, target_and_additive, page_count}
-use Rattle.link_model.specs.Value.{World, place_address, target_address, target_flags, relative_to_segment, target_number, sum_number, value_bytes}
+use Rattle.link_model.specs.Records.{source_of, has_alias, page_count}
+use Rattle.link_model.specs.Value.{relative_to_segment}
 use Rattle.link_model.proofs.Members.{item_at}
-use Rattle.lx_model.specs.Fixed.{bases_of, base_of, spot_address, end_address, field_bytes}
+use Rattle.lx_model.specs.Fixed.{bases_of, base_of, field_bytes}
 use Rattle.lx_model.specs.Library.{module_of}
-use Rattle.image_model.specs.Linked.{fix_in_file, image_of}
-use Rattle.image_model.specs.ObjectTable.{object_head, object_heads_from}
+use Rattle.image_model.specs.Linked.{image_of}
+use Rattle.image_model.specs.ObjectTable.{object_heads_from}
 use Rattle.image_model.specs.ReadBack.{parts_of_image}
 use Rattle.image_model.specs.World.{world_of}
-use Rattle.link_core.proofs.ObjectsThere.{IsThere}
-use Rattle.layer_laws.proofs.RecordBytes.{record-with, bytes-of}
 use Rattle.layer_laws.proofs.LoadedPages.{Loaded}
 
 -- ---- sums of 32 bits

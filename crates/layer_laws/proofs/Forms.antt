@@ -1,15 +1,15 @@
 -- The pages of a link have the room that a page has.
-use Rattle.std.specs.Prelude.{◌≡◌, ℕ, ◌+◌, ◌*◌, ◌<◌, ◌≤◌, ◌^◌, Bool, true, false, List, [], ◌∷◌, ◌++◌, cond, map, length, take, drop, find, nat_lt, refl}
+use Rattle.std.specs.Prelude.{◌≡◌, ℕ, ◌*◌, ◌≤◌, Bool, true, false, List, [], ◌∷◌, ◌++◌, cond, map, length, drop, find, nat_lt, refl}
 use Rattle.std.specs.List.{AllByRecursion, flat_map, range_with_len}
-use Rattle.std.proofs.Common.{ap, arith, subst, length-take}
+use Rattle.std.proofs.Common.{ap, arith, length-take}
 use Rattle.std.proofs.lemmas.Bool.{ltb-true}
 use Rattle.lx_types.specs.declared.object.TheConstants.{PAGE_SIZE}
 use Rattle.link_model.specs.Link.{Link}
 use Rattle.link_model.specs.Patches.{object_bytes}
 use Rattle.link_model.specs.Records.{page_count}
-use Rattle.lx_model.specs.Iterated.{groups_data, groups_spelling}
+use Rattle.lx_model.specs.Iterated.{groups_spelling}
 use Rattle.lx_model.specs.Packed.{data_of, repeats, periods, groups_of}
-use Rattle.image_model.specs.Image.{PageForm, plain, iterated, zeros}
+use Rattle.image_model.specs.Image.{plain, iterated}
 use Rattle.image_model.specs.Linked.{page_forms}
 use Rattle.image_model.specs.PageForms.{page_in, pages_in, form_of_data, form_of_page}
 use Rattle.image_model.specs.ReadBack.{FormFits}

@@ -1,9 +1,8 @@
 -- What is known of the link of an input that links.
-use Rattle.std.specs.Prelude.{◌≡◌, ◌≢◌, List, [], ◌∷◌, Option, Some, None, All, slice_get, if◌then◌else◌, true, false, Bool, ℕ, refl}
+use Rattle.std.specs.Prelude.{◌≡◌, ◌≢◌, List, [], ◌∷◌, Option, Some, None, slice_get, if◌then◌else◌, true, false, Bool, ℕ, refl}
 use Rattle.std.specs.List.{cons_option, AllByRecursion}
 use Rattle.std.specs.Option.{option_map}
 use Rattle.std.proofs.Common.{sym, subst}
-use Rattle.std.proofs.lemmas.List.Elements.{All-from_recursion}
 use Rattle.lx_types.specs.Names.{IsName}
 use Rattle.obj_types.specs.Definition.{WholeDef}
 use Rattle.obj_types.specs.declared.object.ObjModule.{ObjModule}

@@ -1,14 +1,13 @@
 -- The image of a link fits the format, so that its file is read again.
-use Rattle.std.specs.Prelude.{◌≡◌, ◌≢◌, ℕ, ◌+◌, ◌<◌, ◌≤◌, ◌^◌, Bool, true, false, List, [], ◌∷◌, Option, Some, None, IfSome, length, is_some, refl}
+use Rattle.std.specs.Prelude.{◌≡◌, ◌≢◌, ℕ, ◌<◌, ◌^◌, List, [], ◌∷◌, IfSome, length}
 use Rattle.std.specs.List.{AllByRecursion}
-use Rattle.std.proofs.Common.{ap, sym, ◌∙◌, arith, subst, true≢false}
+use Rattle.std.proofs.Common.{ap, sym, arith, subst}
 use Rattle.lx_types.specs.Sound.{IsNumberOf}
-use Rattle.obj_types.specs.declared.input.LinkInput.{LinkInput}
 use Rattle.link_model.specs.Link.{Link}
 use Rattle.link_model.specs.Layout.{objects}
 use Rattle.link_model.specs.Start.{Start}
 use Rattle.link_model.specs.ImportTables.{link_pairs, modules_in, procs_in, name_table}
-use Rattle.lx_model.specs.Bundles.{Bundle, BundleFits}
+use Rattle.lx_model.specs.Bundles.{BundleFits}
 use Rattle.lx_model.specs.JoinedEntries.{bundles_for}
 use Rattle.lx_model.specs.NameTables.{Named}
 use Rattle.image_model.specs.Exported.{exported_of}
@@ -23,7 +22,7 @@ use Rattle.image_model.proofs.LinksRead.{links_read}
 use Rattle.image_model.proofs.LinkTables.{tables_fit}
 use Rattle.image_model.proofs.Places.{file_long}
 use Rattle.link_core.proofs.FewImports.{few-modules}
-use Rattle.layer_laws.specs.LinkedImages.{Links, LinkedImagesFit, LinkedFilesRead}
+use Rattle.layer_laws.specs.LinkedImages.{LinkedImagesFit, LinkedFilesRead}
 use Rattle.layer_laws.proofs.Given.{Given, given}
 use Rattle.layer_laws.proofs.Sizes.{few-objects}
 use Rattle.layer_laws.proofs.Objects.{objects-fit, few-pages}

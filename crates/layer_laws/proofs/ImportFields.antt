@@ -1,8 +1,8 @@
 -- A fixup record that leads to an entry point of another module puts there what the fixup means.
-use Rattle.std.specs.Prelude.{◌≡◌, ℕ, ℤ, pos, zero, suc, ◌+◌, ◌-◌, ◌*◌, ◌%◌, ◌-ℤ◌, ◌<◌, ◌≤◌, ◌^◌, ◌==◌, Bool, true, false, List, Option, Some, None, Result, Ok, Err, bytes_eq, slice_get, unwrap_or, is_some, refl}
+use Rattle.std.specs.Prelude.{◌≡◌, ℕ, suc, ◌+◌, ◌%◌, ◌^◌, ◌==◌, true, List, Option, Some, None, Ok, bytes_eq, slice_get, unwrap_or, refl}
 use Rattle.std.specs.List.{position}
 use Rattle.std.specs.Option.{option_map, option_map_or, option_and_then}
-use Rattle.std.proofs.Common.{ap, sym, ◌∙◌, arith, subst, true≢false}
+use Rattle.std.proofs.Common.{ap, sym, ◌∙◌, arith}
 use Rattle.std.proofs.Math.Nat.{add-mod-mod}
 use Rattle.lx_types.specs.Addresses.{address, tiled_selector}
 use Rattle.lx_types.specs.Names.{uppercase}
@@ -14,25 +14,23 @@ use Rattle.lx_types.specs.declared.entry.FwdKey.TheVariants as keys
 use Rattle.lx_types.specs.declared.fix.FixTarget.{FixTarget}
 use Rattle.lx_types.specs.declared.fix.FixTarget.TheVariants as leads
 use Rattle.lx_types.specs.declared.object.PageId.{PageId}
-use Rattle.lx_types.specs.declared.object.TheConstants.{PAGE_SIZE}
 use Rattle.lx_types.specs.declared.parts.Parts.{Parts}
 use Rattle.obj_types.specs.declared.symbol.Imp.{Imp}
 use Rattle.link_model.specs.Words.{wrapped}
 use Rattle.link_model.specs.Link.{Link}
 use Rattle.link_model.specs.Symbols.{imports}
 use Rattle.link_model.specs.Fixups.{Fixup}
-use Rattle.link_model.specs.Goals.{Target, Internal, Constant, Entry}
+use Rattle.link_model.specs.Goals.{Entry}
 use Rattle.link_model.specs.ImportTables.{used_pairs, link_pairs, modules_in, procs_in, entry_target, import_target, name_offset, with_offset}
-use Rattle.link_model.specs.Records.{source_of, has_alias, target_and_additive}
-use Rattle.link_model.specs.Value.{Far, World, entry_point, far_of, target_address, target_flags, target_number, sum_number, value_bytes}
-use Rattle.lx_model.specs.Entries.{key_place, place_named, EntryOf, entry_or_none, import_place, target_spot}
-use Rattle.lx_model.specs.Fixed.{base_of, behind, spot_address, end_address, field_bytes, bytes_if}
-use Rattle.lx_model.specs.Library.{module_of, library_named, import_of}
+use Rattle.link_model.specs.Records.{target_and_additive}
+use Rattle.link_model.specs.Value.{Far, entry_point, far_of, target_address, target_flags, target_number, value_bytes}
+use Rattle.lx_model.specs.Entries.{key_place, place_named, entry_or_none, target_spot}
+use Rattle.lx_model.specs.Fixed.{spot_address, end_address, bytes_if}
+use Rattle.lx_model.specs.Library.{module_of, library_named}
 use Rattle.lx_model.specs.ModuleBytes.{spot_flags}
-use Rattle.lx_model.specs.declared.library.EntryFault.{EntryFault}
 use Rattle.lx_model.specs.declared.library.Spot.{Spot}
 use Rattle.image_model.specs.Linked.{fix_in_file}
-use Rattle.image_model.specs.World.{far_at, entry_in, entry_points, world_of}
+use Rattle.image_model.specs.World.{far_at, entry_in, world_of}
 use Rattle.link_core.proofs.TargetsThere.{through, mapped}
 use Rattle.layer_laws.proofs.RecordBytes.{record-with, bytes-of}
 use Rattle.layer_laws.proofs.LoadedPages.{Loaded}

@@ -1,7 +1,6 @@
 -- A fixup record that leads to a place in the link puts there what the fixup means.
-use Rattle.std.specs.Prelude.{◌≡◌, ℕ, ℤ, pos, negsuc, zero, suc, ◌+◌, ◌-◌, ◌*◌, ◌/◌, ◌%◌, ◌-ℤ◌, ◌<◌, ◌≤◌, ◌^◌, ◌==◌, ◌||◌, ◌&&◌, nat_le, Bool, true, false, cond, not, List, [], ◌∷◌, Option, Some, None, length, slice_get, is_some, unwrap_or, refl}
-use Rattle.std.proofs.Common.{ap, sym, ◌∙◌, arith, subst, true≢false, inl, inr}
-use Rattle.std.proofs.Math.Nat.{add-mod-mod, mod-eq_of_lt}
+use Rattle.std.specs.Prelude.{◌≡◌, ℕ, pos, zero, suc, ◌+◌, ◌*◌, ◌%◌, ◌-ℤ◌, ◌≤◌, ◌^◌, ◌==◌, nat_le, Bool, true, false, cond, List, Option, Some, length, unwrap_or, refl}
+use Rattle.std.proofs.Common.{ap, sym, ◌∙◌, arith, true≢false}
 use Rattle.lx_types.specs.Addresses.{address, UNIT, SHARED_END, tiled_selector}
 use Rattle.lx_types.specs.Parts.{object_of}
 use Rattle.lx_types.specs.declared.bases.Bases.{Bases}
@@ -10,15 +9,13 @@ use Rattle.lx_types.specs.declared.fix.FixTarget.TheVariants as leads
 use Rattle.lx_types.specs.declared.object.PageId.{PageId}
 use Rattle.lx_types.specs.declared.object.TheConstants.{PAGE_SIZE}
 use Rattle.lx_types.specs.declared.parts.Parts.{Parts}
-use Rattle.obj_types.specs.Items.{item}
-use Rattle.link_model.specs.declared.symbols.LaidObject.{LaidObject}
 use Rattle.link_model.specs.Words.{wrapped}
 use Rattle.link_model.specs.Link.{Link}
 use Rattle.link_model.specs.Fixups.{Fixup}
-use Rattle.link_model.specs.Layout.{objects, object_flags}
-use Rattle.link_model.specs.Goals.{Target, Internal, Constant, Entry}
+use Rattle.link_model.specs.Layout.{objects}
+use Rattle.link_model.specs.Goals.{Target, Internal}
 use Rattle.link_model.specs.Records.{source_of, has_alias, target_and_additive}
-use Rattle.link_model.specs.Value.{World, target_address, target_flags, target_number, sum_number, value_bytes}
+use Rattle.link_model.specs.Value.{target_address, target_flags, target_number, value_bytes}
 use Rattle.link_model.proofs.Members.{item_at}
 use Rattle.lx_model.specs.Fixed.{base_of, behind, end_address, field_bytes}
 use Rattle.lx_model.specs.Sources.{source_size}

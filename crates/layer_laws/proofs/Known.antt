@@ -1,12 +1,11 @@
 -- What the imports, the exports and the places of a link have.
-use Rattle.std.specs.Prelude.{◌≡◌, ◌≢◌, ℕ, zero, suc, ◌+◌, ◌<◌, ◌≤◌, ◌^◌, Bool, true, false, cond, ◌||◌, not, nat_lt, List, [], ◌∷◌, ◌++◌, Option, Some, None, map, filter, length, slice_get, bytes_eq, is_some, unwrap_or, sum_by, refl}
-use Rattle.std.specs.List.{All, AllByRecursion, flat_map, filter_map, enumerate_from, list_any, zip}
-use Rattle.std.specs.Option.{option_map, option_and_then, IsSomeAnd}
+use Rattle.std.specs.Prelude.{◌≡◌, ◌≢◌, ℕ, zero, suc, ◌+◌, ◌<◌, ◌≤◌, ◌^◌, Bool, true, false, cond, ◌||◌, not, nat_lt, List, [], ◌∷◌, Option, Some, None, map, filter, is_some, unwrap_or, sum_by, refl}
+use Rattle.std.specs.List.{All, AllByRecursion, flat_map, filter_map, enumerate_from, list_any}
+use Rattle.std.specs.Option.{option_map}
 use Rattle.std.proofs.Common.{ap, sym, ◌∙◌, arith, subst, true≢false, inl, inr}
 use Rattle.std.proofs.Math.Nat.{mod-lt}
 use Rattle.std.proofs.lemmas.Bool.{ltb-false}
 use Rattle.std.proofs.lemmas.List.Sums.{sum_by-cons}
-use Rattle.lx_types.specs.Names.{IsName}
 use Rattle.obj_types.specs.Items.{item}
 use Rattle.obj_types.specs.Whole.{WholeModule, WholeExp}
 use Rattle.obj_types.specs.Definition.{WholeExport, WholeImport}
@@ -14,7 +13,7 @@ use Rattle.obj_types.specs.declared.object.ObjModule.{ObjModule}
 use Rattle.obj_types.specs.declared.symbol.Exp.{Exp}
 use Rattle.obj_types.specs.declared.symbol.Imp.{Imp}
 use Rattle.obj_types.specs.declared.symbol.Pub.{Pub}
-use Rattle.link_model.specs.declared.limits.TheConstants.{MAX_NUMBER, MAX_MEMORY}
+use Rattle.link_model.specs.declared.limits.TheConstants.{MAX_NUMBER}
 use Rattle.link_model.specs.declared.refusals.EntryRefusal.{EntryRefusal}
 use Rattle.link_model.specs.declared.refusals.EntryRefusal.TheVariants.{Ordinal}
 use Rattle.link_model.specs.declared.symbols.LaidObject.{LaidObject}
@@ -26,14 +25,14 @@ use Rattle.link_model.specs.Link.{Link, exports}
 use Rattle.link_model.specs.Symbols.{Meaning, Public, Imported, Definition, of_public, of_import, definitions_in, definitions, pair_of, import_key, same_import, imports, commons}
 use Rattle.link_model.specs.Layout.{objects, spot, common_spot}
 use Rattle.link_model.specs.LayoutRefusals.{lay_refusal}
-use Rattle.link_model.specs.Goals.{Target, Internal, Constant, Entry, internal, shifted, of_symbol}
+use Rattle.link_model.specs.Goals.{Target, Internal, Constant, Entry, shifted, of_symbol}
 use Rattle.link_model.specs.Exports.{ordinals, asked_ordinals, wrong_ordinal, ordinal_past, name_twice, entry_refusal}
 use Rattle.link_model.specs.NothingDropped.{LiesInObject}
 use Rattle.link_model.proofs.Members.{In, here, there, all_in, each_in, in_at, in_either, item_at, from_filter, from_map, from_flat_map, from_numbered, value_of}
-use Rattle.link_model.proofs.ExternalsMean.{neither, none_passes}
+use Rattle.link_model.proofs.ExternalsMean.{neither}
 use Rattle.link_model.proofs.FixupsStay.{module_whole, numbered_module, IsThere}
 use Rattle.link_model.proofs.SegmentsStand.{communals_stand}
-use Rattle.link_core.proofs.TargetsThere.{through, mapped, from_filter_map}
+use Rattle.link_core.proofs.TargetsThere.{mapped, from_filter_map}
 use Rattle.layer_laws.specs.Ranges.{ImportInRange, ExportInRange, ModuleInRange}
 use Rattle.layer_laws.proofs.Given.{Given}
 use Rattle.layer_laws.proofs.Sizes.{sizes-within}

@@ -25,3 +25,4 @@ pub mod InsideFields
 pub mod SelfFields
 pub mod ImportNames
 pub mod ImportFields
+pub mod EveryByte

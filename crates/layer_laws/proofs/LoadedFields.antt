@@ -1,10 +1,10 @@
 -- Where a fixup record covers a place, and puts there what the fixup means, the loaded byte is the one that the link means.
-use Rattle.std.specs.Prelude.{◌≡◌, ℕ, zero, suc, ◌+◌, ◌-◌, ◌*◌, ◌/◌, ◌%◌, ◌<◌, ◌≤◌, ◌==◌, ◌&&◌, nat_lt, nat_le, not, Bool, true, false, List, [], ◌∷◌, Option, Some, None, map, filter, length, slice_get, slice_index, unwrap_or, refl}
-use Rattle.std.specs.List.{AllByRecursion, filter_map}
+use Rattle.std.specs.Prelude.{◌≡◌, ℕ, suc, ◌+◌, ◌-◌, ◌*◌, ◌/◌, ◌%◌, ◌<◌, ◌==◌, ◌&&◌, nat_lt, nat_le, not, Bool, true, false, List, [], ◌∷◌, Option, Some, length, slice_get, slice_index, unwrap_or, refl}
+use Rattle.std.specs.List.{AllByRecursion}
 use Rattle.std.specs.Option.{option_map}
 use Rattle.std.proofs.Common.{ap, sym, ◌∙◌, arith, subst, inl, inr}
 use Rattle.std.proofs.Math.Nat.{mod-lt}
-use Rattle.std.proofs.lemmas.Bool.{eqb-true, leb-true, ltb-true, lt-ltb, and_parts, and_from}
+use Rattle.std.proofs.lemmas.Bool.{leb-true, ltb-true, lt-ltb, and_parts, and_from}
 use Rattle.lx_types.specs.declared.bases.Bases.{Bases}
 use Rattle.lx_types.specs.declared.fix.Fix.{Fix}
 use Rattle.lx_types.specs.declared.fix.FixTarget.{FixTarget}
@@ -15,19 +15,18 @@ use Rattle.link_model.specs.declared.symbols.LaidObject.{LaidObject}
 use Rattle.link_model.specs.Link.{Link}
 use Rattle.link_model.specs.Fixups.{Fixup}
 use Rattle.link_model.specs.Layout.{objects}
-use Rattle.link_model.specs.Mean.{fixup_end, live_fixups, fixup_covers, live_at, Mean}
+use Rattle.link_model.specs.Mean.{fixup_end, live_fixups, fixup_covers, Mean}
 use Rattle.link_model.specs.Patches.{is_patched, recorded}
 use Rattle.link_model.specs.Records.{target_and_additive, record_on, stands_on, page_records}
 use Rattle.link_model.specs.Value.{World, value_bytes}
 use Rattle.link_model.proofs.Members.{In, here, there, from_filter, in_filter, in_map}
 use Rattle.link_model.proofs.ValueLengths.{values_fit}
-use Rattle.lx_model.specs.Fixed.{index_in, byte_if}
 use Rattle.lx_model.specs.ModuleBytes.{page_with, FixedByte}
 use Rattle.image_model.specs.Linked.{fix_in_file}
 use Rattle.link_core.proofs.FewImports.{in-filter_map}
 use Rattle.layer_laws.proofs.MeanBytes.{found-there, value-is, mean-of}
 use Rattle.layer_laws.proofs.FixedBytes.{Outcome, put, fixed-put, byte-inside}
-use Rattle.layer_laws.proofs.RecordBytes.{record-with, OfFixup, of-fixup, bytes-of, put-is, put-outside}
+use Rattle.layer_laws.proofs.RecordBytes.{record-with, of-fixup, bytes-of, put-is, put-outside}
 use Rattle.layer_laws.proofs.LoadedPages.{Loaded, page-fixes, sources-moved, in-page, location-some, stands-there}
 
 -- ---- a fixup that is left to the loader
@@ -43,8 +42,8 @@ some_target : (t u : FixTarget × ℕ) → Some t ≡ Some u → t ≡ u
 some_target t u e = ap (λ (o : Option (FixTarget × ℕ)). unwrap_or o t) e
 
 -- What covers a place stands on its page.
-stands_here : (n x : ℕ) (q : Fixup) → fixup_covers n x q ≡ true → stands_on n (x / PAGE_SIZE) q ≡ true
-stands_here n x q covers =
+pub stands-here : (n x : ℕ) (q : Fixup) → fixup_covers n x q ≡ true → stands_on n (x / PAGE_SIZE) q ≡ true
+stands-here n x q covers =
     let k = x / PAGE_SIZE in
     let last = and_parts (q.object == n && nat_le q.offset x) (nat_lt x (fixup_end q)) covers in
     let first = and_parts (q.object == n) (nat_le q.offset x) last.0 in
@@ -55,11 +54,11 @@ stands_here n x q covers =
     and_from (q.object == n && nat_lt (k * PAGE_SIZE) (fixup_end q)) (nat_lt q.offset (k * PAGE_SIZE + PAGE_SIZE)) (and_from (q.object == n) (nat_lt (k * PAGE_SIZE) (fixup_end q)) first.0 (lt-ltb (k * PAGE_SIZE) (fixup_end q) (omega (arith, whole, below)))) (lt-ltb q.offset (k * PAGE_SIZE + PAGE_SIZE) (omega (arith, whole, rest, from)))
 
 -- Its record is one of those of the page.
-record_here : (l : Link) (n x : ℕ) (q : Fixup) (t : FixTarget × ℕ) → In q (recorded l) → fixup_covers n x q ≡ true → target_and_additive l q q.target ≡ Some t → In (fix_in_file l (record-with (x / PAGE_SIZE) q t)) (page-fixes l n (x / PAGE_SIZE))
+pub record-here : (l : Link) (n x : ℕ) (q : Fixup) (t : FixTarget × ℕ) → In q (recorded l) → fixup_covers n x q ≡ true → target_and_additive l q q.target ≡ Some t → In (fix_in_file l (record-with (x / PAGE_SIZE) q t)) (page-fixes l n (x / PAGE_SIZE))
 unfolding page_records
-record_here l n x q t i covers led =
+record-here l n x q t i covers led =
     let k = x / PAGE_SIZE in
-    let kept = in_filter (stands_on n k) i (stands_here n x q covers) in
+    let kept = in_filter (stands_on n k) i (stands-here n x q covers) in
     let gives : record_on l k q ≡ Some (record-with k q t) = ap (option_map (record-with k q)) led in
     in_map (fix_in_file l) (in-filter_map (record_on l k) kept gives)
 
@@ -118,5 +117,5 @@ covered-byte l lib m loaded bases w i x o e below q t inside covers led same =
     let fs = page-fixes l (suc i) (x / PAGE_SIZE) in
     let live = recorded-live l q inside in
     let each = each_of (λ f. Outcome (byte_of l w x q) (put lib m bases p (x % PAGE_SIZE) f)) fs (other_put l lib m loaded bases w (suc i) x q t inside covers led same) in
-    fixed-put lib m bases p (x % PAGE_SIZE) (byte_of l w x q) fs (fix_in_file l (record-with (x / PAGE_SIZE) q t)) (sources-moved l lib m loaded i x o e below) each (record_here l (suc i) x q t inside covers led) (put_here l lib m loaded bases w (suc i) x q t inside covers same)
+    fixed-put lib m bases p (x % PAGE_SIZE) (byte_of l w x q) fs (fix_in_file l (record-with (x / PAGE_SIZE) q t)) (sources-moved l lib m loaded i x o e below) each (record-here l (suc i) x q t inside covers led) (put_here l lib m loaded bases w (suc i) x q t inside covers same)
     ∙ sym (mean-of l w (suc i) x q loaded.known.place_none live (found-there l (suc i) x q live covers))

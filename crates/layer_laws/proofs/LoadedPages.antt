@@ -1,45 +1,42 @@
 -- The bytes of a page under the bases of a load: where no fixup is left to the loader, and where one is.
-use Rattle.std.specs.Prelude.{◌≡◌, ℕ, zero, suc, ◌+◌, ◌-◌, ◌*◌, ◌/◌, ◌%◌, ◌<◌, ◌≤◌, ◌^◌, ◌⊎◌, ◌==◌, ◌&&◌, nat_lt, nat_le, Bool, true, false, not, List, [], ◌∷◌, Option, Some, None, map, length, slice_get, slice_index, is_some, unwrap_or, refl}
+use Rattle.std.specs.Prelude.{◌≡◌, ℕ, zero, suc, ◌+◌, ◌*◌, ◌/◌, ◌%◌, ◌<◌, ◌==◌, ◌&&◌, nat_lt, Bool, true, false, List, [], ◌∷◌, Some, None, map, slice_get, is_some, refl}
 use Rattle.std.specs.List.{AllByRecursion, list_any}
 use Rattle.std.specs.List.Sorted.{IsPermutation}
-use Rattle.std.proofs.Common.{ap, sym, ◌∙◌, arith, subst, true≢false, inl, inr}
+use Rattle.std.proofs.Common.{ap, sym, ◌∙◌, arith, subst, true≢false}
 use Rattle.std.proofs.Math.Nat.{div-add-mod}
-use Rattle.std.proofs.lemmas.Bool.{eqb-true, leb-true, ltb-true, and_parts}
+use Rattle.std.proofs.lemmas.Bool.{eqb-true, and_parts}
 use Rattle.lx_types.specs.declared.bases.Bases.{Bases}
 use Rattle.lx_types.specs.declared.fix.Fix.{Fix}
-use Rattle.lx_types.specs.declared.object.PageId.{PageId}
 use Rattle.lx_types.specs.declared.object.TheConstants.{PAGE_SIZE}
 use Rattle.lx_types.specs.declared.parts.Parts.{Parts}
 use Rattle.obj_types.specs.Items.{item}
 use Rattle.obj_types.specs.Location.{location_len}
 use Rattle.link_model.specs.declared.symbols.LaidObject.{LaidObject}
 use Rattle.link_model.specs.Link.{Link}
-use Rattle.link_model.specs.Fixups.{Fixup, fixups}
+use Rattle.link_model.specs.Fixups.{Fixup}
 use Rattle.link_model.specs.Layout.{objects}
-use Rattle.link_model.specs.Mean.{fixup_end, live_fixups, fixup_covers, live_at, Mean}
-use Rattle.link_model.specs.Patches.{is_patched, recorded}
+use Rattle.link_model.specs.Mean.{fixup_end, fixup_covers, Mean}
+use Rattle.link_model.specs.Patches.{recorded}
 use Rattle.link_model.specs.Records.{page_records, stands_on}
-use Rattle.link_model.specs.Value.{World, value_bytes}
-use Rattle.link_model.proofs.Members.{In, here, there, any_in, from_filter, in_filter}
-use Rattle.lx_model.specs.Fixed.{Raw, sources_of, Fixed}
+use Rattle.link_model.specs.Value.{World}
+use Rattle.link_model.proofs.Members.{In, here, there, any_in}
+use Rattle.lx_model.specs.Fixed.{Raw, sources_of}
 use Rattle.lx_model.specs.Library.{module_of}
-use Rattle.lx_model.specs.Module.{parts_of}
 use Rattle.lx_model.specs.ModuleBytes.{page_with, FixedByte}
 use Rattle.lx_fixrec.proofs.Permuted.{records_keep_fixes}
-use Rattle.image_model.specs.File.{file_of}
 use Rattle.image_model.specs.Linked.{fix_in_file, image_of}
 use Rattle.image_model.specs.ReadBack.{ImageFits, parts_of_image}
 use Rattle.image_model.specs.World.{world_of}
 use Rattle.image_model.proofs.PartsRead.{parts_read}
 use Rattle.link_core.proofs.RecordsFit as core
-use Rattle.layer_laws.specs.LoadedBytes.{Holds, MeansThere, PlainBytesLoaded}
+use Rattle.layer_laws.specs.LoadedBytes.{PlainBytesLoaded}
 use Rattle.layer_laws.proofs.Given.{Given, given}
 use Rattle.layer_laws.proofs.ImagesFit.{images_fit}
 use Rattle.layer_laws.proofs.RawBytes.{raw-byte, pages-cover}
 use Rattle.layer_laws.proofs.PageSources.{sources-for, sources-are}
 use Rattle.layer_laws.proofs.MeanBytes.{NoneLeft, mean-before}
 use Rattle.layer_laws.proofs.FixedBytes.{put, fixed-raw}
-use Rattle.layer_laws.proofs.RecordBytes.{OfFixup, of-fixup, record-with, put-outside}
+use Rattle.layer_laws.proofs.RecordBytes.{of-fixup, put-outside}
 
 -- ---- what is loaded
 
@@ -95,8 +92,8 @@ nothing_put l lib m loaded bases n x none f i =
     ap (put lib m bases (page_with n x) (x % PAGE_SIZE)) r.is
     ∙ put-outside lib m bases (page_with n x) n x k (x % PAGE_SIZE) l q r.target (location-some l q loaded.known r.inside) (in-page x) (stands-there n k q r.stands) (none_covers (fixup_covers n x) (recorded l) q none r.inside)
 
-plain_byte : (l : Link) (lib : List Parts) (m : ℕ) → Loaded l lib m → (bases : Bases) (w : World) (i x : ℕ) (o : LaidObject) → slice_get (objects l) i ≡ Some o → x < o.size → NoneLeft l (suc i) x → FixedByte lib m bases (suc i) x ≡ Mean l w (suc i) x
-plain_byte l lib m loaded bases w i x o e below none =
+pub plain-byte : (l : Link) (lib : List Parts) (m : ℕ) → Loaded l lib m → (bases : Bases) (w : World) (i x : ℕ) (o : LaidObject) → slice_get (objects l) i ≡ Some o → x < o.size → NoneLeft l (suc i) x → FixedByte lib m bases (suc i) x ≡ Mean l w (suc i) x
+plain-byte l lib m loaded bases w i x o e below none =
     let p = page_with (suc i) x in
     let r = x % PAGE_SIZE in
     let fs = page-fixes l (suc i) (x / PAGE_SIZE) in
@@ -108,7 +105,7 @@ plain_byte l lib m loaded bases w i x o e below none =
 
 by_number : (l : Link) (lib : List Parts) (m : ℕ) → Loaded l lib m → (bases : Bases) (w : World) (n x : ℕ) (o : LaidObject) → item (objects l) n ≡ Some o → x < o.size → NoneLeft l n x → FixedByte lib m bases n x ≡ Mean l w n x
 by_number l lib m loaded bases w zero x o e below none = absurd (true≢false (sym (ap is_some e)))
-by_number l lib m loaded bases w (suc i) x o e below none = plain_byte l lib m loaded bases w i x o e below none
+by_number l lib m loaded bases w (suc i) x o e below none = plain-byte l lib m loaded bases w i x o e below none
 
 pub plain_loaded : PlainBytesLoaded
 plain_loaded input l links short lib m bases holds n x o e below none =

@@ -1,8 +1,8 @@
 -- The bytes that a link means, where no fixup is left to the loader and where one is.
-use Rattle.std.specs.Prelude.{◌≡◌, ℕ, suc, ◌-◌, ◌<◌, ◌≤◌, Bool, true, false, cond, not, ◌&&◌, ◌||◌, ◌==◌, nat_lt, nat_le, List, [], ◌∷◌, ◌++◌, Option, Some, None, map, filter, find, is_some, unwrap_or, slice_index, refl}
+use Rattle.std.specs.Prelude.{◌≡◌, ℕ, suc, ◌-◌, Bool, true, false, cond, not, ◌&&◌, ◌==◌, nat_lt, nat_le, List, [], ◌∷◌, ◌++◌, Option, Some, None, map, find, is_some, unwrap_or, slice_index, refl}
 use Rattle.std.specs.List.{list_any, AllPairs, AllByRecursion}
 use Rattle.std.specs.Option.{option_map, option_map_or, option_and_then}
-use Rattle.std.proofs.Common.{ap, sym, ◌∙◌, arith, subst, true≢false}
+use Rattle.std.proofs.Common.{ap, sym, ◌∙◌, arith, true≢false}
 use Rattle.std.proofs.lemmas.Bool.{eqb-true, eq-eqb, ltb-true, lt-ltb, leb-true, and_parts, and_from}
 use Rattle.std.proofs.lemmas.List.Elements.{recursion_from_All}
 use Rattle.link_model.specs.Words.{first_of}
@@ -65,7 +65,7 @@ none_refused f [] rest e = tt
 none_refused f (q ∷ qs) rest e =
     let both = neither (f q) (first_of (map f qs ++ rest)) e in (both.0, none_refused f qs rest both.1)
 
-accepted : (l : Link) (q : Fixup) → place_refusal l ≡ None → In q (live_fixups l) → fix_refusal q ≡ None
+pub accepted : (l : Link) (q : Fixup) → place_refusal l ≡ None → In q (live_fixups l) → fix_refusal q ≡ None
 unfolding place_refusal live_fixups
 accepted l q none i =
     each_in (λ (t : Fixup). fix_refusal t ≡ None) (fixups l) (none_refused fix_refusal (fixups l) (start_outside l ∷ []) none) (is_live (fixups l) i)

@@ -1,7 +1,7 @@
 -- The names of a link fit the name tables: the module's, the description, those of exports and of import modules.
-use Rattle.std.specs.Prelude.{◌≡◌, ◌≢◌, ℕ, ◌+◌, ◌<◌, ◌≤◌, ◌^◌, Bool, true, false, cond, not, List, [], ◌∷◌, Option, Some, None, IfSome, map, filter, length, bytes_eq, unwrap_or, refl}
+use Rattle.std.specs.Prelude.{◌≡◌, ◌≢◌, ℕ, ◌<◌, Bool, true, false, cond, not, List, [], ◌∷◌, Option, Some, None, IfSome, map, filter, length, bytes_eq, unwrap_or, refl}
 use Rattle.std.specs.List.{AllByRecursion}
-use Rattle.std.proofs.Common.{ap, sym, arith, subst}
+use Rattle.std.proofs.Common.{arith, subst}
 use Rattle.std.proofs.lemmas.List.{length-map}
 use Rattle.std.specs.Char.{to_ascii_uppercase}
 use Rattle.lx_types.specs.Names.{IsName, uppercase}
@@ -9,7 +9,7 @@ use Rattle.obj_types.specs.declared.symbol.Imp.{Imp}
 use Rattle.link_model.specs.Link.{Link}
 use Rattle.link_model.specs.ImportTables.{link_pairs, modules_in}
 use Rattle.link_model.proofs.Members.{In, here, there, from_map}
-use Rattle.lx_model.specs.NameTables.{Named, NameFits, ImportFits}
+use Rattle.lx_model.specs.NameTables.{NameFits, ImportFits}
 use Rattle.lx_model.specs.ExportTables.{Exported, named, described, resident_table, other_table}
 use Rattle.image_model.specs.Linked.{called}
 use Rattle.link_core.proofs.FewImports.{link-pairs-known}

@@ -1,7 +1,7 @@
 -- The object table of a link fits its fields, and its pages are few.
-use Rattle.std.specs.Prelude.{◌≡◌, ℕ, zero, suc, ◌+◌, ◌-◌, ◌*◌, ◌/◌, ◌<◌, ◌≤◌, ◌^◌, ◌==◌, if◌then◌else◌, Bool, true, false, List, [], ◌∷◌, ◌++◌, Option, Some, None, IfSome, map, max, length, sum_by, unwrap_or, refl}
-use Rattle.std.specs.List.{AllByRecursion, flat_map, enumerate_from, range_with_len}
-use Rattle.std.proofs.Common.{ap, sym, ◌∙◌, arith, subst}
+use Rattle.std.specs.Prelude.{◌≡◌, ℕ, ◌+◌, ◌-◌, ◌*◌, ◌<◌, ◌≤◌, ◌^◌, ◌==◌, if◌then◌else◌, Bool, true, false, List, [], ◌∷◌, Option, Some, None, IfSome, map, max, length, sum_by, unwrap_or}
+use Rattle.std.specs.List.{AllByRecursion, enumerate_from, range_with_len}
+use Rattle.std.proofs.Common.{◌∙◌, arith}
 use Rattle.std.proofs.Math.Nat.{mul-div-le, div-mul-le_self, max-le}
 use Rattle.std.proofs.lemmas.List.{length-map}
 use Rattle.std.proofs.lemmas.List.FromFn.{length-range_with_len}
@@ -9,7 +9,6 @@ use Rattle.std.proofs.lemmas.List.Sums.{sum_by-cons}
 use Rattle.lx_types.specs.Addresses.{UNIT, room}
 use Rattle.lx_types.specs.declared.fix.Fix.{Fix}
 use Rattle.lx_types.specs.declared.object.TheConstants.{PAGE_SIZE, OBJECT_WRITABLE, OBJECT_EXECUTABLE, OBJECT_SHARED}
-use Rattle.lx_types.specs.declared.object.ObjHead.{ObjHead}
 use Rattle.obj_types.specs.Definition.{WholeDef, IsBase}
 use Rattle.obj_types.specs.declared.definition.Attrs.{Attrs}
 use Rattle.obj_types.specs.declared.definition.ModKind.{ModKind}
@@ -26,7 +25,7 @@ use Rattle.link_model.specs.LayoutRefusals.{lay_refusal}
 use Rattle.link_model.specs.Records.{page_count, page_records, object_records}
 use Rattle.lx_model.specs.TableSpelling.{ObjectHeadFits}
 use Rattle.image_model.specs.Linked.{page_forms}
-use Rattle.image_model.specs.ObjectTable.{object_head, object_heads_from}
+use Rattle.image_model.specs.ObjectTable.{object_heads_from}
 use Rattle.link_core.proofs.PageCounts.{pages-are}
 use Rattle.layer_laws.proofs.Sizes.{sizes-within, few-objects}
 

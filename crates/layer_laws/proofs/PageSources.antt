@@ -1,11 +1,11 @@
 -- The sources of a page, as the file of a link has them, are the link's fixup records of that page.
-use Rattle.std.specs.Prelude.{◌≡◌, ℕ, zero, suc, ◌+◌, ◌-◌, ◌<◌, nat_lt, Bool, true, cond, List, [], ◌∷◌, ◌++◌, Some, map, length, get_or, slice_get, refl}
+use Rattle.std.specs.Prelude.{◌≡◌, ℕ, suc, ◌+◌, ◌-◌, ◌<◌, nat_lt, Bool, true, cond, List, [], ◌∷◌, ◌++◌, Some, map, length, get_or, slice_get, refl}
 use Rattle.std.specs.List.{AllByRecursion, flat_map, enumerate_from, range_with_len}
-use Rattle.std.proofs.Common.{ap, sym, ◌∙◌, arith, subst}
+use Rattle.std.proofs.Common.{ap, sym, ◌∙◌, arith}
 use Rattle.std.proofs.lemmas.Bool.Decides.{nat_tests}
 use Rattle.std.proofs.lemmas.List.{length-map, get_or-map}
 use Rattle.std.proofs.lemmas.List.FromFn.{get_or-map-range_with_len}
-use Rattle.lx_types.specs.Parts.{object_of, fix_span_at}
+use Rattle.lx_types.specs.Parts.{fix_span_at}
 use Rattle.lx_types.specs.declared.fix.Fix.{Fix}
 use Rattle.lx_types.specs.declared.object.ObjHead.{ObjHead}
 use Rattle.lx_types.specs.declared.object.PageId.{PageId}
@@ -13,7 +13,7 @@ use Rattle.link_model.specs.declared.symbols.LaidObject.{LaidObject}
 use Rattle.link_model.specs.Link.{Link}
 use Rattle.link_model.specs.Layout.{objects}
 use Rattle.link_model.specs.Records.{page_count, page_records, object_records}
-use Rattle.lx_model.specs.Fixed.{records_of_page, sources_of}
+use Rattle.lx_model.specs.Fixed.{sources_of}
 use Rattle.lx_model.specs.JoinedRecords.{records_for}
 use Rattle.lx_model.specs.Records.{fixes_of}
 use Rattle.lx_model.specs.RecordSpelling.{Written, fixes_written, RecordFits}

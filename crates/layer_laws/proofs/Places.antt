@@ -1,22 +1,22 @@
 -- The start, the stack, the automatic data and the module flags of a link fit their fields.
-use Rattle.std.specs.Prelude.{◌≡◌, ℕ, ◌+◌, ◌<◌, ◌≤◌, ◌^◌, ◌==◌, Bool, true, false, cond, not, nat_lt, List, [], ◌∷◌, Option, Some, None, IfSome, max, filter, length, is_some, unwrap_or, refl}
+use Rattle.std.specs.Prelude.{◌≡◌, ℕ, ◌+◌, ◌<◌, ◌≤◌, ◌^◌, ◌==◌, Bool, true, false, cond, not, List, [], ◌∷◌, Option, Some, None, IfSome, max, length, is_some, unwrap_or, refl}
 use Rattle.std.specs.List.{fold}
-use Rattle.std.specs.Option.{option_map, option_and_then}
-use Rattle.std.proofs.Common.{ap, sym, ◌∙◌, arith, subst, true≢false}
+use Rattle.std.specs.Option.{option_map}
+use Rattle.std.proofs.Common.{ap, sym, arith, subst, true≢false}
 use Rattle.std.proofs.Math.Nat.{le-max_left, le-max_right}
 use Rattle.std.proofs.lemmas.Bool.{eq-eqb}
 use Rattle.lx_types.specs.Sound.{IsNumberOf}
 use Rattle.lx_types.specs.declared.parts.TheConstants.{MODULE_LIBRARY, MODULE_INIT_EACH, MODULE_TERM_EACH}
 use Rattle.obj_types.specs.declared.definition.DefFile.{DefFile}
 use Rattle.obj_types.specs.declared.object.StartAt.{StartAt}
-use Rattle.link_model.specs.declared.limits.TheConstants.{MAX_MEMORY, MAX_OBJECTS}
+use Rattle.link_model.specs.declared.limits.TheConstants.{MAX_MEMORY}
 use Rattle.link_model.specs.Link.{Link}
 use Rattle.link_model.specs.Order.{is_program}
 use Rattle.link_model.specs.Flags.{flag}
 use Rattle.link_model.specs.Groups.{DGROUP}
 use Rattle.link_model.specs.Rows.{Row, end_in, rows, has_stack, stack_row}
 use Rattle.link_model.specs.Layout.{objects, stack_top}
-use Rattle.link_model.specs.LayoutRefusals.{lay_refusal, size_of_rows}
+use Rattle.link_model.specs.LayoutRefusals.{lay_refusal}
 use Rattle.link_model.specs.Goals.{Target, Internal, Constant, Entry, shifted, object_of_group, target_of}
 use Rattle.link_model.specs.Start.{first_start, in_object, start_place, place_of_start, Start}
 use Rattle.link_model.specs.Header.{auto_data}
@@ -26,7 +26,7 @@ use Rattle.image_model.specs.ReadBack.{PlaceFits}
 use Rattle.seg_parts.proofs.EndSums.{end-in-sum}
 use Rattle.seg_merge.proofs.RowLimits.{size-within}
 use Rattle.link_core.proofs.ObjectsThere.{row_there}
-use Rattle.link_core.proofs.TargetsThere.{through, mapped, group_there, start_there}
+use Rattle.link_core.proofs.TargetsThere.{through, group_there, start_there}
 use Rattle.layer_laws.proofs.Known.{wrapped-small}
 use Rattle.layer_laws.proofs.Sizes.{not-too-large}
 

@@ -1,21 +1,17 @@
 -- The bytes of a page, as the file of a link has them, are those that stand in the link's objects before the loader.
-use Rattle.std.specs.Prelude.{◌≡◌, ℕ, zero, suc, ◌+◌, ◌-◌, ◌*◌, ◌/◌, ◌%◌, ◌<◌, ◌≤◌, ◌==◌, nat_lt, Bool, true, false, cond, if◌then◌else◌, List, [], ◌∷◌, ◌++◌, Option, Some, None, map, length, take, drop, get_or, slice_get, slice_index, slice_index_or, is_some, unwrap_or, refl}
+use Rattle.std.specs.Prelude.{◌≡◌, ℕ, zero, suc, ◌+◌, ◌-◌, ◌*◌, ◌/◌, ◌%◌, ◌<◌, ◌≤◌, nat_lt, Bool, true, false, cond, List, [], ◌∷◌, ◌++◌, Some, map, length, drop, get_or, slice_get, slice_index, refl}
 use Rattle.std.specs.List.{AllByRecursion, flat_map, enumerate_from, range_with_len}
-use Rattle.std.proofs.Common.{ap, sym, ◌∙◌, arith, subst, true≢false, length-append, replicate}
-use Rattle.std.proofs.Math.Nat.{mul-div-le, div-add-mod, mod-lt, add-mul-div_left}
+use Rattle.std.proofs.Common.{ap, sym, ◌∙◌, arith, subst, replicate}
+use Rattle.std.proofs.Math.Nat.{mul-div-le, div-add-mod, mod-lt}
 use Rattle.std.proofs.Math.ListN.{get_or-append, get_or-eq_default}
 use Rattle.std.proofs.lemmas.Bool.Decides.{nat_tests}
-use Rattle.std.proofs.lemmas.List.{length-map, get_or-map, get_or-take, get_or-drop, get_or-append_right, get_or-replicate}
+use Rattle.std.proofs.lemmas.List.{length-map, get_or-map, get_or-take, get_or-drop, get_or-append_right}
 use Rattle.std.proofs.lemmas.List.FromFn.{get_or-map-range_with_len}
-use Rattle.std.proofs.lemmas.Option.{get_or_from_slice_get}
 use Rattle.lx_types.specs.Object.{zero_page, page_of}
-use Rattle.lx_types.specs.Parts.{span, no_object, object_of, page_at, data_at}
+use Rattle.lx_types.specs.Parts.{span, object_of}
 use Rattle.lx_types.specs.declared.object.ObjHead.{ObjHead}
 use Rattle.lx_types.specs.declared.object.PageHead.{PageHead}
-use Rattle.lx_types.specs.declared.object.PageId.{PageId}
-use Rattle.lx_types.specs.declared.object.PageKind.TheVariants.{Plain, Iterated, Zero}
 use Rattle.lx_types.specs.declared.object.TheConstants.{PAGE_SIZE}
-use Rattle.lx_types.specs.declared.refusal.LxRefusal.{LxRefusal}
 use Rattle.link_model.specs.declared.symbols.LaidObject.{LaidObject}
 use Rattle.link_model.specs.Link.{Link}
 use Rattle.link_model.specs.Layout.{objects}
@@ -30,13 +26,11 @@ use Rattle.lx_model.proofs.PagesRead.{groups_again}
 use Rattle.image_model.specs.File.{file_of}
 use Rattle.image_model.specs.Image.{Image, PageForm, plain, iterated, zeros}
 use Rattle.image_model.specs.Linked.{page_forms, image_of}
-use Rattle.image_model.specs.ObjectTable.{object_head, object_heads_from}
 use Rattle.image_model.specs.PageForms.{page_in, pages_in, form_of_data, form_of_page}
 use Rattle.image_model.specs.PageTables.{form_data, page_head, page_heads_from}
 use Rattle.image_model.specs.ReadBack.{FormFits, placed_page, ImageFits, parts_of_image}
 use Rattle.image_model.specs.Sections as s
 use Rattle.image_model.proofs.LinkTables.{mapped, ranged}
-use Rattle.image_model.proofs.PagesRead.{heads_long}
 use Rattle.image_model.proofs.RecordsRead.{spanned, regrouped}
 use Rattle.image_model.proofs.Standing.{HasFrom, standing, behind, from_others}
 use Rattle.layer_laws.proofs.Groups.{groups_give, data-filled}

@@ -1,8 +1,8 @@
 -- What the fixup records of a link put into a page, byte by byte.
-use Rattle.std.specs.Prelude.{◌≡◌, ℕ, ℤ, pos, zero, suc, ◌+◌, ◌-◌, ◌*◌, ◌-ℤ◌, ◌<◌, ◌≤◌, ◌⊎◌, ◌==◌, ◌&&◌, ◌||◌, nat_lt, nat_le, Bool, true, false, cond, List, [], ◌∷◌, Option, Some, None, Result, Ok, Err, map, filter, length, slice_index, refl}
-use Rattle.std.specs.List.{AllByRecursion, list_any, filter_map}
-use Rattle.std.proofs.Common.{ap, sym, ◌∙◌, arith, subst, true≢false, inl, inr}
-use Rattle.std.proofs.lemmas.Bool.{agree_below_at, cases_lt, ne_eqb, eq-eqb, eqb-true, or_cases, and_parts, and_from, le-leb, lt-ltb}
+use Rattle.std.specs.Prelude.{◌≡◌, ℕ, pos, ◌+◌, ◌*◌, ◌-ℤ◌, ◌<◌, ◌≤◌, ◌⊎◌, ◌==◌, ◌&&◌, ◌||◌, nat_lt, nat_le, Bool, true, false, cond, List, [], ◌∷◌, Some, None, Result, Ok, Err, map, filter, length, refl}
+use Rattle.std.specs.List.{AllByRecursion, filter_map}
+use Rattle.std.proofs.Common.{ap, sym, ◌∙◌, arith, true≢false, inl, inr}
+use Rattle.std.proofs.lemmas.Bool.{agree_below_at, cases_lt, ne_eqb, eq-eqb, eqb-true, or_cases, and_from, le-leb, lt-ltb}
 use Rattle.std.proofs.lemmas.List.Elements.{recursion_from_All, filter_passes}
 use Rattle.lx_types.specs.declared.bases.Bases.{Bases}
 use Rattle.lx_types.specs.declared.fix.Fix.{Fix}
@@ -22,7 +22,7 @@ use Rattle.link_model.specs.Patches.{recorded}
 use Rattle.link_model.specs.Records.{source_of, has_alias, target_and_additive, offset_on, record_on, stands_on, page_records}
 use Rattle.link_model.proofs.Members.{In, here, there, from_filter, from_map}
 use Rattle.lx_model.specs.Entries.{target_spot}
-use Rattle.lx_model.specs.Fixed.{spot_address, end_address, field_bytes, bytes_for, bytes_if, patch_of, index_in, byte_if}
+use Rattle.lx_model.specs.Fixed.{spot_address, end_address, field_bytes, bytes_if, patch_of, index_in, byte_if}
 use Rattle.lx_model.specs.declared.library.EntryFault.{EntryFault}
 use Rattle.lx_model.specs.declared.library.Spot.{Spot}
 use Rattle.lx_model.specs.Library.{module_of}
@@ -93,7 +93,7 @@ pub record OfFixup (l : Link) (n k : ℕ) (f : Fix) : Type 0 where
   pub led : target_and_additive l fixup fixup.target ≡ Some target
   pub is : f ≡ fix_in_file l (record-with k fixup target)
 
-passes : {X : Type 0} (test : X → Bool) (xs : List X) {x : X} → In x (filter test xs) → test x ≡ true
+pub passes : {X : Type 0} (test : X → Bool) (xs : List X) {x : X} → In x (filter test xs) → test x ≡ true
 passes {X} test xs {x} i = each (filter test xs) (recursion_from_All (λ y. test y ≡ true) (filter test xs) (filter_passes test xs)) i
   where
     each : (ys : List X) → AllByRecursion (λ y. test y ≡ true) ys → In x ys → test x ≡ true

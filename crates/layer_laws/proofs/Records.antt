@@ -1,21 +1,17 @@
 -- The fixup records of a link fit the record table, and their targets are there.
-use Rattle.std.specs.Prelude.{◌≡◌, ℕ, zero, suc, ◌+◌, ◌-◌, ◌<◌, ◌≤◌, ◌^◌, ◌==◌, ◌&&◌, nat_lt, nat_le, Bool, true, false, cond, List, [], ◌∷◌, ◌++◌, Option, Some, None, map, filter, length, take, drop, slice_get, slice_index, is_some, unwrap_or, refl}
-use Rattle.std.specs.List.{All, AllByRecursion, flat_map, filter_map, enumerate_from, range_with_len}
-use Rattle.std.specs.Option.{option_map, option_and_then}
-use Rattle.std.proofs.Common.{ap, sym, ◌∙◌, arith, subst, true≢false, length-append, append_assoc}
-use Rattle.std.proofs.lemmas.Bool.Decides.{nat_tests}
+use Rattle.std.specs.Prelude.{◌≡◌, ℕ, ◌+◌, ◌<◌, ◌≤◌, ◌^◌, ◌==◌, nat_le, Bool, true, false, cond, List, [], ◌∷◌, ◌++◌, Option, Some, map, filter, length, slice_get, is_some, unwrap_or, refl}
+use Rattle.std.specs.List.{All, AllByRecursion, flat_map, enumerate_from, range_with_len}
+use Rattle.std.specs.Option.{option_and_then}
+use Rattle.std.proofs.Common.{ap, sym, arith, subst, true≢false}
 use Rattle.std.proofs.lemmas.List.Elements.{All-from_recursion, recursion_from_All}
-use Rattle.std.proofs.lemmas.List.Sorted.{All-permutation}
 use Rattle.lx_types.specs.Addresses.{UNIT}
-use Rattle.lx_types.specs.Parts.{name_at}
-use Rattle.lx_types.specs.Sound.{IsNumberOf}
 use Rattle.lx_types.specs.declared.fix.Fix.{Fix}
 use Rattle.lx_types.specs.declared.fix.Source.{Source}
 use Rattle.lx_types.specs.declared.fix.Source.TheVariants.{Byte, Sel, Far16, Off16, Far32, Off32, Self32}
 use Rattle.lx_types.specs.declared.fix.FixTarget.{FixTarget}
 use Rattle.lx_types.specs.declared.fix.FixTarget.TheVariants as leads
 use Rattle.obj_types.specs.declared.symbol.Imp.{Imp}
-use Rattle.link_model.specs.declared.limits.TheConstants.{MAX_NUMBER, MAX_OBJECTS}
+use Rattle.link_model.specs.declared.limits.TheConstants.{MAX_NUMBER}
 use Rattle.link_model.specs.declared.symbols.LaidObject.{LaidObject}
 use Rattle.link_model.specs.Words.{wrapped}
 use Rattle.link_model.specs.Link.{Link}
@@ -24,7 +20,7 @@ use Rattle.link_model.specs.Layout.{objects}
 use Rattle.link_model.specs.Goals.{Target, Internal, Constant, Entry}
 use Rattle.link_model.specs.Fixups.{Fixup}
 use Rattle.link_model.specs.Patches.{recorded}
-use Rattle.link_model.specs.ImportTables.{used_pairs, link_pairs, modules_in, procs_in, import_target, name_bytes, name_table, name_offset, with_offset}
+use Rattle.link_model.specs.ImportTables.{used_pairs, link_pairs, modules_in, procs_in, import_target, name_table, with_offset}
 use Rattle.link_model.specs.Records.{source_of, has_alias, target_and_additive, offset_on, record_on, stands_on, page_count, page_records, object_records}
 use Rattle.link_model.proofs.Members.{In, here, there, in_at}
 use Rattle.lx_model.specs.RecordSpelling.{RecordFits}

@@ -1,5 +1,5 @@
 -- The objects of a link whose layout is not refused are at most 1,024, and at most 16 MiB together.
-use Rattle.std.specs.Prelude.{◌≡◌, ℕ, zero, suc, ◌+◌, ◌<◌, ◌≤◌, Bool, true, false, not, List, [], ◌∷◌, ◌++◌, Option, Some, None, map, max, length, get_or, slice_get, sum_by, refl}
+use Rattle.std.specs.Prelude.{◌≡◌, ℕ, zero, suc, ◌+◌, ◌<◌, ◌≤◌, Bool, true, not, List, [], ◌∷◌, ◌++◌, Option, Some, None, map, max, length, get_or, slice_get, sum_by, refl}
 use Rattle.std.specs.List.{list_any, enumerate_from, range_with_len, position, position_or_len}
 use Rattle.std.specs.Option.{option_map_or}
 use Rattle.std.proofs.Common.{ap, sym, ◌∙◌, arith, subst, append_assoc, true≢false, inl, inr}
@@ -21,7 +21,6 @@ use Rattle.link_model.specs.Order.{ordered, object_key, same_object, object_head
 use Rattle.link_model.specs.Rows.{Row, end_in, row_after, rows_after, rows}
 use Rattle.link_model.specs.Layout.{placed_from, first_base, objects}
 use Rattle.link_model.specs.LayoutRefusals.{lay_refusal, absolute, use_mixed, group_split, too_large, size_of_rows}
-use Rattle.link_model.proofs.Rules.{rules}
 use Rattle.link_model.proofs.Tables.{firsts-apart}
 use Rattle.link_model.proofs.Members.{In, here, there, any_in, position_is, item_at, in_at, from_filter, from_map}
 use Rattle.link_model.proofs.KeyTests.{in_one_object}

@@ -1,7 +1,7 @@
 -- What the targets of a link's fixup records name is there.
-use Rattle.std.specs.Prelude.{◌≡◌, ℕ, zero, suc, ◌+◌, ◌-◌, ◌<◌, ◌≤◌, ◌^◌, ◌&&◌, nat_lt, nat_le, Bool, true, false, cond, List, [], ◌∷◌, ◌++◌, Option, Some, None, map, length, take, drop, slice_get, slice_index, is_some, refl}
-use Rattle.std.specs.List.{All, AllByRecursion, flat_map}
-use Rattle.std.proofs.Common.{ap, sym, ◌∙◌, arith, subst, length-append, append_assoc}
+use Rattle.std.specs.Prelude.{◌≡◌, ℕ, zero, suc, ◌+◌, ◌<◌, ◌≤◌, ◌&&◌, nat_lt, nat_le, Bool, true, false, cond, List, [], ◌∷◌, ◌++◌, Some, None, map, length, take, drop, slice_get, slice_index, is_some, refl}
+use Rattle.std.specs.List.{AllByRecursion, flat_map}
+use Rattle.std.proofs.Common.{ap, ◌∙◌, arith, subst, length-append, append_assoc}
 use Rattle.std.proofs.lemmas.Bool.Decides.{nat_tests}
 use Rattle.std.proofs.lemmas.List.Elements.{All-from_recursion, recursion_from_All}
 use Rattle.std.proofs.lemmas.List.Sorted.{All-permutation}
@@ -10,17 +10,16 @@ use Rattle.lx_types.specs.Sound.{IsNumberOf}
 use Rattle.lx_types.specs.declared.fix.Fix.{Fix}
 use Rattle.lx_types.specs.declared.fix.FixTarget.{FixTarget}
 use Rattle.lx_types.specs.declared.fix.FixTarget.TheVariants as leads
-use Rattle.lx_types.specs.declared.object.ObjHead.{ObjHead}
 use Rattle.link_model.specs.declared.symbols.LaidObject.{LaidObject}
 use Rattle.link_model.specs.Link.{Link}
 use Rattle.link_model.specs.Layout.{objects}
 use Rattle.link_model.specs.ImportTables.{link_pairs, modules_in, procs_in, name_bytes, name_table, name_offset, with_offset}
 use Rattle.link_model.specs.Records.{page_count, page_records, object_records}
-use Rattle.link_model.proofs.Members.{In, here, there, item_at}
+use Rattle.link_model.proofs.Members.{item_at}
 use Rattle.link_model.proofs.NamesAtOffsets.{names_at_offsets}
-use Rattle.lx_model.specs.EntryTable.{Numbered, names_one_of}
-use Rattle.lx_model.specs.Module.{Targets, is_target}
-use Rattle.lx_model.specs.RecordSpelling.{Written, fixes_written}
+use Rattle.lx_model.specs.EntryTable.{names_one_of}
+use Rattle.lx_model.specs.Module.{is_target}
+use Rattle.lx_model.specs.RecordSpelling.{fixes_written}
 use Rattle.lx_model.specs.JoinedRecords.{records_for}
 use Rattle.lx_fixrec.proofs.Permuted.{records_keep_fixes}
 use Rattle.image_model.specs.File.{file_of}

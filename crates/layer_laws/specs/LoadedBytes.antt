@@ -1,5 +1,5 @@
 -- A module that a link wrote means the object files' bytes, wherever it is loaded.
-use Rattle.std.specs.Prelude.{◌≡◌, ℕ, ◌+◌, ◌%◌, ◌<◌, ◌≤◌, ◌^◌, Bool, false, List, length, Some}
+use Rattle.std.specs.Prelude.{◌≡◌, ℕ, ◌+◌, ◌%◌, ◌<◌, ◌≤◌, ◌^◌, false, List, length, Some}
 use Rattle.std.specs.List.{list_any}
 use Rattle.lx_types.specs.Addresses.{UNIT, SHARED_END}
 use Rattle.lx_types.specs.declared.bases.Bases.{Bases}
@@ -12,9 +12,11 @@ use Rattle.link_model.specs.Layout.{objects}
 use Rattle.link_model.specs.Mean.{fixup_covers, Mean}
 use Rattle.link_model.specs.Patches.{recorded}
 use Rattle.lx_model.specs.Fixed.{base_of}
+use Rattle.lx_model.specs.Gathering.{IsLibrary}
 use Rattle.lx_model.specs.Library.{module_of}
 use Rattle.lx_model.specs.Module.{parts_of}
 use Rattle.lx_model.specs.ModuleBytes.{FixedByte}
+use Rattle.lx_model.specs.Reach.{IsFit}
 use Rattle.image_model.specs.File.{file_of}
 use Rattle.image_model.specs.Linked.{image_of}
 use Rattle.image_model.specs.World.{world_of}
@@ -42,3 +44,10 @@ PlainBytesLoaded =
     → (lib : List Parts) (m : ℕ) (bases : Bases) → Holds lib m l
     → (object x : ℕ) (o : LaidObject) → item (objects l) object ≡ Some o → x < o.size
     → list_any (fixup_covers object x) (recorded l) ≡ false → MeansThere l lib m bases object x
+
+-- Wherever the module is loaded, in a library in which it is fit, each of its bytes is the one that the link means there.
+abbrev pub LinkedBytesLoaded : Type 0
+LinkedBytesLoaded =
+    (input : LinkInput) (l : Link) → Links input l → length (file_of (image_of l)) < 2 ^ 32
+    → (lib : List Parts) (m : ℕ) (bases : Bases) → Holds lib m l → IsLibrary lib → m < length lib → IsFit lib m → StandsWell l bases m
+    → (object x : ℕ) (o : LaidObject) → item (objects l) object ≡ Some o → x < o.size → MeansThere l lib m bases object x

@@ -1,6 +1,6 @@
 -- What the types of a link's input say of its names and numbers: a name has at most 255 bytes, and a number has 32 bits.
 -- Every input that a program has is so; a value of the definitions alone need not be.
-use Rattle.std.specs.Prelude.{ℕ, ◌<◌, ◌^◌, All, IfSome}
+use Rattle.std.specs.Prelude.{◌<◌, ◌^◌, All, IfSome}
 use Rattle.lx_types.specs.Names.{IsName}
 use Rattle.lx_types.specs.declared.entry.EntryKey.{EntryKey}
 use Rattle.lx_types.specs.declared.entry.EntryKey.TheVariants.{Ordinal, Named}

@@ -1,7 +1,7 @@
 //! Laws over the definitions, each the contract of a function that does nothing.
 
 ghost use Rattle.layer_laws.specs.LinkedImages.{LinkedFilesRead, LinkedImagesFit};
-ghost use Rattle.layer_laws.specs.LoadedBytes.{PlainBytesLoaded};
+ghost use Rattle.layer_laws.specs.LoadedBytes.{LinkedBytesLoaded, PlainBytesLoaded};
 
 /// The image of every input that links fits the format, where its file is shorter than 2^32 bytes.
 pub fn linked_images_fit()
@@ -18,4 +18,10 @@ pub fn linked_files_are_read()
 /// the loader covers: data of plain, iterated and zero-filled pages, and what the linker patched.
 pub fn plain_bytes_are_loaded()
     ensures { PlainBytesLoaded }
+{}
+
+/// Wherever a module that was linked is loaded, in a library in which it is fit, at bases that are multiples of 65,536 with
+/// each object's end at most 20000000h, each of its bytes, fixups applied, is the one that the link means there.
+pub fn linked_bytes_are_loaded()
+    ensures { LinkedBytesLoaded }
 {}

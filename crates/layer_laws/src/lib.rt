@@ -3,4 +3,6 @@
 
 mod laws;
 
-pub use laws::{linked_files_are_read, linked_images_fit, plain_bytes_are_loaded};
+pub use laws::{
+    linked_bytes_are_loaded, linked_files_are_read, linked_images_fit, plain_bytes_are_loaded,
+};
