@@ -2,7 +2,9 @@
 #![tactic(auto)]
 
 mod laws;
+mod ranges;
 
 pub use laws::{
     linked_bytes_are_loaded, linked_files_are_read, linked_images_fit, plain_bytes_are_loaded,
 };
+pub use ranges::input_range;
