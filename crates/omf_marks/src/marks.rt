@@ -120,6 +120,8 @@ impl Marks {
         }
         let first = (seg, start.saturating_sub(LONGEST - 1), 0);
         let past = (seg, start + len, 0);
-        self.locations.range(first..past).any(|location| reaches(location, start))
+        self.locations
+            .range(first..past)
+            .any(|location| reaches(location, start))
     }
 }
