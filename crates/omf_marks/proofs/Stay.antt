@@ -1,6 +1,6 @@
 -- Marks stay marks of what records add to.
 use Rattle.std.proofs.Common.{◌≡◌, ℕ, ◌+◌, ◌≤◌, List, ◌++◌, length, Result, Ok, Err, sym, ap, subst, ◌∙◌, arith, length-append}
-use Rattle.std.specs.Prelude.{take}
+use Rattle.std.specs.Prelude.{take, OnOk}
 use Rattle.std.specs.List.{sum_by, list_any}
 use Rattle.std.proofs.lemmas.List.{take-append-le}
 use Rattle.obj_types.specs.declared.object.Piece.{Piece}
@@ -12,7 +12,9 @@ use Rattle.omf_model.specs.Record.{Record}
 use Rattle.omf_model.specs.Add.{add}
 use Rattle.omf_model.specs.AddLists.{parts_with, module_with, HasFour}
 use Rattle.omf_model.specs.Begun.{IsBegun}
-use Rattle.omf_model.specs.Gives.{then_add, read_after}
+use Rattle.lx_types.specs.declared.fail.Fail.{Fail}
+use Rattle.lx_types.specs.declared.fail.Fail.TheVariants.{Said, NoMemory}
+use Rattle.omf_model.specs.Gives.{Gives, then_add, read_after}
 use Rattle.omf_model.proofs.BegunLaws.{begun-whole}
 use Rattle.omf_model.proofs.PartsLaws.{add-lists}
 use Rattle.omf_fields.proofs.SpanLaws.{ok_is}
@@ -47,3 +49,9 @@ read-more m p q rec begun is marks = from _ is
     from : (read : Result Record OmfRefusal) → then_add p read ≡ Ok q → AreMarks m q
     from (Ok r) e = subst (AreMarks m) (ok_is (add p r) q e) (record-more m p r (begun-whole p begun).four marks)
     from (Err f) e = absurd cc
+
+-- what a call added that took no marks
+pub gives-more : (m : Marks) (p q : ObjParts) (rec : Rec) (r : Result (Unit {0}) (Fail OmfRefusal)) → IsBegun p → AreMarks m p → Gives (λ (u : Unit {0}). q) r (read_after p rec) → OnOk r (AreMarks m q)
+gives-more m p q rec (Ok u) begun marks is = read-more m p q rec begun is marks
+gives-more m p q rec (Err (Said f)) begun marks is = tt
+gives-more m p q rec (Err NoMemory) begun marks is = tt
