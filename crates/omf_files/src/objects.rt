@@ -17,7 +17,7 @@ use lx_types::Fail;
 use obj_types::{ObjModule, ObjParts, OmfRefusal};
 use omf_data::{ledata_marked, lidata_marked};
 use omf_fields::{Fields, name_of};
-use omf_fix::fixups;
+use omf_fix::fixups_marked;
 use omf_frame::record_type::{
     COMDEF, COMENT, EXTDEF, FIXUPP, FIXUPP_32, GRPDEF, LEDATA, LEDATA_32, LEXTDEF, LEXTDEF_32,
     LHEADR, LIDATA, LIDATA_32, LINNUM, LINNUM_32, LNAMES, LPUBDEF, LPUBDEF_32, MODEND, MODEND_32,
@@ -73,7 +73,7 @@ fn add_record(
         LNAMES => names(alloc, rec, into),
         SEGDEF | SEGDEF_32 => segdef(alloc, rec, into),
         GRPDEF => grpdef(alloc, rec, into),
-        FIXUPP | FIXUPP_32 => fixups(alloc, rec, into),
+        FIXUPP | FIXUPP_32 => fixups_marked(alloc, rec, into, marks),
         LEDATA | LEDATA_32 => ledata_marked(alloc, rec, into, marks),
         LIDATA | LIDATA_32 => lidata_marked(alloc, rec, into, marks),
         COMDEF => comdef(alloc, rec, into),

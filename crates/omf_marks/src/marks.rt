@@ -17,7 +17,7 @@ use std::alloc::Global;
 use std::collections::BTreeSet;
 
 // The longest location has this many bytes.
-const LONGEST: u32 = 6;
+const LONGEST: u64 = 6;
 
 /// The marks of an unfinished module's pieces and fixes, or of the first of them: what came since is seen when it is
 /// asked for.
@@ -27,7 +27,7 @@ pub struct Marks {
     bytes: u32,
     fixes: usize,
     // The segment, the offset and the kind of each location, in this order.
-    locations: BTreeSet<(u32, u32, u8)>,
+    locations: BTreeSet<(u32, u64, u8)>,
 }
 
 /// The bytes of a location, and 0 for a kind that there is not.
@@ -44,10 +44,10 @@ fn location_len(loc: u8) -> u8
 }
 
 /// Whether a location has a byte behind an offset or at it.
-fn reaches(location: &(u32, u32, u8), start: u32) -> bool
+fn reaches(location: &(u32, u64, u8), start: u64) -> bool
     ensures { result ≡ reaches_behind start location.now }
 {
-    u64::from(start) < u64::from(location.1) + u64::from(location_len(location.2))
+    start < location.1 || start - location.1 < u64::from(location_len(location.2))
 }
 
 impl Marks {
@@ -85,7 +85,9 @@ impl Marks {
     {
         'fixes: while self.fixes < fixes.len() {
             let fix = &fixes[self.fixes];
-            let _new = self.locations.insert((fix.seg, fix.offset, fix.loc))?;
+            let _new = self
+                .locations
+                .insert((fix.seg, fix.offset as u64, fix.loc))?;
             self.fixes += 1;
         }
         Ok(())
@@ -112,14 +114,14 @@ impl Marks {
     /// Whether `len` bytes of a segment from `start` on share one with the location of a fix. Only the locations that
     /// begin among them, or less than the longest location before them, are looked at.
     pub fn is_on_fix(&self, seg: u32, start: u32, len: u32) -> bool
-        requires { start + len < 2 ^ 32 }
         ensures { (p : ObjParts) → HaveAll self.now p → result ≡ list_any (touches seg start len) p.module.fixes }
     {
         if len == 0 {
             return false;
         }
+        let start = start as u64;
         let first = (seg, start.saturating_sub(LONGEST - 1), 0);
-        let past = (seg, start + len, 0);
+        let past = (seg, start + len as u64, 0);
         self.locations
             .range(first..past)
             .any(|location| reaches(location, start))

@@ -33,8 +33,5 @@ returns-in-152-clause-marks c = gives-more c.args.marks.now c.args.into.now c.se
 pub returns-in-154-clause-marks : goal.returns-in-154-clause-marks
 returns-in-154-clause-marks c = gives-more c.args.marks.now c.args.into.now c.grpdef.new.into c.args.rec.now c.grpdef.result c.requires.begun c.requires.marks c.grpdef.ensures
 
-pub returns-in-156-clause-marks : goal.returns-in-156-clause-marks
-returns-in-156-clause-marks c = gives-more c.args.marks.now c.args.into.now c.fixups.new.into c.args.rec.now c.fixups.result c.requires.begun c.requires.marks c.fixups.ensures
-
 pub returns-in-176-clause-marks : goal.returns-in-176-clause-marks
 returns-in-176-clause-marks c = gives-more c.args.marks.now c.args.into.now c.comdef.new.into c.args.rec.now c.comdef.result c.requires.begun c.requires.marks c.comdef.ensures
