@@ -5,5 +5,5 @@ mod Fields
 mod Judged
 mod OnBlocks
 mod Onto
-mod OwnLast
+mod Marked
 mod ThreadSet

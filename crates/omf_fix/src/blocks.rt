@@ -1,21 +1,23 @@
 //! Fixups on the blocks of an LIDATA record. Each is found in the blocks written out: nothing here is fast.
 
-ghost use Rattle.std.specs.Prelude.{◌≡◌, ◌+◌, ◌++◌, ◌≤◌, ◌&&◌, IfOk, OnOk, IsSomeAnd, length, nat_le, map};
+ghost use Rattle.std.specs.Prelude.{◌≡◌, ◌+◌, ◌++◌, ◌≤◌, ◌&&◌, IfOk, OnOk, IsSomeAnd, length, nat_le, map, true};
 ghost use Rattle.std.specs.List.{list_any};
 ghost use Rattle.obj_types.specs.Items.{item};
-ghost use Rattle.obj_types.specs.Location.{meets as share_byte};
+ghost use Rattle.obj_types.specs.declared.parts.ObjParts.{ObjParts};
+ghost use Rattle.omf_marks.specs.Marks.{HaveAll};
 ghost use Rattle.omf_fix.specs.FixData.{data_of};
 ghost use Rattle.omf_fix.specs.Placed.{placed, fix_of, IsBlocks};
 ghost use Rattle.omf_model.specs.Begun.{IsBegun};
-ghost use Rattle.omf_model.specs.Fixups.{places_of};
+ghost use Rattle.omf_model.specs.Fixups.{is_location as location_there, places_of, touches};
 ghost use Rattle.omf_model.specs.Gives.{Gives};
 
 use crate::fix_data::{FixFields, meaning};
 use crate::location::{location, location_len, offset};
-use crate::place::{FixPlace, fix_at, meets_any};
+use crate::place::{FixPlace, fix_at};
 use crate::written::written;
 use lx_types::{Fail, NoMemory, Seq};
 use obj_types::{FixAt, LastData, MAX_FIXES, ObjParts, OmfRefusal, Seg, StartAt};
+use omf_marks::Marks;
 use std::alloc::Global;
 
 /// Whether so many bytes from an offset on are among those of one innermost block.
@@ -60,11 +62,13 @@ fn copies_of(
     Ok(copies)
 }
 
-/// Whether a fix at one of these offsets shares a byte with an earlier one.
-fn meets_copies(fixes: &[FixAt], seg: u32, copies: &[u32], place: FixPlace, what: StartAt) -> bool
-    ensures { result ≡ list_any (λ x. list_any (λ f. share_byte f (fix_of seg x place.high what)) fixes.now) copies.now }
+/// Whether so many bytes from one of these offsets on share one with the location of a fix.
+fn meets_copies(marks: &Marks, seg: u32, copies: &[u32], size: u32) -> bool
+    ensures { (p : ObjParts) → HaveAll marks.now p → result ≡ list_any (λ x. list_any (touches seg x size) p.module.fixes) copies.now }
 {
-    copies.iter().any(|offset| meets_any(fixes, fix_at(seg, *offset, place, what)))
+    copies
+        .iter()
+        .any(|offset| marks.is_on_fix(seg, *offset, size))
 }
 
 /// Adds a fix at each of these offsets.
@@ -90,16 +94,19 @@ fn push_copies(
 pub fn add_blocks(
     alloc: Global,
     into: &mut ObjParts,
+    marks: &Marks,
     place: FixPlace,
     d: FixFields,
 ) -> Result<(), Fail<OmfRefusal>>
+    requires marks { HaveAll marks.now into.old }
+    requires location { location_there place.high ≡ true }
     requires begun { IsBegun into.old }
     requires last { IsBlocks into.old.last }
     ensures { Gives (λ _. into.new) result (placed into.old place (data_of d)) }
 {
     let at = place.at;
     let low = usize::from(offset(place.high, place.low));
-    let size = usize::from(location_len(location(place.high)));
+    let size = u32::from(location_len(location(place.high)));
     let what = meaning(d, into);
     let (seg, start, blocks) = match &into.last {
         LastData::Blocks {
@@ -110,14 +117,13 @@ pub fn add_blocks(
         } => (*seg, *offset, written(alloc, *wide, body.as_slice())?),
         _ => return Err(Fail::Said(OmfRefusal::NoData { at })),
     };
-    if !is_in_block(blocks.contents.as_slice(), low, low + size) {
+    if !is_in_block(blocks.contents.as_slice(), low, low + size as usize) {
         return Err(Fail::Said(OmfRefusal::NoData { at }));
     }
     let origins = blocks.origins.as_slice();
     let segs = into.module.segs.as_slice();
     let copies = copies_of(alloc, low, origins, segs, seg, start)?;
-    let fixes = into.module.fixes.as_slice();
-    if meets_copies(fixes, seg, copies.as_slice(), place, what) {
+    if meets_copies(marks, seg, copies.as_slice(), size) {
         return Err(Fail::Said(OmfRefusal::FixOverlap { at }));
     }
     if into.module.fixes.as_slice().len() + copies.len() > MAX_FIXES as usize {

@@ -14,5 +14,5 @@ mod threads;
 mod written;
 
 pub use fix_data::{FixFields, fix_fields, start_at};
-pub use fixupp::fixups;
+pub use fixupp::{fixups, fixups_marked};
 pub use have::Have;

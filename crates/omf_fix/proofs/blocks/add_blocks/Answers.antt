@@ -10,6 +10,7 @@ use Rattle.omf_model.proofs.BegunLaws.{begun-whole}
 use Rattle.omf_fix.specs.FixData.{data_of, meant}
 use Rattle.omf_fix.specs.Placed.{fix_of}
 use Rattle.omf_fix.proofs.Judged.{no-data, overlap, too-many, good}
+use Rattle.omf_fix.proofs.Marked.{some-bytes, touch-copies}
 use Rattle.omf_fix.proofs.OnBlocks.{blocks-on, blocks-news, blocks-lie, copies-apart}
 use Rattle.omf_fix.proofs.blocks.add_blocks.Goals as goal
 
@@ -40,7 +41,7 @@ returns-then-meets_copies c =
     let on = blocks-on c.args.into.now c.args.place c.in-Blocks.seg c.in-Blocks.offset c.in-Blocks.wide c.in-Blocks.body last c.from-low.result c.from-size.result c.as_slice-2.result.now true low size blocks (sym c.if-not-is_in_block.false ∙ c.is_in_block.ensures) in
     let news = blocks-news c.args.into.now c.args.place c.in-Blocks.seg c.in-Blocks.offset c.in-Blocks.wide c.in-Blocks.body last (data_of c.args.d) c.from-low.result c.as_slice-origins.result.now c.in_ok-copies.copies.items low own c.in_ok-copies.ensures in
     let apart = copies-apart c.args.into.now.module.fixes (λ x. fix_of c.in-Blocks.seg x c.args.place.high (meant c.args.into.now.threads (data_of c.args.d))) c.in_ok-copies.copies.items true
-    (sym c.if-meets_copies.true ∙ c.meets_copies.ensures ∙ (λ i. list_any (λ x. list_any (λ f. meets f (fix_of c.in-Blocks.seg x c.args.place.high (c.meaning-what.ensures i))) (c.as_slice-fixes.ensures i)) (c.as_slice-3.ensures.value i))) in
+    (sym c.if-meets_copies.true ∙ c.meets_copies.ensures c.args.into.now c.requires.marks ∙ touch-copies c.args.into.now.module.fixes c.in-Blocks.seg c.from-size.result c.args.place.high (meant c.args.into.now.threads (data_of c.args.d)) size (some-bytes c.args.place.high c.requires.location) c.as_slice-3.result.now ∙ (λ i. list_any (λ x. list_any (λ f. meets f (fix_of c.in-Blocks.seg x c.args.place.high (meant c.args.into.now.threads (data_of c.args.d)))) c.args.into.now.module.fixes) (c.as_slice-3.ensures.value i))) in
     overlap c.args.into.now c.args.place _ _ on news apart
 
 pub returns-then-as_slice-len : goal.returns-then-as_slice-len
@@ -53,7 +54,7 @@ returns-then-as_slice-len c =
     let on = blocks-on c.args.into.now c.args.place c.in-Blocks.seg c.in-Blocks.offset c.in-Blocks.wide c.in-Blocks.body last c.from-low.result c.from-size.result c.as_slice-2.result.now true low size blocks (sym c.if-not-is_in_block.false ∙ c.is_in_block.ensures) in
     let news = blocks-news c.args.into.now c.args.place c.in-Blocks.seg c.in-Blocks.offset c.in-Blocks.wide c.in-Blocks.body last (data_of c.args.d) c.from-low.result c.as_slice-origins.result.now c.in_ok-copies.copies.items low own c.in_ok-copies.ensures in
     let apart = copies-apart c.args.into.now.module.fixes (λ x. fix_of c.in-Blocks.seg x c.args.place.high (meant c.args.into.now.threads (data_of c.args.d))) c.in_ok-copies.copies.items false
-    (sym c.if-meets_copies.false ∙ c.meets_copies.ensures ∙ (λ i. list_any (λ x. list_any (λ f. meets f (fix_of c.in-Blocks.seg x c.args.place.high (c.meaning-what.ensures i))) (c.as_slice-fixes.ensures i)) (c.as_slice-3.ensures.value i))) in
+    (sym c.if-meets_copies.false ∙ c.meets_copies.ensures c.args.into.now c.requires.marks ∙ touch-copies c.args.into.now.module.fixes c.in-Blocks.seg c.from-size.result c.args.place.high (meant c.args.into.now.threads (data_of c.args.d)) size (some-bytes c.args.place.high c.requires.location) c.as_slice-3.result.now ∙ (λ i. list_any (λ x. list_any (λ f. meets f (fix_of c.in-Blocks.seg x c.args.place.high (meant c.args.into.now.threads (data_of c.args.d)))) c.args.into.now.module.fixes) (c.as_slice-3.ensures.value i))) in
     let long = length-map c.in_ok-copies.copies.items (λ x. fix_of c.in-Blocks.seg x c.args.place.high (meant c.args.into.now.threads (data_of c.args.d))) in
     too-many c.args.into.now c.args.place _ _ on news apart (omega (arith, long, c.if-as_slice-len.true, c.len.ensures, c.in_ok-copies.copies.ok.0, ap (λ (fs : List FixAt). length fs) c.as_slice-4.ensures))
 
@@ -67,7 +68,7 @@ returns c =
     let on = blocks-on c.args.into.now c.args.place c.in-Blocks.seg c.in-Blocks.offset c.in-Blocks.wide c.in-Blocks.body last c.from-low.result c.from-size.result c.as_slice-2.result.now true low size blocks (sym c.if-not-is_in_block.false ∙ c.is_in_block.ensures) in
     let news = blocks-news c.args.into.now c.args.place c.in-Blocks.seg c.in-Blocks.offset c.in-Blocks.wide c.in-Blocks.body last (data_of c.args.d) c.from-low.result c.as_slice-origins.result.now c.in_ok-copies.copies.items low own c.in_ok-copies.ensures in
     let apart = copies-apart c.args.into.now.module.fixes (λ x. fix_of c.in-Blocks.seg x c.args.place.high (meant c.args.into.now.threads (data_of c.args.d))) c.in_ok-copies.copies.items false
-    (sym c.if-meets_copies.false ∙ c.meets_copies.ensures ∙ (λ i. list_any (λ x. list_any (λ f. meets f (fix_of c.in-Blocks.seg x c.args.place.high (c.meaning-what.ensures i))) (c.as_slice-fixes.ensures i)) (c.as_slice-3.ensures.value i))) in
+    (sym c.if-meets_copies.false ∙ c.meets_copies.ensures c.args.into.now c.requires.marks ∙ touch-copies c.args.into.now.module.fixes c.in-Blocks.seg c.from-size.result c.args.place.high (meant c.args.into.now.threads (data_of c.args.d)) size (some-bytes c.args.place.high c.requires.location) c.as_slice-3.result.now ∙ (λ i. list_any (λ x. list_any (λ f. meets f (fix_of c.in-Blocks.seg x c.args.place.high (meant c.args.into.now.threads (data_of c.args.d)))) c.args.into.now.module.fixes) (c.as_slice-3.ensures.value i))) in
     let long = length-map c.in_ok-copies.copies.items (λ x. fix_of c.in-Blocks.seg x c.args.place.high (meant c.args.into.now.threads (data_of c.args.d))) in
     good c.args.into.now c.args.place _ _ c.push_copies.new.fixes (begun-whole c.args.into.now c.requires.begun).four on news apart
     (omega (arith, long, c.if-as_slice-len.false, c.len.ensures, c.in_ok-copies.copies.ok.0, ap (λ (fs : List FixAt). length fs) c.as_slice-4.ensures))
