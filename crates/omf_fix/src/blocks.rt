@@ -30,19 +30,19 @@ fn is_in_block(contents: &[(usize, usize)], offset: usize, past: usize) -> bool
 }
 
 /// Where the data that begins at `start` and lies in a segment has a place.
-fn in_segment(segs: &[Seg], index: u32, start: u32, place: usize) -> u32
+fn in_segment(segs: &[Seg], index: u32, start: u32, place: u32) -> u32
     requires { IsSomeAnd (item segs.now index) (λ segment. start + place ≤ segment.len) }
     ensures { result ≡ start + place }
 {
     // The segment's end has 32 bits, and the sum is not past it.
     let _end = segs[index as usize - 1].len;
-    start + place as u32
+    start + place
 }
 
 /// The offsets in a segment of places in data that begins at `start`.
 fn copies_of(
     alloc: Global,
-    places: &[usize],
+    places: &[u32],
     segs: &[Seg],
     seg: u32,
     start: u32,
@@ -50,7 +50,7 @@ fn copies_of(
     requires { IsSomeAnd (item segs.now seg) (λ segment. All (λ x. start + x ≤ segment.len) places.now) }
     ensures { IfOk result (λ copies. copies.items ≡ map (λ x. start + x) places.now) }
 {
-    let mut copies = Vec::new(alloc);
+    let mut copies = Vec::with_capacity(alloc, places.len())?;
     let mut next = 0;
     'places: while next < places.len() {
         copies.push(in_segment(segs, seg, start, places[next]))?;

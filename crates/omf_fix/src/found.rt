@@ -36,9 +36,19 @@ fn product(times: u32, len: usize) -> Result<usize, NoMemory>
     }
 }
 
+/// A place in data. Data of 2^32 bytes is in no segment.
+fn place_at(base: usize, offset: usize) -> Result<u32, NoMemory>
+    ensures { IfOk result (λ place. place ≡ base + offset) }
+{
+    match u32::try_from(sum(base, offset)?) {
+        Ok(place) => Ok(place),
+        Err(_) => Err(NoMemory),
+    }
+}
+
 /// Adds the places from `start` up to `end` once more, each moved up by `shift`.
 fn push_shifted(
-    places: &mut Vec<usize>,
+    places: &mut Vec<u32>,
     start: usize,
     end: usize,
     shift: usize,
@@ -50,7 +60,7 @@ fn push_shifted(
     let mut next = start;
     'places: while next < end {
         let place = places[next];
-        places.push(sum(shift, place)?)?;
+        places.push(place_at(shift, place as usize)?)?;
         next += 1;
     }
     Ok(())
@@ -58,7 +68,7 @@ fn push_shifted(
 
 /// Repeats the places from `start` on, which stand there once, for each repeat of `unit` bytes.
 fn repeat_places(
-    places: &mut Vec<usize>,
+    places: &mut Vec<u32>,
     start: usize,
     unit: usize,
     times: u32,
@@ -86,7 +96,7 @@ fn repeat_places(
 #[derive(Debug, Drop)]
 pub struct Copies {
     len: usize,
-    pub places: Vec<usize>,
+    pub places: Vec<u32>,
     pub contents: Vec<(usize, usize)>,
 }
 
@@ -113,7 +123,7 @@ fn is_inside(first: usize, past: usize, number: usize) -> bool
 
 /// Adds the place of a number, in data that begins at `base` and has been copied from these numbers, if it is there.
 fn push_inside(
-    places: &mut Vec<usize>,
+    places: &mut Vec<u32>,
     base: usize,
     first: usize,
     past: usize,
@@ -123,7 +133,7 @@ fn push_inside(
     ensures { OnOk result (places.new.items ≡ places.old.items ++ map (λ x. base + x) (place_in first (past - first) number)) }
 {
     if is_inside(first, past, number) {
-        places.push(sum(base, number - first)?)?;
+        places.push(place_at(base, number - first)?)?;
     }
     Ok(())
 }

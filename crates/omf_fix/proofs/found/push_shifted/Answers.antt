@@ -11,8 +11,8 @@ index-place-requires c =
 
 pub places-preserved : goal.places-preserved
 places-preserved c = (
-  shift-more c.args.places.now.items c.places.places.items c.push.new.self.items c.args.start c.args.end c.places.next c.args.shift c.in_ok-sum.field-0 c.index-place.result.now c.places.invariant.0 c.places.invariant.1 c.places-test.true (omega (arith, c.requires.high, c.args.places.now.ok.0))
-      (c.in_ok-sum.ensures ∙ ap (λ (n : ℕ). c.args.shift + n) c.index-place.ensures) c.in_ok-push.ensures.items,
+  shift-more c.args.places.now.items c.places.places.items c.push.new.self.items c.args.start c.args.end c.places.next c.args.shift c.in_ok-place_at.field-0 c.index-place.result.now c.places.invariant.0 c.places.invariant.1 c.places-test.true (omega (arith, c.requires.high, c.args.places.now.ok.0))
+      (c.in_ok-place_at.ensures ∙ ap (λ (n : ℕ). c.args.shift + n) c.index-place.ensures) c.in_ok-push.ensures.items,
   omega (arith, c.places.invariant.1),
   omega (arith, c.places-test.true),
 )
