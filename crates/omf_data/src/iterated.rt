@@ -107,7 +107,8 @@ pub fn lidata_marked(
     Ok(())
 }
 
-/// The same for parts of which no marks were kept.
+/// Adds the data of an LIDATA record ("A2h LIDATA") to parts of which no marks were kept. After a refusal nothing is
+/// told of the parts.
 pub fn lidata(alloc: Global, rec: &Rec, into: &mut ObjParts) -> Result<(), Fail<OmfRefusal>>
     requires kind { (rec.now.ty ≡ LIDATA) ⊎ (rec.now.ty ≡ LIDATA_32) }
     requires begun { IsBegun into.old }

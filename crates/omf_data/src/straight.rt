@@ -88,7 +88,8 @@ pub fn ledata_marked(
     Ok(())
 }
 
-/// The same for parts of which no marks were kept.
+/// Adds the data of an LEDATA record ("A0h LEDATA") to parts of which no marks were kept. After a refusal nothing is
+/// told of the parts.
 pub fn ledata(alloc: Global, rec: &Rec, into: &mut ObjParts) -> Result<(), Fail<OmfRefusal>>
     requires kind { (rec.now.ty ≡ LEDATA) ⊎ (rec.now.ty ≡ LEDATA_32) }
     requires begun { IsBegun into.old }

@@ -1,4 +1,4 @@
--- A fixup on the blocks of an LIDATA record, by what was written of them.
+-- A fixup on the blocks of an LIDATA record, by what was found in them.
 use Rattle.std.proofs.Common.{◌≡◌, ℕ, zero, suc, ◌+◌, ◌<◌, ◌≤◌, Bool, false, leb, inl, inr, List, [], ◌∷◌, length, map, refl, sym, ap, subst, ◌∙◌, arith}
 use Rattle.std.specs.Prelude.{◌&&◌, ◌==◌, not, slice_index, IsSomeAnd, Option, Some, None}
 use Rattle.std.specs.List.{All, AllByRecursion, filter, list_any, range_with_len}

@@ -39,7 +39,8 @@ pub fn fixups_marked(
     Ok(())
 }
 
-/// The same for parts of which no marks were kept.
+/// Adds what a FIXUPP record ("9Ch FIXUPP") says to parts of which no marks were kept. After a refusal nothing is told
+/// of the parts.
 pub fn fixups(alloc: Global, rec: &Rec, into: &mut ObjParts) -> Result<(), Fail<OmfRefusal>>
     requires kind { (rec.now.ty ≡ FIXUPP) ⊎ (rec.now.ty ≡ FIXUPP_32) }
     requires begun { IsBegun into.old }

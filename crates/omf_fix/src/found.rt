@@ -161,7 +161,7 @@ fn find_content(
     Ok(())
 }
 
-/// How often a block is written.
+/// How often a block is repeated.
 fn live_times(live: bool, times: u32) -> u32
     ensures { result ≡ live_times_of live times }
 {

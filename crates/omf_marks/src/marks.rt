@@ -19,8 +19,8 @@ use std::collections::BTreeSet;
 // The longest location has this many bytes.
 const LONGEST: u64 = 6;
 
-/// The marks of an unfinished module's pieces and fixes, or of the first of them: what came since is seen when it is
-/// asked for.
+/// The marks of an unfinished module's pieces ("A0h LEDATA", "A2h LIDATA") and fixes ("9Ch FIXUPP"), or of the first of
+/// them: what came since is seen before marks are asked.
 #[derive(Drop)]
 pub struct Marks {
     pieces: usize,
