@@ -70,9 +70,8 @@ fn fields_of<'a>(
 }
 
 /// Adds the data of an LIDATA record as one piece, expanded; later fixups refer to its blocks. Data of a debug
-/// segment is dropped. Its length is measured and judged before it is expanded. The marks see
-/// what of the parts they have not seen. After a refusal nothing is told of
-/// the parts.
+/// segment is dropped. Its length is measured and judged before it is expanded. The marks see what they have not seen
+/// of the parts before. After a refusal nothing is told of the parts.
 pub fn lidata_marked(
     alloc: Global,
     rec: &Rec,
@@ -107,7 +106,8 @@ pub fn lidata_marked(
     Ok(())
 }
 
-/// The same for parts of which no marks were kept.
+/// Adds the data of an LIDATA record ("A2h LIDATA") to parts of which no marks were kept. After a refusal nothing is
+/// told of the parts.
 pub fn lidata(alloc: Global, rec: &Rec, into: &mut ObjParts) -> Result<(), Fail<OmfRefusal>>
     requires kind { (rec.now.ty ≡ LIDATA) ⊎ (rec.now.ty ≡ LIDATA_32) }
     requires begun { IsBegun into.old }

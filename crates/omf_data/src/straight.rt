@@ -59,8 +59,7 @@ fn fields_of<'a>(
 }
 
 /// Adds the data of an LEDATA record as a piece, which later fixups refer to. Data of a debug segment is dropped.
-/// The marks see
-/// what of the parts they have not seen. After a refusal nothing is told of the parts.
+/// The marks see what they have not seen of the parts before. After a refusal nothing is told of the parts.
 pub fn ledata_marked(
     alloc: Global,
     rec: &Rec,
@@ -88,7 +87,8 @@ pub fn ledata_marked(
     Ok(())
 }
 
-/// The same for parts of which no marks were kept.
+/// Adds the data of an LEDATA record ("A0h LEDATA") to parts of which no marks were kept. After a refusal nothing is
+/// told of the parts.
 pub fn ledata(alloc: Global, rec: &Rec, into: &mut ObjParts) -> Result<(), Fail<OmfRefusal>>
     requires kind { (rec.now.ty ≡ LEDATA) ⊎ (rec.now.ty ≡ LEDATA_32) }
     requires begun { IsBegun into.old }

@@ -16,7 +16,7 @@ use omf_marks::Marks;
 use std::alloc::Global;
 
 /// Adds what a FIXUPP record says, field after field: threads that later fixups name, and fixes on the data of the
-/// last data record, one in each of its copies. The marks see what of the parts they have not seen. After a refusal
+/// last data record, one in each of its copies. The marks see what they have not seen of the parts. After a refusal
 /// nothing is told of the parts.
 pub fn fixups_marked(
     alloc: Global,
@@ -39,7 +39,8 @@ pub fn fixups_marked(
     Ok(())
 }
 
-/// The same for parts of which no marks were kept.
+/// Adds what a FIXUPP record ("9Ch FIXUPP") says to parts of which no marks were kept. After a refusal nothing is told
+/// of the parts.
 pub fn fixups(alloc: Global, rec: &Rec, into: &mut ObjParts) -> Result<(), Fail<OmfRefusal>>
     requires kind { (rec.now.ty ≡ FIXUPP) ⊎ (rec.now.ty ≡ FIXUPP_32) }
     requires begun { IsBegun into.old }

@@ -6,12 +6,12 @@ mod blocks;
 mod field;
 mod fix_data;
 mod fixupp;
+mod found;
 mod have;
 mod location;
 mod methods;
 mod place;
 mod threads;
-mod written;
 
 pub use fix_data::{FixFields, fix_fields, start_at};
 pub use fixupp::{fixups, fixups_marked};

@@ -1,6 +1,6 @@
 -- Marks stay marks of what records add to.
-use Rattle.std.proofs.Common.{◌≡◌, ℕ, ◌+◌, ◌≤◌, List, ◌++◌, length, Result, Ok, Err, sym, ap, subst, ◌∙◌, arith, length-append}
-use Rattle.std.specs.Prelude.{take, OnOk}
+use Rattle.std.proofs.Common.{◌≡◌, ◌+◌, List, ◌++◌, length, Result, Ok, Err, sym, ap, subst, ◌∙◌, arith, length-append}
+use Rattle.std.specs.Prelude.{OnOk}
 use Rattle.std.specs.List.{sum_by, list_any}
 use Rattle.std.proofs.lemmas.List.{take-append-le}
 use Rattle.obj_types.specs.declared.object.Piece.{Piece}

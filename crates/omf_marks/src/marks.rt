@@ -1,6 +1,6 @@
 //! How many bytes of data there are so far, and where the locations of the fixes so far lie.
 
-ghost use Rattle.std.specs.Prelude.{◌≡◌, ◌+◌, ◌<◌, ◌≤◌, ◌^◌, ℕ, Bool, List, OnOk, length};
+ghost use Rattle.std.specs.Prelude.{◌≡◌, ◌+◌, ◌<◌, ◌≤◌, OnOk, length};
 ghost use Rattle.std.specs.List.{list_any, sum_by};
 ghost use Rattle.obj_types.specs.declared.limits.TheConstants.{MAX_DATA};
 ghost use Rattle.obj_types.specs.declared.object.FixAt.{FixAt};
@@ -9,7 +9,7 @@ ghost use Rattle.obj_types.specs.declared.parts.ObjParts.{ObjParts};
 ghost use Rattle.obj_types.specs.Location.{location_len as len_of_location};
 ghost use Rattle.omf_model.specs.Fixups.{touches};
 ghost use Rattle.omf_model.specs.Items.{data_so_far};
-ghost use Rattle.omf_marks.specs.Marks.{AreMarks, HaveAll, HaveFixes, HavePieces, key_of, reaches as reaches_behind};
+ghost use Rattle.omf_marks.specs.Marks.{AreMarks, HaveAll, HaveFixes, HavePieces, reaches as reaches_behind};
 
 use lx_types::NoMemory;
 use obj_types::{FixAt, ObjParts, Piece};
@@ -19,8 +19,8 @@ use std::collections::BTreeSet;
 // The longest location has this many bytes.
 const LONGEST: u64 = 6;
 
-/// The marks of an unfinished module's pieces and fixes, or of the first of them: what came since is seen when it is
-/// asked for.
+/// The marks of an unfinished module's pieces ("A0h LEDATA", "A2h LIDATA") and fixes ("9Ch FIXUPP"), or of the first of
+/// them: what came since is seen before marks are asked.
 #[derive(Drop)]
 pub struct Marks {
     pieces: usize,

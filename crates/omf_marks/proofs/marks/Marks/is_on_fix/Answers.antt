@@ -1,10 +1,9 @@
-use Rattle.std.proofs.Common.{rules, tests, ◌≡◌, ℕ, ◌+◌, ◌-◌, ◌<◌, Bool, List, sym, ap, ◌∙◌, arith}
-use Rattle.std.specs.List.{list_any}
+use Rattle.std.proofs.Common.{rules, tests, ℕ, ◌+◌, ◌-◌, sym, ap, ◌∙◌, arith}
 use Rattle.std.specs.declared.ops.Bound.TheVariants.{Included, Excluded}
 use Rattle.std.specs.BTreeSet.{keys_between}
 use Rattle.std.proofs.lemmas.Iterator.Consumers.{YieldsList-from_rest}
 use Rattle.std.proofs.lemmas.Iterator.Search.{any_from_yields_List}
-use Rattle.omf_marks.specs.Marks.{order, reaches, is_at}
+use Rattle.omf_marks.specs.Marks.{order, reaches}
 use Rattle.omf_marks.proofs.Touched.{all-located, any-touched, none-touched}
 use Rattle.omf_marks.proofs.marks.Marks.is_on_fix.Goals as goal
 

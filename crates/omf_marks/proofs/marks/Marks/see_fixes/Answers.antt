@@ -1,5 +1,4 @@
-use Rattle.std.proofs.Common.{◌≡◌, ℕ, ◌+◌, ◌<◌, ◌≤◌, Bool, List, sym, ap, ◌∙◌, arith}
-use Rattle.omf_marks.specs.Marks.{order, is_at}
+use Rattle.std.proofs.Common.{arith}
 use Rattle.omf_marks.proofs.Touched.{located-more}
 use Rattle.omf_marks.proofs.marks.Marks.see_fixes.Goals as goal
 
