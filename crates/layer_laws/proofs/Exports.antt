@@ -33,6 +33,7 @@ use Rattle.link_core.proofs.TargetsThere.{LeadsThere, through, mapped, from_filt
 use Rattle.link_core.proofs.FewImports.{export_with}
 use Rattle.link_core.proofs.RecordsFit.{AmongPairs, import-among}
 use Rattle.layer_laws.specs.Ranges.{KeyInRange}
+use Rattle.layer_laws.proofs.Lists.{each-of}
 use Rattle.layer_laws.proofs.Given.{Given}
 use Rattle.layer_laws.proofs.Known.{known-export, known-import, small-ordinal, OffsetSmall, symbol-offset}
 use Rattle.layer_laws.proofs.NameOffsets.{offset-small}
@@ -152,9 +153,5 @@ export_fits l g short x i =
     let h = mapped (exported_with out.item) (head_of l out.item.target) x out.gives in
     subst (ExportFits l) h.gives (one_fits l g short q.item.0 q.item.1 out.item h.item z.one z.other q.gives h.is)
 
-each_of : {X : Type 0} (P : X → Type 0) (xs : List X) → ((x : X) → In x xs → P x) → AllByRecursion P xs
-each_of P [] all = tt
-each_of P (x ∷ xs) all = (all x here, each_of P xs (λ y i. all y (there i)))
-
 pub exports-fit : (l : Link) → Given l → length (name_table (procs_in (link_pairs l))) < 2 ^ 32 → AllByRecursion (ExportFits l) (exported_of l)
-exports-fit l g short = each_of (ExportFits l) (exported_of l) (export_fits l g short)
+exports-fit l g short = each-of (ExportFits l) (exported_of l) (export_fits l g short)

@@ -1,5 +1,5 @@
 -- The byte of a page with its fixups, by what each of its sources puts there.
-use Rattle.std.specs.Prelude.{◌≡◌, ℕ, ℤ, pos, negsuc, suc, ◌+◌, ◌-◌, ◌-ℤ◌, ◌<◌, ◌≤◌, ◌⊎◌, nat_le, Bool, true, false, cond, List, [], ◌∷◌, Option, Some, None, map, reverse, length, slice_index, is_some, unwrap_or, refl}
+use Rattle.std.specs.Prelude.{◌≡◌, ℕ, ℤ, pos, negsuc, suc, ◌+◌, ◌-◌, ◌-ℤ◌, ◌<◌, ◌≤◌, ◌⊎◌, nat_le, Bool, false, cond, List, [], ◌∷◌, Option, Some, None, map, reverse, length, slice_index, is_some, unwrap_or, refl}
 use Rattle.std.specs.List.{All, AllByRecursion}
 use Rattle.std.specs.List.Sorted.{IsPermutation}
 use Rattle.std.proofs.Common.{ap, sym, ◌∙◌, arith, subst, true≢false, inl, inr}
@@ -13,11 +13,12 @@ use Rattle.lx_types.specs.declared.bases.Bases.{Bases}
 use Rattle.lx_types.specs.declared.fix.Fix.{Fix}
 use Rattle.lx_types.specs.declared.object.PageId.{PageId}
 use Rattle.lx_types.specs.declared.parts.Parts.{Parts}
-use Rattle.link_model.proofs.Members.{In, here, there}
+use Rattle.link_model.proofs.Members.{In, each_in}
 use Rattle.lx_model.specs.Fixed.{Raw, Patch, patch_of, index_in, byte_if, patched, sources_of, patches_of, Fixed}
 use Rattle.lx_model.specs.Library.{module_of}
 use Rattle.lx_model.specs.Reading.{first}
 use Rattle.image_model.proofs.Faultless.{none_first}
+use Rattle.layer_laws.proofs.Lists.{le-true}
 
 -- ---- the first of those that put a byte there
 
@@ -81,11 +82,6 @@ nothing lib m bases p i fs moved none =
     let of_sources = unmapped Q (patch_of lib m bases p) sources (recursion_from_All Q patches of_patches) in
     recursion_from_All P fs (All-permutation P sources fs (IsPermutation-sym fs sources moved) (All-from_recursion P sources of_sources))
 
-each_in : (P : Fix → Type 0) (fs : List Fix) → AllByRecursion P fs → (f : Fix) → In f fs → P f
-each_in P [] each f i = elim i [ ]
-each_in P (g ∷ fs) each f here = each.0
-each_in P (g ∷ fs) each f (there i) = each_in P fs each.1 f i
-
 none_left : (lib : List Parts) (m : ℕ) (bases : Bases) (p : PageId) (i : ℕ) (fs : List Fix) → IsPermutation fs (sources_of (module_of lib m) p) → AllByRecursion (λ f. put lib m bases p i f ≡ None) fs → last_patched lib m bases p i ≡ None
 unfolding last_patched
 none_left lib m bases p i fs moved each =
@@ -107,7 +103,7 @@ fixed-raw lib m bases p i fs moved each =
 pub fixed-put : (lib : List Parts) (m : ℕ) (bases : Bases) (p : PageId) (i b : ℕ) (fs : List Fix) (f : Fix) → IsPermutation fs (sources_of (module_of lib m) p) → AllByRecursion (λ g. Outcome b (put lib m bases p i g)) fs → In f fs → put lib m bases p i f ≡ Some b → Fixed lib m bases p i ≡ b
 fixed-put lib m bases p i b fs f moved each inside is =
     elim (outcomes lib m bases p i b fs moved (All-from_recursion (λ (g : Fix). Outcome b (put lib m bases p i g)) fs each)) as (λ s. Fixed lib m bases p i ≡ b) [
-      | inl none ↦ absurd (true≢false (sym (ap is_some is) ∙ ap is_some (each_in (λ g. put lib m bases p i g ≡ None) fs (nothing lib m bases p i fs moved none) f inside)))
+      | inl none ↦ absurd (true≢false (sym (ap is_some is) ∙ ap is_some (each_in (λ g. put lib m bases p i g ≡ None) fs (nothing lib m bases p i fs moved none) inside)))
       | inr some ↦ fixed_is lib m bases p i ∙ ap (λ (o : Option ℕ). unwrap_or o (Raw (module_of lib m) p i)) some
     ]
 
@@ -121,9 +117,6 @@ place_is a b from = omega (arith, ints)
 place_before : (a b : ℕ) → a < b → negsuc (b - a - 1) ≡ pos a -ℤ pos b
 place_before a b below = omega (arith, ints)
 
-le_true : (a b : ℕ) → a ≤ b → nat_le a b ≡ true
-le_true a b h = grind (arith, nat_tests)
-
 le_false : (a b : ℕ) → b < a → nat_le a b ≡ false
 le_false a b h = grind (arith, nat_tests)
 
@@ -136,7 +129,7 @@ index-from a b i from =
     elim (cases_lt a b) as (λ s. index_in (pos a -ℤ pos b) i ≡ Some (b + i - a)) [
       | inl below ↦ ap (λ (z : ℤ). index_in z i) (sym (place_before a b below)) ∙ ap (λ (n : ℕ). Some n) (let e : i + suc (b - a - 1) ≡ b + i - a = omega (arith, below) in e)
       | inr past ↦
-          ap (λ (z : ℤ). index_in z i) (sym (place_is a b past)) ∙ ap (λ (t : Bool). cond t (Some (i - (a - b))) None) (le_true (a - b) i (omega (arith, from, past)))
+          ap (λ (z : ℤ). index_in z i) (sym (place_is a b past)) ∙ ap (λ (t : Bool). cond t (Some (i - (a - b))) None) (le-true (a - b) i (omega (arith, from, past)))
           ∙ ap (λ (n : ℕ). Some n) (let e : i - (a - b) ≡ b + i - a = omega (arith, past, from) in e)
     ]
 

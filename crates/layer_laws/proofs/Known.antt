@@ -20,7 +20,6 @@ use Rattle.link_model.specs.declared.symbols.LaidObject.{LaidObject}
 use Rattle.link_model.specs.declared.symbols.SymDef.{SymDef}
 use Rattle.link_model.specs.declared.symbols.SymDef.TheVariants as means
 use Rattle.link_model.specs.Words.{first_of, wrapped}
-use Rattle.link_model.specs.Appearance.{firsts}
 use Rattle.link_model.specs.Link.{Link, exports}
 use Rattle.link_model.specs.Symbols.{Meaning, Public, Imported, Definition, of_public, of_import, definitions_in, definitions, pair_of, import_key, same_import, imports, commons}
 use Rattle.link_model.specs.Layout.{objects, spot, common_spot}
@@ -28,19 +27,15 @@ use Rattle.link_model.specs.LayoutRefusals.{lay_refusal}
 use Rattle.link_model.specs.Goals.{Target, Internal, Constant, Entry, shifted, of_symbol}
 use Rattle.link_model.specs.Exports.{ordinals, asked_ordinals, wrong_ordinal, ordinal_past, name_twice, entry_refusal}
 use Rattle.link_model.specs.NothingDropped.{LiesInObject}
-use Rattle.link_model.proofs.Members.{In, here, there, all_in, each_in, in_at, in_either, item_at, from_filter, from_map, from_flat_map, from_numbered, value_of}
+use Rattle.link_model.proofs.Members.{In, here, there, all_in, each_in, in_at, in_either, item_at, from_map, from_flat_map, from_numbered, value_of}
 use Rattle.link_model.proofs.ExternalsMean.{neither}
 use Rattle.link_model.proofs.FixupsStay.{module_whole, numbered_module, IsThere}
 use Rattle.link_model.proofs.SegmentsStand.{communals_stand}
 use Rattle.link_core.proofs.TargetsThere.{mapped, from_filter_map}
 use Rattle.layer_laws.specs.Ranges.{ImportInRange, ExportInRange, ModuleInRange}
+use Rattle.layer_laws.proofs.Lists.{from-firsts}
 use Rattle.layer_laws.proofs.Given.{Given}
 use Rattle.layer_laws.proofs.Sizes.{sizes-within}
-
-pub from_firsts : {X : Type 0} (same : X → X → Bool) (xs : List X) {x : X} → In x (firsts same xs) → In x xs
-from_firsts same [] i = i
-from_firsts same (y ∷ xs) here = here
-from_firsts same (y ∷ xs) (there i) = there (from_firsts same xs (from_filter (λ z. not (same y z)) (firsts same xs) i))
 
 -- ---- imports
 
@@ -92,7 +87,7 @@ pub known-import : (l : Link) → Given l → (p : Imp) → In p (imports l) →
 unfolding imports
 known-import l g p i =
     let pairs = filter_map (λ (d : Definition). pair_of d.meaning) (definitions l) in
-    let r = from_filter_map (λ (d : Definition). pair_of d.meaning) (definitions l) (from_firsts (λ a b. same_import (import_key a) (import_key b)) pairs i) in
+    let r = from_filter_map (λ (d : Definition). pair_of d.meaning) (definitions l) (from-firsts (λ a b. same_import (import_key a) (import_key b)) pairs i) in
     in_definitions l g r.item p r.inside r.gives
 
 -- ---- exports

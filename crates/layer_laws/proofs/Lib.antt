@@ -1,3 +1,4 @@
+pub mod Lists
 pub mod Given
 pub mod Sizes
 pub mod Objects

@@ -1,6 +1,5 @@
 -- Where a fixup record covers a place, and puts there what the fixup means, the loaded byte is the one that the link means.
-use Rattle.std.specs.Prelude.{◌≡◌, ℕ, suc, ◌+◌, ◌-◌, ◌*◌, ◌/◌, ◌%◌, ◌<◌, ◌==◌, ◌&&◌, nat_lt, nat_le, not, Bool, true, false, List, [], ◌∷◌, Option, Some, length, slice_get, slice_index, unwrap_or, refl}
-use Rattle.std.specs.List.{AllByRecursion}
+use Rattle.std.specs.Prelude.{◌≡◌, ℕ, suc, ◌+◌, ◌-◌, ◌*◌, ◌/◌, ◌%◌, ◌<◌, ◌==◌, ◌&&◌, nat_lt, nat_le, not, Bool, true, false, List, Option, Some, length, slice_get, slice_index, unwrap_or, refl}
 use Rattle.std.specs.Option.{option_map}
 use Rattle.std.proofs.Common.{ap, sym, ◌∙◌, arith, subst, inl, inr}
 use Rattle.std.proofs.Math.Nat.{mod-lt}
@@ -19,11 +18,12 @@ use Rattle.link_model.specs.Mean.{fixup_end, live_fixups, fixup_covers, Mean}
 use Rattle.link_model.specs.Patches.{is_patched, recorded}
 use Rattle.link_model.specs.Records.{target_and_additive, record_on, stands_on, page_records}
 use Rattle.link_model.specs.Value.{World, value_bytes}
-use Rattle.link_model.proofs.Members.{In, here, there, from_filter, in_filter, in_map}
+use Rattle.link_model.proofs.Members.{In, from_filter, in_filter, in_map}
 use Rattle.link_model.proofs.ValueLengths.{values_fit}
 use Rattle.lx_model.specs.ModuleBytes.{page_with, FixedByte}
 use Rattle.image_model.specs.Linked.{fix_in_file}
 use Rattle.link_core.proofs.FewImports.{in-filter_map}
+use Rattle.layer_laws.proofs.Lists.{each-of}
 use Rattle.layer_laws.proofs.MeanBytes.{found-there, value-is, mean-of}
 use Rattle.layer_laws.proofs.FixedBytes.{Outcome, put, fixed-put, byte-inside}
 use Rattle.layer_laws.proofs.RecordBytes.{record-with, of-fixup, bytes-of, put-is, put-outside}
@@ -106,16 +106,12 @@ other_put l lib m loaded bases w n x q t i covers led same f inside =
         inr (subst (λ (a : Fixup). put lib m bases (page_with n x) (x % PAGE_SIZE) (fix_in_file l (record-with (x / PAGE_SIZE) a u)) ≡ Some (byte_of l w x q)) one
         (subst (λ (v : FixTarget × ℕ). put lib m bases (page_with n x) (x % PAGE_SIZE) (fix_in_file l (record-with (x / PAGE_SIZE) q v)) ≡ Some (byte_of l w x q)) target mine))
 
-each_of : (P : Fix → Type 0) (fs : List Fix) → ((f : Fix) → In f fs → P f) → AllByRecursion P fs
-each_of P [] all = tt
-each_of P (f ∷ fs) all = (all f here, each_of P fs (λ g i. all g (there i)))
-
 pub covered-byte : (l : Link) (lib : List Parts) (m : ℕ) → Loaded l lib m → (bases : Bases) (w : World) (i x : ℕ) (o : LaidObject) → slice_get (objects l) i ≡ Some o → x < o.size → (q : Fixup) (t : FixTarget × ℕ) → In q (recorded l)
     → fixup_covers (suc i) x q ≡ true → target_and_additive l q q.target ≡ Some t → bytes-of lib m bases (page_with (suc i) x) (fix_in_file l (record-with (x / PAGE_SIZE) q t)) ≡ value_bytes l w q → FixedByte lib m bases (suc i) x ≡ Mean l w (suc i) x
 covered-byte l lib m loaded bases w i x o e below q t inside covers led same =
     let p = page_with (suc i) x in
     let fs = page-fixes l (suc i) (x / PAGE_SIZE) in
     let live = recorded-live l q inside in
-    let each = each_of (λ f. Outcome (byte_of l w x q) (put lib m bases p (x % PAGE_SIZE) f)) fs (other_put l lib m loaded bases w (suc i) x q t inside covers led same) in
+    let each = each-of (λ f. Outcome (byte_of l w x q) (put lib m bases p (x % PAGE_SIZE) f)) fs (other_put l lib m loaded bases w (suc i) x q t inside covers led same) in
     fixed-put lib m bases p (x % PAGE_SIZE) (byte_of l w x q) fs (fix_in_file l (record-with (x / PAGE_SIZE) q t)) (sources-moved l lib m loaded i x o e below) each (record-here l (suc i) x q t inside covers led) (put_here l lib m loaded bases w (suc i) x q t inside covers same)
     ∙ sym (mean-of l w (suc i) x q loaded.known.place_none live (found-there l (suc i) x q live covers))

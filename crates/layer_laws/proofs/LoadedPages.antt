@@ -1,6 +1,6 @@
 -- The bytes of a page under the bases of a load: where no fixup is left to the loader, and where one is.
-use Rattle.std.specs.Prelude.{◌≡◌, ℕ, zero, suc, ◌+◌, ◌*◌, ◌/◌, ◌%◌, ◌<◌, ◌==◌, ◌&&◌, nat_lt, Bool, true, false, List, [], ◌∷◌, Some, None, map, slice_get, is_some, refl}
-use Rattle.std.specs.List.{AllByRecursion, list_any}
+use Rattle.std.specs.Prelude.{◌≡◌, ℕ, zero, suc, ◌+◌, ◌*◌, ◌/◌, ◌%◌, ◌<◌, ◌==◌, ◌&&◌, nat_lt, Bool, true, false, List, Some, None, map, slice_get, is_some, refl}
+use Rattle.std.specs.List.{list_any}
 use Rattle.std.specs.List.Sorted.{IsPermutation}
 use Rattle.std.proofs.Common.{ap, sym, ◌∙◌, arith, subst, true≢false}
 use Rattle.std.proofs.Math.Nat.{div-add-mod}
@@ -19,7 +19,7 @@ use Rattle.link_model.specs.Mean.{fixup_end, fixup_covers, Mean}
 use Rattle.link_model.specs.Patches.{recorded}
 use Rattle.link_model.specs.Records.{page_records, stands_on}
 use Rattle.link_model.specs.Value.{World}
-use Rattle.link_model.proofs.Members.{In, here, there, any_in}
+use Rattle.link_model.proofs.Members.{In, any_in}
 use Rattle.lx_model.specs.Fixed.{Raw, sources_of}
 use Rattle.lx_model.specs.Library.{module_of}
 use Rattle.lx_model.specs.ModuleBytes.{page_with, FixedByte}
@@ -30,6 +30,7 @@ use Rattle.image_model.specs.World.{world_of}
 use Rattle.image_model.proofs.PartsRead.{parts_read}
 use Rattle.link_core.proofs.RecordsFit as core
 use Rattle.layer_laws.specs.LoadedBytes.{PlainBytesLoaded}
+use Rattle.layer_laws.proofs.Lists.{each-of}
 use Rattle.layer_laws.proofs.Given.{Given, given}
 use Rattle.layer_laws.proofs.ImagesFit.{images_fit}
 use Rattle.layer_laws.proofs.RawBytes.{raw-byte, pages-cover}
@@ -45,10 +46,6 @@ pub record Loaded (l : Link) (lib : List Parts) (m : ℕ) : Type 0 where
   pub known : Given l
   pub fits : ImageFits (image_of l)
   pub is : module_of lib m ≡ parts_of_image (image_of l)
-
-each_of : (P : Fix → Type 0) (fs : List Fix) → ((f : Fix) → In f fs → P f) → AllByRecursion P fs
-each_of P [] all = tt
-each_of P (f ∷ fs) all = (all f here, each_of P fs (λ g i. all g (there i)))
 
 pub stands-there : (n k : ℕ) (q : Fixup) → stands_on n k q ≡ true → q.object ≡ n
 stands-there n k q e =
@@ -97,7 +94,7 @@ plain-byte l lib m loaded bases w i x o e below none =
     let p = page_with (suc i) x in
     let r = x % PAGE_SIZE in
     let fs = page-fixes l (suc i) (x / PAGE_SIZE) in
-    let each = each_of (λ f. put lib m bases p r f ≡ None) fs (nothing_put l lib m loaded bases (suc i) x none) in
+    let each = each-of (λ f. put lib m bases p r f ≡ None) fs (nothing_put l lib m loaded bases (suc i) x none) in
     fixed-raw lib m bases p r fs (sources-moved l lib m loaded i x o e below) each
     ∙ ap (λ (parts : Parts). Raw parts p r) loaded.is
     ∙ raw-byte l loaded.fits i x o e below

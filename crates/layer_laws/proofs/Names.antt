@@ -8,13 +8,14 @@ use Rattle.lx_types.specs.Names.{IsName, uppercase}
 use Rattle.obj_types.specs.declared.symbol.Imp.{Imp}
 use Rattle.link_model.specs.Link.{Link}
 use Rattle.link_model.specs.ImportTables.{link_pairs, modules_in}
-use Rattle.link_model.proofs.Members.{In, here, there, from_map}
+use Rattle.link_model.proofs.Members.{In, from_map}
 use Rattle.lx_model.specs.NameTables.{NameFits, ImportFits}
 use Rattle.lx_model.specs.ExportTables.{Exported, named, described, resident_table, other_table}
 use Rattle.image_model.specs.Linked.{called}
 use Rattle.link_core.proofs.FewImports.{link-pairs-known}
+use Rattle.layer_laws.proofs.Lists.{each-of, from-firsts}
 use Rattle.layer_laws.proofs.Given.{Given}
-use Rattle.layer_laws.proofs.Known.{from_firsts, known-import}
+use Rattle.layer_laws.proofs.Known.{known-import}
 use Rattle.layer_laws.proofs.Exports.{ExportFits}
 
 some_length : (xs : List ℕ) → xs ≢ [] → 0 < length xs
@@ -77,16 +78,12 @@ others-fit l g xs each = (described_fits (called l) l.def.about (called_fits l g
 
 module_fits : (l : Link) → Given l → (name : List ℕ) → In name (modules_in (link_pairs l)) → ImportFits name
 module_fits l g name i =
-    let pair = from_map (λ (pair : Imp). uppercase pair.module) (link_pairs l) (from_firsts bytes_eq (map (λ (pair : Imp). uppercase pair.module) (link_pairs l)) i) in
+    let pair = from_map (λ (pair : Imp). uppercase pair.module) (link_pairs l) (from-firsts bytes_eq (map (λ (pair : Imp). uppercase pair.module) (link_pairs l)) i) in
     let known = known-import l g pair.item (link-pairs-known l pair.item pair.inside) in
     let long = upper_long pair.item.module in
     let some = some_length pair.item.module known.named in
     let short = known.range.module in
     subst ImportFits pair.is (record { some = omega (arith, long, some); short = omega (arith, long, short) })
 
-each_of : {X : Type 0} (P : X → Type 0) (xs : List X) → ((x : X) → In x xs → P x) → AllByRecursion P xs
-each_of P [] all = tt
-each_of P (x ∷ xs) all = (all x here, each_of P xs (λ y i. all y (there i)))
-
 pub modules-fit : (l : Link) → Given l → AllByRecursion ImportFits (modules_in (link_pairs l))
-modules-fit l g = each_of ImportFits (modules_in (link_pairs l)) (module_fits l g)
+modules-fit l g = each-of ImportFits (modules_in (link_pairs l)) (module_fits l g)

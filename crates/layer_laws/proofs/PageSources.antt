@@ -1,8 +1,7 @@
 -- The sources of a page, as the file of a link has them, are the link's fixup records of that page.
-use Rattle.std.specs.Prelude.{◌≡◌, ℕ, suc, ◌+◌, ◌-◌, ◌<◌, nat_lt, Bool, true, cond, List, [], ◌∷◌, ◌++◌, Some, map, length, get_or, slice_get, refl}
+use Rattle.std.specs.Prelude.{◌≡◌, ℕ, suc, ◌+◌, ◌-◌, ◌<◌, nat_lt, Bool, cond, List, [], ◌∷◌, ◌++◌, Some, map, length, get_or, slice_get, refl}
 use Rattle.std.specs.List.{AllByRecursion, flat_map, enumerate_from, range_with_len}
 use Rattle.std.proofs.Common.{ap, sym, ◌∙◌, arith}
-use Rattle.std.proofs.lemmas.Bool.Decides.{nat_tests}
 use Rattle.std.proofs.lemmas.List.{length-map, get_or-map}
 use Rattle.std.proofs.lemmas.List.FromFn.{get_or-map-range_with_len}
 use Rattle.lx_types.specs.Parts.{fix_span_at}
@@ -26,6 +25,7 @@ use Rattle.image_model.specs.Sections as s
 use Rattle.image_model.proofs.LinkTables.{mapped, ranged}
 use Rattle.image_model.proofs.RecordsRead.{records_in_span, page_means, regrouped}
 use Rattle.image_model.proofs.Standing.{HasFrom, standing, behind, from_imports}
+use Rattle.layer_laws.proofs.Lists.{lt-true}
 use Rattle.layer_laws.proofs.TablePages.{all-of, Counts, object-found}
 
 -- ---- the records of a page of the table
@@ -83,9 +83,6 @@ link_sources l fits =
 
 -- ---- a page of an object
 
-lt_true : (a b : ℕ) → a < b → nat_lt a b ≡ true
-lt_true a b h = grind (arith, nat_tests)
-
 sources_by : (l : Link) (p : PageId) → sources_of (parts_of_image (image_of l)) p ≡ sources_in (file_of (image_of l)) (fix_span_at (parts_of_image (image_of l)) p)
 unfolding sources_of parts_of_image
 sources_by l p = refl
@@ -106,7 +103,7 @@ sources-are l fits i k o e below =
     let there : at < length m.fix_spans = omega (arith, longs, inside) in
     let span : fix_span_at m (record { object = suc i; page = k }) ≡ get_or m.fix_spans at (0, 0) =
     ap (λ (h : ObjHead). cond (nat_lt k h.count) (get_or m.fix_spans (h.first - 1 + k) (0, 0)) (0, 0)) f.is
-    ∙ ap (λ (b : Bool). cond b (get_or m.fix_spans at (0, 0)) (0, 0)) (lt_true k f.head.count small) in
+    ∙ ap (λ (b : Bool). cond b (get_or m.fix_spans at (0, 0)) (0, 0)) (lt-true k f.head.count small) in
     sources_by l (record { object = suc i; page = k })
     ∙ ap (sources_in file) span
     ∙ sym (get_or-map (sources_in file) m.fix_spans at (0, 0) [] there)

@@ -33,6 +33,7 @@ use Rattle.image_model.specs.Sections as s
 use Rattle.image_model.proofs.LinkTables.{mapped, ranged}
 use Rattle.image_model.proofs.RecordsRead.{spanned, regrouped}
 use Rattle.image_model.proofs.Standing.{HasFrom, standing, behind, from_others}
+use Rattle.layer_laws.proofs.Lists.{lt-true}
 use Rattle.layer_laws.proofs.Groups.{groups_give, data-filled}
 use Rattle.layer_laws.proofs.TablePages.{all-of, Counts, object-found}
 
@@ -145,9 +146,6 @@ page_item bytes k i below =
 
 -- ---- a byte of an object
 
-lt_true : (a b : ℕ) → a < b → nat_lt a b ≡ true
-lt_true a b h = grind (arith, nat_tests)
-
 whole_file : (l : Link) (page : PageHead) → bytes_at (parts_of_image (image_of l)).file page ≡ bytes_at (file_of (image_of l)) page
 unfolding parts_of_image
 whole_file l page = refl
@@ -168,7 +166,7 @@ raw_bytes l fits i k o e below =
     let at = f.head.first - 1 + k in
     let there : at < length m.pages = omega (arith, longs, inside) in
     let entry : page_of m.pages (object_of m (suc i)) k ≡ get_or m.pages at zero_page =
-    ap (λ (h : ObjHead). page_of m.pages h k) f.is ∙ ap (λ (b : Bool). cond b (get_or m.pages at zero_page) zero_page) (lt_true k f.head.count small) in
+    ap (λ (h : ObjHead). page_of m.pages h k) f.is ∙ ap (λ (b : Bool). cond b (get_or m.pages at zero_page) zero_page) (lt-true k f.head.count small) in
     let count_here : k < page_count (length (bytes_of l (suc i, o))) = (let size = ap page_count (object_long l (suc i) o) in omega (arith, size, below)) in
     whole_file l (page_of m.pages (object_of m (suc i)) k)
     ∙ ap (bytes_at file) entry

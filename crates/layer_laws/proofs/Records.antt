@@ -1,9 +1,9 @@
 -- The fixup records of a link fit the record table, and their targets are there.
 use Rattle.std.specs.Prelude.{◌≡◌, ℕ, ◌+◌, ◌<◌, ◌≤◌, ◌^◌, ◌==◌, nat_le, Bool, true, false, cond, List, [], ◌∷◌, ◌++◌, Option, Some, map, filter, length, slice_get, is_some, unwrap_or, refl}
-use Rattle.std.specs.List.{All, AllByRecursion, flat_map, enumerate_from, range_with_len}
+use Rattle.std.specs.List.{AllByRecursion, flat_map, enumerate_from, range_with_len}
 use Rattle.std.specs.Option.{option_and_then}
 use Rattle.std.proofs.Common.{ap, sym, arith, subst, true≢false}
-use Rattle.std.proofs.lemmas.List.Elements.{All-from_recursion, recursion_from_All}
+use Rattle.std.proofs.lemmas.List.Elements.{All-from_recursion}
 use Rattle.lx_types.specs.Addresses.{UNIT}
 use Rattle.lx_types.specs.declared.fix.Fix.{Fix}
 use Rattle.lx_types.specs.declared.fix.Source.{Source}
@@ -22,7 +22,7 @@ use Rattle.link_model.specs.Fixups.{Fixup}
 use Rattle.link_model.specs.Patches.{recorded}
 use Rattle.link_model.specs.ImportTables.{used_pairs, link_pairs, modules_in, procs_in, import_target, name_table, with_offset}
 use Rattle.link_model.specs.Records.{source_of, has_alias, target_and_additive, offset_on, record_on, stands_on, page_count, page_records, object_records}
-use Rattle.link_model.proofs.Members.{In, here, there, in_at}
+use Rattle.link_model.proofs.Members.{In, here, there, all_in, in_at}
 use Rattle.lx_model.specs.RecordSpelling.{RecordFits}
 use Rattle.lx_model.specs.JoinedRecords.{records_for}
 use Rattle.lx_fixrec.specs.Writable.{SelectorFits, NumbersFit, IsWritable}
@@ -146,19 +146,11 @@ pub all-pages : (l : Link) (P : List Fix → Type 0) → ((n k : ℕ) → P (pag
 unfolding object_records
 all-pages l P all = all_objects P (page_records l) 1 (objects l) all
 
-pub in-all : (P : Fix → Type 0) (fs : List Fix) → All P fs → (f : Fix) → In f fs → P f
-in-all P fs all f i = by fs (recursion_from_All P fs all) i
-  where
-    by : (xs : List Fix) → AllByRecursion P xs → In f xs → P f
-    by [] each j = elim j [ ]
-    by (x ∷ xs) each here = each.0
-    by (x ∷ xs) each (there j) = by xs each.1 j
-
 page_fits : (l : Link) → Given l → length (name_table (procs_in (link_pairs l))) < 2 ^ 32 → (n k : ℕ) → AllByRecursion RecordFits (records_for (map (fix_in_file l) (page_records l n k)))
 page_fits l g short n k =
     let few = few-modules l g.sym_none in
     let fits = core.page-fits l n k g.lay_none g.whole in
-    let each = mapped-all l IsWritable (page_records l n k) (λ f i. writable l f few short (in-all (core.RecordFits l) (page_records l n k) fits f i) (page_ranged l g n k f i)) in
+    let each = mapped-all l IsWritable (page_records l n k) (λ f i. writable l f few short (all_in (core.RecordFits l) (page_records l n k) fits i) (page_ranged l g n k f i)) in
     records_fit (map (fix_in_file l) (page_records l n k)) (All-from_recursion IsWritable (map (fix_in_file l) (page_records l n k)) each)
 
 pages_fit : (l : Link) (pages : List (List Fix)) → AllByRecursion (λ fs. AllByRecursion RecordFits (records_for (map (fix_in_file l) fs))) pages → AllByRecursion (AllByRecursion RecordFits) (map records_for (map (map (fix_in_file l)) pages))

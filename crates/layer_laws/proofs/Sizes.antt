@@ -1,5 +1,5 @@
 -- The objects of a link whose layout is not refused are at most 1,024, and at most 16 MiB together.
-use Rattle.std.specs.Prelude.{◌≡◌, ℕ, zero, suc, ◌+◌, ◌<◌, ◌≤◌, Bool, true, not, List, [], ◌∷◌, ◌++◌, Option, Some, None, map, max, length, get_or, slice_get, sum_by, refl}
+use Rattle.std.specs.Prelude.{◌≡◌, ℕ, zero, suc, ◌+◌, ◌<◌, ◌≤◌, Bool, true, List, [], ◌∷◌, ◌++◌, Option, Some, None, map, max, length, get_or, slice_get, sum_by, refl}
 use Rattle.std.specs.List.{list_any, enumerate_from, range_with_len, position, position_or_len}
 use Rattle.std.specs.Option.{option_map_or}
 use Rattle.std.proofs.Common.{ap, sym, ◌∙◌, arith, subst, append_assoc, true≢false, inl, inr}
@@ -13,7 +13,6 @@ use Rattle.lx_types.specs.Addresses.{room}
 use Rattle.link_model.specs.declared.limits.TheConstants.{MAX_MEMORY, MAX_OBJECTS}
 use Rattle.link_model.specs.declared.symbols.LaidObject.{LaidObject}
 use Rattle.link_model.specs.Words.{first_of}
-use Rattle.link_model.specs.Appearance.{firsts}
 use Rattle.link_model.specs.Link.{Link}
 use Rattle.link_model.specs.Parts.{Part}
 use Rattle.link_model.specs.Flags.{flags_of}
@@ -22,12 +21,13 @@ use Rattle.link_model.specs.Rows.{Row, end_in, row_after, rows_after, rows}
 use Rattle.link_model.specs.Layout.{placed_from, first_base, objects}
 use Rattle.link_model.specs.LayoutRefusals.{lay_refusal, absolute, use_mixed, group_split, too_large, size_of_rows}
 use Rattle.link_model.proofs.Tables.{firsts-apart}
-use Rattle.link_model.proofs.Members.{In, here, there, any_in, position_is, item_at, in_at, from_filter, from_map}
+use Rattle.link_model.proofs.Members.{In, any_in, position_is, item_at, in_at, from_map}
 use Rattle.link_model.proofs.KeyTests.{in_one_object}
 use Rattle.link_model.proofs.ExternalsMean.{neither}
 use Rattle.seg_parts.proofs.EndSums.{end-here, end-other, sum-more}
 use Rattle.seg_merge.proofs.RowLimits.{size-within}
 use Rattle.link_core.proofs.ObjectsThere.{row_stands, row_there}
+use Rattle.layer_laws.proofs.Lists.{from-firsts}
 
 -- ---- sums over numbers that follow each other
 
@@ -134,11 +134,6 @@ number_within l s none i =
     let number : r.item.object ≡ object_number l s = (row_stands l r.item r.inside).object ∙ ap (object_number l) r.is in
     omega (arith, small, number)
 
-from_firsts : {X : Type 0} (same : X → X → Bool) (xs : List X) {x : X} → In x (firsts same xs) → In x xs
-from_firsts same [] i = i
-from_firsts same (y ∷ xs) here = here
-from_firsts same (y ∷ xs) (there i) = there (from_firsts same xs (from_filter (λ z. not (same y z)) (firsts same xs) i))
-
 -- The place of an object's key is that of the object, since no two have one key.
 own_place : (l : Link) (k : ℕ) (x : Part) → slice_get (object_heads l) k ≡ Some x → k < length (object_heads l) → object_number l x ≡ k + 1
 own_place l k x is below =
@@ -163,7 +158,7 @@ heads_within : (l : Link) (n : ℕ) → lay_refusal l ≡ None → length (objec
 heads_within l zero none count = omega arith
 heads_within l (suc k) none count =
     let last = item_at (object_heads l) k (omega (arith, count)) in
-    let inside = from_firsts (λ a b. same_object (object_key l a) (object_key l b)) (ordered l) (in_at (object_heads l) k last.item last.is) in
+    let inside = from-firsts (λ a b. same_object (object_key l a) (object_key l b)) (ordered l) (in_at (object_heads l) k last.item last.is) in
     let within = number_within l last.item none inside in
     let number = own_place l k last.item last.is (omega (arith, count)) in
     omega (arith, within, number)

@@ -1,8 +1,7 @@
 -- What the targets of a link's fixup records name is there.
-use Rattle.std.specs.Prelude.{◌≡◌, ℕ, zero, suc, ◌+◌, ◌<◌, ◌≤◌, ◌&&◌, nat_lt, nat_le, Bool, true, false, cond, List, [], ◌∷◌, ◌++◌, Some, None, map, length, take, drop, slice_get, slice_index, is_some, refl}
+use Rattle.std.specs.Prelude.{◌≡◌, ℕ, zero, suc, ◌+◌, ◌<◌, ◌&&◌, nat_lt, nat_le, Bool, true, false, cond, List, [], ◌∷◌, ◌++◌, Some, None, map, length, take, drop, slice_get, slice_index, is_some, refl}
 use Rattle.std.specs.List.{AllByRecursion, flat_map}
 use Rattle.std.proofs.Common.{ap, ◌∙◌, arith, subst, length-append, append_assoc}
-use Rattle.std.proofs.lemmas.Bool.Decides.{nat_tests}
 use Rattle.std.proofs.lemmas.List.Elements.{All-from_recursion, recursion_from_All}
 use Rattle.std.proofs.lemmas.List.Sorted.{All-permutation}
 use Rattle.lx_types.specs.Parts.{name_at, span}
@@ -15,7 +14,7 @@ use Rattle.link_model.specs.Link.{Link}
 use Rattle.link_model.specs.Layout.{objects}
 use Rattle.link_model.specs.ImportTables.{link_pairs, modules_in, procs_in, name_bytes, name_table, name_offset, with_offset}
 use Rattle.link_model.specs.Records.{page_count, page_records, object_records}
-use Rattle.link_model.proofs.Members.{item_at}
+use Rattle.link_model.proofs.Members.{all_in, item_at}
 use Rattle.link_model.proofs.NamesAtOffsets.{names_at_offsets}
 use Rattle.lx_model.specs.EntryTable.{names_one_of}
 use Rattle.lx_model.specs.Module.{is_target}
@@ -30,20 +29,15 @@ use Rattle.image_model.specs.Sections.{sections, procs_at}
 use Rattle.image_model.proofs.RecordsRead.{spanned}
 use Rattle.image_model.proofs.Standing.{HasFrom, standing, behind}
 use Rattle.link_core.proofs.RecordsFit as core
+use Rattle.layer_laws.proofs.Lists.{le-true, lt-true}
 use Rattle.layer_laws.proofs.Given.{Given}
-use Rattle.layer_laws.proofs.Records.{all-pages, in-all, mapped-all}
+use Rattle.layer_laws.proofs.Records.{all-pages, mapped-all}
 
 -- ---- a name at its place in the file
 
 both : (a b : Bool) → a ≡ true → b ≡ true → (a && b) ≡ true
 both true b e f = f
 both false b e f = e
-
-le_true : (a b : ℕ) → a ≤ b → nat_le a b ≡ true
-le_true a b h = grind (arith, nat_tests)
-
-lt_true : (a b : ℕ) → a < b → nat_lt a b ≡ true
-lt_true a b h = grind (arith, nat_tests)
 
 item_behind : (before : List ℕ) (x : ℕ) (rest : List ℕ) (at : ℕ) → length before ≡ at → slice_index (before ++ x ∷ rest) at ≡ x
 item_behind [] x rest zero e = refl
@@ -62,7 +56,7 @@ name_stands file at name rest has =
     ∙ (let inner = length-append name rest in omega (arith, inner)) in
     let n = slice_index file at in
     some_when (nat_lt at (length file) && nat_le (at + 1 + n) (length file)) (span file (at + 1) (at + 1 + n))
-    (both (nat_lt at (length file)) (nat_le (at + 1 + n) (length file)) (lt_true at (length file) (omega (arith, size))) (le_true (at + 1 + n) (length file) (omega (arith, len, size))))
+    (both (nat_lt at (length file)) (nat_le (at + 1 + n) (length file)) (lt-true at (length file) (omega (arith, size))) (le-true (at + 1 + n) (length file) (omega (arith, len, size))))
     ∙ ap (λ (k : ℕ). Some (span file (at + 1) (at + 1 + k))) len
     ∙ ap Some (spanned file (at + 1) name rest (behind file at (length name ∷ []) (name ++ rest) has))
 
@@ -94,7 +88,7 @@ proc-stands l k name is =
 -- ---- one target
 
 one_of : (count n : ℕ) → IsNumberOf n count → names_one_of count n ≡ true
-one_of count n is = both (nat_le 1 n) (nat_le n count) (le_true 1 n is.0) (le_true n count is.1)
+one_of count n is = both (nat_le 1 n) (nat_le n count) (le-true 1 n is.0) (le-true n count is.1)
 
 pub objects-counted : (os : List LaidObject) (first : ℕ) → length (object_heads_from first os) ≡ length os
 objects-counted [] first = refl
@@ -126,7 +120,7 @@ page_there l g n k =
     let fs = page_records l n k in
     let file : List Fix = map (fix_in_file l) fs in
     let fits = core.page-fits l n k g.lay_none g.whole in
-    let each = mapped-all l (λ f. IsThere l f.target) fs (λ f i. target_there l f.target (in-all (core.RecordFits l) fs fits f i).names) in
+    let each = mapped-all l (λ f. IsThere l f.target) fs (λ f i. target_there l f.target (all_in (core.RecordFits l) fs fits i).names) in
     let written = flat_map fixes_written (records_for file) in
     let all = All-permutation (λ (f : Fix). IsThere l f.target) file written (records_keep_fixes file) (All-from_recursion (λ f. IsThere l f.target) file each) in
     targets_of_fixes l written (recursion_from_All (λ f. IsThere l f.target) written all)

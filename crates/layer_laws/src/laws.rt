@@ -3,7 +3,8 @@
 ghost use Rattle.layer_laws.specs.LinkedImages.{LinkedFilesRead, LinkedImagesFit};
 ghost use Rattle.layer_laws.specs.LoadedBytes.{LinkedBytesLoaded, PlainBytesLoaded};
 
-/// The image of every input that links fits the format, where its file is shorter than 2^32 bytes.
+/// The image of every input that links fits the fields and the limits of the format ("LX Header" to "Non-Resident Name
+/// Table" in the LX document), where its file is shorter than 2^32 bytes.
 pub fn linked_images_fit()
     ensures { LinkedImagesFit }
 {}
@@ -15,13 +16,15 @@ pub fn linked_files_are_read()
 {}
 
 /// Wherever a module that was linked is loaded, its bytes are those that the link means at each place that no fixup left to
-/// the loader covers: data of plain, iterated and zero-filled pages, and what the linker patched.
+/// the loader covers: data of plain, iterated and zero-filled pages, and what the linker patched ("Object Page Table",
+/// "Iterated Data Pages").
 pub fn plain_bytes_are_loaded()
     ensures { PlainBytesLoaded }
 {}
 
 /// Wherever a module that was linked is loaded, in a library in which it is fit, at bases that are multiples of 65,536 with
-/// each object's end at most 20000000h, each of its bytes, fixups applied, is the one that the link means there.
+/// each object's end at most 20000000h, each of its bytes, fixups applied, is the one that the link means there ("Fixup
+/// Record Table").
 pub fn linked_bytes_are_loaded()
     ensures { LinkedBytesLoaded }
 {}

@@ -1,4 +1,5 @@
-//! Laws over whole links: that the image of every input that links fits the format, so that its file is read again.
+//! Laws over whole links: the file of every input that links is read again as the link, and wherever its module is loaded,
+//! its bytes are those that the link means.
 #![tactic(auto)]
 
 mod laws;
