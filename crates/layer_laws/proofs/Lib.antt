@@ -27,3 +27,6 @@ pub mod SelfFields
 pub mod ImportNames
 pub mod ImportFields
 pub mod EveryByte
+pub mod Apart
+pub mod FreeOrdinals
+pub mod OrdinalsApart
