@@ -30,3 +30,6 @@ pub mod EveryByte
 pub mod Apart
 pub mod FreeOrdinals
 pub mod OrdinalsApart
+pub mod OutApart
+pub mod EntriesFound
+pub mod OutListed
