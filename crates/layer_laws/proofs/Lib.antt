@@ -33,3 +33,4 @@ pub mod OrdinalsApart
 pub mod OutApart
 pub mod EntriesFound
 pub mod OutListed
+pub mod ForwardersFollowed
