@@ -34,3 +34,4 @@ pub mod OutApart
 pub mod EntriesFound
 pub mod OutListed
 pub mod ForwardersFollowed
+pub mod ForwardersNamed
