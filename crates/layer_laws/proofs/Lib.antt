@@ -35,3 +35,4 @@ pub mod EntriesFound
 pub mod OutListed
 pub mod ForwardersFollowed
 pub mod ForwardersNamed
+pub mod EntriesAreOut

@@ -93,13 +93,15 @@ fewer_given g gs (n ∷ free) all = (all.0.1, fewer_given g gs free all.1)
 numbers_apart : (free : List ℕ) (r : ℕ) (os : List (Option ℕ)) → FreeOf free (given os) → Apart (given os) → r + nones os ≤ length free → Apart (numbers free r os)
 numbers_apart free r [] well apart few = tt
 numbers_apart free r (Some n ∷ os) well apart few =
-    let other = fewer_given n (given os) free well.other in
-    (each_number (λ y. n ≢ y) free r os apart.0 (λ k le lt. (all-at (λ m. AllByRecursion (λ g. g ≢ m) (n ∷ given os)) free k well.other lt).0) few,
-    numbers_apart free r os (record { apart = well.apart; other = other }) apart.1 few)
+    let other = fewer_given n (given os) free well.other in (
+      each_number (λ y. n ≢ y) free r os apart.0 (λ k le lt. (all-at (λ m. AllByRecursion (λ g. g ≢ m) (n ∷ given os)) free k well.other lt).0) few,
+      numbers_apart free r os (record { apart = well.apart; other = other }) apart.1 few,
+    )
 numbers_apart free r (None ∷ os) well apart few =
-    let here : r < length free = omega (arith, few) in
-    (each_number (λ y. get_or free r 0 ≢ y) free (r + 1) os (all_flipped (get_or free r 0) (given os) (all-at (λ m. AllByRecursion (λ g. g ≢ m) (given os)) free r well.other here)) (λ k le lt. apart-at free r k well.apart (omega (arith, le)) lt) (omega (arith, few)),
-    numbers_apart free (r + 1) os well apart (omega (arith, few)))
+    let here : r < length free = omega (arith, few) in (
+      each_number (λ y. get_or free r 0 ≢ y) free (r + 1) os (all_flipped (get_or free r 0) (given os) (all-at (λ m. AllByRecursion (λ g. g ≢ m) (given os)) free r well.other here)) (λ k le lt. apart-at free r k well.apart (omega (arith, le)) lt) (omega (arith, few)),
+      numbers_apart free (r + 1) os well apart (omega (arith, few)),
+    )
 
 few_nones : (os : List (Option ℕ)) → nones os ≤ length os
 few_nones [] = omega arith

@@ -1,5 +1,6 @@
 //! Laws over the definitions, each the contract of a function that does nothing.
 
+ghost use Rattle.layer_laws.specs.EntryLaws.{EntriesAreOut};
 ghost use Rattle.layer_laws.specs.LinkedImages.{LinkedFilesRead, LinkedImagesFit};
 ghost use Rattle.layer_laws.specs.LoadedBytes.{LinkedBytesLoaded, PlainBytesLoaded};
 
@@ -27,4 +28,11 @@ pub fn plain_bytes_are_loaded()
 /// Record Table").
 pub fn linked_bytes_are_loaded()
     ensures { LinkedBytesLoaded }
+{}
+
+/// The entry points of a module that was linked are the exports of the link: asked by its ordinal and by its name, each
+/// export leads to its place, or where the pair that it forwards leads in the library of the pair's module name. No other
+/// ordinal and no other name has an entry ("Entry Table", "Resident or Non-resident Name Table Entry" in the LX document).
+pub fn entries_are_exports()
+    ensures { EntriesAreOut }
 {}
