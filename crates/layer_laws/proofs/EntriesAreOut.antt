@@ -1,9 +1,7 @@
 -- The entry points of a module that a link wrote are the exports of the link.
-use Rattle.std.specs.Prelude.{◌≡◌, ◌≢◌, ℕ, zero, suc, ◌==◌, Bool, true, false, List, Option, Some, None, Result, Ok, Err, All, Contains, unwrap_or, refl}
-use Rattle.std.specs.List.{AllByRecursion}
+use Rattle.std.specs.Prelude.{◌≡◌, ◌≢◌, ℕ, zero, suc, ◌==◌, Bool, true, false, List, Option, Some, None, Err, All, unwrap_or, refl}
 use Rattle.std.specs.Option.{option_map}
-use Rattle.std.proofs.Common.{ap, sym, ◌∙◌, arith, subst, inl, inr}
-use Rattle.std.proofs.lemmas.Bool.{cases_Bool}
+use Rattle.std.proofs.Common.{ap, sym, ◌∙◌, arith}
 use Rattle.std.proofs.lemmas.Bool.Decides.{nat_tests}
 use Rattle.lx_types.specs.declared.entry.EntryHead.{EntryHead}
 use Rattle.lx_types.specs.declared.entry.EntryHead.TheVariants as heads
@@ -13,10 +11,8 @@ use Rattle.lx_types.specs.Parts.{entry_of, ordinal_named}
 use Rattle.link_model.specs.Link.{Link}
 use Rattle.link_model.specs.Exports.{ExportTarget, At, Forward, Export, Out}
 use Rattle.link_model.proofs.Members.{In, in_contained, all_in, found_as}
-use Rattle.lx_model.specs.declared.library.Spot.{Spot}
-use Rattle.lx_model.specs.declared.library.EntryFault.{EntryFault}
 use Rattle.lx_model.specs.declared.library.EntryFault.TheVariants as faults
-use Rattle.lx_model.specs.Entries.{OrdinalOf, Stands, fails, spot, head_at, stands_at, Entry, EntryOf, entry_or_none}
+use Rattle.lx_model.specs.Entries.{OrdinalOf, head_at, stands_at, Entry, EntryOf, entry_or_none}
 use Rattle.lx_model.specs.ExportTables.{Exported, export_at, entries_by_ordinal}
 use Rattle.lx_model.specs.Library.{module_of}
 use Rattle.image_model.specs.Exported.{head_of, exported_of}
@@ -26,7 +22,7 @@ use Rattle.image_model.proofs.LinksRead.{links_read}
 use Rattle.image_model.proofs.PartsRead.{parts_read}
 use Rattle.layer_laws.specs.EntryLaws.{leads_to, AreEntries, EntriesAreOut}
 use Rattle.layer_laws.proofs.Lists.{each-of}
-use Rattle.layer_laws.proofs.Given.{Given, given}
+use Rattle.layer_laws.proofs.Given.{given}
 use Rattle.layer_laws.proofs.ImagesFit.{images_fit}
 use Rattle.layer_laws.proofs.LoadedPages.{Loaded}
 use Rattle.layer_laws.proofs.OutApart.{one-of-ordinal, one-of-name, some-ordinal}

@@ -1,7 +1,6 @@
 -- What a forwarder leads to is what the place leads to that it names, a loop of forwarders too.
-use Rattle.std.proofs.Common.{◌≡◌, ◌≢◌, ℕ, zero, suc, ◌+◌, ◌<◌, Bool, true, false, List, Option, Some, None, Result, Ok, Err, refl, sym, subst, ap, ◌∙◌, arith}
+use Rattle.std.proofs.Common.{◌≡◌, ◌≢◌, ℕ, zero, suc, ◌<◌, List, Option, Some, None, Result, Ok, Err, refl, sym, ap, ◌∙◌, arith}
 use Rattle.lx_types.specs.declared.parts.Parts.{Parts}
-use Rattle.lx_types.specs.declared.entry.FwdKey.{FwdKey}
 use Rattle.lx_model.specs.declared.library.Spot.{Spot}
 use Rattle.lx_model.specs.declared.library.EntryFault.{EntryFault}
 use Rattle.lx_model.specs.declared.library.EntryFault.TheVariants as faults

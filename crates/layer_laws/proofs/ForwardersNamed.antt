@@ -1,6 +1,6 @@
 -- A forwarder's entry names the entry point of its pair, in the library of the pair's module name.
-use Rattle.std.specs.Prelude.{◌≡◌, ℕ, ◌+◌, ◌-◌, nat_lt, cond, Bool, true, false, List, [], ◌∷◌, Option, Some, None, bytes_eq, slice_get, get_or, map, position, unwrap_or, refl, ◌&&◌}
-use Rattle.std.specs.Option.{option_map, option_and_then}
+use Rattle.std.specs.Prelude.{◌≡◌, ℕ, ◌+◌, ◌-◌, List, [], ◌∷◌, Option, Some, None, bytes_eq, slice_get, get_or, position, unwrap_or, refl, ◌&&◌}
+use Rattle.std.specs.Option.{option_and_then}
 use Rattle.std.specs.Char.{to_ascii_uppercase}
 use Rattle.std.proofs.Common.{ap, sym, ◌∙◌, arith}
 use Rattle.std.proofs.lemmas.List.Quantifiers.{position-Some}
@@ -20,7 +20,7 @@ use Rattle.obj_types.specs.declared.symbol.Imp.{Imp}
 use Rattle.link_model.specs.Link.{Link}
 use Rattle.link_model.specs.Exports.{Forward}
 use Rattle.link_model.specs.ImportTables.{link_pairs, modules_in, procs_in, entry_target, import_target, name_offset, with_offset}
-use Rattle.lx_model.specs.Entries.{OrdinalOf, Stands, place_or_none, head_at, import_place, key_place, place_named, entry_or_none}
+use Rattle.lx_model.specs.Entries.{OrdinalOf, place_or_none, head_at, import_place, key_place, place_named, entry_or_none}
 use Rattle.lx_model.specs.Library.{module_of, library_named, import_of}
 use Rattle.image_model.specs.Exported.{forwarder_to, head_of}
 use Rattle.image_model.specs.Linked.{image_of}

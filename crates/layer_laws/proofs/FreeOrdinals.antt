@@ -1,14 +1,12 @@
 -- There is a free ordinal for each export that asks for none, and it is no other export's.
-use Rattle.std.specs.Prelude.{◌≡◌, ◌≢◌, ℕ, zero, suc, ◌+◌, ◌<◌, ◌≤◌, ◌==◌, ◌||◌, Bool, true, false, cond, not, List, [], ◌∷◌, Option, Some, None, filter, length, is_none, get_or, refl}
-use Rattle.std.specs.List.{AllByRecursion, list_any, range_with_len, filter_map}
-use Rattle.std.proofs.Common.{ap, sym, ◌∙◌, arith, true≢false, subst, inl, inr}
-use Rattle.std.proofs.lemmas.Bool.{cases_Bool}
+use Rattle.std.specs.Prelude.{◌≡◌, ◌≢◌, ℕ, zero, suc, ◌+◌, ◌<◌, ◌≤◌, ◌==◌, ◌||◌, Bool, true, false, cond, not, List, [], ◌∷◌, Option, filter, length, get_or, refl}
+use Rattle.std.specs.List.{AllByRecursion, list_any, range_with_len}
+use Rattle.std.proofs.Common.{sym, arith, true≢false, subst}
 use Rattle.std.proofs.lemmas.Bool.Decides.{nat_tests}
 use Rattle.std.proofs.lemmas.List.Filters.{length-filter_both}
 use Rattle.std.proofs.lemmas.List.FromFn.{length-range_with_len}
 use Rattle.link_model.specs.Exports.{given, free_ordinals}
-use Rattle.link_model.proofs.Members.{In, here, there}
-use Rattle.layer_laws.proofs.Apart.{Apart, neither-true, some-of, all-kept, kept-apart, each-kept, range-from, range-apart}
+use Rattle.layer_laws.proofs.Apart.{Apart, neither-true, all-kept, kept-apart, each-kept, range-from, range-apart}
 
 pub none-equal : (n m : ℕ) → (n == m) ≡ false → n ≢ m
 none-equal n m e same = absurd (grind (arith, nat_tests, e, same))

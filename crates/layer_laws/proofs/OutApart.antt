@@ -1,20 +1,17 @@
 -- The exports of a link that is accepted: one for each ordinal and for each name, and each has an entry.
-use Rattle.std.specs.Prelude.{◌≡◌, ◌≢◌, ℕ, Bool, false, List, [], ◌∷◌, ◌++◌, Option, Some, None, map, bytes_eq, refl}
-use Rattle.std.specs.List.{AllByRecursion, position, filter_map, list_any}
-use Rattle.std.specs.Option.{option_map, option_and_then}
-use Rattle.std.proofs.Common.{ap, sym, ◌∙◌, true≢false, subst}
+use Rattle.std.specs.Prelude.{◌≡◌, ◌≢◌, ℕ, false, List, [], ◌∷◌, None, map, bytes_eq}
+use Rattle.std.specs.List.{AllByRecursion}
+use Rattle.std.proofs.Common.{sym, ◌∙◌, true≢false, subst}
 use Rattle.std.proofs.lemmas.Slice.Eq.{bytes_eq-Decides}
-use Rattle.lx_types.specs.Names.{uppercase}
-use Rattle.obj_types.specs.declared.symbol.Imp.{Imp}
 use Rattle.link_model.specs.declared.limits.TheConstants.{MAX_NUMBER}
 use Rattle.link_model.specs.Words.{first_of, first_conflict}
 use Rattle.link_model.specs.Link.{Link, exports}
-use Rattle.link_model.specs.Exports.{Export, Out, ordinals, asked_ordinals, wrong_ordinal, ordinal_past, name_twice, entry_refusal}
+use Rattle.link_model.specs.Exports.{Export, Out, asked_ordinals, wrong_ordinal, ordinal_past, name_twice, entry_refusal}
 use Rattle.link_model.proofs.ExternalsMean.{neither, not_mapped}
 use Rattle.link_model.proofs.ExportsStay.{exports_stay}
 use Rattle.link_model.proofs.Members.{In, here, there}
 use Rattle.layer_laws.proofs.Given.{Given}
-use Rattle.layer_laws.proofs.Apart.{Apart, some-of, one-of-key, no-conflict-apart}
+use Rattle.layer_laws.proofs.Apart.{Apart, one-of-key, no-conflict-apart}
 use Rattle.layer_laws.proofs.OrdinalsApart.{ordinals-apart, ordinals-some}
 
 -- ---- what is not refused

@@ -1,9 +1,9 @@
 -- Each export of a link is among those that its tables tell, with what its entry says.
-use Rattle.std.specs.Prelude.{◌≡◌, ℕ, ◌+◌, List, ◌++◌, Option, Some, None, IsSome, map, bytes_eq, is_some, refl}
+use Rattle.std.specs.Prelude.{◌≡◌, ℕ, ◌+◌, List, Option, Some, None, IsSome, map, bytes_eq, is_some, refl}
 use Rattle.std.specs.List.{filter_map, position}
 use Rattle.std.specs.Option.{option_map, option_and_then}
 use Rattle.std.specs.Cmp.Lexicographic.{nat_list_eq_equiv}
-use Rattle.std.proofs.Common.{ap, sym, ◌∙◌, true≢false, subst}
+use Rattle.std.proofs.Common.{ap, sym, ◌∙◌, true≢false}
 use Rattle.lx_types.specs.Names.{uppercase}
 use Rattle.lx_types.specs.declared.entry.EntryHead.{EntryHead}
 use Rattle.lx_types.specs.declared.entry.EntryHead.TheVariants as heads
@@ -15,7 +15,7 @@ use Rattle.obj_types.specs.declared.symbol.Imp.{Imp}
 use Rattle.link_model.specs.Appearance.{firsts}
 use Rattle.link_model.specs.Link.{Link}
 use Rattle.link_model.specs.Exports.{ExportTarget, At, Forward, Export, Out}
-use Rattle.link_model.specs.ImportTables.{used_pairs, link_pairs, forwarded, modules_in, procs_in, proc_name, entry_target, import_target, with_offset}
+use Rattle.link_model.specs.ImportTables.{used_pairs, link_pairs, forwarded, procs_in, proc_name, entry_target, import_target, with_offset}
 use Rattle.link_model.proofs.Members.{In, in_right, in_map, any_in, position_is}
 use Rattle.link_model.proofs.Tables.{any-firsts}
 use Rattle.lx_model.specs.ExportTables.{Exported}
