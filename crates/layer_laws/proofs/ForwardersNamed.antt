@@ -102,13 +102,13 @@ of_key l lib m loaded name k (entry_keys.Named proc) t h at e f =
 upper_twice : (c : ℕ) → to_ascii_uppercase (to_ascii_uppercase c) ≡ to_ascii_uppercase c
 upper_twice c = grind arith
 
-uppercase_twice : (name : List ℕ) → uppercase (uppercase name) ≡ uppercase name
-uppercase_twice [] = refl
-uppercase_twice (c ∷ cs) = ap (λ (d : ℕ). d ∷ uppercase (uppercase cs)) (upper_twice c) ∙ ap (λ (ds : List ℕ). to_ascii_uppercase c ∷ ds) (uppercase_twice cs)
+pub uppercase-twice : (name : List ℕ) → uppercase (uppercase name) ≡ uppercase name
+uppercase-twice [] = refl
+uppercase-twice (c ∷ cs) = ap (λ (d : ℕ). d ∷ uppercase (uppercase cs)) (upper_twice c) ∙ ap (λ (ds : List ℕ). to_ascii_uppercase c ∷ ds) (uppercase-twice cs)
 
 -- A module's name is the same in upper case.
 any_case : (lib : List Parts) (name : List ℕ) → library_named lib (uppercase name) ≡ library_named lib name
-any_case lib name = ap (λ (n : List ℕ). position (λ (m : Parts). is_library_of m && bytes_eq (uppercase m.name) n) lib) (uppercase_twice name)
+any_case lib name = ap (λ (n : List ℕ). position (λ (m : Parts). is_library_of m && bytes_eq (uppercase m.name) n) lib) (uppercase-twice name)
 
 -- ---- an export that is forwarded
 

@@ -36,3 +36,7 @@ pub mod OutListed
 pub mod ForwardersFollowed
 pub mod ForwardersNamed
 pub mod EntriesAreOut
+pub mod ImportsDefined
+pub mod NamesBound
+pub mod ImportsBind
+pub mod PairsReach

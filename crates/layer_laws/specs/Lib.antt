@@ -2,3 +2,4 @@ pub mod Ranges
 pub mod LinkedImages
 pub mod LoadedBytes
 pub mod EntryLaws
+pub mod ImportLaws
