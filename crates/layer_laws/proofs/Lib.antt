@@ -39,4 +39,5 @@ pub mod EntriesAreOut
 pub mod ImportsDefined
 pub mod NamesBound
 pub mod ImportsBind
+pub mod ModuleHeld
 pub mod PairsReach

@@ -25,12 +25,19 @@ use Rattle.link_model.proofs.ExportsStay.{exports_stay}
 use Rattle.lx_model.specs.declared.library.Spot.{Spot}
 use Rattle.lx_model.specs.declared.library.EntryFault.{EntryFault}
 use Rattle.lx_model.specs.Entries.{EntryOf}
-use Rattle.image_model.specs.Linked.{module_flags, image_of}
+use Rattle.image_model.proofs.PartsRead.{parts_read}
+use Rattle.image_model.specs.Linked.{image_of}
+use Rattle.lx_model.specs.Gathering.{IsLibrary}
+use Rattle.lx_model.specs.Library.{library_named}
 use Rattle.image_model.specs.World.{entry_in}
 use Rattle.implib_core.specs.Imports.{name_or, key_of}
 use Rattle.layer_laws.specs.EntryLaws.{leads_to, AreEntries}
-use Rattle.layer_laws.specs.ImportLaws.{IsPairOf}
-use Rattle.layer_laws.proofs.Given.{Given}
+use Rattle.layer_laws.specs.ImportLaws.{IsPairOf, PairsReach}
+use Rattle.layer_laws.proofs.EntriesAreOut.{entries-are-out}
+use Rattle.layer_laws.proofs.Given.{Given, given}
+use Rattle.layer_laws.proofs.ImagesFit.{images_fit}
+use Rattle.layer_laws.proofs.LoadedPages.{Loaded}
+use Rattle.layer_laws.proofs.ModuleHeld.{module-held}
 use Rattle.layer_laws.proofs.OutApart.{one-of-name}
 
 -- ---- the ordinal of an export that gives one
@@ -63,7 +70,9 @@ together [] (x ∷ xs) (o ∷ outs) names numbers i = absurd (some_none (ap leng
     some_none e = omega (arith, e)
 together (n ∷ os) (x ∷ xs) (o ∷ outs) names numbers here =
     record {
-      out = o; number = n; inside = here;
+      out = o;
+      number = n;
+      inside = here;
       name = ap (λ (ns : List (List ℕ)). first_name ns) names;
       ordinal = ap (λ (ns : List ℕ). first_number ns) numbers;
       of = here;
@@ -72,6 +81,7 @@ together (n ∷ os) (x ∷ xs) (o ∷ outs) names numbers here =
     first_name : List (List ℕ) → List ℕ
     first_name [] = []
     first_name (n ∷ ns) = n
+
     first_number : List ℕ → ℕ
     first_number [] = 0
     first_number (n ∷ ns) = n
@@ -82,6 +92,7 @@ together (n ∷ os) (x ∷ xs) (o ∷ outs) names numbers (there i) =
     other_names : List (List ℕ) → List (List ℕ)
     other_names [] = []
     other_names (n ∷ ns) = ns
+
     other_numbers : List ℕ → List ℕ
     other_numbers [] = []
     other_numbers (n ∷ ns) = ns
@@ -112,5 +123,22 @@ pub pair-entry : (l : Link) (lib : List Parts) (m : ℕ) → Given l → AreEntr
 pair-entry l lib m g are x out i held same =
     key_entry l lib m g are x out (in_right (flat_map (λ (m : ObjModule). m.exports) l.modules) i) (in_contained (Out l) out held) held same x.ordinal refl
 
--- ---- the module is a library
+-- ---- in a library
 
+by_pair : (l : Link) (lib : List Parts) (m : ℕ) → Loaded l lib m → l.def.kind ≡ Library → IsLibrary lib → m < length lib → (x : Exp) (pair : Imp) → In x l.def.exports → IsPairOf l.def l.stem x pair → (out : Export) → Contains (Out l) out → out.name ≡ x.name
+    → entry_in lib (library_named lib pair.module) pair.entry ≡ leads_to lib m out.target
+by_pair l lib m loaded kind is lt x pair i of out held same =
+    ap (λ (o : Option ℕ). entry_in lib o pair.entry) (module-held l lib m loaded kind is lt pair.module of.module)
+    ∙ ap (EntryOf lib m) of.entry
+    ∙ pair-entry l lib m loaded.known (entries-are-out l lib m loaded) x out i held same
+
+pub pairs_reach : PairsReach
+pairs_reach input l links short kind lib m is lt holds x pair i of out held same =
+    let fits = images_fit input l links short in
+    let loaded : Loaded l lib m = record { known = given input l links; fits = fits; is = holds ∙ parts_read (image_of l) fits } in
+    let def : input.def ≡ l.def = ap (λ (k : Link). k.def) (sym links.of_input.same) in
+    let stem : input.stem ≡ l.stem = ap (λ (k : Link). k.stem) (sym links.of_input.same) in
+    by_pair l lib m loaded (ap (λ (d : DefFile). d.kind) (sym def) ∙ kind) is lt x pair
+    (subst (λ (d : DefFile). In x d.exports) def (in_contained input.def.exports x i))
+    (subst (λ (s : List ℕ). IsPairOf l.def s x pair) stem (subst (λ (d : DefFile). IsPairOf d input.stem x pair) def of))
+    out held same

@@ -1,6 +1,7 @@
 //! Laws over the definitions, each the contract of a function that does nothing.
 
 ghost use Rattle.layer_laws.specs.EntryLaws.{EntriesAreOut};
+ghost use Rattle.layer_laws.specs.ImportLaws.{ImportsBind, PairsReach};
 ghost use Rattle.layer_laws.specs.LinkedImages.{LinkedFilesRead, LinkedImagesFit};
 ghost use Rattle.layer_laws.specs.LoadedBytes.{LinkedBytesLoaded, PlainBytesLoaded};
 
@@ -35,4 +36,17 @@ pub fn linked_bytes_are_loaded()
 /// ordinal and no other name has an entry ("Entry Table", "Resident or Non-resident Name Table Entry" in the LX document).
 pub fn entries_are_exports()
     ensures { EntriesAreOut }
+{}
+
+/// In an input with the import library of a definition file, an external of the name of one of its EXPORTS, which nothing
+/// else in the input defines, means the pair of an export of that name: the module's name, with the export's ordinal where
+/// the definition file gives one, otherwise with its name ("IMPLIB" in the Toolkit's tools reference).
+pub fn imports_are_bound()
+    ensures { ImportsBind }
+{}
+
+/// In every library that holds the module that is linked with a definition file of kind LIBRARY, the pair of an export leads
+/// where the module's export of that name leads: to its place, or through its forwarder ("Entry Table" in the LX document).
+pub fn pairs_reach_exports()
+    ensures { PairsReach }
 {}
