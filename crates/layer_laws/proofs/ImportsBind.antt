@@ -1,6 +1,6 @@
 -- An external of a name that only an import library defines means a pair of that library.
-use Rattle.std.specs.Prelude.{◌≡◌, ℕ, ◌<◌, ◌&&◌, Bool, true, false, not, List, [], ◌∷◌, Option, Some, None, map, filter, slice_get, get_or, bytes_eq, if◌then◌else◌, refl}
-use Rattle.std.specs.List.{list_any, flat_map, enumerate_from, filter_map, position}
+use Rattle.std.specs.Prelude.{◌≡◌, ℕ, ◌&&◌, Bool, true, false, not, List, Option, Some, None, map, filter, slice_get, get_or, bytes_eq, if◌then◌else◌}
+use Rattle.std.specs.List.{list_any, flat_map, enumerate_from, filter_map}
 use Rattle.std.specs.Option.{option_map, option_and_then, option_or}
 use Rattle.std.proofs.Common.{ap, sym, ◌∙◌, subst, true≢false}
 use Rattle.std.proofs.lemmas.Bool.{and_parts}
@@ -20,21 +20,20 @@ use Rattle.obj_types.specs.declared.symbol.Imp.{Imp}
 use Rattle.link_model.specs.declared.symbols.Pick.{Pick}
 use Rattle.link_model.specs.declared.symbols.SymDef.{SymDef}
 use Rattle.link_model.specs.declared.symbols.SymDef.TheVariants as means
-use Rattle.link_model.specs.Appearance.{firsts, place_by}
+use Rattle.link_model.specs.Appearance.{place_by}
 use Rattle.link_model.specs.Choosing.{wanted, next_pick, modules_of}
 use Rattle.link_model.specs.Link.{Link, link_of, externals}
-use Rattle.link_model.specs.Symbols.{Meaning, Imported, Definition, definitions, definition_of, import_key, same_import, same_entry, pair_of, imports, commons, by_definition, global, local_meaning, Sym}
+use Rattle.link_model.specs.Symbols.{Imported, Definition, definitions, definition_of, import_key, same_import, same_entry, pair_of, imports, commons, by_definition, global, local_meaning, Sym}
 use Rattle.link_model.proofs.Members.{In, in_map, in_filter, in_flat_map, in_contained, any_in, position_is, from_map, from_flat_map, from_numbered, in_at, found_as}
 use Rattle.link_model.proofs.Tables.{any-firsts}
 use Rattle.sym_table.proofs.ImportPairs.{import_tests}
 use Rattle.omf_write.specs.ImportModule.{import_meant}
-use Rattle.implib_core.specs.Imports.{name_or, key_of, import_for}
+use Rattle.implib_core.specs.Imports.{name_or, import_for}
 use Rattle.link_core.proofs.FewImports.{in-filter_map}
-use Rattle.layer_laws.specs.LinkedImages.{Links}
-use Rattle.layer_laws.specs.ImportLaws.{OnlyImported, IsPairOf, Binds, ImportsBind}
+use Rattle.layer_laws.specs.ImportLaws.{OnlyImported, Binds, ImportsBind}
 use Rattle.layer_laws.proofs.ForwardersNamed.{uppercase-twice}
 use Rattle.layer_laws.proofs.ImportsDefined.{contained}
-use Rattle.layer_laws.proofs.NamesBound.{Defined, Definer, name-defined}
+use Rattle.layer_laws.proofs.NamesBound.{Definer, name-defined}
 
 -- ---- an external is wanted
 

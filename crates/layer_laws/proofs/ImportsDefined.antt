@@ -1,8 +1,7 @@
 -- A name that only an import library defines has its definition there.
-use Rattle.std.specs.Prelude.{◌≡◌, ◌≢◌, ℕ, zero, suc, ◌+◌, ◌<◌, ◌==◌, ◌&&◌, ◌||◌, Bool, true, false, not, List, [], ◌∷◌, ◌++◌, Option, Some, None, map, filter, find, length, slice_get, bytes_eq, if◌then◌else◌, All, Contains, refl}
-use Rattle.std.specs.List.{list_any, flat_map, enumerate_from, filter_map, AllByRecursion}
-use Rattle.std.specs.Option.{option_map}
-use Rattle.std.proofs.Common.{ap, sym, ◌∙◌, arith, subst, true≢false, inl, inr}
+use Rattle.std.specs.Prelude.{◌≡◌, ℕ, suc, ◌+◌, ◌==◌, ◌&&◌, ◌||◌, Bool, true, false, not, List, [], ◌∷◌, Some, None, find, slice_get, bytes_eq, if◌then◌else◌, All, Contains, refl}
+use Rattle.std.specs.List.{list_any, flat_map, enumerate_from}
+use Rattle.std.proofs.Common.{ap, sym, ◌∙◌, arith, true≢false}
 use Rattle.std.proofs.Math.Nat.{add-zero}
 use Rattle.std.proofs.lemmas.Bool.{eqb-true, and_parts}
 use Rattle.std.proofs.lemmas.Slice.Eq.{bytes_eq-Decides}
@@ -10,15 +9,11 @@ use Rattle.obj_types.specs.declared.definition.DefFile.{DefFile}
 use Rattle.obj_types.specs.declared.input.LinkInput.{LinkInput}
 use Rattle.obj_types.specs.declared.object.ObjModule.{ObjModule}
 use Rattle.obj_types.specs.declared.symbol.Exp.{Exp}
-use Rattle.obj_types.specs.declared.symbol.Imp.{Imp}
-use Rattle.obj_types.specs.declared.symbol.Pub.{Pub}
 use Rattle.link_model.specs.declared.symbols.Pick.{Pick}
 use Rattle.link_model.specs.Choosing.{wanted, defines, is_defined, undefined, module_of, modules_of, is_picked, is_drawn, next_pick}
-use Rattle.link_model.specs.Link.{Link, link_of}
-use Rattle.link_model.specs.Symbols.{Meaning, Public, Imported, Definition, of_public, of_import, definitions_in, definitions, definition_of}
 use Rattle.link_model.proofs.ExternalsMean.{not_mapped, none_passes}
-use Rattle.link_model.proofs.Members.{In, here, there, in_left, in_right, in_map, in_filter, in_flat_map, in_at, in_contained, in_either, any_in, found, each_in, all_in, from_map, from_filter, from_flat_map, from_numbered, finds, found_as}
-use Rattle.omf_write.specs.ImportModule.{import_meant, import_object}
+use Rattle.link_model.proofs.Members.{In, here, there, in_filter, in_at, in_contained, any_in, found, each_in, all_in, from_map}
+use Rattle.omf_write.specs.ImportModule.{import_object}
 use Rattle.implib_core.specs.Imports.{name_or, import_for, imports_in, objects_of}
 use Rattle.link_core.proofs.FewImports.{in-filter_map}
 use Rattle.link_core.proofs.TargetsThere.{from_filter_map}

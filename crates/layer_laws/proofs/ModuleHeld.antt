@@ -1,12 +1,11 @@
 -- A library holds the module of a link of kind LIBRARY under the link's name.
-use Rattle.std.specs.Prelude.{◌≡◌, ◌≢◌, ℕ, ◌+◌, ◌<◌, ◌≤◌, ◌==◌, ◌&&◌, nat_lt, not, Bool, true, false, cond, List, Option, Some, None, length, map, position, bytes_eq, bit_and, get_or, is_some, if◌then◌else◌, unwrap_or, refl}
+use Rattle.std.specs.Prelude.{◌≡◌, ℕ, ◌+◌, ◌<◌, ◌≤◌, ◌==◌, ◌&&◌, nat_lt, not, Bool, true, false, cond, List, Option, Some, None, length, map, position, bytes_eq, bit_and, get_or, is_some, if◌then◌else◌, unwrap_or, refl}
 use Rattle.std.specs.List.{position_or_len, range_with_len}
 use Rattle.std.specs.Option.{option_and_then}
-use Rattle.std.proofs.Common.{ap, sym, ◌∙◌, arith, subst, true≢false, inl, inr}
-use Rattle.std.proofs.lemmas.Bool.{lt-ltb, and_parts, and_from, cases_Bool}
+use Rattle.std.proofs.Common.{ap, sym, ◌∙◌, arith, true≢false}
+use Rattle.std.proofs.lemmas.Bool.{lt-ltb, and_from}
 use Rattle.std.proofs.lemmas.Bool.Decides.{nat_tests}
 use Rattle.std.proofs.lemmas.List.Sums.{position_or_len_is, fails_before_first}
-use Rattle.std.proofs.lemmas.List.Quantifiers.{position-Some}
 use Rattle.std.proofs.lemmas.Slice.Eq.{bytes_eq-Decides}
 use Rattle.lx_types.specs.Names.{uppercase}
 use Rattle.lx_types.specs.Parts.{is_library_of}
@@ -18,7 +17,6 @@ use Rattle.link_model.specs.Flags.{flag}
 use Rattle.link_model.specs.Header.{module_name}
 use Rattle.link_model.specs.Link.{Link}
 use Rattle.link_model.specs.Order.{is_program}
-use Rattle.link_model.proofs.Members.{placed, position_is}
 use Rattle.lx_model.specs.Gathering.{LibraryFault, IsLibrary, MOST_MODULES, twice_at}
 use Rattle.lx_model.specs.Library.{no_module, module_of, has_name, module_named, library_named}
 use Rattle.lx_model.specs.Reading.{first}
@@ -54,17 +52,13 @@ none_twice lib m is lt =
     let rest = past_none (nat_lt MOST_MODULES (length lib)) (TooManyModules (length lib)) (first (map (twice_at lib) (range_with_len 0 (length lib)))) is.faultless in
     first_none (twice_at lib) 0 (length lib) m rest (omega arith) (omega (arith, lt))
 
+less : (a b : ℕ) → a < b → nat_lt a b ≡ true
+less a b h = grind (arith, nat_tests)
+
 named_twice : (lib : List Parts) (m j : ℕ) → module_named lib (module_of lib m).name ≡ Some j → j < m → twice_at lib m ≡ Some (NameTwice j m)
 named_twice lib m j e lt =
     ap (option_and_then (λ first. if nat_lt first m then Some (NameTwice first m) else None)) e
-    ∙ ap (λ (b : Bool). refused b) (less j m lt)
-  where
-    less : (a b : ℕ) → a < b → nat_lt a b ≡ true
-    less a b h = grind (arith, nat_tests)
-
-    refused : Bool → Option LibraryRefusal
-    refused true = Some (NameTwice j m)
-    refused false = None
+    ∙ ap (λ (b : Bool). cond b (Some (NameTwice j m)) None) (less j m lt)
 
 -- The first place that passes, at one that passes or before it.
 record Earlier {X : Type 0} (test : X → Bool) (xs : List X) (k : ℕ) : Type 0 where

@@ -1,38 +1,24 @@
 -- A name that only an import library defines means an import pair of that library.
-use Rattle.std.specs.Prelude.{◌≡◌, ◌≢◌, ℕ, ◌<◌, ◌&&◌, ◌||◌, Bool, true, false, not, List, [], ◌∷◌, ◌++◌, Option, Some, None, map, filter, find, length, slice_get, get_or, bytes_eq, Contains, refl}
-use Rattle.std.specs.List.{list_any, flat_map, enumerate_from, filter_map, position}
-use Rattle.std.specs.Option.{option_map, option_and_then, option_or}
-use Rattle.std.proofs.Common.{ap, sym, ◌∙◌, arith, subst, true≢false, inl, inr}
-use Rattle.std.proofs.lemmas.Bool.{and_parts}
-use Rattle.std.proofs.lemmas.List.Quantifiers.{position-Some}
-use Rattle.std.proofs.lemmas.Option.{slice_get-get_or}
+use Rattle.std.specs.Prelude.{◌≡◌, ◌≢◌, ℕ, ◌&&◌, ◌||◌, Bool, true, false, not, List, [], ◌∷◌, Some, None, map, filter, bytes_eq, Contains, refl}
+use Rattle.std.specs.List.{list_any, flat_map, enumerate_from}
+use Rattle.std.proofs.Common.{ap, sym, ◌∙◌, subst, true≢false, inl, inr}
 use Rattle.std.proofs.lemmas.Slice.Eq.{bytes_eq-Decides}
-use Rattle.lx_types.specs.Names.{uppercase}
 use Rattle.obj_types.specs.declared.definition.DefFile.{DefFile}
 use Rattle.obj_types.specs.declared.input.LinkInput.{LinkInput}
 use Rattle.obj_types.specs.declared.object.ObjModule.{ObjModule}
 use Rattle.obj_types.specs.declared.symbol.Exp.{Exp}
-use Rattle.obj_types.specs.declared.symbol.Ext.{Ext}
 use Rattle.obj_types.specs.declared.symbol.Imp.{Imp}
 use Rattle.obj_types.specs.declared.symbol.Pub.{Pub}
 use Rattle.link_model.specs.declared.symbols.Pick.{Pick}
-use Rattle.link_model.specs.declared.symbols.SymDef.{SymDef}
-use Rattle.link_model.specs.declared.symbols.SymDef.TheVariants as means
-use Rattle.link_model.specs.Appearance.{firsts}
-use Rattle.link_model.specs.Choosing.{wanted, defines, is_defined, next_pick, modules_of}
-use Rattle.link_model.specs.Link.{Link, link_of, externals}
-use Rattle.link_model.specs.Symbols.{Meaning, Public, Imported, Definition, of_public, of_import, definitions_in, definitions, definition_of, ImportKey, import_key, same_import, pair_of, imports, by_definition, global, Sym, commons}
-use Rattle.link_model.proofs.Members.{In, here, there, in_left, in_map, in_filter, in_flat_map, in_contained, in_either, any_in, found, position_is, from_map, from_filter, from_flat_map, from_numbered, finds, found_as, in_at, all_in, each_in}
-use Rattle.link_model.proofs.Tables.{any-firsts}
-use Rattle.sym_table.proofs.ImportPairs.{import_tests}
+use Rattle.link_model.specs.Choosing.{wanted, defines, next_pick, modules_of}
+use Rattle.link_model.specs.Link.{Link, link_of}
+use Rattle.link_model.specs.Symbols.{Meaning, Imported, Definition, of_public, of_import, definitions_in, definitions, definition_of}
+use Rattle.link_model.proofs.Members.{In, here, there, in_left, in_map, in_flat_map, in_contained, in_either, any_in, found, from_map, from_filter, from_flat_map, from_numbered, finds, found_as, in_at, all_in, each_in}
 use Rattle.omf_write.specs.ImportModule.{import_meant, import_object}
 use Rattle.implib_core.specs.Imports.{name_or, import_for, imports_in, objects_of}
-use Rattle.link_core.proofs.FewImports.{in-filter_map}
-use Rattle.layer_laws.specs.ImportLaws.{OnlyImported, Binds, IsPairOf, ImportsBind}
-use Rattle.layer_laws.specs.LinkedImages.{Links}
+use Rattle.layer_laws.specs.ImportLaws.{OnlyImported}
 use Rattle.layer_laws.proofs.Apart.{each-kept}
-use Rattle.layer_laws.proofs.ForwardersNamed.{uppercase-twice}
-use Rattle.layer_laws.proofs.ImportsDefined.{contained, Gives, wanted-is-defined, chosen-gives, Placed, placed}
+use Rattle.layer_laws.proofs.ImportsDefined.{Gives, wanted-is-defined, chosen-gives, placed}
 
 -- ---- the definition of the name
 

@@ -1,36 +1,25 @@
 -- The pair of an export leads where the export leads, in every library that holds its module.
-use Rattle.std.specs.Prelude.{◌≡◌, ◌≢◌, ℕ, zero, suc, ◌+◌, ◌-◌, ◌<◌, ◌≤◌, ◌==◌, ◌&&◌, nat_lt, Bool, true, false, cond, not, List, [], ◌∷◌, ◌++◌, Option, Some, None, length, map, position, bytes_eq, bit_and, is_some, unwrap_or, Contains, refl}
-use Rattle.std.specs.List.{zip, enumerate_from, flat_map, filter_map, position_or_len, list_any}
-use Rattle.std.specs.Option.{option_map, option_and_then}
-use Rattle.std.proofs.Common.{ap, sym, ◌∙◌, arith, subst, true≢false, inl, inr}
-use Rattle.std.proofs.lemmas.List.Quantifiers.{position-Some}
-use Rattle.std.proofs.lemmas.Slice.Eq.{bytes_eq-Decides}
-use Rattle.lx_types.specs.Names.{uppercase, SameModule}
-use Rattle.lx_types.specs.Parts.{is_library_of}
-use Rattle.lx_types.specs.declared.entry.EntryKey.{EntryKey}
+use Rattle.std.specs.Prelude.{◌≡◌, ℕ, suc, ◌+◌, ◌<◌, List, [], ◌∷◌, Option, Some, None, length, map, Contains, refl}
+use Rattle.std.specs.List.{zip, enumerate_from, flat_map}
+use Rattle.std.proofs.Common.{ap, sym, ◌∙◌, arith, subst}
 use Rattle.lx_types.specs.declared.entry.EntryKey.TheVariants as entry_keys
 use Rattle.lx_types.specs.declared.parts.Parts.{Parts}
-use Rattle.lx_types.specs.declared.parts.TheConstants.{MODULE_KIND, MODULE_LIBRARY}
 use Rattle.obj_types.specs.declared.definition.DefFile.{DefFile}
-use Rattle.obj_types.specs.declared.definition.ModKind.{ModKind}
 use Rattle.obj_types.specs.declared.definition.ModKind.TheVariants.{Library}
 use Rattle.obj_types.specs.declared.symbol.Exp.{Exp}
 use Rattle.obj_types.specs.declared.symbol.Imp.{Imp}
 use Rattle.obj_types.specs.declared.object.ObjModule.{ObjModule}
 use Rattle.link_model.specs.Link.{Link, exports}
-use Rattle.link_model.specs.Header.{module_name}
-use Rattle.link_model.specs.Exports.{Export, Out, export_of, ordinal_at, ordinals, asked_ordinals}
+use Rattle.link_model.specs.Exports.{Export, Out, ordinal_at, ordinals, asked_ordinals}
 use Rattle.link_model.proofs.Members.{In, here, there, in_right, in_contained}
 use Rattle.link_model.proofs.ExportsStay.{exports_stay}
-use Rattle.lx_model.specs.declared.library.Spot.{Spot}
-use Rattle.lx_model.specs.declared.library.EntryFault.{EntryFault}
 use Rattle.lx_model.specs.Entries.{EntryOf}
 use Rattle.image_model.proofs.PartsRead.{parts_read}
 use Rattle.image_model.specs.Linked.{image_of}
 use Rattle.lx_model.specs.Gathering.{IsLibrary}
 use Rattle.lx_model.specs.Library.{library_named}
 use Rattle.image_model.specs.World.{entry_in}
-use Rattle.implib_core.specs.Imports.{name_or, key_of}
+use Rattle.implib_core.specs.Imports.{key_of}
 use Rattle.layer_laws.specs.EntryLaws.{leads_to, AreEntries}
 use Rattle.layer_laws.specs.ImportLaws.{IsPairOf, PairsReach}
 use Rattle.layer_laws.proofs.EntriesAreOut.{entries-are-out}
