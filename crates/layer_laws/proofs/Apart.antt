@@ -10,11 +10,6 @@ abbrev pub Apart : {X : Type 0} → List X → Type 0
 Apart [] = Unit {0}
 Apart (x ∷ xs) = AllByRecursion (λ y. x ≢ y) xs × Apart xs
 
-pub some-of : {X : Type 0} (P : X → Type 0) (xs : List X) {x : X} → AllByRecursion P xs → In x xs → P x
-some-of P [] all i = elim i [ ]
-some-of P (x ∷ xs) all here = all.0
-some-of P (x ∷ xs) all (there i) = some-of P xs all.1 i
-
 -- ---- where no item is in conflict with an earlier one
 
 pub not-first : {X : Type 0} (x : X) (rest : Option X) (b : Bool) → cond b (Some x) rest ≡ None → (b ≡ false) × (rest ≡ None)

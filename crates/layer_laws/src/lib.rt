@@ -1,5 +1,6 @@
 //! Laws over whole links: the file of every input that links is read again as the link, and wherever its module is loaded,
-//! its bytes are those that the link means.
+//! its bytes are those that the link means; its entry points are the exports of the link, and an import library binds the
+//! names of a definition file to them.
 #![tactic(auto)]
 
 mod laws;
