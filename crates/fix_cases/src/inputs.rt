@@ -69,6 +69,7 @@ pub fn pages(
     if !have_bytes(fixups) {
         return Ok(None);
     }
+    let fixups = Vec::from_slice(alloc, fixups)?;
     match place_pages(alloc, pieces, fixups, objects, imports) {
         Ok(pages) => Ok(Some(pages)),
         Err(Fail::Said(_)) => Ok(None),

@@ -1,23 +1,27 @@
 //! The pages of a link before the loader, from its pieces and fixups at their places.
 
-ghost use Rattle.std.specs.Prelude.{◌≡◌, IfOk, All, List, Some, None, IsTrue, ◌↔◌, map, filter, not};
+ghost use Rattle.std.specs.Prelude.{◌≡◌, ℕ, IfOk, All, List, Some, None, IsTrue, ◌↔◌, map, filter, not};
 ghost use Rattle.lx_types.specs.Answers.{Answers};
 ghost use Rattle.link_bytes.specs.Marks.{HasBytes};
 ghost use Rattle.link_model.specs.Link.{Link};
 ghost use Rattle.link_model.specs.Words.{first_of};
 ghost use Rattle.link_model.specs.Fixups as rules;
+ghost use Rattle.link_model.specs.Mean.{live};
 ghost use Rattle.link_model.specs.Patches as patches;
 ghost use Rattle.link_bytes.specs.Shown.{shown, piece_shown};
 ghost use Rattle.link_bytes.specs.Values.{IsAccepted};
+ghost use Rattle.obj_types.specs.declared.symbol.Imp.{Imp};
+ghost use Rattle.link_bytes.specs.Tables.{ArePairs, pairs_among};
+ghost use Rattle.link_bytes.specs.Paging.{fixes_of, records_among};
 ghost use Rattle.link_bytes.specs.Placed.{AreOfLink, ArePages, bytes_with};
 
 use crate::fixup::Fixup;
 use crate::location::location_len;
 use crate::marks::live_of;
-use crate::paging::{object_fixes, page_fixes};
+use crate::paging::{PageFixes, object_fixes, page_fixes};
 use crate::painting::{PlacedPiece, object_rows, paint_fields, placed_data};
 use crate::refusal::refusal_of;
-use crate::tables::tables_of;
+use crate::tables::{ImportTables, tables_of};
 use crate::values::is_patched;
 use link_model::{FixRefusal, LaidObject};
 use lx_types::{Bytes, Fail, Fix, Names, NoMemory, Seq};
@@ -78,23 +82,47 @@ fn bytes_of(
     Ok(bytes)
 }
 
+// The live ones of these fixups, whose memory is given back.
+fn only_live(alloc: Global, fixups: Vec<Fixup>) -> Result<Vec<Fixup>, NoMemory>
+    requires { All HasBytes fixups.items }
+    ensures { IfOk result (λ kept. map shown kept.items ≡ live (map shown fixups.items)) }
+{
+    live_of(alloc, fixups.as_slice())
+}
+
+// The records of the fixups that get some, by object and page, and the tables of what they import. The memory of the
+// fixups is given back.
+fn records_of(
+    alloc: Global,
+    recorded: Vec<Fixup>,
+    imports: &[Imp],
+) -> Result<(PageFixes, ImportTables), NoMemory>
+    requires { All HasBytes recorded.items }
+    ensures { IfOk result (λ made. ArePairs made.1 (pairs_among imports.now (map shown recorded.items))
+        × ((pairs : List Imp) → ArePairs made.1 pairs → (n : ℕ) (k : ℕ) → fixes_of made.0 n k ≡ records_among imports.now pairs (map shown recorded.items) n k)) }
+{
+    let tables = tables_of(alloc, imports, recorded.as_slice())?;
+    let pages = page_fixes(alloc, imports, &tables, recorded.as_slice())?;
+    Ok((pages, tables))
+}
+
 // The pages of a link whose fixups are not refused.
 fn pages_of(
     alloc: Global,
     pieces: &[PlacedPiece],
-    fixups: &[Fixup],
+    fixups: Vec<Fixup>,
     objects: &[LaidObject],
     imports: &[Imp],
 ) -> Result<Pages, NoMemory>
-    requires { All IsAccepted fixups.now }
-    ensures { IfOk result (λ pages. (l : Link) → AreOfLink l pieces.now fixups.now objects.now imports.now → ArePages l pages) }
+    requires { All IsAccepted fixups.items }
+    ensures { IfOk result (λ pages. (l : Link) → AreOfLink l pieces.now fixups.items objects.now imports.now → ArePages l pages) }
 {
-    let live = live_of(alloc, fixups)?;
-    let recorded = recorded_of(alloc, live.as_slice())?;
-    let tables = tables_of(alloc, imports, recorded.as_slice())?;
-    let fixes = page_fixes(alloc, imports, &tables, recorded.as_slice())?;
-    let fixes = object_fixes(alloc, &fixes, objects)?;
+    let live = only_live(alloc, fixups)?;
     let bytes = bytes_of(alloc, pieces, live.as_slice(), objects)?;
+    let recorded = recorded_of(alloc, live.as_slice())?;
+    drop(live);
+    let (pages, tables) = records_of(alloc, recorded, imports)?;
+    let fixes = object_fixes(alloc, &pages, objects)?;
     let (imports, procs) = tables.into_names();
     Ok(Pages {
         bytes,
@@ -116,21 +144,21 @@ pub fn have_bytes(fixups: &[Fixup]) -> bool
     true
 }
 
-/// The pages of a link, or the first refusal of its fixups.
+/// The pages of a link, or the first refusal of its fixups. It gives the memory of the fixups back as soon as it can.
 pub fn place_pages(
     alloc: Global,
     pieces: &[PlacedPiece],
-    fixups: &[Fixup],
+    fixups: Vec<Fixup>,
     objects: &[LaidObject],
     imports: &[Imp],
 ) -> Result<Pages, Fail<FixRefusal>>
-    requires { All HasBytes fixups.now }
+    requires { All HasBytes fixups.items }
     ensures { Answers result
-        (λ pages. (first_of (map rules.fix_refusal (map shown fixups.now)) ≡ None)
-        × ((l : Link) → AreOfLink l pieces.now fixups.now objects.now imports.now → ArePages l pages))
-        (λ refusal. first_of (map rules.fix_refusal (map shown fixups.now)) ≡ Some refusal) }
+        (λ pages. (first_of (map rules.fix_refusal (map shown fixups.items)) ≡ None)
+        × ((l : Link) → AreOfLink l pieces.now fixups.items objects.now imports.now → ArePages l pages))
+        (λ refusal. first_of (map rules.fix_refusal (map shown fixups.items)) ≡ Some refusal) }
 {
-    match first_refusal(fixups) {
+    match first_refusal(fixups.as_slice()) {
         Some(refusal) => Err(Fail::Said(refusal)),
         None => Ok(pages_of(alloc, pieces, fixups, objects, imports)?),
     }

@@ -12,7 +12,7 @@ use Rattle.obj_types.specs.Whole.{WholeModule, WholeFix}
 use Rattle.link_model.specs.declared.symbols.Pick.{Pick}
 use Rattle.link_model.specs.declared.symbols.LaidObject.{LaidObject}
 use Rattle.link_model.specs.Choosing.{modules_of}
-use Rattle.link_model.specs.Link.{Link, link_of}
+use Rattle.link_model.specs.Link.{link_of}
 use Rattle.link_model.proofs.ExportsStay.{chosen_are_whole}
 use Rattle.sym_table.specs.Symbols.{SymbolTable}
 use Rattle.sym_table.specs.Binding.{IsBound}

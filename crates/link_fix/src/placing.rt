@@ -74,13 +74,7 @@ fn pages_of(
 {
     let fixups = fixups_among(alloc, places, syms, modules)?;
     let pieces = pieces_of(alloc, places, modules)?;
-    place_pages(
-        alloc,
-        pieces.as_slice(),
-        fixups.as_slice(),
-        objects,
-        syms.imports(),
-    )
+    place_pages(alloc, pieces.as_slice(), fixups, objects, syms.imports())
 }
 
 /// What the link of these modules puts into its pages, where these are its symbols, its places and its objects, and

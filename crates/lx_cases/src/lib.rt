@@ -1,4 +1,5 @@
-//! Tests that cross crates: files and sinks, and calls that take memory, each once with enough of it.
+//! Tests that cross crates: the commands over files and a sink in memory, and the calls that take
+//! memory, each once with enough of it.
 #![tactic(auto)]
 
 #[cfg(test)]
@@ -10,8 +11,18 @@ mod choosing;
 #[cfg(test)]
 mod fields;
 #[cfg(test)]
+mod image;
+#[cfg(test)]
+mod implib;
+#[cfg(test)]
+mod link;
+#[cfg(test)]
 mod names;
+#[cfg(test)]
+mod object_file;
 #[cfg(test)]
 mod ports;
 #[cfg(test)]
 mod records;
+#[cfg(test)]
+mod runs;

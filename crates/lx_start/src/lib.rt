@@ -1,9 +1,10 @@
 //! What the program `lx` does: one call over real files and standard output, and its status.
 #![tactic(auto)]
 
-ghost use Rattle.std.specs.Prelude.{map, string_bytes};
+ghost use Rattle.std.specs.Prelude.{◌≡◌, map, option_copied, string_bytes};
 ghost use Rattle.std.specs.Process.{exit_status};
 ghost use Rattle.lx_answer.specs.Ends.{Ends};
+ghost use Rattle.lx_start.specs.Telling.{told_of};
 
 use lx_ports::{DiskFiles, Files, NoGate, Sink, StdSink};
 use lx_tool::lx_main;
@@ -53,7 +54,9 @@ fn run<R, F: Files, S: Sink>(
 }
 
 /// What is told of the program itself, where that is all that the words ask for.
-fn about(words: &[String]) -> Option<&'static str> {
+fn about(words: &[String]) -> Option<&'static str>
+    ensures { option_copied result ≡ told_of (map string_bytes words.now) }
+{
     match words {
         [word] if word.as_str() == "--help" => Some(HELP),
         [word] if word.as_str() == "--version" => Some(VERSION),

@@ -28,11 +28,20 @@ fn spelled(fields: &[u32; 43]) -> [u8; 196]
     bytes
 }
 
-// The header and, behind it, the sections.
-fn join(alloc: Global, fields: &[u32; 43], s: &Sections) -> Result<Vec<u8>, NoMemory>
+// The header with these doublewords, with room for a file of so many bytes.
+fn header_in(alloc: Global, fields: &[u32; 43], room: u32) -> Result<Vec<u8>, NoMemory>
+    ensures { IfOk result (λ file. file.items ≡ header_spelling fields.now) }
+{
+    let mut file = Vec::with_capacity(alloc, room as usize)?;
+    file.extend_from_slice(&spelled(fields))?;
+    Ok(file)
+}
+
+// The header and, behind it, the sections; `len` bytes in all.
+fn join(alloc: Global, fields: &[u32; 43], s: &Sections, len: u32) -> Result<Vec<u8>, NoMemory>
     ensures { IfOk result (λ file. file.items ≡ header_spelling fields.now ++ sections_bytes (sections_value s.now)) }
 {
-    let mut file = Vec::from_slice(alloc, &spelled(fields))?;
+    let mut file = header_in(alloc, fields, len)?;
     file.extend_from_slice(s.objects.as_slice())?;
     file.extend_from_slice(s.pages.as_slice())?;
     file.extend_from_slice(s.residents.as_slice())?;
@@ -59,7 +68,7 @@ fn file_with(alloc: Global, image: &Image, s: &Sections) -> Result<Vec<u8>, NoMe
     let Some(fields) = fields_of(image, s, &places) else {
         return Err(NoMemory);
     };
-    join(alloc, &fields, s)
+    join(alloc, &fields, s, places.end)
 }
 
 /// The one file of an image: the header and its sections, one behind the other without gaps.

@@ -8,3 +8,5 @@ mod data_records;
 mod nasm_objects;
 #[cfg(test)]
 mod object_files;
+#[cfg(test)]
+mod shared_bytes;

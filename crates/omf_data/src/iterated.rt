@@ -1,6 +1,6 @@
 //! "A2h LIDATA".
 
-ghost use Rattle.std.specs.Prelude.{◌≡◌, ◌⊎◌, ◌≤◌, IfOk, length};
+ghost use Rattle.std.specs.Prelude.{◌≡◌, ◌⊎◌, ◌≤◌, IfOk, OnOk, length};
 ghost use Rattle.obj_types.specs.Items.{IsIndex};
 ghost use Rattle.obj_types.specs.declared.limits.TheConstants.{MAX_DATA};
 ghost use Rattle.omf_fields.specs.Yields.{Finds};
@@ -9,6 +9,7 @@ ghost use Rattle.omf_model.specs.Gives.{Gives, read_after, contents_at};
 ghost use Rattle.omf_model.specs.Items.{data_so_far};
 ghost use Rattle.omf_model.specs.ReadData.{lidata_at};
 ghost use Rattle.omf_model.specs.ReadModule.{is_wide};
+ghost use Rattle.omf_marks.specs.Marks.{AreMarks, HaveAll};
 ghost use Rattle.omf_data.specs.Data.{lidata_record};
 ghost use Rattle.omf_data.specs.Expanding.{SpellsBlocks};
 
@@ -20,6 +21,7 @@ use obj_types::{LastData, ObjParts, OmfRefusal, Piece};
 use omf_fields::{Fields, count, said};
 use omf_frame::Rec;
 use omf_frame::record_type::{LIDATA, LIDATA_32};
+use omf_marks::Marks;
 use std::alloc::Global;
 
 /// The fields of an LIDATA record: its blocks are not expanded, and `len` is the length of their data.
@@ -33,7 +35,13 @@ pub struct Iterated<'a> {
 
 // The fields of the record, which are good behind those of `have` segments.
 #[tactic(auto, unfolding(omf_model::specs::ReadData::lidata_at))]
-fn fields_of<'a>(rec: &Rec<'a>, before: &ObjParts, have: u32) -> Result<Iterated<'a>, OmfRefusal>
+fn fields_of<'a>(
+    rec: &Rec<'a>,
+    before: &ObjParts,
+    marks: &Marks,
+    have: u32,
+) -> Result<Iterated<'a>, OmfRefusal>
+    requires marks { HaveAll marks.now before.now }
     requires have { have ≡ length before.now.module.segs }
     requires limit { data_so_far before.now ≤ MAX_DATA }
     ensures read { Finds lidata_record result (lidata_at (is_wide rec.now.ty) before.now rec.now.at (contents_at rec.now.at rec.now.body.now)) }
@@ -52,7 +60,7 @@ fn fields_of<'a>(rec: &Rec<'a>, before: &ObjParts, have: u32) -> Result<Iterated
         offset,
         offset_at,
     };
-    judge(before, rec.at, place, len as usize)?;
+    judge(before, marks, rec.at, place, len as usize)?;
     Ok(Iterated {
         place,
         wide,
@@ -62,15 +70,23 @@ fn fields_of<'a>(rec: &Rec<'a>, before: &ObjParts, have: u32) -> Result<Iterated
 }
 
 /// Adds the data of an LIDATA record as one piece, expanded; later fixups refer to its blocks. Data of a debug
-/// segment is dropped. Its length is measured and judged before it is expanded. After a refusal nothing is told of
-/// the parts.
-pub fn lidata(alloc: Global, rec: &Rec, into: &mut ObjParts) -> Result<(), Fail<OmfRefusal>>
+/// segment is dropped. Its length is measured and judged before it is expanded. The marks see what they have not seen
+/// of the parts before. After a refusal nothing is told of the parts.
+pub fn lidata_marked(
+    alloc: Global,
+    rec: &Rec,
+    into: &mut ObjParts,
+    marks: &mut Marks,
+) -> Result<(), Fail<OmfRefusal>>
     requires kind { (rec.now.ty ≡ LIDATA) ⊎ (rec.now.ty ≡ LIDATA_32) }
     requires begun { IsBegun into.old }
-    ensures { Gives (λ _. into.new) result (read_after into.old rec.now) }
+    requires marks { AreMarks marks.old into.old }
+    ensures read { Gives (λ _. into.new) result (read_after into.old rec.now) }
+    ensures marks { OnOk result (AreMarks marks.new into.new) }
 {
+    marks.see(into)?;
     let have = count(into.module.segs.as_slice().len())?;
-    let fields = said(fields_of(rec, into, have))?;
+    let fields = said(fields_of(rec, into, marks, have))?;
     let Place { seg, offset, .. } = fields.place;
     if segment(into, seg).debug {
         into.last = LastData::Dropped;
@@ -88,4 +104,15 @@ pub fn lidata(alloc: Global, rec: &Rec, into: &mut ObjParts) -> Result<(), Fail<
         body,
     };
     Ok(())
+}
+
+/// Adds the data of an LIDATA record ("A2h LIDATA") to parts of which no marks were kept. After a refusal nothing is
+/// told of the parts.
+pub fn lidata(alloc: Global, rec: &Rec, into: &mut ObjParts) -> Result<(), Fail<OmfRefusal>>
+    requires kind { (rec.now.ty ≡ LIDATA) ⊎ (rec.now.ty ≡ LIDATA_32) }
+    requires begun { IsBegun into.old }
+    ensures { Gives (λ _. into.new) result (read_after into.old rec.now) }
+{
+    let mut marks = Marks::new(alloc);
+    lidata_marked(alloc, rec, into, &mut marks)
 }

@@ -8,5 +8,5 @@ mod measure;
 mod place;
 mod straight;
 
-pub use iterated::lidata;
-pub use straight::ledata;
+pub use iterated::{lidata, lidata_marked};
+pub use straight::{ledata, ledata_marked};

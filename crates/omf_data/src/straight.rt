@@ -1,6 +1,6 @@
 //! "A0h LEDATA".
 
-ghost use Rattle.std.specs.Prelude.{◌≡◌, ◌⊎◌, ◌≤◌, ◌<◌, ◌^◌, false, IfOk, length};
+ghost use Rattle.std.specs.Prelude.{◌≡◌, ◌⊎◌, ◌≤◌, ◌<◌, ◌^◌, false, IfOk, OnOk, length};
 ghost use Rattle.obj_types.specs.declared.limits.TheConstants.{MAX_DATA};
 ghost use Rattle.obj_types.specs.Items.{IsIndex};
 ghost use Rattle.omf_fields.specs.Yields.{Finds};
@@ -9,6 +9,7 @@ ghost use Rattle.omf_model.specs.Gives.{Gives, read_after, contents_at};
 ghost use Rattle.omf_model.specs.Items.{data_so_far, is_debug_seg};
 ghost use Rattle.omf_model.specs.ReadData.{ledata_at};
 ghost use Rattle.omf_model.specs.ReadModule.{is_wide};
+ghost use Rattle.omf_marks.specs.Marks.{AreMarks, HaveAll};
 ghost use Rattle.omf_data.specs.Data.{ledata_record};
 
 use crate::place::{Place, judge, segment};
@@ -17,6 +18,7 @@ use obj_types::{LastData, ObjParts, OmfRefusal, Piece};
 use omf_fields::{Fields, count, said};
 use omf_frame::Rec;
 use omf_frame::record_type::{LEDATA, LEDATA_32};
+use omf_marks::Marks;
 use std::alloc::Global;
 
 /// The fields of an LEDATA record.
@@ -28,7 +30,13 @@ pub struct Straight<'a> {
 
 // The fields of the record, which are good behind those of `have` segments.
 #[tactic(auto, unfolding(omf_model::specs::ReadData::ledata_at))]
-fn fields_of<'a>(rec: &Rec<'a>, before: &ObjParts, have: u32) -> Result<Straight<'a>, OmfRefusal>
+fn fields_of<'a>(
+    rec: &Rec<'a>,
+    before: &ObjParts,
+    marks: &Marks,
+    have: u32,
+) -> Result<Straight<'a>, OmfRefusal>
+    requires marks { HaveAll marks.now before.now }
     requires have { have ≡ length before.now.module.segs }
     requires limit { data_so_far before.now ≤ MAX_DATA }
     ensures read { Finds ledata_record result (ledata_at (is_wide rec.now.ty) before.now rec.now.at (contents_at rec.now.at rec.now.body.now)) }
@@ -46,19 +54,27 @@ fn fields_of<'a>(rec: &Rec<'a>, before: &ObjParts, have: u32) -> Result<Straight
         offset,
         offset_at,
     };
-    judge(before, rec.at, place, bytes.len())?;
+    judge(before, marks, rec.at, place, bytes.len())?;
     Ok(Straight { place, bytes })
 }
 
 /// Adds the data of an LEDATA record as a piece, which later fixups refer to. Data of a debug segment is dropped.
-/// After a refusal nothing is told of the parts.
-pub fn ledata(alloc: Global, rec: &Rec, into: &mut ObjParts) -> Result<(), Fail<OmfRefusal>>
+/// The marks see what they have not seen of the parts before. After a refusal nothing is told of the parts.
+pub fn ledata_marked(
+    alloc: Global,
+    rec: &Rec,
+    into: &mut ObjParts,
+    marks: &mut Marks,
+) -> Result<(), Fail<OmfRefusal>>
     requires kind { (rec.now.ty ≡ LEDATA) ⊎ (rec.now.ty ≡ LEDATA_32) }
     requires begun { IsBegun into.old }
-    ensures { Gives (λ _. into.new) result (read_after into.old rec.now) }
+    requires marks { AreMarks marks.old into.old }
+    ensures read { Gives (λ _. into.new) result (read_after into.old rec.now) }
+    ensures marks { OnOk result (AreMarks marks.new into.new) }
 {
+    marks.see(into)?;
     let have = count(into.module.segs.as_slice().len())?;
-    let Straight { place, bytes } = said(fields_of(rec, into, have))?;
+    let Straight { place, bytes } = said(fields_of(rec, into, marks, have))?;
     let Place { seg, offset, .. } = place;
     if segment(into, seg).debug {
         into.last = LastData::Dropped;
@@ -69,4 +85,15 @@ pub fn ledata(alloc: Global, rec: &Rec, into: &mut ObjParts) -> Result<(), Fail<
     into.module.pieces.push(Piece { seg, offset, bytes })?;
     into.last = LastData::Straight { seg, offset, len };
     Ok(())
+}
+
+/// Adds the data of an LEDATA record ("A0h LEDATA") to parts of which no marks were kept. After a refusal nothing is
+/// told of the parts.
+pub fn ledata(alloc: Global, rec: &Rec, into: &mut ObjParts) -> Result<(), Fail<OmfRefusal>>
+    requires kind { (rec.now.ty ≡ LEDATA) ⊎ (rec.now.ty ≡ LEDATA_32) }
+    requires begun { IsBegun into.old }
+    ensures { Gives (λ _. into.new) result (read_after into.old rec.now) }
+{
+    let mut marks = Marks::new(alloc);
+    ledata_marked(alloc, rec, into, &mut marks)
 }

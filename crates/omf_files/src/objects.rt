@@ -3,6 +3,7 @@
 ghost use Rattle.std.specs.Prelude.{◌≡◌, ◌<◌, ◌≤◌, IfOk, OnOk, MatchResult, Err, length};
 ghost use Rattle.lx_types.specs.Answers.{Answers};
 ghost use Rattle.lx_bytes.specs.LittleEndian.{AreBytes};
+ghost use Rattle.omf_marks.specs.Marks.{AreMarks};
 ghost use Rattle.omf_model.specs.Begun.{IsBegun};
 ghost use Rattle.omf_model.specs.Gives.{Gives, read_after};
 ghost use Rattle.omf_model.specs.Object.{Obj, FirstFault};
@@ -14,15 +15,16 @@ use crate::start::modend;
 use lx_bytes::Cur;
 use lx_types::Fail;
 use obj_types::{ObjModule, ObjParts, OmfRefusal};
-use omf_data::{ledata, lidata};
+use omf_data::{ledata_marked, lidata_marked};
 use omf_fields::{Fields, name_of};
-use omf_fix::fixups;
+use omf_fix::fixups_marked;
 use omf_frame::record_type::{
     COMDEF, COMENT, EXTDEF, FIXUPP, FIXUPP_32, GRPDEF, LEDATA, LEDATA_32, LEXTDEF, LEXTDEF_32,
     LHEADR, LIDATA, LIDATA_32, LINNUM, LINNUM_32, LNAMES, LPUBDEF, LPUBDEF_32, MODEND, MODEND_32,
     PUBDEF, PUBDEF_32, SEGDEF, SEGDEF_32, THEADR,
 };
 use omf_frame::{FrameRefusal, Rec, next_record};
+use omf_marks::Marks;
 use omf_names::{comdef, coment, extdef, grpdef, names, pubdef, segdef};
 use std::alloc::Global;
 
@@ -50,9 +52,16 @@ fn is_end(ty: u8) -> bool
 
 /// Adds what a record says. A later THEADR or LHEADR, and LINNUM, are passed over. After a refusal nothing is told
 /// of the parts.
-fn add_record(alloc: Global, rec: &Rec, into: &mut ObjParts) -> Result<(), Fail<OmfRefusal>>
+fn add_record(
+    alloc: Global,
+    rec: &Rec,
+    into: &mut ObjParts,
+    marks: &mut Marks,
+) -> Result<(), Fail<OmfRefusal>>
     requires begun { IsBegun into.old }
-    ensures { Gives (λ _. into.new) result (read_after into.old rec.now) }
+    requires marks { AreMarks marks.old into.old }
+    ensures read { Gives (λ _. into.new) result (read_after into.old rec.now) }
+    ensures marks { OnOk result (AreMarks marks.new into.new) }
 {
     match rec.ty {
         THEADR | LHEADR => Ok(()),
@@ -64,9 +73,9 @@ fn add_record(alloc: Global, rec: &Rec, into: &mut ObjParts) -> Result<(), Fail<
         LNAMES => names(alloc, rec, into),
         SEGDEF | SEGDEF_32 => segdef(alloc, rec, into),
         GRPDEF => grpdef(alloc, rec, into),
-        FIXUPP | FIXUPP_32 => fixups(alloc, rec, into),
-        LEDATA | LEDATA_32 => ledata(alloc, rec, into),
-        LIDATA | LIDATA_32 => lidata(alloc, rec, into),
+        FIXUPP | FIXUPP_32 => fixups_marked(alloc, rec, into, marks),
+        LEDATA | LEDATA_32 => ledata_marked(alloc, rec, into, marks),
+        LIDATA | LIDATA_32 => lidata_marked(alloc, rec, into, marks),
         COMDEF => comdef(alloc, rec, into),
         _ => Err(Fail::Said(OmfRefusal::UnknownType {
             at: rec.at,
@@ -107,12 +116,13 @@ fn finish(alloc: Global, cur: &mut Cur, begun: ObjParts) -> Result<ObjModule, Fa
     ensures shorter { OnOk result (length cur.new.left ≤ length cur.old.left) }
 {
     let mut parts = begun;
+    let mut marks = Marks::new(alloc);
     'records: while cur.left() > 0 {
         let rec = match record(cur) {
             Ok(rec) => rec,
             Err(refusal) => return Err(Fail::Said(refusal)),
         };
-        add_record(alloc, &rec, &mut parts)?;
+        add_record(alloc, &rec, &mut parts, &mut marks)?;
         if is_end(rec.ty) {
             return Ok(parts.module);
         }

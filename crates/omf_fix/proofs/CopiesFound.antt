@@ -1,43 +1,14 @@
--- The places at which a number stands, one after another; and a fix at each.
-use Rattle.std.proofs.Common.{◌≡◌, ℕ, zero, suc, ◌+◌, ◌<◌, ◌≤◌, Bool, true, false, eqb, List, [], ◌∷◌, ◌++◌, length, map, drop, Option, None, Some, refl, sym, ap, ◌∙◌, arith, append_assoc}
+-- The offsets of the places at which a number stands; and a fix at each.
+use Rattle.std.proofs.Common.{◌≡◌, ℕ, zero, suc, ◌+◌, ◌<◌, ◌≤◌, Bool, List, [], ◌∷◌, ◌++◌, length, map, drop, Option, None, Some, refl, sym, ap, ◌∙◌, arith, append_assoc}
 use Rattle.std.specs.Prelude.{IsSomeAnd, slice_index, ◌||◌}
-use Rattle.std.specs.List.{filter, range_with_len, list_any}
-use Rattle.std.proofs.lemmas.List.{append-nil, map-append}
-use Rattle.std.proofs.lemmas.List.Elements.{filter-append}
+use Rattle.std.specs.List.{All, list_any}
+use Rattle.std.proofs.lemmas.List.{append-nil}
 use Rattle.obj_types.specs.declared.object.Seg.{Seg}
-use Rattle.omf_model.specs.Fixups.{places_of}
-use Rattle.omf_fix.proofs.Copied.{range-snoc}
 
-abbrev pub found_before : ℕ → List ℕ → ℕ → List ℕ
-found_before n list next = filter (λ x. eqb (slice_index list x) n) (range_with_len 0 next)
-
-module _ (n start : ℕ) (list : List ℕ) (next : ℕ) where
-  found-split : found_before n list (next + 1) ≡ found_before n list next ++ filter (λ x. eqb (slice_index list x) n) (next ∷ [])
-  found-split =
-      let more : next + 1 ≡ suc next = omega arith in
-      let at_end : 0 + next ≡ next = omega arith in
-      ap (λ (k : ℕ). found_before n list k) more
-      ∙ ap (λ (xs : List ℕ). filter (λ x. eqb (slice_index list x) n) xs) (range-snoc 0 next ∙ ap (λ (k : ℕ). range_with_len 0 next ++ k ∷ []) at_end)
-      ∙ filter-append (λ x. eqb (slice_index list x) n) (range_with_len 0 next) (next ∷ [])
-
-  pub found_more : (items new : List ℕ) → items ≡ map (λ x. start + x) (found_before n list next) → eqb (slice_index list next) n ≡ true → new ≡ items ++ (start + next) ∷ [] → new ≡ map (λ x. start + x) (found_before n list (next + 1))
-  found_more items new so here is =
-      let one : filter (λ x. eqb (slice_index list x) n) (next ∷ []) ≡ next ∷ [] = rw here refl in
-      is ∙ (λ i. so i ++ (start + next) ∷ []) ∙ sym (map-append (λ x. start + x) (found_before n list next) (next ∷ []))
-      ∙ ap (λ (xs : List ℕ). map (λ x. start + x) xs) (ap (λ (xs : List ℕ). found_before n list next ++ xs) (sym one) ∙ sym found-split)
-
-  pub found_no_more : (items : List ℕ) → items ≡ map (λ x. start + x) (found_before n list next) → eqb (slice_index list next) n ≡ false → items ≡ map (λ x. start + x) (found_before n list (next + 1))
-  found_no_more items so here =
-      let nothing : filter (λ x. eqb (slice_index list x) n) (next ∷ []) ≡ [] = rw here refl in
-      so ∙ ap (λ (xs : List ℕ). map (λ x. start + x) xs) (sym (append-nil (found_before n list next)) ∙ ap (λ (xs : List ℕ). found_before n list next ++ xs) (sym nothing) ∙ sym found-split)
-
-  pub found_all : (items : List ℕ) → items ≡ map (λ x. start + x) (found_before n list next) → next ≤ length list → length list ≤ next → items ≡ map (λ x. start + x) (places_of n list)
-  found_all items so low high = so ∙ ap (λ (k : ℕ). map (λ x. start + x) (found_before n list k)) (let e : next ≡ length list = omega (arith, low, high) in e)
-
--- an offset within a length
-pub up-to : (start len offset : ℕ) (o : Option Seg) → offset ≤ len → IsSomeAnd o (λ (s : Seg). start + len ≤ s.len) → IsSomeAnd o (λ (s : Seg). start + offset ≤ s.len)
-up-to start len offset None low h = absurd h
-up-to start len offset (Some s) low h = omega (arith, h, low)
+-- a place in a segment
+pub each-fits : (places : List ℕ) (start next : ℕ) (o : Option Seg) → next < length places → IsSomeAnd o (λ (s : Seg). All (λ x. start + x ≤ s.len) places) → IsSomeAnd o (λ (s : Seg). start + slice_index places next ≤ s.len)
+each-fits places start next None lt h = absurd h
+each-fits places start next (Some s) lt h = h next 0 lt
 
 -- what is still to be done
 pub rest-first : (xs : List ℕ) (n : ℕ) → n < length xs → drop n xs ≡ slice_index xs n ∷ drop (n + 1) xs

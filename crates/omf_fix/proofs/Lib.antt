@@ -1,9 +1,9 @@
-mod BlockWritten
-mod Copied
+mod BlockFound
 mod CopiesFound
 mod Fields
 mod Judged
+mod Marked
 mod OnBlocks
 mod Onto
-mod OwnLast
+mod Shifted
 mod ThreadSet

@@ -1,6 +1,7 @@
--- Blocks that are read one after another: what is written of them, behind what came before.
-use Rattle.std.proofs.Common.{◌≡◌, ◌≢◌, ℕ, zero, suc, ◌+◌, ◌-◌, ◌<◌, ◌≤◌, Bool, true, false, cond, List, [], ◌∷◌, ◌++◌, length, Result, Ok, Err, refl, sym, ap, ◌∙◌, arith, append_assoc, length-append}
-use Rattle.std.specs.List.{repeat, range_with_len}
+-- Blocks that are read one after another: what is found in them, behind what came before.
+use Rattle.std.proofs.Common.{◌≡◌, ◌≢◌, ℕ, zero, suc, ◌+◌, ◌-◌, ◌*◌, ◌<◌, ◌≤◌, Bool, true, false, cond, List, [], ◌∷◌, ◌++◌, length, Result, Ok, Err, refl, sym, ap, ◌∙◌, arith, append_assoc, length-append}
+use Rattle.std.proofs.lemmas.List.{append-nil, map-append}
+use Rattle.std.proofs.Math.Nat.{add_assoc}
 use Rattle.lx_bytes.specs.Cursor.{Cursor}
 use Rattle.lx_bytes.specs.LittleEndian.{AreBytes}
 use Rattle.lx_bytes.proofs.Numbers.{length-little_bytes}
@@ -9,10 +10,12 @@ use Rattle.omf_fields.specs.Fields.{Reading, ◌>>=◌, width, number_at, items_
 use Rattle.omf_fields.specs.Yields.{TakesBytes}
 use Rattle.omf_fields.proofs.SpanLaws.{bytes_behind, ok_is}
 use Rattle.omf_fields.proofs.ItemLaws.{list-next, list-none}
-use Rattle.omf_model.specs.Blocks.{block_bytes, count_of, origins, contents}
+use Rattle.omf_model.specs.Blocks.{block_bytes, count_of, expanded_len, contents}
 use Rattle.omf_model.specs.ReadBlocks.{Block, innermost, outer, joined, block_at}
 use Rattle.omf_model.proofs.BlockLaws.{block_sound}
-use Rattle.omf_fix.specs.Written.{Written, live_times, with_block, seen, IsInContents}
+use Rattle.omf_model.specs.Copies.{repeated, place_in, block_copies}
+use Rattle.omf_fix.specs.Found.{Found, live_times, with_block, seen, IsInContents}
+use Rattle.omf_fix.proofs.Shifted.{moved, moved-moved, repeated-never}
 
 -- ---- for any view of blocks that goes on from what came before
 
@@ -76,39 +79,46 @@ abbrev pub block_end : Bool → ℕ → Block → ℕ
 block_end wide at (innermost times content) = at + width wide + 3 + length content
 block_end wide at (outer times inner) = at + width wide + 2 + length (block_bytes wide inner)
 
--- the place, and what was written
+-- the place, and what was found
 abbrev pub Placed : Type 0
-Placed = ℕ × Written
+Placed = ℕ × Found
 
-abbrev pub if_live : Bool → List ℕ → List ℕ
-if_live live xs = cond live xs []
+abbrev pub if_live : {A : Type 0} → Bool → A → A → A
+if_live live x y = cond live x y
 
-abbrev pub written_behind : Bool → Bool → Placed → List Block → Written
-written_behind wide live v bs = (v.1.0 ++ if_live live (origins wide v.0 (joined bs)), v.1.1 ++ contents wide v.0 (joined bs))
+abbrev pub found_behind : ℕ → Bool → Bool → Placed → List Block → Found
+found_behind number wide live v bs = (
+  v.1.0 + if_live live (expanded_len (joined bs)) 0,
+  v.1.1 ++ moved v.1.0 (if_live live (block_copies wide v.0 (joined bs) number) []),
+  v.1.2 ++ contents wide v.0 (joined bs),
+)
 
-abbrev pub more_written : Bool → Bool → Placed → Block → Placed
-more_written wide live v b = (block_end wide v.0 b, with_block wide live v.0 v.1 b)
+abbrev pub more_found : ℕ → Bool → Bool → Placed → Block → Placed
+more_found number wide live v b = (block_end wide v.0 b, with_block number wide live v.0 v.1 b)
 
-live-append : (live : Bool) (times : ℕ) (unit rest : List ℕ) → if_live live (repeat times unit ++ rest) ≡ repeat (live_times live times) unit ++ if_live live rest
-live-append true times unit rest = refl
-live-append false times unit rest = refl
+len-step : (live : Bool) (len times unit rest : ℕ) → len + if_live live (times * unit + rest) 0 ≡ len + live_times live times * unit + if_live live rest 0
+len-step true len times unit rest = sym (add_assoc len (times * unit) rest)
+len-step false len times unit rest = omega arith
 
-pub written-law : (wide live : Bool) (v : Placed) (b : Block) (bs : List Block) → written_behind wide live v (b ∷ bs) ≡ written_behind wide live (more_written wide live v b) bs
-written-law wide live v (innermost times content) bs =
+copies-step : (live : Bool) (front : List ℕ) (len times unit : ℕ) (own rest : List ℕ)
+    → front ++ moved len (if_live live (repeated times unit own ++ moved (times * unit) rest) []) ≡ (front ++ moved len (repeated (live_times live times) unit own)) ++ moved (len + live_times live times * unit) (if_live live rest [])
+copies-step true front len times unit own rest =
+    ap (λ (xs : List ℕ). front ++ xs) (map-append (λ x. len + x) (repeated times unit own) (moved (times * unit) rest) ∙ ap (λ (xs : List ℕ). moved len (repeated times unit own) ++ xs) (moved-moved len (times * unit) rest))
+    ∙ sym (append_assoc front (moved len (repeated times unit own)) (moved (len + times * unit) rest))
+copies-step false front len times unit own rest =
+    sym (append-nil (front ++ [])) ∙ ap (λ (xs : List ℕ). (front ++ moved len xs) ++ []) (sym (repeated-never unit own))
+
+pub found-law : (number : ℕ) (wide live : Bool) (v : Placed) (b : Block) (bs : List Block) → found_behind number wide live v (b ∷ bs) ≡ found_behind number wide live (more_found number wide live v b) bs
+found-law number wide live v (innermost times content) bs =
     let first : ℕ = v.0 + width wide + 3 in
-    let rest : List ℕ = origins wide (first + length content) (joined bs) in
-    let unit : List ℕ = range_with_len first (length content) in
-    let o = ap (λ (xs : List ℕ). v.1.0 ++ xs) (live-append live times unit rest) ∙ sym (append_assoc v.1.0 (repeat (live_times live times) unit) (if_live live rest)) in
-    let k = sym (append_assoc v.1.1 ((first, first + length content) ∷ []) (contents wide (first + length content) (joined bs))) in
-    λ i. (o i, k i)
-written-law wide live v (outer times inner) bs =
+    let past : ℕ = first + length content in
+    let k = sym (append_assoc v.1.2 ((first, past) ∷ []) (contents wide past (joined bs))) in
+    λ i. (len-step live v.1.0 times (length content) (expanded_len (joined bs)) i, copies-step live v.1.1 v.1.0 times (length content) (place_in first (length content) number) (block_copies wide past (joined bs) number) i, k i)
+found-law number wide live v (outer times inner) bs =
     let first : ℕ = v.0 + width wide + 2 in
     let past : ℕ = first + length (block_bytes wide inner) in
-    let rest : List ℕ = origins wide past (joined bs) in
-    let unit : List ℕ = origins wide first inner in
-    let o = ap (λ (xs : List ℕ). v.1.0 ++ xs) (live-append live times unit rest) ∙ sym (append_assoc v.1.0 (repeat (live_times live times) unit) (if_live live rest)) in
-    let k = sym (append_assoc v.1.1 (contents wide first inner) (contents wide past (joined bs))) in
-    λ i. (o i, k i)
+    let k = sym (append_assoc v.1.2 (contents wide first inner) (contents wide past (joined bs))) in
+    λ i. (len-step live v.1.0 times (expanded_len inner) (expanded_len (joined bs)) i, copies-step live v.1.1 v.1.0 times (expanded_len inner) (block_copies wide first inner number) (block_copies wide past (joined bs) number) i, k i)
 
 -- ---- a block
 

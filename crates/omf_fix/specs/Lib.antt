@@ -3,4 +3,4 @@ pub mod FixData
 pub mod Methods
 pub mod Placed
 pub mod Reads
-pub mod Written
+pub mod Found

@@ -1,21 +1,23 @@
-//! Fixups on the blocks of an LIDATA record. Each is found in the blocks written out: nothing here is fast.
+//! Fixups on the blocks of an LIDATA record: each takes the time of the blocks and of its copies.
 
-ghost use Rattle.std.specs.Prelude.{◌≡◌, ◌+◌, ◌++◌, ◌≤◌, ◌&&◌, IfOk, OnOk, IsSomeAnd, length, nat_le, map};
-ghost use Rattle.std.specs.List.{list_any};
+ghost use Rattle.std.specs.Prelude.{◌≡◌, ◌+◌, ◌++◌, ◌≤◌, ◌&&◌, IfOk, OnOk, IsSomeAnd, nat_le, map, true};
+ghost use Rattle.std.specs.List.{All, list_any};
 ghost use Rattle.obj_types.specs.Items.{item};
-ghost use Rattle.obj_types.specs.Location.{meets as share_byte};
+ghost use Rattle.obj_types.specs.declared.parts.ObjParts.{ObjParts};
+ghost use Rattle.omf_marks.specs.Marks.{HaveAll};
 ghost use Rattle.omf_fix.specs.FixData.{data_of};
 ghost use Rattle.omf_fix.specs.Placed.{placed, fix_of, IsBlocks};
 ghost use Rattle.omf_model.specs.Begun.{IsBegun};
-ghost use Rattle.omf_model.specs.Fixups.{places_of};
+ghost use Rattle.omf_model.specs.Fixups.{is_location as location_there, touches};
 ghost use Rattle.omf_model.specs.Gives.{Gives};
 
 use crate::fix_data::{FixFields, meaning};
+use crate::found::copies_in;
 use crate::location::{location, location_len, offset};
-use crate::place::{FixPlace, fix_at, meets_any};
-use crate::written::written;
+use crate::place::{FixPlace, fix_at};
 use lx_types::{Fail, NoMemory, Seq};
 use obj_types::{FixAt, LastData, MAX_FIXES, ObjParts, OmfRefusal, Seg, StartAt};
+use omf_marks::Marks;
 use std::alloc::Global;
 
 /// Whether so many bytes from an offset on are among those of one innermost block.
@@ -28,43 +30,42 @@ fn is_in_block(contents: &[(usize, usize)], offset: usize, past: usize) -> bool
 }
 
 /// Where the data that begins at `start` and lies in a segment has a place.
-fn in_segment(segs: &[Seg], index: u32, start: u32, place: usize) -> u32
+fn in_segment(segs: &[Seg], index: u32, start: u32, place: u32) -> u32
     requires { IsSomeAnd (item segs.now index) (λ segment. start + place ≤ segment.len) }
     ensures { result ≡ start + place }
 {
     // The segment's end has 32 bits, and the sum is not past it.
     let _end = segs[index as usize - 1].len;
-    start + place as u32
+    start + place
 }
 
-/// The offsets in a segment of the places at which a number stands, where the list's first has the offset `start`.
+/// The offsets in a segment of places in data that begins at `start`.
 fn copies_of(
     alloc: Global,
-    number: usize,
-    list: &[usize],
+    places: &[u32],
     segs: &[Seg],
     seg: u32,
     start: u32,
 ) -> Result<Vec<u32>, NoMemory>
-    requires { IsSomeAnd (item segs.now seg) (λ segment. start + length list.now ≤ segment.len) }
-    ensures { IfOk result (λ copies. copies.items ≡ map (λ x. start + x) (places_of number list.now)) }
+    requires { IsSomeAnd (item segs.now seg) (λ segment. All (λ x. start + x ≤ segment.len) places.now) }
+    ensures { IfOk result (λ copies. copies.items ≡ map (λ x. start + x) places.now) }
 {
-    let mut copies = Vec::new(alloc);
+    let mut copies = Vec::with_capacity(alloc, places.len())?;
     let mut next = 0;
-    'places: while next < list.len() {
-        if list[next] == number {
-            copies.push(in_segment(segs, seg, start, next))?;
-        }
+    'places: while next < places.len() {
+        copies.push(in_segment(segs, seg, start, places[next]))?;
         next += 1;
     }
     Ok(copies)
 }
 
-/// Whether a fix at one of these offsets shares a byte with an earlier one.
-fn meets_copies(fixes: &[FixAt], seg: u32, copies: &[u32], place: FixPlace, what: StartAt) -> bool
-    ensures { result ≡ list_any (λ x. list_any (λ f. share_byte f (fix_of seg x place.high what)) fixes.now) copies.now }
+/// Whether so many bytes from one of these offsets on share one with the location of a fix.
+fn meets_copies(marks: &Marks, seg: u32, copies: &[u32], size: u32) -> bool
+    ensures { (p : ObjParts) → HaveAll marks.now p → result ≡ list_any (λ x. list_any (touches seg x size) p.module.fixes) copies.now }
 {
-    copies.iter().any(|offset| meets_any(fixes, fix_at(seg, *offset, place, what)))
+    copies
+        .iter()
+        .any(|offset| marks.is_on_fix(seg, *offset, size))
 }
 
 /// Adds a fix at each of these offsets.
@@ -90,34 +91,39 @@ fn push_copies(
 pub fn add_blocks(
     alloc: Global,
     into: &mut ObjParts,
+    marks: &Marks,
     place: FixPlace,
     d: FixFields,
 ) -> Result<(), Fail<OmfRefusal>>
+    requires marks { HaveAll marks.now into.old }
+    requires location { location_there place.high ≡ true }
     requires begun { IsBegun into.old }
     requires last { IsBlocks into.old.last }
     ensures { Gives (λ _. into.new) result (placed into.old place (data_of d)) }
 {
     let at = place.at;
     let low = usize::from(offset(place.high, place.low));
-    let size = usize::from(location_len(location(place.high)));
+    let size = u32::from(location_len(location(place.high)));
     let what = meaning(d, into);
-    let (seg, start, blocks) = match &into.last {
+    let (seg, start, found) = match &into.last {
         LastData::Blocks {
             seg,
             offset,
             wide,
             body,
-        } => (*seg, *offset, written(alloc, *wide, body.as_slice())?),
+        } => (
+            *seg,
+            *offset,
+            copies_in(alloc, *wide, body.as_slice(), low)?,
+        ),
         _ => return Err(Fail::Said(OmfRefusal::NoData { at })),
     };
-    if !is_in_block(blocks.contents.as_slice(), low, low + size) {
+    if !is_in_block(found.contents.as_slice(), low, low + size as usize) {
         return Err(Fail::Said(OmfRefusal::NoData { at }));
     }
-    let origins = blocks.origins.as_slice();
     let segs = into.module.segs.as_slice();
-    let copies = copies_of(alloc, low, origins, segs, seg, start)?;
-    let fixes = into.module.fixes.as_slice();
-    if meets_copies(fixes, seg, copies.as_slice(), place, what) {
+    let copies = copies_of(alloc, found.places.as_slice(), segs, seg, start)?;
+    if meets_copies(marks, seg, copies.as_slice(), size) {
         return Err(Fail::Said(OmfRefusal::FixOverlap { at }));
     }
     if into.module.fixes.as_slice().len() + copies.len() > MAX_FIXES as usize {

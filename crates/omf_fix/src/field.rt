@@ -4,6 +4,7 @@ ghost use Rattle.std.specs.Prelude.{◌≡◌};
 ghost use Rattle.omf_fix.specs.Field.{Adds, then_field, unplaced_at, unplaced, first_byte};
 ghost use Rattle.omf_fix.specs.Methods.{Counts};
 ghost use Rattle.omf_fix.specs.Reads.{Reads};
+ghost use Rattle.omf_marks.specs.Marks.{AreMarks};
 ghost use Rattle.omf_model.specs.Begun.{IsBegun};
 ghost use Rattle.omf_model.specs.ReadFixups.{is_dropped as dropped, field_at, fixup_at, thread_at};
 
@@ -15,6 +16,7 @@ use crate::threads::{set_thread, thread_index};
 use lx_types::Fail;
 use obj_types::{LastData, ObjParts, OmfRefusal};
 use omf_fields::{Fields, said};
+use omf_marks::Marks;
 use std::alloc::Global;
 
 /// The fields of a fixup behind its first byte.
@@ -73,10 +75,13 @@ fn fixup(
     at: usize,
     high: u8,
     into: &mut ObjParts,
+    marks: &mut Marks,
 ) -> Result<(), Fail<OmfRefusal>>
     requires begun { IsBegun into.old }
     requires have { Counts have into.old }
-    ensures { Adds into.new result (then_field into.old (fixup_at wide into.old (first_byte of_record at high) fields.old)) fields.new }
+    requires marks { AreMarks marks.old into.old }
+    ensures marks { AreMarks marks.new into.old }
+    ensures added { Adds into.new result (then_field into.old (fixup_at wide into.old (first_byte of_record at high) fields.old)) fields.new }
 {
     let FixupFields { low, data } = match fixup_fields(
         fields, wide, into, have, of_record, at, high,
@@ -93,7 +98,8 @@ fn fixup(
         high,
         low,
     };
-    place_fixup(alloc, into, place, data)
+    marks.see(into)?;
+    place_fixup(alloc, into, marks, place, data)
 }
 
 /// Reads a THREAD behind its byte, and sets the thread.
@@ -123,16 +129,19 @@ pub fn next_field(
     have: Have,
     of_record: usize,
     into: &mut ObjParts,
+    marks: &mut Marks,
 ) -> Result<(), Fail<OmfRefusal>>
     requires begun { IsBegun into.old }
     requires have { Counts have into.old }
-    ensures { Adds into.new result (then_field into.old (field_at wide into.old of_record fields.old)) fields.new }
+    requires marks { AreMarks marks.old into.old }
+    ensures marks { AreMarks marks.new into.old }
+    ensures added { Adds into.new result (then_field into.old (field_at wide into.old of_record fields.old)) fields.new }
 {
     let at = fields.at();
     let first = said(fields.byte())?;
     if first < 0x80 {
         thread(fields, have, of_record, at, first, into)
     } else {
-        fixup(alloc, fields, wide, have, of_record, at, first, into)
+        fixup(alloc, fields, wide, have, of_record, at, first, into, marks)
     }
 }

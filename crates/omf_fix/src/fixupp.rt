@@ -1,6 +1,7 @@
 //! "9Ch FIXUPP".
 
-ghost use Rattle.std.specs.Prelude.{◌≡◌, ◌⊎◌};
+ghost use Rattle.std.specs.Prelude.{◌≡◌, ◌⊎◌, OnOk};
+ghost use Rattle.omf_marks.specs.Marks.{AreMarks};
 ghost use Rattle.omf_model.specs.Begun.{IsBegun};
 ghost use Rattle.omf_model.specs.Gives.{Gives, read_after};
 
@@ -11,20 +12,40 @@ use obj_types::{ObjParts, OmfRefusal};
 use omf_fields::Fields;
 use omf_frame::Rec;
 use omf_frame::record_type::{FIXUPP, FIXUPP_32};
+use omf_marks::Marks;
 use std::alloc::Global;
 
 /// Adds what a FIXUPP record says, field after field: threads that later fixups name, and fixes on the data of the
-/// last data record, one in each of its copies. After a refusal nothing is told of the parts.
-pub fn fixups(alloc: Global, rec: &Rec, into: &mut ObjParts) -> Result<(), Fail<OmfRefusal>>
+/// last data record, one in each of its copies. The marks see what they have not seen of the parts. After a refusal
+/// nothing is told of the parts.
+pub fn fixups_marked(
+    alloc: Global,
+    rec: &Rec,
+    into: &mut ObjParts,
+    marks: &mut Marks,
+) -> Result<(), Fail<OmfRefusal>>
     requires kind { (rec.now.ty ≡ FIXUPP) ⊎ (rec.now.ty ≡ FIXUPP_32) }
     requires begun { IsBegun into.old }
-    ensures { Gives (λ _. into.new) result (read_after into.old rec.now) }
+    requires marks { AreMarks marks.old into.old }
+    ensures read { Gives (λ _. into.new) result (read_after into.old rec.now) }
+    ensures marks { OnOk result (AreMarks marks.new into.new) }
 {
     let wide = rec.ty % 2 == 1;
     let have = Have::of(into)?;
     let mut fields = Fields::of(rec);
     'fields: while !fields.is_empty() {
-        next_field(alloc, &mut fields, wide, have, rec.at, into)?;
+        next_field(alloc, &mut fields, wide, have, rec.at, into, marks)?;
     }
     Ok(())
+}
+
+/// Adds what a FIXUPP record ("9Ch FIXUPP") says to parts of which no marks were kept. After a refusal nothing is told
+/// of the parts.
+pub fn fixups(alloc: Global, rec: &Rec, into: &mut ObjParts) -> Result<(), Fail<OmfRefusal>>
+    requires kind { (rec.now.ty ≡ FIXUPP) ⊎ (rec.now.ty ≡ FIXUPP_32) }
+    requires begun { IsBegun into.old }
+    ensures { Gives (λ _. into.new) result (read_after into.old rec.now) }
+{
+    let mut marks = Marks::new(alloc);
+    fixups_marked(alloc, rec, into, &mut marks)
 }

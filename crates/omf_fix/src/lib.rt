@@ -6,13 +6,13 @@ mod blocks;
 mod field;
 mod fix_data;
 mod fixupp;
+mod found;
 mod have;
 mod location;
 mod methods;
 mod place;
 mod threads;
-mod written;
 
 pub use fix_data::{FixFields, fix_fields, start_at};
-pub use fixupp::fixups;
+pub use fixupp::{fixups, fixups_marked};
 pub use have::Have;

@@ -1,11 +1,9 @@
 //! The first two bytes of a FIXUP: what its location is, and where it lies.
 
 ghost use Rattle.std.specs.Prelude.{◌≡◌, ◌<◌};
-ghost use Rattle.obj_types.specs.Location.{location_len as len_of_location, has_selector as selector_in, meets as share_byte};
+ghost use Rattle.obj_types.specs.Location.{location_len as len_of_location, has_selector as selector_in};
 ghost use Rattle.omf_model.specs.Fixups.{is_location as location_there};
 ghost use Rattle.omf_model.specs.Record.{is_self_relative as self_relative, location_of, offset_of};
-
-use obj_types::FixAt;
 
 /// The bytes of a location, and 0 for a kind that there is not.
 pub fn location_len(loc: u8) -> u8
@@ -56,15 +54,4 @@ pub fn offset(high: u8, low: u8) -> u16
     ensures small { result < 1024 }
 {
     u16::from(high % 4) * 256 + u16::from(low)
-}
-
-/// Whether two fixups share a byte.
-pub fn meets(f: &FixAt, g: FixAt) -> bool
-    ensures { result ≡ share_byte f.now g }
-{
-    let start = u64::from(f.offset);
-    let other = u64::from(g.offset);
-    f.seg == g.seg
-        && start < other + u64::from(location_len(g.loc))
-        && other < start + u64::from(location_len(f.loc))
 }

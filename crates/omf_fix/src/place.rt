@@ -1,22 +1,22 @@
 //! What a good fixup adds, and when it is refused for its place.
 
-ghost use Rattle.std.specs.Prelude.{◌≡◌, ◌+◌, ◌<◌, ◌≤◌, IsSomeAnd, true, false, reverse, take_while};
+ghost use Rattle.std.specs.Prelude.{◌≡◌, ◌+◌, ◌≤◌, IsSomeAnd, true, false};
 ghost use Rattle.obj_types.specs.Items.{item};
-ghost use Rattle.std.specs.List.{All, list_any};
-ghost use Rattle.obj_types.specs.Location.{location_len as len_of_location, meets as share_byte};
+ghost use Rattle.omf_marks.specs.Marks.{HaveAll};
 ghost use Rattle.omf_fix.specs.Placed.{placed, fix_of};
 ghost use Rattle.omf_fix.specs.FixData.{data_of};
-ghost use Rattle.omf_model.specs.Begun.{IsBegun, SplitsAtLast};
-ghost use Rattle.omf_model.specs.Fixups.{is_location as location_there, touches as touches_data};
+ghost use Rattle.omf_model.specs.Begun.{IsBegun};
+ghost use Rattle.omf_model.specs.Fixups.{is_location as location_there};
 ghost use Rattle.omf_model.specs.Gives.{Gives};
 ghost use Rattle.omf_model.specs.ReadFixups.{is_dropped};
 ghost use Rattle.obj_types.specs.declared.parts.LastData.TheVariants.{Straight};
 
 use crate::blocks::add_blocks;
 use crate::fix_data::{FixFields, meaning};
-use crate::location::{is_self_relative, location, location_len, meets, offset};
+use crate::location::{is_self_relative, location, location_len, offset};
 use lx_types::Fail;
 use obj_types::{FixAt, LastData, MAX_FIXES, ObjParts, OmfRefusal, Seg, StartAt};
+use omf_marks::Marks;
 use std::alloc::Global;
 
 /// The first two bytes of a fixup, its place and the place of its record.
@@ -53,50 +53,10 @@ fn in_segment(segs: &[Seg], index: u32, start: u32, offset: u32) -> u32
     start + offset
 }
 
-/// Whether a fix shares a byte with one of these.
-pub fn meets_any(fixes: &[FixAt], new: FixAt) -> bool
-    ensures { result ≡ list_any (λ f. share_byte f new) fixes.now }
-{
-    fixes.iter().any(|fix| meets(fix, new))
-}
-
-/// Whether a fix has a byte among `len` bytes of a segment from `start` on.
-fn touches(fix: &FixAt, seg: u32, start: u32, len: u32) -> bool
-    ensures { result ≡ touches_data seg start len fix.now }
-{
-    let offset = u64::from(fix.offset);
-    let end = offset + u64::from(location_len(fix.loc));
-    let past = u64::from(start) + u64::from(len);
-    fix.seg == seg && 0 < len && offset < past && u64::from(start) < end
-}
-
-/// Whether a fix shares a byte with one of the last of these, as far as they touch so many bytes from `start` on.
-fn meets_last(fixes: &[FixAt], new: FixAt, start: u32, len: u32) -> bool
-    ensures { result ≡ list_any (λ f. share_byte f new) (take_while (touches_data new.seg start len) (reverse fixes.now)) }
-{
-    fixes
-        .iter()
-        .rev()
-        .take_while(|fix| touches(fix, new.seg, start, len))
-        .any(|fix| meets(fix, new))
-}
-
-/// Whether a fix on the last data record, of `len` bytes from `start` on, shares a byte with one of these. The fixes on
-/// that record stand last, and those on earlier records touch no byte of it: they are not looked at.
-fn meets_own(fixes: &[FixAt], new: FixAt, start: u32, len: u32) -> bool
-    requires split { SplitsAtLast (Straight new.seg start len) fixes.now }
-    requires locations { All (λ f. 0 < len_of_location f.loc) fixes.now }
-    requires some { 0 < len_of_location new.loc }
-    requires begins { start ≤ new.offset }
-    requires ends { new.offset + len_of_location new.loc ≤ start + len }
-    ensures { result ≡ list_any (λ f. share_byte f new) fixes.now }
-{
-    meets_last(fixes, new, start, len)
-}
-
 /// Adds the fixup on the data of an LEDATA record that begins at an offset of a segment and has `len` bytes.
 fn add_straight(
     into: &mut ObjParts,
+    marks: &Marks,
     seg: u32,
     start: u32,
     len: u32,
@@ -106,6 +66,7 @@ fn add_straight(
     requires begun { IsBegun into.old }
     requires location { location_there place.high ≡ true }
     requires last { into.old.last ≡ Straight seg start len }
+    requires marks { HaveAll marks.now into.old }
     ensures { Gives (λ _. into.new) result (placed into.old place (data_of d)) }
 {
     let at = place.at;
@@ -116,7 +77,7 @@ fn add_straight(
     }
     let segment_offset = in_segment(into.module.segs.as_slice(), seg, start, offset);
     let fix = fix_at(seg, segment_offset, place, meaning(d, into));
-    if meets_own(into.module.fixes.as_slice(), fix, start, len) {
+    if marks.is_on_fix(seg, segment_offset, size) {
         return Err(Fail::Said(OmfRefusal::FixOverlap { at }));
     }
     if into.module.fixes.as_slice().len() >= MAX_FIXES as usize {
@@ -134,17 +95,21 @@ fn add_straight(
 pub fn place_fixup(
     alloc: Global,
     into: &mut ObjParts,
+    marks: &Marks,
     place: FixPlace,
     d: FixFields,
 ) -> Result<(), Fail<OmfRefusal>>
     requires begun { IsBegun into.old }
+    requires marks { HaveAll marks.now into.old }
     requires location { location_there place.high ≡ true }
     requires kept { is_dropped into.old.last ≡ false }
     ensures { Gives (λ _. into.new) result (placed into.old place (data_of d)) }
 {
     match into.last {
-        LastData::Straight { seg, offset, len } => add_straight(into, seg, offset, len, place, d),
-        LastData::Blocks { .. } => add_blocks(alloc, into, place, d),
+        LastData::Straight { seg, offset, len } => add_straight(
+            into, marks, seg, offset, len, place, d,
+        ),
+        LastData::Blocks { .. } => add_blocks(alloc, into, marks, place, d),
         LastData::None | LastData::Dropped => Err(Fail::Said(OmfRefusal::NoData { at: place.at })),
     }
 }

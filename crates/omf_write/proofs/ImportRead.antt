@@ -31,7 +31,7 @@ right_sum ty body =
     let total = sum_by-append (λ (x : ℕ). x) (front_of ty body) (checksum_of ty body ∷ []) in
     omega (arith, total)
 
-framed : (ty : ℕ) (body : List ℕ) → length body < 65535 → IsRecordType ty → BeginsRecord (record_of ty body) ty body []
+pub framed : (ty : ℕ) (body : List ℕ) → length body < 65535 → IsRecordType ty → BeginsRecord (record_of ty body) ty body []
 framed ty body short known = record {
   checksum = checksum_of ty body;
   whole = record { joined = sym (append-nil (record_of ty body)); counted = omega (arith, short) };
@@ -43,22 +43,22 @@ spells : (r : Record) (ty : ℕ) (body : List ℕ) → Contains (types_of r) (ty
 spells r ty body is short known content = record { ty = ty; wide = false; contents = body; is_type = is; framed = framed ty body short known; content = content }
 
 -- one form behind another
-both : (first second : Form) (front back : List ℕ) → first front → second back → (first then second) (front ++ back)
+pub both : (first second : Form) (front back : List ℕ) → first front → second back → (first then second) (front ++ back)
 both first second front back a b = record { front = front; back = back; joined = refl; first_so = a; second_so = b }
 
 -- nothing more is behind
-last : (first : Form) (front : List ℕ) → first front → (first then nothing) front
+pub last : (first : Form) (front : List ℕ) → first front → (first then nothing) front
 last first front a = record { front = front; back = []; joined = sym (append-nil front); first_so = a; second_so = refl }
 
-passed_over : (first : Form) (front : List ℕ) → first front → (first then anything) front
+pub passed_over : (first : Form) (front : List ℕ) → first front → (first then anything) front
 passed_over first front a = record { front = front; back = []; joined = sym (append-nil front); first_so = a; second_so = tt }
 
 -- ---- the comment
 
-abbrev written_entry_by : Bool → List ℕ → ImpEntry
+abbrev pub written_entry_by : Bool → List ℕ → ImpEntry
 written_entry_by same name = by_name (cond same [] name)
 
-abbrev written_entry : List ℕ → EntryKey → ImpEntry
+abbrev pub written_entry : List ℕ → EntryKey → ImpEntry
 written_entry internal (Ordinal n) = by_ordinal n
 written_entry internal (Named name) = written_entry_by (bytes_eq name internal) name
 
@@ -69,11 +69,11 @@ entry_by : (same : Bool) (name_ : List ℕ) → length name_ ≤ 255 → entry_f
 entry_by true name_ short = (refl, (omega arith, refl))
 entry_by false name_ short = (refl, (omega (arith, short), refl))
 
-entry_spelled : (internal : List ℕ) (entry : EntryKey) → EntryFits entry → IsShortEntry entry → entry_form (flag_of entry) (written_entry internal entry) (entry_bytes internal entry)
+pub entry_spelled : (internal : List ℕ) (entry : EntryKey) → EntryFits entry → IsShortEntry entry → entry_form (flag_of entry) (written_entry internal entry) (entry_bytes internal entry)
 entry_spelled internal (Ordinal n) fits short = ((λ e. absurd (omega (arith, e))), (omega (arith, fits), refl))
 entry_spelled internal (Named name_) fits short = entry_by (bytes_eq name_ internal) name_ short
 
-flag_small : (entry : EntryKey) → flag_of entry < 256
+pub flag_small : (entry : EntryKey) → flag_of entry < 256
 flag_small (Ordinal n) = omega arith
 flag_small (Named name_) = omega arith
 
@@ -81,7 +81,7 @@ entry_short_by : (same : Bool) (name_ : List ℕ) → length name_ ≤ 255 → l
 entry_short_by true name_ short = omega arith
 entry_short_by false name_ short = omega (arith, short)
 
-entry_short : (internal : List ℕ) (entry : EntryKey) → IsShortEntry entry → length (entry_bytes internal entry) ≤ 256
+pub entry_short : (internal : List ℕ) (entry : EntryKey) → IsShortEntry entry → length (entry_bytes internal entry) ≤ 256
 entry_short internal (Ordinal n) short = omega arith
 entry_short internal (Named name_) short = entry_short_by (bytes_eq name_ internal) name_ short
 
@@ -140,7 +140,7 @@ are_records imp fits = record {
   once = (refl, (refl, tt));
 }
 
-entry_meant : (internal : List ℕ) (entry : EntryKey) → EntryFits entry → entry_of internal (written_entry internal entry) ≡ entry
+pub entry_meant : (internal : List ℕ) (entry : EntryKey) → EntryFits entry → entry_of internal (written_entry internal entry) ≡ entry
 entry_meant internal (Ordinal n) fits = refl
 entry_meant internal (Named name_) fits = named_by (bytes_eq name_ internal) internal name_ fits refl
 

@@ -2,30 +2,20 @@
 
 ghost use Rattle.std.specs.Prelude.{◌≡◌, ◌+◌, ◌++◌, ◌≤◌, OnOk, IfOk, length};
 ghost use Rattle.omf_model.specs.Object.{IsModule};
-ghost use Rattle.omf_write.specs.Framed.{name_bytes};
 ghost use Rattle.omf_write.specs.ImportModule.{ImportFits, NamesFit, EntryFits, import_comment, entry_bytes, import_bytes, import_object};
 
+use crate::fields::push_name;
 use crate::framed::push_record;
 use lx_types::{EntryKey, NoMemory};
 use obj_types::Imp;
 use omf_frame::record_type::{COMENT, MODEND, THEADR};
 use std::alloc::{AllocError, Global};
 
-// The flags of a COMENT, the class of extensions, and the subtype of IMPDEF.
-const IMPDEF: [u8; 3] = [0, 0xA0, 1];
+/// The flags of a COMENT, the class of extensions, and the subtype of IMPDEF.
+pub const IMPDEF: [u8; 3] = [0, 0xA0, 1];
 
-// Writes a length byte and the name.
-fn push_name(out: &mut Vec<u8>, name: &[u8]) -> Result<(), AllocError>
-    requires { length name.now ≤ 255 }
-    ensures { OnOk result (out.new.items ≡ out.old.items ++ name_bytes name.now) }
-{
-    out.push(name.len() as u8)?;
-    out.extend_from_slice(name)?;
-    Ok(())
-}
-
-// Writes the entry that is imported under an internal name.
-fn push_entry(out: &mut Vec<u8>, internal: &[u8], entry: &EntryKey) -> Result<(), AllocError>
+/// Writes the entry that is imported under an internal name.
+pub fn push_entry(out: &mut Vec<u8>, internal: &[u8], entry: &EntryKey) -> Result<(), AllocError>
     requires { EntryFits entry.now }
     ensures is { OnOk result (out.new.items ≡ out.old.items ++ entry_bytes internal.now entry.now) }
     ensures short { OnOk result (length out.new.items ≤ length out.old.items + 256) }
@@ -58,8 +48,8 @@ fn comment_of(alloc: Global, imp: &Imp) -> Result<Vec<u8>, NoMemory>
     Ok(contents)
 }
 
-// What the type of a name says of the import's.
-fn names_fit(imp: &Imp)
+/// What the type of a name says of the import's.
+pub fn names_fit(imp: &Imp)
     ensures { NamesFit imp.now }
 {
     let _internal = imp.name.bytes();

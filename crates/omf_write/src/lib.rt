@@ -2,11 +2,20 @@
 //! what was to be written.
 #![tactic(auto)]
 
+mod comments;
+mod fields;
+mod fixups;
 mod framed;
 mod imports;
 mod joining;
 mod libraries;
+mod objects;
+mod pieces;
+mod segments;
+mod symbols;
+mod tables;
 
 pub use imports::import_module;
 pub use joining::join;
 pub use libraries::{LIBRARY_LIMIT, LibraryLong, library};
+pub use objects::object;

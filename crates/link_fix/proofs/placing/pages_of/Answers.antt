@@ -1,4 +1,4 @@
-use Rattle.std.proofs.Common.{◌≡◌, ◌∙◌, ap, sym, map, List}
+use Rattle.std.proofs.Common.{◌≡◌, ◌∙◌, ap, refl, sym, map, List}
 use Rattle.obj_types.specs.declared.object.ObjModule.{ObjModule}
 use Rattle.link_model.specs.Link.{Link}
 use Rattle.link_model.specs.Words.{first_of}
@@ -12,13 +12,13 @@ use Rattle.link_fix.proofs.placing.pages_of.Goals as goal
 
 pub place_pages-requires : goal.place_pages-requires
 place_pages-requires c =
-    located c.args.places.now c.args.syms.now (map (λ m. m.now) c.args.modules.now) c.in_ok-fixups.fixups.items c.as_slice-2.result.now c.requires c.in_ok-fixups.ensures c.as_slice-2.ensures.value
+    located c.args.places.now c.args.syms.now (map (λ m. m.now) c.args.modules.now) c.in_ok-fixups.fixups.items c.in_ok-fixups.fixups.items c.requires c.in_ok-fixups.ensures refl
 
 pub returns : goal.returns
 returns c =
     let ms : List ObjModule = map (λ m. m.now) c.args.modules.now in
-    let fixed : (l : Link) → AreLaid l ms c.args.syms.now c.args.places.now c.args.objects.now → map shown c.as_slice-2.result.now ≡ rules.fixups l =
-    λ l laid. ap (map shown) c.as_slice-2.ensures.value ∙ fixups-are l c.args.places.now c.args.syms.now ms (map shown c.in_ok-fixups.fixups.items) laid.modules laid.places laid.meanings c.in_ok-fixups.ensures in
+    let fixed : (l : Link) → AreLaid l ms c.args.syms.now c.args.places.now c.args.objects.now → map shown c.in_ok-fixups.fixups.items ≡ rules.fixups l =
+    λ l laid. fixups-are l c.args.places.now c.args.syms.now ms (map shown c.in_ok-fixups.fixups.items) laid.modules laid.places laid.meanings c.in_ok-fixups.ensures in
     answers-map c.place_pages.result _ _ _ _
     (λ pages told l laid. (
       ap (λ (qs : List rules.Fixup). first_of (map rules.fix_refusal qs)) (sym (fixed l laid)) ∙ told.0,

@@ -1,6 +1,4 @@
-use Rattle.std.proofs.Common.{◌≡◌, ◌∙◌, ap, map, subst, Option, ℕ, List}
-use Rattle.obj_types.specs.declared.object.ObjModule.{ObjModule}
-use Rattle.link_model.specs.declared.symbols.Pick.{Pick}
+use Rattle.std.proofs.Common.{◌≡◌, ◌∙◌, ap, map, subst, Option, ℕ}
 use Rattle.link_model.specs.Choosing.{modules_of}
 use Rattle.link_model.specs.Link.{Link, link_of}
 use Rattle.link_fix.specs.Placing.{ArePlaced}

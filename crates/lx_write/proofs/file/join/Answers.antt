@@ -1,4 +1,4 @@
-use Rattle.std.proofs.Common.{◌∙◌, ◌++◌, ap}
+use Rattle.std.proofs.Common.{◌++◌, ap}
 use Rattle.image_model.specs.File.{sections_bytes}
 use Rattle.lx_write.specs.Sections.{sections_value}
 use Rattle.lx_write.proofs.Fields.{more, last}
@@ -6,7 +6,7 @@ use Rattle.lx_write.proofs.file.join.Goals as goal
 
 pub returns : goal.returns
 returns c =
-    let file = ap (λ bs. bs ++ sections_bytes (sections_value c.args.s.now)) (c.in_ok-file.ensures.items ∙ c.spelled.ensures) in
+    let file = ap (λ bs. bs ++ sections_bytes (sections_value c.args.s.now)) c.in_ok-file.ensures in
     let objects = more _ _ _ _ _ _ file c.as_slice.ensures c.in_ok-extend_from_slice.ensures.items in
     let pages = more _ _ _ _ _ _ objects c.as_slice-2.ensures c.in_ok-extend_from_slice-2.ensures.items in
     let residents = more _ _ _ _ _ _ pages c.as_slice-3.ensures c.in_ok-extend_from_slice-3.ensures.items in

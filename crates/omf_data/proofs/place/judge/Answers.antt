@@ -1,27 +1,22 @@
-use Rattle.std.proofs.Common.{◌≡◌, ℕ, List, length, arith, ap, ◌∙◌, sym}
-use Rattle.std.specs.List.{sum_by}
-use Rattle.obj_types.specs.declared.object.Piece.{Piece}
+use Rattle.std.proofs.Common.{◌≡◌, arith, ◌∙◌, sym}
 use Rattle.omf_model.specs.Items.{data_so_far}
 use Rattle.omf_data.proofs.Placed.{too_many, on_a_fix, good}
 use Rattle.omf_data.proofs.place.judge.Goals as goal
 
-abbrev sizes : List Piece → ℕ
-sizes pieces = sum_by (λ (piece : Piece). length piece.bytes) pieces
-
-pub returns-then-before_it-len-clause-judged : goal.returns-then-before_it-len-clause-judged
-returns-then-before_it-len-clause-judged c =
-    let total : c.total-before_it.result ≡ data_so_far c.args.before.now = c.total-before_it.ensures ∙ ap sizes c.as_slice.ensures in
+pub returns-then-bytes-len-clause-judged : goal.returns-then-bytes-len-clause-judged
+returns-then-bytes-len-clause-judged c =
+    let total : c.bytes.result ≡ data_so_far c.args.before.now = c.bytes.ensures c.args.before.now c.requires.marks in
     sym (too_many c.args.before.now c.args.at c.args.place.offset_at c.args.place.seg c.args.place.offset c.args.len c.segment-target.result.now
-    c.segment-target.ensures c.if-target.false c.if-place-len.false (omega (arith, total)))
+    c.segment-target.ensures c.if-target.false c.if-place-len.false (omega (arith, total, c.if-bytes-len.true)))
 
-pub returns-then-is_on_any-clause-judged : goal.returns-then-is_on_any-clause-judged
-returns-then-is_on_any-clause-judged c =
-    let total : c.total-before_it.result ≡ data_so_far c.args.before.now = c.total-before_it.ensures ∙ ap sizes c.as_slice.ensures in
+pub returns-then-is_on_fix-clause-judged : goal.returns-then-is_on_fix-clause-judged
+returns-then-is_on_fix-clause-judged c =
+    let total : c.bytes.result ≡ data_so_far c.args.before.now = c.bytes.ensures c.args.before.now c.requires.marks in
     sym (on_a_fix c.args.before.now c.args.at c.args.place.offset_at c.args.place.seg c.args.place.offset c.args.len c.segment-target.result.now
-    c.segment-target.ensures c.if-target.false c.if-place-len.false (omega (arith, total)) (cc))
+    c.segment-target.ensures c.if-target.false c.if-place-len.false (omega (arith, total, c.if-bytes-len.false)) (sym (c.is_on_fix.ensures c.args.before.now c.requires.marks) ∙ c.if-is_on_fix.true))
 
 pub returns-clause-judged : goal.returns-clause-judged
 returns-clause-judged c =
-    let total : c.total-before_it.result ≡ data_so_far c.args.before.now = c.total-before_it.ensures ∙ ap sizes c.as_slice.ensures in
+    let total : c.bytes.result ≡ data_so_far c.args.before.now = c.bytes.ensures c.args.before.now c.requires.marks in
     sym (good c.args.before.now c.args.at c.args.place.offset_at c.args.place.seg c.args.place.offset c.args.len c.segment-target.result.now
-    c.segment-target.ensures c.if-target.false c.if-place-len.false (omega (arith, total)) (cc))
+    c.segment-target.ensures c.if-target.false c.if-place-len.false (omega (arith, total, c.if-bytes-len.false)) (sym (c.is_on_fix.ensures c.args.before.now c.requires.marks) ∙ c.if-is_on_fix.false))

@@ -16,20 +16,21 @@ returns-in_err-add_record-clause-read c =
     let p = err_from_is_err_and c.from_residual.result c.from_residual.ensures.1 in
     rw (p.1, p.2)
     (finished-fails (λ (u : Unit {0}). c.records.parts) (λ (m : ObjModule). (m, c.records.cur)) c.in_err-add_record.field-0.0 c.args.begun c.records.parts c.args.cur.now c.records.cur c.in-Ok.rec c.record.new.cur
-    c.records.invariant.read c.left.ensures.bytes c.in-Ok.ensures.read c.in_err-add_record.ensures)
+    c.records.invariant.read c.left.ensures.bytes c.in-Ok.ensures.read c.in_err-add_record.ensures.read)
 
 pub returns-then-is_end-clause-read : goal.returns-then-is_end-clause-read
 returns-then-is_end-clause-read c =
-    let t = turn c.records.parts c.add_record.new.into c.in-Ok.rec c.records.cur c.record.new.cur c.left.ensures.bytes c.in-Ok.ensures.read c.in_ok-add_record.ensures in
+    let t = turn c.records.parts c.add_record.new.into c.in-Ok.rec c.records.cur c.record.new.cur c.left.ensures.bytes c.in-Ok.ensures.read c.in_ok-add_record.ensures.read in
     finished-so c.args.begun c.add_record.new.into c.args.cur.now c.record.new.cur
     (sym c.records.invariant.read ∙ rest-ends c.records.parts c.add_record.new.into c.records.cur c.record.new.cur c.in-Ok.rec.ty c.left.ensures.bytes t (sym c.is_end.ensures ∙ c.if-is_end.true))
 
 pub records-preserved : goal.records-preserved
 records-preserved c =
-    let t = turn c.records.parts c.add_record.new.into c.in-Ok.rec c.records.cur c.record.new.cur c.left.ensures.bytes c.in-Ok.ensures.read c.in_ok-add_record.ensures in
+    let t = turn c.records.parts c.add_record.new.into c.in-Ok.rec c.records.cur c.record.new.cur c.left.ensures.bytes c.in-Ok.ensures.read c.in_ok-add_record.ensures.read in
     let open_ended = sym c.is_end.ensures ∙ c.if-is_end.false in
     record {
       begun = begun-next c.records.parts c.add_record.new.into c.records.cur c.record.new.cur c.in-Ok.rec.ty c.left.ensures.bytes c.records.invariant.begun t open_ended;
+      marks = c.in_ok-add_record.ensures.marks;
       read = sym (rest-so c.records.parts c.add_record.new.into c.records.cur c.record.new.cur c.in-Ok.rec.ty c.left.ensures.bytes t open_ended) ∙ c.records.invariant.read;
       behind = omega (arith, c.in-Ok.ensures.shorter, c.records.invariant.behind);
     }

@@ -1,4 +1,5 @@
 use Rattle.std.proofs.Common.{◌≡◌, ◌≤◌, length}
+use Rattle.omf_marks.specs.Marks.{AreMarks}
 use Rattle.omf_model.specs.Begun.{IsBegun}
 use Rattle.omf_model.specs.ReadModule.{rest_at}
 use Rattle.omf_files.proofs.objects.finish.Given as goal
@@ -6,6 +7,7 @@ use Rattle.omf_files.proofs.objects.finish.Given as goal
 abbrev pub invariant-records : goal.invariant-records
 invariant-records l = record {
   begun : IsBegun l.parts;
+  marks : AreMarks l.marks l.parts;
   read : rest_at l.parts l.cur ≡ rest_at l.fn.begun l.fn.cur;
   behind : length l.cur.left ≤ length l.fn.cur.left;
 }

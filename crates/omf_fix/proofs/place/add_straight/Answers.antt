@@ -6,7 +6,7 @@ use Rattle.obj_types.specs.Location.{location_len, meets}
 use Rattle.omf_model.proofs.BegunLaws.{begun-whole}
 use Rattle.omf_fix.specs.Placed.{fix_of}
 use Rattle.omf_fix.proofs.Judged.{no-data, overlap, too-many, good, straight-news, straight-on, straight-lies, apart-one}
-use Rattle.omf_fix.proofs.OwnLast.{own-split, all-located}
+use Rattle.omf_fix.proofs.Marked.{some-bytes, touch-any}
 use Rattle.omf_fix.proofs.place.add_straight.Goals as goal
 
 pub returns-then-offset-size : goal.returns-then-offset-size
@@ -19,21 +19,14 @@ pub in_segment-segment_offset-requires : goal.in_segment-segment_offset-requires
 in_segment-segment_offset-requires c =
     straight-lies c.args.into.now c.args.seg c.args.start c.args.len c.from-offset.result (begun-whole c.args.into.now c.requires.begun) c.requires.last (omega (arith, c.if-offset-size.false)) _ c.as_slice.ensures
 
-pub meets_own-requires-clause-split : goal.meets_own-requires-clause-split
-meets_own-requires-clause-split c =
-    own-split c.args.into.now c.args.seg c.args.start c.args.len _ _ (begun-whole c.args.into.now c.requires.begun) c.requires.last (ap (λ (f : FixAt). f.seg) c.fix_at-fix.ensures) c.as_slice-2.ensures
-
-pub meets_own-requires-clause-locations : goal.meets_own-requires-clause-locations
-meets_own-requires-clause-locations c = all-located c.args.into.now _ (begun-whole c.args.into.now c.requires.begun) c.as_slice-2.ensures
-
-pub returns-then-meets_own : goal.returns-then-meets_own
-returns-then-meets_own c =
+pub returns-then-is_on_fix : goal.returns-then-is_on_fix
+returns-then-is_on_fix c =
     let size = c.from-size.ensures ∙ c.location_len.ensures ∙ ap location_len c.location.ensures.value in
     let off = c.from-offset.ensures ∙ c.offset.ensures.value in
     let fix = c.fix_at-fix.ensures ∙ (λ i. fix_of c.args.seg ((c.in_segment-segment_offset.ensures ∙ ap (λ (n : ℕ). c.args.start + n) off) i) c.args.place.high (c.meaning.ensures i)) in
     overlap c.args.into.now c.args.place _ _ (straight-on c.args.into.now c.args.place c.args.seg c.args.start c.args.len true c.requires.last (le-leb _ _ (omega (arith, off, size, c.if-offset-size.false))))
     (straight-news c.args.into.now c.args.place _ c.args.seg c.args.start c.args.len c.requires.last ∙ ap (λ (g : FixAt). g ∷ []) (sym fix))
-    (apart-one c.args.into.now.module.fixes c.fix_at-fix.result true (sym c.if-meets_own.true ∙ c.meets_own.ensures ∙ ap (λ (fs : List FixAt). list_any (λ f. meets f c.fix_at-fix.result) fs) c.as_slice-2.ensures))
+    (apart-one c.args.into.now.module.fixes c.fix_at-fix.result true (sym c.if-is_on_fix.true ∙ c.is_on_fix.ensures c.args.into.now c.requires.marks ∙ touch-any c.args.into.now.module.fixes c.args.seg c.in_segment-segment_offset.result c.from-size.result c.args.place.high c.meaning.result size (some-bytes c.args.place.high c.requires.location) ∙ ap (λ (g : FixAt). list_any (λ f. meets f g) c.args.into.now.module.fixes) (sym c.fix_at-fix.ensures)))
 
 pub returns-then-as_slice : goal.returns-then-as_slice
 returns-then-as_slice c =
@@ -42,8 +35,8 @@ returns-then-as_slice c =
     let fix = c.fix_at-fix.ensures ∙ (λ i. fix_of c.args.seg ((c.in_segment-segment_offset.ensures ∙ ap (λ (n : ℕ). c.args.start + n) off) i) c.args.place.high (c.meaning.ensures i)) in
     too-many c.args.into.now c.args.place _ _ (straight-on c.args.into.now c.args.place c.args.seg c.args.start c.args.len true c.requires.last (le-leb _ _ (omega (arith, off, size, c.if-offset-size.false))))
     (straight-news c.args.into.now c.args.place _ c.args.seg c.args.start c.args.len c.requires.last ∙ ap (λ (g : FixAt). g ∷ []) (sym fix))
-    (apart-one c.args.into.now.module.fixes c.fix_at-fix.result false (sym c.if-meets_own.false ∙ c.meets_own.ensures ∙ ap (λ (fs : List FixAt). list_any (λ f. meets f c.fix_at-fix.result) fs) c.as_slice-2.ensures))
-    (omega (arith, c.if-as_slice.true, ap (λ (fs : List FixAt). length fs) c.as_slice-3.ensures))
+    (apart-one c.args.into.now.module.fixes c.fix_at-fix.result false (sym c.if-is_on_fix.false ∙ c.is_on_fix.ensures c.args.into.now c.requires.marks ∙ touch-any c.args.into.now.module.fixes c.args.seg c.in_segment-segment_offset.result c.from-size.result c.args.place.high c.meaning.result size (some-bytes c.args.place.high c.requires.location) ∙ ap (λ (g : FixAt). list_any (λ f. meets f g) c.args.into.now.module.fixes) (sym c.fix_at-fix.ensures)))
+    (omega (arith, c.if-as_slice.true, ap (λ (fs : List FixAt). length fs) c.as_slice-2.ensures))
 
 pub returns : goal.returns
 returns c =
@@ -53,6 +46,6 @@ returns c =
     good c.args.into.now c.args.place _ _ c.push.new.self (begun-whole c.args.into.now c.requires.begun).four
     (straight-on c.args.into.now c.args.place c.args.seg c.args.start c.args.len true c.requires.last (le-leb _ _ (omega (arith, off, size, c.if-offset-size.false))))
     (straight-news c.args.into.now c.args.place _ c.args.seg c.args.start c.args.len c.requires.last ∙ ap (λ (g : FixAt). g ∷ []) (sym fix))
-    (apart-one c.args.into.now.module.fixes c.fix_at-fix.result false (sym c.if-meets_own.false ∙ c.meets_own.ensures ∙ ap (λ (fs : List FixAt). list_any (λ f. meets f c.fix_at-fix.result) fs) c.as_slice-2.ensures))
-    (omega (arith, c.if-as_slice.false, ap (λ (fs : List FixAt). length fs) c.as_slice-3.ensures))
+    (apart-one c.args.into.now.module.fixes c.fix_at-fix.result false (sym c.if-is_on_fix.false ∙ c.is_on_fix.ensures c.args.into.now c.requires.marks ∙ touch-any c.args.into.now.module.fixes c.args.seg c.in_segment-segment_offset.result c.from-size.result c.args.place.high c.meaning.result size (some-bytes c.args.place.high c.requires.location) ∙ ap (λ (g : FixAt). list_any (λ f. meets f g) c.args.into.now.module.fixes) (sym c.fix_at-fix.ensures)))
+    (omega (arith, c.if-as_slice.false, ap (λ (fs : List FixAt). length fs) c.as_slice-2.ensures))
     c.in_ok-push.ensures

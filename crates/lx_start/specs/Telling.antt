@@ -1,0 +1,23 @@
+-- What the program tells of itself.
+use Rattle.std.specs.Prelude.{ℕ, List, [], ◌∷◌, ◌++◌, Option, Some, None, codes, bytes_eq, if◌then◌else◌}
+
+-- a line for each command
+abbrev pub image_line : List ℕ
+image_line = codes "lx image OBJ BASE      shows an object file's objects in memory, as: lx image a.obj 10000000" ++ 10 ∷ []
+
+abbrev pub link_line : List ℕ
+link_line = codes "lx link OUT DEF IN ..  links object files and libraries, DEF may be -, as: lx link d.dll d.def a.obj b.lib" ++ 10 ∷ []
+
+abbrev pub implib_line : List ℕ
+implib_line = codes "lx implib OUT IN ..    writes an import library of modules and definition files, as: lx implib d.lib d.def" ++ 10 ∷ []
+
+abbrev pub help : List ℕ
+help = image_line ++ (link_line ++ implib_line)
+
+abbrev pub version : List ℕ
+version = codes "lx 0.1" ++ 10 ∷ []
+
+-- Where one of these words is all there is, its text, and else none.
+abbrev pub told_of : List (List ℕ) → Option (List ℕ)
+told_of (word ∷ []) = if bytes_eq word (codes "--help") then Some help else (if bytes_eq word (codes "--version") then Some version else None)
+told_of _ = None

@@ -1,0 +1,13 @@
+use Rattle.omf_marks.specs.Marks.{HaveFixes}
+use Rattle.std.proofs.Common.{length, ◌-◌, ◌≡◌}
+use Rattle.omf_marks.proofs.marks.Marks.see_fixes.Given as goal
+
+abbrev pub invariant-fixes : goal.invariant-fixes
+invariant-fixes l = record {
+  have : HaveFixes l.self l.fixes;
+  pieces : l.self.pieces ≡ l.fn.self.pieces;
+  bytes : l.self.bytes ≡ l.fn.self.bytes;
+}
+
+abbrev pub decreases-fixes : goal.decreases-fixes
+decreases-fixes l = length l.fixes - l.self.fixes
