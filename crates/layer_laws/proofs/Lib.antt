@@ -27,3 +27,4 @@ pub mod SelfFields
 pub mod ImportNames
 pub mod ImportFields
 pub mod EveryByte
+pub mod LinkedFiles

@@ -1,3 +1,4 @@
 pub mod Ranges
 pub mod LinkedImages
 pub mod LoadedBytes
+pub mod LinkedFiles

@@ -1,5 +1,6 @@
 //! Laws over the definitions, each the contract of a function that does nothing.
 
+ghost use Rattle.layer_laws.specs.LinkedFiles.{LinkedFilesMeanTheirLinks};
 ghost use Rattle.layer_laws.specs.LinkedImages.{LinkedFilesRead, LinkedImagesFit};
 ghost use Rattle.layer_laws.specs.LoadedBytes.{LinkedBytesLoaded, PlainBytesLoaded};
 
@@ -27,4 +28,10 @@ pub fn plain_bytes_are_loaded()
 /// Record Table").
 pub fn linked_bytes_are_loaded()
     ensures { LinkedBytesLoaded }
+{}
+
+/// What `link_core::link` answers for an input, by its clauses `linked` and `short`, has no fault, is read as the link, and is
+/// loaded with the bytes that the link means.
+pub fn linked_files_mean_their_links()
+    ensures { LinkedFilesMeanTheirLinks }
 {}

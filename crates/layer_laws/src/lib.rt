@@ -6,6 +6,7 @@ mod laws;
 mod ranges;
 
 pub use laws::{
-    linked_bytes_are_loaded, linked_files_are_read, linked_images_fit, plain_bytes_are_loaded,
+    linked_bytes_are_loaded, linked_files_are_read, linked_files_mean_their_links,
+    linked_images_fit, plain_bytes_are_loaded,
 };
 pub use ranges::input_range;
