@@ -120,11 +120,11 @@ place_before a b below = omega (arith, ints)
 le_false : (a b : ℕ) → b < a → nat_le a b ≡ false
 le_false a b h = grind (arith, nat_tests)
 
-pub index-before : (a b i : ℕ) → b + i < a → index_in (pos a -ℤ pos b) i ≡ None
+index-before : (a b i : ℕ) → b + i < a → index_in (pos a -ℤ pos b) i ≡ None
 index-before a b i before =
     ap (λ (z : ℤ). index_in z i) (sym (place_is a b (omega (arith, before)))) ∙ ap (λ (t : Bool). cond t (Some (i - (a - b))) None) (le_false (a - b) i (omega (arith, before)))
 
-pub index-from : (a b i : ℕ) → a ≤ b + i → index_in (pos a -ℤ pos b) i ≡ Some (b + i - a)
+index-from : (a b i : ℕ) → a ≤ b + i → index_in (pos a -ℤ pos b) i ≡ Some (b + i - a)
 index-from a b i from =
     elim (cases_lt a b) as (λ s. index_in (pos a -ℤ pos b) i ≡ Some (b + i - a)) [
       | inl below ↦ ap (λ (z : ℤ). index_in z i) (sym (place_before a b below)) ∙ ap (λ (n : ℕ). Some n) (let e : i + suc (b - a - 1) ≡ b + i - a = omega (arith, below) in e)

@@ -134,7 +134,7 @@ small-ordinal l e n i =
 
 -- ---- offsets of places
 
-pub size-small : (os : List LaidObject) (o : LaidObject) → In o os → o.size ≤ sum_by (λ x. x.size) os
+size-small : (os : List LaidObject) (o : LaidObject) → In o os → o.size ≤ sum_by (λ x. x.size) os
 size-small [] o i = elim i [ ]
 size-small (p ∷ os) o here = let all = sum_by-cons (λ (x : LaidObject). x.size) p os in omega (arith, all)
 size-small (p ∷ os) o (there i) =

@@ -27,6 +27,7 @@ pub mod SelfFields
 pub mod ImportNames
 pub mod ImportFields
 pub mod EveryByte
+pub mod LinkedFiles
 pub mod Apart
 pub mod FreeOrdinals
 pub mod OrdinalsApart

@@ -64,7 +64,7 @@ source-long q h =
     ]
 
 -- A field has as many bytes as its source.
-pub field-long : (s : Source) (alias : Bool) (flags v end_at : ℕ) → length (field_bytes s alias flags v end_at) ≡ source_size s
+field-long : (s : Source) (alias : Bool) (flags v end_at : ℕ) → length (field_bytes s alias flags v end_at) ≡ source_size s
 field-long Byte alias flags v end_at = refl
 field-long Sel alias flags v end_at = refl
 field-long Far16 alias flags v end_at = refl
@@ -128,7 +128,7 @@ put-is lib m bases p r l k q t = refl
 
 -- ---- outside of its field
 
-pub outside : (n x : ℕ) (q : Fixup) → q.object ≡ n → fixup_covers n x q ≡ false → (x < q.offset) ⊎ (fixup_end q ≤ x)
+outside : (n x : ℕ) (q : Fixup) → q.object ≡ n → fixup_covers n x q ≡ false → (x < q.offset) ⊎ (fixup_end q ≤ x)
 outside n x q same covers =
     elim (cases_lt x q.offset) as (λ s. (x < q.offset) ⊎ (fixup_end q ≤ x)) [
       | inl before ↦ inl before

@@ -39,7 +39,7 @@ low_bytes (suc n) x =
     ap (λ (k : ℕ). k ∷ little_bytes n (x % 2 ^ (8 * suc n) / 256)) first ∙ ap (λ (k : ℕ). x % 256 ∷ little_bytes n k) others ∙ ap (λ (ks : List ℕ). x % 256 ∷ ks) (low_bytes n (x / 256))
 
 -- A difference is wrapped where it is defined, and cut to four bytes where it is written.
-pub differences-agree : (v end_at : ℕ) → little_bytes 4 (v + (2 ^ 32 - end_at % 2 ^ 32)) ≡ little_bytes 4 (difference v end_at)
+differences-agree : (v end_at : ℕ) → little_bytes 4 (v + (2 ^ 32 - end_at % 2 ^ 32)) ≡ little_bytes 4 (difference v end_at)
 differences-agree v end_at = sym (low_bytes 4 (v + (2 ^ 32 - end_at % 2 ^ 32)))
 
 -- ---- the address behind a field
@@ -52,7 +52,7 @@ ends_by base a b size =
       | inr past ↦ let z : pos (a - b) ≡ pos a -ℤ pos b = omega (arith, ints) in ap (behind (2 ^ 32 + base + b + size)) (sym z) ∙ (let e : 2 ^ 32 + base + b + size + (a - b) ≡ 2 ^ 32 + (base + a + size) = omega (arith, past) in e)
     ]
 
-pub ends-agree : (base a b size : ℕ) → behind (2 ^ 32 + base + b + size) (pos a -ℤ pos b) % 2 ^ 32 ≡ (address base a + size) % 2 ^ 32
+ends-agree : (base a b size : ℕ) → behind (2 ^ 32 + base + b + size) (pos a -ℤ pos b) % 2 ^ 32 ≡ (address base a + size) % 2 ^ 32
 ends-agree base a b size =
     ap (λ (n : ℕ). n % 2 ^ 32) (ends_by base a b size) ∙ (let e : (2 ^ 32 + (base + a + size)) % 2 ^ 32 ≡ (base + a + size) % 2 ^ 32 = omega arith in e) ∙ sym (mod-first (base + a) size (2 ^ 32))
 

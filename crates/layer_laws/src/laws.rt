@@ -2,6 +2,7 @@
 
 ghost use Rattle.layer_laws.specs.EntryLaws.{EntriesAreOut};
 ghost use Rattle.layer_laws.specs.ImportLaws.{ImportsBind, PairsReach};
+ghost use Rattle.layer_laws.specs.LinkedFiles.{LinkedFilesMeanTheirLinks};
 ghost use Rattle.layer_laws.specs.LinkedImages.{LinkedFilesRead, LinkedImagesFit};
 ghost use Rattle.layer_laws.specs.LoadedBytes.{LinkedBytesLoaded, PlainBytesLoaded};
 
@@ -29,6 +30,12 @@ pub fn plain_bytes_are_loaded()
 /// Record Table").
 pub fn linked_bytes_are_loaded()
     ensures { LinkedBytesLoaded }
+{}
+
+/// What `link_core::link` answers for an input, by its clauses `linked` and `short`, has no fault, is read as the link, and is
+/// loaded with the bytes that the link means.
+pub fn linked_files_mean_their_links()
+    ensures { LinkedFilesMeanTheirLinks }
 {}
 
 /// The entry points of a module that was linked are the exports of the link: asked by its ordinal and by its name, each

@@ -8,6 +8,6 @@ mod ranges;
 
 pub use laws::{
     entries_are_exports, imports_are_bound, linked_bytes_are_loaded, linked_files_are_read,
-    linked_images_fit, pairs_reach_exports, plain_bytes_are_loaded,
+    linked_files_mean_their_links, linked_images_fit, pairs_reach_exports, plain_bytes_are_loaded,
 };
 pub use ranges::input_range;

@@ -55,8 +55,8 @@ fn live_backwards(alloc: Global, fixups: &[Fixup]) -> Result<Vec<Fixup>, NoMemor
     ensures { IfOk result (λ kept. map shown (reverse kept.items) ≡ live (map shown fixups.now)) }
 {
     let mut marks = Images::new(alloc);
-    let mut kept = Vec::new(alloc);
     let mut left = fixups.len();
+    let mut kept = Vec::with_capacity(alloc, left)?;
     'fixups: while 0 < left {
         left -= 1;
         let q = fixups[left];

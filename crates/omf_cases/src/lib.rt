@@ -10,3 +10,5 @@ mod nasm_objects;
 mod object_files;
 #[cfg(test)]
 mod shared_bytes;
+#[cfg(test)]
+mod written_objects;

@@ -104,15 +104,14 @@ fn written(alloc: Global, m: &ObjModule) -> Result<Vec<u8>, NoMemory>
     Ok(out)
 }
 
-/// The bytes of an object file that is read as this module: a record for each name, segment, group, external, public,
-/// import, export and default library, and for each piece its data record and behind it the records of its fixups,
-/// 64 to a record. Checksums are written.
+/// The bytes of an object file that is read as this module ("Object Record Order"): a record for each name, segment,
+/// group, external, public, import, export and default library, and for each piece its data record and behind it the
+/// records of its fixups, 64 to a record. Checksums are written. It refuses nothing: `NoMemory` is want of memory.
 ///
 /// The module is whole. It has at most 32,767 segments, groups, externals, and different names of segments, classes
 /// and groups, no debug segment, no local or communal name and no constant. A group's record has room for its
 /// members, an import fits `import_module`, and an export has an internal name. A piece has at most 1,024 bytes. Each
 /// fixup lies within one piece and shares no byte with another, and the fixups stand in the order of their pieces.
-/// `NoMemory` comes only where memory is short.
 pub fn object(alloc: Global, m: &ObjModule) -> Result<Vec<u8>, NoMemory>
     requires { IsWritable m.now }
     ensures written { IfOk result (λ bytes. bytes.items ≡ object_bytes m.now) }
