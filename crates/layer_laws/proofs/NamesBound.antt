@@ -126,11 +126,11 @@ definer_by input picks d stem name only any =
 -- A name that the chosen modules want has a definition: that of the import library.
 pub name-defined : (input : LinkInput) (picks : List Pick) → next_pick input picks ≡ None → (d : DefFile) (stem : List ℕ) (x : Exp) → In x d.exports → OnlyImported input d stem x.name → In x.name (flat_map wanted (modules_of input picks)) → Definer (link_of input picks) d stem x.name
 name-defined input picks ends d stem x i only asked =
-    let i' = import_for (name_or d.name stem) x in
-    let listed : In (import_object i') (objects_of (imports_in d stem)) = in_map import_object (in_map (import_for (name_or d.name stem)) i) in
-    let inside = in_contained input.libs (import_object i') (all_in (Contains input.libs) (objects_of (imports_in d stem)) only.there listed) in
-    let own : defines (import_object i') x.name ≡ true = either_left (bytes_eq x.name x.name) false (same_name x.name x.name refl) in
-    let all = wanted-is-defined input picks ends (import_object i') x.name inside own asked in
+    let item = import_for (name_or d.name stem) x in
+    let listed : In (import_object item) (objects_of (imports_in d stem)) = in_map import_object (in_map (import_for (name_or d.name stem)) i) in
+    let inside = in_contained input.libs (import_object item) (all_in (Contains input.libs) (objects_of (imports_in d stem)) only.there listed) in
+    let own : defines (import_object item) x.name ≡ true = either_left (bytes_eq x.name x.name) false (same_name x.name x.name refl) in
+    let all = wanted-is-defined input picks ends (import_object item) x.name inside own asked in
     let none = no_items input.def.imports x.name (λ j k. all_in (λ (i : Imp). i.name ≢ x.name) input.def.imports only.items k) in
     let some = first_true (list_any (λ m. defines m x.name) (modules_of input picks)) (list_any (λ i. bytes_eq i.name x.name) input.def.imports) all none in
     let f = found (λ (m : ObjModule). defines m x.name) (modules_of input picks) some in
