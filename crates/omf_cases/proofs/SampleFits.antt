@@ -1,17 +1,14 @@
 -- The sample can be written.
-use Rattle.std.proofs.Common.{◌≡◌, ℕ, ◌≤◌, ◌<◌, true, false, List, [], ◌∷◌, ◌++◌, length, refl, sym, arith}
+use Rattle.std.proofs.Common.{◌≡◌, false, [], length, refl, arith}
 use Rattle.std.proofs.lemmas.List.Elements.{All-from_recursion}
-use Rattle.std.specs.Prelude.{IsSomeAnd, codes}
-use Rattle.obj_types.specs.declared.object.Seg.{Seg}
 use Rattle.obj_types.specs.declared.object.Piece.{Piece}
-use Rattle.obj_types.specs.declared.object.FixAt.{FixAt}
 use Rattle.obj_types.specs.declared.symbol.Pub.{Pub}
 use Rattle.obj_types.specs.declared.symbol.Imp.{Imp}
 use Rattle.obj_types.specs.Location.{meets}
 use Rattle.obj_types.specs.Whole.{WholeModule, WholeSeg, WholeGroup, WholePlace, WholeFix, WholeExp, IsPlainSeg, LiesIn}
 use Rattle.omf_model.proofs.PairLaws.{pairs-at}
 use Rattle.omf_write.specs.Writable.{IsWritable}
-use Rattle.omf_cases.specs.Sample.{sample_segs, sample_groups, sample_exts, sample_pubs, sample_imports, sample_exports, sample_pieces, sample_fixes, sample_module}
+use Rattle.omf_cases.specs.Sample.{sample_segs, sample_groups, sample_pubs, sample_imports, sample_exports, sample_pieces, sample_fixes, sample_module}
 
 whole : WholeModule sample_module
 whole = record {

@@ -1,5 +1,5 @@
 -- A small module with one item of each kind.
-use Rattle.std.specs.Prelude.{ℕ, true, false, List, [], ◌∷◌, Option, Some, None, codes, replicate}
+use Rattle.std.specs.Prelude.{true, false, List, [], ◌∷◌, Some, None, codes}
 use Rattle.lx_types.specs.declared.entry.EntryKey.TheVariants.{Ordinal}
 use Rattle.obj_types.specs.declared.object.Seg.{Seg}
 use Rattle.obj_types.specs.declared.object.Group.{Group}
