@@ -14,6 +14,9 @@ const LIBRARY: [u8; 64] = [
 
 const DEFINITION: &[u8] = b"LIBRARY D\nEXPORTS F @1\n";
 
+/// The same export of a module that has no name here.
+const UNNAMED: &[u8] = b"EXPORTS F @1\n";
+
 /// THEADR; LNAMES; a segment D of class DATA with eight bytes; PUBDEF F at its offset 0; MODEND.
 const DEFINES: &[u8] = b"\x80\x03\x00\x01f\x00\
 \x96\x09\x00\x00\x01D\x04DATA\x00\x99\x09\x00\xA9\x08\x00\x00\x00\x02\x03\x01\x00\
@@ -36,11 +39,7 @@ fn writes_the_library_of_a_definition_file(rt: HostRuntime) -> Result<(), Fail> 
     assert_eq!(rt; made.text.as_slice(), b"exports 1\n".as_slice());
     assert_eq!(rt; made.files.get("d.lib"), Some(LIBRARY.as_slice()));
     // The module's name is else the stem of OUT.
-    let named = run_over(
-        alloc,
-        "implib x/d.lib d.def",
-        &[("d.def", b"EXPORTS F @1\n")],
-    )?;
+    let named = run_over(alloc, "implib x/d.lib d.def", &[("d.def", UNNAMED)])?;
     assert_eq!(rt; named.files.get("x/d.lib"), Some(LIBRARY.as_slice()));
     Ok(())
 }
