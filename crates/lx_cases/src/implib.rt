@@ -38,9 +38,14 @@ fn writes_the_library_of_a_definition_file(rt: HostRuntime) -> Result<(), Fail> 
     assert_eq!(rt; made.status, 0);
     assert_eq!(rt; made.text.as_slice(), b"exports 1\n".as_slice());
     assert_eq!(rt; made.files.get("d.lib"), Some(LIBRARY.as_slice()));
-    // The module's name is else the stem of OUT.
-    let named = run_over(alloc, "implib x/d.lib d.def", &[("d.def", UNNAMED)])?;
-    assert_eq!(rt; named.files.get("x/d.lib"), Some(LIBRARY.as_slice()));
+    Ok(())
+}
+
+#[test]
+fn names_a_module_by_its_library(rt: HostRuntime) -> Result<(), Fail> {
+    let inputs = [("d.def", UNNAMED)];
+    let made = run_over(rt.alloc(), "implib x/d.lib d.def", &inputs)?;
+    assert_eq!(rt; made.files.get("x/d.lib"), Some(LIBRARY.as_slice()));
     Ok(())
 }
 
