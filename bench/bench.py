@@ -5,7 +5,7 @@ Usage: bench.py LX [SCALE]     LX: the program as built; SCALE: a factor for all
 
 Prints a line a size: seconds, MiB, and the ratio to the line before. It is no part of the gate. Inputs are made here, in
 a temporary folder: object files with many publics and fixups, many object files, libraries of many modules, and definition
-files with many exports. Peaks below that of this script itself, some 12 MiB, are not seen.
+files with many exports. Peaks below that of this script itself, some 15 MiB, are not seen.
 """
 import json
 import os
