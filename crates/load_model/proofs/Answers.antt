@@ -16,7 +16,8 @@ use Rattle.load_model.specs.Laws.{IsSteady, OthersAnswerAlike}
 use Rattle.load_model.proofs.Residents.{done_by, legal_kept}
 use Rattle.load_model.proofs.Orders.{OrdersNest, reaches_closed}
 use Rattle.load_model.proofs.EntryReach.{SpotsAreOrdered}
-use Rattle.load_model.proofs.Apart.{Alike, deed_alike, refusal_alike}
+use Rattle.load_model.specs.Alike.{Alike}
+use Rattle.load_model.proofs.Apart.{deed_alike, refusal_alike}
 use Rattle.load_model.proofs.Bytes.{named_is, bases_stay, peek_alike, right_none}
 
 -- ---- addresses

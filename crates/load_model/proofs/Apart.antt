@@ -17,6 +17,7 @@ use Rattle.load_model.specs.Leaving.{after_leaving}
 use Rattle.load_model.specs.Refusals.{Purpose, touch, write, share, peek, ◌orelse◌, when, enter_refusal, free_refusal, residence_refusal, residence_if, residence_named, place_refusal, key_refusal, query_refusal, refusal_of}
 use Rattle.load_model.specs.Asks.{after_write, after_deed}
 use Rattle.load_model.specs.Histories.{state_after}
+use Rattle.load_model.specs.Alike.{Alike, OthersLeaveAlike}
 use Rattle.load_model.specs.Laws.{stay_of, OthersRefuseAlike}
 use Rattle.load_model.proofs.Kept.{Kept, process_apart}
 use Rattle.load_model.proofs.Residents.{Done, done_by, legal_kept}
@@ -41,10 +42,6 @@ process_stays lib e pid (deeds.Write serial m object offset bytes) q h = written
 process_stays lib e pid (deeds.Shared serial m object offset bytes) q h = refl
 
 -- ---- two states that a process cannot tell apart
-
-pub record Alike (lib : Library) (e after : Eager) (q : ℕ) : Type 0 where
-  pub process : after.processes q ≡ e.processes q
-  pub stays : (m : ℕ) → reaches lib (e.processes q) m ≡ true → stay_of (residence_of after m) ≡ stay_of (residence_of e m)
 
 pub deed_alike : (lib : Library) (contents : Held) (e : Eager) (pid : ℕ) (d : Deed) (q : ℕ) → Done lib contents e pid d → Kept lib e → is_among pids q ≡ true →
     (q == pid) ≡ false → Alike lib e (after_deed lib e pid d) q
@@ -117,3 +114,7 @@ refusal_alike lib e after q commands.Exit alike = ap (λ p. when p.ended Ended) 
 pub others_refuse_alike : OthersRefuseAlike
 others_refuse_alike lib contents h x pid command legal follows there apart =
     refusal_alike lib (state_after lib h) _ pid command (deed_alike lib contents (state_after lib h) x.pid x.deed pid (done_by lib contents h x follows) (legal_kept lib contents h legal) there apart)
+
+pub others_leave_alike : OthersLeaveAlike
+others_leave_alike lib contents h x pid legal follows there other =
+    deed_alike lib contents (state_after lib h) x.pid x.deed pid (done_by lib contents h x follows) (legal_kept lib contents h legal) there other

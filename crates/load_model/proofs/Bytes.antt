@@ -18,7 +18,8 @@ use Rattle.load_model.specs.Refusals.{peek, ◌orelse◌, when, class_refusal, s
 use Rattle.load_model.specs.Step.{bytes_of}
 use Rattle.load_model.specs.Laws.{stay_of}
 use Rattle.load_model.proofs.Orders.{OrdersNest, reaches_closed}
-use Rattle.load_model.proofs.Apart.{Alike, named_stays}
+use Rattle.load_model.specs.Alike.{Alike, BasesAreAlike}
+use Rattle.load_model.proofs.Apart.{named_stays}
 
 -- ---- residences that differ in shared writes alone
 
@@ -149,3 +150,6 @@ peek_alike nest lib contents e after q place alike fine =
         ap (λ r. Bytes lib contents after q r place.object place.offset place.len) (same_stay a b same)
         ∙ bytes_alike nest lib contents e after q a b.writes place.object place.offset place.len alike (named_is lib e q place.«module» a is).0
         (peeked_class lib (e.processes q) place a h)
+
+pub bases_are_alike : OrdersNest → BasesAreAlike
+bases_are_alike nest lib e after pid m alike reached = bases_alike nest lib e after pid m alike reached

@@ -1,5 +1,5 @@
 -- What the definitions say together, entry by entry.
-use Rattle.std.specs.Prelude.{◌≡◌, ◌<◌, length, ℕ, List, [], ◌∷◌, ◌++◌, map, true, false, not, ◌&&◌, ◌==◌, is_some, Option, Some, None, ◌%◌, nat_lt, count_by, MatchOption}
+use Rattle.std.specs.Prelude.{◌≡◌, ◌<◌, length, ℕ, List, [], ◌∷◌, ◌++◌, map, true, false, not, ◌&&◌, ◌==◌, is_some, Option, Some, None, nat_lt, count_by}
 use Rattle.lx_types.specs.declared.object.PageId.{PageId}
 use Rattle.load_model.specs.declared.deeds.Gone.{Gone}
 use Rattle.load_model.specs.declared.deeds.Deed.{Deed}
@@ -9,8 +9,6 @@ use Rattle.load_model.specs.declared.commands.Command.{Command}
 use Rattle.load_model.specs.declared.commands.Command.TheVariants as commands
 use Rattle.lx_types.specs.Sound.{IsNumberOf}
 use Rattle.load_model.specs.Modules.{Library, Held, order_of, objects_of, object_at}
-use Rattle.lx_types.specs.Addresses.{UNIT}
-use Rattle.load_model.specs.Places.{Arena, Span, is_free, least_free, IsLeastFree}
 use Rattle.load_model.specs.Memory.{bases_seen}
 use Rattle.load_model.specs.State.{Eager, Residence, pids, is_among, reaches, is_reached, residence_of}
 use Rattle.load_model.specs.Refusals.{refusal_of}
@@ -156,13 +154,7 @@ HeldHistoriesAlike =
     (lib : Library) (a b : Held) (h : List Entry) → ((before behind : List Entry) → h ≡ before ++ behind → AgreeAt lib a b (state_after lib before)) →
     Legal lib a h → Legal lib b h
 
--- ---- places and counts
-
--- The place that is found is the least free one, and none is found exactly where no place is free.
-abbrev pub LeastIsFound : Type 0
-LeastIsFound =
-    (arena : Arena) (spans : List Span) (size : ℕ) → arena.from % UNIT ≡ 0 →
-    MatchOption (least_free arena spans size) ((other : ℕ) → is_free arena spans size other ≡ false) (IsLeastFree arena spans size)
+-- ---- counts
 
 -- How many processes reach a module says whether it is resident.
 abbrev pub CountsAreResidence : Type 0

@@ -1,9 +1,12 @@
 //! What the definitions say together. Each law is the contract of a function that does nothing, which a
 //! crate above calls where it needs the law.
 
-ghost use Rattle.load_model.specs.Laws.{AsksDecide, PrefixIsLegal, EachFollows, OneMoreIsLegal, NothingIsLegal, OneMoreIsAfter, FaultOnce, ReachedIsResident, AttachedIsReached, GoneIsUnreached, ResidenceStays, ReachStays, OthersRefuseAlike, OthersAnswerAlike, HeldAnswersAlike, HeldHistoriesAlike, LeastIsFound, CountsAreResidence};
+ghost use Rattle.load_model.specs.Laws.{AsksDecide, PrefixIsLegal, EachFollows, OneMoreIsLegal, NothingIsLegal, OneMoreIsAfter, FaultOnce, ReachedIsResident, AttachedIsReached, GoneIsUnreached, ResidenceStays, ReachStays, OthersRefuseAlike, OthersAnswerAlike, HeldAnswersAlike, HeldHistoriesAlike, CountsAreResidence};
 ghost use Rattle.load_model.specs.Accepted.{AcceptedMayAsk, TouchedIsApart};
-ghost use Rattle.load_model.specs.Serials.{SerialsRise};
+ghost use Rattle.load_model.specs.Serials.{SerialsRise, FaultsAreGiven};
+ghost use Rattle.load_model.specs.Fitness.{ReachedIsFit};
+ghost use Rattle.load_model.specs.ResidenceBases.{BasesStand};
+ghost use Rattle.load_model.specs.Alike.{OthersLeaveAlike, BasesAreAlike};
 
 /// Two legal histories whose entries ask the same are the same: nothing else in them was free.
 pub fn asks_decide()
@@ -62,11 +65,6 @@ pub fn agreement_is_enough()
     ensures histories { HeldHistoriesAlike }
 {}
 
-/// An object that does not get its linked base gets the least free place, where there is one.
-pub fn least_place_is_found()
-    ensures { LeastIsFound }
-{}
-
 /// Residences stand by rising serial numbers, so each has its own.
 pub fn serials_rise()
     ensures { SerialsRise }
@@ -78,3 +76,30 @@ pub fn commands_are_asked()
     ensures accepted { AcceptedMayAsk }
     ensures touched { TouchedIsApart }
 {}
+
+/// An entry of another process leaves a process as it was, and the residences that it reaches, but for shared
+/// writes; so it sees the same bases behind them.
+pub fn others_leave_alike()
+    ensures alike { OthersLeaveAlike }
+    ensures bases { BasesAreAlike }
+{
+    lx_model::order_is_reach();
+}
+
+/// A fault names a serial number that was given: no page of a residence to come has one.
+pub fn faults_are_given()
+    ensures { FaultsAreGiven }
+{}
+
+/// Each residence has a base for each object of its module: a multiple of 65,536 from which on the object lies
+/// within the module's arena.
+pub fn residences_stand()
+    ensures { BasesStand }
+{}
+
+/// What a process reaches is a module of the library, and fit.
+pub fn reached_is_fit()
+    ensures { ReachedIsFit }
+{
+    lx_model::order_is_reach();
+}
