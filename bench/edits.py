@@ -2,6 +2,7 @@
 """Tries the must-fail edits of the repository, also those that are kept to be read.
 
 Usage: edits.py [--lanes N] [NAME ..]     NAME: a crate; all that have edits where none is named
+       edits.py --applies [NAME ..]       only looks whether the text that each edit replaces stands once
 
 The gate tries the files crates/NAME/must-fail/*.edit alone. This script copies the repository into a temporary folder, with
 the libraries that were proved here, renames each .md beside them that is an edit to .edit, and runs `rt must-fail NAME` crate
@@ -83,8 +84,48 @@ def try_crate(top, name, count):
     return refused
 
 
+def why_not(folder, edit):
+    """Returns why an edit cannot be applied, if it cannot."""
+    with open(edit, encoding="utf-8") as it:
+        lines = it.read().split("\n")
+    path, old, texts = "", "", {}
+    for line in lines:
+        if line.startswith("file: "):
+            path = line[len("file: ") :].strip()
+        elif line.startswith("old: "):
+            old = line[len("old: ") :]
+        elif line.startswith("new:"):
+            if path not in texts:
+                if not os.path.isfile(f"{folder}/{path}"):
+                    return f"there is no file {path}"
+                with open(f"{folder}/{path}", encoding="utf-8") as it:
+                    texts[path] = it.read()
+            found = texts[path].count(old)
+            if found != 1:
+                return f"its text stands {found} times in {path}"
+            texts[path] = texts[path].replace(old, line[len("new:") :].removeprefix(" "))
+    return None if texts else "it replaces nothing"
+
+
+def look(names):
+    """Tells each edit of these crates that cannot be applied, and returns whether there is none."""
+    count = bad = 0
+    for name in names:
+        folder = f"{ROOT}/crates/{name}"
+        place = f"{folder}/must-fail"
+        for edit in sorted(os.listdir(place)) if os.path.isdir(place) else []:
+            why = why_not(folder, f"{place}/{edit}")
+            count, bad = count + 1, bad + bool(why)
+            if why:
+                print(f"{name}/{edit}: {why}")
+    print(f"{count} edits: {bad} can not be applied")
+    return not bad
+
+
 def main(words):
     lanes = 1
+    only_looks = words[:1] == ["--applies"]
+    words = words[only_looks:]
     if words[:1] == ["--lanes"] and words[1:2] and words[1].isdigit():
         lanes, words = max(1, int(words[1])), words[2:]
     crates = crates_of(ROOT)
@@ -93,6 +134,8 @@ def main(words):
         print(__doc__, file=sys.stderr)
         print(f"edits.py: no crate {unknown[0]}", file=sys.stderr)
         return 2
+    if only_looks:
+        return 0 if look(words or sorted(crates)) else 1
     with tempfile.TemporaryDirectory(prefix="lx-edits-") as room:
         top = f"{room}/{os.path.basename(ROOT)}"
         copy_of(ROOT, top)
