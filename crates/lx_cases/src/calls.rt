@@ -1,7 +1,5 @@
 //! Calls that take memory, each once with enough of it.
 
-use lx_ports::{MemFiles, NoGate, SureSink};
-use lx_tool::lx_main;
 use lx_types::{Bytes, Fail as Refused, Module, Name, NameLong};
 use std::test::Fail;
 
@@ -27,15 +25,5 @@ fn names_and_lists(rt: HostRuntime) -> Result<(), Fail> {
     assert!(rt; list.push(7).is_ok());
     assert!(rt; list == Bytes::from_vec(vec![in alloc; 7]?));
     assert_eq!(rt; list.into_vec().as_slice(), [7].as_slice());
-    Ok(())
-}
-
-#[test]
-fn the_program_ends_with_the_status_of_its_call(rt: HostRuntime) -> Result<(), Fail> {
-    let alloc = rt.alloc();
-    let mut files = MemFiles::of(alloc, Vec::new(alloc), Vec::new(alloc), Vec::new(alloc));
-    let words = Vec::new(alloc);
-    let status = lx_main(&rt, alloc, &words, &mut files, &mut SureSink, &NoGate);
-    assert_eq!(rt; status, 2);
     Ok(())
 }

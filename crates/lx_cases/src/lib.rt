@@ -1,5 +1,5 @@
-//! Tests that cross crates: the commands over files and a sink in memory, and the calls that take
-//! memory, each once with enough of it.
+//! Tests of small crates: names and lists, fields and records, files and sinks in memory and real, bases, and chosen
+//! modules. Those of the commands are the rows of `command_rows`.
 #![tactic(auto)]
 
 #[cfg(test)]
@@ -11,18 +11,8 @@ mod choosing;
 #[cfg(test)]
 mod fields;
 #[cfg(test)]
-mod image;
-#[cfg(test)]
-mod implib;
-#[cfg(test)]
-mod link;
-#[cfg(test)]
 mod names;
-#[cfg(test)]
-mod object_file;
 #[cfg(test)]
 mod ports;
 #[cfg(test)]
 mod records;
-#[cfg(test)]
-mod runs;

@@ -1,0 +1,153 @@
+#!/usr/bin/env python3
+"""Tries the must-fail edits of the repository, also those that are kept to be read.
+
+Usage: edits.py [--lanes N] [NAME ..]     NAME: a crate; all that have edits where none is named
+       edits.py --applies [NAME ..]       only looks whether the text that each edit replaces stands once
+
+The gate tries the files crates/NAME/must-fail/*.edit alone. This script copies the repository into a temporary folder, with
+the libraries that were proved here, renames each .md beside them that is an edit to .edit, and runs `rt must-fail NAME` crate
+by crate, or N crates side by side. Libraries that are not proved yet are proved first. It prints a line for each edit, as soon as its crate
+is done, and last how many there were, and how many were refused. The exit status is 0 where all were. A whole run takes
+some two hours on one processor.
+"""
+import os
+import re
+import shutil
+import subprocess
+import sys
+import tempfile
+import time
+from concurrent.futures import ThreadPoolExecutor
+
+ROOT = os.path.realpath(os.path.join(os.path.dirname(__file__), ".."))
+TOLD = re.compile(r"rt: must-fail (\w+)/(\S+)\.edit: (refused, as it must be|NOT REFUSED|BAD EDIT)(.*)")
+
+
+def copy_of(root, to):
+    """Copies what a check reads, and of what was proved the libraries alone."""
+
+    def left_out(folder, names):
+        if os.path.basename(folder) == "out":
+            return [it for it in names if it != "rlib"]
+        return [it for it in names if folder == root and it.startswith(".")]
+
+    shutil.copytree(root, to, ignore=left_out, symlinks=True)
+
+
+def crates_of(root):
+    """Returns the libraries of the repository that each crate is listed with."""
+    found = {}
+    with open(f"{root}/crates.txt", encoding="utf-8") as it:
+        for line in it:
+            head, _, deps = line.split("#")[0].partition(":")
+            if head.strip():
+                found[head.split()[0]] = deps.split()
+    return {name: [it for it in deps if it in found] for name, deps in found.items()}
+
+
+def make_edits(folder):
+    """Renames what is kept to be read, and returns how many edits there are."""
+    place = f"{folder}/must-fail"
+    for name in sorted(os.listdir(place)) if os.path.isdir(place) else []:
+        with open(f"{place}/{name}", encoding="utf-8") as it:
+            is_edit = re.search(r"(?m)^old: ", it.read())
+        if name.endswith(".md") and is_edit:
+            os.rename(f"{place}/{name}", f"{place}/{name[:-3]}.edit")
+    return len([it for it in os.listdir(place) if it.endswith(".edit")]) if os.path.isdir(place) else 0
+
+
+def run(words, folder):
+    how = {"stdin": subprocess.DEVNULL, "stdout": subprocess.PIPE, "stderr": subprocess.STDOUT}
+    return subprocess.run(["rt", *words], cwd=folder, text=True, errors="replace", **how)
+
+
+def prove_below(top, names, crates):
+    """Proves the libraries that these crates use, so that those above find them whichever comes first."""
+    for dep in sorted({it for name in names for it in crates[name]}):
+        ran = run(["lib"], f"{top}/crates/{dep}")
+        if ran.returncode:
+            print(ran.stdout[-3000:], end="")
+            sys.exit(f"edits.py: {dep} is not proved")
+
+
+def try_crate(top, name, count):
+    """Tries a crate's edits, prints a line for each, and returns how many were refused."""
+    begun = time.time()
+    ran = run(["must-fail", name], top)
+    told = TOLD.findall(ran.stdout)
+    lines = [f"{crate}/{edit}: {how.replace(', as it must be', '')}{why}" for crate, edit, how, why in told]
+    if len(told) != count:
+        lines += [f"{name}: {count} edits, and {len(told)} were tried:", ran.stdout[-2000:].rstrip("\n")]
+    refused = sum(how.startswith("refused") for _, _, how, _ in told)
+    lines.append(f"{name}: {refused} of {count} refused, {time.time() - begun:.0f} seconds")
+    print("\n".join(lines), flush=True)
+    return refused
+
+
+def why_not(folder, edit):
+    """Returns why an edit cannot be applied, if it cannot."""
+    with open(edit, encoding="utf-8") as it:
+        lines = it.read().split("\n")
+    path, old, texts = "", "", {}
+    for line in lines:
+        if line.startswith("file: "):
+            path = line[len("file: ") :].strip()
+        elif line.startswith("old: "):
+            old = line[len("old: ") :]
+        elif line.startswith("new:"):
+            if path not in texts:
+                if not os.path.isfile(f"{folder}/{path}"):
+                    return f"there is no file {path}"
+                with open(f"{folder}/{path}", encoding="utf-8") as it:
+                    texts[path] = it.read()
+            found = texts[path].count(old)
+            if found != 1:
+                return f"its text stands {found} times in {path}"
+            texts[path] = texts[path].replace(old, line[len("new:") :].removeprefix(" "))
+    return None if texts else "it replaces nothing"
+
+
+def look(names):
+    """Tells each edit of these crates that cannot be applied, and returns whether there is none."""
+    count = bad = 0
+    for name in names:
+        folder = f"{ROOT}/crates/{name}"
+        place = f"{folder}/must-fail"
+        for edit in sorted(os.listdir(place)) if os.path.isdir(place) else []:
+            why = why_not(folder, f"{place}/{edit}")
+            count, bad = count + 1, bad + bool(why)
+            if why:
+                print(f"{name}/{edit}: {why}")
+    print(f"{count} edits: {bad} can not be applied")
+    return not bad
+
+
+def main(words):
+    lanes = 1
+    only_looks = words[:1] == ["--applies"]
+    words = words[only_looks:]
+    if words[:1] == ["--lanes"] and words[1:2] and words[1].isdigit():
+        lanes, words = max(1, int(words[1])), words[2:]
+    crates = crates_of(ROOT)
+    unknown = [it for it in words if it not in crates]
+    if unknown:
+        print(__doc__, file=sys.stderr)
+        print(f"edits.py: no crate {unknown[0]}", file=sys.stderr)
+        return 2
+    if only_looks:
+        return 0 if look(words or sorted(crates)) else 1
+    with tempfile.TemporaryDirectory(prefix="lx-edits-") as room:
+        top = f"{room}/{os.path.basename(ROOT)}"
+        copy_of(ROOT, top)
+        counts = {it: make_edits(f"{top}/crates/{it}") for it in words or crates}
+        names = [it for it in counts if counts[it]]
+        prove_below(top, names, crates)
+        with ThreadPoolExecutor(lanes) as pool:
+            refused = sum(pool.map(lambda it: try_crate(top, it, counts[it]), names))
+    count = sum(counts.values())
+    print(f"{count} edits in {len(names)} crates: {refused} refused, {count - refused} not")
+    return 0 if refused == count else 1
+
+
+if __name__ == "__main__":
+    sys.exit(main(sys.argv[1:]))

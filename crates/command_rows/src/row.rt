@@ -1,0 +1,123 @@
+//! A row: a command, what fails in it, and what is wanted of it.
+
+use crate::line::Port;
+use lx_ports::{MemFiles, MemSink, NoGate};
+use lx_tool::lx_main;
+use lx_types::NoMemory;
+use std::alloc::{AllocError, Global};
+
+/// The bytes under a name.
+#[derive(Debug, Drop)]
+pub struct Named {
+    pub name: String,
+    pub bytes: Vec<u8>,
+}
+
+/// Bytes that a saved file has at a place.
+#[derive(Debug, Drop)]
+pub struct Held {
+    pub name: String,
+    pub place: usize,
+    pub bytes: Vec<u8>,
+}
+
+/// The calls that fail, by their numbers from 1, and what the sink has room for.
+#[derive(Debug, Drop)]
+struct Ports {
+    loads: Vec<u64>,
+    saves: Vec<u64>,
+    puts: Vec<u64>,
+    room: usize,
+}
+
+/// How the command of a row ended.
+#[derive(Drop)]
+pub struct Ended {
+    pub status: u8,
+    pub text: Vec<u8>,
+    pub files: MemFiles,
+}
+
+/// A command with what is wanted of it.
+#[derive(Debug, Drop)]
+pub struct Row {
+    pub title: String,
+    pub words: Vec<String>,
+    ports: Ports,
+    pub status: u8,
+    pub text: Vec<u8>,
+    pub saved: Vec<Named>,
+    pub held: Vec<Held>,
+}
+
+/// What a sink has room for where a row does not say it.
+const ROOM: usize = 65_536;
+
+/// What a sink takes of a piece, at most.
+const SHARE: usize = 7;
+
+/// The first of these under a name.
+pub fn find_bytes<'a>(files: &'a [Named], name: &str) -> Option<&'a [u8]> {
+    let file = files.iter().find(|file| file.name.as_str() == name)?;
+    Some(&file.bytes)
+}
+
+impl Row {
+    /// A row of which nothing fails, and which is to end with 0 and no text.
+    pub fn new(alloc: Global, title: &str) -> Result<Row, AllocError> {
+        Ok(Row {
+            title: title.to_string(alloc)?,
+            words: Vec::new(alloc),
+            ports: Ports {
+                loads: Vec::new(alloc),
+                saves: Vec::new(alloc),
+                puts: Vec::new(alloc),
+                room: ROOM,
+            },
+            status: 0,
+            text: Vec::new(alloc),
+            saved: Vec::new(alloc),
+            held: Vec::new(alloc),
+        })
+    }
+
+    /// Takes the words of a line as the command.
+    pub fn set_words(&mut self, alloc: Global, line: &str) -> Result<(), AllocError> {
+        for word in line.split_whitespace() {
+            self.words.push(word.to_string(alloc)?)?;
+        }
+        Ok(())
+    }
+
+    /// Has a call of a port fail.
+    pub fn fail(&mut self, port: Port, number: u64) -> Result<(), AllocError> {
+        match port {
+            Port::Load => self.ports.loads.push(number)?,
+            Port::Save => self.ports.saves.push(number)?,
+            Port::Put => self.ports.puts.push(number)?,
+        }
+        Ok(())
+    }
+
+    /// Gives the sink so much room.
+    pub fn set_room(&mut self, room: usize) {
+        self.ports.room = room;
+    }
+
+    /// Runs the command over these files.
+    pub fn run<R>(&self, rt: &R, alloc: Global, files: &[Named]) -> Result<Ended, NoMemory> {
+        let mut entries = Vec::new(alloc);
+        for file in files {
+            entries.push((file.name.clone()?, file.bytes.clone()?))?;
+        }
+        let ports = &self.ports;
+        let mut files = MemFiles::of(alloc, entries, ports.loads.clone()?, ports.saves.clone()?);
+        let mut out = MemSink::of(alloc, ports.room, SHARE, ports.puts.clone()?)?;
+        let status = lx_main(rt, alloc, &self.words, &mut files, &mut out, &NoGate);
+        Ok(Ended {
+            status,
+            text: out.written().to_vec(alloc)?,
+            files,
+        })
+    }
+}
