@@ -79,8 +79,8 @@ unfolding may_ask
 fault_below lib e pid serial high p (deeds.Fault other m q) h may is =
     let same : other ≡ serial = eqb-true other serial (and_left _ _ is) in
     let at : is_attached lib e pid other m ≡ true = and_left _ _ (and_right _ _ (and_left _ _ may)) in
-    let below = attached_below lib e pid other m high h at in
-    omega arith
+    let below : other ≤ high = attached_below lib e pid other m high h at in
+    subst (λ n. n ≤ high) same below
 fault_below lib e pid serial high p (deeds.Enter how m fresh calls) h may is = cc
 fault_below lib e pid serial high p (deeds.Full how m of object size) h may is = cc
 fault_below lib e pid serial high p (deeds.Free m calls gone) h may is = cc

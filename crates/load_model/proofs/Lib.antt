@@ -17,3 +17,4 @@ pub mod Retouched
 pub mod GivenSerials
 pub mod ResidenceBases
 pub mod ReachedFit
+pub mod Touched

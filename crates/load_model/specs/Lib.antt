@@ -17,3 +17,4 @@ pub mod WorkedRefusals
 pub mod Alike
 pub mod ResidenceBases
 pub mod Fitness
+pub mod Touched

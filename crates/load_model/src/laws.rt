@@ -1,11 +1,12 @@
 //! What the definitions say together. Each law is the contract of a function that does nothing, which a
 //! crate above calls where it needs the law.
 
-ghost use Rattle.load_model.specs.Laws.{AsksDecide, PrefixIsLegal, EachFollows, OneMoreIsLegal, NothingIsLegal, OneMoreIsAfter, FaultOnce, ReachedIsResident, AttachedIsReached, GoneIsUnreached, ResidenceStays, ReachStays, OthersRefuseAlike, OthersAnswerAlike, HeldAnswersAlike, HeldHistoriesAlike, CountsAreResidence};
+ghost use Rattle.load_model.specs.Laws.{AsksDecide, PrefixIsLegal, EachFollows, OneMoreIsLegal, NothingIsLegal, OneMoreIsAfter, FaultOnce, ReachedIsResident, AttachedIsReached, GoneIsUnreached, ResidenceStays, ReachStays, OthersRefuseAlike, OthersAnswerAlike, OthersBytesAlike, HeldAnswersAlike, HeldHistoriesAlike, CountsAreResidence};
 ghost use Rattle.load_model.specs.Accepted.{AcceptedMayAsk, TouchedIsApart};
 ghost use Rattle.load_model.specs.Serials.{SerialsRise, FaultsAreGiven};
 ghost use Rattle.load_model.specs.Fitness.{ReachedIsFit};
 ghost use Rattle.load_model.specs.ResidenceBases.{BasesStand};
+ghost use Rattle.load_model.specs.Touched.{AnsweredByPages, EntriesMoveTouched};
 ghost use Rattle.load_model.specs.Alike.{OthersLeaveAlike, BasesAreAlike};
 
 /// Two legal histories whose entries ask the same are the same: nothing else in them was free.
@@ -49,11 +50,12 @@ pub fn residences_stay()
     lx_model::order_is_reach();
 }
 
-/// An entry of another process changes no refusal of a process, and no answer of a touch, a peek or a
-/// query.
+/// An entry of another process changes no refusal of a process, no answer of a touch, a peek or a query,
+/// whatever was touched, and no byte of code or of the process's own data.
 pub fn others_change_nothing()
     ensures refusals { OthersRefuseAlike }
     ensures answers { OthersAnswerAlike }
+    ensures bytes { OthersBytesAlike }
 {
     lx_model::order_is_reach();
 }
@@ -103,3 +105,10 @@ pub fn reached_is_fit()
 {
     lx_model::order_is_reach();
 }
+
+/// Of what was touched it counts for a process which pages it touched itself; and an entry changes all else in
+/// one way, whatever was touched.
+pub fn touched_pages_decide()
+    ensures answers { AnsweredByPages }
+    ensures entries { EntriesMoveTouched }
+{}
