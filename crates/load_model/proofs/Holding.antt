@@ -109,7 +109,7 @@ attached_bytes lib a b e pid serial m object offset len there agree may (Some r)
     none_is None h = refl
     none_is (Some y) h = cc
 
-deed_by : (lib : Library) (a b : Held) (e : Eager) (pid : ℕ) (ask : Ask) → is_among pids pid ≡ true → AgreeAt lib a b e → may_ask lib e pid ask ≡ true →
+pub deed_by : (lib : Library) (a b : Held) (e : Eager) (pid : ℕ) (ask : Ask) → is_among pids pid ≡ true → AgreeAt lib a b e → may_ask lib e pid ask ≡ true →
     deed_of lib a e pid ask ≡ deed_of lib b e pid ask
 unfolding deed_of may_ask
 deed_by lib a b e pid (enter how m) there agree may = refl

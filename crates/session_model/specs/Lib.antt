@@ -7,3 +7,4 @@ pub mod Sessions
 pub mod Laws
 pub mod WorkedSessions
 pub mod WorkedRuns
+pub mod MergeLaws

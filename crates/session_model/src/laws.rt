@@ -1,6 +1,7 @@
 //! What the definitions of sessions say together.
 
 ghost use Rattle.session_model.specs.Laws.{MeansOne, MeansOrFails, FaultMeansNone, FaultIsFirst};
+ghost use Rattle.session_model.specs.MergeLaws.{MergeHasHistory, StatesAreTheHistorys, HeldMergesAlike};
 
 /// Bytes are one session at most; they are one or have a fault, and not both; and the fault is that of
 /// the first line that is wrong.
@@ -9,4 +10,15 @@ pub fn sessions_are_one()
     ensures either { MeansOrFails }
     ensures not_both { FaultMeansNone }
     ensures first { FaultIsFirst }
+{}
+
+/// The entries of a merge are its history, and its states are the history's but for touched pages.
+pub fn merges_are_histories()
+    ensures entries { MergeHasHistory }
+    ensures states { StatesAreTheHistorys }
+{}
+
+/// Where two ways to say what objects hold agree along a history, the same steady lines merge with it by both.
+pub fn agreement_is_enough()
+    ensures { HeldMergesAlike }
 {}

@@ -1,0 +1,39 @@
+-- What a merge has to do with its history.
+use Rattle.std.specs.Prelude.{◌≡◌, ℕ, ◌≤◌, List, ◌++◌, length, filter_map, Option, Some, None}
+use Rattle.load_model.specs.declared.deeds.Entry.{Entry}
+use Rattle.load_model.specs.Modules.{Library, Held}
+use Rattle.load_model.specs.State.{PageOf, Eager}
+use Rattle.load_model.specs.Histories.{state_after}
+use Rattle.load_model.specs.Accepted.{retouched}
+use Rattle.load_model.specs.Laws.{AgreeAt}
+use Rattle.session_model.specs.declared.sessions.Script.{Script}
+use Rattle.session_model.specs.declared.sessions.ScriptLines.{ScriptLines}
+use Rattle.session_model.specs.Merging.{Item, entry, line, merge_of, state_behind, Merge}
+
+abbrev pub entry_in : Item → Option Entry
+entry_in (entry x) = Some x
+entry_in (line pid l) = None
+
+-- the entries of some items, in their order
+abbrev pub entries_in : List Item → List Entry
+entries_in items = filter_map entry_in items
+
+-- The entries of a merge are its history.
+abbrev pub MergeHasHistory : Type 0
+MergeHasHistory = (h : List Entry) (s : List ScriptLines) → entries_in (merge_of h s) ≡ h
+
+-- what each process touched in a state
+abbrev pub touched_in : Eager → ℕ → List PageOf
+touched_in e pid = (e.processes pid).touched
+
+-- The state behind some items is the state after their entries, but for touched pages.
+abbrev pub StatesAreTheHistorys : Type 0
+StatesAreTheHistorys =
+    (lib : Library) (items : List Item) → state_behind lib items ≡ retouched (touched_in (state_behind lib items)) (state_after lib (entries_in items))
+
+-- Where two ways to say what objects hold agree along a history, the same lines merge with it by both. There
+-- are at most 16 scripts.
+abbrev pub HeldMergesAlike : Type 0
+HeldMergesAlike =
+    (lib : Library) (a b : Held) (h : List Entry) (s : List ScriptLines) (scripts : List Script) → length scripts ≤ 16 →
+    ((before behind : List Entry) → h ≡ before ++ behind → AgreeAt lib a b (state_after lib before)) → Merge lib a h s scripts → Merge lib b h s scripts
