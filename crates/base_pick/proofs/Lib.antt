@@ -1,2 +1,3 @@
 pub mod Gaps
 pub mod Placing
+pub mod Least

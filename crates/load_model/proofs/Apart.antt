@@ -11,12 +11,14 @@ use Rattle.load_model.specs.declared.deeds.How.TheVariants as ways
 use Rattle.load_model.specs.declared.deeds.Deed.{Deed}
 use Rattle.load_model.specs.declared.deeds.Deed.TheVariants as deeds
 use Rattle.load_model.specs.Modules.{Library, Held, number_of}
-use Rattle.load_model.specs.State.{Residence, Process, Eager, Written, is_among, pids, reaches, residence_of, attached_residence}
+use Rattle.load_model.specs.Accepted.{retouched}
+use Rattle.load_model.specs.State.{PageOf, Residence, Process, Eager, Written, is_among, pids, reaches, residence_of, attached_residence}
 use Rattle.load_model.specs.Entering.{after_entering, with_fresh_residences}
 use Rattle.load_model.specs.Leaving.{after_leaving}
 use Rattle.load_model.specs.Refusals.{Purpose, touch, write, share, peek, ◌orelse◌, when, enter_refusal, free_refusal, residence_refusal, residence_if, residence_named, place_refusal, key_refusal, query_refusal, refusal_of}
 use Rattle.load_model.specs.Asks.{after_write, after_deed}
 use Rattle.load_model.specs.Histories.{state_after}
+use Rattle.load_model.specs.Alike.{Alike, OthersLeaveAlike}
 use Rattle.load_model.specs.Laws.{stay_of, OthersRefuseAlike}
 use Rattle.load_model.proofs.Kept.{Kept, process_apart}
 use Rattle.load_model.proofs.Residents.{Done, done_by, legal_kept}
@@ -42,10 +44,6 @@ process_stays lib e pid (deeds.Shared serial m object offset bytes) q h = refl
 
 -- ---- two states that a process cannot tell apart
 
-pub record Alike (lib : Library) (e after : Eager) (q : ℕ) : Type 0 where
-  pub process : after.processes q ≡ e.processes q
-  pub stays : (m : ℕ) → reaches lib (e.processes q) m ≡ true → stay_of (residence_of after m) ≡ stay_of (residence_of e m)
-
 pub deed_alike : (lib : Library) (contents : Held) (e : Eager) (pid : ℕ) (d : Deed) (q : ℕ) → Done lib contents e pid d → Kept lib e → is_among pids q ≡ true →
     (q == pid) ≡ false → Alike lib e (after_deed lib e pid d) q
 deed_alike lib contents e pid d q done kept there h =
@@ -57,7 +55,7 @@ deed_alike lib contents e pid d q done kept there h =
           (one_reaches lib (after_deed lib e pid d) q m there (ap (λ p. reaches lib p m) same ∙ reached));
     }
 
-attached_stays : (lib : Library) (e after : Eager) (q m : ℕ) → Alike lib e after q → stay_of (attached_residence lib after q m) ≡ stay_of (attached_residence lib e q m)
+pub attached_stays : (lib : Library) (e after : Eager) (q m : ℕ) → Alike lib e after q → stay_of (attached_residence lib after q m) ≡ stay_of (attached_residence lib e q m)
 unfolding attached_residence
 attached_stays lib e after q m alike =
     ap (λ p. stay_of (if reaches lib p m then residence_of after m else None)) alike.process ∙ step (reaches lib (e.processes q) m) (alike.stays m)
@@ -114,6 +112,19 @@ refusal_alike lib e after q (commands.Write place bytes) alike = place_alike lib
 refusal_alike lib e after q (commands.Query name key) alike = query_alike lib e after q name key alike
 refusal_alike lib e after q commands.Exit alike = ap (λ p. when p.ended Ended) alike.process
 
+-- nor can it where the same was touched in both
+pub retouched_alike : (lib : Library) (e after : Eager) (touched : ℕ → List PageOf) (q : ℕ) → Alike lib e after q → Alike lib (retouched touched e) (retouched touched after) q
+unfolding reaches residence_of
+retouched_alike lib e after touched q alike = record {
+  process = ap (λ (p : Process). record p { touched = touched q }) alike.process;
+  stays = λ m reached. alike.stays m reached;
+}
+
+pub others_leave_alike : OthersLeaveAlike
+others_leave_alike lib contents h x pid legal follows there other =
+    deed_alike lib contents (state_after lib h) x.pid x.deed pid (done_by lib contents h x follows) (legal_kept lib contents h legal) there other
+
 pub others_refuse_alike : OthersRefuseAlike
-others_refuse_alike lib contents h x pid command legal follows there apart =
-    refusal_alike lib (state_after lib h) _ pid command (deed_alike lib contents (state_after lib h) x.pid x.deed pid (done_by lib contents h x follows) (legal_kept lib contents h legal) there apart)
+others_refuse_alike lib contents h x touched pid command legal follows there apart =
+    refusal_alike lib (retouched touched (state_after lib h)) _ pid command
+    (retouched_alike lib (state_after lib h) _ touched pid (others_leave_alike lib contents h x pid legal follows there apart))

@@ -16,9 +16,11 @@ use Rattle.load_model.specs.State.{Residence, Process, Eager, Written, is_among,
 use Rattle.load_model.specs.Memory.{writes_of_class, writes_seen, bases_seen, last_put, Byte, Bytes}
 use Rattle.load_model.specs.Refusals.{peek, ◌orelse◌, when, class_refusal, span_refusal, residence_refusal, residence_if, residence_named, place_refusal}
 use Rattle.load_model.specs.Step.{bytes_of}
-use Rattle.load_model.specs.Laws.{stay_of}
+use Rattle.load_model.specs.Histories.{after_entry, state_after}
+use Rattle.load_model.specs.Laws.{stay_of, OthersBytesAlike}
 use Rattle.load_model.proofs.Orders.{OrdersNest, reaches_closed}
-use Rattle.load_model.proofs.Apart.{Alike, named_stays}
+use Rattle.load_model.specs.Alike.{Alike, BasesAreAlike}
+use Rattle.load_model.proofs.Apart.{attached_stays, named_stays, others_leave_alike}
 
 -- ---- residences that differ in shared writes alone
 
@@ -123,15 +125,22 @@ seen_alike : (lib : Library) (p : Process) (a : Residence) (ws : List Written) (
 unfolding writes_seen
 seen_alike lib p a ws object h = ap (filter (λ w. w.object == object)) (not_shared (class_of (object_at lib a.«module» object)) p a ws h)
 
-bytes_alike : OrdersNest → (lib : Library) (contents : Held) (e after : Eager) (q : ℕ) (a : Residence) (ws : List Written) (object offset len : ℕ) → Alike lib e after q →
+byte_alike : OrdersNest → (lib : Library) (contents : Held) (e after : Eager) (q : ℕ) (a : Residence) (ws : List Written) (object x : ℕ) → Alike lib e after q →
     reaches lib (e.processes q) a.«module» ≡ true → class_refusal peek (class_of (object_at lib a.«module» object)) ≡ None →
-    Bytes lib contents after q (with_writes a ws) object offset len ≡ Bytes lib contents e q a object offset len
-unfolding Bytes Byte
-bytes_alike nest lib contents e after q a ws object offset len alike reached class =
-    let F : List Written → Bases → List ℕ = λ writes bases. map (λ x. last_put writes x (contents a.«module» bases object x)) (range_with_len offset len) in
+    Byte lib contents after q (with_writes a ws) object x ≡ Byte lib contents e q a object x
+unfolding Byte
+byte_alike nest lib contents e after q a ws object x alike reached class =
+    let F : List Written → Bases → ℕ = λ writes bases. last_put writes x (contents a.«module» bases object x) in
     ap (λ p. F (writes_seen lib p (with_writes a ws) object) (bases_seen lib after a.«module»)) alike.process
     ∙ ap (λ writes. F writes (bases_seen lib after a.«module»)) (seen_alike lib (e.processes q) a ws object class)
     ∙ ap (F (writes_seen lib (e.processes q) a object)) (bases_alike nest lib e after q a.«module» alike reached)
+
+bytes_alike : OrdersNest → (lib : Library) (contents : Held) (e after : Eager) (q : ℕ) (a : Residence) (ws : List Written) (object offset len : ℕ) → Alike lib e after q →
+    reaches lib (e.processes q) a.«module» ≡ true → class_refusal peek (class_of (object_at lib a.«module» object)) ≡ None →
+    Bytes lib contents after q (with_writes a ws) object offset len ≡ Bytes lib contents e q a object offset len
+unfolding Bytes
+bytes_alike nest lib contents e after q a ws object offset len alike reached class =
+    λ i. map (λ x. byte_alike nest lib contents e after q a ws object x alike reached class i) (range_with_len offset len)
 
 pub peek_alike : OrdersNest → (lib : Library) (contents : Held) (e after : Eager) (q : ℕ) (place : Place) → Alike lib e after q → place_refusal lib e q peek place ≡ None →
     bytes_of lib contents after q place (residence_named lib after q place.«module») ≡ bytes_of lib contents e q place (residence_named lib e q place.«module»)
@@ -149,3 +158,21 @@ peek_alike nest lib contents e after q place alike fine =
         ap (λ r. Bytes lib contents after q r place.object place.offset place.len) (same_stay a b same)
         ∙ bytes_alike nest lib contents e after q a b.writes place.object place.offset place.len alike (named_is lib e q place.«module» a is).0
         (peeked_class lib (e.processes q) place a h)
+
+pub bases_are_alike : OrdersNest → BasesAreAlike
+bases_are_alike nest lib e after pid m alike reached = bases_alike nest lib e after pid m alike reached
+
+-- a class that is not shared may be peeked at
+own_class : (c : Class) → (c ≡ classes.Shared → ⊥) → class_refusal peek c ≡ None
+own_class classes.Code apart = refl
+own_class classes.Private apart = refl
+own_class classes.Shared apart = absurd (apart refl)
+
+pub others_bytes_alike : OrdersNest → OthersBytesAlike
+others_bytes_alike nest lib contents h entry pid m object x a b legal follows there other own is after =
+    let alike : Alike lib (state_after lib h) (after_entry lib (state_after lib h) entry) pid = others_leave_alike lib contents h entry pid legal follows there other in
+    let same : stay_of (Some b) ≡ stay_of (Some a) = ap stay_of (sym after) ∙ attached_stays lib (state_after lib h) _ pid m alike ∙ ap stay_of is in
+    let it : (reaches lib ((state_after lib h).processes pid) m ≡ true) × (a.«module» ≡ m) = attached_is lib (state_after lib h) pid m a is in
+    ap (λ r. Byte lib contents (after_entry lib (state_after lib h) entry) pid r object x) (same_stay a b same)
+    ∙ byte_alike nest lib contents (state_after lib h) _ pid a b.writes object x alike (ap (reaches lib ((state_after lib h).processes pid)) it.1 ∙ it.0)
+    (ap (λ k. class_refusal peek (class_of (object_at lib k object))) it.1 ∙ own_class (class_of (object_at lib m object)) own)

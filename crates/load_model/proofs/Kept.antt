@@ -8,11 +8,12 @@ use Rattle.load_model.specs.declared.deeds.How.{How}
 use Rattle.load_model.specs.declared.deeds.How.TheVariants.{Start, Load}
 use Rattle.load_model.specs.declared.deeds.Fresh.{Fresh}
 use Rattle.load_model.specs.declared.deeds.Deed.TheVariants as deeds
-use Rattle.load_model.specs.Modules.{Library, order_of}
-use Rattle.load_model.specs.Places.{NoPlace}
+use Rattle.load_model.specs.Modules.{bases_for, Library, order_of}
+use Rattle.base_pick.specs.declared.occupied.AddressRange.{AddressRange}
+use Rattle.base_pick.specs.declared.picking.ArenaFull.{ArenaFull}
 use Rattle.load_model.specs.State.{Process, Eager, with_process, is_among, pids, reaches, is_reached, residence_of}
 use Rattle.load_model.specs.declared.deeds.Call.{Call}
-use Rattle.load_model.specs.Entering.{NoRoom, spans_of, with_fresh_residences, joined, newcomers, bases_for, placing, placed_from, with_fresh, holding, attaching, residence_from, after_entering, enter_deed, entering_calls}
+use Rattle.load_model.specs.Entering.{NoRoom, ranges_of, with_fresh_residences, joined, newcomers, placing, placed_from, with_fresh, holding, attaching, residence_from, after_entering, enter_deed, entering_calls}
 use Rattle.load_model.specs.Refusals.{when, ◌orelse◌, enter_refusal}
 use Rattle.load_model.proofs.Bools.{or_swap}
 use Rattle.load_model.proofs.Among.{any_append, any_map, any_same, among_append, among_filter, some_find, any_split}
@@ -76,7 +77,7 @@ fresh_step f (Ok xs) fresh ms each e =
     ap modules_of (sym same) ∙ ap (λ ks. f.«module» ∷ ks) (each xs refl)
 fresh_step f (Err x) fresh ms each e = cc
 
-placed_step : (m : ℕ) (ms : List ℕ) (make : List ℕ → Fresh) (rest : List ℕ → Result (List Fresh) NoRoom) (r : Result (List ℕ) NoPlace) (fresh : List Fresh) →
+placed_step : (m : ℕ) (ms : List ℕ) (make : List ℕ → Fresh) (rest : List ℕ → Result (List Fresh) NoRoom) (r : Result (List ℕ) ArenaFull) (fresh : List Fresh) →
     ((bases : List ℕ) (xs : List Fresh) → rest bases ≡ Ok xs → modules_of xs ≡ ms) → ((bases : List ℕ) → (make bases).«module» ≡ m) →
     elim r as (λ _. Result (List Fresh) NoRoom) [ Err e ↦ Err (record { of = m; object = e }) | Ok bases ↦ with_fresh (make bases) (rest bases) ] ≡ Ok fresh →
     modules_of fresh ≡ m ∷ ms
@@ -84,13 +85,13 @@ placed_step m ms make rest (Ok bases) fresh each is e =
     fresh_step (make bases) (rest bases) fresh ms (each bases) e ∙ ap (λ k. k ∷ ms) (is bases)
 placed_step m ms make rest (Err x) fresh each is e = cc
 
-fresh_modules : (lib : Library) (ms : List ℕ) (serials : ℕ) (spans : List (ℕ × ℕ)) (fresh : List Fresh) → placed_from lib serials spans ms ≡ Ok fresh → modules_of fresh ≡ ms
+fresh_modules : (lib : Library) (ms : List ℕ) (serials : ℕ) (spans : List AddressRange) (fresh : List Fresh) → placed_from lib serials spans ms ≡ Ok fresh → modules_of fresh ≡ ms
 unfolding placed_from
 fresh_modules lib [] serials spans fresh e = (let same : fresh ≡ [] = cc in ap modules_of same)
 fresh_modules lib (m ∷ ms) serials spans fresh e =
     placed_step m ms (λ bases. record { serial = suc serials; «module» = m; bases = bases })
-    (λ bases. placed_from lib (suc serials) (spans_of lib m bases ++ spans) ms) (bases_for lib spans m) fresh
-    (λ bases xs h. fresh_modules lib ms (suc serials) (spans_of lib m bases ++ spans) xs h) (λ bases. refl) e
+    (λ bases. placed_from lib (suc serials) (spans ++ ranges_of lib m bases) ms) (bases_for lib spans m) fresh
+    (λ bases xs h. fresh_modules lib ms (suc serials) (spans ++ ranges_of lib m bases) xs h) (λ bases. refl) e
 
 -- an entry that enters was placed
 pub enter_step : (how : How) (m : ℕ) (calls : List Fresh → List Call) (r : Result (List Fresh) NoRoom) (fresh : List Fresh) (made : List Call) →

@@ -29,7 +29,7 @@ without_less f m (x ∷ xs) h = step (x == m) (without_less f m xs) h
         among true b c less h = refl
         among false b c less h = less h
 
-roots_less : (f : ℕ → Bool) (s : Option ℕ) (m : ℕ) (xs : List ℕ) → list_any f (option_to_list s ++ without_one m xs) ≡ true → list_any f (option_to_list s ++ xs) ≡ true
+pub roots_less : (f : ℕ → Bool) (s : Option ℕ) (m : ℕ) (xs : List ℕ) → list_any f (option_to_list s ++ without_one m xs) ≡ true → list_any f (option_to_list s ++ xs) ≡ true
 roots_less f None m xs h = without_less f m xs h
 roots_less f (Some k) m xs h = among (f k) (list_any f (without_one m xs)) (list_any f xs) (without_less f m xs) h
   where

@@ -11,7 +11,10 @@ pub mod Bytes
 pub mod EntryReach
 pub mod Answers
 pub mod Holding
-pub mod Least
 pub mod Serials
 pub mod Accepted
 pub mod Retouched
+pub mod GivenSerials
+pub mod ResidenceBases
+pub mod ReachedFit
+pub mod Touched

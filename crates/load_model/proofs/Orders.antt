@@ -22,7 +22,7 @@ contains_among (y ∷ xs) x (suc k, below, is) =
     let less : k < length xs = omega arith in
     ap (λ b. (y == x) || b) (contains_among xs x (k, less, is)) ∙ or_true (y == x)
 
-among_contains : (xs : List ℕ) (x : ℕ) → is_among xs x ≡ true → Contains xs x
+pub among_contains : (xs : List ℕ) (x : ℕ) → is_among xs x ≡ true → Contains xs x
 among_contains [] x h = (let wrong : false ≡ true = h in cc)
 among_contains (y ∷ xs) x h = step (y == x) refl (among_contains xs x) h
   where

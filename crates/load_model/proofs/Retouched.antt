@@ -10,7 +10,7 @@ use Rattle.load_model.specs.declared.deeds.How.TheVariants.{Start, Load}
 use Rattle.load_model.specs.declared.deeds.Deed.TheVariants as deeds
 use Rattle.load_model.specs.Modules.{Library, Held, object_at}
 use Rattle.load_model.specs.State.{PageOf, Residence, Process, Eager, with_process, reaches, is_reached, pids, residence_of, attached_residence}
-use Rattle.load_model.specs.Entering.{joined, newcomers, placing, resident_spans, after_entering, entering_calls, enter_deed}
+use Rattle.load_model.specs.Entering.{joined, newcomers, placing, resident_ranges, after_entering, entering_calls, enter_deed}
 use Rattle.load_model.specs.Leaving.{left, gone_modules, gone, gone_of, term_of, leaving_calls, freeing, exiting}
 use Rattle.load_model.specs.Memory.{writes_of_class, last_put, bases_seen, writes_seen, Byte, Bytes}
 use Rattle.load_model.specs.Refusals.{enter_refusal, module_refusal}
@@ -33,7 +33,7 @@ reached_same lib e touched pid p ts m = any_same _ _ (λ q. step q (q == pid)) p
     step q true = refl
     step q false = refl
 
-gone_same : (lib : Library) (e : Eager) (touched : ℕ → List PageOf) (pid : ℕ) (p : Process) (ts : List PageOf) →
+pub gone_same : (lib : Library) (e : Eager) (touched : ℕ → List PageOf) (pid : ℕ) (p : Process) (ts : List PageOf) →
     gone_modules lib (retouched touched e) pid (record p { touched = ts }) ≡ gone_modules lib e pid p
 unfolding gone_modules left reaches
 gone_same lib e touched pid p ts = filter_same _ _ (λ m. ap not (reached_same lib e touched pid p ts m)) (left lib p)
@@ -59,15 +59,15 @@ may_same lib e touched pid (put serial m object offset bytes) = refl
 may_same lib e touched pid (get serial m object offset len) = refl
 
 enter_same : (lib : Library) (e : Eager) (touched : ℕ → List PageOf) (pid : ℕ) (how : How) (m : ℕ) → enter_deed lib (retouched touched e) pid how m ≡ enter_deed lib e pid how m
-unfolding enter_deed placing resident_spans newcomers joined entering_calls after_entering with_process reaches residence_of
+unfolding enter_deed placing resident_ranges newcomers joined entering_calls after_entering with_process reaches residence_of
 enter_same lib e touched pid how m = refl
 
-class_same : (c : Class) (p : Process) (ts : List PageOf) (r : Residence) → writes_of_class c (record p { touched = ts }) r ≡ writes_of_class c p r
+pub class_same : (c : Class) (p : Process) (ts : List PageOf) (r : Residence) → writes_of_class c (record p { touched = ts }) r ≡ writes_of_class c p r
 class_same classes.Code p ts r = refl
 class_same classes.Private p ts r = refl
 class_same classes.Shared p ts r = refl
 
-bytes_same : (lib : Library) (contents : Held) (e : Eager) (touched : ℕ → List PageOf) (pid object offset len : ℕ) (r : Option Residence) →
+pub bytes_same : (lib : Library) (contents : Held) (e : Eager) (touched : ℕ → List PageOf) (pid object offset len : ℕ) (r : Option Residence) →
     bytes_at lib contents (retouched touched e) pid object offset len r ≡ bytes_at lib contents e pid object offset len r
 unfolding Bytes Byte bases_seen writes_seen residence_of
 bytes_same lib contents e touched pid object offset len None = refl

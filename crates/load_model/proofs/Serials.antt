@@ -8,10 +8,11 @@ use Rattle.load_model.specs.declared.deeds.How.{How}
 use Rattle.load_model.specs.declared.deeds.Deed.{Deed}
 use Rattle.load_model.specs.declared.deeds.Deed.TheVariants as deeds
 use Rattle.load_model.specs.declared.deeds.Entry.{Entry}
-use Rattle.load_model.specs.Modules.{Library, Held}
-use Rattle.load_model.specs.Places.{NoPlace, Span}
+use Rattle.load_model.specs.Modules.{bases_for, Library, Held}
+use Rattle.base_pick.specs.declared.occupied.AddressRange.{AddressRange}
+use Rattle.base_pick.specs.declared.picking.ArenaFull.{ArenaFull}
 use Rattle.load_model.specs.State.{Residence, Process, Eager, Written, with_process}
-use Rattle.load_model.specs.Entering.{NoRoom, spans_of, bases_for, placing, placed_from, with_fresh, residence_from, after_entering, enter_deed, entering_calls, newcomers}
+use Rattle.load_model.specs.Entering.{NoRoom, ranges_of, placing, placed_from, with_fresh, residence_from, after_entering, enter_deed, entering_calls, newcomers}
 use Rattle.load_model.specs.Leaving.{after_leaving}
 use Rattle.load_model.specs.Memory.{with_write}
 use Rattle.load_model.specs.Asks.{after_write, ask_in, deed_of, after_deed}
@@ -63,21 +64,21 @@ fresh_rise f serials (Ok xs) fresh is each e =
     sums a b = omega arith
 fresh_rise f serials (Err x) fresh is each e = cc
 
-placed_rise : (lib : Library) (ms : List ℕ) (serials : ℕ) (spans : List Span) (fresh : List Fresh) → placed_from lib serials spans ms ≡ Ok fresh →
+placed_rise : (lib : Library) (ms : List ℕ) (serials : ℕ) (spans : List AddressRange) (fresh : List Fresh) → placed_from lib serials spans ms ≡ Ok fresh →
     Rise serials (map (λ x. x.serial) fresh) (serials + length fresh)
 unfolding placed_from
 placed_rise lib [] serials spans fresh e =
     let same : [] ≡ fresh = cc in
     let stays : serials ≤ serials + 0 = omega arith in
     subst (λ ys. Rise serials (map (λ x. x.serial) ys) (serials + length ys)) same stays
-placed_rise lib (m ∷ ms) serials spans fresh e = step (bases_for lib spans m) e (λ bases xs h. placed_rise lib ms (suc serials) (spans_of lib m bases ++ spans) xs h)
+placed_rise lib (m ∷ ms) serials spans fresh e = step (bases_for lib spans m) e (λ bases xs h. placed_rise lib ms (suc serials) (spans ++ ranges_of lib m bases) xs h)
   where
-    step : (r : Result (List ℕ) NoPlace) →
+    step : (r : Result (List ℕ) ArenaFull) →
         elim r as (λ _. Result (List Fresh) NoRoom) [
           | Err x ↦ Err (record { of = m; object = x })
-          | Ok bases ↦ with_fresh (record { serial = suc serials; «module» = m; bases = bases }) (placed_from lib (suc serials) (spans_of lib m bases ++ spans) ms)
+          | Ok bases ↦ with_fresh (record { serial = suc serials; «module» = m; bases = bases }) (placed_from lib (suc serials) (spans ++ ranges_of lib m bases) ms)
         ] ≡ Ok fresh →
-        ((bases : List ℕ) (xs : List Fresh) → placed_from lib (suc serials) (spans_of lib m bases ++ spans) ms ≡ Ok xs →
+        ((bases : List ℕ) (xs : List Fresh) → placed_from lib (suc serials) (spans ++ ranges_of lib m bases) ms ≡ Ok xs →
         Rise (suc serials) (map (λ x. x.serial) xs) (suc serials + length xs)) →
         Rise serials (map (λ x. x.serial) fresh) (serials + length fresh)
     step (Err x) e each = cc

@@ -1,7 +1,6 @@
 -- What a load attaches, where it places what is new, and what it calls.
 -- Control Program reference: DosLoadModule; LX: "LX Header" (per-process initialisation).
 use Rattle.std.specs.Prelude.{ℕ, suc, ◌+◌, ◌&&◌, ◌||◌, not, List, [], ◌∷◌, ◌++◌, map, filter, filter_map, flat_map, zip, length, Option, Some, None, option_map, option_to_list, is_none, Result, Ok, Err, if◌then◌else◌}
-use Rattle.lx_types.specs.Addresses.{room}
 use Rattle.lx_types.specs.declared.object.ObjHead.{ObjHead}
 use Rattle.load_model.specs.declared.deeds.How.{How}
 use Rattle.load_model.specs.declared.deeds.How.TheVariants.{Start, Load}
@@ -11,8 +10,10 @@ use Rattle.load_model.specs.declared.deeds.CallKind.TheVariants.{Init, Main}
 use Rattle.load_model.specs.declared.deeds.Fresh.{Fresh}
 use Rattle.load_model.specs.declared.deeds.Deed.{Deed}
 use Rattle.load_model.specs.declared.deeds.Deed.TheVariants.{Enter, Full}
-use Rattle.load_model.specs.Modules.{Library, is_library, order_of, start_of, inits_each, objects_of, address_in}
-use Rattle.load_model.specs.Places.{Span, NoPlace, private_arena, shared_arena, bases_from}
+use Rattle.load_model.specs.Modules.{Library, is_library, order_of, start_of, inits_each, objects_of, bases_for, address_in}
+use Rattle.base_pick.specs.declared.occupied.AddressRange.{AddressRange}
+use Rattle.base_pick.specs.declared.picking.ArenaFull.{ArenaFull}
+use Rattle.base_pick.specs.Places.{range_at}
 use Rattle.load_model.specs.State.{Residence, Process, Eager, with_process, is_among, reaches, residence_of, serial_of, bases_of}
 
 -- ---- what is attached, and what of it is new
@@ -27,42 +28,36 @@ newcomers lib e pid m = filter (λ k. is_none (residence_of e k)) (joined lib e 
 
 -- ---- where it is placed
 
-abbrev pub span_of : ObjHead × ℕ → Span
-span_of at = (at.1, room at.0.size)
+abbrev pub range_of : ObjHead × ℕ → AddressRange
+range_of at = range_at at.1 at.0.size
 
 -- the addresses that a library's objects take; a program's are in no one's way
-abbrev pub spans_of : Library → ℕ → List ℕ → List Span
-spans_of lib m bases = if is_library lib m then map span_of (zip (objects_of lib m) bases) else []
+abbrev pub ranges_of : Library → ℕ → List ℕ → List AddressRange
+ranges_of lib m bases = if is_library lib m then map range_of (zip (objects_of lib m) bases) else []
 
 -- what is taken in the shared arena
-unfoldable pub resident_spans : Library → Eager → List Span
-resident_spans lib e = flat_map (λ r. spans_of lib r.«module» r.bases) e.residences
-
--- The bases of a module's objects beside what is taken. The private arena is empty for each program.
-unfoldable pub bases_for : Library → List Span → ℕ → Result (List ℕ) NoPlace
-bases_for lib spans m =
-    if is_library lib m then bases_from 1 shared_arena spans (objects_of lib m)
-    else bases_from 1 private_arena [] (objects_of lib m)
+unfoldable pub resident_ranges : Library → Eager → List AddressRange
+resident_ranges lib e = flat_map (λ r. ranges_of lib r.«module» r.bases) e.residences
 
 -- a module that has no place, with its object
 pub record NoRoom : Type 0 where
   pub of : ℕ
-  pub object : NoPlace
+  pub object : ArenaFull
 
 abbrev pub with_fresh : Fresh → Result (List Fresh) NoRoom → Result (List Fresh) NoRoom
 with_fresh fresh (Ok others) = Ok (fresh ∷ others)
 with_fresh fresh (Err e) = Err e
 
 -- the residences of new modules in their order, where the last serial that was given is `serials`
-unfoldable pub placed_from : Library → ℕ → List Span → List ℕ → Result (List Fresh) NoRoom
-placed_from lib serials spans [] = Ok []
-placed_from lib serials spans (m ∷ others) = elim (bases_for lib spans m) [
+unfoldable pub placed_from : Library → ℕ → List AddressRange → List ℕ → Result (List Fresh) NoRoom
+placed_from lib serials occupied [] = Ok []
+placed_from lib serials occupied (m ∷ others) = elim (bases_for lib occupied m) [
   | Err e ↦ Err (record { of = m; object = e })
-  | Ok bases ↦ with_fresh (record { serial = suc serials; «module» = m; bases = bases }) (placed_from lib (suc serials) (spans_of lib m bases ++ spans) others)
+  | Ok bases ↦ with_fresh (record { serial = suc serials; «module» = m; bases = bases }) (placed_from lib (suc serials) (occupied ++ ranges_of lib m bases) others)
 ]
 
 unfoldable pub placing : Library → Eager → ℕ → ℕ → Result (List Fresh) NoRoom
-placing lib e pid m = placed_from lib e.serials (resident_spans lib e) (newcomers lib e pid m)
+placing lib e pid m = placed_from lib e.serials (resident_ranges lib e) (newcomers lib e pid m)
 
 -- ---- the state after it
 

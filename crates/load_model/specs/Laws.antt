@@ -1,5 +1,5 @@
 -- What the definitions say together, entry by entry.
-use Rattle.std.specs.Prelude.{◌≡◌, ◌<◌, length, ℕ, List, [], ◌∷◌, ◌++◌, map, true, false, not, ◌&&◌, ◌==◌, is_some, Option, Some, None, ◌%◌, nat_lt, count_by, MatchOption}
+use Rattle.std.specs.Prelude.{◌≡◌, ◌<◌, length, ℕ, List, [], ◌∷◌, ◌++◌, map, true, false, not, ◌&&◌, ◌==◌, is_some, Option, Some, None, nat_lt, count_by}
 use Rattle.lx_types.specs.declared.object.PageId.{PageId}
 use Rattle.load_model.specs.declared.deeds.Gone.{Gone}
 use Rattle.load_model.specs.declared.deeds.Deed.{Deed}
@@ -7,14 +7,15 @@ use Rattle.load_model.specs.declared.deeds.Deed.TheVariants as deeds
 use Rattle.load_model.specs.declared.deeds.Entry.{Entry}
 use Rattle.load_model.specs.declared.commands.Command.{Command}
 use Rattle.load_model.specs.declared.commands.Command.TheVariants as commands
+use Rattle.lx_types.specs.Object.{class_of}
+use Rattle.lx_types.specs.declared.object.Class.TheVariants as classes
 use Rattle.lx_types.specs.Sound.{IsNumberOf}
 use Rattle.load_model.specs.Modules.{Library, Held, order_of, objects_of, object_at}
-use Rattle.lx_types.specs.Addresses.{UNIT}
-use Rattle.load_model.specs.Places.{Arena, Span, is_free, least_free, IsLeastFree}
-use Rattle.load_model.specs.Memory.{bases_seen}
-use Rattle.load_model.specs.State.{Eager, Residence, pids, is_among, reaches, is_reached, residence_of}
+use Rattle.load_model.specs.Memory.{bases_seen, Byte}
+use Rattle.load_model.specs.State.{PageOf, Eager, Residence, pids, is_among, reaches, is_reached, residence_of, attached_residence}
 use Rattle.load_model.specs.Refusals.{refusal_of}
 use Rattle.load_model.specs.Step.{answer_of}
+use Rattle.load_model.specs.Accepted.{retouched}
 use Rattle.load_model.specs.Asks.{Ask, ask_in}
 use Rattle.load_model.specs.Histories.{after_entry, state_after, is_fault_of, has_fault, Follows, Legal}
 
@@ -122,18 +123,28 @@ IsSteady (commands.Shared place) = ⊥
 IsSteady (commands.Write place bytes) = ⊥
 IsSteady commands.Exit = ⊥
 
--- An entry of another process changes no refusal of a process, and no answer of a touch, a peek or a query.
+-- An entry of another process changes no refusal of a process, and no answer of a touch, a peek or a query,
+-- whatever was touched so far.
 abbrev pub OthersRefuseAlike : Type 0
 OthersRefuseAlike =
-    (lib : Library) (contents : Held) (h : List Entry) (entry : Entry) (pid : ℕ) (command : Command) → Legal lib contents h → Follows lib contents h entry →
-    is_among pids pid ≡ true → (pid == entry.pid) ≡ false →
-    refusal_of lib (after_entry lib (state_after lib h) entry) pid command ≡ refusal_of lib (state_after lib h) pid command
+    (lib : Library) (contents : Held) (h : List Entry) (entry : Entry) (touched : ℕ → List PageOf) (pid : ℕ) (command : Command) → Legal lib contents h →
+    Follows lib contents h entry → is_among pids pid ≡ true → (pid == entry.pid) ≡ false →
+    refusal_of lib (retouched touched (after_entry lib (state_after lib h) entry)) pid command ≡ refusal_of lib (retouched touched (state_after lib h)) pid command
 
 abbrev pub OthersAnswerAlike : Type 0
 OthersAnswerAlike =
-    (lib : Library) (contents : Held) (h : List Entry) (entry : Entry) (pid : ℕ) (command : Command) → Legal lib contents h → Follows lib contents h entry →
-    is_among pids pid ≡ true → (pid == entry.pid) ≡ false → IsSteady command →
-    answer_of lib contents (after_entry lib (state_after lib h) entry) pid command ≡ answer_of lib contents (state_after lib h) pid command
+    (lib : Library) (contents : Held) (h : List Entry) (entry : Entry) (touched : ℕ → List PageOf) (pid : ℕ) (command : Command) → Legal lib contents h →
+    Follows lib contents h entry → is_among pids pid ≡ true → (pid == entry.pid) ≡ false → IsSteady command →
+    answer_of lib contents (retouched touched (after_entry lib (state_after lib h) entry)) pid command ≡
+    answer_of lib contents (retouched touched (state_after lib h)) pid command
+
+-- Nor does it change a byte of code, or of the process's own data, in a residence that the process reaches.
+abbrev pub OthersBytesAlike : Type 0
+OthersBytesAlike =
+    (lib : Library) (contents : Held) (h : List Entry) (entry : Entry) (pid m object x : ℕ) (before after : Residence) → Legal lib contents h →
+    Follows lib contents h entry → is_among pids pid ≡ true → (pid == entry.pid) ≡ false → (class_of (object_at lib m object) ≡ classes.Shared → ⊥) →
+    attached_residence lib (state_after lib h) pid m ≡ Some before → attached_residence lib (after_entry lib (state_after lib h) entry) pid m ≡ Some after →
+    Byte lib contents (after_entry lib (state_after lib h) entry) pid after object x ≡ Byte lib contents (state_after lib h) pid before object x
 
 -- ---- what objects hold
 
@@ -156,13 +167,7 @@ HeldHistoriesAlike =
     (lib : Library) (a b : Held) (h : List Entry) → ((before behind : List Entry) → h ≡ before ++ behind → AgreeAt lib a b (state_after lib before)) →
     Legal lib a h → Legal lib b h
 
--- ---- places and counts
-
--- The place that is found is the least free one, and none is found exactly where no place is free.
-abbrev pub LeastIsFound : Type 0
-LeastIsFound =
-    (arena : Arena) (spans : List Span) (size : ℕ) → arena.from % UNIT ≡ 0 →
-    MatchOption (least_free arena spans size) ((other : ℕ) → is_free arena spans size other ≡ false) (IsLeastFree arena spans size)
+-- ---- counts
 
 -- How many processes reach a module says whether it is resident.
 abbrev pub CountsAreResidence : Type 0

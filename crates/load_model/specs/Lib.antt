@@ -1,5 +1,4 @@
 pub mod Modules
-pub mod Places
 pub mod State
 pub mod Entering
 pub mod Leaving
@@ -15,3 +14,7 @@ pub mod Samples
 pub mod WorkedLoads
 pub mod WorkedBytes
 pub mod WorkedRefusals
+pub mod Alike
+pub mod ResidenceBases
+pub mod Fitness
+pub mod Touched

@@ -11,6 +11,9 @@ use Rattle.lx_types.specs.declared.object.TheConstants.{PAGE_SIZE}
 use Rattle.lx_types.specs.declared.entry.EntryKey.{EntryKey}
 use Rattle.lx_types.specs.declared.entry.EntryKey.TheVariants.{Ordinal, Named}
 use Rattle.lx_types.specs.declared.bases.Bases.{Bases}
+use Rattle.base_pick.specs.declared.occupied.AddressRange.{AddressRange}
+use Rattle.base_pick.specs.declared.picking.ArenaFull.{ArenaFull}
+use Rattle.base_pick.specs.Places.{places_of}
 use Rattle.lx_types.specs.Addresses.{address}
 use Rattle.lx_types.specs.Parts.{is_library_of, object_of, page_at}
 pub use Rattle.lx_model.specs.declared.library.Spot.{Spot}
@@ -97,6 +100,10 @@ objects_of lib m = (module_of lib m).objects
 
 unfoldable pub object_at : Library → ℕ → ℕ → ObjHead
 object_at lib m object = object_of (module_of lib m) object
+
+-- the bases of a module's objects beside what is occupied in the shared arena
+unfoldable pub bases_for : Library → List AddressRange → ℕ → Result (List ℕ) ArenaFull
+bases_for lib occupied m = places_of occupied (module_of lib m)
 
 abbrev pub is_invalid_kind : PageKind → Bool
 is_invalid_kind Invalid = true

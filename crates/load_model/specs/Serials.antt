@@ -1,8 +1,9 @@
 -- Serial numbers: each residence has its own, of those that were given.
-use Rattle.std.specs.Prelude.{ℕ, ◌≤◌, ◌<◌, List, [], ◌∷◌, map}
+use Rattle.std.specs.Prelude.{◌≡◌, ℕ, ◌≤◌, ◌<◌, true, List, [], ◌∷◌, map}
+use Rattle.lx_types.specs.declared.object.PageId.{PageId}
 use Rattle.load_model.specs.declared.deeds.Entry.{Entry}
 use Rattle.load_model.specs.Modules.{Library, Held}
-use Rattle.load_model.specs.Histories.{state_after, Legal}
+use Rattle.load_model.specs.Histories.{state_after, has_fault, Legal}
 
 -- numbers that rise, from behind one up to another
 abbrev pub Rise : ℕ → List ℕ → ℕ → Type 0
@@ -14,3 +15,8 @@ abbrev pub SerialsRise : Type 0
 SerialsRise =
     (lib : Library) (contents : Held) (h : List Entry) → Legal lib contents h →
     Rise 0 (map (λ r. r.serial) (state_after lib h).residences) (state_after lib h).serials
+
+-- A fault names a serial number that was given, so no page of a residence to come has had one.
+abbrev pub FaultsAreGiven : Type 0
+FaultsAreGiven =
+    (lib : Library) (contents : Held) (h : List Entry) (serial : ℕ) (p : PageId) → Legal lib contents h → has_fault h serial p ≡ true → serial ≤ (state_after lib h).serials

@@ -1,9 +1,13 @@
 //! What the definitions say together. Each law is the contract of a function that does nothing, which a
 //! crate above calls where it needs the law.
 
-ghost use Rattle.load_model.specs.Laws.{AsksDecide, PrefixIsLegal, EachFollows, OneMoreIsLegal, NothingIsLegal, OneMoreIsAfter, FaultOnce, ReachedIsResident, AttachedIsReached, GoneIsUnreached, ResidenceStays, ReachStays, OthersRefuseAlike, OthersAnswerAlike, HeldAnswersAlike, HeldHistoriesAlike, LeastIsFound, CountsAreResidence};
+ghost use Rattle.load_model.specs.Laws.{AsksDecide, PrefixIsLegal, EachFollows, OneMoreIsLegal, NothingIsLegal, OneMoreIsAfter, FaultOnce, ReachedIsResident, AttachedIsReached, GoneIsUnreached, ResidenceStays, ReachStays, OthersRefuseAlike, OthersAnswerAlike, OthersBytesAlike, HeldAnswersAlike, HeldHistoriesAlike, CountsAreResidence};
 ghost use Rattle.load_model.specs.Accepted.{AcceptedMayAsk, TouchedIsApart};
-ghost use Rattle.load_model.specs.Serials.{SerialsRise};
+ghost use Rattle.load_model.specs.Serials.{SerialsRise, FaultsAreGiven};
+ghost use Rattle.load_model.specs.Fitness.{ReachedIsFit};
+ghost use Rattle.load_model.specs.ResidenceBases.{BasesStand};
+ghost use Rattle.load_model.specs.Touched.{AnsweredByPages, EntriesMoveTouched};
+ghost use Rattle.load_model.specs.Alike.{OthersLeaveAlike, BasesAreAlike};
 
 /// Two legal histories whose entries ask the same are the same: nothing else in them was free.
 pub fn asks_decide()
@@ -46,11 +50,12 @@ pub fn residences_stay()
     lx_model::order_is_reach();
 }
 
-/// An entry of another process changes no refusal of a process, and no answer of a touch, a peek or a
-/// query.
+/// An entry of another process changes no refusal of a process, no answer of a touch, a peek or a query,
+/// whatever was touched, and no byte of code or of the process's own data.
 pub fn others_change_nothing()
     ensures refusals { OthersRefuseAlike }
     ensures answers { OthersAnswerAlike }
+    ensures bytes { OthersBytesAlike }
 {
     lx_model::order_is_reach();
 }
@@ -60,11 +65,6 @@ pub fn others_change_nothing()
 pub fn agreement_is_enough()
     ensures answers { HeldAnswersAlike }
     ensures histories { HeldHistoriesAlike }
-{}
-
-/// An object that does not get its linked base gets the least free place, where there is one.
-pub fn least_place_is_found()
-    ensures { LeastIsFound }
 {}
 
 /// Residences stand by rising serial numbers, so each has its own.
@@ -77,4 +77,38 @@ pub fn serials_rise()
 pub fn commands_are_asked()
     ensures accepted { AcceptedMayAsk }
     ensures touched { TouchedIsApart }
+{}
+
+/// An entry of another process leaves a process as it was, and the residences that it reaches, but for shared
+/// writes; so it sees the same bases behind them.
+pub fn others_leave_alike()
+    ensures alike { OthersLeaveAlike }
+    ensures bases { BasesAreAlike }
+{
+    lx_model::order_is_reach();
+}
+
+/// A fault names a serial number that was given: no page of a residence to come has one.
+pub fn faults_are_given()
+    ensures { FaultsAreGiven }
+{}
+
+/// Each residence has a base for each object of its module: a multiple of 65,536 from which on the object lies
+/// within the module's arena.
+pub fn residences_stand()
+    ensures { BasesStand }
+{}
+
+/// What a process reaches is a module of the library, and fit.
+pub fn reached_is_fit()
+    ensures { ReachedIsFit }
+{
+    lx_model::order_is_reach();
+}
+
+/// Of what was touched it counts for a process which pages it touched itself; and an entry changes all else in
+/// one way, whatever was touched.
+pub fn touched_pages_decide()
+    ensures answers { AnsweredByPages }
+    ensures entries { EntriesMoveTouched }
 {}

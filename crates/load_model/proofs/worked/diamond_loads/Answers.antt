@@ -1,8 +1,8 @@
 use Rattle.std.proofs.Common.{refl}
-use Rattle.load_model.specs.Modules.{Order, visit, HealthOf, Entry, followed, number_of, is_library, start_of, inits_each, terms_each, order_of, unfit, entry_spot, objects_of, object_at, is_invalid}
-use Rattle.load_model.specs.Places.{is_free, least_free, place_for, bases_from}
+use Rattle.load_model.specs.Modules.{bases_for, Order, visit, HealthOf, Entry, followed, number_of, is_library, start_of, inits_each, terms_each, order_of, unfit, entry_spot, objects_of, object_at, is_invalid}
+use Rattle.base_pick.specs.Places.{places_from}
 use Rattle.load_model.specs.State.{with_process, reaches, is_reached, residence_of, attached_residence}
-use Rattle.load_model.specs.Entering.{joined, newcomers, resident_spans, bases_for, placed_from, placing, after_entering, entering_calls, enter_deed}
+use Rattle.load_model.specs.Entering.{joined, newcomers, resident_ranges, placed_from, placing, after_entering, entering_calls, enter_deed}
 use Rattle.load_model.specs.Leaving.{left, gone_modules, gone, leaving_calls, keeping, after_leaving}
 use Rattle.load_model.specs.Memory.{bases_seen, writes_seen, Byte, Bytes}
 use Rattle.load_model.specs.Refusals.{module_refusal, enter_refusal, span_refusal, residence_named, place_refusal, query_refusal, refusal_of}
@@ -11,5 +11,5 @@ use Rattle.load_model.specs.Step.{address_of, fine_answer, answer_of, after_stea
 use Rattle.load_model.proofs.worked.diamond_loads.Goals as goal
 
 pub returns : goal.returns
-unfolding number_of is_library start_of inits_each terms_each order_of unfit entry_spot objects_of object_at is_invalid Order visit HealthOf Entry followed is_free least_free place_for bases_from with_process reaches is_reached residence_of attached_residence joined newcomers resident_spans bases_for placed_from placing after_entering entering_calls enter_deed left gone_modules gone leaving_calls keeping after_leaving bases_seen writes_seen Byte Bytes module_refusal enter_refusal span_refusal residence_named place_refusal query_refusal refusal_of deed_of after_deed address_of fine_answer answer_of after_steady Step
+unfolding number_of is_library start_of inits_each terms_each order_of unfit entry_spot objects_of object_at is_invalid Order visit HealthOf Entry followed places_from with_process reaches is_reached residence_of attached_residence joined newcomers resident_ranges bases_for placed_from placing after_entering entering_calls enter_deed left gone_modules gone leaving_calls keeping after_leaving bases_seen writes_seen Byte Bytes module_refusal enter_refusal span_refusal residence_named place_refusal query_refusal refusal_of deed_of after_deed address_of fine_answer answer_of after_steady Step
 returns c = record { first = refl; second = refl; one_left = refl; none_left = refl; freed = refl; again = refl }

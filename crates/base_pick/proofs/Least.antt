@@ -4,9 +4,17 @@ use Rattle.std.specs.Prelude.{MatchOption, nat_le}
 use Rattle.std.specs.List.{range_with_len}
 use Rattle.std.proofs.lemmas.Bool.{eqb-true, eqb-false, leb-true}
 use Rattle.lx_types.specs.Addresses.{UNIT, room}
-use Rattle.load_model.specs.Places.{Arena, Span, is_free, least_free, multiples, IsLeastFree}
-use Rattle.load_model.specs.Laws.{LeastIsFound}
-use Rattle.load_model.proofs.Bools.{and_left, and_right}
+use Rattle.base_pick.specs.declared.occupied.AddressRange.{AddressRange}
+use Rattle.base_pick.specs.Places.{is_place, bases_in}
+use Rattle.base_pick.specs.LeastPlaces.{IsLeastPlace, LeastIsFound}
+
+and_left : (a b : Bool) → (a && b) ≡ true → a ≡ true
+and_left true b h = refl
+and_left false b h = h
+
+and_right : (a b : Bool) → (a && b) ≡ true → b ≡ true
+and_right true b h = h
+and_right false b h = cc
 
 -- ---- the first number of some that passes
 
@@ -54,68 +62,66 @@ none_is p f (suc n) from e k low high = step (p (f from)) refl (none_is p f n (f
 
 -- ---- a free place is one of the multiples
 
-pub record Multiple (arena : Arena) (place : ℕ) : Type 0 where
+pub record Multiple (arena : AddressRange) (place : ℕ) : Type 0 where
   pub number : ℕ
-  pub below : number < (arena.end - arena.from) / 65536
-  pub is : place ≡ arena.from + 65536 * number
+  pub below : number < (arena.to - arena.from) / 65536
+  pub is : place ≡ arena.from + number * 65536
 
 room_is : (size : ℕ) → 65536 ≤ room size
 room_is size = omega arith
 
-apart_by : (from place : ℕ) → from % 65536 ≡ 0 → place % 65536 ≡ 0 → from ≤ place → place ≡ from + 65536 * ((place - from) / 65536)
+apart_by : (from place : ℕ) → from % 65536 ≡ 0 → place % 65536 ≡ 0 → from ≤ place → place ≡ from + ((place - from) / 65536) * 65536
 apart_by from place even is low = omega arith
 
 number_below : (from end place : ℕ) → from ≤ place → place + 65536 ≤ end → (place - from) / 65536 < (end - from) / 65536
 number_below from end place low high = omega arith
 
-free_is : (arena : Arena) (spans : List Span) (size place : ℕ) → arena.from % 65536 ≡ 0 → is_free arena spans size place ≡ true → Multiple arena place
-unfolding is_free
+free_is : (arena : AddressRange) (spans : List AddressRange) (size place : ℕ) → arena.from % 65536 ≡ 0 → is_place arena spans size place ≡ true → Multiple arena place
 free_is arena spans size place even free =
-    let rest : (((place % UNIT == 0) && nat_le arena.from place) && nat_le (place + room size) arena.end) ≡ true = and_left _ _ free in
+    let rest : (((place % UNIT == 0) && nat_le arena.from place) && nat_le (place + room size) arena.to) ≡ true = and_left _ _ free in
     let low : arena.from ≤ place = leb-true _ _ (and_right (place % UNIT == 0) _ (and_left _ _ rest)) in
-    let fits : place + room size ≤ arena.end = leb-true _ _ (and_right _ _ rest) in
+    let fits : place + room size ≤ arena.to = leb-true _ _ (and_right _ _ rest) in
     let is : place % 65536 ≡ 0 = eqb-true _ _ (and_left (place % UNIT == 0) _ (and_left _ _ rest)) in
     let more : 65536 ≤ room size = room_is size in
-    let high : place + 65536 ≤ arena.end = above place (room size) arena.end more fits in
+    let high : place + 65536 ≤ arena.to = above place (room size) arena.to more fits in
     record {
       number = (place - arena.from) / 65536;
-      below = number_below arena.from arena.end place low high;
+      below = number_below arena.from arena.to place low high;
       is = apart_by arena.from place even is low;
     }
   where
     above : (a b c : ℕ) → 65536 ≤ b → a + b ≤ c → a + 65536 ≤ c
     above a b c h k = omega arith
 
-rises : (from k l : ℕ) → k ≤ l → from + UNIT * k ≤ from + UNIT * l
+rises : (from k l : ℕ) → k ≤ l → from + k * UNIT ≤ from + l * UNIT
 rises from k l h = omega arith
 
-found_is : (arena : Arena) (spans : List Span) (size : ℕ) → arena.from % UNIT ≡ 0 → (r : Option ℕ) → find (is_free arena spans size) (multiples arena) ≡ r →
-    MatchOption r ((other : ℕ) → is_free arena spans size other ≡ false) (IsLeastFree arena spans size)
-found_is arena spans size even None is = λ other. step other (is_free arena spans size other) refl
+found_is : (arena : AddressRange) (spans : List AddressRange) (size : ℕ) → arena.from % UNIT ≡ 0 → (r : Option ℕ) → find (is_place arena spans size) (bases_in arena) ≡ r →
+    MatchOption r ((other : ℕ) → is_place arena spans size other ≡ false) (IsLeastPlace arena spans size)
+found_is arena spans size even None is = λ other. step other (is_place arena spans size other) refl
   where
-    step : (other : ℕ) (b : Bool) → is_free arena spans size other ≡ b → is_free arena spans size other ≡ false
+    step : (other : ℕ) (b : Bool) → is_place arena spans size other ≡ b → is_place arena spans size other ≡ false
     step other false h = h
     step other true h =
         let it : Multiple arena other = free_is arena spans size other even h in
-        ap (is_free arena spans size) it.is
-        ∙ none_is (is_free arena spans size) (λ k. arena.from + UNIT * k) ((arena.end - arena.from) / UNIT) 0 is it.number (omega arith) (below_all it.number _ it.below)
+        ap (is_place arena spans size) it.is
+        ∙ none_is (is_place arena spans size) (λ k. arena.from + k * UNIT) ((arena.to - arena.from) / UNIT) 0 is it.number (omega arith) (below_all it.number _ it.below)
       where
         below_all : (k n : ℕ) → k < n → k < 0 + n
         below_all k n h = omega arith
 found_is arena spans size even (Some base) is =
-    let r : Least (is_free arena spans size) (λ k. arena.from + UNIT * k) 0 ((arena.end - arena.from) / UNIT) base =
-    first_is (is_free arena spans size) (λ k. arena.from + UNIT * k) (rises arena.from) ((arena.end - arena.from) / UNIT) 0 base is
+    let r : Least (is_place arena spans size) (λ k. arena.from + k * UNIT) 0 ((arena.to - arena.from) / UNIT) base =
+    first_is (is_place arena spans size) (λ k. arena.from + k * UNIT) (rises arena.from) ((arena.to - arena.from) / UNIT) 0 base is
     in
     record {
       free = r.passes;
       least = λ other free.
           (let it : Multiple arena other = free_is arena spans size other even free in
-          subst (λ x. base ≤ x) (sym it.is) (r.least it.number (omega arith) (below_all it.number _ it.below) (ap (is_free arena spans size) (sym it.is) ∙ free)));
+          subst (λ x. base ≤ x) (sym it.is) (r.least it.number (omega arith) (below_all it.number _ it.below) (ap (is_place arena spans size) (sym it.is) ∙ free)));
     }
   where
     below_all : (k n : ℕ) → k < n → k < 0 + n
     below_all k n h = omega arith
 
 pub least_is_found : LeastIsFound
-unfolding least_free
-least_is_found arena spans size even = found_is arena spans size even (least_free arena spans size) refl
+least_is_found arena spans size even = found_is arena spans size even (find (is_place arena spans size) (bases_in arena)) refl

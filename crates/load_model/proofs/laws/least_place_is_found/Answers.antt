@@ -1,5 +1,0 @@
-use Rattle.load_model.proofs.Least.{least_is_found}
-use Rattle.load_model.proofs.laws.least_place_is_found.Goals as goal
-
-pub returns : goal.returns
-returns c = least_is_found

@@ -1,0 +1,25 @@
+-- What an entry of another process leaves to a process.
+use Rattle.std.specs.Prelude.{◌≡◌, ℕ, ◌==◌, List, true, false}
+use Rattle.load_model.specs.declared.deeds.Entry.{Entry}
+use Rattle.load_model.specs.Modules.{Library, Held}
+use Rattle.load_model.specs.State.{Eager, pids, is_among, reaches, residence_of}
+use Rattle.load_model.specs.Memory.{bases_seen}
+use Rattle.load_model.specs.Histories.{after_entry, state_after, Follows, Legal}
+use Rattle.load_model.specs.Laws.{stay_of}
+
+-- Two states that a process cannot tell apart: it is the same, and so are the residences that it reaches, but
+-- for the writes that are shared.
+pub record Alike (lib : Library) (e after : Eager) (q : ℕ) : Type 0 where
+  pub process : after.processes q ≡ e.processes q
+  pub stays : (m : ℕ) → reaches lib (e.processes q) m ≡ true → stay_of (residence_of after m) ≡ stay_of (residence_of e m)
+
+-- An entry of another process leaves such a state.
+abbrev pub OthersLeaveAlike : Type 0
+OthersLeaveAlike =
+    (lib : Library) (contents : Held) (h : List Entry) (entry : Entry) (pid : ℕ) → Legal lib contents h → Follows lib contents h entry → is_among pids pid ≡ true →
+    (pid == entry.pid) ≡ false → Alike lib (state_after lib h) (after_entry lib (state_after lib h) entry) pid
+
+-- In such states it sees the same bases behind what it reaches.
+abbrev pub BasesAreAlike : Type 0
+BasesAreAlike =
+    (lib : Library) (e after : Eager) (pid m : ℕ) → Alike lib e after pid → reaches lib (e.processes pid) m ≡ true → bases_seen lib after m ≡ bases_seen lib e m
