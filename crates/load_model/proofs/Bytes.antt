@@ -12,7 +12,7 @@ use Rattle.load_model.specs.declared.commands.Place.{Place}
 use Rattle.load_model.specs.declared.commands.Refusal.{Refusal}
 use Rattle.load_model.specs.declared.commands.Refusal.TheVariants.{Ended}
 use Rattle.load_model.specs.Modules.{Library, Held, number_of, order_of, object_at}
-use Rattle.load_model.specs.State.{Residence, Process, Eager, Written, is_among, reaches, residence_of, attached_residence, bases_of}
+use Rattle.load_model.specs.State.{Failing, Residence, Process, Eager, Written, is_among, reaches, residence_of, attached_residence, bases_of}
 use Rattle.load_model.specs.Memory.{writes_of_class, writes_seen, bases_seen, last_put, Byte, Bytes}
 use Rattle.load_model.specs.Refusals.{peek, ◌orelse◌, when, class_refusal, span_refusal, residence_refusal, residence_if, residence_named, place_refusal}
 use Rattle.load_model.specs.Step.{bytes_of}
@@ -169,10 +169,10 @@ own_class classes.Private apart = refl
 own_class classes.Shared apart = absurd (apart refl)
 
 pub others_bytes_alike : OrdersNest → OthersBytesAlike
-others_bytes_alike nest lib contents h entry pid m object x a b legal follows there other own is after =
-    let alike : Alike lib (state_after lib h) (after_entry lib (state_after lib h) entry) pid = others_leave_alike lib contents h entry pid legal follows there other in
-    let same : stay_of (Some b) ≡ stay_of (Some a) = ap stay_of (sym after) ∙ attached_stays lib (state_after lib h) _ pid m alike ∙ ap stay_of is in
-    let it : (reaches lib ((state_after lib h).processes pid) m ≡ true) × (a.«module» ≡ m) = attached_is lib (state_after lib h) pid m a is in
-    ap (λ r. Byte lib contents (after_entry lib (state_after lib h) entry) pid r object x) (same_stay a b same)
-    ∙ byte_alike nest lib contents (state_after lib h) _ pid a b.writes object x alike (ap (reaches lib ((state_after lib h).processes pid)) it.1 ∙ it.0)
+others_bytes_alike nest lib failing contents h entry pid m object x a b legal follows there other own is after =
+    let alike : Alike lib (state_after lib failing h) (after_entry lib (state_after lib failing h) entry) pid = others_leave_alike lib failing contents h entry pid legal follows there other in
+    let same : stay_of (Some b) ≡ stay_of (Some a) = ap stay_of (sym after) ∙ attached_stays lib (state_after lib failing h) _ pid m alike ∙ ap stay_of is in
+    let it : (reaches lib ((state_after lib failing h).processes pid) m ≡ true) × (a.«module» ≡ m) = attached_is lib (state_after lib failing h) pid m a is in
+    ap (λ r. Byte lib contents (after_entry lib (state_after lib failing h) entry) pid r object x) (same_stay a b same)
+    ∙ byte_alike nest lib contents (state_after lib failing h) _ pid a b.writes object x alike (ap (reaches lib ((state_after lib failing h).processes pid)) it.1 ∙ it.0)
     (ap (λ k. class_refusal peek (class_of (object_at lib k object))) it.1 ∙ own_class (class_of (object_at lib m object)) own)

@@ -16,8 +16,9 @@ use Rattle.load_model.specs.declared.deeds.Deed.{Deed}
 use Rattle.load_model.specs.declared.deeds.Deed.TheVariants as deeds
 use Rattle.load_model.specs.declared.deeds.Entry.{Entry}
 use Rattle.load_model.specs.Modules.{Library, Held, is_library, objects_of, bases_for, object_at}
-use Rattle.load_model.specs.State.{Written, Residence, Eager, with_process}
-use Rattle.load_model.specs.Entering.{NoRoom, ranges_of, with_fresh, placed_from, placing, resident_ranges, newcomers, residence_from, after_entering, enter_deed, entering_calls}
+use Rattle.load_model.specs.State.{Failing, Written, Residence, Eager, with_process}
+use Rattle.load_model.specs.Entering.{NoRoom, ranges_of, with_fresh, placed_from, placing, resident_ranges, newcomers, residence_from, after_entering}
+use Rattle.load_model.specs.Initialising.{enter_deed}
 use Rattle.load_model.specs.Leaving.{after_leaving}
 use Rattle.load_model.specs.Memory.{with_write}
 use Rattle.load_model.specs.Asks.{ask_in, after_write, after_deed, deed_of}
@@ -141,25 +142,28 @@ deed_stands : (lib : Library) (contents : Held) (e : Eager) (pid : ℕ) (d : Dee
 unfolding after_deed after_entering after_leaving with_process deed_of enter_deed placing
 deed_stands lib contents e pid (deeds.Enter how m fresh calls) is h =
     stand_append lib e.residences fresh h
-    (fresh_stand lib (newcomers lib e pid m) e.serials (resident_ranges lib e) fresh (enter_step how m (λ xs. entering_calls lib e pid how m xs) (placing lib e pid m) fresh calls is))
+    (fresh_stand lib (newcomers lib e pid m) e.serials (resident_ranges lib e) fresh (enter_step lib e pid how m (placing lib e pid m) fresh calls is))
 deed_stands lib contents e pid (deeds.Full how m of object size) is h = h
+deed_stands lib contents e pid (deeds.Failed how m by fresh calls gone) is h = h
 deed_stands lib contents e pid (deeds.Free m calls gone) is h = stand_filter lib _ e.residences h
 deed_stands lib contents e pid (deeds.Exit calls gone) is h = stand_filter lib _ e.residences h
 deed_stands lib contents e pid (deeds.Fault serial m p) is h = h
 deed_stands lib contents e pid (deeds.Write serial m object offset bytes) is h = after_write_stands lib e pid serial _ (class_of (object_at lib m object)) h
+deed_stands lib contents e pid (deeds.Debug serial m object offset bytes) is h =
+    after_write_stands lib e pid serial (record { object = object; offset = offset; bytes = bytes }) classes.Private h
 deed_stands lib contents e pid (deeds.Shared serial m object offset bytes) is h = h
 
 -- ---- all of them
 
-all_stand : (lib : Library) (contents : Held) (h before : List Entry) → AllFollow lib contents before h → AllStand lib (state_after lib before).residences → AllStand lib (state_after lib (before ++ h)).residences
-all_stand lib contents [] before all stand = (let S : List Entry → Type 0 = λ b. AllStand lib (state_after lib b).residences in subst S (sym (append-nil before)) stand)
-all_stand lib contents (x ∷ h) before all stand =
-    let S : List Entry → Type 0 = λ b. AllStand lib (state_after lib b).residences in
+all_stand : (lib : Library) (failing : Failing) (contents : Held) (h before : List Entry) → AllFollow lib failing contents before h → AllStand lib (state_after lib failing before).residences → AllStand lib (state_after lib failing (before ++ h)).residences
+all_stand lib failing contents [] before all stand = (let S : List Entry → Type 0 = λ b. AllStand lib (state_after lib failing b).residences in subst S (sym (append-nil before)) stand)
+all_stand lib failing contents (x ∷ h) before all stand =
+    let S : List Entry → Type 0 = λ b. AllStand lib (state_after lib failing b).residences in
     let After : Eager → Type 0 = λ e. AllStand lib e.residences in
     subst S (append_assoc before (x ∷ []) h)
-    (all_stand lib contents h (before ++ x ∷ []) all.1
-    (subst After (sym (one_more_is_after lib before x)) (deed_stands lib contents (state_after lib before) x.pid x.deed all.0.done stand)))
+    (all_stand lib failing contents h (before ++ x ∷ []) all.1
+    (subst After (sym (one_more_is_after lib failing before x)) (deed_stands lib contents (state_after lib failing before) x.pid x.deed all.0.done stand)))
 
 pub bases_stand : BasesStand
 unfolding Legal state_after
-bases_stand lib contents h legal = all_stand lib contents h [] legal tt
+bases_stand lib failing contents h legal = all_stand lib failing contents h [] legal tt

@@ -6,7 +6,7 @@ use Rattle.base_pick.specs.declared.occupied.AddressRange.{AddressRange}
 use Rattle.base_pick.specs.Places.{is_in_arena, private_arena, shared_arena}
 use Rattle.load_model.specs.declared.deeds.Entry.{Entry}
 use Rattle.load_model.specs.Modules.{Library, Held, is_library, objects_of}
-use Rattle.load_model.specs.State.{Residence}
+use Rattle.load_model.specs.State.{Failing, Residence}
 use Rattle.load_model.specs.Histories.{state_after, Legal}
 
 -- Objects have bases, one each: multiples of 65,536 from which on they lie within an arena.
@@ -25,4 +25,4 @@ Stands lib m bases = StandIn (arena_of lib m) (objects_of lib m) bases
 -- So stands each residence, in every legal history.
 abbrev pub BasesStand : Type 0
 BasesStand =
-    (lib : Library) (contents : Held) (h : List Entry) → Legal lib contents h → AllByRecursion (λ (r : Residence). Stands lib r.«module» r.bases) (state_after lib h).residences
+    (lib : Library) (failing : Failing) (contents : Held) (h : List Entry) → Legal lib failing contents h → AllByRecursion (λ (r : Residence). Stands lib r.«module» r.bases) (state_after lib failing h).residences

@@ -3,6 +3,7 @@ use Rattle.std.specs.Prelude.{◌≡◌, ℕ, ◌≤◌, ◌<◌, true, List, []
 use Rattle.lx_types.specs.declared.object.PageId.{PageId}
 use Rattle.load_model.specs.declared.deeds.Entry.{Entry}
 use Rattle.load_model.specs.Modules.{Library, Held}
+use Rattle.load_model.specs.State.{Failing}
 use Rattle.load_model.specs.Histories.{state_after, has_fault, Legal}
 
 -- numbers that rise, from behind one up to another
@@ -13,10 +14,10 @@ Rise low (n ∷ ns) high = (low < n) × Rise n ns high
 -- In every legal history the residences stand by rising serial numbers, from 1 to the last that was given.
 abbrev pub SerialsRise : Type 0
 SerialsRise =
-    (lib : Library) (contents : Held) (h : List Entry) → Legal lib contents h →
-    Rise 0 (map (λ r. r.serial) (state_after lib h).residences) (state_after lib h).serials
+    (lib : Library) (failing : Failing) (contents : Held) (h : List Entry) → Legal lib failing contents h →
+    Rise 0 (map (λ r. r.serial) (state_after lib failing h).residences) (state_after lib failing h).serials
 
 -- A fault names a serial number that was given, so no page of a residence to come has had one.
 abbrev pub FaultsAreGiven : Type 0
 FaultsAreGiven =
-    (lib : Library) (contents : Held) (h : List Entry) (serial : ℕ) (p : PageId) → Legal lib contents h → has_fault h serial p ≡ true → serial ≤ (state_after lib h).serials
+    (lib : Library) (failing : Failing) (contents : Held) (h : List Entry) (serial : ℕ) (p : PageId) → Legal lib failing contents h → has_fault h serial p ≡ true → serial ≤ (state_after lib failing h).serials

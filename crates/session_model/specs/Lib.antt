@@ -7,3 +7,5 @@ pub mod Sessions
 pub mod Laws
 pub mod WorkedSessions
 pub mod WorkedRuns
+pub mod WorkedDeeds
+pub mod WorkedWrong
