@@ -8,7 +8,7 @@ use Rattle.load_model.specs.declared.commands.Refusal.{Refusal}
 use Rattle.load_model.specs.declared.commands.Refusal.TheVariants.{Ended}
 use Rattle.load_model.specs.declared.commands.Reply.TheVariants as replies
 use Rattle.load_model.specs.Modules.{Spot, EntryFault, Library, Held, number_of, entry_spot, address_in}
-use Rattle.load_model.specs.State.{Residence, Eager, reaches, residence_of}
+use Rattle.load_model.specs.State.{Failing, Residence, Eager, reaches, residence_of}
 use Rattle.load_model.specs.Refusals.{when, key_refusal, residence_named, query_refusal, refusal_of}
 use Rattle.load_model.specs.Step.{Answer, steady, fine_answer, answer_of, meant, spot_address, address_of}
 use Rattle.load_model.specs.Histories.{state_after}
@@ -53,11 +53,13 @@ done_alike nest spots lib contents e after q (commands.Touch place) alike is fin
 done_alike nest spots lib contents e after q (commands.Peek place) alike is fine = ap (λ bytes. steady (replies.Bytes bytes)) (peek_alike nest lib contents e after q place alike fine)
 done_alike nest spots lib contents e after q (commands.Query name key) alike is fine =
     ap (λ a. steady (replies.Address a)) (address_alike nest spots lib e after q name key alike fine)
+done_alike nest spots lib contents e after q (commands.GetRes name ty id) alike is fine = refl
 done_alike nest spots lib contents e after q (commands.Start name) alike is fine = absurd is
 done_alike nest spots lib contents e after q (commands.Load name) alike is fine = absurd is
 done_alike nest spots lib contents e after q (commands.Free name) alike is fine = absurd is
 done_alike nest spots lib contents e after q (commands.Shared place) alike is fine = absurd is
 done_alike nest spots lib contents e after q (commands.Write place bytes) alike is fine = absurd is
+done_alike nest spots lib contents e after q (commands.Debug place bytes) alike is fine = absurd is
 done_alike nest spots lib contents e after q commands.Exit alike is fine = absurd is
 
 abbrev pub answer_by : Answer → Option Refusal → Answer
@@ -83,6 +85,6 @@ answer_alike nest spots lib contents e after q command alike is =
     step None h = done_alike nest spots lib contents e after q command alike is h
 
 pub others_answer_alike : OrdersNest → SpotsAreOrdered → OthersAnswerAlike
-others_answer_alike nest spots lib contents h x touched pid command legal follows there apart is =
-    answer_alike nest spots lib contents (retouched touched (state_after lib h)) _ pid command
-    (retouched_alike lib (state_after lib h) _ touched pid (others_leave_alike lib contents h x pid legal follows there apart)) is
+others_answer_alike nest spots lib failing contents h x touched pid command legal follows there apart is =
+    answer_alike nest spots lib contents (retouched touched (state_after lib failing h)) _ pid command
+    (retouched_alike lib (state_after lib failing h) _ touched pid (others_leave_alike lib failing contents h x pid legal follows there apart)) is

@@ -12,7 +12,7 @@ use Rattle.load_model.specs.declared.commands.Place.{Place}
 use Rattle.load_model.specs.declared.commands.Refusal.{Refusal}
 use Rattle.load_model.specs.declared.commands.Refusal.TheVariants.{Ended}
 use Rattle.load_model.specs.Modules.{Library, Held, number_of, order_of, object_at}
-use Rattle.load_model.specs.State.{Residence, Process, Eager, Written, is_among, reaches, residence_of, attached_residence, bases_of}
+use Rattle.load_model.specs.State.{Failing, Residence, Process, Eager, Written, is_among, reaches, residence_of, attached_residence, bases_of}
 use Rattle.load_model.specs.Memory.{writes_of_class, writes_seen, bases_seen, last_put, Byte, Bytes}
 use Rattle.load_model.specs.Refusals.{peek, ◌orelse◌, when, class_refusal, span_refusal, residence_refusal, residence_if, residence_named, place_refusal}
 use Rattle.load_model.specs.Step.{bytes_of}
@@ -24,10 +24,10 @@ use Rattle.load_model.proofs.Apart.{attached_stays, named_stays, others_leave_al
 
 -- ---- residences that differ in shared writes alone
 
-abbrev with_writes : Residence → List Written → Residence
+abbrev pub with_writes : Residence → List Written → Residence
 with_writes r ws = record r { writes = ws }
 
-same_stay : (a b : Residence) → stay_of (Some b) ≡ stay_of (Some a) → b ≡ with_writes a b.writes
+pub same_stay : (a b : Residence) → stay_of (Some b) ≡ stay_of (Some a) → b ≡ with_writes a b.writes
 same_stay a b e =
     let plain : with_writes b [] ≡ with_writes a [] = cc in
     ap (λ r. with_writes r b.writes) plain
@@ -35,12 +35,12 @@ same_stay a b e =
 none_stay : (b : Residence) → stay_of (Some b) ≡ stay_of None → ⊥
 none_stay b e = cc
 
-some_stay : (a : Residence) → stay_of None ≡ stay_of (Some a) → ⊥
+pub some_stay : (a : Residence) → stay_of None ≡ stay_of (Some a) → ⊥
 some_stay a e = cc
 
 -- ---- what a residence that is named is
 
-find_is : (m : ℕ) (rs : List Residence) (a : Residence) → find (λ r. r.«module» == m) rs ≡ Some a → a.«module» ≡ m
+pub find_is : (m : ℕ) (rs : List Residence) (a : Residence) → find (λ r. r.«module» == m) rs ≡ Some a → a.«module» ≡ m
 find_is m [] a e = cc
 find_is m (r ∷ rs) a e = step (r.«module» == m) refl (find_is m rs a) e
   where
@@ -80,7 +80,7 @@ map_member f g (x ∷ xs) h =
     same : (n : ℕ) → (n == n) ≡ true
     same n = eq-eqb n n refl
 
-bases_by_stay : (r : Option Residence) → bases_of r ≡ bases_of (stay_of r)
+pub bases_by_stay : (r : Option Residence) → bases_of r ≡ bases_of (stay_of r)
 bases_by_stay None = refl
 bases_by_stay (Some r) = refl
 
@@ -115,7 +115,7 @@ right_none None b h = h
 right_none (Some r) b h = cc
 
 -- a place that may be peeked at is of code or of own data
-peeked_class : (lib : Library) (p : Process) (place : Place) (a : Residence) → residence_refusal lib p peek place (Some a) ≡ None →
+pub peeked_class : (lib : Library) (p : Process) (place : Place) (a : Residence) → residence_refusal lib p peek place (Some a) ≡ None →
     class_refusal peek (class_of (object_at lib a.«module» place.object)) ≡ None
 unfolding span_refusal
 peeked_class lib p place a h = left_none _ _ (right_none _ _ (left_none (span_refusal lib peek a.«module» place.object place.offset place.len) _ h))
@@ -125,7 +125,7 @@ seen_alike : (lib : Library) (p : Process) (a : Residence) (ws : List Written) (
 unfolding writes_seen
 seen_alike lib p a ws object h = ap (filter (λ w. w.object == object)) (not_shared (class_of (object_at lib a.«module» object)) p a ws h)
 
-byte_alike : OrdersNest → (lib : Library) (contents : Held) (e after : Eager) (q : ℕ) (a : Residence) (ws : List Written) (object x : ℕ) → Alike lib e after q →
+pub byte_alike : OrdersNest → (lib : Library) (contents : Held) (e after : Eager) (q : ℕ) (a : Residence) (ws : List Written) (object x : ℕ) → Alike lib e after q →
     reaches lib (e.processes q) a.«module» ≡ true → class_refusal peek (class_of (object_at lib a.«module» object)) ≡ None →
     Byte lib contents after q (with_writes a ws) object x ≡ Byte lib contents e q a object x
 unfolding Byte
@@ -169,10 +169,10 @@ own_class classes.Private apart = refl
 own_class classes.Shared apart = absurd (apart refl)
 
 pub others_bytes_alike : OrdersNest → OthersBytesAlike
-others_bytes_alike nest lib contents h entry pid m object x a b legal follows there other own is after =
-    let alike : Alike lib (state_after lib h) (after_entry lib (state_after lib h) entry) pid = others_leave_alike lib contents h entry pid legal follows there other in
-    let same : stay_of (Some b) ≡ stay_of (Some a) = ap stay_of (sym after) ∙ attached_stays lib (state_after lib h) _ pid m alike ∙ ap stay_of is in
-    let it : (reaches lib ((state_after lib h).processes pid) m ≡ true) × (a.«module» ≡ m) = attached_is lib (state_after lib h) pid m a is in
-    ap (λ r. Byte lib contents (after_entry lib (state_after lib h) entry) pid r object x) (same_stay a b same)
-    ∙ byte_alike nest lib contents (state_after lib h) _ pid a b.writes object x alike (ap (reaches lib ((state_after lib h).processes pid)) it.1 ∙ it.0)
+others_bytes_alike nest lib failing contents h entry pid m object x a b legal follows there other own is after =
+    let alike : Alike lib (state_after lib failing h) (after_entry lib (state_after lib failing h) entry) pid = others_leave_alike lib failing contents h entry pid legal follows there other in
+    let same : stay_of (Some b) ≡ stay_of (Some a) = ap stay_of (sym after) ∙ attached_stays lib (state_after lib failing h) _ pid m alike ∙ ap stay_of is in
+    let it : (reaches lib ((state_after lib failing h).processes pid) m ≡ true) × (a.«module» ≡ m) = attached_is lib (state_after lib failing h) pid m a is in
+    ap (λ r. Byte lib contents (after_entry lib (state_after lib failing h) entry) pid r object x) (same_stay a b same)
+    ∙ byte_alike nest lib contents (state_after lib failing h) _ pid a b.writes object x alike (ap (reaches lib ((state_after lib failing h).processes pid)) it.1 ∙ it.0)
     (ap (λ k. class_refusal peek (class_of (object_at lib k object))) it.1 ∙ own_class (class_of (object_at lib m object)) own)

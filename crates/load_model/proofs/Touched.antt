@@ -18,8 +18,8 @@ use Rattle.load_model.specs.State.{PageOf, Written, Residence, Process, Eager, w
 use Rattle.load_model.specs.Entering.{joined, holding, attaching, with_fresh_residences, after_entering}
 use Rattle.load_model.specs.Leaving.{freeing, exiting, left, keeping, after_leaving}
 use Rattle.load_model.specs.Memory.{page, pages_over, first_untouched, writing}
-use Rattle.load_model.specs.Refusals.{Purpose, touch, write, share, peek, ◌orelse◌, when, module_refusal, enter_refusal, free_refusal, span_refusal, touch_refusal, residence_refusal, residence_if, residence_named, place_refusal, key_refusal, query_refusal, refusal_of}
-use Rattle.load_model.specs.Asks.{enter, free, exit, put, get, deed_of, after_write, after_deed}
+use Rattle.load_model.specs.Refusals.{Purpose, touch, write, share, peek, debug, ◌orelse◌, when, module_refusal, enter_refusal, free_refusal, span_refusal, touch_refusal, residence_refusal, residence_if, residence_named, place_refusal, key_refusal, query_refusal, found_refusal, resource_refusal, refusal_of}
+use Rattle.load_model.specs.Asks.{enter, free, exit, put, patch, get, deed_of, after_write, after_deed}
 use Rattle.load_model.specs.Step.{entry, steady, meant, spot_address, address_of, bytes_of, serial_named, fine_answer}
 use Rattle.load_model.specs.Accepted.{retouched}
 use Rattle.load_model.specs.Touched.{has_page, SamePages, AnsweredByPages, pages_kept, EntriesMoveTouched}
@@ -43,6 +43,7 @@ touch_by_pages touch p a b serial object offset len same = refl
 touch_by_pages write p a b serial object offset len same = ap (option_map NotTouched) (untouched_by_pages p a b serial object offset len same)
 touch_by_pages share p a b serial object offset len same = ap (option_map NotTouched) (untouched_by_pages p a b serial object offset len same)
 touch_by_pages peek p a b serial object offset len same = ap (option_map NotTouched) (untouched_by_pages p a b serial object offset len same)
+touch_by_pages debug p a b serial object offset len same = ap (option_map NotTouched) (untouched_by_pages p a b serial object offset len same)
 
 residence_by_pages : (lib : Library) (p : Process) (a b : List PageOf) (how : Purpose) (place : Place) (r : Option Residence) → SamePages a b →
     residence_refusal lib (record p { touched = a }) how place r ≡ residence_refusal lib (record p { touched = b }) how place r
@@ -79,6 +80,11 @@ unfolding query_refusal
 query_by_pages lib e a b pid name key =
     ap (λ r. when (e.processes pid).ended Ended orelse key_refusal lib key r) (named_apart lib e a pid name ∙ sym (named_apart lib e b pid name))
 
+resource_by_pages : (lib : Library) (e : Eager) (a b : ℕ → List PageOf) (pid : ℕ) (name : List ℕ) (ty id : ℕ) → resource_refusal lib (retouched a e) pid name ty id ≡ resource_refusal lib (retouched b e) pid name ty id
+unfolding resource_refusal
+resource_by_pages lib e a b pid name ty id =
+    ap (λ r. when (e.processes pid).ended Ended orelse found_refusal lib ty id r) (named_apart lib e a pid name ∙ sym (named_apart lib e b pid name))
+
 pub refused_by_pages : (lib : Library) (e : Eager) (a b : ℕ → List PageOf) (pid : ℕ) (command : Command) → SamePages (a pid) (b pid) →
     refusal_of lib (retouched a e) pid command ≡ refusal_of lib (retouched b e) pid command
 unfolding refusal_of
@@ -93,7 +99,9 @@ refused_by_pages lib e a b pid (commands.Touch at) same = place_by_pages lib e a
 refused_by_pages lib e a b pid (commands.Peek at) same = place_by_pages lib e a b pid peek at same
 refused_by_pages lib e a b pid (commands.Shared at) same = place_by_pages lib e a b pid share at same
 refused_by_pages lib e a b pid (commands.Write at bytes) same = place_by_pages lib e a b pid write at same
+refused_by_pages lib e a b pid (commands.Debug at bytes) same = place_by_pages lib e a b pid debug at same
 refused_by_pages lib e a b pid (commands.Query name key) same = query_by_pages lib e a b pid name key
+refused_by_pages lib e a b pid (commands.GetRes name ty id) same = resource_by_pages lib e a b pid name ty id
 refused_by_pages lib e a b pid commands.Exit same = refl
 
 -- ---- what is answered without a refusal
@@ -124,6 +132,10 @@ fine_apart lib contents e touched pid (commands.Shared at) =
 fine_apart lib contents e touched pid (commands.Write at bytes) =
     ap (λ r. entry (deed_of lib contents (retouched touched e) pid (put (serial_of r) (meant lib at.«module») at.object at.offset bytes))) (named_apart lib e touched pid at.«module»)
     ∙ ap entry (touched_is_apart lib contents e touched pid (put (serial_named lib e pid at) (meant lib at.«module») at.object at.offset bytes)).1
+fine_apart lib contents e touched pid (commands.Debug at bytes) =
+    ap (λ r. entry (deed_of lib contents (retouched touched e) pid (patch (serial_of r) (meant lib at.«module») at.object at.offset bytes))) (named_apart lib e touched pid at.«module»)
+    ∙ ap entry (touched_is_apart lib contents e touched pid (patch (serial_named lib e pid at) (meant lib at.«module») at.object at.offset bytes)).1
+fine_apart lib contents e touched pid (commands.GetRes name ty id) = refl
 fine_apart lib contents e touched pid (commands.Query name key) = ap (λ a. steady (replies.Address a)) (spot_apart e touched (entry_spot lib (meant lib name) key))
 fine_apart lib contents e touched pid commands.Exit = ap entry (touched_is_apart lib contents e touched pid exit).1
 
@@ -158,6 +170,7 @@ unfolding after_leaving with_process keeping left reaches residence_of
 leaving_moves lib e touched pid p = λ i. record {
   residences = ap (λ ms. filter (λ r. not (is_among ms r.«module»)) e.residences) (gone_same lib e touched pid p (touched pid)) i;
   serials = e.serials;
+  failing = e.failing;
   processes = λ q. back e touched (pages_kept lib e p) (keeping lib e p) pid q (q == pid) refl i;
 }
 
@@ -167,11 +180,13 @@ unfolding after_entering with_process joined reaches
 entering_moves lib e touched pid ways.Start m fresh = λ i. record {
   residences = (with_fresh_residences e fresh).residences;
   serials = (with_fresh_residences e fresh).serials;
+  failing = e.failing;
   processes = λ q. back_as_is e touched (holding ways.Start m (attaching (joined lib e pid m) (e.processes pid))) pid q (q == pid) refl i;
 }
 entering_moves lib e touched pid ways.Load m fresh = λ i. record {
   residences = (with_fresh_residences e fresh).residences;
   serials = (with_fresh_residences e fresh).serials;
+  failing = e.failing;
   processes = λ q. back_as_is e touched (holding ways.Load m (attaching (joined lib e pid m) (e.processes pid))) pid q (q == pid) refl i;
 }
 
@@ -183,6 +198,7 @@ writing_moves e touched pid serial w classes.Shared = refl
 writing_moves e touched pid serial w classes.Private = λ i. record {
   residences = e.residences;
   serials = e.serials;
+  failing = e.failing;
   processes = λ q. back_as_is e touched (writing serial w (e.processes pid)) pid q (q == pid) refl i;
 }
 
@@ -190,8 +206,10 @@ pub entries_move_touched : EntriesMoveTouched
 unfolding after_deed
 entries_move_touched lib e touched pid (deeds.Enter how m fresh calls) = entering_moves lib e touched pid how m fresh
 entries_move_touched lib e touched pid (deeds.Full how m of object size) = refl
+entries_move_touched lib e touched pid (deeds.Failed how m by fresh calls gone) = refl
 entries_move_touched lib e touched pid (deeds.Free m calls gone) = leaving_moves lib e touched pid (freeing m (e.processes pid))
 entries_move_touched lib e touched pid (deeds.Exit calls gone) = leaving_moves lib e touched pid (exiting (e.processes pid))
 entries_move_touched lib e touched pid (deeds.Fault serial m p) = refl
 entries_move_touched lib e touched pid (deeds.Write serial m object offset bytes) = writing_moves e touched pid serial _ (class_of (object_at lib m object))
+entries_move_touched lib e touched pid (deeds.Debug serial m object offset bytes) = writing_moves e touched pid serial _ classes.Private
 entries_move_touched lib e touched pid (deeds.Shared serial m object offset bytes) = refl

@@ -2,7 +2,7 @@
 use Rattle.std.specs.Prelude.{◌≡◌, ℕ, ◌==◌, List, true, false}
 use Rattle.load_model.specs.declared.deeds.Entry.{Entry}
 use Rattle.load_model.specs.Modules.{Library, Held}
-use Rattle.load_model.specs.State.{Eager, pids, is_among, reaches, residence_of}
+use Rattle.load_model.specs.State.{Failing, Eager, pids, is_among, reaches, residence_of}
 use Rattle.load_model.specs.Memory.{bases_seen}
 use Rattle.load_model.specs.Histories.{after_entry, state_after, Follows, Legal}
 use Rattle.load_model.specs.Laws.{stay_of}
@@ -16,8 +16,8 @@ pub record Alike (lib : Library) (e after : Eager) (q : ℕ) : Type 0 where
 -- An entry of another process leaves such a state.
 abbrev pub OthersLeaveAlike : Type 0
 OthersLeaveAlike =
-    (lib : Library) (contents : Held) (h : List Entry) (entry : Entry) (pid : ℕ) → Legal lib contents h → Follows lib contents h entry → is_among pids pid ≡ true →
-    (pid == entry.pid) ≡ false → Alike lib (state_after lib h) (after_entry lib (state_after lib h) entry) pid
+    (lib : Library) (failing : Failing) (contents : Held) (h : List Entry) (entry : Entry) (pid : ℕ) → Legal lib failing contents h → Follows lib failing contents h entry → is_among pids pid ≡ true →
+    (pid == entry.pid) ≡ false → Alike lib (state_after lib failing h) (after_entry lib (state_after lib failing h) entry) pid
 
 -- In such states it sees the same bases behind what it reaches.
 abbrev pub BasesAreAlike : Type 0

@@ -43,8 +43,10 @@ touched_behind lib e pid (deeds.Free m calls gone) touched q = if q == pid then 
 touched_behind lib e pid (deeds.Exit calls gone) touched q = if q == pid then pages_kept lib e (exiting (e.processes pid)) (touched q) else touched q
 touched_behind lib e pid (deeds.Enter how m fresh calls) touched q = touched q
 touched_behind lib e pid (deeds.Full how m of object size) touched q = touched q
+touched_behind lib e pid (deeds.Failed how m by fresh calls gone) touched q = touched q
 touched_behind lib e pid (deeds.Fault serial m p) touched q = touched q
 touched_behind lib e pid (deeds.Write serial m object offset bytes) touched q = touched q
+touched_behind lib e pid (deeds.Debug serial m object offset bytes) touched q = touched q
 touched_behind lib e pid (deeds.Shared serial m object offset bytes) touched q = touched q
 
 -- Whatever was touched, an entry changes all else in one way, and touches nothing.

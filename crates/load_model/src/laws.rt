@@ -3,9 +3,10 @@
 
 ghost use Rattle.load_model.specs.Laws.{AsksDecide, PrefixIsLegal, EachFollows, OneMoreIsLegal, NothingIsLegal, OneMoreIsAfter, FaultOnce, ReachedIsResident, AttachedIsReached, GoneIsUnreached, ResidenceStays, ReachStays, OthersRefuseAlike, OthersAnswerAlike, OthersBytesAlike, HeldAnswersAlike, HeldHistoriesAlike, CountsAreResidence};
 ghost use Rattle.load_model.specs.Accepted.{AcceptedMayAsk, TouchedIsApart};
-ghost use Rattle.load_model.specs.Serials.{SerialsRise, FaultsAreGiven};
+ghost use Rattle.load_model.specs.Serials.{SerialsRise, SerialsAreOwn, FaultsAreGiven};
 ghost use Rattle.load_model.specs.Fitness.{ReachedIsFit};
-ghost use Rattle.load_model.specs.ResidenceBases.{BasesStand};
+ghost use Rattle.load_model.specs.ResidenceBases.{BasesStand, ResidentsFit};
+ghost use Rattle.load_model.specs.ViewLaws.{NewStands, StandsOn, StandsQuiet, StandsMapped, RefusedByView, AnsweredByView};
 ghost use Rattle.load_model.specs.Touched.{AnsweredByPages, EntriesMoveTouched};
 ghost use Rattle.load_model.specs.Alike.{OthersLeaveAlike, BasesAreAlike};
 
@@ -69,7 +70,8 @@ pub fn agreement_is_enough()
 
 /// Residences stand by rising serial numbers, so each has its own.
 pub fn serials_rise()
-    ensures { SerialsRise }
+    ensures rise { SerialsRise }
+    ensures own { SerialsAreOwn }
 {}
 
 /// A command that is not refused and has an entry may ask for it, and the entry is what the loader does
@@ -96,7 +98,8 @@ pub fn faults_are_given()
 /// Each residence has a base for each object of its module: a multiple of 65,536 from which on the object lies
 /// within the module's arena.
 pub fn residences_stand()
-    ensures { BasesStand }
+    ensures bases { BasesStand }
+    ensures fit { ResidentsFit }
 {}
 
 /// What a process reaches is a module of the library, and fit.
@@ -112,3 +115,23 @@ pub fn touched_pages_decide()
     ensures answers { AnsweredByPages }
     ensures entries { EntriesMoveTouched }
 {}
+
+/// What a process's own view stands for: nothing at first; it goes on through entries of other processes, behind
+/// entries of its own that change nothing in it, and with a page more that is mapped.
+pub fn views_stand()
+    ensures new { NewStands }
+    ensures on { StandsOn }
+    ensures quiet { StandsQuiet }
+    ensures mapped { StandsMapped }
+{
+    lx_model::order_is_reach();
+}
+
+/// A view's refusals are the loader's; and where it refuses nothing, so is its reply to each command without an
+/// entry.
+pub fn views_answer()
+    ensures refusals { RefusedByView }
+    ensures replies { AnsweredByView }
+{
+    lx_model::order_is_reach();
+}

@@ -5,7 +5,7 @@ use Rattle.std.proofs.lemmas.List.{length-map}
 use Rattle.std.specs.List.{enumerate_from, range_with_len, AllByRecursion}
 use Rattle.load_model.specs.declared.deeds.Entry.{Entry}
 use Rattle.load_model.specs.Modules.{Library, Held}
-use Rattle.load_model.specs.State.{PageOf, Eager, pids, is_among, reaches, is_reached, residence_of}
+use Rattle.load_model.specs.State.{PageOf, Failing, Eager, pids, is_among, reaches, is_reached, residence_of}
 use Rattle.load_model.specs.Memory.{bases_seen}
 use Rattle.load_model.specs.Asks.{ask_in}
 use Rattle.load_model.specs.Histories.{state_after}
@@ -78,33 +78,33 @@ agree_touched : (lib : Library) (a b : Held) (e : Eager) (touched : ℕ → List
 unfolding is_reached reaches bases_seen residence_of
 agree_touched lib a b e touched agree m object x reached there below = agree m object x reached there below
 
-agree_behind : (lib : Library) (a b : Held) (items : List Item) → AgreeAt lib a b (state_after lib (entries_in items)) → AgreeAt lib a b (state_behind lib items)
-agree_behind lib a b items agree =
-    subst (λ e. AgreeAt lib a b e) (sym (states_are_the_historys lib items)) (agree_touched lib a b (state_after lib (entries_in items)) (touched_in (state_behind lib items)) agree)
+agree_behind : (lib : Library) (failing : Failing) (a b : Held) (items : List Item) → AgreeAt lib a b (state_after lib failing (entries_in items)) → AgreeAt lib a b (state_behind lib failing items)
+agree_behind lib failing a b items agree =
+    subst (λ e. AgreeAt lib a b e) (sym (states_are_the_historys lib failing items)) (agree_touched lib a b (state_after lib failing (entries_in items)) (touched_in (state_behind lib failing items)) agree)
 
-one_by : (lib : Library) (a b : Held) (before : List Item) (item : Item) (behind : List Item) → OfPid item → AgreeAt lib a b (state_behind lib before) →
-    Replies lib a before item behind → Replies lib b before item behind
-one_by lib a b before (entry x) behind there agree r = record {
+one_by : (lib : Library) (failing : Failing) (a b : Held) (before : List Item) (item : Item) (behind : List Item) → OfPid item → AgreeAt lib a b (state_behind lib failing before) →
+    Replies lib failing a before item behind → Replies lib failing b before item behind
+one_by lib failing a b before (entry x) behind there agree r = record {
   may = r.may;
-  done = r.done ∙ deed_by lib a b (state_behind lib before) x.pid (ask_in x.deed) there agree r.may;
+  done = r.done ∙ deed_by lib a b (state_behind lib failing before) x.pid (ask_in x.deed) there agree r.may;
   touched = r.touched;
 }
-one_by lib a b before (line pid l) behind there agree r = sym (held_answers_alike lib a b (state_behind lib before) pid l.command there agree) ∙ r
+one_by lib failing a b before (line pid l) behind there agree r = sym (held_answers_alike lib a b (state_behind lib failing before) pid l.command there agree) ∙ r
 
-all_by : (lib : Library) (a b : Held) (before items : List Item) → AllByRecursion OfPid items →
-    ((first rest : List Item) → items ≡ first ++ rest → AgreeAt lib a b (state_behind lib (before ++ first))) → AllPlaces (Replies lib a) before items → AllPlaces (Replies lib b) before items
-all_by lib a b before [] there agree all = tt
-all_by lib a b before (item ∷ items) there agree all = (
-  one_by lib a b before item items there.0 (subst (λ z. AgreeAt lib a b (state_behind lib z)) (append-nil before) (agree [] (item ∷ items) refl)) all.0,
-  all_by lib a b (before ++ item ∷ []) items there.1
-      (λ first rest is. subst (λ z. AgreeAt lib a b (state_behind lib z)) (sym (append_assoc before (item ∷ []) first)) (agree (item ∷ first) rest (ap (λ xs. item ∷ xs) is))) all.1,
+all_by : (lib : Library) (failing : Failing) (a b : Held) (before items : List Item) → AllByRecursion OfPid items →
+    ((first rest : List Item) → items ≡ first ++ rest → AgreeAt lib a b (state_behind lib failing (before ++ first))) → AllPlaces (Replies lib failing a) before items → AllPlaces (Replies lib failing b) before items
+all_by lib failing a b before [] there agree all = tt
+all_by lib failing a b before (item ∷ items) there agree all = (
+  one_by lib failing a b before item items there.0 (subst (λ z. AgreeAt lib a b (state_behind lib failing z)) (append-nil before) (agree [] (item ∷ items) refl)) all.0,
+  all_by lib failing a b (before ++ item ∷ []) items there.1
+      (λ first rest is. subst (λ z. AgreeAt lib a b (state_behind lib failing z)) (sym (append_assoc before (item ∷ []) first)) (agree (item ∷ first) rest (ap (λ xs. item ∷ xs) is))) all.1,
 )
 
 numbers_length : (s : List ScriptLines) → length (numbers_of s) ≡ length s
 numbers_length s = length-map s (λ lines. lines.pid)
 
 pub held_merges_alike : HeldMergesAlike
-held_merges_alike lib a b h s scripts few agree m =
+held_merges_alike lib failing a b h s scripts few agree m =
     let same : length s ≡ length scripts =
     sym (numbers_length s) ∙ ap length m.processes ∙ length-map scripts (λ script. script.pid)
     in
@@ -115,9 +115,9 @@ held_merges_alike lib a b h s scripts few agree m =
       commands = m.commands;
       faults = m.faults;
       touches = m.touches;
-      replies = all_by lib a b [] (merge_of h s) (of_merge h (length scripts) s few (subst (λ n. n ≤ 16) (sym same) few) m.entries)
+      replies = all_by lib failing a b [] (merge_of h s) (of_merge h (length scripts) s few (subst (λ n. n ≤ 16) (sym same) few) m.entries)
           (λ first rest is.
-          agree_behind lib a b first
+          agree_behind lib failing a b first
           (agree (entries_in first) (entries_in rest) (sym (merge_has_history h s) ∙ ap entries_in is ∙ entries_append first rest)))
           m.replies;
     }

@@ -8,7 +8,7 @@ use Rattle.load_model.specs.declared.commands.Reply.{Reply}
 use Rattle.load_model.specs.declared.commands.Reply.TheVariants as replies
 use Rattle.load_model.specs.declared.deeds.Entry.{Entry}
 use Rattle.load_model.specs.Modules.{Library}
-use Rattle.load_model.specs.State.{PageOf, Eager, nothing_yet, with_process}
+use Rattle.load_model.specs.State.{PageOf, Failing, Eager, nothing_yet, with_process}
 use Rattle.load_model.specs.Memory.{page, pages_over, touching}
 use Rattle.load_model.specs.Step.{serial_named, after_touch, after_steady}
 use Rattle.load_model.specs.Asks.{after_deed}
@@ -67,7 +67,7 @@ unfolding with_process
 touch_differs lib e touched pid at =
     let serial : ℕ = serial_named lib (retouched touched e) pid at in (
       λ q. if q == pid then touched pid ++ pages_at serial at else touched q,
-      λ i. record { residences = e.residences; serials = e.serials; processes = λ q. one serial q (q == pid) refl i },
+      λ i. record { residences = e.residences; serials = e.serials; processes = λ q. one serial q (q == pid) refl i; failing = e.failing },
     )
   where
     one : (serial q : ℕ) (b : Bool) → (q == pid) ≡ b →
@@ -95,6 +95,6 @@ by_its_own e f (touched, is) = is ∙ ap (λ g. retouched (touched_in g) e) (sym
 
 pub states_are_the_historys : StatesAreTheHistorys
 unfolding state_behind state_after
-states_are_the_historys lib items =
-    by_its_own (fold (after_entry lib) nothing_yet (entries_in items)) (fold (after_item lib) nothing_yet items)
-    (items_differ lib items nothing_yet nothing_yet (λ q. [], refl))
+states_are_the_historys lib failing items =
+    by_its_own (fold (after_entry lib) (nothing_yet failing) (entries_in items)) (fold (after_item lib) (nothing_yet failing) items)
+    (items_differ lib items (nothing_yet failing) (nothing_yet failing) (λ q. [], refl))

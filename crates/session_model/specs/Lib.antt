@@ -8,3 +8,5 @@ pub mod Laws
 pub mod WorkedSessions
 pub mod WorkedRuns
 pub mod MergeLaws
+pub mod WorkedDeeds
+pub mod WorkedWrong

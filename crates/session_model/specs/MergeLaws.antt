@@ -2,7 +2,7 @@
 use Rattle.std.specs.Prelude.{◌≡◌, ℕ, ◌≤◌, List, ◌++◌, length, filter_map, Option, Some, None}
 use Rattle.load_model.specs.declared.deeds.Entry.{Entry}
 use Rattle.load_model.specs.Modules.{Library, Held}
-use Rattle.load_model.specs.State.{PageOf, Eager}
+use Rattle.load_model.specs.State.{PageOf, Failing, Eager}
 use Rattle.load_model.specs.Histories.{state_after}
 use Rattle.load_model.specs.Accepted.{retouched}
 use Rattle.load_model.specs.Laws.{AgreeAt}
@@ -29,11 +29,12 @@ touched_in e pid = (e.processes pid).touched
 -- The state behind some items is the state after their entries, but for touched pages.
 abbrev pub StatesAreTheHistorys : Type 0
 StatesAreTheHistorys =
-    (lib : Library) (items : List Item) → state_behind lib items ≡ retouched (touched_in (state_behind lib items)) (state_after lib (entries_in items))
+    (lib : Library) (failing : Failing) (items : List Item) →
+    state_behind lib failing items ≡ retouched (touched_in (state_behind lib failing items)) (state_after lib failing (entries_in items))
 
 -- Where two ways to say what objects hold agree along a history, the same lines merge with it by both. There
 -- are at most 16 scripts.
 abbrev pub HeldMergesAlike : Type 0
 HeldMergesAlike =
-    (lib : Library) (a b : Held) (h : List Entry) (s : List ScriptLines) (scripts : List Script) → length scripts ≤ 16 →
-    ((before behind : List Entry) → h ≡ before ++ behind → AgreeAt lib a b (state_after lib before)) → Merge lib a h s scripts → Merge lib b h s scripts
+    (lib : Library) (failing : Failing) (a b : Held) (h : List Entry) (s : List ScriptLines) (scripts : List Script) → length scripts ≤ 16 →
+    ((before behind : List Entry) → h ≡ before ++ behind → AgreeAt lib a b (state_after lib failing before)) → Merge lib failing a h s scripts → Merge lib failing b h s scripts

@@ -7,5 +7,5 @@ mod worked;
 
 pub use laws::{agreement_is_enough, merges_are_histories, sessions_are_one};
 pub use sessions::{
-    Commands, Line, ModLine, Script, ScriptLines, Session, SessionKind, SessionRefusal,
+    Commands, FailingLine, Line, ModLine, Script, ScriptLines, Session, SessionKind, SessionRefusal,
 };
