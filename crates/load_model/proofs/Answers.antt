@@ -8,7 +8,7 @@ use Rattle.load_model.specs.declared.commands.Refusal.{Refusal}
 use Rattle.load_model.specs.declared.commands.Refusal.TheVariants.{Ended}
 use Rattle.load_model.specs.declared.commands.Reply.TheVariants as replies
 use Rattle.load_model.specs.Modules.{Spot, EntryFault, Library, Held, number_of, entry_spot, address_in}
-use Rattle.load_model.specs.State.{Failing, Residence, Eager, reaches, residence_of}
+use Rattle.load_model.specs.State.{Residence, Eager, reaches, residence_of}
 use Rattle.load_model.specs.Refusals.{when, key_refusal, residence_named, query_refusal, refusal_of}
 use Rattle.load_model.specs.Step.{Answer, steady, fine_answer, answer_of, meant, spot_address, address_of}
 use Rattle.load_model.specs.Histories.{state_after}

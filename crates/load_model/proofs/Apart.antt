@@ -12,7 +12,7 @@ use Rattle.load_model.specs.declared.deeds.Deed.{Deed}
 use Rattle.load_model.specs.declared.deeds.Deed.TheVariants as deeds
 use Rattle.load_model.specs.Modules.{Library, Held, number_of}
 use Rattle.load_model.specs.Accepted.{retouched}
-use Rattle.load_model.specs.State.{Failing, PageOf, Residence, Process, Eager, Written, is_among, pids, reaches, residence_of, attached_residence}
+use Rattle.load_model.specs.State.{PageOf, Residence, Process, Eager, Written, is_among, pids, reaches, residence_of, attached_residence}
 use Rattle.load_model.specs.Entering.{after_entering, with_fresh_residences}
 use Rattle.load_model.specs.Leaving.{after_leaving}
 use Rattle.load_model.specs.Refusals.{Purpose, touch, write, share, peek, debug, ◌orelse◌, when, enter_refusal, free_refusal, residence_refusal, residence_if, residence_named, place_refusal, key_refusal, query_refusal, found_refusal, resource_refusal, refusal_of}

@@ -12,7 +12,7 @@ use Rattle.load_model.specs.declared.commands.Place.{Place}
 use Rattle.load_model.specs.declared.commands.Refusal.{Refusal}
 use Rattle.load_model.specs.declared.commands.Refusal.TheVariants.{Ended}
 use Rattle.load_model.specs.Modules.{Library, Held, number_of, order_of, object_at}
-use Rattle.load_model.specs.State.{Failing, Residence, Process, Eager, Written, is_among, reaches, residence_of, attached_residence, bases_of}
+use Rattle.load_model.specs.State.{Residence, Process, Eager, Written, is_among, reaches, residence_of, attached_residence, bases_of}
 use Rattle.load_model.specs.Memory.{writes_of_class, writes_seen, bases_seen, last_put, Byte, Bytes}
 use Rattle.load_model.specs.Refusals.{peek, ◌orelse◌, when, class_refusal, span_refusal, residence_refusal, residence_if, residence_named, place_refusal}
 use Rattle.load_model.specs.Step.{bytes_of}

@@ -9,7 +9,7 @@ use Rattle.load_model.specs.declared.deeds.How.{How}
 use Rattle.load_model.specs.declared.deeds.Deed.{Deed}
 use Rattle.load_model.specs.declared.deeds.Deed.TheVariants as deeds
 use Rattle.load_model.specs.Modules.{Library, Held}
-use Rattle.load_model.specs.State.{Failing, Residence, Process, Eager, Written, with_process, is_among, pids, is_reached, residence_of}
+use Rattle.load_model.specs.State.{Residence, Process, Eager, Written, with_process, is_among, pids, is_reached, residence_of}
 use Rattle.load_model.specs.Entering.{after_entering, residence_from}
 use Rattle.load_model.specs.Initialising.{after_failing}
 use Rattle.load_model.specs.Leaving.{gone_modules, after_leaving, freeing, exiting}

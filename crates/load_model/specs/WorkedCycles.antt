@@ -1,11 +1,9 @@
 -- Worked values: libraries that import each other, or themselves.
-use Rattle.std.specs.Prelude.{◌≡◌, ℕ, [], ◌∷◌, ◌++◌, codes}
+use Rattle.std.specs.Prelude.{◌≡◌, [], ◌∷◌, ◌++◌, codes}
 use Rattle.lx_types.specs.declared.entry.EntryHead.TheVariants.{At}
 use Rattle.lx_types.specs.declared.entry.EntryKey.TheVariants as keys
 use Rattle.lx_types.specs.declared.fix.FixTarget.TheVariants.{Ordinal, Named}
-use Rattle.lx_types.specs.declared.parts.Parts.{Parts}
 use Rattle.lx_model.specs.Worked.Library.{forwarder}
-use Rattle.load_model.specs.declared.commands.Command.{Command}
 use Rattle.load_model.specs.declared.commands.Command.TheVariants.{Load, Free, Query}
 use Rattle.load_model.specs.declared.commands.Refusal.TheVariants as why
 use Rattle.load_model.specs.declared.deeds.How.TheVariants as ways

@@ -1,7 +1,6 @@
 -- Worked values: writes to a process's own copy of code.
 use Rattle.std.specs.Prelude.{◌≡◌, ℕ, [], ◌∷◌, ◌++◌, codes}
-use Rattle.load_model.specs.declared.commands.Command.{Command}
-use Rattle.load_model.specs.declared.commands.Command.TheVariants.{Load, Free, Touch, Peek, Write, Debug}
+use Rattle.load_model.specs.declared.commands.Command.TheVariants.{Load, Free, Peek, Write, Debug}
 use Rattle.load_model.specs.declared.commands.Reply.TheVariants.{Bytes}
 use Rattle.load_model.specs.declared.commands.Refusal.TheVariants as why
 use Rattle.load_model.specs.declared.deeds.Deed.TheVariants as deeds

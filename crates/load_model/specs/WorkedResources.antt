@@ -1,5 +1,5 @@
 -- Worked values: where resources lie.
-use Rattle.std.specs.Prelude.{◌≡◌, ℕ, [], ◌∷◌, codes}
+use Rattle.std.specs.Prelude.{◌≡◌, [], ◌∷◌, codes}
 use Rattle.lx_model.specs.Worked.Resources.{with_resources, item}
 use Rattle.load_model.specs.declared.commands.Command.TheVariants.{Load, GetRes, Exit}
 use Rattle.load_model.specs.declared.commands.Reply.TheVariants.{Spot}

@@ -1,3 +1,5 @@
 pub mod Firsts
 pub mod MergeStates
 pub mod HeldMerges
+pub mod Readings
+pub mod Bounded

@@ -15,6 +15,8 @@ use Rattle.load_model.specs.Memory.{page}
 use Rattle.load_model.specs.Samples.{zeros, fresh, call, gone, place}
 use Rattle.load_model.specs.WorkedLoads.{diamond}
 use Rattle.session_model.specs.declared.sessions.Script.{Script}
+use Rattle.session_model.specs.declared.sessions.Session.{Session}
+use Rattle.session_model.specs.FailingPairs.{failing_pairs}
 use Rattle.session_model.specs.declared.sessions.ScriptLines.{ScriptLines}
 use Rattle.session_model.specs.Merging.{Merge}
 use Rattle.session_model.specs.Transcript.{Transcript}
@@ -63,7 +65,25 @@ transcript_of_A =
     ++ ln (codes "  call init 7 C 10020000") ++ ln (codes "  call init 8 A 10030000") ++ ln (codes "3 P1 load A") ++ ln (codes "process 1")
     ++ ln (codes "  at 1 free A refused NotHeld") ++ ln (codes "process 2") ++ ln (codes "summary processes 2 entries 3 faults 0")
 
+-- the session's lines that say so, and others that are passed over: no module has the name, and no script the number
+abbrev session_of_A : Session
+session_of_A = record {
+  modules = [];
+  failing = record { «module» = codes "E"; pid = 1 } ∷ record { «module» = codes "b"; pid = 1 } ∷ record { «module» = codes "B"; pid = 3 } ∷ [];
+  scripts = scripts_of_A;
+}
+
+-- the second script has the number 7, and is the second process
+abbrev numbered : Session
+numbered = record {
+  modules = [];
+  failing = record { «module» = codes "D"; pid = 7 } ∷ record { «module» = codes "A"; pid = 2 } ∷ [];
+  scripts = record { pid = 2; commands = [] } ∷ record { pid = 7; commands = [] } ∷ [];
+}
+
 pub record WorkedFailure : Type 0 where
+  pub pairs : failing_pairs diamond session_of_A ≡ B_fails
+  pub by_number : failing_pairs diamond numbered ≡ (2, 3) ∷ (1, 0) ∷ []
   pub legal : Legal diamond B_fails zeros history_of_A
   pub merge : Merge diamond B_fails zeros history_of_A lines_of_A scripts_of_A
   pub text : Transcript diamond history_of_A lines_of_A ≡ transcript_of_A
@@ -86,7 +106,7 @@ history_of_break =
     load_new ∷ entry_of 2 (Enter ways.Load 0 [] []) ∷ entry_of 1 (Fault 1 0 (page 1 0)) ∷ entry_of 1 (Debug 1 0 1 0 (0xCC ∷ []))
     ∷ entry_of 1 (Free 0 [] []) ∷ entry_of 1 (Enter ways.Load 0 [] []) ∷ []
 
-abbrev as_linked : List ℕ
+abbrev pub as_linked : List ℕ
 as_linked = 0 ∷ 0 ∷ 0 ∷ 0 ∷ 0 ∷ 0 ∷ 0 ∷ 0x10 ∷ []
 
 abbrev broken : List ℕ

@@ -1,5 +1,6 @@
 //! What the definitions of sessions say together.
 
+ghost use Rattle.session_model.specs.Bounds.{SessionsAreBounded};
 ghost use Rattle.session_model.specs.Laws.{MeansOne, MeansOrFails, FaultMeansNone, FaultIsFirst};
 ghost use Rattle.session_model.specs.MergeLaws.{MergeHasHistory, StatesAreTheHistorys, HeldMergesAlike};
 
@@ -21,4 +22,9 @@ pub fn merges_are_histories()
 /// Where two ways to say what objects hold agree along a history, the same steady lines merge with it by both.
 pub fn agreement_is_enough()
     ensures { HeldMergesAlike }
+{}
+
+/// A session that bytes say is within bounds: how many scripts and commands, which numbers, names and lengths.
+pub fn sessions_are_bounded()
+    ensures { SessionsAreBounded }
 {}
