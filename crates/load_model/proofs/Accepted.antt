@@ -34,7 +34,7 @@ number_below lib name m e = lt-ltb m (length lib) (position-Some _ lib m no_part
 some_no_module : Some NoModule ≡ None → ⊥
 some_no_module h = cc
 
-nobody : (lib : Library) (p : Process) (how : How) → enter_refusal lib p how None ≡ None → ⊥
+pub nobody : (lib : Library) (p : Process) (how : How) → enter_refusal lib p how None ≡ None → ⊥
 unfolding enter_refusal
 nobody lib p how h = some_no_module (right_none (started_refusal p how) _ (right_none (when p.ended Ended) _ h))
 

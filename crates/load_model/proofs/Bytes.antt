@@ -71,7 +71,7 @@ named_is lib e q name a is = step (number_of lib name) refl is
 
 -- ---- bases
 
-map_member : {X : Type 0} (f g : ℕ → X) (xs : List ℕ) → ((k : ℕ) → is_among xs k ≡ true → f k ≡ g k) → map f xs ≡ map g xs
+pub map_member : {X : Type 0} (f g : ℕ → X) (xs : List ℕ) → ((k : ℕ) → is_among xs k ≡ true → f k ≡ g k) → map f xs ≡ map g xs
 map_member f g [] h = refl
 map_member f g (x ∷ xs) h =
     ap (λ y. y ∷ map f xs) (h x (ap (λ b. b || is_among xs x) (same x)))
@@ -87,7 +87,7 @@ bases_by_stay (Some r) = refl
 pub bases_stay : (r s : Option Residence) → stay_of r ≡ stay_of s → bases_of r ≡ bases_of s
 bases_stay r s e = bases_by_stay r ∙ ap bases_of e ∙ sym (bases_by_stay s)
 
-abbrev one_bases : Eager → ℕ → ModBases
+abbrev pub one_bases : Eager → ℕ → ModBases
 one_bases e k = record { «module» = k; objects = bases_of (residence_of e k) }
 
 pub bases_alike : OrdersNest → (lib : Library) (e after : Eager) (q m : ℕ) → Alike lib e after q → reaches lib (e.processes q) m ≡ true → bases_seen lib after m ≡ bases_seen lib e m

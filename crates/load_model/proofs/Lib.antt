@@ -22,3 +22,6 @@ pub mod Standing
 pub mod SerialsOwn
 pub mod ViewSteps
 pub mod ViewReplies
+pub mod Outcomes
+pub mod Bounded
+pub mod BasesStay

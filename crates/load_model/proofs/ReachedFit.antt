@@ -106,7 +106,7 @@ fit_from : (lib : List Parts) (m : ℕ) → Faultless lib (Order lib m) → Heal
 unfolding HealthOf
 fit_from lib m f = rw (f.lost, f.entry, f.loop, f.gate) refl
 
-fit_is_closed : OrdersNest → (lib : Library) (m k : ℕ) → is_among (order_of lib m) k ≡ true → HealthOf lib m ≡ Fit → HealthOf lib k ≡ Fit
+pub fit_is_closed : OrdersNest → (lib : Library) (m k : ℕ) → is_among (order_of lib m) k ≡ true → HealthOf lib m ≡ Fit → HealthOf lib k ≡ Fit
 unfolding order_of
 fit_is_closed nest lib m k member fit =
     let all = faultless lib m fit in

@@ -1,5 +1,5 @@
 -- What an entry of another process leaves to a process.
-use Rattle.std.specs.Prelude.{◌≡◌, ℕ, ◌==◌, List, true, false}
+use Rattle.std.specs.Prelude.{◌≡◌, ℕ, ◌==◌, List, true, false, is_some}
 use Rattle.load_model.specs.declared.deeds.Entry.{Entry}
 use Rattle.load_model.specs.Modules.{Library, Held}
 use Rattle.load_model.specs.State.{Failing, Eager, pids, is_among, reaches, residence_of}
@@ -23,3 +23,10 @@ OthersLeaveAlike =
 abbrev pub BasesAreAlike : Type 0
 BasesAreAlike =
     (lib : Library) (e after : Eager) (pid m : ℕ) → Alike lib e after pid → reaches lib (e.processes pid) m ≡ true → bases_seen lib after m ≡ bases_seen lib e m
+
+-- While a residence stands, the bases behind it stay, whoever does what.
+abbrev pub BasesSeenStay : Type 0
+BasesSeenStay =
+    (lib : Library) (failing : Failing) (contents : Held) (h : List Entry) (entry : Entry) (m : ℕ) → Legal lib failing contents h → Follows lib failing contents h entry →
+    is_some (residence_of (state_after lib failing h) m) ≡ true → is_some (residence_of (after_entry lib (state_after lib failing h) entry) m) ≡ true →
+    bases_seen lib (after_entry lib (state_after lib failing h) entry) m ≡ bases_seen lib (state_after lib failing h) m

@@ -27,3 +27,5 @@ pub mod Rows
 pub mod Standing
 pub mod ViewAnswers
 pub mod ViewLaws
+pub mod Outcomes
+pub mod Bounds

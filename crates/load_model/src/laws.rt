@@ -4,11 +4,13 @@
 ghost use Rattle.load_model.specs.Laws.{AsksDecide, PrefixIsLegal, EachFollows, OneMoreIsLegal, NothingIsLegal, OneMoreIsAfter, FaultOnce, ReachedIsResident, AttachedIsReached, GoneIsUnreached, ResidenceStays, ReachStays, OthersRefuseAlike, OthersAnswerAlike, OthersBytesAlike, HeldAnswersAlike, HeldHistoriesAlike, CountsAreResidence};
 ghost use Rattle.load_model.specs.Accepted.{AcceptedMayAsk, TouchedIsApart};
 ghost use Rattle.load_model.specs.Serials.{SerialsRise, SerialsAreOwn, FaultsAreGiven};
-ghost use Rattle.load_model.specs.Fitness.{ReachedIsFit};
+ghost use Rattle.load_model.specs.Fitness.{ReachedIsFit, FitnessIsClosed};
 ghost use Rattle.load_model.specs.ResidenceBases.{BasesStand, ResidentsFit};
 ghost use Rattle.load_model.specs.ViewLaws.{NewStands, StandsOn, StandsQuiet, StandsMapped, RefusedByView, AnsweredByView};
+ghost use Rattle.load_model.specs.Outcomes.{NamesAreKnown};
+ghost use Rattle.load_model.specs.Bounds.{CountsAreSmall};
 ghost use Rattle.load_model.specs.Touched.{AnsweredByPages, EntriesMoveTouched};
-ghost use Rattle.load_model.specs.Alike.{OthersLeaveAlike, BasesAreAlike};
+ghost use Rattle.load_model.specs.Alike.{OthersLeaveAlike, BasesAreAlike, BasesSeenStay};
 
 /// Two legal histories whose entries ask the same are the same: nothing else in them was free.
 pub fn asks_decide()
@@ -43,10 +45,11 @@ pub fn gone_is_unreached()
 {}
 
 /// A residence whose module is still reached stands as it was; and while one stands, so do those of all
-/// modules that its module reaches.
+/// modules that its module reaches, with their bases.
 pub fn residences_stay()
     ensures still { ResidenceStays }
     ensures reach { ReachStays }
+    ensures bases { BasesSeenStay }
 {
     lx_model::order_is_reach();
 }
@@ -102,9 +105,10 @@ pub fn residences_stand()
     ensures fit { ResidentsFit }
 {}
 
-/// What a process reaches is a module of the library, and fit.
+/// What a process reaches is a module of the library, and fit; and what a fit module reaches is fit.
 pub fn reached_is_fit()
-    ensures { ReachedIsFit }
+    ensures reached { ReachedIsFit }
+    ensures closed { FitnessIsClosed }
 {
     lx_model::order_is_reach();
 }
@@ -135,3 +139,13 @@ pub fn views_answer()
 {
     lx_model::order_is_reach();
 }
+
+/// The name in a command that is not refused means a module.
+pub fn names_are_known()
+    ensures { NamesAreKnown }
+{}
+
+/// No process holds more than 65,535 loads of one module.
+pub fn counts_are_small()
+    ensures { CountsAreSmall }
+{}

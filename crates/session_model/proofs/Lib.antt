@@ -3,3 +3,4 @@ pub mod MergeStates
 pub mod HeldMerges
 pub mod Readings
 pub mod Bounded
+pub mod UsedPages

@@ -1,14 +1,16 @@
 -- What a merge has to do with its history.
 use Rattle.std.specs.Prelude.{◌≡◌, ℕ, ◌≤◌, List, ◌++◌, length, filter_map, Option, Some, None}
+use Rattle.load_model.specs.declared.deeds.Deed.{Deed}
 use Rattle.load_model.specs.declared.deeds.Entry.{Entry}
 use Rattle.load_model.specs.Modules.{Library, Held}
 use Rattle.load_model.specs.State.{PageOf, Failing, Eager}
 use Rattle.load_model.specs.Histories.{state_after}
 use Rattle.load_model.specs.Accepted.{retouched}
+use Rattle.load_model.specs.Touched.{SamePages}
 use Rattle.load_model.specs.Laws.{AgreeAt}
 use Rattle.session_model.specs.declared.sessions.Script.{Script}
 use Rattle.session_model.specs.declared.sessions.ScriptLines.{ScriptLines}
-use Rattle.session_model.specs.Merging.{Item, entry, line, merge_of, state_behind, Merge}
+use Rattle.session_model.specs.Merging.{Item, entry, line, merge_of, state_behind, uses_touched, Merge}
 
 abbrev pub entry_in : Item → Option Entry
 entry_in (entry x) = Some x
@@ -38,3 +40,8 @@ abbrev pub HeldMergesAlike : Type 0
 HeldMergesAlike =
     (lib : Library) (failing : Failing) (a b : Held) (h : List Entry) (s : List ScriptLines) (scripts : List Script) → length scripts ≤ 16 →
     ((before behind : List Entry) → h ≡ before ++ behind → AgreeAt lib a b (state_after lib failing before)) → Merge lib failing a h s scripts → Merge lib failing b h s scripts
+
+-- Of touched pages an entry uses which pages its process touched, and nothing else.
+abbrev pub UsesByPages : Type 0
+UsesByPages =
+    (e : Eager) (a b : ℕ → List PageOf) (pid : ℕ) (deed : Deed) → SamePages (a pid) (b pid) → uses_touched (retouched a e) pid deed ≡ uses_touched (retouched b e) pid deed

@@ -2,7 +2,7 @@
 
 ghost use Rattle.session_model.specs.Bounds.{SessionsAreBounded};
 ghost use Rattle.session_model.specs.Laws.{MeansOne, MeansOrFails, FaultMeansNone, FaultIsFirst};
-ghost use Rattle.session_model.specs.MergeLaws.{MergeHasHistory, StatesAreTheHistorys, HeldMergesAlike};
+ghost use Rattle.session_model.specs.MergeLaws.{MergeHasHistory, StatesAreTheHistorys, UsesByPages, HeldMergesAlike};
 
 /// Bytes are one session at most; they are one or have a fault, and not both; and the fault is that of
 /// the first line that is wrong.
@@ -13,10 +13,12 @@ pub fn sessions_are_one()
     ensures first { FaultIsFirst }
 {}
 
-/// The entries of a merge are its history, and its states are the history's but for touched pages.
+/// The entries of a merge are its history, and its states are the history's but for touched pages, of which
+/// an entry uses which pages its own process touched.
 pub fn merges_are_histories()
     ensures entries { MergeHasHistory }
     ensures states { StatesAreTheHistorys }
+    ensures uses { UsesByPages }
 {}
 
 /// Where two ways to say what objects hold agree along a history, the same steady lines merge with it by both.
