@@ -165,3 +165,11 @@ impl Library {
         EntryPoints::of(&self.mods, &self.names, self.places)
     }
 }
+
+// Asks that threads may share and move a type.
+fn may_be_shared<T: Send + Sync>() {}
+
+// Threads share one library, and move it.
+fn crosses_threads() {
+    may_be_shared::<Library>();
+}

@@ -1,5 +1,5 @@
 -- What bytes say is within bounds: line by line, and the statements together.
-use Rattle.std.proofs.Common.{◌≡◌, ℕ, ◌+◌, ◌≤◌, ◌<◌, Bool, true, false, if◌then◌else◌, ◌&&◌, List, [], ◌∷◌, ◌++◌, length, map, filter_map, fold, Option, Some, None, refl, sym, ◌∙◌, ap, subst, arith}
+use Rattle.std.proofs.Common.{◌≡◌, ℕ, suc, ◌+◌, ◌≤◌, ◌<◌, Bool, true, false, if◌then◌else◌, ◌&&◌, List, [], ◌∷◌, ◌++◌, length, map, filter_map, fold, Option, Some, None, refl, sym, ◌∙◌, ap, subst, arith}
 use Rattle.std.specs.Prelude.{unwrap_or, nat_lt, nat_le}
 use Rattle.std.specs.List.{AllByRecursion, cons_option}
 use Rattle.std.proofs.lemmas.Bool.{ltb-true, leb-true}
@@ -75,24 +75,24 @@ fine_lines before (line ∷ lines) h = by_reading (reading_of line) refl (fine_l
 
 modules_good : (last : Option ℕ) (n : ℕ) (sts : List Statement) → Fine last n sts → AllByRecursion IsModLine (filter_map module_of sts)
 modules_good last n [] fine = tt
-modules_good last n (gives m ∷ sts) fine = (fine.1, modules_good _ _ sts fine.2)
-modules_good last n (fails f ∷ sts) fine = modules_good _ _ sts fine.2
-modules_good last n (process k ∷ sts) fine = modules_good _ _ sts fine.2
-modules_good last n (command c ∷ sts) fine = modules_good _ _ sts fine.2
+modules_good last n (gives m ∷ sts) fine = (fine.1, modules_good last n sts fine.2)
+modules_good last n (fails f ∷ sts) fine = modules_good last n sts fine.2
+modules_good last n (process k ∷ sts) fine = modules_good (Some k) 0 sts fine.2
+modules_good last n (command c ∷ sts) fine = modules_good last (n + 1) sts fine.2
 
 failing_good : (last : Option ℕ) (n : ℕ) (sts : List Statement) → Fine last n sts → AllByRecursion IsFailingLine (filter_map failing_in sts)
 failing_good last n [] fine = tt
-failing_good last n (gives m ∷ sts) fine = failing_good _ _ sts fine.2
-failing_good last n (fails f ∷ sts) fine = (fine.1, failing_good _ _ sts fine.2)
-failing_good last n (process k ∷ sts) fine = failing_good _ _ sts fine.2
-failing_good last n (command c ∷ sts) fine = failing_good _ _ sts fine.2
+failing_good last n (gives m ∷ sts) fine = failing_good last n sts fine.2
+failing_good last n (fails f ∷ sts) fine = (fine.1, failing_good last n sts fine.2)
+failing_good last n (process k ∷ sts) fine = failing_good (Some k) 0 sts fine.2
+failing_good last n (command c ∷ sts) fine = failing_good last (n + 1) sts fine.2
 
 commands_good : (last : Option ℕ) (n : ℕ) (sts : List Statement) → Fine last n sts → AllByRecursion IsCommand (commands_of sts)
 commands_good last n [] fine = tt
 commands_good last n (gives m ∷ sts) fine = tt
 commands_good last n (fails f ∷ sts) fine = tt
 commands_good last n (process k ∷ sts) fine = tt
-commands_good last n (command c ∷ sts) fine = (fine.1, commands_good _ _ sts fine.2)
+commands_good last n (command c ∷ sts) fine = (fine.1, commands_good last (n + 1) sts fine.2)
 
 if_none : (b : Bool) (kind : SessionKind) → (if b then None else Some kind) ≡ None → b ≡ true
 if_none true kind h = refl
@@ -111,11 +111,11 @@ commands_few k n (command c ∷ sts) few fine =
 
 scripts_good : (last : Option ℕ) (n : ℕ) (sts : List Statement) → Fine last n sts → AllByRecursion IsScript (scripts_of sts)
 scripts_good last n [] fine = tt
-scripts_good last n (gives m ∷ sts) fine = scripts_good _ _ sts fine.2
-scripts_good last n (fails f ∷ sts) fine = scripts_good _ _ sts fine.2
-scripts_good last n (command c ∷ sts) fine = scripts_good _ _ sts fine.2
+scripts_good last n (gives m ∷ sts) fine = scripts_good last n sts fine.2
+scripts_good last n (fails f ∷ sts) fine = scripts_good last n sts fine.2
+scripts_good last n (command c ∷ sts) fine = scripts_good last (n + 1) sts fine.2
 scripts_good last n (process k ∷ sts) fine =
-    (record { few = from_zero (length (commands_of sts)) (commands_few k 0 sts (omega arith) fine.2); commands = commands_good _ _ sts fine.2 }, scripts_good _ _ sts fine.2)
+    (record { few = from_zero (length (commands_of sts)) (commands_few k 0 sts (omega arith) fine.2); commands = commands_good (Some k) 0 sts fine.2 }, scripts_good (Some k) 0 sts fine.2)
   where
     from_zero : (n : ℕ) → 0 + n ≤ MOST_COMMANDS → n ≤ MOST_COMMANDS
     from_zero n h = omega arith
@@ -156,7 +156,7 @@ rise_count low (n ∷ ns) high h =
 
 map_count : (scripts : List Script) → length (map (λ s. s.pid) scripts) ≡ length scripts
 map_count [] = refl
-map_count (s ∷ scripts) = ap (λ n. n + 1) (map_count scripts)
+map_count (s ∷ scripts) = ap suc (map_count scripts)
 
 session_good : (sts : List Statement) → Fine None 0 sts → IsSession (session_of sts)
 unfolding session_of

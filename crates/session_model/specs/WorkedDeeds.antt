@@ -106,7 +106,7 @@ history_of_break =
     load_new ∷ entry_of 2 (Enter ways.Load 0 [] []) ∷ entry_of 1 (Fault 1 0 (page 1 0)) ∷ entry_of 1 (Debug 1 0 1 0 (0xCC ∷ []))
     ∷ entry_of 1 (Free 0 [] []) ∷ entry_of 1 (Enter ways.Load 0 [] []) ∷ []
 
-abbrev as_linked : List ℕ
+abbrev pub as_linked : List ℕ
 as_linked = 0 ∷ 0 ∷ 0 ∷ 0 ∷ 0 ∷ 0 ∷ 0 ∷ 0x10 ∷ []
 
 abbrev broken : List ℕ
