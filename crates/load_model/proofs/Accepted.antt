@@ -13,8 +13,8 @@ use Rattle.load_model.specs.declared.deeds.How.{How}
 use Rattle.load_model.specs.declared.deeds.How.TheVariants as ways
 use Rattle.load_model.specs.Modules.{no_parts, Library, Held, module_count, number_of}
 use Rattle.load_model.specs.State.{serial_of, Residence, Process, Eager}
-use Rattle.load_model.specs.Refusals.{Purpose, write, share, when, started_refusal, enter_refusal, free_refusal, span_refusal, residence_refusal, residence_named, place_refusal, refusal_of}
-use Rattle.load_model.specs.Asks.{Ask, enter, free, exit, put, get, deed_of, may_ask, is_attached, is_serial}
+use Rattle.load_model.specs.Refusals.{Purpose, write, share, debug, when, started_refusal, enter_refusal, free_refusal, span_refusal, residence_refusal, residence_named, place_refusal, refusal_of}
+use Rattle.load_model.specs.Asks.{Ask, enter, free, exit, put, patch, get, deed_of, may_ask, is_attached, is_serial}
 use Rattle.load_model.specs.Step.{Answer, entry, steady, meant, serial_named, fine_answer, answer_of, ask_by, FitsPlace}
 use Rattle.load_model.specs.Accepted.{AcceptedMayAsk}
 use Rattle.load_model.proofs.Bools.{and_true}
@@ -34,7 +34,7 @@ number_below lib name m e = lt-ltb m (length lib) (position-Some _ lib m no_part
 some_no_module : Some NoModule ≡ None → ⊥
 some_no_module h = cc
 
-nobody : (lib : Library) (p : Process) (how : How) → enter_refusal lib p how None ≡ None → ⊥
+pub nobody : (lib : Library) (p : Process) (how : How) → enter_refusal lib p how None ≡ None → ⊥
 unfolding enter_refusal
 nobody lib p how h = some_no_module (right_none (started_refusal p how) _ (right_none (when p.ended Ended) _ h))
 
@@ -101,6 +101,13 @@ put_may lib e pid place bytes fits o =
     and_true _ _ o.going
     (and_true _ _ o.attached (ap (λ len. is_none (span_refusal lib write (meant lib place.«module») place.object place.offset len)) fits ∙ o.span))
 
+patch_may : (lib : Library) (e : Eager) (pid : ℕ) (place : Place) (bytes : List ℕ) → length bytes ≡ place.len → Open lib e pid debug place →
+    may_ask lib e pid (patch (serial_named lib e pid place) (meant lib place.«module») place.object place.offset bytes) ≡ true
+unfolding may_ask
+patch_may lib e pid place bytes fits o =
+    and_true _ _ o.going
+    (and_true _ _ o.attached (ap (λ len. is_none (span_refusal lib debug (meant lib place.«module») place.object place.offset len)) fits ∙ o.span))
+
 exit_may : (lib : Library) (e : Eager) (pid : ℕ) → (e.processes pid).ended ≡ false → may_ask lib e pid exit ≡ true
 unfolding may_ask
 exit_may lib e pid h = ap not h
@@ -119,8 +126,10 @@ may_by lib e pid (commands.Free name) ask fits h is = same_ask lib e pid _ ask (
 may_by lib e pid (commands.Touch place) ask fits h is = cc
 may_by lib e pid (commands.Peek place) ask fits h is = cc
 may_by lib e pid (commands.Query name key) ask fits h is = cc
+may_by lib e pid (commands.GetRes name ty id) ask fits h is = cc
 may_by lib e pid (commands.Shared place) ask fits h is = same_ask lib e pid _ ask (get_may lib e pid place (opened lib e pid share place h)) is
 may_by lib e pid (commands.Write place bytes) ask fits h is = same_ask lib e pid _ ask (put_may lib e pid place bytes fits (opened lib e pid write place h)) is
+may_by lib e pid (commands.Debug place bytes) ask fits h is = same_ask lib e pid _ ask (patch_may lib e pid place bytes fits (opened lib e pid debug place h)) is
 may_by lib e pid commands.Exit ask fits h is = same_ask lib e pid exit ask (exit_may lib e pid (when_none _ Ended h)) is
 
 accepted_by : (lib : Library) (contents : Held) (e : Eager) (pid : ℕ) (command : Command) (ask : Ask) → ask_by lib e pid command ≡ Some ask →
@@ -132,11 +141,15 @@ accepted_by lib contents e pid (commands.Free name) ask is = (let same : free (m
 accepted_by lib contents e pid (commands.Touch place) ask is = cc
 accepted_by lib contents e pid (commands.Peek place) ask is = cc
 accepted_by lib contents e pid (commands.Query name key) ask is = cc
+accepted_by lib contents e pid (commands.GetRes name ty id) ask is = cc
 accepted_by lib contents e pid (commands.Shared place) ask is =
     let same : get (serial_named lib e pid place) (meant lib place.«module») place.object place.offset place.len ≡ ask = cc in
     ap (λ a. entry (deed_of lib contents e pid a)) same
 accepted_by lib contents e pid (commands.Write place bytes) ask is =
     let same : put (serial_named lib e pid place) (meant lib place.«module») place.object place.offset bytes ≡ ask = cc in
+    ap (λ a. entry (deed_of lib contents e pid a)) same
+accepted_by lib contents e pid (commands.Debug place bytes) ask is =
+    let same : patch (serial_named lib e pid place) (meant lib place.«module») place.object place.offset bytes ≡ ask = cc in
     ap (λ a. entry (deed_of lib contents e pid a)) same
 accepted_by lib contents e pid commands.Exit ask is = (let same : exit ≡ ask = cc in ap (λ a. entry (deed_of lib contents e pid a)) same)
 

@@ -13,11 +13,11 @@ use Rattle.load_model.specs.Refusals.{when, key_refusal, residence_named, query_
 use Rattle.load_model.specs.Step.{Answer, steady, fine_answer, answer_of, meant, spot_address, address_of}
 use Rattle.load_model.specs.Histories.{state_after}
 use Rattle.load_model.specs.Laws.{IsSteady, OthersAnswerAlike}
-use Rattle.load_model.proofs.Residents.{done_by, legal_kept}
 use Rattle.load_model.proofs.Orders.{OrdersNest, reaches_closed}
 use Rattle.load_model.proofs.EntryReach.{SpotsAreOrdered}
+use Rattle.load_model.specs.Accepted.{retouched}
 use Rattle.load_model.specs.Alike.{Alike}
-use Rattle.load_model.proofs.Apart.{deed_alike, refusal_alike}
+use Rattle.load_model.proofs.Apart.{refusal_alike, retouched_alike, others_leave_alike}
 use Rattle.load_model.proofs.Bytes.{named_is, bases_stay, peek_alike, right_none}
 
 -- ---- addresses
@@ -53,18 +53,20 @@ done_alike nest spots lib contents e after q (commands.Touch place) alike is fin
 done_alike nest spots lib contents e after q (commands.Peek place) alike is fine = ap (λ bytes. steady (replies.Bytes bytes)) (peek_alike nest lib contents e after q place alike fine)
 done_alike nest spots lib contents e after q (commands.Query name key) alike is fine =
     ap (λ a. steady (replies.Address a)) (address_alike nest spots lib e after q name key alike fine)
+done_alike nest spots lib contents e after q (commands.GetRes name ty id) alike is fine = refl
 done_alike nest spots lib contents e after q (commands.Start name) alike is fine = absurd is
 done_alike nest spots lib contents e after q (commands.Load name) alike is fine = absurd is
 done_alike nest spots lib contents e after q (commands.Free name) alike is fine = absurd is
 done_alike nest spots lib contents e after q (commands.Shared place) alike is fine = absurd is
 done_alike nest spots lib contents e after q (commands.Write place bytes) alike is fine = absurd is
+done_alike nest spots lib contents e after q (commands.Debug place bytes) alike is fine = absurd is
 done_alike nest spots lib contents e after q commands.Exit alike is fine = absurd is
 
-abbrev answer_by : Answer → Option Refusal → Answer
+abbrev pub answer_by : Answer → Option Refusal → Answer
 answer_by other (Some refusal) = steady (replies.Refused refusal)
 answer_by other None = other
 
-answer_is : (lib : Library) (contents : Held) (e : Eager) (q : ℕ) (command : Command) → answer_of lib contents e q command ≡ answer_by (fine_answer lib contents e q command) (refusal_of lib e q command)
+pub answer_is : (lib : Library) (contents : Held) (e : Eager) (q : ℕ) (command : Command) → answer_of lib contents e q command ≡ answer_by (fine_answer lib contents e q command) (refusal_of lib e q command)
 unfolding answer_of
 answer_is lib contents e q command = step (refusal_of lib e q command)
   where
@@ -83,6 +85,6 @@ answer_alike nest spots lib contents e after q command alike is =
     step None h = done_alike nest spots lib contents e after q command alike is h
 
 pub others_answer_alike : OrdersNest → SpotsAreOrdered → OthersAnswerAlike
-others_answer_alike nest spots lib contents h x pid command legal follows there apart is =
-    answer_alike nest spots lib contents (state_after lib h) _ pid command
-    (deed_alike lib contents (state_after lib h) x.pid x.deed pid (done_by lib contents h x follows) (legal_kept lib contents h legal) there apart) is
+others_answer_alike nest spots lib failing contents h x touched pid command legal follows there apart is =
+    answer_alike nest spots lib contents (retouched touched (state_after lib failing h)) _ pid command
+    (retouched_alike lib (state_after lib failing h) _ touched pid (others_leave_alike lib failing contents h x pid legal follows there apart)) is

@@ -11,10 +11,11 @@ use Rattle.load_model.specs.declared.deeds.How.TheVariants as ways
 use Rattle.load_model.specs.declared.deeds.Deed.{Deed}
 use Rattle.load_model.specs.declared.deeds.Deed.TheVariants as deeds
 use Rattle.load_model.specs.Modules.{Library, Held, number_of}
-use Rattle.load_model.specs.State.{Residence, Process, Eager, Written, is_among, pids, reaches, residence_of, attached_residence}
+use Rattle.load_model.specs.Accepted.{retouched}
+use Rattle.load_model.specs.State.{PageOf, Residence, Process, Eager, Written, is_among, pids, reaches, residence_of, attached_residence}
 use Rattle.load_model.specs.Entering.{after_entering, with_fresh_residences}
 use Rattle.load_model.specs.Leaving.{after_leaving}
-use Rattle.load_model.specs.Refusals.{Purpose, touch, write, share, peek, ◌orelse◌, when, enter_refusal, free_refusal, residence_refusal, residence_if, residence_named, place_refusal, key_refusal, query_refusal, refusal_of}
+use Rattle.load_model.specs.Refusals.{Purpose, touch, write, share, peek, debug, ◌orelse◌, when, enter_refusal, free_refusal, residence_refusal, residence_if, residence_named, place_refusal, key_refusal, query_refusal, found_refusal, resource_refusal, refusal_of}
 use Rattle.load_model.specs.Asks.{after_write, after_deed}
 use Rattle.load_model.specs.Histories.{state_after}
 use Rattle.load_model.specs.Alike.{Alike, OthersLeaveAlike}
@@ -35,10 +36,12 @@ process_stays : (lib : Library) (e : Eager) (pid : ℕ) (d : Deed) (q : ℕ) →
 unfolding after_deed after_entering after_leaving
 process_stays lib e pid (deeds.Enter how m fresh calls) q h = process_apart (with_fresh_residences e fresh) pid _ q h
 process_stays lib e pid (deeds.Full how m of object size) q h = refl
+process_stays lib e pid (deeds.Failed how m by fresh calls gone) q h = refl
 process_stays lib e pid (deeds.Free m calls gone) q h = process_apart e pid _ q h
 process_stays lib e pid (deeds.Exit calls gone) q h = process_apart e pid _ q h
 process_stays lib e pid (deeds.Fault serial m p) q h = refl
 process_stays lib e pid (deeds.Write serial m object offset bytes) q h = written_apart e pid serial _ _ q h
+process_stays lib e pid (deeds.Debug serial m object offset bytes) q h = written_apart e pid serial _ classes.Private q h
 process_stays lib e pid (deeds.Shared serial m object offset bytes) q h = refl
 
 -- ---- two states that a process cannot tell apart
@@ -54,7 +57,7 @@ deed_alike lib contents e pid d q done kept there h =
           (one_reaches lib (after_deed lib e pid d) q m there (ap (λ p. reaches lib p m) same ∙ reached));
     }
 
-attached_stays : (lib : Library) (e after : Eager) (q m : ℕ) → Alike lib e after q → stay_of (attached_residence lib after q m) ≡ stay_of (attached_residence lib e q m)
+pub attached_stays : (lib : Library) (e after : Eager) (q m : ℕ) → Alike lib e after q → stay_of (attached_residence lib after q m) ≡ stay_of (attached_residence lib e q m)
 unfolding attached_residence
 attached_stays lib e after q m alike =
     ap (λ p. stay_of (if reaches lib p m then residence_of after m else None)) alike.process ∙ step (reaches lib (e.processes q) m) (alike.stays m)
@@ -99,6 +102,18 @@ query_alike lib e after q name key alike =
     (key_by_stay lib key (residence_named lib after q name) ∙ ap (key_refusal lib key) (named_stays lib e after q name alike)
     ∙ sym (key_by_stay lib key (residence_named lib e q name)))
 
+found_by_stay : (lib : Library) (ty id : ℕ) (r : Option Residence) → found_refusal lib ty id r ≡ found_refusal lib ty id (stay_of r)
+found_by_stay lib ty id None = refl
+found_by_stay lib ty id (Some r) = refl
+
+resource_alike : (lib : Library) (e after : Eager) (q : ℕ) (name : List ℕ) (ty id : ℕ) → Alike lib e after q → resource_refusal lib after q name ty id ≡ resource_refusal lib e q name ty id
+unfolding resource_refusal
+resource_alike lib e after q name ty id alike =
+    ap (λ p. when p.ended Ended orelse found_refusal lib ty id (residence_named lib after q name)) alike.process
+    ∙ ap (λ r. when (e.processes q).ended Ended orelse r)
+    (found_by_stay lib ty id (residence_named lib after q name) ∙ ap (found_refusal lib ty id) (named_stays lib e after q name alike)
+    ∙ sym (found_by_stay lib ty id (residence_named lib e q name)))
+
 pub refusal_alike : (lib : Library) (e after : Eager) (q : ℕ) (command : Command) → Alike lib e after q → refusal_of lib after q command ≡ refusal_of lib e q command
 unfolding refusal_of
 refusal_alike lib e after q (commands.Start name) alike = ap (λ p. enter_refusal lib p ways.Start (number_of lib name)) alike.process
@@ -108,13 +123,24 @@ refusal_alike lib e after q (commands.Touch place) alike = place_alike lib e aft
 refusal_alike lib e after q (commands.Peek place) alike = place_alike lib e after q peek place alike
 refusal_alike lib e after q (commands.Shared place) alike = place_alike lib e after q share place alike
 refusal_alike lib e after q (commands.Write place bytes) alike = place_alike lib e after q write place alike
+refusal_alike lib e after q (commands.Debug place bytes) alike = place_alike lib e after q debug place alike
 refusal_alike lib e after q (commands.Query name key) alike = query_alike lib e after q name key alike
+refusal_alike lib e after q (commands.GetRes name ty id) alike = resource_alike lib e after q name ty id alike
 refusal_alike lib e after q commands.Exit alike = ap (λ p. when p.ended Ended) alike.process
 
-pub others_refuse_alike : OthersRefuseAlike
-others_refuse_alike lib contents h x pid command legal follows there apart =
-    refusal_alike lib (state_after lib h) _ pid command (deed_alike lib contents (state_after lib h) x.pid x.deed pid (done_by lib contents h x follows) (legal_kept lib contents h legal) there apart)
+-- nor can it where the same was touched in both
+pub retouched_alike : (lib : Library) (e after : Eager) (touched : ℕ → List PageOf) (q : ℕ) → Alike lib e after q → Alike lib (retouched touched e) (retouched touched after) q
+unfolding reaches residence_of
+retouched_alike lib e after touched q alike = record {
+  process = ap (λ (p : Process). record p { touched = touched q }) alike.process;
+  stays = λ m reached. alike.stays m reached;
+}
 
 pub others_leave_alike : OthersLeaveAlike
-others_leave_alike lib contents h x pid legal follows there other =
-    deed_alike lib contents (state_after lib h) x.pid x.deed pid (done_by lib contents h x follows) (legal_kept lib contents h legal) there other
+others_leave_alike lib failing contents h x pid legal follows there other =
+    deed_alike lib contents (state_after lib failing h) x.pid x.deed pid (done_by lib failing contents h x follows) (legal_kept lib failing contents h legal) there other
+
+pub others_refuse_alike : OthersRefuseAlike
+others_refuse_alike lib failing contents h x touched pid command legal follows there apart =
+    refusal_alike lib (retouched touched (state_after lib failing h)) _ pid command
+    (retouched_alike lib (state_after lib failing h) _ touched pid (others_leave_alike lib failing contents h x pid legal follows there apart))

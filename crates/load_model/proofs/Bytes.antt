@@ -16,17 +16,18 @@ use Rattle.load_model.specs.State.{Residence, Process, Eager, Written, is_among,
 use Rattle.load_model.specs.Memory.{writes_of_class, writes_seen, bases_seen, last_put, Byte, Bytes}
 use Rattle.load_model.specs.Refusals.{peek, ◌orelse◌, when, class_refusal, span_refusal, residence_refusal, residence_if, residence_named, place_refusal}
 use Rattle.load_model.specs.Step.{bytes_of}
-use Rattle.load_model.specs.Laws.{stay_of}
+use Rattle.load_model.specs.Histories.{after_entry, state_after}
+use Rattle.load_model.specs.Laws.{stay_of, OthersBytesAlike}
 use Rattle.load_model.proofs.Orders.{OrdersNest, reaches_closed}
 use Rattle.load_model.specs.Alike.{Alike, BasesAreAlike}
-use Rattle.load_model.proofs.Apart.{named_stays}
+use Rattle.load_model.proofs.Apart.{attached_stays, named_stays, others_leave_alike}
 
 -- ---- residences that differ in shared writes alone
 
-abbrev with_writes : Residence → List Written → Residence
+abbrev pub with_writes : Residence → List Written → Residence
 with_writes r ws = record r { writes = ws }
 
-same_stay : (a b : Residence) → stay_of (Some b) ≡ stay_of (Some a) → b ≡ with_writes a b.writes
+pub same_stay : (a b : Residence) → stay_of (Some b) ≡ stay_of (Some a) → b ≡ with_writes a b.writes
 same_stay a b e =
     let plain : with_writes b [] ≡ with_writes a [] = cc in
     ap (λ r. with_writes r b.writes) plain
@@ -34,12 +35,12 @@ same_stay a b e =
 none_stay : (b : Residence) → stay_of (Some b) ≡ stay_of None → ⊥
 none_stay b e = cc
 
-some_stay : (a : Residence) → stay_of None ≡ stay_of (Some a) → ⊥
+pub some_stay : (a : Residence) → stay_of None ≡ stay_of (Some a) → ⊥
 some_stay a e = cc
 
 -- ---- what a residence that is named is
 
-find_is : (m : ℕ) (rs : List Residence) (a : Residence) → find (λ r. r.«module» == m) rs ≡ Some a → a.«module» ≡ m
+pub find_is : (m : ℕ) (rs : List Residence) (a : Residence) → find (λ r. r.«module» == m) rs ≡ Some a → a.«module» ≡ m
 find_is m [] a e = cc
 find_is m (r ∷ rs) a e = step (r.«module» == m) refl (find_is m rs a) e
   where
@@ -70,7 +71,7 @@ named_is lib e q name a is = step (number_of lib name) refl is
 
 -- ---- bases
 
-map_member : {X : Type 0} (f g : ℕ → X) (xs : List ℕ) → ((k : ℕ) → is_among xs k ≡ true → f k ≡ g k) → map f xs ≡ map g xs
+pub map_member : {X : Type 0} (f g : ℕ → X) (xs : List ℕ) → ((k : ℕ) → is_among xs k ≡ true → f k ≡ g k) → map f xs ≡ map g xs
 map_member f g [] h = refl
 map_member f g (x ∷ xs) h =
     ap (λ y. y ∷ map f xs) (h x (ap (λ b. b || is_among xs x) (same x)))
@@ -79,14 +80,14 @@ map_member f g (x ∷ xs) h =
     same : (n : ℕ) → (n == n) ≡ true
     same n = eq-eqb n n refl
 
-bases_by_stay : (r : Option Residence) → bases_of r ≡ bases_of (stay_of r)
+pub bases_by_stay : (r : Option Residence) → bases_of r ≡ bases_of (stay_of r)
 bases_by_stay None = refl
 bases_by_stay (Some r) = refl
 
 pub bases_stay : (r s : Option Residence) → stay_of r ≡ stay_of s → bases_of r ≡ bases_of s
 bases_stay r s e = bases_by_stay r ∙ ap bases_of e ∙ sym (bases_by_stay s)
 
-abbrev one_bases : Eager → ℕ → ModBases
+abbrev pub one_bases : Eager → ℕ → ModBases
 one_bases e k = record { «module» = k; objects = bases_of (residence_of e k) }
 
 pub bases_alike : OrdersNest → (lib : Library) (e after : Eager) (q m : ℕ) → Alike lib e after q → reaches lib (e.processes q) m ≡ true → bases_seen lib after m ≡ bases_seen lib e m
@@ -114,7 +115,7 @@ right_none None b h = h
 right_none (Some r) b h = cc
 
 -- a place that may be peeked at is of code or of own data
-peeked_class : (lib : Library) (p : Process) (place : Place) (a : Residence) → residence_refusal lib p peek place (Some a) ≡ None →
+pub peeked_class : (lib : Library) (p : Process) (place : Place) (a : Residence) → residence_refusal lib p peek place (Some a) ≡ None →
     class_refusal peek (class_of (object_at lib a.«module» place.object)) ≡ None
 unfolding span_refusal
 peeked_class lib p place a h = left_none _ _ (right_none _ _ (left_none (span_refusal lib peek a.«module» place.object place.offset place.len) _ h))
@@ -124,15 +125,22 @@ seen_alike : (lib : Library) (p : Process) (a : Residence) (ws : List Written) (
 unfolding writes_seen
 seen_alike lib p a ws object h = ap (filter (λ w. w.object == object)) (not_shared (class_of (object_at lib a.«module» object)) p a ws h)
 
-bytes_alike : OrdersNest → (lib : Library) (contents : Held) (e after : Eager) (q : ℕ) (a : Residence) (ws : List Written) (object offset len : ℕ) → Alike lib e after q →
+pub byte_alike : OrdersNest → (lib : Library) (contents : Held) (e after : Eager) (q : ℕ) (a : Residence) (ws : List Written) (object x : ℕ) → Alike lib e after q →
     reaches lib (e.processes q) a.«module» ≡ true → class_refusal peek (class_of (object_at lib a.«module» object)) ≡ None →
-    Bytes lib contents after q (with_writes a ws) object offset len ≡ Bytes lib contents e q a object offset len
-unfolding Bytes Byte
-bytes_alike nest lib contents e after q a ws object offset len alike reached class =
-    let F : List Written → Bases → List ℕ = λ writes bases. map (λ x. last_put writes x (contents a.«module» bases object x)) (range_with_len offset len) in
+    Byte lib contents after q (with_writes a ws) object x ≡ Byte lib contents e q a object x
+unfolding Byte
+byte_alike nest lib contents e after q a ws object x alike reached class =
+    let F : List Written → Bases → ℕ = λ writes bases. last_put writes x (contents a.«module» bases object x) in
     ap (λ p. F (writes_seen lib p (with_writes a ws) object) (bases_seen lib after a.«module»)) alike.process
     ∙ ap (λ writes. F writes (bases_seen lib after a.«module»)) (seen_alike lib (e.processes q) a ws object class)
     ∙ ap (F (writes_seen lib (e.processes q) a object)) (bases_alike nest lib e after q a.«module» alike reached)
+
+bytes_alike : OrdersNest → (lib : Library) (contents : Held) (e after : Eager) (q : ℕ) (a : Residence) (ws : List Written) (object offset len : ℕ) → Alike lib e after q →
+    reaches lib (e.processes q) a.«module» ≡ true → class_refusal peek (class_of (object_at lib a.«module» object)) ≡ None →
+    Bytes lib contents after q (with_writes a ws) object offset len ≡ Bytes lib contents e q a object offset len
+unfolding Bytes
+bytes_alike nest lib contents e after q a ws object offset len alike reached class =
+    λ i. map (λ x. byte_alike nest lib contents e after q a ws object x alike reached class i) (range_with_len offset len)
 
 pub peek_alike : OrdersNest → (lib : Library) (contents : Held) (e after : Eager) (q : ℕ) (place : Place) → Alike lib e after q → place_refusal lib e q peek place ≡ None →
     bytes_of lib contents after q place (residence_named lib after q place.«module») ≡ bytes_of lib contents e q place (residence_named lib e q place.«module»)
@@ -153,3 +161,18 @@ peek_alike nest lib contents e after q place alike fine =
 
 pub bases_are_alike : OrdersNest → BasesAreAlike
 bases_are_alike nest lib e after pid m alike reached = bases_alike nest lib e after pid m alike reached
+
+-- a class that is not shared may be peeked at
+own_class : (c : Class) → (c ≡ classes.Shared → ⊥) → class_refusal peek c ≡ None
+own_class classes.Code apart = refl
+own_class classes.Private apart = refl
+own_class classes.Shared apart = absurd (apart refl)
+
+pub others_bytes_alike : OrdersNest → OthersBytesAlike
+others_bytes_alike nest lib failing contents h entry pid m object x a b legal follows there other own is after =
+    let alike : Alike lib (state_after lib failing h) (after_entry lib (state_after lib failing h) entry) pid = others_leave_alike lib failing contents h entry pid legal follows there other in
+    let same : stay_of (Some b) ≡ stay_of (Some a) = ap stay_of (sym after) ∙ attached_stays lib (state_after lib failing h) _ pid m alike ∙ ap stay_of is in
+    let it : (reaches lib ((state_after lib failing h).processes pid) m ≡ true) × (a.«module» ≡ m) = attached_is lib (state_after lib failing h) pid m a is in
+    ap (λ r. Byte lib contents (after_entry lib (state_after lib failing h) entry) pid r object x) (same_stay a b same)
+    ∙ byte_alike nest lib contents (state_after lib failing h) _ pid a b.writes object x alike (ap (reaches lib ((state_after lib failing h).processes pid)) it.1 ∙ it.0)
+    (ap (λ k. class_refusal peek (class_of (object_at lib k object))) it.1 ∙ own_class (class_of (object_at lib m object)) own)

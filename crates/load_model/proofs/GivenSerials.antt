@@ -11,7 +11,7 @@ use Rattle.load_model.specs.declared.deeds.Deed.{Deed}
 use Rattle.load_model.specs.declared.deeds.Deed.TheVariants as deeds
 use Rattle.load_model.specs.declared.deeds.Entry.{Entry}
 use Rattle.load_model.specs.Modules.{Library, Held, object_at}
-use Rattle.load_model.specs.State.{Written, Residence, Eager, with_process, reaches, residence_of, attached_residence}
+use Rattle.load_model.specs.State.{Failing, Written, Residence, Eager, with_process, reaches, residence_of, attached_residence}
 use Rattle.load_model.specs.Entering.{after_entering}
 use Rattle.load_model.specs.Leaving.{after_leaving}
 use Rattle.load_model.specs.Asks.{ask_in, may_ask, is_serial, is_attached, after_write, after_deed}
@@ -33,10 +33,12 @@ serials_grow : (lib : Library) (e : Eager) (pid : ℕ) (d : Deed) → e.serials 
 unfolding after_deed after_entering after_leaving with_process
 serials_grow lib e pid (deeds.Enter how m fresh calls) = omega arith
 serials_grow lib e pid (deeds.Full how m of object size) = omega arith
+serials_grow lib e pid (deeds.Failed how m by fresh calls gone) = omega arith
 serials_grow lib e pid (deeds.Free m calls gone) = omega arith
 serials_grow lib e pid (deeds.Exit calls gone) = omega arith
 serials_grow lib e pid (deeds.Fault serial m p) = omega arith
 serials_grow lib e pid (deeds.Write serial m object offset bytes) = (let same = written_serials e pid serial (record { object = object; offset = offset; bytes = bytes }) (class_of (object_at lib m object)) in omega (arith, same))
+serials_grow lib e pid (deeds.Debug serial m object offset bytes) = (let same = written_serials e pid serial (record { object = object; offset = offset; bytes = bytes }) classes.Private in omega (arith, same))
 serials_grow lib e pid (deeds.Shared serial m object offset bytes) = omega arith
 
 -- ---- what stands has one that was given
@@ -79,13 +81,15 @@ unfolding may_ask
 fault_below lib e pid serial high p (deeds.Fault other m q) h may is =
     let same : other ≡ serial = eqb-true other serial (and_left _ _ is) in
     let at : is_attached lib e pid other m ≡ true = and_left _ _ (and_right _ _ (and_left _ _ may)) in
-    let below = attached_below lib e pid other m high h at in
-    omega arith
+    let below : other ≤ high = attached_below lib e pid other m high h at in
+    subst (λ n. n ≤ high) same below
 fault_below lib e pid serial high p (deeds.Enter how m fresh calls) h may is = cc
 fault_below lib e pid serial high p (deeds.Full how m of object size) h may is = cc
+fault_below lib e pid serial high p (deeds.Failed how m by fresh calls gone) h may is = cc
 fault_below lib e pid serial high p (deeds.Free m calls gone) h may is = cc
 fault_below lib e pid serial high p (deeds.Exit calls gone) h may is = cc
 fault_below lib e pid serial high p (deeds.Write s m object offset bytes) h may is = cc
+fault_below lib e pid serial high p (deeds.Debug s m object offset bytes) h may is = cc
 fault_below lib e pid serial high p (deeds.Shared s m object offset bytes) h may is = cc
 
 or_nil : (b : Bool) → b || false ≡ b
@@ -96,28 +100,28 @@ one_more : (h : List Entry) (x : Entry) (serial : ℕ) (p : PageId) → has_faul
 unfolding has_fault
 one_more h x serial p = list_any-append (λ entry. is_fault_of serial p entry.deed) h (x ∷ []) ∙ ap (λ b. has_fault h serial p || b) (or_nil (is_fault_of serial p x.deed))
 
-abbrev Given : Library → List Entry → Type 0
-Given lib h = (serial : ℕ) (p : PageId) → has_fault h serial p ≡ true → serial ≤ (state_after lib h).serials
+abbrev Given : Library → Failing → List Entry → Type 0
+Given lib failing h = (serial : ℕ) (p : PageId) → has_fault h serial p ≡ true → serial ≤ (state_after lib failing h).serials
 
-given_more : (lib : Library) (contents : Held) (h : List Entry) (x : Entry) → Legal lib contents h → Follows lib contents h x → Given lib h → Given lib (h ++ x ∷ [])
-given_more lib contents h x legal follows given serial p is =
-    let grows = serials_grow lib (state_after lib h) x.pid x.deed in
-    let after : (state_after lib (h ++ x ∷ [])).serials ≡ (after_deed lib (state_after lib h) x.pid x.deed).serials = ap (λ (e : Eager). e.serials) (one_more_is_after lib h x) in
-    let below : serial ≤ (state_after lib h).serials =
+given_more : (lib : Library) (failing : Failing) (contents : Held) (h : List Entry) (x : Entry) → Legal lib failing contents h → Follows lib failing contents h x → Given lib failing h → Given lib failing (h ++ x ∷ [])
+given_more lib failing contents h x legal follows given serial p is =
+    let grows = serials_grow lib (state_after lib failing h) x.pid x.deed in
+    let after : (state_after lib failing (h ++ x ∷ [])).serials ≡ (after_deed lib (state_after lib failing h) x.pid x.deed).serials = ap (λ (e : Eager). e.serials) (one_more_is_after lib failing h x) in
+    let below : serial ≤ (state_after lib failing h).serials =
     elim (or_cases (has_fault h serial p) (is_fault_of serial p x.deed) (sym (one_more h x serial p) ∙ is)) [
       | inl before ↦ given serial p before
-      | inr here ↦ fault_below lib (state_after lib h) x.pid serial (state_after lib h).serials p x.deed (serials_rise lib contents h legal) follows.may here
+      | inr here ↦ fault_below lib (state_after lib failing h) x.pid serial (state_after lib failing h).serials p x.deed (serials_rise lib failing contents h legal) follows.may here
     ]
     in
     omega arith
 
-all_given : (lib : Library) (contents : Held) (h before : List Entry) → AllFollow lib contents before h → Legal lib contents before → Given lib before → Given lib (before ++ h)
-all_given lib contents [] before all legal given = (let G : List Entry → Type 0 = Given lib in subst G (sym (append-nil before)) given)
-all_given lib contents (x ∷ h) before all legal given =
-    let G : List Entry → Type 0 = Given lib in
+all_given : (lib : Library) (failing : Failing) (contents : Held) (h before : List Entry) → AllFollow lib failing contents before h → Legal lib failing contents before → Given lib failing before → Given lib failing (before ++ h)
+all_given lib failing contents [] before all legal given = (let G : List Entry → Type 0 = Given lib failing in subst G (sym (append-nil before)) given)
+all_given lib failing contents (x ∷ h) before all legal given =
+    let G : List Entry → Type 0 = Given lib failing in
     subst G (append_assoc before (x ∷ []) h)
-    (all_given lib contents h (before ++ x ∷ []) all.1 (one_more_is_legal lib contents before x legal all.0) (given_more lib contents before x legal all.0 given))
+    (all_given lib failing contents h (before ++ x ∷ []) all.1 (one_more_is_legal lib failing contents before x legal all.0) (given_more lib failing contents before x legal all.0 given))
 
 pub faults_are_given : FaultsAreGiven
 unfolding Legal has_fault
-faults_are_given lib contents h serial p legal is = all_given lib contents h [] legal (nothing_is_legal lib contents) (λ s q e. cc) serial p is
+faults_are_given lib failing contents h serial p legal is = all_given lib failing contents h [] legal (nothing_is_legal lib failing contents) (λ s q e. cc) serial p is

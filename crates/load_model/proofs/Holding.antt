@@ -14,10 +14,10 @@ use Rattle.load_model.specs.declared.commands.Reply.TheVariants as replies
 use Rattle.load_model.specs.declared.deeds.Deed.TheVariants as deeds
 use Rattle.load_model.specs.declared.deeds.Entry.{Entry}
 use Rattle.load_model.specs.Modules.{Library, Held, number_of, objects_of, object_at}
-use Rattle.load_model.specs.State.{Residence, Eager, is_among, pids, reaches, is_reached, attached_residence}
+use Rattle.load_model.specs.State.{Failing, Residence, Eager, is_among, pids, reaches, is_reached, attached_residence}
 use Rattle.load_model.specs.Memory.{writes_seen, last_put, Byte, Bytes}
 use Rattle.load_model.specs.Refusals.{Purpose, peek, share, when, is_outside, span_refusal, residence_refusal, residence_if, residence_named, place_refusal, refusal_of}
-use Rattle.load_model.specs.Asks.{Ask, enter, free, exit, fault, put, get, ask_in, bytes_at, deed_of, may_ask, may_use}
+use Rattle.load_model.specs.Asks.{Ask, enter, free, exit, fault, put, patch, get, ask_in, bytes_at, deed_of, may_ask, may_use}
 use Rattle.load_model.specs.Step.{Answer, entry, steady, meant, bytes_of, serial_named, fine_answer, answer_of}
 use Rattle.load_model.specs.Histories.{state_after, Follows, AllFollow, Legal}
 use Rattle.load_model.specs.Laws.{AgreeAt, HeldAnswersAlike, HeldHistoriesAlike}
@@ -54,7 +54,7 @@ pub record Inside (lib : Library) (m object offset len : ℕ) : Type 0 where
   pub there : IsNumberOf object (length (objects_of lib m))
   pub end : offset + len ≤ (object_at lib m object).size
 
-span_inside : (lib : Library) (how : Purpose) (m object offset len : ℕ) → span_refusal lib how m object offset len ≡ None → Inside lib m object offset len
+pub span_inside : (lib : Library) (how : Purpose) (m object offset len : ℕ) → span_refusal lib how m object offset len ≡ None → Inside lib m object offset len
 unfolding span_refusal
 span_inside lib how m object offset len h =
     let out : is_outside lib m object offset len ≡ false = when_none _ Range (left_none _ _ h) in
@@ -109,7 +109,7 @@ attached_bytes lib a b e pid serial m object offset len there agree may (Some r)
     none_is None h = refl
     none_is (Some y) h = cc
 
-deed_by : (lib : Library) (a b : Held) (e : Eager) (pid : ℕ) (ask : Ask) → is_among pids pid ≡ true → AgreeAt lib a b e → may_ask lib e pid ask ≡ true →
+pub deed_by : (lib : Library) (a b : Held) (e : Eager) (pid : ℕ) (ask : Ask) → is_among pids pid ≡ true → AgreeAt lib a b e → may_ask lib e pid ask ≡ true →
     deed_of lib a e pid ask ≡ deed_of lib b e pid ask
 unfolding deed_of may_ask
 deed_by lib a b e pid (enter how m) there agree may = refl
@@ -117,32 +117,33 @@ deed_by lib a b e pid (free m) there agree may = refl
 deed_by lib a b e pid exit there agree may = refl
 deed_by lib a b e pid (fault serial m p) there agree may = refl
 deed_by lib a b e pid (put serial m object offset bytes) there agree may = refl
+deed_by lib a b e pid (patch serial m object offset bytes) there agree may = refl
 deed_by lib a b e pid (get serial m object offset len) there agree may =
     ap (deeds.Shared serial m object offset)
     (attached_bytes lib a b e pid serial m object offset len there agree (and_right _ _ may) (attached_residence lib e pid m) refl)
 
 -- ---- histories
 
-follows_by : (lib : Library) (a b : Held) (h : List Entry) (x : Entry) → AgreeAt lib a b (state_after lib h) → Follows lib a h x → Follows lib b h x
-follows_by lib a b h x agree f = record {
+follows_by : (lib : Library) (failing : Failing) (a b : Held) (h : List Entry) (x : Entry) → AgreeAt lib a b (state_after lib failing h) → Follows lib failing a h x → Follows lib failing b h x
+follows_by lib failing a b h x agree f = record {
   process = f.process;
   may = f.may;
-  done = f.done ∙ deed_by lib a b (state_after lib h) x.pid (ask_in x.deed) f.process agree f.may;
+  done = f.done ∙ deed_by lib a b (state_after lib failing h) x.pid (ask_in x.deed) f.process agree f.may;
   first = f.first;
 }
 
-all_by : (lib : Library) (a b : Held) (before h : List Entry) → ((first rest : List Entry) → h ≡ first ++ rest → AgreeAt lib a b (state_after lib (before ++ first))) →
-    AllFollow lib a before h → AllFollow lib b before h
-all_by lib a b before [] agree all = tt
-all_by lib a b before (x ∷ h) agree all = (
-  follows_by lib a b before x (subst (λ z. AgreeAt lib a b (state_after lib z)) (append-nil before) (agree [] (x ∷ h) refl)) all.0,
-  all_by lib a b (before ++ x ∷ []) h
-      (λ first rest is. subst (λ z. AgreeAt lib a b (state_after lib z)) (sym (append_assoc before (x ∷ []) first)) (agree (x ∷ first) rest (ap (λ xs. x ∷ xs) is))) all.1,
+all_by : (lib : Library) (failing : Failing) (a b : Held) (before h : List Entry) → ((first rest : List Entry) → h ≡ first ++ rest → AgreeAt lib a b (state_after lib failing (before ++ first))) →
+    AllFollow lib failing a before h → AllFollow lib failing b before h
+all_by lib failing a b before [] agree all = tt
+all_by lib failing a b before (x ∷ h) agree all = (
+  follows_by lib failing a b before x (subst (λ z. AgreeAt lib a b (state_after lib failing z)) (append-nil before) (agree [] (x ∷ h) refl)) all.0,
+  all_by lib failing a b (before ++ x ∷ []) h
+      (λ first rest is. subst (λ z. AgreeAt lib a b (state_after lib failing z)) (sym (append_assoc before (x ∷ []) first)) (agree (x ∷ first) rest (ap (λ xs. x ∷ xs) is))) all.1,
 )
 
 pub held_histories_alike : HeldHistoriesAlike
 unfolding Legal
-held_histories_alike lib a b h agree all = all_by lib a b [] h agree all
+held_histories_alike lib failing a b h agree all = all_by lib failing a b [] h agree all
 
 -- ---- commands
 
@@ -188,7 +189,9 @@ done_by lib a b e pid (commands.Peek place) there agree fine =
 done_by lib a b e pid (commands.Shared place) there agree fine =
     ap (λ bytes. entry (deeds.Shared (serial_named lib e pid place) (meant lib place.«module») place.object place.offset bytes)) (shared_bytes lib a b e pid place there agree fine (number_of lib place.«module») refl)
 done_by lib a b e pid (commands.Write place bytes) there agree fine = refl
+done_by lib a b e pid (commands.Debug place bytes) there agree fine = refl
 done_by lib a b e pid (commands.Query name key) there agree fine = refl
+done_by lib a b e pid (commands.GetRes name ty id) there agree fine = refl
 done_by lib a b e pid commands.Exit there agree fine = refl
 
 answer_by : (lib : Library) (a b : Held) (e : Eager) (pid : ℕ) (command : Command) → is_among pids pid ≡ true → AgreeAt lib a b e → (r : Option Refusal) → refusal_of lib e pid command ≡ r →

@@ -13,7 +13,8 @@ use Rattle.base_pick.specs.declared.occupied.AddressRange.{AddressRange}
 use Rattle.base_pick.specs.declared.picking.ArenaFull.{ArenaFull}
 use Rattle.load_model.specs.State.{Process, Eager, with_process, is_among, pids, reaches, is_reached, residence_of}
 use Rattle.load_model.specs.declared.deeds.Call.{Call}
-use Rattle.load_model.specs.Entering.{NoRoom, ranges_of, with_fresh_residences, joined, newcomers, placing, placed_from, with_fresh, holding, attaching, residence_from, after_entering, enter_deed, entering_calls}
+use Rattle.load_model.specs.Entering.{NoRoom, ranges_of, with_fresh_residences, joined, newcomers, placing, placed_from, with_fresh, holding, attaching, residence_from, after_entering}
+use Rattle.load_model.specs.Initialising.{failing_module, entered, enter_by, enter_deed}
 use Rattle.load_model.specs.Refusals.{when, ◌orelse◌, enter_refusal}
 use Rattle.load_model.proofs.Bools.{or_swap}
 use Rattle.load_model.proofs.Among.{any_append, any_map, any_same, among_append, among_filter, some_find, any_split}
@@ -94,17 +95,21 @@ fresh_modules lib (m ∷ ms) serials spans fresh e =
     (λ bases xs h. fresh_modules lib ms (suc serials) (spans ++ ranges_of lib m bases) xs h) (λ bases. refl) e
 
 -- an entry that enters was placed
-pub enter_step : (how : How) (m : ℕ) (calls : List Fresh → List Call) (r : Result (List Fresh) NoRoom) (fresh : List Fresh) (made : List Call) →
-    deeds.Enter how m fresh made ≡ elim r [ Ok xs ↦ deeds.Enter how m xs (calls xs) | Err none ↦ deeds.Full how m none.of none.object.object none.object.size ] →
-    r ≡ Ok fresh
-enter_step how m calls (Ok xs) fresh made e = (let same : fresh ≡ xs = cc in ap Ok (sym same))
-enter_step how m calls (Err none) fresh made e = cc
+never_failed : (lib : Library) (e : Eager) (pid : ℕ) (how : How) (m : ℕ) (xs fresh : List Fresh) (made : List Call) (o : Option ℕ) →
+    deeds.Enter how m fresh made ≡ entered lib e pid how m xs o → fresh ≡ xs
+never_failed lib e pid how m xs fresh made None is = cc
+never_failed lib e pid how m xs fresh made (Some by) is = cc
+
+pub enter_step : (lib : Library) (e : Eager) (pid : ℕ) (how : How) (m : ℕ) (r : Result (List Fresh) NoRoom) (fresh : List Fresh) (made : List Call) →
+    deeds.Enter how m fresh made ≡ enter_by lib e pid how m r → r ≡ Ok fresh
+enter_step lib e pid how m (Ok xs) fresh made is = ap Ok (sym (never_failed lib e pid how m xs fresh made (failing_module lib e pid how m xs) is))
+enter_step lib e pid how m (Err none) fresh made is = cc
 
 pub fresh_are_new : (lib : Library) (e : Eager) (pid : ℕ) (how : How) (m : ℕ) (fresh : List Fresh) (made : List Call) →
     deeds.Enter how m fresh made ≡ enter_deed lib e pid how m → modules_of fresh ≡ newcomers lib e pid m
 unfolding enter_deed placing
 fresh_are_new lib e pid how m fresh made is =
-    fresh_modules lib (newcomers lib e pid m) e.serials _ fresh (enter_step how m (λ xs. entering_calls lib e pid how m xs) (placing lib e pid m) fresh made is)
+    fresh_modules lib (newcomers lib e pid m) e.serials _ fresh (enter_step lib e pid how m (placing lib e pid m) fresh made is)
 
 -- ---- what a process reaches with one root more
 

@@ -17,3 +17,11 @@ pub mod Retouched
 pub mod GivenSerials
 pub mod ResidenceBases
 pub mod ReachedFit
+pub mod Touched
+pub mod Standing
+pub mod SerialsOwn
+pub mod ViewSteps
+pub mod ViewReplies
+pub mod Outcomes
+pub mod Bounded
+pub mod BasesStay

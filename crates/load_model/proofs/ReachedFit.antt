@@ -10,11 +10,11 @@ use Rattle.lx_types.specs.declared.object.Class.TheVariants as classes
 use Rattle.lx_types.specs.declared.parts.Parts.{Parts}
 use Rattle.lx_model.specs.declared.library.EntryFault.TheVariants as faults
 use Rattle.lx_model.specs.declared.library.Health.{Health}
-use Rattle.lx_model.specs.declared.library.Health.TheVariants.{Fit, NoModule, Cycle, NoEntry, ForwardLoop, Gate286}
+use Rattle.lx_model.specs.declared.library.Health.TheVariants.{Fit, NoModule, NoEntry, ForwardLoop, Gate286}
 use Rattle.lx_model.specs.Reading.{first, ◌then◌}
 use Rattle.lx_model.specs.Library.{module_of, library_named}
 use Rattle.lx_model.specs.Laws.{OrderIsInLibrary}
-use Rattle.lx_model.specs.Reach.{Order, lost_import, cycle_of, target_of_fault, HealthOf}
+use Rattle.lx_model.specs.Reach.{Order, lost_import, target_of_fault, HealthOf}
 use Rattle.load_model.specs.declared.commands.Refusal.{Refusal}
 use Rattle.load_model.specs.declared.commands.Refusal.TheVariants.{Ended, Started, NotProgram, NotLibrary, CountFull}
 use Rattle.load_model.specs.declared.deeds.How.{How}
@@ -23,7 +23,7 @@ use Rattle.load_model.specs.declared.deeds.Deed.{Deed}
 use Rattle.load_model.specs.declared.deeds.Deed.TheVariants as deeds
 use Rattle.load_model.specs.declared.deeds.Entry.{Entry}
 use Rattle.load_model.specs.Modules.{Library, Held, is_library, order_of, unfit, refusal_of_health, object_at}
-use Rattle.load_model.specs.State.{Written, Process, Eager, nothing_yet, with_process, is_among, roots, reaches}
+use Rattle.load_model.specs.State.{Failing, Written, Process, Eager, nothing_yet, with_process, is_among, roots, reaches}
 use Rattle.load_model.specs.Entering.{holding, attaching, joined, with_fresh_residences, after_entering}
 use Rattle.load_model.specs.Leaving.{freeing, exiting, keeping, after_leaving}
 use Rattle.load_model.specs.Refusals.{when, ◌orelse◌, module_refusal, enter_refusal}
@@ -85,7 +85,6 @@ all_none f (m ∷ ms) each =
 
 pub record Faultless (lib : List Parts) (ms : List ℕ) : Type 0 where
   pub lost : first (map (lost_import lib) ms) ≡ None
-  pub cycle : first (map (cycle_of lib) ms) ≡ None
   pub entry : first (map (λ by. target_of_fault faults.NoEntry (NoEntry by) lib by) ms) ≡ None
   pub loop : first (map (λ by. target_of_fault faults.ForwardLoop (ForwardLoop by) lib by) ms) ≡ None
   pub gate : first (map (λ by. target_of_fault faults.Gate286 (Gate286 by) lib by) ms) ≡ None
@@ -94,29 +93,26 @@ faultless : (lib : List Parts) (m : ℕ) → HealthOf lib m ≡ Fit → Faultles
 unfolding HealthOf
 faultless lib m e =
     let one = not_first _ _ (unfit_first (lost_import lib) (unfit_lost lib) (Order lib m)) e in
-    let two = not_first _ _ (unfit_first (cycle_of lib) (λ by. unfit_if _ (Cycle by) (λ w. cc)) (Order lib m)) one.1 in
-    let three = not_first _ _ (unfit_first (λ by. target_of_fault faults.NoEntry (NoEntry by) lib by) (λ by. unfit_if _ (NoEntry by) (λ w. cc)) (Order lib m)) two.1 in
-    let four = not_first _ _ (unfit_first (λ by. target_of_fault faults.ForwardLoop (ForwardLoop by) lib by) (λ by. unfit_if _ (ForwardLoop by) (λ w. cc)) (Order lib m)) three.1 in
+    let two = not_first _ _ (unfit_first (λ by. target_of_fault faults.NoEntry (NoEntry by) lib by) (λ by. unfit_if _ (NoEntry by) (λ w. cc)) (Order lib m)) one.1 in
+    let three = not_first _ _ (unfit_first (λ by. target_of_fault faults.ForwardLoop (ForwardLoop by) lib by) (λ by. unfit_if _ (ForwardLoop by) (λ w. cc)) (Order lib m)) two.1 in
     record {
       lost = one.0;
-      cycle = two.0;
-      entry = three.0;
-      loop = four.0;
-      gate = not_last _ (unfit_first (λ by. target_of_fault faults.Gate286 (Gate286 by) lib by) (λ by. unfit_if _ (Gate286 by) (λ w. cc)) (Order lib m)) four.1;
+      entry = two.0;
+      loop = three.0;
+      gate = not_last _ (unfit_first (λ by. target_of_fault faults.Gate286 (Gate286 by) lib by) (λ by. unfit_if _ (Gate286 by) (λ w. cc)) (Order lib m)) three.1;
     }
 
 fit_from : (lib : List Parts) (m : ℕ) → Faultless lib (Order lib m) → HealthOf lib m ≡ Fit
 unfolding HealthOf
-fit_from lib m f = rw (f.lost, f.cycle, f.entry, f.loop, f.gate) refl
+fit_from lib m f = rw (f.lost, f.entry, f.loop, f.gate) refl
 
-fit_is_closed : OrdersNest → (lib : Library) (m k : ℕ) → is_among (order_of lib m) k ≡ true → HealthOf lib m ≡ Fit → HealthOf lib k ≡ Fit
+pub fit_is_closed : OrdersNest → (lib : Library) (m k : ℕ) → is_among (order_of lib m) k ≡ true → HealthOf lib m ≡ Fit → HealthOf lib k ≡ Fit
 unfolding order_of
 fit_is_closed nest lib m k member fit =
     let all = faultless lib m fit in
     let inside : (x : ℕ) → is_among (Order lib k) x ≡ true → is_among (Order lib m) x ≡ true = λ x h. nest lib m k x member h in
     fit_from lib k (record {
       lost = all_none _ (Order lib k) (λ x h. none_of _ (Order lib m) x all.lost (inside x h));
-      cycle = all_none _ (Order lib k) (λ x h. none_of _ (Order lib m) x all.cycle (inside x h));
       entry = all_none _ (Order lib k) (λ x h. none_of _ (Order lib m) x all.entry (inside x h));
       loop = all_none _ (Order lib k) (λ x h. none_of _ (Order lib m) x all.loop (inside x h));
       gate = all_none _ (Order lib k) (λ x h. none_of _ (Order lib m) x all.gate (inside x h));
@@ -136,7 +132,6 @@ AllGood lib e = (pid : ℕ) → RootsGood lib (e.processes pid)
 healthy : (h : Health) → refusal_of_health h ≡ None → h ≡ Fit
 healthy Fit e = refl
 healthy (NoModule by name_no) e = cc
-healthy (Cycle by) e = cc
 healthy (NoEntry by) e = cc
 healthy (ForwardLoop by) e = cc
 healthy (Gate286 by) e = cc
@@ -207,24 +202,26 @@ deed_good lib e pid (deeds.Enter how m fresh calls) may all =
     let below : m < length lib = ltb-true m (length lib) (and_left _ _ may) in
     with_good lib (with_fresh_residences e fresh) pid _ all (held_good lib how m (joined lib e pid m) (e.processes pid) (below, entered_good lib (e.processes pid) how m (and_right _ _ may)) (all pid))
 deed_good lib e pid (deeds.Full how m of object size) may all = all
+deed_good lib e pid (deeds.Failed how m by fresh calls gone) may all = all
 deed_good lib e pid (deeds.Free m calls gone) may all =
     left_good lib e pid (freeing m (e.processes pid)) all (λ root h. all pid root (roots_less (λ other. other == root) (e.processes pid).started m (e.processes pid).loads h))
 deed_good lib e pid (deeds.Exit calls gone) may all = left_good lib e pid (exiting (e.processes pid)) all (λ root h. (let wrong : false ≡ true = h in cc))
 deed_good lib e pid (deeds.Fault serial m p) may all = all
 deed_good lib e pid (deeds.Write serial m object offset bytes) may all = written_good lib e pid serial _ (class_of (object_at lib m object)) all
+deed_good lib e pid (deeds.Debug serial m object offset bytes) may all = written_good lib e pid serial _ classes.Private all
 deed_good lib e pid (deeds.Shared serial m object offset bytes) may all = all
 
-all_good : (lib : Library) (contents : Held) (h before : List Entry) → AllFollow lib contents before h → AllGood lib (state_after lib before) → AllGood lib (state_after lib (before ++ h))
-all_good lib contents [] before all good = (let S : List Entry → Type 0 = λ b. AllGood lib (state_after lib b) in subst S (sym (append-nil before)) good)
-all_good lib contents (x ∷ h) before all good =
-    let S : List Entry → Type 0 = λ b. AllGood lib (state_after lib b) in
+all_good : (lib : Library) (failing : Failing) (contents : Held) (h before : List Entry) → AllFollow lib failing contents before h → AllGood lib (state_after lib failing before) → AllGood lib (state_after lib failing (before ++ h))
+all_good lib failing contents [] before all good = (let S : List Entry → Type 0 = λ b. AllGood lib (state_after lib failing b) in subst S (sym (append-nil before)) good)
+all_good lib failing contents (x ∷ h) before all good =
+    let S : List Entry → Type 0 = λ b. AllGood lib (state_after lib failing b) in
     let After : Eager → Type 0 = AllGood lib in
     subst S (append_assoc before (x ∷ []) h)
-    (all_good lib contents h (before ++ x ∷ []) all.1
-    (subst After (sym (one_more_is_after lib before x)) (deed_good lib (state_after lib before) x.pid x.deed all.0.may good)))
+    (all_good lib failing contents h (before ++ x ∷ []) all.1
+    (subst After (sym (one_more_is_after lib failing before x)) (deed_good lib (state_after lib failing before) x.pid x.deed all.0.may good)))
 
-nothing_good : (lib : Library) → AllGood lib nothing_yet
-nothing_good lib pid root h = (let wrong : false ≡ true = h in cc)
+nothing_good : (lib : Library) (failing : Failing) → AllGood lib (nothing_yet failing)
+nothing_good lib failing pid root h = (let wrong : false ≡ true = h in cc)
 
 -- ---- what is reached
 
@@ -238,7 +235,7 @@ some_root f (x ∷ xs) h = step (f x) refl (some_root f xs) h
 
 pub reached_is_fit : OrdersNest → OrderIsInLibrary → ReachedIsFit
 unfolding reaches order_of Legal state_after
-reached_is_fit nest within lib contents h legal pid m reached =
-    let root = some_root (λ root. is_among (order_of lib root) m) (roots ((state_after lib h).processes pid)) reached in
-    let good = all_good lib contents h [] legal (nothing_good lib) pid root.0 root.1 in
+reached_is_fit nest within lib failing contents h legal pid m reached =
+    let root = some_root (λ root. is_among (order_of lib root) m) (roots ((state_after lib failing h).processes pid)) reached in
+    let good = all_good lib failing contents h [] legal (nothing_good lib failing) pid root.0 root.1 in
     (within lib root.0 m good.0 (among_contains (Order lib root.0) m root.2), fit_is_closed nest lib root.0 m root.2 good.1)

@@ -16,14 +16,22 @@ use Rattle.load_model.specs.declared.deeds.Deed.{Deed}
 use Rattle.load_model.specs.declared.deeds.Deed.TheVariants as deeds
 use Rattle.load_model.specs.declared.deeds.Entry.{Entry}
 use Rattle.load_model.specs.Modules.{Library, Held, is_library, objects_of, bases_for, object_at}
-use Rattle.load_model.specs.State.{Written, Residence, Eager, with_process}
-use Rattle.load_model.specs.Entering.{NoRoom, ranges_of, with_fresh, placed_from, placing, resident_ranges, newcomers, residence_from, after_entering, enter_deed, entering_calls}
+use Rattle.load_model.specs.State.{Failing, Written, Residence, Eager, with_process}
+use Rattle.load_model.specs.Entering.{NoRoom, ranges_of, with_fresh, placed_from, placing, resident_ranges, newcomers, residence_from, after_entering}
+use Rattle.load_model.specs.Initialising.{enter_deed}
 use Rattle.load_model.specs.Leaving.{after_leaving}
 use Rattle.load_model.specs.Memory.{with_write}
 use Rattle.load_model.specs.Asks.{ask_in, after_write, after_deed, deed_of}
 use Rattle.load_model.specs.Histories.{state_after, AllFollow, Legal}
-use Rattle.load_model.specs.ResidenceBases.{StandIn, Stands, BasesStand}
-use Rattle.load_model.proofs.Bools.{and_left}
+use Rattle.load_model.specs.ResidenceBases.{StandIn, arena_of, Stands, BasesStand, ResidentsFit}
+use Rattle.load_model.proofs.Bytes.{find_is}
+use Rattle.std.specs.Prelude.{slice_index, slice_index_or, nat_le}
+use Rattle.std.proofs.Common.{zero, ◌<◌, ◌≤◌, ◌-◌, ◌^◌, length, arith}
+use Rattle.std.proofs.lemmas.Bool.{leb-true}
+use Rattle.lx_types.specs.Addresses.{room}
+use Rattle.lx_types.specs.Parts.{no_object}
+use Rattle.load_model.specs.State.{residence_of}
+use Rattle.load_model.proofs.Bools.{and_left, and_right}
 use Rattle.load_model.proofs.Kept.{enter_step}
 use Rattle.load_model.proofs.Growing.{one_more_is_after}
 
@@ -141,25 +149,81 @@ deed_stands : (lib : Library) (contents : Held) (e : Eager) (pid : ℕ) (d : Dee
 unfolding after_deed after_entering after_leaving with_process deed_of enter_deed placing
 deed_stands lib contents e pid (deeds.Enter how m fresh calls) is h =
     stand_append lib e.residences fresh h
-    (fresh_stand lib (newcomers lib e pid m) e.serials (resident_ranges lib e) fresh (enter_step how m (λ xs. entering_calls lib e pid how m xs) (placing lib e pid m) fresh calls is))
+    (fresh_stand lib (newcomers lib e pid m) e.serials (resident_ranges lib e) fresh (enter_step lib e pid how m (placing lib e pid m) fresh calls is))
 deed_stands lib contents e pid (deeds.Full how m of object size) is h = h
+deed_stands lib contents e pid (deeds.Failed how m by fresh calls gone) is h = h
 deed_stands lib contents e pid (deeds.Free m calls gone) is h = stand_filter lib _ e.residences h
 deed_stands lib contents e pid (deeds.Exit calls gone) is h = stand_filter lib _ e.residences h
 deed_stands lib contents e pid (deeds.Fault serial m p) is h = h
 deed_stands lib contents e pid (deeds.Write serial m object offset bytes) is h = after_write_stands lib e pid serial _ (class_of (object_at lib m object)) h
+deed_stands lib contents e pid (deeds.Debug serial m object offset bytes) is h =
+    after_write_stands lib e pid serial (record { object = object; offset = offset; bytes = bytes }) classes.Private h
 deed_stands lib contents e pid (deeds.Shared serial m object offset bytes) is h = h
 
 -- ---- all of them
 
-all_stand : (lib : Library) (contents : Held) (h before : List Entry) → AllFollow lib contents before h → AllStand lib (state_after lib before).residences → AllStand lib (state_after lib (before ++ h)).residences
-all_stand lib contents [] before all stand = (let S : List Entry → Type 0 = λ b. AllStand lib (state_after lib b).residences in subst S (sym (append-nil before)) stand)
-all_stand lib contents (x ∷ h) before all stand =
-    let S : List Entry → Type 0 = λ b. AllStand lib (state_after lib b).residences in
+all_stand : (lib : Library) (failing : Failing) (contents : Held) (h before : List Entry) → AllFollow lib failing contents before h → AllStand lib (state_after lib failing before).residences → AllStand lib (state_after lib failing (before ++ h)).residences
+all_stand lib failing contents [] before all stand = (let S : List Entry → Type 0 = λ b. AllStand lib (state_after lib failing b).residences in subst S (sym (append-nil before)) stand)
+all_stand lib failing contents (x ∷ h) before all stand =
+    let S : List Entry → Type 0 = λ b. AllStand lib (state_after lib failing b).residences in
     let After : Eager → Type 0 = λ e. AllStand lib e.residences in
     subst S (append_assoc before (x ∷ []) h)
-    (all_stand lib contents h (before ++ x ∷ []) all.1
-    (subst After (sym (one_more_is_after lib before x)) (deed_stands lib contents (state_after lib before) x.pid x.deed all.0.done stand)))
+    (all_stand lib failing contents h (before ++ x ∷ []) all.1
+    (subst After (sym (one_more_is_after lib failing before x)) (deed_stands lib contents (state_after lib failing before) x.pid x.deed all.0.done stand)))
 
 pub bases_stand : BasesStand
 unfolding Legal state_after
-bases_stand lib contents h legal = all_stand lib contents h [] legal tt
+bases_stand lib failing contents h legal = all_stand lib failing contents h [] legal tt
+
+-- ---- one object of a residence
+
+one_of : (lib : Library) (f : Residence → Bool) (rs : List Residence) (r : Residence) → AllStand lib rs → find f rs ≡ Some r → Stands lib r.«module» r.bases
+one_of lib f [] r all is = cc
+one_of lib f (x ∷ rs) r all is = step (f x) is (one_of lib f rs r all.1)
+  where
+    step : (b : Bool) → cond b (Some x) (find f rs) ≡ Some r → (find f rs ≡ Some r → Stands lib r.«module» r.bases) → Stands lib r.«module» r.bases
+    step true e later = (let same : x ≡ r = cc in subst (λ (y : Residence). Stands lib y.«module» y.bases) same all.0)
+    step false e later = later e
+
+object_stands : (arena : AddressRange) (os : List ObjHead) (bases : List ℕ) (k : ℕ) → StandIn arena os bases → k < length os →
+    is_in_arena arena (slice_index_or os k no_object).size (slice_index bases k) ≡ true
+object_stands arena [] [] k all below = absurd (let none : ⊥ = omega arith in none)
+object_stands arena (o ∷ os) (base ∷ bases) zero all below = all.0
+object_stands arena (o ∷ os) (base ∷ bases) (suc k) all below = object_stands arena os bases k all.1 (omega arith)
+object_stands arena [] (base ∷ bases) k all below = absurd all
+object_stands arena (o ∷ os) [] k all below = absurd all
+
+room_holds : (size : ℕ) → size ≤ room size
+room_holds size = omega arith
+
+small : (from to size base : ℕ) → to ≤ from + 2 ^ 28 → nat_le from base ≡ true → nat_le (base + room size) to ≡ true → size ≤ 2 ^ 28
+small from to size base wide low high =
+    let least : from ≤ base = leb-true from base low in
+    let most : base + room size ≤ to = leb-true (base + room size) to high in
+    let more : size ≤ room size = room_holds size in
+    sums from to size base (room size) wide least most more
+  where
+    sums : (from to size base r : ℕ) → to ≤ from + 2 ^ 28 → from ≤ base → base + r ≤ to → size ≤ r → size ≤ 2 ^ 28
+    sums from to size base r wide least most more = omega arith
+
+wide_at : (b : Bool) → (if b then shared_arena else private_arena).to ≤ (if b then shared_arena else private_arena).from + 2 ^ 28
+wide_at true = omega arith
+wide_at false = omega arith
+
+object_small : (lib : Library) (m size base : ℕ) → is_in_arena (arena_of lib m) size base ≡ true → size ≤ 2 ^ 28
+object_small lib m size base h =
+    small (arena_of lib m).from (arena_of lib m).to size base (wide_at (is_library lib m)) (and_right _ _ (and_left _ _ h)) (and_right _ _ h)
+
+pub residents_fit : ResidentsFit
+unfolding residence_of objects_of object_at
+residents_fit lib failing contents h m object r legal is number =
+    let e : Eager = state_after lib failing h in
+    let stands : Stands lib r.«module» r.bases = one_of lib (λ x. x.«module» == m) e.residences r (bases_stand lib failing contents h legal) is in
+    let same : r.«module» ≡ m = find_is m e.residences r is in
+    let at : Stands lib m r.bases = subst (λ k. Stands lib k r.bases) same stands in
+    let low : 1 ≤ object = number.0 in
+    let high : object ≤ length (objects_of lib m) = number.1 in
+    let there : is_in_arena (arena_of lib m) (object_at lib m object).size (slice_index r.bases (object - 1)) ≡ true =
+    object_stands (arena_of lib m) (objects_of lib m) r.bases (object - 1) at (omega (arith, low, high))
+    in
+    (there, object_small lib m (object_at lib m object).size (slice_index r.bases (object - 1)) there)

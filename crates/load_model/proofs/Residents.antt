@@ -11,7 +11,10 @@ use Rattle.load_model.specs.declared.deeds.Deed.{Deed}
 use Rattle.load_model.specs.declared.deeds.Deed.TheVariants as deeds
 use Rattle.load_model.specs.declared.deeds.Entry.{Entry}
 use Rattle.load_model.specs.Modules.{Library, Held, order_of}
-use Rattle.load_model.specs.State.{Eager, nothing_yet, is_among, pids, reaches, is_reached}
+use Rattle.load_model.specs.State.{Failing, Eager, nothing_yet, is_among, pids, reaches, is_reached}
+use Rattle.load_model.specs.declared.deeds.Fresh.{Fresh}
+use Rattle.lx_types.specs.declared.object.Class.TheVariants as classes
+use Rattle.load_model.specs.Initialising.{after_failing}
 use Rattle.load_model.specs.Leaving.{gone, freeing, exiting}
 use Rattle.load_model.specs.Asks.{ask_in, deed_of, may_ask, after_deed}
 use Rattle.load_model.specs.Histories.{state_after, Follows, AllFollow, Legal}
@@ -27,44 +30,53 @@ pub record Done (lib : Library) (contents : Held) (e : Eager) (pid : ℕ) (d : D
   pub may : may_ask lib e pid (ask_in d) ≡ true
   pub is : d ≡ deed_of lib contents e pid (ask_in d)
 
+failed_reached : (lib : Library) (e : Eager) (fresh : List Fresh) (k : ℕ) → is_reached lib (after_failing e fresh) k ≡ is_reached lib e k
+unfolding is_reached
+failed_reached lib e fresh k = refl
+
+failed_kept : (lib : Library) (e : Eager) (fresh : List Fresh) → Kept lib e → Kept lib (after_failing e fresh)
+failed_kept lib e fresh kept = record { attached = kept.attached; resident = λ m. kept.resident m ∙ sym (failed_reached lib e fresh m) }
+
 pub after_kept : (lib : Library) (contents : Held) (e : Eager) (pid : ℕ) (d : Deed) → Done lib contents e pid d → Kept lib e → Kept lib (after_deed lib e pid d)
 unfolding after_deed may_ask deed_of
 after_kept lib contents e pid (deeds.Enter how m fresh calls) done kept =
     entered_kept lib e pid how m fresh done.there (and_right _ _ done.may) (fresh_are_new lib e pid how m fresh calls done.is) kept
 after_kept lib contents e pid (deeds.Full how m of object size) done kept = kept
+after_kept lib contents e pid (deeds.Failed how m by fresh calls gone) done kept = failed_kept lib e fresh kept
 after_kept lib contents e pid (deeds.Free m calls gone) done kept =
     left_kept lib e pid (freeing m (e.processes pid)) done.there (freeing_gives_up lib m (e.processes pid)) kept
 after_kept lib contents e pid (deeds.Exit calls gone) done kept = left_kept lib e pid (exiting (e.processes pid)) done.there (exiting_gives_up lib (e.processes pid)) kept
 after_kept lib contents e pid (deeds.Fault serial m p) done kept = kept
 after_kept lib contents e pid (deeds.Write serial m object offset bytes) done kept = written_kept lib e pid serial _ _ done.there kept
+after_kept lib contents e pid (deeds.Debug serial m object offset bytes) done kept = written_kept lib e pid serial _ classes.Private done.there kept
 after_kept lib contents e pid (deeds.Shared serial m object offset bytes) done kept = kept
 
-pub done_by : (lib : Library) (contents : Held) (h : List Entry) (x : Entry) → Follows lib contents h x → Done lib contents (state_after lib h) x.pid x.deed
-done_by lib contents h x f = record { there = f.process; may = f.may; is = f.done }
+pub done_by : (lib : Library) (failing : Failing) (contents : Held) (h : List Entry) (x : Entry) → Follows lib failing contents h x → Done lib contents (state_after lib failing h) x.pid x.deed
+done_by lib failing contents h x f = record { there = f.process; may = f.may; is = f.done }
 
 -- ---- along a history
 
-all_kept : (lib : Library) (contents : Held) (before h : List Entry) → AllFollow lib contents before h → Kept lib (state_after lib before) → Kept lib (state_after lib (before ++ h))
-all_kept lib contents before [] all kept = subst (λ b. Kept lib (state_after lib b)) (sym (append-nil before)) kept
-all_kept lib contents before (x ∷ h) all kept =
-    let next : Kept lib (state_after lib (before ++ x ∷ [])) =
-    subst (Kept lib) (sym (one_more_is_after lib before x)) (after_kept lib contents (state_after lib before) x.pid x.deed (done_by lib contents before x all.0) kept)
+all_kept : (lib : Library) (failing : Failing) (contents : Held) (before h : List Entry) → AllFollow lib failing contents before h → Kept lib (state_after lib failing before) → Kept lib (state_after lib failing (before ++ h))
+all_kept lib failing contents before [] all kept = subst (λ b. Kept lib (state_after lib failing b)) (sym (append-nil before)) kept
+all_kept lib failing contents before (x ∷ h) all kept =
+    let next : Kept lib (state_after lib failing (before ++ x ∷ [])) =
+    subst (Kept lib) (sym (one_more_is_after lib failing before x)) (after_kept lib contents (state_after lib failing before) x.pid x.deed (done_by lib failing contents before x all.0) kept)
     in
-    subst (λ b. Kept lib (state_after lib b)) (append_assoc before (x ∷ []) h) (all_kept lib contents (before ++ x ∷ []) h all.1 next)
+    subst (λ b. Kept lib (state_after lib failing b)) (append_assoc before (x ∷ []) h) (all_kept lib failing contents (before ++ x ∷ []) h all.1 next)
 
-nothing_kept : (lib : Library) → Kept lib nothing_yet
+nothing_kept : (lib : Library) (failing : Failing) → Kept lib (nothing_yet failing)
 unfolding reaches is_reached
-nothing_kept lib = record { attached = λ pid m. refl; resident = λ m. refl }
+nothing_kept lib failing = record { attached = λ pid m. refl; resident = λ m. refl }
 
-pub legal_kept : (lib : Library) (contents : Held) (h : List Entry) → Legal lib contents h → Kept lib (state_after lib h)
+pub legal_kept : (lib : Library) (failing : Failing) (contents : Held) (h : List Entry) → Legal lib failing contents h → Kept lib (state_after lib failing h)
 unfolding Legal state_after
-legal_kept lib contents h legal = all_kept lib contents [] h legal (nothing_kept lib)
+legal_kept lib failing contents h legal = all_kept lib failing contents [] h legal (nothing_kept lib failing)
 
 pub reached_is_resident : ReachedIsResident
-reached_is_resident lib contents h legal m = is_resident (state_after lib h) m ∙ (legal_kept lib contents h legal).resident m
+reached_is_resident lib failing contents h legal m = is_resident (state_after lib failing h) m ∙ (legal_kept lib failing contents h legal).resident m
 
 pub attached_is_reached : AttachedIsReached
-attached_is_reached lib contents h legal pid m = (legal_kept lib contents h legal).attached pid m
+attached_is_reached lib failing contents h legal pid m = (legal_kept lib failing contents h legal).attached pid m
 
 -- ---- what is gone
 
@@ -94,6 +106,7 @@ gone_after lib contents e pid (deeds.Enter how m fresh calls) k done kept =
     ∙ ap (λ b. b && not ((is_among (order_of lib m) k || reaches lib (e.processes pid) k) || others lib e pid k)) (sym (kept.resident k ∙ reached_apart lib e pid k done.there))
     ∙ ap (λ b. list_any (λ r. r.«module» == k) e.residences && not b) (sym (entered_reached lib e pid how m fresh k done.there (and_right _ _ done.may)))
 gone_after lib contents e pid (deeds.Full how m of object size) k done kept = none_more _ _ (sym (kept.resident k))
+gone_after lib contents e pid (deeds.Failed how m by fresh calls gone) k done kept = none_more _ _ (failed_reached lib e fresh k ∙ sym (kept.resident k))
 gone_after lib contents e pid (deeds.Free m calls xs) k done kept =
     ap (λ ys. is_among (map (λ g. g.«module») ys) k) (free_gone m calls _ xs _ done.is)
     ∙ gone_unreached lib e pid (freeing m (e.processes pid)) k done.there (freeing_gives_up lib m (e.processes pid)) kept
@@ -103,12 +116,14 @@ gone_after lib contents e pid (deeds.Exit calls xs) k done kept =
 gone_after lib contents e pid (deeds.Fault serial m p) k done kept = none_more _ _ (sym (kept.resident k))
 gone_after lib contents e pid (deeds.Write serial m object offset bytes) k done kept =
     none_more _ _ (written_reached lib e pid serial _ _ k done.there ∙ sym (kept.resident k))
+gone_after lib contents e pid (deeds.Debug serial m object offset bytes) k done kept =
+    none_more _ _ (written_reached lib e pid serial _ classes.Private k done.there ∙ sym (kept.resident k))
 gone_after lib contents e pid (deeds.Shared serial m object offset bytes) k done kept = none_more _ _ (sym (kept.resident k))
 
 pub gone_is_unreached : GoneIsUnreached
-gone_is_unreached lib contents h x k legal follows =
-    let e : Eager = state_after lib h in
-    gone_after lib contents e x.pid x.deed k (done_by lib contents h x follows) (legal_kept lib contents h legal)
+gone_is_unreached lib failing contents h x k legal follows =
+    let e : Eager = state_after lib failing h in
+    gone_after lib contents e x.pid x.deed k (done_by lib failing contents h x follows) (legal_kept lib failing contents h legal)
     ∙ ap (λ b. b && not (is_reached lib (after_deed lib e x.pid x.deed) k)) (sym (is_resident e k))
 
 -- ---- counts
@@ -127,5 +142,5 @@ any_counts f xs = sym (any_from f 0 xs)
 
 pub counts_are_residence : CountsAreResidence
 unfolding is_reached
-counts_are_residence lib contents h legal m =
-    reached_is_resident lib contents h legal m ∙ any_counts (λ pid. reaches lib ((state_after lib h).processes pid) m) pids
+counts_are_residence lib failing contents h legal m =
+    reached_is_resident lib failing contents h legal m ∙ any_counts (λ pid. reaches lib ((state_after lib failing h).processes pid) m) pids

@@ -10,11 +10,12 @@ use Rattle.load_model.specs.declared.deeds.How.TheVariants.{Start, Load}
 use Rattle.load_model.specs.declared.deeds.Deed.TheVariants as deeds
 use Rattle.load_model.specs.Modules.{Library, Held, object_at}
 use Rattle.load_model.specs.State.{PageOf, Residence, Process, Eager, with_process, reaches, is_reached, pids, residence_of, attached_residence}
-use Rattle.load_model.specs.Entering.{joined, newcomers, placing, resident_ranges, after_entering, entering_calls, enter_deed}
+use Rattle.load_model.specs.Entering.{joined, newcomers, placing, resident_ranges, after_entering, entering_calls}
+use Rattle.load_model.specs.Initialising.{failing_module, failed_calls, enter_deed}
 use Rattle.load_model.specs.Leaving.{left, gone_modules, gone, gone_of, term_of, leaving_calls, freeing, exiting}
 use Rattle.load_model.specs.Memory.{writes_of_class, last_put, bases_seen, writes_seen, Byte, Bytes}
 use Rattle.load_model.specs.Refusals.{enter_refusal, module_refusal}
-use Rattle.load_model.specs.Asks.{bytes_at, Ask, enter, free, exit, fault, put, get, deed_of, may_ask}
+use Rattle.load_model.specs.Asks.{bytes_at, Ask, enter, free, exit, fault, put, patch, get, deed_of, may_ask}
 use Rattle.load_model.specs.Accepted.{retouched, TouchedIsApart}
 use Rattle.load_model.proofs.Among.{any_same}
 
@@ -56,10 +57,11 @@ may_same lib e touched pid (free m) = refl
 may_same lib e touched pid exit = refl
 may_same lib e touched pid (fault serial m p) = refl
 may_same lib e touched pid (put serial m object offset bytes) = refl
+may_same lib e touched pid (patch serial m object offset bytes) = refl
 may_same lib e touched pid (get serial m object offset len) = refl
 
 enter_same : (lib : Library) (e : Eager) (touched : ℕ → List PageOf) (pid : ℕ) (how : How) (m : ℕ) → enter_deed lib (retouched touched e) pid how m ≡ enter_deed lib e pid how m
-unfolding enter_deed placing resident_ranges newcomers joined entering_calls after_entering with_process reaches residence_of
+unfolding enter_deed failing_module failed_calls placing resident_ranges newcomers joined entering_calls after_entering with_process reaches residence_of
 enter_same lib e touched pid how m = refl
 
 pub class_same : (c : Class) (p : Process) (ts : List PageOf) (r : Residence) → writes_of_class c (record p { touched = ts }) r ≡ writes_of_class c p r
@@ -88,6 +90,7 @@ deed_same lib contents e touched pid exit =
     ∙ ap (deeds.Exit (leaving_calls lib e pid (exiting (e.processes pid)))) (gone_list_same lib e touched pid (exiting (e.processes pid)) (touched pid))
 deed_same lib contents e touched pid (fault serial m p) = refl
 deed_same lib contents e touched pid (put serial m object offset bytes) = refl
+deed_same lib contents e touched pid (patch serial m object offset bytes) = refl
 deed_same lib contents e touched pid (get serial m object offset len) =
     ap (deeds.Shared serial m object offset) (bytes_same lib contents e touched pid object offset len (attached_residence lib e pid m))
 

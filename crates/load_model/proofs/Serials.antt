@@ -11,8 +11,9 @@ use Rattle.load_model.specs.declared.deeds.Entry.{Entry}
 use Rattle.load_model.specs.Modules.{bases_for, Library, Held}
 use Rattle.base_pick.specs.declared.occupied.AddressRange.{AddressRange}
 use Rattle.base_pick.specs.declared.picking.ArenaFull.{ArenaFull}
-use Rattle.load_model.specs.State.{Residence, Process, Eager, Written, with_process}
-use Rattle.load_model.specs.Entering.{NoRoom, ranges_of, placing, placed_from, with_fresh, residence_from, after_entering, enter_deed, entering_calls, newcomers}
+use Rattle.load_model.specs.State.{Failing, Residence, Process, Eager, Written, with_process}
+use Rattle.load_model.specs.Entering.{NoRoom, ranges_of, placing, placed_from, with_fresh, residence_from, after_entering, newcomers}
+use Rattle.load_model.specs.Initialising.{enter_deed}
 use Rattle.load_model.specs.Leaving.{after_leaving}
 use Rattle.load_model.specs.Memory.{with_write}
 use Rattle.load_model.specs.Asks.{after_write, ask_in, deed_of, after_deed}
@@ -122,28 +123,34 @@ left_rises : (lib : Library) (e : Eager) (pid : ℕ) (p : Process) → Rising e 
 unfolding after_leaving with_process
 left_rises lib e pid p h = rise_filter _ 0 e.residences e.serials h
 
+rise_further : (low : ℕ) (ns : List ℕ) (high more : ℕ) → Rise low ns high → Rise low ns (high + more)
+rise_further low [] high more h = omega arith
+rise_further low (n ∷ ns) high more h = (h.0, rise_further n ns high more h.1)
+
 deed_rises : (lib : Library) (contents : Held) (e : Eager) (pid : ℕ) (d : Deed) → d ≡ deed_of lib contents e pid (ask_in d) → Rising e → Rising (after_deed lib e pid d)
 unfolding after_deed deed_of enter_deed
 deed_rises lib contents e pid (deeds.Enter how m fresh calls) is h =
-    entered_rises lib e pid how m fresh (enter_step how m (λ xs. entering_calls lib e pid how m xs) (placing lib e pid m) fresh calls is) h
+    entered_rises lib e pid how m fresh (enter_step lib e pid how m (placing lib e pid m) fresh calls is) h
 deed_rises lib contents e pid (deeds.Full how m of object size) is h = h
+deed_rises lib contents e pid (deeds.Failed how m by fresh calls gone) is h = rise_further 0 (map (λ r. r.serial) e.residences) e.serials (length fresh) h
 deed_rises lib contents e pid (deeds.Free m calls gone) is h = left_rises lib e pid _ h
 deed_rises lib contents e pid (deeds.Exit calls gone) is h = left_rises lib e pid _ h
 deed_rises lib contents e pid (deeds.Fault serial m p) is h = h
 deed_rises lib contents e pid (deeds.Write serial m object offset bytes) is h = written_rises e pid serial _ _ h
+deed_rises lib contents e pid (deeds.Debug serial m object offset bytes) is h = written_rises e pid serial _ classes.Private h
 deed_rises lib contents e pid (deeds.Shared serial m object offset bytes) is h = h
 
-all_rise : (lib : Library) (contents : Held) (before h : List Entry) → AllFollow lib contents before h → Rising (state_after lib before) → Rising (state_after lib (before ++ h))
-all_rise lib contents before [] all r = subst (λ b. Rising (state_after lib b)) (sym (append-nil before)) r
-all_rise lib contents before (x ∷ h) all r =
-    let next : Rising (state_after lib (before ++ x ∷ [])) =
-    subst Rising (sym (one_more_is_after lib before x)) (deed_rises lib contents (state_after lib before) x.pid x.deed all.0.done r)
+all_rise : (lib : Library) (failing : Failing) (contents : Held) (before h : List Entry) → AllFollow lib failing contents before h → Rising (state_after lib failing before) → Rising (state_after lib failing (before ++ h))
+all_rise lib failing contents before [] all r = subst (λ b. Rising (state_after lib failing b)) (sym (append-nil before)) r
+all_rise lib failing contents before (x ∷ h) all r =
+    let next : Rising (state_after lib failing (before ++ x ∷ [])) =
+    subst Rising (sym (one_more_is_after lib failing before x)) (deed_rises lib contents (state_after lib failing before) x.pid x.deed all.0.done r)
     in
-    subst (λ b. Rising (state_after lib b)) (append_assoc before (x ∷ []) h) (all_rise lib contents (before ++ x ∷ []) h all.1 next)
+    subst (λ b. Rising (state_after lib failing b)) (append_assoc before (x ∷ []) h) (all_rise lib failing contents (before ++ x ∷ []) h all.1 next)
 
 pub serials_rise : SerialsRise
 unfolding Legal state_after
-serials_rise lib contents h all = all_rise lib contents [] h all (none 0)
+serials_rise lib failing contents h all = all_rise lib failing contents [] h all (none 0)
   where
     none : (n : ℕ) → n ≤ n
     none n = omega arith

@@ -11,6 +11,7 @@ use Rattle.load_model.specs.declared.deeds.Deed.TheVariants as deeds
 use Rattle.load_model.specs.Modules.{Library, Held}
 use Rattle.load_model.specs.State.{Residence, Process, Eager, Written, with_process, is_among, pids, is_reached, residence_of}
 use Rattle.load_model.specs.Entering.{after_entering, residence_from}
+use Rattle.load_model.specs.Initialising.{after_failing}
 use Rattle.load_model.specs.Leaving.{gone_modules, after_leaving, freeing, exiting}
 use Rattle.load_model.specs.Memory.{with_write}
 use Rattle.load_model.specs.Asks.{after_write, after_deed}
@@ -91,38 +92,44 @@ write_module serial w k r = step (r.serial == serial)
     step true = refl
     step false = refl
 
-written_stays : (e : Eager) (pid serial : ℕ) (w : Written) (class : Class) (k : ℕ) → stay_of (residence_of (after_write e pid serial w class) k) ≡ stay_of (residence_of e k)
+pub written_stays : (e : Eager) (pid serial : ℕ) (w : Written) (class : Class) (k : ℕ) → stay_of (residence_of (after_write e pid serial w class) k) ≡ stay_of (residence_of e k)
 unfolding residence_of with_process
 written_stays e pid serial w classes.Code k = refl
 written_stays e pid serial w classes.Private k = refl
 written_stays e pid serial w classes.Shared k =
     ap stay_of (find_map (λ r. r.«module» == k) (with_write serial w) (write_module serial w k) e.residences) ∙ write_stays serial w (find (λ r. r.«module» == k) e.residences)
 
+failed_stays : (e : Eager) (fresh : List Fresh) (k : ℕ) → stay_of (residence_of (after_failing e fresh) k) ≡ stay_of (residence_of e k)
+unfolding residence_of
+failed_stays e fresh k = refl
+
 pub deed_stays : (lib : Library) (contents : Held) (e : Eager) (pid : ℕ) (d : Deed) (k : ℕ) → Done lib contents e pid d → Kept lib e → is_some (residence_of e k) ≡ true →
     is_reached lib (after_deed lib e pid d) k ≡ true → stay_of (residence_of (after_deed lib e pid d) k) ≡ stay_of (residence_of e k)
 unfolding after_deed
 deed_stays lib contents e pid (deeds.Enter how m fresh calls) k done kept h reached = ap stay_of (entered_stays lib e pid how m fresh k h)
 deed_stays lib contents e pid (deeds.Full how m of object size) k done kept h reached = refl
+deed_stays lib contents e pid (deeds.Failed how m by fresh calls gone) k done kept h reached = failed_stays e fresh k
 deed_stays lib contents e pid (deeds.Free m calls gone) k done kept h reached =
     ap stay_of (left_stays lib e pid (freeing m (e.processes pid)) k done.there kept (freeing_gives_up lib m (e.processes pid)) reached)
 deed_stays lib contents e pid (deeds.Exit calls gone) k done kept h reached =
     ap stay_of (left_stays lib e pid (exiting (e.processes pid)) k done.there kept (exiting_gives_up lib (e.processes pid)) reached)
 deed_stays lib contents e pid (deeds.Fault serial m p) k done kept h reached = refl
 deed_stays lib contents e pid (deeds.Write serial m object offset bytes) k done kept h reached = written_stays e pid serial _ _ k
+deed_stays lib contents e pid (deeds.Debug serial m object offset bytes) k done kept h reached = written_stays e pid serial _ classes.Private k
 deed_stays lib contents e pid (deeds.Shared serial m object offset bytes) k done kept h reached = refl
 
 pub residence_stays : ResidenceStays
-residence_stays lib contents h x m legal follows there reached =
-    deed_stays lib contents (state_after lib h) x.pid x.deed m (done_by lib contents h x follows) (legal_kept lib contents h legal) there reached
+residence_stays lib failing contents h x m legal follows there reached =
+    deed_stays lib contents (state_after lib failing h) x.pid x.deed m (done_by lib failing contents h x follows) (legal_kept lib failing contents h legal) there reached
 
 pub resident_reached : (lib : Library) (e : Eager) (m : ℕ) → Kept lib e → is_some (residence_of e m) ≡ is_reached lib e m
 resident_reached lib e m kept = is_resident e m ∙ kept.resident m
 
 pub reach_stays : OrdersNest → ReachStays
-reach_stays nest lib contents h x m k legal follows before after member =
-    let e : Eager = state_after lib h in
-    let kept : Kept lib e = legal_kept lib contents h legal in
-    let done : Done lib contents e x.pid x.deed = done_by lib contents h x follows in
+reach_stays nest lib failing contents h x m k legal follows before after member =
+    let e : Eager = state_after lib failing h in
+    let kept : Kept lib e = legal_kept lib failing contents h legal in
+    let done : Done lib contents e x.pid x.deed = done_by lib failing contents h x follows in
     let later : Kept lib (after_deed lib e x.pid x.deed) = after_kept lib contents e x.pid x.deed done kept in
     let there : is_some (residence_of e k) ≡ true =
     resident_reached lib e k kept ∙ reached_closed nest lib e m k (sym (resident_reached lib e m kept) ∙ before) member

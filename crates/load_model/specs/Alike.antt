@@ -1,8 +1,8 @@
 -- What an entry of another process leaves to a process.
-use Rattle.std.specs.Prelude.{◌≡◌, ℕ, ◌==◌, List, true, false}
+use Rattle.std.specs.Prelude.{◌≡◌, ℕ, ◌==◌, List, true, false, is_some}
 use Rattle.load_model.specs.declared.deeds.Entry.{Entry}
 use Rattle.load_model.specs.Modules.{Library, Held}
-use Rattle.load_model.specs.State.{Eager, pids, is_among, reaches, residence_of}
+use Rattle.load_model.specs.State.{Failing, Eager, pids, is_among, reaches, residence_of}
 use Rattle.load_model.specs.Memory.{bases_seen}
 use Rattle.load_model.specs.Histories.{after_entry, state_after, Follows, Legal}
 use Rattle.load_model.specs.Laws.{stay_of}
@@ -16,10 +16,17 @@ pub record Alike (lib : Library) (e after : Eager) (q : ℕ) : Type 0 where
 -- An entry of another process leaves such a state.
 abbrev pub OthersLeaveAlike : Type 0
 OthersLeaveAlike =
-    (lib : Library) (contents : Held) (h : List Entry) (entry : Entry) (pid : ℕ) → Legal lib contents h → Follows lib contents h entry → is_among pids pid ≡ true →
-    (pid == entry.pid) ≡ false → Alike lib (state_after lib h) (after_entry lib (state_after lib h) entry) pid
+    (lib : Library) (failing : Failing) (contents : Held) (h : List Entry) (entry : Entry) (pid : ℕ) → Legal lib failing contents h → Follows lib failing contents h entry → is_among pids pid ≡ true →
+    (pid == entry.pid) ≡ false → Alike lib (state_after lib failing h) (after_entry lib (state_after lib failing h) entry) pid
 
 -- In such states it sees the same bases behind what it reaches.
 abbrev pub BasesAreAlike : Type 0
 BasesAreAlike =
     (lib : Library) (e after : Eager) (pid m : ℕ) → Alike lib e after pid → reaches lib (e.processes pid) m ≡ true → bases_seen lib after m ≡ bases_seen lib e m
+
+-- While a residence stands, the bases behind it stay, whoever does what.
+abbrev pub BasesSeenStay : Type 0
+BasesSeenStay =
+    (lib : Library) (failing : Failing) (contents : Held) (h : List Entry) (entry : Entry) (m : ℕ) → Legal lib failing contents h → Follows lib failing contents h entry →
+    is_some (residence_of (state_after lib failing h) m) ≡ true → is_some (residence_of (after_entry lib (state_after lib failing h) entry) m) ≡ true →
+    bases_seen lib (after_entry lib (state_after lib failing h) entry) m ≡ bases_seen lib (state_after lib failing h) m

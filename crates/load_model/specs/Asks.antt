@@ -7,31 +7,35 @@ use Rattle.lx_types.specs.declared.object.PageId.{PageId}
 use Rattle.lx_types.specs.declared.object.TheConstants.{PAGE_SIZE}
 use Rattle.load_model.specs.declared.deeds.How.{How}
 use Rattle.load_model.specs.declared.deeds.Deed.{Deed}
-use Rattle.load_model.specs.declared.deeds.Deed.TheVariants.{Enter, Full, Free, Exit, Fault, Write, Shared}
+use Rattle.load_model.specs.declared.deeds.Deed.TheVariants.{Enter, Full, Failed, Free, Exit, Fault, Write, Debug, Shared}
 use Rattle.load_model.specs.Modules.{Library, Held, module_count, object_at}
 use Rattle.load_model.specs.State.{Written, Residence, Eager, with_process, attached_residence}
-use Rattle.load_model.specs.Entering.{enter_deed, after_entering}
+use Rattle.load_model.specs.Entering.{after_entering}
+use Rattle.load_model.specs.Initialising.{enter_deed, after_failing}
 use Rattle.load_model.specs.Leaving.{freeing, exiting, leaving_calls, gone, after_leaving}
 use Rattle.load_model.specs.Memory.{Bytes, writing, with_write}
-use Rattle.load_model.specs.Refusals.{Purpose, write, share, touch, enter_refusal, free_refusal, span_refusal}
+use Rattle.load_model.specs.Refusals.{Purpose, write, share, touch, debug, enter_refusal, free_refusal, span_refusal}
 
--- A start or a load of a module; a free of one; an exit; a page's first touch; bytes to write; a length of
--- bytes to read. Residences are asked for by serial number.
+-- A start or a load of a module; a free of one; an exit; a page's first touch; bytes to write; bytes to write
+-- to code; a length of bytes to read. Residences are asked for by serial number.
 pub data Ask : Type 0 where
   enter : How → ℕ → Ask
   free : ℕ → Ask
   exit : Ask
   fault : ℕ → ℕ → PageId → Ask
   put : ℕ → ℕ → ℕ → ℕ → List ℕ → Ask
+  patch : ℕ → ℕ → ℕ → ℕ → List ℕ → Ask
   get : ℕ → ℕ → ℕ → ℕ → ℕ → Ask
 
 abbrev pub ask_in : Deed → Ask
 ask_in (Enter how m fresh calls) = enter how m
 ask_in (Full how m of object size) = enter how m
+ask_in (Failed how m by fresh calls gone) = enter how m
 ask_in (Free m calls gone) = free m
 ask_in (Exit calls gone) = exit
 ask_in (Fault serial m p) = fault serial m p
 ask_in (Write serial m object offset bytes) = put serial m object offset bytes
+ask_in (Debug serial m object offset bytes) = patch serial m object offset bytes
 ask_in (Shared serial m object offset bytes) = get serial m object offset (length bytes)
 
 -- ---- what is done
@@ -49,6 +53,7 @@ deed_of lib contents e pid exit =
     let p = exiting (e.processes pid) in Exit (leaving_calls lib e pid p) (gone lib e pid p)
 deed_of lib contents e pid (fault serial m p) = Fault serial m p
 deed_of lib contents e pid (put serial m object offset bytes) = Write serial m object offset bytes
+deed_of lib contents e pid (patch serial m object offset bytes) = Debug serial m object offset bytes
 deed_of lib contents e pid (get serial m object offset len) =
     Shared serial m object offset (bytes_at lib contents e pid object offset len (attached_residence lib e pid m))
 
@@ -81,6 +86,7 @@ may_ask lib e pid (free m) = is_none (free_refusal (e.processes pid) (Some m))
 may_ask lib e pid exit = not (e.processes pid).ended
 may_ask lib e pid (fault serial m p) = not (e.processes pid).ended && may_use lib e pid touch serial m p.object (p.page * PAGE_SIZE) 1 && may_fault lib m p
 may_ask lib e pid (put serial m object offset bytes) = not (e.processes pid).ended && may_use lib e pid write serial m object offset (length bytes)
+may_ask lib e pid (patch serial m object offset bytes) = not (e.processes pid).ended && may_use lib e pid debug serial m object offset (length bytes)
 may_ask lib e pid (get serial m object offset len) = not (e.processes pid).ended && may_use lib e pid share serial m object offset len
 
 -- ---- the state after it
@@ -91,13 +97,19 @@ after_write e pid serial w classes.Code = e
 after_write e pid serial w classes.Private = with_process e pid (writing serial w (e.processes pid))
 after_write e pid serial w classes.Shared = record e { residences = map (with_write serial w) e.residences }
 
+-- a write to code is the process's own, as one to a private object is
+abbrev pub after_debug : Eager → ℕ → ℕ → Written → Eager
+after_debug e pid serial w = with_process e pid (writing serial w (e.processes pid))
+
 -- the state after an entry of a process
 unfoldable pub after_deed : Library → Eager → ℕ → Deed → Eager
 after_deed lib e pid (Enter how m fresh calls) = after_entering lib e pid how m fresh
 after_deed lib e pid (Full how m of object size) = e
+after_deed lib e pid (Failed how m by fresh calls gone) = after_failing e fresh
 after_deed lib e pid (Free m calls gone) = after_leaving lib e pid (freeing m (e.processes pid))
 after_deed lib e pid (Exit calls gone) = after_leaving lib e pid (exiting (e.processes pid))
 after_deed lib e pid (Fault serial m p) = e
 after_deed lib e pid (Write serial m object offset bytes) =
     after_write e pid serial (record { object = object; offset = offset; bytes = bytes }) (class_of (object_at lib m object))
+after_deed lib e pid (Debug serial m object offset bytes) = after_debug e pid serial (record { object = object; offset = offset; bytes = bytes })
 after_deed lib e pid (Shared serial m object offset bytes) = e

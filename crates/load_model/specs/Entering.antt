@@ -1,4 +1,4 @@
--- What a load attaches, where it places what is new, and what it calls.
+-- What a load attaches, where it places what is new, and what it calls where no initialisation fails.
 -- Control Program reference: DosLoadModule; LX: "LX Header" (per-process initialisation).
 use Rattle.std.specs.Prelude.{ℕ, suc, ◌+◌, ◌&&◌, ◌||◌, not, List, [], ◌∷◌, ◌++◌, map, filter, filter_map, flat_map, zip, length, Option, Some, None, option_map, option_to_list, is_none, Result, Ok, Err, if◌then◌else◌}
 use Rattle.lx_types.specs.declared.object.ObjHead.{ObjHead}
@@ -8,8 +8,6 @@ use Rattle.load_model.specs.declared.deeds.Call.{Call}
 use Rattle.load_model.specs.declared.deeds.CallKind.{CallKind}
 use Rattle.load_model.specs.declared.deeds.CallKind.TheVariants.{Init, Main}
 use Rattle.load_model.specs.declared.deeds.Fresh.{Fresh}
-use Rattle.load_model.specs.declared.deeds.Deed.{Deed}
-use Rattle.load_model.specs.declared.deeds.Deed.TheVariants.{Enter, Full}
 use Rattle.load_model.specs.Modules.{Library, is_library, order_of, start_of, inits_each, objects_of, bases_for, address_in}
 use Rattle.base_pick.specs.declared.occupied.AddressRange.{AddressRange}
 use Rattle.base_pick.specs.declared.picking.ArenaFull.{ArenaFull}
@@ -97,12 +95,3 @@ unfoldable pub entering_calls : Library → Eager → ℕ → How → ℕ → Li
 entering_calls lib e pid how m fresh =
     let after = after_entering lib e pid how m fresh in
     filter_map (init_of lib after (newcomers lib e pid m)) (joined lib e pid m) ++ main_of lib after how m
-
--- ---- the entry
-
--- the first object that has no place keeps all of it out
-unfoldable pub enter_deed : Library → Eager → ℕ → How → ℕ → Deed
-enter_deed lib e pid how m = elim (placing lib e pid m) [
-  | Ok fresh ↦ Enter how m fresh (entering_calls lib e pid how m fresh)
-  | Err none ↦ Full how m none.of none.object.object none.object.size
-]

@@ -6,16 +6,16 @@ use Rattle.load_model.specs.declared.deeds.Deed.{Deed}
 use Rattle.load_model.specs.declared.deeds.Deed.TheVariants as deeds
 use Rattle.load_model.specs.declared.deeds.Entry.{Entry}
 use Rattle.load_model.specs.Modules.{Library, Held}
-use Rattle.load_model.specs.State.{Eager, nothing_yet, pids, is_among}
+use Rattle.load_model.specs.State.{Failing, Eager, nothing_yet, pids, is_among}
 use Rattle.load_model.specs.Memory.{is_page}
 use Rattle.load_model.specs.Asks.{ask_in, deed_of, may_ask, after_deed}
 
 abbrev pub after_entry : Library → Eager → Entry → Eager
 after_entry lib e entry = after_deed lib e entry.pid entry.deed
 
--- the state after a history
-unfoldable pub state_after : Library → List Entry → Eager
-state_after lib h = fold (after_entry lib) nothing_yet h
+-- the state after a history in which some initialisations fail
+unfoldable pub state_after : Library → Failing → List Entry → Eager
+state_after lib failing h = fold (after_entry lib) (nothing_yet failing) h
 
 -- ---- faults
 
@@ -24,9 +24,11 @@ abbrev pub is_fault_of : ℕ → PageId → Deed → Bool
 is_fault_of serial p (deeds.Fault other m q) = (other == serial) && is_page q p
 is_fault_of serial p (deeds.Enter how m fresh calls) = false
 is_fault_of serial p (deeds.Full how m of object size) = false
+is_fault_of serial p (deeds.Failed how m by fresh calls gone) = false
 is_fault_of serial p (deeds.Free m calls gone) = false
 is_fault_of serial p (deeds.Exit calls gone) = false
 is_fault_of serial p (deeds.Write s m object offset bytes) = false
+is_fault_of serial p (deeds.Debug s m object offset bytes) = false
 is_fault_of serial p (deeds.Shared s m object offset bytes) = false
 
 -- a page of a residence has its fault in a history
@@ -38,26 +40,28 @@ abbrev pub is_first_fault : List Entry → Deed → Bool
 is_first_fault h (deeds.Fault serial m p) = not (has_fault h serial p)
 is_first_fault h (deeds.Enter how m fresh calls) = true
 is_first_fault h (deeds.Full how m of object size) = true
+is_first_fault h (deeds.Failed how m by fresh calls gone) = true
 is_first_fault h (deeds.Free m calls gone) = true
 is_first_fault h (deeds.Exit calls gone) = true
 is_first_fault h (deeds.Write s m object offset bytes) = true
+is_first_fault h (deeds.Debug s m object offset bytes) = true
 is_first_fault h (deeds.Shared s m object offset bytes) = true
 
 -- ---- what may follow, and what is legal
 
 -- An entry may follow a history: a process may ask it there, it is what the loader does then, and it is no
 -- second fault of a page of a residence. What was touched is not judged here.
-pub record Follows (lib : Library) (contents : Held) (h : List Entry) (entry : Entry) : Type 0 where
+pub record Follows (lib : Library) (failing : Failing) (contents : Held) (h : List Entry) (entry : Entry) : Type 0 where
   pub process : IsTrue (is_among pids entry.pid)
-  pub may : IsTrue (may_ask lib (state_after lib h) entry.pid (ask_in entry.deed))
-  pub done : entry.deed ≡ deed_of lib contents (state_after lib h) entry.pid (ask_in entry.deed)
+  pub may : IsTrue (may_ask lib (state_after lib failing h) entry.pid (ask_in entry.deed))
+  pub done : entry.deed ≡ deed_of lib contents (state_after lib failing h) entry.pid (ask_in entry.deed)
   pub first : IsTrue (is_first_fault h entry.deed)
 
 -- entries follow a history, one behind the other
-abbrev pub AllFollow : Library → Held → List Entry → List Entry → Type 0
-AllFollow lib contents h [] = Unit {0}
-AllFollow lib contents h (entry ∷ others) = Follows lib contents h entry × AllFollow lib contents (h ++ entry ∷ []) others
+abbrev pub AllFollow : Library → Failing → Held → List Entry → List Entry → Type 0
+AllFollow lib failing contents h [] = Unit {0}
+AllFollow lib failing contents h (entry ∷ others) = Follows lib failing contents h entry × AllFollow lib failing contents (h ++ entry ∷ []) others
 
 -- from the state in which nothing was done yet
-unfoldable pub Legal : Library → Held → List Entry → Type 0
-Legal lib contents h = AllFollow lib contents [] h
+unfoldable pub Legal : Library → Failing → Held → List Entry → Type 0
+Legal lib failing contents h = AllFollow lib failing contents [] h

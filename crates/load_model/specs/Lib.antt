@@ -2,6 +2,7 @@ pub mod Modules
 pub mod State
 pub mod Entering
 pub mod Leaving
+pub mod Initialising
 pub mod Memory
 pub mod Refusals
 pub mod Asks
@@ -14,6 +15,17 @@ pub mod Samples
 pub mod WorkedLoads
 pub mod WorkedBytes
 pub mod WorkedRefusals
+pub mod WorkedCycles
+pub mod WorkedFailures
+pub mod WorkedDebug
+pub mod WorkedResources
 pub mod Alike
 pub mod ResidenceBases
 pub mod Fitness
+pub mod Touched
+pub mod Rows
+pub mod Standing
+pub mod ViewAnswers
+pub mod ViewLaws
+pub mod Outcomes
+pub mod Bounds

@@ -23,11 +23,11 @@ abbrev pub put_at : ℕ → Written → Option ℕ
 put_at x w = if nat_le w.offset x then slice_get w.bytes (x - w.offset) else None
 
 abbrev pub writes_of_class : Class → Process → Residence → List Written
-writes_of_class Code p r = []
+writes_of_class Code p r = map (λ w. w.write) (filter (λ w. w.serial == r.serial) p.writes)
 writes_of_class Private p r = map (λ w. w.write) (filter (λ w. w.serial == r.serial) p.writes)
 writes_of_class Shared p r = r.writes
 
--- the writes to an object that a process sees: its own, or those of all
+-- The writes to an object that a process sees: its own to private objects and, by a debugger, to code; or those of all.
 unfoldable pub writes_seen : Library → Process → Residence → ℕ → List Written
 writes_seen lib p r object = filter (λ w. w.object == object) (writes_of_class (class_of (object_at lib r.«module» object)) p r)
 

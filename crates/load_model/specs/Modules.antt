@@ -11,6 +11,7 @@ use Rattle.lx_types.specs.declared.object.TheConstants.{PAGE_SIZE}
 use Rattle.lx_types.specs.declared.entry.EntryKey.{EntryKey}
 use Rattle.lx_types.specs.declared.entry.EntryKey.TheVariants.{Ordinal, Named}
 use Rattle.lx_types.specs.declared.bases.Bases.{Bases}
+use Rattle.lx_types.specs.declared.resource.ResSpot.{ResSpot}
 use Rattle.base_pick.specs.declared.occupied.AddressRange.{AddressRange}
 use Rattle.base_pick.specs.declared.picking.ArenaFull.{ArenaFull}
 use Rattle.base_pick.specs.Places.{places_of}
@@ -25,9 +26,10 @@ use Rattle.lx_model.specs.Library.{no_module, module_of, module_named}
 unfoldable pub use Rattle.lx_model.specs.Reach.{Order, visit, HealthOf}
 unfoldable pub use Rattle.lx_model.specs.Entries.{Entry, followed}
 use Rattle.lx_model.specs.Entries.{EntryNamed}
+unfoldable pub use Rattle.lx_model.specs.Resources.{Res}
 use Rattle.lx_model.specs.Fixed.{Fixed}
 use Rattle.load_model.specs.declared.commands.Refusal.{Refusal}
-use Rattle.load_model.specs.declared.commands.Refusal.TheVariants.{NoModule, ImportCycle, NoEntry, ForwardLoop, Gate286}
+use Rattle.load_model.specs.declared.commands.Refusal.TheVariants.{NoModule, NoEntry, ForwardLoop, Gate286}
 
 abbrev pub Library : Type 0
 Library = List Parts
@@ -73,7 +75,6 @@ order_of lib m = Order lib m
 abbrev pub refusal_of_health : Health → Option Refusal
 refusal_of_health kinds.Fit = None
 refusal_of_health (kinds.NoModule by name_no) = Some NoModule
-refusal_of_health (kinds.Cycle by) = Some ImportCycle
 refusal_of_health (kinds.NoEntry by) = Some NoEntry
 refusal_of_health (kinds.ForwardLoop by) = Some ForwardLoop
 refusal_of_health (kinds.Gate286 by) = Some Gate286
@@ -92,6 +93,12 @@ abbrev pub refusal_of_entry : EntryFault → Refusal
 refusal_of_entry faults.NoEntry = NoEntry
 refusal_of_entry faults.Gate286 = Gate286
 refusal_of_entry faults.ForwardLoop = ForwardLoop
+
+-- ---- resources
+
+-- where a module has the resource of a type and an identifier
+unfoldable pub resource_of : Library → ℕ → ℕ → ℕ → Option ResSpot
+resource_of lib m ty id = Res (module_of lib m) ty id
 
 -- ---- objects
 

@@ -1,6 +1,6 @@
 -- Why a command is refused: for each command its refusals, in the order in which they are tried.
 -- Control Program reference: DosLoadModule, DosFreeModule, DosQueryProcAddr.
-use Rattle.std.specs.Prelude.{ℕ, ◌+◌, ◌==◌, ◌||◌, not, Bool, false, List, length, Option, Some, None, option_map, is_some, nat_lt, nat_le, Result, Ok, Err, if◌then◌else◌}
+use Rattle.std.specs.Prelude.{ℕ, ◌+◌, ◌==◌, ◌||◌, not, Bool, false, List, length, Option, Some, None, option_map, is_some, is_none, nat_lt, nat_le, Result, Ok, Err, if◌then◌else◌}
 use Rattle.std.specs.List.{list_any}
 use Rattle.lx_types.specs.Object.{class_of}
 use Rattle.lx_types.specs.declared.object.Class.{Class}
@@ -10,10 +10,10 @@ use Rattle.load_model.specs.declared.commands.Place.{Place}
 use Rattle.load_model.specs.declared.commands.Command.{Command}
 use Rattle.load_model.specs.declared.commands.Command.TheVariants as commands
 use Rattle.load_model.specs.declared.commands.Refusal.{Refusal}
-use Rattle.load_model.specs.declared.commands.Refusal.TheVariants.{Ended, Started, NoModule, NotLibrary, NotProgram, CountFull, NotHeld, NotAttached, Range, ReadOnly, IsShared, NotShared, Invalid, NotTouched}
+use Rattle.load_model.specs.declared.commands.Refusal.TheVariants.{Ended, Started, NoModule, NotLibrary, NotProgram, CountFull, NotHeld, NotAttached, Range, ReadOnly, IsShared, NotShared, NotCode, Invalid, NotTouched, NoResource}
 use Rattle.load_model.specs.declared.deeds.How.{How}
 use Rattle.load_model.specs.declared.deeds.How.TheVariants.{Start, Load}
-use Rattle.load_model.specs.Modules.{Spot, EntryFault, Library, number_of, is_library, unfit, entry_spot, refusal_of_entry, objects_of, object_at, is_invalid}
+use Rattle.load_model.specs.Modules.{Spot, EntryFault, Library, number_of, is_library, unfit, entry_spot, refusal_of_entry, resource_of, objects_of, object_at, is_invalid}
 use Rattle.load_model.specs.State.{Residence, Process, Eager, count_of, attached_residence}
 use Rattle.load_model.specs.Memory.{page, pages_over, first_untouched}
 
@@ -70,6 +70,7 @@ pub data Purpose : Type 0 where
   write : Purpose
   share : Purpose
   peek : Purpose
+  debug : Purpose
 
 -- which objects it cannot be done with
 abbrev pub class_refusal : Purpose → Class → Option Refusal
@@ -83,6 +84,9 @@ class_refusal share classes.Shared = None
 class_refusal peek classes.Code = None
 class_refusal peek classes.Private = None
 class_refusal peek classes.Shared = Some IsShared
+class_refusal debug classes.Code = None
+class_refusal debug classes.Private = Some NotCode
+class_refusal debug classes.Shared = Some NotCode
 
 -- the object is not there, or the bytes pass its end
 abbrev pub is_outside : Library → ℕ → ℕ → ℕ → ℕ → Bool
@@ -104,6 +108,7 @@ touch_refusal touch p serial object offset len = None
 touch_refusal write p serial object offset len = option_map NotTouched (first_untouched p serial object offset len)
 touch_refusal share p serial object offset len = option_map NotTouched (first_untouched p serial object offset len)
 touch_refusal peek p serial object offset len = option_map NotTouched (first_untouched p serial object offset len)
+touch_refusal debug p serial object offset len = option_map NotTouched (first_untouched p serial object offset len)
 
 abbrev pub residence_refusal : Library → Process → Purpose → Place → Option Residence → Option Refusal
 residence_refusal lib p purpose place None = Some NotAttached
@@ -138,10 +143,20 @@ unfoldable pub query_refusal : Library → Eager → ℕ → List ℕ → EntryK
 query_refusal lib e pid name key =
     when (e.processes pid).ended Ended orelse key_refusal lib key (residence_named lib e pid name)
 
+-- ---- resources
+
+abbrev pub found_refusal : Library → ℕ → ℕ → Option Residence → Option Refusal
+found_refusal lib ty id None = Some NotAttached
+found_refusal lib ty id (Some r) = when (is_none (resource_of lib r.«module» ty id)) NoResource
+
+unfoldable pub resource_refusal : Library → Eager → ℕ → List ℕ → ℕ → ℕ → Option Refusal
+resource_refusal lib e pid name ty id =
+    when (e.processes pid).ended Ended orelse found_refusal lib ty id (residence_named lib e pid name)
+
 -- ---- all commands
 
--- The refusal of a command, if any. Want of a place is found later, and `Worn` has no place here: nobody
--- draws turns in one thread.
+-- The refusal of a command, if any. Want of a place and an initialisation that fails are found later, by an entry;
+-- and `Worn` has no place here: nobody draws turns in one thread.
 unfoldable pub refusal_of : Library → Eager → ℕ → Command → Option Refusal
 refusal_of lib e pid (commands.Start name) = enter_refusal lib (e.processes pid) Start (number_of lib name)
 refusal_of lib e pid (commands.Load name) = enter_refusal lib (e.processes pid) Load (number_of lib name)
@@ -150,5 +165,7 @@ refusal_of lib e pid (commands.Touch place) = place_refusal lib e pid touch plac
 refusal_of lib e pid (commands.Peek place) = place_refusal lib e pid peek place
 refusal_of lib e pid (commands.Shared place) = place_refusal lib e pid share place
 refusal_of lib e pid (commands.Write place bytes) = place_refusal lib e pid write place
+refusal_of lib e pid (commands.Debug place bytes) = place_refusal lib e pid debug place
 refusal_of lib e pid (commands.Query name key) = query_refusal lib e pid name key
+refusal_of lib e pid (commands.GetRes name ty id) = resource_refusal lib e pid name ty id
 refusal_of lib e pid commands.Exit = when (e.processes pid).ended Ended

@@ -11,7 +11,7 @@ use Rattle.load_model.specs.declared.deeds.CallKind.{CallKind}
 use Rattle.load_model.specs.declared.deeds.Fresh.{Fresh}
 use Rattle.load_model.specs.declared.deeds.Gone.{Gone}
 use Rattle.load_model.specs.Modules.{Library, Held, no_parts}
-use Rattle.load_model.specs.State.{Eager, nothing_yet}
+use Rattle.load_model.specs.State.{Failing, Eager, nothing_yet}
 use Rattle.load_model.specs.Step.{Answer, steady, Step}
 
 -- ---- modules
@@ -56,9 +56,12 @@ Commands = List (ℕ × Command)
 abbrev pub state_from : Library → Eager → Commands → Eager
 state_from lib e commands = fold (λ e c. (Step lib zeros e c.0 c.1).0) e commands
 
--- what the last command is answered, after others
+-- what the last command is answered, after others, where some initialisations fail, and where none does
+abbrev pub answer_where : Library → Failing → Commands → ℕ → Command → Answer
+answer_where lib failing before pid command = (Step lib zeros (state_from lib (nothing_yet failing) before) pid command).1
+
 abbrev pub answer_after : Library → Commands → ℕ → Command → Answer
-answer_after lib before pid command = (Step lib zeros (state_from lib nothing_yet before) pid command).1
+answer_after lib before pid command = answer_where lib [] before pid command
 
 abbrev pub place : List ℕ → ℕ → ℕ → ℕ → Place
 place name object offset len = record { «module» = name; object = object; offset = offset; len = len }

@@ -20,7 +20,7 @@ pub record Residence : Type 0 where
   pub bases : List ℕ
   pub writes : List Written
 
--- a write to a private object of a residence
+-- a write of a process's own to a private object, or to code, of a residence
 pub record OwnWrite : Type 0 where
   pub serial : ℕ
   pub write : Written
@@ -41,18 +41,24 @@ pub record Process : Type 0 where
   pub touched : List PageOf
   pub ended : Bool
 
--- the residences, oldest first; how many serials were given; the processes, by number
+-- Pairs of a process and a module whose initialisation fails in it.
+abbrev pub Failing : Type 0
+Failing = List (ℕ × ℕ)
+
+-- the residences, oldest first; how many serials were given; the processes, by number; which initialisations fail,
+-- which nothing changes
 pub record Eager : Type 0 where
   pub residences : List Residence
   pub serials : ℕ
   pub processes : ℕ → Process
+  pub failing : Failing
 
 abbrev pub new_process : Process
 new_process = record { started = None; loads = []; attached = []; writes = []; touched = []; ended = false }
 
 -- nothing is resident and no process has done anything
-abbrev pub nothing_yet : Eager
-nothing_yet = record { residences = []; serials = 0; processes = λ pid. new_process }
+abbrev pub nothing_yet : Failing → Eager
+nothing_yet failing = record { residences = []; serials = 0; processes = λ pid. new_process; failing = failing }
 
 -- the state with another process of this number
 unfoldable pub with_process : Eager → ℕ → Process → Eager

@@ -1,21 +1,22 @@
 -- One step of the loader with one thread: what a command of a process is answered, and the state after it.
 use Rattle.std.specs.Prelude.{◌≡◌, ℕ, List, [], Option, Some, None, unwrap_or, Result, Ok, Err, length}
 use Rattle.lx_types.specs.declared.entry.EntryKey.{EntryKey}
+use Rattle.lx_types.specs.declared.resource.ResSpot.{ResSpot}
 use Rattle.load_model.specs.declared.commands.Place.{Place}
 use Rattle.load_model.specs.declared.commands.Command.{Command}
-use Rattle.load_model.specs.declared.commands.Command.TheVariants.{Start, Load, Free, Touch, Peek, Shared, Write, Query, Exit}
+use Rattle.load_model.specs.declared.commands.Command.TheVariants.{Start, Load, Free, Touch, Peek, Shared, Write, Debug, Query, GetRes, Exit}
 use Rattle.load_model.specs.declared.commands.Reply.{Reply}
 use Rattle.load_model.specs.declared.commands.Reply.TheVariants as replies
 use Rattle.load_model.specs.declared.deeds.How.TheVariants as ways
 use Rattle.load_model.specs.declared.deeds.Deed.{Deed}
-use Rattle.load_model.specs.Modules.{Spot, EntryFault, Library, Held, number_of, entry_spot, address_in}
+use Rattle.load_model.specs.Modules.{Spot, EntryFault, Library, Held, number_of, entry_spot, resource_of, address_in}
 use Rattle.load_model.specs.State.{Residence, Eager, with_process, residence_of, serial_of, bases_of}
 use Rattle.load_model.specs.Memory.{Bytes, touching}
 use Rattle.load_model.specs.Refusals.{refusal_of, residence_named}
-use Rattle.load_model.specs.Asks.{Ask, enter, free, exit, put, get, deed_of, after_deed}
+use Rattle.load_model.specs.Asks.{Ask, enter, free, exit, put, patch, get, deed_of, after_deed}
 
--- A command gives an entry of the history, or is answered without one: touches, peeks, queries and what is
--- refused are steady, since nothing that others do can change the answer.
+-- A command gives an entry of the history, or is answered without one: touches, peeks, queries, searches for
+-- resources and what is refused are steady, since nothing that others do can change the answer.
 pub data Answer : Type 0 where
   entry : Deed → Answer
   steady : Reply → Answer
@@ -42,6 +43,13 @@ bytes_of lib contents e pid place (Some r) = Bytes lib contents e pid r place.ob
 abbrev pub serial_named : Library → Eager → ℕ → Place → ℕ
 serial_named lib e pid place = serial_of (residence_named lib e pid place.«module»)
 
+-- where a resource lies that is there
+abbrev pub no_spot : ResSpot
+no_spot = record { object = 0; offset = 0; len = 0 }
+
+abbrev pub resource_named : Library → List ℕ → ℕ → ℕ → ResSpot
+resource_named lib name ty id = unwrap_or (resource_of lib (meant lib name) ty id) no_spot
+
 unfoldable pub fine_answer : Library → Held → Eager → ℕ → Command → Answer
 fine_answer lib contents e pid (Start name) = entry (deed_of lib contents e pid (enter ways.Start (meant lib name)))
 fine_answer lib contents e pid (Load name) = entry (deed_of lib contents e pid (enter ways.Load (meant lib name)))
@@ -52,7 +60,10 @@ fine_answer lib contents e pid (Shared place) =
     entry (deed_of lib contents e pid (get (serial_named lib e pid place) (meant lib place.«module») place.object place.offset place.len))
 fine_answer lib contents e pid (Write place bytes) =
     entry (deed_of lib contents e pid (put (serial_named lib e pid place) (meant lib place.«module») place.object place.offset bytes))
+fine_answer lib contents e pid (Debug place bytes) =
+    entry (deed_of lib contents e pid (patch (serial_named lib e pid place) (meant lib place.«module») place.object place.offset bytes))
 fine_answer lib contents e pid (Query name key) = steady (replies.Address (address_of lib e pid name key))
+fine_answer lib contents e pid (GetRes name ty id) = steady (replies.Spot (resource_named lib name ty id))
 fine_answer lib contents e pid Exit = entry (deed_of lib contents e pid exit)
 
 -- ---- the step
@@ -84,21 +95,25 @@ Step lib contents e pid command =
 
 -- ---- what a command asks
 
--- what the entry of a command asks; a touch, a peek and a query ask nothing that others could see
+-- what the entry of a command asks; a touch, a peek, a query and the search for a resource ask
+-- nothing that others could see
 abbrev pub ask_by : Library → Eager → ℕ → Command → Option Ask
 ask_by lib e pid (Start name) = Some (enter ways.Start (meant lib name))
 ask_by lib e pid (Load name) = Some (enter ways.Load (meant lib name))
 ask_by lib e pid (Free name) = Some (free (meant lib name))
 ask_by lib e pid (Shared place) = Some (get (serial_named lib e pid place) (meant lib place.«module») place.object place.offset place.len)
 ask_by lib e pid (Write place bytes) = Some (put (serial_named lib e pid place) (meant lib place.«module») place.object place.offset bytes)
+ask_by lib e pid (Debug place bytes) = Some (patch (serial_named lib e pid place) (meant lib place.«module») place.object place.offset bytes)
 ask_by lib e pid Exit = Some exit
 ask_by lib e pid (Touch place) = None
 ask_by lib e pid (Peek place) = None
 ask_by lib e pid (Query name key) = None
+ask_by lib e pid (GetRes name ty id) = None
 
 -- a write has as many bytes as its place is long
 abbrev pub FitsPlace : Command → Type 0
 FitsPlace (Write place bytes) = length bytes ≡ place.len
+FitsPlace (Debug place bytes) = length bytes ≡ place.len
 FitsPlace (Start name) = Unit {0}
 FitsPlace (Load name) = Unit {0}
 FitsPlace (Free name) = Unit {0}
@@ -106,4 +121,5 @@ FitsPlace (Touch place) = Unit {0}
 FitsPlace (Peek place) = Unit {0}
 FitsPlace (Shared place) = Unit {0}
 FitsPlace (Query name key) = Unit {0}
+FitsPlace (GetRes name ty id) = Unit {0}
 FitsPlace Exit = Unit {0}

@@ -41,7 +41,7 @@ program = record (library (codes "P") []) { flags = 0 }
 
 abbrev several : Library
 several =
-    E ∷ importing (codes "LOST") (codes "NONE") ∷ importing (codes "CYCLE") (codes "CYCLE") ∷ referring (codes "NINE") 9 ∷ referring (codes "GATE") 2
+    E ∷ importing (codes "LOST") (codes "NONE") ∷ referring (codes "NINE") 9 ∷ referring (codes "GATE") 2
     ∷ program ∷ importing (codes "BAD") (codes "P") ∷ []
 
 pub record WorkedLoadRefusals : Type 0 where
@@ -53,7 +53,6 @@ pub record WorkedLoadRefusals : Type 0 where
   pub lost_import : answer_after several [] 1 (Load (codes "LOST")) ≡ refused why.NoModule
   -- an import never means a program
   pub program_imported : answer_after several [] 1 (Load (codes "BAD")) ≡ refused why.NoModule
-  pub cycle : answer_after several [] 1 (Load (codes "CYCLE")) ≡ refused why.ImportCycle
   pub no_entry : answer_after several [] 1 (Load (codes "NINE")) ≡ refused why.NoEntry
   pub gate : answer_after several [] 1 (Load (codes "GATE")) ≡ refused why.Gate286
   -- a load more than 65,535, and the last one before

@@ -1,6 +1,6 @@
 //! What a process can ask for, and what it is answered.
 
-use lx_types::{Bytes, EntryKey, Name};
+use lx_types::{Bytes, EntryKey, Name, ResSpot};
 
 /// `len` bytes of an object of a module, from `offset` on. Objects count from 1.
 #[derive(Drop)]
@@ -28,8 +28,12 @@ pub enum Command {
     Shared(Place),
     /// Writes bytes. There are as many as the place is long.
     Write(Place, Bytes),
+    /// Writes bytes to the process's own copy of code (DosDebug).
+    Debug(Place, Bytes),
     /// Asks for the address of an entry point (DosQueryProcAddr).
     Query(Name, EntryKey),
+    /// Asks where the resource of a type and an identifier lies (DosGetResource).
+    GetRes(Name, u16, u16),
     /// Ends the process (DosExit).
     Exit,
 }
@@ -47,8 +51,6 @@ pub enum Refusal {
     NoModule,
     NotLibrary,
     NotProgram,
-    /// Modules import each other.
-    ImportCycle,
     /// The key, or a fixup's target, names no entry.
     NoEntry,
     /// Forwarders lead back to where they came from.
@@ -65,6 +67,11 @@ pub enum Refusal {
         object: u32,
         size: u32,
     },
+    /// The initialisation of module `by` failed; entry `number` of the history says so.
+    InitFailed {
+        number: u64,
+        by: u32,
+    },
     /// The process has no load of the module.
     NotHeld,
     /// The process does not reach the module.
@@ -77,6 +84,8 @@ pub enum Refusal {
     IsShared,
     /// The object is not shared.
     NotShared,
+    /// The object is not code.
+    NotCode,
     /// The place covers an invalid page.
     Invalid,
     /// The first page of the place, from 0 in its object, that the process has not touched since it
@@ -84,6 +93,8 @@ pub enum Refusal {
     NotTouched {
         page: u32,
     },
+    /// The module has no resource of the type and the identifier.
+    NoResource,
 }
 
 /// What a command without an entry is answered.
@@ -93,5 +104,6 @@ pub enum Reply {
     Fine,
     Bytes(Bytes),
     Address(u32),
+    Spot(ResSpot),
     Refused(Refusal),
 }

@@ -71,6 +71,15 @@ pub enum Deed {
         object: u32,
         size: u32,
     },
+    /// It was not, since the initialisation of module `by` failed: what began with it has ended.
+    Failed {
+        how: How,
+        module: u32,
+        by: u32,
+        fresh: Newcomers,
+        calls: Calls,
+        gone: Leavers,
+    },
     /// One load of a module was given up (DosFreeModule).
     Free {
         module: u32,
@@ -90,6 +99,14 @@ pub enum Deed {
     },
     /// Bytes were written.
     Write {
+        serial: u64,
+        module: u32,
+        object: u32,
+        offset: u32,
+        bytes: Bytes,
+    },
+    /// Bytes of code were written, for this process alone.
+    Debug {
         serial: u64,
         module: u32,
         object: u32,

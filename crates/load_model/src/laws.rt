@@ -1,12 +1,16 @@
 //! What the definitions say together. Each law is the contract of a function that does nothing, which a
 //! crate above calls where it needs the law.
 
-ghost use Rattle.load_model.specs.Laws.{AsksDecide, PrefixIsLegal, EachFollows, OneMoreIsLegal, NothingIsLegal, OneMoreIsAfter, FaultOnce, ReachedIsResident, AttachedIsReached, GoneIsUnreached, ResidenceStays, ReachStays, OthersRefuseAlike, OthersAnswerAlike, HeldAnswersAlike, HeldHistoriesAlike, CountsAreResidence};
+ghost use Rattle.load_model.specs.Laws.{AsksDecide, PrefixIsLegal, EachFollows, OneMoreIsLegal, NothingIsLegal, OneMoreIsAfter, FaultOnce, ReachedIsResident, AttachedIsReached, GoneIsUnreached, ResidenceStays, ReachStays, OthersRefuseAlike, OthersAnswerAlike, OthersBytesAlike, HeldAnswersAlike, HeldHistoriesAlike, CountsAreResidence};
 ghost use Rattle.load_model.specs.Accepted.{AcceptedMayAsk, TouchedIsApart};
-ghost use Rattle.load_model.specs.Serials.{SerialsRise, FaultsAreGiven};
-ghost use Rattle.load_model.specs.Fitness.{ReachedIsFit};
-ghost use Rattle.load_model.specs.ResidenceBases.{BasesStand};
-ghost use Rattle.load_model.specs.Alike.{OthersLeaveAlike, BasesAreAlike};
+ghost use Rattle.load_model.specs.Serials.{SerialsRise, SerialsAreOwn, FaultsAreGiven};
+ghost use Rattle.load_model.specs.Fitness.{ReachedIsFit, FitnessIsClosed};
+ghost use Rattle.load_model.specs.ResidenceBases.{BasesStand, ResidentsFit};
+ghost use Rattle.load_model.specs.ViewLaws.{NewStands, StandsOn, StandsQuiet, StandsMapped, RefusedByView, AnsweredByView};
+ghost use Rattle.load_model.specs.Outcomes.{NamesAreKnown};
+ghost use Rattle.load_model.specs.Bounds.{CountsAreSmall};
+ghost use Rattle.load_model.specs.Touched.{AnsweredByPages, EntriesMoveTouched};
+ghost use Rattle.load_model.specs.Alike.{OthersLeaveAlike, BasesAreAlike, BasesSeenStay};
 
 /// Two legal histories whose entries ask the same are the same: nothing else in them was free.
 pub fn asks_decide()
@@ -41,19 +45,21 @@ pub fn gone_is_unreached()
 {}
 
 /// A residence whose module is still reached stands as it was; and while one stands, so do those of all
-/// modules that its module reaches.
+/// modules that its module reaches, with their bases.
 pub fn residences_stay()
     ensures still { ResidenceStays }
     ensures reach { ReachStays }
+    ensures bases { BasesSeenStay }
 {
     lx_model::order_is_reach();
 }
 
-/// An entry of another process changes no refusal of a process, and no answer of a touch, a peek or a
-/// query.
+/// An entry of another process changes no refusal of a process, no answer of a touch, a peek or a query,
+/// whatever was touched, and no byte of code or of the process's own data.
 pub fn others_change_nothing()
     ensures refusals { OthersRefuseAlike }
     ensures answers { OthersAnswerAlike }
+    ensures bytes { OthersBytesAlike }
 {
     lx_model::order_is_reach();
 }
@@ -67,7 +73,8 @@ pub fn agreement_is_enough()
 
 /// Residences stand by rising serial numbers, so each has its own.
 pub fn serials_rise()
-    ensures { SerialsRise }
+    ensures rise { SerialsRise }
+    ensures own { SerialsAreOwn }
 {}
 
 /// A command that is not refused and has an entry may ask for it, and the entry is what the loader does
@@ -94,12 +101,51 @@ pub fn faults_are_given()
 /// Each residence has a base for each object of its module: a multiple of 65,536 from which on the object lies
 /// within the module's arena.
 pub fn residences_stand()
-    ensures { BasesStand }
+    ensures bases { BasesStand }
+    ensures fit { ResidentsFit }
 {}
 
-/// What a process reaches is a module of the library, and fit.
+/// What a process reaches is a module of the library, and fit; and what a fit module reaches is fit.
 pub fn reached_is_fit()
-    ensures { ReachedIsFit }
+    ensures reached { ReachedIsFit }
+    ensures closed { FitnessIsClosed }
 {
     lx_model::order_is_reach();
 }
+
+/// Of what was touched it counts for a process which pages it touched itself; and an entry changes all else in
+/// one way, whatever was touched.
+pub fn touched_pages_decide()
+    ensures answers { AnsweredByPages }
+    ensures entries { EntriesMoveTouched }
+{}
+
+/// What a process's own view stands for: nothing at first; it goes on through entries of other processes, behind
+/// entries of its own that change nothing in it, and with a page more that is mapped.
+pub fn views_stand()
+    ensures new { NewStands }
+    ensures on { StandsOn }
+    ensures quiet { StandsQuiet }
+    ensures mapped { StandsMapped }
+{
+    lx_model::order_is_reach();
+}
+
+/// A view's refusals are the loader's; and where it refuses nothing, so is its reply to each command without an
+/// entry.
+pub fn views_answer()
+    ensures refusals { RefusedByView }
+    ensures replies { AnsweredByView }
+{
+    lx_model::order_is_reach();
+}
+
+/// The name in a command that is not refused means a module.
+pub fn names_are_known()
+    ensures { NamesAreKnown }
+{}
+
+/// No process holds more than 65,535 loads of one module.
+pub fn counts_are_small()
+    ensures { CountsAreSmall }
+{}

@@ -3,6 +3,10 @@
 
 ghost use Rattle.load_model.specs.WorkedLoads.{WorkedDiamond, WorkedPlaces, WorkedCalls};
 ghost use Rattle.load_model.specs.WorkedBytes.{WorkedWrites};
+ghost use Rattle.load_model.specs.WorkedCycles.{WorkedCycles};
+ghost use Rattle.load_model.specs.WorkedFailures.{WorkedFailures};
+ghost use Rattle.load_model.specs.WorkedDebug.{WorkedDebug};
+ghost use Rattle.load_model.specs.WorkedResources.{WorkedResources};
 ghost use Rattle.load_model.specs.WorkedRefusals.{WorkedLoadRefusals, WorkedPlaceRefusals, WorkedQueries};
 
 /// A diamond of imports: what is new at each load, in which order it is initialised, and what leaves.
@@ -38,4 +42,24 @@ pub fn places_are_refused()
 /// Addresses of entry points, and one case of each refusal of a query.
 pub fn queries_are_answered()
     ensures { WorkedQueries }
+{}
+
+/// Libraries that import each other, or themselves, and forwarders that come back.
+pub fn cycles_load()
+    ensures { WorkedCycles }
+{}
+
+/// Initialisations that fail: what is called then, and what is left.
+pub fn initialisations_fail()
+    ensures { WorkedFailures }
+{}
+
+/// Who sees a write to code, and when it ends.
+pub fn code_is_written()
+    ensures { WorkedDebug }
+{}
+
+/// Resources that a module has, and one that it has not.
+pub fn resources_are_asked()
+    ensures { WorkedResources }
 {}

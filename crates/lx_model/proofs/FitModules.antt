@@ -18,7 +18,7 @@ use Rattle.lx_types.specs.Parts.{span, object_of}
 use Rattle.lx_model.specs.declared.library.EntryFault.{EntryFault}
 use Rattle.lx_model.specs.declared.library.EntryFault.TheVariants as faults
 use Rattle.lx_model.specs.declared.library.Health.{Health}
-use Rattle.lx_model.specs.declared.library.Health.TheVariants.{Fit, NoModule, Cycle, NoEntry, ForwardLoop, Gate286}
+use Rattle.lx_model.specs.declared.library.Health.TheVariants.{Fit, NoModule, NoEntry, ForwardLoop, Gate286}
 use Rattle.lx_model.specs.declared.library.Spot.{Spot}
 use Rattle.lx_model.specs.Reading.{fault, number_at, first, ◌then◌, placed, fault_of}
 use Rattle.lx_model.specs.Header.{page_count}
@@ -27,7 +27,7 @@ use Rattle.lx_model.specs.Tables.{page_kind, page_of_kind, page_or_zero, page_en
 use Rattle.lx_model.specs.Module.{same_target, is_reference, parts_of, IsRead}
 use Rattle.lx_model.specs.Library.{no_module, module_of, library_named}
 use Rattle.lx_model.specs.Entries.{target_spot}
-use Rattle.lx_model.specs.Reach.{imports_of, itself, is_among, Order, lost_import, cycle_of, ends_in, target_of_fault, HealthOf}
+use Rattle.lx_model.specs.Reach.{itself, Order, lost_import, ends_in, target_of_fault, HealthOf}
 use Rattle.lx_model.specs.Fixed.{sources_of}
 use Rattle.lx_model.specs.ModuleLaws.{DataExpands, HasSpot, FitHasSpots}
 use Rattle.lx_model.proofs.Each.{each_more, each_first}
@@ -97,9 +97,7 @@ fit_is_sure lib m e =
     let c = first (map (λ by. target_of_fault faults.NoEntry (NoEntry by) lib by) members) in
     let d = first (map (λ by. target_of_fault faults.ForwardLoop (ForwardLoop by) lib by) members) in
     let g = first (map (λ by. target_of_fault faults.Gate286 (Gate286 by) lib by) members) in
-    let one = not_first (first (map (lost_import lib) members)) (first (map (cycle_of lib) members) then c then d then g) (unfit_first (lost_import lib) (unfit_lost lib) members) e in
-    let two = not_first (first (map (cycle_of lib) members)) (c then d then g)
-    (unfit_first (cycle_of lib) (λ by. unfit_if (list_any (λ import. is_among (Order lib import) by) (imports_of lib by)) (Cycle by) (λ (x : Cycle by ≡ Fit). absurd cc)) members) one.1 in
+    let two = not_first (first (map (lost_import lib) members)) (c then d then g) (unfit_first (lost_import lib) (unfit_lost lib) members) e in
     let three = not_first c (d then g)
     (unfit_first (λ by. target_of_fault faults.NoEntry (NoEntry by) lib by) (λ by. unfit_if (list_any (λ t. ends_in faults.NoEntry (target_spot lib by t)) (module_of lib by).refs) (NoEntry by) (λ (x : NoEntry by ≡ Fit). absurd cc)) members) two.1 in
     let four = not_first d g

@@ -1,20 +1,20 @@
 -- A module that was read has a name, and its entries have ordinals of 16 bits.
-use Rattle.std.proofs.Common.{◌≡◌, ℕ, ◌+◌, ◌<◌, ◌≤◌, ◌^◌, Bool, true, false, cond, eqb, List, [], ◌∷◌, length, take, drop, length-take, ltb, Option, Some, None, Result, Ok, Err, refl, sym, subst, ap, ◌∙◌, arith}
+use Rattle.std.proofs.Common.{◌≡◌, ℕ, ◌+◌, ◌<◌, ◌^◌, Bool, true, false, cond, eqb, List, [], ◌∷◌, length, take, drop, length-take, ltb, Option, Some, None, Result, Ok, Err, refl, sym, subst, ap, arith}
 use Rattle.std.specs.List.{AllByRecursion as Each}
 use Rattle.std.proofs.lemmas.Bool.{ltb-false}
 use Rattle.lx_bytes.specs.Cursor.{Cursor, advance}
 use Rattle.lx_types.specs.declared.refusal.LxRefusal.{LxRefusal}
 use Rattle.lx_types.specs.declared.refusal.LxKind.TheVariants.{Short}
 use Rattle.lx_types.specs.declared.parts.Parts.{Parts}
-use Rattle.lx_model.specs.Reading.{fault, cursor, text, number, Read, ◌>>=◌, ends, Many, many, placed, fault_of, value_or}
+use Rattle.lx_model.specs.Reading.{fault, cursor, text, number, ◌>>=◌, ends, Many, many, placed, fault_of, value_or}
 use Rattle.lx_model.specs.Header.{table, object_count, import_count}
-use Rattle.lx_model.specs.NameTables.{Named, name_entry, names_in, resident_names, resident_fault, lacks_name, first_name, name_of}
+use Rattle.lx_model.specs.NameTables.{Named, name_entry, names_in, resident_fault, lacks_name, first_name, name_of}
 use Rattle.lx_model.specs.EntryTable.{Numbered, LAST_ORDINAL, entries_in, entries_of, entries_fault}
-use Rattle.lx_model.specs.Module.{LxFault, parts_of, IsRead}
+use Rattle.lx_model.specs.Module.{LxFault, parts_of}
 use Rattle.lx_model.specs.ModuleLaws.{ReadIsNamed}
 use Rattle.lx_model.proofs.Entries.{Run, run_of_table}
 use Rattle.lx_model.proofs.Many.{whole_ends, Cases, many_holds}
-use Rattle.lx_model.proofs.Meaning.{Judged, judged}
+use Rattle.lx_model.proofs.Meaning.{judged}
 use Rattle.lx_model.proofs.Shortening.{name_shortens}
 use Rattle.lx_model.proofs.Steps.{bind_ok, guard_ok, done}
 use Rattle.lx_model.proofs.TablesTaken.{positive}

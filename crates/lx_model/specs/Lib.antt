@@ -27,6 +27,7 @@ pub mod Fixed
 pub mod Reach
 pub mod Gathering
 pub mod ModuleBytes
+pub mod Resources
 pub mod Placed
 pub mod ModuleLaws
 pub mod Worked

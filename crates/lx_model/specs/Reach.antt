@@ -6,7 +6,7 @@ use Rattle.lx_model.specs.declared.library.Spot.{Spot}
 use Rattle.lx_model.specs.declared.library.EntryFault.{EntryFault}
 use Rattle.lx_model.specs.declared.library.EntryFault.TheVariants as faults
 use Rattle.lx_model.specs.declared.library.Health.{Health}
-use Rattle.lx_model.specs.declared.library.Health.TheVariants.{Fit, NoModule, Cycle, NoEntry, ForwardLoop, Gate286}
+use Rattle.lx_model.specs.declared.library.Health.TheVariants.{Fit, NoModule, NoEntry, ForwardLoop, Gate286}
 use Rattle.lx_model.specs.Reading.{first, ◌then◌}
 use Rattle.lx_model.specs.Library.{module_of, library_named}
 use Rattle.lx_model.specs.Entries.{target_spot}
@@ -33,8 +33,8 @@ abbrev pub is_among : List ℕ → ℕ → Bool
 is_among modules m = list_any (λ other. m == other) modules
 
 -- A visit to a module that was visited before adds nothing. Another one marks the module, visits the
--- libraries that its import table names, in order, and then adds the module. The visits are at most n
--- deep; each marks a module more.
+-- libraries that its import table names, in order, and then adds the module; so modules that import each
+-- other are each visited once. The visits are at most n deep; each marks a module more.
 unfoldable pub visit : ℕ → List Parts → Visits → ℕ → Visits
 visit zero lib before m = before
 visit (suc n) lib before m =
@@ -44,7 +44,7 @@ visit (suc n) lib before m =
     let after = fold (visit n lib) marked (imports_of lib m) in
     record { visited = after.visited; order = after.order ++ m ∷ [] }
 
--- what m reaches, each after what it imports
+-- What m reaches, each module after what it imports, where that does not lead back to it.
 unfoldable pub Order : List Parts → ℕ → List ℕ
 Order lib m = (visit (suc (length lib)) lib (record { visited = []; order = [] }) m).order
 
@@ -53,10 +53,6 @@ Order lib m = (visit (suc (length lib)) lib (record { visited = []; order = [] }
 -- the first name of a module's import table that means no library, from 1
 abbrev pub lost_import : List Parts → ℕ → Option Health
 lost_import lib m = option_map (λ k. NoModule m (k + 1)) (position (λ name. is_none (library_named lib name)) (module_of lib m).imports)
-
--- a module that one of its own imports reaches
-abbrev pub cycle_of : List Parts → ℕ → Option Health
-cycle_of lib m = if list_any (λ import. is_among (Order lib import) m) (imports_of lib m) then Some (Cycle m) else None
 
 abbrev pub same_fault : EntryFault → EntryFault → Bool
 same_fault faults.NoEntry faults.NoEntry = true
@@ -78,7 +74,6 @@ HealthOf lib m =
     let members = Order lib m in
     unwrap_or
     (first (map (lost_import lib) members)
-    then first (map (cycle_of lib) members)
     then first (map (λ by. target_of_fault faults.NoEntry (NoEntry by) lib by) members)
     then first (map (λ by. target_of_fault faults.ForwardLoop (ForwardLoop by) lib by) members)
     then first (map (λ by. target_of_fault faults.Gate286 (Gate286 by) lib by) members))

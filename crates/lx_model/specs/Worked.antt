@@ -8,4 +8,6 @@ pub mod File
 pub mod Header
 pub mod Pages
 pub mod Library
+pub mod Cycles
+pub mod Resources
 pub mod Words

@@ -26,11 +26,11 @@ pub enum Health {
     Fit,
     /// Name `name_no` of its import modules, from 1, means no library.
     NoModule { by: u32, name_no: u32 },
-    /// It reaches itself through its imports.
-    Cycle { by: u32 },
     /// A fixup's target names no entry.
     NoEntry { by: u32 },
+    /// Forwarders lead from a fixup's target back to where they came from.
     ForwardLoop { by: u32 },
+    /// A fixup's target is a call gate of the 80286.
     Gate286 { by: u32 },
 }
 

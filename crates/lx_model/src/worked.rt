@@ -10,6 +10,8 @@ ghost use Rattle.lx_model.specs.Worked.Header.{WorkedHeader, WorkedOrder, Worked
 ghost use Rattle.lx_model.specs.Worked.Pages.{WorkedPages, WorkedTargets, WorkedClasses};
 ghost use Rattle.lx_model.specs.Worked.Words.{WorkedGathering, WorkedBytes};
 ghost use Rattle.lx_model.specs.Worked.Library.{WorkedFields, WorkedLibrary};
+ghost use Rattle.lx_model.specs.Worked.Cycles.{WorkedCycles};
+ghost use Rattle.lx_model.specs.Worked.Resources.{WorkedResources};
 
 /// Fixup records of each form, and what is wrong first with others.
 pub fn records_read()
@@ -75,6 +77,16 @@ pub fn fields_put()
 /// Where entries lead through forwarders, and which modules can be loaded.
 pub fn library_means()
     ensures { WorkedLibrary }
+{}
+
+/// Modules that import each other, and one that imports itself.
+pub fn cycles_are_ordered()
+    ensures { WorkedCycles }
+{}
+
+/// Which entries of a resource table count, and which of them is found.
+pub fn resources_are_found()
+    ensures { WorkedResources }
 {}
 
 /// Which modules are a library, entry points by key, and bytes and invalid pages by offset.

@@ -11,6 +11,7 @@ mod name;
 mod object;
 mod parts;
 mod refusal;
+mod resource;
 mod seq;
 
 pub use bases::{Bases, ModBases};
@@ -27,4 +28,5 @@ pub use object::{
 };
 pub use parts::{MODULE_INIT_EACH, MODULE_KIND, MODULE_LIBRARY, MODULE_TERM_EACH, Parts};
 pub use refusal::{LxKind, LxRefusal};
+pub use resource::ResSpot;
 pub use seq::{Bytes, Names, Numbers, Seq};

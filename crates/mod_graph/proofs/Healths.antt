@@ -9,7 +9,7 @@ use Rattle.lx_model.specs.Reading.{first, ◌then◌}
 use Rattle.lx_model.specs.Reach.{Order, HealthOf}
 use Rattle.mod_graph.specs.declared.health.Faults.{Faults}
 use Rattle.mod_graph.specs.declared.health.Kind.{Kind}
-use Rattle.mod_graph.specs.declared.health.Kind.TheVariants.{Lost, Cycle, NoEntries, Loops, Gates}
+use Rattle.mod_graph.specs.declared.health.Kind.TheVariants.{NoModule, NoEntry, ForwardLoop, Gate286}
 use Rattle.mod_graph.specs.Faults.{faults_of, listed, no_faults, of_kind, first_of_kind, health_among}
 use Rattle.mod_graph.proofs.Lists.{map_same_within}
 
@@ -30,10 +30,9 @@ unfolding HealthOf
 health_is lib faults order m is within ordered =
     let of : Kind → List ℕ → Option Health = λ kind members. first (map (λ by. of_kind kind (faults_of lib by)) members) in
     let same : (kind : Kind) → first_of_kind kind faults order ≡ of kind order = kind_same lib faults order is within in
-    let all : List ℕ → Health = λ members. unwrap_or (of Lost members then of Cycle members then of NoEntries members then of Loops members then of Gates members) Fit in
-    ap (λ x. unwrap_or (x then first_of_kind Cycle faults order then first_of_kind NoEntries faults order then first_of_kind Loops faults order then first_of_kind Gates faults order) Fit) (same Lost)
-    ∙ ap (λ x. unwrap_or (of Lost order then x then first_of_kind NoEntries faults order then first_of_kind Loops faults order then first_of_kind Gates faults order) Fit) (same Cycle)
-    ∙ ap (λ x. unwrap_or (of Lost order then of Cycle order then x then first_of_kind Loops faults order then first_of_kind Gates faults order) Fit) (same NoEntries)
-    ∙ ap (λ x. unwrap_or (of Lost order then of Cycle order then of NoEntries order then x then first_of_kind Gates faults order) Fit) (same Loops)
-    ∙ ap (λ x. unwrap_or (of Lost order then of Cycle order then of NoEntries order then of Loops order then x) Fit) (same Gates)
+    let all : List ℕ → Health = λ members. unwrap_or (of NoModule members then of NoEntry members then of ForwardLoop members then of Gate286 members) Fit in
+    ap (λ x. unwrap_or (x then first_of_kind NoEntry faults order then first_of_kind ForwardLoop faults order then first_of_kind Gate286 faults order) Fit) (same NoModule)
+    ∙ ap (λ x. unwrap_or (of NoModule order then x then first_of_kind ForwardLoop faults order then first_of_kind Gate286 faults order) Fit) (same NoEntry)
+    ∙ ap (λ x. unwrap_or (of NoModule order then of NoEntry order then x then first_of_kind Gate286 faults order) Fit) (same ForwardLoop)
+    ∙ ap (λ x. unwrap_or (of NoModule order then of NoEntry order then of ForwardLoop order then x) Fit) (same Gate286)
     ∙ ap all ordered

@@ -2,6 +2,7 @@ pub mod Lists
 pub mod Orders
 pub mod Following
 pub mod Healths
+pub mod Targets
 pub mod Tables
 pub mod Gathered
 pub mod NameIndexes

@@ -1,9 +1,9 @@
 -- The order from listed imports is the library's.
-use Rattle.std.proofs.Common.{◌≡◌, ℕ, suc, zero, ◌<◌, ◌∙◌, ◌||◌, Bool, List, [], ◌∷◌, fold, length, map, get_or, if◌then◌else◌, refl, sym, ap, arith, inl, inr}
+use Rattle.std.proofs.Common.{◌≡◌, ℕ, suc, zero, ◌∙◌, List, [], ◌∷◌, fold, length, map, get_or, if◌then◌else◌, refl, sym, ap, arith, inl, inr}
 use Rattle.std.proofs.lemmas.Bool.{cases_lt}
 use Rattle.std.proofs.lemmas.List.{get_or_past}
 use Rattle.std.proofs.lemmas.List.FromFn.{get_or-map-range_with_len, length-map-range_with_len}
-use Rattle.std.specs.List.{range_with_len, filter_map, list_any}
+use Rattle.std.specs.List.{range_with_len, filter_map}
 use Rattle.lx_types.specs.declared.parts.Parts.{Parts}
 use Rattle.lx_model.specs.Library.{no_module, library_named}
 use Rattle.lx_model.specs.Reach.{Visits, is_among, imports_of, visit, Order}
@@ -35,19 +35,3 @@ order_in-is lib graph is m =
     ap (λ g. (visit_in (suc (length g)) graph (record { visited = []; order = [] }) m).order) is
     ∙ ap (λ n. (visit_in (suc n) graph (record { visited = []; order = [] }) m).order) (length-map-range_with_len (imports_of lib) 0 (length lib))
     ∙ ap (λ (v : Visits). v.order) (visits_same lib graph (imports_listed lib graph is) (suc (length lib)) (record { visited = []; order = [] }) m)
-
--- ---- orders that are listed
-
-any_same : {A : Type 0} (f g : A → Bool) (xs : List A) → ((k : ℕ) (d : A) → k < length xs → f (get_or xs k d) ≡ g (get_or xs k d)) → list_any f xs ≡ list_any g xs
-any_same f g [] same = refl
-any_same f g (x ∷ xs) same =
-    ap (λ b. b || list_any f xs) (same 0 x (omega arith))
-    ∙ ap (λ b. g x || b) (any_same f g xs (λ k d below. same (suc k) d (omega (arith, below))))
-
-pub cycles_same : (lib : List Parts) (orders : List (List ℕ)) → orders ≡ map (Order lib) (range_with_len 0 (length lib)) → (imports : List ℕ) →
-    ((k : ℕ) (d : ℕ) → k < length imports → get_or imports k d < length lib) → (m : ℕ) →
-    list_any (λ import. is_among (get_or orders import []) m) imports ≡ list_any (λ import. is_among (Order lib import) m) imports
-cycles_same lib orders is imports within m =
-    any_same (λ import. is_among (get_or orders import []) m) (λ import. is_among (Order lib import) m) imports
-    (λ k d below. ap (λ xs. is_among xs m) (ap (λ os. get_or os (get_or imports k d) []) is
-    ∙ get_or-map-range_with_len (Order lib) 0 (length lib) (get_or imports k d) (get_or imports k d) [] (within k d below) (omega arith)))

@@ -12,6 +12,7 @@ use crate::imports::library_with_name;
 use crate::names::{NameIndex, index_at};
 use lx_model::{EntryFault, Spot};
 use lx_types::{EntryHead, FixTarget, FwdKey, Module, NoMemory};
+use std::marker::Model;
 
 /// What a place stands for: a module's number, and an ordinal of it.
 fn head_at(mods: &[Module], place: (u32, u32)) -> Option<EntryHead>
@@ -30,7 +31,7 @@ fn proc_name(mods: &[Module], m: u32, at: u32) -> Option<&[u8]>
 }
 
 /// The place of a name in module `m`.
-pub fn name_place(mods: &[Module], names: &[NameIndex], m: u32, name: &[u8]) -> Option<(u32, u32)>
+fn name_place(mods: &[Module], names: &[NameIndex], m: u32, name: &[u8]) -> Option<(u32, u32)>
     requires module { m < length mods.now }
     requires names { AreIndexed mods.now names.now }
     ensures place { result ≡ place_named mods.now m name.now }
@@ -102,7 +103,7 @@ fn import_place(
 }
 
 /// The spot to which at most so many places lead, the first of them given: each forwarder leads to the next.
-pub fn spot_behind(
+fn spot_behind(
     mods: &[Module],
     names: &[NameIndex],
     places: usize,
@@ -137,7 +138,7 @@ pub fn spot_behind(
 }
 
 /// The spot of a place that a key means, where it means one.
-pub fn spot_or_none(
+fn spot_or_none(
     mods: &[Module],
     names: &[NameIndex],
     places: usize,
@@ -156,7 +157,7 @@ pub fn spot_or_none(
 }
 
 /// The spot of a target of module `m`'s fixups.
-pub fn target_spot(
+fn target_spot(
     mods: &[Module],
     names: &[NameIndex],
     places: usize,
@@ -188,6 +189,83 @@ pub fn target_spot(
             import_place(mods, names, m, import, FwdKey::NameAt(name_at)),
         ),
         FixTarget::Own { ordinal } => spot_or_none(mods, names, places, Some((m, ordinal))),
+    }
+}
+
+/// Modules, with what finds their entry points: an index of each module's names, and how many places forwarders
+/// can come to.
+#[derive(Drop)]
+pub struct EntryPoints<'a> {
+    mods: &'a [Module],
+    names: &'a [NameIndex],
+    places: usize,
+}
+
+impl<'a> Model for EntryPoints<'a> {
+    ghost use Rattle.std.specs.Prelude.{List};
+    ghost use Rattle.lx_types.specs.declared.parts.Parts.{Parts};
+    ghost use Rattle.mod_graph.specs.Names.{AreFound};
+
+    ghost Value = { List Parts };
+
+    ghost view = { λ e. e.mods.now };
+
+    ghost invariant = { λ e. AreFound e.mods.now e.names.now e.places };
+}
+
+impl<'a> EntryPoints<'a> {
+    ghost use Rattle.mod_graph.specs.Names.{AreFound};
+    ghost use Rattle.lx_model.specs.Entries.{Entry, EntryNamed};
+
+    pub fn of(mods: &'a [Module], names: &'a [NameIndex], places: usize) -> EntryPoints<'a>
+        requires { AreFound mods.now names.now places }
+        ensures { result ≡ mods.now }
+    {
+        EntryPoints {
+            mods,
+            names,
+            places,
+        }
+    }
+
+    /// The modules, at most 64.
+    pub fn modules(&self) -> &'a [Module]
+        ensures modules { result.now ≡ self.now }
+        ensures few { length self.now ≤ 64 }
+    {
+        self.mods
+    }
+
+    /// How many modules there are.
+    pub fn count(&self) -> u32
+        ensures { result ≡ length self.now }
+    {
+        self.mods.len() as u32
+    }
+
+    /// The spot of an ordinal of module `m`.
+    pub fn by_ordinal(&self, m: u32, ordinal: u32) -> Result<Spot, EntryFault>
+        requires { m < length self.now }
+        ensures { result ≡ Entry self.now (m, ordinal) }
+    {
+        spot_or_none(self.mods, self.names, self.places, Some((m, ordinal)))
+    }
+
+    /// The spot of a name of module `m`.
+    pub fn by_name(&self, m: u32, name: &[u8]) -> Result<Spot, EntryFault>
+        requires { m < length self.now }
+        ensures { result ≡ EntryNamed self.now m name.now }
+    {
+        let place = name_place(self.mods, self.names, m, name);
+        spot_or_none(self.mods, self.names, self.places, place)
+    }
+
+    /// The spot of a target of module `m`'s fixups.
+    pub fn of_target(&self, m: u32, target: &FixTarget) -> Result<Spot, EntryFault>
+        requires { m < length self.now }
+        ensures { result ≡ spots.target_spot self.now m target.now }
+    {
+        target_spot(self.mods, self.names, self.places, m, target)
     }
 }
 

@@ -7,7 +7,7 @@ ghost use Rattle.lx_model.specs.Gathering.{LibraryFault, IsLibrary};
 ghost use Rattle.mod_graph.specs.Gathering.{name_fault, Knows};
 
 use crate::LibraryRefusal;
-use crate::entries::place_count;
+use crate::entries::{EntryPoints, place_count};
 use crate::health::healths_of;
 use crate::imports::{graph_of, module_with_name};
 use crate::names::{NameIndex, indexes_of};
@@ -85,7 +85,7 @@ pub fn tables_of(alloc: Global, mods: &[Module]) -> Result<Tables, NoMemory>
     let orders = orders_of(alloc, mods, &graph)?;
     let places = place_count(mods)?;
     let names = indexes_of(alloc, mods)?;
-    let healths = healths_of(alloc, mods, &names, places, &graph, &orders)?;
+    let healths = healths_of(alloc, &EntryPoints::of(mods, &names, places), &orders)?;
     Ok(Tables {
         names,
         orders,

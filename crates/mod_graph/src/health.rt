@@ -1,49 +1,37 @@
 //! Whether a module can be loaded.
 
 ghost use Rattle.std.specs.Prelude.{◌≡◌, ◌≤◌, ◌<◌, ◌+◌, ◌^◌, IfOk, IfSome, Some, None, [], length, map, All, is_none, position, slice_index_or, if◌then◌else◌};
-ghost use Rattle.std.specs.List.{range_with_len, list_any};
-ghost use Rattle.lx_model.specs.Entries as spots;
-ghost use Rattle.lx_model.specs.Entries.{entry_count};
+ghost use Rattle.std.specs.List.{range_with_len};
 ghost use Rattle.lx_model.specs.Library.{module_of, library_named};
-ghost use Rattle.lx_model.specs.Reach.{is_among, ends_in, imports_of, Order, HealthOf};
+ghost use Rattle.lx_model.specs.Reach.{Order, HealthOf};
 ghost use Rattle.lx_model.specs.Reach as faults;
-ghost use Rattle.mod_graph.specs.Names.{AreIndexed};
-ghost use Rattle.mod_graph.specs.Visiting.{AreWithin};
 ghost use Rattle.lx_model.specs.Reading.{◌then◌};
+ghost use Rattle.mod_graph.specs.Visiting.{AreWithin};
 ghost use Rattle.mod_graph.specs.Faults as firsts;
 ghost use Rattle.mod_graph.specs.Faults.{faults_of, listed};
 
-use crate::entries::target_spot;
+use crate::entries::EntryPoints;
 use crate::imports::library_with_name;
-use crate::names::NameIndex;
-use crate::order::is_in;
 use lx_model::{EntryFault, Health, Spot};
 use lx_types::{FixTarget, Module, Name, NoMemory, Numbers};
 use std::alloc::Global;
 
-/// The faults that a module has by itself, each kind where it has it.
+/// What keeps a module out by itself: each kind of `Health`, where the module has it.
 #[derive(Clone, Copy)]
 pub struct Faults {
-    pub lost: Option<Health>,
-    pub cycle: Option<Health>,
+    pub no_module: Option<Health>,
     pub no_entry: Option<Health>,
     pub forward_loop: Option<Health>,
-    pub gate: Option<Health>,
+    pub gate286: Option<Health>,
 }
 
-/// A kind of fault.
+/// A kind of `Health` that keeps a module out.
 #[derive(Clone, Copy)]
 pub enum Kind {
-    /// A name of the import modules means no library.
-    Lost,
-    /// The module reaches itself.
-    Cycle,
-    /// A target names no entry.
-    NoEntries,
-    /// Forwarders lead from a target back to where they came from.
-    Loops,
-    /// A target is a gate of the 80286.
-    Gates,
+    NoModule,
+    NoEntry,
+    ForwardLoop,
+    Gate286,
 }
 
 impl Faults {
@@ -54,59 +42,68 @@ impl Faults {
         ensures { result ≡ of_kind kind self.now }
     {
         match kind {
-            Kind::Lost => self.lost,
-            Kind::Cycle => self.cycle,
-            Kind::NoEntries => self.no_entry,
-            Kind::Loops => self.forward_loop,
-            Kind::Gates => self.gate,
+            Kind::NoModule => self.no_module,
+            Kind::NoEntry => self.no_entry,
+            Kind::ForwardLoop => self.forward_loop,
+            Kind::Gate286 => self.gate286,
         }
     }
 }
 
-/// Whether a look-up of an entry point ended in this fault.
-fn is_fault(found: Result<Spot, EntryFault>, fault: EntryFault) -> bool
-    ensures { result ≡ ends_in fault found }
-{
-    match found {
-        Ok(_) => false,
-        Err(other) => other == fault,
+/// In which faults some look-ups of entry points ended.
+#[derive(Clone, Copy)]
+pub struct Met {
+    pub no_entry: bool,
+    pub forward_loop: bool,
+    pub gate286: bool,
+}
+
+impl Met {
+    ghost use Rattle.mod_graph.specs.Faults.{nothing_met, met_with};
+
+    /// No look-up.
+    fn nothing() -> Met
+        ensures { result ≡ nothing_met }
+    {
+        Met {
+            no_entry: false,
+            forward_loop: false,
+            gate286: false,
+        }
+    }
+
+    /// One look-up more.
+    fn with(self, found: Result<Spot, EntryFault>) -> Met
+        ensures { result ≡ met_with found self }
+    {
+        match found {
+            Ok(_) => self,
+            Err(EntryFault::NoEntry) => Met {
+                no_entry: true,
+                ..self
+            },
+            Err(EntryFault::ForwardLoop) => Met {
+                forward_loop: true,
+                ..self
+            },
+            Err(EntryFault::Gate286) => Met {
+                gate286: true,
+                ..self
+            },
+        }
     }
 }
 
-/// Whether a target of module `m`'s fixups has this fault.
-fn has_target_fault(
-    mods: &[Module],
-    names: &[NameIndex],
-    places: usize,
-    m: u32,
-    target: &FixTarget,
-    fault: EntryFault,
-) -> bool
-    requires few { length mods.now ≤ 64 }
-    requires module { m < length mods.now }
-    requires places { places ≡ entry_count mods.now + 1 }
-    requires names { AreIndexed mods.now names.now }
-    ensures { result ≡ ends_in fault (spots.target_spot mods.now m target.now) }
+/// In which faults the look-ups of these targets of module `m`'s fixups end.
+fn met_by(points: &EntryPoints, m: u32, targets: &[FixTarget]) -> Met
+    requires { m < length points.now }
+    ensures { result ≡ firsts.met_by points.now m targets.now }
 {
-    is_fault(target_spot(mods, names, places, m, target), fault)
-}
-
-/// Whether one of these targets has this fault.
-fn has_fault(
-    mods: &[Module],
-    names: &[NameIndex],
-    places: usize,
-    m: u32,
-    targets: &[FixTarget],
-    fault: EntryFault,
-) -> bool
-    requires few { length mods.now ≤ 64 }
-    requires module { m < length mods.now }
-    requires places { places ≡ entry_count mods.now + 1 }
-    requires names { AreIndexed mods.now names.now }
-    ensures { result ≡ list_any (λ t. ends_in fault (spots.target_spot mods.now m t)) targets.now }
-{
-    targets.iter().any(|target| has_target_fault(mods, names, places, m, target, fault))
+    let mut met = Met::nothing();
+    for target in targets {
+        met = met.with(points.of_target(m, target));
+    }
+    met
 }
 
 /// The targets of module `m` outside its own objects.
@@ -181,29 +178,6 @@ pub fn list_at(lists: &[Numbers], m: u32) -> &[u32]
     lists[m as usize].as_slice()
 }
 
-/// Whether the order of one of these modules has `m`.
-fn is_cycle(orders: &[Numbers], imports: &[u32], m: u32) -> bool
-    requires { All (λ import. import < length orders.now) imports.now }
-    ensures { result ≡ list_any (λ import. is_among (slice_index_or orders.now import []) m) imports.now }
-{
-    imports
-        .iter()
-        .any(|import| is_in(list_at(orders, *import), m))
-}
-
-/// Whether module `m` is one that one of its imports reaches.
-fn reaches_itself(mods: &[Module], graph: &[Numbers], orders: &[Numbers], m: u32) -> bool
-    requires module { m < length mods.now }
-    requires graph { graph.now ≡ map (imports_of mods.now) (range_with_len 0 (length mods.now)) }
-    requires graph_length { length graph.now ≡ length mods.now }
-    requires within { AreWithin (length mods.now) graph.now }
-    requires orders { orders.now ≡ map (Order mods.now) (range_with_len 0 (length mods.now)) }
-    requires orders_length { length orders.now ≡ length mods.now }
-    ensures { result ≡ list_any (λ import. is_among (Order mods.now import) m) (imports_of mods.now m) }
-{
-    is_cycle(orders, list_at(graph, m), m)
-}
-
 /// What module `m` has where a test holds of it.
 fn where_so(holds: bool, fault: Health) -> Option<Health>
     ensures { result ≡ (if holds then Some fault else None) }
@@ -211,71 +185,29 @@ fn where_so(holds: bool, fault: Health) -> Option<Health>
     if holds { Some(fault) } else { None }
 }
 
-/// The faults of module `m`.
-fn faults_of_module(
-    mods: &[Module],
-    names: &[NameIndex],
-    places: usize,
-    graph: &[Numbers],
-    orders: &[Numbers],
-    m: u32,
-) -> Result<Faults, NoMemory>
-    requires few { length mods.now ≤ 64 }
-    requires module { m < length mods.now }
-    requires places { places ≡ entry_count mods.now + 1 }
-    requires graph { graph.now ≡ map (imports_of mods.now) (range_with_len 0 (length mods.now)) }
-    requires graph_length { length graph.now ≡ length mods.now }
-    requires within { AreWithin (length mods.now) graph.now }
-    requires orders { orders.now ≡ map (Order mods.now) (range_with_len 0 (length mods.now)) }
-    requires orders_length { length orders.now ≡ length mods.now }
-    requires names { AreIndexed mods.now names.now }
-    ensures { IfOk result (λ found. found ≡ faults_of mods.now m) }
+/// The faults of module `m`. It looks up each of its targets once.
+fn faults_of_module(points: &EntryPoints, m: u32) -> Result<Faults, NoMemory>
+    requires { m < length points.now }
+    ensures { IfOk result (λ found. found ≡ faults_of points.now m) }
 {
-    let refs = refs_of(mods, m);
+    let mods = points.modules();
+    let met = met_by(points, m, refs_of(mods, m));
     Ok(Faults {
-        lost: lost_import(mods, m)?,
-        cycle: where_so(
-            reaches_itself(mods, graph, orders, m),
-            Health::Cycle { by: m },
-        ),
-        no_entry: where_so(
-            has_fault(mods, names, places, m, refs, EntryFault::NoEntry),
-            Health::NoEntry { by: m },
-        ),
-        forward_loop: where_so(
-            has_fault(mods, names, places, m, refs, EntryFault::ForwardLoop),
-            Health::ForwardLoop { by: m },
-        ),
-        gate: where_so(
-            has_fault(mods, names, places, m, refs, EntryFault::Gate286),
-            Health::Gate286 { by: m },
-        ),
+        no_module: lost_import(mods, m)?,
+        no_entry: where_so(met.no_entry, Health::NoEntry { by: m }),
+        forward_loop: where_so(met.forward_loop, Health::ForwardLoop { by: m }),
+        gate286: where_so(met.gate286, Health::Gate286 { by: m }),
     })
 }
 
 /// The faults of each module.
-fn faults_of_all(
-    alloc: Global,
-    mods: &[Module],
-    names: &[NameIndex],
-    places: usize,
-    graph: &[Numbers],
-    orders: &[Numbers],
-) -> Result<Vec<Faults>, NoMemory>
-    requires few { length mods.now ≤ 64 }
-    requires places { places ≡ entry_count mods.now + 1 }
-    requires graph { graph.now ≡ map (imports_of mods.now) (range_with_len 0 (length mods.now)) }
-    requires graph_length { length graph.now ≡ length mods.now }
-    requires within { AreWithin (length mods.now) graph.now }
-    requires orders { orders.now ≡ map (Order mods.now) (range_with_len 0 (length mods.now)) }
-    requires orders_length { length orders.now ≡ length mods.now }
-    requires names { AreIndexed mods.now names.now }
-    ensures faults { IfOk result (λ found. found.items ≡ map (faults_of mods.now) (range_with_len 0 (length mods.now))) }
-    ensures length { IfOk result (λ found. length found.items ≡ length mods.now) }
+fn faults_of_all(alloc: Global, points: &EntryPoints) -> Result<Vec<Faults>, NoMemory>
+    ensures faults { IfOk result (λ found. found.items ≡ map (faults_of points.now) (range_with_len 0 (length points.now))) }
+    ensures length { IfOk result (λ found. length found.items ≡ length points.now) }
 {
     let mut faults = Vec::new(alloc);
-    for m in 0..mods.len() {
-        faults.push(faults_of_module(mods, names, places, graph, orders, m as u32)?)?;
+    for m in 0..points.count() {
+        faults.push(faults_of_module(points, m)?)?;
     }
     Ok(faults)
 }
@@ -308,40 +240,30 @@ fn health_among(faults: &[Faults], order: &[u32]) -> Health
     requires { All (λ m. m < length faults.now) order.now }
     ensures { result ≡ firsts.health_among faults.now order.now }
 {
-    let gates = first_of_kind(faults, order, Kind::Gates);
-    let loops = or_other(first_of_kind(faults, order, Kind::Loops), gates);
-    let entries = or_other(first_of_kind(faults, order, Kind::NoEntries), loops);
-    let cycles = or_other(first_of_kind(faults, order, Kind::Cycle), entries);
-    match or_other(first_of_kind(faults, order, Kind::Lost), cycles) {
+    let gates = first_of_kind(faults, order, Kind::Gate286);
+    let loops = or_other(first_of_kind(faults, order, Kind::ForwardLoop), gates);
+    let entries = or_other(first_of_kind(faults, order, Kind::NoEntry), loops);
+    match or_other(first_of_kind(faults, order, Kind::NoModule), entries) {
         Some(fault) => fault,
         None => Health::Fit,
     }
 }
 
-/// The health of each module, from the faults of each and the orders.
+/// The health of each module, from the orders.
 pub fn healths_of(
     alloc: Global,
-    mods: &[Module],
-    names: &[NameIndex],
-    places: usize,
-    graph: &[Numbers],
+    points: &EntryPoints,
     orders: &[Numbers],
 ) -> Result<Vec<Health>, NoMemory>
-    requires few { length mods.now ≤ 64 }
-    requires places { places ≡ entry_count mods.now + 1 }
-    requires graph { graph.now ≡ map (imports_of mods.now) (range_with_len 0 (length mods.now)) }
-    requires graph_length { length graph.now ≡ length mods.now }
-    requires within { AreWithin (length mods.now) graph.now }
-    requires orders { orders.now ≡ map (Order mods.now) (range_with_len 0 (length mods.now)) }
-    requires orders_length { length orders.now ≡ length mods.now }
-    requires orders_within { AreWithin (length mods.now) orders.now }
-    requires names { AreIndexed mods.now names.now }
-    ensures { IfOk result (λ healths. healths.items ≡ map (HealthOf mods.now) (range_with_len 0 (length mods.now))) }
+    requires orders { orders.now ≡ map (Order points.now) (range_with_len 0 (length points.now)) }
+    requires orders_length { length orders.now ≡ length points.now }
+    requires orders_within { AreWithin (length points.now) orders.now }
+    ensures { IfOk result (λ healths. healths.items ≡ map (HealthOf points.now) (range_with_len 0 (length points.now))) }
 {
-    let faults = faults_of_all(alloc, mods, names, places, graph, orders)?;
+    let faults = faults_of_all(alloc, points)?;
     let mut healths = Vec::new(alloc);
-    for m in 0..mods.len() {
-        healths.push(health_among(&faults, list_at(orders, m as u32)))?;
+    for m in 0..points.count() {
+        healths.push(health_among(&faults, list_at(orders, m)))?;
     }
     Ok(healths)
 }

@@ -2,16 +2,16 @@
 
 ghost use Rattle.std.specs.Prelude.{◌≡◌, ◌≤◌, ◌<◌, ◌^◌, ◌↔◌, IfOk, IfErr, IfSome, IsTrue, All, length};
 ghost use Rattle.lx_model.specs.Library.{module_of, module_named};
-ghost use Rattle.lx_model.specs.Entries.{Entry, EntryNamed};
+ghost use Rattle.lx_model.specs.Entries.{Entry, EntryNamed, target_spot};
 ghost use Rattle.lx_model.specs.Reach.{Order, HealthOf};
 
-use crate::entries::{name_place, spot_or_none};
+use crate::entries::EntryPoints;
 use crate::gathering::{refusal, tables_of};
 use crate::health::{health_at, list_at};
 use crate::imports::module_with_name;
 use crate::names::NameIndex;
 use lx_model::{EntryFault, Health, LibraryRefusal, Spot};
-use lx_types::{Fail, Module, Name, NoMemory, Numbers};
+use lx_types::{Fail, FixTarget, Module, Name, NoMemory, Numbers};
 use std::alloc::Global;
 use std::marker::Model;
 
@@ -122,7 +122,8 @@ impl Library {
         health_at(&self.healths, m)
     }
 
-    /// What module `m` reaches through imports, each module after what it imports, itself last.
+    /// What module `m` reaches through imports, each module after what it imports, itself last. Of modules that
+    /// import each other the one that is reached first comes last.
     /// (Control Program reference: DosLoadModule.)
     pub fn order(&self, m: u32) -> &[u32]
         requires { m < length self.now }
@@ -138,7 +139,7 @@ impl Library {
         requires { m < length self.now }
         ensures { result ≡ Entry self.now (m, ordinal) }
     {
-        spot_or_none(&self.mods, &self.names, self.places, Some((m, ordinal)))
+        self.points().by_ordinal(m, ordinal)
     }
 
     /// Where a name of module `m` leads, through forwarders. (LX: "Resident or Non-resident Name Table Entry".)
@@ -146,7 +147,29 @@ impl Library {
         requires { m < length self.now }
         ensures { result ≡ EntryNamed self.now m name.now }
     {
-        let place = name_place(&self.mods, &self.names, m, name);
-        spot_or_none(&self.mods, &self.names, self.places, place)
+        self.points().by_name(m, name)
     }
+
+    /// Where a target of module `m`'s fixups is, through forwarders. (LX: "Fixup Record Table".)
+    pub fn target(&self, m: u32, target: &FixTarget) -> Result<Spot, EntryFault>
+        requires { m < length self.now }
+        ensures { result ≡ target_spot self.now m target.now }
+    {
+        self.points().of_target(m, target)
+    }
+
+    /// The modules, with what finds their entry points.
+    fn points(&self) -> EntryPoints<'_>
+        ensures { result ≡ self.now }
+    {
+        EntryPoints::of(&self.mods, &self.names, self.places)
+    }
+}
+
+// Asks that threads may share and move a type.
+fn may_be_shared<T: Send + Sync>() {}
+
+// Threads share one library, and move it.
+fn crosses_threads() {
+    may_be_shared::<Library>();
 }

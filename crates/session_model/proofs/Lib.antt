@@ -1,1 +1,6 @@
 pub mod Firsts
+pub mod MergeStates
+pub mod HeldMerges
+pub mod Readings
+pub mod Bounded
+pub mod UsedPages

@@ -4,6 +4,11 @@ pub mod Transcript
 pub mod Lines
 pub mod Statements
 pub mod Sessions
+pub mod FailingPairs
+pub mod Bounds
 pub mod Laws
 pub mod WorkedSessions
 pub mod WorkedRuns
+pub mod MergeLaws
+pub mod WorkedDeeds
+pub mod WorkedWrong

@@ -13,10 +13,10 @@ use Rattle.load_model.specs.declared.deeds.Deed.{Deed}
 use Rattle.load_model.specs.declared.deeds.Deed.TheVariants as deeds
 use Rattle.load_model.specs.declared.deeds.Entry.{Entry}
 use Rattle.load_model.specs.Modules.{Library, Held, number_of, object_at}
-use Rattle.load_model.specs.State.{Residence, Eager, nothing_yet, is_among}
+use Rattle.load_model.specs.State.{Failing, Residence, Eager, nothing_yet, is_among}
 use Rattle.load_model.specs.Memory.{page, pages_over, is_touched, first_untouched}
 use Rattle.load_model.specs.Refusals.{residence_named}
-use Rattle.load_model.specs.Asks.{Ask, enter, free, exit, put, get, ask_in, deed_of, may_ask, after_deed, is_own}
+use Rattle.load_model.specs.Asks.{Ask, enter, free, exit, put, patch, get, ask_in, deed_of, may_ask, after_deed, is_own}
 use Rattle.load_model.specs.Step.{steady, answer_of, after_steady, serial_named}
 use Rattle.load_model.specs.Histories.{is_fault_of}
 use Rattle.session_model.specs.declared.sessions.Line.{Line}
@@ -47,8 +47,8 @@ abbrev pub after_item : Library → Eager → Item → Eager
 after_item lib e (entry x) = after_deed lib e x.pid x.deed
 after_item lib e (line pid l) = after_steady lib e pid l.command l.reply
 
-unfoldable pub state_behind : Library → List Item → Eager
-state_behind lib items = fold (after_item lib) nothing_yet items
+unfoldable pub state_behind : Library → Failing → List Item → Eager
+state_behind lib failing items = fold (after_item lib) (nothing_yet failing) items
 
 -- P holds of each item, with what stands before it and what stands behind
 abbrev pub AllPlaces : (List Item → Item → List Item → Type 0) → List Item → List Item → Type 0
@@ -78,10 +78,13 @@ AsksFor lib (commands.Shared p) ask =
     (m : ℕ) × (serial : ℕ) × (number_of lib p.«module» ≡ Some m) × (ask ≡ get serial m p.object p.offset p.len)
 AsksFor lib (commands.Write p bytes) ask =
     (m : ℕ) × (serial : ℕ) × (number_of lib p.«module» ≡ Some m) × (ask ≡ put serial m p.object p.offset bytes)
+AsksFor lib (commands.Debug p bytes) ask =
+    (m : ℕ) × (serial : ℕ) × (number_of lib p.«module» ≡ Some m) × (ask ≡ patch serial m p.object p.offset bytes)
 AsksFor lib commands.Exit ask = ask ≡ exit
 AsksFor lib (commands.Touch p) ask = ⊥
 AsksFor lib (commands.Peek p) ask = ⊥
 AsksFor lib (commands.Query name key) ask = ⊥
+AsksFor lib (commands.GetRes name ty id) ask = ⊥
 
 abbrev pub IsFor : Library → Item → Command → Type 0
 IsFor lib (entry x) command = AsksFor lib command (ask_in x.deed)
@@ -97,9 +100,11 @@ abbrev pub is_fault : Deed → Bool
 is_fault (deeds.Fault serial m p) = true
 is_fault (deeds.Enter how m fresh calls) = false
 is_fault (deeds.Full how m of object size) = false
+is_fault (deeds.Failed how m by fresh calls gone) = false
 is_fault (deeds.Free m calls gone) = false
 is_fault (deeds.Exit calls gone) = false
 is_fault (deeds.Write serial m object offset bytes) = false
+is_fault (deeds.Debug serial m object offset bytes) = false
 is_fault (deeds.Shared serial m object offset bytes) = false
 
 -- an item of a process, and no fault
@@ -133,9 +138,9 @@ abbrev pub fault_leads : Library → Eager → ℕ → Deed → List Item → Bo
 fault_leads lib e pid (deeds.Fault serial m p) behind = some_touches lib e serial p (find (is_command_of pid) behind)
 fault_leads lib e pid deed behind = true
 
-abbrev pub FaultLeads : Library → List Item → Item → List Item → Type 0
-FaultLeads lib before (entry x) behind = IsTrue (fault_leads lib (state_behind lib before) x.pid x.deed behind)
-FaultLeads lib before (line pid l) behind = Unit {0}
+abbrev pub FaultLeads : Library → Failing → List Item → Item → List Item → Type 0
+FaultLeads lib failing before (entry x) behind = IsTrue (fault_leads lib (state_behind lib failing before) x.pid x.deed behind)
+FaultLeads lib failing before (line pid l) behind = Unit {0}
 
 -- ---- touches: each code and shared page that is covered had its fault before
 
@@ -150,43 +155,49 @@ abbrev pub had_faults : Library → List Item → Place → Option Residence →
 had_faults lib before at None = false
 had_faults lib before at (Some r) = list_all (λ n. had_fault lib before r.serial r.«module» (page at.object n)) (pages_over at.offset at.len)
 
-abbrev pub touch_follows : Library → List Item → ℕ → Command → Reply → Bool
-touch_follows lib before pid (commands.Touch at) replies.Fine =
-    had_faults lib before at (residence_named lib (state_behind lib before) pid at.«module»)
-touch_follows lib before pid command reply = true
+abbrev pub touch_follows : Library → Failing → List Item → ℕ → Command → Reply → Bool
+touch_follows lib failing before pid (commands.Touch at) replies.Fine =
+    had_faults lib before at (residence_named lib (state_behind lib failing before) pid at.«module»)
+touch_follows lib failing before pid command reply = true
 
-abbrev pub TouchFollows : Library → List Item → Item → List Item → Type 0
-TouchFollows lib before (line pid l) behind = IsTrue (touch_follows lib before pid l.command l.reply)
-TouchFollows lib before (entry x) behind = Unit {0}
+abbrev pub TouchFollows : Library → Failing → List Item → Item → List Item → Type 0
+TouchFollows lib failing before (line pid l) behind = IsTrue (touch_follows lib failing before pid l.command l.reply)
+TouchFollows lib failing before (entry x) behind = Unit {0}
 
 -- ---- replies: each is the loader's at its place, and entries use touched pages alone
 
 abbrev pub uses_touched : Eager → ℕ → Deed → Bool
 uses_touched e pid (deeds.Write serial m object offset bytes) = is_none (first_untouched (e.processes pid) serial object offset (length bytes))
+uses_touched e pid (deeds.Debug serial m object offset bytes) = is_none (first_untouched (e.processes pid) serial object offset (length bytes))
 uses_touched e pid (deeds.Shared serial m object offset bytes) = is_none (first_untouched (e.processes pid) serial object offset (length bytes))
-uses_touched e pid deed = true
+uses_touched e pid (deeds.Enter how m fresh calls) = true
+uses_touched e pid (deeds.Full how m of object size) = true
+uses_touched e pid (deeds.Failed how m by fresh calls gone) = true
+uses_touched e pid (deeds.Free m calls gone) = true
+uses_touched e pid (deeds.Exit calls gone) = true
+uses_touched e pid (deeds.Fault serial m p) = true
 
 pub record EntryReplies (lib : Library) (contents : Held) (e : Eager) (x : Entry) : Type 0 where
   pub may : IsTrue (may_ask lib e x.pid (ask_in x.deed))
   pub done : x.deed ≡ deed_of lib contents e x.pid (ask_in x.deed)
   pub touched : IsTrue (uses_touched e x.pid x.deed)
 
-abbrev pub Replies : Library → Held → List Item → Item → List Item → Type 0
-Replies lib contents before (entry x) behind = EntryReplies lib contents (state_behind lib before) x
-Replies lib contents before (line pid l) behind = answer_of lib contents (state_behind lib before) pid l.command ≡ steady l.reply
+abbrev pub Replies : Library → Failing → Held → List Item → Item → List Item → Type 0
+Replies lib failing contents before (entry x) behind = EntryReplies lib contents (state_behind lib failing before) x
+Replies lib failing contents before (line pid l) behind = answer_of lib contents (state_behind lib failing before) pid l.command ≡ steady l.reply
 
 -- ---- all of it
 
 abbrev pub numbers_of : List ScriptLines → List ℕ
 numbers_of s = map (λ lines. lines.pid) s
 
--- A history, the steady lines of each process, and the scripts.
-pub record Merge (lib : Library) (contents : Held) (h : List Entry) (s : List ScriptLines) (scripts : List Script) : Type 0 where
+-- A history in which some initialisations fail, the steady lines of each process, and the scripts.
+pub record Merge (lib : Library) (failing : Failing) (contents : Held) (h : List Entry) (s : List ScriptLines) (scripts : List Script) : Type 0 where
   -- there are lines for each script, and entries of no other process
   pub processes : numbers_of s ≡ map (λ script. script.pid) scripts
   pub entries : AllByRecursion (λ x. (1 ≤ x.pid) × (x.pid ≤ length scripts)) h
   pub fronts : FrontsRise h s
   pub commands : AllCommands lib (merge_of h s) scripts
-  pub faults : AllItems (FaultLeads lib) (merge_of h s)
-  pub touches : AllItems (TouchFollows lib) (merge_of h s)
-  pub replies : AllItems (Replies lib contents) (merge_of h s)
+  pub faults : AllItems (FaultLeads lib failing) (merge_of h s)
+  pub touches : AllItems (TouchFollows lib failing) (merge_of h s)
+  pub replies : AllItems (Replies lib failing contents) (merge_of h s)

@@ -1,6 +1,7 @@
 -- Sessions: which bytes are one, what it says, and otherwise the first line that is wrong.
 use Rattle.std.specs.Prelude.{◌≡◌, ℕ, ◌+◌, ◌&&◌, Bool, List, [], ◌∷◌, ◌++◌, length, filter_map, fold, Option, Some, None, nat_lt, nat_le, if◌then◌else◌}
 use Rattle.load_model.specs.declared.commands.Command.{Command}
+use Rattle.session_model.specs.declared.sessions.FailingLine.{FailingLine}
 use Rattle.session_model.specs.declared.sessions.ModLine.{ModLine}
 use Rattle.session_model.specs.declared.sessions.Script.{Script}
 use Rattle.session_model.specs.declared.sessions.Session.{Session}
@@ -8,14 +9,21 @@ use Rattle.session_model.specs.declared.sessions.SessionKind.{SessionKind}
 use Rattle.session_model.specs.declared.sessions.SessionKind.TheVariants as kinds
 use Rattle.session_model.specs.declared.sessions.SessionRefusal.{SessionRefusal}
 use Rattle.session_model.specs.Lines.{lines_in}
-use Rattle.session_model.specs.Statements.{Statement, gives, process, command, Reading, nothing, says, wrong, reading_of}
+use Rattle.session_model.specs.Statements.{Statement, gives, fails, process, command, MOST_PROCESSES, Reading, nothing, says, wrong, reading_of}
 
 -- ---- what statements say together
 
 abbrev pub module_of : Statement → Option ModLine
 module_of (gives m) = Some m
+module_of (fails f) = None
 module_of (process n) = None
 module_of (command c) = None
+
+abbrev pub failing_in : Statement → Option FailingLine
+failing_in (fails f) = Some f
+failing_in (gives m) = None
+failing_in (process n) = None
+failing_in (command c) = None
 
 -- the commands up to the next script
 abbrev pub commands_of : List Statement → List Command
@@ -23,6 +31,7 @@ commands_of [] = []
 commands_of (command c ∷ others) = c ∷ commands_of others
 commands_of (process n ∷ others) = []
 commands_of (gives m ∷ others) = []
+commands_of (fails f ∷ others) = []
 
 -- each script has the commands below its number
 abbrev pub scripts_of : List Statement → List Script
@@ -30,9 +39,10 @@ scripts_of [] = []
 scripts_of (process n ∷ others) = record { pid = n; commands = commands_of others } ∷ scripts_of others
 scripts_of (command c ∷ others) = scripts_of others
 scripts_of (gives m ∷ others) = scripts_of others
+scripts_of (fails f ∷ others) = scripts_of others
 
 unfoldable pub session_of : List Statement → Session
-session_of statements = record { modules = filter_map module_of statements; scripts = scripts_of statements }
+session_of statements = record { modules = filter_map module_of statements; failing = filter_map failing_in statements; scripts = scripts_of statements }
 
 -- ---- a line among others
 
@@ -48,11 +58,13 @@ statements_of lines = filter_map (λ line. statement_in (reading_of line)) lines
 abbrev pub number_or : Option ℕ → Statement → Option ℕ
 number_or so_far (process n) = Some n
 number_or so_far (gives m) = so_far
+number_or so_far (fails f) = so_far
 number_or so_far (command c) = so_far
 
 abbrev pub count_or : ℕ → Statement → ℕ
 count_or n (process number) = 0
 count_or n (gives m) = n
+count_or n (fails f) = n
 count_or n (command c) = n + 1
 
 -- the number of the script above, and how many commands it has so far
@@ -62,10 +74,7 @@ last_number before = fold number_or None before
 abbrev pub commands_so_far : List Statement → ℕ
 commands_so_far before = fold count_or 0 before
 
--- the most processes, and the most commands of one script
-abbrev pub MOST_PROCESSES : ℕ
-MOST_PROCESSES = 16
-
+-- the most commands of one script
 abbrev pub MOST_COMMANDS : ℕ
 MOST_COMMANDS = 1024
 
@@ -74,10 +83,12 @@ abbrev pub rises : Option ℕ → ℕ → Bool
 rises None n = nat_le 1 n && nat_le n MOST_PROCESSES
 rises (Some last) n = nat_lt last n && nat_le n MOST_PROCESSES
 
--- Modules come before all scripts, and commands belong to a script. A script may be full.
+-- Modules, and what fails, come before all scripts, and commands belong to a script. A script may be full.
 abbrev pub fault_among : Option ℕ → ℕ → Statement → Option SessionKind
 fault_among None n (gives m) = None
 fault_among (Some last) n (gives m) = Some kinds.Order
+fault_among None n (fails f) = None
+fault_among (Some last) n (fails f) = Some kinds.Order
 fault_among last n (process number) = if rises last number then None else Some kinds.Order
 fault_among None n (command c) = Some kinds.Order
 fault_among (Some last) n (command c) = if nat_lt n MOST_COMMANDS then None else Some kinds.TooMany

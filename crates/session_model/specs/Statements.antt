@@ -5,16 +5,18 @@ use Rattle.lx_types.specs.declared.entry.EntryKey.{EntryKey}
 use Rattle.lx_types.specs.declared.entry.EntryKey.TheVariants.{Ordinal, Named}
 use Rattle.load_model.specs.declared.commands.Place.{Place}
 use Rattle.load_model.specs.declared.commands.Command.{Command}
-use Rattle.load_model.specs.declared.commands.Command.TheVariants.{Start, Load, Free, Touch, Peek, Shared, Write, Query, Exit}
+use Rattle.load_model.specs.declared.commands.Command.TheVariants.{Start, Load, Free, Touch, Peek, Shared, Write, Debug, Query, GetRes, Exit}
+use Rattle.session_model.specs.declared.sessions.FailingLine.{FailingLine}
 use Rattle.session_model.specs.declared.sessions.ModLine.{ModLine}
 use Rattle.session_model.specs.declared.sessions.ModLine.TheVariants.{Take, Build}
 use Rattle.session_model.specs.declared.sessions.SessionKind.{SessionKind}
 use Rattle.session_model.specs.declared.sessions.SessionKind.TheVariants as kinds
 use Rattle.session_model.specs.Lines.{is_allowed, words_in, number_in, hex_bytes}
 
--- what a line says: a module, the number of a script, or a command of the script above
+-- what a line says: a module, an initialisation that fails, the number of a script, or a command of the script above
 pub data Statement : Type 0 where
   gives : ModLine → Statement
+  fails : FailingLine → Statement
   process : ℕ → Statement
   command : Command → Statement
 
@@ -54,33 +56,49 @@ begins_with_at (b ∷ bytes) = b == 0x40
 abbrev pub key_in : List ℕ → Option EntryKey
 key_in word = if begins_with_at word then option_map Ordinal (number_in (drop 1 word)) else Some (Named word)
 
+-- the number of a process
+abbrev pub MOST_PROCESSES : ℕ
+MOST_PROCESSES = 16
+
+abbrev pub process_in : List ℕ → Option ℕ
+process_in word = option_and_then (λ n. if nat_le 1 n && nat_le n MOST_PROCESSES then Some n else None) (number_in word)
+
+-- a number of 16 bits: the type or the identifier of a resource
+abbrev pub word_in : List ℕ → Option ℕ
+word_in word = option_and_then (λ n. if nat_lt n 0x1_0000 then Some n else None) (number_in word)
+
 -- the bytes of a write: one at least
 abbrev pub hex_in : List ℕ → Option (List ℕ)
 hex_in word = option_and_then (λ bytes. if (length bytes == 0) || nat_lt MOST_BYTES (length bytes) then None else Some bytes) (hex_bytes word)
 
 -- a number that is wrong comes before bytes that are
-abbrev pub write_of : List ℕ → Option ℕ → Option ℕ → Option (List ℕ) → Reading
-write_of name (Some object) (Some offset) (Some bytes) = says (command (Write (place_of name object offset (length bytes)) bytes))
-write_of name (Some object) (Some offset) None = wrong kinds.Hex
-write_of name (Some object) None bytes = wrong kinds.Number
-write_of name None offset bytes = wrong kinds.Number
+abbrev pub write_of : (Place → List ℕ → Command) → List ℕ → Option ℕ → Option ℕ → Option (List ℕ) → Reading
+write_of kind name (Some object) (Some offset) (Some bytes) = says (command (kind (place_of name object offset (length bytes)) bytes))
+write_of kind name (Some object) (Some offset) None = wrong kinds.Hex
+write_of kind name (Some object) None bytes = wrong kinds.Number
+write_of kind name None offset bytes = wrong kinds.Number
 
 -- ---- statements, by their first word
 
 abbrev pub is_word : List ℕ → List ℕ → Bool
 is_word a b = bytes_eq a b
 
+-- a statement whose last word is bytes
+abbrev pub has_bytes : List ℕ → Bool
+has_bytes w = is_word w (codes "write") || is_word w (codes "debug")
+
 -- how many words a statement has, from the least to the most; None where the first word is none
 abbrev pub word_count : List ℕ → Option (ℕ × Option ℕ)
 word_count w =
     if is_word w (codes "take") || is_word w (codes "process") || is_word w (codes "start") || is_word w (codes "load") || is_word w (codes "free") then Some (2, Some 2)
     else if is_word w (codes "exit") then Some (1, Some 1)
-    else if is_word w (codes "query") then Some (3, Some 3)
-    else if is_word w (codes "touch") || is_word w (codes "peek") || is_word w (codes "shared") || is_word w (codes "write") then Some (5, Some 5)
+    else if is_word w (codes "query") || is_word w (codes "failing") then Some (3, Some 3)
+    else if is_word w (codes "getres") then Some (4, Some 4)
+    else if is_word w (codes "touch") || is_word w (codes "peek") || is_word w (codes "shared") || has_bytes w then Some (5, Some 5)
     else if is_word w (codes "build") then Some (4, None)
     else None
 
--- the longest a word may be; the bytes of a write are a word that may be longer
+-- the longest a word may be; bytes to write are a word that may be longer
 abbrev pub MOST_WORD : ℕ
 MOST_WORD = 255
 
@@ -88,7 +106,7 @@ abbrev pub is_long : List ℕ → Bool
 is_long w = nat_lt MOST_WORD (length w)
 
 abbrev pub has_long : List (List ℕ) → Bool
-has_long (w ∷ m ∷ o ∷ x ∷ hex ∷ ws) = list_any is_long (w ∷ m ∷ o ∷ x ∷ ws) || (is_long hex && not (is_word w (codes "write")))
+has_long (w ∷ m ∷ o ∷ x ∷ hex ∷ ws) = list_any is_long (w ∷ m ∷ o ∷ x ∷ ws) || (is_long hex && not (has_bytes w))
 has_long ws = list_any is_long ws
 
 abbrev pub is_within : ℕ → ℕ × Option ℕ → Bool
@@ -107,22 +125,33 @@ two_words w a =
     else if is_word w (codes "free") then says (command (Free a))
     else or_wrong kinds.Number (option_map process (number_in a))
 
+abbrev pub failing_of : List ℕ → ℕ → Statement
+failing_of name pid = fails (record { «module» = name; pid = pid })
+
 abbrev pub three_words : List ℕ → List ℕ → List ℕ → Reading
-three_words w name key = or_wrong kinds.Number (option_map (λ k. command (Query name k)) (key_in key))
+three_words w name last =
+    if is_word w (codes "failing") then or_wrong kinds.Number (option_map (failing_of name) (process_in last))
+    else or_wrong kinds.Number (option_map (λ k. command (Query name k)) (key_in last))
+
+abbrev pub four_words : List ℕ → List ℕ → List ℕ → List ℕ → Reading
+four_words w a b c =
+    if is_word w (codes "getres") then or_wrong kinds.Number (option_and_then (λ ty. option_map (λ id. command (GetRes a ty id)) (word_in c)) (word_in b))
+    else says (gives (Build a b (c ∷ [])))
 
 abbrev pub five_words : List ℕ → List ℕ → List ℕ → List ℕ → List ℕ → Reading
 five_words w name object offset last =
     if is_word w (codes "touch") then or_wrong kinds.Number (option_map (λ p. command (Touch p)) (place_in None name object offset last))
     else if is_word w (codes "peek") then or_wrong kinds.Number (option_map (λ p. command (Peek p)) (place_in (Some MOST_BYTES) name object offset last))
     else if is_word w (codes "shared") then or_wrong kinds.Number (option_map (λ p. command (Shared p)) (place_in (Some MOST_BYTES) name object offset last))
-    else write_of name (number_in object) (number_in offset) (hex_in last)
+    else if is_word w (codes "debug") then write_of Debug name (number_in object) (number_in offset) (hex_in last)
+    else write_of Write name (number_in object) (number_in offset) (hex_in last)
 
 abbrev pub statement_of : List (List ℕ) → Reading
 statement_of [] = nothing
 statement_of (w ∷ []) = one_word w
 statement_of (w ∷ a ∷ []) = two_words w a
 statement_of (w ∷ a ∷ b ∷ []) = three_words w a b
-statement_of (w ∷ a ∷ b ∷ c ∷ []) = says (gives (Build a b (c ∷ [])))
+statement_of (w ∷ a ∷ b ∷ c ∷ []) = four_words w a b c
 statement_of (w ∷ a ∷ b ∷ c ∷ d ∷ ws) =
     if is_word w (codes "build") then says (gives (Build a b (c ∷ d ∷ ws))) else five_words w a b c d
 

@@ -58,19 +58,23 @@ place_words lib serial m object offset = decimal serial ∷ module_text lib m �
 abbrev pub deed_words : Library → Deed → List (List ℕ)
 deed_words lib (deeds.Enter how m fresh calls) = how_text how ∷ module_text lib m ∷ []
 deed_words lib (deeds.Full how m of object size) = how_text how ∷ module_text lib m ∷ codes "full" ∷ module_text lib of ∷ decimal object ∷ decimal size ∷ []
+deed_words lib (deeds.Failed how m by fresh calls gone) = how_text how ∷ module_text lib m ∷ codes "failed" ∷ module_text lib by ∷ []
 deed_words lib (deeds.Free m calls gone) = codes "free" ∷ module_text lib m ∷ []
 deed_words lib (deeds.Exit calls gone) = codes "exit" ∷ []
 deed_words lib (deeds.Fault serial m p) = codes "fault" ∷ place_words lib serial m p.object p.page
 deed_words lib (deeds.Write serial m object offset bytes) = codes "write" ∷ place_words lib serial m object offset ++ codes "=" ∷ bytes_words bytes
+deed_words lib (deeds.Debug serial m object offset bytes) = codes "debug" ∷ place_words lib serial m object offset ++ codes "=" ∷ bytes_words bytes
 deed_words lib (deeds.Shared serial m object offset bytes) = codes "shared" ∷ place_words lib serial m object offset ++ codes "=" ∷ bytes_words bytes
 
 abbrev pub deed_lines : Library → Deed → List ℕ
 deed_lines lib (deeds.Enter how m fresh calls) = flat_map (new_line lib) fresh ++ flat_map (call_line lib) calls
 deed_lines lib (deeds.Full how m of object size) = []
+deed_lines lib (deeds.Failed how m by fresh calls gone) = flat_map (new_line lib) fresh ++ flat_map (call_line lib) calls ++ flat_map (gone_line lib) gone
 deed_lines lib (deeds.Free m calls gone) = flat_map (call_line lib) calls ++ flat_map (gone_line lib) gone
 deed_lines lib (deeds.Exit calls gone) = flat_map (call_line lib) calls ++ flat_map (gone_line lib) gone
 deed_lines lib (deeds.Fault serial m p) = []
 deed_lines lib (deeds.Write serial m object offset bytes) = []
+deed_lines lib (deeds.Debug serial m object offset bytes) = []
 deed_lines lib (deeds.Shared serial m object offset bytes) = []
 
 -- a process by its script's number, where it counts from 1 in the order of the scripts
@@ -86,6 +90,9 @@ entry_text lib numbers x = line_of (decimal x.0 ∷ process_text numbers x.1.pid
 abbrev pub span_words : Place → List (List ℕ)
 span_words p = p.«module» ∷ decimal p.object ∷ decimal p.offset ∷ decimal p.len ∷ []
 
+abbrev pub written_words : Place → List ℕ → List (List ℕ)
+written_words p bytes = p.«module» ∷ decimal p.object ∷ decimal p.offset ∷ bytes_word bytes ∷ []
+
 abbrev pub key_text : EntryKey → List ℕ
 key_text (Ordinal ordinal) = codes "@" ++ decimal ordinal
 key_text (Named name) = name
@@ -98,8 +105,10 @@ command_words (commands.Free name) = codes "free" ∷ name ∷ []
 command_words (commands.Touch p) = codes "touch" ∷ span_words p
 command_words (commands.Peek p) = codes "peek" ∷ span_words p
 command_words (commands.Shared p) = codes "shared" ∷ span_words p
-command_words (commands.Write p bytes) = codes "write" ∷ p.«module» ∷ decimal p.object ∷ decimal p.offset ∷ bytes_word bytes ∷ []
+command_words (commands.Write p bytes) = codes "write" ∷ written_words p bytes
+command_words (commands.Debug p bytes) = codes "debug" ∷ written_words p bytes
 command_words (commands.Query name key) = codes "query" ∷ name ∷ key_text key ∷ []
+command_words (commands.GetRes name ty id) = codes "getres" ∷ name ∷ decimal ty ∷ decimal id ∷ []
 command_words commands.Exit = codes "exit" ∷ []
 
 -- a refusal by its name, with its fields
@@ -110,25 +119,28 @@ refusal_words why.Started = codes "Started" ∷ []
 refusal_words why.NoModule = codes "NoModule" ∷ []
 refusal_words why.NotLibrary = codes "NotLibrary" ∷ []
 refusal_words why.NotProgram = codes "NotProgram" ∷ []
-refusal_words why.ImportCycle = codes "ImportCycle" ∷ []
 refusal_words why.NoEntry = codes "NoEntry" ∷ []
 refusal_words why.ForwardLoop = codes "ForwardLoop" ∷ []
 refusal_words why.Gate286 = codes "Gate286" ∷ []
 refusal_words why.CountFull = codes "CountFull" ∷ []
 refusal_words (why.ArenaFull number of object size) = codes "ArenaFull" ∷ decimal number ∷ decimal of ∷ decimal object ∷ decimal size ∷ []
+refusal_words (why.InitFailed number by) = codes "InitFailed" ∷ decimal number ∷ decimal by ∷ []
 refusal_words why.NotHeld = codes "NotHeld" ∷ []
 refusal_words why.NotAttached = codes "NotAttached" ∷ []
 refusal_words why.Range = codes "Range" ∷ []
 refusal_words why.ReadOnly = codes "ReadOnly" ∷ []
 refusal_words why.IsShared = codes "IsShared" ∷ []
 refusal_words why.NotShared = codes "NotShared" ∷ []
+refusal_words why.NotCode = codes "NotCode" ∷ []
 refusal_words why.Invalid = codes "Invalid" ∷ []
 refusal_words (why.NotTouched p) = codes "NotTouched" ∷ decimal p ∷ []
+refusal_words why.NoResource = codes "NoResource" ∷ []
 
 abbrev pub reply_words : Reply → List (List ℕ)
 reply_words replies.Fine = codes "ok" ∷ []
 reply_words (replies.Bytes bytes) = codes "=" ∷ bytes_words bytes
 reply_words (replies.Address a) = codes "=" ∷ hex_address a ∷ []
+reply_words (replies.Spot spot) = codes "=" ∷ decimal spot.object ∷ decimal spot.offset ∷ decimal spot.len ∷ []
 reply_words (replies.Refused refusal) = codes "refused" ∷ refusal_words refusal
 
 unfoldable pub line_text : Line → List ℕ

@@ -25,16 +25,16 @@ use Rattle.session_model.specs.WorkedSessions.{ln, commands_of_D}
 -- ---- a session of one module and one process
 
 -- a library of 8 bytes, of which the last is 10h
-abbrev D : Library
+abbrev pub D : Library
 D = library (codes "D") (object code 8 0x10000000 ∷ []) ∷ []
 
-abbrev bytes_of_D : Held
+abbrev pub bytes_of_D : Held
 bytes_of_D m bases o x = slice_index (0 ∷ 0 ∷ 0 ∷ 0 ∷ 0 ∷ 0 ∷ 0 ∷ 0x10 ∷ []) x
 
-abbrev entry_of : ℕ → Deed → Entry
+abbrev pub entry_of : ℕ → Deed → Entry
 entry_of pid deed = record { pid = pid; deed = deed }
 
-abbrev line_at : ℕ → Command → Reply → Line
+abbrev pub line_at : ℕ → Command → Reply → Line
 line_at front command reply = record { front = front; command = command; reply = reply }
 
 abbrev history_of_D : List Entry
@@ -63,8 +63,8 @@ transcript_of_D =
     ++ ln (codes "summary processes 1 entries 4 faults 1")
 
 pub record WorkedRun : Type 0 where
-  pub legal : Legal D bytes_of_D history_of_D
-  pub merge : Merge D bytes_of_D history_of_D lines_of_D scripts_of_D
+  pub legal : Legal D [] bytes_of_D history_of_D
+  pub merge : Merge D [] bytes_of_D history_of_D lines_of_D scripts_of_D
   pub text : Transcript D history_of_D lines_of_D ≡ transcript_of_D
   pub nothing : Transcript [] [] [] ≡ ln (codes "history") ++ ln (codes "summary processes 0 entries 0 faults 0")
 
@@ -73,10 +73,10 @@ abbrev twice : List Entry
 twice = entry_of 1 (Enter ways.Load 0 (fresh 1 0 (0x10000000 ∷ []) ∷ []) []) ∷ entry_of 1 (Fault 1 0 (page 1 0)) ∷ entry_of 1 (Fault 1 0 (page 1 0)) ∷ []
 
 pub record WorkedIllegal : Type 0 where
-  pub twice : Legal D bytes_of_D twice → ⊥
-  pub not_loaded : Legal D bytes_of_D (entry_of 1 (Free 0 [] []) ∷ []) → ⊥
+  pub twice : Legal D [] bytes_of_D twice → ⊥
+  pub not_loaded : Legal D [] bytes_of_D (entry_of 1 (Free 0 [] []) ∷ []) → ⊥
   -- a serial number that is not the next one
-  pub serial : Legal D bytes_of_D (entry_of 1 (Enter ways.Load 0 (fresh 2 0 (0x10000000 ∷ []) ∷ []) []) ∷ []) → ⊥
+  pub serial : Legal D [] bytes_of_D (entry_of 1 (Enter ways.Load 0 (fresh 2 0 (0x10000000 ∷ []) ∷ []) []) ∷ []) → ⊥
 
 -- ---- each kind of line
 

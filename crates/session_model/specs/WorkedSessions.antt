@@ -2,7 +2,7 @@
 use Rattle.std.specs.Prelude.{◌≡◌, ℕ, List, [], ◌∷◌, ◌++◌, codes, replicate, Option, Some, None}
 use Rattle.lx_types.specs.declared.entry.EntryKey.TheVariants.{Ordinal, Named}
 use Rattle.load_model.specs.declared.commands.Command.{Command}
-use Rattle.load_model.specs.declared.commands.Command.TheVariants.{Start, Load, Free, Touch, Peek, Shared, Write, Query, Exit}
+use Rattle.load_model.specs.declared.commands.Command.TheVariants.{Start, Load, Free, Touch, Peek, Shared, Write, Debug, Query, GetRes, Exit}
 use Rattle.session_model.specs.declared.sessions.ModLine.TheVariants.{Take, Build}
 use Rattle.session_model.specs.declared.sessions.Session.{Session}
 use Rattle.session_model.specs.declared.sessions.SessionKind.{SessionKind}
@@ -31,26 +31,31 @@ commands_of_D =
 abbrev pub session_of_D : Session
 session_of_D = record {
   modules = Build (codes "D") (codes "d.def") (codes "a.obj" ∷ []) ∷ [];
+  failing = [];
   scripts = record { pid = 1; commands = commands_of_D } ∷ [];
 }
 
 -- comments, blanks, numbers of both kinds, and no end of the last line
 abbrev pub of_all_kinds : List ℕ
 of_all_kinds =
-    dos (codes "# a comment") ++ dos [] ++ ln (codes "  take  m.dll") ++ ln (codes "build P - a.obj b.lib") ++ ln (codes "process 2")
+    dos (codes "# a comment") ++ dos [] ++ ln (codes "  take  m.dll") ++ ln (codes "build P - a.obj b.lib") ++ ln (codes "failing M 2")
+    ++ ln (codes "take n.dll") ++ ln (codes "failing m 0x10") ++ ln (codes "process 2")
     ++ ln (codes "start P") ++ ln (0x09 ∷ codes "shared M 0x2 0x10 4096") ++ ln (codes "write M 1 0 aBcD") ++ ln (codes "query M @7")
+    ++ ln (codes "debug M 1 0 CC") ++ ln (codes "getres M 65535 0")
     ++ ln (codes "process 16") ++ codes "query M F"
 
 pub record WorkedSessions : Type 0 where
   pub one : Ses one_module session_of_D
-  pub empty : Ses [] (record { modules = []; scripts = [] })
+  pub empty : Ses [] (record { modules = []; failing = []; scripts = [] })
   pub kinds : Ses of_all_kinds (record {
-    modules = Take (codes "m.dll") ∷ Build (codes "P") (codes "-") (codes "a.obj" ∷ codes "b.lib" ∷ []) ∷ [];
+    modules = Take (codes "m.dll") ∷ Build (codes "P") (codes "-") (codes "a.obj" ∷ codes "b.lib" ∷ []) ∷ Take (codes "n.dll") ∷ [];
+    failing = record { «module» = codes "M"; pid = 2 } ∷ record { «module» = codes "m"; pid = 16 } ∷ [];
     scripts =
         record {
           pid = 2;
           commands =
-              Start (codes "P") ∷ Shared (place_of (codes "M") 2 16 4096) ∷ Write (place_of (codes "M") 1 0 2) (0xAB ∷ 0xCD ∷ []) ∷ Query (codes "M") (Ordinal 7) ∷ [];
+              Start (codes "P") ∷ Shared (place_of (codes "M") 2 16 4096) ∷ Write (place_of (codes "M") 1 0 2) (0xAB ∷ 0xCD ∷ []) ∷ Query (codes "M") (Ordinal 7)
+              ∷ Debug (place_of (codes "M") 1 0 1) (0xCC ∷ []) ∷ GetRes (codes "M") 65535 0 ∷ [];
         }
         ∷ record { pid = 16; commands = Query (codes "M") (Named (codes "F")) ∷ [] } ∷ [];
   })
@@ -84,6 +89,19 @@ pub record WorkedFaults : Type 0 where
   pub number_first : in_script (codes "write M 1 x AG") ≡ at 2 kinds.Number
   pub hex_large : in_script (codes "write M 1 0 " ++ replicate 8194 0x30) ≡ at 2 kinds.Hex
   pub hex_fits : in_script (codes "write M 1 0 " ++ replicate 8192 0x30) ≡ None
+  -- bytes are judged as those of a write
+  pub debug_hex : in_script (codes "debug M 1 0 C") ≡ at 2 kinds.Hex
+  pub debug_large : in_script (codes "debug M 1 0 " ++ replicate 8194 0x30) ≡ at 2 kinds.Hex
+  pub debug_number : in_script (codes "debug M x 0 C") ≡ at 2 kinds.Number
+  pub type_large : in_script (codes "getres M 65536 1") ≡ at 2 kinds.Number
+  pub id_large : in_script (codes "getres M 1 65536") ≡ at 2 kinds.Number
+  pub getres_count : in_script (codes "getres M 1") ≡ at 2 kinds.Count
+  pub failing_0 : SesFault (codes "failing M 0") ≡ at 1 kinds.Number
+  pub failing_17 : SesFault (codes "failing M 17") ≡ at 1 kinds.Number
+  pub failing_count : SesFault (codes "failing M") ≡ at 1 kinds.Count
+  -- a number that is wrong comes before a wrong part
+  pub failing_late : in_script (codes "failing M 1") ≡ at 2 kinds.Order
+  pub failing_both : in_script (codes "failing M 17") ≡ at 2 kinds.Number
   pub module_late : in_script (codes "take M") ≡ at 2 kinds.Order
   pub no_process : SesFault (codes "load M") ≡ at 1 kinds.Order
   pub process_0 : SesFault (codes "process 0") ≡ at 1 kinds.Order

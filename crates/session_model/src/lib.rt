@@ -5,7 +5,7 @@ mod laws;
 mod sessions;
 mod worked;
 
-pub use laws::sessions_are_one;
+pub use laws::{agreement_is_enough, merges_are_histories, sessions_are_bounded, sessions_are_one};
 pub use sessions::{
-    Commands, Line, ModLine, Script, ScriptLines, Session, SessionKind, SessionRefusal,
+    Commands, FailingLine, Line, ModLine, Script, ScriptLines, Session, SessionKind, SessionRefusal,
 };

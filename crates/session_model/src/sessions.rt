@@ -23,10 +23,18 @@ pub struct Script {
     pub commands: Commands,
 }
 
-/// A session: the modules, and the scripts by rising numbers.
+/// A line that makes an initialisation fail: that of a module, by its name, in the process of a script, by its number.
+#[derive(Drop)]
+pub struct FailingLine {
+    pub module: Name,
+    pub pid: u32,
+}
+
+/// A session: the modules, the initialisations that fail, and the scripts by rising numbers.
 #[derive(Drop)]
 pub struct Session {
     pub modules: Seq<ModLine>,
+    pub failing: Seq<FailingLine>,
     pub scripts: Seq<Script>,
 }
 

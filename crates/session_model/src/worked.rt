@@ -2,6 +2,8 @@
 //! that the definitions give.
 
 ghost use Rattle.session_model.specs.WorkedSessions.{WorkedSessions, WorkedFaults};
+ghost use Rattle.session_model.specs.WorkedDeeds.{WorkedFailure, WorkedBreak};
+ghost use Rattle.session_model.specs.WorkedWrong.{WorkedNotAsked, WorkedNotDone, WorkedNotMerged};
 ghost use Rattle.session_model.specs.WorkedRuns.{WorkedRun, WorkedIllegal, WorkedLines};
 
 /// Sessions, with what they say.
@@ -19,9 +21,34 @@ pub fn run_is_told()
     ensures { WorkedRun }
 {}
 
+/// A load whose initialisation fails, byte by byte, and what follows it.
+pub fn failure_is_told()
+    ensures { WorkedFailure }
+{}
+
+/// A write to code that another process does not see, and a resource that is found, and one that is not.
+pub fn break_is_told()
+    ensures { WorkedBreak }
+{}
+
 /// Histories that are not legal.
 pub fn others_are_illegal()
     ensures { WorkedIllegal }
+{}
+
+/// Entries that a process may not ask for.
+pub fn entries_are_not_asked()
+    ensures { WorkedNotAsked }
+{}
+
+/// Entries that are not what the loader does.
+pub fn entries_are_not_done()
+    ensures { WorkedNotDone }
+{}
+
+/// Runs that are no merge of a history and a script.
+pub fn runs_are_not_merged()
+    ensures { WorkedNotMerged }
 {}
 
 /// Each kind of line of a transcript.

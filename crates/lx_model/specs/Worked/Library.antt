@@ -121,7 +121,7 @@ pub record WorkedLibrary : Type 0 where
   pub fit : HealthOf (chain (owner (codes "C") 0x20)) 0 ≡ health.Fit
   -- C's f is f of A
   pub loop : Entry (chain (forwarder (codes "C") (codes "A"))) (1, 1) ≡ Err faults.ForwardLoop
-  pub cycle : HealthOf (chain (forwarder (codes "C") (codes "A"))) 0 ≡ health.Cycle 3
+  pub comes_back : HealthOf (chain (forwarder (codes "C") (codes "A"))) 0 ≡ health.ForwardLoop 0
   -- module names are compared without case; a program is no import
   pub case : library_named (pair (Ordinal 1 1) (owner (codes "A") 0)) (codes "a") ≡ Some 1
   pub lost : HealthOf (pair (Ordinal 1 1) (owner (codes "B") 0)) 0 ≡ health.NoModule 0 1

@@ -10,4 +10,4 @@ use Rattle.lx_model.proofs.worked.library_means.Goals as goal
 
 pub returns : goal.returns
 unfolding Fixed Raw page_bytes patch_of sources_of Entry followed group_at group_fields many many_from next_record record_at single_at list_at target_of_kind internal_at additive_at offsets_at Order visit HealthOf
-returns c = record { named = refl; value = refl; order = refl; fit = refl; loop = refl; cycle = refl; case = refl; lost = refl; program = refl; no_entry = refl; gate = refl }
+returns c = record { named = refl; value = refl; order = refl; fit = refl; loop = refl; comes_back = refl; case = refl; lost = refl; program = refl; no_entry = refl; gate = refl }

@@ -1,0 +1,12 @@
+use Rattle.load_model.proofs.Orders.{orders_nest}
+use Rattle.load_model.proofs.Standing.{new_stands, stands_on}
+use Rattle.load_model.proofs.ViewSteps.{stands_quiet, stands_mapped}
+use Rattle.load_model.proofs.laws.views_stand.Goals as goal
+
+pub returns : goal.returns
+returns c = record {
+  new = new_stands;
+  on = stands_on (orders_nest c.order_is_reach.ensures.order c.order_is_reach.ensures.reach);
+  quiet = stands_quiet (orders_nest c.order_is_reach.ensures.order c.order_is_reach.ensures.reach);
+  mapped = stands_mapped;
+}
