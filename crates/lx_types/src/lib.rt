@@ -11,7 +11,9 @@ mod name;
 mod object;
 mod parts;
 mod refusal;
+mod selectors;
 mod seq;
+mod sharing;
 
 pub use bases::{Bases, ModBases};
 pub use entry::{EntryHead, EntryKey, FwdKey};
@@ -27,4 +29,5 @@ pub use object::{
 };
 pub use parts::{MODULE_INIT_EACH, MODULE_KIND, MODULE_LIBRARY, MODULE_TERM_EACH, Parts};
 pub use refusal::{LxKind, LxRefusal};
+pub use selectors::{selected_offset, selector, tiled_selector};
 pub use seq::{Bytes, Names, Numbers, Seq};

@@ -3,7 +3,7 @@
 ghost use Rattle.std.specs.Prelude.{◌≡◌, ◌++◌, ◌<◌, ◌^◌, None, Some, IfOk, length};
 ghost use Rattle.lx_types.specs.Answers.{Answers};
 ghost use Rattle.lx_model.specs.TableSpelling.{header_spelling};
-ghost use Rattle.lx_entry.specs.Exports.{export_refusal};
+ghost use Rattle.lx_exports.specs.Exports.{export_refusal};
 ghost use Rattle.image_model.specs.File.{file_of, sections_bytes};
 ghost use Rattle.lx_write.specs.Value.{CanBeWritten, image_value};
 ghost use Rattle.image_model.specs.ReadBack.{ImageFits, parts_of_image};
@@ -15,7 +15,7 @@ use crate::header::{fields_of, places_of};
 use crate::image::Image;
 use crate::sections::{Sections, sections_of};
 use byteorder::{ByteOrder, LittleEndian};
-use lx_entry::EntryRefusal;
+use lx_exports::EntryRefusal;
 use lx_types::{Fail, NoMemory};
 use std::alloc::Global;
 
