@@ -1,3 +1,2 @@
-pub mod Gives
+pub mod Refusals
 pub mod Bundles
-pub mod NameEntries

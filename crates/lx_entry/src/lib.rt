@@ -3,7 +3,6 @@
 #![tactic(auto)]
 
 mod bundles;
-mod fields;
 mod imports;
 mod names;
 mod refusal;

@@ -1,8 +1,9 @@
-//! The fields of a table, read one after another.
+//! The fields of a table or of a record, read one after another.
 
 ghost use Rattle.std.specs.Prelude.{◌≡◌, ◌+◌, ◌<◌, ◌^◌, length};
+ghost use Rattle.lx_types.specs.Answers.{Reads, told_as};
 ghost use Rattle.lx_model.specs.Reading.{number, text};
-ghost use Rattle.lx_entry.specs.Gives.{TakesField};
+ghost use Rattle.lx_fields.specs.Faults.{short_fault};
 
 use lx_bytes::Cur;
 use std::marker::Model;
@@ -13,7 +14,7 @@ pub struct Short {
     pub at: u32,
 }
 
-/// The fields that are left of a table, whose places have 32 bits.
+/// The fields that are left of a table, whose places have 32 bits. Numbers are little-endian.
 #[derive(Debug, Drop)]
 pub struct Fields<'a> {
     cur: Cur<'a>,
@@ -42,6 +43,26 @@ impl<'a> Fields<'a> {
         }
     }
 
+    /// The fields in some bytes of a file, where `at` bytes stand before them.
+    pub fn of_part(bytes: &'a [u8], at: u32) -> Fields<'a>
+        requires { at + length bytes.now < 2 ^ 32 }
+        ensures place { result.at ≡ at }
+        ensures bytes { result.left ≡ bytes.now }
+    {
+        Fields {
+            cur: Cur::of_part(bytes, at as usize),
+        }
+    }
+
+    /// The same fields once more, to read ahead in.
+    pub fn fork(&self) -> Fields<'a>
+        ensures { result ≡ self.now }
+    {
+        Fields {
+            cur: self.cur.fork(),
+        }
+    }
+
     /// The place of the next field.
     pub fn at(&self) -> u32
         ensures { result ≡ self.now.at }
@@ -49,9 +70,16 @@ impl<'a> Fields<'a> {
         self.cur.at() as u32
     }
 
+    /// How many bytes are left.
+    pub fn left(&self) -> usize
+        ensures { result ≡ length self.now.left }
+    {
+        self.cur.left()
+    }
+
     /// The next `n` bytes.
     pub fn bytes(&mut self, n: usize) -> Result<&'a [u8], Short>
-        ensures { TakesField (λ b. b.now) result (text n) self.old self.new }
+        ensures { Reads (λ b. b.now) (told_as short_fault) result (text n) self.old self.new }
     {
         let at = self.at();
         match self.cur.take(n) {
@@ -62,7 +90,7 @@ impl<'a> Fields<'a> {
 
     /// The next byte.
     pub fn byte(&mut self) -> Result<u8, Short>
-        ensures { TakesField (λ n. n) result (number 1) self.old self.new }
+        ensures { Reads (λ n. n) (told_as short_fault) result (number 1) self.old self.new }
     {
         let at = self.at();
         match self.cur.u8() {
@@ -73,7 +101,7 @@ impl<'a> Fields<'a> {
 
     /// The next number of two bytes.
     pub fn word(&mut self) -> Result<u16, Short>
-        ensures { TakesField (λ n. n) result (number 2) self.old self.new }
+        ensures { Reads (λ n. n) (told_as short_fault) result (number 2) self.old self.new }
     {
         let at = self.at();
         match self.cur.u16() {
@@ -84,7 +112,7 @@ impl<'a> Fields<'a> {
 
     /// The next number of four bytes.
     pub fn doubleword(&mut self) -> Result<u32, Short>
-        ensures { TakesField (λ n. n) result (number 4) self.old self.new }
+        ensures { Reads (λ n. n) (told_as short_fault) result (number 4) self.old self.new }
     {
         let at = self.at();
         match self.cur.u32() {
