@@ -1,26 +1,16 @@
--- What a judgement answers, against the fault that the definitions find.
-use Rattle.std.specs.Prelude.{◌≡◌, ℕ, ◌<◌, ◌≤◌, ◌+◌, ◌*◌, map, List, Option, Some, None, Result, Ok, Err, length}
+-- What the reader of a header answers.
+use Rattle.std.specs.Prelude.{◌≡◌, ℕ, ◌+◌, ◌*◌, map, List, Some, None, Result, Ok, Err}
 use Rattle.std.specs.List.{range_with_len}
 use Rattle.lx_types.specs.declared.refusal.LxRefusal.{LxRefusal}
 use Rattle.lx_model.specs.Reading.{number_at}
 use Rattle.lx_model.specs.Header.{header_place, header_fault, header_fields}
 use Rattle.lx_head.specs.declared.head.Head.{Head}
 
--- There is no fault where it is good, and otherwise it is this one.
-abbrev pub Judged : {A : Type 0} → Result A LxRefusal → Option LxRefusal → Type 0
-Judged (Ok x) fault = fault ≡ None
-Judged (Err e) fault = fault ≡ Some e
-
 -- A header that is read has no fault, and is where and what the definitions say; of another its first fault
 -- is told.
 abbrev pub ReadsHead : Result Head LxRefusal → List ℕ → Type 0
 ReadsHead (Ok head) file = (header_fault file ≡ None) × (head.place ≡ header_place file) × (head.fields ≡ header_fields file)
 ReadsHead (Err e) file = header_fault file ≡ Some e
-
--- the number in the n bytes at a place, or none where they pass the end
-abbrev pub IsNumberAt : Option ℕ → ℕ → List ℕ → ℕ → Type 0
-IsNumberAt (Some x) n bytes at = (at + n ≤ length bytes) × (x ≡ number_at n bytes at)
-IsNumberAt None n bytes at = length bytes < at + n
 
 -- the 43 doublewords at a place
 unfoldable pub doublewords_at : List ℕ → ℕ → List ℕ
