@@ -30,7 +30,7 @@ use Rattle.link_model.specs.Refusal.{place_refusal, link_refusal}
 use Rattle.link_model.specs.Header.{auto_data}
 use Rattle.link_model.specs.ImportTables.{used_pairs, modules_in, procs_in}
 use Rattle.link_model.proofs.ExportsStay.{chosen_are_whole}
-use Rattle.lx_entry.specs.Exports.{export_refusal}
+use Rattle.lx_exports.specs.Exports.{export_refusal}
 use Rattle.image_model.specs.File.{file_of}
 use Rattle.image_model.specs.Linked.{image_of}
 use Rattle.lx_write.specs.declared.image.Image.{Image}

@@ -44,8 +44,8 @@ use Rattle.link_model.proofs.Members.{In, here, there, in_left, in_right, in_map
 use Rattle.link_model.proofs.ExportsStay.{exports_stay}
 use Rattle.image_model.specs.Exported as links
 use Rattle.image_model.specs.Exported.{forwarder_to, head_of}
-use Rattle.lx_entry.specs.declared.exports.OutEntry.{OutEntry}
-use Rattle.lx_entry.specs.Exports.{asked, names_of, numbered, with_ordinals, exported_of, export_refusal, HeadFits, ExportFits}
+use Rattle.lx_exports.specs.declared.exports.OutEntry.{OutEntry}
+use Rattle.lx_exports.specs.Exports.{asked, names_of, numbered, with_ordinals, exported_of, export_refusal, HeadFits, ExportFits}
 use Rattle.sym_table.specs.Symbols.{SymbolTable}
 use Rattle.sym_table.specs.Meanings.{global_in}
 use Rattle.sym_table.specs.Binding.{AreSymbolsOf}

@@ -25,7 +25,7 @@ use Rattle.link_model.specs.ImportTables.{link_pairs, modules_in, procs_in}
 use Rattle.link_model.specs.NothingDropped.{WholeLink}
 use Rattle.image_model.specs.Linked.{called}
 use Rattle.lx_fixrec.specs.Writable.{SelectorFits, NumbersFit, IsWritable, AreApart, MayBeWritten}
-use Rattle.lx_entry.specs.Exports.{ExportFits}
+use Rattle.lx_exports.specs.Exports.{ExportFits}
 use Rattle.lx_write.specs.declared.image.Image.{Image}
 use Rattle.lx_write.specs.LinkImages.{IsImageOfLink}
 use Rattle.lx_write.specs.Value.{TargetIsThere, CanBeWritten}

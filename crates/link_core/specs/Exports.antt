@@ -15,7 +15,7 @@ use Rattle.link_model.specs.declared.symbols.LaidObject.{LaidObject}
 use Rattle.link_model.specs.Goals.{Target, Internal, Constant, Entry}
 use Rattle.link_model.specs.ImportTables.{import_target, procs_in, name_offset, with_offset}
 use Rattle.image_model.specs.Exported.{forwarder_to}
-use Rattle.lx_entry.specs.declared.exports.OutEntry.{OutEntry}
+use Rattle.lx_exports.specs.declared.exports.OutEntry.{OutEntry}
 use Rattle.sym_table.specs.Symbols.{SymbolTable}
 use Rattle.sym_table.specs.Meanings.{global_in}
 use Rattle.seg_merge.specs.declared.places.Places.{Places}

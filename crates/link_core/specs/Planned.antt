@@ -13,7 +13,7 @@ use Rattle.link_model.specs.Refusal.{place_refusal}
 use Rattle.link_model.specs.Exports.{entry_refusal}
 use Rattle.lx_types.specs.declared.fail.Fail.{Fail}
 use Rattle.lx_types.specs.declared.fail.Fail.TheVariants.{Said, NoMemory}
-use Rattle.lx_entry.specs.Exports.{export_refusal}
+use Rattle.lx_exports.specs.Exports.{export_refusal}
 use Rattle.lx_write.specs.LinkImages.{IsImageOfLink}
 use Rattle.lx_write.specs.Value.{CanBeWritten}
 use Rattle.sym_table.specs.Binding.{IsBound}

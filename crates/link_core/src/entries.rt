@@ -15,7 +15,7 @@ use crate::exports::lead_of;
 use crate::tables::copied;
 use link_bytes::{ImportTables, Target};
 use link_model::LaidObject;
-use lx_entry::OutEntry;
+use lx_exports::OutEntry;
 use lx_types::{EntryHead, FixTarget, FwdKey, NoMemory, OBJECT_BIG, Seq};
 use lx_write::name_offsets;
 use obj_types::{Exp, Imp};

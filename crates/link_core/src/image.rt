@@ -14,7 +14,7 @@ use crate::ranges::fix_ranges;
 use crate::tables::{copied, link_tables};
 use link_fix::Placed;
 use link_model::LaidObject;
-use lx_entry::OutEntry;
+use lx_exports::OutEntry;
 use lx_types::{MODULE_INIT_EACH, MODULE_TERM_EACH, Name, Names, NoMemory, Seq};
 use lx_write::Image;
 use obj_types::{DefFile, LinkInput, ObjModule};

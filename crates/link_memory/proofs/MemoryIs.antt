@@ -39,7 +39,7 @@ use Rattle.link_bytes.specs.Marks.{HasBytes}
 use Rattle.link_bytes.specs.Pieces.{of_placed}
 use Rattle.link_bytes.specs.Shown.{shown}
 use Rattle.link_bytes.specs.declared.fixup.Fixup.{Fixup as PlacedFixup}
-use Rattle.lx_entry.specs.Exports.{export_refusal}
+use Rattle.lx_exports.specs.Exports.{export_refusal}
 use Rattle.link_core.specs.declared.planning.Plan.{Plan}
 use Rattle.link_core.specs.Planned.{IsPlanned}
 use Rattle.link_core.specs.Links.{RefusesLink}

@@ -4,7 +4,7 @@ use Rattle.std.specs.Option.{option_map, option_map_or}
 use Rattle.std.proofs.Common.{ap, sym, ◌∙◌, arith, get_or}
 use Rattle.std.proofs.lemmas.Bool.Decides.{nat_tests}
 use Rattle.lx_bytes.specs.LittleEndian.{little_bytes}
-use Rattle.lx_types.specs.Addresses.{tiled_selector, selected_offset}
+use Rattle.lx_types.specs.Addresses.{tiled_selector, selector}
 use Rattle.obj_types.specs.Items.{item}
 use Rattle.obj_types.specs.Location.{location_len, has_selector}
 use Rattle.obj_types.specs.declared.symbol.Imp.{Imp}
@@ -16,7 +16,7 @@ use Rattle.link_model.specs.Layout.{objects, object_flags}
 use Rattle.link_model.specs.Goals.{Target, Internal, Constant, Entry}
 use Rattle.link_model.specs.Fixups.{Fixup}
 use Rattle.link_model.specs.Patches.{linked_world}
-use Rattle.link_model.specs.Value.{Far, World, far_of, entry_point, selector, place_address, target_address, target_flags, relative_to_segment, relative_to_self, target_number, sum_number, value_bytes}
+use Rattle.link_model.specs.Value.{Far, World, far_of, entry_point, place_address, target_address, target_flags, relative_to_segment, relative_to_self, target_number, sum_number, value_bytes}
 use Rattle.link_bytes.proofs.PatchValues.{first_of_bytes}
 use Rattle.link_memory.specs.Values.{value_byte}
 
@@ -54,8 +54,8 @@ flags-are l os number flags is e = e ∙ ap (λ (xs : List LaidObject). option_m
 abbrev padded : ℕ → List ℕ
 padded n = little_bytes 4 n ++ (0 ∷ 0 ∷ [])
 
-pub selector-alone : (t v flags k : ℕ) (narrow : Bool) → k < 2 → slice_index (padded (selector flags narrow t)) k ≡ slice_index (relative_to_segment 2 t v flags narrow) k
-selector-alone t v flags k narrow h = sym (first_of_bytes 2 4 (selector flags narrow t) k (0 ∷ 0 ∷ []) h (omega arith))
+pub selector-alone : (t v flags k : ℕ) (narrow : Bool) → k < 2 → slice_index (padded (selector narrow flags t)) k ≡ slice_index (relative_to_segment 2 t v flags narrow) k
+selector-alone t v flags k narrow h = sym (first_of_bytes 2 4 (selector narrow flags t) k (0 ∷ 0 ∷ []) h (omega arith))
 
 pub near-pointer : (t v flags k : ℕ) (narrow : Bool) → k < 4 → slice_index (little_bytes 2 v ++ (little_bytes 2 (tiled_selector v) ++ (0 ∷ 0 ∷ []))) k ≡ slice_index (relative_to_segment 3 t v flags narrow) k
 near-pointer t v flags zero narrow h = refl

@@ -2,7 +2,6 @@
 
 ghost use Rattle.std.specs.Prelude.{◌≡◌, ◌≤◌, ◌<◌, ◌+◌, ◌%◌, ◌^◌, ◌++◌, ◌∷◌, [], ℕ, false, slice_index};
 ghost use Rattle.std.specs.Option.{option_map_or};
-ghost use Rattle.lx_types.specs.Addresses as addresses;
 ghost use Rattle.lx_bytes.specs.LittleEndian.{little_bytes};
 ghost use Rattle.obj_types.specs.Items.{item};
 ghost use Rattle.obj_types.specs.Location.{location_len};
@@ -14,8 +13,8 @@ ghost use Rattle.link_bytes.specs.Shown.{shown, target_shown};
 ghost use Rattle.link_memory.specs.Values.{value_byte};
 
 use link_bytes::{Fixup, Target};
-use link_model::{LaidObject, distance, selector_of, tiled_selector};
-use lx_types::OBJECT_BIG;
+use link_model::{LaidObject, distance};
+use lx_types::{selected_offset, selector, tiled_selector};
 
 fn object_at(objects: &[LaidObject], number: u32) -> LaidObject
     ensures base { result.base ≡ option_map_or (λ o. o.base) (item objects.now number) 0 }
@@ -114,25 +113,14 @@ fn far_pointer(offset: u32, selector: u16) -> [u8; 6]
     ]
 }
 
-// The offset that goes with the selector of an address, in an object with these flags.
-fn offset_of(flags: u32, address: u32) -> u32
-    ensures { result ≡ addresses.selected_offset false flags address }
-{
-    if flags & OBJECT_BIG == 0 {
-        address % 0x1_0000
-    } else {
-        address
-    }
-}
-
 // A segment-relative location, from its target's address and flags, and the sum with the number that stands in it.
 fn relative_to_segment(loc: u8, target: u32, sum: u32, flags: u32, narrow: bool) -> [u8; 6]
     ensures { (k : ℕ) → k < location_len loc → slice_index result k ≡ slice_index (rules.relative_to_segment loc target sum flags narrow) k }
 {
     match loc {
-        2 => bytes_of(u32::from(selector_of(flags, narrow, target))),
+        2 => bytes_of(u32::from(selector(narrow, flags, target))),
         3 => near_pointer(sum, tiled_selector(sum)),
-        11 => far_pointer(offset_of(flags, sum), selector_of(flags, false, sum)),
+        11 => far_pointer(selected_offset(false, flags, sum), selector(false, flags, sum)),
         _ => bytes_of(sum),
     }
 }

@@ -3,10 +3,9 @@ use Rattle.std.specs.Prelude.{ℕ, ◌+◌, ◌-◌, Bool, true, ◌&&◌, List,
 use Rattle.std.specs.List.{find}
 use Rattle.std.specs.Option.{option_map_or}
 use Rattle.lx_types.specs.Names.{uppercase}
-use Rattle.lx_types.specs.declared.object.TheConstants.{OBJECT_WRITABLE, OBJECT_EXECUTABLE, OBJECT_SHARED, OBJECT_ALIAS, OBJECT_BIG}
+use Rattle.lx_types.specs.declared.object.TheConstants.{OBJECT_READABLE, OBJECT_WRITABLE, OBJECT_EXECUTABLE, OBJECT_SHARED, OBJECT_PRELOAD, OBJECT_ALIAS, OBJECT_BIG, OBJECT_CONFORMING, OBJECT_IOPL}
 use Rattle.obj_types.specs.declared.definition.Attrs.{Attrs}
 use Rattle.obj_types.specs.declared.definition.SegAttrs.{SegAttrs}
-use Rattle.link_model.specs.declared.limits.TheConstants.{OBJECT_READABLE, OBJECT_PRELOAD, OBJECT_CONFORMING, OBJECT_IOPL}
 use Rattle.link_model.specs.Link.{Link}
 use Rattle.link_model.specs.Parts.{Part}
 pub use Rattle.lx_types.specs.Addresses.{is_big, is_executable}

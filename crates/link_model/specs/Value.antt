@@ -13,8 +13,7 @@ use Rattle.obj_types.specs.Location.{location_len}
 use Rattle.link_model.specs.Words.{wrapped, difference}
 use Rattle.link_model.specs.Link.{Link}
 use Rattle.link_model.specs.Symbols.{imports}
-use Rattle.lx_types.specs.Addresses.{address, selector as selector_for, selected_offset}
-pub use Rattle.lx_types.specs.Addresses.{tiled_selector as tiled}
+use Rattle.lx_types.specs.Addresses.{address, tiled_selector, selector, selected_offset}
 use Rattle.link_model.specs.Layout.{object_flags}
 use Rattle.link_model.specs.Goals.{Target, Internal, Constant, Entry}
 use Rattle.link_model.specs.Fixups.{Fixup, fix_refusal}
@@ -55,22 +54,17 @@ target_flags l w (Internal o offset) = object_flags l o
 target_flags l w (Constant value) = 0
 target_flags l w (Entry slot) = (far_of l w slot).flags
 
--- ---- selectors: tiled where the object is not big, and of location 2 in a 16-bit segment
-
-abbrev pub selector : ℕ → Bool → ℕ → ℕ
-selector flags in_16_bit a = selector_for in_16_bit flags a
-
 -- ---- values
 
 -- A segment-relative location, from T, V, the flags of the target's object, and whether the location's segment
--- is 16-bit.
+-- is 16-bit. A selector is tiled where the object is not big, and in location 2 of a 16-bit segment.
 abbrev pub relative_to_segment : ℕ → ℕ → ℕ → ℕ → Bool → List ℕ
 relative_to_segment loc t v flags narrow =
     if loc == 0 then little_bytes 1 v
     else if loc == 1 || loc == 5 then little_bytes 2 v
-    else if loc == 2 then little_bytes 2 (selector flags narrow t)
-    else if loc == 3 then little_bytes 2 v ++ little_bytes 2 (tiled v)
-    else if loc == 11 then little_bytes 4 (selected_offset false flags v) ++ little_bytes 2 (selector flags false v)
+    else if loc == 2 then little_bytes 2 (selector narrow flags t)
+    else if loc == 3 then little_bytes 2 v ++ little_bytes 2 (tiled_selector v)
+    else if loc == 11 then little_bytes 4 (selected_offset false flags v) ++ little_bytes 2 (selector false flags v)
     else little_bytes 4 v
 
 -- A self-relative location: V less the address after the location.

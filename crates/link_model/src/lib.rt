@@ -23,12 +23,9 @@ pub use laws::{
     no_record_is_dropped, one_segment_links_plainly, patches_stand_at_all_bases,
     segments_stand_in_objects, tables_grow_by_new_keys, values_fit_their_locations,
 };
-pub use limits::{
-    MAX_MEMORY, MAX_NARROW_OBJECT, MAX_NUMBER, MAX_OBJECTS, OBJECT_CONFORMING, OBJECT_IOPL,
-    OBJECT_PRELOAD, OBJECT_READABLE,
-};
+pub use limits::{MAX_MEMORY, MAX_NARROW_OBJECT, MAX_NUMBER, MAX_OBJECTS};
 pub use modules::{modules_at, number};
 pub use obj_types::{Bytes, EntryKey, Fail, Name, NoMemory, Seq};
 pub use refusals::{EntryRefusal, FixRefusal, LayRefusal, LinkRefusal, SymRefusal};
 pub use symbols::{LaidObject, Pick, SymDef};
-pub use values::{alignment_len, data_byte, distance, object_flags, selector_of, tiled_selector};
+pub use values::{alignment_len, data_byte, distance, object_flags};

@@ -4,10 +4,11 @@ ghost use Rattle.link_model.specs.Words as words;
 ghost use Rattle.link_model.specs.Parts as parts;
 ghost use Rattle.link_model.specs.Flags as flags;
 ghost use Rattle.link_model.specs.Data.{Data, covers};
-ghost use Rattle.link_model.specs.Value as value;
 
-use crate::{OBJECT_CONFORMING, OBJECT_IOPL, OBJECT_PRELOAD, OBJECT_READABLE};
-use lx_types::{OBJECT_ALIAS, OBJECT_BIG, OBJECT_EXECUTABLE, OBJECT_SHARED, OBJECT_WRITABLE};
+use lx_types::{
+    OBJECT_ALIAS, OBJECT_BIG, OBJECT_CONFORMING, OBJECT_EXECUTABLE, OBJECT_IOPL, OBJECT_PRELOAD,
+    OBJECT_READABLE, OBJECT_SHARED, OBJECT_WRITABLE,
+};
 use obj_types::{Attrs, ObjModule, Piece};
 
 /// The bytes of an alignment of SEGDEF.
@@ -50,27 +51,6 @@ pub fn distance(a: u32, b: u32) -> u32
     ensures { result ≡ words.difference a b }
 {
     a.wrapping_sub(b)
-}
-
-/// The tiled selector of an address: its 64 KiB block in the local descriptor table.
-pub fn tiled_selector(address: u32) -> u16
-    ensures { result ≡ value.tiled address }
-{
-    ((address / 65536 * 8 + 7) % 65536) as u16
-}
-
-/// The selector of an address in an object with these flags; `narrow` says that a selector alone is
-/// put into a 16-bit segment.
-pub fn selector_of(flags: u32, narrow: bool, address: u32) -> u16
-    ensures { result ≡ value.selector flags narrow address }
-{
-    if narrow || flags & OBJECT_BIG == 0 {
-        tiled_selector(address)
-    } else if flags & OBJECT_EXECUTABLE != 0 {
-        0x5B
-    } else {
-        0x53
-    }
 }
 
 fn piece_covers(piece: &Piece, seg: u32, offset: u32) -> bool

@@ -3,6 +3,7 @@ use Rattle.std.proofs.Common.{◌≡◌, ℕ, zero, suc, ◌+◌, ◌<◌, Bool,
 use Rattle.std.specs.Prelude.{IsErrAnd}
 use Rattle.std.specs.List.{flat_map}
 use Rattle.lx_bytes.specs.Cursor.{Cursor}
+use Rattle.lx_types.specs.Answers.{Tells, Gives, if_said_as}
 use Rattle.lx_types.specs.declared.refusal.LxRefusal.{LxRefusal}
 use Rattle.lx_types.specs.declared.refusal.LxKind.TheVariants.{EntryTable}
 use Rattle.lx_types.specs.declared.fail.Fail.{Fail}
@@ -17,8 +18,8 @@ use Rattle.lx_entry.specs.declared.bundles.Form.TheVariants.{Narrow, Gate, Wide,
 use Rattle.lx_entry.specs.declared.bundles.Head.{Head}
 use Rattle.lx_entry.specs.declared.refusal.TableRefusal.{TableRefusal}
 use Rattle.lx_entry.specs.Bundles.{entry_at, form_at, head_at, onto, Adds, AddsBundle, joined}
-use Rattle.lx_entry.specs.Gives.{refusal, Gives}
-use Rattle.lx_entry.proofs.Refusals.{gives_said, bundle_said}
+use Rattle.lx_entry.specs.Refusals.{refusal}
+use Rattle.lx_entry.proofs.Refusals.{gives_failed, bundle_failed}
 
 -- ---- a bundle is its head and its entries
 
@@ -152,12 +153,15 @@ entries_added objects imports last c d end h form before after is some added =
     subst (λ (p : List Numbered × Cursor). Added objects imports last c (last + h.count) before p.0 p.1) pair here
 
 -- what a refusal of the entries is of the bundle
+told_on : (objects imports last : ℕ) (c d : Cursor) (h : Head) (form : Form) (f : Fail TableRefusal) → head_at objects last c ≡ Ok (Some h, d) → h.form ≡ Some form →
+    Tells (if_said_as (refusal EntryTable) f) (bundle_entries h.count (last + 1) (entry_at form imports) d) → Tells (if_said_as (refusal EntryTable) f) (bundle_at objects imports last c)
+told_on objects imports last c d h form (Said r) is some told = entries_wrong objects imports last c d h form (refusal EntryTable r) is some told
+told_on objects imports last c d h form NoMemory is some told = tt
+
 pub pass_on : (objects imports last : ℕ) (c d : Cursor) (h : Head) (form : Form) (before after : List Numbered) (new : Cursor) (f : Fail TableRefusal) (answer : Result (Option ℕ) (Fail TableRefusal)) →
     head_at objects last c ≡ Ok (Some h, d) → h.form ≡ Some form → Adds (Err f) (bundle_entries h.count (last + 1) (entry_at form imports) d) before after new → IsErrAnd answer (λ e. e ≡ f) →
     AddsBundle answer (bundle_at objects imports last c) before after new
-pass_on objects imports last c d h form before after new (Said r) answer is some wrong e = bundle_said answer (bundle_at objects imports last c) before after new r e (entries_wrong objects imports last c d h form (refusal EntryTable r) is some wrong)
-pass_on objects imports last c d h form before after new NoMemory (Ok x) is some wrong e = absurd e
-pass_on objects imports last c d h form before after new NoMemory (Err f) is some wrong e = subst (λ (g : Fail TableRefusal). AddsBundle (Err g) (bundle_at objects imports last c) before after new) (sym e) tt
+pass_on objects imports last c d h form before after new f answer is some told e = bundle_failed answer (bundle_at objects imports last c) before after new f e (told_on objects imports last c d h form f is some told)
 
 -- ---- one bundle more
 
@@ -182,11 +186,14 @@ joined_more objects imports last next c d es before all e kept =
     joined_front before es (many (bundle_at objects imports) next d) ∙ sym (ap (joined before) (many_more (bundle_at objects imports) (bundle_shortens objects imports) last c d (es, next) e)) ∙ kept
 
 -- what a refusal of a bundle is of the table
+told_of : (objects imports last : ℕ) (c : Cursor) (before : List Numbered) (all : Result (List Numbered) LxRefusal) (f : Fail TableRefusal) → Tells (if_said_as (refusal EntryTable) f) (bundle_at objects imports last c) →
+    joined before (many (bundle_at objects imports) last c) ≡ all → Tells (if_said_as (refusal EntryTable) f) all
+told_of objects imports last c before all (Said r) told kept = joined_wrong objects imports last c (refusal EntryTable r) before all told kept
+told_of objects imports last c before all NoMemory told kept = tt
+
 pub refuse : (objects imports last : ℕ) (c : Cursor) (before after : List Numbered) (new : Cursor) (all : Result (List Numbered) LxRefusal) (f : Fail TableRefusal) (answer : Result (List Numbered) (Fail TableRefusal)) →
-    AddsBundle (Err f) (bundle_at objects imports last c) before after new → IsErrAnd answer (λ e. e ≡ f) → joined before (many (bundle_at objects imports) last c) ≡ all → Gives EntryTable (λ (es : List Numbered). es) answer all
-refuse objects imports last c before after new all (Said r) answer wrong e kept = gives_said EntryTable (λ (es : List Numbered). es) answer all r e (joined_wrong objects imports last c (refusal EntryTable r) before all wrong kept)
-refuse objects imports last c before after new all NoMemory (Ok x) wrong e kept = absurd e
-refuse objects imports last c before after new all NoMemory (Err f) wrong e kept = subst (λ (g : Fail TableRefusal). Gives EntryTable (λ (es : List Numbered). es) (Err g) all) (sym e) tt
+    AddsBundle (Err f) (bundle_at objects imports last c) before after new → IsErrAnd answer (λ e. e ≡ f) → joined before (many (bundle_at objects imports) last c) ≡ all → Gives (λ (es : List Numbered). es) (if_said_as (refusal EntryTable)) answer all
+refuse objects imports last c before after new all f answer told e kept = gives_failed EntryTable (λ (es : List Numbered). es) answer all f e (told_of objects imports last c before all f told kept)
 
 pub shorter : (objects imports last next : ℕ) (c d : Cursor) (es : List Numbered) → bundle_at objects imports last c ≡ Ok (Some (es, next), d) → length d.left < length c.left
 shorter objects imports last next c d es e = bundle_shortens objects imports last c d (es, next) e

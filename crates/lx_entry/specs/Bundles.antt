@@ -4,7 +4,7 @@ use Rattle.std.specs.List.{flat_map}
 use Rattle.lx_bytes.specs.Cursor.{Cursor}
 use Rattle.lx_types.specs.declared.entry.EntryHead.{EntryHead}
 use Rattle.lx_types.specs.declared.fail.Fail.{Fail}
-use Rattle.lx_types.specs.declared.fail.Fail.TheVariants.{Said, NoMemory}
+use Rattle.lx_types.specs.Answers.{Tells, if_said_as}
 use Rattle.lx_types.specs.declared.refusal.LxRefusal.{LxRefusal}
 use Rattle.lx_types.specs.declared.refusal.LxKind.TheVariants.{EntryTable}
 use Rattle.lx_model.specs.Reading.{fault, number, Read, ◌>>=◌, Many, whole}
@@ -13,7 +13,7 @@ use Rattle.lx_entry.specs.declared.bundles.Form.{Form}
 use Rattle.lx_entry.specs.declared.bundles.Form.TheVariants.{Narrow, Gate, Wide, Forwarder}
 use Rattle.lx_entry.specs.declared.bundles.Head.{Head}
 use Rattle.lx_entry.specs.declared.refusal.TableRefusal.{TableRefusal}
-use Rattle.lx_entry.specs.Gives.{refusal}
+use Rattle.lx_entry.specs.Refusals.{refusal}
 
 -- how an entry of a form is read
 abbrev pub entry_at : Form → ℕ → Cursor → Read EntryHead
@@ -54,15 +54,13 @@ onto before read = read >>= λ es. Ok (before ++ es.0, es.1)
 -- What a call answers that adds entries. Want of memory is free.
 abbrev pub Adds : Result (Unit {0}) (Fail TableRefusal) → Read (List Numbered) → List Numbered → List Numbered → Cursor → Type 0
 Adds (Ok done) read before after new = onto before read ≡ Ok (after, new)
-Adds (Err (Said r)) read before after new = read ≡ Err (refusal EntryTable r)
-Adds (Err NoMemory) read before after new = Unit {0}
+Adds (Err e) read before after new = Tells (if_said_as (refusal EntryTable) e) read
 
 -- What a call answers that adds the entries of the next bundle: the last ordinal, or none at the table's end.
 abbrev pub AddsBundle : Result (Option ℕ) (Fail TableRefusal) → Read (Option (List Numbered × ℕ)) → List Numbered → List Numbered → Cursor → Type 0
 AddsBundle (Ok None) read before after new = (read ≡ Ok (None, new)) × (after ≡ before)
 AddsBundle (Ok (Some last)) read before after new = (es : List Numbered) × (read ≡ Ok (Some (es, last), new)) × (after ≡ before ++ es)
-AddsBundle (Err (Said r)) read before after new = read ≡ Err (refusal EntryTable r)
-AddsBundle (Err NoMemory) read before after new = Unit {0}
+AddsBundle (Err e) read before after new = Tells (if_said_as (refusal EntryTable) e) read
 
 -- the entries of a table, of which these are those before the rest of its bundles
 abbrev pub joined : List Numbered → Many (List Numbered) → Result (List Numbered) LxRefusal

@@ -1,7 +1,2 @@
-pub mod Gives
+pub mod Refusals
 pub mod Bundles
-pub mod NameEntries
-pub mod Exports
-pub mod Marks
-pub mod Slots
-pub mod Writing

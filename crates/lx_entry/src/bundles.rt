@@ -2,13 +2,13 @@
 
 ghost use Rattle.std.specs.Prelude.{◌≡◌, ◌+◌, ◌≤◌, ◌<◌, ◌^◌, length, IfOk, IfSome};
 ghost use Rattle.lx_types.specs.declared.refusal.LxKind.TheVariants as kinds;
-ghost use Rattle.lx_types.specs.Sound.{IsNumberOf};
+ghost use Rattle.lx_types.specs.Answers.{Reads, Gives, told_as, if_said_as};
 ghost use Rattle.lx_model.specs.EntryTable.{at_entry, gate_entry, forward_entry, bundle_entries, bundle_of_type, bundle_at, entries_in};
-ghost use Rattle.lx_entry.specs.Gives.{Takes, Gives};
+ghost use Rattle.lx_entry.specs.Refusals.{refusal};
 ghost use Rattle.lx_entry.specs.Bundles.{entry_at, object_at, form_at, head_at, Adds, AddsBundle};
 
-use crate::fields::Fields;
 use crate::refusal::TableRefusal;
+use lx_fields::Fields;
 use lx_types::{EntryHead, Fail, FwdKey, Seq};
 use std::alloc::Global;
 
@@ -40,7 +40,7 @@ pub struct Head {
 
 #[tactic(auto, unfolding(lx_model::specs::EntryTable::at_entry))]
 fn narrow_entry(fields: &mut Fields, object: u32) -> Result<EntryHead, TableRefusal>
-    ensures { Takes kinds.EntryTable (λ head. head) result (at_entry 2 object)
+    ensures { Reads (λ head. head) (told_as (refusal kinds.EntryTable)) result (at_entry 2 object)
         fields.old fields.new }
 {
     let _flags = fields.byte()?;
@@ -50,7 +50,7 @@ fn narrow_entry(fields: &mut Fields, object: u32) -> Result<EntryHead, TableRefu
 
 #[tactic(auto, unfolding(lx_model::specs::EntryTable::gate_entry))]
 fn gate_entry(fields: &mut Fields, object: u32) -> Result<EntryHead, TableRefusal>
-    ensures { Takes kinds.EntryTable (λ head. head) result (gate_entry object)
+    ensures { Reads (λ head. head) (told_as (refusal kinds.EntryTable)) result (gate_entry object)
         fields.old fields.new }
 {
     let _flags = fields.byte()?;
@@ -61,7 +61,7 @@ fn gate_entry(fields: &mut Fields, object: u32) -> Result<EntryHead, TableRefusa
 
 #[tactic(auto, unfolding(lx_model::specs::EntryTable::at_entry))]
 fn wide_entry(fields: &mut Fields, object: u32) -> Result<EntryHead, TableRefusal>
-    ensures { Takes kinds.EntryTable (λ head. head) result (at_entry 4 object)
+    ensures { Reads (λ head. head) (told_as (refusal kinds.EntryTable)) result (at_entry 4 object)
         fields.old fields.new }
 {
     let _flags = fields.byte()?;
@@ -71,7 +71,7 @@ fn wide_entry(fields: &mut Fields, object: u32) -> Result<EntryHead, TableRefusa
 
 #[tactic(auto, unfolding(lx_model::specs::EntryTable::forward_entry))]
 fn forward_entry(fields: &mut Fields, imports: u32) -> Result<EntryHead, TableRefusal>
-    ensures { Takes kinds.EntryTable (λ head. head) result (forward_entry imports)
+    ensures { Reads (λ head. head) (told_as (refusal kinds.EntryTable)) result (forward_entry imports)
         fields.old fields.new }
 {
     let at = fields.at();
@@ -90,7 +90,7 @@ fn forward_entry(fields: &mut Fields, imports: u32) -> Result<EntryHead, TableRe
 }
 
 fn entry(fields: &mut Fields, form: Form, imports: u32) -> Result<EntryHead, TableRefusal>
-    ensures { Takes kinds.EntryTable (λ head. head) result (entry_at form imports)
+    ensures { Reads (λ head. head) (told_as (refusal kinds.EntryTable)) result (entry_at form imports)
         fields.old fields.new }
 {
     match form {
@@ -125,7 +125,7 @@ fn add_entries(
 
 // The number of an object that is there, in a bundle that begins at a place.
 fn object_number(fields: &mut Fields, objects: u32, bundle: u32) -> Result<u32, TableRefusal>
-    ensures { Takes kinds.EntryTable (λ object. object) result (object_at objects bundle)
+    ensures { Reads (λ object. object) (told_as (refusal kinds.EntryTable)) result (object_at objects bundle)
         fields.old fields.new }
 {
     let object = u32::from(fields.word()?);
@@ -145,7 +145,7 @@ fn form_of(
     objects: u32,
     bundle: u32,
 ) -> Result<Option<Form>, TableRefusal>
-    ensures { Takes kinds.EntryTable (λ form. form) result (form_at kind objects bundle)
+    ensures { Reads (λ form. form) (told_as (refusal kinds.EntryTable)) result (form_at kind objects bundle)
         fields.old fields.new }
 {
     match kind {
@@ -176,7 +176,7 @@ fn form_of(
 // What stands before the entries of the next bundle, behind the ordinal `last`. There is nothing
 // at the table's end.
 fn head_of(fields: &mut Fields, objects: u32, last: u32) -> Result<Option<Head>, TableRefusal>
-    ensures read { Takes kinds.EntryTable (λ head. head) result (head_at objects last)
+    ensures read { Reads (λ head. head) (told_as (refusal kinds.EntryTable)) result (head_at objects last)
         fields.old fields.new }
     ensures room { IfOk result (λ head. IfSome head (λ h. last + h.count ≤ 65535)) }
 {
@@ -231,7 +231,7 @@ pub fn read_entries(
     imports: u32,
 ) -> Result<Entries, Fail<TableRefusal>>
     requires { length bytes.now < 2 ^ 32 }
-    ensures { Gives kinds.EntryTable (λ entries. entries) result
+    ensures { Gives (λ entries. entries) (if_said_as (refusal kinds.EntryTable)) result
         (entries_in objects imports bytes.now) }
 {
     let mut fields = Fields::of(bytes);

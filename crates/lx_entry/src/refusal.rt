@@ -3,7 +3,7 @@
 ghost use Rattle.std.specs.Prelude.{◌≡◌, true};
 ghost use Rattle.lx_types.specs.declared.fail.Fail.TheVariants as fail;
 
-use crate::fields::Short;
+use lx_fields::Short;
 use lx_types::Fail;
 
 /// The first fault of a table: its place in the table's bytes, and whether it is a field that
@@ -30,13 +30,5 @@ impl From<TableRefusal> for Fail<TableRefusal> {
 
     fn from(refusal: TableRefusal) -> Fail<TableRefusal> {
         Fail::Said(refusal)
-    }
-}
-
-impl From<Short> for Fail<TableRefusal> {
-    ghost from_gives = { λ s e. e ≡ fail.Said (record { at = s.at; short = true }) };
-
-    fn from(short: Short) -> Fail<TableRefusal> {
-        Fail::Said(TableRefusal::from(short))
     }
 }

@@ -1,5 +1,5 @@
 -- One offset after another.
-use Rattle.std.proofs.Common.{◌≡◌, ℕ, suc, ◌+◌, ◌-◌, ◌<◌, List, [], ◌∷◌, Some, None, Result, Ok, Err, refl, sym, ap, subst, ◌∙◌, arith, length, ◌≤◌}
+use Rattle.std.proofs.Common.{◌≡◌, ℕ, suc, ◌+◌, ◌-◌, ◌<◌, List, [], ◌∷◌, Some, None, Result, Ok, Err, refl, sym, ap, subst, ◌∙◌, arith}
 use Rattle.std.specs.Prelude.{ℤ, IsErrAnd}
 use Rattle.lx_bytes.specs.Cursor.{Cursor}
 use Rattle.lx_types.specs.declared.refusal.LxRefusal.{LxRefusal}
@@ -10,8 +10,8 @@ use Rattle.lx_model.specs.Sources.{SourceKind}
 use Rattle.lx_model.specs.Records.{single_at, fixes_at_offsets}
 use Rattle.lx_types.specs.declared.fix.FixTarget.{FixTarget}
 use Rattle.lx_fixrec.specs.Sources.{offsets_left, Skips}
-use Rattle.lx_fixrec.specs.Reads.{fault_said}
-use Rattle.lx_fixrec.specs.declared.refusal.Fault.{Fault}
+use Rattle.lx_fixrec.specs.Reads.{refusal}
+use Rattle.lx_fixrec.specs.declared.refusal.RecRefusal.{RecRefusal}
 
 -- what is left of offsets: where it ends, all end, and its fault is that of all
 abbrev pub Follows : Read (List ℤ) → Read (List ℤ) → Type 0
@@ -63,9 +63,9 @@ follows_none count i source c all none f =
 pub follows_start : (count : ℕ) (source : Source) (c : Cursor) → Follows (offsets_at (count - 0) source c) (offsets_at count source c)
 follows_start count source c = let same : count ≡ count - 0 = omega arith in subst (λ (n : ℕ). Follows (offsets_at n source c) (offsets_at count source c)) same (follows_itself (offsets_at count source c))
 
-pub skip_said : (answer : Result (Unit {0}) Fault) (read : Cursor → Read (List ℤ)) (old new : Cursor) (f : Fault) → IsErrAnd answer (λ e. e ≡ f) → read old ≡ Err (fault_said f) → (fault_said f).at ≤ old.at + length old.left → Skips answer read old new
-skip_said (Ok x) read old new f is e le = absurd is
-skip_said (Err g) read old new f is e le = subst (λ (h : Fault). Skips (Err h) read old new) (sym is) (e, le)
+pub skip_said : (answer : Result (Unit {0}) RecRefusal) (read : Cursor → Read (List ℤ)) (old new : Cursor) (r : RecRefusal) → IsErrAnd answer (λ e. e ≡ r) → read old ≡ Err (refusal r) → Skips answer read old new
+skip_said (Ok x) read old new r is e = absurd is
+skip_said (Err g) read old new r is e = subst (λ (h : RecRefusal). Skips (Err h) read old new) (sym is) e
 
 -- ---- the offsets that are left, one by one
 

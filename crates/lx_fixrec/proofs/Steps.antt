@@ -12,8 +12,8 @@ use Rattle.lx_model.specs.Records.{next_record, record_at}
 use Rattle.lx_model.proofs.Many.{many_ends, many_more, many_fails}
 use Rattle.lx_model.proofs.Shortening.{record_shortens, record_leaves}
 use Rattle.lx_fixrec.specs.Left.{Placed, Left, left_of, sources_left, sources_of, behind, items_behind, Finds}
-use Rattle.lx_fixrec.specs.Reads.{fault_said}
-use Rattle.lx_fixrec.specs.declared.refusal.Fault.{Fault}
+use Rattle.lx_fixrec.specs.Reads.{refusal}
+use Rattle.lx_fixrec.specs.declared.refusal.RecRefusal.{RecRefusal}
 use Rattle.lx_fixrec.specs.declared.reader.Found.{Found}
 use Rattle.lx_fixrec.specs.declared.record.Record.{Record}
 use Rattle.lx_fixrec.specs.Sources.{fixes_left}
@@ -47,9 +47,9 @@ items_at c d fixes some is = ap (λ (m : Many model.Record). flat_map sources_of
 pub end_at : (c d : Cursor) (fixes : List Fix) → (length c.left ≡ 0 → ⊥) → record_at c ≡ Ok (fixes, d) → fault_of (behind c).end ≡ fault_of (behind d).end
 end_at c d fixes some is = ap (λ (m : Many model.Record). fault_of m.end) (at_record c d fixes some is)
 
-pub found_said : (answer : Result (Option Found) Fault) (old new : Cursor) (f : Fault) → IsErrAnd answer (λ e. e ≡ f) → items_behind old ≡ [] → fault_of (behind old).end ≡ Some (fault_said f) → (fault_said f).at ≤ old.at + length old.left → Finds answer old new
-found_said (Ok x) old new f is items end le = absurd is
-found_said (Err g) old new f is items end le = subst (λ (h : Fault). Finds (Err h) old new) (sym is) (items, end, le)
+pub found_said : (answer : Result (Option Found) RecRefusal) (old new : Cursor) (r : RecRefusal) → IsErrAnd answer (λ e. e ≡ r) → items_behind old ≡ [] → fault_of (behind old).end ≡ Some (refusal r) → Finds answer old new
+found_said (Ok x) old new r is items end = absurd is
+found_said (Err g) old new r is items end = subst (λ (h : RecRefusal). Finds (Err h) old new) (sym is) (items, end)
 
 pub items_end : (c : Cursor) → length c.left ≡ 0 → items_behind c ≡ []
 items_end c none = ap (λ (m : Many model.Record). flat_map sources_of m.items) (at_end c none)
@@ -91,8 +91,8 @@ left_none at current c d given items end none =
     (here, end, ap (λ (xs : List Placed). left_with at xs (fault_of (behind d).end)) same_items ∙ ap (λ (e : Option LxRefusal). left_with at (sources_left at current ++ items_behind c) e) same_end)
 
 -- a refusal comes
-pub left_refused : (at : ℕ) (current : Option Record) (c d : Cursor) (e : LxRefusal) (r : LxRefusal) → fixes_left current ≡ [] → items_behind c ≡ [] → fault_of (behind c).end ≡ Some e → r ≡ e → length d.left ≡ 0 →
+pub left_refused : (at : ℕ) (current : Option Record) (c d : Cursor) (r : LxRefusal) → fixes_left current ≡ [] → items_behind c ≡ [] → fault_of (behind c).end ≡ Some r → length d.left ≡ 0 →
     ((left_of at current c).items ≡ []) × ((left_of at current c).end ≡ Some r) × (left_of at None d ≡ record { at = at; items = []; end = None })
-left_refused at current c d e r given items end same none =
+left_refused at current c d r given items end none =
     let here : sources_left at current ++ items_behind c ≡ [] = ap (λ (fs : List Fix). map (λ (f : Fix). (at, f)) fs ++ items_behind c) given ∙ items in
-    (here, end ∙ ap (λ (x : LxRefusal). Some x) (sym same), ap (λ (xs : List Placed). left_with at xs (fault_of (behind d).end)) (items_end d none) ∙ ap (λ (x : Option LxRefusal). left_with at [] x) (end_end d none))
+    (here, end, ap (λ (xs : List Placed). left_with at xs (fault_of (behind d).end)) (items_end d none) ∙ ap (λ (x : Option LxRefusal). left_with at [] x) (end_end d none))

@@ -1,20 +1,17 @@
 -- The sources that are left of a page's records, and how they are given.
-use Rattle.std.specs.Prelude.{◌≡◌, ℕ, List, [], ◌∷◌, ◌++◌, ◌+◌, ◌≤◌, length, map, Option, Some, None, Result, Ok, Err}
+use Rattle.std.specs.Prelude.{◌≡◌, ℕ, List, [], ◌∷◌, ◌++◌, ◌+◌, length, map, Option, Some, None, Result, Ok, Err}
 use Rattle.std.specs.List.{flat_map}
 use Rattle.lx_bytes.specs.Cursor.{Cursor}
 use Rattle.lx_types.specs.declared.fix.Fix.{Fix}
 use Rattle.lx_types.specs.declared.refusal.LxRefusal.{LxRefusal}
-use Rattle.lx_types.specs.declared.refusal.LxKind.TheVariants as kinds
-use Rattle.lx_model.specs.Reading.{fault, fault_of, Many, many}
+use Rattle.lx_model.specs.Reading.{fault_of, Many, many}
 use Rattle.lx_model.specs.Records as model
 use Rattle.lx_model.specs.Records.{next_record, records_at}
 use Rattle.lx_fixrec.specs.Sources.{record_fixes, fixes_left, IsGood}
-use Rattle.lx_fixrec.specs.Reads.{fault_said}
-use Rattle.lx_fixrec.specs.declared.refusal.Fault.{Fault}
+use Rattle.lx_fixrec.specs.Reads.{refusal}
 use Rattle.lx_fixrec.specs.declared.reader.Found.{Found}
 use Rattle.lx_fixrec.specs.declared.record.Record.{Record}
 use Rattle.lx_fixrec.specs.declared.refusal.RecRefusal.{RecRefusal}
-use Rattle.lx_fixrec.specs.declared.refusal.RecRefusal.TheVariants.{Short, BadSource, Straddle}
 
 -- a source, and the place of its record
 abbrev pub Placed : Type 0
@@ -44,11 +41,6 @@ sources_left at current = map (λ f. (at, f)) (fixes_left current)
 abbrev pub left_of : ℕ → Option Record → Cursor → Left
 left_of at current c = left_behind at (sources_left at current) (many next_record tt c)
 
-abbrev pub refusal : RecRefusal → LxRefusal
-refusal (Short at) = fault kinds.Short at
-refusal (BadSource at) = fault kinds.BadSource at
-refusal (Straddle at) = fault kinds.Straddle at
-
 -- A call that gives the next source, or the refusal behind the last one.
 abbrev pub GivesNext : Option (Result Fix RecRefusal) → Left → Left → Type 0
 GivesNext (Some (Ok f)) old new = (old.items ≡ (new.at, f) ∷ new.items) × (new.end ≡ old.end)
@@ -63,11 +55,11 @@ abbrev pub items_behind : Cursor → List Placed
 items_behind c = flat_map sources_of (behind c).items
 
 -- A call that looks for the next record with a source: it passes over records without one.
-abbrev pub Finds : Result (Option Found) Fault → Cursor → Cursor → Type 0
+abbrev pub Finds : Result (Option Found) RecRefusal → Cursor → Cursor → Type 0
 Finds (Ok None) old new = (items_behind old ≡ []) × (fault_of (behind old).end ≡ None) × (length new.left ≡ 0)
 Finds (Ok (Some found)) old new =
     (items_behind old ≡ (found.at, found.fix) ∷ map (λ f. (found.at, f)) (record_fixes found.«record») ++ items_behind new) × (fault_of (behind old).end ≡ fault_of (behind new).end) × IsGood found.«record»
-Finds (Err f) old new = (items_behind old ≡ []) × (fault_of (behind old).end ≡ Some (fault_said f)) × ((fault_said f).at ≤ old.at + length old.left)
+Finds (Err r) old new = (items_behind old ≡ []) × (fault_of (behind old).end ≡ Some (refusal r))
 
 -- how many items come
 abbrev pub end_count : Option LxRefusal → ℕ

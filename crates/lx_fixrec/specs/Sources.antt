@@ -1,5 +1,5 @@
 -- A record and its sources, those that are left of it.
-use Rattle.std.specs.Prelude.{◌≡◌, ℕ, ◌+◌, ◌≤◌, ◌∷◌, [], List, length, ℤ, Option, Some, None, Result, Ok, Err}
+use Rattle.std.specs.Prelude.{◌≡◌, ℕ, ◌∷◌, [], List, ℤ, Option, Some, None, Result, Ok, Err}
 use Rattle.std.specs.Option.{ForSome}
 use Rattle.lx_bytes.specs.Cursor.{Cursor}
 use Rattle.lx_types.specs.declared.fix.Fix.{Fix}
@@ -7,8 +7,8 @@ use Rattle.lx_types.specs.declared.fix.Source.{Source}
 use Rattle.lx_model.specs.Reading.{Read, value_or, fault_of}
 use Rattle.lx_model.specs.RecordFields.{offsets_at}
 use Rattle.lx_model.specs.Records.{fixes_at_offsets}
-use Rattle.lx_fixrec.specs.Reads.{kind_of, fault_said}
-use Rattle.lx_fixrec.specs.declared.refusal.Fault.{Fault}
+use Rattle.lx_fixrec.specs.Reads.{kind_of, refusal}
+use Rattle.lx_fixrec.specs.declared.refusal.RecRefusal.{RecRefusal}
 use Rattle.lx_fixrec.specs.declared.record.Record.{Record}
 
 -- the offsets that are left of a record
@@ -26,9 +26,9 @@ abbrev pub IsGood : Record → Type 0
 IsGood r = fault_of (offsets_at r.left r.kind.source r.offsets) ≡ None
 
 -- a call that passes over offsets
-abbrev pub Skips : Result (Unit {0}) Fault → (Cursor → Read (List ℤ)) → Cursor → Cursor → Type 0
-Skips (Ok done) read old new = ((offsets : List ℤ) × (read old ≡ Ok (offsets, new))) × (new.at + length new.left ≡ old.at + length old.left)
-Skips (Err f) read old new = (read old ≡ Err (fault_said f)) × ((fault_said f).at ≤ old.at + length old.left)
+abbrev pub Skips : Result (Unit {0}) RecRefusal → (Cursor → Read (List ℤ)) → Cursor → Cursor → Type 0
+Skips (Ok done) read old new = (offsets : List ℤ) × (read old ≡ Ok (offsets, new))
+Skips (Err r) read old new = read old ≡ Err (refusal r)
 
 -- a call that gives the next source of a record
 abbrev pub GivesFix : Option Fix → Record → Record → Type 0

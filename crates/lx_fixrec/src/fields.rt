@@ -3,11 +3,12 @@
 ghost use Rattle.std.specs.Prelude.{◌≡◌};
 ghost use Rattle.lx_model.specs.Reading.{number};
 ghost use Rattle.lx_model.specs.RecordFields.{number_width, target_width, ordinal_width, additive_width, internal_at, target_of_kind, target_at, additive_at, offset_at};
-ghost use Rattle.lx_fixrec.specs.Reads.{Takes, ordinal_at, named_at, own_at};
+ghost use Rattle.lx_types.specs.Answers.{Reads, told_as};
+ghost use Rattle.lx_fixrec.specs.Reads.{refusal, ordinal_at, named_at, own_at};
 
-use crate::refusal::Fault;
+use crate::refusal::RecRefusal;
 use crate::sources::source_size;
-use lx_bytes::Cur;
+use lx_fields::Fields;
 use lx_types::{FixTarget, PAGE_SIZE, Source};
 
 pub const ADDITIVE: u8 = 0x04;
@@ -22,69 +23,50 @@ pub const BYTE_ORDINAL: u8 = 0x80;
 
 // ---- numbers
 
-/// The next byte.
-pub fn byte(cur: &mut Cur) -> Result<u8, Fault>
-    ensures { Takes (λ n. n) result (number 1) cur.old cur.new }
-{
-    Ok(cur.u8()?)
-}
-
-fn word(cur: &mut Cur) -> Result<u16, Fault>
-    ensures { Takes (λ n. n) result (number 2) cur.old cur.new }
-{
-    Ok(cur.u16()?)
-}
-
-fn doubleword(cur: &mut Cur) -> Result<u32, Fault>
-    ensures { Takes (λ n. n) result (number 4) cur.old cur.new }
-{
-    Ok(cur.u32()?)
-}
-
 // The number of an object or a module, or an ordinal of the entry table.
-fn short_number(cur: &mut Cur, flags: u8) -> Result<u32, Fault>
-    ensures { Takes (λ n. n) result (number (number_width flags)) cur.old cur.new }
+fn short_number(fields: &mut Fields, flags: u8) -> Result<u32, RecRefusal>
+    ensures { Reads (λ n. n) (told_as refusal) result (number (number_width flags)) fields.old fields.new }
 {
     if flags & WIDE_NUMBER == 0 {
-        Ok(u32::from(byte(cur)?))
+        Ok(u32::from(fields.byte()?))
     } else {
-        Ok(u32::from(word(cur)?))
+        Ok(u32::from(fields.word()?))
     }
 }
 
 // An offset in an object, or of a name.
-fn place_number(cur: &mut Cur, flags: u8) -> Result<u32, Fault>
-    ensures { Takes (λ n. n) result (number (target_width flags)) cur.old cur.new }
+fn place_number(fields: &mut Fields, flags: u8) -> Result<u32, RecRefusal>
+    ensures { Reads (λ n. n) (told_as refusal) result (number (target_width flags)) fields.old fields.new }
 {
     if flags & WIDE_TARGET == 0 {
-        Ok(u32::from(word(cur)?))
+        Ok(u32::from(fields.word()?))
     } else {
-        doubleword(cur)
+        Ok(fields.doubleword()?)
     }
 }
 
 // The ordinal of an import.
-fn import_ordinal(cur: &mut Cur, flags: u8) -> Result<u32, Fault>
-    ensures { Takes (λ n. n) result (number (ordinal_width flags)) cur.old cur.new }
+fn import_ordinal(fields: &mut Fields, flags: u8) -> Result<u32, RecRefusal>
+    ensures { Reads (λ n. n) (told_as refusal) result (number (ordinal_width flags)) fields.old fields.new }
 {
     if flags & BYTE_ORDINAL == 0 {
-        place_number(cur, flags)
+        place_number(fields, flags)
     } else {
-        Ok(u32::from(byte(cur)?))
+        Ok(u32::from(fields.byte()?))
     }
 }
 
 /// What is added to the target's address: 0 where the record has no additive.
 #[tactic(auto, unfolding(lx_model::specs::RecordFields::additive_at))]
-pub fn additive(cur: &mut Cur, flags: u8) -> Result<u32, Fault>
-    ensures { Takes (λ n. n) result (additive_at flags) cur.old cur.new }
+pub fn additive(fields: &mut Fields, flags: u8) -> Result<u32, RecRefusal>
+    ensures { Reads (λ n. n) (told_as refusal) result (additive_at flags) fields.old fields.new }
 {
     if flags & ADDITIVE == 0 {
         Ok(0)
     } else if flags & WIDE_ADDITIVE == 0 {
-        Ok(u32::from(word(cur)?))
+        Ok(u32::from(fields.word()?))
     } else {
-        doubleword(cur)
+        Ok(fields.doubleword()?)
     }
 }
 
@@ -92,67 +74,67 @@ pub fn additive(cur: &mut Cur, flags: u8) -> Result<u32, Fault>
 
 // An object's number and an offset. The target of a selector alone has no offset.
 #[tactic(auto, unfolding(lx_model::specs::RecordFields::internal_at))]
-fn internal(cur: &mut Cur, source: Source, flags: u8) -> Result<FixTarget, Fault>
-    ensures { Takes (λ t. t) result (internal_at source flags) cur.old cur.new }
+fn internal(fields: &mut Fields, source: Source, flags: u8) -> Result<FixTarget, RecRefusal>
+    ensures { Reads (λ t. t) (told_as refusal) result (internal_at source flags) fields.old fields.new }
 {
-    let object = short_number(cur, flags)?;
+    let object = short_number(fields, flags)?;
     match source {
         Source::Sel => Ok(FixTarget::Internal { object, offset: 0 }),
         _ => {
-            let offset = place_number(cur, flags)?;
+            let offset = place_number(fields, flags)?;
             Ok(FixTarget::Internal { object, offset })
         }
     }
 }
 
-fn by_ordinal(cur: &mut Cur, flags: u8) -> Result<FixTarget, Fault>
-    ensures { Takes (λ t. t) result (ordinal_at flags) cur.old cur.new }
+fn by_ordinal(fields: &mut Fields, flags: u8) -> Result<FixTarget, RecRefusal>
+    ensures { Reads (λ t. t) (told_as refusal) result (ordinal_at flags) fields.old fields.new }
 {
-    let import = short_number(cur, flags)?;
-    let ordinal = import_ordinal(cur, flags)?;
+    let import = short_number(fields, flags)?;
+    let ordinal = import_ordinal(fields, flags)?;
     Ok(FixTarget::Ordinal { import, ordinal })
 }
 
-fn by_name(cur: &mut Cur, flags: u8) -> Result<FixTarget, Fault>
-    ensures { Takes (λ t. t) result (named_at flags) cur.old cur.new }
+fn by_name(fields: &mut Fields, flags: u8) -> Result<FixTarget, RecRefusal>
+    ensures { Reads (λ t. t) (told_as refusal) result (named_at flags) fields.old fields.new }
 {
-    let import = short_number(cur, flags)?;
-    let name_at = place_number(cur, flags)?;
+    let import = short_number(fields, flags)?;
+    let name_at = place_number(fields, flags)?;
     Ok(FixTarget::Named { import, name_at })
 }
 
-fn own(cur: &mut Cur, flags: u8) -> Result<FixTarget, Fault>
-    ensures { Takes (λ t. t) result (own_at flags) cur.old cur.new }
+fn own(fields: &mut Fields, flags: u8) -> Result<FixTarget, RecRefusal>
+    ensures { Reads (λ t. t) (told_as refusal) result (own_at flags) fields.old fields.new }
 {
-    let ordinal = short_number(cur, flags)?;
+    let ordinal = short_number(fields, flags)?;
     Ok(FixTarget::Own { ordinal })
 }
 
 /// Where the address comes from, by the two low bits of the flags.
 #[tactic(auto, unfolding(lx_model::specs::RecordFields::target_of_kind))]
-pub fn target(cur: &mut Cur, source: Source, flags: u8) -> Result<FixTarget, Fault>
-    ensures { Takes (λ t. t) result (target_at source flags) cur.old cur.new }
+pub fn target(fields: &mut Fields, source: Source, flags: u8) -> Result<FixTarget, RecRefusal>
+    ensures { Reads (λ t. t) (told_as refusal) result (target_at source flags) fields.old fields.new }
 {
     match flags % 4 {
-        0 => internal(cur, source, flags),
-        1 => by_ordinal(cur, flags),
-        2 => by_name(cur, flags),
-        _ => own(cur, flags),
+        0 => internal(fields, source, flags),
+        1 => by_ordinal(fields, flags),
+        2 => by_name(fields, flags),
+        _ => own(fields, flags),
     }
 }
 
 // ---- offsets
 
 /// Where a source begins: within the page, or before it so that the source has a byte in it.
-pub fn offset(cur: &mut Cur, source: Source) -> Result<i32, Fault>
-    ensures { Takes (λ o. o) result (offset_at source) cur.old cur.new }
+pub fn offset(fields: &mut Fields, source: Source) -> Result<i32, RecRefusal>
+    ensures { Reads (λ o. o) (told_as refusal) result (offset_at source) fields.old fields.new }
 {
-    let at = cur.at();
-    let word = word(cur)?;
+    let at = fields.at();
+    let word = fields.word()?;
     let place = u32::from(word);
     if place < PAGE_SIZE || place + source_size(source) > 0x1_0000 {
         Ok(i32::from(word.cast_signed()))
     } else {
-        Err(Fault::Straddle { at })
+        Err(RecRefusal::Straddle { at })
     }
 }

@@ -1,12 +1,11 @@
 //! The records of a page, one source after another.
 
 ghost use Rattle.std.specs.Prelude.{◌≡◌, ◌+◌, ◌<◌, ◌^◌, length};
-ghost use Rattle.std.specs.Prelude.{OnOk};
 ghost use Rattle.lx_fixrec.specs.Left.{left_in, Finds};
 
 use crate::record::{Record, next_fix, next_of, record_at};
-use crate::refusal::{Fault, RecRefusal, refusal_of};
-use lx_bytes::Cur;
+use crate::refusal::RecRefusal;
+use lx_fields::Fields;
 use lx_types::Fix;
 use std::marker::Model;
 
@@ -19,14 +18,12 @@ pub struct Found<'a> {
 }
 
 // The next record that has a source, and its first source. There is none where the bytes end.
-fn next_record<'a>(cur: &mut Cur<'a>) -> Result<Option<Found<'a>>, Fault>
-    requires { cur.old.at + length cur.old.left < 2 ^ 32 }
-    ensures found { Finds result cur.old cur.new }
-    ensures within { OnOk result (cur.new.at + length cur.new.left ≡ cur.old.at + length cur.old.left) }
+fn next_record<'a>(fields: &mut Fields<'a>) -> Result<Option<Found<'a>>, RecRefusal>
+    ensures { Finds result fields.old fields.new }
 {
-    while cur.left() > 0 {
-        let at = cur.at() as u32;
-        let mut record = record_at(cur)?;
+    while fields.left() > 0 {
+        let at = fields.at();
+        let mut record = record_at(fields)?;
         if let Some(fix) = next_fix(&mut record) {
             return Ok(Some(Found { at, fix, record }));
         }
@@ -38,22 +35,21 @@ fn next_record<'a>(cur: &mut Cur<'a>) -> Result<Option<Found<'a>>, Fault>
 /// only at the end of the records.
 #[derive(Drop)]
 pub struct Records<'a> {
-    cur: Cur<'a>,
+    fields: Fields<'a>,
     at: u32,
     current: Option<Record<'a>>,
 }
 
 impl<'a> Model for Records<'a> {
-    ghost use Rattle.std.specs.Prelude.{◌+◌, ◌<◌, ◌^◌, length};
     ghost use Rattle.std.specs.Option.{ForSome};
     ghost use Rattle.lx_fixrec.specs.Left.{Left, left_of};
     ghost use Rattle.lx_fixrec.specs.Sources.{IsGood};
 
     ghost Value = { Left };
 
-    ghost view = { λ r. left_of r.at r.current r.cur };
+    ghost view = { λ r. left_of r.at r.current r.fields };
 
-    ghost invariant = { λ r. (r.cur.at + length r.cur.left < 2 ^ 32) × ForSome r.current IsGood };
+    ghost invariant = { λ r. ForSome r.current IsGood };
 }
 
 impl<'a> Records<'a> {
@@ -63,7 +59,7 @@ impl<'a> Records<'a> {
         ensures { result ≡ left_in at bytes.now }
     {
         Records {
-            cur: Cur::of_part(bytes, at as usize),
+            fields: Fields::of_part(bytes, at),
             at,
             current: None,
         }
@@ -91,7 +87,7 @@ impl<'a> Iterator for Records<'a> {
         if let Some(fix) = next_of(&mut self.current) {
             return Some(Ok(fix));
         }
-        match next_record(&mut self.cur) {
+        match next_record(&mut self.fields) {
             Ok(Some(found)) => {
                 self.at = found.at;
                 self.current = Some(found.record);
@@ -101,11 +97,11 @@ impl<'a> Iterator for Records<'a> {
                 self.current = None;
                 None
             }
-            Err(fault) => {
+            Err(refusal) => {
                 // Nothing is read behind a refusal.
-                self.cur = Cur::of(&[]);
+                self.fields = Fields::of(&[]);
                 self.current = None;
-                Some(Err(refusal_of(fault)))
+                Some(Err(refusal))
             }
         }
     }

@@ -4,13 +4,14 @@ ghost use Rattle.std.specs.Prelude.{◌≡◌, IfOk, IfSome, MatchOption};
 ghost use Rattle.std.specs.Option.{ForSome};
 ghost use Rattle.lx_model.specs.RecordFields.{offsets_at};
 ghost use Rattle.lx_model.specs.Records.{single_at, list_at, record_at};
-ghost use Rattle.lx_fixrec.specs.Reads.{Takes, kind_of};
+ghost use Rattle.lx_types.specs.Answers.{Reads, told_as};
+ghost use Rattle.lx_fixrec.specs.Reads.{refusal, kind_of};
 ghost use Rattle.lx_fixrec.specs.Sources.{record_fixes, fix_of, IsGood, Skips, GivesFix, GivesLeft};
 
-use crate::fields::{additive, byte, offset, target};
-use crate::refusal::Fault;
+use crate::fields::{additive, offset, target};
+use crate::refusal::RecRefusal;
 use crate::sources::{Kind, kind_of};
-use lx_bytes::Cur;
+use lx_fields::Fields;
 use lx_types::{Fix, FixTarget, Source};
 
 /// A flag: the record begins a chain of fixups in the page image.
@@ -24,29 +25,29 @@ pub struct Record<'a> {
     pub target: FixTarget,
     pub additive: u32,
     pub left: u8,
-    pub offsets: Cur<'a>,
+    pub offsets: Fields<'a>,
 }
 
 // Passes over the offsets of a list, and judges them.
-fn skip_offsets(cur: &mut Cur, count: u8, source: Source) -> Result<(), Fault>
-    ensures { Skips result (offsets_at count source) cur.old cur.new }
+fn skip_offsets(fields: &mut Fields, count: u8, source: Source) -> Result<(), RecRefusal>
+    ensures { Skips result (offsets_at count source) fields.old fields.new }
 {
     for _ in 0..count {
-        offset(cur, source)?;
+        offset(fields, source)?;
     }
     Ok(())
 }
 
 // One source: the offset, the target, the additive.
 #[tactic(auto, unfolding(lx_model::specs::Records::single_at))]
-fn single<'a>(cur: &mut Cur<'a>, kind: Kind, flags: u8) -> Result<Record<'a>, Fault>
-    ensures read { Takes record_fixes result (single_at (kind_of kind) flags) cur.old cur.new }
+fn single<'a>(fields: &mut Fields<'a>, kind: Kind, flags: u8) -> Result<Record<'a>, RecRefusal>
+    ensures read { Reads record_fixes (told_as refusal) result (single_at (kind_of kind) flags) fields.old fields.new }
     ensures good { IfOk result (λ r. IsGood r) }
 {
-    let offsets = cur.fork();
-    offset(cur, kind.source)?;
-    let target = target(cur, kind.source, flags)?;
-    let additive = additive(cur, flags)?;
+    let offsets = fields.fork();
+    offset(fields, kind.source)?;
+    let target = target(fields, kind.source, flags)?;
+    let additive = additive(fields, flags)?;
     Ok(Record {
         kind,
         target,
@@ -58,15 +59,15 @@ fn single<'a>(cur: &mut Cur<'a>, kind: Kind, flags: u8) -> Result<Record<'a>, Fa
 
 // A list: how many, the target, the additive, the offsets.
 #[tactic(auto, unfolding(lx_model::specs::Records::list_at))]
-fn list<'a>(cur: &mut Cur<'a>, kind: Kind, flags: u8) -> Result<Record<'a>, Fault>
-    ensures read { Takes record_fixes result (list_at (kind_of kind) flags) cur.old cur.new }
+fn list<'a>(fields: &mut Fields<'a>, kind: Kind, flags: u8) -> Result<Record<'a>, RecRefusal>
+    ensures read { Reads record_fixes (told_as refusal) result (list_at (kind_of kind) flags) fields.old fields.new }
     ensures good { IfOk result (λ r. IsGood r) }
 {
-    let left = byte(cur)?;
-    let target = target(cur, kind.source, flags)?;
-    let additive = additive(cur, flags)?;
-    let offsets = cur.fork();
-    skip_offsets(cur, left, kind.source)?;
+    let left = fields.byte()?;
+    let target = target(fields, kind.source, flags)?;
+    let additive = additive(fields, flags)?;
+    let offsets = fields.fork();
+    skip_offsets(fields, left, kind.source)?;
     Ok(Record {
         kind,
         target,
@@ -78,22 +79,22 @@ fn list<'a>(cur: &mut Cur<'a>, kind: Kind, flags: u8) -> Result<Record<'a>, Faul
 
 /// The record that stands at the cursor, judged whole.
 #[tactic(auto, unfolding(lx_model::specs::Records::record_at))]
-pub fn record_at<'a>(cur: &mut Cur<'a>) -> Result<Record<'a>, Fault>
-    ensures read { Takes record_fixes result record_at cur.old cur.new }
+pub fn record_at<'a>(fields: &mut Fields<'a>) -> Result<Record<'a>, RecRefusal>
+    ensures read { Reads record_fixes (told_as refusal) result record_at fields.old fields.new }
     ensures good { IfOk result (λ r. IsGood r) }
 {
-    let at = cur.at();
-    let source = byte(cur)?;
+    let at = fields.at();
+    let source = fields.byte()?;
     let Some(kind) = kind_of(source) else {
-        return Err(Fault::BadSource { at });
+        return Err(RecRefusal::BadSource { at });
     };
-    let flags = byte(cur)?;
+    let flags = fields.byte()?;
     if flags & CHAIN != 0 {
-        Err(Fault::BadSource { at })
+        Err(RecRefusal::BadSource { at })
     } else if kind.listed {
-        list(cur, kind, flags)
+        list(fields, kind, flags)
     } else {
-        single(cur, kind, flags)
+        single(fields, kind, flags)
     }
 }
 

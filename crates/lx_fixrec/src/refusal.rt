@@ -1,11 +1,9 @@
 //! Why fixup records are not read.
 
-ghost use Rattle.std.specs.Prelude.{◌≡◌, ◌<◌, ◌^◌};
-ghost use Rattle.lx_fixrec.specs.Reads.{fault_said};
-ghost use Rattle.lx_fixrec.specs.Left.{refusal};
-ghost use Rattle.lx_fixrec.specs.declared.refusal.Fault.TheVariants as fault;
+ghost use Rattle.std.specs.Prelude.{◌≡◌};
+ghost use Rattle.lx_fixrec.specs.declared.refusal.RecRefusal.TheVariants as refusals;
 
-use lx_bytes::Short;
+use lx_fields::Short;
 use thiserror::Error;
 
 /// The first fault of fixup records. Places are places in the file.
@@ -22,30 +20,10 @@ pub enum RecRefusal {
     Straddle { at: u32 },
 }
 
-/// The first fault of a record, with its place as the cursor has it.
-#[derive(Clone, Copy, Debug)]
-pub enum Fault {
-    Short { at: usize },
-    BadSource { at: usize },
-    Straddle { at: usize },
-}
+impl From<Short> for RecRefusal {
+    ghost from_gives = { λ s r. r ≡ refusals.Short s.at };
 
-impl From<Short> for Fault {
-    ghost from_gives = { λ s f. f ≡ fault.Short s.at };
-
-    fn from(short: Short) -> Fault {
-        Fault::Short { at: short.at }
-    }
-}
-
-/// The refusal of a fault.
-pub fn refusal_of(fault: Fault) -> RecRefusal
-    requires { (fault_said fault).at < 2 ^ 32 }
-    ensures { refusal result ≡ fault_said fault }
-{
-    match fault {
-        Fault::Short { at } => RecRefusal::Short { at: at as u32 },
-        Fault::BadSource { at } => RecRefusal::BadSource { at: at as u32 },
-        Fault::Straddle { at } => RecRefusal::Straddle { at: at as u32 },
+    fn from(short: Short) -> RecRefusal {
+        RecRefusal::Short { at: short.at }
     }
 }

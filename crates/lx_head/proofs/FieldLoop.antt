@@ -10,7 +10,8 @@ use Rattle.lx_model.specs.Header.{Row, row, row_fault, rows}
 use Rattle.lx_head.specs.declared.rows.Field.{Field}
 use Rattle.lx_head.specs.declared.rows.TheConstants.{FIELDS}
 use Rattle.lx_head.specs.Rows.{row_of, fault_among, fields_fault}
-use Rattle.lx_head.specs.Judged.{Judged}
+use Rattle.lx_types.specs.Answers.{as_is}
+use Rattle.lx_model.specs.Judging.{Judged}
 
 -- ---- the loop
 
@@ -29,7 +30,7 @@ unfolding fault_among
 all_good fs i file place ended = rw (drop_all i fs ended) refl
 
 -- a refusal that is handed on
-pub refused : {A : Type 0} (answer : Result A LxRefusal) (fault : Option LxRefusal) (e : LxRefusal) → IsErrAnd answer (λ x. x ≡ e) → fault ≡ Some e → Judged answer fault
+pub refused : {A : Type 0} (answer : Result A LxRefusal) (fault : Option LxRefusal) (e : LxRefusal) → IsErrAnd answer (λ x. x ≡ e) → fault ≡ Some e → Judged as_is answer fault
 refused (Ok x) fault e is wrong = absurd is
 refused (Err x) fault e is wrong = wrong ∙ ap Some (sym is)
 
@@ -63,6 +64,6 @@ pub room : (file : List ℕ) (place : ℕ) → fields_fault file place ≡ None 
 unfolding fields_fault
 room file place none = room_of file place (last_good (row_fault file place) (take 44 rows) heap none)
 
-pub room_where_good : (answer : Result (Unit {0}) LxRefusal) (file : List ℕ) (place : ℕ) → Judged answer (fields_fault file place) → OnOk answer (place + 172 ≤ length file)
+pub room_where_good : (answer : Result (Unit {0}) LxRefusal) (file : List ℕ) (place : ℕ) → Judged as_is answer (fields_fault file place) → OnOk answer (place + 172 ≤ length file)
 room_where_good (Ok done) file place good = room file place good
 room_where_good (Err e) file place wrong = tt

@@ -5,7 +5,7 @@ use Rattle.std.proofs.lemmas.List.{get_or-drop, get_or-take}
 use Rattle.byteorder.specs.Endian.{little_from, IsRead, little_number}
 use Rattle.lx_model.specs.Reading.{number_at}
 use Rattle.lx_model.specs.Header.{header_place, header_fields, field}
-use Rattle.lx_head.specs.Judged.{doublewords_at}
+use Rattle.lx_head.specs.Reading.{doublewords_at}
 use Rattle.std.proofs.lemmas.Grind.{same_number_lists}
 use Rattle.std.proofs.lemmas.List.FromFn.{get_or-map-range_with_len, length-map-range_with_len}
 

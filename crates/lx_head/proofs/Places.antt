@@ -9,7 +9,7 @@ use Rattle.lx_model.specs.Header.{is_lx_at, header_place, place_fault, header_fa
 use Rattle.lx_types.specs.declared.refusal.LxRefusal.{LxRefusal}
 use Rattle.std.specs.Prelude.{Result, Ok, Err, IsErrAnd}
 use Rattle.lx_head.specs.declared.head.Head.{Head}
-use Rattle.lx_head.specs.Judged.{ReadsHead}
+use Rattle.lx_head.specs.Reading.{ReadsHead}
 use Rattle.lx_head.specs.Rows.{fields_fault}
 
 pub place_first : (file : List ℕ) → is_lx_at file 0 ≡ true → header_place file ≡ 0

@@ -1,3 +1,3 @@
 pub mod Accepted
 pub mod Rows
-pub mod Judged
+pub mod Reading

@@ -3,17 +3,10 @@ use Rattle.std.specs.Prelude.{ℕ, ◌==◌, ◌&&◌, Bool, true, nat_le, List,
 use Rattle.lx_types.specs.declared.refusal.LxRefusal.{LxRefusal}
 use Rattle.lx_model.specs.Reading.{first}
 use Rattle.lx_model.specs.Header.{Row, row, is_module_flags, row_fault, rows}
+use Rattle.lx_fields.specs.Places.{bytes_in}
 use Rattle.lx_head.specs.declared.rows.Allowed.{Allowed}
 use Rattle.lx_head.specs.declared.rows.Allowed.TheVariants.{Any, Only, Between, AtMost, ModuleFlags}
-use Rattle.lx_head.specs.declared.rows.Width.{Width}
-use Rattle.lx_head.specs.declared.rows.Width.TheVariants.{Byte, Word, Doubleword}
 use Rattle.lx_head.specs.declared.rows.Field.{Field}
-
--- how many bytes a field has
-abbrev pub bytes_in : Width → ℕ
-bytes_in Byte = 1
-bytes_in Word = 2
-bytes_in Doubleword = 4
 
 -- what a field may be
 abbrev pub allows : Allowed → ℕ → Bool

@@ -1,12 +1,15 @@
 //! How a header is found and read ("LX Header").
 
 ghost use Rattle.std.specs.Prelude.{◌≡◌, ◌+◌, ◌≤◌, length, IfOk};
+ghost use Rattle.lx_types.specs.Answers.{as_is};
+ghost use Rattle.lx_model.specs.Judging.{Judged};
 ghost use Rattle.lx_model.specs.Header.{is_lx_at, header_place, place_fault};
-ghost use Rattle.lx_head.specs.Judged.{Judged, ReadsHead, doublewords_at};
+ghost use Rattle.lx_head.specs.Reading.{ReadsHead, doublewords_at};
 
 use crate::head::Head;
-use crate::rows::{Width, judge_fields, number};
+use crate::rows::judge_fields;
 use byteorder::{ByteOrder, LittleEndian};
+use lx_fields::{Width, number};
 use lx_types::{LxKind, LxRefusal};
 
 /// `LX`, as a word.
@@ -27,7 +30,7 @@ fn is_lx(bytes: &[u8], at: u32) -> bool
 
 // Where the header stands.
 fn find_header(bytes: &[u8]) -> Result<u32, LxRefusal>
-    ensures judged { Judged result (place_fault bytes.now) }
+    ensures judged { Judged as_is result (place_fault bytes.now) }
     ensures place { IfOk result (λ place. place ≡ header_place bytes.now) }
 {
     if is_lx(bytes, 0) {

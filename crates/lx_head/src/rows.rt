@@ -1,20 +1,13 @@
 //! The fields of the header, and what each may be ("LX Header").
 
-ghost use Rattle.std.specs.Prelude.{◌≡◌, ◌+◌, ◌<◌, ◌≤◌, ◌^◌, length, OnOk};
+ghost use Rattle.std.specs.Prelude.{◌≡◌, ◌+◌, ◌≤◌, length, OnOk};
+ghost use Rattle.lx_types.specs.Answers.{as_is};
+ghost use Rattle.lx_model.specs.Judging.{Judged};
 ghost use Rattle.lx_model.specs.Header.{row_fault};
-ghost use Rattle.lx_head.specs.Rows.{bytes_in, allows, row_of, fault_among, fields_fault};
-ghost use Rattle.lx_head.specs.Judged.{Judged, IsNumberAt};
+ghost use Rattle.lx_head.specs.Rows.{allows, row_of, fault_among, fields_fault};
 
-use byteorder::{ByteOrder, LittleEndian};
+use lx_fields::{Width, number};
 use lx_types::{LxKind, LxRefusal, MODULE_KIND, MODULE_LIBRARY, PAGE_SIZE};
-
-/// How many bytes a field has.
-#[derive(Clone, Copy)]
-pub enum Width {
-    Byte,
-    Word,
-    Doubleword,
-}
 
 /// What a field may be.
 #[derive(Clone, Copy)]
@@ -37,27 +30,6 @@ pub struct Field {
     pub kind: LxKind,
 }
 
-/// The number in the bytes at a place, the lowest first; `None` where they pass the end.
-pub fn number(bytes: &[u8], at: usize, width: Width) -> Option<u32>
-    requires { at < 2 ^ 63 }
-    ensures { IsNumberAt result (bytes_in width) bytes.now at }
-{
-    let count = match width {
-        Width::Byte => 1,
-        Width::Word => 2,
-        Width::Doubleword => 4,
-    };
-    if bytes.len() < at + count {
-        return None;
-    }
-    let field = &bytes[at..];
-    Some(match width {
-        Width::Byte => u32::from(field[0]),
-        Width::Word => u32::from(LittleEndian::read_u16(field)),
-        Width::Doubleword => LittleEndian::read_u32(field),
-    })
-}
-
 impl Allowed {
     fn allows(self, value: u32) -> bool
         ensures { result ≡ allows self value }
@@ -78,7 +50,7 @@ impl Allowed {
 impl Field {
     // The field of a header at `place`.
     fn judge(self, bytes: &[u8], place: u32) -> Result<(), LxRefusal>
-        ensures { Judged result (row_fault bytes.now place (row_of self)) }
+        ensures { Judged as_is result (row_fault bytes.now place (row_of self)) }
     {
         let at = place as usize + usize::from(self.offset);
         let Some(value) = number(bytes, at, self.width) else {
@@ -246,7 +218,7 @@ const FIELDS: [Field; 45] = [
 
 // Whether each of the fields of a header at `place` is there and has a value that is allowed.
 fn judge_all(fields: &[Field], bytes: &[u8], place: u32) -> Result<(), LxRefusal>
-    ensures { Judged result (fault_among fields.now bytes.now place) }
+    ensures { Judged as_is result (fault_among fields.now bytes.now place) }
 {
     for field in fields {
         field.judge(bytes, place)?;
@@ -257,7 +229,7 @@ fn judge_all(fields: &[Field], bytes: &[u8], place: u32) -> Result<(), LxRefusal
 /// Whether each field of a header at `place` is there and has a value that is allowed: the first
 /// one that is not, by offset, is told.
 pub fn judge_fields(bytes: &[u8], place: u32) -> Result<(), LxRefusal>
-    ensures judged { Judged result (fields_fault bytes.now place) }
+    ensures judged { Judged as_is result (fields_fault bytes.now place) }
     ensures room { OnOk result (place + 172 ≤ length bytes.now) }
 {
     judge_all(&FIELDS, bytes, place)

@@ -1,4 +1,5 @@
 pub mod Reading
+pub mod Judging
 pub mod Header
 pub mod Iterated
 pub mod Packed

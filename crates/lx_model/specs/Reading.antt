@@ -6,6 +6,7 @@ use Rattle.lx_bytes.specs.LittleEndian.{little}
 use Rattle.lx_types.specs.declared.refusal.LxRefusal.{LxRefusal}
 use Rattle.lx_types.specs.declared.refusal.LxKind.{LxKind}
 use Rattle.lx_types.specs.declared.refusal.LxKind.TheVariants.{Short}
+pub use Rattle.lx_types.specs.Answers.{◌>>=◌}
 
 -- what is wrong, and where
 abbrev pub fault : LxKind → ℕ → LxRefusal
@@ -42,11 +43,6 @@ first_of n fault_of = first (map fault_of (range_with_len 0 n))
 -- What a reading gives: a value and the cursor behind it, or the fault.
 abbrev pub Read : Type 0 → Type 0
 Read A = Result (A × Cursor) LxRefusal
-
-infixl 10 ◌>>=◌
-abbrev pub ◌>>=◌ : {A B : Type 0} → Result A LxRefusal → (A → Result B LxRefusal) → Result B LxRefusal
-(Ok x) >>= f = f x
-(Err e) >>= f = Err e
 
 -- a cursor at the first of the bytes, which stand at a place
 abbrev pub cursor : ℕ → List ℕ → Cursor

@@ -18,7 +18,8 @@ use Rattle.lx_model.specs.Module.{Targets, targets_in, is_target, target_fault, 
 use Rattle.lx_model.proofs.Once.{among, once_more}
 use Rattle.lx_model.proofs.Soundness.{spans_fit}
 use Rattle.lx_fixrec.specs.Left.{Placed, sources_of, left_in}
-use Rattle.lx_read.specs.Judging.{Gives}
+use Rattle.lx_types.specs.Answers.{if_said}
+use Rattle.lx_model.specs.Judging.{Judges}
 use Rattle.lx_read.specs.References.{with_target, with_targets, source_fault, left_fault, left_targets, AddsPage}
 
 -- ---- a page's sources are those of its records
@@ -172,7 +173,7 @@ page_good file k within place old new done targets is lt adds kept =
     (added.1 ∙ ap (λ (ts : List FixTarget). with_targets old ts) (left_named s.0 (span file s.0 s.1))) kept
 
 pub page_bad : (file : List ℕ) (k : ℕ) (within : Targets) (place : ℕ × ℕ) (old new : List FixTarget) (f : Fail LxRefusal) (value : List FixTarget) → within ≡ targets_in file → place ≡ records_span file k → k < page_count file →
-    AddsPage (Err f) within (left_in place.0 (span file place.0 place.1)) old new → PagesKept file k old → Gives (Err f) value (first_of (page_count file) (page_records_fault file))
+    AddsPage (Err f) within (left_in place.0 (span file place.0 place.1)) old new → PagesKept file k old → Judges if_said (Err f) value (first_of (page_count file) (page_records_fault file))
 page_bad file k within place old new NoMemory value targets is lt adds kept = tt
 page_bad file k within place old new (Said e) value targets is lt adds kept =
     let s = records_span file k in

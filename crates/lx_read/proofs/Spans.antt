@@ -7,7 +7,8 @@ use Rattle.lx_types.specs.declared.refusal.LxRefusal.{LxRefusal}
 use Rattle.lx_model.specs.Reading.{first, first_of}
 use Rattle.lx_model.specs.Header.{page_count}
 use Rattle.lx_model.specs.FixupPages.{has_records, records_place, spans_of, span_fault, spans_fault}
-use Rattle.lx_read.specs.Judging.{Judges, Gives, handed_on}
+use Rattle.lx_types.specs.Answers.{as_is, if_said, as_said}
+use Rattle.lx_model.specs.Judging.{Judges}
 use Rattle.lx_read.proofs.TableLoop.{Kept, entry_wrong, entry_read, table_read, gives_said, judged_wrong, judged_right}
 
 -- where the records of page k begin and end, and what is wrong with the entry behind its own
@@ -70,13 +71,13 @@ has_none file false place is = refl
 -- ---- the loop
 
 pub span_wrong : (file : List ℕ) (k from : ℕ) (spans : List (ℕ × ℕ)) (judged : Result ℕ LxRefusal) (h : Fail LxRefusal) (answer : Result (List (ℕ × ℕ)) (Fail LxRefusal)) →
-    k < page_count file → Judges judged (records_place file (k + 1)) (next_fault file k) → Err h ≡ handed_on judged → IsErrAnd answer (λ x. x ≡ h) → SpansKept file k from spans → Gives answer (spans_of file) (spans_fault file)
+    k < page_count file → Judges as_is judged (records_place file (k + 1)) (next_fault file k) → Err h ≡ as_said judged → IsErrAnd answer (λ x. x ≡ h) → SpansKept file k from spans → Judges if_said answer (spans_of file) (spans_fault file)
 span_wrong file k from spans judged h answer lt j is answered kept =
     let wrong = judged_wrong judged (records_place file (k + 1)) (next_fault file k) h j is in
     entry_wrong (next_fault file) (span_at file) (page_count file) k spans (Err wrong.0) h answer (spans_of file) (spans_fault file) (spans_judged file kept.has kept.first_good) lt wrong.2 (let same = wrong.1 in cc) answered kept.kept
 
 pub span_read : (file : List ℕ) (k from to : ℕ) (spans pushed : List (ℕ × ℕ)) (judged : Result ℕ LxRefusal) →
-    k < page_count file → Judges judged (records_place file (k + 1)) (next_fault file k) → Ok to ≡ handed_on judged → pushed ≡ spans ++ (from, to) ∷ [] → SpansKept file k from spans → SpansKept file (k + 1) to pushed
+    k < page_count file → Judges as_is judged (records_place file (k + 1)) (next_fault file k) → Ok to ≡ as_said judged → pushed ≡ spans ++ (from, to) ∷ [] → SpansKept file k from spans → SpansKept file (k + 1) to pushed
 span_read file k from to spans pushed judged lt j is push kept =
     let right = judged_right judged (records_place file (k + 1)) to (next_fault file k) j is in
     let span : (from, to) ≡ span_at file k = (let a = kept.place in let b = right.1 in cc) in
@@ -92,7 +93,7 @@ spans_read file k from spans ended kept =
     table_read (next_fault file) (span_at file) (page_count file) k spans (spans_of file) (spans_fault file) (spans_judged file kept.has kept.first_good) (spans_are file kept.has) ended kept.kept
 
 pub start_wrong : (file : List ℕ) (judged : Result ℕ LxRefusal) (h : Fail LxRefusal) (answer : Result (List (ℕ × ℕ)) (Fail LxRefusal)) →
-    has_records file ≡ true → Judges judged (records_place file 0) (span_fault file 0) → Err h ≡ handed_on judged → IsErrAnd answer (λ x. x ≡ h) → Gives answer (spans_of file) (spans_fault file)
+    has_records file ≡ true → Judges as_is judged (records_place file 0) (span_fault file 0) → Err h ≡ as_said judged → IsErrAnd answer (λ x. x ≡ h) → Judges if_said answer (spans_of file) (spans_fault file)
 start_wrong file judged h answer has j is answered =
     let wrong = judged_wrong judged (records_place file 0) (span_fault file 0) h j is in
     gives_said answer (spans_of file) (spans_fault file) wrong.0 (subst (λ (x : Fail LxRefusal). IsErrAnd answer (λ y. y ≡ x)) wrong.1 answered) (first_wrong file wrong.0 has wrong.2)

@@ -8,7 +8,8 @@ use Rattle.lx_types.specs.declared.refusal.LxRefusal.{LxRefusal}
 use Rattle.lx_model.specs.Reading.{first, first_of}
 use Rattle.lx_model.specs.Header.{page_count, object_count}
 use Rattle.lx_model.specs.Tables.{object_entry, object_place, object_fault, objects_of, objects_fault, page_entry, page_place, page_or_zero, page_fault, page_heads, pages_fault}
-use Rattle.lx_read.specs.Judging.{Judges, Gives, handed_on}
+use Rattle.lx_types.specs.Answers.{as_is, if_said, as_said}
+use Rattle.lx_model.specs.Judging.{Judges}
 
 -- the entries so far with those that are left are all of them, and what is wrong is wrong with those that are left
 pub record Kept {X : Type 0} (f : ℕ → Option LxRefusal) (g : ℕ → X) (n k : ℕ) (before : List X) : Type 0 where
@@ -49,32 +50,32 @@ kept_end {X} f g n k before ended kept =
 
 -- ---- what a reader of a table answers
 
-pub judged_wrong : {X : Type 0} (judged : Result X LxRefusal) (value : X) (one : Option LxRefusal) (h : Fail LxRefusal) → Judges judged value one → Err h ≡ handed_on judged → (e : LxRefusal) × (h ≡ Said e) × (one ≡ Some e)
+pub judged_wrong : {X : Type 0} (judged : Result X LxRefusal) (value : X) (one : Option LxRefusal) (h : Fail LxRefusal) → Judges as_is judged value one → Err h ≡ as_said judged → (e : LxRefusal) × (h ≡ Said e) × (one ≡ Some e)
 judged_wrong (Ok x) value one h j is = absurd cc
 judged_wrong (Err e) value one h j is = (e, (let same : h ≡ Said e = cc in same), j)
 
-pub judged_right : {X : Type 0} (judged : Result X LxRefusal) (value x : X) (one : Option LxRefusal) → Judges judged value one → Ok x ≡ handed_on judged → (one ≡ None) × (x ≡ value)
+pub judged_right : {X : Type 0} (judged : Result X LxRefusal) (value x : X) (one : Option LxRefusal) → Judges as_is judged value one → Ok x ≡ as_said judged → (one ≡ None) × (x ≡ value)
 judged_right (Ok y) value x one j is = (j.0, (let same : x ≡ y = cc in same ∙ j.1))
 judged_right (Err e) value x one j is = absurd cc
 
 -- a failure that is handed on says the same
-pub failed : {A : Type 0} (answer : Result A (Fail LxRefusal)) (value : A) (fault : Option LxRefusal) (f : Fail LxRefusal) → IsErrAnd answer (λ x. x ≡ f) → Gives (Err f) value fault → Gives answer value fault
+pub failed : {A : Type 0} (answer : Result A (Fail LxRefusal)) (value : A) (fault : Option LxRefusal) (f : Fail LxRefusal) → IsErrAnd answer (λ x. x ≡ f) → Judges if_said (Err f) value fault → Judges if_said answer value fault
 failed (Ok x) value fault f is said = absurd is
-failed (Err g) value fault f is said = subst (λ (h : Fail LxRefusal). Gives (Err h) value fault) (sym is) said
+failed (Err g) value fault f is said = subst (λ (h : Fail LxRefusal). Judges if_said (Err h) value fault) (sym is) said
 
 -- a refusal that is handed on is the fault
-pub gives_said : {A : Type 0} (answer : Result A (Fail LxRefusal)) (value : A) (fault : Option LxRefusal) (e : LxRefusal) → IsErrAnd answer (λ f. f ≡ Said e) → fault ≡ Some e → Gives answer value fault
+pub gives_said : {A : Type 0} (answer : Result A (Fail LxRefusal)) (value : A) (fault : Option LxRefusal) (e : LxRefusal) → IsErrAnd answer (λ f. f ≡ Said e) → fault ≡ Some e → Judges if_said answer value fault
 gives_said (Ok x) value fault e is wrong = absurd is
-gives_said (Err f) value fault e is wrong = subst (λ (h : Fail LxRefusal). Gives (Err h) value fault) (sym is) wrong
+gives_said (Err f) value fault e is wrong = subst (λ (h : Fail LxRefusal). Judges if_said (Err h) value fault) (sym is) wrong
 
 pub entry_wrong : {X : Type 0} (f : ℕ → Option LxRefusal) (g : ℕ → X) (n k : ℕ) (before : List X) (judged : Result X LxRefusal) (h : Fail LxRefusal) (answer : Result (List X) (Fail LxRefusal)) (value : List X) (fault : Option LxRefusal) →
-    fault ≡ first_of n f → k < n → Judges judged (g k) (f k) → Err h ≡ handed_on judged → IsErrAnd answer (λ x. x ≡ h) → Kept f g n k before → Gives answer value fault
+    fault ≡ first_of n f → k < n → Judges as_is judged (g k) (f k) → Err h ≡ as_said judged → IsErrAnd answer (λ x. x ≡ h) → Kept f g n k before → Judges if_said answer value fault
 entry_wrong f g n k before judged h answer value fault all lt j is answered kept =
     let wrong = judged_wrong judged (g k) (f k) h j is in
     gives_said answer value fault wrong.0 (subst (λ (x : Fail LxRefusal). IsErrAnd answer (λ y. y ≡ x)) wrong.1 answered) (all ∙ kept_wrong f g n k before wrong.0 lt wrong.2 kept)
 
 pub entry_read : {X : Type 0} (f : ℕ → Option LxRefusal) (g : ℕ → X) (n k : ℕ) (before pushed : List X) (judged : Result X LxRefusal) (x : X) →
-    k < n → Judges judged (g k) (f k) → Ok x ≡ handed_on judged → pushed ≡ before ++ x ∷ [] → Kept f g n k before → Kept f g n (k + 1) pushed
+    k < n → Judges as_is judged (g k) (f k) → Ok x ≡ as_said judged → pushed ≡ before ++ x ∷ [] → Kept f g n k before → Kept f g n (k + 1) pushed
 entry_read {X} f g n k before pushed judged x lt j is push kept =
     let right = judged_right judged (g k) x (f k) j is in
     let same : pushed ≡ before ++ g k ∷ [] = push ∙ ap (λ (y : X). before ++ y ∷ []) right.1 in

@@ -15,8 +15,9 @@ use Rattle.lx_model.specs.Module.{LxFault, IsRead, parts_of}
 use Rattle.lx_model.proofs.Entries.{Run-pairs, run_of_table}
 use Rattle.lx_model.proofs.Meaning.{sound}
 use Rattle.lx_read.specs.Headers.{IsHeaderOf, ReadsHeader}
-use Rattle.lx_read.specs.Judging.{Gives, handed_on}
-use Rattle.lx_read.specs.Reading.{fault_in_pages, fault_in_links, IsFoundIn, FailsWith, Finds}
+use Rattle.lx_types.specs.Answers.{if_said, as_said}
+use Rattle.lx_model.specs.Judging.{Judges, IsFault}
+use Rattle.lx_read.specs.Reading.{fault_in_pages, fault_in_links, IsFoundIn, Finds}
 use Rattle.lx_read.specs.declared.header.Header.{Header}
 use Rattle.lx_read.specs.declared.reading.Found.{Found}
 
@@ -57,26 +58,26 @@ links_wrong file x header pages wrong = judged file ∙ ap (λ (y : Option LxRef
 
 -- ---- what is handed on
 
-failed : (file : List ℕ) (answer : Result Found (Fail LxRefusal)) (f : Fail LxRefusal) → IsErrAnd answer (λ x. x ≡ f) → FailsWith f (LxFault file) → Finds answer file
+failed : (file : List ℕ) (answer : Result Found (Fail LxRefusal)) (f : Fail LxRefusal) → IsErrAnd answer (λ x. x ≡ f) → IsFault (if_said f) (LxFault file) → Finds answer file
 failed file (Ok found) f is said = absurd is
-failed file (Err g) f is said = subst (λ (h : Fail LxRefusal). FailsWith h (LxFault file)) (sym is) said
+failed file (Err g) f is said = subst (λ (h : Fail LxRefusal). IsFault (if_said h) (LxFault file)) (sym is) said
 
-header_failed : (file : List ℕ) (read : Result Header LxRefusal) (f : Fail LxRefusal) → ReadsHeader read file → Err f ≡ handed_on read → FailsWith f (LxFault file)
+header_failed : (file : List ℕ) (read : Result Header LxRefusal) (f : Fail LxRefusal) → ReadsHeader read file → Err f ≡ as_said read → IsFault (if_said f) (LxFault file)
 header_failed file (Ok header) f reads is = absurd cc
-header_failed file (Err e) f reads is = let same : Said e ≡ f = cc in subst (λ (h : Fail LxRefusal). FailsWith h (LxFault file)) same (header_wrong file e reads)
+header_failed file (Err e) f reads is = let same : Said e ≡ f = cc in subst (λ (h : Fail LxRefusal). IsFault (if_said h) (LxFault file)) same (header_wrong file e reads)
 
-pub no_header : (file : List ℕ) (read : Result Header LxRefusal) (f : Fail LxRefusal) (answer : Result Found (Fail LxRefusal)) → ReadsHeader read file → Err f ≡ handed_on read → IsErrAnd answer (λ x. x ≡ f) → Finds answer file
+pub no_header : (file : List ℕ) (read : Result Header LxRefusal) (f : Fail LxRefusal) (answer : Result Found (Fail LxRefusal)) → ReadsHeader read file → Err f ≡ as_said read → IsErrAnd answer (λ x. x ≡ f) → Finds answer file
 no_header file read f answer reads is answered = failed file answer f answered (header_failed file read f reads is)
 
-pub header_read : (file : List ℕ) (read : Result Header LxRefusal) (header : Header) → ReadsHeader read file → Ok header ≡ handed_on read → (header_fault file ≡ None) × IsHeaderOf file header
+pub header_read : (file : List ℕ) (read : Result Header LxRefusal) (header : Header) → ReadsHeader read file → Ok header ≡ as_said read → (header_fault file ≡ None) × IsHeaderOf file header
 header_read file (Ok found) header reads is = let same : found ≡ header = cc in subst (λ (h : Header). (header_fault file ≡ None) × IsHeaderOf file h) same reads
 header_read file (Err e) header reads is = absurd cc
 
-pub no_pages : {A : Type 0} (file : List ℕ) (value : A) (f : Fail LxRefusal) (answer : Result Found (Fail LxRefusal)) → header_fault file ≡ None → Gives (Err f) value (fault_in_pages file) → IsErrAnd answer (λ x. x ≡ f) → Finds answer file
+pub no_pages : {A : Type 0} (file : List ℕ) (value : A) (f : Fail LxRefusal) (answer : Result Found (Fail LxRefusal)) → header_fault file ≡ None → Judges if_said (Err f) value (fault_in_pages file) → IsErrAnd answer (λ x. x ≡ f) → Finds answer file
 no_pages file value (Said e) answer header wrong answered = failed file answer (Said e) answered (pages_wrong file e header wrong)
 no_pages file value NoMemory answer header wrong answered = failed file answer NoMemory answered tt
 
-pub no_links : {A : Type 0} (file : List ℕ) (value : A) (f : Fail LxRefusal) (answer : Result Found (Fail LxRefusal)) → header_fault file ≡ None → fault_in_pages file ≡ None → Gives (Err f) value (fault_in_links file) → IsErrAnd answer (λ x. x ≡ f) → Finds answer file
+pub no_links : {A : Type 0} (file : List ℕ) (value : A) (f : Fail LxRefusal) (answer : Result Found (Fail LxRefusal)) → header_fault file ≡ None → fault_in_pages file ≡ None → Judges if_said (Err f) value (fault_in_links file) → IsErrAnd answer (λ x. x ≡ f) → Finds answer file
 no_links file value (Said e) answer header pages wrong answered = failed file answer (Said e) answered (links_wrong file (Some e) header pages wrong)
 no_links file value NoMemory answer header pages wrong answered = failed file answer NoMemory answered tt
 

@@ -1,4 +1,4 @@
-pub mod Judging
+pub mod Fields
 pub mod Headers
 pub mod Pages
 pub mod Tables

@@ -1,9 +1,10 @@
 -- What the reader has found of a file, part by part.
 use Rattle.std.specs.Prelude.{◌≡◌, ℕ, List, [], ◌++◌, Option, Some, None, Result, Ok, Err}
 use Rattle.lx_types.specs.declared.fail.Fail.{Fail}
-use Rattle.lx_types.specs.declared.fail.Fail.TheVariants.{Said, NoMemory}
+use Rattle.lx_types.specs.Answers.{if_said}
 use Rattle.lx_types.specs.declared.refusal.LxRefusal.{LxRefusal}
 use Rattle.lx_model.specs.Reading.{first_of, ◌then◌, value_or}
+use Rattle.lx_model.specs.Judging.{IsFault}
 use Rattle.lx_model.specs.Header.{page_count, start_of, start_fault}
 use Rattle.lx_model.specs.Tables.{objects_of, objects_fault, page_heads, pages_fault}
 use Rattle.lx_model.specs.NameTables.{resident_names, other_names, import_names, resident_fault, others_fault, imports_fault, name_of, names_after_first}
@@ -50,10 +51,6 @@ pub record IsFoundIn (file : List ℕ) (found : Found) : Type 0 where
   pub links : found.links ≡ links_in file
 
 -- Of a file with a fault the first one is said. Want of memory is free.
-abbrev pub FailsWith : Fail LxRefusal → Option LxRefusal → Type 0
-FailsWith (Said e) fault = fault ≡ Some e
-FailsWith NoMemory fault = Unit {0}
-
 abbrev pub Finds : Result Found (Fail LxRefusal) → List ℕ → Type 0
 Finds (Ok found) file = (LxFault file ≡ None) × IsFoundIn file found
-Finds (Err why) file = FailsWith why (LxFault file)
+Finds (Err why) file = IsFault (if_said why) (LxFault file)

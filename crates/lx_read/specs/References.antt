@@ -2,11 +2,12 @@
 use Rattle.std.specs.Prelude.{◌≡◌, ◌&&◌, not, List, [], ◌∷◌, ◌++◌, map, fold, Option, Some, None, Result, Ok, Err, if◌then◌else◌}
 use Rattle.std.specs.List.{list_any}
 use Rattle.lx_types.specs.declared.fail.Fail.{Fail}
-use Rattle.lx_types.specs.declared.fail.Fail.TheVariants.{Said, NoMemory}
+use Rattle.lx_types.specs.Answers.{if_said}
 use Rattle.lx_types.specs.declared.fix.FixTarget.{FixTarget}
 use Rattle.lx_types.specs.declared.refusal.LxRefusal.{LxRefusal}
 use Rattle.lx_types.specs.declared.refusal.LxKind.TheVariants.{BadTarget}
 use Rattle.lx_model.specs.Reading.{fault, first, ◌then◌}
+use Rattle.lx_model.specs.Judging.{IsFault}
 use Rattle.lx_model.specs.Module.{Targets, is_target, same_target, is_reference}
 use Rattle.lx_fixrec.specs.Left.{Placed, Left}
 
@@ -30,5 +31,4 @@ left_targets left = map (λ s. s.1.target) left.items
 -- What a call answers that adds the targets of a page's sources. Want of memory is free.
 abbrev pub AddsPage : Result (Unit {0}) (Fail LxRefusal) → Targets → Left → List FixTarget → List FixTarget → Type 0
 AddsPage (Ok done) within left old new = (left_fault within left ≡ None) × (new ≡ with_targets old (left_targets left))
-AddsPage (Err (Said e)) within left old new = left_fault within left ≡ Some e
-AddsPage (Err NoMemory) within left old new = Unit {0}
+AddsPage (Err e) within left old new = IsFault (if_said e) (left_fault within left)

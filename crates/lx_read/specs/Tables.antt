@@ -5,7 +5,7 @@ use Rattle.lx_types.specs.declared.fail.Fail.TheVariants.{Said, NoMemory}
 use Rattle.lx_types.specs.declared.refusal.LxRefusal.{LxRefusal}
 use Rattle.lx_types.specs.declared.refusal.LxKind.{LxKind}
 use Rattle.lx_model.specs.Reading.{fault}
-use Rattle.lx_entry.specs.Gives.{refusal}
+use Rattle.lx_entry.specs.Refusals.{refusal}
 use Rattle.lx_entry.specs.declared.refusal.TableRefusal.{TableRefusal}
 
 -- what is wrong with a table of a kind that stands at a place

@@ -2,9 +2,10 @@
 
 ghost use Rattle.std.specs.Prelude.{◌≡◌, ◌<◌, ◌^◌};
 ghost use Rattle.lx_model.specs.Reading.{fault};
-ghost use Rattle.lx_read.specs.Judging.{handed_on, IsField};
+ghost use Rattle.lx_types.specs.Answers.{as_said};
+ghost use Rattle.lx_read.specs.Fields.{IsField};
 
-use byteorder::{ByteOrder, LittleEndian};
+use lx_fields::{Width, number};
 use lx_types::{Fail, LxKind, LxRefusal};
 
 /// What is wrong, and where.
@@ -19,10 +20,10 @@ pub fn word(file: &[u8], at: u64) -> Result<u32, LxRefusal>
     requires { at < 2 ^ 62 }
     ensures { IsField 2 result file.now at }
 {
-    if (file.len() as u64) < at + 2 {
-        return Err(fault(LxKind::Short, at));
+    match number(file, at as usize, Width::Word) {
+        Some(number) => Ok(number),
+        None => Err(fault(LxKind::Short, at)),
     }
-    Ok(u32::from(LittleEndian::read_u16(&file[at as usize..])))
 }
 
 /// The number in the four bytes at a place. It is `Short` there where they pass the file's end.
@@ -30,15 +31,15 @@ pub fn doubleword(file: &[u8], at: u64) -> Result<u32, LxRefusal>
     requires { at < 2 ^ 62 }
     ensures { IsField 4 result file.now at }
 {
-    if (file.len() as u64) < at + 4 {
-        return Err(fault(LxKind::Short, at));
+    match number(file, at as usize, Width::Doubleword) {
+        Some(number) => Ok(number),
+        None => Err(fault(LxKind::Short, at)),
     }
-    Ok(LittleEndian::read_u32(&file[at as usize..]))
 }
 
 /// A judgement, in a call that takes memory.
 pub fn said<T>(judged: Result<T, LxRefusal>) -> Result<T, Fail<LxRefusal>>
-    ensures { result ≡ handed_on judged }
+    ensures { result ≡ as_said judged }
 {
     match judged {
         Ok(value) => Ok(value),

@@ -4,7 +4,8 @@ ghost use Rattle.std.specs.Prelude.{◌≡◌, ◌-◌, ◌==◌, IfOk, Some, ma
 ghost use Rattle.std.specs.List.{range_with_len};
 ghost use Rattle.lx_model.specs.FixupPages.{records_place, span_fault, spans_of, spans_fault};
 ghost use Rattle.lx_read.specs.Headers.{IsHeaderOf};
-ghost use Rattle.lx_read.specs.Judging.{Judges, Gives};
+ghost use Rattle.lx_types.specs.Answers.{as_is, if_said};
+ghost use Rattle.lx_model.specs.Judging.{Judges};
 
 use crate::fields::{doubleword, fault, said};
 use crate::header::Header;
@@ -26,7 +27,7 @@ fn records_place(
     requires header { IsHeaderOf file.now header.now }
     requires table { header.now.fixup_pages ≡ Some table }
     requires before { before ≡ (if k == 0 then 0 else records_place file.now (k - 1)) }
-    ensures { Judges result (records_place file.now k) (span_fault file.now k) }
+    ensures { Judges as_is result (records_place file.now k) (span_fault file.now k) }
 {
     let at = table + 4 * u64::from(k);
     let place = header.fixup_records + u64::from(doubleword(file, at)?);
@@ -51,7 +52,7 @@ fn no_spans(alloc: Global, pages: u32) -> Result<Spans, NoMemory>
 /// is `FixTable` at its entry, and an entry that passes the file's end is `Short`.
 pub fn read_spans(alloc: Global, file: &[u8], header: &Header) -> Result<Spans, Fail<LxRefusal>>
     requires { IsHeaderOf file.now header.now }
-    ensures { Gives result (spans_of file.now) (spans_fault file.now) }
+    ensures { Judges if_said result (spans_of file.now) (spans_fault file.now) }
 {
     let Some(table) = header.fixup_pages else {
         return Ok(no_spans(alloc, header.pages)?);

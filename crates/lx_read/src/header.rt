@@ -3,7 +3,8 @@
 ghost use Rattle.std.specs.Prelude.{◌≡◌, ◌+◌, ◌<◌, ◌^◌, ℕ, List, length};
 ghost use Rattle.lx_model.specs.Header.{start_of, start_fault};
 ghost use Rattle.lx_read.specs.Headers.{IsNear, IsHeadOf, IsHeaderOf, ReadsHeader};
-ghost use Rattle.lx_read.specs.Judging.{Judges};
+ghost use Rattle.lx_types.specs.Answers.{as_is};
+ghost use Rattle.lx_model.specs.Judging.{Judges};
 
 use crate::fields::fault;
 use lx_head::{Head, read_head};
@@ -92,7 +93,7 @@ pub fn read_header(file: &[u8]) -> Result<Header, LxRefusal>
 /// otherwise it is `Field` at the header's field 18h.
 pub fn read_start(file: &[u8], header: &Header) -> Result<Option<(u32, u32)>, LxRefusal>
     requires { IsHeaderOf file.now header.now }
-    ensures { Judges result (start_of file.now) (start_fault file.now) }
+    ensures { Judges as_is result (start_of file.now) (start_fault file.now) }
 {
     let (object, _) = header.start;
     if object > header.objects {

@@ -4,7 +4,8 @@ ghost use Rattle.std.specs.Prelude.{◌≡◌, []};
 ghost use Rattle.lx_model.specs.Reading.{value_or};
 ghost use Rattle.lx_model.specs.NameTables.{resident_names, other_names, resident_fault, others_fault};
 ghost use Rattle.lx_read.specs.Headers.{IsHeaderOf};
-ghost use Rattle.lx_read.specs.Judging.{Gives};
+ghost use Rattle.lx_types.specs.Answers.{if_said};
+ghost use Rattle.lx_model.specs.Judging.{Judges};
 
 use crate::fields::fault;
 use crate::header::Header;
@@ -21,7 +22,7 @@ pub fn read_resident(
     header: &Header,
 ) -> Result<NameTable, Fail<LxRefusal>>
     requires { IsHeaderOf file.now header.now }
-    ensures { Gives result (value_or [] (resident_names file.now)) (resident_fault file.now) }
+    ensures { Judges if_said result (value_or [] (resident_names file.now)) (resident_fault file.now) }
 {
     let at = header.resident_names;
     match read_names(alloc, from_place(file, at)) {
@@ -44,7 +45,7 @@ pub fn read_others(
     header: &Header,
 ) -> Result<NameTable, Fail<LxRefusal>>
     requires { IsHeaderOf file.now header.now }
-    ensures { Gives result (value_or [] (other_names file.now)) (others_fault file.now) }
+    ensures { Judges if_said result (value_or [] (other_names file.now)) (others_fault file.now) }
 {
     let len = header.other_names_length as usize;
     if len == 0 {

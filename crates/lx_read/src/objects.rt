@@ -3,7 +3,8 @@
 ghost use Rattle.std.specs.Prelude.{◌≡◌, ◌<◌, ◌^◌};
 ghost use Rattle.lx_model.specs.Tables.{object_entry, lacks_pages, object_place, object_fault, objects_of, objects_fault};
 ghost use Rattle.lx_read.specs.Headers.{IsHeaderOf};
-ghost use Rattle.lx_read.specs.Judging.{Judges, Gives};
+ghost use Rattle.lx_types.specs.Answers.{as_is, if_said};
+ghost use Rattle.lx_model.specs.Judging.{Judges};
 
 use crate::fields::{doubleword, fault, said};
 use crate::header::Header;
@@ -22,7 +23,7 @@ fn lacks_pages(pages: u32, object: &ObjHead) -> bool
 // behind its page count.
 fn read_object(file: &[u8], header: &Header, k: u32) -> Result<ObjHead, LxRefusal>
     requires header { IsHeaderOf file.now header.now }
-    ensures { Judges result (object_entry file.now (object_place file.now k)) (object_fault file.now k) }
+    ensures { Judges as_is result (object_entry file.now (object_place file.now k)) (object_fault file.now k) }
 {
     let at = header.object_table + 24 * u64::from(k);
     let object = ObjHead {
@@ -47,7 +48,7 @@ pub fn read_objects(
     header: &Header,
 ) -> Result<Seq<ObjHead>, Fail<LxRefusal>>
     requires { IsHeaderOf file.now header.now }
-    ensures { Gives result (objects_of file.now) (objects_fault file.now) }
+    ensures { Judges if_said result (objects_of file.now) (objects_fault file.now) }
 {
     let mut objects = Seq::new(alloc);
     for k in 0..header.objects {

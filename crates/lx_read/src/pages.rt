@@ -6,7 +6,8 @@ ghost use Rattle.lx_model.specs.Reading.{fault};
 ghost use Rattle.lx_iter.specs.Expansion.{refusal};
 ghost use Rattle.lx_model.specs.Tables.{page_entry, page_place, page_or_zero, kind_fault, page_fault, page_heads, pages_fault};
 ghost use Rattle.lx_read.specs.Headers.{IsHeaderOf};
-ghost use Rattle.lx_read.specs.Judging.{Judges, Gives};
+ghost use Rattle.lx_types.specs.Answers.{as_is, if_said};
+ghost use Rattle.lx_model.specs.Judging.{Judges};
 ghost use Rattle.lx_read.specs.Pages.{data_fault, page_with};
 
 use crate::fields::{doubleword, fault, said, word};
@@ -35,7 +36,7 @@ fn data_place(from: u32, offset: u32, shift: u32) -> u64
 fn data_at(file: &[u8], entry: Entry, at: u64, kind: PageKind) -> Result<PageHead, LxRefusal>
     requires at { at < 2 ^ 62 }
     requires short { length file.now < 2 ^ 32 }
-    ensures { Judges result (record { kind = kind; at = at; len = entry.len })
+    ensures { Judges as_is result (record { kind = kind; at = at; len = entry.len })
         (data_fault file.now entry.at at entry.len) }
 {
     if at + u64::from(entry.len) > file.len() as u64 {
@@ -50,7 +51,7 @@ fn data_at(file: &[u8], entry: Entry, at: u64, kind: PageKind) -> Result<PageHea
 
 fn plain_page(file: &[u8], header: &Header, entry: Entry) -> Result<PageHead, LxRefusal>
     requires { IsHeaderOf file.now header.now }
-    ensures { Judges result (page_with file.now entry Plain)
+    ensures { Judges as_is result (page_with file.now entry Plain)
         (kind_fault file.now entry.at Plain (page_with file.now entry Plain)) }
 {
     if entry.len > PAGE_SIZE {
@@ -81,7 +82,7 @@ fn iterated_page(
     scratch: &mut [u8; 4096],
 ) -> Result<PageHead, LxRefusal>
     requires { IsHeaderOf file.now header.now }
-    ensures { Judges result (page_with file.now entry Iterated)
+    ensures { Judges as_is result (page_with file.now entry Iterated)
         (kind_fault file.now entry.at Iterated (page_with file.now entry Iterated)) }
 {
     let at = data_place(header.iterated_pages, entry.offset, header.page_shift);
@@ -101,7 +102,7 @@ fn read_page(
     scratch: &mut [u8; 4096],
 ) -> Result<PageHead, LxRefusal>
     requires { IsHeaderOf file.now header.now }
-    ensures { Judges result (page_or_zero (page_entry file.now (page_place file.now k))) (page_fault file.now k) }
+    ensures { Judges as_is result (page_or_zero (page_entry file.now (page_place file.now k))) (page_fault file.now k) }
 {
     let at = header.page_table + 8 * u64::from(k);
     let entry = Entry {
@@ -138,7 +139,7 @@ pub fn read_pages(
     header: &Header,
 ) -> Result<Seq<PageHead>, Fail<LxRefusal>>
     requires { IsHeaderOf file.now header.now }
-    ensures { Gives result (page_heads file.now) (pages_fault file.now) }
+    ensures { Judges if_said result (page_heads file.now) (pages_fault file.now) }
 {
     let mut scratch = [0; 4096];
     let mut pages = Seq::new(alloc);

@@ -6,8 +6,10 @@ ghost use Rattle.lx_types.specs.declared.parts.Parts.{Parts};
 ghost use Rattle.lx_model.specs.NameTables.{first_name, names_after_first};
 ghost use Rattle.lx_model.specs.Module.{Lx, LxFault, IsRead, parts_of};
 ghost use Rattle.lx_read.specs.Headers.{IsHeaderOf};
-ghost use Rattle.lx_read.specs.Judging.{Gives};
-ghost use Rattle.lx_read.specs.Reading.{pages_in, fault_in_pages, links_in, fault_in_links, IsFoundIn, FailsWith, Finds};
+ghost use Rattle.lx_types.specs.Answers.{if_said};
+ghost use Rattle.lx_model.specs.Judging.{Judges};
+ghost use Rattle.lx_read.specs.Reading.{pages_in, fault_in_pages, links_in, fault_in_links, IsFoundIn, Finds};
+ghost use Rattle.lx_model.specs.Judging.{IsFault};
 
 use crate::entries::read_entries;
 use crate::fields::said;
@@ -53,7 +55,7 @@ struct Links {
 
 fn read_page_tables(alloc: Global, file: &[u8], header: &Header) -> Result<Pages, Fail<LxRefusal>>
     requires { IsHeaderOf file.now header.now }
-    ensures { Gives result (pages_in file.now) (fault_in_pages file.now) }
+    ensures { Judges if_said result (pages_in file.now) (fault_in_pages file.now) }
 {
     let objects = read_objects(alloc, file, header)?;
     let pages = read_pages(alloc, file, header)?;
@@ -69,7 +71,7 @@ fn read_page_tables(alloc: Global, file: &[u8], header: &Header) -> Result<Pages
 
 fn read_links(alloc: Global, file: &[u8], header: &Header) -> Result<Links, Fail<LxRefusal>>
     requires { IsHeaderOf file.now header.now }
-    ensures { Gives result (links_in file.now) (fault_in_links file.now) }
+    ensures { Judges if_said result (links_in file.now) (fault_in_links file.now) }
 {
     let imports = read_imports(alloc, file, header)?;
     let entries = read_entries(alloc, file, header)?;
@@ -189,7 +191,7 @@ pub fn read_module(alloc: Global, file: Vec<u8>) -> Result<Module, Unread>
     ensures again { IfOk result IsRead }
     ensures whole { (m : Parts) → Lx file.items m
         → MatchResult result (λ parts. parts ≡ m) (λ unread. unread.why ≡ fail.NoMemory) }
-    ensures refused { IfErr result (λ unread. FailsWith unread.why (LxFault file.items)) }
+    ensures refused { IfErr result (λ unread. IsFault (if_said unread.why) (LxFault file.items)) }
     ensures handed_back { IfErr result (λ unread. unread.file.items ≡ file.items) }
 {
     match read_tables(alloc, file.as_slice()) {

@@ -7,8 +7,10 @@ ghost use Rattle.lx_model.specs.Reading.{first_of};
 ghost use Rattle.lx_model.specs.Header.{page_count};
 ghost use Rattle.lx_model.specs.FixupPages.{spans_of, spans_fault};
 ghost use Rattle.lx_model.specs.Module.{targets_in, refs_of, page_records_fault};
-ghost use Rattle.lx_fixrec.specs.Left.{refusal, left_in};
-ghost use Rattle.lx_read.specs.Judging.{Gives};
+ghost use Rattle.lx_fixrec.specs.Reads.{refusal};
+ghost use Rattle.lx_fixrec.specs.Left.{left_in};
+ghost use Rattle.lx_types.specs.Answers.{if_said};
+ghost use Rattle.lx_model.specs.Judging.{Judges};
 ghost use Rattle.lx_read.specs.Targets.{targets, AreTargets};
 ghost use Rattle.lx_read.specs.References.{with_target, AddsPage};
 
@@ -91,7 +93,7 @@ pub fn read_references(
     requires targets { targets within.now ≡ targets_in within.now.file.now }
     requires spans { spans.now ≡ spans_of within.now.file.now }
     requires good { spans_fault within.now.file.now ≡ None }
-    ensures { Gives result (refs_of within.now.file.now)
+    ensures { Judges if_said result (refs_of within.now.file.now)
         (first_of (page_count within.now.file.now) (page_records_fault within.now.file.now)) }
 {
     let mut references = IndexSet::new(alloc);

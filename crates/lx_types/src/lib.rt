@@ -12,7 +12,9 @@ mod object;
 mod parts;
 mod refusal;
 mod resource;
+mod selectors;
 mod seq;
+mod sharing;
 
 pub use bases::{Bases, ModBases};
 pub use entry::{EntryHead, EntryKey, FwdKey};
@@ -29,4 +31,5 @@ pub use object::{
 pub use parts::{MODULE_INIT_EACH, MODULE_KIND, MODULE_LIBRARY, MODULE_TERM_EACH, Parts};
 pub use refusal::{LxKind, LxRefusal};
 pub use resource::ResSpot;
+pub use selectors::{selected_offset, selector, tiled_selector};
 pub use seq::{Bytes, Names, Numbers, Seq};

@@ -21,7 +21,7 @@ use Rattle.image_model.specs.ObjectTable.{object_heads_from}
 use Rattle.image_model.specs.Linked as links
 use Rattle.image_model.specs.Linked.{image_of, module_flags, page_forms, fixup_records, called}
 use Rattle.image_model.specs.Exported as exported
-use Rattle.lx_entry.specs.Exports.{exported_of}
+use Rattle.lx_exports.specs.Exports.{exported_of}
 use Rattle.lx_write.specs.declared.image.Image.{Image}
 use Rattle.lx_write.specs.Value.{image_value, flags_of, page_fixes}
 use Rattle.lx_write.specs.LinkImages.{IsImageOfLink, LinkImagesAreWritten}

@@ -8,7 +8,7 @@ use Rattle.link_model.specs.Start.{Start}
 use Rattle.link_model.specs.Header.{auto_data}
 use Rattle.link_model.specs.Patches.{object_bytes}
 use Rattle.link_model.specs.Records.{object_records}
-use Rattle.lx_entry.specs.Exports as entries
+use Rattle.lx_exports.specs.Exports as entries
 use Rattle.image_model.specs.Exported as links
 use Rattle.image_model.specs.Linked.{image_of, called, link_modules, link_procs}
 use Rattle.lx_write.specs.declared.image.Image.{Image}

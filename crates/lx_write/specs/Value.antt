@@ -14,7 +14,7 @@ use Rattle.link_model.specs.Records.{page_count}
 use Rattle.lx_model.specs.ExportTables.{resident_table, other_table}
 use Rattle.lx_model.specs.JoinedEntries.{bundles_for}
 use Rattle.lx_model.specs.JoinedRecords.{records_for}
-use Rattle.lx_entry.specs.Exports.{ExportFits, exported_of}
+use Rattle.lx_exports.specs.Exports.{ExportFits, exported_of}
 use Rattle.lx_fixrec.specs.Writable.{MayBeWritten}
 use Rattle.image_model.specs.Image as written
 use Rattle.image_model.specs.PageForms.{pages_in, form_of_page}

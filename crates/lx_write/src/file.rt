@@ -3,7 +3,7 @@
 ghost use Rattle.std.specs.Prelude.{◌≡◌, ◌++◌, ◌<◌, ◌^◌, None, Some, IfOk, length};
 ghost use Rattle.lx_types.specs.Answers.{Answers};
 ghost use Rattle.lx_model.specs.TableSpelling.{header_spelling};
-ghost use Rattle.lx_entry.specs.Exports.{export_refusal};
+ghost use Rattle.lx_exports.specs.Exports.{export_refusal};
 ghost use Rattle.image_model.specs.File.{file_of, sections_bytes};
 ghost use Rattle.lx_write.specs.Value.{CanBeWritten, image_value};
 ghost use Rattle.image_model.specs.ReadBack.{ImageFits, parts_of_image};
@@ -14,26 +14,17 @@ ghost use Rattle.lx_write.specs.Sections.{sections_value};
 use crate::header::{fields_of, places_of};
 use crate::image::Image;
 use crate::sections::{Sections, sections_of};
-use byteorder::{ByteOrder, LittleEndian};
-use lx_entry::EntryRefusal;
+use lx_exports::EntryRefusal;
+use lx_head::header_bytes;
 use lx_types::{Fail, NoMemory};
 use std::alloc::Global;
-
-// The header with these doublewords; its bytes behind A8h's doubleword are 0.
-fn spelled(fields: &[u32; 43]) -> [u8; 196]
-    ensures { result ≡ header_spelling fields.now }
-{
-    let mut bytes = [0; 196];
-    LittleEndian::write_u32_into(fields, &mut bytes[..172]);
-    bytes
-}
 
 // The header with these doublewords, with room for a file of so many bytes.
 fn header_in(alloc: Global, fields: &[u32; 43], room: u32) -> Result<Vec<u8>, NoMemory>
     ensures { IfOk result (λ file. file.items ≡ header_spelling fields.now) }
 {
     let mut file = Vec::with_capacity(alloc, room as usize)?;
-    file.extend_from_slice(&spelled(fields))?;
+    file.extend_from_slice(&header_bytes(fields))?;
     Ok(file)
 }
 

@@ -1,7 +1,7 @@
 //! A linked module before it is written.
 
 use link_model::LaidObject;
-use lx_entry::OutEntry;
+use lx_exports::OutEntry;
 use lx_types::{Bytes, Fix, Name, Names, Seq};
 use obj_types::ModKind;
 

@@ -2,7 +2,7 @@
 
 ghost use Rattle.std.specs.Prelude.{◌≡◌, Some, None, length};
 ghost use Rattle.lx_types.specs.Answers.{Answers};
-ghost use Rattle.lx_entry.specs.Exports.{export_refusal};
+ghost use Rattle.lx_exports.specs.Exports.{export_refusal};
 ghost use Rattle.image_model.specs.Sections.{sections};
 ghost use Rattle.lx_write.specs.Value.{CanBeWritten, image_value};
 ghost use Rattle.lx_write.specs.Sections.{sections_value};
@@ -12,7 +12,7 @@ use crate::names::{import_table, name_offsets, proc_table};
 use crate::objects::object_table;
 use crate::pages::pages_of;
 use crate::records::records_of;
-use lx_entry::{EntryRefusal, write_tables};
+use lx_exports::{EntryRefusal, write_tables};
 use lx_head::write_pages;
 use lx_types::{Bytes, Fail, Seq};
 use std::alloc::Global;

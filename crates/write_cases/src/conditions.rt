@@ -6,12 +6,12 @@ ghost use Rattle.lx_types.specs.Sound.{IsNumberOf};
 ghost use Rattle.link_model.specs.Records.{page_count};
 ghost use Rattle.lx_model.specs.Sources.{source_size, has_selector};
 ghost use Rattle.lx_model.specs.RecordSpelling.{OffsetFits, AliasFits};
-ghost use Rattle.lx_entry.specs.Exports.{HeadFits, ExportFits};
+ghost use Rattle.lx_exports.specs.Exports.{HeadFits, ExportFits};
 ghost use Rattle.lx_fixrec.specs.Writable.{SelectorFits, NumbersFit, IsWritable, AreApart, MayBeWritten};
 ghost use Rattle.lx_write.specs.Value.{TargetIsThere, CanBeWritten};
 
 use link_model::LaidObject;
-use lx_entry::OutEntry;
+use lx_exports::OutEntry;
 use lx_types::{Bytes, EntryHead, Fix, FixTarget, Name, PAGE_SIZE, Seq, Source};
 use lx_write::Image;
 

@@ -3,7 +3,7 @@
 use crate::conditions::can_be_written;
 use crate::files::{FORWARDER, ITERATED, ONE_OBJECT, PROGRAM, STRADDLING};
 use link_model::LaidObject;
-use lx_entry::{EntryRefusal, OutEntry};
+use lx_exports::{EntryRefusal, OutEntry};
 use lx_types::{
     Bytes, EntryHead, Fail, Fix, FixTarget, FwdKey, Name, Names, NoMemory, Seq, Source,
 };

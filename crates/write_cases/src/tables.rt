@@ -1,7 +1,7 @@
 //! The name tables and the entry table of a module's exports.
 
 use crate::conditions::{exports_fit, is_named};
-use lx_entry::{EntryRefusal, OutEntry, write_tables};
+use lx_exports::{EntryRefusal, OutEntry, write_tables};
 use lx_types::{EntryHead, Fail, FwdKey, Name, NoMemory};
 use std::alloc::Global;
 use std::test::Fail as Failed;

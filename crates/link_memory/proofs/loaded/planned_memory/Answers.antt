@@ -1,5 +1,5 @@
 use Rattle.std.proofs.Common.{refl, sym, ap, ◌∙◌}
-use Rattle.lx_entry.specs.Exports.{export_refusal}
+use Rattle.lx_exports.specs.Exports.{export_refusal}
 use Rattle.link_model.specs.declared.refusals.LinkRefusal.TheVariants.{Entry}
 use Rattle.link_memory.specs.declared.loaded.ImageRefusal.TheVariants.{Link as NotLinked}
 use Rattle.link_memory.specs.Failed.{entry_failed}

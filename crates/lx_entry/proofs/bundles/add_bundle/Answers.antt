@@ -1,18 +1,19 @@
 use Rattle.std.proofs.Common.{◌≡◌, ℕ, ◌+◌, List, ◌++◌, Option, None, Some, Ok, sym, refl, subst}
 use Rattle.lx_bytes.specs.Cursor.{Cursor}
 use Rattle.lx_types.specs.declared.refusal.LxKind.TheVariants.{EntryTable}
+use Rattle.lx_types.specs.declared.fail.Fail.TheVariants.{Said}
 use Rattle.lx_model.specs.EntryTable.{Numbered, bundle_at}
 use Rattle.lx_entry.specs.Bundles.{head_at}
 use Rattle.lx_entry.specs.declared.bundles.Head.{Head}
-use Rattle.lx_entry.specs.Gives.{refusal}
+use Rattle.lx_entry.specs.Refusals.{refusal}
 use Rattle.lx_entry.proofs.BundleLoop.{head_wrong, head_ends, no_form, entries_added, pass_on}
-use Rattle.lx_entry.proofs.Refusals.{bundle_said}
+use Rattle.lx_entry.proofs.Refusals.{bundle_failed}
 use Rattle.lx_entry.proofs.bundles.add_bundle.Goals as goal
 
 pub returns-in_err-head-clause-read : goal.returns-in_err-head-clause-read
 returns-in_err-head-clause-read c =
     let r = c.in_err-head.field-0.0 in
-    bundle_said c.from_residual.result (bundle_at c.args.objects c.args.imports c.args.last c.args.fields.now) c.args.into.now c.args.into.now c.head_of.new.fields r c.from_residual.ensures.1
+    bundle_failed c.from_residual.result (bundle_at c.args.objects c.args.imports c.args.last c.args.fields.now) c.args.into.now c.args.into.now c.head_of.new.fields (Said r) c.from_residual.ensures.1
     (head_wrong c.args.objects c.args.imports c.args.last c.args.fields.now (refusal EntryTable r) c.in_err-head.ensures.read)
 
 pub returns-in_default-clause-read : goal.returns-in_default-clause-read

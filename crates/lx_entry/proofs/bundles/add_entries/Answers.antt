@@ -1,10 +1,11 @@
 use Rattle.std.proofs.Common.{◌≡◌, ◌+◌, ◌-◌, List, ℕ, [], ◌∷◌, ◌++◌, arith, sym, subst}
 use Rattle.lx_types.specs.declared.refusal.LxKind.TheVariants.{EntryTable}
+use Rattle.lx_types.specs.declared.fail.Fail.TheVariants.{Said}
 use Rattle.lx_model.specs.EntryTable.{Numbered, bundle_entries}
 use Rattle.lx_entry.specs.Bundles.{entry_at, onto}
-use Rattle.lx_entry.specs.Gives.{refusal}
+use Rattle.lx_entry.specs.Refusals.{refusal}
 use Rattle.lx_entry.proofs.EntryLoop.{one_more, wrong, all_read, onto_wrong}
-use Rattle.lx_entry.proofs.Refusals.{adds_said}
+use Rattle.lx_entry.proofs.Refusals.{adds_failed}
 use Rattle.lx_entry.proofs.bundles.add_entries.Goals as goal
 
 pub returns-in_err-head : goal.returns-in_err-head
@@ -12,7 +13,7 @@ returns-in_err-head c =
     let read = entry_at c.args.form c.args.imports in
     let all = bundle_entries c.args.count c.args.ordinal read c.args.fields.now in
     let is = wrong c.args.count c.loop-i.i c.args.ordinal read c.loop-i.fields (refusal EntryTable c.in_err-head.field-0.0) c.loop-i.into (onto c.args.into.now all) c.loop-i-test.true c.in_err-head.ensures c.loop-i.invariant in
-    adds_said c.from_residual.result all c.args.into.now c.loop-i.into c.entry.new.fields c.in_err-head.field-0.0 c.from_residual.ensures.1 (onto_wrong c.args.into.now all (refusal EntryTable c.in_err-head.field-0.0) is)
+    adds_failed c.from_residual.result all c.args.into.now c.loop-i.into c.entry.new.fields (Said c.in_err-head.field-0.0) c.from_residual.ensures.1 (onto_wrong c.args.into.now all (refusal EntryTable c.in_err-head.field-0.0) is)
 
 pub loop-i-preserved : goal.loop-i-preserved
 loop-i-preserved c =

@@ -18,7 +18,7 @@ use Rattle.image_model.specs.Sections.{sections}
 use Rattle.lx_model.specs.ExportTables.{resident_table, other_table}
 use Rattle.lx_model.specs.JoinedEntries.{bundles_for}
 use Rattle.lx_model.specs.Bundles.{table_spelling}
-use Rattle.lx_entry.specs.Exports.{exported_of, export_refusal}
+use Rattle.lx_exports.specs.Exports.{exported_of, export_refusal}
 use Rattle.lx_write.proofs.Short.{all_short}
 use Rattle.lx_write.proofs.sections.sections_of.Goals as goal
 

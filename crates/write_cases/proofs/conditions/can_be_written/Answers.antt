@@ -1,6 +1,6 @@
 use Rattle.std.proofs.Common.{ap, length, subst, arith}
 use Rattle.std.specs.List.{AllByRecursion}
-use Rattle.lx_entry.specs.Exports.{ExportFits}
+use Rattle.lx_exports.specs.Exports.{ExportFits}
 use Rattle.write_cases.proofs.Each.{yes_of}
 use Rattle.write_cases.proofs.conditions.can_be_written.Goals as goal
 

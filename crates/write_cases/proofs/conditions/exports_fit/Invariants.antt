@@ -1,6 +1,6 @@
 use Rattle.std.proofs.Common.{take}
 use Rattle.std.specs.List.{AllByRecursion}
-use Rattle.lx_entry.specs.Exports.{ExportFits}
+use Rattle.lx_exports.specs.Exports.{ExportFits}
 use Rattle.write_cases.proofs.conditions.exports_fit.Given as goal
 
 abbrev pub invariant-loop-export : goal.invariant-loop-export

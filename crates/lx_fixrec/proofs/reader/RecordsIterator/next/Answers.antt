@@ -1,6 +1,6 @@
 use Rattle.std.proofs.Common.{◌≡◌, ◌<◌, List, [], Option, Some, None, Ok, ap, subst, length, arith}
-use Rattle.lx_fixrec.specs.Reads.{fault_said}
-use Rattle.lx_fixrec.specs.Left.{Left, Placed, left_of, refusal, count_of, end_count, Finds}
+use Rattle.lx_fixrec.specs.Reads.{refusal}
+use Rattle.lx_fixrec.specs.Left.{Left, Placed, left_of, count_of, end_count, Finds}
 use Rattle.lx_fixrec.specs.declared.reader.Found.{Found}
 use Rattle.lx_fixrec.proofs.Steps.{left_none, left_refused}
 use Rattle.lx_fixrec.proofs.reader.RecordsIterator.next.Goals as goal
@@ -8,18 +8,18 @@ use Rattle.lx_fixrec.proofs.reader.RecordsIterator.next.Goals as goal
 pub returns-in-Ok-None-clause-steps : goal.returns-in-Ok-None-clause-steps
 returns-in-Ok-None-clause-steps c =
     let s = c.self.inside in
-    let new = c.next_record.new.cur in
-    let found = subst (λ (o : Option Found). Finds (Ok o) s.cur new) c.in-Ok-None.field-0-is c.in-Ok-None.ensures.found in
-    subst (λ (l : Left). (l.items ≡ []) × (l.end ≡ None) × (left_of s.at None new ≡ l)) c.self.view_is (left_none s.at s.current s.cur new c.in_default.ensures.0 found.0 found.1 found.2)
+    let new = c.next_record.new.fields in
+    let found = subst (λ (o : Option Found). Finds (Ok o) s.fields new) c.in-Ok-None.field-0-is c.in-Ok-None.ensures in
+    subst (λ (l : Left). (l.items ≡ []) × (l.end ≡ None) × (left_of s.at None new ≡ l)) c.self.view_is (left_none s.at s.current s.fields new c.in_default.ensures.0 found.0 found.1 found.2)
 
 pub returns-in-Err-clause-steps : goal.returns-in-Err-clause-steps
 returns-in-Err-clause-steps c =
     let s = c.self.inside in
     let new = c.of-self-inside.result in
-    let found = c.in-Err.ensures.found in
-    let r = refusal c.refusal_of.result in
+    let found = c.in-Err.ensures in
+    let r = refusal c.in-Err.refusal in
     subst (λ (l : Left). (l.items ≡ []) × (l.end ≡ Some r) × (left_of s.at None new ≡ record { at = l.at; items = []; end = None })) c.self.view_is
-    (left_refused s.at s.current s.cur new (fault_said c.in-Err.fault) r c.in_default.ensures.0 found.0 found.1 c.refusal_of.ensures (ap length c.of-self-inside.ensures.bytes))
+    (left_refused s.at s.current s.fields new r c.in_default.ensures.0 found.0 found.1 (ap length c.of-self-inside.ensures.bytes))
 
 pub returns-in-Err-clause-goes : goal.returns-in-Err-clause-goes
 returns-in-Err-clause-goes c =

@@ -1,5 +1,0 @@
-use Rattle.lx_entry.proofs.GivenOrdinals.{Given}
-use Rattle.lx_entry.proofs.ordinals.give_ordinals.Given as goal
-
-abbrev pub invariant-loop-export : goal.invariant-loop-export
-invariant-loop-export l = Given l.exports l.export-index l.from l.ordinals

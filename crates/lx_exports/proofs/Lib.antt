@@ -1,0 +1,8 @@
+pub mod BundleFront
+mod FreeOrdinals
+mod NamesApart
+mod NamesWritten
+mod GivenOrdinals
+mod SlotsFilled
+mod TablesWritten
+mod TablesRead

@@ -1,0 +1,4 @@
+pub mod Exports
+pub mod Marks
+pub mod Slots
+pub mod Writing

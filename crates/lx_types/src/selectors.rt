@@ -1,0 +1,52 @@
+//! The selectors that stand for addresses in 16:16 and 16:32 pointers, and the offsets that they
+//! leave.
+//!
+//! LX: "Object Table" (flags), "Fixup Record Table" (16:16 pointers).
+
+ghost use Rattle.std.specs.Prelude.{◌≡◌};
+ghost use Rattle.lx_types.specs.Addresses.{tiled_selector, selector, selected_offset};
+
+use crate::{OBJECT_BIG, OBJECT_EXECUTABLE};
+
+/// How many bytes the tile of a selector has.
+const TILE: u32 = 0x1_0000;
+
+/// The flat selector of code.
+const FLAT_CODE: u16 = 0x5B;
+
+/// The flat selector of data.
+const FLAT_DATA: u16 = 0x53;
+
+/// The selector of the tile, of 65,536 bytes, in which an address lies: its entry of the local
+/// descriptor table, with the low three bits set.
+pub fn tiled_selector(address: u32) -> u16
+    ensures { result ≡ tiled_selector address }
+{
+    ((address / TILE * 8 + 7) % TILE) as u16
+}
+
+/// The selector for an address in an object with these flags. It is tiled where that is asked for,
+/// and where the object is 16-bit; otherwise it is the flat selector of code or of data.
+pub fn selector(tiled: bool, flags: u32, address: u32) -> u16
+    ensures { result ≡ selector tiled flags address }
+{
+    if tiled || flags & OBJECT_BIG == 0 {
+        tiled_selector(address)
+    } else if flags & OBJECT_EXECUTABLE != 0 {
+        FLAT_CODE
+    } else {
+        FLAT_DATA
+    }
+}
+
+/// The offset that goes with the selector of an address: within the tile where that is tiled, and
+/// otherwise the address.
+pub fn selected_offset(tiled: bool, flags: u32, address: u32) -> u32
+    ensures { result ≡ selected_offset tiled flags address }
+{
+    if tiled || flags & OBJECT_BIG == 0 {
+        address % TILE
+    } else {
+        address
+    }
+}
