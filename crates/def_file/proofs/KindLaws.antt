@@ -19,7 +19,8 @@ use Rattle.def_file.specs.declared.draft.Size.TheVariants as sizes
 use Rattle.def_file.specs.Draft.{no_words}
 use Rattle.def_file.specs.Attributes.{attrs_with}
 use Rattle.def_file.specs.Statements.{begun_by, is_second}
-use Rattle.def_file.specs.Meaning.{file_of, segment_of, is_code, is_code_class, code_attrs, data_attrs}
+use Rattle.obj_types.specs.Defaults.{code_attrs, data_attrs}
+use Rattle.def_file.specs.Meaning.{file_of, segment_of, is_code, is_code_class}
 use Rattle.def_file.specs.Stated.{Stated, StatedSegment}
 use Rattle.def_file.specs.Whole.{CallsFit, FitsKind, WholeDraft}
 

@@ -14,7 +14,7 @@ use Rattle.def_tokens.specs.Lexemes.{Lexeme, number, equals, keyword, ending}
 use Rattle.def_tokens.proofs.TokenLaws.{if-first}
 use Rattle.def_file.specs.declared.refusal.DefKind.{DefKind}
 use Rattle.def_file.specs.declared.refusal.DefKind.TheVariants as kinds
-use Rattle.def_file.specs.Answer.{◌>>=◌}
+use Rattle.lx_types.specs.Answers.{◌>>=◌}
 use Rattle.def_file.specs.declared.draft.Draft.{Draft}
 use Rattle.def_file.specs.declared.draft.Place.TheVariants as place
 use Rattle.def_file.specs.Names.{ImportNames, EntryName}

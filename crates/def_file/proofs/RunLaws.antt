@@ -4,7 +4,7 @@ use Rattle.def_tokens.specs.Lexemes.{is_ending}
 use Rattle.def_tokens.specs.Tokens.{Placed, before}
 use Rattle.def_file.specs.declared.refusal.DefKind.{DefKind}
 use Rattle.def_file.specs.declared.draft.Reading.{Reading}
-use Rattle.def_file.specs.Answer.{◌>>=◌}
+use Rattle.lx_types.specs.Answers.{◌>>=◌}
 use Rattle.def_file.specs.Meaning.{file_of}
 use Rattle.def_file.specs.Reading.{step, at_line, run}
 

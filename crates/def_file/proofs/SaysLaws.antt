@@ -10,7 +10,7 @@ use Rattle.def_tokens.proofs.TokenLaws.{if-first, if-second}
 use Rattle.def_tokens.proofs.LexemeLaws.{bare}
 use Rattle.def_file.specs.declared.refusal.DefKind.{DefKind}
 use Rattle.def_file.specs.declared.draft.Reading.{Reading}
-use Rattle.def_file.specs.Answer.{◌>>=◌}
+use Rattle.lx_types.specs.Answers.{◌>>=◌}
 use Rattle.def_file.specs.Meaning.{file_of}
 use Rattle.def_file.specs.Tokens.{name_of, text_of, within}
 use Rattle.def_file.specs.Reading.{step, at_line, run}

@@ -6,7 +6,7 @@ use Rattle.def_tokens.specs.declared.keyword.Pair.TheVariants as pairs
 use Rattle.def_file.specs.declared.refusal.DefKind.{DefKind}
 use Rattle.def_file.specs.declared.refusal.DefKind.TheVariants as kinds
 use Rattle.def_file.specs.declared.draft.Words.{Words}
-use Rattle.def_file.specs.Answer.{◌>>=◌}
+use Rattle.lx_types.specs.Answers.{◌>>=◌}
 
 -- A word may be repeated, and the other word of its pair may not stand beside it.
 abbrev pub agreed : Option Bool → Bool → Result (Option Bool) DefKind

@@ -9,7 +9,7 @@ use Rattle.obj_types.specs.declared.symbol.Exp.{Exp}
 use Rattle.def_file.specs.declared.refusal.DefKind.{DefKind}
 use Rattle.def_file.specs.declared.refusal.DefKind.TheVariants as kinds
 use Rattle.def_file.specs.declared.refusal.DefRefusal.{DefRefusal}
-use Rattle.def_file.specs.Meaning.{code_attrs, data_attrs}
+use Rattle.obj_types.specs.Defaults.{code_attrs, data_attrs}
 use Rattle.def_file.specs.Reading.{read_of}
 use Rattle.def_file.specs.Writing.{text_of}
 

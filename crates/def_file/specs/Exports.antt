@@ -11,7 +11,7 @@ use Rattle.def_file.specs.declared.draft.Place.TheVariants as place
 use Rattle.def_file.specs.declared.draft.Part.{Part}
 use Rattle.def_file.specs.declared.draft.Part.TheVariants as parts
 use Rattle.def_file.specs.declared.draft.Reading.{Reading}
-use Rattle.def_file.specs.Answer.{◌>>=◌}
+use Rattle.lx_types.specs.Answers.{◌>>=◌}
 use Rattle.def_file.specs.Draft.{at}
 use Rattle.def_file.specs.Tokens.{with_name, with_number, within}
 use Rattle.def_file.specs.Statements.{statement}

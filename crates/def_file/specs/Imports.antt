@@ -9,7 +9,7 @@ use Rattle.def_file.specs.declared.refusal.DefKind.TheVariants as kinds
 use Rattle.def_file.specs.declared.draft.Draft.{Draft}
 use Rattle.def_file.specs.declared.draft.Place.TheVariants as place
 use Rattle.def_file.specs.declared.draft.Reading.{Reading}
-use Rattle.def_file.specs.Answer.{◌>>=◌}
+use Rattle.lx_types.specs.Answers.{◌>>=◌}
 use Rattle.def_file.specs.Draft.{at}
 use Rattle.def_file.specs.Tokens.{name_of, with_name, with_number, within}
 use Rattle.def_file.specs.Statements.{statement}

@@ -1,4 +1,3 @@
-pub mod Answer
 pub mod Draft
 pub mod Tokens
 pub mod Attributes

@@ -1,7 +1,8 @@
 -- What a whole definition file says.
-use Rattle.std.specs.Prelude.{ℕ, ◌-◌, Bool, ◌&&◌, true, false, nat_le, List, [], length, drop, map, codes, is_some, unwrap_or, if◌then◌else◌}
+use Rattle.std.specs.Prelude.{ℕ, ◌-◌, Bool, ◌&&◌, false, nat_le, List, [], length, drop, map, codes, is_some, unwrap_or, if◌then◌else◌}
 use Rattle.std.specs.Option.{option_map_or}
 use Rattle.obj_types.specs.declared.definition.Attrs.{Attrs}
+use Rattle.obj_types.specs.Defaults.{code_attrs, data_attrs}
 use Rattle.obj_types.specs.declared.definition.SegAttrs.{SegAttrs}
 use Rattle.obj_types.specs.declared.definition.DefFile.{DefFile}
 use Rattle.obj_types.specs.declared.definition.ModKind.TheVariants as modules
@@ -10,13 +11,6 @@ use Rattle.def_file.specs.declared.draft.SegDraft.{SegDraft}
 use Rattle.def_file.specs.declared.draft.Draft.{Draft}
 use Rattle.def_file.specs.Draft.{no_words}
 use Rattle.def_file.specs.Attributes.{attrs_with}
-
--- CODE is read and executed, DATA is read and written, and neither is shared.
-abbrev pub code_attrs : Attrs
-code_attrs = record { read = true; write = false; exec = true; shared = false; preload = false; conforming = false; iopl = false }
-
-abbrev pub data_attrs : Attrs
-data_attrs = record { read = true; write = true; exec = false; shared = false; preload = false; conforming = false; iopl = false }
 
 -- The class of a code segment ends in CODE, in any case.
 abbrev pub is_code_class : List ℕ → Bool

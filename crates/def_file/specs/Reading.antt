@@ -12,7 +12,7 @@ use Rattle.def_file.specs.declared.draft.Draft.{Draft}
 use Rattle.def_file.specs.declared.draft.Place.{Place}
 use Rattle.def_file.specs.declared.draft.Place.TheVariants as place
 use Rattle.def_file.specs.declared.draft.Reading.{Reading}
-use Rattle.def_file.specs.Answer.{◌>>=◌}
+use Rattle.lx_types.specs.Answers.{◌>>=◌}
 use Rattle.def_file.specs.Draft.{fresh}
 use Rattle.def_file.specs.Statements.{statement, program, program_name, library, library_words, description, size, base, exe_type}
 use Rattle.def_file.specs.Segments.{attributes, segments, segment, class}

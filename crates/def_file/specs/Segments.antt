@@ -10,7 +10,7 @@ use Rattle.def_file.specs.declared.draft.Place.TheVariants as place
 use Rattle.def_file.specs.declared.draft.Owner.{Owner}
 use Rattle.def_file.specs.declared.draft.Owner.TheVariants as owners
 use Rattle.def_file.specs.declared.draft.Reading.{Reading}
-use Rattle.def_file.specs.Answer.{◌>>=◌}
+use Rattle.lx_types.specs.Answers.{◌>>=◌}
 use Rattle.def_file.specs.Draft.{at, no_words}
 use Rattle.def_file.specs.Tokens.{with_name, with_text}
 use Rattle.def_file.specs.Attributes.{with_word}

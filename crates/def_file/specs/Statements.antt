@@ -15,7 +15,7 @@ use Rattle.def_file.specs.declared.draft.Owner.TheVariants as owners
 use Rattle.def_file.specs.declared.draft.Size.{Size}
 use Rattle.def_file.specs.declared.draft.Size.TheVariants as sizes
 use Rattle.def_file.specs.declared.draft.Reading.{Reading}
-use Rattle.def_file.specs.Answer.{◌>>=◌}
+use Rattle.lx_types.specs.Answers.{◌>>=◌}
 use Rattle.def_file.specs.Draft.{at, no_words}
 use Rattle.def_file.specs.Tokens.{with_name, with_text, with_number, within, base_of}
 use Rattle.def_file.specs.Attributes.{agreed}

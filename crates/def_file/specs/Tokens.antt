@@ -4,7 +4,7 @@ use Rattle.std.specs.Option.{option_map_or}
 use Rattle.def_tokens.specs.Lexemes.{Lexeme, name_of_lexeme, text_of_lexeme, number_of_lexeme}
 use Rattle.def_file.specs.declared.refusal.DefKind.{DefKind}
 use Rattle.def_file.specs.declared.refusal.DefKind.TheVariants as kinds
-use Rattle.def_file.specs.Answer.{◌>>=◌}
+use Rattle.lx_types.specs.Answers.{◌>>=◌}
 
 -- A text has at most 255 bytes.
 abbrev pub text_of : List ℕ → Result (List ℕ) DefKind

@@ -1,7 +1,7 @@
 //! The words of attributes.
 
 ghost use Rattle.std.specs.Prelude.{◌≡◌};
-ghost use Rattle.def_file.specs.Answer.{Reads};
+ghost use Rattle.lx_types.specs.Answers.{if_said, Gives};
 ghost use Rattle.def_file.specs.Attributes.{agreed, with_word, attrs_with};
 
 use crate::DefKind;
@@ -12,7 +12,7 @@ use obj_types::Attrs;
 
 /// A word may be repeated, and the other word of its pair may not stand beside it.
 pub fn agreed(before: Option<bool>, on: bool) -> Result<Option<bool>, Fail<DefKind>>
-    ensures { Reads result (agreed before on) }
+    ensures { Gives (λ x. x) if_said result (agreed before on) }
 {
     match before {
         Some(word) if word != on => Err(Fail::Said(DefKind::Conflict)),
@@ -23,7 +23,7 @@ pub fn agreed(before: Option<bool>, on: bool) -> Result<Option<bool>, Fail<DefKi
 /// The words with one more.
 #[tactic(auto, unfolding(crate::specs::Attributes::with_word))]
 pub fn with_word(words: Words, pair: Pair, on: bool) -> Result<Words, Fail<DefKind>>
-    ensures { Reads result (with_word words pair on) }
+    ensures { Gives (λ x. x) if_said result (with_word words pair on) }
 {
     let mut more = words;
     match pair {

@@ -3,7 +3,7 @@
 ghost use Rattle.std.specs.Prelude.{IfOk};
 ghost use Rattle.def_tokens.specs.Lexemes.{lexeme_of};
 ghost use Rattle.obj_types.specs.Definition.{WholeExport};
-ghost use Rattle.def_file.specs.Answer.{Reads};
+ghost use Rattle.lx_types.specs.Answers.{if_said, Gives};
 ghost use Rattle.def_file.specs.Whole.{WholeReading, WholeDraft};
 ghost use Rattle.def_file.specs.Exports.{exports, behind_nodata, behind_resident, behind_ordinal, behind_internal, behind_name, export, internal, ordinal};
 
@@ -21,7 +21,7 @@ use std::alloc::Global;
 #[tactic(auto, unfolding(crate::specs::Exports::exports))]
 pub fn exports(alloc: Global, draft: Draft, token: Token<'_>) -> Result<Reading, Fail<DefKind>>
     requires { WholeDraft draft }
-    ensures value { Reads result (exports draft (lexeme_of token.entry)) }
+    ensures value { Gives (λ x. x) if_said result (exports draft (lexeme_of token.entry)) }
     ensures whole { IfOk result (λ r. WholeReading r) }
 {
     match token.name() {
@@ -56,7 +56,7 @@ fn behind_nodata(
 ) -> Result<Reading, Fail<DefKind>>
     requires whole { WholeDraft draft }
     requires item { WholeExport item }
-    ensures value { Reads result (behind_nodata draft item (lexeme_of token.entry)) }
+    ensures value { Gives (λ x. x) if_said result (behind_nodata draft item (lexeme_of token.entry)) }
     ensures whole { IfOk result (λ r. WholeReading r) }
 {
     match token.number() {
@@ -81,7 +81,7 @@ fn behind_resident(
 ) -> Result<Reading, Fail<DefKind>>
     requires whole { WholeDraft draft }
     requires item { WholeExport item }
-    ensures value { Reads result (behind_resident draft item (lexeme_of token.entry)) }
+    ensures value { Gives (λ x. x) if_said result (behind_resident draft item (lexeme_of token.entry)) }
     ensures whole { IfOk result (λ r. WholeReading r) }
 {
     match token.keyword() {
@@ -103,7 +103,7 @@ fn behind_ordinal(
 ) -> Result<Reading, Fail<DefKind>>
     requires whole { WholeDraft draft }
     requires item { WholeExport item }
-    ensures value { Reads result (behind_ordinal draft item (lexeme_of token.entry)) }
+    ensures value { Gives (λ x. x) if_said result (behind_ordinal draft item (lexeme_of token.entry)) }
     ensures whole { IfOk result (λ r. WholeReading r) }
 {
     match token.keyword() {
@@ -125,7 +125,7 @@ fn behind_internal(
 ) -> Result<Reading, Fail<DefKind>>
     requires whole { WholeDraft draft }
     requires item { WholeExport item }
-    ensures value { Reads result (behind_internal draft item (lexeme_of token.entry)) }
+    ensures value { Gives (λ x. x) if_said result (behind_internal draft item (lexeme_of token.entry)) }
     ensures whole { IfOk result (λ r. WholeReading r) }
 {
     if token.is_at() {
@@ -144,7 +144,7 @@ fn behind_name(
 ) -> Result<Reading, Fail<DefKind>>
     requires whole { WholeDraft draft }
     requires item { WholeExport item }
-    ensures value { Reads result (behind_name draft item (lexeme_of token.entry)) }
+    ensures value { Gives (λ x. x) if_said result (behind_name draft item (lexeme_of token.entry)) }
     ensures whole { IfOk result (λ r. WholeReading r) }
 {
     if token.is_equals() {
@@ -165,7 +165,7 @@ pub fn export(
 ) -> Result<Reading, Fail<DefKind>>
     requires whole { WholeDraft draft }
     requires item { WholeExport item }
-    ensures value { Reads result (export draft item part (lexeme_of token.entry)) }
+    ensures value { Gives (λ x. x) if_said result (export draft item part (lexeme_of token.entry)) }
     ensures whole { IfOk result (λ r. WholeReading r) }
 {
     match part {
@@ -187,7 +187,7 @@ pub fn internal(
 ) -> Result<Reading, Fail<DefKind>>
     requires whole { WholeDraft draft }
     requires item { WholeExport item }
-    ensures value { Reads result (internal draft item (lexeme_of token.entry)) }
+    ensures value { Gives (λ x. x) if_said result (internal draft item (lexeme_of token.entry)) }
     ensures whole { IfOk result (λ r. WholeReading r) }
 {
     match token.name() {
@@ -205,7 +205,7 @@ pub fn internal(
 pub fn ordinal(draft: Draft, mut item: Exp, token: Token<'_>) -> Result<Reading, Fail<DefKind>>
     requires whole { WholeDraft draft }
     requires item { WholeExport item }
-    ensures value { Reads result (ordinal draft item (lexeme_of token.entry)) }
+    ensures value { Gives (λ x. x) if_said result (ordinal draft item (lexeme_of token.entry)) }
     ensures whole { IfOk result (λ r. WholeReading r) }
 {
     match token.number() {

@@ -4,7 +4,7 @@ ghost use Rattle.std.specs.Prelude.{IfOk, IfSome, ◌≢◌, []};
 ghost use Rattle.def_tokens.specs.Lexemes.{lexeme_of};
 ghost use Rattle.obj_types.specs.Definition.{WholeImport};
 ghost use Rattle.def_file.specs.declared.draft.Place.TheVariants as place;
-ghost use Rattle.def_file.specs.Answer.{Reads};
+ghost use Rattle.lx_types.specs.Answers.{if_said, Gives};
 ghost use Rattle.def_file.specs.Draft.{at};
 ghost use Rattle.def_file.specs.Whole.{WholeReading, WholeDraft};
 ghost use Rattle.def_file.specs.Imports.{imports, import_first, import_equals, import_module, import_by_name, import_ordinal, import_dot, with_import};
@@ -23,7 +23,7 @@ use std::alloc::Global;
 #[tactic(auto, unfolding(crate::specs::Imports::imports))]
 pub fn imports(alloc: Global, draft: Draft, token: Token<'_>) -> Result<Reading, Fail<DefKind>>
     requires { WholeDraft draft }
-    ensures value { Reads result (imports draft (lexeme_of token.entry)) }
+    ensures value { Gives (λ x. x) if_said result (imports draft (lexeme_of token.entry)) }
     ensures whole { IfOk result (λ r. WholeReading r) }
 {
     match token.name() {
@@ -40,7 +40,7 @@ pub fn imports(alloc: Global, draft: Draft, token: Token<'_>) -> Result<Reading,
 pub fn import_first(draft: Draft, name: Name, token: Token<'_>) -> Result<Reading, Fail<DefKind>>
     requires whole { WholeDraft draft }
     requires name { name ≢ [] }
-    ensures value { Reads result (import_first draft name (lexeme_of token.entry)) }
+    ensures value { Gives (λ x. x) if_said result (import_first draft name (lexeme_of token.entry)) }
     ensures whole { IfOk result (λ r. WholeReading r) }
 {
     if token.is_equals() {
@@ -69,7 +69,7 @@ pub fn import_equals(
 ) -> Result<Reading, Fail<DefKind>>
     requires whole { WholeDraft draft }
     requires internal { internal ≢ [] }
-    ensures value { Reads result (import_equals draft internal (lexeme_of token.entry)) }
+    ensures value { Gives (λ x. x) if_said result (import_equals draft internal (lexeme_of token.entry)) }
     ensures whole { IfOk result (λ r. WholeReading r) }
 {
     match token.name() {
@@ -92,7 +92,7 @@ pub fn import_module(
     requires whole { WholeDraft draft }
     requires internal { internal ≢ [] }
     requires from { from ≢ [] }
-    ensures value { Reads result (import_module draft internal from (lexeme_of token.entry)) }
+    ensures value { Gives (λ x. x) if_said result (import_module draft internal from (lexeme_of token.entry)) }
     ensures whole { IfOk result (λ r. WholeReading r) }
 {
     if token.is_dot() {
@@ -113,7 +113,7 @@ pub fn import_module(
 fn with_import(mut draft: Draft, item: Imp) -> Result<Reading, Fail<DefKind>>
     requires whole { WholeDraft draft }
     requires item { WholeImport item }
-    ensures value { Reads result (at (with_import draft item) place.Imports) }
+    ensures value { Gives (λ x. x) if_said result (at (with_import draft item) place.Imports) }
     ensures whole { IfOk result (λ r. WholeReading r) }
 {
     draft.imports.push(item)?;
@@ -131,7 +131,7 @@ fn import_by_name(
     requires whole { WholeDraft draft }
     requires internal { IfSome internal (λ n. n ≢ []) }
     requires from { from ≢ [] }
-    ensures value { Reads result (import_by_name draft internal from bytes.now) }
+    ensures value { Gives (λ x. x) if_said result (import_by_name draft internal from bytes.now) }
     ensures whole { IfOk result (λ r. WholeReading r) }
 {
     let module = from;
@@ -169,7 +169,7 @@ fn import_ordinal(
     requires whole { WholeDraft draft }
     requires internal { IfSome internal (λ n. n ≢ []) }
     requires from { from ≢ [] }
-    ensures value { Reads result (import_ordinal draft internal from value) }
+    ensures value { Gives (λ x. x) if_said result (import_ordinal draft internal from value) }
     ensures whole { IfOk result (λ r. WholeReading r) }
 {
     match internal {
@@ -200,7 +200,7 @@ pub fn import_dot(
     requires whole { WholeDraft draft }
     requires internal { IfSome internal (λ n. n ≢ []) }
     requires from { from ≢ [] }
-    ensures value { Reads result (import_dot draft internal from (lexeme_of token.entry)) }
+    ensures value { Gives (λ x. x) if_said result (import_dot draft internal from (lexeme_of token.entry)) }
     ensures whole { IfOk result (λ r. WholeReading r) }
 {
     if let Some(bytes) = token.name() {

@@ -4,35 +4,13 @@ ghost use Rattle.std.specs.Prelude.{◌≡◌, IfOk, map};
 ghost use Rattle.obj_types.specs.Definition.{WholeDef};
 ghost use Rattle.def_file.specs.Stated.{Stated};
 ghost use Rattle.def_file.specs.Whole.{WholeDraft};
-ghost use Rattle.def_file.specs.Meaning.{code_attrs, data_attrs, is_code_class, is_code, segment_of, file_of};
+ghost use Rattle.def_file.specs.Meaning.{is_code_class, is_code, segment_of, file_of};
 
 use crate::attributes::attrs_with;
 use crate::draft::{Draft, SegDraft, Words};
 use lx_types::{Name, NoMemory, Seq};
 use obj_types::{Attrs, DefFile, ModKind, SegAttrs, SegRules};
 use std::alloc::Global;
-
-/// Read and executed.
-pub const CODE: Attrs = Attrs {
-    read: true,
-    write: false,
-    exec: true,
-    shared: false,
-    preload: false,
-    conforming: false,
-    iopl: false,
-};
-
-/// Read and written.
-pub const DATA: Attrs = Attrs {
-    read: true,
-    write: true,
-    exec: false,
-    shared: false,
-    preload: false,
-    conforming: false,
-    iopl: false,
-};
 
 // The class of a code segment ends in CODE, in any case.
 fn is_code_class(class: &[u8]) -> bool
@@ -85,8 +63,8 @@ pub fn file_of(alloc: Global, draft: Draft) -> Result<DefFile, NoMemory>
     ensures whole { IfOk result (λ file. WholeDef file) }
     ensures stated { IfOk result (λ file. Stated file) }
 {
-    let code = attrs_with(CODE, draft.code.unwrap_or(Words::NONE));
-    let plain = attrs_with(DATA, draft.plain.unwrap_or(Words::NONE));
+    let code = attrs_with(Attrs::CODE, draft.code.unwrap_or(Words::NONE));
+    let plain = attrs_with(Attrs::DATA, draft.plain.unwrap_or(Words::NONE));
     Ok(DefFile {
         kind: draft.kind.unwrap_or(ModKind::Program),
         name: draft.name,

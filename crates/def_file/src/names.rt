@@ -1,7 +1,7 @@
 //! Names and texts.
 
 ghost use Rattle.std.specs.Prelude.{◌≢◌, [], IfOk};
-ghost use Rattle.def_file.specs.Answer.{Reads};
+ghost use Rattle.lx_types.specs.Answers.{if_said, Gives};
 ghost use Rattle.def_file.specs.Tokens.{name_of, text_of};
 
 use crate::DefKind;
@@ -10,7 +10,7 @@ use std::alloc::Global;
 
 /// A text has at most 255 bytes.
 pub fn text_of(alloc: Global, bytes: &[u8]) -> Result<Name, Fail<DefKind>>
-    ensures { Reads result (text_of bytes.now) }
+    ensures { Gives (λ x. x) if_said result (text_of bytes.now) }
 {
     if bytes.len() > 255 {
         return Err(Fail::Said(DefKind::TooLong));
@@ -23,7 +23,7 @@ pub fn text_of(alloc: Global, bytes: &[u8]) -> Result<Name, Fail<DefKind>>
 
 /// A name has 1 to 255 bytes.
 pub fn name_of(alloc: Global, bytes: &[u8]) -> Result<Name, Fail<DefKind>>
-    ensures value { Reads result (name_of bytes.now) }
+    ensures value { Gives (λ x. x) if_said result (name_of bytes.now) }
     ensures some { IfOk result (λ name. name ≢ []) }
 {
     if bytes.is_empty() {

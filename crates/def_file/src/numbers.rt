@@ -2,7 +2,7 @@
 
 ghost use Rattle.std.specs.Prelude.{◌≤◌, IfOk};
 ghost use Rattle.obj_types.specs.Definition.{IsBase};
-ghost use Rattle.def_file.specs.Answer.{Reads};
+ghost use Rattle.lx_types.specs.Answers.{if_said, Gives};
 ghost use Rattle.def_file.specs.Tokens.{within, base_of};
 
 use crate::DefKind;
@@ -10,7 +10,7 @@ use lx_types::Fail;
 
 /// A number from `low` to `high`. One of 2^32 or more has no value.
 pub fn within(low: u32, high: u32, value: Option<u32>) -> Result<u32, Fail<DefKind>>
-    ensures value { Reads result (within low high value) }
+    ensures value { Gives (λ x. x) if_said result (within low high value) }
     ensures low { IfOk result (λ n. low ≤ n) }
     ensures high { IfOk result (λ n. n ≤ high) }
 {
@@ -22,7 +22,7 @@ pub fn within(low: u32, high: u32, value: Option<u32>) -> Result<u32, Fail<DefKi
 
 /// A base is a multiple of 64 KiB in the two arenas.
 pub fn base_of(value: Option<u32>) -> Result<u32, Fail<DefKind>>
-    ensures value { Reads result (base_of value) }
+    ensures value { Gives (λ x. x) if_said result (base_of value) }
     ensures base { IfOk result (λ n. IsBase n) }
 {
     let base = within(0x1_0000, 0x1FFF_0000, value)?;

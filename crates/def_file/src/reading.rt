@@ -3,7 +3,7 @@
 ghost use Rattle.std.specs.Prelude.{◌≡◌, IfOk};
 ghost use Rattle.def_tokens.specs.Lexemes.{lexeme_of};
 ghost use Rattle.obj_types.specs.Definition.{WholeDef};
-ghost use Rattle.def_file.specs.Answer.{Reads};
+ghost use Rattle.lx_types.specs.Answers.{if_said, Gives};
 ghost use Rattle.def_file.specs.Stated.{Stated};
 ghost use Rattle.def_file.specs.Whole.{WholeReading, WholeDraft, WholePlace, FitsKind};
 ghost use Rattle.def_file.specs.Reading.{token_at, step, fail_at, read_of};
@@ -33,7 +33,7 @@ fn token_at(
     requires whole { WholeDraft draft }
     requires place { WholePlace place }
     requires kind { FitsKind place draft.kind }
-    ensures value { Reads result (token_at draft place (lexeme_of token.entry)) }
+    ensures value { Gives (λ x. x) if_said result (token_at draft place (lexeme_of token.entry)) }
     ensures whole { IfOk result (λ r. WholeReading r) }
 {
     match place {
@@ -66,7 +66,7 @@ fn token_at(
 #[tactic(auto, unfolding(crate::specs::Reading::step))]
 fn step(alloc: Global, reading: Reading, token: Token<'_>) -> Result<Reading, Fail<DefKind>>
     requires { WholeReading reading }
-    ensures value { Reads result (step reading (lexeme_of token.entry)) }
+    ensures value { Gives (λ x. x) if_said result (step reading (lexeme_of token.entry)) }
     ensures whole { IfOk result (λ r. WholeReading r) }
 {
     if token.is_stray() {
@@ -89,7 +89,7 @@ fn at_line(line: u32, fail: Fail<DefKind>) -> Fail<DefRefusal>
 /// Reads a definition file, in time linear in its length. It is refused by its first fault in the
 /// order of the file. What is read is whole, and statements can give it, so that it can be written again.
 pub fn read_def(alloc: Global, bytes: &[u8]) -> Result<DefFile, Fail<DefRefusal>>
-    ensures read { Reads result (read_of bytes.now) }
+    ensures read { Gives (λ x. x) if_said result (read_of bytes.now) }
     ensures whole { IfOk result (λ file. WholeDef file) }
     ensures stated { IfOk result (λ file. Stated file) }
 {

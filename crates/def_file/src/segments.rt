@@ -2,7 +2,7 @@
 
 ghost use Rattle.std.specs.Prelude.{IfOk, ◌≢◌, []};
 ghost use Rattle.def_tokens.specs.Lexemes.{lexeme_of};
-ghost use Rattle.def_file.specs.Answer.{Reads};
+ghost use Rattle.lx_types.specs.Answers.{if_said, Gives};
 ghost use Rattle.def_file.specs.Whole.{WholeReading, WholeDraft, WholeOwner};
 ghost use Rattle.def_file.specs.Segments.{segments, behind_list, attributes, segment, class};
 
@@ -19,7 +19,7 @@ use std::alloc::Global;
 #[tactic(auto, unfolding(crate::specs::Segments::segments))]
 pub fn segments(alloc: Global, draft: Draft, token: Token<'_>) -> Result<Reading, Fail<DefKind>>
     requires { WholeDraft draft }
-    ensures value { Reads result (segments draft (lexeme_of token.entry)) }
+    ensures value { Gives (λ x. x) if_said result (segments draft (lexeme_of token.entry)) }
     ensures whole { IfOk result (λ r. WholeReading r) }
 {
     match token.name() {
@@ -42,7 +42,7 @@ fn behind_list(
 ) -> Result<Reading, Fail<DefKind>>
     requires whole { WholeDraft draft }
     requires owner { WholeOwner of }
-    ensures value { Reads result (behind_list draft of words (lexeme_of token.entry)) }
+    ensures value { Gives (λ x. x) if_said result (behind_list draft of words (lexeme_of token.entry)) }
     ensures whole { IfOk result (λ r. WholeReading r) }
 {
     match of {
@@ -72,7 +72,7 @@ pub fn attributes(
 ) -> Result<Reading, Fail<DefKind>>
     requires whole { WholeDraft draft }
     requires owner { WholeOwner of }
-    ensures value { Reads result (attributes draft of words (lexeme_of token.entry)) }
+    ensures value { Gives (λ x. x) if_said result (attributes draft of words (lexeme_of token.entry)) }
     ensures whole { IfOk result (λ r. WholeReading r) }
 {
     match token.keyword() {
@@ -95,7 +95,7 @@ pub fn segment(
 ) -> Result<Reading, Fail<DefKind>>
     requires whole { WholeDraft draft }
     requires name { name ≢ [] }
-    ensures value { Reads result (segment draft name (lexeme_of token.entry)) }
+    ensures value { Gives (λ x. x) if_said result (segment draft name (lexeme_of token.entry)) }
     ensures whole { IfOk result (λ r. WholeReading r) }
 {
     match token.keyword() {
@@ -117,7 +117,7 @@ pub fn class(
 ) -> Result<Reading, Fail<DefKind>>
     requires whole { WholeDraft draft }
     requires name { name ≢ [] }
-    ensures value { Reads result (class draft name (lexeme_of token.entry)) }
+    ensures value { Gives (λ x. x) if_said result (class draft name (lexeme_of token.entry)) }
     ensures whole { IfOk result (λ r. WholeReading r) }
 {
     match token.text() {

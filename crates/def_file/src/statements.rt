@@ -3,7 +3,7 @@
 ghost use Rattle.std.specs.Prelude.{◌≡◌, IfOk, IfSome, None, Some};
 ghost use Rattle.obj_types.specs.declared.definition.ModKind.TheVariants as modules;
 ghost use Rattle.def_tokens.specs.Lexemes.{lexeme_of};
-ghost use Rattle.def_file.specs.Answer.{Reads};
+ghost use Rattle.lx_types.specs.Answers.{if_said, Gives};
 ghost use Rattle.def_file.specs.Whole.{WholeReading, WholeDraft, WholePlace, FitsKind};
 ghost use Rattle.def_file.specs.Draft.{at};
 ghost use Rattle.def_file.specs.Statements.{begun_by, is_second, keyword_statement, statement, program_name, program, library_words, library, description, sized, size, base, exe_type};
@@ -23,7 +23,7 @@ pub fn at(draft: Draft, place: Place) -> Result<Reading, Fail<DefKind>>
     requires whole { WholeDraft draft }
     requires place { WholePlace place }
     requires kind { FitsKind place draft.kind }
-    ensures value { Reads result (at draft place) }
+    ensures value { Gives (λ x. x) if_said result (at draft place) }
     ensures whole { IfOk result (λ r. WholeReading r) }
 {
     Ok(Reading { draft, place })
@@ -78,7 +78,7 @@ fn is_second(draft: &Draft, keyword: Keyword) -> bool
 #[tactic(auto, using(crate::proofs::KindLaws::begun_kind), unfolding(crate::specs::Statements::keyword_statement))]
 fn keyword_statement(draft: Draft, keyword: Keyword) -> Result<Reading, Fail<DefKind>>
     requires { WholeDraft draft }
-    ensures value { Reads result (keyword_statement draft keyword) }
+    ensures value { Gives (λ x. x) if_said result (keyword_statement draft keyword) }
     ensures whole { IfOk result (λ r. WholeReading r) }
 {
     match begun_by(keyword) {
@@ -96,7 +96,7 @@ fn keyword_statement(draft: Draft, keyword: Keyword) -> Result<Reading, Fail<Def
 #[tactic(auto, unfolding(crate::specs::Statements::statement))]
 pub fn statement(draft: Draft, token: Token<'_>) -> Result<Reading, Fail<DefKind>>
     requires { WholeDraft draft }
-    ensures value { Reads result (statement draft (lexeme_of token.entry)) }
+    ensures value { Gives (λ x. x) if_said result (statement draft (lexeme_of token.entry)) }
     ensures whole { IfOk result (λ r. WholeReading r) }
 {
     match token.keyword() {
@@ -110,7 +110,7 @@ pub fn statement(draft: Draft, token: Token<'_>) -> Result<Reading, Fail<DefKind
 #[tactic(auto, unfolding(crate::specs::Statements::program_name))]
 pub fn program_name(draft: Draft, token: Token<'_>) -> Result<Reading, Fail<DefKind>>
     requires { WholeDraft draft }
-    ensures value { Reads result (program_name draft (lexeme_of token.entry)) }
+    ensures value { Gives (λ x. x) if_said result (program_name draft (lexeme_of token.entry)) }
     ensures whole { IfOk result (λ r. WholeReading r) }
 {
     match token.keyword() {
@@ -124,7 +124,7 @@ pub fn program_name(draft: Draft, token: Token<'_>) -> Result<Reading, Fail<DefK
 pub fn program(alloc: Global, mut draft: Draft, token: Token<'_>) -> Result<Reading, Fail<DefKind>>
     requires whole { WholeDraft draft }
     requires kind { draft.kind ≡ None }
-    ensures value { Reads result (program draft (lexeme_of token.entry)) }
+    ensures value { Gives (λ x. x) if_said result (program draft (lexeme_of token.entry)) }
     ensures whole { IfOk result (λ r. WholeReading r) }
 {
     draft.kind = Some(ModKind::Program);
@@ -142,7 +142,7 @@ pub fn program(alloc: Global, mut draft: Draft, token: Token<'_>) -> Result<Read
 pub fn library_words(mut draft: Draft, token: Token<'_>) -> Result<Reading, Fail<DefKind>>
     requires whole { WholeDraft draft }
     requires kind { draft.kind ≡ Some modules.Library }
-    ensures value { Reads result (library_words draft (lexeme_of token.entry)) }
+    ensures value { Gives (λ x. x) if_said result (library_words draft (lexeme_of token.entry)) }
     ensures whole { IfOk result (λ r. WholeReading r) }
 {
     match token.keyword() {
@@ -163,7 +163,7 @@ pub fn library_words(mut draft: Draft, token: Token<'_>) -> Result<Reading, Fail
 pub fn library(alloc: Global, mut draft: Draft, token: Token<'_>) -> Result<Reading, Fail<DefKind>>
     requires whole { WholeDraft draft }
     requires kind { draft.kind ≡ None }
-    ensures value { Reads result (library draft (lexeme_of token.entry)) }
+    ensures value { Gives (λ x. x) if_said result (library draft (lexeme_of token.entry)) }
     ensures whole { IfOk result (λ r. WholeReading r) }
 {
     draft.kind = Some(ModKind::Library);
@@ -184,7 +184,7 @@ pub fn description(
     token: Token<'_>,
 ) -> Result<Reading, Fail<DefKind>>
     requires { WholeDraft draft }
-    ensures value { Reads result (description draft (lexeme_of token.entry)) }
+    ensures value { Gives (λ x. x) if_said result (description draft (lexeme_of token.entry)) }
     ensures whole { IfOk result (λ r. WholeReading r) }
 {
     match token.text() {
@@ -200,7 +200,7 @@ pub fn description(
 #[tactic(auto, unfolding(crate::specs::Statements::sized))]
 fn sized(mut draft: Draft, which: Size, value: Option<u32>) -> Result<Reading, Fail<DefKind>>
     requires { WholeDraft draft }
-    ensures value { Reads result (sized draft which value) }
+    ensures value { Gives (λ x. x) if_said result (sized draft which value) }
     ensures whole { IfOk result (λ r. WholeReading r) }
 {
     match which {
@@ -215,7 +215,7 @@ fn sized(mut draft: Draft, which: Size, value: Option<u32>) -> Result<Reading, F
 #[tactic(auto, unfolding(crate::specs::Statements::size))]
 pub fn size(draft: Draft, which: Size, token: Token<'_>) -> Result<Reading, Fail<DefKind>>
     requires { WholeDraft draft }
-    ensures value { Reads result (size draft which (lexeme_of token.entry)) }
+    ensures value { Gives (λ x. x) if_said result (size draft which (lexeme_of token.entry)) }
     ensures whole { IfOk result (λ r. WholeReading r) }
 {
     match token.number() {
@@ -228,7 +228,7 @@ pub fn size(draft: Draft, which: Size, token: Token<'_>) -> Result<Reading, Fail
 #[tactic(auto, unfolding(crate::specs::Statements::base))]
 pub fn base(draft: Draft, token: Token<'_>) -> Result<Reading, Fail<DefKind>>
     requires { WholeDraft draft }
-    ensures value { Reads result (base draft (lexeme_of token.entry)) }
+    ensures value { Gives (λ x. x) if_said result (base draft (lexeme_of token.entry)) }
     ensures whole { IfOk result (λ r. WholeReading r) }
 {
     if token.is_equals() {
@@ -242,7 +242,7 @@ pub fn base(draft: Draft, token: Token<'_>) -> Result<Reading, Fail<DefKind>>
 #[tactic(auto, unfolding(crate::specs::Statements::exe_type))]
 pub fn exe_type(alloc: Global, draft: Draft, token: Token<'_>) -> Result<Reading, Fail<DefKind>>
     requires { WholeDraft draft }
-    ensures value { Reads result (exe_type draft (lexeme_of token.entry)) }
+    ensures value { Gives (λ x. x) if_said result (exe_type draft (lexeme_of token.entry)) }
     ensures whole { IfOk result (λ r. WholeReading r) }
 {
     match token.name() {

@@ -10,7 +10,7 @@ ghost use Rattle.omf_write.specs.Library.{library_bytes, library_len};
 ghost use Rattle.omf_write.specs.declared.libraries.TheConstants.{LIBRARY_LIMIT as limit};
 ghost use Rattle.implib_core.specs.Imports.{name_or, import_for, imports_for, imports_in, modules_of, objects_of};
 
-use crate::imports::{copy_of, library_of};
+use crate::imports::library_of;
 use lx_types::{EntryKey, Fail, Name, NoMemory, Seq};
 use obj_types::{DefFile, Exp, Imp};
 use omf_write::LibraryLong;
@@ -22,7 +22,7 @@ fn key_of(alloc: Global, export: &Exp) -> Result<EntryKey, NoMemory>
 {
     match export.ordinal {
         Some(ordinal) => Ok(EntryKey::Ordinal(u32::from(ordinal))),
-        None => Ok(EntryKey::Named(copy_of(alloc, &export.name)?)),
+        None => Ok(EntryKey::Named(export.name.copied(alloc)?)),
     }
 }
 
@@ -34,8 +34,8 @@ fn import_of(alloc: Global, from: &Name, export: &Exp) -> Result<Imp, NoMemory>
     ensures fits { IfOk result (λ import. ImportFits import) }
 {
     Ok(Imp {
-        name: copy_of(alloc, &export.name)?,
-        module: copy_of(alloc, from)?,
+        name: export.name.copied(alloc)?,
+        module: from.copied(alloc)?,
         entry: key_of(alloc, export)?,
     })
 }

@@ -9,17 +9,10 @@ ghost use Rattle.omf_write.specs.Library.{library_bytes, library_len, AreModules
 ghost use Rattle.omf_write.specs.declared.libraries.TheConstants.{LIBRARY_LIMIT as limit};
 ghost use Rattle.implib_core.specs.Imports.{modules_of, objects_of};
 
-use lx_types::{Bytes, Fail, Name, NoMemory, Seq};
+use lx_types::{Bytes, Fail, NoMemory, Seq};
 use obj_types::Imp;
 use omf_write::{LibraryLong, import_module, library};
 use std::alloc::Global;
-
-/// The name again.
-pub fn copy_of(alloc: Global, name: &Name) -> Result<Name, NoMemory>
-    ensures { IfOk result (λ copy. copy ≡ name.now) }
-{
-    Name::of_short(alloc, name.bytes())
-}
 
 // The object modules that give these imports, in their order.
 fn modules_of(alloc: Global, imports: &[Imp]) -> Result<Seq<Bytes>, NoMemory>

@@ -11,7 +11,7 @@ ghost use Rattle.omf_write.specs.declared.libraries.TheConstants.{LIBRARY_LIMIT 
 ghost use Rattle.implib_core.specs.Imports.{modules_of, objects_of};
 ghost use Rattle.implib_core.specs.ModuleImports.{import_named, imports_named, name_at, places_in, ArePlaces};
 
-use crate::imports::{copy_of, library_of};
+use crate::imports::library_of;
 use crate::places::Places;
 use lx_model::read_modules_are_whole;
 use lx_types::{EntryHead, EntryKey, Fail, Module, Name, NoMemory, Seq};
@@ -27,8 +27,8 @@ fn import_of(alloc: Global, from: &Name, named: &(Name, u32)) -> Result<Imp, NoM
     ensures fits { IfOk result (λ import. ImportFits import) }
 {
     Ok(Imp {
-        name: copy_of(alloc, &named.0)?,
-        module: copy_of(alloc, from)?,
+        name: named.0.copied(alloc)?,
+        module: from.copied(alloc)?,
         entry: EntryKey::Ordinal(named.1),
     })
 }

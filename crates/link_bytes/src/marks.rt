@@ -9,8 +9,8 @@ ghost use Rattle.link_bytes.specs.Marks.{any_mark, AreMarked, HasBytes};
 
 use crate::fixup::Fixup;
 use crate::images::Images;
-use crate::location::location_len;
 use lx_types::NoMemory;
+use obj_types::location_len;
 use std::alloc::Global;
 
 // Whether a byte of a fixup's field has a mark.

@@ -16,7 +16,6 @@ ghost use Rattle.link_bytes.specs.Paging.{fixes_of, records_among};
 ghost use Rattle.link_bytes.specs.Placed.{AreOfLink, ArePages, bytes_with};
 
 use crate::fixup::Fixup;
-use crate::location::location_len;
 use crate::marks::live_of;
 use crate::paging::{PageFixes, object_fixes, page_fixes};
 use crate::painting::{PlacedPiece, object_rows, paint_fields, placed_data};
@@ -25,7 +24,7 @@ use crate::tables::{ImportTables, tables_of};
 use crate::values::is_patched;
 use link_model::{FixRefusal, LaidObject};
 use lx_types::{Bytes, Fail, Fix, Names, NoMemory, Seq};
-use obj_types::Imp;
+use obj_types::{Imp, location_len};
 use std::alloc::Global;
 
 /// What a link puts into its module's pages, and what it leaves to the loader.

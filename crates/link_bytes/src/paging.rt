@@ -13,11 +13,13 @@ ghost use Rattle.link_bytes.specs.Paging.{fixes_of, fixes_after, page_in, record
 ghost use Rattle.obj_types.specs.declared.symbol.Imp.{Imp};
 
 use crate::fixup::{Fixup, Target};
-use crate::location::location_len;
 use crate::tables::ImportTables;
 use link_model::LaidObject;
 use lx_types::{Fix, FixTarget, NoMemory, PAGE_SIZE, Seq, Source};
-use obj_types::Imp;
+use obj_types::{
+    Imp, LOCATION_BYTE, LOCATION_FAR_16, LOCATION_FAR_32, LOCATION_LOADER_16, LOCATION_OFFSET_16,
+    LOCATION_SELECTOR, location_len,
+};
 use std::alloc::Global;
 
 /// Records by the number of an object and the number of a page, which counts from 0.
@@ -30,11 +32,11 @@ fn source_of(q: &Fixup) -> Source
     ensures { result ≡ records.source_of (shown q.now) }
 {
     match q.fix.loc {
-        0 => Source::Byte,
-        1 | 5 => Source::Off16,
-        2 => Source::Sel,
-        3 => Source::Far16,
-        11 => Source::Far32,
+        LOCATION_BYTE => Source::Byte,
+        LOCATION_OFFSET_16 | LOCATION_LOADER_16 => Source::Off16,
+        LOCATION_SELECTOR => Source::Sel,
+        LOCATION_FAR_16 => Source::Far16,
+        LOCATION_FAR_32 => Source::Far32,
         _ if q.fix.selfrel => Source::Self32,
         _ => Source::Off32,
     }
@@ -44,7 +46,7 @@ fn source_of(q: &Fixup) -> Source
 fn has_alias(q: &Fixup) -> bool
     ensures { result ≡ records.has_alias (shown q.now) }
 {
-    q.fix.loc == 3 || q.fix.loc == 2 && q.narrow
+    q.fix.loc == LOCATION_FAR_16 || q.fix.loc == LOCATION_SELECTOR && q.narrow
 }
 
 fn sum(a: u32, b: u32) -> u32
@@ -59,7 +61,7 @@ fn internal_target(q: &Fixup, object: u32, offset: u32) -> (FixTarget, u32)
     ensures { Some result ≡ target_among [] [] (shown q.now) (Internal object offset) }
 {
     let at = sum(offset, q.fix.disp);
-    if q.fix.loc == 2 {
+    if q.fix.loc == LOCATION_SELECTOR {
         let additive = if 0x1_0000 <= at { at } else { 0 };
         (FixTarget::Internal { object, offset: 0 }, additive)
     } else {

@@ -13,10 +13,10 @@ ghost use Rattle.link_bytes.specs.Values.{field_byte, IsAccepted, with_fields};
 
 use crate::fixup::Fixup;
 use crate::images::Images;
-use crate::location::location_len;
 use crate::values::field_of;
 use link_model::LaidObject;
 use lx_types::{Bytes, NoMemory, Seq};
+use obj_types::location_len;
 use std::alloc::Global;
 
 /// Data at its place in an object.

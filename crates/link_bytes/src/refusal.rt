@@ -7,8 +7,9 @@ ghost use Rattle.link_model.specs.Fixups as rules;
 ghost use Rattle.link_bytes.specs.Shown.{shown, target_shown};
 
 use crate::fixup::{Fixup, Target};
-use crate::location::{has_selector, is_short};
+use crate::location::is_short;
 use link_model::FixRefusal;
+use obj_types::{LOCATION_BYTE, LOCATION_LOADER_32, LOCATION_OFFSET_32, has_selector};
 
 // `a - b`, modulo 2^32.
 pub fn difference(a: u64, b: u64) -> u32
@@ -77,7 +78,7 @@ fn is_far_self(q: &Fixup) -> bool
     q.fix.selfrel
         && (is_constant(q.target)
             || is_short(q.fix.loc) && !stays_in_object(q)
-            || q.fix.loc == 0 && is_past_reach(distance(q)))
+            || q.fix.loc == LOCATION_BYTE && is_past_reach(distance(q)))
 }
 
 // Whether a frame names another object than the target's.
@@ -94,7 +95,7 @@ fn is_frame_apart(q: &Fixup) -> bool
     ensures { result ≡ rules.is_frame_apart (shown q.now) }
 {
     !q.fix.selfrel
-        && !(q.fix.loc == 9 || q.fix.loc == 13)
+        && !(q.fix.loc == LOCATION_OFFSET_32 || q.fix.loc == LOCATION_LOADER_32)
         && are_apart(q.frame, object_of_target(q.target))
 }
 

@@ -11,7 +11,10 @@ ghost use Rattle.link_bytes.specs.Pieces.{of_pieces};
 use crate::images::Images;
 use crate::location::offset_width;
 use lx_types::NoMemory;
-use obj_types::{FixAt, ObjModule, Piece, Seq};
+use obj_types::{
+    FixAt, LOCATION_BYTE, LOCATION_FAR_16, LOCATION_LOADER_16, LOCATION_OFFSET_16,
+    LOCATION_SELECTOR, ObjModule, Piece, Seq,
+};
 use std::alloc::Global;
 
 // The data of these pieces, as rows by segment; a later piece covers an earlier one.
@@ -52,9 +55,9 @@ fn number(data: &Images, f: &FixAt) -> u32
 {
     let at = f.offset as usize;
     match f.loc {
-        0 => u32::from(data.byte(f.seg, at)),
-        1 | 3 | 5 => two_bytes(data, f.seg, at),
-        2 => 0,
+        LOCATION_BYTE => u32::from(data.byte(f.seg, at)),
+        LOCATION_OFFSET_16 | LOCATION_FAR_16 | LOCATION_LOADER_16 => two_bytes(data, f.seg, at),
+        LOCATION_SELECTOR => 0,
         _ => four_bytes(data, f.seg, at),
     }
 }
@@ -64,7 +67,7 @@ fn standing(data: &Images, f: &FixAt) -> u32
     ensures { result ≡ standing_from (byte_of data.now f.now.seg) f.now }
 {
     let number = number(data, f);
-    if f.selfrel && f.loc == 0 && 128 <= number {
+    if f.selfrel && f.loc == LOCATION_BYTE && 128 <= number {
         number + 0xFFFF_FF00
     } else {
         number

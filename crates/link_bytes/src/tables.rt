@@ -96,7 +96,7 @@ impl ImportTables {
         match entry {
             EntryKey::Ordinal(_) => Ok(()),
             EntryKey::Named(name) => {
-                let name = Name::of_short(alloc, name.bytes())?;
+                let name = name.copied(alloc)?;
                 self.procs.push(alloc, name)?;
                 Ok(())
             }

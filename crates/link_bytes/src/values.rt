@@ -12,8 +12,8 @@ ghost use Rattle.link_bytes.specs.Shown.{shown};
 ghost use Rattle.link_bytes.specs.Values.{field_byte};
 
 use crate::fixup::{Fixup, Target};
-use crate::location::location_len;
 use crate::refusal::{difference, is_constant, stays_in_object};
+use obj_types::location_len;
 
 /// Whether the value of a fixup is the same at all bases: a constant, or the distance within one object.
 pub fn is_patched(q: &Fixup) -> bool

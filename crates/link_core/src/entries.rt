@@ -12,7 +12,6 @@ ghost use Rattle.link_bytes.specs.Tables.{ArePairs};
 ghost use Rattle.link_core.specs.Exports.{offsets_of, forward_among, head_among, wide_among, entry_with, entry_to, entry_in, entries_in};
 
 use crate::exports::lead_of;
-use crate::tables::copied;
 use link_bytes::{ImportTables, Target};
 use link_model::LaidObject;
 use lx_exports::OutEntry;
@@ -127,7 +126,7 @@ fn entry_of(
     ensures { IfOk result (λ entry. entry ≡ entry_with objects.now export.now (target_shown target) head) }
 {
     Ok(OutEntry {
-        name: copied(alloc, &export.name)?,
+        name: export.name.copied(alloc)?,
         ordinal: export.ordinal,
         resident: export.resident,
         words: export.words,

@@ -11,7 +11,7 @@ ghost use Rattle.link_core.specs.Parts.{AreTables, HasParts};
 use crate::entries::entries_of;
 use crate::exports::exports_of;
 use crate::ranges::fix_ranges;
-use crate::tables::{copied, link_tables};
+use crate::tables::link_tables;
 use link_fix::Placed;
 use link_model::LaidObject;
 use lx_exports::OutEntry;
@@ -71,8 +71,8 @@ fn name_of(alloc: Global, input: &LinkInput) -> Result<Name, NoMemory>
     ensures { IfOk result (λ name. name ≡ unwrap_or input.now.def.name input.now.stem) }
 {
     match &input.def.name {
-        None => copied(alloc, &input.stem),
-        Some(name) => copied(alloc, name),
+        None => input.stem.copied(alloc),
+        Some(name) => name.copied(alloc),
     }
 }
 
@@ -97,7 +97,7 @@ pub fn image_of(
     ensures { IfOk result (λ image. HasParts input.now objects auto placed tables image) }
 {
     let name = name_of(alloc, input)?;
-    let about = copied(alloc, &input.def.about)?;
+    let about = input.def.about.copied(alloc)?;
     fix_ranges(placed.fixes.as_slice());
     Ok(Image {
         kind: input.def.kind,

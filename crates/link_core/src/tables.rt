@@ -17,20 +17,13 @@ use seg_merge::Places;
 use std::alloc::Global;
 use sym_table::Symbols;
 
-/// A copy of a name.
-pub fn copied(alloc: Global, name: &Name) -> Result<Name, NoMemory>
-    ensures { IfOk result (λ copy. copy ≡ name.now) }
-{
-    Name::of_short(alloc, name.bytes())
-}
-
 // The names in the order in which each first stands.
 fn first_names(alloc: Global, names: &[Name]) -> Result<FirstNames, NoMemory>
     ensures { IfOk result (λ table. AreFirst table (firsts bytes_eq names.now)) }
 {
     let mut table = FirstNames::new(alloc);
     for name in names {
-        let name = copied(alloc, name)?;
+        let name = name.copied(alloc)?;
         table.push(alloc, name)?;
     }
     Ok(table)

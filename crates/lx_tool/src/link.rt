@@ -13,9 +13,8 @@ use link_core::{Linked, link_module};
 use link_model::LinkRefusal;
 use lx_answer::Said;
 use lx_ports::Files;
-use lx_types::{Bytes, Fail, NoMemory, Seq};
+use lx_types::{Bytes, Fail, NoMemory, Seq, push_escaped};
 use obj_types::LinkInput;
-use refusal_text::push_escaped;
 use std::alloc::{AllocError, Global};
 use tool_read::{read_link_input, said};
 

@@ -1,2 +1,3 @@
 mod Letters
 pub mod Ordinals
+pub mod Answered

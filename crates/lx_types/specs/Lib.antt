@@ -4,3 +4,4 @@ pub mod Names
 pub mod Object
 pub mod Parts
 pub mod Sound
+pub mod Escaped

@@ -2,7 +2,9 @@
 #![tactic(auto)]
 
 mod bases;
+mod counts;
 mod entry;
+mod escaped;
 mod fail;
 mod fix;
 mod laws;
@@ -17,7 +19,9 @@ mod seq;
 mod sharing;
 
 pub use bases::{Bases, ModBases};
+pub use counts::count;
 pub use entry::{EntryHead, EntryKey, FwdKey};
+pub use escaped::push_escaped;
 pub use fail::{Fail, NoMemory};
 pub use fix::{Fix, FixTarget, Source};
 pub use laws::format_numbers;

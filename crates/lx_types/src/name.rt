@@ -61,6 +61,13 @@ impl Name {
         Ok(Name { bytes })
     }
 
+    /// The name once more.
+    pub fn copied(&self, alloc: Global) -> Result<Name, NoMemory>
+        ensures { IfOk result (λ copy. copy ≡ self.now) }
+    {
+        Name::of_short(alloc, self.bytes())
+    }
+
     /// The bytes of the name.
     pub fn bytes(&self) -> &[u8]
         ensures same { result.now ≡ self.now }

@@ -9,6 +9,7 @@ mod definition;
 mod input;
 mod laws;
 mod limits;
+mod location;
 mod object;
 mod parts;
 mod refusal;
@@ -16,11 +17,17 @@ mod symbol;
 
 pub use definition::{Attrs, DefFile, ModKind, SegAttrs, SegRules};
 pub use input::{LinkInput, ObjModules};
-pub use laws::limit_numbers;
+pub use laws::{limit_numbers, location_numbers, segment_numbers};
 pub use limits::{MAX_DATA, MAX_DEPTH, MAX_FIXES};
+pub use location::{
+    LOCATION_BYTE, LOCATION_FAR_16, LOCATION_FAR_32, LOCATION_LOADER_16, LOCATION_LOADER_32,
+    LOCATION_OFFSET_16, LOCATION_OFFSET_32, LOCATION_SELECTOR, has_selector, location_len,
+};
 pub use lx_types::{Bytes, EntryKey, Fail, Name, Names, NoMemory, Seq};
 pub use object::{
-    FixAt, Fixes, Frame, Goal, Group, Groups, Members, ObjModule, Piece, Pieces, Seg, Segs, StartAt,
+    ALIGN_ABSOLUTE, ALIGN_BYTE, ALIGN_DOUBLEWORD, ALIGN_PAGE, ALIGN_PARAGRAPH, ALIGN_WORD,
+    COMBINE_COMMON, COMBINE_PRIVATE, COMBINE_PUBLIC, COMBINE_STACK, FixAt, Fixes, Frame, Goal,
+    Group, Groups, Members, ObjModule, Piece, Pieces, Seg, Segs, StartAt,
 };
 pub use parts::{LastData, ObjParts, Threads};
 pub use refusal::OmfRefusal;

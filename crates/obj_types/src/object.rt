@@ -3,6 +3,32 @@
 use crate::{Exports, Exts, Imports, Pubs};
 use lx_types::{Bytes, Name, Names, Numbers, Seq};
 
+/// A segment's place is fixed by its frame number.
+pub const ALIGN_ABSOLUTE: u8 = 0;
+
+pub const ALIGN_BYTE: u8 = 1;
+
+pub const ALIGN_WORD: u8 = 2;
+
+pub const ALIGN_PARAGRAPH: u8 = 3;
+
+/// 4,096 bytes.
+pub const ALIGN_PAGE: u8 = 4;
+
+pub const ALIGN_DOUBLEWORD: u8 = 5;
+
+/// Segments are not joined.
+pub const COMBINE_PRIVATE: u8 = 0;
+
+/// Segments are joined one behind the other. The combine types 4 and 7 mean the same.
+pub const COMBINE_PUBLIC: u8 = 2;
+
+/// As public segments, and the stack is there.
+pub const COMBINE_STACK: u8 = 5;
+
+/// Segments lie over one another.
+pub const COMBINE_COMMON: u8 = 6;
+
 /// A contribution to a logical segment ("98h SEGDEF").
 #[derive(Drop)]
 pub struct Seg {

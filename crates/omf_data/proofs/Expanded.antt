@@ -1,5 +1,5 @@
 -- What blocks expand to.
-use Rattle.std.proofs.Common.{◌≡◌, ◌≢◌, ℕ, zero, suc, ◌+◌, ◌-◌, ◌<◌, ◌≤◌, Bool, List, [], ◌∷◌, ◌++◌, length, take, drop, Result, Ok, Err, refl, sym, ap, subst, ◌∙◌, arith, append_assoc, length-append}
+use Rattle.std.proofs.Common.{◌≡◌, ◌≢◌, ℕ, zero, suc, ◌+◌, ◌-◌, ◌<◌, ◌≤◌, Bool, List, [], ◌∷◌, ◌++◌, length, take, drop, Result, Ok, Err, refl, sym, ap, ◌∙◌, arith, append_assoc, length-append}
 use Rattle.std.specs.Prelude.{IsTrue, false}
 use Rattle.std.specs.List.{repeat, slice_range}
 use Rattle.std.proofs.Math.Seq.{take-append_seam, drop-append_seam}
@@ -10,15 +10,14 @@ use Rattle.lx_bytes.specs.Cursor.{Cursor}
 use Rattle.lx_bytes.specs.LittleEndian.{AreBytes}
 use Rattle.obj_types.specs.declared.limits.TheConstants.{MAX_DEPTH}
 use Rattle.obj_types.specs.declared.refusal.OmfRefusal.{OmfRefusal}
-use Rattle.omf_fields.specs.Fields.{Reading, ◌>>=◌, width, number_at, items_at, list_at}
-use Rattle.omf_fields.specs.Yields.{Yields, as_said}
+use Rattle.lx_types.specs.Answers.{◌>>=◌, if_said, Tells, Gives}
+use Rattle.omf_fields.specs.Fields.{Reading, width, number_at, items_at, list_at}
 use Rattle.omf_fields.proofs.SpanLaws.{ok_is}
 use Rattle.omf_model.specs.Blocks.{Blocks, expanded}
 use Rattle.omf_model.specs.Copies.{capped}
-use Rattle.omf_model.specs.Gives.{Gives}
 use Rattle.omf_model.specs.ReadBlocks.{Block, joined, block_at, blocks_at, blocks_in}
 use Rattle.omf_model.proofs.BlockLaws.{blocks_complete}
-use Rattle.omf_data.specs.Expanding.{seen, block_len, block_data, measured_at, skipped_at, expanded_at, Passes, Refuses, SpellsBlocks}
+use Rattle.omf_data.specs.Expanding.{seen, block_len, block_data, measured_at, skipped_at, expanded_at, SpellsBlocks}
 use Rattle.omf_data.proofs.Onto.{through, items-next, items-refused, items-done, seen-ok, seen-err, data_behind, more_data, data-law, outer-is, block-takes, list-more, list-refused, list-done}
 
 -- ---- blocks that are passed over
@@ -49,30 +48,10 @@ passed_all left wide more count c none = items-done kept same kept-law (block_at
 
 -- ---- refusals
 
--- a refusal of one reading is that of another
-pub refused_on : {A B : Type 0} (e : Fail OmfRefusal) (read : Result A OmfRefusal) (other : Result B OmfRefusal) → ((f : OmfRefusal) → read ≡ Err f → other ≡ Err f) → Refuses e read → Refuses e other
-refused_on (Said f) read other on h = on f h
-refused_on NoMemory read other on h = tt
-
 -- a reading that is never refused
-pub never_said : {A B C : Type 0} (view : B → C) (e : Fail OmfRefusal) (read : Result A OmfRefusal) (other : Result C OmfRefusal) → ((f : OmfRefusal) → read ≡ Err f → ⊥) → Refuses e read → Gives view (Err e) other
+pub never_said : {A B C : Type 0} (view : B → C) (e : Fail OmfRefusal) (read : Result A OmfRefusal) (other : Result C OmfRefusal) → ((f : OmfRefusal) → read ≡ Err f → ⊥) → Tells (if_said e) read → Gives view if_said (Err e) other
 never_said view (Said f) read other never h = absurd (never f h)
 never_said view NoMemory read other never h = tt
-
--- what a field's call answered that was not refused
-pub said_yields : {A B : Type 0} (view : A → B) (r : Result A OmfRefusal) (x : A) (read : Cursor → Reading B) (old new : Cursor) → Yields view r read old new → Ok x ≡ as_said r → read old ≡ Ok (view x, new)
-said_yields view (Ok y) x read old new h is = let same : y ≡ x = cc in h ∙ (λ i. Ok (view (same i), new))
-said_yields {A} view (Err f) x read old new h is = absurd (let yes : Result A (Fail OmfRefusal) = Ok x in let no : yes ≡ Err (Said f) = is in cc)
-
-pub said_passes : {A B : Type 0} (view : A → B) (r : Result A OmfRefusal) (x : A) (read : Reading B) (new : Cursor) → Passes view r read new → Ok x ≡ as_said r → read ≡ Ok (view x, new)
-said_passes view (Ok y) x read new h is = let same : y ≡ x = cc in h ∙ (λ i. Ok (view (same i), new))
-said_passes {A} view (Err f) x read new h is = absurd (let yes : Result A (Fail OmfRefusal) = Ok x in let no : yes ≡ Err (Said f) = is in cc)
-
-pub said_refuses : {A B : Type 0} (view : A → B) (r : Result A OmfRefusal) (e : Fail OmfRefusal) (read : Reading B) (new : Cursor) → Passes view r read new → Err e ≡ as_said r → Refuses e read
-said_refuses {A} view (Ok x) e read new h is = absurd (let no : Result A (Fail OmfRefusal) = Err e in let yes : no ≡ Ok x = is in cc)
-said_refuses {A} {B} view (Err f) e read new h is =
-    let same : e ≡ Said f = cc in
-    subst (λ (e : Fail OmfRefusal). Refuses e read) (sym same) h
 
 -- ---- copies
 

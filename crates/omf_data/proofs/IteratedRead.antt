@@ -9,7 +9,7 @@ use Rattle.obj_types.specs.declared.parts.LastData.TheVariants as datas
 use Rattle.obj_types.specs.declared.parts.ObjParts.{ObjParts}
 use Rattle.omf_frame.specs.declared.omf_record.Rec.{Rec}
 use Rattle.omf_fields.specs.Fields.{width, number_at, index_below}
-use Rattle.omf_fields.specs.Yields.{Finds, as_said}
+use Rattle.lx_types.specs.Answers.{as_is, Gives, as_said}
 use Rattle.omf_fields.proofs.SpanLaws.{bind_ok, ok_is}
 use Rattle.omf_model.specs.Blocks.{Blocks, block_bytes, expanded}
 use Rattle.omf_model.specs.Good.{GoodBlocks}
@@ -19,7 +19,7 @@ use Rattle.omf_model.specs.Items.{is_debug_seg}
 use Rattle.omf_model.specs.ReadModule.{is_wide}
 use Rattle.omf_model.specs.ReadData.{counted_len, judge_data, lidata_at}
 use Rattle.omf_model.specs.Add.{add}
-use Rattle.omf_model.specs.Gives.{then_add, read_after, contents_at}
+use Rattle.omf_model.specs.ReadAfter.{then_add, read_after, contents_at}
 use Rattle.omf_model.proofs.BlockLaws.{blocks_sound, blocks_in-bytes}
 use Rattle.omf_data.specs.Data.{lidata_record}
 use Rattle.omf_data.specs.Expanding.{counted_at, SpellsBlocks}
@@ -70,14 +70,14 @@ kept_so p d pieces body plain more spelled =
 
 -- data of a debug segment
 pub dropped : (rec : Rec) (p : ObjParts) (d : Iterated) (r : Result Iterated OmfRefusal) → (rec.ty ≡ 0xA2) ⊎ (rec.ty ≡ 0xA3)
-    → Finds lidata_record r (lidata_at (is_wide rec.ty) p rec.at (contents_at rec.at rec.body.now)) → as_said r ≡ Ok d
+    → Gives lidata_record as_is r (lidata_at (is_wide rec.ty) p rec.at (contents_at rec.at rec.body.now)) → as_said r ≡ Ok d
     → is_debug_seg p.module.segs d.place.seg ≡ true
     → read_after p rec ≡ Ok (record p { last = datas.Dropped })
 dropped rec p d r kind found is debug = after rec kind p ∙ added lidata_record p d (record p { last = datas.Dropped }) _ r found is (dropped_so p d debug)
 
 -- other data
 pub kept : (rec : Rec) (p : ObjParts) (d : Iterated) (r : Result Iterated OmfRefusal) (pieces : List Piece) (body : List ℕ) → (rec.ty ≡ 0xA2) ⊎ (rec.ty ≡ 0xA3)
-    → Finds lidata_record r (lidata_at (is_wide rec.ty) p rec.at (contents_at rec.at rec.body.now)) → as_said r ≡ Ok d
+    → Gives lidata_record as_is r (lidata_at (is_wide rec.ty) p rec.at (contents_at rec.at rec.body.now)) → as_said r ≡ Ok d
     → is_debug_seg p.module.segs d.place.seg ≡ false
     → pieces ≡ p.module.pieces ++ record { seg = d.place.seg; offset = d.place.offset; bytes = expanded (blocks_in d.wide d.body.now) } ∷ []
     → body ≡ block_bytes d.wide (blocks_in d.wide d.body.now)

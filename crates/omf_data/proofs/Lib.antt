@@ -1,7 +1,9 @@
+pub mod Touched
+pub mod Stay
 mod Added
 mod Placed
 mod StraightRead
-mod Onto
+pub mod Onto
 mod Measured
 mod Expanded
 mod IteratedRead

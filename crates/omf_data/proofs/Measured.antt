@@ -4,7 +4,8 @@ use Rattle.lx_bytes.specs.Cursor.{Cursor}
 use Rattle.lx_bytes.specs.LittleEndian.{AreBytes}
 use Rattle.obj_types.specs.declared.limits.TheConstants.{MAX_DATA, MAX_DEPTH}
 use Rattle.obj_types.specs.declared.refusal.OmfRefusal.{OmfRefusal}
-use Rattle.omf_fields.specs.Fields.{Reading, ◌>>=◌, width, number_at, items_at, list_at}
+use Rattle.lx_types.specs.Answers.{◌>>=◌}
+use Rattle.omf_fields.specs.Fields.{Reading, width, number_at, items_at, list_at}
 use Rattle.omf_model.specs.Blocks.{expanded_len}
 use Rattle.omf_model.specs.Copies.{capped}
 use Rattle.omf_model.specs.ReadBlocks.{Block, joined, block_at, blocks_at}

@@ -1,15 +1,19 @@
 -- Blocks that are read one after another: what they come to, behind what came before.
-use Rattle.std.proofs.Common.{◌≡◌, ◌≢◌, ℕ, zero, suc, ◌+◌, ◌-◌, ◌*◌, ◌<◌, ◌≤◌, Bool, true, false, List, [], ◌∷◌, ◌++◌, length, Result, Ok, Err, refl, sym, ap, ◌∙◌, arith, append_assoc, length-append, inl, inr}
+use Rattle.std.proofs.Common.{◌≡◌, ◌≢◌, ℕ, zero, suc, ltb, ◌+◌, ◌-◌, ◌*◌, ◌<◌, ◌≤◌, Bool, true, false, List, [], ◌∷◌, ◌++◌, length, take, Result, Ok, Err, refl, sym, ap, ◌∙◌, arith, append_assoc, length-append, inl, inr}
 use Rattle.std.specs.List.{repeat}
 use Rattle.std.proofs.Math.Nat.{suc-mul}
-use Rattle.std.proofs.lemmas.Bool.{cases_lt}
-use Rattle.lx_bytes.specs.Cursor.{Cursor}
+use Rattle.std.proofs.lemmas.Bool.{cases_lt, ltb-false}
+use Rattle.std.proofs.lemmas.List.{length-take}
+use Rattle.lx_bytes.specs.Cursor.{Cursor, advance}
 use Rattle.lx_bytes.specs.LittleEndian.{AreBytes}
 use Rattle.lx_bytes.proofs.Numbers.{length-little_bytes}
 use Rattle.obj_types.specs.declared.limits.TheConstants.{MAX_DATA}
 use Rattle.obj_types.specs.declared.refusal.OmfRefusal.{OmfRefusal}
-use Rattle.omf_fields.specs.Fields.{Reading, ◌>>=◌, width, number_at, items_at, list_at}
-use Rattle.omf_fields.specs.Yields.{TakesBytes}
+use Rattle.obj_types.specs.declared.refusal.OmfRefusal.TheVariants.{Short}
+use Rattle.lx_types.specs.Answers.{◌>>=◌}
+use Rattle.omf_fields.specs.Fields.{Reading, width, byte_at, bytes_at, number_at, items_at, list_at}
+use Rattle.omf_fields.specs.Taking.{TakesBytes}
+use Rattle.omf_fields.proofs.FieldLaws.{guard_ok}
 use Rattle.omf_fields.proofs.SpanLaws.{bytes_behind, ok_is}
 use Rattle.omf_fields.proofs.ItemLaws.{list-next, list-none}
 use Rattle.omf_model.specs.Blocks.{expanded, expanded_len}
@@ -23,7 +27,7 @@ use Rattle.omf_data.specs.Expanding.{seen, block_len, block_data}
 abbrev pub through : {A B : Type 0} → (A → B) → Result A OmfRefusal → Result B OmfRefusal
 through view read = read >>= λ x. Ok (view x)
 
-module _ {V : Type 0} (view : V → List Block → V) (push : V → Block → V) (law : (v : V) (b : Block) (bs : List Block) → view v (b ∷ bs) ≡ view (push v b) bs) (one : Cursor → Reading Block) where
+module _ {V W : Type 0} (view : V → List Block → W) (push : V → Block → V) (law : (v : V) (b : Block) (bs : List Block) → view v (b ∷ bs) ≡ view (push v b) bs) (one : Cursor → Reading Block) where
   seen-cons : (v : V) (b : Block) (r : Reading (List Block)) → seen (view v) (r >>= λ others. Ok (b ∷ others.0, others.1)) ≡ seen (view (push v b)) r
   seen-cons v b (Ok bs) = λ i. Ok (law v b bs.0 i, bs.1)
   seen-cons v b (Err e) = refl
@@ -132,3 +136,30 @@ outer-is (suc left) wide times zero c c1 c2 deep a b some = absurd (omega (arith
 outer-is (suc left) wide times (suc more) c c1 c2 deep a b some =
     let less : suc left - 1 ≡ left = omega arith in
     rw (a, b, less) refl
+
+-- ---- an innermost block
+
+innermost-is : (left : ℕ) (wide : Bool) (times count : ℕ) (c c1 c2 : Cursor) → 0 < left → number_at (width wide) c ≡ Ok (times, c1) → number_at 2 c1 ≡ Ok (count, c2) → count ≡ 0
+    → block_at left wide c ≡ (byte_at c2 >>= λ len. bytes_at len.0 len.1 >>= λ content. Ok (innermost times content.0, content.1))
+unfolding block_at
+innermost-is zero wide times count c c1 c2 deep a b none = absurd (omega (arith, deep))
+innermost-is (suc left) wide times zero c c1 c2 deep a b none = rw (a, b) refl
+innermost-is (suc left) wide times (suc more) c c1 c2 deep a b none = absurd (omega (arith, none))
+
+-- seen by a view
+module _ {V : Type 0} (view : Block → V) (left : ℕ) (wide : Bool) (times count : ℕ) (c c1 c2 : Cursor) (deep : 0 < left) (first : number_at (width wide) c ≡ Ok (times, c1)) (second : number_at 2 c1 ≡ Ok (count, c2)) (none : count ≡ 0) where
+  pub no-len : (f : OmfRefusal) → byte_at c2 ≡ Err f → seen view (block_at left wide c) ≡ Err f
+  no-len f e = rw (innermost-is left wide times count c c1 c2 deep first second none, e) refl
+
+  pub no-content : (len : ℕ) (c3 : Cursor) (f : OmfRefusal) → byte_at c2 ≡ Ok (len, c3) → bytes_at len c3 ≡ Err f → seen view (block_at left wide c) ≡ Err f
+  no-content len c3 f a e = rw (innermost-is left wide times count c c1 c2 deep first second none, a, e) refl
+
+  pub innermost-seen : (len : ℕ) (c3 d : Cursor) (content : List ℕ) → byte_at c2 ≡ Ok (len, c3) → bytes_at len c3 ≡ Ok (content, d) → seen view (block_at left wide c) ≡ Ok (view (innermost times content), d)
+  innermost-seen len c3 d content a b = rw (innermost-is left wide times count c c1 c2 deep first second none, a, b) refl
+
+pub bytes-long : (n : ℕ) (c d : Cursor) (x : List ℕ) → bytes_at n c ≡ Ok (x, d) → length x ≡ n
+bytes-long n c d x e =
+    let g = guard_ok (ltb (length c.left) n) (Short c.at) (take n c.left, advance n c) (x, d) e in
+    let long : length (take n c.left) ≡ n = omega (arith, ltb-false _ _ g.0, length-take n c.left) in
+    let same : length (take n c.left) ≡ length x = ap (λ (p : List ℕ × Cursor). length p.0) g.1 in
+    omega (arith, long, same)

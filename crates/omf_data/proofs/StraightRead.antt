@@ -6,12 +6,12 @@ use Rattle.obj_types.specs.declared.object.Piece.{Piece}
 use Rattle.obj_types.specs.declared.parts.LastData.TheVariants as datas
 use Rattle.obj_types.specs.declared.parts.ObjParts.{ObjParts}
 use Rattle.omf_frame.specs.declared.omf_record.Rec.{Rec}
-use Rattle.omf_fields.specs.Yields.{Finds, as_said}
+use Rattle.lx_types.specs.Answers.{as_is, Gives, as_said}
 use Rattle.omf_model.specs.Items.{is_debug_seg}
 use Rattle.omf_model.specs.ReadModule.{is_wide}
 use Rattle.omf_model.specs.ReadData.{ledata_at}
 use Rattle.omf_model.specs.Add.{add}
-use Rattle.omf_model.specs.Gives.{then_add, read_after, contents_at}
+use Rattle.omf_model.specs.ReadAfter.{then_add, read_after, contents_at}
 use Rattle.omf_data.specs.Data.{ledata_record}
 use Rattle.omf_data.proofs.Added.{added}
 use Rattle.omf_data.specs.declared.straight.Straight.{Straight}
@@ -33,14 +33,14 @@ kept_so p d pieces plain more =
 
 -- data of a debug segment
 pub dropped : (rec : Rec) (p : ObjParts) (d : Straight) (r : Result Straight OmfRefusal) → (rec.ty ≡ 0xA0) ⊎ (rec.ty ≡ 0xA1)
-    → Finds ledata_record r (ledata_at (is_wide rec.ty) p rec.at (contents_at rec.at rec.body.now)) → as_said r ≡ Ok d
+    → Gives ledata_record as_is r (ledata_at (is_wide rec.ty) p rec.at (contents_at rec.at rec.body.now)) → as_said r ≡ Ok d
     → is_debug_seg p.module.segs d.place.seg ≡ true
     → read_after p rec ≡ Ok (record p { last = datas.Dropped })
 dropped rec p d r kind found is debug = after rec kind p ∙ added ledata_record p d (record p { last = datas.Dropped }) _ r found is (dropped_so p d debug)
 
 -- other data
 pub kept : (rec : Rec) (p : ObjParts) (d : Straight) (r : Result Straight OmfRefusal) (pieces : List Piece) → (rec.ty ≡ 0xA0) ⊎ (rec.ty ≡ 0xA1)
-    → Finds ledata_record r (ledata_at (is_wide rec.ty) p rec.at (contents_at rec.at rec.body.now)) → as_said r ≡ Ok d
+    → Gives ledata_record as_is r (ledata_at (is_wide rec.ty) p rec.at (contents_at rec.at rec.body.now)) → as_said r ≡ Ok d
     → is_debug_seg p.module.segs d.place.seg ≡ false
     → pieces ≡ p.module.pieces ++ record { seg = d.place.seg; offset = d.place.offset; bytes = d.bytes.now } ∷ []
     → read_after p rec ≡ Ok (record p { «module» = record p.module { pieces = pieces }; last = datas.Straight d.place.seg d.place.offset (length d.bytes.now) })

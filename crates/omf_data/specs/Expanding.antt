@@ -1,11 +1,10 @@
 -- What is read of the blocks of "A2h LIDATA" without keeping them: how long they are, and what they expand to.
-use Rattle.std.specs.Prelude.{◌≡◌, ℕ, ◌*◌, Bool, List, ◌++◌, length, Result, Ok, Err}
+use Rattle.std.specs.Prelude.{◌≡◌, ℕ, ◌*◌, Bool, List, ◌++◌, length, Result, Ok}
 use Rattle.std.specs.List.{repeat}
-use Rattle.lx_types.specs.declared.fail.Fail.{Fail}
-use Rattle.lx_types.specs.declared.fail.Fail.TheVariants.{Said, NoMemory}
 use Rattle.lx_bytes.specs.Cursor.{Cursor}
 use Rattle.obj_types.specs.declared.refusal.OmfRefusal.{OmfRefusal}
-use Rattle.omf_fields.specs.Fields.{Reading, ◌>>=◌, items_at}
+use Rattle.lx_types.specs.Answers.{◌>>=◌}
+use Rattle.omf_fields.specs.Fields.{Reading, items_at}
 use Rattle.omf_model.specs.Blocks.{block_bytes, expanded, expanded_len}
 use Rattle.omf_model.specs.Copies.{capped}
 use Rattle.omf_model.specs.Good.{GoodBlocks}
@@ -41,21 +40,6 @@ skipped_at left wide count c = seen (λ _. count) (items_at (block_at left wide)
 -- The length of the data of all blocks, with a cap.
 abbrev pub counted_at : Bool → Cursor → Result ℕ OmfRefusal
 counted_at wide c = blocks_at wide c >>= λ blocks. Ok (counted_len blocks)
-
--- The value and the cursor behind it, or the refusal. Behind a refusal the cursor may be anywhere.
-abbrev pub Passes : {A B : Type 0} → (A → B) → Result A OmfRefusal → Reading B → Cursor → Type 0
-Passes view (Ok x) read new = read ≡ Ok (view x, new)
-Passes view (Err refusal) read new = read ≡ Err refusal
-
--- The refusal, where memory was not wanting.
-abbrev pub Refuses : {A : Type 0} → Fail OmfRefusal → Result A OmfRefusal → Type 0
-Refuses (Said refusal) read = read ≡ Err refusal
-Refuses NoMemory read = Unit {0}
-
--- The same of a call that takes memory.
-abbrev pub PassesOrFails : {A B : Type 0} → (A → B) → Result A (Fail OmfRefusal) → Reading B → Cursor → Type 0
-PassesOrFails view (Ok x) read new = read ≡ Ok (view x, new)
-PassesOrFails view (Err fail) read new = Refuses fail read
 
 -- The bytes are those of good blocks.
 pub record SpellsBlocks (wide : Bool) (body : List ℕ) : Type 0 where

@@ -3,9 +3,9 @@
 ghost use Rattle.std.specs.Prelude.{◌≡◌, ◌++◌, ◌≤◌, Ok, OnOk, take, drop, vec_len};
 ghost use Rattle.std.specs.List.{repeat};
 ghost use Rattle.omf_model.specs.Blocks.{expanded as data_of};
-ghost use Rattle.omf_model.specs.Gives.{Gives};
+ghost use Rattle.lx_types.specs.Answers.{as_is, if_said, Gives, Reads};
 ghost use Rattle.omf_model.specs.ReadBlocks.{blocks_in};
-ghost use Rattle.omf_data.specs.Expanding.{Passes, PassesOrFails, SpellsBlocks, skipped_at, expanded_at};
+ghost use Rattle.omf_data.specs.Expanding.{SpellsBlocks, skipped_at, expanded_at};
 
 use crate::measure::measured_block;
 use lx_types::{Fail, NoMemory};
@@ -47,7 +47,7 @@ fn push_repeated(into: &mut Vec<u8>, content: &[u8], times: u32) -> Result<(), N
 
 /// Passes over `count` blocks, with `left` depths left.
 fn skip_blocks(fields: &mut Fields, wide: bool, left: u32, count: u16) -> Result<(), OmfRefusal>
-    ensures { Passes (λ _. count) result (skipped_at left wide count fields.old) fields.new }
+    ensures { Reads (λ _. count) as_is result (skipped_at left wide count) fields.old fields.new }
 {
     let mut more = count;
     'skipped: while more > 0 {
@@ -65,7 +65,7 @@ fn expand_block(
     left: u32,
     into: &mut Vec<u8>,
 ) -> Result<(), Fail<OmfRefusal>>
-    ensures { PassesOrFails (λ _. into.new.items) result (expanded_at left wide into.old.items fields.old) fields.new }
+    ensures { Reads (λ _. into.new.items) if_said result (expanded_at left wide into.old.items) fields.old fields.new }
 {
     let at = fields.at();
     let times = said(fields.number(wide))?;
@@ -103,7 +103,7 @@ pub fn expanded(
 ) -> Result<Vec<u8>, Fail<OmfRefusal>>
     requires { SpellsBlocks wide body.now }
     // It refuses nothing.
-    ensures { Gives (λ bytes. bytes.items) result (Ok (data_of (blocks_in wide body.now))) }
+    ensures { Gives (λ bytes. bytes.items) if_said result (Ok (data_of (blocks_in wide body.now))) }
 {
     let mut bytes = Vec::with_capacity(alloc, len as usize)?;
     let mut fields = Fields::of(&Rec { at: 0, ty: 0, body });

@@ -3,25 +3,25 @@
 ghost use Rattle.std.specs.Prelude.{◌≡◌, ◌⊎◌, ◌≤◌, IfOk, OnOk, length};
 ghost use Rattle.obj_types.specs.Items.{IsIndex};
 ghost use Rattle.obj_types.specs.declared.limits.TheConstants.{MAX_DATA};
-ghost use Rattle.omf_fields.specs.Yields.{Finds};
+ghost use Rattle.lx_types.specs.Answers.{as_is, if_said, Gives};
 ghost use Rattle.omf_model.specs.Begun.{IsBegun};
-ghost use Rattle.omf_model.specs.Gives.{Gives, read_after, contents_at};
+ghost use Rattle.omf_model.specs.ReadAfter.{read_after, contents_at};
 ghost use Rattle.omf_model.specs.Items.{data_so_far};
 ghost use Rattle.omf_model.specs.ReadData.{lidata_at};
 ghost use Rattle.omf_model.specs.ReadModule.{is_wide};
-ghost use Rattle.omf_marks.specs.Marks.{AreMarks, HaveAll};
+ghost use Rattle.omf_data.specs.Marks.{AreMarks, HaveAll};
 ghost use Rattle.omf_data.specs.Data.{lidata_record};
 ghost use Rattle.omf_data.specs.Expanding.{SpellsBlocks};
 
 use crate::expand::expanded;
+use crate::marks::Marks;
 use crate::measure::measured;
 use crate::place::{Place, judge, segment};
-use lx_types::{Bytes, Fail};
+use lx_types::{Bytes, Fail, count};
 use obj_types::{LastData, ObjParts, OmfRefusal, Piece};
-use omf_fields::{Fields, count, said};
+use omf_fields::{Fields, said};
 use omf_frame::Rec;
 use omf_frame::record_type::{LIDATA, LIDATA_32};
-use omf_marks::Marks;
 use std::alloc::Global;
 
 /// The fields of an LIDATA record: its blocks are not expanded, and `len` is the length of their data.
@@ -44,7 +44,7 @@ fn fields_of<'a>(
     requires marks { HaveAll marks.now before.now }
     requires have { have ≡ length before.now.module.segs }
     requires limit { data_so_far before.now ≤ MAX_DATA }
-    ensures read { Finds lidata_record result (lidata_at (is_wide rec.now.ty) before.now rec.now.at (contents_at rec.now.at rec.now.body.now)) }
+    ensures read { Gives lidata_record as_is result (lidata_at (is_wide rec.now.ty) before.now rec.now.at (contents_at rec.now.at rec.now.body.now)) }
     ensures range { IfOk result (λ d. IsIndex before.now.module.segs d.place.seg) }
     ensures spelled { IfOk result (λ d. SpellsBlocks d.wide d.body.now) }
 {
@@ -81,7 +81,7 @@ pub fn lidata_marked(
     requires kind { (rec.now.ty ≡ LIDATA) ⊎ (rec.now.ty ≡ LIDATA_32) }
     requires begun { IsBegun into.old }
     requires marks { AreMarks marks.old into.old }
-    ensures read { Gives (λ _. into.new) result (read_after into.old rec.now) }
+    ensures read { Gives (λ _. into.new) if_said result (read_after into.old rec.now) }
     ensures marks { OnOk result (AreMarks marks.new into.new) }
 {
     marks.see(into)?;
@@ -111,7 +111,7 @@ pub fn lidata_marked(
 pub fn lidata(alloc: Global, rec: &Rec, into: &mut ObjParts) -> Result<(), Fail<OmfRefusal>>
     requires kind { (rec.now.ty ≡ LIDATA) ⊎ (rec.now.ty ≡ LIDATA_32) }
     requires begun { IsBegun into.old }
-    ensures { Gives (λ _. into.new) result (read_after into.old rec.now) }
+    ensures { Gives (λ _. into.new) if_said result (read_after into.old rec.now) }
 {
     let mut marks = Marks::new(alloc);
     lidata_marked(alloc, rec, into, &mut marks)

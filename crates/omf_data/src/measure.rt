@@ -1,9 +1,9 @@
 //! How long the data of "A2h LIDATA" is, measured before anything is expanded.
 
 ghost use Rattle.std.specs.Prelude.{◌≡◌, ◌+◌, ◌*◌};
-ghost use Rattle.omf_fields.specs.Yields.{Finds};
+ghost use Rattle.lx_types.specs.Answers.{as_is, Gives, Reads};
 ghost use Rattle.omf_model.specs.Copies.{capped as capped_at_limit};
-ghost use Rattle.omf_data.specs.Expanding.{Passes, measured_at, counted_at};
+ghost use Rattle.omf_data.specs.Expanding.{measured_at, counted_at};
 
 use obj_types::{MAX_DATA, MAX_DEPTH, OmfRefusal};
 use omf_fields::Fields;
@@ -33,7 +33,7 @@ fn product(times: u32, len: u32) -> u32
 /// first byte.
 #[tactic(auto, unfolding(omf_model::specs::ReadBlocks::block_at))]
 pub fn measured_block(fields: &mut Fields, wide: bool, left: u32) -> Result<u32, OmfRefusal>
-    ensures { Passes (λ len. len) result (measured_at left wide fields.old) fields.new }
+    ensures { Reads (λ len. len) as_is result (measured_at left wide) fields.old fields.new }
 {
     let at = fields.at();
     let times = fields.number(wide)?;
@@ -59,7 +59,7 @@ pub fn measured_block(fields: &mut Fields, wide: bool, left: u32) -> Result<u32,
 /// The length of the data of all blocks that are left.
 #[tactic(auto, unfolding(omf_model::specs::ReadBlocks::blocks_at))]
 pub fn measured(fields: &mut Fields, wide: bool) -> Result<u32, OmfRefusal>
-    ensures { Finds (λ len. len) result (counted_at wide fields.old) }
+    ensures { Gives (λ len. len) as_is result (counted_at wide fields.old) }
 {
     let mut len = 0;
     'all: while !fields.is_empty() {

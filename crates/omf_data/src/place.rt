@@ -2,12 +2,12 @@
 
 ghost use Rattle.std.specs.Prelude.{◌≡◌, ◌+◌, ◌^◌, ◌≤◌, ◌<◌, OnOk, Some, false, length};
 ghost use Rattle.obj_types.specs.Items.{item};
-ghost use Rattle.omf_marks.specs.Marks.{HaveAll};
+ghost use Rattle.omf_data.specs.Marks.{HaveAll};
 ghost use Rattle.omf_model.specs.Items.{data_so_far, is_debug_seg};
 ghost use Rattle.omf_model.specs.ReadData.{judge_data};
 
+use crate::marks::Marks;
 use obj_types::{MAX_DATA, ObjParts, OmfRefusal, Seg};
-use omf_marks::Marks;
 
 /// A segment, an offset in it, and the place of the field that says the offset.
 #[derive(Clone, Copy, Debug)]

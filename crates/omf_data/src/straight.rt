@@ -3,22 +3,22 @@
 ghost use Rattle.std.specs.Prelude.{◌≡◌, ◌⊎◌, ◌≤◌, ◌<◌, ◌^◌, false, IfOk, OnOk, length};
 ghost use Rattle.obj_types.specs.declared.limits.TheConstants.{MAX_DATA};
 ghost use Rattle.obj_types.specs.Items.{IsIndex};
-ghost use Rattle.omf_fields.specs.Yields.{Finds};
+ghost use Rattle.lx_types.specs.Answers.{as_is, if_said, Gives};
 ghost use Rattle.omf_model.specs.Begun.{IsBegun};
-ghost use Rattle.omf_model.specs.Gives.{Gives, read_after, contents_at};
+ghost use Rattle.omf_model.specs.ReadAfter.{read_after, contents_at};
 ghost use Rattle.omf_model.specs.Items.{data_so_far, is_debug_seg};
 ghost use Rattle.omf_model.specs.ReadData.{ledata_at};
 ghost use Rattle.omf_model.specs.ReadModule.{is_wide};
-ghost use Rattle.omf_marks.specs.Marks.{AreMarks, HaveAll};
+ghost use Rattle.omf_data.specs.Marks.{AreMarks, HaveAll};
 ghost use Rattle.omf_data.specs.Data.{ledata_record};
 
+use crate::marks::Marks;
 use crate::place::{Place, judge, segment};
-use lx_types::{Bytes, Fail};
+use lx_types::{Bytes, Fail, count};
 use obj_types::{LastData, ObjParts, OmfRefusal, Piece};
-use omf_fields::{Fields, count, said};
+use omf_fields::{Fields, said};
 use omf_frame::Rec;
 use omf_frame::record_type::{LEDATA, LEDATA_32};
-use omf_marks::Marks;
 use std::alloc::Global;
 
 /// The fields of an LEDATA record.
@@ -39,7 +39,7 @@ fn fields_of<'a>(
     requires marks { HaveAll marks.now before.now }
     requires have { have ≡ length before.now.module.segs }
     requires limit { data_so_far before.now ≤ MAX_DATA }
-    ensures read { Finds ledata_record result (ledata_at (is_wide rec.now.ty) before.now rec.now.at (contents_at rec.now.at rec.now.body.now)) }
+    ensures read { Gives ledata_record as_is result (ledata_at (is_wide rec.now.ty) before.now rec.now.at (contents_at rec.now.at rec.now.body.now)) }
     ensures range { IfOk result (λ d. IsIndex before.now.module.segs d.place.seg) }
     ensures fits { IfOk result (λ d. is_debug_seg before.now.module.segs d.place.seg ≡ false → length d.bytes.now < 2 ^ 32) }
 {
@@ -69,7 +69,7 @@ pub fn ledata_marked(
     requires kind { (rec.now.ty ≡ LEDATA) ⊎ (rec.now.ty ≡ LEDATA_32) }
     requires begun { IsBegun into.old }
     requires marks { AreMarks marks.old into.old }
-    ensures read { Gives (λ _. into.new) result (read_after into.old rec.now) }
+    ensures read { Gives (λ _. into.new) if_said result (read_after into.old rec.now) }
     ensures marks { OnOk result (AreMarks marks.new into.new) }
 {
     marks.see(into)?;
@@ -92,7 +92,7 @@ pub fn ledata_marked(
 pub fn ledata(alloc: Global, rec: &Rec, into: &mut ObjParts) -> Result<(), Fail<OmfRefusal>>
     requires kind { (rec.now.ty ≡ LEDATA) ⊎ (rec.now.ty ≡ LEDATA_32) }
     requires begun { IsBegun into.old }
-    ensures { Gives (λ _. into.new) result (read_after into.old rec.now) }
+    ensures { Gives (λ _. into.new) if_said result (read_after into.old rec.now) }
 {
     let mut marks = Marks::new(alloc);
     ledata_marked(alloc, rec, into, &mut marks)

@@ -8,7 +8,8 @@ use Rattle.lx_bytes.specs.LittleEndian.{AreBytes, little, little_bytes}
 use Rattle.lx_bytes.proofs.Numbers.{little_bytes-little}
 use Rattle.obj_types.specs.declared.refusal.OmfRefusal.{OmfRefusal}
 use Rattle.obj_types.specs.declared.refusal.OmfRefusal.TheVariants.{Short, BadIndex}
-use Rattle.omf_fields.specs.Fields.{◌>>=◌, number_at, byte_of, byte_at, name_of, name_at, index_of, index_at, is_among, checked, index_below, index_or_zero}
+use Rattle.lx_types.specs.Answers.{◌>>=◌}
+use Rattle.omf_fields.specs.Fields.{number_at, byte_of, byte_at, name_of, name_at, index_of, index_at, is_among, checked, index_below, index_or_zero}
 use Rattle.omf_fields.specs.Forms.{byte, number, name, index}
 use Rattle.omf_fields.specs.Faults.{PassesEnd, IsNoIndex}
 use Rattle.omf_fields.proofs.SpanLaws.{given}

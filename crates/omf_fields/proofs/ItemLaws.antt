@@ -7,8 +7,9 @@ use Rattle.lx_bytes.specs.LittleEndian.{AreBytes}
 use Rattle.obj_types.specs.declared.refusal.OmfRefusal.{OmfRefusal}
 use Rattle.omf_fields.specs.Within.{within, through, Shortens, EndsSo}
 use Rattle.omf_fields.specs.Forms.{Form, name}
-use Rattle.omf_fields.specs.Fields.{Reading, ◌>>=◌, name_at, item_and_others, list_turn, no_items, list_within, list_at}
-use Rattle.omf_fields.specs.Yields.{TakesBytes}
+use Rattle.lx_types.specs.Answers.{◌>>=◌}
+use Rattle.omf_fields.specs.Fields.{Reading, name_at, item_and_others, list_turn, no_items, list_within, list_at}
+use Rattle.omf_fields.specs.Taking.{TakesBytes}
 use Rattle.omf_fields.specs.Onto.{onto}
 use Rattle.omf_fields.specs.Spans.{Free}
 use Rattle.omf_fields.proofs.Turns.{enough, one_turn}

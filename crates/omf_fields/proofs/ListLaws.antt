@@ -7,7 +7,8 @@ use Rattle.std.proofs.lemmas.List.{nil_from_length}
 use Rattle.lx_bytes.specs.Cursor.{Cursor}
 use Rattle.lx_bytes.specs.LittleEndian.{AreBytes}
 use Rattle.obj_types.specs.declared.refusal.OmfRefusal.{OmfRefusal}
-use Rattle.omf_fields.specs.Fields.{Reading, ◌>>=◌, where_so, list_within, list_at}
+use Rattle.lx_types.specs.Answers.{◌>>=◌}
+use Rattle.omf_fields.specs.Fields.{Reading, where_so, list_within, list_at}
 use Rattle.omf_fields.specs.Within.{within}
 use Rattle.omf_fields.specs.Forms.{Form, each, present}
 use Rattle.omf_fields.proofs.SpanLaws.{Spans, bytes_behind, then_left, left_splits, spans_nothing, nothing_spans, Sound, Complete, given, done, ok_is, bind_ok}

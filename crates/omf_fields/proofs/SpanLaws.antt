@@ -4,7 +4,8 @@ use Rattle.std.proofs.Math.Seq.{get_or-append-add}
 use Rattle.lx_bytes.specs.Cursor.{Cursor}
 use Rattle.lx_bytes.specs.LittleEndian.{AreBytes}
 use Rattle.obj_types.specs.declared.refusal.OmfRefusal.{OmfRefusal}
-use Rattle.omf_fields.specs.Fields.{Reading, ◌>>=◌, check}
+use Rattle.lx_types.specs.Answers.{◌>>=◌}
+use Rattle.omf_fields.specs.Fields.{Reading, check}
 use Rattle.omf_fields.specs.Forms.{Form, ◌then◌, nothing}
 pub use Rattle.omf_fields.specs.Spans.{Spans}
 

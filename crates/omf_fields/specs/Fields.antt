@@ -1,6 +1,7 @@
 -- Fields of records, read from left to right.
 -- "Record Format", "Index fields"; "B0h COMDEF" for the numbers of lengths.
 use Rattle.std.specs.Prelude.{ℕ, ◌+◌, ◌-◌, ◌*◌, Bool, true, false, zero, suc, List, [], ◌∷◌, length, take, drop, Option, Some, None, Result, Ok, Err, nat_lt, nat_le, ◌==◌, if◌then◌else◌}
+use Rattle.lx_types.specs.Answers.{◌>>=◌}
 use Rattle.lx_bytes.specs.Cursor.{Cursor, advance}
 use Rattle.lx_bytes.specs.LittleEndian.{little}
 use Rattle.omf_fields.specs.Within.{within}
@@ -10,11 +11,6 @@ use Rattle.obj_types.specs.declared.refusal.OmfRefusal.TheVariants.{Short, BadFi
 -- What stands at a cursor and the cursor behind it, or the first fault.
 abbrev pub Reading : Type 0 → Type 0
 Reading A = Result (A × Cursor) OmfRefusal
-
-infixl 10 ◌>>=◌
-abbrev pub ◌>>=◌ : {A B : Type 0} → Result A OmfRefusal → (A → Result B OmfRefusal) → Result B OmfRefusal
-(Ok x) >>= f = f x
-(Err e) >>= f = Err e
 
 -- The next n bytes. A field that passes its record's end is Short at its first byte.
 abbrev pub bytes_at : ℕ → Cursor → Reading (List ℕ)

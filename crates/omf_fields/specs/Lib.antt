@@ -2,6 +2,6 @@ pub mod Within
 pub mod Fields
 pub mod Forms
 pub mod Spans
-pub mod Yields
+pub mod Taking
 pub mod Onto
 pub mod Faults

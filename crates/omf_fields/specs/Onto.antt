@@ -1,7 +1,7 @@
 -- A list that is read on behind the items that were read already.
 use Rattle.std.specs.Prelude.{List, ◌++◌, Result, Ok}
 use Rattle.obj_types.specs.declared.refusal.OmfRefusal.{OmfRefusal}
-use Rattle.omf_fields.specs.Fields.{◌>>=◌}
+use Rattle.lx_types.specs.Answers.{◌>>=◌}
 
 -- The items, and behind them those that are read.
 abbrev pub onto : {A : Type 0} → List A → Result (List A) OmfRefusal → Result (List A) OmfRefusal

@@ -3,7 +3,8 @@
 ghost use Rattle.std.specs.Prelude.{◌≡◌, ◌+◌, ◌<◌, ◌≤◌, ◌^◌, ◌↔◌, [], IsTrue, IfOk, IfErr, length};
 ghost use Rattle.lx_bytes.specs.LittleEndian.{AreBytes};
 ghost use Rattle.omf_fields.specs.Fields.{width, byte_at, bytes_at, number_at, name_at, index_at, index_below, index_or_zero, length_at, where_so};
-ghost use Rattle.omf_fields.specs.Yields.{Yields, with_short};
+ghost use Rattle.lx_types.specs.Answers.{as_is, Yields};
+ghost use Rattle.omf_fields.specs.Taking.{with_short};
 
 use lx_bytes::{Cur, Short};
 use obj_types::OmfRefusal;
@@ -63,14 +64,14 @@ impl<'a> Fields<'a> {
 
     /// The next byte.
     pub fn byte(&mut self) -> Result<u8, OmfRefusal>
-        ensures { Yields (λ b. b) result byte_at self.old self.new }
+        ensures { Yields (λ b. b) as_is result byte_at self.old self.new }
     {
         or_short(self.cur.u8())
     }
 
     /// The next `n` bytes.
     pub fn bytes(&mut self, n: usize) -> Result<&'a [u8], OmfRefusal>
-        ensures read { Yields (λ b. b.now) result (bytes_at n) self.old self.new }
+        ensures read { Yields (λ b. b.now) as_is result (bytes_at n) self.old self.new }
         ensures bytes { IfOk result (λ b. AreBytes b.now) }
     {
         or_short(self.cur.take(n))
@@ -78,21 +79,21 @@ impl<'a> Fields<'a> {
 
     /// The next number of two bytes.
     pub fn word(&mut self) -> Result<u16, OmfRefusal>
-        ensures { Yields (λ n. n) result (number_at 2) self.old self.new }
+        ensures { Yields (λ n. n) as_is result (number_at 2) self.old self.new }
     {
         or_short(self.cur.u16())
     }
 
     /// The next number of four bytes.
     pub fn double(&mut self) -> Result<u32, OmfRefusal>
-        ensures { Yields (λ n. n) result (number_at 4) self.old self.new }
+        ensures { Yields (λ n. n) as_is result (number_at 4) self.old self.new }
     {
         or_short(self.cur.u32())
     }
 
     /// The next offset or length: four bytes in a record of the odd type of a pair, two in the even one.
     pub fn number(&mut self, wide: bool) -> Result<u32, OmfRefusal>
-        ensures { Yields (λ n. n) result (number_at (width wide)) self.old self.new }
+        ensures { Yields (λ n. n) as_is result (number_at (width wide)) self.old self.new }
     {
         if wide {
             self.double()
@@ -103,7 +104,7 @@ impl<'a> Fields<'a> {
 
     /// The next byte, where it stands there.
     pub fn byte_where(&mut self, present: bool) -> Result<Option<u8>, OmfRefusal>
-        ensures { Yields (λ b. b) result (where_so present byte_at) self.old self.new }
+        ensures { Yields (λ b. b) as_is result (where_so present byte_at) self.old self.new }
     {
         if present {
             Ok(Some(self.byte()?))
@@ -114,7 +115,7 @@ impl<'a> Fields<'a> {
 
     /// The next number of two bytes, where it stands there.
     pub fn word_where(&mut self, present: bool) -> Result<Option<u16>, OmfRefusal>
-        ensures { Yields (λ n. n) result (where_so present (number_at 2)) self.old self.new }
+        ensures { Yields (λ n. n) as_is result (where_so present (number_at 2)) self.old self.new }
     {
         if present {
             Ok(Some(self.word()?))
@@ -137,7 +138,7 @@ impl<'a> Fields<'a> {
 
     /// The next name: a length byte, and that many bytes.
     pub fn name(&mut self) -> Result<&'a [u8], OmfRefusal>
-        ensures read { Yields (λ b. b.now) result name_at self.old self.new }
+        ensures read { Yields (λ b. b.now) as_is result name_at self.old self.new }
         ensures short { IfOk result (λ b. length b.now < 256) }
         ensures bytes { IfOk result (λ b. AreBytes b.now) }
     {
@@ -155,7 +156,7 @@ impl<'a> Fields<'a> {
 
     /// The next index: a byte below 80h, or two bytes, the first with its high bit set.
     pub fn index(&mut self) -> Result<u32, OmfRefusal>
-        ensures { Yields (λ n. n) result index_at self.old self.new }
+        ensures { Yields (λ n. n) as_is result index_at self.old self.new }
     {
         let at = self.cur.at();
         let mut ahead = self.cur.fork();
@@ -177,7 +178,7 @@ impl<'a> Fields<'a> {
     /// The next index, which is one of `have`.
     #[tactic(auto, unfolding(crate::specs::Fields::index_below))]
     pub fn index_below(&mut self, have: u32) -> Result<u32, OmfRefusal>
-        ensures read { Yields (λ n. n) result (index_below have) self.old self.new }
+        ensures read { Yields (λ n. n) as_is result (index_below have) self.old self.new }
         ensures range { IfOk result (λ n. (1 ≤ n) × (n ≤ have)) }
     {
         let at = self.at();
@@ -193,7 +194,7 @@ impl<'a> Fields<'a> {
     /// The next index, which is one of `have` or 0.
     #[tactic(auto, unfolding(crate::specs::Fields::index_or_zero))]
     pub fn index_or_zero(&mut self, have: u32) -> Result<u32, OmfRefusal>
-        ensures read { Yields (λ n. n) result (index_or_zero have) self.old self.new }
+        ensures read { Yields (λ n. n) as_is result (index_or_zero have) self.old self.new }
         ensures range { IfOk result (λ n. n ≤ have) }
     {
         let at = self.at();
@@ -209,7 +210,7 @@ impl<'a> Fields<'a> {
     /// The next length of a COMDEF ("B0h COMDEF"): a byte up to 80h, or 81h, 84h or 88h and a number of 2, 3 or
     /// 4 bytes. Another first byte is `BadField`.
     pub fn length(&mut self) -> Result<u32, OmfRefusal>
-        ensures { Yields (λ n. n) result length_at self.old self.new }
+        ensures { Yields (λ n. n) as_is result length_at self.old self.new }
     {
         let at = self.cur.at();
         let mut ahead = self.cur.fork();

@@ -8,7 +8,7 @@ ghost use Rattle.omf_fields.specs.Fields.{Reading, item_and_others, byte_at, num
 ghost use Rattle.omf_fields.specs.Forms.{byte, number, name, index, length_form};
 ghost use Rattle.omf_fields.specs.Faults.{PassesEnd, IsNoIndex};
 ghost use Rattle.omf_fields.specs.Spans.{IsReadAs, Free};
-ghost use Rattle.omf_fields.specs.Yields.{TakesBytes};
+ghost use Rattle.omf_fields.specs.Taking.{TakesBytes};
 ghost use Rattle.omf_fields.specs.Onto.{onto};
 
 /// A field is read exactly where its form stands.

@@ -8,4 +8,4 @@ mod memory;
 
 pub use fields::Fields;
 pub use laws::{field_is_read, field_is_refused, list_item_by_item, list_of_items};
-pub use memory::{count, name_of, said};
+pub use memory::said;

@@ -11,12 +11,13 @@ use Rattle.obj_types.specs.declared.object.ObjModule.{ObjModule}
 use Rattle.obj_types.specs.declared.parts.ObjParts.{ObjParts}
 use Rattle.obj_types.specs.declared.refusal.OmfRefusal.{OmfRefusal}
 use Rattle.obj_types.specs.declared.refusal.OmfRefusal.TheVariants.{BadField}
-use Rattle.omf_fields.specs.Fields.{Reading, ◌>>=◌, name_at}
+use Rattle.lx_types.specs.Answers.{◌>>=◌, if_said, Gives}
+use Rattle.omf_fields.specs.Fields.{Reading, name_at}
 use Rattle.omf_fields.proofs.SpanLaws.{cursor_is}
 use Rattle.omf_frame.specs.declared.omf_record.Rec.{Rec}
 use Rattle.omf_model.specs.Add.{add}
 use Rattle.omf_model.specs.Begun.{IsBegun}
-use Rattle.omf_model.specs.Gives.{Gives, contents_at}
+use Rattle.omf_model.specs.ReadAfter.{contents_at}
 use Rattle.omf_model.specs.RawRecord.{raw_at}
 use Rattle.omf_model.specs.ReadModule.{header_at, module_at}
 use Rattle.omf_model.proofs.BegunLaws.{begun-first}
@@ -70,6 +71,6 @@ begun-so p t text a b = subst IsBegun (λ i. named_parts (sym a i) (sym b i)) (b
 pub module-goes : (c : Cursor) (p : ObjParts) (d : Cursor) → AreBytes c.left → begun_at c ≡ Ok (p, d) → module_at c ≡ finished_at p d
 module-goes c p d bytes e = module-split c bytes ∙ ap (λ (r : Reading ObjParts). r >>= λ b. finished_at b.0 b.1) e
 
-pub module-fails : {A C : Type 0} (v : A → ObjParts × Cursor) (w : C → ObjModule × Cursor) (fail : Fail OmfRefusal) (c : Cursor) → AreBytes c.left → Gives v (Err fail) (begun_at c) → Gives w (Err fail) (module_at c)
+pub module-fails : {A C : Type 0} (v : A → ObjParts × Cursor) (w : C → ObjModule × Cursor) (fail : Fail OmfRefusal) (c : Cursor) → AreBytes c.left → Gives v if_said (Err fail) (begun_at c) → Gives w if_said (Err fail) (module_at c)
 module-fails v w (Said refusal) c bytes h = module-split c bytes ∙ ap (λ (r : Reading ObjParts). r >>= λ b. finished_at b.0 b.1) h
 module-fails v w NoMemory c bytes h = tt

@@ -7,12 +7,12 @@ use Rattle.lx_bytes.specs.LittleEndian.{AreBytes}
 use Rattle.obj_types.specs.declared.object.ObjModule.{ObjModule}
 use Rattle.obj_types.specs.declared.refusal.OmfRefusal.{OmfRefusal}
 use Rattle.omf_fields.specs.Onto.{onto}
-use Rattle.omf_model.specs.Gives.{Gives}
+use Rattle.lx_types.specs.Answers.{if_said, Gives}
 use Rattle.omf_model.specs.ReadModule.{ends_library, module_at, modules_at, up_to_page}
 use Rattle.omf_model.proofs.TurnLaws.{modules-next, modules-refused, modules-done}
 
 pub modules-fail : {A C : Type 0} (v : A → ObjModule × Cursor) (w : C → List ObjModule) (fail : Fail OmfRefusal) (size : ℕ) (ms : List ObjModule) (c c0 : Cursor)
-    → onto ms (modules_at size c) ≡ modules_at size c0 → AreBytes c.left → ends_library c.left ≡ false → Gives v (Err fail) (module_at c) → Gives w (Err fail) (modules_at size c0)
+    → onto ms (modules_at size c) ≡ modules_at size c0 → AreBytes c.left → ends_library c.left ≡ false → Gives v if_said (Err fail) (module_at c) → Gives w if_said (Err fail) (modules_at size c0)
 modules-fail v w (Said refusal) size ms c c0 so bytes more h = sym so ∙ modules-refused size ms c refusal bytes more h
 modules-fail v w NoMemory size ms c c0 so bytes more h = tt
 

@@ -10,7 +10,8 @@ use Rattle.obj_types.specs.declared.object.ObjModule.{ObjModule}
 use Rattle.obj_types.specs.declared.refusal.OmfRefusal.{OmfRefusal}
 use Rattle.obj_types.specs.declared.refusal.OmfRefusal.TheVariants.{Short}
 use Rattle.obj_types.specs.declared.parts.ObjParts.{ObjParts}
-use Rattle.omf_fields.specs.Fields.{Reading, ◌>>=◌}
+use Rattle.lx_types.specs.Answers.{◌>>=◌, if_said, Gives}
+use Rattle.omf_fields.specs.Fields.{Reading}
 use Rattle.omf_fields.specs.Within.{within}
 use Rattle.omf_fields.proofs.SpanLaws.{bind_ok, bytes_behind, ok_is}
 use Rattle.omf_frame.specs.Frame.{BeginsRecord, record_bytes}
@@ -22,7 +23,7 @@ use Rattle.std.specs.Prelude.{◌⊎◌}
 use Rattle.std.proofs.Common.{inl, inr}
 use Rattle.omf_model.specs.Add.{add}
 use Rattle.omf_model.specs.Begun.{IsBegun}
-use Rattle.omf_model.specs.Gives.{Gives, read_after, contents_at}
+use Rattle.omf_model.specs.ReadAfter.{read_after, contents_at}
 use Rattle.omf_model.specs.RawRecord.{RawRecord, as_omf, raw_at}
 use Rattle.omf_model.specs.Record.{Record, header, passed, comment, default_library, impdef, expdef, lnames, segdef, grpdef, pubdef, extdef, comdef, ledata, lidata, fixupp, modend, is_end}
 use Rattle.omf_model.specs.ReadModule.{reader_of, header_at, record_at, rest_within, rest_at, module_at}
@@ -205,6 +206,6 @@ unfolding finished_at
 finished-so p q c d e = ap (λ (r : Reading ObjParts). finished r) e
 
 pub finished-fails : {A C : Type 0} (v : A → ObjParts) (w : C → ObjModule × Cursor) (fail : Fail OmfRefusal) (p0 p : ObjParts) (c0 c : Cursor) (rec : Rec) (new : Cursor) → rest_at p c ≡ rest_at p0 c0 → AreBytes c.left → StandsAt rec c new
-    → Gives v (Err fail) (read_after p rec) → Gives w (Err fail) (finished_at p0 c0)
+    → Gives v if_said (Err fail) (read_after p rec) → Gives w if_said (Err fail) (finished_at p0 c0)
 finished-fails v w (Said refusal) p0 p c0 c rec new so bytes there e = finished-refused p0 c0 refusal (sym so ∙ refused p rec c new refusal bytes there e)
 finished-fails v w NoMemory p0 p c0 c rec new so bytes there e = tt

@@ -1,7 +1,7 @@
 -- A library is its header and the modules behind it.
 use Rattle.std.proofs.Common.{◌≡◌, ℕ, ◌+◌, Bool, true, false, List, length, take, drop, Ok, Err, Result, refl, sym, ap, subst, ◌∙◌, arith, take-append-drop, length-drop}
 use Rattle.std.specs.Prelude.{◌==◌}
-use Rattle.lx_types.specs.Answers.{Answers}
+use Rattle.lx_types.specs.Answers.{◌>>=◌, if_said, Gives, Answers}
 use Rattle.lx_types.specs.declared.fail.Fail.{Fail}
 use Rattle.lx_types.specs.declared.fail.Fail.TheVariants.{Said, NoMemory}
 use Rattle.lx_bytes.specs.Cursor.{Cursor, advance}
@@ -9,10 +9,9 @@ use Rattle.lx_bytes.specs.LittleEndian.{AreBytes, little}
 use Rattle.obj_types.specs.declared.object.ObjModule.{ObjModule}
 use Rattle.obj_types.specs.declared.refusal.OmfRefusal.{OmfRefusal}
 use Rattle.obj_types.specs.declared.refusal.OmfRefusal.TheVariants.{Short, BadField}
-use Rattle.omf_fields.specs.Fields.{◌>>=◌, check}
+use Rattle.omf_fields.specs.Fields.{check}
 use Rattle.omf_fields.proofs.FieldLaws.{guard_so}
 use Rattle.omf_fields.proofs.SpanLaws.{bind_ok, cursor_is, ok_is}
-use Rattle.omf_model.specs.Gives.{Gives}
 use Rattle.omf_model.specs.Library.{Lib, LibraryFault}
 use Rattle.omf_model.specs.RawRecord.{RawRecord, raw_of, is_whole, whole_at}
 use Rattle.omf_model.specs.ReadModule.{is_page_size, library_of, modules_within, modules_at}
@@ -77,7 +76,7 @@ library bytes size c d are e place left taken =
     ∙ ap (λ (k : Cursor). modules_at size (advance size k)) here
     ∙ ap (λ (k : Cursor). modules_at size k) (sym taken)
 
-pub meant : (bytes : List ℕ) (r : Result (List ObjModule) (Fail OmfRefusal)) → AreBytes bytes → Gives (λ (ms : List ObjModule). ms) r (library_of bytes) → Answers r (Lib bytes) (LibraryFault bytes)
+pub meant : (bytes : List ℕ) (r : Result (List ObjModule) (Fail OmfRefusal)) → AreBytes bytes → Gives (λ (ms : List ObjModule). ms) if_said r (library_of bytes) → Answers r (Lib bytes) (LibraryFault bytes)
 meant bytes (Ok ms) are h = library_sound bytes ms are h
 meant bytes (Err (Said refusal)) are h = library_faults bytes refusal are h
 meant bytes (Err NoMemory) are h = tt

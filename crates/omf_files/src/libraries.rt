@@ -2,9 +2,7 @@
 
 ghost use Rattle.std.specs.Prelude.{◌≡◌, ◌≤◌, IfOk, OnOk, length};
 ghost use Rattle.lx_bytes.specs.LittleEndian.{AreBytes};
-ghost use Rattle.omf_fields.specs.Yields.{Finds};
-ghost use Rattle.omf_model.specs.Gives.{Gives};
-ghost use Rattle.lx_types.specs.Answers.{Answers};
+ghost use Rattle.lx_types.specs.Answers.{as_is, if_said, Gives, Answers};
 ghost use Rattle.omf_model.specs.Library.{Lib, LibraryFault};
 ghost use Rattle.omf_model.specs.ReadModule.{ends_library, is_page_size, library_of, modules_at, up_to_page};
 ghost use Rattle.omf_files.specs.Modules.{page_size_of};
@@ -50,7 +48,7 @@ fn to_page(cur: &mut Cur, size: usize) -> Result<(), NoMemory>
 /// The modules from the cursor up to the library's end.
 fn modules(alloc: Global, cur: &mut Cur, size: usize) -> Result<Seq<ObjModule>, Fail<OmfRefusal>>
     requires { 1 ≤ size }
-    ensures { Gives (λ ms. ms) result (modules_at size cur.old) }
+    ensures { Gives (λ ms. ms) if_said result (modules_at size cur.old) }
 {
     let mut modules = Seq::new(alloc);
     'modules: while !ends(cur) {
@@ -77,7 +75,7 @@ fn may_be_page(size: usize) -> bool
 /// The page size of a library, which is how long its header is.
 #[tactic(auto, unfolding(crate::specs::Modules::page_size_of, omf_model::specs::RawRecord::whole_at))]
 fn page_size(bytes: &[u8]) -> Result<usize, OmfRefusal>
-    ensures read { Finds (λ size. size) result (page_size_of bytes.now) }
+    ensures read { Gives (λ size. size) as_is result (page_size_of bytes.now) }
     ensures fits { IfOk result (λ size. (1 ≤ size) × (size ≤ length bytes.now)) }
 {
     let [ty, low, high, ..] = bytes else {
@@ -99,7 +97,7 @@ fn page_size(bytes: &[u8]) -> Result<usize, OmfRefusal>
 /// The modules of a library ("Microsoft LIB Library Format"). The first fault in file order is the one that is
 /// refused. What stands behind the type byte that ends it is not read.
 pub fn read_library(alloc: Global, bytes: &[u8]) -> Result<Seq<ObjModule>, Fail<OmfRefusal>>
-    ensures read { Gives (λ ms. ms) result (library_of bytes.now) }
+    ensures read { Gives (λ ms. ms) if_said result (library_of bytes.now) }
     ensures meant { Answers result (Lib bytes.now) (LibraryFault bytes.now) }
 {
     let mut cur = Cur::of(bytes);

@@ -1,11 +1,11 @@
 //! Object files, record by record.
 
 ghost use Rattle.std.specs.Prelude.{◌≡◌, ◌<◌, ◌≤◌, IfOk, OnOk, MatchResult, Err, length};
-ghost use Rattle.lx_types.specs.Answers.{Answers};
+ghost use Rattle.lx_types.specs.Answers.{if_said, Gives, Answers};
 ghost use Rattle.lx_bytes.specs.LittleEndian.{AreBytes};
-ghost use Rattle.omf_marks.specs.Marks.{AreMarks};
+ghost use Rattle.omf_data.specs.Marks.{AreMarks};
 ghost use Rattle.omf_model.specs.Begun.{IsBegun};
-ghost use Rattle.omf_model.specs.Gives.{Gives, read_after};
+ghost use Rattle.omf_model.specs.ReadAfter.{read_after};
 ghost use Rattle.omf_model.specs.Object.{Obj, FirstFault};
 ghost use Rattle.omf_model.specs.RawRecord.{raw_at};
 ghost use Rattle.omf_model.specs.ReadModule.{header_at, module_at, object_of};
@@ -13,10 +13,10 @@ ghost use Rattle.omf_files.specs.Modules.{StandsAt, begun_at, ends_module, finis
 
 use crate::start::modend;
 use lx_bytes::Cur;
-use lx_types::Fail;
+use lx_types::{Fail, Name};
 use obj_types::{ObjModule, ObjParts, OmfRefusal};
-use omf_data::{ledata_marked, lidata_marked};
-use omf_fields::{Fields, name_of};
+use omf_data::{Marks, ledata_marked, lidata_marked};
+use omf_fields::Fields;
 use omf_fix::fixups_marked;
 use omf_frame::record_type::{
     COMDEF, COMENT, EXTDEF, FIXUPP, FIXUPP_32, GRPDEF, LEDATA, LEDATA_32, LEXTDEF, LEXTDEF_32,
@@ -24,7 +24,6 @@ use omf_frame::record_type::{
     PUBDEF, PUBDEF_32, SEGDEF, SEGDEF_32, THEADR,
 };
 use omf_frame::{FrameRefusal, Rec, next_record};
-use omf_marks::Marks;
 use omf_names::{comdef, coment, extdef, grpdef, names, pubdef, segdef};
 use std::alloc::Global;
 
@@ -60,7 +59,7 @@ fn add_record(
 ) -> Result<(), Fail<OmfRefusal>>
     requires begun { IsBegun into.old }
     requires marks { AreMarks marks.old into.old }
-    ensures read { Gives (λ _. into.new) result (read_after into.old rec.now) }
+    ensures read { Gives (λ _. into.new) if_said result (read_after into.old rec.now) }
     ensures marks { OnOk result (AreMarks marks.new into.new) }
 {
     match rec.ty {
@@ -86,7 +85,7 @@ fn add_record(
 
 /// The module that the record at the cursor begins, a THEADR or an LHEADR.
 fn begin(alloc: Global, cur: &mut Cur) -> Result<ObjParts, Fail<OmfRefusal>>
-    ensures read { Gives (λ p. (p, cur.new)) result (begun_at cur.old) }
+    ensures read { Gives (λ p. (p, cur.new)) if_said result (begun_at cur.old) }
     ensures begun { IfOk result IsBegun }
     ensures shorter { OnOk result (length cur.new.left < length cur.old.left) }
     ensures bytes { AreBytes cur.old.left }
@@ -105,14 +104,14 @@ fn begin(alloc: Global, cur: &mut Cur) -> Result<ObjParts, Fail<OmfRefusal>>
         Err(refusal) => return Err(Fail::Said(refusal)),
     };
     let mut parts = ObjParts::fresh(alloc);
-    parts.module.name = name_of(alloc, bytes)?;
+    parts.module.name = Name::of_short(alloc, bytes)?;
     Ok(parts)
 }
 
 /// The module, from the records behind its first one up to its MODEND.
 fn finish(alloc: Global, cur: &mut Cur, begun: ObjParts) -> Result<ObjModule, Fail<OmfRefusal>>
     requires { IsBegun begun }
-    ensures read { Gives (λ m. (m, cur.new)) result (finished_at begun cur.old) }
+    ensures read { Gives (λ m. (m, cur.new)) if_said result (finished_at begun cur.old) }
     ensures shorter { OnOk result (length cur.new.left ≤ length cur.old.left) }
 {
     let mut parts = begun;
@@ -132,7 +131,7 @@ fn finish(alloc: Global, cur: &mut Cur, begun: ObjParts) -> Result<ObjModule, Fa
 
 /// The module at the cursor, and the cursor behind it.
 pub fn module(alloc: Global, cur: &mut Cur) -> Result<ObjModule, Fail<OmfRefusal>>
-    ensures read { Gives (λ m. (m, cur.new)) result (module_at cur.old) }
+    ensures read { Gives (λ m. (m, cur.new)) if_said result (module_at cur.old) }
     ensures shorter { OnOk result (length cur.new.left < length cur.old.left) }
     ensures bytes { AreBytes cur.old.left }
 {
@@ -143,7 +142,7 @@ pub fn module(alloc: Global, cur: &mut Cur) -> Result<ObjModule, Fail<OmfRefusal
 /// The module that an object file means ("Relocatable Object Module Format", "Object Record Order"). What stands
 /// behind its MODEND is not read. The first fault in file order is the one that is refused.
 pub fn read_object(alloc: Global, bytes: &[u8]) -> Result<ObjModule, Fail<OmfRefusal>>
-    ensures read { Gives (λ m. m) result (object_of bytes.now) }
+    ensures read { Gives (λ m. m) if_said result (object_of bytes.now) }
     ensures meant { Answers result (Obj bytes.now) (FirstFault bytes.now) }
 {
     let mut cur = Cur::of(bytes);

@@ -1,10 +1,10 @@
 //! "8Ah MODEND".
 
 ghost use Rattle.std.specs.Prelude.{◌≡◌, ◌⊎◌};
-ghost use Rattle.omf_fields.specs.Yields.{Finds};
+ghost use Rattle.lx_types.specs.Answers.{as_is, if_said, Gives};
 ghost use Rattle.omf_fix.specs.Methods.{Counts};
 ghost use Rattle.omf_model.specs.Begun.{IsBegun};
-ghost use Rattle.omf_model.specs.Gives.{Gives, read_after, then_add};
+ghost use Rattle.omf_model.specs.ReadAfter.{read_after, then_add};
 ghost use Rattle.omf_model.specs.ReadFixups.{modend_at};
 ghost use Rattle.omf_files.specs.Modules.{started};
 
@@ -24,7 +24,7 @@ fn start(
     have: Have,
 ) -> Result<Option<StartAt>, OmfRefusal>
     requires { Counts have before.now }
-    ensures { Finds (started before.now) result (then_add before.now (modend_at wide before.now fields.old)) }
+    ensures { Gives (started before.now) as_is result (then_add before.now (modend_at wide before.now fields.old)) }
 {
     let kind = fields.byte()?;
     if kind / 64 % 2 == 1 {
@@ -38,7 +38,7 @@ fn start(
 pub fn modend(rec: &Rec, into: &mut ObjParts) -> Result<(), Fail<OmfRefusal>>
     requires kind { (rec.now.ty ≡ MODEND) ⊎ (rec.now.ty ≡ MODEND_32) }
     requires begun { IsBegun into.old }
-    ensures { Gives (λ _. into.new) result (read_after into.old rec.now) }
+    ensures { Gives (λ _. into.new) if_said result (read_after into.old rec.now) }
 {
     let have = Have::of(into)?;
     let wide = rec.ty % 2 == 1;

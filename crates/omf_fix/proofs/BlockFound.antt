@@ -11,8 +11,8 @@ use Rattle.obj_types.specs.declared.limits.TheConstants.{MAX_DEPTH}
 use Rattle.obj_types.specs.declared.refusal.OmfRefusal.{OmfRefusal}
 use Rattle.obj_types.specs.declared.refusal.OmfRefusal.TheVariants.{Short}
 use Rattle.lx_bytes.proofs.Numbers.{length-little_bytes}
-use Rattle.omf_fields.specs.Fields.{Reading, ◌>>=◌, width, number_at, byte_at, bytes_at, items_at, list_at}
-use Rattle.omf_fields.specs.Yields.{Yields, as_said}
+use Rattle.lx_types.specs.Answers.{◌>>=◌, if_said, Tells, Gives}
+use Rattle.omf_fields.specs.Fields.{Reading, width, number_at, byte_at, bytes_at, items_at, list_at}
 use Rattle.omf_fields.proofs.SpanLaws.{bytes_behind, ok_is}
 use Rattle.omf_fields.proofs.FieldLaws.{guard_ok, number_sound, byte_sound}
 use Rattle.omf_model.specs.Blocks.{Blocks, none, expanded_len, origins, contents}
@@ -20,23 +20,12 @@ use Rattle.omf_model.specs.ReadBlocks.{Block, innermost, joined, block_at, block
 use Rattle.omf_model.specs.Copies.{repeated, place_in, block_copies}
 use Rattle.omf_model.specs.Fixups.{places_of}
 use Rattle.omf_model.proofs.CopiesLaws.{copies-found}
-use Rattle.omf_model.specs.Gives.{Gives}
 use Rattle.omf_model.proofs.BlockLaws.{blocks_sound, blocks_complete, blocks_in-bytes}
-use Rattle.omf_fix.specs.Found.{Found, live_times, with_block, seen, found_at, blocks_found, IsInContents, Refuses}
+use Rattle.omf_fix.specs.Found.{Found, live_times, with_block, found_at, blocks_found, IsInContents}
 use Rattle.omf_fix.proofs.Shifted.{moved, moved-none, repeated-never, behind-old}
-use Rattle.omf_fix.proofs.Onto.{items-next, items-refused, items-done, seen-ok, seen-err, if_live, found_behind, more_found, found-law, block-moves, block-takes, outer-is, through, list-more, list-refused, list-done}
-
--- ---- refusals
-
--- a refusal of one reading is that of another
-pub refused_on : {A B : Type 0} (e : Fail OmfRefusal) (read : Result A OmfRefusal) (other : Result B OmfRefusal) → ((f : OmfRefusal) → read ≡ Err f → other ≡ Err f) → Refuses e read → Refuses e other
-refused_on (Said f) read other on h = on f h
-refused_on NoMemory read other on h = tt
-
--- what a field's call answered that was not refused
-pub said_yields : {A B : Type 0} (view : A → B) (r : Result A OmfRefusal) (x : A) (read : Cursor → Reading B) (old new : Cursor) → Yields view r read old new → Ok x ≡ as_said r → read old ≡ Ok (view x, new)
-said_yields view (Ok y) x read old new h is = let same : y ≡ x = cc in h ∙ (λ i. Ok (view (same i), new))
-said_yields {A} view (Err f) x read old new h is = absurd (let yes : Result A (Fail OmfRefusal) = Ok x in let no : yes ≡ Err (Said f) = is in cc)
+use Rattle.omf_data.specs.Expanding.{seen}
+use Rattle.omf_data.proofs.Onto.{items-next, items-refused, items-done, seen-ok, seen-err, block-takes, outer-is, through, list-more, list-refused, list-done}
+use Rattle.omf_fix.proofs.Onto.{if_live, found_behind, more_found, found-law, block-moves}
 
 -- ---- positions
 
@@ -232,11 +221,11 @@ no_blocks number wide w c empty =
     ∙ list-done (found_behind number wide true) (more_found number wide true) (found-law number wide true) (block_at MAX_DEPTH wide) (c.at - 3, w) c empty
     ∙ (λ i. Ok ((let e : w.0 + 0 ≡ w.0 = omega arith in e) i, append-nil w.1 i, append-nil w.2 i))
 
-pub gives_refused : {A B C : Type 0} (view : A → C) (e : Fail OmfRefusal) (read : Result B OmfRefusal) (other : Result C OmfRefusal) → ((f : OmfRefusal) → read ≡ Err f → other ≡ Err f) → Refuses e read → Gives view (Err e) other
+pub gives_refused : {A B C : Type 0} (view : A → C) (e : Fail OmfRefusal) (read : Result B OmfRefusal) (other : Result C OmfRefusal) → ((f : OmfRefusal) → read ≡ Err f → other ≡ Err f) → Tells (if_said e) read → Gives view if_said (Err e) other
 gives_refused view (Said f) read other on h = on f h
 gives_refused view NoMemory read other on h = tt
 
-pub refusal_given : {A B : Type 0} (view : A → B) (e : Fail OmfRefusal) (f : OmfRefusal) (read : Result B OmfRefusal) → Gives view (Err e) read → e ≡ Said f → read ≡ Err f
+pub refusal_given : {A B : Type 0} (view : A → B) (e : Fail OmfRefusal) (f : OmfRefusal) (read : Result B OmfRefusal) → Gives view if_said (Err e) read → e ≡ Said f → read ≡ Err f
 refusal_given view (Said g) f read h is = let same : g ≡ f = cc in h ∙ (λ i. Err (same i))
 refusal_given view NoMemory f read h is = absurd cc
 

@@ -11,7 +11,8 @@ use Rattle.obj_types.specs.declared.parts.LastData.{LastData}
 use Rattle.obj_types.specs.declared.parts.LastData.TheVariants as datas
 use Rattle.obj_types.specs.declared.parts.Threads.{Threads}
 use Rattle.obj_types.specs.declared.parts.ObjParts.{ObjParts}
-use Rattle.omf_fields.specs.Fields.{Reading, ◌>>=◌, check}
+use Rattle.lx_types.specs.Answers.{◌>>=◌, if_said, Gives}
+use Rattle.omf_fields.specs.Fields.{Reading, check}
 use Rattle.omf_fields.proofs.SpanLaws.{ok_is}
 use Rattle.omf_frame.specs.declared.omf_record.Rec.{Rec}
 use Rattle.omf_model.specs.AddLists.{HasFour}
@@ -22,18 +23,16 @@ use Rattle.omf_model.specs.ReadFixups.{FirstByte, is_dropped, second_of, fix_dat
 use Rattle.omf_model.specs.ReadModule.{is_wide}
 use Rattle.omf_model.specs.Add.{add, add_field, add_fields}
 use Rattle.omf_model.specs.Good.{GoodField}
-use Rattle.omf_model.specs.Gives.{Gives, then_add, read_after, contents_at}
+use Rattle.omf_model.specs.ReadAfter.{then_add, read_after, contents_at}
 use Rattle.omf_model.proofs.PartsLaws.{no_threads}
 use Rattle.omf_fields.proofs.ItemLaws.{takes-form}
 use Rattle.omf_model.specs.Spelling.{field_form}
 use Rattle.omf_model.proofs.FixuppLaws.{field_sound, field_one}
 use Rattle.omf_model.proofs.TurnLaws.{fixupp-next, fixupp-refused, fixupp-done}
 use Rattle.omf_model.proofs.BegunLaws.{begun-kept}
-use Rattle.omf_fix.specs.Field.{Adds, then_field, unplaced_at}
+use Rattle.omf_fix.specs.Field.{then_field, unplaced_at}
 use Rattle.lx_types.specs.declared.fail.Fail.TheVariants.{Said, NoMemory}
 use Rattle.lx_types.specs.declared.fail.Fail.{Fail}
-use Rattle.omf_fields.specs.Yields.{as_said}
-use Rattle.omf_fix.specs.Reads.{Reads}
 use Rattle.omf_fix.specs.Placed.{placed, first_of}
 use Rattle.omf_fix.specs.declared.place.FixPlace.{FixPlace}
 use Rattle.omf_fix.specs.Methods.{Counts}
@@ -49,15 +48,6 @@ thread-adds p b i ts e = λ j. record p { «module» = record p.module { fixes =
 pub thread-read : (p : ObjParts) (first : FirstByte) (c d : Cursor) (b : ℕ) (i : _) (ts : Threads) → thread_at p first c ≡ Ok (thread b i, d) → ts ≡ set_threads p.threads (thread b i ∷ [])
     → then_field p (thread_at p first c) ≡ Ok (record p { threads = ts }, d)
 thread-read p first c d b i ts read e = ap (then_field p) read ∙ ap (λ (q : ObjParts). Ok (q, d)) (thread-adds p b i ts e)
-
--- what a call read whose refusal is said
-pub said-read : {A B : Type 0} (view : A → B) (r : Result A OmfRefusal) (read : Reading B) (c : Cursor) (x : A) → Reads view r read c → as_said r ≡ Ok x → read ≡ Ok (view x, c)
-said-read view (Ok y) read c x h e = let same : y ≡ x = cc in h ∙ ap (λ z. Ok (view z, c)) same
-said-read view (Err f) read c x h e = absurd cc
-
-pub said-refused : {A B : Type 0} (view : A → B) (r : Result A OmfRefusal) (read : Reading B) (c : Cursor) (f : OmfRefusal) → Reads view r read c → as_said r ≡ Err (Said f) → read ≡ Err f
-said-refused view (Ok y) read c f h e = absurd cc
-said-refused view (Err g) read c f h e = let same : g ≡ f = cc in h ∙ ap (λ z. Err z) same
 
 -- ---- FIXUP
 
@@ -144,7 +134,7 @@ fixup-kept wide p place c d x e same kept =
     ap (then_field p) (fixup-split wide p (first_of place) c d x.0 x.1 e) ∙ rw kept (placed-then p (judge_fixup p (first_of place) x.0 x.1) (fixup place.high x.0 x.1) d)
     ∙ ap (λ (low : ℕ). (judge_fixup p (first_of place) low x.1 >>= λ u. Ok (add_field p (fixup place.high low x.1))) >>= λ q. Ok (q, d)) (sym same)
 
-pub gives-adds : (new : ObjParts) (r : Result (Unit {0}) (Fail OmfRefusal)) (answer : Result ObjParts OmfRefusal) (read : Reading ObjParts) (d : Cursor) → Gives (λ u. new) r answer → read ≡ (answer >>= λ q. Ok (q, d)) → Adds new r read d
+pub gives-adds : (new : ObjParts) (r : Result (Unit {0}) (Fail OmfRefusal)) (answer : Result ObjParts OmfRefusal) (read : Reading ObjParts) (d : Cursor) → Gives (λ u. new) if_said r answer → read ≡ (answer >>= λ q. Ok (q, d)) → Gives (λ u. (new, d)) if_said r read
 gives-adds new (Ok u) answer read d g e = e ∙ ap (λ (a : Result ObjParts OmfRefusal). a >>= λ q. Ok (q, d)) g
 gives-adds new (Err (Said f)) answer read d g e = e ∙ ap (λ (a : Result ObjParts OmfRefusal). a >>= λ q. Ok (q, d)) g
 gives-adds new (Err NoMemory) answer read d g e = tt
@@ -205,6 +195,6 @@ shrinks wide at now new c d bytes e =
     (takes-form (field_at wide now at) (field_form wide) (GoodField now) (field_sound now wide at) (field_one wide) c w.0 d bytes w.1).0
 
 pub gives-refusal : (old new : ObjParts) (r : Result (Unit {0}) (Fail OmfRefusal)) (f : Fail OmfRefusal) (handed : Result (Unit {0}) (Fail OmfRefusal)) (answer : Result ObjParts OmfRefusal) (read : Reading ObjParts) (d : Cursor)
-    → Adds new r read d → r ≡ Err f → handed ≡ Err f → ((g : OmfRefusal) → read ≡ Err g → answer ≡ Err g) → Gives (λ u. old) handed answer
-gives-refusal old new r (Said g) handed answer read d h e same so = subst (λ (s : Result (Unit {0}) (Fail OmfRefusal)). Gives (λ u. old) s answer) (sym same) (so g (subst (λ (s : Result (Unit {0}) (Fail OmfRefusal)). Adds new s read d) e h))
-gives-refusal old new r NoMemory handed answer read d h e same so = subst (λ (s : Result (Unit {0}) (Fail OmfRefusal)). Gives (λ u. old) s answer) (sym same) tt
+    → Gives (λ u. (new, d)) if_said r read → r ≡ Err f → handed ≡ Err f → ((g : OmfRefusal) → read ≡ Err g → answer ≡ Err g) → Gives (λ u. old) if_said handed answer
+gives-refusal old new r (Said g) handed answer read d h e same so = subst (λ (s : Result (Unit {0}) (Fail OmfRefusal)). Gives (λ u. old) if_said s answer) (sym same) (so g (subst (λ (s : Result (Unit {0}) (Fail OmfRefusal)). Gives (λ u. (new, d)) if_said s read) e h))
+gives-refusal old new r NoMemory handed answer read d h e same so = subst (λ (s : Result (Unit {0}) (Fail OmfRefusal)). Gives (λ u. old) if_said s answer) (sym same) tt

@@ -15,9 +15,9 @@ use Rattle.omf_model.specs.Add.{add_field}
 use Rattle.omf_model.specs.Fixups.{is_location, touches}
 use Rattle.omf_model.specs.Record.{FixField, location_of}
 use Rattle.omf_model.proofs.FixLaws.{and_true}
-use Rattle.omf_marks.specs.declared.marks.Marks.{Marks}
-use Rattle.omf_marks.specs.Marks.{AreMarks}
-use Rattle.omf_marks.proofs.Stay.{fixes-more}
+use Rattle.omf_data.specs.declared.marks.Marks.{Marks}
+use Rattle.omf_data.specs.Marks.{AreMarks}
+use Rattle.omf_data.proofs.Stay.{fixes-more}
 use Rattle.omf_fix.specs.Field.{then_field}
 use Rattle.omf_fix.specs.Placed.{fix_of}
 

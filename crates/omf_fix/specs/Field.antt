@@ -1,31 +1,24 @@
 -- A field of a FIXUPP record that is read and added.
-use Rattle.std.specs.Prelude.{◌≡◌, ℕ, ◌||◌, Bool, not, Result, Ok, Err}
-use Rattle.lx_types.specs.declared.fail.Fail.{Fail}
-use Rattle.lx_types.specs.declared.fail.Fail.TheVariants.{Said, NoMemory}
+use Rattle.std.specs.Prelude.{ℕ, ◌||◌, Bool, not, Ok}
 use Rattle.lx_bytes.specs.Cursor.{Cursor}
-use Rattle.obj_types.specs.declared.refusal.OmfRefusal.{OmfRefusal}
 use Rattle.obj_types.specs.declared.refusal.OmfRefusal.TheVariants.{BadLocation}
 use Rattle.obj_types.specs.declared.parts.ObjParts.{ObjParts}
-use Rattle.omf_fields.specs.Fields.{Reading, ◌>>=◌, check}
+use Rattle.lx_types.specs.Answers.{◌>>=◌}
+use Rattle.omf_fields.specs.Fields.{Reading, check}
 use Rattle.omf_model.specs.Record.{FixData, FixField, location_of}
 use Rattle.omf_model.specs.Fixups.{is_location}
 use Rattle.omf_model.specs.ReadFixups.{FirstByte, is_dropped, second_of, fix_data_at}
 use Rattle.omf_model.specs.Add.{add_field}
 use Rattle.omf_fix.specs.declared.field.FixupFields.{FixupFields}
+use Rattle.omf_fix.specs.declared.starts.FieldStart.{FieldStart}
 use Rattle.omf_fix.specs.FixData.{data_of}
 
-abbrev pub first_byte : ℕ → ℕ → ℕ → FirstByte
-first_byte of_record at byte = record { of_record = of_record; at = at; byte = byte }
+abbrev pub first_at : FieldStart → FirstByte
+first_at start = record { of_record = start.fixupp.at; at = start.at; byte = start.byte }
 
 -- The parts with what a field adds, and the cursor behind it.
 abbrev pub then_field : ObjParts → Reading FixField → Reading ObjParts
 then_field p read = read >>= λ f. Ok (add_field p f.0, f.1)
-
--- What a call answers that adds to the parts. After a refusal nothing is told of the parts and of the cursor.
-abbrev pub Adds : ObjParts → Result (Unit {0}) (Fail OmfRefusal) → Reading ObjParts → Cursor → Type 0
-Adds new (Ok done) read c = read ≡ Ok (new, c)
-Adds new (Err (Said refusal)) read c = read ≡ Err refusal
-Adds new (Err NoMemory) read c = Unit {0}
 
 -- The fields of a fixup behind its first byte, before its place is judged.
 abbrev pub unplaced_at : Bool → ObjParts → FirstByte → Cursor → Reading (ℕ × FixData)

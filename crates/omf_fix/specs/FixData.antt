@@ -6,7 +6,8 @@ use Rattle.obj_types.specs.declared.object.Goal.TheVariants as goals
 use Rattle.obj_types.specs.declared.object.StartAt.{StartAt}
 use Rattle.obj_types.specs.declared.parts.Threads.{Threads}
 use Rattle.obj_types.specs.declared.parts.ObjParts.{ObjParts}
-use Rattle.omf_fields.specs.Fields.{Reading, ◌>>=◌}
+use Rattle.lx_types.specs.Answers.{◌>>=◌}
+use Rattle.omf_fields.specs.Fields.{Reading}
 use Rattle.omf_model.specs.Record.{FixData}
 use Rattle.omf_model.specs.Fixups.{frame_meant, goal_meant}
 use Rattle.omf_model.specs.ReadFixups.{fix_data_at}

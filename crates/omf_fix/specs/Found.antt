@@ -1,15 +1,15 @@
 -- What is found of an offset in the blocks of "A2h LIDATA" without writing them out: how long their data is, where the
 -- offset is copied to, and the places of each innermost block's bytes.
-use Rattle.std.specs.Prelude.{◌≡◌, ℕ, ◌+◌, ◌-◌, ◌*◌, ◌≤◌, Bool, List, [], ◌∷◌, ◌++◌, length, map, Result, Ok, Err, if◌then◌else◌}
-use Rattle.lx_types.specs.declared.fail.Fail.{Fail}
-use Rattle.lx_types.specs.declared.fail.Fail.TheVariants.{Said, NoMemory}
+use Rattle.std.specs.Prelude.{ℕ, ◌+◌, ◌-◌, ◌*◌, ◌≤◌, Bool, List, [], ◌∷◌, ◌++◌, length, map, Result, Ok, if◌then◌else◌}
 use Rattle.lx_bytes.specs.Cursor.{Cursor}
 use Rattle.lx_bytes.specs.LittleEndian.{AreBytes}
 use Rattle.obj_types.specs.declared.refusal.OmfRefusal.{OmfRefusal}
-use Rattle.omf_fields.specs.Fields.{Reading, ◌>>=◌, width}
+use Rattle.lx_types.specs.Answers.{◌>>=◌}
+use Rattle.omf_fields.specs.Fields.{Reading, width}
 use Rattle.omf_model.specs.Blocks.{contents, expanded_len}
 use Rattle.omf_model.specs.Copies.{repeated, place_in, block_copies}
 use Rattle.omf_model.specs.ReadBlocks.{Block, innermost, outer, block_at, blocks_at}
+use Rattle.omf_data.specs.Expanding.{seen}
 use Rattle.omf_fix.specs.declared.found.Copies.{Copies}
 
 -- The length, the copies and the contents.
@@ -49,10 +49,6 @@ with_block number wide live at f b = (
   f.2 ++ block_contents wide at b,
 )
 
--- What is read, seen by a view.
-abbrev pub seen : {A B : Type 0} → (A → B) → Reading A → Reading B
-seen view read = read >>= λ x. Ok (view x.0, x.1)
-
 -- The next block. The contents of a record begin at the cursor's place 3.
 abbrev pub found_at : ℕ → ℕ → Bool → Bool → Found → Cursor → Reading Found
 found_at number left wide live f c = seen (with_block number wide live (c.at - 3) f) (block_at left wide c)
@@ -60,16 +56,6 @@ found_at number left wide live f c = seen (with_block number wide live (c.at - 3
 -- All blocks up to the end.
 abbrev pub blocks_found : ℕ → Bool → Found → Cursor → Result Found OmfRefusal
 blocks_found number wide f c = blocks_at wide c >>= λ blocks. Ok (f.0 + expanded_len blocks, f.1 ++ map (λ x. f.0 + x) (block_copies wide (c.at - 3) blocks number), f.2 ++ contents wide (c.at - 3) blocks)
-
--- The refusal, where memory was not wanting.
-abbrev pub Refuses : {A : Type 0} → Fail OmfRefusal → Result A OmfRefusal → Type 0
-Refuses (Said refusal) read = read ≡ Err refusal
-Refuses NoMemory read = Unit {0}
-
--- The value and the cursor behind it, or the refusal. Behind a refusal the cursor may be anywhere.
-abbrev pub PassesOrFails : {A B : Type 0} → (A → B) → Result A (Fail OmfRefusal) → Reading B → Cursor → Type 0
-PassesOrFails view (Ok x) read new = read ≡ Ok (view x, new)
-PassesOrFails view (Err fail) read new = Refuses fail read
 
 -- In a record's contents.
 pub record IsInContents (c : Cursor) : Type 0 where

@@ -2,5 +2,4 @@ pub mod Field
 pub mod FixData
 pub mod Methods
 pub mod Placed
-pub mod Reads
 pub mod Found

@@ -6,7 +6,7 @@ use Rattle.obj_types.specs.declared.object.StartAt.{StartAt}
 use Rattle.obj_types.specs.declared.parts.LastData.{LastData}
 use Rattle.obj_types.specs.declared.parts.LastData.TheVariants as datas
 use Rattle.obj_types.specs.declared.parts.ObjParts.{ObjParts}
-use Rattle.omf_fields.specs.Fields.{◌>>=◌}
+use Rattle.lx_types.specs.Answers.{◌>>=◌}
 use Rattle.omf_model.specs.Record.{FixData, fixup, location_of, is_self_relative}
 use Rattle.omf_model.specs.ReadFixups.{FirstByte, judge_fixup}
 use Rattle.omf_model.specs.Add.{add_field}

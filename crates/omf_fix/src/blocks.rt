@@ -4,20 +4,20 @@ ghost use Rattle.std.specs.Prelude.{◌≡◌, ◌+◌, ◌++◌, ◌≤◌, ◌
 ghost use Rattle.std.specs.List.{All, list_any};
 ghost use Rattle.obj_types.specs.Items.{item};
 ghost use Rattle.obj_types.specs.declared.parts.ObjParts.{ObjParts};
-ghost use Rattle.omf_marks.specs.Marks.{HaveAll};
+ghost use Rattle.omf_data.specs.Marks.{HaveAll};
 ghost use Rattle.omf_fix.specs.FixData.{data_of};
 ghost use Rattle.omf_fix.specs.Placed.{placed, fix_of, IsBlocks};
 ghost use Rattle.omf_model.specs.Begun.{IsBegun};
 ghost use Rattle.omf_model.specs.Fixups.{is_location as location_there, touches};
-ghost use Rattle.omf_model.specs.Gives.{Gives};
+ghost use Rattle.lx_types.specs.Answers.{if_said, Gives};
 
 use crate::fix_data::{FixFields, meaning};
 use crate::found::copies_in;
-use crate::location::{location, location_len, offset};
+use crate::location::{location, offset};
 use crate::place::{FixPlace, fix_at};
 use lx_types::{Fail, NoMemory, Seq};
-use obj_types::{FixAt, LastData, MAX_FIXES, ObjParts, OmfRefusal, Seg, StartAt};
-use omf_marks::Marks;
+use obj_types::{FixAt, LastData, MAX_FIXES, ObjParts, OmfRefusal, Seg, StartAt, location_len};
+use omf_data::Marks;
 use std::alloc::Global;
 
 /// Whether so many bytes from an offset on are among those of one innermost block.
@@ -29,8 +29,8 @@ fn is_in_block(contents: &[(usize, usize)], offset: usize, past: usize) -> bool
         .any(|block| block.0 <= offset && past <= block.1)
 }
 
-/// Where the data that begins at `start` and lies in a segment has a place.
-fn in_segment(segs: &[Seg], index: u32, start: u32, place: u32) -> u32
+/// The offset in a segment of a place in data that begins at `start` and lies in the segment.
+pub fn in_segment(segs: &[Seg], index: u32, start: u32, place: u32) -> u32
     requires { IsSomeAnd (item segs.now index) (λ segment. start + place ≤ segment.len) }
     ensures { result ≡ start + place }
 {
@@ -99,7 +99,7 @@ pub fn add_blocks(
     requires location { location_there place.high ≡ true }
     requires begun { IsBegun into.old }
     requires last { IsBlocks into.old.last }
-    ensures { Gives (λ _. into.new) result (placed into.old place (data_of d)) }
+    ensures { Gives (λ _. into.new) if_said result (placed into.old place (data_of d)) }
 {
     let at = place.at;
     let low = usize::from(offset(place.high, place.low));

@@ -1,22 +1,22 @@
 //! One field of a FIXUPP record: a THREAD or a FIXUP.
 
 ghost use Rattle.std.specs.Prelude.{◌≡◌};
-ghost use Rattle.omf_fix.specs.Field.{Adds, then_field, unplaced_at, unplaced, first_byte};
+ghost use Rattle.omf_fix.specs.Field.{then_field, unplaced_at, unplaced, first_at};
 ghost use Rattle.omf_fix.specs.Methods.{Counts};
-ghost use Rattle.omf_fix.specs.Reads.{Reads};
-ghost use Rattle.omf_marks.specs.Marks.{AreMarks};
+ghost use Rattle.lx_types.specs.Answers.{as_is, if_said, Gives, Reads};
+ghost use Rattle.omf_data.specs.Marks.{AreMarks};
 ghost use Rattle.omf_model.specs.Begun.{IsBegun};
 ghost use Rattle.omf_model.specs.ReadFixups.{is_dropped as dropped, field_at, fixup_at, thread_at};
 
 use crate::fix_data::{FixFields, fix_fields};
-use crate::have::Have;
 use crate::location::{is_location, location};
 use crate::place::{FixPlace, place_fixup};
+use crate::starts::{FieldStart, Fixupp};
 use crate::threads::{set_thread, thread_index};
 use lx_types::Fail;
 use obj_types::{LastData, ObjParts, OmfRefusal};
+use omf_data::Marks;
 use omf_fields::{Fields, said};
-use omf_marks::Marks;
 use std::alloc::Global;
 
 /// The fields of a fixup behind its first byte.
@@ -36,32 +36,28 @@ fn is_dropped(last: &LastData) -> bool
     }
 }
 
-/// The fields of a fixup behind its first byte, which stands at `at`. Of a fixup on a debugger's data the thread and
-/// the methods alone are judged.
+/// The fields of a fixup behind its first byte. Of a fixup on a debugger's data the thread and the methods alone are
+/// judged.
 fn fixup_fields(
     fields: &mut Fields,
-    wide: bool,
     before: &ObjParts,
-    have: Have,
-    of_record: usize,
-    at: usize,
-    high: u8,
+    start: FieldStart,
 ) -> Result<FixupFields, OmfRefusal>
-    requires { Counts have before.now }
-    ensures { Reads unplaced result (unplaced_at wide before.now (first_byte of_record at high) fields.old) fields.new }
+    requires { Counts start.fixupp.have before.now }
+    ensures { Reads unplaced as_is result (unplaced_at start.fixupp.wide before.now (first_at start)) fields.old fields.new }
 {
     let judged = !is_dropped(&before.last);
-    if judged && !is_location(high) {
+    if judged && !is_location(start.byte) {
         return Err(OmfRefusal::BadLocation {
-            at,
-            loc: location(high),
+            at: start.at,
+            loc: location(start.byte),
         });
     }
     if fields.is_empty() {
-        return Err(OmfRefusal::Short { at });
+        return Err(OmfRefusal::Short { at: start.at });
     }
     let low = fields.byte()?;
-    let data = fix_fields(fields, wide, judged, before, have)?;
+    let data = fix_fields(fields, start.fixupp.wide, judged, before, start.fixupp.have)?;
     Ok(FixupFields { low, data })
 }
 
@@ -69,23 +65,17 @@ fn fixup_fields(
 fn fixup(
     alloc: Global,
     fields: &mut Fields,
-    wide: bool,
-    have: Have,
-    of_record: usize,
-    at: usize,
-    high: u8,
+    start: FieldStart,
     into: &mut ObjParts,
     marks: &mut Marks,
 ) -> Result<(), Fail<OmfRefusal>>
     requires begun { IsBegun into.old }
-    requires have { Counts have into.old }
+    requires have { Counts start.fixupp.have into.old }
     requires marks { AreMarks marks.old into.old }
     ensures marks { AreMarks marks.new into.old }
-    ensures added { Adds into.new result (then_field into.old (fixup_at wide into.old (first_byte of_record at high) fields.old)) fields.new }
+    ensures added { Gives (λ _. (into.new, fields.new)) if_said result (then_field into.old (fixup_at start.fixupp.wide into.old (first_at start) fields.old)) }
 {
-    let FixupFields { low, data } = match fixup_fields(
-        fields, wide, into, have, of_record, at, high,
-    ) {
+    let FixupFields { low, data } = match fixup_fields(fields, into, start) {
         Ok(read) => read,
         Err(refusal) => return Err(Fail::Said(refusal)),
     };
@@ -93,9 +83,9 @@ fn fixup(
         return Ok(());
     }
     let place = FixPlace {
-        of_record,
-        at,
-        high,
+        of_record: start.fixupp.at,
+        at: start.at,
+        high: start.byte,
         low,
     };
     marks.see(into)?;
@@ -105,43 +95,39 @@ fn fixup(
 /// Reads a THREAD behind its byte, and sets the thread.
 fn thread(
     fields: &mut Fields,
-    have: Have,
-    of_record: usize,
-    at: usize,
-    byte: u8,
+    start: FieldStart,
     into: &mut ObjParts,
 ) -> Result<(), Fail<OmfRefusal>>
     requires begun { IsBegun into.old }
-    requires have { Counts have into.old }
-    ensures { Adds into.new result (then_field into.old (thread_at into.old (first_byte of_record at byte) fields.old)) fields.new }
+    requires have { Counts start.fixupp.have into.old }
+    ensures { Gives (λ _. (into.new, fields.new)) if_said result (then_field into.old (thread_at into.old (first_at start) fields.old)) }
 {
-    let index = said(thread_index(fields, into, have, of_record, at, byte))?;
-    set_thread(&mut into.threads, byte, index);
+    let index = said(thread_index(fields, into, start))?;
+    set_thread(&mut into.threads, start.byte, index);
     Ok(())
 }
 
-/// Reads the next field of a FIXUPP record that begins at `of_record`, and adds what it says.
+/// Reads the next field of a FIXUPP record, and adds what it says.
 #[tactic(auto, unfolding(omf_model::specs::ReadFixups::field_at))]
 pub fn next_field(
     alloc: Global,
     fields: &mut Fields,
-    wide: bool,
-    have: Have,
-    of_record: usize,
+    fixupp: Fixupp,
     into: &mut ObjParts,
     marks: &mut Marks,
 ) -> Result<(), Fail<OmfRefusal>>
     requires begun { IsBegun into.old }
-    requires have { Counts have into.old }
+    requires have { Counts fixupp.have into.old }
     requires marks { AreMarks marks.old into.old }
     ensures marks { AreMarks marks.new into.old }
-    ensures added { Adds into.new result (then_field into.old (field_at wide into.old of_record fields.old)) fields.new }
+    ensures added { Gives (λ _. (into.new, fields.new)) if_said result (then_field into.old (field_at fixupp.wide into.old fixupp.at fields.old)) }
 {
     let at = fields.at();
-    let first = said(fields.byte())?;
-    if first < 0x80 {
-        thread(fields, have, of_record, at, first, into)
+    let byte = said(fields.byte())?;
+    let start = FieldStart { fixupp, at, byte };
+    if byte < 0x80 {
+        thread(fields, start, into)
     } else {
-        fixup(alloc, fields, wide, have, of_record, at, first, into, marks)
+        fixup(alloc, fields, start, into, marks)
     }
 }

@@ -2,7 +2,7 @@
 
 ghost use Rattle.std.specs.Prelude.{◌≡◌, ◌&&◌, not};
 ghost use Rattle.omf_fix.specs.Methods.{Counts};
-ghost use Rattle.omf_fix.specs.Reads.{Reads};
+ghost use Rattle.lx_types.specs.Answers.{as_is, Reads};
 ghost use Rattle.omf_fix.specs.FixData.{data_of, meant, meant_at};
 ghost use Rattle.omf_fields.specs.Fields.{number_at, where_so, width};
 ghost use Rattle.omf_model.specs.Fixups.{has_index as index_follows};
@@ -35,7 +35,7 @@ fn frame_index(
     fix: u8,
 ) -> Result<Option<u32>, OmfRefusal>
     requires { Counts have before.now }
-    ensures { Reads (λ index. index) result (where_so (not (by_frame_thread fix) && index_follows (frame_bits fix)) (method_index_at judged before.now (frame_bits fix)) fields.old) fields.new }
+    ensures { Reads (λ index. index) as_is result (where_so (not (by_frame_thread fix) && index_follows (frame_bits fix)) (method_index_at judged before.now (frame_bits fix))) fields.old fields.new }
 {
     let method = fix / 16 % 8;
     if fix >= 0x80 || !has_index(method) {
@@ -53,7 +53,7 @@ fn target_index(
     fix: u8,
 ) -> Result<Option<u32>, OmfRefusal>
     requires { Counts have before.now }
-    ensures { Reads (λ index. index) result (where_so (not (by_target_thread fix)) (method_index_at judged before.now (target_bits fix)) fields.old) fields.new }
+    ensures { Reads (λ index. index) as_is result (where_so (not (by_target_thread fix)) (method_index_at judged before.now (target_bits fix))) fields.old fields.new }
 {
     if fix / 8 % 2 == 1 {
         return Ok(None);
@@ -63,7 +63,7 @@ fn target_index(
 
 /// The displacement, which stands there without P.
 fn displacement(fields: &mut Fields, wide: bool, fix: u8) -> Result<Option<u32>, OmfRefusal>
-    ensures { Reads (λ n. n) result (where_so (has_displacement fix) (number_at (width wide)) fields.old) fields.new }
+    ensures { Reads (λ n. n) as_is result (where_so (has_displacement fix) (number_at (width wide))) fields.old fields.new }
 {
     if fix / 4 % 2 == 1 {
         return Ok(None);
@@ -82,7 +82,7 @@ pub fn fix_fields(
     have: Have,
 ) -> Result<FixFields, OmfRefusal>
     requires { Counts have before.now }
-    ensures { Reads data_of result (fix_data_at judged wide before.now fields.old) fields.new }
+    ensures { Reads data_of as_is result (fix_data_at judged wide before.now) fields.old fields.new }
 {
     let at = fields.at();
     let fix = fields.byte()?;
@@ -135,7 +135,7 @@ pub fn start_at(
     have: Have,
 ) -> Result<StartAt, OmfRefusal>
     requires { Counts have before.now }
-    ensures { Reads (λ start. start) result (meant_at wide before.now fields.old) fields.new }
+    ensures { Reads (λ start. start) as_is result (meant_at wide before.now) fields.old fields.new }
 {
     let d = fix_fields(fields, wide, true, before, have)?;
     Ok(meaning(d, before))

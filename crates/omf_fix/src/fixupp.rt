@@ -1,18 +1,20 @@
 //! "9Ch FIXUPP".
 
 ghost use Rattle.std.specs.Prelude.{◌≡◌, ◌⊎◌, OnOk};
-ghost use Rattle.omf_marks.specs.Marks.{AreMarks};
+ghost use Rattle.omf_data.specs.Marks.{AreMarks};
 ghost use Rattle.omf_model.specs.Begun.{IsBegun};
-ghost use Rattle.omf_model.specs.Gives.{Gives, read_after};
+ghost use Rattle.lx_types.specs.Answers.{if_said, Gives};
+ghost use Rattle.omf_model.specs.ReadAfter.{read_after};
 
 use crate::field::next_field;
 use crate::have::Have;
+use crate::starts::Fixupp;
 use lx_types::Fail;
 use obj_types::{ObjParts, OmfRefusal};
+use omf_data::Marks;
 use omf_fields::Fields;
 use omf_frame::Rec;
 use omf_frame::record_type::{FIXUPP, FIXUPP_32};
-use omf_marks::Marks;
 use std::alloc::Global;
 
 /// Adds what a FIXUPP record says, field after field: threads that later fixups name, and fixes on the data of the
@@ -27,14 +29,18 @@ pub fn fixups_marked(
     requires kind { (rec.now.ty ≡ FIXUPP) ⊎ (rec.now.ty ≡ FIXUPP_32) }
     requires begun { IsBegun into.old }
     requires marks { AreMarks marks.old into.old }
-    ensures read { Gives (λ _. into.new) result (read_after into.old rec.now) }
+    ensures read { Gives (λ _. into.new) if_said result (read_after into.old rec.now) }
     ensures marks { OnOk result (AreMarks marks.new into.new) }
 {
-    let wide = rec.ty % 2 == 1;
     let have = Have::of(into)?;
+    let fixupp = Fixupp {
+        at: rec.at,
+        wide: rec.ty % 2 == 1,
+        have,
+    };
     let mut fields = Fields::of(rec);
     'fields: while !fields.is_empty() {
-        next_field(alloc, &mut fields, wide, have, rec.at, into, marks)?;
+        next_field(alloc, &mut fields, fixupp, into, marks)?;
     }
     Ok(())
 }
@@ -44,7 +50,7 @@ pub fn fixups_marked(
 pub fn fixups(alloc: Global, rec: &Rec, into: &mut ObjParts) -> Result<(), Fail<OmfRefusal>>
     requires kind { (rec.now.ty ≡ FIXUPP) ⊎ (rec.now.ty ≡ FIXUPP_32) }
     requires begun { IsBegun into.old }
-    ensures { Gives (λ _. into.new) result (read_after into.old rec.now) }
+    ensures { Gives (λ _. into.new) if_said result (read_after into.old rec.now) }
 {
     let mut marks = Marks::new(alloc);
     fixups_marked(alloc, rec, into, &mut marks)

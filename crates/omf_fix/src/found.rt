@@ -6,9 +6,9 @@ ghost use Rattle.std.specs.List.{slice_range};
 ghost use Rattle.omf_model.specs.Blocks.{contents as contents_of, origins};
 ghost use Rattle.omf_model.specs.Copies.{is_inside as inside, place_in, repeated};
 ghost use Rattle.omf_model.specs.Fixups.{places_of};
-ghost use Rattle.omf_model.specs.Gives.{Gives};
+ghost use Rattle.lx_types.specs.Answers.{if_said, Gives, Reads};
 ghost use Rattle.omf_model.specs.ReadBlocks.{blocks_in};
-ghost use Rattle.omf_fix.specs.Found.{PassesOrFails, IsInContents, found_in, found_at, blocks_found, live_times as live_times_of};
+ghost use Rattle.omf_fix.specs.Found.{IsInContents, found_in, found_at, blocks_found, live_times as live_times_of};
 
 use lx_types::{Fail, NoMemory};
 use obj_types::{MAX_DEPTH, OmfRefusal};
@@ -168,22 +168,28 @@ fn live_times(live: bool, times: u32) -> u32
     if live { times } else { 0 }
 }
 
+/// What is looked for in blocks whose repeat counts have four bytes or two: the copies of an offset.
+#[derive(Clone, Copy)]
+struct Sought {
+    wide: bool,
+    number: usize,
+}
+
 /// Walks over the next block, with `left` depths left. What is repeated no time is not live: its contents alone are
 /// found.
 #[tactic(auto, unfolding(omf_model::specs::ReadBlocks::block_at))]
 fn find_block(
     fields: &mut Fields,
-    wide: bool,
+    sought: Sought,
     left: u32,
     live: bool,
-    number: usize,
     found: &mut Copies,
 ) -> Result<(), Fail<OmfRefusal>>
     requires { IsInContents fields.old }
-    ensures { PassesOrFails (λ _. found_in found.new) result (found_at number left wide live (found_in found.old) fields.old) fields.new }
+    ensures { Reads (λ _. found_in found.new) if_said result (found_at sought.number left sought.wide live (found_in found.old)) fields.old fields.new }
 {
     let at = fields.at();
-    let read = said(fields.number(wide))?;
+    let read = said(fields.number(sought.wide))?;
     if left == 0 {
         return Err(Fail::Said(OmfRefusal::Nested { at }));
     }
@@ -194,14 +200,14 @@ fn find_block(
         let first = fields.at() - 3;
         let _content = said(fields.bytes(usize::from(len)))?;
         let past = fields.at() - 3;
-        find_content(found, first, past, times, number)?;
+        find_content(found, first, past, times, sought.number)?;
         return Ok(());
     }
     let start = found.places.len();
     let before = found.len;
     let mut more = count;
     'inner: while more > 0 {
-        find_block(fields, wide, left - 1, times > 0, number, found)?;
+        find_block(fields, sought, left - 1, times > 0, found)?;
         more -= 1;
     }
     if times > 0 {
@@ -213,15 +219,14 @@ fn find_block(
 /// Walks over all blocks that are left.
 fn find_blocks(
     fields: &mut Fields,
-    wide: bool,
-    number: usize,
+    sought: Sought,
     found: &mut Copies,
 ) -> Result<(), Fail<OmfRefusal>>
     requires { IsInContents fields.old }
-    ensures { Gives (λ _. found_in found.new) result (blocks_found number wide (found_in found.old) fields.old) }
+    ensures { Gives (λ _. found_in found.new) if_said result (blocks_found sought.number sought.wide (found_in found.old) fields.old) }
 {
     'all: while !fields.is_empty() {
-        find_block(fields, wide, MAX_DEPTH, true, number, found)?;
+        find_block(fields, sought, MAX_DEPTH, true, found)?;
     }
     Ok(())
 }
@@ -239,7 +244,7 @@ pub fn copies_in(alloc: Global, wide: bool, body: &[u8], number: usize) -> Resul
     let mut fields = Fields::of(&Rec { at: 0, ty: 0, body });
     // What is left of a record's contents is known to be bytes.
     let _all = fields.rest();
-    match find_blocks(&mut fields, wide, number, &mut found) {
+    match find_blocks(&mut fields, Sought { wide, number }, &mut found) {
         Ok(()) => Ok(found),
         Err(Fail::NoMemory) => Err(NoMemory),
         Err(Fail::Said(_)) => Ok(Copies {

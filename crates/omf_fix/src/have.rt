@@ -2,11 +2,9 @@
 
 ghost use Rattle.std.specs.Prelude.{◌≡◌, IfOk, length};
 ghost use Rattle.omf_fix.specs.Methods.{Counts, count_by};
-ghost use Rattle.omf_model.specs.Items.{is_debug_seg};
 
-use lx_types::NoMemory;
-use obj_types::{ObjParts, Seg};
-use omf_fields::count;
+use lx_types::{NoMemory, count};
+use obj_types::ObjParts;
 
 /// The numbers of segments, groups and externals of an unfinished module.
 #[derive(Clone, Copy, Debug)]
@@ -44,18 +42,5 @@ impl Have {
             1 => self.groups,
             _ => self.exts,
         }
-    }
-}
-
-/// Whether the segment with an index holds a debugger's symbols or types.
-pub fn is_debug_segment(segs: &[Seg], index: u32) -> bool
-    ensures { result ≡ is_debug_seg segs.now index }
-{
-    if index == 0 {
-        return false;
-    }
-    match segs.get(index as usize - 1) {
-        Some(seg) => seg.debug,
-        None => false,
     }
 }

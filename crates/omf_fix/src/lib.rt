@@ -11,6 +11,7 @@ mod have;
 mod location;
 mod methods;
 mod place;
+mod starts;
 mod threads;
 
 pub use fix_data::{FixFields, fix_fields, start_at};

@@ -2,14 +2,14 @@
 
 ghost use Rattle.std.specs.Prelude.{◌≡◌, IfOk};
 ghost use Rattle.omf_fix.specs.Methods.{Counts};
-ghost use Rattle.omf_fix.specs.Reads.{Reads};
+ghost use Rattle.lx_types.specs.Answers.{as_is, Reads};
 ghost use Rattle.omf_model.specs.Fixups.{are_methods as both_methods, frame_by as frame_for, goal_by as goal_for, has_index as index_follows, is_frame_method as frame_method, is_target_method as target_method};
 ghost use Rattle.omf_model.specs.ReadFixups.{check_frame as frame_checked, check_goal as goal_checked, check_plain as plain_checked, has_threads as both_threads, method_index_at, thread_frame as frame_thread, thread_goal as goal_thread};
-ghost use Rattle.omf_model.specs.ReadNames.{plain_seg_at};
 
-use crate::have::{Have, is_debug_segment};
-use obj_types::{Frame, Goal, ObjParts, OmfRefusal, Threads};
+use crate::have::Have;
+use obj_types::{Frame, Goal, ObjParts, OmfRefusal};
 use omf_fields::Fields;
+use omf_names::{is_debug_segment, plain_segment};
 
 /// Whether a frame has this method: 3, 6 and 7 are not used.
 pub fn is_frame_method(method: u8) -> bool
@@ -147,21 +147,6 @@ pub fn check_goal(
     }
 }
 
-/// The next index of a segment that is no debug segment.
-#[tactic(auto, unfolding(omf_model::specs::ReadNames::plain_seg_at, omf_fields::specs::Fields::index_below))]
-fn plain_segment(fields: &mut Fields, before: &ObjParts, have: Have) -> Result<u32, OmfRefusal>
-    requires { Counts have before.now }
-    ensures { Reads (λ n. n) result (plain_seg_at before.now fields.old) fields.new }
-{
-    let at = fields.at();
-    let have = have.segs();
-    let index = fields.index_below(have)?;
-    if is_debug_segment(before.module.segs.as_slice(), index) {
-        return Err(OmfRefusal::BadIndex { at, index, have });
-    }
-    Ok(index)
-}
-
 /// The next index, of a method's kind. Of a fixup on a debugger's data it may be any.
 pub fn method_index(
     fields: &mut Fields,
@@ -171,12 +156,12 @@ pub fn method_index(
     method: u8,
 ) -> Result<u32, OmfRefusal>
     requires { Counts have before.now }
-    ensures { Reads (λ n. n) result (method_index_at judged before.now method fields.old) fields.new }
+    ensures { Reads (λ n. n) as_is result (method_index_at judged before.now method) fields.old fields.new }
 {
     if !judged {
         fields.index()
     } else if method == 0 {
-        plain_segment(fields, before, have)
+        plain_segment(fields, before, have.segs())
     } else {
         fields.index_below(have.by_method(method))
     }

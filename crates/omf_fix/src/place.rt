@@ -1,22 +1,21 @@
 //! What a good fixup adds, and when it is refused for its place.
 
-ghost use Rattle.std.specs.Prelude.{◌≡◌, ◌+◌, ◌≤◌, IsSomeAnd, true, false};
-ghost use Rattle.obj_types.specs.Items.{item};
-ghost use Rattle.omf_marks.specs.Marks.{HaveAll};
+ghost use Rattle.std.specs.Prelude.{◌≡◌, ◌+◌, true, false};
+ghost use Rattle.omf_data.specs.Marks.{HaveAll};
 ghost use Rattle.omf_fix.specs.Placed.{placed, fix_of};
 ghost use Rattle.omf_fix.specs.FixData.{data_of};
 ghost use Rattle.omf_model.specs.Begun.{IsBegun};
 ghost use Rattle.omf_model.specs.Fixups.{is_location as location_there};
-ghost use Rattle.omf_model.specs.Gives.{Gives};
+ghost use Rattle.lx_types.specs.Answers.{if_said, Gives};
 ghost use Rattle.omf_model.specs.ReadFixups.{is_dropped};
 ghost use Rattle.obj_types.specs.declared.parts.LastData.TheVariants.{Straight};
 
-use crate::blocks::add_blocks;
+use crate::blocks::{add_blocks, in_segment};
 use crate::fix_data::{FixFields, meaning};
-use crate::location::{is_self_relative, location, location_len, offset};
+use crate::location::{is_self_relative, location, offset};
 use lx_types::Fail;
-use obj_types::{FixAt, LastData, MAX_FIXES, ObjParts, OmfRefusal, Seg, StartAt};
-use omf_marks::Marks;
+use obj_types::{FixAt, LastData, MAX_FIXES, ObjParts, OmfRefusal, StartAt, location_len};
+use omf_data::Marks;
 use std::alloc::Global;
 
 /// The first two bytes of a fixup, its place and the place of its record.
@@ -43,41 +42,37 @@ pub fn fix_at(seg: u32, offset: u32, place: FixPlace, what: StartAt) -> FixAt
     }
 }
 
-/// The offset in a segment of an offset of data that begins at `start` and lies in the segment.
-fn in_segment(segs: &[Seg], index: u32, start: u32, offset: u32) -> u32
-    requires { IsSomeAnd (item segs.now index) (λ segment. start + offset ≤ segment.len) }
-    ensures { result ≡ start + offset }
-{
-    // The segment's end has 32 bits, and the sum is not past it.
-    let _end = segs[index as usize - 1].len;
-    start + offset
-}
-
-/// Adds the fixup on the data of an LEDATA record that begins at an offset of a segment and has `len` bytes.
-fn add_straight(
-    into: &mut ObjParts,
-    marks: &Marks,
+/// The data of an LEDATA record: so many bytes from an offset of a segment on.
+#[derive(Clone, Copy)]
+struct StraightData {
     seg: u32,
     start: u32,
     len: u32,
+}
+
+/// Adds the fixup on the data of an LEDATA record.
+fn add_straight(
+    into: &mut ObjParts,
+    marks: &Marks,
+    data: StraightData,
     place: FixPlace,
     d: FixFields,
 ) -> Result<(), Fail<OmfRefusal>>
     requires begun { IsBegun into.old }
     requires location { location_there place.high ≡ true }
-    requires last { into.old.last ≡ Straight seg start len }
+    requires last { into.old.last ≡ Straight data.seg data.start data.len }
     requires marks { HaveAll marks.now into.old }
-    ensures { Gives (λ _. into.new) result (placed into.old place (data_of d)) }
+    ensures { Gives (λ _. into.new) if_said result (placed into.old place (data_of d)) }
 {
     let at = place.at;
     let offset = u32::from(offset(place.high, place.low));
     let size = u32::from(location_len(location(place.high)));
-    if offset + size > len {
+    if offset + size > data.len {
         return Err(Fail::Said(OmfRefusal::NoData { at }));
     }
-    let segment_offset = in_segment(into.module.segs.as_slice(), seg, start, offset);
-    let fix = fix_at(seg, segment_offset, place, meaning(d, into));
-    if marks.is_on_fix(seg, segment_offset, size) {
+    let segment_offset = in_segment(into.module.segs.as_slice(), data.seg, data.start, offset);
+    let fix = fix_at(data.seg, segment_offset, place, meaning(d, into));
+    if marks.is_on_fix(data.seg, segment_offset, size) {
         return Err(Fail::Said(OmfRefusal::FixOverlap { at }));
     }
     if into.module.fixes.as_slice().len() >= MAX_FIXES as usize {
@@ -103,12 +98,17 @@ pub fn place_fixup(
     requires marks { HaveAll marks.now into.old }
     requires location { location_there place.high ≡ true }
     requires kept { is_dropped into.old.last ≡ false }
-    ensures { Gives (λ _. into.new) result (placed into.old place (data_of d)) }
+    ensures { Gives (λ _. into.new) if_said result (placed into.old place (data_of d)) }
 {
     match into.last {
-        LastData::Straight { seg, offset, len } => add_straight(
-            into, marks, seg, offset, len, place, d,
-        ),
+        LastData::Straight { seg, offset, len } => {
+            let data = StraightData {
+                seg,
+                start: offset,
+                len,
+            };
+            add_straight(into, marks, data, place, d)
+        }
         LastData::Blocks { .. } => add_blocks(alloc, into, marks, place, d),
         LastData::None | LastData::Dropped => Err(Fail::Said(OmfRefusal::NoData { at: place.at })),
     }

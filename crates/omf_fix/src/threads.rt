@@ -1,15 +1,16 @@
 //! THREADs: frames and targets that later fixups name by number.
 
 ghost use Rattle.std.specs.Prelude.{◌≡◌, [], ◌∷◌, ◌<◌};
+ghost use Rattle.omf_fix.specs.Field.{first_at};
 ghost use Rattle.omf_fix.specs.Methods.{Counts};
-ghost use Rattle.omf_fix.specs.Reads.{Reads};
+ghost use Rattle.lx_types.specs.Answers.{as_is, Reads};
 ghost use Rattle.omf_model.specs.AddLists.{HasFour};
 ghost use Rattle.omf_model.specs.Fixups.{set_threads, is_thread_method as thread_has_method};
 ghost use Rattle.omf_model.specs.ReadFixups.{thread_at};
 ghost use Rattle.omf_model.specs.Record.{is_frame_thread as frame_thread, thread, thread_method as method_of};
 
-use crate::have::Have;
 use crate::methods::{frame_by, goal_by, has_index, is_frame_method, is_target_method};
+use crate::starts::FieldStart;
 use obj_types::{ObjParts, OmfRefusal, Threads};
 use omf_fields::Fields;
 
@@ -43,27 +44,24 @@ fn is_thread_method(byte: u8) -> bool
     }
 }
 
-/// The index behind a THREAD's byte, which stands at `at`, where there is one. It may be that of a debug segment.
+/// The index behind a THREAD's byte, where there is one. It may be that of a debug segment.
 #[tactic(auto, unfolding(omf_model::specs::ReadFixups::thread_at))]
 pub fn thread_index(
     fields: &mut Fields,
     before: &ObjParts,
-    have: Have,
-    of_record: usize,
-    at: usize,
-    byte: u8,
+    start: FieldStart,
 ) -> Result<Option<u32>, OmfRefusal>
-    requires { Counts have before.now }
-    ensures { Reads (λ index. thread byte index) result (thread_at before.now (record { of_record = of_record; at = at; byte = byte }) fields.old) fields.new }
+    requires { Counts start.fixupp.have before.now }
+    ensures { Reads (λ index. thread start.byte index) as_is result (thread_at before.now (first_at start)) fields.old fields.new }
 {
-    if !is_thread_method(byte) {
-        return Err(OmfRefusal::BadField { at });
+    if !is_thread_method(start.byte) {
+        return Err(OmfRefusal::BadField { at: start.at });
     }
-    let method = thread_method(byte);
+    let method = thread_method(start.byte);
     if !has_index(method) {
         return Ok(None);
     }
-    Ok(Some(fields.index_below(have.by_method(method))?))
+    Ok(Some(fields.index_below(start.fixupp.have.by_method(method))?))
 }
 
 /// Sets the thread that a THREAD names.

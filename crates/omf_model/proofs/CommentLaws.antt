@@ -6,7 +6,8 @@ use Rattle.lx_bytes.specs.Cursor.{Cursor}
 use Rattle.lx_bytes.specs.LittleEndian.{AreBytes}
 use Rattle.obj_types.specs.declared.refusal.OmfRefusal.TheVariants.{BadField}
 use Rattle.obj_types.specs.declared.parts.ObjParts.{ObjParts}
-use Rattle.omf_fields.specs.Fields.{◌>>=◌, byte_at, name_at, number_at}
+use Rattle.lx_types.specs.Answers.{◌>>=◌}
+use Rattle.omf_fields.specs.Fields.{byte_at, name_at, number_at}
 use Rattle.omf_fields.specs.Forms.{Form, ◌then◌, anything, present, byte, number, name}
 use Rattle.omf_model.specs.Record.{Record, comment, default_library, impdef, expdef, ImpDef, ImpEntry, by_ordinal, by_name, ExpDef}
 use Rattle.omf_model.specs.ReadComments.{given_name_at, entry_at, impdef_at, expdef_at, extension_at, library_at, coment_at}

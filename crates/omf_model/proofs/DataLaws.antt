@@ -12,7 +12,8 @@ use Rattle.obj_types.specs.declared.refusal.OmfRefusal.TheVariants.{DataRange, T
 use Rattle.obj_types.specs.declared.object.Seg.{Seg}
 use Rattle.obj_types.specs.declared.parts.ObjParts.{ObjParts}
 use Rattle.obj_types.specs.Items.{item}
-use Rattle.omf_fields.specs.Fields.{◌>>=◌, check, width}
+use Rattle.lx_types.specs.Answers.{◌>>=◌}
+use Rattle.omf_fields.specs.Fields.{check, width}
 use Rattle.omf_model.specs.Blocks.{Blocks, block_bytes, expanded_len}
 use Rattle.omf_model.specs.ReadBlocks.{blocks_at}
 use Rattle.omf_model.specs.Record.{Record, ledata, lidata}

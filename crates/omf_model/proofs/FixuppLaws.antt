@@ -12,7 +12,8 @@ use Rattle.obj_types.specs.declared.parts.LastData.TheVariants as datas
 use Rattle.obj_types.specs.declared.parts.ObjParts.{ObjParts}
 use Rattle.obj_types.specs.Location.{location_len}
 use Rattle.omf_fields.specs.Within.{within}
-use Rattle.omf_fields.specs.Fields.{◌>>=◌, byte_at}
+use Rattle.lx_types.specs.Answers.{◌>>=◌}
+use Rattle.omf_fields.specs.Fields.{byte_at}
 use Rattle.omf_fields.specs.Forms.{◌then◌, anything, each, present, byte, index}
 use Rattle.omf_model.specs.Record.{Record, fixupp, modend, FixData, FixField, thread, fixup, thread_method, location_of, offset_of, has_start}
 use Rattle.omf_model.specs.Fixups.{has_index, has_data, fixes_by, are_apart, have_of, is_location, is_thread_method}

@@ -10,7 +10,8 @@ use Rattle.obj_types.specs.declared.refusal.OmfRefusal.{OmfRefusal}
 use Rattle.obj_types.specs.declared.refusal.OmfRefusal.TheVariants.{Short, BadField}
 use Rattle.obj_types.specs.declared.object.ObjModule.{ObjModule}
 use Rattle.omf_fields.specs.Within.{within}
-use Rattle.omf_fields.specs.Fields.{Reading, ◌>>=◌, check}
+use Rattle.lx_types.specs.Answers.{◌>>=◌}
+use Rattle.omf_fields.specs.Fields.{Reading, check}
 use Rattle.omf_model.specs.RawRecord.{whole_at, raw_at}
 use Rattle.omf_model.specs.ReadModule.{header_at, module_at, is_page_size, up_to_page, ends_library, modules_within, library_of}
 use Rattle.omf_model.specs.Object.{FaultAt}

@@ -11,7 +11,7 @@ use Rattle.lx_bytes.proofs.Numbers.{length-little_bytes}
 use Rattle.omf_frame.specs.Frame.{record_bytes, BeginsWhole}
 use Rattle.obj_types.specs.declared.object.ObjModule.{ObjModule}
 use Rattle.omf_fields.specs.Within.{within}
-use Rattle.omf_fields.specs.Fields.{◌>>=◌}
+use Rattle.lx_types.specs.Answers.{◌>>=◌}
 use Rattle.omf_model.specs.Record.{Record, header}
 use Rattle.omf_model.specs.Spelling.{SpellsAll}
 use Rattle.omf_model.specs.RawRecord.{whole_at, raw_at}

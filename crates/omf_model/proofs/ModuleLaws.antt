@@ -10,7 +10,7 @@ use Rattle.obj_types.specs.declared.object.ObjModule.{ObjModule}
 use Rattle.obj_types.specs.declared.parts.ObjParts.{ObjParts}
 use Rattle.obj_types.specs.Fresh.{fresh_parts}
 use Rattle.omf_fields.specs.Within.{within}
-use Rattle.omf_fields.specs.Fields.{◌>>=◌}
+use Rattle.lx_types.specs.Answers.{◌>>=◌}
 use Rattle.omf_fields.specs.Forms.{Form, nothing}
 use Rattle.omf_model.specs.Record.{Record, header, passed, comment, default_library, impdef, expdef, lnames, segdef, grpdef, pubdef, extdef, comdef, ledata, lidata, fixupp, modend, FixData, is_end}
 use Rattle.omf_model.specs.Add.{add}

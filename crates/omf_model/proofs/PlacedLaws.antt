@@ -6,7 +6,8 @@ use Rattle.obj_types.specs.declared.refusal.OmfRefusal.{OmfRefusal}
 use Rattle.obj_types.specs.declared.refusal.OmfRefusal.TheVariants.{UnknownType, BadChecksum}
 use Rattle.obj_types.specs.declared.parts.ObjParts.{ObjParts}
 use Rattle.omf_frame.specs.RecordType.{is_record_type}
-use Rattle.omf_fields.specs.Fields.{◌>>=◌, check}
+use Rattle.lx_types.specs.Answers.{◌>>=◌}
+use Rattle.omf_fields.specs.Fields.{check}
 use Rattle.omf_model.specs.Record.{Record}
 use Rattle.omf_model.specs.Places.{place, IsInRecord}
 use Rattle.omf_model.specs.RawRecord.{RawRecord, whole_at, raw_at, sum_of}

@@ -9,7 +9,8 @@ use Rattle.lx_bytes.specs.LittleEndian.{little}
 use Rattle.obj_types.specs.declared.refusal.OmfRefusal.{OmfRefusal}
 use Rattle.obj_types.specs.declared.refusal.OmfRefusal.TheVariants.{Short, BadField, BadIndex, DataRange, TooMany, DataOverFix, NoThread, BadLocation, NoData, FixOverlap}
 use Rattle.omf_fields.specs.Within.{within}
-use Rattle.omf_fields.specs.Fields.{Reading, ◌>>=◌, check, width, bytes_at, number_at, byte_of, byte_at, rest_of, name_of, name_at, index_of, index_at, is_among, checked, index_below, index_or_zero, length_bytes, sized, length_of, length_at, where_so, items_at, list_within, list_at}
+use Rattle.lx_types.specs.Answers.{◌>>=◌}
+use Rattle.omf_fields.specs.Fields.{Reading, check, width, bytes_at, number_at, byte_of, byte_at, rest_of, name_of, name_at, index_of, index_at, is_among, checked, index_below, index_or_zero, length_bytes, sized, length_of, length_at, where_so, items_at, list_within, list_at}
 use Rattle.obj_types.specs.declared.limits.TheConstants.{MAX_DEPTH, MAX_DATA, MAX_FIXES}
 use Rattle.obj_types.specs.declared.object.Frame.{Frame}
 use Rattle.obj_types.specs.declared.object.Frame.TheVariants as frames

@@ -18,7 +18,8 @@ use Rattle.obj_types.specs.declared.parts.Threads.{Threads}
 use Rattle.obj_types.specs.declared.parts.ObjParts.{ObjParts}
 use Rattle.obj_types.specs.Location.{location_len, meets}
 use Rattle.omf_fields.specs.Within.{within}
-use Rattle.omf_fields.specs.Fields.{◌>>=◌, index_below, index_or_zero, items_at, list_within}
+use Rattle.lx_types.specs.Answers.{◌>>=◌}
+use Rattle.omf_fields.specs.Fields.{index_below, index_or_zero, items_at, list_within}
 use Rattle.omf_model.specs.Blocks.{Blocks, bytes, none, block_bytes}
 use Rattle.omf_model.specs.Items.{is_debug_seg}
 use Rattle.omf_model.specs.Add.{add}

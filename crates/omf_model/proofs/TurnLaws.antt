@@ -7,8 +7,8 @@ use Rattle.obj_types.specs.declared.refusal.OmfRefusal.{OmfRefusal}
 use Rattle.obj_types.specs.declared.object.ObjModule.{ObjModule}
 use Rattle.obj_types.specs.declared.parts.ObjParts.{ObjParts}
 use Rattle.omf_fields.specs.Within.{within, through, Shortens, EndsSo}
-use Rattle.omf_fields.specs.Fields.{◌>>=◌}
-use Rattle.omf_fields.specs.Yields.{TakesBytes}
+use Rattle.lx_types.specs.Answers.{◌>>=◌}
+use Rattle.omf_fields.specs.Taking.{TakesBytes}
 use Rattle.omf_fields.specs.Onto.{onto}
 use Rattle.omf_fields.specs.Spans.{Free}
 use Rattle.omf_fields.proofs.Turns.{enough, one_turn}
@@ -16,7 +16,7 @@ use Rattle.omf_fields.proofs.ItemLaws.{bind-same, cond-same, not-empty, takes-fo
 use Rattle.omf_model.specs.Record.{Record, FixField, fixupp, is_end}
 use Rattle.omf_model.specs.Add.{add, add_field, add_fields}
 use Rattle.omf_model.specs.Good.{GoodAfter, GoodField}
-use Rattle.omf_model.specs.Gives.{then_add}
+use Rattle.omf_model.specs.ReadAfter.{then_add}
 use Rattle.omf_model.specs.Spelling.{field_form}
 use Rattle.omf_model.specs.RawRecord.{whole_at, raw_at}
 use Rattle.omf_model.specs.ReadFixups.{field_at, fields_turn, no_fields, fields_within, fields_at, fixupp_at}

@@ -22,5 +22,5 @@ pub mod Library
 pub mod Examples
 pub mod FaultExamples
 pub mod WholeExamples
-pub mod Gives
+pub mod ReadAfter
 pub mod Places

@@ -8,7 +8,8 @@ use Rattle.omf_frame.specs.RecordType.{is_record_type}
 use Rattle.omf_frame.specs.Frame.{record_sum}
 use Rattle.obj_types.specs.declared.refusal.OmfRefusal.{OmfRefusal}
 use Rattle.obj_types.specs.declared.refusal.OmfRefusal.TheVariants.{Short, BadChecksum, UnknownType}
-use Rattle.omf_fields.specs.Fields.{◌>>=◌, check}
+use Rattle.lx_types.specs.Answers.{◌>>=◌}
+use Rattle.omf_fields.specs.Fields.{check}
 
 -- A record's bytes: its first place, its type, its contents, its checksum byte, and what is behind it.
 pub record RawRecord : Type 0 where

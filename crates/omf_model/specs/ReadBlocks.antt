@@ -5,7 +5,8 @@ use Rattle.obj_types.specs.declared.limits.TheConstants.{MAX_DEPTH}
 use Rattle.obj_types.specs.declared.refusal.OmfRefusal.{OmfRefusal}
 use Rattle.obj_types.specs.declared.refusal.OmfRefusal.TheVariants.{Nested}
 use Rattle.omf_model.specs.Blocks.{Blocks, none, bytes, nested}
-use Rattle.omf_fields.specs.Fields.{Reading, ◌>>=◌, width, byte_at, bytes_at, number_at, items_at, list_at}
+use Rattle.lx_types.specs.Answers.{◌>>=◌}
+use Rattle.omf_fields.specs.Fields.{Reading, width, byte_at, bytes_at, number_at, items_at, list_at}
 
 -- One block.
 pub data Block : Type 0 where

@@ -3,7 +3,8 @@ use Rattle.std.specs.Prelude.{ℕ, not, List, length, Result, Ok, Err, nat_lt, n
 use Rattle.lx_bytes.specs.Cursor.{Cursor}
 use Rattle.obj_types.specs.declared.refusal.OmfRefusal.{OmfRefusal}
 use Rattle.obj_types.specs.declared.refusal.OmfRefusal.TheVariants.{BadField}
-use Rattle.omf_fields.specs.Fields.{Reading, ◌>>=◌, check, byte_at, number_at, name_at, where_so}
+use Rattle.lx_types.specs.Answers.{◌>>=◌}
+use Rattle.omf_fields.specs.Fields.{Reading, check, byte_at, number_at, name_at, where_so}
 use Rattle.omf_model.specs.Record.{Record, comment, default_library, impdef, expdef, ImpEntry, by_ordinal, by_name}
 
 -- A name that may not be empty.

@@ -11,7 +11,8 @@ use Rattle.obj_types.specs.declared.object.Seg.{Seg}
 use Rattle.obj_types.specs.declared.parts.ObjParts.{ObjParts}
 use Rattle.obj_types.specs.Items.{item}
 use Rattle.omf_model.specs.Blocks.{Blocks, expanded_len}
-use Rattle.omf_fields.specs.Fields.{◌>>=◌, check, width, number_at, index_below}
+use Rattle.lx_types.specs.Answers.{◌>>=◌}
+use Rattle.omf_fields.specs.Fields.{check, width, number_at, index_below}
 use Rattle.omf_model.specs.Record.{Record, ledata, lidata}
 use Rattle.omf_model.specs.ReadBlocks.{blocks_at}
 use Rattle.omf_model.specs.Items.{is_debug_seg, data_so_far}

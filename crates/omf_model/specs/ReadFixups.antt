@@ -14,7 +14,8 @@ use Rattle.obj_types.specs.declared.parts.Threads.{Threads}
 use Rattle.obj_types.specs.declared.parts.ObjParts.{ObjParts}
 use Rattle.obj_types.specs.Location.{location_len}
 use Rattle.omf_fields.specs.Within.{within}
-use Rattle.omf_fields.specs.Fields.{Reading, ◌>>=◌, check, width, byte_at, number_at, index_at, index_below, where_so}
+use Rattle.lx_types.specs.Answers.{◌>>=◌}
+use Rattle.omf_fields.specs.Fields.{Reading, check, width, byte_at, number_at, index_at, index_below, where_so}
 use Rattle.omf_model.specs.Record.{Record, fixupp, modend, FixData, FixField, thread, fixup, by_frame_thread, frame_bits, by_target_thread, target_bits, has_displacement, thread_method, location_of, offset_of, has_start}
 use Rattle.omf_model.specs.ReadNames.{plain_seg_at}
 use Rattle.omf_model.specs.Fixups.{has_index, frame_meant, goal_meant, has_data, fixes_by, are_apart, are_methods, have_of, is_location, is_thread_method}

@@ -10,7 +10,8 @@ use Rattle.obj_types.specs.declared.object.ObjModule.{ObjModule}
 use Rattle.obj_types.specs.declared.parts.ObjParts.{ObjParts}
 use Rattle.obj_types.specs.Fresh.{fresh_parts}
 use Rattle.omf_fields.specs.Within.{within}
-use Rattle.omf_fields.specs.Fields.{Reading, ◌>>=◌, check, name_at}
+use Rattle.lx_types.specs.Answers.{◌>>=◌}
+use Rattle.omf_fields.specs.Fields.{Reading, check, name_at}
 use Rattle.omf_model.specs.Record.{Record, header, passed, is_end}
 use Rattle.omf_model.specs.ReadNames.{lnames_at, segdef_at, grpdef_at, pubdef_at, extdef_at, comdef_at}
 use Rattle.omf_model.specs.ReadComments.{coment_at}

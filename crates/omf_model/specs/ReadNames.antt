@@ -6,7 +6,8 @@ use Rattle.obj_types.specs.declared.limits.TheConstants.{MAX_DATA}
 use Rattle.obj_types.specs.declared.refusal.OmfRefusal.{OmfRefusal}
 use Rattle.obj_types.specs.declared.refusal.OmfRefusal.TheVariants.{BadField, BadIndex}
 use Rattle.obj_types.specs.declared.parts.ObjParts.{ObjParts}
-use Rattle.omf_fields.specs.Fields.{Reading, ◌>>=◌, check, checked, width, byte_at, number_at, name_at, index_at, index_below, index_or_zero, length_at, where_so, list_at}
+use Rattle.lx_types.specs.Answers.{◌>>=◌}
+use Rattle.omf_fields.specs.Fields.{Reading, check, checked, width, byte_at, number_at, name_at, index_at, index_below, index_or_zero, length_at, where_so, list_at}
 use Rattle.omf_model.specs.Record.{Record, lnames, segdef, grpdef, pubdef, extdef, comdef, align_of, is_too_long, PubDef, ExtDef, ComDef, Communal, far, near, are_attributes}
 use Rattle.omf_model.specs.Items.{name_with, is_debug_seg}
 

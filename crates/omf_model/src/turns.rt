@@ -10,7 +10,7 @@ ghost use Rattle.obj_types.specs.declared.refusal.OmfRefusal.{OmfRefusal};
 ghost use Rattle.omf_fields.specs.Onto.{onto};
 ghost use Rattle.omf_model.specs.Record.{Record, FixField, is_end};
 ghost use Rattle.omf_model.specs.Add.{add, add_field};
-ghost use Rattle.omf_model.specs.Gives.{then_add};
+ghost use Rattle.omf_model.specs.ReadAfter.{then_add};
 ghost use Rattle.omf_model.specs.ReadFixups.{field_at, fields_within, fields_at, fixupp_at};
 ghost use Rattle.omf_model.specs.ReadModule.{record_at, rest_within, rest_at, module_at, up_to_page, ends_library, modules_within, modules_at};
 

@@ -5,10 +5,11 @@ use Rattle.std.proofs.Common.{inl, inr}
 use Rattle.obj_types.specs.declared.refusal.OmfRefusal.{OmfRefusal}
 use Rattle.obj_types.specs.declared.parts.ObjParts.{ObjParts}
 use Rattle.obj_types.specs.declared.symbol.Ext.{Ext}
-use Rattle.omf_fields.specs.Fields.{◌>>=◌, list_at}
+use Rattle.lx_types.specs.Answers.{◌>>=◌}
+use Rattle.omf_fields.specs.Fields.{list_at}
 use Rattle.omf_frame.specs.declared.omf_record.Rec.{Rec}
 use Rattle.omf_model.specs.Add.{add}
-use Rattle.omf_model.specs.Gives.{then_add, read_after, contents_at}
+use Rattle.omf_model.specs.ReadAfter.{then_add, read_after, contents_at}
 use Rattle.omf_model.specs.Items.{ext_of, com_of}
 use Rattle.omf_model.specs.Record.{ExtDef, ComDef, extdef, comdef}
 use Rattle.omf_model.specs.ReadNames.{ext_at, extdef_at, com_at, comdef_at}

@@ -7,11 +7,12 @@ use Rattle.lx_bytes.specs.Cursor.{Cursor}
 use Rattle.obj_types.specs.declared.refusal.OmfRefusal.{OmfRefusal}
 use Rattle.obj_types.specs.declared.parts.ObjParts.{ObjParts}
 use Rattle.obj_types.specs.declared.object.Group.{Group}
-use Rattle.omf_fields.specs.Fields.{Reading, ◌>>=◌, index_below, list_at}
+use Rattle.lx_types.specs.Answers.{◌>>=◌, if_said, Gives}
+use Rattle.omf_fields.specs.Fields.{Reading, index_below, list_at}
 use Rattle.omf_fields.proofs.SpanLaws.{cursor_is}
 use Rattle.omf_frame.specs.declared.omf_record.Rec.{Rec}
 use Rattle.omf_model.specs.Add.{add}
-use Rattle.omf_model.specs.Gives.{Gives, then_add, read_after, contents_at}
+use Rattle.omf_model.specs.ReadAfter.{then_add, read_after, contents_at}
 use Rattle.omf_model.specs.Items.{name_with, group_of}
 use Rattle.omf_model.specs.Record.{grpdef}
 use Rattle.omf_model.specs.ReadNames.{member_at, grpdef_at}
@@ -49,15 +50,15 @@ pub refused : (p : ObjParts) (r : Reading ℕ) (refusal : OmfRefusal) → r ≡ 
 refused p r refusal e = ap (λ (q : Reading ℕ). behind p q) e
 
 -- a refusal is that of what goes on with what was refused
-pub refused-on : {A B C D : Type 0} (v : A → B) (w : C → D) (fail : Fail OmfRefusal) (r : Result B OmfRefusal) (f : B → Result D OmfRefusal) → Gives v (Err fail) r → Gives w (Err fail) (r >>= f)
+pub refused-on : {A B C D : Type 0} (v : A → B) (w : C → D) (fail : Fail OmfRefusal) (r : Result B OmfRefusal) (f : B → Result D OmfRefusal) → Gives v if_said (Err fail) r → Gives w if_said (Err fail) (r >>= f)
 refused-on v w (Said refusal) r f h = rw h refl
 refused-on v w NoMemory r f h = tt
 
 -- a member that is refused
 pub members-refused : {A C : Type 0} (v : A → List ℕ) (w : C → ObjParts) (fail : Fail OmfRefusal) (p : ObjParts) (r : Reading ℕ) (n : ℕ) (d : Cursor) (here : Bool)
-    → r ≡ Ok (n, d) → here ≡ flat p n → Gives v (Err fail) (list_at (member_at here p) d) → Gives w (Err fail) (behind p r)
+    → r ≡ Ok (n, d) → here ≡ flat p n → Gives v if_said (Err fail) (list_at (member_at here p) d) → Gives w if_said (Err fail) (behind p r)
 members-refused v w fail p r n d here e same h =
-    rw e (refused-on v w fail (list_at (member_at (flat p n) p) d) _ (let P : Bool → Type 0 = λ b. Gives v (Err fail) (list_at (member_at b p) d) in subst P same h))
+    rw e (refused-on v w fail (list_at (member_at (flat p n) p) d) _ (let P : Bool → Type 0 = λ b. Gives v if_said (Err fail) (list_at (member_at b p) d) in subst P same h))
 
 -- the group
 pub added : (p : ObjParts) (r : Reading ℕ) (n : ℕ) (d : Cursor) (here : Bool) (members : List ℕ) (groups : List Group)

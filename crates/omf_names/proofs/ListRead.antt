@@ -5,8 +5,9 @@ use Rattle.lx_bytes.specs.Cursor.{Cursor}
 use Rattle.lx_bytes.specs.LittleEndian.{AreBytes}
 use Rattle.obj_types.specs.declared.refusal.OmfRefusal.{OmfRefusal}
 use Rattle.obj_types.specs.declared.parts.ObjParts.{ObjParts}
-use Rattle.omf_fields.specs.Fields.{Reading, ◌>>=◌, list_at}
-use Rattle.omf_fields.specs.Yields.{TakesBytes}
+use Rattle.lx_types.specs.Answers.{◌>>=◌}
+use Rattle.omf_fields.specs.Fields.{Reading, list_at}
+use Rattle.omf_fields.specs.Taking.{TakesBytes}
 use Rattle.omf_fields.proofs.ItemLaws.{list-none, list-next}
 
 -- what is read, each item by what it means, behind the items that are there

@@ -4,14 +4,15 @@ use Rattle.lx_bytes.specs.Cursor.{Cursor}
 use Rattle.lx_bytes.specs.LittleEndian.{AreBytes}
 use Rattle.obj_types.specs.declared.refusal.OmfRefusal.{OmfRefusal}
 use Rattle.obj_types.specs.declared.parts.ObjParts.{ObjParts}
-use Rattle.omf_fields.specs.Fields.{◌>>=◌, name_at, list_at}
+use Rattle.lx_types.specs.Answers.{◌>>=◌}
+use Rattle.omf_fields.specs.Fields.{name_at, list_at}
 use Rattle.omf_fields.specs.Onto.{onto}
 use Rattle.omf_fields.proofs.ItemLaws.{onto-item, onto-refused, onto-done, names-take}
 use Rattle.omf_frame.specs.declared.omf_record.Rec.{Rec}
 use Rattle.omf_model.specs.Record.{lnames}
 use Rattle.omf_model.specs.Add.{add}
 use Rattle.omf_model.specs.ReadNames.{lnames_at}
-use Rattle.omf_model.specs.Gives.{then_add, read_after, contents_at}
+use Rattle.omf_model.specs.ReadAfter.{then_add, read_after, contents_at}
 
 -- The parts so far are the old ones with more names, and the names that are still to be read go behind these.
 pub record NamesSoFar (start : Cursor) (old now : ObjParts) (c : Cursor) : Type 0 where

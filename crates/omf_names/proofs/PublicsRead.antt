@@ -5,10 +5,11 @@ use Rattle.lx_bytes.specs.Cursor.{Cursor}
 use Rattle.obj_types.specs.declared.refusal.OmfRefusal.{OmfRefusal}
 use Rattle.obj_types.specs.declared.parts.ObjParts.{ObjParts}
 use Rattle.obj_types.specs.declared.symbol.Pub.{Pub}
-use Rattle.omf_fields.specs.Fields.{Reading, ◌>>=◌, list_at, number_at, index_or_zero, where_so}
+use Rattle.lx_types.specs.Answers.{◌>>=◌}
+use Rattle.omf_fields.specs.Fields.{Reading, list_at, number_at, index_or_zero, where_so}
 use Rattle.omf_frame.specs.declared.omf_record.Rec.{Rec}
 use Rattle.omf_model.specs.Add.{add}
-use Rattle.omf_model.specs.Gives.{then_add, read_after, contents_at}
+use Rattle.omf_model.specs.ReadAfter.{then_add, read_after, contents_at}
 use Rattle.omf_model.specs.Items.{pub_of}
 use Rattle.omf_model.specs.Record.{PubDef, pubdef}
 use Rattle.omf_model.specs.ReadNames.{pub_at, pubdef_at, plain_seg_or_zero}

@@ -5,7 +5,7 @@ use Rattle.obj_types.specs.declared.refusal.OmfRefusal.{OmfRefusal}
 use Rattle.obj_types.specs.declared.parts.ObjParts.{ObjParts}
 use Rattle.omf_frame.specs.declared.omf_record.Rec.{Rec}
 use Rattle.obj_types.specs.declared.object.Seg.{Seg}
-use Rattle.omf_fields.specs.Yields.{Finds, as_said}
+use Rattle.lx_types.specs.Answers.{as_is, Gives, as_said}
 use Rattle.omf_model.specs.Items.{seg_of}
 use Rattle.omf_names.specs.Segments.{def_of, segdef_record}
 use Rattle.omf_names.specs.declared.segment.SegFields.{SegFields}
@@ -13,13 +13,13 @@ use Rattle.omf_model.specs.Record.{Record}
 use Rattle.omf_model.specs.ReadModule.{is_wide}
 use Rattle.omf_model.specs.ReadNames.{segdef_at}
 use Rattle.omf_model.specs.Add.{add}
-use Rattle.omf_model.specs.Gives.{then_add, read_after, contents_at}
+use Rattle.omf_model.specs.ReadAfter.{then_add, read_after, contents_at}
 
 pub after : (rec : Rec) → (rec.ty ≡ 0x98) ⊎ (rec.ty ≡ 0x99) → (p : ObjParts) → read_after p rec ≡ then_add p (segdef_at (is_wide rec.ty) p (contents_at rec.at rec.body.now))
 after rec (inl e) p = rw e refl
 after rec (inr e) p = rw e refl
 
-pub added : (p : ObjParts) (read : Result Record OmfRefusal) (r : Result SegFields OmfRefusal) (d : SegFields) (segs : List Seg) → Finds segdef_record r read → as_said r ≡ Ok d → segs ≡ p.module.segs ++ seg_of p.names (def_of d) ∷ []
+pub added : (p : ObjParts) (read : Result Record OmfRefusal) (r : Result SegFields OmfRefusal) (d : SegFields) (segs : List Seg) → Gives segdef_record as_is r read → as_said r ≡ Ok d → segs ≡ p.module.segs ++ seg_of p.names (def_of d) ∷ []
     → then_add p read ≡ Ok (record p { «module» = record p.module { segs = segs } })
 unfolding add
 added p read (Ok x) d segs found is more =

@@ -2,7 +2,7 @@
 use Rattle.std.proofs.Common.{◌≡◌, ℕ, Bool, List, length, ap, arith}
 use Rattle.obj_types.specs.declared.parts.ObjParts.{ObjParts}
 use Rattle.omf_fields.specs.Forms.{byte, index, name}
-use Rattle.omf_fields.specs.Yields.{TakesBytes}
+use Rattle.omf_fields.specs.Taking.{TakesBytes}
 use Rattle.omf_fields.proofs.ItemLaws.{takes-form, name-one}
 use Rattle.omf_fields.proofs.ListLaws.{OneByte}
 use Rattle.omf_model.specs.Spelling.{ext_form, pub_form, com_form, member_form}

@@ -2,7 +2,8 @@
 use Rattle.std.specs.Prelude.{ℕ, length, Ok, ◌==◌}
 use Rattle.lx_bytes.specs.Cursor.{Cursor}
 use Rattle.obj_types.specs.declared.parts.ObjParts.{ObjParts}
-use Rattle.omf_fields.specs.Fields.{Reading, ◌>>=◌, number_at, index_or_zero, where_so}
+use Rattle.lx_types.specs.Answers.{◌>>=◌}
+use Rattle.omf_fields.specs.Fields.{Reading, number_at, index_or_zero, where_so}
 use Rattle.omf_model.specs.ReadNames.{plain_seg_or_zero}
 
 -- The segment; the group and the frame change nothing.

@@ -1,18 +1,17 @@
 //! "88h COMENT": default libraries, imports and exports.
 
 ghost use Rattle.std.specs.Prelude.{◌≡◌, ◌<◌, IfOk, OnOk, length};
-ghost use Rattle.omf_fields.specs.Yields.{Finds};
+ghost use Rattle.lx_types.specs.Answers.{as_is, if_said, Gives, Reads};
 ghost use Rattle.omf_model.specs.Add.{add};
 ghost use Rattle.omf_model.specs.Begun.{IsBegun};
-ghost use Rattle.omf_model.specs.Gives.{Gives, read_after};
+ghost use Rattle.omf_model.specs.ReadAfter.{read_after};
 ghost use Rattle.omf_model.specs.Items.{entry_of, export_of, import_of, or_else};
 ghost use Rattle.omf_model.specs.ReadComments.{coment_at, entry_at, expdef_at, extension_at, given_name_at, impdef_at, library_at};
 ghost use Rattle.omf_names.specs.Comments.{comment_record, exp_def, exp_record, imp_def, imp_entry, imp_record, IsShort, IsShortEntry, IsShortExport, IsShortImport};
-ghost use Rattle.omf_names.specs.Reads.{Reads};
 
-use lx_types::{EntryKey, Fail, NoMemory};
+use lx_types::{EntryKey, Fail, Name, NoMemory};
 use obj_types::{Exp, Imp, ObjParts, OmfRefusal};
-use omf_fields::{Fields, name_of};
+use omf_fields::Fields;
 use omf_frame::Rec;
 use omf_frame::record_type::COMENT;
 use std::alloc::Global;
@@ -69,7 +68,7 @@ pub enum Comment<'a> {
 /// The next name, which is not empty.
 #[tactic(auto, unfolding(omf_model::specs::ReadComments::given_name_at))]
 fn given_name<'a>(fields: &mut Fields<'a>) -> Result<&'a [u8], OmfRefusal>
-    ensures read { Reads (λ name. name.now) result (given_name_at fields.old) fields.new }
+    ensures read { Reads (λ name. name.now) as_is result given_name_at fields.old fields.new }
     ensures short { IfOk result (λ name. length name.now < 256) }
 {
     let at = fields.at();
@@ -83,7 +82,7 @@ fn given_name<'a>(fields: &mut Fields<'a>) -> Result<&'a [u8], OmfRefusal>
 /// The entry of an IMPDEF: by ordinal where the flag is not 0.
 #[tactic(auto, unfolding(omf_model::specs::ReadComments::entry_at))]
 fn entry_fields<'a>(fields: &mut Fields<'a>, flag: u8) -> Result<EntryFields<'a>, OmfRefusal>
-    ensures read { Reads imp_entry result (entry_at flag fields.old) fields.new }
+    ensures read { Reads imp_entry as_is result (entry_at flag) fields.old fields.new }
     ensures short { IfOk result IsShortEntry }
 {
     if flag == 0 {
@@ -96,7 +95,7 @@ fn entry_fields<'a>(fields: &mut Fields<'a>, flag: u8) -> Result<EntryFields<'a>
 /// The fields of an IMPDEF.
 #[tactic(auto, unfolding(omf_model::specs::ReadComments::impdef_at))]
 fn import_fields<'a>(fields: &mut Fields<'a>) -> Result<ImpFields<'a>, OmfRefusal>
-    ensures read { Finds imp_record result (impdef_at fields.old) }
+    ensures read { Gives imp_record as_is result (impdef_at fields.old) }
     ensures short { IfOk result IsShortImport }
 {
     let flag = fields.byte()?;
@@ -114,7 +113,7 @@ fn import_fields<'a>(fields: &mut Fields<'a>) -> Result<ImpFields<'a>, OmfRefusa
 /// The fields of an EXPDEF.
 #[tactic(auto, unfolding(omf_model::specs::ReadComments::expdef_at))]
 fn export_fields<'a>(fields: &mut Fields<'a>) -> Result<ExpFields<'a>, OmfRefusal>
-    ensures read { Finds exp_record result (expdef_at fields.old) }
+    ensures read { Gives exp_record as_is result (expdef_at fields.old) }
     ensures short { IfOk result IsShortExport }
 {
     let flag = fields.byte()?;
@@ -132,7 +131,7 @@ fn export_fields<'a>(fields: &mut Fields<'a>) -> Result<ExpFields<'a>, OmfRefusa
 /// The comment of class A0h.
 #[tactic(auto, unfolding(omf_model::specs::ReadComments::extension_at))]
 fn extension<'a>(fields: &mut Fields<'a>) -> Result<Comment<'a>, OmfRefusal>
-    ensures read { Finds comment_record result (extension_at fields.old) }
+    ensures read { Gives comment_record as_is result (extension_at fields.old) }
     ensures short { IfOk result IsShort }
 {
     let subtype = fields.byte()?;
@@ -147,7 +146,7 @@ fn extension<'a>(fields: &mut Fields<'a>) -> Result<Comment<'a>, OmfRefusal>
 
 /// The comment of class 9Fh: all bytes that are left are the name.
 fn library<'a>(fields: &Fields<'a>) -> Result<Comment<'a>, OmfRefusal>
-    ensures read { Finds comment_record result (library_at fields.now) }
+    ensures read { Gives comment_record as_is result (library_at fields.now) }
     ensures short { IfOk result IsShort }
 {
     let name = fields.rest();
@@ -160,7 +159,7 @@ fn library<'a>(fields: &Fields<'a>) -> Result<Comment<'a>, OmfRefusal>
 /// The comment that a COMENT record is.
 #[tactic(auto, unfolding(omf_model::specs::ReadComments::coment_at))]
 fn comment_of<'a>(fields: &mut Fields<'a>) -> Result<Comment<'a>, OmfRefusal>
-    ensures read { Finds comment_record result (coment_at fields.old) }
+    ensures read { Gives comment_record as_is result (coment_at fields.old) }
     ensures short { IfOk result IsShort }
 {
     fields.byte()?;
@@ -192,7 +191,10 @@ fn entry_key(alloc: Global, wanted: EntryFields, internal: &[u8]) -> Result<Entr
 {
     match wanted {
         EntryFields::ByOrdinal(ordinal) => Ok(EntryKey::Ordinal(u32::from(ordinal))),
-        EntryFields::ByName(name) => Ok(EntryKey::Named(name_of(alloc, or(name, internal))?)),
+        EntryFields::ByName(name) => Ok(EntryKey::Named(Name::of_short(
+            alloc,
+            or(name, internal),
+        )?)),
     }
 }
 
@@ -202,8 +204,8 @@ fn import(alloc: Global, d: ImpFields) -> Result<Imp, NoMemory>
     ensures { IfOk result (λ import. import ≡ import_of (imp_def d.entry)) }
 {
     Ok(Imp {
-        name: name_of(alloc, d.internal)?,
-        module: name_of(alloc, d.from)?,
+        name: Name::of_short(alloc, d.internal)?,
+        module: Name::of_short(alloc, d.from)?,
         entry: entry_key(alloc, d.entry, d.internal)?,
     })
 }
@@ -214,8 +216,8 @@ fn export(alloc: Global, d: ExpFields) -> Result<Exp, NoMemory>
     ensures { IfOk result (λ export. export ≡ export_of (exp_def d.entry)) }
 {
     Ok(Exp {
-        name: name_of(alloc, d.exported)?,
-        internal: name_of(alloc, or(d.internal, d.exported))?,
+        name: Name::of_short(alloc, d.exported)?,
+        internal: Name::of_short(alloc, or(d.internal, d.exported))?,
         ordinal: d.ordinal,
         resident: d.flag / 64 % 2 == 1,
         nodata: d.flag / 32 % 2 == 1,
@@ -230,7 +232,7 @@ fn add_comment(alloc: Global, said: Comment, into: &mut ObjParts) -> Result<(), 
 {
     match said {
         Comment::Library(name) => {
-            let name = name_of(alloc, name)?;
+            let name = Name::of_short(alloc, name)?;
             into.module.deflibs.push(name)?;
         }
         Comment::Import(d) => {
@@ -251,7 +253,7 @@ fn add_comment(alloc: Global, said: Comment, into: &mut ObjParts) -> Result<(), 
 pub fn coment(alloc: Global, rec: &Rec, into: &mut ObjParts) -> Result<(), Fail<OmfRefusal>>
     requires kind { rec.now.ty ≡ COMENT }
     requires begun { IsBegun into.old }
-    ensures { Gives (λ _. into.new) result (read_after into.old rec.now) }
+    ensures { Gives (λ _. into.new) if_said result (read_after into.old rec.now) }
 {
     let mut fields = Fields::of(rec);
     let comment = match comment_of(&mut fields) {

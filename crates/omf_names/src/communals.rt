@@ -3,15 +3,15 @@
 ghost use Rattle.std.specs.Prelude.{◌≡◌, ◌<◌, ◌≤◌, ◌*◌, IfOk, length};
 ghost use Rattle.obj_types.specs.declared.limits.TheConstants.{MAX_DATA};
 ghost use Rattle.omf_model.specs.Begun.{IsBegun};
-ghost use Rattle.omf_model.specs.Gives.{Gives, read_after};
+ghost use Rattle.lx_types.specs.Answers.{as_is, if_said, Gives, Reads};
+ghost use Rattle.omf_model.specs.ReadAfter.{read_after};
 ghost use Rattle.omf_model.specs.Items.{communal_of};
 ghost use Rattle.omf_model.specs.ReadNames.{far_at, near_at, communal_at, com_at};
-ghost use Rattle.omf_names.specs.Reads.{Reads};
 ghost use Rattle.omf_names.specs.Symbols.{communal, com_def};
 
-use lx_types::Fail;
+use lx_types::{Fail, Name};
 use obj_types::{Common, Ext, MAX_DATA, ObjParts, OmfRefusal};
-use omf_fields::{Fields, name_of};
+use omf_fields::Fields;
 use omf_frame::Rec;
 use omf_frame::record_type::COMDEF;
 use std::alloc::Global;
@@ -38,7 +38,7 @@ pub struct ComFields<'a> {
 /// Elements and their size, which are within the limit of a module's data together.
 #[tactic(auto, unfolding(omf_model::specs::ReadNames::far_at))]
 fn far(fields: &mut Fields) -> Result<Storage, OmfRefusal>
-    ensures read { Reads communal result (far_at fields.old) fields.new }
+    ensures read { Reads communal as_is result far_at fields.old fields.new }
     ensures limit { IfOk result (λ s. (communal_of (communal s)).len ≤ MAX_DATA) }
 {
     let at = fields.at();
@@ -53,7 +53,7 @@ fn far(fields: &mut Fields) -> Result<Storage, OmfRefusal>
 /// A size within the limit of a module's data.
 #[tactic(auto, unfolding(omf_model::specs::ReadNames::near_at))]
 fn near(fields: &mut Fields) -> Result<Storage, OmfRefusal>
-    ensures read { Reads communal result (near_at fields.old) fields.new }
+    ensures read { Reads communal as_is result near_at fields.old fields.new }
     ensures limit { IfOk result (λ s. (communal_of (communal s)).len ≤ MAX_DATA) }
 {
     let at = fields.at();
@@ -67,7 +67,7 @@ fn near(fields: &mut Fields) -> Result<Storage, OmfRefusal>
 /// The storage's type byte, and what it says stands behind it.
 #[tactic(auto, unfolding(omf_model::specs::ReadNames::communal_at))]
 fn asked_storage(fields: &mut Fields) -> Result<Storage, OmfRefusal>
-    ensures read { Reads communal result (communal_at fields.old) fields.new }
+    ensures read { Reads communal as_is result communal_at fields.old fields.new }
     ensures limit { IfOk result (λ s. (communal_of (communal s)).len ≤ MAX_DATA) }
 {
     let at = fields.at();
@@ -84,7 +84,7 @@ fn asked_storage(fields: &mut Fields) -> Result<Storage, OmfRefusal>
 /// The next communal name and its storage.
 #[tactic(auto, unfolding(omf_model::specs::ReadNames::com_at))]
 fn communal_name<'a>(fields: &mut Fields<'a>) -> Result<ComFields<'a>, OmfRefusal>
-    ensures read { Reads com_def result (com_at fields.old) fields.new }
+    ensures read { Reads com_def as_is result com_at fields.old fields.new }
     ensures short { IfOk result (λ d. length d.name.now < 256) }
     ensures limit { IfOk result (λ d. (communal_of (communal d.storage)).len ≤ MAX_DATA) }
 {
@@ -116,7 +116,7 @@ fn common(storage: Storage) -> Common
 pub fn comdef(alloc: Global, rec: &Rec, into: &mut ObjParts) -> Result<(), Fail<OmfRefusal>>
     requires kind { rec.now.ty ≡ COMDEF }
     requires begun { IsBegun into.old }
-    ensures { Gives (λ _. into.new) result (read_after into.old rec.now) }
+    ensures { Gives (λ _. into.new) if_said result (read_after into.old rec.now) }
 {
     let mut fields = Fields::of(rec);
     'communals: while !fields.is_empty() {
@@ -124,7 +124,7 @@ pub fn comdef(alloc: Global, rec: &Rec, into: &mut ObjParts) -> Result<(), Fail<
             Ok(communal) => communal,
             Err(refusal) => return Err(Fail::Said(refusal)),
         };
-        let name = name_of(alloc, communal.name)?;
+        let name = Name::of_short(alloc, communal.name)?;
         into.module.exts.push(Ext {
             name,
             local: false,

@@ -2,14 +2,14 @@
 
 ghost use Rattle.std.specs.Prelude.{◌≡◌, ◌⊎◌, ◌<◌, IfOk, length};
 ghost use Rattle.omf_model.specs.Begun.{IsBegun};
-ghost use Rattle.omf_model.specs.Gives.{Gives, read_after};
+ghost use Rattle.lx_types.specs.Answers.{as_is, if_said, Gives, Reads};
+ghost use Rattle.omf_model.specs.ReadAfter.{read_after};
 ghost use Rattle.omf_model.specs.ReadNames.{ext_at};
-ghost use Rattle.omf_names.specs.Reads.{Reads};
 ghost use Rattle.omf_names.specs.Symbols.{ext_named};
 
-use lx_types::Fail;
+use lx_types::{Fail, Name};
 use obj_types::{Ext, ObjParts, OmfRefusal};
-use omf_fields::{Fields, name_of};
+use omf_fields::Fields;
 use omf_frame::Rec;
 use omf_frame::record_type::{EXTDEF, LEXTDEF, LEXTDEF_32};
 use std::alloc::Global;
@@ -17,7 +17,7 @@ use std::alloc::Global;
 /// The name of the next external. Its type index is 0.
 #[tactic(auto, unfolding(omf_model::specs::ReadNames::ext_at))]
 fn external<'a>(fields: &mut Fields<'a>) -> Result<&'a [u8], OmfRefusal>
-    ensures read { Reads (λ name. ext_named name.now) result (ext_at fields.old) fields.new }
+    ensures read { Reads (λ name. ext_named name.now) as_is result ext_at fields.old fields.new }
     ensures short { IfOk result (λ name. length name.now < 256) }
 {
     let name = fields.name()?;
@@ -30,7 +30,7 @@ fn external<'a>(fields: &mut Fields<'a>) -> Result<&'a [u8], OmfRefusal>
 pub fn extdef(alloc: Global, rec: &Rec, into: &mut ObjParts) -> Result<(), Fail<OmfRefusal>>
     requires kind { (rec.now.ty ≡ EXTDEF) ⊎ (rec.now.ty ≡ LEXTDEF) ⊎ (rec.now.ty ≡ LEXTDEF_32) }
     requires begun { IsBegun into.old }
-    ensures { Gives (λ _. into.new) result (read_after into.old rec.now) }
+    ensures { Gives (λ _. into.new) if_said result (read_after into.old rec.now) }
 {
     let local = rec.ty != EXTDEF;
     let mut fields = Fields::of(rec);
@@ -39,7 +39,7 @@ pub fn extdef(alloc: Global, rec: &Rec, into: &mut ObjParts) -> Result<(), Fail<
             Ok(name) => name,
             Err(refusal) => return Err(Fail::Said(refusal)),
         };
-        let name = name_of(alloc, name)?;
+        let name = Name::of_short(alloc, name)?;
         into.module.exts.push(Ext {
             name,
             local,

@@ -3,15 +3,15 @@
 ghost use Rattle.std.specs.Prelude.{◌≡◌, ◌<◌, IfOk, bytes_eq, codes, length};
 ghost use Rattle.omf_fields.specs.Fields.{list_at};
 ghost use Rattle.omf_model.specs.Begun.{IsBegun};
-ghost use Rattle.omf_model.specs.Gives.{Gives, read_after};
+ghost use Rattle.lx_types.specs.Answers.{as_is, if_said, Gives, Reads};
+ghost use Rattle.omf_model.specs.ReadAfter.{read_after};
 ghost use Rattle.omf_model.specs.Items.{group_of};
 ghost use Rattle.omf_model.specs.ReadNames.{member_at};
-ghost use Rattle.omf_names.specs.Reads.{Reads};
 
 use crate::indices::{plain_segment, text};
-use lx_types::{Fail, NoMemory, Seq};
+use lx_types::{Fail, Name, NoMemory, Seq, count};
 use obj_types::{Group, Members, ObjParts, OmfRefusal};
-use omf_fields::{Fields, count, name_of};
+use omf_fields::Fields;
 use omf_frame::Rec;
 use omf_frame::record_type::GRPDEF;
 use std::alloc::Global;
@@ -23,7 +23,7 @@ const MEMBER: u8 = 0xFF;
 #[tactic(auto, unfolding(omf_model::specs::ReadNames::member_at))]
 fn member(fields: &mut Fields, flat: bool, before: &ObjParts, have: u32) -> Result<u32, OmfRefusal>
     requires { have ≡ length before.now.module.segs }
-    ensures { Reads (λ n. n) result (member_at flat before.now fields.old) fields.new }
+    ensures { Reads (λ n. n) as_is result (member_at flat before.now) fields.old fields.new }
 {
     let at = fields.at();
     if fields.byte()? != MEMBER {
@@ -45,7 +45,7 @@ fn members(
     have: u32,
 ) -> Result<Members, Fail<OmfRefusal>>
     requires { have ≡ length before.now.module.segs }
-    ensures { Gives (λ m. m) result (list_at (member_at flat before.now) fields.old) }
+    ensures { Gives (λ m. m) if_said result (list_at (member_at flat before.now) fields.old) }
 {
     let mut members = Seq::new(alloc);
     'members: while !fields.is_empty() {
@@ -76,7 +76,7 @@ fn group_with(alloc: Global, name: &[u8], members: Members) -> Result<Group, NoM
         members
     };
     Ok(Group {
-        name: name_of(alloc, name)?,
+        name: Name::of_short(alloc, name)?,
         members,
     })
 }
@@ -86,7 +86,7 @@ fn group_with(alloc: Global, name: &[u8], members: Members) -> Result<Group, NoM
 pub fn grpdef(alloc: Global, rec: &Rec, into: &mut ObjParts) -> Result<(), Fail<OmfRefusal>>
     requires kind { rec.now.ty ≡ GRPDEF }
     requires begun { IsBegun into.old }
-    ensures { Gives (λ _. into.new) result (read_after into.old rec.now) }
+    ensures { Gives (λ _. into.new) if_said result (read_after into.old rec.now) }
 {
     let names = count(into.names.as_slice().len())?;
     let segs = count(into.module.segs.as_slice().len())?;

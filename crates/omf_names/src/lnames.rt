@@ -2,11 +2,12 @@
 
 ghost use Rattle.std.specs.Prelude.{◌≡◌};
 ghost use Rattle.omf_model.specs.Begun.{IsBegun};
-ghost use Rattle.omf_model.specs.Gives.{Gives, read_after};
+ghost use Rattle.lx_types.specs.Answers.{if_said, Gives};
+ghost use Rattle.omf_model.specs.ReadAfter.{read_after};
 
-use lx_types::Fail;
+use lx_types::{Fail, Name};
 use obj_types::{ObjParts, OmfRefusal};
-use omf_fields::{Fields, name_of};
+use omf_fields::Fields;
 use omf_frame::Rec;
 use omf_frame::record_type::LNAMES;
 use std::alloc::Global;
@@ -15,7 +16,7 @@ use std::alloc::Global;
 pub fn names(alloc: Global, rec: &Rec, into: &mut ObjParts) -> Result<(), Fail<OmfRefusal>>
     requires kind { rec.now.ty ≡ LNAMES }
     requires begun { IsBegun into.old }
-    ensures { Gives (λ _. into.new) result (read_after into.old rec.now) }
+    ensures { Gives (λ _. into.new) if_said result (read_after into.old rec.now) }
 {
     let mut fields = Fields::of(rec);
     'names: while !fields.is_empty() {
@@ -23,7 +24,7 @@ pub fn names(alloc: Global, rec: &Rec, into: &mut ObjParts) -> Result<(), Fail<O
             Ok(bytes) => bytes,
             Err(refusal) => return Err(Fail::Said(refusal)),
         };
-        let name = name_of(alloc, bytes)?;
+        let name = Name::of_short(alloc, bytes)?;
         into.names.push(name)?;
     }
     Ok(())

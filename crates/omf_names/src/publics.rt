@@ -3,16 +3,16 @@
 ghost use Rattle.std.specs.Prelude.{◌≡◌, ◌⊎◌, ◌<◌, ◌==◌, IfOk, length, if◌then◌else◌};
 ghost use Rattle.obj_types.specs.declared.symbol.PubPlace.TheVariants.{In, Const};
 ghost use Rattle.omf_model.specs.Begun.{IsBegun};
-ghost use Rattle.omf_model.specs.Gives.{Gives, read_after};
+ghost use Rattle.lx_types.specs.Answers.{as_is, if_said, Gives, Reads};
+ghost use Rattle.omf_model.specs.ReadAfter.{read_after};
 ghost use Rattle.omf_model.specs.ReadNames.{pub_at};
-ghost use Rattle.omf_names.specs.Reads.{Reads};
 ghost use Rattle.omf_names.specs.Symbols.{pub_def};
 ghost use Rattle.omf_names.specs.Publics.{base_at};
 
 use crate::indices::plain_segment_or_zero;
-use lx_types::Fail;
+use lx_types::{Fail, Name, count};
 use obj_types::{ObjParts, OmfRefusal, Pub, PubPlace};
-use omf_fields::{Fields, count, name_of};
+use omf_fields::Fields;
 use omf_frame::Rec;
 use omf_frame::record_type::{LPUBDEF, LPUBDEF_32, PUBDEF, PUBDEF_32};
 use std::alloc::Global;
@@ -30,7 +30,7 @@ pub struct PubFields<'a> {
 fn base(fields: &mut Fields, before: &ObjParts, groups: u32, segs: u32) -> Result<u32, OmfRefusal>
     requires groups { groups ≡ length before.now.module.groups }
     requires segs { segs ≡ length before.now.module.segs }
-    ensures { Reads (λ n. n) result (base_at before.now fields.old) fields.new }
+    ensures { Reads (λ n. n) as_is result (base_at before.now) fields.old fields.new }
 {
     fields.index_or_zero(groups)?;
     let segment = plain_segment_or_zero(fields, before, segs)?;
@@ -52,7 +52,7 @@ fn place(seg: u32, offset: u32) -> PubPlace
 /// The next public name.
 #[tactic(auto, unfolding(omf_model::specs::ReadNames::pub_at))]
 fn public<'a>(fields: &mut Fields<'a>, wide: bool) -> Result<PubFields<'a>, OmfRefusal>
-    ensures read { Reads pub_def result (pub_at wide fields.old) fields.new }
+    ensures read { Reads pub_def as_is result (pub_at wide) fields.old fields.new }
     ensures short { IfOk result (λ d. length d.name.now < 256) }
 {
     let name = fields.name()?;
@@ -66,7 +66,7 @@ fn public<'a>(fields: &mut Fields<'a>, wide: bool) -> Result<PubFields<'a>, OmfR
 pub fn pubdef(alloc: Global, rec: &Rec, into: &mut ObjParts) -> Result<(), Fail<OmfRefusal>>
     requires kind { (rec.now.ty ≡ PUBDEF) ⊎ (rec.now.ty ≡ PUBDEF_32) ⊎ (rec.now.ty ≡ LPUBDEF) ⊎ (rec.now.ty ≡ LPUBDEF_32) }
     requires begun { IsBegun into.old }
-    ensures { Gives (λ _. into.new) result (read_after into.old rec.now) }
+    ensures { Gives (λ _. into.new) if_said result (read_after into.old rec.now) }
 {
     let local = rec.ty >= LPUBDEF;
     let wide = rec.ty % 2 == 1;
@@ -82,7 +82,7 @@ pub fn pubdef(alloc: Global, rec: &Rec, into: &mut ObjParts) -> Result<(), Fail<
             Ok(public) => public,
             Err(refusal) => return Err(Fail::Said(refusal)),
         };
-        let name = name_of(alloc, public.name)?;
+        let name = Name::of_short(alloc, public.name)?;
         into.module.pubs.push(Pub {
             name,
             local,

@@ -2,18 +2,18 @@
 
 ghost use Rattle.omf_model.specs.Record.{are_attributes};
 ghost use Rattle.std.specs.Prelude.{◌≡◌, ◌⊎◌, ◌≤◌, IfOk, length};
-ghost use Rattle.omf_fields.specs.Yields.{Finds};
+ghost use Rattle.lx_types.specs.Answers.{as_is, if_said, Gives};
 ghost use Rattle.omf_model.specs.Begun.{IsBegun};
-ghost use Rattle.omf_model.specs.Gives.{Gives, read_after, contents_at};
+ghost use Rattle.omf_model.specs.ReadAfter.{read_after, contents_at};
 ghost use Rattle.omf_model.specs.Items.{is_debug, seg_of};
 ghost use Rattle.omf_model.specs.ReadModule.{is_wide};
 ghost use Rattle.omf_model.specs.ReadNames.{segdef_at};
 ghost use Rattle.omf_names.specs.Segments.{def_of, segdef_record};
 
 use crate::indices::text;
-use lx_types::{Fail, Name, NoMemory};
+use lx_types::{Fail, Name, NoMemory, count};
 use obj_types::{ObjParts, OmfRefusal, Seg};
-use omf_fields::{Fields, count, name_of, said};
+use omf_fields::{Fields, said};
 use omf_frame::Rec;
 use omf_frame::record_type::{SEGDEF, SEGDEF_32};
 use std::alloc::Global;
@@ -42,7 +42,7 @@ fn are_used(attributes: u8) -> bool
 // The fields of the record, where `have` names came before.
 fn fields_of(rec: &Rec, before: &ObjParts, have: u32) -> Result<SegFields, OmfRefusal>
     requires { have ≡ length before.now.names }
-    ensures read { Finds segdef_record result (segdef_at (is_wide rec.now.ty) before.now (contents_at rec.now.at rec.now.body.now)) }
+    ensures read { Gives segdef_record as_is result (segdef_at (is_wide rec.now.ty) before.now (contents_at rec.now.at rec.now.body.now)) }
     ensures named { IfOk result (λ d. (1 ≤ d.name) × (d.name ≤ have) × (1 ≤ d.class) × (d.class ≤ have)) }
 {
     let wide = rec.ty % 2 == 1;
@@ -100,8 +100,8 @@ fn segment_of(alloc: Global, names: &[Name], d: SegFields) -> Result<Seg, NoMemo
     };
     Ok(Seg {
         debug: has_debug_data(name, class),
-        name: name_of(alloc, name)?,
-        class: name_of(alloc, class)?,
+        name: Name::of_short(alloc, name)?,
+        class: Name::of_short(alloc, class)?,
         align: d.attributes / 32,
         combine: d.attributes / 4 % 8,
         wide: d.attributes % 2 == 1,
@@ -113,7 +113,7 @@ fn segment_of(alloc: Global, names: &[Name], d: SegFields) -> Result<Seg, NoMemo
 pub fn segdef(alloc: Global, rec: &Rec, into: &mut ObjParts) -> Result<(), Fail<OmfRefusal>>
     requires kind { (rec.now.ty ≡ SEGDEF) ⊎ (rec.now.ty ≡ SEGDEF_32) }
     requires begun { IsBegun into.old }
-    ensures { Gives (λ _. into.new) result (read_after into.old rec.now) }
+    ensures { Gives (λ _. into.new) if_said result (read_after into.old rec.now) }
 {
     let have = count(into.names.as_slice().len())?;
     let fields = said(fields_of(rec, into, have))?;

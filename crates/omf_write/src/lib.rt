@@ -8,6 +8,7 @@ mod fixups;
 mod framed;
 mod imports;
 mod joining;
+mod laws;
 mod libraries;
 mod objects;
 mod pieces;
@@ -17,5 +18,6 @@ mod tables;
 
 pub use imports::import_module;
 pub use joining::join;
+pub use laws::library_limit;
 pub use libraries::{LIBRARY_LIMIT, LibraryLong, library};
 pub use objects::object;

@@ -3,7 +3,6 @@
 ghost use Rattle.std.specs.Prelude.{◌≡◌, ◌++◌, ◌+◌, ◌≤◌, ◌<◌, ◌&&◌, nat_le, IfOk, OnOk, length};
 ghost use Rattle.std.specs.List.{AllByRecursion, prefix_len};
 ghost use Rattle.obj_types.specs.declared.object.Piece.{Piece as PieceOf};
-ghost use Rattle.obj_types.specs.Location.{location_len};
 ghost use Rattle.omf_write.specs.ObjectBytes.{lies_on, ledata_bytes, data_records};
 ghost use Rattle.omf_write.specs.ObjectFits.{PieceFits};
 
@@ -11,22 +10,9 @@ use crate::fields::push_index;
 use crate::fixups::push_fixups;
 use crate::framed::push_record;
 use lx_types::NoMemory;
-use obj_types::{FixAt, Piece};
+use obj_types::{FixAt, Piece, location_len};
 use omf_frame::record_type::LEDATA_32;
 use std::alloc::Global;
-
-// The bytes of a location, and 0 for a kind that there is not.
-fn location_len(loc: u8) -> u8
-    ensures { result ≡ location_len loc }
-{
-    match loc {
-        0 => 1,
-        1 | 2 | 5 => 2,
-        3 | 9 | 13 => 4,
-        11 => 6,
-        _ => 0,
-    }
-}
 
 // Whether so many bytes from an offset on lie in the room behind a start.
 fn is_within(offset: u32, len: u8, start: u32, room: u32) -> bool

@@ -10,7 +10,7 @@ use crate::framed::push_record;
 use crate::tables::name_index;
 use first_table::NameTable;
 use lx_types::NoMemory;
-use obj_types::{Group, Seg};
+use obj_types::{ALIGN_ABSOLUTE, Group, Seg};
 use omf_frame::record_type::{GRPDEF, SEGDEF_32};
 use std::alloc::{AllocError, Global};
 
@@ -18,7 +18,7 @@ use std::alloc::{AllocError, Global};
 fn push_place(out: &mut Vec<u8>, align: u8) -> Result<(), AllocError>
     ensures { OnOk result (out.new.items ≡ out.old.items ++ place_bytes align) }
 {
-    if align == 0 {
+    if align == ALIGN_ABSOLUTE {
         out.extend_from_slice(&[0, 0, 0])?;
     }
     Ok(())

@@ -9,7 +9,7 @@ use Rattle.link_model.specs.declared.refusals.FixRefusal.TheVariants.{FarSelf, F
 use Rattle.link_model.specs.declared.refusals.EntryRefusal.{EntryRefusal}
 use Rattle.link_model.specs.declared.refusals.EntryRefusal.TheVariants.{Ordinal, NameTwice}
 use Rattle.refusal_text.specs.Files.{field}
-use Rattle.refusal_text.specs.Names.{escaped}
+use Rattle.lx_types.specs.Escaped.{escaped}
 
 abbrev pub named : List ℕ → List ℕ
 named name = codes " " ++ escaped name

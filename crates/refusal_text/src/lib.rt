@@ -3,8 +3,6 @@
 
 mod files;
 mod links;
-mod names;
 
 pub use files::{def_text, lx_text, omf_text};
 pub use links::{entry_text, fix_text, lay_text, sym_text};
-pub use names::push_escaped;

@@ -4,9 +4,8 @@ ghost use Rattle.std.specs.Prelude.{◌≡◌, ◌++◌, IfOk, OnOk, codes};
 ghost use Rattle.refusal_text.specs.Files.{field};
 ghost use Rattle.refusal_text.specs.Links.{named, fixup, sym_text, lay_text, fix_text, entry_text};
 
-use crate::names::push_escaped;
 use link_model::{EntryRefusal, FixRefusal, LayRefusal, SymRefusal};
-use lx_types::Name;
+use lx_types::{Name, push_escaped};
 use std::alloc::{AllocError, Global};
 
 // A blank, and the number in decimal.

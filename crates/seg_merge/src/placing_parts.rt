@@ -12,6 +12,7 @@ ghost use Rattle.seg_merge.specs.Standing.{RowsStand};
 
 use crate::offsets::part_start;
 use link_model::NoMemory;
+use obj_types::COMBINE_COMMON;
 use seg_parts::{LogicalSegments, Part, Placed};
 use std::alloc::Global;
 
@@ -28,7 +29,7 @@ fn starts_of(alloc: Global, rows: &[Placed<'_>]) -> Result<Vec<u32>, NoMemory>
 fn is_common(part: &Part<'_>) -> bool
     ensures { result ≡ is_common (shown part.now) }
 {
-    part.combine == 6
+    part.combine == COMBINE_COMMON
 }
 
 // The offset of the next part of a logical segment whose parts so far end at `end`. Common parts share its start.

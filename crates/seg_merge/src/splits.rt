@@ -121,7 +121,7 @@ fn group_split(alloc: Global, name: &Name) -> Result<LayRefusal, NoMemory>
     ensures { IfOk result (λ r. r ≡ GroupSplit name.now) }
 {
     Ok(LayRefusal::GroupSplit {
-        group: Name::of_short(alloc, name.bytes())?,
+        group: name.copied(alloc)?,
     })
 }
 

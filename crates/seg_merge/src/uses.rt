@@ -90,7 +90,7 @@ fn mixed(alloc: Global, name: &Name) -> Result<LayRefusal, NoMemory>
     ensures { IfOk result (λ r. r ≡ UseMixed name.now) }
 {
     Ok(LayRefusal::UseMixed {
-        seg: Name::of_short(alloc, name.bytes())?,
+        seg: name.copied(alloc)?,
     })
 }
 

@@ -13,12 +13,18 @@ use crate::logical_segments::{SegmentName, name_of};
 use crate::parts::{FixedNames, Part, is_stack};
 use indexmap::IndexSet;
 use link_model::{Name, NoMemory, Origin, number};
-use obj_types::{Common, ModKind};
+use obj_types::{
+    ALIGN_DOUBLEWORD, ALIGN_PARAGRAPH, COMBINE_COMMON, COMBINE_PRIVATE, COMBINE_PUBLIC, Common,
+    ModKind,
+};
 
 fn is_public(part: &Part<'_>, name: &Name, class: &Name) -> bool
     ensures { result ≡ is_of name.now class.now (shown part.now) }
 {
-    part.combine != 0 && part.combine != 6 && *part.name == *name && *part.class == *class
+    part.combine != COMBINE_PRIVATE
+        && part.combine != COMBINE_COMMON
+        && *part.name == *name
+        && *part.class == *class
 }
 
 fn is_in(names: &IndexSet<SegmentName<'_>>, part: &Part<'_>) -> bool
@@ -143,8 +149,8 @@ fn communal_part<'a>(slot: u32, common: Common, fixed: &'a FixedNames, widths: W
         origin: Origin::Communal { slot },
         name,
         class,
-        align: 5,
-        combine: 2,
+        align: ALIGN_DOUBLEWORD,
+        combine: COMBINE_PUBLIC,
         wide,
         len: common.len,
     }
@@ -175,8 +181,8 @@ fn own_stack(fixed: &FixedNames) -> Part<'_>
         origin: Origin::OwnStack,
         name: &fixed.stack,
         class: &fixed.stack,
-        align: 3,
-        combine: 0,
+        align: ALIGN_PARAGRAPH,
+        combine: COMBINE_PRIVATE,
         wide: true,
         len: 0,
     }

@@ -9,6 +9,7 @@ ghost use Rattle.seg_parts.specs.LogicalSegments.{name_shown, heads_of, numbers_
 use crate::parts::Part;
 use indexmap::IndexSet;
 use link_model::{NoMemory, Origin};
+use obj_types::{COMBINE_COMMON, COMBINE_PRIVATE};
 use std::alloc::Global;
 use std::marker::Model;
 
@@ -40,8 +41,8 @@ pub fn name_of<'a>(part: &Part<'a>) -> SegmentName<'a>
     ensures { name_shown result ≡ rules.segment_key (shown part.now) }
 {
     match part.combine {
-        0 => own_name(part.origin),
-        6 => SegmentName::Common {
+        COMBINE_PRIVATE => own_name(part.origin),
+        COMBINE_COMMON => SegmentName::Common {
             name: part.name.bytes(),
             class: part.class.bytes(),
         },

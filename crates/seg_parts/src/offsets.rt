@@ -10,6 +10,7 @@ ghost use Rattle.seg_parts.specs.Offsets.{limited, start_of, end_of};
 
 use crate::parts::Part;
 use link_model::{MAX_MEMORY, alignment_len};
+use obj_types::COMBINE_COMMON;
 
 fn alignment_of(align: u8) -> u32
     ensures value { result ≡ parts.alignment align }
@@ -87,7 +88,7 @@ fn longest(parts: &[Part<'_>]) -> u32
 fn is_common(part: &Part<'_>) -> bool
     ensures { result ≡ parts.is_common (shown part.now) }
 {
-    part.combine == 6
+    part.combine == COMBINE_COMMON
 }
 
 /// The start of a logical segment of these parts, behind what ends at `at`. Common parts share it.

@@ -8,7 +8,7 @@ ghost use Rattle.seg_parts.specs.Parts.{shown};
 ghost use Rattle.seg_parts.specs.FixedNames.{AreFixed};
 
 use link_model::{Name, NoMemory, Origin, number};
-use obj_types::{LinkInput, ObjModule, Seg};
+use obj_types::{COMBINE_STACK, LinkInput, ObjModule, Seg};
 use std::alloc::Global;
 
 /// A contribution to a logical segment, or a communal as one ("98h SEGDEF").
@@ -113,6 +113,6 @@ pub fn is_stack(part: &Part<'_>) -> bool
 {
     match part.origin {
         Origin::OwnStack => true,
-        _ => part.combine == 5,
+        _ => part.combine == COMBINE_STACK,
     }
 }

@@ -1,26 +1,22 @@
 //! Refusals of single parts.
 
-ghost use Rattle.std.specs.Prelude.{◌≡◌, ◌==◌, None, Some, map, find, option_copied, IfOk};
+ghost use Rattle.std.specs.Prelude.{◌≡◌, ◌==◌, None, Some, map, find, option_copied};
 ghost use Rattle.lx_types.specs.Answers.{Answers};
 ghost use Rattle.link_model.specs.declared.refusals.LayRefusal.TheVariants.{AbsoluteSeg};
 ghost use Rattle.seg_parts.specs.Parts.{shown};
 ghost use Rattle.seg_parts.specs.Refusals.{absolute_in};
 
 use crate::parts::Part;
-use link_model::{LayRefusal, Name, NoMemory};
-use obj_types::Fail;
+use link_model::LayRefusal;
+use obj_types::{ALIGN_ABSOLUTE, Fail};
 use std::alloc::Global;
-
-fn copied(alloc: Global, name: &Name) -> Result<Name, NoMemory>
-    ensures { IfOk result (λ copy. copy ≡ name.now) }
-{
-    Name::of_short(alloc, name.bytes())
-}
 
 fn first_absolute<'a>(contributions: &'a [Part<'a>]) -> Option<&'a Part<'a>>
     ensures { option_copied result ≡ find (λ p. (shown p).align == 0) contributions.entry.now }
 {
-    contributions.iter().find(|part| part.align == 0)
+    contributions
+        .iter()
+        .find(|part| part.align == ALIGN_ABSOLUTE)
 }
 
 /// The first contribution of alignment 0 is refused: it is absolute.
@@ -32,7 +28,7 @@ pub fn check_absolute(alloc: Global, contributions: &[Part<'_>]) -> Result<(), F
     match first_absolute(contributions) {
         None => Ok(()),
         Some(part) => Err(Fail::Said(LayRefusal::AbsoluteSeg {
-            seg: copied(alloc, part.name)?,
+            seg: part.name.copied(alloc)?,
         })),
     }
 }

@@ -144,7 +144,7 @@ fn too_large(alloc: Global, name: &Name) -> Result<LayRefusal, NoMemory>
     ensures { IfOk result (λ r. r ≡ TooLarge name.now) }
 {
     Ok(LayRefusal::TooLarge {
-        seg: Name::of_short(alloc, name.bytes())?,
+        seg: name.copied(alloc)?,
     })
 }
 

@@ -10,7 +10,6 @@ ghost use Rattle.sym_table.specs.Firsts.{same_name};
 ghost use Rattle.sym_table.specs.Communals.{comdef_shown, greatest_of, with_greatest, slotted};
 
 use crate::definitions::Definition;
-use crate::firsts::copied;
 use first_table::NameTable;
 use link_model::{SymDef, number};
 use obj_types::{Common, Ext, LinkInput, Name, NoMemory, ObjModule, Seq};
@@ -136,7 +135,7 @@ pub fn communals_of(
                 far: comdef.common.far,
                 len: len_in(&lens, comdef.name),
             };
-            list.push((copied(alloc, comdef.name)?, common))?;
+            list.push((comdef.name.copied(alloc)?, common))?;
         }
     }
     Ok(Communals { list, slots })

@@ -11,7 +11,7 @@ ghost use Rattle.sym_table.specs.Firsts.{firsts_of};
 use crate::definitions::{Definition, Meaning};
 use first_table::NameTable;
 use link_model::SymRefusal;
-use obj_types::{EntryKey, Fail, Imp, Name, NoMemory};
+use obj_types::{EntryKey, Fail, Imp, NoMemory};
 use std::alloc::Global;
 
 pub fn same_entry(one: &EntryKey, other: &EntryKey) -> bool
@@ -40,12 +40,6 @@ fn counts_once(one: &Definition<'_>, other: &Definition<'_>) -> bool
     }
 }
 
-pub fn copied(alloc: Global, name: &Name) -> Result<Name, NoMemory>
-    ensures { IfOk result (λ copy. copy ≡ name.now) }
-{
-    Name::of_short(alloc, name.bytes())
-}
-
 fn twice(
     alloc: Global,
     first: &Definition<'_>,
@@ -54,7 +48,7 @@ fn twice(
     ensures { IfOk result (λ r. r ≡ Twice second.now.name.now first.now.by second.now.by) }
 {
     Ok(SymRefusal::Twice {
-        name: copied(alloc, second.name)?,
+        name: second.name.copied(alloc)?,
         first: first.by,
         second: second.by,
     })

@@ -7,7 +7,6 @@ ghost use Rattle.sym_table.specs.Definitions.{shown, imports_among};
 ghost use Rattle.sym_table.specs.ImportLists.{AreListed, with_import};
 
 use crate::definitions::{Definition, Meaning};
-use crate::firsts::copied;
 use crate::import_keys::{ImportPart, key_of, place_in};
 use indexmap::IndexMap;
 use obj_types::{EntryKey, Imp, NoMemory, Seq};
@@ -18,7 +17,7 @@ fn copied_entry(alloc: Global, entry: &EntryKey) -> Result<EntryKey, NoMemory>
 {
     match entry {
         EntryKey::Ordinal(ordinal) => Ok(EntryKey::Ordinal(*ordinal)),
-        EntryKey::Named(name) => Ok(EntryKey::Named(copied(alloc, name)?)),
+        EntryKey::Named(name) => Ok(EntryKey::Named(name.copied(alloc)?)),
     }
 }
 
@@ -26,8 +25,8 @@ fn copied_import(alloc: Global, import: &Imp) -> Result<Imp, NoMemory>
     ensures { IfOk result (λ copy. copy ≡ import.now) }
 {
     Ok(Imp {
-        name: copied(alloc, &import.name)?,
-        module: copied(alloc, &import.module)?,
+        name: import.name.copied(alloc)?,
+        module: import.module.copied(alloc)?,
         entry: copied_entry(alloc, &import.entry)?,
     })
 }

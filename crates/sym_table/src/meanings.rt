@@ -15,7 +15,6 @@ ghost use Rattle.link_model.specs.SymbolRefusals.{is_exportable};
 ghost use Rattle.sym_table.specs.Meanings.{defined_by, global_in, meaning_by, row_in, missing_row, missing_export_in};
 
 use crate::definitions::{Definition, Meaning};
-use crate::firsts::copied;
 use crate::imports::{Imports, slot_of};
 use crate::locals::locals_of;
 use first_table::NameTable;
@@ -132,7 +131,7 @@ fn missing(alloc: Global, name: &Name) -> Result<SymRefusal, NoMemory>
     ensures { IfOk result (λ r. r ≡ Missing name.now) }
 {
     Ok(SymRefusal::Missing {
-        name: copied(alloc, name)?,
+        name: name.copied(alloc)?,
     })
 }
 

@@ -4,7 +4,7 @@ use Rattle.omf_model.specs.Blocks.{expanded}
 use Rattle.omf_model.specs.ReadBlocks.{blocks_in}
 use Rattle.omf_data.specs.declared.iterated.Iterated.{Iterated}
 use Rattle.omf_data.specs.Expanding.{SpellsBlocks}
-use Rattle.omf_marks.proofs.Stay.{read-more}
+use Rattle.omf_data.proofs.Stay.{read-more}
 use Rattle.omf_data.proofs.Added.{said_ok}
 use Rattle.omf_data.proofs.Placed.{so_far, is_debug}
 use Rattle.omf_data.proofs.IteratedRead.{dropped, kept}

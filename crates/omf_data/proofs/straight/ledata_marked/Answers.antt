@@ -3,7 +3,7 @@ use Rattle.obj_types.specs.Items.{IsIndex}
 use Rattle.omf_model.specs.Items.{is_debug_seg}
 use Rattle.omf_data.specs.declared.straight.Straight.{Straight}
 use Rattle.omf_data.proofs.Placed.{so_far, is_debug}
-use Rattle.omf_marks.proofs.Stay.{read-more}
+use Rattle.omf_data.proofs.Stay.{read-more}
 use Rattle.omf_data.proofs.Added.{said_ok}
 use Rattle.omf_data.proofs.StraightRead.{dropped, kept}
 use Rattle.omf_data.proofs.straight.ledata_marked.Goals as goal

@@ -1,6 +1,6 @@
 use Rattle.std.proofs.Common.{◌≡◌, arith, rules}
 use Rattle.std.specs.Prelude.{◌⊎◌}
-use Rattle.omf_marks.proofs.Stay.{gives-more}
+use Rattle.omf_data.proofs.Stay.{gives-more}
 use Rattle.omf_files.proofs.RecordRead.{header-passed, lines-passed}
 use Rattle.omf_files.proofs.objects.add_record.Goals as goal
 

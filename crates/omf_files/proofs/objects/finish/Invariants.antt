@@ -1,5 +1,5 @@
 use Rattle.std.proofs.Common.{◌≡◌, ◌≤◌, length}
-use Rattle.omf_marks.specs.Marks.{AreMarks}
+use Rattle.omf_data.specs.Marks.{AreMarks}
 use Rattle.omf_model.specs.Begun.{IsBegun}
 use Rattle.omf_model.specs.ReadModule.{rest_at}
 use Rattle.omf_files.proofs.objects.finish.Given as goal

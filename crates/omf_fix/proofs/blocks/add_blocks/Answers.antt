@@ -19,7 +19,7 @@ pub returns-then-not-is_in_block : goal.returns-then-not-is_in_block
 returns-then-not-is_in_block c =
     let last : c.args.into.now.last ≡ datas.Blocks c.in-Blocks.seg c.in-Blocks.offset c.in-Blocks.wide c.in-Blocks.body = (let q = c.in-Blocks.is in cc) in
     let low = c.from-low.ensures ∙ c.offset.ensures.value in
-    let size = c.from-size.ensures ∙ c.location_len.ensures ∙ ap location_len c.location.ensures.value in
+    let size = c.from-size.ensures ∙ c.location_len.ensures.value ∙ ap location_len c.location.ensures.value in
     let blocks = c.as_slice-2.ensures.value ∙ c.in_ok-copies_in-in-Blocks.ensures.contents ∙ ap (λ (bs : List ℕ). contents c.in-Blocks.wide 0 (blocks_in c.in-Blocks.wide bs)) c.as_slice.ensures in
     no-data c.args.into.now c.args.place _ (blocks-on c.args.into.now c.args.place c.in-Blocks.seg c.in-Blocks.offset c.in-Blocks.wide c.in-Blocks.body last c.from-low.result c.from-size.result c.as_slice-2.result.now false low size blocks (sym c.if-not-is_in_block.true ∙ c.is_in_block.ensures))
 
@@ -27,7 +27,7 @@ pub copies_of-requires : goal.copies_of-requires
 copies_of-requires c =
     let last : c.args.into.now.last ≡ datas.Blocks c.in-Blocks.seg c.in-Blocks.offset c.in-Blocks.wide c.in-Blocks.body = (let q = c.in-Blocks.is in cc) in
     let low = c.from-low.ensures ∙ c.offset.ensures.value in
-    let size = c.from-size.ensures ∙ c.location_len.ensures ∙ ap location_len c.location.ensures.value in
+    let size = c.from-size.ensures ∙ c.location_len.ensures.value ∙ ap location_len c.location.ensures.value in
     let blocks = c.as_slice-2.ensures.value ∙ c.in_ok-copies_in-in-Blocks.ensures.contents ∙ ap (λ (bs : List ℕ). contents c.in-Blocks.wide 0 (blocks_in c.in-Blocks.wide bs)) c.as_slice.ensures in
     let own = c.as_slice-3.ensures.value ∙ c.in_ok-copies_in-in-Blocks.ensures.places ∙ ap (λ (bs : List ℕ). places_of c.from-low.result (origins c.in-Blocks.wide 0 (blocks_in c.in-Blocks.wide bs))) c.as_slice.ensures in
     blocks-lie c.args.into.now c.args.place c.in-Blocks.seg c.in-Blocks.offset c.in-Blocks.wide c.in-Blocks.body last (begun-whole c.args.into.now c.requires.begun) c.from-low.result c.as_slice-3.result.now own c.as_slice-segs.result.now c.as_slice-segs.ensures
@@ -36,7 +36,7 @@ pub returns-then-meets_copies : goal.returns-then-meets_copies
 returns-then-meets_copies c =
     let last : c.args.into.now.last ≡ datas.Blocks c.in-Blocks.seg c.in-Blocks.offset c.in-Blocks.wide c.in-Blocks.body = (let q = c.in-Blocks.is in cc) in
     let low = c.from-low.ensures ∙ c.offset.ensures.value in
-    let size = c.from-size.ensures ∙ c.location_len.ensures ∙ ap location_len c.location.ensures.value in
+    let size = c.from-size.ensures ∙ c.location_len.ensures.value ∙ ap location_len c.location.ensures.value in
     let blocks = c.as_slice-2.ensures.value ∙ c.in_ok-copies_in-in-Blocks.ensures.contents ∙ ap (λ (bs : List ℕ). contents c.in-Blocks.wide 0 (blocks_in c.in-Blocks.wide bs)) c.as_slice.ensures in
     let own = c.as_slice-3.ensures.value ∙ c.in_ok-copies_in-in-Blocks.ensures.places ∙ ap (λ (bs : List ℕ). places_of c.from-low.result (origins c.in-Blocks.wide 0 (blocks_in c.in-Blocks.wide bs))) c.as_slice.ensures in
     let on = blocks-on c.args.into.now c.args.place c.in-Blocks.seg c.in-Blocks.offset c.in-Blocks.wide c.in-Blocks.body last c.from-low.result c.from-size.result c.as_slice-2.result.now true low size blocks (sym c.if-not-is_in_block.false ∙ c.is_in_block.ensures) in
@@ -49,7 +49,7 @@ pub returns-then-as_slice-len : goal.returns-then-as_slice-len
 returns-then-as_slice-len c =
     let last : c.args.into.now.last ≡ datas.Blocks c.in-Blocks.seg c.in-Blocks.offset c.in-Blocks.wide c.in-Blocks.body = (let q = c.in-Blocks.is in cc) in
     let low = c.from-low.ensures ∙ c.offset.ensures.value in
-    let size = c.from-size.ensures ∙ c.location_len.ensures ∙ ap location_len c.location.ensures.value in
+    let size = c.from-size.ensures ∙ c.location_len.ensures.value ∙ ap location_len c.location.ensures.value in
     let blocks = c.as_slice-2.ensures.value ∙ c.in_ok-copies_in-in-Blocks.ensures.contents ∙ ap (λ (bs : List ℕ). contents c.in-Blocks.wide 0 (blocks_in c.in-Blocks.wide bs)) c.as_slice.ensures in
     let own = c.as_slice-3.ensures.value ∙ c.in_ok-copies_in-in-Blocks.ensures.places ∙ ap (λ (bs : List ℕ). places_of c.from-low.result (origins c.in-Blocks.wide 0 (blocks_in c.in-Blocks.wide bs))) c.as_slice.ensures in
     let on = blocks-on c.args.into.now c.args.place c.in-Blocks.seg c.in-Blocks.offset c.in-Blocks.wide c.in-Blocks.body last c.from-low.result c.from-size.result c.as_slice-2.result.now true low size blocks (sym c.if-not-is_in_block.false ∙ c.is_in_block.ensures) in
@@ -63,7 +63,7 @@ pub returns : goal.returns
 returns c =
     let last : c.args.into.now.last ≡ datas.Blocks c.in-Blocks.seg c.in-Blocks.offset c.in-Blocks.wide c.in-Blocks.body = (let q = c.in-Blocks.is in cc) in
     let low = c.from-low.ensures ∙ c.offset.ensures.value in
-    let size = c.from-size.ensures ∙ c.location_len.ensures ∙ ap location_len c.location.ensures.value in
+    let size = c.from-size.ensures ∙ c.location_len.ensures.value ∙ ap location_len c.location.ensures.value in
     let blocks = c.as_slice-2.ensures.value ∙ c.in_ok-copies_in-in-Blocks.ensures.contents ∙ ap (λ (bs : List ℕ). contents c.in-Blocks.wide 0 (blocks_in c.in-Blocks.wide bs)) c.as_slice.ensures in
     let own = c.as_slice-3.ensures.value ∙ c.in_ok-copies_in-in-Blocks.ensures.places ∙ ap (λ (bs : List ℕ). places_of c.from-low.result (origins c.in-Blocks.wide 0 (blocks_in c.in-Blocks.wide bs))) c.as_slice.ensures in
     let on = blocks-on c.args.into.now c.args.place c.in-Blocks.seg c.in-Blocks.offset c.in-Blocks.wide c.in-Blocks.body last c.from-low.result c.from-size.result c.as_slice-2.result.now true low size blocks (sym c.if-not-is_in_block.false ∙ c.is_in_block.ensures) in

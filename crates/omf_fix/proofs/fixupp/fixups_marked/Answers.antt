@@ -1,5 +1,5 @@
 use Rattle.std.proofs.Common.{rules, ◌∙◌}
-use Rattle.omf_model.specs.Gives.{contents_at}
+use Rattle.omf_model.specs.ReadAfter.{contents_at}
 use Rattle.omf_model.specs.ReadModule.{is_wide}
 use Rattle.omf_model.specs.ReadFixups.{field_at}
 use Rattle.omf_fix.proofs.Marked.{adds-more}

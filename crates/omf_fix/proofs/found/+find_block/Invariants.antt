@@ -8,7 +8,7 @@ decreases-find_block l = l.left
 
 abbrev pub invariant-inner : goal.invariant-inner
 invariant-inner l =
-    (items_found l.number (l.left - 1) l.wide (ltb 0 l.times) l.more (found_in l.found) l.fields ≡ items_found l.number (l.left - 1) l.wide (ltb 0 l.times) l.count (found_in l.initial.found) l.initial.fields)
+    (items_found l.sought.number (l.left - 1) l.sought.wide (ltb 0 l.times) l.more (found_in l.found) l.fields ≡ items_found l.sought.number (l.left - 1) l.sought.wide (ltb 0 l.times) l.count (found_in l.initial.found) l.initial.fields)
     × IsInContents l.fields
 
 abbrev pub decreases-inner : goal.decreases-inner

@@ -1,5 +1,5 @@
 use Rattle.std.proofs.Common.{length}
-use Rattle.omf_model.specs.Gives.{contents_at}
+use Rattle.omf_model.specs.ReadAfter.{contents_at}
 use Rattle.omf_model.specs.Items.{com_of}
 use Rattle.omf_model.specs.ReadNames.{com_at}
 use Rattle.omf_names.proofs.ListRead.{SoFar}

@@ -1,5 +1,5 @@
 use Rattle.std.proofs.Common.{length}
-use Rattle.omf_model.specs.Gives.{contents_at}
+use Rattle.omf_model.specs.ReadAfter.{contents_at}
 use Rattle.omf_names.proofs.NamesRead.{NamesSoFar}
 use Rattle.omf_names.proofs.lnames.names.Given as goal
 

@@ -3,9 +3,9 @@ use Rattle.std.specs.declared.ops.Bound.TheVariants.{Included, Excluded}
 use Rattle.std.specs.BTreeSet.{keys_between}
 use Rattle.std.proofs.lemmas.Iterator.Consumers.{YieldsList-from_rest}
 use Rattle.std.proofs.lemmas.Iterator.Search.{any_from_yields_List}
-use Rattle.omf_marks.specs.Marks.{order, reaches}
-use Rattle.omf_marks.proofs.Touched.{all-located, any-touched, none-touched}
-use Rattle.omf_marks.proofs.marks.Marks.is_on_fix.Goals as goal
+use Rattle.omf_data.specs.Marks.{order, reaches}
+use Rattle.omf_data.proofs.Touched.{all-located, any-touched, none-touched}
+use Rattle.omf_data.proofs.marks.Marks.is_on_fix.Goals as goal
 
 pub returns-then-len-eq0 : goal.returns-then-len-eq0
 returns-then-len-eq0 c = λ p have. sym (none-touched c.args.seg c.args.start c.args.len p.module.fixes c.if-len-eq0.true)

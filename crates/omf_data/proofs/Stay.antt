@@ -14,12 +14,13 @@ use Rattle.omf_model.specs.AddLists.{parts_with, module_with, HasFour}
 use Rattle.omf_model.specs.Begun.{IsBegun}
 use Rattle.lx_types.specs.declared.fail.Fail.{Fail}
 use Rattle.lx_types.specs.declared.fail.Fail.TheVariants.{Said, NoMemory}
-use Rattle.omf_model.specs.Gives.{Gives, then_add, read_after}
+use Rattle.lx_types.specs.Answers.{if_said, Gives}
+use Rattle.omf_model.specs.ReadAfter.{then_add, read_after}
 use Rattle.omf_model.proofs.BegunLaws.{begun-whole}
 use Rattle.omf_model.proofs.PartsLaws.{add-lists}
 use Rattle.omf_fields.proofs.SpanLaws.{ok_is}
-use Rattle.omf_marks.specs.declared.marks.Marks.{Marks}
-use Rattle.omf_marks.specs.Marks.{HavePieces, HaveFixes, AreMarks, is_at}
+use Rattle.omf_data.specs.declared.marks.Marks.{Marks}
+use Rattle.omf_data.specs.Marks.{HavePieces, HaveFixes, AreMarks, is_at}
 
 -- more behind them
 pub pieces-more : (m : Marks) (xs ys : List Piece) → HavePieces m xs → HavePieces m (xs ++ ys)
@@ -51,7 +52,7 @@ read-more m p q rec begun is marks = from _ is
     from (Err f) e = absurd cc
 
 -- what a call added that took no marks
-pub gives-more : (m : Marks) (p q : ObjParts) (rec : Rec) (r : Result (Unit {0}) (Fail OmfRefusal)) → IsBegun p → AreMarks m p → Gives (λ (u : Unit {0}). q) r (read_after p rec) → OnOk r (AreMarks m q)
+pub gives-more : (m : Marks) (p q : ObjParts) (rec : Rec) (r : Result (Unit {0}) (Fail OmfRefusal)) → IsBegun p → AreMarks m p → Gives (λ (u : Unit {0}). q) if_said r (read_after p rec) → OnOk r (AreMarks m q)
 gives-more m p q rec (Ok u) begun marks is = read-more m p q rec begun is marks
 gives-more m p q rec (Err (Said f)) begun marks is = tt
 gives-more m p q rec (Err NoMemory) begun marks is = tt

@@ -1,15 +1,15 @@
 //! Names, as they are told.
 
-ghost use Rattle.std.specs.Prelude.{◌≡◌, ◌++◌, ◌<◌, OnOk, slice_index, codes};
-ghost use Rattle.refusal_text.specs.Names.{digit, escaped_byte, escaped};
+ghost use Rattle.std.specs.Prelude.{◌≡◌, ◌++◌, ◌<◌, OnOk};
+ghost use Rattle.lx_types.specs.Escaped.{hex_digit, escaped_byte, escaped};
 
 use std::alloc::AllocError;
 
-fn digit(n: u8) -> u8
+fn hex_digit(n: u8) -> u8
     requires { n < 16 }
-    ensures { result ≡ digit n }
+    ensures { result ≡ hex_digit n }
 {
-    b"0123456789ABCDEF"[usize::from(n)]
+    if n < 10 { b'0' + n } else { b'A' - 10 + n }
 }
 
 fn push_byte(out: &mut Vec<u8>, byte: u8) -> Result<(), AllocError>
@@ -19,7 +19,7 @@ fn push_byte(out: &mut Vec<u8>, byte: u8) -> Result<(), AllocError>
         out.push(byte)?;
         return Ok(());
     }
-    out.extend_from_slice(&[b'%', digit(byte / 16), digit(byte % 16)])
+    out.extend_from_slice(&[b'%', hex_digit(byte / 16), hex_digit(byte % 16)])
 }
 
 /// Writes a name: bytes outside 21h to 7Eh, and `%`, as `%` and two hexadecimal digits in upper

@@ -1,6 +1,6 @@
-use Rattle.omf_marks.specs.Marks.{HavePieces}
+use Rattle.omf_data.specs.Marks.{HavePieces}
 use Rattle.std.proofs.Common.{length, ◌-◌, ◌≡◌}
-use Rattle.omf_marks.proofs.marks.Marks.see_pieces.Given as goal
+use Rattle.omf_data.proofs.marks.Marks.see_pieces.Given as goal
 
 abbrev pub invariant-pieces : goal.invariant-pieces
 invariant-pieces l = record {

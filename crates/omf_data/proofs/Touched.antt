@@ -18,8 +18,8 @@ use Rattle.omf_model.proofs.DataLaws.{bool_cases}
 use Rattle.omf_model.proofs.FixLaws.{true_and, and_true}
 use Rattle.std.proofs.Math.Seq.{take-length, take-suc}
 use Rattle.obj_types.specs.declared.parts.ObjParts.{ObjParts}
-use Rattle.omf_marks.specs.declared.marks.Marks.{Marks}
-use Rattle.omf_marks.specs.Marks.{HaveAll, Key, key_of, order, is_at, reaches}
+use Rattle.omf_data.specs.declared.marks.Marks.{Marks}
+use Rattle.omf_data.specs.Marks.{HaveAll, Key, key_of, order, is_at, reaches}
 
 -- ---- lists
 

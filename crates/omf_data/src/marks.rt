@@ -6,13 +6,12 @@ ghost use Rattle.obj_types.specs.declared.limits.TheConstants.{MAX_DATA};
 ghost use Rattle.obj_types.specs.declared.object.FixAt.{FixAt};
 ghost use Rattle.obj_types.specs.declared.object.Piece.{Piece};
 ghost use Rattle.obj_types.specs.declared.parts.ObjParts.{ObjParts};
-ghost use Rattle.obj_types.specs.Location.{location_len as len_of_location};
 ghost use Rattle.omf_model.specs.Fixups.{touches};
 ghost use Rattle.omf_model.specs.Items.{data_so_far};
-ghost use Rattle.omf_marks.specs.Marks.{AreMarks, HaveAll, HaveFixes, HavePieces, reaches as reaches_behind};
+ghost use Rattle.omf_data.specs.Marks.{AreMarks, HaveAll, HaveFixes, HavePieces, reaches as reaches_behind};
 
 use lx_types::NoMemory;
-use obj_types::{FixAt, ObjParts, Piece};
+use obj_types::{FixAt, ObjParts, Piece, location_len};
 use std::alloc::Global;
 use std::collections::BTreeSet;
 
@@ -28,19 +27,6 @@ pub struct Marks {
     fixes: usize,
     // The segment, the offset and the kind of each location, in this order.
     locations: BTreeSet<(u32, u64, u8)>,
-}
-
-/// The bytes of a location, and 0 for a kind that there is not.
-fn location_len(loc: u8) -> u8
-    ensures { result ≡ len_of_location loc }
-{
-    match loc {
-        0 => 1,
-        1 | 2 | 5 => 2,
-        3 | 9 | 13 => 4,
-        11 => 6,
-        _ => 0,
-    }
 }
 
 /// Whether a location has a byte behind an offset or at it.

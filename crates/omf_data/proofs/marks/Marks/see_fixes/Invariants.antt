@@ -1,6 +1,6 @@
-use Rattle.omf_marks.specs.Marks.{HaveFixes}
+use Rattle.omf_data.specs.Marks.{HaveFixes}
 use Rattle.std.proofs.Common.{length, ◌-◌, ◌≡◌}
-use Rattle.omf_marks.proofs.marks.Marks.see_fixes.Given as goal
+use Rattle.omf_data.proofs.marks.Marks.see_fixes.Given as goal
 
 abbrev pub invariant-fixes : goal.invariant-fixes
 invariant-fixes l = record {

@@ -8,7 +8,7 @@ use Rattle.obj_types.specs.declared.object.FixAt.{FixAt}
 use Rattle.obj_types.specs.declared.object.Piece.{Piece}
 use Rattle.obj_types.specs.declared.parts.ObjParts.{ObjParts}
 use Rattle.obj_types.specs.Location.{location_len}
-use Rattle.omf_marks.specs.declared.marks.Marks.{Marks}
+use Rattle.omf_data.specs.declared.marks.Marks.{Marks}
 
 -- A location: its segment, its offset and its kind.
 abbrev pub Key : Type 0

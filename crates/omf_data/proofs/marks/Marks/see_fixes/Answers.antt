@@ -1,6 +1,6 @@
 use Rattle.std.proofs.Common.{arith}
-use Rattle.omf_marks.proofs.Touched.{located-more}
-use Rattle.omf_marks.proofs.marks.Marks.see_fixes.Goals as goal
+use Rattle.omf_data.proofs.Touched.{located-more}
+use Rattle.omf_data.proofs.marks.Marks.see_fixes.Goals as goal
 
 pub fixes-preserved : goal.fixes-preserved
 fixes-preserved c =
