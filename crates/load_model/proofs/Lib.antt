@@ -25,3 +25,4 @@ pub mod ViewReplies
 pub mod Outcomes
 pub mod Bounded
 pub mod BasesStay
+pub mod ViewWrites
