@@ -26,3 +26,4 @@ pub mod Outcomes
 pub mod Bounded
 pub mod BasesStay
 pub mod ViewWrites
+pub mod ViewLoads

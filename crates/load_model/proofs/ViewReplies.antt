@@ -120,7 +120,7 @@ residence_is lib e q m r is = step (reaches lib (e.processes q) m) is
     step true is = is
     step false is = cc
 
-attached_is_resident : (lib : Library) (e : Eager) (q m : ℕ) → reaches lib (e.processes q) m ≡ true → attached_residence lib e q m ≡ residence_of e m
+pub attached_is_resident : (lib : Library) (e : Eager) (q m : ℕ) → reaches lib (e.processes q) m ≡ true → attached_residence lib e q m ≡ residence_of e m
 unfolding attached_residence
 attached_is_resident lib e q m reached = ap (λ b. if b then residence_of e m else None) reached
 

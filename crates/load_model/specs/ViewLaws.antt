@@ -1,5 +1,5 @@
 -- The laws of views.
-use Rattle.std.specs.Prelude.{◌≡◌, ℕ, ◌+◌, ◌*◌, ◌==◌, ◌&&◌, if◌then◌else◌, map, slice_index, ◌++◌, ◌∷◌, true, false, List, [], length, Some, None}
+use Rattle.std.specs.Prelude.{◌≡◌, ℕ, ◌+◌, ◌*◌, ◌==◌, ◌&&◌, if◌then◌else◌, find, option_map, map, slice_index, ◌++◌, ◌∷◌, true, false, List, [], length, Some, None}
 use Rattle.std.specs.List.{AllByRecursion, range_with_len}
 use Rattle.lx_types.specs.declared.object.PageId.{PageId}
 use Rattle.lx_types.specs.declared.object.TheConstants.{PAGE_SIZE}
@@ -11,12 +11,16 @@ use Rattle.load_model.specs.declared.deeds.Deed.{Deed}
 use Rattle.load_model.specs.declared.deeds.Deed.TheVariants as deeds
 use Rattle.load_model.specs.declared.deeds.Entry.{Entry}
 use Rattle.load_model.specs.Modules.{Library, Held, object_at}
-use Rattle.load_model.specs.State.{Written, Failing, pids, is_among}
+use Rattle.load_model.specs.State.{Written, Failing, pids, is_among, attached_residence}
+use Rattle.load_model.specs.Rows.{Row, IsRowOf}
+use Rattle.load_model.specs.declared.deeds.How.{How}
+use Rattle.load_model.specs.declared.deeds.Call.{Call}
+use Rattle.load_model.specs.declared.deeds.Fresh.{Fresh}
 use Rattle.load_model.specs.Memory.{last_put}
 use Rattle.load_model.specs.Refusals.{refusal_of}
 use Rattle.load_model.specs.Step.{steady, answer_of}
 use Rattle.load_model.specs.Histories.{state_after, Follows, Legal}
-use Rattle.load_model.specs.Standing.{Mapped, Holding, new_holding, mapped_pages, is_covered, IsMapped, WasFixed, StandsFor, state_for}
+use Rattle.load_model.specs.Standing.{Mapped, Holding, new_holding, fresh_of, mapped_pages, is_covered, IsMapped, WasFixed, StandsFor, state_for}
 use Rattle.load_model.specs.ViewAnswers.{view_refusal, view_reply}
 
 -- A new view stands for the history in which nothing was done.
@@ -94,3 +98,15 @@ StandsWritten =
     Follows lib failing contents h x → x.pid ≡ v.pid → WritesOwn lib x.deed serial m w → is_covered (mapped_pages v) (record { serial = serial; write = w }) ≡ true →
     StandsFor lib failing contents v h →
     StandsFor lib failing contents (record v { mapped = map (written_over serial w) v.mapped; front = length (h ++ x ∷ []) }) (h ++ x ∷ [])
+
+-- ---- what the process loads
+
+-- Behind a start or a load of its own a view stands with the counts and the residences that the process has then:
+-- the pages that were mapped stand as they were.
+abbrev pub StandsEntered : Type 0
+StandsEntered =
+    (lib : Library) (failing : Failing) (contents : Held) (v : Holding) (h : List Entry) (x : Entry) (how : How) (m : ℕ) (fresh : List Fresh) (calls : List Call)
+    (row : Row) (stays : List Fresh) → Legal lib failing contents h → Follows lib failing contents h x → x.pid ≡ v.pid → x.deed ≡ deeds.Enter how m fresh calls →
+    IsRowOf lib ((state_after lib failing (h ++ x ∷ [])).processes v.pid) row →
+    ((k : ℕ) → find (λ s. s.«module» == k) stays ≡ option_map fresh_of (attached_residence lib (state_after lib failing (h ++ x ∷ [])) v.pid k)) →
+    StandsFor lib failing contents v h → StandsFor lib failing contents (record v { row = row; stays = stays; front = length (h ++ x ∷ []) }) (h ++ x ∷ [])

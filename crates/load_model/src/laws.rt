@@ -6,7 +6,7 @@ ghost use Rattle.load_model.specs.Accepted.{AcceptedMayAsk, TouchedIsApart};
 ghost use Rattle.load_model.specs.Serials.{SerialsRise, SerialsAreOwn, FaultsAreGiven};
 ghost use Rattle.load_model.specs.Fitness.{ReachedIsFit, FitnessIsClosed};
 ghost use Rattle.load_model.specs.ResidenceBases.{BasesStand, ResidentsFit};
-ghost use Rattle.load_model.specs.ViewLaws.{NewStands, StandsOn, StandsQuiet, StandsMapped, StandsWritten, RefusedByView, AnsweredByView};
+ghost use Rattle.load_model.specs.ViewLaws.{NewStands, StandsOn, StandsQuiet, StandsMapped, StandsWritten, StandsEntered, RefusedByView, AnsweredByView};
 ghost use Rattle.load_model.specs.Outcomes.{NamesAreKnown};
 ghost use Rattle.load_model.specs.Bounds.{CountsAreSmall};
 ghost use Rattle.load_model.specs.Touched.{AnsweredByPages, EntriesMoveTouched};
@@ -121,13 +121,15 @@ pub fn touched_pages_decide()
 {}
 
 /// What a process's own view stands for: nothing at first; it goes on through entries of other processes, behind
-/// entries of its own that change nothing in it, with a page more that is mapped, and behind a write of its own.
+/// entries of its own that change nothing in it, with a page more that is mapped, and behind a write and a
+/// load of its own.
 pub fn views_stand()
     ensures new { NewStands }
     ensures on { StandsOn }
     ensures quiet { StandsQuiet }
     ensures mapped { StandsMapped }
     ensures written { StandsWritten }
+    ensures entered { StandsEntered }
 {
     lx_model::order_is_reach();
 }

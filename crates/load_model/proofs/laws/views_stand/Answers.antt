@@ -2,6 +2,7 @@ use Rattle.load_model.proofs.Orders.{orders_nest}
 use Rattle.load_model.proofs.Standing.{new_stands, stands_on}
 use Rattle.load_model.proofs.ViewSteps.{stands_quiet, stands_mapped}
 use Rattle.load_model.proofs.ViewWrites.{stands_written}
+use Rattle.load_model.proofs.ViewLoads.{stands_entered}
 use Rattle.load_model.proofs.laws.views_stand.Goals as goal
 
 pub returns : goal.returns
@@ -11,4 +12,5 @@ returns c = record {
   quiet = stands_quiet (orders_nest c.order_is_reach.ensures.order c.order_is_reach.ensures.reach);
   mapped = stands_mapped;
   written = stands_written;
+  entered = stands_entered (orders_nest c.order_is_reach.ensures.order c.order_is_reach.ensures.reach);
 }
