@@ -18,3 +18,4 @@ pub mod GivenSerials
 pub mod ResidenceBases
 pub mod ReachedFit
 pub mod Touched
+pub mod FailedLoads

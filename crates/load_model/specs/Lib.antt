@@ -23,3 +23,4 @@ pub mod Alike
 pub mod ResidenceBases
 pub mod Fitness
 pub mod Touched
+pub mod FailedLoads

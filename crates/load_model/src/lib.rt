@@ -11,7 +11,8 @@ pub use deeds::{
     Call, CallKind, Calls, Deed, Entry, Fresh, Gone, History, How, Leavers, Newcomers,
 };
 pub use laws::{
-    agreement_is_enough, asks_decide, commands_are_asked, faults_are_given, faults_come_once,
-    gone_is_unreached, histories_grow, others_change_nothing, others_leave_alike, reached_is_fit,
-    residences_stand, residences_stay, residents_are_reached, serials_rise, touched_pages_decide,
+    agreement_is_enough, asks_decide, commands_are_asked, failed_loads_leave_nothing,
+    faults_are_given, faults_come_once, gone_is_unreached, histories_grow, others_change_nothing,
+    others_leave_alike, reached_is_fit, residences_stand, residences_stay, residents_are_reached,
+    serials_rise, touched_pages_decide,
 };
