@@ -1,5 +1,5 @@
 -- Failing initialisations: which fail is fixed, and a load that fails leaves nothing.
-use Rattle.std.proofs.Common.{◌≡◌, ℕ, Bool, true, false, cond, ◌&&◌, List, [], ◌∷◌, map, find, fold, Option, Some, None, option_map, Result, Ok, Err, refl, sym, ◌∙◌, ap, subst}
+use Rattle.std.proofs.Common.{◌≡◌, ℕ, Bool, true, false, cond, List, [], ◌∷◌, find, fold, Option, Some, None, option_map, Result, Ok, Err, refl, sym, ◌∙◌, ap}
 use Rattle.lx_types.specs.Object.{class_of}
 use Rattle.lx_types.specs.declared.object.Class.{Class}
 use Rattle.lx_types.specs.declared.object.Class.TheVariants as classes
@@ -10,16 +10,16 @@ use Rattle.load_model.specs.declared.deeds.Gone.{Gone}
 use Rattle.load_model.specs.declared.deeds.Deed.{Deed}
 use Rattle.load_model.specs.declared.deeds.Deed.TheVariants as deeds
 use Rattle.load_model.specs.declared.deeds.Entry.{Entry}
-use Rattle.load_model.specs.Modules.{Library, Held, object_at}
-use Rattle.load_model.specs.State.{Failing, Written, Eager, nothing_yet, with_process}
+use Rattle.load_model.specs.Modules.{Library, object_at}
+use Rattle.load_model.specs.State.{Written, Eager, nothing_yet, with_process}
 use Rattle.load_model.specs.Entering.{NoRoom, newcomers, placing, after_entering, entering_calls}
 use Rattle.load_model.specs.Initialising.{fails_in, is_init, is_failing, failing_module, gone_again, entered, enter_by, enter_deed}
 use Rattle.load_model.specs.Leaving.{after_leaving}
 use Rattle.load_model.specs.Asks.{deed_of, after_write, after_deed}
-use Rattle.load_model.specs.Histories.{after_entry, state_after, Follows}
-use Rattle.load_model.specs.FailedLoads.{FailingStays, failed_entry, LeavesNothing, FailedLeavesNothing}
+use Rattle.load_model.specs.Histories.{after_entry, state_after}
+use Rattle.load_model.specs.FailedLoads.{FailingStays, FailedLeavesNothing}
 use Rattle.load_model.proofs.Bools.{and_right}
-use Rattle.load_model.proofs.Kept.{modules_of, fresh_modules}
+use Rattle.load_model.proofs.Kept.{fresh_modules}
 
 -- ---- nothing changes which fail
 
