@@ -27,3 +27,4 @@ pub mod Bounded
 pub mod BasesStay
 pub mod ViewWrites
 pub mod ViewLoads
+pub mod FailedLoads
