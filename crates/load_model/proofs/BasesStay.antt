@@ -1,5 +1,5 @@
 -- While a residence stands, the bases behind it stay.
-use Rattle.std.proofs.Common.{◌≡◌, ℕ, List, map, ap}
+use Rattle.std.proofs.Common.{ℕ, List, ap}
 use Rattle.lx_types.specs.declared.bases.Bases.{Bases}
 use Rattle.lx_types.specs.declared.bases.ModBases.{ModBases}
 use Rattle.load_model.specs.Modules.{order_of}

@@ -1,5 +1,5 @@
 -- No process holds more loads of a module than the limit.
-use Rattle.std.proofs.Common.{◌≡◌, ℕ, zero, suc, ◌+◌, ◌<◌, ◌≤◌, ◌==◌, Bool, true, false, if◌then◌else◌, not, ◌&&◌, cond, List, [], ◌∷◌, ◌++◌, count_by, Option, Some, None, refl, sym, ◌∙◌, ap, subst, append_assoc, arith}
+use Rattle.std.proofs.Common.{◌≡◌, ℕ, ◌+◌, ◌<◌, ◌≤◌, ◌==◌, Bool, true, false, if◌then◌else◌, not, cond, List, [], ◌∷◌, ◌++◌, count_by, Option, Some, None, refl, sym, subst, append_assoc, arith}
 use Rattle.std.specs.Prelude.{is_none, nat_le}
 use Rattle.std.proofs.lemmas.Bool.{eqb-true, leb-false}
 use Rattle.std.proofs.lemmas.List.{append-nil}
@@ -15,14 +15,14 @@ use Rattle.load_model.specs.declared.deeds.Deed.{Deed}
 use Rattle.load_model.specs.declared.deeds.Deed.TheVariants as deeds
 use Rattle.load_model.specs.declared.deeds.Entry.{Entry}
 use Rattle.load_model.specs.Modules.{Library, Held, is_library, unfit, object_at}
-use Rattle.load_model.specs.State.{Written, Process, Failing, Eager, nothing_yet, with_process, count_of}
+use Rattle.load_model.specs.State.{Written, Process, Failing, Eager, with_process, count_of}
 use Rattle.load_model.specs.Entering.{holding, attaching, joined, with_fresh_residences, after_entering}
 use Rattle.load_model.specs.Leaving.{without_one, freeing, exiting, keeping, after_leaving}
 use Rattle.load_model.specs.Refusals.{when, ◌orelse◌, MOST_LOADS, module_refusal, enter_refusal}
 use Rattle.load_model.specs.Asks.{ask_in, may_ask, after_write, after_deed}
-use Rattle.load_model.specs.Histories.{state_after, Follows, AllFollow, Legal}
+use Rattle.load_model.specs.Histories.{state_after, AllFollow, Legal}
 use Rattle.load_model.specs.Bounds.{CountsAreSmall}
-use Rattle.load_model.proofs.Bools.{and_left, and_right}
+use Rattle.load_model.proofs.Bools.{and_right}
 use Rattle.load_model.proofs.Growing.{one_more_is_after}
 
 abbrev Small : Process → Type 0

@@ -86,7 +86,7 @@ placed_step m ms make rest (Ok bases) fresh each is e =
     fresh_step (make bases) (rest bases) fresh ms (each bases) e ∙ ap (λ k. k ∷ ms) (is bases)
 placed_step m ms make rest (Err x) fresh each is e = cc
 
-fresh_modules : (lib : Library) (ms : List ℕ) (serials : ℕ) (spans : List AddressRange) (fresh : List Fresh) → placed_from lib serials spans ms ≡ Ok fresh → modules_of fresh ≡ ms
+pub fresh_modules : (lib : Library) (ms : List ℕ) (serials : ℕ) (spans : List AddressRange) (fresh : List Fresh) → placed_from lib serials spans ms ≡ Ok fresh → modules_of fresh ≡ ms
 unfolding placed_from
 fresh_modules lib [] serials spans fresh e = (let same : fresh ≡ [] = cc in ap modules_of same)
 fresh_modules lib (m ∷ ms) serials spans fresh e =

@@ -25,3 +25,6 @@ pub mod ViewReplies
 pub mod Outcomes
 pub mod Bounded
 pub mod BasesStay
+pub mod ViewWrites
+pub mod ViewLoads
+pub mod FailedLoads

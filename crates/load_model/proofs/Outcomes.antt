@@ -2,19 +2,17 @@
 use Rattle.std.proofs.Common.{◌≡◌, ℕ, List, Option, Some, None, refl, sym, ◌∙◌, ap, subst}
 use Rattle.std.specs.Prelude.{unwrap_or}
 use Rattle.lx_types.specs.declared.entry.EntryKey.{EntryKey}
-use Rattle.load_model.specs.declared.commands.Place.{Place}
-use Rattle.load_model.specs.declared.commands.Command.{Command}
 use Rattle.load_model.specs.declared.commands.Command.TheVariants as commands
 use Rattle.load_model.specs.declared.commands.Refusal.{Refusal}
 use Rattle.load_model.specs.declared.commands.Refusal.TheVariants.{Ended, NotHeld, NotAttached}
 use Rattle.load_model.specs.declared.deeds.How.{How}
 use Rattle.load_model.specs.declared.deeds.How.TheVariants as ways
 use Rattle.load_model.specs.Modules.{Library, number_of}
-use Rattle.load_model.specs.State.{Residence, Eager}
-use Rattle.load_model.specs.Refusals.{Purpose, touch, write, share, peek, debug, when, ◌orelse◌, enter_refusal, free_refusal, residence_if, residence_named, place_refusal, key_refusal, query_refusal, found_refusal, resource_refusal, refusal_of}
+use Rattle.load_model.specs.State.{Eager}
+use Rattle.load_model.specs.Refusals.{touch, write, share, peek, debug, when, enter_refusal, free_refusal, residence_if, residence_named, key_refusal, query_refusal, found_refusal, resource_refusal, refusal_of}
 use Rattle.load_model.specs.Step.{meant}
-use Rattle.load_model.specs.Outcomes.{name_in, NamesAreKnown}
-use Rattle.load_model.proofs.Bytes.{left_none, right_none}
+use Rattle.load_model.specs.Outcomes.{NamesAreKnown}
+use Rattle.load_model.proofs.Bytes.{right_none}
 use Rattle.load_model.proofs.Holding.{no_name}
 use Rattle.load_model.proofs.Accepted.{nobody}
 

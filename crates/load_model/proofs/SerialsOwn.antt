@@ -1,5 +1,5 @@
 -- Residences of one serial number are one.
-use Rattle.std.proofs.Common.{◌≡◌, ℕ, ◌<◌, ◌≤◌, ◌==◌, Bool, true, false, cond, List, [], ◌∷◌, map, find, Some, refl, sym, ◌∙◌, ap, arith}
+use Rattle.std.proofs.Common.{◌≡◌, ℕ, ◌<◌, ◌==◌, Bool, true, false, cond, List, [], ◌∷◌, map, find, Some, sym, ◌∙◌, ap, arith}
 use Rattle.load_model.specs.State.{Residence, residence_of}
 use Rattle.load_model.specs.Histories.{state_after}
 use Rattle.load_model.specs.Serials.{Rise, SerialsAreOwn}

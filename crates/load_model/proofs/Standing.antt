@@ -1,42 +1,36 @@
 -- What a view stands for, through entries of other processes, and what it refuses.
-use Rattle.std.proofs.Common.{◌≡◌, ℕ, zero, suc, ◌+◌, ◌<◌, ◌/◌, ◌%◌, ◌==◌, Bool, true, false, if◌then◌else◌, not, ◌||◌, List, [], ◌∷◌, ◌++◌, map, length, find, Option, Some, None, option_map, refl, sym, ◌∙◌, ap, subst, arith, append_assoc, append-nil, length-append, inl, inr}
+use Rattle.std.proofs.Common.{◌≡◌, ℕ, zero, suc, ◌<◌, ◌==◌, Bool, true, false, not, ◌||◌, List, [], ◌∷◌, ◌++◌, map, length, Option, Some, None, option_map, refl, sym, ◌∙◌, ap, subst, append_assoc, append-nil}
 use Rattle.std.specs.Prelude.{slice_index, nat_le}
-use Rattle.std.specs.List.{AllByRecursion, list_any}
+use Rattle.std.specs.List.{AllByRecursion}
 use Rattle.std.proofs.lemmas.List.{length-map}
 use Rattle.std.proofs.lemmas.List.Folds.{list_any-append}
 use Rattle.std.proofs.lemmas.List.Quantifiers.{position-Some}
 use Rattle.lx_types.specs.Object.{class_of}
 use Rattle.lx_types.specs.declared.object.Class.{Class}
 use Rattle.lx_types.specs.declared.object.Class.TheVariants as classes
-use Rattle.lx_types.specs.declared.object.PageId.{PageId}
-use Rattle.lx_types.specs.declared.object.TheConstants.{PAGE_SIZE}
 use Rattle.lx_types.specs.declared.entry.EntryKey.{EntryKey}
 use Rattle.lx_model.specs.Library.{no_module, has_name}
 use Rattle.load_model.specs.declared.commands.Place.{Place}
 use Rattle.load_model.specs.declared.commands.Command.{Command}
 use Rattle.load_model.specs.declared.commands.Command.TheVariants as commands
-use Rattle.load_model.specs.declared.commands.Refusal.{Refusal}
-use Rattle.load_model.specs.declared.commands.Refusal.TheVariants.{Ended, NotLibrary, NotProgram, CountFull, NotHeld}
+use Rattle.load_model.specs.declared.commands.Refusal.TheVariants.{Ended, NotLibrary, CountFull, NotHeld}
 use Rattle.load_model.specs.declared.deeds.How.{How}
 use Rattle.load_model.specs.declared.deeds.How.TheVariants.{Start, Load}
-use Rattle.load_model.specs.declared.deeds.Fresh.{Fresh}
 use Rattle.load_model.specs.declared.deeds.Entry.{Entry}
 use Rattle.load_model.specs.Modules.{Library, Held, number_of, is_library, unfit, object_at}
-use Rattle.load_model.specs.State.{PageOf, Written, OwnWrite, Residence, Process, Failing, Eager, pids, is_among, count_of, reaches, residence_of, attached_residence}
+use Rattle.load_model.specs.State.{PageOf, Written, Residence, Process, Failing, Eager, pids, is_among, reaches, attached_residence}
 use Rattle.load_model.specs.Entering.{residence_from}
-use Rattle.load_model.specs.Memory.{bases_seen, Byte}
 use Rattle.load_model.specs.Refusals.{Purpose, touch, write, share, peek, debug, when, ◌orelse◌, MOST_LOADS, class_refusal, span_refusal, module_refusal, module_or_none, started_refusal, enter_refusal, is_held, free_refusal, touch_refusal, residence_refusal, residence_if, residence_named, place_refusal, key_refusal, query_refusal, found_refusal, resource_refusal, refusal_of}
-use Rattle.load_model.specs.Asks.{is_own}
-use Rattle.load_model.specs.Histories.{after_entry, state_after, is_fault_of, has_fault, Follows, AllFollow, Legal}
+use Rattle.load_model.specs.Histories.{after_entry, state_after, is_fault_of, has_fault, Follows, Legal}
 use Rattle.load_model.specs.Accepted.{retouched}
 use Rattle.load_model.specs.Alike.{Alike}
 use Rattle.load_model.specs.Laws.{stay_of}
 use Rattle.load_model.specs.Rows.{Row, IsRowOf}
-use Rattle.load_model.specs.Standing.{Mapped, Holding, mapped_pages, stay_at, fresh_of, lying_byte, IsMapped, is_covered, IsViewOf, WasFixed, StandsFor, state_for}
+use Rattle.load_model.specs.Standing.{Mapped, Holding, mapped_pages, fresh_of, lying_byte, IsMapped, is_covered, IsViewOf, WasFixed, StandsFor}
 use Rattle.load_model.specs.ViewAnswers.{seen_process, view_module_refusal, view_module_or_none, view_enter_refusal, is_held_in, view_free_refusal, stay_if, stay_named, view_place_refusal, view_refusal}
 use Rattle.load_model.specs.ViewLaws.{NewStands, StandsOn, RefusedByView}
 use Rattle.load_model.proofs.Orders.{OrdersNest}
-use Rattle.load_model.proofs.Growing.{one_more_is_after, one_more_is_legal, prefix_is_legal, each_follows}
+use Rattle.load_model.proofs.Growing.{one_more_is_after, prefix_is_legal, each_follows}
 use Rattle.load_model.proofs.Apart.{attached_stays, others_leave_alike}
 use Rattle.load_model.proofs.Bytes.{with_writes, same_stay, some_stay, attached_is, bases_alike, byte_alike}
 use Rattle.load_model.proofs.Touched.{named_apart}

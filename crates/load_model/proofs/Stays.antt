@@ -62,7 +62,7 @@ find_map f g same (x ∷ xs) = ap (λ b. cond b (Some (g x)) (find f (map g xs))
 
 -- ---- one entry
 
-entered_stays : (lib : Library) (e : Eager) (pid : ℕ) (how : How) (m : ℕ) (fresh : List Fresh) (k : ℕ) → is_some (residence_of e k) ≡ true →
+pub entered_stays : (lib : Library) (e : Eager) (pid : ℕ) (how : How) (m : ℕ) (fresh : List Fresh) (k : ℕ) → is_some (residence_of e k) ≡ true →
     residence_of (after_entering lib e pid how m fresh) k ≡ residence_of e k
 unfolding after_entering with_process residence_of
 entered_stays lib e pid how m fresh k h = find_append (λ r. r.«module» == k) e.residences (map residence_from fresh) h

@@ -1,8 +1,8 @@
 -- What a view answers without an entry is what the loader answers.
-use Rattle.std.proofs.Common.{◌≡◌, ℕ, zero, suc, ◌+◌, ◌-◌, ◌/◌, ◌%◌, ◌<◌, ◌≤◌, ◌==◌, ◌&&◌, ◌||◌, Bool, true, false, cond, if◌then◌else◌, not, List, [], ◌∷◌, ◌++◌, map, length, find, Option, Some, None, option_map, Result, Ok, Err, refl, sym, ◌∙◌, ap, subst, arith}
+use Rattle.std.proofs.Common.{◌≡◌, ℕ, zero, suc, ◌+◌, ◌-◌, ◌/◌, ◌%◌, ◌<◌, ◌≤◌, ◌==◌, ◌||◌, Bool, true, false, cond, if◌then◌else◌, not, List, [], ◌∷◌, map, find, Option, Some, None, option_map, Result, Ok, Err, refl, sym, ◌∙◌, ap, subst, arith}
 use Rattle.std.specs.Prelude.{slice_index, unwrap_or}
-use Rattle.std.specs.List.{AllByRecursion, list_any, range_with_len}
-use Rattle.std.proofs.lemmas.Bool.{eqb-true, eqb-false, ltb-false}
+use Rattle.std.specs.List.{AllByRecursion, range_with_len}
+use Rattle.std.proofs.lemmas.Bool.{eqb-true, eqb-false}
 use Rattle.lx_types.specs.Object.{class_of}
 use Rattle.lx_types.specs.declared.object.Class.{Class}
 use Rattle.lx_types.specs.declared.object.Class.TheVariants as classes
@@ -14,28 +14,25 @@ use Rattle.load_model.specs.declared.commands.Command.{Command}
 use Rattle.load_model.specs.declared.commands.Command.TheVariants as commands
 use Rattle.load_model.specs.declared.commands.Reply.{Reply}
 use Rattle.load_model.specs.declared.commands.Reply.TheVariants as replies
-use Rattle.load_model.specs.declared.commands.Refusal.{Refusal}
-use Rattle.load_model.specs.declared.commands.Refusal.TheVariants.{Ended, Range, NotTouched}
-use Rattle.load_model.specs.declared.deeds.Fresh.{Fresh}
+use Rattle.load_model.specs.declared.commands.Refusal.TheVariants.{Ended, NotTouched}
 use Rattle.load_model.specs.declared.deeds.Entry.{Entry}
 use Rattle.load_model.specs.Modules.{Spot, EntryFault, Library, Held, number_of, entry_spot, object_at, address_in}
-use Rattle.load_model.specs.State.{PageOf, Residence, Process, Failing, Eager, reaches, residence_of, bases_of, attached_residence}
+use Rattle.load_model.specs.State.{Residence, Failing, Eager, reaches, residence_of, bases_of, attached_residence}
 use Rattle.load_model.specs.Entering.{residence_from}
-use Rattle.load_model.specs.Memory.{is_page, page, pages_over, Byte, Bytes, first_untouched}
-use Rattle.load_model.specs.Refusals.{peek, when, ◌orelse◌, class_refusal, span_refusal, touch_refusal, residence_refusal, residence_if, residence_named, key_refusal}
+use Rattle.load_model.specs.Memory.{page, pages_over, Byte, Bytes, first_untouched}
+use Rattle.load_model.specs.Refusals.{peek, when, class_refusal, span_refusal, residence_refusal, residence_if, residence_named, key_refusal}
 use Rattle.load_model.specs.Histories.{state_after, Legal}
-use Rattle.load_model.specs.Step.{Answer, steady, meant, spot_address, address_of, bytes_of, fine_answer, answer_of}
-use Rattle.load_model.specs.Accepted.{retouched}
+use Rattle.load_model.specs.Step.{Answer, steady, meant, spot_address, address_of, bytes_of, fine_answer}
 use Rattle.load_model.specs.Laws.{stay_of}
 use Rattle.load_model.specs.Touched.{has_page}
-use Rattle.load_model.specs.Standing.{Mapped, Holding, mapped_pages, stay_at, fresh_of, lying_byte, IsMapped, IsViewOf, StandsFor, state_for}
-use Rattle.load_model.specs.ViewAnswers.{seen_process, stay_if, stay_named, view_place_refusal, view_refusal, is_mapped_at, bytes_in, page_bytes, view_byte, view_bytes, view_address, view_reply}
+use Rattle.load_model.specs.Standing.{Mapped, Holding, mapped_pages, lying_byte, IsMapped, IsViewOf, state_for}
+use Rattle.load_model.specs.ViewAnswers.{seen_process, view_refusal, is_mapped_at, bytes_in, view_byte, view_bytes, view_address, view_reply}
 use Rattle.load_model.specs.ViewLaws.{AnsweredByView}
 use Rattle.load_model.proofs.Bools.{and_left, and_right}
 use Rattle.load_model.proofs.Orders.{OrdersNest, reaches_closed}
 use Rattle.load_model.proofs.EntryReach.{SpotsAreOrdered}
 use Rattle.load_model.proofs.Answers.{answer_by, answer_is}
-use Rattle.load_model.proofs.Bytes.{with_writes, same_stay, some_stay, attached_is, named_is, left_none, right_none, bases_by_stay, peeked_class}
+use Rattle.load_model.proofs.Bytes.{with_writes, named_is, left_none, right_none, bases_by_stay, peeked_class}
 use Rattle.load_model.proofs.Holding.{Inside, span_inside}
 use Rattle.load_model.proofs.Touched.{fine_apart}
 use Rattle.load_model.proofs.SerialsOwn.{serials_are_own}
@@ -115,7 +112,7 @@ own_byte classes.Code lib contents e q r object x h = refl
 own_byte classes.Private lib contents e q r object x h = refl
 own_byte classes.Shared lib contents e q r object x h = cc
 
-residence_is : (lib : Library) (e : Eager) (q m : ℕ) (r : Residence) → attached_residence lib e q m ≡ Some r → residence_of e m ≡ Some r
+pub residence_is : (lib : Library) (e : Eager) (q m : ℕ) (r : Residence) → attached_residence lib e q m ≡ Some r → residence_of e m ≡ Some r
 unfolding attached_residence
 residence_is lib e q m r is = step (reaches lib (e.processes q) m) is
   where
@@ -123,7 +120,7 @@ residence_is lib e q m r is = step (reaches lib (e.processes q) m) is
     step true is = is
     step false is = cc
 
-attached_is_resident : (lib : Library) (e : Eager) (q m : ℕ) → reaches lib (e.processes q) m ≡ true → attached_residence lib e q m ≡ residence_of e m
+pub attached_is_resident : (lib : Library) (e : Eager) (q m : ℕ) → reaches lib (e.processes q) m ≡ true → attached_residence lib e q m ≡ residence_of e m
 unfolding attached_residence
 attached_is_resident lib e q m reached = ap (λ b. if b then residence_of e m else None) reached
 

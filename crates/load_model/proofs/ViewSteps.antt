@@ -1,6 +1,6 @@
 -- A view behind an entry of its own that changes nothing in it, and with a page more.
-use Rattle.std.proofs.Common.{◌≡◌, ℕ, ◌==◌, ◌&&◌, ◌||◌, Bool, true, false, List, [], ◌∷◌, ◌++◌, map, length, Some, refl, sym, ◌∙◌, ap, subst}
-use Rattle.std.specs.List.{AllByRecursion, list_any, list_all}
+use Rattle.std.proofs.Common.{◌≡◌, ℕ, ◌==◌, ◌&&◌, ◌||◌, Bool, true, false, List, [], ◌∷◌, ◌++◌, map, length, refl, sym, ◌∙◌, ap, subst}
+use Rattle.std.specs.List.{AllByRecursion, list_all}
 use Rattle.std.proofs.lemmas.List.Folds.{list_any-append}
 use Rattle.lx_types.specs.Object.{class_of}
 use Rattle.lx_types.specs.declared.object.Class.{Class}
@@ -8,15 +8,14 @@ use Rattle.lx_types.specs.declared.object.Class.TheVariants as classes
 use Rattle.lx_types.specs.declared.object.PageId.{PageId}
 use Rattle.load_model.specs.declared.deeds.Deed.{Deed}
 use Rattle.load_model.specs.declared.deeds.Deed.TheVariants as deeds
-use Rattle.load_model.specs.declared.deeds.Entry.{Entry}
-use Rattle.load_model.specs.Modules.{Library, Held, object_at}
-use Rattle.load_model.specs.State.{PageOf, Written, OwnWrite, Failing, Eager, Process, reaches, residence_of}
+use Rattle.load_model.specs.Modules.{Library, object_at}
+use Rattle.load_model.specs.State.{PageOf, Written, OwnWrite, Eager, residence_of}
 use Rattle.load_model.specs.Memory.{is_page, page, pages_over}
 use Rattle.load_model.specs.Asks.{after_write, after_deed}
 use Rattle.load_model.specs.Histories.{after_entry, state_after}
 use Rattle.load_model.specs.Alike.{Alike}
 use Rattle.load_model.specs.Touched.{has_page}
-use Rattle.load_model.specs.Standing.{Mapped, Holding, mapped_pages, IsMapped, is_covered, IsViewOf, WasFixed, StandsFor}
+use Rattle.load_model.specs.Standing.{Mapped, mapped_pages, IsMapped, is_covered, IsViewOf, WasFixed}
 use Rattle.load_model.specs.ViewLaws.{IsQuiet, StandsQuiet, StandsMapped}
 use Rattle.load_model.proofs.Orders.{OrdersNest}
 use Rattle.load_model.proofs.Growing.{one_more_is_after}

@@ -29,3 +29,4 @@ pub mod ViewAnswers
 pub mod ViewLaws
 pub mod Outcomes
 pub mod Bounds
+pub mod FailedLoads

@@ -1,6 +1,6 @@
 -- What a process's own view stands for: what the process keeps itself, as plain data, beside the history. All
 -- that it asks without an entry is answered from there.
-use Rattle.std.specs.Prelude.{◌≡◌, ℕ, ◌<◌, ◌/◌, ◌%◌, ◌==◌, ◌&&◌, Bool, true, false, List, [], map, length, find, Option, Some, None, option_map, slice_index}
+use Rattle.std.specs.Prelude.{◌≡◌, ℕ, ◌<◌, ◌/◌, ◌%◌, ◌==◌, Bool, true, false, List, [], map, length, find, Option, Some, option_map, slice_index}
 use Rattle.std.specs.List.{AllByRecursion, list_all}
 use Rattle.lx_types.specs.Object.{class_of}
 use Rattle.lx_types.specs.declared.object.Class.{Class}
@@ -9,7 +9,7 @@ use Rattle.lx_types.specs.declared.object.TheConstants.{PAGE_SIZE}
 use Rattle.load_model.specs.declared.deeds.Fresh.{Fresh}
 use Rattle.load_model.specs.declared.deeds.Entry.{Entry}
 use Rattle.load_model.specs.Modules.{Library, Held, object_at}
-use Rattle.load_model.specs.State.{PageOf, OwnWrite, Residence, Failing, Eager, new_process, attached_residence}
+use Rattle.load_model.specs.State.{PageOf, OwnWrite, Residence, Failing, Eager, attached_residence}
 use Rattle.load_model.specs.Memory.{page, pages_over, bases_seen, Byte}
 use Rattle.load_model.specs.Asks.{is_own}
 use Rattle.load_model.specs.Histories.{state_after, has_fault}

@@ -1,7 +1,6 @@
 -- What a process's own view answers.
-use Rattle.std.specs.Prelude.{◌≡◌, ℕ, ◌/◌, ◌%◌, ◌==◌, ◌&&◌, not, Bool, false, List, [], map, find, Option, Some, None, option_map, unwrap_or, is_some, nat_le, slice_index, Result, Ok, Err}
+use Rattle.std.specs.Prelude.{ℕ, ◌/◌, ◌%◌, ◌==◌, ◌&&◌, not, Bool, false, List, [], map, find, Option, Some, None, option_map, nat_le, slice_index, Result, Ok, Err}
 use Rattle.std.specs.List.{range_with_len}
-use Rattle.lx_types.specs.declared.entry.EntryKey.{EntryKey}
 use Rattle.lx_types.specs.declared.object.PageId.{PageId}
 use Rattle.lx_types.specs.declared.object.TheConstants.{PAGE_SIZE}
 use Rattle.load_model.specs.declared.commands.Place.{Place}
@@ -13,7 +12,6 @@ use Rattle.load_model.specs.declared.commands.Reply.{Reply}
 use Rattle.load_model.specs.declared.commands.Reply.TheVariants as replies
 use Rattle.load_model.specs.declared.deeds.How.{How}
 use Rattle.load_model.specs.declared.deeds.How.TheVariants.{Start, Load}
-use Rattle.load_model.specs.declared.deeds.Fresh.{Fresh}
 use Rattle.load_model.specs.Modules.{Spot, EntryFault, Library, number_of, is_library, unfit, entry_spot, address_in}
 use Rattle.load_model.specs.State.{Residence, Process, new_process, bases_of}
 use Rattle.load_model.specs.Step.{meant, resource_named}

@@ -3,10 +3,11 @@
 
 ghost use Rattle.load_model.specs.Laws.{AsksDecide, PrefixIsLegal, EachFollows, OneMoreIsLegal, NothingIsLegal, OneMoreIsAfter, FaultOnce, ReachedIsResident, AttachedIsReached, GoneIsUnreached, ResidenceStays, ReachStays, OthersRefuseAlike, OthersAnswerAlike, OthersBytesAlike, HeldAnswersAlike, HeldHistoriesAlike, CountsAreResidence};
 ghost use Rattle.load_model.specs.Accepted.{AcceptedMayAsk, TouchedIsApart};
+ghost use Rattle.load_model.specs.FailedLoads.{FailingStays, FailedLeavesNothing};
 ghost use Rattle.load_model.specs.Serials.{SerialsRise, SerialsAreOwn, FaultsAreGiven};
 ghost use Rattle.load_model.specs.Fitness.{ReachedIsFit, FitnessIsClosed};
 ghost use Rattle.load_model.specs.ResidenceBases.{BasesStand, ResidentsFit};
-ghost use Rattle.load_model.specs.ViewLaws.{NewStands, StandsOn, StandsQuiet, StandsMapped, RefusedByView, AnsweredByView};
+ghost use Rattle.load_model.specs.ViewLaws.{NewStands, StandsOn, StandsQuiet, StandsMapped, StandsWritten, StandsEntered, RefusedByView, AnsweredByView};
 ghost use Rattle.load_model.specs.Outcomes.{NamesAreKnown};
 ghost use Rattle.load_model.specs.Bounds.{CountsAreSmall};
 ghost use Rattle.load_model.specs.Touched.{AnsweredByPages, EntriesMoveTouched};
@@ -44,6 +45,13 @@ pub fn gone_is_unreached()
     ensures { GoneIsUnreached }
 {}
 
+/// Which initialisations fail is fixed from the start; and what begins with a load that fails ends with it, while
+/// residences and processes stay as they were.
+pub fn failed_loads_leave_nothing()
+    ensures fixed { FailingStays }
+    ensures nothing { FailedLeavesNothing }
+{}
+
 /// A residence whose module is still reached stands as it was; and while one stands, so do those of all
 /// modules that its module reaches, with their bases.
 pub fn residences_stay()
@@ -54,8 +62,8 @@ pub fn residences_stay()
     lx_model::order_is_reach();
 }
 
-/// An entry of another process changes no refusal of a process, no answer of a touch, a peek or a query,
-/// whatever was touched, and no byte of code or of the process's own data.
+/// An entry of another process changes no refusal of a process, no answer of a touch, a peek, a query or the
+/// search for a resource, whatever was touched, and no byte of code or of the process's own data.
 pub fn others_change_nothing()
     ensures refusals { OthersRefuseAlike }
     ensures answers { OthersAnswerAlike }
@@ -121,12 +129,15 @@ pub fn touched_pages_decide()
 {}
 
 /// What a process's own view stands for: nothing at first; it goes on through entries of other processes, behind
-/// entries of its own that change nothing in it, and with a page more that is mapped.
+/// entries of its own that change nothing in it, with a page more that is mapped, and behind a write and a
+/// load of its own.
 pub fn views_stand()
     ensures new { NewStands }
     ensures on { StandsOn }
     ensures quiet { StandsQuiet }
     ensures mapped { StandsMapped }
+    ensures written { StandsWritten }
+    ensures entered { StandsEntered }
 {
     lx_model::order_is_reach();
 }

@@ -1,21 +1,19 @@
 -- What bytes say is within bounds: line by line, and the statements together.
-use Rattle.std.proofs.Common.{◌≡◌, ℕ, suc, ◌+◌, ◌≤◌, ◌<◌, Bool, true, false, if◌then◌else◌, ◌&&◌, List, [], ◌∷◌, ◌++◌, length, map, filter_map, fold, Option, Some, None, refl, sym, ◌∙◌, ap, subst, arith}
-use Rattle.std.specs.Prelude.{unwrap_or, nat_lt, nat_le}
+use Rattle.std.proofs.Common.{◌≡◌, ℕ, suc, ◌+◌, ◌≤◌, ◌<◌, Bool, true, false, if◌then◌else◌, ◌&&◌, List, [], ◌∷◌, ◌++◌, length, map, filter_map, Option, Some, None, refl, sym, ◌∙◌, ap, subst, arith}
+use Rattle.std.specs.Prelude.{unwrap_or, nat_lt}
 use Rattle.std.specs.List.{AllByRecursion, cons_option}
 use Rattle.std.proofs.lemmas.Bool.{ltb-true, leb-true}
 use Rattle.std.proofs.lemmas.List.{append-nil}
 use Rattle.std.proofs.lemmas.List.Elements.{filter_map-append}
 use Rattle.std.proofs.lemmas.List.Sums.{fold-append}
 use Rattle.load_model.specs.Serials.{Rise}
-use Rattle.session_model.specs.declared.sessions.FailingLine.{FailingLine}
 use Rattle.session_model.specs.declared.sessions.Script.{Script}
-use Rattle.session_model.specs.declared.sessions.Session.{Session}
 use Rattle.session_model.specs.declared.sessions.SessionKind.{SessionKind}
 use Rattle.session_model.specs.declared.sessions.SessionKind.TheVariants as kinds
 use Rattle.session_model.specs.declared.sessions.SessionRefusal.{SessionRefusal}
 use Rattle.session_model.specs.Lines.{lines_in}
 use Rattle.session_model.specs.Statements.{Statement, gives, fails, process, command, MOST_PROCESSES, Reading, nothing, says, wrong, reading_of}
-use Rattle.session_model.specs.Sessions.{module_of, failing_in, commands_of, scripts_of, session_of, statement_in, statements_of, number_or, count_or, last_number, commands_so_far, MOST_COMMANDS, rises, fault_among, fault_behind, line_fault, or_next, fault_from, SesFault, Ses}
+use Rattle.session_model.specs.Sessions.{module_of, failing_in, commands_of, scripts_of, session_of, statement_in, statements_of, number_or, count_or, last_number, commands_so_far, MOST_COMMANDS, rises, fault_among, fault_behind, line_fault, or_next, fault_from, SesFault}
 use Rattle.session_model.specs.Bounds.{IsCommand, IsModLine, IsFailingLine, IsScript, IsSession, SessionsAreBounded}
 use Rattle.session_model.proofs.Readings.{IsStatement, read_good}
 

@@ -13,9 +13,8 @@ use Rattle.load_model.specs.Accepted.{retouched}
 use Rattle.load_model.specs.Laws.{AgreeAt}
 use Rattle.load_model.proofs.Holding.{deed_by, held_answers_alike}
 use Rattle.session_model.specs.declared.sessions.Line.{Line}
-use Rattle.session_model.specs.declared.sessions.Script.{Script}
 use Rattle.session_model.specs.declared.sessions.ScriptLines.{ScriptLines}
-use Rattle.session_model.specs.Merging.{Item, entry, line, lines_of, lines_at, merge_of, state_behind, AllPlaces, Replies, numbers_of, Merge}
+use Rattle.session_model.specs.Merging.{Item, entry, line, lines_of, lines_at, merge_of, state_behind, AllPlaces, Replies, numbers_of}
 use Rattle.session_model.specs.MergeLaws.{entries_in, touched_in, HeldMergesAlike}
 use Rattle.session_model.proofs.MergeStates.{entries_append, merge_has_history, states_are_the_historys}
 

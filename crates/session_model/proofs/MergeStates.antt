@@ -1,5 +1,5 @@
 -- The entries of a merge are the history, and its states are the history's but for touched pages.
-use Rattle.std.proofs.Common.{◌≡◌, ℕ, ◌+◌, ◌==◌, Bool, true, false, if◌then◌else◌, List, [], ◌∷◌, ◌++◌, map, filter, filter_map, flat_map, fold, refl, sym, ◌∙◌, ap, eqb-true}
+use Rattle.std.proofs.Common.{◌≡◌, ℕ, ◌+◌, ◌==◌, Bool, true, false, if◌then◌else◌, List, [], ◌∷◌, ◌++◌, map, filter, flat_map, fold, refl, sym, ◌∙◌, ap, eqb-true}
 use Rattle.std.specs.List.{enumerate_from}
 use Rattle.load_model.specs.declared.commands.Place.{Place}
 use Rattle.load_model.specs.declared.commands.Command.{Command}
@@ -8,7 +8,7 @@ use Rattle.load_model.specs.declared.commands.Reply.{Reply}
 use Rattle.load_model.specs.declared.commands.Reply.TheVariants as replies
 use Rattle.load_model.specs.declared.deeds.Entry.{Entry}
 use Rattle.load_model.specs.Modules.{Library}
-use Rattle.load_model.specs.State.{PageOf, Failing, Eager, nothing_yet, with_process}
+use Rattle.load_model.specs.State.{PageOf, Eager, nothing_yet, with_process}
 use Rattle.load_model.specs.Memory.{page, pages_over, touching}
 use Rattle.load_model.specs.Step.{serial_named, after_touch, after_steady}
 use Rattle.load_model.specs.Asks.{after_deed}
@@ -19,7 +19,7 @@ use Rattle.load_model.proofs.Touched.{entries_move_touched}
 use Rattle.session_model.specs.declared.sessions.Line.{Line}
 use Rattle.session_model.specs.declared.sessions.ScriptLines.{ScriptLines}
 use Rattle.session_model.specs.Merging.{Item, entry, line, lines_of, lines_at, merge_of, after_item, state_behind}
-use Rattle.session_model.specs.MergeLaws.{entry_in, entries_in, MergeHasHistory, touched_in, StatesAreTheHistorys}
+use Rattle.session_model.specs.MergeLaws.{entries_in, MergeHasHistory, touched_in, StatesAreTheHistorys}
 
 -- ---- entries
 

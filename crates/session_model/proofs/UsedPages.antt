@@ -1,5 +1,5 @@
 -- Of touched pages an entry uses which they are.
-use Rattle.std.proofs.Common.{◌≡◌, refl, ap, length}
+use Rattle.std.proofs.Common.{refl, ap, length}
 use Rattle.std.specs.Prelude.{is_none}
 use Rattle.load_model.specs.declared.deeds.Deed.TheVariants as deeds
 use Rattle.load_model.proofs.Touched.{untouched_by_pages}

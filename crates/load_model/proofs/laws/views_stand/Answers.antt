@@ -1,6 +1,8 @@
 use Rattle.load_model.proofs.Orders.{orders_nest}
 use Rattle.load_model.proofs.Standing.{new_stands, stands_on}
 use Rattle.load_model.proofs.ViewSteps.{stands_quiet, stands_mapped}
+use Rattle.load_model.proofs.ViewWrites.{stands_written}
+use Rattle.load_model.proofs.ViewLoads.{stands_entered}
 use Rattle.load_model.proofs.laws.views_stand.Goals as goal
 
 pub returns : goal.returns
@@ -9,4 +11,6 @@ returns c = record {
   on = stands_on (orders_nest c.order_is_reach.ensures.order c.order_is_reach.ensures.reach);
   quiet = stands_quiet (orders_nest c.order_is_reach.ensures.order c.order_is_reach.ensures.reach);
   mapped = stands_mapped;
+  written = stands_written;
+  entered = stands_entered (orders_nest c.order_is_reach.ensures.order c.order_is_reach.ensures.reach);
 }
