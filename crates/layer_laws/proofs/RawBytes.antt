@@ -34,7 +34,8 @@ use Rattle.image_model.proofs.LinkTables.{mapped, ranged}
 use Rattle.image_model.proofs.RecordsRead.{spanned, regrouped}
 use Rattle.image_model.proofs.Standing.{HasFrom, standing, behind, from_others}
 use Rattle.layer_laws.proofs.Lists.{lt-true}
-use Rattle.layer_laws.proofs.Groups.{groups_give, data-filled}
+use Rattle.lx_iter.proofs.Unpacking.{groups_give}
+use Rattle.layer_laws.proofs.Groups.{data-filled}
 use Rattle.layer_laws.proofs.TablePages.{all-of, Counts, object-found}
 
 -- ---- the bytes of a page's form
