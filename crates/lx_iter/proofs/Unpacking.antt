@@ -150,7 +150,7 @@ with_fits bytes (Some p) few =
 
 -- ---- the page
 
-pub filled_more : (b : ℕ) (xs ds : List ℕ) → length ds ≤ length xs → ds ++ replicate (length xs - length ds) 0 ≡ xs → before_data b ds ++ replicate (suc (length xs) - length (before_data b ds)) 0 ≡ b ∷ xs
+filled_more : (b : ℕ) (xs ds : List ℕ) → length ds ≤ length xs → ds ++ replicate (length xs - length ds) 0 ≡ xs → before_data b ds ++ replicate (suc (length xs) - length (before_data b ds)) 0 ≡ b ∷ xs
 filled_more zero xs [] few same =
     let all : suc (length xs) - 0 ≡ suc (length xs) = omega arith in
     let less : length xs ≡ length xs - 0 = omega arith in
@@ -171,7 +171,7 @@ pub data_few : (page : List ℕ) → length (data_of page) ≤ length page
 data_few [] = omega arith
 data_few (b ∷ others) = before_few b others (data_of others) (data_few others)
 
-data_filled : (page : List ℕ) → data_of page ++ replicate (length page - length (data_of page)) 0 ≡ page
+pub data_filled : (page : List ℕ) → data_of page ++ replicate (length page - length (data_of page)) 0 ≡ page
 data_filled [] = refl
 data_filled (b ∷ others) = filled_more b others (data_of others) (data_few others) (data_filled others)
 
