@@ -150,8 +150,8 @@ impl Head {
     }
 }
 
-// The fields, and 0 behind them.
-fn spelled(fields: &[u32; 43]) -> [u8; 196]
+/// The 196 bytes of a header with these doublewords; those behind A8h's doubleword are 0.
+pub fn header_bytes(fields: &[u32; 43]) -> [u8; 196]
     ensures bytes { result ≡ header_spelling fields.now }
     ensures count { length fields.now ≡ 43 }
     ensures fit { AreDoublewords fields.now }
@@ -170,5 +170,5 @@ pub fn write_head(h: &Head) -> [u8; 196]
     ensures sound { header_fault result ≡ None }
     ensures again { header_fields result ≡ h.now.fields }
 {
-    spelled(&h.fields)
+    header_bytes(&h.fields)
 }

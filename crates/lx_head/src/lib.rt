@@ -7,6 +7,6 @@ mod reading;
 mod rows;
 mod tables;
 
-pub use head::{Head, write_head};
+pub use head::{Head, header_bytes, write_head};
 pub use reading::read_head;
 pub use tables::{object_head, page_entry, write_objects, write_pages};

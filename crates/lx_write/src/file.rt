@@ -14,26 +14,17 @@ ghost use Rattle.lx_write.specs.Sections.{sections_value};
 use crate::header::{fields_of, places_of};
 use crate::image::Image;
 use crate::sections::{Sections, sections_of};
-use byteorder::{ByteOrder, LittleEndian};
 use lx_exports::EntryRefusal;
+use lx_head::header_bytes;
 use lx_types::{Fail, NoMemory};
 use std::alloc::Global;
-
-// The header with these doublewords; its bytes behind A8h's doubleword are 0.
-fn spelled(fields: &[u32; 43]) -> [u8; 196]
-    ensures { result ≡ header_spelling fields.now }
-{
-    let mut bytes = [0; 196];
-    LittleEndian::write_u32_into(fields, &mut bytes[..172]);
-    bytes
-}
 
 // The header with these doublewords, with room for a file of so many bytes.
 fn header_in(alloc: Global, fields: &[u32; 43], room: u32) -> Result<Vec<u8>, NoMemory>
     ensures { IfOk result (λ file. file.items ≡ header_spelling fields.now) }
 {
     let mut file = Vec::with_capacity(alloc, room as usize)?;
-    file.extend_from_slice(&spelled(fields))?;
+    file.extend_from_slice(&header_bytes(fields))?;
     Ok(file)
 }
 
