@@ -42,7 +42,7 @@ slots_long (gates object es) = mapped (gate_at object) es
 slots_long (wide object es) = mapped (wide_at object) es
 slots_long (forwarders reserved es) = mapped (forwarder reserved) es
 
-slots_together : (bs : List Bundle) → length (flat_map slots_of bs) ≡ ordinals_together bs
+pub slots_together : (bs : List Bundle) → length (flat_map slots_of bs) ≡ ordinals_together bs
 slots_together [] = refl
 slots_together (b ∷ bs) = omega (arith, slots_long b, slots_together bs, length-append (slots_of b) (flat_map slots_of bs))
 

@@ -18,6 +18,7 @@ use Rattle.lx_model.proofs.JoinedBundles.{bundles_joined}
 use Rattle.link_model.proofs.Members.{each_in, found_as}
 use Rattle.image_model.proofs.LinkTables.{mapped, ranged}
 use Rattle.layer_laws.proofs.Exports.{HeadFits, ExportFits}
+use Rattle.image_model.proofs.LinksRead.{slots_together}
 
 -- ---- what stands at an ordinal
 
@@ -105,21 +106,6 @@ bundles-fit l xs few each =
     each_fits (length (objects l)) (length (modules_in (link_pairs l))) (bundles_for xs) are.some are.most (subst (AllByRecursion (SlotFits (length (objects l)) (length (modules_in (link_pairs l))))) (sym are.each) fits)
 
 -- ---- ordinals
-
-slots_long : (b : Bundle) → length (slots_of b) ≡ ordinal_count b
-slots_long (unused n) = repeated n
-  where
-    repeated : (k : ℕ) → length (replicate k empty) ≡ k
-    repeated zero = refl
-    repeated (suc k) = ap suc (repeated k)
-slots_long (narrow object es) = mapped (narrow_at object) es
-slots_long (gates object es) = mapped (gate_at object) es
-slots_long (wide object es) = mapped (wide_at object) es
-slots_long (forwarders reserved es) = mapped (forwarder reserved) es
-
-slots_together : (bs : List Bundle) → length (flat_map slots_of bs) ≡ ordinals_together bs
-slots_together [] = refl
-slots_together (b ∷ bs) = omega (arith, slots_long b, slots_together bs, length-append (slots_of b) (flat_map slots_of bs))
 
 greatest-is : (xs : List Exported) (bs : List Bundle) → AreBundlesOf xs bs → greatest xs ≡ ordinals_together bs
 greatest-is xs bs are = sym (mapped (λ n. slot_or_empty (export_at xs n)) (range_with_len 1 (greatest xs)) ∙ ranged 1 (greatest xs)) ∙ sym (ap length are.each) ∙ slots_together bs

@@ -13,7 +13,7 @@ use Rattle.image_model.specs.Image.{plain, iterated}
 use Rattle.image_model.specs.Linked.{page_forms}
 use Rattle.image_model.specs.PageForms.{page_in, pages_in, form_of_data, form_of_page}
 use Rattle.image_model.specs.ReadBack.{FormFits}
-use Rattle.layer_laws.proofs.Groups.{groups_give, with_fits, data_few}
+use Rattle.lx_iter.proofs.Unpacking.{groups_give, with_fits, data_few}
 
 form_by : (d : List ℕ) (b : Bool) → length d ≤ PAGE_SIZE → nat_lt (length (groups_spelling (groups_of d))) (length d) ≡ b → FormFits (cond b (iterated (groups_of d)) (plain d))
 form_by d true few shorter =

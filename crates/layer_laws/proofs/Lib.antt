@@ -2,7 +2,6 @@ pub mod Lists
 pub mod Given
 pub mod Sizes
 pub mod Objects
-pub mod Groups
 pub mod Forms
 pub mod Known
 pub mod NameOffsets

@@ -17,41 +17,9 @@ use Rattle.link_model.proofs.Members.{In, here, there, any_in, in_filter, each_i
 use Rattle.link_model.proofs.ExternalsMean.{neither}
 use Rattle.link_model.proofs.LiveFixups.{live_apart, patches_stand}
 use Rattle.link_model.proofs.LiveMeans.{is_live}
+use Rattle.link_model.proofs.LiveMeans.{only, none_refused}
 
 -- ---- one live fixup at most covers a byte
-
-meet : (o x : ℕ) (a b : Fixup) → fixup_covers o x a ≡ true → fixup_covers o x b ≡ true → overlap a b ≡ true
-meet o x a b ea eb =
-    let a1 = and_parts (a.object == o && nat_le a.offset x) (nat_lt x (fixup_end a)) ea in
-    let a2 = and_parts (a.object == o) (nat_le a.offset x) a1.0 in
-    let b1 = and_parts (b.object == o && nat_le b.offset x) (nat_lt x (fixup_end b)) eb in
-    let b2 = and_parts (b.object == o) (nat_le b.offset x) b1.0 in
-    let fa = leb-true a.offset x a2.1 in
-    let la = ltb-true x (fixup_end a) a1.1 in
-    let fb = leb-true b.offset x b2.1 in
-    let lb = ltb-true x (fixup_end b) b1.1 in
-    let same : a.object ≡ b.object = eqb-true a.object o a2.0 ∙ sym (eqb-true b.object o b2.0) in
-    and_from (a.object == b.object && nat_lt a.offset (fixup_end b)) (nat_lt b.offset (fixup_end a)) (and_from (a.object == b.object) (nat_lt a.offset (fixup_end b)) (eq-eqb a.object b.object same) (lt-ltb a.offset (fixup_end b) (omega (arith, fa, lb)))) (lt-ltb b.offset (fixup_end a) (omega (arith, fb, la)))
-
-abbrev AllApart : List Fixup → Type 0
-AllApart qs = AllPairs (λ a b. overlap a b ≡ false) qs
-
-from_first : (q : Fixup) (qs : List Fixup) → AllApart (q ∷ qs) → AllByRecursion (λ b. overlap q b ≡ false) qs
-from_first q qs h =
-    recursion_from_All (λ b. overlap q b ≡ false) qs (λ k d lt. h 0 (suc k) d (omega arith) (omega (arith, lt)))
-
-rest_apart : (q : Fixup) (qs : List Fixup) → AllApart (q ∷ qs) → AllApart qs
-rest_apart q qs h = λ i j d lt len. h (suc i) (suc j) d (omega (arith, lt)) (omega (arith, len))
-
-only_by : (o x : ℕ) (y : Fixup) (q : Fixup) (qs : List Fixup) (b : Bool) → fixup_covers o x y ≡ b → fixup_covers o x q ≡ true → overlap y q ≡ false → find (fixup_covers o x) qs ≡ Some q → cond b (Some y) (find (fixup_covers o x) qs) ≡ Some q
-only_by o x y q qs true is covers apart rest = absurd (true≢false (sym (meet o x y q is covers) ∙ apart))
-only_by o x y q qs false is covers apart rest = rest
-
-only : (o x : ℕ) (qs : List Fixup) {q : Fixup} → In q qs → fixup_covers o x q ≡ true → AllApart qs → find (fixup_covers o x) qs ≡ Some q
-only o x [] i covers apart = elim i [ ]
-only o x (y ∷ qs) here covers apart = ap (λ (t : Bool). cond t (Some y) (find (fixup_covers o x) qs)) covers
-only o x (y ∷ qs) {q} (there i) covers apart =
-    only_by o x y q qs (fixup_covers o x y) refl covers (each_in (λ b. overlap y b ≡ false) qs (from_first y qs apart) i) (only o x qs i covers (rest_apart y qs apart))
 
 -- A live fixup that covers a byte is the one that is found there.
 pub found-there : (l : Link) (n x : ℕ) (q : Fixup) → In q (live_fixups l) → fixup_covers n x q ≡ true → live_at l n x ≡ Some q
@@ -59,11 +27,6 @@ unfolding live_fixups
 found-there l n x q i covers = only n x (live_fixups l) i covers (live_apart (fixups l))
 
 -- ---- values
-
-none_refused : {X : Type 0} (f : Fixup → Option X) (qs : List Fixup) (rest : List (Option X)) → first_of (map f qs ++ rest) ≡ None → AllByRecursion (λ q. f q ≡ None) qs
-none_refused f [] rest e = tt
-none_refused f (q ∷ qs) rest e =
-    let both = neither (f q) (first_of (map f qs ++ rest)) e in (both.0, none_refused f qs rest both.1)
 
 pub accepted : (l : Link) (q : Fixup) → place_refusal l ≡ None → In q (live_fixups l) → fix_refusal q ≡ None
 unfolding place_refusal live_fixups

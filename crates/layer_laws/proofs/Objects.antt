@@ -8,12 +8,11 @@ use Rattle.std.proofs.lemmas.List.FromFn.{length-range_with_len}
 use Rattle.std.proofs.lemmas.List.Sums.{sum_by-cons}
 use Rattle.lx_types.specs.Addresses.{UNIT, room}
 use Rattle.lx_types.specs.declared.fix.Fix.{Fix}
-use Rattle.lx_types.specs.declared.object.TheConstants.{PAGE_SIZE, OBJECT_WRITABLE, OBJECT_EXECUTABLE, OBJECT_SHARED}
+use Rattle.lx_types.specs.declared.object.TheConstants.{PAGE_SIZE, OBJECT_READABLE, OBJECT_WRITABLE, OBJECT_EXECUTABLE, OBJECT_SHARED, OBJECT_PRELOAD, OBJECT_CONFORMING, OBJECT_IOPL}
 use Rattle.obj_types.specs.Definition.{WholeDef, IsBase}
 use Rattle.obj_types.specs.declared.definition.Attrs.{Attrs}
 use Rattle.obj_types.specs.declared.definition.ModKind.{ModKind}
 use Rattle.obj_types.specs.declared.definition.ModKind.TheVariants.{Program, Library}
-use Rattle.link_model.specs.declared.limits.TheConstants.{OBJECT_READABLE, OBJECT_PRELOAD, OBJECT_CONFORMING, OBJECT_IOPL}
 use Rattle.link_model.specs.declared.symbols.LaidObject.{LaidObject}
 use Rattle.link_model.specs.Link.{Link}
 use Rattle.link_model.specs.Parts.{Part}

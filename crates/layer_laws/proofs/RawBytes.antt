@@ -34,7 +34,7 @@ use Rattle.image_model.proofs.LinkTables.{mapped, ranged}
 use Rattle.image_model.proofs.RecordsRead.{spanned, regrouped}
 use Rattle.image_model.proofs.Standing.{HasFrom, standing, behind, from_others}
 use Rattle.layer_laws.proofs.Lists.{lt-true}
-use Rattle.layer_laws.proofs.Groups.{groups_give, data-filled}
+use Rattle.lx_iter.proofs.Unpacking.{groups_give, data_filled}
 use Rattle.layer_laws.proofs.TablePages.{all-of, Counts, object-found}
 
 -- ---- the bytes of a page's form
@@ -132,12 +132,12 @@ data_byte page i =
     by : (b : Bool) → nat_lt i (length (data_of page)) ≡ b → slice_index (data_of page) i ≡ slice_index page i
     by true is =
         let inside : i < length (data_of page) = grind (arith, nat_tests) in
-        sym (get_or-append (data_of page) (replicate (length page - length (data_of page)) 0) 0 i inside) ∙ ap (λ (xs : List ℕ). get_or xs i 0) (data-filled page)
+        sym (get_or-append (data_of page) (replicate (length page - length (data_of page)) 0) 0 i inside) ∙ ap (λ (xs : List ℕ). get_or xs i 0) (data_filled page)
     by false is =
         let past : length (data_of page) ≤ i = grind (arith, nat_tests) in
         get_or-eq_default (data_of page) 0 past
         ∙ sym (zero_behind (length page - length (data_of page)) (i - length (data_of page)))
-        ∙ sym (get_or-append_right (data_of page) (replicate (length page - length (data_of page)) 0) (length (data_of page)) i 0 refl past) ∙ ap (λ (xs : List ℕ). get_or xs i 0) (data-filled page)
+        ∙ sym (get_or-append_right (data_of page) (replicate (length page - length (data_of page)) 0) (length (data_of page)) i 0 refl past) ∙ ap (λ (xs : List ℕ). get_or xs i 0) (data_filled page)
 
 -- Byte i of page k of an object's bytes.
 page_item : (bytes : List ℕ) (k i : ℕ) → i < PAGE_SIZE → slice_index (page_in bytes k) i ≡ slice_index bytes (k * PAGE_SIZE + i)

@@ -59,6 +59,7 @@ use Rattle.link_core.proofs.ObjectsThere.{IsThere}
 use Rattle.link_core.proofs.TargetsThere.{LeadsThere, symbol_there, through, mapped, from_filter_map}
 use Rattle.link_core.proofs.FewImports.{export_with, few-modules, in-filter_map}
 use Rattle.link_core.proofs.RecordsFit.{AmongPairs, import-among}
+use Rattle.link_model.proofs.RecordsStay.{in_table, pair_there}
 
 -- ---- what an export leads to
 
@@ -139,10 +140,6 @@ pairs-are l p s xs are of is =
 
 -- ---- a pair that a forwarder names is in the tables
 
-in_table : (names : List (List ℕ)) (name : List ℕ) → In name names → IsSome (position (bytes_eq name) (firsts bytes_eq names))
-in_table names name i =
-    ap is_some (position_is (bytes_eq name) (firsts bytes_eq names) (any-firsts nat_list_eq_equiv name names ∙ any_in (bytes_eq name) i (nat_list_eq_equiv.refl name)))
-
 mapped_there : {X Y : Type 0} (f : X → Y) (o : Option X) → IsSome o → IsSome (option_map f o)
 mapped_there f None h = h
 mapped_there f (Some x) h = refl
@@ -151,14 +148,6 @@ entry_there : (pairs : List Imp) (number : ℕ) (pair : Imp) (entry : EntryKey) 
 entry_there pairs number pair (keys.Ordinal n) i e = refl
 entry_there pairs number pair (keys.Named name) i e =
     mapped_there _ _ (in_table (filter_map (λ pair. proc_name pair.entry) pairs) name (in-filter_map (λ (pair : Imp). proc_name pair.entry) i (ap proc_name e)))
-
-then_there : {X Y : Type 0} (f : X → Option Y) (o : Option X) → IsSome o → ((x : X) → IsSome (f x)) → IsSome (option_and_then f o)
-then_there f None h all = h
-then_there f (Some x) h all = all x
-
-pair_there : (pairs : List Imp) (pair : Imp) → In pair pairs → IsSome (import_target pairs pair)
-pair_there pairs pair i =
-    then_there (λ k. entry_target pairs (k + 1) pair.entry) _ (in_table (map (λ p. uppercase p.module) pairs) (uppercase pair.module) (in_map (λ (p : Imp). uppercase p.module) i)) (λ k. entry_there pairs (k + 1) pair pair.entry i refl)
 
 -- A forwarder's entry, which names an import module that there is.
 record ForwardsTo (pairs : List Imp) (pair : Imp) : Type 0 where

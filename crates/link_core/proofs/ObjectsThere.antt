@@ -24,6 +24,7 @@ use Rattle.link_model.proofs.Members.{In, here, there, any_in, placed, position_
 use Rattle.link_model.proofs.KeyTests.{in_one_object}
 use Rattle.link_model.proofs.RowsStand.{Stands}
 use Rattle.link_model.proofs.ExternalsMean.{neither, not_mapped, none_passes}
+use Rattle.link_model.proofs.RowsStand.{rows_stand, none_yet}
 
 -- An object of the link, whose number fits the entry table.
 pub record IsThere (l : Link) (n : ℕ) : Type 0 where
@@ -31,23 +32,6 @@ pub record IsThere (l : Link) (n : ℕ) : Type 0 where
   pub small : n ≤ MAX_OBJECTS
 
 -- ---- a row has the number of its logical segment's object
-
-in_push : {X : Type 0} (x : X) (xs : List X) (y : X) → In x (xs ++ y ∷ []) → In x xs ⊎ (y ≡ x)
-in_push x [] y here = inr refl
-in_push x [] y (there i) = elim i [ ]
-in_push x (z ∷ xs) y here = inl here
-in_push x (z ∷ xs) y (there i) = elim (in_push x xs y i) as (λ s. In x (z ∷ xs) ⊎ (y ≡ x)) [ inl j ↦ inl (there j) | inr e ↦ inr e ]
-
-rows_stand : (l : Link) (earlier : List Row) (ss : List Part) → ((r : Row) → In r earlier → Stands l r) → ((s : Part) → In s ss → In s (ordered l)) → (r : Row) → In r (rows_after l earlier ss) → Stands l r
-unfolding rules
-rows_stand l earlier [] all sub r i = all r i
-rows_stand l earlier (s ∷ ss) all sub r i =
-    let new : Row = row_after l earlier s in
-    let stands : Stands l new = record { object = refl; end = refl; inside = sub s here } in
-    rows_stand l (earlier ++ new ∷ []) ss (λ q j. elim (in_push q earlier new j) as (λ t. Stands l q) [ inl k ↦ all q k | inr e ↦ subst (λ t. Stands l t) e stands ]) (λ t j. sub t (there j)) r i
-
-none_yet : (l : Link) (r : Row) → In r [] → Stands l r
-none_yet l r i = elim i [ ]
 
 pub row_stands : (l : Link) (r : Row) → In r (rows l) → Stands l r
 unfolding rules

@@ -45,7 +45,7 @@ only_by : (o x : ℕ) (y : Fixup) (q : Fixup) (qs : List Fixup) (b : Bool) → f
 only_by o x y q qs true is covers apart rest = absurd (true≢false (sym (meet o x y q is covers) ∙ apart))
 only_by o x y q qs false is covers apart rest = rest
 
-only : (o x : ℕ) (qs : List Fixup) {q : Fixup} → In q qs → fixup_covers o x q ≡ true → AllApart qs → find (fixup_covers o x) qs ≡ Some q
+pub only : (o x : ℕ) (qs : List Fixup) {q : Fixup} → In q qs → fixup_covers o x q ≡ true → AllApart qs → find (fixup_covers o x) qs ≡ Some q
 only o x [] i covers apart = elim i [ ]
 only o x (y ∷ qs) here covers apart = ap (λ (t : Bool). cond t (Some y) (find (fixup_covers o x) qs)) covers
 only o x (y ∷ qs) {q} (there i) covers apart =
@@ -62,7 +62,7 @@ pub is_live : (qs : List Fixup) {q : Fixup} → In q (live qs) → In q qs
 is_live [] i = i
 is_live (y ∷ qs) i = is_live_by y qs (live qs) (list_any (overlap y) qs) i (λ j. is_live qs j)
 
-none_refused : {X : Type 0} (f : Fixup → Option X) (qs : List Fixup) (rest : List (Option X)) → first_of (map f qs ++ rest) ≡ None → AllByRecursion (λ q. f q ≡ None) qs
+pub none_refused : {X : Type 0} (f : Fixup → Option X) (qs : List Fixup) (rest : List (Option X)) → first_of (map f qs ++ rest) ≡ None → AllByRecursion (λ q. f q ≡ None) qs
 none_refused f [] rest e = tt
 none_refused f (q ∷ qs) rest e =
     let both = neither (f q) (first_of (map f qs ++ rest)) e in (both.0, none_refused f qs rest both.1)

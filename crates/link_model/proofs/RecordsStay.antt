@@ -140,7 +140,7 @@ fixup_target l q whole i =
 
 -- ---- a pair that a record names is in the tables
 
-in_table : (names : List (List ℕ)) (name : List ℕ) → In name names → IsSome (position (bytes_eq name) (firsts bytes_eq names))
+pub in_table : (names : List (List ℕ)) (name : List ℕ) → In name names → IsSome (position (bytes_eq name) (firsts bytes_eq names))
 in_table names name i =
     ap is_some (position_is (bytes_eq name) (firsts bytes_eq names) (any-firsts nat_list_eq_equiv name names ∙ any_in (bytes_eq name) i (nat_list_eq_equiv.refl name)))
 
@@ -157,7 +157,7 @@ then_there : {X Y : Type 0} (f : X → Option Y) (o : Option X) → IsSome o →
 then_there f None h all = h
 then_there f (Some x) h all = all x
 
-pair_there : (pairs : List Imp) (pair : Imp) → In pair pairs → IsSome (import_target pairs pair)
+pub pair_there : (pairs : List Imp) (pair : Imp) → In pair pairs → IsSome (import_target pairs pair)
 pair_there pairs pair i =
     then_there (λ k. entry_target pairs (k + 1) pair.entry) _ (in_table (map (λ p. uppercase p.module) pairs) (uppercase pair.module) (in_map (λ (p : Imp). uppercase p.module) i)) (λ k. entry_there pairs (k + 1) pair pair.entry i refl)
 

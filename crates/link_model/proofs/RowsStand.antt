@@ -66,7 +66,7 @@ in_push x [] y (there i) = elim i [ ]
 in_push x (z ∷ xs) y here = inl here
 in_push x (z ∷ xs) y (there i) = elim (in_push x xs y i) as (λ s. In x (z ∷ xs) ⊎ (y ≡ x)) [ inl j ↦ inl (there j) | inr e ↦ inr e ]
 
-rows_stand : (l : Link) (earlier : List Row) (ss : List Part) → ((r : Row) → In r earlier → Stands l r) → ((s : Part) → In s ss → In s (ordered l)) → (r : Row) → In r (rows_after l earlier ss) → Stands l r
+pub rows_stand : (l : Link) (earlier : List Row) (ss : List Part) → ((r : Row) → In r earlier → Stands l r) → ((s : Part) → In s ss → In s (ordered l)) → (r : Row) → In r (rows_after l earlier ss) → Stands l r
 unfolding rules
 rows_stand l earlier [] all sub r i = all r i
 rows_stand l earlier (s ∷ ss) all sub r i =
@@ -74,7 +74,7 @@ rows_stand l earlier (s ∷ ss) all sub r i =
     let stands : Stands l new = record { object = refl; end = refl; inside = sub s here } in
     rows_stand l (earlier ++ new ∷ []) ss (λ q j. elim (in_push q earlier new j) as (λ t. Stands l q) [ inl k ↦ all q k | inr e ↦ subst (λ t. Stands l t) e stands ]) (λ t j. sub t (there j)) r i
 
-none_yet : (l : Link) (r : Row) → In r [] → Stands l r
+pub none_yet : (l : Link) (r : Row) → In r [] → Stands l r
 none_yet l r i = elim i [ ]
 
 -- The row of a part.

@@ -18,7 +18,7 @@ use Rattle.link_model.specs.declared.refusals.LinkRefusal.TheVariants as why
 use Rattle.link_model.specs.Link.{Link}
 use Rattle.link_model.specs.Exports.{At, Forward, ordinals, Out, entry_refusal, ordinal_past}
 use Rattle.link_model.specs.Refusal.{link_refusal}
-use Rattle.link_model.specs.Defaults.{default_def}
+use Rattle.obj_types.specs.Defaults.{default_def}
 use Rattle.link_model.proofs.Rules.{rules}
 use Rattle.link_model.proofs.Samples.{linked, seg, fix, public, extern, import, export, code32, code16}
 

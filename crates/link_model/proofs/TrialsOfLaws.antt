@@ -17,7 +17,7 @@ use Rattle.link_model.specs.Mean.{pieces, Mean}
 use Rattle.link_model.specs.Records.{page_records}
 use Rattle.link_model.specs.Exports.{Out}
 use Rattle.link_model.specs.Refusal.{link_refusal}
-use Rattle.link_model.specs.Defaults.{default_def}
+use Rattle.obj_types.specs.Defaults.{default_def}
 use Rattle.link_model.proofs.Rules.{rules}
 use Rattle.link_model.proofs.Samples.{linked, seg, piece, fix, at_bases, public, constant, extern, comdef, import, export, code32, code16}
 

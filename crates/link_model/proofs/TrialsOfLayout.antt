@@ -12,7 +12,7 @@ use Rattle.link_model.specs.Link.{Link}
 use Rattle.link_model.specs.Layout.{objects, spot, common_spot, stack_top}
 use Rattle.link_model.specs.LayoutRefusals.{lay_refusal}
 use Rattle.link_model.specs.Header.{auto_data}
-use Rattle.link_model.specs.Defaults.{code_attrs, default_def}
+use Rattle.obj_types.specs.Defaults.{code_attrs, default_def}
 use Rattle.link_model.proofs.Rules.{rules}
 use Rattle.link_model.proofs.Samples.{seg, with_segs, linked, comdef, code32, data32, code16, common32}
 

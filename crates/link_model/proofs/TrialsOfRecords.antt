@@ -17,7 +17,7 @@ use Rattle.link_model.specs.Patches.{object_bytes}
 use Rattle.link_model.specs.ImportTables.{used_pairs, link_pairs, modules_in, procs_in, name_table, with_offset}
 use Rattle.link_model.specs.Records.{object_records, page_records}
 use Rattle.link_model.specs.Header.{module_name, description}
-use Rattle.link_model.specs.Defaults.{default_def}
+use Rattle.obj_types.specs.Defaults.{default_def}
 use Rattle.link_model.proofs.Rules.{rules}
 use Rattle.link_model.proofs.Samples.{linked, fix, constant, extern, export, import, code32, data32, code16, code_module}
 

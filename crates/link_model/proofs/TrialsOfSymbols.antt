@@ -12,7 +12,7 @@ use Rattle.link_model.specs.Link.{Link}
 use Rattle.link_model.specs.Choosing.{next_pick}
 use Rattle.link_model.specs.Symbols.{commons, imports, global}
 use Rattle.link_model.specs.SymbolRefusals.{sym_refusal, imports_past}
-use Rattle.link_model.specs.Defaults.{default_def}
+use Rattle.obj_types.specs.Defaults.{default_def}
 use Rattle.link_model.proofs.Rules.{rules}
 use Rattle.link_model.proofs.Samples.{linked, public, constant, extern, comdef, import, export, code32}
 

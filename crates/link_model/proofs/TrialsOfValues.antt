@@ -16,7 +16,7 @@ use Rattle.link_model.specs.Value.{World}
 use Rattle.link_model.specs.Mean.{live_fixups, Mean}
 use Rattle.link_model.specs.Start.{Start}
 use Rattle.link_model.specs.Refusal.{place_refusal}
-use Rattle.link_model.specs.Defaults.{default_def}
+use Rattle.obj_types.specs.Defaults.{default_def}
 use Rattle.link_model.proofs.Rules.{rules}
 use Rattle.link_model.proofs.Samples.{linked, piece, fix, at_bases, constant, extern, import, code32, data32, code16, common32, code_module}
 

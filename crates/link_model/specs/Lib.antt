@@ -21,7 +21,6 @@ pub mod Mean
 pub mod Exports
 pub mod Start
 pub mod Refusal
-pub mod Defaults
 pub mod NothingDropped
 pub mod OneSegment
 pub mod Patches

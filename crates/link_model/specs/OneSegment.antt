@@ -20,7 +20,7 @@ use Rattle.link_model.specs.LayoutRefusals.{lay_refusal}
 use Rattle.link_model.specs.Value.{EntryPoints}
 use Rattle.link_model.specs.Mean.{Mean}
 use Rattle.link_model.specs.Refusal.{place_refusal}
-use Rattle.link_model.specs.Defaults.{default_def}
+use Rattle.obj_types.specs.Defaults.{default_def}
 
 -- ---- the plain equation, for data and the places of its fixups
 

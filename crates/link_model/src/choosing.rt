@@ -6,6 +6,7 @@ ghost use Rattle.link_model.specs.PlainChoosing.{draws, pick_draws};
 ghost use Rattle.link_model.specs.Choosing.{defines, is_defined, module_of, modules_of, is_picked, is_drawn, next_pick, object_picks, Chosen};
 
 use crate::Pick;
+use crate::modules::module_at;
 use obj_types::{Ext, Imp, LinkInput, Name, NoMemory, ObjModule, Pub, Seq};
 use std::alloc::Global;
 
@@ -28,17 +29,6 @@ fn defines_name(object: &ObjModule, name: &Name) -> bool
     ensures { result ≡ defines object.now name.now }
 {
     has_public(object.pubs.as_slice(), name) || has_import(object.imports.as_slice(), name)
-}
-
-fn module_at<'a>(input: &'a LinkInput, pick: &Pick) -> Option<&'a ObjModule>
-    ensures { option_copied result ≡ module_of input.entry.now pick.now }
-{
-    let list = if pick.lib {
-        &input.libs
-    } else {
-        &input.objects
-    };
-    list.as_slice().get(pick.index as usize)
 }
 
 fn pick_defines(input: &LinkInput, pick: &Pick, name: &Name) -> bool

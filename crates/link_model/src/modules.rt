@@ -17,7 +17,8 @@ pub fn number(count: usize) -> Result<u32, NoMemory>
     }
 }
 
-fn module_at<'a>(input: &'a LinkInput, pick: &Pick) -> Option<&'a ObjModule>
+/// The module of a pick, where it is there.
+pub fn module_at<'a>(input: &'a LinkInput, pick: &Pick) -> Option<&'a ObjModule>
     ensures { option_copied result ≡ module_of input.entry.now pick.now }
 {
     let list = if pick.lib {

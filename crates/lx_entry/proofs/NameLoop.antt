@@ -1,5 +1,5 @@
 -- What a refusal of an entry is of a table of names.
-use Rattle.std.proofs.Common.{◌≡◌, Option, List, Result, Ok, Err}
+use Rattle.std.proofs.Common.{◌≡◌, List, Result}
 use Rattle.std.specs.Prelude.{IsErrAnd}
 use Rattle.lx_bytes.specs.Cursor.{Cursor}
 use Rattle.lx_types.specs.Answers.{Tells, Gives, if_said_as}

@@ -80,7 +80,7 @@ with_data bytes (Some p) e =
     let tests = and_parts (eqb (length bytes % p) 0) (bytes_eq (repeat (length bytes / p) (take p bytes)) bytes) (found (repeats bytes) periods p e) in
     append-nil (repeat (length bytes / p) (take p bytes)) ∙ (bytes_eq-Decides (repeat (length bytes / p) (take p bytes)) bytes).0 tests.1
 
-groups_give : (bytes : List ℕ) → groups_data (groups_of bytes) ≡ bytes
+pub groups_give : (bytes : List ℕ) → groups_data (groups_of bytes) ≡ bytes
 groups_give bytes = with_data bytes (find (repeats bytes) periods) refl
 
 -- ---- the groups have spellings
@@ -141,7 +141,7 @@ give_fits (g ∷ gs) each few =
     let bytes : length g.bytes ≤ g.times * length g.bytes = (let f = factor (length g.bytes) g.times each.0.times in omega (arith, f)) in
     (record { times = omega (arith, sum, size, times, few); bytes = omega (arith, sum, size, bytes, few) }, give_fits gs each.1 (omega (arith, sum, few)))
 
-with_fits : (bytes : List ℕ) (o : Option ℕ) → length bytes ≤ PAGE_SIZE → AllByRecursion GroupFits (groups_with bytes o)
+pub with_fits : (bytes : List ℕ) (o : Option ℕ) → length bytes ≤ PAGE_SIZE → AllByRecursion GroupFits (groups_with bytes o)
 with_fits bytes None few =
     give_fits (groups_of_runs (runs_of bytes)) (runs_groups_give (runs_of bytes) (runs_some bytes)) (let size = ap length (runs_groups_data (runs_of bytes) ∙ runs_give bytes) in omega (arith, size, few))
 with_fits bytes (Some p) few =
@@ -167,11 +167,11 @@ before_few zero xs [] few = omega arith
 before_few zero xs (d ∷ ds) few = omega (arith, few)
 before_few (suc b) xs ds few = omega (arith, few)
 
-data_few : (page : List ℕ) → length (data_of page) ≤ length page
+pub data_few : (page : List ℕ) → length (data_of page) ≤ length page
 data_few [] = omega arith
 data_few (b ∷ others) = before_few b others (data_of others) (data_few others)
 
-data_filled : (page : List ℕ) → data_of page ++ replicate (length page - length (data_of page)) 0 ≡ page
+pub data_filled : (page : List ℕ) → data_of page ++ replicate (length page - length (data_of page)) 0 ≡ page
 data_filled [] = refl
 data_filled (b ∷ others) = filled_more b others (data_of others) (data_few others) (data_filled others)
 

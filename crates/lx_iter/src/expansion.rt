@@ -1,12 +1,14 @@
 //! From groups of repeated bytes to a page.
 
-ghost use Rattle.std.specs.Prelude.{◌≡◌, ◌+◌, ◌*◌, ◌≤◌, ◌<◌, ◌^◌, ◌++◌, length, take, IfOk};
+ghost use Rattle.std.specs.Prelude.{◌≡◌, ◌+◌, ◌*◌, ◌≤◌, ◌<◌, ◌^◌, ◌++◌, length, take, option_map, IfOk, IfSome};
 ghost use Rattle.std.specs.List.{repeat};
+ghost use Rattle.lx_types.specs.Answers.{Reads, told_as};
 ghost use Rattle.lx_model.specs.Iterated.{group_fields, group_at};
-ghost use Rattle.lx_iter.specs.Expansion.{TakesGroup, Continues, Expands};
+ghost use Rattle.lx_fields.specs.Faults.{short_fault};
+ghost use Rattle.lx_iter.specs.Expansion.{refusal, group_of, Expands};
 
 use crate::refusal::IterRefusal;
-use lx_bytes::{Cur, Short};
+use lx_fields::{Fields, Short};
 use lx_types::PAGE_SIZE;
 
 /// Bytes, and how many times they stand there.
@@ -18,34 +20,34 @@ pub struct Group<'a> {
 
 // A count word, a length word, and as many bytes.
 #[tactic(auto, unfolding(lx_model::specs::Iterated::group_fields))]
-fn group_fields<'a>(cur: &mut Cur<'a>) -> Result<Group<'a>, Short>
-    ensures read { TakesGroup result (group_fields cur.old) cur.new }
-    ensures places { cur.new.at + length cur.new.left ≡ cur.old.at + length cur.old.left }
+fn group_fields<'a>(fields: &mut Fields<'a>) -> Result<Group<'a>, Short>
+    ensures read { Reads group_of (told_as short_fault) result group_fields fields.old fields.new }
     ensures short { IfOk result (λ group. length group.bytes.now < 2 ^ 16) }
 {
-    let times = cur.u16()?;
-    let len = cur.u16()?;
-    let bytes = cur.take(usize::from(len))?;
+    let times = fields.word()?;
+    let len = fields.word()?;
+    let bytes = fields.bytes(usize::from(len))?;
     Ok(Group { times, bytes })
 }
 
 // The next group, behind those that give `before` bytes. There is none at the end of the data.
 #[tactic(auto, unfolding(lx_model::specs::Iterated::group_at))]
-fn next_group<'a>(cur: &mut Cur<'a>, before: usize) -> Result<Option<Group<'a>>, IterRefusal>
-    requires before { before ≤ PAGE_SIZE }
-    requires places { cur.old.at + length cur.old.left < 2 ^ 32 }
-    ensures read { Continues result before (group_at before cur.old) cur.new }
-    ensures places { cur.new.at + length cur.new.left ≡ cur.old.at + length cur.old.left }
+fn next_group<'a>(fields: &mut Fields<'a>, before: usize) -> Result<Option<Group<'a>>, IterRefusal>
+    requires { before ≤ PAGE_SIZE }
+    ensures read { Reads (option_map (λ g. (group_of g, before + g.times * length g.bytes.now)))
+        (told_as refusal) result (group_at before) fields.old fields.new }
+    ensures fits { IfOk result (λ found. IfSome found
+        (λ g. before + g.times * length g.bytes.now ≤ PAGE_SIZE)) }
 {
-    let at = cur.at();
-    if cur.left() == 0 {
+    let at = fields.at();
+    if fields.left() == 0 {
         return Ok(None);
     }
-    let Ok(group) = group_fields(cur) else {
-        return Err(IterRefusal::Short { at: at as u32 });
+    let Ok(group) = group_fields(fields) else {
+        return Err(IterRefusal::Short { at });
     };
     if usize::from(group.times) * group.bytes.len() > PAGE_SIZE as usize - before {
-        return Err(IterRefusal::TooLong { at: at as u32 });
+        return Err(IterRefusal::TooLong { at });
     }
     Ok(Some(group))
 }
@@ -75,9 +77,9 @@ pub fn expand(bytes: &[u8], into: &mut [u8; 4096]) -> Result<(), IterRefusal>
     requires { length bytes.now < 2 ^ 32 }
     ensures { Expands result bytes.now into.new }
 {
-    let mut cur = Cur::of(bytes);
+    let mut fields = Fields::of(bytes);
     let mut given = 0;
-    while let Some(group) = next_group(&mut cur, given)? {
+    while let Some(group) = next_group(&mut fields, given)? {
         put_times(into, given, group.times, group.bytes);
         given += usize::from(group.times) * group.bytes.len();
     }

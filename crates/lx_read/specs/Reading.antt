@@ -1,5 +1,5 @@
 -- What the reader has found of a file, part by part.
-use Rattle.std.specs.Prelude.{◌≡◌, ℕ, List, [], ◌++◌, Option, Some, None, Result, Ok, Err}
+use Rattle.std.specs.Prelude.{◌≡◌, ℕ, List, [], ◌++◌, Option, None, Result, Ok, Err}
 use Rattle.lx_types.specs.declared.fail.Fail.{Fail}
 use Rattle.lx_types.specs.Answers.{if_said}
 use Rattle.lx_types.specs.declared.refusal.LxRefusal.{LxRefusal}

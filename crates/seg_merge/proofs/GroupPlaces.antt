@@ -17,7 +17,7 @@ use Rattle.seg_parts.specs.declared.members.Member.{Member}
 use Rattle.seg_parts.specs.LogicalSegments.{name_shown, heads_of, segment_keys_of}
 use Rattle.seg_parts.specs.Members.{member_shown, is_member}
 use Rattle.seg_parts.proofs.ClassOrder.{place-is}
-use Rattle.seg_parts.proofs.Lists.{firsts-keys, map-more}
+use Rattle.sym_table.proofs.Lists.{firsts-keys, map-more}
 use Rattle.seg_parts.proofs.Ranges.{get_or-same}
 use Rattle.seg_parts.proofs.Tables.{segments_equal}
 use Rattle.seg_merge.specs.Membership.{both, AreGroupsOf}

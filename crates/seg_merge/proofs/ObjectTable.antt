@@ -14,7 +14,8 @@ use Rattle.link_model.proofs.KeyTests.{equivalence, object_keys}
 use Rattle.link_model.proofs.Members.{placed}
 use Rattle.link_model.proofs.Tables.{firsts-push}
 use Rattle.seg_parts.specs.LogicalSegments.{places}
-use Rattle.seg_parts.proofs.Lists.{take-push, split-at, firsts-keys}
+use Rattle.sym_table.proofs.Lists.{firsts-keys}
+use Rattle.seg_parts.proofs.Lists.{take-push, split-at}
 use Rattle.seg_parts.proofs.Tables.{places-push, place-push, place-stays}
 use Rattle.seg_merge.specs.Ordered.{Ordered}
 use Rattle.seg_merge.specs.Laid.{keys_of, object_heads_of, flags_of_objects}

@@ -13,12 +13,11 @@ ghost use Rattle.seg_merge.specs.Laid.{first_base_of, stack_row_in, rows_in, Are
 
 use crate::objects::{flags_of_objects, objects_of};
 use crate::ordered::OrderedSegment;
-use crate::stack::any_stack;
 use crate::units::units_of;
 use link_model::{LaidObject, LayRefusal, NoMemory};
 use lx_types::Seq;
 use obj_types::{DefFile, Fail, ModKind};
-use seg_parts::{Placed, laid_objects, rows_of};
+use seg_parts::{Placed, any_stack, laid_objects, rows_of};
 use std::alloc::Global;
 
 /// Logical segments in order, in their objects.

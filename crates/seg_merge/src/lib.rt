@@ -22,7 +22,6 @@ mod placing_spots;
 mod refused;
 mod segment_parts;
 mod splits;
-mod stack;
 mod units;
 mod uses;
 

@@ -1,40 +1,21 @@
 //! Where the parts of one logical segment stand.
 
 ghost use Rattle.std.specs.Prelude.{◌≡◌, ◌≤◌, ◌+◌, map, IfOk};
-ghost use Rattle.std.specs.Int.{next_multiple_of};
 ghost use Rattle.link_model.specs.declared.limits.TheConstants.{MAX_MEMORY};
-ghost use Rattle.link_model.specs.Parts as rules;
 ghost use Rattle.link_model.specs.Rows.{aligned, end_of_parts};
 ghost use Rattle.seg_parts.specs.Parts.{shown};
 ghost use Rattle.seg_merge.specs.Offsets.{offsets_in};
 
-use link_model::{NoMemory, alignment_len};
-use seg_parts::Part;
+use link_model::NoMemory;
+use seg_parts::{Part, alignment_of, next_multiple};
 use std::alloc::Global;
-
-fn alignment_of(align: u8) -> u32
-    ensures value { result ≡ rules.alignment align }
-    ensures least { 1 ≤ result }
-    ensures most { result ≤ 4096 }
-{
-    alignment_len(align)
-}
-
-fn next_multiple(at: u32, len: u32) -> u32
-    requires least { 1 ≤ len }
-    requires fits { next_multiple_of at len ≤ MAX_MEMORY }
-    requires most { len ≤ 4096 }
-    ensures { result ≡ next_multiple_of at len }
-{
-    u64::from(at).next_multiple_of(u64::from(len)) as u32
-}
 
 /// The least offset from `at` on that the part's alignment divides.
 pub fn part_start(at: u32, part: &Part<'_>) -> u32
     requires { aligned at (shown part.now) ≤ MAX_MEMORY }
     ensures { result ≡ aligned at (shown part.now) }
 {
-    next_multiple(at, alignment_of(part.align))
+    next_multiple(at, alignment_of(part.align)) as u32
 }
 
 /// The offsets in bytes of parts that stand one after another from `start` on ("98h SEGDEF", alignment), in the object of

@@ -9,9 +9,8 @@ ghost use Rattle.seg_merge.specs.Ordered.{ordered_shown};
 ghost use Rattle.seg_merge.specs.Laid.{least_of, unit_at, stack_number};
 
 use crate::ordered::OrderedSegment;
-use crate::stack::any_stack;
 use link_model::NoMemory;
-use seg_parts::Unplaced;
+use seg_parts::{Unplaced, any_stack};
 use std::alloc::Global;
 
 fn stack_segment<'a>(ordered: &'a [OrderedSegment<'a>]) -> Option<&'a OrderedSegment<'a>>

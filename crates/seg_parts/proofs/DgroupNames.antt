@@ -17,7 +17,7 @@ use Rattle.seg_parts.specs.Communals.{is_in}
 use Rattle.seg_parts.specs.Members.{member_shown, is_member}
 use Rattle.seg_parts.specs.declared.members.Member.{Member}
 use Rattle.std.proofs.Math.ListN.{get_or}
-use Rattle.seg_parts.proofs.Lists.{map-more}
+use Rattle.sym_table.proofs.Lists.{map-more}
 use Rattle.seg_parts.proofs.Ranges.{get_or-same}
 use Rattle.seg_parts.proofs.Names.{names-shown}
 use Rattle.seg_parts.proofs.Tables.{any-shown}

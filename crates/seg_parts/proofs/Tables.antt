@@ -9,7 +9,7 @@ use Rattle.std.proofs.Common.{ap, sym, ◌∙◌, arith}
 use Rattle.std.proofs.lemmas.List.{map-append, length-map}
 use Rattle.link_model.specs.Appearance.{firsts, firsts_by}
 use Rattle.link_model.proofs.Tables.{firsts-push, any-firsts}
-use Rattle.seg_parts.proofs.Lists.{firsts-keys}
+use Rattle.sym_table.proofs.Lists.{firsts-keys}
 use Rattle.std.proofs.lemmas.Bool.{or_right}
 use Rattle.link_model.specs.declared.keys.SegmentKey.{SegmentKey}
 use Rattle.link_model.specs.Parts as rules

@@ -188,7 +188,8 @@ fn own_stack(fixed: &FixedNames) -> Part<'_>
     }
 }
 
-fn any_stack(parts: &[Part<'_>]) -> bool
+/// Whether a part of combine type stack is among these ("98h SEGDEF").
+pub fn any_stack(parts: &[Part<'_>]) -> bool
     ensures { result ≡ list_any (λ p. rules.is_stack (shown p)) parts.now }
 {
     parts.iter().any(is_stack)

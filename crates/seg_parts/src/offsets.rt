@@ -12,7 +12,8 @@ use crate::parts::Part;
 use link_model::{MAX_MEMORY, alignment_len};
 use obj_types::COMBINE_COMMON;
 
-fn alignment_of(align: u8) -> u32
+/// The bytes of an alignment of SEGDEF, from 1 to 4,096.
+pub fn alignment_of(align: u8) -> u32
     ensures value { result ≡ parts.alignment align }
     ensures least { 1 ≤ result }
     ensures most { result ≤ 4096 }
@@ -21,7 +22,7 @@ fn alignment_of(align: u8) -> u32
 }
 
 /// The least multiple of `len` from `at` on.
-fn next_multiple(at: u32, len: u32) -> u64
+pub fn next_multiple(at: u32, len: u32) -> u64
     requires least { 1 ≤ len }
     requires most { len ≤ 4096 }
     ensures value { result ≡ next_multiple_of at len }

@@ -7,7 +7,7 @@ use Rattle.lx_types.specs.declared.entry.EntryKey.TheVariants as keys
 use Rattle.obj_types.specs.declared.object.ObjModule.{ObjModule}
 use Rattle.obj_types.specs.declared.definition.ModKind.TheVariants.{Library}
 use Rattle.obj_types.specs.Fresh.{empty_module}
-use Rattle.link_model.specs.Defaults.{default_def, data_attrs}
+use Rattle.obj_types.specs.Defaults.{default_def, data_attrs}
 use Rattle.link_model.specs.Link.{Link}
 use Rattle.image_model.specs.File.{file_of}
 use Rattle.image_model.specs.Linked.{image_of}

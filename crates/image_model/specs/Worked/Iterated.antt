@@ -6,7 +6,7 @@ use Rattle.lx_types.specs.declared.entry.EntryKey.TheVariants as keys
 use Rattle.obj_types.specs.declared.object.ObjModule.{ObjModule}
 use Rattle.obj_types.specs.declared.definition.ModKind.TheVariants.{Program}
 use Rattle.obj_types.specs.Fresh.{empty_module}
-use Rattle.link_model.specs.Defaults.{default_def}
+use Rattle.obj_types.specs.Defaults.{default_def}
 use Rattle.link_model.specs.Link.{Link}
 use Rattle.image_model.specs.File.{file_of}
 use Rattle.image_model.specs.Linked.{image_of}

@@ -4,7 +4,7 @@ use Rattle.std.specs.Prelude.{◌≡◌, ℕ, List, [], ◌∷◌, ◌++◌, Non
 use Rattle.std.specs.List.{flat_map}
 use Rattle.lx_bytes.specs.LittleEndian.{little_bytes}
 use Rattle.obj_types.specs.declared.definition.ModKind.TheVariants.{Library}
-use Rattle.link_model.specs.Defaults.{default_def}
+use Rattle.obj_types.specs.Defaults.{default_def}
 use Rattle.link_model.specs.Link.{Link}
 use Rattle.link_model.specs.OneSegment.{one_segment}
 use Rattle.image_model.specs.File.{file_of}

@@ -1,4 +1,4 @@
-use Rattle.std.proofs.Common.{◌≡◌, ◌+◌, ◌≤◌, length, take}
+use Rattle.std.proofs.Common.{◌≡◌, ◌≤◌, length, take}
 use Rattle.lx_types.specs.declared.object.TheConstants.{PAGE_SIZE}
 use Rattle.lx_model.specs.Iterated.{group_at, expansion}
 use Rattle.lx_model.specs.Reading.{many}
@@ -9,9 +9,8 @@ use Rattle.lx_iter.proofs.expansion.expand.Given as goal
 abbrev pub invariant-loop-group : goal.invariant-loop-group
 invariant-loop-group l = record {
   room : l.given ≤ PAGE_SIZE;
-  places : l.cur.at + length l.cur.left ≡ length l.bytes;
-  kept : behind_given (take l.given l.into) (many group_at l.given l.cur) ≡ expansion l.bytes;
+  kept : behind_given (take l.given l.into) (many group_at l.given l.fields) ≡ expansion l.bytes;
 }
 
 abbrev pub decreases-loop-group : goal.decreases-loop-group
-decreases-loop-group l = length l.cur.left
+decreases-loop-group l = length l.fields.left

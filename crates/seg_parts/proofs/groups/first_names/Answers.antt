@@ -2,7 +2,7 @@ use Rattle.std.proofs.Common.{◌≡◌, ◌∙◌, ◌∷◌, [], ap, sym, map,
 use Rattle.std.specs.List.{position_or_len}
 use Rattle.std.proofs.lemmas.List.{length-map, map-append}
 use Rattle.first_table.specs.Entries.{is_named, with_entry}
-use Rattle.seg_parts.proofs.Lists.{map-more}
+use Rattle.sym_table.proofs.Lists.{map-more}
 use Rattle.seg_parts.proofs.NameLists.{new_name, old_name, same_names}
 use Rattle.seg_parts.proofs.groups.first_names.Goals as goal
 use Rattle.seg_parts.proofs.groups.first_names.Goals.{then-place-len+in_ok-push, else-place-len}

@@ -1,6 +1,6 @@
 use Rattle.std.proofs.Common.{◌∙◌, ◌++◌, ap, sym, take}
 use Rattle.sym_table.specs.Links.{link_with}
-use Rattle.seg_parts.proofs.Lists.{modules-push}
+use Rattle.sym_table.proofs.Lists.{modules-push}
 use Rattle.seg_parts.specs.Members.{listed_in, memberships}
 use Rattle.seg_parts.proofs.members.members_of.Goals as goal
 

@@ -4,7 +4,7 @@ use Rattle.std.specs.Cmp.Lexicographic.{nat_list_eq_equiv}
 use Rattle.std.proofs.lemmas.List.{map-append}
 use Rattle.link_model.specs.Appearance.{firsts}
 use Rattle.first_table.specs.Entries.{is_named, with_entry}
-use Rattle.seg_parts.proofs.Lists.{map-more}
+use Rattle.sym_table.proofs.Lists.{map-more}
 use Rattle.seg_parts.specs.Groups.{name_entries}
 use Rattle.seg_parts.specs.Parts.{shown}
 use Rattle.seg_parts.specs.LogicalSegments.{places}

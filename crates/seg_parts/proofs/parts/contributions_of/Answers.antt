@@ -1,7 +1,7 @@
 use Rattle.std.proofs.Common.{◌∙◌, ◌++◌, ap, sym, take}
 use Rattle.link_model.specs.Parts as rules
 use Rattle.sym_table.specs.Links.{link_with}
-use Rattle.seg_parts.proofs.Lists.{modules-push}
+use Rattle.sym_table.proofs.Lists.{modules-push}
 use Rattle.seg_parts.proofs.parts.contributions_of.Goals as goal
 
 pub loop-place-preserved : goal.loop-place-preserved
