@@ -4,7 +4,7 @@ use crate::bytes::{hex_bytes, number};
 use std::alloc::{AllocError, Global};
 
 /// What a port refuses in a row.
-#[derive(Clone, Copy, Debug)]
+#[derive(Clone, Copy)]
 pub enum Port {
     Load,
     Save,
@@ -12,7 +12,7 @@ pub enum Port {
 }
 
 /// What a line adds to the file, the text or the saved file that it stands below.
-#[derive(Debug, Drop)]
+#[derive(Drop)]
 pub enum Change<'a> {
     /// `HEX HEX ..`, or `|TEXT` with a line's end, or `>TEXT` without one.
     Bytes(Vec<u8>),
@@ -31,7 +31,7 @@ pub enum Change<'a> {
 }
 
 /// What a line says. Behind `#`, lines but those of text have a comment.
-#[derive(Debug, Drop)]
+#[derive(Drop)]
 pub enum Line<'a> {
     /// Nothing, or only a comment.
     Blank,

@@ -2,13 +2,13 @@
 //! than the one that they want. The words of the command line name the files of rows.
 #![tactic(auto)]
 
-mod bench;
 mod bytes;
 mod line;
 mod outcome;
 mod row;
+mod runner;
 
-use crate::bench::Bench;
+use crate::runner::Runner;
 use std::io::ErrorKind;
 use std::{env, fs, io};
 
@@ -18,15 +18,15 @@ fn main(rt: HostRuntime) -> io::Result<()> {
     let names: Vec<String> = env::args(&rt)?.skip(1).collect(rt.alloc())?;
     for name in &names {
         let text = fs::read_to_string(&rt, name.as_str())?;
-        let mut bench = Bench::new(rt.alloc());
-        bench
+        let mut runner = Runner::new(rt.alloc());
+        runner
             .run(&rt, text.as_str())
             .map_err(|_| io::Error::from(ErrorKind::OutOfMemory))?;
-        for told in bench.told() {
+        for told in runner.told() {
             println!(rt; "{name}: {told}")?;
         }
-        rows = rows.saturating_add(bench.rows());
-        differ = differ.saturating_add(bench.told().len());
+        rows = rows.saturating_add(runner.rows());
+        differ = differ.saturating_add(runner.told().len());
     }
     println!(rt; "{rows} rows, {differ} differ")
 }

@@ -7,14 +7,14 @@ use lx_types::NoMemory;
 use std::alloc::{AllocError, Global};
 
 /// The bytes under a name.
-#[derive(Debug, Drop)]
+#[derive(Drop)]
 pub struct Named {
     pub name: String,
     pub bytes: Vec<u8>,
 }
 
 /// Bytes that a saved file has at a place.
-#[derive(Debug, Drop)]
+#[derive(Drop)]
 pub struct Held {
     pub name: String,
     pub place: usize,
@@ -22,7 +22,7 @@ pub struct Held {
 }
 
 /// The calls that fail, by their numbers from 1, and what the sink has room for.
-#[derive(Debug, Drop)]
+#[derive(Drop)]
 struct Ports {
     loads: Vec<u64>,
     saves: Vec<u64>,
@@ -39,7 +39,7 @@ pub struct Ended {
 }
 
 /// A command with what is wanted of it.
-#[derive(Debug, Drop)]
+#[derive(Drop)]
 pub struct Row {
     pub title: String,
     pub words: Vec<String>,
@@ -108,7 +108,7 @@ impl Row {
     pub fn run<R>(&self, rt: &R, alloc: Global, files: &[Named]) -> Result<Ended, NoMemory> {
         let mut entries = Vec::new(alloc);
         for file in files {
-            entries.push((file.name.clone()?, file.bytes.clone()?))?;
+            entries.push((file.name.clone()?, file.bytes.to_vec(alloc)?))?;
         }
         let ports = &self.ports;
         let mut files = MemFiles::of(alloc, entries, ports.loads.clone()?, ports.saves.clone()?);

@@ -9,7 +9,7 @@ use std::alloc::{AllocError, Global};
 
 /// The files so far, the row that is being read, and what is told of those that were run.
 #[derive(Drop)]
-pub struct Bench {
+pub struct Runner {
     alloc: Global,
     files: Vec<Named>,
     row: Option<Row>,
@@ -50,10 +50,10 @@ fn change(
     Ok(true)
 }
 
-impl Bench {
+impl Runner {
     /// No file and no row yet.
-    pub fn new(alloc: Global) -> Bench {
-        Bench {
+    pub fn new(alloc: Global) -> Runner {
+        Runner {
             alloc,
             files: Vec::new(alloc),
             row: None,
@@ -124,11 +124,10 @@ impl Bench {
     // Changes what the lines stand below: the last saved file of the row, its text, or the last file.
     fn change(&mut self, line: &Change<'_>) -> Result<bool, AllocError> {
         if let Some(row) = &mut self.row {
-            let bytes = match row.saved.last_mut() {
-                Some(saved) => &mut saved.bytes,
-                None => &mut row.text,
+            return match row.saved.last_mut() {
+                Some(saved) => change(self.alloc, &mut saved.bytes, line, &self.files, None),
+                None => change(self.alloc, &mut row.text, line, &self.files, None),
             };
-            return change(self.alloc, bytes, line, &self.files, None);
         }
         let Some(mut file) = self.files.pop() else {
             return Ok(false);
