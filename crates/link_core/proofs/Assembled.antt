@@ -1,16 +1,13 @@
 -- The plan of a link from its parts, and what its steps refuse.
-use Rattle.std.specs.Prelude.{◌≡◌, ◌≢◌, ℕ, ◌+◌, List, [], ◌∷◌, Option, Some, None, Result, Ok, Err, map, length, sum_by, refl}
-use Rattle.std.specs.List.{All, AllByRecursion, flat_map}
-use Rattle.std.specs.Option.{option_map, option_or}
+use Rattle.std.specs.Prelude.{◌≡◌, ℕ, List, [], ◌∷◌, Option, Some, None, Result, Err, length, sum_by, refl}
+use Rattle.std.specs.Option.{option_map}
 use Rattle.std.proofs.Common.{ap, sym, ◌∙◌, subst}
 use Rattle.lx_types.specs.Answers.{Answers}
 use Rattle.lx_types.specs.Names.{uppercase}
 use Rattle.lx_types.specs.declared.fail.Fail.{Fail}
 use Rattle.lx_types.specs.declared.fail.Fail.TheVariants.{Said, NoMemory}
-use Rattle.lx_types.specs.declared.parts.TheConstants.{MODULE_INIT_EACH, MODULE_TERM_EACH}
 use Rattle.obj_types.specs.Input.{WholeInput}
 use Rattle.obj_types.specs.declared.input.LinkInput.{LinkInput}
-use Rattle.link_model.specs.declared.symbols.Pick.{Pick}
 use Rattle.link_model.specs.declared.refusals.SymRefusal.{SymRefusal}
 use Rattle.link_model.specs.declared.refusals.LayRefusal.{LayRefusal}
 use Rattle.link_model.specs.declared.refusals.FixRefusal.{FixRefusal}
@@ -20,11 +17,10 @@ use Rattle.link_model.specs.declared.refusals.LinkRefusal.TheVariants.{Sym, Lay,
 use Rattle.link_model.specs.declared.symbols.LaidObject.{LaidObject}
 use Rattle.lx_types.specs.declared.fix.Fix.{Fix}
 use Rattle.link_model.specs.Words.{first_of}
-use Rattle.link_model.specs.Choosing.{Chosen}
-use Rattle.link_model.specs.Link.{Link, IsLinkOf, link_of, exports}
+use Rattle.link_model.specs.Link.{Link, link_of, exports}
 use Rattle.link_model.specs.SymbolRefusals.{sym_refusal}
 use Rattle.link_model.specs.LayoutRefusals.{lay_refusal}
-use Rattle.link_model.specs.Layout.{stack_top, objects}
+use Rattle.link_model.specs.Layout.{stack_top}
 use Rattle.link_model.specs.Exports.{entry_refusal}
 use Rattle.link_model.specs.Refusal.{place_refusal, link_refusal}
 use Rattle.link_model.specs.Header.{auto_data}
@@ -45,9 +41,8 @@ use Rattle.link_fix.specs.declared.placing.Placed.{Placed}
 use Rattle.link_fix.specs.Placing.{ArePlaced}
 use Rattle.link_core.specs.declared.image.LinkTables.{LinkTables}
 use Rattle.link_core.specs.declared.planning.Plan.{Plan}
-use Rattle.link_core.specs.Exports.{exports_of}
-use Rattle.link_core.specs.Parts.{all_pairs, AreTables, HasParts}
-use Rattle.link_core.specs.Planned.{IsPlannedLink, IsPlanned, sym_failed, lay_failed, place_failed, entry_failed}
+use Rattle.link_core.specs.Parts.{AreTables, HasParts}
+use Rattle.link_core.specs.Planned.{IsPlannedLink, IsPlanned}
 use Rattle.link_core.specs.declared.linking.Linked.{Linked}
 use Rattle.link_core.specs.Links.{IsLinked, IsLinkedFile, IsLinkedImage, RefusesLink}
 use Rattle.link_core.proofs.ExportsAre.{pairs-are, AreEntries, entries-of-link, exports-named}

@@ -1,6 +1,6 @@
 -- The automatic data object, by the groups of modules.
 use Rattle.std.specs.Prelude.{◌≡◌, ℕ, zero, suc, ◌+◌, ◌<◌, Bool, true, false, not, ◌&&◌, ◌||◌, List, [], ◌∷◌, ◌++◌, Option, Some, None, map, filter, length, take, slice_get, bytes_eq, is_some, unwrap_or, cond, refl}
-use Rattle.std.specs.List.{find, filter_map, flat_map, list_any, enumerate_from, position, position_or_len, All, AllByRecursion}
+use Rattle.std.specs.List.{find, flat_map, list_any, enumerate_from, position, All, AllByRecursion}
 use Rattle.std.specs.Option.{option_map, option_and_then}
 use Rattle.std.specs.Borrow.{Bor}
 use Rattle.std.specs.Cmp.Lexicographic.{nat_list_eq_equiv}
@@ -12,8 +12,8 @@ use Rattle.std.proofs.lemmas.Slice.Eq.{bytes_eq-Decides}
 use Rattle.obj_types.specs.Items.{item}
 use Rattle.obj_types.specs.declared.object.Group.{Group}
 use Rattle.obj_types.specs.declared.object.ObjModule.{ObjModule}
-use Rattle.link_model.specs.Link.{Link, chosen_module, of_modules}
-use Rattle.link_model.specs.Groups.{FLAT, DGROUP, group_names, members_in, members, is_listed, is_near_bss, has_near, in_group}
+use Rattle.link_model.specs.Link.{Link, chosen_module}
+use Rattle.link_model.specs.Groups.{FLAT, DGROUP, group_names, members_in, is_near_bss, has_near, in_group}
 use Rattle.link_model.specs.Parts.{Part, joins}
 use Rattle.link_model.specs.Communals.{parts}
 use Rattle.link_model.specs.Layout.{object_of}

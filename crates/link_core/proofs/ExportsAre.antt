@@ -1,14 +1,11 @@
 -- The entries of a link's exports are those that the rules of linking give.
-use Rattle.std.specs.Prelude.{◌≡◌, ◌≢◌, ℕ, suc, ◌+◌, ◌≤◌, ◌<◌, Bool, true, false, IsTrue, not, ◌||◌, nat_lt, List, [], ◌∷◌, ◌++◌, Option, Some, None, IsSome, map, length, slice_get, bytes_eq, is_some, unwrap_or, refl}
-use Rattle.std.specs.List.{filter_map, flat_map, cons_option, enumerate_from, zip, position, All, AllByRecursion}
+use Rattle.std.specs.Prelude.{◌≡◌, ◌≢◌, ℕ, suc, ◌+◌, ◌≤◌, ◌<◌, Bool, true, false, IsTrue, not, ◌||◌, nat_lt, List, [], ◌∷◌, ◌++◌, Option, Some, None, IsSome, map, length, slice_get, is_some, refl}
+use Rattle.std.specs.List.{filter_map, flat_map, cons_option, enumerate_from, zip, AllByRecursion}
 use Rattle.std.specs.Option.{option_map, option_and_then, option_map_or}
-use Rattle.std.specs.Cmp.Lexicographic.{nat_list_eq_equiv}
 use Rattle.std.proofs.Common.{ap, sym, ◌∙◌, arith, true≢false, subst}
 use Rattle.std.proofs.lemmas.Bool.Decides.{nat_tests}
 use Rattle.std.proofs.lemmas.List.Elements.{recursion_from_All}
 use Rattle.lx_types.specs.Addresses.{UNIT, is_big}
-use Rattle.lx_types.specs.Names.{uppercase}
-use Rattle.lx_types.specs.Sound.{IsNumberOf}
 use Rattle.lx_types.specs.declared.entry.EntryHead.{EntryHead}
 use Rattle.lx_types.specs.declared.entry.EntryHead.TheVariants as heads
 use Rattle.lx_types.specs.declared.entry.EntryKey.{EntryKey}
@@ -24,23 +21,20 @@ use Rattle.obj_types.specs.Definition.{WholeDef, WholeExport}
 use Rattle.obj_types.specs.Whole.{WholeModule, WholeExp}
 use Rattle.lx_model.specs.ExportTables.{Exported}
 use Rattle.link_model.specs.declared.limits.TheConstants.{MAX_NUMBER}
-use Rattle.link_model.specs.declared.refusals.EntryRefusal.{EntryRefusal}
 use Rattle.link_model.specs.declared.symbols.LaidObject.{LaidObject}
 use Rattle.link_model.specs.declared.symbols.SymDef.{SymDef}
 use Rattle.link_model.specs.declared.symbols.SymDef.TheVariants as means
-use Rattle.link_model.specs.Appearance.{firsts}
 use Rattle.link_model.specs.Words.{first_of}
 use Rattle.link_model.specs.Link.{Link, exports}
 use Rattle.link_model.specs.Symbols.{imports, global}
 use Rattle.link_model.specs.SymbolRefusals.{sym_refusal}
-use Rattle.link_model.specs.Layout.{objects, spot}
+use Rattle.link_model.specs.Layout.{objects}
 use Rattle.link_model.specs.LayoutRefusals.{lay_refusal}
 use Rattle.link_model.specs.Goals.{Target, Internal, Constant, Entry, internal, shifted, of_symbol}
-use Rattle.link_model.specs.Exports.{ExportTarget, At, Forward, Export, export_target, export_of, ordinals, ordinal_at, asked_ordinals, Out, wrong_ordinal, ordinal_past, name_twice, entry_refusal}
+use Rattle.link_model.specs.Exports.{ExportTarget, Forward, Export, export_target, export_of, ordinals, ordinal_at, asked_ordinals, Out, wrong_ordinal, ordinal_past, name_twice, entry_refusal}
 use Rattle.link_model.specs.ImportTables.{used_pairs, link_pairs, forwarded, modules_in, procs_in, proc_name, entry_target, import_target, name_offset, with_offset}
 use Rattle.link_model.specs.NothingDropped.{WholeLink}
-use Rattle.link_model.proofs.Tables.{any-firsts}
-use Rattle.link_model.proofs.Members.{In, here, there, in_left, in_right, in_map, any_in, position_is, all_in}
+use Rattle.link_model.proofs.Members.{In, here, there, in_right}
 use Rattle.link_model.proofs.ExportsStay.{exports_stay}
 use Rattle.image_model.specs.Exported as links
 use Rattle.image_model.specs.Exported.{forwarder_to, head_of}
@@ -53,10 +47,10 @@ use Rattle.seg_merge.specs.declared.places.Places.{Places}
 use Rattle.seg_merge.specs.Places.{ArePlaces}
 use Rattle.link_fix.specs.Fixed.{symbol_at}
 use Rattle.link_bytes.specs.Tables.{pair_among}
-use Rattle.link_core.specs.Exports.{exports_of, lead_in, pair_in, forward_among, head_among, wide_among, entry_with, entry_to, entry_in, entries_in}
+use Rattle.link_core.specs.Exports.{lead_in, pair_in, forward_among, wide_among, entry_with, entry_to, entry_in, entries_in}
 use Rattle.link_core.specs.Parts.{all_pairs}
 use Rattle.link_core.proofs.ObjectsThere.{IsThere}
-use Rattle.link_core.proofs.TargetsThere.{LeadsThere, symbol_there, through, mapped, from_filter_map}
+use Rattle.link_core.proofs.TargetsThere.{LeadsThere, symbol_there, through, mapped}
 use Rattle.link_core.proofs.FewImports.{export_with, few-modules, in-filter_map}
 use Rattle.link_core.proofs.RecordsFit.{AmongPairs, import-among}
 use Rattle.link_model.proofs.RecordsStay.{in_table, pair_there}

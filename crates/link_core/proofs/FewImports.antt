@@ -1,7 +1,7 @@
 -- A link's import tables are no longer than the list of modules that it knows, which the format's numbers count.
-use Rattle.std.specs.Prelude.{◌≡◌, ℕ, suc, ◌+◌, ◌≤◌, ◌<◌, Bool, true, false, cond, not, ◌||◌, nat_lt, List, [], ◌∷◌, ◌++◌, Option, Some, None, map, length, filter, slice_get, bytes_eq, is_some, unwrap_or, refl}
+use Rattle.std.specs.Prelude.{◌≡◌, ℕ, suc, ◌+◌, ◌≤◌, Bool, true, false, cond, not, ◌||◌, nat_lt, List, [], ◌∷◌, Option, Some, None, map, length, filter, slice_get, is_some, unwrap_or, refl}
 use Rattle.std.specs.List.{list_any, filter_map, cons_option, zip, AllPairs, AllByRecursion}
-use Rattle.std.specs.Option.{option_map, option_and_then}
+use Rattle.std.specs.Option.{option_and_then}
 use Rattle.std.specs.Cmp.{IsEquivalence}
 use Rattle.std.specs.Cmp.Lexicographic.{nat_list_eq_equiv}
 use Rattle.std.proofs.Common.{ap, sym, ◌∙◌, arith, true≢false, subst, inl, inr}
@@ -21,12 +21,11 @@ use Rattle.link_model.specs.Symbols.{imports, global}
 use Rattle.link_model.specs.SymbolRefusals.{sym_refusal, twice, missing_external, missing_export, imports_many}
 use Rattle.link_model.specs.Goals.{Target, Internal, Constant, Entry, of_symbol}
 use Rattle.link_model.specs.Fixups.{Fixup}
-use Rattle.link_model.specs.Exports.{ExportTarget, At, Forward, Export, is_resident, is_wide, export_target, export_of, ordinals, asked_ordinals, Out}
+use Rattle.link_model.specs.Exports.{ExportTarget, Forward, Export, is_resident, is_wide, export_target, export_of, ordinals, asked_ordinals, Out}
 use Rattle.link_model.specs.ImportTables.{pair_used, used_pairs, forwarded, link_pairs, proc_name, modules_in, procs_in}
 use Rattle.link_model.specs.Patches.{recorded}
-use Rattle.link_model.proofs.Rules.{rules}
 use Rattle.link_model.proofs.Tables.{any-firsts, firsts-apart}
-use Rattle.link_model.proofs.Members.{In, here, there, in_map, in_left, in_right, in_at, in_either, any_in, all_in, from_map, from_filter}
+use Rattle.link_model.proofs.Members.{In, here, there, in_map, in_left, in_at, in_either, any_in, all_in, from_map, from_filter}
 use Rattle.link_model.proofs.ExternalsMean.{neither}
 use Rattle.link_core.proofs.TargetsThere.{through, mapped, from_filter_map}
 

@@ -1,13 +1,10 @@
 -- The object of each row of a link is there, and its number fits the entry table.
-use Rattle.std.specs.Prelude.{◌≡◌, ℕ, zero, suc, ◌+◌, ◌≤◌, ◌<◌, Bool, true, false, cond, not, ◌||◌, ◌==◌, nat_lt, List, [], ◌∷◌, ◌++◌, Option, Some, None, map, length, take, slice_get, is_some, unwrap_or, refl}
+use Rattle.std.specs.Prelude.{◌≡◌, ℕ, suc, ◌+◌, ◌≤◌, ◌<◌, Bool, true, false, ◌||◌, nat_lt, List, [], ◌∷◌, Option, Some, None, map, length, take, is_some, unwrap_or, refl}
 use Rattle.std.specs.List.{find, list_any, enumerate_from, position_or_len, AllByRecursion}
-use Rattle.std.specs.Option.{option_map, option_and_then, option_map_or, IsSomeAnd}
-use Rattle.std.proofs.Common.{ap, sym, ◌∙◌, arith, true≢false, subst, inl, inr, ◌⊎◌}
-use Rattle.std.proofs.Math.Numerals.{add-one}
-use Rattle.std.proofs.lemmas.Bool.{or_left, or_right, ltb-false}
+use Rattle.std.specs.Option.{option_map, option_map_or}
+use Rattle.std.proofs.Common.{ap, sym, ◌∙◌, arith, true≢false, subst}
+use Rattle.std.proofs.lemmas.Bool.{ltb-false}
 use Rattle.lx_types.specs.Sound.{IsNumberOf}
-use Rattle.obj_types.specs.Items.{item}
-use Rattle.link_model.specs.declared.symbols.LaidObject.{LaidObject}
 use Rattle.link_model.specs.declared.limits.TheConstants.{MAX_MEMORY, MAX_OBJECTS}
 use Rattle.link_model.specs.declared.refusals.LayRefusal.TheVariants.{TooLarge}
 use Rattle.link_model.specs.Words.{first_of}
@@ -15,12 +12,12 @@ use Rattle.link_model.specs.Link.{Link}
 use Rattle.link_model.specs.Parts.{Part}
 use Rattle.link_model.specs.Flags.{flags_of}
 use Rattle.link_model.specs.Order.{ordered, object_key, same_object, object_heads, object_number}
-use Rattle.link_model.specs.Rows.{end_in, Row, row_after, rows_after, rows, stack_row, has_stack}
+use Rattle.link_model.specs.Rows.{end_in, Row, rows, stack_row, has_stack}
 use Rattle.link_model.specs.Layout.{room, placed_from, first_base, objects, stack_top}
 use Rattle.link_model.specs.LayoutRefusals.{lay_refusal, absolute, use_mixed, group_split, too_large, passes_limits, object_limit, size_of_rows}
 use Rattle.link_model.proofs.Rules.{rules}
 use Rattle.link_model.proofs.Tables.{any-firsts}
-use Rattle.link_model.proofs.Members.{In, here, there, any_in, placed, position_is, item_at, found_as}
+use Rattle.link_model.proofs.Members.{In, here, there, any_in, placed, position_is, found_as}
 use Rattle.link_model.proofs.KeyTests.{in_one_object}
 use Rattle.link_model.proofs.RowsStand.{Stands}
 use Rattle.link_model.proofs.ExternalsMean.{neither, not_mapped, none_passes}

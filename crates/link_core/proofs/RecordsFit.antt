@@ -1,10 +1,9 @@
 -- The fixup records of a link can be written, and what they name is there.
-use Rattle.std.specs.Prelude.{◌≡◌, ℕ, ℤ, zero, suc, pos, negsuc, ◌-ℤ◌, ◌+ℤ◌, ◌≤ℤ◌, ◌+◌, ◌-◌, ◌*◌, ◌≤◌, ◌<◌, Bool, true, false, cond, not, ◌&&◌, ◌||◌, ◌==◌, nat_lt, nat_le, List, [], ◌∷◌, Option, Some, None, map, length, filter, slice_get, bytes_eq, is_some, unwrap_or, if◌then◌else◌, refl, ◌⊎◌}
-use Rattle.std.specs.List.{filter_map, cons_option, enumerate_from, position, position_or_len, All, AllPairs, AllByRecursion}
-use Rattle.std.specs.Option.{option_map, option_and_then, option_map_or}
+use Rattle.std.specs.Prelude.{◌≡◌, ℕ, suc, pos, negsuc, ◌-ℤ◌, ◌+ℤ◌, ◌≤ℤ◌, ◌+◌, ◌-◌, ◌*◌, ◌≤◌, ◌<◌, Bool, true, false, cond, not, ◌&&◌, ◌||◌, ◌==◌, nat_lt, List, [], ◌∷◌, Option, Some, None, length, filter, slice_get, bytes_eq, is_some, unwrap_or, if◌then◌else◌, refl, ◌⊎◌}
+use Rattle.std.specs.List.{filter_map, cons_option, enumerate_from, position, All, AllPairs, AllByRecursion}
+use Rattle.std.specs.Option.{option_map, option_and_then}
 use Rattle.std.proofs.Common.{ap, sym, ◌∙◌, arith, true≢false, subst, inl, inr}
 use Rattle.std.proofs.lemmas.Bool.{agree_below_at, cases_lt, ne_eqb, eq-eqb, eqb-true, or_cases, and_parts, ltb-true, ltb-false}
-use Rattle.std.proofs.lemmas.Bool.Decides.{nat_tests}
 use Rattle.std.proofs.lemmas.Int.{ints}
 use Rattle.std.proofs.lemmas.List.Elements.{All-from_recursion, recursion_from_All, filter_passes}
 use Rattle.std.proofs.lemmas.List.Kept.{AllPairs-cons, AllPairs-filter}
@@ -29,7 +28,6 @@ use Rattle.lx_model.specs.RecordSpelling.{OffsetFits, AliasFits}
 use Rattle.link_model.specs.Words.{wrapped}
 use Rattle.link_model.specs.Link.{Link}
 use Rattle.link_model.specs.Symbols.{imports}
-use Rattle.link_model.specs.Layout.{objects}
 use Rattle.link_model.specs.LayoutRefusals.{lay_refusal}
 use Rattle.link_model.specs.Goals.{Target, Internal, Constant, Entry, target_of, location}
 use Rattle.link_model.specs.Fixups.{Fixup, fixup_at, fixup_of, fixups}
@@ -39,7 +37,7 @@ use Rattle.link_model.specs.ImportTables.{used_pairs, link_pairs, modules_in, pr
 use Rattle.link_model.specs.Records.{source_of, has_alias, target_and_additive, offset_on, record_on, stands_on, page_records}
 use Rattle.link_model.specs.NothingDropped.{WholeLink}
 use Rattle.link_model.proofs.Rules.{rules}
-use Rattle.link_model.proofs.Members.{In, here, there, all_in, each_in, from_filter, from_flat_map}
+use Rattle.link_model.proofs.Members.{In, here, there, all_in, from_filter, from_flat_map}
 use Rattle.link_model.proofs.LiveFixups.{live_apart}
 use Rattle.link_model.proofs.LiveMeans.{is_live}
 use Rattle.link_model.proofs.FixupsStay.{module_whole, numbered_module}

@@ -1,11 +1,10 @@
 -- The objects that fixups, exports and the start lead to are there.
-use Rattle.std.specs.Prelude.{◌≡◌, ℕ, zero, suc, ◌+◌, ◌≤◌, ◌<◌, Bool, true, false, cond, nat_lt, List, [], ◌∷◌, Option, Some, None, length, bytes_eq, is_some, unwrap_or, refl}
+use Rattle.std.specs.Prelude.{◌≡◌, ℕ, zero, suc, Bool, true, false, cond, nat_lt, List, [], ◌∷◌, Option, Some, None, length, bytes_eq, is_some, unwrap_or, refl}
 use Rattle.std.specs.List.{find, filter_map, cons_option, enumerate_from}
 use Rattle.std.specs.Option.{option_map, option_and_then, option_map_or}
-use Rattle.std.proofs.Common.{ap, sym, ◌∙◌, arith, true≢false, subst}
+use Rattle.std.proofs.Common.{ap, sym, arith, true≢false, subst}
 use Rattle.lx_types.specs.Sound.{IsNumberOf}
 use Rattle.obj_types.specs.Items.{item}
-use Rattle.obj_types.specs.declared.object.FixAt.{FixAt}
 use Rattle.obj_types.specs.declared.object.StartAt.{StartAt}
 use Rattle.obj_types.specs.declared.object.Goal.{Goal}
 use Rattle.obj_types.specs.declared.object.Goal.TheVariants as goals
@@ -26,7 +25,6 @@ use Rattle.link_model.specs.Symbols.{Sym}
 use Rattle.link_model.specs.Goals.{Target, Internal, Constant, Entry, internal, shifted, of_symbol, group_name, object_of_group, target_of, location}
 use Rattle.link_model.specs.Fixups.{Fixup, fixup_at, fixup_of, fixups}
 use Rattle.link_model.specs.Start.{first_start, in_object, start_place, place_of_start, Start}
-use Rattle.link_model.proofs.Rules.{rules}
 use Rattle.link_model.proofs.Members.{In, here, there, found_as, from_flat_map}
 use Rattle.link_core.proofs.ObjectsThere.{IsThere, row_there}
 

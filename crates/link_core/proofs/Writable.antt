@@ -1,9 +1,9 @@
 -- The image of a link can be written.
-use Rattle.std.specs.Prelude.{◌≡◌, ◌≢◌, ℕ, suc, ◌+◌, ◌≤◌, ◌<◌, ◌^◌, Bool, true, false, List, [], ◌∷◌, Option, Some, None, IfSome, map, length, unwrap_or, refl}
+use Rattle.std.specs.Prelude.{◌≡◌, ◌≢◌, ℕ, ◌+◌, ◌≤◌, ◌<◌, true, List, [], ◌∷◌, Option, Some, None, IfSome, map, length, unwrap_or, refl}
 use Rattle.std.specs.List.{All, AllPairs, AllByRecursion, enumerate_from, range_with_len}
 use Rattle.std.proofs.Common.{ap, sym, ◌∙◌, arith, subst, get_or}
 use Rattle.std.proofs.lemmas.List.{length-map}
-use Rattle.std.proofs.lemmas.List.Elements.{All-map, All-weaker}
+use Rattle.std.proofs.lemmas.List.Elements.{All-map}
 use Rattle.std.proofs.lemmas.List.FromFn.{length-range_with_len}
 use Rattle.lx_types.specs.Sound.{IsNumberOf}
 use Rattle.lx_types.specs.declared.fix.Fix.{Fix}
@@ -12,7 +12,7 @@ use Rattle.lx_types.specs.declared.fix.Source.TheVariants.{Byte, Sel, Far16, Off
 use Rattle.lx_types.specs.declared.fix.FixTarget.{FixTarget}
 use Rattle.lx_types.specs.declared.fix.FixTarget.TheVariants as leads
 use Rattle.obj_types.specs.Definition.{WholeDef}
-use Rattle.link_model.specs.declared.limits.TheConstants.{MAX_NUMBER, MAX_OBJECTS}
+use Rattle.link_model.specs.declared.limits.TheConstants.{MAX_NUMBER}
 use Rattle.link_model.specs.declared.symbols.LaidObject.{LaidObject}
 use Rattle.link_model.specs.Link.{Link}
 use Rattle.link_model.specs.SymbolRefusals.{sym_refusal}
@@ -21,16 +21,15 @@ use Rattle.link_model.specs.LayoutRefusals.{lay_refusal}
 use Rattle.link_model.specs.Start.{Start}
 use Rattle.link_model.specs.Patches.{page_byte, object_bytes}
 use Rattle.link_model.specs.Records.{page_count, page_records, object_records}
-use Rattle.link_model.specs.ImportTables.{link_pairs, modules_in, procs_in}
+use Rattle.link_model.specs.ImportTables.{link_pairs, modules_in}
 use Rattle.link_model.specs.NothingDropped.{WholeLink}
-use Rattle.image_model.specs.Linked.{called}
-use Rattle.lx_fixrec.specs.Writable.{SelectorFits, NumbersFit, IsWritable, AreApart, MayBeWritten}
+use Rattle.lx_fixrec.specs.Writable.{SelectorFits, NumbersFit, IsWritable, MayBeWritten}
 use Rattle.lx_exports.specs.Exports.{ExportFits}
 use Rattle.lx_write.specs.declared.image.Image.{Image}
 use Rattle.lx_write.specs.LinkImages.{IsImageOfLink}
 use Rattle.lx_write.specs.Value.{TargetIsThere, CanBeWritten}
 use Rattle.link_core.specs.Ranges.{TargetHasRange, HasRange}
-use Rattle.link_core.proofs.ObjectsThere.{IsThere, stack_there}
+use Rattle.link_core.proofs.ObjectsThere.{stack_there}
 use Rattle.link_core.proofs.TargetsThere.{start_there}
 use Rattle.link_core.proofs.FewImports.{few-modules}
 use Rattle.link_core.proofs.RecordsFit.{is_sel, NamesThere, offset_in_target, RecordFits, Apart, page-fits, page-apart}

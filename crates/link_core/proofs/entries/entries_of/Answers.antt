@@ -1,9 +1,8 @@
-use Rattle.std.proofs.Common.{◌≡◌, ◌∙◌, ◌++◌, ap, map, take, List, []}
+use Rattle.std.proofs.Common.{◌≡◌, ◌∙◌, ◌++◌, ap, List, []}
 use Rattle.std.specs.Prelude.{option_to_list}
-use Rattle.obj_types.specs.declared.symbol.Imp.{Imp}
 use Rattle.link_model.specs.ImportTables.{procs_in}
 use Rattle.lx_exports.specs.declared.exports.OutEntry.{OutEntry}
-use Rattle.link_core.specs.Exports.{offsets_of, entry_in, entries_in}
+use Rattle.link_core.specs.Exports.{offsets_of, entry_in}
 use Rattle.link_core.proofs.Steps.{picked-more, offsets-are}
 use Rattle.link_core.proofs.entries.entries_of.Goals as goal
 

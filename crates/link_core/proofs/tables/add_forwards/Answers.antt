@@ -1,5 +1,4 @@
-use Rattle.std.proofs.Common.{map, take, List, subst}
-use Rattle.std.specs.List.{filter_map}
+use Rattle.std.proofs.Common.{List, subst}
 use Rattle.obj_types.specs.declared.symbol.Imp.{Imp}
 use Rattle.link_bytes.specs.Tables.{ArePairs}
 use Rattle.link_core.specs.Exports.{pair_in}

@@ -1,4 +1,4 @@
-use Rattle.std.proofs.Common.{◌∙◌, ap, sym, subst}
+use Rattle.std.proofs.Common.{sym, subst}
 use Rattle.link_bytes.specs.declared.tables.ImportTables.{ImportTables}
 use Rattle.link_bytes.specs.Tables.{ArePairs}
 use Rattle.link_core.proofs.Steps.{pairs-begin}
