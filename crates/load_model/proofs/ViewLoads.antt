@@ -1,5 +1,5 @@
 -- A view behind a load of its own.
-use Rattle.std.proofs.Common.{◌≡◌, ℕ, ◌++◌, ◌==◌, ◌&&◌, ◌||◌, Bool, true, false, if◌then◌else◌, List, [], ◌∷◌, length, filter, find, Option, Some, None, option_map, is_some, refl, sym, ◌∙◌, ap, subst}
+use Rattle.std.proofs.Common.{◌≡◌, ℕ, ◌++◌, ◌==◌, ◌||◌, true, if◌then◌else◌, List, [], ◌∷◌, length, filter, find, Option, Some, None, option_map, is_some, refl, sym, ◌∙◌, ap, subst}
 use Rattle.std.specs.Prelude.{is_none, nat_lt}
 use Rattle.std.specs.List.{AllByRecursion}
 use Rattle.std.proofs.lemmas.Bool.{eq-eqb}
@@ -11,7 +11,6 @@ use Rattle.load_model.specs.declared.deeds.How.{How}
 use Rattle.load_model.specs.declared.deeds.How.TheVariants.{Start, Load}
 use Rattle.load_model.specs.declared.deeds.Call.{Call}
 use Rattle.load_model.specs.declared.deeds.Fresh.{Fresh}
-use Rattle.load_model.specs.declared.deeds.Deed.{Deed}
 use Rattle.load_model.specs.declared.deeds.Deed.TheVariants as deeds
 use Rattle.load_model.specs.declared.deeds.Entry.{Entry}
 use Rattle.load_model.specs.Modules.{Library, Held, module_count, order_of, object_at}
@@ -20,9 +19,9 @@ use Rattle.load_model.specs.Entering.{joined, holding, attaching, after_entering
 use Rattle.load_model.specs.Memory.{last_put, writes_of_class, writes_seen, bases_seen, Byte}
 use Rattle.load_model.specs.Refusals.{enter_refusal}
 use Rattle.load_model.specs.Asks.{ask_in, may_ask, is_own, after_deed}
-use Rattle.load_model.specs.Histories.{after_entry, state_after, has_fault, Follows, Legal}
-use Rattle.load_model.specs.Rows.{Row, IsRowOf}
-use Rattle.load_model.specs.Standing.{Mapped, Holding, mapped_pages, stay_at, fresh_of, lying_byte, IsMapped, is_covered, IsViewOf, WasFixed, StandsFor}
+use Rattle.load_model.specs.Histories.{state_after, Legal}
+use Rattle.load_model.specs.Rows.{Row}
+use Rattle.load_model.specs.Standing.{Mapped, Holding, mapped_pages, stay_at, fresh_of, lying_byte, IsMapped, is_covered, WasFixed}
 use Rattle.load_model.specs.ViewLaws.{StandsEntered}
 use Rattle.load_model.proofs.Bools.{and_right, or_true}
 use Rattle.load_model.proofs.Orders.{OrdersNest}

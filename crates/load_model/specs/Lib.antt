@@ -30,3 +30,4 @@ pub mod ViewLaws
 pub mod Outcomes
 pub mod Bounds
 pub mod FailedLoads
+pub mod WorkedViews

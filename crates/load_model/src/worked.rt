@@ -7,6 +7,7 @@ ghost use Rattle.load_model.specs.WorkedCycles.{WorkedCycles};
 ghost use Rattle.load_model.specs.WorkedFailures.{WorkedFailures};
 ghost use Rattle.load_model.specs.WorkedDebug.{WorkedDebug};
 ghost use Rattle.load_model.specs.WorkedResources.{WorkedResources};
+ghost use Rattle.load_model.specs.WorkedViews.{WorkedViews};
 ghost use Rattle.load_model.specs.WorkedRefusals.{WorkedLoadRefusals, WorkedPlaceRefusals, WorkedQueries};
 
 /// A diamond of imports: what is new at each load, in which order it is initialised, and what leaves.
@@ -62,4 +63,9 @@ pub fn code_is_written()
 /// Resources that a module has, and one that it has not.
 pub fn resources_are_asked()
     ensures { WorkedResources }
+{}
+
+/// What a process's own view refuses and replies, before and behind a write of its own.
+pub fn views_are_worked()
+    ensures { WorkedViews }
 {}
