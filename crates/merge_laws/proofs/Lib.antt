@@ -1,3 +1,6 @@
 pub mod Alike
 pub mod Seen
 pub mod Whole
+pub mod Growing
+pub mod Leading
+pub mod Steps

@@ -37,13 +37,17 @@ AllOwn P pid items = AllItems (Only P pid) items
 
 -- ---- what it says
 
--- The process's account of the commands that it has carried out. Its fronts do not fall, and pass no entry that is
--- not there; its entries and lines, its faults left out, are the commands one for one; what it does next behind a fault
--- is the touch that made it; before its touches stand the faults of what they cover; each entry and each line of its
--- own is what the loader answers at its place, by the pages that it touched itself.
-pub record Account (lib : Library) (failing : Failing) (contents : Held) (pid : ℕ) (h : List Entry) (lines : List Line) (done : List Command) : Type 0 where
+-- The process's account of the commands that it has carried out, by what is asked of a fault. Its fronts do not fall,
+-- and pass no entry that is not there; its entries and lines, its faults left out, are the commands one for one; before
+-- its touches stand the faults of what they cover; each entry and each line of its own is what the loader answers at
+-- its place, by the pages that it touched itself.
+pub record AccountBy (Fault : List Item → Item → List Item → Type 0) (lib : Library) (failing : Failing) (contents : Held) (pid : ℕ) (h : List Entry) (lines : List Line) (done : List Command) : Type 0 where
   pub fronts : FrontsFrom 0 (length h) lines
   pub commands : AreFor lib (filter (is_command_of pid) (own_items pid h lines)) done
-  pub faults : AllOwn (FaultLeads lib failing) pid (own_items pid h lines)
+  pub faults : AllOwn Fault pid (own_items pid h lines)
   pub touches : AllOwn (TouchFollows lib failing) pid (own_items pid h lines)
   pub replies : AllOwn (Replies lib failing contents) pid (own_items pid h lines)
+
+-- Between commands what it does next behind each of its faults is the touch that made it.
+abbrev pub Account : Library → Failing → Held → ℕ → List Entry → List Line → List Command → Type 0
+Account lib failing contents pid h lines done = AccountBy (FaultLeads lib failing) lib failing contents pid h lines done

@@ -3,4 +3,4 @@
 
 mod laws;
 
-pub use laws::accounts_merge;
+pub use laws::{account_goes_on, account_grows, accounts_merge, touch_grows};
