@@ -20,6 +20,7 @@ use Rattle.load_model.proofs.Touched.{named_apart, answered_by_pages, entries_mo
 use Rattle.session_model.specs.declared.sessions.Line.{Line}
 use Rattle.session_model.specs.Merging.{Item, entry, line, after_item, state_behind}
 use Rattle.session_model.specs.MergeLaws.{touched_in}
+use Rattle.merge_laws.specs.OwnStates.{pages_at}
 
 -- what a process can see of items: the entries, and its own lines
 abbrev pub keeps : ℕ → Item → Bool
@@ -59,15 +60,11 @@ deed_alike lib pid q d e f s = record {
 
 -- ---- lines
 
--- the pages of a place in a residence
-abbrev pages_at : ℕ → Place → List PageOf
-pages_at serial at = map (λ n. record { serial = serial; page = page at.object n }) (pages_over at.offset at.len)
-
 -- what is touched behind an accepted touch
-abbrev touched_more : ℕ → ℕ → Place → (ℕ → List PageOf) → ℕ → List PageOf
+abbrev pub touched_more : ℕ → ℕ → Place → (ℕ → List PageOf) → ℕ → List PageOf
 touched_more pid serial at touched q = if q == pid then touched q ++ pages_at serial at else touched q
 
-touch_moves : (lib : Library) (e : Eager) (touched : ℕ → List PageOf) (pid : ℕ) (at : Place) →
+pub touch_moves : (lib : Library) (e : Eager) (touched : ℕ → List PageOf) (pid : ℕ) (at : Place) →
     after_touch lib (retouched touched e) pid at ≡ retouched (touched_more pid (serial_named lib e pid at) at touched) e
 unfolding with_process
 touch_moves lib e touched pid at =

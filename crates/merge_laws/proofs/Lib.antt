@@ -4,3 +4,5 @@ pub mod Whole
 pub mod Growing
 pub mod Leading
 pub mod Steps
+pub mod OwnStates
+pub mod Views

@@ -1,3 +1,4 @@
 pub mod Accounts
 pub mod MidTouch
 pub mod AccountLaws
+pub mod OwnStates

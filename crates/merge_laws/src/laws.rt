@@ -1,6 +1,7 @@
 //! What accounts say. Each law is the contract of a function that does nothing, which a crate above calls where
 //! it needs the law.
 
+ghost use Rattle.merge_laws.specs.OwnStates.{OwnItemsHaveHistory, OwnStateIsTheHistorys, FollowingReplies, NothingTouched, TouchedBehindEntry, TouchedBehindLine, TouchedDecides, ViewRefuses, ViewReplies, TouchFollowsFaults};
 ghost use Rattle.merge_laws.specs.AccountLaws.{AccountsMerge, AccountBegins, OthersEntryStays, OwnEntryAdds, OwnLineAdds, TouchBegins, TouchWaits, TouchFaults, TouchEnds, AccountGoesOn};
 
 /// What all processes say of themselves over one history is a merge of it, for every library, whichever
@@ -31,3 +32,30 @@ pub fn touch_grows()
 pub fn account_goes_on()
     ensures { AccountGoesOn }
 {}
+
+/// The state that a process accounts by is the history's but for touched pages: so what follows the history is
+/// answered there, and a touch follows where the history has fixed what it covers.
+pub fn own_states_are_the_historys()
+    ensures items { OwnItemsHaveHistory }
+    ensures state { OwnStateIsTheHistorys }
+    ensures replies { FollowingReplies }
+    ensures faults { TouchFollowsFaults }
+{}
+
+/// Which pages a process has touched: none at first, then by its entries and its lines; and they alone decide what its
+/// own state has beyond the history's.
+pub fn touched_pages_are_followed()
+    ensures nothing { NothingTouched }
+    ensures entries { TouchedBehindEntry }
+    ensures lines { TouchedBehindLine }
+    ensures decide { TouchedDecides }
+{}
+
+/// A view that stands for the history, and has mapped what its process touched, refuses and replies what the process
+/// has to account for.
+pub fn views_account()
+    ensures refusals { ViewRefuses }
+    ensures replies { ViewReplies }
+{
+    load_model::views_answer();
+}

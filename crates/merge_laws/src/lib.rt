@@ -3,4 +3,7 @@
 
 mod laws;
 
-pub use laws::{account_goes_on, account_grows, accounts_merge, touch_grows};
+pub use laws::{
+    account_goes_on, account_grows, accounts_merge, own_states_are_the_historys, touch_grows,
+    touched_pages_are_followed, views_account,
+};
