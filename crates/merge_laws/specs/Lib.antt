@@ -2,3 +2,4 @@ pub mod Accounts
 pub mod MidTouch
 pub mod AccountLaws
 pub mod OwnStates
+pub mod WorkedAccounts

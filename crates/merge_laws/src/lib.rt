@@ -2,6 +2,7 @@
 #![tactic(auto)]
 
 mod laws;
+mod worked;
 
 pub use laws::{
     account_goes_on, account_grows, accounts_merge, own_states_are_the_historys, touch_grows,
