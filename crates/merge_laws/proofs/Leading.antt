@@ -12,7 +12,7 @@ use Rattle.load_model.specs.State.{Failing, Eager}
 use Rattle.session_model.specs.declared.sessions.Line.{Line}
 use Rattle.session_model.specs.Merging.{Item, entry, line, is_command_of, is_fault, FaultLeads, fault_leads, some_touches, state_behind}
 use Rattle.merge_laws.specs.Accounts.{Only}
-use Rattle.merge_laws.specs.MidTouch.{IsFaultFor, LeadsOrWaits}
+use Rattle.merge_laws.specs.MidTouch.{touch_line, IsFaultFor, LeadsOrWaits}
 
 -- ---- the first command behind a fault
 
@@ -82,9 +82,6 @@ still_waits lib failing k at z plain b (entry y) bh h mine =
     (h mine)
 
 -- ---- the touch that they wait for
-
-abbrev pub touch_line : ℕ → Place → Line
-touch_line front at = record { front = front; command = commands.Touch at; reply = replies.Fine }
 
 led : (lib : Library) (e : Eager) (k front : ℕ) (at : Place) (d : Deed) (behind : List Item) → find (is_command_of k) behind ≡ None → IsFaultFor lib e k at d →
     IsTrue (fault_leads lib e k d (behind ++ line k (touch_line front at) ∷ []))

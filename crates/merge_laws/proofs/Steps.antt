@@ -10,10 +10,10 @@ use Rattle.load_model.specs.State.{Failing}
 use Rattle.session_model.specs.declared.sessions.Line.{Line}
 use Rattle.session_model.specs.Merging.{Item, entry, line, FrontsFrom, AllPlaces, AreFor, IsFor, is_command_of, is_fault, FaultLeads, TouchFollows, Replies}
 use Rattle.merge_laws.specs.Accounts.{own_items, own_state, is_of, Only, AccountBy}
-use Rattle.merge_laws.specs.MidTouch.{IsFaultFor, LeadsOrWaits}
+use Rattle.merge_laws.specs.MidTouch.{touch_line, IsFaultFor, LeadsOrWaits}
 use Rattle.merge_laws.specs.AccountLaws.{AccountBegins, OthersEntryStays, OwnEntryAdds, OwnLineAdds, TouchBegins, TouchWaits, TouchFaults, TouchEnds, AccountGoesOn}
 use Rattle.merge_laws.proofs.Growing.{items_entry, items_line, places_end}
-use Rattle.merge_laws.proofs.Leading.{no_fault, is_a_fault, still_leads, leads_or_waits, still_waits, touch_line, now_leads}
+use Rattle.merge_laws.proofs.Leading.{no_fault, is_a_fault, still_leads, leads_or_waits, still_waits, now_leads}
 
 -- ---- fronts and commands
 

@@ -15,7 +15,7 @@ use Rattle.session_model.specs.declared.sessions.Script.{Script}
 use Rattle.session_model.specs.declared.sessions.ScriptLines.{ScriptLines}
 use Rattle.session_model.specs.Merging.{AsksFor, is_fault, touch_follows, EntryReplies, numbers_of, Merge}
 use Rattle.merge_laws.specs.Accounts.{own_items, own_state, Account}
-use Rattle.merge_laws.specs.MidTouch.{IsFaultFor, AccountInTouch}
+use Rattle.merge_laws.specs.MidTouch.{touch_line, IsFaultFor, AccountInTouch}
 
 -- ---- of all processes
 
@@ -82,7 +82,7 @@ TouchEnds =
     (lib : Library) (failing : Failing) (contents : Held) (pid : ℕ) (at : Place) (h : List Entry) (lines : List Line) (done : List Command) →
     IsTrue (touch_follows lib failing (own_items pid h lines) pid (Touch at) Fine) → answer_of lib contents (own_state lib failing pid h lines) pid (Touch at) ≡ steady Fine →
     AccountInTouch lib failing contents pid at h lines done →
-    Account lib failing contents pid h (lines ++ record { front = length h; command = Touch at; reply = Fine } ∷ []) (done ++ Touch at ∷ [])
+    Account lib failing contents pid h (lines ++ touch_line (length h) at ∷ []) (done ++ Touch at ∷ [])
 
 -- ---- a history that goes on without the process
 

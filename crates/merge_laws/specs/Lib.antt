@@ -2,4 +2,5 @@ pub mod Accounts
 pub mod MidTouch
 pub mod AccountLaws
 pub mod OwnStates
+pub mod ViewAccounts
 pub mod WorkedAccounts

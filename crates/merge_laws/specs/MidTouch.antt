@@ -13,6 +13,10 @@ use Rattle.session_model.specs.declared.sessions.Line.{Line}
 use Rattle.session_model.specs.Merging.{Item, entry, line, is_command_of, fault_leads, is_first_touch, state_behind}
 use Rattle.merge_laws.specs.Accounts.{AccountBy}
 
+-- the line of an accepted touch
+abbrev pub touch_line : ℕ → Place → Line
+touch_line front at = record { front = front; command = commands.Touch at; reply = replies.Fine }
+
 -- the deed is the fault of a page that the touch of this place would cover for the first time
 abbrev pub IsFaultFor : Library → Eager → ℕ → Place → Deed → Type 0
 IsFaultFor lib e pid at (deeds.Fault serial m p) = IsTrue (is_first_touch lib e pid serial p (commands.Touch at) replies.Fine)

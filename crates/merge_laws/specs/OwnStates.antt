@@ -6,7 +6,6 @@ use Rattle.lx_types.specs.Object.{class_of}
 use Rattle.load_model.specs.declared.commands.Place.{Place}
 use Rattle.load_model.specs.declared.commands.Command.{Command}
 use Rattle.load_model.specs.declared.commands.Command.TheVariants as commands
-use Rattle.load_model.specs.declared.commands.Refusal.{Refusal}
 use Rattle.load_model.specs.declared.commands.Reply.{Reply}
 use Rattle.load_model.specs.declared.commands.Reply.TheVariants as replies
 use Rattle.load_model.specs.declared.deeds.Deed.{Deed}
@@ -16,12 +15,11 @@ use Rattle.load_model.specs.State.{PageOf, Residence, Failing, Eager}
 use Rattle.load_model.specs.Memory.{page, pages_over}
 use Rattle.load_model.specs.Refusals.{residence_named, refusal_of}
 use Rattle.load_model.specs.Asks.{is_own}
-use Rattle.load_model.specs.Step.{steady, answer_of, serial_named}
-use Rattle.load_model.specs.Histories.{state_after, has_fault, Follows, Legal}
+use Rattle.load_model.specs.Step.{answer_of, serial_named}
+use Rattle.load_model.specs.Histories.{state_after, has_fault, Follows}
 use Rattle.load_model.specs.Accepted.{retouched}
 use Rattle.load_model.specs.Touched.{SamePages, touched_behind}
-use Rattle.load_model.specs.Standing.{Holding, new_holding, mapped_pages, StandsFor, state_for}
-use Rattle.load_model.specs.ViewAnswers.{view_refusal, view_reply}
+use Rattle.load_model.specs.Standing.{new_holding, mapped_pages}
 use Rattle.session_model.specs.declared.sessions.Line.{Line}
 use Rattle.session_model.specs.Merging.{FrontsFrom, is_first_touch, touch_follows, uses_touched, EntryReplies}
 use Rattle.session_model.specs.MergeLaws.{entries_in, touched_in}
@@ -92,22 +90,6 @@ abbrev pub TouchedDecides : Type 0
 TouchedDecides =
     (lib : Library) (failing : Failing) (contents : Held) (pid : ℕ) (h : List Entry) (lines : List Line) (pages : List PageOf) → HasTouched lib failing pid h lines pages →
     SameByPages lib failing contents pid h lines pages
-
--- ---- views
-
--- A view that stands for the history, and has mapped what its process touched, refuses and replies what the process has
--- to account for.
-abbrev pub ViewRefuses : Type 0
-ViewRefuses =
-    (lib : Library) (failing : Failing) (contents : Held) (v : Holding) (h : List Entry) (lines : List Line) (command : Command) (refusal : Refusal) →
-    StandsFor lib failing contents v h → HasTouched lib failing v.pid h lines (mapped_pages v) → view_refusal lib v command ≡ Some refusal →
-    answer_of lib contents (own_state lib failing v.pid h lines) v.pid command ≡ steady (replies.Refused refusal)
-
-abbrev pub ViewReplies : Type 0
-ViewReplies =
-    (lib : Library) (failing : Failing) (contents : Held) (v : Holding) (h : List Entry) (lines : List Line) (command : Command) (reply : Reply) → Legal lib failing contents h →
-    StandsFor lib failing contents v h → HasTouched lib failing v.pid h lines (mapped_pages v) → view_refusal lib v command ≡ None → view_reply lib v command ≡ Some reply →
-    answer_of lib contents (own_state lib failing v.pid h lines) v.pid command ≡ steady reply
 
 -- ---- faults before a touch
 

@@ -1,7 +1,8 @@
 //! What accounts say. Each law is the contract of a function that does nothing, which a crate above calls where
 //! it needs the law.
 
-ghost use Rattle.merge_laws.specs.OwnStates.{OwnItemsHaveHistory, OwnStateIsTheHistorys, FollowingReplies, NothingTouched, TouchedBehindEntry, TouchedBehindLine, TouchedDecides, ViewRefuses, ViewReplies, TouchFollowsFaults};
+ghost use Rattle.merge_laws.specs.OwnStates.{OwnItemsHaveHistory, OwnStateIsTheHistorys, FollowingReplies, NothingTouched, TouchedBehindEntry, TouchedBehindLine, TouchedDecides, TouchFollowsFaults};
+ghost use Rattle.merge_laws.specs.ViewAccounts.{ViewRefuses, ViewReplies, TouchAccepted, TouchFixed, FaultForTouch, TouchMapped, WrittenMapped};
 ghost use Rattle.merge_laws.specs.AccountLaws.{AccountsMerge, AccountBegins, OthersEntryStays, OwnEntryAdds, OwnLineAdds, TouchBegins, TouchWaits, TouchFaults, TouchEnds, AccountGoesOn};
 
 /// What all processes say of themselves over one history is a merge of it, for every library, whichever
@@ -56,6 +57,19 @@ pub fn touched_pages_are_followed()
 pub fn views_account()
     ensures refusals { ViewRefuses }
     ensures replies { ViewReplies }
+{
+    load_model::views_answer();
+}
+
+/// A touch by a view: one that it does not refuse is accepted; where its pages are mapped, they had their faults; each
+/// fault that the process makes of a page that it had not touched is one for the touch; and behind the line it has
+/// touched what the view has mapped. A write maps no page more.
+pub fn views_touch()
+    ensures accepted { TouchAccepted }
+    ensures fixed { TouchFixed }
+    ensures faults { FaultForTouch }
+    ensures mapped { TouchMapped }
+    ensures written { WrittenMapped }
 {
     load_model::views_answer();
 }

@@ -6,5 +6,5 @@ mod worked;
 
 pub use laws::{
     account_goes_on, account_grows, accounts_merge, own_states_are_the_historys, touch_grows,
-    touched_pages_are_followed, views_account,
+    touched_pages_are_followed, views_account, views_touch,
 };
