@@ -4,3 +4,4 @@ pub mod AccountLaws
 pub mod OwnStates
 pub mod ViewAccounts
 pub mod WorkedAccounts
+pub mod WorkedViews
