@@ -1,5 +1,5 @@
 -- States that one process cannot tell apart: they differ in what others touched.
-use Rattle.std.proofs.Common.{◌≡◌, ℕ, ◌==◌, Bool, true, false, if◌then◌else◌, List, [], ◌∷◌, ◌++◌, map, filter, fold, refl, sym, ◌∙◌, ap, subst, eqb-true, eq-eqb, ne_eqb, true≢false}
+use Rattle.std.proofs.Common.{◌≡◌, ℕ, ◌==◌, Bool, true, false, if◌then◌else◌, List, [], ◌∷◌, ◌++◌, filter, fold, refl, sym, ◌∙◌, ap, subst, eqb-true, eq-eqb, ne_eqb, true≢false}
 use Rattle.load_model.specs.declared.commands.Place.{Place}
 use Rattle.load_model.specs.declared.commands.Command.{Command}
 use Rattle.load_model.specs.declared.commands.Command.TheVariants as commands
@@ -10,7 +10,7 @@ use Rattle.load_model.specs.declared.deeds.Deed.TheVariants as deeds
 use Rattle.load_model.specs.Modules.{Library, Held}
 use Rattle.load_model.specs.State.{PageOf, Failing, Eager, nothing_yet, with_process, serial_of}
 use Rattle.load_model.specs.Leaving.{freeing, exiting}
-use Rattle.load_model.specs.Memory.{page, pages_over, touching}
+use Rattle.load_model.specs.Memory.{touching}
 use Rattle.load_model.specs.Refusals.{residence_named}
 use Rattle.load_model.specs.Asks.{after_deed}
 use Rattle.load_model.specs.Step.{serial_named, answer_of, after_touch, after_steady}

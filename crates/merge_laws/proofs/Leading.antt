@@ -1,15 +1,11 @@
 -- Faults that lead to their touch, or wait for it, with one item more behind them.
-use Rattle.std.proofs.Common.{◌≡◌, ◌⊎◌, ℕ, ◌==◌, ◌&&◌, Bool, true, false, not, if◌then◌else◌, List, [], ◌∷◌, ◌++◌, find, Option, Some, None, IsTrue, inl, inr, ⊎_elim, refl, sym, ap, subst, eq-eqb, eqb-true, true≢false}
+use Rattle.std.proofs.Common.{◌≡◌, ℕ, Bool, true, false, if◌then◌else◌, List, [], ◌∷◌, ◌++◌, find, Some, None, IsTrue, inl, inr, ⊎_elim, refl, sym, ap, subst, eq-eqb, eqb-true, true≢false}
 use Rattle.load_model.specs.declared.commands.Place.{Place}
-use Rattle.load_model.specs.declared.commands.Command.TheVariants as commands
-use Rattle.load_model.specs.declared.commands.Reply.TheVariants as replies
 use Rattle.load_model.specs.declared.deeds.Deed.{Deed}
 use Rattle.load_model.specs.declared.deeds.Deed.TheVariants as deeds
-use Rattle.load_model.specs.declared.deeds.Entry.{Entry}
 use Rattle.lx_types.specs.declared.object.PageId.{PageId}
 use Rattle.load_model.specs.Modules.{Library}
 use Rattle.load_model.specs.State.{Failing, Eager}
-use Rattle.session_model.specs.declared.sessions.Line.{Line}
 use Rattle.session_model.specs.Merging.{Item, entry, line, is_command_of, is_fault, FaultLeads, fault_leads, some_touches, state_behind}
 use Rattle.merge_laws.specs.Accounts.{Only}
 use Rattle.merge_laws.specs.MidTouch.{touch_line, IsFaultFor, LeadsOrWaits}

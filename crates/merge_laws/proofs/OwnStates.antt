@@ -1,5 +1,5 @@
 -- A process's own state is the history's, but for touched pages, and which those are.
-use Rattle.std.proofs.Common.{◌≡◌, ℕ, ◌+◌, ◌==◌, ◌&&◌, ◌||◌, Bool, true, false, not, if◌then◌else◌, List, [], ◌∷◌, ◌++◌, length, map, filter, flat_map, fold, Option, Some, None, refl, sym, ◌∙◌, ap, subst, IsTrue, eqb-true, eq-eqb}
+use Rattle.std.proofs.Common.{◌≡◌, ℕ, ◌+◌, ◌==◌, ◌&&◌, ◌||◌, Bool, true, false, not, if◌then◌else◌, List, [], ◌∷◌, ◌++◌, map, filter, flat_map, Option, Some, None, refl, sym, ◌∙◌, ap, subst, IsTrue, eqb-true, eq-eqb}
 use Rattle.std.specs.List.{enumerate_from, list_any, list_all}
 use Rattle.std.proofs.lemmas.List.Folds.{list_any-append}
 use Rattle.std.proofs.lemmas.List.Sums.{fold-append}
@@ -9,13 +9,12 @@ use Rattle.lx_types.specs.Object.{class_of}
 use Rattle.load_model.specs.declared.commands.Place.{Place}
 use Rattle.load_model.specs.declared.commands.Command.{Command}
 use Rattle.load_model.specs.declared.commands.Command.TheVariants as commands
-use Rattle.load_model.specs.declared.commands.Refusal.{Refusal}
 use Rattle.load_model.specs.declared.commands.Reply.{Reply}
 use Rattle.load_model.specs.declared.commands.Reply.TheVariants as replies
 use Rattle.load_model.specs.declared.deeds.Deed.{Deed}
 use Rattle.load_model.specs.declared.deeds.Deed.TheVariants as deeds
 use Rattle.load_model.specs.declared.deeds.Entry.{Entry}
-use Rattle.load_model.specs.Modules.{Library, Held, object_at}
+use Rattle.load_model.specs.Modules.{Library, object_at}
 use Rattle.load_model.specs.State.{PageOf, Process, Residence, Failing, Eager, is_among, nothing_yet, serial_of}
 use Rattle.load_model.specs.Leaving.{freeing, exiting, left_serials}
 use Rattle.load_model.specs.Memory.{is_page, page, pages_over}
@@ -34,7 +33,7 @@ use Rattle.session_model.specs.MergeLaws.{entries_in, touched_in}
 use Rattle.session_model.proofs.MergeStates.{entries_append, states_are_the_historys}
 use Rattle.session_model.proofs.UsedPages.{uses_by_pages}
 use Rattle.merge_laws.specs.Accounts.{lines_behind, own_items, own_state}
-use Rattle.merge_laws.specs.OwnStates.{OwnItemsHaveHistory, OwnStateIsTheHistorys, FollowingReplies, HasTouched, pages_at, pages_behind_line, NothingTouched, TouchedBehindEntry, TouchedBehindLine, state_with, TouchedDecides, is_fixed, are_fixed, TouchFollowsFaults}
+use Rattle.merge_laws.specs.OwnStates.{OwnItemsHaveHistory, OwnStateIsTheHistorys, FollowingReplies, pages_at, pages_behind_line, NothingTouched, TouchedBehindEntry, TouchedBehindLine, TouchedDecides, are_fixed, TouchFollowsFaults}
 use Rattle.merge_laws.proofs.Alike.{touch_moves}
 use Rattle.merge_laws.proofs.Growing.{items_entry, items_line}
 

@@ -13,15 +13,14 @@ use Rattle.load_model.specs.declared.deeds.Deed.{Deed}
 use Rattle.load_model.specs.declared.deeds.Deed.TheVariants as deeds
 use Rattle.load_model.specs.declared.deeds.Entry.{Entry}
 use Rattle.load_model.specs.Modules.{Library, Held, object_at}
-use Rattle.load_model.specs.State.{PageOf, Failing, Eager, Residence, serial_of, is_among}
+use Rattle.load_model.specs.State.{Failing, Eager, Residence, serial_of, is_among}
 use Rattle.load_model.specs.Memory.{page, pages_over}
 use Rattle.load_model.specs.Refusals.{residence_named}
 use Rattle.load_model.specs.Asks.{ask_in, deed_of, may_ask, is_own}
-use Rattle.load_model.specs.Accepted.{retouched}
 use Rattle.load_model.specs.Touched.{has_page}
 use Rattle.load_model.proofs.Retouched.{touched_is_apart}
 use Rattle.session_model.specs.declared.sessions.Line.{Line}
-use Rattle.session_model.specs.Merging.{Item, entry, line, state_behind, AllPlaces, is_command_of, is_fault, FaultLeads, TouchFollows, Replies, EntryReplies, fault_leads, some_touches, touches, is_first_touch, touch_follows, had_faults, had_fault, is_fault_item, uses_touched}
+use Rattle.session_model.specs.Merging.{Item, entry, line, state_behind, AllPlaces, is_command_of, FaultLeads, TouchFollows, Replies, EntryReplies, fault_leads, some_touches, touches, is_first_touch, touch_follows, had_faults, is_fault_item, uses_touched}
 use Rattle.session_model.specs.MergeLaws.{touched_in}
 use Rattle.session_model.proofs.UsedPages.{uses_by_pages}
 use Rattle.merge_laws.specs.Accounts.{is_of, Only}

@@ -1,29 +1,26 @@
 -- What a view refuses and replies is what its process has to account for.
-use Rattle.std.proofs.Common.{◌≡◌, ℕ, ◌==◌, ◌&&◌, ◌||◌, Bool, true, false, not, if◌then◌else◌, List, [], ◌∷◌, ◌++◌, length, map, Option, Some, None, option_map, IsTrue, refl, sym, ◌∙◌, ap, subst, eqb-true, eq-eqb}
+use Rattle.std.proofs.Common.{◌≡◌, ℕ, ◌==◌, ◌&&◌, ◌||◌, Bool, true, false, not, if◌then◌else◌, List, [], ◌∷◌, ◌++◌, length, map, Option, Some, None, option_map, refl, sym, ◌∙◌, ap, subst, eqb-true, eq-eqb}
 use Rattle.std.specs.List.{AllByRecursion, list_all}
 use Rattle.std.proofs.lemmas.List.Folds.{list_any-append}
 use Rattle.lx_types.specs.declared.object.PageId.{PageId}
-use Rattle.lx_types.specs.declared.object.Class.{Class}
 use Rattle.lx_types.specs.Object.{class_of}
 use Rattle.load_model.specs.declared.commands.Place.{Place}
-use Rattle.load_model.specs.declared.commands.Command.{Command}
 use Rattle.load_model.specs.declared.commands.Command.TheVariants as commands
-use Rattle.load_model.specs.declared.commands.Refusal.{Refusal}
 use Rattle.load_model.specs.declared.commands.Refusal.TheVariants.{Ended}
 use Rattle.load_model.specs.declared.commands.Reply.TheVariants as replies
 use Rattle.load_model.specs.declared.deeds.Fresh.{Fresh}
 use Rattle.load_model.specs.declared.deeds.Entry.{Entry}
 use Rattle.load_model.specs.Modules.{Library, Held, object_at}
-use Rattle.load_model.specs.State.{PageOf, Written, Residence, Failing, Eager, is_among, serial_of, attached_residence}
+use Rattle.load_model.specs.State.{PageOf, Residence, Failing, Eager, is_among, serial_of, attached_residence}
 use Rattle.load_model.specs.Memory.{is_page, page, pages_over}
 use Rattle.load_model.specs.Refusals.{when, ◌orelse◌, touch, residence_refusal, residence_if, residence_named, place_refusal, refusal_of}
 use Rattle.load_model.specs.Asks.{is_own}
-use Rattle.load_model.specs.Step.{Answer, steady, fine_answer, answer_of, serial_named}
+use Rattle.load_model.specs.Step.{steady, fine_answer, answer_of, serial_named}
 use Rattle.load_model.specs.Histories.{state_after, has_fault}
 use Rattle.load_model.specs.Accepted.{retouched}
 use Rattle.load_model.specs.Touched.{has_page, SamePages}
 use Rattle.load_model.specs.Laws.{stay_of}
-use Rattle.load_model.specs.Standing.{Mapped, Holding, fresh_of, mapped_pages, stay_at, WasFixed, StandsFor, state_for}
+use Rattle.load_model.specs.Standing.{Mapped, Holding, fresh_of, mapped_pages, stay_at, WasFixed, StandsFor}
 use Rattle.load_model.specs.ViewAnswers.{stay_named, seen_process, view_refusal}
 use Rattle.load_model.specs.ViewLaws.{over_page, written_over, RefusedByView, AnsweredByView}
 use Rattle.load_model.proofs.Answers.{answer_by, answer_is}

@@ -1,5 +1,5 @@
 -- The merge of all, from what each process can say.
-use Rattle.std.proofs.Common.{◌≡◌, ℕ, zero, suc, ◌+◌, ◌<◌, ◌≤◌, ◌==◌, Bool, true, false, if◌then◌else◌, List, [], ◌∷◌, ◌++◌, length, map, filter, flat_map, Some, slice_get, refl, sym, ◌∙◌, ap, subst, ◌-◌, arith, eqb-true, ne_eqb, eq-eqb, append-nil}
+use Rattle.std.proofs.Common.{◌≡◌, ℕ, zero, suc, ◌+◌, ◌<◌, ◌≤◌, ◌==◌, true, false, if◌then◌else◌, List, [], ◌∷◌, ◌++◌, length, map, filter, flat_map, Some, slice_get, refl, sym, ◌∙◌, ap, subst, ◌-◌, arith, ne_eqb, eq-eqb, append-nil}
 use Rattle.std.specs.List.{enumerate_from, AllByRecursion}
 use Rattle.std.proofs.lemmas.List.Elements.{filter-append}
 use Rattle.load_model.specs.declared.commands.Command.{Command}
@@ -9,8 +9,8 @@ use Rattle.load_model.specs.State.{Failing}
 use Rattle.session_model.specs.declared.sessions.Line.{Line}
 use Rattle.session_model.specs.declared.sessions.Script.{Script}
 use Rattle.session_model.specs.declared.sessions.ScriptLines.{ScriptLines}
-use Rattle.session_model.specs.Merging.{Item, entry, line, lines_of, lines_at, merge_of, FrontsFrom, FrontsRise, AreFor, CommandsOf, AllCommands, is_command_of, FaultLeads, TouchFollows, Replies, AllItems, AllPlaces, numbers_of, Merge}
-use Rattle.merge_laws.specs.Accounts.{is_of, Only, lines_behind, own_items, Account}
+use Rattle.session_model.specs.Merging.{Item, entry, line, lines_of, lines_at, merge_of, FrontsFrom, FrontsRise, AreFor, CommandsOf, is_command_of, FaultLeads, TouchFollows, Replies, AllPlaces, numbers_of}
+use Rattle.merge_laws.specs.Accounts.{Only, lines_behind, own_items, Account}
 use Rattle.merge_laws.specs.AccountLaws.{AccountsMerge}
 use Rattle.merge_laws.proofs.Alike.{keeps, seen_by}
 use Rattle.merge_laws.proofs.Seen.{transfers, commands_kept, replies_up, faults_up, touches_up, AllOf, gathers}

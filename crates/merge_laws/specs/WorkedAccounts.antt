@@ -1,5 +1,5 @@
 -- Worked values: what two processes say of themselves, line by line, and in the midst of a touch.
-use Rattle.std.specs.Prelude.{◌≡◌, ℕ, List, [], ◌∷◌, ◌++◌, codes}
+use Rattle.std.specs.Prelude.{ℕ, List, [], ◌∷◌, codes}
 use Rattle.load_model.specs.declared.commands.Command.{Command}
 use Rattle.load_model.specs.declared.commands.Command.TheVariants as commands
 use Rattle.load_model.specs.declared.commands.Place.{Place}
@@ -12,7 +12,7 @@ use Rattle.load_model.specs.Modules.{Library}
 use Rattle.load_model.specs.State.{PageOf}
 use Rattle.load_model.specs.Histories.{Legal}
 use Rattle.load_model.specs.Memory.{page}
-use Rattle.load_model.specs.Samples.{code, object, library, zeros, fresh, gone, place}
+use Rattle.load_model.specs.Samples.{code, object, library, zeros, fresh, place}
 use Rattle.session_model.specs.declared.sessions.Line.{Line}
 use Rattle.session_model.specs.declared.sessions.Script.{Script}
 use Rattle.session_model.specs.declared.sessions.ScriptLines.{ScriptLines}

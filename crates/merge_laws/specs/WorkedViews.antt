@@ -9,9 +9,8 @@ use Rattle.load_model.specs.Memory.{page}
 use Rattle.load_model.specs.Samples.{zeros, fresh}
 use Rattle.load_model.specs.Step.{steady, answer_of}
 use Rattle.load_model.specs.Standing.{Mapped, Holding, mapped_pages, StandsFor}
-use Rattle.session_model.specs.Merging.{touch_follows}
 use Rattle.session_model.specs.WorkedRuns.{entry_of}
-use Rattle.merge_laws.specs.Accounts.{own_items, own_state, Account}
+use Rattle.merge_laws.specs.Accounts.{own_state, Account}
 use Rattle.merge_laws.specs.OwnStates.{HasTouched}
 use Rattle.merge_laws.specs.WorkedAccounts.{E, at_E, load_new, load_again, fault_by, whole, loads, in_touch, touched_whole, touched_commands}
 

@@ -1,4 +1,4 @@
-use Rattle.std.proofs.Common.{◌≡◌, ◌≢◌, [], ◌∷◌, true, false, true≢false, inl, inr, refl, sym}
+use Rattle.std.proofs.Common.{[], ◌∷◌, true≢false, refl, sym}
 use Rattle.load_model.specs.Modules.{bases_for, Order, visit, HealthOf, Entry, followed, Res, number_of, is_library, start_of, inits_each, terms_each, order_of, unfit, entry_spot, resource_of, objects_of, object_at, is_invalid}
 use Rattle.base_pick.specs.Places.{places_from}
 use Rattle.load_model.specs.State.{with_process, reaches, is_reached, residence_of, attached_residence}
@@ -18,7 +18,7 @@ use Rattle.session_model.specs.WorkedRuns.{entry_of}
 use Rattle.load_model.specs.declared.deeds.Deed.TheVariants.{Free}
 use Rattle.merge_laws.specs.Accounts.{own_items, Account}
 use Rattle.merge_laws.specs.MidTouch.{AccountInTouch}
-use Rattle.merge_laws.specs.WorkedAccounts.{E, at_E, load_new, load_again, fault_by, whole, loads, load_first, in_touch, touched_whole, touched_commands}
+use Rattle.merge_laws.specs.WorkedAccounts.{E, load_new, load_again, fault_by, whole, loads, load_first, in_touch, touched_whole, touched_commands}
 use Rattle.merge_laws.proofs.Steps.{account_begins, others_entry_stays, own_entry_adds, touch_begins, touch_waits, touch_faults, touch_ends, account_goes_on}
 use Rattle.merge_laws.proofs.worked.touch_is_told.Goals as goal
 

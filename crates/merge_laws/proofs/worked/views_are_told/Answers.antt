@@ -1,4 +1,4 @@
-use Rattle.std.proofs.Common.{◌≡◌, ◌<◌, ℕ, zero, suc, ◌==◌, ◌||◌, Bool, if◌then◌else◌, codes, List, Some, None, slice_index, option_map, [], ◌∷◌, true, false, refl, sym, ◌∙◌, ap, arith}
+use Rattle.std.proofs.Common.{◌≡◌, ◌<◌, ℕ, zero, suc, ◌==◌, ◌||◌, Bool, if◌then◌else◌, codes, List, Some, None, slice_index, option_map, [], ◌∷◌, true, false, refl, arith}
 use Rattle.load_model.specs.Modules.{bases_for, Order, visit, HealthOf, Entry, followed, Res, number_of, is_library, start_of, inits_each, terms_each, order_of, unfit, entry_spot, resource_of, objects_of, object_at, is_invalid}
 use Rattle.base_pick.specs.Places.{places_from}
 use Rattle.load_model.specs.Rows.{reach_count}
@@ -11,7 +11,6 @@ use Rattle.load_model.specs.Refusals.{module_refusal, enter_refusal, span_refusa
 use Rattle.load_model.specs.Asks.{deed_of, may_ask, after_deed}
 use Rattle.load_model.specs.Step.{address_of, fine_answer, answer_of, after_steady, Step}
 use Rattle.load_model.specs.Histories.{state_after, has_fault, Follows, Legal}
-use Rattle.lx_types.specs.Object.{class_of}
 use Rattle.load_model.specs.declared.commands.Command.TheVariants as commands
 use Rattle.load_model.specs.declared.commands.Refusal.TheVariants as why
 use Rattle.load_model.specs.declared.commands.Reply.TheVariants as replies
@@ -26,7 +25,7 @@ use Rattle.merge_laws.specs.Accounts.{own_items, Account}
 use Rattle.merge_laws.specs.MidTouch.{AccountInTouch}
 use Rattle.merge_laws.specs.OwnStates.{HasTouched}
 use Rattle.merge_laws.specs.WorkedAccounts.{E, at_E, load_new, load_again, fault_by, whole, loads, load_first, in_touch, touched_whole, touched_commands}
-use Rattle.merge_laws.specs.WorkedViews.{behind_load, mapped_at, at_end, and_leaves}
+use Rattle.merge_laws.specs.WorkedViews.{behind_load, mapped_at, at_end}
 use Rattle.merge_laws.proofs.worked.views_are_told.Goals as goal
 
 one_module : (P : ℕ → Type 0) → P 0 → (m : ℕ) → m < 1 → P m
