@@ -1,5 +1,5 @@
 -- A process's own state is the history's, but for touched pages, and which those are.
-use Rattle.std.proofs.Common.{◌≡◌, ℕ, ◌+◌, ◌==◌, ◌&&◌, ◌||◌, Bool, true, false, not, if◌then◌else◌, List, [], ◌∷◌, ◌++◌, map, filter, flat_map, Option, Some, None, refl, sym, ◌∙◌, ap, subst, IsTrue, eqb-true, eq-eqb}
+use Rattle.std.proofs.Common.{length, ◌≤◌, arith, append_assoc, append-nil, length-append, ◌≡◌, ℕ, ◌+◌, ◌==◌, ◌&&◌, ◌||◌, Bool, true, false, not, if◌then◌else◌, List, [], ◌∷◌, ◌++◌, map, filter, flat_map, Option, Some, None, refl, sym, ◌∙◌, ap, subst, IsTrue, eqb-true, eq-eqb}
 use Rattle.std.specs.List.{enumerate_from, list_any, list_all}
 use Rattle.std.proofs.lemmas.List.Folds.{list_any-append}
 use Rattle.std.proofs.lemmas.List.Sums.{fold-append}
@@ -33,8 +33,9 @@ use Rattle.session_model.specs.MergeLaws.{entries_in, touched_in}
 use Rattle.session_model.proofs.MergeStates.{entries_append, states_are_the_historys}
 use Rattle.session_model.proofs.UsedPages.{uses_by_pages}
 use Rattle.merge_laws.specs.Accounts.{lines_behind, own_items, own_state}
-use Rattle.merge_laws.specs.OwnStates.{OwnItemsHaveHistory, OwnStateIsTheHistorys, FollowingReplies, pages_at, pages_behind_line, NothingTouched, TouchedBehindEntry, TouchedBehindLine, TouchedDecides, are_fixed, TouchFollowsFaults}
+use Rattle.merge_laws.specs.OwnStates.{HasTouched, OwnItemsHaveHistory, OwnStateIsTheHistorys, FollowingReplies, pages_at, pages_behind_line, NothingTouched, TouchedBehindEntry, TouchedBehindLine, TouchedGoesOn, TouchedDecides, are_fixed, TouchFollowsFaults}
 use Rattle.merge_laws.proofs.Alike.{touch_moves}
+use Rattle.merge_laws.proofs.Steps.{higher}
 use Rattle.merge_laws.proofs.Growing.{items_entry, items_line}
 
 -- ---- the state
@@ -124,6 +125,29 @@ touched_behind_entry lib failing pid h lines pages x rise has =
     in
     subst (λ (g : Eager). SamePages (touched_in g pid) (touched_behind lib (state_after lib failing h) x.pid x.deed (λ q. pages) pid)) (sym next)
     (behind_alike lib (state_after lib failing h) x.pid x.deed (touched_in own) (λ q. pages) pid has)
+
+-- an entry of another leaves the pages
+behind_other : (lib : Library) (e : Eager) (q : ℕ) (d : Deed) (pages : List PageOf) (pid : ℕ) → (pid == q) ≡ false → touched_behind lib e q d (λ n. pages) pid ≡ pages
+behind_other lib e q (deeds.Free m calls gone) pages pid apart = ap (λ b. if b then pages_kept lib e (freeing m (e.processes q)) pages else pages) apart
+behind_other lib e q (deeds.Exit calls gone) pages pid apart = ap (λ b. if b then pages_kept lib e (exiting (e.processes q)) pages else pages) apart
+behind_other lib e q (deeds.Enter how m fresh calls) pages pid apart = refl
+behind_other lib e q (deeds.Full how m of object size) pages pid apart = refl
+behind_other lib e q (deeds.Failed how m by fresh calls gone) pages pid apart = refl
+behind_other lib e q (deeds.Fault serial m p) pages pid apart = refl
+behind_other lib e q (deeds.Write serial m object offset bytes) pages pid apart = refl
+behind_other lib e q (deeds.Debug serial m object offset bytes) pages pid apart = refl
+behind_other lib e q (deeds.Shared serial m object offset bytes) pages pid apart = refl
+
+pub touched_goes_on : TouchedGoesOn
+touched_goes_on lib failing pid h [] lines pages rise others has = subst (λ l. HasTouched lib failing pid l lines pages) (sym (append-nil h)) has
+touched_goes_on lib failing pid h (x ∷ more) lines pages rise others has =
+    let behind : HasTouched lib failing pid (h ++ x ∷ []) lines pages =
+    subst (λ l. HasTouched lib failing pid (h ++ x ∷ []) lines l) (behind_other lib (state_after lib failing h) x.pid x.deed pages pid others.0)
+    (touched_behind_entry lib failing pid h lines pages x rise has)
+    in
+    let high : length h ≤ length (h ++ x ∷ []) = omega (arith, length-append h (x ∷ [])) in
+    subst (λ l. HasTouched lib failing pid l lines pages) (append_assoc h (x ∷ []) more)
+    (touched_goes_on lib failing pid (h ++ x ∷ []) more lines pages (higher 0 (length h) (length (h ++ x ∷ [])) lines high rise) others.1 behind)
 
 -- what an accepted touch adds is added alike
 more_alike : (a b more : List PageOf) → SamePages a b → SamePages (a ++ more) (b ++ more)

@@ -9,13 +9,13 @@ use Rattle.session_model.specs.declared.sessions.Line.{Line}
 use Rattle.session_model.specs.Merging.{Item, entry, line, FrontsFrom, AllPlaces, AreFor, IsFor, is_command_of, is_fault, FaultLeads, TouchFollows, Replies}
 use Rattle.merge_laws.specs.Accounts.{own_items, own_state, is_of, Only, AccountBy}
 use Rattle.merge_laws.specs.MidTouch.{touch_line, IsFaultFor, LeadsOrWaits}
-use Rattle.merge_laws.specs.AccountLaws.{AccountBegins, OthersEntryStays, OwnEntryAdds, OwnLineAdds, TouchBegins, TouchWaits, TouchFaults, TouchEnds, AccountGoesOn}
+use Rattle.merge_laws.specs.AccountLaws.{AccountBegins, OthersEntryStays, OwnEntryAdds, OwnLineAdds, TouchBegins, TouchWaits, TouchFaults, TouchEnds, AccountGoesOn, TouchGoesOn}
 use Rattle.merge_laws.proofs.Growing.{items_entry, items_line, places_end}
 use Rattle.merge_laws.proofs.Leading.{no_fault, is_a_fault, still_leads, leads_or_waits, still_waits, now_leads}
 
 -- ---- fronts and commands
 
-higher : (low high more : ℕ) (lines : List Line) → high ≤ more → FrontsFrom low high lines → FrontsFrom low more lines
+pub higher : (low high more : ℕ) (lines : List Line) → high ≤ more → FrontsFrom low high lines → FrontsFrom low more lines
 higher low high more [] le rise = tt
 higher low high more (l ∷ lines) le rise = let most : l.front ≤ high = rise.1 in (rise.0, omega arith, higher l.front high more lines le rise.2)
 
@@ -156,3 +156,9 @@ account_goes_on lib failing contents k h [] lines cs others own = subst (λ l. A
 account_goes_on lib failing contents k h (x ∷ more) lines cs others own =
     subst (λ l. AccountBy (FaultLeads lib failing) lib failing contents k l lines cs) (append_assoc h (x ∷ []) more)
     (account_goes_on lib failing contents k (h ++ x ∷ []) more lines cs others.1 (others_entry_stays lib failing contents k h lines cs x others.0 own))
+
+pub touch_goes_on : TouchGoesOn
+touch_goes_on lib failing contents k at h [] lines cs others own = subst (λ l. AccountBy (LeadsOrWaits lib failing at) lib failing contents k l lines cs) (sym (append-nil h)) own
+touch_goes_on lib failing contents k at h (x ∷ more) lines cs others own =
+    subst (λ l. AccountBy (LeadsOrWaits lib failing at) lib failing contents k l lines cs) (append_assoc h (x ∷ []) more)
+    (touch_goes_on lib failing contents k at (h ++ x ∷ []) more lines cs others.1 (touch_waits lib failing contents k at h lines cs x others.0 own))

@@ -1,6 +1,7 @@
 -- The merge of all, from what each process can say.
 use Rattle.std.proofs.Common.{◌≡◌, ℕ, zero, suc, ◌+◌, ◌<◌, ◌≤◌, ◌==◌, true, false, if◌then◌else◌, List, [], ◌∷◌, ◌++◌, length, map, filter, flat_map, Some, slice_get, refl, sym, ◌∙◌, ap, subst, ◌-◌, arith, ne_eqb, eq-eqb, append-nil}
 use Rattle.std.specs.List.{enumerate_from, AllByRecursion}
+use Rattle.std.proofs.lemmas.List.{length-map}
 use Rattle.std.proofs.lemmas.List.Elements.{filter-append}
 use Rattle.load_model.specs.declared.commands.Command.{Command}
 use Rattle.load_model.specs.declared.deeds.Entry.{Entry}
@@ -135,12 +136,8 @@ merge_is_of n h s len all = append_of n (lines_at s 0) _ (at_are_of n 1 0 s (ome
 
 -- ---- the theorem
 
-as_long : {A : Type 0} (f : A → ℕ) (xs : List A) → length (map f xs) ≡ length xs
-as_long f [] = refl
-as_long f (x ∷ xs) = ap suc (as_long f xs)
-
 length_numbers : (s : List ScriptLines) (scripts : List Script) → numbers_of s ≡ map (λ script. script.pid) scripts → length s ≡ length scripts
-length_numbers s scripts e = sym (as_long (λ (x : ScriptLines). x.pid) s) ∙ (ap length e ∙ as_long (λ (c : Script). c.pid) scripts)
+length_numbers s scripts e = sym (length-map s (λ lines. lines.pid)) ∙ (ap length e ∙ length-map scripts (λ script. script.pid))
 
 pub accounts_merge : AccountsMerge
 accounts_merge lib failing contents h s scripts numbers entries each =

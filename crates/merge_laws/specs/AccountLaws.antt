@@ -91,3 +91,9 @@ abbrev pub AccountGoesOn : Type 0
 AccountGoesOn =
     (lib : Library) (failing : Failing) (contents : Held) (pid : ℕ) (h more : List Entry) (lines : List Line) (done : List Command) →
     AllByRecursion (λ (x : Entry). (pid == x.pid) ≡ false) more → Account lib failing contents pid h lines done → Account lib failing contents pid (h ++ more) lines done
+
+-- So does one that is touching a place.
+abbrev pub TouchGoesOn : Type 0
+TouchGoesOn =
+    (lib : Library) (failing : Failing) (contents : Held) (pid : ℕ) (at : Place) (h more : List Entry) (lines : List Line) (done : List Command) →
+    AllByRecursion (λ (x : Entry). (pid == x.pid) ≡ false) more → AccountInTouch lib failing contents pid at h lines done → AccountInTouch lib failing contents pid at (h ++ more) lines done

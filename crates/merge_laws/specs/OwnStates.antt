@@ -1,6 +1,6 @@
 -- The state that a process accounts by: it is the history's but for touched pages, and those are followed page by page.
-use Rattle.std.specs.Prelude.{◌≡◌, ℕ, ◌||◌, Bool, false, List, [], ◌∷◌, ◌++◌, length, map, Option, Some, None, IsTrue}
-use Rattle.std.specs.List.{list_all}
+use Rattle.std.specs.Prelude.{◌≡◌, ℕ, ◌==◌, ◌||◌, Bool, false, List, [], ◌∷◌, ◌++◌, length, map, Option, Some, None, IsTrue}
+use Rattle.std.specs.List.{AllByRecursion, list_all}
 use Rattle.lx_types.specs.declared.object.PageId.{PageId}
 use Rattle.lx_types.specs.Object.{class_of}
 use Rattle.load_model.specs.declared.commands.Place.{Place}
@@ -71,6 +71,12 @@ abbrev pub TouchedBehindLine : Type 0
 TouchedBehindLine =
     (lib : Library) (failing : Failing) (pid : ℕ) (h : List Entry) (lines : List Line) (pages : List PageOf) (l : Line) → l.front ≡ length h →
     HasTouched lib failing pid h lines pages → HasTouched lib failing pid h (lines ++ l ∷ []) (pages_behind_line lib (state_after lib failing h) pid l.command l.reply pages)
+
+-- While others go on it touches none.
+abbrev pub TouchedGoesOn : Type 0
+TouchedGoesOn =
+    (lib : Library) (failing : Failing) (pid : ℕ) (h more : List Entry) (lines : List Line) (pages : List PageOf) → FrontsFrom 0 (length h) lines →
+    AllByRecursion (λ (x : Entry). (pid == x.pid) ≡ false) more → HasTouched lib failing pid h lines pages → HasTouched lib failing pid (h ++ more) lines pages
 
 -- ---- what such pages decide
 

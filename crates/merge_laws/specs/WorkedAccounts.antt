@@ -6,7 +6,7 @@ use Rattle.load_model.specs.declared.commands.Place.{Place}
 use Rattle.load_model.specs.declared.commands.Reply.TheVariants as replies
 use Rattle.load_model.specs.declared.commands.Refusal.TheVariants as why
 use Rattle.load_model.specs.declared.deeds.How.TheVariants as ways
-use Rattle.load_model.specs.declared.deeds.Deed.TheVariants.{Enter, Free, Fault}
+use Rattle.load_model.specs.declared.deeds.Deed.TheVariants.{Enter, Free, Fault, Debug}
 use Rattle.load_model.specs.declared.deeds.Entry.{Entry}
 use Rattle.load_model.specs.Modules.{Library}
 use Rattle.load_model.specs.State.{PageOf}
@@ -105,6 +105,16 @@ and_freed = load_new ∷ load_again ∷ fault_by 1 0 ∷ fault_by 2 1 ∷ fault_
 abbrev pub three_pages : List PageOf
 three_pages = record { serial = 1; page = page 1 0 } ∷ record { serial = 1; page = page 1 1 } ∷ record { serial = 1; page = page 1 2 } ∷ []
 
+-- the first process sets a break in a page that it has touched
+abbrev pub break_by : ℕ → Entry
+break_by pid = entry_of pid (Debug 1 0 1 0 (0xCC ∷ []))
+
+abbrev pub and_broken : List Entry
+and_broken = load_new ∷ load_again ∷ fault_by 1 0 ∷ fault_by 2 1 ∷ fault_by 1 2 ∷ break_by 1 ∷ []
+
+abbrev pub broken_commands : List Command
+broken_commands = commands.Load (codes "E") ∷ commands.Touch whole ∷ commands.Debug (at_E 0 1) (0xCC ∷ []) ∷ []
+
 pub record WorkedTouch : Type 0 where
   pub legal : Legal E [] zeros and_freed
   pub loaded : Account E [] zeros 1 loads [] load_first
@@ -112,7 +122,10 @@ pub record WorkedTouch : Type 0 where
   pub waiting : AccountInTouch E [] zeros 1 whole in_touch [] load_first
   pub ended : Account E [] zeros 1 in_touch touched_whole touched_commands
   pub stays : Account E [] zeros 1 and_freed touched_whole touched_commands
+  pub broken : Account E [] zeros 1 and_broken touched_whole broken_commands
   pub touched : HasTouched E [] 1 and_freed touched_whole three_pages
   -- in its midst it is no account between commands; and behind it a page that it covers is touched no more for the first time
   pub midst : Account E [] zeros 1 in_touch [] load_first → ⊥
   pub again : IsFaultFor E (own_state E [] 1 in_touch touched_whole) 1 whole (Fault 1 0 (page 1 0)) → ⊥
+  -- nor is a write to code one, of pages that the process has not touched
+  pub unbroken : Account E [] zeros 1 (load_new ∷ break_by 1 ∷ []) [] (commands.Load (codes "E") ∷ commands.Debug (at_E 0 1) (0xCC ∷ []) ∷ []) → ⊥

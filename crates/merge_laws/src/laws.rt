@@ -1,9 +1,9 @@
 //! What accounts say. Each law is the contract of a function that does nothing, which a crate above calls where
 //! it needs the law.
 
-ghost use Rattle.merge_laws.specs.OwnStates.{OwnItemsHaveHistory, OwnStateIsTheHistorys, FollowingReplies, NothingTouched, TouchedBehindEntry, TouchedBehindLine, TouchedDecides, TouchFollowsFaults};
+ghost use Rattle.merge_laws.specs.OwnStates.{OwnItemsHaveHistory, OwnStateIsTheHistorys, FollowingReplies, NothingTouched, TouchedBehindEntry, TouchedBehindLine, TouchedGoesOn, TouchedDecides, TouchFollowsFaults};
 ghost use Rattle.merge_laws.specs.ViewAccounts.{ViewRefuses, ViewReplies, TouchAccepted, TouchFixed, FaultForTouch, TouchMapped, WrittenMapped};
-ghost use Rattle.merge_laws.specs.AccountLaws.{AccountsMerge, AccountBegins, OthersEntryStays, OwnEntryAdds, OwnLineAdds, TouchBegins, TouchWaits, TouchFaults, TouchEnds, AccountGoesOn};
+ghost use Rattle.merge_laws.specs.AccountLaws.{AccountsMerge, AccountBegins, OthersEntryStays, OwnEntryAdds, OwnLineAdds, TouchBegins, TouchWaits, TouchFaults, TouchEnds, AccountGoesOn, TouchGoesOn};
 
 /// What all processes say of themselves over one history is a merge of it, for every library, whichever
 /// initialisations fail and whatever objects hold.
@@ -29,9 +29,12 @@ pub fn touch_grows()
     ensures ends { TouchEnds }
 {}
 
-/// Over a history that goes on without the process, what it said of a prefix it says of the whole.
+/// Over a history that goes on without the process, what it said of a prefix it says of the whole, also in the midst of
+/// a touch; and it touches no page meanwhile.
 pub fn account_goes_on()
-    ensures { AccountGoesOn }
+    ensures account { AccountGoesOn }
+    ensures midst { TouchGoesOn }
+    ensures touched { TouchedGoesOn }
 {}
 
 /// The state that a process accounts by is the history's but for touched pages: so what follows the history is

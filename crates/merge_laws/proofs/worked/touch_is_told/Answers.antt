@@ -18,7 +18,7 @@ use Rattle.session_model.specs.WorkedRuns.{entry_of}
 use Rattle.load_model.specs.declared.deeds.Deed.TheVariants.{Free}
 use Rattle.merge_laws.specs.Accounts.{own_items, Account}
 use Rattle.merge_laws.specs.MidTouch.{AccountInTouch}
-use Rattle.merge_laws.specs.WorkedAccounts.{E, load_new, load_again, fault_by, whole, loads, load_first, in_touch, touched_whole, touched_commands}
+use Rattle.merge_laws.specs.WorkedAccounts.{E, load_new, load_again, fault_by, whole, loads, load_first, in_touch, touched_whole, touched_commands, break_by, at_E}
 use Rattle.merge_laws.proofs.Steps.{account_begins, others_entry_stays, own_entry_adds, touch_begins, touch_waits, touch_faults, touch_ends, account_goes_on}
 use Rattle.merge_laws.proofs.worked.touch_is_told.Goals as goal
 
@@ -48,7 +48,9 @@ returns c =
       waiting = waiting;
       ended = ended;
       stays = account_goes_on E [] zeros 1 in_touch (entry_of 2 (Free 0 [] []) ∷ []) touched_whole touched_commands (refl, tt) ended;
+      broken = own_entry_adds E [] zeros 1 in_touch touched_whole touched_commands (break_by 1) (commands.Debug (at_E 0 1) (0xCC ∷ [])) refl refl (0, 1, refl, refl) (record { may = refl; done = refl; touched = refl }) ended;
       touched = λ serial q. refl;
       midst = λ a. true≢false (sym (a.faults.1.1.0 refl));
       again = λ is. true≢false (sym is);
+      unbroken = λ a. true≢false (sym (a.replies.1.0 refl).touched);
     }
