@@ -39,7 +39,8 @@ pub record SameFor (pid : ℕ) (e f : Eager) : Type 0 where
 -- ---- entries
 
 -- what it touched behind an entry follows from what it touched before
-behind_by_own : (lib : Library) (e : Eager) (q : ℕ) (d : Deed) (a b : ℕ → List PageOf) (pid : ℕ) → a pid ≡ b pid → touched_behind lib e q d a pid ≡ touched_behind lib e q d b pid
+behind_by_own : (lib : Library) (e : Eager) (q : ℕ) (d : Deed) (a b : ℕ → List PageOf) (pid : ℕ) → a pid ≡ b pid →
+    touched_behind lib e q d a pid ≡ touched_behind lib e q d b pid
 behind_by_own lib e q (deeds.Free m calls gone) a b pid same = ap (λ ts. if pid == q then pages_kept lib e (freeing m (e.processes q)) ts else ts) same
 behind_by_own lib e q (deeds.Exit calls gone) a b pid same = ap (λ ts. if pid == q then pages_kept lib e (exiting (e.processes q)) ts else ts) same
 behind_by_own lib e q (deeds.Enter how m fresh calls) a b pid same = same
@@ -116,12 +117,14 @@ line_step lib pid q l items e f s on true is =
 line_step lib pid q l items e f s on false is = on e (after_steady lib f q l.command l.reply) (line_other lib pid q e f l.command l.reply (flip q pid is) s)
 
 -- along items, what the process can see of them takes it to a state that it cannot tell apart
-items_alike : (lib : Library) (pid : ℕ) (items : List Item) (e f : Eager) → SameFor pid e f → SameFor pid (fold (after_item lib) e (seen_by pid items)) (fold (after_item lib) f items)
+items_alike : (lib : Library) (pid : ℕ) (items : List Item) (e f : Eager) → SameFor pid e f →
+    SameFor pid (fold (after_item lib) e (seen_by pid items)) (fold (after_item lib) f items)
 items_alike lib pid [] e f s = s
 items_alike lib pid (entry x ∷ items) e f s = items_alike lib pid items (after_deed lib e x.pid x.deed) (after_deed lib f x.pid x.deed) (deed_alike lib pid x.pid x.deed e f s)
 items_alike lib pid (line q l ∷ items) e f s = line_step lib pid q l items e f s (λ a b t. items_alike lib pid items a b t) (q == pid) refl
 
-pub states_alike : (lib : Library) (failing : Failing) (pid : ℕ) (items : List Item) → SameFor pid (state_behind lib failing (seen_by pid items)) (state_behind lib failing items)
+pub states_alike : (lib : Library) (failing : Failing) (pid : ℕ) (items : List Item) →
+    SameFor pid (state_behind lib failing (seen_by pid items)) (state_behind lib failing items)
 unfolding state_behind
 states_alike lib failing pid items =
     items_alike lib pid items (nothing_yet failing) (nothing_yet failing) (record { touched = λ q. []; own = refl; is = refl })
@@ -131,7 +134,8 @@ states_alike lib failing pid items =
 pub same_pages : (a b : List PageOf) → a ≡ b → SamePages a b
 same_pages a b same serial q = ap (λ ts. has_page ts serial q) same
 
-pub answer_alike : (lib : Library) (contents : Held) (pid : ℕ) (e f : Eager) (c : Command) → SameFor pid e f → answer_of lib contents f pid c ≡ answer_of lib contents e pid c
+pub answer_alike : (lib : Library) (contents : Held) (pid : ℕ) (e f : Eager) (c : Command) → SameFor pid e f →
+    answer_of lib contents f pid c ≡ answer_of lib contents e pid c
 answer_alike lib contents pid e f c s =
     ap (λ g. answer_of lib contents g pid c) s.is ∙ (answered_by_pages lib contents e s.touched (touched_in e) pid c (same_pages (s.touched pid) (touched_in e pid) s.own)).1
 

@@ -16,14 +16,16 @@ none_at low high front (l ∷ lines) rise over =
     ap (λ b. if b then l ∷ filter (λ (x : Line). x.front == front) lines else filter (λ (x : Line). x.front == front) lines) (ne_eqb l.front front (λ e. omega arith))
     ∙ none_at l.front high front lines rise.2 over
 
-flat_end : {A : Type 0} (f : ℕ × A → List Item) (n : ℕ) (xs : List A) (x : A) → flat_map f (enumerate_from n (xs ++ x ∷ [])) ≡ flat_map f (enumerate_from n xs) ++ f (n + length xs, x)
+flat_end : {A : Type 0} (f : ℕ × A → List Item) (n : ℕ) (xs : List A) (x : A) →
+    flat_map f (enumerate_from n (xs ++ x ∷ [])) ≡ flat_map f (enumerate_from n xs) ++ f (n + length xs, x)
 flat_end f n [] x = append-nil (f (n, x)) ∙ ap (λ (k : ℕ). f (k, x)) (omega arith)
 flat_end f n (y ∷ xs) x =
     let more : (n + 1) + length xs ≡ n + suc (length xs) = omega arith in
     ap (λ l. f (n, y) ++ l) (flat_end f (n + 1) xs x ∙ ap (λ (k : ℕ). flat_map f (enumerate_from (n + 1) xs) ++ f (k, x)) more)
     ∙ sym (append_assoc (f (n, y)) (flat_map f (enumerate_from (n + 1) xs)) (f (n + suc (length xs), x)))
 
-pub items_entry : (k : ℕ) (h : List Entry) (x : Entry) (lines : List Line) → FrontsFrom 0 (length h) lines → own_items k (h ++ x ∷ []) lines ≡ own_items k h lines ++ entry x ∷ []
+pub items_entry : (k : ℕ) (h : List Entry) (x : Entry) (lines : List Line) → FrontsFrom 0 (length h) lines →
+    own_items k (h ++ x ∷ []) lines ≡ own_items k h lines ++ entry x ∷ []
 unfolding own_items
 items_entry k h x lines rise =
     let f : ℕ × Entry → List Item = λ e. entry e.1 ∷ lines_behind k lines e.0 in
@@ -64,7 +66,8 @@ items_line k h lines l is = line_end k 0 h lines l (omega arith)
 
 -- ---- what holds of each item, with one item more at the end
 
-pub places_end : (P Q : List Item → Item → List Item → Type 0) (before items : List Item) (z : Item) → ((b : List Item) (i : Item) (bh : List Item) → P b i bh → Q b i (bh ++ z ∷ [])) →
+pub places_end : (P Q : List Item → Item → List Item → Type 0) (before items : List Item) (z : Item) →
+    ((b : List Item) (i : Item) (bh : List Item) → P b i bh → Q b i (bh ++ z ∷ [])) →
     AllPlaces P before items → Q (before ++ items) z [] → AllPlaces Q before (items ++ z ∷ [])
 places_end P Q before [] z keep all last = (subst (λ b. Q b z []) (append-nil before) last, tt)
 places_end P Q before (i ∷ items) z keep all last =

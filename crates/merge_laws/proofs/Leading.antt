@@ -13,7 +13,8 @@ use Rattle.merge_laws.specs.MidTouch.{touch_line, IsFaultFor, LeadsOrWaits}
 -- ---- the first command behind a fault
 
 -- the first that is there stays the first
-lead_more : (lib : Library) (e : Eager) (k serial : ℕ) (p : PageId) (z : Item) (behind : List Item) → IsTrue (some_touches lib e serial p (find (is_command_of k) behind)) →
+lead_more : (lib : Library) (e : Eager) (k serial : ℕ) (p : PageId) (z : Item) (behind : List Item) →
+    IsTrue (some_touches lib e serial p (find (is_command_of k) behind)) →
     IsTrue (some_touches lib e serial p (find (is_command_of k) (behind ++ z ∷ [])))
 lead_more lib e k serial p z [] h = absurd (true≢false (sym h))
 lead_more lib e k serial p z (i ∷ behind) h = first (is_command_of k i) h (lead_more lib e k serial p z behind)
@@ -24,7 +25,8 @@ lead_more lib e k serial p z (i ∷ behind) h = first (is_command_of k i) h (lea
     first true h on = h
     first false h on = on h
 
-leads_more : (lib : Library) (e : Eager) (k : ℕ) (d : Deed) (z : Item) (behind : List Item) → IsTrue (fault_leads lib e k d behind) → IsTrue (fault_leads lib e k d (behind ++ z ∷ []))
+leads_more : (lib : Library) (e : Eager) (k : ℕ) (d : Deed) (z : Item) (behind : List Item) → IsTrue (fault_leads lib e k d behind) →
+    IsTrue (fault_leads lib e k d (behind ++ z ∷ []))
 leads_more lib e k (deeds.Fault serial m p) z behind h = lead_more lib e k serial p z behind h
 leads_more lib e k d z behind h = h
 

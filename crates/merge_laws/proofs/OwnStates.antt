@@ -44,7 +44,8 @@ no_entries : (pid : ℕ) (ls : List Line) → entries_in (map (line pid) ls) ≡
 no_entries pid [] = refl
 no_entries pid (l ∷ ls) = no_entries pid ls
 
-behind_entries : (pid n : ℕ) (h : List Entry) (lines : List Line) → entries_in (flat_map (λ (e : ℕ × Entry). entry e.1 ∷ lines_behind pid lines e.0) (enumerate_from n h)) ≡ h
+behind_entries : (pid n : ℕ) (h : List Entry) (lines : List Line) →
+    entries_in (flat_map (λ (e : ℕ × Entry). entry e.1 ∷ lines_behind pid lines e.0) (enumerate_from n h)) ≡ h
 behind_entries pid n [] lines = refl
 behind_entries pid n (x ∷ h) lines =
     let rest : List Item = flat_map (λ (e : ℕ × Entry). entry e.1 ∷ lines_behind pid lines e.0) (enumerate_from (n + 1) h) in
@@ -74,7 +75,8 @@ following_replies lib failing contents pid h lines x follows uses =
 
 -- ---- one item more
 
-state_end : (lib : Library) (failing : Failing) (items : List Item) (z : Item) → state_behind lib failing (items ++ z ∷ []) ≡ after_item lib (state_behind lib failing items) z
+state_end : (lib : Library) (failing : Failing) (items : List Item) (z : Item) →
+    state_behind lib failing (items ++ z ∷ []) ≡ after_item lib (state_behind lib failing items) z
 unfolding state_behind
 state_end lib failing items z = fold-append (after_item lib) (nothing_yet failing) items (z ∷ [])
 

@@ -28,11 +28,11 @@ use Rattle.merge_laws.proofs.Alike.{SameFor, keeps, seen_by, states_alike, same_
 
 -- ---- what a process can see of a list, one item longer
 
-view_kept : (pid : ℕ) (before : List Item) (item : Item) → keeps pid item ≡ true → seen_by pid (before ++ item ∷ []) ≡ seen_by pid before ++ item ∷ []
-view_kept pid before item is = filter-append (keeps pid) before (item ∷ []) ∙ ap (λ l. seen_by pid before ++ l) (rw is refl)
+seen_kept : (pid : ℕ) (before : List Item) (item : Item) → keeps pid item ≡ true → seen_by pid (before ++ item ∷ []) ≡ seen_by pid before ++ item ∷ []
+seen_kept pid before item is = filter-append (keeps pid) before (item ∷ []) ∙ ap (λ l. seen_by pid before ++ l) (rw is refl)
 
-view_dropped : (pid : ℕ) (before : List Item) (item : Item) → keeps pid item ≡ false → seen_by pid (before ++ item ∷ []) ≡ seen_by pid before
-view_dropped pid before item is = filter-append (keeps pid) before (item ∷ []) ∙ (ap (λ l. seen_by pid before ++ l) (rw is refl) ∙ append-nil (seen_by pid before))
+seen_dropped : (pid : ℕ) (before : List Item) (item : Item) → keeps pid item ≡ false → seen_by pid (before ++ item ∷ []) ≡ seen_by pid before
+seen_dropped pid before item is = filter-append (keeps pid) before (item ∷ []) ∙ (ap (λ l. seen_by pid before ++ l) (rw is refl) ∙ append-nil (seen_by pid before))
 
 -- ---- from the own merge to that of all
 
@@ -42,9 +42,9 @@ module _ (P : List Item → Item → List Item → Type 0) (pid : ℕ)
       (AllPlaces (Only P pid) (seen_by pid (before ++ item ∷ [])) (seen_by pid items) → AllPlaces (Only P pid) (before ++ item ∷ []) items) →
       AllPlaces (Only P pid) (seen_by pid before) (if b then item ∷ seen_by pid items else seen_by pid items) → Only P pid before item items × AllPlaces (Only P pid) (before ++ item ∷ []) items
   step before item items true is rest h =
-      ((λ mine. up before item items mine (h.0 mine)), rest (subst (λ b. AllPlaces (Only P pid) b (seen_by pid items)) (sym (view_kept pid before item is)) h.1))
+      ((λ mine. up before item items mine (h.0 mine)), rest (subst (λ b. AllPlaces (Only P pid) b (seen_by pid items)) (sym (seen_kept pid before item is)) h.1))
   step before item items false is rest h =
-      ((λ mine. absurd (true≢false (sym (of_kept pid item mine) ∙ is))), rest (subst (λ b. AllPlaces (Only P pid) b (seen_by pid items)) (sym (view_dropped pid before item is)) h))
+      ((λ mine. absurd (true≢false (sym (of_kept pid item mine) ∙ is))), rest (subst (λ b. AllPlaces (Only P pid) b (seen_by pid items)) (sym (seen_dropped pid before item is)) h))
     where
       of_kept : (pid : ℕ) (item : Item) → is_of pid item ≡ true → keeps pid item ≡ true
       of_kept pid (entry x) mine = refl
@@ -67,7 +67,8 @@ module _ (lib : Library) (failing : Failing) (contents : Held) (pid : ℕ) (befo
   same : SameFor pid e f
   same = states_alike lib failing pid before
 
-  line_up : (l : Line) (behind : List Item) → Replies lib failing contents (seen_by pid before) (line pid l) behind → Replies lib failing contents before (line pid l) behind
+  line_up : (l : Line) (behind : List Item) → Replies lib failing contents (seen_by pid before) (line pid l) behind →
+      Replies lib failing contents before (line pid l) behind
   line_up l behind h = answer_alike lib contents pid e f l.command same ∙ h
 
   uses_alike : (d : Deed) → uses_touched f pid d ≡ uses_touched e pid d
@@ -95,7 +96,8 @@ module _ (lib : Library) (failing : Failing) (contents : Held) (pid : ℕ) (befo
   touches_alike serial p (line q l) h =
       subst (λ (k : ℕ). is_first_touch lib e k serial p l.command l.reply ≡ is_first_touch lib f k serial p l.command l.reply) (sym (eqb-true q pid h)) (first_touch_alike serial p l.command l.reply)
 
-  some_alike : (serial : ℕ) (p : PageId) (o : Option Item) → ((item : Item) → o ≡ Some item → is_command_of pid item ≡ true) → some_touches lib e serial p o ≡ some_touches lib f serial p o
+  some_alike : (serial : ℕ) (p : PageId) (o : Option Item) → ((item : Item) → o ≡ Some item → is_command_of pid item ≡ true) →
+      some_touches lib e serial p o ≡ some_touches lib f serial p o
   some_alike serial p None h = refl
   some_alike serial p (Some item) h = touches_alike serial p item (h item refl)
 
@@ -132,7 +134,8 @@ module _ (pid : ℕ) where
   find_is [] item h = absurd (cc (h))
   find_is (x ∷ items) item h = at_first (is_command_of pid x) refl h (find_is items item)
     where
-      at_first : (b : Bool) → is_command_of pid x ≡ b → (if b then Some x else find (is_command_of pid) items) ≡ Some item → (find (is_command_of pid) items ≡ Some item → is_command_of pid item ≡ true) → is_command_of pid item ≡ true
+      at_first : (b : Bool) → is_command_of pid x ≡ b → (if b then Some x else find (is_command_of pid) items) ≡ Some item →
+          (find (is_command_of pid) items ≡ Some item → is_command_of pid item ≡ true) → is_command_of pid item ≡ true
       at_first true is h rest = let same : x ≡ item = cc (h) in subst (λ z. is_command_of pid z ≡ true) same is
       at_first false is h rest = rest h
 
@@ -147,26 +150,30 @@ module _ (pid : ℕ) where
       line_filter false is h = h ∙ sym (ap (λ b. if b then line q l ∷ filter (is_command_of pid) items else filter (is_command_of pid) items) is)
 
 module _ (lib : Library) (failing : Failing) (contents : Held) (pid : ℕ) where
-  pub replies_up : (before : List Item) (item : Item) (behind : List Item) → is_of pid item ≡ true → Replies lib failing contents (seen_by pid before) item (seen_by pid behind) → Replies lib failing contents before item behind
+  pub replies_up : (before : List Item) (item : Item) (behind : List Item) → is_of pid item ≡ true →
+      Replies lib failing contents (seen_by pid before) item (seen_by pid behind) → Replies lib failing contents before item behind
   replies_up before (entry x) behind mine h = entry_up lib failing contents pid before x (eqb-true x.pid pid mine) h
   replies_up before (line q l) behind mine h =
       let is = eqb-true q pid mine in
       subst (λ (k : ℕ). Replies lib failing contents before (line k l) behind) (sym is) (line_up lib failing contents pid before l behind (subst (λ (k : ℕ). Replies lib failing contents (seen_by pid before) (line k l) (seen_by pid behind)) is h))
 
-  leads_up : (before : List Item) (d : Deed) (behind : List Item) → fault_leads lib (state_behind lib failing (seen_by pid before)) pid d (seen_by pid behind) ≡ fault_leads lib (state_behind lib failing before) pid d behind
+  leads_up : (before : List Item) (d : Deed) (behind : List Item) →
+      fault_leads lib (state_behind lib failing (seen_by pid before)) pid d (seen_by pid behind) ≡ fault_leads lib (state_behind lib failing before) pid d behind
   leads_up before (deeds.Fault serial m p) behind =
       some_alike lib failing contents pid before serial p (find (is_command_of pid) (seen_by pid behind)) (find_is pid (seen_by pid behind))
       ∙ ap (some_touches lib (state_behind lib failing before) serial p) (find_kept pid behind)
   leads_up before d behind = refl
 
-  pub faults_up : (before : List Item) (item : Item) (behind : List Item) → is_of pid item ≡ true → FaultLeads lib failing (seen_by pid before) item (seen_by pid behind) → FaultLeads lib failing before item behind
+  pub faults_up : (before : List Item) (item : Item) (behind : List Item) → is_of pid item ≡ true →
+      FaultLeads lib failing (seen_by pid before) item (seen_by pid behind) → FaultLeads lib failing before item behind
   faults_up before (entry x) behind mine h =
       let is = eqb-true x.pid pid mine in
       subst (λ (k : ℕ). IsTrue (fault_leads lib (state_behind lib failing before) k x.deed behind)) (sym is)
       (subst IsTrue (leads_up before x.deed behind) (subst (λ (k : ℕ). IsTrue (fault_leads lib (state_behind lib failing (seen_by pid before)) k x.deed (seen_by pid behind))) is h))
   faults_up before (line q l) behind mine h = tt
 
-  pub touches_up : (before : List Item) (item : Item) (behind : List Item) → is_of pid item ≡ true → TouchFollows lib failing (seen_by pid before) item (seen_by pid behind) → TouchFollows lib failing before item behind
+  pub touches_up : (before : List Item) (item : Item) (behind : List Item) → is_of pid item ≡ true →
+      TouchFollows lib failing (seen_by pid before) item (seen_by pid behind) → TouchFollows lib failing before item behind
   touches_up before (entry x) behind mine h = tt
   touches_up before (line q l) behind mine h =
       let is = eqb-true q pid mine in
@@ -180,7 +187,8 @@ abbrev pub AllOf : ℕ → List Item → Type 0
 AllOf n [] = Unit {0}
 AllOf n (item ∷ items) = ((pid : ℕ) × (1 ≤ pid) × (pid ≤ n) × (is_of pid item ≡ true)) × AllOf n items
 
-pub gathers : (P : List Item → Item → List Item → Type 0) (n : ℕ) (before items : List Item) → AllOf n items → ((pid : ℕ) → 1 ≤ pid → pid ≤ n → AllPlaces (Only P pid) before items) → AllPlaces P before items
+pub gathers : (P : List Item → Item → List Item → Type 0) (n : ℕ) (before items : List Item) → AllOf n items →
+    ((pid : ℕ) → 1 ≤ pid → pid ≤ n → AllPlaces (Only P pid) before items) → AllPlaces P before items
 gathers P n before [] all each = tt
 gathers P n before (item ∷ items) all each =
     let who = all.0 in

@@ -23,7 +23,8 @@ fronts_end : (low high : ℕ) (lines : List Line) (l : Line) → FrontsFrom low 
 fronts_end low high [] l rise le is = (omega arith, omega arith, tt)
 fronts_end low high (x ∷ lines) l rise le is = (rise.0, rise.1, fronts_end x.front high lines l rise.2 rise.1 is)
 
-are_for_end : (lib : Library) (items : List Item) (cs : List Command) (i : Item) (c : Command) → AreFor lib items cs → IsFor lib i c → AreFor lib (items ++ i ∷ []) (cs ++ c ∷ [])
+are_for_end : (lib : Library) (items : List Item) (cs : List Command) (i : Item) (c : Command) → AreFor lib items cs → IsFor lib i c →
+    AreFor lib (items ++ i ∷ []) (cs ++ c ∷ [])
 are_for_end lib [] [] i c all is = (is, tt)
 are_for_end lib (x ∷ items) (d ∷ cs) i c all is = (all.0, are_for_end lib items cs i c all.1 is)
 are_for_end lib [] (d ∷ cs) i c all is = absurd all
@@ -46,7 +47,8 @@ module _ (lib : Library) (failing : Failing) (contents : Held) (k : ℕ) (F G : 
   still_follows z b (entry y) bh h mine = tt
   still_follows z b (line q l) bh h mine = h mine
 
-  still_replies : (z : Item) (b : List Item) (i : Item) (bh : List Item) → Only (Replies lib failing contents) k b i bh → Only (Replies lib failing contents) k b i (bh ++ z ∷ [])
+  still_replies : (z : Item) (b : List Item) (i : Item) (bh : List Item) → Only (Replies lib failing contents) k b i bh →
+      Only (Replies lib failing contents) k b i (bh ++ z ∷ [])
   still_replies z b (entry y) bh h mine = h mine
   still_replies z b (line q l) bh h mine = h mine
 
@@ -70,7 +72,8 @@ module _ (lib : Library) (failing : Failing) (contents : Held) (k : ℕ) (F G : 
       Only G k items (entry x) [] → Only (Replies lib failing contents) k items (entry x) [] → AccountBy G lib failing contents k (h ++ x ∷ []) lines cs
   entry_between x plain keep fault reply = entry_more x cs keep (subst (λ l. AreFor lib l cs) (sym (no_command_end k items (entry x) plain)) own.commands) fault reply
 
-  line_more : (l : Line) → l.front ≡ length h → ((b : List Item) (i : Item) (bh : List Item) → Only F k b i bh → Only G k b i (bh ++ line k l ∷ [])) → Only G k items (line k l) [] →
+  line_more : (l : Line) → l.front ≡ length h → ((b : List Item) (i : Item) (bh : List Item) → Only F k b i bh → Only G k b i (bh ++ line k l ∷ [])) →
+      Only G k items (line k l) [] →
       TouchFollows lib failing items (line k l) [] → Replies lib failing contents items (line k l) [] →
       AccountBy G lib failing contents k h (lines ++ l ∷ []) (cs ++ l.command ∷ [])
   line_more l front keep fault follows reply =

@@ -60,7 +60,8 @@ touch_refused_alike lib e a b pid at =
     alike None = refl
     alike (Some r) = refl
 
-touch_is_fine : (lib : Library) (contents : Held) (e : Eager) (pid : ℕ) (at : Place) → refusal_of lib e pid (commands.Touch at) ≡ None → answer_of lib contents e pid (commands.Touch at) ≡ steady replies.Fine
+touch_is_fine : (lib : Library) (contents : Held) (e : Eager) (pid : ℕ) (at : Place) → refusal_of lib e pid (commands.Touch at) ≡ None →
+    answer_of lib contents e pid (commands.Touch at) ≡ steady replies.Fine
 unfolding fine_answer
 touch_is_fine lib contents e pid at none = answer_is lib contents e pid (commands.Touch at) ∙ ap (answer_by (steady replies.Fine)) none
 
@@ -81,7 +82,8 @@ same_page a b is = λ i. record {
 }
 
 -- a mapped page that is no private one had its fault
-had_fault_by : (lib : Library) (v : Holding) (h : List Entry) (m : ℕ) (s : Fresh) (q : PageId) (ps : List Mapped) → stay_at v m ≡ Some s → is_own (class_of (object_at lib m q.object)) ≡ false →
+had_fault_by : (lib : Library) (v : Holding) (h : List Entry) (m : ℕ) (s : Fresh) (q : PageId) (ps : List Mapped) → stay_at v m ≡ Some s →
+    is_own (class_of (object_at lib m q.object)) ≡ false →
     AllByRecursion (WasFixed lib v h) ps → has_page (map (λ p. p.of) ps) s.serial q ≡ true → has_fault h s.serial q ≡ true
 had_fault_by lib v h m s q [] at apart all has = cc
 had_fault_by lib v h m s q (p ∷ ps) at apart all has = step ((p.of.serial == s.serial) && is_page p.of.page q) refl has (λ rest. had_fault_by lib v h m s q ps at apart all.1 rest)
@@ -109,7 +111,8 @@ serial_by_view : (lib : Library) (failing : Failing) (contents : Held) (v : Hold
 serial_by_view lib failing contents v h at stands =
     sym (stay_serial (residence_named lib (state_after lib failing h) v.pid at.«module»)) ∙ ap serial_of (named_by_view lib contents v (state_after lib failing h) at.«module» stands.view)
 
-attached_named : (lib : Library) (e : Eager) (pid : ℕ) (name : List ℕ) (r : Residence) → residence_named lib e pid name ≡ Some r → attached_residence lib e pid r.«module» ≡ Some r
+attached_named : (lib : Library) (e : Eager) (pid : ℕ) (name : List ℕ) (r : Residence) → residence_named lib e pid name ≡ Some r →
+    attached_residence lib e pid r.«module» ≡ Some r
 unfolding residence_named
 attached_named lib e pid name r is = sym (ap (residence_if lib e pid) (named_is lib e pid name r is).1) ∙ is
 
@@ -163,11 +166,13 @@ fault_for_touch lib failing contents v h lines pages at m p stands has same amon
 -- ---- what is mapped behind it
 
 -- pages that are all among others have none that those have not
-among_others : (a b : List PageOf) → AllByRecursion (λ (t : PageOf). has_page b t.serial t.page ≡ true) a → (serial : ℕ) (q : PageId) → has_page a serial q ≡ true → has_page b serial q ≡ true
+among_others : (a b : List PageOf) → AllByRecursion (λ (t : PageOf). has_page b t.serial t.page ≡ true) a → (serial : ℕ) (q : PageId) → has_page a serial q ≡ true →
+    has_page b serial q ≡ true
 among_others [] b all serial q has = cc
 among_others (t ∷ a) b all serial q has = step ((t.serial == serial) && is_page t.page q) refl has (λ rest. among_others a b all.1 serial q rest)
   where
-    step : (c : Bool) → (t.serial == serial) && is_page t.page q ≡ c → c || has_page a serial q ≡ true → (has_page a serial q ≡ true → has_page b serial q ≡ true) → has_page b serial q ≡ true
+    step : (c : Bool) → (t.serial == serial) && is_page t.page q ≡ c → c || has_page a serial q ≡ true → (has_page a serial q ≡ true → has_page b serial q ≡ true) →
+        has_page b serial q ≡ true
     step true is has later =
         subst (λ (x : PageId). has_page b serial x ≡ true) (same_page t.page q (and_right (t.serial == serial) (is_page t.page q) is))
         (subst (λ (n : ℕ). has_page b n t.page ≡ true) (eqb-true t.serial serial (and_left (t.serial == serial) (is_page t.page q) is)) all.0)

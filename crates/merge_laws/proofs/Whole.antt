@@ -18,9 +18,9 @@ use Rattle.merge_laws.proofs.Seen.{transfers, commands_kept, replies_up, faults_
 
 -- ---- what a process can see of the merge is its own
 
-view_flat : {A : Type 0} (k : ℕ) (f : A → List Item) (xs : List A) → seen_by k (flat_map f xs) ≡ flat_map (λ x. seen_by k (f x)) xs
-view_flat k f [] = refl
-view_flat k f (x ∷ xs) = filter-append (keeps k) (f x) (flat_map f xs) ∙ ap (λ l. seen_by k (f x) ++ l) (view_flat k f xs)
+seen_flat : {A : Type 0} (k : ℕ) (f : A → List Item) (xs : List A) → seen_by k (flat_map f xs) ≡ flat_map (λ x. seen_by k (f x)) xs
+seen_flat k f [] = refl
+seen_flat k f (x ∷ xs) = filter-append (keeps k) (f x) (flat_map f xs) ∙ ap (λ l. seen_by k (f x) ++ l) (seen_flat k f xs)
 
 all_kept : (k q : ℕ) (ls : List Line) → (q == k) ≡ true → seen_by k (map (line q) ls) ≡ map (line q) ls
 all_kept k q [] is = refl
@@ -37,7 +37,8 @@ later_none k n front (sl ∷ s) below =
     ∙ (ap (λ l. l ++ seen_by k (flat_map (lines_of front) (enumerate_from (n + 1) s))) (none_kept k n _ (ne_eqb n k (λ e. omega arith)))
     ∙ later_none k (n + 1) front s (omega arith))
 
-own_lines : (k n i front : ℕ) (s : List ScriptLines) (sl : ScriptLines) → slice_get s i ≡ Some sl → k ≡ n + i → seen_by k (flat_map (lines_of front) (enumerate_from n s)) ≡ lines_behind k sl.lines front
+own_lines : (k n i front : ℕ) (s : List ScriptLines) (sl : ScriptLines) → slice_get s i ≡ Some sl → k ≡ n + i →
+    seen_by k (flat_map (lines_of front) (enumerate_from n s)) ≡ lines_behind k sl.lines front
 own_lines k n i front [] sl at is = absurd (cc (at))
 own_lines k n zero front (x ∷ s) sl at is =
     let here : x ≡ sl = cc (at) in
@@ -52,14 +53,15 @@ own_lines k n (suc i) front (x ∷ s) sl at is =
     ∙ (ap (λ l. l ++ seen_by k (flat_map (lines_of front) (enumerate_from (n + 1) s))) (none_kept k n _ (ne_eqb n k (λ e. omega arith)))
     ∙ own_lines k (n + 1) i front s sl at (omega arith))
 
-pub view_of_merge : (k i : ℕ) (h : List Entry) (s : List ScriptLines) (sl : ScriptLines) → slice_get s i ≡ Some sl → k ≡ 1 + i → seen_by k (merge_of h s) ≡ own_items k h sl.lines
+pub seen_of_merge : (k i : ℕ) (h : List Entry) (s : List ScriptLines) (sl : ScriptLines) → slice_get s i ≡ Some sl → k ≡ 1 + i →
+    seen_by k (merge_of h s) ≡ own_items k h sl.lines
 unfolding merge_of own_items
-view_of_merge k i h s sl at is =
+seen_of_merge k i h s sl at is =
     let front : (n : ℕ) → seen_by k (lines_at s n) ≡ lines_behind k sl.lines n = λ n. own_lines k 1 i n s sl at is in
     filter-append (keeps k) (lines_at s 0) (flat_map (λ e. entry e.1 ∷ lines_at s e.0) (enumerate_from 1 h))
     ∙ (ap (λ l. l ++ seen_by k (flat_map (λ e. entry e.1 ∷ lines_at s e.0) (enumerate_from 1 h))) (front 0)
     ∙ ap (λ l. lines_behind k sl.lines 0 ++ l)
-    (view_flat k (λ (e : ℕ × Entry). entry e.1 ∷ lines_at s e.0) (enumerate_from 1 h)
+    (seen_flat k (λ (e : ℕ × Entry). entry e.1 ∷ lines_at s e.0) (enumerate_from 1 h)
     ∙ (λ j. flat_map (λ (e : ℕ × Entry). entry e.1 ∷ front e.0 j) (enumerate_from 1 h))))
 
 -- ---- each process's own items, in the merge of all
@@ -69,7 +71,7 @@ module _ (lib : Library) (failing : Failing) (contents : Held) (h : List Entry) 
   items = merge_of h s
 
   seen : seen_by k items ≡ own_items k h sl.lines
-  seen = view_of_merge k i h s sl at is
+  seen = seen_of_merge k i h s sl at is
 
   its_commands : AreFor lib (filter (is_command_of k) items) commands
   its_commands = subst (λ l. AreFor lib l commands) (ap (filter (is_command_of k)) (sym seen) ∙ commands_kept k items) own.commands
@@ -89,7 +91,8 @@ fronts_rise : (h : List Entry) (s : List ScriptLines) → ((i : ℕ) (sl : Scrip
 fronts_rise h [] each = tt
 fronts_rise h (sl ∷ s) each = (each 0 sl refl, fronts_rise h s (λ i x e. each (suc i) x e))
 
-all_commands : (lib : Library) (items : List Item) (n : ℕ) (scripts : List Script) → ((i : ℕ) (c : Script) → slice_get scripts i ≡ Some c → AreFor lib (filter (is_command_of (n + i)) items) c.commands) →
+all_commands : (lib : Library) (items : List Item) (n : ℕ) (scripts : List Script) →
+    ((i : ℕ) (c : Script) → slice_get scripts i ≡ Some c → AreFor lib (filter (is_command_of (n + i)) items) c.commands) →
     AllByRecursion (CommandsOf lib items) (enumerate_from n scripts)
 all_commands lib items n [] each = tt
 all_commands lib items n (c ∷ scripts) each = (
@@ -97,11 +100,13 @@ all_commands lib items n (c ∷ scripts) each = (
   all_commands lib items (n + 1) scripts (λ i x e. subst (λ (k : ℕ). AreFor lib (filter (is_command_of k) items) x.commands) (omega arith) (each (suc i) x e)),
 )
 
+-- below its length a list has something
 there : {A : Type 0} (xs : List A) (i : ℕ) → i < length xs → (x : A) × (slice_get xs i ≡ Some x)
 there [] i lt = absurd (omega arith)
 there (x ∷ xs) zero lt = (x, refl)
 there (x ∷ xs) (suc i) lt = there xs i (omega arith)
 
+-- what stands at a place stands below the length
 short : {A : Type 0} (xs : List A) (i : ℕ) (x : A) → slice_get xs i ≡ Some x → i < length xs
 short [] i x e = absurd (cc (e))
 short (y ∷ xs) zero x e = omega arith
@@ -139,24 +144,34 @@ merge_is_of n h s len all = append_of n (lines_at s 0) _ (at_are_of n 1 0 s (ome
 length_numbers : (s : List ScriptLines) (scripts : List Script) → numbers_of s ≡ map (λ script. script.pid) scripts → length s ≡ length scripts
 length_numbers s scripts e = sym (length-map s (λ lines. lines.pid)) ∙ (ap length e ∙ length-map scripts (λ script. script.pid))
 
+-- what holds of the items of each process holds of all
+gathered : (P : List Item → Item → List Item → Type 0) (h : List Entry) (s : List ScriptLines) (scripts : List Script) → length s ≡ length scripts →
+    AllByRecursion (λ (x : Entry). (1 ≤ x.pid) × (x.pid ≤ length scripts)) h →
+    ((i : ℕ) (sl : ScriptLines) (c : Script) → slice_get s i ≡ Some sl → slice_get scripts i ≡ Some c → AllPlaces (Only P (1 + i)) [] (merge_of h s)) →
+    AllPlaces P [] (merge_of h s)
+gathered P h s scripts len entries each = gathers P (length scripts) [] (merge_of h s) (merge_is_of (length scripts) h s len entries) of_process
+  where
+    of_process : (k : ℕ) → 1 ≤ k → k ≤ length scripts → AllPlaces (Only P k) [] (merge_of h s)
+    of_process k low high =
+        let sl = there s (k - 1) (omega arith) in
+        let c = there scripts (k - 1) (omega arith) in
+        let number : 1 + (k - 1) ≡ k = omega arith in
+        subst (λ (q : ℕ). AllPlaces (Only P q) [] (merge_of h s)) number (each (k - 1) sl.0 c.0 sl.1 c.1)
+
 pub accounts_merge : AccountsMerge
 accounts_merge lib failing contents h s scripts numbers entries each =
-    let len = length_numbers s scripts numbers in
-    let n : ℕ = length scripts in
-    let all : AllOf n (merge_of h s) = merge_is_of n h s len entries in
-    let script_at : (k : ℕ) → 1 ≤ k → k ≤ n → (i : ℕ) × (k ≡ 1 + i) × (i < n) = λ k a b. (k - 1, omega arith, omega arith) in
-    let lines_of_pid : (i : ℕ) → i < n → (sl : ScriptLines) × (slice_get s i ≡ Some sl) = λ i lt. there s i (omega arith) in
-    let script_of_pid : (i : ℕ) → i < n → (c : Script) × (slice_get scripts i ≡ Some c) = λ i lt. there scripts i lt in
+    let len : length s ≡ length scripts = length_numbers s scripts numbers in
     record {
       processes = numbers;
       entries = entries;
-      fronts = fronts_rise h s (λ i sl at. let lt = short s i sl at in let c = script_of_pid i (omega arith) in (each i sl c.0 at c.1).fronts);
-      commands = all_commands lib (merge_of h s) 1 scripts (λ i c at. let lt = short scripts i c at in let l = lines_of_pid i lt in
-          its_commands lib failing contents h s (1 + i) i l.0 c.commands l.1 refl (each i l.0 c l.1 at));
-      faults = gathers (FaultLeads lib failing) n [] (merge_of h s) all (λ k a b. let w = script_at k a b in let l = lines_of_pid w.0 w.2 in let c = script_of_pid w.0 w.2 in
-          subst (λ (q : ℕ). AllPlaces (Only (FaultLeads lib failing) q) [] (merge_of h s)) (sym w.1) (its_faults lib failing contents h s (1 + w.0) w.0 l.0 c.0.commands l.1 refl (each w.0 l.0 c.0 l.1 c.1)));
-      touches = gathers (TouchFollows lib failing) n [] (merge_of h s) all (λ k a b. let w = script_at k a b in let l = lines_of_pid w.0 w.2 in let c = script_of_pid w.0 w.2 in
-          subst (λ (q : ℕ). AllPlaces (Only (TouchFollows lib failing) q) [] (merge_of h s)) (sym w.1) (its_touches lib failing contents h s (1 + w.0) w.0 l.0 c.0.commands l.1 refl (each w.0 l.0 c.0 l.1 c.1)));
-      replies = gathers (Replies lib failing contents) n [] (merge_of h s) all (λ k a b. let w = script_at k a b in let l = lines_of_pid w.0 w.2 in let c = script_of_pid w.0 w.2 in
-          subst (λ (q : ℕ). AllPlaces (Only (Replies lib failing contents) q) [] (merge_of h s)) (sym w.1) (its_replies lib failing contents h s (1 + w.0) w.0 l.0 c.0.commands l.1 refl (each w.0 l.0 c.0 l.1 c.1)));
+      fronts = fronts_rise h s (λ i sl at. let lt = short s i sl at in let c = there scripts i (omega arith) in (each i sl c.0 at c.1).fronts);
+      commands = all_commands lib (merge_of h s) 1 scripts
+          (λ i c is. let lt = short scripts i c is in let sl = there s i (omega arith) in
+          its_commands lib failing contents h s (1 + i) i sl.0 c.commands sl.1 refl (each i sl.0 c sl.1 is));
+      faults = gathered (FaultLeads lib failing) h s scripts len entries
+          (λ i sl c at is. its_faults lib failing contents h s (1 + i) i sl c.commands at refl (each i sl c at is));
+      touches = gathered (TouchFollows lib failing) h s scripts len entries
+          (λ i sl c at is. its_touches lib failing contents h s (1 + i) i sl c.commands at refl (each i sl c at is));
+      replies = gathered (Replies lib failing contents) h s scripts len entries
+          (λ i sl c at is. its_replies lib failing contents h s (1 + i) i sl c.commands at refl (each i sl c at is));
     }
