@@ -5,7 +5,7 @@ use Rattle.std.proofs.lemmas.List.Elements.{filter-append}
 use Rattle.load_model.specs.declared.deeds.Entry.{Entry}
 use Rattle.session_model.specs.declared.sessions.Line.{Line}
 use Rattle.session_model.specs.Merging.{Item, entry, line, FrontsFrom, AllPlaces}
-use Rattle.merge_laws.specs.Accounts.{lines_behind, own_items}
+use Rattle.merge_laws.specs.Accounts.{Claim, lines_behind, own_items}
 
 -- ---- one entry more
 
@@ -66,7 +66,7 @@ items_line k h lines l is = line_end k 0 h lines l (omega arith)
 
 -- ---- what holds of each item, with one item more at the end
 
-pub places_end : (P Q : List Item → Item → List Item → Type 0) (before items : List Item) (z : Item) →
+pub places_end : (P Q : Claim) (before items : List Item) (z : Item) →
     ((b : List Item) (i : Item) (bh : List Item) → P b i bh → Q b i (bh ++ z ∷ [])) →
     AllPlaces P before items → Q (before ++ items) z [] → AllPlaces Q before (items ++ z ∷ [])
 places_end P Q before [] z keep all last = (subst (λ b. Q b z []) (append-nil before) last, tt)

@@ -23,7 +23,7 @@ use Rattle.session_model.specs.declared.sessions.Line.{Line}
 use Rattle.session_model.specs.Merging.{Item, entry, line, state_behind, AllPlaces, is_command_of, FaultLeads, TouchFollows, Replies, EntryReplies, fault_leads, some_touches, touches, is_first_touch, touch_follows, had_faults, is_fault_item, uses_touched}
 use Rattle.session_model.specs.MergeLaws.{touched_in}
 use Rattle.session_model.proofs.UsedPages.{uses_by_pages}
-use Rattle.merge_laws.specs.Accounts.{is_of, Only}
+use Rattle.merge_laws.specs.Accounts.{Claim, is_of, Only}
 use Rattle.merge_laws.proofs.Alike.{SameFor, keeps, seen_by, states_alike, same_pages, answer_alike, named_alike}
 
 -- ---- what a process can see of a list, one item longer
@@ -36,7 +36,7 @@ seen_dropped pid before item is = filter-append (keeps pid) before (item ∷ [])
 
 -- ---- from the own merge to that of all
 
-module _ (P : List Item → Item → List Item → Type 0) (pid : ℕ)
+module _ (P : Claim) (pid : ℕ)
     (up : (before : List Item) (item : Item) (behind : List Item) → is_of pid item ≡ true → P (seen_by pid before) item (seen_by pid behind) → P before item behind) where
   step : (before : List Item) (item : Item) (items : List Item) (b : Bool) → keeps pid item ≡ b →
       (AllPlaces (Only P pid) (seen_by pid (before ++ item ∷ [])) (seen_by pid items) → AllPlaces (Only P pid) (before ++ item ∷ []) items) →
@@ -187,7 +187,7 @@ abbrev pub AllOf : ℕ → List Item → Type 0
 AllOf n [] = Unit {0}
 AllOf n (item ∷ items) = ((pid : ℕ) × (1 ≤ pid) × (pid ≤ n) × (is_of pid item ≡ true)) × AllOf n items
 
-pub gathers : (P : List Item → Item → List Item → Type 0) (n : ℕ) (before items : List Item) → AllOf n items →
+pub gathers : (P : Claim) (n : ℕ) (before items : List Item) → AllOf n items →
     ((pid : ℕ) → 1 ≤ pid → pid ≤ n → AllPlaces (Only P pid) before items) → AllPlaces P before items
 gathers P n before [] all each = tt
 gathers P n before (item ∷ items) all each =

@@ -7,7 +7,7 @@ use Rattle.load_model.specs.Modules.{Library, Held}
 use Rattle.load_model.specs.State.{Failing}
 use Rattle.session_model.specs.declared.sessions.Line.{Line}
 use Rattle.session_model.specs.Merging.{Item, entry, line, FrontsFrom, AllPlaces, AreFor, IsFor, is_command_of, is_fault, FaultLeads, TouchFollows, Replies}
-use Rattle.merge_laws.specs.Accounts.{own_items, own_state, is_of, Only, AccountBy}
+use Rattle.merge_laws.specs.Accounts.{Claim, own_items, own_state, is_of, Only, AccountBy}
 use Rattle.merge_laws.specs.MidTouch.{touch_line, IsFaultFor, LeadsOrWaits}
 use Rattle.merge_laws.specs.AccountLaws.{AccountBegins, OthersEntryStays, OwnEntryAdds, OwnLineAdds, TouchBegins, TouchWaits, TouchFaults, TouchEnds, AccountGoesOn, TouchGoesOn}
 use Rattle.merge_laws.proofs.Growing.{items_entry, items_line, places_end}
@@ -39,7 +39,8 @@ no_command_end k items z is =
 
 -- ---- one item more
 
-module _ (lib : Library) (failing : Failing) (contents : Held) (k : ℕ) (F G : List Item → Item → List Item → Type 0) (h : List Entry) (lines : List Line) (cs : List Command) (own : AccountBy F lib failing contents k h lines cs) where
+module _ (lib : Library) (failing : Failing) (contents : Held) (k : ℕ) (F G : Claim) (h : List Entry) (lines : List Line) (cs : List Command)
+    (own : AccountBy F lib failing contents k h lines cs) where
   abbrev items : List Item
   items = own_items k h lines
 

@@ -11,7 +11,7 @@ use Rattle.session_model.specs.declared.sessions.Line.{Line}
 use Rattle.session_model.specs.declared.sessions.Script.{Script}
 use Rattle.session_model.specs.declared.sessions.ScriptLines.{ScriptLines}
 use Rattle.session_model.specs.Merging.{Item, entry, line, lines_of, lines_at, merge_of, FrontsFrom, FrontsRise, AreFor, CommandsOf, is_command_of, FaultLeads, TouchFollows, Replies, AllPlaces, numbers_of}
-use Rattle.merge_laws.specs.Accounts.{Only, lines_behind, own_items, Account}
+use Rattle.merge_laws.specs.Accounts.{Claim, Only, lines_behind, own_items, Account}
 use Rattle.merge_laws.specs.AccountLaws.{AccountsMerge}
 use Rattle.merge_laws.proofs.Alike.{keeps, seen_by}
 use Rattle.merge_laws.proofs.Seen.{transfers, commands_kept, replies_up, faults_up, touches_up, AllOf, gathers}
@@ -66,7 +66,8 @@ seen_of_merge k i h s sl at is =
 
 -- ---- each process's own items, in the merge of all
 
-module _ (lib : Library) (failing : Failing) (contents : Held) (h : List Entry) (s : List ScriptLines) (k i : ℕ) (sl : ScriptLines) (commands : List Command) (at : slice_get s i ≡ Some sl) (is : k ≡ 1 + i) (own : Account lib failing contents k h sl.lines commands) where
+module _ (lib : Library) (failing : Failing) (contents : Held) (h : List Entry) (s : List ScriptLines) (k i : ℕ) (sl : ScriptLines) (commands : List Command)
+    (at : slice_get s i ≡ Some sl) (is : k ≡ 1 + i) (own : Account lib failing contents k h sl.lines commands) where
   abbrev items : List Item
   items = merge_of h s
 
@@ -145,7 +146,7 @@ length_numbers : (s : List ScriptLines) (scripts : List Script) → numbers_of s
 length_numbers s scripts e = sym (length-map s (λ lines. lines.pid)) ∙ (ap length e ∙ length-map scripts (λ script. script.pid))
 
 -- what holds of the items of each process holds of all
-gathered : (P : List Item → Item → List Item → Type 0) (h : List Entry) (s : List ScriptLines) (scripts : List Script) → length s ≡ length scripts →
+gathered : (P : Claim) (h : List Entry) (s : List ScriptLines) (scripts : List Script) → length s ≡ length scripts →
     AllByRecursion (λ (x : Entry). (1 ≤ x.pid) × (x.pid ≤ length scripts)) h →
     ((i : ℕ) (sl : ScriptLines) (c : Script) → slice_get s i ≡ Some sl → slice_get scripts i ≡ Some c → AllPlaces (Only P (1 + i)) [] (merge_of h s)) →
     AllPlaces P [] (merge_of h s)

@@ -28,11 +28,15 @@ abbrev pub is_of : ℕ → Item → Bool
 is_of pid (entry x) = x.pid == pid
 is_of pid (line other l) = other == pid
 
--- P holds of each item of the process, with what stands before it and what stands behind
-abbrev pub Only : (List Item → Item → List Item → Type 0) → ℕ → List Item → Item → List Item → Type 0
+-- what is claimed of an item, with what stands before it and what stands behind
+abbrev pub Claim : Type 1
+Claim = List Item → Item → List Item → Type 0
+
+-- the claim, of each item of the process
+abbrev pub Only : Claim → ℕ → Claim
 Only P pid before item behind = is_of pid item ≡ true → P before item behind
 
-abbrev pub AllOwn : (List Item → Item → List Item → Type 0) → ℕ → List Item → Type 0
+abbrev pub AllOwn : Claim → ℕ → List Item → Type 0
 AllOwn P pid items = AllItems (Only P pid) items
 
 -- ---- what it says
@@ -41,7 +45,7 @@ AllOwn P pid items = AllItems (Only P pid) items
 -- and pass no entry that is not there; its entries and lines, its faults left out, are the commands one for one; before
 -- its touches stand the faults of what they cover; each entry and each line of its own is what the loader answers at
 -- its place, by the pages that it touched itself.
-pub record AccountBy (Fault : List Item → Item → List Item → Type 0) (lib : Library) (failing : Failing) (contents : Held) (pid : ℕ) (h : List Entry) (lines : List Line) (done : List Command) : Type 0 where
+pub record AccountBy (Fault : Claim) (lib : Library) (failing : Failing) (contents : Held) (pid : ℕ) (h : List Entry) (lines : List Line) (done : List Command) : Type 0 where
   pub fronts : FrontsFrom 0 (length h) lines
   pub commands : AreFor lib (filter (is_command_of pid) (own_items pid h lines)) done
   pub faults : AllOwn Fault pid (own_items pid h lines)

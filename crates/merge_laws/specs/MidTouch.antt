@@ -10,8 +10,8 @@ use Rattle.load_model.specs.declared.deeds.Entry.{Entry}
 use Rattle.load_model.specs.Modules.{Library, Held}
 use Rattle.load_model.specs.State.{Failing, Eager}
 use Rattle.session_model.specs.declared.sessions.Line.{Line}
-use Rattle.session_model.specs.Merging.{Item, entry, line, is_command_of, fault_leads, is_first_touch, state_behind}
-use Rattle.merge_laws.specs.Accounts.{AccountBy}
+use Rattle.session_model.specs.Merging.{entry, line, is_command_of, fault_leads, is_first_touch, state_behind}
+use Rattle.merge_laws.specs.Accounts.{Claim, AccountBy}
 
 -- the line of an accepted touch
 abbrev pub touch_line : ℕ → Place → Line
@@ -23,7 +23,7 @@ IsFaultFor lib e pid at (deeds.Fault serial m p) = IsTrue (is_first_touch lib e 
 IsFaultFor lib e pid at deed = ⊥
 
 -- a fault leads to its touch, or is one for the touch of this place, with no command of the process behind it
-abbrev pub LeadsOrWaits : Library → Failing → Place → List Item → Item → List Item → Type 0
+abbrev pub LeadsOrWaits : Library → Failing → Place → Claim
 LeadsOrWaits lib failing at before (entry x) behind =
     IsTrue (fault_leads lib (state_behind lib failing before) x.pid x.deed behind)
     ⊎ ((find (is_command_of x.pid) behind ≡ None) × IsFaultFor lib (state_behind lib failing before) x.pid at x.deed)
