@@ -1,5 +1,5 @@
 -- Worked values: the views of a process behind its load, and at the end of a touch, and what they give it to account for.
-use Rattle.std.specs.Prelude.{◌≡◌, ℕ, false, List, [], ◌∷◌, None, codes}
+use Rattle.std.specs.Prelude.{◌≡◌, ℕ, false, List, [], ◌∷◌, ◌++◌, None, codes}
 use Rattle.load_model.specs.declared.commands.Command.TheVariants as commands
 use Rattle.load_model.specs.declared.commands.Refusal.TheVariants as why
 use Rattle.load_model.specs.declared.commands.Reply.TheVariants as replies
@@ -9,7 +9,8 @@ use Rattle.load_model.specs.Memory.{page}
 use Rattle.load_model.specs.Samples.{zeros, fresh}
 use Rattle.load_model.specs.Step.{steady, answer_of}
 use Rattle.load_model.specs.Standing.{Mapped, Holding, mapped_pages, StandsFor}
-use Rattle.session_model.specs.WorkedRuns.{entry_of}
+use Rattle.session_model.specs.declared.sessions.Line.{Line}
+use Rattle.session_model.specs.WorkedRuns.{entry_of, line_at}
 use Rattle.merge_laws.specs.Accounts.{own_state, Account}
 use Rattle.merge_laws.specs.OwnStates.{HasTouched}
 use Rattle.merge_laws.specs.WorkedAccounts.{E, at_E, load_new, load_again, fault_by, whole, loads, in_touch, touched_whole, touched_commands}
@@ -37,6 +38,10 @@ at_end = record behind_load { mapped = mapped_at 0 ∷ mapped_at 1 ∷ mapped_at
 abbrev pub and_leaves : List Entry
 and_leaves = load_new ∷ load_again ∷ fault_by 1 0 ∷ fault_by 2 1 ∷ fault_by 1 2 ∷ entry_of 1 (Free 0 [] []) ∷ []
 
+-- it peeks behind its touch
+abbrev pub peek_line : Line
+peek_line = line_at 5 (commands.Peek (at_E 0 2)) (replies.Bytes (0 ∷ 0 ∷ []))
+
 pub record WorkedViews : Type 0 where
   pub loaded : StandsFor E [] zeros behind_load loads
   pub untouched : HasTouched E [] 1 loads [] (mapped_pages behind_load)
@@ -47,5 +52,6 @@ pub record WorkedViews : Type 0 where
   pub told : Account E [] zeros 1 in_touch touched_whole touched_commands
   pub touched : HasTouched E [] 1 in_touch touched_whole (mapped_pages at_end)
   pub peeked : answer_of E zeros (own_state E [] 1 in_touch touched_whole) 1 (commands.Peek (at_E 0 2)) ≡ steady (replies.Bytes (0 ∷ 0 ∷ []))
+  pub and_told : Account E [] zeros 1 in_touch (touched_whole ++ peek_line ∷ []) (touched_commands ++ commands.Peek (at_E 0 2) ∷ [])
   -- with its residence go its pages
   pub left : HasTouched E [] 1 and_leaves touched_whole []

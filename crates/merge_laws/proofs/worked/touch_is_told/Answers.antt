@@ -18,8 +18,9 @@ use Rattle.session_model.specs.WorkedRuns.{entry_of}
 use Rattle.load_model.specs.declared.deeds.Deed.TheVariants.{Free}
 use Rattle.merge_laws.specs.Accounts.{own_items, Account}
 use Rattle.merge_laws.specs.MidTouch.{AccountInTouch}
-use Rattle.merge_laws.specs.WorkedAccounts.{E, load_new, load_again, fault_by, whole, loads, load_first, in_touch, touched_whole, touched_commands, break_by, at_E}
-use Rattle.merge_laws.proofs.Steps.{account_begins, others_entry_stays, own_entry_adds, touch_begins, touch_waits, touch_faults, touch_ends, account_goes_on}
+use Rattle.merge_laws.specs.WorkedAccounts.{E, load_new, load_again, fault_by, whole, loads, load_first, in_touch, touched_whole, three_pages, touched_commands, break_by, at_E}
+use Rattle.merge_laws.proofs.OwnStates.{touched_goes_on}
+use Rattle.merge_laws.proofs.Steps.{account_begins, others_entry_stays, own_entry_adds, touch_begins, touch_goes_on, touch_faults, touch_ends, account_goes_on}
 use Rattle.merge_laws.proofs.worked.touch_is_told.Goals as goal
 
 pub returns : goal.returns
@@ -35,7 +36,7 @@ returns c =
     touch_faults E [] zeros 1 whole loads [] load_first (fault_by 1 0) refl refl (record { may = refl; done = refl; touched = refl }) begun
     in
     let waited : AccountInTouch E [] zeros 1 whole (load_new ∷ load_again ∷ fault_by 1 0 ∷ fault_by 2 1 ∷ []) [] load_first =
-    touch_waits E [] zeros 1 whole (load_new ∷ load_again ∷ fault_by 1 0 ∷ []) [] load_first (fault_by 2 1) refl first
+    touch_goes_on E [] zeros 1 whole (load_new ∷ load_again ∷ fault_by 1 0 ∷ []) (fault_by 2 1 ∷ []) [] load_first (refl, tt) first
     in
     let waiting : AccountInTouch E [] zeros 1 whole in_touch [] load_first =
     touch_faults E [] zeros 1 whole (load_new ∷ load_again ∷ fault_by 1 0 ∷ fault_by 2 1 ∷ []) [] load_first (fault_by 1 2) refl refl (record { may = refl; done = refl; touched = refl }) waited
@@ -49,7 +50,7 @@ returns c =
       ended = ended;
       stays = account_goes_on E [] zeros 1 in_touch (entry_of 2 (Free 0 [] []) ∷ []) touched_whole touched_commands (refl, tt) ended;
       broken = own_entry_adds E [] zeros 1 in_touch touched_whole touched_commands (break_by 1) (commands.Debug (at_E 0 1) (0xCC ∷ [])) refl refl (0, 1, refl, refl) (record { may = refl; done = refl; touched = refl }) ended;
-      touched = λ serial q. refl;
+      touched = touched_goes_on E [] 1 in_touch (entry_of 2 (Free 0 [] []) ∷ []) touched_whole three_pages ended.fronts (refl, tt) (λ serial q. refl);
       midst = λ a. true≢false (sym (a.faults.1.1.0 refl));
       again = λ is. true≢false (sym is);
       unbroken = λ a. true≢false (sym (a.replies.1.0 refl).touched);

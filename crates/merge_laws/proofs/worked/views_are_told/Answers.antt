@@ -9,7 +9,7 @@ use Rattle.load_model.specs.Leaving.{left, gone_modules, gone, leaving_calls, ke
 use Rattle.load_model.specs.Memory.{page, bases_seen, writes_seen, Byte, Bytes}
 use Rattle.load_model.specs.Refusals.{module_refusal, enter_refusal, span_refusal, residence_named, place_refusal, query_refusal, resource_refusal, refusal_of}
 use Rattle.load_model.specs.Asks.{deed_of, may_ask, after_deed}
-use Rattle.load_model.specs.Step.{address_of, fine_answer, answer_of, after_steady, Step}
+use Rattle.load_model.specs.Step.{steady, address_of, fine_answer, answer_of, after_steady, Step}
 use Rattle.load_model.specs.Histories.{state_after, has_fault, Follows, Legal}
 use Rattle.load_model.specs.declared.commands.Command.TheVariants as commands
 use Rattle.load_model.specs.declared.commands.Refusal.TheVariants as why
@@ -21,11 +21,11 @@ use Rattle.load_model.specs.Samples.{zeros, fresh}
 use Rattle.load_model.specs.Standing.{mapped_pages, fresh_of, IsMapped, StandsFor}
 use Rattle.load_model.specs.ViewAnswers.{view_refusal}
 use Rattle.session_model.specs.Merging.{merge_of, state_behind}
-use Rattle.merge_laws.specs.Accounts.{own_items, Account}
+use Rattle.merge_laws.specs.Accounts.{own_items, own_state, Account}
 use Rattle.merge_laws.specs.MidTouch.{AccountInTouch}
 use Rattle.merge_laws.specs.OwnStates.{HasTouched}
 use Rattle.merge_laws.specs.WorkedAccounts.{E, at_E, load_new, load_again, fault_by, whole, loads, load_first, in_touch, touched_whole, touched_commands}
-use Rattle.merge_laws.specs.WorkedViews.{behind_load, mapped_at, at_end}
+use Rattle.merge_laws.specs.WorkedViews.{behind_load, mapped_at, at_end, peek_line}
 use Rattle.merge_laws.proofs.worked.views_are_told.Goals as goal
 
 one_module : (P : ℕ → Type 0) → P 0 → (m : ℕ) → m < 1 → P m
@@ -121,6 +121,9 @@ returns c =
     let touched : HasTouched E [] 1 in_touch touched_whole (mapped_pages at_end) =
     touch.mapped E [] zeros at_end in_touch [] [] (mapped_pages at_end) whole stands still refl (refl, (refl, (refl, tt))) refl
     in
+    let peeked : answer_of E zeros (own_state E [] 1 in_touch touched_whole) 1 (commands.Peek (at_E 0 2)) ≡ steady (replies.Bytes (0 ∷ 0 ∷ [])) =
+    told.replies E [] zeros at_end in_touch touched_whole (commands.Peek (at_E 0 2)) (replies.Bytes (0 ∷ 0 ∷ [])) legal stands touched refl refl
+    in
     record {
       loaded = loaded;
       untouched = untouched;
@@ -130,6 +133,7 @@ returns c =
       accepted = accepted;
       told = told_all;
       touched = touched;
-      peeked = told.replies E [] zeros at_end in_touch touched_whole (commands.Peek (at_E 0 2)) (replies.Bytes (0 ∷ 0 ∷ [])) legal stands touched refl refl;
+      peeked = peeked;
+      and_told = grows.line E [] zeros 1 in_touch touched_whole touched_commands peek_line refl refl peeked told_all;
       left = pages.entries E [] 1 in_touch touched_whole (mapped_pages at_end) (entry_of 1 (Free 0 [] [])) told_all.fronts touched;
     }
