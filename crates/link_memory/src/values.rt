@@ -120,7 +120,10 @@ fn relative_to_segment(loc: u8, target: u32, sum: u32, flags: u32, narrow: bool)
     match loc {
         2 => bytes_of(u32::from(selector(narrow, flags, target))),
         3 => near_pointer(sum, tiled_selector(sum)),
-        11 => far_pointer(selected_offset(false, flags, sum), selector(false, flags, sum)),
+        11 => far_pointer(
+            selected_offset(false, flags, sum),
+            selector(false, flags, sum),
+        ),
         _ => bytes_of(sum),
     }
 }
