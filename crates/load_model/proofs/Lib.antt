@@ -27,4 +27,5 @@ pub mod Bounded
 pub mod BasesStay
 pub mod ViewWrites
 pub mod ViewLoads
+pub mod ViewLeaving
 pub mod FailedLoads

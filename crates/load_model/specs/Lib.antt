@@ -27,6 +27,7 @@ pub mod Rows
 pub mod Standing
 pub mod ViewAnswers
 pub mod ViewLaws
+pub mod ViewLeaving
 pub mod Outcomes
 pub mod Bounds
 pub mod FailedLoads

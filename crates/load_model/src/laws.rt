@@ -8,6 +8,7 @@ ghost use Rattle.load_model.specs.Serials.{SerialsRise, SerialsAreOwn, FaultsAre
 ghost use Rattle.load_model.specs.Fitness.{ReachedIsFit, FitnessIsClosed};
 ghost use Rattle.load_model.specs.ResidenceBases.{BasesStand, ResidentsFit};
 ghost use Rattle.load_model.specs.ViewLaws.{NewStands, StandsOn, StandsQuiet, StandsMapped, StandsWritten, StandsEntered, RefusedByView, AnsweredByView};
+ghost use Rattle.load_model.specs.ViewLeaving.{StandsLeft, KeptAreReached};
 ghost use Rattle.load_model.specs.Outcomes.{NamesAreKnown};
 ghost use Rattle.load_model.specs.Bounds.{CountsAreSmall};
 ghost use Rattle.load_model.specs.Touched.{AnsweredByPages, EntriesMoveTouched};
@@ -129,8 +130,8 @@ pub fn touched_pages_decide()
 {}
 
 /// What a process's own view stands for: nothing at first; it goes on through entries of other processes, behind
-/// entries of its own that change nothing in it, with a page more that is mapped, and behind a write and a
-/// load of its own.
+/// entries of its own that change nothing in it, with a page more that is mapped, and behind a write, a load, a
+/// free and an exit of its own.
 pub fn views_stand()
     ensures new { NewStands }
     ensures on { StandsOn }
@@ -138,6 +139,8 @@ pub fn views_stand()
     ensures mapped { StandsMapped }
     ensures written { StandsWritten }
     ensures entered { StandsEntered }
+    ensures left { StandsLeft }
+    ensures kept { KeptAreReached }
 {
     lx_model::order_is_reach();
 }
