@@ -24,6 +24,7 @@ pub mod ViewSteps
 pub mod ViewReplies
 pub mod Outcomes
 pub mod Bounded
+pub mod FewSerials
 pub mod BasesStay
 pub mod ViewWrites
 pub mod ViewLoads

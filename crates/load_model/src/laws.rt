@@ -10,7 +10,7 @@ ghost use Rattle.load_model.specs.ResidenceBases.{BasesStand, ResidentsFit};
 ghost use Rattle.load_model.specs.ViewLaws.{NewStands, StandsOn, StandsQuiet, StandsMapped, StandsWritten, StandsEntered, RefusedByView, AnsweredByView};
 ghost use Rattle.load_model.specs.ViewLeaving.{StandsLeft, KeptAreReached};
 ghost use Rattle.load_model.specs.Outcomes.{NamesAreKnown};
-ghost use Rattle.load_model.specs.Bounds.{CountsAreSmall};
+ghost use Rattle.load_model.specs.Bounds.{CountsAreSmall, OrdersAreFew, SerialsAreFew};
 ghost use Rattle.load_model.specs.Touched.{AnsweredByPages, EntriesMoveTouched};
 ghost use Rattle.load_model.specs.Alike.{OthersLeaveAlike, BasesAreAlike, BasesSeenStay};
 
@@ -163,3 +163,11 @@ pub fn names_are_known()
 pub fn counts_are_small()
     ensures { CountsAreSmall }
 {}
+
+/// A module of a library reaches no more modules than it has; so each entry gives 64 serial numbers at most.
+pub fn serials_are_few()
+    ensures orders { OrdersAreFew }
+    ensures serials { SerialsAreFew }
+{
+    lx_model::order_is_reach();
+}
