@@ -29,4 +29,5 @@ pub mod BasesStay
 pub mod ViewWrites
 pub mod ViewLoads
 pub mod ViewLeaving
+pub mod HeldWrites
 pub mod FailedLoads

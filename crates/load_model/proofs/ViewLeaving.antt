@@ -55,7 +55,7 @@ filter_twice {X} of g m h (x ∷ xs) = step (of x == m) refl (g (of x)) refl (fi
     step : (b : Bool) → (of x == m) ≡ b → (c : Bool) → g (of x) ≡ c → filter (λ y. of y == m) kept ≡ rest → filter (λ y. of y == m) (cond c (x ∷ kept) kept) ≡ cond b (x ∷ rest) rest
     step b e c f later = inner b c e later (λ t. sym f ∙ ap g (eqb-true (of x) m (e ∙ t)) ∙ h)
 
-all_filter : {X : Type 0} (P Q : X → Type 0) (f : X → Bool) → ((x : X) → f x ≡ true → P x → Q x) → (xs : List X) → AllByRecursion P xs → AllByRecursion Q (filter f xs)
+pub all_filter : {X : Type 0} (P Q : X → Type 0) (f : X → Bool) → ((x : X) → f x ≡ true → P x → Q x) → (xs : List X) → AllByRecursion P xs → AllByRecursion Q (filter f xs)
 all_filter P Q f each [] all = tt
 all_filter P Q f each (x ∷ xs) all = step (f x) refl (all_filter P Q f each xs all.1)
   where
@@ -118,7 +118,7 @@ reaches_behind : (lib : Library) (e : Eager) (pid : ℕ) (p : Process) (k : ℕ)
 reaches_behind lib e pid p k = ap (λ (s : Process). reaches lib s k) (leaving_process lib e pid p) ∙ reaches_keeping lib e p k
 
 -- a residence that is not left is of a module that is still reached
-still_reached : (lib : Library) (e : Eager) (pid : ℕ) (p : Process) (k : ℕ) (r : Residence) → Kept lib e → GivesUp lib (e.processes pid) p → attached_residence lib e pid k ≡ Some r →
+pub still_reached : (lib : Library) (e : Eager) (pid : ℕ) (p : Process) (k : ℕ) (r : Residence) → Kept lib e → GivesUp lib (e.processes pid) p → attached_residence lib e pid k ≡ Some r →
     not (is_among (left_serials lib e p) r.serial) ≡ true → reaches lib p k ≡ true
 still_reached lib e pid p k r kept gives is stays = step (reaches lib p k) refl
   where
@@ -140,7 +140,7 @@ still_reached lib e pid p k r kept gives is stays = step (reaches lib p k) refl
 reached_behind : (lib : Library) (e : Eager) (pid : ℕ) (p : Process) (k : ℕ) → is_among pids pid ≡ true → reaches lib p k ≡ true → is_reached lib (after_leaving lib e pid p) k ≡ true
 reached_behind lib e pid p k there reached = left_reached lib e pid p k there ∙ ap (λ b. b || others lib e pid k) reached
 
-residence_behind : (lib : Library) (e : Eager) (pid : ℕ) (p : Process) (k : ℕ) (r : Residence) → is_among pids pid ≡ true → Kept lib e → GivesUp lib (e.processes pid) p →
+pub residence_behind : (lib : Library) (e : Eager) (pid : ℕ) (p : Process) (k : ℕ) (r : Residence) → is_among pids pid ≡ true → Kept lib e → GivesUp lib (e.processes pid) p →
     attached_residence lib e pid k ≡ Some r → reaches lib p k ≡ true → attached_residence lib (after_leaving lib e pid p) pid k ≡ Some r
 residence_behind lib e pid p k r there kept gives is reached =
     attached_is_resident lib (after_leaving lib e pid p) pid k (reaches_behind lib e pid p k ∙ reached)
@@ -162,7 +162,7 @@ keeping_writes : (lib : Library) (e : Eager) (p : Process) → (keeping lib e p)
 unfolding keeping
 keeping_writes lib e p = refl
 
-writes_behind : (lib : Library) (e : Eager) (pid : ℕ) (p : Process) → p.writes ≡ (e.processes pid).writes →
+pub writes_behind : (lib : Library) (e : Eager) (pid : ℕ) (p : Process) → p.writes ≡ (e.processes pid).writes →
     ((after_leaving lib e pid p).processes pid).writes ≡ filter (λ (w : OwnWrite). is_kept lib e p w.serial) (e.processes pid).writes
 writes_behind lib e pid p same =
     ap (λ (s : Process). s.writes) (leaving_process lib e pid p) ∙ keeping_writes lib e p ∙ ap (filter (λ (w : OwnWrite). is_kept lib e p w.serial)) same
@@ -248,7 +248,7 @@ keeping_ended : (lib : Library) (e : Eager) (p : Process) → (keeping lib e p).
 unfolding keeping
 keeping_ended lib e p = refl
 
-given_up : (lib : Library) (e : Eager) (pid : ℕ) (d : Deed) (p : Process) → GivesUpTo d (e.processes pid) p →
+pub given_up : (lib : Library) (e : Eager) (pid : ℕ) (d : Deed) (p : Process) → GivesUpTo d (e.processes pid) p →
     GivesUp lib (e.processes pid) p × (p.writes ≡ (e.processes pid).writes) × (after_deed lib e pid d ≡ after_leaving lib e pid p)
 unfolding after_deed
 given_up lib e pid (deeds.Free m calls gone) p is = (

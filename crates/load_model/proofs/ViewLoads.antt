@@ -74,7 +74,7 @@ page_same lib contents e after q p it writes there bases = record {
 
 -- ---- the state behind a load
 
-held_writes : (how : How) (m : ℕ) (js : List ℕ) (p : Process) → (holding how m (attaching js p)).writes ≡ p.writes
+pub held_writes : (how : How) (m : ℕ) (js : List ℕ) (p : Process) → (holding how m (attaching js p)).writes ≡ p.writes
 held_writes Start m js p = refl
 held_writes Load m js p = refl
 
@@ -82,12 +82,12 @@ held_ended : (how : How) (m : ℕ) (js : List ℕ) (p : Process) → (holding ho
 held_ended Start m js p = refl
 held_ended Load m js p = refl
 
-entering_process : (lib : Library) (e : Eager) (q : ℕ) (how : How) (m : ℕ) (fresh : List Fresh) →
+pub entering_process : (lib : Library) (e : Eager) (q : ℕ) (how : How) (m : ℕ) (fresh : List Fresh) →
     (after_entering lib e q how m fresh).processes q ≡ holding how m (attaching (joined lib e q m) (e.processes q))
 unfolding after_entering with_process
 entering_process lib e q how m fresh = ap (λ b. if b then holding how m (attaching (joined lib e q m) (e.processes q)) else e.processes q) (eq-eqb q q refl)
 
-attached_grows : (lib : Library) (e : Eager) (q : ℕ) (how : How) (m : ℕ) (fresh : List Fresh) (k : ℕ) (r : Residence) → is_none (enter_refusal lib (e.processes q) how (Some m)) ≡ true →
+pub attached_grows : (lib : Library) (e : Eager) (q : ℕ) (how : How) (m : ℕ) (fresh : List Fresh) (k : ℕ) (r : Residence) → is_none (enter_refusal lib (e.processes q) how (Some m)) ≡ true →
     attached_residence lib e q k ≡ Some r → attached_residence lib (after_entering lib e q how m fresh) q k ≡ Some r
 attached_grows lib e q how m fresh k r may is =
     let reached : reaches lib (e.processes q) k ≡ true = (attached_is lib e q k r is).0 in

@@ -28,6 +28,7 @@ pub mod Standing
 pub mod ViewAnswers
 pub mod ViewLaws
 pub mod ViewLeaving
+pub mod HeldWrites
 pub mod Outcomes
 pub mod Bounds
 pub mod FailedLoads

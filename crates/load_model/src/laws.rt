@@ -9,6 +9,7 @@ ghost use Rattle.load_model.specs.Fitness.{ReachedIsFit, FitnessIsClosed};
 ghost use Rattle.load_model.specs.ResidenceBases.{BasesStand, ResidentsFit};
 ghost use Rattle.load_model.specs.ViewLaws.{NewStands, StandsOn, StandsQuiet, StandsMapped, StandsWritten, StandsEntered, RefusedByView, AnsweredByView};
 ghost use Rattle.load_model.specs.ViewLeaving.{StandsLeft, KeptAreReached};
+ghost use Rattle.load_model.specs.HeldWrites.{OwnWritesAreHeld};
 ghost use Rattle.load_model.specs.Outcomes.{NamesAreKnown};
 ghost use Rattle.load_model.specs.Bounds.{CountsAreSmall, OrdersAreFew, SerialsAreFew};
 ghost use Rattle.load_model.specs.Touched.{AnsweredByPages, EntriesMoveTouched};
@@ -171,3 +172,8 @@ pub fn serials_are_few()
 {
     lx_model::order_is_reach();
 }
+
+/// A process's own writes lie in residences that it reaches.
+pub fn own_writes_are_held()
+    ensures { OwnWritesAreHeld }
+{}
