@@ -23,6 +23,7 @@ pub mod SerialsOwn
 pub mod ViewSteps
 pub mod ViewReplies
 pub mod Outcomes
+pub mod ToldOutcomes
 pub mod Bounded
 pub mod FewSerials
 pub mod BasesStay

@@ -2,7 +2,7 @@
 //! crate above calls where it needs the law.
 
 ghost use Rattle.load_model.specs.Laws.{AsksDecide, PrefixIsLegal, EachFollows, OneMoreIsLegal, NothingIsLegal, OneMoreIsAfter, FaultOnce, ReachedIsResident, AttachedIsReached, GoneIsUnreached, ResidenceStays, ReachStays, OthersRefuseAlike, OthersAnswerAlike, OthersBytesAlike, HeldAnswersAlike, HeldHistoriesAlike, CountsAreResidence};
-ghost use Rattle.load_model.specs.Accepted.{AcceptedMayAsk, TouchedIsApart};
+ghost use Rattle.load_model.specs.Accepted.{AcceptedMayAsk, TouchedIsApart, AcceptedFollows};
 ghost use Rattle.load_model.specs.FailedLoads.{FailingStays, FailedLeavesNothing};
 ghost use Rattle.load_model.specs.Serials.{SerialsRise, SerialsAreOwn, FaultsAreGiven};
 ghost use Rattle.load_model.specs.Fitness.{ReachedIsFit, FitnessIsClosed};
@@ -10,7 +10,7 @@ ghost use Rattle.load_model.specs.ResidenceBases.{BasesStand, ResidentsFit};
 ghost use Rattle.load_model.specs.ViewLaws.{NewStands, StandsOn, StandsQuiet, StandsMapped, StandsWritten, StandsEntered, RefusedByView, AnsweredByView};
 ghost use Rattle.load_model.specs.ViewLeaving.{StandsLeft, KeptAreReached};
 ghost use Rattle.load_model.specs.HeldWrites.{OwnWritesAreHeld};
-ghost use Rattle.load_model.specs.Outcomes.{NamesAreKnown};
+ghost use Rattle.load_model.specs.Outcomes.{NamesAreKnown, RefusedIsTold, AcceptedIsTold};
 ghost use Rattle.load_model.specs.Bounds.{CountsAreSmall, OrdersAreFew, SerialsAreFew};
 ghost use Rattle.load_model.specs.Touched.{AnsweredByPages, EntriesMoveTouched};
 ghost use Rattle.load_model.specs.Alike.{OthersLeaveAlike, BasesAreAlike, BasesSeenStay};
@@ -88,10 +88,11 @@ pub fn serials_rise()
 {}
 
 /// A command that is not refused and has an entry may ask for it, and the entry is what the loader does
-/// then; what was touched decides neither.
+/// then; what was touched decides neither. So the entry follows the history.
 pub fn commands_are_asked()
     ensures accepted { AcceptedMayAsk }
     ensures touched { TouchedIsApart }
+    ensures follows { AcceptedFollows }
 {}
 
 /// An entry of another process leaves a process as it was, and the residences that it reaches, but for shared
@@ -176,4 +177,11 @@ pub fn serials_are_few()
 /// A process's own writes lie in residences that it reaches.
 pub fn own_writes_are_held()
     ensures { OwnWritesAreHeld }
+{}
+
+/// A refused command is told why. One that is not refused is told that its entry of this number is done, or of want
+/// of a place or an initialisation that failed, with that number, exactly where the entry says so.
+pub fn commands_are_told()
+    ensures refused { RefusedIsTold }
+    ensures accepted { AcceptedIsTold }
 {}
