@@ -1,5 +1,5 @@
 -- A view behind a free or an exit of its own.
-use Rattle.std.proofs.Common.{◌≡◌, ℕ, ◌==◌, Bool, true, false, cond, not, ◌&&◌, ◌||◌, List, [], ◌∷◌, ◌++◌, map, filter, find, length, Option, Some, None, option_map, is_some, refl, sym, ◌∙◌, ap, subst}
+use Rattle.std.proofs.Common.{◌≡◌, ℕ, ◌==◌, Bool, true, false, cond, if◌then◌else◌, not, ◌&&◌, ◌||◌, List, [], ◌∷◌, ◌++◌, map, filter, find, length, Option, Some, None, option_map, is_some, refl, sym, ◌∙◌, ap, subst}
 use Rattle.std.specs.List.{AllByRecursion, list_any, list_all}
 use Rattle.std.proofs.lemmas.Bool.{eqb-true, eq-eqb}
 use Rattle.lx_types.specs.Object.{class_of}
@@ -16,10 +16,10 @@ use Rattle.load_model.specs.Leaving.{freeing, exiting, left, left_serials, keepi
 use Rattle.load_model.specs.Memory.{is_page, page, pages_over, writes_of_class, bases_seen}
 use Rattle.load_model.specs.Asks.{is_own, after_deed}
 use Rattle.load_model.specs.Histories.{after_entry, state_after, Follows, Legal}
-use Rattle.load_model.specs.Touched.{has_page}
+use Rattle.load_model.specs.Touched.{has_page, pages_kept}
 use Rattle.load_model.specs.Rows.{Row, IsRowOf}
 use Rattle.load_model.specs.Standing.{Mapped, Holding, mapped_pages, stay_at, fresh_of, IsMapped, is_covered, IsViewOf, WasFixed, StandsFor}
-use Rattle.load_model.specs.ViewLeaving.{GivesUpTo, mapped_kept, KeptAreReached, StandsLeft}
+use Rattle.load_model.specs.ViewLeaving.{GivesUpTo, mapped_kept, KeptAreReached, KeptAreTouched, StandsLeft}
 use Rattle.load_model.proofs.Bools.{negated, and_left, and_right, or_true}
 use Rattle.load_model.proofs.Among.{any_filter, any_same}
 use Rattle.load_model.proofs.Orders.{OrdersNest, one_reaches}
@@ -321,3 +321,15 @@ kept_are_reached lib failing contents h x p q legal follows gives it = step (is_
         sym
         (still_reached lib e x.pid p it.residence.«module» it.residence (legal_kept lib failing contents h legal) gives_up it.there
         (ap (λ n. not (is_among (left_serials lib e p) n)) (sym it.serial) ∙ ap not is))
+
+-- ---- and what is touched
+
+pages_kept_are : (lib : Library) (e : Eager) (q : ℕ) (p after : Process) (ps : List Mapped) → after ≡ p →
+    pages_of (mapped_kept lib e after ps) ≡ (if q == q then pages_kept lib e p (pages_of ps) else pages_of ps)
+pages_kept_are lib e q p after ps is =
+    ap (λ s. pages_of (mapped_kept lib e s ps)) is ∙ map_filter (is_kept lib e p) ps ∙ sym (ap (λ b. if b then pages_kept lib e p (pages_of ps) else pages_of ps) (eq-eqb q q refl))
+
+pub kept_are_touched : KeptAreTouched
+kept_are_touched lib v e (deeds.Free m calls gone) after is = pages_kept_are lib e v.pid (freeing m (e.processes v.pid)) after v.mapped is
+kept_are_touched lib v e (deeds.Exit calls gone) after is = pages_kept_are lib e v.pid (exiting (e.processes v.pid)) after v.mapped is
+kept_are_touched lib v e d after is = absurd is

@@ -8,7 +8,7 @@ ghost use Rattle.load_model.specs.Serials.{SerialsRise, SerialsAreOwn, FaultsAre
 ghost use Rattle.load_model.specs.Fitness.{ReachedIsFit, FitnessIsClosed};
 ghost use Rattle.load_model.specs.ResidenceBases.{BasesStand, ResidentsFit};
 ghost use Rattle.load_model.specs.ViewLaws.{NewStands, StandsOn, StandsQuiet, StandsMapped, StandsWritten, StandsEntered, RefusedByView, AnsweredByView};
-ghost use Rattle.load_model.specs.ViewLeaving.{StandsLeft, KeptAreReached};
+ghost use Rattle.load_model.specs.ViewLeaving.{StandsLeft, KeptAreReached, KeptAreTouched};
 ghost use Rattle.load_model.specs.HeldWrites.{OwnWritesAreHeld};
 ghost use Rattle.load_model.specs.Outcomes.{NamesAreKnown, RefusedIsTold, AcceptedIsTold};
 ghost use Rattle.load_model.specs.Bounds.{CountsAreSmall, OrdersAreFew, SerialsAreFew};
@@ -143,6 +143,7 @@ pub fn views_stand()
     ensures entered { StandsEntered }
     ensures left { StandsLeft }
     ensures kept { KeptAreReached }
+    ensures touched { KeptAreTouched }
 {
     lx_model::order_is_reach();
 }
