@@ -30,5 +30,6 @@ pub mod BasesStay
 pub mod ViewWrites
 pub mod ViewLoads
 pub mod ViewLeaving
+pub mod TouchSteps
 pub mod HeldWrites
 pub mod FailedLoads

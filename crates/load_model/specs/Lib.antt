@@ -28,6 +28,8 @@ pub mod Standing
 pub mod ViewAnswers
 pub mod ViewLaws
 pub mod ViewLeaving
+pub mod TouchSteps
+pub mod WorkedSteps
 pub mod HeldWrites
 pub mod Outcomes
 pub mod Bounds

@@ -46,7 +46,13 @@ outcome_of number (steady reply) = told reply
 abbrev pub HasDone : Deed → Type 0
 HasDone (deeds.Full how m of object size) = ⊥
 HasDone (deeds.Failed how m by fresh calls gone) = ⊥
-HasDone deed = Unit {0}
+HasDone (deeds.Enter how m fresh calls) = Unit {0}
+HasDone (deeds.Free m calls gone) = Unit {0}
+HasDone (deeds.Exit calls gone) = Unit {0}
+HasDone (deeds.Fault serial m p) = Unit {0}
+HasDone (deeds.Write serial m object offset bytes) = Unit {0}
+HasDone (deeds.Debug serial m object offset bytes) = Unit {0}
+HasDone (deeds.Shared serial m object offset bytes) = Unit {0}
 
 -- The caller is told of the entry of this number: why nothing was loaded, exactly where the entry says so; otherwise
 -- that it is done.

@@ -10,6 +10,7 @@ ghost use Rattle.load_model.specs.ResidenceBases.{BasesStand, ResidentsFit};
 ghost use Rattle.load_model.specs.ViewLaws.{NewStands, StandsOn, StandsQuiet, StandsMapped, StandsWritten, StandsEntered, RefusedByView, AnsweredByView};
 ghost use Rattle.load_model.specs.ViewLeaving.{StandsLeft, KeptAreReached, KeptAreTouched};
 ghost use Rattle.load_model.specs.HeldWrites.{OwnWritesAreHeld};
+ghost use Rattle.load_model.specs.TouchSteps.{OthersCountNothing, FaultCounts, MappedCounts};
 ghost use Rattle.load_model.specs.Outcomes.{NamesAreKnown, RefusedIsTold, AcceptedIsTold};
 ghost use Rattle.load_model.specs.Bounds.{CountsAreSmall, OrdersAreFew, SerialsAreFew};
 ghost use Rattle.load_model.specs.Touched.{AnsweredByPages, EntriesMoveTouched};
@@ -185,4 +186,12 @@ pub fn own_writes_are_held()
 pub fn commands_are_told()
     ensures refused { RefusedIsTold }
     ensures accepted { AcceptedIsTold }
+{}
+
+/// The steps of a touch grow with each fault that it makes, and each private page that it maps, by the sources of
+/// that page's fixups; entries of other processes, and other pages that it maps, count nothing.
+pub fn steps_are_sources()
+    ensures others { OthersCountNothing }
+    ensures fault { FaultCounts }
+    ensures mapped { MappedCounts }
 {}

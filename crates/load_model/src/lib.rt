@@ -15,5 +15,6 @@ pub use laws::{
     failed_loads_leave_nothing, faults_are_given, faults_come_once, gone_is_unreached,
     histories_grow, names_are_known, others_change_nothing, others_leave_alike,
     own_writes_are_held, reached_is_fit, residences_stand, residences_stay, residents_are_reached,
-    serials_are_few, serials_rise, touched_pages_decide, views_answer, views_stand,
+    serials_are_few, serials_rise, steps_are_sources, touched_pages_decide, views_answer,
+    views_stand,
 };
