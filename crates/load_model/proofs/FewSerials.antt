@@ -1,7 +1,7 @@
 -- An order is no longer than the library, so an entry gives few serial numbers.
-use Rattle.std.proofs.Common.{◌≡◌, ℕ, ◌+◌, ◌*◌, ◌<◌, ◌≤◌, ◌==◌, Bool, true, false, not, List, [], ◌∷◌, ◌++◌, map, filter, length, refl, sym, ◌∙◌, ap, subst, append_assoc, arith}
-use Rattle.std.specs.Prelude.{Contains, AllPairs, is_none}
-use Rattle.std.specs.List.{list_any, IsDistinct}
+use Rattle.std.proofs.Common.{◌≡◌, ℕ, ◌+◌, ◌*◌, ◌<◌, ◌≤◌, ◌==◌, Bool, true, false, not, List, [], ◌∷◌, ◌++◌, filter, length, refl, sym, ◌∙◌, ap, subst, append_assoc, arith}
+use Rattle.std.specs.Prelude.{Contains, is_none}
+use Rattle.std.specs.List.{list_any}
 use Rattle.std.proofs.lemmas.Bool.{eqb-true, eq-eqb, ltb-true}
 use Rattle.std.proofs.lemmas.List.{append-nil, length-append, length-map}
 use Rattle.std.proofs.lemmas.List.Sums.{length-filter, count_by-le-length}
@@ -17,11 +17,11 @@ use Rattle.load_model.specs.declared.deeds.Deed.TheVariants as deeds
 use Rattle.load_model.specs.declared.deeds.Entry.{Entry}
 use Rattle.load_model.specs.declared.deeds.Fresh.{Fresh}
 use Rattle.load_model.specs.Modules.{Library, Held, order_of, object_at}
-use Rattle.load_model.specs.State.{Failing, Eager, with_process, reaches, residence_of, is_among}
+use Rattle.load_model.specs.State.{Failing, Eager, with_process, reaches, residence_of}
 use Rattle.load_model.specs.Entering.{joined, newcomers, after_entering}
 use Rattle.load_model.specs.Leaving.{after_leaving}
-use Rattle.load_model.specs.Asks.{ask_in, may_ask, deed_of, after_deed}
-use Rattle.load_model.specs.Histories.{after_entry, state_after, Follows, AllFollow, Legal}
+use Rattle.load_model.specs.Asks.{may_ask, deed_of, after_deed}
+use Rattle.load_model.specs.Histories.{state_after, Follows, AllFollow, Legal}
 use Rattle.load_model.specs.Bounds.{OrdersAreFew, SerialsAreFew}
 use Rattle.load_model.proofs.Bools.{and_left}
 use Rattle.load_model.proofs.Among.{any_same}

@@ -1,5 +1,5 @@
 -- A process's own writes lie in residences that it reaches.
-use Rattle.std.proofs.Common.{◌≡◌, ℕ, ◌==◌, Bool, true, false, not, ◌&&◌, List, [], ◌∷◌, ◌++◌, filter, Option, Some, None, refl, sym, ◌∙◌, ap, subst, append_assoc}
+use Rattle.std.proofs.Common.{◌≡◌, ℕ, ◌==◌, Bool, true, false, not, List, [], ◌∷◌, ◌++◌, Option, Some, None, refl, sym, ◌∙◌, ap, subst, append_assoc}
 use Rattle.std.specs.Prelude.{is_none, nat_lt}
 use Rattle.std.specs.List.{AllByRecursion}
 use Rattle.std.proofs.lemmas.Bool.{eqb-true}
@@ -14,9 +14,8 @@ use Rattle.load_model.specs.declared.deeds.How.{How}
 use Rattle.load_model.specs.declared.deeds.Fresh.{Fresh}
 use Rattle.load_model.specs.Modules.{Library, Held, module_count, object_at}
 use Rattle.load_model.specs.State.{Written, OwnWrite, Residence, Process, Failing, Eager, pids, is_among, attached_residence}
-use Rattle.load_model.specs.Entering.{joined, holding, attaching, after_entering}
+use Rattle.load_model.specs.Entering.{joined, after_entering}
 use Rattle.load_model.specs.Leaving.{freeing, exiting, left_serials, after_leaving}
-use Rattle.load_model.specs.Memory.{writing}
 use Rattle.load_model.specs.Refusals.{enter_refusal}
 use Rattle.load_model.specs.Asks.{may_ask, is_serial, is_attached, after_write, after_deed}
 use Rattle.load_model.specs.Histories.{after_entry, state_after, Follows, AllFollow, Legal}

@@ -1,12 +1,11 @@
 -- What callers are told, and that their entries follow the history.
-use Rattle.std.proofs.Common.{◌≡◌, ℕ, Bool, true, false, List, length, Option, Some, None, Result, Ok, Err, refl, sym, ◌∙◌, ap, subst}
+use Rattle.std.proofs.Common.{◌≡◌, ℕ, true, List, length, Option, Some, None, Result, Ok, Err, refl, sym, ◌∙◌, ap, subst}
 use Rattle.std.specs.List.{range_with_len}
 use Rattle.std.proofs.lemmas.List.{length-map}
 use Rattle.std.proofs.lemmas.List.FromFn.{length-range_with_len}
 use Rattle.lx_types.specs.declared.object.PageId.{PageId}
 use Rattle.load_model.specs.declared.commands.Command.{Command}
 use Rattle.load_model.specs.declared.commands.Command.TheVariants as commands
-use Rattle.load_model.specs.declared.commands.Refusal.{Refusal}
 use Rattle.load_model.specs.declared.commands.Reply.TheVariants as replies
 use Rattle.load_model.specs.declared.deeds.Deed.{Deed}
 use Rattle.load_model.specs.declared.deeds.Deed.TheVariants as deeds
@@ -18,12 +17,11 @@ use Rattle.load_model.specs.State.{Residence, Eager, attached_residence}
 use Rattle.load_model.specs.Entering.{NoRoom, placing}
 use Rattle.load_model.specs.Initialising.{failing_module, entered, enter_by, enter_deed}
 use Rattle.load_model.specs.Memory.{Byte, Bytes}
-use Rattle.load_model.specs.Refusals.{refusal_of}
 use Rattle.load_model.specs.Asks.{Ask, enter, free, exit, fault, put, patch, get, ask_in, bytes_at, deed_of, is_serial, may_ask}
-use Rattle.load_model.specs.Step.{Answer, entry, steady, fine_answer, answer_of, ask_by}
+use Rattle.load_model.specs.Step.{Answer, steady, fine_answer, answer_of, ask_by}
 use Rattle.load_model.specs.Histories.{state_after, is_first_fault}
 use Rattle.load_model.specs.Accepted.{retouched, AcceptedFollows}
-use Rattle.load_model.specs.Outcomes.{Outcome, outcome_of_entry, outcome_of, IsTold, RefusedIsTold, AcceptedIsTold}
+use Rattle.load_model.specs.Outcomes.{outcome_of_entry, outcome_of, IsTold, RefusedIsTold, AcceptedIsTold}
 use Rattle.load_model.specs.Outcomes.IsTold.{arena_full, init_failed, is_done}
 use Rattle.load_model.proofs.Bools.{and_left, and_right}
 use Rattle.load_model.proofs.Accepted.{accepted_may_ask}

@@ -1,8 +1,7 @@
 -- A view behind a free or an exit of its own.
 use Rattle.std.proofs.Common.{◌≡◌, ℕ, ◌==◌, Bool, true, false, cond, if◌then◌else◌, not, ◌&&◌, ◌||◌, List, [], ◌∷◌, ◌++◌, map, filter, find, length, Option, Some, None, option_map, is_some, refl, sym, ◌∙◌, ap, subst}
-use Rattle.std.specs.List.{AllByRecursion, list_any, list_all}
+use Rattle.std.specs.List.{AllByRecursion, list_all}
 use Rattle.std.proofs.lemmas.Bool.{eqb-true, eq-eqb}
-use Rattle.lx_types.specs.Object.{class_of}
 use Rattle.lx_types.specs.declared.object.Class.{Class}
 use Rattle.lx_types.specs.declared.object.Class.TheVariants as classes
 use Rattle.lx_types.specs.declared.object.PageId.{PageId}
@@ -10,15 +9,15 @@ use Rattle.load_model.specs.declared.deeds.Deed.{Deed}
 use Rattle.load_model.specs.declared.deeds.Deed.TheVariants as deeds
 use Rattle.load_model.specs.declared.deeds.Entry.{Entry}
 use Rattle.load_model.specs.declared.deeds.Fresh.{Fresh}
-use Rattle.load_model.specs.Modules.{Library, Held, object_at}
-use Rattle.load_model.specs.State.{PageOf, Written, OwnWrite, Residence, Process, Failing, Eager, pids, is_among, reaches, is_reached, residence_of, serial_of, attached_residence}
+use Rattle.load_model.specs.Modules.{Library, Held}
+use Rattle.load_model.specs.State.{PageOf, OwnWrite, Residence, Process, Failing, Eager, pids, is_among, reaches, is_reached, residence_of, serial_of, attached_residence}
 use Rattle.load_model.specs.Leaving.{freeing, exiting, left, left_serials, keeping, after_leaving}
 use Rattle.load_model.specs.Memory.{is_page, page, pages_over, writes_of_class, bases_seen}
-use Rattle.load_model.specs.Asks.{is_own, after_deed}
-use Rattle.load_model.specs.Histories.{after_entry, state_after, Follows, Legal}
+use Rattle.load_model.specs.Asks.{after_deed}
+use Rattle.load_model.specs.Histories.{state_after, Follows, Legal}
 use Rattle.load_model.specs.Touched.{has_page, pages_kept}
 use Rattle.load_model.specs.Rows.{Row, IsRowOf}
-use Rattle.load_model.specs.Standing.{Mapped, Holding, mapped_pages, stay_at, fresh_of, IsMapped, is_covered, IsViewOf, WasFixed, StandsFor}
+use Rattle.load_model.specs.Standing.{Mapped, Holding, mapped_pages, fresh_of, IsMapped, is_covered, WasFixed, StandsFor}
 use Rattle.load_model.specs.ViewLeaving.{GivesUpTo, mapped_kept, KeptAreReached, KeptAreTouched, StandsLeft}
 use Rattle.load_model.proofs.Bools.{negated, and_left, and_right, or_true}
 use Rattle.load_model.proofs.Among.{any_filter, any_same}
