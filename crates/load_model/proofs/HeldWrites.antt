@@ -1,5 +1,5 @@
 -- A process's own writes lie in residences that it reaches.
-use Rattle.std.proofs.Common.{◌≡◌, ℕ, ◌==◌, Bool, true, false, not, List, [], ◌∷◌, ◌++◌, Option, Some, None, refl, sym, ◌∙◌, ap, subst, append_assoc}
+use Rattle.std.proofs.Common.{◌≡◌, ℕ, ◌==◌, Bool, true, false, not, ◌&&◌, List, [], ◌∷◌, ◌++◌, length, Option, Some, None, refl, sym, ◌∙◌, ap, subst, append_assoc}
 use Rattle.std.specs.Prelude.{is_none, nat_lt}
 use Rattle.std.specs.List.{AllByRecursion}
 use Rattle.std.proofs.lemmas.Bool.{eqb-true}
@@ -16,7 +16,9 @@ use Rattle.load_model.specs.Modules.{Library, Held, module_count, object_at}
 use Rattle.load_model.specs.State.{Written, OwnWrite, Residence, Process, Failing, Eager, pids, is_among, attached_residence}
 use Rattle.load_model.specs.Entering.{joined, after_entering}
 use Rattle.load_model.specs.Leaving.{freeing, exiting, left_serials, after_leaving}
-use Rattle.load_model.specs.Refusals.{enter_refusal}
+use Rattle.load_model.specs.declared.commands.Refusal.{Refusal}
+use Rattle.load_model.specs.declared.commands.Refusal.TheVariants.{Range, Invalid}
+use Rattle.load_model.specs.Refusals.{Purpose, write, peek, debug, when, ◌orelse◌, is_outside, covers_invalid, class_refusal, span_refusal, enter_refusal}
 use Rattle.load_model.specs.Asks.{may_ask, is_serial, is_attached, after_write, after_deed}
 use Rattle.load_model.specs.Histories.{after_entry, state_after, Follows, AllFollow, Legal}
 use Rattle.load_model.specs.Laws.{stay_of}
@@ -28,7 +30,7 @@ use Rattle.load_model.proofs.Kept.{Kept}
 use Rattle.load_model.proofs.KeptLeaving.{GivesUp, freeing_gives_up, exiting_gives_up}
 use Rattle.load_model.proofs.Residents.{legal_kept}
 use Rattle.load_model.proofs.Apart.{attached_stays, others_leave_alike}
-use Rattle.load_model.proofs.Bytes.{with_writes, same_stay, some_stay, attached_is}
+use Rattle.load_model.proofs.Bytes.{left_none, right_none, with_writes, same_stay, some_stay, attached_is}
 use Rattle.load_model.proofs.ViewSteps.{quiet_alike, shared_alike}
 use Rattle.load_model.proofs.ViewLoads.{entering_process, attached_grows, held_writes}
 use Rattle.load_model.proofs.ViewWrites.{own_process, attached_written, attached_in}
@@ -58,6 +60,7 @@ alike_one lib e after q w alike it =
       residence = with_writes it.residence b.writes;
       there = is ∙ ap Some (same_stay it.residence b (ap stay_of (sym is) ∙ same));
       serial = it.serial;
+      span = it.span;
     }
 
 alike_held : (lib : Library) (e after : Eager) (q : ℕ) → Alike lib e after q → AllHeld lib e q → AllHeld lib after q
@@ -73,12 +76,13 @@ entered_held lib e q how m fresh may all =
     subst (AllByRecursion (IsHeldBy lib (after_entering lib e q how m fresh) q))
     (sym (ap (λ (p : Process). p.writes) (entering_process lib e q how m fresh) ∙ held_writes how m (joined lib e q m) (e.processes q)))
     (all_moved (IsHeldBy lib e q) (IsHeldBy lib (after_entering lib e q how m fresh) q)
-    (λ w it. record { residence = it.residence; there = attached_grows lib e q how m fresh it.residence.«module» it.residence may it.there; serial = it.serial }) (e.processes q).writes all)
+    (λ w it. record { residence = it.residence; there = attached_grows lib e q how m fresh it.residence.«module» it.residence may it.there; serial = it.serial; span = it.span }) (e.processes q).writes all)
 
 -- ---- where it writes
 
-attached_serial : (lib : Library) (e : Eager) (q serial m : ℕ) (w : Written) → is_attached lib e q serial m ≡ true → IsHeldBy lib e q (record { serial = serial; write = w })
-attached_serial lib e q serial m w at = step (attached_residence lib e q m) refl at
+attached_serial : (lib : Library) (e : Eager) (q serial m : ℕ) (w : Written) → is_attached lib e q serial m ≡ true →
+    span_refusal lib peek m w.object w.offset (length w.bytes) ≡ None → IsHeldBy lib e q (record { serial = serial; write = w })
+attached_serial lib e q serial m w at span = step (attached_residence lib e q m) refl at
   where
     step : (o : Option Residence) → attached_residence lib e q m ≡ o → is_serial serial o ≡ true → IsHeldBy lib e q (record { serial = serial; write = w })
     step None is at = cc
@@ -86,19 +90,48 @@ attached_serial lib e q serial m w at = step (attached_residence lib e q m) refl
       residence = r;
       there = ap (attached_residence lib e q) (attached_is lib e q m r is).1 ∙ is;
       serial = sym (eqb-true r.serial serial at);
+      span = ap (λ n. span_refusal lib peek n w.object w.offset (length w.bytes)) (attached_is lib e q m r is).1 ∙ span;
     }
 
-written_held : (lib : Library) (e : Eager) (q serial m : ℕ) (w : Written) (c : Class) → is_attached lib e q serial m ≡ true → AllHeld lib e q → AllHeld lib (after_write e q serial w c) q
-written_held lib e q serial m w classes.Code at all = all
-written_held lib e q serial m w classes.Shared at all = alike_held lib e (after_write e q serial w classes.Shared) q (shared_alike lib e q serial w classes.Shared refl) all
-written_held lib e q serial m w classes.Private at all =
+written_held : (lib : Library) (e : Eager) (q serial m : ℕ) (w : Written) (c : Class) → is_attached lib e q serial m ≡ true →
+    (c ≡ classes.Private → span_refusal lib peek m w.object w.offset (length w.bytes) ≡ None) → AllHeld lib e q → AllHeld lib (after_write e q serial w c) q
+written_held lib e q serial m w classes.Code at span all = all
+written_held lib e q serial m w classes.Shared at span all = alike_held lib e (after_write e q serial w classes.Shared) q (shared_alike lib e q serial w classes.Shared refl) all
+written_held lib e q serial m w classes.Private at span all =
     let after : Eager = after_write e q serial w classes.Private in
     let moved : (o : OwnWrite) → IsHeldBy lib e q o → IsHeldBy lib after q o =
-    λ o it. record { residence = it.residence; there = attached_written lib e q serial it.residence.«module» w ∙ it.there; serial = it.serial }
+    λ o it. record { residence = it.residence; there = attached_written lib e q serial it.residence.«module» w ∙ it.there; serial = it.serial; span = it.span }
     in
     subst (λ (p : Process). AllByRecursion (IsHeldBy lib after q) p.writes) (sym (own_process e q serial w))
     (one_more (IsHeldBy lib after q) (e.processes q).writes (record { serial = serial; write = w }) (all_moved (IsHeldBy lib e q) (IsHeldBy lib after q) moved (e.processes q).writes all)
-    (moved (record { serial = serial; write = w }) (attached_serial lib e q serial m w at)))
+    (moved (record { serial = serial; write = w }) (attached_serial lib e q serial m w at (span refl))))
+
+none_is : (o : Option Refusal) → is_none o ≡ true → o ≡ None
+none_is None h = refl
+none_is (Some r) h = cc
+
+span_in : (ended a : Bool) (o : Option Refusal) → not ended && (a && is_none o) ≡ true → o ≡ None
+span_in ended a o may = none_is o (and_right a (is_none o) (and_right (not ended) _ may))
+
+span_as : (lib : Library) (how : Purpose) (m object offset len : ℕ) → class_refusal how (class_of (object_at lib m object)) ≡ class_refusal peek (class_of (object_at lib m object)) →
+    span_refusal lib how m object offset len ≡ span_refusal lib peek m object offset len
+unfolding span_refusal
+span_as lib how m object offset len same = ap (λ r. when (is_outside lib m object offset len) Range orelse r orelse when (covers_invalid lib m object offset len) Invalid) same
+
+written_span : (lib : Library) (m object offset len : ℕ) → span_refusal lib write m object offset len ≡ None → class_of (object_at lib m object) ≡ classes.Private →
+    span_refusal lib peek m object offset len ≡ None
+written_span lib m object offset len fine private =
+    sym (span_as lib write m object offset len (ap (class_refusal write) private ∙ sym (ap (class_refusal peek) private))) ∙ fine
+
+debugged_span : (lib : Library) (m object offset len : ℕ) → span_refusal lib debug m object offset len ≡ None → span_refusal lib peek m object offset len ≡ None
+unfolding span_refusal
+debugged_span lib m object offset len fine =
+    sym (span_as lib debug m object offset len (step (class_of (object_at lib m object)) (left_none _ _ (right_none (when (is_outside lib m object offset len) Range) _ fine)))) ∙ fine
+  where
+    step : (c : Class) → class_refusal debug c ≡ None → class_refusal debug c ≡ class_refusal peek c
+    step classes.Code h = refl
+    step classes.Private h = cc
+    step classes.Shared h = cc
 
 -- ---- where it leaves
 
@@ -112,6 +145,7 @@ left_held lib e q p there kept gives same all =
       there = residence_behind lib e q p it.residence.«module» it.residence there kept gives it.there
           (still_reached lib e q p it.residence.«module» it.residence kept gives it.there (ap (λ n. not (is_among (left_serials lib e p) n)) (sym it.serial) ∙ stays));
       serial = it.serial;
+      span = it.span;
     })
     (e.processes q).writes all)
 
@@ -134,10 +168,12 @@ deed_held lib failing contents h pid (deeds.Exit calls gone) legal follows all =
 deed_held lib failing contents h pid (deeds.Fault serial m p) legal follows all = all
 deed_held lib failing contents h pid (deeds.Write serial m object offset bytes) legal follows all =
     written_held lib (state_after lib failing h) pid serial m (record { object = object; offset = offset; bytes = bytes }) (class_of (object_at lib m object))
-    (attached_in lib (state_after lib failing h) pid ((state_after lib failing h).processes pid).ended _ _ follows.may) all
+    (attached_in lib (state_after lib failing h) pid ((state_after lib failing h).processes pid).ended _ _ follows.may)
+    (written_span lib m object offset (length bytes) (span_in _ _ _ follows.may)) all
 deed_held lib failing contents h pid (deeds.Debug serial m object offset bytes) legal follows all =
     written_held lib (state_after lib failing h) pid serial m (record { object = object; offset = offset; bytes = bytes }) classes.Private
-    (attached_in lib (state_after lib failing h) pid ((state_after lib failing h).processes pid).ended _ _ follows.may) all
+    (attached_in lib (state_after lib failing h) pid ((state_after lib failing h).processes pid).ended _ _ follows.may)
+    (λ private. debugged_span lib m object offset (length bytes) (span_in _ _ _ follows.may)) all
 deed_held lib failing contents h pid (deeds.Shared serial m object offset bytes) legal follows all = all
 
 -- ---- a history

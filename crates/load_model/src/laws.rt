@@ -176,7 +176,7 @@ pub fn serials_are_few()
     lx_model::order_is_reach();
 }
 
-/// A process's own writes lie in residences that it reaches.
+/// A process's own writes lie in residences that it reaches, in private objects or code.
 pub fn own_writes_are_held()
     ensures { OwnWritesAreHeld }
 {}
