@@ -1,5 +1,5 @@
 -- An order is no longer than the library, so an entry gives few serial numbers.
-use Rattle.std.proofs.Common.{◌≡◌, ℕ, ◌+◌, ◌*◌, ◌<◌, ◌≤◌, ◌==◌, Bool, true, false, not, List, [], ◌∷◌, ◌++◌, filter, length, refl, sym, ◌∙◌, ap, subst, append_assoc, arith}
+use Rattle.std.proofs.Common.{◌≡◌, ℕ, ◌+◌, ◌*◌, ◌<◌, ◌≤◌, ◌==◌, Bool, true, not, List, [], ◌∷◌, ◌++◌, filter, length, refl, sym, ◌∙◌, ap, subst, append_assoc, arith}
 use Rattle.std.specs.Prelude.{Contains, is_none}
 use Rattle.std.specs.List.{list_any}
 use Rattle.std.proofs.lemmas.Bool.{eqb-true, eq-eqb, ltb-true}
@@ -29,21 +29,13 @@ use Rattle.load_model.proofs.Orders.{among_contains}
 use Rattle.load_model.proofs.Growing.{one_more_is_after}
 use Rattle.load_model.proofs.Kept.{modules_of, fresh_are_new}
 use Rattle.load_model.proofs.GivenSerials.{written_serials}
+use Rattle.load_model.proofs.ViewWrites.{turned}
 use Rattle.load_model.proofs.FailedLoads.{failed_leaves_nothing}
 
 -- ---- an order
 
-turned : (a b : ℕ) → (a == b) ≡ (b == a)
-turned a b = step (a == b) refl (b == a) refl
-  where
-    step : (x : Bool) → (a == b) ≡ x → (y : Bool) → (b == a) ≡ y → x ≡ y
-    step true p true q = refl
-    step false p false q = refl
-    step true p false q = sym (eq-eqb b a (sym (eqb-true a b p))) ∙ q
-    step false p true q = sym p ∙ eq-eqb a b (sym (eqb-true b a q))
-
 contained : (q : ℕ) (xs : List ℕ) → list_any (λ x. q == x) xs ≡ true → Contains xs q
-contained q xs h = among_contains xs q (any_same (λ x. x == q) (λ x. q == x) (λ x. turned x q) xs ∙ h)
+contained q xs h = among_contains xs q (any_same (λ x. x == q) (λ x. q == x) (λ x. turned q x (q == x) refl) xs ∙ h)
 
 pub orders_are_few : OrderHasEachOnce → OrderIsInLibrary → OrdersAreFew
 unfolding order_of

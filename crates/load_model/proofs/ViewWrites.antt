@@ -151,7 +151,7 @@ other_lies classes.Shared lib contents e q serial w r object x is apart = refl
 abbrev Aims : Library → Eager → ℕ → ℕ → Written → Type 0
 Aims lib e q serial w = (m : ℕ) (r : Residence) → attached_residence lib e q m ≡ Some r → r.serial ≡ serial → class_refusal peek (class_of (object_at lib r.«module» w.object)) ≡ None
 
-turned : (a b : ℕ) (c : Bool) → (a == b) ≡ c → (b == a) ≡ c
+pub turned : (a b : ℕ) (c : Bool) → (a == b) ≡ c → (b == a) ≡ c
 turned a b true is = eq-eqb b a (sym (eqb-true a b is))
 turned a b false is = step (b == a) refl
   where
