@@ -23,7 +23,7 @@ use Rattle.load_model.proofs.Serials.{serials_rise}
 
 -- ---- serial numbers do not fall
 
-written_serials : (e : Eager) (pid serial : ℕ) (w : Written) (c : Class) → (after_write e pid serial w c).serials ≡ e.serials
+pub written_serials : (e : Eager) (pid serial : ℕ) (w : Written) (c : Class) → (after_write e pid serial w c).serials ≡ e.serials
 unfolding with_process
 written_serials e pid serial w classes.Code = refl
 written_serials e pid serial w classes.Private = refl

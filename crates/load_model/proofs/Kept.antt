@@ -29,7 +29,7 @@ same_number n = eq-eqb n n refl
 abbrev pub others : Library → Eager → ℕ → ℕ → Bool
 others lib e pid m = list_any (λ q. not (q == pid) && reaches lib (e.processes q) m) pids
 
-process_at : (e : Eager) (pid : ℕ) (p : Process) → (with_process e pid p).processes pid ≡ p
+pub process_at : (e : Eager) (pid : ℕ) (p : Process) → (with_process e pid p).processes pid ≡ p
 unfolding with_process
 process_at e pid p = ap (λ b. if b then p else e.processes pid) (same_number pid)
 

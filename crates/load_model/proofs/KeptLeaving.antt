@@ -73,7 +73,7 @@ gone_is false true s = sym (and_false s)
 gone_is false false true = refl
 gone_is false false false = refl
 
-left_among : (lib : Library) (e : Eager) (pid : ℕ) (p : Process) (k : ℕ) → Kept lib e → GivesUp lib (e.processes pid) p →
+pub left_among : (lib : Library) (e : Eager) (pid : ℕ) (p : Process) (k : ℕ) → Kept lib e → GivesUp lib (e.processes pid) p →
     is_among (left lib p) k ≡ reaches lib (e.processes pid) k && not (reaches lib p k)
 unfolding left
 left_among lib e pid p k kept gives =
@@ -88,7 +88,7 @@ gone_among lib e pid p k there kept gives =
     ∙ ap (λ b. b && not (is_reached lib (with_process e pid p) k)) (left_among lib e pid p k kept gives)
     ∙ ap (λ b. (reaches lib (e.processes pid) k && not (reaches lib p k)) && not b) (reached_with lib e pid p k there)
 
-reaches_keeping : (lib : Library) (e : Eager) (p : Process) (k : ℕ) → reaches lib (keeping lib e p) k ≡ reaches lib p k
+pub reaches_keeping : (lib : Library) (e : Eager) (p : Process) (k : ℕ) → reaches lib (keeping lib e p) k ≡ reaches lib p k
 unfolding reaches keeping
 reaches_keeping lib e p k = refl
 

@@ -23,8 +23,13 @@ pub mod SerialsOwn
 pub mod ViewSteps
 pub mod ViewReplies
 pub mod Outcomes
+pub mod ToldOutcomes
 pub mod Bounded
+pub mod FewSerials
 pub mod BasesStay
 pub mod ViewWrites
 pub mod ViewLoads
+pub mod ViewLeaving
+pub mod TouchSteps
+pub mod HeldWrites
 pub mod FailedLoads

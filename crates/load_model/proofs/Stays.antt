@@ -70,7 +70,7 @@ entered_stays lib e pid how m fresh k h = find_append (λ r. r.«module» == k) 
 not_gone : (a n : Bool) → n ≡ true → not (a && not n) ≡ true
 not_gone a n h = ap (λ x. not (a && not x)) h ∙ ap not (and_false a)
 
-left_stays : (lib : Library) (e : Eager) (pid : ℕ) (p : Process) (k : ℕ) → is_among pids pid ≡ true → Kept lib e → GivesUp lib (e.processes pid) p →
+pub left_stays : (lib : Library) (e : Eager) (pid : ℕ) (p : Process) (k : ℕ) → is_among pids pid ≡ true → Kept lib e → GivesUp lib (e.processes pid) p →
     is_reached lib (after_leaving lib e pid p) k ≡ true → residence_of (after_leaving lib e pid p) k ≡ residence_of e k
 unfolding after_leaving residence_of
 left_stays lib e pid p k there kept gives reached =

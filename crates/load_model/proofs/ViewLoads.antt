@@ -44,22 +44,23 @@ class_same classes.Shared p q r same = refl
 abbrev filter_object : ℕ → List Written → List Written
 filter_object object ws = filter (λ w. w.object == object) ws
 
-byte_same : (lib : Library) (contents : Held) (e after : Eager) (q : ℕ) (r : Residence) (object x : ℕ) → (after.processes q).writes ≡ (e.processes q).writes →
-    bases_seen lib after r.«module» ≡ bases_seen lib e r.«module» → Byte lib contents e q r object x ≡ Byte lib contents after q r object x
+byte_same : (lib : Library) (contents : Held) (e after : Eager) (q : ℕ) (r : Residence) (object x : ℕ) →
+    ((c : Class) → writes_of_class c (after.processes q) r ≡ writes_of_class c (e.processes q) r) → bases_seen lib after r.«module» ≡ bases_seen lib e r.«module» → Byte lib contents e q r object x ≡ Byte lib contents after q r object x
 unfolding Byte writes_seen
 byte_same lib contents e after q r object x writes bases =
     let F : List Written → Bases → ℕ = λ ws bs. last_put ws x (contents r.«module» bs object x) in
     sym
-    (ap (λ ws. F (filter_object object ws) (bases_seen lib after r.«module»)) (class_same (class_of (object_at lib r.«module» object)) (after.processes q) (e.processes q) r writes)
+    (ap (λ ws. F (filter_object object ws) (bases_seen lib after r.«module»)) (writes (class_of (object_at lib r.«module» object)))
     ∙ ap (F (filter_object object (writes_of_class (class_of (object_at lib r.«module» object)) (e.processes q) r))) bases)
 
-lying_same : (c : Class) (lib : Library) (contents : Held) (e after : Eager) (q : ℕ) (r : Residence) (object x : ℕ) → (after.processes q).writes ≡ (e.processes q).writes →
-    bases_seen lib after r.«module» ≡ bases_seen lib e r.«module» → lying_byte c lib contents e q r object x ≡ lying_byte c lib contents after q r object x
+lying_same : (c : Class) (lib : Library) (contents : Held) (e after : Eager) (q : ℕ) (r : Residence) (object x : ℕ) →
+    ((c : Class) → writes_of_class c (after.processes q) r ≡ writes_of_class c (e.processes q) r) → bases_seen lib after r.«module» ≡ bases_seen lib e r.«module» → lying_byte c lib contents e q r object x ≡ lying_byte c lib contents after q r object x
 lying_same classes.Code lib contents e after q r object x writes bases = byte_same lib contents e after q r object x writes bases
 lying_same classes.Private lib contents e after q r object x writes bases = byte_same lib contents e after q r object x writes bases
 lying_same classes.Shared lib contents e after q r object x writes bases = ap (λ bs. contents r.«module» bs object x) (sym bases)
 
-page_same : (lib : Library) (contents : Held) (e after : Eager) (q : ℕ) (p : Mapped) (it : IsMapped lib contents e q p) → (after.processes q).writes ≡ (e.processes q).writes →
+pub page_same : (lib : Library) (contents : Held) (e after : Eager) (q : ℕ) (p : Mapped) (it : IsMapped lib contents e q p) →
+    ((c : Class) → writes_of_class c (after.processes q) it.residence ≡ writes_of_class c (e.processes q) it.residence) →
     attached_residence lib after q it.residence.«module» ≡ Some it.residence → bases_seen lib after it.residence.«module» ≡ bases_seen lib e it.residence.«module» →
     IsMapped lib contents after q p
 page_same lib contents e after q p it writes there bases = record {
@@ -73,7 +74,7 @@ page_same lib contents e after q p it writes there bases = record {
 
 -- ---- the state behind a load
 
-held_writes : (how : How) (m : ℕ) (js : List ℕ) (p : Process) → (holding how m (attaching js p)).writes ≡ p.writes
+pub held_writes : (how : How) (m : ℕ) (js : List ℕ) (p : Process) → (holding how m (attaching js p)).writes ≡ p.writes
 held_writes Start m js p = refl
 held_writes Load m js p = refl
 
@@ -81,12 +82,12 @@ held_ended : (how : How) (m : ℕ) (js : List ℕ) (p : Process) → (holding ho
 held_ended Start m js p = refl
 held_ended Load m js p = refl
 
-entering_process : (lib : Library) (e : Eager) (q : ℕ) (how : How) (m : ℕ) (fresh : List Fresh) →
+pub entering_process : (lib : Library) (e : Eager) (q : ℕ) (how : How) (m : ℕ) (fresh : List Fresh) →
     (after_entering lib e q how m fresh).processes q ≡ holding how m (attaching (joined lib e q m) (e.processes q))
 unfolding after_entering with_process
 entering_process lib e q how m fresh = ap (λ b. if b then holding how m (attaching (joined lib e q m) (e.processes q)) else e.processes q) (eq-eqb q q refl)
 
-attached_grows : (lib : Library) (e : Eager) (q : ℕ) (how : How) (m : ℕ) (fresh : List Fresh) (k : ℕ) (r : Residence) → is_none (enter_refusal lib (e.processes q) how (Some m)) ≡ true →
+pub attached_grows : (lib : Library) (e : Eager) (q : ℕ) (how : How) (m : ℕ) (fresh : List Fresh) (k : ℕ) (r : Residence) → is_none (enter_refusal lib (e.processes q) how (Some m)) ≡ true →
     attached_residence lib e q k ≡ Some r → attached_residence lib (after_entering lib e q how m fresh) q k ≡ Some r
 attached_grows lib e q how m fresh k r may is =
     let reached : reaches lib (e.processes q) k ≡ true = (attached_is lib e q k r is).0 in
@@ -113,14 +114,14 @@ pages_same : (lib : Library) (contents : Held) (e after : Eager) (q : ℕ) (ps :
     AllByRecursion (IsMapped lib contents e q) ps → AllByRecursion (IsMapped lib contents after q) ps
 pages_same lib contents e after q [] writes grows bases all = tt
 pages_same lib contents e after q (p ∷ ps) writes grows bases all = (
-  page_same lib contents e after q p all.0 writes (grows all.0.residence.«module» all.0.residence all.0.there) (bases all.0.residence.«module» all.0.residence all.0.there),
+  page_same lib contents e after q p all.0 (λ c. class_same c (after.processes q) (e.processes q) all.0.residence writes) (grows all.0.residence.«module» all.0.residence all.0.there) (bases all.0.residence.«module» all.0.residence all.0.there),
   pages_same lib contents e after q ps writes grows bases all.1,
 )
 
 -- ---- faults
 
 -- a residence that the view has is one that the process reaches
-stay_is : (o : Option Residence) (s : Fresh) → option_map fresh_of o ≡ Some s → (r : Residence) × (o ≡ Some r) × (fresh_of r ≡ s)
+pub stay_is : (o : Option Residence) (s : Fresh) → option_map fresh_of o ≡ Some s → (r : Residence) × (o ≡ Some r) × (fresh_of r ≡ s)
 stay_is None s e = absurd cc
 stay_is (Some r) s e = (r, refl, some_same e)
   where

@@ -24,12 +24,12 @@ use Rattle.load_model.proofs.Standing.{view_alike, fixed_more}
 
 -- ---- quiet entries
 
-shared_alike : (lib : Library) (e : Eager) (pid serial : ℕ) (w : Written) (c : Class) → c ≡ classes.Shared → Alike lib e (after_write e pid serial w c) pid
+pub shared_alike : (lib : Library) (e : Eager) (pid serial : ℕ) (w : Written) (c : Class) → c ≡ classes.Shared → Alike lib e (after_write e pid serial w c) pid
 shared_alike lib e pid serial w classes.Code is = absurd cc
 shared_alike lib e pid serial w classes.Private is = absurd cc
 shared_alike lib e pid serial w classes.Shared is = record { process = refl; stays = λ m reached. written_stays e pid serial w classes.Shared m }
 
-quiet_alike : (lib : Library) (e : Eager) (pid : ℕ) (d : Deed) → IsQuiet lib d → Alike lib e (after_deed lib e pid d) pid
+pub quiet_alike : (lib : Library) (e : Eager) (pid : ℕ) (d : Deed) → IsQuiet lib d → Alike lib e (after_deed lib e pid d) pid
 unfolding after_deed residence_of
 quiet_alike lib e pid (deeds.Full how m of object size) is = record { process = refl; stays = λ m reached. refl }
 quiet_alike lib e pid (deeds.Failed how m by fresh calls gone) is = record { process = refl; stays = λ m reached. refl }

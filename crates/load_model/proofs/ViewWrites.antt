@@ -91,11 +91,11 @@ seen_more lib serial w p r object own =
 abbrev behind_write : Eager → ℕ → ℕ → Written → Eager
 behind_write e q serial w = with_process e q (writing serial w (e.processes q))
 
-own_process : (e : Eager) (q serial : ℕ) (w : Written) → (behind_write e q serial w).processes q ≡ writing serial w (e.processes q)
+pub own_process : (e : Eager) (q serial : ℕ) (w : Written) → (behind_write e q serial w).processes q ≡ writing serial w (e.processes q)
 unfolding with_process
 own_process e q serial w = ap (λ b. if b then writing serial w (e.processes q) else e.processes q) (eq-eqb q q refl)
 
-attached_written : (lib : Library) (e : Eager) (q serial m : ℕ) (w : Written) → attached_residence lib (behind_write e q serial w) q m ≡ attached_residence lib e q m
+pub attached_written : (lib : Library) (e : Eager) (q serial m : ℕ) (w : Written) → attached_residence lib (behind_write e q serial w) q m ≡ attached_residence lib e q m
 unfolding attached_residence residence_of reaches with_process
 attached_written lib e q serial m w = ap (λ (p : Process). if reaches lib p m then residence_of e m else None) (own_process e q serial w)
 
@@ -151,7 +151,7 @@ other_lies classes.Shared lib contents e q serial w r object x is apart = refl
 abbrev Aims : Library → Eager → ℕ → ℕ → Written → Type 0
 Aims lib e q serial w = (m : ℕ) (r : Residence) → attached_residence lib e q m ≡ Some r → r.serial ≡ serial → class_refusal peek (class_of (object_at lib r.«module» w.object)) ≡ None
 
-turned : (a b : ℕ) (c : Bool) → (a == b) ≡ c → (b == a) ≡ c
+pub turned : (a b : ℕ) (c : Bool) → (a == b) ≡ c → (b == a) ≡ c
 turned a b true is = eq-eqb b a (sym (eqb-true a b is))
 turned a b false is = step (b == a) refl
   where
@@ -294,7 +294,7 @@ behind lib failing contents v h x serial m w c legal at class own after covered 
           (fixed_written lib v h serial n w v.mapped stands.faults);
     }
 
-attached_in : (lib : Library) (e : Eager) (q : ℕ) (ended : Bool) (a b : Bool) → not ended && (a && b) ≡ true → a ≡ true
+pub attached_in : (lib : Library) (e : Eager) (q : ℕ) (ended : Bool) (a b : Bool) → not ended && (a && b) ≡ true → a ≡ true
 attached_in lib e q ended a b may = and_left a b (and_right (not ended) (a && b) may)
 
 class_write : (lib : Library) (e : Eager) (q serial m object offset : ℕ) (bytes : List ℕ) (c : Class) → c ≡ classes.Private →

@@ -27,6 +27,10 @@ pub mod Rows
 pub mod Standing
 pub mod ViewAnswers
 pub mod ViewLaws
+pub mod ViewLeaving
+pub mod TouchSteps
+pub mod WorkedSteps
+pub mod HeldWrites
 pub mod Outcomes
 pub mod Bounds
 pub mod FailedLoads

@@ -27,7 +27,7 @@ unfoldable pub use Rattle.lx_model.specs.Reach.{Order, visit, HealthOf}
 unfoldable pub use Rattle.lx_model.specs.Entries.{Entry, followed}
 use Rattle.lx_model.specs.Entries.{EntryNamed}
 unfoldable pub use Rattle.lx_model.specs.Resources.{Res}
-use Rattle.lx_model.specs.Fixed.{Fixed}
+use Rattle.lx_model.specs.Fixed.{Fixed, sources_of}
 use Rattle.load_model.specs.declared.commands.Refusal.{Refusal}
 use Rattle.load_model.specs.declared.commands.Refusal.TheVariants.{NoModule, NoEntry, ForwardLoop, Gate286}
 
@@ -139,3 +139,7 @@ page_of_offset object x = record { object = object; page = x / PAGE_SIZE }
 
 unfoldable pub fixed_bytes : Library → Held
 fixed_bytes lib m bases object x = Fixed lib m bases (page_of_offset object x) (x % PAGE_SIZE)
+
+-- how many sources the fixup records of a page have
+unfoldable pub source_count : Library → ℕ → PageId → ℕ
+source_count lib m p = length (sources_of (module_of lib m) p)

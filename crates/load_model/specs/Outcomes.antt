@@ -4,13 +4,19 @@ use Rattle.load_model.specs.declared.commands.Command.{Command}
 use Rattle.load_model.specs.declared.commands.Command.TheVariants as commands
 use Rattle.load_model.specs.declared.commands.Reply.{Reply}
 use Rattle.load_model.specs.declared.commands.Reply.TheVariants.{Refused}
+use Rattle.load_model.specs.declared.commands.Refusal.{Refusal}
 use Rattle.load_model.specs.declared.commands.Refusal.TheVariants.{ArenaFull, InitFailed}
+use Rattle.load_model.specs.declared.deeds.How.{How}
+use Rattle.load_model.specs.declared.deeds.Call.{Call}
+use Rattle.load_model.specs.declared.deeds.Fresh.{Fresh}
+use Rattle.load_model.specs.declared.deeds.Gone.{Gone}
 use Rattle.load_model.specs.declared.deeds.Deed.{Deed}
 use Rattle.load_model.specs.declared.deeds.Deed.TheVariants as deeds
-use Rattle.load_model.specs.Modules.{Library, number_of}
+use Rattle.load_model.specs.Modules.{Library, Held, number_of}
 use Rattle.load_model.specs.State.{Eager}
 use Rattle.load_model.specs.Refusals.{refusal_of}
-use Rattle.load_model.specs.Step.{Answer, entry, steady, meant}
+use Rattle.load_model.specs.Asks.{Ask, deed_of}
+use Rattle.load_model.specs.Step.{Answer, entry, steady, meant, answer_of, ask_by, FitsPlace}
 
 -- That it is done, with the number of its entry in the history, from 1; or a reply.
 pub data Outcome : Type 0 where
@@ -33,6 +39,40 @@ outcome_of_entry number (deeds.Shared serial m object offset bytes) = done numbe
 abbrev pub outcome_of : ℕ → Answer → Outcome
 outcome_of number (entry deed) = outcome_of_entry number deed
 outcome_of number (steady reply) = told reply
+
+-- ---- what is told of an entry
+
+-- an entry that does what its command asked
+abbrev pub HasDone : Deed → Type 0
+HasDone (deeds.Full how m of object size) = ⊥
+HasDone (deeds.Failed how m by fresh calls gone) = ⊥
+HasDone (deeds.Enter how m fresh calls) = Unit {0}
+HasDone (deeds.Free m calls gone) = Unit {0}
+HasDone (deeds.Exit calls gone) = Unit {0}
+HasDone (deeds.Fault serial m p) = Unit {0}
+HasDone (deeds.Write serial m object offset bytes) = Unit {0}
+HasDone (deeds.Debug serial m object offset bytes) = Unit {0}
+HasDone (deeds.Shared serial m object offset bytes) = Unit {0}
+
+-- The caller is told of the entry of this number: why nothing was loaded, exactly where the entry says so; otherwise
+-- that it is done.
+pub data IsTold (number : ℕ) : Deed → Outcome → Type 0 where
+  arena_full : {how : How} {m of object size : ℕ} → IsTold number (deeds.Full how m of object size) (told (Refused (ArenaFull number of object size)))
+  init_failed :
+      {how : How} {m by : ℕ} {fresh : List Fresh} {calls : List Call} {gone : List Gone} → IsTold number (deeds.Failed how m by fresh calls gone) (told (Refused (InitFailed number by)))
+  is_done : {deed : Deed} → HasDone deed → IsTold number deed (done number)
+
+-- A command that is refused is told why, and has no entry.
+abbrev pub RefusedIsTold : Type 0
+RefusedIsTold =
+    (lib : Library) (contents : Held) (e : Eager) (pid number : ℕ) (command : Command) (refusal : Refusal) → refusal_of lib e pid command ≡ Some refusal →
+    (answer_of lib contents e pid command ≡ steady (Refused refusal)) × (outcome_of number (answer_of lib contents e pid command) ≡ told (Refused refusal))
+
+-- One that is not refused, and asks something, is told of its entry.
+abbrev pub AcceptedIsTold : Type 0
+AcceptedIsTold =
+    (lib : Library) (contents : Held) (e : Eager) (pid number : ℕ) (command : Command) (ask : Ask) → FitsPlace command → refusal_of lib e pid command ≡ None →
+    ask_by lib e pid command ≡ Some ask → IsTold number (deed_of lib contents e pid ask) (outcome_of number (answer_of lib contents e pid command))
 
 -- ---- names
 

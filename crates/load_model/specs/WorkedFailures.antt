@@ -3,12 +3,14 @@ use Rattle.std.specs.Prelude.{◌≡◌, ℕ, [], ◌∷◌, codes}
 use Rattle.load_model.specs.declared.commands.Command.{Command}
 use Rattle.load_model.specs.declared.commands.Command.TheVariants.{Start, Load, Free, Exit}
 use Rattle.load_model.specs.declared.commands.Refusal.TheVariants as why
+use Rattle.load_model.specs.declared.commands.Reply.TheVariants.{Refused}
 use Rattle.load_model.specs.declared.deeds.How.TheVariants as ways
 use Rattle.load_model.specs.declared.deeds.CallKind.TheVariants.{Init, Term}
 use Rattle.load_model.specs.declared.deeds.Deed.TheVariants as deeds
 use Rattle.load_model.specs.Modules.{Library}
 use Rattle.load_model.specs.State.{Failing}
 use Rattle.load_model.specs.Step.{entry, Answer}
+use Rattle.load_model.specs.Outcomes.{done, told, outcome_of}
 use Rattle.load_model.specs.Samples.{Commands, code, object, starting, library, answer_where, fresh, call, gone, refused}
 use Rattle.load_model.specs.WorkedLoads.{diamond}
 
@@ -68,3 +70,7 @@ pub record WorkedFailures : Type 0 where
       entry (deeds.Failed ways.Start 1 0 (fresh 1 0 (0x10000000 ∷ []) ∷ fresh 2 1 (0x00010000 ∷ []) ∷ []) (call Init 1 0 0x10000000 ∷ []) (gone 2 1 ∷ gone 1 0 ∷ []))
   -- want of a place is found before any call
   pub full : answer_where with_program ((1, 0) ∷ []) [] 1 (Load (codes "L")) ≡ entry (deeds.Full ways.Load 2 2 1 0x10000001)
+  -- its caller is told so, with the number of the entry, as of want of a place; one whose load succeeds, that it is done
+  pub told_failed : outcome_of 1 (where_B_fails [] 1 (Load (codes "A"))) ≡ told (Refused (why.InitFailed 1 1))
+  pub told_full : outcome_of 3 (answer_where with_program ((1, 0) ∷ []) [] 1 (Load (codes "L"))) ≡ told (Refused (why.ArenaFull 3 2 1 0x10000001))
+  pub told_done : outcome_of 2 (where_B_fails (load_A ∷ []) 2 (Load (codes "A"))) ≡ done 2

@@ -1,13 +1,17 @@
--- Worked values: what a process's own view answers, before and behind a write of its own.
+-- Worked values: what a process's own view answers, before and behind a write of its own, and the pages that it keeps
+-- behind a free.
 use Rattle.std.specs.Prelude.{◌≡◌, [], ◌∷◌, map, codes, None, Some}
-use Rattle.load_model.specs.declared.commands.Command.TheVariants.{Free, Peek}
+use Rattle.load_model.specs.declared.commands.Command.TheVariants.{Load, Free, Peek}
 use Rattle.load_model.specs.declared.commands.Reply.TheVariants.{Bytes}
 use Rattle.load_model.specs.declared.commands.Refusal.TheVariants as why
 use Rattle.load_model.specs.Memory.{page}
-use Rattle.load_model.specs.Samples.{place, fresh}
+use Rattle.load_model.specs.State.{Eager, nothing_yet}
+use Rattle.load_model.specs.Leaving.{freeing}
+use Rattle.load_model.specs.Samples.{Commands, state_from, place, fresh}
 use Rattle.load_model.specs.Standing.{Mapped, Holding, new_holding}
 use Rattle.load_model.specs.ViewAnswers.{view_refusal, view_reply}
 use Rattle.load_model.specs.ViewLaws.{written_over}
+use Rattle.load_model.specs.ViewLeaving.{mapped_kept}
 use Rattle.load_model.specs.WorkedBytes.{store}
 
 -- one load of S, and nothing mapped
@@ -29,6 +33,13 @@ touched = record loaded { mapped = own_page ∷ [] }
 abbrev written : Holding
 written = record touched { mapped = map (written_over 1 (record { object = 3; offset = 1; bytes = 0xAA ∷ [] })) touched.mapped; front = 2 }
 
+-- behind loads of S
+abbrev behind : Commands → Eager
+behind loads = state_from store (nothing_yet []) loads
+
+abbrev one_load : Commands
+one_load = (1, Load (codes "S")) ∷ []
+
 pub record WorkedViews : Type 0 where
   pub nothing : view_refusal store (new_holding store 1) (Peek (place (codes "S") 3 0 1)) ≡ Some why.NotAttached
   pub not_held : view_refusal store (new_holding store 1) (Free (codes "S")) ≡ Some why.NotHeld
@@ -39,3 +50,7 @@ pub record WorkedViews : Type 0 where
   pub fine : view_refusal store touched (Peek (place (codes "S") 3 0 3)) ≡ None
   pub read : view_reply store touched (Peek (place (codes "S") 3 0 3)) ≡ Some (Bytes (7 ∷ 8 ∷ 9 ∷ []))
   pub read_again : view_reply store written (Peek (place (codes "S") 3 0 3)) ≡ Some (Bytes (7 ∷ 0xAA ∷ 9 ∷ []))
+  -- with one load given up the process leaves the residence; with one of two it does not
+  pub gone : mapped_kept store (behind one_load) (freeing 0 ((behind one_load).processes 1)) (own_page ∷ []) ≡ []
+  pub kept :
+      mapped_kept store (behind ((1, Load (codes "S")) ∷ one_load)) (freeing 0 ((behind ((1, Load (codes "S")) ∷ one_load)).processes 1)) (own_page ∷ []) ≡ own_page ∷ []

@@ -2,14 +2,17 @@
 //! crate above calls where it needs the law.
 
 ghost use Rattle.load_model.specs.Laws.{AsksDecide, PrefixIsLegal, EachFollows, OneMoreIsLegal, NothingIsLegal, OneMoreIsAfter, FaultOnce, ReachedIsResident, AttachedIsReached, GoneIsUnreached, ResidenceStays, ReachStays, OthersRefuseAlike, OthersAnswerAlike, OthersBytesAlike, HeldAnswersAlike, HeldHistoriesAlike, CountsAreResidence};
-ghost use Rattle.load_model.specs.Accepted.{AcceptedMayAsk, TouchedIsApart};
+ghost use Rattle.load_model.specs.Accepted.{AcceptedMayAsk, TouchedIsApart, AcceptedFollows};
 ghost use Rattle.load_model.specs.FailedLoads.{FailingStays, FailedLeavesNothing};
 ghost use Rattle.load_model.specs.Serials.{SerialsRise, SerialsAreOwn, FaultsAreGiven};
 ghost use Rattle.load_model.specs.Fitness.{ReachedIsFit, FitnessIsClosed};
 ghost use Rattle.load_model.specs.ResidenceBases.{BasesStand, ResidentsFit};
 ghost use Rattle.load_model.specs.ViewLaws.{NewStands, StandsOn, StandsQuiet, StandsMapped, StandsWritten, StandsEntered, RefusedByView, AnsweredByView};
-ghost use Rattle.load_model.specs.Outcomes.{NamesAreKnown};
-ghost use Rattle.load_model.specs.Bounds.{CountsAreSmall};
+ghost use Rattle.load_model.specs.ViewLeaving.{StandsLeft, KeptAreReached, KeptAreTouched};
+ghost use Rattle.load_model.specs.HeldWrites.{OwnWritesAreHeld};
+ghost use Rattle.load_model.specs.TouchSteps.{OthersCountNothing, FaultCounts, MappedCounts};
+ghost use Rattle.load_model.specs.Outcomes.{NamesAreKnown, RefusedIsTold, AcceptedIsTold};
+ghost use Rattle.load_model.specs.Bounds.{CountsAreSmall, OrdersAreFew, SerialsAreFew};
 ghost use Rattle.load_model.specs.Touched.{AnsweredByPages, EntriesMoveTouched};
 ghost use Rattle.load_model.specs.Alike.{OthersLeaveAlike, BasesAreAlike, BasesSeenStay};
 
@@ -86,10 +89,11 @@ pub fn serials_rise()
 {}
 
 /// A command that is not refused and has an entry may ask for it, and the entry is what the loader does
-/// then; what was touched decides neither.
+/// then; what was touched decides neither. So the entry follows the history.
 pub fn commands_are_asked()
     ensures accepted { AcceptedMayAsk }
     ensures touched { TouchedIsApart }
+    ensures follows { AcceptedFollows }
 {}
 
 /// An entry of another process leaves a process as it was, and the residences that it reaches, but for shared
@@ -129,8 +133,8 @@ pub fn touched_pages_decide()
 {}
 
 /// What a process's own view stands for: nothing at first; it goes on through entries of other processes, behind
-/// entries of its own that change nothing in it, with a page more that is mapped, and behind a write and a
-/// load of its own.
+/// entries of its own that change nothing in it, with a page more that is mapped, and behind a write, a load, a
+/// free and an exit of its own.
 pub fn views_stand()
     ensures new { NewStands }
     ensures on { StandsOn }
@@ -138,6 +142,9 @@ pub fn views_stand()
     ensures mapped { StandsMapped }
     ensures written { StandsWritten }
     ensures entered { StandsEntered }
+    ensures left { StandsLeft }
+    ensures kept { KeptAreReached }
+    ensures touched { KeptAreTouched }
 {
     lx_model::order_is_reach();
 }
@@ -159,4 +166,32 @@ pub fn names_are_known()
 /// No process holds more than 65,535 loads of one module.
 pub fn counts_are_small()
     ensures { CountsAreSmall }
+{}
+
+/// A module of a library reaches no more modules than it has; so each entry gives 64 serial numbers at most.
+pub fn serials_are_few()
+    ensures orders { OrdersAreFew }
+    ensures serials { SerialsAreFew }
+{
+    lx_model::order_is_reach();
+}
+
+/// A process's own writes lie in residences that it reaches, in private objects or code.
+pub fn own_writes_are_held()
+    ensures { OwnWritesAreHeld }
+{}
+
+/// A refused command is told why. One that is not refused is told that its entry of this number is done, or of want
+/// of a place or an initialisation that failed, with that number, exactly where the entry says so.
+pub fn commands_are_told()
+    ensures refused { RefusedIsTold }
+    ensures accepted { AcceptedIsTold }
+{}
+
+/// The steps of a touch grow with each fault that it makes, and each private page that it maps, by the sources of
+/// that page's fixups; entries of other processes, and other pages that it maps, count nothing.
+pub fn steps_are_sources()
+    ensures others { OthersCountNothing }
+    ensures fault { FaultCounts }
+    ensures mapped { MappedCounts }
 {}

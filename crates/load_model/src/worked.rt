@@ -7,6 +7,7 @@ ghost use Rattle.load_model.specs.WorkedCycles.{WorkedCycles};
 ghost use Rattle.load_model.specs.WorkedFailures.{WorkedFailures};
 ghost use Rattle.load_model.specs.WorkedDebug.{WorkedDebug};
 ghost use Rattle.load_model.specs.WorkedResources.{WorkedResources};
+ghost use Rattle.load_model.specs.WorkedSteps.{WorkedSteps};
 ghost use Rattle.load_model.specs.WorkedViews.{WorkedViews};
 ghost use Rattle.load_model.specs.WorkedRefusals.{WorkedLoadRefusals, WorkedPlaceRefusals, WorkedQueries};
 
@@ -68,4 +69,9 @@ pub fn resources_are_asked()
 /// What a process's own view refuses and replies, before and behind a write of its own.
 pub fn views_are_worked()
     ensures { WorkedViews }
+{}
+
+/// How many steps touches of code and of private pages take, where others fixed some of them.
+pub fn steps_are_worked()
+    ensures { WorkedSteps }
 {}

@@ -18,7 +18,7 @@ use Rattle.load_model.specs.Asks.{is_own}
 use Rattle.load_model.specs.Step.{steady, fine_answer, answer_of, serial_named}
 use Rattle.load_model.specs.Histories.{state_after, has_fault}
 use Rattle.load_model.specs.Accepted.{retouched}
-use Rattle.load_model.specs.Touched.{has_page, SamePages}
+use Rattle.load_model.specs.Touched.{has_page, SamePages, touched_behind}
 use Rattle.load_model.specs.Laws.{stay_of}
 use Rattle.load_model.specs.Standing.{Mapped, Holding, fresh_of, mapped_pages, stay_at, WasFixed, StandsFor}
 use Rattle.load_model.specs.ViewAnswers.{stay_named, seen_process, view_refusal}
@@ -28,11 +28,12 @@ use Rattle.load_model.proofs.Bools.{and_left, and_right}
 use Rattle.load_model.proofs.Bytes.{named_is}
 use Rattle.load_model.proofs.Standing.{named_by_view}
 use Rattle.load_model.proofs.Touched.{named_apart}
+use Rattle.load_model.proofs.ViewLeaving.{kept_are_touched}
 use Rattle.session_model.specs.MergeLaws.{touched_in}
 use Rattle.merge_laws.specs.Accounts.{own_state}
-use Rattle.merge_laws.specs.OwnStates.{pages_at, state_with, is_fixed, are_fixed}
-use Rattle.merge_laws.specs.ViewAccounts.{ViewRefuses, ViewReplies, serial_seen, has_pages, TouchAccepted, TouchFixed, FaultForTouch, TouchMapped, WrittenMapped}
-use Rattle.merge_laws.proofs.OwnStates.{own_state_is_the_historys, touched_behind_line, touched_decides, touch_follows_faults}
+use Rattle.merge_laws.specs.OwnStates.{HasTouched, pages_at, state_with, is_fixed, are_fixed}
+use Rattle.merge_laws.specs.ViewAccounts.{ViewRefuses, ViewReplies, serial_seen, has_pages, TouchAccepted, TouchFixed, FaultForTouch, TouchMapped, WrittenMapped, LeftMapped}
+use Rattle.merge_laws.proofs.OwnStates.{own_state_is_the_historys, touched_behind_entry, touched_behind_line, touched_decides, touch_follows_faults}
 
 -- ---- refusals and replies
 
@@ -231,3 +232,12 @@ written_mapped v serial w = each v.mapped
     each : (ps : List Mapped) → map (λ (p : Mapped). p.of) (map (written_over serial w) ps) ≡ map (λ p. p.of) ps
     each [] = refl
     each (p ∷ ps) = λ i. one p ((p.of.serial == serial) && (p.of.page.object == w.object)) (over_page w p.of.page p.bytes) i ∷ each ps i
+
+-- ---- a free or an exit of its own
+
+pub left_mapped : LeftMapped
+left_mapped lib failing v h lines x after rise own gives has =
+    let e : Eager = state_after lib failing h in
+    subst (HasTouched lib failing v.pid (h ++ x ∷ []) lines)
+    (ap (λ q. touched_behind lib e q x.deed (λ r. mapped_pages v) v.pid) own ∙ sym (kept_are_touched lib v e x.deed after gives))
+    (touched_behind_entry lib failing v.pid h lines (mapped_pages v) x rise has)

@@ -12,16 +12,17 @@ use Rattle.load_model.specs.declared.commands.Reply.TheVariants as replies
 use Rattle.load_model.specs.declared.deeds.Deed.TheVariants as deeds
 use Rattle.load_model.specs.declared.deeds.Entry.{Entry}
 use Rattle.load_model.specs.Modules.{Library, Held}
-use Rattle.load_model.specs.State.{PageOf, Written, Failing, is_among, serial_of}
+use Rattle.load_model.specs.State.{PageOf, Written, Process, Failing, is_among, serial_of}
 use Rattle.load_model.specs.Memory.{page, pages_over}
 use Rattle.load_model.specs.Step.{steady, answer_of}
-use Rattle.load_model.specs.Histories.{Legal}
+use Rattle.load_model.specs.Histories.{state_after, Legal}
 use Rattle.load_model.specs.Touched.{has_page}
 use Rattle.load_model.specs.Standing.{Holding, mapped_pages, StandsFor}
 use Rattle.load_model.specs.ViewAnswers.{stay_named, view_refusal, view_reply}
 use Rattle.load_model.specs.ViewLaws.{written_over}
+use Rattle.load_model.specs.ViewLeaving.{GivesUpTo, mapped_kept}
 use Rattle.session_model.specs.declared.sessions.Line.{Line}
-use Rattle.session_model.specs.Merging.{touch_follows}
+use Rattle.session_model.specs.Merging.{FrontsFrom, touch_follows}
 use Rattle.merge_laws.specs.Accounts.{own_items, own_state}
 use Rattle.merge_laws.specs.MidTouch.{touch_line, IsFaultFor}
 use Rattle.merge_laws.specs.OwnStates.{HasTouched, pages_at}
@@ -86,3 +87,12 @@ TouchMapped =
 -- It maps the same pages.
 abbrev pub WrittenMapped : Type 0
 WrittenMapped = (v : Holding) (serial : ℕ) (w : Written) → mapped_pages (record v { mapped = map (written_over serial w) v.mapped }) ≡ mapped_pages v
+
+-- ---- a free or an exit of its own
+
+-- Behind it the process has touched what the view keeps mapped.
+abbrev pub LeftMapped : Type 0
+LeftMapped =
+    (lib : Library) (failing : Failing) (v : Holding) (h : List Entry) (lines : List Line) (x : Entry) (after : Process) → FrontsFrom 0 (length h) lines → x.pid ≡ v.pid →
+    GivesUpTo x.deed ((state_after lib failing h).processes v.pid) after → HasTouched lib failing v.pid h lines (mapped_pages v) →
+    HasTouched lib failing v.pid (h ++ x ∷ []) lines (mapped_pages (record v { mapped = mapped_kept lib (state_after lib failing h) after v.mapped }))

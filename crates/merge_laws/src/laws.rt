@@ -2,7 +2,7 @@
 //! it needs the law.
 
 ghost use Rattle.merge_laws.specs.OwnStates.{OwnItemsHaveHistory, OwnStateIsTheHistorys, FollowingReplies, NothingTouched, TouchedBehindEntry, TouchedBehindLine, TouchedGoesOn, TouchedDecides, TouchFollowsFaults};
-ghost use Rattle.merge_laws.specs.ViewAccounts.{ViewRefuses, ViewReplies, TouchAccepted, TouchFixed, FaultForTouch, TouchMapped, WrittenMapped};
+ghost use Rattle.merge_laws.specs.ViewAccounts.{ViewRefuses, ViewReplies, TouchAccepted, TouchFixed, FaultForTouch, TouchMapped, WrittenMapped, LeftMapped};
 ghost use Rattle.merge_laws.specs.AccountLaws.{AccountsMerge, AccountBegins, OthersEntryStays, OwnEntryAdds, OwnLineAdds, TouchBegins, TouchWaits, TouchFaults, TouchEnds, AccountGoesOn, TouchGoesOn};
 
 /// What all processes say of themselves over one history is a merge of it, for every library, whichever
@@ -66,13 +66,15 @@ pub fn views_account()
 
 /// A touch by a view: one that it does not refuse is accepted; where its pages are mapped, they had their faults; each
 /// fault that the process makes of a page that it had not touched is one for the touch; and behind the line it has
-/// touched what the view has mapped. A write maps no page more.
+/// touched what the view has mapped. A write maps no page more, and behind a free or an exit it has touched what the
+/// view keeps.
 pub fn views_touch()
     ensures accepted { TouchAccepted }
     ensures fixed { TouchFixed }
     ensures faults { FaultForTouch }
     ensures mapped { TouchMapped }
     ensures written { WrittenMapped }
+    ensures left { LeftMapped }
 {
     load_model::views_answer();
 }

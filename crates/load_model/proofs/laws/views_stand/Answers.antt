@@ -3,6 +3,7 @@ use Rattle.load_model.proofs.Standing.{new_stands, stands_on}
 use Rattle.load_model.proofs.ViewSteps.{stands_quiet, stands_mapped}
 use Rattle.load_model.proofs.ViewWrites.{stands_written}
 use Rattle.load_model.proofs.ViewLoads.{stands_entered}
+use Rattle.load_model.proofs.ViewLeaving.{stands_left, kept_are_reached, kept_are_touched}
 use Rattle.load_model.proofs.laws.views_stand.Goals as goal
 
 pub returns : goal.returns
@@ -13,4 +14,7 @@ returns c = record {
   mapped = stands_mapped;
   written = stands_written;
   entered = stands_entered (orders_nest c.order_is_reach.ensures.order c.order_is_reach.ensures.reach);
+  kept = kept_are_reached;
+  touched = kept_are_touched;
+  left = stands_left (orders_nest c.order_is_reach.ensures.order c.order_is_reach.ensures.reach);
 }

@@ -14,4 +14,4 @@ use Rattle.load_model.proofs.worked.views_are_worked.Goals as goal
 
 pub returns : goal.returns
 unfolding number_of is_library start_of inits_each terms_each order_of unfit entry_spot resource_of objects_of object_at is_invalid Order visit HealthOf Entry followed Res places_from with_process reaches is_reached residence_of attached_residence joined newcomers resident_ranges bases_for placed_from placing after_entering entering_calls failing_module failed_calls enter_deed left gone_modules gone leaving_calls keeping after_leaving bases_seen writes_seen Byte Bytes module_refusal enter_refusal span_refusal residence_named place_refusal query_refusal resource_refusal refusal_of deed_of after_deed address_of fine_answer answer_of after_steady Step view_refusal
-returns c = record { nothing = refl; not_held = refl; held = refl; untouched = refl; shared = refl; past = refl; fine = refl; read = refl; read_again = refl }
+returns c = record { nothing = refl; not_held = refl; held = refl; untouched = refl; shared = refl; past = refl; fine = refl; read = refl; read_again = refl; gone = refl; kept = refl }
