@@ -1,10 +1,11 @@
 -- Counts of the modules of an order, one more at a time.
-use Rattle.std.proofs.Common.{◌≡◌, ℕ, ◌+◌, ◌<◌, ◌==◌, Bool, true, false, cond, ◌||◌, inl, inr, List, [], ◌∷◌, ◌++◌, length, get_or, set, take, refl, sym, ◌∙◌, ap, subst, arith, append_assoc, get_or-set_same, get_or-set_other}
-use Rattle.std.specs.Prelude.{All, filter, eqb}
+use Rattle.std.proofs.Common.{◌≡◌, ℕ, ◌+◌, ◌<◌, ◌==◌, Bool, true, false, cond, ◌||◌, inl, inr, List, [], ◌∷◌, ◌++◌, length, get_or, set, take, refl, sym, ◌∙◌, ap, subst, arith, append_assoc, get_or-set_same, get_or-set_other, ◌-◌, zero, suc}
+use Rattle.std.specs.Prelude.{All, filter, eqb, nat_lt}
 use Rattle.std.specs.List.{list_any}
 use Rattle.std.proofs.lemmas.Bool.{cases_eq, eq-eqb, ne_eqb}
 use Rattle.std.proofs.lemmas.List.{take_more, append-nil, get_or-take, get_or_past, get_or_default, length-take-le}
-use Rattle.std.proofs.lemmas.List.Elements.{filter_more}
+use Rattle.std.proofs.lemmas.List.Elements.{filter_more, filter_passes}
+use Rattle.std.proofs.lemmas.List.Kept.{AllPairs-filter}
 use Rattle.std.proofs.lemmas.List.Folds.{list_any-append, list_any_none}
 use Rattle.load_model.specs.State.{is_among}
 use Rattle.std.proofs.lemmas.List.Elements.{All-head, All-tail, All-append}
@@ -77,6 +78,29 @@ counts_more init now new order i k once h within is before =
           omega (arith, same, none, more, before)
     ]
 
+-- the counts after one module less
+pub counts_less : (init now new order : List ℕ) (i k : ℕ) → AreApart order → i < length order → get_or order i 0 < length now →
+    new ≡ set now (get_or order i 0) (get_or now (get_or order i 0) 0 - 1) → 0 < get_or now (get_or order i 0) 0 →
+    get_or init k 0 ≡ get_or now k 0 + one_if (is_among (take i order) k) →
+    get_or init k 0 ≡ get_or new k 0 + one_if (is_among (take (i + 1) order) k)
+counts_less init now new order i k once h within is some before =
+    let more = among_once order i k once h in
+    let new_is : get_or new k 0 ≡ get_or (set now (get_or order i 0) (get_or now (get_or order i 0) 0 - 1)) k 0 = ap (λ xs. get_or xs k 0) is in
+    elim (cases_eq k (get_or order i 0)) [
+      | inl at ↦
+          let same : get_or (set now (get_or order i 0) (get_or now (get_or order i 0) 0 - 1)) k 0 ≡ get_or now k 0 - 1 =
+          ap (λ y. get_or (set now (get_or order i 0) (get_or now (get_or order i 0) 0 - 1)) y 0) at
+          ∙ get_or-set_same now (get_or order i 0) (get_or now (get_or order i 0) 0 - 1) 0 within ∙ ap (λ y. get_or now y 0 - 1) (sym at)
+          in
+          let here : get_or now k 0 ≡ get_or now (get_or order i 0) 0 = ap (λ y. get_or now y 0) at in
+          let one : one_if (get_or order i 0 == k) ≡ 1 = ap one_if (eq-eqb _ _ (sym at)) in
+          omega (arith, new_is, same, here, some, one, more, before)
+      | inr other ↦
+          let same = get_or-set_other now (get_or order i 0) k (get_or now (get_or order i 0) 0 - 1) 0 other in
+          let none : one_if (get_or order i 0 == k) ≡ 0 = ap one_if (ne_eqb _ _ (λ e. other (sym e))) in
+          omega (arith, new_is, same, none, more, before)
+    ]
+
 -- what is attached after one module more
 pub attached_more : (init now order base att new : List ℕ) (i : ℕ) → i < length order → get_or now (get_or order i 0) 0 ≡ get_or init (get_or order i 0) 0 →
     att ≡ base ++ filter (λ k. get_or init k 0 == 0) (take i order) →
@@ -118,6 +142,13 @@ not_attached reached attached k none are = λ i d below. λ e.
     let here : get_or reached (get_or attached i d) 0 ≡ get_or reached k 0 = ap (λ x. get_or reached x 0) e in
     absurd (omega (arith, some, here, none))
 
+-- what has a count is a module
+pub counted_within : (xs : List ℕ) (x : ℕ) → 0 < get_or xs x 0 → x < length xs
+counted_within xs x some = elim (cases_lt x (length xs)) [
+  | inl h ↦ h
+  | inr past ↦ (let none = get_or_past xs x 0 past in absurd (omega (arith, none, some)))
+]
+
 -- so there is room for it
 pub room_for_one : (reached attached : List ℕ) (k : ℕ) → k < length reached → get_or reached k 0 ≡ 0 → AreAttached reached attached → length attached < length reached
 room_for_one reached attached k within none are =
@@ -128,12 +159,6 @@ room_for_one reached attached k within none are =
     let le = length-le_from_distinct_below (attached ++ k ∷ []) (length reached) (IsDistinct-from_AllPairs Decides-eqb (attached ++ k ∷ []) apart) (λ q e. found q (attached ++ k ∷ []) Below e below) in
     let long = length-append attached (k ∷ []) in
     omega (arith, le, long)
-  where
-    counted_within : (xs : List ℕ) (x : ℕ) → 0 < get_or xs x 0 → x < length xs
-    counted_within xs x some = elim (cases_lt x (length xs)) [
-      | inl h ↦ h
-      | inr past ↦ (let none = get_or_past xs x 0 past in absurd (omega (arith, none, some)))
-    ]
 
 still_counted : (reached : List ℕ) (k x : ℕ) → k < length reached → 0 < get_or reached x 0 → 0 < get_or (set reached k (get_or reached k 0 + 1)) x 0
 still_counted reached k x within some = elim (cases_eq x k) [
@@ -165,3 +190,16 @@ attached_kept reached attached new k within are is = elim (cases_eq (get_or reac
         once = are.once;
       })
 ]
+
+is_some : (n : ℕ) → nat_lt 0 n ≡ true → 0 < n
+is_some zero e = (let wrong : false ≡ true = e in cc)
+is_some (suc n) e = omega arith
+
+-- what still has a count stays attached once
+pub attached_left : (before reached attached new : List ℕ) → AreAttached before attached → new ≡ filter (λ k. nat_lt 0 (get_or reached k 0)) attached → AreAttached reached new
+attached_left before reached attached new are is =
+    let test : ℕ → Bool = λ k. nat_lt 0 (get_or reached k 0) in
+    subst (AreAttached reached) (sym is) (record {
+      counted = λ i d h. is_some (get_or reached (get_or (filter test attached) i d) 0) (filter_passes test attached i d h);
+      once = AllPairs-filter (λ (a : ℕ) (b : ℕ). a ≡ b → ⊥) test attached are.once;
+    })

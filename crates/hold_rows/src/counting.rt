@@ -1,6 +1,6 @@
 //! Counts by module, for one root more.
 
-ghost use Rattle.std.specs.Prelude.{◌≡◌, ◌≤◌, ◌<◌, ◌+◌, ◌-◌, ◌^◌, ◌∷◌, ◌++◌, ◌==◌, [], All, IfOk, filter, length, if◌then◌else◌, replicate, slice_index, slice_set};
+ghost use Rattle.std.specs.Prelude.{◌≡◌, ◌≤◌, ◌<◌, ◌+◌, ◌-◌, ◌^◌, ◌∷◌, ◌++◌, ◌==◌, [], All, IfOk, filter, length, nat_lt, if◌then◌else◌, replicate, slice_index, slice_set};
 ghost use Rattle.hold_rows.specs.Counts.{AreApart, AreAttached, AreCounted};
 
 use arrayvec::ArrayVec;
@@ -20,6 +20,18 @@ pub fn zeros(modules: u32) -> Modules
         counts.push(0);
     }
     counts
+}
+
+/// The same counts once more.
+pub fn copied(counts: &[u32]) -> Modules
+    requires { length counts.now ≤ 64 }
+    ensures { result.items ≡ counts.now }
+{
+    let mut copy = ArrayVec::new();
+    for count in counts {
+        copy.push(*count);
+    }
+    copy
 }
 
 /// Puts a module that has no count behind those that are attached.
@@ -85,4 +97,40 @@ pub fn uncounted(alloc: Global, order: &[u32], reached: &[u32]) -> Result<Vec<u3
         }
     }
     Ok(modules)
+}
+
+/// Counts one less of module `k`.
+pub fn take_one(k: u32, counts: &mut Modules)
+    requires { 0 < slice_index counts.old.items k }
+    ensures { counts.new.items ≡ slice_set counts.old.items k (slice_index counts.old.items k - 1) }
+{
+    counts[k as usize] -= 1;
+}
+
+/// Counts one root less that reaches the modules of an order.
+pub fn count_out(order: &[u32], reached: &mut Modules)
+    requires counted { All (λ k. 0 < slice_index reached.old.items k) order.now }
+    requires once { AreApart order.now }
+    ensures { AreCounted order.now reached.new.items reached.old.items }
+{
+    for k in order {
+        take_one(*k, reached);
+    }
+}
+
+/// Whether a module has a count.
+fn is_counted(reached: &[u32], k: u32) -> bool
+    ensures { result ≡ nat_lt 0 (slice_index reached.now k) }
+{
+    match reached.get(k as usize) {
+        Some(count) => *count > 0,
+        None => false,
+    }
+}
+
+/// Keeps of what is attached what has a count.
+pub fn keep_counted(reached: &[u32], attached: &mut Modules)
+    ensures { attached.new.items ≡ filter (λ k. nat_lt 0 (slice_index reached.now k)) attached.old.items }
+{
+    attached.retain(|k| is_counted(reached, *k));
 }

@@ -2,13 +2,16 @@
 
 ghost use Rattle.std.specs.Prelude.{◌≡◌, ◌≤◌, ◌<◌, ◌-◌, ◌^◌, All, IfOk, None, length, slice_index};
 ghost use Rattle.load_model.specs.Modules.{Library, order_of};
-ghost use Rattle.load_model.specs.State.{Process, count_of, new_process, reaches};
+ghost use Rattle.load_model.specs.State.{Eager, Process, count_of, new_process, reaches};
 ghost use Rattle.load_model.specs.Entering.{holding, attaching};
+ghost use Rattle.load_model.specs.Leaving.{exiting, freeing, keeping, left};
 ghost use Rattle.load_model.specs.declared.deeds.How.TheVariants.{Load, Start};
 ghost use Rattle.load_model.specs.Rows.{IsRowOf, unreached};
 ghost use Rattle.hold_rows.specs.Counts.{AreApart};
 
-use crate::counting::{Modules, add_one, count_in, uncounted, zeros};
+use crate::counting::{
+    Modules, add_one, copied, count_in, count_out, keep_counted, take_one, uncounted, zeros,
+};
 use arrayvec::ArrayVec;
 use lx_types::NoMemory;
 use std::alloc::Global;
@@ -104,5 +107,51 @@ impl Holder {
     {
         count_in(order, &mut self.reached, &mut self.attached);
         self.started = Some(m);
+    }
+
+    /// What the process no longer reaches once it gives up a load of module `m`, whose order this is
+    /// (DosFreeModule): the last that it attached comes first.
+    pub fn left_by_free(&self, alloc: Global, order: &[u32], m: u32) -> Result<Vec<u32>, NoMemory>
+        requires held { 0 < slice_index self.now.loads m }
+        requires counted { All (λ k. 0 < slice_index self.now.reached k) order.now }
+        requires once { AreApart order.now }
+        ensures { IfOk result (λ ms. (lib : Library) (p : Process) → IsRowOf lib p self.now → order.now ≡ order_of lib m
+            → ms.items ≡ left lib (freeing m p)) }
+    {
+        let mut reached = copied(self.reached.as_slice());
+        count_out(order, &mut reached);
+        let mut left = uncounted(alloc, self.attached.as_slice(), reached.as_slice())?;
+        left.reverse();
+        Ok(left)
+    }
+
+    /// Gives up a load of module `m`, whose order this is (DosFreeModule). What the process still reaches
+    /// stays attached.
+    pub fn free(&mut self, order: &[u32], m: u32)
+        requires held { 0 < slice_index self.old.loads m }
+        requires counted { All (λ k. 0 < slice_index self.old.reached k) order.now }
+        requires once { AreApart order.now }
+        ensures { (lib : Library) (p : Process) (e : Eager) → IsRowOf lib p self.old → order.now ≡ order_of lib m
+            → IsRowOf lib (keeping lib e (freeing m p)) self.new }
+    {
+        count_out(order, &mut self.reached);
+        keep_counted(self.reached.as_slice(), &mut self.attached);
+        take_one(m, &mut self.loads);
+    }
+
+    /// What the process no longer reaches once it ends: all that it attached, the last first.
+    pub fn left_by_exit(&self, alloc: Global) -> Result<Vec<u32>, NoMemory>
+        ensures { IfOk result (λ ms. (lib : Library) (p : Process) → IsRowOf lib p self.now → ms.items ≡ left lib (exiting p)) }
+    {
+        let mut left = self.attached.as_slice().to_vec(alloc)?;
+        left.reverse();
+        Ok(left)
+    }
+
+    /// Gives up the program and all loads (DosExit).
+    pub fn exit(&mut self)
+        ensures { (lib : Library) (p : Process) (e : Eager) → IsRowOf lib p self.old → IsRowOf lib (keeping lib e (exiting p)) self.new }
+    {
+        *self = Holder::new(self.loads.len() as u32);
     }
 }
