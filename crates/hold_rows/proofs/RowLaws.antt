@@ -13,7 +13,7 @@ use Rattle.hold_rows.specs.Counts.{one_if, AreCounted}
 
 -- ---- counts and tests
 
-count_cons : {X : Type 0} (f : X → Bool) (x : X) (xs : List X) → count_by f (x ∷ xs) ≡ one_if (f x) + count_by f xs
+pub count_cons : {X : Type 0} (f : X → Bool) (x : X) (xs : List X) → count_by f (x ∷ xs) ≡ one_if (f x) + count_by f xs
 count_cons f x xs = sum_by-cons (λ y. cond (f y) 1 0) x xs
 
 any_counts : {X : Type 0} (f : X → Bool) (xs : List X) → list_any f xs ≡ nat_lt 0 (count_by f xs)
@@ -128,7 +128,7 @@ start_row lib p row order reached attached m is idle order_is within counted att
 
 -- ---- a root less
 
-without_count : (f : ℕ → Bool) (m : ℕ) (xs : List ℕ) → 0 < count_by (λ other. other == m) xs → count_by f (without_one m xs) + one_if (f m) ≡ count_by f xs
+pub without_count : (f : ℕ → Bool) (m : ℕ) (xs : List ℕ) → 0 < count_by (λ other. other == m) xs → count_by f (without_one m xs) + one_if (f m) ≡ count_by f xs
 without_count f m [] some = absurd (omega (arith, some))
 without_count f m (x ∷ xs) some = elim (cases_eq x m) [
   | inl same ↦

@@ -3,5 +3,7 @@
 
 mod counting;
 mod holder;
+mod laws;
 
 pub use holder::Holder;
+pub use laws::rows_are_counted;
