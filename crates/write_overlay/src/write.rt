@@ -1,0 +1,57 @@
+//! A write to an object.
+
+ghost use Rattle.std.specs.Prelude.{◌≡◌};
+
+use lx_types::Bytes;
+use std::marker::Model;
+
+/// Bytes that were written at an offset of an object. Objects count from 1.
+#[derive(Drop)]
+pub struct Write {
+    object: u32,
+    offset: u32,
+    bytes: Bytes,
+}
+
+impl Model for Write {
+    ghost use Rattle.load_model.specs.State.{Written};
+    ghost use Rattle.write_overlay.specs.Laid.{written_of};
+
+    ghost Value = { Written };
+
+    ghost view = { written_of };
+}
+
+impl Write {
+    /// The write of these bytes.
+    pub fn new(object: u32, offset: u32, bytes: Bytes) -> Write
+        ensures { result ≡ record { object = object; offset = offset; bytes = bytes } }
+    {
+        Write {
+            object,
+            offset,
+            bytes,
+        }
+    }
+
+    /// The object.
+    pub fn object(&self) -> u32
+        ensures { result ≡ self.now.object }
+    {
+        self.object
+    }
+
+    /// Where in the object the first byte stands.
+    pub fn offset(&self) -> u32
+        ensures { result ≡ self.now.offset }
+    {
+        self.offset
+    }
+
+    /// The bytes.
+    pub fn bytes(&self) -> &[u8]
+        ensures { result.now ≡ self.now.bytes }
+    {
+        self.bytes.as_slice()
+    }
+}
