@@ -18,7 +18,7 @@ of_one : (at : ℕ) (fs : List Fix) → map (λ (p : ℕ × Fix). p.1) (map (λ 
 of_one at [] = refl
 of_one at (f ∷ fs) = ap (λ (gs : List Fix). f ∷ gs) (of_one at fs)
 
-of_all : (rs : List Record) → map (λ (p : ℕ × Fix). p.1) (flat_map sources_of rs) ≡ flat_map (λ (r : Record). r.fixes) rs
+pub of_all : (rs : List Record) → map (λ (p : ℕ × Fix). p.1) (flat_map sources_of rs) ≡ flat_map (λ (r : Record). r.fixes) rs
 of_all [] = refl
 of_all (r ∷ rs) =
     map-append (λ (p : ℕ × Fix). p.1) (sources_of r) (flat_map sources_of rs)

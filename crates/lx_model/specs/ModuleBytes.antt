@@ -21,11 +21,11 @@ abbrev pub FixedByte : List Parts → ℕ → Bases → ℕ → ℕ → ℕ
 FixedByte lib m bases object offset = Fixed lib m bases (page_with object offset) (offset % PAGE_SIZE)
 
 -- the bytes of a page, as the file has them and as its fixups leave them
-abbrev pub RawPage : Parts → PageId → List ℕ
-RawPage m p = map (Raw m p) (range_with_len 0 PAGE_SIZE)
+abbrev pub raw_page : Parts → PageId → List ℕ
+raw_page m p = map (Raw m p) (range_with_len 0 PAGE_SIZE)
 
-abbrev pub FixedPage : List Parts → ℕ → Bases → PageId → List ℕ
-FixedPage lib m bases p = map (Fixed lib m bases p) (range_with_len 0 PAGE_SIZE)
+abbrev pub fixed_page : List Parts → ℕ → Bases → PageId → List ℕ
+fixed_page lib m bases p = map (Fixed lib m bases p) (range_with_len 0 PAGE_SIZE)
 
 -- ---- invalid pages
 

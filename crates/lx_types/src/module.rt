@@ -2,7 +2,7 @@
 
 ghost use Rattle.std.specs.Prelude.{◌≡◌, ◌+◌, ◌<◌, ◌≤◌, length, AllPairs, option_copied};
 ghost use Rattle.lx_types.specs.Object.{pages_of};
-ghost use Rattle.lx_types.specs.Parts.{is_library_of, object_of, page_at, data_at, fixes_at, proc_name_of, entry_of, ordinal_named};
+ghost use Rattle.lx_types.specs.Parts.{is_library_of, object_of, page_at, data_at, fix_span_at, fixes_at, proc_name_of, entry_of, ordinal_named};
 ghost use Rattle.lx_types.specs.Sound.{IsNumberOf, Sound};
 
 use crate::{
@@ -139,20 +139,31 @@ impl Module {
         &self.file()[from..from + page.len as usize]
     }
 
+    /// Where a page's fixup records begin and end in the file. A page past its object's page count has
+    /// none, from 0 up to 0.
+    pub fn fix_span(&self, p: PageId) -> (u32, u32)
+        requires object { IsNumberOf p.object (length self.now.objects) }
+        requires page { p.page < pages_of (object_of self.now p.object) }
+        ensures span { result ≡ fix_span_at self.now p }
+        ensures within { (result.0 ≤ result.1) × (result.1 ≤ length self.now.file) }
+    {
+        let object = self.objects()[p.object as usize - 1];
+        if p.page < object.count {
+            let place = (object.first - 1) as usize + p.page as usize;
+            self.parts.fix_spans.as_slice()[place]
+        } else {
+            (0, 0)
+        }
+    }
+
     /// The fixup records of a page. A page past its object's page count has none.
     pub fn fix_bytes(&self, p: PageId) -> &[u8]
         requires object { IsNumberOf p.object (length self.now.objects) }
         requires page { p.page < pages_of (object_of self.now p.object) }
         ensures { result.now ≡ fixes_at self.now p }
     {
-        let object = self.objects()[p.object as usize - 1];
-        if p.page < object.count {
-            let place = (object.first - 1) as usize + p.page as usize;
-            let (from, to) = self.parts.fix_spans.as_slice()[place];
-            &self.file()[from as usize..to as usize]
-        } else {
-            &self.file()[..0]
-        }
+        let (from, to) = self.fix_span(p);
+        &self.file()[from as usize..to as usize]
     }
 
     /// The names of the modules that this one imports from, in the order of their numbers.

@@ -1,0 +1,161 @@
+//! A page with its fixups.
+
+ghost use Rattle.std.specs.Prelude.{◌≡◌, ◌+◌, ◌<◌, ◌^◌, ℕ, box_value, length, slice_index, unwrap_or, take};
+ghost use Rattle.lx_types.specs.Addresses.{address};
+ghost use Rattle.lx_types.specs.Object.{pages_of};
+ghost use Rattle.lx_types.specs.Parts.{object_of, fix_span_at, fixes_at};
+ghost use Rattle.lx_types.specs.Sound.{IsNumberOf};
+ghost use Rattle.lx_fixrec.specs.Left.{left_in};
+ghost use Rattle.lx_model.specs.Entries.{target_spot};
+ghost use Rattle.lx_model.specs.Fixed.{patch_of, patched, sources_of, end_address, spot_address, bytes_for};
+ghost use Rattle.lx_model.specs.Library.{module_of};
+ghost use Rattle.lx_model.specs.ModuleBytes.{fixed_page, spot_flags};
+ghost use Rattle.page_fix.specs.Laid.{laid, patches_left};
+
+use crate::bases::BaseIndex;
+use crate::field::{Field, field_for};
+use crate::putting::put;
+use crate::raw::write_raw;
+use crate::steps::Steps;
+use lx_fixrec::records;
+use lx_model::Spot;
+use lx_types::{Bases, Fix, PAGE_SIZE, PageId, Source};
+use mod_graph::Library;
+use std::sync::ledger::Ledger;
+
+/// A page to be fixed: of which module of which library, and at which bases.
+#[derive(Clone, Copy)]
+struct Site<'a> {
+    lib: &'a Library,
+    module: u32,
+    bases: BaseIndex<'a>,
+    page: PageId,
+    ghost there: { «module» < length lib.now },
+}
+
+// How many bytes a source's field has.
+fn size_of(source: Source) -> u32
+    ensures { result ≡ source_size source }
+{
+    match source {
+        Source::Byte => 1,
+        Source::Sel | Source::Off16 => 2,
+        Source::Far16 | Source::Off32 | Source::Self32 => 4,
+        Source::Far32 => 6,
+    }
+}
+
+ghost use Rattle.lx_model.specs.Sources.{source_size};
+
+impl<'a> Site<'a> {
+    // The flags of the object in which a spot lies, and 0 where there is none.
+    fn flags(&self, spot: Spot) -> u32
+        ensures { result ≡ spot_flags self.now.lib.now spot }
+    {
+        if spot.module >= self.lib.len() {
+            return 0;
+        }
+        let objects = self.lib.module(spot.module).objects();
+        match objects.get(spot.object.saturating_sub(1) as usize) {
+            Some(object) => object.flags,
+            None => 0,
+        }
+    }
+
+    // The address at which a source's field ends.
+    fn end(&self, fix: &Fix) -> u32
+        ensures { result ≡ end_address self.now.bases.bases.now self.now.«module» self.now.page fix.now }
+    {
+        let base = self.bases.base(self.module, self.page.object);
+        let field = base
+            .wrapping_add(self.page.page.wrapping_mul(PAGE_SIZE))
+            .wrapping_add(size_of(fix.source));
+        let by = fix.offset.unsigned_abs();
+        if fix.offset < 0 {
+            field.wrapping_sub(by)
+        } else {
+            field.wrapping_add(by)
+        }
+    }
+
+    // Puts a source into the page. One whose target has no spot, which no fit module has, puts nothing.
+    fn put_source(&self, page: &mut [u8], fix: &Fix)
+        requires { length page.old ≡ 4096 }
+        ensures { (i : ℕ) → i < 4096 → slice_index page.new i
+            ≡ unwrap_or (patched (patch_of self.now.lib.now self.now.«module» self.now.bases.bases.now self.now.page fix.now) i) (slice_index page.old i) }
+    {
+        let Ok(spot) = self.lib.target(self.module, &fix.target) else {
+            return;
+        };
+        let address = self
+            .bases
+            .base(spot.module, spot.object)
+            .wrapping_add(spot.offset)
+            .wrapping_add(fix.additive);
+        let field = field_for(
+            fix.source,
+            fix.alias,
+            self.flags(spot),
+            address,
+            self.end(fix),
+        );
+        put(page, fix, field.bytes());
+    }
+
+    // Puts the sources of records into the page, one after the other, and counts them.
+    fn put_sources<L: Ledger>(&self, page: &mut [u8], bytes: &[u8], at: u32, steps: &mut Steps<L>)
+        requires page { length page.old ≡ 4096 }
+        requires short { at + length bytes.now < 2 ^ 32 }
+        ensures bytes { (i : ℕ) → i < 4096 → slice_index page.new i
+            ≡ laid (patches_left self.now.lib.now self.now.«module» self.now.bases.bases.now self.now.page (left_in at bytes.now)) i (slice_index page.old i) }
+        ensures steps { steps.new ≡ steps.old + length (left_in at bytes.now).items }
+    {
+        let mut sources = records(bytes, at);
+        while let Some(source) = sources.next() {
+            if let Ok(fix) = source {
+                self.put_source(page, &fix);
+                steps.tick();
+            }
+        }
+    }
+
+    // Writes the page with its fixups.
+    fn fix_into<L: Ledger>(&self, page: &mut [u8; 4096], steps: &mut Steps<L>)
+        requires object { IsNumberOf self.now.page.object (length (module_of self.now.lib.now self.now.«module»).objects) }
+        requires page { self.now.page.page < pages_of (object_of (module_of self.now.lib.now self.now.«module») self.now.page.object) }
+        ensures bytes { page.new ≡ fixed_page self.now.lib.now self.now.«module» self.now.bases.bases.now self.now.page }
+        ensures steps { steps.new ≡ steps.old + length (sources_of (module_of self.now.lib.now self.now.«module») self.now.page) }
+    {
+        let owner = self.lib.module(self.module);
+        write_raw(owner, self.page, page);
+        let (from, _) = owner.fix_span(self.page);
+        self.put_sources(page, owner.fix_bytes(self.page), from, steps);
+    }
+}
+
+/// Writes a page of module `m` of a library into the buffer, with its fixups at these bases, and gives the buffer back. The
+/// count rises by the record sources of the page. It takes no memory, and time that grows with the page's records and with
+/// the modules that the bases are of.
+pub fn fix_private<L: Ledger>(
+    lib: &Library,
+    m: u32,
+    bases: &Bases,
+    p: PageId,
+    mut buffer: Box<[u8; 4096]>,
+    steps: &mut Steps<L>,
+) -> Box<[u8; 4096]>
+    requires module { m < length lib.now }
+    requires object { IsNumberOf p.object (length (module_of lib.now m).objects) }
+    requires page { p.page < pages_of (object_of (module_of lib.now m) p.object) }
+    ensures bytes { box_value result ≡ fixed_page lib.now m bases.now p }
+    ensures steps { steps.new ≡ steps.old + length (sources_of (module_of lib.now m) p) }
+{
+    let site = Site {
+        lib,
+        module: m,
+        bases: BaseIndex::of(bases),
+        page: p,
+    };
+    site.fix_into(&mut buffer, steps);
+    buffer
+}
