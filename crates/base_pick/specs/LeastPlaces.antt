@@ -12,4 +12,5 @@ pub record IsLeastPlace (arena : AddressRange) (occupied : List AddressRange) (s
 abbrev pub LeastIsFound : Type 0
 LeastIsFound =
     (arena : AddressRange) (occupied : List AddressRange) (size : ℕ) → arena.from % UNIT ≡ 0 →
-    MatchOption (find (is_place arena occupied size) (bases_in arena)) ((other : ℕ) → is_place arena occupied size other ≡ false) (IsLeastPlace arena occupied size)
+    MatchOption (find (is_place arena occupied size) (bases_in arena)) ((other : ℕ) → is_place arena occupied size other ≡ false)
+    (IsLeastPlace arena occupied size)
