@@ -1,23 +1,10 @@
--- How numbers, bytes and names are written in a transcript.
-use Rattle.std.specs.Prelude.{ℕ, ◌+◌, ◌/◌, ◌%◌, ◌==◌, ◌||◌, List, [], ◌∷◌, ◌++◌, map, flat_map, nat_lt, if◌then◌else◌}
-
--- a hexadecimal digit, in upper case
-abbrev pub hex_digit : ℕ → ℕ
-hex_digit d = if nat_lt d 10 then 0x30 + d else 0x37 + d
-
-abbrev pub hex_byte : ℕ → List ℕ
-hex_byte b = hex_digit (b / 16 % 16) ∷ hex_digit (b % 16) ∷ []
+-- How numbers and bytes are written in a transcript, and its lines.
+use Rattle.std.specs.Prelude.{ℕ, ◌/◌, List, [], ◌∷◌, ◌++◌, map, flat_map}
+use Rattle.lx_types.specs.Escaped.{hex_byte}
 
 -- eight digits
 abbrev pub hex_address : ℕ → List ℕ
 hex_address a = hex_byte (a / 0x100_0000) ++ hex_byte (a / 0x1_0000) ++ hex_byte (a / 0x100) ++ hex_byte a
-
--- a byte of a name: one outside 21h to 7Eh, and `%`, as `%` and two digits
-abbrev pub escape : ℕ → List ℕ
-escape b = if nat_lt b 0x21 || nat_lt 0x7E b || (b == 0x25) then 0x25 ∷ hex_byte b else b ∷ []
-
-abbrev pub name_text : List ℕ → List ℕ
-name_text name = flat_map escape name
 
 -- words with one blank between each two
 abbrev pub words : List (List ℕ) → List ℕ

@@ -24,13 +24,14 @@ use Rattle.load_model.specs.Modules.{Library, name_of}
 use Rattle.session_model.specs.declared.sessions.Line.{Line}
 use Rattle.session_model.specs.declared.sessions.ScriptLines.{ScriptLines}
 use Rattle.session_model.specs.Merging.{is_fault, numbers_of}
-use Rattle.session_model.specs.Text.{hex_address, name_text, line_of, inner_line, bytes_words, bytes_word}
+use Rattle.lx_types.specs.Escaped.{escaped}
+use Rattle.session_model.specs.Text.{hex_address, line_of, inner_line, bytes_words, bytes_word}
 
 -- ---- entries
 
--- a module by its own name
+-- a module by its own name, with its escapes
 abbrev pub module_text : Library → ℕ → List ℕ
-module_text lib m = name_text (name_of lib m)
+module_text lib m = escaped (name_of lib m)
 
 abbrev pub how_text : How → List ℕ
 how_text ways.Start = codes "start"
