@@ -54,6 +54,13 @@ impl Holder {
         }
     }
 
+    /// The program that the process started.
+    pub fn started(&self) -> Option<u32>
+        ensures { result ≡ self.now.started }
+    {
+        self.started
+    }
+
     /// How many loads of module `m` the process holds. More than 65,535 it must not hold.
     pub fn held(&self, m: u32) -> u32
         requires { m < length self.now.loads }
