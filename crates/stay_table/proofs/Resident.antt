@@ -1,0 +1,59 @@
+-- Which residence a module has.
+use Rattle.std.proofs.Common.{◌≡◌, ℕ, ◌==◌, Bool, true, false, cond, List, [], ◌∷◌, ◌++◌, map, Some, None, refl, sym, ◌∙◌, ap, subst}
+use Rattle.std.specs.Prelude.{find, option_map}
+use Rattle.std.specs.Option.{option_or}
+use Rattle.std.proofs.lemmas.List.Folds.{find-append}
+use Rattle.load_model.specs.declared.deeds.Fresh.{Fresh}
+use Rattle.load_model.specs.State.{Residence, Eager, residence_of}
+use Rattle.load_model.specs.Entering.{residence_from, with_fresh_residences}
+use Rattle.stay_table.specs.declared.standing.Standing.{Standing}
+use Rattle.stay_table.specs.Standing.{residences, is_of_module}
+use Rattle.stay_table.specs.Placing.{residences_with, state_with}
+use Rattle.stay_table.specs.Called.{IsAt}
+
+find_map : {X Y : Type 0} (p : Y → Bool) (h : X → Y) (xs : List X) → find p (map h xs) ≡ option_map h (find (λ x. p (h x)) xs)
+find_map p h [] = refl
+find_map p h (x ∷ xs) = by_test (p (h x)) (find_map p h xs)
+  where
+    by_test : (b : Bool) → find p (map h xs) ≡ option_map h (find (λ y. p (h y)) xs) → cond b (Some (h x)) (find p (map h xs)) ≡ option_map h (cond b (Some x) (find (λ y. p (h y)) xs))
+    by_test true rest = refl
+    by_test false rest = rest
+
+-- by the residences of a state
+pub residence_is : (e : Eager) (rs : List Residence) (m : ℕ) → e.residences ≡ rs → residence_of e m ≡ residence_of (state_with rs) m
+unfolding residence_of
+residence_is e rs m same = ap (find (λ (r : Residence). r.«module» == m)) same
+
+pub residence_in_table : {T : Type 0} (stays : List (Residence × T)) (m : ℕ) → residence_of (state_with (residences stays)) m ≡ option_map (λ s. s.0) (find (is_of_module m) stays)
+unfolding residence_of
+residence_in_table {T} stays m = find_map (λ (r : Residence). r.«module» == m) (λ (s : Residence × T). s.0) stays
+
+-- once others have begun
+pub residence_with : {T : Type 0} (stays : List (Residence × T)) (fresh : List Fresh) (m : ℕ) →
+    residence_of (state_with (residences_with stays fresh)) m ≡
+    option_or (option_map (λ s. s.0) (find (is_of_module m) stays)) (option_map residence_from (find (λ (f : Fresh). f.«module» == m) fresh))
+unfolding residence_of
+residence_with {T} stays fresh m =
+    find-append (λ (r : Residence). r.«module» == m) (residences stays) (map residence_from fresh)
+    ∙ ap (λ o. option_or o (find (λ (r : Residence). r.«module» == m) (map residence_from fresh))) (find_map (λ (r : Residence). r.«module» == m) (λ (s : Residence × T). s.0) stays)
+    ∙ ap (option_or (option_map (λ (s : Residence × T). s.0) (find (is_of_module m) stays))) (find_map (λ (r : Residence). r.«module» == m) residence_from fresh)
+
+pub residence_begun : (e : Eager) (rs : List Residence) (fresh : List Fresh) (m : ℕ) → e.residences ≡ rs →
+    residence_of (with_fresh_residences e fresh) m ≡ residence_of (state_with (rs ++ map residence_from fresh)) m
+residence_begun e rs fresh m same = residence_is (with_fresh_residences e fresh) (rs ++ map residence_from fresh) m (ap (λ xs. xs ++ map residence_from fresh) same)
+
+-- ---- where it is
+
+pub at_stay : {T : Type 0} (stays : List (Residence × T)) (fresh : List Fresh) (m : ℕ) (at : Standing) (s : Residence × T) → find (is_of_module m) stays ≡ Some s →
+    at.serial ≡ s.0.serial → at.bases.now ≡ s.0.bases → IsAt at (residence_of (state_with (residences_with stays fresh)) m)
+at_stay {T} stays fresh m at s found serial bases =
+    let is : residence_of (state_with (residences_with stays fresh)) m ≡ Some s.0 =
+    residence_with stays fresh m ∙ ap (λ o. option_or (option_map (λ (x : Residence × T). x.0) o) (option_map residence_from (find (λ (f : Fresh). f.«module» == m) fresh))) found
+    in
+    subst (IsAt at) (sym is) (record { serial = serial; bases = bases })
+
+pub at_beginning : {T : Type 0} (stays : List (Residence × T)) (fresh : List Fresh) (m : ℕ) (at : Standing) → find (is_of_module m) stays ≡ None →
+    IsAt at (option_map residence_from (find (λ (f : Fresh). f.«module» == m) fresh)) → IsAt at (residence_of (state_with (residences_with stays fresh)) m)
+at_beginning {T} stays fresh m at none is =
+    let same = residence_with stays fresh m ∙ ap (λ o. option_or (option_map (λ (x : Residence × T). x.0) o) (option_map residence_from (find (λ (f : Fresh). f.«module» == m) fresh))) none in
+    subst (IsAt at) (sym same) is

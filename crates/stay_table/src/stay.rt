@@ -1,0 +1,110 @@
+//! A residence with what its holder keeps beside it.
+
+ghost use Rattle.std.specs.Prelude.{◌≡◌, ◌++◌, ◌∷◌, [], IfOk, MatchResult};
+ghost use Rattle.write_overlay.specs.Laid.{bytes_under};
+ghost use Rattle.std.specs.Borrow.{sem};
+ghost use Rattle.load_model.specs.Entering.{residence_from};
+
+use load_model::Fresh;
+use lx_types::{NoMemory, Numbers, Seq};
+use std::alloc::Global;
+use std::marker::Model;
+use write_overlay::{Write, lay};
+
+/// One stay of a module in memory: its serial number, the module, the bases of its objects, and the writes to
+/// its shared objects, the oldest first. Beside it stands what its holder keeps of it.
+#[derive(Drop)]
+pub struct Stay<T> {
+    serial: u64,
+    module: u32,
+    bases: Numbers,
+    writes: Vec<Write>,
+    beside: T,
+}
+
+impl<T> Model for Stay<T> {
+    ghost use Rattle.load_model.specs.State.{Residence};
+
+    ghost Value = { Residence × T };
+
+    ghost view = { λ s. (record { serial = s.serial; «module» = s.«module»; bases = s.bases; writes = s.writes.items }, s.beside) };
+}
+
+impl<T: Drop> Stay<T> {
+    ghost use Rattle.stay_table.specs.Lending.{lends_beside};
+
+    /// The residence that begins.
+    pub fn begun(alloc: Global, fresh: &Fresh, beside: T) -> Result<Stay<T>, NoMemory>
+        ensures { IfOk result (λ stay. stay ≡ (residence_from fresh.now, beside)) }
+    {
+        Ok(Stay {
+            serial: fresh.serial,
+            module: fresh.module,
+            bases: Seq::from_vec(fresh.bases.as_slice().to_vec(alloc)?),
+            writes: Vec::new(alloc),
+            beside,
+        })
+    }
+
+    /// The serial number.
+    pub fn serial(&self) -> u64
+        ensures { result ≡ self.now.0.serial }
+    {
+        self.serial
+    }
+
+    /// What is kept beside the residence.
+    pub fn beside(&self) -> &T
+        ensures { result.now ≡ self.now.1 }
+    {
+        &self.beside
+    }
+
+    /// What is kept beside the residence.
+    pub fn beside_mut(&mut self) -> &mut T
+        ensures* writes_back { sem 𝓛 (lends_beside T.row self.entry result) }
+        ensures value { result.now ≡ self.old.1 }
+    {
+        &mut self.beside
+    }
+}
+
+impl<T> Stay<T> {
+    /// The module.
+    pub fn module(&self) -> u32
+        ensures { result ≡ self.now.0.«module» }
+    {
+        self.module
+    }
+
+    /// The bases of the module's objects, in their order.
+    pub fn bases(&self) -> &Numbers
+        ensures { result.now ≡ self.now.0.bases }
+    {
+        &self.bases
+    }
+
+    /// The writes to its shared objects, the oldest first.
+    pub fn writes(&self) -> &[Write]
+        ensures { result.now ≡ self.now.0.writes }
+    {
+        self.writes.as_slice()
+    }
+
+    /// Lays the writes to an object, the oldest first, over its bytes from `offset` on.
+    pub fn lay(&self, object: u32, offset: u32, into: &mut [u8])
+        ensures { into.new ≡ bytes_under self.now.0.writes object offset into.old }
+    {
+        lay(&self.writes, object, offset, into);
+    }
+
+    /// Adds a write to those that all share. Where there is no memory nothing changes.
+    pub fn add_write(&mut self, write: Write) -> Result<(), NoMemory>
+        ensures { MatchResult result
+            (λ _. self.new ≡ (record self.old.0 { writes = self.old.0.writes ++ write ∷ [] }, self.old.1))
+            (λ _. self.new ≡ self.old) }
+    {
+        self.writes.push(write)?;
+        Ok(())
+    }
+}

@@ -1,0 +1,140 @@
+//! The residences that stand.
+
+ghost use Rattle.std.specs.Prelude.{◌≡◌, ◌<◌, ◌++◌, [], filter, find, position, map, not, length, option_copied, option_map, slice_get, IfSome, MatchResult, Some};
+ghost use Rattle.std.specs.Borrow.{sem};
+ghost use Rattle.load_model.specs.State.{Eager, residence_of};
+ghost use Rattle.load_model.specs.State as state;
+ghost use Rattle.stay_table.specs.Standing.{residences, is_of_module, has_serial, with_write_in, AreOwn};
+
+use crate::stay::Stay;
+use lx_types::NoMemory;
+use std::alloc::Global;
+use std::marker::Model;
+use write_overlay::Write;
+
+/// The residences that stand, by rising serial numbers, each with what its holder keeps beside it. There
+/// are no more of them than a library has modules: a look-up goes over one after the other.
+#[derive(Drop)]
+pub struct Stays<T> {
+    stays: Vec<Stay<T>>,
+}
+
+impl<T> Model for Stays<T> {
+    ghost use Rattle.std.specs.Prelude.{List};
+    ghost use Rattle.load_model.specs.State.{Residence};
+
+    ghost Value = { List (Residence × T) };
+
+    ghost view = { λ s. s.stays.items };
+}
+
+/// Whether a module is one of these.
+pub fn is_among(modules: &[u32], m: u32) -> bool
+    ensures { result ≡ state.is_among modules.now m }
+{
+    modules.iter().any(|other| *other == m)
+}
+
+/// Whether a residence is of none of these modules.
+fn stays_on<T>(gone: &[u32], stay: &Stay<T>) -> bool
+    ensures { result ≡ not (state.is_among gone.now stay.now.0.«module») }
+{
+    !is_among(gone, stay.module())
+}
+
+impl<T: Drop> Stays<T> {
+    ghost use Rattle.stay_table.specs.TableLending.{lends_beside_at};
+
+    /// Nothing is resident. It takes no memory.
+    pub fn new(alloc: Global) -> Stays<T>
+        ensures { result ≡ [] }
+    {
+        Stays {
+            stays: Vec::new(alloc),
+        }
+    }
+
+    /// The residences, the oldest first.
+    pub fn stays(&self) -> &[Stay<T>]
+        ensures { result.now ≡ self.now }
+    {
+        self.stays.as_slice()
+    }
+
+    /// The residence of module `m`.
+    pub fn find(&self, m: u32) -> Option<&Stay<T>>
+        ensures found { option_copied result ≡ find (is_of_module m) self.now }
+        ensures residence { (e : Eager) → e.residences ≡ residences self.now → option_map (λ s. s.0) (option_copied result) ≡ residence_of e m }
+    {
+        self.first_of(m)
+    }
+
+    /// The first of the residences that is one of module `m`.
+    fn first_of(&self, m: u32) -> Option<&Stay<T>>
+        ensures { option_copied result ≡ find (is_of_module m) self.now }
+    {
+        self.stays.iter().find(|stay| stay.module() == m)
+    }
+
+    /// The residence of a serial number.
+    pub fn find_serial(&self, serial: u64) -> Option<&Stay<T>>
+        ensures { option_copied result ≡ find (has_serial serial) self.now }
+    {
+        self.stays.iter().find(|stay| stay.serial() == serial)
+    }
+
+    /// Where in the table the residence of a serial number stands.
+    pub fn place_of(&self, serial: u64) -> Option<usize>
+        ensures place { result ≡ position (has_serial serial) self.now }
+    {
+        self.stays.iter().position(|stay| stay.serial() == serial)
+    }
+
+    /// The residence at a place.
+    pub fn at(&self, place: usize) -> &Stay<T>
+        requires { place < length self.now }
+        ensures { Some result.now ≡ slice_get self.now place }
+    {
+        &self.stays[place]
+    }
+
+    /// What is kept beside the residence at a place.
+    pub fn beside_mut(&mut self, place: usize) -> &mut T
+        requires { place < length self.old }
+        ensures* writes_back { sem 𝓛 (lends_beside_at T.row self.entry place result) }
+        ensures value { Some result.now ≡ option_map (λ s. s.1) (slice_get self.old place) }
+    {
+        let stay = &mut self.stays[place];
+        stay.beside_mut()
+    }
+
+    /// The residences that begin stand behind those that stood. Where there is no memory nothing changes.
+    pub fn begin(&mut self, mut newcomers: Vec<Stay<T>>) -> Result<(), NoMemory>
+        ensures { MatchResult result (λ _. self.new ≡ self.old ++ newcomers.items) (λ _. self.new ≡ self.old) }
+    {
+        self.stays.append(&mut newcomers)?;
+        Ok(())
+    }
+
+    /// The residences of these modules end. It takes no memory.
+    pub fn end(&mut self, gone: &[u32])
+        ensures { self.new ≡ filter (λ s. not (state.is_among gone.now s.0.«module»)) self.old }
+    {
+        self.stays.retain(|stay| stays_on(gone, stay));
+    }
+
+    /// Adds a write to those that all share in the residence of a serial number. Where there is no memory nothing changes.
+    pub fn add_write(&mut self, serial: u64, write: Write) -> Result<(), NoMemory>
+        requires { AreOwn (residences self.old) }
+        ensures { MatchResult result (λ _. self.new ≡ map (with_write_in serial write) self.old) (λ _. self.new ≡ self.old) }
+    {
+        match self.place_of(serial) {
+            Some(place) => {
+                let stay = &mut self.stays[place];
+                stay.add_write(write)?;
+                Ok(())
+            }
+            None => Ok(()),
+        }
+    }
+}
