@@ -3,3 +3,7 @@ pub mod Places
 pub mod Covering
 pub mod Spots
 pub mod Sources
+pub mod Fixables
+pub mod Pages
+pub mod Marked
+pub mod Made

@@ -1,2 +1,4 @@
+pub mod Fixable
 pub mod Found
 pub mod Laid
+pub mod Rights

@@ -14,8 +14,10 @@ ghost use Rattle.page_fix.specs.Laid.{laid, patches_left};
 
 use crate::bases::BaseIndex;
 use crate::field::{Field, field_for};
+use crate::fixed::FixedPage;
 use crate::putting::put;
 use crate::raw::write_raw;
+use crate::rights::FixRight;
 use crate::steps::Steps;
 use lx_fixrec::records;
 use lx_model::Spot;
@@ -158,4 +160,37 @@ pub fn fix_private<L: Ledger>(
     };
     site.fix_into(&mut buffer, steps);
     buffer
+}
+
+/// Spends a right: writes its page, a page of module `m` of a library, into the buffer, with its fixups at these bases. The
+/// count rises by the record sources of the page. It takes no memory, and time that grows with the page's records and with
+/// the modules that the bases are of.
+pub fn fix_page<L: Ledger>(
+    right: FixRight,
+    lib: &Library,
+    m: u32,
+    bases: &Bases,
+    mut buffer: Box<[u8; 4096]>,
+    steps: &mut Steps<L>,
+) -> FixedPage
+    requires module { m < length lib.now }
+    requires object { IsNumberOf right.page.object (length (module_of lib.now m).objects) }
+    requires page { right.page.page < pages_of (object_of (module_of lib.now m) right.page.object) }
+    ensures named { (result.serial ≡ right.serial) × (result.page ≡ right.page) }
+    ensures bytes { result.bytes ≡ fixed_page lib.now m bases.now right.page }
+    ensures steps { steps.new ≡ steps.old + length (sources_of (module_of lib.now m) right.page) }
+{
+    let (serial, page) = right.spend();
+    let site = Site {
+        lib,
+        module: m,
+        bases: BaseIndex::of(bases),
+        page,
+    };
+    site.fix_into(&mut buffer, steps);
+    FixedPage {
+        serial,
+        page,
+        bytes: buffer,
+    }
 }

@@ -4,10 +4,19 @@
 
 mod bases;
 mod field;
+mod fixable;
+mod fixed;
 mod fixing;
+mod laws;
+mod marks;
 mod putting;
 mod raw;
+mod rights;
 mod steps;
 
-pub use fixing::fix_private;
+pub use fixable::is_fixable;
+pub use fixed::FixedPage;
+pub use fixing::{fix_page, fix_private};
+pub use laws::fixable_pages_are_found;
+pub use rights::{FixRight, Rights};
 pub use steps::Steps;

@@ -1,0 +1,57 @@
+//! A page that was fixed.
+
+ghost use Rattle.std.specs.Prelude.{◌≡◌, box_value};
+
+use lx_types::PageId;
+use std::marker::Model;
+
+/// A page of a residence with its fixups. It cannot be let go: whoever has it publishes it, or takes its bytes.
+pub struct FixedPage {
+    pub(crate) serial: u64,
+    pub(crate) page: PageId,
+    pub(crate) bytes: Box<[u8; 4096]>,
+}
+
+impl Model for FixedPage {
+    ghost use Rattle.std.specs.Prelude.{box_value};
+    ghost use Rattle.page_fix.specs.Rights.{PageBytes};
+
+    ghost Value = { PageBytes };
+
+    ghost view = { λ f. record { serial = f.serial; page = f.page; bytes = box_value f.bytes } };
+}
+
+impl FixedPage {
+    /// The serial number of the residence.
+    pub fn serial(&self) -> u64
+        ensures { result ≡ self.now.serial }
+    {
+        self.serial
+    }
+
+    /// Which page it is.
+    pub fn page(&self) -> PageId
+        ensures { result ≡ self.now.page }
+    {
+        self.page
+    }
+
+    /// Its bytes.
+    pub fn bytes(&self) -> &[u8; 4096]
+        ensures { result.now ≡ self.now.bytes }
+    {
+        &self.bytes
+    }
+
+    /// The buffer with its bytes. It takes no memory.
+    pub fn into_bytes(self) -> Box<[u8; 4096]>
+        ensures { box_value result ≡ self.bytes }
+    {
+        let FixedPage {
+            serial: _,
+            page: _,
+            bytes,
+        } = self;
+        bytes
+    }
+}
