@@ -1,0 +1,6 @@
+use Rattle.std.proofs.Common.{◌∙◌, ap}
+use Rattle.page_frames.specs.Frames.{frame_bytes}
+use Rattle.page_frames.proofs.residence.Residence.wait.Goals as goal
+
+pub returns-in-Copied : goal.returns-in-Copied
+returns-in-Copied g c = c.in-Copied.ensures ∙ ap frame_bytes c.frame-frame.ensures

@@ -1,0 +1,114 @@
+//! One frame: a page that is published once, and copied by whoever maps it.
+
+ghost use Rattle.std.specs.Prelude.{◌≡◌, box_value};
+ghost use Rattle.lx_model.specs.ModuleBytes.{fixed_page};
+ghost use Rattle.page_frames.specs.Frames.{frame_bytes};
+ghost use Rattle.page_frames.specs.Looks.{HasLooked};
+
+use counted_slot::{Counted, FREE, Fits, MOST_READERS, ONE_READER, PRESENT, TAKEN};
+use lx_types::{Bases, PageId};
+use mod_graph::Library;
+use std::marker::Model;
+use std::snapshot::Snapshot;
+
+/// The bytes of a page that was published.
+#[derive(Drop)]
+struct Published {
+    bytes: Box<[u8; 4096]>,
+}
+
+/// The page that a frame is for: fixed when the frame is made, and never stored.
+#[derive(Drop)]
+struct FrameOf {
+    library: Snapshot<Library>,
+    module: u32,
+    bases: Snapshot<Bases>,
+    page: PageId,
+}
+
+impl Fits for Published {
+    type Tag = FrameOf;
+
+    ghost fits = { λ tag x. box_value x.bytes ≡ fixed_page tag.library.value tag.«module» tag.bases.value tag.page };
+}
+
+/// A frame. Contracts see the page that it is for, whether or not that was published.
+#[derive(Drop)]
+pub struct Frame {
+    slot: Counted<Option<Published>>,
+}
+
+impl Model for Frame {
+    ghost use Rattle.page_frames.specs.Frames.{FramePage};
+
+    ghost Value = { FramePage };
+
+    ghost view = { λ f. record { library = f.slot.library.value; «module» = f.slot.«module»; bases = f.slot.bases.value; page = f.slot.page } };
+}
+
+/// What a look at a frame found.
+#[derive(Clone, Copy)]
+pub enum Look {
+    /// The page is there, and was copied.
+    Copied,
+    /// The page was not published yet.
+    Absent,
+    /// Another thread came between: look again.
+    Disturbed,
+}
+
+impl Frame {
+    /// An empty frame for a page.
+    pub fn new(library: &Library, module: u32, bases: &Bases, page: PageId) -> Frame
+        ensures { result ≡ record { library = library.now; «module» = «module»; bases = bases.now; page = page } }
+    {
+        let of = FrameOf {
+            library: Snapshot::of(library),
+            module,
+            bases: Snapshot::of(bases),
+            page,
+        };
+        Frame {
+            slot: Counted::new(None, &of),
+        }
+    }
+
+    /// Puts the page's bytes into the frame, unless another thread did. It returns whatever others do, and takes no memory.
+    pub fn put(&self, bytes: Box<[u8; 4096]>)
+        requires { box_value bytes ≡ frame_bytes self.now }
+    {
+        let (found, claim) = self.slot.turn(FREE, TAKEN);
+        if found == FREE {
+            drop(claim.put(Some(Published { bytes }), PRESENT));
+        } else {
+            claim.done();
+        }
+    }
+
+    /// Copies the page, where it is there.
+    pub fn copy(&self, into: &mut [u8; 4096]) -> Look
+        ensures { HasLooked result (frame_bytes self.now) into.old into.new }
+    {
+        let word = self.slot.load();
+        if word % 4 != PRESENT {
+            return Look::Absent;
+        }
+        if word % (1 << 32) / ONE_READER >= MOST_READERS {
+            return Look::Disturbed;
+        }
+        let (found, claim) = self.slot.turn(word, word + ONE_READER);
+        if found != word {
+            claim.done();
+            return Look::Disturbed;
+        }
+        let look = match claim.get() {
+            Some(page) => {
+                *into = *page.bytes;
+                Look::Copied
+            }
+            None => Look::Absent,
+        };
+        claim.leave();
+        look
+    }
+}

@@ -1,0 +1,149 @@
+//! A residence: a stay of a module in memory, with a frame for each page that all processes share.
+
+ghost use Rattle.std.specs.Prelude.{◌≡◌, ◌<◌, true, IfOk, length};
+ghost use Rattle.std.specs.Arc.{arc_value};
+ghost use Rattle.lx_model.specs.Library.{module_of};
+ghost use Rattle.lx_model.specs.ModuleBytes.{fixed_page};
+ghost use Rattle.page_fix.specs.Fixable.{is_fixable};
+ghost use Rattle.page_frames.specs.Frames.{frame_rows};
+
+use crate::bell::Bell;
+use crate::frame::{Frame, Look};
+use crate::rows::{FrameRow, Stay, frame_at};
+use lx_types::{Bases, NoMemory, PageId};
+use mod_graph::Library;
+use page_fix::FixedPage;
+use std::alloc::Global;
+use std::marker::Model;
+use std::sync::{Arc, Wait};
+
+/// A stay of a module of a library in memory: its serial number, the bases of what the module reaches, and a frame for each
+/// page of its Code and Shared objects.
+#[derive(Drop)]
+pub struct Residence {
+    serial: u64,
+    module: u32,
+    bases: Bases,
+    library: Arc<Library>,
+    rows: Vec<FrameRow>,
+    bell: Bell,
+}
+
+impl Model for Residence {
+    ghost use Rattle.std.specs.Prelude.{◌≡◌, ◌<◌, length};
+    ghost use Rattle.std.specs.Arc.{arc_value};
+    ghost use Rattle.page_frames.specs.Frames.{frame_rows};
+    ghost use Rattle.page_frames.specs.Residences.{ResidenceFor};
+
+    ghost Value = { ResidenceFor };
+
+    ghost view = { λ r. record { library = arc_value r.library; serial = r.serial; «module» = r.«module»; bases = r.bases } };
+
+    ghost invariant = { λ r. (r.«module» < length (arc_value r.library)) × (r.rows.items ≡ frame_rows (arc_value r.library) r.«module» r.bases) };
+}
+
+impl Residence {
+    /// A residence of module `m` in which no page was published. Its memory is a frame of a few bytes for each page that all
+    /// processes share, and the pages that are published; it ends with the residence.
+    pub fn make(
+        alloc: Global,
+        serial: u64,
+        lib: Arc<Library>,
+        m: u32,
+        bases: Bases,
+    ) -> Result<Residence, NoMemory>
+        requires { m < length (arc_value lib) }
+        ensures { IfOk result (λ r. r ≡ record { library = arc_value lib; serial = serial; «module» = m; bases = bases }) }
+    {
+        let stay = Stay {
+            library: &lib,
+            module: m,
+            bases: &bases,
+        };
+        let rows = stay.rows(alloc)?;
+        Ok(Residence {
+            serial,
+            module: m,
+            bases,
+            library: lib,
+            rows,
+            bell: Bell::new(),
+        })
+    }
+
+    /// The serial number, from 1.
+    pub fn serial(&self) -> u64
+        ensures { result ≡ self.now.serial }
+    {
+        self.serial
+    }
+
+    /// The module's number in its library.
+    pub fn module(&self) -> u32
+        ensures number { result ≡ self.now.«module» }
+        ensures within { result < length self.now.library }
+    {
+        self.module
+    }
+
+    /// The library that the module is in.
+    pub fn library(&self) -> &Library
+        ensures { result.now ≡ self.now.library }
+    {
+        &self.library
+    }
+
+    /// The bases of the objects of each module that the module reaches.
+    pub fn bases(&self) -> &Bases
+        ensures { result.now ≡ self.now.bases }
+    {
+        &self.bases
+    }
+
+    // The frame of a page.
+    fn frame(&self, p: PageId) -> &Frame
+        requires { is_fixable (module_of self.now.library self.now.«module») p ≡ true }
+        ensures { result.now ≡ record { library = self.now.library; «module» = self.now.«module»; bases = self.now.bases; page = p } }
+    {
+        frame_at(self.rows.as_slice(), p)
+    }
+
+    /// Publishes a page that was fixed for this residence, once for all who wait for it or map it later. Nobody who holds
+    /// such a page waits or asks for memory here.
+    pub fn publish<R: Wait>(&self, rt: &R, p: PageId, page: FixedPage)
+        requires there { is_fixable (module_of self.now.library self.now.«module») p ≡ true }
+        requires own { (page.serial ≡ self.now.serial) × (page.page ≡ p) }
+        requires bytes { page.bytes ≡ fixed_page self.now.library self.now.«module» self.now.bases p }
+    {
+        let _ = rt;
+        self.frame(p).put(page.into_bytes());
+        self.bell.ring();
+    }
+
+    /// Copies a page into a buffer once it is published; until then the thread sleeps. It takes no memory.
+    pub fn wait<R: Wait>(&self, rt: &R, p: PageId, into: &mut [u8; 4096])
+        requires { is_fixable (module_of self.now.library self.now.«module») p ≡ true }
+        ensures { into.new ≡ fixed_page self.now.library self.now.«module» self.now.bases p }
+    {
+        let frame = self.frame(p);
+        for _ in rt.forever() {
+            let heard = self.bell.heard();
+            match frame.copy(into) {
+                Look::Copied => return,
+                Look::Absent => self.bell.sleep(rt, heard),
+                Look::Disturbed => {}
+            }
+        }
+        unreachable!()
+    }
+}
+
+fn may_be_shared<T: Send + Sync>() {}
+
+fn may_move<T: Send>() {}
+
+// Threads may share a residence, and hand on who holds it.
+fn crosses_threads() {
+    may_be_shared::<Residence>();
+    may_move::<Arc<Residence>>();
+}
