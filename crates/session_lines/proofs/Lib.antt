@@ -1,0 +1,8 @@
+pub mod Choices
+pub mod LineLaws
+pub mod WordLaws
+pub mod NumberLaws
+pub mod HexLaws
+pub mod DraftLaws
+pub mod ArgumentLaws
+pub mod ReadingLaws

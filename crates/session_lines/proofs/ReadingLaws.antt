@@ -1,0 +1,48 @@
+-- What a line says, by its words.
+use Rattle.std.proofs.Common.{◌≡◌, ℕ, true, false, List, [], ◌∷◌, length, get_or, Result, Err, refl, sym, ap, subst, ◌∙◌, arith, ◌<◌}
+use Rattle.std.specs.List.{list_all}
+use Rattle.lx_types.specs.declared.fail.Fail.{Fail}
+use Rattle.lx_types.specs.declared.fail.Fail.TheVariants.{Said, NoMemory}
+use Rattle.lx_types.specs.Answers.{Answers}
+use Rattle.session_model.specs.declared.sessions.SessionKind.{SessionKind}
+use Rattle.session_model.specs.declared.sessions.SessionKind.TheVariants as kinds
+use Rattle.session_model.specs.Lines.{is_allowed, words_in}
+use Rattle.session_model.specs.Statements.{Reading, nothing, wrong, word_count, by_count, is_comment, of_words, reading_of}
+use Rattle.session_lines.specs.declared.said.Said as said
+use Rattle.session_lines.specs.Told.{Says}
+use Rattle.session_lines.proofs.Choices.{if_first, if_second, not_equal, not-false, not-true}
+
+pub says-along : (r s : Reading) (result : Result said.Said (Fail SessionKind)) → r ≡ s → Says s result → Says r result
+says-along r s result same h = subst (λ r. Says r result) (sym same) h
+
+pub reading-bytes : (line : List ℕ) → false ≡ list_all (λ b. is_allowed b) line → reading_of line ≡ wrong kinds.Byte
+unfolding reading_of
+reading-bytes line h = if_first _ _ _ (not-false (list_all is_allowed line) (sym h))
+
+pub reading-words : (line : List ℕ) (ws : List (List ℕ)) → true ≡ list_all (λ b. is_allowed b) line → words_in line ≡ ws → reading_of line ≡ of_words ws
+unfolding reading_of
+reading-words line ws h is = if_second _ _ _ (not-true (list_all is_allowed line) (sym h)) ∙ ap of_words is
+
+comment-is : (w : List ℕ) → 0 < length w → get_or w 0 0 ≡ 0x23 → is_comment w ≡ true
+comment-is [] some h = absurd (omega arith)
+comment-is (b ∷ w) some h = rw h refl
+
+comment-not : (w : List ℕ) → 0 < length w → (get_or w 0 0 ≡ 0x23 → ⊥) → is_comment w ≡ false
+comment-not [] some h = absurd (omega arith)
+comment-not (b ∷ w) some h = not_equal b 0x23 h
+
+-- a line that a comment begins
+pub reading-comment : (line w : List ℕ) (ws : List (List ℕ)) → true ≡ list_all (λ b. is_allowed b) line → words_in line ≡ w ∷ ws
+    → 0 < length w → get_or w 0 0 ≡ 0x23 → reading_of line ≡ nothing
+reading-comment line w ws allowed is some h = reading-words line (w ∷ ws) allowed is ∙ if_first _ _ _ (comment-is w some h)
+
+-- another line
+pub reading-counted : (line w : List ℕ) (ws : List (List ℕ)) → true ≡ list_all (λ b. is_allowed b) line → words_in line ≡ w ∷ ws
+    → 0 < length w → (get_or w 0 0 ≡ 0x23 → ⊥) → reading_of line ≡ by_count (word_count w) (w ∷ ws)
+reading-counted line w ws allowed is some h = reading-words line (w ∷ ws) allowed is ∙ if_second _ _ _ (comment-not w some h)
+
+-- what is wrong is told of another reading that is the same
+pub err-along : {A B : Type 0} (fail : Fail SessionKind) (P : A → Type 0) (Q : B → Type 0) (r s : Reading) → r ≡ s
+    → Answers (Err fail) P (λ kind. s ≡ wrong kind) → Answers (Err fail) Q (λ kind. r ≡ wrong kind)
+err-along (Said kind) P Q r s same h = same ∙ h
+err-along NoMemory P Q r s same h = tt

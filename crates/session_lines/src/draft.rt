@@ -1,0 +1,147 @@
+//! A session while it is read.
+
+ghost use Rattle.std.specs.Prelude.{◌≡◌, ◌++◌, IfOk};
+ghost use Rattle.session_model.specs.Statements.{gives, fails, process, command};
+ghost use Rattle.session_model.specs.Sessions.{rises};
+ghost use Rattle.session_lines.specs.Told.{told};
+ghost use Rattle.session_lines.specs.Drafts.{nothing_said, open_with, session_in, Takes};
+
+use crate::numbers::MOST_PROCESSES;
+use crate::said::Said;
+use load_model::Command;
+use lx_types::{Fail, NoMemory, Seq};
+use session_model::{Commands, FailingLine, ModLine, Script, Session, SessionKind};
+use std::alloc::Global;
+
+/// The most commands of a script.
+const MOST_COMMANDS: usize = 1024;
+
+/// What the statements so far say. The last script is open: `pid` is its number, and `commands` are those
+/// that it has.
+#[derive(Drop)]
+pub(crate) struct Draft {
+    pub modules: Seq<ModLine>,
+    pub failing: Seq<FailingLine>,
+    pub scripts: Seq<Script>,
+    pub pid: Option<u32>,
+    pub commands: Commands,
+}
+
+// The scripts, the open one last.
+fn closed(
+    scripts: Seq<Script>,
+    pid: Option<u32>,
+    commands: Commands,
+) -> Result<Seq<Script>, NoMemory>
+    ensures { IfOk result (λ all. all ≡ scripts ++ open_with pid commands) }
+{
+    let mut scripts = scripts;
+    if let Some(pid) = pid {
+        scripts.push(Script { pid, commands })?;
+    }
+    Ok(scripts)
+}
+
+// Whether the number is that of a process, and above the last one.
+fn rises(last: Option<u32>, pid: u32) -> bool
+    ensures { result ≡ rises last pid }
+{
+    let above = match last {
+        Some(last) => last < pid,
+        None => 1 <= pid,
+    };
+    above && pid <= MOST_PROCESSES
+}
+
+impl Draft {
+    /// What no statement says.
+    pub fn new(alloc: Global) -> Draft
+        ensures { result ≡ nothing_said }
+    {
+        Draft {
+            modules: Seq::new(alloc),
+            failing: Seq::new(alloc),
+            scripts: Seq::new(alloc),
+            pid: None,
+            commands: Seq::new(alloc),
+        }
+    }
+
+    // Modules come before all scripts.
+    fn with_module(self, line: ModLine) -> Result<Draft, Fail<SessionKind>>
+        ensures { Takes self (gives line) result }
+    {
+        let mut draft = self;
+        if draft.pid.is_some() {
+            return Err(Fail::Said(SessionKind::Order));
+        }
+        draft.modules.push(line)?;
+        Ok(draft)
+    }
+
+    // So does what fails.
+    fn with_failing(self, line: FailingLine) -> Result<Draft, Fail<SessionKind>>
+        ensures { Takes self (fails line) result }
+    {
+        let mut draft = self;
+        if draft.pid.is_some() {
+            return Err(Fail::Said(SessionKind::Order));
+        }
+        draft.failing.push(line)?;
+        Ok(draft)
+    }
+
+    // The open script is closed, and the next one is open.
+    fn with_process(self, alloc: Global, pid: u32) -> Result<Draft, Fail<SessionKind>>
+        ensures { Takes self (process pid) result }
+    {
+        if !rises(self.pid, pid) {
+            return Err(Fail::Said(SessionKind::Order));
+        }
+        Ok(Draft {
+            modules: self.modules,
+            failing: self.failing,
+            scripts: closed(self.scripts, self.pid, self.commands)?,
+            pid: Some(pid),
+            commands: Seq::new(alloc),
+        })
+    }
+
+    // A command belongs to the open script, which may be full.
+    fn with_command(self, asked: Command) -> Result<Draft, Fail<SessionKind>>
+        ensures { Takes self (command asked) result }
+    {
+        let mut draft = self;
+        if draft.pid.is_none() {
+            return Err(Fail::Said(SessionKind::Order));
+        }
+        if draft.commands.as_slice().len() >= MOST_COMMANDS {
+            return Err(Fail::Said(SessionKind::TooMany));
+        }
+        draft.commands.push(asked)?;
+        Ok(draft)
+    }
+
+    /// The draft with a statement more.
+    pub fn with(self, alloc: Global, said: Said) -> Result<Draft, Fail<SessionKind>>
+        ensures { Takes self (told said) result }
+    {
+        match said {
+            Said::Module(line) => self.with_module(line),
+            Said::Failing(line) => self.with_failing(line),
+            Said::Process(pid) => self.with_process(alloc, pid),
+            Said::Command(command) => self.with_command(command),
+        }
+    }
+
+    /// The session that the statements say.
+    pub fn session(self) -> Result<Session, NoMemory>
+        ensures { IfOk result (λ session. session ≡ session_in self) }
+    {
+        Ok(Session {
+            modules: self.modules,
+            failing: self.failing,
+            scripts: closed(self.scripts, self.pid, self.commands)?,
+        })
+    }
+}
