@@ -1,0 +1,7 @@
+use Rattle.std.proofs.Common.{◌≡◌, ◌≤◌, length, take}
+use Rattle.std.specs.Prelude.{filter}
+use Rattle.session_model.specs.Merging.{is_fault}
+use Rattle.session_text.proofs.printing.fault_count.Given as goal
+
+abbrev pub invariant-loop-entry : goal.invariant-loop-entry
+invariant-loop-entry l = (l.count ≡ length (filter (λ x. is_fault x.deed) (take l.entry-index l.history))) × (l.count ≤ l.entry-index)

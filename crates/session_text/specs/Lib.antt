@@ -1,0 +1,5 @@
+pub mod Spaced
+pub mod Words
+pub mod Deeds
+pub mod Sessions
+pub mod Writable

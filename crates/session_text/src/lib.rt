@@ -1,0 +1,15 @@
+//! The text of a session, and the transcript of its run.
+#![tactic(auto)]
+
+mod commands;
+mod entries;
+mod laws;
+mod lines;
+mod printing;
+mod sessions;
+mod words;
+
+pub use laws::{sessions_are_writable, written_is_read};
+pub use printing::{Text, print};
+pub use session_lines::read_session;
+pub use sessions::write_session;

@@ -1,0 +1,95 @@
+//! The transcript of a run.
+
+ghost use Rattle.std.specs.Prelude.{◌≡◌, ◌++◌, length, filter, OnOk, IfOk};
+ghost use Rattle.std.specs.List.{flat_map, enumerate_from};
+ghost use Rattle.session_model.specs.Merging.{is_fault, numbers_of};
+ghost use Rattle.session_model.specs.Text.{line_of};
+ghost use Rattle.session_model.specs.Transcript.{entry_text, summary_words, Transcript};
+
+use crate::entries::push_entry;
+use crate::lines::push_scripts;
+use crate::words::{Word, push_line};
+use load_model::{Deed, Entry};
+use lx_types::{NoMemory, Seq};
+use mod_graph::Library;
+use session_model::ScriptLines;
+use std::alloc::{AllocError, Global};
+
+/// A text, as its bytes.
+pub type Text = Seq<u8>;
+
+fn push_entries(
+    out: &mut Vec<u8>,
+    lib: &Library,
+    history: &[Entry],
+    steady: &[ScriptLines],
+) -> Result<(), AllocError>
+    ensures { OnOk result (out.new.items
+        ≡ out.old.items ++ flat_map (entry_text lib.now (numbers_of steady.now)) (enumerate_from 1 history.now)) }
+{
+    let mut number = 0u64;
+    for entry in history {
+        number += 1;
+        push_entry(out, lib, steady, number, entry)?;
+    }
+    Ok(())
+}
+
+fn is_fault(deed: &Deed) -> bool
+    ensures { result ≡ is_fault deed.now }
+{
+    matches!(deed, Deed::Fault { .. })
+}
+
+// How many entries are faults.
+fn fault_count(history: &[Entry]) -> usize
+    ensures { result ≡ length (filter (λ x. is_fault x.deed) history.now) }
+{
+    let mut count = 0;
+    for entry in history {
+        if is_fault(&entry.deed) {
+            count += 1;
+        }
+    }
+    count
+}
+
+fn push_summary(
+    out: &mut Vec<u8>,
+    history: &[Entry],
+    steady: &[ScriptLines],
+) -> Result<(), AllocError>
+    ensures { OnOk result (out.new.items ≡ out.old.items ++ line_of (summary_words history.now steady.now)) }
+{
+    let faults = Word::Number(fault_count(history) as u64);
+    push_line(
+        out,
+        &[
+            Word::Text(b"summary"),
+            Word::Text(b"processes"),
+            Word::Number(steady.len() as u64),
+            Word::Text(b"entries"),
+            Word::Number(history.len() as u64),
+            Word::Text(b"faults"),
+            faults,
+        ],
+    )
+}
+
+/// The transcript of a history and of the steady lines of its processes, in time linear in the text. Modules are
+/// those of `lib`, and process `k` of the history is that of the `k`-th script.
+pub fn print(
+    alloc: Global,
+    lib: &Library,
+    history: &[Entry],
+    steady: &[ScriptLines],
+) -> Result<Text, NoMemory>
+    ensures { IfOk result (λ text. text ≡ Transcript lib.now history.now steady.now) }
+{
+    let mut out = Vec::new(alloc);
+    push_line(&mut out, &[Word::Text(b"history")])?;
+    push_entries(&mut out, lib, history, steady)?;
+    push_scripts(&mut out, steady)?;
+    push_summary(&mut out, history, steady)?;
+    Ok(Seq::from_vec(out))
+}
