@@ -1,0 +1,2 @@
+pub mod Doublewords
+pub mod Searching

@@ -1,0 +1,8 @@
+//! Resources of a module: data that a program asks for by a type and an identifier ("LX - Linear eXecutable Module
+//! Format", "Resource Table").
+#![tactic(auto)]
+
+mod finding;
+mod numbers;
+
+pub use finding::find;
