@@ -1,0 +1,287 @@
+-- Residences that begin with a start or a load.
+use Rattle.std.proofs.Common.{◌≡◌, ◌∷◌, ◌++◌, [], ℕ, suc, ◌+◌, ◌<◌, ◌==◌, ◌&&◌, ◌||◌, Bool, true, false, not, List, length, map, filter, find, cond, get_or, Option, Some, None, option_map, is_some, is_none, Result, Ok, Err, refl, sym, ◌∙◌, ap, subst, arith}
+use Rattle.std.specs.Prelude.{All}
+use Rattle.std.specs.List.{AllByRecursion, list_any}
+use Rattle.std.specs.Arc.{arc_value}
+use Rattle.std.proofs.lemmas.Bool.{eq-eqb, eqb-true}
+use Rattle.std.proofs.lemmas.List.Folds.{list_any_at}
+use Rattle.lx_model.specs.Library.{module_of}
+use Rattle.lx_types.specs.declared.object.PageId.{PageId}
+use Rattle.lx_types.specs.declared.bases.Bases.{Bases}
+use Rattle.lx_types.specs.declared.bases.ModBases.{ModBases}
+use Rattle.lx_model.specs.Reach.{Order}
+use Rattle.page_fix.specs.Rights.{PageRights}
+use Rattle.page_fix.specs.Fixable.{fixable_pages}
+use Rattle.page_frames.specs.Residences.{ResidenceFor}
+use Rattle.base_pick.specs.declared.occupied.AddressRange.{AddressRange}
+use Rattle.base_pick.specs.declared.picking.ArenaFull.{ArenaFull}
+use Rattle.load_model.specs.declared.deeds.How.{How}
+use Rattle.load_model.specs.declared.deeds.Call.{Call}
+use Rattle.load_model.specs.declared.deeds.Fresh.{Fresh}
+use Rattle.load_model.specs.declared.deeds.Deed.TheVariants as deeds
+use Rattle.load_model.specs.declared.deeds.Entry.{Entry}
+use Rattle.load_model.specs.Modules.{Library, fixed_bytes, bases_for, order_of}
+use Rattle.load_model.specs.State.{Residence, Eager, with_process, pids, is_among, residence_of, serial_of, bases_of}
+use Rattle.load_model.specs.Entering.{NoRoom, with_fresh, placed_from, placing, ranges_of, resident_ranges, joined, newcomers, residence_from, with_fresh_residences, after_entering}
+use Rattle.load_model.specs.Initialising.{enter_deed}
+use Rattle.load_model.specs.Memory.{bases_seen}
+use Rattle.load_model.specs.Asks.{enter, after_deed}
+use Rattle.load_model.specs.Histories.{after_entry, has_fault}
+use Rattle.load_model.specs.Alike.{BasesSeenStay}
+use Rattle.load_model.specs.Rows.{Row}
+use Rattle.load_model.proofs.Among.{some_find, any_append, among_filter}
+use Rattle.load_model.proofs.GivenSerials.{faults_are_given}
+use Rattle.mod_refs.specs.AllRows.{AreRows}
+use Rattle.mod_refs.specs.Changes.{with_entered}
+use Rattle.stay_table.specs.Standing.{residences, is_of_module}
+use Rattle.load_core.specs.Ledger.{Ledger, state_of, IsLegal, MayAsk, with_entry}
+use Rattle.load_core.specs.Kept.{Keeps, IsCurrent, IsCurrentStay, rights_left, shared_as}
+use Rattle.load_core.specs.Told.{residence_shown}
+use Rattle.load_core.specs.Enters.{IsBegun, HaveBegun, shared_of, bases_with}
+use Rattle.load_core.specs.declared.beside.Beside.{Beside}
+use Rattle.load_core.proofs.Arriving.{entry_with, enters_follow, placed_modules}
+use Rattle.load_core.proofs.Current.{Stands, all_more, all_joined, faults_same}
+use Rattle.load_core.proofs.Standing.{found_so}
+use Rattle.load_core.proofs.Keeping.{FollowsIn, NoFaults, after, all_standing, all_current, keeps_more}
+
+-- ---- what is found
+
+pub find_left : {X : Type 0} (f : X → Bool) (xs ys : List X) (x : X) → find f xs ≡ Some x → find f (xs ++ ys) ≡ Some x
+find_left f [] ys x is = cc
+find_left f (y ∷ xs) ys x is = step (f y) is (find_left f xs ys x)
+  where
+    step : (b : Bool) → cond b (Some y) (find f xs) ≡ Some x → (find f xs ≡ Some x → find f (xs ++ ys) ≡ Some x) → cond b (Some y) (find f (xs ++ ys)) ≡ Some x
+    step true is later = is
+    step false is later = later is
+
+pub find_right : {X : Type 0} (f : X → Bool) (xs ys : List X) → find f xs ≡ None → find f (xs ++ ys) ≡ find f ys
+find_right f [] ys is = refl
+find_right f (y ∷ xs) ys is = step (f y) is (find_right f xs ys)
+  where
+    step : (b : Bool) → cond b (Some y) (find f xs) ≡ None → (find f xs ≡ None → find f (xs ++ ys) ≡ find f ys) → cond b (Some y) (find f (xs ++ ys)) ≡ find f ys
+    step true is later = cc
+    step false is later = later is
+
+-- ---- residences that begin
+
+begun_residences : (b : Ledger) (all fs : List Fresh) (ss : List (Residence × Beside)) → HaveBegun b all fs ss → residences ss ≡ map residence_from fs
+begun_residences b all [] [] begun = refl
+begun_residences b all [] (s ∷ ss) begun = absurd begun
+begun_residences b all (f ∷ fs) [] begun = absurd begun
+begun_residences b all (f ∷ fs) (s ∷ ss) begun = ap (λ r. r ∷ residences ss) begun.0.residence ∙ ap (λ rs. residence_from f ∷ rs) (begun_residences b all fs ss begun.1)
+
+-- they take numbers above those that were given
+placed_above : (lib : Library) (ms : List ℕ) (serials : ℕ) (occupied : List AddressRange) (fresh : List Fresh) → placed_from lib serials occupied ms ≡ Ok fresh → AllByRecursion (λ (f : Fresh). serials < f.serial) fresh
+unfolding placed_from
+placed_above lib [] serials occupied fresh is = (let same : [] ≡ fresh = cc in subst (AllByRecursion (λ (f : Fresh). serials < f.serial)) same tt)
+placed_above lib (m ∷ ms) serials occupied fresh is = step (bases_for lib occupied m) is (λ bases xs e. placed_above lib ms (suc serials) (occupied ++ ranges_of lib m bases) xs e)
+  where
+    inner : (bases : List ℕ) (r : Result (List Fresh) NoRoom) → with_fresh (record { serial = suc serials; «module» = m; bases = bases }) r ≡ Ok fresh →
+        ((xs : List Fresh) → r ≡ Ok xs → AllByRecursion (λ (f : Fresh). suc serials < f.serial) xs) → AllByRecursion (λ (f : Fresh). serials < f.serial) fresh
+    inner bases (Err x) is each = cc
+    inner bases (Ok xs) is each =
+        let same : record { serial = suc serials; «module» = m; bases = bases } ∷ xs ≡ fresh = cc in
+        let first : serials < suc serials = omega arith in
+        subst (AllByRecursion (λ (f : Fresh). serials < f.serial)) same
+        (first, all_more (λ (f : Fresh). suc serials < f.serial) (λ (f : Fresh). serials < f.serial) (λ f h. let more : suc serials < f.serial = h in omega (arith, more)) xs (each xs refl))
+
+    step : (r : Result (List ℕ) ArenaFull) →
+        elim r as (λ _. Result (List Fresh) NoRoom) [
+          | Err x ↦ Err (record { of = m; object = x })
+          | Ok bases ↦ with_fresh (record { serial = suc serials; «module» = m; bases = bases }) (placed_from lib (suc serials) (occupied ++ ranges_of lib m bases) ms)
+        ] ≡ Ok fresh →
+        ((bases : List ℕ) (xs : List Fresh) → placed_from lib (suc serials) (occupied ++ ranges_of lib m bases) ms ≡ Ok xs → AllByRecursion (λ (f : Fresh). suc serials < f.serial) xs) →
+        AllByRecursion (λ (f : Fresh). serials < f.serial) fresh
+    step (Err x) is each = cc
+    step (Ok bases) is each = inner bases (placed_from lib (suc serials) (occupied ++ ranges_of lib m bases) ms) is (each bases)
+
+placing_above : (lib : Library) (e : Eager) (pid m : ℕ) (fresh : List Fresh) → placing lib e pid m ≡ Ok fresh → AllByRecursion (λ (f : Fresh). e.serials < f.serial) fresh
+unfolding placing
+placing_above lib e pid m fresh is = placed_above lib (newcomers lib e pid m) e.serials (resident_ranges lib e) fresh is
+
+-- ---- behind the entry
+
+abbrev pub entered_entry : ℕ → How → ℕ → List Fresh → List Call → Entry
+entered_entry pid how m fresh calls = entry_with pid (deeds.Enter how m fresh calls)
+
+after_enter : (b : Ledger) (pid : ℕ) (how : How) (m : ℕ) (fresh : List Fresh) (calls : List Call) → after_entry b.library (state_of b) (entered_entry pid how m fresh calls) ≡ after_entering b.library (state_of b) pid how m fresh
+unfolding after_deed
+after_enter b pid how m fresh calls = refl
+
+entering_residences : (lib : Library) (e : Eager) (pid : ℕ) (how : How) (m : ℕ) (fresh : List Fresh) → (after_entering lib e pid how m fresh).residences ≡ e.residences ++ map residence_from fresh
+unfolding after_entering with_process
+entering_residences lib e pid how m fresh = refl
+
+entering_serials : (lib : Library) (e : Eager) (pid : ℕ) (how : How) (m : ℕ) (fresh : List Fresh) → (after_entering lib e pid how m fresh).serials ≡ e.serials + length fresh
+unfolding after_entering with_process
+entering_serials lib e pid how m fresh = refl
+
+entering_bases : (lib : Library) (e : Eager) (pid : ℕ) (how : How) (m : ℕ) (fresh : List Fresh) (k : ℕ) → bases_seen lib (after_entering lib e pid how m fresh) k ≡ bases_seen lib (with_fresh_residences e fresh) k
+unfolding after_entering with_process bases_seen residence_of
+entering_bases lib e pid how m fresh k = refl
+
+entering_rows : (lib : Library) (e : Eager) (pid : ℕ) (how : How) (m : ℕ) (fresh : List Fresh) (rows : List Row) → AreRows lib (with_entered lib e pid how m) rows → AreRows lib (after_entering lib e pid how m fresh) rows
+unfolding after_entering with_process
+entering_rows lib e pid how m fresh rows are = record { each = are.each }
+
+no_enter_fault : (pid : ℕ) (how : How) (m : ℕ) (fresh : List Fresh) (calls : List Call) → NoFaults (entered_entry pid how m fresh calls)
+no_enter_fault pid how m fresh calls s p = refl
+
+all_pass : (ps : List PageId) (f : PageId → Bool) → ((p : PageId) → f p ≡ true) → filter f ps ≡ ps
+all_pass [] f each = refl
+all_pass (p ∷ ps) f each = ap (λ c. cond c (p ∷ filter f ps) (filter f ps)) (each p) ∙ ap (λ qs. p ∷ qs) (all_pass ps f each)
+
+-- a page of a residence that begins had no fault
+new_rights : (b : Ledger) (x : Entry) (f : Fresh) → IsLegal b → NoFaults x → (state_of b).serials < f.serial →
+    rights_left (with_entry b x) (residence_from f) ≡ record { serial = f.serial; left = fixable_pages (module_of b.library f.«module») }
+new_rights b x f legal none above =
+    let R : List PageId → PageRights = λ left. record { serial = f.serial; left = left } in
+    ap R (all_pass (fixable_pages (module_of b.library f.«module»)) (λ p. not (has_fault (b.history ++ x ∷ []) f.serial p)) (λ p. ap not (faults_same b.history x f.serial (none f.serial) p ∙ fresh_none p (has_fault b.history f.serial p) refl)))
+  where
+    fresh_none : (p : PageId) (c : Bool) → has_fault b.history f.serial p ≡ c → c ≡ false
+    fresh_none p false is = refl
+    fresh_none p true is =
+        let below = faults_are_given b.library b.failing (fixed_bytes b.library) b.history f.serial p legal is in
+        absurd (omega (arith, above, below))
+
+new_current : (b : Ledger) (pid : ℕ) (how : How) (m : ℕ) (fresh : List Fresh) (calls : List Call) → IsLegal b → (fs : List Fresh) (ss : List (Residence × Beside)) → HaveBegun b fresh fs ss →
+    AllByRecursion (λ (f : Fresh). (state_of b).serials < f.serial) fs → AllByRecursion (IsCurrentStay (with_entry b (entered_entry pid how m fresh calls))) ss
+new_current b pid how m fresh calls legal [] [] begun above = tt
+new_current b pid how m fresh calls legal [] (s ∷ ss) begun above = absurd begun
+new_current b pid how m fresh calls legal (f ∷ fs) [] begun above = absurd begun
+new_current b pid how m fresh calls legal (f ∷ fs) (s ∷ ss) begun above =
+    let x : Entry = entered_entry pid how m fresh calls in
+    let c : Ledger = with_entry b x in
+    let C : Residence → Type 0 = λ r. IsCurrent c r s.1.rights (arc_value s.1.shared) in
+    let B : ℕ → ResidenceFor = λ k. shared_as c (residence_from f) in
+    let bases : bases_seen b.library (state_of c) f.«module» ≡ bases_seen b.library (with_fresh_residences (state_of b) fresh) f.«module» =
+    ap (λ e. bases_seen b.library e f.«module») (after b x ∙ after_enter b pid how m fresh calls) ∙ entering_bases b.library (state_of b) pid how m fresh f.«module»
+    in
+    let now : C (residence_from f) = record {
+      left = begun.0.rights ∙ sym (new_rights b x f legal (no_enter_fault pid how m fresh calls) above.0);
+      shared = begun.0.shared ∙ ap (λ bs. record { library = b.library; serial = f.serial; «module» = f.«module»; bases = bs }) (sym bases);
+    }
+    in
+    (subst C (sym begun.0.residence) now, new_current b pid how m fresh calls legal fs ss begun.1 above.1)
+
+front_all : {X : Type 0} (P : X → Type 0) (xs ys : List X) → AllByRecursion P (xs ++ ys) → AllByRecursion P xs
+front_all P [] ys all = tt
+front_all P (x ∷ xs) ys all = (all.0, front_all P xs ys all.1)
+
+residences_joined : (xs ys : List (Residence × Beside)) → residences (xs ++ ys) ≡ residences xs ++ residences ys
+residences_joined [] ys = refl
+residences_joined (x ∷ xs) ys = ap (λ rs. x.0 ∷ rs) (residences_joined xs ys)
+
+pub keeps_entered : BasesSeenStay → (b : Ledger) (rows rows' : List Row) (stays new : List (Residence × Beside)) (serials serials' pid : ℕ) (how : How) (m : ℕ) (fresh : List Fresh) (calls : List Call) →
+    Keeps b rows stays serials → is_among pids pid ≡ true → MayAsk b pid (enter how m) → enter_deed b.library (state_of b) pid how m ≡ deeds.Enter how m fresh calls →
+    placing b.library (state_of b) pid m ≡ Ok fresh → HaveBegun b fresh fresh new → AreRows b.library (with_entered b.library (state_of b) pid how m) rows' →
+    serials' ≡ (state_of b).serials + length fresh → Keeps (with_entry b (entered_entry pid how m fresh calls)) rows' (stays ++ new) serials'
+keeps_entered stay b rows rows' stays new serials serials' pid how m fresh calls kept there may is placed begun are given =
+    let x : Entry = entered_entry pid how m fresh calls in
+    let e : Eager = state_of b in
+    let follows : FollowsIn b x = enters_follow b pid how m (deeds.Enter how m fresh calls) there may is in
+    let step = after_enter b pid how m fresh calls in
+    let still : residences (stays ++ new) ≡ (after_entry b.library e x).residences =
+    residences_joined stays new ∙ ap (λ rs. rs ++ residences new) kept.standing ∙ ap (λ rs. e.residences ++ rs) (begun_residences b fresh fresh new begun)
+    ∙ sym (entering_residences b.library e pid how m fresh) ∙ ap (λ (a : Eager). a.residences) (sym step)
+    in
+    let behind = front_all (λ s. Stands (state_of (with_entry b x)) s.0) stays new (all_standing (state_of (with_entry b x)) (stays ++ new) (still ∙ ap (λ (a : Eager). a.residences) (sym (after b x)))) in
+    keeps_more b x rows' (stays ++ new) serials' kept.legal follows (subst (λ a. AreRows b.library a rows') (sym step) (entering_rows b.library e pid how m fresh rows' are)) still
+    (given ∙ sym (entering_serials b.library e pid how m fresh) ∙ ap (λ (a : Eager). a.serials) (sym step))
+    (all_joined (IsCurrentStay (with_entry b x)) stays new
+    (all_current stay b x stays kept.legal follows (no_enter_fault pid how m fresh calls) (all_standing e stays kept.standing) behind kept.current)
+    (new_current b pid how m fresh calls kept.legal fresh new begun (placing_above b.library e pid m fresh placed)))
+
+-- ---- what is attached
+
+found_own : (k : ℕ) (stays : List (Residence × Beside)) (s : Residence × Beside) → find (is_of_module k) stays ≡ Some s → (find (λ r. r.«module» == k) (residences stays) ≡ Some s.0) × (s.0.«module» ≡ k)
+found_own k [] s is = cc
+found_own k (t ∷ stays) s is = step (t.0.«module» == k) refl is (found_own k stays s)
+  where
+    step : (c : Bool) → (t.0.«module» == k) ≡ c → cond c (Some t) (find (is_of_module k) stays) ≡ Some s →
+        (find (is_of_module k) stays ≡ Some s → (find (λ r. r.«module» == k) (residences stays) ≡ Some s.0) × (s.0.«module» ≡ k)) →
+        (cond c (Some t.0) (find (λ r. r.«module» == k) (residences stays)) ≡ Some s.0) × (s.0.«module» ≡ k)
+    step true at is later =
+        let same : t ≡ s = cc in
+        (ap (λ (y : Residence × Beside). Some y.0) same, ap (λ (y : Residence × Beside). y.0.«module») (sym same) ∙ eqb-true t.0.«module» k at)
+    step false at is later = later is
+
+-- what is shown of the module of a residence that is kept
+pub shown_of : (c : Ledger) (rows : List Row) (stays : List (Residence × Beside)) (serials k : ℕ) → Keeps c rows stays serials → is_some (find (is_of_module k) stays) ≡ true →
+    shared_of stays k ≡ Some (residence_shown c.library (state_of c) k)
+unfolding residence_of
+shown_of c rows stays serials k kept some = step (find (is_of_module k) stays) refl some
+  where
+    step : (o : Option (Residence × Beside)) → find (is_of_module k) stays ≡ o → is_some o ≡ true → option_map (λ s. arc_value s.1.shared) o ≡ Some (residence_shown c.library (state_of c) k)
+    step None is some = cc
+    step (Some s) is some =
+        let own = found_own k stays s is in
+        let current : IsCurrentStay c s = found_so (IsCurrentStay c) (is_of_module k) stays s kept.current is in
+        let R : ℕ → ℕ → ResidenceFor = λ n m. record { library = c.library; serial = n; «module» = m; bases = bases_seen c.library (state_of c) m } in
+        let found : residence_of (state_of c) k ≡ Some s.0 = ap (find (λ r. r.«module» == k)) (sym kept.standing) ∙ own.0 in
+        ap Some (current.shared ∙ ap (R s.0.serial) own.1 ∙ ap (λ o. R (serial_of o) k) (sym found))
+
+-- ---- what is attached is found
+
+fresh_among : (k : ℕ) (fresh : List Fresh) → list_any (λ r. r.«module» == k) (map residence_from fresh) ≡ is_among (map (λ f. f.«module») fresh) k
+fresh_among k [] = refl
+fresh_among k (f ∷ fs) = ap (λ c. (f.«module» == k) || c) (fresh_among k fs)
+
+stays_any : (k : ℕ) (stays : List (Residence × Beside)) → list_any (is_of_module k) stays ≡ list_any (λ r. r.«module» == k) (residences stays)
+stays_any k [] = refl
+stays_any k (s ∷ stays) = ap (λ c. (s.0.«module» == k) || c) (stays_any k stays)
+
+-- a member of what is attached is resident or new
+attached_found : (lib : Library) (e : Eager) (pid m : ℕ) (fresh : List Fresh) (k : ℕ) → map (λ f. f.«module») fresh ≡ newcomers lib e pid m → is_among (joined lib e pid m) k ≡ true →
+    list_any (λ r. r.«module» == k) (e.residences ++ map residence_from fresh) ≡ true
+unfolding newcomers residence_of
+attached_found lib e pid m fresh k new member =
+    any_append (λ r. r.«module» == k) e.residences (map residence_from fresh)
+    ∙ ap (λ c. list_any (λ r. r.«module» == k) e.residences || c)
+    (fresh_among k fresh ∙ ap (λ ms. is_among ms k) new ∙ among_filter (λ x. is_none (residence_of e x)) (joined lib e pid m) k ∙ ap (λ c. c && is_none (residence_of e k)) member)
+    ∙ either (residence_of e k) (list_any (λ r. r.«module» == k) e.residences) (some_find (λ r. r.«module» == k) e.residences)
+  where
+    either : (o : Option Residence) (c : Bool) → is_some o ≡ c → c || (true && is_none o) ≡ true
+    either None c is = (let none : c ≡ false = sym is in ap (λ d. d || true) none)
+    either (Some r) c is = (let some : c ≡ true = sym is in ap (λ d. d || false) some)
+
+all_members : (xs : List ℕ) (P : ℕ → Type 0) → ((k : ℕ) → is_among xs k ≡ true → P k) → All P xs
+all_members xs P each k d inside = each (get_or xs k d) (list_any_at (λ other. other == get_or xs k d) xs k d inside (eq-eqb (get_or xs k d) (get_or xs k d) refl))
+
+pub all_found : (b : Ledger) (rows : List Row) (stays new : List (Residence × Beside)) (serials pid m : ℕ) (fresh : List Fresh) → Keeps b rows stays serials → placing b.library (state_of b) pid m ≡ Ok fresh →
+    HaveBegun b fresh fresh new → All (λ k. is_some (find (is_of_module k) (stays ++ new)) ≡ true) (joined b.library (state_of b) pid m)
+all_found b rows stays new serials pid m fresh kept placed begun =
+    all_members (joined b.library (state_of b) pid m) (λ k. is_some (find (is_of_module k) (stays ++ new)) ≡ true)
+    (λ k member.
+    some_find (is_of_module k) (stays ++ new) ∙ stays_any k (stays ++ new)
+    ∙ ap (list_any (λ r. r.«module» == k)) (residences_joined stays new ∙ ap (λ rs. rs ++ residences new) kept.standing ∙ ap (λ rs. (state_of b).residences ++ rs) (begun_residences b fresh fresh new begun))
+    ∙ attached_found b.library (state_of b) pid m fresh k (placed_modules b.library (state_of b) pid m fresh placed) member)
+
+-- so what is handed out is what is shown of each
+pub all_shown : (c : Ledger) (rows : List Row) (stays : List (Residence × Beside)) (serials : ℕ) (arcs : List ResidenceFor) (ks : List ℕ) → Keeps c rows stays serials →
+    All (λ k. is_some (find (is_of_module k) stays) ≡ true) ks → map Some arcs ≡ map (shared_of stays) ks → arcs ≡ map (residence_shown c.library (state_of c)) ks
+all_shown c rows stays serials [] [] kept each same = refl
+all_shown c rows stays serials [] (k ∷ ks) kept each same = cc
+all_shown c rows stays serials (a ∷ arcs) [] kept each same = cc
+all_shown c rows stays serials (a ∷ arcs) (k ∷ ks) kept each same =
+    let first : Some a ≡ shared_of stays k = cc in
+    let rest : map Some arcs ≡ map (shared_of stays) ks = cc in
+    let own : Some a ≡ Some (residence_shown c.library (state_of c) k) = first ∙ shown_of c rows stays serials k kept (each 0 0 (omega arith)) in
+    let one : a ≡ residence_shown c.library (state_of c) k = cc in
+    ap (λ x. x ∷ arcs) one ∙ ap (λ xs. residence_shown c.library (state_of c) k ∷ xs) (all_shown c rows stays serials arcs ks kept (λ i d inside. each (suc i) d (omega arith)) rest)
+
+-- ---- the loops
+
+pub bases_are : (b : Ledger) (stays : List (Residence × Beside)) (fresh : List Fresh) (m : ℕ) → residences stays ≡ (state_of b).residences →
+    record { mods = map (bases_with stays fresh) (Order b.library m) } ≡ bases_seen b.library (with_fresh_residences (state_of b) fresh) m
+unfolding bases_seen order_of residence_of
+bases_are b stays fresh m same =
+    let M : List Residence → ℕ → ModBases = λ rs k. record { «module» = k; objects = bases_of (find (λ r. r.«module» == k) (rs ++ map residence_from fresh)) } in
+    let B : List Residence → Bases = λ rs. record { mods = map (M rs) (Order b.library m) } in
+    ap B same
+
+pub begun_more : (b : Ledger) (all fs : List Fresh) (ss : List (Residence × Beside)) (f : Fresh) (s : Residence × Beside) → HaveBegun b all fs ss → IsBegun b all f s → HaveBegun b all (fs ++ f ∷ []) (ss ++ s ∷ [])
+begun_more b all [] [] f s begun one = (one, tt)
+begun_more b all [] (t ∷ ss) f s begun one = absurd begun
+begun_more b all (g ∷ fs) [] f s begun one = absurd begun
+begun_more b all (g ∷ fs) (t ∷ ss) f s begun one = (begun.0, begun_more b all fs ss f s begun.1 one)

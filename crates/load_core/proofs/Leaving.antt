@@ -1,0 +1,176 @@
+-- What a free and an exit leave of what a board keeps.
+use Rattle.std.proofs.Common.{◌≡◌, ◌≢◌, ◌∷◌, [], ℕ, zero, suc, ◌+◌, ◌<◌, ◌==◌, ◌||◌, Bool, true, false, not, List, length, filter, cond, count_by, Option, Some, None, option_to_list, refl, sym, ◌∙◌, ap, subst, arith}
+use Rattle.std.specs.Prelude.{All, slice_index, is_none}
+use Rattle.std.specs.List.{list_any}
+use Rattle.std.proofs.lemmas.Bool.{eq-eqb, eqb-true, eqb-false}
+use Rattle.std.proofs.lemmas.List.Folds.{list_any-append}
+use Rattle.lx_model.specs.Laws.{OrderEndsWithItself}
+use Rattle.load_model.specs.declared.commands.Refusal.{Refusal}
+use Rattle.load_model.specs.declared.commands.Refusal.TheVariants.{Ended, NotHeld}
+use Rattle.load_model.specs.declared.deeds.Call.{Call}
+use Rattle.load_model.specs.declared.deeds.Gone.{Gone}
+use Rattle.load_model.specs.declared.deeds.Entry.{Entry}
+use Rattle.load_model.specs.Modules.{Library, order_of, fixed_bytes}
+use Rattle.load_model.specs.State.{Residence, Process, Eager, with_process, pids, is_among, count_of, reaches}
+use Rattle.load_model.specs.Leaving as leaving
+use Rattle.load_model.specs.Leaving.{gone_modules, keeping, after_leaving}
+use Rattle.load_model.specs.Refusals.{when, free_refusal}
+use Rattle.load_model.specs.Asks.{free, may_ask, deed_of, after_deed}
+use Rattle.load_model.specs.Histories.{after_entry}
+use Rattle.load_model.specs.Alike.{BasesSeenStay}
+use Rattle.load_model.specs.Fitness.{ReachedIsFit}
+use Rattle.load_model.specs.Rows.{Row}
+use Rattle.load_model.proofs.Bools.{or_true}
+use Rattle.load_model.proofs.Bytes.{right_none}
+use Rattle.load_model.proofs.Holding.{when_none}
+use Rattle.load_model.proofs.ViewLeaving.{all_filter}
+use Rattle.hold_rows.specs.Counts.{one_if}
+use Rattle.hold_rows.proofs.RowLaws.{count_cons}
+use Rattle.mod_refs.specs.declared.changes.Leaving.{Leaving}
+use Rattle.mod_refs.specs.declared.changes.Leaving.TheVariants as ways
+use Rattle.mod_refs.specs.AllRows.{AreRows, IsKept, row_at}
+use Rattle.mod_refs.specs.Changes.{IsHeldBy, with_given_up, given_up}
+use Rattle.mod_refs.proofs.KeptRows.{left_within}
+use Rattle.stay_table.specs.Standing.{residences}
+use Rattle.load_core.specs.Ledger.{Ledger, state_of, IsLegal, MayAsk, entry_of, with_entry}
+use Rattle.load_core.specs.Kept.{Keeps, IsCurrentStay}
+use Rattle.load_core.specs.Leaves.{asked_by, leaving_deed, process_left, IsDeparture}
+use Rattle.load_core.specs.declared.leaves.Departure.{Departure}
+use Rattle.load_core.specs.declared.beside.Beside.{Beside}
+use Rattle.load_core.proofs.Asked.{IsNew, asked_follows}
+use Rattle.load_core.proofs.Current.{Stands}
+use Rattle.load_core.proofs.Keeping.{FollowsIn, NoFaults, after, all_standing, all_current, keeps_more}
+
+-- ---- what is held
+
+-- a module is of its own order
+own_order : OrderEndsWithItself → (lib : Library) (m : ℕ) → is_among (order_of lib m) m ≡ true
+unfolding order_of
+own_order ends lib m =
+    let last = ends lib m in
+    ap (λ xs. is_among xs m) last.1 ∙ list_any-append (λ other. other == m) last.0 (m ∷ []) ∙ ap (λ b. is_among last.0 m || (b || false)) (eq-eqb m m refl) ∙ or_true (is_among last.0 m)
+
+counted_any : (f : ℕ → Bool) (m : ℕ) (xs : List ℕ) → f m ≡ true → count_by (λ other. other == m) xs ≢ 0 → list_any f xs ≡ true
+counted_any f m [] own some = absurd (some refl)
+counted_any f m (x ∷ xs) own some = step (x == m) refl (counted_any f m xs own) (λ none. some (count_cons (λ other. other == m) x xs ∙ none))
+  where
+    step : (b : Bool) → (x == m) ≡ b → (count_by (λ other. other == m) xs ≢ 0 → list_any f xs ≡ true) → one_if b + count_by (λ other. other == m) xs ≢ 0 → f x || list_any f xs ≡ true
+    step true is later some = ap (λ b. b || list_any f xs) (ap f (eqb-true x m is) ∙ own)
+    step false is later some = ap (λ b. f x || b) (later (λ none. some (let e : count_by (λ other. other == m) xs ≡ 0 = none in omega (arith, e)))) ∙ or_true (f x)
+
+held_reached : OrderEndsWithItself → (lib : Library) (p : Process) (m : ℕ) → count_of p m ≢ 0 → reaches lib p m ≡ true
+unfolding reaches
+held_reached ends lib p m some =
+    list_any-append (λ root. is_among (order_of lib root) m) (option_to_list p.started) p.loads
+    ∙ ap (λ b. list_any (λ root. is_among (order_of lib root) m) (option_to_list p.started) || b) (counted_any (λ root. is_among (order_of lib root) m) m p.loads (own_order ends lib m) some)
+    ∙ or_true (list_any (λ root. is_among (order_of lib root) m) (option_to_list p.started))
+
+none_is : (x : Option Refusal) → is_none x ≡ true → x ≡ None
+none_is None h = refl
+none_is (Some y) h = cc
+
+freed_held : (lib : Library) (e : Eager) (pid m : ℕ) → may_ask lib e pid (free m) ≡ true → count_of (e.processes pid) m ≢ 0
+unfolding may_ask
+freed_held lib e pid m may =
+    let none : free_refusal (e.processes pid) (Some m) ≡ None = none_is _ may in
+    let held = when_none _ NotHeld (right_none (when (e.processes pid).ended Ended) _ none) in
+    eqb-false (count_of (e.processes pid) m) 0 (twice (count_of (e.processes pid) m == 0) held)
+  where
+    twice : (b : Bool) → not (not b) ≡ false → b ≡ false
+    twice true h = cc
+    twice false h = refl
+
+pub is_held : OrderEndsWithItself → ReachedIsFit → (b : Ledger) (rows : List Row) (pid : ℕ) (what : Leaving) → IsLegal b → AreRows b.library (state_of b) rows → is_among pids pid ≡ true →
+    MayAsk b pid (asked_by what) → IsHeldBy what (row_at rows pid)
+is_held ends fit b rows pid ways.All legal are there may = tt
+is_held ends fit b rows pid (ways.One m) legal are there may =
+    let held : count_of ((state_of b).processes pid) m ≢ 0 = freed_held b.library (state_of b) pid m may in
+    let within : m < length b.library = (fit b.library b.failing (fixed_bytes b.library) b.history legal pid m (held_reached ends b.library ((state_of b).processes pid) m held)).0 in
+    above (slice_index (row_at rows pid).loads m) (count_of ((state_of b).processes pid) m) ((are.each pid there).loads m within) held
+  where
+    above : (n k : ℕ) → n ≡ k → k ≢ 0 → 0 < n
+    above zero k same some = absurd (some (sym same))
+    above (suc n) k same some = omega arith
+
+pub left_in_library : (b : Ledger) (rows : List Row) (pid : ℕ) (what : Leaving) → AreRows b.library (state_of b) rows → is_among pids pid ≡ true → IsKept b.library (row_at rows pid) →
+    All (λ k. k < length b.library) (leaving.left b.library (process_left b pid what))
+left_in_library b rows pid what are there kept =
+    let W : List ℕ → Type 0 = λ ms. All (λ k. k < length b.library) ms in
+    left_within b.library (process_left b pid what) (subst W (sym kept.is.attached ∙ (are.each pid there).attached ∙ sym (same what)) kept.attached)
+  where
+    same : (what : Leaving) → (given_up what ((state_of b).processes pid)).attached ≡ ((state_of b).processes pid).attached
+    same (ways.One m) = refl
+    same ways.All = refl
+
+-- ---- the entry
+
+abbrev pub leaving_entry : ℕ → Leaving → List Call → List Gone → Entry
+leaving_entry pid what calls gone = record { pid = pid; deed = leaving_deed what calls gone }
+
+-- the entry that the loader makes of it
+pub asked_leaving : (b : Ledger) (pid : ℕ) (what : Leaving) →
+    leaving_entry pid what (leaving.leaving_calls b.library (state_of b) pid (process_left b pid what)) (leaving.gone b.library (state_of b) pid (process_left b pid what)) ≡ entry_of b pid (asked_by what)
+unfolding deed_of
+asked_leaving b pid (ways.One m) = refl
+asked_leaving b pid ways.All = refl
+
+pub departed : (b : Ledger) (pid : ℕ) (what : Leaving) (d : Departure) → IsDeparture b pid what d → leaving_entry pid what d.calls d.gone ≡ entry_of b pid (asked_by what)
+departed b pid what d is = ap (λ calls. leaving_entry pid what calls d.gone) is.calls ∙ ap (leaving_entry pid what (leaving.leaving_calls b.library (state_of b) pid (process_left b pid what))) is.gone ∙ asked_leaving b pid what
+
+after_what : (lib : Library) (e : Eager) (pid : ℕ) (what : Leaving) (calls : List Call) (gone : List Gone) →
+    after_deed lib e pid (leaving_deed what calls gone) ≡ after_leaving lib e pid (given_up what (e.processes pid))
+unfolding after_deed
+after_what lib e pid (ways.One m) calls gone = refl
+after_what lib e pid ways.All calls gone = refl
+
+no_fault_left : (pid : ℕ) (what : Leaving) (calls : List Call) (gone : List Gone) → NoFaults (leaving_entry pid what calls gone)
+no_fault_left pid (ways.One m) calls gone s p = refl
+no_fault_left pid ways.All calls gone s p = refl
+
+residences_filtered : (f : ℕ → Bool) (stays : List (Residence × Beside)) → residences (filter (λ s. f s.0.«module») stays) ≡ filter (λ r. f r.«module») (residences stays)
+residences_filtered f [] = refl
+residences_filtered f (s ∷ stays) = step (f s.0.«module») (residences_filtered f stays)
+  where
+    step : (c : Bool) → residences (filter (λ t. f t.0.«module») stays) ≡ filter (λ r. f r.«module») (residences stays) →
+        residences (cond c (s ∷ filter (λ t. f t.0.«module») stays) (filter (λ t. f t.0.«module») stays)) ≡ cond c (s.0 ∷ filter (λ r. f r.«module») (residences stays)) (filter (λ r. f r.«module») (residences stays))
+    step true later = ap (λ rs. s.0 ∷ rs) later
+    step false later = later
+
+rows_left : (lib : Library) (e : Eager) (pid : ℕ) (p : Process) (rows : List Row) → AreRows lib (with_process e pid (keeping lib e p)) rows → AreRows lib (after_leaving lib e pid p) rows
+unfolding after_leaving with_process
+rows_left lib e pid p rows are = record { each = are.each }
+
+residences_left : (lib : Library) (e : Eager) (pid : ℕ) (p : Process) → (after_leaving lib e pid p).residences ≡ filter (λ r. not (is_among (gone_modules lib e pid p) r.«module»)) e.residences
+unfolding after_leaving
+residences_left lib e pid p = refl
+
+serials_left : (lib : Library) (e : Eager) (pid : ℕ) (p : Process) → (after_leaving lib e pid p).serials ≡ e.serials
+unfolding after_leaving with_process
+serials_left lib e pid p = refl
+
+pub keeps_left : BasesSeenStay → (b : Ledger) (rows rows' : List Row) (stays : List (Residence × Beside)) (serials pid : ℕ) (what : Leaving) (calls : List Call) (gone : List Gone) (modules : List ℕ) →
+    Keeps b rows stays serials → is_among pids pid ≡ true → MayAsk b pid (asked_by what) → leaving_entry pid what calls gone ≡ entry_of b pid (asked_by what) →
+    AreRows b.library (with_given_up b.library (state_of b) pid what) rows' → modules ≡ gone_modules b.library (state_of b) pid (process_left b pid what) →
+    Keeps (with_entry b (leaving_entry pid what calls gone)) rows' (filter (λ s. not (is_among modules s.0.«module»)) stays) serials
+keeps_left stay b rows rows' stays serials pid what calls gone modules kept there may is are same =
+    let x : Entry = leaving_entry pid what calls gone in
+    let p : Process = process_left b pid what in
+    let e : Eager = state_of b in
+    let left_stays : List (Residence × Beside) = filter (λ s. not (is_among modules s.0.«module»)) stays in
+    let follows : FollowsIn b x = subst (FollowsIn b) (sym is) (asked_follows b.library b.failing (fixed_bytes b.library) b.history pid (asked_by what) there may (new what)) in
+    let step : after_entry b.library e x ≡ after_leaving b.library e pid p = after_what b.library e pid what calls gone in
+    let F : List ℕ → List Residence = λ ms. filter (λ r. not (is_among ms r.«module»)) e.residences in
+    let still : residences left_stays ≡ (after_entry b.library e x).residences =
+    residences_filtered (λ m. not (is_among modules m)) stays ∙ ap (filter (λ r. not (is_among modules r.«module»))) kept.standing ∙ ap F same
+    ∙ sym (residences_left b.library e pid p) ∙ ap (λ (a : Eager). a.residences) (sym step)
+    in
+    let behind = all_standing (state_of (with_entry b x)) left_stays (still ∙ ap (λ (a : Eager). a.residences) (sym (after b x))) in
+    let before = all_filter (λ s. Stands e s.0) (λ s. Stands e s.0) (λ s. not (is_among modules s.0.«module»)) (λ s f h. h) stays (all_standing e stays kept.standing) in
+    let current = all_filter (IsCurrentStay b) (IsCurrentStay b) (λ s. not (is_among modules s.0.«module»)) (λ s f h. h) stays kept.current in
+    keeps_more b x rows' left_stays serials kept.legal follows (subst (λ a. AreRows b.library a rows') (sym step) (rows_left b.library e pid p rows' are)) still
+    (kept.given ∙ sym (serials_left b.library e pid p) ∙ ap (λ (a : Eager). a.serials) (sym step))
+    (all_current stay b x left_stays kept.legal follows (no_fault_left pid what calls gone) before behind current)
+  where
+    new : (what : Leaving) → IsNew b.history (asked_by what)
+    new (ways.One m) = tt
+    new ways.All = tt

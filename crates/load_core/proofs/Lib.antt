@@ -1,0 +1,12 @@
+pub mod Asked
+pub mod Current
+pub mod Standing
+pub mod Keeping
+pub mod Attached
+pub mod Using
+pub mod Faulting
+pub mod Claiming
+pub mod Leaving
+pub mod Arriving
+pub mod Beginning
+pub mod Loading

@@ -1,0 +1,161 @@
+-- The residences that stand, found by serial number.
+use Rattle.std.proofs.Common.{◌≡◌, ℕ, zero, suc, ◌<◌, ◌==◌, Bool, true, false, cond, List, [], ◌∷◌, map, find, position, set, slice_get, length, get_or, Option, Some, None, option_map, refl, sym, ◌∙◌, ap, subst, arith}
+use Rattle.std.specs.List.{AllByRecursion}
+use Rattle.std.specs.Prelude.{if◌then◌else◌}
+use Rattle.std.proofs.lemmas.Bool.{eq-eqb, eqb-true}
+use Rattle.std.proofs.lemmas.Option.{slice_get-get_or}
+use Rattle.page_fix.proofs.Places.{find_by_position}
+use Rattle.load_model.specs.declared.deeds.Entry.{Entry}
+use Rattle.load_model.specs.Modules.{Library, Held}
+use Rattle.load_model.specs.State.{Residence, Failing, Eager, reaches, residence_of, attached_residence}
+use Rattle.load_model.specs.Asks.{is_serial, is_attached}
+use Rattle.load_model.specs.Histories.{state_after, Legal}
+use Rattle.load_model.specs.Serials.{Rise, SerialsRise}
+use Rattle.load_model.proofs.Bytes.{attached_is}
+use Rattle.stay_table.specs.Standing.{residences, has_serial, AreOwn}
+use Rattle.load_core.proofs.Current.{all_more}
+
+-- ---- rising serial numbers
+
+abbrev pub Rising : ℕ → List Residence → ℕ → Type 0
+Rising low rs high = Rise low (map (λ r. r.serial) rs) high
+
+above_lower : (low mid : ℕ) (rs : List Residence) → low < mid → AllByRecursion (λ r. mid < r.serial) rs → AllByRecursion (λ r. low < r.serial) rs
+above_lower low mid rs less = all_more (λ r. mid < r.serial) (λ r. low < r.serial) (λ r h. let n : mid < r.serial = h in omega (arith, less, n)) rs
+
+pub all_above : (low high : ℕ) (rs : List Residence) → Rising low rs high → AllByRecursion (λ r. low < r.serial) rs
+all_above low high [] rise = tt
+all_above low high (r ∷ rs) rise = (rise.0, above_lower low r.serial rs rise.0 (all_above r.serial high rs rise.1))
+
+-- ---- what was found
+
+pub found_so : {X : Type 0} (P : X → Type 0) (f : X → Bool) (xs : List X) (x : X) → AllByRecursion P xs → find f xs ≡ Some x → P x
+found_so P f [] x all is = cc
+found_so P f (y ∷ xs) x all is = step (f y) is (found_so P f xs x all.1)
+  where
+    step : (b : Bool) → cond b (Some y) (find f xs) ≡ Some x → (find f xs ≡ Some x → P x) → P x
+    step true is later = (let same : y ≡ x = cc in subst P same all.0)
+    step false is later = later is
+
+pub there_so : {X : Type 0} (P : X → Type 0) (xs : List X) (i : ℕ) (x : X) → AllByRecursion P xs → slice_get xs i ≡ Some x → P x
+there_so P [] i x all is = cc
+there_so P (y ∷ xs) zero x all is = (let same : y ≡ x = cc in subst P same all.0)
+there_so P (y ∷ xs) (suc i) x all is = there_so P xs i x all.1 is
+
+pub unlike : (a b : ℕ) → (a ≡ b → ⊥) → (a == b) ≡ false
+unlike a b differ = step (a == b) refl
+  where
+    step : (c : Bool) → (a == b) ≡ c → c ≡ false
+    step true is = absurd (differ (eqb-true a b is))
+    step false is = refl
+
+apart : (a b : ℕ) → a < b → (a == b) ≡ false
+apart a b less = unlike a b (λ same. let e : a ≡ b = same in omega (arith, less, e))
+
+pub found_by_serial : (f : Residence → Bool) (low high serial : ℕ) (rs : List Residence) (r : Residence) → Rising low rs high → find f rs ≡ Some r → r.serial ≡ serial →
+    find (λ x. x.serial == serial) rs ≡ Some r
+found_by_serial f low high serial [] r rise is at = cc
+found_by_serial f low high serial (x ∷ rs) r rise is at = step (f x) is (found_by_serial f x.serial high serial rs r rise.1)
+  where
+    step : (b : Bool) → cond b (Some x) (find f rs) ≡ Some r → (find f rs ≡ Some r → r.serial ≡ serial → find (λ y. y.serial == serial) rs ≡ Some r) →
+        cond (x.serial == serial) (Some x) (find (λ y. y.serial == serial) rs) ≡ Some r
+    step true is later =
+        let same : x ≡ r = cc in
+        let own : x.serial ≡ serial = ap (λ (y : Residence). y.serial) same ∙ at in
+        ap (λ b. cond b (Some x) (find (λ y. y.serial == serial) rs)) (eq-eqb x.serial serial own) ∙ ap Some same
+    step false is later =
+        let less : x.serial < r.serial = found_so (λ y. x.serial < y.serial) f rs r (all_above x.serial high rs rise.1) is in
+        let other : (x.serial == serial) ≡ false = subst (λ n. (x.serial == n) ≡ false) at (apart x.serial r.serial less) in
+        ap (λ b. cond b (Some x) (find (λ y. y.serial == serial) rs)) other ∙ later is at
+
+module _ {T : Type 0} where
+  pub found_residence : (serial : ℕ) (stays : List (Residence × T)) → find (λ r. r.serial == serial) (residences stays) ≡ option_map (λ s. s.0) (find (has_serial serial) stays)
+  found_residence serial [] = refl
+  found_residence serial (s ∷ stays) = step (s.0.serial == serial) (found_residence serial stays)
+    where
+      step : (b : Bool) → find (λ r. r.serial == serial) (residences stays) ≡ option_map (λ t. t.0) (find (has_serial serial) stays) →
+          cond b (Some s.0) (find (λ r. r.serial == serial) (residences stays)) ≡ option_map (λ t. t.0) (cond b (Some s) (find (has_serial serial) stays))
+      step true later = refl
+      step false later = later
+
+  -- the residence of a serial number is changed
+  pub all_set : (P Q : Residence × T → Type 0) (serial low high : ℕ) (stays : List (Residence × T)) (i : ℕ) (s v : Residence × T) → Rising low (residences stays) high →
+      slice_get stays i ≡ Some s → s.0.serial ≡ serial → ((t : Residence × T) → (t.0.serial == serial) ≡ false → P t → Q t) → Q v →
+      AllByRecursion P stays → AllByRecursion Q (set stays i v)
+  all_set P Q serial low high [] i s v rise is at more this all = cc
+  all_set P Q serial low high (x ∷ stays) zero s v rise is at more this all =
+      let same : x ≡ s = cc in
+      let own : x.0.serial ≡ serial = ap (λ (y : Residence × T). y.0.serial) same ∙ at in
+      (this, others stays (all_above x.0.serial high (residences stays) rise.1) own all.1)
+    where
+      others : (ys : List (Residence × T)) → AllByRecursion (λ r. x.0.serial < r.serial) (residences ys) → x.0.serial ≡ serial → AllByRecursion P ys → AllByRecursion Q ys
+      others [] up own all = tt
+      others (y ∷ ys) up own all =
+          let less : serial < y.0.serial = subst (λ n. n < y.0.serial) own up.0 in
+          (more y (unlike y.0.serial serial (λ e. let same : y.0.serial ≡ serial = e in omega (arith, less, same))) all.0, others ys up.1 own all.1)
+  all_set P Q serial low high (x ∷ stays) (suc i) s v rise is at more this all =
+      let less : x.0.serial < s.0.serial = there_so (λ (t : Residence × T). x.0.serial < t.0.serial) stays i s (lifted stays (all_above x.0.serial high (residences stays) rise.1)) is in
+      (more x (subst (λ n. (x.0.serial == n) ≡ false) at (apart x.0.serial s.0.serial less)) all.0, all_set P Q serial x.0.serial high stays i s v rise.1 is at more this all.1)
+    where
+      lifted : (ys : List (Residence × T)) → AllByRecursion (λ r. x.0.serial < r.serial) (residences ys) → AllByRecursion (λ (t : Residence × T). x.0.serial < t.0.serial) ys
+      lifted [] up = tt
+      lifted (y ∷ ys) up = (up.0, lifted ys up.1)
+
+  -- A process reaches the residence of a module, whose serial number is this: it stands, and is the one that is found so.
+  pub record IsAsked (lib : Library) (e : Eager) (stays : List (Residence × T)) (pid serial m : ℕ) : Type 0 where
+    pub residence : Residence
+    pub there : attached_residence lib e pid m ≡ Some residence
+    pub numbered : residence.serial ≡ serial
+    pub of_module : residence.«module» ≡ m
+    pub found : option_map (λ s. s.0) (find (has_serial serial) stays) ≡ Some residence
+
+  asked_from : (lib : Library) (e : Eager) (stays : List (Residence × T)) (pid serial m : ℕ) → Rising 0 e.residences e.serials → residences stays ≡ e.residences →
+      (o : Option Residence) → attached_residence lib e pid m ≡ o → is_serial serial o ≡ true → IsAsked lib e stays pid serial m
+  unfolding attached_residence residence_of
+  asked_from lib e stays pid serial m rise same None is at = cc
+  asked_from lib e stays pid serial m rise same (Some r) is at =
+      let numbered : r.serial ≡ serial = eqb-true r.serial serial at in
+      record {
+        residence = r;
+        there = is;
+        numbered = numbered;
+        of_module = (attached_is lib e pid m r is).1;
+        found =
+            sym (found_residence serial stays) ∙ ap (find (λ x. x.serial == serial)) same
+            ∙ found_by_serial (λ x. x.«module» == m) 0 e.serials serial e.residences r rise (inner (reaches lib (e.processes pid) m) is) numbered;
+      }
+    where
+      inner : (b : Bool) → (if b then find (λ x. x.«module» == m) e.residences else None) ≡ Some r → find (λ x. x.«module» == m) e.residences ≡ Some r
+      inner true is = is
+      inner false is = cc
+
+  pub asked : SerialsRise → (lib : Library) (failing : Failing) (contents : Held) (h : List Entry) (stays : List (Residence × T)) (pid serial m : ℕ) → Legal lib failing contents h →
+      residences stays ≡ (state_after lib failing h).residences → is_attached lib (state_after lib failing h) pid serial m ≡ true → IsAsked lib (state_after lib failing h) stays pid serial m
+  asked rise lib failing contents h stays pid serial m legal same at =
+      asked_from lib (state_after lib failing h) stays pid serial m (rise lib failing contents h legal) same (attached_residence lib (state_after lib failing h) pid m) refl at
+
+  -- so it is the one at the place at which it was found
+  pub asked_there : (lib : Library) (e : Eager) (stays : List (Residence × T)) (pid serial m : ℕ) (it : IsAsked lib e stays pid serial m) (i : ℕ) (s : Residence × T) →
+      position (has_serial serial) stays ≡ Some i → slice_get stays i ≡ Some s → s.0 ≡ it.residence
+  asked_there lib e stays pid serial m it i s at is =
+      let found : find (has_serial serial) stays ≡ Some s = find_by_position (has_serial serial) stays (Some i) at ∙ is in
+      let same : Some s.0 ≡ Some it.residence = sym (ap (option_map (λ (t : Residence × T). t.0)) found) ∙ it.found in
+      cc
+
+  pub asked_nowhere : (lib : Library) (e : Eager) (stays : List (Residence × T)) (pid serial m : ℕ) → IsAsked lib e stays pid serial m → position (has_serial serial) stays ≡ None → ⊥
+  asked_nowhere lib e stays pid serial m it at =
+      let found : find (has_serial serial) stays ≡ None = find_by_position (has_serial serial) stays None at in
+      let none : None ≡ Some it.residence = sym (ap (option_map (λ (t : Residence × T). t.0)) found) ∙ it.found in
+      cc
+
+-- ---- each residence has a serial number of its own
+
+pub rising_own : (low high : ℕ) (rs : List Residence) → Rising low rs high → AreOwn rs
+rising_own low high [] rise i j d less within same = (let none : j < 0 = within in omega (arith, none))
+rising_own low high (r ∷ rs) rise i zero d less within same = omega (arith, less)
+rising_own low high (r ∷ rs) rise zero (suc j) d less within same =
+    let inside : j < length rs = omega arith in
+    let above : r.serial < (get_or rs j d).serial = there_so (λ (x : Residence). r.serial < x.serial) rs j (get_or rs j d) (all_above r.serial high rs rise.1) (slice_get-get_or rs j d inside) in
+    let e : r.serial ≡ (get_or rs j d).serial = same in
+    omega (arith, above, e)
+rising_own low high (r ∷ rs) rise (suc i) (suc j) d less within same = rising_own r.serial high rs rise.1 i j d (omega arith) (omega arith) same

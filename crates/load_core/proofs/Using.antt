@@ -1,0 +1,202 @@
+-- Bytes that are written and read, and their entries.
+use Rattle.std.proofs.Common.{◌≡◌, ◌∷◌, ◌++◌, [], ℕ, zero, suc, ◌+◌, ◌-◌, ◌<◌, ◌≤◌, true, List, length, map, Option, Some, None, is_none, position, slice_get, slice_index, refl, sym, ◌∙◌, ap, subst, arith}
+use Rattle.std.specs.List.{range_with_len}
+use Rattle.std.proofs.lemmas.List.FromFn.{get_or-map-range_with_len, length-map-range_with_len}
+use Rattle.lx_types.specs.Object.{class_of}
+use Rattle.lx_types.specs.declared.object.Class.{Class}
+use Rattle.lx_types.specs.declared.object.Class.TheVariants as classes
+use Rattle.load_model.specs.declared.commands.Refusal.{Refusal}
+use Rattle.load_model.specs.declared.commands.Refusal.TheVariants.{Range, Invalid}
+use Rattle.load_model.specs.declared.deeds.Deed.TheVariants as deeds
+use Rattle.load_model.specs.declared.deeds.Entry.{Entry}
+use Rattle.load_model.specs.Modules.{Library, fixed_bytes, object_at}
+use Rattle.load_model.specs.State.{Written, Residence, Process, with_process, pids, is_among}
+use Rattle.load_model.specs.Memory.{last_put, writes_seen, writes_of_class, bases_seen, Byte, Bytes}
+use Rattle.load_model.specs.Refusals.{share, when, class_refusal, span_refusal, is_outside, covers_invalid}
+use Rattle.load_model.specs.Asks.{put, patch, get, may_ask, deed_of, after_deed, bytes_at, is_attached}
+use Rattle.load_model.specs.Alike.{BasesSeenStay}
+use Rattle.load_model.specs.Rows.{Row}
+use Rattle.load_model.proofs.Bools.{and_left, and_right}
+use Rattle.load_model.proofs.Bytes.{left_none, right_none}
+use Rattle.write_overlay.specs.Laid.{writes_to, bytes_under}
+use Rattle.stay_table.specs.Standing.{has_serial}
+use Rattle.load_core.specs.Ledger.{Ledger, state_of, MayAsk, Adds, with_entry}
+use Rattle.load_core.specs.Kept.{Keeps}
+use Rattle.load_core.specs.Shared.{shared_write, stays_with}
+use Rattle.load_core.specs.Told.{IsRead, fixed_run, read_run}
+use Rattle.load_core.specs.declared.beside.Beside.{Beside}
+use Rattle.load_core.proofs.Asked.{asked_follows}
+use Rattle.load_core.proofs.Attached.{attached_there, module_there}
+use Rattle.load_core.proofs.Keeping.{FollowsIn, keeps_still, keeps_written, rows_written, write_entry}
+
+-- ---- what is asked reaches its residence
+
+pub put_attached : (b : Ledger) (pid serial m object offset : ℕ) (bytes : List ℕ) → MayAsk b pid (put serial m object offset bytes) → is_attached b.library (state_of b) pid serial m ≡ true
+unfolding may_ask
+put_attached b pid serial m object offset bytes may = and_left _ _ (and_right _ _ may)
+
+pub patch_attached : (b : Ledger) (pid serial m object offset : ℕ) (bytes : List ℕ) → MayAsk b pid (patch serial m object offset bytes) → is_attached b.library (state_of b) pid serial m ≡ true
+unfolding may_ask
+patch_attached b pid serial m object offset bytes may = and_left _ _ (and_right _ _ may)
+
+pub get_attached : (b : Ledger) (pid serial m object offset len : ℕ) → MayAsk b pid (get serial m object offset len) → is_attached b.library (state_of b) pid serial m ≡ true
+unfolding may_ask
+get_attached b pid serial m object offset len may = and_left _ _ (and_right _ _ may)
+
+-- ---- a write
+
+module _ (b : Ledger) (rows : List Row) (stays : List (Residence × Beside)) (serials pid serial m : ℕ) (kept : Keeps b rows stays serials) (process : is_among pids pid ≡ true)
+    (place : ℕ) (s : Residence × Beside) (at : position (has_serial serial) stays ≡ Some place) (there : slice_get stays place ≡ Some s) (is : m ≡ s.0.«module») where
+  module _ (object offset : ℕ) (bytes : List ℕ) where
+    of_put : (k : ℕ) → MayAsk b pid (put serial k object offset bytes) → m ≡ k
+    of_put k may = is ∙ module_there b rows stays serials pid serial k kept (put_attached b pid serial k object offset bytes may) place s at there
+
+    pub written : Written
+    written = record { object = object; offset = offset; bytes = bytes }
+
+    put_follows : (k : ℕ) × MayAsk b pid (put serial k object offset bytes) → FollowsIn b (write_entry pid serial m (record { object = object; offset = offset; bytes = bytes }))
+    unfolding deed_of
+    put_follows may =
+        asked_follows b.library b.failing (fixed_bytes b.library) b.history pid (put serial m object offset bytes) process
+        (subst (λ k. MayAsk b pid (put serial k object offset bytes)) (sym (of_put may.0 may.1)) may.1) tt
+
+    pub keeps_put : BasesSeenStay → (h : List Entry) (behind : List (Residence × Beside)) → (k : ℕ) × MayAsk b pid (put serial k object offset bytes) →
+        h ≡ b.history ++ write_entry pid serial m (record { object = object; offset = offset; bytes = bytes }) ∷ [] →
+        behind ≡ stays_with serial (shared_write (class_of (object_at b.library m object)) (record { object = object; offset = offset; bytes = bytes })) stays →
+        Keeps (record b { history = h }) rows behind serials
+    keeps_put stay h behind may grown left =
+        let w : Written = record { object = object; offset = offset; bytes = bytes } in
+        let H : List Entry → Type 0 = λ k. Keeps (record b { history = k }) rows behind serials in
+        let S : List (Residence × Beside) → Type 0 = λ ss. Keeps (with_entry b (write_entry pid serial m w)) rows ss serials in
+        subst H (sym grown) (subst S (sym left) (keeps_written stay b pid serial m w rows stays serials kept (put_follows may)))
+
+    pub adds_put : (h : List Entry) → h ≡ b.history ++ write_entry pid serial m (record { object = object; offset = offset; bytes = bytes }) ∷ [] →
+        (k : ℕ) → MayAsk b pid (put serial k object offset bytes) → Adds b (record b { history = h }) pid (put serial k object offset bytes)
+    unfolding deed_of
+    adds_put h grown k may =
+        let H : List Entry → Ledger = λ hs. record b { history = hs } in
+        ap H grown ∙ ap (λ n. with_entry b (write_entry pid serial n (record { object = object; offset = offset; bytes = bytes }))) (of_put k may)
+
+  -- ---- a debugger's write
+
+  abbrev pub debug_entry : ℕ → ℕ → List ℕ → Entry
+  debug_entry object offset bytes = record { pid = pid; deed = deeds.Debug serial m object offset bytes }
+
+  module _ (object offset : ℕ) (bytes : List ℕ) where
+    of_patch : (k : ℕ) → MayAsk b pid (patch serial k object offset bytes) → m ≡ k
+    of_patch k may = is ∙ module_there b rows stays serials pid serial k kept (patch_attached b pid serial k object offset bytes may) place s at there
+
+    patch_follows : (k : ℕ) × MayAsk b pid (patch serial k object offset bytes) → FollowsIn b (debug_entry object offset bytes)
+    unfolding deed_of
+    patch_follows may =
+        asked_follows b.library b.failing (fixed_bytes b.library) b.history pid (patch serial m object offset bytes) process
+        (subst (λ k. MayAsk b pid (patch serial k object offset bytes)) (sym (of_patch may.0 may.1)) may.1) tt
+
+    pub keeps_patch : BasesSeenStay → (h : List Entry) → (k : ℕ) × MayAsk b pid (patch serial k object offset bytes) → h ≡ b.history ++ debug_entry object offset bytes ∷ [] →
+        Keeps (record b { history = h }) rows stays serials
+    unfolding after_deed with_process
+    keeps_patch stay h may grown =
+        let w : Written = record { object = object; offset = offset; bytes = bytes } in
+        let H : List Entry → Type 0 = λ k. Keeps (record b { history = k }) rows stays serials in
+        subst H (sym grown)
+        (keeps_still stay b (debug_entry object offset bytes) rows rows stays serials serials kept (patch_follows may) (λ n p. refl)
+        (rows_written b.library (state_of b) pid serial w rows kept.reached) refl kept.given)
+
+    pub adds_patch : (h : List Entry) → h ≡ b.history ++ debug_entry object offset bytes ∷ [] →
+        (k : ℕ) → MayAsk b pid (patch serial k object offset bytes) → Adds b (record b { history = h }) pid (patch serial k object offset bytes)
+    unfolding deed_of
+    adds_patch h grown k may =
+        let H : List Entry → Ledger = λ hs. record b { history = hs } in
+        let E : ℕ → Entry = λ n. record { pid = pid; deed = deeds.Debug serial n object offset bytes } in
+        ap H grown ∙ ap (λ n. with_entry b (E n)) (of_patch k may)
+
+-- ---- reading what is shared
+
+range_same : (f g : ℕ → ℕ) (n from : ℕ) → ((x : ℕ) → from ≤ x → x < from + n → f x ≡ g x) → map f (range_with_len from n) ≡ map g (range_with_len from n)
+range_same f g zero from h = refl
+range_same f g (suc n) from h =
+    let here : f from ≡ g from = h from (omega arith) (omega arith) in
+    let later : map f (range_with_len (from + 1) n) ≡ map g (range_with_len (from + 1) n) =
+    range_same f g n (from + 1) (λ x low high. h x (omega arith) (omega arith))
+    in
+    ap (λ y. y ∷ map f (range_with_len (from + 1) n)) here ∙ ap (λ ys. g from ∷ ys) later
+
+shared_class : (c : Class) → class_refusal share c ≡ None → c ≡ classes.Shared
+shared_class classes.Code h = cc
+shared_class classes.Private h = cc
+shared_class classes.Shared h = refl
+
+none_is : (x : Option Refusal) → is_none x ≡ true → x ≡ None
+none_is None h = refl
+none_is (Some y) h = cc
+
+get_shared : (b : Ledger) (pid serial m object offset len : ℕ) → MayAsk b pid (get serial m object offset len) → class_of (object_at b.library m object) ≡ classes.Shared
+unfolding may_ask span_refusal
+get_shared b pid serial m object offset len may =
+    let span : span_refusal b.library share m object offset len ≡ None = none_is _ (and_right _ _ (and_right _ _ may)) in
+    shared_class (class_of (object_at b.library m object))
+    (left_none (class_refusal share (class_of (object_at b.library m object))) (when (covers_invalid b.library m object offset len) Invalid)
+    (right_none (when (is_outside b.library m object offset len) Range) _ span))
+
+seen_shared : (lib : Library) (p : Process) (r : Residence) (object : ℕ) → class_of (object_at lib r.«module» object) ≡ classes.Shared → writes_seen lib p r object ≡ writes_to object r.writes
+unfolding writes_seen
+seen_shared lib p r object is = ap (λ c. writes_to object (writes_of_class c p r)) is
+
+laid_shared : (b : Ledger) (pid m object offset len : ℕ) (r : Residence) → r.«module» ≡ m → class_of (object_at b.library m object) ≡ classes.Shared →
+    bytes_under r.writes object offset (fixed_run b m object offset len) ≡ bytes_at b.library (fixed_bytes b.library) (state_of b) pid object offset len (Some r)
+unfolding Bytes Byte
+laid_shared b pid m object offset len r same is =
+    let fixed : ℕ → ℕ = λ x. fixed_bytes b.library m (bases_seen b.library (state_of b) m) object x in
+    let own : ℕ → ℕ = λ x. fixed_bytes b.library r.«module» (bases_seen b.library (state_of b) r.«module») object x in
+    let long : length (fixed_run b m object offset len) ≡ len = length-map-range_with_len fixed offset len in
+    let seen = seen_shared b.library ((state_of b).processes pid) r object (ap (λ k. class_of (object_at b.library k object)) same ∙ is) in
+    ap (λ n. map (λ x. last_put (writes_to object r.writes) x (slice_index (fixed_run b m object offset len) (x - offset))) (range_with_len offset n)) long
+    ∙ range_same (λ x. last_put (writes_to object r.writes) x (slice_index (fixed_run b m object offset len) (x - offset)))
+    (λ x. last_put (writes_seen b.library ((state_of b).processes pid) r object) x (own x)) len offset
+    (λ x low high.
+    ap (last_put (writes_to object r.writes) x)
+    (get_or-map-range_with_len fixed offset len (x - offset) x 0 (omega arith) (omega arith) ∙ ap (λ k. fixed_bytes b.library k (bases_seen b.library (state_of b) k) object x) (sym same))
+    ∙ ap (λ ws. last_put ws x (own x)) (sym seen))
+
+module _ (b : Ledger) (rows : List Row) (stays : List (Residence × Beside)) (serials pid serial m : ℕ) (kept : Keeps b rows stays serials) (process : is_among pids pid ≡ true)
+    (place : ℕ) (s : Residence × Beside) (at : position (has_serial serial) stays ≡ Some place) (there : slice_get stays place ≡ Some s) (is : m ≡ s.0.«module»)
+    (object offset : ℕ) (before read : List ℕ) (fixed : (k : ℕ) → MayAsk b pid (get serial k object offset (length before)) → before ≡ fixed_run b k object offset (length before))
+    (over : read ≡ bytes_under s.0.writes object offset before) where
+  of_get : (k : ℕ) → MayAsk b pid (get serial k object offset (length before)) → m ≡ k
+  of_get k may = is ∙ module_there b rows stays serials pid serial k kept (get_attached b pid serial k object offset (length before) may) place s at there
+
+  pub is_read : (k : ℕ) → MayAsk b pid (get serial k object offset (length before)) → read ≡ read_run b pid k object offset (length before)
+  is_read k may =
+      let attached = attached_there b rows stays serials pid serial k kept (get_attached b pid serial k object offset (length before) may) place s at there in
+      over ∙ ap (bytes_under s.0.writes object offset) (fixed k may)
+      ∙ laid_shared b pid k object offset (length before) s.0 (module_there b rows stays serials pid serial k kept (get_attached b pid serial k object offset (length before) may) place s at there)
+      (get_shared b pid serial k object offset (length before) may)
+      ∙ ap (bytes_at b.library (fixed_bytes b.library) (state_of b) pid object offset (length before)) (sym attached)
+
+  abbrev pub shared_entry : List ℕ → Entry
+  shared_entry bytes = record { pid = pid; deed = deeds.Shared serial m object offset bytes }
+
+  get_follows : (k : ℕ) × MayAsk b pid (get serial k object offset (length before)) → FollowsIn b (shared_entry read)
+  unfolding deed_of
+  get_follows may =
+      let here : MayAsk b pid (get serial m object offset (length before)) = subst (λ k. MayAsk b pid (get serial k object offset (length before))) (sym (of_get may.0 may.1)) may.1 in
+      subst (λ bytes. FollowsIn b (shared_entry bytes)) (sym (is_read m here))
+      (asked_follows b.library b.failing (fixed_bytes b.library) b.history pid (get serial m object offset (length before)) process here tt)
+
+  pub keeps_read : BasesSeenStay → (h : List Entry) → (k : ℕ) × MayAsk b pid (get serial k object offset (length before)) → h ≡ b.history ++ shared_entry read ∷ [] →
+      Keeps (record b { history = h }) rows stays serials
+  unfolding after_deed
+  keeps_read stay h may grown =
+      let H : List Entry → Type 0 = λ k. Keeps (record b { history = k }) rows stays serials in
+      subst H (sym grown) (keeps_still stay b (shared_entry read) rows rows stays serials serials kept (get_follows may) (λ n p. refl) kept.reached refl kept.given)
+
+  pub reads : (h : List Entry) (now : List ℕ) → h ≡ b.history ++ shared_entry read ∷ [] → now ≡ read → (k : ℕ) → MayAsk b pid (get serial k object offset (length before)) →
+      IsRead b (record b { history = h }) pid serial k object offset before now
+  unfolding deed_of
+  reads h now grown same k may =
+      let H : List Entry → Ledger = λ hs. record b { history = hs } in
+      let E : ℕ → List ℕ → Entry = λ n bytes. record { pid = pid; deed = deeds.Shared serial n object offset bytes } in
+      record {
+        adds = ap H grown ∙ ap (λ n. with_entry b (E n read)) (of_get k may) ∙ ap (λ bytes. with_entry b (E k bytes)) (is_read k may);
+        bytes = same ∙ is_read k may;
+      }

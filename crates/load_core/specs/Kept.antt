@@ -1,0 +1,41 @@
+-- What a board keeps beside its ledger: who reaches what, and the residences that stand, each with the rights to fix
+-- its pages that were not given yet, and with what its processes share.
+use Rattle.std.specs.Prelude.{◌≡◌, ℕ, List, not, filter}
+use Rattle.std.specs.List.{AllByRecursion}
+use Rattle.std.specs.Arc.{arc_value}
+use Rattle.page_fix.specs.Rights.{PageRights}
+use Rattle.page_fix.specs.Fixable.{fixable_pages}
+use Rattle.page_frames.specs.Residences.{ResidenceFor}
+use Rattle.lx_model.specs.Library.{module_of}
+use Rattle.load_model.specs.State.{Residence}
+use Rattle.load_model.specs.Memory.{bases_seen}
+use Rattle.load_model.specs.Histories.{has_fault}
+use Rattle.load_model.specs.Rows.{Row}
+use Rattle.mod_refs.specs.AllRows.{AreRows}
+use Rattle.stay_table.specs.Standing.{residences}
+use Rattle.load_core.specs.Ledger.{Ledger, state_of, IsLegal}
+use Rattle.load_core.specs.declared.beside.Beside.{Beside}
+
+-- the pages of a residence that processes share and that had no fault yet
+abbrev pub rights_left : Ledger → Residence → PageRights
+rights_left b r = record { serial = r.serial; left = filter (λ p. not (has_fault b.history r.serial p)) (fixable_pages (module_of b.library r.«module»)) }
+
+-- a residence as its processes share it
+abbrev pub shared_as : Ledger → Residence → ResidenceFor
+shared_as b r = record { library = b.library; serial = r.serial; «module» = r.«module»; bases = bases_seen b.library (state_of b) r.«module» }
+
+-- A residence is kept with its rights and with what is shared of it.
+pub record IsCurrent (b : Ledger) (r : Residence) (rights : PageRights) (shown : ResidenceFor) : Type 0 where
+  pub left : rights ≡ rights_left b r
+  pub shared : shown ≡ shared_as b r
+
+abbrev pub IsCurrentStay : Ledger → Residence × Beside → Type 0
+IsCurrentStay b s = IsCurrent b s.0 s.1.rights (arc_value s.1.shared)
+
+-- The history is legal, and what is kept is what there is after it.
+pub record Keeps (b : Ledger) (rows : List Row) (stays : List (Residence × Beside)) (serials : ℕ) : Type 0 where
+  pub legal : IsLegal b
+  pub reached : AreRows b.library (state_of b) rows
+  pub standing : residences stays ≡ (state_of b).residences
+  pub given : serials ≡ (state_of b).serials
+  pub current : AllByRecursion (IsCurrentStay b) stays

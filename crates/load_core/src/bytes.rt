@@ -1,0 +1,194 @@
+//! Bytes that processes write and read.
+
+ghost use Rattle.std.specs.Prelude.{◌≡◌, ◌<◌, ℕ, true, length, IfOk, OnOk, OnErr, MatchResult};
+ghost use Rattle.lx_types.specs.Object.{class_of};
+ghost use Rattle.load_model.specs.Modules.{object_at};
+ghost use Rattle.load_model.specs.State.{pids, is_among};
+ghost use Rattle.load_model.specs.Asks as asks;
+ghost use Rattle.write_overlay.specs.Laid.{bytes_under};
+ghost use Rattle.stay_table.specs.Standing.{residences, AreOwn};
+ghost use Rattle.load_core.specs.Ledger.{MayAsk, Adds};
+ghost use Rattle.load_core.specs.Shared as sharing;
+ghost use Rattle.load_core.specs.Shared.{stays_with};
+ghost use Rattle.load_core.specs.Told.{IsRead, fixed_run};
+
+use crate::beside::{Beside, place_with};
+use crate::board::Board;
+use load_model::{Deed, Entry};
+use lx_types::{Bytes, Class, NoMemory, Seq};
+use mod_graph::Library;
+use stay_table::{Stay, Stays};
+use std::alloc::Global;
+use write_overlay::Write;
+
+// The class of an object of module `m`.
+#[tactic(auto, unfolding(load_model::specs::Modules::object_at))]
+fn class_at(lib: &Library, m: u32, object: u32) -> Class
+    requires { m < length lib.now }
+    ensures { result ≡ class_of (object_at lib.now m object) }
+{
+    let objects = lib.module(m).objects();
+    match objects.get(object.saturating_sub(1) as usize) {
+        Some(head) => head.class(),
+        None => Class::Code,
+    }
+}
+
+// A copy of bytes.
+fn copied(alloc: Global, bytes: &[u8]) -> Result<Bytes, NoMemory>
+    ensures { IfOk result (λ copy. copy ≡ bytes.now) }
+{
+    Ok(Seq::from_vec(bytes.to_vec(alloc)?))
+}
+
+// A write to an object of this class, as far as all share it.
+fn shared_write(
+    alloc: Global,
+    class: Class,
+    object: u32,
+    offset: u32,
+    bytes: &[u8],
+) -> Result<Option<Write>, NoMemory>
+    ensures { IfOk result (λ w. w ≡ sharing.shared_write class (record { object = object; offset = offset; bytes = bytes.now })) }
+{
+    match class {
+        Class::Shared => Ok(Some(Write::new(object, offset, copied(alloc, bytes)?))),
+        Class::Code | Class::Private => Ok(None),
+    }
+}
+
+// Adds such a write to the residence of a serial number.
+fn add_shared(stays: &mut Stays<Beside>, serial: u64, shared: Option<Write>) -> Result<(), NoMemory>
+    requires { AreOwn (residences stays.old) }
+    ensures { MatchResult result (λ _. stays.new ≡ stays_with serial shared stays.old) (λ _. stays.new ≡ stays.old) }
+{
+    match shared {
+        Some(write) => stays.add_write(serial, write),
+        None => Ok(()),
+    }
+}
+
+// The bytes of an object under the writes that all share.
+fn read_over(
+    alloc: Global,
+    stay: &Stay<Beside>,
+    object: u32,
+    offset: u32,
+    fixed: &[u8],
+) -> Result<Vec<u8>, NoMemory>
+    ensures { IfOk result (λ bytes. bytes.items ≡ bytes_under stay.now.0.writes object offset fixed.now) }
+{
+    let mut bytes = fixed.to_vec(alloc)?;
+    stay.lay(object, offset, &mut bytes);
+    Ok(bytes)
+}
+
+impl Board {
+    /// Process `pid` writes bytes to an object of the residence of a serial number, private or shared.
+    pub fn write(
+        &mut self,
+        pid: u32,
+        serial: u64,
+        object: u32,
+        offset: u32,
+        bytes: &[u8],
+    ) -> Result<(), NoMemory>
+        requires process { is_among pids pid ≡ true }
+        requires may { (m : ℕ) × MayAsk self.old pid (asks.put serial m object offset bytes.now) }
+        ensures entry { OnOk result ((m : ℕ) → MayAsk self.old pid (asks.put serial m object offset bytes.now)
+            → Adds self.old self.new pid (asks.put serial m object offset bytes.now)) }
+        ensures err { OnErr result (self.new ≡ self.old) }
+    {
+        load_model::residences_stay();
+        load_model::reached_is_fit();
+        let place = place_with(&self.stays, serial);
+        let module = self.stays.at(place).module();
+        let class = class_at(&self.lib, module, object);
+        let shared = shared_write(self.alloc, class, object, offset, bytes)?;
+        let bytes = copied(self.alloc, bytes)?;
+        self.history.reserve(1)?;
+        add_shared(&mut self.stays, serial, shared)?;
+        self.history.push_reserved(Entry {
+            pid,
+            deed: Deed::Write {
+                serial,
+                module,
+                object,
+                offset,
+                bytes,
+            },
+        });
+        Ok(())
+    }
+
+    /// A debugger of process `pid` writes bytes to code of the residence of a serial number, for this process alone.
+    pub fn debug(
+        &mut self,
+        pid: u32,
+        serial: u64,
+        object: u32,
+        offset: u32,
+        bytes: &[u8],
+    ) -> Result<(), NoMemory>
+        requires process { is_among pids pid ≡ true }
+        requires may { (m : ℕ) × MayAsk self.old pid (asks.patch serial m object offset bytes.now) }
+        ensures entry { OnOk result ((m : ℕ) → MayAsk self.old pid (asks.patch serial m object offset bytes.now)
+            → Adds self.old self.new pid (asks.patch serial m object offset bytes.now)) }
+        ensures err { OnErr result (self.new ≡ self.old) }
+    {
+        load_model::residences_stay();
+        let place = place_with(&self.stays, serial);
+        let module = self.stays.at(place).module();
+        let bytes = copied(self.alloc, bytes)?;
+        self.history.reserve(1)?;
+        self.history.push_reserved(Entry {
+            pid,
+            deed: Deed::Debug {
+                serial,
+                module,
+                object,
+                offset,
+                bytes,
+            },
+        });
+        Ok(())
+    }
+
+    /// Process `pid` reads bytes of a shared object of the residence of a serial number. The caller puts the bytes
+    /// there that the file has, with their fixups; the writes that all share are laid over them.
+    pub fn read_shared(
+        &mut self,
+        pid: u32,
+        serial: u64,
+        object: u32,
+        offset: u32,
+        into: &mut [u8],
+    ) -> Result<(), NoMemory>
+        requires process { is_among pids pid ≡ true }
+        requires may { (m : ℕ) × MayAsk self.old pid (asks.get serial m object offset (length into.old)) }
+        requires fixed { (m : ℕ) → MayAsk self.old pid (asks.get serial m object offset (length into.old))
+            → into.old ≡ fixed_run self.old m object offset (length into.old) }
+        ensures read { OnOk result ((m : ℕ) → MayAsk self.old pid (asks.get serial m object offset (length into.old))
+            → IsRead self.old self.new pid serial m object offset into.old into.new) }
+        ensures err { OnErr result ((self.new ≡ self.old) × (into.new ≡ into.old)) }
+    {
+        load_model::residences_stay();
+        let place = place_with(&self.stays, serial);
+        let stay = self.stays.at(place);
+        let module = stay.module();
+        let read = read_over(self.alloc, stay, object, offset, into)?;
+        self.history.reserve(1)?;
+        into.copy_from_slice(&read);
+        self.history.push_reserved(Entry {
+            pid,
+            deed: Deed::Shared {
+                serial,
+                module,
+                object,
+                offset,
+                bytes: Seq::from_vec(read),
+            },
+        });
+        Ok(())
+    }
+}
