@@ -1,0 +1,154 @@
+-- Bytes that are copied out of pages, run by run.
+use Rattle.std.proofs.Common.{◌≡◌, ℕ, zero, suc, ◌+◌, ◌-◌, ◌*◌, ◌/◌, ◌%◌, ◌<◌, ◌≤◌, Bool, true, false, cond, List, [], ◌∷◌, map, length, Option, Some, None, get_or, inl, inr, refl, sym, ap, ◌∙◌, arith, slice_index}
+use Rattle.std.specs.Prelude.{position, is_none}
+use Rattle.std.specs.List.{find, range_with_len}
+use Rattle.std.proofs.lemmas.Bool.{cases_lt}
+use Rattle.std.proofs.lemmas.Bool.Decides.{nat_tests}
+use Rattle.std.proofs.lemmas.List.Quantifiers.{position-Some}
+use Rattle.load_model.specs.Memory.{page, pages_over}
+use Rattle.load_model.specs.Modules.{Library}
+use Rattle.lx_model.specs.Library.{module_of}
+use Rattle.load_model.specs.Standing.{Mapped, Holding}
+use Rattle.load_model.specs.ViewAnswers.{is_mapped_at, bytes_in, view_byte}
+use Rattle.write_overlay.specs.Laid.{replaced}
+use Rattle.process_view.specs.PageRows.{PagePlaces, place_in, ArePlaces}
+use Rattle.process_view.specs.Answering.{bytes_at, byte_by}
+use Rattle.process_view.specs.Reading.{AreThere}
+use Rattle.process_view.proofs.Positions.{found_at_place, at_place}
+use Rattle.process_view.proofs.Ranges.{none_found}
+use Rattle.process_view.proofs.Insides.{IsInside, page_inside}
+use Rattle.std.proofs.Common.{◌⊎◌, option_map}
+use Rattle.load_model.specs.declared.commands.Place.{Place}
+use Rattle.load_model.specs.declared.commands.Refusal.{Refusal}
+use Rattle.load_model.specs.declared.commands.Refusal.TheVariants.{Ended, NotTouched}
+use Rattle.load_model.specs.Refusals as uses
+use Rattle.load_model.specs.Refusals.{when, ◌orelse◌}
+use Rattle.load_model.specs.ViewAnswers.{view_place_refusal, view_bytes, stay_named}
+use Rattle.process_view.specs.ProcessViews.{ProcessView}
+use Rattle.process_view.specs.Kept.{residence_in}
+use Rattle.process_view.specs.declared.purposes.Purpose.TheVariants as purposes
+use Rattle.process_view.specs.declared.stays.Stay.{Stay}
+use Rattle.process_view.proofs.Lookups.{not_zero, IsStayAt, place_refused, span_is_inside}
+
+-- ---- lists by their numbers
+
+-- a list with these numbers in turn
+pub numbers_from : (f : ℕ → ℕ) (a : ℕ) (xs : List ℕ) → ((k : ℕ) → k < length xs → get_or xs k 0 ≡ f (a + k)) → xs ≡ map f (range_with_len a (length xs))
+numbers_from f a [] h = refl
+numbers_from f a (x ∷ xs) h =
+    let first : x ≡ f a = h 0 (omega arith) ∙ ap f (omega arith) in
+    let rest = numbers_from f (a + 1) xs (λ k u. h (suc k) (omega arith) ∙ ap f (omega arith)) in
+    ap (λ (y : ℕ). y ∷ xs) first ∙ ap (λ (ys : List ℕ). f a ∷ ys) rest
+
+pub map_alike_from : {X : Type 0} (f g : ℕ → X) (a n : ℕ) → ((x : ℕ) → a ≤ x → x < a + n → f x ≡ g x) → map f (range_with_len a n) ≡ map g (range_with_len a n)
+map_alike_from f g a zero h = refl
+map_alike_from f g a (suc n) h =
+    ap (λ y. y ∷ map f (range_with_len (a + 1) n)) (h a (omega arith) (omega arith)) ∙ ap (λ ys. g a ∷ ys) (map_alike_from f g (a + 1) n (λ x u v. h x (omega arith) (omega arith)))
+
+-- ---- a run
+
+in_page : (at within j : ℕ) → within ≡ at % 4096 → within + j < 4096 → ((at + j) / 4096 ≡ at / 4096) × ((at + j) % 4096 ≡ within + j)
+in_page at within j e u = (omega arith, omega arith)
+
+before_run : (place : ℕ) (run before : List ℕ) (k : ℕ) → k < place → replaced place run before k ≡ slice_index before k
+before_run place run before k u = grind (arith, nat_tests)
+
+in_run : (place : ℕ) (run before : List ℕ) (k : ℕ) → place ≤ k → k < place + length run → replaced place run before k ≡ slice_index run (k - place)
+in_run place run before k u v = grind (arith, nat_tests)
+
+-- what stands after a run was copied, as far as it goes
+pub run_copied :
+    (rows : PagePlaces) (mapped : List Mapped) (object offset done len within : ℕ) (bytes run before after : List ℕ) → within ≡ (offset + done) % 4096 → within + len ≤ 4096 →
+    bytes ≡ bytes_at mapped (place_in rows (page object ((offset + done) / 4096))) → length run ≡ len → ((j : ℕ) → j < len → slice_index run j ≡ slice_index bytes (within + j)) →
+    ((k : ℕ) → slice_index after k ≡ replaced done run before k) → ((i : ℕ) → i < done → slice_index before i ≡ byte_by rows mapped object (offset + i)) →
+    (i : ℕ) → i < done + len → slice_index after i ≡ byte_by rows mapped object (offset + i)
+run_copied rows mapped object offset done len within bytes run before after w fits is long cut put old i u = elim (cases_lt i done) as (λ _. slice_index after i ≡ byte_by rows mapped object (offset + i)) [
+  | inl earlier ↦ put i ∙ before_run done run before i earlier ∙ old i earlier
+  | inr here ↦
+      let j : ℕ = i - done in
+      let at : offset + done + (i - done) ≡ offset + i = omega arith in
+      let same = in_page (offset + done) within (i - done) w (omega arith) in
+      put i ∙ in_run done run before i here (omega (arith, long)) ∙ cut (i - done) (omega arith) ∙ ap (λ (bs : List ℕ). slice_index bs (within + (i - done))) is
+      ∙ ap (λ (q : ℕ). slice_index (bytes_at mapped (place_in rows (page object q))) (within + (i - done))) (sym same.0)
+      ∙ ap (λ (r : ℕ). slice_index (bytes_at mapped (place_in rows (page object ((offset + done + (i - done)) / 4096)))) r) (sym same.1)
+      ∙ ap (λ (x : ℕ). byte_by rows mapped object x) at
+]
+
+-- ---- all that a view has mapped
+
+none_is_none : (o : Option ℕ) → is_none o ≡ false → (k : ℕ) × (o ≡ Some k)
+none_is_none None e = absurd cc
+none_is_none (Some k) e = (k, refl)
+
+not_none : (offset len : ℕ) (p : ℕ → Bool) (x : ℕ) → find p (pages_over offset len) ≡ None → offset ≤ x → x < offset + len → p (x / 4096) ≡ false
+not_none offset zero p x e u v = absurd (omega arith)
+not_none offset (suc l) p x e u v =
+    none_found p (offset / 4096) ((offset + suc l - 1) / 4096 + 1 - offset / 4096) (x / 4096)
+    (sym (ap (λ b. find p (cond b [] (range_with_len (offset / 4096) ((offset + suc l - 1) / 4096 + 1 - offset / 4096)))) (not_zero l)) ∙ e) (omega arith) (omega arith)
+
+pub all_there :
+    (lib : Library) (m serial : ℕ) (rows : PagePlaces) (mapped : List Mapped) (object offset len : ℕ) → ArePlaces (module_of lib m) serial rows mapped → IsInside lib m object offset len →
+    find (λ n. is_none (place_in rows (page object n))) (pages_over offset len) ≡ None → AreThere rows mapped object offset len
+all_there lib m serial rows mapped object offset len are is none x u v =
+    let there = none_is_none (place_in rows (page object (x / 4096))) (not_none offset len (λ n. is_none (place_in rows (page object n))) x none u v) in
+    let before : x / 4096 * 4096 < offset + len = omega arith in
+    let at : position (is_mapped_at serial (page object (x / 4096))) mapped ≡ Some there.0 = sym (are object (x / 4096) is.there (page_inside lib m object offset len (x / 4096) is before)) ∙ there.1 in
+    (there.0, there.1, (position-Some (is_mapped_at serial (page object (x / 4096))) mapped there.0 (record { of = record { serial = 0; page = page 0 0 }; bytes = [] }) at).0)
+
+-- a byte by its place is the view's
+pub byte_of_view : (lib : Library) (m serial : ℕ) (rows : PagePlaces) (v : Holding) (object offset len x : ℕ) → ArePlaces (module_of lib m) serial rows v.mapped → IsInside lib m object offset len → offset ≤ x →
+    x < offset + len → byte_by rows v.mapped object x ≡ view_byte v serial object x
+byte_of_view lib m serial rows v object offset len x are is u w =
+    let before : x / 4096 * 4096 < offset + len = omega arith in
+    ap (λ (o : Option ℕ). slice_index (bytes_at v.mapped o) (x % 4096)) (are object (x / 4096) is.there (page_inside lib m object offset len (x / 4096) is before))
+    ∙ ap (λ (bs : List ℕ). slice_index bs (x % 4096)) (by_place (position (is_mapped_at serial (page object (x / 4096))) v.mapped))
+    ∙ ap (λ (o : Option Mapped). slice_index (bytes_in o) (x % 4096)) (sym (found_at_place (is_mapped_at serial (page object (x / 4096))) v.mapped))
+  where
+    by_place : (o : Option ℕ) → bytes_at v.mapped o ≡ bytes_in (at_place (is_mapped_at serial (page object (x / 4096))) v.mapped o)
+    by_place None = refl
+    by_place (Some k) = refl
+
+-- what is not refused to a reader lies inside, and all of it is mapped
+pub record IsReadable (w : ProcessView) (at : Place) (s : Stay) : Type 0 where
+  pub inside : IsInside w.library (residence_in s).«module» at.object at.offset at.len
+  pub mapped : find (λ n. is_none (place_in s.places (page at.object n))) (pages_over at.offset at.len) ≡ None
+
+nothing : (o p : Option Refusal) → (o orelse p) ≡ None → (o ≡ None) × (p ≡ None)
+nothing None p e = (refl, e)
+nothing (Some x) p e = absurd cc
+
+no_page : (o : Option ℕ) → option_map NotTouched o ≡ None → o ≡ None
+no_page None e = refl
+no_page (Some n) e = absurd cc
+
+pub readable_by_peek : (w : ProcessView) (at : Place) (k : ℕ) (s : Stay) → w.holding.ended ≡ false → IsStayAt w at.«module» w.library w.holding.mapped k s → view_place_refusal w.library w.holding uses.peek at ≡ None → IsReadable w at s
+readable_by_peek w at k s going is e =
+    let both = nothing _ _ (sym (place_refused w purposes.Peek at k s going is) ∙ e) in
+    record { inside = span_is_inside w.library uses.peek (residence_in s).«module» at.object at.offset at.len both.0; mapped = no_page _ both.1 }
+
+pub readable_by_share : (w : ProcessView) (at : Place) (k : ℕ) (s : Stay) → w.holding.ended ≡ false → IsStayAt w at.«module» w.library w.holding.mapped k s → view_place_refusal w.library w.holding uses.share at ≡ None →
+    IsReadable w at s
+readable_by_share w at k s going is e =
+    let both = nothing _ _ (sym (place_refused w purposes.Share at k s going is) ∙ e) in
+    record { inside = span_is_inside w.library uses.share (residence_in s).«module» at.object at.offset at.len both.0; mapped = no_page _ both.1 }
+
+still_going : (b : Bool) (p : Option Refusal) → (when b Ended orelse p) ≡ None → b ≡ false
+still_going true p e = absurd cc
+still_going false p e = refl
+
+pub is_readable : (w : ProcessView) (at : Place) (k : ℕ) (s : Stay) → IsStayAt w at.«module» w.library w.holding.mapped k s →
+    (view_place_refusal w.library w.holding uses.peek at ≡ None) ⊎ (view_place_refusal w.library w.holding uses.share at ≡ None) → IsReadable w at s
+is_readable w at k s is (inl e) = readable_by_peek w at k s (still_going w.holding.ended _ e) is e
+is_readable w at k s is (inr e) = readable_by_share w at k s (still_going w.holding.ended _ e) is e
+
+pub readable_there : (w : ProcessView) (at : Place) (k : ℕ) (s : Stay) → IsStayAt w at.«module» w.library w.holding.mapped k s → IsReadable w at s → AreThere s.places w.holding.mapped at.object at.offset at.len
+readable_there w at k s is can =
+    all_there w.library (residence_in s).«module» (residence_in s).serial s.places w.holding.mapped at.object at.offset at.len is.placed.places can.inside can.mapped
+
+pub readable_bytes : (w : ProcessView) (at : Place) (k : ℕ) (s : Stay) (n : ℕ) (into : List ℕ) → IsStayAt w at.«module» w.library w.holding.mapped k s → IsReadable w at s → n ≡ at.len →
+    into ≡ map (byte_by s.places w.holding.mapped at.object) (range_with_len at.offset n) → into ≡ view_bytes w.holding at (stay_named w.library w.holding at.«module»)
+readable_bytes w at k s n into is can long e =
+    e ∙ ap (λ (l : ℕ). map (byte_by s.places w.holding.mapped at.object) (range_with_len at.offset l)) long
+    ∙ map_alike_from (byte_by s.places w.holding.mapped at.object) (view_byte w.holding (residence_in s).serial at.object) at.offset at.len
+      (λ x u v. byte_of_view w.library (residence_in s).«module» (residence_in s).serial s.places w.holding at.object at.offset at.len x is.placed.places can.inside u v)
+    ∙ sym (ap (view_bytes w.holding at) is.stay)

@@ -1,0 +1,199 @@
+-- Shared bytes that a process reads: what its own pages hold lies under the writes that all share.
+use Rattle.std.proofs.Common.{◌≡◌, ℕ, ◌+◌, ◌/◌, ◌%◌, ◌<◌, ◌==◌, ◌&&◌, ◌||◌, Bool, true, false, cond, not, List, [], ◌∷◌, ◌++◌, map, length, Option, Some, None, get_or, slice_index, refl, sym, ap, subst, ◌∙◌, arith}
+use Rattle.std.specs.List.{AllByRecursion, find, list_any, range_with_len}
+use Rattle.std.proofs.lemmas.Bool.Decides.{nat_tests}
+use Rattle.lx_types.specs.declared.object.PageId.{PageId}
+use Rattle.lx_types.specs.declared.object.Class.{Class}
+use Rattle.lx_types.specs.declared.object.Class.TheVariants as classes
+use Rattle.lx_types.specs.Object.{class_of}
+use Rattle.lx_types.specs.Parts.{object_of}
+use Rattle.lx_model.specs.Library.{module_of}
+use Rattle.std.proofs.lemmas.List.{get_or_default}
+use Rattle.page_frames.specs.Residences.{ResidenceFor}
+use Rattle.load_model.specs.declared.commands.Command.TheVariants as commands
+use Rattle.load_model.specs.declared.commands.Place.{Place}
+use Rattle.load_model.specs.declared.deeds.Entry.{Entry}
+use Rattle.load_model.specs.Modules.{Library, fixed_bytes, object_at}
+use Rattle.load_model.specs.State.{PageOf, Residence, pids, is_among, attached_residence}
+use Rattle.load_model.specs.Memory.{page, is_page, pages_over, bases_seen}
+use Rattle.load_model.specs.Refusals as uses
+use Rattle.load_model.specs.Refusals.{span_refusal, class_refusal}
+use Rattle.load_model.specs.Asks.{get, deed_of, may_ask, is_attached, is_serial}
+use Rattle.load_model.specs.Step.{ask_by, meant}
+use Rattle.load_model.specs.Laws.{ResidenceStays}
+use Rattle.load_model.specs.Alike.{BasesSeenStay}
+use Rattle.load_model.specs.Touched.{has_page}
+use Rattle.load_model.specs.Standing.{Mapped, mapped_pages, lying_byte, IsMapped, state_for}
+use Rattle.load_model.specs.ViewAnswers.{view_refusal, view_place_refusal, is_mapped_at, bytes_in, view_byte, view_bytes, stay_named}
+use Rattle.load_model.specs.ViewLaws.{StandsQuiet}
+use Rattle.load_model.specs.Outcomes.{done, is_done}
+use Rattle.load_model.proofs.Bools.{and_left, and_right}
+use Rattle.load_model.proofs.SerialsOwn.{serials_are_own}
+use Rattle.load_core.specs.Ledger.{Ledger, IsLegal, MayAsk, state_of, entry_of, with_entry}
+use Rattle.load_core.specs.Told.{fixed_run, read_run}
+use Rattle.process_view.specs.ProcessViews.{ProcessView, StandsAt, at_front}
+use Rattle.process_view.specs.Answering.{IsStayNamed}
+use Rattle.process_view.specs.Deeds.{Did, IsAskedAt, bytes_read}
+use Rattle.process_view.proofs.Accepting.{IsAccepted, IsMeant, accepted, place_meant}
+use Rattle.process_view.proofs.Copies.{map_alike_from}
+use Rattle.process_view.proofs.Did.{by_stay, found_none, no_page, nothing, still_going, did_quiet}
+use Rattle.process_view.proofs.Lookups.{place_by_residence, span_is_inside}
+use Rattle.process_view.proofs.PagesStanding.{IsAttached, attached, attached_there, module_is, over_at}
+use Rattle.process_view.proofs.Positions.{any_map}
+
+-- ---- a mapped page
+
+some_finds : (p : Mapped → Bool) (xs : List Mapped) (P : Mapped → Type 0) → list_any p xs ≡ true → AllByRecursion P xs → (y : Mapped) × (find p xs ≡ Some y) × (p y ≡ true) × P y
+some_finds p [] P e all = absurd cc
+some_finds p (x ∷ xs) P e all = by_test (p x) refl (λ u. some_finds p xs P u all.1)
+  where
+    by_test : (b : Bool) → p x ≡ b → (list_any p xs ≡ true → (y : Mapped) × (find p xs ≡ Some y) × (p y ≡ true) × P y) → (y : Mapped) × (find p (x ∷ xs) ≡ Some y) × (p y ≡ true) × P y
+    by_test true is later = (x, ap (λ b. cond b (Some x) (find p xs)) is, is, all.0)
+    by_test false is later =
+        let rest = later (sym (ap (λ b. b || list_any p xs) is) ∙ e) in
+        (rest.0, ap (λ b. cond b (Some x) (find p xs)) is ∙ rest.1, rest.2, rest.3)
+
+same_page : (a b : PageId) → is_page a b ≡ true → (a.object ≡ b.object) × (a.page ≡ b.page)
+same_page a b e = grind (arith, nat_tests)
+
+same_number : (a b : ℕ) → (a == b) ≡ true → a ≡ b
+same_number a b e = grind (arith, nat_tests)
+
+-- a byte of a shared page that is mapped
+shared_byte : (b : Ledger) (v : ProcessView) (r : ResidenceFor) (a : Residence) (object x : ℕ) → IsLegal b → StandsAt b v → IsAttached b v r a → has_page (mapped_pages v.holding) r.serial (page object (x / 4096)) ≡ true →
+    x < (object_at b.library r.«module» object).size → class_of (object_at b.library r.«module» object) ≡ classes.Shared →
+    view_byte v.holding r.serial object x ≡ fixed_bytes b.library r.«module» (bases_seen b.library (state_of b) r.«module») object x
+shared_byte b v r a object x legal at own there inside class =
+    let lib = b.library in
+    let e = state_of b in
+    let q = page object (x / 4096) in
+    let some : list_any (is_mapped_at r.serial q) v.holding.mapped ≡ true =
+        sym (any_map (λ (t : PageOf). (t.serial == r.serial) && is_page t.page q) (λ (p : Mapped). p.of) v.holding.mapped) ∙ there
+    in
+    let it = some_finds (is_mapped_at r.serial q) v.holding.mapped (IsMapped lib (fixed_bytes lib) e v.holding.pid) some at.stands.view.mapped in
+    let p = it.0 in
+    let is = it.3 in
+    let serial : p.of.serial ≡ r.serial = same_number p.of.serial r.serial (and_left (p.of.serial == r.serial) (is_page p.of.page q) it.2) in
+    let pages = same_page p.of.page q (and_right (p.of.serial == r.serial) (is_page p.of.page q) it.2) in
+    let same : is.residence ≡ a =
+        serials_are_own lib b.failing (fixed_bytes lib) b.history is.residence.«module» r.«module» is.residence a legal (attached_there lib e v.holding.pid is.residence.«module» is.residence is.there)
+        (attached_there lib e v.holding.pid r.«module» a own.there) (sym is.serial ∙ serial ∙ sym own.serial)
+    in
+    let number : is.residence.«module» ≡ r.«module» = ap (λ (z : Residence). z.«module») same ∙ own.«module» in
+    let size : x < (object_at lib is.residence.«module» p.of.page.object).size =
+        let S : ℕ → ℕ → Type 0 = λ m o. x < (object_at lib m o).size in
+        let T : ℕ → Type 0 = λ m. S m p.of.page.object in
+        subst T (sym number) (subst (S r.«module») (sym pages.0) inside)
+    in
+    let shared : class_of (object_at lib is.residence.«module» p.of.page.object) ≡ classes.Shared =
+        ap (λ (m : ℕ). class_of (object_at lib m p.of.page.object)) number ∙ ap (λ (o : ℕ). class_of (object_at lib r.«module» o)) pages.0 ∙ class
+    in
+    ap (λ (o : Option Mapped). slice_index (bytes_in o) (x % 4096)) it.1 ∙ is.bytes x (sym pages.1) size
+    ∙ ap (λ (c : Class). lying_byte c lib (fixed_bytes lib) e v.holding.pid is.residence p.of.page.object x) shared
+    ∙ ap (λ (m : ℕ). fixed_bytes lib m (bases_seen lib e m) p.of.page.object x) number ∙ ap (λ (o : ℕ). fixed_bytes lib r.«module» (bases_seen lib e r.«module») o x) pages.0
+
+-- ---- all of a place
+
+pub refused_share : (v : ProcessView) (at : Place) → view_refusal v.library v.holding (commands.Shared at) ≡ None → view_place_refusal v.library v.holding uses.share at ≡ None
+unfolding view_refusal
+refused_share v at e = e
+
+pub shared_refusal : (v : ProcessView) (at : Place) → view_refusal v.library v.holding (commands.Shared at) ≡ None → view_place_refusal v.library v.holding uses.share at ≡ None
+shared_refusal = refused_share
+
+only_shared : (c : Class) → class_refusal uses.share c ≡ None → c ≡ classes.Shared
+only_shared classes.Code e = absurd cc
+only_shared classes.Private e = absurd cc
+only_shared classes.Shared e = refl
+
+span_share : (v : ProcessView) (at : Place) (k : ℕ) (d : ResidenceFor) → view_place_refusal v.library v.holding uses.share at ≡ None → IsStayNamed v at.«module» k → span_refusal v.library uses.share (get_or v.residences k d).«module» at.object at.offset at.len ≡ None
+span_share v at k d e is = (nothing _ _ (sym (place_by_residence v uses.share at (get_or v.residences k d) (still_going v.holding.ended _ e) (is.stay d)) ∙ e)).0
+
+class_share : (lib : Library) (m object offset len : ℕ) → span_refusal lib uses.share m object offset len ≡ None → class_of (object_at lib m object) ≡ classes.Shared
+unfolding span_refusal
+class_share lib m object offset len e = only_shared _ (nothing _ _ (nothing _ _ e).1).0
+
+module_asked : (b : Ledger) (v : ProcessView) (r : ResidenceFor) (a : Residence) (q s m object offset len : ℕ) → IsLegal b → IsAttached b v r a → q ≡ v.holding.pid → s ≡ r.serial → MayAsk b q (get s m object offset len) → m ≡ r.«module»
+unfolding may_ask
+module_asked b v r a q s m object offset len legal own pid serial may =
+    let P : ℕ → Type 0 = λ n. is_serial s (attached_residence b.library (state_of b) n m) ≡ true in
+    let at : is_serial s (attached_residence b.library (state_of b) v.holding.pid m) ≡ true = subst P pid (and_left (is_attached b.library (state_of b) q s m) _ (and_right (not ((state_of b).processes q).ended) _ may)) in
+    by_residence (attached_residence b.library (state_of b) v.holding.pid m) refl at
+  where
+    by_residence : (o : Option Residence) → attached_residence b.library (state_of b) v.holding.pid m ≡ o → is_serial s o ≡ true → m ≡ r.«module»
+    by_residence None e h = absurd cc
+    by_residence (Some z) e h =
+        let same : z ≡ a =
+            serials_are_own b.library b.failing (fixed_bytes b.library) b.history m r.«module» z a legal (attached_there b.library (state_of b) v.holding.pid m z e)
+            (attached_there b.library (state_of b) v.holding.pid r.«module» a own.there) (same_number z.serial s h ∙ serial ∙ sym own.serial)
+        in
+        sym (module_is b.library (state_of b) v.holding.pid m z e) ∙ ap (λ (y : Residence). y.«module») same ∙ own.«module»
+
+inside_size : (lib : Library) (m object x : ℕ) → x < (object_of (module_of lib m) object).size → x < (object_at lib m object).size
+unfolding object_at
+inside_size lib m object x u = u
+
+pub shared_fixed : (b : Ledger) (v : ProcessView) (at : Place) (k : ℕ) (d : ResidenceFor) (q s m n : ℕ) (into : List ℕ) → IsAskedAt b v (commands.Shared at) at k → q ≡ v.holding.pid → s ≡ (get_or v.residences k d).serial → n ≡ at.len →
+    into ≡ view_bytes v.holding at (stay_named v.library v.holding at.«module») → MayAsk b q (get s m at.object at.offset n) → into ≡ fixed_run b m at.object at.offset n
+shared_fixed b v at k d q s m n into is pid serial long copied may =
+    let r = get_or v.residences k d in
+    let here : r ≡ get_or v.residences k r = get_or_default v.residences k d r is.stay.within in
+    let own = attached b v k r is.stands is.stay.within here in
+    let number = module_asked b v r own.0 q s m at.object at.offset n is.legal own.1 pid serial may in
+    let e = refused_share v at is.accepted in
+    let span = span_share v at k d e is.stay in
+    let inside = span_is_inside v.library uses.share r.«module» at.object at.offset at.len span in
+    let class : class_of (object_at b.library r.«module» at.object) ≡ classes.Shared = ap (λ (l : Library). class_of (object_at l r.«module» at.object)) (sym is.stands.library) ∙ class_share v.library r.«module» at.object at.offset at.len span in
+    let size : (x : ℕ) → x < at.offset + at.len → x < (object_at b.library r.«module» at.object).size = λ x u.
+        let S : Library → Type 0 = λ l. x < (object_at l r.«module» at.object).size in subst S is.stands.library (inside_size v.library r.«module» at.object x (omega (arith, u, inside.within))) in
+    let all = found_none (λ i. has_page (mapped_pages v.holding) r.serial (page at.object i)) (pages_over at.offset at.len) (no_page _ (by_stay v uses.share at k d e is.stay)) in
+    copied ∙ ap (view_bytes v.holding at) (is.stay.stay d)
+    ∙ map_alike_from (view_byte v.holding r.serial at.object) (fixed_bytes b.library r.«module» (bases_seen b.library (state_of b) r.«module») at.object) at.offset at.len
+      (λ x u w. shared_byte b v r own.0 at.object x is.legal is.stands own.1 (over_at (λ i. has_page (mapped_pages v.holding) r.serial (page at.object i)) at.offset at.len x all u w) (size x w) class)
+    ∙ ap (λ (l : ℕ). map (fixed_bytes b.library r.«module» (bases_seen b.library (state_of b) r.«module») at.object) (range_with_len at.offset l)) (sym long)
+    ∙ ap (λ (j : ℕ). map (fixed_bytes b.library j (bases_seen b.library (state_of b) j) at.object) (range_with_len at.offset n)) (sym number)
+
+-- ---- the deed
+
+asked_shared : (b : Ledger) (v : ProcessView) (at : Place) (r : ResidenceFor) → IsMeant b v at r →
+    ask_by b.library (state_for b.library b.failing v.holding b.history) v.holding.pid (commands.Shared at) ≡ Some (get r.serial r.«module» at.object at.offset at.len)
+asked_shared b v at r is =
+    ap (λ (n : ℕ). Some (get n (meant b.library at.«module») at.object at.offset at.len)) is.serial ∙ ap (λ (m : ℕ). Some (get r.serial m at.object at.offset at.len)) is.«module»
+
+pub accepted_shared : (b : Ledger) (v : ProcessView) (at : Place) (k : ℕ) (d : ResidenceFor) → is_among pids v.holding.pid ≡ true → IsAskedAt b v (commands.Shared at) at k →
+    IsAccepted b v (get (get_or v.residences k d).serial (get_or v.residences k d).«module» at.object at.offset at.len)
+accepted_shared b v at k d process is = accepted b v (commands.Shared at) _ process is.stands is.accepted tt (asked_shared b v at (get_or v.residences k d) (place_meant b v at k d is.stands is.stay))
+
+pub did_shared : ResidenceStays → BasesSeenStay → StandsQuiet → (b : Ledger) (v : ProcessView) (at : Place) (k : ℕ) (d : ResidenceFor) → is_among pids v.holding.pid ≡ true → IsAskedAt b v (commands.Shared at) at k →
+    Did b (with_entry b (entry_of b v.holding.pid (get (get_or v.residences k d).serial (get_or v.residences k d).«module» at.object at.offset at.len))) v
+    (at_front (length (b.history ++ entry_of b v.holding.pid (get (get_or v.residences k d).serial (get_or v.residences k d).«module» at.object at.offset at.len) ∷ [])) v)
+    (commands.Shared at) (done (length (b.history ++ entry_of b v.holding.pid (get (get_or v.residences k d).serial (get_or v.residences k d).«module» at.object at.offset at.len) ∷ [])))
+unfolding deed_of
+did_shared still bases quiet b v at k d process is =
+    let r = get_or v.residences k d in
+    did_quiet still bases quiet b v (commands.Shared at) (get r.serial r.«module» at.object at.offset at.len) _ is.legal is.stands (accepted_shared b v at k d process is)
+    (asked_shared b v at r (place_meant b v at k d is.stands is.stay)) tt (is_done tt) refl
+
+pub may_get : (b : Ledger) (pid q serial s m object offset len n : ℕ) → MayAsk b pid (get serial m object offset len) → q ≡ pid → s ≡ serial → n ≡ len → MayAsk b q (get s m object offset n)
+may_get b pid q serial s m object offset len n may e f g =
+    let P : ℕ → Type 0 = λ i. MayAsk b i (get s m object offset n) in
+    let S : ℕ → Type 0 = λ i. MayAsk b pid (get i m object offset n) in
+    let L : ℕ → Type 0 = λ i. MayAsk b pid (get serial m object offset i) in
+    subst P (sym e) (subst S (sym f) (subst L (sym g) may))
+
+-- the entry tells what was read
+pub read_in : (b : Ledger) (pid serial m object offset len : ℕ) → read_run b pid m object offset len ≡ bytes_read (entry_of b pid (get serial m object offset len)).deed
+unfolding deed_of
+read_in b pid serial m object offset len = refl
+
+-- one history, one last entry
+abbrev last_of : Entry → List Entry → Entry
+last_of d [] = d
+last_of d (x ∷ xs) = last_of x xs
+
+last_is : (d x : Entry) (xs : List Entry) → last_of d (xs ++ x ∷ []) ≡ x
+last_is d x [] = refl
+last_is d x (y ∷ ys) = last_is y x ys
+
+pub same_last : (xs : List Entry) (x y : Entry) → (xs ++ x ∷ []) ≡ (xs ++ y ∷ []) → x ≡ y
+same_last xs x y e = sym (last_is x x xs) ∙ ap (last_of x) e ∙ last_is x y xs

@@ -1,0 +1,5 @@
+use Rattle.process_view.proofs.PagesStanding as pages
+use Rattle.process_view.proofs.laws.pages_stand.Goals as goal
+
+pub returns : goal.returns
+returns c = pages.pages_stand

@@ -1,0 +1,37 @@
+use Rattle.std.proofs.Common.{◌≡◌, ◌<◌, List, length, false, sym, subst}
+use Rattle.std.specs.Prelude.{All}
+use Rattle.std.specs.Arc.{arc_value}
+use Rattle.std.proofs.lemmas.List.Elements.{All-push}
+use Rattle.lx_types.specs.declared.object.PageId.{PageId}
+use Rattle.lx_model.specs.Library.{module_of}
+use Rattle.load_model.specs.Standing.{mapped_pages}
+use Rattle.load_model.specs.Touched.{has_page}
+use Rattle.process_view.specs.PageRows.{HaveNone}
+use Rattle.process_view.specs.ProcessViews.{ProcessView}
+use Rattle.process_view.specs.Kept.{residences_in, IsPlaced, AreApart}
+use Rattle.process_view.specs.declared.stays.Stay.{Stay}
+use Rattle.process_view.proofs.Keeping.{placed_none, apart_more}
+use Rattle.process_view.proofs.view.View.keep_stay.Goals as goal
+
+pub invariant_of-self : goal.invariant_of-self
+invariant_of-self c =
+    let lib = arc_value c.self.inside.lib in
+    let stays = c.self.inside.stays.items in
+    let pages = c.self.inside.pages.items in
+    let r = arc_value c.args.residence in
+    let s : Stay = record { residence = c.args.residence; places = c.args.places } in
+    let W : ProcessView → Type 0 = λ v. r.«module» < length v.library in
+    let N : ProcessView → Type 0 = λ v. HaveNone (module_of v.library r.«module») c.args.places in
+    let U : ProcessView → Type 0 = λ v. (p : PageId) → has_page (mapped_pages v.holding) r.serial p ≡ false in
+    let A : ProcessView → Type 0 = λ v. All (λ q. q.serial ≡ r.serial → ⊥) v.residences in
+    let placed = placed_none lib pages s (subst W (sym c.self.view_is) c.requires.within) (subst N (sym c.self.view_is) c.requires.none) (subst U (sym c.self.view_is) c.requires.unmapped) in
+    let apart = apart_more stays s c.self.invariant.apart (subst A (sym c.self.view_is) c.requires.apart) in
+    let P : List Stay → Type 0 = λ xs. All (IsPlaced lib pages) xs in
+    let Q : List Stay → Type 0 = λ xs. AreApart (residences_in xs) in
+    record {
+      process = c.self.invariant.process;
+      loads = c.self.invariant.loads;
+      reached = c.self.invariant.reached;
+      placed = subst P (sym c.push_reserved.ensures.items) (All-push (IsPlaced lib pages) stays s c.self.invariant.placed placed);
+      apart = subst Q (sym c.push_reserved.ensures.items) apart;
+    }

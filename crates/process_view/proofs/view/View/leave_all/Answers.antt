@@ -1,0 +1,22 @@
+use Rattle.std.proofs.Common.{[], sym, subst}
+use Rattle.std.specs.Arc.{arc_value}
+use Rattle.load_model.specs.State.{nothing_yet}
+use Rattle.load_model.specs.Rows.{IsRowOf}
+use Rattle.process_view.specs.ProcessViews.{ProcessView}
+use Rattle.process_view.specs.Kept.{IsPlaced}
+use Rattle.process_view.proofs.Left.{all_nothing, apart_nothing}
+use Rattle.process_view.proofs.view.View.leave_all.Goals as goal
+
+pub invariant_of-self : goal.invariant_of-self
+invariant_of-self c =
+    let p = c.requires.0 in
+    let R : ProcessView → Type 0 = λ v. IsRowOf v.library p v.holding.row in
+    let row = subst R (sym c.self.view_is) c.requires.1 in
+    let next = c.exit.ensures (arc_value c.self.inside.lib) p (nothing_yet []) row in
+    record {
+      process = c.self.invariant.process;
+      loads = next.loads_are;
+      reached = next.reached_are;
+      placed = all_nothing (IsPlaced (arc_value c.self.inside.lib) c.clear-2.new.self.items) c.clear.new.self.items c.clear.ensures.items;
+      apart = apart_nothing c.clear.new.self.items c.clear.ensures.items;
+    }

@@ -1,0 +1,63 @@
+-- What a view finds by its arrays.
+use Rattle.std.specs.Prelude.{◌≡◌, ℕ, ◌<◌, ◌/◌, ◌%◌, ◌==◌, List, [], length, find, Option, Some, None, option_map, is_none, slice_get, slice_index, slice_index_or}
+use Rattle.lx_types.specs.declared.object.TheConstants.{PAGE_SIZE}
+use Rattle.page_frames.specs.Residences.{ResidenceFor}
+use Rattle.load_model.specs.declared.commands.Command.{Command}
+use Rattle.load_model.specs.declared.commands.Command.TheVariants as commands
+use Rattle.load_model.specs.declared.commands.Place.{Place}
+use Rattle.load_model.specs.declared.commands.Refusal.{Refusal}
+use Rattle.load_model.specs.declared.commands.Refusal.TheVariants.{NotTouched}
+use Rattle.load_model.specs.declared.deeds.How.{How}
+use Rattle.load_model.specs.declared.deeds.How.TheVariants as ways
+use Rattle.lx_model.specs.Fixed.{base_of}
+use Rattle.load_model.specs.Modules.{Spot, number_of}
+use Rattle.load_model.specs.Memory.{page, pages_over}
+use Rattle.load_model.specs.Entering.{residence_from}
+use Rattle.load_model.specs.Standing.{Mapped}
+use Rattle.load_model.specs.ViewAnswers.{bytes_in, stay_named}
+use Rattle.process_view.specs.declared.purposes.Purpose.{Purpose}
+use Rattle.process_view.specs.declared.purposes.Purpose.TheVariants as purposes
+use Rattle.process_view.specs.PageRows.{PagePlaces, place_in}
+use Rattle.process_view.specs.ProcessViews.{ProcessView, fresh_shown}
+
+-- a start or a load, by name
+abbrev pub enter_command : How → List ℕ → Command
+enter_command ways.Start name = commands.Start name
+enter_command ways.Load name = commands.Load name
+
+-- The k-th residence that the process reaches is that of the module which a name means.
+pub record IsStayNamed (v : ProcessView) (name : List ℕ) (k : ℕ) : Type 0 where
+  pub within : k < length v.residences
+  pub named : (d : ResidenceFor) → number_of v.library name ≡ Some (slice_index_or v.residences k d).«module»
+  pub stay : (d : ResidenceFor) → stay_named v.library v.holding name ≡ Some (residence_from (fresh_shown (slice_index_or v.residences k d)))
+
+-- the residence of a module, among those of a process
+abbrev pub residence_with : List ResidenceFor → ℕ → Option ResidenceFor
+residence_with rs m = find (λ r. r.«module» == m) rs
+
+-- the base of the object of a spot, in its module's residence
+abbrev pub base_if : Spot → Option ResidenceFor → ℕ
+base_if spot None = 0
+base_if spot (Some r) = base_of r.bases r.«module» spot.object
+
+-- ---- pages by their places
+
+-- the refusal of a place whose pages have these places
+abbrev pub unmapped_refusal : PagePlaces → Place → Option Refusal
+unmapped_refusal rows at = option_map NotTouched (find (λ n. is_none (place_in rows (page at.object n))) (pages_over at.offset at.len))
+
+abbrev pub touch_refusal_by : Purpose → PagePlaces → Place → Option Refusal
+touch_refusal_by purposes.Touch rows at = None
+touch_refusal_by purposes.Write rows at = unmapped_refusal rows at
+touch_refusal_by purposes.Share rows at = unmapped_refusal rows at
+touch_refusal_by purposes.Peek rows at = unmapped_refusal rows at
+touch_refusal_by purposes.Debug rows at = unmapped_refusal rows at
+
+-- the bytes of the page at a place
+abbrev pub bytes_at : List Mapped → Option ℕ → List ℕ
+bytes_at mapped None = []
+bytes_at mapped (Some k) = bytes_in (slice_get mapped k)
+
+-- a byte of an object
+abbrev pub byte_by : PagePlaces → List Mapped → ℕ → ℕ → ℕ
+byte_by rows mapped object x = slice_index (bytes_at mapped (place_in rows (page object (x / PAGE_SIZE)))) (x % PAGE_SIZE)

@@ -1,0 +1,146 @@
+-- What a view does with a board.
+use Rattle.std.specs.Prelude.{◌≡◌, ◌<◌, ℕ, ◌-◌, List, [], ◌∷◌, ◌++◌, length, map, slice_index_or, Result, Ok, Err, Some, None, true, false, ◌^◌}
+use Rattle.lx_types.specs.declared.object.PageId.{PageId}
+use Rattle.lx_types.specs.Object.{pages_of}
+use Rattle.lx_types.specs.Parts.{object_of}
+use Rattle.lx_types.specs.Sound.{IsNumberOf}
+use Rattle.lx_model.specs.Library.{module_of}
+use Rattle.lx_model.specs.ModuleBytes.{fixed_page}
+use Rattle.page_fix.specs.Fixable.{is_fixable}
+use Rattle.load_model.specs.Touched.{has_page}
+use Rattle.page_frames.specs.Residences.{ResidenceFor}
+use Rattle.load_model.specs.declared.commands.Command.{Command}
+use Rattle.load_model.specs.Modules.{fixed_bytes}
+use Rattle.load_model.specs.Asks.{Ask}
+use Rattle.load_model.specs.declared.deeds.Deed.{Deed}
+use Rattle.load_model.specs.declared.deeds.Deed.TheVariants as deeds
+use Rattle.load_model.specs.declared.deeds.Entry.{Entry}
+use Rattle.load_model.specs.State.{Written}
+use Rattle.load_model.specs.ViewLaws.{written_over}
+use Rattle.load_model.specs.Step.{ask_by}
+use Rattle.load_model.specs.Histories.{Follows, has_fault}
+use Rattle.load_model.specs.Touched.{touched_behind}
+use Rattle.load_model.specs.Standing.{Mapped, mapped_pages, state_for}
+use Rattle.load_model.specs.Outcomes.{Outcome, done, told, IsTold}
+use Rattle.lx_types.specs.declared.fail.Fail.{Fail}
+use Rattle.lx_types.specs.declared.fail.Fail.TheVariants.{Said, NoMemory}
+use Rattle.load_model.specs.declared.commands.Refusal.{Refusal}
+use Rattle.load_model.specs.declared.commands.Reply.TheVariants.{Refused}
+use Rattle.lx_types.specs.declared.object.Class.{Class}
+use Rattle.lx_types.specs.Object.{class_of}
+use Rattle.load_model.specs.declared.commands.Place.{Place}
+use Rattle.load_model.specs.Modules.{object_at}
+use Rattle.load_model.specs.ViewAnswers.{view_refusal}
+use Rattle.process_view.specs.Answering.{IsStayNamed}
+use Rattle.load_core.specs.Ledger.{Ledger, IsLegal, state_of, entry_of, with_entry, Adds}
+use Rattle.load_core.specs.declared.answers.Claim.{Claim}
+use Rattle.load_core.specs.declared.answers.Claim.TheVariants as claims
+use Rattle.process_view.specs.ProcessViews.{ProcessView, StandsAt, without_room, fresh_shown, at_front}
+
+-- a page of a residence, with bytes
+abbrev pub page_with : ResidenceFor → PageId → List ℕ → Mapped
+page_with r p bytes = record { of = record { serial = r.serial; page = p }; bytes = bytes }
+
+-- the view with one page more, in its room
+abbrev pub with_page : ResidenceFor → PageId → List ℕ → ProcessView → ProcessView
+with_page r p bytes v = record v { holding = record v.holding { mapped = v.holding.mapped ++ page_with r p bytes ∷ [] }; page_room = v.page_room - 1 }
+
+-- The command has its entry, which follows the history, and which the caller is told of by its number; the view stands for
+-- all of it, and has mapped what its process has then touched.
+pub record Did (b c : Ledger) (v w : ProcessView) (command : Command) (outcome : Outcome) : Type 0 where
+  pub ask : Ask
+  pub asked : ask_by b.library (state_for b.library b.failing v.holding b.history) v.holding.pid command ≡ Some ask
+  pub adds : Adds b c v.holding.pid ask
+  pub follows : Follows b.library b.failing (fixed_bytes b.library) b.history (entry_of b v.holding.pid ask)
+  pub told : IsTold (length c.history) (entry_of b v.holding.pid ask).deed outcome
+  pub stands : StandsAt c w
+  pub library : w.library ≡ v.library
+  pub pid : w.holding.pid ≡ v.holding.pid
+  pub mapped : mapped_pages w.holding ≡ touched_behind b.library (state_of b) v.holding.pid (entry_of b v.holding.pid ask).deed (λ _. mapped_pages v.holding) v.holding.pid
+
+-- nothing was done, but that there may be more room
+abbrev pub IsIdle : Ledger → Ledger → ProcessView → ProcessView → Type 0
+IsIdle b c v w = (c ≡ b) × (without_room w ≡ without_room v)
+
+-- the view with a residence more, in its room
+abbrev pub with_stay : ResidenceFor → ProcessView → ProcessView
+with_stay r v = record v { holding = record v.holding { stays = map fresh_shown (v.residences ++ r ∷ []) }; residences = v.residences ++ r ∷ []; stay_room = v.stay_room - 1 }
+
+-- What a deed comes to: it is done; or its entry says why it is not; or no memory was found.
+abbrev pub IsDone : Ledger → Ledger → ProcessView → ProcessView → Command → Result Unit (Fail Refusal) → Type 0
+IsDone b c v w command (Ok _) = Did b c v w command (done (length c.history))
+IsDone b c v w command (Err (Said refusal)) = Did b c v w command (told (Refused refusal))
+IsDone b c v w command (Err NoMemory) = IsIdle b c v w
+
+-- ---- pages
+
+-- A page of a residence that the view has not mapped: its module has it, and a page has 20 bits.
+pub record CanMap (v : ProcessView) (r : ResidenceFor) (p : PageId) : Type 0 where
+  pub object : IsNumberOf p.object (length (module_of v.library r.«module»).objects)
+  pub page : p.page < pages_of (object_of (module_of v.library r.«module») p.object)
+  pub small : p.page < 2 ^ 20
+  pub apart : has_page (mapped_pages v.holding) r.serial p ≡ false
+  pub library : r.library ≡ v.library
+
+-- all processes share it
+abbrev pub IsCommonPage : ProcessView → ResidenceFor → PageId → Type 0
+IsCommonPage v r p = is_fixable (module_of v.library r.«module») p ≡ true
+
+-- It is mapped now as its fixups leave it, and nothing else has changed.
+abbrev pub IsFixedIn : ProcessView → ProcessView → ResidenceFor → PageId → Type 0
+IsFixedIn v w r p = w ≡ with_page r p (fixed_page v.library r.«module» r.bases p) v
+
+-- the entry of its fault
+abbrev pub fault_of : ProcessView → ResidenceFor → PageId → Entry
+fault_of v r p = record { pid = v.holding.pid; deed = deeds.Fault r.serial r.«module» p }
+
+-- What a claim comes to: the right to fix the page, whose fault has its entry now; or it had its fault, and nothing was done.
+abbrev pub IsClaimedIn : Ledger → Ledger → ProcessView → ProcessView → ResidenceFor → PageId → Claim → Type 0
+IsClaimedIn b c v w r p (claims.Right right) =
+    (right ≡ record { serial = r.serial; page = p }) × (c ≡ with_entry b (fault_of v r p))
+    × Follows b.library b.failing (fixed_bytes b.library) b.history (fault_of v r p) × (w ≡ at_front (length c.history) v) × StandsAt c w
+IsClaimedIn b c v w r p claims.Taken = (c ≡ b) × (w ≡ v) × (has_fault b.history r.serial p ≡ true)
+
+-- ---- writes
+
+-- the view with a write in the pages of a residence
+abbrev pub with_write : ℕ → Written → ProcessView → ProcessView
+with_write serial w v = record v { holding = record v.holding { mapped = map (written_over serial w) v.holding.mapped } }
+
+-- ---- commands of a place
+
+-- The view stands for all that was done on the board, and does not refuse the command of a place, which lies in the k-th
+-- residence.
+pub record IsAskedAt (b : Ledger) (v : ProcessView) (command : Command) (at : Place) (k : ℕ) : Type 0 where
+  pub legal : IsLegal b
+  pub stands : StandsAt b v
+  pub accepted : view_refusal v.library v.holding command ≡ None
+  pub stay : IsStayNamed v at.«module» k
+
+-- the write is to the place
+pub record IsWriteTo (at : Place) (w : Written) : Type 0 where
+  pub object : w.object ≡ at.object
+  pub offset : w.offset ≡ at.offset
+  pub len : length w.bytes ≡ at.len
+
+-- the place lies in an object of this class
+abbrev pub IsInClass : ProcessView → ℕ → Place → Class → Type 0
+IsInClass v k at class = (d : ResidenceFor) → class_of (object_at v.library (slice_index_or v.residences k d).«module» at.object) ≡ class
+
+-- ---- reads
+
+-- the bytes that an entry tells which were read
+abbrev pub bytes_read : Deed → List ℕ
+bytes_read (deeds.Shared serial m object offset bytes) = bytes
+bytes_read (deeds.Enter how m fresh calls) = []
+bytes_read (deeds.Full how m of object size) = []
+bytes_read (deeds.Failed how m by fresh calls gone) = []
+bytes_read (deeds.Free m calls gone) = []
+bytes_read (deeds.Exit calls gone) = []
+bytes_read (deeds.Fault serial m p) = []
+bytes_read (deeds.Write serial m object offset bytes) = []
+bytes_read (deeds.Debug serial m object offset bytes) = []
+
+-- they are those of the entry that a board has more than before
+abbrev pub IsLastRead : Ledger → Ledger → List ℕ → Type 0
+IsLastRead b c bytes = (x : Entry) → c.history ≡ b.history ++ x ∷ [] → bytes ≡ bytes_read x.deed

@@ -1,0 +1,22 @@
+//! A process's own view of a loader: what it asks without an entry in the history is answered from there.
+#![tactic(auto)]
+
+mod claiming;
+mod doing;
+mod entering;
+mod laws;
+mod leaving;
+mod own_page;
+mod page_rows;
+mod purposes;
+mod reading;
+mod refusing;
+mod spans;
+mod stays;
+mod touching;
+mod view;
+mod writing;
+
+pub use laws::pages_stand;
+pub use purposes::Purpose;
+pub use view::View;

@@ -1,0 +1,231 @@
+//! What a view answers by itself: bytes of its own pages, addresses and resources.
+
+ghost use Rattle.std.specs.Prelude.{◌≡◌, ◌≤◌, ◌<◌, ◌+◌, ◌-◌, ◌==◌, ◌⊎◌, slice_index_or, ℕ, Ok, Some, None, MatchResult, position, length, map, slice_index};
+ghost use Rattle.std.specs.List.{range_with_len};
+ghost use Rattle.lx_model.specs.Fixed.{base_of};
+ghost use Rattle.load_model.specs.declared.commands.Command.TheVariants as commands;
+ghost use Rattle.load_model.specs.declared.commands.Reply.TheVariants as replies;
+ghost use Rattle.load_model.specs.Modules as modules;
+ghost use Rattle.page_frames.specs.Residences.{ResidenceFor};
+ghost use Rattle.load_model.specs.Refusals as uses;
+ghost use Rattle.load_model.specs.ViewAnswers.{view_refusal, view_place_refusal, view_reply, view_address, view_bytes, stay_named};
+ghost use Rattle.write_overlay.specs.Laid.{replaced};
+ghost use Rattle.process_view.specs.PageRows.{place_in};
+ghost use Rattle.process_view.specs.Kept.{residences_in};
+ghost use Rattle.process_view.specs.Answering.{bytes_at, byte_by, residence_with, base_if, IsStayNamed};
+ghost use Rattle.process_view.specs.Reading.{IsThere, AreThere};
+
+use crate::own_page::OwnPage;
+use crate::page_rows::PageRows;
+use crate::purposes::Purpose;
+use crate::stays::{Stay, stay_place};
+use crate::view::View;
+use load_model::{Place, Refusal};
+use lx_types::{Bases, EntryKey, ModBases, Name, PageId, ResSpot};
+use mod_graph::{EntryFault, Library, Spot};
+
+/// How many bytes a page has.
+const PAGE: usize = 4096;
+
+// Puts a run in the place of other bytes.
+fn replace(into: &mut [u8], place: usize, run: &[u8])
+    requires { place + length run.now ≤ length into.old }
+    ensures { (k : ℕ) → slice_index into.new k ≡ replaced place run.now into.old k }
+{
+    let end = place + run.len();
+    into[place..end].copy_from_slice(run);
+}
+
+// The bytes of a page that is mapped.
+fn bytes_of<'a>(pages: &'a [OwnPage], places: &PageRows, p: PageId) -> &'a [u8; 4096]
+    requires { IsThere places.now pages.now p }
+    ensures bytes { result.now ≡ bytes_at pages.now (place_in places.now p) }
+    ensures length { length result.now ≡ 4096 }
+{
+    let Some(place) = places.get(p) else {
+        unreachable!()
+    };
+    pages[place].bytes()
+}
+
+/// Copies the bytes of a place out of pages that are mapped, page by page.
+pub fn copy_out(pages: &[OwnPage], places: &PageRows, place: &Place, into: &mut [u8])
+    requires fits { length into.old ≡ place.now.len }
+    requires there { AreThere places.now pages.now place.now.object place.now.offset place.now.len }
+    ensures { into.new ≡ map (byte_by places.now pages.now place.now.object) (range_with_len place.now.offset place.now.len) }
+{
+    let end = place.len as usize;
+    let mut done = 0;
+    while done < end {
+        let at = place.offset as usize + done;
+        let within = at % PAGE;
+        let len = (PAGE - within).min(end - done);
+        let p = PageId {
+            object: place.object,
+            page: (at / PAGE) as u32,
+        };
+        let bytes = bytes_of(pages, places, p);
+        replace(into, done, &bytes[within..within + len]);
+        done += len;
+    }
+}
+
+// The base of an object among those of its module.
+fn base_in(own: &ModBases, object: u32) -> u32
+    ensures { result ≡ slice_index own.now.objects (object - 1) }
+{
+    let objects = own.objects.as_slice();
+    match objects.get(object.saturating_sub(1) as usize) {
+        Some(base) => *base,
+        None => 0,
+    }
+}
+
+// The place of a module's bases.
+fn bases_place(mods: &[ModBases], m: u32) -> Option<usize>
+    ensures { result ≡ position (λ b. b.«module» == m) mods.now }
+{
+    mods.iter().position(|b| b.module == m)
+}
+
+// The base of an object of module `m`, and 0 where these bases have none.
+fn own_base(bases: &Bases, m: u32, object: u32) -> u32
+    ensures { result ≡ base_of bases.now m object }
+{
+    let mods = bases.mods.as_slice();
+    match bases_place(mods, m) {
+        Some(k) => base_in(&mods[k], object),
+        None => 0,
+    }
+}
+
+// The spot that a key of module `m` means.
+#[tactic(auto, unfolding(load_model::specs::Modules::entry_spot))]
+fn entry_spot(lib: &Library, m: u32, key: &EntryKey) -> Result<Spot, EntryFault>
+    requires { m < length lib.now }
+    ensures { result ≡ modules.entry_spot lib.now m key.now }
+{
+    match key {
+        EntryKey::Ordinal(ordinal) => lib.entry(m, *ordinal),
+        EntryKey::Named(name) => lib.entry_named(m, name.bytes()),
+    }
+}
+
+// Why there is no such spot.
+fn refusal_of(fault: EntryFault) -> Refusal
+    ensures { result ≡ modules.refusal_of_entry fault }
+{
+    match fault {
+        EntryFault::NoEntry => Refusal::NoEntry,
+        EntryFault::Gate286 => Refusal::Gate286,
+        EntryFault::ForwardLoop => Refusal::ForwardLoop,
+    }
+}
+
+// The base of the object of a spot, where its module's residence stands.
+fn spot_base(stays: &[Stay], spot: Spot) -> u32
+    ensures { result ≡ base_if spot (residence_with (residences_in stays.now) spot.«module») }
+{
+    match stay_place(stays, spot.module) {
+        Some(k) => {
+            let residence = &stays[k].residence;
+            own_base(residence.bases(), residence.module(), spot.object)
+        }
+        None => 0,
+    }
+}
+
+impl View {
+    // The address of a spot, where its module's residence stands.
+    fn address(&self, spot: Spot) -> u32
+        ensures { result ≡ view_address self.now.holding (Ok spot) }
+    {
+        spot_base(&self.stays, spot).wrapping_add(spot.offset)
+    }
+
+    // The module of a residence that the process reaches.
+    pub(crate) fn stay_module(&self, k: usize) -> u32
+        requires { k < length self.now.residences }
+        ensures number { (d : ResidenceFor) → result ≡ (slice_index_or self.now.residences k d).«module» }
+        ensures within { result < length self.now.library }
+    {
+        self.stays[k].residence.module()
+    }
+
+    // Copies the bytes of a place that is mapped.
+    pub(crate) fn copy_place(&self, k: usize, place: &Place, into: &mut [u8])
+        requires fits { length into.old ≡ place.now.len }
+        requires named { IsStayNamed self.now place.now.«module» k }
+        requires used { (view_place_refusal self.now.library self.now.holding uses.peek place.now ≡ None) ⊎ (view_place_refusal self.now.library self.now.holding uses.share place.now ≡ None) }
+        ensures { into.new ≡ view_bytes self.now.holding place.now (stay_named self.now.library self.now.holding place.now.«module») }
+    {
+        let stay = &self.stays[k];
+        copy_out(&self.pages, &stay.places, place, into);
+    }
+
+    /// Reads bytes of code or of the process's own data, with its own writes, into a buffer that is as long as the place. A
+    /// refusal leaves the buffer as it was. It takes no memory, and no more time than the copying.
+    #[tactic(auto, unfolding(load_model::specs::ViewAnswers::view_refusal))]
+    pub fn peek(&self, place: &Place, into: &mut [u8]) -> Result<(), Refusal>
+        requires { length into.old ≡ place.now.len }
+        ensures { MatchResult result
+            (λ _. (view_refusal self.now.library self.now.holding (commands.Peek place.now) ≡ None)
+                × (view_reply self.now.library self.now.holding (commands.Peek place.now) ≡ Some (replies.Bytes into.new)))
+            (λ refusal. (view_refusal self.now.library self.now.holding (commands.Peek place.now) ≡ Some refusal) × (into.new ≡ into.old)) }
+    {
+        match self.to_use(Purpose::Peek, place) {
+            Ok(k) => {
+                self.copy_place(k, place, into);
+                Ok(())
+            }
+            Err(refusal) => Err(refusal),
+        }
+    }
+
+    /// The address of an entry point (DosQueryProcAddr), from an ordinal or a name. It takes no memory.
+    pub fn query(&self, module: &Name, key: &EntryKey) -> Result<u32, Refusal>
+        ensures { MatchResult result
+            (λ address. (view_refusal self.now.library self.now.holding (commands.Query «module».now key.now) ≡ None)
+                × (view_reply self.now.library self.now.holding (commands.Query «module».now key.now) ≡ Some (replies.Address address)))
+            (λ refusal. view_refusal self.now.library self.now.holding (commands.Query «module».now key.now) ≡ Some refusal) }
+    {
+        if self.is_ended() {
+            return Err(Refusal::Ended);
+        }
+        let Some(k) = self.stay_named(module) else {
+            return Err(Refusal::NotAttached);
+        };
+        match entry_spot(self.library(), self.stay_module(k), key) {
+            Ok(spot) => Ok(self.address(spot)),
+            Err(fault) => Err(refusal_of(fault)),
+        }
+    }
+
+    /// Where a resource lies, by its type and its identifier (DosGetResource). It takes no memory.
+    pub fn getres(&self, module: &Name, ty: u16, id: u16) -> Result<ResSpot, Refusal>
+        ensures { MatchResult result
+            (λ spot. (view_refusal self.now.library self.now.holding (commands.GetRes «module».now ty id) ≡ None)
+                × (view_reply self.now.library self.now.holding (commands.GetRes «module».now ty id) ≡ Some (replies.Spot spot)))
+            (λ refusal. view_refusal self.now.library self.now.holding (commands.GetRes «module».now ty id) ≡ Some refusal) }
+    {
+        if self.is_ended() {
+            return Err(Refusal::Ended);
+        }
+        let Some(k) = self.stay_named(module) else {
+            return Err(Refusal::NotAttached);
+        };
+        match resource_of(self.library(), self.stay_module(k), ty, id) {
+            Some(spot) => Ok(spot),
+            None => Err(Refusal::NoResource),
+        }
+    }
+}
+
+// Where module `m` has a resource.
+#[tactic(auto, unfolding(load_model::specs::Modules::resource_of))]
+fn resource_of(lib: &Library, m: u32, ty: u16, id: u16) -> Option<ResSpot>
+    requires { m < length lib.now }
+    ensures { result ≡ modules.resource_of lib.now m ty id }
+{
+    res_core::find(lib.module(m), ty, id)
+}

@@ -1,0 +1,184 @@
+//! What a view refuses by itself, in the order in which the refusals are tried.
+
+ghost use Rattle.std.specs.Prelude.{◌≡◌, ◌<◌, ◌-◌, Some, None, MatchOption, MatchResult, find, is_none, length};
+ghost use Rattle.std.specs.List.{range_with_len};
+ghost use Rattle.load_model.specs.declared.commands.Command.TheVariants as commands;
+ghost use Rattle.load_model.specs.Modules.{number_of};
+ghost use Rattle.load_model.specs.Modules as modules;
+ghost use Rattle.load_model.specs.Memory.{page};
+ghost use Rattle.load_model.specs.ViewAnswers.{view_refusal, view_place_refusal, view_module_refusal, stay_named};
+ghost use Rattle.process_view.specs.Purposes.{purpose_of};
+ghost use Rattle.process_view.specs.PageRows.{place_in};
+ghost use Rattle.process_view.specs.Answering.{enter_command, touch_refusal_by, IsStayNamed};
+
+use crate::page_rows::PageRows;
+use crate::purposes::Purpose;
+use crate::spans::{Span, span_of, span_refusal};
+use crate::stays::stay_place;
+use crate::view::View;
+use hold_rows::Holder;
+use load_model::{How, Place, Refusal};
+use lx_types::{Name, PageId};
+use mod_graph::{Health, Library};
+
+/// How many loads of one module a process may hold.
+const MOST_LOADS: u32 = 65535;
+
+// Why a module cannot be loaded, by what it reaches.
+#[tactic(auto, unfolding(load_model::specs::Modules::unfit))]
+fn unfit(lib: &Library, m: u32) -> Option<Refusal>
+    requires { m < length lib.now }
+    ensures { result ≡ modules.unfit lib.now m }
+{
+    match lib.health(m) {
+        Health::Fit => None,
+        Health::NoModule { .. } => Some(Refusal::NoModule),
+        Health::NoEntry { .. } => Some(Refusal::NoEntry),
+        Health::ForwardLoop { .. } => Some(Refusal::ForwardLoop),
+        Health::Gate286 { .. } => Some(Refusal::Gate286),
+    }
+}
+
+// Whether the module is a library.
+#[tactic(auto, unfolding(load_model::specs::Modules::is_library))]
+fn is_library(lib: &Library, m: u32) -> bool
+    requires { m < length lib.now }
+    ensures { result ≡ modules.is_library lib.now m }
+{
+    lib.module(m).is_library()
+}
+
+// Why a program cannot be started.
+fn program_refusal(lib: &Library, m: u32) -> Option<Refusal>
+    requires { m < length lib.now }
+    ensures { result ≡ (when (modules.is_library lib.now m) Refusal.NotProgram orelse modules.unfit lib.now m) }
+{
+    if is_library(lib, m) {
+        return Some(Refusal::NotProgram);
+    }
+    unfit(lib, m)
+}
+
+ghost use Rattle.load_model.specs.Refusals.{when, ◌orelse◌};
+
+// Why a library cannot be loaded by who holds this many loads of it.
+fn library_refusal(lib: &Library, m: u32, held: u32) -> Option<Refusal>
+    requires { m < length lib.now }
+    ensures { result ≡ (when (not (modules.is_library lib.now m)) Refusal.NotLibrary orelse modules.unfit lib.now m orelse when (nat_le 65535 held) Refusal.CountFull) }
+{
+    if !is_library(lib, m) {
+        return Some(Refusal::NotLibrary);
+    }
+    if let Some(refusal) = unfit(lib, m) {
+        return Some(refusal);
+    }
+    if held >= MOST_LOADS {
+        return Some(Refusal::CountFull);
+    }
+    None
+}
+
+ghost use Rattle.std.specs.Prelude.{not, nat_le};
+
+// The first page of an object, of those that bytes cover, that has no place.
+fn first_unmapped(places: &PageRows, object: u32, span: Span) -> Option<u32>
+    requires { span.first ≤ span.end }
+    ensures { result ≡ find (λ n. is_none (place_in places.now (page object n))) (range_with_len span.first (span.end - span.first)) }
+{
+    for page in span.first..span.end {
+        if places.get(PageId { object, page }).is_none() {
+            return Some(page);
+        }
+    }
+    None
+}
+
+ghost use Rattle.std.specs.Prelude.{◌≤◌};
+
+// Why a place cannot be used so, where its pages have these places.
+fn touch_refusal(places: &PageRows, purpose: Purpose, place: &Place) -> Option<Refusal>
+    ensures { result ≡ touch_refusal_by purpose places.now place.now }
+{
+    match purpose {
+        Purpose::Touch => None,
+        Purpose::Write | Purpose::Share | Purpose::Peek | Purpose::Debug => {
+            let page = first_unmapped(places, place.object, span_of(place.offset, place.len))?;
+            Some(Refusal::NotTouched { page })
+        }
+    }
+}
+
+impl View {
+    // The residence that the process reaches of the module that a name means, by its number among them.
+    pub(crate) fn stay_named(&self, name: &Name) -> Option<usize>
+        ensures { MatchOption result (stay_named self.now.library self.now.holding name.now ≡ None) (IsStayNamed self.now name.now) }
+    {
+        let m = self.lib.find(name)?;
+        stay_place(&self.stays, m)
+    }
+
+    /// The module that a start or a load asks for by name, or why the view refuses it.
+    #[tactic(auto, unfolding(load_model::specs::ViewAnswers::view_refusal, load_model::specs::Modules::number_of))]
+    pub fn to_enter(&self, how: How, name: &Name) -> Result<u32, Refusal>
+        ensures { MatchResult result
+            (λ m. (view_refusal self.now.library self.now.holding (enter_command how name.now) ≡ None) × (number_of self.now.library name.now ≡ Some m) × (m < length self.now.library))
+            (λ refusal. view_refusal self.now.library self.now.holding (enter_command how name.now) ≡ Some refusal) }
+    {
+        if self.ended {
+            return Err(Refusal::Ended);
+        }
+        if matches!(how, How::Start) && self.holder.started().is_some() {
+            return Err(Refusal::Started);
+        }
+        let Some(m) = self.lib.find(name) else {
+            return Err(Refusal::NoModule);
+        };
+        let refusal = match how {
+            How::Start => program_refusal(&self.lib, m),
+            How::Load => library_refusal(&self.lib, m, self.holder.held(m)),
+        };
+        match refusal {
+            Some(refusal) => Err(refusal),
+            None => Ok(m),
+        }
+    }
+
+    /// The module of which a free gives up a load, or why the view refuses it.
+    #[tactic(auto, unfolding(load_model::specs::ViewAnswers::view_refusal, load_model::specs::Modules::number_of))]
+    pub fn to_free(&self, name: &Name) -> Result<u32, Refusal>
+        ensures { MatchResult result
+            (λ m. (view_refusal self.now.library self.now.holding (commands.Free name.now) ≡ None) × (number_of self.now.library name.now ≡ Some m) × (m < length self.now.library))
+            (λ refusal. view_refusal self.now.library self.now.holding (commands.Free name.now) ≡ Some refusal) }
+    {
+        if self.ended {
+            return Err(Refusal::Ended);
+        }
+        match self.lib.find(name) {
+            Some(m) if self.holder.held(m) > 0 => Ok(m),
+            _ => Err(Refusal::NotHeld),
+        }
+    }
+
+    /// The residence in which a place may be used so, by its number among those that the process reaches, or why the view
+    /// refuses it.
+    pub fn to_use(&self, purpose: Purpose, place: &Place) -> Result<usize, Refusal>
+        ensures { MatchResult result
+            (λ k. (view_place_refusal self.now.library self.now.holding (purpose_of purpose) place.now ≡ None) × IsStayNamed self.now place.now.«module» k)
+            (λ refusal. view_place_refusal self.now.library self.now.holding (purpose_of purpose) place.now ≡ Some refusal) }
+    {
+        if self.ended {
+            return Err(Refusal::Ended);
+        }
+        let Some(k) = self.stay_named(&place.module) else {
+            return Err(Refusal::NotAttached);
+        };
+        let stay = &self.stays[k];
+        if let Some(refusal) = span_refusal(&self.lib, stay.residence.module(), purpose, place) {
+            return Err(refusal);
+        }
+        if let Some(refusal) = touch_refusal(&stay.places, purpose, place) {
+            return Err(refusal);
+        }
+        Ok(k)
+    }
+}
