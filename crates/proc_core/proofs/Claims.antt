@@ -1,0 +1,162 @@
+-- A page that is claimed in a turn, and mapped behind it.
+use Rattle.std.proofs.Common.{◌≡◌, ℕ, ◌+◌, ◌<◌, ◌≤◌, ◌==◌, not, Bool, true, false, cond, List, [], ◌∷◌, ◌++◌, length, map, count_by, get_or, Option, Some, None, refl, sym, ap, ◌∙◌, subst, inl, inr, arith, append_assoc, append-nil}
+use Rattle.std.proofs.lemmas.Bool.Decides.{nat_tests}
+use Rattle.std.specs.List.{AllByRecursion, list_any}
+use Rattle.std.proofs.lemmas.List.{map-append}
+use Rattle.std.proofs.lemmas.List.Folds.{list_any-append}
+use Rattle.lx_types.specs.Object.{class_of}
+use Rattle.lx_types.specs.declared.object.PageId.{PageId}
+use Rattle.lx_types.specs.declared.parts.Parts.{Parts}
+use Rattle.page_frames.specs.Residences.{ResidenceFor}
+use Rattle.load_model.specs.declared.deeds.Deed.TheVariants as deeds
+use Rattle.load_model.specs.declared.deeds.Entry.{Entry}
+use Rattle.load_model.specs.Modules.{Library, object_at, source_count}
+use Rattle.load_model.specs.State.{PageOf, pids, is_among}
+use Rattle.load_model.specs.Asks.{is_own}
+use Rattle.load_model.specs.Standing.{Holding, Mapped, mapped_pages}
+use Rattle.load_model.specs.Touched.{has_page}
+use Rattle.load_model.specs.TouchSteps.{touch_steps, mapped_steps, OthersCountNothing, FaultCounts, MappedCounts}
+use Rattle.load_core.specs.Ledger.{Ledger, IsLegal, with_entry}
+use Rattle.process_view.specs.ProcessViews.{ProcessView, StandsAt, at_front, without_room}
+use Rattle.process_view.specs.Deeds.{page_with, with_page, IsIdle}
+use Rattle.proc_core.specs.Procs.{Standing, Holds, front_of, failing_in}
+use Rattle.proc_core.specs.Calls.{AreOthers}
+use Rattle.proc_core.specs.Touches.{needs_fault, page_in, IsSeenForPage, IsPage}
+use Rattle.proc_core.specs.Turns.{HasCome}
+use Rattle.proc_core.proofs.Made.{turned, turned_holds}
+
+-- the laws of steps
+pub record Laws : Type 0 where
+  pub others : OthersCountNothing
+  pub fault : FaultCounts
+  pub mapped : MappedCounts
+
+no_steps : (lib : Library) (pid m : ℕ) → touch_steps lib pid m [] [] ≡ 0
+unfolding touch_steps
+no_steps lib pid m = refl
+
+flipped : (pid : ℕ) (xs : List Entry) → AllByRecursion (λ (x : Entry). (pid == x.pid) ≡ false) xs → AllByRecursion (λ (x : Entry). (x.pid == pid) ≡ false) xs
+flipped pid [] all = tt
+flipped pid (x ∷ xs) all = (turn pid x.pid all.0, flipped pid xs all.1)
+  where
+    turn : (a b : ℕ) → a == b ≡ false → b == a ≡ false
+    turn a b e = grind (arith, nat_tests)
+
+-- what others did counts nothing
+pub others_steps : Laws → (lib : Library) (pid m : ℕ) (more : List Entry) → AreOthers pid more → touch_steps lib pid m more [] ≡ 0
+others_steps laws lib pid m more others = laws.others lib pid m [] more [] (flipped pid more others) ∙ no_steps lib pid m
+
+-- a page that all share counts nothing, where it was taken
+pub taken_steps : Laws → (lib : Library) (pid m : ℕ) (more : List Entry) (t : PageOf) → AreOthers pid more → is_own (class_of (object_at lib m t.page.object)) ≡ false → touch_steps lib pid m more (t ∷ []) ≡ 0
+taken_steps laws lib pid m more t others common =
+    let none : mapped_steps lib m t.page ≡ 0 = rw common refl in
+    let base = others_steps laws lib pid m more others in
+    laws.mapped lib pid m t more [] ∙ (let sum : touch_steps lib pid m more [] + mapped_steps lib m t.page ≡ 0 = omega arith in sum)
+
+-- and its sources where it was given
+pub given_steps : Laws → (lib : Library) (pid m : ℕ) (more : List Entry) (t : PageOf) → AreOthers pid more → is_own (class_of (object_at lib m t.page.object)) ≡ false →
+    touch_steps lib pid m (more ++ record { pid = pid; deed = deeds.Fault t.serial m t.page } ∷ []) (t ∷ []) ≡ source_count lib m t.page
+given_steps laws lib pid m more t others common =
+    let base = taken_steps laws lib pid m more t others common in
+    laws.fault lib pid m t.serial t.page more (t ∷ []) ∙ (let sum : touch_steps lib pid m more (t ∷ []) + source_count lib m t.page ≡ source_count lib m t.page = omega arith in sum)
+
+pub private_steps : Laws → (lib : Library) (pid m : ℕ) (t : PageOf) → is_own (class_of (object_at lib m t.page.object)) ≡ true → touch_steps lib pid m [] (t ∷ []) ≡ source_count lib m t.page
+private_steps laws lib pid m t own =
+    let some : mapped_steps lib m t.page ≡ source_count lib m t.page = rw own refl in
+    let base = no_steps lib pid m in
+    laws.mapped lib pid m t [] [] ∙ (let sum : touch_steps lib pid m [] [] + mapped_steps lib m t.page ≡ source_count lib m t.page = omega arith in sum)
+
+-- ---- entries
+
+all_others : (v : ProcessView) (m : ℕ) (t : PageOf) (pid : ℕ) (more : List Entry) → pid ≡ v.holding.pid → AreOthers pid more → AllByRecursion (IsSeenForPage v m t) more
+all_others v m t pid [] is others = tt
+all_others v m t pid (x ∷ more) is others = (inl (subst (λ (n : ℕ). (n == x.pid) ≡ false) is others.0), all_others v m t pid more is others.1)
+
+all_last : {A : Type 0} (P : A → Type 0) (xs : List A) (x : A) → AllByRecursion P xs → P x → AllByRecursion P (xs ++ x ∷ [])
+all_last P [] x all here = (here, tt)
+all_last P (y ∷ xs) x all here = (all.0, all_last P xs x all.1 here)
+
+-- ---- the page is mapped
+
+mapped_one : (r : ResidenceFor) (q : PageId) (bytes : List ℕ) (v : ProcessView) → mapped_pages (with_page r q bytes v).holding ≡ mapped_pages v.holding ++ page_in r q ∷ []
+mapped_one r q bytes v = map-append (λ (x : Mapped). x.of) v.holding.mapped (page_with r q bytes ∷ [])
+
+one_fault : (lib : Library) (m : ℕ) (t : PageOf) → is_own (class_of (object_at lib m t.page.object)) ≡ false → count_by (needs_fault lib m) (t ∷ []) ≡ 1
+one_fault lib m t common = rw common refl
+
+-- behind a turn in which the page was given or taken: others did more, and the process made its fault or nothing
+pub page_mapped : (p : Standing) (h : List Entry) (own : List Entry) (r : ResidenceFor) (q : PageId) (bytes : List ℕ) (w : ProcessView) (before after : ℕ) → Holds p → (more : List Entry) → AreOthers p.known.pid more →
+    h ≡ p.known.seen ++ (more ++ own) → AllByRecursion (IsSeenForPage p.view r.«module» (page_in r q)) (more ++ own) → without_room w ≡ without_room (at_front (length h) p.view) →
+    is_own (class_of (object_at p.view.library r.«module» q.object)) ≡ false → after ≡ before + touch_steps p.view.library p.known.pid r.«module» (more ++ own) (page_in r q ∷ []) →
+    IsPage p (turned p h (with_page r q bytes w)) (page_in r q) r.«module» (page_in r q ∷ []) before after
+page_mapped p h own r q bytes w before after holds more others seen entries bare common steps =
+    let holding : w.holding ≡ record p.view.holding { front = length h } = ap (λ (u : ProcessView). u.holding) bare in
+    let one = one_fault p.view.library r.«module» (page_in r q) common in
+    record {
+      pass = record { lock = refl; known = refl };
+      shown = more ++ own;
+      seen = seen;
+      entries = entries;
+      library = ap (λ (u : ProcessView). u.library) bare;
+      residences = ap (λ (u : ProcessView). u.residences) bare;
+      holding = ap (λ (k : Holding). record k { mapped = w.holding.mapped ++ page_with r q bytes ∷ [] }) holding;
+      mapped = mapped_one r q bytes w ∙ ap (λ (k : Holding). mapped_pages k ++ page_in r q ∷ []) holding;
+      drawn = (omega arith, omega arith);
+      steps = steps;
+    }
+
+-- ---- a page of the process's own
+
+-- the process with another view
+abbrev pub with_view : Standing → ProcessView → Standing
+with_view p w = record { lock = p.lock; known = p.known; view = w }
+
+pub private_mapped : Laws → (p : Standing) (r : ResidenceFor) (q : PageId) (bytes : List ℕ) (w : ProcessView) (before after : ℕ) → without_room w ≡ without_room p.view → p.view.holding.front ≡ length p.known.seen →
+    is_own (class_of (object_at p.view.library r.«module» q.object)) ≡ true → after ≡ before + source_count p.view.library r.«module» q →
+    IsPage p (with_view p (with_page r q bytes w)) (page_in r q) r.«module» (page_in r q ∷ []) before after
+private_mapped laws p r q bytes w before after bare front own steps =
+    let holding : w.holding ≡ p.view.holding = ap (λ (u : ProcessView). u.holding) bare in
+    let shown : p.view.holding ≡ record p.view.holding { front = length p.known.seen } = ap (λ (n : ℕ). record p.view.holding { front = n }) front in
+    record {
+      pass = record { lock = refl; known = refl };
+      shown = [];
+      seen = sym (append-nil p.known.seen);
+      entries = tt;
+      library = ap (λ (u : ProcessView). u.library) bare;
+      residences = ap (λ (u : ProcessView). u.residences) bare;
+      holding = ap (λ (k : Holding). record k { mapped = w.holding.mapped ++ page_with r q bytes ∷ [] }) (holding ∙ shown);
+      mapped = mapped_one r q bytes w ∙ ap (λ (k : Holding). mapped_pages k ++ page_in r q ∷ []) holding;
+      drawn = (omega arith, omega arith);
+      steps = steps ∙ ap (λ (n : ℕ). before + n) (sym (private_steps laws p.view.library p.known.pid r.«module» (page_in r q) own));
+    }
+
+-- where there is no memory nothing is mapped
+pub nothing_mapped : (p : Standing) (t : PageOf) (m : ℕ) (w : ProcessView) (a : ℕ) → without_room w ≡ without_room p.view → p.view.holding.front ≡ length p.known.seen → IsPage p (with_view p w) t m [] a a
+nothing_mapped p t m w a bare front =
+    let holding : w.holding ≡ p.view.holding = ap (λ (u : ProcessView). u.holding) bare in
+    let shown : p.view.holding ≡ record p.view.holding { front = length p.known.seen } = ap (λ (n : ℕ). record p.view.holding { front = n }) front in
+    record {
+      pass = record { lock = refl; known = refl };
+      shown = [];
+      seen = sym (append-nil p.known.seen);
+      entries = tt;
+      library = ap (λ (u : ProcessView). u.library) bare;
+      residences = ap (λ (u : ProcessView). u.residences) bare;
+      holding = ap (λ (k : Holding). record k { mapped = w.holding.mapped }) (holding ∙ shown);
+      mapped = ap mapped_pages holding ∙ sym (append-nil (mapped_pages p.view.holding));
+      drawn = (omega arith, omega arith);
+      steps = (let none = no_steps p.view.library p.known.pid m in omega arith);
+    }
+
+pub view_holds : (p : Standing) (w : ProcessView) → Holds p → w.library ≡ p.view.library → w.holding.pid ≡ p.view.holding.pid → StandsAt (front_of p) w → Holds (with_view p w)
+view_holds p w holds library pid stands =
+    let front : front_of (with_view p w) ≡ front_of p = ap (λ (l : List Parts). record { library = l; failing = failing_in p.known.subject; history = p.known.seen }) library in
+    record {
+      process = subst (λ (n : ℕ). is_among pids n ≡ true) (sym pid) holds.process;
+      number = pid ∙ holds.number;
+      about = holds.about ∙ ap (λ (l : List Parts). Some (record { library = l; failing = failing_in p.known.subject })) (sym library);
+      legal = subst IsLegal (sym front) holds.legal;
+      own = holds.own;
+      stands = subst (λ (l : Ledger). StandsAt l w) (sym front) stands;
+      apart = holds.apart;
+    }

@@ -1,0 +1,14 @@
+pub mod Beginnings
+pub mod Endings
+pub mod Others
+pub mod ShownOn
+pub mod Fronts
+pub mod Asked
+pub mod Made
+pub mod Coming
+pub mod Turning
+pub mod Histories
+pub mod ReadLast
+pub mod TouchedPages
+pub mod Onward
+pub mod Claims

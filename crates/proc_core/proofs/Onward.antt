@@ -1,0 +1,169 @@
+-- A touch goes on by one page.
+use Rattle.std.proofs.Common.{◌≡◌, ◌≢◌, ℕ, zero, suc, ◌+◌, ◌<◌, ◌≤◌, ◌⊎◌, ◌==◌, ◌&&◌, inl, inr, not, Bool, true, false, List, [], ◌∷◌, ◌++◌, take, length, get_or, filter, count_by, sum_by, map, cond, Option, Some, None, refl, sym, ap, ◌∙◌, subst, arith, append_assoc, append-nil, eq-eqb, ne_eqb, if◌then◌else◌}
+use Rattle.std.specs.List.{AllByRecursion, list_any, list_all, range_with_len}
+use Rattle.std.proofs.lemmas.List.Elements.{filter-append}
+use Rattle.std.proofs.lemmas.List.Sums.{sum_by-append}
+use mathlib.Core.Logic.{dite}
+use native.Mathlib.Decide.{ℕ_discrete}
+use Rattle.turn_lock.specs.declared.known.Known.{Known}
+use Rattle.load_model.specs.declared.commands.Place.{Place}
+use Rattle.load_model.specs.declared.deeds.Entry.{Entry}
+use Rattle.load_model.specs.declared.deeds.Deed.TheVariants as deeds
+use Rattle.load_model.specs.Modules.{Library}
+use Rattle.load_model.specs.State.{PageOf, is_among}
+use Rattle.load_model.specs.Memory.{pages_over, is_page, page}
+use Rattle.load_model.specs.Step.{meant}
+use Rattle.load_model.specs.Touched.{has_page}
+use Rattle.load_model.specs.Standing.{Holding, mapped_pages}
+use Rattle.load_model.specs.TouchSteps.{touch_steps, entry_steps, mapped_steps}
+use Rattle.merge_laws.specs.ViewAccounts.{serial_seen, has_pages}
+use Rattle.merge_laws.specs.OwnStates.{pages_at}
+use Rattle.process_view.specs.ProcessViews.{ProcessView}
+use Rattle.proc_core.specs.declared.kept.About.{About}
+use Rattle.proc_core.specs.Procs.{Standing}
+use Rattle.load_model.specs.declared.commands.Command.TheVariants.{Touch}
+use Rattle.load_model.specs.declared.deeds.Deed.{Deed}
+use Rattle.proc_core.specs.Calls.{IsSamePass, call_refusal}
+use Rattle.proc_core.proofs.TouchedPages.{page_at, pages_from, not_among, taken_pages, one_more, not_among_more, same_page}
+use Rattle.proc_core.specs.Touches.{touched_pages, newly_mapped, needs_fault, IsNewFault, IsSeenInTouch, IsSeenForPage, IsTouched, IsPage, news_of}
+
+-- ---- steps
+
+pub steps_more : (lib : Library) (pid m : ℕ) (a b : List Entry) (s t : List PageOf) → touch_steps lib pid m (a ++ b) (s ++ t) ≡ touch_steps lib pid m a s + touch_steps lib pid m b t
+unfolding touch_steps
+steps_more lib pid m a b s t =
+    let f = sum_by-append (entry_steps lib pid) a b in
+    let g = sum_by-append (λ (u : PageOf). mapped_steps lib m u.page) s t in
+    omega arith
+
+-- ---- passes
+
+pub pass_on : (p q r : Standing) → IsSamePass p q → IsSamePass q r → IsSamePass p r
+pass_on p q r a b = record {
+  lock = b.lock ∙ a.lock;
+  known = b.known ∙ ap (λ (k : Known Entry About). record k { seen = r.known.seen; mine = r.known.mine; drawn = r.known.drawn }) a.known;
+}
+
+-- ---- entries
+
+all_join : {A : Type 0} (P : A → Type 0) (xs ys : List A) → AllByRecursion P xs → AllByRecursion P ys → AllByRecursion P (xs ++ ys)
+all_join P [] ys a b = b
+all_join P (x ∷ xs) ys a b = (a.0, all_join P xs ys a.1 b)
+
+all_change : {A : Type 0} (P Q : A → Type 0) (xs : List A) → ((x : A) → P x → Q x) → AllByRecursion P xs → AllByRecursion Q xs
+all_change P Q [] f a = tt
+all_change P Q (x ∷ xs) f a = (f x a.0, all_change P Q xs f a.1)
+
+-- what is known of a page of a place
+pub record IsPlaces (v : ProcessView) (at : Place) (t : PageOf) (m : ℕ) : Type 0 where
+  pub serial : t.serial ≡ serial_seen v.library v.holding at
+  pub «module» : m ≡ meant v.library at.«module»
+  pub object : at.object ≡ t.page.object
+  pub among : is_among (pages_over at.offset at.len) t.page.page ≡ true
+
+seen_in : (v w : ProcessView) (at : Place) (t : PageOf) (m : ℕ) (x : Entry) → IsPlaces v at t m → w.holding.pid ≡ v.holding.pid →
+    (has_page (mapped_pages w.holding) t.serial t.page ≡ false → has_page (mapped_pages v.holding) t.serial t.page ≡ false) → IsSeenForPage w m t x → IsSeenInTouch v at x
+seen_in v w at t m x is pid same (inl other) = inl (ap (λ (n : ℕ). n == x.pid) (sym pid) ∙ other)
+seen_in v w at t m x is pid same (inr own) =
+    inr (
+      own.0 ∙ pid,
+      subst (λ (d : Deed). IsNewFault v at d) (sym own.1)
+      (is.serial, is.«module», is.object, is.among, subst (λ (n : ℕ). has_page (mapped_pages v.holding) n t.page ≡ false) refl (same own.2)),
+    )
+
+-- ---- one more page
+
+pub touched_more : (p q r : Standing) (at : Place) (n a b c : ℕ) (t : PageOf) (m : ℕ) (news : List PageOf) → IsTouched p q at n a b → IsPage q r t m news b c → IsPlaces p.view at t m →
+    newly_mapped p.view at (n + 1) ≡ newly_mapped p.view at n ++ news →
+    (has_page (mapped_pages q.view.holding) t.serial t.page ≡ false → has_page (mapped_pages p.view.holding) t.serial t.page ≡ false) →
+    r.known.drawn ≤ p.known.drawn + count_by (needs_fault p.view.library m) (newly_mapped p.view at (length (touched_pages p.view at))) → IsTouched p r at (n + 1) a c
+touched_more p q r at n a b c t m news before step is pages same drawn =
+    let pid : q.view.holding.pid ≡ p.view.holding.pid = ap (λ (h : Holding). h.pid) before.holding in
+    let known : q.known.pid ≡ p.known.pid = ap (λ (k : Known Entry About). k.pid) before.pass.known in
+    let lib : q.view.library ≡ p.view.library = before.library in
+    let seen : r.known.seen ≡ p.known.seen ++ (before.shown ++ step.shown) =
+    step.seen ∙ (ap (λ (h : List Entry). h ++ step.shown) before.seen ∙ append_assoc p.known.seen before.shown step.shown) in
+    let stepped : c ≡ b + touch_steps p.view.library p.known.pid (meant p.view.library at.«module») step.shown news =
+    step.steps ∙ (ap (λ l. b + touch_steps l q.known.pid m step.shown news) lib ∙ (ap (λ k. b + touch_steps p.view.library k m step.shown news) known ∙ ap (λ k. b + touch_steps p.view.library p.known.pid k step.shown news) is.«module»)) in
+    let sum = steps_more p.view.library p.known.pid (meant p.view.library at.«module») before.shown step.shown (newly_mapped p.view at n) news in
+    let first = before.steps in
+    record {
+      pass = pass_on p q r before.pass step.pass;
+      accepted = before.accepted;
+      shown = before.shown ++ step.shown;
+      seen = seen;
+      entries = all_join (IsSeenInTouch p.view at) before.shown step.shown before.entries
+          (all_change (IsSeenForPage q.view m t) (IsSeenInTouch p.view at) step.shown (λ x. seen_in p.view q.view at t m x is pid same) step.entries);
+      library = step.library ∙ before.library;
+      residences = step.residences ∙ before.residences;
+      holding = step.holding ∙ ap (λ (h : Holding). record h { mapped = r.view.holding.mapped; front = length r.known.seen }) before.holding;
+      mapped = step.mapped ∙ (ap (λ xs. xs ++ news) before.mapped ∙ (append_assoc (mapped_pages p.view.holding) (newly_mapped p.view at n) news ∙ ap (λ xs. mapped_pages p.view.holding ++ xs) (sym pages)));
+      drawn = (omega (arith, before.drawn.0, step.drawn.0), subst (λ k. r.known.drawn ≤ p.known.drawn + count_by (needs_fault p.view.library k) (newly_mapped p.view at (length (touched_pages p.view at)))) is.«module» drawn);
+      steps = subst (λ xs. c ≡ a + touch_steps p.view.library p.known.pid (meant p.view.library at.«module») (before.shown ++ step.shown) xs) (sym pages) (omega arith);
+    }
+
+-- ---- no page yet
+
+pub touched_none : (p : Standing) (at : Place) (a : ℕ) → call_refusal p (Touch at) ≡ None → p.view.holding.front ≡ length p.known.seen → IsTouched p p at 0 a a
+unfolding touch_steps
+touched_none p at a accepted front = record {
+  pass = record { lock = refl; known = refl };
+  accepted = accepted;
+  shown = [];
+  seen = sym (append-nil p.known.seen);
+  entries = tt;
+  library = refl;
+  residences = refl;
+  holding = ap (λ (n : ℕ). record p.view.holding { front = n }) front;
+  mapped = sym (append-nil (mapped_pages p.view.holding));
+  drawn = (omega arith, omega arith);
+  steps = omega arith;
+}
+
+-- ---- the next page of the place
+
+-- the pages of the place are so many, from a number on
+abbrev pub AreFrom : Place → ℕ → ℕ → Type 0
+AreFrom at first l = pages_over at.offset at.len ≡ range_with_len first l
+
+newly_from : (v : ProcessView) (at : Place) (first l n : ℕ) → AreFrom at first l → n ≤ l →
+    newly_mapped v at n ≡ not_among (mapped_pages v.holding) (pages_from (serial_seen v.library v.holding at) at.object first n)
+newly_from v at first l n from fits =
+    let serial : ℕ = serial_seen v.library v.holding at in
+    ap (λ (ns : List ℕ). not_among (mapped_pages v.holding) (take n (map (page_at serial at.object) ns))) from
+    ∙ ap (not_among (mapped_pages v.holding)) (taken_pages serial at.object first n l fits)
+
+if_same : (b c : Bool) (t : PageOf) → b ≡ c → (if b then [] else t ∷ []) ≡ (if c then [] else t ∷ [])
+if_same b c t e = ap (λ (x : Bool). if x then [] else t ∷ []) e
+
+mapped_alike : (p q : Standing) (at : Place) (first l n a b : ℕ) → AreFrom at first l → n ≤ l → IsTouched p q at n a b → (serial : ℕ) → serial ≡ serial_seen p.view.library p.view.holding at →
+    has_page (mapped_pages q.view.holding) serial (page at.object (first + n)) ≡ has_page (mapped_pages p.view.holding) serial (page at.object (first + n))
+mapped_alike p q at first l n a b from fits before serial is =
+    let own : ℕ = serial_seen p.view.library p.view.holding at in
+    let mapped : mapped_pages q.view.holding ≡ mapped_pages p.view.holding ++ not_among (mapped_pages p.view.holding) (pages_from own at.object first n) =
+    before.mapped ∙ ap (λ xs. mapped_pages p.view.holding ++ xs) (newly_from p.view at first l n from fits) in
+    let at_own : has_page (mapped_pages q.view.holding) own (page at.object (first + n)) ≡ has_page (mapped_pages p.view.holding) own (page at.object (first + n)) =
+    ap (λ xs. has_page xs own (page at.object (first + n))) mapped ∙ same_page (mapped_pages p.view.holding) own at.object first n in
+    subst (λ (k : ℕ). has_page (mapped_pages q.view.holding) k (page at.object (first + n)) ≡ has_page (mapped_pages p.view.holding) k (page at.object (first + n))) (sym is) at_own
+
+newly_next : (p q : Standing) (at : Place) (first l n a b : ℕ) → AreFrom at first l → n < l → IsTouched p q at n a b →
+    newly_mapped p.view at (n + 1) ≡ newly_mapped p.view at n ++ news_of q.view (page_at (serial_seen p.view.library p.view.holding at) at.object (first + n))
+newly_next p q at first l n a b from inside before =
+    let own : ℕ = serial_seen p.view.library p.view.holding at in
+    let t : PageOf = page_at own at.object (first + n) in
+    let same = mapped_alike p q at first l n a b from (omega arith) before own refl in
+    newly_from p.view at first l (n + 1) from (omega arith)
+    ∙ (ap (not_among (mapped_pages p.view.holding)) (one_more own at.object first n)
+    ∙ (not_among_more (mapped_pages p.view.holding) (pages_from own at.object first n) t
+    ∙ (ap (λ xs. xs ++ (if has_page (mapped_pages p.view.holding) own (page at.object (first + n)) then [] else t ∷ [])) (sym (newly_from p.view at first l n from (omega arith)))
+    ∙ ap (λ xs. newly_mapped p.view at n ++ xs) (if_same _ _ t (sym same)))))
+
+pub touched_next : (p q r : Standing) (at : Place) (first l n a b c m : ℕ) → AreFrom at first l → n < l → IsTouched p q at n a b →
+    IsPage q r (page_at (serial_seen p.view.library p.view.holding at) at.object (first + n)) m (news_of q.view (page_at (serial_seen p.view.library p.view.holding at) at.object (first + n))) b c →
+    m ≡ meant p.view.library at.«module» → is_among (pages_over at.offset at.len) (first + n) ≡ true →
+    r.known.drawn ≤ p.known.drawn + count_by (needs_fault p.view.library m) (newly_mapped p.view at (length (touched_pages p.view at))) → IsTouched p r at (n + 1) a c
+touched_next p q r at first l n a b c m from inside before step is among drawn =
+    let own : ℕ = serial_seen p.view.library p.view.holding at in
+    let t : PageOf = page_at own at.object (first + n) in
+    touched_more p q r at n a b c t m (news_of q.view t) before step (record { serial = refl; «module» = is; object = refl; among = among }) (newly_next p q at first l n a b from inside before)
+    (λ none. sym (mapped_alike p q at first l n a b from (omega arith) before own refl) ∙ none) drawn

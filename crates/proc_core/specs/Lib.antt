@@ -1,0 +1,6 @@
+pub mod Procs
+pub mod Calls
+pub mod Touches
+pub mod Closing
+pub mod Joining
+pub mod Turns

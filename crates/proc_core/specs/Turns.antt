@@ -1,0 +1,34 @@
+-- A turn of a process: the board comes to it, and goes back.
+use Rattle.std.specs.Prelude.{◌≡◌, ℕ, ◌++◌, List, length, Result, Ok, Err}
+use Rattle.lx_types.specs.declared.fail.Fail.{Fail}
+use Rattle.load_model.specs.declared.commands.Refusal.{Refusal}
+use Rattle.turn_lock.specs.declared.known.Known.{Known}
+use Rattle.turn_lock.specs.Turns.{by_pid, drawing, seeing}
+use Rattle.load_model.specs.declared.deeds.Entry.{Entry}
+use Rattle.load_core.specs.Ledger.{Ledger, IsLegal}
+use Rattle.process_view.specs.ProcessViews.{ProcessView, StandsAt, at_front}
+use Rattle.proc_core.specs.declared.kept.About.{About}
+use Rattle.proc_core.specs.declared.answers.Done.{Done}
+use Rattle.proc_core.specs.Procs.{Standing, front_of}
+use Rattle.proc_core.specs.Calls.{AreOthers}
+
+-- what a pass knows in its turn, at a board that has this history
+abbrev pub in_turn : Standing → List Entry → Known Entry About → Type 0
+in_turn p h w = (t : ℕ) × (w ≡ seeing h (drawing t p.known))
+
+-- The board has come to a process with what others did meanwhile, and its view stands for all of it.
+pub record HasCome (p : Standing) (b : Ledger) (v : ProcessView) : Type 0 where
+  pub more : List Entry
+  pub others : AreOthers p.known.pid more
+  pub mine : by_pid (λ (x : Entry). x.pid) p.known.pid b.history ≡ p.known.mine
+  pub is : b ≡ record (front_of p) { history = p.known.seen ++ more }
+  pub view : v ≡ at_front (length b.history) p.view
+  pub stands : StandsAt b v
+  pub legal : IsLegal b
+
+-- the answer says the same as what was done, with the number of the entry
+abbrev pub IsToldBy : ℕ → Result Unit (Fail Refusal) → Result Done (Fail Refusal) → Type 0
+IsToldBy number (Ok done) (Ok it) = it.number ≡ number
+IsToldBy number (Err fail) (Err other) = other ≡ fail
+IsToldBy number (Ok done) (Err other) = ⊥
+IsToldBy number (Err fail) (Ok it) = ⊥
