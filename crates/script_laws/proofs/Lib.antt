@@ -1,0 +1,4 @@
+pub mod Steady
+pub mod Entered
+pub mod Touched
+pub mod Carried
