@@ -62,5 +62,9 @@ def_kind def.Conflict = codes "Conflict"
 def_kind def.Twice = codes "Twice"
 def_kind def.TooLong = codes "TooLong"
 
+-- `line N KIND`
+abbrev pub at_line : ℕ → List ℕ → List ℕ
+at_line number kind = codes "line " ++ (decimal number ++ (codes " " ++ kind))
+
 abbrev pub def_text : DefRefusal → List ℕ
-def_text r = codes "line " ++ (decimal r.line ++ (codes " " ++ def_kind r.kind))
+def_text r = at_line r.line (def_kind r.kind)
