@@ -1,5 +1,5 @@
 -- How a call of the tool ends.
-use Rattle.std.specs.Prelude.{◌≡◌, ℕ, ◌<◌, ◌≤◌, ◌⊎◌, Bool, true, false, List, [], ◌∷◌, ◌++◌, length, take, Option, Some, None, Err, IfSome, OnOk, count_by}
+use Rattle.std.specs.Prelude.{◌≡◌, ℕ, ◌<◌, ◌≤◌, ◌⊎◌, Bool, true, false, List, [], ◌∷◌, ◌++◌, length, take, Option, Some, None, Ok, Err, IfSome, count_by}
 use Rattle.std.specs.List.{AllByRecursion}
 use Rattle.std.specs.Io.KnownBytes.{Appends}
 use Rattle.lx_ports.specs.Calls.{Call, load, save, load_faults}
@@ -9,7 +9,6 @@ use Rattle.lx_ports.specs.Files.{Contents, FilesState, IsLoadOf, KeepsOthers}
 use Rattle.lx_ports.specs.Sinks.{SinkState}
 use Rattle.lx_answer.specs.Answer.{Answer, saves_in}
 use Rattle.lx_answer.specs.Loading.{AreBegun, file_limit}
-use Rattle.lx_answer.specs.Outcome.{Saved}
 use Rattle.lx_answer.specs.Says.{Says, asked_files}
 use Rattle.lx_answer.specs.Words.{Command, command_of, image, link, implib}
 use Rattle.lx_answer.specs.declared.said.Said.{Said}
@@ -28,25 +27,26 @@ is_failed_save _ = false
 abbrev pub save_faults : List Call → ℕ
 save_faults calls = count_by is_failed_save calls
 
--- The file that a command saves.
-abbrev pub output_of : Command → Option (List ℕ)
-output_of (image object base) = None
-output_of (link out definition inputs) = Some out
-output_of (implib out inputs) = Some out
+-- The files that a command saves, in their order.
+abbrev pub outputs_of : Command → List (List ℕ)
+outputs_of (image object base) = []
+outputs_of (link out definition inputs) = out ∷ []
+outputs_of (implib out inputs) = out ∷ []
 
--- No save, or one of this file.
-abbrev pub SavesOnce : Option (List ℕ) → List Call → Type 0
-SavesOnce out [] = Unit {0}
-SavesOnce out (save name bytes answer ∷ []) = out ≡ Some name
-SavesOnce out _ = ⊥
+-- Saves of the first of these files, each once, in their order, of which all but the last were good.
+abbrev pub AreSaves : List (List ℕ) → List Call → Type 0
+AreSaves outputs [] = Unit {0}
+AreSaves (output ∷ outputs) (save name bytes answer ∷ []) = name ≡ output
+AreSaves (output ∷ outputs) (save name bytes answer ∷ next ∷ calls) = (name ≡ output) × (answer ≡ Ok tt) × AreSaves outputs (next ∷ calls)
+AreSaves _ _ = ⊥
 
 -- One load of each of the first files that the command names, in their order, all but the last of which were read; and
--- behind the loads at most one save, of the command's output.
+-- behind the loads the saves of its outputs.
 pub record IsCalledBy (command : Command) (calls : List Call) : Type 0 where
   pub loads : List Call
   pub begun : AreBegun (asked_files command) loads
   pub saves : List Call
-  pub once : SavesOnce (output_of command) saves
+  pub saved : AreSaves (outputs_of command) saves
   pub are : calls ≡ loads ++ saves
 
 abbrev pub AreCallsOf : Option Command → List Call → Type 0
@@ -105,7 +105,7 @@ pub record Ends (words : List (List ℕ)) (files files_now : FilesState) (out ou
   -- the calls that the files had
   pub calls : List Call
   pub had : files_now.calls ≡ files.calls ++ calls
-  -- just the files that the words name were loaded, and at most the output was saved
+  -- just the files that the words name were loaded, and at most the outputs were saved
   pub named : AreCallsOf (command_of words) calls
   pub told : IfSome files.contents (λ contents. AllByRecursion (IsTold contents) calls)
   pub held : Holds files.contents calls files_now.contents

@@ -5,7 +5,6 @@ use Rattle.std.specs.List.{flat_map, enumerate_from, range_with_len}
 use Rattle.std.specs.Option.{option_map}
 use Rattle.lx_types.specs.Addresses.{SHARED_END}
 use Rattle.obj_types.specs.declared.object.ObjModule.{ObjModule}
-use Rattle.obj_types.specs.declared.input.LinkInput.{LinkInput}
 use Rattle.link_model.specs.declared.symbols.LaidObject.{LaidObject}
 use Rattle.link_model.specs.Link.{Link, IsLinkOf}
 use Rattle.link_model.specs.Layout.{objects}

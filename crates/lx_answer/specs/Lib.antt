@@ -11,3 +11,6 @@ pub mod ImplibAnswer
 pub mod Says
 pub mod Answer
 pub mod Ends
+pub mod RunAnswer
+pub mod RunEnds
+pub mod WorkedRuns

@@ -1,5 +1,5 @@
 -- What `link OUT DEF IN ..` comes to: the file of the linked module, and a line of counts, or the link's refusal.
-use Rattle.std.specs.Prelude.{◌≡◌, ℕ, List, [], ◌∷◌, ◌++◌, codes, length, Option, Some, None, sum_by}
+use Rattle.std.specs.Prelude.{◌≡◌, ℕ, List, [], ◌∷◌, ◌++◌, codes, length, None, sum_by}
 use Rattle.std.specs.Option.{option_map}
 use Rattle.std.specs.Fmt.{decimal}
 use Rattle.std.specs.List.{flat_map}
@@ -19,7 +19,7 @@ use Rattle.image_model.specs.Linked.{image_of, called, page_forms, page_fixes}
 use Rattle.lx_types.specs.Escaped.{escaped}
 use Rattle.refusal_text.specs.Links.{sym_text, lay_text, fix_text, entry_text}
 use Rattle.lx_answer.specs.Outcome.{Outcome, kept, refused_or}
-use Rattle.lx_answer.specs.Reading.{Item, object, library, definition, linked}
+use Rattle.lx_answer.specs.Reading.{Item, object, library, definition}
 use Rattle.lx_answer.specs.Stem.{stem_of}
 
 -- ---- the input: what the files mean, in their order
@@ -38,13 +38,17 @@ definition_in [] = default_def Program None
 definition_in (definition d ∷ items) = d
 definition_in (_ ∷ items) = definition_in items
 
-abbrev pub input_of : List ℕ → List Item → LinkInput
-input_of out items = record {
+-- The stem is the module's name where the definition file gives none.
+abbrev pub input_with : List ℕ → List Item → LinkInput
+input_with stem items = record {
   objects = flat_map objects_in items;
   libs = flat_map libraries_in items;
   def = definition_in items;
-  stem = stem_of out;
+  stem = stem;
 }
+
+abbrev pub input_of : List ℕ → List Item → LinkInput
+input_of out items = input_with (stem_of out) items
 
 -- ---- the outcome
 

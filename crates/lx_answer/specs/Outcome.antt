@@ -1,5 +1,5 @@
 -- What a command comes to when its files are read: what it says, and the file that it saves.
-use Rattle.std.specs.Prelude.{ℕ, List, Option, Some, None, codes}
+use Rattle.std.specs.Prelude.{ℕ, List, Option, Some, None}
 use Rattle.lx_answer.specs.FileLine.{file_line}
 use Rattle.lx_answer.specs.declared.said.Said.{Said}
 

@@ -11,6 +11,10 @@ use Rattle.omf_model.specs.Library as libraries
 use Rattle.def_file.specs.Reading as definitions
 use Rattle.lx_model.specs.Module as modules
 use Rattle.refusal_text.specs.Files.{omf_text, lx_text, def_text}
+use Rattle.refusal_text.specs.Sessions.{session_text}
+use Rattle.session_model.specs.declared.sessions.Session.{Session}
+use Rattle.session_model.specs.declared.sessions.SessionRefusal.{SessionRefusal}
+use Rattle.session_model.specs.Sessions as sessions
 
 -- ---- forms of files
 
@@ -19,14 +23,17 @@ pub data Form : Type 0 where
   library_form : Form
   definition_form : Form
   module_form : Form
+  session_form : Form
 
 -- How a command takes a file: as an object file whatever its first byte is; as an object file or a library; as a
--- definition file; as a module or a definition file.
+-- definition file; as a module or a definition file; as a module, or as a session, whatever its first bytes are.
 pub data Kind : Type 0 where
   object_file : Kind
   object_or_library : Kind
   definition_file : Kind
   module_or_definition : Kind
+  module_file : Kind
+  session_file : Kind
 
 -- A library begins with F0h.
 abbrev pub is_library : List ℕ → Bool
@@ -42,6 +49,8 @@ form_of object_file bytes = object_form
 form_of object_or_library bytes = if is_library bytes then library_form else object_form
 form_of definition_file bytes = definition_form
 form_of module_or_definition bytes = if is_module bytes then module_form else definition_form
+form_of module_file bytes = module_form
+form_of session_file bytes = session_form
 
 -- ---- what is read
 
@@ -50,6 +59,7 @@ pub data Item : Type 0 where
   library : List ObjModule → Item
   definition : DefFile → Item
   linked : Parts → Item
+  session : Session → Item
 
 -- The bytes are a file of the form, and this is what they mean.
 abbrev pub IsItem : Form → List ℕ → Item → Type 0
@@ -57,6 +67,7 @@ IsItem object_form bytes (object m) = object_files.Obj bytes m
 IsItem library_form bytes (library ms) = libraries.Lib bytes ms
 IsItem definition_form bytes (definition d) = definitions.Def bytes d
 IsItem module_form bytes (linked m) = modules.Lx bytes m
+IsItem session_form bytes (session s) = sessions.Ses bytes s
 IsItem _ bytes item = ⊥
 
 -- ---- faults
@@ -81,9 +92,15 @@ pub record ModuleFault (bytes text : List ℕ) : Type 0 where
   pub first : modules.LxFault bytes ≡ Some refusal
   pub told : text ≡ lx_text refusal
 
+pub record SessionFault (bytes text : List ℕ) : Type 0 where
+  pub refusal : SessionRefusal
+  pub first : sessions.SesFault bytes ≡ Some refusal
+  pub told : text ≡ session_text refusal
+
 -- The bytes are no file of the form, and this is told of their first fault.
 abbrev pub IsFault : Form → List ℕ → List ℕ → Type 0
 IsFault object_form bytes text = ObjectFault bytes text
 IsFault library_form bytes text = LibraryFault bytes text
 IsFault definition_form bytes text = DefinitionFault bytes text
 IsFault module_form bytes text = ModuleFault bytes text
+IsFault session_form bytes text = SessionFault bytes text

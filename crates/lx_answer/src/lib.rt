@@ -3,5 +3,7 @@
 #![tactic(auto)]
 
 mod said;
+mod worked;
 
 pub use said::Said;
+pub use worked::{line_files_are_asked, run_words_are_known, runs_are_said};
