@@ -1,5 +1,5 @@
 -- The input of a link, from what was read.
-use Rattle.std.proofs.Common.{◌≡◌, ℕ, Bool, true, false, List, [], ◌∷◌, ◌++◌, map, Some, None, Ok, Err, ◌∙◌, ap, sym, subst, refl}
+use Rattle.std.proofs.Common.{◌≡◌, ℕ, Bool, true, false, List, [], ◌∷◌, ◌++◌, None, Ok, Err, ◌∙◌, ap, sym, subst, refl}
 use Rattle.std.specs.Prelude.{if◌then◌else◌}
 use Rattle.std.specs.List.{flat_map}
 use Rattle.std.proofs.lemmas.List.{flat_map_more}
@@ -9,8 +9,8 @@ use Rattle.obj_types.specs.declared.definition.ModKind.TheVariants.{Program}
 use Rattle.obj_types.specs.declared.input.LinkInput.{LinkInput}
 use Rattle.lx_ports.specs.Calls.{Call, load, save}
 use Rattle.lx_answer.specs.LinkAnswer.{definition_in, input_of, libraries_in, objects_in}
-use Rattle.lx_answer.specs.Loading.{AreRead, Asked, IsRead}
-use Rattle.lx_answer.specs.Reading.{IsItem, Item, definition, is_library, library, library_form, linked, object, object_form, object_or_library}
+use Rattle.lx_answer.specs.Loading.{AreRead, IsRead}
+use Rattle.lx_answer.specs.Reading.{IsItem, Item, definition, is_library, library, library_form, linked, object, object_form, object_or_library, session}
 use Rattle.lx_answer.specs.Says.{asked_inputs}
 use Rattle.lx_answer.specs.Stem.{stem_of}
 use Rattle.tool_read.specs.declared.modules.Modules.{Modules}
@@ -37,6 +37,7 @@ none_defines (n ∷ names) (c ∷ calls) (object m ∷ items) are = none_defines
 none_defines (n ∷ names) (c ∷ calls) (library ms ∷ items) are = none_defines names calls items are.1
 none_defines (n ∷ names) (c ∷ calls) (definition d ∷ items) are = absurd (item_is_none n c d are.0)
 none_defines (n ∷ names) (c ∷ calls) (linked m ∷ items) are = none_defines names calls items are.1
+none_defines (n ∷ names) (c ∷ calls) (session s ∷ items) are = none_defines names calls items are.1
 
 same_input : (out : List ℕ) (items : List Item) (input : LinkInput) → input.objects ≡ flat_map objects_in items → input.libs ≡ flat_map libraries_in items → input.def ≡ definition_in items → input.stem ≡ stem_of out
     → input ≡ input_of out items

@@ -1,5 +1,5 @@
 -- The names of files, at a place in their list.
-use Rattle.std.proofs.Common.{◌≡◌, ℕ, zero, suc, ◌+◌, ◌<◌, List, [], ◌∷◌, ◌++◌, length, map, take, drop, get_or, ◌∙◌, ap, sym, refl, arith}
+use Rattle.std.proofs.Common.{◌≡◌, ℕ, zero, suc, ◌+◌, ◌<◌, List, [], ◌∷◌, ◌++◌, length, map, take, drop, get_or, ◌∙◌, ap, sym, arith}
 use Rattle.std.proofs.lemmas.List.{map-append, map_more}
 
 pub split_at : {X Y Z : Type 0} (g : Y → Z) (f : X → Y) (xs : List X) (k : ℕ) (x : X) → k < length xs → x ≡ get_or xs k x

@@ -9,7 +9,7 @@ use Rattle.lx_ports.specs.Files.{Contents, FilesState, IsLoadOf}
 use Rattle.lx_ports.specs.declared.files.LoadFault.{LoadFault}
 use Rattle.lx_answer.specs.declared.said.Said.{Said}
 use Rattle.lx_answer.specs.Ends.{IsTold}
-use Rattle.lx_answer.specs.Loading.{Asked, AreBegun, AreRead, IsLoadWith, IsRead, IsRefused, IsStopped, ReadsAnswer, RefusesAnswer, file_limit}
+use Rattle.lx_answer.specs.Loading.{Asked, AreBegun, AreRead, IsLoadWith, IsRead, IsStopped, ReadsAnswer, RefusesAnswer, file_limit}
 use Rattle.lx_answer.specs.Reading.{Item, Kind}
 use Rattle.tool_read.specs.Readings.{ReadsLoad, SaysOf, asked}
 use Rattle.tool_read.specs.Steps.{AreLoads, GivesAll, IsOneLoad, ReadsAll, ReadsInTurn}

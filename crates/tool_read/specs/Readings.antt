@@ -1,12 +1,12 @@
 -- What the readers of files answer, by the answers to their loads.
-use Rattle.std.specs.Prelude.{◌≡◌, ℕ, ◌≤◌, List, length, Result, Ok, Err, Vec}
+use Rattle.std.specs.Prelude.{◌≡◌, ℕ, List, Result, Ok, Err, Vec}
 use Rattle.std.specs.declared.alloc.Global.{Global}
 use Rattle.lx_types.specs.declared.fail.Fail.{Fail}
 use Rattle.lx_types.specs.declared.fail.Fail.TheVariants as fail
 use Rattle.lx_ports.specs.declared.files.LoadFault.{LoadFault}
 use Rattle.lx_answer.specs.declared.said.Said.{Said}
 use Rattle.lx_answer.specs.FileLine.{file_line}
-use Rattle.lx_answer.specs.Loading.{Asked, ReadsAnswer, RefusesAnswer, file_limit}
+use Rattle.lx_answer.specs.Loading.{Asked, ReadsAnswer, RefusesAnswer}
 use Rattle.lx_answer.specs.Reading.{Kind, Form, Item, IsItem, IsFault, object, library, definition, linked}
 use Rattle.std.specs.List.{All}
 use Rattle.obj_types.specs.Whole.{WholeModule}

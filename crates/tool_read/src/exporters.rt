@@ -4,7 +4,7 @@ ghost use Rattle.lx_model.specs.Module.{IsRead};
 ghost use Rattle.lx_ports.specs.Calls.{load_answer};
 ghost use Rattle.refusal_text.specs.Files.{lx_text};
 ghost use Rattle.lx_answer.specs.Loading.{file_limit};
-ghost use Rattle.lx_answer.specs.Reading.{form_of, is_module, linked, module_form, module_or_definition};
+ghost use Rattle.lx_answer.specs.Reading.{form_of, is_module, linked, module_file, module_form, module_or_definition};
 ghost use Rattle.tool_read.specs.Readings.{ReadsForm, ReadsLoad, SaysOf, WholeExporter, exporter_item};
 
 use crate::definitions::definition;
@@ -91,6 +91,25 @@ pub fn read_exporter(
     match opened(alloc, name, loaded) {
         Ok(bytes) => match exporter_in(alloc, bytes) {
             Ok(read) => Ok(read),
+            Err(why) => Err(told(alloc, name, why)),
+        },
+        Err(why) => Err(why),
+    }
+}
+
+/// The module in a file, whatever its first bytes are.
+pub fn read_module_file(
+    alloc: Global,
+    name: &str,
+    loaded: Result<Vec<u8>, LoadFault>,
+) -> Result<Module, Fail<Said>>
+    requires { IfOk loaded (λ bytes. length bytes.items ≤ file_limit) }
+    ensures read { ReadsLoad linked module_file name.now (load_answer loaded) result }
+    ensures whole { IfOk result IsRead }
+{
+    match opened(alloc, name, loaded) {
+        Ok(bytes) => match linked(alloc, bytes) {
+            Ok(module) => Ok(module),
             Err(why) => Err(told(alloc, name, why)),
         },
         Err(why) => Err(why),

@@ -13,7 +13,7 @@ mod loads;
 mod modules;
 
 pub use export_files::read_exporters;
-pub use exporters::Exporter;
+pub use exporters::{Exporter, read_module_file};
 pub use inputs::Input;
 pub use lines::{file_line, said};
 pub use link_files::{read_link_input, read_object};

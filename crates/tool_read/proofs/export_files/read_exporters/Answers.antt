@@ -1,4 +1,4 @@
-use Rattle.std.proofs.Common.{◌≡◌, Err, Result, ℕ, List, ap, sym, subst, arith, map, take, drop, suc, ◌++◌, ◌∷◌, [], ◌∙◌, Vec}
+use Rattle.std.proofs.Common.{◌≡◌, Err, Result, ℕ, List, ap, sym, subst, map, take, drop, suc, ◌++◌, ◌∷◌, [], ◌∙◌, Vec}
 use Rattle.std.specs.Prelude.{string_bytes}
 use Rattle.std.specs.List.{All}
 use Rattle.std.specs.Global.{Global}

@@ -1,4 +1,4 @@
-use Rattle.std.proofs.Common.{◌≡◌, ap, sym, subst, refl, Option, List, Bor, [], ◌∷◌, ℕ}
+use Rattle.std.proofs.Common.{◌≡◌, sym, subst, refl, Option, List, Bor, [], ◌∷◌, ℕ}
 use Rattle.std.specs.Prelude.{option_map}
 use Rattle.obj_types.specs.declared.definition.DefFile.{DefFile}
 use Rattle.lx_answer.specs.Reading.{Item, definition, definition_file}

@@ -1,8 +1,7 @@
 use Rattle.std.specs.Prelude.{option_map, string_bytes}
 use Rattle.lx_answer.specs.Says.{asked_definition, asked_inputs}
-use Rattle.std.proofs.Common.{◌≡◌, ◌++◌, map, List, ℕ, sym, subst, Result, Err}
+use Rattle.std.proofs.Common.{◌≡◌, ◌++◌, map, sym, subst, Result}
 use Rattle.lx_types.specs.declared.fail.Fail.{Fail}
-use Rattle.lx_types.specs.declared.fail.Fail.TheVariants as fail
 use Rattle.obj_types.specs.declared.input.LinkInput.{LinkInput}
 use Rattle.lx_answer.specs.declared.said.Said.{Said}
 use Rattle.lx_answer.specs.LinkAnswer.{input_of}

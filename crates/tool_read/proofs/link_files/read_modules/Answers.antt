@@ -1,10 +1,10 @@
-use Rattle.std.proofs.Common.{◌≡◌, Err, ℕ, List, ap, sym, subst, arith, map, take, drop, suc, ◌++◌, ◌∷◌, []}
+use Rattle.std.proofs.Common.{Err, ℕ, List, sym, subst, map, take, drop, suc, ◌++◌, ◌∷◌, []}
 use Rattle.std.specs.Prelude.{string_bytes}
 use Rattle.lx_answer.specs.Loading.{Asked}
 use Rattle.lx_answer.specs.Reading.{object_or_library}
 use Rattle.lx_answer.specs.Says.{asked_inputs}
 use Rattle.tool_read.specs.Readings.{asked}
-use Rattle.tool_read.specs.Steps.{AreModulesOf, IsOneLoad, ReadsInTurn}
+use Rattle.tool_read.specs.Steps.{AreModulesOf, ReadsInTurn}
 use Rattle.tool_read.proofs.LinkInput.{gains_more}
 use Rattle.tool_read.proofs.Names.{more_at, split_at}
 use Rattle.tool_read.proofs.Walk.{ReadSoFar, one_more, stops_here}
