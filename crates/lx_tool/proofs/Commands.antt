@@ -58,7 +58,7 @@ image_done name base m calls before now (Err none) loads all shows = done_begun 
 
 -- ---- `link`
 
-saves_or : (name : List ℕ) (refusal : Option (List ℕ)) (bytes text : List ℕ) → SavesAs (Some name) (refused_or name refusal (kept name bytes text)).saved
+saves_or : (name : List ℕ) (refusal : Option (List ℕ)) (bytes text : List ℕ) → SavesAs (name ∷ []) (refused_or name refusal (kept name bytes text)).saved
 saves_or name None bytes text = refl
 saves_or name (Some why) bytes text = tt
 
@@ -82,7 +82,7 @@ le_true a b le = grind (arith, le)
 le_false : (a b : ℕ) → b < a → nat_le a b ≡ false
 le_false a b lt = grind (arith, lt)
 
-saves_if : (b : Bool) (name bytes text why : List ℕ) → SavesAs (Some name) (if b then kept name bytes text else refused name why).saved
+saves_if : (b : Bool) (name bytes text why : List ℕ) → SavesAs (name ∷ []) (if b then kept name bytes text else refused name why).saved
 saves_if true name bytes text why = refl
 saves_if false name bytes text why = tt
 

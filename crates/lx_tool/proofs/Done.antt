@@ -4,11 +4,11 @@ use Rattle.std.proofs.lemmas.List.{append-nil}
 use Rattle.std.specs.Prelude.{IfOk, IfSome, MatchResult}
 use Rattle.std.specs.List.{AllByRecursion}
 use Rattle.lx_types.specs.declared.fail.NoMemory.{NoMemory}
-use Rattle.lx_ports.specs.Calls.{Call}
+use Rattle.lx_ports.specs.Calls.{Call, save}
 use Rattle.lx_ports.specs.Files.{Contents, FilesState}
 use Rattle.lx_answer.specs.declared.said.Said.{Said}
 use Rattle.lx_answer.specs.Answer.{saves_in}
-use Rattle.lx_answer.specs.Ends.{Holds, IsTold, SavesOnce, output_of}
+use Rattle.lx_answer.specs.Ends.{Holds, IsTold, AreSaves, outputs_of}
 use Rattle.lx_answer.specs.FileLine.{usage_line}
 use Rattle.lx_answer.specs.Loading.{AreBegun, AreRead, IsStopped}
 use Rattle.lx_answer.specs.Outcome.{Outcome, Saved}
@@ -28,7 +28,7 @@ loads_run command calls before now loads begun =
     let Q : List Call → Type 0 = λ cs. Holds before.contents cs before.contents in
     record {
       had = ap (λ (s : FilesState). s.calls) loads.files;
-      named = record { loads = calls; begun = begun; saves = []; once = tt; are = sym (append-nil calls) };
+      named = record { loads = calls; begun = begun; saves = []; saved = tt; are = sym (append-nil calls) };
       told = loads.told;
       held = subst P (sym same) (subst Q (append-nil calls) (holds_behind calls [] before.contents before.contents (begun_loads (asked_files command) calls begun) refl));
     }
@@ -54,18 +54,20 @@ done_begun command calls before now why loads begun = record {
 
 -- ---- loads, and what is saved behind them
 
--- What an outcome saves is the command's output.
-abbrev pub SavesAs : Option (List ℕ) → Option Saved → Type 0
-SavesAs out None = Unit {0}
-SavesAs out (Some saved) = out ≡ Some saved.name
+-- What an outcome saves is the command's one output.
+abbrev pub SavesAs : List (List ℕ) → Option Saved → Type 0
+SavesAs outputs None = Unit {0}
+SavesAs outputs (Some saved) = outputs ≡ saved.name ∷ []
 
-saves_once : (out : Option (List ℕ)) (saved : Option Saved) (outcome : Outcome) (saves : List Call) (said : Said) → SavesAs out saved → Finishes saved outcome saves said → SavesOnce out saves
-saves_once out None outcome saves said fits finished =
-    let P : List Call → Type 0 = λ cs. SavesOnce out cs in
+are_saves : (outputs : List (List ℕ)) (saved : Option Saved) (outcome : Outcome) (saves : List Call) (said : Said) → SavesAs outputs saved → Finishes saved outcome saves said
+    → AreSaves outputs saves
+are_saves outputs None outcome saves said fits finished =
+    let P : List Call → Type 0 = λ cs. AreSaves outputs cs in
     subst P (sym finished.0) tt
-saves_once out (Some saved) outcome saves said fits finished =
-    let P : List Call → Type 0 = λ cs. SavesOnce out cs in
-    subst P (sym finished.calls_are) fits
+are_saves outputs (Some saved) outcome saves said fits finished =
+    let P : List Call → Type 0 = λ cs. AreSaves outputs cs in
+    let Q : List (List ℕ) → Type 0 = λ names. AreSaves names (save saved.name saved.bytes finished.answer ∷ []) in
+    subst P (sym finished.calls_are) (subst Q (sym fits) refl)
 
 saves_told : (c : Contents) (saved : Option Saved) (outcome : Outcome) (saves : List Call) (said : Said) → Finishes saved outcome saves said → AllByRecursion (IsTold c) saves
 saves_told c None outcome saves said finished =
@@ -85,7 +87,7 @@ told_behind None loads saves saved outcome said finished told = tt
 told_behind (Some c) loads saves saved outcome said finished told = all_joined (IsTold c) loads saves told (saves_told c saved outcome saves said finished)
 
 module _ (command : Command) (loads : List Call) (items : List Item) (outcome : Outcome) (before between : FilesState) (are : AreLoads loads before between)
-    (read : AreRead (asked_files command) loads items) (comes_to : ComesTo command items outcome) (fits : SavesAs (output_of command) outcome.saved) where
+    (read : AreRead (asked_files command) loads items) (comes_to : ComesTo command items outcome) (fits : SavesAs (outputs_of command) outcome.saved) where
   kept : (now : FilesState) (said : Said) → Keeps outcome between now said → Does command before now (Ok said)
   kept now said keeps =
       let begun : AreBegun (asked_files command) loads = read_begun (asked_files command) loads items read in
@@ -99,7 +101,7 @@ module _ (command : Command) (loads : List Call) (items : List Item) (outcome : 
             loads = loads;
             begun = begun;
             saves = keeps.saves;
-            once = saves_once (output_of command) outcome.saved outcome keeps.saves said fits keeps.finished;
+            saved = are_saves (outputs_of command) outcome.saved outcome keeps.saves said fits keeps.finished;
             are = refl;
           };
           told = told_behind before.contents loads keeps.saves outcome.saved outcome said keeps.finished are.told;

@@ -12,7 +12,7 @@ use Rattle.lx_answer.specs.ImageAnswer.{ImageAnswer, image_refusal, memory_text,
 use Rattle.lx_answer.specs.LinkAnswer.{counts_of}
 use Rattle.lx_answer.specs.Loading.{Asked, IsRefused, IsStopped}
 use Rattle.lx_answer.specs.Outcome.{Outcome, Saved, shown, kept, refused, refused_or}
-use Rattle.lx_answer.specs.Reading.{Item, object, library, definition, linked}
+use Rattle.lx_answer.specs.Reading.{Item, object, library, definition, linked, session}
 use Rattle.lx_answer.specs.Says.{ComesTo, Finishes, IsDone, SaysCommand, asked_files, said_after}
 use Rattle.lx_answer.specs.Words.{Command, image, link, implib}
 use Rattle.lx_tool.proofs.Counts.{count-append}
@@ -35,6 +35,7 @@ image_is base (object m ∷ i ∷ items) o is = absurd is
 image_is base (library m ∷ items) o is = absurd is
 image_is base (definition m ∷ items) o is = absurd is
 image_is base (linked m ∷ items) o is = absurd is
+image_is base (session s ∷ items) o is = absurd is
 
 if_kept : (b : Bool) (one two : Outcome) → one.said.status ≡ 0 → two.said.status ≡ 1 → two.saved ≡ None → IsOutcome (if b then one else two)
 if_kept true one two zero one_ none = inl zero
