@@ -1,0 +1,25 @@
+//! Laws, each the contract of a function that does nothing.
+
+ghost use Rattle.run_laws.specs.Bridge.{RunsByLinks};
+ghost use Rattle.run_laws.specs.BuiltResources.{BuiltHasNoResources};
+
+/// A run of scripts over modules of which some were built, by the bytes that the loader has of the files, is a run of them
+/// by the bytes that the links mean of what was built: its history, its merge with the scripts, and so each reply in it.
+pub fn runs_by_links()
+    ensures { RunsByLinks }
+{
+    layer_laws::linked_bytes_are_loaded();
+    layer_laws::linked_files_are_read();
+    load_model::agreement_is_enough();
+    load_model::histories_grow();
+    run_model::reached_modules_stand();
+    session_model::agreement_is_enough();
+}
+
+/// A module that the session builds has no resources: the header of its file counts none ("LX Header" in the LX document).
+pub fn built_modules_have_no_resources()
+    ensures { BuiltHasNoResources }
+{
+    layer_laws::linked_images_fit();
+    run_model::written_files_have_no_resources();
+}
