@@ -3,19 +3,21 @@
 ghost use Rattle.std.specs.Prelude.{◌≡◌, ◌≤◌, [], IfOk, length, None};
 
 use crate::log::{Log, Note};
+use crate::whole_save::save_whole;
 use crate::{Files, LoadFault, SaveFault, Sink, SinkFailed};
 use std::alloc::Global;
 use std::io::{ErrorKind, Read, Write};
 use std::{fs, io, rt};
 
-/// The files of the system, by their paths.
+/// The files of the system, by their paths. A save that fails leaves the file of its name as it was: a new one is written
+/// beside it and renamed at the end.
 #[derive(Drop)]
 pub struct DiskFiles<R> {
     rt: R,
     log: Log,
 }
 
-impl<R: rt::Files> DiskFiles<R> {
+impl<R: rt::Files + AllocGlobal> DiskFiles<R> {
     /// The files that this runtime reaches. No call has been made yet.
     pub fn new(rt: R) -> DiskFiles<R>
         ensures { (⟦<DiskFiles<R> as Files>⟧.state result).calls ≡ [] }
@@ -27,7 +29,7 @@ impl<R: rt::Files> DiskFiles<R> {
     }
 }
 
-impl<R: rt::Files> Files for DiskFiles<R> {
+impl<R: rt::Files + AllocGlobal> Files for DiskFiles<R> {
     ghost state = { λ files. record { contents = None; calls = files.log.calls } };
 
     fn load(&mut self, alloc: Global, name: &str, max: u32) -> Result<Vec<u8>, LoadFault> {
@@ -40,7 +42,7 @@ impl<R: rt::Files> Files for DiskFiles<R> {
     }
 
     fn save(&mut self, name: &str, bytes: &[u8]) -> Result<(), SaveFault> {
-        let answer = fs::write(&self.rt, name, bytes).map_err(|_| SaveFault::Failed);
+        let answer = save_whole(&self.rt, name, bytes).map_err(|_| SaveFault::Failed);
         self.log = self.log.and(&Note::Save {
             name,
             bytes,

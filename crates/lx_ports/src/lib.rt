@@ -11,6 +11,7 @@ mod memory_files;
 mod memory_sink;
 mod sink;
 mod sure;
+mod whole_save;
 
 pub use disk::{DiskFiles, StdSink};
 pub use files::{Files, LoadFault, SaveFault};
