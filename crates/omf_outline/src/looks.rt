@@ -1,0 +1,72 @@
+//! What a file seems to be.
+
+// The two letters at the place that the doubleword at 3Ch names.
+fn new_header(bytes: &[u8]) -> Option<&[u8]> {
+    let word = bytes.get(0x3C..0x40)?;
+    let place = u32::from_le_bytes([word[0], word[1], word[2], word[3]]) as usize;
+    bytes.get(place..)?.get(..2)
+}
+
+// What stands behind a DOS header.
+fn behind_stub(bytes: &[u8]) -> &'static str {
+    let header = new_header(bytes).unwrap_or(&[]);
+    if header == b"LX".as_slice() {
+        "an LX module behind a DOS program"
+    } else if header == b"LE".as_slice() {
+        "an LE module"
+    } else if header == b"NE".as_slice() {
+        "an NE module, of 16-bit OS/2 or Windows"
+    } else if header == b"PE".as_slice() {
+        "a PE module, of Windows"
+    } else {
+        "a DOS program"
+    }
+}
+
+fn is_text(bytes: &[u8]) -> bool {
+    bytes
+        .iter()
+        .take(512)
+        .all(|&byte| byte >= 0x20 || matches!(byte, 9..=13 | 0x1A))
+}
+
+// What the first bytes say, where they are those of a format that is known.
+fn by_magic(bytes: &[u8]) -> Option<&'static str> {
+    match bytes {
+        [0x7F, b'E', b'L', b'F', ..] => {
+            Some("an ELF file: nasm makes object files of OS/2 with -f obj")
+        }
+        [b'!', b'<', b'a', b'r', b'c', b'h', b'>', ..] => Some("an archive of ar"),
+        [0x4C, 0x01, ..] => {
+            Some("a COFF object file of 32 bits: nasm makes object files of OS/2 with -f obj")
+        }
+        [0x64, 0x86, ..] => Some("a COFF object file of 64 bits"),
+        [b'L', b'X', ..] => Some("an LX module"),
+        [b'N', b'E', ..] => Some("an NE module, of 16-bit OS/2 or Windows"),
+        [0xF0, ..] => Some("a library of object modules"),
+        [0x80 | 0x82, ..] => Some("an object file"),
+        [b'P', b'K', 3, 4, ..] => Some("a zip archive"),
+        [0x1F, 0x8B, ..] => Some("a file that gzip packed"),
+        _ => None,
+    }
+}
+
+/// What a file seems to be, where that can be told.
+pub fn looks_like(bytes: &[u8]) -> Option<&'static str> {
+    if bytes.is_empty() {
+        return Some("an empty file");
+    }
+    if matches!(bytes, [b'M', b'Z', ..]) {
+        return Some(behind_stub(bytes));
+    }
+    match by_magic(bytes) {
+        Some(name) => Some(name),
+        None if is_text(bytes) => Some("text"),
+        None => None,
+    }
+}
+
+/// Whether bytes begin as an object file or a library does.
+pub fn begins_as_object(bytes: &[u8]) -> bool {
+    matches!(bytes.first(), Some(0x80 | 0x82 | 0xF0))
+}
