@@ -1,0 +1,5 @@
+-- The words that are commands.
+use Rattle.std.specs.Prelude.{ℕ, List, Bool, ◌||◌, bytes_eq, codes}
+
+abbrev pub is_command : List ℕ → Bool
+is_command word = bytes_eq word (codes "link") || (bytes_eq word (codes "implib") || bytes_eq word (codes "image"))

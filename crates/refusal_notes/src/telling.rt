@@ -1,0 +1,295 @@
+//! The notes on a call that has failed.
+ghost use Rattle.std.specs.Prelude.{◌≡◌};
+
+use crate::definitions::definition_notes;
+use crate::heard::Heard;
+use crate::line::{Fault, Told, refusal_of};
+use crate::lines::{Lines, Mark};
+use crate::links::{Refused, link_meaning};
+use crate::object_faults::{Placed, module_notes, object_notes};
+use crate::watched::{Tell, Watched};
+use def_file::read_def;
+use lx_ports::{Files, Sink};
+use lx_types::Seq;
+use obj_types::{Imp, Imports};
+use omf_outline::{Inputs, read_inputs};
+use std::alloc::{AllocError, Global};
+
+/// How a call ended.
+#[derive(Clone, Copy)]
+pub struct Ended<'a> {
+    /// The words of the command line.
+    pub words: &'a [String],
+    pub status: u8,
+    /// The begin of the text that was put.
+    pub text: &'a [u8],
+    /// Whether a save was tried, and whether it went well.
+    pub saved: Option<bool>,
+}
+
+/// The longest file.
+const LONGEST: u32 = 16_777_216;
+
+impl<'a> Ended<'a> {
+    fn word(&self, index: usize) -> &'a str {
+        match self.words.get(index) {
+            Some(word) => word.as_str(),
+            None => "",
+        }
+    }
+}
+
+fn usage(alloc: Global, lines: &mut Lines, ended: &Ended<'_>) -> Result<(), AllocError> {
+    let command = ended.word(0);
+    let count = ended.words.len();
+    let text = match command {
+        "" => "a command is wanted: link, implib or image",
+        "link" =>
+            "link wants OUT DEF IN ..: the module, the definition file or -, and at least one file",
+        "implib" =>
+            "implib wants OUT IN ..: the library, and at least one definition file or module",
+        "image" if count == 3 => {
+            "BASE is eight hexadecimal digits, a multiple of 65,536 from 00010000 to 1FFF0000"
+        }
+        "image" => "image wants OBJ BASE: an object file, and eight hexadecimal digits as 10000000",
+        _ => "there are the commands link, implib and image",
+    };
+    lines.add_text(alloc, text)?;
+    match command {
+        "link" | "implib" | "image" => lines.add(format!(in alloc;
+            "lx {command} --help says more"
+        )?),
+        _ => lines.add_text(alloc, "lx --help says more"),
+    }
+}
+
+fn not_written(alloc: Global, lines: &mut Lines, ended: &Ended<'_>) -> Result<(), AllocError> {
+    let out = ended.word(1);
+    match ended.saved {
+        Some(true) => lines.add(format!(in alloc;
+            "standard output failed before all of the text was written; {out} was saved"
+        )?),
+        Some(false) => {
+            lines.add(format!(in alloc;
+                "{out} could not be written: is there such a folder, may it be written, is there room?"
+            )?)?;
+            lines.add(format!(in alloc;
+                "{out} was not saved: if there was such a file, it is as it was"
+            )?)
+        }
+        None => lines.add_text(
+            alloc,
+            "standard output failed before all of the text was written; nothing was to be saved",
+        ),
+    }
+}
+
+fn no_memory(alloc: Global, lines: &mut Lines) -> Result<(), AllocError> {
+    lines.add_text(
+        alloc,
+        "there was no memory; nothing was saved, and nothing was put",
+    )
+}
+
+// The file's bytes, where it can be loaded.
+fn load<F: Files>(alloc: Global, files: &mut F, name: &str) -> Option<Vec<u8>> {
+    files.load(alloc, name, LONGEST).ok()
+}
+
+// The imports of the definition file, where there is one that can be read.
+fn load_imports<F: Files>(alloc: Global, files: &mut F, ended: &Ended<'_>) -> Imports {
+    if ended.word(0) != "link" || ended.word(2) == "-" {
+        return Seq::new(alloc);
+    }
+    let Some(bytes) = load(alloc, files, ended.word(2)) else {
+        return Seq::new(alloc);
+    };
+    match read_def(alloc, &bytes) {
+        Ok(file) => file.imports,
+        Err(_) => Seq::new(alloc),
+    }
+}
+
+// The object files and libraries of the words, each with its bytes.
+fn load_inputs<F: Files>(
+    alloc: Global,
+    files: &mut F,
+    ended: &Ended<'_>,
+) -> Result<Vec<(String, Vec<u8>)>, AllocError> {
+    let is_link = ended.word(0) == "link";
+    let first = if is_link { 3 } else { 1 };
+    let last = if is_link { ended.words.len() } else { 2 };
+    let mut inputs = Vec::new(alloc);
+    for word in ended.words.iter().take(last).skip(first) {
+        if let Some(bytes) = load(alloc, files, word.as_str()) {
+            inputs.push((word.clone()?, bytes))?;
+        }
+    }
+    Ok(inputs)
+}
+
+// The names of imports.
+fn imported(alloc: Global, imports: &[Imp]) -> Result<Vec<&[u8]>, AllocError> {
+    let mut names = Vec::new(alloc);
+    for import in imports {
+        names.push(import.name.bytes())?;
+    }
+    Ok(names)
+}
+
+// How many files the words of a link or of image name, without the definition file.
+fn input_count(ended: &Ended<'_>) -> usize {
+    match ended.word(0) {
+        "link" => ended.words.len().saturating_sub(3),
+        _ => 1,
+    }
+}
+
+fn link_notes<F: Files>(
+    alloc: Global,
+    files: &mut F,
+    lines: &mut Lines,
+    ended: &Ended<'_>,
+    refusal: (&str, &str),
+) -> Result<(), AllocError> {
+    if ended.word(0) == "implib" {
+        return Ok(());
+    }
+    let own = load_imports(alloc, files, ended);
+    let imports = imported(alloc, own.as_slice())?;
+    let loaded = load_inputs(alloc, files, ended)?;
+    if loaded.len() < input_count(ended) {
+        return Ok(());
+    }
+    explain(alloc, lines, refusal, (&loaded, &imports))
+}
+
+// Notes on a link of these files and imports.
+fn explain(
+    alloc: Global,
+    lines: &mut Lines,
+    refusal: (&str, &str),
+    given: (&[(String, Vec<u8>)], &[&[u8]]),
+) -> Result<(), AllocError> {
+    let (files, imports) = given;
+    let inputs = read_inputs(alloc, files, imports)?;
+    explain_modules(alloc, lines, refusal, &inputs, imports)
+}
+
+fn explain_modules(
+    alloc: Global,
+    lines: &mut Lines,
+    refusal: (&str, &str),
+    inputs: &Inputs<'_>,
+    imports: &[&[u8]],
+) -> Result<(), AllocError> {
+    let chosen = inputs.choose_all(alloc, imports)?;
+    let refused = Refused {
+        inputs,
+        chosen: &chosen,
+    };
+    refused.notes(alloc, lines, refusal.0, refusal.1)
+}
+
+// Whether a fault at a place is that of a module, which only implib reads.
+fn is_of_module(ended: &Ended<'_>) -> bool {
+    ended.word(0) == "implib"
+}
+
+fn refused<F: Files>(
+    alloc: Global,
+    files: &mut F,
+    lines: &mut Lines,
+    ended: &Ended<'_>,
+    told: &Told<'_>,
+) -> Result<(), AllocError> {
+    let file = told.file;
+    match told.fault {
+        Fault::Absent => lines.add(format!(in alloc;
+            "there is no file {file}: paths are taken from the folder that lx runs in"
+        )?),
+        Fault::TooLong => lines.add(format!(in alloc; "{file} has more than 16,777,216 bytes")?),
+        Fault::Placed { at, kind, fields } => {
+            let bytes = load(alloc, files, file);
+            let fault = Placed {
+                file,
+                at,
+                kind,
+                fields,
+            };
+            if is_of_module(ended) {
+                return module_notes(alloc, lines, &fault, bytes.as_deref());
+            }
+            object_notes(alloc, lines, &fault, bytes.as_deref())
+        }
+        Fault::Line { number, kind } => {
+            let bytes = load(alloc, files, file);
+            definition_notes(
+                alloc,
+                lines,
+                (file, number, kind),
+                bytes.as_deref(),
+                ended.word(0),
+            )
+        }
+        Fault::Link { kind, fields } => {
+            link_meaning(alloc, lines, file, kind)?;
+            link_notes(alloc, files, lines, ended, (kind, fields))
+        }
+    }
+}
+
+/// The notes on how a call ended, by its words, its text and the files that it names, which are loaded again. There is none
+/// where it succeeded.
+pub fn notes_on<F: Files>(
+    alloc: Global,
+    ended: &Ended<'_>,
+    files: &mut F,
+) -> Result<Lines, AllocError> {
+    let mut lines = Lines::new(alloc);
+    match ended.status {
+        1 => {
+            let text = std::str::from_utf8(ended.text).unwrap_or("");
+            if let Some(told) = refusal_of(text, ended.words) {
+                refused(alloc, files, &mut lines, ended, &told)?;
+            }
+        }
+        2 => usage(alloc, &mut lines, ended)?,
+        3 => lines.add_text(
+            alloc,
+            "the system does not give the file's bytes: it may be a folder, or one that you may not read",
+        )?,
+        4 => not_written(alloc, &mut lines, ended)?,
+        8 => no_memory(alloc, &mut lines)?,
+        _ => {}
+    }
+    Ok(lines)
+}
+
+/// Tells a reader how a call ended: warnings where it succeeded, and otherwise notes, for which its files are loaded again
+/// from `again`. What finds no memory is left out.
+pub fn tell_on<F: Files, T: Tell, S: Sink, G: Files>(
+    call: (Global, &[String], u8),
+    files: &mut Watched<F, T>,
+    out: &Heard<S>,
+    again: &mut G,
+)
+    ensures { ⟦<Watched<F, T> as Files>⟧.state files.new ≡ ⟦<Watched<F, T> as Files>⟧.state files.old }
+{
+    let (alloc, words, status) = call;
+    if status == 0 {
+        if let Ok(lines) = files.warnings(words) {
+            files.tell(&lines, Mark::Warning);
+        }
+        return;
+    }
+    let ended = Ended {
+        words,
+        status,
+        text: out.front(),
+        saved: files.saved(),
+    };
+    if let Ok(lines) = notes_on(alloc, &ended, again) {
+        files.tell(&lines, Mark::Note);
+    }
+}
