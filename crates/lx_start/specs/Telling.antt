@@ -1,5 +1,6 @@
 -- What the program tells of itself.
-use Rattle.std.specs.Prelude.{ℕ, List, [], ◌∷◌, ◌++◌, Option, Some, None, codes, bytes_eq, if◌then◌else◌}
+use Rattle.std.specs.Prelude.{ℕ, Bool, false, ◌||◌, ◌&&◌, List, [], ◌∷◌, ◌++◌, Option, Some, None, codes, bytes_eq, if◌then◌else◌}
+use Rattle.refusal_notes.specs.Help.{is_command}
 
 -- a line for each command
 abbrev pub image_line : List ℕ
@@ -11,13 +12,25 @@ link_line = codes "lx link OUT DEF IN ..  links object files and libraries, DEF 
 abbrev pub implib_line : List ℕ
 implib_line = codes "lx implib OUT IN ..    writes an import library of modules and definition files, as: lx implib d.lib d.def" ++ 10 ∷ []
 
+abbrev pub more_line : List ℕ
+more_line = codes "lx COMMAND --help      says more of one of them" ++ 10 ∷ []
+
 abbrev pub help : List ℕ
-help = image_line ++ (link_line ++ implib_line)
+help = image_line ++ (link_line ++ (implib_line ++ more_line))
 
 abbrev pub version : List ℕ
 version = codes "lx 0.1" ++ 10 ∷ []
 
+-- A word that asks for help.
+abbrev pub asks_help : List ℕ → Bool
+asks_help word = bytes_eq word (codes "--help") || bytes_eq word (codes "-h")
+
 -- Where one of these words is all there is, its text, and else none.
 abbrev pub told_of : List (List ℕ) → Option (List ℕ)
-told_of (word ∷ []) = if bytes_eq word (codes "--help") then Some help else (if bytes_eq word (codes "--version") then Some version else None)
+told_of (word ∷ []) = if asks_help word then Some help else (if bytes_eq word (codes "--version") then Some version else None)
 told_of _ = None
+
+-- The words ask for the page of a command: they are its name and a word that asks for help.
+abbrev pub asks_page : List (List ℕ) → Bool
+asks_page (command ∷ word ∷ []) = asks_help word && is_command command
+asks_page _ = false

@@ -1,18 +1,19 @@
 //! What the program `lx` does: one call over real files and standard output, and its status.
 #![tactic(auto)]
 
-ghost use Rattle.std.specs.Prelude.{◌≡◌, map, option_copied, string_bytes};
+ghost use Rattle.std.specs.Prelude.{◌≡◌, is_some, map, option_copied, string_bytes};
 ghost use Rattle.std.specs.Process.{exit_status};
 ghost use Rattle.lx_answer.specs.Ends.{Ends};
-ghost use Rattle.lx_start.specs.Telling.{told_of};
+ghost use Rattle.lx_start.specs.Telling.{asks_help, asks_page, told_of};
 
-use lx_ports::{DiskFiles, Files, NoGate, Sink, StdSink};
+use lx_ports::{DiskFiles, Files, MemFiles, NoGate, Sink, StdSink};
 use lx_tool::lx_main;
+use refusal_notes::{Heard, Tell, Watched, page_of, tell_on};
 use std::alloc::{AllocError, Global};
-use std::io::{ErrorKind, Write};
+use std::io::{Eprint, ErrorKind, Write};
 use std::process::ExitCode;
 use std::rt::Runtime;
-use std::{env, io};
+use std::{env, fs, io, rt};
 
 /// The status after standard output failed.
 const WRITE_FAILED: u8 = 4;
@@ -25,6 +26,7 @@ const HELP: &str = "\
 lx image OBJ BASE      shows an object file's objects in memory, as: lx image a.obj 10000000
 lx link OUT DEF IN ..  links object files and libraries, DEF may be -, as: lx link d.dll d.def a.obj b.lib
 lx implib OUT IN ..    writes an import library of modules and definition files, as: lx implib d.lib d.def
+lx COMMAND --help      says more of one of them
 ";
 
 /// What `--version` puts.
@@ -39,18 +41,33 @@ fn words<R: Runtime + AllocGlobal>(rt: &R) -> io::Result<Vec<String>> {
     }
 }
 
-/// Does what the words ask for, over these files and this sink, and ends with the status of the call.
-fn run<R, F: Files, S: Sink>(
-    rt: &R,
-    alloc: Global,
-    words: &[String],
-    files: &mut F,
-    out: &mut S,
+/// Standard error, for lines to a reader. What it does not take is dropped.
+#[derive(Drop)]
+struct StandardError<'a, R> {
+    rt: &'a R,
+}
+
+impl<R: Eprint> Tell for StandardError<'_, R> {
+    fn tell(&mut self, text: &str) {
+        let _ = eprint!(self.rt; "{text}");
+    }
+}
+
+/// Does what the words ask for, over these files and this sink, and ends with the status of the call. Behind the call a
+/// reader is told how it ended; what that needs of the files is loaded from `again`.
+fn run<R, F: Files, T: Tell, S: Sink, G: Files>(
+    call: (&R, Global, &[String]),
+    files: &mut Watched<F, T>,
+    out: &mut Heard<S>,
+    again: &mut G,
 ) -> ExitCode
-    ensures { Ends (map string_bytes words.now) (F.state files.old) (F.state files.new)
-        (S.state out.old) (S.state out.new) (exit_status result) }
+    ensures { Ends (map string_bytes call.entry.2.now) (⟦<Watched<F, T> as Files>⟧.state files.old) (⟦<Watched<F, T> as Files>⟧.state files.new)
+        (⟦<Heard<S> as Sink>⟧.state out.old) (⟦<Heard<S> as Sink>⟧.state out.new) (exit_status result) }
 {
-    ExitCode::from(lx_main(rt, alloc, words, files, out, &NoGate))
+    let (rt, alloc, words) = call;
+    let status = lx_main(rt, alloc, words, files, out, &NoGate);
+    tell_on((alloc, words, status), files, out, again);
+    ExitCode::from(status)
 }
 
 /// What is told of the program itself, where that is all that the words ask for.
@@ -58,8 +75,24 @@ fn about(words: &[String]) -> Option<&'static str>
     ensures { option_copied result ≡ told_of (map string_bytes words.now) }
 {
     match words {
-        [word] if word.as_str() == "--help" => Some(HELP),
+        [word] if asks_help(word.as_str()) => Some(HELP),
         [word] if word.as_str() == "--version" => Some(VERSION),
+        _ => None,
+    }
+}
+
+fn asks_help(word: &str) -> bool
+    ensures { result ≡ asks_help word.now }
+{
+    word == "--help" || word == "-h"
+}
+
+/// The page of help of a command, where that is all that the words ask for.
+fn page(words: &[String]) -> Option<&'static str>
+    ensures { is_some result ≡ asks_page (map string_bytes words.now) }
+{
+    match words {
+        [command, word] if asks_help(word.as_str()) => page_of(command.as_str()),
         _ => None,
     }
 }
@@ -71,19 +104,38 @@ fn tell<W: Write>(out: &mut W, text: &str) -> ExitCode {
     }
 }
 
+// Whether each of the words but the first names a file that can be read a second time, or none at all.
+fn can_be_read_again<R: rt::Files>(rt: &R, words: &[String]) -> bool {
+    words.iter().skip(1).all(|word| match fs::metadata(rt, word.as_str()) {
+        Ok(found) => found.is_file(),
+        Err(_) => true,
+    })
+}
+
+/// Does what the words ask for over real files and standard output, with notes on standard error. A pipe gives its bytes once,
+/// so with one among the words the notes are made without the files.
+fn run_real<R: Runtime + AllocGlobal>(rt: &R, words: &[String]) -> Result<ExitCode, AllocError> {
+    let alloc = rt.alloc();
+    let mut files = Watched::new(alloc, DiskFiles::new(rt.clone()?), StandardError { rt });
+    let mut out = Heard::new(alloc, StdSink::new(io::writer(rt)));
+    if can_be_read_again(rt, words) {
+        let mut again = DiskFiles::new(rt.clone()?);
+        return Ok(run((rt, alloc, words), &mut files, &mut out, &mut again));
+    }
+    let mut again = MemFiles::of(alloc, Vec::new(alloc), Vec::new(alloc), Vec::new(alloc));
+    Ok(run((rt, alloc, words), &mut files, &mut out, &mut again))
+}
+
 /// Does what the command line asks for, over real files and standard output. This is all that `main` does.
 pub fn program<R: Runtime + AllocGlobal>(rt: &R) -> ExitCode {
     let Ok(words) = words(rt) else {
         return ExitCode::from(NO_MEMORY);
     };
-    if let Some(text) = about(&words) {
+    if let Some(text) = about(&words).or(page(&words)) {
         return tell(&mut io::writer(rt), text);
     }
-    let own: Result<R, AllocError> = rt.clone();
-    let Ok(own) = own else {
-        return ExitCode::from(NO_MEMORY);
-    };
-    let mut files = DiskFiles::new(own);
-    let mut out = StdSink::new(io::writer(rt));
-    run(rt, rt.alloc(), &words, &mut files, &mut out)
+    match run_real(rt, &words) {
+        Ok(code) => code,
+        Err(AllocError) => ExitCode::from(NO_MEMORY),
+    }
 }
