@@ -6,6 +6,7 @@ use lx_ports::{
 };
 use std::alloc::{AllocError, Global};
 use std::fs;
+use std::os::unix::fs::symlink;
 use std::test::Fail;
 
 const TWO: [(&str, &[u8]); 2] = [("a.obj", &[1, 2, 3]), ("b.def", &[])];
@@ -95,6 +96,30 @@ fn a_real_file_is_saved_and_loaded(rt: HostRuntime) -> Result<(), Fail> {
     assert!(rt; matches!(files.load(alloc, name, 3), Err(LoadFault::Absent)));
     assert!(rt; matches!(files.load(alloc, ".", 3), Err(LoadFault::Failed)));
     assert_eq!(rt; files.save("no/such", &[1]), Err(SaveFault::Failed));
+    Ok(())
+}
+
+/// A new file takes the place of the old one at the end of a save, and a failed save leaves nothing behind.
+#[test]
+fn a_real_save_is_whole_or_nothing(rt: HostRuntime) -> Result<(), Fail> {
+    let alloc = rt.alloc();
+    let folder = "folder_of_a_test.tmp";
+    let (link, aim) = ("folder_of_a_test.tmp/link", "folder_of_a_test.tmp/aim");
+    fs::create_dir(&rt, folder)?;
+    symlink(&rt, "aim", link)?;
+    let mut files = DiskFiles::new(rt);
+    let first = files.save(link, &[1, 2]);
+    let made = files.load(alloc, aim, 3);
+    let second = files.save(link, &[3]);
+    let replaced = files.load(alloc, aim, 3);
+    let over_folder = files.save(folder, &[4]);
+    let is_link = fs::symlink_metadata(&rt, link)?.is_symlink();
+    fs::remove_file(&rt, link)?;
+    fs::remove_file(&rt, aim)?;
+    fs::remove_dir(&rt, folder)?;
+    assert!(rt; first.is_ok() && second.is_ok() && is_link);
+    assert!(rt; gave(&made, &[1, 2]) && gave(&replaced, &[3]));
+    assert_eq!(rt; over_folder, Err(SaveFault::Failed));
     Ok(())
 }
 
