@@ -50,6 +50,10 @@ pub enum Line<'a> {
     },
     /// `room BYTES`: what the sink takes, at most.
     Room(usize),
+    /// `says TEXT`: a line that is wanted on standard error. Rows without one are not asked what they say.
+    Says(&'a str),
+    /// `quiet`: nothing is wanted there.
+    Quiet,
     /// `saves NAME`: a file is to be saved. Its bytes follow.
     Saves(&'a str),
     /// `holds NAME PLACE HEX ..`: a file is to be saved that has these bytes at a place.
@@ -143,6 +147,7 @@ fn plain<'a>(alloc: Global, text: &'a str) -> Result<Line<'a>, AllocError> {
         "load" => fails(Port::Load, rest),
         "save" => fails(Port::Save, rest),
         "put" => fails(Port::Put, rest),
+        "quiet" => Line::Quiet,
         "room" => match number(rest) {
             Some(room) => Line::Room(room),
             None => Line::Unknown,
@@ -173,6 +178,9 @@ impl<'a> Line<'a> {
         }
         if let Some(part) = text.strip_prefix('>') {
             return Ok(Line::Changes(Change::Bytes(text_bytes(alloc, part, b"")?)));
+        }
+        if let Some(line) = text.strip_prefix("says ") {
+            return Ok(Line::Says(line));
         }
         if let Some(rest) = text.strip_prefix("lines ") {
             return Ok(lines(rest));

@@ -90,8 +90,23 @@ fn part_difference(alloc: Global, row: &Row, ended: &Ended) -> Result<Option<Str
     Ok(None)
 }
 
+// What was said on standard error, where the row wants something else there.
+fn saying_difference(
+    alloc: Global,
+    row: &Row,
+    ended: &Ended,
+) -> Result<Option<String>, AllocError> {
+    match &row.says {
+        Some(says) if says.as_str() != ended.said.as_str() => {
+            let said = shown(alloc, ended.said.as_bytes())?;
+            Ok(Some(format!(in alloc; "said {said}")?))
+        }
+        _ => Ok(None),
+    }
+}
+
 /// How a row ended otherwise than it wants, where it did: by its status, its text, the files under the words of the
-/// command, and the parts of files that it names.
+/// command, the parts of files that it names, and what was said on standard error.
 pub fn difference(
     alloc: Global,
     row: &Row,
@@ -105,6 +120,9 @@ pub fn difference(
     }
     match files_difference(alloc, row, files, ended)? {
         Some(told) => Ok(Some(told)),
-        None => part_difference(alloc, row, ended),
+        None => match part_difference(alloc, row, ended)? {
+            Some(told) => Ok(Some(told)),
+            None => saying_difference(alloc, row, ended),
+        },
     }
 }

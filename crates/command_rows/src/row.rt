@@ -4,6 +4,7 @@ use crate::line::Port;
 use lx_ports::{MemFiles, MemSink, NoGate};
 use lx_tool::lx_main;
 use lx_types::NoMemory;
+use refusal_notes::{Heard, Tell, Watched, tell_on};
 use std::alloc::{AllocError, Global};
 
 /// The bytes under a name.
@@ -35,7 +36,23 @@ struct Ports {
 pub struct Ended {
     pub status: u8,
     pub text: Vec<u8>,
+    /// What was said on standard error.
+    pub said: String,
     pub files: MemFiles,
+}
+
+/// Takes what is said on standard error.
+#[derive(Drop)]
+struct Sayings {
+    said: String,
+}
+
+impl Tell for Sayings {
+    fn tell(&mut self, text: &str) {
+        if self.said.push_str(text).is_err() {
+            self.said.clear();
+        }
+    }
 }
 
 /// A command with what is wanted of it.
@@ -46,6 +63,8 @@ pub struct Row {
     ports: Ports,
     pub status: u8,
     pub text: Vec<u8>,
+    /// What is to be said on standard error, where the row wants something of it.
+    pub says: Option<String>,
     pub saved: Vec<Named>,
     pub held: Vec<Held>,
 }
@@ -76,6 +95,7 @@ impl Row {
             },
             status: 0,
             text: Vec::new(alloc),
+            says: None,
             saved: Vec::new(alloc),
             held: Vec::new(alloc),
         })
@@ -99,25 +119,58 @@ impl Row {
         Ok(())
     }
 
+    /// Wants one line more on standard error.
+    pub fn add_saying(&mut self, alloc: Global, line: &str) -> Result<(), AllocError> {
+        let mut says = match self.says.take() {
+            Some(says) => says,
+            None => String::new(alloc),
+        };
+        says.push_str(line)?;
+        says.push('\n')?;
+        self.says = Some(says);
+        Ok(())
+    }
+
+    /// Wants nothing on standard error.
+    pub fn want_quiet(&mut self, alloc: Global) {
+        self.says = Some(String::new(alloc));
+    }
+
     /// Gives the sink so much room.
     pub fn set_room(&mut self, room: usize) {
         self.ports.room = room;
     }
 
-    /// Runs the command over these files.
+    /// Runs the command over these files, as the program does over real ones.
     pub fn run<R>(&self, rt: &R, alloc: Global, files: &[Named]) -> Result<Ended, NoMemory> {
-        let mut entries = Vec::new(alloc);
-        for file in files {
-            entries.push((file.name.clone()?, file.bytes.to_vec(alloc)?))?;
-        }
         let ports = &self.ports;
-        let mut files = MemFiles::of(alloc, entries, ports.loads.clone()?, ports.saves.clone()?);
-        let mut out = MemSink::of(alloc, ports.room, SHARE, ports.puts.clone()?)?;
-        let status = lx_main(rt, alloc, &self.words, &mut files, &mut out, &NoGate);
+        let entries = entries_of(alloc, files)?;
+        let own = MemFiles::of(alloc, entries, ports.loads.clone()?, ports.saves.clone()?);
+        let sayings = Sayings {
+            said: String::new(alloc),
+        };
+        let mut watched = Watched::new(alloc, own, sayings);
+        let sink = MemSink::of(alloc, ports.room, SHARE, ports.puts.clone()?)?;
+        let mut out = Heard::new(alloc, sink);
+        let status = lx_main(rt, alloc, &self.words, &mut watched, &mut out, &NoGate);
+        let entries = entries_of(alloc, files)?;
+        let mut again = MemFiles::of(alloc, entries, Vec::new(alloc), Vec::new(alloc));
+        tell_on((alloc, &self.words, status), &mut watched, &out, &mut again);
+        let (files, sayings) = watched.into_parts();
         Ok(Ended {
             status,
-            text: out.written().to_vec(alloc)?,
+            text: out.into_sink().written().to_vec(alloc)?,
+            said: sayings.said,
             files,
         })
     }
+}
+
+// The files as entries of files in memory.
+fn entries_of(alloc: Global, files: &[Named]) -> Result<Vec<(String, Vec<u8>)>, NoMemory> {
+    let mut entries = Vec::new(alloc);
+    for file in files {
+        entries.push((file.name.clone()?, file.bytes.to_vec(alloc)?))?;
+    }
+    Ok(entries)
 }

@@ -164,6 +164,8 @@ fn take_in_row(alloc: Global, row: &mut Row, line: Line<'_>) -> Result<bool, All
         Line::Status(status) => row.status = status,
         Line::Fails { port, number } => row.fail(port, number)?,
         Line::Room(room) => row.set_room(room),
+        Line::Says(line) => row.add_saying(alloc, line)?,
+        Line::Quiet => row.want_quiet(alloc),
         Line::Saves(name) => row.saved.push(Named {
             name: name.to_string(alloc)?,
             bytes: Vec::new(alloc),
