@@ -1,0 +1,298 @@
+//! Every form of source and of target: what a page begins and ends with, once its fixups were put.
+
+use crate::fixing::fixed;
+use crate::modules::{bases, library};
+use lx_sample::SamplePage;
+use lx_types::{NoMemory, PageId};
+use std::alloc::Global;
+
+/// What a plain page begins with.
+const P: &[u8] = &[
+    0xA0, 0xA1, 0xA2, 0xA3, 0xA4, 0xA5, 0xA6, 0xA7, 0xA8, 0xA9, 0xAA, 0xAB,
+];
+
+/// A page of A: its flags, its data and its records, and the first and the last bytes that it has at the bases of the load.
+type Row = (u16, &'static [u8], &'static [u8], [u8; 12], [u8; 2]);
+
+/// Most sources stand at offset 2. Those of A's code lead to 10031234h, those of its data to 10054321h, and those of B and C
+/// to 10091234h.
+const ROWS: [Row; 26] = [
+    // A byte.
+    (
+        0,
+        P,
+        &[0x00, 0, 2, 0, 1, 0x34, 0x12],
+        [
+            0xA0, 0xA1, 0x34, 0xA3, 0xA4, 0xA5, 0xA6, 0xA7, 0xA8, 0xA9, 0xAA, 0xAB,
+        ],
+        [0, 0],
+    ),
+    // A selector: of flat code, of 16-bit data, and the alias of code.
+    (
+        0,
+        P,
+        &[0x02, 0, 2, 0, 1],
+        [
+            0xA0, 0xA1, 0x5B, 0x00, 0xA4, 0xA5, 0xA6, 0xA7, 0xA8, 0xA9, 0xAA, 0xAB,
+        ],
+        [0, 0],
+    ),
+    (
+        0,
+        P,
+        &[0x02, 0, 2, 0, 2],
+        [
+            0xA0, 0xA1, 0x2F, 0x80, 0xA4, 0xA5, 0xA6, 0xA7, 0xA8, 0xA9, 0xAA, 0xAB,
+        ],
+        [0, 0],
+    ),
+    (
+        0,
+        P,
+        &[0x12, 0, 2, 0, 1],
+        [
+            0xA0, 0xA1, 0x1F, 0x80, 0xA4, 0xA5, 0xA6, 0xA7, 0xA8, 0xA9, 0xAA, 0xAB,
+        ],
+        [0, 0],
+    ),
+    // 16:16, and its alias.
+    (
+        0,
+        P,
+        &[0x03, 0, 2, 0, 1, 0x34, 0x12],
+        [
+            0xA0, 0xA1, 0x34, 0x12, 0x5B, 0x00, 0xA6, 0xA7, 0xA8, 0xA9, 0xAA, 0xAB,
+        ],
+        [0, 0],
+    ),
+    (
+        0,
+        P,
+        &[0x13, 0, 2, 0, 1, 0x34, 0x12],
+        [
+            0xA0, 0xA1, 0x34, 0x12, 0x1F, 0x80, 0xA6, 0xA7, 0xA8, 0xA9, 0xAA, 0xAB,
+        ],
+        [0, 0],
+    ),
+    // A 16-bit offset.
+    (
+        0,
+        P,
+        &[0x05, 0, 2, 0, 1, 0x34, 0x12],
+        [
+            0xA0, 0xA1, 0x34, 0x12, 0xA4, 0xA5, 0xA6, 0xA7, 0xA8, 0xA9, 0xAA, 0xAB,
+        ],
+        [0, 0],
+    ),
+    // 16:32: of flat code, its alias with an offset within the tile, and of 16-bit data.
+    (
+        0,
+        P,
+        &[0x06, 0, 2, 0, 1, 0x34, 0x12],
+        [
+            0xA0, 0xA1, 0x34, 0x12, 0x03, 0x10, 0x5B, 0x00, 0xA8, 0xA9, 0xAA, 0xAB,
+        ],
+        [0, 0],
+    ),
+    (
+        0,
+        P,
+        &[0x16, 0, 2, 0, 1, 0x34, 0x12],
+        [
+            0xA0, 0xA1, 0x34, 0x12, 0x00, 0x00, 0x1F, 0x80, 0xA8, 0xA9, 0xAA, 0xAB,
+        ],
+        [0, 0],
+    ),
+    (
+        0,
+        P,
+        &[0x06, 0, 2, 0, 2, 0x21, 0x43],
+        [
+            0xA0, 0xA1, 0x21, 0x43, 0x00, 0x00, 0x2F, 0x80, 0xA8, 0xA9, 0xAA, 0xAB,
+        ],
+        [0, 0],
+    ),
+    // A 32-bit offset.
+    (
+        0,
+        P,
+        &[0x07, 0, 2, 0, 1, 0x34, 0x12],
+        [
+            0xA0, 0xA1, 0x34, 0x12, 0x03, 0x10, 0xA6, 0xA7, 0xA8, 0xA9, 0xAA, 0xAB,
+        ],
+        [0, 0],
+    ),
+    // One from the field's end, which on this page is 1003B006h.
+    (
+        0,
+        P,
+        &[0x08, 0, 2, 0, 1, 0x34, 0x12],
+        [
+            0xA0, 0xA1, 0x2E, 0x62, 0xFF, 0xFF, 0xA6, 0xA7, 0xA8, 0xA9, 0xAA, 0xAB,
+        ],
+        [0, 0],
+    ),
+    // An import by ordinal, of a word and of a byte, and by name; an own ordinal, through three modules.
+    (
+        0,
+        P,
+        &[0x07, 0x01, 2, 0, 1, 2, 0],
+        [
+            0xA0, 0xA1, 0x34, 0x12, 0x09, 0x10, 0xA6, 0xA7, 0xA8, 0xA9, 0xAA, 0xAB,
+        ],
+        [0, 0],
+    ),
+    (
+        0,
+        P,
+        &[0x07, 0x81, 2, 0, 1, 2],
+        [
+            0xA0, 0xA1, 0x34, 0x12, 0x09, 0x10, 0xA6, 0xA7, 0xA8, 0xA9, 0xAA, 0xAB,
+        ],
+        [0, 0],
+    ),
+    (
+        0,
+        P,
+        &[0x07, 0x02, 2, 0, 1, 1, 0],
+        [
+            0xA0, 0xA1, 0x34, 0x12, 0x09, 0x10, 0xA6, 0xA7, 0xA8, 0xA9, 0xAA, 0xAB,
+        ],
+        [0, 0],
+    ),
+    (
+        0,
+        P,
+        &[0x07, 0x03, 2, 0, 1],
+        [
+            0xA0, 0xA1, 0x34, 0x12, 0x09, 0x10, 0xA6, 0xA7, 0xA8, 0xA9, 0xAA, 0xAB,
+        ],
+        [0, 0],
+    ),
+    // An additive of a word, and of a doubleword that takes one off.
+    (
+        0,
+        P,
+        &[0x07, 0x04, 2, 0, 1, 0x34, 0x12, 0x10, 0],
+        [
+            0xA0, 0xA1, 0x44, 0x12, 0x03, 0x10, 0xA6, 0xA7, 0xA8, 0xA9, 0xAA, 0xAB,
+        ],
+        [0, 0],
+    ),
+    (
+        0,
+        P,
+        &[0x07, 0x24, 2, 0, 1, 0x34, 0x12, 0xFF, 0xFF, 0xFF, 0xFF],
+        [
+            0xA0, 0xA1, 0x33, 0x12, 0x03, 0x10, 0xA6, 0xA7, 0xA8, 0xA9, 0xAA, 0xAB,
+        ],
+        [0, 0],
+    ),
+    // An object of a word, and an offset of a doubleword.
+    (
+        0,
+        P,
+        &[0x07, 0x50, 2, 0, 1, 0, 0x34, 0x12, 0, 0],
+        [
+            0xA0, 0xA1, 0x34, 0x12, 0x03, 0x10, 0xA6, 0xA7, 0xA8, 0xA9, 0xAA, 0xAB,
+        ],
+        [0, 0],
+    ),
+    // A list of two sources.
+    (
+        0,
+        P,
+        &[0x25, 0, 2, 1, 0x34, 0x12, 0, 0, 6, 0],
+        [
+            0x34, 0x12, 0xA2, 0xA3, 0xA4, 0xA5, 0x34, 0x12, 0xA8, 0xA9, 0xAA, 0xAB,
+        ],
+        [0, 0],
+    ),
+    // The second half of a source that began in the page before, and the first half of one that goes on in the next.
+    (
+        0,
+        P,
+        &[0x07, 0, 0xFE, 0xFF, 1, 0x34, 0x12],
+        [
+            0x03, 0x10, 0xA2, 0xA3, 0xA4, 0xA5, 0xA6, 0xA7, 0xA8, 0xA9, 0xAA, 0xAB,
+        ],
+        [0, 0],
+    ),
+    (
+        0,
+        P,
+        &[0x07, 0, 0xFE, 0x0F, 1, 0x34, 0x12],
+        [
+            0xA0, 0xA1, 0xA2, 0xA3, 0xA4, 0xA5, 0xA6, 0xA7, 0xA8, 0xA9, 0xAA, 0xAB,
+        ],
+        [0x34, 0x12],
+    ),
+    // Of two sources on one byte the later one counts.
+    (
+        0,
+        P,
+        &[0x07, 0, 2, 0, 1, 0x34, 0x12, 0x00, 0, 3, 0, 2, 0x21, 0x43],
+        [
+            0xA0, 0xA1, 0x34, 0x21, 0x03, 0x10, 0xA6, 0xA7, 0xA8, 0xA9, 0xAA, 0xAB,
+        ],
+        [0, 0],
+    ),
+    // An iterated page, with zeros behind its groups; a page of zeros; a page without fixups.
+    (
+        1,
+        &[6, 0, 2, 0, 0xA0, 0xA1],
+        &[0x05, 0, 2, 0, 1, 0x34, 0x12],
+        [
+            0xA0, 0xA1, 0x34, 0x12, 0xA0, 0xA1, 0xA0, 0xA1, 0xA0, 0xA1, 0xA0, 0xA1,
+        ],
+        [0, 0],
+    ),
+    (
+        3,
+        &[],
+        &[0x05, 0, 2, 0, 1, 0x34, 0x12],
+        [0, 0, 0x34, 0x12, 0, 0, 0, 0, 0, 0, 0, 0],
+        [0, 0],
+    ),
+    (
+        0,
+        P,
+        &[],
+        [
+            0xA0, 0xA1, 0xA2, 0xA3, 0xA4, 0xA5, 0xA6, 0xA7, 0xA8, 0xA9, 0xAA, 0xAB,
+        ],
+        [0, 0],
+    ),
+];
+
+/// The pages of A.
+fn pages(alloc: Global) -> Result<Vec<SamplePage<'static>>, NoMemory> {
+    let mut pages = Vec::new(alloc);
+    for (flags, data, records, _, _) in ROWS {
+        pages.push(SamplePage {
+            flags,
+            data,
+            records,
+        })?;
+    }
+    Ok(pages)
+}
+
+#[test]
+fn each_form_of_source_and_target(rt: HostRuntime) -> Result<(), NoMemory> {
+    let alloc = rt.alloc();
+    let pages = pages(alloc)?;
+    let lib = library(alloc, pages.as_slice())?.expect(&rt, "a library");
+    let bases = bases(alloc)?;
+    let mut page = 0u32;
+    for (_, _, _, begin, end) in ROWS {
+        let p = PageId { object: 1, page };
+        let bytes = fixed(alloc, &lib, &bases, p)?.expect(&rt, "a page of A");
+        assert_eq!(rt; bytes.get(..12), Some(begin.as_slice()));
+        assert_eq!(rt; bytes.get(4094..), Some(end.as_slice()));
+        let between = bytes.get(12..4094).unwrap_or(&[1]);
+        assert!(rt; between.iter().all(|byte| *byte == 0));
+        page = page.wrapping_add(1);
+    }
+    Ok(())
+}
