@@ -1,0 +1,2 @@
+pub mod SoundRows
+pub mod SoundTable

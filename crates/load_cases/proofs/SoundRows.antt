@@ -1,0 +1,87 @@
+-- What processes hold goes on.
+use Rattle.std.proofs.Common.{◌≡◌, ℕ, ◌==◌, ◌||◌, Bool, true, false, cond, inl, inr, List, [], ◌∷◌, ◌++◌, None, Result, Ok, Err, refl, sym, ◌∙◌, ap}
+use Rattle.std.specs.Prelude.{IfOk, IfErr}
+use Rattle.std.proofs.lemmas.Bool.{cases_eq, eq-eqb, ne_eqb}
+use Rattle.std.proofs.lemmas.List.Folds.{list_any-append}
+use Rattle.load_model.specs.declared.deeds.How.TheVariants.{Start, Load}
+use Rattle.load_model.specs.Modules.{Library}
+use Rattle.load_model.specs.State.{Process, Eager, with_process, nothing_yet, is_among}
+use Rattle.load_model.specs.Leaving.{keeping}
+use Rattle.load_model.specs.Rows.{Row}
+use Rattle.mod_refs.specs.declared.changes.Leaving.{Leaving}
+use Rattle.mod_refs.specs.declared.changes.Leaving.TheVariants.{One, All}
+use Rattle.mod_refs.specs.AllRows.{AreRows, AreKept}
+use Rattle.mod_refs.specs.Changes.{with_entered, with_given_up, given_up}
+use Rattle.load_cases.specs.Sound.{RowsSound}
+
+-- a call that is done, or refused
+pub either : {A E : Type 0} (r : Result A E) (P : A → Type 0) (Q : E → Type 0) (X : Type 0) → IfOk r P → IfErr r Q → ((x : A) → P x → X) → ((e : E) → Q e → X) → X
+either (Ok x) P Q X done refused on_done on_refused = on_done x done
+either (Err e) P Q X done refused on_done on_refused = on_refused e refused
+
+idle_with : (e : Eager) (pid : ℕ) (p : Process) (q : ℕ) → (q ≡ pid → p.started ≡ None) → (e.processes q).started ≡ None → ((with_process e pid p).processes q).started ≡ None
+unfolding with_process
+idle_with e pid p q own other = elim (cases_eq q pid) [
+  | inl same ↦ ap (λ b. (cond b p (e.processes q)).started) (eq-eqb q pid same) ∙ own same
+  | inr apart ↦ ap (λ b. (cond b p (e.processes q)).started) (ne_eqb q pid apart) ∙ other
+]
+
+pub nothing_sound : (lib : Library) (rows : List Row) → AreRows lib (nothing_yet []) rows → AreKept lib rows → RowsSound lib rows []
+nothing_sound lib rows are kept = record { state = nothing_yet []; rows_are = are; kept = kept; idle = λ pid none. refl }
+
+pub loaded_sound : (lib : Library) (rows new : List Row) (started : List ℕ) (pid m : ℕ) → (sound : RowsSound lib rows started) → AreRows lib (with_entered lib sound.state pid Load m) new →
+    AreKept lib new → RowsSound lib new started
+loaded_sound lib rows new started pid m sound are kept = record {
+  state = with_entered lib sound.state pid Load m;
+  rows_are = are;
+  kept = kept;
+  idle = λ q none. idle_with sound.state pid _ q (λ same. ap (λ k. (sound.state.processes k).started) (sym same) ∙ sound.idle q none) (sound.idle q none);
+}
+
+or_true : (b : Bool) → b || true ≡ true
+or_true true = refl
+or_true false = refl
+
+among_last : (started : List ℕ) (pid : ℕ) → is_among (started ++ pid ∷ []) pid ≡ true
+among_last started pid =
+    list_any-append (λ other. other == pid) started (pid ∷ []) ∙ ap (λ b. is_among started pid || (b || false)) (eq-eqb pid pid refl) ∙ or_true (is_among started pid)
+
+or_left : (a b : Bool) → a || b ≡ false → a ≡ false
+or_left true b e = e
+or_left false b e = refl
+
+among_fewer : (started : List ℕ) (pid q : ℕ) → is_among (started ++ pid ∷ []) q ≡ false → is_among started q ≡ false
+among_fewer started pid q none = or_left (is_among started q) (is_among (pid ∷ []) q) (sym (list_any-append (λ other. other == q) started (pid ∷ [])) ∙ none)
+
+pub more_started : (lib : Library) (rows : List Row) (started : List ℕ) (pid : ℕ) → RowsSound lib rows started → RowsSound lib rows (started ++ pid ∷ [])
+more_started lib rows started pid sound = record {
+  state = sound.state;
+  rows_are = sound.rows_are;
+  kept = sound.kept;
+  idle = λ q none. sound.idle q (among_fewer started pid q none);
+}
+
+pub started_sound : (lib : Library) (rows new : List Row) (started : List ℕ) (pid m : ℕ) → (sound : RowsSound lib rows started) → AreRows lib (with_entered lib sound.state pid Start m) new →
+    AreKept lib new → RowsSound lib new (started ++ pid ∷ [])
+started_sound lib rows new started pid m sound are kept = record {
+  state = with_entered lib sound.state pid Start m;
+  rows_are = are;
+  kept = kept;
+  idle = λ q none. idle_with sound.state pid _ q
+      (λ same. (let wrong : true ≡ false = sym (among_last started pid) ∙ ap (is_among (started ++ pid ∷ [])) (sym same) ∙ none in cc)) (sound.idle q (among_fewer started pid q none));
+}
+
+given_up_idle : (what : Leaving) (p : Process) → p.started ≡ None → (given_up what p).started ≡ None
+given_up_idle (One m) p none = none
+given_up_idle All p none = refl
+
+pub left_sound : (lib : Library) (rows new : List Row) (started : List ℕ) (pid : ℕ) (what : Leaving) → (sound : RowsSound lib rows started) → AreRows lib (with_given_up lib sound.state pid what) new →
+    AreKept lib new → RowsSound lib new started
+unfolding keeping
+left_sound lib rows new started pid what sound are kept = record {
+  state = with_given_up lib sound.state pid what;
+  rows_are = are;
+  kept = kept;
+  idle = λ q none. idle_with sound.state pid _ q
+      (λ same. given_up_idle what (sound.state.processes pid) (ap (λ k. (sound.state.processes k).started) (sym same) ∙ sound.idle q none)) (sound.idle q none);
+}

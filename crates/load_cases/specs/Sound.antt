@@ -1,0 +1,27 @@
+-- What the tests keep, so that they may go on.
+use Rattle.std.specs.Prelude.{◌≡◌, ℕ, ◌+◌, ◌<◌, false, List, All, None, length, map}
+use Rattle.load_model.specs.declared.deeds.Fresh.{Fresh}
+use Rattle.load_model.specs.Modules.{Library}
+use Rattle.load_model.specs.State.{Residence, Eager, is_among}
+use Rattle.load_model.specs.Entering.{residence_from}
+use Rattle.load_model.specs.ResidenceBases.{Stands}
+use Rattle.load_model.specs.Serials.{Rise}
+use Rattle.load_model.specs.Rows.{Row}
+use Rattle.mod_refs.specs.AllRows.{AreRows, AreKept}
+
+-- The rows are those of a state in which no process but these has started a program.
+pub record RowsSound (lib : Library) (rows : List Row) (started : List ℕ) : Type 0 where
+  pub state : Eager
+  pub rows_are : AreRows lib state rows
+  pub kept : AreKept lib rows
+  pub idle : (pid : ℕ) → is_among started pid ≡ false → (state.processes pid).started ≡ None
+
+-- Residences of modules of the library stand by serial numbers that rise from behind one up to another.
+pub record AllSound (lib : Library) (rs : List Residence) (low high : ℕ) : Type 0 where
+  pub within : All (λ r. r.«module» < length lib) rs
+  pub bases : All (λ r. Stands lib r.«module» r.bases) rs
+  pub rise : Rise low (map (λ r. r.serial) rs) high
+
+-- So do those that begin, behind so many serial numbers.
+abbrev pub FreshSound : Library → ℕ → List Fresh → Type 0
+FreshSound lib serials fresh = AllSound lib (map residence_from fresh) serials (serials + length fresh)
