@@ -54,8 +54,7 @@ dealt_holds legal stands lock about n k pass v is small view =
     let base : Holds (record { lock = pass.table_id; known = (at_start {X = Kept} (Some about) (k + 1) (live_of k n)).0; view = new_view about.library (k + 1) }) =
     new_holds legal stands pass.table_id about (k + 1) (live_of k n) (omega arith) (omega arith) in
     let with_view : Holds (record { lock = pass.table_id; known = (at_start {X = Kept} (Some about) (k + 1) (live_of k n)).0; view = v }) =
-    subst (λ (u : ProcessView). Holds (record { lock = pass.table_id; known = (at_start {X = Kept} (Some about) (k + 1) (live_of k n)).0; view = u })) (sym shown) base in
-    (
+    subst (λ (u : ProcessView). Holds (record { lock = pass.table_id; known = (at_start {X = Kept} (Some about) (k + 1) (live_of k n)).0; view = u })) (sym shown) base in (
       (ap (λ m. m.0.ticket) is.1, ap (λ m. m.0.turn) is.1, ap (λ m. m.1) is.1),
       subst (λ (w : Known Entry About). Holds (record { lock = pass.table_id; known = w; view = v })) (sym known) with_view,
     )

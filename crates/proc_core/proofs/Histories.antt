@@ -60,6 +60,7 @@ history_of lock first rest v b owns all holds joined legal seen own about =
         GoesOn h (get_or (first ∷ rest) k d)
     each_of h first rest one other zero d inside = one
     each_of h first rest one other (suc k) d inside = other k d (omega arith)
+
     outside : (p : ℕ) → (p < 1) ⊎ (length (first ∷ rest) < p) → own_of v p ≡ []
     outside p (inl low) = own_other v p joined.pid (λ (e : p ≡ 1). omega arith) ∙ joined.none p (inl (omega arith))
     outside p (inr high) = own_other v p joined.pid (λ (e : p ≡ 1). omega arith) ∙ joined.none p (inr (omega arith))

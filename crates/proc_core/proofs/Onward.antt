@@ -68,7 +68,7 @@ seen_in v w at t m x is pid same (inr own) =
     inr (
       own.0 ∙ pid,
       subst (λ (d : Deed). IsNewFault v at d) (sym own.1)
-      (is.serial, is.«module», is.object, is.among, subst (λ (n : ℕ). has_page (mapped_pages v.holding) n t.page ≡ false) refl (same own.2)),
+          (is.serial, is.«module», is.object, is.among, subst (λ (n : ℕ). has_page (mapped_pages v.holding) n t.page ≡ false) refl (same own.2)),
     )
 
 -- ---- one more page

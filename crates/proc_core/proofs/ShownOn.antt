@@ -31,8 +31,7 @@ found p (x ∷ xs) y ys e = found_or p (p x) x (find p (xs ++ y ∷ ys)) (found 
 in_stays : (before : List Fresh) (rs : List ResidenceFor) → AllByRecursion (λ (r : ResidenceFor). is_some (find (λ s. s.«module» == r.«module») (before ++ map fresh_shown rs)) ≡ true) rs
 in_stays before [] = tt
 in_stays before (r ∷ rs) =
-    let P : List Fresh → Type 0 = λ all. AllByRecursion (λ (s : ResidenceFor). is_some (find (λ f. f.«module» == s.«module») all) ≡ true) rs in
-    (
+    let P : List Fresh → Type 0 = λ all. AllByRecursion (λ (s : ResidenceFor). is_some (find (λ f. f.«module» == s.«module») all) ≡ true) rs in (
       found (λ s. s.«module» == r.«module») before (fresh_shown r) (map fresh_shown rs) (eq-eqb r.«module» r.«module» refl),
       subst P (append_assoc before (fresh_shown r ∷ []) (map fresh_shown rs)) (in_stays (before ++ fresh_shown r ∷ []) rs),
     )

@@ -82,16 +82,14 @@ is_turned p pass m h g w ticket turn lock knows gave =
 
 pub answered : Laws → (p : Standing) (b c : Ledger) (v w : ProcessView) (command : Command) (r : Result Unit (Fail Refusal)) (a : Result Done (Fail Refusal)) → Holds p → HasCome p b v → FitsPlace command → call_refusal p command ≡ None →
     IsDone b c v w command r → IsToldBy (length c.history) r a → Holds (turned p c.history w) × IsAnswered p (turned p c.history w) command a
-answered laws p b c v w command (Ok u) (Ok it) holds come fits fine is say =
-    (
-      did_holds laws p b c v w command (done (length c.history)) holds come is,
-      subst (λ (n : ℕ). Made p (turned p c.history w) command (done n)) (sym say) (did_made laws p b c v w command (done (length c.history)) holds come fits fine (fine_view p command fine) is),
-    )
+answered laws p b c v w command (Ok u) (Ok it) holds come fits fine is say = (
+  did_holds laws p b c v w command (done (length c.history)) holds come is,
+  subst (λ (n : ℕ). Made p (turned p c.history w) command (done n)) (sym say) (did_made laws p b c v w command (done (length c.history)) holds come fits fine (fine_view p command fine) is),
+)
 answered laws p b c v w command (Ok u) (Err other) holds come fits fine is say = absurd say
 answered laws p b c v w command (Err fail) (Ok it) holds come fits fine is say = absurd say
 answered laws p b c v w command (Err (Said refusal)) (Err other) holds come fits fine is say =
-    subst (λ (f : Fail Refusal). Holds (turned p c.history w) × IsAnswered p (turned p c.history w) command (Err f)) (sym say)
-    (
+    subst (λ (f : Fail Refusal). Holds (turned p c.history w) × IsAnswered p (turned p c.history w) command (Err f)) (sym say) (
       did_holds laws p b c v w command (told (Refused refusal)) holds come is,
       inr (did_made laws p b c v w command (told (Refused refusal)) holds come fits fine (fine_view p command fine) is),
     )

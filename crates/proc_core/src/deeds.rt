@@ -37,11 +37,7 @@ impl Proc {
     }
 
     /// Ends the process (DosExit).
-    pub fn exit<R: Wait>(
-        &mut self,
-        rt: &R,
-        loader: &Loader,
-    ) -> Result<Done, Fail<Refusal>>
+    pub fn exit<R: Wait>(&mut self, rt: &R, loader: &Loader) -> Result<Done, Fail<Refusal>>
         requires loader { IsOf loader.now self.old }
         ensures loader { IsOf loader.now self.new }
         ensures answer { IsAnswered self.old self.new commands.Exit result }

@@ -55,7 +55,10 @@ pub(crate) fn give_back(loader: &Loader, pass: &mut Pass<Kept>, board: Board)
 }
 
 // The answer of a call that is done: the number of its entry is how much of the history the process has seen.
-pub(crate) fn told_by(pass: &Pass<Kept>, done: Result<(), Fail<Refusal>>) -> Result<Done, Fail<Refusal>>
+pub(crate) fn told_by(
+    pass: &Pass<Kept>,
+    done: Result<(), Fail<Refusal>>,
+) -> Result<Done, Fail<Refusal>>
     ensures { IsToldBy (length pass.now.me.0.seen) done result }
 {
     match done {

@@ -113,7 +113,7 @@ pub stay_resident : (lib : Library) (failing : Failing) (v : Holding) (rs : List
 stay_resident lib failing v rs h k r e stands u at =
     resident lib (state_after lib failing h) v.pid r.«module»
     (sym (some_mapped (attached_residence lib (state_after lib failing h) v.pid r.«module»)) ∙ ap (λ (o : Option Fresh). is_some o) (sym (stands.view.stays r.«module»))
-     ∙ ap (λ (ss : List Fresh). is_some (find (λ (s : Fresh). s.«module» == r.«module») ss)) e ∙ some_found rs k r u at)
+    ∙ ap (λ (ss : List Fresh). is_some (find (λ (s : Fresh). s.«module» == r.«module») ss)) e ∙ some_found rs k r u at)
 
 -- a residence that stands before and behind an entry is shown alike
 pub shown_alike : ResidenceStays → BasesSeenStay → (b : Ledger) (x : Entry) (m : ℕ) → IsLegal b → Follows b.library b.failing (fixed_bytes b.library) b.history x →
@@ -144,14 +144,14 @@ pub shown_behind : ResidenceStays → BasesSeenStay → (b : Ledger) (x : Entry)
 shown_behind still bases b x v w legal follows at e stands =
     recursion_from_All (λ (r : ResidenceFor). r ≡ residence_shown b.library (state_after b.library b.failing (b.history ++ x ∷ [])) r.«module») v.residences
     (All-from_get_or (λ (r : ResidenceFor). r ≡ residence_shown b.library (state_after b.library b.failing (b.history ++ x ∷ [])) r.«module») v.residences
-     (record { library = []; serial = 0; «module» = 0; bases = record { mods = [] } })
-     (λ i u.
-        let r = get_or v.residences i (record { library = []; serial = 0; «module» = 0; bases = record { mods = [] } }) in
-        let here : r ≡ get_or v.residences i r = get_or_default v.residences i _ r u in
-        shown_of b.library (state_of b) v.residences i r at.shown u here
-        ∙ sym
-          (shown_alike still bases b x r.«module» legal follows (stay_resident b.library b.failing v.holding v.residences b.history i r at.stays at.stands u here)
-           (stay_resident b.library b.failing w v.residences (b.history ++ x ∷ []) i r e stands u here))))
+    (record { library = []; serial = 0; «module» = 0; bases = record { mods = [] } })
+    (λ i u.
+    let r = get_or v.residences i (record { library = []; serial = 0; «module» = 0; bases = record { mods = [] } }) in
+    let here : r ≡ get_or v.residences i r = get_or_default v.residences i _ r u in
+    shown_of b.library (state_of b) v.residences i r at.shown u here
+    ∙ sym
+    (shown_alike still bases b x r.«module» legal follows (stay_resident b.library b.failing v.holding v.residences b.history i r at.stays at.stands u here)
+    (stay_resident b.library b.failing w v.residences (b.history ++ x ∷ []) i r e stands u here))))
 
 -- behind an entry that changes nothing in it
 pub quiet_behind : ResidenceStays → BasesSeenStay → StandsQuiet → (b : Ledger) (x : Entry) (v : ProcessView) → IsLegal b → Follows b.library b.failing (fixed_bytes b.library) b.history x → x.pid ≡ v.holding.pid → IsQuiet b.library x.deed → StandsAt b v →

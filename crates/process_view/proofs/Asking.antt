@@ -107,7 +107,7 @@ pub address_by_residence : (v : ProcessView) (spot : Spot) → HasResidences v �
 address_by_residence v spot has =
     ap (λ (ss : List Fresh). address_in (state.bases_of (option_map residence_from (find (λ (s : Fresh). s.«module» == spot.«module») ss))) spot.object spot.offset) has.stays
     ∙ ap (λ (o : Option Fresh). address_in (state.bases_of (option_map residence_from o)) spot.object spot.offset)
-      (stay_by_place v.residences spot.«module» ∙ ap (λ (o : Option ResidenceFor). option_map fresh_shown o) (sym (found_at_place (λ (r : ResidenceFor). r.«module» == spot.«module») v.residences)))
+    (stay_by_place v.residences spot.«module» ∙ ap (λ (o : Option ResidenceFor). option_map fresh_shown o) (sym (found_at_place (λ (r : ResidenceFor). r.«module» == spot.«module») v.residences)))
     ∙ by_option (residence_with v.residences spot.«module»)
   where
     by_option : (o : Option ResidenceFor) → address_in (state.bases_of (option_map residence_from (option_map fresh_shown o))) spot.object spot.offset ≡ address (base_if spot o) spot.offset

@@ -91,7 +91,7 @@ no_refusal : (lib : Library) (m : ℕ) (p : PageId) → IsNumberOf p.object (len
 unfolding span_refusal
 no_refusal lib m p there inside fixable =
     let invalid : covers_invalid lib m p.object (p.page * PAGE_SIZE) 1 ≡ false =
-        ap (list_any (λ n. is_invalid lib m (page p.object n))) (one_page p.page) ∙ or_false (is_invalid lib m p) false (is_valid lib m p fixable) refl
+    ap (list_any (λ n. is_invalid lib m (page p.object n))) (one_page p.page) ∙ or_false (is_invalid lib m p) false (is_valid lib m p fixable) refl
     in
     ap (λ b. when b Range orelse class_refusal uses.touch (class_of (object_at lib m p.object)) orelse when (covers_invalid lib m p.object (p.page * PAGE_SIZE) 1) Invalid) (none_outside lib m p there inside)
     ∙ ap (λ b. class_refusal uses.touch (class_of (object_at lib m p.object)) orelse when b Invalid) invalid
@@ -106,7 +106,7 @@ may_claim b v r a p at going own can common =
     let fixable : F b.library = subst F at.library common in
     let attached : is_attached b.library (state_of b) v.holding.pid r.serial r.«module» ≡ true = ap (is_serial r.serial) own.there ∙ ap (λ n. n == r.serial) own.serial ∙ self r.serial in
     let span : is_none (span_refusal b.library uses.touch r.«module» p.object (p.page * PAGE_SIZE) 1) ≡ true =
-        ap (λ (o : Option Refusal). is_none o) (no_refusal b.library r.«module» p (subst O at.library can.object) (subst I at.library can.page) fixable)
+    ap (λ (o : Option Refusal). is_none o) (no_refusal b.library r.«module» p (subst O at.library can.object) (subst I at.library can.page) fixable)
     in
     and_true _ _ (and_true (not ((state_of b).processes v.holding.pid).ended) _ (ap not (sym at.stands.view.ended) ∙ ap not going) (and_true _ _ attached span)) (common_class b.library r.«module» p fixable)
 
@@ -142,5 +142,5 @@ pub common_by : (lib : Library) (m : ℕ) (p : PageId) → IsNumberOf p.object (
 unfolding is_fixable is_invalid object_at
 common_by lib m p there inside =
     ap (λ b. (b && is_common (class_of (object_of (module_of lib m) p.object))) && not (bytes.is_invalid (page_at (module_of lib m) p).kind))
-      (page_of (length (module_of lib m).objects) p.object (pages_of (object_of (module_of lib m) p.object)) p.page there.0 there.1 inside)
+    (page_of (length (module_of lib m).objects) p.object (pages_of (object_of (module_of lib m) p.object)) p.page there.0 there.1 inside)
     ∙ ap (λ b. is_common (class_of (object_of (module_of lib m) p.object)) && not b) (sym (same_invalid (page_at (module_of lib m) p).kind))

@@ -150,5 +150,5 @@ pub readable_bytes : (w : ProcessView) (at : Place) (k : ℕ) (s : Stay) (n : �
 readable_bytes w at k s n into is can long e =
     e ∙ ap (λ (l : ℕ). map (byte_by s.places w.holding.mapped at.object) (range_with_len at.offset l)) long
     ∙ map_alike_from (byte_by s.places w.holding.mapped at.object) (view_byte w.holding (residence_in s).serial at.object) at.offset at.len
-      (λ x u v. byte_of_view w.library (residence_in s).«module» (residence_in s).serial s.places w.holding at.object at.offset at.len x is.placed.places can.inside u v)
+    (λ x u v. byte_of_view w.library (residence_in s).«module» (residence_in s).serial s.places w.holding at.object at.offset at.len x is.placed.places can.inside u v)
     ∙ sym (ap (view_bytes w.holding at) is.stay)

@@ -324,14 +324,14 @@ old_shown still bases b v how m fresh calls is =
     let d : ResidenceFor = record { library = []; serial = 0; «module» = 0; bases = record { mods = [] } } in
     recursion_from_All P v.residences
     (All-from_get_or P v.residences d
-     (λ i u.
-        let r = get_or v.residences i d in
-        let here : r ≡ get_or v.residences i r = get_or_default v.residences i d r u in
-        let own = attached b v i r is.stands u here in
-        shown_of lib (state_of b) v.residences i r is.stands.shown u here
-        ∙ sym
-          (shown_alike still bases b x r.«module» is.legal is.accepted.follows (stay_resident lib b.failing v.holding v.residences b.history i r is.stands.stays is.stands.stands u here)
-           (ap (λ o. is_some o) (residence_is lib after v.holding.pid r.«module» own.0 (attached_on b v how m fresh calls r.«module» own.0 is own.1.there))))))
+    (λ i u.
+    let r = get_or v.residences i d in
+    let here : r ≡ get_or v.residences i r = get_or_default v.residences i d r u in
+    let own = attached b v i r is.stands u here in
+    shown_of lib (state_of b) v.residences i r is.stands.shown u here
+    ∙ sym
+    (shown_alike still bases b x r.«module» is.legal is.accepted.follows (stay_resident lib b.failing v.holding v.residences b.history i r is.stands.stays is.stands.stands u here)
+    (ap (λ o. is_some o) (residence_is lib after v.holding.pid r.«module» own.0 (attached_on b v how m fresh calls r.«module» own.0 is own.1.there))))))
 
 new_shown : (lib : Library) (e : Eager) (js : List ℕ) → AreShown lib e (map (residence_shown lib e) js)
 new_shown lib e [] = tt
@@ -426,14 +426,14 @@ unlike b v how m fresh calls j k a process is new there same =
     let after = state_after lib b.failing (b.history ++ x ∷ []) in
     let both = sym (joined_is lib e pid m k) ∙ new in
     let reached : reaches lib (after.processes pid) k ≡ true =
-        reaches_on b v how m fresh calls k is ∙ ap (λ c. c || reaches lib (e.processes pid) k) (and_left (is_among (order_of lib m) k) (not (reaches lib (e.processes pid) k)) both)
+    reaches_on b v how m fresh calls k is ∙ ap (λ c. c || reaches lib (e.processes pid) k) (and_left (is_among (order_of lib m) k) (not (reaches lib (e.processes pid) k)) both)
     in
     let more = one_more_is_legal lib b.failing (fixed_bytes lib) b.history x is.legal is.accepted.follows in
     let resident = found (residence_of after k) (resident_by lib after pid k (reached_is_resident lib b.failing (fixed_bytes lib) (b.history ++ x ∷ []) more k) process reached) in
     let stands : attached_residence lib after pid k ≡ Some resident.0 = attached_is_resident lib after pid k reached ∙ resident.1 in
     let old : attached_residence lib after pid j ≡ Some a = attached_on b v how m fresh calls j a is there in
     let one : a ≡ resident.0 =
-        serials_are_own lib b.failing (fixed_bytes lib) (b.history ++ x ∷ []) j k a resident.0 more (residence_is lib after pid j a old) resident.1 (same ∙ ap serial_of resident.1)
+    serials_are_own lib b.failing (fixed_bytes lib) (b.history ++ x ∷ []) j k a resident.0 more (residence_is lib after pid j a old) resident.1 (same ∙ ap serial_of resident.1)
     in
     let number : j ≡ k = sym (attached_is lib e pid j a there).1 ∙ ap (λ (z : Residence). z.«module») one ∙ (attached_is lib after pid k resident.0 stands).1 in
     let before : reaches lib (e.processes pid) k ≡ true = ap (reaches lib (e.processes pid)) (sym number) ∙ (attached_is lib e pid j a there).0 in
@@ -447,9 +447,9 @@ new_stay_apart b v how m fresh calls k process is new =
     let d : ResidenceFor = record { library = []; serial = 0; «module» = 0; bases = record { mods = [] } } in
     All-from_get_or (λ (r : ResidenceFor). r.serial ≡ serial_of (residence_of (state_after b.library b.failing (b.history ++ entry_of b v.holding.pid (enter how m) ∷ [])) k) → ⊥) v.residences d
     (λ i u same.
-       let r = get_or v.residences i d in
-       let own = attached b v i r is.stands u (get_or_default v.residences i d r u) in
-       unlike b v how m fresh calls r.«module» k own.0 process is new own.1.there (own.1.serial ∙ same))
+    let r = get_or v.residences i d in
+    let own = attached b v i r is.stands u (get_or_default v.residences i d r u) in
+    unlike b v how m fresh calls r.«module» k own.0 process is new own.1.there (own.1.serial ∙ same))
 
 none_has : (lib : Library) (contents : Held) (e : Eager) (pid n : ℕ) (q : PageId) → ((j : ℕ) (a : Residence) → attached_residence lib e pid j ≡ Some a → a.serial ≡ n → ⊥) → (ps : List Mapped) → AllByRecursion (IsMapped lib contents e pid) ps →
     has_page (map (λ (p : Mapped). p.of) ps) n q ≡ false

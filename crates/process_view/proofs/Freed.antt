@@ -139,8 +139,8 @@ stays_behind b v m k process legal stands = by_reach (reaches lib (freed b v m) 
     by_reach false h =
         find_left g k v.residences h
         ∙ sym
-          (ap (option_map fresh_of)
-           (unattached lib after pid k (ap (λ (p : Process). reaches lib p k) (process_left b (entry_of b pid (free m)) (freed b v m) (gives_one b pid m)) ∙ keeps_reach lib (state_of b) (freed b v m) k ∙ h)))
+        (ap (option_map fresh_of)
+        (unattached lib after pid k (ap (λ (p : Process). reaches lib p k) (process_left b (entry_of b pid (free m)) (freed b v m) (gives_one b pid m)) ∙ keeps_reach lib (state_of b) (freed b v m) k ∙ h)))
 
 shown_kept : ResidenceStays → BasesSeenStay → (b : Ledger) (v : ProcessView) (m : ℕ) → is_among pids v.holding.pid ≡ true → IsLegal b → StandsAt b v → IsAccepted b v (free m) →
     AreShown b.library (state_after b.library b.failing (b.history ++ entry_of b v.holding.pid (free m) ∷ [])) (stays_kept b.library (freed b v m) v.residences)
@@ -153,15 +153,15 @@ shown_kept still bases b v m process legal at acc =
     let P : ResidenceFor → Type 0 = λ r. reaches lib (freed b v m) r.«module» ≡ true → r ≡ residence_shown lib after r.«module» in
     all_filter P Q (λ (r : ResidenceFor). reaches lib (freed b v m) r.«module») (λ r reached is. is reached) v.residences
     (recursion_from_All P v.residences
-     (All-from_get_or P v.residences d
-      (λ i u reached.
-         let r = get_or v.residences i d in
-         let here : r ≡ get_or v.residences i r = get_or_default v.residences i d r u in
-         let own = attached b v i r at u here in
-         shown_of lib (state_of b) v.residences i r at.shown u here
-         ∙ sym
-           (shown_alike still bases b x r.«module» legal acc.follows (stay_resident lib b.failing v.holding v.residences b.history i r at.stays at.stands u here)
-            (ap (λ o. is_some o) (residence_is lib after v.holding.pid r.«module» own.0 (attached_behind b v m r.«module» own.0 process legal own.1.there reached)))))))
+    (All-from_get_or P v.residences d
+    (λ i u reached.
+    let r = get_or v.residences i d in
+    let here : r ≡ get_or v.residences i r = get_or_default v.residences i d r u in
+    let own = attached b v i r at u here in
+    shown_of lib (state_of b) v.residences i r at.shown u here
+    ∙ sym
+    (shown_alike still bases b x r.«module» legal acc.follows (stay_resident lib b.failing v.holding v.residences b.history i r at.stays at.stands u here)
+    (ap (λ o. is_some o) (residence_is lib after v.holding.pid r.«module» own.0 (attached_behind b v m r.«module» own.0 process legal own.1.there reached)))))))
 
 pub did_free : StandsLeft → KeptAreTouched → ResidenceStays → BasesSeenStay → (b : Ledger) (v : ProcessView) (name : List ℕ) (m : ℕ) (row : Row) (room more : ℕ) → is_among pids v.holding.pid ≡ true → number_of b.library name ≡ Some m →
     IsLegal b → StandsAt b v → view_refusal v.library v.holding (commands.Free name) ≡ None → IsRowOf b.library (keeping b.library (state_of b) (freed b v m)) row →
@@ -238,8 +238,8 @@ page_kept b v m p legal at it = by_reach (g it.residence.«module») refl
     other r a own left reached false is = refl
     other r a own left reached true is =
         let same : a ≡ it.residence =
-            serials_are_own lib b.failing (fixed_bytes lib) b.history r.«module» it.residence.«module» a it.residence legal (attached_there lib (state_of b) pid r.«module» a own.there)
-            (attached_there lib (state_of b) pid it.residence.«module» it.residence it.there) (own.serial ∙ same_number r.serial p.of.serial is ∙ it.serial)
+        serials_are_own lib b.failing (fixed_bytes lib) b.history r.«module» it.residence.«module» a it.residence legal (attached_there lib (state_of b) pid r.«module» a own.there)
+        (attached_there lib (state_of b) pid it.residence.«module» it.residence it.there) (own.serial ∙ same_number r.serial p.of.serial is ∙ it.serial)
         in
         let number : r.«module» ≡ it.residence.«module» = sym own.«module» ∙ ap (λ (z : Residence). z.«module») same in
         absurd (let wrong : true ≡ false = sym reached ∙ ap g number ∙ left in cc)
@@ -253,12 +253,12 @@ page_kept b v m p legal at it = by_reach (g it.residence.«module») refl
         let d : ResidenceFor = record { library = []; serial = 0; «module» = 0; bases = record { mods = [] } } in
         none_there g p.of.serial v.residences
         (recursion_from_All P v.residences
-         (All-from_get_or P v.residences d
-          (λ i u reached.
-             let r = get_or v.residences i d in
-             let here : r ≡ get_or v.residences i r = get_or_default v.residences i d r u in
-             let own = attached b v i r at u here in
-             other r own.0 own.1 h reached (r.serial == p.of.serial) refl)))
+        (All-from_get_or P v.residences d
+        (λ i u reached.
+        let r = get_or v.residences i d in
+        let here : r ≡ get_or v.residences i r = get_or_default v.residences i d r u in
+        let own = attached b v i r at u here in
+        other r own.0 own.1 h reached (r.serial == p.of.serial) refl)))
         ∙ sym h
 
 pages_are : (b : Ledger) (v : ProcessView) (m : ℕ) → KeptAreReached → IsLegal b → StandsAt b v → IsAccepted b v (free m) → (ps : List Mapped) →
@@ -268,8 +268,8 @@ pages_are b v m kept legal at acc [] all = refl
 pages_are b v m kept legal at acc (p ∷ ps) all =
     let rs = stays_kept b.library (freed b v m) v.residences in
     let one : list_any (λ (r : ResidenceFor). r.serial == p.of.serial) rs ≡ not (is_among (left_serials b.library (state_of b) (freed b v m)) p.of.serial) =
-        page_kept b v m p legal at all.0
-        ∙ sym (kept b.library b.failing (fixed_bytes b.library) b.history (entry_of b v.holding.pid (free m)) (freed b v m) p legal acc.follows (gives_one b v.holding.pid m) all.0)
+    page_kept b v m p legal at all.0
+    ∙ sym (kept b.library b.failing (fixed_bytes b.library) b.history (entry_of b v.holding.pid (free m)) (freed b v m) p legal acc.follows (gives_one b v.holding.pid m) all.0)
     in
     ap (λ c. cond c (p ∷ pages_of_kept rs ps) (pages_of_kept rs ps)) one
     ∙ ap (λ xs. cond (not (is_among (left_serials b.library (state_of b) (freed b v m)) p.of.serial)) (p ∷ xs) xs) (pages_are b v m kept legal at acc ps all.1)

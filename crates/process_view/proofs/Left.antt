@@ -64,7 +64,7 @@ none_kept : KeptAreReached → (lib : Library) (failing : Failing) (contents : H
 none_kept kept lib failing contents h x after legal follows gives none [] all = refl
 none_kept kept lib failing contents h x after legal follows gives none (p ∷ ps) all =
     ap (λ c. cond c (p ∷ mapped_kept lib (state_after lib failing h) after ps) (mapped_kept lib (state_after lib failing h) after ps))
-      (kept lib failing contents h x after p legal follows gives all.0 ∙ none all.0.residence.«module»)
+    (kept lib failing contents h x after p legal follows gives all.0 ∙ none all.0.residence.«module»)
     ∙ none_kept kept lib failing contents h x after legal follows gives none ps all.1
 
 -- ---- the deed
@@ -131,15 +131,15 @@ did_exit left kept touched b v row room more process legal at e rows =
     let acc = accepted_exit b v process at e in
     let gives = gives_all b v.holding.pid in
     let P : List Mapped → Type 0 = λ ps.
-        Did b (with_entry b x) v (left_view b v after row [] ps (length (b.history ++ x ∷ [])) room more) commands.Exit (done (length (b.history ++ x ∷ [])))
+    Did b (with_entry b x) v (left_view b v after row [] ps (length (b.history ++ x ∷ [])) room more) commands.Exit (done (length (b.history ++ x ∷ [])))
     in
     subst P (none_kept kept b.library b.failing (fixed_bytes b.library) b.history x after legal acc.follows gives (reaches_nothing b.library ((state_of b).processes v.holding.pid)) v.holding.mapped at.stands.view.mapped)
     (did_left left touched b v commands.Exit exit after row [] room more legal at acc refl gives rows
-     (λ k.
-        ap (option_map fresh_of)
-        (sym (unattached b.library (state_after b.library b.failing (b.history ++ x ∷ [])) v.holding.pid k
-         (ap (λ (p : Process). reaches b.library p k) (process_left b x after gives) ∙ keeps_nothing b.library (state_of b) ((state_of b).processes v.holding.pid) k))))
-     tt (told_exit b v.holding.pid _))
+    (λ k.
+    ap (option_map fresh_of)
+    (sym (unattached b.library (state_after b.library b.failing (b.history ++ x ∷ [])) v.holding.pid k
+    (ap (λ (p : Process). reaches b.library p k) (process_left b x after gives) ∙ keeps_nothing b.library (state_of b) ((state_of b).processes v.holding.pid) k))))
+    tt (told_exit b v.holding.pid _))
 
 -- ---- nothing is kept
 

@@ -151,7 +151,7 @@ stay_there w name lib mapped stays k s e all at is =
     let long : length w.residences ≡ length stays = ap (λ (rs : List ResidenceFor). length rs) e ∙ length-map stays residence_in in
     let within : k < length stays = omega (arith, is.within, long) in
     let there : get_or w.residences k (residence_in s) ≡ residence_in s =
-        ap (λ (rs : List ResidenceFor). get_or rs k (residence_in s)) e ∙ get_or-map residence_in stays k s (residence_in s) within ∙ ap residence_in (sym at)
+    ap (λ (rs : List ResidenceFor). get_or rs k (residence_in s)) e ∙ get_or-map residence_in stays k s (residence_in s) within ∙ ap residence_in (sym at)
     in
     let P : Stay → Type 0 = IsPlaced lib mapped in
     record {
@@ -174,4 +174,4 @@ place_refused w purpose at k s going is =
     by_span None e =
         sym
         (touch_alike w.library (residence_in s).«module» (residence_in s).serial s.places w.holding purpose at is.placed.places
-         (span_is_inside w.library (purpose_of purpose) (residence_in s).«module» at.object at.offset at.len e))
+        (span_is_inside w.library (purpose_of purpose) (residence_in s).«module» at.object at.offset at.len e))

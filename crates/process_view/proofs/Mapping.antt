@@ -121,8 +121,10 @@ placed_with lib mapped stays k s t p bytes all apart u at same put object within
   where
     P : Stay → Type 0
     P = IsPlaced lib (mapped ++ page_with (residence_in s) p bytes ∷ [])
+
     here : IsPlaced lib mapped s
     here = let Q : Stay → Type 0 = IsPlaced lib mapped in subst Q (sym at) (All-get_or (IsPlaced lib mapped) stays k s u all)
+
     by_index : (i : ℕ) → i < length stays → (i ≡ k) ⊎ (i ≢ k) → P (get_or (set stays k t) i s)
     by_index i v (inl e) =
         let own = own_places (module_of lib (residence_in s).«module») (residence_in s) s.places mapped p bytes here.cover here.places object within none in
@@ -137,9 +139,9 @@ placed_with lib mapped stays k s t p bytes all apart u at same put object within
         let old = All-get_or (IsPlaced lib mapped) stays i s v all in
         let long = length-map stays residence_in in
         let differ : (residence_in s).serial ≡ (residence_in (get_or stays i s)).serial → ⊥ = λ d.
-            serials_differ (residences_in stays) i k (residence_in s) apart (omega (arith, long)) (omega (arith, long)) e
-            (ap (λ (r : ResidenceFor). r.serial) (get_or-map residence_in stays k s (residence_in s) u) ∙ ap (λ (x : Stay). (residence_in x).serial) (sym at) ∙ d
-             ∙ sym (ap (λ (r : ResidenceFor). r.serial) (get_or-map residence_in stays i s (residence_in s) v)))
+        serials_differ (residences_in stays) i k (residence_in s) apart (omega (arith, long)) (omega (arith, long)) e
+        (ap (λ (r : ResidenceFor). r.serial) (get_or-map residence_in stays k s (residence_in s) u) ∙ ap (λ (x : Stay). (residence_in x).serial) (sym at) ∙ d
+        ∙ sym (ap (λ (r : ResidenceFor). r.serial) (get_or-map residence_in stays i s (residence_in s) v)))
         in
         subst P (sym is) (record {
           within = old.within;

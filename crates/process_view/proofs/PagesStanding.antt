@@ -113,7 +113,7 @@ module _ (pages : List PageOf) (serial object x : ℕ) (apart : has_page pages s
           | inl inside ↦
               let there : has_page pages w.serial (page w.write.object (x / 4096)) ≡ true = over_at (λ n. has_page pages w.serial (page w.write.object n)) w.write.offset (length w.write.bytes) x covered behind (omega arith) in
               let same : has_page pages serial (page object (x / 4096)) ≡ true =
-                  ap (λ (n : ℕ). has_page pages n (page object (x / 4096))) (sym s) ∙ ap (λ (n : ℕ). has_page pages w.serial (page n (x / 4096))) (sym o) ∙ there
+              ap (λ (n : ℕ). has_page pages n (page object (x / 4096))) (sym s) ∙ ap (λ (n : ℕ). has_page pages w.serial (page n (x / 4096))) (sym o) ∙ there
               in
               absurd cc
           | inr past ↦ slice_get_past w.write.bytes (x - w.write.offset) past
@@ -127,16 +127,18 @@ module _ (pages : List PageOf) (serial object x : ℕ) (apart : has_page pages s
     where
       P : List Written → Type 0
       P = AllByRecursion (λ (v : Written). put_at x v ≡ None)
+
       rest : List Written
       rest = map (λ (v : OwnWrite). v.write) (filter (λ (v : OwnWrite). v.serial == serial) ws)
+
       by_tests : (a b : Bool) → (w.serial == serial) ≡ a → (w.write.object == object) ≡ b → P (filter (λ (v : Written). v.object == object) rest) →
           P (filter (λ (v : Written). v.object == object) (map (λ (v : OwnWrite). v.write) (cond (w.serial == serial) (w ∷ filter (λ (v : OwnWrite). v.serial == serial) ws) (filter (λ (v : OwnWrite). v.serial == serial) ws))))
       by_tests false b e f later = subst P (sym (ap (λ c. filter (λ (v : Written). v.object == object) (map (λ (v : OwnWrite). v.write) (cond c (w ∷ filter (λ (v : OwnWrite). v.serial == serial) ws) (filter (λ (v : OwnWrite). v.serial == serial) ws)))) e)) later
       by_tests true false e f later =
           subst P
           (sym
-           (ap (λ c. filter (λ (v : Written). v.object == object) (map (λ (v : OwnWrite). v.write) (cond c (w ∷ filter (λ (v : OwnWrite). v.serial == serial) ws) (filter (λ (v : OwnWrite). v.serial == serial) ws)))) e
-            ∙ ap (λ c. cond c (w.write ∷ filter (λ (v : Written). v.object == object) rest) (filter (λ (v : Written). v.object == object) rest)) f))
+          (ap (λ c. filter (λ (v : Written). v.object == object) (map (λ (v : OwnWrite). v.write) (cond c (w ∷ filter (λ (v : OwnWrite). v.serial == serial) ws) (filter (λ (v : OwnWrite). v.serial == serial) ws)))) e
+          ∙ ap (λ c. cond c (w.write ∷ filter (λ (v : Written). v.object == object) rest) (filter (λ (v : Written). v.object == object) rest)) f))
           later
       by_tests true true e f later =
           let s : w.serial ≡ serial = grind (arith, nat_tests) in
@@ -144,8 +146,8 @@ module _ (pages : List PageOf) (serial object x : ℕ) (apart : has_page pages s
           let both : P (w.write ∷ filter (λ (v : Written). v.object == object) rest) = (not_put w s o h.0, later) in
           subst P
           (sym
-           (ap (λ c. filter (λ (v : Written). v.object == object) (map (λ (v : OwnWrite). v.write) (cond c (w ∷ filter (λ (v : OwnWrite). v.serial == serial) ws) (filter (λ (v : OwnWrite). v.serial == serial) ws)))) e
-            ∙ ap (λ c. cond c (w.write ∷ filter (λ (v : Written). v.object == object) rest) (filter (λ (v : Written). v.object == object) rest)) f))
+          (ap (λ c. filter (λ (v : Written). v.object == object) (map (λ (v : OwnWrite). v.write) (cond c (w ∷ filter (λ (v : OwnWrite). v.serial == serial) ws) (filter (λ (v : OwnWrite). v.serial == serial) ws)))) e
+          ∙ ap (λ c. cond c (w.write ∷ filter (λ (v : Written). v.object == object) rest) (filter (λ (v : Written). v.object == object) rest)) f))
           both
 
 nothing_put : (x : ℕ) (ws : List Written) → AllByRecursion (λ (w : Written). put_at x w ≡ None) ws → filter_map (put_at x) (reverse ws) ≡ []
@@ -188,15 +190,17 @@ pub record IsAttached (b : Ledger) (v : ProcessView) (r : ResidenceFor) (a : Res
 pub attached : (b : Ledger) (v : ProcessView) (k : ℕ) (r : ResidenceFor) → StandsAt b v → k < length v.residences → r ≡ get_or v.residences k r → (a : Residence) × IsAttached b v r a
 attached b v k r at u is =
     let found : stay_at v.holding r.«module» ≡ Some (fresh_shown r) =
-        ap (λ (ss : List Fresh). find (λ (s : Fresh). s.«module» == r.«module») ss) at.stays ∙ shown_first b.library (state_of b) v.residences k r at.shown u is
+    ap (λ (ss : List Fresh). find (λ (s : Fresh). s.«module» == r.«module») ss) at.stays ∙ shown_first b.library (state_of b) v.residences k r at.shown u is
     in
-    let it = some_of (attached_residence b.library (state_of b) v.holding.pid r.«module») (fresh_shown r) (sym (at.stands.view.stays r.«module») ∙ found) in
-    (it.0, record {
-      there = it.1;
-      serial = ap (λ (f : Fresh). f.serial) it.2;
-      «module» = ap (λ (f : Fresh). f.«module») it.2;
-      bases = ap (λ (q : ResidenceFor). q.bases) (shown_at b.library (state_of b) v.residences k r at.shown u is);
-    })
+    let it = some_of (attached_residence b.library (state_of b) v.holding.pid r.«module») (fresh_shown r) (sym (at.stands.view.stays r.«module») ∙ found) in (
+      it.0,
+      record {
+        there = it.1;
+        serial = ap (λ (f : Fresh). f.serial) it.2;
+        «module» = ap (λ (f : Fresh). f.«module») it.2;
+        bases = ap (λ (q : ResidenceFor). q.bases) (shown_at b.library (state_of b) v.residences k r at.shown u is);
+      },
+    )
 
 fixed_there : (lib : Library) (m : ℕ) (bases : Bases) (p : PageId) (x : ℕ) → x / 4096 ≡ p.page → slice_index (fixed_page lib m bases p) (x % 4096) ≡ fixed_bytes lib m bases p.object x
 unfolding fixed_bytes
@@ -213,8 +217,8 @@ pages_stand b v k r p legal at u is can fault =
     let a = it.0 in
     let own = it.1 in
     let bytes : fixed_page v.library r.«module» r.bases p ≡ fixed_page lib a.«module» (bases_seen lib e a.«module») p =
-        ap (λ (l : Library). fixed_page l r.«module» r.bases p) at.library ∙ ap (λ (bs : Bases). fixed_page lib r.«module» bs p) own.bases
-        ∙ ap (λ (m : ℕ). fixed_page lib m (bases_seen lib e m) p) (sym own.«module»)
+    ap (λ (l : Library). fixed_page l r.«module» r.bases p) at.library ∙ ap (λ (bs : Bases). fixed_page lib r.«module» bs p) own.bases
+    ∙ ap (λ (m : ℕ). fixed_page lib m (bases_seen lib e m) p) (sym own.«module»)
     in
     let mapped : IsMapped lib contents e v.holding.pid (page_with r p (fixed_page v.library r.«module» r.bases p)) = record {
       residence = a;
@@ -222,19 +226,19 @@ pages_stand b v k r p legal at u is can fault =
       serial = sym own.serial;
       bytes = λ x q inside.
           let apart : has_page (mapped_pages v.holding) a.serial (page p.object (x / 4096)) ≡ false =
-              ap (λ (n : ℕ). has_page (mapped_pages v.holding) n (page p.object (x / 4096))) own.serial ∙ ap (λ (n : ℕ). has_page (mapped_pages v.holding) r.serial (page p.object n)) q ∙ can.apart
+          ap (λ (n : ℕ). has_page (mapped_pages v.holding) n (page p.object (x / 4096))) own.serial ∙ ap (λ (n : ℕ). has_page (mapped_pages v.holding) r.serial (page p.object n)) q ∙ can.apart
           in
           ap (λ (bs : List ℕ). slice_index bs (x % 4096)) bytes ∙ fixed_there lib a.«module» (bases_seen lib e a.«module») p x q
           ∙ sym (lies_fixed (class_of (object_at lib a.«module» p.object)) lib contents e v.holding.pid a p.object x (mapped_pages v.holding) refl apart at.stands.view.writes);
     } in
     let was : WasFixed lib v.holding b.history (page_with r p (fixed_page v.library r.«module» r.bases p)) = λ m s st ser own-of.
-        let other = some_of (attached_residence lib e v.holding.pid m) s (sym (at.stands.view.stays m) ∙ st) in
-        let same : other.0 ≡ a =
-            serials_are_own lib b.failing contents b.history m r.«module» other.0 a legal (attached_there lib e v.holding.pid m other.0 other.1) (attached_there lib e v.holding.pid r.«module» a own.there)
-            (ap (λ (f : Fresh). f.serial) other.2 ∙ ser ∙ sym own.serial)
-        in
-        let number : m ≡ r.«module» = sym (module_is lib e v.holding.pid m other.0 other.1) ∙ ap (λ (q : Residence). q.«module») same ∙ own.«module» in
-        fault (ap (λ (l : Library). is_own (class_of (object_at l r.«module» p.object))) at.library ∙ ap (λ (n : ℕ). is_own (class_of (object_at lib n p.object))) (sym number) ∙ own-of)
+    let other = some_of (attached_residence lib e v.holding.pid m) s (sym (at.stands.view.stays m) ∙ st) in
+    let same : other.0 ≡ a =
+    serials_are_own lib b.failing contents b.history m r.«module» other.0 a legal (attached_there lib e v.holding.pid m other.0 other.1) (attached_there lib e v.holding.pid r.«module» a own.there)
+    (ap (λ (f : Fresh). f.serial) other.2 ∙ ser ∙ sym own.serial)
+    in
+    let number : m ≡ r.«module» = sym (module_is lib e v.holding.pid m other.0 other.1) ∙ ap (λ (q : Residence). q.«module») same ∙ own.«module» in
+    fault (ap (λ (l : Library). is_own (class_of (object_at l r.«module» p.object))) at.library ∙ ap (λ (n : ℕ). is_own (class_of (object_at lib n p.object))) (sym number) ∙ own-of)
     in
     record {
       library = at.library;

@@ -50,6 +50,7 @@ module _ {X : Type 0} (p : X → Bool) where
       none_there : (o : Option ℕ) → option_map suc o ≡ None → o ≡ None
       none_there None u = refl
       none_there (Some k) u = absurd cc
+
       by_first : (b : Bool) → p x ≡ b → (position p xs ≡ None → position p (xs ++ y ∷ []) ≡ Some (length xs)) → position p (x ∷ (xs ++ y ∷ [])) ≡ Some (suc (length xs))
       by_first true is later = absurd (let it : Some 0 ≡ None = sym (position_cons x xs ∙ ap (λ b. cond b (Some 0) (option_map suc (position p xs))) is) ∙ e in cc)
       by_first false is later =

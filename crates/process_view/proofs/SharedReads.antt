@@ -68,7 +68,7 @@ shared_byte b v r a object x legal at own there inside class =
     let e = state_of b in
     let q = page object (x / 4096) in
     let some : list_any (is_mapped_at r.serial q) v.holding.mapped ≡ true =
-        sym (any_map (λ (t : PageOf). (t.serial == r.serial) && is_page t.page q) (λ (p : Mapped). p.of) v.holding.mapped) ∙ there
+    sym (any_map (λ (t : PageOf). (t.serial == r.serial) && is_page t.page q) (λ (p : Mapped). p.of) v.holding.mapped) ∙ there
     in
     let it = some_finds (is_mapped_at r.serial q) v.holding.mapped (IsMapped lib (fixed_bytes lib) e v.holding.pid) some at.stands.view.mapped in
     let p = it.0 in
@@ -76,17 +76,17 @@ shared_byte b v r a object x legal at own there inside class =
     let serial : p.of.serial ≡ r.serial = same_number p.of.serial r.serial (and_left (p.of.serial == r.serial) (is_page p.of.page q) it.2) in
     let pages = same_page p.of.page q (and_right (p.of.serial == r.serial) (is_page p.of.page q) it.2) in
     let same : is.residence ≡ a =
-        serials_are_own lib b.failing (fixed_bytes lib) b.history is.residence.«module» r.«module» is.residence a legal (attached_there lib e v.holding.pid is.residence.«module» is.residence is.there)
-        (attached_there lib e v.holding.pid r.«module» a own.there) (sym is.serial ∙ serial ∙ sym own.serial)
+    serials_are_own lib b.failing (fixed_bytes lib) b.history is.residence.«module» r.«module» is.residence a legal (attached_there lib e v.holding.pid is.residence.«module» is.residence is.there)
+    (attached_there lib e v.holding.pid r.«module» a own.there) (sym is.serial ∙ serial ∙ sym own.serial)
     in
     let number : is.residence.«module» ≡ r.«module» = ap (λ (z : Residence). z.«module») same ∙ own.«module» in
     let size : x < (object_at lib is.residence.«module» p.of.page.object).size =
-        let S : ℕ → ℕ → Type 0 = λ m o. x < (object_at lib m o).size in
-        let T : ℕ → Type 0 = λ m. S m p.of.page.object in
-        subst T (sym number) (subst (S r.«module») (sym pages.0) inside)
+    let S : ℕ → ℕ → Type 0 = λ m o. x < (object_at lib m o).size in
+    let T : ℕ → Type 0 = λ m. S m p.of.page.object in
+    subst T (sym number) (subst (S r.«module») (sym pages.0) inside)
     in
     let shared : class_of (object_at lib is.residence.«module» p.of.page.object) ≡ classes.Shared =
-        ap (λ (m : ℕ). class_of (object_at lib m p.of.page.object)) number ∙ ap (λ (o : ℕ). class_of (object_at lib r.«module» o)) pages.0 ∙ class
+    ap (λ (m : ℕ). class_of (object_at lib m p.of.page.object)) number ∙ ap (λ (o : ℕ). class_of (object_at lib r.«module» o)) pages.0 ∙ class
     in
     ap (λ (o : Option Mapped). slice_index (bytes_in o) (x % 4096)) it.1 ∙ is.bytes x (sym pages.1) size
     ∙ ap (λ (c : Class). lying_byte c lib (fixed_bytes lib) e v.holding.pid is.residence p.of.page.object x) shared
@@ -124,8 +124,8 @@ module_asked b v r a q s m object offset len legal own pid serial may =
     by_residence None e h = absurd cc
     by_residence (Some z) e h =
         let same : z ≡ a =
-            serials_are_own b.library b.failing (fixed_bytes b.library) b.history m r.«module» z a legal (attached_there b.library (state_of b) v.holding.pid m z e)
-            (attached_there b.library (state_of b) v.holding.pid r.«module» a own.there) (same_number z.serial s h ∙ serial ∙ sym own.serial)
+        serials_are_own b.library b.failing (fixed_bytes b.library) b.history m r.«module» z a legal (attached_there b.library (state_of b) v.holding.pid m z e)
+        (attached_there b.library (state_of b) v.holding.pid r.«module» a own.there) (same_number z.serial s h ∙ serial ∙ sym own.serial)
         in
         sym (module_is b.library (state_of b) v.holding.pid m z e) ∙ ap (λ (y : Residence). y.«module») same ∙ own.«module»
 
@@ -145,11 +145,11 @@ shared_fixed b v at k d q s m n into is pid serial long copied may =
     let inside = span_is_inside v.library uses.share r.«module» at.object at.offset at.len span in
     let class : class_of (object_at b.library r.«module» at.object) ≡ classes.Shared = ap (λ (l : Library). class_of (object_at l r.«module» at.object)) (sym is.stands.library) ∙ class_share v.library r.«module» at.object at.offset at.len span in
     let size : (x : ℕ) → x < at.offset + at.len → x < (object_at b.library r.«module» at.object).size = λ x u.
-        let S : Library → Type 0 = λ l. x < (object_at l r.«module» at.object).size in subst S is.stands.library (inside_size v.library r.«module» at.object x (omega (arith, u, inside.within))) in
+    let S : Library → Type 0 = λ l. x < (object_at l r.«module» at.object).size in subst S is.stands.library (inside_size v.library r.«module» at.object x (omega (arith, u, inside.within))) in
     let all = found_none (λ i. has_page (mapped_pages v.holding) r.serial (page at.object i)) (pages_over at.offset at.len) (no_page _ (by_stay v uses.share at k d e is.stay)) in
     copied ∙ ap (view_bytes v.holding at) (is.stay.stay d)
     ∙ map_alike_from (view_byte v.holding r.serial at.object) (fixed_bytes b.library r.«module» (bases_seen b.library (state_of b) r.«module») at.object) at.offset at.len
-      (λ x u w. shared_byte b v r own.0 at.object x is.legal is.stands own.1 (over_at (λ i. has_page (mapped_pages v.holding) r.serial (page at.object i)) at.offset at.len x all u w) (size x w) class)
+    (λ x u w. shared_byte b v r own.0 at.object x is.legal is.stands own.1 (over_at (λ i. has_page (mapped_pages v.holding) r.serial (page at.object i)) at.offset at.len x all u w) (size x w) class)
     ∙ ap (λ (l : ℕ). map (fixed_bytes b.library r.«module» (bases_seen b.library (state_of b) r.«module») at.object) (range_with_len at.offset l)) (sym long)
     ∙ ap (λ (j : ℕ). map (fixed_bytes b.library j (bases_seen b.library (state_of b) j) at.object) (range_with_len at.offset n)) (sym number)
 

@@ -45,7 +45,7 @@ pub over_taken : (serial : ℕ) (w : Written) (p : Mapped) → p.of.serial ≡ s
 over_taken serial w p s o =
     sym
     (ap (λ a. cond (a && (p.of.page.object == w.object)) (record p { bytes = over_page w p.of.page p.bytes }) p) (eq-eqb p.of.serial serial s)
-     ∙ ap (λ b. cond b (record p { bytes = over_page w p.of.page p.bytes }) p) (eq-eqb p.of.page.object w.object o))
+    ∙ ap (λ b. cond b (record p { bytes = over_page w p.of.page p.bytes }) p) (eq-eqb p.of.page.object w.object o))
 
 -- ---- all pages
 
@@ -70,9 +70,9 @@ pub placed_written : (lib : List Parts) (mapped : List Mapped) (serial : ℕ) (w
 placed_written lib mapped serial w stays all =
     All-weaker (IsPlaced lib mapped) (IsPlaced lib (map (written_over serial w) mapped))
     (λ s is. record {
-       within = is.within;
-       cover = is.cover;
-       places = λ o n there inside.
-           is.places o n there inside
-           ∙ sym (position_kept (is_mapped_at (residence_in s).serial (page o n)) (written_over serial w) (λ p. ap (λ (t : PageOf). is_mapped_at (residence_in s).serial (page o n) (record p { of = t })) (of_stays serial w p)) mapped);
-     }) stays all
+      within = is.within;
+      cover = is.cover;
+      places = λ o n there inside.
+          is.places o n there inside
+          ∙ sym (position_kept (is_mapped_at (residence_in s).serial (page o n)) (written_over serial w) (λ p. ap (λ (t : PageOf). is_mapped_at (residence_in s).serial (page o n) (record p { of = t })) (of_stays serial w p)) mapped);
+    }) stays all

@@ -14,11 +14,12 @@ impl View {
         requires { (p : Process) × IsRowOf self.old.library p self.old.holding.row }
         ensures row { (lib : Library) (p : Process) (e : Eager) → IsRowOf lib p self.old.holding.row → IsRowOf lib (keeping lib e (exiting p)) self.new.holding.row }
         ensures rest { self.new ≡ record {
-            library = self.old.library;
-            holding = record self.old.holding { ended = true; row = self.new.holding.row; stays = []; mapped = [] };
-            residences = [];
-            page_room = self.new.page_room;
-            stay_room = self.new.stay_room } }
+          library = self.old.library;
+          holding = record self.old.holding { ended = true; row = self.new.holding.row; stays = []; mapped = [] };
+          residences = [];
+          page_room = self.new.page_room;
+          stay_room = self.new.stay_room;
+        } }
     {
         self.holder.exit();
         self.stays.clear();

@@ -170,7 +170,7 @@ impl View {
         requires { length into.old ≡ place.now.len }
         ensures { MatchResult result
             (λ _. (view_refusal self.now.library self.now.holding (commands.Peek place.now) ≡ None)
-                × (view_reply self.now.library self.now.holding (commands.Peek place.now) ≡ Some (replies.Bytes into.new)))
+            × (view_reply self.now.library self.now.holding (commands.Peek place.now) ≡ Some (replies.Bytes into.new)))
             (λ refusal. (view_refusal self.now.library self.now.holding (commands.Peek place.now) ≡ Some refusal) × (into.new ≡ into.old)) }
     {
         match self.to_use(Purpose::Peek, place) {
@@ -186,7 +186,7 @@ impl View {
     pub fn query(&self, module: &Name, key: &EntryKey) -> Result<u32, Refusal>
         ensures { MatchResult result
             (λ address. (view_refusal self.now.library self.now.holding (commands.Query «module».now key.now) ≡ None)
-                × (view_reply self.now.library self.now.holding (commands.Query «module».now key.now) ≡ Some (replies.Address address)))
+            × (view_reply self.now.library self.now.holding (commands.Query «module».now key.now) ≡ Some (replies.Address address)))
             (λ refusal. view_refusal self.now.library self.now.holding (commands.Query «module».now key.now) ≡ Some refusal) }
     {
         if self.is_ended() {
@@ -205,7 +205,7 @@ impl View {
     pub fn getres(&self, module: &Name, ty: u16, id: u16) -> Result<ResSpot, Refusal>
         ensures { MatchResult result
             (λ spot. (view_refusal self.now.library self.now.holding (commands.GetRes «module».now ty id) ≡ None)
-                × (view_reply self.now.library self.now.holding (commands.GetRes «module».now ty id) ≡ Some (replies.Spot spot)))
+            × (view_reply self.now.library self.now.holding (commands.GetRes «module».now ty id) ≡ Some (replies.Spot spot)))
             (λ refusal. view_refusal self.now.library self.now.holding (commands.GetRes «module».now ty id) ≡ Some refusal) }
     {
         if self.is_ended() {

@@ -3,7 +3,6 @@
 ghost use Rattle.std.specs.Prelude.{◌≡◌, ◌==◌, position};
 ghost use Rattle.process_view.specs.Kept.{residence_in};
 
-
 use crate::page_rows::PageRows;
 use page_frames::Residence;
 use std::sync::Arc;

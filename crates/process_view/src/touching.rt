@@ -17,8 +17,8 @@ use crate::own_page::OwnPage;
 use crate::spans::class_of;
 use crate::view::View;
 use lx_types::{Class, NoMemory, PageId};
-use page_frames::Residence;
 use page_fix::{FixRight, Steps, fix_page, fix_private};
+use page_frames::Residence;
 use std::sync::Wait;
 use std::sync::ledger::Ledger;
 
@@ -64,7 +64,6 @@ impl View {
         self.pages.push_reserved(page);
     }
 }
-
 
 impl View {
     /// Maps a page of the process's own: it is fixed for this process alone. It takes no memory.

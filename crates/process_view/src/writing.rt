@@ -41,7 +41,13 @@ impl View {
 
 impl View {
     /// Writes bytes to an object of the process's own: into its pages, and with an entry. Nothing is done without memory.
-    pub fn write_own(&mut self, board: &mut Board, k: usize, place: &Place, write: &Write) -> Result<(), NoMemory>
+    pub fn write_own(
+        &mut self,
+        board: &mut Board,
+        k: usize,
+        place: &Place,
+        write: &Write,
+    ) -> Result<(), NoMemory>
         requires asked { IsAskedAt board.old self.old (commands.Write place.now write.now.bytes) place.now k }
         requires write { IsWriteTo place.now write.now }
         requires class { IsInClass self.old k place.now Class.Private }
@@ -58,7 +64,13 @@ impl View {
     }
 
     /// Writes bytes to an object that all processes share. Nothing is done without memory.
-    pub fn write_common(&mut self, board: &mut Board, k: usize, place: &Place, bytes: &[u8]) -> Result<(), NoMemory>
+    pub fn write_common(
+        &mut self,
+        board: &mut Board,
+        k: usize,
+        place: &Place,
+        bytes: &[u8],
+    ) -> Result<(), NoMemory>
         requires asked { IsAskedAt board.old self.old (commands.Write place.now bytes.now) place.now k }
         requires fits { length bytes.now ≡ place.now.len }
         requires class { IsInClass self.old k place.now Class.Shared }
@@ -75,7 +87,13 @@ impl View {
     }
 
     /// Writes bytes to the process's own copy of code (DosDebug). Nothing is done without memory.
-    pub fn debug(&mut self, board: &mut Board, k: usize, place: &Place, write: &Write) -> Result<(), NoMemory>
+    pub fn debug(
+        &mut self,
+        board: &mut Board,
+        k: usize,
+        place: &Place,
+        write: &Write,
+    ) -> Result<(), NoMemory>
         requires asked { IsAskedAt board.old self.old (commands.Debug place.now write.now.bytes) place.now k }
         requires write { IsWriteTo place.now write.now }
         requires class { IsInClass self.old k place.now Class.Code }
@@ -99,7 +117,13 @@ ghost use Rattle.process_view.specs.Deeds.{Did, IsAskedAt, IsWriteTo, IsInClass}
 impl View {
     /// Reads bytes of an object that all processes share into a buffer that is as long as the place: the process's own
     /// copy of them, and over it the writes that all share. Without memory nothing is done, and the buffer may hold anything.
-    pub fn read_shared(&mut self, board: &mut Board, k: usize, place: &Place, into: &mut [u8]) -> Result<(), NoMemory>
+    pub fn read_shared(
+        &mut self,
+        board: &mut Board,
+        k: usize,
+        place: &Place,
+        into: &mut [u8],
+    ) -> Result<(), NoMemory>
         requires asked { IsAskedAt board.old self.old (commands.Shared place.now) place.now k }
         requires fits { length into.old ≡ place.now.len }
         ensures done { OnOk result (Did board.old board.new self.old self.new (commands.Shared place.now) (done (length board.new.history))) }

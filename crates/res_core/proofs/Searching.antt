@@ -9,7 +9,6 @@ use Rattle.lx_model.specs.Resources.{Resource, Res, resources_of, resource_at, r
 use Rattle.res_core.specs.Found.{found_at}
 
 module _ {X : Type 0} (p : X → Bool) (f : ℕ → X) where
-
   pub none_counts : (a n : ℕ) → ((j : ℕ) → j < n → p (f (a + j)) ≡ false) → find p (map f (range_with_len a n)) ≡ None
   none_counts a zero h = refl
   none_counts a (suc n) h =

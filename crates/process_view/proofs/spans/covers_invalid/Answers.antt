@@ -27,11 +27,11 @@ returns-then-is_invalid c =
     sym
     (ap (λ (ns : List ℕ). list_any (λ n. modules.is_invalid c.args.lib.now c.args.m (page c.args.place.now.object n)) ns) (sym c.span_of-span.ensures.pages)
     ∙ any_some_between (λ n. modules.is_invalid c.args.lib.now c.args.m (page c.args.place.now.object n)) c.span_of-span.result.first c.span_of-span.result.end c.loop-page.page c.loop-page.auto.page
-      c.loop-page-test.true (sym c.is_invalid.ensures ∙ c.if-is_invalid.true))
+    c.loop-page-test.true (sym c.is_invalid.ensures ∙ c.if-is_invalid.true))
 
 pub returns : goal.returns
 returns c =
     sym
     (ap (λ (ns : List ℕ). list_any (λ n. modules.is_invalid c.args.lib.now c.args.m (page c.args.place.now.object n)) ns) (sym c.span_of-span.ensures.pages)
     ∙ any_none_between (λ n. modules.is_invalid c.args.lib.now c.args.m (page c.args.place.now.object n)) c.span_of-span.result.first c.span_of-span.result.end c.span_of-span.ensures.order
-      (λ j u v. c.loop-page.invariant j u (omega arith)))
+    (λ j u v. c.loop-page.invariant j u (omega arith)))

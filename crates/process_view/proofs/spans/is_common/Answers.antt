@@ -26,7 +26,7 @@ returns-in-Code c =
     let lib = c.args.lib.now in
     sym
     (common_by lib c.args.m c.args.p c.requires.object c.requires.page ∙ ap (λ (k : Class). is_common k && not (is_invalid lib c.args.m c.args.p)) (sym c.class_of.ensures)
-     ∙ ap (λ b. b && not (is_invalid lib c.args.m c.args.p)) (either c.class_of.result c.in-Code.is) ∙ ap not (sym c.is_invalid.ensures ∙ c.if-is_invalid.false))
+    ∙ ap (λ b. b && not (is_invalid lib c.args.m c.args.p)) (either c.class_of.result c.in-Code.is) ∙ ap not (sym c.is_invalid.ensures ∙ c.if-is_invalid.false))
 
 pub returns-in-Private : goal.returns-in-Private
 returns-in-Private c =

@@ -29,7 +29,7 @@ returns-in-Some c =
     let f : c.header_field-k-end.result ≡ resource_count m.file = c.header_field-k-end.ensures ∙ ap resource_count c.file-file.ensures in
     let p : c.table_place-table.result + 14 * c.loop-k.k + 14 ≤ length m.file = omega (arith, ap length c.file-file.ensures) in
     let here : found_at m c.args.ty c.args.id (entry_at m c.table_place-table.result c.loop-k.k) ≡ Some c.in-Some.spot =
-        ap (λ (k : ℕ). found_at m c.args.ty c.args.id (entry_at m c.table_place-table.result k)) (sym c.from.ensures) ∙ sym c.spot_at.ensures ∙ c.in-Some.is
+    ap (λ (k : ℕ). found_at m c.args.ty c.args.id (entry_at m c.table_place-table.result k)) (sym c.from.ensures) ∙ sym c.spot_at.ensures ∙ c.in-Some.is
     in
     a_resource m c.args.ty c.args.id c.table_place-table.result c.header_field-k-end.result c.loop-k.k c.in-Some.spot e f c.loop-k-test.true p c.loop-k.invariant here
 
@@ -37,7 +37,7 @@ pub loop-k-preserved : goal.loop-k-preserved
 loop-k-preserved c =
     let m = c.args.m.now in
     let here : found_at m c.args.ty c.args.id (entry_at m c.table_place-table.result c.loop-k.k) ≡ None =
-        ap (λ (k : ℕ). found_at m c.args.ty c.args.id (entry_at m c.table_place-table.result k)) (sym c.from.ensures) ∙ sym c.spot_at.ensures ∙ c.in_default.is
+    ap (λ (k : ℕ). found_at m c.args.ty c.args.id (entry_at m c.table_place-table.result k)) (sym c.from.ensures) ∙ sym c.spot_at.ensures ∙ c.in_default.is
     in
     below_more _ _ c.loop-k.invariant (not_found m c.args.ty c.args.id (entry_at m c.table_place-table.result c.loop-k.k) here)
 

@@ -31,17 +31,16 @@ loop-pass-preserved c =
     let last : Standing = standing c.in-Some.pass c.make-view.result in
     let more : length (c.loop-pass.yielded ++ c.in-Some.pass ∷ []) ≡ n + 1 = length_push c.loop-pass.yielded c.in-Some.pass in
     let items : c.push.new.self.items ≡ c.loop-pass.procs.items ++ last ∷ [] = search rules in
-    let count : length c.loop-pass.procs.items ≡ n = c.loop-pass.invariant.2 in
-    (
+    let count : length c.loop-pass.procs.items ≡ n = c.loop-pass.invariant.2 in (
       tt,
       tt,
       ap length items ∙ (length_push c.loop-pass.procs.items last ∙ (ap (λ (j : ℕ). j + 1) count ∙ sym more)),
       λ about library dealt k d inside.
-      let here = dealt_at c.args.self.now about all c.args.passes.items n c.in-Some.pass dealt turn.0 turn.1 in
-      let shared : arc_value c.in_ok-try_clone.field-0 ≡ arc_value c.args.lib.now = search rules in
-      let number : c.pid.result ≡ c.in-Some.pass.me.0.pid = search rules in
-      let view : c.make-view.result ≡ new_view about.library c.in-Some.pass.me.0.pid =
-      c.make-view.ensures ∙ (ap (λ (l : List Parts). new_view l c.pid.result) (shared ∙ sym library) ∙ ap (new_view about.library) number) in
-      subst (λ xs. IsNew c.args.self.now about all k (get_or xs k d)) (sym items)
-      (each_more (IsNew c.args.self.now about all) c.loop-pass.procs.items last n count (c.loop-pass.invariant.3 about library dealt) (dealt_new c.args.self.now about all n c.in-Some.pass c.make-view.result here view) k d (omega (arith, more))),
+          let here = dealt_at c.args.self.now about all c.args.passes.items n c.in-Some.pass dealt turn.0 turn.1 in
+          let shared : arc_value c.in_ok-try_clone.field-0 ≡ arc_value c.args.lib.now = search rules in
+          let number : c.pid.result ≡ c.in-Some.pass.me.0.pid = search rules in
+          let view : c.make-view.result ≡ new_view about.library c.in-Some.pass.me.0.pid =
+          c.make-view.ensures ∙ (ap (λ (l : List Parts). new_view l c.pid.result) (shared ∙ sym library) ∙ ap (new_view about.library) number) in
+          subst (λ xs. IsNew c.args.self.now about all k (get_or xs k d)) (sym items)
+          (each_more (IsNew c.args.self.now about all) c.loop-pass.procs.items last n count (c.loop-pass.invariant.3 about library dealt) (dealt_new c.args.self.now about all n c.in-Some.pass c.make-view.result here view) k d (omega (arith, more))),
     )

@@ -13,9 +13,13 @@ use Rattle.proc_core.proofs.loader.Loader.gather.Goals as goal
 pub loop-last-init : goal.loop-last-init
 loop-last-init c =
     let holds : Holds c.args.first = subst Holds c.first.view_is c.first.invariant.1 in
-    let start = joined_start c.args.self.now c.args.first c.args.rest.items c.requires holds in
-    (subst (λ (v : Known Entry About). Joined c.args.first c.args.rest.items (length c.args.rest.items) v) (ap (λ (s : Standing). s.known) (sym c.first.view_is)) start, c.first.invariant.0,
-      ap (λ (s : Standing). s.lock) c.first.view_is ∙ c.requires.lock_is, omega arith, λ k d inside. refl)
+    let start = joined_start c.args.self.now c.args.first c.args.rest.items c.requires holds in (
+      subst (λ (v : Known Entry About). Joined c.args.first c.args.rest.items (length c.args.rest.items) v) (ap (λ (s : Standing). s.known) (sym c.first.view_is)) start,
+      c.first.invariant.0,
+      ap (λ (s : Standing). s.lock) c.first.view_is ∙ c.requires.lock_is,
+      omega arith,
+      λ k d inside. refl,
+    )
 
 pub loop-last-preserved : goal.loop-last-preserved
 loop-last-preserved c =

@@ -12,7 +12,7 @@ pub returns : goal.returns
 returns c =
     let spot = c.args.spot in
     let base : c.spot_base.result ≡ base_if spot (residence_with (residences_in c.self.inside.stays.items) spot.«module») =
-        c.spot_base.ensures ∙ ap (λ (ss : List Stay). base_if spot (residence_with (residences_in ss) spot.«module»)) c.deref.ensures.value
+    c.spot_base.ensures ∙ ap (λ (ss : List Stay). base_if spot (residence_with (residences_in ss) spot.«module»)) c.deref.ensures.value
     in
     let P : ProcessView → Type 0 = λ v. address c.spot_base.result spot.offset ≡ view_address v.holding (Ok spot) in
     subst P c.self.view_is (ap (λ (b : ℕ). address b spot.offset) base ∙ sym (address_by_residence (view_of c.self.inside) spot (record { stays = refl })))

@@ -45,9 +45,9 @@ returns-in-Right c = λ d.
     let given : IsGiven b c.fault.new.self c.pid-pid.result c.serial-serial.result p c.in-Right.right = subst K c.in-Right.is c.in_ok-right.ensures.claim in
     let x = fault_of v r p in
     let adds : c.fault.new.self ≡ with_entry b x =
-        given.adds r.«module» (subst P (sym number) (subst S (sym serial) may))
-        ∙ ap (λ (n : ℕ). with_entry b (entry_of b n (fault c.serial-serial.result r.«module» p))) number ∙ ap (λ (n : ℕ). with_entry b (entry_of b v.holding.pid (fault n r.«module» p))) serial
-        ∙ ap (with_entry b) (fault_is b v r p)
+    given.adds r.«module» (subst P (sym number) (subst S (sym serial) may))
+    ∙ ap (λ (n : ℕ). with_entry b (entry_of b n (fault c.serial-serial.result r.«module» p))) number ∙ ap (λ (n : ℕ). with_entry b (entry_of b v.holding.pid (fault n r.«module» p))) serial
+    ∙ ap (with_entry b) (fault_is b v r p)
     in
     let first : has_fault b.history r.serial p ≡ false = ap (λ (n : ℕ). has_fault b.history n p) (sym serial) ∙ given.first in
     let follows = fault_follows b v r p c.pid-pid.ensures.process may first in
@@ -56,6 +56,6 @@ returns-in-Right c = λ d.
     let W : ProcessView → Type 0 = λ w. StandsAt (with_entry b x) w in
     let stands = claim_stands c.residences_stay.ensures.still c.residences_stay.ensures.bases c.views_stand.ensures.quiet b v r p c.history.ensures.legal c.requires.stands follows in
     let right : c.in-Right.right ≡ record { serial = r.serial; page = p } =
-        ap (λ (n : ℕ). record { serial = n; page = c.in-Right.right.page }) (given.named.0 ∙ serial) ∙ ap (λ q. record { serial = r.serial; page = q }) given.named.1
+    ap (λ (n : ℕ). record { serial = n; page = c.in-Right.right.page }) (given.named.0 ∙ serial) ∙ ap (λ q. record { serial = r.serial; page = q }) given.named.1
     in
     (right, adds, follows, c.follow.ensures, subst C (sym adds) (subst W (sym next) stands))

@@ -32,7 +32,7 @@ returns c =
     let U : ProcessView → Type 0 = λ v. (view_place_refusal v.library v.holding uses.peek at ≡ None) ⊎ (view_place_refusal v.library v.holding uses.share at ≡ None) in
     let is = stay_there w at.«module» (arc_value c.self.inside.lib) c.self.inside.pages.items c.self.inside.stays.items c.args.k s refl c.self.invariant.placed c.index-stay.ensures (subst N (sym c.self.view_is) c.requires.named) in
     let copied : c.copy_out.new.into ≡ map (byte_by s.places c.self.inside.pages.items at.object) (range_with_len at.offset at.len) =
-        c.copy_out.ensures ∙ ap (λ (pages : List Mapped). map (byte_by s.places pages at.object) (range_with_len at.offset at.len)) c.deref.ensures.value
+    c.copy_out.ensures ∙ ap (λ (pages : List Mapped). map (byte_by s.places pages at.object) (range_with_len at.offset at.len)) c.deref.ensures.value
     in
     let P : ProcessView → Type 0 = λ v. c.copy_out.new.into ≡ view_bytes v.holding at (stay_named v.library v.holding at.«module») in
     subst P c.self.view_is (readable_bytes w at c.args.k s at.len c.copy_out.new.into is (is_readable w at c.args.k s is (subst U (sym c.self.view_is) c.requires.used)) refl copied)

@@ -32,10 +32,10 @@ returns c =
     let adds : c.exit.new.self ≡ with_entry b x = c.in_ok-exit.ensures.entry ∙ ap (λ (n : ℕ). with_entry b (entry_of b n exit)) c.pid-pid.ensures.number in
     let row = c.leave_all.new.self.holding.row in
     let next : c.follow.new.self ≡ left_view b v (exiting p) row [] [] (length (b.history ++ x ∷ [])) c.leave_all.new.self.page_room c.leave_all.new.self.stay_room =
-        c.follow.ensures ∙ ap (λ (l : Ledger). at_front (length l.history) c.leave_all.new.self) adds ∙ ap (at_front (length (b.history ++ x ∷ []))) c.leave_all.ensures.rest
-        ∙ ended_is b v p row (length (b.history ++ x ∷ [])) c.leave_all.new.self.page_room c.leave_all.new.self.stay_room
+    c.follow.ensures ∙ ap (λ (l : Ledger). at_front (length l.history) c.leave_all.new.self) adds ∙ ap (at_front (length (b.history ++ x ∷ []))) c.leave_all.ensures.rest
+    ∙ ended_is b v p row (length (b.history ++ x ∷ [])) c.leave_all.new.self.page_room c.leave_all.new.self.stay_room
     in
     did_same b (with_entry b x) c.exit.new.self v (left_view b v (exiting p) row [] [] (length (b.history ++ x ∷ [])) c.leave_all.new.self.page_room c.leave_all.new.self.stay_room) c.follow.new.self commands.Exit _ _
     (did_exit c.views_stand.ensures.left c.views_stand.ensures.kept c.views_stand.ensures.touched b v row _ _ c.pid-pid.ensures.process c.history.ensures.legal c.requires.stands c.requires.accepted
-     (c.leave_all.ensures.row b.library p (state_of b) c.requires.stands.stands.view.row))
+    (c.leave_all.ensures.row b.library p (state_of b) c.requires.stands.stands.view.row))
     adds next (ap (λ (l : Ledger). done (length l.history)) adds)

@@ -34,4 +34,4 @@ returns c = λ d.
     let P : ProcessView → Type 0 = λ v. c.is_some.result ≡ has_page (mapped_pages v.holding) (get_or v.residences c.args.k d).serial p in
     subst P c.self.view_is
     (c.is_some.ensures ∙ ap (λ (o : Option ℕ). is_some o) c.get.ensures ∙ sym (mapped_as_placed lib c.self.inside.pages.items s p placed here.0 here.1)
-     ∙ ap (λ (r : ResidenceFor). has_page (mapped_pages w.holding) r.serial p) (sym same))
+    ∙ ap (λ (r : ResidenceFor). has_page (mapped_pages w.holding) r.serial p) (sym same))

@@ -132,9 +132,9 @@ returns c = λ d.
     let residences : residences_in (set stays c.args.k t) ≡ residences_in stays = residences_set stays c.args.k t (get_residence stays c.args.k s t within at refl) in
     let room : vec_capacity c.push_reserved.new.self - vec_len c.push_reserved.new.self ≡ vec_capacity c.self.inside.pages - vec_len c.self.inside.pages - 1 = omega (arith, c.push_reserved.ensures.len, c.push_reserved.ensures.capacity) in
     let made =
-        page_kept lib c.self.inside.pid c.self.inside.ended c.self.inside.holder (residences_in stays) (residences_in (set stays c.args.k t)) pages c.push_reserved.new.self.items c.self.inside.front
-        (vec_capacity c.self.inside.pages - vec_len c.self.inside.pages) (vec_capacity c.push_reserved.new.self - vec_len c.push_reserved.new.self) (vec_capacity c.self.inside.stays - vec_len c.self.inside.stays) r p
-        bytes residences more room
+    page_kept lib c.self.inside.pid c.self.inside.ended c.self.inside.holder (residences_in stays) (residences_in (set stays c.args.k t)) pages c.push_reserved.new.self.items c.self.inside.front
+    (vec_capacity c.self.inside.pages - vec_len c.self.inside.pages) (vec_capacity c.push_reserved.new.self - vec_len c.push_reserved.new.self) (vec_capacity c.self.inside.stays - vec_len c.self.inside.stays) r p
+    bytes residences more room
     in
     let any : get_or w.residences c.args.k d ≡ r = get_or-map residence_in stays c.args.k s d within ∙ ap residence_in (sym at) in
     made ∙ ap (λ (q : ResidenceFor). with_page q p bytes w) (sym any) ∙ ap (λ (v : ProcessView). with_page (get_or v.residences c.args.k d) p bytes v) c.self.view_is

@@ -67,14 +67,14 @@ publish-requires-clause-bytes g c =
     let m : c.module.result ≡ r.«module» = c.module.ensures.number ∙ ap (λ (q : ResidenceFor). q.«module») (c.residence-residence.ensures none) in
     let b : c.bases.result.now ≡ r.bases = c.bases.ensures ∙ ap (λ (q : ResidenceFor). q.bases) (c.residence-residence.ensures none) in
     let bytes : c.fix_page-fixed.result.bytes ≡ fixed_page v.library r.«module» r.bases c.args.right.page =
-        c.fix_page-fixed.ensures.bytes ∙ ap (λ (lib : List Parts). fixed_page lib c.module.result c.bases.result.now c.args.right.page) c.library.ensures
-        ∙ ap (λ (k : ℕ). fixed_page v.library k c.bases.result.now c.args.right.page) m ∙ ap (λ (x : Bases). fixed_page v.library r.«module» x c.args.right.page) b
+    c.fix_page-fixed.ensures.bytes ∙ ap (λ (lib : List Parts). fixed_page lib c.module.result c.bases.result.now c.args.right.page) c.library.ensures
+    ∙ ap (λ (k : ℕ). fixed_page v.library k c.bases.result.now c.args.right.page) m ∙ ap (λ (x : Bases). fixed_page v.library r.«module» x c.args.right.page) b
     in
     bytes
     ∙ sym
-      (ap (λ (q : ResidenceFor). fixed_page q.library q.«module» q.bases c.page-p.result) (c.residence-residence.ensures none)
-      ∙ ap (λ (lib : List Parts). fixed_page lib r.«module» r.bases c.page-p.result) (c.requires.page none).library
-      ∙ ap (λ (p : PageId). fixed_page v.library r.«module» r.bases p) page_is)
+    (ap (λ (q : ResidenceFor). fixed_page q.library q.«module» q.bases c.page-p.result) (c.residence-residence.ensures none)
+    ∙ ap (λ (lib : List Parts). fixed_page lib r.«module» r.bases c.page-p.result) (c.requires.page none).library
+    ∙ ap (λ (p : PageId). fixed_page v.library r.«module» r.bases p) page_is)
 
 pub keep_page-requires-clause-page : goal.keep_page-requires-clause-page
 keep_page-requires-clause-page g c = λ d.
@@ -90,8 +90,8 @@ returns-clause-mapped g c = λ d.
     let m : c.module.result ≡ r.«module» = c.module.ensures.number ∙ ap (λ (q : ResidenceFor). q.«module») (c.residence-residence.ensures d) in
     let b : c.bases.result.now ≡ r.bases = c.bases.ensures ∙ ap (λ (q : ResidenceFor). q.bases) (c.residence-residence.ensures d) in
     let bytes : c.fix_page-fixed.result.bytes ≡ fixed_page v.library r.«module» r.bases c.args.right.page =
-        c.fix_page-fixed.ensures.bytes ∙ ap (λ (lib : List Parts). fixed_page lib c.module.result c.bases.result.now c.args.right.page) c.library.ensures
-        ∙ ap (λ (k : ℕ). fixed_page v.library k c.bases.result.now c.args.right.page) m ∙ ap (λ (x : Bases). fixed_page v.library r.«module» x c.args.right.page) b
+    c.fix_page-fixed.ensures.bytes ∙ ap (λ (lib : List Parts). fixed_page lib c.module.result c.bases.result.now c.args.right.page) c.library.ensures
+    ∙ ap (λ (k : ℕ). fixed_page v.library k c.bases.result.now c.args.right.page) m ∙ ap (λ (x : Bases). fixed_page v.library r.«module» x c.args.right.page) b
     in
     c.keep_page.ensures d ∙ ap (λ (p : PageId). with_page r p c.bytes.result.now v) page_is ∙ ap (λ (bs : List ℕ). with_page r c.args.right.page bs v) (c.bytes.ensures ∙ bytes)
 

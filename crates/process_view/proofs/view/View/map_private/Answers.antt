@@ -48,8 +48,8 @@ returns-clause-mapped g c = λ d.
     let m : c.module.result ≡ (get_or c.args.self.now.residences c.args.k d).«module» = c.module.ensures.number ∙ ap (λ (r : ResidenceFor). r.«module») (c.residence-residence.ensures d) in
     let b : c.bases.result.now ≡ (get_or c.args.self.now.residences c.args.k d).bases = c.bases.ensures ∙ ap (λ (r : ResidenceFor). r.bases) (c.residence-residence.ensures d) in
     let bytes =
-        c.fix_private-bytes.ensures.bytes ∙ ap (λ (lib : List Parts). fixed_page lib c.module.result c.bases.result.now c.args.p) c.library.ensures
-        ∙ ap (λ (k : ℕ). fixed_page c.args.self.now.library k c.bases.result.now c.args.p) m ∙ ap (λ (x : Bases). fixed_page c.args.self.now.library (get_or c.args.self.now.residences c.args.k d).«module» x c.args.p) b
+    c.fix_private-bytes.ensures.bytes ∙ ap (λ (lib : List Parts). fixed_page lib c.module.result c.bases.result.now c.args.p) c.library.ensures
+    ∙ ap (λ (k : ℕ). fixed_page c.args.self.now.library k c.bases.result.now c.args.p) m ∙ ap (λ (x : Bases). fixed_page c.args.self.now.library (get_or c.args.self.now.residences c.args.k d).«module» x c.args.p) b
     in
     c.keep_page.ensures d ∙ ap (λ (bs : List ℕ). with_page (get_or c.args.self.now.residences c.args.k d) c.args.p bs c.args.self.now) bytes
 

@@ -28,5 +28,5 @@ returns g c = λ d.
     let r = get_or v.residences c.args.k d in
     c.keep_page.ensures d
     ∙ ap (λ (bs : List ℕ). with_page r c.args.p bs v)
-      (c.wait.ensures ∙ ap (λ (q : ResidenceFor). fixed_page q.library q.«module» q.bases c.args.p) (c.residence.ensures d)
-      ∙ ap (λ (lib : List Parts). fixed_page lib r.«module» r.bases c.args.p) (c.requires.page d).library)
+    (c.wait.ensures ∙ ap (λ (q : ResidenceFor). fixed_page q.library q.«module» q.bases c.args.p) (c.residence.ensures d)
+    ∙ ap (λ (lib : List Parts). fixed_page lib r.«module» r.bases c.args.p) (c.requires.page d).library)

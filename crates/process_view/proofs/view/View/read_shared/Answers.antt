@@ -61,15 +61,15 @@ returns c =
     let told = c.in_ok-read_shared.ensures.read r.«module» may in
     let x = entry_of b v.holding.pid (get r.serial r.«module» at.object at.offset at.len) in
     let adds : c.read_shared.new.self ≡ with_entry b x =
-        told.adds
-        ∙ ap (λ (n : ℕ). with_entry b (entry_of b n (get c.serial-serial.result r.«module» at.object at.offset (length c.copy_place.new.into)))) number
-        ∙ ap (λ (n : ℕ). with_entry b (entry_of b v.holding.pid (get n r.«module» at.object at.offset (length c.copy_place.new.into)))) serial
-        ∙ ap (λ (n : ℕ). with_entry b (entry_of b v.holding.pid (get r.serial r.«module» at.object at.offset n))) long
+    told.adds
+    ∙ ap (λ (n : ℕ). with_entry b (entry_of b n (get c.serial-serial.result r.«module» at.object at.offset (length c.copy_place.new.into)))) number
+    ∙ ap (λ (n : ℕ). with_entry b (entry_of b v.holding.pid (get n r.«module» at.object at.offset (length c.copy_place.new.into)))) serial
+    ∙ ap (λ (n : ℕ). with_entry b (entry_of b v.holding.pid (get r.serial r.«module» at.object at.offset n))) long
     in
     let bytes : c.read_shared.new.into ≡ read_run b v.holding.pid r.«module» at.object at.offset at.len =
-        told.bytes
-        ∙ ap (λ (n : ℕ). read_run b n r.«module» at.object at.offset (length c.copy_place.new.into)) number
-        ∙ ap (λ (n : ℕ). read_run b v.holding.pid r.«module» at.object at.offset n) long
+    told.bytes
+    ∙ ap (λ (n : ℕ). read_run b n r.«module» at.object at.offset (length c.copy_place.new.into)) number
+    ∙ ap (λ (n : ℕ). read_run b v.holding.pid r.«module» at.object at.offset n) long
     in
     let next : c.follow.new.self ≡ at_front (length (b.history ++ x ∷ [])) v = c.follow.ensures ∙ ap (λ (l : Ledger). at_front (length l.history) v) adds in
     record {

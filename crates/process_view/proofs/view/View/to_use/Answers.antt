@@ -23,9 +23,9 @@ returns-in-Some-span_refusal c =
     let is = stay_there w at.«module» lib c.self.inside.pages.items c.self.inside.stays.items c.in-Some.k s refl c.self.invariant.placed c.index-stay.ensures named in
     let m_is : c.module.result ≡ (residence_in s).«module» = c.module.ensures.number ∙ ap (λ (r : ResidenceFor). r.«module») c.deref-2.ensures in
     let span : span_refusal lib (purpose_of c.args.purpose) (residence_in s).«module» at.object at.offset at.len ≡ c.span_refusal.result =
-        sym
-        (c.span_refusal.ensures ∙ ap (λ (l : List Parts). span_refusal l (purpose_of c.args.purpose) c.module.result at.object at.offset at.len) c.deref.ensures
-        ∙ ap (λ (m : ℕ). span_refusal lib (purpose_of c.args.purpose) m at.object at.offset at.len) m_is)
+    sym
+    (c.span_refusal.ensures ∙ ap (λ (l : List Parts). span_refusal l (purpose_of c.args.purpose) c.module.result at.object at.offset at.len) c.deref.ensures
+    ∙ ap (λ (m : ℕ). span_refusal lib (purpose_of c.args.purpose) m at.object at.offset at.len) m_is)
     in
     let whole = place_refused w c.args.purpose at c.in-Some.k s c.if-self.false is in
     let P : ProcessView → Type 0 = λ v. view_place_refusal v.library v.holding (purpose_of c.args.purpose) at ≡ Some c.in-Some-span_refusal.refusal in
@@ -42,9 +42,9 @@ returns-in-Some-touch_refusal c =
     let is = stay_there w at.«module» lib c.self.inside.pages.items c.self.inside.stays.items c.in-Some.k s refl c.self.invariant.placed c.index-stay.ensures named in
     let m_is : c.module.result ≡ (residence_in s).«module» = c.module.ensures.number ∙ ap (λ (r : ResidenceFor). r.«module») c.deref-2.ensures in
     let span : span_refusal lib (purpose_of c.args.purpose) (residence_in s).«module» at.object at.offset at.len ≡ c.span_refusal.result =
-        sym
-        (c.span_refusal.ensures ∙ ap (λ (l : List Parts). span_refusal l (purpose_of c.args.purpose) c.module.result at.object at.offset at.len) c.deref.ensures
-        ∙ ap (λ (m : ℕ). span_refusal lib (purpose_of c.args.purpose) m at.object at.offset at.len) m_is)
+    sym
+    (c.span_refusal.ensures ∙ ap (λ (l : List Parts). span_refusal l (purpose_of c.args.purpose) c.module.result at.object at.offset at.len) c.deref.ensures
+    ∙ ap (λ (m : ℕ). span_refusal lib (purpose_of c.args.purpose) m at.object at.offset at.len) m_is)
     in
     let whole = place_refused w c.args.purpose at c.in-Some.k s c.if-self.false is in
     let P : ProcessView → Type 0 = λ v. view_place_refusal v.library v.holding (purpose_of c.args.purpose) at ≡ Some c.in-Some-touch_refusal.refusal in
@@ -62,9 +62,9 @@ returns c =
     let is = stay_there w at.«module» lib c.self.inside.pages.items c.self.inside.stays.items c.in-Some.k s refl c.self.invariant.placed c.index-stay.ensures named in
     let m_is : c.module.result ≡ (residence_in s).«module» = c.module.ensures.number ∙ ap (λ (r : ResidenceFor). r.«module») c.deref-2.ensures in
     let span : span_refusal lib (purpose_of c.args.purpose) (residence_in s).«module» at.object at.offset at.len ≡ c.span_refusal.result =
-        sym
-        (c.span_refusal.ensures ∙ ap (λ (l : List Parts). span_refusal l (purpose_of c.args.purpose) c.module.result at.object at.offset at.len) c.deref.ensures
-        ∙ ap (λ (m : ℕ). span_refusal lib (purpose_of c.args.purpose) m at.object at.offset at.len) m_is)
+    sym
+    (c.span_refusal.ensures ∙ ap (λ (l : List Parts). span_refusal l (purpose_of c.args.purpose) c.module.result at.object at.offset at.len) c.deref.ensures
+    ∙ ap (λ (m : ℕ). span_refusal lib (purpose_of c.args.purpose) m at.object at.offset at.len) m_is)
     in
     let whole = place_refused w c.args.purpose at c.in-Some.k s c.if-self.false is in
     let P : ProcessView → Type 0 = λ v. (view_place_refusal v.library v.holding (purpose_of c.args.purpose) at ≡ None) × IsStayNamed v at.«module» c.in-Some.k in

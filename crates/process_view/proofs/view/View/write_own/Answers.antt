@@ -17,9 +17,11 @@ write-requires-clause-may c =
     let d : ResidenceFor = record { library = []; serial = 0; «module» = 0; bases = record { mods = [] } } in
     let v = c.args.self.now in
     let r = get_or v.residences c.args.k d in
-    let acc = accepted_write c.args.board.now v c.args.place.now c.args.write.now.bytes c.args.k d c.pid-pid.ensures.process c.requires.asked c.requires.write.len in
-    (r.«module», may_put c.args.board.now v.holding.pid c.pid-pid.result r.serial c.serial-serial.result r.«module» c.args.place.now.object c.args.place.now.offset c.args.write.now.bytes c.bytes.result.now acc.may c.pid-pid.ensures.number
-     (c.serial-serial.ensures ∙ ap (λ (q : ResidenceFor). q.serial) (c.residence.ensures d)) c.bytes.ensures)
+    let acc = accepted_write c.args.board.now v c.args.place.now c.args.write.now.bytes c.args.k d c.pid-pid.ensures.process c.requires.asked c.requires.write.len in (
+      r.«module»,
+      may_put c.args.board.now v.holding.pid c.pid-pid.result r.serial c.serial-serial.result r.«module» c.args.place.now.object c.args.place.now.offset c.args.write.now.bytes c.bytes.result.now acc.may c.pid-pid.ensures.number
+          (c.serial-serial.ensures ∙ ap (λ (q : ResidenceFor). q.serial) (c.residence.ensures d)) c.bytes.ensures,
+    )
 
 pub returns : goal.returns
 returns c =
@@ -33,10 +35,10 @@ returns c =
     let acc = accepted_write b v at c.args.write.now.bytes c.args.k d c.pid-pid.ensures.process c.requires.asked c.requires.write.len in
     let may = may_put b v.holding.pid c.pid-pid.result r.serial c.serial-serial.result r.«module» at.object at.offset c.args.write.now.bytes c.bytes.result.now acc.may number serial c.bytes.ensures in
     let adds : c.write.new.self ≡ with_entry b (entry_of b v.holding.pid (put r.serial r.«module» at.object at.offset c.args.write.now.bytes)) =
-        c.in_ok-write.ensures.entry r.«module» may
-        ∙ ap (λ (n : ℕ). with_entry b (entry_of b n (put c.serial-serial.result r.«module» at.object at.offset c.bytes.result.now))) number
-        ∙ ap (λ (n : ℕ). with_entry b (entry_of b v.holding.pid (put n r.«module» at.object at.offset c.bytes.result.now))) serial
-        ∙ ap (λ (bs : List ℕ). with_entry b (entry_of b v.holding.pid (put r.serial r.«module» at.object at.offset bs))) c.bytes.ensures
+    c.in_ok-write.ensures.entry r.«module» may
+    ∙ ap (λ (n : ℕ). with_entry b (entry_of b n (put c.serial-serial.result r.«module» at.object at.offset c.bytes.result.now))) number
+    ∙ ap (λ (n : ℕ). with_entry b (entry_of b v.holding.pid (put n r.«module» at.object at.offset c.bytes.result.now))) serial
+    ∙ ap (λ (bs : List ℕ). with_entry b (entry_of b v.holding.pid (put r.serial r.«module» at.object at.offset bs))) c.bytes.ensures
     in
     let x = entry_of b v.holding.pid (put r.serial r.«module» at.object at.offset c.args.write.now.bytes) in
     let next : c.follow.new.self ≡ at_front (length (b.history ++ x ∷ [])) (with_write r.serial c.args.write.now v) = c.follow.ensures ∙ ap (λ (l : Ledger). at_front (length l.history) c.put_own.new.self) adds ∙ ap (at_front (length (b.history ++ x ∷ []))) (c.put_own.ensures ∙ ap (λ (n : ℕ). with_write n c.args.write.now v) serial) in
