@@ -1,14 +1,23 @@
 #!/usr/bin/env python3
 """Times the commands of lx on inputs of n, 2n, 4n and 8n, with their peak memory.
 
-Usage: bench.py LX [SCALE]     LX: the program as built; SCALE: a factor for all sizes, 1 by default
+Usage: bench.py [--scale N] [--against FILE] [--save FILE] [--only WORD] LX
 
-Prints a line a size: seconds, MiB, and the ratio to the line before. It is no part of the gate. Inputs are made here, in
-a temporary folder: object files with many publics and fixups, many object files, libraries of many modules, and definition
-files with many exports. Peaks below that of this script itself, some 15 MiB, are not seen.
+    LX              the program as built
+    --scale N       a factor for all sizes, 1 by default
+    --against FILE  prints beside each size its seconds and its memory as parts of those in FILE, a baseline
+    --save FILE     writes what was measured to FILE as a baseline
+    --only WORD     only the rows whose name has this word
+
+Prints a line a size: seconds, MiB, the seconds of the line before as 1, and with --against the two parts of the baseline. A
+baseline is of one machine and says when it was made: compare only what was measured on the same. The script is no part of the
+gate. Inputs are made here, in a temporary folder: object files with many publics and fixups, many object files, libraries of
+many modules, and definition files with many exports. Peaks below that of this script itself, some 15 MiB, are not seen. The
+status is 0, 1 where a command failed, 2 where the words are wrong.
 """
 import json
 import os
+import platform
 import struct
 import subprocess
 import sys
@@ -92,14 +101,42 @@ def prepared(prepare, folder, size):
         return json.load(file)
 
 
-def row(what, sizes, prepare):
-    last = None
-    for size in sizes:
-        with tempfile.TemporaryDirectory() as folder:
-            seconds, memory = run(prepared(prepare, folder, size), folder)
-        ratio = "" if last is None else "%6.2f" % (seconds / last)
-        print("%-44s %9d %9.3f %8.1f %6s" % (what, size, seconds, memory, ratio), flush=True)
-        last = seconds
+class Table:
+    """What is measured, a line a size, beside a baseline."""
+
+    def __init__(self, options):
+        self.options = options
+        self.before = options.against or {}
+        self.rows = {}
+
+    def head(self):
+        columns = "%-44s %9s %9s %8s %6s" % ("what", "size", "seconds", "MiB", "ratio")
+        print(columns + ("  time memory, of the baseline" if self.before else ""))
+
+    def against(self, what, size, seconds, memory):
+        if not self.before:
+            return ""
+        was = self.before["rows"].get(what, {}).get(str(size))
+        return "    new" if was is None else "%6.2f %6.2f" % (seconds / was[0], memory / was[1])
+
+    def row(self, what, first, prepare):
+        if self.options.only not in what:
+            return
+        last = None
+        for size in [max(1, int(first * self.options.scale)) * k for k in (1, 2, 4, 8)]:
+            with tempfile.TemporaryDirectory() as folder:
+                seconds, memory = run(prepared(prepare, folder, size), folder)
+            ratio = "" if last is None else "%6.2f" % (seconds / last)
+            beside = self.against(what, size, seconds, memory)
+            print(("%-44s %9d %9.3f %8.1f %6s%s" % (what, size, seconds, memory, ratio, beside)).rstrip(), flush=True)
+            self.rows.setdefault(what, {})[str(size)] = [round(seconds, 4), round(memory, 1)]
+            last = seconds
+
+    def save(self, path):
+        told = {"machine": "%s, %d processors" % (platform.machine(), os.cpu_count() or 0), "date": time.strftime("%Y-%m-%d")}
+        with open(path, "w", encoding="utf-8") as file:
+            json.dump({**told, "rows": self.rows}, file, indent=1)
+            file.write("\n")
 
 
 def put(folder, name, data):
@@ -108,14 +145,46 @@ def put(folder, name, data):
     return name
 
 
-def main():
-    if len(sys.argv) not in (2, 3):
-        sys.exit(__doc__)
-    lx = os.path.realpath(sys.argv[1])
-    scale = float(sys.argv[2]) if len(sys.argv) == 3 else 1.0
+class Options:
+    """The words of the command line."""
 
-    def sizes(first):
-        return [max(1, int(first * scale)) * k for k in (1, 2, 4, 8)]
+    def __init__(self, words):
+        self.scale, self.only, self.against, self.save, self.lx = 1.0, "", None, None, None
+        words = list(words)
+        while words:
+            word = words.pop(0)
+            if word in ("--scale", "--against", "--save", "--only"):
+                if not words:
+                    raise ValueError("%s wants a word behind it" % word)
+                self.take(word, words.pop(0))
+            elif word.startswith("-") or self.lx is not None:
+                raise ValueError("not known: %s" % word)
+            else:
+                self.lx = word
+        if self.lx is None:
+            raise ValueError("LX is missing: the program as built")
+        if not os.access(self.lx, os.X_OK) or os.path.isdir(self.lx):
+            raise ValueError("no program: %s" % self.lx)
+        self.lx = os.path.realpath(self.lx)
+
+    def take(self, word, value):
+        if word == "--scale":
+            self.scale = float(value)
+            if not 0 < self.scale <= 1000:
+                raise ValueError("--scale wants a number above 0")
+        elif word == "--against":
+            with open(value, encoding="utf-8") as file:
+                self.against = json.load(file)
+            if not isinstance(self.against, dict) or not isinstance(self.against.get("rows"), dict):
+                raise ValueError("no baseline: %s" % value)
+        elif word == "--save":
+            self.save = value
+        else:
+            self.only = value
+
+
+def measure(options):
+    lx = options.lx
 
     def fixups(folder, size):
         put(folder, "lib.def", b"LIBRARY\n")
@@ -146,13 +215,34 @@ def main():
     def image(folder, size):
         return [lx, "image", put(folder, "a.obj", with_fixups(size)), "00010000"]
 
-    print("%-44s %9s %9s %8s %6s" % ("what", "size", "seconds", "MiB", "ratio"))
-    row("link: fixups of one object file", sizes(100_000), fixups)
-    row("link: object files of 50 names each", sizes(100), objects)
-    row("link: publics and externals of 8 files", sizes(2_000), publics)
-    row("link: exports through an import library", sizes(4_000), import_library)
-    row("implib: exports of a definition file", sizes(4_000), exports)
-    row("image: fixups of one object file", sizes(20_000), image)
+    table = Table(options)
+    table.head()
+    table.row("link: fixups of one object file", 100_000, fixups)
+    table.row("link: object files of 50 names each", 100, objects)
+    table.row("link: publics and externals of 8 files", 2_000, publics)
+    table.row("link: exports through an import library", 4_000, import_library)
+    table.row("implib: exports of a definition file", 4_000, exports)
+    table.row("image: fixups of one object file", 20_000, image)
+    if options.save:
+        table.save(options.save)
 
 
-main()
+def main(words):
+    if words in (["-h"], ["--help"]):
+        print(__doc__, end="")
+        return 0
+    try:
+        options = Options(words)
+    except (ValueError, OSError) as error:
+        print("bench.py: %s (bench.py --help says more)" % error, file=sys.stderr)
+        return 2
+    try:
+        measure(options)
+    except (OSError, KeyboardInterrupt) as error:
+        print("bench.py: ended: %s" % (error or "interrupted"), file=sys.stderr)
+        return 1
+    return 0
+
+
+if __name__ == "__main__":
+    sys.exit(main(sys.argv[1:]))

@@ -123,6 +123,9 @@ def look(names):
 
 
 def main(words):
+    if words in (["-h"], ["--help"]):
+        print(__doc__, end="")
+        return 0
     lanes = 1
     only_looks = words[:1] == ["--applies"]
     words = words[only_looks:]
@@ -131,8 +134,7 @@ def main(words):
     crates = crates_of(ROOT)
     unknown = [it for it in words if it not in crates]
     if unknown:
-        print(__doc__, file=sys.stderr)
-        print(f"edits.py: no crate {unknown[0]}", file=sys.stderr)
+        print(f"edits.py: no crate {unknown[0]} (edits.py --help says more)", file=sys.stderr)
         return 2
     if only_looks:
         return 0 if look(words or sorted(crates)) else 1
@@ -150,4 +152,7 @@ def main(words):
 
 
 if __name__ == "__main__":
-    sys.exit(main(sys.argv[1:]))
+    try:
+        sys.exit(main(sys.argv[1:]))
+    except (OSError, KeyboardInterrupt) as error:
+        sys.exit(f"edits.py: ended: {error or 'interrupted'}")

@@ -180,13 +180,19 @@ def wait_for(gate):
 
 
 def main(words):
+    if words in (["-h"], ["--help"]):
+        print(__doc__, end="")
+        return 0
     log = None
     if words[:1] == ["--log"] and len(words) > 1:
         log, words = words[1], words[2:]
     if len(words) > 1 or words[:1] and words[0].startswith("-"):
-        print(__doc__, file=sys.stderr)
+        print(f"gate.py: not known: {' '.join(words)} (gate.py --help says more)", file=sys.stderr)
         return 2
     root = os.path.realpath(words[0] if words else os.path.join(os.path.dirname(__file__), ".."))
+    if not os.path.isfile(f"{root}/crates.txt"):
+        print(f"gate.py: no repository: {root} has no crates.txt", file=sys.stderr)
+        return 2
     log = os.path.abspath(log or os.path.join(tempfile.mkdtemp(prefix="lx-gate-"), "gate.log"))
     begun, ended = time.time(), threading.Event()
     with open(log, "wb") as out:
@@ -211,4 +217,7 @@ def main(words):
 
 
 if __name__ == "__main__":
-    sys.exit(main(sys.argv[1:]))
+    try:
+        sys.exit(main(sys.argv[1:]))
+    except OSError as error:
+        sys.exit(f"gate.py: ended: {error}")

@@ -1,0 +1,123 @@
+#!/bin/sh
+# Tries what a save leaves behind, over real files: a full disk, a folder that may not be written, links, modes, pipes.
+#
+# Usage: saving.sh LX
+#
+# LX is the program. Works in a new folder below ${TMPDIR:-/tmp}. As root the row of the folder that may not be written is run as
+# nobody, by setpriv. It is no part of the gate, which has no full disk. Prints a line for each row that goes wrong, and the
+# count of rows; the status is 0 where none does.
+set -u
+
+case "${1-}" in
+-h | --help)
+    sed -n '2,8s/^# \{0,1\}//p' "$0"
+    exit 0
+    ;;
+"" | -*)
+    sed -n '2,8s/^# \{0,1\}//p' "$0" >&2
+    exit 2
+    ;;
+esac
+case "$1" in
+*/*) lx=$(cd "$(dirname "$1")" && pwd)/$(basename "$1") ;;
+*) lx=$1 ;;
+esac
+here=$(cd "$(dirname "$0")" && pwd)
+room=$(mktemp -d) || exit 1
+trap 'chmod -R u+w "$room"; rm -rf "$room"' EXIT
+chmod 755 "$room"
+cd "$room" || exit 1
+cp "$here"/../examples/stored/add.obj "$here"/../examples/add.def .
+chmod 644 add.obj add.def
+i=0
+while [ $i -lt 400 ]; do
+    i=$((i + 1))
+    echo " n$i = add_up @$i"
+done | { printf 'LIBRARY BIG\nEXPORTS\n' && cat; } >big.def
+
+rows=0
+wrong=0
+
+# row TITLE TEST: counts the row, and tells it where the test does not hold
+row() {
+    rows=$((rows + 1))
+    eval "$2" || {
+        wrong=$((wrong + 1))
+        echo "saving.sh: $1"
+    }
+}
+
+link() {
+    "$lx" link "$1" add.def add.obj >/dev/null 2>&1
+    status=$?
+}
+
+left_over() {
+    find "$room" -name '.lx-new*' | grep -q .
+}
+
+link new.dll
+row "a new file" '[ $status = 0 ] && [ -s new.dll ] && ! left_over'
+cp new.dll wanted.dll
+
+echo old >over.dll && chmod 640 over.dll && link over.dll
+row "an old file is replaced" '[ $status = 0 ] && cmp -s over.dll wanted.dll && ! left_over'
+row "its modes stay" '[ "$(stat -c %a over.dll)" = 640 ]'
+
+echo old >kept.dll
+(
+    trap '' XFSZ
+    ulimit -f 1
+    exec "$lx" link kept.dll big.def add.obj >/dev/null 2>&1
+)
+status=$?
+row "a full disk leaves the old file" '[ $status = 4 ] && [ "$(cat kept.dll)" = old ] && ! left_over'
+(
+    trap '' XFSZ
+    ulimit -f 1
+    exec "$lx" link none.dll big.def add.obj >/dev/null 2>&1
+)
+status=$?
+row "a full disk leaves no new file" '[ $status = 4 ] && [ ! -e none.dll ] && ! left_over'
+
+link no/such.dll
+row "an absent folder" '[ $status = 4 ] && [ ! -e no ] && ! left_over'
+
+mkdir folder && link folder
+row "a folder" '[ $status = 4 ] && [ -d folder ] && ! left_over'
+
+echo old >aim.dll && ln -s aim.dll soft.dll && link soft.dll
+row "a symbolic link is followed" '[ $status = 0 ] && [ -L soft.dll ] && [ ! -L aim.dll ] && cmp -s aim.dll wanted.dll'
+mkdir deep && ln -s deep/far.dll loose.dll && link loose.dll
+row "a symbolic link to what is not there" '[ $status = 0 ] && [ -L loose.dll ] && cmp -s deep/far.dll wanted.dll'
+ln -s round.dll round.dll && link round.dll
+row "a symbolic link to itself" '[ $status = 4 ] && [ -L round.dll ] && ! left_over'
+
+link /dev/null
+row "a device" '[ $status = 0 ] && [ -c /dev/null ]'
+mkfifo pipe.dll && cat pipe.dll >piped.dll &
+reader=$!
+sleep 1
+link pipe.dll
+wait $reader
+row "a pipe" '[ $status = 0 ] && [ -p pipe.dll ] && cmp -s piped.dll wanted.dll'
+
+mkdir shut && echo old >shut/a.dll && chmod 666 shut/a.dll && chmod 555 shut
+if [ "$(id -u)" = 0 ]; then
+    setpriv --reuid=65534 --regid=65534 --clear-groups "$lx" link shut/a.dll add.def add.obj >/dev/null 2>&1
+else
+    "$lx" link shut/a.dll add.def add.obj >/dev/null 2>&1
+fi
+status=$?
+row "a folder that may not be written" '[ $status = 4 ] && [ "$(cat shut/a.dll)" = old ]'
+mkdir open && chmod 777 open && echo old >open/a.dll && chmod 444 open/a.dll
+if [ "$(id -u)" = 0 ]; then
+    setpriv --reuid=65534 --regid=65534 --clear-groups "$lx" link open/a.dll add.def add.obj >/dev/null 2>&1
+else
+    "$lx" link open/a.dll add.def add.obj >/dev/null 2>&1
+fi
+status=$?
+row "a file that may not be written" '[ $status = 4 ] && [ "$(cat open/a.dll)" = old ] && ! left_over'
+
+echo "$rows rows, $wrong wrong"
+[ "$wrong" = 0 ]
