@@ -5,6 +5,7 @@ ghost use Rattle.std.specs.Prelude.{◌≡◌, false, length, IfOk};
 ghost use Rattle.load_model.specs.declared.commands.Command.{Command};
 ghost use Rattle.load_model.specs.declared.commands.Command.TheVariants as commands;
 ghost use Rattle.load_model.specs.ViewAnswers.{view_refusal};
+ghost use Rattle.process_view.specs.Answering.{enter_command};
 ghost use Rattle.proc_core.specs.Procs.{IsOf};
 ghost use Rattle.proc_core.specs.Calls.{IsAnswered, IsReadLast, call_refusal};
 
@@ -13,7 +14,7 @@ use crate::laws::entries_are_known;
 use crate::loader::Loader;
 use crate::proc::Proc;
 use crate::turns::{give_back, take_turn, told_by};
-use load_model::{Place, Refusal};
+use load_model::{How, Place, Refusal};
 use lx_types::{Fail, Name};
 use process_view::Purpose;
 use std::alloc::Global;
@@ -34,6 +35,80 @@ impl Proc {
             return Some(Refusal::Worn);
         }
         seen
+    }
+
+    // Starts a program, or loads a library.
+    fn enter<R: Wait>(
+        &mut self,
+        rt: &R,
+        alloc: Global,
+        loader: &Loader,
+        how: How,
+        name: &Name,
+    ) -> Result<Done, Fail<Refusal>>
+        requires loader { IsOf loader.now self.old }
+        ensures loader { IsOf loader.now self.new }
+        ensures answer { IsAnswered self.old self.new (enter_command how name.now) result }
+    {
+        if let Some(refusal) = self.first_refusal(self.view.to_enter(how, name).err()) {
+            return Err(Fail::Said(refusal));
+        }
+        entries_are_known();
+        let mut board = take_turn(rt, loader, &mut self.pass, &mut self.view);
+        let done = self.view.do_enter(alloc, &mut board, how, name);
+        give_back(loader, &mut self.pass, board);
+        told_by(&self.pass, done)
+    }
+
+    /// Starts a program (DosExecPgm).
+    pub fn start<R: Wait>(
+        &mut self,
+        rt: &R,
+        alloc: Global,
+        loader: &Loader,
+        name: &Name,
+    ) -> Result<Done, Fail<Refusal>>
+        requires loader { IsOf loader.now self.old }
+        ensures loader { IsOf loader.now self.new }
+        ensures answer { IsAnswered self.old self.new (commands.Start name.now) result }
+    {
+        self.enter(rt, alloc, loader, How::Start, name)
+    }
+
+    /// Loads a library (DosLoadModule).
+    pub fn load<R: Wait>(
+        &mut self,
+        rt: &R,
+        alloc: Global,
+        loader: &Loader,
+        name: &Name,
+    ) -> Result<Done, Fail<Refusal>>
+        requires loader { IsOf loader.now self.old }
+        ensures loader { IsOf loader.now self.new }
+        ensures answer { IsAnswered self.old self.new (commands.Load name.now) result }
+    {
+        self.enter(rt, alloc, loader, How::Load, name)
+    }
+
+    /// Gives up one load of a library (DosFreeModule).
+    pub fn free<R: Wait>(
+        &mut self,
+        rt: &R,
+        loader: &Loader,
+        name: &Name,
+    ) -> Result<Done, Fail<Refusal>>
+        requires loader { IsOf loader.now self.old }
+        ensures loader { IsOf loader.now self.new }
+        ensures answer { IsAnswered self.old self.new (commands.Free name.now) result }
+    {
+        if let Some(refusal) = self.first_refusal(self.view.to_free(name).err()) {
+            return Err(Fail::Said(refusal));
+        }
+        entries_are_known();
+        let mut board = take_turn(rt, loader, &mut self.pass, &mut self.view);
+        let done = self.view.do_free(&mut board, name);
+        give_back(loader, &mut self.pass, board);
+        told_by(&self.pass, done)
     }
 
     /// Ends the process (DosExit).

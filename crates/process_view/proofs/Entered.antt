@@ -146,7 +146,7 @@ among_last (x ∷ xs) k = ap (λ c. (x == k) || c) (among_last xs k) ∙ or_true
     or_true true = refl
     or_true false = refl
 
-among_own : OrderEndsWithItself → (lib : Library) (k : ℕ) → is_among (order_of lib k) k ≡ true
+pub among_own : OrderEndsWithItself → (lib : Library) (k : ℕ) → is_among (order_of lib k) k ≡ true
 unfolding order_of
 among_own ends lib k = let it = ends lib k in ap (λ xs. is_among xs k) it.1 ∙ among_last it.0 k
 
@@ -207,7 +207,7 @@ attached_on b v how m fresh calls k r is e =
     ap (λ (s : Eager). attached_residence b.library s v.holding.pid k) (state_entered b v how m fresh calls is)
     ∙ attached_grows b.library (state_of b) v.holding.pid how m fresh k r (may_enter b v.holding.pid how m is.accepted.may) e
 
-reaches_on : (b : Ledger) (v : ProcessView) (how : How) (m : ℕ) (fresh : List Fresh) (calls : List Call) (k : ℕ) → IsDoneAs b v how m fresh calls →
+pub reaches_on : (b : Ledger) (v : ProcessView) (how : How) (m : ℕ) (fresh : List Fresh) (calls : List Call) (k : ℕ) → IsDoneAs b v how m fresh calls →
     reaches b.library ((state_after b.library b.failing (b.history ++ entry_of b v.holding.pid (enter how m) ∷ [])).processes v.holding.pid) k
     ≡ is_among (order_of b.library m) k || reaches b.library ((state_of b).processes v.holding.pid) k
 reaches_on b v how m fresh calls k is =
@@ -240,7 +240,7 @@ among_filter f (x ∷ xs) k = by_test (f x) refl (among_filter f xs k)
     by_test true is later = ap (λ c. is_among (cond c (x ∷ filter f xs) (filter f xs)) k) is ∙ ap (λ c. (x == k) || c) later ∙ at_k (x == k) refl is
     by_test false is later = ap (λ c. is_among (cond c (x ∷ filter f xs) (filter f xs)) k) is ∙ later ∙ off_k (x == k) refl is
 
-joined_is : (lib : Library) (e : Eager) (pid m k : ℕ) → is_among (joined lib e pid m) k ≡ is_among (order_of lib m) k && not (reaches lib (e.processes pid) k)
+pub joined_is : (lib : Library) (e : Eager) (pid m k : ℕ) → is_among (joined lib e pid m) k ≡ is_among (order_of lib m) k && not (reaches lib (e.processes pid) k)
 unfolding joined
 joined_is lib e pid m k = among_filter (λ n. not (reaches lib (e.processes pid) n)) (order_of lib m) k
 

@@ -1,6 +1,6 @@
 -- A view behind a free.
-use Rattle.std.proofs.Common.{◌≡◌, ℕ, ◌==◌, ◌||◌, Bool, true, false, cond, not, List, [], ◌∷◌, ◌++◌, map, filter, length, Option, Some, None, option_map, unwrap_or, get_or, refl, sym, ap, ◌∙◌}
-use Rattle.std.specs.Prelude.{is_some}
+use Rattle.std.proofs.Common.{◌≡◌, ℕ, zero, suc, ◌<◌, arith, ◌==◌, ◌||◌, Bool, true, false, cond, not, List, [], ◌∷◌, ◌++◌, map, filter, length, Option, Some, None, option_map, unwrap_or, get_or, refl, sym, ap, ◌∙◌}
+use Rattle.std.specs.Prelude.{is_some, slice_index}
 use Rattle.std.specs.List.{AllByRecursion, find, list_any}
 use Rattle.std.proofs.lemmas.List.Elements.{All-from_get_or, recursion_from_All}
 use Rattle.std.proofs.lemmas.List.{get_or_default}
@@ -16,8 +16,8 @@ use Rattle.load_model.specs.Leaving.{freeing, keeping, left_serials}
 use Rattle.load_model.specs.Laws.{ResidenceStays}
 use Rattle.load_model.specs.Alike.{BasesSeenStay}
 use Rattle.load_model.specs.Rows.{Row, IsRowOf}
-use Rattle.load_model.specs.Standing.{Mapped, IsMapped, fresh_of, state_for}
-use Rattle.load_model.specs.ViewAnswers.{view_refusal}
+use Rattle.load_model.specs.Standing.{Holding, Mapped, IsMapped, fresh_of, state_for}
+use Rattle.load_model.specs.ViewAnswers.{view_refusal, view_free_refusal}
 use Rattle.load_model.specs.ViewLeaving.{GivesUpTo, mapped_kept, KeptAreReached, KeptAreTouched, StandsLeft}
 use Rattle.load_model.specs.Outcomes.{done, is_done, IsTold}
 use Rattle.load_model.proofs.Bools.{or_true}
@@ -28,7 +28,7 @@ use Rattle.load_model.proofs.ViewLeaving.{residence_behind, all_filter}
 use Rattle.load_model.proofs.ViewReplies.{residence_is, attached_is_resident}
 use Rattle.load_core.specs.Ledger.{Ledger, IsLegal, state_of, entry_of, with_entry}
 use Rattle.load_core.specs.Told.{residence_shown}
-use Rattle.process_view.specs.ProcessViews.{ProcessView, StandsAt, AreShown, fresh_shown}
+use Rattle.process_view.specs.ProcessViews.{ProcessView, StandsAt, AreShown, fresh_shown, at_front, freed_view}
 use Rattle.process_view.specs.Deeds.{Did}
 use Rattle.process_view.proofs.Accepting.{IsAccepted, accepted, shown_of, shown_alike, stay_resident}
 use Rattle.process_view.proofs.Entered.{self, same_number, resident_by, found}
@@ -278,3 +278,31 @@ pages_are b v m kept legal at acc (p ∷ ps) all =
 pub pages_freed : (b : Ledger) (v : ProcessView) (m : ℕ) → KeptAreReached → IsLegal b → StandsAt b v → IsAccepted b v (free m) →
     pages_of_kept (stays_kept b.library (freed b v m) v.residences) v.holding.mapped ≡ mapped_kept b.library (state_of b) (freed b v m) v.holding.mapped
 pages_freed b v m kept legal at acc = pages_are b v m kept legal at acc v.holding.mapped at.stands.view.mapped
+
+-- ---- what is held
+
+pub held_by : (v : Holding) (a : Bool) (n : ℕ) → view_free_refusal (record v { ended = a; row = record v.row { loads = n ∷ [] } }) (Some 0) ≡ None → 0 < n
+held_by v true zero e = absurd cc
+held_by v false zero e = absurd cc
+held_by v a (suc n) e = omega arith
+
+pub held_free : (v : Holding) (o : Option ℕ) (m : ℕ) → view_free_refusal v o ≡ None → o ≡ Some m → 0 < slice_index v.row.loads m
+held_free v o m e is = held_by v v.ended (slice_index v.row.loads m) (ap (view_free_refusal v) (sym is) ∙ e)
+
+-- the view behind a free
+pub freed_is : KeptAreReached → (b : Ledger) (v : ProcessView) (m : ℕ) (row : Row) (n room more : ℕ) → IsLegal b → StandsAt b v → IsAccepted b v (free m) →
+    at_front n (freed_view v (reaches v.library (freeing m ((state_of b).processes v.holding.pid))) row room more)
+    ≡ left_view b v (freeing m ((state_of b).processes v.holding.pid)) row (stays_kept b.library (freeing m ((state_of b).processes v.holding.pid)) v.residences)
+    (mapped_kept b.library (state_of b) (freeing m ((state_of b).processes v.holding.pid)) v.holding.mapped) n room more
+freed_is kept b v m row n room more legal at acc =
+    let after : Process = freeing m ((state_of b).processes v.holding.pid) in
+    let rs = stays_kept b.library after v.residences in
+    let made : Bool → List Mapped → ProcessView = λ en ms. record {
+      library = v.library;
+      holding = record v.holding { ended = en; row = row; stays = map fresh_shown rs; mapped = ms; front = n };
+      residences = rs;
+      page_room = room;
+      stay_room = more;
+    } in
+    ap (λ (l : Library). at_front n (freed_view v (reaches l after) row room more)) at.library ∙ ap (λ (en : Bool). made en (pages_of_kept rs v.holding.mapped)) at.stands.view.ended
+    ∙ ap (λ (ms : List Mapped). made after.ended ms) (pages_freed b v m kept legal at acc)

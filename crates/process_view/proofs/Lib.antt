@@ -16,5 +16,10 @@ pub mod Left
 pub mod Entered
 pub mod Freed
 pub mod Keeping
+pub mod KeepingJoined
 pub mod Claims
+pub mod Placing
 pub mod Loads
+pub mod Counted
+pub mod Joins
+pub mod Enters

@@ -28,10 +28,10 @@ use Rattle.process_view.proofs.Positions.{position_new, position_other, any_is_p
 
 -- ---- rows
 
-same_page : (a b : PageId) → is_page a b ≡ true → (a.object ≡ b.object) × (a.page ≡ b.page)
+pub same_page : (a b : PageId) → is_page a b ≡ true → (a.object ≡ b.object) × (a.page ≡ b.page)
 same_page a b e = grind (arith, nat_tests)
 
-other_page : (a b : PageId) → is_page a b ≡ false → (a.object ≡ b.object → a.page ≡ b.page → ⊥)
+pub other_page : (a b : PageId) → is_page a b ≡ false → (a.object ≡ b.object → a.page ≡ b.page → ⊥)
 other_page a b e u v = let same : is_page a b ≡ true = grind (arith, nat_tests) in absurd cc
 
 pub place_put : (rows : PagePlaces) (p : PageId) (k : ℕ) → p.object - 1 < length rows → p.page < length (get_or rows (p.object - 1) []) → place_in (with_place rows p k) p ≡ Some k
@@ -65,11 +65,11 @@ cover_put m rows p k is = record {
 
 -- ---- the page among the others
 
-is_not : (b c : Bool) → c ≡ false → (b && c) ≡ false
+pub is_not : (b c : Bool) → c ≡ false → (b && c) ≡ false
 is_not true c e = e
 is_not false c e = refl
 
-not_at : (serial : ℕ) (q : PageId) (x : Mapped) → (x.of.serial ≡ serial → ⊥) → is_mapped_at serial q x ≡ false
+pub not_at : (serial : ℕ) (q : PageId) (x : Mapped) → (x.of.serial ≡ serial → ⊥) → is_mapped_at serial q x ≡ false
 not_at serial q x h = let other : (x.of.serial == serial) ≡ false = grind (arith, nat_tests) in ap (λ b. b && is_page x.of.page q) other
 
 is_at : (r : ResidenceFor) (p : PageId) (bytes : List ℕ) → is_mapped_at r.serial p (page_with r p bytes) ≡ true

@@ -14,16 +14,16 @@ use Rattle.process_view.specs.Kept.{residences_in}
 use Rattle.process_view.specs.declared.stays.Stay.{Stay}
 use Rattle.process_view.specs.PageRows.{PagePlaces, place_in, HaveNone}
 
-abbrev absent : Option ℕ
+abbrev pub absent : Option ℕ
 absent = None
 
 -- nothing but absent numbers
-none_of : (n k : ℕ) → get_or (replicate n absent) k None ≡ None
+pub none_of : (n k : ℕ) → get_or (replicate n absent) k None ≡ None
 none_of zero k = refl
 none_of (suc n) zero = refl
 none_of (suc n) (suc k) = none_of n k
 
-length_none : (n : ℕ) → length (replicate n absent) ≡ n
+pub length_none : (n : ℕ) → length (replicate n absent) ≡ n
 length_none zero = refl
 length_none (suc n) = ap suc (length_none n)
 

@@ -7,7 +7,7 @@ use Rattle.page_frames.specs.Residences.{ResidenceFor}
 use Rattle.load_model.specs.State.{pids, is_among}
 use Rattle.load_model.specs.Standing.{Mapped}
 use Rattle.process_view.specs.ProcessViews.{ProcessView, fresh_shown}
-use Rattle.process_view.specs.PageRows.{Cover, ArePlaces}
+use Rattle.process_view.specs.PageRows.{Cover, ArePlaces, without_any}
 use Rattle.process_view.specs.declared.stays.Stay.{Stay}
 use Rattle.process_view.specs.declared.view.View.TheInside.{Inside}
 
@@ -25,6 +25,10 @@ view_of v = record {
   page_room = vec_capacity v.pages - vec_len v.pages;
   stay_room = vec_capacity v.stays - vec_len v.stays;
 }
+
+-- a residence of whose pages no place is known
+abbrev pub without_places : Stay → Stay
+without_places s = record s { places = without_any s.places }
 
 -- A residence is of a module of the library, and each of its pages has its place among those that are mapped.
 pub record IsPlaced (lib : List Parts) (mapped : List Mapped) (s : Stay) : Type 0 where

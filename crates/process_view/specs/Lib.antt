@@ -4,5 +4,7 @@ pub mod PageRows
 pub mod Kept
 pub mod Answering
 pub mod Reading
+pub mod Counting
 pub mod Deeds
+pub mod Joining
 pub mod PageLaws

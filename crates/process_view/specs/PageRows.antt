@@ -1,5 +1,5 @@
 -- Where the pages of a residence stand in the list of those that are mapped: a row for each object, a number for each page.
-use Rattle.std.specs.Prelude.{◌≡◌, ℕ, ◌-◌, ◌<◌, List, [], length, Option, Some, None, position, slice_index_or, slice_set}
+use Rattle.std.specs.Prelude.{◌≡◌, ℕ, ◌-◌, ◌<◌, List, [], length, Option, Some, None, position, slice_index_or, slice_set, map, replicate, is_none, nat_lt, ◌&&◌, if◌then◌else◌, Bool}
 use Rattle.lx_types.specs.declared.object.PageId.{PageId}
 use Rattle.lx_types.specs.declared.parts.Parts.{Parts}
 use Rattle.lx_types.specs.Object.{pages_of}
@@ -34,3 +34,15 @@ pub record HaveNone (m : Parts) (rows : PagePlaces) : Type 0 where
 -- the rows with a page at a place
 abbrev pub with_place : PagePlaces → PageId → ℕ → PagePlaces
 with_place rows p k = slice_set rows (p.object - 1) (slice_set (slice_index_or rows (p.object - 1) []) p.page (Some k))
+
+-- the rows with no place for any page
+abbrev pub without_any : PagePlaces → PagePlaces
+without_any rows = map (λ row. replicate (length row) None) rows
+
+-- the rows have a number for the page
+abbrev pub has_number : PagePlaces → PageId → Bool
+has_number rows p = nat_lt 0 p.object && nat_lt (p.object - 1) (length rows) && nat_lt p.page (length (slice_index_or rows (p.object - 1) []))
+
+-- the rows with a page at a place, where they have a number for it and no place yet
+abbrev pub with_first_place : PagePlaces → PageId → ℕ → PagePlaces
+with_first_place rows p k = if has_number rows p && is_none (place_in rows p) then with_place rows p k else rows

@@ -5,14 +5,18 @@ ghost use Rattle.load_model.specs.declared.commands.Command.TheVariants as comma
 ghost use Rattle.load_model.specs.Refusals as uses;
 ghost use Rattle.load_model.specs.ViewAnswers.{view_refusal, view_place_refusal};
 ghost use Rattle.process_view.specs.ProcessViews.{StandsAt};
-ghost use Rattle.process_view.specs.Answering.{IsStayNamed};
+ghost use Rattle.process_view.specs.Answering.{enter_command, IsStayNamed};
 ghost use Rattle.process_view.specs.Deeds.{IsDone, IsLastRead, IsInClass};
 
 use crate::purposes::Purpose;
 use crate::spans::class_of;
 use crate::view::View;
-use load_core::Board;
-use load_model::{Place, Refusal, views_stand};
+use hold_rows::rows_are_counted;
+use load_core::{Board, Loaded};
+use load_model::{
+    How, Place, Refusal, counts_are_small, reached_is_fit, residences_stay, views_stand,
+};
+use lx_model::order_is_reach;
 use lx_types::{Bytes, Class, Fail, Name, NoMemory};
 use std::alloc::Global;
 use write_overlay::Write;
@@ -33,6 +37,81 @@ impl View {
         ensures { IsInClass self.now k place.now result }
     {
         class_of(self.library(), self.stay_module(k), place.object)
+    }
+
+    /// Starts a program, or loads a library. Where an object has no place, or an initialisation fails, the entry tells it,
+    /// and it is the refusal. Nothing is done without memory.
+    pub fn do_enter(
+        &mut self,
+        alloc: Global,
+        board: &mut Board,
+        how: How,
+        name: &Name,
+    ) -> Result<(), Fail<Refusal>>
+        requires stands { StandsAt board.old self.old }
+        requires accepted { view_refusal self.old.library self.old.holding (enter_command how name.now) ≡ None }
+        ensures { IsDone board.old board.new self.old self.new (enter_command how name.now) result }
+    {
+        views_stand();
+        residences_stay();
+        order_is_reach();
+        rows_are_counted();
+        counts_are_small();
+        reached_is_fit();
+        board.history();
+        self.library().len();
+        let pid = self.pid();
+        let Some(m) = self.library().find(name) else {
+            unreachable!()
+        };
+        let joining = self.holder.unreached(alloc, self.lib.order(m))?;
+        let rows = self.rows_for(alloc, &joining)?;
+        self.reserve_stays(joining.len())?;
+        match board.load(pid, m, how)? {
+            Loaded::Done { joined } => {
+                self.keep_joined(joined, rows);
+                self.count_in(how, m);
+                self.follow(board);
+                Ok(())
+            }
+            Loaded::Full { of, object, size } => {
+                self.follow(board);
+                Err(Fail::Said(Refusal::ArenaFull {
+                    number: self.front(),
+                    of,
+                    object,
+                    size,
+                }))
+            }
+            Loaded::Failed { by } => {
+                self.follow(board);
+                Err(Fail::Said(Refusal::InitFailed {
+                    number: self.front(),
+                    by,
+                }))
+            }
+        }
+    }
+
+    /// Gives up one load of a library. Nothing is done without memory.
+    pub fn do_free(&mut self, board: &mut Board, name: &Name) -> Result<(), Fail<Refusal>>
+        requires stands { StandsAt board.old self.old }
+        requires accepted { view_refusal self.old.library self.old.holding (commands.Free name.now) ≡ None }
+        ensures { IsDone board.old board.new self.old self.new (commands.Free name.now) result }
+    {
+        views_stand();
+        residences_stay();
+        rows_are_counted();
+        order_is_reach();
+        board.history();
+        let Ok(m) = self.to_free(name) else {
+            unreachable!()
+        };
+        let pid = self.pid();
+        board.free(pid, m)?;
+        self.leave_one(m);
+        self.follow(board);
+        Ok(())
     }
 
     /// Ends. Nothing is done without memory.

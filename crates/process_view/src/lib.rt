@@ -2,8 +2,11 @@
 #![tactic(auto)]
 
 mod claiming;
+mod counting;
 mod doing;
 mod entering;
+mod freeing;
+mod joining;
 mod laws;
 mod leaving;
 mod own_page;

@@ -106,4 +106,44 @@ impl PageRows {
     }
 }
 
-ghost use Rattle.process_view.specs.PageRows.{with_place};
+// Takes all places of some rows away.
+fn clear_rows(rows: &mut [PageRow])
+    ensures { rows.new ≡ without_any rows.old }
+{
+    for k in 0..rows.len() {
+        rows[k].clear();
+    }
+}
+
+impl PageRows {
+    /// Takes all places away.
+    pub fn clear(&mut self)
+        ensures { self.new ≡ without_any self.old }
+    {
+        clear_rows(self.rows.as_mut_slice());
+    }
+
+    // Whether there is a number for the page.
+    fn has(&self, p: PageId) -> bool
+        ensures { result ≡ has_number self.now p }
+    {
+        if p.object == 0 {
+            return false;
+        }
+        match self.rows.get((p.object as usize).saturating_sub(1)) {
+            Some(row) => (p.page as usize) < row.places.len(),
+            None => false,
+        }
+    }
+
+    /// Puts a page at a place, where there is a number for it and no place yet.
+    pub fn put_first(&mut self, p: PageId, place: usize)
+        ensures { self.new ≡ with_first_place self.old p place }
+    {
+        if self.has(p) && self.get(p).is_none() {
+            self.put(p, place);
+        }
+    }
+}
+
+ghost use Rattle.process_view.specs.PageRows.{with_place, without_any, has_number, with_first_place};

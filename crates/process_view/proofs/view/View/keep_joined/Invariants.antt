@@ -1,0 +1,17 @@
+use Rattle.std.proofs.Common.{◌≡◌, length, map}
+use Rattle.std.specs.Arc.{arc_value}
+use Rattle.std.specs.Iterator.Adapters.{zip_first, zip_second}
+use Rattle.process_view.specs.Joining.{AreEmpty, CanJoin, modules_of, with_stays}
+use Rattle.process_view.proofs.view.View.keep_joined.Given as goal
+
+abbrev pub invariant-loop-residence : goal.invariant-loop-residence
+invariant-loop-residence l =
+    let rs = (zip_first l.residence-iterator).rest in
+    let rows = (zip_second l.residence-iterator).rest in
+    (goal.iterator-loop-residence).can_next l.residence-iterator ×
+    (goal.iterator-loop-residence).is_finite l.residence-iterator ×
+    (length rs.items ≡ rs.len) ×
+    (length rows.items ≡ rows.len) ×
+    CanJoin l.self (map arc_value rs.items) ×
+    AreEmpty l.self.library (modules_of (map arc_value rs.items)) rows.items ×
+    (with_stays (map arc_value rs.items) l.self ≡ with_stays (map arc_value l.fn.joined.items) l.initial.self)

@@ -1,0 +1,55 @@
+//! The residences that join a process's own behind a start or a load. What takes memory is done before.
+
+ghost use Rattle.std.specs.Prelude.{◌≡◌, ◌<◌, ◌≤◌, All, IfOk, OnOk, length, map};
+ghost use Rattle.std.specs.Arc.{arc_value};
+ghost use Rattle.process_view.specs.ProcessViews.{fresh_shown};
+ghost use Rattle.process_view.specs.Joining.{AreEmpty, CanJoin, modules_of, with_stays};
+
+use crate::page_rows::PageRows;
+use crate::view::View;
+use lx_types::NoMemory;
+use page_frames::Residence;
+use std::alloc::Global;
+use std::sync::Arc;
+
+impl View {
+    // The rows of modules that have no page mapped.
+    pub(crate) fn rows_for(&self, alloc: Global, modules: &[u32]) -> Result<Vec<PageRows>, NoMemory>
+        requires { All (λ m. m < length self.now.library) modules.now }
+        ensures { IfOk result (λ rows. AreEmpty self.now.library modules.now rows.items) }
+    {
+        let mut rows = Vec::new(alloc);
+        for m in modules {
+            rows.push(PageRows::new(alloc, self.lib.module(*m))?)?;
+        }
+        Ok(rows)
+    }
+
+    // Finds room for so many residences more.
+    pub(crate) fn reserve_stays(&mut self, count: usize) -> Result<(), NoMemory>
+        ensures room { OnOk result (count ≤ self.new.stay_room) }
+        ensures same { self.new ≡ record self.old { stay_room = self.new.stay_room } }
+    {
+        self.stays.reserve(count)?;
+        Ok(())
+    }
+
+    // What it shows of its residences.
+    fn show_stays(&self)
+        ensures { self.now.holding.stays ≡ map fresh_shown self.now.residences }
+    {
+        let _ = &self.stays;
+    }
+
+    // Keeps residences with their rows, in its room.
+    pub(crate) fn keep_joined(&mut self, joined: Vec<Arc<Residence>>, rows: Vec<PageRows>)
+        requires new { CanJoin self.old (map arc_value joined.items) }
+        requires rows { AreEmpty self.old.library (modules_of (map arc_value joined.items)) rows.items }
+        ensures { self.new ≡ with_stays (map arc_value joined.items) self.old }
+    {
+        for (residence, places) in joined.into_iter().zip(rows) {
+            self.keep_stay(residence, places);
+        }
+        self.show_stays();
+    }
+}
