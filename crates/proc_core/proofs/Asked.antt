@@ -1,5 +1,5 @@
 -- What a command asks that is not refused, and what its entry says.
-use Rattle.std.proofs.Common.{◌≡◌, ℕ, Bool, true, false, List, [], Option, Some, None, option_map, is_none, Result, Ok, Err, length, refl, sym, ap, ◌∙◌, subst, ◌==◌, ◌&&◌}
+use Rattle.std.proofs.Common.{◌≡◌, ℕ, Bool, true, false, List, Option, Some, None, option_map, is_none, Result, Ok, Err, length, refl, sym, ap, ◌∙◌, subst, ◌&&◌}
 use Rattle.std.specs.List.{range_with_len}
 use Rattle.std.proofs.lemmas.List.{length-map}
 use Rattle.std.proofs.lemmas.List.FromFn.{length-range_with_len}
@@ -7,20 +7,20 @@ use Rattle.load_model.specs.declared.commands.Place.{Place}
 use Rattle.load_model.specs.declared.commands.Command.{Command}
 use Rattle.load_model.specs.declared.commands.Command.TheVariants as commands
 use Rattle.load_model.specs.declared.commands.Refusal.{Refusal}
-use Rattle.load_model.specs.declared.commands.Refusal.TheVariants.{NotTouched, Ended, NotAttached}
+use Rattle.load_model.specs.declared.commands.Refusal.TheVariants.{NotTouched, Ended}
 use Rattle.load_model.specs.declared.deeds.How.{How}
 use Rattle.load_model.specs.declared.deeds.How.TheVariants as ways
 use Rattle.load_model.specs.declared.deeds.Fresh.{Fresh}
 use Rattle.load_model.specs.declared.deeds.Deed.{Deed}
-use Rattle.load_model.specs.Modules.{Library, Held, number_of}
+use Rattle.load_model.specs.Modules.{Library, Held}
 use Rattle.load_model.specs.State.{Residence, Process, Eager, attached_residence, serial_of}
 use Rattle.load_model.specs.Entering.{NoRoom, placing}
 use Rattle.load_model.specs.Initialising.{enter_by, entered, enter_deed, failing_module}
 use Rattle.load_model.specs.Memory.{Byte, Bytes, first_untouched}
-use Rattle.load_model.specs.Refusals.{Purpose, touch, write, share, peek, debug, when, ◌orelse◌, span_refusal, touch_refusal, residence_refusal, residence_named, place_refusal, refusal_of}
-use Rattle.load_model.specs.Asks.{Ask, enter, free, exit, fault, put, patch, get, ask_in, bytes_at, is_serial, deed_of, may_ask}
+use Rattle.load_model.specs.Refusals.{write, share, debug, when, ◌orelse◌, span_refusal, residence_refusal, residence_named, place_refusal, refusal_of}
+use Rattle.load_model.specs.Asks.{Ask, enter, get, ask_in, bytes_at, is_serial, deed_of, may_ask}
 use Rattle.load_model.specs.Step.{meant, ask_by, FitsPlace}
-use Rattle.load_model.specs.Outcomes.{name_in, NamesAreKnown}
+use Rattle.load_model.specs.Outcomes.{NamesAreKnown}
 use Rattle.session_model.specs.Merging.{AsksFor, is_fault, uses_touched}
 
 some_is : {A : Type 0} (a b : A) → Some a ≡ Some b → a ≡ b

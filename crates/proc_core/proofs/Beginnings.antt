@@ -1,5 +1,5 @@
 -- A process that has done nothing.
-use Rattle.std.proofs.Common.{◌≡◌, ◌≢◌, ℕ, zero, suc, None, false, ◌+◌, ◌<◌, ◌≤◌, ◌==◌, List, [], ◌∷◌, ◌++◌, length, get_or, Option, Some, true, refl, sym, ap, ◌∙◌, subst, arith, eq-eqb, ne_eqb}
+use Rattle.std.proofs.Common.{◌≡◌, ℕ, zero, suc, ◌+◌, ◌<◌, ◌≤◌, List, [], ◌∷◌, ◌++◌, length, get_or, Option, Some, true, refl, sym, ap, ◌∙◌, subst, arith, eq-eqb, ne_eqb}
 use Rattle.std.specs.List.{range_with_len}
 use Rattle.std.proofs.lemmas.List.{get_or_push, get_or_append_left}
 use mathlib.Core.Logic.{dite}
@@ -16,7 +16,7 @@ use Rattle.load_model.specs.ViewLaws.{NewStands}
 use Rattle.process_view.specs.ProcessViews.{ProcessView, new_view}
 use Rattle.proc_core.specs.declared.kept.About.{About}
 use Rattle.proc_core.specs.declared.kept.Kept.{Kept}
-use Rattle.proc_core.specs.Procs.{Standing, standing, Holds}
+use Rattle.proc_core.specs.Procs.{standing, Holds}
 use Rattle.proc_core.specs.Closing.{IsNew}
 
 among_range : (len a n : ℕ) → a ≤ n → n < a + len → is_among (range_with_len a len) n ≡ true

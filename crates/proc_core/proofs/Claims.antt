@@ -1,9 +1,8 @@
 -- A page that is claimed in a turn, and mapped behind it.
-use Rattle.std.proofs.Common.{◌≡◌, ℕ, ◌+◌, ◌<◌, ◌≤◌, ◌==◌, not, Bool, true, false, cond, List, [], ◌∷◌, ◌++◌, length, map, count_by, get_or, Option, Some, None, refl, sym, ap, ◌∙◌, subst, inl, inr, arith, append_assoc, append-nil}
+use Rattle.std.proofs.Common.{◌≡◌, ℕ, ◌+◌, ◌==◌, true, false, List, [], ◌∷◌, ◌++◌, length, count_by, Some, refl, sym, ap, ◌∙◌, subst, inl, arith, append-nil}
 use Rattle.std.proofs.lemmas.Bool.Decides.{nat_tests}
-use Rattle.std.specs.List.{AllByRecursion, list_any}
+use Rattle.std.specs.List.{AllByRecursion}
 use Rattle.std.proofs.lemmas.List.{map-append}
-use Rattle.std.proofs.lemmas.List.Folds.{list_any-append}
 use Rattle.lx_types.specs.Object.{class_of}
 use Rattle.lx_types.specs.declared.object.PageId.{PageId}
 use Rattle.lx_types.specs.declared.parts.Parts.{Parts}
@@ -14,16 +13,13 @@ use Rattle.load_model.specs.Modules.{Library, object_at, source_count}
 use Rattle.load_model.specs.State.{PageOf, pids, is_among}
 use Rattle.load_model.specs.Asks.{is_own}
 use Rattle.load_model.specs.Standing.{Holding, Mapped, mapped_pages}
-use Rattle.load_model.specs.Touched.{has_page}
 use Rattle.load_model.specs.TouchSteps.{touch_steps, mapped_steps, OthersCountNothing, FaultCounts, MappedCounts}
-use Rattle.load_core.specs.Ledger.{Ledger, IsLegal, with_entry}
-use Rattle.process_view.specs.ProcessViews.{ProcessView, StandsAt, at_front, without_room}
-use Rattle.process_view.specs.Deeds.{page_with, with_page, IsIdle}
+use Rattle.load_core.specs.Ledger.{Ledger, IsLegal}
+use Rattle.process_view.specs.ProcessViews.{ProcessView, StandsAt, without_room}
+use Rattle.process_view.specs.Deeds.{page_with, with_page}
 use Rattle.proc_core.specs.Procs.{Standing, Holds, front_of, failing_in}
 use Rattle.proc_core.specs.Calls.{AreOthers}
 use Rattle.proc_core.specs.Touches.{needs_fault, page_in, IsSeenForPage, IsPage}
-use Rattle.proc_core.specs.Turns.{HasCome}
-use Rattle.proc_core.proofs.Made.{turned, turned_holds}
 
 -- the laws of steps
 pub record Laws : Type 0 where
@@ -31,7 +27,7 @@ pub record Laws : Type 0 where
   pub fault : FaultCounts
   pub mapped : MappedCounts
 
-no_steps : (lib : Library) (pid m : ℕ) → touch_steps lib pid m [] [] ≡ 0
+pub no_steps : (lib : Library) (pid m : ℕ) → touch_steps lib pid m [] [] ≡ 0
 unfolding touch_steps
 no_steps lib pid m = refl
 
@@ -68,42 +64,21 @@ private_steps laws lib pid m t own =
 
 -- ---- entries
 
-all_others : (v : ProcessView) (m : ℕ) (t : PageOf) (pid : ℕ) (more : List Entry) → pid ≡ v.holding.pid → AreOthers pid more → AllByRecursion (IsSeenForPage v m t) more
+pub all_others : (v : ProcessView) (m : ℕ) (t : PageOf) (pid : ℕ) (more : List Entry) → pid ≡ v.holding.pid → AreOthers pid more → AllByRecursion (IsSeenForPage v m t) more
 all_others v m t pid [] is others = tt
 all_others v m t pid (x ∷ more) is others = (inl (subst (λ (n : ℕ). (n == x.pid) ≡ false) is others.0), all_others v m t pid more is others.1)
 
-all_last : {A : Type 0} (P : A → Type 0) (xs : List A) (x : A) → AllByRecursion P xs → P x → AllByRecursion P (xs ++ x ∷ [])
+pub all_last : {A : Type 0} (P : A → Type 0) (xs : List A) (x : A) → AllByRecursion P xs → P x → AllByRecursion P (xs ++ x ∷ [])
 all_last P [] x all here = (here, tt)
 all_last P (y ∷ xs) x all here = (all.0, all_last P xs x all.1 here)
 
 -- ---- the page is mapped
 
-mapped_one : (r : ResidenceFor) (q : PageId) (bytes : List ℕ) (v : ProcessView) → mapped_pages (with_page r q bytes v).holding ≡ mapped_pages v.holding ++ page_in r q ∷ []
+pub mapped_one : (r : ResidenceFor) (q : PageId) (bytes : List ℕ) (v : ProcessView) → mapped_pages (with_page r q bytes v).holding ≡ mapped_pages v.holding ++ page_in r q ∷ []
 mapped_one r q bytes v = map-append (λ (x : Mapped). x.of) v.holding.mapped (page_with r q bytes ∷ [])
 
-one_fault : (lib : Library) (m : ℕ) (t : PageOf) → is_own (class_of (object_at lib m t.page.object)) ≡ false → count_by (needs_fault lib m) (t ∷ []) ≡ 1
+pub one_fault : (lib : Library) (m : ℕ) (t : PageOf) → is_own (class_of (object_at lib m t.page.object)) ≡ false → count_by (needs_fault lib m) (t ∷ []) ≡ 1
 one_fault lib m t common = rw common refl
-
--- behind a turn in which the page was given or taken: others did more, and the process made its fault or nothing
-pub page_mapped : (p : Standing) (h : List Entry) (own : List Entry) (r : ResidenceFor) (q : PageId) (bytes : List ℕ) (w : ProcessView) (before after : ℕ) → Holds p → (more : List Entry) → AreOthers p.known.pid more →
-    h ≡ p.known.seen ++ (more ++ own) → AllByRecursion (IsSeenForPage p.view r.«module» (page_in r q)) (more ++ own) → without_room w ≡ without_room (at_front (length h) p.view) →
-    is_own (class_of (object_at p.view.library r.«module» q.object)) ≡ false → after ≡ before + touch_steps p.view.library p.known.pid r.«module» (more ++ own) (page_in r q ∷ []) →
-    IsPage p (turned p h (with_page r q bytes w)) (page_in r q) r.«module» (page_in r q ∷ []) before after
-page_mapped p h own r q bytes w before after holds more others seen entries bare common steps =
-    let holding : w.holding ≡ record p.view.holding { front = length h } = ap (λ (u : ProcessView). u.holding) bare in
-    let one = one_fault p.view.library r.«module» (page_in r q) common in
-    record {
-      pass = record { lock = refl; known = refl };
-      shown = more ++ own;
-      seen = seen;
-      entries = entries;
-      library = ap (λ (u : ProcessView). u.library) bare;
-      residences = ap (λ (u : ProcessView). u.residences) bare;
-      holding = ap (λ (k : Holding). record k { mapped = w.holding.mapped ++ page_with r q bytes ∷ [] }) holding;
-      mapped = mapped_one r q bytes w ∙ ap (λ (k : Holding). mapped_pages k ++ page_in r q ∷ []) holding;
-      drawn = (omega arith, omega arith);
-      steps = steps;
-    }
 
 -- ---- a page of the process's own
 

@@ -12,3 +12,9 @@ pub mod ReadLast
 pub mod TouchedPages
 pub mod Onward
 pub mod Claims
+pub mod Places
+pub mod PageTurns
+pub mod MappedBehind
+pub mod TouchedTo
+pub mod TouchedPage
+pub mod TouchLoop

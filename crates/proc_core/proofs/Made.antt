@@ -1,6 +1,5 @@
 -- What a turn comes to.
-use Rattle.std.proofs.Common.{◌≡◌, ℕ, ◌+◌, ◌==◌, List, [], ◌∷◌, ◌++◌, length, Option, Some, None, true, false, refl, sym, ap, ◌∙◌, subst, eq-eqb, inr}
-use Rattle.std.proofs.lemmas.List.Elements.{filter-append}
+use Rattle.std.proofs.Common.{◌≡◌, ℕ, ◌+◌, List, [], ◌∷◌, ◌++◌, length, Some, None, true, false, refl, sym, ap, ◌∙◌, subst, inr}
 use Rattle.turn_lock.specs.declared.known.Known.{Known}
 use Rattle.turn_lock.specs.Turns.{drawing, seeing, giving}
 use Rattle.lx_types.specs.declared.parts.Parts.{Parts}
@@ -8,11 +7,11 @@ use Rattle.load_model.specs.declared.commands.Command.{Command}
 use Rattle.load_model.specs.declared.deeds.Entry.{Entry}
 use Rattle.load_model.specs.Modules.{Library, fixed_bytes}
 use Rattle.load_model.specs.State.{Failing, Eager, pids, is_among}
-use Rattle.load_model.specs.Asks.{Ask, ask_in, may_ask, deed_of}
-use Rattle.load_model.specs.Histories.{state_after, Legal}
+use Rattle.load_model.specs.Asks.{Ask, may_ask}
+use Rattle.load_model.specs.Histories.{state_after}
 use Rattle.load_model.specs.Step.{FitsPlace}
 use Rattle.load_model.specs.Laws.{OneMoreIsLegal}
-use Rattle.load_model.specs.Accepted.{AcceptedMayAsk, TouchedIsApart, retouched}
+use Rattle.load_model.specs.Accepted.{AcceptedMayAsk, TouchedIsApart}
 use Rattle.load_model.specs.Refusals.{refusal_of}
 use Rattle.load_model.specs.declared.commands.Command.TheVariants as commands
 use Rattle.load_model.specs.Standing.{Holding, mapped_pages, state_for}
@@ -27,7 +26,7 @@ use Rattle.process_view.specs.ProcessViews.{ProcessView, StandsAt, at_front, wit
 use Rattle.process_view.specs.Deeds.{Did, IsIdle}
 use Rattle.proc_core.specs.declared.kept.About.{About}
 use Rattle.proc_core.specs.Procs.{Standing, Holds, front_of, failing_in}
-use Rattle.proc_core.specs.Calls.{Made, Waited, AreOthers, call_refusal}
+use Rattle.proc_core.specs.Calls.{Made, Waited, call_refusal}
 use Rattle.proc_core.specs.Turns.{HasCome}
 use Rattle.proc_core.proofs.Others.{own_entries, own_one}
 use Rattle.proc_core.proofs.Asked.{Entered, asks_for, entered_by}

@@ -1,23 +1,18 @@
 -- A touch goes on by one page.
-use Rattle.std.proofs.Common.{◌≡◌, ◌≢◌, ℕ, zero, suc, ◌+◌, ◌<◌, ◌≤◌, ◌⊎◌, ◌==◌, ◌&&◌, inl, inr, not, Bool, true, false, List, [], ◌∷◌, ◌++◌, take, length, get_or, filter, count_by, sum_by, map, cond, Option, Some, None, refl, sym, ap, ◌∙◌, subst, arith, append_assoc, append-nil, eq-eqb, ne_eqb, if◌then◌else◌}
-use Rattle.std.specs.List.{AllByRecursion, list_any, list_all, range_with_len}
-use Rattle.std.proofs.lemmas.List.Elements.{filter-append}
+use Rattle.std.proofs.Common.{◌≡◌, ℕ, ◌+◌, ◌<◌, ◌≤◌, ◌==◌, inl, inr, Bool, true, false, List, [], ◌∷◌, ◌++◌, take, length, count_by, map, None, refl, sym, ap, ◌∙◌, subst, arith, append_assoc, append-nil, if◌then◌else◌}
+use Rattle.std.specs.List.{AllByRecursion, range_with_len}
 use Rattle.std.proofs.lemmas.List.Sums.{sum_by-append}
-use mathlib.Core.Logic.{dite}
-use native.Mathlib.Decide.{ℕ_discrete}
 use Rattle.turn_lock.specs.declared.known.Known.{Known}
 use Rattle.load_model.specs.declared.commands.Place.{Place}
 use Rattle.load_model.specs.declared.deeds.Entry.{Entry}
-use Rattle.load_model.specs.declared.deeds.Deed.TheVariants as deeds
 use Rattle.load_model.specs.Modules.{Library}
 use Rattle.load_model.specs.State.{PageOf, is_among}
-use Rattle.load_model.specs.Memory.{pages_over, is_page, page}
+use Rattle.load_model.specs.Memory.{pages_over, page}
 use Rattle.load_model.specs.Step.{meant}
 use Rattle.load_model.specs.Touched.{has_page}
 use Rattle.load_model.specs.Standing.{Holding, mapped_pages}
 use Rattle.load_model.specs.TouchSteps.{touch_steps, entry_steps, mapped_steps}
-use Rattle.merge_laws.specs.ViewAccounts.{serial_seen, has_pages}
-use Rattle.merge_laws.specs.OwnStates.{pages_at}
+use Rattle.merge_laws.specs.ViewAccounts.{serial_seen}
 use Rattle.process_view.specs.ProcessViews.{ProcessView}
 use Rattle.proc_core.specs.declared.kept.About.{About}
 use Rattle.proc_core.specs.Procs.{Standing}
@@ -46,7 +41,7 @@ pass_on p q r a b = record {
 
 -- ---- entries
 
-all_join : {A : Type 0} (P : A → Type 0) (xs ys : List A) → AllByRecursion P xs → AllByRecursion P ys → AllByRecursion P (xs ++ ys)
+pub all_join : {A : Type 0} (P : A → Type 0) (xs ys : List A) → AllByRecursion P xs → AllByRecursion P ys → AllByRecursion P (xs ++ ys)
 all_join P [] ys a b = b
 all_join P (x ∷ xs) ys a b = (a.0, all_join P xs ys a.1 b)
 
@@ -73,11 +68,11 @@ seen_in v w at t m x is pid same (inr own) =
 
 -- ---- one more page
 
-pub touched_more : (p q r : Standing) (at : Place) (n a b c : ℕ) (t : PageOf) (m : ℕ) (news : List PageOf) → IsTouched p q at n a b → IsPage q r t m news b c → IsPlaces p.view at t m →
-    newly_mapped p.view at (n + 1) ≡ newly_mapped p.view at n ++ news →
+pub touched_more : (p q r : Standing) (at : Place) (n k a b c : ℕ) (t : PageOf) (m : ℕ) (news : List PageOf) → IsTouched p q at n a b → IsPage q r t m news b c → IsPlaces p.view at t m →
+    newly_mapped p.view at k ≡ newly_mapped p.view at n ++ news →
     (has_page (mapped_pages q.view.holding) t.serial t.page ≡ false → has_page (mapped_pages p.view.holding) t.serial t.page ≡ false) →
-    r.known.drawn ≤ p.known.drawn + count_by (needs_fault p.view.library m) (newly_mapped p.view at (length (touched_pages p.view at))) → IsTouched p r at (n + 1) a c
-touched_more p q r at n a b c t m news before step is pages same drawn =
+    r.known.drawn ≤ p.known.drawn + count_by (needs_fault p.view.library m) (newly_mapped p.view at (length (touched_pages p.view at))) → IsTouched p r at k a c
+touched_more p q r at n k a b c t m news before step is pages same drawn =
     let pid : q.view.holding.pid ≡ p.view.holding.pid = ap (λ (h : Holding). h.pid) before.holding in
     let known : q.known.pid ≡ p.known.pid = ap (λ (k : Known Entry About). k.pid) before.pass.known in
     let lib : q.view.library ≡ p.view.library = before.library in
@@ -126,7 +121,7 @@ touched_none p at a accepted front = record {
 abbrev pub AreFrom : Place → ℕ → ℕ → Type 0
 AreFrom at first l = pages_over at.offset at.len ≡ range_with_len first l
 
-newly_from : (v : ProcessView) (at : Place) (first l n : ℕ) → AreFrom at first l → n ≤ l →
+pub newly_from : (v : ProcessView) (at : Place) (first l n : ℕ) → AreFrom at first l → n ≤ l →
     newly_mapped v at n ≡ not_among (mapped_pages v.holding) (pages_from (serial_seen v.library v.holding at) at.object first n)
 newly_from v at first l n from fits =
     let serial : ℕ = serial_seen v.library v.holding at in
@@ -136,7 +131,7 @@ newly_from v at first l n from fits =
 if_same : (b c : Bool) (t : PageOf) → b ≡ c → (if b then [] else t ∷ []) ≡ (if c then [] else t ∷ [])
 if_same b c t e = ap (λ (x : Bool). if x then [] else t ∷ []) e
 
-mapped_alike : (p q : Standing) (at : Place) (first l n a b : ℕ) → AreFrom at first l → n ≤ l → IsTouched p q at n a b → (serial : ℕ) → serial ≡ serial_seen p.view.library p.view.holding at →
+pub mapped_alike : (p q : Standing) (at : Place) (first l n a b : ℕ) → AreFrom at first l → n ≤ l → IsTouched p q at n a b → (serial : ℕ) → serial ≡ serial_seen p.view.library p.view.holding at →
     has_page (mapped_pages q.view.holding) serial (page at.object (first + n)) ≡ has_page (mapped_pages p.view.holding) serial (page at.object (first + n))
 mapped_alike p q at first l n a b from fits before serial is =
     let own : ℕ = serial_seen p.view.library p.view.holding at in
@@ -146,17 +141,22 @@ mapped_alike p q at first l n a b from fits before serial is =
     ap (λ xs. has_page xs own (page at.object (first + n))) mapped ∙ same_page (mapped_pages p.view.holding) own at.object first n in
     subst (λ (k : ℕ). has_page (mapped_pages q.view.holding) k (page at.object (first + n)) ≡ has_page (mapped_pages p.view.holding) k (page at.object (first + n))) (sym is) at_own
 
-newly_next : (p q : Standing) (at : Place) (first l n a b : ℕ) → AreFrom at first l → n < l → IsTouched p q at n a b →
+newly_step : (v : ProcessView) (at : Place) (first l n : ℕ) → AreFrom at first l → n < l →
+    newly_mapped v at (n + 1) ≡ newly_mapped v at n ++ news_of v (page_at (serial_seen v.library v.holding at) at.object (first + n))
+newly_step v at first l n from inside =
+    let own : ℕ = serial_seen v.library v.holding at in
+    let t : PageOf = page_at own at.object (first + n) in
+    newly_from v at first l (n + 1) from (omega arith)
+    ∙ (ap (not_among (mapped_pages v.holding)) (one_more own at.object first n)
+    ∙ (not_among_more (mapped_pages v.holding) (pages_from own at.object first n) t
+    ∙ ap (λ xs. xs ++ (if has_page (mapped_pages v.holding) own (page at.object (first + n)) then [] else t ∷ [])) (sym (newly_from v at first l n from (omega arith)))))
+
+pub newly_next : (p q : Standing) (at : Place) (first l n a b : ℕ) → AreFrom at first l → n < l → IsTouched p q at n a b →
     newly_mapped p.view at (n + 1) ≡ newly_mapped p.view at n ++ news_of q.view (page_at (serial_seen p.view.library p.view.holding at) at.object (first + n))
 newly_next p q at first l n a b from inside before =
     let own : ℕ = serial_seen p.view.library p.view.holding at in
     let t : PageOf = page_at own at.object (first + n) in
-    let same = mapped_alike p q at first l n a b from (omega arith) before own refl in
-    newly_from p.view at first l (n + 1) from (omega arith)
-    ∙ (ap (not_among (mapped_pages p.view.holding)) (one_more own at.object first n)
-    ∙ (not_among_more (mapped_pages p.view.holding) (pages_from own at.object first n) t
-    ∙ (ap (λ xs. xs ++ (if has_page (mapped_pages p.view.holding) own (page at.object (first + n)) then [] else t ∷ [])) (sym (newly_from p.view at first l n from (omega arith)))
-    ∙ ap (λ xs. newly_mapped p.view at n ++ xs) (if_same _ _ t (sym same)))))
+    newly_step p.view at first l n from inside ∙ ap (λ xs. newly_mapped p.view at n ++ xs) (if_same _ _ t (sym (mapped_alike p q at first l n a b from (omega arith) before own refl)))
 
 pub touched_next : (p q r : Standing) (at : Place) (first l n a b c m : ℕ) → AreFrom at first l → n < l → IsTouched p q at n a b →
     IsPage q r (page_at (serial_seen p.view.library p.view.holding at) at.object (first + n)) m (news_of q.view (page_at (serial_seen p.view.library p.view.holding at) at.object (first + n))) b c →
@@ -165,5 +165,15 @@ pub touched_next : (p q r : Standing) (at : Place) (first l n a b c m : ℕ) →
 touched_next p q r at first l n a b c m from inside before step is among drawn =
     let own : ℕ = serial_seen p.view.library p.view.holding at in
     let t : PageOf = page_at own at.object (first + n) in
-    touched_more p q r at n a b c t m (news_of q.view t) before step (record { serial = refl; «module» = is; object = refl; among = among }) (newly_next p q at first l n a b from inside before)
+    touched_more p q r at n (n + 1) a b c t m (news_of q.view t) before step (record { serial = refl; «module» = is; object = refl; among = among }) (newly_next p q at first l n a b from inside before)
+    (λ none. sym (mapped_alike p q at first l n a b from (omega arith) before own refl) ∙ none) drawn
+
+-- where there is no memory for the next page, none more is mapped
+pub touched_stop : (p q r : Standing) (at : Place) (first l n a b c m : ℕ) → AreFrom at first l → n < l → IsTouched p q at n a b →
+    IsPage q r (page_at (serial_seen p.view.library p.view.holding at) at.object (first + n)) m [] b c → m ≡ meant p.view.library at.«module» → is_among (pages_over at.offset at.len) (first + n) ≡ true →
+    r.known.drawn ≤ p.known.drawn + count_by (needs_fault p.view.library m) (newly_mapped p.view at (length (touched_pages p.view at))) → IsTouched p r at n a c
+touched_stop p q r at first l n a b c m from inside before step is among drawn =
+    let own : ℕ = serial_seen p.view.library p.view.holding at in
+    let t : PageOf = page_at own at.object (first + n) in
+    touched_more p q r at n n a b c t m [] before step (record { serial = refl; «module» = is; object = refl; among = among }) (sym (append-nil (newly_mapped p.view at n)))
     (λ none. sym (mapped_alike p q at first l n a b from (omega arith) before own refl) ∙ none) drawn

@@ -1,15 +1,14 @@
 -- The bytes that a shared read gives are those of the process's last entry.
-use Rattle.std.proofs.Common.{◌≡◌, ℕ, List, [], ◌∷◌, ◌++◌, length, Option, Result, Ok, Err, IfOk, refl, sym, ap, ◌∙◌, subst}
+use Rattle.std.proofs.Common.{◌≡◌, ℕ, List, [], ◌∷◌, ◌++◌, Option, Result, Ok, Err, IfOk, sym, ap, ◌∙◌}
 use Rattle.lx_types.specs.declared.fail.Fail.{Fail}
 use Rattle.atomic_table.specs.declared.shared.Seat.{Seat}
 use Rattle.turn_lock.specs.declared.known.Known.{Known}
-use Rattle.turn_lock.specs.Turns.{giving}
 use Rattle.load_model.specs.declared.commands.Command.{Command}
 use Rattle.load_model.specs.declared.commands.Refusal.{Refusal}
 use Rattle.load_model.specs.declared.deeds.Entry.{Entry}
 use Rattle.load_core.specs.Ledger.{Ledger, entry_of}
 use Rattle.process_view.specs.ProcessViews.{ProcessView}
-use Rattle.process_view.specs.Deeds.{Did, bytes_read}
+use Rattle.process_view.specs.Deeds.{bytes_read}
 use Rattle.proc_core.specs.declared.answers.Done.{Done}
 use Rattle.proc_core.specs.declared.kept.About.{About}
 use Rattle.proc_core.specs.declared.kept.Kept.{Kept}

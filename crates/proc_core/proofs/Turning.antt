@@ -1,5 +1,5 @@
 -- What a call in a turn is answered.
-use Rattle.std.proofs.Common.{◌≡◌, ℕ, ◌<◌, nat_le, arith, Bool, true, false, List, [], ◌∷◌, ◌++◌, length, Option, Some, None, Result, Ok, Err, MatchResult, refl, sym, ap, ◌∙◌, subst, inl, inr, ◌⊎◌}
+use Rattle.std.proofs.Common.{◌≡◌, ℕ, ◌<◌, nat_le, arith, Bool, true, false, List, [], length, Option, Some, None, Result, Ok, Err, MatchResult, refl, sym, ap, ◌∙◌, subst, inl, inr}
 use Rattle.std.proofs.lemmas.Bool.Decides.{nat_tests}
 use Rattle.std.specs.Result.{result_err}
 use Rattle.lx_types.specs.declared.fail.Fail.{Fail}
@@ -23,7 +23,7 @@ use Rattle.load_model.specs.Outcomes.{done, told}
 use Rattle.load_core.specs.Ledger.{Ledger, entry_of}
 use Rattle.process_view.specs.ProcessViews.{ProcessView}
 use Rattle.process_view.specs.Answering.{enter_command}
-use Rattle.process_view.specs.Deeds.{Did, IsDone}
+use Rattle.process_view.specs.Deeds.{IsDone}
 use Rattle.proc_core.specs.declared.answers.Done.{Done}
 use Rattle.proc_core.specs.declared.kept.About.{About}
 use Rattle.proc_core.specs.declared.kept.Kept.{Kept}

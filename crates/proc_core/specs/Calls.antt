@@ -8,8 +8,6 @@ use Rattle.load_model.specs.declared.commands.Refusal.{Refusal}
 use Rattle.load_model.specs.declared.commands.Refusal.TheVariants.{Ended, Worn}
 use Rattle.load_model.specs.declared.commands.Reply.{Reply}
 use Rattle.load_model.specs.declared.commands.Reply.TheVariants.{Refused}
-use Rattle.load_model.specs.declared.deeds.Deed.{Deed}
-use Rattle.load_model.specs.declared.deeds.Deed.TheVariants as deeds
 use Rattle.load_model.specs.declared.deeds.Entry.{Entry}
 use Rattle.load_model.specs.Modules.{fixed_bytes}
 use Rattle.load_model.specs.Refusals.{when, ◌orelse◌}

@@ -4,3 +4,4 @@ pub mod Touches
 pub mod Closing
 pub mod Joining
 pub mod Turns
+pub mod Claiming

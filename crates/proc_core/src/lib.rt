@@ -10,6 +10,7 @@ mod loader;
 mod proc;
 mod reading;
 mod sharing;
+mod touching;
 mod turns;
 
 pub use answers::{Closed, Done};

@@ -22,4 +22,5 @@ mod writing;
 
 pub use laws::pages_stand;
 pub use purposes::Purpose;
+pub use spans::{Span, span_of};
 pub use view::View;

@@ -1,4 +1,4 @@
-use Rattle.std.proofs.Common.{◌≡◌, ◌-◌, ◌<◌, ◌≤◌, rules, ℕ, ◌+◌, length, get_or, refl, ap, sym, ◌∙◌, subst, arith, get_or-take, length-take-le}
+use Rattle.std.proofs.Common.{◌≡◌, ◌<◌, rules, ℕ, ◌+◌, length, get_or, refl, ap, sym, ◌∙◌, subst, arith}
 use Rattle.std.proofs.lemmas.Grind.{common_steps}
 use mathlib.Core.List.{IsPrefix}
 use Rattle.turn_lock.specs.declared.known.Known.{Known}
@@ -6,7 +6,7 @@ use Rattle.turn_lock.specs.Turns.{joining}
 use Rattle.load_model.specs.declared.deeds.Entry.{Entry}
 use Rattle.proc_core.specs.declared.kept.About.{About}
 use Rattle.proc_core.specs.Joining.{Joined}
-use Rattle.proc_core.specs.Procs.{Standing, Holds, standing}
+use Rattle.proc_core.specs.Procs.{Standing, Holds}
 use Rattle.proc_core.proofs.Endings.{joined_start, joined_more}
 use Rattle.proc_core.proofs.loader.Loader.gather.Goals as goal
 

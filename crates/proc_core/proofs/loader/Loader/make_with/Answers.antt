@@ -1,4 +1,4 @@
-use Rattle.std.proofs.Common.{rules, ◌≡◌, [], ℕ, List, refl, sym, ap, ◌∙◌, subst, arith, length, Some}
+use Rattle.std.proofs.Common.{rules, ◌≡◌, [], ℕ, List, refl, sym, ap, ◌∙◌, subst, Some}
 use Rattle.std.specs.Arc.{arc_value}
 use Rattle.lx_types.specs.declared.parts.Parts.{Parts}
 use Rattle.load_core.specs.Ledger.{Ledger}

@@ -1,4 +1,4 @@
-use Rattle.std.proofs.Common.{rules, ◌≡◌, false, refl, sym, ap, ◌∙◌, subst, arith, None}
+use Rattle.std.proofs.Common.{rules, ◌≡◌, false, sym, ap, ◌∙◌, subst, arith, None}
 use Rattle.load_model.specs.declared.commands.Command.{Command}
 use Rattle.load_model.specs.declared.commands.Command.TheVariants as commands
 use Rattle.load_model.specs.ViewAnswers.{view_refusal}
@@ -7,9 +7,9 @@ use Rattle.turn_lock.specs.Turns.{Adds}
 use Rattle.load_model.specs.declared.deeds.Entry.{Entry}
 use Rattle.proc_core.specs.declared.kept.About.{About}
 use Rattle.proc_core.specs.Procs.{Standing, standing}
-use Rattle.proc_core.specs.Calls.{IsAnswered, IsRefused, call_refusal}
+use Rattle.proc_core.specs.Calls.{call_refusal}
 use Rattle.proc_core.proofs.Made.{Laws}
-use Rattle.proc_core.proofs.Turning.{seen_refusal, exit_seen, refused_call, none_at, fine_few, fine_here, Taken, taken, taken_idle, done_about, done_adds}
+use Rattle.proc_core.proofs.Turning.{seen_refusal, refused_call, none_at, fine_few, fine_here, Taken, taken, taken_idle, done_about, done_adds}
 use Rattle.proc_core.proofs.proc.Proc.write.Goals as goal
 
 pub returns-in-Some-clause-answer : goal.returns-in-Some-clause-answer

@@ -1,0 +1,106 @@
+-- A page that is mapped behind its claim.
+use Rattle.std.proofs.Common.{◌≡◌, ℕ, ◌+◌, ◌<◌, ◌≤◌, ◌⊎◌, true, false, List, [], ◌∷◌, ◌++◌, length, count_by, get_or, refl, sym, ap, ◌∙◌, inl, inr, arith, append-nil}
+use Rattle.std.specs.List.{AllByRecursion}
+use Rattle.lx_types.specs.Object.{class_of}
+use Rattle.lx_types.specs.declared.object.PageId.{PageId}
+use Rattle.lx_model.specs.ModuleBytes.{fixed_page}
+use Rattle.page_frames.specs.Residences.{ResidenceFor}
+use Rattle.load_model.specs.declared.deeds.Entry.{Entry}
+use Rattle.load_model.specs.Modules.{object_at, source_count}
+use Rattle.load_model.specs.Asks.{is_own}
+use Rattle.load_model.specs.Histories.{has_fault}
+use Rattle.load_model.specs.Standing.{Holding, mapped_pages}
+use Rattle.load_model.specs.TouchSteps.{touch_steps}
+use Rattle.process_view.specs.ProcessViews.{ProcessView, at_front, without_room}
+use Rattle.process_view.specs.Deeds.{CanMap, with_page, page_with, fault_of}
+use Rattle.process_view.specs.PageLaws.{PagesStand}
+use Rattle.proc_core.specs.Procs.{Standing, Holds, front_of}
+use Rattle.proc_core.specs.Calls.{AreOthers, Waited}
+use Rattle.proc_core.specs.Touches.{page_in, needs_fault, IsSeenForPage, IsPage}
+use Rattle.proc_core.specs.Claiming.{is_there, IsTurn}
+use Rattle.proc_core.proofs.Made.{roomless}
+use Rattle.proc_core.proofs.Onward.{all_join}
+use Rattle.proc_core.proofs.Claims.{Laws, with_view, view_holds, others_steps, taken_steps, given_steps, all_others, mapped_one, one_fault}
+
+-- ---- what holds of the process
+
+pub roomy_holds : (p : Standing) (w : ProcessView) → Holds p → without_room w ≡ without_room p.view → Holds (with_view p w)
+roomy_holds p w holds bare = view_holds p w holds (ap (λ (u : ProcessView). u.library) bare) (ap (λ (u : ProcessView). u.holding.pid) bare) (roomless (front_of p) p.view w bare holds.stands)
+
+pub mapped_holds : PagesStand → (q : Standing) (k : ℕ) (r : ResidenceFor) (t : PageId) → Holds q → k < length q.view.residences → r ≡ get_or q.view.residences k r → CanMap q.view r t →
+    (is_own (class_of (object_at q.view.library r.«module» t.object)) ≡ false → has_fault q.known.seen r.serial t ≡ true) → Holds (with_view q (with_page r t (fixed_page q.view.library r.«module» r.bases t) q.view))
+mapped_holds stand q k r t holds within is can fault =
+    view_holds q (with_page r t (fixed_page q.view.library r.«module» r.bases t) q.view) holds refl refl (stand (front_of q) q.view k r t holds.legal holds.stands within is can fault)
+
+-- ---- what was mapped, of a process that found room first
+
+module _ (laws : Laws) (p q : Standing) (w : ProcessView) (r : ResidenceFor) (t : PageId) (before : ℕ) (holds : Holds p) (bare : without_room w ≡ without_room p.view) (common : is_own (class_of (object_at p.view.library r.«module» t.object)) ≡ false) where
+  shown_holding : (u : ProcessView) (n : ℕ) → without_room u ≡ without_room (at_front n w) → u.holding ≡ record p.view.holding { front = n }
+  shown_holding u n is = ap (λ (x : ProcessView). x.holding) is ∙ ap (λ (x : ProcessView). record x.holding { front = n }) bare
+
+  own_one : count_by (needs_fault p.view.library r.«module») (page_in r t ∷ []) ≡ 1
+  own_one = one_fault p.view.library r.«module» (page_in r t) common
+
+  others_seen : (more : List Entry) → AreOthers p.known.pid more → AllByRecursion (IsSeenForPage p.view r.«module» (page_in r t)) more
+  others_seen more others = all_others p.view r.«module» (page_in r t) p.known.pid more (sym holds.number) others
+
+  behind : (bytes : List ℕ) (own : List Entry) (after : ℕ) → (turn : IsTurn (with_view p w) q own) → AllByRecursion (IsSeenForPage p.view r.«module» (page_in r t)) own →
+      after ≡ before + touch_steps p.view.library p.known.pid r.«module» (turn.more ++ own) (page_in r t ∷ []) → IsPage p (with_view q (with_page r t bytes q.view)) (page_in r t) r.«module» (page_in r t ∷ []) before after
+  behind bytes own after turn entries steps =
+      let one = own_one in
+      let drawn : q.known.drawn ≡ p.known.drawn + 1 = turn.drawn in
+      let holding : q.view.holding ≡ record p.view.holding { front = length q.known.seen } = shown_holding q.view (length q.known.seen) (ap without_room turn.view) in
+      record {
+        pass = record { lock = turn.pass.lock; known = turn.pass.known };
+        shown = turn.more ++ own;
+        seen = turn.seen;
+        entries = all_join (IsSeenForPage p.view r.«module» (page_in r t)) turn.more own (others_seen turn.more turn.others) entries;
+        library = ap (λ (u : ProcessView). u.library) turn.view ∙ ap (λ (u : ProcessView). u.library) bare;
+        residences = ap (λ (u : ProcessView). u.residences) turn.view ∙ ap (λ (u : ProcessView). u.residences) bare;
+        holding = ap (λ (k : Holding). record k { mapped = q.view.holding.mapped ++ page_with r t bytes ∷ [] }) holding;
+        mapped = mapped_one r t bytes q.view ∙ ap (λ (k : Holding). mapped_pages k ++ page_in r t ∷ []) holding;
+        drawn = (omega arith, omega arith);
+        steps = steps;
+      }
+
+  pub taken_mapped : (bytes : List ℕ) → IsTurn (with_view p w) q [] → IsPage p (with_view q (with_page r t bytes q.view)) (page_in r t) r.«module» (page_in r t ∷ []) before before
+  taken_mapped bytes turn =
+      let none : touch_steps p.view.library p.known.pid r.«module» turn.more (page_in r t ∷ []) ≡ 0 = taken_steps laws p.view.library p.known.pid r.«module» turn.more (page_in r t) turn.others common in
+      let all : touch_steps p.view.library p.known.pid r.«module» (turn.more ++ []) (page_in r t ∷ []) ≡ 0 =
+      ap (λ (h : List Entry). touch_steps p.view.library p.known.pid r.«module» h (page_in r t ∷ [])) (append-nil turn.more) ∙ none in
+      behind bytes [] before turn tt (omega arith)
+
+  pub given_mapped : (bytes : List ℕ) (after : ℕ) → is_there p.view r t ≡ false → IsTurn (with_view p w) q (fault_of w r t ∷ []) → after ≡ before + source_count p.view.library r.«module» t →
+      IsPage p (with_view q (with_page r t bytes q.view)) (page_in r t) r.«module» (page_in r t ∷ []) before after
+  given_mapped bytes after apart turn steps =
+      let pid : w.holding.pid ≡ p.view.holding.pid = ap (λ (u : ProcessView). u.holding.pid) bare in
+      let entry : fault_of w r t ≡ fault_of p.view r t = ap (λ (n : ℕ). record (fault_of w r t) { pid = n }) pid in
+      let own : fault_of w r t ≡ record (fault_of w r t) { pid = p.known.pid } = ap (λ (n : ℕ). record (fault_of w r t) { pid = n }) (pid ∙ holds.number) in
+      let counts : touch_steps p.view.library p.known.pid r.«module» (turn.more ++ fault_of w r t ∷ []) (page_in r t ∷ []) ≡ source_count p.view.library r.«module» t =
+      ap (λ (x : Entry). touch_steps p.view.library p.known.pid r.«module» (turn.more ++ x ∷ []) (page_in r t ∷ [])) own
+      ∙ given_steps laws p.view.library p.known.pid r.«module» turn.more (page_in r t) turn.others common in
+      behind bytes (fault_of w r t ∷ []) after turn (inr (pid, refl, apart), tt) (steps ∙ ap (λ (n : ℕ). before + n) (sym counts))
+
+  -- without memory for the claim nothing is mapped
+  pub waited_none : Waited (with_view p w) q → IsPage p q (page_in r t) r.«module» [] before before
+  waited_none waited =
+      let one = own_one in
+      let none : touch_steps p.view.library p.known.pid r.«module» waited.more [] ≡ 0 = others_steps laws p.view.library p.known.pid r.«module» waited.more waited.others in
+      let holding : q.view.holding ≡ record p.view.holding { front = length q.known.seen } = shown_holding q.view (length q.known.seen) waited.view in
+      record {
+        pass = record { lock = waited.pass.lock; known = waited.pass.known };
+        shown = waited.more;
+        seen = waited.seen;
+        entries = others_seen waited.more waited.others;
+        library = ap (λ (u : ProcessView). u.library) waited.view ∙ ap (λ (u : ProcessView). u.library) bare;
+        residences = ap (λ (u : ProcessView). u.residences) waited.view ∙ ap (λ (u : ProcessView). u.residences) bare;
+        holding = ap (λ (k : Holding). record k { mapped = q.view.holding.mapped }) holding;
+        mapped = ap mapped_pages holding ∙ sym (append-nil (mapped_pages p.view.holding));
+        drawn = turns (q.known.drawn) waited.drawn one;
+        steps = omega arith;
+      }
+    where
+      turns : (n : ℕ) → (n ≡ p.known.drawn) ⊎ (n ≡ p.known.drawn + 1) → count_by (needs_fault p.view.library r.«module») (page_in r t ∷ []) ≡ 1 →
+          (p.known.drawn ≤ n) × (n ≤ p.known.drawn + count_by (needs_fault p.view.library r.«module») (page_in r t ∷ []))
+      turns n (inl same) one = (omega arith, omega arith)
+      turns n (inr more) one = (omega arith, omega arith)
