@@ -8,11 +8,10 @@ use Rattle.obj_types.specs.declared.definition.DefFile.{DefFile}
 use Rattle.obj_types.specs.declared.definition.ModKind.TheVariants.{Program}
 use Rattle.obj_types.specs.declared.input.LinkInput.{LinkInput}
 use Rattle.lx_ports.specs.Calls.{Call, load, save}
-use Rattle.lx_answer.specs.LinkAnswer.{definition_in, input_of, libraries_in, objects_in}
+use Rattle.lx_answer.specs.LinkAnswer.{definition_in, input_with, libraries_in, objects_in}
 use Rattle.lx_answer.specs.Loading.{AreRead, IsRead}
 use Rattle.lx_answer.specs.Reading.{IsItem, Item, definition, is_library, library, library_form, linked, object, object_form, object_or_library, session}
 use Rattle.lx_answer.specs.Says.{asked_inputs}
-use Rattle.lx_answer.specs.Stem.{stem_of}
 use Rattle.tool_read.specs.declared.modules.Modules.{Modules}
 use Rattle.tool_read.specs.Readings.{asked}
 use Rattle.tool_read.specs.Steps.{AreModulesOf, Gains, GivesDefinition, IsInputWith}
@@ -39,18 +38,18 @@ none_defines (n ∷ names) (c ∷ calls) (definition d ∷ items) are = absurd (
 none_defines (n ∷ names) (c ∷ calls) (linked m ∷ items) are = none_defines names calls items are.1
 none_defines (n ∷ names) (c ∷ calls) (session s ∷ items) are = none_defines names calls items are.1
 
-same_input : (out : List ℕ) (items : List Item) (input : LinkInput) → input.objects ≡ flat_map objects_in items → input.libs ≡ flat_map libraries_in items → input.def ≡ definition_in items → input.stem ≡ stem_of out
-    → input ≡ input_of out items
-same_input out items input objects libs def stem = λ k. record { objects = objects k; libs = libs k; def = def k; stem = stem k }
+same_input : (own : List ℕ) (items : List Item) (input : LinkInput) → input.objects ≡ flat_map objects_in items → input.libs ≡ flat_map libraries_in items → input.def ≡ definition_in items → input.stem ≡ own
+    → input ≡ input_with own items
+same_input own items input objects libs def stem = λ k. record { objects = objects k; libs = libs k; def = def k; stem = stem k }
 
-pub input_is : (out : List ℕ) (def : DefFile) (modules : Modules) (input : LinkInput) (names : List (List ℕ)) (calls : List Call) (first items : List Item) → GivesDefinition def first → AreRead (asked_inputs names) calls items
-    → AreModulesOf modules items → IsInputWith out def modules input → input ≡ input_of out (first ++ items)
-input_is out def modules input names calls [] items given read are is =
-    same_input out items input (is.objects ∙ are.objects) (is.libs ∙ are.libs) (is.def_is ∙ given ∙ sym (none_defines names calls items read)) is.stem
-input_is out def modules input names calls (i ∷ []) items given read are is =
-    let P : Item → Type 0 = λ j. input ≡ input_of out (j ∷ items) in
-    subst P (sym given) (same_input out (definition def ∷ items) input (is.objects ∙ are.objects) (is.libs ∙ are.libs) is.def_is is.stem)
-input_is out def modules input names calls (i ∷ j ∷ first) items given read are is = absurd given
+pub input_is : (own : List ℕ) (def : DefFile) (modules : Modules) (input : LinkInput) (names : List (List ℕ)) (calls : List Call) (first items : List Item) → GivesDefinition def first → AreRead (asked_inputs names) calls items
+    → AreModulesOf modules items → IsInputWith own def modules input → input ≡ input_with own (first ++ items)
+input_is own def modules input names calls [] items given read are is =
+    same_input own items input (is.objects ∙ are.objects) (is.libs ∙ are.libs) (is.def_is ∙ given ∙ sym (none_defines names calls items read)) is.stem_is
+input_is own def modules input names calls (i ∷ []) items given read are is =
+    let P : Item → Type 0 = λ j. input ≡ input_with own (j ∷ items) in
+    subst P (sym given) (same_input own (definition def ∷ items) input (is.objects ∙ are.objects) (is.libs ∙ are.libs) is.def_is is.stem_is)
+input_is own def modules input names calls (i ∷ j ∷ first) items given read are is = absurd given
 
 -- The modules of one file more are those of one item more.
 pub gains_more : (old new : Modules) (item : Item) (items : List Item) → Gains old item new → AreModulesOf old items → AreModulesOf new (items ++ item ∷ [])

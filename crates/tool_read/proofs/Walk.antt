@@ -200,7 +200,7 @@ err_is (Err own) is = ap (λ x. Err x) is
 
 -- ---- two walks, one after the other
 
-begun_wider : (f g : List Asked) (calls : List Call) → AreBegun f calls → AreBegun (f ++ g) calls
+pub begun_wider : (f g : List Asked) (calls : List Call) → AreBegun f calls → AreBegun (f ++ g) calls
 begun_wider f g [] begun = tt
 begun_wider [] g (x ∷ xs) begun = absurd begun
 begun_wider (a ∷ f) g (x ∷ []) begun = begun
@@ -240,7 +240,7 @@ stopped_second O P Q f g before between now first fail.NoMemory one two = record
   reads = begun_joined f g one.calls two.calls one.reads.items one.reads.read two.reads;
 }
 
-read_begun : (f : List Asked) (xs : List Call) (is : List Item) → AreRead f xs is → AreBegun f xs
+pub read_begun : (f : List Asked) (xs : List Call) (is : List Item) → AreRead f xs is → AreBegun f xs
 read_begun [] [] [] are = tt
 read_begun [] [] (i ∷ is) are = absurd are
 read_begun [] (x ∷ xs) is are = absurd are

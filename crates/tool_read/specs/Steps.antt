@@ -14,7 +14,6 @@ use Rattle.obj_types.specs.declared.input.LinkInput.{LinkInput}
 use Rattle.obj_types.specs.declared.definition.ModKind.TheVariants.{Program}
 use Rattle.obj_types.specs.Defaults.{default_def}
 use Rattle.lx_answer.specs.LinkAnswer.{objects_in, libraries_in}
-use Rattle.lx_answer.specs.Stem.{stem_of}
 use Rattle.lx_answer.specs.Loading.{Asked, AreBegun, AreRead, IsStopped, ReadsAnswer, RefusesAnswer, file_limit}
 use Rattle.lx_answer.specs.Reading.{Item, definition}
 use Rattle.tool_read.specs.Readings.{SaysOf}
@@ -77,8 +76,8 @@ GivesDefinition d [] = d ≡ default_def Program None
 GivesDefinition d (item ∷ []) = item ≡ definition d
 GivesDefinition d _ = ⊥
 
-pub record IsInputWith (out : List ℕ) (def : DefFile) (modules : Modules) (input : LinkInput) : Type 0 where
+pub record IsInputWith (stem : List ℕ) (def : DefFile) (modules : Modules) (input : LinkInput) : Type 0 where
   pub objects : input.objects ≡ modules.objects.items
   pub libs : input.libs ≡ modules.libs.items
   pub def_is : input.def ≡ def
-  pub stem : input.stem ≡ stem_of out
+  pub stem_is : input.stem ≡ stem

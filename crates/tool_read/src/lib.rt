@@ -1,5 +1,5 @@
-//! What the answer to a load of a file is read as: an object file, a library, a definition file or a module; or what is
-//! said of a file that was not loaded, or has a fault.
+//! What the answer to a load of a file is read as: an object file, a library, a definition file, a module or a session;
+//! or what is said of a file that was not loaded, or has a fault.
 #![tactic(auto)]
 
 mod counts;
@@ -11,9 +11,13 @@ mod lines;
 mod link_files;
 mod loads;
 mod modules;
+mod refusals;
+mod sessions;
 
 pub use export_files::read_exporters;
 pub use exporters::{Exporter, read_module_file};
 pub use inputs::Input;
 pub use lines::{file_line, said};
-pub use link_files::{read_link_input, read_object};
+pub use link_files::{read_input_with, read_link_input, read_object};
+pub use refusals::link_text;
+pub use sessions::{read_module, read_session};

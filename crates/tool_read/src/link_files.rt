@@ -1,10 +1,10 @@
 //! The files of a link, loaded and read in turn.
-ghost use Rattle.std.specs.Prelude.{◌≡◌, ◌∷◌, ◌++◌, [], ℕ, List, Result, IfOk, OnOk, map, option_map, string_bytes};
+ghost use Rattle.std.specs.Prelude.{◌≡◌, ◌≢◌, ◌∷◌, ◌++◌, [], ℕ, List, Result, IfOk, OnOk, map, option_map, string_bytes};
 ghost use Rattle.lx_ports.specs.declared.files.LoadFault.{LoadFault};
 ghost use Rattle.obj_types.specs.Definition.{WholeDef};
 ghost use Rattle.obj_types.specs.Input.{WholeInput};
 ghost use Rattle.obj_types.specs.Whole.{WholeModule};
-ghost use Rattle.lx_answer.specs.LinkAnswer.{input_of};
+ghost use Rattle.lx_answer.specs.LinkAnswer.{input_of, input_with};
 ghost use Rattle.lx_answer.specs.Reading.{object, object_file, object_or_library};
 ghost use Rattle.lx_answer.specs.Says.{asked_definition, asked_inputs};
 ghost use Rattle.tool_read.specs.Readings.{ReadsLoad, asked};
@@ -18,7 +18,7 @@ use crate::modules::Modules;
 use command_words::stem_of;
 use lx_answer::Said;
 use lx_ports::Files;
-use lx_types::{Fail, NoMemory, Seq};
+use lx_types::{Fail, Name, NoMemory, Seq};
 use obj_types::{DefFile, LinkInput, ModKind, ObjModule};
 use std::alloc::Global;
 
@@ -96,15 +96,11 @@ fn read_modules<F: Files>(
 }
 
 // The input, where its counts have 32 bits.
-fn input_with(
-    alloc: Global,
-    out: &str,
-    def: DefFile,
-    modules: Modules,
-) -> Result<LinkInput, NoMemory>
+fn counted_input(stem: Name, def: DefFile, modules: Modules) -> Result<LinkInput, NoMemory>
+    requires stem { stem ≢ [] }
     requires def { WholeDef def }
     requires modules { AreWhole modules }
-    ensures is { IfOk result (λ input. IsInputWith out.now def modules input) }
+    ensures is { IfOk result (λ input. IsInputWith stem def modules input) }
     ensures whole { IfOk result WholeInput }
 {
     let Modules { objects, libs } = modules;
@@ -112,7 +108,7 @@ fn input_with(
         objects: Seq::from_vec(objects),
         libs: Seq::from_vec(libs),
         def,
-        stem: stem_of(alloc, out)?,
+        stem,
     };
     match total(&input) {
         Some(_) => Ok(input),
@@ -120,8 +116,32 @@ fn input_with(
     }
 }
 
-/// The input of a link to `out`: the definition file, where there is one, and the object files and libraries are loaded
-/// and read in turn.
+/// The input of a link to a module that has this name where its definition file gives none: the definition file, where
+/// there is one, and the object files and libraries are loaded and read in turn.
+pub fn read_input_with<F: Files>(
+    alloc: Global,
+    files: &mut F,
+    stem: Name,
+    definition: Option<&str>,
+    inputs: &[String],
+) -> Result<LinkInput, Fail<Said>>
+    requires { stem ≢ [] }
+    ensures read { ReadsInTurn (λ input items. input ≡ input_with stem items)
+        (asked_definition (option_map (λ name. name.now) definition.entry) ++ asked_inputs (map string_bytes inputs.now))
+        (F.state files.old) (F.state files.new) result }
+    ensures whole { IfOk result WholeInput }
+{
+    match read_definition(alloc, files, definition) {
+        Ok(def) => match read_modules(alloc, files, inputs) {
+            Ok(modules) => Ok(counted_input(stem, def, modules)?),
+            Err(why) => Err(why),
+        },
+        Err(why) => Err(why),
+    }
+}
+
+/// The input of a link to `out`, whose file name gives the module's name where no definition file does: as
+/// `read_input_with`.
 pub fn read_link_input<F: Files>(
     alloc: Global,
     files: &mut F,
@@ -134,11 +154,6 @@ pub fn read_link_input<F: Files>(
         (F.state files.old) (F.state files.new) result }
     ensures whole { IfOk result WholeInput }
 {
-    match read_definition(alloc, files, definition) {
-        Ok(def) => match read_modules(alloc, files, inputs) {
-            Ok(modules) => Ok(input_with(alloc, out, def, modules)?),
-            Err(why) => Err(why),
-        },
-        Err(why) => Err(why),
-    }
+    let stem = stem_of(alloc, out)?;
+    read_input_with(alloc, files, stem, definition, inputs)
 }

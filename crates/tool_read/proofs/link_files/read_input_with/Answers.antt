@@ -4,21 +4,21 @@ use Rattle.std.proofs.Common.{◌≡◌, ◌++◌, map, sym, subst, Result}
 use Rattle.lx_types.specs.declared.fail.Fail.{Fail}
 use Rattle.obj_types.specs.declared.input.LinkInput.{LinkInput}
 use Rattle.lx_answer.specs.declared.said.Said.{Said}
-use Rattle.lx_answer.specs.LinkAnswer.{input_of}
+use Rattle.lx_answer.specs.LinkAnswer.{input_with}
 use Rattle.tool_read.specs.Steps.{AreModulesOf, GivesDefinition, ReadsInTurn}
 use Rattle.tool_read.proofs.LinkInput.{input_is}
 use Rattle.tool_read.proofs.Walk.{both_end, both_read, err_is, stopped_first, stopped_second}
-use Rattle.tool_read.proofs.link_files.read_link_input.Goals as goal
+use Rattle.tool_read.proofs.link_files.read_input_with.Goals as goal
 
-pub returns-in_err-input_with-in-Ok-read_modules-clause-read : goal.returns-in_err-input_with-in-Ok-read_modules-clause-read
-returns-in_err-input_with-in-Ok-read_modules-clause-read g c =
-    let P : Result LinkInput (Fail Said) → Type 0 = λ r. ReadsInTurn (λ input items. input ≡ input_of c.args.out.now items) (asked_definition (option_map (λ name. name.now) c.args.definition) ++ asked_inputs (map string_bytes c.args.inputs.now)) (g.F.Files.state c.args.files.now) (g.F.Files.state c.read_modules.new.files) r in
+pub returns-in_err-counted_input-in-Ok-read_modules-clause-read : goal.returns-in_err-counted_input-in-Ok-read_modules-clause-read
+returns-in_err-counted_input-in-Ok-read_modules-clause-read g c =
+    let P : Result LinkInput (Fail Said) → Type 0 = λ r. ReadsInTurn (λ input items. input ≡ input_with c.args.stem items) (asked_definition (option_map (λ name. name.now) c.args.definition) ++ asked_inputs (map string_bytes c.args.inputs.now)) (g.F.Files.state c.args.files.now) (g.F.Files.state c.read_modules.new.files) r in
     subst P (sym (err_is c.from_residual.result c.from_residual.ensures.1)) (both_end GivesDefinition AreModulesOf _ _ _ _ _ _ c.in-Ok.def c.in-Ok-read_modules.modules c.in-Ok.ensures.read c.in-Ok-read_modules.ensures.read)
 
-pub returns-in_ok-input_with-in-Ok-read_modules-clause-read : goal.returns-in_ok-input_with-in-Ok-read_modules-clause-read
-returns-in_ok-input_with-in-Ok-read_modules-clause-read g c =
-    both_read GivesDefinition AreModulesOf _ _ _ _ _ _ c.in-Ok.def c.in-Ok-read_modules.modules c.in_ok-input_with-in-Ok-read_modules.field-0 c.in-Ok.ensures.read c.in-Ok-read_modules.ensures.read
-    (λ calls is js one read two. input_is c.args.out.now c.in-Ok.def c.in-Ok-read_modules.modules c.in_ok-input_with-in-Ok-read_modules.field-0 _ calls is js one read two c.in_ok-input_with-in-Ok-read_modules.ensures.is)
+pub returns-in_ok-counted_input-in-Ok-read_modules-clause-read : goal.returns-in_ok-counted_input-in-Ok-read_modules-clause-read
+returns-in_ok-counted_input-in-Ok-read_modules-clause-read g c =
+    both_read GivesDefinition AreModulesOf _ _ _ _ _ _ c.in-Ok.def c.in-Ok-read_modules.modules c.in_ok-counted_input-in-Ok-read_modules.field-0 c.in-Ok.ensures.read c.in-Ok-read_modules.ensures.read
+    (λ calls is js one read two. input_is c.args.stem c.in-Ok.def c.in-Ok-read_modules.modules c.in_ok-counted_input-in-Ok-read_modules.field-0 _ calls is js one read two c.in_ok-counted_input-in-Ok-read_modules.ensures.is)
 
 pub returns-in-Err-read_modules-clause-read : goal.returns-in-Err-read_modules-clause-read
 returns-in-Err-read_modules-clause-read g c = stopped_second GivesDefinition AreModulesOf _ _ _ _ _ _ c.in-Ok.def c.in-Err-read_modules.why c.in-Ok.ensures.read c.in-Err-read_modules.ensures.read
