@@ -1,0 +1,4 @@
+mod Short
+mod PlainWords
+mod Lines
+mod Sessions

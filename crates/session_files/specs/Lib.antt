@@ -1,0 +1,3 @@
+pub mod SessionFiles
+pub mod ModuleLines
+pub mod ShortSessions
