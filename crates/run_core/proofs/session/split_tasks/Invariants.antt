@@ -1,0 +1,6 @@
+use Rattle.std.proofs.Common.{◌≡◌, map}
+use Rattle.run_core.specs.Tasks.{lines_of, proc_of}
+use Rattle.run_core.proofs.session.split_tasks.Given as goal
+
+abbrev pub invariant-loop-task : goal.invariant-loop-task
+invariant-loop-task l = (l.procs.items ≡ map proc_of l.yielded) × (l.steady.items ≡ map lines_of l.yielded)

@@ -1,0 +1,10 @@
+//! The run of a session: each script on a thread of its own over one loader, and the transcript of what happened.
+#![tactic(auto)]
+
+mod answers;
+mod failing;
+mod session;
+mod tasks;
+
+pub use failing::failing_pairs;
+pub use session::{Ran, run_session};
