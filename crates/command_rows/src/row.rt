@@ -6,6 +6,8 @@ use lx_tool::lx_main;
 use lx_types::NoMemory;
 use refusal_notes::{Heard, Tell, Watched, tell_on};
 use std::alloc::{AllocError, Global};
+use std::sync::Wait;
+use std::thread::Threads;
 
 /// The bytes under a name.
 #[derive(Drop)]
@@ -142,7 +144,12 @@ impl Row {
     }
 
     /// Runs the command over these files, as the program does over real ones.
-    pub fn run<R>(&self, rt: &R, alloc: Global, files: &[Named]) -> Result<Ended, NoMemory> {
+    pub fn run<R: Threads + Wait + Sync>(
+        &self,
+        rt: &R,
+        alloc: Global,
+        files: &[Named],
+    ) -> Result<Ended, NoMemory> {
         let ports = &self.ports;
         let entries = entries_of(alloc, files)?;
         let own = MemFiles::of(alloc, entries, ports.loads.clone()?, ports.saves.clone()?);
@@ -152,7 +159,7 @@ impl Row {
         let mut watched = Watched::new(alloc, own, sayings);
         let sink = MemSink::of(alloc, ports.room, SHARE, ports.puts.clone()?)?;
         let mut out = Heard::new(alloc, sink);
-        let status = lx_main(rt, alloc, &self.words, &mut watched, &mut out, &NoGate);
+        let status = lx_main(rt, alloc, &self.words, &mut watched, &mut out, &NoGate).status;
         let entries = entries_of(alloc, files)?;
         let mut again = MemFiles::of(alloc, entries, Vec::new(alloc), Vec::new(alloc));
         tell_on((alloc, &self.words, status), &mut watched, &out, &mut again);

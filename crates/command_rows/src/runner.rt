@@ -6,6 +6,8 @@ use crate::outcome::difference;
 use crate::row::{Ended, Held, Named, Row, find_bytes};
 use lx_types::NoMemory;
 use std::alloc::{AllocError, Global};
+use std::sync::Wait;
+use std::thread::Threads;
 
 /// The files so far, the row that is being read, and what is told of those that were run.
 #[derive(Drop)]
@@ -74,7 +76,7 @@ impl Runner {
     }
 
     /// Reads the lines of a file of rows, and runs each row where the next one, a file or the end follows it.
-    pub fn run<R>(&mut self, rt: &R, text: &str) -> Result<(), NoMemory> {
+    pub fn run<R: Threads + Wait + Sync>(&mut self, rt: &R, text: &str) -> Result<(), NoMemory> {
         let mut number = 0u32;
         for text in text.lines() {
             number = number.saturating_add(1);
@@ -88,7 +90,7 @@ impl Runner {
     }
 
     // Takes a line, and answers whether it may stand here.
-    fn take<R>(&mut self, rt: &R, line: Line<'_>) -> Result<bool, NoMemory> {
+    fn take<R: Threads + Wait + Sync>(&mut self, rt: &R, line: Line<'_>) -> Result<bool, NoMemory> {
         match line {
             Line::Blank => Ok(true),
             Line::File(name) => {
@@ -142,7 +144,7 @@ impl Runner {
     }
 
     // Runs the row that was read, if there is one.
-    fn end_row<R>(&mut self, rt: &R) -> Result<(), NoMemory> {
+    fn end_row<R: Threads + Wait + Sync>(&mut self, rt: &R) -> Result<(), NoMemory> {
         let Some(row) = self.row.take() else {
             return Ok(());
         };

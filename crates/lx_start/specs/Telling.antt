@@ -12,11 +12,14 @@ link_line = codes "lx link OUT DEF IN ..  links object files and libraries, DEF 
 abbrev pub implib_line : List ℕ
 implib_line = codes "lx implib OUT IN ..    writes an import library of modules and definition files, as: lx implib d.lib d.def" ++ 10 ∷ []
 
+abbrev pub run_line : List ℕ
+run_line = codes "lx run FILE            runs the processes of a session in threads, as: lx run d.ses" ++ 10 ∷ []
+
 abbrev pub more_line : List ℕ
 more_line = codes "lx COMMAND --help      says more of one of them" ++ 10 ∷ []
 
-abbrev pub help : List ℕ
-help = image_line ++ (link_line ++ (implib_line ++ more_line))
+unfoldable pub help : List ℕ
+help = image_line ++ (link_line ++ (implib_line ++ (run_line ++ more_line)))
 
 abbrev pub version : List ℕ
 version = codes "lx 0.1" ++ 10 ∷ []

@@ -3,8 +3,8 @@
 
 ghost use Rattle.std.specs.Prelude.{◌≡◌, is_some, map, option_copied, string_bytes};
 ghost use Rattle.std.specs.Process.{exit_status};
-ghost use Rattle.lx_answer.specs.Ends.{Ends};
-ghost use Rattle.lx_start.specs.Telling.{asks_help, asks_page, told_of};
+ghost use Rattle.lx_start.specs.Ending.{EndsWith};
+ghost use Rattle.lx_start.specs.Telling.{asks_help, asks_page, help, told_of};
 
 use lx_ports::{DiskFiles, Files, MemFiles, NoGate, Sink, StdSink};
 use lx_tool::lx_main;
@@ -13,6 +13,8 @@ use std::alloc::{AllocError, Global};
 use std::io::{Eprint, ErrorKind, Write};
 use std::process::ExitCode;
 use std::rt::Runtime;
+use std::sync::Wait;
+use std::thread::Threads;
 use std::{env, fs, io, rt};
 
 /// The status after standard output failed.
@@ -26,6 +28,7 @@ const HELP: &str = "\
 lx image OBJ BASE      shows an object file's objects in memory, as: lx image a.obj 10000000
 lx link OUT DEF IN ..  links object files and libraries, DEF may be -, as: lx link d.dll d.def a.obj b.lib
 lx implib OUT IN ..    writes an import library of modules and definition files, as: lx implib d.lib d.def
+lx run FILE            runs the processes of a session in threads, as: lx run d.ses
 lx COMMAND --help      says more of one of them
 ";
 
@@ -55,19 +58,27 @@ impl<R: Eprint> Tell for StandardError<'_, R> {
 
 /// Does what the words ask for, over these files and this sink, and ends with the status of the call. Behind the call a
 /// reader is told how it ended; what that needs of the files is loaded from `again`.
-fn run<R, F: Files, T: Tell, S: Sink, G: Files>(
+fn run<R: Threads + Wait + Sync, F: Files, T: Tell, S: Sink, G: Files>(
     call: (&R, Global, &[String]),
     files: &mut Watched<F, T>,
     out: &mut Heard<S>,
     again: &mut G,
 ) -> ExitCode
-    ensures { Ends (map string_bytes call.entry.2.now) (⟦<Watched<F, T> as Files>⟧.state files.old) (⟦<Watched<F, T> as Files>⟧.state files.new)
+    ensures { EndsWith (map string_bytes call.entry.2.now) (⟦<Watched<F, T> as Files>⟧.state files.old) (⟦<Watched<F, T> as Files>⟧.state files.new)
         (⟦<Heard<S> as Sink>⟧.state out.old) (⟦<Heard<S> as Sink>⟧.state out.new) (exit_status result) }
 {
     let (rt, alloc, words) = call;
-    let status = lx_main(rt, alloc, words, files, out, &NoGate);
-    tell_on((alloc, words, status), files, out, again);
-    ExitCode::from(status)
+    let ended = lx_main(rt, alloc, words, files, out, &NoGate);
+    tell_on((alloc, words, ended.status), files, out, again);
+    ExitCode::from(ended.status)
+}
+
+// The text of `--help`.
+#[tactic(auto, unfolding(crate::specs::Telling::help))]
+fn help() -> &'static str
+    ensures { result.now ≡ help }
+{
+    HELP
 }
 
 /// What is told of the program itself, where that is all that the words ask for.
@@ -75,7 +86,7 @@ fn about(words: &[String]) -> Option<&'static str>
     ensures { option_copied result ≡ told_of (map string_bytes words.now) }
 {
     match words {
-        [word] if asks_help(word.as_str()) => Some(HELP),
+        [word] if asks_help(word.as_str()) => Some(help()),
         [word] if word.as_str() == "--version" => Some(VERSION),
         _ => None,
     }
@@ -114,7 +125,10 @@ fn can_be_read_again<R: rt::Files>(rt: &R, words: &[String]) -> bool {
 
 /// Does what the words ask for over real files and standard output, with notes on standard error. A pipe gives its bytes once,
 /// so with one among the words the notes are made without the files.
-fn run_real<R: Runtime + AllocGlobal>(rt: &R, words: &[String]) -> Result<ExitCode, AllocError> {
+fn run_real<R: Runtime + AllocGlobal + Threads + Wait + Sync>(
+    rt: &R,
+    words: &[String],
+) -> Result<ExitCode, AllocError> {
     let alloc = rt.alloc();
     let mut files = Watched::new(alloc, DiskFiles::new(rt.clone()?), StandardError { rt });
     let mut out = Heard::new(alloc, StdSink::new(io::writer(rt)));
@@ -127,7 +141,7 @@ fn run_real<R: Runtime + AllocGlobal>(rt: &R, words: &[String]) -> Result<ExitCo
 }
 
 /// Does what the command line asks for, over real files and standard output. This is all that `main` does.
-pub fn program<R: Runtime + AllocGlobal>(rt: &R) -> ExitCode {
+pub fn program<R: Runtime + AllocGlobal + Threads + Wait + Sync>(rt: &R) -> ExitCode {
     let Ok(words) = words(rt) else {
         return ExitCode::from(NO_MEMORY);
     };

@@ -17,7 +17,7 @@ abbrev pub IsLoad : Call → Type 0
 IsLoad (load name answer) = Unit {0}
 IsLoad (save name bytes answer) = ⊥
 
-load_of : (a : Asked) (call : Call) (P : Result (List ℕ) LoadFault → Type 0) → IsLoadWith a call P → IsLoad call
+pub load_of : (a : Asked) (call : Call) (P : Result (List ℕ) LoadFault → Type 0) → IsLoadWith a call P → IsLoad call
 load_of a (load name answer) P is = tt
 load_of a (save name bytes answer) P is = absurd is
 
@@ -86,10 +86,10 @@ pub plain_joined : (xs ys : List Call) → AllByRecursion IsPlain xs → AllByRe
 plain_joined [] ys one two = two
 plain_joined (x ∷ xs) ys one two = (one.0, plain_joined xs ys one.1 two)
 
-plain_read : (a : Asked) (call : Call) (item : Item) → IsRead a call item → IsPlain call
-plain_read a (load name (Ok bytes)) item is = tt
-plain_read a (load name (Err why)) item is = absurd is.1
-plain_read a (save name bytes answer) item is = absurd is
+pub one_plain : (a : Asked) (call : Call) (item : Item) → IsRead a call item → IsPlain call
+one_plain a (load name (Ok bytes)) item is = tt
+one_plain a (load name (Err why)) item is = absurd is.1
+one_plain a (save name bytes answer) item is = absurd is
 
 plain_refused : (a : Asked) (call : Call) (said : Said) → IsRefused a call said → IsPlain call
 plain_refused a (load name (Ok bytes)) said is = tt
@@ -105,7 +105,7 @@ read_plain [] [] (i ∷ is) are = absurd are
 read_plain [] (x ∷ xs) is are = absurd are
 read_plain (a ∷ f) [] is are = absurd are
 read_plain (a ∷ f) (x ∷ xs) [] are = absurd are
-read_plain (a ∷ f) (x ∷ xs) (i ∷ is) are = (plain_read a x i are.0, read_plain f xs is are.1)
+read_plain (a ∷ f) (x ∷ xs) (i ∷ is) are = (one_plain a x i are.0, read_plain f xs is are.1)
 
 pub stopped_plain : (asked : List Asked) (calls : List Call) (said : Said) → IsStopped asked calls said → AllByRecursion IsPlain calls
 stopped_plain asked calls said is =

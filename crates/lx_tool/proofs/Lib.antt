@@ -12,3 +12,7 @@ mod Commands
 mod Linked
 mod OneLoad
 mod Saved
+mod SessionSays
+mod RunEndings
+mod Sessions
+mod Headline

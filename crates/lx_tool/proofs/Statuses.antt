@@ -58,7 +58,7 @@ pub record StatusSays (none : Type 0) (calls : List Call) (said : Said) : Type 0
 
 -- a refused file
 
-one_failed : (a : Asked) (call : Call) (said : Said) → IsRefused a call said → (said.status ≡ 1) ⊎ ((said.status ≡ 3) × (0 < load_faults (call ∷ [])))
+pub one_failed : (a : Asked) (call : Call) (said : Said) → IsRefused a call said → (said.status ≡ 1) ⊎ ((said.status ≡ 3) × (0 < load_faults (call ∷ [])))
 one_failed a (load name (Ok bytes)) said is = inl (ap (λ (s : Said). s.status) is.1.line)
 one_failed a (load name (Err fault.Absent)) said is = inl (ap (λ (s : Said). s.status) is.1)
 one_failed a (load name (Err fault.TooLong)) said is = inl (ap (λ (s : Said). s.status) is.1)

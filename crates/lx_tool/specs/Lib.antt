@@ -1,4 +1,6 @@
 pub mod Doing
 pub mod Refusals
+pub mod Running
+pub mod Headline
 pub mod Rows
 pub mod ImportLibraries

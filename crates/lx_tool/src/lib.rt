@@ -5,10 +5,13 @@ mod image;
 mod implib;
 mod library;
 mod link;
+mod main_call;
 mod output;
 mod refusals;
+mod run;
 mod saving;
 mod text;
 mod tool;
 
-pub use tool::{lx_build, lx_main};
+pub use main_call::{Ended, lx_main};
+pub use tool::lx_build;

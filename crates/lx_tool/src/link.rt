@@ -7,7 +7,7 @@ ghost use Rattle.link_core.specs.Links.{RefusesLink};
 ghost use Rattle.lx_tool.specs.Doing.{Does, DoesLink};
 ghost use Rattle.lx_tool.specs.Refusals.{RefusesAs};
 
-use crate::refusals::{in_full, link_text};
+use crate::refusals::in_full;
 use crate::saving::keep;
 use link_core::{Linked, link_module};
 use link_model::LinkRefusal;
@@ -16,7 +16,7 @@ use lx_ports::Files;
 use lx_types::{Bytes, Fail, NoMemory, Seq, push_escaped};
 use obj_types::LinkInput;
 use std::alloc::{AllocError, Global};
-use tool_read::{read_link_input, said};
+use tool_read::{link_text, read_link_input, said};
 
 // `NAME objects O pages P sources S`
 fn counts_line(alloc: Global, linked: &Linked) -> Result<Bytes, AllocError>

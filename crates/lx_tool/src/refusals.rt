@@ -1,15 +1,13 @@
 //! What is said of refusals.
 ghost use Rattle.std.specs.Prelude.{◌≡◌, IfOk};
-ghost use Rattle.lx_answer.specs.LinkAnswer.{link_text};
 ghost use Rattle.tool_read.specs.Readings.{SaysOf};
 ghost use Rattle.lx_tool.specs.Refusals.{Gives, image_text_of};
 
 use link_memory::ImageRefusal;
-use link_model::LinkRefusal;
 use lx_answer::Said;
 use lx_types::{Fail, NoMemory};
-use refusal_text::{entry_text, fix_text, lay_text, sym_text};
 use std::alloc::{AllocError, Global};
+use tool_read::link_text;
 
 /// What a refused step says.
 pub fn in_full(why: Fail<Said>) -> Result<Said, NoMemory>
@@ -18,18 +16,6 @@ pub fn in_full(why: Fail<Said>) -> Result<Said, NoMemory>
     match why {
         Fail::Said(said) => Ok(said),
         Fail::NoMemory => Err(NoMemory),
-    }
-}
-
-/// The text of a link's refusal.
-pub fn link_text(alloc: Global, refusal: &LinkRefusal) -> Result<Vec<u8>, AllocError>
-    ensures { IfOk result (λ text. text.items ≡ link_text refusal.now) }
-{
-    match refusal {
-        LinkRefusal::Sym(own) => sym_text(alloc, own),
-        LinkRefusal::Lay(own) => lay_text(alloc, own),
-        LinkRefusal::Fixing(own) => fix_text(alloc, *own),
-        LinkRefusal::Entry(own) => entry_text(alloc, own),
     }
 }
 

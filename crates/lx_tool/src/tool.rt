@@ -1,4 +1,4 @@
-//! The top calls: all that the program does, over the files and the sink that it is handed.
+//! The commands that need no threads: all that the program does but sessions, over the files and the sink that it is handed.
 ghost use Rattle.std.specs.Prelude.{◌≡◌, IfOk, map, string_bytes};
 ghost use Rattle.lx_answer.specs.FileLine.{usage_line};
 ghost use Rattle.lx_answer.specs.Ends.{Ends};
@@ -11,7 +11,7 @@ use crate::link::link;
 use crate::output::put_whole;
 use command_words::Command;
 use lx_answer::Said;
-use lx_ports::{Files, Gate, Sink};
+use lx_ports::{Files, Sink};
 use lx_types::{NoMemory, Seq};
 use std::alloc::Global;
 
@@ -19,10 +19,10 @@ use std::alloc::Global;
 const USAGE: u8 = 2;
 
 /// The status after the sink failed.
-const WRITE_FAILED: u8 = 4;
+pub(crate) const WRITE_FAILED: u8 = 4;
 
 /// The status of want of memory.
-const NO_MEMORY: u8 = 8;
+pub(crate) const NO_MEMORY: u8 = 8;
 
 fn usage(alloc: Global) -> Result<Said, NoMemory>
     ensures { IfOk result (λ said. said ≡ record { status = 2; text = usage_line }) }
@@ -81,20 +81,4 @@ pub fn lx_build<F: Files, S: Sink>(
         },
         Err(NoMemory) => NO_MEMORY,
     }
-}
-
-/// Does what the words ask for, as the program does: every command is one of `lx_build` so far. The
-/// runtime and the gate are for sessions, which are not run yet.
-pub fn lx_main<R, F: Files, S: Sink, G: Gate>(
-    _rt: &R,
-    alloc: Global,
-    words: &[String],
-    files: &mut F,
-    out: &mut S,
-    _gate: &G,
-) -> u8
-    ensures { Ends (map string_bytes words.now) (F.state files.old) (F.state files.new)
-        (S.state out.old) (S.state out.new) result }
-{
-    lx_build(alloc, words, files, out)
 }

@@ -8,8 +8,8 @@ use std::alloc::{AllocError, Global};
 /// How long a line is that is shown.
 const SHOWN: usize = 120;
 
-// The bytes of a line, by its number from 1.
-fn line_of(bytes: &[u8], number: usize) -> Option<&[u8]> {
+/// The bytes of a line, by its number from 1.
+pub fn line_of(bytes: &[u8], number: usize) -> Option<&[u8]> {
     bytes
         .split(|&byte| byte == b'\n')
         .nth(number.checked_sub(1)?)
@@ -27,8 +27,8 @@ fn shown_line(line: &[u8]) -> Option<&str> {
     None
 }
 
-// What the bytes of the line say.
-fn line_note(
+/// What the bytes of the line say.
+pub fn line_note(
     alloc: Global,
     lines: &mut Lines,
     number: usize,

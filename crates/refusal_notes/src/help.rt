@@ -41,6 +41,21 @@ after their address. Nothing is written.
 as: lx image add.obj 10000000
 ";
 
+const RUN: &str = "\
+lx run FILE
+
+Runs the session in FILE: takes modules from files, or builds them as link does, and carries out the scripts of up to 16
+processes over them, each script on a thread of its own. Prints the history of loads, faults, writes and frees, and below it
+what each process was answered beside. Nothing is written.
+
+  FILE  the session, a line for each step: first take FILE, build STEM DEF IN .. and failing M N; then, below process N, the
+        commands start, load, free, touch, peek, shared, write, debug, query, getres and exit
+
+Which process goes first is not settled: two runs of one session may print different histories.
+
+as: lx run add.ses
+";
+
 /// The page of a command, or None where there is no such command.
 pub fn page_of(command: &str) -> Option<&'static str>
     ensures { is_some result ≡ is_command command.now }
@@ -49,6 +64,7 @@ pub fn page_of(command: &str) -> Option<&'static str>
         "link" => Some(LINK),
         "implib" => Some(IMPLIB),
         "image" => Some(IMAGE),
+        "run" => Some(RUN),
         _ => None,
     }
 }

@@ -107,3 +107,29 @@ pub fn link_kind(kind: &str) -> Option<&'static str> {
         _ => return None,
     })
 }
+
+/// Of a session.
+pub fn session_kind(kind: &str) -> Option<&'static str> {
+    Some(match kind {
+        "Byte" => "a line has a byte that is neither a tab nor one from 20h to 7Eh",
+        "Statement" =>
+            "a line begins with take, build, failing, process or a command: start, load, free, touch, peek, shared, write, debug, query, getres or exit",
+        "Count" => "the line has more or fewer words than it wants, or a word over 255 bytes",
+        "Number" => "a number is not allowed there, or is none",
+        "Hex" => "the bytes are 1 to 4,096 pairs of hexadecimal digits",
+        "Order" =>
+            "take, build and failing stand before the first process, the numbers of processes rise from 1 to 16, and commands stand below a process",
+        "TooMany" => "a process has at most 1,024 commands",
+        _ => return None,
+    })
+}
+
+/// Of the modules of a session together.
+pub fn gathering_kind(kind: &str) -> Option<&'static str> {
+    Some(match kind {
+        "TooManyModules" => "a session has at most 64 modules",
+        "NameTwice" =>
+            "two modules have one name, case aside; their places among the module lines are told, from 0",
+        _ => return None,
+    })
+}

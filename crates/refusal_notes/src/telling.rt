@@ -7,6 +7,7 @@ use crate::line::{Fault, Told, refusal_of};
 use crate::lines::{Lines, Mark};
 use crate::links::{Refused, link_meaning};
 use crate::object_faults::{Placed, module_notes, object_notes};
+use crate::sessions::{named_note, session_notes};
 use crate::watched::{Tell, Watched};
 use def_file::read_def;
 use lx_ports::{Files, Sink};
@@ -43,7 +44,7 @@ fn usage(alloc: Global, lines: &mut Lines, ended: &Ended<'_>) -> Result<(), Allo
     let command = ended.word(0);
     let count = ended.words.len();
     let text = match command {
-        "" => "a command is wanted: link, implib or image",
+        "" => "a command is wanted: link, implib, image or run",
         "link" =>
             "link wants OUT DEF IN ..: the module, the definition file or -, and at least one file",
         "implib" =>
@@ -52,11 +53,12 @@ fn usage(alloc: Global, lines: &mut Lines, ended: &Ended<'_>) -> Result<(), Allo
             "BASE is eight hexadecimal digits, a multiple of 65,536 from 00010000 to 1FFF0000"
         }
         "image" => "image wants OBJ BASE: an object file, and eight hexadecimal digits as 10000000",
-        _ => "there are the commands link, implib and image",
+        "run" => "run wants FILE: a session",
+        _ => "there are the commands link, implib, image and run",
     };
     lines.add_text(alloc, text)?;
     match command {
-        "link" | "implib" | "image" => lines.add(format!(in alloc;
+        "link" | "implib" | "image" | "run" => lines.add(format!(in alloc;
             "lx {command} --help says more"
         )?),
         _ => lines.add_text(alloc, "lx --help says more"),
@@ -191,6 +193,26 @@ fn explain_modules(
     refused.notes(alloc, lines, refusal.0, refusal.1)
 }
 
+// Notes on a line that was put of a session, or of what its module lines name.
+fn session_refused<F: Files>(
+    alloc: Global,
+    files: &mut F,
+    lines: &mut Lines,
+    ended: &Ended<'_>,
+    text: &str,
+) -> Result<(), AllocError> {
+    match refusal_of(text, ended.words) {
+        Some(told) => match told.fault {
+            Fault::Absent | Fault::TooLong => refused(alloc, files, lines, ended, &told),
+            _ => {
+                let bytes = load(alloc, files, ended.word(1));
+                session_notes(alloc, lines, &told, bytes.as_deref())
+            }
+        },
+        None => named_note(alloc, lines, ended.word(1)),
+    }
+}
+
 // Whether a fault at a place is that of a module, which only implib reads.
 fn is_of_module(ended: &Ended<'_>) -> bool {
     ended.word(0) == "implib"
@@ -250,7 +272,9 @@ pub fn notes_on<F: Files>(
     match ended.status {
         1 => {
             let text = std::str::from_utf8(ended.text).unwrap_or("");
-            if let Some(told) = refusal_of(text, ended.words) {
+            if ended.word(0) == "run" {
+                session_refused(alloc, files, &mut lines, ended, text)?;
+            } else if let Some(told) = refusal_of(text, ended.words) {
                 refused(alloc, files, &mut lines, ended, &told)?;
             }
         }

@@ -1,0 +1,77 @@
+-- What `run` does, and what it puts.
+use Rattle.std.specs.Prelude.{◌≡◌, ◌⊎◌, ℕ, List, Option, Some, None, Result, IfOk, IfSome}
+use Rattle.std.specs.Io.KnownBytes.{Appends}
+use Rattle.lx_types.specs.declared.fail.NoMemory.{NoMemory}
+use Rattle.lx_ports.specs.Calls.{Call}
+use Rattle.lx_ports.specs.Counts.{Rose}
+use Rattle.lx_ports.specs.Files.{FilesState}
+use Rattle.lx_ports.specs.Sinks.{SinkState}
+use Rattle.run_core.specs.declared.session.Ran.{Ran}
+use Rattle.run_core.specs.Sessions.{run_in}
+use Rattle.lx_answer.specs.declared.said.Said.{Said}
+use Rattle.lx_answer.specs.Ends.{AppendsPart}
+use Rattle.lx_answer.specs.RunAnswer.{SaysRun}
+use Rattle.lx_answer.specs.RunEnds.{AreCallsOfRun}
+use Rattle.tool_read.specs.Steps.{AreLoads}
+use Rattle.lx_tool.specs.declared.main_call.Ended.{Ended}
+use Rattle.lx_tool.specs.declared.run.SessionEnd.{SessionEnd}
+use Rattle.lx_tool.specs.declared.run.SessionEnd.TheVariants as end
+
+-- ---- what it comes to
+
+-- what is said: of scripts that ran, their transcript
+abbrev pub said_of : SessionEnd → Said
+said_of (end.Refused said) = said
+said_of (end.Ran ran) = record { status = 0; text = ran.text }
+
+abbrev pub ran_of : SessionEnd → Option Ran
+ran_of (end.Refused said) = None
+ran_of (end.Ran ran) = Some ran
+
+-- It is what these calls say, with what ran.
+abbrev pub SaysEnd : List ℕ → List Call → SessionEnd → Type 0
+SaysEnd file calls (end.Refused said) = SaysRun file calls said None
+SaysEnd file calls (end.Ran ran) = SaysRun file calls (record { status = 0; text = ran.text }) (Some (run_in ran))
+
+-- Between two moments the files had loads alone, of just what the session names; and by their answers it comes to this,
+-- where there was memory.
+pub record DoesRun (file : List ℕ) (before now : FilesState) (result : Result SessionEnd NoMemory) : Type 0 where
+  pub calls : List Call
+  pub loads : AreLoads calls before now
+  pub named : AreCallsOfRun file calls
+  pub says : IfOk result (SaysEnd file calls)
+
+-- ---- what is put
+
+pub record IsPutWhole (said : Said) (out out_now : SinkState) (status : ℕ) : Type 0 where
+  pub status_is : status ≡ said.status
+  pub put : Appends out.contents out_now.contents said.text
+
+pub record IsPutInPart (said : Said) (out out_now : SinkState) (status : ℕ) : Type 0 where
+  pub status_is : status ≡ 4
+  pub part : AppendsPart out.contents out_now.contents said.text
+  pub failed : Rose out.faults out_now.faults
+
+-- The whole text was put, or a part before the sink failed.
+pub record PutsEnd (it : SessionEnd) (out out_now : SinkState) (ended : Ended) : Type 0 where
+  pub ran_is : ended.ran ≡ ran_of it
+  pub put : IsPutWhole (said_of it) out out_now ended.status ⊎ IsPutInPart (said_of it) out out_now ended.status
+
+-- ---- what is shown of what ran
+
+-- There is what ran, and its text was put.
+abbrev pub IsShown : SinkState → SinkState → Option Ran → Type 0
+IsShown out out_now (Some ran) = Appends out.contents out_now.contents ran.text
+IsShown out out_now None = ⊥
+
+-- With 0 there is what ran, whose text was put whole. With 4 a part of its text was put, where there is what ran. With all
+-- other statuses nothing ran.
+pub record ShowsSession (out out_now : SinkState) (ended : Ended) : Type 0 where
+  pub whole : ended.status ≡ 0 → IsShown out out_now ended.ran
+  pub part : ended.status ≡ 4 → IfSome ended.ran (λ ran. AppendsPart out.contents out_now.contents ran.text)
+  pub nothing : (ended.status ≡ 0 → ⊥) → (ended.status ≡ 4 → ⊥) → ended.ran ≡ None
+
+-- Without a session nothing ran.
+abbrev pub ShowsRun : Option (List ℕ) → SinkState → SinkState → Ended → Type 0
+ShowsRun (Some file) out out_now ended = ShowsSession out out_now ended
+ShowsRun None out out_now ended = ended.ran ≡ None

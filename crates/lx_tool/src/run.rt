@@ -1,0 +1,97 @@
+//! The command `run`: the scripts of a session, each on a thread of its own.
+ghost use Rattle.std.specs.Prelude.{ℕ, IfOk, List, codes};
+ghost use Rattle.lx_ports.specs.Calls.{Call};
+ghost use Rattle.refusal_text.specs.Sessions.{library_text};
+ghost use Rattle.session_model.specs.Bounds.{IsSession};
+ghost use Rattle.session_model.specs.FailingPairs.{failing_pairs};
+ghost use Rattle.session_files.specs.SessionFiles.{AreSessionFiles};
+ghost use Rattle.run_core.specs.Sessions.{IsRanOf};
+ghost use Rattle.lx_tool.specs.Refusals.{RefusesBy};
+ghost use Rattle.lx_tool.specs.Running.{DoesRun, SaysEnd};
+
+use crate::refusals::in_full;
+use lx_answer::Said;
+use lx_model::LibraryRefusal;
+use lx_ports::{Files, Gate};
+use lx_types::{Fail, NoMemory};
+use mod_graph::Library;
+use refusal_text::library_text;
+use run_core::{Ran, failing_pairs, run_session};
+use run_laws::runs_by_links;
+use session_files::{SessionFiles, read_session_files};
+use session_model::Session;
+use std::alloc::Global;
+use std::sync::{Arc, Wait};
+use std::thread::Threads;
+use tool_read::said;
+
+/// What a session comes to: what is said of one whose scripts do not run, or what ran.
+#[derive(Drop)]
+pub enum SessionEnd {
+    Refused(Said),
+    Ran(Ran),
+}
+
+// What is said of modules that are no library.
+fn ungathered(alloc: Global, why: Fail<LibraryRefusal>) -> Result<Said, NoMemory>
+    ensures { RefusesBy library_text (codes "session") why result }
+{
+    match why {
+        Fail::Said(refusal) => {
+            let text = library_text(alloc, refusal)?;
+            said(alloc, 1, "session", text.as_bytes())
+        }
+        Fail::NoMemory => Err(NoMemory),
+    }
+}
+
+// Runs the scripts over a library.
+fn run_over<R: Threads + Wait + Sync, G: Gate>(
+    rt: &R,
+    alloc: Global,
+    session: Session,
+    lib: Library,
+    gate: &G,
+) -> Result<Ran, NoMemory>
+    requires { IsSession session }
+    ensures { IfOk result (λ ran. IsRanOf lib (failing_pairs lib session) session.scripts ran) }
+{
+    let failing = failing_pairs(alloc, &lib, &session)?;
+    let lib = Arc::new(alloc, lib)?;
+    run_session(rt, alloc, session, lib, failing, gate)
+}
+
+// Gathers the modules, and runs the scripts over them.
+fn run_files<R: Threads + Wait + Sync, G: Gate>(
+    rt: &R,
+    alloc: Global,
+    read: SessionFiles,
+    gate: &G,
+) -> Result<SessionEnd, NoMemory>
+    requires { (file : List ℕ) × (calls : List Call) × AreSessionFiles file calls read }
+    ensures { (file : List ℕ) (calls : List Call) → AreSessionFiles file calls read → IfOk result (SaysEnd file calls) }
+{
+    runs_by_links();
+    let SessionFiles { session, modules } = read;
+    match Library::gather(alloc, modules) {
+        Ok(lib) => Ok(SessionEnd::Ran(run_over(rt, alloc, session, lib, gate)?)),
+        Err(refused) => Ok(SessionEnd::Refused(ungathered(alloc, refused.why)?)),
+    }
+}
+
+/// Loads and reads the session in a file, does its module lines in turn, gathers its modules and runs its scripts, each on a
+/// thread of its own where one can be made. The gate is asked before each command.
+pub fn run<R: Threads + Wait + Sync, F: Files, G: Gate>(
+    rt: &R,
+    alloc: Global,
+    files: &mut F,
+    file: &str,
+    gate: &G,
+) -> Result<SessionEnd, NoMemory>
+    ensures { DoesRun file.now (F.state files.old) (F.state files.new) result }
+{
+    match read_session_files(alloc, files, file) {
+        Ok(read) => run_files(rt, alloc, read, gate),
+        Err(why) => Ok(SessionEnd::Refused(in_full(why)?)),
+    }
+}
