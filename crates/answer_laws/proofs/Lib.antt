@@ -1,0 +1,6 @@
+pub mod Items
+pub mod Loads
+pub mod Links
+pub mod OneAnswerLaw
+pub mod SomeAnswerLaw
+pub mod SmallestObjectsLaw

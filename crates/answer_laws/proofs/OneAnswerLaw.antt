@@ -1,0 +1,89 @@
+-- Words and contents have one answer at most.
+use Rattle.std.proofs.Common.{◌≡◌, ◌⊎◌, ℕ, List, [], ◌∷◌, ◌++◌, inl, inr, refl, ap, sym, subst, ◌∙◌}
+use Rattle.std.specs.Prelude.{Result, Ok, Err, Option, None, Some}
+use Rattle.lx_ports.specs.Calls.{Call, load, save}
+use Rattle.lx_ports.specs.Files.{Contents}
+use Rattle.lx_ports.specs.declared.files.SaveFault.{SaveFault}
+use Rattle.link_model.specs.Link.{Link}
+use Rattle.obj_types.specs.declared.object.ObjModule.{ObjModule}
+use Rattle.link_model.specs.OneSegment.{alone}
+use Rattle.lx_answer.specs.Answer.{Answer, IsSound, saves_in}
+use Rattle.lx_answer.specs.ImageAnswer.{NAME, ImageAnswer, image_outcome}
+use Rattle.lx_answer.specs.ImplibAnswer.{all_imports, implib_outcome}
+use Rattle.lx_answer.specs.LinkAnswer.{LinkAnswer, input_of, link_outcome}
+use Rattle.lx_answer.specs.Outcome.{Outcome, Saved}
+use Rattle.lx_answer.specs.Reading.{Item, object}
+use Rattle.lx_answer.specs.Says.{ComesTo, Finishes, IsDone, IsSaved, SaysCommand, asked_files, said_after}
+use Rattle.lx_answer.specs.Stem.{stem_of}
+use Rattle.lx_answer.specs.Words.{Command, command_of, image, link, implib}
+use Rattle.lx_answer.specs.declared.said.Said.{Said}
+use Rattle.answer_laws.specs.AnswerLaws.{AreSame, OneAnswer}
+use Rattle.answer_laws.proofs.Links.{link_once}
+use Rattle.answer_laws.proofs.Loads.{ap2, AreSound, sound_front, sound_back, SameReads, reads_once, SameStop, stops, stops_once, stops_or_reads}
+
+-- ---- what the items come to
+
+comes_once : (command : Command) (items : List Item) (o p : Outcome) → ComesTo command items o → ComesTo command items p → o ≡ p
+comes_once (image file base) (object m ∷ []) o p h k =
+    h.comes_to ∙ (ap image_outcome (link_once (alone m NAME base) h.link k.link h.of_input k.of_input) ∙ sym k.comes_to)
+comes_once (image file base) items o p h k = absurd h
+comes_once (link out definition inputs) items o p h k =
+    h.comes_to ∙ (ap (link_outcome out) (link_once (input_of out items) h.link k.link h.of_input k.of_input) ∙ sym k.comes_to)
+comes_once (implib out inputs) items o p h k = h ∙ sym k
+
+-- ---- the save
+
+sound_save : (contents : Contents) (name bytes : List ℕ) (answer : Result (Unit {0}) SaveFault) (calls : List Call)
+    → calls ≡ save name bytes answer ∷ [] → AreSound contents calls → answer ≡ Ok tt
+sound_save contents name bytes answer calls is sound = let one : AreSound contents (save name bytes answer ∷ []) = subst (AreSound contents) is sound in one.0
+
+finishes_once : (contents : Contents) (saved : Option Saved) (o : Outcome) (cs ds : List Call) (s t : Said) → AreSound contents cs → AreSound contents ds
+    → Finishes saved o cs s → Finishes saved o ds t → SameStop cs ds s t
+finishes_once contents None o cs ds s t sc sd h k = record { calls = h.0 ∙ sym k.0; said = h.1 ∙ sym k.1 }
+finishes_once contents (Some saved) o cs ds s t sc sd h k =
+    let left = sound_save contents saved.name saved.bytes h.answer cs h.calls_are sc in
+    let right = sound_save contents saved.name saved.bytes k.answer ds k.calls_are sd in
+    let same : h.answer ≡ k.answer = left ∙ sym right in
+    record {
+      calls = h.calls_are ∙ (ap (λ answer. save saved.name saved.bytes answer ∷ []) same ∙ sym k.calls_are);
+      said = h.is_said ∙ (ap (said_after o saved.name) same ∙ sym k.is_said);
+    }
+
+-- ---- the whole command
+
+done_once : (contents : Contents) (command : Command) (cs ds : List Call) (s t : Said) → AreSound contents cs → AreSound contents ds
+    → IsDone command cs s → IsDone command ds t → SameStop cs ds s t
+done_once contents command cs ds s t sc sd h k =
+    let sc2 : AreSound contents (h.loads ++ h.saves) = subst (AreSound contents) h.calls_are sc in
+    let sd2 : AreSound contents (k.loads ++ k.saves) = subst (AreSound contents) k.calls_are sd in
+    let loads : SameReads h.loads k.loads h.items k.items =
+    reads_once contents (asked_files command) h.loads k.loads h.items k.items (sound_front contents h.loads h.saves sc2) (sound_front contents k.loads k.saves sd2) h.read k.read in
+    let same : h.outcome ≡ k.outcome = comes_once command h.items h.outcome k.outcome h.comes_to (subst (λ items. ComesTo command items k.outcome) (sym loads.items) k.comes_to) in
+    let end : Finishes h.outcome.saved h.outcome k.saves t = subst (λ (o : Outcome). Finishes o.saved o k.saves t) (sym same) k.finished in
+    let saves = finishes_once contents h.outcome.saved h.outcome h.saves k.saves s t (sound_back contents h.loads h.saves sc2) (sound_back contents k.loads k.saves sd2) h.finished end in
+    record {
+      calls = h.calls_are ∙ (ap2 (λ (x : List Call) (y : List Call). x ++ y) loads.calls saves.calls ∙ sym k.calls_are);
+      said = saves.said;
+    }
+
+done_not_stopped : (contents : Contents) (command : Command) (cs ds : List Call) (s t : Said) → AreSound contents cs → AreSound contents ds
+    → IsDone command cs s → SaysCommand (Some command) ds t → SameStop cs ds s t
+done_not_stopped contents command cs ds s t sc sd h (inl k) =
+    let sc2 : AreSound contents (h.loads ++ h.saves) = subst (AreSound contents) h.calls_are sc in
+    absurd (stops_or_reads contents (asked_files command) ds h.loads t h.items sd (sound_front contents h.loads h.saves sc2) (stops (asked_files command) ds t k) h.read)
+done_not_stopped contents command cs ds s t sc sd h (inr k) = done_once contents command cs ds s t sc sd h k
+
+says_once : (contents : Contents) (command : Option Command) (cs ds : List Call) (s t : Said) → AreSound contents cs → AreSound contents ds
+    → SaysCommand command cs s → SaysCommand command ds t → SameStop cs ds s t
+says_once contents None cs ds s t sc sd h k = record { calls = h.0 ∙ sym k.0; said = h.1 ∙ sym k.1 }
+says_once contents (Some command) cs ds s t sc sd (inr h) k = done_not_stopped contents command cs ds s t sc sd h k
+says_once contents (Some command) cs ds s t sc sd (inl h) (inl k) =
+    stops_once contents (asked_files command) cs ds s t sc sd (stops (asked_files command) cs s h) (stops (asked_files command) ds t k)
+says_once contents (Some command) cs ds s t sc sd (inl h) (inr k) =
+    let back = done_not_stopped contents command ds cs t s sd sc k (inl h) in
+    record { calls = sym back.calls; said = sym back.said }
+
+pub one_answer : OneAnswer
+one_answer words contents saves others said other h k =
+    let same = says_once contents (command_of words) h.calls k.calls said other h.sound k.sound h.says k.says in
+    record { files = h.saves_are ∙ (ap saves_in same.calls ∙ sym k.saves_are); answer = same.said }

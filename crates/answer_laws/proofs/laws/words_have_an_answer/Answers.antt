@@ -1,0 +1,5 @@
+use Rattle.answer_laws.proofs.SomeAnswerLaw.{some_answer}
+use Rattle.answer_laws.proofs.laws.words_have_an_answer.Goals as goal
+
+pub returns : goal.returns
+returns c = some_answer
