@@ -1,0 +1,9 @@
+use Rattle.std.proofs.Common.{◌≡◌, ◌++◌, drop}
+use Rattle.res_bind.specs.Placed.{end_from, data_from}
+use Rattle.res_bind.proofs.items.push_items.Given as goal
+
+abbrev pub invariant-loop-item : goal.invariant-loop-item
+invariant-loop-item l = record {
+  size : end_from l.end (drop l.item-index l.items) ≡ end_from 0 l.items;
+  bytes : l.out.items ++ data_from l.end (drop l.item-index l.items) ≡ l.initial.out.items ++ data_from 0 l.items;
+}

@@ -1,0 +1,9 @@
+pub mod Placed
+pub mod Layout
+pub mod Bound
+pub mod Refusal
+pub mod Numbers
+pub mod Layouts
+pub mod Clear
+pub mod Laws
+pub mod Worked

@@ -1,0 +1,13 @@
+//! Worked values of the definitions, from outside them.
+
+ghost use Rattle.res_bind.specs.Worked.{WorkedBound, WorkedPlaces};
+
+/// Where items stand in the new object, and where that stands.
+pub fn items_are_placed()
+    ensures { WorkedPlaces }
+{}
+
+/// A file of one page with an item bound to it.
+pub fn file_is_bound()
+    ensures { WorkedBound }
+{}

@@ -1,0 +1,2 @@
+pub mod GoodItem
+pub mod Progress

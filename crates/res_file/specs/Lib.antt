@@ -1,0 +1,5 @@
+pub mod ResFile
+pub mod ItemFields
+pub mod Faults
+pub mod Seen
+pub mod Worked
