@@ -1,0 +1,117 @@
+//! A session is run over the modules, and counted.
+
+ghost use Rattle.std.specs.Prelude.{IfOk};
+ghost use Rattle.session_model.specs.Bounds.{IsSession};
+
+use crate::failure::Failure;
+use crate::gate::{Asked, Bench, Hold, HoldingGate};
+use crate::modules::library;
+use load_model::{Deed, Entry};
+use lx_types::{Fail, PageId};
+use run_core::{Ran, failing_pairs, run_session};
+use session_model::{Session, sessions_are_bounded};
+use session_text::read_session;
+use std::alloc::Global;
+use std::sync::{Arc, Wait};
+use std::thread::Threads;
+use std::time::Clock;
+
+/// A run, and what its gate was asked.
+#[derive(Drop)]
+pub struct Outcome {
+    pub ran: Ran,
+    pub asked: Asked,
+}
+
+// The session that a text says.
+fn session_of(alloc: Global, text: &[u8]) -> Result<Session, Failure>
+    ensures { IfOk result IsSession }
+{
+    sessions_are_bounded();
+    if u32::try_from(text.len()).is_err() {
+        return Err(Failure::Session);
+    }
+    match read_session(alloc, text) {
+        Ok(session) => Ok(session),
+        Err(Fail::Said(_)) => Err(Failure::Session),
+        Err(Fail::NoMemory) => Err(Failure::NoMemory),
+    }
+}
+
+/// Runs the session that a text says, with a gate of these holds.
+pub fn run_text<R: Threads + Wait + Clock + Sync>(
+    bench: &Bench<R>,
+    alloc: Global,
+    text: &[u8],
+    holds: &[Hold],
+) -> Result<Outcome, Failure> {
+    let session = session_of(alloc, text)?;
+    let library = library(alloc)?;
+    let failing = failing_pairs(alloc, &library, &session)?;
+    let library = Arc::new(alloc, library)?;
+    let gate = HoldingGate::new(bench, alloc, holds)?;
+    let ran = run_session(bench.rt, alloc, session, library, failing, &gate)?;
+    let asked = gate.asked();
+    Ok(Outcome { ran, asked })
+}
+
+// The page whose fault an entry is, with its residence's serial number.
+fn fault_of(entry: &Entry) -> Option<(u64, PageId)> {
+    match entry.deed {
+        Deed::Fault { serial, page, .. } => Some((serial, page)),
+        _ => None,
+    }
+}
+
+// Whether both are the fault of one page.
+fn is_same_fault(one: &Entry, other: &Entry) -> bool {
+    match (fault_of(one), fault_of(other)) {
+        (Some((serial, page)), Some((other, again))) => {
+            serial == other && page.object == again.object && page.page == again.page
+        }
+        _ => false,
+    }
+}
+
+impl Outcome {
+    /// How many faults there are.
+    pub fn faults(&self) -> usize {
+        self.ran
+            .closed
+            .history()
+            .iter()
+            .filter(|entry| fault_of(entry).is_some())
+            .count()
+    }
+
+    /// How many entries are those of commands.
+    pub fn commands(&self) -> usize {
+        self.ran
+            .closed
+            .history()
+            .len()
+            .saturating_sub(self.faults())
+    }
+
+    /// How many faults are of a page of a residence that had its fault before.
+    pub fn twice(&self) -> usize {
+        let history = self.ran.closed.history();
+        let mut twice = 0usize;
+        for (at, entry) in history.iter().enumerate() {
+            let before = history.get(..at).unwrap_or(&[]);
+            if before.iter().any(|earlier| is_same_fault(earlier, entry)) {
+                twice = twice.saturating_add(1);
+            }
+        }
+        twice
+    }
+
+    /// How many commands were answered by a line.
+    pub fn lines(&self) -> usize {
+        let mut lines = 0usize;
+        for script in self.ran.steady.as_slice() {
+            lines = lines.saturating_add(script.lines.as_slice().len());
+        }
+        lines
+    }
+}
