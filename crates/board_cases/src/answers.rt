@@ -1,0 +1,106 @@
+//! What a process answers to a command.
+
+ghost use Rattle.std.specs.Prelude.{◌≡◌, ◌<◌, IfOk, length};
+ghost use Rattle.proc_core.specs.Procs.{IsOf};
+
+use load_model::{Command, Place, Refusal, Reply};
+use lx_types::{Fail, NoMemory, Seq};
+use page_fix::Steps;
+use proc_core::{Done, Loader, Proc};
+use std::alloc::Global;
+use std::marker::Brand;
+use std::sync::Wait;
+use std::sync::ledger::{Blank, Ledger};
+
+// What has an entry of the history is told there.
+fn line_of(answer: Result<Done, Fail<Refusal>>) -> Result<Option<Reply>, NoMemory> {
+    match answer {
+        Ok(_) => Ok(None),
+        Err(Fail::Said(Refusal::ArenaFull { .. } | Refusal::InitFailed { .. })) => Ok(None),
+        Err(Fail::Said(refusal)) => Ok(Some(Reply::Refused(refusal))),
+        Err(Fail::NoMemory) => Err(NoMemory),
+    }
+}
+
+// Room for so many bytes.
+fn room(alloc: Global, len: u32) -> Result<Vec<u8>, NoMemory>
+    ensures { IfOk result (λ bytes. length bytes.items ≡ len) }
+{
+    Ok(vec![in alloc; 0; len as usize]?)
+}
+
+fn peek(alloc: Global, proc: &Proc, place: &Place) -> Result<Option<Reply>, NoMemory> {
+    let mut bytes = room(alloc, place.len)?;
+    match proc.peek(place, bytes.as_mut_slice()) {
+        Ok(()) => Ok(Some(Reply::Bytes(Seq::from_vec(bytes)))),
+        Err(refusal) => Ok(Some(Reply::Refused(refusal))),
+    }
+}
+
+fn shared<R: Wait>(
+    rt: &R,
+    alloc: Global,
+    loader: &Loader,
+    proc: &mut Proc,
+    place: &Place,
+) -> Result<Option<Reply>, NoMemory>
+    requires { IsOf loader.now proc.old }
+    ensures { IsOf loader.now proc.new }
+{
+    let mut bytes = room(alloc, place.len)?;
+    line_of(proc.read_shared(rt, loader, place, bytes.as_mut_slice()))
+}
+
+// A touch, whose steps nobody counts.
+fn touch<R: Wait, L: Ledger>(
+    rt: &R,
+    alloc: Global,
+    loader: &Loader,
+    proc: &mut Proc,
+    place: &Place,
+    blank: Blank,
+) -> Result<Option<Reply>, NoMemory>
+    requires name { blank.name ≡ L.name }
+    requires parts { blank.parts ≡ L.parts }
+    requires some { 0 < blank.parts }
+    requires loader { IsOf loader.now proc.old }
+    ensures { IsOf loader.now proc.new }
+{
+    let mut steps: Steps<L> = Steps::of(blank);
+    match proc.touch(rt, alloc, loader, place, &mut steps) {
+        Ok(()) => Ok(Some(Reply::Fine)),
+        Err(Fail::Said(refusal)) => Ok(Some(Reply::Refused(refusal))),
+        Err(Fail::NoMemory) => Err(NoMemory),
+    }
+}
+
+/// Carries out a command, and gives the reply where it has no entry of the history. Commands of which no step is made are
+/// passed over, and so is a write of more or fewer bytes than its place is long.
+pub fn answer<R: Wait>(
+    rt: &R,
+    alloc: Global,
+    loader: &Loader,
+    proc: &mut Proc,
+    command: &Command,
+) -> Result<Option<Reply>, NoMemory>
+    requires { IsOf loader.now proc.old }
+    ensures { IsOf loader.now proc.new }
+{
+    match command {
+        Command::Load(name) => line_of(proc.load(rt, alloc, loader, name)),
+        Command::Free(name) => line_of(proc.free(rt, loader, name)),
+        Command::Exit => line_of(proc.exit(rt, loader)),
+        Command::Touch(place) => {
+            touch::<R, Brand>(rt, alloc, loader, proc, place, Blank::new(1))
+        }
+        Command::Peek(place) => peek(alloc, proc, place),
+        Command::Shared(place) => shared(rt, alloc, loader, proc, place),
+        Command::Write(place, bytes) if bytes.as_slice().len() == place.len as usize => {
+            line_of(proc.write(rt, alloc, loader, place, bytes.as_slice()))
+        }
+        Command::Debug(place, bytes) if bytes.as_slice().len() == place.len as usize => {
+            line_of(proc.debug(rt, alloc, loader, place, bytes.as_slice()))
+        }
+        _ => Ok(None),
+    }
+}
