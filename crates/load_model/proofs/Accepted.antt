@@ -39,12 +39,12 @@ unfolding enter_refusal
 nobody lib p how h = some_no_module (right_none (started_refusal p how) _ (right_none (when p.ended Ended) _ h))
 
 enter_may : (lib : Library) (e : Eager) (pid : ℕ) (how : How) (name : List ℕ) (n : Option ℕ) → number_of lib name ≡ n → enter_refusal lib (e.processes pid) how n ≡ None →
-    may_ask lib e pid (enter how (unwrap_or n 0)) ≡ true
+    may_ask lib e pid (enter how (unwrap_or n (length lib))) ≡ true
 unfolding may_ask
 enter_may lib e pid how name (Some m) is h = and_true _ _ (number_below lib name m is) (none_true _ h)
 enter_may lib e pid how name None is h = absurd (nobody lib (e.processes pid) how h)
 
-free_may : (lib : Library) (e : Eager) (pid : ℕ) (n : Option ℕ) → free_refusal (e.processes pid) n ≡ None → may_ask lib e pid (free (unwrap_or n 0)) ≡ true
+free_may : (lib : Library) (e : Eager) (pid : ℕ) (n : Option ℕ) → free_refusal (e.processes pid) n ≡ None → may_ask lib e pid (free (unwrap_or n (length lib))) ≡ true
 unfolding may_ask
 free_may lib e pid (Some m) h = none_true _ h
 free_may lib e pid None h = absurd (some_none (right_none (when (e.processes pid).ended Ended) _ h))
@@ -76,7 +76,7 @@ open_by lib e pid how place h (Some m) is (Some r) found_is =
     let inner : residence_refusal lib (e.processes pid) how place (Some r) ≡ None =
     ap (residence_refusal lib (e.processes pid) how place) (sym found_is) ∙ right_none (when (e.processes pid).ended Ended) _ h
     in
-    let same : r.«module» ≡ meant lib place.«module» = sym (ap (λ n. unwrap_or n 0) (named_is lib e pid place.«module» r found_is).1) in
+    let same : r.«module» ≡ meant lib place.«module» = sym (ap (λ n. unwrap_or n (length lib)) (named_is lib e pid place.«module» r found_is).1) in
     record {
       going = not_false _ (when_none _ Ended (left_none _ _ h));
       attached =

@@ -1,6 +1,6 @@
 -- What a process is answered without an entry is the same in two states that it cannot tell apart.
 use Rattle.std.proofs.Common.{◌≡◌, ℕ, true, List, Option, Some, None, Result, Ok, Err, refl, sym, ◌∙◌, ap}
-use Rattle.std.specs.Prelude.{unwrap_or}
+use Rattle.std.specs.Prelude.{unwrap_or, length}
 use Rattle.lx_types.specs.declared.entry.EntryKey.{EntryKey}
 use Rattle.load_model.specs.declared.commands.Command.{Command}
 use Rattle.load_model.specs.declared.commands.Command.TheVariants as commands
@@ -41,7 +41,7 @@ address_alike nest spots lib e after q name key alike fine =
     step None is h = cc
     step (Some a) is h =
         let it : (reaches lib (e.processes q) a.«module» ≡ true) × (number_of lib name ≡ Some a.«module») = named_is lib e q name a is in
-        let same : a.«module» ≡ meant lib name = sym (ap (λ n. unwrap_or n 0) it.1) in
+        let same : a.«module» ≡ meant lib name = sym (ap (λ n. unwrap_or n (length lib)) it.1) in
         spot_alike nest spots lib e after q (meant lib name) key alike (sym (ap (reaches lib (e.processes q)) same) ∙ it.0) (entry_spot lib (meant lib name) key) refl
 
 -- ---- answers

@@ -161,7 +161,7 @@ no_name lib e pid how place fine is =
 pub attached_named : (lib : Library) (e : Eager) (pid : ℕ) (name : List ℕ) (m : ℕ) → number_of lib name ≡ Some m →
     attached_residence lib e pid (meant lib name) ≡ residence_named lib e pid name
 unfolding residence_named
-attached_named lib e pid name m is = ap (λ n. attached_residence lib e pid (unwrap_or n 0)) is ∙ sym (ap (residence_if lib e pid) is)
+attached_named lib e pid name m is = ap (λ n. attached_residence lib e pid (unwrap_or n (length lib))) is ∙ sym (ap (residence_if lib e pid) is)
 
 shared_bytes : (lib : Library) (a b : Held) (e : Eager) (pid : ℕ) (place : Place) → is_among pids pid ≡ true → AgreeAt lib a b e →
     place_refusal lib e pid share place ≡ None → (n : Option ℕ) → number_of lib place.«module» ≡ n →

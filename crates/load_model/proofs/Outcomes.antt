@@ -1,6 +1,6 @@
 -- The name in a command that is not refused means a module.
 use Rattle.std.proofs.Common.{◌≡◌, ℕ, List, Option, Some, None, refl, sym, ◌∙◌, ap, subst}
-use Rattle.std.specs.Prelude.{unwrap_or}
+use Rattle.std.specs.Prelude.{unwrap_or, length}
 use Rattle.lx_types.specs.declared.entry.EntryKey.{EntryKey}
 use Rattle.load_model.specs.declared.commands.Command.TheVariants as commands
 use Rattle.load_model.specs.declared.commands.Refusal.{Refusal}
@@ -20,9 +20,9 @@ use Rattle.load_model.proofs.Accepted.{nobody}
 is_meant : (lib : Library) (name : List ℕ) → (number_of lib name ≡ None → ⊥) → number_of lib name ≡ Some (meant lib name)
 is_meant lib name known = step (number_of lib name) refl
   where
-    step : (o : Option ℕ) → number_of lib name ≡ o → number_of lib name ≡ Some (unwrap_or (number_of lib name) 0)
+    step : (o : Option ℕ) → number_of lib name ≡ o → number_of lib name ≡ Some (unwrap_or (number_of lib name) (length lib))
     step None is = absurd (known is)
-    step (Some m) is = is ∙ ap (λ n. Some (unwrap_or n 0)) (sym is)
+    step (Some m) is = is ∙ ap (λ n. Some (unwrap_or n (length lib))) (sym is)
 
 some_none : (r : Refusal) → Some r ≡ None → ⊥
 some_none r h = cc

@@ -1,6 +1,6 @@
 -- What a view answers without an entry is what the loader answers.
 use Rattle.std.proofs.Common.{◌≡◌, ℕ, zero, suc, ◌+◌, ◌-◌, ◌/◌, ◌%◌, ◌<◌, ◌≤◌, ◌==◌, ◌||◌, Bool, true, false, cond, if◌then◌else◌, not, List, [], ◌∷◌, map, find, Option, Some, None, option_map, Result, Ok, Err, refl, sym, ◌∙◌, ap, subst, arith}
-use Rattle.std.specs.Prelude.{slice_index, unwrap_or}
+use Rattle.std.specs.Prelude.{slice_index, unwrap_or, length}
 use Rattle.std.specs.List.{AllByRecursion, range_with_len}
 use Rattle.std.proofs.lemmas.Bool.{eqb-true, eqb-false}
 use Rattle.lx_types.specs.Object.{class_of}
@@ -193,7 +193,7 @@ address_by_view : OrdersNest → SpotsAreOrdered → (lib : Library) (contents :
 address_by_view nest spots lib contents v e name key view None is fine = cc
 address_by_view nest spots lib contents v e name key view (Some a) is fine =
     let it : (reaches lib (e.processes v.pid) a.«module» ≡ true) × (number_of lib name ≡ Some a.«module») = named_is lib e v.pid name a is in
-    let same : a.«module» ≡ meant lib name = sym (ap (λ n. unwrap_or n 0) it.1) in
+    let same : a.«module» ≡ meant lib name = sym (ap (λ n. unwrap_or n (length lib)) it.1) in
     by_spot (sym (ap (reaches lib (e.processes v.pid)) same) ∙ it.0) (entry_spot lib (meant lib name) key) refl
   where
     by_spot : reaches lib (e.processes v.pid) (meant lib name) ≡ true → (r : Result Spot EntryFault) → entry_spot lib (meant lib name) key ≡ r → spot_address e r ≡ view_address v r

@@ -23,9 +23,9 @@ pub data Answer : Type 0 where
 
 -- ---- commands that are not refused
 
--- the module that a name means
+-- the module that a name means; none of the library, where no module has it
 abbrev pub meant : Library → List ℕ → ℕ
-meant lib name = unwrap_or (number_of lib name) 0
+meant lib name = unwrap_or (number_of lib name) (length lib)
 
 -- the address of a spot, where its module is resident
 abbrev pub spot_address : Eager → Result Spot EntryFault → ℕ

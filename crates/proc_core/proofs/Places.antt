@@ -103,7 +103,7 @@ accepted_place fit p at k d holds accepted named =
       short = end_short v.library r.«module» at.object at.offset at.len inside size.1;
       valid = none_invalid v.library r.«module» at.object at.offset at.len span;
       serial = sym (ap serial_of (named.stay d));
-      «module» = sym (ap (λ (o : Option ℕ). unwrap_or o 0) (named.named d));
+      «module» = sym (ap (λ (o : Option ℕ). unwrap_or o (length v.library)) (named.named d));
     }
 
 -- ---- its pages

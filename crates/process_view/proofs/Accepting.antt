@@ -76,7 +76,7 @@ place_meant b v at k d stands is = record {
       ∙ sym (serial_stays (residence_named b.library (state_of b) v.holding.pid at.«module»))
       ∙ ap serial_of (named_by_view b.library (fixed_bytes b.library) v.holding (state_of b) at.«module» stands.stands.view)
       ∙ ap (λ (l : Library). serial_of (stay_named l v.holding at.«module»)) (sym stands.library) ∙ ap serial_of (is.stay d);
-  «module» = ap (λ (l : Library). unwrap_or (number_of l at.«module») 0) (sym stands.library) ∙ ap (λ (o : Option ℕ). unwrap_or o 0) (is.named d);
+  «module» = ap (λ (l : Library). unwrap_or (number_of l at.«module») (length l)) (sym stands.library) ∙ ap (λ (o : Option ℕ). unwrap_or o (length v.library)) (is.named d);
 }
 
 -- ---- behind an entry

@@ -49,7 +49,7 @@ query_spot v name key r spot e stay is = query_by v name key e ∙ ap (key_refus
 pub query_reply : (v : ProcessView) (name : List ℕ) (key : EntryKey) (r : ResidenceFor) (spot : Spot) (x : ℕ) → number_of v.library name ≡ Some r.«module» → entry_spot v.library r.«module» key ≡ Ok spot →
     x ≡ view_address v.holding (Ok spot) → view_reply v.library v.holding (commands.Query name key) ≡ Some (replies.Address x)
 query_reply v name key r spot x named is at =
-    ap (λ (m : ℕ). Some (replies.Address (view_address v.holding (entry_spot v.library m key)))) (ap (λ (o : Option ℕ). unwrap_or o 0) named)
+    ap (λ (m : ℕ). Some (replies.Address (view_address v.holding (entry_spot v.library m key)))) (ap (λ (o : Option ℕ). unwrap_or o (length v.library)) named)
     ∙ ap (λ (s : Result Spot EntryFault). Some (replies.Address (view_address v.holding s))) is ∙ ap (λ (n : ℕ). Some (replies.Address n)) (sym at)
 
 -- ---- resources
@@ -73,7 +73,7 @@ getres_found v name ty id r spot e stay is = getres_by v name ty id e ∙ ap (fo
 pub getres_reply : (v : ProcessView) (name : List ℕ) (ty id : ℕ) (r : ResidenceFor) (spot : ResSpot) → number_of v.library name ≡ Some r.«module» → resource_of v.library r.«module» ty id ≡ Some spot →
     view_reply v.library v.holding (commands.GetRes name ty id) ≡ Some (replies.Spot spot)
 getres_reply v name ty id r spot named is =
-    ap (λ (m : ℕ). Some (replies.Spot (unwrap_or (resource_of v.library m ty id) no_spot))) (ap (λ (o : Option ℕ). unwrap_or o 0) named)
+    ap (λ (m : ℕ). Some (replies.Spot (unwrap_or (resource_of v.library m ty id) no_spot))) (ap (λ (o : Option ℕ). unwrap_or o (length v.library)) named)
     ∙ ap (λ (o : Option ResSpot). Some (replies.Spot (unwrap_or o no_spot))) is
 
 -- ---- addresses

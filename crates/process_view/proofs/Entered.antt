@@ -63,8 +63,8 @@ same_number a b e = grind (arith, nat_tests)
 
 pub asked_enter : (b : Ledger) (v : ProcessView) (how : How) (name : List ℕ) (m : ℕ) → number_of b.library name ≡ Some m →
     ask_by b.library (state_for b.library b.failing v.holding b.history) v.holding.pid (enter_command how name) ≡ Some (enter how m)
-asked_enter b v ways.Start name m e = ap (λ (o : Option ℕ). Some (enter ways.Start (unwrap_or o 0))) e
-asked_enter b v ways.Load name m e = ap (λ (o : Option ℕ). Some (enter ways.Load (unwrap_or o 0))) e
+asked_enter b v ways.Start name m e = ap (λ (o : Option ℕ). Some (enter ways.Start (unwrap_or o (length b.library)))) e
+asked_enter b v ways.Load name m e = ap (λ (o : Option ℕ). Some (enter ways.Load (unwrap_or o (length b.library)))) e
 
 fits_enter : (how : How) (name : List ℕ) → FitsPlace (enter_command how name)
 fits_enter ways.Start name = tt

@@ -39,7 +39,7 @@ use Rattle.process_view.proofs.PagesStanding.{IsAttached, attached, attached_the
 
 asked_free : (b : Ledger) (v : ProcessView) (name : List ℕ) (m : ℕ) → number_of b.library name ≡ Some m →
     ask_by b.library (state_for b.library b.failing v.holding b.history) v.holding.pid (commands.Free name) ≡ Some (free m)
-asked_free b v name m e = ap (λ (o : Option ℕ). Some (free (unwrap_or o 0))) e
+asked_free b v name m e = ap (λ (o : Option ℕ). Some (free (unwrap_or o (length b.library)))) e
 
 pub accepted_free : (b : Ledger) (v : ProcessView) (name : List ℕ) (m : ℕ) → is_among pids v.holding.pid ≡ true → StandsAt b v → view_refusal v.library v.holding (commands.Free name) ≡ None →
     number_of b.library name ≡ Some m → IsAccepted b v (free m)
