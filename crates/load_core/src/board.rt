@@ -1,4 +1,4 @@
-//! The board: a stand-in, whose calls find no memory.
+//! The board: what stands behind the turns of a session's processes, and how one is made.
 
 ghost use Rattle.std.specs.Prelude.{◌≡◌, ◌<◌, ℕ, [], true, length, map, IfOk, OnOk, OnErr};
 ghost use Rattle.std.specs.Arc.{arc_value};

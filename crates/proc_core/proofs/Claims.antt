@@ -16,7 +16,8 @@ use Rattle.load_model.specs.Standing.{Holding, Mapped, mapped_pages}
 use Rattle.load_model.specs.TouchSteps.{touch_steps, mapped_steps, OthersCountNothing, FaultCounts, MappedCounts}
 use Rattle.load_core.specs.Ledger.{Ledger, IsLegal}
 use Rattle.process_view.specs.ProcessViews.{ProcessView, StandsAt, without_room}
-use Rattle.process_view.specs.Deeds.{page_with, with_page}
+use Rattle.process_pages.specs.Stays.{page_with}
+use Rattle.process_view.specs.Deeds.{with_page}
 use Rattle.proc_core.specs.Procs.{Standing, Holds, front_of, failing_in}
 use Rattle.proc_core.specs.Calls.{AreOthers}
 use Rattle.proc_core.specs.Touches.{needs_fault, page_in, IsSeenForPage, IsPage}

@@ -12,7 +12,8 @@ use Rattle.load_model.specs.Histories.{has_fault}
 use Rattle.load_model.specs.Standing.{Holding, mapped_pages}
 use Rattle.load_model.specs.TouchSteps.{touch_steps}
 use Rattle.process_view.specs.ProcessViews.{ProcessView, at_front, without_room}
-use Rattle.process_view.specs.Deeds.{CanMap, with_page, page_with, fault_of}
+use Rattle.process_view.specs.Deeds.{CanMap, with_page, fault_of}
+use Rattle.process_pages.specs.Stays.{page_with}
 use Rattle.process_view.specs.PageLaws.{PagesStand}
 use Rattle.proc_core.specs.Procs.{Standing, Holds, front_of}
 use Rattle.proc_core.specs.Calls.{AreOthers, Waited}

@@ -22,10 +22,10 @@ use Rattle.process_view.specs.ProcessViews.{ProcessView, fresh_shown}
 use Rattle.std.proofs.Common.{length}
 use Rattle.std.proofs.lemmas.Option.{slice_get-map, slice_get_read}
 use Rattle.std.proofs.lemmas.List.Quantifiers.{position-Some}
-use Rattle.process_view.specs.Kept.{residence_in, residences_in}
+use Rattle.process_pages.specs.Stays.{residence_in, residences_in}
 use Rattle.process_view.specs.Answering.{residence_with, base_if}
-use Rattle.process_view.specs.declared.stays.Stay.{Stay}
-use Rattle.process_view.proofs.Positions.{found_at_place, at_place, position_map}
+use Rattle.process_pages.specs.declared.stays.Stay.{Stay}
+use Rattle.process_pages.proofs.Positions.{found_at_place, at_place, position_map}
 use Rattle.process_view.proofs.Lookups.{HasResidences, stay_by_place}
 
 -- ---- queries

@@ -1,20 +1,17 @@
--- Bytes that are copied out of pages, run by run.
-use Rattle.std.proofs.Common.{◌≡◌, ℕ, zero, suc, ◌+◌, ◌-◌, ◌*◌, ◌/◌, ◌%◌, ◌<◌, ◌≤◌, Bool, true, false, cond, List, [], ◌∷◌, map, length, Option, Some, None, get_or, inl, inr, refl, sym, ap, ◌∙◌, arith, slice_index}
+-- Bytes that a view reads are those of its pages.
+use Rattle.std.proofs.Common.{◌≡◌, ℕ, zero, suc, ◌+◌, ◌-◌, ◌*◌, ◌/◌, ◌%◌, ◌<◌, ◌≤◌, Bool, true, false, cond, List, [], ◌∷◌, map, Option, Some, None, inl, inr, refl, sym, ap, ◌∙◌, arith, slice_index}
 use Rattle.std.specs.Prelude.{position, is_none}
 use Rattle.std.specs.List.{find, range_with_len}
-use Rattle.std.proofs.lemmas.Bool.{cases_lt}
-use Rattle.std.proofs.lemmas.Bool.Decides.{nat_tests}
 use Rattle.std.proofs.lemmas.List.Quantifiers.{position-Some}
 use Rattle.load_model.specs.Memory.{page, pages_over}
 use Rattle.load_model.specs.Modules.{Library}
 use Rattle.lx_model.specs.Library.{module_of}
 use Rattle.load_model.specs.Standing.{Mapped, Holding}
 use Rattle.load_model.specs.ViewAnswers.{is_mapped_at, bytes_in, view_byte}
-use Rattle.write_overlay.specs.Laid.{replaced}
-use Rattle.process_view.specs.PageRows.{PagePlaces, place_in, ArePlaces}
-use Rattle.process_view.specs.Answering.{bytes_at, byte_by}
-use Rattle.process_view.specs.Reading.{AreThere}
-use Rattle.process_view.proofs.Positions.{found_at_place, at_place}
+use Rattle.process_pages.specs.PageRows.{PagePlaces, place_in, ArePlaces}
+use Rattle.process_pages.specs.Reading.{bytes_at, byte_by}
+use Rattle.process_pages.specs.Reading.{AreThere}
+use Rattle.process_pages.proofs.Positions.{found_at_place, at_place}
 use Rattle.process_view.proofs.Ranges.{none_found}
 use Rattle.process_view.proofs.Insides.{IsInside, page_inside}
 use Rattle.std.proofs.Common.{◌⊎◌, option_map}
@@ -25,54 +22,17 @@ use Rattle.load_model.specs.Refusals as uses
 use Rattle.load_model.specs.Refusals.{when, ◌orelse◌}
 use Rattle.load_model.specs.ViewAnswers.{view_place_refusal, view_bytes, stay_named}
 use Rattle.process_view.specs.ProcessViews.{ProcessView}
-use Rattle.process_view.specs.Kept.{residence_in}
+use Rattle.process_pages.specs.Stays.{residence_in}
 use Rattle.process_view.specs.declared.purposes.Purpose.TheVariants as purposes
-use Rattle.process_view.specs.declared.stays.Stay.{Stay}
+use Rattle.process_pages.specs.declared.stays.Stay.{Stay}
 use Rattle.process_view.proofs.Lookups.{not_zero, IsStayAt, place_refused, span_is_inside}
 
 -- ---- lists by their numbers
-
--- a list with these numbers in turn
-pub numbers_from : (f : ℕ → ℕ) (a : ℕ) (xs : List ℕ) → ((k : ℕ) → k < length xs → get_or xs k 0 ≡ f (a + k)) → xs ≡ map f (range_with_len a (length xs))
-numbers_from f a [] h = refl
-numbers_from f a (x ∷ xs) h =
-    let first : x ≡ f a = h 0 (omega arith) ∙ ap f (omega arith) in
-    let rest = numbers_from f (a + 1) xs (λ k u. h (suc k) (omega arith) ∙ ap f (omega arith)) in
-    ap (λ (y : ℕ). y ∷ xs) first ∙ ap (λ (ys : List ℕ). f a ∷ ys) rest
 
 pub map_alike_from : {X : Type 0} (f g : ℕ → X) (a n : ℕ) → ((x : ℕ) → a ≤ x → x < a + n → f x ≡ g x) → map f (range_with_len a n) ≡ map g (range_with_len a n)
 map_alike_from f g a zero h = refl
 map_alike_from f g a (suc n) h =
     ap (λ y. y ∷ map f (range_with_len (a + 1) n)) (h a (omega arith) (omega arith)) ∙ ap (λ ys. g a ∷ ys) (map_alike_from f g (a + 1) n (λ x u v. h x (omega arith) (omega arith)))
-
--- ---- a run
-
-in_page : (at within j : ℕ) → within ≡ at % 4096 → within + j < 4096 → ((at + j) / 4096 ≡ at / 4096) × ((at + j) % 4096 ≡ within + j)
-in_page at within j e u = (omega arith, omega arith)
-
-before_run : (place : ℕ) (run before : List ℕ) (k : ℕ) → k < place → replaced place run before k ≡ slice_index before k
-before_run place run before k u = grind (arith, nat_tests)
-
-in_run : (place : ℕ) (run before : List ℕ) (k : ℕ) → place ≤ k → k < place + length run → replaced place run before k ≡ slice_index run (k - place)
-in_run place run before k u v = grind (arith, nat_tests)
-
--- what stands after a run was copied, as far as it goes
-pub run_copied :
-    (rows : PagePlaces) (mapped : List Mapped) (object offset done len within : ℕ) (bytes run before after : List ℕ) → within ≡ (offset + done) % 4096 → within + len ≤ 4096 →
-    bytes ≡ bytes_at mapped (place_in rows (page object ((offset + done) / 4096))) → length run ≡ len → ((j : ℕ) → j < len → slice_index run j ≡ slice_index bytes (within + j)) →
-    ((k : ℕ) → slice_index after k ≡ replaced done run before k) → ((i : ℕ) → i < done → slice_index before i ≡ byte_by rows mapped object (offset + i)) →
-    (i : ℕ) → i < done + len → slice_index after i ≡ byte_by rows mapped object (offset + i)
-run_copied rows mapped object offset done len within bytes run before after w fits is long cut put old i u = elim (cases_lt i done) as (λ _. slice_index after i ≡ byte_by rows mapped object (offset + i)) [
-  | inl earlier ↦ put i ∙ before_run done run before i earlier ∙ old i earlier
-  | inr here ↦
-      let j : ℕ = i - done in
-      let at : offset + done + (i - done) ≡ offset + i = omega arith in
-      let same = in_page (offset + done) within (i - done) w (omega arith) in
-      put i ∙ in_run done run before i here (omega (arith, long)) ∙ cut (i - done) (omega arith) ∙ ap (λ (bs : List ℕ). slice_index bs (within + (i - done))) is
-      ∙ ap (λ (q : ℕ). slice_index (bytes_at mapped (place_in rows (page object q))) (within + (i - done))) (sym same.0)
-      ∙ ap (λ (r : ℕ). slice_index (bytes_at mapped (place_in rows (page object ((offset + done + (i - done)) / 4096)))) r) (sym same.1)
-      ∙ ap (λ (x : ℕ). byte_by rows mapped object x) at
-]
 
 -- ---- all that a view has mapped
 

@@ -29,7 +29,7 @@ use Rattle.process_view.specs.ProcessViews.{ProcessView, StandsAt, at_front}
 use Rattle.process_view.specs.Answering.{IsStayNamed}
 use Rattle.process_view.specs.Deeds.{Did, with_write, IsAskedAt, IsWriteTo, IsInClass}
 use Rattle.process_view.proofs.Accepting.{IsAccepted, IsMeant, accepted, place_meant, quiet_behind, shown_behind}
-use Rattle.process_view.proofs.Writes.{pages_stay}
+use Rattle.process_pages.proofs.Writes.{pages_stay}
 use Rattle.process_view.proofs.Lookups.{place_by_residence}
 
 -- ---- an entry that changes nothing which the view has

@@ -46,6 +46,7 @@ use Rattle.load_model.proofs.ViewLoads.{entering_process, attached_grows}
 use Rattle.load_model.proofs.ViewReplies.{residence_is, attached_is_resident}
 use Rattle.load_core.specs.Ledger.{Ledger, IsLegal, MayAsk, state_of, entry_of, with_entry}
 use Rattle.load_core.specs.Told.{residence_shown}
+use Rattle.process_pages.proofs.Placing.{same_number}
 use Rattle.process_view.specs.ProcessViews.{ProcessView, StandsAt, AreShown, fresh_shown, at_front}
 use Rattle.process_view.specs.Answering.{enter_command}
 use Rattle.process_view.specs.Deeds.{Did}
@@ -55,9 +56,6 @@ use Rattle.process_view.proofs.PagesStanding.{attached}
 
 pub self : (n : ℕ) → (n == n) ≡ true
 self n = grind (arith, nat_tests)
-
-pub same_number : (a b : ℕ) → (a == b) ≡ true → a ≡ b
-same_number a b e = grind (arith, nat_tests)
 
 -- ---- what is asked
 

@@ -31,7 +31,8 @@ use Rattle.load_core.specs.Told.{residence_shown}
 use Rattle.process_view.specs.ProcessViews.{ProcessView, StandsAt, AreShown, fresh_shown, at_front, freed_view}
 use Rattle.process_view.specs.Deeds.{Did}
 use Rattle.process_view.proofs.Accepting.{IsAccepted, accepted, shown_of, shown_alike, stay_resident}
-use Rattle.process_view.proofs.Entered.{self, same_number, resident_by, found}
+use Rattle.process_view.proofs.Entered.{self, resident_by, found}
+use Rattle.process_pages.proofs.Placing.{same_number}
 use Rattle.process_view.proofs.Left.{left_view, did_left, state_left, process_left, unattached}
 use Rattle.process_view.proofs.PagesStanding.{IsAttached, attached, attached_there}
 

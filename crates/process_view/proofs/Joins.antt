@@ -27,8 +27,8 @@ use Rattle.load_model.proofs.ViewReplies.{attached_is_resident}
 use Rattle.load_core.specs.Ledger.{Ledger, state_of, entry_of}
 use Rattle.load_core.specs.Told.{residence_shown}
 use Rattle.process_view.specs.ProcessViews.{ProcessView, StandsAt}
-use Rattle.process_view.specs.Kept.{AreApart}
-use Rattle.process_view.specs.PageRows.{PagePlaces}
+use Rattle.process_pages.specs.Stays.{AreApart}
+use Rattle.process_pages.specs.PageRows.{PagePlaces}
 use Rattle.process_view.specs.Joining.{AreEmpty, CanJoin, IsNewTo, modules_of}
 use Rattle.process_view.proofs.Entered.{IsDoneAs, joined_is, reaches_on, found, resident_by, new_stay_apart, new_page_unmapped, self}
 

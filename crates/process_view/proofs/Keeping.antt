@@ -11,11 +11,12 @@ use Rattle.load_model.specs.Rows.{Row}
 use Rattle.load_model.specs.Memory.{page}
 use Rattle.load_model.specs.Standing.{Mapped}
 use Rattle.load_model.specs.Touched.{has_page}
-use Rattle.process_view.specs.PageRows.{HaveNone}
-use Rattle.process_view.specs.Kept.{residence_in, residences_in, IsPlaced, AreApart}
+use Rattle.process_pages.specs.PageRows.{HaveNone}
+use Rattle.process_pages.specs.Stays.{residence_in, residences_in, IsPlaced, AreApart}
 use Rattle.process_view.specs.Deeds.{with_stay}
-use Rattle.process_view.specs.declared.stays.Stay.{Stay}
-use Rattle.process_view.proofs.Mapping.{not_placed, view_made}
+use Rattle.process_pages.specs.declared.stays.Stay.{Stay}
+use Rattle.process_pages.proofs.Mapping.{not_placed}
+use Rattle.process_view.proofs.Mapping.{view_made}
 
 pairs_push : {X : Type 0} (R : X → X → Type 0) (xs : List X) (y : X) → AllPairs R xs → All (λ x. R x y) xs → AllPairs R (xs ++ y ∷ [])
 pairs_push R [] y h all = λ i j d below within. absurd (omega (arith, below, within))

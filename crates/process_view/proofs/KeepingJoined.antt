@@ -5,7 +5,7 @@ use Rattle.lx_types.specs.declared.parts.Parts.{Parts}
 use Rattle.lx_model.specs.Library.{module_of}
 use Rattle.page_frames.specs.Residences.{ResidenceFor}
 use Rattle.process_view.specs.ProcessViews.{ProcessView, fresh_shown}
-use Rattle.process_view.specs.PageRows.{PagePlaces, HaveNone}
+use Rattle.process_pages.specs.PageRows.{PagePlaces, HaveNone}
 use Rattle.process_view.specs.Deeds.{with_stay}
 use Rattle.process_view.specs.Joining.{AreEmpty, IsNewTo, CanJoin, modules_of, with_stays}
 

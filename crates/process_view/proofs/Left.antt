@@ -22,8 +22,8 @@ use Rattle.load_model.proofs.Growing.{one_more_is_after}
 use Rattle.load_model.proofs.ViewLeaving.{given_up}
 use Rattle.load_core.specs.Ledger.{Ledger, IsLegal, state_of, entry_of, with_entry}
 use Rattle.process_view.specs.ProcessViews.{ProcessView, StandsAt, AreShown, fresh_shown, at_front}
-use Rattle.process_view.specs.Kept.{AreApart, residences_in}
-use Rattle.process_view.specs.declared.stays.Stay.{Stay}
+use Rattle.process_pages.specs.Stays.{AreApart, residences_in}
+use Rattle.process_pages.specs.declared.stays.Stay.{Stay}
 use Rattle.process_view.specs.Deeds.{Did}
 use Rattle.process_view.proofs.Accepting.{IsAccepted, accepted}
 

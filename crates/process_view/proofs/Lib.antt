@@ -1,6 +1,5 @@
-pub mod RowLists
+pub mod NewViews
 pub mod Ranges
-pub mod Positions
 pub mod Insides
 pub mod Lookups
 pub mod Copies
@@ -8,7 +7,6 @@ pub mod Asking
 pub mod Mapping
 pub mod PagesStanding
 pub mod Accepting
-pub mod Writes
 pub mod Did
 pub mod SharedReads
 pub mod Classes
@@ -18,7 +16,6 @@ pub mod Freed
 pub mod Keeping
 pub mod KeepingJoined
 pub mod Claims
-pub mod Placing
 pub mod Loads
 pub mod Counted
 pub mod Joins

@@ -5,9 +5,6 @@ use Rattle.std.specs.List.{find, list_any, range_with_len}
 use Rattle.std.proofs.lemmas.Option.{slice_get-map, slice_get-get_or}
 use Rattle.std.proofs.lemmas.List.Quantifiers.{position-Some}
 use Rattle.std.proofs.lemmas.Bool.Decides.{nat_tests}
-use Rattle.lx_types.specs.Object.{pages_of}
-use Rattle.lx_types.specs.Parts.{object_of}
-use Rattle.lx_types.specs.Sound.{IsNumberOf}
 use Rattle.lx_types.specs.declared.parts.Parts.{Parts}
 use Rattle.lx_model.specs.Library.{module_of}
 use Rattle.page_frames.specs.Residences.{ResidenceFor}
@@ -21,18 +18,20 @@ use Rattle.load_model.specs.Entering.{residence_from}
 use Rattle.load_model.specs.Memory.{is_page, page, pages_over}
 use Rattle.load_model.specs.Refusals.{Purpose, when, ◌orelse◌, is_outside, span_refusal, touch_refusal}
 use Rattle.load_model.specs.Standing.{Mapped, Holding}
-use Rattle.load_model.specs.ViewAnswers.{seen_process, stay_named, stay_if, is_mapped_at, view_place_refusal}
+use Rattle.load_model.specs.ViewAnswers.{seen_process, stay_named, stay_if, view_place_refusal}
+use Rattle.process_pages.proofs.Placing.{same_number}
 use Rattle.process_view.specs.ProcessViews.{ProcessView, fresh_shown}
-use Rattle.process_view.specs.PageRows.{PagePlaces, place_in, ArePlaces}
+use Rattle.process_pages.specs.PageRows.{PagePlaces, place_in, ArePlaces}
 use Rattle.process_view.specs.Purposes.{purpose_of}
 use Rattle.process_view.specs.declared.purposes.Purpose.TheVariants as purposes
 use Rattle.process_view.specs.declared.purposes.Purpose as declared
 use Rattle.process_view.specs.Answering.{IsStayNamed, touch_refusal_by}
 use Rattle.std.proofs.lemmas.List.Elements.{All-get_or}
-use Rattle.process_view.specs.Kept.{IsPlaced, residence_in, residences_in}
-use Rattle.process_view.specs.declared.stays.Stay.{Stay}
+use Rattle.process_pages.specs.Stays.{IsPlaced, residence_in, residences_in}
+use Rattle.process_pages.specs.declared.stays.Stay.{Stay}
 use Rattle.std.proofs.lemmas.List.{length-map, get_or-map}
-use Rattle.process_view.proofs.Positions.{found_at_place, at_place, position_map, any_is_position, any_map}
+use Rattle.process_pages.proofs.Positions.{found_at_place, at_place, position_map}
+use Rattle.process_pages.proofs.Mapping.{mapped_by_place}
 use Rattle.process_view.proofs.Ranges.{find_alike_from}
 use Rattle.process_view.proofs.Insides.{IsInside, bytes_inside, page_inside}
 
@@ -61,9 +60,6 @@ named_is v name m place has e p =
     ∙ ap (option_map residence_from) (stay_by_place v.residences m)
     ∙ ap (λ (o : Option ℕ). option_map residence_from (option_map fresh_shown (at_place (λ (r : ResidenceFor). r.«module» == m) v.residences o))) (sym p)
 
-same_number : (a b : ℕ) → (a == b) ≡ true → a ≡ b
-same_number a b e = grind (arith, nat_tests)
-
 pub named_by_place : (v : ProcessView) (name : List ℕ) (m : ℕ) (place : Option ℕ) → HasResidences v → number_of v.library name ≡ Some m → place ≡ position (λ (r : ResidenceFor). r.«module» == m) v.residences →
     MatchOption place (stay_named v.library v.holding name ≡ None) (IsStayNamed v name)
 named_by_place v name m None has e p = named_is v name m None has e p
@@ -82,13 +78,6 @@ pub no_name : (v : ProcessView) (name : List ℕ) → number_of v.library name �
 no_name v name e = ap (stay_if v.holding) e
 
 -- ---- pages
-
--- a page of the residence is mapped exactly where it has a place
-pub mapped_by_place : (m : Parts) (serial : ℕ) (rows : PagePlaces) (mapped : List Mapped) (object n : ℕ) → ArePlaces m serial rows mapped → IsNumberOf object (length m.objects) → n < pages_of (object_of m object) →
-    list_any (λ (t : PageOf). (t.serial == serial) && is_page t.page (page object n)) (map (λ (p : Mapped). p.of) mapped) ≡ is_some (place_in rows (page object n))
-mapped_by_place m serial rows mapped object n are there within =
-    any_map (λ (t : PageOf). (t.serial == serial) && is_page t.page (page object n)) (λ (p : Mapped). p.of) mapped
-    ∙ any_is_position (is_mapped_at serial (page object n)) mapped ∙ ap (λ (o : Option ℕ). is_some o) (sym (are object n there within))
 
 none_is_not : (o : Option ℕ) → is_none o ≡ not (is_some o)
 none_is_not None = refl

@@ -31,7 +31,7 @@ use Rattle.process_view.proofs.Lookups.{not_zero}
 use Rattle.load_core.specs.Ledger.{Ledger, state_of}
 use Rattle.load_core.specs.Told.{residence_shown}
 use Rattle.process_view.specs.ProcessViews.{ProcessView, StandsAt, AreShown, fresh_shown}
-use Rattle.process_view.specs.Deeds.{page_with}
+use Rattle.process_pages.specs.Stays.{page_with}
 
 -- ---- residences
 

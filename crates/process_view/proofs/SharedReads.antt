@@ -31,6 +31,7 @@ use Rattle.load_model.proofs.Bools.{and_left, and_right}
 use Rattle.load_model.proofs.SerialsOwn.{serials_are_own}
 use Rattle.load_core.specs.Ledger.{Ledger, IsLegal, MayAsk, state_of, entry_of, with_entry}
 use Rattle.load_core.specs.Told.{fixed_run, read_run}
+use Rattle.process_pages.proofs.Placing.{same_number}
 use Rattle.process_view.specs.ProcessViews.{ProcessView, StandsAt, at_front}
 use Rattle.process_view.specs.Answering.{IsStayNamed}
 use Rattle.process_view.specs.Deeds.{Did, IsAskedAt, bytes_read}
@@ -39,7 +40,7 @@ use Rattle.process_view.proofs.Copies.{map_alike_from}
 use Rattle.process_view.proofs.Did.{by_stay, found_none, no_page, nothing, still_going, did_quiet}
 use Rattle.process_view.proofs.Lookups.{place_by_residence, span_is_inside}
 use Rattle.process_view.proofs.PagesStanding.{IsAttached, attached, attached_there, module_is, over_at}
-use Rattle.process_view.proofs.Positions.{any_map}
+use Rattle.process_pages.proofs.Positions.{any_map}
 
 -- ---- a mapped page
 
@@ -55,9 +56,6 @@ some_finds p (x ∷ xs) P e all = by_test (p x) refl (λ u. some_finds p xs P u 
 
 same_page : (a b : PageId) → is_page a b ≡ true → (a.object ≡ b.object) × (a.page ≡ b.page)
 same_page a b e = grind (arith, nat_tests)
-
-same_number : (a b : ℕ) → (a == b) ≡ true → a ≡ b
-same_number a b e = grind (arith, nat_tests)
 
 -- a byte of a shared page that is mapped
 shared_byte : (b : Ledger) (v : ProcessView) (r : ResidenceFor) (a : Residence) (object x : ℕ) → IsLegal b → StandsAt b v → IsAttached b v r a → has_page (mapped_pages v.holding) r.serial (page object (x / 4096)) ≡ true →

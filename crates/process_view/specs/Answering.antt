@@ -1,6 +1,5 @@
 -- What a view finds by its arrays.
-use Rattle.std.specs.Prelude.{◌≡◌, ℕ, ◌<◌, ◌/◌, ◌%◌, ◌==◌, List, [], length, find, Option, Some, None, option_map, is_none, slice_get, slice_index, slice_index_or}
-use Rattle.lx_types.specs.declared.object.TheConstants.{PAGE_SIZE}
+use Rattle.std.specs.Prelude.{◌≡◌, ℕ, ◌<◌, ◌==◌, List, length, find, Option, Some, None, option_map, is_none, slice_index_or}
 use Rattle.page_frames.specs.Residences.{ResidenceFor}
 use Rattle.load_model.specs.declared.commands.Command.{Command}
 use Rattle.load_model.specs.declared.commands.Command.TheVariants as commands
@@ -13,11 +12,10 @@ use Rattle.lx_model.specs.Fixed.{base_of}
 use Rattle.load_model.specs.Modules.{Spot, number_of}
 use Rattle.load_model.specs.Memory.{page, pages_over}
 use Rattle.load_model.specs.Entering.{residence_from}
-use Rattle.load_model.specs.Standing.{Mapped}
-use Rattle.load_model.specs.ViewAnswers.{bytes_in, stay_named}
+use Rattle.load_model.specs.ViewAnswers.{stay_named}
 use Rattle.process_view.specs.declared.purposes.Purpose.{Purpose}
 use Rattle.process_view.specs.declared.purposes.Purpose.TheVariants as purposes
-use Rattle.process_view.specs.PageRows.{PagePlaces, place_in}
+use Rattle.process_pages.specs.PageRows.{PagePlaces, place_in}
 use Rattle.process_view.specs.ProcessViews.{ProcessView, fresh_shown}
 
 -- a start or a load, by name
@@ -52,12 +50,3 @@ touch_refusal_by purposes.Write rows at = unmapped_refusal rows at
 touch_refusal_by purposes.Share rows at = unmapped_refusal rows at
 touch_refusal_by purposes.Peek rows at = unmapped_refusal rows at
 touch_refusal_by purposes.Debug rows at = unmapped_refusal rows at
-
--- the bytes of the page at a place
-abbrev pub bytes_at : List Mapped → Option ℕ → List ℕ
-bytes_at mapped None = []
-bytes_at mapped (Some k) = bytes_in (slice_get mapped k)
-
--- a byte of an object
-abbrev pub byte_by : PagePlaces → List Mapped → ℕ → ℕ → ℕ
-byte_by rows mapped object x = slice_index (bytes_at mapped (place_in rows (page object (x / PAGE_SIZE)))) (x % PAGE_SIZE)

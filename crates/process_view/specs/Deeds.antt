@@ -9,6 +9,7 @@ use Rattle.lx_model.specs.ModuleBytes.{fixed_page}
 use Rattle.page_fix.specs.Fixable.{is_fixable}
 use Rattle.load_model.specs.Touched.{has_page}
 use Rattle.page_frames.specs.Residences.{ResidenceFor}
+use Rattle.process_pages.specs.Stays.{page_with}
 use Rattle.load_model.specs.declared.commands.Command.{Command}
 use Rattle.load_model.specs.Modules.{fixed_bytes}
 use Rattle.load_model.specs.Asks.{Ask}
@@ -20,7 +21,7 @@ use Rattle.load_model.specs.ViewLaws.{written_over}
 use Rattle.load_model.specs.Step.{ask_by}
 use Rattle.load_model.specs.Histories.{Follows, has_fault}
 use Rattle.load_model.specs.Touched.{touched_behind}
-use Rattle.load_model.specs.Standing.{Mapped, mapped_pages, state_for}
+use Rattle.load_model.specs.Standing.{mapped_pages, state_for}
 use Rattle.load_model.specs.Outcomes.{Outcome, done, told, IsTold}
 use Rattle.lx_types.specs.declared.fail.Fail.{Fail}
 use Rattle.lx_types.specs.declared.fail.Fail.TheVariants.{Said, NoMemory}
@@ -36,10 +37,6 @@ use Rattle.load_core.specs.Ledger.{Ledger, IsLegal, state_of, entry_of, with_ent
 use Rattle.load_core.specs.declared.answers.Claim.{Claim}
 use Rattle.load_core.specs.declared.answers.Claim.TheVariants as claims
 use Rattle.process_view.specs.ProcessViews.{ProcessView, StandsAt, without_room, fresh_shown, at_front}
-
--- a page of a residence, with bytes
-abbrev pub page_with : ResidenceFor → PageId → List ℕ → Mapped
-page_with r p bytes = record { of = record { serial = r.serial; page = p }; bytes = bytes }
 
 -- the view with one page more, in its room
 abbrev pub with_page : ResidenceFor → PageId → List ℕ → ProcessView → ProcessView

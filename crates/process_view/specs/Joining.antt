@@ -7,8 +7,8 @@ use Rattle.page_frames.specs.Residences.{ResidenceFor}
 use Rattle.load_model.specs.Standing.{mapped_pages}
 use Rattle.load_model.specs.Touched.{has_page}
 use Rattle.process_view.specs.ProcessViews.{ProcessView, fresh_shown}
-use Rattle.process_view.specs.PageRows.{PagePlaces, HaveNone}
-use Rattle.process_view.specs.Kept.{AreApart}
+use Rattle.process_pages.specs.PageRows.{PagePlaces, HaveNone}
+use Rattle.process_pages.specs.Stays.{AreApart}
 
 -- the rows of modules, in their order, none of which has a page mapped
 pub record AreEmpty (lib : List Parts) (modules : List ℕ) (rows : List PagePlaces) : Type 0 where

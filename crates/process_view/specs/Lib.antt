@@ -1,9 +1,7 @@
 pub mod ProcessViews
 pub mod Purposes
-pub mod PageRows
 pub mod Kept
 pub mod Answering
-pub mod Reading
 pub mod Counting
 pub mod Deeds
 pub mod Joining

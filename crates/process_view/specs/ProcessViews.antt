@@ -1,14 +1,15 @@
 -- A process's own view of a loader, and the histories that it stands for.
 use Rattle.std.specs.Prelude.{◌≡◌, ℕ, ◌==◌, Bool, List, [], map, filter, find}
-use Rattle.std.specs.List.{AllByRecursion, list_any}
+use Rattle.std.specs.List.{AllByRecursion}
 use Rattle.lx_types.specs.declared.parts.Parts.{Parts}
 use Rattle.lx_model.specs.Fixed.{bases_of}
 use Rattle.page_frames.specs.Residences.{ResidenceFor}
 use Rattle.load_model.specs.declared.deeds.Fresh.{Fresh}
 use Rattle.load_model.specs.Modules.{Library, fixed_bytes}
 use Rattle.load_model.specs.State.{Eager}
-use Rattle.load_model.specs.Standing.{Holding, Mapped, StandsFor, new_holding}
+use Rattle.load_model.specs.Standing.{Holding, StandsFor, new_holding}
 use Rattle.load_model.specs.Rows.{Row}
+use Rattle.process_pages.specs.Stays.{pages_with}
 use Rattle.load_core.specs.Ledger.{Ledger, state_of}
 use Rattle.load_core.specs.Told.{residence_shown}
 
@@ -47,10 +48,6 @@ pub record StandsAt (b : Ledger) (v : ProcessView) : Type 0 where
   pub stays : v.holding.stays ≡ map fresh_shown v.residences
   pub stands : StandsFor b.library b.failing (fixed_bytes b.library) v.holding b.history
   pub shown : AreShown b.library (state_of b) v.residences
-
--- the pages of some residences
-abbrev pub pages_with : List ResidenceFor → List Mapped → List Mapped
-pages_with rs ps = filter (λ (p : Mapped). list_any (λ (r : ResidenceFor). r.serial == p.of.serial) rs) ps
 
 -- the view that keeps the residences of the modules which pass, with their pages
 abbrev pub freed_view : ProcessView → (ℕ → Bool) → Row → ℕ → ℕ → ProcessView

@@ -6,13 +6,12 @@ ghost use Rattle.lx_types.specs.declared.object.PageId.{PageId};
 ghost use Rattle.lx_model.specs.Library.{module_of};
 ghost use Rattle.load_model.specs.Standing.{mapped_pages};
 ghost use Rattle.load_model.specs.Touched.{has_page};
-ghost use Rattle.process_view.specs.PageRows.{HaveNone};
+ghost use Rattle.process_pages.specs.PageRows.{HaveNone};
 ghost use Rattle.process_view.specs.Deeds.{with_stay};
 
-use crate::page_rows::PageRows;
-use crate::stays::Stay;
 use crate::view::View;
 use page_frames::Residence;
+use process_pages::{PageRows, Stay};
 use std::sync::Arc;
 
 impl View {

@@ -5,10 +5,10 @@ ghost use Rattle.std.specs.Arc.{arc_value};
 ghost use Rattle.process_view.specs.ProcessViews.{fresh_shown};
 ghost use Rattle.process_view.specs.Joining.{AreEmpty, CanJoin, modules_of, with_stays};
 
-use crate::page_rows::PageRows;
 use crate::view::View;
 use lx_types::NoMemory;
 use page_frames::Residence;
+use process_pages::PageRows;
 use std::alloc::Global;
 use std::sync::Arc;
 

@@ -8,18 +8,17 @@ ghost use Rattle.load_model.specs.Modules as modules;
 ghost use Rattle.load_model.specs.Memory.{page};
 ghost use Rattle.load_model.specs.ViewAnswers.{view_refusal, view_place_refusal, view_module_refusal, stay_named};
 ghost use Rattle.process_view.specs.Purposes.{purpose_of};
-ghost use Rattle.process_view.specs.PageRows.{place_in};
+ghost use Rattle.process_pages.specs.PageRows.{place_in};
 ghost use Rattle.process_view.specs.Answering.{enter_command, touch_refusal_by, IsStayNamed};
 
-use crate::page_rows::PageRows;
 use crate::purposes::Purpose;
 use crate::spans::{Span, span_of, span_refusal};
-use crate::stays::stay_place;
 use crate::view::View;
 use hold_rows::Holder;
 use load_model::{How, Place, Refusal};
 use lx_types::{Name, PageId};
 use mod_graph::{Health, Library};
+use process_pages::{PageRows, stay_place};
 
 /// How many loads of one module a process may hold.
 const MOST_LOADS: u32 = 65535;

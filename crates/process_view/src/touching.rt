@@ -13,12 +13,12 @@ ghost use Rattle.load_model.specs.Touched.{has_page};
 ghost use Rattle.load_model.specs.Standing.{mapped_pages};
 ghost use Rattle.process_view.specs.Deeds.{with_page};
 
-use crate::own_page::OwnPage;
 use crate::spans::class_of;
 use crate::view::View;
 use lx_types::{Class, NoMemory, PageId};
 use page_fix::{FixRight, Steps, fix_page, fix_private};
 use page_frames::Residence;
+use process_pages::OwnPage;
 use std::sync::Wait;
 use std::sync::ledger::Ledger;
 

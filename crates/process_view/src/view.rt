@@ -5,11 +5,10 @@ ghost use Rattle.std.specs.Arc.{arc_value};
 ghost use Rattle.load_model.specs.State.{pids, is_among};
 ghost use Rattle.process_view.specs.ProcessViews.{at_front, new_view};
 
-use crate::own_page::OwnPage;
-use crate::stays::Stay;
 use hold_rows::Holder;
 use load_core::Board;
 use mod_graph::Library;
+use process_pages::{OwnPage, Stay};
 use std::alloc::Global;
 use std::marker::Model;
 use std::sync::Arc;

@@ -1,34 +1,15 @@
 //! Bytes that a process writes, and shared bytes that it reads.
 
-ghost use Rattle.std.specs.Prelude.{◌≡◌, ◌==◌, IfOk, OnOk, OnErr, None, map, length};
+ghost use Rattle.std.specs.Prelude.{◌≡◌, IfOk, OnOk, OnErr, None, length};
 ghost use Rattle.lx_types.specs.declared.object.Class.TheVariants as classes;
-ghost use Rattle.load_model.specs.ViewLaws.{over_page, written_over};
 ghost use Rattle.process_view.specs.Deeds.{with_write};
 
-use crate::own_page::OwnPage;
 use crate::view::View;
 use load_core::Board;
 use load_model::{Place, residences_stay, views_stand};
 use lx_types::{Class, NoMemory};
+use process_pages::put_all;
 use write_overlay::Write;
-
-// Puts a write into a page, where it is of the object and the residence.
-fn put_one(page: &mut OwnPage, serial: u64, write: &Write)
-    ensures { page.new ≡ written_over serial write.now page.old }
-{
-    if page.serial() == serial && page.page().object == write.object() {
-        page.put(write);
-    }
-}
-
-// Puts a write into those of the pages that are of its object in a residence.
-fn put_all(pages: &mut [OwnPage], serial: u64, write: &Write)
-    ensures { pages.new ≡ map (written_over serial write.now) pages.old }
-{
-    for k in 0..pages.len() {
-        put_one(&mut pages[k], serial, write);
-    }
-}
 
 impl View {
     // Puts a write of the process's own into its pages. It looks at each page that is mapped.

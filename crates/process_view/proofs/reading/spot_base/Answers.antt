@@ -2,8 +2,8 @@ use Rattle.std.proofs.Common.{◌≡◌, ◌∙◌, ℕ, sym, ap}
 use Rattle.lx_types.specs.declared.bases.Bases.{Bases}
 use Rattle.lx_model.specs.Fixed.{base_of}
 use Rattle.page_frames.specs.Residences.{ResidenceFor}
-use Rattle.process_view.specs.Kept.{residence_in}
-use Rattle.process_view.specs.declared.stays.Stay.{Stay}
+use Rattle.process_pages.specs.Stays.{residence_in}
+use Rattle.process_pages.specs.declared.stays.Stay.{Stay}
 use Rattle.process_view.specs.Answering.{base_if}
 use Rattle.process_view.proofs.Asking.{residence_at, no_residence}
 use Rattle.process_view.proofs.reading.spot_base.Goals as goal

@@ -1,7 +1,7 @@
 use Rattle.std.proofs.Common.{◌≡◌, ◌∙◌, ℕ, Bool, Option, Some, None, true, false, not, ap, sym, refl, arith}
 use Rattle.std.specs.Prelude.{is_none, is_some}
 use Rattle.load_model.specs.Memory.{page}
-use Rattle.process_view.specs.PageRows.{place_in}
+use Rattle.process_pages.specs.PageRows.{place_in}
 use Rattle.process_view.proofs.Ranges.{find_none_between, find_some_between, one_more}
 use Rattle.process_view.proofs.refusing.first_unmapped.Goals as goal
 

@@ -1,7 +1,7 @@
 use Rattle.std.proofs.Common.{◌≡◌, ◌<◌, ◌≤◌, ℕ, false}
 use Rattle.std.specs.Prelude.{is_none}
 use Rattle.load_model.specs.Memory.{page}
-use Rattle.process_view.specs.PageRows.{place_in}
+use Rattle.process_pages.specs.PageRows.{place_in}
 use Rattle.process_view.proofs.refusing.first_unmapped.Given as goal
 
 abbrev pub invariant-loop-page : goal.invariant-loop-page

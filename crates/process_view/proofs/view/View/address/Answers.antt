@@ -2,9 +2,10 @@ use Rattle.std.proofs.Common.{◌≡◌, ◌∙◌, ℕ, List, Ok, refl, sym, ap
 use Rattle.lx_types.specs.Addresses.{address}
 use Rattle.load_model.specs.ViewAnswers.{view_address}
 use Rattle.process_view.specs.ProcessViews.{ProcessView}
-use Rattle.process_view.specs.Kept.{view_of, residences_in}
+use Rattle.process_view.specs.Kept.{view_of}
+use Rattle.process_pages.specs.Stays.{residences_in}
 use Rattle.process_view.specs.Answering.{base_if, residence_with}
-use Rattle.process_view.specs.declared.stays.Stay.{Stay}
+use Rattle.process_pages.specs.declared.stays.Stay.{Stay}
 use Rattle.process_view.proofs.Asking.{address_by_residence}
 use Rattle.process_view.proofs.view.View.address.Goals as goal
 

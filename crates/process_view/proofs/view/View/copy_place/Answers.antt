@@ -6,8 +6,9 @@ use Rattle.load_model.specs.Standing.{Mapped}
 use Rattle.load_model.specs.ViewAnswers.{view_place_refusal, view_bytes, stay_named}
 use Rattle.process_view.specs.ProcessViews.{ProcessView}
 use Rattle.process_view.specs.Kept.{view_of}
-use Rattle.process_view.specs.Answering.{IsStayNamed, byte_by}
-use Rattle.process_view.specs.Reading.{AreThere}
+use Rattle.process_view.specs.Answering.{IsStayNamed}
+use Rattle.process_pages.specs.Reading.{byte_by}
+use Rattle.process_pages.specs.Reading.{AreThere}
 use Rattle.process_view.proofs.Lookups.{stay_there}
 use Rattle.process_view.proofs.Copies.{is_readable, readable_there, readable_bytes}
 use Rattle.process_view.proofs.view.View.copy_place.Goals as goal

@@ -11,9 +11,10 @@ use Rattle.page_frames.specs.Residences.{ResidenceFor}
 use Rattle.load_model.specs.Touched.{has_page}
 use Rattle.load_model.specs.Standing.{mapped_pages}
 use Rattle.process_view.specs.ProcessViews.{ProcessView}
-use Rattle.process_view.specs.Kept.{view_of, residence_in, IsPlaced}
-use Rattle.process_view.specs.declared.stays.Stay.{Stay}
-use Rattle.process_view.proofs.Mapping.{mapped_as_placed}
+use Rattle.process_view.specs.Kept.{view_of}
+use Rattle.process_pages.specs.Stays.{residence_in, IsPlaced}
+use Rattle.process_pages.specs.declared.stays.Stay.{Stay}
+use Rattle.process_pages.proofs.Mapping.{mapped_as_placed}
 use Rattle.process_view.proofs.view.View.is_mapped.Goals as goal
 
 pub returns : goal.returns

@@ -12,12 +12,15 @@ use Rattle.page_frames.specs.Residences.{ResidenceFor}
 use Rattle.load_model.specs.Touched.{has_page}
 use Rattle.load_model.specs.Standing.{Mapped, mapped_pages}
 use Rattle.load_model.specs.ViewAnswers.{is_mapped_at}
-use Rattle.process_view.specs.PageRows.{with_place}
+use Rattle.process_pages.specs.PageRows.{with_place}
 use Rattle.process_view.specs.ProcessViews.{ProcessView}
-use Rattle.process_view.specs.Deeds.{page_with, with_page}
-use Rattle.process_view.specs.Kept.{view_of, residence_in, residences_in, IsPlaced, AreApart}
-use Rattle.process_view.specs.declared.stays.Stay.{Stay}
-use Rattle.process_view.proofs.Mapping.{not_placed, placed_with, page_kept, residences_set}
+use Rattle.process_pages.specs.Stays.{page_with}
+use Rattle.process_view.specs.Deeds.{with_page}
+use Rattle.process_view.specs.Kept.{view_of}
+use Rattle.process_pages.specs.Stays.{residence_in, residences_in, IsPlaced, AreApart}
+use Rattle.process_pages.specs.declared.stays.Stay.{Stay}
+use Rattle.process_pages.proofs.Mapping.{not_placed, placed_with, residences_set}
+use Rattle.process_view.proofs.Mapping.{page_kept}
 use Rattle.process_view.proofs.view.View.keep_page.Goals as goal
 
 get_residence : (stays : List Stay) (k : ℕ) (s t : Stay) → k < length stays → s ≡ get_or stays k s → residence_in t ≡ residence_in s → residence_in t ≡ residence_in (get_or stays k t)

@@ -6,10 +6,10 @@ use Rattle.lx_types.specs.declared.object.PageId.{PageId}
 use Rattle.lx_model.specs.Library.{module_of}
 use Rattle.load_model.specs.Standing.{mapped_pages}
 use Rattle.load_model.specs.Touched.{has_page}
-use Rattle.process_view.specs.PageRows.{HaveNone}
+use Rattle.process_pages.specs.PageRows.{HaveNone}
 use Rattle.process_view.specs.ProcessViews.{ProcessView}
-use Rattle.process_view.specs.Kept.{residences_in, IsPlaced, AreApart}
-use Rattle.process_view.specs.declared.stays.Stay.{Stay}
+use Rattle.process_pages.specs.Stays.{residences_in, IsPlaced, AreApart}
+use Rattle.process_pages.specs.declared.stays.Stay.{Stay}
 use Rattle.process_view.proofs.Keeping.{placed_none, apart_more}
 use Rattle.process_view.proofs.view.View.keep_stay.Goals as goal
 

@@ -3,7 +3,7 @@ use Rattle.std.specs.Arc.{arc_value}
 use Rattle.load_model.specs.State.{nothing_yet}
 use Rattle.load_model.specs.Rows.{IsRowOf}
 use Rattle.process_view.specs.ProcessViews.{ProcessView}
-use Rattle.process_view.specs.Kept.{IsPlaced}
+use Rattle.process_pages.specs.Stays.{IsPlaced}
 use Rattle.process_view.proofs.Left.{all_nothing, apart_nothing}
 use Rattle.process_view.proofs.view.View.leave_all.Goals as goal
 

@@ -10,11 +10,13 @@ use Rattle.load_model.specs.State.{nothing_yet, reaches}
 use Rattle.load_model.specs.Leaving.{freeing, keeping}
 use Rattle.load_model.specs.Rows.{IsRowOf}
 use Rattle.load_model.specs.Standing.{Mapped}
-use Rattle.process_view.specs.ProcessViews.{ProcessView, freed_view, pages_with}
-use Rattle.process_view.specs.Kept.{view_of, residence_in, residences_in, IsPlaced, AreApart}
-use Rattle.process_view.specs.declared.stays.Stay.{Stay}
+use Rattle.process_view.specs.ProcessViews.{ProcessView, freed_view}
+use Rattle.process_pages.specs.Stays.{pages_with}
+use Rattle.process_view.specs.Kept.{view_of}
+use Rattle.process_pages.specs.Stays.{residence_in, residences_in, IsPlaced, AreApart}
+use Rattle.process_pages.specs.declared.stays.Stay.{Stay}
 use Rattle.process_view.proofs.Mapping.{view_made}
-use Rattle.process_view.proofs.Placing.{kept_residences, kept_pages, reach_kept}
+use Rattle.process_pages.proofs.Placing.{kept_residences, kept_pages, reach_kept}
 use Rattle.process_view.proofs.view.View.leave_one.Goals as goal
 
 pub free-requires-clause-counted : goal.free-requires-clause-counted

@@ -1,7 +1,7 @@
 use Rattle.std.proofs.Common.{◌∙◌, ap, sym, length, List, arith}
 use Rattle.std.specs.Arc.{arc_value}
 use Rattle.lx_types.specs.declared.parts.Parts.{Parts}
-use Rattle.process_view.proofs.RowLists.{view_is_new}
+use Rattle.process_view.proofs.NewViews.{view_is_new}
 use Rattle.process_view.proofs.view.View.make.Goals as goal
 
 pub returns : goal.returns

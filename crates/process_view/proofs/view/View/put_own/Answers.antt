@@ -4,10 +4,10 @@ use Rattle.std.specs.Prelude.{All, vec_len, vec_capacity}
 use Rattle.std.specs.Arc.{arc_value}
 use Rattle.load_model.specs.Standing.{Mapped}
 use Rattle.load_model.specs.ViewLaws.{written_over}
-use Rattle.process_view.specs.Kept.{residences_in, IsPlaced}
+use Rattle.process_pages.specs.Stays.{residences_in, IsPlaced}
 use Rattle.process_view.specs.Deeds.{with_write}
 use Rattle.process_view.proofs.Mapping.{view_made}
-use Rattle.process_view.proofs.Writes.{placed_written}
+use Rattle.process_pages.proofs.Writes.{placed_written}
 use Rattle.process_view.proofs.view.View.put_own.Goals as goal
 
 -- a list that is written over whole

@@ -1,7 +1,8 @@
 use Rattle.std.proofs.Common.{◌≡◌, ◌<◌, ◌∙◌, sym, ap, subst, get_or, length, arith}
 use Rattle.std.proofs.lemmas.List.{length-map, get_or-map}
 use Rattle.process_view.specs.ProcessViews.{ProcessView}
-use Rattle.process_view.specs.Kept.{view_of, residence_in}
+use Rattle.process_view.specs.Kept.{view_of}
+use Rattle.process_pages.specs.Stays.{residence_in}
 use Rattle.process_view.proofs.view.View.residence.Goals as goal
 
 pub returns : goal.returns

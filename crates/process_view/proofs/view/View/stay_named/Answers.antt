@@ -6,11 +6,12 @@ use Rattle.page_frames.specs.Residences.{ResidenceFor}
 use Rattle.load_model.specs.Modules.{number_of}
 use Rattle.load_model.specs.ViewAnswers.{stay_named}
 use Rattle.process_view.specs.ProcessViews.{ProcessView}
-use Rattle.process_view.specs.Kept.{view_of, residence_in}
+use Rattle.process_view.specs.Kept.{view_of}
+use Rattle.process_pages.specs.Stays.{residence_in}
 use Rattle.process_view.specs.Answering.{IsStayNamed}
-use Rattle.process_view.specs.declared.stays.Stay.{Stay}
+use Rattle.process_pages.specs.declared.stays.Stay.{Stay}
 use Rattle.process_view.proofs.Lookups.{named_by_place, no_name}
-use Rattle.process_view.proofs.Positions.{position_map}
+use Rattle.process_pages.proofs.Positions.{position_map}
 use Rattle.process_view.proofs.view.View.stay_named.Goals as goal
 
 pub returns-in_err-m : goal.returns-in_err-m

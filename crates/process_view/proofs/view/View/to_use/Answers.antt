@@ -7,7 +7,8 @@ use Rattle.load_model.specs.Refusals.{span_refusal, ◌orelse◌}
 use Rattle.load_model.specs.ViewAnswers.{view_place_refusal}
 use Rattle.process_view.specs.ProcessViews.{ProcessView}
 use Rattle.process_view.specs.Purposes.{purpose_of}
-use Rattle.process_view.specs.Kept.{view_of, residence_in}
+use Rattle.process_view.specs.Kept.{view_of}
+use Rattle.process_pages.specs.Stays.{residence_in}
 use Rattle.process_view.specs.Answering.{IsStayNamed, touch_refusal_by}
 use Rattle.process_view.proofs.Lookups.{stay_there, place_refused}
 use Rattle.process_view.proofs.view.View.to_use.Goals as goal

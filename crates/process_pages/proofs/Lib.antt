@@ -1,0 +1,6 @@
+pub mod RowLists
+pub mod Positions
+pub mod Mapping
+pub mod Copies
+pub mod Writes
+pub mod Placing

@@ -1,0 +1,171 @@
+-- One page more that is mapped, and where it stands.
+use Rattle.std.proofs.Common.{◌≡◌, ◌≢◌, ℕ, zero, suc, ◌-◌, ◌<◌, ◌≤◌, ◌==◌, ◌&&◌, ◌⊎◌, Bool, true, false, List, [], ◌∷◌, ◌++◌, map, length, Option, Some, None, get_or, set, inl, inr, refl, sym, ap, subst, ◌∙◌, arith, length-set, get_or-set_same, get_or-set_other}
+use Rattle.std.specs.Prelude.{position, is_some, All}
+use Rattle.std.specs.List.{list_any}
+use Rattle.std.proofs.lemmas.Bool.{cases_eq, cases_order}
+use Rattle.std.proofs.lemmas.Bool.Decides.{nat_tests}
+use Rattle.std.proofs.lemmas.List.{length-map, get_or-map}
+use Rattle.std.proofs.lemmas.List.Elements.{All-get_or, All-from_get_or}
+use Rattle.lx_types.specs.declared.object.PageId.{PageId}
+use Rattle.lx_types.specs.declared.parts.Parts.{Parts}
+use Rattle.lx_types.specs.Object.{pages_of}
+use Rattle.lx_types.specs.Parts.{object_of}
+use Rattle.lx_types.specs.Sound.{IsNumberOf}
+use Rattle.lx_model.specs.Library.{module_of}
+use Rattle.page_frames.specs.Residences.{ResidenceFor}
+use Rattle.load_model.specs.State.{PageOf}
+use Rattle.load_model.specs.Memory.{page, is_page}
+use Rattle.load_model.specs.Standing.{Mapped}
+use Rattle.load_model.specs.ViewAnswers.{is_mapped_at}
+use Rattle.process_pages.specs.PageRows.{PagePlaces, place_in, with_place, Cover, ArePlaces}
+use Rattle.process_pages.specs.Stays.{IsPlaced, AreApart, residence_in, residences_in}
+use Rattle.load_model.specs.Touched.{has_page}
+use Rattle.process_pages.specs.Stays.{page_with}
+use Rattle.process_pages.specs.declared.stays.Stay.{Stay}
+use Rattle.process_pages.proofs.Positions.{position_new, position_other, any_is_position, any_map}
+
+-- ---- rows
+
+pub same_page : (a b : PageId) → is_page a b ≡ true → (a.object ≡ b.object) × (a.page ≡ b.page)
+same_page a b e = grind (arith, nat_tests)
+
+pub other_page : (a b : PageId) → is_page a b ≡ false → (a.object ≡ b.object → a.page ≡ b.page → ⊥)
+other_page a b e u v = let same : is_page a b ≡ true = grind (arith, nat_tests) in absurd cc
+
+pub place_put : (rows : PagePlaces) (p : PageId) (k : ℕ) → p.object - 1 < length rows → p.page < length (get_or rows (p.object - 1) []) → place_in (with_place rows p k) p ≡ Some k
+place_put rows p k u v =
+    ap (λ (row : List (Option ℕ)). get_or row p.page None) (get_or-set_same rows (p.object - 1) (set (get_or rows (p.object - 1) []) p.page (Some k)) [] u)
+    ∙ get_or-set_same (get_or rows (p.object - 1) []) p.page (Some k) None v
+
+pub place_other : (rows : PagePlaces) (p q : PageId) (k : ℕ) → p.object - 1 < length rows → 1 ≤ p.object → 1 ≤ q.object → (q.object ≡ p.object → q.page ≡ p.page → ⊥) → place_in (with_place rows p k) q ≡ place_in rows q
+place_other rows p q k u a b differ = elim (cases_eq (q.object - 1) (p.object - 1)) as (λ _. place_in (with_place rows p k) q ≡ place_in rows q) [
+  | inl same ↦
+      let object : q.object ≡ p.object = omega arith in
+      let page : q.page ≢ p.page = λ e. differ object e in
+      ap (λ (o : ℕ). get_or (get_or (with_place rows p k) o []) q.page None) same
+      ∙ ap (λ (row : List (Option ℕ)). get_or row q.page None) (get_or-set_same rows (p.object - 1) (set (get_or rows (p.object - 1) []) p.page (Some k)) [] u)
+      ∙ get_or-set_other (get_or rows (p.object - 1) []) p.page q.page (Some k) None page
+      ∙ ap (λ (o : ℕ). get_or (get_or rows o []) q.page None) (sym same)
+  | inr other ↦ ap (λ (row : List (Option ℕ)). get_or row q.page None) (get_or-set_other rows (p.object - 1) (q.object - 1) (set (get_or rows (p.object - 1) []) p.page (Some k)) [] other)
+]
+
+pub cover_put : (m : Parts) (rows : PagePlaces) (p : PageId) (k : ℕ) → Cover m rows → Cover m (with_place rows p k)
+cover_put m rows p k is = record {
+  objects = length-set rows (p.object - 1) _ ∙ is.objects;
+  pages = λ object there. elim (cases_eq (object - 1) (p.object - 1)) as (λ _. length (get_or (with_place rows p k) (object - 1) []) ≡ pages_of (object_of m object)) [
+    | inl same ↦
+        let within : p.object - 1 < length rows = omega (arith, is.objects, there.0, there.1) in
+        ap (λ (o : ℕ). length (get_or (with_place rows p k) o [])) same ∙ ap (λ (row : List (Option ℕ)). length row) (get_or-set_same rows (p.object - 1) (set (get_or rows (p.object - 1) []) p.page (Some k)) [] within)
+        ∙ length-set (get_or rows (p.object - 1) []) p.page (Some k) ∙ ap (λ (o : ℕ). length (get_or rows o [])) (sym same) ∙ is.pages object there
+    | inr other ↦ ap (λ (row : List (Option ℕ)). length row) (get_or-set_other rows (p.object - 1) (object - 1) (set (get_or rows (p.object - 1) []) p.page (Some k)) [] other) ∙ is.pages object there
+  ];
+}
+
+-- ---- the page among the others
+
+pub is_not : (b c : Bool) → c ≡ false → (b && c) ≡ false
+is_not true c e = e
+is_not false c e = refl
+
+pub not_at : (serial : ℕ) (q : PageId) (x : Mapped) → (x.of.serial ≡ serial → ⊥) → is_mapped_at serial q x ≡ false
+not_at serial q x h = let other : (x.of.serial == serial) ≡ false = grind (arith, nat_tests) in ap (λ b. b && is_page x.of.page q) other
+
+is_at : (r : ResidenceFor) (p : PageId) (bytes : List ℕ) → is_mapped_at r.serial p (page_with r p bytes) ≡ true
+is_at r p bytes = grind (arith, nat_tests)
+
+-- the rows of the residence whose page it is
+own_places : (m : Parts) (r : ResidenceFor) (rows : PagePlaces) (mapped : List Mapped) (p : PageId) (bytes : List ℕ) → Cover m rows → ArePlaces m r.serial rows mapped → IsNumberOf p.object (length m.objects) → p.page < pages_of (object_of m p.object) →
+    position (is_mapped_at r.serial p) mapped ≡ None → ArePlaces m r.serial (with_place rows p (length mapped)) (mapped ++ page_with r p bytes ∷ [])
+own_places m r rows mapped p bytes cover are object within none o n there inside = by_page (is_page p (page o n)) refl
+  where
+    by_page : (b : Bool) → is_page p (page o n) ≡ b → place_in (with_place rows p (length mapped)) (page o n) ≡ position (is_mapped_at r.serial (page o n)) (mapped ++ page_with r p bytes ∷ [])
+    by_page true e =
+        let is = same_page p (page o n) e in
+        let row : p.page < length (get_or rows (p.object - 1) []) = omega (arith, cover.pages p.object object) in
+        let same : page o n ≡ p = ap (λ (i : ℕ). page i n) (sym is.0) ∙ ap (λ (i : ℕ). page p.object i) (sym is.1) in
+        ap (place_in (with_place rows p (length mapped))) same ∙ place_put rows p (length mapped) (omega (arith, cover.objects, object.0, object.1)) row
+        ∙ sym (position_new (is_mapped_at r.serial p) mapped (page_with r p bytes) none (is_at r p bytes))
+        ∙ ap (λ (q : PageId). position (is_mapped_at r.serial q) (mapped ++ page_with r p bytes ∷ [])) (sym same)
+    by_page false e =
+        place_other rows p (page o n) (length mapped) (omega (arith, cover.objects, object.0, object.1)) object.0 there.0 (λ u v. other_page p (page o n) e (sym u) (sym v)) ∙ are o n there inside
+        ∙ sym (position_other (is_mapped_at r.serial (page o n)) mapped (page_with r p bytes) (is_not (r.serial == r.serial) (is_page p (page o n)) e))
+
+-- the rows of another residence
+other_places : (m : Parts) (serial : ℕ) (r : ResidenceFor) (rows : PagePlaces) (mapped : List Mapped) (p : PageId) (bytes : List ℕ) → ArePlaces m serial rows mapped → (r.serial ≡ serial → ⊥) →
+    ArePlaces m serial rows (mapped ++ page_with r p bytes ∷ [])
+other_places m serial r rows mapped p bytes are differ o n there inside =
+    are o n there inside ∙ sym (position_other (is_mapped_at serial (page o n)) mapped (page_with r p bytes) (not_at serial (page o n) (page_with r p bytes) differ))
+
+-- ---- all residences
+
+pub serials_differ : (rs : List ResidenceFor) (i k : ℕ) (d : ResidenceFor) → AreApart rs → i < length rs → k < length rs → i ≢ k → (get_or rs k d).serial ≡ (get_or rs i d).serial → ⊥
+serials_differ rs i k d apart u v differ e = elim (cases_order i k) as (λ _. ⊥) [
+  | inl same ↦ absurd (differ same)
+  | inr other ↦ elim other as (λ _. ⊥) [ inl before ↦ apart i k d before v (sym e) | inr behind ↦ apart k i d behind u e ]
+]
+
+pub residences_set : (stays : List Stay) (k : ℕ) (s : Stay) → residence_in s ≡ residence_in (get_or stays k s) → residences_in (set stays k s) ≡ residences_in stays
+residences_set [] k s e = refl
+residences_set (x ∷ xs) zero s e = ap (λ (r : ResidenceFor). r ∷ residences_in xs) e
+residences_set (x ∷ xs) (suc k) s e = ap (λ (rs : List ResidenceFor). residence_in x ∷ rs) (residences_set xs k s e)
+
+pub placed_with : (lib : List Parts) (mapped : List Mapped) (stays : List Stay) (k : ℕ) (s t : Stay) (p : PageId) (bytes : List ℕ) → All (IsPlaced lib mapped) stays → AreApart (residences_in stays) → k < length stays →
+    s ≡ get_or stays k s → residence_in t ≡ residence_in s → t.places ≡ with_place s.places p (length mapped) → IsNumberOf p.object (length (module_of lib (residence_in s).«module»).objects) →
+    p.page < pages_of (object_of (module_of lib (residence_in s).«module») p.object) → position (is_mapped_at (residence_in s).serial p) mapped ≡ None →
+    All (IsPlaced lib (mapped ++ page_with (residence_in s) p bytes ∷ [])) (set stays k t)
+placed_with lib mapped stays k s t p bytes all apart u at same put object within none =
+    All-from_get_or (IsPlaced lib (mapped ++ page_with (residence_in s) p bytes ∷ [])) (set stays k t) s
+    (λ i v. by_index i (omega (arith, length-set stays k t)) (cases_eq i k))
+  where
+    P : Stay → Type 0
+    P = IsPlaced lib (mapped ++ page_with (residence_in s) p bytes ∷ [])
+
+    here : IsPlaced lib mapped s
+    here = let Q : Stay → Type 0 = IsPlaced lib mapped in subst Q (sym at) (All-get_or (IsPlaced lib mapped) stays k s u all)
+
+    by_index : (i : ℕ) → i < length stays → (i ≡ k) ⊎ (i ≢ k) → P (get_or (set stays k t) i s)
+    by_index i v (inl e) =
+        let own = own_places (module_of lib (residence_in s).«module») (residence_in s) s.places mapped p bytes here.cover here.places object within none in
+        let T : ResidenceFor → Type 0 = λ r. (r.«module» < length lib) × Cover (module_of lib r.«module») t.places × ArePlaces (module_of lib r.«module») r.serial t.places (mapped ++ page_with (residence_in s) p bytes ∷ []) in
+        let R : PagePlaces → Type 0 = λ rows. Cover (module_of lib (residence_in s).«module») rows × ArePlaces (module_of lib (residence_in s).«module») (residence_in s).serial rows (mapped ++ page_with (residence_in s) p bytes ∷ []) in
+        let rows : R t.places = subst R (sym put) (cover_put (module_of lib (residence_in s).«module») s.places p (length mapped) here.cover, own) in
+        let it : T (residence_in t) = subst T (sym same) (here.within, rows.0, rows.1) in
+        let is : get_or (set stays k t) i s ≡ t = ap (λ (j : ℕ). get_or (set stays k t) j s) e ∙ get_or-set_same stays k t s u in
+        subst P (sym is) (record { within = it.0; cover = it.1; places = it.2 })
+    by_index i v (inr e) =
+        let is : get_or (set stays k t) i s ≡ get_or stays i s = get_or-set_other stays k i t s e in
+        let old = All-get_or (IsPlaced lib mapped) stays i s v all in
+        let long = length-map stays residence_in in
+        let differ : (residence_in s).serial ≡ (residence_in (get_or stays i s)).serial → ⊥ = λ d.
+        serials_differ (residences_in stays) i k (residence_in s) apart (omega (arith, long)) (omega (arith, long)) e
+        (ap (λ (r : ResidenceFor). r.serial) (get_or-map residence_in stays k s (residence_in s) u) ∙ ap (λ (x : Stay). (residence_in x).serial) (sym at) ∙ d
+        ∙ sym (ap (λ (r : ResidenceFor). r.serial) (get_or-map residence_in stays i s (residence_in s) v)))
+        in
+        subst P (sym is) (record {
+          within = old.within;
+          cover = old.cover;
+          places = other_places (module_of lib (residence_in (get_or stays i s)).«module») (residence_in (get_or stays i s)).serial (residence_in s) (get_or stays i s).places mapped p bytes old.places differ;
+        })
+
+-- ---- what is mapped has a place
+
+-- a page of the residence is mapped exactly where it has a place
+pub mapped_by_place : (m : Parts) (serial : ℕ) (rows : PagePlaces) (mapped : List Mapped) (object n : ℕ) → ArePlaces m serial rows mapped → IsNumberOf object (length m.objects) → n < pages_of (object_of m object) →
+    list_any (λ (t : PageOf). (t.serial == serial) && is_page t.page (page object n)) (map (λ (p : Mapped). p.of) mapped) ≡ is_some (place_in rows (page object n))
+mapped_by_place m serial rows mapped object n are there within =
+    any_map (λ (t : PageOf). (t.serial == serial) && is_page t.page (page object n)) (λ (p : Mapped). p.of) mapped
+    ∙ any_is_position (is_mapped_at serial (page object n)) mapped ∙ ap (λ (o : Option ℕ). is_some o) (sym (are object n there within))
+
+-- whether a page is mapped, by its place
+pub mapped_as_placed : (lib : List Parts) (mapped : List Mapped) (s : Stay) (p : PageId) → IsPlaced lib mapped s → IsNumberOf p.object (length (module_of lib (residence_in s).«module»).objects) →
+    p.page < pages_of (object_of (module_of lib (residence_in s).«module») p.object) → has_page (map (λ (x : Mapped). x.of) mapped) (residence_in s).serial p ≡ is_some (place_in s.places p)
+mapped_as_placed lib mapped s p is object inside = mapped_by_place (module_of lib (residence_in s).«module») (residence_in s).serial s.places mapped p.object p.page is.places object inside
+
+no_position : (o : Option ℕ) → is_some o ≡ false → o ≡ None
+no_position None e = refl
+no_position (Some k) e = absurd cc
+
+pub not_placed : (serial : ℕ) (mapped : List Mapped) (p : PageId) → has_page (map (λ (x : Mapped). x.of) mapped) serial p ≡ false → position (is_mapped_at serial p) mapped ≡ None
+not_placed serial mapped p e =
+    no_position (position (is_mapped_at serial p) mapped)
+    (sym (any_map (λ (t : PageOf). (t.serial == serial) && is_page t.page p) (λ (x : Mapped). x.of) mapped ∙ any_is_position (is_mapped_at serial p) mapped) ∙ e)

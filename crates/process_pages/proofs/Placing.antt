@@ -1,0 +1,229 @@
+-- One page more of a list, which is put at its place where it is the first such page.
+use Rattle.std.proofs.Common.{◌≡◌, ◌≢◌, ℕ, zero, suc, ◌-◌, ◌<◌, ◌≤◌, ◌==◌, ◌&&◌, ◌⊎◌, Bool, true, false, cond, List, [], ◌∷◌, ◌++◌, map, filter, replicate, option_map, length, Option, Some, None, get_or, set, inl, inr, refl, sym, ap, subst, ◌∙◌, arith, length-set, get_or-set_same, get_or-set_other}
+use Rattle.load_model.specs.Modules.{Library}
+use Rattle.load_model.specs.State.{Process, Eager, reaches}
+use Rattle.load_model.specs.Leaving.{keeping}
+use Rattle.std.specs.Prelude.{position, is_none, nat_lt, All}
+use Rattle.std.proofs.lemmas.Bool.{cases_eq}
+use Rattle.std.proofs.lemmas.Bool.Decides.{nat_tests}
+use Rattle.std.proofs.lemmas.List.{length-map, get_or-map}
+use Rattle.std.proofs.lemmas.List.Elements.{All-get_or, All-from_get_or}
+use Rattle.lx_types.specs.declared.object.PageId.{PageId}
+use Rattle.lx_types.specs.declared.parts.Parts.{Parts}
+use Rattle.lx_types.specs.Object.{pages_of}
+use Rattle.lx_types.specs.Parts.{object_of}
+use Rattle.lx_types.specs.Sound.{IsNumberOf}
+use Rattle.lx_model.specs.Library.{module_of}
+use Rattle.page_frames.specs.Residences.{ResidenceFor}
+use Rattle.load_model.specs.Memory.{page, is_page}
+use Rattle.load_model.specs.Standing.{Mapped}
+use Rattle.load_model.specs.ViewAnswers.{is_mapped_at}
+use Rattle.process_pages.specs.PageRows.{PagePlaces, place_in, with_place, Cover, ArePlaces, has_number, with_first_place}
+use Rattle.process_pages.specs.Stays.{IsPlaced, AreApart, residence_in, residences_in, without_places}
+use Rattle.std.specs.List.{AllByRecursion, list_any}
+use Rattle.process_pages.specs.Stays.{pages_with}
+use Rattle.process_pages.proofs.RowLists.{none_of, length_none}
+use Rattle.process_pages.specs.declared.stays.Stay.{Stay}
+use Rattle.process_pages.proofs.Positions.{any_map, position_cons, position_new, position_other, position_stays}
+use Rattle.process_pages.proofs.Mapping.{same_page, other_page, is_not, not_at, place_put, place_other, cover_put, serials_differ}
+
+-- what the tests of a page say
+record HasNumber (rows : PagePlaces) (p : PageId) : Type 0 where
+  pub object : 1 ≤ p.object
+  pub row : p.object - 1 < length rows
+  pub page : p.page < length (get_or rows (p.object - 1) [])
+
+number_by : (o l n m : ℕ) → (nat_lt 0 o && nat_lt (o - 1) l && nat_lt n m) ≡ true → (1 ≤ o) × (o - 1 < l) × (n < m)
+number_by o l n m e = grind (arith, nat_tests)
+
+number_back : (o l n m : ℕ) → 1 ≤ o → o - 1 < l → n < m → (nat_lt 0 o && nat_lt (o - 1) l && nat_lt n m) ≡ true
+number_back o l n m a b c = grind (arith, nat_tests)
+
+numbered : (rows : PagePlaces) (p : PageId) → has_number rows p ≡ true → HasNumber rows p
+numbered rows p e =
+    let it = number_by p.object (length rows) p.page (length (get_or rows (p.object - 1) [])) e in
+    record { object = it.0; row = it.1; page = it.2 }
+
+is_numbered : (m : Parts) (rows : PagePlaces) (p : PageId) → Cover m rows → IsNumberOf p.object (length m.objects) → p.page < pages_of (object_of m p.object) → has_number rows p ≡ true
+is_numbered m rows p cover there inside =
+    number_back p.object (length rows) p.page (length (get_or rows (p.object - 1) [])) there.0 (omega (arith, cover.objects, there.0, there.1)) (omega (arith, cover.pages p.object there))
+
+both_true : (a b : Bool) → (a && b) ≡ true → (a ≡ true) × (b ≡ true)
+both_true true b e = (refl, e)
+both_true false b e = absurd cc
+
+other_false : (a b : Bool) → (a && b) ≡ false → a ≡ true → b ≡ false
+other_false true b e h = e
+other_false false b e h = absurd cc
+
+no_place : (o : Option ℕ) → is_none o ≡ true → o ≡ None
+no_place None e = refl
+no_place (Some k) e = absurd cc
+
+kept_place : {X : Type 0} (p : X → Bool) (xs : List X) (y : X) (o : Option ℕ) → is_none o ≡ false → o ≡ position p xs → position p (xs ++ y ∷ []) ≡ position p xs
+kept_place p xs y None e h = absurd cc
+kept_place p xs y (Some k) e h = position_stays p xs y k (sym h) ∙ h
+
+is_at : (serial : ℕ) (p : PageId) (x : Mapped) → serial ≡ x.of.serial → is_page x.of.page p ≡ true → is_mapped_at serial p x ≡ true
+is_at serial p x e h = let own : (x.of.serial == serial) ≡ true = grind (arith, nat_tests) in ap (λ b. b && is_page x.of.page p) own ∙ h
+
+-- the rows of the residence whose page it is
+first_places : (m : Parts) (serial : ℕ) (rows : PagePlaces) (mapped : List Mapped) (x : Mapped) → Cover m rows → ArePlaces m serial rows mapped → serial ≡ x.of.serial → (b : Bool) → (has_number rows x.of.page && is_none (place_in rows x.of.page)) ≡ b →
+    Cover m (cond b (with_place rows x.of.page (length mapped)) rows) × ArePlaces m serial (cond b (with_place rows x.of.page (length mapped)) rows) (mapped ++ x ∷ [])
+first_places m serial rows mapped x cover are own true is = (cover_put m rows x.of.page (length mapped) cover, λ o n there inside. by_page o n there inside (is_page x.of.page (page o n)) refl)
+  where
+    p : PageId
+    p = x.of.page
+
+    tests : (has_number rows p ≡ true) × (is_none (place_in rows p) ≡ true)
+    tests = both_true (has_number rows p) (is_none (place_in rows p)) is
+
+    has : HasNumber rows p
+    has = numbered rows p tests.0
+
+    by_page : (o n : ℕ) → IsNumberOf o (length m.objects) → n < pages_of (object_of m o) → (b : Bool) → is_page p (page o n) ≡ b →
+        place_in (with_place rows p (length mapped)) (page o n) ≡ position (is_mapped_at serial (page o n)) (mapped ++ x ∷ [])
+    by_page o n there inside true e =
+        let it = same_page p (page o n) e in
+        let same : page o n ≡ p = ap (λ (i : ℕ). page i n) (sym it.0) ∙ ap (λ (i : ℕ). page p.object i) (sym it.1) in
+        let none : position (is_mapped_at serial (page o n)) mapped ≡ None = sym (are o n there inside) ∙ ap (place_in rows) same ∙ no_place (place_in rows p) tests.1 in
+        ap (place_in (with_place rows p (length mapped))) same ∙ place_put rows p (length mapped) has.row has.page
+        ∙ sym (position_new (is_mapped_at serial (page o n)) mapped x none (is_at serial (page o n) x own e))
+    by_page o n there inside false e =
+        place_other rows p (page o n) (length mapped) has.row has.object there.0 (λ u v. other_page p (page o n) e (sym u) (sym v)) ∙ are o n there inside
+        ∙ sym (position_other (is_mapped_at serial (page o n)) mapped x (is_not (x.of.serial == serial) (is_page p (page o n)) e))
+first_places m serial rows mapped x cover are own false is = (cover, λ o n there inside. are o n there inside ∙ sym (by_page o n there inside (is_page x.of.page (page o n)) refl))
+  where
+    p : PageId
+    p = x.of.page
+
+    by_page : (o n : ℕ) → IsNumberOf o (length m.objects) → n < pages_of (object_of m o) → (b : Bool) → is_page p (page o n) ≡ b →
+        position (is_mapped_at serial (page o n)) (mapped ++ x ∷ []) ≡ position (is_mapped_at serial (page o n)) mapped
+    by_page o n there inside true e =
+        let it = same_page p (page o n) e in
+        let same : page o n ≡ p = ap (λ (i : ℕ). page i n) (sym it.0) ∙ ap (λ (i : ℕ). page p.object i) (sym it.1) in
+        let has : has_number rows p ≡ true = ap (has_number rows) (sym same) ∙ is_numbered m rows (page o n) cover there inside in
+        let some : is_none (place_in rows (page o n)) ≡ false = ap (λ (q : PageId). is_none (place_in rows q)) same ∙ other_false (has_number rows p) (is_none (place_in rows p)) is has in
+        kept_place (is_mapped_at serial (page o n)) mapped x (place_in rows (page o n)) some (are o n there inside)
+    by_page o n there inside false e = position_other (is_mapped_at serial (page o n)) mapped x (is_not (x.of.serial == serial) (is_page p (page o n)) e)
+
+-- the rows of another residence
+pub other_placed : (lib : List Parts) (mapped : List Mapped) (s : Stay) (x : Mapped) → IsPlaced lib mapped s → (x.of.serial ≡ (residence_in s).serial → ⊥) → IsPlaced lib (mapped ++ x ∷ []) s
+other_placed lib mapped s x is differ = record {
+  within = is.within;
+  cover = is.cover;
+  places = λ o n there inside. is.places o n there inside ∙ sym (position_other (is_mapped_at (residence_in s).serial (page o n)) mapped x (not_at (residence_in s).serial (page o n) x differ));
+}
+
+pub placed_first : (lib : List Parts) (mapped : List Mapped) (stays : List Stay) (k : ℕ) (s t : Stay) (x : Mapped) → All (IsPlaced lib mapped) stays → AreApart (residences_in stays) → k < length stays → s ≡ get_or stays k s →
+    (residence_in s).serial ≡ x.of.serial → residence_in t ≡ residence_in s → t.places ≡ with_first_place s.places x.of.page (length mapped) → All (IsPlaced lib (mapped ++ x ∷ [])) (set stays k t)
+placed_first lib mapped stays k s t x all apart u at own same put = All-from_get_or P (set stays k t) s (λ i v. by_index i (omega (arith, length-set stays k t)) (cases_eq i k))
+  where
+    P : Stay → Type 0
+    P = IsPlaced lib (mapped ++ x ∷ [])
+
+    m : Parts
+    m = module_of lib (residence_in s).«module»
+
+    here : IsPlaced lib mapped s
+    here = let Q : Stay → Type 0 = IsPlaced lib mapped in subst Q (sym at) (All-get_or (IsPlaced lib mapped) stays k s u all)
+
+    by_index : (i : ℕ) → i < length stays → (i ≡ k) ⊎ (i ≢ k) → P (get_or (set stays k t) i s)
+    by_index i v (inl e) =
+        let first = first_places m (residence_in s).serial s.places mapped x here.cover here.places own (has_number s.places x.of.page && is_none (place_in s.places x.of.page)) refl in
+        let T : ResidenceFor → Type 0 = λ r. (r.«module» < length lib) × Cover (module_of lib r.«module») t.places × ArePlaces (module_of lib r.«module») r.serial t.places (mapped ++ x ∷ []) in
+        let R : PagePlaces → Type 0 = λ rows. Cover m rows × ArePlaces m (residence_in s).serial rows (mapped ++ x ∷ []) in
+        let rows : R t.places = subst R (sym put) first in
+        let it : T (residence_in t) = subst T (sym same) (here.within, rows.0, rows.1) in
+        let is : get_or (set stays k t) i s ≡ t = ap (λ (j : ℕ). get_or (set stays k t) j s) e ∙ get_or-set_same stays k t s u in
+        subst P (sym is) (record { within = it.0; cover = it.1; places = it.2 })
+    by_index i v (inr e) =
+        let is : get_or (set stays k t) i s ≡ get_or stays i s = get_or-set_other stays k i t s e in
+        let long = length-map stays residence_in in
+        let differ : x.of.serial ≡ (residence_in (get_or stays i s)).serial → ⊥ = λ d.
+        serials_differ (residences_in stays) i k (residence_in s) apart (omega (arith, long)) (omega (arith, long)) e
+        (ap (λ (r : ResidenceFor). r.serial) (get_or-map residence_in stays k s (residence_in s) u) ∙ ap (λ (y : Stay). (residence_in y).serial) (sym at) ∙ own ∙ d
+        ∙ sym (ap (λ (r : ResidenceFor). r.serial) (get_or-map residence_in stays i s (residence_in s) v)))
+        in
+        subst P (sym is) (other_placed lib mapped (get_or stays i s) x (All-get_or (IsPlaced lib mapped) stays i s v all) differ)
+
+pub same_number : (a b : ℕ) → (a == b) ≡ true → a ≡ b
+same_number a b e = grind (arith, nat_tests)
+
+pub differs : (a b : ℕ) → (a == b) ≡ false → a ≡ b → ⊥
+differs a b e u = let same : (a == b) ≡ true = grind (arith, nat_tests) in absurd cc
+
+pub none_passes : {X : Type 0} (p : X → Bool) (xs : List X) (k : ℕ) (d : X) → position p xs ≡ None → k < length xs → p (get_or xs k d) ≡ false
+none_passes p [] k d e u = absurd (omega (arith, u))
+none_passes p (x ∷ xs) k d e u = by_first (p x) refl (position p xs) refl k u (λ n h v. none_passes p xs n d h v)
+  where
+    at : cond (p x) (Some 0) (option_map suc (position p xs)) ≡ None
+    at = sym (position_cons p x xs) ∙ e
+
+    by_first : (b : Bool) → p x ≡ b → (o : Option ℕ) → position p xs ≡ o → (k : ℕ) → k < length (x ∷ xs) → ((n : ℕ) → position p xs ≡ None → n < length xs → p (get_or xs n d) ≡ false) → p (get_or (x ∷ xs) k d) ≡ false
+    by_first true is o h k v later = absurd (let wrong : Some 0 ≡ None = sym (ap (λ b. cond b (Some 0) (option_map suc (position p xs))) is) ∙ at in cc)
+    by_first false is (Some j) h k v later =
+        absurd (let wrong : Some (suc j) ≡ None = sym (ap (λ b. cond b (Some 0) (option_map suc (position p xs))) is ∙ ap (option_map suc) h) ∙ at in cc)
+    by_first false is None h zero v later = is
+    by_first false is None h (suc n) v later = later n h (omega (arith, v))
+
+-- ---- places that are taken away
+
+pub cleared_residences : (stays : List Stay) → residences_in (map without_places stays) ≡ residences_in stays
+cleared_residences [] = refl
+cleared_residences (s ∷ stays) = ap (λ (rs : List ResidenceFor). residence_in s ∷ rs) (cleared_residences stays)
+
+abbrev no_places : List (Option ℕ) → List (Option ℕ)
+no_places row = replicate (length row) None
+
+pub cleared_placed : (lib : List Parts) (mapped : List Mapped) (stays : List Stay) → All (IsPlaced lib mapped) stays → All (IsPlaced lib []) (map without_places stays)
+cleared_placed lib mapped stays all = λ k d u.
+    let within : k < length stays = omega (arith, u, length-map stays without_places) in
+    let s = get_or stays k d in
+    let m = module_of lib (residence_in s).«module» in
+    let is = all k d within in
+    let P : Stay → Type 0 = IsPlaced lib [] in
+    subst P (sym (get_or-map without_places stays k d d within)) (record {
+      within = is.within;
+      cover = record {
+        objects = length-map s.places no_places ∙ is.cover.objects;
+        pages = λ object there.
+            let at : object - 1 < length s.places = omega (arith, is.cover.objects, there.0, there.1) in
+            ap (λ (row : List (Option ℕ)). length row) (get_or-map no_places s.places (object - 1) [] [] at) ∙ length_none (length (get_or s.places (object - 1) [])) ∙ is.cover.pages object there;
+      };
+      places = λ o n there inside.
+          let at : o - 1 < length s.places = omega (arith, is.cover.objects, there.0, there.1) in
+          ap (λ (row : List (Option ℕ)). get_or row n None) (get_or-map no_places s.places (o - 1) [] [] at) ∙ none_of (length (get_or s.places (o - 1) [])) n;
+    })
+
+-- ---- what is kept
+
+pub kept_residences : (lib : List Parts) (mapped : List Mapped) (passes : ℕ → Bool) (stays : List Stay) → AllByRecursion (IsPlaced lib mapped) stays →
+    residences_in (filter (λ (s : Stay). nat_lt (residence_in s).«module» (length lib) && passes (residence_in s).«module») stays) ≡ filter (λ (r : ResidenceFor). passes r.«module») (residences_in stays)
+kept_residences lib mapped passes [] all = refl
+kept_residences lib mapped passes (s ∷ stays) all =
+    ap (λ b. residences_in (cond (b && passes (residence_in s).«module») (s ∷ kept) kept)) (is_below (residence_in s).«module» (length lib) all.0.within) ∙ by_test (passes (residence_in s).«module») (kept_residences lib mapped passes stays all.1)
+  where
+    kept : List Stay
+    kept = filter (λ (y : Stay). nat_lt (residence_in y).«module» (length lib) && passes (residence_in y).«module») stays
+
+    rest : List ResidenceFor
+    rest = filter (λ (r : ResidenceFor). passes r.«module») (residences_in stays)
+
+    is_below : (a b : ℕ) → a < b → nat_lt a b ≡ true
+    is_below a b u = grind (arith, nat_tests)
+
+    by_test : (b : Bool) → residences_in kept ≡ rest → residences_in (cond b (s ∷ kept) kept) ≡ cond b (residence_in s ∷ rest) rest
+    by_test true e = ap (λ (rs : List ResidenceFor). residence_in s ∷ rs) e
+    by_test false e = e
+
+pub kept_pages : (stays : List Stay) (ps : List Mapped) → filter (λ (p : Mapped). list_any (λ (s : Stay). (residence_in s).serial == p.of.serial) stays) ps ≡ pages_with (residences_in stays) ps
+kept_pages stays [] = refl
+kept_pages stays (p ∷ ps) =
+    ap (λ b. cond b (p ∷ filter (λ (q : Mapped). list_any (λ (s : Stay). (residence_in s).serial == q.of.serial) stays) ps) (filter (λ (q : Mapped). list_any (λ (s : Stay). (residence_in s).serial == q.of.serial) stays) ps))
+    (sym (any_map (λ (r : ResidenceFor). r.serial == p.of.serial) residence_in stays))
+    ∙ ap (λ (xs : List Mapped). cond (list_any (λ (r : ResidenceFor). r.serial == p.of.serial) (residences_in stays)) (p ∷ xs) xs) (kept_pages stays ps)
+
+pub reach_kept : (lib : Library) (e : Eager) (p : Process) → ◌≡◌ {A = ℕ → Bool} (reaches lib (keeping lib e p)) (reaches lib p)
+unfolding reaches keeping
+reach_kept lib e p = refl

@@ -1,0 +1,3 @@
+pub mod PageRows
+pub mod Stays
+pub mod Reading

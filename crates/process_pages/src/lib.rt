@@ -1,0 +1,16 @@
+//! The pages that a process has mapped, with its own writes in them, and where each stands among them.
+#![tactic(auto)]
+
+mod freeing;
+mod own_page;
+mod page_rows;
+mod reading;
+mod stays;
+mod writing;
+
+pub use freeing::{keep_places, keep_reached};
+pub use own_page::OwnPage;
+pub use page_rows::PageRows;
+pub use reading::copy_out;
+pub use stays::{Stay, stay_place};
+pub use writing::put_all;
