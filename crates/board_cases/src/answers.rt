@@ -6,14 +6,14 @@ ghost use Rattle.proc_core.specs.Procs.{IsOf};
 use load_model::{Command, Place, Refusal, Reply};
 use lx_types::{Fail, NoMemory, Seq};
 use page_fix::Steps;
-use proc_core::{Done, Loader, Proc};
+use proc_core::{Loader, Proc};
 use std::alloc::Global;
 use std::marker::Brand;
 use std::sync::Wait;
 use std::sync::ledger::{Blank, Ledger};
 
-// What has an entry of the history is told there.
-fn line_of(answer: Result<Done, Fail<Refusal>>) -> Result<Option<Reply>, NoMemory> {
+/// The reply of a call that has an entry of the history where it is not refused: what has one is told there.
+pub fn line_of<T: Drop>(answer: Result<T, Fail<Refusal>>) -> Result<Option<Reply>, NoMemory> {
     match answer {
         Ok(_) => Ok(None),
         Err(Fail::Said(Refusal::ArenaFull { .. } | Refusal::InitFailed { .. })) => Ok(None),
@@ -22,8 +22,8 @@ fn line_of(answer: Result<Done, Fail<Refusal>>) -> Result<Option<Reply>, NoMemor
     }
 }
 
-// Room for so many bytes.
-fn room(alloc: Global, len: u32) -> Result<Vec<u8>, NoMemory>
+/// Room for so many bytes.
+pub fn room(alloc: Global, len: u32) -> Result<Vec<u8>, NoMemory>
     ensures { IfOk result (λ bytes. length bytes.items ≡ len) }
 {
     Ok(vec![in alloc; 0; len as usize]?)

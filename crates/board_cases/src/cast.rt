@@ -4,12 +4,12 @@ ghost use Rattle.std.specs.Prelude.{◌≡◌, ◌≤◌, length};
 ghost use Rattle.proc_core.specs.Closing.{AreOf};
 
 use crate::answers::answer;
+use crate::steady::Steady;
 use crate::steps::{Step, command_of};
 use load_model::{Command, Reply};
 use lx_types::{NoMemory, Seq};
 use mod_graph::Library;
 use proc_core::{Loader, Proc};
-use session_model::{Line, ScriptLines};
 use session_text::{Text, print};
 use std::alloc::Global;
 use std::sync::{Arc, Wait};
@@ -19,20 +19,8 @@ use std::sync::{Arc, Wait};
 pub struct Cast {
     loader: Loader,
     procs: Vec<Proc>,
-    steady: Vec<ScriptLines>,
+    steady: Steady,
     ghost own: { AreOf loader procs.items },
-}
-
-// No lines, of so many processes.
-fn no_lines(alloc: Global, processes: u32) -> Result<Vec<ScriptLines>, NoMemory> {
-    let mut steady = Vec::new(alloc);
-    for pid in 1..=processes {
-        steady.push(ScriptLines {
-            pid,
-            lines: Seq::new(alloc),
-        })?;
-    }
-    Ok(steady)
 }
 
 impl Cast {
@@ -47,7 +35,7 @@ impl Cast {
     {
         let failing = Vec::from_slice(alloc, failing)?;
         let (loader, procs) = Loader::make_with(alloc, Arc::try_clone(lib)?, processes, failing)?;
-        let steady = no_lines(alloc, processes)?;
+        let steady = Steady::new(alloc, processes)?;
         Ok(Cast {
             loader,
             procs,
@@ -69,24 +57,16 @@ impl Cast {
         answer(rt, alloc, &self.loader, &mut self.procs[k], command)
     }
 
+    /// The process at place `k`, from 0.
+    pub fn process(&self, k: usize) -> Option<&Proc> {
+        self.procs.get(k)
+    }
+
     // How many entries of the history the process at a place was shown.
     fn front(&self, k: usize) -> u64 {
         match self.procs.get(k) {
             Some(proc) => proc.front(),
             None => 0,
-        }
-    }
-
-    // Keeps a reply.
-    fn keep(&mut self, k: usize, command: Command, reply: Reply) -> Result<(), NoMemory> {
-        let front = self.front(k);
-        match self.steady.get_mut(k) {
-            Some(script) => script.lines.push(Line {
-                front,
-                command,
-                reply,
-            }),
-            None => Ok(()),
         }
     }
 
@@ -100,7 +80,10 @@ impl Cast {
     ) -> Result<(), NoMemory> {
         let command = command_of(alloc, step)?;
         match self.carry_out(rt, alloc, k, &command)? {
-            Some(reply) => self.keep(k, command, reply),
+            Some(reply) => {
+                let front = self.front(k);
+                self.steady.keep(k, front, command, reply)
+            }
             None => Ok(()),
         }
     }
@@ -116,6 +99,6 @@ impl Cast {
             return Ok(Seq::new(alloc));
         }
         let closed = loader.close(procs);
-        print(alloc, lib, closed.history(), &steady)
+        print(alloc, lib, closed.history(), steady.scripts())
     }
 }

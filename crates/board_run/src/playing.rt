@@ -1,6 +1,6 @@
 //! A row that is played.
 
-use board_cases::{Cast, Shape, Step, library};
+use board_cases::{Alone, Cast, Shape, Step, library};
 use lx_types::NoMemory;
 use std::alloc::Global;
 use std::sync::{Arc, Wait};
@@ -63,17 +63,41 @@ fn take_steps<R: Wait>(
     Ok(())
 }
 
-/// The last lines of a row's transcript. A row without modules or processes has none.
-pub fn played<R: Wait>(rt: &R, alloc: Global, row: &Row) -> Result<Vec<u8>, NoMemory> {
+// Takes the steps in one thread.
+fn take_alone<R: Wait + AllocGlobal>(
+    rt: &R,
+    alloc: Global,
+    alone: &mut Alone,
+    steps: &[(u32, Step<'static>)],
+) -> Result<(), NoMemory> {
+    for (pid, step) in steps {
+        alone.act(rt, alloc, pid.saturating_sub(1) as usize, *step)?;
+    }
+    Ok(())
+}
+
+/// The last lines of a row's transcript, by processes that take turns, and by their views alone over one board. A row without
+/// modules or processes has none.
+pub fn played<R: Wait + AllocGlobal>(
+    rt: &R,
+    alloc: Global,
+    row: &Row,
+) -> Result<Option<(Vec<u8>, Vec<u8>)>, NoMemory> {
     let Some(lib) = library(alloc, row.shapes.as_slice())? else {
-        return Ok(Vec::from_slice(alloc, b"no library\n")?);
+        return Ok(None);
     };
     if row.processes < 1 || row.processes > 16 {
-        return Ok(Vec::from_slice(alloc, b"no processes\n")?);
+        return Ok(None);
     }
     let lib = Arc::new(alloc, lib)?;
     let mut cast = Cast::make(alloc, &lib, row.processes, row.failing.as_slice())?;
     take_steps(rt, alloc, &mut cast, row.steps.as_slice())?;
     let text = cast.finish(alloc, &lib)?;
-    Ok(Vec::from_slice(alloc, last_lines(text.as_slice(), row.lines))?)
+    let mut alone = Alone::make(alloc, &lib, row.processes, row.failing.as_slice())?;
+    take_alone(rt, alloc, &mut alone, row.steps.as_slice())?;
+    let same = alone.finish(alloc, &lib)?;
+    Ok(Some((
+        Vec::from_slice(alloc, last_lines(text.as_slice(), row.lines))?,
+        Vec::from_slice(alloc, last_lines(same.as_slice(), row.lines))?,
+    )))
 }
