@@ -1,0 +1,14 @@
+pub mod Told
+pub mod FieldTold
+pub mod LengthTold
+pub mod PlainTold
+pub mod ListTold
+pub mod NameTold
+pub mod CommentTold
+pub mod BlockTold
+pub mod DataTold
+pub mod FixTold
+pub mod FixupTold
+pub mod TypeTold
+pub mod FileTold
+pub mod WorkedTold

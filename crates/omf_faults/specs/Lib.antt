@@ -1,0 +1,10 @@
+pub mod Parts
+pub mod FieldParts
+pub mod NameRecords
+pub mod CommentRecords
+pub mod DataRecords
+pub mod FixupRecords
+pub mod WrongContents
+pub mod FirstFaults
+pub mod Laws
+pub mod Worked
