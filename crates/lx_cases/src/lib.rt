@@ -1,5 +1,5 @@
-//! Tests of small crates: names and lists, fields and records, files and sinks in memory and real, bases, and chosen
-//! modules. Those of the commands are the rows of `command_rows`.
+//! Tests of small crates: names and lists, fields and records, files and sinks in memory and real, bases, chosen
+//! modules, and selectors. Those of the commands are the rows of `command_rows`.
 #![tactic(auto)]
 
 #[cfg(test)]
@@ -16,3 +16,5 @@ mod names;
 mod ports;
 #[cfg(test)]
 mod records;
+#[cfg(test)]
+mod selectors;

@@ -1,7 +1,11 @@
-//! Tests of pages with their fixups, from bytes that were worked out by hand, and of the rights to fix pages: apart from the
-//! crate that they are of, so that it is proved once.
+//! Tests of pages with their fixups, from bytes that were worked out by hand, of the rights to fix pages, and of entry
+//! points: apart from the crates that they are of, so that these are proved once.
 #![tactic(auto)]
 
+#[cfg(test)]
+mod entry_points;
+#[cfg(test)]
+mod far_pointers;
 #[cfg(test)]
 mod fixing;
 #[cfg(test)]

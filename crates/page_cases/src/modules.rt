@@ -1,4 +1,5 @@
-//! The library of the tests: A, whose pages are those of the rows, and B and C, to which A's targets lead.
+//! The libraries of the tests: A, whose pages are those of the rows, and B and C, to which A's targets lead; and three modules
+//! in a ring.
 
 use lx_sample::{Sample, SamplePage, file_of, library_of};
 use lx_types::{Bases, ModBases, NoMemory, ObjHead, Seq};
@@ -6,7 +7,7 @@ use mod_graph::Library;
 use std::alloc::Global;
 
 /// An object of so many bytes, whose pages are the page table's from the first on.
-fn object(size: u32, flags: u32, count: u32) -> ObjHead {
+pub fn object(size: u32, flags: u32, count: u32) -> ObjHead {
     ObjHead {
         size,
         base: 0,
@@ -48,6 +49,41 @@ pub fn library(alloc: Global, pages: &[SamplePage]) -> Result<Option<Library>, N
         imports: &[],
         import_count: 0,
         procedures: &[],
+    };
+    let mut files = Vec::new(alloc);
+    files.push(file_of(alloc, &a, pages)?)?;
+    files.push(file_of(alloc, &b, &[])?)?;
+    files.push(file_of(alloc, &c, &[])?)?;
+    library_of(alloc, files)
+}
+
+/// A, B and C, each of whose ordinal 1, `f`, is the ordinal 1 of the next one, and C's that of a module `last`. These are A's
+/// pages.
+pub fn ring(
+    alloc: Global,
+    last: &[u8; 1],
+    pages: &[SamplePage],
+) -> Result<Option<Library>, NoMemory> {
+    let count = lx_types::count(pages.len())?;
+    let code = [object(count.saturating_mul(4096), 0x2005, count)];
+    let a = Sample {
+        names: &[1, b'A', 0, 0, 1, b'f', 1, 0],
+        objects: &code,
+        entries: &[1, 4, 0, 0, 1, 1, 0, 1, 0, 0, 0],
+        imports: &[1, b'B'],
+        import_count: 1,
+        procedures: &[],
+    };
+    let b = Sample {
+        names: &[1, b'B', 0, 0, 1, b'f', 1, 0],
+        objects: &[],
+        imports: &[1, b'C'],
+        ..a
+    };
+    let c = Sample {
+        names: &[1, b'C', 0, 0, 1, b'f', 1, 0],
+        imports: &[1, last[0]],
+        ..b
     };
     let mut files = Vec::new(alloc);
     files.push(file_of(alloc, &a, pages)?)?;
