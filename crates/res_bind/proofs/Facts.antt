@@ -1,6 +1,6 @@
 -- What a layout says of its own numbers: its places rise, from the file's end on, up to the most bytes of a file.
-use Rattle.std.proofs.Common.{◌≡◌, ℕ, ◌+◌, ◌-◌, ◌*◌, ◌/◌, ◌^◌, ◌<◌, ◌≤◌, Bool, true, false, cond, eqb, List, length, max, refl, sym, subst, ap, ◌∙◌, arith}
-use Rattle.lx_model.specs.Header.{field, page_count, object_count}
+use Rattle.std.proofs.Common.{◌≡◌, ℕ, ◌+◌, ◌-◌, ◌*◌, ◌<◌, ◌≤◌, Bool, true, false, cond, eqb, List, length, refl, subst, ap, arith}
+use Rattle.lx_model.specs.Header.{field}
 use Rattle.lx_model.specs.FixupPages.{has_records}
 use Rattle.lx_types.specs.declared.object.ObjHead.{ObjHead}
 use Rattle.lx_types.specs.declared.parts.Parts.{Parts}

@@ -1,13 +1,11 @@
 -- What a header without a fault says.
-use Rattle.std.proofs.Common.{◌≡◌, ℕ, ◌+◌, ◌*◌, ◌≤◌, ◌<◌, ◌^◌, Bool, true, false, cond, ltb, leb, List, map, length, Some, None, refl, sym, subst, ap, ◌∙◌, get_or, arith}
+use Rattle.std.proofs.Common.{◌≡◌, ℕ, ◌+◌, ◌≤◌, ◌<◌, ◌^◌, Bool, true, false, cond, ltb, leb, List, map, length, Some, None, refl, ap, get_or, arith}
 use Rattle.std.proofs.lemmas.Bool.{ltb-false}
 use Rattle.std.proofs.lemmas.Bool.Decides.{nat_tests}
-use Rattle.std.proofs.lemmas.List.FromFn.{get_or-map-range_with_len}
-use Rattle.std.specs.List.{AllByRecursion as Each}
 use Rattle.lx_types.specs.declared.refusal.LxRefusal.{LxRefusal}
 use Rattle.lx_types.specs.declared.refusal.LxKind.TheVariants.{Short, Field, TooMany}
 use Rattle.lx_model.specs.Reading.{fault, number_at, first}
-use Rattle.lx_model.specs.Header.{row, rows, row_fault, place_fault, header_place, header_fault, header_fields, field, page_count, object_count, MOST_PAGES, MOST_OBJECTS}
+use Rattle.lx_model.specs.Header.{row, rows, row_fault, place_fault, header_place, header_fault, header_fields, field, MOST_PAGES, MOST_OBJECTS}
 use Rattle.lx_model.specs.Module.{IsRead, LxFault}
 use Rattle.lx_model.proofs.Firsts.{then_none}
 use Rattle.lx_model.proofs.Each.{each_first}

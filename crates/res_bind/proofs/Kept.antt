@@ -1,5 +1,5 @@
 -- Old bytes stand, but for those of the fields that are set.
-use Rattle.std.proofs.Common.{◌≡◌, ℕ, ◌+◌, ◌-◌, ◌<◌, ◌≤◌, Bool, true, false, cond, ◌&&◌, ◌||◌, ltb, leb, List, [], ◌∷◌, ◌++◌, length, take, drop, get_or, ◌⊎◌, inl, inr, refl, sym, ap, ◌∙◌, arith, length-append, lit≤}
+use Rattle.std.proofs.Common.{◌≡◌, ℕ, ◌+◌, ◌-◌, ◌<◌, ◌≤◌, Bool, true, false, cond, ◌&&◌, ◌||◌, ltb, leb, List, [], ◌∷◌, ◌++◌, map, length, take, drop, get_or, ◌⊎◌, inl, inr, refl, ap, ◌∙◌, arith, length-append, lit≤}
 use Rattle.std.proofs.lemmas.Bool.{cases_lt}
 use Rattle.std.proofs.lemmas.Bool.Decides.{nat_tests}
 use Rattle.std.proofs.lemmas.List.{length-take, length-drop, get_or_append_left, get_or-append_right, get_or-take, get_or-drop}
@@ -9,18 +9,18 @@ use Rattle.lx_model.specs.FixupPages.{has_records}
 use Rattle.res_file.specs.declared.item.ResItem.{ResItem}
 use Rattle.res_bind.specs.Placed.{new_page_count}
 use Rattle.res_bind.specs.Layout.{objects_place, pages_place, fixups_place, resources_place}
-use Rattle.res_bind.specs.Bound.{with_number, with_field, with_fields, appended, bound_file}
-use Rattle.res_bind.specs.Clear.{Part, set_parts}
-use Rattle.res_bind.specs.Numbers.{HasHeader}
+use Rattle.res_bind.specs.Bound.{with_number, with_fields, appended}
+use Rattle.std.specs.List.{list_any}
+use Rattle.res_bind.specs.Clear.{part}
 use Rattle.res_bind.specs.Laws.{is_set, OldBytesStand}
 use Rattle.res_bind.proofs.Headers.{header_long}
 
 -- ---- one number
 
-abbrev Outside : ℕ → ℕ → Type 0
+abbrev pub Outside : ℕ → ℕ → Type 0
 Outside at x = (x < at) ⊎ (at + 4 ≤ x)
 
-number_length : (at v : ℕ) (f : List ℕ) → at + 4 ≤ length f → length (with_number at v f) ≡ length f
+pub number_length : (at v : ℕ) (f : List ℕ) → at + 4 ≤ length f → length (with_number at v f) ≡ length f
 unfolding with_number
 number_length at v f le =
     let front = length-take at f in
@@ -46,15 +46,15 @@ behind at v x f le ge =
     get_or-append_right (take at f ++ little_bytes 4 v) (drop (at + 4) f) (at + 4) x 0 (omega (arith, front, two)) ge
     ∙ get_or-drop (at + 4) f (x - (at + 4)) 0 ∙ ap (λ (i : ℕ). get_or f i 0) place
 
-number_stands : (at v x : ℕ) (f : List ℕ) → at + 4 ≤ length f → Outside at x → get_or (with_number at v f) x 0 ≡ get_or f x 0
+pub number_stands : (at v x : ℕ) (f : List ℕ) → at + 4 ≤ length f → Outside at x → get_or (with_number at v f) x 0 ≡ get_or f x 0
 number_stands at v x f le out = elim out [ inl lt ↦ before at v x f le lt | inr ge ↦ behind at v x f le ge ]
 
 -- ---- several, one after the other
 
 -- a file that has the length and, at x, the byte of another
-record Stands (old : List ℕ) (x : ℕ) (now : List ℕ) : Type 0 where
-  long : length now ≡ length old
-  byte : get_or now x 0 ≡ get_or old x 0
+pub record Stands (old : List ℕ) (x : ℕ) (now : List ℕ) : Type 0 where
+  pub long : length now ≡ length old
+  pub byte : get_or now x 0 ≡ get_or old x 0
 
 one_more : (old : List ℕ) (x at v : ℕ) (now : List ℕ) → at + 4 ≤ length old → Outside at x → Stands old x now → Stands old x (with_number at v now)
 one_more old x at v now le out stands =
@@ -71,10 +71,6 @@ outside at x e = elim (cases_lt x at) [ inl lt ↦ inl lt | inr ge ↦ inr (past
     past : (at x : ℕ) → (leb at x && ltb x (at + 4)) ≡ false → at ≤ x → at + 4 ≤ x
     past at x e ge = grind (arith, nat_tests)
 
-either : (b : Bool) (old : List ℕ) (x : ℕ) (one other : List ℕ) → Stands old x one → Stands old x other → Stands old x (cond b one other)
-either true old x one other p q = p
-either false old x one other p q = q
-
 -- a field of the header lies in the file
 room : (p offset len : ℕ) → p + 0xAC ≤ len → offset ≤ 0xA8 → p + offset + 4 ≤ len
 room p offset len long le = omega (arith, long, le)
@@ -83,11 +79,17 @@ room p offset len long le = omega (arith, long, le)
 abbrev hit : ℕ → ℕ → Bool
 hit at x = leb at x && ltb x (at + 4)
 
-fields_stand : (file : List ℕ) (items : List ResItem) (x : ℕ) → header_place file + 0xAC ≤ length file → is_set file x ≡ false → Stands file x (with_fields file items)
+-- the field of the fixup page table, which is set where there is one
+last_stands : (records : Bool) (old : List ℕ) (x p v : ℕ) (now : List ℕ) → p + 0xAC ≤ length old → list_any (λ q. leb q.at x && ltb x (q.at + q.len)) (map (λ offset. part (p + offset) 4) (cond records (0x68 ∷ []) [])) ≡ false →
+    Stands old x now → Stands old x (cond records (with_number (p + 0x68) v now) now)
+last_stands true old x p v now long unset stands = one_more old x (p + 0x68) v now (room p 0x68 (length old) long (lit≤ tt)) (outside (p + 0x68) x (or_false (hit (p + 0x68) x) false unset).0) stands
+last_stands false old x p v now long unset stands = stands
+
+pub fields_stand : (file : List ℕ) (items : List ResItem) (x : ℕ) → header_place file + 0xAC ≤ length file → is_set file x ≡ false → Stands file x (with_fields file items)
 unfolding with_fields
 fields_stand file items x long unset =
     let p = header_place file in
-    let r6 = hit (p + 0x68) x || false in
+    let r6 = list_any (λ q. leb q.at x && ltb x (q.at + q.len)) (map (λ offset. part (p + offset) 4) (cond (has_records file) (0x68 ∷ []) [])) in
     let r5 = hit (p + 0x54) x || r6 in
     let r4 = hit (p + 0x50) x || r5 in
     let r3 = hit (p + 0x48) x || r4 in
@@ -99,7 +101,6 @@ fields_stand file items x long unset =
     let d = or_false (hit (p + 0x48) x) r4 c.1 in
     let e = or_false (hit (p + 0x50) x) r5 d.1 in
     let f = or_false (hit (p + 0x54) x) r6 e.1 in
-    let g = or_false (hit (p + 0x68) x) false f.1 in
     let start : Stands file x file = record { long = refl; byte = refl } in
     let n14 = page_count file + new_page_count items in
     let f14 = with_number (p + 0x14) n14 file in
@@ -118,9 +119,7 @@ fields_stand file items x long unset =
     let resources = one_more file x (p + 0x50) n50 f48 (room p 0x50 (length file) long (lit≤ tt)) (outside (p + 0x50) x e.0) heads in
     let f54 = with_number (p + 0x54) (length items) f50 in
     let all = one_more file x (p + 0x54) (length items) f50 (room p 0x54 (length file) long (lit≤ tt)) (outside (p + 0x54) x f.0) resources in
-    let n68 = fixups_place file items - p in
-    let fixups = one_more file x (p + 0x68) n68 f54 (room p 0x68 (length file) long (lit≤ tt)) (outside (p + 0x68) x g.0) all in
-    either (has_records file) file x (with_number (p + 0x68) n68 f54) f54 fixups all
+    last_stands (has_records file) file x p (fixups_place file items - p) f54 long f.1 all
 
 pub old_bytes_stand : OldBytesStand
 old_bytes_stand file [] x header lt unset = refl

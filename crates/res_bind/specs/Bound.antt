@@ -1,6 +1,6 @@
 -- The file of a module with items as its resources.
 -- LX: "Object Table", "Object Page Table", "Fixup Page Table", "Resource Table".
-use Rattle.std.specs.Prelude.{ℕ, zero, suc, ◌+◌, ◌-◌, ◌*◌, ◌/◌, ◌==◌, List, [], ◌∷◌, ◌++◌, length, take, drop, map, max, min, replicate, nat_le, if◌then◌else◌}
+use Rattle.std.specs.Prelude.{ℕ, ◌+◌, ◌-◌, ◌*◌, ◌/◌, ◌==◌, List, [], ◌∷◌, ◌++◌, length, take, drop, map, max, min, replicate, nat_le, if◌then◌else◌}
 use Rattle.std.specs.List.{range_with_len, repeat}
 use Rattle.lx_bytes.specs.LittleEndian.{little_bytes}
 use Rattle.lx_types.specs.declared.object.ObjHead.{ObjHead}

@@ -1,6 +1,6 @@
 -- Which bytes of a module's file are read as something else than a field of its header: where none of them is in a field that
 -- is set, the module stays what it is.
-use Rattle.std.specs.Prelude.{ℕ, ◌+◌, ◌-◌, ◌*◌, ◌==◌, ◌||◌, Bool, List, [], ◌∷◌, ◌++◌, length, drop, take, map, Result, Ok, Err, nat_le, slice_index, if◌then◌else◌}
+use Rattle.std.specs.Prelude.{ℕ, ◌+◌, ◌-◌, ◌*◌, ◌==◌, Bool, List, [], ◌∷◌, ◌++◌, length, drop, take, map, max, min, is_some, Ok, Err, nat_le, slice_index, if◌then◌else◌}
 use Rattle.std.specs.List.{range_with_len, flat_map, list_all}
 use Rattle.lx_types.specs.declared.entry.EntryHead.{EntryHead}
 use Rattle.lx_types.specs.declared.entry.EntryHead.TheVariants.{At, Gate286, Forward}
@@ -9,11 +9,12 @@ use Rattle.lx_types.specs.declared.entry.FwdKey.TheVariants as keys
 use Rattle.lx_types.specs.declared.fix.FixTarget.{FixTarget}
 use Rattle.lx_types.specs.declared.fix.FixTarget.TheVariants as targets
 use Rattle.lx_types.specs.declared.object.PageHead.{PageHead}
+use Rattle.lx_types.specs.Parts.{name_at}
 use Rattle.lx_model.specs.Reading.{Many, many, cursor, value_or}
 use Rattle.lx_model.specs.Header.{field, table, header_place, is_lx_at, page_count, object_count, import_count}
 use Rattle.lx_model.specs.Tables.{page_heads}
 use Rattle.lx_model.specs.NameTables.{name_entry, import_entry}
-use Rattle.lx_model.specs.EntryTable.{bundle_at, entries_of, Numbered}
+use Rattle.lx_model.specs.EntryTable.{bundle_at, entries_of}
 use Rattle.lx_model.specs.FixupPages.{has_records, records_span}
 use Rattle.lx_model.specs.Module.{targets_of}
 
@@ -27,12 +28,16 @@ part at len = record { at = at; len = len }
 
 -- no byte is in both
 abbrev pub are_apart : Part → Part → Bool
-are_apart p q = nat_le (p.at + p.len) q.at || nat_le (q.at + q.len) p.at
+are_apart p q = nat_le (min (p.at + p.len) (q.at + q.len)) (max p.at q.at)
 
 -- ---- the fields that are set
 
+-- a module without records has no fixup page table before and behind
+abbrev pub set_offsets : Bool → List ℕ
+set_offsets records = 0x14 ∷ 0x40 ∷ 0x44 ∷ 0x48 ∷ 0x50 ∷ 0x54 ∷ (if records then 0x68 ∷ [] else [])
+
 abbrev pub set_parts : List ℕ → List Part
-set_parts file = map (λ offset. part (header_place file + offset) 4) (0x14 ∷ 0x40 ∷ 0x44 ∷ 0x48 ∷ 0x50 ∷ 0x54 ∷ 0x68 ∷ [])
+set_parts file = map (λ offset. part (header_place file + offset) 4) (set_offsets (has_records file))
 
 -- ---- what else is read
 
@@ -73,19 +78,19 @@ fixup_parts file =
 abbrev pub data_part : PageHead → Part
 data_part page = part page.at page.len
 
--- a name of the import procedures, with its length byte
-abbrev pub name_part : List ℕ → ℕ → Part
-name_part file offset = let at = table file 0x78 + offset in part at (1 + slice_index file at)
+-- a name of the import procedures, with its length byte; what passes the file's end is no name
+abbrev pub name_parts : List ℕ → ℕ → List Part
+name_parts file offset = let at = table file 0x78 + offset in if is_some (name_at file at) then part at (1 + slice_index file at) ∷ [] else []
 
 abbrev pub names_of_target : List ℕ → FixTarget → List Part
 names_of_target file (targets.Internal object offset) = []
 names_of_target file (targets.Ordinal import ordinal) = []
-names_of_target file (targets.Named import name) = name_part file name ∷ []
+names_of_target file (targets.Named import name) = name_parts file name
 names_of_target file (targets.Own ordinal) = []
 
 abbrev pub names_of_key : List ℕ → FwdKey → List Part
 names_of_key file (keys.Ordinal ordinal) = []
-names_of_key file (keys.NameAt name) = name_part file name ∷ []
+names_of_key file (keys.NameAt name) = name_parts file name
 
 abbrev pub names_of_head : List ℕ → EntryHead → List Part
 names_of_head file (At object offset) = []

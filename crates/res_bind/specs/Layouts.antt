@@ -1,5 +1,5 @@
 -- What the functions answer that make a layout.
-use Rattle.std.specs.Prelude.{◌≡◌, ℕ, ◌≤◌, ◌^◌, List, ◌∷◌, [], Option, Some, None, Result, Ok, Err}
+use Rattle.std.specs.Prelude.{◌≡◌, ℕ, ◌≤◌, ◌^◌, List, Option, Some, None, Result, Ok, Err}
 use Rattle.res_file.specs.declared.item.ResItem.{ResItem}
 use Rattle.res_bind.specs.Placed.{object_size}
 use Rattle.res_bind.specs.Refusal.{layout_refusal}

@@ -1,12 +1,11 @@
 -- Worked values: where items stand, and the file of one page with an item bound to it.
 use Rattle.std.specs.Prelude.{◌≡◌, ℕ, ◌+◌, true, false, List, [], ◌∷◌, ◌++◌, length, take, drop, codes, slice_set, None, Some}
 use Rattle.lx_types.specs.declared.object.ObjHead.{ObjHead}
-use Rattle.lx_types.specs.declared.resource.ResSpot.{ResSpot}
 use Rattle.lx_model.specs.Module.{LxFault, parts_of}
 use Rattle.lx_model.specs.Resources.{Res}
 use Rattle.lx_model.specs.Worked.File.{worked_file}
 use Rattle.res_file.specs.declared.item.ResItem.{ResItem}
-use Rattle.res_bind.specs.Placed.{Placed, placed_from, object_size, new_page_count, data_from, entries_from}
+use Rattle.res_bind.specs.Placed.{object_size, new_page_count, data_from, entries_from}
 use Rattle.res_bind.specs.Bound.{base_above, bound_file}
 use Rattle.res_bind.specs.Refusal.{bind_refusal}
 use Rattle.res_bind.specs.Clear.{is_clear}

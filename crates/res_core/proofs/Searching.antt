@@ -1,5 +1,5 @@
 -- The first of a row of entries that counts.
-use Rattle.std.proofs.Common.{◌≡◌, ℕ, zero, suc, ◌+◌, ◌*◌, ◌<◌, Bool, true, false, cond, List, [], ◌∷◌, map, Option, Some, None, option_map, refl, sym, ap, subst, ◌∙◌, arith}
+use Rattle.std.proofs.Common.{◌≡◌, ℕ, zero, suc, ◌+◌, ◌*◌, ◌<◌, Bool, true, false, cond, map, Some, None, option_map, refl, sym, ap, ◌∙◌, arith}
 use Rattle.std.specs.List.{find, range_with_len}
 use Rattle.std.proofs.Common.{◌≤◌, ◌&&◌, length, nat_le}
 use Rattle.std.proofs.lemmas.Bool.Decides.{nat_tests}

@@ -1,8 +1,8 @@
 -- An item without a fault stands there as it is spelled.
-use Rattle.std.proofs.Common.{◌≡◌, ℕ, zero, suc, ◌+◌, ◌<◌, ◌≤◌, ◌^◌, ◌*◌, Bool, true, false, cond, ltb, eqb, List, [], ◌∷◌, ◌++◌, length, take, drop, get_or, Option, Some, None, refl, sym, subst, ap, ◌∙◌, append_assoc, arith}
+use Rattle.std.proofs.Common.{◌≡◌, ℕ, zero, suc, ◌+◌, ◌<◌, ◌≤◌, ◌^◌, Bool, true, false, cond, ltb, eqb, List, [], ◌∷◌, ◌++◌, length, take, drop, get_or, Some, None, refl, sym, ap, ◌∙◌, arith}
 use Rattle.std.proofs.lemmas.Bool.{ltb-false}
 use Rattle.std.proofs.lemmas.Bool.Decides.{nat_tests}
-use Rattle.std.proofs.lemmas.List.{length-take, length-drop, get_or-drop, get_or-take}
+use Rattle.std.proofs.lemmas.List.{length-take, length-drop, get_or-drop}
 use Rattle.lx_bytes.specs.LittleEndian.{AreBytes, little, little_bytes}
 use Rattle.lx_bytes.proofs.Numbers.{little_bytes-little}
 use Rattle.lx_model.specs.Reading.{number_at, ◌then◌}

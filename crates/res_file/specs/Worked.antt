@@ -1,6 +1,6 @@
 -- Worked values: a file of one item, and what is wrong with it after a change.
 use Rattle.std.specs.Prelude.{◌≡◌, ℕ, List, [], ◌∷◌, ◌++◌, take, codes, slice_set, None, Some}
-use Rattle.res_file.specs.ItemFields.{item_at, fields_fault}
+use Rattle.res_file.specs.ItemFields.{item_at}
 use Rattle.res_file.specs.ResFile.{item_spelling, items_spelling}
 use Rattle.res_file.specs.Faults.{item_fault}
 use Rattle.res_file.specs.declared.item.ResItem.{ResItem}

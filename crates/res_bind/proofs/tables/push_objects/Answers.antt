@@ -1,4 +1,4 @@
-use Rattle.std.proofs.Common.{◌*◌, ℕ, ◌∙◌, append-nil, arith}
+use Rattle.std.proofs.Common.{◌*◌, ◌∙◌, append-nil, arith}
 use Rattle.lx_model.specs.Header.{table, object_count}
 use Rattle.lx_model.specs.TableSpelling.{object_spelling}
 use Rattle.res_bind.specs.Bound.{new_object, old_entries, object_table}

@@ -1,4 +1,4 @@
-use Rattle.std.proofs.Common.{◌*◌, ℕ, ◌∙◌, arith}
+use Rattle.std.proofs.Common.{◌*◌, ◌∙◌, arith}
 use Rattle.lx_model.specs.Header.{table, page_count}
 use Rattle.lx_model.specs.TableSpelling.{pages_spelling}
 use Rattle.res_bind.specs.Bound.{new_pages, old_entries, page_table}

@@ -1,8 +1,8 @@
-use Rattle.std.proofs.Common.{◌≡◌, ◌<◌, ◌≤◌, ◌+◌, ◌*◌, ◌∙◌, ℕ, false, None, Some, inl, inr, sym, ap, subst, arith, length, below_more}
+use Rattle.std.proofs.Common.{◌≡◌, ◌<◌, ◌≤◌, ◌+◌, ◌*◌, ◌∙◌, ℕ, false, None, Some, inl, inr, sym, ap, arith, length, below_more}
 use Rattle.std.proofs.lemmas.Bool.{cases_lt}
 use Rattle.lx_types.specs.declared.parts.Parts.{Parts}
-use Rattle.lx_model.specs.Header.{table, field}
-use Rattle.lx_model.specs.Resources.{resource_table, resource_count, resource_at}
+use Rattle.lx_model.specs.Header.{table}
+use Rattle.lx_model.specs.Resources.{resource_table, resource_count}
 use Rattle.res_core.specs.Found.{found_at}
 use Rattle.res_core.proofs.Searching.{no_resource, a_resource, not_found, past_end, entry_at, counts}
 use Rattle.res_core.proofs.finding.find.Goals as goal

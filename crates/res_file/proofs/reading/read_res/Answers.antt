@@ -1,4 +1,4 @@
-use Rattle.std.proofs.Common.{◌≡◌, ℕ, ◌+◌, ◌<◌, ◌≤◌, Bool, true, false, not, List, [], ◌∷◌, ◌++◌, None, length, drop, refl, sym, subst, ap, ◌∙◌, arith, rules}
+use Rattle.std.proofs.Common.{◌≡◌, ℕ, ◌+◌, ◌≤◌, Bool, true, false, not, List, [], ◌∷◌, ◌++◌, None, length, drop, refl, sym, subst, ap, ◌∙◌, arith, rules}
 use Rattle.std.specs.List.{list_any}
 use Rattle.std.specs.HashSet as bag
 use Rattle.std.proofs.lemmas.List.{length-take, length-drop, take_rest}
