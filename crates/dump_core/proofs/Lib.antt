@@ -1,0 +1,3 @@
+pub mod Doublewords
+pub mod PageLaws
+pub mod ListedLaws

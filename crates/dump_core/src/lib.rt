@@ -1,0 +1,10 @@
+//! Dumps: the lists of a module that was read, and the text that tells them.
+#![tactic(auto)]
+
+mod fixups;
+mod listed;
+mod numbers;
+mod pages;
+
+pub use dump_write::dump;
+pub use listed::listing;

@@ -1,0 +1,62 @@
+//! Numbers at places of a file, where what is past its end counts as zeros: `Module` hands out no page past an object's
+//! size, so those are looked up in the file.
+
+ghost use Rattle.std.specs.Prelude.{◌≡◌, ◌+◌, ◌<◌, ◌^◌, length, slice_index};
+ghost use Rattle.lx_model.specs.Reading.{number_at};
+ghost use Rattle.lx_model.specs.Header.{header_place, field, table};
+
+// The byte at a place, and 0 past the end.
+fn byte_at(file: &[u8], at: usize) -> u8
+    ensures { result ≡ slice_index file.now at }
+{
+    match file.get(at) {
+        Some(byte) => *byte,
+        None => 0,
+    }
+}
+
+/// The number in the two bytes at a place.
+pub(crate) fn word_at(file: &[u8], at: usize) -> u16
+    requires { at + 2 < 2 ^ 63 }
+    ensures { result ≡ number_at 2 file.now at }
+{
+    u16::from(byte_at(file, at)) + 256 * u16::from(byte_at(file, at + 1))
+}
+
+/// The number in the four bytes at a place.
+pub(crate) fn doubleword_at(file: &[u8], at: usize) -> u32
+    requires { at + 4 < 2 ^ 63 }
+    ensures { result ≡ number_at 4 file.now at }
+{
+    u32::from(word_at(file, at)) + 65536 * u32::from(word_at(file, at + 2))
+}
+
+// Where the header stands: at 0, or where a program for DOS says.
+#[tactic(auto, unfolding(lx_model::specs::Header::header_place))]
+fn place_of_header(file: &[u8]) -> u32
+    ensures { result ≡ header_place file.now }
+{
+    if word_at(file, 0) == 0x584C {
+        0
+    } else {
+        doubleword_at(file, 0x3C)
+    }
+}
+
+/// A field of the header, by its offset there.
+#[tactic(auto, unfolding(lx_model::specs::Header::field))]
+pub(crate) fn header_field(file: &[u8], offset: usize) -> u32
+    requires { offset < 2 ^ 32 }
+    ensures { result ≡ field file.now offset }
+{
+    doubleword_at(file, place_of_header(file) as usize + offset)
+}
+
+/// Where a table stands whose offset from the header is in a field.
+pub(crate) fn table_place(file: &[u8], offset: usize) -> u64
+    requires { offset < 2 ^ 32 }
+    ensures place { result ≡ table file.now offset }
+    ensures small { result < 2 ^ 33 }
+{
+    u64::from(place_of_header(file)) + u64::from(header_field(file, offset))
+}

@@ -1,0 +1,5 @@
+pub mod Lines
+pub mod Bounds
+pub mod Dumps
+pub mod Listings
+pub mod Worked
