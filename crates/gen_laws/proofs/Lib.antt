@@ -1,0 +1,12 @@
+pub mod WritableRanges
+pub mod WritableFixes
+pub mod WritableModules
+pub mod LinksDefinitions
+pub mod LinksInputs
+pub mod FirstShape
+pub mod FirstNames
+pub mod FirstKnown
+pub mod FirstGather
+pub mod FirstTargets
+pub mod FirstFit
+pub mod FirstPlaces
