@@ -16,15 +16,18 @@ use Rattle.lx_types.specs.declared.refusal.LxRefusal.{LxRefusal}
 use Rattle.lx_model.specs.Module.{LxFault, parts_of, Lx}
 use Rattle.refusal_text.specs.Files.{omf_text, lx_text, def_text}
 use Rattle.refusal_text.specs.Sessions.{session_text}
+use Rattle.refusal_text.specs.Resources.{res_text}
+use Rattle.res_file.specs.declared.refusal.ResRefusal.{ResRefusal}
 use Rattle.session_model.specs.declared.sessions.SessionRefusal.{SessionRefusal}
 use Rattle.session_model.specs.Sessions.{SesFault, Ses, session_of, statements_of}
 use Rattle.session_model.specs.Lines.{lines_in}
-use Rattle.lx_answer.specs.Reading.{Form, object_form, library_form, definition_form, module_form, session_form, Item, object, library, definition, linked, session, IsItem, IsFault}
+use Rattle.answer_laws.proofs.Resources as res
+use Rattle.lx_answer.specs.Reading.{Form, object_form, library_form, definition_form, module_form, session_form, resource_form, Item, object, library, definition, linked, session, resources, IsItem, IsFault}
 
 -- ---- one item
 
-one_definition : (answer : Result DefFile DefRefusal) (d e : DefFile) → answer ≡ Ok d → answer ≡ Ok e → d ≡ e
-one_definition answer d e h k = cc
+one_ok : {A E : Type 0} (answer : Result A E) (d e : A) → answer ≡ Ok d → answer ≡ Ok e → d ≡ e
+one_ok answer d e h k = cc
 
 pub item_one : (form : Form) (bytes : List ℕ) (i j : Item) → IsItem form bytes i → IsItem form bytes j → i ≡ j
 item_one object_form bytes (object m) (object n) h k = ap object (object_one bytes m n h k)
@@ -33,7 +36,7 @@ item_one object_form bytes i j h k = absurd h
 item_one library_form bytes (library ms) (library ns) h k = ap library (library_one bytes ms ns h k)
 item_one library_form bytes (library ms) j h k = absurd k
 item_one library_form bytes i j h k = absurd h
-item_one definition_form bytes (definition d) (definition e) h k = ap definition (one_definition (read_of bytes) d e h k)
+item_one definition_form bytes (definition d) (definition e) h k = ap definition (one_ok (read_of bytes) d e h k)
 item_one definition_form bytes (definition d) j h k = absurd k
 item_one definition_form bytes i j h k = absurd h
 item_one module_form bytes (linked m) (linked n) h k = ap linked (h.parts ∙ sym k.parts)
@@ -42,10 +45,13 @@ item_one module_form bytes i j h k = absurd h
 item_one session_form bytes (session s) (session t) h k = ap session (h.says ∙ sym k.says)
 item_one session_form bytes (session s) j h k = absurd k
 item_one session_form bytes i j h k = absurd h
+item_one resource_form bytes (resources xs) (resources ys) h k = ap resources (one_ok (res.reading_of bytes) xs ys (res.items_read bytes xs h) (res.items_read bytes ys k))
+item_one resource_form bytes (resources xs) j h k = absurd k
+item_one resource_form bytes i j h k = absurd h
 
 -- ---- one fault
 
-one_refusal : (answer : Result DefFile DefRefusal) (f g : DefRefusal) → answer ≡ Err f → answer ≡ Err g → f ≡ g
+one_refusal : {A E : Type 0} (answer : Result A E) (f g : E) → answer ≡ Err f → answer ≡ Err g → f ≡ g
 one_refusal answer f g h k = cc
 
 one_some : {A : Type 0} (answer : Option A) (f g : A) → answer ≡ Some f → answer ≡ Some g → f ≡ g
@@ -57,10 +63,13 @@ fault_one library_form bytes t u h k = h.told ∙ (ap omf_text (library_fault_on
 fault_one definition_form bytes t u h k = h.told ∙ (ap def_text (one_refusal (read_of bytes) h.refusal k.refusal h.first k.first) ∙ sym k.told)
 fault_one module_form bytes t u h k = h.told ∙ (ap lx_text (one_some (LxFault bytes) h.refusal k.refusal h.first k.first) ∙ sym k.told)
 fault_one session_form bytes t u h k = h.told ∙ (ap session_text (one_some (SesFault bytes) h.refusal k.refusal h.first k.first) ∙ sym k.told)
+fault_one resource_form bytes t u h k =
+    let same = one_refusal (res.reading_of bytes) h.refusal k.refusal (res.fault_read bytes h.refusal h.first) (res.fault_read bytes k.refusal k.first) in
+    h.told ∙ (ap res_text same ∙ sym k.told)
 
 -- ---- not both
 
-not_ok_and_err : (answer : Result DefFile DefRefusal) (d : DefFile) (f : DefRefusal) → answer ≡ Ok d → answer ≡ Err f → ⊥
+not_ok_and_err : {A E : Type 0} (answer : Result A E) (d : A) (f : E) → answer ≡ Ok d → answer ≡ Err f → ⊥
 not_ok_and_err answer d f h k = cc
 
 not_none_and_some : {A : Type 0} (answer : Option A) (f : A) → answer ≡ None → answer ≡ Some f → ⊥
@@ -77,6 +86,8 @@ item_not_fault module_form bytes (linked m) t h k = not_none_and_some (LxFault b
 item_not_fault module_form bytes i t h k = absurd h
 item_not_fault session_form bytes (session s) t h k = not_none_and_some (SesFault bytes) k.refusal h.good k.first
 item_not_fault session_form bytes i t h k = absurd h
+item_not_fault resource_form bytes (resources xs) t h k = not_ok_and_err (res.reading_of bytes) xs k.refusal (res.items_read bytes xs h) (res.fault_read bytes k.refusal k.first)
+item_not_fault resource_form bytes i t h k = absurd h
 
 -- ---- one of both
 
@@ -104,9 +115,14 @@ of_session : (bytes : List ℕ) (fault : Option SessionRefusal) → SesFault byt
 of_session bytes None is = inl (session (session_of (statements_of (lines_in bytes))), record { good = is; says = refl })
 of_session bytes (Some f) is = inr (session_text f, record { refusal = f; first = is; told = refl })
 
+of_resources : (bytes : List ℕ) → res.IsEither bytes → IsEither resource_form bytes
+of_resources bytes (inl h) = inl (resources h.0, h.1)
+of_resources bytes (inr h) = inr (res_text h.0, record { refusal = h.0; first = h.1; told = refl })
+
 pub item_or_fault : (form : Form) (bytes : List ℕ) → AreBytes bytes → IsEither form bytes
 item_or_fault object_form bytes h = of_object bytes (object_either bytes h)
 item_or_fault library_form bytes h = of_library bytes (library_either bytes h)
 item_or_fault definition_form bytes h = of_definition bytes (read_of bytes) refl
 item_or_fault module_form bytes h = of_module bytes (LxFault bytes) refl
 item_or_fault session_form bytes h = of_session bytes (SesFault bytes) refl
+item_or_fault resource_form bytes h = of_resources bytes (res.resources_either bytes h)

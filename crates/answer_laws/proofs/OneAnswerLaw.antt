@@ -8,16 +8,19 @@ use Rattle.link_model.specs.Link.{Link}
 use Rattle.obj_types.specs.declared.object.ObjModule.{ObjModule}
 use Rattle.link_model.specs.OneSegment.{alone}
 use Rattle.lx_answer.specs.Answer.{Answer, IsSound, saves_in}
+use Rattle.lx_answer.specs.BindAnswer.{BindAnswer, bind_outcome}
 use Rattle.lx_answer.specs.ImageAnswer.{NAME, ImageAnswer, image_outcome}
 use Rattle.lx_answer.specs.ImplibAnswer.{all_imports, implib_outcome}
 use Rattle.lx_answer.specs.LinkAnswer.{LinkAnswer, input_of, link_outcome}
 use Rattle.lx_answer.specs.Outcome.{Outcome, Saved}
-use Rattle.lx_answer.specs.Reading.{Item, object}
+use Rattle.lx_answer.specs.Reading.{Item, object, linked, resources}
+use Rattle.lx_answer.specs.Loading.{IsStopped}
 use Rattle.lx_answer.specs.Says.{ComesTo, Finishes, IsDone, IsSaved, SaysCommand, asked_files, said_after}
 use Rattle.lx_answer.specs.Stem.{stem_of}
-use Rattle.lx_answer.specs.Words.{Command, command_of, image, link, implib}
+use Rattle.lx_answer.specs.Words.{Command, command_of, image, link, implib, bind, gen}
 use Rattle.lx_answer.specs.declared.said.Said.{Said}
 use Rattle.answer_laws.specs.AnswerLaws.{AreSame, OneAnswer}
+use Rattle.answer_laws.proofs.GeneratedOnce.{gen_files_once, gen_said_once}
 use Rattle.answer_laws.proofs.Links.{link_once}
 use Rattle.answer_laws.proofs.Loads.{ap2, AreSound, sound_front, sound_back, SameReads, reads_once, SameStop, stops, stops_once, stops_or_reads}
 
@@ -30,6 +33,9 @@ comes_once (image file base) items o p h k = absurd h
 comes_once (link out definition inputs) items o p h k =
     h.comes_to ∙ (ap (link_outcome out) (link_once (input_of out items) h.link k.link h.of_input k.of_input) ∙ sym k.comes_to)
 comes_once (implib out inputs) items o p h k = h ∙ sym k
+comes_once (bind out target file) (linked m ∷ resources xs ∷ []) o p h k = h ∙ sym k
+comes_once (bind out target file) items o p h k = absurd h
+comes_once (gen count prefix) items o p h k = absurd h
 
 -- ---- the save
 
@@ -66,24 +72,42 @@ done_once contents command cs ds s t sc sd h k =
       said = saves.said;
     }
 
+abbrev pub SaysRead : Command → List Call → Said → Type 0
+SaysRead command calls said = IsStopped (asked_files command) calls said ⊎ IsDone command calls said
+
 done_not_stopped : (contents : Contents) (command : Command) (cs ds : List Call) (s t : Said) → AreSound contents cs → AreSound contents ds
-    → IsDone command cs s → SaysCommand (Some command) ds t → SameStop cs ds s t
+    → IsDone command cs s → SaysRead command ds t → SameStop cs ds s t
 done_not_stopped contents command cs ds s t sc sd h (inl k) =
     let sc2 : AreSound contents (h.loads ++ h.saves) = subst (AreSound contents) h.calls_are sc in
     absurd (stops_or_reads contents (asked_files command) ds h.loads t h.items sd (sound_front contents h.loads h.saves sc2) (stops (asked_files command) ds t k) h.read)
 done_not_stopped contents command cs ds s t sc sd h (inr k) = done_once contents command cs ds s t sc sd h k
 
-says_once : (contents : Contents) (command : Option Command) (cs ds : List Call) (s t : Said) → AreSound contents cs → AreSound contents ds
-    → SaysCommand command cs s → SaysCommand command ds t → SameStop cs ds s t
-says_once contents None cs ds s t sc sd h k = record { calls = h.0 ∙ sym k.0; said = h.1 ∙ sym k.1 }
-says_once contents (Some command) cs ds s t sc sd (inr h) k = done_not_stopped contents command cs ds s t sc sd h k
-says_once contents (Some command) cs ds s t sc sd (inl h) (inl k) =
+read_once : (contents : Contents) (command : Command) (cs ds : List Call) (s t : Said) → AreSound contents cs → AreSound contents ds
+    → SaysRead command cs s → SaysRead command ds t → SameStop cs ds s t
+read_once contents command cs ds s t sc sd (inr h) k = done_not_stopped contents command cs ds s t sc sd h k
+read_once contents command cs ds s t sc sd (inl h) (inl k) =
     stops_once contents (asked_files command) cs ds s t sc sd (stops (asked_files command) cs s h) (stops (asked_files command) ds t k)
-says_once contents (Some command) cs ds s t sc sd (inl h) (inr k) =
+read_once contents command cs ds s t sc sd (inl h) (inr k) =
     let back = done_not_stopped contents command ds cs t s sd sc k (inl h) in
     record { calls = sym back.calls; said = sym back.said }
 
+module _ (contents : Contents) (cs ds : List Call) (s t : Said) (sc : AreSound contents cs) (sd : AreSound contents ds) where
+  saves_once : (stop : SameStop cs ds s t) → saves_in cs ≡ saves_in ds
+  saves_once stop = ap saves_in stop.calls
+
+  says_once : (command : Option Command) → SaysCommand command cs s → SaysCommand command ds t → AreSame command (saves_in cs) (saves_in ds) s t
+  says_once None h k = record { files = ap saves_in (h.0 ∙ sym k.0); answer = h.1 ∙ sym k.1 }
+  says_once (Some (image file base)) h k = let same = read_once contents (image file base) cs ds s t sc sd h k in record { files = saves_once same; answer = same.said }
+  says_once (Some (link out definition inputs)) h k = let same = read_once contents (link out definition inputs) cs ds s t sc sd h k in record { files = saves_once same; answer = same.said }
+  says_once (Some (implib out inputs)) h k = let same = read_once contents (implib out inputs) cs ds s t sc sd h k in record { files = saves_once same; answer = same.said }
+  says_once (Some (bind out target file)) h k = let same = read_once contents (bind out target file) cs ds s t sc sd h k in record { files = saves_once same; answer = same.said }
+  says_once (Some (gen count prefix)) h k = record {
+    files = gen_files_once contents (record { count = count; prefix = prefix }) cs ds s t sc sd h k;
+    answer = gen_said_once contents (record { count = count; prefix = prefix }) cs ds s t sc sd h k;
+  }
+
 pub one_answer : OneAnswer
 one_answer words contents saves others said other h k =
-    let same = says_once contents (command_of words) h.calls k.calls said other h.sound k.sound h.says k.says in
-    record { files = h.saves_are ∙ (ap saves_in same.calls ∙ sym k.saves_are); answer = same.said }
+    let command = command_of words in
+    let same = says_once contents h.calls k.calls said other h.sound k.sound command h.says k.says in
+    subst (λ (fs : List Saved). AreSame command fs others said other) (sym h.saves_are) (subst (λ (fs : List Saved). AreSame command (saves_in h.calls) fs said other) (sym k.saves_are) same)

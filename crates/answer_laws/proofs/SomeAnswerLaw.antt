@@ -1,5 +1,5 @@
 -- Words and contents have an answer.
-use Rattle.std.proofs.Common.{◌≡◌, ◌⊎◌, ℕ, List, [], ◌∷◌, ◌++◌, inl, inr, refl}
+use Rattle.std.proofs.Common.{◌≡◌, ◌⊎◌, ℕ, List, [], ◌∷◌, ◌++◌, inl, inr, refl, sym, subst}
 use Rattle.std.specs.Prelude.{Result, Ok, Err, Option, None, Some}
 use Rattle.lx_ports.specs.Calls.{Call, load, save}
 use Rattle.lx_ports.specs.Files.{Contents}
@@ -7,17 +7,20 @@ use Rattle.lx_ports.specs.declared.files.LoadFault.{LoadFault}
 use Rattle.link_model.specs.OneSegment.{alone}
 use Rattle.lx_answer.specs.Answer.{Answer, saves_in}
 use Rattle.lx_answer.specs.FileLine.{usage_line}
+use Rattle.lx_answer.specs.BindAnswer.{BindAnswer, bind_outcome}
 use Rattle.lx_answer.specs.ImageAnswer.{NAME, ImageAnswer, image_outcome}
 use Rattle.lx_answer.specs.ImplibAnswer.{all_imports, implib_outcome}
 use Rattle.lx_answer.specs.LinkAnswer.{input_of, link_outcome}
-use Rattle.lx_answer.specs.Loading.{AreRead, IsRead, ReadsAnswer}
+use Rattle.lx_answer.specs.Loading.{AreRead, Asked, IsRead, IsStopped, ReadsAnswer}
 use Rattle.lx_answer.specs.Outcome.{Outcome, Saved}
-use Rattle.lx_answer.specs.Reading.{Item, object, object_file}
-use Rattle.lx_answer.specs.Says.{ComesTo, Finishes, SaysCommand, asked_files, said_after}
+use Rattle.lx_answer.specs.Reading.{Item, object, object_file, linked, module_file, resources, resource_file}
+use Rattle.lx_answer.specs.Says.{ComesTo, Finishes, IsDone, SaysCommand, asked_files, said_after}
 use Rattle.lx_answer.specs.Stem.{stem_of}
-use Rattle.lx_answer.specs.Words.{Command, command_of, image, link, implib}
+use Rattle.lx_answer.specs.Words.{Command, command_of, image, link, implib, bind, gen}
 use Rattle.lx_answer.specs.declared.said.Said.{Said}
-use Rattle.answer_laws.specs.AnswerLaws.{HasBytes, IsAnswered, SomeAnswer}
+use Rattle.lx_types.specs.declared.parts.Parts.{Parts}
+use Rattle.res_file.specs.declared.item.ResItem.{ResItem}
+use Rattle.answer_laws.specs.AnswerLaws.{HasBytes, IsAnswered, IsByFiles, SomeAnswer}
 use Rattle.answer_laws.proofs.Links.{some_link}
 use Rattle.answer_laws.proofs.Loads.{AreSound, sound_both, IsLoaded, reads, stopped, all_loaded}
 
@@ -43,12 +46,46 @@ shown_of base file (c ∷ d ∷ calls) (i ∷ j ∷ items) h = absurd h.1
 shown_of base file [] items h = absurd h
 shown_of base file (c ∷ calls) [] h = absurd h
 
-comes_to_some : (command : Command) (calls : List Call) (items : List Item) → AreRead (asked_files command) calls items → HasOutcome command items
-comes_to_some (image file base) calls items h = let found = shown_of base file calls items h in record { outcome = found.0; comes_to = found.1 }
-comes_to_some (link out definition inputs) calls items h =
+-- what is read as a module, and as a resource file
+module_is : (target : List ℕ) (r : Result (List ℕ) LoadFault) (i : Item) → ReadsAnswer (record { kind = module_file; name = target }) r i → (m : Parts) × (i ≡ linked m)
+module_is target (Ok bytes) (linked m) h = (m, refl)
+module_is target (Ok bytes) i h = absurd h.1
+module_is target (Err f) i h = absurd h
+
+items_are : (file : List ℕ) (r : Result (List ℕ) LoadFault) (i : Item) → ReadsAnswer (record { kind = resource_file; name = file }) r i → (xs : List ResItem) × (i ≡ resources xs)
+items_are file (Ok bytes) (resources xs) h = (xs, refl)
+items_are file (Ok bytes) i h = absurd h.1
+items_are file (Err f) i h = absurd h
+
+one_load : (a : Asked) (call : Call) (i : Item) → IsRead a call i → (r : Result (List ℕ) LoadFault) × ReadsAnswer a r i
+one_load a (load name answer) i h = (answer, h.1)
+one_load a (save name bytes answer) i h = absurd h
+
+bound_of : (out target file : List ℕ) (calls : List Call) (items : List Item)
+    → AreRead (record { kind = module_file; name = target } ∷ record { kind = resource_file; name = file } ∷ []) calls items → (o : Outcome) × BindAnswer out items o
+bound_of out target file (c ∷ d ∷ []) (i ∷ j ∷ []) h =
+    let first = one_load (record { kind = module_file; name = target }) c i h.0 in
+    let second = one_load (record { kind = resource_file; name = file }) d j h.1.0 in
+    let m = module_is target first.0 i first.1 in
+    let xs = items_are file second.0 j second.1 in
+    let o = bind_outcome out m.0.file xs.0 in
+    (o, subst (λ x. BindAnswer out (x ∷ j ∷ []) o) (sym m.1) (subst (λ x. BindAnswer out (linked m.0 ∷ x ∷ []) o) (sym xs.1) refl))
+bound_of out target file (c ∷ d ∷ e ∷ calls) (i ∷ j ∷ []) h = absurd h.1.1
+bound_of out target file (c ∷ d ∷ []) (i ∷ j ∷ k ∷ items) h = absurd h.1.1
+bound_of out target file (c ∷ d ∷ e ∷ calls) (i ∷ j ∷ k ∷ items) h = absurd h.1.1
+bound_of out target file (c ∷ []) (i ∷ items) h = absurd h.1
+bound_of out target file (c ∷ d ∷ calls) (i ∷ []) h = absurd h.1
+bound_of out target file [] items h = absurd h
+bound_of out target file (c ∷ calls) [] h = absurd h
+
+comes_to_some : (command : Command) → IsByFiles (Some command) → (calls : List Call) (items : List Item) → AreRead (asked_files command) calls items → HasOutcome command items
+comes_to_some (image file base) by calls items h = let found = shown_of base file calls items h in record { outcome = found.0; comes_to = found.1 }
+comes_to_some (link out definition inputs) by calls items h =
     let found = some_link (input_of out items) in
     record { outcome = link_outcome out found.link; comes_to = record { link = found.link; of_input = found.of_input; comes_to = refl } }
-comes_to_some (implib out inputs) calls items h = record { outcome = implib_outcome out (all_imports (stem_of out) items); comes_to = refl }
+comes_to_some (implib out inputs) by calls items h = record { outcome = implib_outcome out (all_imports (stem_of out) items); comes_to = refl }
+comes_to_some (bind out target file) by calls items h = let found = bound_of out target file calls items h in record { outcome = found.0; comes_to = found.1 }
+comes_to_some (gen count prefix) by calls items h = absurd by
 
 -- ---- the save
 
@@ -76,16 +113,23 @@ pub record IsSaid (contents : Contents) (command : Option Command) : Type 0 wher
   pub said : Said
   pub says : SaysCommand command calls said
 
-said_behind : (contents : Contents) (command : Command) → IsLoaded contents (asked_files command) → IsSaid contents (Some command)
-said_behind contents command (stopped calls said sound stop) = record { calls = calls; sound = sound; said = said; says = inl stop }
-said_behind contents command (reads calls items sound read) =
-    let found = comes_to_some command calls items read in
+says_of : (command : Command) → IsByFiles (Some command) → (calls : List Call) (said : Said) → IsStopped (asked_files command) calls said ⊎ IsDone command calls said → SaysCommand (Some command) calls said
+says_of (image file base) by calls said h = h
+says_of (link out definition inputs) by calls said h = h
+says_of (implib out inputs) by calls said h = h
+says_of (bind out target file) by calls said h = h
+says_of (gen count prefix) by calls said h = absurd by
+
+said_behind : (contents : Contents) (command : Command) → IsByFiles (Some command) → IsLoaded contents (asked_files command) → IsSaid contents (Some command)
+said_behind contents command by (stopped calls said sound stop) = record { calls = calls; sound = sound; said = said; says = says_of command by calls said (inl stop) }
+said_behind contents command by (reads calls items sound read) =
+    let found = comes_to_some command by calls items read in
     let end = finished contents found.outcome.saved found.outcome in
     record {
       calls = calls ++ end.saves;
       sound = sound_both contents calls end.saves sound end.sound;
       said = end.said;
-      says = inr (record {
+      says = says_of command by (calls ++ end.saves) end.said (inr (record {
         loads = calls;
         items = items;
         read = read;
@@ -94,16 +138,16 @@ said_behind contents command (reads calls items sound read) =
         saves = end.saves;
         finished = end.finished;
         calls_are = refl;
-      });
+      }));
     }
 
-all_said : (contents : Contents) → HasBytes contents → (command : Option Command) → IsSaid contents command
-all_said contents h None = record { calls = []; sound = tt; said = record { status = 2; text = usage_line }; says = (refl, refl) }
-all_said contents h (Some command) = said_behind contents command (all_loaded contents h (asked_files command))
+all_said : (contents : Contents) → HasBytes contents → (command : Option Command) → IsByFiles command → IsSaid contents command
+all_said contents h None by = record { calls = []; sound = tt; said = record { status = 2; text = usage_line }; says = (refl, refl) }
+all_said contents h (Some command) by = said_behind contents command by (all_loaded contents h (asked_files command))
 
 pub some_answer : SomeAnswer
-some_answer words contents h =
-    let found = all_said contents h (command_of words) in
+some_answer words contents h by =
+    let found = all_said contents h (command_of words) by in
     record {
       saves = saves_in found.calls;
       said = found.said;

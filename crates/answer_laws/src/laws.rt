@@ -3,12 +3,13 @@
 ghost use Rattle.answer_laws.specs.AnswerLaws.{OneAnswer, SomeAnswer};
 ghost use Rattle.answer_laws.specs.SmallestObjects.{ShowsSmallestObjects};
 
-/// Words, with what each name has, have one answer at most: one status, one text, and the same files saved.
+/// Words, with what each name has, have one answer at most: one status, one text, and the same files saved; of `gen` its object
+/// files mean the same modules, however they are spelled.
 pub fn words_have_one_answer()
     ensures { OneAnswer }
 {}
 
-/// They have one, whatever the words are and whatever bytes files have.
+/// They have one, whatever bytes files have and whatever the words are but those of `gen`, of which it is not proved.
 pub fn words_have_an_answer()
     ensures { SomeAnswer }
 {}

@@ -1,10 +1,13 @@
 //! Which command the words are.
 ghost use Rattle.std.specs.Prelude.{◌≡◌, IfSome, map, option_map, string_bytes};
 ghost use Rattle.obj_types.specs.Definition.{IsBase};
-ghost use Rattle.lx_answer.specs.Words.{command_of, base_of, definition_of, image_of, implib_of, link_of};
-ghost use Rattle.command_words.specs.Commands.{HasBase, meant};
+ghost use Rattle.lx_answer.specs.Words.{command_of, base_of, bind_of, count_of, definition_of, gen_of, image_of, implib_of, link_of};
+ghost use Rattle.command_words.specs.Commands.{HasBase, HasCount, IsCount, meant};
 
 use hex::FromHex;
+
+/// The most modules that `gen` makes.
+const MOST: u32 = 64;
 
 /// What the words ask for.
 #[derive(Clone, Copy)]
@@ -25,6 +28,17 @@ pub enum Command<'a> {
         out: &'a str,
         inputs: &'a [String],
     },
+    /// `bind OUT MODULE RES`: a module with the items of a resource file.
+    Bind {
+        out: &'a str,
+        target: &'a str,
+        resources: &'a str,
+    },
+    /// `gen N PREFIX`: so many modules, to try the linker and the loader on.
+    Gen {
+        count: u32,
+        prefix: &'a str,
+    },
 }
 
 impl<'a> Command<'a> {
@@ -32,6 +46,7 @@ impl<'a> Command<'a> {
     pub fn of(words: &'a [String]) -> Option<Command<'a>>
         ensures command { option_map meant result ≡ command_of (map string_bytes words.now) }
         ensures based { IfSome result HasBase }
+        ensures counted { IfSome result HasCount }
     {
         let [word, rest @ ..] = words else {
             return None;
@@ -40,6 +55,8 @@ impl<'a> Command<'a> {
             "image" => image(rest),
             "link" => link(rest),
             "implib" => implib(rest),
+            "bind" => bind(rest),
+            "gen" => generator(rest),
             _ => None,
         }
     }
@@ -48,6 +65,7 @@ impl<'a> Command<'a> {
 fn image<'a>(words: &'a [String]) -> Option<Command<'a>>
     ensures command { option_map meant result ≡ image_of (map string_bytes words.now) }
     ensures based { IfSome result HasBase }
+    ensures counted { IfSome result HasCount }
 {
     let [object, base] = words else {
         return None;
@@ -75,6 +93,7 @@ fn base_of(word: &str) -> Option<u32>
 fn link<'a>(words: &'a [String]) -> Option<Command<'a>>
     ensures command { option_map meant result ≡ link_of (map string_bytes words.now) }
     ensures based { IfSome result HasBase }
+    ensures counted { IfSome result HasCount }
 {
     let [out, definition, inputs @ ..] = words else {
         return None;
@@ -98,6 +117,7 @@ fn definition_of(word: &str) -> Option<&str>
 fn implib<'a>(words: &'a [String]) -> Option<Command<'a>>
     ensures command { option_map meant result ≡ implib_of (map string_bytes words.now) }
     ensures based { IfSome result HasBase }
+    ensures counted { IfSome result HasCount }
 {
     let [out, inputs @ ..] = words else {
         return None;
@@ -106,4 +126,46 @@ fn implib<'a>(words: &'a [String]) -> Option<Command<'a>>
         return None;
     }
     Some(Command::Implib { out, inputs })
+}
+
+fn bind<'a>(words: &'a [String]) -> Option<Command<'a>>
+    ensures command { option_map meant result ≡ bind_of (map string_bytes words.now) }
+    ensures based { IfSome result HasBase }
+    ensures counted { IfSome result HasCount }
+{
+    let [out, target, resources] = words else {
+        return None;
+    };
+    Some(Command::Bind {
+        out,
+        target,
+        resources,
+    })
+}
+
+fn generator<'a>(words: &'a [String]) -> Option<Command<'a>>
+    ensures command { option_map meant result ≡ gen_of (map string_bytes words.now) }
+    ensures based { IfSome result HasBase }
+    ensures counted { IfSome result HasCount }
+{
+    let [count, prefix] = words else {
+        return None;
+    };
+    Some(Command::Gen {
+        count: count_of(count)?,
+        prefix,
+    })
+}
+
+// The number from 1 to 64 that a word is, in decimal digits without a sign, and without zeros in front.
+fn count_of(word: &str) -> Option<u32>
+    ensures named { result ≡ count_of word.now }
+    ensures few { IfSome result IsCount }
+{
+    let digits = word.as_bytes();
+    if digits.is_empty() || digits[0] <= b'0' {
+        return None;
+    }
+    let count = word.parse::<u32>().ok()?;
+    if count <= MOST { Some(count) } else { None }
 }

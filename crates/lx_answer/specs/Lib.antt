@@ -8,9 +8,12 @@ pub mod Outcome
 pub mod LinkAnswer
 pub mod ImageAnswer
 pub mod ImplibAnswer
+pub mod BindAnswer
 pub mod Says
 pub mod Answer
 pub mod Ends
 pub mod RunAnswer
 pub mod RunEnds
 pub mod WorkedRuns
+pub mod GenAnswer
+pub mod WorkedGen

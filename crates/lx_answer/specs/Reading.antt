@@ -12,6 +12,11 @@ use Rattle.def_file.specs.Reading as definitions
 use Rattle.lx_model.specs.Module as modules
 use Rattle.refusal_text.specs.Files.{omf_text, lx_text, def_text}
 use Rattle.refusal_text.specs.Sessions.{session_text}
+use Rattle.refusal_text.specs.Resources.{res_text}
+use Rattle.res_file.specs.ResFile.{IsResFile}
+use Rattle.res_file.specs.Faults.{FirstFault}
+use Rattle.res_file.specs.declared.item.ResItem.{ResItem}
+use Rattle.res_file.specs.declared.refusal.ResRefusal.{ResRefusal}
 use Rattle.session_model.specs.declared.sessions.Session.{Session}
 use Rattle.session_model.specs.declared.sessions.SessionRefusal.{SessionRefusal}
 use Rattle.session_model.specs.Sessions as sessions
@@ -24,9 +29,10 @@ pub data Form : Type 0 where
   definition_form : Form
   module_form : Form
   session_form : Form
+  resource_form : Form
 
 -- How a command takes a file: as an object file whatever its first byte is; as an object file or a library; as a
--- definition file; as a module or a definition file; as a module, or as a session, whatever its first bytes are.
+-- definition file; as a module or a definition file; as a module, as a session, or as a resource file, whatever its first bytes are.
 pub data Kind : Type 0 where
   object_file : Kind
   object_or_library : Kind
@@ -34,6 +40,7 @@ pub data Kind : Type 0 where
   module_or_definition : Kind
   module_file : Kind
   session_file : Kind
+  resource_file : Kind
 
 -- A library begins with F0h.
 abbrev pub is_library : List ℕ → Bool
@@ -51,6 +58,7 @@ form_of definition_file bytes = definition_form
 form_of module_or_definition bytes = if is_module bytes then module_form else definition_form
 form_of module_file bytes = module_form
 form_of session_file bytes = session_form
+form_of resource_file bytes = resource_form
 
 -- ---- what is read
 
@@ -60,6 +68,7 @@ pub data Item : Type 0 where
   definition : DefFile → Item
   linked : Parts → Item
   session : Session → Item
+  resources : List ResItem → Item
 
 -- The bytes are a file of the form, and this is what they mean.
 abbrev pub IsItem : Form → List ℕ → Item → Type 0
@@ -68,6 +77,7 @@ IsItem library_form bytes (library ms) = libraries.Lib bytes ms
 IsItem definition_form bytes (definition d) = definitions.Def bytes d
 IsItem module_form bytes (linked m) = modules.Lx bytes m
 IsItem session_form bytes (session s) = sessions.Ses bytes s
+IsItem resource_form bytes (resources items) = IsResFile bytes items
 IsItem _ bytes item = ⊥
 
 -- ---- faults
@@ -97,6 +107,11 @@ pub record SessionFault (bytes text : List ℕ) : Type 0 where
   pub first : sessions.SesFault bytes ≡ Some refusal
   pub told : text ≡ session_text refusal
 
+pub record ResourceFault (bytes text : List ℕ) : Type 0 where
+  pub refusal : ResRefusal
+  pub first : FirstFault bytes refusal
+  pub told : text ≡ res_text refusal
+
 -- The bytes are no file of the form, and this is told of their first fault.
 abbrev pub IsFault : Form → List ℕ → List ℕ → Type 0
 IsFault object_form bytes text = ObjectFault bytes text
@@ -104,3 +119,4 @@ IsFault library_form bytes text = LibraryFault bytes text
 IsFault definition_form bytes text = DefinitionFault bytes text
 IsFault module_form bytes text = ModuleFault bytes text
 IsFault session_form bytes text = SessionFault bytes text
+IsFault resource_form bytes text = ResourceFault bytes text

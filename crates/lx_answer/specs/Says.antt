@@ -2,15 +2,17 @@
 use Rattle.std.specs.Prelude.{◌≡◌, ◌⊎◌, ℕ, List, [], ◌∷◌, ◌++◌, codes, map, Option, Some, None, Result, Ok, Err}
 use Rattle.lx_ports.specs.Calls.{Call, save}
 use Rattle.lx_ports.specs.declared.files.SaveFault.{SaveFault}
+use Rattle.lx_answer.specs.BindAnswer.{BindAnswer}
 use Rattle.lx_answer.specs.FileLine.{file_line, usage_line}
+use Rattle.lx_answer.specs.GenAnswer.{SaysGen}
 use Rattle.lx_answer.specs.ImageAnswer.{ImageAnswer}
 use Rattle.lx_answer.specs.ImplibAnswer.{all_imports, implib_outcome}
 use Rattle.lx_answer.specs.LinkAnswer.{LinkAnswer}
 use Rattle.lx_answer.specs.Loading.{Asked, AreRead, IsStopped}
 use Rattle.lx_answer.specs.Outcome.{Outcome, Saved}
-use Rattle.lx_answer.specs.Reading.{Item, object_file, object_or_library, definition_file, module_or_definition}
+use Rattle.lx_answer.specs.Reading.{Item, object_file, object_or_library, definition_file, module_or_definition, module_file, resource_file}
 use Rattle.lx_answer.specs.Stem.{stem_of}
-use Rattle.lx_answer.specs.Words.{Command, command_of, image, link, implib}
+use Rattle.lx_answer.specs.Words.{Command, command_of, image, link, implib, bind, gen}
 use Rattle.lx_answer.specs.declared.said.Said.{Said}
 
 -- ---- the files of a command
@@ -30,12 +32,16 @@ abbrev pub asked_files : Command → List Asked
 asked_files (image object base) = record { kind = object_file; name = object } ∷ []
 asked_files (link out definition inputs) = asked_definition definition ++ asked_inputs inputs
 asked_files (implib out inputs) = asked_exporters inputs
+asked_files (bind out target resources) = record { kind = module_file; name = target } ∷ record { kind = resource_file; name = resources } ∷ []
+asked_files (gen count prefix) = []
 
--- What the command comes to, by what its files mean.
+-- What the command comes to, by what its files mean. That is not asked of `gen`, which reads none.
 abbrev pub ComesTo : Command → List Item → Outcome → Type 0
 ComesTo (image object base) items outcome = ImageAnswer base items outcome
 ComesTo (link out definition inputs) items outcome = LinkAnswer out items outcome
 ComesTo (implib out inputs) items outcome = outcome ≡ implib_outcome out (all_imports (stem_of out) items)
+ComesTo (bind out target resources) items outcome = BindAnswer out items outcome
+ComesTo (gen count prefix) items outcome = ⊥
 
 -- ---- saving, behind all loads
 
@@ -69,6 +75,7 @@ pub record IsDone (command : Command) (calls : List Call) (said : Said) : Type 0
 
 abbrev pub SaysCommand : Option Command → List Call → Said → Type 0
 SaysCommand None calls said = (calls ≡ []) × (said ≡ record { status = 2; text = usage_line })
+SaysCommand (Some (gen count prefix)) calls said = SaysGen (record { count = count; prefix = prefix }) calls said
 SaysCommand (Some command) calls said = IsStopped (asked_files command) calls said ⊎ IsDone command calls said
 
 -- The words, with these calls and their answers, have this status and text.

@@ -1,6 +1,7 @@
 -- What the words of the command line ask for.
-use Rattle.std.specs.Prelude.{ℕ, ◌%◌, ◌==◌, ◌&&◌, nat_le, if◌then◌else◌, List, [], ◌∷◌, codes, Option, Some, None, option_map, Result, Ok, Err}
+use Rattle.std.specs.Prelude.{ℕ, ◌%◌, ◌==◌, ◌&&◌, nat_le, if◌then◌else◌, List, [], ◌∷◌, codes, decimal, find, Option, Some, None, option_map, Result, Ok, Err}
 use Rattle.std.specs.Int.{w32, from_be_bytes}
+use Rattle.std.specs.List.{range_with_len}
 use Rattle.std.specs.Str.{bytes_eq}
 use Rattle.hex.specs.Hex.{decode_sized}
 use Rattle.hex.specs.declared.error.FromHexError.{FromHexError}
@@ -10,6 +11,8 @@ pub data Command : Type 0 where
   image : (object : List ℕ) → (base : ℕ) → Command
   link : (out : List ℕ) → (definition : Option (List ℕ)) → (inputs : List (List ℕ)) → Command
   implib : (out : List ℕ) → (inputs : List (List ℕ)) → Command
+  bind : (out : List ℕ) → (target : List ℕ) → (resources : List ℕ) → Command
+  gen : (count : ℕ) → (prefix : List ℕ) → Command
 
 -- ---- `image OBJ BASE`
 
@@ -45,6 +48,27 @@ abbrev pub implib_of : List (List ℕ) → Option Command
 implib_of (out ∷ input ∷ inputs) = Some (implib out (input ∷ inputs))
 implib_of _ = None
 
+-- ---- `bind OUT MODULE RES`
+
+abbrev pub bind_of : List (List ℕ) → Option Command
+bind_of (out ∷ target ∷ resources ∷ []) = Some (bind out target resources)
+bind_of _ = None
+
+-- ---- `gen N PREFIX`
+
+-- as many modules as a library has
+abbrev pub MOST : ℕ
+MOST = 64
+
+-- N is a number from 1 to 64 in decimal digits, without zeros in front of it.
+unfoldable pub count_of : List ℕ → Option ℕ
+count_of word = find (λ n. bytes_eq word (decimal n)) (range_with_len 1 MOST)
+
+-- PREFIX is any word.
+abbrev pub gen_of : List (List ℕ) → Option Command
+gen_of (count ∷ prefix ∷ []) = option_map (λ n. gen n prefix) (count_of count)
+gen_of _ = None
+
 -- ---- all
 
 -- All other words are no command.
@@ -54,4 +78,6 @@ command_of (word ∷ words) =
     if bytes_eq word (codes "image") then image_of words
     else if bytes_eq word (codes "link") then link_of words
     else if bytes_eq word (codes "implib") then implib_of words
+    else if bytes_eq word (codes "bind") then bind_of words
+    else if bytes_eq word (codes "gen") then gen_of words
     else None

@@ -6,4 +6,7 @@ mod said;
 mod worked;
 
 pub use said::Said;
-pub use worked::{line_files_are_asked, run_words_are_known, runs_are_said};
+pub use worked::{
+    gen_saves_are_said, gen_words_are_known, line_files_are_asked, run_words_are_known,
+    runs_are_said,
+};

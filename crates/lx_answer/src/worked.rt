@@ -1,6 +1,7 @@
 //! Worked values of the definitions, from outside them: each function's contract is a table of values that the definitions
 //! give.
 
+ghost use Rattle.lx_answer.specs.WorkedGen.{WorkedGenSaves, WorkedGenWords};
 ghost use Rattle.lx_answer.specs.WorkedRuns.{WorkedLineFiles, WorkedRunWords, WorkedRuns};
 
 /// The words of a run, which are no command of the tool.
@@ -16,4 +17,14 @@ pub fn runs_are_said()
 /// Which files module lines load, in which order, and how it is told that modules are no library.
 pub fn line_files_are_asked()
     ensures { WorkedLineFiles }
+{}
+
+/// The words of `gen`, with numbers from 1 to 64 alone.
+pub fn gen_words_are_known()
+    ensures { WorkedGenWords }
+{}
+
+/// The order in which `gen` saves its files, and what is said where one is not saved.
+pub fn gen_saves_are_said()
+    ensures { WorkedGenSaves }
 {}

@@ -1,3 +1,4 @@
 pub mod Files
 pub mod Links
 pub mod Sessions
+pub mod Resources

@@ -2,3 +2,4 @@ pub mod Walk
 pub mod Names
 mod LinkInput
 mod Readers
+mod Items

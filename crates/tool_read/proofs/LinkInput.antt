@@ -10,7 +10,7 @@ use Rattle.obj_types.specs.declared.input.LinkInput.{LinkInput}
 use Rattle.lx_ports.specs.Calls.{Call, load, save}
 use Rattle.lx_answer.specs.LinkAnswer.{definition_in, input_with, libraries_in, objects_in}
 use Rattle.lx_answer.specs.Loading.{AreRead, IsRead}
-use Rattle.lx_answer.specs.Reading.{IsItem, Item, definition, is_library, library, library_form, linked, object, object_form, object_or_library, session}
+use Rattle.lx_answer.specs.Reading.{IsItem, Item, definition, is_library, library, library_form, linked, object, object_form, object_or_library, resources, session}
 use Rattle.lx_answer.specs.Says.{asked_inputs}
 use Rattle.tool_read.specs.declared.modules.Modules.{Modules}
 use Rattle.tool_read.specs.Readings.{asked}
@@ -37,6 +37,7 @@ none_defines (n ∷ names) (c ∷ calls) (library ms ∷ items) are = none_defin
 none_defines (n ∷ names) (c ∷ calls) (definition d ∷ items) are = absurd (item_is_none n c d are.0)
 none_defines (n ∷ names) (c ∷ calls) (linked m ∷ items) are = none_defines names calls items are.1
 none_defines (n ∷ names) (c ∷ calls) (session s ∷ items) are = none_defines names calls items are.1
+none_defines (n ∷ names) (c ∷ calls) (resources xs ∷ items) are = none_defines names calls items are.1
 
 same_input : (own : List ℕ) (items : List Item) (input : LinkInput) → input.objects ≡ flat_map objects_in items → input.libs ≡ flat_map libraries_in items → input.def ≡ definition_in items → input.stem ≡ own
     → input ≡ input_with own items

@@ -126,6 +126,11 @@ reads_one of kind name answer (Ok v) is = record { items = of v ∷ []; read = r
 reads_one of kind name answer (Err (fail.Said said)) is = stopped_one (asked kind name) [] answer said is
 reads_one of kind name answer (Err fail.NoMemory) is = begun_one (asked kind name) [] answer
 
+-- The same of a file that is loaded.
+pub in_turn : {T : Type 0} (of : T → Item) (kind : Kind) (name : List ℕ) (answer : Result (List ℕ) LoadFault) (before now : FilesState) (r : Result T (Fail Said)) → IsOneLoad name answer before now → ReadsLoad of kind name answer r
+    → ReadsInTurn (λ v items. items ≡ of v ∷ []) (asked kind name ∷ []) before now r
+in_turn of kind name answer before now r load_is is = record { calls = load name answer ∷ []; loads = one_load name answer before now load_is; reads = reads_one of kind name answer r is }
+
 -- Others, behind files that were read.
 pub reads_joined : {T : Type 0} (P Q : T → List Item → Type 0) (f g : List Asked) (xs ys : List Call) (is : List Item) (r : Result T (Fail Said)) → AreRead f xs is
     → ReadsAll P g ys r → ((v : T) (js : List Item) → AreRead g ys js → P v js → Q v (is ++ js)) → ReadsAll Q (f ++ g) (xs ++ ys) r

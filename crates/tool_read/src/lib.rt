@@ -2,6 +2,7 @@
 //! or what is said of a file that was not loaded, or has a fault.
 #![tactic(auto)]
 
+mod bind_files;
 mod counts;
 mod definitions;
 mod export_files;
@@ -12,8 +13,10 @@ mod link_files;
 mod loads;
 mod modules;
 mod refusals;
+mod resources;
 mod sessions;
 
+pub use bind_files::{Binding, read_binding};
 pub use export_files::read_exporters;
 pub use exporters::{Exporter, read_module_file};
 pub use inputs::Input;

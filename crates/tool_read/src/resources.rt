@@ -1,0 +1,76 @@
+//! Resource files.
+ghost use Rattle.std.specs.Prelude.{◌≡◌, ◌≤◌, ℕ, List, Result, IfOk, length, sum_by};
+ghost use Rattle.lx_ports.specs.Calls.{load_answer};
+ghost use Rattle.lx_ports.specs.declared.files.LoadFault.{LoadFault};
+ghost use Rattle.refusal_text.specs.Resources.{res_text};
+ghost use Rattle.res_file.specs.ResFile.{AreApart};
+ghost use Rattle.lx_answer.specs.Loading.{file_limit};
+ghost use Rattle.lx_answer.specs.Reading.{resources, resource_file, resource_form};
+ghost use Rattle.tool_read.specs.Readings.{ReadsForm, ReadsLoad, SaysOf};
+ghost use Rattle.tool_read.specs.Steps.{IsOneLoad};
+
+use crate::lines::told;
+use crate::loads::{FILE_LIMIT, opened};
+use lx_answer::Said;
+use lx_ports::{Files, LoadFault};
+use lx_types::{Bytes, Fail, Seq};
+use refusal_text::res_text;
+use res_file::{ResItem, ResRefusal, read_res};
+use std::alloc::Global;
+
+fn fault(alloc: Global, refusal: ResRefusal) -> Fail<Bytes>
+    ensures { SaysOf (λ text. text ≡ res_text refusal) result }
+{
+    match res_text(alloc, refusal) {
+        Ok(text) => Fail::Said(Seq::from_vec(text.into_bytes())),
+        Err(_) => Fail::NoMemory,
+    }
+}
+
+fn items_in(alloc: Global, bytes: &[u8]) -> Result<Seq<ResItem>, Fail<Bytes>>
+    requires { length bytes.now ≤ file_limit }
+    ensures read { ReadsForm resources resource_form bytes.now result }
+    ensures apart { IfOk result AreApart }
+    ensures small { IfOk result (λ items. sum_by (λ i. length i.bytes) items ≤ file_limit) }
+{
+    match read_res(alloc, bytes) {
+        Ok(items) => Ok(Seq::from_vec(items)),
+        Err(Fail::Said(refusal)) => Err(fault(alloc, refusal)),
+        Err(Fail::NoMemory) => Err(Fail::NoMemory),
+    }
+}
+
+fn read_resource_file(
+    alloc: Global,
+    name: &str,
+    loaded: Result<Vec<u8>, LoadFault>,
+) -> Result<Seq<ResItem>, Fail<Said>>
+    requires { IfOk loaded (λ bytes. length bytes.items ≤ file_limit) }
+    ensures read { ReadsLoad resources resource_file name.now (load_answer loaded) result }
+    ensures apart { IfOk result AreApart }
+    ensures small { IfOk result (λ items. sum_by (λ i. length i.bytes) items ≤ file_limit) }
+{
+    match opened(alloc, name, loaded) {
+        Ok(bytes) => match items_in(alloc, &bytes) {
+            Ok(items) => Ok(items),
+            Err(why) => Err(told(alloc, name, why)),
+        },
+        Err(why) => Err(why),
+    }
+}
+
+/// The items of a resource file, which is loaded, whatever its first bytes are.
+pub fn read_resources<F: Files>(
+    alloc: Global,
+    files: &mut F,
+    name: &str,
+) -> Result<Seq<ResItem>, Fail<Said>>
+    ensures read { (answer : Result (List ℕ) LoadFault)
+        × IsOneLoad name.now answer (F.state files.old) (F.state files.new)
+        × ReadsLoad resources resource_file name.now answer result }
+    ensures apart { IfOk result AreApart }
+    ensures small { IfOk result (λ items. sum_by (λ i. length i.bytes) items ≤ file_limit) }
+{
+    let loaded = files.load(alloc, name, FILE_LIMIT);
+    read_resource_file(alloc, name, loaded)
+}
