@@ -1,0 +1,9 @@
+pub mod Answered
+pub mod FewObjects
+pub mod Ranges
+pub mod Words
+pub mod Meant
+pub mod Linked
+pub mod Saved
+pub mod Placed
+pub mod Made

@@ -1,0 +1,17 @@
+use Rattle.std.proofs.Common.{◌∙◌, ap, sym}
+use Rattle.std.specs.Prelude.{slice_index}
+use Rattle.lx_model.specs.ModuleBytes.{fixed_page}
+use Rattle.gen_core.specs.Fixing.{front_words, page_words, total}
+use Rattle.gen_core.proofs.Words.{no_pages, page_further, total_more}
+use Rattle.gen_core.proofs.fixing.Standing.sum_of_object.Goals as goal
+
+pub loop-page-init : goal.loop-page-init
+loop-page-init g c = let s = c.args.self.now in sym (ap total (no_pages s.lib.now s.«module» s.bases.now c.args.object))
+
+pub loop-page-preserved : goal.loop-page-preserved
+loop-page-preserved g c =
+    let s = c.args.self.now in
+    let p = c.loop-page.page in
+    let front = front_words s.lib.now s.bases.now s.«module» c.args.object p in
+    let page = page_words (slice_index (fixed_page s.lib.now s.«module» s.bases.now (record { object = c.args.object; page = p }))) in
+    total_more front page c.loop-page.sum c.in_ok-sum.field-0 c.loop-page.invariant c.in_ok-sum.ensures ∙ ap total (page_further s.lib.now s.«module» s.bases.now c.args.object p)

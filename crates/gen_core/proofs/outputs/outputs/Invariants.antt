@@ -1,0 +1,5 @@
+use Rattle.gen_core.proofs.Made.{HasMade}
+use Rattle.gen_core.proofs.outputs.outputs.Given as goal
+
+abbrev pub invariant-loop-before : goal.invariant-loop-before
+invariant-loop-before l = HasMade l.prefix l.before l.outputs.items

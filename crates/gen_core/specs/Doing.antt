@@ -1,0 +1,34 @@
+-- What the generator does to the files that it is handed.
+use Rattle.std.specs.Prelude.{◌≡◌, ℕ, List, [], ◌∷◌, ◌++◌, OnOk, Result, Ok, Err}
+use Rattle.lx_types.specs.declared.fail.NoMemory.{NoMemory}
+use Rattle.lx_ports.specs.Calls.{Call, save}
+use Rattle.lx_ports.specs.Files.{FilesState, IsSaved, KeepsOthers}
+use Rattle.lx_ports.specs.declared.files.SaveFault.{SaveFault}
+use Rattle.lx_answer.specs.declared.said.Said.{Said}
+use Rattle.lx_answer.specs.Ends.{Holds}
+use Rattle.lx_answer.specs.GenAnswer.{GenWords, SavesInTurn, SaysGen}
+use Rattle.lx_answer.specs.Outcome.{Saved}
+
+-- A file was asked to be saved, with this answer.
+pub record AsksSave (before now : FilesState) (file : Saved) (answer : Result (Unit {0}) SaveFault) : Type 0 where
+  pub saved : OnOk answer (IsSaved before.contents now.contents file.name file.bytes)
+  pub others : KeepsOthers before.contents now.contents file.name
+  pub had : now.calls ≡ before.calls ++ save file.name file.bytes answer ∷ []
+
+-- These files were saved, up to the first that was not, and this is said.
+pub record Saves (files : List Saved) (text : List ℕ) (before now : FilesState) (said : Said) : Type 0 where
+  pub saves : List Call
+  pub says : SavesInTurn files text saves said
+  pub had : now.calls ≡ before.calls ++ saves
+  pub held : Holds before.contents saves now.contents
+
+pub record Generates (words : GenWords) (before now : FilesState) (said : Said) : Type 0 where
+  pub saves : List Call
+  pub says : SaysGen words saves said
+  pub had : now.calls ≡ before.calls ++ saves
+  pub held : Holds before.contents saves now.contents
+
+-- Where there was no memory, the files had no call.
+abbrev pub DoesGen : GenWords → FilesState → FilesState → Result Said NoMemory → Type 0
+DoesGen words before now (Ok said) = Generates words before now said
+DoesGen words before now (Err _) = now ≡ before

@@ -1,0 +1,5 @@
+pub mod Linking
+pub mod Fixing
+pub mod Meant
+pub mod Generated
+pub mod Doing

@@ -1,0 +1,13 @@
+//! A law of the pages.
+
+ghost use Rattle.gen_core.specs.Meant.{WordsAreMeant};
+
+/// The words of the modules' pages, fixed where the modules stand, are those that their links mean ("Fixup Record Table" in
+/// the LX document).
+pub fn words_are_meant()
+    ensures { WordsAreMeant }
+{
+    gen_laws::inputs_are_whole();
+    gen_laws::modules_load();
+    layer_laws::linked_bytes_are_loaded();
+}

@@ -1,0 +1,16 @@
+//! The generator: it makes modules that refer to each other, links them, fixes their pages at the bases at which a process
+//! finds them, adds their words, and saves what is needed to do the same by a session.
+#![tactic(auto)]
+
+mod fixing;
+mod laws;
+mod linking;
+mod outputs;
+mod placing;
+mod saving;
+mod telling;
+
+pub use laws::words_are_meant;
+pub use outputs::Output;
+pub use saving::generate;
+pub use telling::totals;
