@@ -1,0 +1,51 @@
+//! The objects of a linked module in memory.
+
+ghost use Rattle.std.specs.Prelude.{◌≡◌, ◌<◌, ◌^◌, IfOk, length};
+ghost use Rattle.lx_types.specs.Answers.{Answers};
+ghost use Rattle.obj_types.specs.Input.{WholeInput};
+ghost use Rattle.link_core.specs.Links.{IsLinkedFile};
+ghost use Rattle.lx_model.specs.Module.{IsRead, parts_of};
+ghost use Rattle.image_pages.specs.Memory.{IsMemory, RefusesMemory};
+
+use crate::alone::loaded_alone;
+use crate::laws::linked_modules_load_alone;
+use crate::refusals::{ImageRefusal, link_failed};
+use layer_laws::{input_range, linked_bytes_are_loaded, linked_files_are_read};
+use link_core::link;
+use link_model::LaidObject;
+use lx_types::{Bytes, Module, NoMemory};
+use module_pages::read_faultless;
+use obj_types::{Fail, LinkInput};
+use std::alloc::Global;
+
+// The module of the input's linked file, read back.
+fn linked_module(alloc: Global, input: &LinkInput, file: Vec<u8>) -> Result<Module, NoMemory>
+    requires whole { WholeInput input.now }
+    requires linked { IsLinkedFile input.now file.items }
+    requires short { length file.items < 2 ^ 32 }
+    ensures parts { IfOk result (λ parts. parts ≡ parts_of file.items) }
+    ensures read { IfOk result IsRead }
+{
+    input_range(input);
+    linked_files_are_read();
+    read_faultless(alloc, file)
+}
+
+/// The objects of the module that the input is linked to, each with its bytes where all stand at their linked bases: the
+/// module's file is read back, and its pages are fixed as the loader fixes them.
+pub fn memory(
+    alloc: Global,
+    input: &LinkInput,
+) -> Result<Vec<(LaidObject, Bytes)>, Fail<ImageRefusal>>
+    requires whole { WholeInput input.now }
+    ensures { Answers result (λ rows. IsMemory input.now rows.items) (λ refusal. RefusesMemory input.now refusal) }
+{
+    input_range(input);
+    linked_files_are_read();
+    linked_bytes_are_loaded();
+    linked_modules_load_alone();
+    match link(alloc, input) {
+        Err(fail) => Err(link_failed(fail)),
+        Ok(file) => loaded_alone(alloc, linked_module(alloc, input, file)?),
+    }
+}

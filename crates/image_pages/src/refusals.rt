@@ -1,0 +1,58 @@
+//! Why a linked module has no place in memory.
+
+ghost use Rattle.std.specs.Prelude.{◌≡◌, ◌+◌, IfOk, map, nat_lt};
+ghost use Rattle.lx_types.specs.Addresses.{SHARED_END};
+ghost use Rattle.image_model.specs.LinkLaws.{laid};
+ghost use Rattle.image_pages.specs.Failed as failed;
+ghost use Rattle.image_pages.specs.Memory.{full_from};
+
+use link_model::{LinkRefusal, number};
+use lx_types::{NoMemory, ObjHead};
+use obj_types::Fail;
+use thiserror::Error;
+
+/// Why a linked module has no place in memory. The kinds are tried in this order.
+#[derive(Debug, PartialEq, Drop, Error)]
+pub enum ImageRefusal {
+    /// The input is not linked.
+    #[error("{0}")]
+    Link(LinkRefusal),
+    /// The module imports other modules.
+    #[error("the module imports other modules")]
+    NoModule,
+    /// The first object, by its number, that ends behind address 20000000h at its linked base, and its size in bytes.
+    #[error("object {object} of {size} bytes has no room")]
+    ArenaFull { object: u32, size: u32 },
+}
+
+/// The link is refused so.
+pub fn link_failed(fail: Fail<LinkRefusal>) -> Fail<ImageRefusal>
+    ensures { result ≡ failed.link_failed fail }
+{
+    match fail {
+        Fail::Said(refusal) => Fail::Said(ImageRefusal::Link(refusal)),
+        Fail::NoMemory => Fail::NoMemory,
+    }
+}
+
+// Whether an object ends behind the arenas.
+fn is_past(object: &ObjHead) -> bool
+    ensures { result ≡ nat_lt SHARED_END (object.now.base + object.now.size) }
+{
+    0x2000_0000 < u64::from(object.base) + u64::from(object.size)
+}
+
+/// The first object that ends behind the arenas.
+pub fn full_object(objects: &[ObjHead]) -> Result<Option<ImageRefusal>, NoMemory>
+    ensures { IfOk result (λ refusal. refusal ≡ full_from 1 (map laid objects.now)) }
+{
+    for (index, object) in objects.iter().enumerate() {
+        if is_past(object) {
+            return Ok(Some(ImageRefusal::ArenaFull {
+                object: number(index + 1)?,
+                size: object.size,
+            }));
+        }
+    }
+    Ok(None)
+}

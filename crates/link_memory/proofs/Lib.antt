@@ -1,3 +1,0 @@
-pub mod ValuesAre
-pub mod PaintedValues
-pub mod MemoryIs

@@ -1,0 +1,42 @@
+//! Files and modules of which it is known that they have no fault.
+
+ghost use Rattle.std.specs.Prelude.{◌≡◌, ◌<◌, ◌≤◌, ◌^◌, IfOk, None, All, length};
+ghost use Rattle.lx_model.specs.Gathering.{LibraryFault, MOST_MODULES};
+ghost use Rattle.lx_model.specs.Module.{IsRead, Lx, parts_of};
+
+use lx_read::read_module;
+use lx_types::{Fail, Module, NoMemory};
+use mod_graph::Library;
+use std::alloc::Global;
+
+/// The module of a file that has no fault. It fails only for want of memory.
+pub fn read_faultless(alloc: Global, file: Vec<u8>) -> Result<Module, NoMemory>
+    requires short { length file.items < 2 ^ 32 }
+    requires means { Lx file.items (parts_of file.items) }
+    ensures parts { IfOk result (λ parts. parts ≡ parts_of file.items) }
+    ensures whole { IfOk result IsRead }
+{
+    match read_module(alloc, file) {
+        Ok(module) => Ok(module),
+        Err(unread) => match unread.why {
+            Fail::Said(_) => unreachable!(),
+            Fail::NoMemory => Err(NoMemory),
+        },
+    }
+}
+
+/// The library of modules with which nothing is wrong. It fails only for want of memory.
+pub fn gather_faultless(alloc: Global, modules: Vec<Module>) -> Result<Library, NoMemory>
+    requires accepted { LibraryFault modules.items ≡ None }
+    requires few { length modules.items ≤ MOST_MODULES }
+    requires read { All IsRead modules.items }
+    ensures { IfOk result (λ library. library ≡ modules.items) }
+{
+    match Library::gather(alloc, modules) {
+        Ok(library) => Ok(library),
+        Err(ungathered) => match ungathered.why {
+            Fail::Said(_) => unreachable!(),
+            Fail::NoMemory => Err(NoMemory),
+        },
+    }
+}
