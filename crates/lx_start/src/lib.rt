@@ -1,16 +1,18 @@
 //! What the program `lx` does: one call over real files and standard output, and its status.
 #![tactic(auto)]
 
-ghost use Rattle.std.specs.Prelude.{◌≡◌, is_some, map, option_copied, string_bytes};
+ghost use Rattle.std.specs.Io.KnownBytes.{Appends};
+ghost use Rattle.std.specs.Prelude.{◌≡◌, ◌⊎◌, is_some, map, option_copied, string_bytes};
 ghost use Rattle.std.specs.Process.{exit_status};
+ghost use Rattle.lx_ports.specs.Counts.{Rose};
 ghost use Rattle.lx_start.specs.Ending.{EndsWith};
 ghost use Rattle.lx_start.specs.Telling.{asks_help, asks_page, help, told_of};
 
 use lx_ports::{DiskFiles, Files, MemFiles, NoGate, Sink, StdSink};
-use lx_tool::lx_main;
+use lx_tool::{lx_main, put_whole};
 use refusal_notes::{Heard, Tell, Watched, page_of, tell_on};
 use std::alloc::{AllocError, Global};
-use std::io::{Eprint, ErrorKind, Write};
+use std::io::{Eprint, ErrorKind};
 use std::process::ExitCode;
 use std::rt::Runtime;
 use std::sync::Wait;
@@ -25,11 +27,13 @@ const NO_MEMORY: u8 = 8;
 
 /// What `--help` puts: a line for each command.
 const HELP: &str = "\
-lx image OBJ BASE      shows an object file's objects in memory, as: lx image a.obj 10000000
-lx link OUT DEF IN ..  links object files and libraries, DEF may be -, as: lx link d.dll d.def a.obj b.lib
-lx implib OUT IN ..    writes an import library of modules and definition files, as: lx implib d.lib d.def
-lx run FILE            runs the processes of a session in threads, as: lx run d.ses
-lx COMMAND --help      says more of one of them
+lx image OBJ BASE       shows an object file's objects in memory, as: lx image a.obj 10000000
+lx link OUT DEF IN ..   links object files and libraries, DEF may be -, as: lx link d.dll d.def a.obj b.lib
+lx implib OUT IN ..     writes an import library of modules and definition files, as: lx implib d.lib d.def
+lx bind OUT MODULE RES  adds the items of a resource file to a module, as: lx bind d2.dll d.dll d.res
+lx gen N PREFIX         makes N modules and a session of them, to try the others on, as: lx gen 2 g
+lx run FILE             runs the processes of a session in threads, as: lx run d.ses
+lx COMMAND --help       says more of one of them
 ";
 
 /// What `--version` puts.
@@ -108,9 +112,14 @@ fn page(words: &[String]) -> Option<&'static str>
     }
 }
 
-fn tell<W: Write>(out: &mut W, text: &str) -> ExitCode {
-    match out.write_all(text.as_bytes()) {
-        Ok(()) => ExitCode::SUCCESS,
+/// Puts a text into a sink, and ends with 0 where all of it was put, and with 4 where a put failed.
+fn tell<S: Sink>(out: &mut S, text: &str) -> ExitCode
+    ensures known { (exit_status result ≡ 0) ⊎ (exit_status result ≡ 4) }
+    ensures whole { exit_status result ≡ 0 → Appends (S.state out.old).contents (S.state out.new).contents text.now }
+    ensures write_failed { exit_status result ≡ 4 → Rose (S.state out.old).faults (S.state out.new).faults }
+{
+    match put_whole(out, text.as_bytes()) {
+        Ok(()) => ExitCode::from(0),
         Err(_) => ExitCode::from(WRITE_FAILED),
     }
 }
@@ -146,7 +155,7 @@ pub fn program<R: Runtime + AllocGlobal + Threads + Wait + Sync>(rt: &R) -> Exit
         return ExitCode::from(NO_MEMORY);
     };
     if let Some(text) = about(&words).or(page(&words)) {
-        return tell(&mut io::writer(rt), text);
+        return tell(&mut StdSink::new(io::writer(rt)), text);
     }
     match run_real(rt, &words) {
         Ok(code) => code,

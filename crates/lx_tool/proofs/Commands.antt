@@ -1,7 +1,8 @@
 -- What each command does, from what its steps answer.
 use Rattle.std.proofs.Common.{◌≡◌, ℕ, ◌<◌, ◌≤◌, Bool, true, false, List, [], ◌∷◌, length, Option, Some, None, Result, Ok, Err, ◌∙◌, ap, sym, subst, refl, arith, codes, nat_le}
-use Rattle.std.specs.Prelude.{IfOk, if◌then◌else◌}
+use Rattle.std.specs.Prelude.{IfOk, option_map, if◌then◌else◌}
 use Rattle.std.proofs.lemmas.List.{append-nil}
+use Rattle.lx_types.specs.Answers.{Answers}
 use Rattle.lx_types.specs.declared.fail.Fail.{Fail}
 use Rattle.lx_types.specs.declared.fail.Fail.TheVariants as fail
 use Rattle.lx_types.specs.declared.fail.NoMemory.{NoMemory}
@@ -12,22 +13,29 @@ use Rattle.omf_write.specs.Library.{library_bytes, library_len}
 use Rattle.omf_write.specs.declared.libraries.LibraryLong.{LibraryLong}
 use Rattle.implib_core.specs.Imports.{modules_of}
 use Rattle.link_model.specs.Link.{IsLinkOf}
+use Rattle.refusal_text.specs.Resources.{bind_text}
+use Rattle.res_file.specs.declared.item.ResItem.{ResItem}
+use Rattle.res_bind.specs.Bound.{bound_file}
+use Rattle.res_bind.specs.Refusal.{bind_refusal}
+use Rattle.res_bind.specs.declared.refusal.BindRefusal.{BindRefusal}
 use Rattle.lx_ports.specs.Calls.{Call}
 use Rattle.lx_ports.specs.Files.{FilesState}
 use Rattle.lx_answer.specs.declared.said.Said.{Said}
+use Rattle.lx_answer.specs.BindAnswer.{bind_outcome, counts_of}
 use Rattle.lx_answer.specs.ImageAnswer.{ShowsObject}
 use Rattle.lx_answer.specs.ImplibAnswer.{exports_line, implib_outcome}
 use Rattle.lx_answer.specs.LinkAnswer.{input_of, link_outcome}
 use Rattle.lx_answer.specs.Loading.{AreRead, IsStopped, file_limit}
 use Rattle.lx_answer.specs.Outcome.{Outcome, kept, refused, refused_or, says_only}
-use Rattle.lx_answer.specs.Reading.{Item, object}
+use Rattle.lx_answer.specs.Reading.{Item, object, linked, resources}
 use Rattle.lx_answer.specs.Says.{ComesTo, asked_files}
-use Rattle.lx_answer.specs.Words.{Command, image, link, implib}
+use Rattle.lx_answer.specs.Words.{Command, image, link, implib, bind}
 use Rattle.tool_read.specs.Steps.{AreLoads, GivesAll, ReadsAll}
+use Rattle.tool_read.specs.declared.bind_files.Binding.{Binding}
 use Rattle.lx_tool.specs.declared.library.ImportLibrary.{ImportLibrary}
 use Rattle.lx_tool.specs.Doing.{Does, DoesLink, DoesOutcome, Keeps}
 use Rattle.lx_tool.specs.ImportLibraries.{IsLibraryOf, IsTooLong}
-use Rattle.lx_tool.specs.Refusals.{Gives, RefusesLibrary}
+use Rattle.lx_tool.specs.Refusals.{Gives, RefusesBy, RefusesLibrary}
 use Rattle.lx_tool.proofs.Begun.{read_begun}
 use Rattle.lx_tool.proofs.Done.{SavesAs, done_begun, done_kept, done_stopped}
 
@@ -112,3 +120,38 @@ library_refused out imports (fail.Said refusal) state (Ok said) long same =
 library_refused out imports (fail.Said refusal) state (Err none) long same = refl
 library_refused out imports fail.NoMemory state (Ok said) long same = absurd same
 library_refused out imports fail.NoMemory state (Err none) long same = refl
+
+-- ---- `bind`
+
+abbrev pub GivesBinding : Binding → List Item → Type 0
+GivesBinding b items = items ≡ linked b.target ∷ resources b.items ∷ []
+
+pub bind_done : (out target file : List ℕ) (b : Binding) (calls : List Call) (before between now : FilesState) (r : Result Said NoMemory)
+    → AreLoads calls before between → GivesAll GivesBinding (asked_files (bind out target file)) calls b → DoesOutcome (bind_outcome out b.target.file b.items) between now r
+    → Does (bind out target file) before now r
+bind_done out target file b calls before between now r loads all does =
+    let o = bind_outcome out b.target.file b.items in
+    let P : List Item → Type 0 = λ items. ComesTo (bind out target file) items o in
+    done_kept (bind out target file) calls all.items o before between loads all.read (subst P (sym all.given) refl)
+    (saves_or out (option_map bind_text (bind_refusal b.target.file b.items)) (bound_file b.target.file b.items) (counts_of b.items)) now r does
+
+pub bound_kept : (out file : List ℕ) (items : List ResItem) (bytes line : List ℕ) (before now : FilesState) (r : Result Said NoMemory)
+    → bind_refusal file items ≡ None → bytes ≡ bound_file file items → line ≡ counts_of items → DoesOutcome (kept out bytes line) before now r → DoesOutcome (bind_outcome out file items) before now r
+bound_kept out file items bytes line before now r none bytes_are line_is does =
+    let P : Outcome → Type 0 = λ o. DoesOutcome o before now r in
+    let same : kept out bytes line ≡ bind_outcome out file items =
+    (λ k. kept out (bytes_are k) (line_is k))
+    ∙ sym (ap (λ refusal. refused_or out (option_map bind_text refusal) (kept out (bound_file file items) (counts_of items))) none) in
+    subst P same does
+
+pub not_bound : {A : Type 0} (P : A → Type 0) (out file : List ℕ) (items : List ResItem) (why : Fail BindRefusal) (state : FilesState) (r : Result Said NoMemory)
+    → Answers {A = A} (Err why) P (λ refusal. bind_refusal file items ≡ Some refusal) → RefusesBy bind_text out why r → DoesOutcome (bind_outcome out file items) state state r
+not_bound P out file items (fail.Said refusal) state (Ok said) first same =
+    let Q : Outcome → Type 0 = λ o. Keeps o state state said in
+    let at : says_only said ≡ bind_outcome out file items =
+    ap (λ s. says_only s) same
+    ∙ sym (ap (λ refusal. refused_or out (option_map bind_text refusal) (kept out (bound_file file items) (counts_of items))) first) in
+    subst Q at (says_alone said state)
+not_bound P out file items (fail.Said refusal) state (Err none) first same = refl
+not_bound P out file items fail.NoMemory state (Ok said) first same = absurd same
+not_bound P out file items fail.NoMemory state (Err none) first same = refl

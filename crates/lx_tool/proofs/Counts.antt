@@ -1,10 +1,16 @@
 -- How often calls have failed, call by call.
-use Rattle.std.proofs.Common.{◌≡◌, ℕ, ◌+◌, Bool, true, cond, List, ◌∷◌, ◌++◌, ap, arith, count_by}
+use Rattle.std.proofs.Common.{◌≡◌, ℕ, ◌+◌, ◌<◌, Bool, true, cond, List, ◌∷◌, ◌++◌, ap, arith, count_by}
 use Rattle.std.proofs.lemmas.List.Sums.{sum_by-append, sum_by-cons}
 use Rattle.lx_ports.specs.Calls.{Call}
 
 pub count-append : (p : Call → Bool) (xs ys : List Call) → count_by p (xs ++ ys) ≡ count_by p xs + count_by p ys
 count-append p xs ys = sum_by-append (λ x. cond (p x) 1 0) xs ys
+
+-- What is counted is counted behind one call more.
+pub count_behind : (p : Call → Bool) (x : Call) (xs : List Call) → 0 < count_by p xs → 0 < count_by p (x ∷ xs)
+count_behind p x xs some =
+    let all = sum_by-cons (λ y. cond (p y) 1 0) x xs in
+    omega (arith, all, some)
 
 -- Where none is counted, none is behind the first call, and the first is none.
 pub none_behind : (p : Call → Bool) (x : Call) (xs : List Call) → count_by p (x ∷ xs) ≡ 0 → count_by p xs ≡ 0

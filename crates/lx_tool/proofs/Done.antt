@@ -1,5 +1,5 @@
 -- From what the steps of a command do to what the command does.
-use Rattle.std.proofs.Common.{◌≡◌, ℕ, List, [], ◌∷◌, ◌++◌, Option, Some, None, Result, Ok, Err, ◌∙◌, ap, sym, subst, refl, inl, inr, append_assoc}
+use Rattle.std.proofs.Common.{◌≡◌, ◌⊎◌, ℕ, List, [], ◌∷◌, ◌++◌, Option, Some, None, Result, Ok, Err, ◌∙◌, ap, sym, subst, refl, inl, inr, append_assoc}
 use Rattle.std.proofs.lemmas.List.{append-nil}
 use Rattle.std.specs.Prelude.{IfOk, IfSome, MatchResult}
 use Rattle.std.specs.List.{AllByRecursion}
@@ -10,14 +10,29 @@ use Rattle.lx_answer.specs.declared.said.Said.{Said}
 use Rattle.lx_answer.specs.Answer.{saves_in}
 use Rattle.lx_answer.specs.Ends.{Holds, IsTold, AreSaves, outputs_of}
 use Rattle.lx_answer.specs.FileLine.{usage_line}
-use Rattle.lx_answer.specs.Loading.{AreBegun, AreRead, IsStopped}
+use Rattle.lx_answer.specs.Loading.{AreBegun, AreRead, Asked, IsStopped}
 use Rattle.lx_answer.specs.Outcome.{Outcome, Saved}
 use Rattle.lx_answer.specs.Reading.{Item}
-use Rattle.lx_answer.specs.Says.{ComesTo, Finishes, SaysCommand, asked_files}
-use Rattle.lx_answer.specs.Words.{Command}
+use Rattle.lx_answer.specs.Says.{ComesTo, Finishes, IsDone, SaysCommand, asked_files}
+use Rattle.lx_answer.specs.Words.{Command, image, link, implib, bind, gen}
 use Rattle.tool_read.specs.Steps.{AreLoads}
 use Rattle.lx_tool.specs.Doing.{Does, DoesOutcome, DoesWords, Keeps, Runs}
 use Rattle.lx_tool.proofs.Begun.{begun_loads, holds_behind, no_saves, read_begun, stopped_begun}
+
+-- ---- what is said, by the files that are read
+
+none_asked : (before after : List Asked) (here : Asked) → [] ≡ before ++ here ∷ after → ⊥
+none_asked [] after here is = cc
+none_asked (a ∷ before) after here is = cc
+
+-- `gen` reads no file.
+says_by_files : (command : Command) (calls : List Call) (said : Said) → IsStopped (asked_files command) calls said ⊎ IsDone command calls said → SaysCommand (Some command) calls said
+says_by_files (image object base) calls said says = says
+says_by_files (link out definition inputs) calls said says = says
+says_by_files (implib out inputs) calls said says = says
+says_by_files (bind out target resources) calls said says = says
+says_by_files (gen count prefix) calls said (inl stopped) = absurd (none_asked stopped.before stopped.after stopped.here stopped.are)
+says_by_files (gen count prefix) calls said (inr done) = absurd done.comes_to
 
 -- ---- loads alone
 
@@ -42,7 +57,7 @@ pub done_stopped : (command : Command) (calls : List Call) (before now : FilesSt
 done_stopped command calls before now said loads stopped = record {
   calls = calls;
   runs = loads_run command calls before now loads (stopped_begun (asked_files command) calls said stopped);
-  says = inl stopped;
+  says = says_by_files command calls said (inl stopped);
 }
 
 pub done_begun : (command : Command) (calls : List Call) (before now : FilesState) (why : NoMemory) → AreLoads calls before now → AreBegun (asked_files command) calls → Does command before now (Err why)
@@ -107,7 +122,7 @@ module _ (command : Command) (loads : List Call) (items : List Item) (outcome : 
           told = told_behind before.contents loads keeps.saves outcome.saved outcome said keeps.finished are.told;
           held = holds_behind loads keeps.saves before.contents now.contents (begun_loads (asked_files command) loads begun) (subst P same keeps.held);
         };
-        says = inr (record {
+        says = says_by_files command (loads ++ keeps.saves) said (inr (record {
           loads = loads;
           items = items;
           read = read;
@@ -116,7 +131,7 @@ module _ (command : Command) (loads : List Call) (items : List Item) (outcome : 
           saves = keeps.saves;
           finished = keeps.finished;
           calls_are = refl;
-        });
+        }));
       }
 
   pub done_kept : (now : FilesState) (r : Result Said NoMemory) → DoesOutcome outcome between now r → Does command before now r

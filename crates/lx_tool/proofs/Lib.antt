@@ -4,6 +4,7 @@ mod Done
 mod Putting
 mod Lines
 mod Sound
+mod Generated
 mod Statuses
 mod Endings
 mod Memory

@@ -17,9 +17,9 @@ use Rattle.link_model.specs.OneSegment.{alone}
 use Rattle.link_model.specs.Patches.{linked_world}
 use Rattle.link_model.specs.Refusal.{link_refusal}
 use Rattle.image_model.specs.Linked.{link_modules}
-use Rattle.link_memory.specs.declared.loaded.ImageRefusal.{ImageRefusal}
-use Rattle.link_memory.specs.declared.loaded.ImageRefusal.TheVariants as image
-use Rattle.link_memory.specs.Memory as memory
+use Rattle.image_pages.specs.declared.refusals.ImageRefusal.{ImageRefusal}
+use Rattle.image_pages.specs.declared.refusals.ImageRefusal.TheVariants as image
+use Rattle.image_pages.specs.Memory as memory
 use Rattle.refusal_text.specs.Files.{field}
 use Rattle.lx_answer.specs.declared.said.Said.{Said}
 use Rattle.lx_answer.specs.FileLine.{file_line}

@@ -8,14 +8,17 @@ use Rattle.lx_ports.specs.declared.files.SaveFault.{SaveFault}
 use Rattle.lx_answer.specs.declared.said.Said.{Said}
 use Rattle.lx_answer.specs.Answer.{saves_in}
 use Rattle.lx_answer.specs.Ends.{is_failed_save, save_faults}
+use Rattle.lx_answer.specs.BindAnswer.{BindAnswer}
+use Rattle.lx_answer.specs.GenAnswer.{GenWords, SaysGen}
 use Rattle.lx_answer.specs.ImageAnswer.{ImageAnswer, image_refusal, memory_text, NAME}
 use Rattle.lx_answer.specs.LinkAnswer.{counts_of}
 use Rattle.lx_answer.specs.Loading.{Asked, IsRefused, IsStopped}
 use Rattle.lx_answer.specs.Outcome.{Outcome, Saved, shown, kept, refused, refused_or}
-use Rattle.lx_answer.specs.Reading.{Item, object, library, definition, linked, session}
+use Rattle.lx_answer.specs.Reading.{Item, object, library, definition, linked, session, resources}
 use Rattle.lx_answer.specs.Says.{ComesTo, Finishes, IsDone, SaysCommand, asked_files, said_after}
-use Rattle.lx_answer.specs.Words.{Command, image, link, implib}
+use Rattle.lx_answer.specs.Words.{Command, image, link, implib, bind, gen}
 use Rattle.lx_tool.proofs.Counts.{count-append}
+use Rattle.lx_tool.proofs.Generated.{saves_say}
 use Rattle.lx_tool.proofs.Begun.{IsPlain, begun_loads, no_saves, plain_joined, read_begun, read_plain, stopped_begun, stopped_plain}
 
 -- ---- outcomes
@@ -36,15 +39,22 @@ image_is base (library m ∷ items) o is = absurd is
 image_is base (definition m ∷ items) o is = absurd is
 image_is base (linked m ∷ items) o is = absurd is
 image_is base (session s ∷ items) o is = absurd is
+image_is base (resources xs ∷ items) o is = absurd is
 
 if_kept : (b : Bool) (one two : Outcome) → one.said.status ≡ 0 → two.said.status ≡ 1 → two.saved ≡ None → IsOutcome (if b then one else two)
 if_kept true one two zero one_ none = inl zero
 if_kept false one two zero one_ none = inr (one_, none)
 
+bind_is : (out : List ℕ) (items : List Item) (o : Outcome) → BindAnswer out items o → IsOutcome o
+bind_is out (linked m ∷ resources xs ∷ []) o is = subst IsOutcome (sym is) (or_refused out _ (kept out _ _) refl)
+bind_is out items o is = absurd is
+
 come_to_is : (command : Command) (items : List Item) (o : Outcome) → ComesTo command items o → IsOutcome o
 come_to_is (image name base) items o is = image_is base items o is
 come_to_is (link out d names) items o is = subst IsOutcome (sym is.comes_to) (or_refused out _ (kept out _ (counts_of is.link)) refl)
 come_to_is (implib out names) items o is = subst IsOutcome (sym is) (if_kept _ (kept out _ _) (refused out (codes "LibraryLong")) refl refl refl)
+come_to_is (bind out target file) items o is = bind_is out items o is
+come_to_is (gen count prefix) items o is = absurd is
 
 -- ---- what a status says
 
@@ -164,7 +174,30 @@ no_command_says calls said says =
       plain = subst P (sym says.0) tt;
     }
 
+read_says : (none : Type 0) (command : Command) (calls : List Call) (said : Said) → IsStopped (asked_files command) calls said ⊎ IsDone command calls said → StatusSays none calls said
+read_says none command calls said (inl stopped) = stopped_says none (asked_files command) calls said stopped
+read_says none command calls said (inr done) = done_says none command calls said done
+
+-- `gen` saves its files in turn.
+gen_says : (none : Type 0) (words : GenWords) (calls : List Call) (said : Said) → SaysGen words calls said → StatusSays none calls said
+gen_says none words calls said says =
+    let turn = saves_say says.files says.text calls said says.saves in
+    record {
+      low = elim turn.low [ inl zero ↦ omega (arith, zero) | inr four ↦ let is = four.0 in omega (arith, is) ];
+      usage = λ two. elim turn.low [ inl zero ↦ absurd (omega (arith, zero, two)) | inr four ↦ absurd (let is = four.0 in omega (arith, is, two)) ];
+      read_failed = λ three. elim turn.low [ inl zero ↦ absurd (omega (arith, zero, three)) | inr four ↦ absurd (let is = four.0 in omega (arith, is, three)) ];
+      write_failed = λ same. elim turn.low [ inl zero ↦ absurd (omega (arith, zero, same)) | inr four ↦ four.1 ];
+      unsaved = λ some few. elim turn.low [ inl zero ↦ absurd (omega (arith, zero, some)) | inr four ↦ absurd (let is = four.0 in omega (arith, is, few)) ];
+      plain = turn.plain;
+    }
+
+command_says : (none : Type 0) (command : Command) (calls : List Call) (said : Said) → SaysCommand (Some command) calls said → StatusSays none calls said
+command_says none (image file base) calls said says = read_says none (image file base) calls said says
+command_says none (link out d names) calls said says = read_says none (link out d names) calls said says
+command_says none (implib out names) calls said says = read_says none (implib out names) calls said says
+command_says none (bind out target file) calls said says = read_says none (bind out target file) calls said says
+command_says none (gen count prefix) calls said says = gen_says none (record { count = count; prefix = prefix }) calls said says
+
 pub status_says : (command : Option Command) (calls : List Call) (said : Said) → SaysCommand command calls said → StatusSays (command ≡ None) calls said
 status_says None calls said says = no_command_says calls said says
-status_says (Some command) calls said (inl stopped) = stopped_says _ (asked_files command) calls said stopped
-status_says (Some command) calls said (inr done) = done_says _ command calls said done
+status_says (Some command) calls said says = command_says _ command calls said says

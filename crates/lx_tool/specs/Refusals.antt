@@ -4,8 +4,8 @@ use Rattle.lx_types.specs.declared.fail.Fail.{Fail}
 use Rattle.lx_types.specs.declared.fail.Fail.TheVariants as fail
 use Rattle.lx_types.specs.declared.fail.NoMemory.{NoMemory}
 use Rattle.link_model.specs.declared.refusals.LinkRefusal.{LinkRefusal}
-use Rattle.link_memory.specs.declared.loaded.ImageRefusal.{ImageRefusal}
-use Rattle.link_memory.specs.declared.loaded.ImageRefusal.TheVariants as image
+use Rattle.image_pages.specs.declared.refusals.ImageRefusal.{ImageRefusal}
+use Rattle.image_pages.specs.declared.refusals.ImageRefusal.TheVariants as image
 use Rattle.omf_write.specs.declared.libraries.LibraryLong.{LibraryLong}
 use Rattle.refusal_text.specs.Files.{field}
 use Rattle.lx_answer.specs.declared.said.Said.{Said}

@@ -12,7 +12,7 @@ ghost use Rattle.lx_tool.specs.Refusals.{RefusesImageAs};
 
 use crate::refusals::{image_text, in_full};
 use crate::text::memory_text;
-use link_memory::{ImageRefusal, memory};
+use image_pages::{ImageRefusal, memory};
 use lx_answer::Said;
 use lx_ports::Files;
 use lx_types::{Fail, Name, NoMemory, Seq};

@@ -1,6 +1,7 @@
 //! The commands of `lx` as library calls: from the words of the command line, files and a sink to the status.
 #![tactic(auto)]
 
+mod bind;
 mod image;
 mod implib;
 mod library;
@@ -14,4 +15,5 @@ mod text;
 mod tool;
 
 pub use main_call::{Ended, lx_main};
+pub use output::put_whole;
 pub use tool::lx_build;

@@ -3,7 +3,7 @@ ghost use Rattle.std.specs.Prelude.{◌≡◌, IfOk};
 ghost use Rattle.tool_read.specs.Readings.{SaysOf};
 ghost use Rattle.lx_tool.specs.Refusals.{Gives, image_text_of};
 
-use link_memory::ImageRefusal;
+use image_pages::ImageRefusal;
 use lx_answer::Said;
 use lx_types::{Fail, NoMemory};
 use std::alloc::{AllocError, Global};

@@ -41,6 +41,35 @@ after their address. Nothing is written.
 as: lx image add.obj 10000000
 ";
 
+const BIND: &str = "\
+lx bind OUT MODULE RES
+
+Adds the items of the resource file RES to a module that has no resources, as one object more, and prints how many items they
+are and how many bytes they have. OUT is written over, once all went well.
+
+  OUT     the module with its resources, as d2.dll
+  MODULE  a module, which begins with LX or MZ
+  RES     a resource file of this profile: items, each of FFh, its type, FFh, its identifier, flags, the length of its data,
+          and its data (docs/FORMATS.md, Resource files)
+
+as: lx bind add2.dll add.dll add.res
+";
+
+const GEN: &str = "\
+lx gen N PREFIX
+
+Makes N modules to try link and run on, each with 2,048 references to itself and to the module before it: writes for each an
+object file and a definition file, and behind them a session that builds all and in which four processes load them, touch each
+page and read the front of each. Prints how many pages and references they have, and the sum of their 32-bit words where they are
+loaded one behind the other. No file is read; files of these names are written over.
+
+  N       how many, from 1 to 64
+  PREFIX  what the names of the files begin with, a folder too: g gives g1.obj, g1.def, g2.obj .. and g.ses
+
+as: lx gen 2 g
+    lx run g.ses
+";
+
 const RUN: &str = "\
 lx run FILE
 
@@ -64,6 +93,8 @@ pub fn page_of(command: &str) -> Option<&'static str>
         "link" => Some(LINK),
         "implib" => Some(IMPLIB),
         "image" => Some(IMAGE),
+        "bind" => Some(BIND),
+        "gen" => Some(GEN),
         "run" => Some(RUN),
         _ => None,
     }

@@ -108,6 +108,27 @@ pub fn link_kind(kind: &str) -> Option<&'static str> {
     })
 }
 
+/// Of a resource file.
+pub fn resource_kind(kind: &str) -> Option<&'static str> {
+    Some(match kind {
+        "Short" =>
+            "the file ends within an item: it is cut off, or the length of the item's data is wrong",
+        "BadItem" => "FFh has to stand there: before an item's type, or before its identifier",
+        "Twice" => "an item before this one has its type and its identifier",
+        _ => return None,
+    })
+}
+
+/// Of a module to which items are to be bound.
+pub fn bind_kind(kind: &str) -> Option<&'static str> {
+    Some(match kind {
+        "HasResources" => "the module has resources, and bind adds them to modules that have none",
+        "TooMany" => "with the items the module has more than 65,536 pages or 1,024 objects",
+        "TooLarge" => "with the items the file has more than 16,777,216 bytes",
+        _ => return None,
+    })
+}
+
 /// Of a session.
 pub fn session_kind(kind: &str) -> Option<&'static str> {
     Some(match kind {

@@ -10,6 +10,7 @@ mod line;
 mod lines;
 mod links;
 mod object_faults;
+mod resources;
 mod sessions;
 mod slips;
 mod telling;

@@ -3,10 +3,12 @@ ghost use Rattle.std.specs.Prelude.{◌≡◌};
 
 use crate::definitions::definition_notes;
 use crate::heard::Heard;
+use crate::kinds::module_kind;
 use crate::line::{Fault, Told, refusal_of};
 use crate::lines::{Lines, Mark};
 use crate::links::{Refused, link_meaning};
 use crate::object_faults::{Placed, module_notes, object_notes};
+use crate::resources::{bind_meaning, resource_notes};
 use crate::sessions::{named_note, session_notes};
 use crate::watched::{Tell, Watched};
 use def_file::read_def;
@@ -44,7 +46,7 @@ fn usage(alloc: Global, lines: &mut Lines, ended: &Ended<'_>) -> Result<(), Allo
     let command = ended.word(0);
     let count = ended.words.len();
     let text = match command {
-        "" => "a command is wanted: link, implib, image or run",
+        "" => "a command is wanted: link, implib, image, bind, gen or run",
         "link" =>
             "link wants OUT DEF IN ..: the module, the definition file or -, and at least one file",
         "implib" =>
@@ -53,12 +55,15 @@ fn usage(alloc: Global, lines: &mut Lines, ended: &Ended<'_>) -> Result<(), Allo
             "BASE is eight hexadecimal digits, a multiple of 65,536 from 00010000 to 1FFF0000"
         }
         "image" => "image wants OBJ BASE: an object file, and eight hexadecimal digits as 10000000",
+        "bind" => "bind wants OUT MODULE RES: the module to write, a module, and a resource file",
+        "gen" =>
+            "gen wants N PREFIX: a number from 1 to 64, and what the names of the files begin with",
         "run" => "run wants FILE: a session",
-        _ => "there are the commands link, implib, image and run",
+        _ => "there are the commands link, implib, image, bind, gen and run",
     };
     lines.add_text(alloc, text)?;
     match command {
-        "link" | "implib" | "image" | "run" => lines.add(format!(in alloc;
+        "link" | "implib" | "image" | "bind" | "gen" | "run" => lines.add(format!(in alloc;
             "lx {command} --help says more"
         )?),
         _ => lines.add_text(alloc, "lx --help says more"),
@@ -84,6 +89,28 @@ fn not_written(alloc: Global, lines: &mut Lines, ended: &Ended<'_>) -> Result<()
             "standard output failed before all of the text was written; nothing was to be saved",
         ),
     }
+}
+
+// The same of `gen`, which saves several files.
+fn not_all_written(
+    alloc: Global,
+    lines: &mut Lines,
+    ended: &Ended<'_>,
+) -> Result<(), AllocError> {
+    if ended.saved == Some(true) {
+        return lines.add_text(
+            alloc,
+            "standard output failed before all of the text was written; all files were saved",
+        );
+    }
+    lines.add_text(
+        alloc,
+        "the file could not be written: is there such a folder, may it be written, is there room?",
+    )?;
+    lines.add_text(
+        alloc,
+        "the files before it were saved, it and those behind it were not",
+    )
 }
 
 fn no_memory(alloc: Global, lines: &mut Lines) -> Result<(), AllocError> {
@@ -213,9 +240,30 @@ fn session_refused<F: Files>(
     }
 }
 
-// Whether a fault at a place is that of a module, which only implib reads.
-fn is_of_module(ended: &Ended<'_>) -> bool {
-    ended.word(0) == "implib"
+// Whether a fault at a place of a file is that of a module. The words of bind may name one file as MODULE and as RES.
+fn is_of_module(ended: &Ended<'_>, fault: &Placed<'_>) -> bool {
+    match ended.word(0) {
+        "implib" => true,
+        "bind" => fault.file == ended.word(2) && module_kind(fault.kind).is_some(),
+        _ => false,
+    }
+}
+
+// Notes on a fault at a place of a file.
+fn placed_notes(
+    alloc: Global,
+    lines: &mut Lines,
+    ended: &Ended<'_>,
+    fault: &Placed<'_>,
+    bytes: Option<&[u8]>,
+) -> Result<(), AllocError> {
+    if is_of_module(ended, fault) {
+        return module_notes(alloc, lines, fault, bytes);
+    }
+    match ended.word(0) {
+        "bind" => resource_notes(alloc, lines, fault, bytes),
+        _ => object_notes(alloc, lines, fault, bytes),
+    }
 }
 
 fn refused<F: Files>(
@@ -239,10 +287,7 @@ fn refused<F: Files>(
                 kind,
                 fields,
             };
-            if is_of_module(ended) {
-                return module_notes(alloc, lines, &fault, bytes.as_deref());
-            }
-            object_notes(alloc, lines, &fault, bytes.as_deref())
+            placed_notes(alloc, lines, ended, &fault, bytes.as_deref())
         }
         Fault::Line { number, kind } => {
             let bytes = load(alloc, files, file);
@@ -253,6 +298,9 @@ fn refused<F: Files>(
                 bytes.as_deref(),
                 ended.word(0),
             )
+        }
+        Fault::Link { kind, .. } if ended.word(0) == "bind" => {
+            bind_meaning(alloc, lines, file, kind)
         }
         Fault::Link { kind, fields } => {
             link_meaning(alloc, lines, file, kind)?;
@@ -283,6 +331,7 @@ pub fn notes_on<F: Files>(
             alloc,
             "the system does not give the file's bytes: it may be a folder, or one that you may not read",
         )?,
+        4 if ended.word(0) == "gen" => not_all_written(alloc, &mut lines, ended)?,
         4 => not_written(alloc, &mut lines, ended)?,
         8 => no_memory(alloc, &mut lines)?,
         _ => {}

@@ -1,7 +1,7 @@
 use Rattle.std.proofs.Common.{List, subst, ap, ◌∙◌}
 use Rattle.std.specs.List.{flat_map}
 use Rattle.obj_types.specs.declared.input.LinkInput.{LinkInput}
-use Rattle.link_memory.specs.Memory.{IsMemory}
+use Rattle.image_pages.specs.Memory.{IsMemory}
 use Rattle.lx_tool.specs.Rows.{Row, row_text}
 use Rattle.lx_tool.proofs.Memory.{memory_fits, memory_shows}
 use Rattle.lx_tool.proofs.image.shown.Goals as goal

@@ -2,6 +2,7 @@ use Rattle.std.proofs.Common.{Some, ap, subst, sym, ◌∙◌}
 use Rattle.command_words.specs.Commands.{HasBase, meant}
 use Rattle.command_words.specs.declared.words.Command.{Command}
 use Rattle.lx_tool.proofs.Done.{done_usage, done_words}
+use Rattle.lx_tool.proofs.Generated.{gen_done}
 use Rattle.lx_tool.proofs.tool.answer.Goals as goal
 
 pub image-requires : goal.image-requires
@@ -21,6 +22,16 @@ pub returns-in-Some-Implib : goal.returns-in-Some-Implib
 returns-in-Some-Implib g c =
     let same = c.in-Some-Implib.field-0-is in
     done_words _ _ _ _ _ (ap (λ (one : Command). Some (meant one)) (sym same) ∙ c.in-Some-Implib.ensures.command) c.implib.ensures
+
+pub returns-in-Some-Bind : goal.returns-in-Some-Bind
+returns-in-Some-Bind g c =
+    let same = c.in-Some-Bind.field-0-is in
+    done_words _ _ _ _ _ (ap (λ (one : Command). Some (meant one)) (sym same) ∙ c.in-Some-Bind.ensures.command) c.bind.ensures
+
+pub returns-in-Some-Gen : goal.returns-in-Some-Gen
+returns-in-Some-Gen g c =
+    let same = c.in-Some-Gen.field-0-is in
+    done_words _ _ _ _ _ (ap (λ (one : Command). Some (meant one)) (sym same) ∙ c.in-Some-Gen.ensures.command) (gen_done _ _ _ _ _ c.generate.ensures)
 
 pub returns-in-None : goal.returns-in-None
 returns-in-None g c = done_words _ _ _ _ _ c.in-None.ensures.command (done_usage _ _ c.usage.ensures)

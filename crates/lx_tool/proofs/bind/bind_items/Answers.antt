@@ -1,0 +1,28 @@
+use Rattle.std.proofs.Common.{ℕ, List, subst}
+use Rattle.res_file.specs.declared.item.ResItem.{ResItem}
+use Rattle.lx_answer.specs.BindAnswer.{bind_outcome}
+use Rattle.lx_answer.specs.Outcome.{kept}
+use Rattle.lx_tool.specs.Doing.{DoesOutcome}
+use Rattle.lx_tool.proofs.Commands.{bound_kept, not_bound}
+use Rattle.lx_tool.proofs.bind.bind_items.Goals as goal
+
+pub returns-in_ok-line-in-Ok : goal.returns-in_ok-line-in-Ok
+returns-in_ok-line-in-Ok g c =
+    let out = c.args.out.now in
+    let file = c.args.binding.now.target.file in
+    let line = c.in_ok-line-in-Ok.line in
+    let before = g.F.Files.state c.args.files.now in
+    let now = g.F.Files.state c.keep.new.files in
+    let P : List ResItem → Type 0 = λ items. DoesOutcome (bind_outcome out file items) before now c.keep.result in
+    let Q : List ℕ → Type 0 = λ bytes. DoesOutcome (kept out bytes line) before now c.keep.result in
+    subst P c.as_slice-items.ensures
+    (bound_kept out file c.as_slice-items.result.now c.in-Ok.file.items line before now c.keep.result c.in-Ok.ensures.0 c.in-Ok.ensures.1 c.in_ok-line-in-Ok.ensures
+    (subst Q c.deref.ensures.value c.keep.ensures))
+
+pub returns-in-Err : goal.returns-in-Err
+returns-in-Err g c =
+    let out = c.args.out.now in
+    let file = c.args.binding.now.target.file in
+    let state = g.F.Files.state c.args.files.now in
+    let P : List ResItem → Type 0 = λ items. DoesOutcome (bind_outcome out file items) state state c.refused.result in
+    subst P c.as_slice-items.ensures (not_bound _ out file c.as_slice-items.result.now c.in-Err.why state c.refused.result c.in-Err.ensures c.refused.ensures)
