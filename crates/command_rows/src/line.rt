@@ -1,6 +1,7 @@
 //! A line of a file of rows.
 
 use crate::bytes::{hex_bytes, number};
+use crate::sweep::Damage;
 use std::alloc::{AllocError, Global};
 
 /// What a port refuses in a row.
@@ -50,6 +51,14 @@ pub enum Line<'a> {
     },
     /// `room BYTES`: what the sink takes, at most.
     Room(usize),
+    /// `share BYTES`: what the sink takes of a piece, at most.
+    Share(usize),
+    /// `each prefix of NAME`, `each bit of NAME`: the command is run over each form of the file that is damaged so, and the row's
+    /// text is how often it ended in which way.
+    Each {
+        damage: Damage,
+        name: &'a str,
+    },
     /// `says TEXT`: a line that is wanted on standard error. Rows without one are not asked what they say.
     Says(&'a str),
     /// `quiet`: nothing is wanted there.
@@ -116,6 +125,23 @@ fn at<'a>(alloc: Global, rest: &'a str) -> Result<Line<'a>, AllocError> {
     })
 }
 
+fn each<'a>(rest: &'a str) -> Line<'a> {
+    match (
+        rest.strip_prefix("prefix of "),
+        rest.strip_prefix("bit of "),
+    ) {
+        (Some(name), _) => Line::Each {
+            damage: Damage::Prefixes,
+            name,
+        },
+        (None, Some(name)) => Line::Each {
+            damage: Damage::Bits,
+            name,
+        },
+        (None, None) => Line::Unknown,
+    }
+}
+
 fn fill<'a>(alloc: Global, rest: &'a str) -> Result<Line<'a>, AllocError> {
     let (count, rest) = split_word(rest);
     let bytes = hex_bytes(alloc, rest)?;
@@ -147,7 +173,12 @@ fn plain<'a>(alloc: Global, text: &'a str) -> Result<Line<'a>, AllocError> {
         "load" => fails(Port::Load, rest),
         "save" => fails(Port::Save, rest),
         "put" => fails(Port::Put, rest),
+        "each" => each(rest),
         "quiet" => Line::Quiet,
+        "share" => match number(rest) {
+            Some(share) => Line::Share(share),
+            None => Line::Unknown,
+        },
         "room" => match number(rest) {
             Some(room) => Line::Room(room),
             None => Line::Unknown,

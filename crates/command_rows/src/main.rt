@@ -7,6 +7,7 @@ mod line;
 mod outcome;
 mod row;
 mod runner;
+mod sweep;
 
 use crate::runner::Runner;
 use std::io::ErrorKind;

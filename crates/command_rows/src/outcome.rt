@@ -4,8 +4,8 @@ use crate::bytes::has_at;
 use crate::row::{Ended, Named, Row, find_bytes};
 use std::alloc::{AllocError, Global};
 
-// What is told of a text: its characters, and a point for each byte that is none.
-fn shown(alloc: Global, bytes: &[u8]) -> Result<String, AllocError> {
+/// What is told of a text: its characters, and a point for each byte that is none.
+pub fn shown(alloc: Global, bytes: &[u8]) -> Result<String, AllocError> {
     let mut text = String::new(alloc);
     for byte in bytes {
         match byte {

@@ -1,6 +1,7 @@
 //! A row: a command, what fails in it, and what is wanted of it.
 
 use crate::line::Port;
+use crate::sweep::{Damage, Sweep};
 use lx_ports::{MemFiles, MemSink, NoGate};
 use lx_tool::lx_main;
 use lx_types::NoMemory;
@@ -31,6 +32,7 @@ struct Ports {
     saves: Vec<u64>,
     puts: Vec<u64>,
     room: usize,
+    share: usize,
 }
 
 /// How the command of a row ended.
@@ -63,6 +65,8 @@ pub struct Row {
     pub title: String,
     pub words: Vec<String>,
     ports: Ports,
+    /// The file that is damaged in each way, where the row is of one.
+    pub sweep: Option<Sweep>,
     pub status: u8,
     pub text: Vec<u8>,
     /// What is to be said on standard error, where the row wants something of it.
@@ -74,7 +78,7 @@ pub struct Row {
 /// What a sink has room for where a row does not say it.
 const ROOM: usize = 65_536;
 
-/// What a sink takes of a piece, at most.
+/// What a sink takes of a piece, at most, where a row does not say it.
 const SHARE: usize = 7;
 
 /// The first of these under a name.
@@ -94,7 +98,9 @@ impl Row {
                 saves: Vec::new(alloc),
                 puts: Vec::new(alloc),
                 room: ROOM,
+                share: SHARE,
             },
+            sweep: None,
             status: 0,
             text: Vec::new(alloc),
             says: None,
@@ -108,6 +114,18 @@ impl Row {
         for word in line.split_whitespace() {
             self.words.push(word.to_string(alloc)?)?;
         }
+        Ok(())
+    }
+
+    /// Has the command run over each damaged form of a file.
+    pub fn set_sweep(
+        &mut self,
+        alloc: Global,
+        damage: Damage,
+        name: &str,
+    ) -> Result<(), AllocError> {
+        let name = name.to_string(alloc)?;
+        self.sweep = Some(Sweep { damage, name });
         Ok(())
     }
 
@@ -143,6 +161,11 @@ impl Row {
         self.ports.room = room;
     }
 
+    /// Has the sink take so much of a piece, at most.
+    pub fn set_share(&mut self, share: usize) {
+        self.ports.share = share;
+    }
+
     /// Runs the command over these files, as the program does over real ones.
     pub fn run<R: Threads + Wait + Sync>(
         &self,
@@ -157,7 +180,7 @@ impl Row {
             said: String::new(alloc),
         };
         let mut watched = Watched::new(alloc, own, sayings);
-        let sink = MemSink::of(alloc, ports.room, SHARE, ports.puts.clone()?)?;
+        let sink = MemSink::of(alloc, ports.room, ports.share.max(1), ports.puts.clone()?)?;
         let mut out = Heard::new(alloc, sink);
         let status = lx_main(rt, alloc, &self.words, &mut watched, &mut out, &NoGate).status;
         let entries = entries_of(alloc, files)?;

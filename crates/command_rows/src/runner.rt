@@ -2,7 +2,7 @@
 
 use crate::bytes::{add_lines, overlay};
 use crate::line::{Change, Line};
-use crate::outcome::difference;
+use crate::outcome::{difference, shown};
 use crate::row::{Ended, Held, Named, Row, find_bytes};
 use lx_types::NoMemory;
 use std::alloc::{AllocError, Global};
@@ -149,12 +149,26 @@ impl Runner {
             return Ok(());
         };
         self.rows = self.rows.saturating_add(1);
+        if let Some(sweep) = &row.sweep {
+            let text = sweep.run(rt, self.alloc, &row, &self.files)?;
+            return self.end_sweep(&row, text.as_str());
+        }
         let ended = row.run(rt, self.alloc, &self.files)?;
         if let Some(how) = difference(self.alloc, &row, &self.files, &ended)? {
             let title = row.title.as_str();
             self.told.push(format!(in self.alloc; "{title}: {how}")?)?;
         }
         self.last = Some(ended);
+        Ok(())
+    }
+
+    // Tells how a command ended over damaged files, where that is not as it is wanted.
+    fn end_sweep(&mut self, row: &Row, text: &str) -> Result<(), NoMemory> {
+        if text.as_bytes() != row.text.as_slice() {
+            let title = row.title.as_str();
+            let ends = shown(self.alloc, text.as_bytes())?;
+            self.told.push(format!(in self.alloc; "{title}: {ends}")?)?;
+        }
         Ok(())
     }
 }
@@ -165,7 +179,9 @@ fn take_in_row(alloc: Global, row: &mut Row, line: Line<'_>) -> Result<bool, All
         Line::Words(words) => row.set_words(alloc, words)?,
         Line::Status(status) => row.status = status,
         Line::Fails { port, number } => row.fail(port, number)?,
+        Line::Each { damage, name } => row.set_sweep(alloc, damage, name)?,
         Line::Room(room) => row.set_room(room),
+        Line::Share(share) => row.set_share(share),
         Line::Says(line) => row.add_saying(alloc, line)?,
         Line::Quiet => row.want_quiet(alloc),
         Line::Saves(name) => row.saved.push(Named {
