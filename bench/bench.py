@@ -18,6 +18,7 @@ status is 0, 1 where a command failed, 2 where the words are wrong.
 import json
 import os
 import platform
+import random
 import struct
 import subprocess
 import sys
@@ -60,6 +61,13 @@ def with_fixups(count):
         # location 9, segment-relative, in the target's frame, target segment 1 without a displacement
         out += record(0x9D, b"".join(bytes([0xE4 | 4 * k >> 8, 4 * k & 0xFF, 0x54, 1]) for k in range(here)))
     return out + record(0x8A, b"\0")
+
+
+def with_data(count):
+    """An object file of so many bytes of data that do not repeat, 1,000 in each data record."""
+    data = random.Random(count).randbytes(count)
+    rows = [record(0xA1, b"\1" + struct.pack("<I", at) + data[at : at + 1000]) for at in range(0, count, 1000)]
+    return begun("data", count, [], []) + b"".join(rows) + record(0x8A, b"\0")
 
 
 def with_names(number, count, others):
@@ -215,6 +223,9 @@ def measure(options):
     def image(folder, size):
         return [lx, "image", put(folder, "a.obj", with_fixups(size)), "00010000"]
 
+    def image_of_data(folder, size):
+        return [lx, "image", put(folder, "a.obj", with_data(size)), "00010000"]
+
     table = Table(options)
     table.head()
     table.row("link: fixups of one object file", 100_000, fixups)
@@ -223,6 +234,7 @@ def measure(options):
     table.row("link: exports through an import library", 4_000, import_library)
     table.row("implib: exports of a definition file", 4_000, exports)
     table.row("image: fixups of one object file", 20_000, image)
+    table.row("image: bytes of one object file", 2_000_000, image_of_data)
     if options.save:
         table.save(options.save)
 

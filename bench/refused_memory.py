@@ -1,0 +1,113 @@
+#!/usr/bin/env python3
+"""Runs a built lx on small inputs and refuses one request for memory a run, each in turn.
+
+    bench/refused_memory.py LX [--every N]
+
+Each run has to end as the whole one does, or with status 8 and nothing on standard output and no file saved. The last line
+counts the requests and how the runs ended. With --every N only every Nth request is refused. The status is 1 where a run
+ended otherwise. It needs a C compiler, cc.
+"""
+import argparse
+import os
+import subprocess
+import sys
+import tempfile
+
+HERE = os.path.dirname(os.path.abspath(__file__))
+
+A_OBJ = bytes.fromhex(
+    "80 03 00 01 61 00"
+    "96 13 00 00 06 43 4F 44 45 33 32 04 43 4F 44 45 04 46 4C 41 54 00"
+    "99 09 00 A9 08 00 00 00 02 03 01 00"
+    "9A 02 00 04 00"
+    "A1 0E 00 01 00 00 00 00 00 00 00 00 00 00 00 00 00"
+    "9D 06 00 E4 04 14 01 01 00"
+    "8A 02 00 00 00"
+)
+
+FILES = {
+    "a.obj": A_OBJ,
+    "d.def": b"LIBRARY D\n",
+    "s.ses": b"build D d.def a.obj\nprocess 1\nload D\ntouch D 1 4 4\npeek D 1 0 8\nfree D\nexit\n",
+    "many.ses": b"build D d.def a.obj\nbuild E e.def a.obj\n"
+    + b"".join(
+        b"process %d\nload D\ntouch D 1 0 8\npeek D 1 0 8\nquery D @1\nwrite D 1 0 FF\ndebug D 1 0 AB\nfree D\nload E\nexit\n" % pid
+        for pid in (1, 2, 3)
+    ),
+    "e.def": b"LIBRARY E\n",
+}
+
+RUNS = [
+    ("image", ["image", "a.obj", "10000000"]),
+    ("link", ["link", "d.dll", "d.def", "a.obj"]),
+    ("implib", ["implib", "d.lib", "d.def"]),
+    ("a session of one script", ["run", "s.ses"]),
+    ("a session of three scripts", ["run", "many.ses"]),
+]
+
+
+def built(folder):
+    """The library that counts and refuses."""
+    path = os.path.join(folder, "refuse.so")
+    subprocess.run(["cc", "-O1", "-shared", "-fPIC", "-o", path, os.path.join(HERE, "refuse.c")], check=True)
+    return path
+
+
+def run(lx, words, library, refused):
+    """A run in a folder of its own: its status, its text, the files there, and the requests it made."""
+    with tempfile.TemporaryDirectory() as folder:
+        for name, data in FILES.items():
+            with open(os.path.join(folder, name), "wb") as file:
+                file.write(data)
+        told = os.path.join(folder, "requests")
+        env = dict(os.environ, LD_PRELOAD=library, REFUSED_REQUEST=str(refused), REQUESTS_FILE=told)
+        done = subprocess.run([lx] + words, cwd=folder, env=env, capture_output=True, timeout=60)
+        requests = int(open(told).read()) if os.path.exists(told) else 0
+        files = {}
+        for name in os.listdir(folder):
+            if name != "requests":
+                files[name] = open(os.path.join(folder, name), "rb").read()
+        return done.returncode, done.stdout, files, requests
+
+
+def is_same(whole, text, threads):
+    """Whether a text is that of a whole run. Scripts on threads may take their steps in another order, so of their
+    transcript the first line and the beginning of the last one are compared."""
+    if not threads:
+        return text == whole
+    return text.startswith(b"history\n") and text.splitlines()[-1].startswith(b"summary processes 3 ")
+
+
+def main():
+    parser = argparse.ArgumentParser(description=__doc__.splitlines()[0])
+    parser.add_argument("lx")
+    parser.add_argument("--every", type=int, default=1)
+    options = parser.parse_args()
+    lx = os.path.abspath(options.lx)
+    total = refused = as_before = otherwise = 0
+    with tempfile.TemporaryDirectory() as folder:
+        library = built(folder)
+        for title, words in RUNS:
+            whole_status, whole, whole_files, requests = run(lx, words, library, 0)
+            threads = words[-1] == "many.ses"
+            eights = same = others = 0
+            for number in range(1, requests + 1, options.every):
+                status, text, files, _ = run(lx, words, library, number)
+                if status == 8 and text == b"" and files == FILES:
+                    eights += 1
+                elif status == whole_status and is_same(whole, text, threads) and files == whole_files:
+                    same += 1
+                else:
+                    others += 1
+                    print(f"{title}: request {number}: status {status}, text {text[:60]!r}")
+            print(f"{title}: {requests} requests, {eights} ended with 8, {same} as the whole run, {others} otherwise")
+            total += requests
+            refused += eights
+            as_before += same
+            otherwise += others
+    print(f"{total} requests, {refused} ended with 8, {as_before} as the whole run, {otherwise} otherwise")
+    return 1 if otherwise else 0
+
+
+if __name__ == "__main__":
+    sys.exit(main())
