@@ -51,9 +51,10 @@ alike_from count prefix k (x ∷ xs) [] long h j = absurd cc
 alike_from count prefix k (x ∷ xs) (y ∷ ys) long h j =
     let next : suc k ≡ k + 1 = omega arith in
     let left : AreObjectFiles (k + 1) xs = subst (λ (n : ℕ). AreObjectFiles n xs) next h.1 in
-    let right : AreObjectFiles (k + 1) ys = subst (λ (n : ℕ). AreObjectFiles n ys) next j.1 in
-    (record { name = refl; bytes = inr (gen_object k, h.0, j.0) },
-      (record { name = refl; bytes = inl refl }, alike_from count prefix (k + 1) xs ys (omega (arith, long)) left right))
+    let right : AreObjectFiles (k + 1) ys = subst (λ (n : ℕ). AreObjectFiles n ys) next j.1 in (
+      record { name = refl; bytes = inr (gen_object k, h.0, j.0) },
+      (record { name = refl; bytes = inl refl }, alike_from count prefix (k + 1) xs ys (omega (arith, long)) left right),
+    )
 
 files_alike : (words : GenWords) (files others : List Saved) (text other : List ℕ) → GenAnswer words files text → GenAnswer words others other → AreAlike files others
 files_alike words files others text other h k =

@@ -32,7 +32,7 @@ found_in p (suc d) a (suc len) within at before =
     let less : d < len = omega (arith, within) in
     passed_by (p a) p a (range_with_len (a + 1) len) (Some (a + suc d)) (before a (omega arith))
     (subst (λ (k : ℕ). find p (range_with_len (a + 1) len) ≡ Some k) next
-      (found_in p d (a + 1) len less (ap p next ∙ at) (λ m h. before m (omega (arith, h)))))
+    (found_in p d (a + 1) len less (ap p next ∙ at) (λ m h. before m (omega (arith, h)))))
 
 none_in : (p : ℕ → Bool) (a len : ℕ) → ((m : ℕ) → a ≤ m → m < a + len → p m ≡ false) → find p (range_with_len a len) ≡ None
 none_in p a zero none = refl
@@ -61,8 +61,8 @@ count_found word n low high e =
     let same : 1 + d ≡ n = omega (arith, low) in
     subst (λ (k : ℕ). find (is_word word) (range_with_len 1 64) ≡ Some k) same
     (found_in (is_word word) d 1 64 (omega (arith, low, high)) (subst (λ (k : ℕ). is_word word k ≡ true) (sym same) (word_is word n e))
-      (λ m less. word_is_not word m (λ f.
-        let other : m ≡ n = decimal_injective m n (omega (arith, less, same, high)) (omega (arith, high)) (sym f ∙ e) in omega (arith, other, less, same))))
+    (λ m less. word_is_not word m (λ f.
+    let other : m ≡ n = decimal_injective m n (omega (arith, less, same, high)) (omega (arith, high)) (sym f ∙ e) in omega (arith, other, less, same))))
 
 pub no_count : (word : List ℕ) → ((n : ℕ) → 1 ≤ n → n ≤ 64 → word ≡ decimal n → ⊥) → count_of word ≡ None
 unfolding count_of

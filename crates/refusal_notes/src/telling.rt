@@ -92,11 +92,7 @@ fn not_written(alloc: Global, lines: &mut Lines, ended: &Ended<'_>) -> Result<()
 }
 
 // The same of `gen`, which saves several files.
-fn not_all_written(
-    alloc: Global,
-    lines: &mut Lines,
-    ended: &Ended<'_>,
-) -> Result<(), AllocError> {
+fn not_all_written(alloc: Global, lines: &mut Lines, ended: &Ended<'_>) -> Result<(), AllocError> {
     if ended.saved == Some(true) {
         return lines.add_text(
             alloc,

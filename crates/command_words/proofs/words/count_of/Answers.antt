@@ -20,7 +20,7 @@ pub returns-in_err-count-clause-named : goal.returns-in_err-count-clause-named
 returns-in_err-count-clause-named c =
     c.from_residual.ensures
     ∙ not_parsed c.args.word.now c.parse.result c.parse.ensures.value.0 (begun c.args.word.now _ c.as_bytes-digits.ensures.value c.if-digits-le48.false)
-      (sym c.ok.ensures.value ∙ c.in_err-count.was)
+    (sym c.ok.ensures.value ∙ c.in_err-count.was)
 
 pub returns-then-count-le-MOST-clause-named : goal.returns-then-count-le-MOST-clause-named
 returns-then-count-le-MOST-clause-named c =
@@ -28,9 +28,11 @@ returns-then-count-le-MOST-clause-named c =
     (sym c.ok.ensures.value ∙ c.in_ok-count.was) c.if-count-le-MOST.true
 
 pub returns-then-count-le-MOST-clause-few : goal.returns-then-count-le-MOST-clause-few
-returns-then-count-le-MOST-clause-few c =
-    (count_is_one c.args.word.now c.parse.result c.parse.ensures.value.0 (begun c.args.word.now _ c.as_bytes-digits.ensures.value c.if-digits-le48.false) c.in_ok-count.count
-      (sym c.ok.ensures.value ∙ c.in_ok-count.was), c.if-count-le-MOST.true)
+returns-then-count-le-MOST-clause-few c = (
+  count_is_one c.args.word.now c.parse.result c.parse.ensures.value.0 (begun c.args.word.now _ c.as_bytes-digits.ensures.value c.if-digits-le48.false) c.in_ok-count.count
+      (sym c.ok.ensures.value ∙ c.in_ok-count.was),
+  c.if-count-le-MOST.true,
+)
 
 pub returns-else-count-le-MOST-clause-named : goal.returns-else-count-le-MOST-clause-named
 returns-else-count-le-MOST-clause-named c =
