@@ -3,8 +3,9 @@
 
     bench/refused_memory.py LX [--every N]
 
-Each run has to end as the whole one does, or with status 8 and nothing on standard output and no file saved. The last line
-counts the requests and how the runs ended. With --every N only every Nth request is refused. The status is 1 where a run
+Each run has to end as the whole one does, or with status 8 and nothing on standard output and no file saved. A save that finds
+no memory for the name of its new file is a failed one: status 4, its line, and the files before it. The last line counts the requests
+and how the runs ended. With --every N only every Nth request is refused. The status is 1 where a run
 ended otherwise. It needs a C compiler, cc.
 """
 import argparse
@@ -41,6 +42,7 @@ RUNS = [
     ("image", ["image", "a.obj", "10000000"]),
     ("link", ["link", "d.dll", "d.def", "a.obj"]),
     ("implib", ["implib", "d.lib", "d.def"]),
+    ("gen", ["gen", "1", "g"]),
     ("a session of one script", ["run", "s.ses"]),
     ("a session of three scripts", ["run", "many.ses"]),
 ]
@@ -78,34 +80,44 @@ def is_same(whole, text, threads):
     return text.startswith(b"history\n") and text.splitlines()[-1].startswith(b"summary processes 3 ")
 
 
+def are_kept(files, whole_files):
+    """Whether nothing is lost and nothing half saved: the inputs stand, and what else is there is as the whole run saves it."""
+    return all(files.get(name) == data for name, data in FILES.items()) and all(
+        whole_files.get(name) == data for name, data in files.items()
+    )
+
+
 def main():
     parser = argparse.ArgumentParser(description=__doc__.splitlines()[0])
     parser.add_argument("lx")
     parser.add_argument("--every", type=int, default=1)
     options = parser.parse_args()
     lx = os.path.abspath(options.lx)
-    total = refused = as_before = otherwise = 0
+    total = refused = as_before = failed_saves = otherwise = 0
     with tempfile.TemporaryDirectory() as folder:
         library = built(folder)
         for title, words in RUNS:
             whole_status, whole, whole_files, requests = run(lx, words, library, 0)
             threads = words[-1] == "many.ses"
-            eights = same = others = 0
+            eights = same = unsaved = others = 0
             for number in range(1, requests + 1, options.every):
                 status, text, files, _ = run(lx, words, library, number)
                 if status == 8 and text == b"" and files == FILES:
                     eights += 1
+                elif status == 4 and text.endswith(b": write failed\n") and are_kept(files, whole_files):
+                    unsaved += 1
                 elif status == whole_status and is_same(whole, text, threads) and files == whole_files:
                     same += 1
                 else:
                     others += 1
                     print(f"{title}: request {number}: status {status}, text {text[:60]!r}")
-            print(f"{title}: {requests} requests, {eights} ended with 8, {same} as the whole run, {others} otherwise")
+            print(f"{title}: {requests} requests, {eights} ended with 8, {same} as the whole run, {unsaved} in a save, {others} otherwise")
             total += requests
             refused += eights
             as_before += same
+            failed_saves += unsaved
             otherwise += others
-    print(f"{total} requests, {refused} ended with 8, {as_before} as the whole run, {otherwise} otherwise")
+    print(f"{total} requests, {refused} ended with 8, {as_before} as the whole run, {failed_saves} in a save, {otherwise} otherwise")
     return 1 if otherwise else 0
 
 
