@@ -18,13 +18,15 @@ empty_module = record {
   exports = [];
   deflibs = [];
   start = None;
+  comdats = [];
 }
 
--- No names, no data and no thread so far.
+-- No names, no data, no thread and no COMDAT so far.
 abbrev pub fresh_parts : ObjParts
 fresh_parts = record {
   names = [];
   «module» = empty_module;
   last = data_record.None;
   threads = record { frame = replicate 4 None; goal = replicate 4 None };
+  comdats = [];
 }

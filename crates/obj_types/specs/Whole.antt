@@ -1,5 +1,5 @@
 -- When an object module is whole: what each reader of object files makes sure of.
-use Rattle.std.specs.Prelude.{◌≡◌, ◌≢◌, ℕ, ◌+◌, ◌≤◌, ◌<◌, true, false, [], length, IfSome, IsSomeAnd, codes}
+use Rattle.std.specs.Prelude.{◌≡◌, ◌≢◌, ℕ, ◌+◌, ◌≤◌, ◌<◌, Bool, true, false, List, [], ◌∷◌, length, filter, IfSome, IsSomeAnd, ◌==◌, codes}
 use Rattle.std.specs.List.{All, AllPairs, sum_by}
 use Rattle.obj_types.specs.declared.limits.TheConstants.{MAX_DATA, MAX_FIXES}
 use Rattle.obj_types.specs.declared.object.Seg.{Seg}
@@ -11,6 +11,7 @@ use Rattle.obj_types.specs.declared.object.Goal.{Goal}
 use Rattle.obj_types.specs.declared.object.Goal.TheVariants as goals
 use Rattle.obj_types.specs.declared.object.FixAt.{FixAt}
 use Rattle.obj_types.specs.declared.object.StartAt.{StartAt}
+use Rattle.obj_types.specs.declared.object.Comdat.{Comdat}
 use Rattle.obj_types.specs.declared.object.ObjModule.{ObjModule}
 use Rattle.obj_types.specs.declared.symbol.PubPlace.{PubPlace}
 use Rattle.obj_types.specs.declared.symbol.PubPlace.TheVariants.{In, Const}
@@ -74,6 +75,42 @@ WholeStart m s = WholeFrame m s.frame × WholeGoal m s.goal
 abbrev pub WholeExp : Exp → Type 0
 WholeExp e = (e.name ≢ []) × (e.words ≤ 31)
 
+-- "C2h COMDAT": what names no segment of a COMDAT.
+abbrev pub IsApartFrame : ℕ → Frame → Type 0
+IsApartFrame seg (frames.Seg i) = i ≢ seg
+IsApartFrame seg (frames.Group i) = Unit {0}
+IsApartFrame seg (frames.Ext i) = Unit {0}
+IsApartFrame seg frames.Here = Unit {0}
+IsApartFrame seg frames.OfTarget = Unit {0}
+
+abbrev pub IsApartGoal : ℕ → Goal → Type 0
+IsApartGoal seg (goals.Seg i) = i ≢ seg
+IsApartGoal seg (goals.Group i) = Unit {0}
+IsApartGoal seg (goals.Ext i) = Unit {0}
+
+-- A public is in a segment.
+abbrev pub is_in_seg : ℕ → PubPlace → Bool
+is_in_seg seg (In i offset) = i == seg
+is_in_seg seg (Const value) = false
+
+abbrev pub pubs_in_seg : ObjModule → ℕ → List Pub
+pubs_in_seg m seg = filter (λ p. is_in_seg seg p.place) m.pubs
+
+-- The one public in a COMDAT's segment, which is at its begin.
+pub record IsOnlyPublic (m : ObjModule) (c : Comdat) (p : Pub) : Type 0 where
+  pub only : pubs_in_seg m c.seg ≡ p ∷ []
+  pub name : p.name ≡ c.name
+  pub begin : p.place ≡ In c.seg 0
+
+-- A COMDAT's segment holds its public alone, and no frame and no goal names it.
+pub record WholeComdat (m : ObjModule) (c : Comdat) : Type 0 where
+  pub segment : IsIndex m.segs c.seg
+  pub public : (p : Pub) × IsOnlyPublic m c p
+  pub frames : All (λ (f : FixAt). IsApartFrame c.seg f.frame) m.fixes
+  pub goals : All (λ (f : FixAt). IsApartGoal c.seg f.goal) m.fixes
+  pub start_frame : IfSome m.start (λ (s : StartAt). IsApartFrame c.seg s.frame)
+  pub start_goal : IfSome m.start (λ (s : StartAt). IsApartGoal c.seg s.goal)
+
 pub record WholeModule (m : ObjModule) : Type 0 where
   pub segs : All WholeSeg m.segs
   pub groups : All (WholeGroup m) m.groups
@@ -86,3 +123,5 @@ pub record WholeModule (m : ObjModule) : Type 0 where
   pub start : IfSome m.start (WholeStart m)
   pub data_limit : sum_by (λ (p : Piece). length p.bytes) m.pieces ≤ MAX_DATA
   pub fix_limit : length m.fixes ≤ MAX_FIXES
+  pub comdats : All (WholeComdat m) m.comdats
+  pub comdats_apart : AllPairs (λ (c d : Comdat). c.seg ≢ d.seg) m.comdats

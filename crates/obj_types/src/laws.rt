@@ -14,6 +14,7 @@ use crate::object::{
     ALIGN_ABSOLUTE, ALIGN_BYTE, ALIGN_DOUBLEWORD, ALIGN_PAGE, ALIGN_PARAGRAPH, ALIGN_WORD,
     COMBINE_COMMON, COMBINE_PRIVATE, COMBINE_PUBLIC, COMBINE_STACK,
 };
+use crate::parts::COMDAT_BASE;
 
 /// A law: the limits in bytes of data, in fixups and in nested blocks.
 pub fn limit_numbers()
@@ -32,6 +33,11 @@ pub fn location_numbers()
     ensures offset_32 { LOCATION_OFFSET_32 ≡ 9 }
     ensures far_32 { LOCATION_FAR_32 ≡ 11 }
     ensures loader_32 { LOCATION_LOADER_32 ≡ 13 }
+{}
+
+/// A law: the number from which those of an unfinished module's COMDATs count.
+pub fn comdat_numbers()
+    ensures base { COMDAT_BASE ≡ 65536 }
 {}
 
 /// A law: the alignments of segments, and the ways to combine them.

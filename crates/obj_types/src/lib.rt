@@ -17,7 +17,7 @@ mod symbol;
 
 pub use definition::{Attrs, DefFile, ModKind, SegAttrs, SegRules};
 pub use input::{LinkInput, ObjModules};
-pub use laws::{limit_numbers, location_numbers, segment_numbers};
+pub use laws::{comdat_numbers, limit_numbers, location_numbers, segment_numbers};
 pub use limits::{MAX_DATA, MAX_DEPTH, MAX_FIXES};
 pub use location::{
     LOCATION_BYTE, LOCATION_FAR_16, LOCATION_FAR_32, LOCATION_LOADER_16, LOCATION_LOADER_32,
@@ -26,9 +26,9 @@ pub use location::{
 pub use lx_types::{Bytes, EntryKey, Fail, Name, Names, NoMemory, Seq};
 pub use object::{
     ALIGN_ABSOLUTE, ALIGN_BYTE, ALIGN_DOUBLEWORD, ALIGN_PAGE, ALIGN_PARAGRAPH, ALIGN_WORD,
-    COMBINE_COMMON, COMBINE_PRIVATE, COMBINE_PUBLIC, COMBINE_STACK, FixAt, Fixes, Frame, Goal,
-    Group, Groups, Members, ObjModule, Piece, Pieces, Seg, Segs, StartAt,
+    COMBINE_COMMON, COMBINE_PRIVATE, COMBINE_PUBLIC, COMBINE_STACK, Comdat, Comdats, FixAt, Fixes,
+    Frame, Goal, Group, Groups, Members, ObjModule, Piece, Pieces, Seg, Segs, Selection, StartAt,
 };
-pub use parts::{LastData, ObjParts, Threads};
+pub use parts::{BegunComdat, BegunComdats, COMDAT_BASE, LastData, ObjParts, Threads};
 pub use refusal::OmfRefusal;
 pub use symbol::{Common, Exp, Exports, Ext, Exts, Imp, Imports, Pub, PubPlace, Pubs};

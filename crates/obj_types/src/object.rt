@@ -118,6 +118,30 @@ pub struct StartAt {
     pub disp: u32,
 }
 
+/// Which of several COMDATs of one name may stand for all ("C2h COMDAT", the selection criteria).
+#[derive(Debug, Clone, Copy, PartialEq, Eq)]
+pub enum Selection {
+    /// There may be one only.
+    NoMatch,
+    /// Any of them.
+    Any,
+    /// Any of them, where all have one length.
+    SameSize,
+    /// Any of them, where all have the same bytes.
+    Exact,
+}
+
+/// A segment that holds the data of one name ("C2h COMDAT"), and whose index is `seg`.
+#[derive(Drop)]
+pub struct Comdat {
+    pub name: Name,
+    pub seg: u32,
+    pub selection: Selection,
+}
+
+/// The COMDATs of a module.
+pub type Comdats = Seq<Comdat>;
+
 /// An object module as its records say it.
 #[derive(Drop)]
 pub struct ObjModule {
@@ -133,4 +157,5 @@ pub struct ObjModule {
     /// The names of default libraries.
     pub deflibs: Names,
     pub start: Option<StartAt>,
+    pub comdats: Comdats,
 }

@@ -3,7 +3,7 @@
 ghost use Rattle.std.specs.Prelude.{◌≡◌};
 ghost use Rattle.obj_types.specs.Fresh.{fresh_parts};
 
-use crate::{Frame, Goal, ObjModule};
+use crate::{Frame, Goal, ObjModule, Seg, Selection};
 use lx_types::{Bytes, Name, Names, Seq};
 use std::alloc::Global;
 
@@ -36,7 +36,25 @@ pub struct Threads {
     pub goal: [Option<Goal>; 4],
 }
 
-/// An unfinished module.
+/// A COMDAT of which one record came at least.
+#[derive(Drop)]
+pub struct BegunComdat {
+    pub name: Name,
+    pub selection: Selection,
+    /// Its segment, without a length: it is as long as its data in the end.
+    pub seg: Seg,
+    /// The group whose member the segment is, 0 for none.
+    pub group: u32,
+}
+
+/// The COMDATs of an unfinished module.
+pub type BegunComdats = Seq<BegunComdat>;
+
+/// The number of an unfinished module's first COMDAT's segment, less 1: no index is as great.
+pub const COMDAT_BASE: u32 = 65_536;
+
+/// An unfinished module. Its publics, pieces and fixes name the segment of its COMDAT `k`, from 1, by the number
+/// `COMDAT_BASE + k`. Its segments and its groups do not have them, nor does it have COMDATs yet.
 #[derive(Drop)]
 pub struct ObjParts {
     /// The names of the LNAMES records.
@@ -44,6 +62,7 @@ pub struct ObjParts {
     pub module: ObjModule,
     pub last: LastData,
     pub threads: Threads,
+    pub comdats: BegunComdats,
 }
 
 impl ObjParts {
@@ -65,12 +84,14 @@ impl ObjParts {
                 exports: Seq::new(alloc),
                 deflibs: Seq::new(alloc),
                 start: None,
+                comdats: Seq::new(alloc),
             },
             last: LastData::None,
             threads: Threads {
                 frame: [None; 4],
                 goal: [None; 4],
             },
+            comdats: Seq::new(alloc),
         }
     }
 }

@@ -7,6 +7,7 @@ pub mod NameTold
 pub mod CommentTold
 pub mod BlockTold
 pub mod DataTold
+pub mod ComdatTold
 pub mod FixTold
 pub mod FixupTold
 pub mod TypeTold

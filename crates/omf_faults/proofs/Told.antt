@@ -40,24 +40,32 @@ err_bind {A} {B} (Err d) f e is = err_is {A = A} {B = B} d e is
 
 -- ---- a part, and what is behind it
 
-pub good_part_tells : {A B : Type 0} (read : Cursor → Reading A) (part : Part A) → Judges read part → (c : Cursor) (f : A × Cursor → Result B OmfRefusal) (e : OmfRefusal) (Behind : A → Cursor → Type 0) → AreBytes c.left
-    → ((x : A) (d : Cursor) → part.good x → AreBytes d.left → (f (x, d) ≡ Err e) ↔ Behind x d) → ((read c >>= f) ≡ Err e) ↔ PartThen part c e Behind
-good_part_tells {A} {B} read part j c f e Behind bytes k = (to, from)
+good_spanned_tells : {A B : Type 0} (read : Cursor → Reading A) (part : Part A) → Judges read part → (c : Cursor) (f : A × Cursor → Result B OmfRefusal) (e : OmfRefusal) (Behind : A → Cursor → Type 0) → AreBytes c.left
+    → ((x : A) (d : Cursor) → Spans (part.form x) c d → part.good x → AreBytes d.left → (f (x, d) ≡ Err e) ↔ Behind x d) → ((read c >>= f) ≡ Err e) ↔ PartThen part c e Behind
+good_spanned_tells {A} {B} read part j c f e Behind bytes k = (to, from)
   where
     to : (read c >>= f) ≡ Err e → PartThen part c e Behind
     to is = elim (bind_err (read c) f e is) [
       | inl none ↦ inl ((j.tells c e bytes).0 none)
       | inr some ↦
           let t = j.sound c some.0.0 some.0.1 bytes some.1 in
-          inr (some.0.0, some.0.1, t.0, t.1, (k some.0.0 some.0.1 t.1 (bytes_behind (part.form some.0.0) c some.0.1 t.0 bytes)).0 some.2)
+          inr (some.0.0, some.0.1, t.0, t.1, (k some.0.0 some.0.1 t.0 t.1 (bytes_behind (part.form some.0.0) c some.0.1 t.0 bytes)).0 some.2)
     ]
 
     from : PartThen part c e Behind → (read c >>= f) ≡ Err e
     from (inl w) = err_bind (read c) f e ((j.tells c e bytes).1 w)
     from (inr t) =
         let there : read c ≡ given t.0 t.1 = j.complete c t.0 t.1 t.2 t.3 in
-        let rest : f (t.0, t.1) ≡ Err e = (k t.0 t.1 t.3 (bytes_behind (part.form t.0) c t.1 t.2 bytes)).1 t.4 in
+        let rest : f (t.0, t.1) ≡ Err e = (k t.0 t.1 t.2 t.3 (bytes_behind (part.form t.0) c t.1 t.2 bytes)).1 t.4 in
         ap (λ (r : Reading A). r >>= f) there ∙ rest
+
+pub spanned_part_tells : {A B : Type 0} (read : Cursor → Reading A) (part : Part A) → Judges read part → (c : Cursor) (f : A × Cursor → Result B OmfRefusal) (e : OmfRefusal) (Behind : A → Cursor → Type 0) → AreBytes c.left
+    → ((x : A) (d : Cursor) → Spans (part.form x) c d → AreBytes d.left → (f (x, d) ≡ Err e) ↔ Behind x d) → ((read c >>= f) ≡ Err e) ↔ PartThen part c e Behind
+spanned_part_tells read part j c f e Behind bytes k = good_spanned_tells read part j c f e Behind bytes (λ x d t good b. k x d t b)
+
+pub good_part_tells : {A B : Type 0} (read : Cursor → Reading A) (part : Part A) → Judges read part → (c : Cursor) (f : A × Cursor → Result B OmfRefusal) (e : OmfRefusal) (Behind : A → Cursor → Type 0) → AreBytes c.left
+    → ((x : A) (d : Cursor) → part.good x → AreBytes d.left → (f (x, d) ≡ Err e) ↔ Behind x d) → ((read c >>= f) ≡ Err e) ↔ PartThen part c e Behind
+good_part_tells read part j c f e Behind bytes k = good_spanned_tells read part j c f e Behind bytes (λ x d t good b. k x d good b)
 
 pub part_tells : {A B : Type 0} (read : Cursor → Reading A) (part : Part A) → Judges read part → (c : Cursor) (f : A × Cursor → Result B OmfRefusal) (e : OmfRefusal) (Behind : A → Cursor → Type 0) → AreBytes c.left
     → ((x : A) (d : Cursor) → AreBytes d.left → (f (x, d) ≡ Err e) ↔ Behind x d) → ((read c >>= f) ≡ Err e) ↔ PartThen part c e Behind

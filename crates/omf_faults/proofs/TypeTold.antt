@@ -17,6 +17,7 @@ use Rattle.omf_faults.proofs.FieldTold.{two_ways}
 use Rattle.omf_faults.proofs.NameTold.{lnames_told, segdef_told, grpdef_told, pubdef_told, extdef_told, comdef_told}
 use Rattle.omf_faults.proofs.CommentTold.{coment_told}
 use Rattle.omf_faults.proofs.DataTold.{ledata_told, lidata_told}
+use Rattle.omf_faults.proofs.ComdatTold.{comdat_told}
 use Rattle.omf_faults.proofs.FixupTold.{fixupp_told, modend_told}
 
 -- ---- by the types that there are
@@ -125,6 +126,12 @@ at_b6 p at c e bytes is = inr (inr (inr (inr (inr (inr (inr (inr (inr (inr (inr 
 at_b7 : (p : ObjParts) (at : ℕ) (c : Cursor) (e : OmfRefusal) → AreBytes c.left → Found p at c e 0xB7
 at_b7 p at c e bytes is = inr (inr (inr (inr (inr (inr (inr (inr (inr (inr (inr (inr (inl (inr (refl, (pubdef_told true true p c e bytes).0 is))))))))))))))
 
+at_c2 : (p : ObjParts) (at : ℕ) (c : Cursor) (e : OmfRefusal) → AreBytes c.left → Found p at c e 0xC2
+at_c2 p at c e bytes is = inr (inr (inr (inr (inr (inr (inr (inr (inr (inr (inr (inr (inr (inl (inl (refl, (comdat_told false p at c e bytes).0 is)))))))))))))))
+
+at_c3 : (p : ObjParts) (at : ℕ) (c : Cursor) (e : OmfRefusal) → AreBytes c.left → Found p at c e 0xC3
+at_c3 p at c e bytes is = inr (inr (inr (inr (inr (inr (inr (inr (inr (inr (inr (inr (inr (inl (inr (refl, (comdat_told true p at c e bytes).0 is)))))))))))))))
+
 -- no type of a record
 unknown : (p : ObjParts) (at : ℕ) (c : Cursor) (e : OmfRefusal) (ty : ℕ) → is_record_type ty ≡ false → reader_of ty p at c ≡ refused {A = Record} (UnknownType at ty)
 unknown p at c e ty is =
@@ -151,6 +158,8 @@ unknown p at c e ty is =
       a.1.1.1.1.1.1.1.1.1.1.1.1.1.1.1.1.1.1.1.1.1.1.0,
       a.1.1.1.1.1.1.1.1.1.1.1.1.1.1.1.1.1.1.1.1.1.1.1.0,
       a.1.1.1.1.1.1.1.1.1.1.1.1.1.1.1.1.1.1.1.1.1.1.1.1.0,
+      a.1.1.1.1.1.1.1.1.1.1.1.1.1.1.1.1.1.1.1.1.1.1.1.1.1.0,
+      a.1.1.1.1.1.1.1.1.1.1.1.1.1.1.1.1.1.1.1.1.1.1.1.1.1.1.0,
       a.0,
       a.1.0,
       a.1.1.1.1.1.1.1.1.0,
@@ -209,7 +218,13 @@ contents_found ty p at c e bytes =
                                                     at_b6 p at c e bytes,
                                                     (
                                                       at_b7 p at c e bytes,
-                                                      tt,
+                                                      (
+                                                        at_c2 p at c e bytes,
+                                                        (
+                                                          at_c3 p at c e bytes,
+                                                          tt,
+                                                        ),
+                                                      ),
                                                     ),
                                                   ),
                                                 ),
@@ -234,7 +249,7 @@ contents_found ty p at c e bytes =
           ),
         ),
       ),
-    ) ty (λ is fails. inr (inr (inr (inr (inr (inr (inr (inr (inr (inr (inr (inr (inr (is, (let same : UnknownType at ty ≡ e = (let both : refused {A = Record} (UnknownType at ty) ≡ Err e = sym (unknown p at c e ty is) ∙ fails in cc) in sym same)))))))))))))))
+    ) ty (λ is fails. inr (inr (inr (inr (inr (inr (inr (inr (inr (inr (inr (inr (inr (inr (is, (let same : UnknownType at ty ≡ e = (let both : refused {A = Record} (UnknownType at ty) ≡ Err e = sym (unknown p at c e ty is) ∙ fails in cc) in sym same))))))))))))))))
 
 -- ---- what is wrong fails
 
@@ -266,4 +281,6 @@ contents_shown ty p at c e bytes (inr (inr (inr (inr (inr (inr (inr (inr (inr (i
 contents_shown ty p at c e bytes (inr (inr (inr (inr (inr (inr (inr (inr (inr (inr (inr (inl (inr w))))))))))))) = fails_as p at c e ty 0xB5 w.0 ((extdef_told true c e bytes).1 w.1)
 contents_shown ty p at c e bytes (inr (inr (inr (inr (inr (inr (inr (inr (inr (inr (inr (inr (inl (inl w)))))))))))))) = fails_as p at c e ty 0xB6 w.0 ((pubdef_told true false p c e bytes).1 w.1)
 contents_shown ty p at c e bytes (inr (inr (inr (inr (inr (inr (inr (inr (inr (inr (inr (inr (inl (inr w)))))))))))))) = fails_as p at c e ty 0xB7 w.0 ((pubdef_told true true p c e bytes).1 w.1)
-contents_shown ty p at c e bytes (inr (inr (inr (inr (inr (inr (inr (inr (inr (inr (inr (inr (inr w))))))))))))) = unknown p at c e ty w.0 ∙ ap (λ (y : OmfRefusal). refused {A = Record} y) (sym w.1)
+contents_shown ty p at c e bytes (inr (inr (inr (inr (inr (inr (inr (inr (inr (inr (inr (inr (inr (inl (inl w))))))))))))))) = fails_as p at c e ty 0xC2 w.0 ((comdat_told false p at c e bytes).1 w.1)
+contents_shown ty p at c e bytes (inr (inr (inr (inr (inr (inr (inr (inr (inr (inr (inr (inr (inr (inl (inr w))))))))))))))) = fails_as p at c e ty 0xC3 w.0 ((comdat_told true p at c e bytes).1 w.1)
+contents_shown ty p at c e bytes (inr (inr (inr (inr (inr (inr (inr (inr (inr (inr (inr (inr (inr (inr w)))))))))))))) = unknown p at c e ty w.0 ∙ ap (λ (y : OmfRefusal). refused {A = Record} y) (sym w.1)

@@ -10,10 +10,11 @@ use Rattle.omf_fields.specs.Fields.{index_below, index_or_zero, items_at, list_w
 use Rattle.omf_model.specs.Record.{Record}
 use Rattle.omf_model.specs.ReadBlocks.{block_at, blocks_at, blocks_in}
 use Rattle.omf_model.specs.Fixups.{set_threads, fixes_by}
-use Rattle.omf_model.specs.Add.{add, add_field, add_fields}
+use Rattle.omf_model.specs.Add.{add, add_comdat, add_field, add_fields}
 use Rattle.omf_model.specs.ReadNames.{lnames_at, segdef_at, plain_seg_at, plain_seg_or_zero, member_at, grpdef_at, pub_at, pubdef_at, ext_at, extdef_at, far_at, near_at, communal_at, com_at, comdef_at}
 use Rattle.omf_model.specs.ReadComments.{given_name_at, entry_at, impdef_at, expdef_at, extension_at, coment_at}
 use Rattle.omf_model.specs.ReadData.{judge_data, ledata_at, lidata_at}
+use Rattle.omf_model.specs.ReadComdat.{base_segment_at, base_at, comdat_fields_at, judge_comdat, comdat_at}
 use Rattle.omf_model.specs.ReadFixups.{fix_data_at, thread_at, judge_fixup, fixup_at, field_at, fields_within, fixupp_at, modend_at}
 use Rattle.omf_model.specs.ReadModule.{reader_of}
 use Rattle.omf_model.proofs.FixLaws.{and_true}
@@ -48,7 +49,7 @@ told_all (row ∷ rows) bytes is =
     (contents_found row.0 some_parts 0 (record { at = 3; left = row.1 }) row.2 (bytes_so row.1 both.0) first, told_all rows both.1 others)
 
 rows_read : map read_row two_faults ≡ map (λ (row : Row). Err row.2) two_faults
-unfolding index_below index_or_zero items_at list_within within block_at blocks_at blocks_in set_threads fixes_by add add_field add_fields lnames_at segdef_at plain_seg_at plain_seg_or_zero member_at grpdef_at pub_at pubdef_at ext_at extdef_at far_at near_at communal_at com_at comdef_at given_name_at entry_at impdef_at expdef_at extension_at coment_at judge_data ledata_at lidata_at fix_data_at thread_at judge_fixup fixup_at field_at fields_within fixupp_at modend_at
+unfolding index_below index_or_zero items_at list_within within block_at blocks_at blocks_in set_threads fixes_by add add_comdat add_field add_fields lnames_at segdef_at plain_seg_at plain_seg_or_zero member_at grpdef_at pub_at pubdef_at ext_at extdef_at far_at near_at communal_at com_at comdef_at given_name_at entry_at impdef_at expdef_at extension_at coment_at judge_data ledata_at lidata_at base_segment_at base_at comdat_fields_at judge_comdat comdat_at fix_data_at thread_at judge_fixup fixup_at field_at fields_within fixupp_at modend_at
 rows_read = refl
 
 pub each_is_told : EachIsTold

@@ -3,6 +3,7 @@ pub mod FieldParts
 pub mod NameRecords
 pub mod CommentRecords
 pub mod DataRecords
+pub mod ComdatRecords
 pub mod FixupRecords
 pub mod WrongContents
 pub mod FirstFaults

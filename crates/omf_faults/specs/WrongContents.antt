@@ -8,6 +8,7 @@ use Rattle.omf_frame.specs.RecordType.{is_record_type}
 use Rattle.omf_faults.specs.NameRecords.{WrongLnames, WrongSegdef, WrongGrpdef, WrongPubdef, WrongExtdef, WrongComdef}
 use Rattle.omf_faults.specs.CommentRecords.{WrongComent}
 use Rattle.omf_faults.specs.DataRecords.{WrongLedata, WrongLidata}
+use Rattle.omf_faults.specs.ComdatRecords.{WrongComdat}
 use Rattle.omf_faults.specs.FixupRecords.{WrongFixupp, WrongModend}
 
 -- Of a pair of types the odd one has offsets and lengths of 4 bytes.
@@ -31,4 +32,5 @@ WrongContents ty p record_at c e =
     ⊎ ((ty ≡ 0xB0) × WrongComdef c e)
     ⊎ OfPair 0xB4 ty (λ wide. WrongExtdef c e)
     ⊎ OfPair 0xB6 ty (λ wide. WrongPubdef wide p c e)
+    ⊎ OfPair 0xC2 ty (λ wide. WrongComdat wide p record_at c e)
     ⊎ ((is_record_type ty ≡ false) × (e ≡ UnknownType record_at ty))

@@ -8,12 +8,14 @@ ghost use Rattle.obj_types.specs.declared.parts.ObjParts.{ObjParts};
 ghost use Rattle.omf_model.specs.ReadNames.{lnames_at, segdef_at, grpdef_at, pubdef_at, extdef_at, comdef_at};
 ghost use Rattle.omf_model.specs.ReadComments.{coment_at};
 ghost use Rattle.omf_model.specs.ReadData.{ledata_at, lidata_at};
+ghost use Rattle.omf_model.specs.ReadComdat.{comdat_at};
 ghost use Rattle.omf_model.specs.ReadFixups.{fixupp_at, modend_at};
 ghost use Rattle.omf_model.specs.ReadModule.{reader_of};
 ghost use Rattle.omf_faults.specs.Laws.{FailsAs};
 ghost use Rattle.omf_faults.specs.NameRecords.{WrongLnames, WrongSegdef, WrongGrpdef, WrongPubdef, WrongExtdef, WrongComdef};
 ghost use Rattle.omf_faults.specs.CommentRecords.{WrongComent};
 ghost use Rattle.omf_faults.specs.DataRecords.{WrongLedata, WrongLidata};
+ghost use Rattle.omf_faults.specs.ComdatRecords.{WrongComdat};
 ghost use Rattle.omf_faults.specs.FixupRecords.{WrongFixupp, WrongModend};
 ghost use Rattle.omf_faults.specs.WrongContents.{WrongContents};
 
@@ -35,6 +37,8 @@ pub fn data_faults_follow_good_fields()
         FailsAs (ledata_at wide p record_at) (WrongLedata wide p record_at) }
     ensures lidata { (wide : Bool) (p : ObjParts) (record_at : ℕ) →
         FailsAs (lidata_at wide p record_at) (WrongLidata wide p record_at) }
+    ensures comdat { (wide : Bool) (p : ObjParts) (record_at : ℕ) →
+        FailsAs (comdat_at wide p record_at) (WrongComdat wide p record_at) }
 {}
 
 /// The same of fixups and of a module's end.

@@ -1,6 +1,5 @@
 -- The types of the records of an object module ("Relocatable Object Module Format", "Record Types"). Of a
--- pair of types the second has 32-bit fields. A library's F0h and F1h are not among them, nor are the
--- COMDATs C2h and C3h.
+-- pair of types the second has 32-bit fields. A library's F0h and F1h are not among them.
 use Rattle.std.specs.Prelude.{ℕ, Bool, ◌==◌, List, [], ◌∷◌, IsTrue}
 use Rattle.std.specs.List.{list_any}
 
@@ -22,6 +21,7 @@ record_types =
     0xB0 ∷  -- COMDEF
     0xB4 ∷ 0xB5 ∷  -- LEXTDEF
     0xB6 ∷ 0xB7 ∷  -- LPUBDEF
+    0xC2 ∷ 0xC3 ∷  -- COMDAT
     []
 
 abbrev pub is_record_type : ℕ → Bool

@@ -6,9 +6,9 @@ ghost use Rattle.omf_frame.specs.Frame.{BeginsWhole};
 ghost use Rattle.omf_frame.specs.Refusal.{IsCutOff};
 
 use crate::record_type::{
-    COMDEF, COMENT, EXTDEF, FIXUPP, FIXUPP_32, GRPDEF, LEDATA, LEDATA_32, LEXTDEF, LEXTDEF_32,
-    LHEADR, LIDATA, LIDATA_32, LINNUM, LINNUM_32, LNAMES, LPUBDEF, LPUBDEF_32, MODEND, MODEND_32,
-    PUBDEF, PUBDEF_32, SEGDEF, SEGDEF_32, THEADR,
+    COMDAT, COMDAT_32, COMDEF, COMENT, EXTDEF, FIXUPP, FIXUPP_32, GRPDEF, LEDATA, LEDATA_32,
+    LEXTDEF, LEXTDEF_32, LHEADR, LIDATA, LIDATA_32, LINNUM, LINNUM_32, LNAMES, LPUBDEF, LPUBDEF_32,
+    MODEND, MODEND_32, PUBDEF, PUBDEF_32, SEGDEF, SEGDEF_32, THEADR,
 };
 
 /// Bytes begin with one record at most: no record's bytes are the front of another's.
@@ -47,6 +47,8 @@ pub fn type_numbers()
     ensures lextdef_32 { LEXTDEF_32 ≡ 0xB5 }
     ensures lpubdef { LPUBDEF ≡ 0xB6 }
     ensures lpubdef_32 { LPUBDEF_32 ≡ 0xB7 }
+    ensures comdat { COMDAT ≡ 0xC2 }
+    ensures comdat_32 { COMDAT_32 ≡ 0xC3 }
 {}
 
 /// A record is cut off exactly where no whole record begins.

@@ -54,6 +54,10 @@ pub const LPUBDEF: u8 = 0xB6;
 
 pub const LPUBDEF_32: u8 = 0xB7;
 
+pub const COMDAT: u8 = 0xC2;
+
+pub const COMDAT_32: u8 = 0xC3;
+
 /// Whether a record of an object module may have this type.
 pub fn is_known(ty: u8) -> bool
     ensures { result ≡ is_record_type ty }
@@ -85,5 +89,7 @@ pub fn is_known(ty: u8) -> bool
             | LEXTDEF_32
             | LPUBDEF
             | LPUBDEF_32
+            | COMDAT
+            | COMDAT_32
     )
 }

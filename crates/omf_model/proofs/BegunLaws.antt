@@ -14,22 +14,29 @@ use Rattle.obj_types.specs.Fresh.{fresh_parts}
 use Rattle.obj_types.specs.Location.{location_len}
 use Rattle.obj_types.specs.Whole.{WholeModule}
 use Rattle.omf_model.specs.Blocks.{Blocks, block_bytes, expanded_len}
-use Rattle.omf_model.specs.Record.{Record, header, passed, comment, default_library, impdef, expdef, lnames, segdef, grpdef, pubdef, extdef, comdef, ledata, lidata, fixupp, modend, FixField, thread, fixup, FixData, location_of, offset_of, is_end}
+use Rattle.omf_model.specs.Record.{Record, header, ledata, lidata, comdat, fixupp, FixField, thread, fixup, FixData, location_of, offset_of, is_end}
 use Rattle.omf_model.specs.Items.{is_debug_seg}
 use Rattle.omf_model.specs.Fixups.{has_data, data_segment, copies_of, fixes_by, touches}
 use Rattle.omf_model.specs.ReadModule.{reader_of}
-use Rattle.omf_model.specs.Add.{add, add_field, add_fields}
+use Rattle.omf_model.specs.Comdat.{ComDat, data_with}
+use Rattle.omf_model.specs.ReadComdat.{number_so_far}
+use Rattle.omf_model.specs.Add.{add, add_comdat, add_field, add_fields}
+use Rattle.omf_model.specs.Finished.{finished}
 use Rattle.omf_model.specs.Parts.{parts_of}
-use Rattle.omf_model.specs.Good.{GoodAfter, GoodData, GoodFixup, GoodAfterData, GoodField, GoodFields, EachGood}
-use Rattle.omf_model.specs.Begun.{AreBegun, IsBegun, last_offset, last_len, IsOnLast, SplitsAtLast, IsWholeSoFar}
+use Rattle.omf_model.specs.Good.{GoodAfter, GoodData, GoodComdat, GoodFixup, GoodAfterData, GoodField, GoodFields, EachGood}
+use Rattle.omf_model.specs.Begun.{AreBegun, IsBegun, LiesAt, last_offset, last_len, IsOnLast, SplitsAtLast, IsWholeSoFar}
 use Rattle.omf_model.proofs.DataLaws.{bool_cases}
 use Rattle.omf_model.proofs.BlockLaws.{blocks_in-bytes}
 use Rattle.omf_model.proofs.PairLaws.{all-at, all-app}
+use Rattle.omf_model.proofs.GrowLaws.{all-each}
 use Rattle.omf_model.proofs.PartsLaws.{parts_of-snoc}
 use Rattle.omf_model.proofs.ModuleLaws.{parts_header}
 use Rattle.omf_model.proofs.RecordLaws.{reader_sound}
-use Rattle.omf_model.proofs.SaneStep.{Sane, FrameSet, GoalSet, sane-four}
-use Rattle.omf_model.proofs.WholeLaws.{none-any, record-sane, begun_records-sane, sane-whole}
+use Rattle.omf_model.proofs.NumberLaws.{WholeFixAt}
+use Rattle.omf_model.proofs.SaneLaws.{PieceIn}
+use Rattle.omf_model.proofs.SaneStep.{PubIn, Sane, FrameSet, GoalSet, sane-four}
+use Rattle.omf_model.proofs.FinishedLaws.{sane-whole}
+use Rattle.omf_model.proofs.WholeLaws.{none-any, record-sane, begun_records-sane}
 
 -- ---- records
 
@@ -161,24 +168,17 @@ lidata-splits p wide segment offset blocks g =
           (subst (λ (b : Blocks). AllByRecursion (λ (f : FixAt). touches segment offset (expanded_len b) f ≡ false) p.module.fixes) (sym same) out))
     ]
 
+comdat-splits : (p : ObjParts) (d : ComDat) → GoodComdat p d → SplitsAtLast (add p (comdat d)).last (add p (comdat d)).module.fixes
+unfolding add add_comdat
+comdat-splits p d g = fresh-data (data_with (number_so_far p d) d) p.module.fixes (none-any (touches (number_so_far p d) d.offset (length d.content)) p.module.fixes g.on_no_fix)
+
 pub splits-add : (p : ObjParts) (r : Record) → SplitsAtLast p.last p.module.fixes → GoodAfter p r → SplitsAtLast (add p r).last (add p r).module.fixes
 unfolding add
 splits-add p (ledata segment offset content) s g = ledata-splits p segment offset content g
 splits-add p (lidata wide segment offset blocks) s g = lidata-splits p wide segment offset blocks g
+splits-add p (comdat d) s g = comdat-splits p d g
 splits-add p (fixupp fields) s g = splits-fields fields p s g
-splits-add p (header text) s g = s
-splits-add p passed s g = s
-splits-add p comment s g = s
-splits-add p (default_library text) s g = s
-splits-add p (impdef d) s g = s
-splits-add p (expdef d) s g = s
-splits-add p (lnames texts) s g = s
-splits-add p (segdef d) s g = s
-splits-add p (grpdef n members) s g = s
-splits-add p (pubdef local group segment frame defs) s g = s
-splits-add p (extdef local defs) s g = s
-splits-add p (comdef defs) s g = s
-splits-add p (modend kind start) s g = s
+splits-add p r s g = s
 
 splits-all : (rs before : List Record) → SplitsAtLast (parts_of before).last (parts_of before).module.fixes → EachGood before rs → SplitsAtLast (parts_of (before ++ rs)).last (parts_of (before ++ rs)).module.fixes
 splits-all [] before s g = subst (λ (qs : List Record). SplitsAtLast (parts_of qs).last (parts_of qs).module.fixes) (sym (append-nil before)) s
@@ -201,6 +201,10 @@ begun-whole p b =
     let s = begun-sane p b in
     record {
       whole = sane-whole p s;
+      pubs = all-at (PubIn p) p.module.pubs s.pubs;
+      pieces = all-at (PieceIn p) p.module.pieces s.pieces;
+      fixes = all-at (λ (f : FixAt). LiesAt p f.seg f.offset (location_len f.loc)) p.module.fixes (all-each (WholeFixAt p) (λ (f : FixAt). LiesAt p f.seg f.offset (location_len f.loc)) (λ f w. w.place) p.module.fixes s.fixes);
+      data_limit = s.data_limit;
       last = s.last;
       frames_set = all-at (FrameSet p.module) p.threads.frame s.frames;
       goals_set = all-at (GoalSet p.module) p.threads.goal s.goals;
@@ -208,5 +212,5 @@ begun-whole p b =
       split = subst (λ (q : ObjParts). SplitsAtLast q.last q.module.fixes) (sym b.meant) (begun-splits b.records b.begun);
     }
 
-pub begun-ends : (p : ObjParts) (r : Record) → IsBegun p → GoodAfter p r → WholeModule (add p r).module
+pub begun-ends : (p : ObjParts) (r : Record) → IsBegun p → GoodAfter p r → WholeModule (finished (add p r))
 begun-ends p r b good = sane-whole (add p r) (record-sane p r (begun-sane p b) good)

@@ -23,7 +23,7 @@ use Rattle.omf_model.specs.Spelling.{pair, contents_form}
 use Rattle.omf_model.specs.Good.{GoodAfter, GoodPlace, GoodData}
 use Rattle.omf_fields.proofs.SpanLaws.{then_left, left_splits, ok_is, bind_ok, step, checked_step}
 use Rattle.omf_fields.proofs.FieldLaws.{FromOne, chosen, number_sound, number_complete, below_sound, below_complete}
-use Rattle.omf_model.proofs.PlainLaws.{some_at, not_true}
+use Rattle.omf_model.proofs.PlainLaws.{index_small, some_at, not_true}
 use Rattle.omf_model.proofs.BlockLaws.{blocks_sound, blocks_complete}
 use Rattle.omf_model.proofs.NameLaws.{IsRead}
 
@@ -95,7 +95,7 @@ ledata_sound p wide at c r bytes e =
     let a = bind_ok (judge_data p at c1.at seg offset (length c2.left)) _ r e2 in
     subst (λ (q : Record). IsRead (pair 0xA0) p wide c q) (ok_is (ledata seg offset c2.left) r a.2) (
       then_left _ _ c c1 t1 (then_left _ (λ bs. bs ≡ c2.left) c1 c2 t2 refl),
-      record { segment = g1; place = judge_sound p at c1.at seg offset (length c2.left) a.0 g1 a.1 },
+      record { segment = g1; index = index_small seg t1.front t1.so; place = judge_sound p at c1.at seg offset (length c2.left) a.0 g1 a.1 },
       refl,
     )
 
@@ -129,7 +129,7 @@ lidata_sound p wide at c r bytes e =
     let s = blocks_sound wide c2 k.0 b2 k.1 in
     subst (λ (q : Record). IsRead (block_types wide) p wide c q) (ok_is (lidata wide seg offset k.0) r a.2) (
       then_left _ _ c c1 t1 (then_left _ (λ bs. bs ≡ block_bytes wide k.0) c1 c2 t2 s.0),
-      (s.1, record { segment = g1; place = λ plain. counted_place p seg offset k.0 (judge_sound p at c1.at seg offset (counted_len k.0) a.0 g1 a.1 plain) }),
+      (s.1, record { segment = g1; index = index_small seg t1.front t1.so; place = λ plain. counted_place p seg offset k.0 (judge_sound p at c1.at seg offset (counted_len k.0) a.0 g1 a.1 plain) }),
       refl,
     )
 

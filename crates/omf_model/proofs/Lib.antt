@@ -4,11 +4,13 @@ pub mod NameLaws
 pub mod CommentLaws
 pub mod BlockLaws
 pub mod DataLaws
+pub mod ComdatLaws
 pub mod FixLaws
 pub mod FixuppLaws
 pub mod RawLaws
 pub mod RecordLaws
 pub mod PartsLaws
+pub mod EndLaws
 pub mod ModuleLaws
 pub mod PageLaws
 pub mod LibraryLaws
@@ -16,8 +18,11 @@ pub mod LibraryFaults
 pub mod CopyLaws
 pub mod PairLaws
 pub mod GrowLaws
+pub mod NumberLaws
 pub mod SaneLaws
 pub mod SaneStep
+pub mod ComdatSane
+pub mod FinishedLaws
 pub mod WholeLaws
 pub mod BegunLaws
 pub mod TurnLaws

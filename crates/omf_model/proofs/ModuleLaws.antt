@@ -12,9 +12,10 @@ use Rattle.obj_types.specs.Fresh.{fresh_parts}
 use Rattle.omf_fields.specs.Within.{within}
 use Rattle.lx_types.specs.Answers.{◌>>=◌}
 use Rattle.omf_fields.specs.Forms.{Form, nothing}
-use Rattle.omf_model.specs.Record.{Record, header, passed, comment, default_library, impdef, expdef, lnames, segdef, grpdef, pubdef, extdef, comdef, ledata, lidata, fixupp, modend, FixData, is_end}
+use Rattle.omf_model.specs.Record.{Record, header, passed, comment, default_library, impdef, expdef, lnames, segdef, grpdef, pubdef, extdef, comdef, ledata, lidata, comdat, fixupp, modend, FixData, is_end}
 use Rattle.omf_model.specs.Add.{add}
-use Rattle.omf_model.specs.Parts.{parts_of, module_of}
+use Rattle.omf_model.specs.Parts.{parts_of}
+use Rattle.omf_model.specs.Finished.{finished}
 use Rattle.omf_model.specs.Good.{EachGood}
 use Rattle.omf_model.specs.Spelling.{Spells, SpellsAll}
 use Rattle.omf_model.specs.RawRecord.{whole_at, raw_at}
@@ -56,6 +57,7 @@ end_is (extdef local defs) e = absurd cc
 end_is (comdef defs) e = absurd cc
 end_is (ledata segment offset content) e = absurd cc
 end_is (lidata wide segment offset blocks) e = absurd cc
+end_is (comdat d) e = absurd cc
 end_is (fixupp fields) e = absurd cc
 
 ended : (rs : List Record) → Ends rs → Ended rs
@@ -114,10 +116,6 @@ rest_sound (suc most) before c q d bytes e =
 pub parts_header : (text : List ℕ) → parts_of (header text ∷ []) ≡ add fresh_parts (header text)
 parts_header text = parts_of-snoc [] (header text) ∙ ap (λ (p : ObjParts). add p (header text)) parts_of-none
 
-pub module_is : (rs : List Record) → (parts_of rs).module ≡ module_of rs
-unfolding parts_of
-module_is rs = refl
-
 abbrev pub ModuleForm : ObjModule → Form
 ModuleForm m bytes = IsModule bytes m
 
@@ -132,7 +130,7 @@ module_sound c m d bytes e =
     let first : Spans (SpellForm (header text)) c c1 = record { front = t1.front; joined = t1.joined; moved = t1.moved; so = subst (λ (q : Record). Spells t1.front q) t1.so.1 t1.so.2 } in
     let whole = then_spans (SpellForm (header text)) (SpellsAll k.records) c c1 a.0.1 first k.spans in
     let last = ended k.records k.ends in
-    subst (λ (x : ObjModule × Cursor). Spans (ModuleForm x.0) c x.1 × Unit {0}) (ok_is (a.0.0.module, a.0.1) (m, d) a.2) (
+    subst (λ (x : ObjModule × Cursor). Spans (ModuleForm x.0) c x.1 × Unit {0}) (ok_is (finished a.0.0, a.0.1) (m, d) a.2) (
       record {
         front = whole.front;
         joined = whole.joined;
@@ -148,7 +146,7 @@ module_sound c m d bytes e =
             once = (refl, last.once);
           };
           spelled = whole.so;
-          meant = ap (λ (p : ObjParts). p.module) k.meant ∙ module_is (header text ∷ k.records);
+          meant = ap (λ (p : ObjParts). finished p) k.meant;
         };
       },
       tt,
@@ -196,7 +194,7 @@ module_complete c m d t free =
     omega (arith, long, rest, long_enough others s.2.front s.2.so) in
     let rest = rest_complete others (header name ∷ []) (length c.left) s.0 d ends w.are.begun.good s.2 enough in
     let there : rest_within (length c.left) (add fresh_parts (header name)) s.0 ≡ Ok (parts_of (header name ∷ others), d) = subst (λ (p : ObjParts). rest_within (length c.left) p s.0 ≡ given (parts_of (header name ∷ others)) d) (parts_header name) rest in
-    let value : (parts_of (header name ∷ others)).module ≡ m = module_is (header name ∷ others) ∙ ap (λ (rs : List Record). module_of rs) (sym w.are.begun.headed) ∙ sym w.meant in
+    let value : finished (parts_of (header name ∷ others)) ≡ m = ap (λ (rs : List Record). finished (parts_of rs)) (sym w.are.begun.headed) ∙ sym w.meant in
     rw (header_complete c name s.0 s.1, there, value) refl
 
 -- ---- an object file

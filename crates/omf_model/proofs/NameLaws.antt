@@ -20,7 +20,7 @@ use Rattle.omf_fields.proofs.SpanLaws.{Spans, then_spans, then_splits, then_left
 use Rattle.omf_fields.proofs.FieldLaws.{Free, FromOne, chosen, name_sound, name_complete, number_sound, number_complete, byte_sound, byte_complete, or_zero_sound, or_zero_complete, below_sound, below_complete}
 use Rattle.omf_fields.proofs.ListLaws.{OneByte, list_sound, list_complete, present_sound, present_complete}
 use Rattle.omf_fields.proofs.LengthLaws.{length_sound, length_complete}
-use Rattle.omf_model.proofs.PlainLaws.{not_true, plain_sound, plain_complete, plain_index, or_zero_plain_sound, or_zero_plain_complete}
+use Rattle.omf_model.proofs.PlainLaws.{index_small, not_true, plain_sound, plain_complete, plain_index, or_zero_plain_sound, or_zero_plain_complete}
 
 -- the bytes at a cursor spell a record that is good, of these types
 abbrev pub IsRead : List (ℕ × Bool) → ObjParts → Bool → Cursor → Record → Type 0
@@ -176,7 +176,7 @@ pubdef_sound p wide local c r bytes e =
     let a = bind_ok (list_at (pub_at wide) c3) _ r e3 in
     let l = list_sound (pub_at wide) (pub_form wide) NoPubType (pub_sound wide) (pub_one wide) c3 a.0 b3 a.1 in
     subst (λ (q : Record). IsRead (pub_types local) p wide c q) (ok_is (pubdef local group segment frame a.0) r a.2)
-    (then_left _ _ c c1 t1 (then_left _ _ c1 c2 t2 (then_left _ _ c2 c3 t3 l.0)), record { in_group = g1; in_segment = g2; types = l.1 }, refl)
+    (then_left _ _ c c1 t1 (then_left _ _ c1 c2 t2 (then_left _ _ c2 c3 t3 l.0)), record { in_group = g1; in_segment = g2; index = index_small segment t2.front t2.so; types = l.1 }, refl)
 
 pub pubdef_complete : (p : ObjParts) (wide local : Bool) (c : Cursor) (group segment : ℕ) (frame : Option ℕ) (defs : List PubDef) → contents_form wide (pubdef local group segment frame defs) c.left → GoodPubDef p group segment defs → pubdef_at local wide p c ≡ Ok (pubdef local group segment frame defs)
 unfolding pubdef_at

@@ -12,11 +12,12 @@ use Rattle.obj_types.specs.declared.parts.ObjParts.{ObjParts}
 use Rattle.obj_types.specs.Fresh.{fresh_parts}
 use Rattle.omf_model.specs.Lists.{collect_after, collect, latest}
 use Rattle.omf_model.specs.Blocks.{block_bytes, expanded}
-use Rattle.omf_model.specs.Record.{Record, header, passed, comment, default_library, impdef, expdef, lnames, segdef, grpdef, pubdef, extdef, comdef, ledata, lidata, fixupp, modend, FixField}
+use Rattle.omf_model.specs.Comdat.{ComDat, begun_with, number_of, public_with, piece_with, data_with, if_first}
+use Rattle.omf_model.specs.Record.{Record, header, passed, comment, default_library, impdef, expdef, lnames, segdef, grpdef, pubdef, extdef, comdef, ledata, lidata, comdat, fixupp, modend, FixField}
 use Rattle.omf_model.specs.Fixups.{some, frame_set, goal_set, of_each_number, set_threads, unset, threads_of, fixes_by}
-use Rattle.omf_model.specs.Items.{names_in, segs_in, groups_in, pubs_in, exts_in, imports_in, exports_in, deflibs_in, pieces_in, datas_in, fields_in, header_in, starts_in, name_with, seg_of, group_of, pub_of, ext_of, com_of, import_of, export_of, is_debug_seg, start_of}
-use Rattle.omf_model.specs.Parts.{names_of, segs_of, groups_of, pieces_of, last_of, fields_of, fixes_in, fixes_of, starts_of, module_of, parts_of}
-use Rattle.omf_model.specs.Add.{add, add_data, add_field, add_fields}
+use Rattle.omf_model.specs.Items.{names_in, segs_in, groups_in, pubs_in, exts_in, imports_in, exports_in, deflibs_in, pieces_in, datas_in, begun_in, begun_names, fields_in, header_in, starts_in, name_with, seg_of, group_of, pub_of, ext_of, com_of, import_of, export_of, is_debug_seg, start_of}
+use Rattle.omf_model.specs.Parts.{names_of, segs_of, groups_of, comdats_of, begun_names_of, pubs_of, pieces_of, last_of, fields_of, fixes_in, fixes_of, starts_of, module_of, parts_of}
+use Rattle.omf_model.specs.Add.{add, add_data, add_comdat, add_field, add_fields}
 use Rattle.omf_model.specs.AddLists.{module_with, parts_with, HasFour}
 
 -- ---- lists
@@ -92,33 +93,41 @@ fixes_of-snoc rs r =
     ∙ ap (λ (fs : List FixAt). collect (λ before r. fixes_in (last_of before) (fields_of before) r) rs ++ fs) (fixes_in-is (last_of rs) (fields_of rs) r)
 
 module_of-snoc : (rs : List Record) (r : Record) → module_of (rs ++ r ∷ []) ≡ module_with (parts_of rs) r
-unfolding module_of module_with parts_of names_of segs_of groups_of pieces_of starts_of
+unfolding module_of module_with parts_of names_of segs_of groups_of comdats_of pubs_of pieces_of starts_of
 module_of-snoc rs r = λ i. record {
   name = (ap (λ (ns : List (List ℕ)). latest [] ns) (flat_map-snoc header_in rs r) ∙ latest-append [] (flat_map header_in rs) (header_in r)) i;
   segs = collect-snoc (λ before r. segs_in (names_of before) r) rs r i;
   groups = collect-snoc (λ before r. groups_in (names_of before) r) rs r i;
-  pubs = flat_map-snoc pubs_in rs r i;
+  pubs = collect-snoc (λ before r. pubs_in (names_of before) (begun_names_of before) r) rs r i;
   exts = flat_map-snoc exts_in rs r i;
-  pieces = collect-snoc (λ before r. pieces_in (segs_of before) r) rs r i;
+  pieces = collect-snoc (λ before r. pieces_in (names_of before) (segs_of before) (begun_names_of before) r) rs r i;
   fixes = fixes_of-snoc rs r i;
   imports = flat_map-snoc imports_in rs r i;
   exports = flat_map-snoc exports_in rs r i;
   deflibs = flat_map-snoc deflibs_in rs r i;
   start = (ap (λ (ss : List (Option StartAt)). latest None ss) (collect-snoc (λ before r. starts_in (threads_of (fields_of before)) r) rs r) ∙ latest-append None (collect (λ before r. starts_in (threads_of (fields_of before)) r) rs) (starts_in (threads_of (fields_of rs)) r)) i;
+  comdats = [];
 }
+
+last_of-snoc : (rs : List Record) (r : Record) → last_of (rs ++ r ∷ []) ≡ latest (last_of rs) (datas_in (names_of rs) (segs_of rs) (begun_names_of rs) r)
+unfolding last_of
+last_of-snoc rs r =
+    let given : List Record → Record → List LastData = λ before r. datas_in (names_of before) (segs_of before) (begun_names_of before) r in
+    ap (λ (ds : List LastData). latest datas.None ds) (collect-snoc given rs r) ∙ latest-append datas.None (collect given rs) (given rs r)
 
 -- What the records say with one more is what they said and what it adds.
 pub parts_of-lists : (rs : List Record) (r : Record) → parts_of (rs ++ r ∷ []) ≡ parts_with (parts_of rs) r
-unfolding parts_of parts_with names_of last_of segs_of module_of
+unfolding parts_of parts_with names_of last_of segs_of comdats_of module_of
 parts_of-lists rs r = λ i. record {
   names = flat_map-snoc names_in rs r i;
   «module» = module_of-snoc rs r i;
-  last = (ap (λ (ds : List LastData). latest datas.None ds) (collect-snoc (λ before r. datas_in (segs_of before) r) rs r) ∙ latest-append datas.None (collect (λ before r. datas_in (segs_of before) r) rs) (datas_in (segs_of rs) r)) i;
+  last = last_of-snoc rs r i;
   threads = (ap (λ (fs : List FixField). threads_of fs) (fields_of-snoc rs r) ∙ threads_of-append (fields_of rs) (fields_in r)) i;
+  comdats = collect-snoc (λ before r. begun_in (names_of before) (segs_of before) r) rs r i;
 }
 
 pub parts_of-none : parts_of [] ≡ fresh_parts
-unfolding parts_of module_of names_of segs_of groups_of pieces_of last_of fields_of fixes_of starts_of threads_of set_threads
+unfolding parts_of module_of names_of segs_of groups_of comdats_of pubs_of pieces_of last_of fields_of fixes_of starts_of threads_of set_threads
 parts_of-none = refl
 
 -- ---- one more field
@@ -155,9 +164,11 @@ lists-fields p f fs = λ i. record {
     exports = sym (append-nil (p.module.exports ++ [])) i;
     deflibs = sym (append-nil (p.module.deflibs ++ [])) i;
     start = p.module.start;
+    comdats = p.module.comdats;
   };
   last = p.last;
   threads = set_threads-append p.threads (f ∷ []) fs i;
+  comdats = sym (append-nil (p.comdats ++ [])) i;
 }
 
 pub four-items : {A : Type 0} (xs : List (Option A)) → length xs ≡ 4 → of_each_number (λ n. get_or xs n None) ≡ xs
@@ -189,9 +200,11 @@ module _ (p : ObjParts) (four : HasFour p.threads) where
       exports = p.module.exports ++ [];
       deflibs = p.module.deflibs ++ [];
       start = p.module.start;
+      comdats = p.module.comdats;
     };
     last = p.last;
     threads = set_threads p.threads [];
+    comdats = p.comdats ++ [];
   }
 
   unpadded : p ≡ padded
@@ -209,9 +222,11 @@ module _ (p : ObjParts) (four : HasFour p.threads) where
       exports = sym (append-nil p.module.exports) i;
       deflibs = sym (append-nil p.module.deflibs) i;
       start = p.module.start;
+      comdats = p.module.comdats;
     };
     last = p.last;
     threads = sym (no_threads p.threads four) i;
+    comdats = sym (append-nil p.comdats) i;
   }
 
   data-lists : (piece : Piece) (last : LastData) (b : Bool) → is_debug_seg p.module.segs piece.seg ≡ b
@@ -235,9 +250,11 @@ module _ (p : ObjParts) (four : HasFour p.threads) where
       exports = append-nil p.module.exports i;
       deflibs = append-nil p.module.deflibs i;
       start = p.module.start;
+      comdats = p.module.comdats;
     };
     last = p.last;
     threads = set_threads p.threads (f ∷ []);
+    comdats = append-nil p.comdats i;
   }
 
 pub four-field : (p : ObjParts) (f : FixField) → HasFour (add_field p f).threads
@@ -254,6 +271,17 @@ fields-lists (f ∷ fs) p four =
     fields-lists fs (add_field p f) (four-field p f)
     ∙ ap (λ (q : ObjParts). parts_with q (fixupp fs)) (sym (one-field p four f))
     ∙ sym (lists-fields p f fs)
+
+comdat-lists : (p : ObjParts) (d : ComDat) → HasFour p.threads → add_comdat p d ≡ parts_with p (comdat d)
+unfolding add_comdat parts_with module_with
+comdat-lists p d four =
+    let name : List ℕ = name_with p.names d.name in
+    let number : ℕ = number_of (begun_names p.comdats) name in
+    ap (λ (q : ObjParts). record q {
+      «module» = record q.module { pubs = p.module.pubs ++ if_first d (public_with number name d); pieces = p.module.pieces ++ piece_with number d ∷ [] };
+      last = data_with number d;
+      comdats = p.comdats ++ if_first d (begun_with p.module.segs name d);
+    }) (unpadded p four)
 
 -- A record adds its items to each list.
 pub add-lists : (p : ObjParts) (r : Record) → HasFour p.threads → add p r ≡ parts_with p r
@@ -272,6 +300,7 @@ add-lists p (extdef local defs) four = ap (λ (q : ObjParts). record q { «modul
 add-lists p (comdef defs) four = ap (λ (q : ObjParts). record q { «module» = record q.module { exts = p.module.exts ++ map com_of defs } }) (unpadded p four)
 add-lists p (ledata seg offset content) four = data-lists p four (record { seg = seg; offset = offset; bytes = content }) (datas.Straight seg offset (length content)) (is_debug_seg p.module.segs seg) refl
 add-lists p (lidata wide seg offset blocks) four = data-lists p four (record { seg = seg; offset = offset; bytes = expanded blocks }) (datas.Blocks seg offset wide (block_bytes wide blocks)) (is_debug_seg p.module.segs seg) refl
+add-lists p (comdat d) four = comdat-lists p d four
 add-lists p (fixupp fields) four = fields-lists fields p four
 add-lists p (modend kind start) four = ap (λ (q : ObjParts). record q { «module» = record q.module { start = start_of p.threads start } }) (unpadded p four)
 

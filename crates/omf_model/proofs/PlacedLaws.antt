@@ -1,5 +1,5 @@
 -- The fault of a record lies in the record.
-use Rattle.std.proofs.Common.{◌≡◌, Bool, true, false, eqb, Result, Ok, Err, sym, ap, arith, inl, inr}
+use Rattle.std.proofs.Common.{◌≡◌, ℕ, ◌+◌, ◌≤◌, Bool, true, false, eqb, length, Result, Ok, Err, refl, sym, ap, subst, arith, inl, inr}
 use Rattle.std.specs.Prelude.{◌⊎◌, ◌||◌}
 use Rattle.lx_bytes.specs.Cursor.{Cursor}
 use Rattle.obj_types.specs.declared.refusal.OmfRefusal.{OmfRefusal}
@@ -9,12 +9,20 @@ use Rattle.omf_frame.specs.RecordType.{is_record_type}
 use Rattle.lx_types.specs.Answers.{◌>>=◌}
 use Rattle.omf_fields.specs.Fields.{check}
 use Rattle.omf_model.specs.Record.{Record}
-use Rattle.omf_model.specs.Places.{place, IsInRecord}
+use Rattle.omf_model.specs.Places.{place, IsFromTo, IsInRecord}
 use Rattle.omf_model.specs.RawRecord.{RawRecord, whole_at, raw_at, sum_of}
 use Rattle.omf_model.specs.ReadModule.{contents_of, reader_of, record_at}
 use Rattle.omf_model.proofs.RawLaws.{whole_short}
 use Rattle.omf_model.proofs.ModuleLaws.{bind_err}
-use Rattle.omf_model.proofs.StayLaws.{contents-fault}
+use Rattle.omf_model.proofs.StayLaws.{Stays, reader-in}
+
+err-stays : (low high : ℕ) (r : Result Record OmfRefusal) (f : OmfRefusal) → Stays low high (λ x. Unit {0}) r → r ≡ Err f → IsFromTo low high f
+err-stays low high (Ok x) f h e = absurd cc
+err-stays low high (Err g) f h e = let same : g ≡ f = cc in subst (IsFromTo low high) same h
+
+-- The fault of a record's contents lies in the record.
+pub contents-fault : (ty : ℕ) (p : ObjParts) (at : ℕ) (c : Cursor) (f : OmfRefusal) → at ≤ c.at → reader_of ty p at c ≡ Err f → IsInRecord at c f
+contents-fault ty p at c f before e = err-stays at (c.at + length c.left) (reader_of ty p at c) f (reader-in at (c.at + length c.left) ty p at (omega arith, omega (arith, before)) c (before, refl)) e
 
 check-fault : {B : Type 0} (b : Bool) (refusal : OmfRefusal) (g : Unit {0} → Result B OmfRefusal) (f : OmfRefusal) → (check b refusal >>= g) ≡ Err f → (refusal ≡ f) ⊎ (g tt ≡ Err f)
 check-fault true refusal g f e = inr e

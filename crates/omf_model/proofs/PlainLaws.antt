@@ -5,14 +5,24 @@ use Rattle.obj_types.specs.declared.refusal.OmfRefusal.TheVariants.{BadIndex}
 use Rattle.obj_types.specs.Items.{item}
 use Rattle.obj_types.specs.Whole.{IsPlainSeg}
 use Rattle.omf_model.specs.Items.{is_debug_seg}
-use Rattle.std.proofs.Common.{◌≡◌, ◌≢◌, ℕ, zero, suc, ◌<◌, ◌≤◌, Bool, true, false, List, [], ◌∷◌, length, Option, Some, None, refl, sym, ap, subst, arith}
+use Rattle.std.proofs.Common.{◌≡◌, ◌≢◌, ℕ, zero, suc, ◌<◌, ◌≤◌, Bool, true, false, List, [], ◌∷◌, length, Option, Some, None, refl, sym, ap, subst, arith, inl, inr}
 use Rattle.lx_bytes.specs.Cursor.{Cursor}
 use Rattle.obj_types.specs.declared.parts.ObjParts.{ObjParts}
+use Rattle.obj_types.specs.declared.parts.TheConstants.{COMDAT_BASE}
 use Rattle.omf_fields.specs.Fields.{checked, is_among, index_at}
 use Rattle.omf_fields.specs.Forms.{index}
 use Rattle.omf_model.specs.ReadNames.{checked_plain, plain_seg_at, plain_seg_or_zero}
 use Rattle.omf_fields.proofs.SpanLaws.{Spans, Sound, Complete, ok_is, bind_ok, step, checked_step}
 use Rattle.omf_fields.proofs.FieldLaws.{Free, FromOne, guard_so, among, is_among_index, among_or_zero, is_among_zero, index_sound, index_complete}
+
+-- ---- an index has 15 bits
+
+pub index_small : (i : ℕ) (bytes : List ℕ) → index i bytes → i ≤ COMDAT_BASE
+index_small i bytes h =
+    elim h [
+      | inl short ↦ omega (arith, short.0)
+      | inr long ↦ omega (arith, long.0)
+    ]
 
 -- ---- segments that are no debug segments
 

@@ -11,7 +11,7 @@ use Rattle.omf_frame.specs.RecordType.{is_record_type}
 use Rattle.obj_types.specs.declared.refusal.OmfRefusal.{OmfRefusal}
 use Rattle.obj_types.specs.declared.parts.ObjParts.{ObjParts}
 use Rattle.omf_fields.specs.Forms.{Form, anything, name}
-use Rattle.omf_model.specs.Record.{Record, header, passed, comment, default_library, impdef, expdef, lnames, segdef, grpdef, pubdef, extdef, comdef, ledata, lidata, fixupp, modend}
+use Rattle.omf_model.specs.Record.{Record, header, passed, comment, default_library, impdef, expdef, lnames, segdef, grpdef, pubdef, extdef, comdef, ledata, lidata, comdat, fixupp, modend}
 use Rattle.omf_model.specs.RawRecord.{RawRecord, raw_at}
 use Rattle.omf_model.specs.ReadModule.{contents_of, is_wide, reader_of, record_at, header_at}
 use Rattle.omf_model.specs.Spelling.{pair, types_of, contents_form, Spells}
@@ -21,6 +21,7 @@ use Rattle.omf_fields.proofs.FieldLaws.{Free, AreBytes-take, name_sound, name_co
 use Rattle.omf_model.proofs.NameLaws.{IsRead, ext_types, pub_types, lnames_sound, lnames_complete, segdef_sound, segdef_complete, grpdef_sound, grpdef_complete, pubdef_sound, pubdef_complete, extdef_sound, extdef_complete, comdef_sound, comdef_complete}
 use Rattle.omf_model.proofs.CommentLaws.{comment_types, coment_sound, library_complete, impdef_read, expdef_read, comment_read}
 use Rattle.omf_model.proofs.DataLaws.{block_types, ledata_sound, ledata_complete, lidata_sound, lidata_complete}
+use Rattle.omf_model.proofs.ComdatLaws.{comdat_sound, comdat_complete}
 use Rattle.omf_model.proofs.FixuppLaws.{fixupp_sound, fixupp_complete, modend_sound, modend_complete}
 use Rattle.omf_model.proofs.RawLaws.{IsRaw, raw, raw_sound, raw_complete}
 
@@ -104,9 +105,12 @@ reader_sound ty at p c r bytes e =
                             | inl h ↦ found (ext_types true) ty p c r (is_wide ty) (twin 0xB4 0xB5 ty (pair 0xB4) (0, omega arith, refl) (1, omega arith, refl) h.0) (extdef_sound p (is_wide ty) true c r bytes h.1)
                             | inr h12 ↦ elim (which (eqb ty 0xB6 || eqb ty 0xB7) _ _ p at c r h12.1) [
                               | inl h ↦ found (pub_types true) ty p c r (is_wide ty) (twin 0xB6 0xB7 ty (pair 0xB6) (0, omega arith, refl) (1, omega arith, refl) h.0) (pubdef_sound p (is_wide ty) true c r bytes h.1)
-                              | inr h13 ↦ elim (which (eqb ty 0x80 || eqb ty 0x82 || eqb ty 0x94 || eqb ty 0x95) _ _ p at c r h13.1) [
-                                | inl h ↦ subst (λ (q : Record). Found ty p c q) (ok_is passed r h.1) (record { wide = is_wide ty; is_type = four ty h.0; content = tt; good = tt })
-                                | inr h14 ↦ absurd cc
+                              | inr h13 ↦ elim (which (eqb ty 0xC2 || eqb ty 0xC3) _ _ p at c r h13.1) [
+                                | inl h ↦ found (pair 0xC2) ty p c r (is_wide ty) (twin 0xC2 0xC3 ty (pair 0xC2) (0, omega arith, refl) (1, omega arith, refl) h.0) (comdat_sound p (is_wide ty) at c r bytes h.1)
+                                | inr h14 ↦ elim (which (eqb ty 0x80 || eqb ty 0x82 || eqb ty 0x94 || eqb ty 0x95) _ _ p at c r h14.1) [
+                                  | inl h ↦ subst (λ (q : Record). Found ty p c q) (ok_is passed r h.1) (record { wide = is_wide ty; is_type = four ty h.0; content = tt; good = tt })
+                                  | inr h15 ↦ absurd cc
+                                ]
                               ]
                             ]
                           ]
@@ -182,6 +186,7 @@ reader_complete p at c (comdef defs) ty wide is good = by_one 0xB0 false ty wide
 reader_complete p at c (ledata seg offset content) ty wide is good = by_two 0xA0 0xA1 false true ty wide is (Read p at c (ledata seg offset content)) (λ so. (ledata_complete p false at c seg offset content so good, refl)) (λ so. (ledata_complete p true at c seg offset content so good, refl))
 reader_complete p at c (lidata true seg offset blocks) ty wide is good = by_one 0xA3 true ty wide is (Read p at c (lidata true seg offset blocks)) (λ so. (lidata_complete p true at c seg offset blocks so good, refl))
 reader_complete p at c (lidata false seg offset blocks) ty wide is good = by_one 0xA2 false ty wide is (Read p at c (lidata false seg offset blocks)) (λ so. (lidata_complete p false at c seg offset blocks so good, refl))
+reader_complete p at c (comdat d) ty wide is good = by_two 0xC2 0xC3 false true ty wide is (Read p at c (comdat d)) (λ so. (comdat_complete p false at c d so good, refl)) (λ so. (comdat_complete p true at c d so good, refl))
 reader_complete p at c (fixupp fields) ty wide is good = by_two 0x9C 0x9D false true ty wide is (Read p at c (fixupp fields)) (λ so. (fixupp_complete p false at c fields so good, refl)) (λ so. (fixupp_complete p true at c fields so good, refl))
 reader_complete p at c (modend kind start) ty wide is good = by_two 0x8A 0x8B false true ty wide is (Read p at c (modend kind start)) (λ so. (modend_complete p false c kind start so good, refl)) (λ so. (modend_complete p true c kind start so good, refl))
 

@@ -1,7 +1,7 @@
 -- A good record keeps an unfinished module whole, so what is read is whole.
-use Rattle.std.proofs.Common.{◌≡◌, ℕ, zero, suc, ◌%◌, ◌≤◌, Bool, true, false, cond, eqb, List, [], ◌∷◌, ◌++◌, length, get_or, Option, Some, None, refl, sym, ap, subst, ◌∙◌, arith, inl, inr, length-append}
+use Rattle.std.proofs.Common.{◌≡◌, ℕ, zero, suc, ◌+◌, ◌%◌, ◌<◌, ◌≤◌, Bool, true, false, cond, eqb, List, [], ◌∷◌, ◌++◌, length, get_or, Option, Some, None, refl, sym, ap, subst, ◌∙◌, arith, inl, inr, length-append}
 use Rattle.std.specs.Prelude.{◌&&◌, IfSome, is_some, not, unwrap_or}
-use Rattle.std.specs.List.{AllByRecursion}
+use Rattle.std.specs.List.{AllByRecursion, enumerate_from, filter}
 use Rattle.std.proofs.lemmas.List.{append-nil}
 use Rattle.std.proofs.lemmas.List.Sums.{sum_by-append}
 use Rattle.std.proofs.lemmas.Bool.{eqb-true}
@@ -15,27 +15,33 @@ use Rattle.obj_types.specs.declared.object.Goal.TheVariants as goals
 use Rattle.obj_types.specs.declared.object.FixAt.{FixAt}
 use Rattle.obj_types.specs.declared.object.StartAt.{StartAt}
 use Rattle.obj_types.specs.declared.object.ObjModule.{ObjModule}
+use Rattle.obj_types.specs.declared.symbol.Pub.{Pub}
+use Rattle.obj_types.specs.declared.symbol.PubPlace.{PubPlace}
+use Rattle.obj_types.specs.declared.symbol.PubPlace.TheVariants.{In, Const}
+use Rattle.obj_types.specs.declared.parts.BegunComdat.{BegunComdat}
+use Rattle.obj_types.specs.declared.parts.TheConstants.{COMDAT_BASE}
 use Rattle.obj_types.specs.declared.parts.LastData.{LastData}
 use Rattle.obj_types.specs.declared.parts.LastData.TheVariants as datas
 use Rattle.obj_types.specs.declared.parts.Threads.{Threads}
 use Rattle.obj_types.specs.declared.parts.ObjParts.{ObjParts}
 use Rattle.obj_types.specs.Location.{meets}
-use Rattle.obj_types.specs.Whole.{WholeSeg, WholeGroup, WholeFrame, WholeGoal, WholeFix, WholeStart, WholeExp}
+use Rattle.obj_types.specs.Whole.{WholeSeg, WholeGroup, WholeFrame, WholeGoal, WholeStart, WholeExp, is_in_seg}
 use Rattle.omf_model.specs.Lists.{collect, latest}
-use Rattle.omf_model.specs.Record.{Record, header, passed, comment, default_library, impdef, expdef, lnames, segdef, grpdef, pubdef, extdef, comdef, ledata, lidata, fixupp, modend, FixField, FixData, by_frame_thread, frame_bits, by_target_thread, target_bits}
-use Rattle.omf_model.specs.Items.{segs_in, groups_in, pubs_in, exts_in, imports_in, exports_in, fields_in, pieces_in, datas_in, starts_in, data_so_far}
+use Rattle.omf_model.specs.Record.{Record, comdat, modend, FixField, FixData, by_frame_thread, frame_bits, by_target_thread, target_bits}
+use Rattle.omf_model.specs.Items.{segs_in, groups_in, pubs_in, exts_in, imports_in, exports_in, begun_in, fields_in, starts_in, data_so_far}
 use Rattle.omf_model.specs.Fixups.{has_index, frame_by, goal_by, frame_meant, goal_meant, set_threads, fixes_by, have_of}
 use Rattle.omf_model.specs.Add.{add}
-use Rattle.omf_model.specs.AddLists.{module_with, parts_with, HasFour}
-use Rattle.omf_model.specs.Begun.{LastFits, InFrame, InGoal}
+use Rattle.omf_model.specs.AddLists.{begun_so_far, module_with, parts_with, HasFour}
+use Rattle.omf_model.specs.Begun.{IsNumbered, LastFits, InFrame, InGoal}
 use Rattle.omf_model.specs.Good.{GoodAfter, GoodFixData, IsPlainFrame, IsPlainGoal, HasMethod}
 use Rattle.omf_fields.proofs.FieldLaws.{FromOne}
 use Rattle.omf_model.proofs.DataLaws.{bool_cases}
 use Rattle.omf_model.proofs.PlainLaws.{plain_from}
 use Rattle.omf_model.proofs.PairLaws.{Pairs, all-app}
-use Rattle.omf_model.proofs.GrowLaws.{Grows, all-each, lies-grows, group-grows, place-grows, fix-grows, start-grows}
+use Rattle.omf_model.proofs.GrowLaws.{Grows, all-each, lies-grows, group-grows, start-grows}
+use Rattle.omf_model.proofs.NumberLaws.{not-equal, PartsGrow, WholeFixAt, numbered-grows, lies_at-grows, fix_at-grows, numbers-from, in_number, HasPublic, publics-more, none-of}
 use Rattle.omf_model.proofs.PartsLaws.{no_threads, add-lists}
-use Rattle.omf_model.proofs.SaneLaws.{PubIn, PieceIn, HasModule, segs-whole, groups-whole, pubs-whole, imports-whole, exports-whole, data-whole}
+use Rattle.omf_model.proofs.SaneLaws.{IsOther, IsIndexed, PubIndexed, PieceIn, pieces_by, datas_by, HasModule, segs-whole, groups-whole, pubs-whole, imports-whole, exports-whole, data-whole}
 
 abbrev pub FrameSet : ObjModule → Option Frame → Type 0
 FrameSet m o = IfSome o (InFrame m)
@@ -49,20 +55,34 @@ Apart f g = meets f g ≡ false
 abbrev pub StartSet : ObjModule → Option StartAt → Type 0
 StartSet m o = IfSome o (WholeStart m)
 
+-- A COMDAT that has begun: a segment that is whole.
+pub record WholeBegun (b : BegunComdat) : Type 0 where
+  pub whole : WholeSeg b.seg
+  pub plain : b.seg.debug ≡ false
+
+abbrev pub PubIn : ObjParts → Pub → Type 0
+PubIn p q = IsNumbered p q.place
+
+-- the COMDATs with the numbers of their segments
+abbrev pub counted : List BegunComdat → List (ℕ × BegunComdat)
+counted begun = enumerate_from (COMDAT_BASE + 1) begun
+
 -- An unfinished module that is whole so far.
 pub record Sane (p : ObjParts) : Type 0 where
   pub segs : AllByRecursion WholeSeg p.module.segs
   pub groups : AllByRecursion (WholeGroup p.module) p.module.groups
-  pub pubs : AllByRecursion (PubIn p.module) p.module.pubs
-  pub pieces : AllByRecursion (PieceIn p.module) p.module.pieces
-  pub fixes : AllByRecursion (WholeFix p.module) p.module.fixes
+  pub pubs : AllByRecursion (PubIn p) p.module.pubs
+  pub pieces : AllByRecursion (PieceIn p) p.module.pieces
+  pub fixes : AllByRecursion (WholeFixAt p) p.module.fixes
   pub apart : Pairs Apart p.module.fixes
   pub imports : AllByRecursion HasModule p.module.imports
   pub exports : AllByRecursion WholeExp p.module.exports
   pub start : StartSet p.module p.module.start
   pub data_limit : data_so_far p ≤ MAX_DATA
   pub fix_limit : length p.module.fixes ≤ MAX_FIXES
-  pub last : LastFits p.module p.last
+  pub comdats : AllByRecursion WholeBegun p.comdats
+  pub publics : AllByRecursion (HasPublic p.module.pubs) (counted p.comdats)
+  pub last : LastFits p p.last
   pub frames : AllByRecursion (FrameSet p.module) p.threads.frame
   pub goals : AllByRecursion (GoalSet p.module) p.threads.goal
   pub four_frames : length p.threads.frame ≡ 4
@@ -171,33 +191,28 @@ fix_goal p d s g = or_default (WholeGoal p.module) (goal_meant p.threads d) (goa
 starts-whole : (p : ObjParts) (r : Record) → Sane p → GoodAfter p r → AllByRecursion (StartSet p.module) (starts_in p.threads r)
 starts-whole p (modend kind None) s g = (tt, tt)
 starts-whole p (modend kind (Some d)) s g = ((fix_frame p d s g, fix_goal p d s g), tt)
-starts-whole p (header text) s g = tt
-starts-whole p passed s g = tt
-starts-whole p comment s g = tt
-starts-whole p (default_library text) s g = tt
-starts-whole p (impdef d) s g = tt
-starts-whole p (expdef d) s g = tt
-starts-whole p (lnames texts) s g = tt
-starts-whole p (segdef d) s g = tt
-starts-whole p (grpdef n members) s g = tt
-starts-whole p (pubdef local group segment frame defs) s g = tt
-starts-whole p (extdef local defs) s g = tt
-starts-whole p (comdef defs) s g = tt
-starts-whole p (ledata segment offset content) s g = tt
-starts-whole p (lidata wide segment offset blocks) s g = tt
-starts-whole p (fixupp fields) s g = tt
+starts-whole p r s g = tt
 
 -- ---- one more record that is no FIXUPP
 
-add-grows : (p : ObjParts) (r : Record) → Grows p.module (module_with p r)
+module-grows : (p : ObjParts) (r : Record) → Grows p.module (module_with p r)
 unfolding module_with
-add-grows p r = record { more_segs = segs_in p.names r; segs = refl; groups = omega (arith, length-append p.module.groups (groups_in p.names r)); exts = omega (arith, length-append p.module.exts (exts_in r)) }
+module-grows p r = record { more_segs = segs_in p.names r; segs = refl; groups = omega (arith, length-append p.module.groups (groups_in p.names r)); exts = omega (arith, length-append p.module.exts (exts_in r)) }
 
-pub last-grows : (old m : ObjModule) → Grows old m → (l : LastData) → LastFits old l → LastFits m l
-last-grows old m g datas.None h = tt
-last-grows old m g (datas.Straight seg offset len) h = lies-grows old m g seg offset len h
-last-grows old m g (datas.Blocks seg offset wide body) h = lies-grows old m g seg offset _ h
-last-grows old m g datas.Dropped h = tt
+pub add-grows : (p : ObjParts) (r : Record) → PartsGrow p (parts_with p r)
+unfolding parts_with module_with
+add-grows p r = record {
+  «module» = module-grows p r;
+  more_pieces = pieces_by p r;
+  pieces = refl;
+  comdats = omega (arith, length-append p.comdats (begun_in p.names p.module.segs r));
+}
+
+pub last-grows : (p q : ObjParts) → PartsGrow p q → (l : LastData) → LastFits p l → LastFits q l
+last-grows p q g datas.None h = tt
+last-grows p q g (datas.Straight seg offset len) h = lies_at-grows p q g seg offset len h
+last-grows p q g (datas.Blocks seg offset wide body) h = (h.0, lies-grows p.module q.module g.module seg offset _ h.1)
+last-grows p q g datas.Dropped h = tt
 
 pub in_frame-grows : (old m : ObjModule) → Grows old m → (f : Frame) → InFrame old f → InFrame m f
 in_frame-grows old m g (frames.Seg i) h = (h.0, omega (arith, h.1, ap (λ (ss : List Seg). length ss) g.segs, length-append old.segs g.more_segs))
@@ -223,32 +238,61 @@ same_threads : (p : ObjParts) (r : Record) → Sane p → fields_in r ≡ [] →
 unfolding parts_with
 same_threads p r s none = ap (λ (fs : List FixField). set_threads p.threads fs) none ∙ no_threads p.threads (sane-four p s)
 
-lists-sane : (p : ObjParts) (r : Record) → fields_in r ≡ [] → Sane p → GoodAfter p r → Sane (parts_with p r)
+none-begun : (names : List (List ℕ)) (segs : List Seg) (r : Record) → IsOther r → begun_in names segs r ≡ []
+none-begun names segs (comdat d) other = absurd other
+none-begun names segs r other = refl
+
+same_comdats : (p : ObjParts) (r : Record) → IsOther r → (parts_with p r).comdats ≡ p.comdats
+unfolding parts_with
+same_comdats p r other = ap (λ (bs : List BegunComdat). p.comdats ++ bs) (none-begun p.names p.module.segs r other) ∙ append-nil p.comdats
+
+-- publics in segments of indices are of no COMDAT
+indexed-numbered : (p : ObjParts) (x : PubPlace) → IsIndexed p x → IsNumbered p x
+indexed-numbered p (In seg offset) h = inl h
+indexed-numbered p (Const value) h = tt
+
+indexed-apart : (p : ObjParts) (number : ℕ) → COMDAT_BASE < number → (x : PubPlace) → IsIndexed p x → is_in_seg number x ≡ false
+indexed-apart p number past (In seg offset) h = not-equal seg number (λ e. omega (arith, e, h.0, past))
+indexed-apart p number past (Const value) h = refl
+
+none-indexed : (p : ObjParts) (xs : List Pub) → AllByRecursion (PubIndexed p) xs → (qs : List (ℕ × BegunComdat)) (n : ℕ) → AllByRecursion (λ (q : ℕ × BegunComdat). (COMDAT_BASE + 1 ≤ q.0) × (q.0 < n)) qs → AllByRecursion (λ (q : ℕ × BegunComdat). filter (in_number q.0) xs ≡ []) qs
+none-indexed p xs h qs n past =
+    all-each (λ (q : ℕ × BegunComdat). (COMDAT_BASE + 1 ≤ q.0) × (q.0 < n)) (λ (q : ℕ × BegunComdat). filter (in_number q.0) xs ≡ [])
+    (λ q k. none-of xs q.0 (all-each (PubIndexed p) (λ (x : Pub). in_number q.0 x ≡ false) (λ x i. indexed-apart p q.0 (omega (arith, k.0)) x.place i) xs h)) qs past
+
+lists-sane : (p : ObjParts) (r : Record) → fields_in r ≡ [] → IsOther r → Sane p → GoodAfter p r → Sane (parts_with p r)
 unfolding parts_with module_with
-lists-sane p r none s good =
+lists-sane p r none other s good =
+    let q : ObjParts = parts_with p r in
     let m : ObjModule = module_with p r in
-    let g = add-grows p r in
-    let d = data-whole p r good in
+    let g = module-grows p r in
+    let more : PartsGrow p q = add-grows p r in
+    let d = data-whole p r good other in
     let fixes = no_fixes p r none in
     let threads = same_threads p r s none in
+    let comdats = same_comdats p r other in
+    let new : List Pub = pubs_in p.names (begun_so_far p) r in
+    let indexed : AllByRecursion (PubIndexed p) new = pubs-whole p r good other in
     record {
       segs = all-app WholeSeg p.module.segs (segs_in p.names r) s.segs (segs-whole p r good);
       groups = all-app (WholeGroup m) p.module.groups (groups_in p.names r) (all-each (WholeGroup p.module) (WholeGroup m) (group-grows p.module m g) p.module.groups s.groups) (all-each (WholeGroup p.module) (WholeGroup m) (group-grows p.module m g) (groups_in p.names r) (groups-whole p r good));
-      pubs = all-app (PubIn m) p.module.pubs (pubs_in r) (all-each (PubIn p.module) (PubIn m) (λ q h. place-grows p.module m g q.place h) p.module.pubs s.pubs) (all-each (PubIn p.module) (PubIn m) (λ q h. place-grows p.module m g q.place h) (pubs_in r) (pubs-whole p r good));
-      pieces = all-app (PieceIn m) p.module.pieces (pieces_in p.module.segs r) (all-each (PieceIn p.module) (PieceIn m) (λ q h. lies-grows p.module m g q.seg q.offset _ h) p.module.pieces s.pieces) (all-each (PieceIn p.module) (PieceIn m) (λ q h. lies-grows p.module m g q.seg q.offset _ h) (pieces_in p.module.segs r) d.pieces);
-      fixes = subst (AllByRecursion (WholeFix m)) (sym fixes) (all-each (WholeFix p.module) (WholeFix m) (fix-grows p.module m g) p.module.fixes s.fixes);
+      pubs = all-app (PubIn q) p.module.pubs new (all-each (PubIn p) (PubIn q) (λ x h. numbered-grows p q more x.place h) p.module.pubs s.pubs) (all-each (PubIndexed p) (PubIn q) (λ x h. numbered-grows p q more x.place (indexed-numbered p x.place h)) new indexed);
+      pieces = all-app (PieceIn q) p.module.pieces (pieces_by p r) (all-each (PieceIn p) (PieceIn q) (λ x h. lies_at-grows p q more x.seg x.offset _ h) p.module.pieces s.pieces) (all-each (PieceIn p) (PieceIn q) (λ x h. lies_at-grows p q more x.seg x.offset _ h) (pieces_by p r) d.pieces);
+      fixes = subst (AllByRecursion (WholeFixAt q)) (sym fixes) (all-each (WholeFixAt p) (WholeFixAt q) (fix_at-grows p q more) p.module.fixes s.fixes);
       apart = subst (Pairs Apart) (sym fixes) s.apart;
       imports = all-app HasModule p.module.imports (imports_in r) s.imports (imports-whole p r good);
       exports = all-app WholeExp p.module.exports (exports_in r) s.exports (exports-whole p r good);
       start = latest-all (StartSet m) p.module.start (starts_in p.threads r) (option-grows (WholeStart p.module) (WholeStart m) (start-grows p.module m g) p.module.start s.start) (all-each (StartSet p.module) (StartSet m) (option-grows (WholeStart p.module) (WholeStart m) (start-grows p.module m g)) (starts_in p.threads r) (starts-whole p r s good));
-      data_limit = omega (arith, d.limit s.data_limit, sum_by-append (λ (q : Piece). length q.bytes) p.module.pieces (pieces_in p.module.segs r));
+      data_limit = omega (arith, d.limit s.data_limit, sum_by-append (λ (x : Piece). length x.bytes) p.module.pieces (pieces_by p r));
       fix_limit = subst (λ (fs : List FixAt). length fs ≤ MAX_FIXES) (sym fixes) s.fix_limit;
-      last = latest-all (LastFits m) p.last (datas_in p.module.segs r) (last-grows p.module m g p.last s.last) (all-each (LastFits p.module) (LastFits m) (last-grows p.module m g) (datas_in p.module.segs r) d.last);
+      comdats = subst (AllByRecursion WholeBegun) (sym comdats) s.comdats;
+      publics = subst (λ (bs : List BegunComdat). AllByRecursion (HasPublic (p.module.pubs ++ new)) (counted bs)) (sym comdats) (publics-more p.module.pubs new (counted p.comdats) (none-indexed p new indexed (counted p.comdats) _ (numbers-from (COMDAT_BASE + 1) p.comdats)) s.publics);
+      last = latest-all (LastFits q) p.last (datas_by p r) (last-grows p q more p.last s.last) (all-each (LastFits p) (LastFits q) (last-grows p q more) (datas_by p r) d.last);
       frames = subst (λ (ts : Threads). AllByRecursion (FrameSet m) ts.frame) (sym threads) (all-each (FrameSet p.module) (FrameSet m) (option-grows (InFrame p.module) (InFrame m) (in_frame-grows p.module m g)) p.threads.frame s.frames);
       goals = subst (λ (ts : Threads). AllByRecursion (GoalSet m) ts.goal) (sym threads) (all-each (GoalSet p.module) (GoalSet m) (option-grows (InGoal p.module) (InGoal m) (in_goal-grows p.module m g)) p.threads.goal s.goals);
       four_frames = subst (λ (ts : Threads). length ts.frame ≡ 4) (sym threads) s.four_frames;
       four_goals = subst (λ (ts : Threads). length ts.goal ≡ 4) (sym threads) s.four_goals;
     }
 
-pub add-sane : (p : ObjParts) (r : Record) → fields_in r ≡ [] → Sane p → GoodAfter p r → Sane (add p r)
-add-sane p r none s good = subst Sane (sym (add-lists p r (sane-four p s))) (lists-sane p r none s good)
+pub add-sane : (p : ObjParts) (r : Record) → fields_in r ≡ [] → IsOther r → Sane p → GoodAfter p r → Sane (add p r)
+add-sane p r none other s good = subst Sane (sym (add-lists p r (sane-four p s))) (lists-sane p r none other s good)

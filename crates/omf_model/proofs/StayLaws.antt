@@ -1,5 +1,5 @@
 -- What is read stays in its record: so do cursors, and so do the places of refusals.
-use Rattle.std.proofs.Common.{◌≡◌, ℕ, zero, suc, ◌+◌, ◌*◌, ◌≤◌, Bool, true, false, cond, ltb, eqb, leb, List, [], ◌∷◌, length, take, drop, Option, Some, None, Result, Ok, Err, refl, subst, arith, inl, inr, length-drop}
+use Rattle.std.proofs.Common.{◌≡◌, ℕ, zero, suc, ◌+◌, ◌*◌, ◌≤◌, Bool, true, false, cond, ltb, eqb, leb, List, [], ◌∷◌, length, take, drop, Option, Some, None, Result, Ok, Err, refl, arith, inl, inr, length-drop}
 use Rattle.std.specs.Prelude.{not, ◌&&◌, ◌||◌, bytes_eq, codes}
 use Rattle.std.specs.List.{list_any}
 use Rattle.obj_types.specs.Location.{location_len}
@@ -25,9 +25,11 @@ use Rattle.omf_model.specs.ReadBlocks.{Block, block_rest, block_at, blocks_at}
 use Rattle.omf_model.specs.ReadNames.{lnames_at, segdef_at, checked_plain, plain_seg_at, plain_seg_or_zero, member_at, grpdef_at, pub_at, pubdef_at, ext_at, extdef_at, far_at, near_at, communal_at, com_at, comdef_at}
 use Rattle.omf_model.specs.ReadComments.{given_name_at, entry_at, impdef_at, expdef_at, extension_at, coment_at}
 use Rattle.omf_model.specs.ReadData.{seg_len, judge_data, ledata_at, counted_len, lidata_at}
+use Rattle.omf_model.specs.Comdat.{ComDat, are_flags, is_selected, has_base, end_of}
+use Rattle.omf_model.specs.ReadComdat.{base_segment_at, base_at, comdat_fields_at, is_in_turn, number_so_far, offset_place, judge_comdat, comdat_at}
 use Rattle.omf_model.specs.ReadFixups.{has_threads, method_index_at, check_frame, check_goal, thread_frame, thread_goal, fix_data_at, FirstByte, thread_at, is_dropped, second_of, judge_fixup, fixup_at, field_at, fields_within, fixupp_at, modend_at}
 use Rattle.omf_model.specs.ReadModule.{is_wide, reader_of}
-use Rattle.omf_model.specs.Places.{IsFromTo, IsInRecord}
+use Rattle.omf_model.specs.Places.{IsFromTo}
 use Rattle.omf_model.proofs.DataLaws.{bool_cases}
 
 module _ (low high : ℕ) where
@@ -332,6 +334,65 @@ module _ (low high : ℕ) where
       then-stays Any Any (blocks_at wide o.1) _ (blocks-in wide o.1 k2) λ b z.
       then-stays Any Any (judge_data p at s.1.at s.0 o.0 (counted_len b)) _ (judge_data-in p at s.1.at s.0 o.0 (counted_len b) in_record (here s.1 k1)) λ u y. tt
 
+  -- ---- COMDATs
+
+  base_segment-in : (p : ObjParts) → Keeps (base_segment_at p)
+  unfolding base_segment_at
+  base_segment-in p c h =
+      then-stays Behind Behind (index_at c) _ (index-in c h) λ i k.
+      then-stays Any Behind (check (not (eqb i.0 0)) (BadField c.at)) _ (check-stays (not (eqb i.0 0)) (BadField c.at) (here c h)) λ u z.
+      checked_plain-in false p c.at h.0 (end-of c h) i k
+
+  base-in : (p : ObjParts) → Keeps (base_at p)
+  unfolding base_at
+  base-in p c h =
+      then-stays Behind Behind (index_or_zero (length p.module.groups) c) _ (or_zero-in (length p.module.groups) c h) λ g k1.
+      then-stays Behind Behind (base_segment_at p g.1) _ (base_segment-in p g.1 k1) λ s k2. k2
+
+  -- the cursor behind a byte
+  abbrev Next : ℕ → {A : Type 0} → A × Cursor → Type 0
+  Next at x = IsIn x.1 × (x.1.at ≡ at + 1)
+
+  byte-next : (c : Cursor) → IsIn c → Stays (Next c.at) (byte_at c)
+  byte-next c h = of c.at c.left h.0 h.1
+    where
+      of : (at : ℕ) (left : List ℕ) → low ≤ at → at + length left ≡ high → Stays (Next at) (byte_of at left)
+      of at [] lo hi = (lo, omega (arith, hi))
+      of at (b ∷ rest) lo hi = ((omega (arith, lo), omega (arith, hi)), refl)
+
+  -- the offset stands behind three bytes, which were read
+  abbrev HasPlace : ℕ → ComDat → Type 0
+  HasPlace at d = at + 3 ≤ high
+
+  comdat_fields-in : (wide : Bool) (p : ObjParts) (c : Cursor) → IsIn c → Stays (HasPlace c.at) (comdat_fields_at wide p c)
+  unfolding comdat_fields_at
+  comdat_fields-in wide p c h =
+      then-stays (Next c.at) (HasPlace c.at) (byte_at c) _ (byte-next c h) λ f k1.
+      then-stays Any (HasPlace c.at) (check (are_flags f.0) (BadField c.at)) _ (check-stays (are_flags f.0) (BadField c.at) (here c h)) λ u1 z1.
+      then-stays (Next f.1.at) (HasPlace c.at) (byte_at f.1) _ (byte-next f.1 k1.0) λ a k2.
+      then-stays Any (HasPlace c.at) (check (is_selected a.0) (BadField f.1.at)) _ (check-stays (is_selected a.0) (BadField f.1.at) (here f.1 k1.0)) λ u2 z2.
+      then-stays (Next a.1.at) (HasPlace c.at) (byte_at a.1) _ (byte-next a.1 k2.0) λ l k3.
+      then-stays Any (HasPlace c.at) (check (leb l.0 5) (BadField a.1.at)) _ (check-stays (leb l.0 5) (BadField a.1.at) (here a.1 k2.0)) λ u3 z3.
+      then-stays Behind (HasPlace c.at) (number_at (width wide) l.1) _ (number-in (width wide) l.1 k3.0) λ o k4.
+      then-stays Behind (HasPlace c.at) (index_or_zero 0 o.1) _ (or_zero-in 0 o.1 k4) λ t k5.
+      then-stays Behind (HasPlace c.at) (where_so (has_base a.0) (base_at p) t.1) _ (where-in (has_base a.0) (base_at p) (base-in p) t.1 k5) λ b k6.
+      then-stays Behind (HasPlace c.at) (index_below (length p.names) b.1) _ (below-in (length p.names) b.1 k6) λ n k7.
+      omega (arith, k1.1, k2.1, k3.1, k3.0.1)
+
+  judge_comdat-in : (p : ObjParts) (at offset_at : ℕ) (d : ComDat) → (low ≤ at) × (at ≤ high) → (low ≤ offset_at) × (offset_at ≤ high) → Stays Any (judge_comdat p at offset_at d)
+  unfolding judge_comdat
+  judge_comdat-in p at offset_at d in_record in_field =
+      then-stays Any Any (check (is_in_turn p d) (BadField at)) _ (check-stays (is_in_turn p d) (BadField at) in_record) λ u1 z1.
+      then-stays Any Any (check (leb (end_of d) MAX_DATA) (DataRange offset_at)) _ (check-stays (leb (end_of d) MAX_DATA) (DataRange offset_at) in_field) λ u2 z2.
+      then-stays Any Any (check (leb (data_so_far p + length d.content) MAX_DATA) (TooMany at)) _ (check-stays (leb (data_so_far p + length d.content) MAX_DATA) (TooMany at) in_record) λ u3 z3.
+      check-stays (not (list_any (touches (number_so_far p d) d.offset (length d.content)) p.module.fixes)) (DataOverFix offset_at) in_field
+
+  comdat-in : (wide : Bool) (p : ObjParts) (at : ℕ) → (low ≤ at) × (at ≤ high) → (c : Cursor) → IsIn c → Stays Any (comdat_at wide p at c)
+  unfolding comdat_at
+  comdat-in wide p at in_record c h =
+      then-stays (HasPlace c.at) Any (comdat_fields_at wide p c) _ (comdat_fields-in wide p c h) λ d k.
+      then-stays Any Any (judge_comdat p at (offset_place c) d) _ (judge_comdat-in p at (offset_place c) d in_record (omega (arith, h.0), k)) λ u z. tt
+
   -- ---- fixups
 
   method_index-in : (judged : Bool) (p : ObjParts) (m : ℕ) → Keeps (method_index_at judged p m)
@@ -432,12 +493,5 @@ module _ (low high : ℕ) where
       (one-stays (eqb ty 0xB0) _ _ p at c (comdef-in c h)
       (one-stays (eqb ty 0xB4 || eqb ty 0xB5) _ _ p at c (extdef-in true c h)
       (one-stays (eqb ty 0xB6 || eqb ty 0xB7) _ _ p at c (pubdef-in true (is_wide ty) p c h)
-      (one-stays (eqb ty 0x80 || eqb ty 0x82 || eqb ty 0x94 || eqb ty 0x95) _ _ p at c tt r)))))))))))))
-
-err-stays : (low high : ℕ) (r : Result Record OmfRefusal) (f : OmfRefusal) → Stays low high (λ x. Unit {0}) r → r ≡ Err f → IsFromTo low high f
-err-stays low high (Ok x) f h e = absurd cc
-err-stays low high (Err g) f h e = let same : g ≡ f = cc in subst (IsFromTo low high) same h
-
--- The fault of a record's contents lies in the record.
-pub contents-fault : (ty : ℕ) (p : ObjParts) (at : ℕ) (c : Cursor) (f : OmfRefusal) → at ≤ c.at → reader_of ty p at c ≡ Err f → IsInRecord at c f
-contents-fault ty p at c f before e = err-stays at (c.at + length c.left) (reader_of ty p at c) f (reader-in at (c.at + length c.left) ty p at (omega arith, omega (arith, before)) c (before, refl)) e
+      (one-stays (eqb ty 0xC2 || eqb ty 0xC3) _ _ p at c (comdat-in (is_wide ty) p at r c h)
+      (one-stays (eqb ty 0x80 || eqb ty 0x82 || eqb ty 0x94 || eqb ty 0x95) _ _ p at c tt r))))))))))))))

@@ -26,6 +26,7 @@ use Rattle.omf_model.specs.Add.{add}
 use Rattle.omf_model.specs.RawRecord.{whole_at, raw_at}
 use Rattle.omf_model.specs.ReadNames.{lnames_at, segdef_at, grpdef_at, plain_seg_at}
 use Rattle.omf_model.specs.ReadData.{judge_data, lidata_at}
+use Rattle.omf_model.specs.Finished.{finished}
 use Rattle.omf_model.specs.ReadModule.{record_at, header_at, rest_within, module_at, object_of}
 use Rattle.omf_model.specs.WholeExamples.{many_body, byte_fixup, one_too_many}
 use Rattle.omf_model.specs.Record.{Record, header, lnames, segdef, grpdef, lidata, FixField, fixup, FixData, location_of, offset_of}
@@ -168,7 +169,7 @@ last-record =
 failed_parts : Result (ObjParts × Cursor) OmfRefusal
 failed_parts = Err (TooMany 62)
 
-module-so : module_at (from 0 one_too_many) ≡ (rest_within (length one_too_many) p1 (from 6 (rest_bytes 6)) >>= λ p. Ok (p.0.module, p.1))
+module-so : module_at (from 0 one_too_many) ≡ (rest_within (length one_too_many) p1 (from 6 (rest_bytes 6)) >>= λ p. Ok (finished p.0, p.1))
 unfolding module_at header_at raw_at whole_at
 module-so = refl
 

@@ -1,11 +1,10 @@
 -- What is read is whole.
 use Rattle.std.proofs.Common.{◌≡◌, ℕ, ◌+◌, ◌<◌, ◌≤◌, Bool, true, false, cond, eqb, ltb, List, [], ◌∷◌, ◌++◌, length, map, get_or, Option, Some, None, refl, sym, subst, ◌∙◌, arith, inl, inr, length-append, append_assoc}
-use Rattle.std.specs.Prelude.{◌&&◌, ◌||◌, IfSome, IsSomeAnd, not, unwrap_or}
+use Rattle.std.specs.Prelude.{◌&&◌, ◌||◌, IfSome, not, unwrap_or}
 use Rattle.std.specs.List.{All, AllByRecursion, cons_option, list_any}
 use Rattle.std.proofs.lemmas.List.{append-nil}
 use Rattle.std.proofs.lemmas.Bool.{leb-true, ltb-true, le-ltb}
 use Rattle.obj_types.specs.declared.limits.TheConstants.{MAX_FIXES}
-use Rattle.obj_types.specs.declared.object.Seg.{Seg}
 use Rattle.obj_types.specs.declared.object.Frame.TheVariants as frames
 use Rattle.obj_types.specs.declared.object.Goal.TheVariants as goals
 use Rattle.obj_types.specs.declared.object.FixAt.{FixAt}
@@ -15,40 +14,47 @@ use Rattle.obj_types.specs.declared.parts.LastData.TheVariants as datas
 use Rattle.obj_types.specs.declared.parts.Threads.{Threads}
 use Rattle.obj_types.specs.declared.parts.ObjParts.{ObjParts}
 use Rattle.obj_types.specs.Fresh.{fresh_parts}
-use Rattle.obj_types.specs.Items.{item}
 use Rattle.obj_types.specs.Location.{location_len, has_selector, meets}
-use Rattle.obj_types.specs.Whole.{LiesIn, WholeSeg, WholeGroup, WholeFix, WholeStart, WholeExp, WholeModule}
+use Rattle.obj_types.specs.Whole.{WholeGroup, WholeStart, WholeModule}
 use Rattle.omf_model.specs.Lists.{latest}
 use Rattle.omf_model.specs.Blocks.{origins, expanded_len}
 use Rattle.omf_model.specs.ReadBlocks.{blocks_in}
-use Rattle.omf_model.specs.Record.{Record, header, passed, comment, default_library, impdef, expdef, lnames, segdef, grpdef, pubdef, extdef, comdef, ledata, lidata, fixupp, modend, FixField, thread, fixup, FixData, thread_method, thread_number, is_frame_thread, location_of, offset_of, is_self_relative}
+use Rattle.omf_model.specs.Record.{Record, header, comdat, fixupp, FixField, thread, fixup, FixData, thread_method, thread_number, is_frame_thread, location_of, offset_of, is_self_relative}
 use Rattle.omf_model.specs.Fixups.{some, is_frame_method, is_target_method, frame_by, goal_by, frame_meant, goal_meant, frame_set, goal_set, set_threads, has_data, data_segment, copies_of, places_of, fixes_by, are_apart}
 use Rattle.omf_model.specs.Add.{add, add_field, add_fields}
 use Rattle.omf_model.specs.Parts.{parts_of}
-use Rattle.omf_model.specs.Begun.{AreBegun, LastFits, InFrame, InGoal}
+use Rattle.omf_model.specs.Begun.{AreBegun, LiesAt, LastFits, InFrame, InGoal}
 use Rattle.omf_model.specs.Good.{GoodAfter, GoodThread, GoodFixup, GoodAfterData, GoodField, GoodFields, EachGood}
 use Rattle.omf_model.specs.Object.{IsModule, Obj}
 use Rattle.omf_model.specs.Library.{ArePaged, Lib}
 use Rattle.omf_model.proofs.DataLaws.{bool_cases}
 use Rattle.omf_model.proofs.PlainLaws.{not_true}
 use Rattle.omf_model.proofs.FixLaws.{and_true}
-use Rattle.omf_model.proofs.PairLaws.{Pairs, all-at, pairs-at, all-app, pairs-append, pairs-map, all-mapped, copies}
-use Rattle.omf_model.proofs.GrowLaws.{Grows, all-each, lies-grows, group-grows, place-grows, fix-grows, start-grows}
+use Rattle.omf_model.proofs.PairLaws.{Pairs, all-at, all-app, pairs-append, pairs-map, all-mapped, copies}
+use Rattle.omf_model.proofs.GrowLaws.{Grows, all-each, group-grows, start-grows}
+use Rattle.omf_model.proofs.NumberLaws.{PartsGrow, WholeFixAt, numbered-grows, lies_at-grows, fix_at-grows, lies_at-less}
 use Rattle.omf_model.proofs.PartsLaws.{parts_of-snoc}
-use Rattle.omf_model.proofs.SaneLaws.{PubIn, PieceIn, HasModule}
-use Rattle.omf_model.proofs.SaneStep.{FrameSet, GoalSet, Apart, Sane, latest-all, get-all, frame_by-in, goal_by-in, fix_frame, fix_goal, last-grows, in_frame-grows, in_goal-grows, option-grows, add-sane}
-use Rattle.omf_model.proofs.ModuleLaws.{parts_header, module_is}
+use Rattle.omf_model.proofs.SaneLaws.{PieceIn}
+use Rattle.omf_model.proofs.SaneStep.{PubIn, FrameSet, GoalSet, Apart, Sane, latest-all, get-all, frame_by-in, goal_by-in, fix_frame, fix_goal, last-grows, in_frame-grows, in_goal-grows, option-grows, add-sane}
+use Rattle.omf_model.proofs.ComdatSane.{comdat-sane}
+use Rattle.omf_model.proofs.FinishedLaws.{sane-whole}
+use Rattle.omf_model.proofs.ModuleLaws.{parts_header}
 
 -- ---- other fixes and threads
 
 abbrev with_fixes : ObjParts → List FixAt → Threads → ObjParts
-with_fixes p fs ts = record { names = p.names; «module» = record p.module { fixes = fs }; last = p.last; threads = ts }
+with_fixes p fs ts = record { names = p.names; «module» = record p.module { fixes = fs }; last = p.last; threads = ts; comdats = p.comdats }
 
-same-grows : (p : ObjParts) (fs : List FixAt) → Grows p.module (record p.module { fixes = fs })
-same-grows p fs = record { more_segs = []; segs = sym (append-nil p.module.segs); groups = omega arith; exts = omega arith }
+same-grows : (p : ObjParts) (fs : List FixAt) (ts : Threads) → PartsGrow p (with_fixes p fs ts)
+same-grows p fs ts = record {
+  «module» = record { more_segs = []; segs = sym (append-nil p.module.segs); groups = omega arith; exts = omega arith };
+  more_pieces = [];
+  pieces = sym (append-nil p.module.pieces);
+  comdats = omega arith;
+}
 
 record NewFixes (p : ObjParts) (fs : List FixAt) : Type 0 where
-  whole : AllByRecursion (WholeFix p.module) fs
+  whole : AllByRecursion (WholeFixAt p) fs
   apart : Pairs Apart fs
   limit : length fs ≤ MAX_FIXES
 
@@ -60,21 +66,25 @@ record NewThreads (p : ObjParts) (ts : Threads) : Type 0 where
 
 with-sane : (p : ObjParts) (fs : List FixAt) (ts : Threads) → Sane p → NewFixes p fs → NewThreads p ts → Sane (with_fixes p fs ts)
 with-sane p fs ts s f t =
+    let q : ObjParts = with_fixes p fs ts in
     let m : ObjModule = record p.module { fixes = fs } in
-    let g = same-grows p fs in
+    let more = same-grows p fs ts in
+    let g : Grows p.module m = more.module in
     record {
       segs = s.segs;
       groups = all-each (WholeGroup p.module) (WholeGroup m) (group-grows p.module m g) p.module.groups s.groups;
-      pubs = all-each (PubIn p.module) (PubIn m) (λ q h. place-grows p.module m g q.place h) p.module.pubs s.pubs;
-      pieces = all-each (PieceIn p.module) (PieceIn m) (λ q h. lies-grows p.module m g q.seg q.offset _ h) p.module.pieces s.pieces;
-      fixes = all-each (WholeFix p.module) (WholeFix m) (fix-grows p.module m g) fs f.whole;
+      pubs = all-each (PubIn p) (PubIn q) (λ x h. numbered-grows p q more x.place h) p.module.pubs s.pubs;
+      pieces = all-each (PieceIn p) (PieceIn q) (λ x h. lies_at-grows p q more x.seg x.offset _ h) p.module.pieces s.pieces;
+      fixes = all-each (WholeFixAt p) (WholeFixAt q) (fix_at-grows p q more) fs f.whole;
       apart = f.apart;
       imports = s.imports;
       exports = s.exports;
       start = option-grows (WholeStart p.module) (WholeStart m) (start-grows p.module m g) p.module.start s.start;
       data_limit = s.data_limit;
       fix_limit = f.limit;
-      last = last-grows p.module m g p.last s.last;
+      comdats = s.comdats;
+      publics = s.publics;
+      last = last-grows p q more p.last s.last;
       frames = all-each (FrameSet p.module) (FrameSet m) (option-grows (InFrame p.module) (InFrame m) (in_frame-grows p.module m g)) ts.frame t.frames;
       goals = all-each (GoalSet p.module) (GoalSet m) (option-grows (InGoal p.module) (InGoal m) (in_goal-grows p.module m g)) ts.goal t.goals;
       four_frames = t.four_frames;
@@ -145,7 +155,7 @@ not_both true true h e = absurd cc
 not_both true false h e = absurd cc
 not_both false b h e = refl
 
-fix_whole : (p : ObjParts) (high low : ℕ) (d : FixData) (seg x : ℕ) → Sane p → GoodFixup p high low d → LiesIn p.module seg x (len_of high) → WholeFix p.module (fix_of p seg high d x)
+fix_whole : (p : ObjParts) (high low : ℕ) (d : FixData) (seg x : ℕ) → Sane p → GoodFixup p high low d → LiesAt p seg x (len_of high) → WholeFixAt p (fix_of p seg high d x)
 fix_whole p high low d seg x s g lies =
     let loc = and_true _ _ g.location in
     record {
@@ -164,29 +174,21 @@ third_false false b c e = refl
 apart_fixes : (p : ObjParts) (seg high : ℕ) (d : FixData) (x y : ℕ) → x + len_of high ≤ y → Apart (fix_of p seg high d x) (fix_of p seg high d y)
 apart_fixes p seg high d x y far = third_false (eqb seg seg) (ltb x (y + len_of high)) (ltb y (x + len_of high)) (le-ltb y (x + len_of high) far)
 
--- a shorter stretch within a longer one
-lies_less : (m : ObjModule) (seg a n x l : ℕ) → x + l ≤ a + n → LiesIn m seg a n → LiesIn m seg x l
-lies_less m seg a n x l le h = by (item m.segs seg) h
-  where
-    by : (o : Option Seg) → IsSomeAnd o (λ (s : Seg). (s.debug ≡ false) × (a + n ≤ s.len)) → IsSomeAnd o (λ (s : Seg). (s.debug ≡ false) × (x + l ≤ s.len))
-    by None h = absurd h
-    by (Some s) h = (h.0, omega (arith, le, h.1))
-
 -- the new fixes, by themselves
 record Own (p : ObjParts) (fs : List FixAt) : Type 0 where
-  whole : AllByRecursion (WholeFix p.module) fs
+  whole : AllByRecursion (WholeFixAt p) fs
   apart : Pairs Apart fs
 
 shifted : (start : ℕ) (n : ℕ) (xs : List ℕ) → Pairs (λ x y. x + n ≤ y) xs → Pairs (λ x y. x + n ≤ y) (map (λ x. start + x) xs)
 shifted start n xs h = pairs-map (λ x y. x + n ≤ y) (λ x y. x + n ≤ y) (λ x. start + x) (λ x y le. omega (arith, le)) xs h
 
-own : (p : ObjParts) (high low : ℕ) (d : FixData) → Sane p → GoodFixup p high low d → (last : LastData) → LastFits p.module last → has_data last (offset_of high low) (len_of high) ≡ true → Own p (map (fix_of p (data_segment last) high d) (copies_of last (offset_of high low)))
+own : (p : ObjParts) (high low : ℕ) (d : FixData) → Sane p → GoodFixup p high low d → (last : LastData) → LastFits p last → has_data last (offset_of high low) (len_of high) ≡ true → Own p (map (fix_of p (data_segment last) high d) (copies_of last (offset_of high low)))
 own p high low d s g datas.None fits on = record { whole = tt; apart = tt }
 own p high low d s g datas.Dropped fits on = record { whole = tt; apart = tt }
 own p high low d s g (datas.Straight seg start have) fits on =
     let inside : offset_of high low + len_of high ≤ have = leb-true _ _ on in
     record {
-      whole = (fix_whole p high low d seg (start + offset_of high low) s g (lies_less p.module seg start have (start + offset_of high low) (len_of high) (omega (arith, inside)) fits), tt);
+      whole = (fix_whole p high low d seg (start + offset_of high low) s g (lies_at-less p seg start have (start + offset_of high low) (len_of high) (omega (arith, inside)) fits), tt);
       apart = (tt, tt);
     }
 own p high low d s g (datas.Blocks seg start wide body) fits on =
@@ -195,11 +197,11 @@ own p high low d s g (datas.Blocks seg start wide body) fits on =
     let some : 1 ≤ len_of high = let positive : 0 < len_of high = ltb-true _ _ loc.0 in omega (arith, positive) in
     let c = copies wide b (offset_of high low) (len_of high) some on in
     let xs : List ℕ = places_of (offset_of high low) (origins wide 0 b) in
-    let inside : AllByRecursion (λ x. LiesIn p.module seg x (len_of high)) (map (λ x. start + x) xs) =
-    all-mapped (λ x. x + len_of high ≤ expanded_len b) (λ x. LiesIn p.module seg x (len_of high)) (λ x. start + x)
-    (λ x le. lies_less p.module seg start (expanded_len b) (start + x) (len_of high) (omega (arith, le)) fits) xs c.0 in
+    let inside : AllByRecursion (λ x. LiesAt p seg x (len_of high)) (map (λ x. start + x) xs) =
+    all-mapped (λ x. x + len_of high ≤ expanded_len b) (λ x. LiesAt p seg x (len_of high)) (λ x. start + x)
+    (λ x le. lies_at-less p seg start (expanded_len b) (start + x) (len_of high) (omega (arith, le)) (inl fits)) xs c.0 in
     record {
-      whole = all-mapped (λ x. LiesIn p.module seg x (len_of high)) (WholeFix p.module) (fix_of p seg high d) (λ x h. fix_whole p high low d seg x s g h) (map (λ x. start + x) xs) inside;
+      whole = all-mapped (λ x. LiesAt p seg x (len_of high)) (WholeFixAt p) (fix_of p seg high d) (λ x h. fix_whole p high low d seg x s g h) (map (λ x. start + x) xs) inside;
       apart = pairs-map (λ x y. x + len_of high ≤ y) Apart (fix_of p seg high d) (apart_fixes p seg high d) (map (λ x. start + x) xs) (shifted start (len_of high) xs c.1);
     }
 
@@ -223,7 +225,7 @@ apart-all earlier new e =
 
 new_fixes : (p : ObjParts) (fs : List FixAt) → Sane p → Own p fs → are_apart p.module.fixes fs ≡ true → length p.module.fixes + length fs ≤ MAX_FIXES → NewFixes p (p.module.fixes ++ fs)
 new_fixes p fs s o apart limit = record {
-  whole = all-app (WholeFix p.module) p.module.fixes fs s.fixes o.whole;
+  whole = all-app (WholeFixAt p) p.module.fixes fs s.fixes o.whole;
   apart = pairs-append Apart p.module.fixes fs s.apart o.apart (apart-all p.module.fixes fs apart);
   limit = omega (arith, limit, length-append p.module.fixes fs);
 }
@@ -261,21 +263,8 @@ fields-sane (f ∷ fs) p s g = fields-sane fs (add_field p f) (field-sane p f s 
 pub record-sane : (p : ObjParts) (r : Record) → Sane p → GoodAfter p r → Sane (add p r)
 unfolding add
 record-sane p (fixupp fields) s g = fields-sane fields p s g
-record-sane p (header text) s g = add-sane p (header text) refl s g
-record-sane p passed s g = add-sane p passed refl s g
-record-sane p comment s g = add-sane p comment refl s g
-record-sane p (default_library text) s g = add-sane p (default_library text) refl s g
-record-sane p (impdef d) s g = add-sane p (impdef d) refl s g
-record-sane p (expdef d) s g = add-sane p (expdef d) refl s g
-record-sane p (lnames texts) s g = add-sane p (lnames texts) refl s g
-record-sane p (segdef d) s g = add-sane p (segdef d) refl s g
-record-sane p (grpdef n members) s g = add-sane p (grpdef n members) refl s g
-record-sane p (pubdef local group segment frame defs) s g = add-sane p (pubdef local group segment frame defs) refl s g
-record-sane p (extdef local defs) s g = add-sane p (extdef local defs) refl s g
-record-sane p (comdef defs) s g = add-sane p (comdef defs) refl s g
-record-sane p (ledata segment offset content) s g = add-sane p (ledata segment offset content) refl s g
-record-sane p (lidata wide segment offset blocks) s g = add-sane p (lidata wide segment offset blocks) refl s g
-record-sane p (modend kind start) s g = add-sane p (modend kind start) refl s g
+record-sane p (comdat d) s g = comdat-sane p d s g
+record-sane p r s g = add-sane p r refl tt s g
 
 begun-sane : (text : List ℕ) → Sane (add fresh_parts (header text))
 unfolding add
@@ -291,6 +280,8 @@ begun-sane text = record {
   start = tt;
   data_limit = omega arith;
   fix_limit = omega arith;
+  comdats = tt;
+  publics = tt;
   last = tt;
   frames = (tt, (tt, (tt, (tt, tt))));
   goals = (tt, (tt, (tt, (tt, tt))));
@@ -304,21 +295,6 @@ records-sane (r ∷ rs) before s g =
     let next : Sane (parts_of (before ++ r ∷ [])) = subst Sane (sym (parts_of-snoc before r)) (record-sane (parts_of before) r s g.0) in
     subst (λ (qs : List Record). Sane (parts_of qs)) (append_assoc before (r ∷ []) rs) (records-sane rs (before ++ r ∷ []) next g.1)
 
-pub sane-whole : (p : ObjParts) → Sane p → WholeModule p.module
-sane-whole p s = record {
-  segs = all-at WholeSeg p.module.segs s.segs;
-  groups = all-at (WholeGroup p.module) p.module.groups s.groups;
-  pubs = all-at (PubIn p.module) p.module.pubs s.pubs;
-  pieces = all-at (PieceIn p.module) p.module.pieces s.pieces;
-  fixes = all-at (WholeFix p.module) p.module.fixes s.fixes;
-  apart = pairs-at Apart p.module.fixes s.apart;
-  imports = all-at HasModule p.module.imports s.imports;
-  exports = all-at WholeExp p.module.exports s.exports;
-  start = s.start;
-  data_limit = s.data_limit;
-  fix_limit = s.fix_limit;
-}
-
 -- Records of a module that is begun are sane.
 pub begun_records-sane : (rs : List Record) → AreBegun rs → Sane (parts_of rs)
 begun_records-sane rs b =
@@ -328,7 +304,7 @@ begun_records-sane rs b =
 -- A module that bytes mean is whole.
 pub module_whole : (bytes : List ℕ) (m : ObjModule) → IsModule bytes m → WholeModule m
 module_whole bytes m w =
-    subst WholeModule (module_is w.records ∙ sym w.meant) (sane-whole (parts_of w.records) (begun_records-sane w.records w.are.begun))
+    subst WholeModule (sym w.meant) (sane-whole (parts_of w.records) (begun_records-sane w.records w.are.begun))
 
 pub object_whole : (bytes : List ℕ) (m : ObjModule) → Obj bytes m → WholeModule m
 object_whole bytes m h = module_whole h.front m h.first_so

@@ -1,14 +1,15 @@
 -- A definition file, a module and a link's input that are whole.
-use Rattle.std.proofs.Common.{◌≢◌, [], ◌∷◌, replicate, refl, arith}
+use Rattle.std.proofs.Common.{◌≢◌, [], ◌∷◌, length, replicate, refl, arith}
 use Rattle.obj_types.specs.declared.definition.SegAttrs.{SegAttrs}
+use Rattle.obj_types.specs.declared.object.Piece.{Piece}
 use Rattle.obj_types.specs.declared.object.ObjModule.{ObjModule}
 use Rattle.obj_types.specs.Definition.{WholeDef, WholeExport, WholeImport}
 use Rattle.obj_types.specs.Input.{WholeInput}
-use Rattle.obj_types.specs.Whole.{WholeSeg, WholeGroup, WholeFix, WholeModule}
+use Rattle.obj_types.specs.Whole.{LiesIn, WholeSeg, WholeGroup, WholeFix, WholeModule}
 use Rattle.omf_model.specs.Examples.{module_a, piece, fix_at, imported}
 use Rattle.omf_model.specs.WholeExamples.{definition_d, input_d}
 use Rattle.omf_model.proofs.PairLaws.{all-at, pairs-at}
-use Rattle.omf_model.proofs.SaneLaws.{PieceIn, HasModule}
+use Rattle.omf_model.proofs.SaneLaws.{HasModule}
 use Rattle.omf_model.proofs.SaneStep.{Apart}
 
 pub definition-whole : WholeDef definition_d
@@ -29,7 +30,7 @@ module-whole = record {
   segs = all-at WholeSeg module_1.segs (record { align = omega arith; combine = omega arith; not_reserved = ((λ e. omega (arith, e)), (λ e. omega (arith, e))) }, tt);
   groups = all-at (WholeGroup module_1) module_1.groups (record { members = λ k d lt. absurd (omega (arith, lt)); flat = λ e. refl }, tt);
   pubs = λ k d lt. absurd (omega (arith, lt));
-  pieces = all-at (PieceIn module_1) module_1.pieces ((refl, omega arith), tt);
+  pieces = all-at (λ (q : Piece). LiesIn module_1 q.seg q.offset (length q.bytes)) module_1.pieces ((refl, omega arith), tt);
   fixes = all-at (WholeFix module_1) module_1.fixes (record { location = omega arith; relative = λ e. absurd cc; place = (refl, omega arith); frame = (omega arith, omega arith); goal = refl }, tt);
   apart = pairs-at Apart module_1.fixes (tt, tt);
   imports = λ k d lt. absurd (omega (arith, lt));
@@ -37,6 +38,8 @@ module-whole = record {
   start = tt;
   data_limit = omega arith;
   fix_limit = omega arith;
+  comdats = λ k d lt. absurd (omega (arith, lt));
+  comdats_apart = λ i j d lt past. absurd (omega (arith, past));
 }
 
 imported-whole : WholeModule imported
@@ -52,6 +55,8 @@ imported-whole = record {
   start = tt;
   data_limit = omega arith;
   fix_limit = omega arith;
+  comdats = λ k d lt. absurd (omega (arith, lt));
+  comdats_apart = λ i j d lt past. absurd (omega (arith, past));
 }
 
 pub input-whole : WholeInput input_d

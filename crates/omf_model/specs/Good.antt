@@ -9,11 +9,14 @@ use Rattle.obj_types.specs.declared.object.Goal.TheVariants as goals
 use Rattle.obj_types.specs.declared.parts.LastData.{LastData}
 use Rattle.obj_types.specs.declared.parts.LastData.TheVariants as datas
 use Rattle.obj_types.specs.declared.parts.ObjParts.{ObjParts}
+use Rattle.obj_types.specs.declared.parts.TheConstants.{COMDAT_BASE}
 use Rattle.obj_types.specs.Items.{IsIndex}
 use Rattle.obj_types.specs.Location.{location_len}
 use Rattle.obj_types.specs.Whole.{IsPlainSeg, LiesIn}
 use Rattle.omf_model.specs.Blocks.{Blocks, FitBlocks, depth_of, expanded_len}
-use Rattle.omf_model.specs.Record.{Record, header, passed, comment, default_library, impdef, expdef, lnames, segdef, grpdef, pubdef, extdef, comdef, ledata, lidata, fixupp, modend, SegDef, PubDef, ExtDef, ComDef, FixData, FixField, thread, fixup, thread_method, by_frame_thread, frame_bits, by_target_thread, target_bits, location_of, offset_of, are_attributes}
+use Rattle.omf_model.specs.Comdat.{Base, ComDat, are_flags, is_selected, has_base, end_of}
+use Rattle.omf_model.specs.ReadComdat.{is_in_turn, number_so_far}
+use Rattle.omf_model.specs.Record.{Record, header, passed, comment, default_library, impdef, expdef, lnames, segdef, grpdef, pubdef, extdef, comdef, ledata, lidata, comdat, fixupp, modend, SegDef, PubDef, ExtDef, ComDef, FixData, FixField, thread, fixup, thread_method, by_frame_thread, frame_bits, by_target_thread, target_bits, location_of, offset_of, are_attributes}
 use Rattle.omf_model.specs.Items.{name_with, is_debug_seg, communal_of, data_so_far}
 use Rattle.omf_model.specs.Fixups.{frame_meant, goal_meant, has_data, has_index, fixes_by, are_apart, are_methods, have_of, is_location, is_thread_method, touches}
 use Rattle.omf_model.specs.Add.{add_field}
@@ -30,10 +33,11 @@ pub record GoodSegDef (p : ObjParts) (d : SegDef) : Type 0 where
 abbrev pub GoodMember : ObjParts → ℕ → ℕ → Type 0
 GoodMember p name i = IsIndex p.module.segs i × (bytes_eq (name_with p.names name) (codes "FLAT") ≡ false → IsPlainSeg p.module i)
 
--- "90h PUBDEF": no group and no segment may be meant by 0.
+-- "90h PUBDEF": no group and no segment may be meant by 0. An index is no number of a COMDAT's segment.
 pub record GoodPubDef (p : ObjParts) (group segment : ℕ) (defs : List PubDef) : Type 0 where
   pub in_group : group ≤ length p.module.groups
   pub in_segment : segment ≢ 0 → IsPlainSeg p.module segment
+  pub index : segment ≤ COMDAT_BASE
   pub types : AllByRecursion (λ (d : PubDef). d.type ≡ 0) defs
 
 -- "A0h LEDATA", "A2h LIDATA": data outside debug segments is within its segment's length and on no
@@ -45,12 +49,36 @@ pub record GoodPlace (p : ObjParts) (seg offset len : ℕ) : Type 0 where
 
 pub record GoodData (p : ObjParts) (seg offset len : ℕ) : Type 0 where
   pub segment : IsIndex p.module.segs seg
+  pub index : seg ≤ COMDAT_BASE
   pub place : is_debug_seg p.module.segs seg ≡ false → GoodPlace p seg offset len
 
 -- "A2h LIDATA": blocks are nested 16 deep at most.
 pub record GoodBlocks (wide : Bool) (blocks : Blocks) : Type 0 where
   pub fit : FitBlocks wide blocks
   pub depth : depth_of blocks ≤ MAX_DEPTH
+
+-- "C2h COMDAT": what came before, and no debug segment as base.
+pub record GoodBase (p : ObjParts) (base : Base) : Type 0 where
+  pub in_group : base.group ≤ length p.module.groups
+  pub in_segment : IsPlainSeg p.module base.segment
+
+pub record GoodComdatFields (p : ObjParts) (d : ComDat) : Type 0 where
+  pub flags : are_flags d.flags ≡ true
+  pub attributes : is_selected d.attributes ≡ true
+  pub align : d.align ≤ 5
+  pub type : d.type ≡ 0
+  pub base_there : is_some d.base ≡ has_base d.attributes
+  pub base : IfSome d.base (GoodBase p)
+  pub name : IsIndex p.names d.name
+
+-- It begins a COMDAT or goes on with one that has begun; its data ends within the limit of a module's data, which the module
+-- keeps, and is on no location of an earlier fixup.
+pub record GoodComdat (p : ObjParts) (d : ComDat) : Type 0 where
+  pub fields : GoodComdatFields p d
+  pub turn : is_in_turn p d ≡ true
+  pub range : end_of d ≤ MAX_DATA
+  pub limit : data_so_far p + length d.content ≤ MAX_DATA
+  pub on_no_fix : list_any (touches (number_so_far p d) d.offset (length d.content)) p.module.fixes ≡ false
 
 -- "9Ch FIXUPP": the methods are some, the indices that they call for are there, and the threads are set.
 pub record GoodMethods (p : ObjParts) (d : FixData) : Type 0 where
@@ -133,6 +161,7 @@ GoodAfter p (extdef local defs) = AllByRecursion (λ (d : ExtDef). d.type ≡ 0)
 GoodAfter p (comdef defs) = AllByRecursion (λ (d : ComDef). (d.type ≡ 0) × ((communal_of d.communal).len ≤ MAX_DATA)) defs
 GoodAfter p (ledata seg offset content) = GoodData p seg offset (length content)
 GoodAfter p (lidata wide seg offset blocks) = GoodBlocks wide blocks × GoodData p seg offset (expanded_len blocks)
+GoodAfter p (comdat d) = GoodComdat p d
 GoodAfter p (fixupp fields) = GoodFields p fields
 GoodAfter p (modend kind start) = IfSome start (GoodFixData p)
 

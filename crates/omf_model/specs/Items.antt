@@ -16,12 +16,14 @@ use Rattle.obj_types.specs.declared.symbol.Imp.{Imp}
 use Rattle.obj_types.specs.declared.symbol.Exp.{Exp}
 use Rattle.std.specs.List.{sum_by}
 use Rattle.obj_types.specs.declared.parts.ObjParts.{ObjParts}
+use Rattle.obj_types.specs.declared.parts.BegunComdat.{BegunComdat}
 use Rattle.obj_types.specs.declared.parts.LastData.{LastData}
 use Rattle.obj_types.specs.declared.parts.LastData.TheVariants as datas
 use Rattle.obj_types.specs.declared.parts.Threads.{Threads}
 use Rattle.obj_types.specs.Items.{item}
 use Rattle.omf_model.specs.Blocks.{block_bytes, expanded}
-use Rattle.omf_model.specs.Record.{Record, header, default_library, impdef, expdef, lnames, segdef, grpdef, pubdef, extdef, comdef, ledata, lidata, fixupp, modend, SegDef, align_of, combine_of, is_big, is_use32, PubDef, ExtDef, ComDef, Communal, far, near, ImpDef, ExpDef, ImpEntry, by_ordinal, by_name, FixData, FixField}
+use Rattle.omf_model.specs.Record.{Record, header, default_library, impdef, expdef, lnames, segdef, grpdef, pubdef, extdef, comdef, ledata, lidata, comdat, fixupp, modend, SegDef, align_of, combine_of, is_big, is_use32, PubDef, ExtDef, ComDef, Communal, far, near, ImpDef, ExpDef, ImpEntry, by_ordinal, by_name, FixData, FixField}
+use Rattle.omf_model.specs.Comdat.{ComDat, begun_with, number_of, public_with, piece_with, data_with, if_first}
 use Rattle.omf_model.specs.Fixups.{frame_meant, goal_meant}
 
 -- "96h LNAMES". The names count from 1.
@@ -61,13 +63,26 @@ abbrev pub groups_in : List (List ℕ) → Record → List Group
 groups_in names (grpdef name members) = group_of (name_with names name) members ∷ []
 groups_in names _ = []
 
--- "90h PUBDEF", "B6h LPUBDEF". With segment index 0 the offset is a constant.
+-- "C2h COMDAT": by its first record, with the names of LNAMES and the segments before it.
+abbrev pub begun_in : List (List ℕ) → List Seg → Record → List BegunComdat
+begun_in names segs (comdat d) = if_first d (begun_with segs (name_with names d.name) d)
+begun_in names segs _ = []
+
+abbrev pub begun_names : List BegunComdat → List (List ℕ)
+begun_names begun = map (λ b. b.name) begun
+
+-- The number of the segment of the record's name, where COMDATs of these names have begun.
+abbrev pub number_in : List (List ℕ) → List (List ℕ) → ComDat → ℕ
+number_in names begun d = number_of begun (name_with names d.name)
+
+-- "90h PUBDEF", "B6h LPUBDEF". With segment index 0 the offset is a constant. "C2h COMDAT": its name.
 abbrev pub pub_of : Bool → ℕ → PubDef → Pub
 pub_of local segment d = record { name = d.name; local = local; place = if segment == 0 then Const d.offset else In segment d.offset }
 
-abbrev pub pubs_in : Record → List Pub
-pubs_in (pubdef local group segment frame defs) = map (pub_of local segment) defs
-pubs_in _ = []
+abbrev pub pubs_in : List (List ℕ) → List (List ℕ) → Record → List Pub
+pubs_in names begun (pubdef local group segment frame defs) = map (pub_of local segment) defs
+pubs_in names begun (comdat d) = if_first d (public_with (number_in names begun d) (name_with names d.name) d)
+pubs_in names begun _ = []
 
 -- "8Ch EXTDEF", "B4h LEXTDEF" and "B0h COMDEF" share one numbering of externals.
 abbrev pub communal_of : Communal → Common
@@ -119,25 +134,27 @@ abbrev pub deflibs_in : Record → List (List ℕ)
 deflibs_in (default_library name) = name ∷ []
 deflibs_in _ = []
 
--- "A0h LEDATA", "A2h LIDATA": the pieces, which are the data outside debug segments.
+-- "A0h LEDATA", "A2h LIDATA", "C2h COMDAT": the pieces, which are the data outside debug segments.
 abbrev pub is_debug_seg : List Seg → ℕ → Bool
 is_debug_seg segs i = unwrap_or (option_map (λ (s : Seg). s.debug) (item segs i)) false
 
 abbrev pub outside : {A : Type 0} → List Seg → ℕ → A → List A
 outside segs i x = if is_debug_seg segs i then [] else x ∷ []
 
-abbrev pub pieces_in : List Seg → Record → List Piece
-pieces_in segs (ledata seg offset content) = outside segs seg (record { seg = seg; offset = offset; bytes = content })
-pieces_in segs (lidata wide seg offset blocks) = outside segs seg (record { seg = seg; offset = offset; bytes = expanded blocks })
-pieces_in segs _ = []
+abbrev pub pieces_in : List (List ℕ) → List Seg → List (List ℕ) → Record → List Piece
+pieces_in names segs begun (ledata seg offset content) = outside segs seg (record { seg = seg; offset = offset; bytes = content })
+pieces_in names segs begun (lidata wide seg offset blocks) = outside segs seg (record { seg = seg; offset = offset; bytes = expanded blocks })
+pieces_in names segs begun (comdat d) = piece_with (number_in names begun d) d ∷ []
+pieces_in names segs begun _ = []
 
 -- The data to which the offsets of later fixups refer.
-abbrev pub datas_in : List Seg → Record → List LastData
-datas_in segs (ledata seg offset content) =
+abbrev pub datas_in : List (List ℕ) → List Seg → List (List ℕ) → Record → List LastData
+datas_in names segs begun (ledata seg offset content) =
     (if is_debug_seg segs seg then datas.Dropped else datas.Straight seg offset (length content)) ∷ []
-datas_in segs (lidata wide seg offset blocks) =
+datas_in names segs begun (lidata wide seg offset blocks) =
     (if is_debug_seg segs seg then datas.Dropped else datas.Blocks seg offset wide (block_bytes wide blocks)) ∷ []
-datas_in segs _ = []
+datas_in names segs begun (comdat d) = data_with (number_in names begun d) d ∷ []
+datas_in names segs begun _ = []
 
 -- "9Ch FIXUPP".
 abbrev pub fields_in : Record → List FixField

@@ -1,5 +1,6 @@
 pub mod Lists
 pub mod Blocks
+pub mod Comdat
 pub mod Record
 pub mod ReadBlocks
 pub mod Fixups
@@ -7,10 +8,12 @@ pub mod Copies
 pub mod Items
 pub mod Parts
 pub mod Add
+pub mod Finished
 pub mod AddLists
 pub mod ReadNames
 pub mod ReadComments
 pub mod ReadData
+pub mod ReadComdat
 pub mod ReadFixups
 pub mod Spelling
 pub mod Good
@@ -22,5 +25,6 @@ pub mod Library
 pub mod Examples
 pub mod FaultExamples
 pub mod WholeExamples
+pub mod ComdatExamples
 pub mod ReadAfter
 pub mod Places

@@ -5,7 +5,8 @@ use Rattle.obj_types.specs.declared.object.ObjModule.{ObjModule}
 use Rattle.omf_fields.specs.Forms.{◌then◌, anything}
 use Rattle.omf_model.specs.Record.{Record, modend, FixData}
 use Rattle.omf_model.specs.Spelling.{SpellsAll}
-use Rattle.omf_model.specs.Parts.{parts_of, module_of}
+use Rattle.omf_model.specs.Parts.{parts_of}
+use Rattle.omf_model.specs.Finished.{finished}
 use Rattle.omf_model.specs.Begun.{AreBegun, IsOpen}
 use Rattle.omf_model.specs.ReadModule.{header_at, record_at}
 pub use Rattle.obj_types.specs.Data.{Data}
@@ -24,7 +25,7 @@ pub record IsModule (bytes : List ℕ) (m : ObjModule) : Type 0 where
   pub records : List Record
   pub are : AreModule records
   pub spelled : SpellsAll records bytes
-  pub meant : m ≡ module_of records
+  pub meant : m ≡ finished (parts_of records)
 
 -- An object file means m: it begins with the records of such a module. Bytes behind them are not read.
 abbrev pub Obj : List ℕ → ObjModule → Type 0

@@ -17,7 +17,9 @@ use Rattle.omf_model.specs.ReadNames.{lnames_at, segdef_at, grpdef_at, pubdef_at
 use Rattle.omf_model.specs.ReadComments.{coment_at}
 use Rattle.omf_model.specs.ReadData.{ledata_at, lidata_at}
 use Rattle.omf_model.specs.ReadFixups.{fixupp_at, modend_at}
+use Rattle.omf_model.specs.ReadComdat.{comdat_at}
 use Rattle.omf_model.specs.Add.{add}
+use Rattle.omf_model.specs.Finished.{finished}
 
 -- ---- contents
 
@@ -44,6 +46,7 @@ reader_of ty =
     else if ty == 0xB0 then (λ p at c. comdef_at c)
     else if ty == 0xB4 || ty == 0xB5 then (λ p at c. extdef_at true c)
     else if ty == 0xB6 || ty == 0xB7 then (λ p at c. pubdef_at true (is_wide ty) p c)
+    else if ty == 0xC2 || ty == 0xC3 then (λ p at c. comdat_at (is_wide ty) p at c)
     else if ty == 0x80 || ty == 0x82 || ty == 0x94 || ty == 0x95 then (λ p at c. Ok passed)
     else (λ p at c. Err (UnknownType at ty))
 
@@ -83,7 +86,7 @@ unfoldable pub module_at : Cursor → Reading ObjModule
 module_at c = do
   first ← header_at c
   p ← rest_within (length c.left) (add fresh_parts first.0) first.1
-  Ok (p.0.module, p.1)
+  Ok (finished p.0, p.1)
 
 -- An object file. The bytes after MODEND are not read.
 unfoldable pub object_of : List ℕ → Result ObjModule OmfRefusal

@@ -2,6 +2,7 @@
 -- "Relocatable Object Module Format", the sections of the record types.
 use Rattle.std.specs.Prelude.{ℕ, ◌+◌, ◌*◌, ◌/◌, ◌%◌, Bool, true, false, ◌&&◌, not, List, Option, nat_le, ◌==◌, if◌then◌else◌}
 use Rattle.omf_model.specs.Blocks.{Blocks}
+use Rattle.omf_model.specs.Comdat.{ComDat}
 
 -- "98h SEGDEF". The frame and the offset stand there for the alignment 0.
 pub record SegDef : Type 0 where
@@ -141,6 +142,7 @@ pub data Record : Type 0 where
   comdef : List ComDef → Record
   ledata : (segment offset : ℕ) (bytes : List ℕ) → Record
   lidata : (wide : Bool) (segment offset : ℕ) → Blocks → Record
+  comdat : ComDat → Record
   fixupp : List FixField → Record
   modend : (kind : ℕ) (start : Option FixData) → Record
 

@@ -6,7 +6,8 @@ use Rattle.omf_model.specs.Blocks.{block_bytes}
 use Rattle.omf_fields.specs.Fields.{width}
 use Rattle.omf_fields.specs.Forms.{Form, Then, ◌then◌, anything, each, present, byte, number, name, index, length_form}
 use Rattle.omf_model.specs.Fixups.{has_index}
-use Rattle.omf_model.specs.Record.{Record, header, passed, comment, default_library, impdef, expdef, lnames, segdef, grpdef, pubdef, extdef, comdef, ledata, lidata, fixupp, modend, SegDef, align_of, is_too_long, PubDef, ExtDef, ComDef, Communal, far, near, ImpDef, ImpEntry, by_ordinal, by_name, ExpDef, FixData, FixField, thread, fixup, by_frame_thread, frame_bits, by_target_thread, has_displacement, thread_method, has_start}
+use Rattle.omf_model.specs.Comdat.{Base, ComDat, has_base}
+use Rattle.omf_model.specs.Record.{Record, header, passed, comment, default_library, impdef, expdef, lnames, segdef, grpdef, pubdef, extdef, comdef, ledata, lidata, comdat, fixupp, modend, SegDef, align_of, is_too_long, PubDef, ExtDef, ComDef, Communal, far, near, ImpDef, ImpEntry, by_ordinal, by_name, ExpDef, FixData, FixField, thread, fixup, by_frame_thread, frame_bits, by_target_thread, has_displacement, thread_method, has_start}
 
 -- ---- the types. Of a pair the odd type has offsets and lengths of 4 bytes.
 
@@ -28,6 +29,7 @@ types_of (extdef local defs) = if local then pair 0xB4 else (0x8C, false) ∷ []
 types_of (comdef defs) = (0xB0, false) ∷ []
 types_of (ledata segment offset content) = pair 0xA0
 types_of (lidata wide segment offset blocks) = (if wide then 0xA3 else 0xA2, wide) ∷ []
+types_of (comdat d) = pair 0xC2
 types_of (fixupp fields) = pair 0x9C
 types_of (modend kind start) = pair 0x8A
 
@@ -77,6 +79,20 @@ communal_form (near size) = byte 0x62 then length_form size
 abbrev pub com_form : ComDef → Form
 com_form d = name d.name then index d.type then communal_form d.communal
 
+abbrev pub base_form : Base → Form
+base_form base = index base.group then index base.segment
+
+abbrev pub comdat_form : Bool → ComDat → Form
+comdat_form wide d =
+    byte d.flags
+    then byte d.attributes
+    then byte d.align
+    then number (width wide) d.offset
+    then index d.type
+    then present (has_base d.attributes) base_form d.base
+    then index d.name
+    then λ bytes. bytes ≡ d.content
+
 -- The fix byte says which of the fields after it stand there.
 abbrev pub fix_data_form : Bool → FixData → Form
 fix_data_form wide d =
@@ -104,6 +120,7 @@ contents_form wide (extdef local defs) = each ext_form defs
 contents_form wide (comdef defs) = each com_form defs
 contents_form wide (ledata segment offset content) = index segment then number (width wide) offset then λ bytes. bytes ≡ content
 contents_form wide (lidata w segment offset blocks) = index segment then number (width w) offset then λ bytes. bytes ≡ block_bytes w blocks
+contents_form wide (comdat d) = comdat_form wide d
 contents_form wide (fixupp fields) = each (field_form wide) fields
 contents_form wide (modend kind start) = byte kind then present (has_start kind) (fix_data_form wide) start then anything
 

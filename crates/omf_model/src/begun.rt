@@ -9,6 +9,7 @@ ghost use Rattle.obj_types.specs.Whole.{WholeModule};
 ghost use Rattle.omf_model.specs.Record.{Record, header, is_end};
 ghost use Rattle.omf_model.specs.Add.{add};
 ghost use Rattle.omf_model.specs.Begun.{IsBegun, IsWholeSoFar};
+ghost use Rattle.omf_model.specs.Finished.{finished};
 ghost use Rattle.omf_model.specs.Good.{GoodAfter};
 ghost use Rattle.omf_model.specs.ReadModule.{reader_of};
 
@@ -19,5 +20,5 @@ pub fn unfinished_module()
     ensures goes_on { (p : ObjParts) (r : Record) → IsBegun p → GoodAfter p r → is_end r ≡ false → IsBegun (add p r) }
     ensures read { (p : ObjParts) (ty at : ℕ) (c : Cursor) (r : Record) → AreBytes c.left → reader_of ty p at c ≡ Ok r → GoodAfter p r }
     ensures gives { (p : ObjParts) → IsBegun p → IsWholeSoFar p }
-    ensures ends { (p : ObjParts) (r : Record) → IsBegun p → GoodAfter p r → WholeModule (add p r).module }
+    ensures ends { (p : ObjParts) (r : Record) → IsBegun p → GoodAfter p r → WholeModule (finished (add p r)) }
 {}

@@ -6,6 +6,7 @@
 
 mod begun;
 mod blocks;
+mod comdats;
 mod examples;
 mod laws;
 mod places;
@@ -13,6 +14,7 @@ mod turns;
 
 pub use begun::unfinished_module;
 pub use blocks::{blocks_are_measured, copies_are_computed, locations_on_blocks};
+pub use comdats::{comdats_are_segments, each_comdat_refusal};
 pub use examples::{
     copies_of_blocks, each_refusal, import_library, one_fixup_too_many, one_segment,
     symbols_of_each_kind, the_first_bytes, threads, whole_values,

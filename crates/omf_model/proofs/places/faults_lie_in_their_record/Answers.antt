@@ -1,5 +1,4 @@
-use Rattle.omf_model.proofs.StayLaws.{contents-fault}
-use Rattle.omf_model.proofs.PlacedLaws.{around-fault, record-fault}
+use Rattle.omf_model.proofs.PlacedLaws.{contents-fault, around-fault, record-fault}
 use Rattle.omf_model.proofs.places.faults_lie_in_their_record.Goals as goal
 
 pub returns-clause-around : goal.returns-clause-around
