@@ -15,7 +15,7 @@ use Rattle.omf_model.proofs.BegunLaws.{begun-whole}
 
 -- an unfinished module keeps the limit
 pub so_far : (p : ObjParts) → IsBegun p → data_so_far p ≤ MAX_DATA
-so_far p begun = (begun-whole p begun).whole.data_limit
+so_far p begun = (begun-whole p begun).data_limit
 
 -- whether it is a debug segment
 pub is_debug : (p : ObjParts) (seg : ℕ) (s : Seg) → item p.module.segs seg ≡ Some s → is_debug_seg p.module.segs seg ≡ s.debug

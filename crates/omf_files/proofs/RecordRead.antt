@@ -1,12 +1,19 @@
 -- A record that stands at a cursor, and what it adds.
-use Rattle.std.proofs.Common.{◌≡◌, ℕ, zero, suc, ◌+◌, ◌<◌, ◌≤◌, Bool, true, false, List, [], ◌∷◌, ◌++◌, length, Ok, Err, Result, refl, sym, ap, subst, ◌∙◌, arith, length-append}
+use Rattle.std.proofs.Common.{◌≡◌, ℕ, zero, suc, ◌+◌, ◌<◌, ◌≤◌, Bool, true, false, List, [], ◌∷◌, ◌++◌, length, Option, Ok, Err, Result, refl, sym, ap, subst, ◌∙◌, arith, length-append}
 use Rattle.std.specs.List.{AllByRecursion}
-use Rattle.std.proofs.lemmas.List.Elements.{All-contains}
+use Rattle.std.proofs.lemmas.List.Elements.{All-contains, All-weaker}
 use Rattle.lx_types.specs.declared.fail.Fail.{Fail}
 use Rattle.lx_types.specs.declared.fail.Fail.TheVariants.{Said, NoMemory}
 use Rattle.lx_bytes.specs.Cursor.{Cursor}
 use Rattle.lx_bytes.specs.LittleEndian.{AreBytes}
 use Rattle.obj_types.specs.declared.object.ObjModule.{ObjModule}
+use Rattle.obj_types.specs.declared.object.Piece.{Piece}
+use Rattle.obj_types.specs.declared.object.FixAt.{FixAt}
+use Rattle.obj_types.specs.declared.object.StartAt.{StartAt}
+use Rattle.obj_types.specs.declared.parts.LastData.{LastData}
+use Rattle.obj_types.specs.declared.parts.LastData.TheVariants as datas
+use Rattle.obj_types.specs.Location.{location_len}
+use Rattle.obj_types.specs.Whole.{WholeModule}
 use Rattle.obj_types.specs.declared.refusal.OmfRefusal.{OmfRefusal}
 use Rattle.obj_types.specs.declared.refusal.OmfRefusal.TheVariants.{Short}
 use Rattle.obj_types.specs.declared.parts.ObjParts.{ObjParts}
@@ -22,13 +29,16 @@ use Rattle.obj_types.specs.Fresh.{fresh_parts}
 use Rattle.std.specs.Prelude.{◌⊎◌}
 use Rattle.std.proofs.Common.{inl, inr}
 use Rattle.omf_model.specs.Add.{add}
-use Rattle.omf_model.specs.Begun.{IsBegun}
+use Rattle.omf_model.specs.Begun.{IsBegun, LiesAt, LastFits, IsWholeSoFar}
+use Rattle.omf_model.specs.Items.{start_of}
+use Rattle.omf_model.specs.Finished.{finished}
+use Rattle.omf_model.specs.Good.{GoodAfter}
 use Rattle.omf_model.specs.ReadAfter.{read_after, contents_at}
 use Rattle.omf_model.specs.RawRecord.{RawRecord, as_omf, raw_at}
-use Rattle.omf_model.specs.Record.{Record, header, passed, comment, default_library, impdef, expdef, lnames, segdef, grpdef, pubdef, extdef, comdef, ledata, lidata, fixupp, modend, is_end}
+use Rattle.omf_model.specs.Record.{Record, header, passed, comment, default_library, impdef, expdef, lnames, segdef, grpdef, pubdef, extdef, comdef, ledata, lidata, comdat, fixupp, modend, is_end}
 use Rattle.omf_model.specs.ReadModule.{reader_of, header_at, record_at, rest_within, rest_at, module_at}
 use Rattle.omf_model.specs.Spelling.{types_of}
-use Rattle.omf_model.proofs.BegunLaws.{begun-kept}
+use Rattle.omf_model.proofs.BegunLaws.{begun-kept, begun-whole, begun-ends}
 use Rattle.omf_model.proofs.PairLaws.{all-at}
 use Rattle.omf_model.proofs.RawLaws.{raw_begun, raw_refused, raw_sound}
 use Rattle.omf_model.proofs.RecordLaws.{header_sound, record_sound, reader_sound}
@@ -71,6 +81,7 @@ types-tell (comdef defs) = (refl, tt)
 types-tell (ledata s o bs) = (refl, (refl, tt))
 types-tell (lidata true s o b) = (refl, tt)
 types-tell (lidata false s o b) = (refl, tt)
+types-tell (comdat d) = (refl, (refl, tt))
 types-tell (fixupp fields) = (refl, (refl, tt))
 types-tell (modend kind start) = (refl, (refl, tt))
 
@@ -151,6 +162,62 @@ none-left p c none = rw none refl
 pub frame-refused : (c : Cursor) (refusal shape : FrameRefusal) → Refuses c refusal → refusal ≡ shape → raw_at c ≡ Err (as_omf shape)
 frame-refused c refusal shape h e = raw_refused c refusal h ∙ ap (λ (r : FrameRefusal). Err (as_omf r)) e
 
+-- ---- the record that ends the module
+
+abbrev started_at : ObjParts → Option StartAt → ObjParts
+started_at p start = record p { «module» = record p.module { start = start } }
+
+-- It adds a start address and nothing else, so what was whole before it is so behind it.
+module _ (p : ObjParts) (start : Option StartAt) where
+  lies-behind : (number offset len : ℕ) → LiesAt p number offset len → LiesAt (started_at p start) number offset len
+  lies-behind number offset len (inl lies) = inl lies
+  lies-behind number offset len (inr lies) = inr (record { comdat = lies.comdat; within = lies.within; limit = lies.limit })
+
+  last-behind : (last : LastData) → LastFits p last → LastFits (started_at p start) last
+  last-behind datas.None fits = tt
+  last-behind (datas.Straight number offset len) fits = lies-behind number offset len fits
+  last-behind (datas.Blocks seg offset wide body) fits = fits
+  last-behind datas.Dropped fits = tt
+
+  whole-behind : IsWholeSoFar p → WholeModule (finished (started_at p start)) → IsWholeSoFar (started_at p start)
+  whole-behind w whole = record {
+    whole = whole;
+    pubs = w.pubs;
+    pieces = All-weaker _ (λ (q : Piece). LiesAt (started_at p start) q.seg q.offset (length q.bytes)) (λ q h. lies-behind q.seg q.offset (length q.bytes) h) p.module.pieces w.pieces;
+    fixes = All-weaker _ (λ (f : FixAt). LiesAt (started_at p start) f.seg f.offset (location_len f.loc)) (λ f h. lies-behind f.seg f.offset (location_len f.loc) h) p.module.fixes w.fixes;
+    data_limit = w.data_limit;
+    last = last-behind p.last w.last;
+    frames_set = w.frames_set;
+    goals_set = w.goals_set;
+    four = w.four;
+    split = w.split;
+  }
+
+record-behind : (p : ObjParts) (r : Record) → IsBegun p → GoodAfter p r → is_end r ≡ true → IsWholeSoFar (add p r)
+unfolding add
+record-behind p (modend kind start) begun good ends = whole-behind p (start_of p.threads start) (begun-whole p begun) (begun-ends p (modend kind start) begun good)
+record-behind p (header text) begun good ends = absurd cc
+record-behind p passed begun good ends = absurd cc
+record-behind p comment begun good ends = absurd cc
+record-behind p (default_library text) begun good ends = absurd cc
+record-behind p (impdef d) begun good ends = absurd cc
+record-behind p (expdef d) begun good ends = absurd cc
+record-behind p (lnames texts) begun good ends = absurd cc
+record-behind p (segdef d) begun good ends = absurd cc
+record-behind p (grpdef n members) begun good ends = absurd cc
+record-behind p (pubdef local g s f defs) begun good ends = absurd cc
+record-behind p (extdef local defs) begun good ends = absurd cc
+record-behind p (comdef defs) begun good ends = absurd cc
+record-behind p (ledata s o bs) begun good ends = absurd cc
+record-behind p (lidata w s o b) begun good ends = absurd cc
+record-behind p (comdat d) begun good ends = absurd cc
+record-behind p (fixupp fields) begun good ends = absurd cc
+
+pub whole-end : (p q : ObjParts) (c new : Cursor) (ty : ℕ) → AreBytes c.left → IsBegun p → Turn p c ty q new → ends_module ty ≡ true → IsWholeSoFar q
+whole-end p q c new ty bytes begun t ended =
+    let good = (record_sound p c t.value new bytes t.read).1 in
+    subst IsWholeSoFar t.adds (record-behind p t.value begun good (sym t.ends ∙ ended))
+
 -- ---- records that are passed over
 
 pub header-passed : (p : ObjParts) (rec : Rec) → (rec.ty ≡ 0x80) ⊎ (rec.ty ≡ 0x82) → read_after p rec ≡ Ok p
@@ -172,8 +239,8 @@ header-shorter c first bytes e =
     let long : length c.left ≡ length t.front + length first.1.left = ap (λ (xs : List ℕ). length xs) t.joined ∙ length-append t.front first.1.left in
     (omega (arith, long), bytes_behind _ c first.1 t bytes)
 
-abbrev finished : Reading ObjParts → Reading ObjModule
-finished r = r >>= λ q. Ok (q.0.module, q.1)
+abbrev finishing : Reading ObjParts → Reading ObjModule
+finishing r = r >>= λ q. Ok (finished q.0, q.1)
 
 abbrev begun : Reading Record → Reading ObjParts
 begun r = r >>= λ first. Ok (add fresh_parts first.0, first.1)
@@ -182,13 +249,13 @@ abbrev ended : Reading ObjParts → Reading ObjModule
 ended r = r >>= λ b. finished_at b.0 b.1
 
 abbrev from_first : ℕ → Reading Record → Reading ObjModule
-from_first most r = r >>= λ first. finished (rest_within most (add fresh_parts first.0) first.1)
+from_first most r = r >>= λ first. finishing (rest_within most (add fresh_parts first.0) first.1)
 
 by_first : (c : Cursor) (r : Reading Record) → AreBytes c.left → header_at c ≡ r → from_first (length c.left) r ≡ ended (begun r)
 unfolding finished_at
 by_first c (Ok first) bytes e =
     let s = header-shorter c first bytes e in
-    ap (λ (r : Reading ObjParts). finished r) (rest-more (length c.left) (add fresh_parts first.0) first.1 s.1 s.0)
+    ap (λ (r : Reading ObjParts). finishing r) (rest-more (length c.left) (add fresh_parts first.0) first.1 s.1 s.0)
 by_first c (Err refusal) bytes e = refl
 
 pub module-split : (c : Cursor) → AreBytes c.left → module_at c ≡ ended (begun_at c)
@@ -199,11 +266,14 @@ module-split c bytes = by_first c (header_at c) bytes refl
 
 pub finished-refused : (p : ObjParts) (c : Cursor) (refusal : OmfRefusal) → rest_at p c ≡ Err refusal → finished_at p c ≡ Err refusal
 unfolding finished_at
-finished-refused p c refusal e = ap (λ (r : Reading ObjParts). finished r) e
+finished-refused p c refusal e = ap (λ (r : Reading ObjParts). finishing r) e
 
-pub finished-so : (p q : ObjParts) (c d : Cursor) → rest_at p c ≡ Ok (q, d) → finished_at p c ≡ Ok (q.module, d)
+abbrev pub read_module : ObjModule → Cursor → Reading ObjModule
+read_module m c = Ok (m, c)
+
+pub finished-so : (p q : ObjParts) (c d : Cursor) → rest_at p c ≡ Ok (q, d) → finished_at p c ≡ Ok (finished q, d)
 unfolding finished_at
-finished-so p q c d e = ap (λ (r : Reading ObjParts). finished r) e
+finished-so p q c d e = ap (λ (r : Reading ObjParts). finishing r) e
 
 pub finished-fails : {A C : Type 0} (v : A → ObjParts) (w : C → ObjModule × Cursor) (fail : Fail OmfRefusal) (p0 p : ObjParts) (c0 c : Cursor) (rec : Rec) (new : Cursor) → rest_at p c ≡ rest_at p0 c0 → AreBytes c.left → StandsAt rec c new
     → Gives v if_said (Err fail) (read_after p rec) → Gives w if_said (Err fail) (finished_at p0 c0)

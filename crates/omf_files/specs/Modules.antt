@@ -9,6 +9,7 @@ use Rattle.lx_types.specs.Answers.{◌>>=◌}
 use Rattle.omf_fields.specs.Fields.{Reading, check}
 use Rattle.omf_frame.specs.declared.omf_record.Rec.{Rec}
 use Rattle.omf_model.specs.Add.{add}
+use Rattle.omf_model.specs.Finished.{finished}
 use Rattle.omf_model.specs.RawRecord.{raw_at, whole_at}
 use Rattle.omf_model.specs.ReadModule.{header_at, is_page_size, rest_at}
 use Rattle.obj_types.specs.declared.refusal.OmfRefusal.{OmfRefusal}
@@ -33,7 +34,7 @@ begun_at c = header_at c >>= λ first. Ok (add fresh_parts first.0, first.1)
 
 -- The module that the records end.
 unfoldable pub finished_at : ObjParts → Cursor → Reading ObjModule
-finished_at p c = rest_at p c >>= λ q. Ok (q.0.module, q.1)
+finished_at p c = rest_at p c >>= λ q. Ok (finished q.0, q.1)
 
 -- The page size that a library's header gives.
 unfoldable pub page_size_of : List ℕ → Result ℕ OmfRefusal

@@ -15,13 +15,14 @@ use crate::start::modend;
 use lx_bytes::Cur;
 use lx_types::{Fail, Name};
 use obj_types::{ObjModule, ObjParts, OmfRefusal};
+use omf_comdat::{comdat_marked, finished};
 use omf_data::{Marks, ledata_marked, lidata_marked};
 use omf_fields::Fields;
 use omf_fix::fixups_marked;
 use omf_frame::record_type::{
-    COMDEF, COMENT, EXTDEF, FIXUPP, FIXUPP_32, GRPDEF, LEDATA, LEDATA_32, LEXTDEF, LEXTDEF_32,
-    LHEADR, LIDATA, LIDATA_32, LINNUM, LINNUM_32, LNAMES, LPUBDEF, LPUBDEF_32, MODEND, MODEND_32,
-    PUBDEF, PUBDEF_32, SEGDEF, SEGDEF_32, THEADR,
+    COMDAT, COMDAT_32, COMDEF, COMENT, EXTDEF, FIXUPP, FIXUPP_32, GRPDEF, LEDATA, LEDATA_32,
+    LEXTDEF, LEXTDEF_32, LHEADR, LIDATA, LIDATA_32, LINNUM, LINNUM_32, LNAMES, LPUBDEF, LPUBDEF_32,
+    MODEND, MODEND_32, PUBDEF, PUBDEF_32, SEGDEF, SEGDEF_32, THEADR,
 };
 use omf_frame::{FrameRefusal, Rec, next_record};
 use omf_names::{comdef, coment, extdef, grpdef, names, pubdef, segdef};
@@ -76,6 +77,7 @@ fn add_record(
         LEDATA | LEDATA_32 => ledata_marked(alloc, rec, into, marks),
         LIDATA | LIDATA_32 => lidata_marked(alloc, rec, into, marks),
         COMDEF => comdef(alloc, rec, into),
+        COMDAT | COMDAT_32 => comdat_marked(alloc, rec, into, marks),
         _ => Err(Fail::Said(OmfRefusal::UnknownType {
             at: rec.at,
             ty: rec.ty,
@@ -123,7 +125,7 @@ fn finish(alloc: Global, cur: &mut Cur, begun: ObjParts) -> Result<ObjModule, Fa
         };
         add_record(alloc, &rec, &mut parts, &mut marks)?;
         if is_end(rec.ty) {
-            return Ok(parts.module);
+            return Ok(finished(alloc, parts)?);
         }
     }
     Err(Fail::Said(OmfRefusal::Short { at: cur.at() }))

@@ -1,5 +1,5 @@
 -- A fixup judged for its place, by what its location and its fixes are.
-use Rattle.std.proofs.Common.{◌≡◌, ℕ, ◌+◌, ◌≤◌, ◌<◌, Bool, true, false, leb, List, [], ◌∷◌, ◌++◌, length, Option, Some, None, Ok, Err, refl, sym, ap, subst, ◌∙◌, arith}
+use Rattle.std.proofs.Common.{◌≡◌, ℕ, ◌+◌, ◌≤◌, ◌<◌, Bool, true, false, leb, List, [], ◌∷◌, ◌++◌, length, Option, Some, None, Ok, Err, refl, sym, ap, subst, ◌∙◌, arith, inl, inr}
 use Rattle.std.specs.Prelude.{◌||◌, not, IsSomeAnd}
 use Rattle.std.specs.List.{list_any}
 use Rattle.std.proofs.lemmas.Bool.{le-leb, lt-leb}
@@ -11,7 +11,7 @@ use Rattle.obj_types.specs.declared.parts.LastData.TheVariants as datas
 use Rattle.obj_types.specs.declared.parts.ObjParts.{ObjParts}
 use Rattle.obj_types.specs.declared.object.Seg.{Seg}
 use Rattle.obj_types.specs.Items.{item}
-use Rattle.omf_model.specs.Begun.{LastFits, IsWholeSoFar}
+use Rattle.omf_model.specs.Begun.{LiesAt, LastFits, IsWholeSoFar}
 use Rattle.obj_types.specs.Location.{location_len, meets}
 use Rattle.omf_model.specs.AddLists.{HasFour}
 use Rattle.omf_model.specs.Record.{FixData, fixup, location_of, offset_of}
@@ -21,7 +21,7 @@ use Rattle.omf_model.specs.Add.{add_field}
 use Rattle.omf_model.proofs.PartsLaws.{no_threads}
 use Rattle.omf_fix.specs.declared.place.FixPlace.{FixPlace}
 use Rattle.omf_fix.specs.FixData.{meant}
-use Rattle.omf_fix.specs.Placed.{placed, fix_of}
+use Rattle.omf_fix.specs.Placed.{LiesUpTo, placed, fix_of}
 
 abbrev pub OnData : ObjParts → FixPlace → Bool
 OnData p place = has_data p.last (offset_of place.high place.low) (location_len (location_of place.high))
@@ -82,6 +82,10 @@ up-to : (start len offset : ℕ) (o : Option Seg) → offset ≤ len → IsSomeA
 up-to start len offset None low h = absurd h
 up-to start len offset (Some s) low h = omega (arith, h.1, low)
 
-pub straight-lies : (p : ObjParts) (seg start len offset : ℕ) → IsWholeSoFar p → p.last ≡ datas.Straight seg start len → offset ≤ len → (segs : List Seg) → segs ≡ p.module.segs → IsSomeAnd (item segs seg) (λ (s : Seg). start + offset ≤ s.len)
-straight-lies p seg start len offset whole e low segs same =
-    up-to start len offset (item segs seg) low (subst (λ (xs : List Seg). IsSomeAnd (item xs seg) (λ (s : Seg). (s.debug ≡ false) × (start + len ≤ s.len))) (sym same) (subst (LastFits p.module) e whole.last))
+pub straight-lies : (p : ObjParts) (seg start len offset : ℕ) → IsWholeSoFar p → p.last ≡ datas.Straight seg start len → offset ≤ len → LiesUpTo p.module.segs seg (start + offset)
+straight-lies p seg start len offset whole e low =
+    let fits : LiesAt p seg start len = subst (LastFits p) e whole.last in
+    elim fits [
+      | inl lies ↦ inl (lies.0, up-to start len offset (item p.module.segs seg) low lies.1)
+      | inr lies ↦ inr (lies.comdat.0, omega (arith, lies.limit, low))
+    ]

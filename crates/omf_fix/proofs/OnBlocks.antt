@@ -64,7 +64,7 @@ module _ (p : ObjParts) (place : FixPlace) (seg start : ℕ) (wide : Bool) (body
 
   pub blocks-lie : IsWholeSoFar p → (low : ℕ) (places : List ℕ) → places ≡ places_of low (origins wide 0 (blocks_in wide body)) → (segs : List Seg) → segs ≡ p.module.segs → IsSomeAnd (item segs seg) (λ (s : Seg). All (λ x. start + x ≤ s.len) places)
   blocks-lie whole low places are segs same =
-      fits (item segs seg) (subst (λ (xs : List Seg). IsSomeAnd (item xs seg) (λ (s : Seg). (s.debug ≡ false) × (start + expanded_len (blocks_in wide body) ≤ s.len))) (sym same) (subst (LastFits p.module) last whole.last))
+      fits (item segs seg) (subst (λ (xs : List Seg). IsSomeAnd (item xs seg) (λ (s : Seg). (s.debug ≡ false) × (start + expanded_len (blocks_in wide body) ≤ s.len))) (sym same) (let fits : LastFits p (datas.Blocks seg start wide body) = subst (LastFits p) last whole.last in fits.1))
     where
       own : List ℕ
       own = origins wide 0 (blocks_in wide body)

@@ -1,11 +1,15 @@
 -- What is done with a fixup whose fields are good: it is judged for its place, and adds its fixes.
-use Rattle.std.specs.Prelude.{ℕ, Result, Ok}
+use Rattle.std.specs.Prelude.{ℕ, ◌≤◌, ◌<◌, ◌⊎◌, List, IsSomeAnd, Result, Ok}
+use Rattle.obj_types.specs.declared.limits.TheConstants.{MAX_DATA}
 use Rattle.obj_types.specs.declared.refusal.OmfRefusal.{OmfRefusal}
+use Rattle.obj_types.specs.declared.object.Seg.{Seg}
 use Rattle.obj_types.specs.declared.object.FixAt.{FixAt}
 use Rattle.obj_types.specs.declared.object.StartAt.{StartAt}
 use Rattle.obj_types.specs.declared.parts.LastData.{LastData}
 use Rattle.obj_types.specs.declared.parts.LastData.TheVariants as datas
 use Rattle.obj_types.specs.declared.parts.ObjParts.{ObjParts}
+use Rattle.obj_types.specs.declared.parts.TheConstants.{COMDAT_BASE}
+use Rattle.obj_types.specs.Items.{item}
 use Rattle.lx_types.specs.Answers.{◌>>=◌}
 use Rattle.omf_model.specs.Record.{FixData, fixup, location_of, is_self_relative}
 use Rattle.omf_model.specs.ReadFixups.{FirstByte, judge_fixup}
@@ -29,6 +33,10 @@ fix_of seg offset high what = record {
   goal = what.goal;
   disp = what.disp;
 }
+
+-- Data up to an offset lies in the segment of a number. That of a COMDAT ends within the limit of a module's data.
+abbrev pub LiesUpTo : List Seg → ℕ → ℕ → Type 0
+LiesUpTo segs number past = ((number ≤ COMDAT_BASE) × IsSomeAnd (item segs number) (λ (s : Seg). past ≤ s.len)) ⊎ ((COMDAT_BASE < number) × (past ≤ MAX_DATA))
 
 -- An LIDATA record's data.
 abbrev pub IsBlocks : LastData → Type 0

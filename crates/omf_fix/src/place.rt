@@ -2,7 +2,7 @@
 
 ghost use Rattle.std.specs.Prelude.{◌≡◌, ◌+◌, true, false};
 ghost use Rattle.omf_data.specs.Marks.{HaveAll};
-ghost use Rattle.omf_fix.specs.Placed.{placed, fix_of};
+ghost use Rattle.omf_fix.specs.Placed.{LiesUpTo, placed, fix_of};
 ghost use Rattle.omf_fix.specs.FixData.{data_of};
 ghost use Rattle.omf_model.specs.Begun.{IsBegun};
 ghost use Rattle.omf_model.specs.Fixups.{is_location as location_there};
@@ -14,7 +14,9 @@ use crate::blocks::{add_blocks, in_segment};
 use crate::fix_data::{FixFields, meaning};
 use crate::location::{is_self_relative, location, offset};
 use lx_types::Fail;
-use obj_types::{FixAt, LastData, MAX_FIXES, ObjParts, OmfRefusal, StartAt, location_len};
+use obj_types::{
+    COMDAT_BASE, FixAt, LastData, MAX_FIXES, ObjParts, OmfRefusal, StartAt, location_len,
+};
 use omf_data::Marks;
 use std::alloc::Global;
 
@@ -42,7 +44,7 @@ pub fn fix_at(seg: u32, offset: u32, place: FixPlace, what: StartAt) -> FixAt
     }
 }
 
-/// The data of an LEDATA record: so many bytes from an offset of a segment on.
+/// The data of an LEDATA or a COMDAT record: so many bytes from an offset of a segment on.
 #[derive(Clone, Copy)]
 struct StraightData {
     seg: u32,
@@ -50,7 +52,19 @@ struct StraightData {
     len: u32,
 }
 
-/// Adds the fixup on the data of an LEDATA record.
+/// The offset in the segment of a place in the data of an LEDATA record or a COMDAT record, which lies in its segment.
+fn in_straight(before: &ObjParts, data: StraightData, place: u32) -> u32
+    requires { LiesUpTo before.now.module.segs «data».seg («data».start + place) }
+    ensures { result ≡ «data».start + place }
+{
+    if data.seg > COMDAT_BASE {
+        // The data of a COMDAT ends within the limit of a module's data.
+        return data.start + place;
+    }
+    in_segment(before.module.segs.as_slice(), data.seg, data.start, place)
+}
+
+/// Adds the fixup on the data of an LEDATA or a COMDAT record.
 fn add_straight(
     into: &mut ObjParts,
     marks: &Marks,
@@ -60,7 +74,7 @@ fn add_straight(
 ) -> Result<(), Fail<OmfRefusal>>
     requires begun { IsBegun into.old }
     requires location { location_there place.high ≡ true }
-    requires last { into.old.last ≡ Straight data.seg data.start data.len }
+    requires last { into.old.last ≡ Straight «data».seg «data».start «data».len }
     requires marks { HaveAll marks.now into.old }
     ensures { Gives (λ _. into.new) if_said result (placed into.old place (data_of d)) }
 {
@@ -70,7 +84,7 @@ fn add_straight(
     if offset + size > data.len {
         return Err(Fail::Said(OmfRefusal::NoData { at }));
     }
-    let segment_offset = in_segment(into.module.segs.as_slice(), data.seg, data.start, offset);
+    let segment_offset = in_straight(into, data, offset);
     let fix = fix_at(data.seg, segment_offset, place, meaning(d, into));
     if marks.is_on_fix(data.seg, segment_offset, size) {
         return Err(Fail::Said(OmfRefusal::FixOverlap { at }));

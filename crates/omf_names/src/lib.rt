@@ -15,7 +15,7 @@ pub use comments::coment;
 pub use communals::comdef;
 pub use externals::extdef;
 pub use group::grpdef;
-pub use indices::{is_debug_segment, plain_segment};
+pub use indices::{is_debug_segment, plain_segment, text};
 pub use lnames::names;
 pub use publics::pubdef;
 pub use segment::segdef;

@@ -14,7 +14,7 @@ pub struct Outline<'a> {
     names: Vec<&'a [u8]>,
     /// The names of its segments.
     pub segments: Vec<&'a [u8]>,
-    /// Its public names and those of its imports.
+    /// Its public names, those of COMDATs among them, and those of its imports.
     pub defined: Vec<&'a [u8]>,
     /// Names with storage of their own (COMDEF).
     pub common: Vec<&'a [u8]>,
@@ -119,6 +119,18 @@ impl<'a> Outline<'a> {
         Ok(())
     }
 
+    // COMDAT, which defines its name where it is not local.
+    fn add_comdat(&mut self, record: &Record<'a>) -> Result<(), AllocError> {
+        let named = comdat_name(record).and_then(|index| {
+            let place = index.checked_sub(1)?;
+            self.names.get(place).copied()
+        });
+        if let Some(text) = named {
+            self.defined.push(text)?;
+        }
+        Ok(())
+    }
+
     // COMENT, of which IMPDEF defines a name.
     fn add_comment(&mut self, body: &'a [u8]) -> Result<(), AllocError> {
         if let Some((text, module)) = import_of(body) {
@@ -142,6 +154,7 @@ impl<'a> Outline<'a> {
             0x96 => self.add_names(record.body),
             0x98 | 0x99 => self.add_segment(record),
             0xB0 => self.add_communals(record.body),
+            0xC2 | 0xC3 => self.add_comdat(record),
             _ => Ok(()),
         }
     }
@@ -172,6 +185,26 @@ fn public<'a>(fields: &mut Cur<'a>, is_wide: bool) -> Option<&'a [u8]> {
     number(fields, is_wide)?;
     index(fields)?;
     Some(text)
+}
+
+// The index of the name of a COMDAT that begins here and is not local.
+fn comdat_name(record: &Record<'_>) -> Option<usize> {
+    let mut fields = Cur::of(record.body);
+    let flags = fields.u8().ok()?;
+    let attributes = fields.u8().ok()?;
+    let _align = fields.u8().ok()?;
+    number(&mut fields, record.kind == 0xC3)?;
+    let _type = index(&mut fields)?;
+    // The group and the segment of an explicit allocation.
+    if attributes % 16 == 0 {
+        index(&mut fields)?;
+        index(&mut fields)?;
+    }
+    let name = index(&mut fields)?;
+    if flags % 2 == 1 || flags / 4 % 2 == 1 {
+        return None;
+    }
+    Some(name)
 }
 
 // Passes over a length of COMDEF.

@@ -3,7 +3,7 @@ use Rattle.std.proofs.lemmas.List.{nil_from_length}
 use Rattle.std.proofs.lemmas.Result.{err_from_is_err_and}
 use Rattle.obj_types.specs.declared.object.ObjModule.{ObjModule}
 use Rattle.obj_types.specs.declared.refusal.OmfRefusal.TheVariants.{Short}
-use Rattle.omf_files.proofs.RecordRead.{turn, begun-next, rest-so, rest-ends, no-record, none-left, finished-refused, finished-so, finished-fails}
+use Rattle.omf_files.proofs.RecordRead.{turn, begun-next, rest-so, rest-ends, whole-end, read_module, no-record, none-left, finished-refused, finished-so, finished-fails}
 use Rattle.omf_files.proofs.objects.finish.Goals as goal
 
 pub returns-in-Err-clause-read : goal.returns-in-Err-clause-read
@@ -18,11 +18,17 @@ returns-in_err-add_record-clause-read c =
     (finished-fails (λ (u : Unit {0}). c.records.parts) (λ (m : ObjModule). (m, c.records.cur)) c.in_err-add_record.field-0.0 c.args.begun c.records.parts c.args.cur.now c.records.cur c.in-Ok.rec c.record.new.cur
     c.records.invariant.read c.left.ensures.bytes c.in-Ok.ensures.read c.in_err-add_record.ensures.read)
 
+pub finished-requires : goal.finished-requires
+finished-requires c =
+    let t = turn c.records.parts c.add_record.new.into c.in-Ok.rec c.records.cur c.record.new.cur c.left.ensures.bytes c.in-Ok.ensures.read c.in_ok-add_record.ensures.read in
+    whole-end c.records.parts c.add_record.new.into c.records.cur c.record.new.cur c.in-Ok.rec.ty c.left.ensures.bytes c.records.invariant.begun t (sym c.is_end.ensures ∙ c.if-is_end.true)
+
 pub returns-then-is_end-clause-read : goal.returns-then-is_end-clause-read
 returns-then-is_end-clause-read c =
     let t = turn c.records.parts c.add_record.new.into c.in-Ok.rec c.records.cur c.record.new.cur c.left.ensures.bytes c.in-Ok.ensures.read c.in_ok-add_record.ensures.read in
     finished-so c.args.begun c.add_record.new.into c.args.cur.now c.record.new.cur
     (sym c.records.invariant.read ∙ rest-ends c.records.parts c.add_record.new.into c.records.cur c.record.new.cur c.in-Ok.rec.ty c.left.ensures.bytes t (sym c.is_end.ensures ∙ c.if-is_end.true))
+    ∙ ap (λ (m : ObjModule). read_module m c.record.new.cur) (sym c.in_ok-finished.ensures)
 
 pub records-preserved : goal.records-preserved
 records-preserved c =

@@ -5,7 +5,7 @@ use Rattle.omf_fix.proofs.Fields.{fixup-refused, fixup-dropped, fixup-kept, give
 use Rattle.omf_fix.proofs.field.fixup.Goals as goal
 
 pub see-requires-clause-limit : goal.see-requires-clause-limit
-see-requires-clause-limit c = (begun-whole c.args.into.now c.requires.begun).whole.data_limit
+see-requires-clause-limit c = (begun-whole c.args.into.now c.requires.begun).data_limit
 
 pub returns-in-Err-clause-added : goal.returns-in-Err-clause-added
 returns-in-Err-clause-added c = fixup-refused c.args.start.fixupp.wide c.args.into.now (first_at c.args.start) c.args.fields.now _ c.in-Err.ensures
