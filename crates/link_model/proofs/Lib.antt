@@ -26,3 +26,5 @@ pub mod PiecesStay
 pub mod RecordsStay
 pub mod ExportsStay
 pub mod NamesAtOffsets
+pub mod KeptWhole
+pub mod AllKept

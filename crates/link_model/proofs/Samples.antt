@@ -34,7 +34,7 @@ abbrev pub with_segs : List Seg → ObjModule
 with_segs segs = record empty_module { segs = segs }
 
 abbrev pub linked : DefFile → List ObjModule → Link
-linked def modules = record { modules = modules; def = def; stem = codes "S" }
+linked def modules = record { modules = modules; def = def; stem = codes "S"; clash = None }
 
 -- A world of these bases in which imports lead to 10000h.
 abbrev pub at_bases : List ℕ → World

@@ -2,6 +2,10 @@ pub mod Words
 pub mod Appearance
 pub mod Numbers
 pub mod Choosing
+pub mod Kept
+pub mod Clash
+pub mod KeptLaws
+pub mod ComdatWorked
 pub mod Link
 pub mod Symbols
 pub mod SymbolRefusals

@@ -2,6 +2,7 @@
 ghost use Rattle.link_model.specs.Appearance.{NamesAppear};
 ghost use Rattle.link_model.specs.ChosenOnce.{ChosenOnce};
 ghost use Rattle.link_model.specs.Fixing.{LiveApart, PatchesStand};
+ghost use Rattle.link_model.specs.KeptLaws.{KeptIsWhole, AllIsKept, NoneClash};
 ghost use Rattle.link_model.specs.Numbers.{LinkNumbers};
 ghost use Rattle.link_model.specs.ImportTables.{NamesAtOffsets};
 ghost use Rattle.link_model.specs.NothingDropped.{ChosenAreWhole, CommunalsStand, ExportsStay, ExternalsMean, FixupsStay, LiveFixupsMean, PiecesStay, RecordsStay, SegmentsStand, ValuesFit};
@@ -91,4 +92,15 @@ pub fn no_export_is_dropped()
 /// In the table of procedure names of a written module, each name stands at its offset.
 pub fn names_stand_at_their_offsets()
     ensures { NamesAtOffsets }
+{}
+
+/// What is kept of a whole input is whole.
+pub fn what_is_kept_is_whole()
+    ensures { KeptIsWhole }
+{}
+
+/// Of an input without COMDATs all is kept, and none of it clashes.
+pub fn without_comdats_all_is_kept()
+    ensures kept { AllIsKept }
+    ensures clash { NoneClash }
 {}

@@ -6,6 +6,7 @@
 #![tactic(auto)]
 
 mod choosing;
+mod comdats;
 mod keys;
 mod laws;
 mod limits;
@@ -15,6 +16,7 @@ mod symbols;
 mod values;
 
 pub use choosing::choose;
+pub use comdats::{comdats_clash_by_selection, the_first_comdat_stays};
 pub use keys::{ObjectKey, Origin, SegmentKey};
 pub use laws::{
     chosen_modules_are_whole, externals_have_meanings, link_numbers_are_the_formats,
@@ -22,10 +24,11 @@ pub use laws::{
     names_stand_at_their_offsets, no_data_is_dropped, no_export_is_dropped, no_fixup_is_dropped,
     no_record_is_dropped, one_segment_links_plainly, patches_stand_at_all_bases,
     segments_stand_in_objects, tables_grow_by_new_keys, values_fit_their_locations,
+    what_is_kept_is_whole, without_comdats_all_is_kept,
 };
 pub use limits::{MAX_MEMORY, MAX_NARROW_OBJECT, MAX_NUMBER, MAX_OBJECTS};
-pub use modules::{modules_at, number};
+pub use modules::{module_at, modules_at, number};
 pub use obj_types::{Bytes, EntryKey, Fail, Name, NoMemory, Seq};
-pub use refusals::{EntryRefusal, FixRefusal, LayRefusal, LinkRefusal, SymRefusal};
+pub use refusals::{ComdatRefusal, EntryRefusal, FixRefusal, LayRefusal, LinkRefusal, SymRefusal};
 pub use symbols::{LaidObject, Pick, SymDef};
 pub use values::{alignment_len, data_byte, distance, object_flags};

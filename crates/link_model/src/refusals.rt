@@ -14,6 +14,14 @@ pub enum SymRefusal {
     ImportsMany { count: u32 },
 }
 
+/// Why the COMDATs of a link are not one for each name. Modules count from 1.
+#[derive(Debug, PartialEq, Drop, Error)]
+pub enum ComdatRefusal {
+    /// That of `second` may not stand for that of `first`, which stays.
+    #[error("modules {first} and {second} have a COMDAT of one name")]
+    Clash { name: Name, first: u32, second: u32 },
+}
+
 /// Why the segments of a link have no layout.
 #[derive(Debug, PartialEq, Drop, Error)]
 pub enum LayRefusal {
@@ -54,6 +62,8 @@ pub enum EntryRefusal {
 pub enum LinkRefusal {
     #[error("{0}")]
     Sym(SymRefusal),
+    #[error("{0}")]
+    Comdat(ComdatRefusal),
     #[error("{0}")]
     Lay(LayRefusal),
     #[error("{0}")]

@@ -46,6 +46,7 @@ forwarder = record {
     imports = import (codes "_main") (codes "LIB") (keys.Named (codes "foo")) ∷ [];
   };
   stem = codes "O";
+  clash = None;
 }
 
 abbrev pub forwarder_bytes : List ℕ

@@ -43,6 +43,7 @@ iterated_page = record {
     imports = import (codes "a%b") (codes "Lib") (keys.Named (codes "a%b")) ∷ [];
   };
   stem = codes "O";
+  clash = None;
 }
 
 abbrev pub iterated_page_bytes : List ℕ

@@ -15,6 +15,7 @@ one_object = record {
   modules = one_segment (codes "a") (replicate 8 0) (4 ∷ []) ∷ [];
   def = record (default_def Library None) { name = Some (codes "D") };
   stem = codes "D";
+  clash = None;
 }
 
 abbrev doublewords : List ℕ → List ℕ

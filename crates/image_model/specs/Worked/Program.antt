@@ -1,5 +1,5 @@
 -- A worked program: its own stack behind an object of zeros, and an entry behind eight ordinals that nothing uses.
-use Rattle.std.specs.Prelude.{◌≡◌, ℕ, List, [], ◌∷◌, Some, true, false, codes}
+use Rattle.std.specs.Prelude.{◌≡◌, ℕ, List, [], ◌∷◌, Some, None, true, false, codes}
 use Rattle.obj_types.specs.declared.object.ObjModule.{ObjModule}
 use Rattle.obj_types.specs.declared.definition.ModKind.TheVariants.{Program}
 use Rattle.obj_types.specs.Fresh.{empty_module}
@@ -28,6 +28,7 @@ program = record {
   modules = object_module ∷ [];
   def = record (default_def Program (Some 0x07C60000)) { name = Some (codes "x"); stack = 100 };
   stem = codes "O";
+  clash = None;
 }
 
 abbrev pub program_bytes : List ℕ

@@ -26,6 +26,7 @@ straddling = record {
   } ∷ [];
   def = default_def Library None;
   stem = codes "S";
+  clash = None;
 }
 
 abbrev doublewords : List ℕ → List ℕ
