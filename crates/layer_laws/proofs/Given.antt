@@ -8,10 +8,11 @@ use Rattle.obj_types.specs.Definition.{WholeDef}
 use Rattle.obj_types.specs.declared.object.ObjModule.{ObjModule}
 use Rattle.obj_types.specs.declared.input.LinkInput.{LinkInput}
 use Rattle.link_model.specs.declared.symbols.Pick.{Pick}
-use Rattle.link_model.specs.declared.refusals.LinkRefusal.TheVariants.{Sym, Lay, Fixing, Entry}
+use Rattle.link_model.specs.declared.refusals.LinkRefusal.TheVariants.{Sym, Comdat, Lay, Fixing, Entry}
 use Rattle.link_model.specs.Words.{first_of}
 use Rattle.link_model.specs.Choosing.{module_of, modules_of}
-use Rattle.link_model.specs.Link.{Link, link_of}
+use Rattle.link_model.specs.Kept.{Kept}
+use Rattle.link_model.specs.Link.{Link, kept_link}
 use Rattle.link_model.specs.SymbolRefusals.{sym_refusal}
 use Rattle.link_model.specs.LayoutRefusals.{lay_refusal}
 use Rattle.link_model.specs.Exports.{entry_refusal}
@@ -20,8 +21,10 @@ use Rattle.link_model.specs.NothingDropped.{WholeLink}
 use Rattle.link_model.proofs.Members.{all_in, in_at}
 use Rattle.link_model.proofs.ExternalsMean.{neither, not_mapped}
 use Rattle.link_model.proofs.ExportsStay.{chosen_are_whole}
+use Rattle.link_model.proofs.KeptWhole.{kept_is_whole}
 use Rattle.layer_laws.specs.Ranges.{ModuleInRange, DefInRange, InputInRange}
 use Rattle.layer_laws.specs.LinkedImages.{Links}
+use Rattle.layer_laws.proofs.KeptInputs.{kept_in_range}
 
 -- The link's modules and definitions are whole and have the numbers of their types, and it is not refused.
 pub record Given (l : Link) : Type 0 where
@@ -55,6 +58,7 @@ picks_in_range input (pick ∷ picks) range =
 
 record NoRefusal (l : Link) : Type 0 where
   sym_none : sym_refusal l ≡ None
+  clash_none : l.clash ≡ None
   lay_none : lay_refusal l ≡ None
   place_none : place_refusal l ≡ None
   entry_none : entry_refusal l ≡ None
@@ -62,27 +66,30 @@ record NoRefusal (l : Link) : Type 0 where
 none_of : (l : Link) → link_refusal l ≡ None → NoRefusal l
 unfolding link_refusal
 none_of l e =
-    let first = neither (option_map Sym (sym_refusal l)) (first_of (option_map Lay (lay_refusal l) ∷ option_map Fixing (place_refusal l) ∷ option_map Entry (entry_refusal l) ∷ [])) e in
-    let second = neither (option_map Lay (lay_refusal l)) (first_of (option_map Fixing (place_refusal l) ∷ option_map Entry (entry_refusal l) ∷ [])) first.1 in
-    let third = neither (option_map Fixing (place_refusal l)) (first_of (option_map Entry (entry_refusal l) ∷ [])) second.1 in
-    let fourth = neither (option_map Entry (entry_refusal l)) (first_of []) third.1 in
+    let first = neither (option_map Sym (sym_refusal l)) (first_of (option_map Comdat l.clash ∷ option_map Lay (lay_refusal l) ∷ option_map Fixing (place_refusal l) ∷ option_map Entry (entry_refusal l) ∷ [])) e in
+    let second = neither (option_map Comdat l.clash) (first_of (option_map Lay (lay_refusal l) ∷ option_map Fixing (place_refusal l) ∷ option_map Entry (entry_refusal l) ∷ [])) first.1 in
+    let third = neither (option_map Lay (lay_refusal l)) (first_of (option_map Fixing (place_refusal l) ∷ option_map Entry (entry_refusal l) ∷ [])) second.1 in
+    let fourth = neither (option_map Fixing (place_refusal l)) (first_of (option_map Entry (entry_refusal l) ∷ [])) third.1 in
+    let fifth = neither (option_map Entry (entry_refusal l)) (first_of []) fourth.1 in
     record {
       sym_none = not_mapped Sym (sym_refusal l) first.0;
-      lay_none = not_mapped Lay (lay_refusal l) second.0;
-      place_none = not_mapped Fixing (place_refusal l) third.0;
-      entry_none = not_mapped Entry (entry_refusal l) fourth.0;
+      clash_none = not_mapped Comdat l.clash second.0;
+      lay_none = not_mapped Lay (lay_refusal l) third.0;
+      place_none = not_mapped Fixing (place_refusal l) fourth.0;
+      entry_none = not_mapped Entry (entry_refusal l) fifth.0;
     }
 
 -- ---- the link
 
-given_by : (input : LinkInput) (picks : List Pick) → (links : Links input (link_of input picks)) → Given (link_of input picks)
+given_by : (input : LinkInput) (picks : List Pick) → (links : Links input (kept_link input picks)) → Given (kept_link input picks)
+unfolding Kept
 given_by input picks links =
-    let none = none_of (link_of input picks) links.accepted in
+    let none = none_of (kept_link input picks) links.accepted in
     record {
-      whole = chosen_are_whole input picks links.whole;
+      whole = chosen_are_whole (Kept input) picks (kept_is_whole input links.whole);
       def = links.whole.def;
       stem = links.whole.stem;
-      modules_range = picks_in_range input picks links.range;
+      modules_range = picks_in_range (Kept input) picks (kept_in_range input links.range);
       def_range = links.range.def;
       stem_range = links.range.stem;
       sym_none = none.sym_none;

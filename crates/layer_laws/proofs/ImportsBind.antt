@@ -17,12 +17,15 @@ use Rattle.obj_types.specs.declared.object.ObjModule.{ObjModule}
 use Rattle.obj_types.specs.declared.symbol.Exp.{Exp}
 use Rattle.obj_types.specs.declared.symbol.Ext.{Ext}
 use Rattle.obj_types.specs.declared.symbol.Imp.{Imp}
+use Rattle.link_model.specs.declared.refusals.ComdatRefusal.{ComdatRefusal}
 use Rattle.link_model.specs.declared.symbols.Pick.{Pick}
 use Rattle.link_model.specs.declared.symbols.SymDef.{SymDef}
 use Rattle.link_model.specs.declared.symbols.SymDef.TheVariants as means
 use Rattle.link_model.specs.Appearance.{place_by}
 use Rattle.link_model.specs.Choosing.{wanted, next_pick, modules_of}
-use Rattle.link_model.specs.Link.{Link, link_of, externals}
+use Rattle.link_model.specs.Clash.{comdat_refusal}
+use Rattle.link_model.specs.Kept.{Kept}
+use Rattle.link_model.specs.Link.{Link, externals}
 use Rattle.link_model.specs.Symbols.{Imported, Definition, definitions, definition_of, import_key, same_import, same_entry, pair_of, imports, commons, by_definition, global, local_meaning, Sym}
 use Rattle.link_model.proofs.Members.{In, in_map, in_filter, in_flat_map, in_contained, any_in, position_is, from_map, from_flat_map, from_numbered, in_at, found_as}
 use Rattle.link_model.proofs.Tables.{any-firsts}
@@ -33,15 +36,16 @@ use Rattle.link_core.proofs.FewImports.{in-filter_map}
 use Rattle.layer_laws.specs.ImportLaws.{OnlyImported, Binds, ImportsBind}
 use Rattle.layer_laws.proofs.ForwardersNamed.{uppercase-twice}
 use Rattle.layer_laws.proofs.ImportsDefined.{contained}
-use Rattle.layer_laws.proofs.NamesBound.{Definer, name-defined}
+use Rattle.layer_laws.proofs.KeptInputs.{only-kept}
+use Rattle.layer_laws.proofs.NamesBound.{Definer, link_with, name-defined}
 
 -- ---- an external is wanted
 
 not_local : (b : Bool) → b ≡ false → not b ≡ true
 not_local b e = ap not e
 
-external_wanted : (input : LinkInput) (picks : List Pick) (n : ℕ) (e : Ext) → In (n, e) (externals (link_of input picks)) → e.local ≡ false → In e.name (flat_map wanted (modules_of input picks))
-external_wanted input picks n e i shared =
+external_wanted : (input : LinkInput) (picks : List Pick) (clash : Option ComdatRefusal) (n : ℕ) (e : Ext) → In (n, e) (externals (link_with input picks clash)) → e.local ≡ false → In e.name (flat_map wanted (modules_of input picks))
+external_wanted input picks clash n e i shared =
     let modules = modules_of input picks in
     let r = from_flat_map (λ (q : ℕ × ObjModule). map (λ (e : Ext). (q.0, e)) q.1.exts) (enumerate_from 1 modules) i in
     let own = from_map (λ (e : Ext). (r.item.0, e)) r.item.1.exts r.gives in
@@ -123,14 +127,14 @@ bound_by l d stem name n e shared same definer =
       of = record { «module» = sym s.from ∙ uppercase-twice (name_or d.name stem); entry = sym s.entry };
     }
 
-by_picks : (input : LinkInput) (picks : List Pick) → next_pick input picks ≡ None → (d : DefFile) (stem : List ℕ) (x : Exp) → In x d.exports → OnlyImported input d stem x.name → (n : ℕ) (e : Ext) → In (n, e) (externals (link_of input picks)) → e.local ≡ false → e.name ≡ x.name → Binds (link_of input picks) d stem x.name (Sym (link_of input picks) n e)
-by_picks input picks ends d stem x i only n e j shared same =
-    let asked = subst (λ (name : List ℕ). In name (flat_map wanted (modules_of input picks))) same (external_wanted input picks n e j shared) in
-    bound_by (link_of input picks) d stem x.name n e shared same (name-defined input picks ends d stem x i only asked)
+by_picks : (input : LinkInput) (picks : List Pick) (clash : Option ComdatRefusal) → next_pick input picks ≡ None → (d : DefFile) (stem : List ℕ) (x : Exp) → In x d.exports → OnlyImported input d stem x.name → (n : ℕ) (e : Ext) → In (n, e) (externals (link_with input picks clash)) → e.local ≡ false → e.name ≡ x.name → Binds (link_with input picks clash) d stem x.name (Sym (link_with input picks clash) n e)
+by_picks input picks clash ends d stem x i only n e j shared same =
+    let asked = subst (λ (name : List ℕ). In name (flat_map wanted (modules_of input picks))) same (external_wanted input picks clash n e j shared) in
+    bound_by (link_with input picks clash) d stem x.name n e shared same (name-defined input picks clash ends d stem x i only asked)
 
 pub imports_bind : ImportsBind
 imports_bind input l links d stem x i only n e j shared same =
     let picks = links.of_input.picks in
     let is = links.of_input.same in
     subst (λ (k : Link). Binds k d stem x.name (Sym k n e)) (sym is)
-    (by_picks input picks links.of_input.chosen.ends d stem x (in_contained d.exports x i) only n e (subst (λ (k : Link). In (n, e) (externals k)) is (in_contained (externals l) (n, e) j)) shared same)
+    (by_picks (Kept input) picks (comdat_refusal input picks) links.of_input.chosen.ends d stem x (in_contained d.exports x i) (only-kept input d stem x.name only) n e (subst (λ (k : Link). In (n, e) (externals k)) is (in_contained (externals l) (n, e) j)) shared same)

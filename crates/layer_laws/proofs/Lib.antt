@@ -1,4 +1,5 @@
 pub mod Lists
+pub mod KeptInputs
 pub mod Given
 pub mod Sizes
 pub mod Objects

@@ -1,5 +1,5 @@
 -- A name that only an import library defines means an import pair of that library.
-use Rattle.std.specs.Prelude.{◌≡◌, ◌≢◌, ℕ, ◌&&◌, ◌||◌, Bool, true, false, not, List, [], ◌∷◌, Some, None, map, filter, bytes_eq, Contains, refl}
+use Rattle.std.specs.Prelude.{◌≡◌, ◌≢◌, ℕ, ◌&&◌, ◌||◌, Bool, true, false, not, List, [], ◌∷◌, Option, Some, None, map, filter, bytes_eq, Contains, refl}
 use Rattle.std.specs.List.{list_any, flat_map, enumerate_from}
 use Rattle.std.proofs.Common.{ap, sym, ◌∙◌, subst, true≢false, inl, inr}
 use Rattle.std.proofs.lemmas.Slice.Eq.{bytes_eq-Decides}
@@ -9,6 +9,7 @@ use Rattle.obj_types.specs.declared.object.ObjModule.{ObjModule}
 use Rattle.obj_types.specs.declared.symbol.Exp.{Exp}
 use Rattle.obj_types.specs.declared.symbol.Imp.{Imp}
 use Rattle.obj_types.specs.declared.symbol.Pub.{Pub}
+use Rattle.link_model.specs.declared.refusals.ComdatRefusal.{ComdatRefusal}
 use Rattle.link_model.specs.declared.symbols.Pick.{Pick}
 use Rattle.link_model.specs.Choosing.{wanted, defines, next_pick, modules_of}
 use Rattle.link_model.specs.Link.{Link, link_of}
@@ -19,6 +20,10 @@ use Rattle.implib_core.specs.Imports.{name_or, import_for, imports_in, objects_o
 use Rattle.layer_laws.specs.ImportLaws.{OnlyImported}
 use Rattle.layer_laws.proofs.Apart.{each-kept}
 use Rattle.layer_laws.proofs.ImportsDefined.{Gives, wanted-is-defined, chosen-gives, placed}
+
+-- The link of these modules, whatever clashes.
+abbrev pub link_with : LinkInput → List Pick → Option ComdatRefusal → Link
+link_with input picks clash = record (link_of input picks) { clash = clash }
 
 -- ---- the definition of the name
 
@@ -75,8 +80,8 @@ by_module d stem name n m df gives i =
 numbered_inside : {X : Type 0} (xs : List X) {q : ℕ × X} → In q (enumerate_from 1 xs) → In q.1 xs
 numbered_inside xs {q} i = let r = from_numbered 1 xs i in in_at xs r.place q.1 r.is
 
-each_definition : (input : LinkInput) (picks : List Pick) (d : DefFile) (stem name : List ℕ) → OnlyImported input d stem name → (df : Definition) → In df (definitions (link_of input picks)) → df.name ≡ name → Defined d stem name df.meaning
-each_definition input picks d stem name only df i same =
+each_definition : (input : LinkInput) (picks : List Pick) (clash : Option ComdatRefusal) (d : DefFile) (stem name : List ℕ) → OnlyImported input d stem name → (df : Definition) → In df (definitions (link_with input picks clash)) → df.name ≡ name → Defined d stem name df.meaning
+each_definition input picks clash d stem name only df i same =
     elim (in_either (flat_map (λ q. definitions_in q.0 q.1) (enumerate_from 1 (modules_of input picks))) (map (of_import 0) input.def.imports) i) as (λ s. Defined d stem name df.meaning) [
       | inl j ↦
           let r = from_flat_map (λ (q : ℕ × ObjModule). definitions_in q.0 q.1) (enumerate_from 1 (modules_of input picks)) j in
@@ -106,8 +111,8 @@ pub record Definer (l : Link) (d : DefFile) (stem name : List ℕ) : Type 0 wher
   pub is : definition_of l name ≡ Some definition
   pub of : Defined d stem name definition.meaning
 
-gives_definition : (input : LinkInput) (picks : List Pick) (d : DefFile) (stem name : List ℕ) (m : ObjModule) → In m (modules_of input picks) → Gives d stem name m → list_any (λ d. bytes_eq d.name name) (definitions (link_of input picks)) ≡ true
-gives_definition input picks d stem name m i gives =
+gives_definition : (input : LinkInput) (picks : List Pick) (clash : Option ComdatRefusal) (d : DefFile) (stem name : List ℕ) (m : ObjModule) → In m (modules_of input picks) → Gives d stem name m → list_any (λ d. bytes_eq d.name name) (definitions (link_with input picks clash)) ≡ true
+gives_definition input picks clash d stem name m i gives =
     let modules = modules_of input picks in
     let p = placed 1 modules i in
     let x = import_meant (import_for (name_or d.name stem) gives.export) in
@@ -115,17 +120,17 @@ gives_definition input picks d stem name m i gives =
     let inside = in_left (map (of_import 0) input.def.imports) (in_flat_map (λ (q : ℕ × ObjModule). definitions_in q.0 q.1) p.inside own) in
     any_in (λ (d : Definition). bytes_eq d.name name) inside (same_name gives.export.name name gives.named)
 
-definer_by : (input : LinkInput) (picks : List Pick) (d : DefFile) (stem name : List ℕ) → OnlyImported input d stem name → list_any (λ d. bytes_eq d.name name) (definitions (link_of input picks)) ≡ true → Definer (link_of input picks) d stem name
+definer_by : (input : LinkInput) (picks : List Pick) (clash : Option ComdatRefusal) (d : DefFile) (stem name : List ℕ) → OnlyImported input d stem name → list_any (λ d. bytes_eq d.name name) (definitions (link_with input picks clash)) ≡ true → Definer (link_with input picks clash) d stem name
 unfolding definition_of
-definer_by input picks d stem name only any =
-    let l = link_of input picks in
+definer_by input picks clash d stem name only any =
+    let l = link_with input picks clash in
     let f = finds (λ (d : Definition). bytes_eq d.name name) (definitions l) any in
     let shown = found_as (λ (d : Definition). bytes_eq d.name name) (definitions l) f.item f.is in
-    record { definition = f.item; is = f.is; of = each_definition input picks d stem name only f.item shown.inside ((bytes_eq-Decides f.item.name name).0 shown.passes) }
+    record { definition = f.item; is = f.is; of = each_definition input picks clash d stem name only f.item shown.inside ((bytes_eq-Decides f.item.name name).0 shown.passes) }
 
 -- A name that the chosen modules want has a definition: that of the import library.
-pub name-defined : (input : LinkInput) (picks : List Pick) → next_pick input picks ≡ None → (d : DefFile) (stem : List ℕ) (x : Exp) → In x d.exports → OnlyImported input d stem x.name → In x.name (flat_map wanted (modules_of input picks)) → Definer (link_of input picks) d stem x.name
-name-defined input picks ends d stem x i only asked =
+pub name-defined : (input : LinkInput) (picks : List Pick) (clash : Option ComdatRefusal) → next_pick input picks ≡ None → (d : DefFile) (stem : List ℕ) (x : Exp) → In x d.exports → OnlyImported input d stem x.name → In x.name (flat_map wanted (modules_of input picks)) → Definer (link_with input picks clash) d stem x.name
+name-defined input picks clash ends d stem x i only asked =
     let item = import_for (name_or d.name stem) x in
     let listed : In (import_object item) (objects_of (imports_in d stem)) = in_map import_object (in_map (import_for (name_or d.name stem)) i) in
     let inside = in_contained input.libs (import_object item) (all_in (Contains input.libs) (objects_of (imports_in d stem)) only.there listed) in
@@ -134,4 +139,4 @@ name-defined input picks ends d stem x i only asked =
     let none = no_items input.def.imports x.name (λ j k. all_in (λ (i : Imp). i.name ≢ x.name) input.def.imports only.items k) in
     let some = first_true (list_any (λ m. defines m x.name) (modules_of input picks)) (list_any (λ i. bytes_eq i.name x.name) input.def.imports) all none in
     let f = found (λ (m : ObjModule). defines m x.name) (modules_of input picks) some in
-    definer_by input picks d stem x.name only (gives_definition input picks d stem x.name f.item f.inside (chosen-gives input picks d stem x.name only f.item f.inside f.passes))
+    definer_by input picks clash d stem x.name only (gives_definition input picks clash d stem x.name f.item f.inside (chosen-gives input picks d stem x.name only f.item f.inside f.passes))

@@ -9,6 +9,7 @@ use Rattle.obj_types.specs.declared.definition.ModKind.TheVariants.{Library}
 use Rattle.obj_types.specs.declared.symbol.Exp.{Exp}
 use Rattle.obj_types.specs.declared.symbol.Imp.{Imp}
 use Rattle.obj_types.specs.declared.object.ObjModule.{ObjModule}
+use Rattle.link_model.specs.Kept.{Kept}
 use Rattle.link_model.specs.Link.{Link, exports}
 use Rattle.link_model.specs.Exports.{Export, Out, ordinal_at, ordinals, asked_ordinals}
 use Rattle.link_model.proofs.Members.{In, here, there, in_right, in_contained}
@@ -122,6 +123,7 @@ by_pair l lib m loaded kind is lt x pair i of out held same =
     ∙ pair-entry l lib m loaded.known (entries-are-out l lib m loaded) x out i held same
 
 pub pairs_reach : PairsReach
+unfolding Kept
 pairs_reach input l links short kind lib m is lt holds x pair i of out held same =
     let fits = images_fit input l links short in
     let loaded : Loaded l lib m = record { known = given input l links; fits = fits; is = holds ∙ parts_read (image_of l) fits } in

@@ -9,15 +9,20 @@ use Rattle.lx_types.specs.declared.fail.Fail.TheVariants.{Said, NoMemory}
 use Rattle.obj_types.specs.Input.{WholeInput}
 use Rattle.obj_types.specs.declared.input.LinkInput.{LinkInput}
 use Rattle.link_model.specs.declared.refusals.SymRefusal.{SymRefusal}
+use Rattle.link_model.specs.declared.refusals.ComdatRefusal.{ComdatRefusal}
 use Rattle.link_model.specs.declared.refusals.LayRefusal.{LayRefusal}
+use Rattle.link_model.specs.declared.symbols.Pick.{Pick}
 use Rattle.link_model.specs.declared.refusals.FixRefusal.{FixRefusal}
 use Rattle.link_model.specs.declared.refusals.EntryRefusal.{EntryRefusal}
 use Rattle.link_model.specs.declared.refusals.LinkRefusal.{LinkRefusal}
-use Rattle.link_model.specs.declared.refusals.LinkRefusal.TheVariants.{Sym, Lay, Fixing, Entry}
+use Rattle.link_model.specs.declared.refusals.LinkRefusal.TheVariants.{Sym, Comdat, Lay, Fixing, Entry}
 use Rattle.link_model.specs.declared.symbols.LaidObject.{LaidObject}
 use Rattle.lx_types.specs.declared.fix.Fix.{Fix}
 use Rattle.link_model.specs.Words.{first_of}
-use Rattle.link_model.specs.Link.{Link, link_of, exports}
+use Rattle.link_model.specs.Kept.{Kept}
+use Rattle.link_model.specs.Clash.{comdat_refusal}
+use Rattle.link_model.specs.Link.{Link, link_of, kept_link, exports}
+use Rattle.link_model.proofs.Rules.{rules}
 use Rattle.link_model.specs.SymbolRefusals.{sym_refusal}
 use Rattle.link_model.specs.LayoutRefusals.{lay_refusal}
 use Rattle.link_model.specs.Layout.{stack_top}
@@ -42,7 +47,7 @@ use Rattle.link_fix.specs.Placing.{ArePlaced}
 use Rattle.link_core.specs.declared.image.LinkTables.{LinkTables}
 use Rattle.link_core.specs.declared.planning.Plan.{Plan}
 use Rattle.link_core.specs.Parts.{AreTables, HasParts}
-use Rattle.link_core.specs.Planned.{IsPlannedLink, IsPlanned}
+use Rattle.link_core.specs.Planned.{IsPlannedLink, IsPlanOf, IsPlanned}
 use Rattle.link_core.specs.declared.linking.Linked.{Linked}
 use Rattle.link_core.specs.Links.{IsLinked, IsLinkedFile, IsLinkedImage, RefusesLink}
 use Rattle.link_core.proofs.ExportsAre.{pairs-are, AreEntries, entries-of-link, exports-named}
@@ -89,45 +94,76 @@ planned input s layout placed t auto m whole bound laid lay fixed is_auto tables
 
 -- ---- refusals
 
-refusal_is : (l : Link) (a b c d : Option LinkRefusal) → option_map Sym (sym_refusal l) ≡ a → option_map Lay (lay_refusal l) ≡ b → option_map Fixing (place_refusal l) ≡ c → option_map Entry (entry_refusal l) ≡ d → link_refusal l ≡ first_of (a ∷ b ∷ c ∷ d ∷ [])
+refusal_is : (l : Link) (a b c d e : Option LinkRefusal) → option_map Sym (sym_refusal l) ≡ a → option_map Comdat l.clash ≡ b → option_map Lay (lay_refusal l) ≡ c → option_map Fixing (place_refusal l) ≡ d → option_map Entry (entry_refusal l) ≡ e → link_refusal l ≡ first_of (a ∷ b ∷ c ∷ d ∷ e ∷ [])
 unfolding link_refusal
-refusal_is l a b c d ea eb ec ed =
-    ap (λ (o : Option LinkRefusal). first_of (o ∷ option_map Lay (lay_refusal l) ∷ option_map Fixing (place_refusal l) ∷ option_map Entry (entry_refusal l) ∷ [])) ea
-    ∙ ap (λ (o : Option LinkRefusal). first_of (a ∷ o ∷ option_map Fixing (place_refusal l) ∷ option_map Entry (entry_refusal l) ∷ [])) eb
-    ∙ ap (λ (o : Option LinkRefusal). first_of (a ∷ b ∷ o ∷ option_map Entry (entry_refusal l) ∷ [])) ec
-    ∙ ap (λ (o : Option LinkRefusal). first_of (a ∷ b ∷ c ∷ o ∷ [])) ed
+refusal_is l a b c d e ea eb ec ed ee =
+    ap (λ (o : Option LinkRefusal). first_of (o ∷ option_map Comdat l.clash ∷ option_map Lay (lay_refusal l) ∷ option_map Fixing (place_refusal l) ∷ option_map Entry (entry_refusal l) ∷ [])) ea
+    ∙ ap (λ (o : Option LinkRefusal). first_of (a ∷ o ∷ option_map Lay (lay_refusal l) ∷ option_map Fixing (place_refusal l) ∷ option_map Entry (entry_refusal l) ∷ [])) eb
+    ∙ ap (λ (o : Option LinkRefusal). first_of (a ∷ b ∷ o ∷ option_map Fixing (place_refusal l) ∷ option_map Entry (entry_refusal l) ∷ [])) ec
+    ∙ ap (λ (o : Option LinkRefusal). first_of (a ∷ b ∷ c ∷ o ∷ option_map Entry (entry_refusal l) ∷ [])) ed
+    ∙ ap (λ (o : Option LinkRefusal). first_of (a ∷ b ∷ c ∷ d ∷ o ∷ [])) ee
 
-pub sym-refused : (input : LinkInput) (r : SymRefusal) → IsRefused input r → RefusesLink input (Sym r)
+-- What names are refused does not depend on COMDATs.
+same-names : (l : Link) (clash : Option ComdatRefusal) → sym_refusal (record l { clash = clash }) ≡ sym_refusal l
+unfolding rules
+same-names l clash = refl
+
+-- Where no COMDATs clash, an input's link is that of what is kept.
+joined-is : (input : LinkInput) (picks : List Pick) → comdat_refusal input picks ≡ None → link_of (Kept input) picks ≡ kept_link input picks
+joined-is input picks none = ap (λ (o : Option ComdatRefusal). let l : Link = record (link_of (Kept input) picks) { clash = o } in l) (sym none)
+
+pub sym-refused : (input : LinkInput) (r : SymRefusal) → IsRefused (Kept input) r → RefusesLink input (Sym r)
 sym-refused input r h = record {
-  link = link_of input h.picks;
+  link = kept_link input h.picks;
   of_input = record { picks = h.picks; chosen = h.chosen; same = refl };
-  refused = refusal_is (link_of input h.picks) (Some (Sym r)) _ _ _ (ap (option_map Sym) h.is) refl refl refl;
+  refused = refusal_is (kept_link input h.picks) (Some (Sym r)) _ _ _ _ (ap (option_map Sym) (same-names (link_of (Kept input) h.picks) (comdat_refusal input h.picks) ∙ h.is)) refl refl refl refl;
 }
 
-pub lay-refused : (input : LinkInput) (s : SymbolTable) (r : LayRefusal) → IsBound input s → lay_refusal (link_of input s.chosen) ≡ Some r → RefusesLink input (Lay r)
-lay-refused input s r bound e = record {
-  link = link_of input s.chosen;
+pub comdat-refused : (input : LinkInput) (s : SymbolTable) (r : ComdatRefusal) → IsBound (Kept input) s → comdat_refusal input s.chosen ≡ Some r → RefusesLink input (Comdat r)
+comdat-refused input s r bound e = record {
+  link = kept_link input s.chosen;
   of_input = record { picks = s.chosen; chosen = bound.chosen; same = refl };
-  refused = refusal_is (link_of input s.chosen) None (Some (Lay r)) _ _ (ap (option_map Sym) bound.symbols.accepted) (ap (option_map Lay) e) refl refl;
+  refused = refusal_is (kept_link input s.chosen) None (Some (Comdat r)) _ _ _ (ap (option_map Sym) (same-names (link_of (Kept input) s.chosen) (comdat_refusal input s.chosen) ∙ bound.symbols.accepted)) (ap (option_map Comdat) e) refl refl refl;
 }
 
-pub place-refused : (input : LinkInput) (s : SymbolTable) (r : FixRefusal) → IsBound input s → lay_refusal (link_of input s.chosen) ≡ None → place_refusal (link_of input s.chosen) ≡ Some r → RefusesLink input (Fixing r)
-place-refused input s r bound lay e = record {
-  link = link_of input s.chosen;
-  of_input = record { picks = s.chosen; chosen = bound.chosen; same = refl };
-  refused = refusal_is (link_of input s.chosen) None None (Some (Fixing r)) _ (ap (option_map Sym) bound.symbols.accepted) (ap (option_map Lay) lay) (ap (option_map Fixing) e) refl;
+-- What is refused behind COMDATs is what the link of what is kept refuses.
+pub later-refused : (input : LinkInput) (s : SymbolTable) (r : LinkRefusal) → IsBound (Kept input) s → comdat_refusal input s.chosen ≡ None → link_refusal (link_of (Kept input) s.chosen) ≡ Some r → RefusesLink input r
+later-refused input s r bound joined e = record {
+  link = link_of (Kept input) s.chosen;
+  of_input = record { picks = s.chosen; chosen = bound.chosen; same = joined-is input s.chosen joined };
+  refused = e;
 }
+
+pub lay-refused : (input : LinkInput) (s : SymbolTable) (r : LayRefusal) → IsBound input s → lay_refusal (link_of input s.chosen) ≡ Some r → link_refusal (link_of input s.chosen) ≡ Some (Lay r)
+lay-refused input s r bound e =
+    refusal_is (link_of input s.chosen) None None (Some (Lay r)) _ _ (ap (option_map Sym) bound.symbols.accepted) refl (ap (option_map Lay) e) refl refl
+
+pub place-refused : (input : LinkInput) (s : SymbolTable) (r : FixRefusal) → IsBound input s → lay_refusal (link_of input s.chosen) ≡ None → place_refusal (link_of input s.chosen) ≡ Some r → link_refusal (link_of input s.chosen) ≡ Some (Fixing r)
+place-refused input s r bound lay e =
+    refusal_is (link_of input s.chosen) None None None (Some (Fixing r)) _ (ap (option_map Sym) bound.symbols.accepted) refl (ap (option_map Lay) lay) (ap (option_map Fixing) e) refl
 
 pub entry-refused : (input : LinkInput) (p : Plan) (r : EntryRefusal) → IsPlanned input p → export_refusal p.image.exports ≡ Some r → RefusesLink input (Entry r)
-entry-refused input p r h e = record {
-  link = link_of input p.syms.chosen;
-  of_input = record { picks = p.syms.chosen; chosen = h.bound.chosen; same = refl };
-  refused = refusal_is (link_of input p.syms.chosen) None None None (Some (Entry r)) (ap (option_map Sym) h.bound.symbols.accepted) (ap (option_map Lay) h.planned.lay) (ap (option_map Fixing) h.planned.place) (ap (option_map Entry) (sym h.planned.entries ∙ e));
-}
+entry-refused input p r h e =
+    later-refused input p.syms (Entry r) h.bound h.joined
+    (refusal_is (link_of (Kept input) p.syms.chosen) None None None None (Some (Entry r)) (ap (option_map Sym) h.bound.symbols.accepted) refl (ap (option_map Lay) h.planned.lay) (ap (option_map Fixing) h.planned.place) (ap (option_map Entry) (sym h.planned.entries ∙ e)))
 
-pub accepted : (input : LinkInput) (p : Plan) → IsPlanned input p → export_refusal p.image.exports ≡ None → link_refusal (link_of input p.syms.chosen) ≡ None
+pub accepted : (input : LinkInput) (p : Plan) → IsPlanned input p → export_refusal p.image.exports ≡ None → link_refusal (link_of (Kept input) p.syms.chosen) ≡ None
 accepted input p h e =
-    refusal_is (link_of input p.syms.chosen) None None None None (ap (option_map Sym) h.bound.symbols.accepted) (ap (option_map Lay) h.planned.lay) (ap (option_map Fixing) h.planned.place) (ap (option_map Entry) (sym h.planned.entries ∙ e))
+    refusal_is (link_of (Kept input) p.syms.chosen) None None None None None (ap (option_map Sym) h.bound.symbols.accepted) refl (ap (option_map Lay) h.planned.lay) (ap (option_map Fixing) h.planned.place) (ap (option_map Entry) (sym h.planned.entries ∙ e))
+
+-- The plan of the link of what is kept is that of the input.
+pub plan-of-kept : (input kept : LinkInput) (s : SymbolTable) (p : Plan) → kept ≡ Kept input → IsBound kept s → comdat_refusal input s.chosen ≡ None → IsPlanOf kept s p → IsPlanned input p
+plan-of-kept input kept s p is bound joined h =
+    let same = sym h.syms_are in
+    record {
+      bound = subst (IsBound (Kept input)) same (subst (λ (k : LinkInput). IsBound k s) is bound);
+      joined = subst (λ (t : SymbolTable). comdat_refusal input t.chosen ≡ None) same joined;
+      planned = subst (λ (t : SymbolTable). IsPlannedLink (link_of (Kept input) t.chosen) p) same (subst (λ (k : LinkInput). IsPlannedLink (link_of k s.chosen) p) is h.planned);
+    }
+
+pub kept-refused : (input kept : LinkInput) (s : SymbolTable) (r : LinkRefusal) → kept ≡ Kept input → IsBound kept s → comdat_refusal input s.chosen ≡ None → link_refusal (link_of kept s.chosen) ≡ Some r → RefusesLink input r
+kept-refused input kept s r is bound joined e =
+    later-refused input s r (subst (λ (k : LinkInput). IsBound k s) is bound) joined (subst (λ (k : LinkInput). link_refusal (link_of k s.chosen) ≡ Some r) is e)
 
 -- ---- failures that are passed on as those of the link
 
@@ -142,16 +178,16 @@ failed-by {A} {B} {R} r fail given_as told given P Q P' Q' says runs_out is was 
 
 -- ---- the file
 
-pub file-of-plan : (input : LinkInput) (p : Plan) (file : List ℕ) → LinkImagesAreWritten → IsPlanned input p → file ≡ file_of (image_value p.image) → file ≡ file_of (image_of (link_of input p.syms.chosen))
-file-of-plan input p file law h e = e ∙ ap file_of (law (link_of input p.syms.chosen) p.image h.planned.image)
+pub file-of-plan : (input : LinkInput) (p : Plan) (file : List ℕ) → LinkImagesAreWritten → IsPlanned input p → file ≡ file_of (image_value p.image) → file ≡ file_of (image_of (link_of (Kept input) p.syms.chosen))
+file-of-plan input p file law h e = e ∙ ap file_of (law (link_of (Kept input) p.syms.chosen) p.image h.planned.image)
 
 pub linked-is : (input : LinkInput) (p : Plan) (file : List ℕ) (linked : Linked) → LinkImagesAreWritten → IsPlanned input p → export_refusal p.image.exports ≡ None → file ≡ file_of (image_value p.image) → IsLinkedImage p.image file linked → IsLinked input linked
 linked-is input p file linked law h none e is =
-    let l : Link = link_of input p.syms.chosen in
+    let l : Link = link_of (Kept input) p.syms.chosen in
     let image = h.planned.image in
     record {
       link = l;
-      of_input = record { picks = p.syms.chosen; chosen = h.bound.chosen; same = refl };
+      of_input = record { picks = p.syms.chosen; chosen = h.bound.chosen; same = joined-is input p.syms.chosen h.joined };
       accepted = accepted input p h none;
       file = is.file ∙ file-of-plan input p file law h e;
       name = is.name ∙ ap uppercase image.name;

@@ -2,12 +2,15 @@
 use Rattle.std.specs.Prelude.{◌≡◌, None}
 use Rattle.obj_types.specs.declared.input.LinkInput.{LinkInput}
 use Rattle.link_model.specs.declared.refusals.SymRefusal.{SymRefusal}
+use Rattle.link_model.specs.declared.refusals.ComdatRefusal.{ComdatRefusal}
 use Rattle.link_model.specs.declared.refusals.LayRefusal.{LayRefusal}
 use Rattle.link_model.specs.declared.refusals.FixRefusal.{FixRefusal}
 use Rattle.link_model.specs.declared.refusals.EntryRefusal.{EntryRefusal}
 use Rattle.link_model.specs.declared.refusals.LinkRefusal.{LinkRefusal}
-use Rattle.link_model.specs.declared.refusals.LinkRefusal.TheVariants.{Sym, Lay, Fixing, Entry}
+use Rattle.link_model.specs.declared.refusals.LinkRefusal.TheVariants.{Sym, Comdat, Lay, Fixing, Entry}
 use Rattle.link_model.specs.Link.{Link, link_of}
+use Rattle.link_model.specs.Kept.{Kept}
+use Rattle.link_model.specs.Clash.{comdat_refusal}
 use Rattle.link_model.specs.LayoutRefusals.{lay_refusal}
 use Rattle.link_model.specs.Refusal.{place_refusal}
 use Rattle.link_model.specs.Exports.{entry_refusal}
@@ -17,6 +20,7 @@ use Rattle.lx_exports.specs.Exports.{export_refusal}
 use Rattle.lx_write.specs.LinkImages.{IsImageOfLink}
 use Rattle.lx_write.specs.Value.{CanBeWritten}
 use Rattle.sym_table.specs.Binding.{IsBound}
+use Rattle.sym_table.specs.Symbols.{SymbolTable}
 use Rattle.seg_merge.specs.Places.{ArePlaces}
 use Rattle.link_core.specs.declared.planning.Plan.{Plan}
 
@@ -30,15 +34,26 @@ pub record IsPlannedLink (l : Link) (p : Plan) : Type 0 where
   -- what the tables of exports refuse is what the link refuses
   pub entries : export_refusal p.image.exports ≡ entry_refusal l
 
+-- The plan is that of the link of these symbols.
+pub record IsPlanOf (input : LinkInput) (syms : SymbolTable) (p : Plan) : Type 0 where
+  pub syms_are : p.syms ≡ syms
+  pub planned : IsPlannedLink (link_of input syms.chosen) p
+
+-- No COMDATs clash, and this is the plan of the link of what is kept.
 pub record IsPlanned (input : LinkInput) (p : Plan) : Type 0 where
-  pub bound : IsBound input p.syms
-  pub planned : IsPlannedLink (link_of input p.syms.chosen) p
+  pub bound : IsBound (Kept input) p.syms
+  pub joined : comdat_refusal input p.syms.chosen ≡ None
+  pub planned : IsPlannedLink (link_of (Kept input) p.syms.chosen) p
 
 -- ---- refusals of a step as those of the link
 
 abbrev pub sym_failed : Fail SymRefusal → Fail LinkRefusal
 sym_failed (Said refusal) = Said (Sym refusal)
 sym_failed NoMemory = NoMemory
+
+abbrev pub comdat_failed : Fail ComdatRefusal → Fail LinkRefusal
+comdat_failed (Said refusal) = Said (Comdat refusal)
+comdat_failed NoMemory = NoMemory
 
 abbrev pub lay_failed : Fail LayRefusal → Fail LinkRefusal
 lay_failed (Said refusal) = Said (Lay refusal)

@@ -3,7 +3,7 @@
 ghost use Rattle.std.specs.Prelude.{◌≡◌};
 ghost use Rattle.link_core.specs.Planned as failed;
 
-use link_model::{EntryRefusal, FixRefusal, LayRefusal, LinkRefusal, SymRefusal};
+use link_model::{ComdatRefusal, EntryRefusal, FixRefusal, LayRefusal, LinkRefusal, SymRefusal};
 use obj_types::Fail;
 
 /// What names have no meaning.
@@ -12,6 +12,16 @@ pub fn sym_failed(fail: Fail<SymRefusal>) -> Fail<LinkRefusal>
 {
     match fail {
         Fail::Said(refusal) => Fail::Said(LinkRefusal::Sym(refusal)),
+        Fail::NoMemory => Fail::NoMemory,
+    }
+}
+
+/// What COMDATs are refused.
+pub fn comdat_failed(fail: Fail<ComdatRefusal>) -> Fail<LinkRefusal>
+    ensures { result ≡ failed.comdat_failed fail }
+{
+    match fail {
+        Fail::Said(refusal) => Fail::Said(LinkRefusal::Comdat(refusal)),
         Fail::NoMemory => Fail::NoMemory,
     }
 }

@@ -3,13 +3,15 @@
 ghost use Rattle.std.specs.Prelude.{◌≡◌, ◌<◌, ◌^◌, IfOk, length};
 ghost use Rattle.lx_types.specs.Answers.{Answers};
 ghost use Rattle.obj_types.specs.Input.{WholeInput};
+ghost use Rattle.link_model.specs.Kept.{Kept};
 ghost use Rattle.link_core.specs.Links.{IsLinked, IsLinkedFile, IsLinkedImage, RefusesLink};
 ghost use Rattle.link_core.specs.Planned.{IsPlanned};
 
 use crate::counts::{page_count, source_count};
 use crate::failing::entry_failed;
 use crate::planning::{Plan, plan_link};
-use link_model::{LinkRefusal, number};
+use comdat_core::{has_comdats, keep};
+use link_model::{LinkRefusal, number, what_is_kept_is_whole, without_comdats_all_is_kept};
 use lx_types::{Bytes, Name, NoMemory, Seq};
 use lx_write::{Image, link_images_are_written, write_module};
 use obj_types::{Fail, LinkInput};
@@ -56,19 +58,40 @@ fn write_plan(alloc: Global, input: &LinkInput, plan: &Plan) -> Result<Linked, F
     }
 }
 
+// Links the input, where `kept` is what is kept of it.
+fn link_kept(
+    alloc: Global,
+    input: &LinkInput,
+    kept: &LinkInput,
+) -> Result<Linked, Fail<LinkRefusal>>
+    requires whole { WholeInput kept.now }
+    requires kept { kept.now ≡ Kept input.now }
+    ensures linked { Answers result (λ linked. IsLinked input.now linked) (λ refusal. RefusesLink input.now refusal) }
+    ensures short { IfOk result (λ linked. length linked.file < 2 ^ 32) }
+{
+    match plan_link(alloc, input, kept) {
+        Err(fail) => Err(fail),
+        Ok(plan) => write_plan(alloc, input, &plan),
+    }
+}
+
 /// Links the input to the file of a module ("32-bit Linear eXecutable Module Format").
 ///
-/// Names are tried first, then the layout, the fixups with the start, and the exports, and the first refusal is answered.
+/// Of COMDATs of one name one is kept; an input that has none is linked as it is, without a copy. Names are tried first, then
+/// COMDATs, the layout, the fixups with the start, and the exports, and the first refusal is answered.
 /// Where the file would have 2^32 bytes or more no memory is found.
 pub fn link_module(alloc: Global, input: &LinkInput) -> Result<Linked, Fail<LinkRefusal>>
     requires whole { WholeInput input.now }
     ensures linked { Answers result (λ linked. IsLinked input.now linked) (λ refusal. RefusesLink input.now refusal) }
     ensures short { IfOk result (λ linked. length linked.file < 2 ^ 32) }
 {
-    match plan_link(alloc, input) {
-        Err(fail) => Err(fail),
-        Ok(plan) => write_plan(alloc, input, &plan),
+    if !has_comdats(input) {
+        without_comdats_all_is_kept();
+        return link_kept(alloc, input, input);
     }
+    what_is_kept_is_whole();
+    let kept = keep(alloc, input)?;
+    link_kept(alloc, input, &kept)
 }
 
 /// The file alone of what the input is linked to, as `link_module` answers it.

@@ -49,7 +49,7 @@ before l r is =
 
 -- The modules that are lent are those of the picks.
 one_link : (input : LinkInput) (mods : List (Bor ObjModule)) (picks : List Pick) → map (λ m. m.now) mods ≡ modules_of input picks → link_with input mods ≡ link_of input picks
-one_link input mods picks e = ap (λ (ms : List ObjModule). let l : Link = record { modules = ms; def = input.def; stem = input.stem } in l) e
+one_link input mods picks e = ap (λ (ms : List ObjModule). let l : Link = record { modules = ms; def = input.def; stem = input.stem; clash = None } in l) e
 
 abbrev table_of : List Pick → GlobalNames → List (List SymDef) → SymbolTable
 table_of picks names rows = record { chosen = picks; globals = names.globals; commons = names.commons; imports = names.imports; meanings = rows }

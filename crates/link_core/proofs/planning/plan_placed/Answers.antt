@@ -16,7 +16,7 @@ returns c =
     let is : map (λ m. m.now) c.as_slice-modules.result.now ≡ modules_of input c.args.syms.chosen = ap (map (λ m. m.now)) c.as_slice-modules.ensures.value ∙ c.in_ok-modules.ensures ∙ ap (modules_of input) c.chosen.ensures in
     let tables = subst (λ (ms : List ObjModule). AreTables c.args.layout.places c.args.syms c.args.layout.objects (exports_of ms input.def) (used_pairs l) c.in_ok-tables.tables) is (c.in_ok-tables.ensures (used_pairs l) c.requires.placed.imports c.requires.placed.procs) in
     record {
-      bound = c.requires.bound;
+      syms_are = refl;
       planned = planned input c.args.syms c.args.layout c.args.placed c.in_ok-tables.tables c.in_ok-auto.auto c.in_ok-image.image c.requires.whole c.requires.bound c.requires.laid c.requires.lay c.requires.placed
           (c.in_ok-auto.ensures l (sym is) c.requires.laid.places) tables c.in_ok-image.ensures c.requires.place _ refl refl;
     }

@@ -1,0 +1,4 @@
+pub mod Taking
+pub mod TakenOut
+pub mod Keeping
+pub mod Judging

@@ -1,0 +1,152 @@
+//! Items of object modules and definition files once more.
+
+ghost use Rattle.std.specs.Prelude.{◌≡◌, ◌||◌, IfOk};
+
+use lx_types::{Bytes, EntryKey, Name, Names, NoMemory, Seq};
+use obj_types::{
+    DefFile, Exp, Exports, Ext, Exts, Imp, Imports, Piece, Pub, Seg, SegAttrs, SegRules,
+};
+use std::alloc::Global;
+
+pub fn names_again(alloc: Global, names: &Names) -> Result<Names, NoMemory>
+    ensures { IfOk result (λ copy. copy ≡ names.now) }
+{
+    let mut copies = Seq::new(alloc);
+    for name in names.as_slice() {
+        copies.push(name.copied(alloc)?)?;
+    }
+    Ok(copies)
+}
+
+fn name_again(alloc: Global, name: &Option<Name>) -> Result<Option<Name>, NoMemory>
+    ensures { IfOk result (λ copy. copy ≡ name.now) }
+{
+    match name {
+        Some(name) => Ok(Some(name.copied(alloc)?)),
+        None => Ok(None),
+    }
+}
+
+fn entry_again(alloc: Global, entry: &EntryKey) -> Result<EntryKey, NoMemory>
+    ensures { IfOk result (λ copy. copy ≡ entry.now) }
+{
+    match entry {
+        EntryKey::Ordinal(number) => Ok(EntryKey::Ordinal(*number)),
+        EntryKey::Named(name) => Ok(EntryKey::Named(name.copied(alloc)?)),
+    }
+}
+
+/// A segment, which may become one of debug data.
+pub fn seg_again(alloc: Global, seg: &Seg, taken: bool) -> Result<Seg, NoMemory>
+    ensures { IfOk result (λ copy. copy ≡ record seg.now { debug = seg.now.debug || taken }) }
+{
+    Ok(Seg {
+        name: seg.name.copied(alloc)?,
+        class: seg.class.copied(alloc)?,
+        align: seg.align,
+        combine: seg.combine,
+        wide: seg.wide,
+        len: seg.len,
+        debug: seg.debug || taken,
+    })
+}
+
+pub fn pub_again(alloc: Global, public: &Pub) -> Result<Pub, NoMemory>
+    ensures { IfOk result (λ copy. copy ≡ public.now) }
+{
+    Ok(Pub {
+        name: public.name.copied(alloc)?,
+        local: public.local,
+        place: public.place,
+    })
+}
+
+pub fn piece_again(alloc: Global, piece: &Piece) -> Result<Piece, NoMemory>
+    ensures { IfOk result (λ copy. copy ≡ piece.now) }
+{
+    Ok(Piece {
+        seg: piece.seg,
+        offset: piece.offset,
+        bytes: Bytes::from_vec(Vec::from_slice(alloc, piece.bytes.as_slice())?),
+    })
+}
+
+pub fn exts_again(alloc: Global, exts: &Exts) -> Result<Exts, NoMemory>
+    ensures { IfOk result (λ copy. copy ≡ exts.now) }
+{
+    let mut copies = Seq::new(alloc);
+    for ext in exts.as_slice() {
+        copies.push(Ext {
+            name: ext.name.copied(alloc)?,
+            local: ext.local,
+            common: ext.common,
+        })?;
+    }
+    Ok(copies)
+}
+
+pub fn imports_again(alloc: Global, imports: &Imports) -> Result<Imports, NoMemory>
+    ensures { IfOk result (λ copy. copy ≡ imports.now) }
+{
+    let mut copies = Seq::new(alloc);
+    for import in imports.as_slice() {
+        copies.push(Imp {
+            name: import.name.copied(alloc)?,
+            module: import.module.copied(alloc)?,
+            entry: entry_again(alloc, &import.entry)?,
+        })?;
+    }
+    Ok(copies)
+}
+
+pub fn exports_again(alloc: Global, exports: &Exports) -> Result<Exports, NoMemory>
+    ensures { IfOk result (λ copy. copy ≡ exports.now) }
+{
+    let mut copies = Seq::new(alloc);
+    for export in exports.as_slice() {
+        copies.push(Exp {
+            name: export.name.copied(alloc)?,
+            internal: export.internal.copied(alloc)?,
+            ordinal: export.ordinal,
+            resident: export.resident,
+            nodata: export.nodata,
+            words: export.words,
+        })?;
+    }
+    Ok(copies)
+}
+
+fn rules_again(alloc: Global, rules: &SegRules) -> Result<SegRules, NoMemory>
+    ensures { IfOk result (λ copy. copy ≡ rules.now) }
+{
+    let mut copies = Seq::new(alloc);
+    for rule in rules.as_slice() {
+        copies.push(SegAttrs {
+            name: rule.name.copied(alloc)?,
+            class: name_again(alloc, &rule.class)?,
+            attrs: rule.attrs,
+        })?;
+    }
+    Ok(copies)
+}
+
+/// A definition file.
+pub fn def_again(alloc: Global, def: &DefFile) -> Result<DefFile, NoMemory>
+    ensures { IfOk result (λ copy. copy ≡ def.now) }
+{
+    Ok(DefFile {
+        kind: def.kind,
+        name: name_again(alloc, &def.name)?,
+        init_each: def.init_each,
+        term_each: def.term_each,
+        about: def.about.copied(alloc)?,
+        stack: def.stack,
+        heap: def.heap,
+        base: def.base,
+        code: def.code,
+        plain: def.plain,
+        segs: rules_again(alloc, &def.segs)?,
+        exports: exports_again(alloc, &def.exports)?,
+        imports: imports_again(alloc, &def.imports)?,
+    })
+}

@@ -1,0 +1,121 @@
+//! Whether the COMDATs of a link are one for each name.
+
+ghost use Rattle.std.specs.Prelude.{◌≡◌, ℕ, List, Some, None, IfOk, map, option_copied, slice_get, if◌then◌else◌};
+ghost use Rattle.lx_types.specs.Answers.{Answers};
+ghost use Rattle.obj_types.specs.declared.input.LinkInput.{LinkInput};
+ghost use Rattle.link_model.specs.declared.symbols.Pick.{Pick};
+ghost use Rattle.link_model.specs.Clash.{place_of, comdat_refusal};
+ghost use Rattle.link_model.specs.Words.{first_of};
+ghost use Rattle.comdat_core.specs.Judging.{HasNumbers, clash_by};
+
+use crate::compare::refuses;
+use crate::taking::{Taken, TakenOut, has_comdats, place_behind, taken_out};
+use link_model::{ComdatRefusal, Pick, number, without_comdats_all_is_kept};
+use lx_types::{Fail, NoMemory};
+use obj_types::LinkInput;
+use std::alloc::Global;
+use std::collections::BTreeMap;
+use sym_table::Symbols;
+
+/// The numbers of chosen modules by the places of these among the object files and then the library modules.
+type Numbers = BTreeMap<usize, u32>;
+
+// The place of a pick's module.
+fn place_of(input: &LinkInput, pick: &Pick) -> Result<usize, NoMemory>
+    ensures { IfOk result (λ place. place ≡ place_of input.now pick.now) }
+{
+    if pick.lib {
+        place_behind(input.objects.as_slice().len(), pick.index as usize)
+    } else {
+        Ok(pick.index as usize)
+    }
+}
+
+// The numbers of the chosen modules.
+fn numbers_of(alloc: Global, input: &LinkInput, picks: &[Pick]) -> Result<Numbers, NoMemory>
+    ensures { IfOk result (λ numbers. HasNumbers input.now picks.now numbers) }
+{
+    let mut numbers = BTreeMap::new(alloc);
+    for (index, pick) in picks.iter().enumerate() {
+        let place = place_of(input, pick)?;
+        if !numbers.contains_key(&place) {
+            let _none = numbers.insert(place, number(index + 1)?)?;
+        }
+    }
+    Ok(numbers)
+}
+
+// The clash of a COMDAT that is taken out of a chosen module.
+fn clash_of(
+    alloc: Global,
+    numbers: &Numbers,
+    chosen: u32,
+    taken: &Taken<'_>,
+) -> Result<Option<ComdatRefusal>, NoMemory>
+    ensures { IfOk result (λ clash. (input : LinkInput) (picks : List Pick) → HasNumbers input picks numbers.now
+        → clash ≡ clash_by input picks chosen taken.now) }
+{
+    let first = match numbers.get(&taken.first.place) {
+        None => return Ok(None),
+        Some(first) => *first,
+    };
+    if !refuses(alloc, &taken.first.own, &taken.own)? {
+        return Ok(None);
+    }
+    Ok(Some(ComdatRefusal::Clash {
+        name: taken.own.comdat.name.copied(alloc)?,
+        first,
+        second: chosen,
+    }))
+}
+
+// Whether those that are taken out of a chosen module clash with none.
+fn judge_taken(
+    alloc: Global,
+    numbers: &Numbers,
+    chosen: u32,
+    taken: &[Taken<'_>],
+) -> Result<(), Fail<ComdatRefusal>>
+    ensures { (input : LinkInput) (picks : List Pick) → HasNumbers input picks numbers.now → Answers result
+        (λ _. first_of (map (clash_by input picks chosen) taken.now) ≡ None)
+        (λ refusal. first_of (map (clash_by input picks chosen) taken.now) ≡ Some refusal) }
+{
+    for one in taken {
+        if let Some(clash) = clash_of(alloc, numbers, chosen, one)? {
+            return Err(Fail::Said(clash));
+        }
+    }
+    Ok(())
+}
+
+// What is taken out of the module of a pick.
+fn taken_at<'a, 'b>(out: &'b TakenOut<'a>, pick: &Pick) -> Option<&'b Vec<Taken<'a>>>
+    ensures { option_copied result ≡ slice_get (if pick.now.lib then out.entry.now.libs.items else out.entry.now.objects.items) pick.now.index }
+{
+    let lists = if pick.lib { &out.libs } else { &out.objects };
+    lists.get(pick.index as usize)
+}
+
+/// Judges the COMDATs that `keep` takes out of a link, where `syms` are the symbols of what it keeps: `Clash` comes for the
+/// first chosen module, and in it for the first COMDAT, for which the one that stays in a chosen module may not stand.
+pub fn judge(alloc: Global, input: &LinkInput, syms: &Symbols) -> Result<(), Fail<ComdatRefusal>>
+    ensures { Answers result
+        (λ _. comdat_refusal input.now syms.now.chosen ≡ None) (λ refusal. comdat_refusal input.now syms.now.chosen ≡ Some refusal) }
+{
+    if !has_comdats(input) {
+        without_comdats_all_is_kept();
+        return Ok(());
+    }
+    let picks = syms.chosen();
+    let numbers = numbers_of(alloc, input, picks)?;
+    let out = taken_out(alloc, input)?;
+    for (index, pick) in picks.iter().enumerate() {
+        if let Some(taken) = taken_at(&out, pick) {
+            match judge_taken(alloc, &numbers, number(index + 1)?, taken.as_slice()) {
+                Err(fail) => return Err(fail),
+                Ok(()) => {}
+            }
+        }
+    }
+    Ok(())
+}

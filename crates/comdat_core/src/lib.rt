@@ -1,0 +1,14 @@
+//! COMDATs of a link ("C2h COMDAT"): of those of one name the first of the input stays, and the others are taken out.
+#![tactic(auto)]
+
+mod compare;
+mod copies;
+mod judging;
+mod keeping;
+mod taking;
+
+pub use judging::judge;
+pub use keeping::keep;
+pub use link_model::ComdatRefusal;
+pub use obj_types::{Comdat, Selection};
+pub use taking::has_comdats;
