@@ -1,6 +1,5 @@
 -- One module more is linked, behind those before it.
 use Rattle.std.specs.Prelude.{◌≡◌, ℕ, suc, ◌+◌, ◌^◌, ◌<◌, ◌≤◌, List, [], ◌∷◌, ◌++◌, length, sum_by, None, is_some, refl}
-use Rattle.std.specs.List.{AllByRecursion}
 use Rattle.std.proofs.Common.{ap, sym, ◌∙◌, arith, subst, length-append, true≢false}
 use Rattle.std.proofs.lemmas.List.Sums.{sum_by-append, sum_by-cons}
 use Rattle.lx_types.specs.declared.parts.Parts.{Parts}
@@ -15,8 +14,8 @@ use Rattle.image_model.specs.Linked.{image_of, page_forms, page_fixes}
 use Rattle.layer_laws.specs.LinkedFiles.{LinkedFilesMeanTheirLinks}
 use Rattle.gen_model.specs.Modules.{gen_input}
 use Rattle.gen_model.specs.Sums.{AreLinked, library_of}
-use Rattle.gen_laws.specs.Laws.{InputsAreWhole, InputsLink, IsShort}
-use Rattle.gen_laws.proofs.FirstKnown.{input_ranged}
+use Rattle.gen_laws.specs.Laws.{InputsAreWhole, InputsLink}
+use Rattle.gen_laws.proofs.FirstRanges.{input_ranged}
 use Rattle.gen_core.specs.Linking.{HasLinked, pages_of, sources_of}
 use Rattle.gen_core.specs.declared.linking.Linking.{Linking}
 
@@ -40,10 +39,6 @@ links_more k [] l linked of_input accepted =
 links_more k (m ∷ links) l linked of_input accepted =
     let number : k + suc (length links) ≡ suc k + length links = omega arith in
     (linked.0, linked.1, links_more (suc k) links l linked.2 (subst (λ (n : ℕ). IsLinkOf (gen_input n) l) number of_input) accepted)
-
-short_more : (links : List Link) (l : Link) → AllByRecursion IsShort links → IsShort l → AllByRecursion IsShort (links ++ l ∷ [])
-short_more [] l each one = (one, tt)
-short_more (m ∷ links) l each one = (each.0, short_more links l each.1 one)
 
 library_more : (links : List Link) (l : Link) → library_of (links ++ l ∷ []) ≡ library_of links ++ parts_of (file_of (image_of l)) ∷ []
 library_more [] l = refl
@@ -70,20 +65,18 @@ pub record IsMore (before now : Linking) (parts : Parts) (linked : Linked) : Typ
   pub few_pages : linked.pages < 2 ^ 32
   pub few_sources : linked.sources < 2 ^ 32
 
-pub linked_more : (count : ℕ) (before now : Linking) (parts : Parts) (linked : Linked) → count < 64 → HasLinked count before → IsLinked (gen_input (count + 1)) linked → length linked.file < 2 ^ 32 → IsMore before now parts linked → HasLinked (count + 1) now
-linked_more count before now parts linked few has is short more =
+pub linked_more : (count : ℕ) (before now : Linking) (parts : Parts) (linked : Linked) → count < 64 → HasLinked count before → IsLinked (gen_input (count + 1)) linked → IsMore before now parts linked → HasLinked (count + 1) now
+linked_more count before now parts linked few has is more =
     let links = has.links in
     let l = is.link in
     let number : count + 1 ≡ 1 + length links = (let each = has.each in omega (arith, each)) in
     let long = length-append links (l ∷ []) in
-    let own : IsShort l = subst (λ (file : List ℕ). length file < 2 ^ 32) is.file short in
     record {
       links = links ++ l ∷ [];
       each = long ∙ ap (λ (n : ℕ). n + 1) has.each;
       first = record {
         linked = links_more 1 links l has.first.linked (subst (λ (n : ℕ). IsLinkOf (gen_input n) l) number is.of_input) is.accepted;
         few = (let each = has.each in omega (arith, long, each, few));
-        short = short_more links l has.first.short own;
       };
       «modules» = more.modules ∙ ap (λ (ps : List Parts). ps ++ parts ∷ []) has.modules ∙ ap (λ (p : Parts). library_of links ++ p ∷ []) (more.is ∙ ap parts_of is.file) ∙ sym (library_more links l);
       pages = more.pages ∙ ap (λ (n : ℕ). n + linked.pages) has.pages ∙ ap (λ (n : ℕ). pages_of links + n) is.pages ∙ sym (pages_more links l);
@@ -96,7 +89,7 @@ pub none_linked : (linking : Linking) → linking.«modules».items ≡ [] → l
 none_linked linking nothing pages sources = record {
   links = [];
   each = refl;
-  first = record { linked = tt; few = omega arith; short = tt };
+  first = record { linked = tt; few = omega arith };
   «modules» = nothing;
   pages = pages;
   sources = sources;

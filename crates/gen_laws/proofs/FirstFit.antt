@@ -1,6 +1,6 @@
 -- The first modules are fit: each imports the one before it alone, whose export is there.
 use Rattle.std.specs.Prelude.{◌≡◌, ℕ, zero, suc, ◌+◌, ◌-◌, ◌<◌, ◌≤◌, ◌==◌, Bool, true, false, cond, List, [], ◌∷◌, Option, Some, None, Ok, Contains, bytes_eq, filter, is_none, length, map, nat_le, position, slice_get, unwrap_or, refl}
-use Rattle.std.specs.List.{AllByRecursion, filter_map, list_any}
+use Rattle.std.specs.List.{AllByRecursion, list_any}
 use Rattle.std.specs.Option.{option_map, option_and_then}
 use Rattle.std.proofs.Common.{ap, sym, ◌∙◌, arith, subst, true≢false, inl, inr}
 use Rattle.std.proofs.lemmas.Bool.{cases_lt}
@@ -19,13 +19,13 @@ use Rattle.obj_types.specs.declared.symbol.Imp.{Imp}
 use Rattle.link_model.specs.Exports.{Export, Out}
 use Rattle.link_model.specs.Fixups.{Fixup}
 use Rattle.link_model.specs.Goals.{Target, Internal, Constant, Entry}
-use Rattle.link_model.specs.ImportTables.{entry_target, forwarded, import_target, link_pairs, modules_in, pair_used, used_pairs, with_offset}
+use Rattle.link_model.specs.ImportTables.{entry_target, import_target, link_pairs, modules_in, used_pairs, with_offset}
 use Rattle.link_model.specs.Link.{Link}
 use Rattle.link_model.specs.Patches.{recorded}
 use Rattle.link_model.specs.Records.{has_alias, offset_on, page_records, record_on, source_of, stands_on, target_and_additive}
 use Rattle.link_model.specs.Symbols.{imports}
 use Rattle.link_model.specs.Words.{wrapped}
-use Rattle.link_model.proofs.Members.{In, here, there, in_at, in_either, from_map}
+use Rattle.link_model.proofs.Members.{In, in_at, from_map}
 use Rattle.lx_model.specs.declared.library.EntryFault.{EntryFault}
 use Rattle.lx_model.specs.declared.library.EntryFault.TheVariants as faults
 use Rattle.lx_model.specs.declared.library.Health.{Health}
@@ -52,7 +52,8 @@ use Rattle.gen_model.specs.Sums.{library_of}
 use Rattle.gen_laws.specs.Laws.{AreFirst, FirstAreFit, InputsAreWhole}
 use Rattle.gen_laws.proofs.FirstGather.{first_gather}
 use Rattle.gen_laws.proofs.FirstKnown.{Known, at, all_read, is_loaded, library_holds, library_long}
-use Rattle.gen_laws.proofs.FirstShape.{gen_link, imports_if, its_exports, its_imports, names_of, the_export}
+use Rattle.gen_laws.proofs.FirstPairs.{IsPair, linked_is, pair_is}
+use Rattle.gen_laws.proofs.FirstShape.{gen_link, its_exports, the_export}
 use Rattle.gen_laws.proofs.FirstTargets.{each_reference}
 
 -- ---- a library in which nothing is missed
@@ -145,54 +146,12 @@ before_is k l lib m known holds is lt =
       entry = record { spot = record { «module» = m; object = 1; offset = 0 }; is = entry_one k l lib m known holds };
     }
 
--- ---- the pairs of a module
-
--- A pair that a module of this number knows: it refers to the export of the module before it.
-record IsPair (k : ℕ) (pair : Imp) : Type 0 where
-  refers : refers k ≡ true
-  «module» : pair.module ≡ module_name (k - 1)
-  entry : pair.entry ≡ keys.Ordinal 1
-
-pair_by : (k : ℕ) (b : Bool) (pair : Imp) → refers k ≡ b → In pair (imports_if b (names_of k)) → IsPair k pair
-pair_by k true pair is here = record { refers = is; «module» = refl; entry = refl }
-pair_by k true pair is (there i) = elim i [ ]
-pair_by k false pair is i = elim i [ ]
-
-pair_is : (k : ℕ) (l : Link) (pair : Imp) → Known k l → In pair (imports l) → IsPair k pair
-pair_is k l pair known i =
-    pair_by k (refers k) pair refl (subst (λ (ps : List Imp). In pair ps) (ap imports known.is ∙ its_imports k) i)
-
-used_is : (k : ℕ) (l : Link) (pair : Imp) → Known k l → In pair (used_pairs l) → IsPair k pair
-unfolding used_pairs
-used_is k l pair known i =
-    let r = from_filter_map (λ (q : Fixup). pair_used l q.target) (recorded l) i in
-    by r.item.target r.gives
-  where
-    by : (t : Target) → pair_used l t ≡ Some pair → IsPair k pair
-    by (Internal o offset) e = cc
-    by (Constant value) e = cc
-    by (Entry slot) e = pair_is k l pair known (in_at (imports l) slot pair e)
-
-none_forwarded : (k : ℕ) (l : Link) → Known k l → filter_map (λ (x : Export). forwarded x.target) (Out l) ≡ []
-none_forwarded k l known = ap (filter_map (λ (x : Export). forwarded x.target)) (ap Out known.is ∙ its_exports k)
-
-linked_is : (k : ℕ) (l : Link) (pair : Imp) → Known k l → In pair (link_pairs l) → IsPair k pair
-unfolding link_pairs
-linked_is k l pair known i =
-    elim (in_either (used_pairs l) (filter_map (λ (x : Export). forwarded x.target) (Out l)) i) as (λ s. IsPair k pair) [
-      | inl j ↦ used_is k l pair known j
-      | inr j ↦ nowhere (subst (λ (ps : List Imp). In pair ps) (none_forwarded k l known) j)
-    ]
-  where
-    nowhere : In pair [] → IsPair k pair
-    nowhere j = elim j [ ]
-
 -- ---- its import modules
 
 module_there : (k : ℕ) (l : Link) (lib : List Parts) → Known k l → (refers k ≡ true → Before lib k) → (name : List ℕ) → In name (link_modules l) → is_none (library_named lib name) ≡ false
 module_there k l lib known before name i =
     let r = from_map (λ (pair : Imp). uppercase pair.module) (link_pairs l) (from-firsts bytes_eq (map (λ pair. uppercase pair.module) (link_pairs l)) i) in
-    let pair = linked_is k l r.item known r.inside in
+    let pair = linked_is k l r.item known.is r.inside in
     let there = before pair.refers in
     ap (λ (n : List ℕ). is_none (library_named lib n)) (sym r.is ∙ ap uppercase pair.module) ∙ ap is_none there.named
 
@@ -231,7 +190,7 @@ target_there k l lib m known loaded before q (Constant value) t e = cc
 target_there k l lib m known loaded before q (Entry slot) t e =
     let r = mapped (λ (u : FixTarget). (u, wrapped (q.fix.disp + q.standing))) (option_and_then (import_target (used_pairs l)) (slice_get (imports l) slot)) t e in
     let pair = through (import_target (used_pairs l)) (slice_get (imports l) slot) r.item r.is in
-    let is = pair_is k l pair.item known (in_at (imports l) slot pair.item pair.is) in
+    let is = pair_is k l pair.item known.is (in_at (imports l) slot pair.item pair.is) in
     subst (λ (u : FixTarget × ℕ). HasSpot lib m (with_offset (link_procs l) u.0)) r.gives (pair_there k l lib m loaded before pair.item is r.item pair.gives)
 
 abbrev record_with : ℕ → Fixup → FixTarget × ℕ → Fix

@@ -1,5 +1,5 @@
 -- What is known of each of the first modules: its link, and that a library of them holds what its file means.
-use Rattle.std.specs.Prelude.{◌≡◌, ℕ, zero, suc, ◌+◌, ◌-◌, ◌<◌, ◌≤◌, Bool, true, false, List, [], ◌∷◌, Some, None, if◌then◌else◌, length, slice_get, refl}
+use Rattle.std.specs.Prelude.{◌≡◌, ℕ, zero, suc, ◌+◌, ◌<◌, ◌≤◌, List, [], ◌∷◌, Some, None, length, slice_get, refl}
 use Rattle.std.specs.List.{All, AllByRecursion}
 use Rattle.std.proofs.Common.{ap, ◌∙◌, arith, subst}
 use Rattle.std.proofs.lemmas.List.Elements.{All-from_recursion}
@@ -12,36 +12,15 @@ use Rattle.image_model.specs.Linked.{image_of}
 use Rattle.image_model.proofs.PartsRead.{parts_read}
 use Rattle.layer_laws.specs.LinkedImages.{Links}
 use Rattle.layer_laws.specs.LoadedBytes.{Holds}
-use Rattle.layer_laws.specs.Ranges.{ExportInRange, ImportInRange, ModuleInRange, InputInRange}
 use Rattle.layer_laws.proofs.Given.{given}
 use Rattle.layer_laws.proofs.ImagesFit.{images_fit, linked_read}
 use Rattle.layer_laws.proofs.LoadedPages.{Loaded}
-use Rattle.gen_model.specs.Modules.{gen_input, gen_object, import_before, imports_of, own_export, refers}
+use Rattle.gen_model.specs.Modules.{gen_input}
 use Rattle.gen_model.specs.Sums.{AreLinked, library_of}
 use Rattle.gen_laws.specs.Laws.{AreFirst, InputsAreWhole, IsShort}
-use Rattle.gen_laws.proofs.FirstNames.{module_name_fits, public_name_fits}
+use Rattle.gen_laws.proofs.FirstRanges.{input_ranged}
 use Rattle.gen_laws.proofs.FirstShape.{gen_link, link_is}
-
--- ---- numbers and names
-
-imports_ranged : (k : ℕ) (b : Bool) → k ≤ 64 → AllByRecursion ImportInRange (if b then import_before k ∷ [] else [])
-imports_ranged k true h = (record { «module» = module_name_fits (k - 1) (omega arith); entry = omega arith }, tt)
-imports_ranged k false h = tt
-
-module_ranged : (k : ℕ) → k ≤ 64 → ModuleInRange (gen_object k)
-unfolding gen_object
-module_ranged k h = record {
-  imports = All-from_recursion ImportInRange (imports_of k) (imports_ranged k (refers k) h);
-  exports = All-from_recursion ExportInRange (own_export k ∷ []) (public_name_fits k h, tt);
-}
-
-pub input_ranged : (k : ℕ) → k ≤ 64 → InputInRange (gen_input k)
-input_ranged k h = record {
-  objects = All-from_recursion ModuleInRange (gen_object k ∷ []) (module_ranged k h, tt);
-  libs = All-from_recursion ModuleInRange [] tt;
-  def = record { name = module_name_fits k h; about = omega arith; heap = omega arith; imports = All-from_recursion ImportInRange [] tt; exports = All-from_recursion ExportInRange [] tt };
-  stem = module_name_fits k h;
-}
+use Rattle.gen_laws.proofs.ShortFiles.{files_short}
 
 -- ---- one link
 
@@ -56,25 +35,25 @@ pub record At (links : List Link) (i k : ℕ) : Type 0 where
   pub is : slice_get links i ≡ Some link
   pub known : Known k link
 
-known_from : (whole : InputsAreWhole) (k : ℕ) (l : Link) → 1 ≤ k → k ≤ 64 → IsLinkOf (gen_input k) l → link_refusal l ≡ None → IsShort l → Known k l
-known_from whole k l low high of_input accepted short = record {
+known_from : (whole : InputsAreWhole) (k : ℕ) (l : Link) → 1 ≤ k → k ≤ 64 → IsLinkOf (gen_input k) l → link_refusal l ≡ None → Known k l
+known_from whole k l low high of_input accepted = record {
   links = record { whole = whole k (low, high); range = input_ranged k high; of_input = of_input; accepted = accepted };
-  short = short;
+  short = files_short whole k l (low, high) of_input;
   is = link_is k l of_input;
 }
 
-at_from : (whole : InputsAreWhole) (k : ℕ) (links : List Link) (i : ℕ) → 1 ≤ k → k + length links ≤ 65 → AreLinked k links → AllByRecursion IsShort links → i < length links → At links i (k + i)
-at_from whole k [] i low high linked short lt = absurd (omega (arith, lt))
-at_from whole k (l ∷ links) zero low high linked short lt =
+at_from : (whole : InputsAreWhole) (k : ℕ) (links : List Link) (i : ℕ) → 1 ≤ k → k + length links ≤ 65 → AreLinked k links → i < length links → At links i (k + i)
+at_from whole k [] i low high linked lt = absurd (omega (arith, lt))
+at_from whole k (l ∷ links) zero low high linked lt =
     let number : k ≡ k + 0 = omega arith in
-    record { link = l; is = refl; known = subst (λ (n : ℕ). Known n l) number (known_from whole k l low (omega (arith, high)) linked.0 linked.1 short.0) }
-at_from whole k (l ∷ links) (suc i) low high linked short lt =
-    let r = at_from whole (suc k) links i (omega arith) (omega (arith, high)) linked.2 short.1 (omega (arith, lt)) in
+    record { link = l; is = refl; known = subst (λ (n : ℕ). Known n l) number (known_from whole k l low (omega (arith, high)) linked.0 linked.1) }
+at_from whole k (l ∷ links) (suc i) low high linked lt =
+    let r = at_from whole (suc k) links i (omega arith) (omega (arith, high)) linked.2 (omega (arith, lt)) in
     let number : suc k + i ≡ k + suc i = omega arith in
     record { link = r.link; is = r.is; known = subst (λ (n : ℕ). Known n r.link) number r.known }
 
 pub at : (whole : InputsAreWhole) (links : List Link) (i : ℕ) → AreFirst links → i < length links → At links i (1 + i)
-at whole links i first lt = at_from whole 1 links i (omega arith) (let few = first.few in omega (arith, few)) first.linked first.short lt
+at whole links i first lt = at_from whole 1 links i (omega arith) (let few = first.few in omega (arith, few)) first.linked lt
 
 -- ---- in a library
 
@@ -100,11 +79,11 @@ is_read k l known =
     let again = linked_read (gen_input k) l known.links known.short in
     record { short = known.short; means = record { faultless = again.means.faultless; parts = refl } }
 
-read_from : (whole : InputsAreWhole) (k : ℕ) (links : List Link) → 1 ≤ k → k + length links ≤ 65 → AreLinked k links → AllByRecursion IsShort links → AllByRecursion IsRead (library_of links)
-read_from whole k [] low high linked short = tt
-read_from whole k (l ∷ links) low high linked short =
-    (is_read k l (known_from whole k l low (omega (arith, high)) linked.0 linked.1 short.0), read_from whole (suc k) links (omega arith) (omega (arith, high)) linked.2 short.1)
+read_from : (whole : InputsAreWhole) (k : ℕ) (links : List Link) → 1 ≤ k → k + length links ≤ 65 → AreLinked k links → AllByRecursion IsRead (library_of links)
+read_from whole k [] low high linked = tt
+read_from whole k (l ∷ links) low high linked =
+    (is_read k l (known_from whole k l low (omega (arith, high)) linked.0 linked.1), read_from whole (suc k) links (omega arith) (omega (arith, high)) linked.2)
 
 pub all_read : (whole : InputsAreWhole) (links : List Link) → AreFirst links → All IsRead (library_of links)
 all_read whole links first =
-    All-from_recursion IsRead (library_of links) (read_from whole 1 links (omega arith) (let few = first.few in omega (arith, few)) first.linked first.short)
+    All-from_recursion IsRead (library_of links) (read_from whole 1 links (omega arith) (let few = first.few in omega (arith, few)) first.linked)

@@ -1,6 +1,7 @@
 -- What every link of a generated module is, whatever its names, its data and its fixups are.
 use Rattle.std.specs.Prelude.{◌≡◌, ℕ, ◌-◌, Bool, true, false, List, [], ◌∷◌, Some, None, if◌then◌else◌, refl}
 use Rattle.std.proofs.Common.{ap, ◌∙◌, arith}
+use Rattle.std.proofs.lemmas.List.Elements.{All-from_recursion, All-nil}
 use Rattle.std.proofs.lemmas.Slice.Eq.{bytes_eq-Decides}
 use Rattle.lx_types.specs.declared.entry.EntryKey.TheVariants.{Ordinal}
 use Rattle.obj_types.specs.Defaults.{default_def}
@@ -15,13 +16,14 @@ use Rattle.obj_types.specs.declared.symbol.PubPlace.TheVariants.{In}
 use Rattle.link_model.specs.declared.symbols.LaidObject.{LaidObject}
 use Rattle.link_model.specs.Choosing.{Chosen}
 use Rattle.link_model.specs.Exports.{Export, At, Out}
+use Rattle.link_model.specs.KeptLaws.{HasNoComdats}
 use Rattle.link_model.specs.Layout.{objects}
 use Rattle.link_model.specs.Link.{Link, link_of, IsLinkOf}
 use Rattle.link_model.specs.OneSegment.{only_pick}
 use Rattle.link_model.specs.Symbols.{imports}
-use Rattle.link_model.proofs.OneChoice.{chosen_once}
 use Rattle.link_model.proofs.Rules.{rules}
 use Rattle.gen_model.specs.Modules.{code_segment, flat_group, gen_fixes, gen_input, gen_object, gen_pieces, module_name, public_name, refers}
+use Rattle.gen_laws.proofs.OneLink.{link_once, plain_link}
 
 -- ---- the shape
 
@@ -58,7 +60,7 @@ shape b n pieces fixes = record empty_module {
 }
 
 abbrev pub shape_link : Bool → Names → List Piece → List FixAt → Link
-shape_link b n pieces fixes = record { modules = shape b n pieces fixes ∷ []; def = record (default_def Library None) { name = Some n.called }; stem = n.called }
+shape_link b n pieces fixes = record { modules = shape b n pieces fixes ∷ []; def = record (default_def Library None) { name = Some n.called }; stem = n.called; clash = None }
 
 abbrev pub names_of : ℕ → Names
 names_of k = record { own = public_name k; other = public_name (k - 1); from = module_name (k - 1); called = module_name k }
@@ -79,9 +81,21 @@ its_shape k = refl
 its_chosen : (k : ℕ) → Chosen (gen_input k) only_pick
 its_chosen k = record { begins = refl; grows = λ i from below. absurd (omega arith); ends = refl }
 
+no_comdats : (k : ℕ) → (gen_object k).comdats ≡ []
+unfolding gen_object
+no_comdats k = refl
+
+has_no_comdats : (k : ℕ) → HasNoComdats (gen_input k)
+has_no_comdats k = record {
+  objects = All-from_recursion (λ (m : ObjModule). m.comdats ≡ []) (gen_object k ∷ []) (no_comdats k, tt);
+  libs = All-nil (λ (m : ObjModule). m.comdats ≡ []);
+}
+
+pub its_link : (k : ℕ) → IsLinkOf (gen_input k) (gen_link k)
+its_link k = plain_link (gen_input k) only_pick (has_no_comdats k) (its_chosen k)
+
 pub link_is : (k : ℕ) (l : Link) → IsLinkOf (gen_input k) l → l ≡ gen_link k
-link_is k l of =
-    of.same ∙ ap (link_of (gen_input k)) (chosen_once (gen_input k) of.picks only_pick of.chosen (its_chosen k))
+link_is k l of = link_once (gen_input k) l (gen_link k) of (its_link k)
 
 -- ---- one object
 

@@ -8,7 +8,7 @@ use Rattle.std.proofs.lemmas.List.FromFn.{length-map-range_with_len, sum_by-map-
 use Rattle.obj_types.specs.Definition.{WholeDef, WholeExport, WholeImport}
 use Rattle.obj_types.specs.Input.{counted}
 use Rattle.obj_types.specs.Items.{IsIndex}
-use Rattle.obj_types.specs.Whole.{IsPlainSeg, LiesIn, WholeExp, WholeFix, WholeGoal, WholeGroup, WholeModule, WholePlace, WholeSeg}
+use Rattle.obj_types.specs.Whole.{IsPlainSeg, LiesIn, WholeComdat, WholeExp, WholeFix, WholeGoal, WholeGroup, WholeModule, WholePlace, WholeSeg}
 use Rattle.obj_types.specs.declared.definition.SegAttrs.{SegAttrs}
 use Rattle.obj_types.specs.declared.object.FixAt.{FixAt}
 use Rattle.obj_types.specs.declared.object.Goal.TheVariants as goals
@@ -31,7 +31,7 @@ module_with k pieces fixes = shape (refers k) (names_of k) pieces fixes
 
 -- ---- what refers to the module before it
 
-of_either : {X : Type 0} (P : X → Type 0) (test : Bool) (x : X) → P x → AllByRecursion P (if test then x ∷ [] else [])
+pub of_either : {X : Type 0} (P : X → Type 0) (test : Bool) (x : X) → P x → AllByRecursion P (if test then x ∷ [] else [])
 of_either P true x h = (h, tt)
 of_either P false x h = tt
 
@@ -110,6 +110,8 @@ whole k n count eight all =
       apart = references_apart k count;
       imports = All-from_recursion (λ (i : Imp). i.module ≢ []) (imports_of k) (named_imports k);
       exports = All-from_recursion WholeExp (own_export k ∷ []) (its_export k, tt);
+      comdats = All-nil (WholeComdat m);
+      comdats_apart = λ i j d less within. absurd (omega (arith, within));
       start = tt;
       data_limit = omega (arith, data_size n);
       fix_limit = omega (arith, length-map-range_with_len (reference k) 0 count);
@@ -133,6 +135,7 @@ written k n count eight all = record {
   internal = (λ e. cc, tt);
   short = short_pieces n;
   follow = references_follow k 256 0 n 0 count refl refl (omega arith);
+  no_comdats = refl;
 }
 
 pub objects_written : ObjectsAreWritable

@@ -4,5 +4,6 @@
 mod laws;
 
 pub use laws::{
-    definitions_mean, inputs_are_whole, inputs_link, modules_load, objects_are_writable,
+    definitions_mean, inputs_are_whole, inputs_link, linked_files_are_short, modules_have_totals,
+    modules_load, objects_are_writable, objects_have_files,
 };

@@ -1,5 +1,6 @@
 -- An object module whose parts are those of another is the other.
 use Rattle.std.proofs.Common.{◌≡◌, ℕ, List, None, refl}
+use Rattle.obj_types.specs.declared.object.Comdat.{Comdat}
 use Rattle.obj_types.specs.declared.object.FixAt.{FixAt}
 use Rattle.obj_types.specs.declared.object.Group.{Group}
 use Rattle.obj_types.specs.declared.object.ObjModule.{ObjModule}
@@ -11,9 +12,9 @@ use Rattle.obj_types.specs.declared.symbol.Imp.{Imp}
 use Rattle.obj_types.specs.declared.symbol.Pub.{Pub}
 
 pub same_parts : (m : ObjModule) {name : List ℕ} {segs : List Seg} {groups : List Group} {pubs : List Pub} {exts : List Ext} {pieces : List Piece}
-    {fixes : List FixAt} {imports : List Imp} {exports : List Exp} {deflibs : List (List ℕ)} → name ≡ m.name → segs ≡ m.segs → groups ≡ m.groups
+    {fixes : List FixAt} {imports : List Imp} {exports : List Exp} {deflibs : List (List ℕ)} {comdats : List Comdat} → name ≡ m.name → segs ≡ m.segs → groups ≡ m.groups
     → pubs ≡ m.pubs → exts ≡ m.exts → pieces ≡ m.pieces → fixes ≡ m.fixes → imports ≡ m.imports → exports ≡ m.exports → deflibs ≡ m.deflibs
-    → None ≡ m.start
+    → comdats ≡ m.comdats → None ≡ m.start
     → record {
       name = name;
       segs = segs;
@@ -25,6 +26,7 @@ pub same_parts : (m : ObjModule) {name : List ℕ} {segs : List Seg} {groups : L
       imports = imports;
       exports = exports;
       deflibs = deflibs;
+      comdats = comdats;
       start = None;
     } ≡ m
-same_parts m a b c d e f g h i j k = rw (a, b, c, d, e, f, g, h, i, j, k) refl
+same_parts m a b c d e f g h i j k l = rw (a, b, c, d, e, f, g, h, i, j, k, l) refl

@@ -120,6 +120,7 @@ pub fn object_module(alloc: Global, k: u32) -> Result<ObjModule, NoMemory>
         imports: imports(alloc, k)?,
         exports: exports(alloc, k)?,
         deflibs: Seq::new(alloc),
+        comdats: Seq::new(alloc),
         start: None,
     })
 }

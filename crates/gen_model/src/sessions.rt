@@ -7,7 +7,7 @@ ghost use Rattle.gen_model.specs.Sessions as sessions;
 
 use crate::scripts::scripts;
 use lx_types::{Bytes, NoMemory, Seq};
-use session_model::Session;
+use session_model::{FailingLines, ModLines, Session};
 use session_text::write_session;
 use std::alloc::{AllocError, Global};
 
@@ -43,8 +43,8 @@ pub fn session_text(alloc: Global, count: u32, prefix: &str) -> Result<Bytes, No
     ensures { IfOk result (λ text. text ≡ session_bytes (sessions.gen_session count prefix.now)) }
 {
     let scripts = Session {
-        modules: Seq::new(alloc),
-        failing: Seq::new(alloc),
+        modules: ModLines::new(alloc),
+        failing: FailingLines::new(alloc),
         scripts: scripts(alloc, count)?,
     };
     let mut text = Vec::new(alloc);

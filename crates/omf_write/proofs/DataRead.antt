@@ -82,9 +82,10 @@ module _ (names : List (List ℕ)) (m : ObjModule) where
   abbrev at : List Piece → List FixAt → LastData → ObjParts
   at pieces fixes last = data_parts names m pieces fixes last
 
-  good_piece : (before : List Piece) (fixes : List FixAt) (last : LastData) (p : Piece) → ReadyPiece m p → sum_by size before + size p ≤ MAX_DATA → AllByRecursion (IsOff p) fixes → GoodData (at before fixes last) p.seg p.offset (size p)
-  good_piece before fixes last p ready limit off = record {
+  good_piece : Few m → (before : List Piece) (fixes : List FixAt) (last : LastData) (p : Piece) → ReadyPiece m p → sum_by size before + size p ≤ MAX_DATA → AllByRecursion (IsOff p) fixes → GoodData (at before fixes last) p.seg p.offset (size p)
+  good_piece counts before fixes last p ready limit off = record {
     segment = seg_least m p.seg (plain_seg m p ready);
+    index = (let most = (seg_least m p.seg (plain_seg m p ready)).1 in let counted = counts.segs in omega (arith, most, counted));
     place = λ e. record { range = ready.range; limit = limit; on_no_fix = off_all p fixes off };
   }
 
@@ -96,7 +97,7 @@ module _ (names : List (List ℕ)) (m : ObjModule) where
   unfolding add
   piece_goes counts before fixes last p ready limit off =
       one (at before fixes last) (at (before ++ p ∷ []) fixes (last_of p)) (data_record p) (ledata_record p)
-      (good_piece before fixes last p ready limit off) refl
+      (good_piece counts before fixes last p ready limit off) refl
       (spells_as (data_record p) 0xA1 true (index_bytes p.seg ++ (little_bytes 4 p.offset ++ p.bytes)) (1, omega arith, refl) (data_short m p ready) refl (data_spelled m counts p ready))
       (added_piece (is_debug_seg m.segs p.seg) _ (at (before ++ p ∷ []) fixes (last_of p)) (no_debug m p.seg (plain_seg m p ready)))
 

@@ -30,7 +30,7 @@ use Rattle.omf_write.proofs.Listed.{index_there}
 
 -- an unfinished module with some of its data
 abbrev pub data_parts : List (List ℕ) → ObjModule → List Piece → List FixAt → LastData → ObjParts
-data_parts names m pieces fixes last = record { names = names; «module» = record m { pieces = pieces; fixes = fixes; start = None }; last = last; threads = unset }
+data_parts names m pieces fixes last = record { names = names; «module» = record m { pieces = pieces; fixes = fixes; start = None; comdats = [] }; last = last; threads = unset; comdats = [] }
 
 abbrev pub frame_index : Frame → Option ℕ
 frame_index (frames.Seg i) = Some i

@@ -8,12 +8,12 @@ use Rattle.omf_fields.specs.Forms.{Form, each}
 use Rattle.omf_model.specs.Record.{Record, header, modend, FixData, is_end}
 use Rattle.omf_model.specs.Add.{add}
 use Rattle.omf_model.specs.Parts.{parts_of}
+use Rattle.omf_model.specs.Finished.{finished}
 use Rattle.omf_model.specs.Good.{GoodAfter, EachGood}
 use Rattle.omf_model.specs.Begun.{IsOpen}
 use Rattle.omf_model.specs.Spelling.{Spells, SpellsAll}
 use Rattle.omf_model.specs.Object.{IsModule}
 use Rattle.omf_model.proofs.PartsLaws.{parts_of-snoc}
-use Rattle.omf_model.proofs.ModuleLaws.{module_is}
 
 abbrev pub GoodFrom : ObjParts → List Record → Type 0
 GoodFrom p [] = Unit {0}
@@ -100,9 +100,9 @@ parts_with_records before (r ∷ rs) =
     ∙ parts_with_records (before ++ r ∷ []) rs
     ∙ ap (λ (s : ObjParts). with_records s rs) (parts_of-snoc before r)
 
-pub finished : (name : List ℕ) (first middle last : List ℕ) (q : ObjParts) (kind : ℕ) (start : Option FixData) → Spells first (header name) → Goes (parts_of (header name ∷ [])) middle q
-    → GoodAfter q (modend kind start) → Spells last (modend kind start) → IsModule (first ++ (middle ++ last)) ((add q (modend kind start)).module)
-finished name first middle last q kind start head goes good end =
+pub module_ends : (name : List ℕ) (first middle last : List ℕ) (q : ObjParts) (kind : ℕ) (start : Option FixData) → Spells first (header name) → Goes (parts_of (header name ∷ [])) middle q
+    → GoodAfter q (modend kind start) → Spells last (modend kind start) → IsModule (first ++ (middle ++ last)) (finished (add q (modend kind start)))
+module_ends name first middle last q kind start head goes good end =
     let begun : ObjParts = parts_of (header name ∷ []) in
     let ended = one_end in
     let others : List Record = goes.records ++ modend kind start ∷ [] in
@@ -125,9 +125,8 @@ finished name first middle last q kind start head goes good end =
         second_so = each_both (λ r bytes. Spells bytes r) goes.records (modend kind start ∷ []) middle last goes.spelled ended;
       };
       meant =
-          ap (λ (s : ObjParts). (add s (modend kind start)).module) goes.meant
-          ∙ ap (λ (s : ObjParts). s.module) (sym (with_both begun goes.records (modend kind start ∷ [])) ∙ sym (parts_with_records (header name ∷ []) others))
-          ∙ module_is (header name ∷ others);
+          ap (λ (s : ObjParts). finished (add s (modend kind start))) goes.meant
+          ∙ ap finished (sym (with_both begun goes.records (modend kind start ∷ [])) ∙ sym (parts_with_records (header name ∷ []) others));
     }
   where
     one_end : each (λ r bytes. Spells bytes r) (modend kind start ∷ []) last

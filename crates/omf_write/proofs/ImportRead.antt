@@ -18,8 +18,9 @@ use Rattle.omf_fields.specs.Forms.{Form, ◌then◌, anything, nothing, byte, na
 use Rattle.omf_model.specs.Record.{Record, header, impdef, modend, ImpDef, ImpEntry, by_ordinal, by_name}
 use Rattle.omf_model.specs.Items.{entry_of, or_else}
 use Rattle.omf_model.specs.Spelling.{Spells, types_of, contents_form, class_form, entry_form}
+use Rattle.omf_model.specs.Finished.{finished}
 use Rattle.omf_model.specs.Object.{AreModule, IsModule}
-use Rattle.omf_model.specs.Parts.{module_of, names_of, segs_of, groups_of, pieces_of, fixes_of, fixes_in, starts_of, fields_of, last_of}
+use Rattle.omf_model.specs.Parts.{parts_of, module_of, names_of, segs_of, groups_of, comdats_of, pubs_of, pieces_of, fixes_of, fixes_in, starts_of, fields_of, last_of}
 use Rattle.omf_write.specs.Framed.{front_of, checksum_of, record_of, name_bytes}
 use Rattle.omf_write.specs.ImportModule.{EntryFits, ImportFits, IsShortEntry, NamesFit, flag_of, entry_bytes, import_comment, import_bytes, import_object}
 
@@ -144,8 +145,8 @@ pub entry_meant : (internal : List ℕ) (entry : EntryKey) → EntryFits entry �
 entry_meant internal (Ordinal n) fits = refl
 entry_meant internal (Named name_) fits = named_by (bytes_eq name_ internal) internal name_ fits refl
 
-meant : (imp : Imp) → ImportFits imp → import_object imp ≡ module_of (records imp)
-unfolding module_of names_of segs_of groups_of pieces_of fixes_of fixes_in starts_of fields_of last_of
+meant : (imp : Imp) → ImportFits imp → import_object imp ≡ finished (parts_of (records imp))
+unfolding finished parts_of module_of names_of segs_of groups_of comdats_of pubs_of pieces_of fixes_of fixes_in starts_of fields_of last_of
 meant imp fits = ap (λ (e : EntryKey). with_entry imp e) (sym (entry_meant imp.name imp.entry fits.entry))
 
 pub import_is_read : (imp : Imp) → ImportFits imp → NamesFit imp → IsModule (import_bytes imp) (import_object imp)

@@ -8,6 +8,7 @@ use Rattle.obj_types.specs.declared.object.Group.{Group}
 use Rattle.obj_types.specs.declared.object.Piece.{Piece}
 use Rattle.obj_types.specs.declared.object.FixAt.{FixAt}
 use Rattle.obj_types.specs.declared.object.StartAt.{StartAt}
+use Rattle.obj_types.specs.declared.object.Comdat.{Comdat}
 use Rattle.obj_types.specs.declared.object.ObjModule.{ObjModule}
 use Rattle.obj_types.specs.declared.symbol.Pub.{Pub}
 use Rattle.obj_types.specs.declared.symbol.PubPlace.{PubPlace}
@@ -17,13 +18,15 @@ use Rattle.obj_types.specs.declared.parts.LastData.TheVariants as datas
 use Rattle.obj_types.specs.declared.parts.ObjParts.{ObjParts}
 use Rattle.obj_types.specs.Fresh.{empty_module, fresh_parts}
 use Rattle.obj_types.specs.Items.{item}
-use Rattle.obj_types.specs.Whole.{WholePlace, WholeStart}
+use Rattle.obj_types.specs.Whole.{WholeModule, WholePlace, WholeStart}
 use Rattle.omf_fields.specs.Forms.{◌then◌, anything, nothing, byte, name}
 use Rattle.omf_model.specs.Record.{header, modend, FixData}
 use Rattle.omf_model.specs.Add.{add}
+use Rattle.omf_model.specs.Finished.{finished}
 use Rattle.omf_model.specs.Parts.{parts_of}
 use Rattle.omf_model.specs.Spelling.{Spells, fix_data_form}
 use Rattle.omf_model.specs.Object.{IsModule, Obj}
+use Rattle.omf_model.proofs.EndLaws.{finished-whole}
 use Rattle.omf_model.proofs.ModuleLaws.{parts_header}
 use Rattle.omf_write.specs.Framed.{record_of, name_bytes}
 use Rattle.omf_write.specs.ObjectNames.{NameList, names_of, texts}
@@ -34,7 +37,7 @@ use Rattle.omf_write.proofs.CommentsRead.{with_imports, imports_go, with_exports
 use Rattle.omf_write.proofs.DataRead.{data_go}
 use Rattle.omf_write.proofs.FieldBytes.{spells_as, name_spelled}
 use Rattle.omf_write.proofs.FixDataRead.{data_parts, data_of, Few, fix_data_spelled, fix_data_len, good_data, start_is}
-use Rattle.omf_write.proofs.Goes.{Goes, goes_on, finished}
+use Rattle.omf_write.proofs.Goes.{Goes, goes_on, module_ends}
 use Rattle.omf_write.proofs.GroupsRead.{ReadyGroup, with_groups, groups_go}
 use Rattle.omf_write.proofs.ImportRead.{both, passed_over}
 use Rattle.omf_write.proofs.ObjectReady.{names_short, ready_segs, ready_groups, ready_exts, ready_pubs, ready_imports, ready_exports, ready_pieces, ready_fixes, allowed}
@@ -47,7 +50,7 @@ abbrev headed : ObjModule → ObjModule
 headed m = record empty_module { name = m.name }
 
 abbrev with_symbols : ObjModule → ObjModule
-with_symbols m = record m { pieces = []; fixes = []; start = None }
+with_symbols m = record m { pieces = []; fixes = []; start = None; comdats = [] }
 
 few_items : (m : ObjModule) → IsWritable m → Few m
 few_items m can = record { segs = can.segs; groups = can.groups; exts = can.exts }
@@ -147,30 +150,44 @@ start_spelled m few s whole fits =
     spells_as (modend 0xC1 (Some d)) 0x8B true (0xC1 ∷ bytes) (1, omega arith, refl) (omega (arith, n)) refl
     (both (byte 0xC1) (fix_data_form true d then anything) (0xC1 ∷ []) bytes (omega arith, refl) (passed_over (fix_data_form true d) bytes fix))
 
-ended : (m : ObjModule) (ns : List (List ℕ)) (last : LastData) (body : List ℕ) (start : Option StartAt) → Few m → IsName m.name → IfSome start (WholeStart m) → IfSome start StartFits
-    → Goes (parts_of (header m.name ∷ [])) body (data_parts ns m m.pieces m.fixes last) → IsModule (record_of 0x80 (name_bytes m.name) ++ (body ++ end_record start)) (record m { start = start })
+-- The module without COMDATs, with this start.
+abbrev with_start : ObjModule → Option StartAt → ObjModule
+with_start m start = record m { start = start; comdats = [] }
+
+-- What ends so is the module at its end, since no number names a COMDAT.
+ends_as : (m : ObjModule) (ns : List (List ℕ)) (last : LastData) (kind : ℕ) (last_data : Option FixData) (start : Option StartAt) → Few m → WholeModule (with_start m start)
+    → (add (data_parts ns m m.pieces m.fixes last) (modend kind last_data)).module ≡ with_start m start → finished (add (data_parts ns m m.pieces m.fixes last) (modend kind last_data)) ≡ with_start m start
+unfolding add
+ends_as m ns last kind last_data start few whole is =
+    let counted = few.segs in
+    finished-whole (add (data_parts ns m m.pieces m.fixes last) (modend kind last_data)) refl (ap (λ (x : ObjModule). x.comdats) is) (subst WholeModule (sym is) whole) (omega (arith, counted)) ∙ is
+
+ended : (m : ObjModule) (ns : List (List ℕ)) (last : LastData) (body : List ℕ) (start : Option StartAt) → Few m → IsName m.name → WholeModule (with_start m start) → IfSome start StartFits
+    → Goes (parts_of (header m.name ∷ [])) body (data_parts ns m m.pieces m.fixes last) → IsModule (record_of 0x80 (name_bytes m.name) ++ (body ++ end_record start)) (with_start m start)
 ended m ns last body None few short whole fits goes =
     let p : ObjParts = data_parts ns m m.pieces m.fixes last in
-    subst (λ (x : ObjModule). IsModule (record_of 0x80 (name_bytes m.name) ++ (body ++ end_record None)) x) (added p)
-    (finished m.name (record_of 0x80 (name_bytes m.name)) body (end_record None) p 0 None (header_spelled m.name short) goes tt end_spelled)
+    subst (λ (x : ObjModule). IsModule (record_of 0x80 (name_bytes m.name) ++ (body ++ end_record None)) x) (ends_as m ns last 0 None None few whole (added p))
+    (module_ends m.name (record_of 0x80 (name_bytes m.name)) body (end_record None) p 0 None (header_spelled m.name short) goes tt end_spelled)
   where
     added : (p : ObjParts) → (add p (modend 0 None)).module ≡ record p.module { start = None }
     added p = unfold add in refl
 ended m ns last body (Some s) few short whole fits goes =
     let p : ObjParts = data_parts ns m m.pieces m.fixes last in
     let d : FixData = data_of s.frame s.goal s.disp in
-    subst (λ (x : ObjModule). IsModule (record_of 0x80 (name_bytes m.name) ++ (body ++ end_record (Some s))) x) (added m.pieces m.fixes)
-    (finished m.name (record_of 0x80 (name_bytes m.name)) body (end_record (Some s)) p 0xC1 (Some d) (header_spelled m.name short) goes
-    (good_data ns m m.pieces m.fixes last s.frame s.goal s.disp whole.0 whole.1) (start_spelled m few s whole fits))
+    subst (λ (x : ObjModule). IsModule (record_of 0x80 (name_bytes m.name) ++ (body ++ end_record (Some s))) x) (ends_as m ns last 0xC1 (Some d) (Some s) few whole (added m.pieces m.fixes))
+    (module_ends m.name (record_of 0x80 (name_bytes m.name)) body (end_record (Some s)) p 0xC1 (Some d) (header_spelled m.name short) goes
+    (good_data ns m m.pieces m.fixes last s.frame s.goal s.disp whole.start.0 whole.start.1) (start_spelled m few s whole.start fits))
   where
-    added : (pieces : List Piece) (fixes : List FixAt) → (add (data_parts ns m pieces fixes last) (modend 0xC1 (Some (data_of s.frame s.goal s.disp)))).module ≡ record m { pieces = pieces; fixes = fixes; start = Some s }
-    added pieces fixes = unfold add in ap (λ (o : Option StartAt). record m { pieces = pieces; fixes = fixes; start = o }) (start_is s)
+    added : (pieces : List Piece) (fixes : List FixAt) → (add (data_parts ns m pieces fixes last) (modend 0xC1 (Some (data_of s.frame s.goal s.disp)))).module ≡ record m { pieces = pieces; fixes = fixes; start = Some s; comdats = [] }
+    added pieces fixes = unfold add in ap (λ (o : Option StartAt). record m { pieces = pieces; fixes = fixes; start = o; comdats = [] }) (start_is s)
 
 pub object_is_read : (m : ObjModule) → IsWritable m → ObjectFits m → IsModule (object_bytes m) m
 object_is_read m can fits =
     let k = body_go m can fits in
     let ns : List (List ℕ) = texts (names_of m) in
-    ended m ns k.then_last (body_records m) m.start (few_items m can) fits.name can.whole.start fits.start k.goes
+    let same : m ≡ with_start m m.start = ap (λ (cs : List Comdat). record m { comdats = cs }) can.no_comdats in
+    subst (λ (x : ObjModule). IsModule (object_bytes m) x) (sym same)
+    (ended m ns k.then_last (body_records m) m.start (few_items m can) fits.name (subst WholeModule same can.whole) fits.start k.goes)
 
 -- nothing stands behind the module
 pub module_is_file : (m : ObjModule) {bytes : List ℕ} → IsModule bytes m → Obj bytes m

@@ -28,7 +28,7 @@ use Rattle.omf_write.proofs.NamesRead.{HasName}
 
 -- an unfinished module before its data
 abbrev pub parts : List (List ℕ) → ObjModule → ObjParts
-parts names m = record { names = names; «module» = m; last = datas.None; threads = unset }
+parts names m = record { names = names; «module» = m; last = datas.None; threads = unset; comdats = [] }
 
 -- ---- names
 

@@ -123,7 +123,7 @@ pub_by names m few before text (In seg offset) short plain whole fits =
     let most = there.1 in
     let d : PubDef = pub_def text offset in
     one (parts names (with_pubs m before)) (parts names (with_pubs m (before ++ placed_pub text (In seg offset) ∷ []))) (in_segment text seg (d ∷ [])) (record_of 0x91 (pubdef_bytes text (In seg offset)))
-    (record { in_group = omega arith; in_segment = λ e. whole; types = (refl, tt) }) refl
+    (record { in_group = omega arith; index = omega (arith, most, few); in_segment = λ e. whole; types = (refl, tt) }) refl
     (spells_as (in_segment text seg (d ∷ [])) 0x91 true (pubdef_bytes text (In seg offset)) (1, omega arith, refl) (pub_short text seg offset short) refl
     (pub_spelled text seg offset short least (omega (arith, most, few)) fits))
     (ap (λ (x : PubPlace). parts names (with_pubs m (before ++ placed_pub text x ∷ []))) (place_by (seg == 0) seg offset (not_zero seg least)))

@@ -5,3 +5,4 @@ pub mod ObjectBytes
 pub mod ObjectFits
 pub mod ObjectNames
 pub mod Writable
+pub mod Written

@@ -54,7 +54,8 @@ FollowPieces (p ∷ ps) fixes =
 abbrev pub IsCounted : {A : Type 0} → List A → Type 0
 IsCounted xs = length xs ≤ 32767
 
--- A group's record has room for its members, an export has an internal name, and a piece has at most 1,024 bytes.
+-- A group's record has room for its members, an export has an internal name, a piece has at most 1,024 bytes, and there
+-- are no COMDATs.
 pub record IsWritable (m : ObjModule) : Type 0 where
   pub whole : WholeModule m
   pub names : IsCounted (names_of m)
@@ -69,3 +70,4 @@ pub record IsWritable (m : ObjModule) : Type 0 where
   pub internal : AllByRecursion (λ (e : Exp). e.internal ≢ []) m.exports
   pub short : AllByRecursion (λ (p : Piece). length p.bytes ≤ 1024) m.pieces
   pub follow : FollowPieces m.pieces m.fixes
+  pub no_comdats : m.comdats ≡ []

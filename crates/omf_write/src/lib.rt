@@ -18,6 +18,6 @@ mod tables;
 
 pub use imports::import_module;
 pub use joining::join;
-pub use laws::library_limit;
+pub use laws::{library_limit, writable_modules_have_files};
 pub use libraries::{LIBRARY_LIMIT, LibraryLong, library};
 pub use objects::object;

@@ -109,8 +109,8 @@ fn written(alloc: Global, m: &ObjModule) -> Result<Vec<u8>, NoMemory>
 /// records of its fixups, 64 to a record. Checksums are written. It refuses nothing: `NoMemory` is want of memory.
 ///
 /// The module is whole. It has at most 32,767 segments, groups, externals, and different names of segments, classes
-/// and groups, no debug segment, no local or communal name and no constant. A group's record has room for its
-/// members, an import fits `import_module`, and an export has an internal name. A piece has at most 1,024 bytes. Each
+/// and groups, no debug segment, no COMDAT, no local or communal name and no constant. A group's record has room for
+/// its members, an import fits `import_module`, and an export has an internal name. A piece has at most 1,024 bytes. Each
 /// fixup lies within one piece and shares no byte with another, and the fixups stand in the order of their pieces.
 pub fn object(alloc: Global, m: &ObjModule) -> Result<Vec<u8>, NoMemory>
     requires { IsWritable m.now }

@@ -18,4 +18,5 @@ returns c =
     c.in_ok-imports.ensures
     c.in_ok-exports.ensures
     c.new.ensures
+    c.new-2.ensures
     refl

@@ -15,7 +15,7 @@ returns-clause-linked c =
     let before = c.args.self.now in
     let parts : Parts = c.in_ok-module_in.field-0 in
     let pushed : c.push.new.self.items ≡ before.«modules».items ++ parts ∷ [] = search rules in
-    linked_more c.args.count before (record { «modules» = c.push.new.self; pages = before.pages + c.from.result; sources = before.sources + c.from-2.result }) parts c.args.linked c.requires.few c.requires.before c.requires.linked c.requires.short
+    linked_more c.args.count before (record { «modules» = c.push.new.self; pages = before.pages + c.from.result; sources = before.sources + c.from-2.result }) parts c.args.linked c.requires.few c.requires.before c.requires.linked
     (record {
       «modules» = pushed;
       is = c.in_ok-module_in.ensures.parts ∙ ap parts_of c.into_vec.ensures;
