@@ -5,17 +5,17 @@ use Rattle.std.specs.List.{enumerate_from, flat_map}
 use Rattle.lx_ports.specs.Calls.{Call, load, save}
 use Rattle.lx_ports.specs.Files.{Contents}
 use Rattle.lx_ports.specs.declared.files.SaveFault.{SaveFault}
-use Rattle.link_model.specs.Link.{Link, IsLinkOf}
+use Rattle.link_model.specs.Link.{Link}
 use Rattle.load_model.specs.declared.deeds.Fresh.{Fresh}
 use Rattle.gen_model.specs.declared.totals.Totals.{Totals}
 use Rattle.gen_model.specs.Modules.{gen_input, gen_object}
 use Rattle.gen_model.specs.Sums.{AreFirstPlaces, AreLinked, AreTotals, bases_of, library_of, totals_line, totals_of}
+use Rattle.gen_laws.proofs.OneLink.{link_once}
 use Rattle.lx_answer.specs.Answer.{saves_in}
 use Rattle.lx_answer.specs.GenAnswer.{AreObjectFiles, GenAnswer, GenWords, IsSavedWith, SavesInTurn, SaysGen, files_with, module_files, session_file}
 use Rattle.lx_answer.specs.Outcome.{Saved}
 use Rattle.lx_answer.specs.declared.said.Said.{Said}
 use Rattle.answer_laws.specs.AnswerLaws.{AreAlike, IsAlike}
-use Rattle.answer_laws.proofs.Links.{link_once}
 use Rattle.answer_laws.proofs.Loads.{AreSound, ap2}
 
 -- ---- the text

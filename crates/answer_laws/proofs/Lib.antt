@@ -4,5 +4,6 @@ pub mod Loads
 pub mod Links
 pub mod GeneratedOnce
 pub mod OneAnswerLaw
+pub mod GeneratedSome
 pub mod SomeAnswerLaw
 pub mod SmallestObjectsLaw

@@ -1,17 +1,12 @@
--- An input has one link, and has one.
-use Rattle.std.proofs.Common.{◌≡◌, ◌⊎◌, ℕ, zero, suc, ◌<◌, List, [], ◌∷◌, ◌++◌, refl, ap, sym, ◌∙◌, arith}
+-- An input has a link.
+use Rattle.std.proofs.Common.{◌≡◌, ℕ, zero, suc, ◌<◌, List, [], ◌∷◌, ◌++◌, refl, arith}
 use Rattle.std.specs.Prelude.{Option, None, Some}
 use Rattle.obj_types.specs.declared.input.LinkInput.{LinkInput}
 use Rattle.link_model.specs.declared.symbols.Pick.{Pick}
 use Rattle.link_model.specs.Choosing.{Chosen, next_pick, object_picks}
-use Rattle.link_model.specs.Link.{Link, IsLinkOf, link_of}
-use Rattle.link_model.proofs.OneChoice.{chosen_once}
+use Rattle.link_model.specs.Kept.{Kept}
+use Rattle.link_model.specs.Link.{Link, IsLinkOf, kept_link}
 use Rattle.link_model.proofs.Growing.{IsBegun, begun, grown, fewer, unpicked}
-
-pub link_once : (input : LinkInput) (l m : Link) → IsLinkOf input l → IsLinkOf input m → l ≡ m
-link_once input l m h k = h.same ∙ (ap (link_of input) (chosen_once input h.picks k.picks h.chosen k.chosen) ∙ sym k.same)
-
--- ---- there is one
 
 pub record AreChosen (input : LinkInput) : Type 0 where
   pub picks : List Pick
@@ -40,5 +35,5 @@ pub record HasLink (input : LinkInput) : Type 0 where
 
 pub some_link : (input : LinkInput) → HasLink input
 some_link input =
-    let found = chosen input in
-    record { link = link_of input found.picks; of_input = record { picks = found.picks; chosen = found.chosen; same = refl } }
+    let found = chosen (Kept input) in
+    record { link = kept_link input found.picks; of_input = record { picks = found.picks; chosen = found.chosen; same = refl } }

@@ -4,9 +4,9 @@ use Rattle.std.specs.Prelude.{Result, Ok, Err, Option, None, Some}
 use Rattle.lx_ports.specs.Calls.{Call, load, save}
 use Rattle.lx_ports.specs.Files.{Contents}
 use Rattle.lx_ports.specs.declared.files.SaveFault.{SaveFault}
-use Rattle.link_model.specs.Link.{Link}
 use Rattle.obj_types.specs.declared.object.ObjModule.{ObjModule}
 use Rattle.link_model.specs.OneSegment.{alone}
+use Rattle.gen_laws.proofs.OneLink.{link_once}
 use Rattle.lx_answer.specs.Answer.{Answer, IsSound, saves_in}
 use Rattle.lx_answer.specs.BindAnswer.{BindAnswer, bind_outcome}
 use Rattle.lx_answer.specs.ImageAnswer.{NAME, ImageAnswer, image_outcome}
@@ -21,7 +21,6 @@ use Rattle.lx_answer.specs.Words.{Command, command_of, image, link, implib, bind
 use Rattle.lx_answer.specs.declared.said.Said.{Said}
 use Rattle.answer_laws.specs.AnswerLaws.{AreSame, OneAnswer}
 use Rattle.answer_laws.proofs.GeneratedOnce.{gen_files_once, gen_said_once}
-use Rattle.answer_laws.proofs.Links.{link_once}
 use Rattle.answer_laws.proofs.Loads.{ap2, AreSound, sound_front, sound_back, SameReads, reads_once, SameStop, stops, stops_once, stops_or_reads}
 
 -- ---- what the items come to

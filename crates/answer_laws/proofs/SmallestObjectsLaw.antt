@@ -3,17 +3,22 @@ use Rattle.std.proofs.Common.{◌≡◌, ◌⊎◌, ℕ, ◌+◌, ◌≤◌, Lis
 use Rattle.std.specs.Prelude.{Result, Ok, Err, Option, None, Some, not, filter, find, codes, ◌&&◌, ◌==◌, ◌%◌}
 use Rattle.std.specs.List.{AllByRecursion, filter_map, enumerate_from, range_with_len}
 use Rattle.std.specs.Int.{w32, from_be_bytes}
+use Rattle.std.specs.Option.{option_map}
 use Rattle.std.proofs.lemmas.Bool.Decides.{nat_tests}
 use Rattle.hex.specs.Hex.{decode_sized}
 use Rattle.hex.specs.declared.error.FromHexError.{FromHexError}
 use Rattle.lx_ports.specs.Files.{Contents}
+use Rattle.std.proofs.lemmas.List.Elements.{All-from_recursion, All-nil}
 use Rattle.lx_ports.specs.Calls.{load}
 use Rattle.obj_types.specs.declared.symbol.Imp.{Imp}
 use Rattle.obj_types.specs.declared.object.ObjModule.{ObjModule}
 use Rattle.omf_model.specs.Object.{Obj}
 use Rattle.link_model.specs.declared.refusals.LinkRefusal.{LinkRefusal}
+use Rattle.link_model.specs.declared.refusals.LinkRefusal.TheVariants.{Sym, Comdat, Lay, Fixing, Entry}
 use Rattle.link_model.specs.declared.symbols.LaidObject.{LaidObject}
+use Rattle.link_model.specs.KeptLaws.{HasNoComdats}
 use Rattle.link_model.specs.Link.{Link, link_of}
+use Rattle.link_model.specs.Words.{first_of}
 use Rattle.link_model.specs.Layout.{objects}
 use Rattle.link_model.specs.LayoutRefusals.{lay_refusal}
 use Rattle.link_model.specs.SymbolRefusals.{sym_refusal}
@@ -28,6 +33,7 @@ use Rattle.link_model.proofs.Rules.{rules}
 use Rattle.link_model.proofs.SmallestLink.{InPage, placed, fixups-link, all_live}
 use Rattle.link_model.proofs.OneSegmentLaw.{one_segment_law}
 use Rattle.image_model.specs.Linked.{link_modules}
+use Rattle.gen_laws.proofs.OneLink.{plain_link}
 use Rattle.lx_answer.specs.Answer.{Answer, loaded}
 use Rattle.lx_answer.specs.FileLine.{file_line}
 use Rattle.lx_answer.specs.ImageAnswer.{NAME, arena_full, image_outcome, image_refusal, memory_of, memory_text, no_module, object_text}
@@ -83,6 +89,7 @@ no_entry_refusal name bytes places base = refl
 -- The refusals of a link, one behind the other.
 pub record Unrefused (l : Link) (o : LaidObject) : Type 0 where
   pub names : sym_refusal l ≡ None
+  pub comdats : l.clash ≡ None
   pub layout : lay_refusal l ≡ None
   pub fixups : place_refusal l ≡ None
   pub exports : entry_refusal l ≡ None
@@ -92,7 +99,10 @@ pub record Unrefused (l : Link) (o : LaidObject) : Type 0 where
 
 not_refused : (l : Link) (o : LaidObject) → Unrefused l o → link_refusal l ≡ None
 unfolding link_refusal
-not_refused l o h = rw (h.names, h.layout, h.fixups, h.exports) refl
+not_refused l o h = λ i.
+    first_of
+    (option_map Sym (h.names i) ∷ option_map Comdat (h.comdats i) ∷ option_map Lay (h.layout i)
+    ∷ option_map Fixing (h.fixups i) ∷ option_map Entry (h.exports i) ∷ [])
 
 no_module_refusal : (l : Link) (o : LaidObject) → Unrefused l o → no_module l ≡ None
 no_module_refusal l o h = rw h.pairs refl
@@ -130,6 +140,7 @@ unrefused name bytes places base low one =
     let page = one.one_page in
     record {
       names = h.names;
+      comdats = refl;
       layout = h.layout;
       fixups = h.fixups;
       exports = no_entry_refusal name bytes places base;
@@ -154,6 +165,12 @@ outcome name bytes places base low one =
 
 -- ---- the command
 
+has_no_comdats : (name bytes places : List ℕ) (base : ℕ) → HasNoComdats (alone (one_segment name bytes places) NAME base)
+has_no_comdats name bytes places base = record {
+  objects = All-from_recursion (λ (m : ObjModule). m.comdats ≡ []) (one_segment name bytes places ∷ []) (refl, tt);
+  libs = All-nil (λ (m : ObjModule). m.comdats ≡ []);
+}
+
 short_load : (bytes : List ℕ) (has : Option (List ℕ)) → has ≡ Some bytes → length bytes ≤ file_limit → Ok bytes ≡ loaded has
 short_load bytes has is short =
     let fits : nat_le (length bytes) file_limit ≡ true = grind (arith, nat_tests, short) in
@@ -177,7 +194,7 @@ smallest_objects contents file word bytes_of name bytes places base is_base has 
         outcome = record { said = shown_segment base bytes places; saved = None };
         comes_to = record {
           link = small name bytes places base;
-          of_input = record { picks = only_pick; chosen = h.chosen; same = refl };
+          of_input = plain_link (alone m NAME base) only_pick (has_no_comdats name bytes places base) h.chosen;
           comes_to = sym (outcome name bytes places base (base_below word base is_base) one);
         };
         saves = [];

@@ -5,7 +5,7 @@ use Rattle.lx_ports.specs.Calls.{Call, load, save}
 use Rattle.lx_ports.specs.Files.{Contents}
 use Rattle.lx_ports.specs.declared.files.LoadFault.{LoadFault}
 use Rattle.link_model.specs.OneSegment.{alone}
-use Rattle.lx_answer.specs.Answer.{Answer, saves_in}
+use Rattle.lx_answer.specs.Answer.{saves_in}
 use Rattle.lx_answer.specs.FileLine.{usage_line}
 use Rattle.lx_answer.specs.BindAnswer.{BindAnswer, bind_outcome}
 use Rattle.lx_answer.specs.ImageAnswer.{NAME, ImageAnswer, image_outcome}
@@ -20,9 +20,16 @@ use Rattle.lx_answer.specs.Words.{Command, command_of, image, link, implib, bind
 use Rattle.lx_answer.specs.declared.said.Said.{Said}
 use Rattle.lx_types.specs.declared.parts.Parts.{Parts}
 use Rattle.res_file.specs.declared.item.ResItem.{ResItem}
-use Rattle.answer_laws.specs.AnswerLaws.{HasBytes, IsAnswered, IsByFiles, SomeAnswer}
+use Rattle.gen_laws.specs.Laws.{FirstHaveTotals, ObjectsHaveFiles}
+use Rattle.answer_laws.specs.AnswerLaws.{HasBytes, SomeAnswer}
+use Rattle.answer_laws.proofs.GeneratedSome.{IsCounted, all_counted, generated}
 use Rattle.answer_laws.proofs.Links.{some_link}
 use Rattle.answer_laws.proofs.Loads.{AreSound, sound_both, IsLoaded, reads, stopped, all_loaded}
+
+-- All commands but `gen`.
+abbrev ReadsFiles : Command → Type 0
+ReadsFiles (gen count prefix) = ⊥
+ReadsFiles _ = Unit {0}
 
 -- ---- what the items come to
 
@@ -78,7 +85,7 @@ bound_of out target file (c ∷ d ∷ calls) (i ∷ []) h = absurd h.1
 bound_of out target file [] items h = absurd h
 bound_of out target file (c ∷ calls) [] h = absurd h
 
-comes_to_some : (command : Command) → IsByFiles (Some command) → (calls : List Call) (items : List Item) → AreRead (asked_files command) calls items → HasOutcome command items
+comes_to_some : (command : Command) → ReadsFiles command → (calls : List Call) (items : List Item) → AreRead (asked_files command) calls items → HasOutcome command items
 comes_to_some (image file base) by calls items h = let found = shown_of base file calls items h in record { outcome = found.0; comes_to = found.1 }
 comes_to_some (link out definition inputs) by calls items h =
     let found = some_link (input_of out items) in
@@ -113,14 +120,14 @@ pub record IsSaid (contents : Contents) (command : Option Command) : Type 0 wher
   pub said : Said
   pub says : SaysCommand command calls said
 
-says_of : (command : Command) → IsByFiles (Some command) → (calls : List Call) (said : Said) → IsStopped (asked_files command) calls said ⊎ IsDone command calls said → SaysCommand (Some command) calls said
+says_of : (command : Command) → ReadsFiles command → (calls : List Call) (said : Said) → IsStopped (asked_files command) calls said ⊎ IsDone command calls said → SaysCommand (Some command) calls said
 says_of (image file base) by calls said h = h
 says_of (link out definition inputs) by calls said h = h
 says_of (implib out inputs) by calls said h = h
 says_of (bind out target file) by calls said h = h
 says_of (gen count prefix) by calls said h = absurd by
 
-said_behind : (contents : Contents) (command : Command) → IsByFiles (Some command) → IsLoaded contents (asked_files command) → IsSaid contents (Some command)
+said_behind : (contents : Contents) (command : Command) → ReadsFiles command → IsLoaded contents (asked_files command) → IsSaid contents (Some command)
 said_behind contents command by (stopped calls said sound stop) = record { calls = calls; sound = sound; said = said; says = says_of command by calls said (inl stop) }
 said_behind contents command by (reads calls items sound read) =
     let found = comes_to_some command by calls items read in
@@ -141,13 +148,22 @@ said_behind contents command by (reads calls items sound read) =
       }));
     }
 
-all_said : (contents : Contents) → HasBytes contents → (command : Option Command) → IsByFiles command → IsSaid contents command
-all_said contents h None by = record { calls = []; sound = tt; said = record { status = 2; text = usage_line }; says = (refl, refl) }
-all_said contents h (Some command) by = said_behind contents command by (all_loaded contents h (asked_files command))
+said_by_files : (contents : Contents) → HasBytes contents → (command : Command) → ReadsFiles command → IsSaid contents (Some command)
+said_by_files contents h command by = said_behind contents command by (all_loaded contents h (asked_files command))
 
-pub some_answer : SomeAnswer
-some_answer words contents h by =
-    let found = all_said contents h (command_of words) by in
+all_said : ObjectsHaveFiles → FirstHaveTotals → (contents : Contents) → HasBytes contents → (command : Option Command) → IsCounted command → IsSaid contents command
+all_said have told contents h None counted = record { calls = []; sound = tt; said = record { status = 2; text = usage_line }; says = (refl, refl) }
+all_said have told contents h (Some (image file base)) counted = said_by_files contents h (image file base) tt
+all_said have told contents h (Some (link out definition inputs)) counted = said_by_files contents h (link out definition inputs) tt
+all_said have told contents h (Some (implib out inputs)) counted = said_by_files contents h (implib out inputs) tt
+all_said have told contents h (Some (bind out target file)) counted = said_by_files contents h (bind out target file) tt
+all_said have told contents h (Some (gen count prefix)) counted =
+    let found = generated have told contents count prefix counted in
+    record { calls = found.calls; sound = found.sound; said = found.said; says = found.says }
+
+pub some_answer : ObjectsHaveFiles → FirstHaveTotals → SomeAnswer
+some_answer have told words contents h =
+    let found = all_said have told contents h (command_of words) (all_counted words) in
     record {
       saves = saves_in found.calls;
       said = found.said;

@@ -47,10 +47,5 @@ pub record IsAnswered (words : List (List ℕ)) (contents : Contents) : Type 0 w
   pub said : Said
   pub answer : Answer words contents saves said
 
--- The words are not those of `gen`.
-abbrev pub IsByFiles : Option Command → Type 0
-IsByFiles (Some (gen count prefix)) = ⊥
-IsByFiles _ = Unit {0}
-
 abbrev pub SomeAnswer : Type 0
-SomeAnswer = (words : List (List ℕ)) (contents : Contents) → HasBytes contents → IsByFiles (command_of words) → IsAnswered words contents
+SomeAnswer = (words : List (List ℕ)) (contents : Contents) → HasBytes contents → IsAnswered words contents

@@ -10,14 +10,14 @@ use Rattle.obj_types.specs.declared.definition.ModKind.TheVariants.{Program}
 use Rattle.obj_types.specs.declared.input.LinkInput.{LinkInput}
 use Rattle.obj_types.specs.Defaults.{default_def}
 use Rattle.link_model.specs.declared.refusals.LinkRefusal.{LinkRefusal}
-use Rattle.link_model.specs.declared.refusals.LinkRefusal.TheVariants.{Sym, Lay, Fixing, Entry}
+use Rattle.link_model.specs.declared.refusals.LinkRefusal.TheVariants.{Sym, Comdat, Lay, Fixing, Entry}
 use Rattle.link_model.specs.Link.{Link, IsLinkOf}
 use Rattle.link_model.specs.Layout.{objects}
 use Rattle.link_model.specs.Refusal.{link_refusal}
 use Rattle.image_model.specs.File.{file_of}
 use Rattle.image_model.specs.Linked.{image_of, called, page_forms, page_fixes}
 use Rattle.lx_types.specs.Escaped.{escaped}
-use Rattle.refusal_text.specs.Links.{sym_text, lay_text, fix_text, entry_text}
+use Rattle.refusal_text.specs.Links.{sym_text, comdat_text, lay_text, fix_text, entry_text}
 use Rattle.lx_answer.specs.Outcome.{Outcome, kept, refused_or}
 use Rattle.lx_answer.specs.Reading.{Item, object, library, definition}
 use Rattle.lx_answer.specs.Stem.{stem_of}
@@ -54,6 +54,7 @@ input_of out items = input_with (stem_of out) items
 
 abbrev pub link_text : LinkRefusal → List ℕ
 link_text (Sym refusal) = sym_text refusal
+link_text (Comdat refusal) = comdat_text refusal
 link_text (Lay refusal) = lay_text refusal
 link_text (Fixing refusal) = fix_text refusal
 link_text (Entry refusal) = entry_text refusal
