@@ -1,5 +1,5 @@
 -- Residences that begin with a start or a load.
-use Rattle.std.proofs.Common.{◌≡◌, ◌∷◌, ◌++◌, [], ℕ, suc, ◌+◌, ◌<◌, ◌==◌, ◌&&◌, ◌||◌, Bool, true, false, not, List, length, map, filter, find, cond, get_or, Option, Some, None, option_map, is_some, is_none, Result, Ok, Err, refl, sym, ◌∙◌, ap, subst, arith}
+use Rattle.std.proofs.Common.{◌≡◌, ◌∷◌, ◌++◌, [], ℕ, suc, ◌+◌, ◌<◌, ◌≤◌, ◌==◌, ◌&&◌, ◌||◌, Bool, true, false, not, List, length, map, filter, find, cond, get_or, Option, Some, None, option_map, is_some, is_none, Result, Ok, Err, refl, sym, ◌∙◌, ap, subst, arith}
 use Rattle.std.specs.Prelude.{All}
 use Rattle.std.specs.List.{AllByRecursion, list_any}
 use Rattle.std.specs.Arc.{arc_value}
@@ -31,18 +31,22 @@ use Rattle.load_model.specs.Alike.{BasesSeenStay}
 use Rattle.load_model.specs.Rows.{Row}
 use Rattle.load_model.proofs.Among.{some_find, any_append, among_filter}
 use Rattle.load_model.proofs.GivenSerials.{faults_are_given}
+use Rattle.load_model.proofs.Serials.{serials_rise}
 use Rattle.mod_refs.specs.AllRows.{AreRows}
 use Rattle.mod_refs.specs.Changes.{with_entered}
-use Rattle.stay_table.specs.Standing.{residences, is_of_module}
+use Rattle.write_overlay.specs.Layered.{Pages, Lays}
+use Rattle.stay_table.specs.Standing.{residences, unwritten, standing_in, is_of_module}
+use Rattle.stay_table.proofs.CallLists.{any_map, map_same}
+use Rattle.stay_table.proofs.Resident.{find_map, standing_with, residence_begun, serial_written, bases_written}
 use Rattle.load_core.specs.Ledger.{Ledger, state_of, IsLegal, MayAsk, with_entry}
-use Rattle.load_core.specs.Kept.{Keeps, IsCurrent, IsCurrentStay, rights_left, shared_as}
+use Rattle.load_core.specs.Kept.{Keeps, IsCurrent, IsCurrentStay, IsLaid, rights_left, shared_as}
 use Rattle.load_core.specs.Told.{residence_shown}
 use Rattle.load_core.specs.Enters.{IsBegun, HaveBegun, shared_of, bases_with}
 use Rattle.load_core.specs.declared.beside.Beside.{Beside}
 use Rattle.load_core.proofs.Arriving.{entry_with, enters_follow, placed_modules}
 use Rattle.load_core.proofs.Current.{Stands, all_more, all_joined, faults_same}
-use Rattle.load_core.proofs.Standing.{found_so}
-use Rattle.load_core.proofs.Keeping.{FollowsIn, NoFaults, after, all_standing, all_current, keeps_more}
+use Rattle.load_core.proofs.Standing.{Rising, found_so}
+use Rattle.load_core.proofs.Keeping.{FollowsIn, NoFaults, after, all_standing, rising_kept, all_current, keeps_more}
 
 -- ---- what is found
 
@@ -112,6 +116,10 @@ entering_residences : (lib : Library) (e : Eager) (pid : ℕ) (how : How) (m : �
 unfolding after_entering with_process
 entering_residences lib e pid how m fresh = refl
 
+-- they stand behind those that stood
+entering_standing : (lib : Library) (e : Eager) (pid : ℕ) (how : How) (m : ℕ) (fresh : List Fresh) → standing_in (after_entering lib e pid how m fresh) ≡ standing_in e ++ map residence_from fresh
+entering_standing lib e pid how m fresh = ap (map unwritten) (entering_residences lib e pid how m fresh) ∙ standing_with e.residences fresh
+
 entering_serials : (lib : Library) (e : Eager) (pid : ℕ) (how : How) (m : ℕ) (fresh : List Fresh) → (after_entering lib e pid how m fresh).serials ≡ e.serials + length fresh
 unfolding after_entering with_process
 entering_serials lib e pid how m fresh = refl
@@ -172,6 +180,52 @@ residences_joined : (xs ys : List (Residence × Beside)) → residences (xs ++ y
 residences_joined [] ys = refl
 residences_joined (x ∷ xs) ys = ap (λ rs. x.0 ∷ rs) (residences_joined xs ys)
 
+-- ---- what was written
+
+-- residences have serial numbers that were given
+low_high : (low high : ℕ) (rs : List Residence) → Rising low rs high → low ≤ high
+low_high low high [] rise = rise
+low_high low high (r ∷ rs) rise = (let later : r.serial ≤ high = low_high r.serial high rs rise.1 in let first : low < r.serial = rise.0 in omega (arith, later, first))
+
+all_below : (low high : ℕ) (rs : List Residence) → Rising low rs high → AllByRecursion (λ r. r.serial ≤ high) rs
+all_below low high [] rise = tt
+all_below low high (r ∷ rs) rise = (low_high r.serial high rs rise.1, all_below r.serial high rs rise.1)
+
+-- a residence that begins is another than one that stood
+apart_above : (serials n : ℕ) (layers : Pages) (fs : List Fresh) → n ≤ serials → AllByRecursion (λ (f : Fresh). serials < f.serial) fs →
+    AllByRecursion (λ r. r.serial ≡ n → Lays layers r.writes) (map residence_from fs)
+apart_above serials n layers [] low above = tt
+apart_above serials n layers (f ∷ fs) low above =
+    (λ e. let high : serials < f.serial = above.0 in let same : f.serial ≡ n = e in absurd (omega (arith, low, high, same)), apart_above serials n layers fs low above.1)
+
+old_laid : (serials : ℕ) (rs : List Residence) (fresh : List Fresh) → AllByRecursion (λ (f : Fresh). serials < f.serial) fresh → (stays : List (Residence × Beside)) →
+    AllByRecursion (λ r. r.serial ≤ serials) (residences stays) → AllByRecursion (IsLaid rs) stays → AllByRecursion (IsLaid (rs ++ map residence_from fresh)) stays
+old_laid serials rs fresh above [] low laid = tt
+old_laid serials rs fresh above (s ∷ stays) low laid =
+    (all_joined (λ r. r.serial ≡ s.0.serial → Lays s.1.layers r.writes) rs (map residence_from fresh) laid.0 (apart_above serials s.0.serial s.1.layers fresh low.0 above), old_laid serials rs fresh above stays low.1 laid.1)
+
+-- nothing was written to those that begin
+fresh_laid : (layers : Pages) (n : ℕ) (fs : List Fresh) → Lays layers [] → AllByRecursion (λ r. r.serial ≡ n → Lays layers r.writes) (map residence_from fs)
+fresh_laid layers n [] lays = tt
+fresh_laid layers n (f ∷ fs) lays = (λ e. lays, fresh_laid layers n fs lays)
+
+apart_below : (serials n : ℕ) (layers : Pages) (rs : List Residence) → serials < n → AllByRecursion (λ r. r.serial ≤ serials) rs → AllByRecursion (λ r. r.serial ≡ n → Lays layers r.writes) rs
+apart_below serials n layers [] high low = tt
+apart_below serials n layers (r ∷ rs) high low =
+    (λ e. let less : r.serial ≤ serials = low.0 in let same : r.serial ≡ n = e in absurd (omega (arith, less, high, same)), apart_below serials n layers rs high low.1)
+
+new_laid : (b : Ledger) (all : List Fresh) (serials : ℕ) (rs : List Residence) (fresh : List Fresh) → AllByRecursion (λ r. r.serial ≤ serials) rs → (fs : List Fresh) (ss : List (Residence × Beside)) → HaveBegun b all fs ss →
+    AllByRecursion (λ (f : Fresh). serials < f.serial) fs → AllByRecursion (IsLaid (rs ++ map residence_from fresh)) ss
+new_laid b all serials rs fresh low [] [] begun above = tt
+new_laid b all serials rs fresh low [] (s ∷ ss) begun above = absurd begun
+new_laid b all serials rs fresh low (f ∷ fs) [] begun above = absurd begun
+new_laid b all serials rs fresh low (f ∷ fs) (s ∷ ss) begun above =
+    let numbered : s.0.serial ≡ f.serial = ap (λ (r : Residence). r.serial) begun.0.residence in
+    let high : serials < s.0.serial = (let it : serials < f.serial = above.0 in omega (arith, it, numbered)) in (
+      all_joined (λ r. r.serial ≡ s.0.serial → Lays s.1.layers r.writes) rs (map residence_from fresh) (apart_below serials s.0.serial s.1.layers rs high low) (fresh_laid s.1.layers s.0.serial fresh begun.0.layers),
+      new_laid b all serials rs fresh low fs ss begun.1 above.1,
+    )
+
 pub keeps_entered : BasesSeenStay → (b : Ledger) (rows rows' : List Row) (stays new : List (Residence × Beside)) (serials serials' pid : ℕ) (how : How) (m : ℕ) (fresh : List Fresh) (calls : List Call) →
     Keeps b rows stays serials → is_among pids pid ≡ true → MayAsk b pid (enter how m) → enter_deed b.library (state_of b) pid how m ≡ deeds.Enter how m fresh calls →
     placing b.library (state_of b) pid m ≡ Ok fresh → HaveBegun b fresh fresh new → AreRows b.library (with_entered b.library (state_of b) pid how m) rows' →
@@ -181,16 +235,22 @@ keeps_entered stay b rows rows' stays new serials serials' pid how m fresh calls
     let e : Eager = state_of b in
     let follows : FollowsIn b x = enters_follow b pid how m (deeds.Enter how m fresh calls) there may is in
     let step = after_enter b pid how m fresh calls in
-    let still : residences (stays ++ new) ≡ (after_entry b.library e x).residences =
-    residences_joined stays new ∙ ap (λ rs. rs ++ residences new) kept.standing ∙ ap (λ rs. e.residences ++ rs) (begun_residences b fresh fresh new begun)
-    ∙ sym (entering_residences b.library e pid how m fresh) ∙ ap (λ (a : Eager). a.residences) (sym step)
+    let still : residences (stays ++ new) ≡ standing_in (after_entry b.library e x) =
+    residences_joined stays new ∙ ap (λ rs. rs ++ residences new) kept.standing ∙ ap (λ rs. standing_in e ++ rs) (begun_residences b fresh fresh new begun)
+    ∙ sym (entering_standing b.library e pid how m fresh) ∙ ap (λ (a : Eager). standing_in a) (sym step)
     in
-    let behind = front_all (λ s. Stands (state_of (with_entry b x)) s.0) stays new (all_standing (state_of (with_entry b x)) (stays ++ new) (still ∙ ap (λ (a : Eager). a.residences) (sym (after b x)))) in
+    let above = placing_above b.library e pid m fresh placed in
+    let rise = serials_rise b.library b.failing (fixed_bytes b.library) b.history kept.legal in
+    let behind = front_all (λ s. Stands (state_of (with_entry b x)) s.0) stays new (all_standing (state_of (with_entry b x)) (stays ++ new) (still ∙ ap (λ (a : Eager). standing_in a) (sym (after b x)))) in
     keeps_more b x rows' (stays ++ new) serials' kept.legal follows (subst (λ a. AreRows b.library a rows') (sym step) (entering_rows b.library e pid how m fresh rows' are)) still
     (given ∙ sym (entering_serials b.library e pid how m fresh) ∙ ap (λ (a : Eager). a.serials) (sym step))
     (all_joined (IsCurrentStay (with_entry b x)) stays new
     (all_current stay b x stays kept.legal follows (no_enter_fault pid how m fresh calls) (all_standing e stays kept.standing) behind kept.current)
-    (new_current b pid how m fresh calls kept.legal fresh new begun (placing_above b.library e pid m fresh placed)))
+    (new_current b pid how m fresh calls kept.legal fresh new begun above))
+    (subst (λ rs. AllByRecursion (IsLaid rs) (stays ++ new)) (sym (entering_residences b.library e pid how m fresh) ∙ ap (λ (a : Eager). a.residences) (sym step))
+    (all_joined (IsLaid (e.residences ++ map residence_from fresh)) stays new
+    (old_laid e.serials e.residences fresh above stays (all_below 0 e.serials (residences stays) (rising_kept b rows stays serials kept)) kept.laid)
+    (new_laid b fresh e.serials e.residences fresh (all_below 0 e.serials e.residences rise) fresh new begun above)))
 
 -- ---- what is attached
 
@@ -218,8 +278,10 @@ shown_of c rows stays serials k kept some = step (find (is_of_module k) stays) r
         let own = found_own k stays s is in
         let current : IsCurrentStay c s = found_so (IsCurrentStay c) (is_of_module k) stays s kept.current is in
         let R : ℕ → ℕ → ResidenceFor = λ n m. record { library = c.library; serial = n; «module» = m; bases = bases_seen c.library (state_of c) m } in
-        let found : residence_of (state_of c) k ≡ Some s.0 = ap (find (λ r. r.«module» == k)) (sym kept.standing) ∙ own.0 in
-        ap Some (current.shared ∙ ap (R s.0.serial) own.1 ∙ ap (λ o. R (serial_of o) k) (sym found))
+        let found : option_map unwritten (residence_of (state_of c) k) ≡ Some s.0 =
+        sym (find_map (λ (r : Residence). r.«module» == k) unwritten (state_of c).residences) ∙ ap (find (λ r. r.«module» == k)) (sym kept.standing) ∙ own.0
+        in
+        ap Some (current.shared ∙ ap (R s.0.serial) own.1 ∙ ap (λ n. R n k) (ap serial_of (sym found) ∙ serial_written (residence_of (state_of c) k)))
 
 -- ---- what is attached is found
 
@@ -254,7 +316,9 @@ all_found b rows stays new serials pid m fresh kept placed begun =
     all_members (joined b.library (state_of b) pid m) (λ k. is_some (find (is_of_module k) (stays ++ new)) ≡ true)
     (λ k member.
     some_find (is_of_module k) (stays ++ new) ∙ stays_any k (stays ++ new)
-    ∙ ap (list_any (λ r. r.«module» == k)) (residences_joined stays new ∙ ap (λ rs. rs ++ residences new) kept.standing ∙ ap (λ rs. (state_of b).residences ++ rs) (begun_residences b fresh fresh new begun))
+    ∙ ap (list_any (λ r. r.«module» == k)) (residences_joined stays new ∙ ap (λ rs. rs ++ residences new) kept.standing ∙ ap (λ rs. standing_in (state_of b) ++ rs) (begun_residences b fresh fresh new begun)
+    ∙ sym (standing_with (state_of b).residences fresh))
+    ∙ any_map (λ (r : Residence). r.«module» == k) unwritten ((state_of b).residences ++ map residence_from fresh)
     ∙ attached_found b.library (state_of b) pid m fresh k (placed_modules b.library (state_of b) pid m fresh placed) member)
 
 -- so what is handed out is what is shown of each
@@ -272,13 +336,17 @@ all_shown c rows stays serials (a ∷ arcs) (k ∷ ks) kept each same =
 
 -- ---- the loops
 
-pub bases_are : (b : Ledger) (stays : List (Residence × Beside)) (fresh : List Fresh) (m : ℕ) → residences stays ≡ (state_of b).residences →
+pub bases_are : (b : Ledger) (stays : List (Residence × Beside)) (fresh : List Fresh) (m : ℕ) → residences stays ≡ standing_in (state_of b) →
     record { mods = map (bases_with stays fresh) (Order b.library m) } ≡ bases_seen b.library (with_fresh_residences (state_of b) fresh) m
-unfolding bases_seen order_of residence_of
+unfolding bases_seen order_of
 bases_are b stays fresh m same =
-    let M : List Residence → ℕ → ModBases = λ rs k. record { «module» = k; objects = bases_of (find (λ r. r.«module» == k) (rs ++ map residence_from fresh)) } in
-    let B : List Residence → Bases = λ rs. record { mods = map (M rs) (Order b.library m) } in
-    ap B same
+    let Own : ℕ → List ℕ → ModBases = λ k objects. record { «module» = k; objects = objects } in
+    let All_of : List ModBases → Bases = λ mods. record { mods = mods } in
+    let begun = with_fresh_residences (state_of b) fresh in
+    ap All_of
+    (map_same (bases_with stays fresh) (λ k. Own k (bases_of (residence_of (with_fresh_residences (state_of b) fresh) k)))
+    (λ k. ap (Own k) (ap bases_of (sym (residence_begun (state_of b) (residences stays) fresh k (sym same))) ∙ bases_written (residence_of (with_fresh_residences (state_of b) fresh) k)))
+    (Order b.library m))
 
 pub begun_more : (b : Ledger) (all fs : List Fresh) (ss : List (Residence × Beside)) (f : Fresh) (s : Residence × Beside) → HaveBegun b all fs ss → IsBegun b all f s → HaveBegun b all (fs ++ f ∷ []) (ss ++ s ∷ [])
 begun_more b all [] [] f s begun one = (one, tt)

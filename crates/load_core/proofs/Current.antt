@@ -97,14 +97,3 @@ current_same stay b x r rights shown legal follows none before after current = r
   left = current.left ∙ sym (rights_same b x r none);
   shared = current.shared ∙ sym (shared_same stay b x r legal follows before after);
 }
-
--- Where an entry writes shared bytes the residence is another, of the same serial, module and bases.
-pub current_moved : (b : Ledger) (r s : Residence) (rights : PageRights) (shown : ResidenceFor) → s.serial ≡ r.serial → s.«module» ≡ r.«module» →
-    IsCurrent b r rights shown → IsCurrent b s rights shown
-current_moved b r s rights shown serial place current =
-    let L : ℕ → ℕ → PageRights = λ n m. record { serial = n; left = filter (λ p. not (has_fault b.history n p)) (fixable_pages (module_of b.library m)) } in
-    let S : ℕ → ℕ → ResidenceFor = λ n m. record { library = b.library; serial = n; «module» = m; bases = bases_seen b.library (state_of b) m } in
-    record {
-      left = current.left ∙ ap (λ n. L n r.«module») (sym serial) ∙ ap (L s.serial) (sym place);
-      shared = current.shared ∙ ap (λ n. S n r.«module») (sym serial) ∙ ap (S s.serial) (sym place);
-    }

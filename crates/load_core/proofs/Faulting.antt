@@ -37,14 +37,14 @@ use Rattle.load_model.proofs.Holding.{when_none, Inside, span_inside}
 use Rattle.load_model.specs.Alike.{BasesSeenStay}
 use Rattle.load_model.specs.Rows.{Row}
 use Rattle.load_model.proofs.Serials.{serials_rise}
-use Rattle.stay_table.specs.Standing.{residences, has_serial}
+use Rattle.stay_table.specs.Standing.{residences, unwritten, standing_in, has_serial}
 use Rattle.load_core.specs.Ledger.{Ledger, state_of, MayAsk, entry_of, with_entry}
-use Rattle.load_core.specs.Kept.{Keeps, IsCurrentStay, rights_left, shared_as}
+use Rattle.load_core.specs.Kept.{Keeps, IsCurrentStay, IsLaid, rights_left, shared_as}
 use Rattle.load_core.specs.Taken.{without_right}
 use Rattle.load_core.specs.declared.beside.Beside.{Beside}
 use Rattle.load_core.proofs.Current.{Stands, IsNoFault, fault_or, filter_same, all_both, current_same, shared_same}
-use Rattle.load_core.proofs.Standing.{Rising, IsAsked, asked, asked_there, asked_nowhere, all_set, there_so, unlike}
-use Rattle.load_core.proofs.Keeping.{FollowsIn, after, all_standing, keeps_more}
+use Rattle.load_core.proofs.Standing.{IsAsked, asked, asked_there, asked_nowhere, all_set, there_so, unlike}
+use Rattle.load_core.proofs.Keeping.{FollowsIn, after, all_standing, rising_kept, keeps_more}
 
 -- ---- the page may be fixed
 
@@ -193,7 +193,7 @@ pub faced : AreListed → (b : Ledger) (rows : List Row) (stays : List (Residenc
     (m : ℕ) × MayAsk b pid (fault serial m p) → position (has_serial serial) stays ≡ Some place → slice_get stays place ≡ Some s → IsFaced b stays pid serial p s
 faced listed b rows stays serials pid serial p place s kept may at there =
     let one = asked_page b rows stays serials pid serial may.0 p kept may.1 in
-    let same : s.0 ≡ one.residence = asked_there b.library (state_of b) stays pid serial may.0 one place s at there in
+    let same : s.0 ≡ unwritten one.residence = asked_there b.library (state_of b) stays pid serial may.0 one place s at there in
     let numbered : s.0.serial ≡ serial = ap (λ (r : Residence). r.serial) same ∙ one.numbered in
     let current : IsCurrentStay b s = there_so (IsCurrentStay b) stays place s kept.current there in
     let module_is : s.0.«module» ≡ may.0 = ap (λ (r : Residence). r.«module») same ∙ one.of_module in
@@ -234,7 +234,7 @@ keeps_fault stay b rows stays serials pid serial m p place s kept follows there 
     map-set_same (λ (t : Residence × Beside). t.0) stays place (s.0, without_right p s.1) s (ap (λ (t : Residence × Beside). t.0) (sym (get_or_from_slice_get stays place s s there)))
     in
     let before = all_standing (state_of b) stays kept.standing in
-    let behind = all_standing (state_of c) stays (kept.standing ∙ ap (λ (e : Eager). e.residences) (sym (after b x))) in
+    let behind = all_standing (state_of c) stays (kept.standing ∙ ap (λ (e : Eager). standing_in e) (sym (after b x))) in
     let both = all_both (λ t. Stands (state_of b) t.0 × Stands (state_of c) t.0) (IsCurrentStay b) stays (all_both (λ t. Stands (state_of b) t.0) (λ t. Stands (state_of c) t.0) stays before behind) kept.current in
     let this = there_so (λ t. (Stands (state_of b) t.0 × Stands (state_of c) t.0) × IsCurrentStay b t) stays place s both there in
     let taken : record (s.1.rights) { left = filter (λ q. not (is_page p q)) s.1.rights.left } ≡ rights_left c s.0 =
@@ -243,9 +243,11 @@ keeps_fault stay b rows stays serials pid serial m p place s kept follows there 
     let shown : arc_value s.1.shared ≡ shared_as c s.0 = this.1.shared ∙ sym (shared_same stay b x s.0 kept.legal follows this.0.0 this.0.1) in
     keeps_more b x rows set_stays serials kept.legal follows kept.reached (still ∙ kept.standing) kept.given
     (all_set (λ t. (Stands (state_of b) t.0 × Stands (state_of c) t.0) × IsCurrentStay b t) (IsCurrentStay c) serial 0 (state_of b).serials stays place s (s.0, without_right p s.1)
-    (subst (λ rs. Rising 0 rs (state_of b).serials) (sym kept.standing) (serials_rise b.library b.failing (fixed_bytes b.library) b.history kept.legal)) there numbered
+    (rising_kept b rows stays serials kept) there numbered
     (λ t other h. current_same stay b x t.0 t.1.rights (arc_value t.1.shared) kept.legal follows (other_fault pid serial m t.0.serial p other) h.0.0 h.0.1 h.1)
     (record { left = taken; shared = shown }) both)
+    (all_set (IsLaid (state_of b).residences) (IsLaid (state_of b).residences) serial 0 (state_of b).serials stays place s (s.0, without_right p s.1) (rising_kept b rows stays serials kept) there numbered
+    (λ t other h. h) (there_so (IsLaid (state_of b).residences) stays place s kept.laid there) kept.laid)
 
 pub fault_adds : (b : Ledger) (pid serial m : ℕ) (p : PageId) → with_entry b (fault_entry pid serial m p) ≡ with_entry b (entry_of b pid (fault serial m p))
 unfolding deed_of

@@ -1,8 +1,11 @@
 -- What an entry leaves of what a board keeps.
-use Rattle.std.proofs.Common.{◌≡◌, ℕ, ◌==◌, Bool, true, false, List, [], ◌∷◌, ◌++◌, map, is_some, refl, sym, ◌∙◌, ap, subst, if◌then◌else◌}
+use Rattle.std.proofs.Common.{◌≡◌, ℕ, ◌==◌, Bool, true, false, List, [], ◌∷◌, ◌++◌, Some, map, slice_get, refl, sym, ◌∙◌, ap, subst, if◌then◌else◌}
 use Rattle.std.specs.Prelude.{◌<◌, length, slice_index}
 use Rattle.std.specs.List.{AllByRecursion}
-use Rattle.std.proofs.lemmas.Bool.{eqb-true}
+use Rattle.std.proofs.lemmas.Bool.{eq-eqb, eqb-true}
+use Rattle.std.proofs.lemmas.List.{append-nil}
+use Rattle.std.proofs.Math.Seq.{map-set_same}
+use Rattle.std.proofs.lemmas.Option.{get_or_from_slice_get}
 use Rattle.lx_types.specs.Object.{class_of}
 use Rattle.std.specs.Arc.{arc_value}
 use Rattle.lx_types.specs.declared.object.Class.{Class}
@@ -10,20 +13,23 @@ use Rattle.lx_types.specs.declared.object.Class.TheVariants as classes
 use Rattle.load_model.specs.declared.deeds.Deed.TheVariants as deeds
 use Rattle.load_model.specs.declared.deeds.Entry.{Entry}
 use Rattle.load_model.specs.Modules.{Library, fixed_bytes, object_at}
-use Rattle.load_model.specs.State.{Written, Residence, Failing, Eager, nothing_yet, with_process, residence_of}
+use Rattle.load_model.specs.State.{Written, Residence, Failing, Eager, nothing_yet, with_process}
 use Rattle.load_model.specs.Memory.{writing, with_write}
 use Rattle.load_model.specs.Asks.{after_write, after_deed}
 use Rattle.load_model.specs.Histories.{after_entry, state_after, Follows}
 use Rattle.load_model.specs.Alike.{BasesSeenStay}
 use Rattle.load_model.specs.Rows.{Row, IsRowOf, reach_count}
+use Rattle.load_model.proofs.Serials.{serials_rise}
 use Rattle.load_model.proofs.Growing.{nothing_is_legal, one_more_is_legal, one_more_is_after}
 use Rattle.mod_refs.specs.AllRows.{AreRows, row_at}
-use Rattle.stay_table.specs.Standing.{residences, with_write_in}
+use Rattle.write_overlay.specs.Layered.{Lays}
+use Rattle.stay_table.specs.Standing.{residences, unwritten, standing_in}
 use Rattle.load_core.specs.Ledger.{Ledger, state_of, IsLegal, with_entry}
-use Rattle.load_core.specs.Kept.{Keeps, IsCurrentStay}
-use Rattle.load_core.specs.Shared.{shared_write, stays_with}
+use Rattle.load_core.specs.Kept.{Keeps, IsCurrentStay, IsLaid}
+use Rattle.load_core.specs.Shared.{shared_writes, AreLaid}
 use Rattle.load_core.specs.declared.beside.Beside.{Beside}
-use Rattle.load_core.proofs.Current.{Stands, IsNoFault, all_more, all_both, all_stand, current_same, current_moved}
+use Rattle.load_core.proofs.Current.{Stands, IsNoFault, all_more, all_both, all_stand, current_same}
+use Rattle.load_core.proofs.Standing.{Rising, rising_standing, there_so, all_set}
 
 -- ---- lists of residences
 
@@ -31,8 +37,19 @@ pub lifted : (P : Residence → Type 0) (stays : List (Residence × Beside)) →
 lifted P [] all = tt
 lifted P (s ∷ stays) all = (all.0, lifted P stays all.1)
 
-pub all_standing : (e : Eager) (stays : List (Residence × Beside)) → residences stays ≡ e.residences → AllByRecursion (λ s. Stands e s.0) stays
-all_standing e stays same = lifted (Stands e) stays (subst (AllByRecursion (Stands e)) (sym same) (all_stand e))
+-- a fact of residences as they stand
+as_standing : (P : Residence → Type 0) → ((r : Residence) → P r → P (unwritten r)) → (rs : List Residence) → AllByRecursion P rs → AllByRecursion P (map unwritten rs)
+as_standing P still [] all = tt
+as_standing P still (r ∷ rs) all = (still r all.0, as_standing P still rs all.1)
+
+pub all_standing : (e : Eager) (stays : List (Residence × Beside)) → residences stays ≡ standing_in e → AllByRecursion (λ s. Stands e s.0) stays
+all_standing e stays same = lifted (Stands e) stays (subst (AllByRecursion (Stands e)) (sym same) (as_standing (Stands e) (λ r h. h) e.residences (all_stand e)))
+
+-- the serial numbers of residences that are kept rise
+pub rising_kept : (b : Ledger) (rows : List Row) (stays : List (Residence × Beside)) (serials : ℕ) → Keeps b rows stays serials → Rising 0 (residences stays) (state_of b).serials
+rising_kept b rows stays serials kept =
+    subst (λ rs. Rising 0 rs (state_of b).serials) (sym kept.standing)
+    (rising_standing 0 (state_of b).serials (state_of b).residences (serials_rise b.library b.failing (fixed_bytes b.library) b.history kept.legal))
 
 -- ---- an entry
 
@@ -44,14 +61,16 @@ after b x = one_more_is_after b.library b.failing b.history x
 
 -- what is kept after an entry, by the state after it
 pub keeps_more : (b : Ledger) (x : Entry) (rows : List Row) (stays : List (Residence × Beside)) (serials : ℕ) → IsLegal b → FollowsIn b x →
-    AreRows b.library (after_entry b.library (state_of b) x) rows → residences stays ≡ (after_entry b.library (state_of b) x).residences →
-    serials ≡ (after_entry b.library (state_of b) x).serials → AllByRecursion (IsCurrentStay (with_entry b x)) stays → Keeps (with_entry b x) rows stays serials
-keeps_more b x rows stays serials legal follows reached standing given current = record {
+    AreRows b.library (after_entry b.library (state_of b) x) rows → residences stays ≡ standing_in (after_entry b.library (state_of b) x) →
+    serials ≡ (after_entry b.library (state_of b) x).serials → AllByRecursion (IsCurrentStay (with_entry b x)) stays →
+    AllByRecursion (IsLaid (after_entry b.library (state_of b) x).residences) stays → Keeps (with_entry b x) rows stays serials
+keeps_more b x rows stays serials legal follows reached standing given current laid = record {
   legal = one_more_is_legal b.library b.failing (fixed_bytes b.library) b.history x legal follows;
   reached = subst (λ e. AreRows b.library e rows) (sym (after b x)) reached;
-  standing = standing ∙ ap (λ (e : Eager). e.residences) (sym (after b x));
+  standing = standing ∙ ap (λ (e : Eager). standing_in e) (sym (after b x));
   given = given ∙ ap (λ (e : Eager). e.serials) (sym (after b x));
   current = current;
+  laid = subst (λ (e : Eager). AllByRecursion (IsLaid e.residences) stays) (sym (after b x)) laid;
 }
 
 abbrev pub NoFaults : Entry → Type 0
@@ -72,10 +91,11 @@ pub keeps_still : BasesSeenStay → (b : Ledger) (x : Entry) (rows rows' : List 
     AreRows b.library (after_entry b.library (state_of b) x) rows' → (state_of b).residences ≡ (after_entry b.library (state_of b) x).residences →
     serials' ≡ (after_entry b.library (state_of b) x).serials → Keeps (with_entry b x) rows' stays serials'
 keeps_still stay b x rows rows' stays serials serials' kept follows none reached same given =
-    let still : residences stays ≡ (after_entry b.library (state_of b) x).residences = kept.standing ∙ same in
-    let behind : residences stays ≡ (state_of (with_entry b x)).residences = still ∙ ap (λ (e : Eager). e.residences) (sym (after b x)) in
+    let still : residences stays ≡ standing_in (after_entry b.library (state_of b) x) = kept.standing ∙ ap (map unwritten) same in
+    let behind : residences stays ≡ standing_in (state_of (with_entry b x)) = still ∙ ap (λ (e : Eager). standing_in e) (sym (after b x)) in
     keeps_more b x rows' stays serials' kept.legal follows reached still given
     (all_current stay b x stays kept.legal follows none (all_standing (state_of b) stays kept.standing) (all_standing (state_of (with_entry b x)) stays behind) kept.current)
+    (subst (λ rs. AllByRecursion (IsLaid rs) stays) same kept.laid)
 
 -- ---- writes
 
@@ -98,26 +118,90 @@ row_written lib e pid serial q w row is = step (q == pid) refl
 pub rows_written : (lib : Library) (e : Eager) (pid serial : ℕ) (w : Written) (rows : List Row) → AreRows lib e rows → AreRows lib (with_process e pid (writing serial w (e.processes pid))) rows
 rows_written lib e pid serial w rows are = record { each = λ q there. row_written lib e pid serial q w (row_at rows q) (are.each q there) }
 
-write_serial : (serial : ℕ) (w : Written) (r : Residence) → ((with_write serial w r).serial ≡ r.serial) × ((with_write serial w r).«module» ≡ r.«module»)
-write_serial serial w r = step (r.serial == serial)
+-- with these writes to the residence of a serial number
+abbrev with_writes : ℕ → List Written → Residence → Residence
+with_writes serial more r = if r.serial == serial then record r { writes = r.writes ++ more } else r
+
+standing_written : (serial : ℕ) (more : List Written) (rs : List Residence) → map unwritten (map (with_writes serial more) rs) ≡ map unwritten rs
+standing_written serial more [] = refl
+standing_written serial more (r ∷ rs) = ap (λ q. q ∷ map unwritten (map (with_writes serial more) rs)) (step (r.serial == serial)) ∙ ap (λ qs. unwritten r ∷ qs) (standing_written serial more rs)
   where
-    step : (c : Bool) → ((if c then record r { writes = r.writes ++ w ∷ [] } else r).serial ≡ r.serial) × ((if c then record r { writes = r.writes ++ w ∷ [] } else r).«module» ≡ r.«module»)
-    step true = (refl, refl)
-    step false = (refl, refl)
+    step : (c : Bool) → unwritten (if c then record r { writes = r.writes ++ more } else r) ≡ unwritten r
+    step true = refl
+    step false = refl
 
-residences_written : (serial : ℕ) (w : Written) (stays : List (Residence × Beside)) → residences (map (with_write_in serial w) stays) ≡ map (with_write serial w) (residences stays)
-residences_written serial w [] = refl
-residences_written serial w (s ∷ stays) = ap (λ rs. with_write serial w s.0 ∷ rs) (residences_written serial w stays)
+none_written : (serial : ℕ) (rs : List Residence) → map (with_writes serial []) rs ≡ rs
+none_written serial [] = refl
+none_written serial (r ∷ rs) = ap (λ q. q ∷ map (with_writes serial []) rs) (step (r.serial == serial)) ∙ ap (λ qs. r ∷ qs) (none_written serial rs)
+  where
+    step : (c : Bool) → (if c then record r { writes = r.writes ++ [] } else r) ≡ r
+    step true = ap (λ ws. record r { writes = ws }) (append-nil r.writes)
+    step false = refl
 
-all_moved : (b : Ledger) (serial : ℕ) (w : Written) (stays : List (Residence × Beside)) → AllByRecursion (IsCurrentStay b) stays → AllByRecursion (IsCurrentStay b) (map (with_write_in serial w) stays)
-all_moved b serial w [] all = tt
-all_moved b serial w (s ∷ stays) all =
-    let same = write_serial serial w s.0 in
-    (current_moved b s.0 (with_write serial w s.0) s.1.rights (arc_value s.1.shared) same.0 same.1 all.0, all_moved b serial w stays all.1)
+true_false : (b : Bool) → b ≡ true → b ≡ false → ⊥
+true_false b t f = (let wrong : true ≡ false = sym t ∙ f in cc)
 
-stands_written : (serial : ℕ) (w : Written) (e : Eager) (stays : List (Residence × Beside)) → AllByRecursion (λ s. Stands e s.0) (map (with_write_in serial w) stays) → AllByRecursion (λ s. Stands e s.0) stays
-stands_written serial w e [] all = tt
-stands_written serial w e (s ∷ stays) all = (subst (λ m. is_some (residence_of e m) ≡ true) (write_serial serial w s.0).1 all.0, stands_written serial w e stays all.1)
+-- what is laid beside another residence stays so
+others_laid : (serial : ℕ) (more : List Written) (t : Residence × Beside) (rs : List Residence) → (t.0.serial == serial) ≡ false → IsLaid rs t → IsLaid (map (with_writes serial more) rs) t
+others_laid serial more t [] other laid = tt
+others_laid serial more t (r ∷ rs) other laid = (step (r.serial == serial) refl laid.0, others_laid serial more t rs other laid.1)
+  where
+    step : (c : Bool) → (r.serial == serial) ≡ c → (r.serial ≡ t.0.serial → Lays t.1.layers r.writes) →
+        (if c then record r { writes = r.writes ++ more } else r).serial ≡ t.0.serial → Lays t.1.layers (if c then record r { writes = r.writes ++ more } else r).writes
+    step true is h e = absurd (true_false (t.0.serial == serial) (eq-eqb t.0.serial serial (sym e ∙ eqb-true r.serial serial is)) other)
+    step false is h e = h e
+
+-- the writes are laid over those before them
+this_laid : (serial : ℕ) (more : List Written) (s t : Residence × Beside) (rs : List Residence) → s.0.serial ≡ serial → t.0 ≡ s.0 →
+    ((writes : List Written) → Lays s.1.layers writes → Lays t.1.layers (writes ++ more)) → IsLaid rs s → IsLaid (map (with_writes serial more) rs) t
+this_laid serial more s t [] numbered same over laid = tt
+this_laid serial more s t (r ∷ rs) numbered same over laid = (step (r.serial == serial) refl laid.0, this_laid serial more s t rs numbered same over laid.1)
+  where
+    own : t.0.serial ≡ s.0.serial
+    own = ap (λ (q : Residence). q.serial) same
+
+    step : (c : Bool) → (r.serial == serial) ≡ c → (r.serial ≡ s.0.serial → Lays s.1.layers r.writes) →
+        (if c then record r { writes = r.writes ++ more } else r).serial ≡ t.0.serial → Lays t.1.layers (if c then record r { writes = r.writes ++ more } else r).writes
+    step true is h e = over r.writes (h (e ∙ own))
+    step false is h e = absurd (true_false (r.serial == serial) (eq-eqb r.serial serial (e ∙ own ∙ numbered)) is)
+
+-- Residences with these writes over those before them in the one at a place, which has this serial number.
+module _ (stays after : List (Residence × Beside)) (place serial high : ℕ) (s : Residence × Beside) (more : List Written) (rise : Rising 0 (residences stays) high)
+    (there : slice_get stays place ≡ Some s) (numbered : s.0.serial ≡ serial) (laid : AreLaid stays after place s more) where
+  residences_laid : residences after ≡ residences stays
+  residences_laid =
+      ap (λ (ss : List (Residence × Beside)). residences ss) laid.stand
+      ∙ map-set_same (λ (t : Residence × Beside). t.0) stays place (s.0, record s.1 { layers = laid.layers }) s
+      (ap (λ (t : Residence × Beside). t.0) (sym (get_or_from_slice_get stays place s s there)))
+
+  current_laid : (c : Ledger) → AllByRecursion (IsCurrentStay c) stays → AllByRecursion (IsCurrentStay c) after
+  current_laid c current =
+      subst (AllByRecursion (IsCurrentStay c)) (sym laid.stand)
+      (all_set (IsCurrentStay c) (IsCurrentStay c) serial 0 high stays place s (s.0, record s.1 { layers = laid.layers }) rise there numbered (λ t other h. h)
+      (there_so (IsCurrentStay c) stays place s current there) current)
+
+  writes_laid : (rs : List Residence) → AllByRecursion (IsLaid rs) stays → AllByRecursion (IsLaid (map (with_writes serial more) rs)) after
+  writes_laid rs all =
+      subst (AllByRecursion (IsLaid (map (with_writes serial more) rs))) (sym laid.stand)
+      (all_set (IsLaid rs) (IsLaid (map (with_writes serial more) rs)) serial 0 high stays place s (s.0, record s.1 { layers = laid.layers }) rise there numbered
+      (λ t other h. others_laid serial more t rs other h)
+      (this_laid serial more s (s.0, record s.1 { layers = laid.layers }) rs numbered refl laid.over (there_so (IsLaid rs) stays place s all there)) all)
+
+-- where nothing is written all is kept
+pub keeps_unwritten : (b : Ledger) (rows : List Row) (stays after : List (Residence × Beside)) (serials place : ℕ) (s : Residence × Beside) → Keeps b rows stays serials →
+    slice_get stays place ≡ Some s → AreLaid stays after place s [] → Keeps b rows after serials
+keeps_unwritten b rows stays after serials place s kept there laid =
+    let rise = rising_kept b rows stays serials kept in
+    record {
+      legal = kept.legal;
+      reached = kept.reached;
+      standing = residences_laid stays after place s.0.serial (state_of b).serials s [] rise there refl laid ∙ kept.standing;
+      given = kept.given;
+      current = current_laid stays after place s.0.serial (state_of b).serials s [] rise there refl laid b kept.current;
+      laid =
+          subst (λ rs. AllByRecursion (IsLaid rs) after) (none_written s.0.serial (state_of b).residences)
+          (writes_laid stays after place s.0.serial (state_of b).serials s [] rise there refl laid (state_of b).residences kept.laid);
+    }
 
 abbrev pub write_entry : ℕ → ℕ → ℕ → Written → Entry
 write_entry pid serial m w = record { pid = pid; deed = deeds.Write serial m w.object w.offset w.bytes }
@@ -125,38 +209,43 @@ write_entry pid serial m w = record { pid = pid; deed = deeds.Write serial m w.o
 no_write_fault : (pid serial m : ℕ) (w : Written) → NoFaults (write_entry pid serial m w)
 no_write_fault pid serial m w s p = refl
 
-keeps_class : BasesSeenStay → (b : Ledger) (pid serial m : ℕ) (w : Written) (c : Class) (rows : List Row) (stays : List (Residence × Beside)) (serials : ℕ) →
+keeps_class : BasesSeenStay → (b : Ledger) (pid serial m : ℕ) (w : Written) (c : Class) (rows : List Row) (stays behind : List (Residence × Beside)) (serials place : ℕ) (s : Residence × Beside) →
     Keeps b rows stays serials → FollowsIn b (write_entry pid serial m w) → after_entry b.library (state_of b) (write_entry pid serial m w) ≡ after_write (state_of b) pid serial w c →
-    Keeps (with_entry b (write_entry pid serial m w)) rows (stays_with serial (shared_write c w) stays) serials
+    slice_get stays place ≡ Some s → s.0.serial ≡ serial → AreLaid stays behind place s (shared_writes c w) → Keeps (with_entry b (write_entry pid serial m w)) rows behind serials
 unfolding with_process
-keeps_class stay b pid serial m w classes.Code rows stays serials kept follows same =
-    keeps_still stay b (write_entry pid serial m w) rows rows stays serials serials kept follows (no_write_fault pid serial m w)
+keeps_class stay b pid serial m w classes.Code rows stays behind serials place s kept follows same there numbered laid =
+    let still = keeps_unwritten b rows stays behind serials place s kept there laid in
+    keeps_still stay b (write_entry pid serial m w) rows rows behind serials serials still follows (no_write_fault pid serial m w)
     (subst (λ e. AreRows b.library e rows) (sym same) kept.reached) (ap (λ (e : Eager). e.residences) (sym same)) (kept.given ∙ ap (λ (e : Eager). e.serials) (sym same))
-keeps_class stay b pid serial m w classes.Private rows stays serials kept follows same =
-    keeps_still stay b (write_entry pid serial m w) rows rows stays serials serials kept follows (no_write_fault pid serial m w)
+keeps_class stay b pid serial m w classes.Private rows stays behind serials place s kept follows same there numbered laid =
+    let still = keeps_unwritten b rows stays behind serials place s kept there laid in
+    keeps_still stay b (write_entry pid serial m w) rows rows behind serials serials still follows (no_write_fault pid serial m w)
     (subst (λ e. AreRows b.library e rows) (sym same) (rows_written b.library (state_of b) pid serial w rows kept.reached))
     (ap (λ (e : Eager). e.residences) (sym same)) (kept.given ∙ ap (λ (e : Eager). e.serials) (sym same))
-keeps_class stay b pid serial m w classes.Shared rows stays serials kept follows same =
+keeps_class stay b pid serial m w classes.Shared rows stays behind serials place s kept follows same there numbered laid =
     let x : Entry = write_entry pid serial m w in
-    let moved : List (Residence × Beside) = map (with_write_in serial w) stays in
-    let still : residences moved ≡ (after_entry b.library (state_of b) x).residences =
-    residences_written serial w stays ∙ ap (map (with_write serial w)) kept.standing ∙ ap (λ (e : Eager). e.residences) (sym same)
+    let rise = rising_kept b rows stays serials kept in
+    let stood : residences stays ≡ standing_in (after_entry b.library (state_of b) x) =
+    kept.standing ∙ sym (standing_written serial (w ∷ []) (state_of b).residences) ∙ ap (λ (e : Eager). standing_in e) (sym same)
     in
-    let behind : residences moved ≡ (state_of (with_entry b x)).residences = still ∙ ap (λ (e : Eager). e.residences) (sym (after b x)) in
-    keeps_more b x rows moved serials kept.legal follows (subst (λ e. AreRows b.library e rows) (sym same) (rows_shared b.library (state_of b) serial w rows kept.reached)) still
+    let now : residences stays ≡ standing_in (state_of (with_entry b x)) = stood ∙ ap (λ (e : Eager). standing_in e) (sym (after b x)) in
+    keeps_more b x rows behind serials kept.legal follows (subst (λ e. AreRows b.library e rows) (sym same) (rows_shared b.library (state_of b) serial w rows kept.reached))
+    (residences_laid stays behind place serial (state_of b).serials s (w ∷ []) rise there numbered laid ∙ stood)
     (kept.given ∙ ap (λ (e : Eager). e.serials) (sym same))
-    (all_moved (with_entry b x) serial w stays
-    (all_current stay b x stays kept.legal follows (no_write_fault pid serial m w) (all_standing (state_of b) stays kept.standing)
-    (stands_written serial w (state_of (with_entry b x)) stays (all_standing (state_of (with_entry b x)) moved behind)) kept.current))
+    (current_laid stays behind place serial (state_of b).serials s (w ∷ []) rise there numbered laid (with_entry b x)
+    (all_current stay b x stays kept.legal follows (no_write_fault pid serial m w) (all_standing (state_of b) stays kept.standing) (all_standing (state_of (with_entry b x)) stays now) kept.current))
+    (subst (λ (e : Eager). AllByRecursion (IsLaid e.residences) behind) (sym same)
+    (writes_laid stays behind place serial (state_of b).serials s (w ∷ []) rise there numbered laid (state_of b).residences kept.laid))
   where
     rows_shared : (lib : Library) (e : Eager) (serial : ℕ) (w : Written) (rows : List Row) → AreRows lib e rows → AreRows lib (record e { residences = map (with_write serial w) e.residences }) rows
     rows_shared lib e serial w rows are = record { each = are.each }
 
-pub keeps_written : BasesSeenStay → (b : Ledger) (pid serial m : ℕ) (w : Written) (rows : List Row) (stays : List (Residence × Beside)) (serials : ℕ) →
-    Keeps b rows stays serials → FollowsIn b (write_entry pid serial m w) →
-    Keeps (with_entry b (write_entry pid serial m w)) rows (stays_with serial (shared_write (class_of (object_at b.library m w.object)) w) stays) serials
+pub keeps_written : BasesSeenStay → (b : Ledger) (pid serial m : ℕ) (w : Written) (rows : List Row) (stays behind : List (Residence × Beside)) (serials place : ℕ) (s : Residence × Beside) →
+    Keeps b rows stays serials → FollowsIn b (write_entry pid serial m w) → slice_get stays place ≡ Some s → s.0.serial ≡ serial →
+    AreLaid stays behind place s (shared_writes (class_of (object_at b.library m w.object)) w) → Keeps (with_entry b (write_entry pid serial m w)) rows behind serials
 unfolding after_deed
-keeps_written stay b pid serial m w rows stays serials kept follows = keeps_class stay b pid serial m w (class_of (object_at b.library m w.object)) rows stays serials kept follows refl
+keeps_written stay b pid serial m w rows stays behind serials place s kept follows there numbered laid =
+    keeps_class stay b pid serial m w (class_of (object_at b.library m w.object)) rows stays behind serials place s kept follows refl there numbered laid
 
 -- ---- a new board
 
@@ -168,6 +257,7 @@ nothing_keeps lib failing rows are = record {
   standing = refl;
   given = refl;
   current = tt;
+  laid = tt;
 }
 
 pub nothing_keeps_so : (lib : Library) (failing : Failing) (h : List Entry) (rows : List Row) (stays : List (Residence × Beside)) → h ≡ [] → stays ≡ [] → AreRows lib (nothing_yet failing) rows →

@@ -1,7 +1,7 @@
 -- What a free and an exit leave of what a board keeps.
-use Rattle.std.proofs.Common.{◌≡◌, ◌≢◌, ◌∷◌, [], ℕ, zero, suc, ◌+◌, ◌<◌, ◌==◌, ◌||◌, Bool, true, false, not, List, length, filter, cond, count_by, Option, Some, None, option_to_list, refl, sym, ◌∙◌, ap, subst, arith}
+use Rattle.std.proofs.Common.{◌≡◌, ◌≢◌, ◌∷◌, [], ℕ, zero, suc, ◌+◌, ◌<◌, ◌==◌, ◌||◌, Bool, true, false, not, List, length, filter, cond, count_by, Option, Some, None, option_to_list, refl, sym, ◌∙◌, ap, subst, arith, map}
 use Rattle.std.specs.Prelude.{All, slice_index, is_none}
-use Rattle.std.specs.List.{list_any}
+use Rattle.std.specs.List.{list_any, AllByRecursion}
 use Rattle.std.proofs.lemmas.Bool.{eq-eqb, eqb-true, eqb-false}
 use Rattle.std.proofs.lemmas.List.Folds.{list_any-append}
 use Rattle.lx_model.specs.Laws.{OrderEndsWithItself}
@@ -31,9 +31,10 @@ use Rattle.mod_refs.specs.declared.changes.Leaving.TheVariants as ways
 use Rattle.mod_refs.specs.AllRows.{AreRows, IsKept, row_at}
 use Rattle.mod_refs.specs.Changes.{IsHeldBy, with_given_up, given_up}
 use Rattle.mod_refs.proofs.KeptRows.{left_within}
-use Rattle.stay_table.specs.Standing.{residences}
+use Rattle.write_overlay.specs.Layered.{Lays}
+use Rattle.stay_table.specs.Standing.{residences, unwritten, standing_in}
 use Rattle.load_core.specs.Ledger.{Ledger, state_of, IsLegal, MayAsk, entry_of, with_entry}
-use Rattle.load_core.specs.Kept.{Keeps, IsCurrentStay}
+use Rattle.load_core.specs.Kept.{Keeps, IsCurrentStay, IsLaid}
 use Rattle.load_core.specs.Leaves.{asked_by, leaving_deed, process_left, IsDeparture}
 use Rattle.load_core.specs.declared.leaves.Departure.{Departure}
 use Rattle.load_core.specs.declared.beside.Beside.{Beside}
@@ -136,6 +137,16 @@ residences_filtered f (s ∷ stays) = step (f s.0.«module») (residences_filter
     step true later = ap (λ rs. s.0 ∷ rs) later
     step false later = later
 
+-- as they stand
+standing_filtered : (f : ℕ → Bool) (rs : List Residence) → filter (λ r. f r.«module») (map unwritten rs) ≡ map unwritten (filter (λ r. f r.«module») rs)
+standing_filtered f [] = refl
+standing_filtered f (r ∷ rs) = step (f r.«module») (standing_filtered f rs)
+  where
+    step : (c : Bool) → filter (λ q. f q.«module») (map unwritten rs) ≡ map unwritten (filter (λ q. f q.«module») rs) →
+        cond c (unwritten r ∷ filter (λ q. f q.«module») (map unwritten rs)) (filter (λ q. f q.«module») (map unwritten rs)) ≡ map unwritten (cond c (r ∷ filter (λ q. f q.«module») rs) (filter (λ q. f q.«module») rs))
+    step true later = ap (λ qs. unwritten r ∷ qs) later
+    step false later = later
+
 rows_left : (lib : Library) (e : Eager) (pid : ℕ) (p : Process) (rows : List Row) → AreRows lib (with_process e pid (keeping lib e p)) rows → AreRows lib (after_leaving lib e pid p) rows
 unfolding after_leaving with_process
 rows_left lib e pid p rows are = record { each = are.each }
@@ -160,16 +171,26 @@ keeps_left stay b rows rows' stays serials pid what calls gone modules kept ther
     let follows : FollowsIn b x = subst (FollowsIn b) (sym is) (asked_follows b.library b.failing (fixed_bytes b.library) b.history pid (asked_by what) there may (new what)) in
     let step : after_entry b.library e x ≡ after_leaving b.library e pid p = after_what b.library e pid what calls gone in
     let F : List ℕ → List Residence = λ ms. filter (λ r. not (is_among ms r.«module»)) e.residences in
-    let still : residences left_stays ≡ (after_entry b.library e x).residences =
-    residences_filtered (λ m. not (is_among modules m)) stays ∙ ap (filter (λ r. not (is_among modules r.«module»))) kept.standing ∙ ap F same
-    ∙ sym (residences_left b.library e pid p) ∙ ap (λ (a : Eager). a.residences) (sym step)
+    let stood : filter (λ r. not (is_among modules r.«module»)) e.residences ≡ (after_entry b.library e x).residences =
+    ap F same ∙ sym (residences_left b.library e pid p) ∙ ap (λ (a : Eager). a.residences) (sym step)
     in
-    let behind = all_standing (state_of (with_entry b x)) left_stays (still ∙ ap (λ (a : Eager). a.residences) (sym (after b x))) in
+    let still : residences left_stays ≡ standing_in (after_entry b.library e x) =
+    residences_filtered (λ m. not (is_among modules m)) stays ∙ ap (filter (λ r. not (is_among modules r.«module»))) kept.standing
+    ∙ standing_filtered (λ m. not (is_among modules m)) e.residences ∙ ap (map unwritten) stood
+    in
+    let behind = all_standing (state_of (with_entry b x)) left_stays (still ∙ ap (λ (a : Eager). standing_in a) (sym (after b x))) in
+    let laid =
+    all_filter (IsLaid e.residences) (IsLaid (filter (λ r. not (is_among modules r.«module»)) e.residences)) (λ s. not (is_among modules s.0.«module»))
+    (λ s f h.
+    all_filter (λ r. r.serial ≡ s.0.serial → Lays s.1.layers r.writes) (λ r. r.serial ≡ s.0.serial → Lays s.1.layers r.writes) (λ r. not (is_among modules r.«module»)) (λ r g i. i) e.residences h)
+    stays kept.laid
+    in
     let before = all_filter (λ s. Stands e s.0) (λ s. Stands e s.0) (λ s. not (is_among modules s.0.«module»)) (λ s f h. h) stays (all_standing e stays kept.standing) in
     let current = all_filter (IsCurrentStay b) (IsCurrentStay b) (λ s. not (is_among modules s.0.«module»)) (λ s f h. h) stays kept.current in
     keeps_more b x rows' left_stays serials kept.legal follows (subst (λ a. AreRows b.library a rows') (sym step) (rows_left b.library e pid p rows' are)) still
     (kept.given ∙ sym (serials_left b.library e pid p) ∙ ap (λ (a : Eager). a.serials) (sym step))
     (all_current stay b x left_stays kept.legal follows (no_fault_left pid what calls gone) before behind current)
+    (subst (λ rs. AllByRecursion (IsLaid rs) left_stays) stood laid)
   where
     new : (what : Leaving) → IsNew b.history (asked_by what)
     new (ways.One m) = tt

@@ -1,6 +1,7 @@
 pub mod Asked
 pub mod Current
 pub mod Standing
+pub mod Lent
 pub mod Keeping
 pub mod Attached
 pub mod Using

@@ -1,9 +1,8 @@
 -- The residences that stand, found by serial number.
-use Rattle.std.proofs.Common.{◌≡◌, ℕ, zero, suc, ◌<◌, ◌==◌, Bool, true, false, cond, List, [], ◌∷◌, map, find, position, set, slice_get, length, get_or, Option, Some, None, option_map, refl, sym, ◌∙◌, ap, subst, arith}
+use Rattle.std.proofs.Common.{◌≡◌, ℕ, zero, suc, ◌<◌, ◌==◌, Bool, true, false, cond, List, [], ◌∷◌, map, find, position, set, slice_get, Option, Some, None, option_map, refl, sym, ◌∙◌, ap, subst, arith}
 use Rattle.std.specs.List.{AllByRecursion}
 use Rattle.std.specs.Prelude.{if◌then◌else◌}
 use Rattle.std.proofs.lemmas.Bool.{eq-eqb, eqb-true}
-use Rattle.std.proofs.lemmas.Option.{slice_get-get_or}
 use Rattle.page_fix.proofs.Places.{find_by_position}
 use Rattle.load_model.specs.declared.deeds.Entry.{Entry}
 use Rattle.load_model.specs.Modules.{Library, Held}
@@ -12,7 +11,8 @@ use Rattle.load_model.specs.Asks.{is_serial, is_attached}
 use Rattle.load_model.specs.Histories.{state_after, Legal}
 use Rattle.load_model.specs.Serials.{Rise, SerialsRise}
 use Rattle.load_model.proofs.Bytes.{attached_is}
-use Rattle.stay_table.specs.Standing.{residences, has_serial, AreOwn}
+use Rattle.stay_table.specs.Standing.{residences, unwritten, standing_in, has_serial}
+use Rattle.stay_table.proofs.Resident.{find_map}
 use Rattle.load_core.proofs.Current.{all_more}
 
 -- ---- rising serial numbers
@@ -26,6 +26,11 @@ above_lower low mid rs less = all_more (λ r. mid < r.serial) (λ r. low < r.ser
 pub all_above : (low high : ℕ) (rs : List Residence) → Rising low rs high → AllByRecursion (λ r. low < r.serial) rs
 all_above low high [] rise = tt
 all_above low high (r ∷ rs) rise = (rise.0, above_lower low r.serial rs rise.0 (all_above r.serial high rs rise.1))
+
+-- whatever was written to them
+pub rising_standing : (low high : ℕ) (rs : List Residence) → Rising low rs high → Rising low (map unwritten rs) high
+rising_standing low high [] rise = rise
+rising_standing low high (r ∷ rs) rise = (rise.0, rising_standing r.serial high rs rise.1)
 
 -- ---- what was found
 
@@ -107,9 +112,10 @@ module _ {T : Type 0} where
     pub there : attached_residence lib e pid m ≡ Some residence
     pub numbered : residence.serial ≡ serial
     pub of_module : residence.«module» ≡ m
-    pub found : option_map (λ s. s.0) (find (has_serial serial) stays) ≡ Some residence
+    pub resident : find (λ r. r.«module» == m) e.residences ≡ Some residence
+    pub found : option_map (λ s. s.0) (find (has_serial serial) stays) ≡ Some (unwritten residence)
 
-  asked_from : (lib : Library) (e : Eager) (stays : List (Residence × T)) (pid serial m : ℕ) → Rising 0 e.residences e.serials → residences stays ≡ e.residences →
+  asked_from : (lib : Library) (e : Eager) (stays : List (Residence × T)) (pid serial m : ℕ) → Rising 0 e.residences e.serials → residences stays ≡ standing_in e →
       (o : Option Residence) → attached_residence lib e pid m ≡ o → is_serial serial o ≡ true → IsAsked lib e stays pid serial m
   unfolding attached_residence residence_of
   asked_from lib e stays pid serial m rise same None is at = cc
@@ -120,9 +126,10 @@ module _ {T : Type 0} where
         there = is;
         numbered = numbered;
         of_module = (attached_is lib e pid m r is).1;
+        resident = inner (reaches lib (e.processes pid) m) is;
         found =
-            sym (found_residence serial stays) ∙ ap (find (λ x. x.serial == serial)) same
-            ∙ found_by_serial (λ x. x.«module» == m) 0 e.serials serial e.residences r rise (inner (reaches lib (e.processes pid) m) is) numbered;
+            sym (found_residence serial stays) ∙ ap (find (λ x. x.serial == serial)) same ∙ find_map (λ (x : Residence). x.serial == serial) unwritten e.residences
+            ∙ ap (option_map unwritten) (found_by_serial (λ x. x.«module» == m) 0 e.serials serial e.residences r rise (inner (reaches lib (e.processes pid) m) is) numbered);
       }
     where
       inner : (b : Bool) → (if b then find (λ x. x.«module» == m) e.residences else None) ≡ Some r → find (λ x. x.«module» == m) e.residences ≡ Some r
@@ -130,32 +137,20 @@ module _ {T : Type 0} where
       inner false is = cc
 
   pub asked : SerialsRise → (lib : Library) (failing : Failing) (contents : Held) (h : List Entry) (stays : List (Residence × T)) (pid serial m : ℕ) → Legal lib failing contents h →
-      residences stays ≡ (state_after lib failing h).residences → is_attached lib (state_after lib failing h) pid serial m ≡ true → IsAsked lib (state_after lib failing h) stays pid serial m
+      residences stays ≡ standing_in (state_after lib failing h) → is_attached lib (state_after lib failing h) pid serial m ≡ true → IsAsked lib (state_after lib failing h) stays pid serial m
   asked rise lib failing contents h stays pid serial m legal same at =
       asked_from lib (state_after lib failing h) stays pid serial m (rise lib failing contents h legal) same (attached_residence lib (state_after lib failing h) pid m) refl at
 
   -- so it is the one at the place at which it was found
   pub asked_there : (lib : Library) (e : Eager) (stays : List (Residence × T)) (pid serial m : ℕ) (it : IsAsked lib e stays pid serial m) (i : ℕ) (s : Residence × T) →
-      position (has_serial serial) stays ≡ Some i → slice_get stays i ≡ Some s → s.0 ≡ it.residence
+      position (has_serial serial) stays ≡ Some i → slice_get stays i ≡ Some s → s.0 ≡ unwritten it.residence
   asked_there lib e stays pid serial m it i s at is =
       let found : find (has_serial serial) stays ≡ Some s = find_by_position (has_serial serial) stays (Some i) at ∙ is in
-      let same : Some s.0 ≡ Some it.residence = sym (ap (option_map (λ (t : Residence × T). t.0)) found) ∙ it.found in
+      let same : Some s.0 ≡ Some (unwritten it.residence) = sym (ap (option_map (λ (t : Residence × T). t.0)) found) ∙ it.found in
       cc
 
   pub asked_nowhere : (lib : Library) (e : Eager) (stays : List (Residence × T)) (pid serial m : ℕ) → IsAsked lib e stays pid serial m → position (has_serial serial) stays ≡ None → ⊥
   asked_nowhere lib e stays pid serial m it at =
       let found : find (has_serial serial) stays ≡ None = find_by_position (has_serial serial) stays None at in
-      let none : None ≡ Some it.residence = sym (ap (option_map (λ (t : Residence × T). t.0)) found) ∙ it.found in
+      let none : None ≡ Some (unwritten it.residence) = sym (ap (option_map (λ (t : Residence × T). t.0)) found) ∙ it.found in
       cc
-
--- ---- each residence has a serial number of its own
-
-pub rising_own : (low high : ℕ) (rs : List Residence) → Rising low rs high → AreOwn rs
-rising_own low high [] rise i j d less within same = (let none : j < 0 = within in omega (arith, none))
-rising_own low high (r ∷ rs) rise i zero d less within same = omega (arith, less)
-rising_own low high (r ∷ rs) rise zero (suc j) d less within same =
-    let inside : j < length rs = omega arith in
-    let above : r.serial < (get_or rs j d).serial = there_so (λ (x : Residence). r.serial < x.serial) rs j (get_or rs j d) (all_above r.serial high rs rise.1) (slice_get-get_or rs j d inside) in
-    let e : r.serial ≡ (get_or rs j d).serial = same in
-    omega (arith, above, e)
-rising_own low high (r ∷ rs) rise (suc i) (suc j) d less within same = rising_own r.serial high rs rise.1 i j d (omega arith) (omega arith) same

@@ -19,14 +19,15 @@ use Rattle.load_model.specs.Rows.{Row}
 use Rattle.load_model.proofs.Bools.{and_left, and_right}
 use Rattle.load_model.proofs.Bytes.{left_none, right_none}
 use Rattle.write_overlay.specs.Laid.{writes_to, bytes_under}
+use Rattle.write_overlay.specs.Layered.{Lays}
 use Rattle.stay_table.specs.Standing.{has_serial}
 use Rattle.load_core.specs.Ledger.{Ledger, state_of, MayAsk, Adds, with_entry}
 use Rattle.load_core.specs.Kept.{Keeps}
-use Rattle.load_core.specs.Shared.{shared_write, stays_with}
+use Rattle.load_core.specs.Shared.{shared_writes, AreLaid}
 use Rattle.load_core.specs.Told.{IsRead, fixed_run, read_run}
 use Rattle.load_core.specs.declared.beside.Beside.{Beside}
 use Rattle.load_core.proofs.Asked.{asked_follows}
-use Rattle.load_core.proofs.Attached.{attached_there, module_there}
+use Rattle.load_core.proofs.Attached.{asked_at, module_there, serial_there, laid_there}
 use Rattle.load_core.proofs.Keeping.{FollowsIn, keeps_still, keeps_written, rows_written, write_entry}
 
 -- ---- what is asked reaches its residence
@@ -62,13 +63,13 @@ module _ (b : Ledger) (rows : List Row) (stays : List (Residence × Beside)) (se
 
     pub keeps_put : BasesSeenStay → (h : List Entry) (behind : List (Residence × Beside)) → (k : ℕ) × MayAsk b pid (put serial k object offset bytes) →
         h ≡ b.history ++ write_entry pid serial m (record { object = object; offset = offset; bytes = bytes }) ∷ [] →
-        behind ≡ stays_with serial (shared_write (class_of (object_at b.library m object)) (record { object = object; offset = offset; bytes = bytes })) stays →
+        AreLaid stays behind place s (shared_writes (class_of (object_at b.library m object)) (record { object = object; offset = offset; bytes = bytes })) →
         Keeps (record b { history = h }) rows behind serials
-    keeps_put stay h behind may grown left =
+    keeps_put stay h behind may grown laid =
         let w : Written = record { object = object; offset = offset; bytes = bytes } in
         let H : List Entry → Type 0 = λ k. Keeps (record b { history = k }) rows behind serials in
-        let S : List (Residence × Beside) → Type 0 = λ ss. Keeps (with_entry b (write_entry pid serial m w)) rows ss serials in
-        subst H (sym grown) (subst S (sym left) (keeps_written stay b pid serial m w rows stays serials kept (put_follows may)))
+        let numbered = serial_there b rows stays serials pid serial may.0 kept (put_attached b pid serial may.0 object offset bytes may.1) place s at there in
+        subst H (sym grown) (keeps_written stay b pid serial m w rows stays behind serials place s kept (put_follows may) there numbered laid)
 
     pub adds_put : (h : List Entry) → h ≡ b.history ++ write_entry pid serial m (record { object = object; offset = offset; bytes = bytes }) ∷ [] →
         (k : ℕ) → MayAsk b pid (put serial k object offset bytes) → Adds b (record b { history = h }) pid (put serial k object offset bytes)
@@ -161,17 +162,17 @@ laid_shared b pid m object offset len r same is =
 module _ (b : Ledger) (rows : List Row) (stays : List (Residence × Beside)) (serials pid serial m : ℕ) (kept : Keeps b rows stays serials) (process : is_among pids pid ≡ true)
     (place : ℕ) (s : Residence × Beside) (at : position (has_serial serial) stays ≡ Some place) (there : slice_get stays place ≡ Some s) (is : m ≡ s.0.«module»)
     (object offset : ℕ) (before read : List ℕ) (fixed : (k : ℕ) → MayAsk b pid (get serial k object offset (length before)) → before ≡ fixed_run b k object offset (length before))
-    (over : read ≡ bytes_under s.0.writes object offset before) where
+    (over : (writes : List Written) → Lays s.1.layers writes → read ≡ bytes_under writes object offset before) where
   of_get : (k : ℕ) → MayAsk b pid (get serial k object offset (length before)) → m ≡ k
   of_get k may = is ∙ module_there b rows stays serials pid serial k kept (get_attached b pid serial k object offset (length before) may) place s at there
 
   pub is_read : (k : ℕ) → MayAsk b pid (get serial k object offset (length before)) → read ≡ read_run b pid k object offset (length before)
   is_read k may =
-      let attached = attached_there b rows stays serials pid serial k kept (get_attached b pid serial k object offset (length before) may) place s at there in
-      over ∙ ap (bytes_under s.0.writes object offset) (fixed k may)
-      ∙ laid_shared b pid k object offset (length before) s.0 (module_there b rows stays serials pid serial k kept (get_attached b pid serial k object offset (length before) may) place s at there)
-      (get_shared b pid serial k object offset (length before) may)
-      ∙ ap (bytes_at b.library (fixed_bytes b.library) (state_of b) pid object offset (length before)) (sym attached)
+      let attached = get_attached b pid serial k object offset (length before) may in
+      let it = asked_at b rows stays serials pid serial k kept attached in
+      over it.residence.writes (laid_there b rows stays serials pid serial k kept attached place s at there) ∙ ap (bytes_under it.residence.writes object offset) (fixed k may)
+      ∙ laid_shared b pid k object offset (length before) it.residence it.of_module (get_shared b pid serial k object offset (length before) may)
+      ∙ ap (bytes_at b.library (fixed_bytes b.library) (state_of b) pid object offset (length before)) (sym it.there)
 
   abbrev pub shared_entry : List ℕ → Entry
   shared_entry bytes = record { pid = pid; deed = deeds.Shared serial m object offset bytes }

@@ -14,6 +14,7 @@ use Rattle.load_model.specs.Memory.{bases_seen}
 use Rattle.stay_table.specs.declared.placing.NoRoom.{NoRoom}
 use Rattle.stay_table.specs.Placing.{no_room_of, state_with, residences_with}
 use Rattle.stay_table.specs.Standing.{is_of_module}
+use Rattle.write_overlay.specs.Layered.{Lays}
 use Rattle.load_core.specs.Ledger.{Ledger, state_of}
 use Rattle.load_core.specs.declared.beside.Beside.{Beside}
 use Rattle.load_core.specs.declared.arrivals.Entrance.{Entrance}
@@ -33,7 +34,8 @@ IsWithoutRoom b at none = entering.placing b.library (state_of b) at.pid at.«mo
 abbrev pub failing_of : Ledger → Entrance → Arrival → Option ℕ
 failing_of b at arrival = initialising.failing_module b.library (state_of b) at.pid at.how at.«module» arrival.fresh
 
--- A residence that begins with others, with all its rights, and with what is shared of it once they have begun.
+-- A residence that begins with others, with all its rights, and with what is shared of it once they have begun. Nothing was
+-- written to it.
 pub record IsBegun (b : Ledger) (all : List Fresh) (f : Fresh) (stay : Residence × Beside) : Type 0 where
   pub residence : stay.0 ≡ residence_from f
   pub rights : stay.1.rights ≡ record { serial = f.serial; left = fixable_pages (module_of b.library f.«module») }
@@ -44,6 +46,7 @@ pub record IsBegun (b : Ledger) (all : List Fresh) (f : Fresh) (stay : Residence
         «module» = f.«module»;
         bases = bases_seen b.library (with_fresh_residences (state_of b) all) f.«module»;
       }
+  pub layers : Lays stay.1.layers []
 
 -- residences that begin, in their order
 abbrev pub HaveBegun : Ledger → List Fresh → List Fresh → List (Residence × Beside) → Type 0

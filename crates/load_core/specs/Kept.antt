@@ -1,5 +1,5 @@
 -- What a board keeps beside its ledger: who reaches what, and the residences that stand, each with the rights to fix
--- its pages that were not given yet, and with what its processes share.
+-- its pages that were not given yet, with what its processes share, and with what they wrote to its shared objects.
 use Rattle.std.specs.Prelude.{◌≡◌, ℕ, List, not, filter}
 use Rattle.std.specs.List.{AllByRecursion}
 use Rattle.std.specs.Arc.{arc_value}
@@ -12,7 +12,8 @@ use Rattle.load_model.specs.Memory.{bases_seen}
 use Rattle.load_model.specs.Histories.{has_fault}
 use Rattle.load_model.specs.Rows.{Row}
 use Rattle.mod_refs.specs.AllRows.{AreRows}
-use Rattle.stay_table.specs.Standing.{residences}
+use Rattle.write_overlay.specs.Layered.{Lays}
+use Rattle.stay_table.specs.Standing.{residences, standing_in}
 use Rattle.load_core.specs.Ledger.{Ledger, state_of, IsLegal}
 use Rattle.load_core.specs.declared.beside.Beside.{Beside}
 
@@ -32,10 +33,15 @@ pub record IsCurrent (b : Ledger) (r : Residence) (rights : PageRights) (shown :
 abbrev pub IsCurrentStay : Ledger → Residence × Beside → Type 0
 IsCurrentStay b s = IsCurrent b s.0 s.1.rights (arc_value s.1.shared)
 
+-- What was written to the residence of the same serial number is laid together beside it.
+abbrev pub IsLaid : List Residence → Residence × Beside → Type 0
+IsLaid rs s = AllByRecursion (λ r. r.serial ≡ s.0.serial → Lays s.1.layers r.writes) rs
+
 -- The history is legal, and what is kept is what there is after it.
 pub record Keeps (b : Ledger) (rows : List Row) (stays : List (Residence × Beside)) (serials : ℕ) : Type 0 where
   pub legal : IsLegal b
   pub reached : AreRows b.library (state_of b) rows
-  pub standing : residences stays ≡ (state_of b).residences
+  pub standing : residences stays ≡ standing_in (state_of b)
   pub given : serials ≡ (state_of b).serials
   pub current : AllByRecursion (IsCurrentStay b) stays
+  pub laid : AllByRecursion (IsLaid (state_of b).residences) stays

@@ -1,18 +1,19 @@
--- What a write adds to the residences that stand.
-use Rattle.std.specs.Prelude.{ℕ, List, map, Option, Some, None}
+-- What a write leaves of the residences that stand.
+use Rattle.std.specs.Prelude.{◌≡◌, ℕ, List, [], ◌∷◌, ◌++◌, slice_set}
 use Rattle.lx_types.specs.declared.object.Class.{Class}
 use Rattle.lx_types.specs.declared.object.Class.TheVariants.{Code, Private, Shared}
 use Rattle.load_model.specs.State.{Written, Residence}
-use Rattle.stay_table.specs.Standing.{with_write_in}
+use Rattle.write_overlay.specs.Layered.{Pages, Lays}
 use Rattle.load_core.specs.declared.beside.Beside.{Beside}
 
--- a write to an object of a class, as far as all share it
-abbrev pub shared_write : Class → Written → Option Written
-shared_write Code w = None
-shared_write Private w = None
-shared_write Shared w = Some w
+-- what of a write to an object of a class all share
+abbrev pub shared_writes : Class → Written → List Written
+shared_writes Code w = []
+shared_writes Private w = []
+shared_writes Shared w = w ∷ []
 
--- with such a write to the residence of a serial number, if there is one
-abbrev pub stays_with : ℕ → Option Written → List (Residence × Beside) → List (Residence × Beside)
-stays_with serial None stays = stays
-stays_with serial (Some w) stays = map (with_write_in serial w) stays
+-- The residences stand as they did, but that these writes are laid over those before them in the one at a place.
+pub record AreLaid (before after : List (Residence × Beside)) (place : ℕ) (s : Residence × Beside) (more : List Written) : Type 0 where
+  pub layers : Pages
+  pub over : (writes : List Written) → Lays s.1.layers writes → Lays layers (writes ++ more)
+  pub stand : after ≡ slice_set before place (s.0, record s.1 { layers = layers })

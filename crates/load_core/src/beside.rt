@@ -7,12 +7,15 @@ use page_fix::Rights;
 use page_frames::Residence;
 use stay_table::Stays;
 use std::sync::Arc;
+use write_overlay::Layers;
 
-/// The rights to fix the pages of a residence that were not given yet, and what its processes share of it.
+/// The rights to fix the pages of a residence that were not given yet, what its processes share of it, and what they
+/// wrote to its shared objects.
 #[derive(Drop)]
 pub struct Beside {
     pub rights: Rights,
     pub shared: Arc<Residence>,
+    pub layers: Layers,
 }
 
 /// Where the residence of a serial number stands.

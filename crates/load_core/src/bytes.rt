@@ -1,25 +1,25 @@
 //! Bytes that processes write and read.
 
-ghost use Rattle.std.specs.Prelude.{◌≡◌, ◌<◌, ℕ, true, length, IfOk, OnOk, OnErr, MatchResult};
+ghost use Rattle.std.specs.Prelude.{◌≡◌, ◌<◌, ℕ, [], List, true, length, slice_get, IfOk, OnOk, OnErr, MatchResult, Some};
 ghost use Rattle.lx_types.specs.Object.{class_of};
 ghost use Rattle.load_model.specs.Modules.{object_at};
-ghost use Rattle.load_model.specs.State.{pids, is_among};
+ghost use Rattle.load_model.specs.State.{Written, Residence, pids, is_among};
 ghost use Rattle.load_model.specs.Asks as asks;
 ghost use Rattle.write_overlay.specs.Laid.{bytes_under};
-ghost use Rattle.stay_table.specs.Standing.{residences, AreOwn};
+ghost use Rattle.write_overlay.specs.Layered.{Lays};
 ghost use Rattle.load_core.specs.Ledger.{MayAsk, Adds};
-ghost use Rattle.load_core.specs.Shared as sharing;
-ghost use Rattle.load_core.specs.Shared.{stays_with};
+ghost use Rattle.load_core.specs.Shared.{shared_writes, AreLaid};
 ghost use Rattle.load_core.specs.Told.{IsRead, fixed_run};
+ghost use Rattle.load_core.specs.declared.beside.Beside.{Beside};
 
 use crate::beside::{Beside, place_with};
 use crate::board::Board;
 use load_model::{Deed, Entry};
 use lx_types::{Bytes, Class, NoMemory, Seq};
 use mod_graph::Library;
-use stay_table::{Stay, Stays};
+use stay_table::Stays;
 use std::alloc::Global;
-use write_overlay::Write;
+use write_overlay::{Layers, Write};
 
 // The class of an object of module `m`.
 #[tactic(auto, unfolding(load_model::specs::Modules::object_at))]
@@ -41,45 +41,37 @@ fn copied(alloc: Global, bytes: &[u8]) -> Result<Bytes, NoMemory>
     Ok(Seq::from_vec(bytes.to_vec(alloc)?))
 }
 
-// A write to an object of this class, as far as all share it.
-fn shared_write(
-    alloc: Global,
+// Lays a write to an object of this class over those before it in the residence at a place, as far as all share it.
+fn put_shared(
+    stays: &mut Stays<Beside>,
+    place: usize,
     class: Class,
-    object: u32,
-    offset: u32,
-    bytes: &[u8],
-) -> Result<Option<Write>, NoMemory>
-    ensures { IfOk result (λ w. w ≡ sharing.shared_write class (record { object = object; offset = offset; bytes = bytes.now })) }
+    write: &Write,
+) -> Result<(), NoMemory>
+    requires { place < length stays.old }
+    ensures { (s : Residence × Beside) → slice_get stays.old place ≡ Some s → MatchResult result
+        (λ _. AreLaid stays.old stays.new place s (shared_writes class write.now))
+        (λ _. AreLaid stays.old stays.new place s []) }
 {
     match class {
-        Class::Shared => Ok(Some(Write::new(object, offset, copied(alloc, bytes)?))),
-        Class::Code | Class::Private => Ok(None),
-    }
-}
-
-// Adds such a write to the residence of a serial number.
-fn add_shared(stays: &mut Stays<Beside>, serial: u64, shared: Option<Write>) -> Result<(), NoMemory>
-    requires { AreOwn (residences stays.old) }
-    ensures { MatchResult result (λ _. stays.new ≡ stays_with serial shared stays.old) (λ _. stays.new ≡ stays.old) }
-{
-    match shared {
-        Some(write) => stays.add_write(serial, write),
-        None => Ok(()),
+        Class::Shared => stays.beside_mut(place).layers.put(write),
+        Class::Code | Class::Private => Ok(()),
     }
 }
 
 // The bytes of an object under the writes that all share.
 fn read_over(
     alloc: Global,
-    stay: &Stay<Beside>,
+    layers: &Layers,
     object: u32,
     offset: u32,
     fixed: &[u8],
 ) -> Result<Vec<u8>, NoMemory>
-    ensures { IfOk result (λ bytes. bytes.items ≡ bytes_under stay.now.0.writes object offset fixed.now) }
+    ensures length { IfOk result (λ bytes. length bytes.items ≡ length fixed.now) }
+    ensures bytes { IfOk result (λ bytes. (writes : List Written) → Lays layers.now writes → bytes.items ≡ bytes_under writes object offset fixed.now) }
 {
     let mut bytes = fixed.to_vec(alloc)?;
-    stay.lay(object, offset, &mut bytes);
+    layers.lay(object, offset, &mut bytes);
     Ok(bytes)
 }
 
@@ -104,10 +96,9 @@ impl Board {
         let place = place_with(&self.stays, serial);
         let module = self.stays.at(place).module();
         let class = class_at(&self.lib, module, object);
-        let shared = shared_write(self.alloc, class, object, offset, bytes)?;
-        let bytes = copied(self.alloc, bytes)?;
+        let write = Write::new(object, offset, copied(self.alloc, bytes)?);
         self.history.reserve(1)?;
-        add_shared(&mut self.stays, serial, shared)?;
+        put_shared(&mut self.stays, place, class, &write)?;
         self.history.push_reserved(Entry {
             pid,
             deed: Deed::Write {
@@ -115,7 +106,7 @@ impl Board {
                 module,
                 object,
                 offset,
-                bytes,
+                bytes: write.into_bytes(),
             },
         });
         Ok(())
@@ -176,7 +167,7 @@ impl Board {
         let place = place_with(&self.stays, serial);
         let stay = self.stays.at(place);
         let module = stay.module();
-        let read = read_over(self.alloc, stay, object, offset, into)?;
+        let read = read_over(self.alloc, &stay.beside().layers, object, offset, into)?;
         self.history.reserve(1)?;
         into.copy_from_slice(&read);
         self.history.push_reserved(Entry {

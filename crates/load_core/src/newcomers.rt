@@ -27,6 +27,7 @@ use page_frames::Residence;
 use stay_table::{Stay, Stays};
 use std::alloc::Global;
 use std::sync::Arc;
+use write_overlay::Layers;
 
 // The residence of a module that begins.
 fn newcomer(newcomers: &[Stay<Beside>], k: u32) -> Option<&Stay<Beside>>
@@ -149,6 +150,7 @@ impl Board {
         let beside = Beside {
             rights,
             shared: Arc::new(self.alloc, shared)?,
+            layers: Layers::new(self.alloc),
         };
         Stay::begun(self.alloc, one, beside)
     }

@@ -13,6 +13,7 @@ use Rattle.load_model.specs.Modules.{Library, is_library, inits_each, terms_each
 use Rattle.load_model.specs.State.{Residence, Eager, is_among, residence_of, serial_of, bases_of}
 use Rattle.load_model.specs.Entering.{call_of, init_of, main_of}
 use Rattle.load_model.specs.Leaving.{term_of}
+use Rattle.stay_table.specs.Standing.{unwritten}
 
 -- the call where a residence is
 pub call_is : (kind : CallKind) (r : Option Residence) (m object offset serial base : ℕ) (bases : List ℕ) → serial ≡ serial_of r → bases ≡ bases_of r → base ≡ slice_index bases (object - 1) →
@@ -46,16 +47,25 @@ map_same f g same (x ∷ xs) = ap (λ y. y ∷ map f xs) (same x) ∙ ap (λ ys.
 
 -- ---- calls by where residences stand
 
-pub term_same : (lib : Library) (e d : Eager) (gone : List ℕ) (m : ℕ) → residence_of e m ≡ residence_of d m → term_of lib e gone m ≡ term_of lib d gone m
+-- whatever was written to it
+call_written : (kind : CallKind) (r : Option Residence) (m : ℕ) → call_of kind (option_map unwritten r) m ≡ call_of kind r m
+call_written kind None m = refl
+call_written kind (Some r) m = refl
+
+pub term_same : (lib : Library) (e d : Eager) (gone : List ℕ) (m : ℕ) → residence_of e m ≡ option_map unwritten (residence_of d m) → term_of lib e gone m ≡ term_of lib d gone m
 term_same lib e d gone m same =
     ap (λ r. cond (is_library lib m && (terms_each lib m || is_among gone m)) (option_map (call_of Term r m) (start_of lib m)) None) same
+    ∙ ap (λ call. cond (is_library lib m && (terms_each lib m || is_among gone m)) (option_map call (start_of lib m)) None) (call_written Term (residence_of d m) m)
 
-pub init_same : (lib : Library) (e d : Eager) (new : List ℕ) (m : ℕ) → residence_of e m ≡ residence_of d m → init_of lib e new m ≡ init_of lib d new m
+pub init_same : (lib : Library) (e d : Eager) (new : List ℕ) (m : ℕ) → residence_of e m ≡ option_map unwritten (residence_of d m) → init_of lib e new m ≡ init_of lib d new m
 init_same lib e d new m same =
     ap (λ r. cond (is_library lib m && (inits_each lib m || is_among new m)) (option_map (call_of Init r m) (start_of lib m)) None) same
+    ∙ ap (λ call. cond (is_library lib m && (inits_each lib m || is_among new m)) (option_map call (start_of lib m)) None) (call_written Init (residence_of d m) m)
 
-pub main_same : (lib : Library) (e d : Eager) (how : How) (m : ℕ) → residence_of e m ≡ residence_of d m → main_of lib e how m ≡ main_of lib d how m
-main_same lib e d Start m same = ap (λ r. option_to_list (option_map (call_of Main r m) (start_of lib m))) same
+pub main_same : (lib : Library) (e d : Eager) (how : How) (m : ℕ) → residence_of e m ≡ option_map unwritten (residence_of d m) → main_of lib e how m ≡ main_of lib d how m
+main_same lib e d Start m same =
+    ap (λ r. option_to_list (option_map (call_of Main r m) (start_of lib m))) same
+    ∙ ap (λ call. option_to_list (option_map call (start_of lib m))) (call_written Main (residence_of d m) m)
 main_same lib e d Load m same = refl
 
 -- a call that is added for the next module

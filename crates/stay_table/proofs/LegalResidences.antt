@@ -1,6 +1,8 @@
 -- The residences of a legal history.
 use Rattle.std.proofs.Common.{◌≡◌, ℕ, zero, suc, ◌<◌, ◌==◌, Bool, true, false, cond, List, [], ◌∷◌, length, get_or, map, Some, refl, sym, ◌∙◌, ap, arith}
 use Rattle.std.specs.Prelude.{find, is_some}
+use Rattle.std.specs.List.{AllByRecursion}
+use Rattle.std.proofs.lemmas.List.{get_or-map, length-map}
 use Rattle.std.proofs.lemmas.Bool.{eq-eqb}
 use Rattle.std.proofs.lemmas.List.Folds.{Any-from_list_any}
 use Rattle.load_model.specs.Modules.{Library}
@@ -8,8 +10,10 @@ use Rattle.load_model.specs.State.{Residence, Eager, pids, reaches, is_reached, 
 use Rattle.load_model.specs.Histories.{state_after}
 use Rattle.load_model.specs.Fitness.{ReachedIsFit}
 use Rattle.load_model.specs.Laws.{ReachedIsResident}
-use Rattle.load_model.specs.ResidenceBases.{BasesStand}
+use Rattle.load_model.specs.ResidenceBases.{BasesStand, Stands}
 use Rattle.load_model.specs.Serials.{Rise, SerialsRise}
+use Rattle.stay_table.specs.Standing.{unwritten}
+use Rattle.stay_table.specs.Placing.{AreStanding}
 use Rattle.stay_table.specs.Laws.{LegalResidencesStand}
 
 -- ---- serial numbers that rise
@@ -47,8 +51,29 @@ who_reaches : (lib : Library) (e : Eager) (m : ℕ) → is_reached lib e m ≡ t
 unfolding is_reached
 who_reaches lib e m is = (let some = Any-from_list_any (λ pid. reaches lib (e.processes pid) m) pids is in (some.1, some.4))
 
+-- ---- whatever was written to them
+
+stand_unwritten : (lib : Library) (rs : List Residence) → AreStanding lib rs → AreStanding lib (map unwritten rs)
+stand_unwritten lib rs stand = record {
+  within = λ i d below.
+      let inside : i < length rs = omega (arith, below, length-map rs unwritten) in
+      let named = ap (λ (r : Residence). r.«module») (get_or-map unwritten rs i d d inside) in
+      let within = stand.within i d inside in
+      omega (arith, named, within);
+  bases = each rs stand.bases;
+  own = λ i j d before below same.
+      let inside : j < length rs = omega (arith, below, length-map rs unwritten) in
+      let first = ap (λ (r : Residence). r.serial) (get_or-map unwritten rs i d d (omega (arith, before, inside))) in
+      let second = ap (λ (r : Residence). r.serial) (get_or-map unwritten rs j d d inside) in
+      stand.own i j d before inside (sym first ∙ same ∙ second);
+}
+  where
+    each : (rs : List Residence) → AllByRecursion (λ (r : Residence). Stands lib r.«module» r.bases) rs → AllByRecursion (λ (r : Residence). Stands lib r.«module» r.bases) (map unwritten rs)
+    each [] all = tt
+    each (r ∷ rs) all = (all.0, each rs all.1)
+
 pub legal_stand : ReachedIsResident → ReachedIsFit → BasesStand → SerialsRise → LegalResidencesStand
-legal_stand resident fit stand rise lib failing contents h legal = record {
+legal_stand resident fit stand rise lib failing contents h legal = stand_unwritten lib (state_after lib failing h).residences (record {
   within = λ i d below.
       let e = state_after lib failing h in
       let m = (get_or e.residences i d).«module» in
@@ -57,4 +82,4 @@ legal_stand resident fit stand rise lib failing contents h legal = record {
       (fit lib failing contents h legal who.0 (get_or (state_after lib failing h).residences i d).«module» who.1).0;
   bases = stand lib failing contents h legal;
   own = λ i j d before below. rise_apart 0 (state_after lib failing h).serials (state_after lib failing h).residences (rise lib failing contents h legal) i j d before below;
-}
+})

@@ -23,7 +23,7 @@ use Rattle.lx_types.specs.declared.fail.Fail.{Fail}
 use Rattle.lx_types.specs.declared.fail.Fail.TheVariants.{Said, NoMemory}
 use Rattle.lx_types.specs.Answers.{Answers}
 use Rattle.stay_table.specs.declared.placing.NoRoom.{NoRoom as Unplaced}
-use Rattle.stay_table.specs.Standing.{residences}
+use Rattle.stay_table.specs.Standing.{residences, unwritten, standing_in}
 use Rattle.stay_table.specs.Placing.{AreStanding, no_room_of}
 
 -- ---- objects that stand
@@ -244,9 +244,15 @@ module _ {T : Type 0} (lib : Library) (stays : List (Residence × T)) (standing 
       ∙ ap (λ rs. flat_map f (take k (residences stays)) ++ rs) (sym (append-nil (f s.0)) ∙ ap (λ (r : Residence). f r ++ []) (sym this))
       ∙ sym (ap (flat_map f) (take_more (residences stays) k s.0 in_residences) ∙ flat_map-append f (take k (residences stays)) (get_or (residences stays) k s.0 ∷ []))
 
-pub taken_all : {T : Type 0} (lib : Library) (stays : List (Residence × T)) (e : Eager) (k : ℕ) (now : List AddressRange) → e.residences ≡ residences stays → length stays ≤ k →
+-- whatever was written to them
+ranges_written : (lib : Library) (rs : List Residence) → flat_map (λ (r : Residence). ranges_of lib r.«module» r.bases) (map unwritten rs) ≡ flat_map (λ (r : Residence). ranges_of lib r.«module» r.bases) rs
+ranges_written lib [] = refl
+ranges_written lib (r ∷ rs) = ap (λ ranges. ranges_of lib r.«module» r.bases ++ ranges) (ranges_written lib rs)
+
+pub taken_all : {T : Type 0} (lib : Library) (stays : List (Residence × T)) (e : Eager) (k : ℕ) (now : List AddressRange) → standing_in e ≡ residences stays → length stays ≤ k →
     now ≡ flat_map (λ (r : Residence). ranges_of lib r.«module» r.bases) (take k (residences stays)) → now ≡ resident_ranges lib e
 unfolding resident_ranges
 taken_all {T} lib stays e k now same past so_far =
     let f : Residence → List AddressRange = λ r. ranges_of lib r.«module» r.bases in
     so_far ∙ ap (flat_map f) (take_all k (residences stays) (omega (arith, past, length-map stays (λ (x : Residence × T). x.0))) ∙ sym same)
+    ∙ ranges_written lib e.residences

@@ -1,17 +1,18 @@
 -- Which residence a module has.
-use Rattle.std.proofs.Common.{◌≡◌, ℕ, ◌==◌, Bool, true, false, cond, List, [], ◌∷◌, ◌++◌, map, Some, None, refl, sym, ◌∙◌, ap, subst}
+use Rattle.std.proofs.Common.{◌≡◌, ℕ, ◌==◌, Bool, true, false, cond, List, [], ◌∷◌, ◌++◌, map, Option, Some, None, refl, sym, ◌∙◌, ap, subst}
 use Rattle.std.specs.Prelude.{find, option_map}
 use Rattle.std.specs.Option.{option_or}
+use Rattle.std.proofs.lemmas.List.{map-append}
 use Rattle.std.proofs.lemmas.List.Folds.{find-append}
 use Rattle.load_model.specs.declared.deeds.Fresh.{Fresh}
-use Rattle.load_model.specs.State.{Residence, Eager, residence_of}
+use Rattle.load_model.specs.State.{Residence, Eager, residence_of, serial_of, bases_of}
 use Rattle.load_model.specs.Entering.{residence_from, with_fresh_residences}
 use Rattle.stay_table.specs.declared.standing.Standing.{Standing}
-use Rattle.stay_table.specs.Standing.{residences, is_of_module}
+use Rattle.stay_table.specs.Standing.{residences, unwritten, standing_in, is_of_module}
 use Rattle.stay_table.specs.Placing.{residences_with, state_with}
 use Rattle.stay_table.specs.Called.{IsAt}
 
-find_map : {X Y : Type 0} (p : Y → Bool) (h : X → Y) (xs : List X) → find p (map h xs) ≡ option_map h (find (λ x. p (h x)) xs)
+pub find_map : {X Y : Type 0} (p : Y → Bool) (h : X → Y) (xs : List X) → find p (map h xs) ≡ option_map h (find (λ x. p (h x)) xs)
 find_map p h [] = refl
 find_map p h (x ∷ xs) = by_test (p (h x)) (find_map p h xs)
   where
@@ -20,9 +21,9 @@ find_map p h (x ∷ xs) = by_test (p (h x)) (find_map p h xs)
     by_test false rest = rest
 
 -- by the residences of a state
-pub residence_is : (e : Eager) (rs : List Residence) (m : ℕ) → e.residences ≡ rs → residence_of e m ≡ residence_of (state_with rs) m
+pub residence_is : (e : Eager) (rs : List Residence) (m : ℕ) → standing_in e ≡ rs → option_map unwritten (residence_of e m) ≡ residence_of (state_with rs) m
 unfolding residence_of
-residence_is e rs m same = ap (find (λ (r : Residence). r.«module» == m)) same
+residence_is e rs m same = sym (find_map (λ (r : Residence). r.«module» == m) unwritten e.residences) ∙ ap (find (λ (r : Residence). r.«module» == m)) same
 
 pub residence_in_table : {T : Type 0} (stays : List (Residence × T)) (m : ℕ) → residence_of (state_with (residences stays)) m ≡ option_map (λ s. s.0) (find (is_of_module m) stays)
 unfolding residence_of
@@ -38,9 +39,31 @@ residence_with {T} stays fresh m =
     ∙ ap (λ o. option_or o (find (λ (r : Residence). r.«module» == m) (map residence_from fresh))) (find_map (λ (r : Residence). r.«module» == m) (λ (s : Residence × T). s.0) stays)
     ∙ ap (option_or (option_map (λ (s : Residence × T). s.0) (find (is_of_module m) stays))) (find_map (λ (r : Residence). r.«module» == m) residence_from fresh)
 
-pub residence_begun : (e : Eager) (rs : List Residence) (fresh : List Fresh) (m : ℕ) → e.residences ≡ rs →
-    residence_of (with_fresh_residences e fresh) m ≡ residence_of (state_with (rs ++ map residence_from fresh)) m
-residence_begun e rs fresh m same = residence_is (with_fresh_residences e fresh) (rs ++ map residence_from fresh) m (ap (λ xs. xs ++ map residence_from fresh) same)
+-- nothing was written to residences that begin
+fresh_unwritten : (fresh : List Fresh) → map unwritten (map residence_from fresh) ≡ map residence_from fresh
+fresh_unwritten [] = refl
+fresh_unwritten (f ∷ fs) = ap (λ rs. residence_from f ∷ rs) (fresh_unwritten fs)
+
+pub standing_with : (rs : List Residence) (fresh : List Fresh) → map unwritten (rs ++ map residence_from fresh) ≡ map unwritten rs ++ map residence_from fresh
+standing_with rs fresh = map-append unwritten rs (map residence_from fresh) ∙ ap (λ xs. map unwritten rs ++ xs) (fresh_unwritten fresh)
+
+pub residence_begun : (e : Eager) (rs : List Residence) (fresh : List Fresh) (m : ℕ) → standing_in e ≡ rs →
+    option_map unwritten (residence_of (with_fresh_residences e fresh) m) ≡ residence_of (state_with (rs ++ map residence_from fresh)) m
+residence_begun e rs fresh m same =
+    residence_is (with_fresh_residences e fresh) (rs ++ map residence_from fresh) m (standing_with e.residences fresh ∙ ap (λ xs. xs ++ map residence_from fresh) same)
+
+-- ---- whatever was written to it
+
+pub serial_written : (r : Option Residence) → serial_of (option_map unwritten r) ≡ serial_of r
+serial_written None = refl
+serial_written (Some r) = refl
+
+pub bases_written : (r : Option Residence) → bases_of (option_map unwritten r) ≡ bases_of r
+bases_written None = refl
+bases_written (Some r) = refl
+
+pub at_written : (at : Standing) (r : Option Residence) → IsAt at (option_map unwritten r) → IsAt at r
+at_written at r is = record { serial = is.serial ∙ serial_written r; bases = is.bases ∙ bases_written r }
 
 -- ---- where it is
 

@@ -4,10 +4,11 @@ use Rattle.load_model.specs.declared.deeds.Entry.{Entry}
 use Rattle.load_model.specs.Modules.{Library, Held}
 use Rattle.load_model.specs.State.{Failing}
 use Rattle.load_model.specs.Histories.{state_after, Legal}
+use Rattle.stay_table.specs.Standing.{standing_in}
 use Rattle.stay_table.specs.Placing.{AreStanding}
 
 -- The residences of a legal history are of modules of the library, have bases in their arenas, and serial numbers of their own.
 abbrev pub LegalResidencesStand : Type 0
 LegalResidencesStand =
     (lib : Library) (failing : Failing) (contents : Held) (h : List Entry) → Legal lib failing contents h →
-    AreStanding lib (state_after lib failing h).residences
+    AreStanding lib (standing_in (state_after lib failing h))

@@ -1,7 +1,6 @@
 -- The residences that stand, each with what its holder keeps beside it.
-use Rattle.std.specs.Prelude.{◌≡◌, ℕ, ◌==◌, Bool, List, map, AllPairs}
-use Rattle.load_model.specs.State.{Residence, Written}
-use Rattle.load_model.specs.Memory.{with_write}
+use Rattle.std.specs.Prelude.{◌≡◌, ℕ, ◌==◌, Bool, List, [], map, AllPairs}
+use Rattle.load_model.specs.State.{Residence, Eager}
 
 -- the residences alone
 abbrev pub residences : {T : Type 0} → List (Residence × T) → List Residence
@@ -14,9 +13,13 @@ is_of_module m s = s.0.«module» == m
 abbrev pub has_serial : {T : Type 0} → ℕ → Residence × T → Bool
 has_serial serial s = s.0.serial == serial
 
--- with a write more to the residence of a serial number
-abbrev pub with_write_in : {T : Type 0} → ℕ → Written → Residence × T → Residence × T
-with_write_in serial w s = (with_write serial w s.0, s.1)
+-- a residence as it stands, whatever was written to it
+abbrev pub unwritten : Residence → Residence
+unwritten r = record r { writes = [] }
+
+-- so those of a state
+abbrev pub standing_in : Eager → List Residence
+standing_in e = map unwritten e.residences
 
 -- No two residences have one serial number.
 abbrev pub AreOwn : List Residence → Type 0

@@ -9,7 +9,7 @@ ghost use Rattle.load_model.specs.Leaving as leaving_model;
 ghost use Rattle.load_model.specs.Initialising as failing_model;
 ghost use Rattle.load_model.specs.Entering.{call_of, init_of, main_of};
 ghost use Rattle.load_model.specs.Leaving.{term_of};
-ghost use Rattle.stay_table.specs.Standing.{residences};
+ghost use Rattle.stay_table.specs.Standing.{residences, standing_in};
 ghost use Rattle.stay_table.specs.Placing.{residences_with, state_with};
 ghost use Rattle.stay_table.specs.Called.{IsAt, IsEnteringOf, IsFailureOf, IsLeavingOf, IsWithin};
 
@@ -160,7 +160,7 @@ impl<T: Drop> Stays<T> {
         entering: &Entering<'_>,
     ) -> Result<Calls, NoMemory>
         requires { IsWithin lib.now entering.now }
-        ensures { IfOk result (λ calls. (e : Eager) (pid : ℕ) → e.residences ≡ residences self.now → IsEnteringOf lib.now e pid entering.now
+        ensures { IfOk result (λ calls. (e : Eager) (pid : ℕ) → standing_in e ≡ residences self.now → IsEnteringOf lib.now e pid entering.now
             → calls ≡ model.entering_calls lib.now e pid entering.now.how entering.now.«module» entering.now.fresh.now) }
     {
         let mut calls = Vec::new(alloc);
@@ -197,7 +197,7 @@ impl<T: Drop> Stays<T> {
         failure: &Failure<'_>,
     ) -> Result<Calls, NoMemory>
         requires { IsWithin lib.now entering.now }
-        ensures { IfOk result (λ calls. (e : Eager) → e.residences ≡ residences self.now → IsEnteringOf lib.now e failure.now.pid entering.now → IsFailureOf lib.now e entering.now failure.now
+        ensures { IfOk result (λ calls. (e : Eager) → standing_in e ≡ residences self.now → IsEnteringOf lib.now e failure.now.pid entering.now → IsFailureOf lib.now e entering.now failure.now
             → calls ≡ failing_model.failed_calls lib.now e failure.now.pid entering.now.how entering.now.«module» failure.now.by entering.now.fresh.now) }
     {
         let mut calls = Vec::new(alloc);
@@ -216,7 +216,7 @@ impl<T: Drop> Stays<T> {
         leaving: &Leaving<'_>,
     ) -> Result<Calls, NoMemory>
         requires { All (λ k. k < length lib.now) leaving.now.left.now }
-        ensures { IfOk result (λ calls. (e : Eager) (pid : ℕ) (p : Process) → e.residences ≡ residences self.now → IsLeavingOf lib.now e pid p leaving.now
+        ensures { IfOk result (λ calls. (e : Eager) (pid : ℕ) (p : Process) → standing_in e ≡ residences self.now → IsLeavingOf lib.now e pid p leaving.now
             → calls ≡ leaving_model.leaving_calls lib.now e pid p) }
     {
         let mut calls = Vec::new(alloc);
@@ -229,7 +229,7 @@ impl<T: Drop> Stays<T> {
 
     /// The residences that end with a free or an exit, in the order in which their modules leave.
     pub fn gone(&self, alloc: Global, modules: &[u32]) -> Result<Leavers, NoMemory>
-        ensures { IfOk result (λ gone. (lib : Library) (e : Eager) (pid : ℕ) (p : Process) → e.residences ≡ residences self.now
+        ensures { IfOk result (λ gone. (lib : Library) (e : Eager) (pid : ℕ) (p : Process) → standing_in e ≡ residences self.now
             → modules.now ≡ leaving_model.gone_modules lib e pid p → gone ≡ leaving_model.gone lib e pid p) }
     {
         let mut gone = Vec::new(alloc);

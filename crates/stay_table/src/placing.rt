@@ -8,7 +8,7 @@ ghost use Rattle.load_model.specs.Modules.{bases_for};
 ghost use Rattle.load_model.specs.State.{Eager};
 ghost use Rattle.load_model.specs.Entering.{placed_from, range_of, ranges_of, resident_ranges};
 ghost use Rattle.load_model.specs.ResidenceBases.{StandIn, Stands};
-ghost use Rattle.stay_table.specs.Standing.{residences};
+ghost use Rattle.stay_table.specs.Standing.{residences, standing_in};
 ghost use Rattle.stay_table.specs.Placing.{AreStanding, no_room_of, state_with};
 
 use crate::table::Stays;
@@ -118,7 +118,7 @@ impl<T: Drop> Stays<T> {
     /// The addresses that resident libraries take.
     pub fn occupied(&self, alloc: Global, lib: &Library) -> Result<Occupied, NoMemory>
         requires { AreStanding lib.now (residences self.now) }
-        ensures { IfOk result (λ occupied. (e : Eager) → e.residences ≡ residences self.now → occupied ≡ resident_ranges lib.now e) }
+        ensures { IfOk result (λ occupied. (e : Eager) → standing_in e ≡ residences self.now → occupied ≡ resident_ranges lib.now e) }
     {
         let mut occupied = Occupied::none(alloc);
         for stay in self.stays() {
@@ -140,7 +140,7 @@ impl<T: Drop> Stays<T> {
         requires stand { AreStanding lib.now (residences self.now) }
         requires within { All (λ m. m < length lib.now) newcomers.now }
         requires serials { serials + length newcomers.now < 2 ^ 64 }
-        ensures answer { (e : Eager) → e.residences ≡ residences self.now → Answers result
+        ensures answer { (e : Eager) → standing_in e ≡ residences self.now → Answers result
             (λ fresh. placed_from lib.now serials (resident_ranges lib.now e) newcomers.now ≡ Ok fresh)
             (λ none. placed_from lib.now serials (resident_ranges lib.now e) newcomers.now ≡ Err (no_room_of none)) }
         ensures modules { IfOk result (λ fresh. map (λ f. f.«module») fresh ≡ newcomers.now) }

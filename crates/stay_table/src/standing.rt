@@ -3,7 +3,7 @@
 ghost use Rattle.std.specs.Prelude.{◌≡◌, ◌==◌, find, option_copied, option_map};
 ghost use Rattle.load_model.specs.State.{Eager, residence_of};
 ghost use Rattle.load_model.specs.Entering.{residence_from, with_fresh_residences};
-ghost use Rattle.stay_table.specs.Standing.{residences};
+ghost use Rattle.stay_table.specs.Standing.{residences, standing_in};
 ghost use Rattle.stay_table.specs.Placing.{residences_with, state_with};
 ghost use Rattle.stay_table.specs.Called.{IsAt};
 
@@ -45,7 +45,7 @@ impl<T: Drop> Stays<T> {
     /// Where module `m` stands once these have begun.
     pub fn standing<'a>(&'a self, fresh: &'a [Fresh], m: u32) -> Standing<'a>
         ensures list { IsAt result (residence_of (state_with (residences_with self.now fresh.now)) m) }
-        ensures state { (e : Eager) → e.residences ≡ residences self.now → IsAt result (residence_of (with_fresh_residences e fresh.now) m) }
+        ensures state { (e : Eager) → standing_in e ≡ residences self.now → IsAt result (residence_of (with_fresh_residences e fresh.now) m) }
     {
         self.found(fresh, m)
     }

@@ -1,7 +1,6 @@
 //! A residence with what its holder keeps beside it.
 
-ghost use Rattle.std.specs.Prelude.{◌≡◌, ◌++◌, ◌∷◌, [], IfOk, MatchResult};
-ghost use Rattle.write_overlay.specs.Laid.{bytes_under};
+ghost use Rattle.std.specs.Prelude.{◌≡◌, IfOk};
 ghost use Rattle.std.specs.Borrow.{sem};
 ghost use Rattle.load_model.specs.Entering.{residence_from};
 
@@ -9,25 +8,25 @@ use load_model::Fresh;
 use lx_types::{NoMemory, Numbers, Seq};
 use std::alloc::Global;
 use std::marker::Model;
-use write_overlay::{Write, lay};
 
-/// One stay of a module in memory: its serial number, the module, the bases of its objects, and the writes to
-/// its shared objects, the oldest first. Beside it stands what its holder keeps of it.
+/// One stay of a module in memory: its serial number, the module, and the bases of its objects. Beside it stands
+/// what its holder keeps of it, what was written to its shared objects among that: a stay is of a residence to
+/// which nothing was written.
 #[derive(Drop)]
 pub struct Stay<T> {
     serial: u64,
     module: u32,
     bases: Numbers,
-    writes: Vec<Write>,
     beside: T,
 }
 
 impl<T> Model for Stay<T> {
+    ghost use Rattle.std.specs.Prelude.{[]};
     ghost use Rattle.load_model.specs.State.{Residence};
 
     ghost Value = { Residence × T };
 
-    ghost view = { λ s. (record { serial = s.serial; «module» = s.«module»; bases = s.bases; writes = s.writes.items }, s.beside) };
+    ghost view = { λ s. (record { serial = s.serial; «module» = s.«module»; bases = s.bases; writes = [] }, s.beside) };
 }
 
 impl<T: Drop> Stay<T> {
@@ -41,7 +40,6 @@ impl<T: Drop> Stay<T> {
             serial: fresh.serial,
             module: fresh.module,
             bases: Seq::from_vec(fresh.bases.as_slice().to_vec(alloc)?),
-            writes: Vec::new(alloc),
             beside,
         })
     }
@@ -82,29 +80,5 @@ impl<T> Stay<T> {
         ensures { result.now ≡ self.now.0.bases }
     {
         &self.bases
-    }
-
-    /// The writes to its shared objects, the oldest first.
-    pub fn writes(&self) -> &[Write]
-        ensures { result.now ≡ self.now.0.writes }
-    {
-        self.writes.as_slice()
-    }
-
-    /// Lays the writes to an object, the oldest first, over its bytes from `offset` on.
-    pub fn lay(&self, object: u32, offset: u32, into: &mut [u8])
-        ensures { into.new ≡ bytes_under self.now.0.writes object offset into.old }
-    {
-        lay(&self.writes, object, offset, into);
-    }
-
-    /// Adds a write to those that all share. Where there is no memory nothing changes.
-    pub fn add_write(&mut self, write: Write) -> Result<(), NoMemory>
-        ensures { MatchResult result
-            (λ _. self.new ≡ (record self.old.0 { writes = self.old.0.writes ++ write ∷ [] }, self.old.1))
-            (λ _. self.new ≡ self.old) }
-    {
-        self.writes.push(write)?;
-        Ok(())
     }
 }

@@ -4,13 +4,12 @@ ghost use Rattle.std.specs.Prelude.{◌≡◌, ◌<◌, ◌++◌, [], filter, fi
 ghost use Rattle.std.specs.Borrow.{sem};
 ghost use Rattle.load_model.specs.State.{Eager, residence_of};
 ghost use Rattle.load_model.specs.State as state;
-ghost use Rattle.stay_table.specs.Standing.{residences, is_of_module, has_serial, with_write_in, AreOwn};
+ghost use Rattle.stay_table.specs.Standing.{residences, standing_in, unwritten, is_of_module, has_serial};
 
 use crate::stay::Stay;
 use lx_types::NoMemory;
 use std::alloc::Global;
 use std::marker::Model;
-use write_overlay::Write;
 
 /// The residences that stand, by rising serial numbers, each with what its holder keeps beside it. There
 /// are no more of them than a library has modules: a look-up goes over one after the other.
@@ -64,7 +63,7 @@ impl<T: Drop> Stays<T> {
     /// The residence of module `m`.
     pub fn find(&self, m: u32) -> Option<&Stay<T>>
         ensures found { option_copied result ≡ find (is_of_module m) self.now }
-        ensures residence { (e : Eager) → e.residences ≡ residences self.now → option_map (λ s. s.0) (option_copied result) ≡ residence_of e m }
+        ensures residence { (e : Eager) → standing_in e ≡ residences self.now → option_map (λ s. s.0) (option_copied result) ≡ option_map unwritten (residence_of e m) }
     {
         self.first_of(m)
     }
@@ -121,20 +120,5 @@ impl<T: Drop> Stays<T> {
         ensures { self.new ≡ filter (λ s. not (state.is_among gone.now s.0.«module»)) self.old }
     {
         self.stays.retain(|stay| stays_on(gone, stay));
-    }
-
-    /// Adds a write to those that all share in the residence of a serial number. Where there is no memory nothing changes.
-    pub fn add_write(&mut self, serial: u64, write: Write) -> Result<(), NoMemory>
-        requires { AreOwn (residences self.old) }
-        ensures { MatchResult result (λ _. self.new ≡ map (with_write_in serial write) self.old) (λ _. self.new ≡ self.old) }
-    {
-        match self.place_of(serial) {
-            Some(place) => {
-                let stay = &mut self.stays[place];
-                stay.add_write(write)?;
-                Ok(())
-            }
-            None => Ok(()),
-        }
     }
 }

@@ -1,1 +1,2 @@
 pub mod Overlays
+pub mod Layering

@@ -101,7 +101,7 @@ laid_out at offset n k run b h none = elim (cases_lt (offset + k) at) [
 ]
 
 -- what is cut out of a run
-cut : (run : List ℕ) (skipped len : ℕ) → len ≤ length run - skipped → skipped < length run →
+pub cut : (run : List ℕ) (skipped len : ℕ) → len ≤ length run - skipped → skipped < length run →
     (length (slice_range run skipped (skipped + len)) ≡ len) × ((j : ℕ) → j < len → get_or (slice_range run skipped (skipped + len)) j 0 ≡ get_or run (skipped + j) 0)
 cut run skipped len short some =
     let rest = length-drop skipped run in

@@ -54,4 +54,11 @@ impl Write {
     {
         self.bytes.as_slice()
     }
+
+    /// The bytes, by value. It takes no memory.
+    pub fn into_bytes(self) -> Bytes
+        ensures { result ≡ self.bytes }
+    {
+        self.bytes
+    }
 }

@@ -1,5 +1,5 @@
 -- The right of a page is taken at its place.
-use Rattle.std.proofs.Common.{◌≡◌, List, Option, Some, option_map, slice_get, IfSome, ◌∙◌, ap, subst}
+use Rattle.std.proofs.Common.{◌≡◌, List, Option, slice_get, IfSome, ◌∙◌, ap, subst}
 use Rattle.std.specs.List.{list_any}
 use Rattle.std.specs.Prelude.{slice_set}
 use Rattle.page_fix.specs.Rights.{PageRight, PageRights}
@@ -8,10 +8,8 @@ use Rattle.load_model.specs.State.{Residence}
 use Rattle.stay_table.specs.TableLending.{beside_set}
 use Rattle.load_core.specs.Taken.{without_right}
 use Rattle.load_core.specs.declared.beside.Beside.{Beside}
+use Rattle.load_core.proofs.Lent.{own_beside}
 use Rattle.load_core.proofs.faults.take_right.Goals as goal
-
-own_beside : (now : Beside) (o : Option (Residence × Beside)) (s : Residence × Beside) → Some now ≡ option_map (λ t. t.1) o → o ≡ Some s → now ≡ s.1
-own_beside now o s has is = (let e : Some now ≡ Some s.1 = has ∙ ap (option_map (λ (t : Residence × Beside). t.1)) is in cc)
 
 pub returns-clause-given : goal.returns-clause-given
 returns-clause-given c s is =
@@ -25,7 +23,7 @@ returns-clause-right c s is =
 pub returns-clause-left : goal.returns-clause-left
 returns-clause-left c s is =
     let own = own_beside c.beside_mut.result.now (slice_get c.args.stays.now c.args.place) s c.beside_mut.ensures.value is in
-    let B : PageRights → Beside = λ rights. record { rights = rights; shared = c.beside_mut.result.now.shared } in
+    let B : PageRights → Beside = λ rights. record { rights = rights; shared = c.beside_mut.result.now.shared; layers = c.beside_mut.result.now.layers } in
     let S : Beside → List (Residence × Beside) = λ w. slice_set c.args.stays.now c.args.place (s.0, w) in
     let written : B c.take.new.self ≡ without_right c.args.p s.1 = ap B c.take.ensures.left ∙ ap (without_right c.args.p) own in
     let O : Option (Residence × Beside) → List (Residence × Beside) = λ o. beside_set o (B c.take.new.self) c.args.stays.now c.args.place in

@@ -10,7 +10,7 @@ use Rattle.load_model.specs.State.{Eager}
 use Rattle.load_model.specs.Entering.{resident_ranges, placed_from, entering_calls}
 use Rattle.load_model.specs.Asks.{enter}
 use Rattle.stay_table.specs.declared.entry.Entering.{Entering}
-use Rattle.stay_table.specs.Standing.{residences}
+use Rattle.stay_table.specs.Standing.{residences, standing_in}
 use Rattle.stay_table.specs.Placing.{no_room_of}
 use Rattle.stay_table.specs.Called.{IsWithin, IsEnteringOf}
 use Rattle.load_core.specs.Ledger.{Ledger, state_of, MayAsk}
@@ -43,7 +43,7 @@ returns-in-Err c =
     let e = state_of b in
     let W : Ledger → Type 0 = λ a. Answers (Err c.in-Err.why) (IsArrival a c.args.at) (IsWithoutRoom a c.args.at) in
     let new = c.deref-3.ensures.value ∙ gave.fresh ∙ unreached_new c.residents_are_reached.ensures.resident b c.args.at.pid c.args.at.«module» c.self.invariant.legal in
-    let P : Library → Type 0 = λ lib. (e : Eager) → e.residences ≡ residences c.self.inside.stays → Answers (Err c.in-Err.why)
+    let P : Library → Type 0 = λ lib. (e : Eager) → standing_in e ≡ residences c.self.inside.stays → Answers (Err c.in-Err.why)
     (λ (fresh : List Fresh). placed_from lib c.self.inside.serials (resident_ranges lib e) c.deref-3.result.now ≡ Ok fresh)
     (λ none. placed_from lib c.self.inside.serials (resident_ranges lib e) c.deref-3.result.now ≡ Err (no_room_of none))
     in
@@ -70,10 +70,10 @@ returns c =
     let e = state_of b in
     let A : Ledger → Type 0 = λ a. IsArrival a c.args.at (record { joined = c.in_ok-gained.gained.joined; fresh = c.in-Ok.fresh; serials = c.in-Some.serials; calls = c.in_ok-calls.calls }) in
     let x : Entering = record { how = c.args.at.how; «module» = c.args.at.«module»; joined = c.deref-4.result; fresh = c.as_slice.result } in
-    let P : Library → Type 0 = λ lib. (e : Eager) → e.residences ≡ residences c.self.inside.stays →
+    let P : Library → Type 0 = λ lib. (e : Eager) → standing_in e ≡ residences c.self.inside.stays →
     placed_from lib c.self.inside.serials (resident_ranges lib e) c.deref-3.result.now ≡ Ok c.in-Ok.fresh
     in
-    let C : Library → Type 0 = λ lib. (e : Eager) (pid : ℕ) → e.residences ≡ residences c.self.inside.stays → IsEnteringOf lib e pid x
+    let C : Library → Type 0 = λ lib. (e : Eager) (pid : ℕ) → standing_in e ≡ residences c.self.inside.stays → IsEnteringOf lib e pid x
     → c.in_ok-calls.calls ≡ entering_calls lib e pid c.args.at.how c.args.at.«module» c.as_slice.result.now
     in
     let new = c.deref-3.ensures.value ∙ gave.fresh ∙ unreached_new c.residents_are_reached.ensures.resident b c.args.at.pid c.args.at.«module» c.self.invariant.legal in

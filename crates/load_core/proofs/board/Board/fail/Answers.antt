@@ -10,7 +10,7 @@ use Rattle.load_model.specs.Initialising.{enter_deed, failed_calls, gone_again}
 use Rattle.load_model.specs.Asks.{enter}
 use Rattle.stay_table.specs.declared.entry.Entering.{Entering}
 use Rattle.stay_table.specs.declared.entry.Failure.{Failure}
-use Rattle.stay_table.specs.Standing.{residences}
+use Rattle.stay_table.specs.Standing.{residences, standing_in}
 use Rattle.stay_table.specs.Called.{IsWithin, IsEnteringOf, IsFailureOf}
 use Rattle.load_core.specs.Ledger.{Ledger, state_of, MayAsk, Adds}
 use Rattle.load_core.specs.Enters.{IsArrival, failing_of}
@@ -40,7 +40,7 @@ deed c =
     let it = subst A (sym c.self.view_is) c.requires.arrival in
     let x : Entering = record { how = c.args.at.how; «module» = c.args.at.«module»; joined = c.deref.result; fresh = c.as_slice.result } in
     let f : Failure = record { pid = c.args.at.pid; by = c.args.by; pairs = c.deref-2.result; calls = c.as_slice-2.result } in
-    let C : Library → Type 0 = λ lib. (e : Eager) → e.residences ≡ residences c.self.inside.stays → IsEnteringOf lib e c.args.at.pid x → IsFailureOf lib e x f
+    let C : Library → Type 0 = λ lib. (e : Eager) → standing_in e ≡ residences c.self.inside.stays → IsEnteringOf lib e c.args.at.pid x → IsFailureOf lib e x f
     → c.in_ok-calls.calls ≡ failed_calls lib e c.args.at.pid c.args.at.how c.args.at.«module» c.args.by c.as_slice.result.now
     in
     let pairs = c.failed_loads_leave_nothing.ensures.fixed (arc_value c.self.inside.lib) c.self.inside.failing.items c.self.inside.history.items in

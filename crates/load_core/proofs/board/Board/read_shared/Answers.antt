@@ -3,6 +3,10 @@ use Rattle.std.proofs.Common.{◌≡◌, ◌∷◌, ◌++◌, [], ℕ, List, len
 use Rattle.load_model.specs.declared.deeds.Deed.TheVariants as deeds
 use Rattle.load_model.specs.declared.deeds.Entry.{Entry}
 use Rattle.load_model.specs.Asks.{get}
+use Rattle.load_model.specs.State.{Written}
+use Rattle.write_overlay.specs.Laid.{bytes_under}
+use Rattle.write_overlay.specs.Layered.{Lays}
+use Rattle.load_core.specs.declared.beside.Beside.{Beside}
 use Rattle.load_core.specs.Ledger.{Ledger, MayAsk}
 use Rattle.load_core.specs.Inside.{ledger_in}
 use Rattle.load_core.specs.Told.{IsRead, fixed_run}
@@ -30,12 +34,17 @@ fixed c k may =
     let F : Ledger → Type 0 = λ b. c.args.into.now ≡ fixed_run b k c.args.object c.args.offset (length c.args.into.now) in
     subst F (sym c.self.view_is) (c.requires.fixed k (subst M c.self.view_is may))
 
+over : (c : goal.After-push_reserved) (writes : List Written) → Lays c.at-stay.result.now.1.layers writes → c.in_ok-read.read.items ≡ bytes_under writes c.args.object c.args.offset c.args.into.now
+over c =
+    let O : Beside → Type 0 = λ b. (writes : List Written) → Lays b.layers writes → c.in_ok-read.read.items ≡ bytes_under writes c.args.object c.args.offset c.args.into.now in
+    subst O c.beside.ensures c.in_ok-read.ensures.bytes
+
 pub invariant_of-self-2 : goal.invariant_of-self-2
 invariant_of-self-2 c =
     let M : Ledger → Type 0 = λ b. MayAsk b c.args.pid (get c.args.serial c.requires.may.0 c.args.object c.args.offset (length c.args.into.now)) in
     keeps_read (ledger_in c.self.inside) c.self.inside.refs c.self.inside.stays c.self.inside.serials c.args.pid c.args.serial c.module-module.result c.self.invariant c.requires.process
     c.place_with-place.result c.at-stay.result.now c.place_with-place.ensures (sym c.at-stay.ensures) c.module-module.ensures c.args.object c.args.offset c.args.into.now c.in_ok-read.read.items
-    (fixed c) c.in_ok-read.ensures c.residences_stay.ensures.bases c.push_reserved.new.self.items (c.requires.may.0, subst M (sym c.self.view_is) c.requires.may.1) (grown c)
+    (fixed c) (over c) c.residences_stay.ensures.bases c.push_reserved.new.self.items (c.requires.may.0, subst M (sym c.self.view_is) c.requires.may.1) (grown c)
 
 pub returns-clause-read : goal.returns-clause-read
 returns-clause-read c k may =
@@ -46,4 +55,4 @@ returns-clause-read c k may =
     subst R c.self.view_is
     (reads (ledger_in c.self.inside) c.self.inside.refs c.self.inside.stays c.self.inside.serials c.args.pid c.args.serial c.module-module.result c.self.invariant c.requires.process
     c.place_with-place.result c.at-stay.result.now c.place_with-place.ensures (sym c.at-stay.ensures) c.module-module.ensures c.args.object c.args.offset c.args.into.now c.in_ok-read.read.items
-    (fixed c) c.in_ok-read.ensures c.push_reserved.new.self.items c.copy_from_slice.new.self (grown c) (c.copy_from_slice.ensures.after ∙ c.deref.ensures.value) k (subst M (sym c.self.view_is) may))
+    (fixed c) (over c) c.push_reserved.new.self.items c.copy_from_slice.new.self (grown c) (c.copy_from_slice.ensures.after ∙ c.deref.ensures.value) k (subst M (sym c.self.view_is) may))
