@@ -6,7 +6,8 @@ ghost use Rattle.session_model.specs.Bounds.{IsSession};
 
 use lx_types::NoMemory;
 use mod_graph::Library;
-use session_model::{FailingLine, Script, Session};
+use session_lines::first_failing;
+use session_model::{FailingLine, FailingLines, Script, Session};
 use std::alloc::Global;
 
 // The place of the script of a number.
@@ -46,17 +47,20 @@ fn pairs_in(
     alloc: Global,
     lib: &Library,
     scripts: &[Script],
-    lines: &[FailingLine],
+    lines: &FailingLines,
 ) -> Result<Vec<(u32, u32)>, NoMemory>
     requires { length scripts.now ≤ 16 }
     ensures { IfOk result (λ found. found.items ≡ filter_map (pairs.pair_of lib.now scripts.now) lines.now) }
 {
-    Ok(
-        lines
-            .iter()
-            .filter_map(|line| pair_of(lib, scripts, line))
-            .collect(alloc)?,
-    )
+    let mut found = Vec::new(alloc);
+    let mut left = lines.text();
+    while let Some(cut) = first_failing(alloc, left)? {
+        if let Some(pair) = pair_of(lib, scripts, &cut.line) {
+            found.push(pair)?;
+        }
+        left = cut.behind;
+    }
+    Ok(found)
 }
 
 /// The pairs of a process and a module whose initialisation fails in it. A line whose name no module has, or whose number no
@@ -69,10 +73,5 @@ pub fn failing_pairs(
     requires { IsSession session.now }
     ensures { IfOk result (λ found. found.items ≡ pairs.failing_pairs lib.now session.now) }
 {
-    pairs_in(
-        alloc,
-        lib,
-        session.scripts.as_slice(),
-        session.failing.as_slice(),
-    )
+    pairs_in(alloc, lib, session.scripts.as_slice(), &session.failing)
 }

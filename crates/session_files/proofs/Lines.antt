@@ -1,7 +1,7 @@
 -- Module lines, one after another.
-use Rattle.std.proofs.Common.{◌≡◌, ℕ, zero, suc, ◌+◌, ◌<◌, ◌≤◌, List, [], ◌∷◌, ◌++◌, length, take, drop, get_or, Result, Ok, Err, ◌∙◌, ap, sym, subst, refl, arith, inl, inr, Option, append_assoc}
+use Rattle.std.proofs.Common.{◌≡◌, ℕ, ◌+◌, List, [], ◌∷◌, ◌++◌, length, Result, Ok, Err, ◌∙◌, ap, sym, subst, refl, inl, inr, Option, append_assoc, append-nil, length-append}
 use Rattle.std.specs.List.{AllByRecursion}
-use Rattle.std.proofs.lemmas.List.{flat_map_more, map-append, take_more}
+use Rattle.std.proofs.lemmas.List.{flat_map_more, map-append}
 use Rattle.std.proofs.lemmas.List.Concat.{flat_map-append}
 use Rattle.lx_types.specs.declared.fail.Fail.{Fail}
 use Rattle.lx_types.specs.declared.fail.Fail.TheVariants as fail
@@ -253,28 +253,46 @@ lines_done lines before now modules so_far =
     let files : HasItems (asked_lines lines) so_far.calls = all_done_read lines so_far.calls modules so_far.all in
     record { calls = so_far.calls; loads = so_far.loads; begun = read_begun (asked_lines lines) so_far.calls files.items files.read; answer = so_far.all }
 
--- ---- places in a list
+-- ---- lines that are read one by one
 
-pub cut_at : {X : Type 0} (xs : List X) (k : ℕ) (x : X) → k < length xs → x ≡ get_or xs k x → xs ≡ take k xs ++ x ∷ drop (suc k) xs
-cut_at [] k x within at = absurd (omega (arith, within))
-cut_at (y ∷ xs) zero x within at = ap (λ z. z ∷ xs) (sym at)
-cut_at (y ∷ xs) (suc k) x within at = ap (λ t. y ∷ t) (cut_at xs k x (omega (arith, within)) at)
+-- The first lines were done, and these stand behind them.
+pub record Reached (lines behind : List ModLine) (before now : FilesState) (modules : List Parts) : Type 0 where
+  pub front : List ModLine
+  pub are : lines ≡ front ++ behind
+  pub done : DoneSoFar front before now modules
+  pub count : length modules ≡ length front
 
-pub front_at : {X : Type 0} (xs : List X) (k : ℕ) (x : X) → k < length xs → x ≡ get_or xs k x → take k xs ++ x ∷ [] ≡ take (k + 1) xs
-front_at xs k x within at = ap (λ z. take k xs ++ z ∷ []) at ∙ sym (take_more xs k x within)
+pub reached_none : (lines behind : List ModLine) (state : FilesState) (modules : List Parts) → lines ≡ behind → modules ≡ [] → Reached lines behind state state modules
+reached_none lines behind state modules are none =
+    subst (λ ms. Reached lines behind state state ms) (sym none) (record { front = []; are = are; done = none_done state; count = refl })
 
-pub parts_at : {X : Type 0} (xs : List X) (k : ℕ) (x : X) → k < length xs → x ≡ get_or xs k x → xs ≡ (take k xs ++ x ∷ []) ++ drop (suc k) xs
-parts_at xs k x within at = cut_at xs k x within at ∙ sym (append_assoc (take k xs) (x ∷ []) (drop (suc k) xs))
+module _ (lines behind : List ModLine) (line : ModLine) (rest : List ModLine) (before between now : FilesState) (modules : List Parts)
+    (so_far : Reached lines behind before between modules) (next : behind ≡ line ∷ rest) where
+  pub reached_more : (parts : Parts) (more : List Parts) → DoesLine line between now (Ok parts) → more ≡ modules ++ parts ∷ [] → Reached lines rest before now more
+  reached_more parts more one is = subst (λ ms. Reached lines rest before now ms) (sym is) (record {
+    front = so_far.front ++ line ∷ [];
+    are = so_far.are ∙ ap (λ ls. so_far.front ++ ls) next ∙ sym (append_assoc so_far.front (line ∷ []) rest);
+    done = line_more so_far.front line before between now modules parts so_far.done one;
+    count = length-append modules (parts ∷ []) ∙ ap (λ n. n + 1) so_far.count ∙ sym (length-append so_far.front (line ∷ []));
+  })
 
-no_front : {X : Type 0} (xs : List X) (k : ℕ) → xs ≡ [] → take k xs ≡ xs
-no_front [] zero none = refl
-no_front [] (suc k) none = refl
-no_front (x ∷ xs) k none = absurd (some (ap length none))
-  where
-    some : suc (length xs) ≡ 0 → ⊥
-    some is = omega (arith, is)
+  pub reached_stop : (why : Fail Said) → DoesLine line between now (Err why) → DoesLines lines before now (Err why)
+  reached_stop why one =
+      subst (λ ls. DoesLines ls before now (Err why)) (sym (so_far.are ∙ ap (λ ls. so_far.front ++ ls) next))
+      (line_stops so_far.front rest line before between now modules why so_far.done one)
 
-pub front_all : {X : Type 0} (xs : List X) (k : ℕ) → length xs ≤ k → take k xs ≡ xs
-front_all [] k all = no_front [] k refl
-front_all (x ∷ xs) zero all = absurd (omega (arith, all))
-front_all (x ∷ xs) (suc k) all = ap (λ t. x ∷ t) (front_all xs k (omega (arith, all)))
+pub reached_end : (lines behind : List ModLine) (before now : FilesState) (modules : List Parts) → Reached lines behind before now modules → DoesLines lines before now (Err fail.NoMemory)
+reached_end lines behind before now modules so_far =
+    subst (λ ls. DoesLines ls before now (Err fail.NoMemory)) (sym so_far.are) (lines_end so_far.front behind before now modules so_far.done)
+
+all_are : (lines front behind : List ModLine) → lines ≡ front ++ behind → behind ≡ [] → front ≡ lines
+all_are lines front behind are none = sym (are ∙ ap (λ ls. front ++ ls) none ∙ append-nil front)
+
+pub reached_done : (lines behind : List ModLine) (before now : FilesState) (modules : List Parts) → Reached lines behind before now modules → behind ≡ []
+    → DoesLines lines before now (Ok modules)
+reached_done lines behind before now modules so_far none =
+    subst (λ ls. DoesLines ls before now (Ok modules)) (all_are lines so_far.front behind so_far.are none) (lines_done so_far.front before now modules so_far.done)
+
+pub reached_count : (lines behind : List ModLine) (before now : FilesState) (modules : List Parts) → Reached lines behind before now modules → behind ≡ []
+    → length modules ≡ length lines
+reached_count lines behind before now modules so_far none = so_far.count ∙ ap length (all_are lines so_far.front behind so_far.are none)

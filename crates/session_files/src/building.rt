@@ -19,6 +19,7 @@ use lx_ports::Files;
 use lx_read::read_module;
 use lx_types::{Fail, Module, Name, NoMemory};
 use obj_types::LinkInput;
+use session_model::Words;
 use std::alloc::Global;
 use tool_read::{link_text, read_input_with, said};
 
@@ -74,7 +75,7 @@ pub fn build<F: Files>(
     files: &mut F,
     stem: &Name,
     def: &Name,
-    inputs: &[Name],
+    inputs: &Words,
 ) -> Result<Module, Fail<Said>>
     requires { IsPlainModule (mod_line.Build stem.now def.now inputs.now) }
     ensures done { DoesLine (mod_line.Build stem.now def.now inputs.now) (F.state files.old) (F.state files.new) result }

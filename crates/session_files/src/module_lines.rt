@@ -10,7 +10,8 @@ use crate::texts::text_of;
 use lx_answer::Said;
 use lx_ports::Files;
 use lx_types::{Fail, Module};
-use session_model::ModLine;
+use session_lines::first_module;
+use session_model::{ModLine, ModLines};
 use std::alloc::Global;
 use tool_read::read_module;
 
@@ -30,7 +31,7 @@ fn module_given<F: Files>(
             stem,
             def,
             files: inputs,
-        } => build(alloc, files, stem, def, inputs.as_slice()),
+        } => build(alloc, files, stem, def, inputs),
     }
 }
 
@@ -38,7 +39,7 @@ fn module_given<F: Files>(
 pub fn modules_given<F: Files>(
     alloc: Global,
     files: &mut F,
-    lines: &[ModLine],
+    lines: &ModLines,
 ) -> Result<Vec<Module>, Fail<Said>>
     requires { All IsPlainModule lines.now }
     ensures done { DoesLines lines.now (F.state files.old) (F.state files.new) (listed result) }
@@ -46,11 +47,13 @@ pub fn modules_given<F: Files>(
     ensures count { IfOk result (λ modules. length modules.items ≡ length lines.now) }
 {
     let mut modules = Vec::new(alloc);
-    for line in lines {
-        match module_given(alloc, files, line) {
+    let mut left = lines.text();
+    while let Some(cut) = first_module(alloc, left)? {
+        match module_given(alloc, files, &cut.line) {
             Ok(module) => modules.push(module)?,
             Err(why) => return Err(why),
         }
+        left = cut.behind;
     }
     Ok(modules)
 }

@@ -50,7 +50,7 @@ pub fn read_session_files<F: Files>(
     ensures read { ReadsSession file.now (F.state files.old) (F.state files.new) result }
 {
     match session_in(alloc, files, file) {
-        Ok(session) => match modules_given(alloc, files, session.modules.as_slice()) {
+        Ok(session) => match modules_given(alloc, files, &session.modules) {
             Ok(modules) => Ok(SessionFiles { session, modules }),
             Err(why) => Err(why),
         },

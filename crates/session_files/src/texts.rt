@@ -3,29 +3,41 @@ ghost use Rattle.std.specs.Prelude.{◌≡◌, IfOk, map, string_bytes};
 ghost use Rattle.std.specs.List.{All};
 ghost use Rattle.session_text.specs.Writable.{IsPlain};
 
-use lx_types::Name;
-use std::alloc::{AllocError, Global};
+use lx_types::{Name, NoMemory};
+use session_lines::first_word;
+use session_model::Words;
+use std::alloc::Global;
 use std::str::from_utf8;
 
-/// The name as a text. A word of a session has visible ASCII characters alone.
-pub fn text_of(name: &Name) -> &str
-    requires { IsPlain name.now }
-    ensures { result.now ≡ name.now }
+// A word as a text. One of a session has visible ASCII characters alone.
+fn text_in(word: &[u8]) -> &str
+    requires { IsPlain word.now }
+    ensures { result.now ≡ word.now }
 {
-    match from_utf8(name.bytes()) {
+    match from_utf8(word) {
         Ok(text) => text,
         Err(_) => unreachable!(),
     }
 }
 
-/// The same of names.
-pub fn texts_of(alloc: Global, names: &[Name]) -> Result<Vec<String>, AllocError>
-    requires { All IsPlain names.now }
-    ensures { IfOk result (λ texts. map string_bytes texts.items ≡ names.now) }
+/// The same of a name.
+pub fn text_of(name: &Name) -> &str
+    requires { IsPlain name.now }
+    ensures { result.now ≡ name.now }
+{
+    text_in(name.bytes())
+}
+
+/// The same of words.
+pub fn texts_of(alloc: Global, words: &Words) -> Result<Vec<String>, NoMemory>
+    requires { All IsPlain words.now }
+    ensures { IfOk result (λ texts. map string_bytes texts.items ≡ words.now) }
 {
     let mut texts = Vec::new(alloc);
-    for name in names {
-        texts.push(String::from_str(alloc, text_of(name))?)?;
+    let mut left = words.text();
+    while let Some(cut) = first_word(left) {
+        texts.push(String::from_str(alloc, text_in(cut.word))?)?;
+        left = cut.behind;
     }
     Ok(texts)
 }

@@ -1,6 +1,7 @@
 -- The first line of bytes.
 use Rattle.std.proofs.Common.{◌≡◌, ◌≢◌, ℕ, zero, suc, ◌+◌, ◌-◌, ◌<◌, Bool, true, false, List, [], ◌∷◌, length, take, drop, get_or, refl, sym, ap, ◌∙◌, arith, add-one}
-use Rattle.std.specs.Prelude.{◌==◌, ◌&&◌}
+use Rattle.std.specs.Prelude.{◌==◌, ◌&&◌, Option}
+use Rattle.std.specs.List.{filter_map}
 use Rattle.std.proofs.lemmas.List.{take_rest}
 use Rattle.session_model.specs.Lines.{with_byte, is_cut, lines_in}
 use Rattle.session_lines.specs.Cutting.{without_cr}
@@ -95,3 +96,9 @@ lines_cut_at bytes k line within end none is =
 pub lines_last_at : (bytes : List ℕ) → 0 < length bytes → ((j : ℕ) → j < length bytes → (get_or bytes j 0 == 10) ≡ true → ⊥) → lines_in bytes ≡ bytes ∷ lines_in []
 unfolding lines_in
 lines_last_at bytes some none = lines_last bytes some (λ j h e. none j h (rw e refl))
+
+-- no bytes have no lines, and nothing is said
+pub none-said : {A : Type 0} (f : List ℕ → Option A) (bytes : List ℕ) → length bytes ≡ 0 → filter_map f (lines_in bytes) ≡ []
+unfolding lines_in
+none-said f [] none = refl
+none-said f (b ∷ bytes) none = absurd (omega (arith, none))

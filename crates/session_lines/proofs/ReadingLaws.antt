@@ -1,5 +1,5 @@
 -- What a line says, by its words.
-use Rattle.std.proofs.Common.{◌≡◌, ℕ, true, false, List, [], ◌∷◌, length, get_or, Result, Err, refl, sym, ap, subst, ◌∙◌, arith, ◌<◌}
+use Rattle.std.proofs.Common.{◌≡◌, ℕ, Bool, true, false, not, if◌then◌else◌, List, [], ◌∷◌, length, get_or, Result, Err, refl, sym, ap, subst, ◌∙◌, arith, ◌<◌}
 use Rattle.std.specs.List.{list_all}
 use Rattle.lx_types.specs.declared.fail.Fail.{Fail}
 use Rattle.lx_types.specs.declared.fail.Fail.TheVariants.{Said, NoMemory}
@@ -7,7 +7,8 @@ use Rattle.lx_types.specs.Answers.{Answers}
 use Rattle.session_model.specs.declared.sessions.SessionKind.{SessionKind}
 use Rattle.session_model.specs.declared.sessions.SessionKind.TheVariants as kinds
 use Rattle.session_model.specs.Lines.{is_allowed, words_in}
-use Rattle.session_model.specs.Statements.{Reading, nothing, wrong, word_count, by_count, is_comment, of_words, reading_of}
+use Rattle.session_model.specs.Kept.{IsOneLine}
+use Rattle.session_model.specs.Statements.{Statement, Reading, nothing, says, wrong, word_count, by_count, is_comment, of_words, reading_of}
 use Rattle.session_lines.specs.declared.said.Said as said
 use Rattle.session_lines.specs.Told.{Says}
 use Rattle.session_lines.proofs.Choices.{if_first, if_second, not_equal, not-false, not-true}
@@ -46,3 +47,13 @@ pub err-along : {A B : Type 0} (fail : Fail SessionKind) (P : A → Type 0) (Q :
     → Answers (Err fail) P (λ kind. s ≡ wrong kind) → Answers (Err fail) Q (λ kind. r ≡ wrong kind)
 err-along (Said kind) P Q r s same h = same ∙ h
 err-along NoMemory P Q r s same h = tt
+
+-- ---- a line that says something has allowed bytes alone
+
+pub said-allowed : (line : List ℕ) (s : Statement) → reading_of line ≡ says s → IsOneLine line
+unfolding reading_of
+said-allowed line s h = step (list_all is_allowed line) refl h
+  where
+    step : (t : Bool) → list_all is_allowed line ≡ t → (if not t then wrong kinds.Byte else of_words (words_in line)) ≡ says s → list_all is_allowed line ≡ true
+    step true is h = is
+    step false is h = absurd (let no : ⊥ = cc in no)

@@ -1,7 +1,10 @@
 //! A session while it is read.
 
-ghost use Rattle.std.specs.Prelude.{◌≡◌, ◌++◌, IfOk};
-ghost use Rattle.session_model.specs.Statements.{gives, fails, process, command};
+ghost use Rattle.std.specs.Prelude.{◌≡◌, ◌++◌, IfOk, Some};
+ghost use Rattle.session_model.specs.declared.sessions.FailingLine as failing_line;
+ghost use Rattle.session_model.specs.declared.sessions.ModLine as mod_line;
+ghost use Rattle.session_model.specs.Kept.{IsOneLine, module_in_line, failure_in_line};
+ghost use Rattle.session_model.specs.Statements.{gives, fails, process, command, says, reading_of};
 ghost use Rattle.session_model.specs.Sessions.{rises};
 ghost use Rattle.session_lines.specs.Told.{told};
 ghost use Rattle.session_lines.specs.Drafts.{nothing_said, open_with, session_in, Takes};
@@ -10,7 +13,7 @@ use crate::numbers::MOST_PROCESSES;
 use crate::said::Said;
 use load_model::Command;
 use lx_types::{Fail, NoMemory, Seq};
-use session_model::{Commands, FailingLine, ModLine, Script, Session, SessionKind};
+use session_model::{Commands, FailingLines, ModLines, Script, Session, SessionKind};
 use std::alloc::Global;
 
 /// The most commands of a script.
@@ -20,8 +23,8 @@ const MOST_COMMANDS: usize = 1024;
 /// that it has.
 #[derive(Drop)]
 pub(crate) struct Draft {
-    pub modules: Seq<ModLine>,
-    pub failing: Seq<FailingLine>,
+    pub modules: ModLines,
+    pub failing: FailingLines,
     pub scripts: Seq<Script>,
     pub pid: Option<u32>,
     pub commands: Commands,
@@ -59,8 +62,8 @@ impl Draft {
         ensures { result ≡ nothing_said }
     {
         Draft {
-            modules: Seq::new(alloc),
-            failing: Seq::new(alloc),
+            modules: ModLines::new(alloc),
+            failing: FailingLines::new(alloc),
             scripts: Seq::new(alloc),
             pid: None,
             commands: Seq::new(alloc),
@@ -68,27 +71,37 @@ impl Draft {
     }
 
     // Modules come before all scripts.
-    fn with_module(self, line: ModLine) -> Result<Draft, Fail<SessionKind>>
-        ensures { Takes self (gives line) result }
+    fn with_module(self, line: &[u8]) -> Result<Draft, Fail<SessionKind>>
+        requires { IsOneLine line.now }
+        ensures { (m : mod_line.ModLine) → module_in_line line.now ≡ Some m → Takes self (gives m) result }
     {
-        let mut draft = self;
-        if draft.pid.is_some() {
+        if self.pid.is_some() {
             return Err(Fail::Said(SessionKind::Order));
         }
-        draft.modules.push(line)?;
-        Ok(draft)
+        Ok(Draft {
+            modules: self.modules.with_line(line)?,
+            failing: self.failing,
+            scripts: self.scripts,
+            pid: self.pid,
+            commands: self.commands,
+        })
     }
 
     // So does what fails.
-    fn with_failing(self, line: FailingLine) -> Result<Draft, Fail<SessionKind>>
-        ensures { Takes self (fails line) result }
+    fn with_failing(self, line: &[u8]) -> Result<Draft, Fail<SessionKind>>
+        requires { IsOneLine line.now }
+        ensures { (f : failing_line.FailingLine) → failure_in_line line.now ≡ Some f → Takes self (fails f) result }
     {
-        let mut draft = self;
-        if draft.pid.is_some() {
+        if self.pid.is_some() {
             return Err(Fail::Said(SessionKind::Order));
         }
-        draft.failing.push(line)?;
-        Ok(draft)
+        Ok(Draft {
+            modules: self.modules,
+            failing: self.failing.with_line(line)?,
+            scripts: self.scripts,
+            pid: self.pid,
+            commands: self.commands,
+        })
     }
 
     // The open script is closed, and the next one is open.
@@ -122,13 +135,14 @@ impl Draft {
         Ok(draft)
     }
 
-    /// The draft with a statement more.
-    pub fn with(self, alloc: Global, said: Said) -> Result<Draft, Fail<SessionKind>>
+    /// The draft with the statement of a line more.
+    pub fn with(self, alloc: Global, line: &[u8], said: Said) -> Result<Draft, Fail<SessionKind>>
+        requires { reading_of line.now ≡ says (told said) }
         ensures { Takes self (told said) result }
     {
         match said {
-            Said::Module(line) => self.with_module(line),
-            Said::Failing(line) => self.with_failing(line),
+            Said::Module(_) => self.with_module(line),
+            Said::Failing(_) => self.with_failing(line),
             Said::Process(pid) => self.with_process(alloc, pid),
             Said::Command(command) => self.with_command(command),
         }

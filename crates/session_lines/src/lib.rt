@@ -3,6 +3,7 @@
 
 mod arguments;
 mod draft;
+mod kept;
 mod keyword;
 mod lines;
 mod numbers;
@@ -11,4 +12,6 @@ mod reading;
 mod said;
 mod statements;
 
+pub use kept::{FailingCut, ModuleCut, first_failing, first_module};
+pub use lines::{WordCut, first_word};
 pub use reading::read_session;

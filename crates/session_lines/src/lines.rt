@@ -53,7 +53,7 @@ pub(crate) fn is_allowed(line: &[u8]) -> bool
 
 /// The first word of a line, and what stands behind it.
 #[derive(Clone, Copy)]
-pub(crate) struct WordCut<'a> {
+pub struct WordCut<'a> {
     pub word: &'a [u8],
     pub behind: &'a [u8],
 }
@@ -80,7 +80,8 @@ fn word_len(bytes: &[u8]) -> usize
     bytes.iter().take_while(|b| !is_blank(**b)).count()
 }
 
-pub(crate) fn first_word(bytes: &[u8]) -> Option<WordCut<'_>>
+/// The first word of a line. `None` comes exactly where there is no word.
+pub fn first_word(bytes: &[u8]) -> Option<WordCut<'_>>
     ensures words { MatchOption result (words_in bytes.now ≡ [])
         (λ cut. words_in bytes.now ≡ cut.word.now ∷ words_in cut.behind.now) }
     ensures some { IfSome result (λ cut. 0 < length cut.word.now) }

@@ -17,7 +17,7 @@ fn with_line(alloc: Global, draft: Draft, line: &[u8]) -> Result<Draft, Fail<Ses
     ensures { TakesLine draft line.now result }
 {
     match read_line(alloc, line)? {
-        Some(said) => draft.with(alloc, said),
+        Some(said) => draft.with(alloc, line, said),
         None => Ok(draft),
     }
 }

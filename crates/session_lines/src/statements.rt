@@ -1,7 +1,6 @@
 //! What a line says.
 
-ghost use Rattle.std.specs.Prelude.{◌≡◌, ◌∷◌, IfOk, codes, false};
-ghost use Rattle.std.specs.List.{list_any};
+ghost use Rattle.std.specs.Prelude.{◌≡◌, ◌∷◌, IfOk, codes};
 ghost use Rattle.lx_types.specs.Answers.{Answers};
 ghost use Rattle.lx_types.specs.Names.{IsName};
 ghost use Rattle.session_model.specs.Lines.{words_in};
@@ -18,8 +17,8 @@ use crate::numbers::{MOST_BYTES, hex_in, number_in, process_in, word_in};
 use crate::places::{Span, span_in};
 use crate::said::Said;
 use load_model::{Command, Place};
-use lx_types::{EntryKey, Fail, Name, Names, NoMemory, Seq};
-use session_model::{FailingLine, ModLine, SessionKind};
+use lx_types::{EntryKey, Fail, Name, NoMemory};
+use session_model::{FailingLine, ModLine, SessionKind, Words};
 use std::alloc::Global;
 
 fn one_word(alloc: Global, word: OneWord, arg: &[u8]) -> Result<Said, Fail<SessionKind>>
@@ -162,20 +161,6 @@ fn bytes(
     }))
 }
 
-// The words of a line, as names.
-fn names_in(alloc: Global, line: &[u8]) -> Result<Names, NoMemory>
-    requires { list_any is_long (words_in line.now) ≡ false }
-    ensures { IfOk result (λ names. names ≡ words_in line.now) }
-{
-    let mut names = Seq::new(alloc);
-    let mut left = line;
-    while let Some(cut) = first_word(left) {
-        names.push(Name::of_short(alloc, cut.word)?)?;
-        left = cut.behind;
-    }
-    Ok(names)
-}
-
 fn build(alloc: Global, args: &[u8]) -> Result<Said, Fail<SessionKind>>
     ensures { Says (by_count (word_count (codes "build")) (codes "build" ∷ words_in args.now)) result }
 {
@@ -191,7 +176,7 @@ fn build(alloc: Global, args: &[u8]) -> Result<Said, Fail<SessionKind>>
     Ok(Said::Module(ModLine::Build {
         stem: Name::of_short(alloc, stem.word)?,
         def: Name::of_short(alloc, def.word)?,
-        files: names_in(alloc, def.behind)?,
+        files: Words::of(alloc, def.behind)?,
     }))
 }
 

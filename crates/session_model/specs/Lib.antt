@@ -4,6 +4,7 @@ pub mod Transcript
 pub mod Runs
 pub mod Lines
 pub mod Statements
+pub mod Kept
 pub mod Sessions
 pub mod FailingPairs
 pub mod Bounds

@@ -1,7 +1,9 @@
 //! What a session says: modules, and scripts of commands.
 
+use crate::kept::{FailingLines, ModLines};
+use crate::words::Words;
 use load_model::{Command, Reply};
-use lx_types::{Name, Names, Seq};
+use lx_types::{Name, Seq};
 
 /// A line that gives a module.
 #[derive(Drop)]
@@ -10,7 +12,7 @@ pub enum ModLine {
     Take { file: Name },
     /// A module that is linked from object files and libraries. `def` is the definition file's name,
     /// or `-`.
-    Build { stem: Name, def: Name, files: Names },
+    Build { stem: Name, def: Name, files: Words },
 }
 
 /// The commands of a script, in their order.
@@ -33,8 +35,8 @@ pub struct FailingLine {
 /// A session: the modules, the initialisations that fail, and the scripts by rising numbers.
 #[derive(Drop)]
 pub struct Session {
-    pub modules: Seq<ModLine>,
-    pub failing: Seq<FailingLine>,
+    pub modules: ModLines,
+    pub failing: FailingLines,
     pub scripts: Seq<Script>,
 }
 

@@ -10,15 +10,18 @@ ghost use Rattle.session_text.specs.Writable.{IsWritable};
 use crate::commands::push_command;
 use crate::words::{Word, push_joined, push_line, push_spaced};
 use load_model::Command;
-use lx_types::{Bytes, Name, NoMemory, Seq};
-use session_model::{FailingLine, ModLine, Script, Session};
+use lx_types::{Bytes, NoMemory, Seq};
+use session_lines::{first_failing, first_module, first_word};
+use session_model::{FailingLine, FailingLines, ModLine, ModLines, Script, Session, Words};
 use std::alloc::{AllocError, Global};
 
-fn push_names(out: &mut Vec<u8>, names: &[Name]) -> Result<(), AllocError>
+fn push_names(out: &mut Vec<u8>, names: &Words) -> Result<(), AllocError>
     ensures { OnOk result (out.new.items ≡ out.old.items ++ spaced names.now) }
 {
-    for name in names {
-        push_spaced(out, &[Word::Text(name.bytes())])?;
+    let mut left = names.text();
+    while let Some(cut) = first_word(left) {
+        push_spaced(out, &[Word::Text(cut.word)])?;
+        left = cut.behind;
     }
     Ok(())
 }
@@ -34,29 +37,39 @@ fn push_module(out: &mut Vec<u8>, line: &ModLine) -> Result<(), AllocError>
             let stem = Word::Text(stem.bytes());
             let def = Word::Text(def.bytes());
             push_joined(out, &[Word::Text(b"build"), stem, def])?;
-            push_names(out, files.as_slice())?;
+            push_names(out, files)?;
             out.push(b'\n')?;
             Ok(())
         }
     }
 }
 
-fn push_modules(out: &mut Vec<u8>, modules: &[ModLine]) -> Result<(), AllocError>
+fn push_modules(alloc: Global, out: &mut Vec<u8>, modules: &ModLines) -> Result<(), NoMemory>
     ensures { OnOk result (out.new.items ≡ out.old.items ++ flat_map module_line modules.now) }
 {
-    for line in modules {
-        push_module(out, line)?;
+    let mut left = modules.text();
+    while let Some(cut) = first_module(alloc, left)? {
+        push_module(out, &cut.line)?;
+        left = cut.behind;
     }
     Ok(())
 }
 
-fn push_failing(out: &mut Vec<u8>, failing: &[FailingLine]) -> Result<(), AllocError>
+fn push_failure(out: &mut Vec<u8>, line: &FailingLine) -> Result<(), AllocError>
+    ensures { OnOk result (out.new.items ≡ out.old.items ++ failing_line line.now) }
+{
+    let pid = Word::Number(u64::from(line.pid));
+    let module = Word::Text(line.module.bytes());
+    push_line(out, &[Word::Text(b"failing"), module, pid])
+}
+
+fn push_failing(alloc: Global, out: &mut Vec<u8>, failing: &FailingLines) -> Result<(), NoMemory>
     ensures { OnOk result (out.new.items ≡ out.old.items ++ flat_map failing_line failing.now) }
 {
-    for line in failing {
-        let pid = Word::Number(u64::from(line.pid));
-        let module = Word::Text(line.module.bytes());
-        push_line(out, &[Word::Text(b"failing"), module, pid])?;
+    let mut left = failing.text();
+    while let Some(cut) = first_failing(alloc, left)? {
+        push_failure(out, &cut.line)?;
+        left = cut.behind;
     }
     Ok(())
 }
@@ -89,8 +102,8 @@ pub fn write_session(alloc: Global, session: &Session) -> Result<Bytes, NoMemory
     ensures again { IfOk result (λ text. IsWritable session.now → Ses text session.now) }
 {
     let mut out = Vec::new(alloc);
-    push_modules(&mut out, session.modules.as_slice())?;
-    push_failing(&mut out, session.failing.as_slice())?;
+    push_modules(alloc, &mut out, &session.modules)?;
+    push_failing(alloc, &mut out, &session.failing)?;
     push_scripts(&mut out, session.scripts.as_slice())?;
     Ok(Seq::from_vec(out))
 }

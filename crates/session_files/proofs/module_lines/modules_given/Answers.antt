@@ -1,61 +1,108 @@
-use Rattle.std.proofs.Common.{◌≡◌, ◌+◌, ◌++◌, ◌∷◌, [], ℕ, suc, List, Result, Ok, Err, Vec, length, take, drop, ap, sym, subst, arith}
-use Rattle.std.specs.List.{All}
+use Rattle.std.proofs.Common.{◌≡◌, ◌∷◌, ◌++◌, [], ℕ, List, Option, Some, None, Result, Ok, Err, Vec, refl, sym, subst}
+use Rattle.std.specs.Prelude.{MatchOption}
 use Rattle.std.specs.Global.{Global}
-use Rattle.std.proofs.lemmas.List.Elements.{All-push}
+use Rattle.std.specs.List.{All}
+use Rattle.std.proofs.lemmas.List.Elements.{All-nil, All-push, All-head, All-tail}
 use Rattle.lx_types.specs.declared.fail.Fail.{Fail}
 use Rattle.lx_types.specs.declared.fail.Fail.TheVariants as fail
 use Rattle.lx_types.specs.declared.parts.Parts.{Parts}
 use Rattle.lx_model.specs.Module.{IsRead}
+use Rattle.lx_ports.specs.Files.{FilesState}
 use Rattle.session_model.specs.declared.sessions.ModLine.{ModLine}
+use Rattle.session_model.specs.Kept.{modules_in}
+use Rattle.session_lines.specs.declared.kept.ModuleCut.{ModuleCut}
+use Rattle.session_text.specs.Writable.{IsPlainModule}
 use Rattle.lx_answer.specs.declared.said.Said.{Said}
 use Rattle.tool_read.proofs.Walk.{err_is}
-use Rattle.session_files.specs.ModuleLines.{DoesLines, listed}
-use Rattle.session_files.proofs.Lines.{DoneSoFar, cut_at, front_all, front_at, line_more, line_stops, lines_done, lines_end, parts_at}
+use Rattle.session_files.specs.ModuleLines.{DoesLine, DoesLines, listed}
+use Rattle.session_files.proofs.Lines.{Reached, reached_none, reached_more, reached_stop, reached_end, reached_done, reached_count}
 use Rattle.session_files.proofs.module_lines.modules_given.Goals as goal
+
+-- the first line that is left
+module _ (text : List ℕ) (first : Option ModuleCut) (cut : ModuleCut) (is : first ≡ Some cut)
+    (found : MatchOption first (modules_in text ≡ []) (λ cut. modules_in text ≡ cut.line ∷ modules_in cut.behind.now)) where
+  next_is : modules_in text ≡ cut.line ∷ modules_in cut.behind.now
+  next_is = subst (λ o. MatchOption o (modules_in text ≡ []) (λ cut. modules_in text ≡ cut.line ∷ modules_in cut.behind.now)) is found
+
+  next_plain : All IsPlainModule (modules_in text) → IsPlainModule cut.line
+  next_plain plain = All-head IsPlainModule cut.line (modules_in cut.behind.now) (subst (All IsPlainModule) next_is plain)
+
+  others_plain : All IsPlainModule (modules_in text) → All IsPlainModule (modules_in cut.behind.now)
+  others_plain plain = All-tail IsPlainModule cut.line (modules_in cut.behind.now) (subst (All IsPlainModule) next_is plain)
+
+  one_done : (lines : List ModLine) (before between now : FilesState) (modules more : List Parts) (parts : Parts) → Reached lines (modules_in text) before between modules
+      → DoesLine cut.line between now (Ok parts) → more ≡ modules ++ parts ∷ [] → Reached lines (modules_in cut.behind.now) before now more
+  one_done lines before between now modules more parts so_far one are =
+      reached_more lines (modules_in text) cut.line (modules_in cut.behind.now) before between now modules so_far next_is parts more one are
+
+  one_stops : (lines : List ModLine) (before between now : FilesState) (modules : List Parts) (why : Fail Said) → Reached lines (modules_in text) before between modules
+      → DoesLine cut.line between now (Err why) → DoesLines lines before now (Err why)
+  one_stops lines before between now modules why so_far one =
+      reached_stop lines (modules_in text) cut.line (modules_in cut.behind.now) before between now modules so_far next_is why one
+
+-- no memory is told as it is
+no_memory : (lines behind : List ModLine) (before now : FilesState) (modules : List Parts) (result : Result (Vec Parts Global) (Fail Said)) → Reached lines behind before now modules
+    → result ≡ Err fail.NoMemory → DoesLines lines before now (listed result)
+no_memory lines behind before now modules result so_far is =
+    subst (λ r. DoesLines lines before now (listed r)) (sym is) (reached_end lines behind before now modules so_far)
+
+none_left : (text : List ℕ) (first : Option ModuleCut) → first ≡ None
+    → MatchOption first (modules_in text ≡ []) (λ cut. modules_in text ≡ cut.line ∷ modules_in cut.behind.now) → modules_in text ≡ []
+none_left text first is found = subst (λ o. MatchOption o (modules_in text ≡ []) (λ cut. modules_in text ≡ cut.line ∷ modules_in cut.behind.now)) is found
+
+all_read : (modules more : List Parts) (parts : Parts) → All IsRead modules → IsRead parts → more ≡ modules ++ parts ∷ [] → All IsRead more
+all_read modules more parts all one are = subst (All IsRead) (sym are) (All-push IsRead modules parts all one)
+
+pub loop-modules-init : goal.loop-modules-init
+loop-modules-init g c = record {
+  done = reached_none c.args.lines.now _ _ c.new-modules.result.items (sym c.text-left.ensures) c.new-modules.ensures.items;
+  plain = subst (All IsPlainModule) (sym c.text-left.ensures) c.requires;
+  whole = subst (All IsRead) (sym c.new-modules.ensures.items) (All-nil IsRead);
+}
+
+pub module_given-requires : goal.module_given-requires
+module_given-requires g c =
+    next_plain c.loop-modules.left.now c.in_ok-cut.field-0 c.in-Some.cut c.in-Some.is c.in_ok-cut.ensures.lines c.loop-modules.invariant.plain
+
+pub loop-modules-preserved-in_ok-push-in-Ok : goal.loop-modules-preserved-in_ok-push-in-Ok
+loop-modules-preserved-in_ok-push-in-Ok g c = record {
+  done = one_done c.loop-modules.left.now c.in_ok-cut.field-0 c.in-Some.cut c.in-Some.is c.in_ok-cut.ensures.lines c.args.lines.now _ _ _ c.loop-modules.modules.items _
+      c.in-Ok.«module» c.loop-modules.invariant.done c.in-Ok.ensures.done c.in_ok-push-in-Ok.ensures.items;
+  plain = others_plain c.loop-modules.left.now c.in_ok-cut.field-0 c.in-Some.cut c.in-Some.is c.in_ok-cut.ensures.lines c.loop-modules.invariant.plain;
+  whole = all_read c.loop-modules.modules.items _ c.in-Ok.«module» c.loop-modules.invariant.whole c.in-Ok.ensures.whole c.in_ok-push-in-Ok.ensures.items;
+}
+
+pub loop-modules-preserved : goal.loop-modules-preserved
+loop-modules-preserved g c = record {
+  done = one_done c.loop-modules.left.now c.in_ok-cut.field-0 c.in-Some.cut c.in-Some.is c.in_ok-cut.ensures.lines c.args.lines.now _ _ _ c.loop-modules.modules.items _
+      c.in-Ok.«module» c.loop-modules.invariant.done c.in-Ok.ensures.done c.in_ok-push-in-Ok.ensures.items;
+  plain = others_plain c.loop-modules.left.now c.in_ok-cut.field-0 c.in-Some.cut c.in-Some.is c.in_ok-cut.ensures.lines c.loop-modules.invariant.plain;
+  whole = all_read c.loop-modules.modules.items _ c.in-Ok.«module» c.loop-modules.invariant.whole c.in-Ok.ensures.whole c.in_ok-push-in-Ok.ensures.items;
+}
+
+pub returns-in_err-cut-clause-done : goal.returns-in_err-cut-clause-done
+returns-in_err-cut-clause-done g c =
+    no_memory c.args.lines.now _ _ _ c.loop-modules.modules.items c.from_residual.result c.loop-modules.invariant.done
+    (err_is c.from_residual.result c.from_residual.ensures.1)
 
 pub returns-in_err-push-in-Ok-clause-done : goal.returns-in_err-push-in-Ok-clause-done
 returns-in_err-push-in-Ok-clause-done g c =
-    let k = c.loop-line.line-index in
-    let R : Result (Vec Parts Global) (Fail Said) → Type 0 = λ r. DoesLines c.args.lines.now (g.F.Files.state c.args.files.now) (g.F.Files.state c.module_given.new.files) (listed r) in
-    let P : List ModLine → Type 0 = λ ls. DoesLines ls (g.F.Files.state c.args.files.now) (g.F.Files.state c.module_given.new.files) (Err fail.NoMemory) in
-    subst R (sym (err_is c.from_residual.result c.from_residual.ensures.1))
-    (subst P (sym (parts_at c.args.lines.now k c.line-item.result c.loop-line-test.true c.line-item.is))
-    (lines_end (take k c.args.lines.now ++ c.line-item.result ∷ []) (drop (suc k) c.args.lines.now) _ _ (c.loop-line.modules.items ++ c.in-Ok.«module» ∷ [])
-    (line_more (take k c.args.lines.now) c.line-item.result _ _ _ c.loop-line.modules.items c.in-Ok.«module» c.loop-line.invariant.done c.in-Ok.ensures.done)))
+    no_memory c.args.lines.now _ _ _ (c.loop-modules.modules.items ++ c.in-Ok.«module» ∷ []) c.from_residual-in_err-push-in-Ok.result
+    (one_done c.loop-modules.left.now c.in_ok-cut.field-0 c.in-Some.cut c.in-Some.is c.in_ok-cut.ensures.lines c.args.lines.now _ _ _ c.loop-modules.modules.items _
+    c.in-Ok.«module» c.loop-modules.invariant.done c.in-Ok.ensures.done refl)
+    (err_is c.from_residual-in_err-push-in-Ok.result c.from_residual-in_err-push-in-Ok.ensures.1)
 
 pub returns-in-Err-clause-done : goal.returns-in-Err-clause-done
 returns-in-Err-clause-done g c =
-    let k = c.loop-line.line-index in
-    let P : List ModLine → Type 0 = λ ls. DoesLines ls (g.F.Files.state c.args.files.now) (g.F.Files.state c.module_given.new.files) (Err c.in-Err.why) in
-    subst P (sym (cut_at c.args.lines.now k c.line-item.result c.loop-line-test.true c.line-item.is))
-    (line_stops (take k c.args.lines.now) (drop (suc k) c.args.lines.now) c.line-item.result _ _ _ c.loop-line.modules.items c.in-Err.why c.loop-line.invariant.done c.in-Err.ensures.done)
-
-pub loop-line-preserved : goal.loop-line-preserved
-loop-line-preserved g c =
-    let k = c.loop-line.line-index in
-    let items = c.in_ok-push-in-Ok.ensures.items in
-    let count = c.loop-line.invariant.count in
-    let P : List ModLine → Type 0 = λ ls. DoneSoFar ls (g.F.Files.state c.args.files.now) (g.F.Files.state c.module_given.new.files) c.push.new.self.items in
-    let Q : List Parts → Type 0 = λ ms. DoneSoFar (take k c.args.lines.now ++ c.line-item.result ∷ []) (g.F.Files.state c.args.files.now) (g.F.Files.state c.module_given.new.files) ms in
-    let W : List Parts → Type 0 = λ ms. All IsRead ms in
-    record {
-      done = subst P (front_at c.args.lines.now k c.line-item.result c.loop-line-test.true c.line-item.is)
-          (subst Q (sym items) (line_more (take k c.args.lines.now) c.line-item.result _ _ _ c.loop-line.modules.items c.in-Ok.«module» c.loop-line.invariant.done c.in-Ok.ensures.done));
-      whole = subst W (sym items) (All-push IsRead _ c.in-Ok.«module» c.loop-line.invariant.whole c.in-Ok.ensures.whole);
-      count = one_longer c.loop-line.modules.items c.in-Ok.«module» c.push.new.self.items k items count;
-    }
-  where
-    longer : (xs : List Parts) (x : Parts) → length (xs ++ x ∷ []) ≡ length xs + 1
-    longer [] x = omega arith
-    longer (y ∷ xs) x = let e : length (xs ++ x ∷ []) ≡ length xs + 1 = longer xs x in omega (arith, e)
-
-    one_longer : (xs : List Parts) (x : Parts) (ys : List Parts) (k : ℕ) → ys ≡ xs ++ x ∷ [] → length xs ≡ k → length ys ≡ k + 1
-    one_longer xs x ys k are count =
-        let e : length ys ≡ length (xs ++ x ∷ []) = ap length are in
-        let l : length (xs ++ x ∷ []) ≡ length xs + 1 = longer xs x in
-        omega (arith, e, l, count)
+    one_stops c.loop-modules.left.now c.in_ok-cut.field-0 c.in-Some.cut c.in-Some.is c.in_ok-cut.ensures.lines c.args.lines.now _ _ _ c.loop-modules.modules.items c.in-Err.why
+    c.loop-modules.invariant.done c.in-Err.ensures.done
 
 pub returns-clause-done : goal.returns-clause-done
 returns-clause-done g c =
-    let P : List ModLine → Type 0 = λ ls. DoesLines ls (g.F.Files.state c.args.files.now) (g.F.Files.state c.loop-line.files) (Ok c.loop-line.modules.items) in
-    subst P (front_all c.args.lines.now c.loop-line.line-index c.loop-line-test.false) (lines_done _ _ _ c.loop-line.modules.items c.loop-line.invariant.done)
+    reached_done c.args.lines.now (modules_in c.loop-modules.left.now) _ _ c.loop-modules.modules.items c.loop-modules.invariant.done
+    (none_left c.loop-modules.left.now c.in_ok-cut.field-0 c.in_default.is c.in_ok-cut.ensures.lines)
+
+pub returns-clause-count : goal.returns-clause-count
+returns-clause-count g c =
+    reached_count c.args.lines.now (modules_in c.loop-modules.left.now) _ _ c.loop-modules.modules.items c.loop-modules.invariant.done
+    (none_left c.loop-modules.left.now c.in_ok-cut.field-0 c.in_default.is c.in_ok-cut.ensures.lines)

@@ -1,12 +1,18 @@
-use Rattle.std.proofs.Common.{◌≡◌, take, length}
+use Rattle.std.proofs.Common.{length}
 use Rattle.std.specs.List.{All}
 use Rattle.lx_model.specs.Module.{IsRead}
-use Rattle.session_files.proofs.Lines.{DoneSoFar}
+use Rattle.session_model.specs.Kept.{modules_in}
+use Rattle.session_text.specs.Writable.{IsPlainModule}
+use Rattle.session_files.proofs.Lines.{Reached}
 use Rattle.session_files.proofs.module_lines.modules_given.Given as goal
 
-abbrev pub invariant-loop-line : goal.invariant-loop-line
-invariant-loop-line g l = record {
-  done : DoneSoFar (take l.line-index l.lines) (g.F.Files.state l.initial.files) (g.F.Files.state l.files) l.modules.items;
+-- The lines so far were done, and those that are left stand behind them.
+abbrev pub invariant-loop-modules : goal.invariant-loop-modules
+invariant-loop-modules g l = record {
+  done : Reached l.lines (modules_in l.left) (g.F.Files.state l.initial.files) (g.F.Files.state l.files) l.modules.items;
+  plain : All IsPlainModule (modules_in l.left);
   whole : All IsRead l.modules.items;
-  count : length l.modules.items ≡ l.line-index;
 }
+
+abbrev pub decreases-loop-modules : goal.decreases-loop-modules
+decreases-loop-modules g l = length l.left

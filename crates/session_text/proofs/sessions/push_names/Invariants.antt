@@ -1,6 +1,10 @@
-use Rattle.std.proofs.Common.{◌≡◌, ◌++◌, drop}
+use Rattle.std.proofs.Common.{◌≡◌, ◌++◌, length}
+use Rattle.session_model.specs.Lines.{words_in}
 use Rattle.session_text.specs.Spaced.{spaced}
 use Rattle.session_text.proofs.sessions.push_names.Given as goal
 
-abbrev pub invariant-loop-name : goal.invariant-loop-name
-invariant-loop-name l = l.out.items ++ spaced (drop l.name-index l.names) ≡ l.initial.out.items ++ spaced l.names
+abbrev pub invariant-loop-cut : goal.invariant-loop-cut
+invariant-loop-cut l = l.out.items ++ spaced (words_in l.left) ≡ l.initial.out.items ++ spaced l.names
+
+abbrev pub decreases-loop-cut : goal.decreases-loop-cut
+decreases-loop-cut l = length l.left

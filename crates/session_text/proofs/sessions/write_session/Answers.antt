@@ -12,11 +12,11 @@ text-is c =
     let modules : List ℕ = flat_map module_line c.args.session.now.modules in
     let failing : List ℕ = flat_map failing_line c.args.session.now.failing in
     let scripts : List ℕ = flat_map script_lines c.args.session.now.scripts in
-    c.from_vec.ensures ∙ c.in_ok-push_scripts.ensures ∙ ap (λ s. c.push_failing.new.out.items ++ flat_map script_lines s) c.as_slice-3.ensures
+    c.from_vec.ensures ∙ c.in_ok-push_scripts.ensures ∙ ap (λ s. c.push_failing.new.out.items ++ flat_map script_lines s) c.as_slice.ensures
     ∙ ap (λ bytes. bytes ++ scripts)
-    (c.in_ok-push_failing.ensures ∙ ap (λ f. c.push_modules.new.out.items ++ flat_map failing_line f) c.as_slice-2.ensures
+    (c.in_ok-push_failing.ensures
     ∙ ap (λ bytes. bytes ++ failing)
-    (c.in_ok-push_modules.ensures ∙ ap (λ m. c.new-out.result.items ++ flat_map module_line m) c.as_slice.ensures
+    (c.in_ok-push_modules.ensures
     ∙ ap (λ bytes. bytes ++ modules) c.new-out.ensures.items))
     ∙ append_assoc modules failing scripts
 
