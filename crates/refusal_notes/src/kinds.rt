@@ -35,6 +35,8 @@ pub fn bad_field(record: u8) -> Option<&'static str> {
         0x8A | 0x8B => "in MODEND: a method that frames or targets do not have",
         0xB0 =>
             "in COMDEF: a kind other than 61h and 62h, a length's first byte, or more than 16,777,216 bytes",
+        0xC2 | 0xC3 =>
+            "in COMDAT: iterated data, a selection over 3, an allocation over 4, an alignment over 5, segment 0, or a name out of turn: a continuation goes on with a name that began, and another record begins one",
         0xF0 => "in a library's header: its page size is a power of two from 16 to 32,768",
         _ => return None,
     })
@@ -88,6 +90,8 @@ pub fn link_kind(kind: &str) -> Option<&'static str> {
         "Missing" =>
             "a name is defined nowhere: an object file, a library or IMPORTS has to define it",
         "ImportsMany" => "more than 65,535 modules are imported",
+        "Clash" =>
+            "COMDATs of one name may not stand for one another: the first one's selection asks for one alone, for one length or for the same bytes",
         "AbsoluteSeg" => "a segment is at a fixed address, which a module of OS/2 has none of",
         "UseMixed" => "16-bit and 32-bit segments would be one: nasm wants use32 at each segment",
         "GroupSplit" =>

@@ -2,6 +2,8 @@
 use Rattle.std.specs.Prelude.{ℕ, List, ◌++◌, codes}
 use Rattle.link_model.specs.declared.refusals.SymRefusal.{SymRefusal}
 use Rattle.link_model.specs.declared.refusals.SymRefusal.TheVariants.{Twice, Missing, ImportsMany}
+use Rattle.link_model.specs.declared.refusals.ComdatRefusal.{ComdatRefusal}
+use Rattle.link_model.specs.declared.refusals.ComdatRefusal.TheVariants.{Clash}
 use Rattle.link_model.specs.declared.refusals.LayRefusal.{LayRefusal}
 use Rattle.link_model.specs.declared.refusals.LayRefusal.TheVariants.{AbsoluteSeg, UseMixed, GroupSplit, TooLarge}
 use Rattle.link_model.specs.declared.refusals.FixRefusal.{FixRefusal}
@@ -18,6 +20,9 @@ abbrev pub sym_text : SymRefusal → List ℕ
 sym_text (Twice name first second) = codes "Twice" ++ (named name ++ (field first ++ field second))
 sym_text (Missing name) = codes "Missing" ++ named name
 sym_text (ImportsMany count) = codes "ImportsMany" ++ field count
+
+abbrev pub comdat_text : ComdatRefusal → List ℕ
+comdat_text (Clash name first second) = codes "Clash" ++ (named name ++ (field first ++ field second))
 
 abbrev pub lay_text : LayRefusal → List ℕ
 lay_text (AbsoluteSeg seg) = codes "AbsoluteSeg" ++ named seg

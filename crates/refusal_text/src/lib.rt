@@ -7,6 +7,6 @@ mod resources;
 mod sessions;
 
 pub use files::{def_text, lx_text, omf_text};
-pub use links::{entry_text, fix_text, lay_text, sym_text};
+pub use links::{comdat_text, entry_text, fix_text, lay_text, sym_text};
 pub use resources::{bind_text, res_text};
 pub use sessions::{library_text, session_text};

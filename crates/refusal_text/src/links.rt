@@ -2,9 +2,9 @@
 
 ghost use Rattle.std.specs.Prelude.{◌≡◌, ◌++◌, IfOk, OnOk, codes};
 ghost use Rattle.refusal_text.specs.Files.{field};
-ghost use Rattle.refusal_text.specs.Links.{named, fixup, sym_text, lay_text, fix_text, entry_text};
+ghost use Rattle.refusal_text.specs.Links.{named, fixup, sym_text, comdat_text, lay_text, fix_text, entry_text};
 
-use link_model::{EntryRefusal, FixRefusal, LayRefusal, SymRefusal};
+use link_model::{ComdatRefusal, EntryRefusal, FixRefusal, LayRefusal, SymRefusal};
 use lx_types::{Name, push_escaped};
 use std::alloc::{AllocError, Global};
 
@@ -46,6 +46,21 @@ pub fn sym_text(alloc: Global, refusal: &SymRefusal) -> Result<Vec<u8>, AllocErr
             Ok(format!(in alloc; "ImportsMany {count}")?.into_bytes())
         }
     }
+}
+
+/// What is told of a refusal of a link's COMDATs.
+pub fn comdat_text(alloc: Global, refusal: &ComdatRefusal) -> Result<Vec<u8>, AllocError>
+    ensures { IfOk result (λ text. text.items ≡ comdat_text refusal.now) }
+{
+    let ComdatRefusal::Clash {
+        name,
+        first,
+        second,
+    } = refusal;
+    let mut text = name_text(alloc, "Clash", name)?;
+    push_field(alloc, &mut text, *first)?;
+    push_field(alloc, &mut text, *second)?;
+    Ok(text)
 }
 
 /// What is told of a refusal of a link's layout.
