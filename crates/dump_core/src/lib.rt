@@ -6,5 +6,6 @@ mod listed;
 mod numbers;
 mod pages;
 
+pub use dump_read::read_dump;
 pub use dump_write::dump;
 pub use listed::listing;
