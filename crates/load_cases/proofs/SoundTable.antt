@@ -14,7 +14,7 @@ use Rattle.load_model.specs.State.{Residence, is_among}
 use Rattle.load_model.specs.Entering.{NoRoom, residence_from, ranges_of, with_fresh, placed_from}
 use Rattle.load_model.specs.ResidenceBases.{Stands}
 use Rattle.load_model.specs.Serials.{Rise}
-use Rattle.stay_table.specs.Standing.{residences}
+use Rattle.stay_table.specs.Standing.{residences, unwritten}
 use Rattle.stay_table.specs.Placing.{AreStanding}
 use Rattle.stay_table.proofs.Placed.{module_stands}
 use Rattle.stay_table.proofs.LegalResidences.{rise_apart}
@@ -50,7 +50,7 @@ rise_filter p low (r ∷ rs) high rise = by_test (p r) (rise_filter p r.serial r
 -- ---- what stands
 
 pub no_sound : (lib : Library) → AllSound lib [] 0 0
-no_sound lib = record { within = All-nil (λ (r : Residence). r.«module» < length lib); bases = All-nil (λ (r : Residence). Stands lib r.«module» r.bases); rise = omega arith }
+no_sound lib = record { within = All-nil (λ (r : Residence). r.«module» < length lib); bases = All-nil (λ (r : Residence). Stands lib r.«module» r.bases); unwritten = All-nil (λ (r : Residence). r.writes ≡ []); rise = omega arith }
 
 pub are_standing : (lib : Library) (rs : List Residence) (high : ℕ) → AllSound lib rs 0 high → AreStanding lib rs
 are_standing lib rs high sound = record {
@@ -63,12 +63,13 @@ pub both_sound : (lib : Library) (rs more : List Residence) (low mid high : ℕ)
 both_sound lib rs more low mid high first second = record {
   within = All-append (λ (r : Residence). r.«module» < length lib) rs more first.within second.within;
   bases = All-append (λ (r : Residence). Stands lib r.«module» r.bases) rs more first.bases second.bases;
+  unwritten = All-append (λ (r : Residence). r.writes ≡ []) rs more first.unwritten second.unwritten;
   rise = subst (λ ns. Rise low ns high) (sym (map-append (λ (r : Residence). r.serial) rs more))
       (rise_append low (map (λ (r : Residence). r.serial) rs) (map (λ (r : Residence). r.serial) more) mid high first.rise second.rise);
 }
 
 pub passed_sound : (lib : Library) (rs : List Residence) (high more : ℕ) → AllSound lib rs 0 high → AllSound lib rs 0 (high + more)
-passed_sound lib rs high more sound = record { within = sound.within; bases = sound.bases; rise = rise_to 0 (map (λ (r : Residence). r.serial) rs) high (high + more) (omega arith) sound.rise }
+passed_sound lib rs high more sound = record { within = sound.within; bases = sound.bases; unwritten = sound.unwritten; rise = rise_to 0 (map (λ (r : Residence). r.serial) rs) high (high + more) (omega arith) sound.rise }
 
 kept_residences : {T : Type 0} (p : Residence → Bool) (stays : List (Residence × T)) → residences (filter (λ s. p s.0) stays) ≡ filter p (residences stays)
 kept_residences p [] = refl
@@ -86,8 +87,19 @@ ended_sound {T} lib stays gone high sound =
     subst (λ rs. AllSound lib rs 0 high) (sym (kept_residences p stays)) (record {
       within = All-filter p (λ (r : Residence). r.«module» < length lib) (residences stays) sound.within;
       bases = All-filter p (λ (r : Residence). Stands lib r.«module» r.bases) (residences stays) sound.bases;
+      unwritten = All-filter p (λ (r : Residence). r.writes ≡ []) (residences stays) sound.unwritten;
       rise = rise_filter p 0 (residences stays) high sound.rise;
     })
+
+without_writes : (r : Residence) → r.writes ≡ [] → unwritten r ≡ r
+without_writes r none = ap (λ ws. record r { writes = ws }) (sym none)
+
+-- They are those of a state in which they stand.
+pub standing_again : (rs : List Residence) → All (λ (r : Residence). r.writes ≡ []) rs → map unwritten rs ≡ rs
+standing_again [] none = refl
+standing_again (r ∷ rs) none =
+    ap (λ x. x ∷ map unwritten rs) (without_writes r (All-head (λ (q : Residence). q.writes ≡ []) r rs none))
+    ∙ ap (λ xs. r ∷ xs) (standing_again rs (All-tail (λ (q : Residence). q.writes ≡ []) r rs none))
 
 -- ---- what begins
 
@@ -100,6 +112,7 @@ one_fresh_sound lib m serials bases (Ok xs) fresh within stands each e =
     subst (FreshSound lib serials) same (record {
       within = All-cons (λ (r : Residence). r.«module» < length lib) (residence_from first) (map residence_from xs) within rest.within;
       bases = All-cons (λ (r : Residence). Stands lib r.«module» r.bases) (residence_from first) (map residence_from xs) stands rest.bases;
+      unwritten = All-cons (λ (r : Residence). r.writes ≡ []) (residence_from first) (map residence_from xs) refl rest.unwritten;
       rise = (omega arith, rise_to (suc serials) (map (λ (r : Residence). r.serial) (map residence_from xs)) (suc serials + length xs) (serials + suc (length xs)) (omega arith) rest.rise);
     })
 one_fresh_sound lib m serials bases (Err none) fresh within stands each e = cc
@@ -112,6 +125,7 @@ fresh_sound lib [] serials occupied fresh within e =
     subst (FreshSound lib serials) same (record {
       within = All-nil (λ (r : Residence). r.«module» < length lib);
       bases = All-nil (λ (r : Residence). Stands lib r.«module» r.bases);
+      unwritten = All-nil (λ (r : Residence). r.writes ≡ []);
       rise = omega arith;
     })
 fresh_sound lib (m ∷ ms) serials occupied fresh within e =

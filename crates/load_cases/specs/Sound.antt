@@ -1,5 +1,5 @@
 -- What the tests keep, so that they may go on.
-use Rattle.std.specs.Prelude.{◌≡◌, ℕ, ◌+◌, ◌<◌, false, List, All, None, length, map}
+use Rattle.std.specs.Prelude.{◌≡◌, ℕ, ◌+◌, ◌<◌, false, List, [], All, None, length, map}
 use Rattle.load_model.specs.declared.deeds.Fresh.{Fresh}
 use Rattle.load_model.specs.Modules.{Library}
 use Rattle.load_model.specs.State.{Residence, Eager, is_among}
@@ -16,10 +16,12 @@ pub record RowsSound (lib : Library) (rows : List Row) (started : List ℕ) : Ty
   pub kept : AreKept lib rows
   pub idle : (pid : ℕ) → is_among started pid ≡ false → (state.processes pid).started ≡ None
 
--- Residences of modules of the library stand by serial numbers that rise from behind one up to another.
+-- Residences of modules of the library stand by serial numbers that rise from behind one up to another. Nothing was written to them:
+-- a table of residences keeps no writes.
 pub record AllSound (lib : Library) (rs : List Residence) (low high : ℕ) : Type 0 where
   pub within : All (λ r. r.«module» < length lib) rs
   pub bases : All (λ r. Stands lib r.«module» r.bases) rs
+  pub unwritten : All (λ r. r.writes ≡ []) rs
   pub rise : Rise low (map (λ r. r.serial) rs) high
 
 -- So do those that begin, behind so many serial numbers.

@@ -26,6 +26,8 @@ whole = record {
   start = (tt, refl);
   data_limit = omega arith;
   fix_limit = omega arith;
+  comdats = λ k d lt. absurd (omega (arith, lt));
+  comdats_apart = λ i j d lt past. absurd (omega (arith, past));
 }
 
 pub sample_fits : IsWritable sample_module
@@ -43,4 +45,5 @@ sample_fits = record {
   internal = (λ e. absurd cc, tt);
   short = (omega arith, tt);
   follow = (sample_fixes, [], refl, (refl, (refl, tt)), tt, tt, refl);
+  no_comdats = refl;
 }

@@ -60,4 +60,5 @@ sample_module = record {
   exports = sample_exports;
   deflibs = codes "L" ∷ [];
   start = Some sample_start;
+  comdats = [];
 }

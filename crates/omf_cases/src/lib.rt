@@ -3,6 +3,8 @@
 #![tactic(auto)]
 
 #[cfg(test)]
+mod comdat_files;
+#[cfg(test)]
 mod data_records;
 #[cfg(test)]
 mod nasm_objects;

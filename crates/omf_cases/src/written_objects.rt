@@ -162,6 +162,7 @@ fn sample(alloc: Global) -> Result<ObjModule, NoMemory>
         imports: imports(alloc)?,
         exports: exports(alloc)?,
         deflibs,
+        comdats: Seq::new(alloc),
         start: Some(StartAt {
             frame: Frame::OfTarget,
             goal: Goal::Seg(1),

@@ -1,9 +1,8 @@
-use Rattle.std.proofs.Common.{refl}
 use Rattle.stay_table.specs.Standing.{residences}
 use Rattle.stay_table.specs.Placing.{state_with}
 use Rattle.load_cases.specs.Sound.{FreshSound}
 use Rattle.std.proofs.lemmas.Result.{IfOk-weaker}
-use Rattle.load_cases.proofs.SoundTable.{are_standing, fresh_sound, ok_answers}
+use Rattle.load_cases.proofs.SoundTable.{are_standing, fresh_sound, ok_answers, standing_again}
 use Rattle.load_cases.proofs.keeping.place.Goals as goal
 
 pub place-requires-clause-stand : goal.place-requires-clause-stand
@@ -13,4 +12,4 @@ pub returns : goal.returns
 returns c =
     IfOk-weaker c.place.result _ (FreshSound c.args.lib.now c.args.resident.now.serials)
     (λ fresh placed. fresh_sound c.args.lib.now c.args.modules.now c.args.resident.now.serials _ fresh (c.are_within.ensures c.if-not-are_within.false) placed)
-    (ok_answers c.place.result _ _ (c.place.ensures.answer (state_with (residences c.args.resident.now.stays)) refl))
+    (ok_answers c.place.result _ _ (c.place.ensures.answer (state_with (residences c.args.resident.now.stays)) (standing_again (residences c.args.resident.now.stays) c.requires.unwritten)))
