@@ -6,7 +6,7 @@
 Each run has to end as the whole one does, or with status 8 and nothing on standard output and no file saved. A save that finds
 no memory for the name of its new file is a failed one: status 4, its line, and the files before it. The last line counts the requests
 and how the runs ended. With --every N only every Nth request is refused. The status is 1 where a run
-ended otherwise. It needs a C compiler, cc.
+ended otherwise, or where no request of a run was seen. It needs a C compiler, cc.
 """
 import argparse
 import os
@@ -16,18 +16,25 @@ import tempfile
 
 HERE = os.path.dirname(os.path.abspath(__file__))
 
-A_OBJ = bytes.fromhex(
-    "80 03 00 01 61 00"
-    "96 13 00 00 06 43 4F 44 45 33 32 04 43 4F 44 45 04 46 4C 41 54 00"
-    "99 09 00 A9 08 00 00 00 02 03 01 00"
-    "9A 02 00 04 00"
-    "A1 0E 00 01 00 00 00 00 00 00 00 00 00 00 00 00 00"
-    "9D 06 00 E4 04 14 01 01 00"
-    "8A 02 00 00 00"
-)
+ROWS = os.path.join(HERE, "..", "crates", "command_rows", "data")
+
+
+def file_of_rows(rows, name):
+    """The bytes of a file that the rows of the gate have."""
+    data, inside = b"", False
+    with open(os.path.join(ROWS, rows), encoding="utf-8") as lines:
+        for line in lines:
+            if not line.startswith(" "):
+                inside = line.split() == ["file", name]
+            elif inside:
+                data += bytes.fromhex(line.partition("#")[0])
+    return data
+
 
 FILES = {
-    "a.obj": A_OBJ,
+    "a.obj": file_of_rows("link.rows", "a.obj"),
+    "good.dll": file_of_rows("resources.rows", "good.dll"),
+    "abc.res": file_of_rows("resources.rows", "abc.res"),
     "d.def": b"LIBRARY D\n",
     "s.ses": b"build D d.def a.obj\nprocess 1\nload D\ntouch D 1 4 4\npeek D 1 0 8\nfree D\nexit\n",
     "many.ses": b"build D d.def a.obj\nbuild E e.def a.obj\n"
@@ -42,6 +49,7 @@ RUNS = [
     ("image", ["image", "a.obj", "10000000"]),
     ("link", ["link", "d.dll", "d.def", "a.obj"]),
     ("implib", ["implib", "d.lib", "d.def"]),
+    ("bind", ["bind", "o.dll", "good.dll", "abc.res"]),
     ("gen", ["gen", "1", "g"]),
     ("a session of one script", ["run", "s.ses"]),
     ("a session of three scripts", ["run", "many.ses"]),
@@ -99,6 +107,8 @@ def main():
         for title, words in RUNS:
             whole_status, whole, whole_files, requests = run(lx, words, library, 0)
             threads = words[-1] == "many.ses"
+            if whole_status or not requests:
+                sys.exit(f"{title}: status {whole_status}, {requests} requests seen")
             eights = same = unsaved = others = 0
             for number in range(1, requests + 1, options.every):
                 status, text, files, _ = run(lx, words, library, number)
