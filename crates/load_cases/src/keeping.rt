@@ -1,7 +1,7 @@
 //! What processes hold, and what is resident, from one entry to the next.
 
 ghost use Rattle.std.specs.Prelude.{◌≡◌, ◌<◌, ◌≤◌, true, All, IfOk, ◌+◌, length, map};
-ghost use Rattle.load_model.specs.State as state;
+ghost use Rattle.lx_model.specs.Reach.{is_among};
 ghost use Rattle.load_model.specs.State.{pids};
 ghost use Rattle.load_model.specs.Entering.{residence_from};
 ghost use Rattle.mod_refs.specs.AllRows.{row_at};
@@ -11,7 +11,7 @@ ghost use Rattle.load_cases.specs.Sound.{AllSound, FreshSound, RowsSound};
 
 use load_model::{Fresh, How, Newcomers};
 use lx_types::{Fail, NoMemory};
-use mod_graph::Library;
+use mod_graph::{Library, is_among};
 use mod_refs::{Leaving, Refs};
 use stay_table::{NoRoom, Stay, Stays};
 use std::alloc::Global;
@@ -45,16 +45,9 @@ pub fn are_within(lib: &Library, modules: &[u32]) -> bool
 
 /// Whether a process has a number from 1 to 16.
 pub fn is_process(pid: u32) -> bool
-    ensures { result ≡ true → state.is_among pids pid ≡ true }
+    ensures { result ≡ true → is_among pids pid ≡ true }
 {
     1 <= pid && pid <= 16
-}
-
-/// Whether a number is among others.
-fn is_among(others: &[u32], number: u32) -> bool
-    ensures { result ≡ state.is_among others.now number }
-{
-    others.iter().any(|other| *other == number)
 }
 
 /// Nobody holds anything.
@@ -81,7 +74,7 @@ pub fn nothing_resident(alloc: Global, lib: &Library) -> Resident
 /// Loads module `m`.
 pub fn load(holding: &mut Holding, lib: &Library, pid: u32, m: u32)
     requires sound { RowsSound lib.now holding.old.refs holding.old.started.items }
-    requires process { state.is_among pids pid ≡ true }
+    requires process { is_among pids pid ≡ true }
     requires module { m < length lib.now }
     ensures { RowsSound lib.now holding.new.refs holding.new.started.items }
 {
@@ -91,7 +84,7 @@ pub fn load(holding: &mut Holding, lib: &Library, pid: u32, m: u32)
 /// Starts program `m`, where the process has started none.
 pub fn start(holding: &mut Holding, lib: &Library, pid: u32, m: u32) -> Result<(), NoMemory>
     requires sound { RowsSound lib.now holding.old.refs holding.old.started.items }
-    requires process { state.is_among pids pid ≡ true }
+    requires process { is_among pids pid ≡ true }
     requires module { m < length lib.now }
     ensures { RowsSound lib.now holding.new.refs holding.new.started.items }
 {
@@ -105,7 +98,7 @@ pub fn start(holding: &mut Holding, lib: &Library, pid: u32, m: u32) -> Result<(
 /// Gives up what a process holds.
 pub fn leave(holding: &mut Holding, lib: &Library, pid: u32, what: Leaving)
     requires sound { RowsSound lib.now holding.old.refs holding.old.started.items }
-    requires process { state.is_among pids pid ≡ true }
+    requires process { is_among pids pid ≡ true }
     requires held { IsHeldBy what (row_at holding.old.refs pid) }
     ensures { RowsSound lib.now holding.new.refs holding.new.started.items }
 {

@@ -5,14 +5,12 @@ use Rattle.std.specs.List.{list_any, range_with_len}
 use Rattle.std.specs.Arc.{arc_value}
 use Rattle.std.proofs.Math.Seq.{map-set_same}
 use Rattle.std.proofs.lemmas.Option.{get_or_from_slice_get}
-use Rattle.std.proofs.lemmas.Bool.{eq-eqb, lt-ltb, le-leb}
+use Rattle.std.proofs.lemmas.Bool.{eq-eqb, lt-ltb, le-leb, not_from_false}
 use Rattle.lx_types.specs.Object.{class_of}
 use Rattle.lx_types.specs.Parts.{page_at}
 use Rattle.lx_types.specs.declared.object.Class.{Class}
 use Rattle.lx_types.specs.declared.object.Class.TheVariants as classes
 use Rattle.lx_types.specs.declared.object.PageId.{PageId}
-use Rattle.lx_types.specs.declared.object.PageKind.{PageKind}
-use Rattle.lx_types.specs.declared.object.PageKind.TheVariants as kinds
 use Rattle.lx_types.specs.declared.object.TheConstants.{PAGE_SIZE}
 use Rattle.lx_types.specs.declared.parts.Parts.{Parts}
 use Rattle.lx_model.specs.Library.{module_of}
@@ -24,7 +22,7 @@ use Rattle.load_model.specs.declared.commands.Refusal.{Refusal}
 use Rattle.load_model.specs.declared.commands.Refusal.TheVariants.{Range, Invalid}
 use Rattle.load_model.specs.declared.deeds.Deed.TheVariants.{Fault}
 use Rattle.load_model.specs.declared.deeds.Entry.{Entry}
-use Rattle.load_model.specs.Modules.{Library, fixed_bytes, is_invalid, is_invalid_kind, objects_of, object_at}
+use Rattle.load_model.specs.Modules.{Library, fixed_bytes, is_invalid, objects_of, object_at}
 use Rattle.load_model.specs.State.{Residence, Eager}
 use Rattle.load_model.specs.Memory.{page, pages_over}
 use Rattle.load_model.specs.Refusals.{touch, when, class_refusal, span_refusal, is_outside, covers_invalid}
@@ -66,12 +64,6 @@ common_class classes.Code h = refl
 common_class classes.Private h = cc
 common_class classes.Shared h = refl
 
-valid_kind : (k : PageKind) → is_invalid_kind k ≡ false → not (bytes.is_invalid k) ≡ true
-valid_kind kinds.Plain h = refl
-valid_kind kinds.Iterated h = refl
-valid_kind kinds.Invalid h = cc
-valid_kind kinds.Zero h = refl
-
 there : (lib : Library) (m : ℕ) (p : PageId) → Inside lib m p.object (p.page * PAGE_SIZE) 1 → is_page_of (module_of lib m) p ≡ true
 unfolding object_at objects_of
 there lib m p inside =
@@ -90,7 +82,7 @@ valid lib m p span =
     (right_none (when (is_outside lib m p.object (p.page * PAGE_SIZE) 1) Range) _ span))
     in
     let alone : is_invalid lib m p || false ≡ false = ap (list_any (λ n. is_invalid lib m (page p.object n))) (sym (one_page p.page)) ∙ covers in
-    valid_kind _ (sym (or_false (is_invalid lib m p)) ∙ alone)
+    not_from_false _ (sym (or_false (is_invalid lib m p)) ∙ alone)
 
 pub fixable_asked : (lib : Library) (e : Eager) (pid serial m : ℕ) (p : PageId) → may_ask lib e pid (fault serial m p) ≡ true → is_fixable (module_of lib m) p ≡ true
 unfolding may_ask is_fixable object_at

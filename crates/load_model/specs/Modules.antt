@@ -5,8 +5,6 @@ use Rattle.lx_types.specs.declared.parts.Parts.{Parts}
 use Rattle.lx_types.specs.declared.parts.TheConstants.{MODULE_INIT_EACH, MODULE_TERM_EACH}
 use Rattle.lx_types.specs.declared.object.ObjHead.{ObjHead}
 use Rattle.lx_types.specs.declared.object.PageId.{PageId}
-use Rattle.lx_types.specs.declared.object.PageKind.{PageKind}
-use Rattle.lx_types.specs.declared.object.PageKind.TheVariants.{Plain, Iterated, Invalid, Zero}
 use Rattle.lx_types.specs.declared.object.TheConstants.{PAGE_SIZE}
 use Rattle.lx_types.specs.declared.entry.EntryKey.{EntryKey}
 use Rattle.lx_types.specs.declared.entry.EntryKey.TheVariants.{Ordinal, Named}
@@ -23,6 +21,7 @@ use Rattle.lx_model.specs.declared.library.EntryFault.TheVariants as faults
 use Rattle.lx_model.specs.declared.library.Health.{Health}
 use Rattle.lx_model.specs.declared.library.Health.TheVariants as kinds
 use Rattle.lx_model.specs.Library.{no_module, module_of, module_named}
+use Rattle.lx_model.specs.ModuleBytes as bytes
 unfoldable pub use Rattle.lx_model.specs.Reach.{Order, visit, HealthOf}
 unfoldable pub use Rattle.lx_model.specs.Entries.{Entry, followed}
 use Rattle.lx_model.specs.Entries.{EntryNamed}
@@ -112,14 +111,8 @@ object_at lib m object = object_of (module_of lib m) object
 unfoldable pub bases_for : Library → List AddressRange → ℕ → Result (List ℕ) ArenaFull
 bases_for lib occupied m = places_of occupied (module_of lib m)
 
-abbrev pub is_invalid_kind : PageKind → Bool
-is_invalid_kind Invalid = true
-is_invalid_kind Plain = false
-is_invalid_kind Iterated = false
-is_invalid_kind Zero = false
-
 unfoldable pub is_invalid : Library → ℕ → PageId → Bool
-is_invalid lib m p = is_invalid_kind (page_at (module_of lib m) p).kind
+is_invalid lib m p = bytes.is_invalid (page_at (module_of lib m) p).kind
 
 -- the address of a place in an object, under the bases of its module's objects
 abbrev pub address_in : List ℕ → ℕ → ℕ → ℕ

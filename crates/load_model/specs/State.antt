@@ -4,6 +4,7 @@
 use Rattle.std.specs.Prelude.{ℕ, ◌==◌, Bool, false, List, [], ◌++◌, find, count_by, Option, Some, None, option_to_list, if◌then◌else◌}
 use Rattle.std.specs.List.{list_any, range_with_len}
 use Rattle.lx_types.specs.declared.object.PageId.{PageId}
+pub use Rattle.lx_model.specs.Reach.{is_among}
 use Rattle.load_model.specs.Modules.{Library, order_of}
 
 -- bytes that were written at an offset of an object
@@ -71,9 +72,6 @@ abbrev pub pids : List ℕ
 pids = range_with_len 1 16
 
 -- ---- what a process reaches
-
-abbrev pub is_among : List ℕ → ℕ → Bool
-is_among modules m = list_any (λ other. other == m) modules
 
 -- the started program and the libraries that are loaded
 abbrev pub roots : Process → List ℕ

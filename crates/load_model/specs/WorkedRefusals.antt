@@ -74,7 +74,10 @@ pub record WorkedPlaceRefusals : Type 0 where
   pub range : answer_after several load_E 1 (Touch (place (codes "E") 1 0x2FFF 2)) ≡ refused why.Range
   pub no_object : answer_after several load_E 1 (Touch (place (codes "E") 2 0 1)) ≡ refused why.Range
   pub object_0 : answer_after several load_E 1 (Touch (place (codes "E") 0 0 1)) ≡ refused why.Range
+  -- up to the last byte before an invalid page, over its first byte, and its last byte alone
+  pub before_invalid : answer_after several load_E 1 (Touch (place (codes "E") 1 0xFFE 2)) ≡ steady Fine
   pub invalid : answer_after several load_E 1 (Touch (place (codes "E") 1 0xFFF 2)) ≡ refused why.Invalid
+  pub last_invalid : answer_after several load_E 1 (Touch (place (codes "E") 1 0x1FFF 1)) ≡ refused why.Invalid
   pub fine : answer_after several load_E 1 (Touch (place (codes "E") 1 0x2000 1)) ≡ steady Fine
   pub touched : answer_after several (load_E ++ (1, Touch (place (codes "E") 1 0x2000 1)) ∷ []) 1 (Peek (place (codes "E") 1 0x2FFF 1)) ≡ steady (Bytes (0 ∷ []))
   pub not_touched : answer_after several (load_E ++ (1, Touch (place (codes "E") 1 0 1)) ∷ []) 1 (Peek (place (codes "E") 1 0x2000 1)) ≡ refused (why.NotTouched 2)

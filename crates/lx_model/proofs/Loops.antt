@@ -1,7 +1,7 @@
 -- Forwarders are a loop exactly where they come to a place a second time.
 use Rattle.std.proofs.Common.{◌≡◌, ℕ, zero, suc, ◌+◌, ◌*◌, ◌-◌, ◌<◌, ◌≤◌, Bool, true, false, cond, eqb, List, [], ◌∷◌, length, map, get_or, Option, Some, None, Result, Ok, Err, refl, sym, subst, ap, ◌∙◌, arith, ◌⊎◌, inl, inr}
-use Rattle.std.specs.Prelude.{find, option_map, unwrap_or}
-use Rattle.std.specs.List.{range_with_len, IsDistinct, AllByRecursion as Each}
+use Rattle.std.specs.Prelude.{◌||◌, find, option_map, unwrap_or}
+use Rattle.std.specs.List.{list_any, range_with_len, IsDistinct, AllByRecursion as Each}
 use Rattle.std.proofs.Math.Nat.{suc-mul}
 use Rattle.std.proofs.lemmas.Bool.Decides.{nat_tests}
 use Rattle.std.proofs.lemmas.List.Sums.{sum_by-cons}
@@ -17,7 +17,7 @@ use Rattle.lx_model.specs.declared.library.EntryFault.TheVariants as faults
 use Rattle.lx_model.specs.Library.{module_of}
 use Rattle.lx_model.specs.Entries.{OrdinalOf, Stands, spot, fails, forwards, place_or_none, head_at, stands_at, import_place, followed, entry_count, Entry, forwarded, ComesBack}
 use Rattle.lx_model.proofs.Each.{each_map, each_in_range}
-use Rattle.lx_model.proofs.Visits.{In, In-among}
+use Rattle.lx_model.proofs.Visits.{In}
 
 -- ---- one forwarder more, or many
 
@@ -251,10 +251,17 @@ each_among n [] h q i = absurd i
 each_among n (x ∷ xs) h q (inl e) = subst (λ (y : ℕ). y < n) (sym e) h.0
 each_among n (x ∷ xs) h q (inr i) = each_among n xs h.1 q i
 
+found_head : (x y : ℕ) (rest : Bool) → (eqb x y || rest) ≡ true → (x ≡ y) ⊎ (rest ≡ true)
+found_head x y rest h = grind (arith, nat_tests)
+
+found_in : (x : ℕ) (xs : List ℕ) → list_any (eqb x) xs ≡ true → In x xs
+found_in x [] h = absurd cc
+found_in x (y ∷ xs) h = elim (found_head x y (list_any (eqb x) xs) h) [ inl e ↦ inl e | inr r ↦ inr (found_in x xs r) ]
+
 -- more numbers below n than n are not all different
 crowded : (n : ℕ) (xs : List ℕ) → n < length xs → Each (λ x. x < n) xs → Repeats xs
 crowded n xs lt each = elim (distinct_or_not xs) [
-  | inl distinct ↦ let few = length-le_from_distinct_below xs n distinct (λ q h. each_among n xs each q (In-among q xs h)) in absurd (omega arith)
+  | inl distinct ↦ let few = length-le_from_distinct_below xs n distinct (λ q h. each_among n xs each q (found_in q xs h)) in absurd (omega arith)
   | inr r ↦ r
 ]
 

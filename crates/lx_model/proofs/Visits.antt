@@ -28,17 +28,17 @@ In-split x [] zs h = inr h
 In-split x (y ∷ ys) zs (inl e) = inl (inl e)
 In-split x (y ∷ ys) zs (inr h) = elim (In-split x ys zs h) [ inl a ↦ inl (inr a) | inr b ↦ inr b ]
 
-among_head : (x y : ℕ) (rest : Bool) → (eqb x y || rest) ≡ true → (x ≡ y) ⊎ (rest ≡ true)
+among_head : (x y : ℕ) (rest : Bool) → (eqb y x || rest) ≡ true → (x ≡ y) ⊎ (rest ≡ true)
 among_head x y rest h = grind (arith, nat_tests)
 
 pub In-among : (x : ℕ) (ys : List ℕ) → is_among ys x ≡ true → In x ys
 In-among x [] h = absurd cc
 In-among x (y ∷ ys) h = elim (among_head x y (is_among ys x) h) [ inl e ↦ inl e | inr r ↦ inr (In-among x ys r) ]
 
-not_among_head : (x y : ℕ) (rest : Bool) → (eqb x y || rest) ≡ false → (x ≡ y → ⊥) × (rest ≡ false)
+not_among_head : (x y : ℕ) (rest : Bool) → (eqb y x || rest) ≡ false → (x ≡ y → ⊥) × (rest ≡ false)
 not_among_head x y rest h = (λ e. apart x y rest h e, grind (arith, nat_tests))
   where
-    apart : (a b : ℕ) (r : Bool) → (eqb a b || r) ≡ false → a ≡ b → ⊥
+    apart : (a b : ℕ) (r : Bool) → (eqb b a || r) ≡ false → a ≡ b → ⊥
     apart a b r h' e = grind (arith, nat_tests)
 
 pub not_among : (x : ℕ) (ys : List ℕ) → is_among ys x ≡ false → In x ys → ⊥

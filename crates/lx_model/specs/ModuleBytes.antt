@@ -1,7 +1,7 @@
 -- The bytes of a module by object and offset, and whole pages.
 use Rattle.std.specs.Prelude.{ℕ, ◌/◌, ◌%◌, Bool, true, false, List, map}
-use Rattle.std.specs.List.{list_any, range_with_len}
-use Rattle.lx_types.specs.Parts.{object_of, page_at}
+use Rattle.std.specs.List.{range_with_len}
+use Rattle.lx_types.specs.Parts.{object_of}
 use Rattle.lx_types.specs.declared.object.PageId.{PageId}
 use Rattle.lx_types.specs.declared.object.PageKind.{PageKind}
 use Rattle.lx_types.specs.declared.object.PageKind.TheVariants.{Plain, Iterated, Invalid, Zero}
@@ -34,10 +34,6 @@ is_invalid Plain = false
 is_invalid Iterated = false
 is_invalid Invalid = true
 is_invalid Zero = false
-
--- one of so many bytes of an object, from an offset on, lies in an invalid page
-abbrev pub covers_invalid : Parts → ℕ → ℕ → ℕ → Bool
-covers_invalid m object offset len = list_any (λ x. is_invalid (page_at m (page_with object x)).kind) (range_with_len offset len)
 
 -- ---- spots
 

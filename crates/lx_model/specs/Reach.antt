@@ -30,7 +30,7 @@ pub record Visits : Type 0 where
   pub order : List ℕ
 
 abbrev pub is_among : List ℕ → ℕ → Bool
-is_among modules m = list_any (λ other. m == other) modules
+is_among modules m = list_any (λ other. other == m) modules
 
 -- A visit to a module that was visited before adds nothing. Another one marks the module, visits the
 -- libraries that its import table names, in order, and then adds the module; so modules that import each

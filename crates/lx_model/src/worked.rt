@@ -89,7 +89,7 @@ pub fn resources_are_found()
     ensures { WorkedResources }
 {}
 
-/// Which modules are a library, entry points by key, and bytes and invalid pages by offset.
+/// Which modules are a library, entry points by key, and bytes by offset.
 pub fn libraries_gathered()
     ensures gathered { WorkedGathering }
     ensures bytes { WorkedBytes }

@@ -12,3 +12,4 @@ mod order;
 
 pub use library::{Library, Ungathered};
 pub use lx_model::{EntryFault, Health, LibraryRefusal, Spot};
+pub use order::is_among;

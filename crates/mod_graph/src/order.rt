@@ -9,10 +9,10 @@ use lx_types::{Module, NoMemory, Numbers};
 use std::alloc::Global;
 
 /// Whether a module is one of these.
-pub fn is_in(modules: &[u32], m: u32) -> bool
+pub fn is_among(modules: &[u32], m: u32) -> bool
     ensures { result ≡ is_among modules.now m }
 {
-    modules.iter().any(|other| m == *other)
+    modules.iter().any(|other| *other == m)
 }
 
 /// Visits a module: what it imports is added to the order, and then itself, where it was not visited before.
@@ -31,7 +31,7 @@ fn visit(
         ≡ visit_in depth graph.now (record { visited = visited.old.items; order = order.old.items }) m) }
     ensures within { OnOk result (All (λ k. k < length graph.now) order.new.items) }
 {
-    if depth == 0 || is_in(visited, m) {
+    if depth == 0 || is_among(visited, m) {
         return Ok(());
     }
     visited.insert(0, m)?;

@@ -2,10 +2,9 @@
 use Rattle.std.proofs.Common.{◌≡◌, ℕ, ◌+◌, ◌-◌, ◌*◌, ◌/◌, ◌<◌, ◌≤◌, ◌==◌, ◌&&◌, ◌||◌, Bool, true, false, not, List, [], ◌∷◌, ◌++◌, length, Option, None, refl, sym, ap, subst, ◌∙◌, arith}
 use Rattle.std.specs.Prelude.{is_none, nat_lt, nat_le}
 use Rattle.std.specs.List.{list_any, range_with_len}
+use Rattle.std.proofs.lemmas.Bool.{not-true}
 use Rattle.std.proofs.lemmas.Bool.Decides.{nat_tests}
 use Rattle.lx_types.specs.declared.object.PageId.{PageId}
-use Rattle.lx_types.specs.declared.object.PageKind.{PageKind}
-use Rattle.lx_types.specs.declared.object.PageKind.TheVariants as kinds
 use Rattle.lx_types.specs.declared.object.Class.{Class}
 use Rattle.lx_types.specs.declared.object.Class.TheVariants as classes
 use Rattle.lx_types.specs.declared.object.TheConstants.{PAGE_SIZE}
@@ -19,7 +18,7 @@ use Rattle.page_fix.specs.Fixable.{is_common, is_page_of, is_fixable}
 use Rattle.page_frames.specs.Residences.{ResidenceFor}
 use Rattle.load_model.specs.declared.commands.Refusal.{Refusal}
 use Rattle.load_model.specs.declared.commands.Refusal.TheVariants.{Range, Invalid}
-use Rattle.load_model.specs.Modules.{Library, fixed_bytes, objects_of, object_at, is_invalid, is_invalid_kind}
+use Rattle.load_model.specs.Modules.{Library, fixed_bytes, objects_of, object_at, is_invalid}
 use Rattle.load_model.specs.State.{Residence, pids, is_among}
 use Rattle.load_model.specs.Memory.{page, pages_over}
 use Rattle.load_model.specs.Refusals as uses
@@ -66,15 +65,9 @@ none_outside : (lib : Library) (m : ℕ) (p : PageId) → IsNumberOf p.object (l
 unfolding objects_of object_at
 none_outside lib m p there inside = tests_pass p.object (length (module_of lib m).objects) (object_of (module_of lib m) p.object).size (p.page * PAGE_SIZE + 1) there.0 there.1 (within_size (object_of (module_of lib m) p.object).size p.page inside)
 
-same_kind : (k : PageKind) → not (bytes.is_invalid k) ≡ true → is_invalid_kind k ≡ false
-same_kind kinds.Plain h = refl
-same_kind kinds.Iterated h = refl
-same_kind kinds.Invalid h = absurd cc
-same_kind kinds.Zero h = refl
-
 is_valid : (lib : Library) (m : ℕ) (p : PageId) → is_fixable (module_of lib m) p ≡ true → is_invalid lib m p ≡ false
 unfolding is_fixable is_invalid
-is_valid lib m p e = same_kind (page_at (module_of lib m) p).kind (and_right (is_page_of (module_of lib m) p && is_common (class_of (object_of (module_of lib m) p.object))) _ e)
+is_valid lib m p e = not-true (bytes.is_invalid (page_at (module_of lib m) p).kind) (and_right (is_page_of (module_of lib m) p && is_common (class_of (object_of (module_of lib m) p.object))) _ e)
 
 not_own : (c : Class) → is_common c ≡ true → not (is_own c) ≡ true
 not_own classes.Code h = refl
@@ -130,12 +123,6 @@ claim_stands still bases quiet b v r p legal at follows = quiet_behind still bas
 page_of : (count object size n : ℕ) → 1 ≤ object → object ≤ count → n < size → (nat_lt 0 object && nat_le object count && nat_lt n size) ≡ true
 page_of count object size n low high in_it = grind (arith, nat_tests)
 
-same_invalid : (k : PageKind) → is_invalid_kind k ≡ bytes.is_invalid k
-same_invalid kinds.Plain = refl
-same_invalid kinds.Iterated = refl
-same_invalid kinds.Invalid = refl
-same_invalid kinds.Zero = refl
-
 -- by the class of its object, and whether it can be reached
 pub common_by : (lib : Library) (m : ℕ) (p : PageId) → IsNumberOf p.object (length (module_of lib m).objects) → p.page < pages_of (object_of (module_of lib m) p.object) →
     is_fixable (module_of lib m) p ≡ is_common (class_of (object_at lib m p.object)) && not (is_invalid lib m p)
@@ -143,4 +130,3 @@ unfolding is_fixable is_invalid object_at
 common_by lib m p there inside =
     ap (λ b. (b && is_common (class_of (object_of (module_of lib m) p.object))) && not (bytes.is_invalid (page_at (module_of lib m) p).kind))
     (page_of (length (module_of lib m).objects) p.object (pages_of (object_of (module_of lib m) p.object)) p.page there.0 there.1 inside)
-    ∙ ap (λ b. is_common (class_of (object_of (module_of lib m) p.object)) && not b) (sym (same_invalid (page_at (module_of lib m) p).kind))

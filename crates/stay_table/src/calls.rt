@@ -3,7 +3,7 @@
 ghost use Rattle.std.specs.Prelude.{◌≡◌, ◌<◌, ◌-◌, ◌&&◌, ◌||◌, ◌++◌, ℕ, List, All, slice_index, IfOk, OnOk, None, Option, filter_map, length, map, option_map, option_to_list, reverse, if◌then◌else◌};
 ghost use Rattle.load_model.specs.Modules.{Library, inits_each, is_library, start_of, terms_each};
 ghost use Rattle.load_model.specs.State.{Eager, Process, Residence};
-ghost use Rattle.load_model.specs.State as state;
+ghost use Rattle.lx_model.specs.Reach.{is_among};
 ghost use Rattle.load_model.specs.Entering as model;
 ghost use Rattle.load_model.specs.Leaving as leaving_model;
 ghost use Rattle.load_model.specs.Initialising as failing_model;
@@ -16,10 +16,10 @@ ghost use Rattle.stay_table.specs.Called.{IsAt, IsEnteringOf, IsFailureOf, IsLea
 use crate::entry::{Entering, Failure, Leaving};
 use crate::failing::{before, push_up_to};
 use crate::standing::Standing;
-use crate::table::{Stays, is_among};
+use crate::table::Stays;
 use load_model::{Call, CallKind, Calls, Fresh, Gone, How, Leavers};
 use lx_types::{MODULE_INIT_EACH, MODULE_TERM_EACH, NoMemory, Seq};
-use mod_graph::Library;
+use mod_graph::{Library, is_among};
 use std::alloc::Global;
 
 /// The base of an object, by its number from 1; 0 where there is none.
@@ -69,7 +69,7 @@ fn is_terminated(lib: &Library, m: u32, is_gone: bool) -> bool
 
 /// Whether a module is among those that begin.
 fn is_new(fresh: &[Fresh], m: u32) -> bool
-    ensures { result ≡ state.is_among (map (λ f. f.«module») fresh.now) m }
+    ensures { result ≡ is_among (map (λ f. f.«module») fresh.now) m }
 {
     fresh.iter().any(|newcomer| newcomer.module == m)
 }
@@ -100,7 +100,7 @@ impl<T: Drop> Stays<T> {
     /// The termination of module `m`, where it is called.
     fn term_call(&self, lib: &Library, fresh: &[Fresh], is_gone: bool, m: u32) -> Option<Call>
         requires { m < length lib.now }
-        ensures { (gone : List ℕ) → is_gone ≡ state.is_among gone m
+        ensures { (gone : List ℕ) → is_gone ≡ is_among gone m
             → result ≡ term_of lib.now (state_with (residences_with self.now fresh.now)) gone m }
     {
         if is_terminated(lib, m, is_gone) {

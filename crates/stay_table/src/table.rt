@@ -3,11 +3,12 @@
 ghost use Rattle.std.specs.Prelude.{◌≡◌, ◌<◌, ◌++◌, [], filter, find, position, map, not, length, option_copied, option_map, slice_get, IfSome, MatchResult, Some};
 ghost use Rattle.std.specs.Borrow.{sem};
 ghost use Rattle.load_model.specs.State.{Eager, residence_of};
-ghost use Rattle.load_model.specs.State as state;
+ghost use Rattle.lx_model.specs.Reach.{is_among};
 ghost use Rattle.stay_table.specs.Standing.{residences, standing_in, unwritten, is_of_module, has_serial};
 
 use crate::stay::Stay;
 use lx_types::NoMemory;
+use mod_graph::is_among;
 use std::alloc::Global;
 use std::marker::Model;
 
@@ -27,16 +28,9 @@ impl<T> Model for Stays<T> {
     ghost view = { λ s. s.stays.items };
 }
 
-/// Whether a module is one of these.
-pub fn is_among(modules: &[u32], m: u32) -> bool
-    ensures { result ≡ state.is_among modules.now m }
-{
-    modules.iter().any(|other| *other == m)
-}
-
 /// Whether a residence is of none of these modules.
 fn stays_on<T>(gone: &[u32], stay: &Stay<T>) -> bool
-    ensures { result ≡ not (state.is_among gone.now stay.now.0.«module») }
+    ensures { result ≡ not (is_among gone.now stay.now.0.«module») }
 {
     !is_among(gone, stay.module())
 }
@@ -117,7 +111,7 @@ impl<T: Drop> Stays<T> {
 
     /// The residences of these modules end. It takes no memory.
     pub fn end(&mut self, gone: &[u32])
-        ensures { self.new ≡ filter (λ s. not (state.is_among gone.now s.0.«module»)) self.old }
+        ensures { self.new ≡ filter (λ s. not (is_among gone.now s.0.«module»)) self.old }
     {
         self.stays.retain(|stay| stays_on(gone, stay));
     }

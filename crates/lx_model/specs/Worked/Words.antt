@@ -1,15 +1,13 @@
--- Worked values: which modules are a library, entry points by key, and bytes and invalid pages by offset.
-use Rattle.std.specs.Prelude.{◌≡◌, List, [], ◌∷◌, codes, None, Some, Ok, true, false, replicate}
+-- Worked values: which modules are a library, entry points by key, and bytes by offset.
+use Rattle.std.specs.Prelude.{◌≡◌, List, [], ◌∷◌, codes, None, Some, Ok, replicate}
 use Rattle.lx_types.specs.declared.entry.EntryKey.TheVariants as keys
-use Rattle.lx_types.specs.declared.object.PageKind.TheVariants.{Invalid}
 use Rattle.lx_types.specs.declared.parts.Parts.{Parts}
-use Rattle.lx_types.specs.Object.{zero_page}
 use Rattle.lx_model.specs.declared.library.LibraryRefusal.TheVariants.{TooManyModules, NameTwice}
 use Rattle.lx_model.specs.Library.{no_module}
 use Rattle.lx_model.specs.Entries.{EntryOf}
 use Rattle.lx_model.specs.Gathering.{LibraryFault}
-use Rattle.lx_model.specs.ModuleBytes.{FixedByte, covers_invalid, spot_flags}
-use Rattle.lx_model.specs.Worked.Library.{library, two_pages, fixed_up, owner, base, chain, spot}
+use Rattle.lx_model.specs.ModuleBytes.{FixedByte, spot_flags}
+use Rattle.lx_model.specs.Worked.Library.{library, fixed_up, owner, base, chain, spot}
 
 pub record WorkedGathering : Type 0 where
   pub none : LibraryFault [] ≡ None
@@ -21,10 +19,6 @@ pub record WorkedGathering : Type 0 where
   pub most : LibraryFault (replicate 64 no_module) ≡ Some (NameTwice 0 1)
   pub too_many : LibraryFault (replicate 65 no_module) ≡ Some (TooManyModules 65)
 
--- a module of two pages, of which the second is invalid
-abbrev half_invalid : Parts
-half_invalid = record (library (codes "X")) { objects = two_pages 0x2003 ∷ []; pages = zero_page ∷ record { kind = Invalid; at = 0; len = 0 } ∷ [] }
-
 -- X, with a self-relative source on its second page
 abbrev second_page : List Parts
 second_page = fixed_up 0x2005 (codes "B") [] (0x08 ∷ 0x00 ∷ 0x00 ∷ 0x00 ∷ 0x01 ∷ 0x00 ∷ 0x00 ∷ []) [] ∷ []
@@ -35,7 +29,3 @@ pub record WorkedBytes : Type 0 where
   pub flags : spot_flags (chain (owner (codes "C") 0x20)) (spot 3 1 0x20) ≡ 0x2005
   pub byte : FixedByte second_page 0 (record { mods = base 0 0x10000000 ∷ [] }) 1 0x1001 ≡ 0xEF
   pub first_page : FixedByte second_page 0 (record { mods = base 0 0x10000000 ∷ [] }) 1 0x0001 ≡ 0
-  pub before : covers_invalid half_invalid 1 0xFFE 2 ≡ false
-  pub into : covers_invalid half_invalid 1 0xFFE 3 ≡ true
-  pub nothing : covers_invalid half_invalid 1 0x1000 0 ≡ false
-  pub behind : covers_invalid half_invalid 1 0x1FFF 1 ≡ true

@@ -13,4 +13,4 @@ use Rattle.load_model.proofs.worked.places_are_refused.Goals as goal
 
 pub returns : goal.returns
 unfolding number_of is_library start_of inits_each terms_each order_of unfit entry_spot resource_of objects_of object_at is_invalid Order visit HealthOf Entry followed Res places_from with_process reaches is_reached residence_of attached_residence joined newcomers resident_ranges bases_for placed_from placing after_entering entering_calls failing_module failed_calls enter_deed left gone_modules gone leaving_calls keeping after_leaving bases_seen writes_seen Byte Bytes module_refusal enter_refusal span_refusal residence_named place_refusal query_refusal resource_refusal refusal_of deed_of after_deed address_of fine_answer answer_of after_steady Step
-returns c = record { not_attached = refl; range = refl; no_object = refl; object_0 = refl; invalid = refl; fine = refl; touched = refl; not_touched = refl; read_only = refl; is_shared = refl; not_shared = refl }
+returns c = record { not_attached = refl; range = refl; no_object = refl; object_0 = refl; before_invalid = refl; invalid = refl; last_invalid = refl; fine = refl; touched = refl; not_touched = refl; read_only = refl; is_shared = refl; not_shared = refl }

@@ -14,4 +14,4 @@ returns-clause-gathered c = record { none = refl; two = refl; twice = refl; firs
 
 pub returns-clause-bytes : goal.returns-clause-bytes
 unfolding Fixed Raw page_bytes patch_of sources_of Entry followed group_at group_fields many many_from next_record record_at single_at list_at target_of_kind internal_at additive_at offsets_at
-returns-clause-bytes c = record { ordinal = refl; name = refl; flags = refl; byte = refl; first_page = refl; before = refl; into = refl; nothing = refl; behind = refl }
+returns-clause-bytes c = record { ordinal = refl; name = refl; flags = refl; byte = refl; first_page = refl }

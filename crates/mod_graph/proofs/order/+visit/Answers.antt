@@ -5,21 +5,21 @@ use Rattle.lx_model.specs.Reach.{Visits, is_among}
 use Rattle.mod_graph.specs.Visiting.{visit_in}
 use Rattle.mod_graph.proofs.Lists.{visit_in-at_end, visit_in-again, visit_in-first, marked, closed}
 use Rattle.mod_graph.proofs.order.+visit.Goals as goal
-use Rattle.mod_graph.proofs.order.+visit.Goals.{then-depth-eq0-via-then-depth-eq0, then-depth-eq0-via-else-depth-eq0+then-is_in}
+use Rattle.mod_graph.proofs.order.+visit.Goals.{then-depth-eq0-via-then-depth-eq0, then-depth-eq0-via-else-depth-eq0+then-is_among}
 
 pub returns-then-depth-eq0-clause-visits : goal.returns-then-depth-eq0-clause-visits
 returns-then-depth-eq0-clause-visits t c =
     let before : Visits = record { visited = c.args.visited.now.items; order = c.args.order.now.items } in
     elim c.then-depth-eq0.branch [
       | then-depth-eq0-via-then-depth-eq0 w ↦ sym (ap (λ n. visit_in n c.args.graph.now before c.args.m) w.if-depth-eq0.true ∙ visit_in-at_end c.args.graph.now before c.args.m)
-      | then-depth-eq0-via-else-depth-eq0+then-is_in w ↦
-          sym (visit_in-again c.args.depth c.args.graph.now before c.args.m (ap (λ xs. is_among xs c.args.m) (sym w.deref.ensures.value) ∙ sym w.is_in.ensures ∙ w.if-is_in.true))
+      | then-depth-eq0-via-else-depth-eq0+then-is_among w ↦
+          sym (visit_in-again c.args.depth c.args.graph.now before c.args.m (ap (λ xs. is_among xs c.args.m) (sym w.deref.ensures.value) ∙ sym w.is_among.ensures ∙ w.if-is_among.true))
     ]
 
 pub returns-clause-visits : goal.returns-clause-visits
 returns-clause-visits t c =
     let before : Visits = record { visited = c.args.visited.now.items; order = c.args.order.now.items } in
-    let fresh : is_among c.args.visited.now.items c.args.m ≡ false = ap (λ xs. is_among xs c.args.m) (sym c.deref.ensures.value) ∙ sym c.is_in.ensures ∙ c.if-is_in.false in
+    let fresh : is_among c.args.visited.now.items c.args.m ≡ false = ap (λ xs. is_among xs c.args.m) (sym c.deref.ensures.value) ∙ sym c.is_among.ensures ∙ c.if-is_among.false in
     let first : visit_in c.args.depth c.args.graph.now before c.args.m
     ≡ closed (fold (visit_in (c.args.depth - 1) c.args.graph.now) (marked before c.args.m) (get_or c.args.graph.now c.args.m [])) c.args.m =
     visit_in-first c.args.depth c.args.graph.now before c.args.m [] (omega (arith, c.if-depth-eq0.false)) c.requires.module fresh in
