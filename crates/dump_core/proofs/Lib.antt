@@ -1,3 +1,2 @@
-pub mod Doublewords
 pub mod PageLaws
 pub mod ListedLaws

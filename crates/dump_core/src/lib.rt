@@ -3,7 +3,6 @@
 
 mod fixups;
 mod listed;
-mod numbers;
 mod pages;
 
 pub use dump_read::read_dump;

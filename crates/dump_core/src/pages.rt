@@ -9,7 +9,7 @@ ghost use Rattle.lx_types.specs.Sound.{IsNumberOf};
 ghost use Rattle.lx_model.specs.Module.{IsRead};
 ghost use Rattle.dump_core.specs.Entries.{page_head, PageThere};
 
-use crate::numbers::{doubleword_at, header_field, table_place, word_at};
+use lx_fields::{doubleword_at, header_field, table_place, word_at};
 use lx_types::{Module, PageHead, PageId, PageKind};
 
 // Where the data of an entry begins, if its kind's data begins at a place of the file.

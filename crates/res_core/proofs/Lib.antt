@@ -1,2 +1,1 @@
-pub mod Doublewords
 pub mod Searching

@@ -3,7 +3,7 @@
 ghost use Rattle.std.specs.Prelude.{◌≡◌, ◌+◌, ◌*◌, ◌<◌, ◌≤◌, ◌^◌, ◌&&◌, length};
 ghost use Rattle.lx_model.specs.Resources.{Res, has_key, is_in_object, is_whole, resource_at};
 
-use crate::numbers::{doubleword_at, header_field, table_place, word_at};
+use lx_fields::{doubleword_at, header_field, table_place, word_at};
 use lx_types::{Module, ResSpot};
 
 /// How many bytes an entry of the resource table has.

@@ -3,6 +3,5 @@
 #![tactic(auto)]
 
 mod finding;
-mod numbers;
 
 pub use finding::find;

@@ -1,5 +1,5 @@
-//! Numbers at places of a file, where what is past its end counts as zeros: `Module` hands out no page past an object's
-//! size, so those are looked up in the file.
+//! Numbers at places of a file, where what is past its end counts as zeros: of a file that was read as a module all that is asked
+//! for is there, so no caller has a case for its end.
 
 ghost use Rattle.std.specs.Prelude.{◌≡◌, ◌+◌, ◌<◌, ◌^◌, length, slice_index};
 ghost use Rattle.lx_model.specs.Reading.{number_at};
@@ -16,7 +16,7 @@ fn byte_at(file: &[u8], at: usize) -> u8
 }
 
 /// The number in the two bytes at a place.
-pub(crate) fn word_at(file: &[u8], at: usize) -> u16
+pub fn word_at(file: &[u8], at: usize) -> u16
     requires { at + 2 < 2 ^ 63 }
     ensures { result ≡ number_at 2 file.now at }
 {
@@ -24,7 +24,7 @@ pub(crate) fn word_at(file: &[u8], at: usize) -> u16
 }
 
 /// The number in the four bytes at a place.
-pub(crate) fn doubleword_at(file: &[u8], at: usize) -> u32
+pub fn doubleword_at(file: &[u8], at: usize) -> u32
     requires { at + 4 < 2 ^ 63 }
     ensures { result ≡ number_at 4 file.now at }
 {
@@ -45,7 +45,7 @@ fn place_of_header(file: &[u8]) -> u32
 
 /// A field of the header, by its offset there.
 #[tactic(auto, unfolding(lx_model::specs::Header::field))]
-pub(crate) fn header_field(file: &[u8], offset: usize) -> u32
+pub fn header_field(file: &[u8], offset: usize) -> u32
     requires { offset < 2 ^ 32 }
     ensures { result ≡ field file.now offset }
 {
@@ -53,7 +53,7 @@ pub(crate) fn header_field(file: &[u8], offset: usize) -> u32
 }
 
 /// Where a table stands whose offset from the header is in a field.
-pub(crate) fn table_place(file: &[u8], offset: usize) -> u64
+pub fn table_place(file: &[u8], offset: usize) -> u64
     requires { offset < 2 ^ 32 }
     ensures place { result ≡ table file.now offset }
     ensures small { result < 2 ^ 33 }

@@ -1,6 +1,0 @@
-use Rattle.dump_core.proofs.Doublewords.{doubleword_is_words}
-use Rattle.std.proofs.Common.{arith}
-use Rattle.dump_core.proofs.numbers.doubleword_at.Goals as goal
-
-pub returns : goal.returns
-returns c = grind (arith, doubleword_is_words c.args.file.now c.args.at)
