@@ -13,6 +13,9 @@ HEAD = """\
 # written.
 """
 
+# The commands that save nothing.
+SHOWING = ("image", "dump")
+
 
 def content(name):
     for folder in ("stored", "."):
@@ -54,7 +57,7 @@ def main(words):
         return 0 if words in (["-h"], ["--help"]) else 2
     out, known, last, before = [HEAD], set(), None, None
     for words, comment, lines, status in told():
-        saves = words[1] if words[0] != "image" else None
+        saves = None if words[0] in SHOWING else words[1]
         for name in words[1:] if saves is None else words[2:]:
             data = content(name)
             if data is None or name in known:

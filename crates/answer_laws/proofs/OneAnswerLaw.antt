@@ -17,7 +17,7 @@ use Rattle.lx_answer.specs.Reading.{Item, object, linked, resources}
 use Rattle.lx_answer.specs.Loading.{IsStopped}
 use Rattle.lx_answer.specs.Says.{ComesTo, Finishes, IsDone, IsSaved, SaysCommand, asked_files, said_after}
 use Rattle.lx_answer.specs.Stem.{stem_of}
-use Rattle.lx_answer.specs.Words.{Command, command_of, image, link, implib, bind, gen}
+use Rattle.lx_answer.specs.Words.{Command, command_of, image, link, implib, bind, gen, dump}
 use Rattle.lx_answer.specs.declared.said.Said.{Said}
 use Rattle.answer_laws.specs.AnswerLaws.{AreSame, OneAnswer}
 use Rattle.answer_laws.proofs.GeneratedOnce.{gen_files_once, gen_said_once}
@@ -35,6 +35,8 @@ comes_once (implib out inputs) items o p h k = h ∙ sym k
 comes_once (bind out target file) (linked m ∷ resources xs ∷ []) o p h k = h ∙ sym k
 comes_once (bind out target file) items o p h k = absurd h
 comes_once (gen count prefix) items o p h k = absurd h
+comes_once (dump file) (linked m ∷ []) o p h k = h ∙ sym k
+comes_once (dump file) items o p h k = absurd h
 
 -- ---- the save
 
@@ -100,6 +102,7 @@ module _ (contents : Contents) (cs ds : List Call) (s t : Said) (sc : AreSound c
   says_once (Some (link out definition inputs)) h k = let same = read_once contents (link out definition inputs) cs ds s t sc sd h k in record { files = saves_once same; answer = same.said }
   says_once (Some (implib out inputs)) h k = let same = read_once contents (implib out inputs) cs ds s t sc sd h k in record { files = saves_once same; answer = same.said }
   says_once (Some (bind out target file)) h k = let same = read_once contents (bind out target file) cs ds s t sc sd h k in record { files = saves_once same; answer = same.said }
+  says_once (Some (dump file)) h k = let same = read_once contents (dump file) cs ds s t sc sd h k in record { files = saves_once same; answer = same.said }
   says_once (Some (gen count prefix)) h k = record {
     files = gen_files_once contents (record { count = count; prefix = prefix }) cs ds s t sc sd h k;
     answer = gen_said_once contents (record { count = count; prefix = prefix }) cs ds s t sc sd h k;

@@ -7,18 +7,22 @@ use Rattle.lx_ports.specs.declared.files.LoadFault.{LoadFault}
 use Rattle.link_model.specs.OneSegment.{alone}
 use Rattle.lx_answer.specs.Answer.{saves_in}
 use Rattle.lx_answer.specs.FileLine.{usage_line}
+use Rattle.dump_model.specs.Dumps.{Dump}
+use Rattle.dump_model.specs.Listings.{listing_of}
+use Rattle.lx_answer.specs.DumpAnswer.{DumpAnswer}
 use Rattle.lx_answer.specs.BindAnswer.{BindAnswer, bind_outcome}
 use Rattle.lx_answer.specs.ImageAnswer.{NAME, ImageAnswer, image_outcome}
 use Rattle.lx_answer.specs.ImplibAnswer.{all_imports, implib_outcome}
 use Rattle.lx_answer.specs.LinkAnswer.{input_of, link_outcome}
 use Rattle.lx_answer.specs.Loading.{AreRead, Asked, IsRead, IsStopped, ReadsAnswer}
-use Rattle.lx_answer.specs.Outcome.{Outcome, Saved}
+use Rattle.lx_answer.specs.Outcome.{Outcome, Saved, shown}
 use Rattle.lx_answer.specs.Reading.{Item, object, object_file, linked, module_file, resources, resource_file}
 use Rattle.lx_answer.specs.Says.{ComesTo, Finishes, IsDone, SaysCommand, asked_files, said_after}
 use Rattle.lx_answer.specs.Stem.{stem_of}
-use Rattle.lx_answer.specs.Words.{Command, command_of, image, link, implib, bind, gen}
+use Rattle.lx_answer.specs.Words.{Command, command_of, image, link, implib, bind, gen, dump}
 use Rattle.lx_answer.specs.declared.said.Said.{Said}
 use Rattle.lx_types.specs.declared.parts.Parts.{Parts}
+use Rattle.obj_types.specs.declared.object.ObjModule.{ObjModule}
 use Rattle.res_file.specs.declared.item.ResItem.{ResItem}
 use Rattle.gen_laws.specs.Laws.{FirstHaveTotals, ObjectsHaveFiles}
 use Rattle.answer_laws.specs.AnswerLaws.{HasBytes, SomeAnswer}
@@ -37,21 +41,37 @@ pub record HasOutcome (command : Command) (items : List Item) : Type 0 where
   pub outcome : Outcome
   pub comes_to : ComesTo command items outcome
 
-shown : (base : ℕ) (file : List ℕ) (r : Result (List ℕ) LoadFault) (i : Item) → ReadsAnswer (record { kind = object_file; name = file }) r i → (o : Outcome) × ImageAnswer base (i ∷ []) o
-shown base file (Ok bytes) (object m) h =
-    let found = some_link (alone m NAME base) in
-    (image_outcome found.link, record { link = found.link; of_input = found.of_input; comes_to = refl })
-shown base file (Ok bytes) i h = absurd h.1
-shown base file (Err f) i h = absurd h
+record IsOneItem (a : Asked) (items : List Item) : Type 0 where
+  answer : Result (List ℕ) LoadFault
+  item : Item
+  reads : ReadsAnswer a answer item
+  are : items ≡ item ∷ []
+
+-- one file is one item
+one_item : (a : Asked) (calls : List Call) (items : List Item) → AreRead (a ∷ []) calls items → IsOneItem a items
+one_item a (load name answer ∷ []) (i ∷ []) h = let first = h.0 in record { answer = answer; item = i; reads = first.1; are = refl }
+one_item a (save name bytes answer ∷ []) (i ∷ []) h = let first = h.0 in absurd first
+one_item a (c ∷ d ∷ calls) (i ∷ []) h = absurd h.1
+one_item a (c ∷ []) (i ∷ j ∷ items) h = absurd h.1
+one_item a (c ∷ d ∷ calls) (i ∷ j ∷ items) h = absurd h.1
+one_item a [] items h = absurd h
+one_item a (c ∷ calls) [] h = absurd h
+
+object_is : (file : List ℕ) (r : Result (List ℕ) LoadFault) (i : Item) → ReadsAnswer (record { kind = object_file; name = file }) r i → (m : ObjModule) × (i ≡ object m)
+object_is file (Ok bytes) (object m) h = (m, refl)
+object_is file (Ok bytes) i h = absurd h.1
+object_is file (Err f) i h = absurd h
 
 shown_of : (base : ℕ) (file : List ℕ) (calls : List Call) (items : List Item) → AreRead (record { kind = object_file; name = file } ∷ []) calls items → (o : Outcome) × ImageAnswer base items o
-shown_of base file (load name answer ∷ []) (i ∷ []) h = let first = h.0 in shown base file answer i first.1
-shown_of base file (save name bytes answer ∷ []) (i ∷ []) h = let first = h.0 in absurd first
-shown_of base file (c ∷ d ∷ calls) (i ∷ []) h = absurd h.1
-shown_of base file (c ∷ []) (i ∷ j ∷ items) h = absurd h.1
-shown_of base file (c ∷ d ∷ calls) (i ∷ j ∷ items) h = absurd h.1
-shown_of base file [] items h = absurd h
-shown_of base file (c ∷ calls) [] h = absurd h
+shown_of base file calls items h =
+    let one = one_item (record { kind = object_file; name = file }) calls items h in
+    let m = object_is file one.answer one.item one.reads in
+    let found = some_link (alone m.0 NAME base) in
+    let o = image_outcome found.link in (
+      o,
+      subst (λ xs. ImageAnswer base xs o) (sym one.are)
+          (subst (λ x. ImageAnswer base (x ∷ []) o) (sym m.1) (record { link = found.link; of_input = found.of_input; comes_to = refl })),
+    )
 
 -- what is read as a module, and as a resource file
 module_is : (target : List ℕ) (r : Result (List ℕ) LoadFault) (i : Item) → ReadsAnswer (record { kind = module_file; name = target }) r i → (m : Parts) × (i ≡ linked m)
@@ -85,6 +105,13 @@ bound_of out target file (c ∷ d ∷ calls) (i ∷ []) h = absurd h.1
 bound_of out target file [] items h = absurd h
 bound_of out target file (c ∷ calls) [] h = absurd h
 
+dumped_of : (file : List ℕ) (calls : List Call) (items : List Item) → AreRead (record { kind = module_file; name = file } ∷ []) calls items → (o : Outcome) × DumpAnswer items o
+dumped_of file calls items h =
+    let one = one_item (record { kind = module_file; name = file }) calls items h in
+    let m = module_is file one.answer one.item one.reads in
+    let o = shown (Dump (listing_of m.0)) in
+    (o, subst (λ xs. DumpAnswer xs o) (sym one.are) (subst (λ x. DumpAnswer (x ∷ []) o) (sym m.1) refl))
+
 comes_to_some : (command : Command) → ReadsFiles command → (calls : List Call) (items : List Item) → AreRead (asked_files command) calls items → HasOutcome command items
 comes_to_some (image file base) by calls items h = let found = shown_of base file calls items h in record { outcome = found.0; comes_to = found.1 }
 comes_to_some (link out definition inputs) by calls items h =
@@ -93,6 +120,7 @@ comes_to_some (link out definition inputs) by calls items h =
 comes_to_some (implib out inputs) by calls items h = record { outcome = implib_outcome out (all_imports (stem_of out) items); comes_to = refl }
 comes_to_some (bind out target file) by calls items h = let found = bound_of out target file calls items h in record { outcome = found.0; comes_to = found.1 }
 comes_to_some (gen count prefix) by calls items h = absurd by
+comes_to_some (dump file) by calls items h = let found = dumped_of file calls items h in record { outcome = found.0; comes_to = found.1 }
 
 -- ---- the save
 
@@ -126,6 +154,7 @@ says_of (link out definition inputs) by calls said h = h
 says_of (implib out inputs) by calls said h = h
 says_of (bind out target file) by calls said h = h
 says_of (gen count prefix) by calls said h = absurd by
+says_of (dump file) by calls said h = h
 
 said_behind : (contents : Contents) (command : Command) → ReadsFiles command → IsLoaded contents (asked_files command) → IsSaid contents (Some command)
 said_behind contents command by (stopped calls said sound stop) = record { calls = calls; sound = sound; said = said; says = says_of command by calls said (inl stop) }
@@ -157,6 +186,7 @@ all_said have told contents h (Some (image file base)) counted = said_by_files c
 all_said have told contents h (Some (link out definition inputs)) counted = said_by_files contents h (link out definition inputs) tt
 all_said have told contents h (Some (implib out inputs)) counted = said_by_files contents h (implib out inputs) tt
 all_said have told contents h (Some (bind out target file)) counted = said_by_files contents h (bind out target file) tt
+all_said have told contents h (Some (dump file)) counted = said_by_files contents h (dump file) tt
 all_said have told contents h (Some (gen count prefix)) counted =
     let found = generated have told contents count prefix counted in
     record { calls = found.calls; sound = found.sound; said = found.said; says = found.says }

@@ -3,7 +3,7 @@ use Rattle.std.specs.Prelude.{ℕ, ◌≤◌, List, map, option_map, string_byte
 use Rattle.obj_types.specs.Definition.{IsBase}
 use Rattle.lx_answer.specs.Words as words
 use Rattle.command_words.specs.declared.words.Command.{Command}
-use Rattle.command_words.specs.declared.words.Command.TheVariants.{Image, Link, Implib, Bind, Gen}
+use Rattle.command_words.specs.declared.words.Command.TheVariants.{Image, Link, Implib, Bind, Gen, Dump}
 
 abbrev pub meant : Command → words.Command
 meant (Image object base) = words.image object.now base
@@ -11,6 +11,7 @@ meant (Link out definition inputs) = words.link out.now (option_map (λ name. na
 meant (Implib out inputs) = words.implib out.now (map string_bytes inputs.now)
 meant (Bind out target resources) = words.bind out.now target.now resources.now
 meant (Gen count prefix) = words.gen count prefix.now
+meant (Dump file) = words.dump file.now
 
 -- A base is one that a definition file may give, too.
 abbrev pub HasBase : Command → Type 0
@@ -19,6 +20,7 @@ HasBase (Link out definition inputs) = Unit {0}
 HasBase (Implib out inputs) = Unit {0}
 HasBase (Bind out target resources) = Unit {0}
 HasBase (Gen count prefix) = Unit {0}
+HasBase (Dump file) = Unit {0}
 
 -- As many modules as a library has can be made.
 abbrev pub IsCount : ℕ → Type 0

@@ -1,7 +1,7 @@
 //! Which command the words are.
 ghost use Rattle.std.specs.Prelude.{◌≡◌, IfSome, map, option_map, string_bytes};
 ghost use Rattle.obj_types.specs.Definition.{IsBase};
-ghost use Rattle.lx_answer.specs.Words.{command_of, base_of, bind_of, count_of, definition_of, gen_of, image_of, implib_of, link_of};
+ghost use Rattle.lx_answer.specs.Words.{command_of, base_of, bind_of, count_of, definition_of, dump_of, gen_of, image_of, implib_of, link_of};
 ghost use Rattle.command_words.specs.Commands.{HasBase, HasCount, IsCount, meant};
 
 use hex::FromHex;
@@ -39,6 +39,10 @@ pub enum Command<'a> {
         count: u32,
         prefix: &'a str,
     },
+    /// `dump FILE`: the lists of a module.
+    Dump {
+        file: &'a str,
+    },
 }
 
 impl<'a> Command<'a> {
@@ -57,6 +61,7 @@ impl<'a> Command<'a> {
             "implib" => implib(rest),
             "bind" => bind(rest),
             "gen" => generator(rest),
+            "dump" => dump(rest),
             _ => None,
         }
     }
@@ -155,6 +160,17 @@ fn generator<'a>(words: &'a [String]) -> Option<Command<'a>>
         count: count_of(count)?,
         prefix,
     })
+}
+
+fn dump<'a>(words: &'a [String]) -> Option<Command<'a>>
+    ensures command { option_map meant result ≡ dump_of (map string_bytes words.now) }
+    ensures based { IfSome result HasBase }
+    ensures counted { IfSome result HasCount }
+{
+    let [file] = words else {
+        return None;
+    };
+    Some(Command::Dump { file })
 }
 
 // The number from 1 to 64 that a word is, in decimal digits without a sign, and without zeros in front.

@@ -9,6 +9,7 @@ pub mod LinkAnswer
 pub mod ImageAnswer
 pub mod ImplibAnswer
 pub mod BindAnswer
+pub mod DumpAnswer
 pub mod Says
 pub mod Answer
 pub mod Ends

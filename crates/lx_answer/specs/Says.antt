@@ -3,6 +3,7 @@ use Rattle.std.specs.Prelude.{◌≡◌, ◌⊎◌, ℕ, List, [], ◌∷◌, �
 use Rattle.lx_ports.specs.Calls.{Call, save}
 use Rattle.lx_ports.specs.declared.files.SaveFault.{SaveFault}
 use Rattle.lx_answer.specs.BindAnswer.{BindAnswer}
+use Rattle.lx_answer.specs.DumpAnswer.{DumpAnswer}
 use Rattle.lx_answer.specs.FileLine.{file_line, usage_line}
 use Rattle.lx_answer.specs.GenAnswer.{SaysGen}
 use Rattle.lx_answer.specs.ImageAnswer.{ImageAnswer}
@@ -12,7 +13,7 @@ use Rattle.lx_answer.specs.Loading.{Asked, AreRead, IsStopped}
 use Rattle.lx_answer.specs.Outcome.{Outcome, Saved}
 use Rattle.lx_answer.specs.Reading.{Item, object_file, object_or_library, definition_file, module_or_definition, module_file, resource_file}
 use Rattle.lx_answer.specs.Stem.{stem_of}
-use Rattle.lx_answer.specs.Words.{Command, command_of, image, link, implib, bind, gen}
+use Rattle.lx_answer.specs.Words.{Command, command_of, image, link, implib, bind, gen, dump}
 use Rattle.lx_answer.specs.declared.said.Said.{Said}
 
 -- ---- the files of a command
@@ -34,6 +35,7 @@ asked_files (link out definition inputs) = asked_definition definition ++ asked_
 asked_files (implib out inputs) = asked_exporters inputs
 asked_files (bind out target resources) = record { kind = module_file; name = target } ∷ record { kind = resource_file; name = resources } ∷ []
 asked_files (gen count prefix) = []
+asked_files (dump file) = record { kind = module_file; name = file } ∷ []
 
 -- What the command comes to, by what its files mean. That is not asked of `gen`, which reads none.
 abbrev pub ComesTo : Command → List Item → Outcome → Type 0
@@ -42,6 +44,7 @@ ComesTo (link out definition inputs) items outcome = LinkAnswer out items outcom
 ComesTo (implib out inputs) items outcome = outcome ≡ implib_outcome out (all_imports (stem_of out) items)
 ComesTo (bind out target resources) items outcome = BindAnswer out items outcome
 ComesTo (gen count prefix) items outcome = ⊥
+ComesTo (dump file) items outcome = DumpAnswer items outcome
 
 -- ---- saving, behind all loads
 

@@ -13,6 +13,7 @@ pub data Command : Type 0 where
   implib : (out : List ℕ) → (inputs : List (List ℕ)) → Command
   bind : (out : List ℕ) → (target : List ℕ) → (resources : List ℕ) → Command
   gen : (count : ℕ) → (prefix : List ℕ) → Command
+  dump : (file : List ℕ) → Command
 
 -- ---- `image OBJ BASE`
 
@@ -69,6 +70,12 @@ abbrev pub gen_of : List (List ℕ) → Option Command
 gen_of (count ∷ prefix ∷ []) = option_map (λ n. gen n prefix) (count_of count)
 gen_of _ = None
 
+-- ---- `dump FILE`
+
+abbrev pub dump_of : List (List ℕ) → Option Command
+dump_of (file ∷ []) = Some (dump file)
+dump_of _ = None
+
 -- ---- all
 
 -- All other words are no command.
@@ -80,4 +87,5 @@ command_of (word ∷ words) =
     else if bytes_eq word (codes "implib") then implib_of words
     else if bytes_eq word (codes "bind") then bind_of words
     else if bytes_eq word (codes "gen") then gen_of words
+    else if bytes_eq word (codes "dump") then dump_of words
     else None

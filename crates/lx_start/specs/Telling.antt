@@ -21,11 +21,14 @@ gen_line = codes "lx gen N PREFIX         makes N modules and a session of them,
 abbrev pub run_line : List ℕ
 run_line = codes "lx run FILE             runs the processes of a session in threads, as: lx run d.ses" ++ 10 ∷ []
 
+abbrev pub dump_line : List ℕ
+dump_line = codes "lx dump FILE            shows what is in a module, as: lx dump d.dll" ++ 10 ∷ []
+
 abbrev pub more_line : List ℕ
 more_line = codes "lx COMMAND --help       says more of one of them" ++ 10 ∷ []
 
 unfoldable pub help : List ℕ
-help = image_line ++ (link_line ++ (implib_line ++ (bind_line ++ (gen_line ++ (run_line ++ more_line)))))
+help = image_line ++ (link_line ++ (implib_line ++ (bind_line ++ (gen_line ++ (run_line ++ (dump_line ++ more_line))))))
 
 abbrev pub version : List ℕ
 version = codes "lx 0.1" ++ 10 ∷ []

@@ -33,6 +33,7 @@ lx implib OUT IN ..     writes an import library of modules and definition files
 lx bind OUT MODULE RES  adds the items of a resource file to a module, as: lx bind d2.dll d.dll d.res
 lx gen N PREFIX         makes N modules and a session of them, to try the others on, as: lx gen 2 g
 lx run FILE             runs the processes of a session in threads, as: lx run d.ses
+lx dump FILE            shows what is in a module, as: lx dump d.dll
 lx COMMAND --help       says more of one of them
 ";
 

@@ -6,6 +6,7 @@ use Rattle.lx_types.specs.Answers.{Answers}
 use Rattle.lx_types.specs.declared.fail.Fail.{Fail}
 use Rattle.lx_types.specs.declared.fail.Fail.TheVariants as fail
 use Rattle.lx_types.specs.declared.fail.NoMemory.{NoMemory}
+use Rattle.lx_types.specs.declared.parts.Parts.{Parts}
 use Rattle.obj_types.specs.declared.input.LinkInput.{LinkInput}
 use Rattle.obj_types.specs.declared.object.ObjModule.{ObjModule}
 use Rattle.obj_types.specs.declared.symbol.Imp.{Imp}
@@ -13,6 +14,8 @@ use Rattle.omf_write.specs.Library.{library_bytes, library_len}
 use Rattle.omf_write.specs.declared.libraries.LibraryLong.{LibraryLong}
 use Rattle.implib_core.specs.Imports.{modules_of}
 use Rattle.link_model.specs.Link.{IsLinkOf}
+use Rattle.dump_model.specs.Dumps.{Dump}
+use Rattle.dump_model.specs.Listings.{listing_of}
 use Rattle.refusal_text.specs.Resources.{bind_text}
 use Rattle.res_file.specs.declared.item.ResItem.{ResItem}
 use Rattle.res_bind.specs.Bound.{bound_file}
@@ -26,10 +29,10 @@ use Rattle.lx_answer.specs.ImageAnswer.{ShowsObject}
 use Rattle.lx_answer.specs.ImplibAnswer.{exports_line, implib_outcome}
 use Rattle.lx_answer.specs.LinkAnswer.{input_of, link_outcome}
 use Rattle.lx_answer.specs.Loading.{AreRead, IsStopped, file_limit}
-use Rattle.lx_answer.specs.Outcome.{Outcome, kept, refused, refused_or, says_only}
+use Rattle.lx_answer.specs.Outcome.{Outcome, kept, refused, refused_or, says_only, shown}
 use Rattle.lx_answer.specs.Reading.{Item, object, linked, resources}
 use Rattle.lx_answer.specs.Says.{ComesTo, asked_files}
-use Rattle.lx_answer.specs.Words.{Command, image, link, implib, bind}
+use Rattle.lx_answer.specs.Words.{Command, image, link, implib, bind, dump}
 use Rattle.tool_read.specs.Steps.{AreLoads, GivesAll, ReadsAll}
 use Rattle.tool_read.specs.declared.bind_files.Binding.{Binding}
 use Rattle.lx_tool.specs.declared.library.ImportLibrary.{ImportLibrary}
@@ -55,14 +58,30 @@ not_read P command calls before now fail.NoMemory (Err none) loads begun same = 
 pub says_alone : (said : Said) (state : FilesState) → Keeps (says_only said) state state said
 says_alone said state = record { saves = []; finished = (refl, refl); had = sym (append-nil state.calls); held = refl }
 
+pub shown_done : (command : Command) (calls : List Call) (items : List Item) (before now : FilesState) (r : Result Said NoMemory) → AreLoads calls before now
+    → AreRead (asked_files command) calls items → IfOk r (λ said. ComesTo command items (says_only said)) → Does command before now r
+shown_done command calls items before now (Ok said) loads read shows = done_kept command calls items (says_only said) before now loads read shows tt now (Ok said) (says_alone said now)
+shown_done command calls items before now (Err none) loads read shows = done_begun command calls before now none loads (read_begun (asked_files command) calls items read)
+
 -- ---- `image`
 
 pub image_done : (name : List ℕ) (base : ℕ) (m : ObjModule) (calls : List Call) (before now : FilesState) (r : Result Said NoMemory) → AreLoads calls before now
     → GivesAll (λ v items. items ≡ object v ∷ []) (asked_files (image name base)) calls m → IfOk r (λ said. ShowsObject base m (says_only said)) → Does (image name base) before now r
-image_done name base m calls before now (Ok said) loads all shows =
-    let P : List Item → Type 0 = λ items. ComesTo (image name base) items (says_only said) in
-    done_kept (image name base) calls all.items (says_only said) before now loads all.read (subst P (sym all.given) shows) tt now (Ok said) (says_alone said now)
-image_done name base m calls before now (Err none) loads all shows = done_begun (image name base) calls before now none loads (read_begun (asked_files (image name base)) calls all.items all.read)
+image_done name base m calls before now r loads all shows =
+    let P : List Item → Type 0 = λ items. IfOk r (λ said. ComesTo (image name base) items (says_only said)) in
+    shown_done (image name base) calls all.items before now r loads all.read (subst P (sym all.given) shows)
+
+-- ---- `dump`
+
+said_shown : (text : List ℕ) (r : Result Said NoMemory) → IfOk r (λ said. said ≡ record { status = 0; text = text }) → IfOk r (λ said. says_only said ≡ shown text)
+said_shown text (Ok said) is = ap (λ s. says_only s) is
+said_shown text (Err none) is = tt
+
+pub dump_done : (name : List ℕ) (m : Parts) (calls : List Call) (before now : FilesState) (r : Result Said NoMemory) → AreLoads calls before now
+    → GivesAll (λ v items. items ≡ linked v ∷ []) (asked_files (dump name)) calls m → IfOk r (λ said. said ≡ record { status = 0; text = Dump (listing_of m) }) → Does (dump name) before now r
+dump_done name m calls before now r loads all is =
+    let P : List Item → Type 0 = λ items. IfOk r (λ said. ComesTo (dump name) items (says_only said)) in
+    shown_done (dump name) calls all.items before now r loads all.read (subst P (sym all.given) (said_shown (Dump (listing_of m)) r is))
 
 -- ---- `link`
 

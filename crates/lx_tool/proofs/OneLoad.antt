@@ -4,14 +4,13 @@ use Rattle.std.specs.Prelude.{IfSome}
 use Rattle.std.specs.List.{AllByRecursion}
 use Rattle.lx_types.specs.declared.fail.Fail.{Fail}
 use Rattle.lx_types.specs.declared.fail.Fail.TheVariants as fail
-use Rattle.obj_types.specs.declared.object.ObjModule.{ObjModule}
 use Rattle.lx_ports.specs.Calls.{load}
 use Rattle.lx_ports.specs.Files.{Contents, FilesState, IsLoadOf}
 use Rattle.lx_ports.specs.declared.files.LoadFault.{LoadFault}
 use Rattle.lx_answer.specs.declared.said.Said.{Said}
 use Rattle.lx_answer.specs.Ends.{IsTold}
 use Rattle.lx_answer.specs.Loading.{Asked, ReadsAnswer, RefusesAnswer, file_limit}
-use Rattle.lx_answer.specs.Reading.{Item, object}
+use Rattle.lx_answer.specs.Reading.{Item}
 use Rattle.tool_read.specs.Readings.{SaysOf}
 use Rattle.tool_read.specs.Steps.{AreLoads, GivesAll, IsOneLoad, ReadsAll}
 
@@ -23,8 +22,8 @@ told_so (Some contents) name answer told = (told, tt)
 pub one_load : (name : List ℕ) (answer : Result (List ℕ) LoadFault) (before now : FilesState) → IsOneLoad name answer before now → AreLoads (load name answer ∷ []) before now
 one_load name answer before now is = record { files = is.files; told = told_so before.contents name answer is.told }
 
-pub one_read : (a : Asked) (answer : Result (List ℕ) LoadFault) (m : ObjModule) → ReadsAnswer a answer (object m) → GivesAll (λ v items. items ≡ object v ∷ []) (a ∷ []) (load a.name answer ∷ []) m
-one_read a answer m reads = record { items = object m ∷ []; read = ((refl, reads), tt); given = refl }
+pub one_read : {T : Type 0} (item : T → Item) (a : Asked) (answer : Result (List ℕ) LoadFault) (m : T) → ReadsAnswer a answer (item m) → GivesAll (λ v items. items ≡ item v ∷ []) (a ∷ []) (load a.name answer ∷ []) m
+one_read item a answer m reads = record { items = item m ∷ []; read = ((refl, reads), tt); given = refl }
 
 pub one_refused : {T : Type 0} (P : T → List Item → Type 0) (a : Asked) (answer : Result (List ℕ) LoadFault) (why : Fail Said) → SaysOf (RefusesAnswer a answer) why → ReadsAll P (a ∷ []) (load a.name answer ∷ []) (Err why)
 one_refused P a answer (fail.Said said) refuses = record {

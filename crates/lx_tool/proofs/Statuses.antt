@@ -9,6 +9,7 @@ use Rattle.lx_answer.specs.declared.said.Said.{Said}
 use Rattle.lx_answer.specs.Answer.{saves_in}
 use Rattle.lx_answer.specs.Ends.{is_failed_save, save_faults}
 use Rattle.lx_answer.specs.BindAnswer.{BindAnswer}
+use Rattle.lx_answer.specs.DumpAnswer.{DumpAnswer}
 use Rattle.lx_answer.specs.GenAnswer.{GenWords, SaysGen}
 use Rattle.lx_answer.specs.ImageAnswer.{ImageAnswer, image_refusal, memory_text, NAME}
 use Rattle.lx_answer.specs.LinkAnswer.{counts_of}
@@ -16,7 +17,7 @@ use Rattle.lx_answer.specs.Loading.{Asked, IsRefused, IsStopped}
 use Rattle.lx_answer.specs.Outcome.{Outcome, Saved, shown, kept, refused, refused_or}
 use Rattle.lx_answer.specs.Reading.{Item, object, library, definition, linked, session, resources}
 use Rattle.lx_answer.specs.Says.{ComesTo, Finishes, IsDone, SaysCommand, asked_files, said_after}
-use Rattle.lx_answer.specs.Words.{Command, image, link, implib, bind, gen}
+use Rattle.lx_answer.specs.Words.{Command, image, link, implib, bind, gen, dump}
 use Rattle.lx_tool.proofs.Counts.{count-append}
 use Rattle.lx_tool.proofs.Generated.{saves_say}
 use Rattle.lx_tool.proofs.Begun.{IsPlain, begun_loads, no_saves, plain_joined, read_begun, read_plain, stopped_begun, stopped_plain}
@@ -49,12 +50,17 @@ bind_is : (out : List ℕ) (items : List Item) (o : Outcome) → BindAnswer out 
 bind_is out (linked m ∷ resources xs ∷ []) o is = subst IsOutcome (sym is) (or_refused out _ (kept out _ _) refl)
 bind_is out items o is = absurd is
 
+dump_is : (items : List Item) (o : Outcome) → DumpAnswer items o → IsOutcome o
+dump_is (linked m ∷ []) o is = inl (ap (λ (p : Outcome). p.said.status) is)
+dump_is items o is = absurd is
+
 come_to_is : (command : Command) (items : List Item) (o : Outcome) → ComesTo command items o → IsOutcome o
 come_to_is (image name base) items o is = image_is base items o is
 come_to_is (link out d names) items o is = subst IsOutcome (sym is.comes_to) (or_refused out _ (kept out _ (counts_of is.link)) refl)
 come_to_is (implib out names) items o is = subst IsOutcome (sym is) (if_kept _ (kept out _ _) (refused out (codes "LibraryLong")) refl refl refl)
 come_to_is (bind out target file) items o is = bind_is out items o is
 come_to_is (gen count prefix) items o is = absurd is
+come_to_is (dump file) items o is = dump_is items o is
 
 -- ---- what a status says
 
@@ -196,6 +202,7 @@ command_says none (image file base) calls said says = read_says none (image file
 command_says none (link out d names) calls said says = read_says none (link out d names) calls said says
 command_says none (implib out names) calls said says = read_says none (implib out names) calls said says
 command_says none (bind out target file) calls said says = read_says none (bind out target file) calls said says
+command_says none (dump file) calls said says = read_says none (dump file) calls said says
 command_says none (gen count prefix) calls said says = gen_says none (record { count = count; prefix = prefix }) calls said says
 
 pub status_says : (command : Option Command) (calls : List Call) (said : Said) → SaysCommand command calls said → StatusSays (command ≡ None) calls said

@@ -2,6 +2,7 @@
 #![tactic(auto)]
 
 mod bind;
+mod dump;
 mod image;
 mod implib;
 mod library;

@@ -1,7 +1,6 @@
 //! Notes on the first fault of a definition file.
 
-use crate::kinds::definition_kind;
-use crate::lines::Lines;
+use note_lines::{Lines, definition_kind};
 use omf_outline::{begins_as_object, looks_like};
 use std::alloc::{AllocError, Global};
 

@@ -85,6 +85,17 @@ Which process goes first is not settled: two runs of one session may print diffe
 as: lx run add.ses
 ";
 
+const DUMP: &str = "\
+lx dump FILE
+
+Prints what is in a module: a line for it, its objects with their pages and, below a page, its fixups, the modules that it
+imports from, its entries and its names. Nothing is written.
+
+  FILE  a module, which begins with LX or MZ
+
+as: lx dump add.dll
+";
+
 /// The page of a command, or None where there is no such command.
 pub fn page_of(command: &str) -> Option<&'static str>
     ensures { is_some result ≡ is_command command.now }
@@ -96,6 +107,7 @@ pub fn page_of(command: &str) -> Option<&'static str>
         "bind" => Some(BIND),
         "gen" => Some(GEN),
         "run" => Some(RUN),
+        "dump" => Some(DUMP),
         _ => None,
     }
 }

@@ -5,9 +5,6 @@
 mod definitions;
 mod heard;
 mod help;
-mod kinds;
-mod line;
-mod lines;
 mod links;
 mod object_faults;
 mod resources;
@@ -18,6 +15,6 @@ mod watched;
 
 pub use heard::Heard;
 pub use help::page_of;
-pub use lines::{Lines, Mark};
+pub use note_lines::{Lines, Mark};
 pub use telling::{Ended, notes_on, tell_on};
 pub use watched::{Tell, Watched};

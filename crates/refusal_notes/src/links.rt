@@ -1,8 +1,6 @@
 //! Notes on what a link refuses: which modules, segments and names are meant.
 
-use crate::kinds::link_kind;
-use crate::line::number_field;
-use crate::lines::Lines;
+use note_lines::{Lines, link_kind, number_field};
 use omf_outline::{Chosen, Inputs, Outline, Pick, shown};
 use std::alloc::{AllocError, Global};
 

@@ -1,8 +1,6 @@
 //! Notes on the first fault of an object file, a library or a module.
 
-use crate::kinds::{bad_field, module_kind, object_kind};
-use crate::line::number_field;
-use crate::lines::Lines;
+use note_lines::{Lines, bad_field, module_kind, number_field, object_kind};
 use omf_outline::{begins_as_object, looks_like, record_name, record_with};
 use std::alloc::{AllocError, Global};
 

@@ -1,8 +1,7 @@
 //! Notes on a resource file, and on a module to which its items are not bound.
 
-use crate::kinds::{bind_kind, resource_kind};
-use crate::lines::Lines;
 use crate::object_faults::Placed;
+use note_lines::{Lines, bind_kind, resource_kind};
 use omf_outline::looks_like;
 use std::alloc::{AllocError, Global};
 

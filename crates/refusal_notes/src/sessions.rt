@@ -1,9 +1,7 @@
 //! Notes on a session that was refused.
 
 use crate::definitions::{line_note, line_of};
-use crate::kinds::{gathering_kind, session_kind};
-use crate::line::{Fault, Told};
-use crate::lines::Lines;
+use note_lines::{Fault, Lines, Told, gathering_kind, session_kind};
 use std::alloc::{AllocError, Global};
 
 /// Notes on a line that was put of a session. `bytes` are those of the session's file, where it can be loaded.

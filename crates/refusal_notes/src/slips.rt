@@ -1,6 +1,6 @@
 //! What is noticed of the files that a link reads, for warnings once it has succeeded.
 
-use crate::lines::Lines;
+use note_lines::Lines;
 use omf_outline::{Record, next_place, record_at, shown};
 use std::alloc::{AllocError, Global};
 

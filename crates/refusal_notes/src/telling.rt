@@ -3,9 +3,6 @@ ghost use Rattle.std.specs.Prelude.{◌≡◌};
 
 use crate::definitions::definition_notes;
 use crate::heard::Heard;
-use crate::kinds::module_kind;
-use crate::line::{Fault, Told, refusal_of};
-use crate::lines::{Lines, Mark};
 use crate::links::{Refused, link_meaning};
 use crate::object_faults::{Placed, module_notes, object_notes};
 use crate::resources::{bind_meaning, resource_notes};
@@ -14,6 +11,7 @@ use crate::watched::{Tell, Watched};
 use def_file::read_def;
 use lx_ports::{Files, Sink};
 use lx_types::Seq;
+use note_lines::{Fault, Lines, Mark, Told, module_kind, refusal_of};
 use obj_types::{Imp, Imports};
 use omf_outline::{Inputs, read_inputs};
 use std::alloc::{AllocError, Global};
@@ -46,7 +44,7 @@ fn usage(alloc: Global, lines: &mut Lines, ended: &Ended<'_>) -> Result<(), Allo
     let command = ended.word(0);
     let count = ended.words.len();
     let text = match command {
-        "" => "a command is wanted: link, implib, image, bind, gen or run",
+        "" => "a command is wanted: link, implib, image, bind, gen, run or dump",
         "link" =>
             "link wants OUT DEF IN ..: the module, the definition file or -, and at least one file",
         "implib" =>
@@ -59,11 +57,12 @@ fn usage(alloc: Global, lines: &mut Lines, ended: &Ended<'_>) -> Result<(), Allo
         "gen" =>
             "gen wants N PREFIX: a number from 1 to 64, and what the names of the files begin with",
         "run" => "run wants FILE: a session",
-        _ => "there are the commands link, implib, image, bind, gen and run",
+        "dump" => "dump wants FILE: a module",
+        _ => "there are the commands link, implib, image, bind, gen, run and dump",
     };
     lines.add_text(alloc, text)?;
     match command {
-        "link" | "implib" | "image" | "bind" | "gen" | "run" => lines.add(format!(in alloc;
+        "link" | "implib" | "image" | "bind" | "gen" | "run" | "dump" => lines.add(format!(in alloc;
             "lx {command} --help says more"
         )?),
         _ => lines.add_text(alloc, "lx --help says more"),
@@ -239,7 +238,7 @@ fn session_refused<F: Files>(
 // Whether a fault at a place of a file is that of a module. The words of bind may name one file as MODULE and as RES.
 fn is_of_module(ended: &Ended<'_>, fault: &Placed<'_>) -> bool {
     match ended.word(0) {
-        "implib" => true,
+        "implib" | "dump" => true,
         "bind" => fault.file == ended.word(2) && module_kind(fault.kind).is_some(),
         _ => false,
     }

@@ -2,9 +2,9 @@
 
 ghost use Rattle.std.specs.Prelude.{◌≡◌};
 
-use crate::lines::{Lines, Mark};
 use crate::slips::Slips;
 use lx_ports::{Files, LoadFault, SaveFault};
+use note_lines::{Lines, Mark};
 use std::alloc::{AllocError, Global};
 
 /// Where lines for a reader go, as standard error. It may drop them.

@@ -11,7 +11,7 @@ pub returns-in-Ok : goal.returns-in-Ok
 returns-in-Ok g c =
     let name = c.args.object.now in
     let read = c.in-Ok.ensures.read in
-    image_done name c.args.base c.in-Ok.module _ _ _ _ (one_load name read.0 _ _ read.1) (one_read (asked object_file name) read.0 c.in-Ok.module read.2) c.shown.ensures
+    image_done name c.args.base c.in-Ok.module _ _ _ _ (one_load name read.0 _ _ read.1) (one_read object (asked object_file name) read.0 c.in-Ok.module read.2) c.shown.ensures
 
 pub returns-in-Err : goal.returns-in-Err
 returns-in-Err g c =

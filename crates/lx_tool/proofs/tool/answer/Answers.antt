@@ -33,5 +33,10 @@ returns-in-Some-Gen g c =
     let same = c.in-Some-Gen.field-0-is in
     done_words _ _ _ _ _ (ap (λ (one : Command). Some (meant one)) (sym same) ∙ c.in-Some-Gen.ensures.command) (gen_done _ _ _ _ _ c.generate.ensures)
 
+pub returns-in-Some-Dump : goal.returns-in-Some-Dump
+returns-in-Some-Dump g c =
+    let same = c.in-Some-Dump.field-0-is in
+    done_words _ _ _ _ _ (ap (λ (one : Command). Some (meant one)) (sym same) ∙ c.in-Some-Dump.ensures.command) c.dump.ensures
+
 pub returns-in-None : goal.returns-in-None
 returns-in-None g c = done_words _ _ _ _ _ c.in-None.ensures.command (done_usage _ _ c.usage.ensures)

@@ -1,0 +1,21 @@
+use Rattle.std.proofs.Common.{◌≡◌, List, ◌∷◌, []}
+use Rattle.lx_types.specs.declared.parts.Parts.{Parts}
+use Rattle.lx_answer.specs.Reading.{Item, linked, module_file}
+use Rattle.lx_answer.specs.Words.{dump}
+use Rattle.tool_read.specs.Readings.{asked}
+use Rattle.lx_tool.proofs.Commands.{dump_done, not_read}
+use Rattle.lx_tool.proofs.OneLoad.{one_load, one_read, one_refused}
+use Rattle.lx_tool.proofs.dump.dump.Goals as goal
+
+pub returns-in-Ok : goal.returns-in-Ok
+returns-in-Ok g c =
+    let name = c.args.file.now in
+    let read = c.in-Ok.ensures.read in
+    dump_done name c.in-Ok.module _ _ _ _ (one_load name read.0 _ _ read.1) (one_read linked (asked module_file name) read.0 c.in-Ok.module read.2) c.dumped.ensures
+
+pub returns-in-Err : goal.returns-in-Err
+returns-in-Err g c =
+    let name = c.args.file.now in
+    let read = c.in-Err.ensures.read in
+    let Gives : Parts → List Item → Type 0 = λ v items. items ≡ linked v ∷ [] in
+    not_read Gives (dump name) _ _ _ c.in-Err.why _ (one_load name read.0 _ _ read.1) (one_refused Gives (asked module_file name) read.0 c.in-Err.why read.2) c.in_full.ensures

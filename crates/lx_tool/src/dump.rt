@@ -1,0 +1,37 @@
+//! The command `dump`: the lists of a module.
+ghost use Rattle.std.specs.Prelude.{◌≡◌, IfOk};
+ghost use Rattle.dump_model.specs.Dumps.{Dump};
+ghost use Rattle.dump_model.specs.Listings.{listing_of};
+ghost use Rattle.lx_model.specs.Module.{IsRead};
+ghost use Rattle.lx_answer.specs.Words as words;
+ghost use Rattle.lx_tool.specs.Doing.{Does};
+
+use crate::refusals::in_full;
+use dump_core::listing;
+use lx_answer::Said;
+use lx_ports::Files;
+use lx_types::{Module, NoMemory};
+use std::alloc::Global;
+use tool_read::read_module;
+
+// The text of a module's lists.
+fn dumped(alloc: Global, module: &Module) -> Result<Said, NoMemory>
+    requires { IsRead module.now }
+    ensures { IfOk result (λ said. said ≡ record { status = 0; text = Dump (listing_of module.now) }) }
+{
+    let lists = listing(alloc, module)?;
+    Ok(Said {
+        status: 0,
+        text: dump_core::dump(alloc, &lists)?,
+    })
+}
+
+/// Tells what is in a module: loads and reads it, and says its lists. Nothing is saved.
+pub fn dump<F: Files>(alloc: Global, files: &mut F, file: &str) -> Result<Said, NoMemory>
+    ensures { Does (words.dump file.now) (F.state files.old) (F.state files.new) result }
+{
+    match read_module(alloc, files, file) {
+        Ok(module) => dumped(alloc, &module),
+        Err(why) => in_full(why),
+    }
+}
