@@ -2,7 +2,7 @@
 use Rattle.std.specs.Prelude.{◌≡◌, ℕ, zero, suc, ◌+◌, ◌/◌, ◌%◌, ◌<◌, ◌==◌, nat_lt, Bool, true, false, cond, List, [], ◌∷◌, ◌++◌, length, Option, Some, None, decimal, refl}
 use Rattle.std.specs.List.{AllByRecursion, sum_by, flat_map, filter_map, cons_option}
 use Rattle.std.specs.Fmt.{digits, digits_onto, digit_glyph}
-use Rattle.std.proofs.Common.{ap, sym, ◌∙◌, arith, subst}
+use Rattle.std.proofs.Common.{ap, arith}
 use Rattle.std.proofs.lemmas.List.Sums.{sum_by-cons, sum_by-append}
 use Rattle.lx_types.specs.Escaped.{hex_digit, hex_byte, is_plain, escaped_byte, escaped}
 use Rattle.session_model.specs.Text.{hex_address, words, line_of}
@@ -24,7 +24,7 @@ ends-append a b = sum_by-append is_end a b
 ends-cons : (b : ℕ) (text : List ℕ) → ends (b ∷ text) ≡ is_end b + ends text
 ends-cons b text = sum_by-cons is_end b text
 
-free-append : (a b : List ℕ) → IsFree a → IsFree b → IsFree (a ++ b)
+pub free-append : (a b : List ℕ) → IsFree a → IsFree b → IsFree (a ++ b)
 free-append a b ha hb = let e = ends-append a b in omega (arith, e, ha, hb)
 
 free-cons : (b : ℕ) (text : List ℕ) → is_end b ≡ 0 → IsFree text → IsFree (b ∷ text)

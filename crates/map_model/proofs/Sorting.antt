@@ -1,5 +1,5 @@
 -- Lists in order: of any items there is one, and no other.
-use Rattle.std.specs.Prelude.{◌≡◌, ℕ, zero, suc, ◌+◌, ◌<◌, Bool, true, false, cond, List, [], ◌∷◌, ◌++◌, length, IsPermutation, IsSorted, refl}
+use Rattle.std.specs.Prelude.{◌≡◌, ℕ, zero, suc, ◌+◌, ◌<◌, Bool, true, false, cond, List, [], ◌∷◌, IsPermutation, IsSorted, refl}
 use Rattle.std.specs.List.{AllByRecursion, sum_by}
 use Rattle.std.specs.declared.cmp.Ordering.{Ordering}
 use Rattle.std.specs.declared.cmp.Ordering.TheVariants.{Less, Equal, Greater}
@@ -9,7 +9,7 @@ use Rattle.std.specs.FinMap.{IsAntisymmetric}
 use Rattle.std.proofs.Common.{ap, sym, ◌∙◌, arith, true≢false, subst, get_or}
 use Rattle.std.proofs.lemmas.Cmp.{tied_itself}
 use Rattle.std.proofs.lemmas.List.Sums.{sum_by-cons}
-use Rattle.std.proofs.lemmas.List.Sorted.{ranks_by, IsPermutation-refl, IsPermutation-sym, IsPermutation-trans, IsPermutation-cons, IsPermutation-middle, sum_by-IsPermutation}
+use Rattle.std.proofs.lemmas.List.Sorted.{ranks_by, IsPermutation-refl, IsPermutation-trans, IsPermutation-cons, IsPermutation-middle, sum_by-IsPermutation}
 
 -- ---- an ascending list, by recursion
 
@@ -29,10 +29,12 @@ sorted-from_ascends {X} cmp (x ∷ y ∷ ys) h (suc k) d low lt =
 pub ascends-from_sorted : {X : Type 0} (cmp : X → X → Ordering) (xs : List X) → IsSorted cmp xs → Ascends cmp xs
 ascends-from_sorted cmp [] s = tt
 ascends-from_sorted cmp (x ∷ []) s = tt
-ascends-from_sorted {X} cmp (x ∷ y ∷ ys) s =
-    (s 0 x (omega arith) (omega arith), ascends-from_sorted cmp (y ∷ ys) (λ k d low lt.
-        let next : suc k + 1 ≡ suc (k + 1) = omega arith in
-        subst (λ n. is_lt (cmp (get_or (x ∷ y ∷ ys) n d) (get_or (y ∷ ys) k d)) ≡ false) next (s (suc k) d (omega arith) (omega (arith, lt)))))
+ascends-from_sorted {X} cmp (x ∷ y ∷ ys) s = (
+  s 0 x (omega arith) (omega arith),
+  ascends-from_sorted cmp (y ∷ ys) (λ k d low lt.
+      let next : suc k + 1 ≡ suc (k + 1) = omega arith in
+      subst (λ n. is_lt (cmp (get_or (x ∷ y ∷ ys) n d) (get_or (y ∷ ys) k d)) ≡ false) next (s (suc k) d (omega arith) (omega (arith, lt)))),
+)
 
 -- ---- no later one is less
 
@@ -103,11 +105,11 @@ one_ascends {X} cmp o same (x ∷ xs) (y ∷ ys) a b h =
     let down = seen cmp same y x (x ∷ xs) (level_self x, none_less cmp w x xs a) (omega (arith, y_one, ey)) in
     let e : x ≡ y = same x y (level cmp o x y up down) in
     let rest : xs ≡ ys = one_ascends cmp o same xs ys (behind cmp x xs a) (behind cmp y ys b) (λ z.
-        let at = ap (λ (v : X). is_at cmp z v) e in
-        let hx = sum_by-cons (is_at cmp z) x xs in
-        let hy = sum_by-cons (is_at cmp z) y ys in
-        let hz = h z in
-        omega (arith, at, hx, hy, hz)) in
+    let at = ap (λ (v : X). is_at cmp z v) e in
+    let hx = sum_by-cons (is_at cmp z) x xs in
+    let hy = sum_by-cons (is_at cmp z) y ys in
+    let hz = h z in
+    omega (arith, at, hx, hy, hz)) in
     λ i. e i ∷ rest i
   where
     behind : {X : Type 0} (cmp : X → X → Ordering) (x : X) (xs : List X) → Ascends cmp (x ∷ xs) → Ascends cmp xs

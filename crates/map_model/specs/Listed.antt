@@ -8,6 +8,7 @@ use Rattle.obj_types.specs.declared.object.Seg.{Seg}
 use Rattle.obj_types.specs.declared.object.ObjModule.{ObjModule}
 use Rattle.obj_types.specs.declared.symbol.Pub.{Pub}
 use Rattle.obj_types.specs.Items.{item}
+use Rattle.link_model.specs.declared.symbols.LaidObject.{LaidObject}
 use Rattle.link_model.specs.Link.{Link, of_modules}
 use Rattle.link_model.specs.Layout.{objects}
 use Rattle.link_model.specs.Symbols.{at_place}
@@ -15,12 +16,12 @@ use Rattle.link_model.specs.Goals.{Target, Internal, Constant, Entry, of_symbol}
 
 -- ---- addresses
 
-abbrev pub base_of : Link → ℕ → ℕ
-base_of l object = option_map_or (λ o. o.base) (item (objects l) object) 0
+-- The address of a place, which is an object's number and an offset in it, among objects at their linked bases.
+abbrev pub address_among : List LaidObject → ℕ × ℕ → ℕ
+address_among os place = address (option_map_or (λ o. o.base) (item os place.0) 0) place.1
 
--- The address of a place, which is an object's number and an offset in it.
 abbrev pub address_at : Link → ℕ × ℕ → ℕ
-address_at l place = address (base_of l place.0) place.1
+address_at l place = address_among (objects l) place
 
 -- ---- contributions
 
@@ -52,10 +53,10 @@ pub record Listed : Type 0 where
   pub name : List ℕ
 
 -- A name that stands for a place, by its address.
-abbrev pub placed : Link → List ℕ → Target → Option Listed
-placed l name (Internal object offset) = Some (record { number = address_at l (object, offset); name = name })
-placed l name (Constant value) = None
-placed l name (Entry slot) = None
+abbrev pub placed : List LaidObject → List ℕ → Target → Option Listed
+placed os name (Internal object offset) = Some (record { number = address_among os (object, offset); name = name })
+placed os name (Constant value) = None
+placed os name (Entry slot) = None
 
 -- A name that stands for a number.
 abbrev pub valued : List ℕ → Target → Option Listed
@@ -69,7 +70,7 @@ meaning l q = of_symbol l (at_place q.0 q.1.place)
 
 -- The publics that have a place, and the others.
 abbrev pub placed_publics : Link → List Listed
-placed_publics l = filter_map (λ q. option_and_then (placed l q.1.name) (meaning l q)) (publics l)
+placed_publics l = filter_map (λ q. option_and_then (placed (objects l) q.1.name) (meaning l q)) (publics l)
 
 abbrev pub constants : Link → List Listed
 constants l = filter_map (λ q. option_and_then (valued q.1.name) (meaning l q)) (publics l)

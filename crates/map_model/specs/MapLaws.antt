@@ -17,9 +17,9 @@ line_count text = count_by (λ b. b == 0x0A) text
 -- Each contribution and each communal has its line; each public is among those with a place or among the others; and there
 -- are no other lines but the first one, those of the objects and those of the import pairs.
 pub record TellsAll (l : Link) (text : List ℕ) : Type 0 where
-  pub contributions : map Some (filter_map (line_of_contribution l) (contributions l)) ≡ map (line_of_contribution l) (contributions l)
+  pub segments : map Some (filter_map (line_of_contribution l) (contributions l)) ≡ map (line_of_contribution l) (contributions l)
   pub communals : map Some (filter_map (line_of_common l) (enumerate_from 0 (commons l))) ≡ map (line_of_common l) (enumerate_from 0 (commons l))
-  pub publics : IsPermutation (map (λ q. q.1.name) (publics l)) (map (λ p. p.name) (placed_publics l) ++ map (λ p. p.name) (constants l))
+  pub names : IsPermutation (map (λ q. q.1.name) (publics l)) (map (λ p. p.name) (placed_publics l) ++ map (λ p. p.name) (constants l))
   pub lines : line_count text
       ≡ 1 + (length (objects l) + (length (contributions l) + (length (commons l) + (length (publics l) + length (imports l)))))
 

@@ -2,7 +2,8 @@
 use Rattle.std.specs.Prelude.{◌≡◌, ℕ, List, ◌++◌, Option, length, IsPermutation, IsSorted}
 use Rattle.std.specs.List.{filter_map, flat_map, enumerate_from}
 use Rattle.std.specs.Option.{option_map}
-use Rattle.std.specs.Ordering.{Ordering, nat_cmp, ordering_then}
+use Rattle.std.specs.declared.cmp.Ordering.{Ordering}
+use Rattle.std.specs.Ordering.{nat_cmp, ordering_then}
 use Rattle.std.specs.Cmp.Lexicographic.{slice_cmp}
 use Rattle.obj_types.specs.declared.symbol.Common.{Common}
 use Rattle.link_model.specs.Link.{Link}

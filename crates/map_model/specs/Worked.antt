@@ -15,15 +15,15 @@ use Rattle.map_model.specs.Lines.{import_line, common_line, constant_line}
 use Rattle.map_model.specs.Maps.{IsMap, map_text}
 
 -- a text, and the end of its line
-abbrev ln : List ℕ → List ℕ
+abbrev pub ln : List ℕ → List ℕ
 ln text = text ++ 0x0A ∷ []
 
-abbrev library : List ObjModule → Link
+abbrev pub library : List ObjModule → Link
 library modules = record { modules = modules; def = record (default_def Library None) { name = Some (codes "D") }; stem = codes "D"; clash = None }
 
 -- ---- a library of one segment of eight bytes
 
-abbrev one_object : Link
+abbrev pub one_object : Link
 one_object = library (one_segment (codes "a") (replicate 8 0) (4 ∷ []) ∷ [])
 
 abbrev pub WorkedMap : Type 0
@@ -59,10 +59,10 @@ second_module = record empty_module {
   pubs = equal (codes "a") 0xFFFFFFFF ∷ at (codes "aa") 1 0 ∷ at (codes "B") 1 0 ∷ [];
 }
 
-abbrev two_modules : Link
+abbrev pub two_modules : Link
 two_modules = library (first_module ∷ second_module ∷ [])
 
-abbrev listed : ℕ → List ℕ → Listed
+abbrev pub listed : ℕ → List ℕ → Listed
 listed number name = record { number = number; name = name }
 
 pub record WorkedLink : Type 0 where

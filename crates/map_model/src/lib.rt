@@ -5,4 +5,4 @@ mod laws;
 mod worked;
 
 pub use laws::{links_have_maps, maps_are_one, maps_tell_all};
-pub use worked::{links_are_mapped, lines_are_told};
+pub use worked::{lines_are_told, links_are_mapped};
