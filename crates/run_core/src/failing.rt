@@ -6,7 +6,7 @@ ghost use Rattle.session_model.specs.Bounds.{IsSession};
 
 use lx_types::NoMemory;
 use mod_graph::Library;
-use session_lines::first_failing;
+use session_lines::first_kept;
 use session_model::{FailingLine, FailingLines, Script, Session};
 use std::alloc::Global;
 
@@ -54,7 +54,7 @@ fn pairs_in(
 {
     let mut found = Vec::new(alloc);
     let mut left = lines.text();
-    while let Some(cut) = first_failing(alloc, left)? {
+    while let Some(cut) = first_kept::<FailingLine>(alloc, left)? {
         if let Some(pair) = pair_of(lib, scripts, &cut.line) {
             found.push(pair)?;
         }

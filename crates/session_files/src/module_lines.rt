@@ -10,7 +10,7 @@ use crate::texts::text_of;
 use lx_answer::Said;
 use lx_ports::Files;
 use lx_types::{Fail, Module};
-use session_lines::first_module;
+use session_lines::first_kept;
 use session_model::{ModLine, ModLines};
 use std::alloc::Global;
 use tool_read::read_module;
@@ -48,7 +48,7 @@ pub fn modules_given<F: Files>(
 {
     let mut modules = Vec::new(alloc);
     let mut left = lines.text();
-    while let Some(cut) = first_module(alloc, left)? {
+    while let Some(cut) = first_kept::<ModLine>(alloc, left)? {
         match module_given(alloc, files, &cut.line) {
             Ok(module) => modules.push(module)?,
             Err(why) => return Err(why),

@@ -12,6 +12,6 @@ mod reading;
 mod said;
 mod statements;
 
-pub use kept::{FailingCut, ModuleCut, first_failing, first_module};
+pub use kept::{KeptCut, ReadLine, first_kept};
 pub use lines::{WordCut, first_word};
 pub use reading::read_session;

@@ -6,6 +6,10 @@ use Rattle.session_model.specs.declared.sessions.ModLine.{ModLine}
 use Rattle.session_model.specs.Lines.{is_allowed, lines_in}
 use Rattle.session_model.specs.Statements.{gives, fails, process, command, Reading, nothing, says, wrong, reading_of}
 
+-- what the lines of a text say, of the kind that in_line reads
+abbrev pub said_in : {A : Type 0} → (List ℕ → Option A) → List ℕ → List A
+said_in in_line text = filter_map in_line (lines_in text)
+
 -- the module that a line gives, where it gives one
 abbrev pub module_told : Reading → Option ModLine
 module_told nothing = None
@@ -19,7 +23,7 @@ abbrev pub module_in_line : List ℕ → Option ModLine
 module_in_line line = module_told (reading_of line)
 
 abbrev pub modules_in : List ℕ → List ModLine
-modules_in text = filter_map module_in_line (lines_in text)
+modules_in text = said_in module_in_line text
 
 -- what a line makes fail, where it does
 abbrev pub failure_told : Reading → Option FailingLine
@@ -34,7 +38,7 @@ abbrev pub failure_in_line : List ℕ → Option FailingLine
 failure_in_line line = failure_told (reading_of line)
 
 abbrev pub failures_in : List ℕ → List FailingLine
-failures_in text = filter_map failure_in_line (lines_in text)
+failures_in text = said_in failure_in_line text
 
 -- no bytes, or whole lines
 abbrev pub AreLines : List ℕ → Type 0

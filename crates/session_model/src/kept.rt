@@ -1,12 +1,13 @@
 //! The lists of a session that may have millions of lines, each kept as the text of its lines.
 
-ghost use Rattle.std.specs.Prelude.{◌≡◌, ◌∷◌, ◌++◌, [], IfOk};
+ghost use Rattle.std.specs.Prelude.{◌≡◌, ◌∷◌, ◌++◌, [], ℕ, List, Option, IfOk};
 ghost use Rattle.std.specs.Option.{option_to_list};
-ghost use Rattle.session_model.specs.Kept.{modules_in, module_in_line, failures_in, failure_in_line, IsOneLine};
+ghost use Rattle.session_model.specs.Kept.{said_in, module_in_line, failure_in_line, IsOneLine};
 
+use crate::sessions::{FailingLine, ModLine};
 use lx_types::NoMemory;
 use std::alloc::Global;
-use std::marker::Model;
+use std::marker::{Model, PhantomData};
 
 // The text with a line more.
 fn with_text(text: Vec<u8>, line: &[u8]) -> Result<Vec<u8>, NoMemory>
@@ -18,97 +19,71 @@ fn with_text(text: Vec<u8>, line: &[u8]) -> Result<Vec<u8>, NoMemory>
     Ok(text)
 }
 
-/// Lines that give modules. They take about as much memory as their text.
-#[derive(Drop)]
-pub struct ModLines {
-    text: Vec<u8>,
+/// What lines of one kind say.
+pub trait LineKind {
+    /// What a line says, where it is of the kind.
+    ghost in_line: { List ℕ → Option Self };
 }
 
-impl Model for ModLines {
+impl LineKind for ModLine {
+    ghost in_line = { module_in_line };
+}
+
+impl LineKind for FailingLine {
+    ghost in_line = { failure_in_line };
+}
+
+/// Lines of one kind. They take about as much memory as their text.
+#[derive(Drop)]
+pub struct KeptLines<T: LineKind> {
+    text: Vec<u8>,
+    kind: PhantomData<T>,
+}
+
+/// Lines that give modules.
+pub type ModLines = KeptLines<ModLine>;
+
+/// Lines that make an initialisation fail.
+pub type FailingLines = KeptLines<FailingLine>;
+
+impl<T: LineKind> Model for KeptLines<T> {
     ghost use Rattle.std.specs.Prelude.{List};
-    ghost use Rattle.session_model.specs.declared.sessions.ModLine.{ModLine};
-    ghost use Rattle.session_model.specs.Kept.{modules_in, AreLines};
+    ghost use Rattle.session_model.specs.Kept.{said_in, AreLines};
 
-    ghost Value = { List ModLine };
+    ghost Value = { List T };
 
-    ghost view = { λ lines. modules_in lines.text.items };
+    ghost view = { λ lines. said_in T.in_line lines.text.items };
 
     ghost invariant = { λ lines. AreLines lines.text.items };
 }
 
-impl ModLines {
+impl<T: LineKind> KeptLines<T> {
     /// No lines. It takes no memory.
     #[tactic(auto, unfolding(crate::specs::Lines::lines_in))]
-    pub fn new(alloc: Global) -> ModLines
+    pub fn new(alloc: Global) -> KeptLines<T>
         ensures { result ≡ [] }
     {
-        ModLines {
+        KeptLines {
             text: Vec::new(alloc),
+            kind: PhantomData,
         }
     }
 
-    /// The lines, and behind them what a line gives.
-    #[tactic(auto, using(crate::proofs::KeptLines::lines_longer))]
-    pub fn with_line(self, line: &[u8]) -> Result<ModLines, NoMemory>
+    /// The lines, and behind them what a line says.
+    #[tactic(auto, using(crate::proofs::KeptText::lines_longer))]
+    pub fn with_line(self, line: &[u8]) -> Result<KeptLines<T>, NoMemory>
         requires { IsOneLine line.now }
-        ensures { IfOk result (λ lines. lines ≡ self ++ option_to_list (module_in_line line.now)) }
+        ensures { IfOk result (λ lines. lines ≡ self ++ option_to_list (T.in_line line.now)) }
     {
-        Ok(ModLines {
+        Ok(KeptLines {
             text: with_text(self.text, line)?,
-        })
-    }
-
-    /// A text that gives the same.
-    pub fn text(&self) -> &[u8]
-        ensures { modules_in result.now ≡ self.now }
-    {
-        self.text.as_slice()
-    }
-}
-
-/// Lines that make an initialisation fail. They take about as much memory as their text.
-#[derive(Drop)]
-pub struct FailingLines {
-    text: Vec<u8>,
-}
-
-impl Model for FailingLines {
-    ghost use Rattle.std.specs.Prelude.{List};
-    ghost use Rattle.session_model.specs.declared.sessions.FailingLine.{FailingLine};
-    ghost use Rattle.session_model.specs.Kept.{failures_in, AreLines};
-
-    ghost Value = { List FailingLine };
-
-    ghost view = { λ lines. failures_in lines.text.items };
-
-    ghost invariant = { λ lines. AreLines lines.text.items };
-}
-
-impl FailingLines {
-    /// No lines. It takes no memory.
-    #[tactic(auto, unfolding(crate::specs::Lines::lines_in))]
-    pub fn new(alloc: Global) -> FailingLines
-        ensures { result ≡ [] }
-    {
-        FailingLines {
-            text: Vec::new(alloc),
-        }
-    }
-
-    /// The lines, and behind them what a line makes fail.
-    #[tactic(auto, using(crate::proofs::KeptLines::lines_longer))]
-    pub fn with_line(self, line: &[u8]) -> Result<FailingLines, NoMemory>
-        requires { IsOneLine line.now }
-        ensures { IfOk result (λ lines. lines ≡ self ++ option_to_list (failure_in_line line.now)) }
-    {
-        Ok(FailingLines {
-            text: with_text(self.text, line)?,
+            kind: PhantomData,
         })
     }
 
     /// A text that says the same.
     pub fn text(&self) -> &[u8]
-        ensures { failures_in result.now ≡ self.now }
+        ensures { said_in T.in_line result.now ≡ self.now }
     {
         self.text.as_slice()
     }

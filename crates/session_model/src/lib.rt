@@ -7,7 +7,7 @@ mod sessions;
 mod words;
 mod worked;
 
-pub use kept::{FailingLines, ModLines};
+pub use kept::{FailingLines, KeptLines, LineKind, ModLines};
 pub use laws::{agreement_is_enough, merges_are_histories, sessions_are_bounded, sessions_are_one};
 pub use sessions::{
     Commands, FailingLine, Line, ModLine, Script, ScriptLines, Session, SessionKind, SessionRefusal,

@@ -11,7 +11,7 @@ use crate::commands::push_command;
 use crate::words::{Word, push_joined, push_line, push_spaced};
 use load_model::Command;
 use lx_types::{Bytes, NoMemory, Seq};
-use session_lines::{first_failing, first_module, first_word};
+use session_lines::{first_kept, first_word};
 use session_model::{FailingLine, FailingLines, ModLine, ModLines, Script, Session, Words};
 use std::alloc::{AllocError, Global};
 
@@ -48,7 +48,7 @@ fn push_modules(alloc: Global, out: &mut Vec<u8>, modules: &ModLines) -> Result<
     ensures { OnOk result (out.new.items ≡ out.old.items ++ flat_map module_line modules.now) }
 {
     let mut left = modules.text();
-    while let Some(cut) = first_module(alloc, left)? {
+    while let Some(cut) = first_kept::<ModLine>(alloc, left)? {
         push_module(out, &cut.line)?;
         left = cut.behind;
     }
@@ -67,7 +67,7 @@ fn push_failing(alloc: Global, out: &mut Vec<u8>, failing: &FailingLines) -> Res
     ensures { OnOk result (out.new.items ≡ out.old.items ++ flat_map failing_line failing.now) }
 {
     let mut left = failing.text();
-    while let Some(cut) = first_failing(alloc, left)? {
+    while let Some(cut) = first_kept::<FailingLine>(alloc, left)? {
         push_failure(out, &cut.line)?;
         left = cut.behind;
     }

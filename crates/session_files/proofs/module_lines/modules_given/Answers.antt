@@ -10,7 +10,7 @@ use Rattle.lx_model.specs.Module.{IsRead}
 use Rattle.lx_ports.specs.Files.{FilesState}
 use Rattle.session_model.specs.declared.sessions.ModLine.{ModLine}
 use Rattle.session_model.specs.Kept.{modules_in}
-use Rattle.session_lines.specs.declared.kept.ModuleCut.{ModuleCut}
+use Rattle.session_lines.specs.declared.kept.KeptCut.{KeptCut}
 use Rattle.session_text.specs.Writable.{IsPlainModule}
 use Rattle.lx_answer.specs.declared.said.Said.{Said}
 use Rattle.tool_read.proofs.Walk.{err_is}
@@ -19,7 +19,7 @@ use Rattle.session_files.proofs.Lines.{Reached, reached_none, reached_more, reac
 use Rattle.session_files.proofs.module_lines.modules_given.Goals as goal
 
 -- the first line that is left
-module _ (text : List ℕ) (first : Option ModuleCut) (cut : ModuleCut) (is : first ≡ Some cut)
+module _ (text : List ℕ) (first : Option (KeptCut ModLine)) (cut : KeptCut ModLine) (is : first ≡ Some cut)
     (found : MatchOption first (modules_in text ≡ []) (λ cut. modules_in text ≡ cut.line ∷ modules_in cut.behind.now)) where
   next_is : modules_in text ≡ cut.line ∷ modules_in cut.behind.now
   next_is = subst (λ o. MatchOption o (modules_in text ≡ []) (λ cut. modules_in text ≡ cut.line ∷ modules_in cut.behind.now)) is found
@@ -46,7 +46,7 @@ no_memory : (lines behind : List ModLine) (before now : FilesState) (modules : L
 no_memory lines behind before now modules result so_far is =
     subst (λ r. DoesLines lines before now (listed r)) (sym is) (reached_end lines behind before now modules so_far)
 
-none_left : (text : List ℕ) (first : Option ModuleCut) → first ≡ None
+none_left : (text : List ℕ) (first : Option (KeptCut ModLine)) → first ≡ None
     → MatchOption first (modules_in text ≡ []) (λ cut. modules_in text ≡ cut.line ∷ modules_in cut.behind.now) → modules_in text ≡ []
 none_left text first is found = subst (λ o. MatchOption o (modules_in text ≡ []) (λ cut. modules_in text ≡ cut.line ∷ modules_in cut.behind.now)) is found
 
