@@ -1,9 +1,8 @@
 //! The modules, linked and read back, and the library of them.
 
-ghost use Rattle.std.specs.Prelude.{◌≡◌, ◌+◌, ◌<◌, ◌≤◌, ◌^◌, IfOk, OnOk, None, length};
+ghost use Rattle.std.specs.Prelude.{◌+◌, ◌<◌, ◌≤◌, ◌^◌, IfOk, OnOk, length};
 ghost use Rattle.std.specs.List.{All};
-ghost use Rattle.lx_model.specs.Gathering.{LibraryFault};
-ghost use Rattle.lx_model.specs.Module.{IsRead, Lx, parts_of};
+ghost use Rattle.lx_model.specs.Module.{IsRead};
 ghost use Rattle.link_core.specs.Links.{IsLinked};
 ghost use Rattle.gen_model.specs.Modules.{gen_input};
 ghost use Rattle.gen_core.specs.Linking.{HasLinked, IsGathered};
@@ -12,9 +11,9 @@ use gen_laws::{inputs_are_whole, inputs_link, modules_load};
 use gen_model::link_input;
 use layer_laws::linked_files_mean_their_links;
 use link_core::{Linked, link_module};
-use lx_read::read_module;
 use lx_types::{Fail, Module, NoMemory};
 use mod_graph::Library;
+use module_pages::{gather_faultless, read_faultless};
 use std::alloc::Global;
 
 /// The modules of a library, and how many pages and record sources they have in all.
@@ -50,22 +49,6 @@ fn linked(alloc: Global, k: u32) -> Result<Linked, NoMemory>
     }
 }
 
-// The module of a file that has no fault.
-fn module_in(alloc: Global, file: Vec<u8>) -> Result<Module, NoMemory>
-    requires short { length file.items < 2 ^ 32 }
-    requires means { Lx file.items (parts_of file.items) }
-    ensures parts { IfOk result (λ parts. parts ≡ parts_of file.items) }
-    ensures whole { IfOk result IsRead }
-{
-    match read_module(alloc, file) {
-        Ok(module) => Ok(module),
-        Err(unread) => match unread.why {
-            Fail::Said(_) => unreachable!(),
-            Fail::NoMemory => Err(NoMemory),
-        },
-    }
-}
-
 impl Linking {
     // One module more, behind those up to `count`.
     fn push(&mut self, alloc: Global, count: u32, linked: Linked) -> Result<(), NoMemory>
@@ -85,7 +68,7 @@ impl Linking {
             sources,
             ..
         } = linked;
-        self.modules.push(module_in(alloc, file.into_vec())?)?;
+        self.modules.push(read_faultless(alloc, file.into_vec())?)?;
         self.pages += u64::from(pages);
         self.sources += u64::from(sources);
         Ok(())
@@ -109,22 +92,6 @@ fn all_linked(alloc: Global, count: u32) -> Result<Linking, NoMemory>
     Ok(linking)
 }
 
-// The library of the modules, whose names differ.
-fn library_of(alloc: Global, modules: Vec<Module>) -> Result<Library, NoMemory>
-    requires few { length modules.items ≤ 64 }
-    requires accepted { LibraryFault modules.items ≡ None }
-    requires read { All IsRead modules.items }
-    ensures { IfOk result (λ library. library ≡ modules.items) }
-{
-    match Library::gather(alloc, modules) {
-        Ok(library) => Ok(library),
-        Err(ungathered) => match ungathered.why {
-            Fail::Said(_) => unreachable!(),
-            Fail::NoMemory => Err(NoMemory),
-        },
-    }
-}
-
 /// The modules of the numbers from 1 to `count`, each linked from its object module and its definition file, and read back.
 pub fn gather(alloc: Global, count: u32) -> Result<Gathered, NoMemory>
     requires { count ≤ 64 }
@@ -137,7 +104,7 @@ pub fn gather(alloc: Global, count: u32) -> Result<Gathered, NoMemory>
         sources,
     } = all_linked(alloc, count)?;
     Ok(Gathered {
-        library: library_of(alloc, modules)?,
+        library: gather_faultless(alloc, modules)?,
         pages,
         sources,
     })

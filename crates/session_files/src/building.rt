@@ -1,7 +1,7 @@
 //! A module that a session builds: its files are loaded, read and linked, and the linked file is read back.
-ghost use Rattle.std.specs.Prelude.{◌≡◌, ◌≢◌, ◌<◌, ◌^◌, [], IfOk, length, option_map};
+ghost use Rattle.std.specs.Prelude.{◌≡◌, ◌≢◌, [], IfOk, option_map};
 ghost use Rattle.link_core.specs.Links.{RefusesLink};
-ghost use Rattle.lx_model.specs.Module.{IsRead, Lx, parts_of};
+ghost use Rattle.lx_model.specs.Module.{IsRead};
 ghost use Rattle.obj_types.specs.Input.{WholeInput};
 ghost use Rattle.session_model.specs.declared.sessions.ModLine.TheVariants as mod_line;
 ghost use Rattle.session_text.specs.Writable.{IsPlainModule};
@@ -16,8 +16,8 @@ use link_core::link;
 use link_model::LinkRefusal;
 use lx_answer::Said;
 use lx_ports::Files;
-use lx_read::read_module;
 use lx_types::{Fail, Module, Name, NoMemory};
+use module_pages::read_faultless;
 use obj_types::LinkInput;
 use session_model::Words;
 use std::alloc::Global;
@@ -38,22 +38,6 @@ fn refused(alloc: Global, stem: &str, refusal: &LinkRefusal) -> Result<Said, NoM
     said(alloc, 1, stem, &text)
 }
 
-// The module of a file that has no fault.
-fn module_in(alloc: Global, file: Vec<u8>) -> Result<Module, NoMemory>
-    requires short { length file.items < 2 ^ 32 }
-    requires means { Lx file.items (parts_of file.items) }
-    ensures parts { IfOk result (λ parts. parts ≡ parts_of file.items) }
-    ensures whole { IfOk result IsRead }
-{
-    match read_module(alloc, file) {
-        Ok(module) => Ok(module),
-        Err(unread) => match unread.why {
-            Fail::Said(_) => unreachable!(),
-            Fail::NoMemory => Err(NoMemory),
-        },
-    }
-}
-
 // The module that an input is linked to.
 fn linked(alloc: Global, stem: &str, input: &LinkInput) -> Result<Module, Fail<Said>>
     requires { WholeInput input.now }
@@ -63,7 +47,7 @@ fn linked(alloc: Global, stem: &str, input: &LinkInput) -> Result<Module, Fail<S
     input_range(input);
     linked_files_mean_their_links();
     match link(alloc, input) {
-        Ok(file) => Ok(module_in(alloc, file)?),
+        Ok(file) => Ok(read_faultless(alloc, file)?),
         Err(Fail::Said(refusal)) => Err(Fail::Said(refused(alloc, stem, &refusal)?)),
         Err(Fail::NoMemory) => Err(Fail::NoMemory),
     }
