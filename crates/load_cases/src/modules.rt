@@ -4,6 +4,7 @@ ghost use Rattle.std.specs.Prelude.{◌<◌, ◌^◌, All, IfOk, length};
 ghost use Rattle.lx_model.specs.Module.{IsRead};
 
 use lx_read::read_module;
+use lx_sample::ONE_OBJECT;
 use lx_types::{Module, NoMemory};
 use mod_graph::Library;
 use std::alloc::Global;
@@ -17,21 +18,7 @@ pub struct Shape {
     pub imports: &'static [u8],
 }
 
-/// The file of the library D of one object: the module flags stand at 10h, the start's object at 18h, the import
-/// modules' place at 70h and their count at 74h, the object's linked base at C8h, the name at E5h.
-const ONE_OBJECT: [u8; 255] = [
-    0x4C, 0x58, 0, 0, 0, 0, 0, 0, 2, 0, 1, 0, 0, 0, 0, 0, 0, 0x80, 0, 0, 1, 0, 0, 0, 1, 0, 0, 0, 0,
-    0, 0, 0, 0, 0, 0, 0, 0, 0, 0, 0, 0, 0x10, 0, 0, 0, 0, 0, 0, 0x10, 0, 0, 0, 0, 0, 0, 0, 0x26, 0,
-    0, 0, 0, 0, 0, 0, 0xC4, 0, 0, 0, 1, 0, 0, 0, 0xDC, 0, 0, 0, 0xFA, 0, 0, 0, 0, 0, 0, 0, 0, 0, 0,
-    0, 0xE4, 0, 0, 0, 0xE9, 0, 0, 0, 0, 0, 0, 0, 0, 0, 0, 0, 0xEA, 0, 0, 0, 0xF2, 0, 0, 0, 0xFF, 0,
-    0, 0, 0, 0, 0, 0, 0xF9, 0, 0, 0, 0, 0, 0, 0, 0xFA, 0, 0, 0, 0, 0, 0, 0, 0xFA, 0, 0, 0, 5, 0, 0,
-    0, 0, 0, 0, 0, 0, 0, 0, 0, 0, 0, 0, 0, 0, 0, 0, 0, 0, 0, 0, 0, 0, 0, 0, 0, 0, 0, 0, 0, 0, 0, 0,
-    0, 0, 0, 0, 0, 0, 0, 0, 0, 0, 0, 0, 0, 0, 0, 0, 0, 0, 0, 0, 0, 8, 0, 0, 0, 0, 0, 0, 0x10, 5,
-    0x20, 0, 0, 1, 0, 0, 0, 1, 0, 0, 0, 0, 0, 0, 0, 0, 0, 0, 0, 0, 0, 3, 0, 1, 0x44, 0, 0, 0, 0, 0,
-    0, 0, 0, 7, 0, 0, 0, 7, 0, 4, 0, 1, 0, 0, 0, 1, 0x44, 0, 0, 0,
-];
-
-/// The file of a module.
+/// The file of a module: the library of one object, which starts at its first byte, with import modules at its end.
 fn file_of(alloc: Global, shape: &Shape) -> Result<Vec<u8>, NoMemory>
     ensures { IfOk result (λ file. length file.items < 2 ^ 32) }
 {
@@ -42,11 +29,10 @@ fn file_of(alloc: Global, shape: &Shape) -> Result<Vec<u8>, NoMemory>
             *at = *byte;
         }
     }
-    if let Some(at) = file.get_mut(0x74) {
-        *at = imports;
-    }
-    if let Some(at) = file.get_mut(0xE5) {
-        *at = shape.name;
+    for (place, byte) in [(0x18, 1), (0x70, 0xFF), (0x74, imports), (0xE5, shape.name)] {
+        if let Some(at) = file.get_mut(place) {
+            *at = byte;
+        }
     }
     for name in shape.imports {
         file.push(1)?;

@@ -3,7 +3,9 @@
 #![tactic(auto)]
 
 mod library;
+mod one_object;
 mod sample;
 
 pub use library::library_of;
+pub use one_object::ONE_OBJECT;
 pub use sample::{Sample, SamplePage, file_of};

@@ -1,26 +1,12 @@
 //! Whole modules are read, and each kind of fault is told at its place.
 
 use lx_read::read_module;
+use lx_sample::ONE_OBJECT;
 use lx_types::{
     EntryHead, Fail, FixTarget, FwdKey, LxKind, LxRefusal, Module, NoMemory, PageHead, PageId,
     PageKind,
 };
 use std::alloc::Global;
-
-/// The library D of one object of 8 bytes: its object table stands at C4h, its page of zeros at DCh, its
-/// names at E4h, its empty entry table at E9h, its fixup page table at EAh, one record at F2h, an empty
-/// table of import procedures at F9h, and its other names at FAh.
-const ONE_OBJECT: [u8; 255] = [
-    0x4C, 0x58, 0, 0, 0, 0, 0, 0, 2, 0, 1, 0, 0, 0, 0, 0, 0, 0x80, 0, 0, 1, 0, 0, 0, 0, 0, 0, 0, 0,
-    0, 0, 0, 0, 0, 0, 0, 0, 0, 0, 0, 0, 0x10, 0, 0, 0, 0, 0, 0, 0x10, 0, 0, 0, 0, 0, 0, 0, 0x26, 0,
-    0, 0, 0, 0, 0, 0, 0xC4, 0, 0, 0, 1, 0, 0, 0, 0xDC, 0, 0, 0, 0xFA, 0, 0, 0, 0, 0, 0, 0, 0, 0, 0,
-    0, 0xE4, 0, 0, 0, 0xE9, 0, 0, 0, 0, 0, 0, 0, 0, 0, 0, 0, 0xEA, 0, 0, 0, 0xF2, 0, 0, 0, 0xF9, 0,
-    0, 0, 0, 0, 0, 0, 0xF9, 0, 0, 0, 0, 0, 0, 0, 0xFA, 0, 0, 0, 0, 0, 0, 0, 0xFA, 0, 0, 0, 5, 0, 0,
-    0, 0, 0, 0, 0, 0, 0, 0, 0, 0, 0, 0, 0, 0, 0, 0, 0, 0, 0, 0, 0, 0, 0, 0, 0, 0, 0, 0, 0, 0, 0, 0,
-    0, 0, 0, 0, 0, 0, 0, 0, 0, 0, 0, 0, 0, 0, 0, 0, 0, 0, 0, 0, 0, 8, 0, 0, 0, 0, 0, 0, 0x10, 5,
-    0x20, 0, 0, 1, 0, 0, 0, 1, 0, 0, 0, 0, 0, 0, 0, 0, 0, 0, 0, 0, 0, 3, 0, 1, 0x44, 0, 0, 0, 0, 0,
-    0, 0, 0, 7, 0, 0, 0, 7, 0, 4, 0, 1, 0, 0, 0, 1, 0x44, 0, 0, 0,
-];
 
 /// A program Y of two objects, with a plain and an iterated page, entries of an object and a forwarder,
 /// and fixups on imports by ordinal and by name.

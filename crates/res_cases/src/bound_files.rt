@@ -1,26 +1,12 @@
 //! A library with an item bound to it: its bytes, what is read of it, and what is found.
 
 use lx_read::read_module;
+use lx_sample::ONE_OBJECT;
 use lx_types::{Bytes, Fail, Module, NoMemory, PageId, Seq};
 use res_bind::{BindRefusal, bind_res};
 use res_core::find;
 use res_file::ResItem;
 use std::alloc::Global;
-
-/// The library D of one object of 8 bytes: its object table stands at C4h, its page of zeros at DCh, its
-/// names at E4h, its empty entry table at E9h, its fixup page table at EAh, one record at F2h, an empty
-/// table of import procedures at F9h, and its other names at FAh.
-const LIBRARY: [u8; 255] = [
-    0x4C, 0x58, 0, 0, 0, 0, 0, 0, 2, 0, 1, 0, 0, 0, 0, 0, 0, 0x80, 0, 0, 1, 0, 0, 0, 0, 0, 0, 0, 0,
-    0, 0, 0, 0, 0, 0, 0, 0, 0, 0, 0, 0, 0x10, 0, 0, 0, 0, 0, 0, 0x10, 0, 0, 0, 0, 0, 0, 0, 0x26, 0,
-    0, 0, 0, 0, 0, 0, 0xC4, 0, 0, 0, 1, 0, 0, 0, 0xDC, 0, 0, 0, 0xFA, 0, 0, 0, 0, 0, 0, 0, 0, 0, 0,
-    0, 0xE4, 0, 0, 0, 0xE9, 0, 0, 0, 0, 0, 0, 0, 0, 0, 0, 0, 0xEA, 0, 0, 0, 0xF2, 0, 0, 0, 0xF9, 0,
-    0, 0, 0, 0, 0, 0, 0xF9, 0, 0, 0, 0, 0, 0, 0, 0xFA, 0, 0, 0, 0, 0, 0, 0, 0xFA, 0, 0, 0, 5, 0, 0,
-    0, 0, 0, 0, 0, 0, 0, 0, 0, 0, 0, 0, 0, 0, 0, 0, 0, 0, 0, 0, 0, 0, 0, 0, 0, 0, 0, 0, 0, 0, 0, 0,
-    0, 0, 0, 0, 0, 0, 0, 0, 0, 0, 0, 0, 0, 0, 0, 0, 0, 0, 0, 0, 0, 8, 0, 0, 0, 0, 0, 0, 0x10, 5,
-    0x20, 0, 0, 1, 0, 0, 0, 1, 0, 0, 0, 0, 0, 0, 0, 0, 0, 0, 0, 0, 0, 3, 0, 1, 0x44, 0, 0, 0, 0, 0,
-    0, 0, 0, 7, 0, 0, 0, 7, 0, 4, 0, 1, 0, 0, 0, 1, 0x44, 0, 0, 0,
-];
 
 /// What stands behind it once `ABC` is bound: the data, two objects, two pages, where records end, and the resource.
 const BEHIND: [u8; 93] = [
@@ -75,21 +61,21 @@ fn bound(alloc: Global, file: &[u8]) -> Result<Result<Vec<u8>, BindRefusal>, NoM
 
 #[test]
 fn one_item_is_bound(rt: HostRuntime) -> Result<(), NoMemory> {
-    let mut wanted = Vec::from_slice(rt.alloc(), &LIBRARY)?;
+    let mut wanted = Vec::from_slice(rt.alloc(), &ONE_OBJECT)?;
     for (at, number) in FIELDS {
         if let Some(field) = wanted.as_mut_slice().get_mut(at..at.saturating_add(4)) {
             field.copy_from_slice(&number.to_le_bytes());
         }
     }
     wanted.extend_from_slice(&BEHIND)?;
-    let file = bound(rt.alloc(), &LIBRARY)?.ok().expect(&rt, "a file");
+    let file = bound(rt.alloc(), &ONE_OBJECT)?.ok().expect(&rt, "a file");
     assert_eq!(rt; file.as_slice(), wanted.as_slice());
     Ok(())
 }
 
 #[test]
 fn the_item_is_found(rt: HostRuntime) -> Result<(), NoMemory> {
-    let file = bound(rt.alloc(), &LIBRARY)?.ok().expect(&rt, "a file");
+    let file = bound(rt.alloc(), &ONE_OBJECT)?.ok().expect(&rt, "a file");
     let module = module(rt.alloc(), &file)?.expect(&rt, "a module");
     assert_eq!(rt; module.objects().len(), 2);
     let spot = find(&module, 1, 2).expect(&rt, "a resource");
@@ -104,7 +90,7 @@ fn the_item_is_found(rt: HostRuntime) -> Result<(), NoMemory> {
 
 #[test]
 fn bound_once_alone(rt: HostRuntime) -> Result<(), NoMemory> {
-    let file = bound(rt.alloc(), &LIBRARY)?.ok().expect(&rt, "a file");
+    let file = bound(rt.alloc(), &ONE_OBJECT)?.ok().expect(&rt, "a file");
     assert_eq!(rt;
         bound(rt.alloc(), &file)?.err(),
         Some(BindRefusal::HasResources)

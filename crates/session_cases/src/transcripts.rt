@@ -5,6 +5,7 @@ ghost use Rattle.lx_model.specs.Module.{IsRead};
 
 use load_model::{Call, CallKind, Command, Deed, Entry, Fresh, Gone, How, Place, Refusal, Reply};
 use lx_read::read_module;
+use lx_sample::ONE_OBJECT;
 use lx_types::{Module, Name, NoMemory, ResSpot, Seq};
 use mod_graph::Library;
 use session_model::{Line, ScriptLines};
@@ -12,25 +13,13 @@ use session_text::print;
 use std::alloc::Global;
 use std::test::Fail;
 
-/// A library of one object, as it is linked. Its name is the one byte at E5h.
-const MODULE: [u8; 255] = [
-    0x4C, 0x58, 0, 0, 0, 0, 0, 0, 2, 0, 1, 0, 0, 0, 0, 0, 0, 0x80, 0, 0, 1, 0, 0, 0, 0, 0, 0, 0, 0,
-    0, 0, 0, 0, 0, 0, 0, 0, 0, 0, 0, 0, 0x10, 0, 0, 0, 0, 0, 0, 0x10, 0, 0, 0, 0, 0, 0, 0, 0x26, 0,
-    0, 0, 0, 0, 0, 0, 0xC4, 0, 0, 0, 1, 0, 0, 0, 0xDC, 0, 0, 0, 0xFA, 0, 0, 0, 0, 0, 0, 0, 0, 0, 0,
-    0, 0xE4, 0, 0, 0, 0xE9, 0, 0, 0, 0, 0, 0, 0, 0, 0, 0, 0, 0xEA, 0, 0, 0, 0xF2, 0, 0, 0, 0xF9, 0,
-    0, 0, 0, 0, 0, 0, 0xF9, 0, 0, 0, 0, 0, 0, 0, 0xFA, 0, 0, 0, 0, 0, 0, 0, 0xFA, 0, 0, 0, 5, 0, 0,
-    0, 0, 0, 0, 0, 0, 0, 0, 0, 0, 0, 0, 0, 0, 0, 0, 0, 0, 0, 0, 0, 0, 0, 0, 0, 0, 0, 0, 0, 0, 0, 0,
-    0, 0, 0, 0, 0, 0, 0, 0, 0, 0, 0, 0, 0, 0, 0, 0, 0, 0, 0, 0, 0, 8, 0, 0, 0, 0, 0, 0, 0x10, 5,
-    0x20, 0, 0, 1, 0, 0, 0, 1, 0, 0, 0, 0, 0, 0, 0, 0, 0, 0, 0, 0, 0, 3, 0, 1, 0x44, 0, 0, 0, 0, 0,
-    0, 0, 0, 7, 0, 0, 0, 7, 0, 4, 0, 1, 0, 0, 0, 1, 0x44, 0, 0, 0,
-];
-
+/// Where the name of the library stands, which is one byte.
 const NAME_AT: usize = 0xE5;
 
 fn module(alloc: Global, name: u8) -> Result<Module, NoMemory>
     ensures { IfOk result IsRead }
 {
-    let mut file = Vec::from_slice(alloc, &MODULE)?;
+    let mut file = Vec::from_slice(alloc, &ONE_OBJECT)?;
     file[NAME_AT] = name;
     match read_module(alloc, file) {
         Ok(module) => Ok(module),
