@@ -71,7 +71,8 @@ fn map_own<L: Ledger>(
     requires room { 0 < view.old.page_room }
     requires page { IsPageOf view.old at.stay at.page }
     requires apart { (d : ResidenceFor) → is_there view.old (stay_at view.old at.stay d) at.page ≡ false }
-    requires own { (d : ResidenceFor) → needs_fault view.old.library (stay_at view.old at.stay d).«module» (page_in (stay_at view.old at.stay d) at.page) ≡ false }
+    requires own { (d : ResidenceFor) → needs_fault view.old.library (stay_at view.old at.stay d).«module» (page_in (stay_at view.old at.stay d) at.page)
+        ≡ false }
     ensures { MappedMore board.now board.now view.old view.new }
 {
     pages_stand();

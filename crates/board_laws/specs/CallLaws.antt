@@ -76,4 +76,5 @@ pub record AllAnswered (b : Ledger) (calls : List Call) (c : Ledger) : Type 0 wh
 -- So it is for every list of calls on a new board, and the board behind them is the one that the definitions say.
 abbrev pub CallsAreAnswered : Type 0
 CallsAreAnswered =
-    (lib : Library) (failing : Failing) (calls : List Call) (c : Ledger) → AreMade (new_ledger lib failing) calls c → AllAnswered (new_ledger lib failing) calls c
+    (lib : Library) (failing : Failing) (calls : List Call) (c : Ledger) → AreMade (new_ledger lib failing) calls c →
+    AllAnswered (new_ledger lib failing) calls c

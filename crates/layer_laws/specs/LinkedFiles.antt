@@ -24,7 +24,8 @@ pub record MeansItsLink (input : LinkInput) (file : List ℕ) : Type 0 where
   pub of_input : IsLinkOf input link
   pub read : Lx file (parts_of file)
   pub linked : ReadAsLinked link (parts_of file)
-  pub loaded : (lib : List Parts) (m : ℕ) (bases : Bases) → module_of lib m ≡ parts_of file → IsLibrary lib → m < length lib → IsFit lib m → StandsWell link bases m
+  pub loaded : (lib : List Parts) (m : ℕ) (bases : Bases) → module_of lib m ≡ parts_of file → IsLibrary lib → m < length lib → IsFit lib m →
+      StandsWell link bases m
       → (object x : ℕ) (o : LaidObject) → item (objects link) object ≡ Some o → x < o.size → MeansThere link lib m bases object x
 
 abbrev pub LinkedFilesMeanTheirLinks : Type 0

@@ -39,7 +39,8 @@ links_in file = record {
 }
 
 abbrev pub fault_in_links : List ℕ → Option LxRefusal
-fault_in_links file = imports_fault file then entries_fault file then start_fault file then spans_fault file then first_of (page_count file) (page_records_fault file)
+fault_in_links file =
+    imports_fault file then entries_fault file then start_fault file then spans_fault file then first_of (page_count file) (page_records_fault file)
 
 -- all that a file without a fault says
 pub record IsFoundIn (file : List ℕ) (found : Found) : Type 0 where

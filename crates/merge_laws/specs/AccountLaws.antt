@@ -38,13 +38,15 @@ AccountBegins = (lib : Library) (failing : Failing) (contents : Held) (pid : ℕ
 -- Behind an entry of another process its account stands.
 abbrev pub OthersEntryStays : Type 0
 OthersEntryStays =
-    (lib : Library) (failing : Failing) (contents : Held) (pid : ℕ) (h : List Entry) (lines : List Line) (done : List Command) (x : Entry) → (pid == x.pid) ≡ false →
+    (lib : Library) (failing : Failing) (contents : Held) (pid : ℕ) (h : List Entry) (lines : List Line) (done : List Command) (x : Entry) →
+    (pid == x.pid) ≡ false →
     Account lib failing contents pid h lines done → Account lib failing contents pid (h ++ x ∷ []) lines done
 
 -- An entry of its own, no fault, adds the command that asks for it.
 abbrev pub OwnEntryAdds : Type 0
 OwnEntryAdds =
-    (lib : Library) (failing : Failing) (contents : Held) (pid : ℕ) (h : List Entry) (lines : List Line) (done : List Command) (x : Entry) (command : Command) → x.pid ≡ pid →
+    (lib : Library) (failing : Failing) (contents : Held) (pid : ℕ) (h : List Entry) (lines : List Line) (done : List Command) (x : Entry)
+    (command : Command) → x.pid ≡ pid →
     is_fault x.deed ≡ false → AsksFor lib command (ask_in x.deed) → EntryReplies lib contents (own_state lib failing pid h lines) x →
     Account lib failing contents pid h lines done → Account lib failing contents pid (h ++ x ∷ []) lines (done ++ command ∷ [])
 
@@ -52,7 +54,8 @@ OwnEntryAdds =
 abbrev pub OwnLineAdds : Type 0
 OwnLineAdds =
     (lib : Library) (failing : Failing) (contents : Held) (pid : ℕ) (h : List Entry) (lines : List Line) (done : List Command) (l : Line) → l.front ≡ length h →
-    IsTrue (touch_follows lib failing (own_items pid h lines) pid l.command l.reply) → answer_of lib contents (own_state lib failing pid h lines) pid l.command ≡ steady l.reply →
+    IsTrue (touch_follows lib failing (own_items pid h lines) pid l.command l.reply) →
+    answer_of lib contents (own_state lib failing pid h lines) pid l.command ≡ steady l.reply →
     Account lib failing contents pid h lines done → Account lib failing contents pid h (lines ++ l ∷ []) (done ++ l.command ∷ [])
 
 -- ---- a touch that makes faults
@@ -66,13 +69,15 @@ TouchBegins =
 -- Others go on meanwhile.
 abbrev pub TouchWaits : Type 0
 TouchWaits =
-    (lib : Library) (failing : Failing) (contents : Held) (pid : ℕ) (at : Place) (h : List Entry) (lines : List Line) (done : List Command) (x : Entry) → (pid == x.pid) ≡ false →
+    (lib : Library) (failing : Failing) (contents : Held) (pid : ℕ) (at : Place) (h : List Entry) (lines : List Line) (done : List Command) (x : Entry) →
+    (pid == x.pid) ≡ false →
     AccountInTouch lib failing contents pid at h lines done → AccountInTouch lib failing contents pid at (h ++ x ∷ []) lines done
 
 -- A fault of its own is one for this touch.
 abbrev pub TouchFaults : Type 0
 TouchFaults =
-    (lib : Library) (failing : Failing) (contents : Held) (pid : ℕ) (at : Place) (h : List Entry) (lines : List Line) (done : List Command) (x : Entry) → x.pid ≡ pid →
+    (lib : Library) (failing : Failing) (contents : Held) (pid : ℕ) (at : Place) (h : List Entry) (lines : List Line) (done : List Command) (x : Entry) →
+    x.pid ≡ pid →
     IsFaultFor lib (own_state lib failing pid h lines) pid at x.deed → EntryReplies lib contents (own_state lib failing pid h lines) x →
     AccountInTouch lib failing contents pid at h lines done → AccountInTouch lib failing contents pid at (h ++ x ∷ []) lines done
 
@@ -80,7 +85,8 @@ TouchFaults =
 abbrev pub TouchEnds : Type 0
 TouchEnds =
     (lib : Library) (failing : Failing) (contents : Held) (pid : ℕ) (at : Place) (h : List Entry) (lines : List Line) (done : List Command) →
-    IsTrue (touch_follows lib failing (own_items pid h lines) pid (Touch at) Fine) → answer_of lib contents (own_state lib failing pid h lines) pid (Touch at) ≡ steady Fine →
+    IsTrue (touch_follows lib failing (own_items pid h lines) pid (Touch at) Fine) →
+    answer_of lib contents (own_state lib failing pid h lines) pid (Touch at) ≡ steady Fine →
     AccountInTouch lib failing contents pid at h lines done →
     Account lib failing contents pid h (lines ++ touch_line (length h) at ∷ []) (done ++ Touch at ∷ [])
 
@@ -90,10 +96,12 @@ TouchEnds =
 abbrev pub AccountGoesOn : Type 0
 AccountGoesOn =
     (lib : Library) (failing : Failing) (contents : Held) (pid : ℕ) (h more : List Entry) (lines : List Line) (done : List Command) →
-    AllByRecursion (λ (x : Entry). (pid == x.pid) ≡ false) more → Account lib failing contents pid h lines done → Account lib failing contents pid (h ++ more) lines done
+    AllByRecursion (λ (x : Entry). (pid == x.pid) ≡ false) more → Account lib failing contents pid h lines done →
+    Account lib failing contents pid (h ++ more) lines done
 
 -- So does one that is touching a place.
 abbrev pub TouchGoesOn : Type 0
 TouchGoesOn =
     (lib : Library) (failing : Failing) (contents : Held) (pid : ℕ) (at : Place) (h more : List Entry) (lines : List Line) (done : List Command) →
-    AllByRecursion (λ (x : Entry). (pid == x.pid) ≡ false) more → AccountInTouch lib failing contents pid at h lines done → AccountInTouch lib failing contents pid at (h ++ more) lines done
+    AllByRecursion (λ (x : Entry). (pid == x.pid) ≡ false) more → AccountInTouch lib failing contents pid at h lines done →
+    AccountInTouch lib failing contents pid at (h ++ more) lines done

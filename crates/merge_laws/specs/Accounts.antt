@@ -45,7 +45,8 @@ AllOwn P pid items = AllItems (Only P pid) items
 -- and pass no entry that is not there; its entries and lines, its faults left out, are the commands one for one; before
 -- its touches stand the faults of what they cover; each entry and each line of its own is what the loader answers at
 -- its place, by the pages that it touched itself.
-pub record AccountBy (Fault : Claim) (lib : Library) (failing : Failing) (contents : Held) (pid : ℕ) (h : List Entry) (lines : List Line) (done : List Command) : Type 0 where
+pub record AccountBy (Fault : Claim) (lib : Library) (failing : Failing) (contents : Held) (pid : ℕ) (h : List Entry) (lines : List Line)
+    (done : List Command) : Type 0 where
   pub fronts : FrontsFrom 0 (length h) lines
   pub commands : AreFor lib (filter (is_command_of pid) (own_items pid h lines)) done
   pub faults : AllOwn Fault pid (own_items pid h lines)

@@ -65,12 +65,14 @@ NothingTouched = (lib : Library) (failing : Failing) (pid : ℕ) → HasTouched 
 abbrev pub TouchedBehindEntry : Type 0
 TouchedBehindEntry =
     (lib : Library) (failing : Failing) (pid : ℕ) (h : List Entry) (lines : List Line) (pages : List PageOf) (x : Entry) → FrontsFrom 0 (length h) lines →
-    HasTouched lib failing pid h lines pages → HasTouched lib failing pid (h ++ x ∷ []) lines (touched_behind lib (state_after lib failing h) x.pid x.deed (λ q. pages) pid)
+    HasTouched lib failing pid h lines pages → HasTouched lib failing pid (h ++ x ∷ []) lines
+    (touched_behind lib (state_after lib failing h) x.pid x.deed (λ q. pages) pid)
 
 abbrev pub TouchedBehindLine : Type 0
 TouchedBehindLine =
     (lib : Library) (failing : Failing) (pid : ℕ) (h : List Entry) (lines : List Line) (pages : List PageOf) (l : Line) → l.front ≡ length h →
-    HasTouched lib failing pid h lines pages → HasTouched lib failing pid h (lines ++ l ∷ []) (pages_behind_line lib (state_after lib failing h) pid l.command l.reply pages)
+    HasTouched lib failing pid h lines pages → HasTouched lib failing pid h (lines ++ l ∷ [])
+    (pages_behind_line lib (state_after lib failing h) pid l.command l.reply pages)
 
 -- While others go on it touches none.
 abbrev pub TouchedGoesOn : Type 0
@@ -86,15 +88,19 @@ state_with lib failing h pages = retouched (λ q. pages) (state_after lib failin
 
 -- Refusals, answers, uses of touched pages and first touches in its own state are those in the history's, with such pages.
 pub record SameByPages (lib : Library) (failing : Failing) (contents : Held) (pid : ℕ) (h : List Entry) (lines : List Line) (pages : List PageOf) : Type 0 where
-  pub refusals : (command : Command) → refusal_of lib (own_state lib failing pid h lines) pid command ≡ refusal_of lib (state_with lib failing h pages) pid command
-  pub answers : (command : Command) → answer_of lib contents (own_state lib failing pid h lines) pid command ≡ answer_of lib contents (state_with lib failing h pages) pid command
+  pub refusals : (command : Command) → refusal_of lib (own_state lib failing pid h lines) pid command
+      ≡ refusal_of lib (state_with lib failing h pages) pid command
+  pub answers : (command : Command) → answer_of lib contents (own_state lib failing pid h lines) pid command
+      ≡ answer_of lib contents (state_with lib failing h pages) pid command
   pub uses : (deed : Deed) → uses_touched (own_state lib failing pid h lines) pid deed ≡ uses_touched (state_with lib failing h pages) pid deed
   pub firsts : (serial : ℕ) (p : PageId) (command : Command) (reply : Reply) →
-      is_first_touch lib (own_state lib failing pid h lines) pid serial p command reply ≡ is_first_touch lib (state_with lib failing h pages) pid serial p command reply
+      is_first_touch lib (own_state lib failing pid h lines) pid serial p command reply
+      ≡ is_first_touch lib (state_with lib failing h pages) pid serial p command reply
 
 abbrev pub TouchedDecides : Type 0
 TouchedDecides =
-    (lib : Library) (failing : Failing) (contents : Held) (pid : ℕ) (h : List Entry) (lines : List Line) (pages : List PageOf) → HasTouched lib failing pid h lines pages →
+    (lib : Library) (failing : Failing) (contents : Held) (pid : ℕ) (h : List Entry) (lines : List Line) (pages : List PageOf) →
+    HasTouched lib failing pid h lines pages →
     SameByPages lib failing contents pid h lines pages
 
 -- ---- faults before a touch
@@ -111,4 +117,5 @@ are_fixed lib h at (Some r) = list_all (λ n. is_fixed lib h r.serial r.«module
 abbrev pub TouchFollowsFaults : Type 0
 TouchFollowsFaults =
     (lib : Library) (failing : Failing) (pid : ℕ) (h : List Entry) (lines : List Line) (at : Place) →
-    touch_follows lib failing (own_items pid h lines) pid (commands.Touch at) replies.Fine ≡ are_fixed lib h at (residence_named lib (state_after lib failing h) pid at.«module»)
+    touch_follows lib failing (own_items pid h lines) pid (commands.Touch at) replies.Fine
+    ≡ are_fixed lib h at (residence_named lib (state_after lib failing h) pid at.«module»)

@@ -39,8 +39,10 @@ ViewRefuses =
 
 abbrev pub ViewReplies : Type 0
 ViewReplies =
-    (lib : Library) (failing : Failing) (contents : Held) (v : Holding) (h : List Entry) (lines : List Line) (command : Command) (reply : Reply) → Legal lib failing contents h →
-    StandsFor lib failing contents v h → HasTouched lib failing v.pid h lines (mapped_pages v) → view_refusal lib v command ≡ None → view_reply lib v command ≡ Some reply →
+    (lib : Library) (failing : Failing) (contents : Held) (v : Holding) (h : List Entry) (lines : List Line) (command : Command) (reply : Reply) →
+    Legal lib failing contents h →
+    StandsFor lib failing contents v h → HasTouched lib failing v.pid h lines (mapped_pages v) → view_refusal lib v command ≡ None →
+    view_reply lib v command ≡ Some reply →
     answer_of lib contents (own_state lib failing v.pid h lines) v.pid command ≡ steady reply
 
 -- ---- a touch
@@ -69,8 +71,10 @@ TouchFixed =
 -- The fault of a page of it is one for it, where the process had not touched the page.
 abbrev pub FaultForTouch : Type 0
 FaultForTouch =
-    (lib : Library) (failing : Failing) (contents : Held) (v : Holding) (h : List Entry) (lines : List Line) (pages : List PageOf) (at : Place) (m : ℕ) (p : PageId) →
-    StandsFor lib failing contents v h → HasTouched lib failing v.pid h lines pages → at.object ≡ p.object → is_among (pages_over at.offset at.len) p.page ≡ true →
+    (lib : Library) (failing : Failing) (contents : Held) (v : Holding) (h : List Entry) (lines : List Line) (pages : List PageOf) (at : Place) (m : ℕ)
+    (p : PageId) →
+    StandsFor lib failing contents v h → HasTouched lib failing v.pid h lines pages → at.object ≡ p.object →
+    is_among (pages_over at.offset at.len) p.page ≡ true →
     has_page pages (serial_seen lib v at) p ≡ false → IsFaultFor lib (own_state lib failing v.pid h lines) v.pid at (deeds.Fault (serial_seen lib v at) m p)
 
 -- Behind its line the process has touched what the view has mapped: what it had touched before, and pages of the place
@@ -79,7 +83,8 @@ abbrev pub TouchMapped : Type 0
 TouchMapped =
     (lib : Library) (failing : Failing) (contents : Held) (v : Holding) (h : List Entry) (lines : List Line) (pages more : List PageOf) (at : Place) →
     StandsFor lib failing contents v h → HasTouched lib failing v.pid h lines pages → mapped_pages v ≡ pages ++ more →
-    AllByRecursion (λ (t : PageOf). has_page (pages_at (serial_seen lib v at) at) t.serial t.page ≡ true) more → has_pages (mapped_pages v) (serial_seen lib v at) at ≡ true →
+    AllByRecursion (λ (t : PageOf). has_page (pages_at (serial_seen lib v at) at) t.serial t.page ≡ true) more →
+    has_pages (mapped_pages v) (serial_seen lib v at) at ≡ true →
     HasTouched lib failing v.pid h (lines ++ touch_line (length h) at ∷ []) (mapped_pages v)
 
 -- ---- a write of its own
@@ -93,6 +98,7 @@ WrittenMapped = (v : Holding) (serial : ℕ) (w : Written) → mapped_pages (rec
 -- Behind it the process has touched what the view keeps mapped.
 abbrev pub LeftMapped : Type 0
 LeftMapped =
-    (lib : Library) (failing : Failing) (v : Holding) (h : List Entry) (lines : List Line) (x : Entry) (after : Process) → FrontsFrom 0 (length h) lines → x.pid ≡ v.pid →
+    (lib : Library) (failing : Failing) (v : Holding) (h : List Entry) (lines : List Line) (x : Entry) (after : Process) → FrontsFrom 0 (length h) lines →
+    x.pid ≡ v.pid →
     GivesUpTo x.deed ((state_after lib failing h).processes v.pid) after → HasTouched lib failing v.pid h lines (mapped_pages v) →
     HasTouched lib failing v.pid (h ++ x ∷ []) lines (mapped_pages (record v { mapped = mapped_kept lib (state_after lib failing h) after v.mapped }))

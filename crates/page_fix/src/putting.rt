@@ -21,7 +21,8 @@ fn put_at(page: &mut [u8], at: usize, bytes: &[u8])
 /// the page is cut.
 pub fn put(page: &mut [u8], fix: &Fix, bytes: &[u8])
     requires { length page.old ≡ 4096 }
-    ensures { (i : ℕ) → i < 4096 → slice_index page.new i ≡ unwrap_or (patched (record { offset = fix.now.offset; bytes = bytes.now }) i) (slice_index page.old i) }
+    ensures { (i : ℕ) → i < 4096 → slice_index page.new i
+        ≡ unwrap_or (patched (record { offset = fix.now.offset; bytes = bytes.now }) i) (slice_index page.old i) }
 {
     let away = fix.offset.unsigned_abs() as usize;
     if fix.offset < 0 {

@@ -33,7 +33,8 @@ MOST_TICKETS = 4294901760
 
 -- The refusal of a call that may take a turn: the view's, but for this one, which comes right behind `Ended`.
 abbrev pub call_refusal : Standing → Command → Option Refusal
-call_refusal p command = when p.view.holding.ended Ended orelse when (nat_le MOST_TICKETS p.known.drawn) Worn orelse view_refusal p.view.library p.view.holding command
+call_refusal p command =
+    when p.view.holding.ended Ended orelse when (nat_le MOST_TICKETS p.known.drawn) Worn orelse view_refusal p.view.library p.view.holding command
 
 -- ---- what stays, and what was seen meanwhile
 
@@ -77,7 +78,8 @@ pub record Made (p q : Standing) (command : Command) (outcome : Outcome) : Type 
   pub library : q.view.library ≡ p.view.library
   pub mapped :
       mapped_pages q.view.holding ≡
-      touched_behind p.view.library (state_after p.view.library (front_of p).failing (p.known.seen ++ more)) p.known.pid entry.deed (λ _. mapped_pages p.view.holding) p.known.pid
+      touched_behind p.view.library (state_after p.view.library (front_of p).failing (p.known.seen ++ more)) p.known.pid entry.deed
+      (λ _. mapped_pages p.view.holding) p.known.pid
 
 -- ---- calls with an entry
 
@@ -102,8 +104,10 @@ IsReadLast q bytes = (before : List Entry) (x : Entry) → q.known.mine ≡ befo
 pub record IsReplied (p : Standing) (command : Command) (reply : Reply) : Type 0 where
   pub accepted : view_refusal p.view.library p.view.holding command ≡ None
   pub replied : view_reply p.view.library p.view.holding command ≡ Some reply
-  pub step : answer_of p.view.library (fixed_bytes p.view.library) (state_for p.view.library (front_of p).failing p.view.holding p.known.seen) p.known.pid command ≡ steady reply
+  pub step : answer_of p.view.library (fixed_bytes p.view.library)
+      (state_for p.view.library (front_of p).failing p.view.holding p.known.seen) p.known.pid command ≡ steady reply
 
 pub record IsRefusedAtFront (p : Standing) (command : Command) (refusal : Refusal) : Type 0 where
   pub refused : view_refusal p.view.library p.view.holding command ≡ Some refusal
-  pub step : answer_of p.view.library (fixed_bytes p.view.library) (state_for p.view.library (front_of p).failing p.view.holding p.known.seen) p.known.pid command ≡ steady (Refused refusal)
+  pub step : answer_of p.view.library (fixed_bytes p.view.library)
+      (state_for p.view.library (front_of p).failing p.view.holding p.known.seen) p.known.pid command ≡ steady (Refused refusal)

@@ -34,7 +34,8 @@ pub record IsTurn (p q : Standing) (own : List Entry) : Type 0 where
 
 -- What a claim in a turn comes to: the right to fix the page, whose fault has its entry; or another process has the right.
 abbrev pub IsClaim : Standing → Standing → ResidenceFor → PageId → Claim → Type 0
-IsClaim p q r t (claims.Right right) = (right ≡ record { serial = r.serial; page = t }) × IsTurn p q (fault_of p.view r t ∷ []) × (has_fault q.known.seen r.serial t ≡ true)
+IsClaim p q r t (claims.Right right) =
+    (right ≡ record { serial = r.serial; page = t }) × IsTurn p q (fault_of p.view r t ∷ []) × (has_fault q.known.seen r.serial t ≡ true)
 IsClaim p q r t claims.Taken = IsTurn p q [] × (has_fault q.known.seen r.serial t ≡ true)
 
 -- a page that was not mapped: it is now, or there was no memory

@@ -15,7 +15,19 @@ use Rattle.proc_core.specs.Calls.{AreOthers}
 abbrev pub IsNew : TableId → About → ℕ → ℕ → Standing → Type 0
 IsNew loader about n k p =
     (p.lock ≡ loader)
-    × (p.known ≡ record { pid = k + 1; subject = Some about; seen = []; mine = []; drawn = 0; ticket = None; turn = false; live = live_of k n; ended = []; before = []; other = [] })
+    × (p.known ≡ record {
+      pid = k + 1;
+      subject = Some about;
+      seen = [];
+      mine = [];
+      drawn = 0;
+      ticket = None;
+      turn = false;
+      live = live_of k n;
+      ended = [];
+      before = [];
+      other = [];
+    })
     × (p.view ≡ new_view about.library (k + 1))
 
 pub record AreMade (loader : TableId) (about : About) (n : ℕ) (ps : List Standing) : Type 0 where
@@ -41,6 +53,7 @@ pub record GoesOn (h : List Entry) (p : Standing) : Type 0 where
 
 -- The history of a loader of these processes: legal, of nobody else, and of each what it has seen and made.
 pub record IsHistoryOf (ps : List Standing) (h : List Entry) : Type 0 where
-  pub legal : (d : Standing) → IsLegal (record { library = (about_of (slice_index_or ps 0 d)).library; failing = (about_of (slice_index_or ps 0 d)).failing; history = h })
+  pub legal : (d : Standing) → IsLegal (record
+      { library = (about_of (slice_index_or ps 0 d)).library; failing = (about_of (slice_index_or ps 0 d)).failing; history = h })
   pub each : (k : ℕ) (d : Standing) → k < length ps → GoesOn h (slice_index_or ps k d)
   pub nobody : AllByRecursion (λ (x : Entry). (1 ≤ x.pid) × (x.pid ≤ length ps)) h

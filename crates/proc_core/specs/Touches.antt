@@ -54,7 +54,8 @@ most_turns v at = count_by (needs_fault v.library (meant v.library at.«module»
 -- the fault of a page of the place that was not mapped
 abbrev pub IsNewFault : ProcessView → Place → Deed → Type 0
 IsNewFault v at (deeds.Fault serial m p) =
-    (serial ≡ serial_seen v.library v.holding at) × (m ≡ meant v.library at.«module») × (at.object ≡ p.object) × (is_among (pages_over at.offset at.len) p.page ≡ true)
+    (serial ≡ serial_seen v.library v.holding at) × (m ≡ meant v.library at.«module») × (at.object ≡ p.object)
+    × (is_among (pages_over at.offset at.len) p.page ≡ true)
     × (has_page (mapped_pages v.holding) serial p ≡ false)
 IsNewFault v at deed = ⊥
 
@@ -99,7 +100,8 @@ page_in r p = record { serial = r.serial; page = p }
 -- an entry of another process, or the fault of a page that was not mapped
 abbrev pub IsSeenForPage : ProcessView → ℕ → PageOf → Entry → Type 0
 IsSeenForPage v m t x =
-    ((v.holding.pid == x.pid) ≡ false) ⊎ ((x.pid ≡ v.holding.pid) × (x.deed ≡ deeds.Fault t.serial m t.page) × (has_page (mapped_pages v.holding) t.serial t.page ≡ false))
+    ((v.holding.pid == x.pid) ≡ false) ⊎ ((x.pid ≡ v.holding.pid) × (x.deed ≡ deeds.Fault t.serial m t.page)
+    × (has_page (mapped_pages v.holding) t.serial t.page ≡ false))
 
 -- Of a page t of a residence of a module these pages were newly mapped, the page itself or none, and nothing else was.
 pub record IsPage (p q : Standing) (t : PageOf) (m : ℕ) (news : List PageOf) (before after : ℕ) : Type 0 where
@@ -131,4 +133,5 @@ pub record IsPageOf (v : ProcessView) (k : ℕ) (p : PageId) : Type 0 where
   pub object : (d : ResidenceFor) → IsNumberOf p.object (length (module_of v.library (slice_index_or v.residences k d).«module»).objects)
   pub page : (d : ResidenceFor) → p.page < pages_of (object_of (module_of v.library (slice_index_or v.residences k d).«module») p.object)
   pub small : p.page < 2 ^ 20
-  pub common : (d : ResidenceFor) → is_fixable (module_of v.library (slice_index_or v.residences k d).«module») p ≡ needs_fault v.library (slice_index_or v.residences k d).«module» (page_in (slice_index_or v.residences k d) p)
+  pub common : (d : ResidenceFor) → is_fixable (module_of v.library (slice_index_or v.residences k d).«module») p
+      ≡ needs_fault v.library (slice_index_or v.residences k d).«module» (page_in (slice_index_or v.residences k d) p)

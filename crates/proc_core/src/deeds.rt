@@ -26,7 +26,8 @@ const MOST_TICKETS: u64 = 4_294_901_760;
 impl Proc {
     // The first refusal of a call that may take a turn, where the view of a process that has not ended refuses so.
     pub(crate) fn first_refusal(&self, seen: Option<Refusal>) -> Option<Refusal>
-        ensures { (command : Command) → (self.now.view.holding.ended ≡ false → seen ≡ view_refusal self.now.view.library self.now.view.holding command) → result ≡ call_refusal self.now command }
+        ensures { (command : Command) → (self.now.view.holding.ended ≡ false → seen ≡ view_refusal self.now.view.library self.now.view.holding command) →
+            result ≡ call_refusal self.now command }
     {
         if self.view.is_ended() {
             return Some(Refusal::Ended);

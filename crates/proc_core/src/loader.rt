@@ -54,7 +54,8 @@ impl Loader {
     ) -> Result<Vec<Proc>, NoMemory>
         requires few { length passes.items ≤ 16 }
         requires dealt { (about : About) × (about.library ≡ arc_value lib.now) × AllDealt self.now (Some about) (length passes.items) passes.items }
-        ensures { IfOk result (λ procs. (about : About) → about.library ≡ arc_value lib.now → AllDealt self.now (Some about) (length passes.items) passes.items →
+        ensures { IfOk result (λ procs. (about : About) → about.library ≡ arc_value lib.now →
+            AllDealt self.now (Some about) (length passes.items) passes.items →
             AreMade self.now about (length passes.items) procs.items) }
     {
         histories_grow();

@@ -62,7 +62,8 @@ impl Proc {
     ) -> Result<(), NoMemory>
         requires page { IsPageOf self.old.view at.stay at.page }
         requires apart { (d : ResidenceFor) → is_there self.old.view (stay_at self.old.view at.stay d) at.page ≡ false }
-        requires fault { (d : ResidenceFor) → needs_fault self.old.view.library (stay_at self.old.view at.stay d).«module» (page_in (stay_at self.old.view at.stay d) at.page) ≡ false }
+        requires fault { (d : ResidenceFor) → needs_fault self.old.view.library (stay_at self.old.view at.stay d).«module»
+            (page_in (stay_at self.old.view at.stay d) at.page) ≡ false }
         ensures loader { self.new.lock ≡ self.old.lock }
         ensures page { (d : ResidenceFor) → IsOnePage self.old self.new (stay_at self.old.view at.stay d) at.page steps.old steps.new result }
     {
@@ -85,9 +86,11 @@ impl Proc {
         requires few { self.old.known.drawn < 2 ^ 32 }
         requires page { IsPageOf self.old.view at.stay at.page }
         requires apart { (d : ResidenceFor) → is_there self.old.view (stay_at self.old.view at.stay d) at.page ≡ false }
-        requires fault { (d : ResidenceFor) → needs_fault self.old.view.library (stay_at self.old.view at.stay d).«module» (page_in (stay_at self.old.view at.stay d) at.page) ≡ true }
+        requires fault { (d : ResidenceFor) → needs_fault self.old.view.library (stay_at self.old.view at.stay d).«module»
+            (page_in (stay_at self.old.view at.stay d) at.page) ≡ true }
         ensures loader { IsOf loader.now self.new }
-        ensures claim { (d : ResidenceFor) → MatchResult result (IsClaim self.old self.new (stay_at self.old.view at.stay d) at.page) (λ _. Waited self.old self.new) }
+        ensures claim { (d : ResidenceFor) → MatchResult result (IsClaim self.old self.new (stay_at self.old.view at.stay d) at.page)
+            (λ _. Waited self.old self.new) }
     {
         histories_grow();
         let mut board = take_turn(rt, loader, &mut self.pass, &mut self.view);
@@ -110,7 +113,8 @@ impl Proc {
         requires few { self.old.known.drawn < 2 ^ 32 }
         requires page { IsPageOf self.old.view at.stay at.page }
         requires apart { (d : ResidenceFor) → is_there self.old.view (stay_at self.old.view at.stay d) at.page ≡ false }
-        requires fault { (d : ResidenceFor) → needs_fault self.old.view.library (stay_at self.old.view at.stay d).«module» (page_in (stay_at self.old.view at.stay d) at.page) ≡ true }
+        requires fault { (d : ResidenceFor) → needs_fault self.old.view.library (stay_at self.old.view at.stay d).«module»
+            (page_in (stay_at self.old.view at.stay d) at.page) ≡ true }
         ensures loader { IsOf loader.now self.new }
         ensures page { (d : ResidenceFor) → IsOnePage self.old self.new (stay_at self.old.view at.stay d) at.page steps.old steps.new result }
     {
@@ -138,7 +142,8 @@ impl Proc {
         requires few { self.old.known.drawn < 2 ^ 32 }
         requires page { IsPageOf self.old.view at.stay at.page }
         ensures loader { IsOf loader.now self.new }
-        ensures page { (d : ResidenceFor) → IsPageAnswered self.old self.new (page_in (stay_at self.old.view at.stay d) at.page) (stay_at self.old.view at.stay d).«module» steps.old steps.new result }
+        ensures page { (d : ResidenceFor) → IsPageAnswered self.old self.new (page_in (stay_at self.old.view at.stay d) at.page)
+            (stay_at self.old.view at.stay d).«module» steps.old steps.new result }
         ensures turns { (d : ResidenceFor) → HasFewTurns self.old self.new (stay_at self.old.view at.stay d) at.page }
     {
         if self.view.is_mapped(at.stay, at.page) {

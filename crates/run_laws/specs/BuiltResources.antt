@@ -7,4 +7,5 @@ use Rattle.run_laws.specs.Bridge.{IsBuiltWell}
 
 abbrev pub BuiltHasNoResources : Type 0
 BuiltHasNoResources =
-    (sources : List Source) (m : ℕ) (l : Link) → slice_get sources m ≡ Some (built l) → IsBuiltWell l → (ty id : ℕ) → resource_of (library_of sources) m ty id ≡ None
+    (sources : List Source) (m : ℕ) (l : Link) → slice_get sources m ≡ Some (built l) → IsBuiltWell l → (ty id : ℕ) →
+    resource_of (library_of sources) m ty id ≡ None

@@ -17,12 +17,14 @@ use Rattle.script_laws.specs.Progress.{Progress, line_at, Enters, Touches}
 
 -- At first there is nothing.
 abbrev pub ProgressBegins : Type 0
-ProgressBegins = (lib : Library) (failing : Failing) (contents : Held) (pid : ℕ) → is_among pids pid ≡ true → Progress lib failing contents (new_holding lib pid) [] [] []
+ProgressBegins =
+    (lib : Library) (failing : Failing) (contents : Held) (pid : ℕ) → is_among pids pid ≡ true → Progress lib failing contents (new_holding lib pid) [] [] []
 
 -- A command that the view refuses is a line.
 abbrev pub RefusedGoesOn : Type 0
 RefusedGoesOn =
-    (lib : Library) (failing : Failing) (contents : Held) (v : Holding) (h : List Entry) (lines : List Line) (done : List Command) (command : Command) (refusal : Refusal) →
+    (lib : Library) (failing : Failing) (contents : Held) (v : Holding) (h : List Entry) (lines : List Line) (done : List Command) (command : Command)
+    (refusal : Refusal) →
     view_refusal lib v command ≡ Some refusal → Progress lib failing contents v h lines done →
     Progress lib failing contents v h (lines ++ line_at h command (replies.Refused refusal) ∷ []) (done ++ command ∷ [])
 
@@ -43,7 +45,8 @@ IsReading commands.Exit = ⊥
 -- One that the view answers is a line.
 abbrev pub ReadGoesOn : Type 0
 ReadGoesOn =
-    (lib : Library) (failing : Failing) (contents : Held) (v : Holding) (h : List Entry) (lines : List Line) (done : List Command) (command : Command) (reply : Reply) →
+    (lib : Library) (failing : Failing) (contents : Held) (v : Holding) (h : List Entry) (lines : List Line) (done : List Command) (command : Command)
+    (reply : Reply) →
     IsReading command → view_refusal lib v command ≡ None → view_reply lib v command ≡ Some reply → Progress lib failing contents v h lines done →
     Progress lib failing contents v h (lines ++ line_at h command reply ∷ []) (done ++ command ∷ [])
 
@@ -51,7 +54,8 @@ ReadGoesOn =
 abbrev pub EntryGoesOn : Type 0
 EntryGoesOn =
     (lib : Library) (failing : Failing) (contents : Held) (v w : Holding) (h k : List Entry) (lines : List Line) (done : List Command) (command : Command) →
-    Legal lib failing contents k → StandsFor lib failing contents w k → Enters lib failing contents v w h k command → Progress lib failing contents v h lines done →
+    Legal lib failing contents k → StandsFor lib failing contents w k → Enters lib failing contents v w h k command →
+    Progress lib failing contents v h lines done →
     Progress lib failing contents w k lines (done ++ command ∷ [])
 
 -- A touch that is accepted is a line.

@@ -16,7 +16,8 @@ use Rattle.script_laws.specs.Progress.{Progress, AreOthers}
 
 -- The process of a number has carried out these commands with these lines, over what it was shown of the history; what
 -- follows is of others.
-pub record HasCarriedOut (lib : Library) (failing : Failing) (contents : Held) (pid : ℕ) (h : List Entry) (lines : List Line) (commands : List Command) : Type 0 where
+pub record HasCarriedOut (lib : Library) (failing : Failing) (contents : Held) (pid : ℕ) (h : List Entry) (lines : List Line)
+    (commands : List Command) : Type 0 where
   pub view : Holding
   pub number : view.pid ≡ pid
   pub shown : List Entry

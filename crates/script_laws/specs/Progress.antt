@@ -25,7 +25,8 @@ use Rattle.merge_laws.specs.ViewAccounts.{serial_seen, has_pages}
 
 -- The process of this view was shown this history, has carried out these commands, and answered these lines: of that it has
 -- an account, and what it touched is what the view has mapped.
-pub record Progress (lib : Library) (failing : Failing) (contents : Held) (v : Holding) (h : List Entry) (lines : List Line) (done : List Command) : Type 0 where
+pub record Progress (lib : Library) (failing : Failing) (contents : Held) (v : Holding) (h : List Entry) (lines : List Line)
+    (done : List Command) : Type 0 where
   pub process : is_among pids v.pid ≡ true
   pub legal : Legal lib failing contents h
   pub stands : StandsFor lib failing contents v h

@@ -39,9 +39,11 @@ StatesAreTheHistorys =
 abbrev pub HeldMergesAlike : Type 0
 HeldMergesAlike =
     (lib : Library) (failing : Failing) (a b : Held) (h : List Entry) (s : List ScriptLines) (scripts : List Script) → length scripts ≤ 16 →
-    ((before behind : List Entry) → h ≡ before ++ behind → AgreeAt lib a b (state_after lib failing before)) → Merge lib failing a h s scripts → Merge lib failing b h s scripts
+    ((before behind : List Entry) → h ≡ before ++ behind → AgreeAt lib a b (state_after lib failing before)) → Merge lib failing a h s scripts →
+    Merge lib failing b h s scripts
 
 -- Of touched pages an entry uses which pages its process touched, and nothing else.
 abbrev pub UsesByPages : Type 0
 UsesByPages =
-    (e : Eager) (a b : ℕ → List PageOf) (pid : ℕ) (deed : Deed) → SamePages (a pid) (b pid) → uses_touched (retouched a e) pid deed ≡ uses_touched (retouched b e) pid deed
+    (e : Eager) (a b : ℕ → List PageOf) (pid : ℕ) (deed : Deed) → SamePages (a pid) (b pid) →
+    uses_touched (retouched a e) pid deed ≡ uses_touched (retouched b e) pid deed

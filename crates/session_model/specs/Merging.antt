@@ -123,7 +123,8 @@ AllCommands lib items scripts = AllByRecursion (CommandsOf lib items) (enumerate
 -- an accepted touch of a process covers a page of a residence, which the process had not touched
 abbrev pub is_first_touch : Library → Eager → ℕ → ℕ → PageId → Command → Reply → Bool
 is_first_touch lib e pid serial p (commands.Touch at) replies.Fine =
-    (serial_named lib e pid at == serial) && (at.object == p.object) && is_among (pages_over at.offset at.len) p.page && not (is_touched (e.processes pid) serial p)
+    (serial_named lib e pid at == serial) && (at.object == p.object) && is_among (pages_over at.offset at.len) p.page
+    && not (is_touched (e.processes pid) serial p)
 is_first_touch lib e pid serial p command reply = false
 
 abbrev pub touches : Library → Eager → ℕ → PageId → Item → Bool

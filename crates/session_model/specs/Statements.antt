@@ -90,7 +90,8 @@ has_bytes w = is_word w (codes "write") || is_word w (codes "debug")
 -- how many words a statement has, from the least to the most; None where the first word is none
 abbrev pub word_count : List ℕ → Option (ℕ × Option ℕ)
 word_count w =
-    if is_word w (codes "take") || is_word w (codes "process") || is_word w (codes "start") || is_word w (codes "load") || is_word w (codes "free") then Some (2, Some 2)
+    if is_word w (codes "take") || is_word w (codes "process") || is_word w (codes "start") || is_word w (codes "load") || is_word w (codes "free")
+    then Some (2, Some 2)
     else if is_word w (codes "exit") then Some (1, Some 1)
     else if is_word w (codes "query") || is_word w (codes "failing") then Some (3, Some 3)
     else if is_word w (codes "getres") then Some (4, Some 4)

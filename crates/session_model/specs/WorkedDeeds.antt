@@ -120,7 +120,8 @@ lines_of_break =
           line_at 3 (commands.Touch (place (codes "D") 1 0 8)) replies.Fine ∷ line_at 4 (commands.Peek (place (codes "D") 1 0 8)) (replies.Bytes broken)
           ∷ line_at 4 (commands.GetRes (codes "D") 1 2) (replies.Spot (record { object = 1; offset = 0; len = 3 }))
           ∷ line_at 4 (commands.GetRes (codes "D") 1 3) (replies.Refused why.NoResource)
-          ∷ line_at 6 (commands.Touch (place (codes "D") 1 0 8)) replies.Fine ∷ line_at 6 (commands.Peek (place (codes "D") 1 0 8)) (replies.Bytes as_linked) ∷ [];
+          ∷ line_at 6 (commands.Touch (place (codes "D") 1 0 8)) replies.Fine
+          ∷ line_at 6 (commands.Peek (place (codes "D") 1 0 8)) (replies.Bytes as_linked) ∷ [];
     }
     ∷ record {
       pid = 2;

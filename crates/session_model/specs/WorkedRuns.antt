@@ -94,16 +94,19 @@ abbrev line_is : Command → Reply → List ℕ → Type 0
 line_is command reply text = line_text (line_at 5 command reply) ≡ ln text
 
 pub record WorkedLines : Type 0 where
-  pub start : entry_is (Enter ways.Start 0 (fresh 1 0 [] ∷ []) (call Main 1 0 0x10000 ∷ [])) (ln (codes "12 P7 start A") ++ ln (codes "  new 1 A") ++ ln (codes "  call main 1 A 00010000"))
+  pub start : entry_is (Enter ways.Start 0 (fresh 1 0 [] ∷ []) (call Main 1 0 0x10000 ∷ []))
+      (ln (codes "12 P7 start A") ++ ln (codes "  new 1 A") ++ ln (codes "  call main 1 A 00010000"))
   pub load : entry_is (Enter ways.Load 1 (fresh 2 1 (0x1ABC0000 ∷ 0x10000000 ∷ []) ∷ []) (call Init 2 1 0x1ABC0000 ∷ []))
       (ln (codes "12 P7 load 50%25%20off") ++ ln (codes "  new 2 50%25%20off 1ABC0000 10000000") ++ ln (codes "  call init 2 50%25%20off 1ABC0000"))
   pub full : entry_is (Full ways.Load 0 1 3 268435457) (ln (codes "12 P7 load A full 50%25%20off 3 268435457"))
-  pub free : entry_is (Free 0 (call Term 1 0 0x10000 ∷ []) (gone 1 0 ∷ [])) (ln (codes "12 P7 free A") ++ ln (codes "  call term 1 A 00010000") ++ ln (codes "  gone 1 A"))
+  pub free : entry_is (Free 0 (call Term 1 0 0x10000 ∷ []) (gone 1 0 ∷ []))
+      (ln (codes "12 P7 free A") ++ ln (codes "  call term 1 A 00010000") ++ ln (codes "  gone 1 A"))
   pub exit : entry_is (Exit [] []) (ln (codes "12 P7 exit"))
   pub fault : entry_is (Fault 1 0 (page 2 30)) (ln (codes "12 P7 fault 1 A 2 30"))
   pub write : entry_is (Write 1 0 2 16 (0xAB ∷ 5 ∷ [])) (ln (codes "12 P7 write 1 A 2 16 = AB 05"))
   pub shared : entry_is (Shared 1 0 2 16 (0xAB ∷ 5 ∷ [])) (ln (codes "12 P7 shared 1 A 2 16 = AB 05"))
   pub touch : line_is (commands.Touch (place (codes "a") 1 0 8)) replies.Fine (codes "  at 5 touch a 1 0 8 ok")
   pub query : line_is (commands.Query (codes "A") (Ordinal 7)) (replies.Address 0x1000ABCD) (codes "  at 5 query A @7 = 1000ABCD")
-  pub refused : line_is (commands.Write (place (codes "A") 1 0 2) (0xAB ∷ 5 ∷ [])) (replies.Refused (why.NotTouched 0)) (codes "  at 5 write A 1 0 AB05 refused NotTouched 0")
+  pub refused : line_is (commands.Write (place (codes "A") 1 0 2) (0xAB ∷ 5 ∷ [])) (replies.Refused (why.NotTouched 0))
+      (codes "  at 5 write A 1 0 AB05 refused NotTouched 0")
   pub ended : line_is commands.Exit (replies.Refused why.Ended) (codes "  at 5 exit refused Ended")

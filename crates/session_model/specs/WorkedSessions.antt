@@ -54,7 +54,8 @@ pub record WorkedSessions : Type 0 where
         record {
           pid = 2;
           commands =
-              Start (codes "P") ∷ Shared (place_of (codes "M") 2 16 4096) ∷ Write (place_of (codes "M") 1 0 2) (0xAB ∷ 0xCD ∷ []) ∷ Query (codes "M") (Ordinal 7)
+              Start (codes "P") ∷ Shared (place_of (codes "M") 2 16 4096) ∷ Write (place_of (codes "M") 1 0 2) (0xAB ∷ 0xCD ∷ [])
+              ∷ Query (codes "M") (Ordinal 7)
               ∷ Debug (place_of (codes "M") 1 0 1) (0xCC ∷ []) ∷ GetRes (codes "M") 65535 0 ∷ [];
         }
         ∷ record { pid = 16; commands = Query (codes "M") (Named (codes "F")) ∷ [] } ∷ [];

@@ -56,8 +56,10 @@ pub record WorkedNotAsked : Type 0 where
   pub debug_range : wrong_in_D loaded 1 (Debug 1 0 1 7 (1 ∷ 2 ∷ []))
   pub debug_reach : wrong_in_D loaded 2 (Debug 1 0 1 0 (1 ∷ []))
   -- own data and shared data are not written to as code is
-  pub debug_private : Legal store [] zeros (entry_of 1 (Enter ways.Load 0 (fresh 1 0 (0x10000000 ∷ 0x10010000 ∷ 0x10020000 ∷ []) ∷ []) []) ∷ entry_of 1 (Debug 1 0 3 0 (1 ∷ [])) ∷ []) → ⊥
-  pub debug_shared : Legal store [] zeros (entry_of 1 (Enter ways.Load 0 (fresh 1 0 (0x10000000 ∷ 0x10010000 ∷ 0x10020000 ∷ []) ∷ []) []) ∷ entry_of 1 (Debug 1 0 2 0 (1 ∷ [])) ∷ []) → ⊥
+  pub debug_private : Legal store [] zeros (entry_of 1 (Enter ways.Load 0 (fresh 1 0 (0x10000000 ∷ 0x10010000 ∷ 0x10020000 ∷ []) ∷ []) [])
+      ∷ entry_of 1 (Debug 1 0 3 0 (1 ∷ [])) ∷ []) → ⊥
+  pub debug_shared : Legal store [] zeros (entry_of 1 (Enter ways.Load 0 (fresh 1 0 (0x10000000 ∷ 0x10010000 ∷ 0x10020000 ∷ []) ∷ []) [])
+      ∷ entry_of 1 (Debug 1 0 2 0 (1 ∷ [])) ∷ []) → ⊥
 
 -- ---- what is not what is done there
 
