@@ -6,6 +6,8 @@ pub mod Written
 pub mod Fits
 pub mod Grouping
 pub mod Others
+pub mod Linked
+pub mod Counts
 pub mod Beginning
 pub mod Sorting
 pub mod Pages

@@ -9,14 +9,12 @@ use Rattle.lx_types.specs.declared.fix.Source.TheVariants.{Byte}
 use Rattle.lx_types.specs.declared.fix.FixTarget.TheVariants.{Internal}
 use Rattle.lx_model.specs.RecordSpelling.{record_spelling}
 use Rattle.lx_model.specs.JoinedRecords.{by_offset, listed_behind, records_for}
-use Rattle.lx_fixrec.specs.declared.lists.Shared.{Shared}
-use Rattle.lx_fixrec.specs.Lists.{offsets_with}
 use Rattle.lx_fixrec.specs.Writable.{IsWritable}
 use Rattle.lx_fixrec.specs.Writes.{spelled, begun_by}
-use Rattle.lx_fixrec.proofs.Grouping.{spelled_more, offsets_append}
+use Rattle.lx_fixrec.proofs.Grouping.{spelled_more}
 use Rattle.lx_fixrec.proofs.Sorting.{each_ordered, to_each}
 
-no_fix : Fix
+abbrev pub no_fix : Fix
 no_fix = record { source = Byte; alias = false; offset = pos 0; target = Internal 0 0; additive = 0 }
 
 -- the records of the sources that are left are the one that the first of them begins, and those of the others
@@ -37,10 +35,6 @@ source_more s i out pushed whole lt before add =
     ∙ append_assoc out (begun_by (take i s) (drop i s)) rest
     ∙ ap (λ (bytes : List ℕ). out ++ bytes) (sym (one_source s i lt))
     ∙ before
-
-pub listed_more : (s : List Fix) (i : ℕ) (d : Fix) (k : Shared) (old new : List _) → i < length s → old ≡ offsets_with k (take i s) → new ≡ old ++ offsets_with k (get_or s i d ∷ []) → new ≡ offsets_with k (take (i + 1) s)
-listed_more s i d k old new lt before add =
-    add ∙ ap (λ os. os ++ offsets_with k (get_or s i d ∷ [])) before ∙ sym (offsets_append k (take i s) (get_or s i d ∷ [])) ∙ ap (offsets_with k) (sym (take_more s i d lt))
 
 pub ordered_writable : (fs s : List Fix) → s ≡ by_offset fs → All IsWritable fs → All IsWritable s
 ordered_writable fs s is all = subst (All IsWritable) (sym is) (All-from_recursion IsWritable (by_offset fs) (each_ordered IsWritable fs (to_each IsWritable fs all)))

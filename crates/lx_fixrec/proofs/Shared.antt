@@ -1,14 +1,12 @@
 -- What the sources of a list share is compared by its fields.
-use Rattle.std.proofs.Common.{◌≡◌, ℕ, Bool, true, false, eqb, ◌&&◌, List, [], ◌∷◌, ◌++◌, ℤ, refl, sym, subst, ap, ◌∙◌, arith}
-use Rattle.std.specs.Prelude.{Result, Ok, Err, IfOk}
+use Rattle.std.proofs.Common.{◌≡◌, ℕ, Bool, true, false, eqb, ◌&&◌, refl, sym, subst, ap, arith}
 use Rattle.std.proofs.lemmas.Bool.Decides.{nat_tests}
-use Rattle.lx_types.specs.declared.fix.Fix.{Fix}
 use Rattle.lx_types.specs.declared.fix.FixTarget.{FixTarget}
 use Rattle.lx_types.specs.declared.fix.FixTarget.TheVariants.{Internal, Ordinal, Named, Own}
 use Rattle.lx_model.specs.Module.{same_target}
-use Rattle.lx_model.specs.JoinedRecords.{crosses, same_alias}
+use Rattle.lx_model.specs.JoinedRecords.{same_alias}
 use Rattle.lx_fixrec.specs.declared.lists.Shared.{Shared}
-use Rattle.lx_fixrec.specs.Lists.{shared_of, same_shared, offsets_with}
+use Rattle.lx_fixrec.specs.Lists.{same_shared}
 
 both_equal : (a b c d : ℕ) → (eqb a b && eqb c d) ≡ true → (a ≡ b) × (c ≡ d)
 both_equal a b c d e = (grind (arith, nat_tests), grind (arith, nat_tests))
@@ -80,35 +78,3 @@ shared_turned a b false e = by (same_shared b a) refl
     by : (t : Bool) → same_shared b a ≡ t → same_shared b a ≡ false
     by false is = is
     by true is = subst (λ (x : Shared). same_shared x a ≡ false) (sym (shared_is b a is)) (absurd (let h : same_shared a b ≡ true = subst (λ (x : Shared). same_shared a x ≡ true) (sym (shared_is b a is)) (shared_self a) in cc))
-
-append_none : (xs : List ℤ) → xs ++ [] ≡ xs
-append_none [] = refl
-append_none (x ∷ xs) = ap (λ (ys : List ℤ). x ∷ ys) (append_none xs)
-
--- a source that crosses an end of its page is in no list
-pub none_more : (q : Shared) (f : Fix) (xs : List ℤ) → crosses f ≡ true → xs ≡ xs ++ offsets_with q (f ∷ [])
-none_more q f xs is = by (same_shared q (shared_of f)) refl
-  where
-    by : (t : Bool) → same_shared q (shared_of f) ≡ t → xs ≡ xs ++ offsets_with q (f ∷ [])
-    by true e = rw (e, is) (sym (append_none xs))
-    by false e = rw e (sym (append_none xs))
-
--- another is in one list
-pub one_more : (old taken new : Shared → List ℤ) (f : Fix) (k : Shared) (offsets pushed : List ℤ) →
-    crosses f ≡ false → k ≡ shared_of f → offsets ≡ old k → ((q : Shared) → same_shared k q ≡ false → taken q ≡ old q) → pushed ≡ offsets ++ f.offset ∷ [] →
-    new k ≡ pushed → ((q : Shared) → same_shared k q ≡ false → new q ≡ taken q) → (q : Shared) → new q ≡ old q ++ offsets_with q (f ∷ [])
-one_more old taken new f k offsets pushed within is had before more put after q = by (same_shared q (shared_of f)) refl
-  where
-    by : (t : Bool) → same_shared q (shared_of f) ≡ t → new q ≡ old q ++ offsets_with q (f ∷ [])
-    by true e =
-        let same : q ≡ k = shared_is q (shared_of f) e ∙ sym is in
-        let one : old k ++ f.offset ∷ [] ≡ old q ++ offsets_with q (f ∷ []) = rw (e, within) (ap (λ (x : Shared). old x ++ f.offset ∷ []) (sym same)) in
-        ap new same ∙ put ∙ more ∙ ap (λ (xs : List ℤ). xs ++ f.offset ∷ []) had ∙ one
-    by false e =
-        let apart : same_shared k q ≡ false = subst (λ (x : Shared). same_shared x q ≡ false) (sym is) (shared_turned q (shared_of f) false e) in
-        let none : old q ≡ old q ++ offsets_with q (f ∷ []) = rw e (sym (append_none (old q))) in
-        after q apart ∙ before q apart ∙ none
-
-pub both : {A E : Type 0} (P Q R : A → Type 0) (r : Result A E) → ((x : A) → P x → Q x → R x) → IfOk r P → IfOk r Q → IfOk r R
-both P Q R (Ok x) f p q = f x p q
-both P Q R (Err e) f p q = tt

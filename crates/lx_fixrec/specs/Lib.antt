@@ -2,6 +2,7 @@ pub mod Reads
 pub mod Sources
 pub mod Left
 pub mod Lists
+pub mod Links
 pub mod Writable
 pub mod Writes
 pub mod Laws

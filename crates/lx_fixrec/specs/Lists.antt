@@ -1,13 +1,12 @@
 -- The sources of a page that may stand in one list, by what they share.
-use Rattle.std.specs.Prelude.{◌≡◌, Bool, List, [], ℤ, map, filter, not, ◌&&◌, ◌==◌, Option, Some, None}
+use Rattle.std.specs.Prelude.{◌≡◌, ℕ, Bool, false, List, ℤ, map, filter, not, ◌&&◌, ◌==◌, Option, Some}
 use Rattle.lx_types.specs.declared.fix.Fix.{Fix}
 use Rattle.lx_model.specs.Module.{same_target}
 use Rattle.lx_model.specs.Sources.{code_of}
 use Rattle.lx_model.specs.JoinedRecords.{crosses, same_alias}
 use Rattle.lx_fixrec.specs.declared.lists.Shared.{Shared}
-use Rattle.lx_fixrec.specs.declared.lists.Lists.{Lists}
-use Rattle.std.specs.Global.{Vec}
-use Rattle.indexmap.specs.IndexMap.{IndexMap, get}
+use Rattle.lx_fixrec.specs.declared.lists.Firsts.{Firsts}
+use Rattle.indexmap.specs.IndexMap.{get}
 
 abbrev pub shared_of : Fix → Shared
 shared_of f = record { code = code_of f.source; alias = f.alias; target = f.target; additive = f.additive }
@@ -23,17 +22,12 @@ is_with k f = same_shared k (shared_of f) && not (crosses f)
 abbrev pub offsets_with : Shared → List Fix → List ℤ
 offsets_with k fixes = map (λ f. f.offset) (filter (is_with k) fixes)
 
-abbrev pub items_of : Option (Vec ℤ) → List ℤ
-items_of None = []
-items_of (Some v) = v.items
+-- the place of the first of the sources that share this
+abbrev pub first_in : Firsts → Shared → Option ℕ
+first_in l k = get same_shared l.places k
 
--- what a table of offsets has for what sources share
-abbrev pub found : {S : Type 0} → IndexMap Shared (Vec ℤ) S → Shared → List ℤ
-found m k = items_of (get same_shared m k)
-
-abbrev pub offsets_in : Lists → Shared → List ℤ
-offsets_in l k = found l.offsets k
-
--- the lists are those of these sources
-abbrev pub AreListed : Lists → List Fix → Type 0
-AreListed l fixes = (k : Shared) → offsets_in l k ≡ offsets_with k fixes
+-- a call that puts the place of a source that shares this
+pub record Puts (old : Firsts) (k : Shared) (place : ℕ) (before : Option ℕ) (new : Firsts) : Type 0 where
+  pub before_is : before ≡ first_in old k
+  pub put : first_in new k ≡ Some place
+  pub others : (q : Shared) → same_shared k q ≡ false → first_in new q ≡ first_in old q

@@ -3,6 +3,7 @@
 
 mod fields;
 mod laws;
+mod links;
 mod lists;
 mod page;
 mod reader;

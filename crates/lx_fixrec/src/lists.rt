@@ -1,8 +1,9 @@
 //! Which sources of a page may stand in one list.
 
-ghost use Rattle.std.specs.Prelude.{◌≡◌, ◌∷◌, ◌++◌, [], false, IfOk};
+ghost use Rattle.std.specs.Prelude.{◌≡◌, ◌<◌, ℕ, None, Some, IfOk, IfSome, slice_get};
+ghost use Rattle.indexmap.specs.IndexMap.{index_map_len};
 ghost use Rattle.lx_model.specs.JoinedRecords.{crosses};
-ghost use Rattle.lx_fixrec.specs.Lists.{shared_of, same_shared, offsets_with, offsets_in, AreListed};
+ghost use Rattle.lx_fixrec.specs.Lists.{shared_of, first_in, Puts};
 ghost use Rattle.lx_fixrec.specs.declared.lists.Shared.{Shared};
 
 use crate::sources::{code_of, source_size};
@@ -38,74 +39,56 @@ pub fn crosses(fix: &Fix) -> bool
     fix.offset < 0 || fix.offset > PAGE_SIZE as i32 - source_size(fix.source) as i32
 }
 
-/// The offsets of sources that lie within their page, by what the sources share, in the order in
-/// which they were added.
+/// The place of the first of some sources of a page, by what sources share.
 #[derive(Drop)]
-pub struct Lists {
-    offsets: IndexMap<Shared, Vec<i32>>,
+pub struct Firsts {
+    places: IndexMap<Shared, usize>,
+    // Where in the map the source stands that was put last.
+    last: usize,
 }
 
-impl Lists {
-    /// No offsets. It takes no memory.
-    pub fn new(alloc: Global) -> Lists
-        ensures { (k : Shared) → offsets_in result k ≡ [] }
+impl Firsts {
+    /// No sources. It takes no memory.
+    pub fn new(alloc: Global) -> Firsts
+        ensures { (k : Shared) → first_in result k ≡ None }
     {
-        Lists {
-            offsets: IndexMap::new(alloc),
+        Firsts {
+            places: IndexMap::new(alloc),
+            last: 0,
         }
     }
 
-    /// The offsets of the sources that share this.
-    pub fn with(&self, shared: &Shared) -> &[i32]
-        ensures { result.now ≡ offsets_in self.now shared.now }
+    // The place of the source that was put last, where it shares this. It looks for nothing.
+    fn last_with(&self, shared: &Shared) -> Option<usize>
+        ensures first { IfSome result (λ first. Some first ≡ first_in self.now shared.now) }
+        ensures place { IfSome result (λ first. slice_get self.now.places.entries self.now.last ≡ Some (shared.now, first)) }
     {
-        match self.offsets.get(shared) {
-            Some(offsets) => offsets.as_slice(),
-            None => &[],
+        match self.places.get_index(self.last) {
+            Some((key, first)) if *key == *shared => Some(*first),
+            _ => None,
         }
     }
 
-    // Takes out the offsets of the sources that share this.
-    fn take(&mut self, alloc: Global, shared: &Shared) -> Vec<i32>
-        ensures taken { result.items ≡ offsets_in self.old shared.now }
-        ensures others { (k : Shared) → same_shared shared.now k ≡ false → offsets_in self.new k ≡ offsets_in self.old k }
+    // Puts a place for the source that was put last.
+    fn put_at_last(&mut self, place: usize)
+        requires { self.old.last < index_map_len self.old.places }
+        ensures { (shared : Shared) (first : ℕ) → slice_get self.old.places.entries self.old.last ≡ Some (shared, first)
+            → Some first ≡ first_in self.old shared → Puts self.old shared place (Some first) self.new }
     {
-        match self.offsets.swap_remove(shared) {
-            Some(offsets) => offsets,
-            None => Vec::new(alloc),
+        let (_key, first) = self.places.pair_mut(self.last);
+        *first = place;
+    }
+
+    /// Puts the place of a source that stands before the others, and answers the first of those that share the same.
+    pub fn put(&mut self, shared: Shared, place: usize) -> Result<Option<usize>, NoMemory>
+        ensures { IfOk result (λ before. Puts self.old shared place before self.new) }
+    {
+        if let Some(before) = self.last_with(&shared) {
+            self.put_at_last(place);
+            return Ok(Some(before));
         }
+        let (at, before) = self.places.insert_full(shared, place)?;
+        self.last = at;
+        Ok(before)
     }
-
-    // Puts the offsets of the sources that share this.
-    fn put(&mut self, shared: Shared, offsets: Vec<i32>) -> Result<(), NoMemory>
-        ensures put { IfOk result (λ _. offsets_in self.new shared ≡ offsets.items) }
-        ensures others { IfOk result (λ _. (k : Shared) → same_shared shared k ≡ false → offsets_in self.new k ≡ offsets_in self.old k) }
-    {
-        self.offsets.insert(shared, offsets)?;
-        Ok(())
-    }
-
-    /// Adds the offset of a source, unless the source crosses an end of its page.
-    pub fn add(&mut self, alloc: Global, fix: &Fix) -> Result<(), NoMemory>
-        ensures { IfOk result (λ _. (k : Shared) → offsets_in self.new k ≡ offsets_in self.old k ++ offsets_with k (fix.now ∷ [])) }
-    {
-        if crosses(fix) {
-            return Ok(());
-        }
-        let shared = shared_of(fix);
-        let mut offsets = self.take(alloc, &shared);
-        offsets.push(fix.offset)?;
-        self.put(shared, offsets)
-    }
-}
-
-/// The offsets of these sources.
-pub fn lists_of(alloc: Global, sources: &[Fix]) -> Result<Lists, NoMemory>
-    ensures { IfOk result (λ lists. AreListed lists sources.now) }
-{
-    let mut lists = Lists::new(alloc);
-    for fix in sources {
-        lists.add(alloc, fix)?;
-    }
-    Ok(lists)
 }

@@ -9,7 +9,7 @@ ghost use Rattle.lx_fixrec.specs.Writes.{spelled};
 ghost use Rattle.lx_fixrec.specs.Left.{left_in};
 ghost use Rattle.lx_fixrec.specs.Laws.{IsReadAs};
 
-use crate::lists::{Lists, lists_of};
+use crate::links::{count_next, links_of};
 use crate::writer::push_begun;
 use lx_types::{Bytes, Fix, NoMemory, Seq};
 use std::alloc::Global;
@@ -29,12 +29,16 @@ fn records_of(alloc: Global, sources: &[Fix]) -> Result<Vec<u8>, NoMemory>
     requires { All IsWritable sources.now }
     ensures { IfOk result (λ out. out.items ≡ spelled (listed_behind [] sources.now)) }
 {
-    let lists = lists_of(alloc, sources)?;
-    let mut earlier = Lists::new(alloc);
+    let links = links_of(alloc, sources)?;
+    let links = links.as_slice();
+    let mut counts = vec![in alloc; 0; sources.len()]?;
+    let mut offsets = Vec::new(alloc);
     let mut out = Vec::new(alloc);
     for place in 0..sources.len() {
-        push_begun(&mut out, sources, place, &lists, &earlier)?;
-        earlier.add(alloc, &sources[place])?;
+        if counts[place] == 0 {
+            push_begun(&mut out, &mut offsets, sources, links, place)?;
+        }
+        count_next(&mut counts, place, links[place]);
     }
     Ok(out)
 }

@@ -1,19 +1,16 @@
 //! The records of a page, written one after another.
 
-ghost use Rattle.std.specs.Prelude.{◌≡◌, ◌<◌, ◌++◌, [], ◌∷◌, length, take, drop, ◌+◌, true, false, All, IfOk};
-ghost use Rattle.std.specs.List.{flat_map};
+ghost use Rattle.std.specs.Prelude.{◌≡◌, ◌<◌, ◌++◌, [], length, drop, ◌+◌, true, false, Some, All, IfOk, slice_get};
+ghost use Rattle.lx_types.specs.declared.fix.Fix.{Fix};
 ghost use Rattle.lx_model.specs.RecordSpelling.{target_spelling, additive_spelling, offsets_spelling, record_spelling, OffsetFits};
 ghost use Rattle.lx_fixrec.specs.Writable.{IsWritable};
-ghost use Rattle.lx_fixrec.specs.Writes.{shortest_flags, record_with, begun_by};
-ghost use Rattle.lx_fixrec.specs.Lists.{AreListed};
+ghost use Rattle.lx_fixrec.specs.Writes.{shortest_flags, record_with};
+ghost use Rattle.lx_fixrec.specs.Links.{AreLinks, listed_offsets};
 
-use crate::lists::{Lists, crosses, shared_of};
+use crate::links::MOST_LISTED;
 use crate::sources::source_byte;
 use crate::spelling::{flags_of, push_additive, push_offset, push_offsets, push_target};
 use lx_types::{Fix, NoMemory};
-
-/// The most sources of a list.
-const MOST_LISTED: usize = 255;
 
 // The target and the additive.
 #[tactic(auto, using(crate::proofs::Fits::target_fits, crate::proofs::Fits::additive_room))]
@@ -70,37 +67,40 @@ pub fn push_record(out: &mut Vec<u8>, first: &Fix, others: &[i32]) -> Result<(),
     }
 }
 
-// The offsets that a record lists behind its first source, before which the list has some.
-fn others_of(offsets: &[i32], before: usize) -> &[i32]
-    requires { before < length offsets.now }
-    ensures { result.now ≡ take 254 (drop (before + 1) offsets.now) }
+// Gathers the offsets that the record of a source lists behind it.
+fn gather(
+    offsets: &mut Vec<i32>,
+    sources: &[Fix],
+    links: &[usize],
+    place: usize,
+) -> Result<(), NoMemory>
+    requires place { place < length sources.now }
+    requires links { AreLinks sources.now links.now }
+    ensures { IfOk result (λ _. (f : Fix) → slice_get sources.now place ≡ Some f → offsets.new.items ≡ listed_offsets f (drop (place + 1) sources.now)) }
 {
-    let count = (offsets.len() - before).min(MOST_LISTED);
-    &offsets[before + 1..before + count]
+    offsets.clear();
+    let mut next = links[place];
+    'listed: while next < sources.len() && offsets.len() + 1 < MOST_LISTED {
+        offsets.push(sources[next].offset)?;
+        next = links[next];
+    }
+    Ok(())
 }
 
-// Adds the record that a source begins, if it begins one: it does unless a record that began before has room for it.
+/// Adds the record that a source begins. `offsets` is room for those of the others.
 pub fn push_begun(
     out: &mut Vec<u8>,
+    offsets: &mut Vec<i32>,
     sources: &[Fix],
+    links: &[usize],
     place: usize,
-    lists: &Lists,
-    earlier: &Lists,
 ) -> Result<(), NoMemory>
     requires place { place < length sources.now }
     requires writable { All IsWritable sources.now }
-    requires all { AreListed lists.now sources.now }
-    requires before { AreListed earlier.now (take place sources.now) }
-    ensures { IfOk result (λ _. out.new.items ≡ out.old.items ++ begun_by (take place sources.now) (drop place sources.now)) }
+    requires links { AreLinks sources.now links.now }
+    ensures { IfOk result (λ _. (f : Fix) → slice_get sources.now place ≡ Some f
+        → out.new.items ≡ out.old.items ++ record_spelling (record_with f (listed_offsets f (drop (place + 1) sources.now)))) }
 {
-    let fix = &sources[place];
-    if crosses(fix) {
-        return push_record(out, fix, &[]);
-    }
-    let shared = shared_of(fix);
-    let before = earlier.with(&shared).len();
-    if before % MOST_LISTED != 0 {
-        return Ok(());
-    }
-    push_record(out, fix, others_of(lists.with(&shared), before))
+    gather(offsets, sources, links, place)?;
+    push_record(out, &sources[place], offsets.as_slice())
 }

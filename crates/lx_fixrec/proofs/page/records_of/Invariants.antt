@@ -1,6 +1,6 @@
 use Rattle.std.proofs.Common.{◌≡◌, [], ◌++◌, take, drop}
 use Rattle.lx_model.specs.JoinedRecords.{listed_behind}
-use Rattle.lx_fixrec.specs.Lists.{AreListed}
+use Rattle.lx_fixrec.specs.Links.{AreCounted}
 use Rattle.lx_fixrec.specs.Writes.{spelled}
 use Rattle.lx_fixrec.proofs.page.records_of.Given as goal
 
@@ -8,5 +8,5 @@ use Rattle.lx_fixrec.proofs.page.records_of.Given as goal
 abbrev pub invariant-loop-place : goal.invariant-loop-place
 invariant-loop-place l = record {
   written : l.out.items ++ spelled (listed_behind (take l.place l.sources) (drop l.place l.sources)) ≡ spelled (listed_behind [] l.sources);
-  before : AreListed l.earlier (take l.place l.sources);
+  counted : AreCounted l.sources l.place l.counts.items;
 }

@@ -1,36 +1,25 @@
-use Rattle.std.proofs.Common.{sym, ◌∙◌}
-use Rattle.lx_fixrec.proofs.Beginning.{alone, stands, before_all, others_fit, none, one, added, nothing, few_taken, is_zero, is_not_zero}
+use Rattle.std.proofs.Common.{◌+◌, ◌<◌, length, drop, get_or, List, ℤ, sym, subst, ◌∙◌}
+use Rattle.std.specs.Prelude.{All}
+use Rattle.std.proofs.lemmas.List.Elements.{All-drop}
+use Rattle.std.proofs.lemmas.Option.{slice_get-get_or}
+use Rattle.lx_model.specs.RecordSpelling.{OffsetFits}
+use Rattle.lx_fixrec.specs.Writable.{IsWritable}
+use Rattle.lx_fixrec.proofs.Beginning.{few_listed, listed_fit, pushed}
+use Rattle.lx_fixrec.proofs.Pages.{no_fix}
 use Rattle.lx_fixrec.proofs.writer.push_begun.Goals as goal
 
-pub returns-then-crosses : goal.returns-then-crosses
-returns-then-crosses c =
-    added c.push_record.result c.args.out.now.items c.push_record.new.out.items _ _
-    (alone c.args.sources.now c.args.place _ c.requires.place (sym c.crosses.ensures ∙ c.if-crosses.true)) c.push_record.ensures
+pub push_record-requires-clause-others : goal.push_record-requires-clause-others
+push_record-requires-clause-others c =
+    let s = c.args.sources.now in
+    let offsets = c.as_slice.ensures.value ∙ c.in_ok-gather.ensures _ (slice_get-get_or s c.args.place no_fix c.requires.place) in
+    subst (λ (os : List ℤ). All (OffsetFits (get_or s c.args.place no_fix).source) os) (sym offsets) (listed_fit (get_or s c.args.place no_fix) (drop (c.args.place + 1) s) (All-drop IsWritable (c.args.place + 1) s c.requires.writable))
 
-pub returns-then-before-ne0 : goal.returns-then-before-ne0
-returns-then-before-ne0 c =
-    nothing c.args.out.now.items _
-    (none (stands c.args.sources.now c.args.place _ c.shared_of-shared.result c.with-before.result.now _ c.requires.place (sym c.crosses.ensures ∙ c.if-crosses.false)
-    c.shared_of-shared.ensures (c.with-before.ensures ∙ c.requires.before c.shared_of-shared.result) (c.requires.all c.shared_of-shared.result))
-    (is_not_zero _ c.if-before-ne0.true))
-
-pub others_of-requires : goal.others_of-requires
-others_of-requires c =
-    before_all (stands c.args.sources.now c.args.place _ c.shared_of-shared.result c.with-before.result.now c.with.result.now c.requires.place (sym c.crosses.ensures ∙ c.if-crosses.false)
-    c.shared_of-shared.ensures (c.with-before.ensures ∙ c.requires.before c.shared_of-shared.result) (c.with.ensures ∙ c.requires.all c.shared_of-shared.result))
-
-pub push_record-requires-2-clause-others : goal.push_record-requires-2-clause-others
-push_record-requires-2-clause-others c =
-    others_fit (stands c.args.sources.now c.args.place _ c.shared_of-shared.result c.with-before.result.now c.with.result.now c.requires.place (sym c.crosses.ensures ∙ c.if-crosses.false)
-    c.shared_of-shared.ensures (c.with-before.ensures ∙ c.requires.before c.shared_of-shared.result) (c.with.ensures ∙ c.requires.all c.shared_of-shared.result))
-    c.others_of.result.now c.others_of.ensures c.requires.writable
-
-pub push_record-requires-2-clause-few : goal.push_record-requires-2-clause-few
-push_record-requires-2-clause-few c = few_taken _ c.others_of.result.now c.others_of.ensures
+pub push_record-requires-clause-few : goal.push_record-requires-clause-few
+push_record-requires-clause-few c =
+    let s = c.args.sources.now in
+    let offsets = c.as_slice.ensures.value ∙ c.in_ok-gather.ensures _ (slice_get-get_or s c.args.place no_fix c.requires.place) in
+    subst (λ (os : List ℤ). length os < 255) (sym offsets) (few_listed (get_or s c.args.place no_fix) (drop (c.args.place + 1) s))
 
 pub returns : goal.returns
-returns c =
-    added c.push_record-2.result c.args.out.now.items c.push_record-2.new.out.items _ _
-    (one (stands c.args.sources.now c.args.place _ c.shared_of-shared.result c.with-before.result.now c.with.result.now c.requires.place (sym c.crosses.ensures ∙ c.if-crosses.false)
-    c.shared_of-shared.ensures (c.with-before.ensures ∙ c.requires.before c.shared_of-shared.result) (c.with.ensures ∙ c.requires.all c.shared_of-shared.result))
-    (is_zero _ c.if-before-ne0.false) c.others_of.result.now c.others_of.ensures) c.push_record-2.ensures
+returns c = pushed c.args.sources.now c.args.place no_fix c.push_record.result c.args.out.now.items c.push_record.new.out.items c.as_slice.result.now
+    (λ f at. c.as_slice.ensures.value ∙ c.in_ok-gather.ensures f at) c.push_record.ensures
