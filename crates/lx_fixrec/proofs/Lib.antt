@@ -17,3 +17,4 @@ pub mod Filters
 pub mod Kept
 pub mod Permuted
 pub mod PageRead
+pub mod Marked

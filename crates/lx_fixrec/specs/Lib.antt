@@ -7,3 +7,4 @@ pub mod Writable
 pub mod Writes
 pub mod Laws
 pub mod Worked
+pub mod Bytes

@@ -13,6 +13,7 @@ mod sources;
 mod spelling;
 mod start;
 mod worked;
+mod writable;
 mod writer;
 
 pub use laws::records_keep_fixes;
@@ -20,3 +21,4 @@ pub use page::encode_page;
 pub use reader::Records;
 pub use refusal::RecRefusal;
 pub use start::records;
+pub use writable::may_be_written;

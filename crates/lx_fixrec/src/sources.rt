@@ -46,8 +46,8 @@ pub fn code_of(source: Source) -> u8
     }
 }
 
-// Whether a source ends with a selector or is one.
-fn has_selector(source: Source) -> bool
+/// Whether a source ends with a selector or is one.
+pub fn has_selector(source: Source) -> bool
     ensures { result ≡ has_selector source }
 {
     matches!(source, Source::Sel | Source::Far16 | Source::Far32)
