@@ -6,3 +6,4 @@ pub mod KeptLists
 pub mod Clashes
 pub mod Loops
 pub mod ChosenNumbers
+pub mod OwnPieces

@@ -6,7 +6,7 @@ ghost use Rattle.link_model.specs.Clash as rules;
 ghost use Rattle.comdat_core.specs.Taking.{shown};
 
 use crate::taking::Owned;
-use link_bytes::data_of;
+use link_bytes::Images;
 use lx_types::NoMemory;
 use obj_types::Selection;
 use std::alloc::Global;
@@ -24,12 +24,17 @@ fn len_of(x: &Owned<'_>) -> u32
     }
 }
 
-// So many bytes of its segment, without fixups. It takes the time of all data of its module.
+// So many bytes of its segment, without fixups. Of the other pieces of its module only the segments are looked at.
 fn bytes_of(alloc: Global, x: &Owned<'_>, len: u32) -> Result<Vec<u8>, NoMemory>
     ensures { IfOk result (λ bytes. bytes.items ≡ map (rules.byte_of (shown x.now)) (range_with_len 0 len)) }
 {
-    let rows = data_of(alloc, x.owner.pieces.as_slice())?;
-    rows.row(alloc, x.comdat.seg as usize, len as usize)
+    let mut row = Images::new(alloc);
+    for piece in x.owner.pieces.as_slice() {
+        if piece.seg == x.comdat.seg {
+            row.paint(alloc, 0, piece.offset as usize, piece.bytes.as_slice())?;
+        }
+    }
+    row.row(alloc, 0, len as usize)
 }
 
 // Whether a byte of the first is not that of the second.

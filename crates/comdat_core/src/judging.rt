@@ -97,7 +97,8 @@ fn taken_at<'a, 'b>(out: &'b TakenOut<'a>, pick: &Pick) -> Option<&'b Vec<Taken<
 }
 
 /// Judges the COMDATs that `keep` takes out of a link, where `syms` are the symbols of what it keeps: `Clash` comes for the
-/// first chosen module, and in it for the first COMDAT, for which the one that stays in a chosen module may not stand.
+/// first chosen module, and in it for the first COMDAT, for which the one that stays in a chosen module may not stand. Where
+/// their bytes are compared, all pieces of the two modules are looked at, of which one has 32,767 COMDATs at most.
 pub fn judge(alloc: Global, input: &LinkInput, syms: &Symbols) -> Result<(), Fail<ComdatRefusal>>
     ensures { Answers result
         (λ _. comdat_refusal input.now syms.now.chosen ≡ None) (λ refusal. comdat_refusal input.now syms.now.chosen ≡ Some refusal) }
