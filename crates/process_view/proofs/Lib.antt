@@ -1,6 +1,7 @@
 pub mod NewViews
 pub mod Ranges
 pub mod Insides
+pub mod Naming
 pub mod Lookups
 pub mod Copies
 pub mod Asking

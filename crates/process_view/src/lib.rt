@@ -8,6 +8,7 @@ mod entering;
 mod joining;
 mod laws;
 mod leaving;
+mod name_hints;
 mod purposes;
 mod reading;
 mod refusing;

@@ -112,7 +112,7 @@ impl View {
     pub(crate) fn stay_named(&self, name: &Name) -> Option<usize>
         ensures { MatchOption result (stay_named self.now.library self.now.holding name.now ≡ None) (IsStayNamed self.now name.now) }
     {
-        let m = self.lib.find(name)?;
+        let m = self.hints.find(&self.lib, name)?;
         stay_place(&self.stays, m)
     }
 

@@ -5,6 +5,7 @@ ghost use Rattle.std.specs.Arc.{arc_value};
 ghost use Rattle.load_model.specs.State.{pids, is_among};
 ghost use Rattle.process_view.specs.ProcessViews.{at_front, new_view};
 
+use crate::name_hints::NameHints;
 use hold_rows::Holder;
 use load_core::Board;
 use mod_graph::Library;
@@ -18,6 +19,7 @@ use std::sync::Arc;
 #[derive(Drop)]
 pub struct View {
     pub(crate) lib: Arc<Library>,
+    pub(crate) hints: NameHints,
     pub(crate) pid: u32,
     pub(crate) ended: bool,
     pub(crate) holder: Holder,
@@ -44,8 +46,10 @@ impl View {
         ensures { result ≡ new_view (arc_value lib) pid }
     {
         let holder = Holder::new(lib.len());
+        let hints = NameHints::of(&lib);
         View {
             lib,
+            hints,
             pid,
             ended: false,
             holder,
