@@ -35,7 +35,8 @@ pub record WorkedPlaces : Type 0 where
   pub linked : places_of [] (library (object_at 0x1000_0000 8 ∷ [])) ≡ Ok (0x1000_0000 ∷ [])
   pub behind : places_of (range_at 0x1000_0000 8 ∷ []) (library (object_at 0x1000_0000 8 ∷ [])) ≡ Ok (0x1001_0000 ∷ [])
   -- the least place, and not the one behind all that is taken
-  pub gap : places_of (range_at 0x1000_0000 8 ∷ range_at 0x1003_0000 0x2_0000 ∷ []) (library (object_at 0x1000_0000 0x1_0001 ∷ object_at 0 0 ∷ [])) ≡ Ok (0x1001_0000 ∷ 0x1005_0000 ∷ [])
+  pub gap : places_of (range_at 0x1000_0000 8 ∷ range_at 0x1003_0000 0x2_0000 ∷ []) (library (object_at 0x1000_0000 0x1_0001 ∷ object_at 0 0 ∷ []))
+      ≡ Ok (0x1001_0000 ∷ 0x1005_0000 ∷ [])
   -- a linked base that is no multiple of 65,536 is not taken, nor one outside the arena
   pub odd : places_of [] (library (object_at 0x1000_1000 8 ∷ object_at 0x0FFF_0000 8 ∷ [])) ≡ Ok (0x1000_0000 ∷ 0x1001_0000 ∷ [])
   -- a program's arena is empty, whatever libraries take

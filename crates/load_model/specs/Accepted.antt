@@ -28,7 +28,8 @@ TouchedIsApart =
 -- So, whatever was touched, the entry of such a command follows the history behind which it is asked.
 abbrev pub AcceptedFollows : Type 0
 AcceptedFollows =
-    (lib : Library) (failing : Failing) (contents : Held) (h : List Entry) (touched : ℕ → List PageOf) (pid : ℕ) (command : Command) (ask : Ask) → is_among pids pid ≡ true →
+    (lib : Library) (failing : Failing) (contents : Held) (h : List Entry) (touched : ℕ → List PageOf) (pid : ℕ) (command : Command) (ask : Ask) →
+    is_among pids pid ≡ true →
     FitsPlace command → refusal_of lib (retouched touched (state_after lib failing h)) pid command ≡ None →
     ask_by lib (retouched touched (state_after lib failing h)) pid command ≡ Some ask →
     Follows lib failing contents h (record { pid = pid; deed = deed_of lib contents (state_after lib failing h) pid ask })

@@ -16,7 +16,8 @@ pub record Alike (lib : Library) (e after : Eager) (q : ℕ) : Type 0 where
 -- An entry of another process leaves such a state.
 abbrev pub OthersLeaveAlike : Type 0
 OthersLeaveAlike =
-    (lib : Library) (failing : Failing) (contents : Held) (h : List Entry) (entry : Entry) (pid : ℕ) → Legal lib failing contents h → Follows lib failing contents h entry → is_among pids pid ≡ true →
+    (lib : Library) (failing : Failing) (contents : Held) (h : List Entry) (entry : Entry) (pid : ℕ) → Legal lib failing contents h →
+    Follows lib failing contents h entry → is_among pids pid ≡ true →
     (pid == entry.pid) ≡ false → Alike lib (state_after lib failing h) (after_entry lib (state_after lib failing h) entry) pid
 
 -- In such states it sees the same bases behind what it reaches.
@@ -27,6 +28,7 @@ BasesAreAlike =
 -- While a residence stands, the bases behind it stay, whoever does what.
 abbrev pub BasesSeenStay : Type 0
 BasesSeenStay =
-    (lib : Library) (failing : Failing) (contents : Held) (h : List Entry) (entry : Entry) (m : ℕ) → Legal lib failing contents h → Follows lib failing contents h entry →
+    (lib : Library) (failing : Failing) (contents : Held) (h : List Entry) (entry : Entry) (m : ℕ) → Legal lib failing contents h →
+    Follows lib failing contents h entry →
     is_some (residence_of (state_after lib failing h) m) ≡ true → is_some (residence_of (after_entry lib (state_after lib failing h) entry) m) ≡ true →
     bases_seen lib (after_entry lib (state_after lib failing h) entry) m ≡ bases_seen lib (state_after lib failing h) m

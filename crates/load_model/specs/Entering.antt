@@ -51,7 +51,8 @@ unfoldable pub placed_from : Library → ℕ → List AddressRange → List ℕ 
 placed_from lib serials occupied [] = Ok []
 placed_from lib serials occupied (m ∷ others) = elim (bases_for lib occupied m) [
   | Err e ↦ Err (record { of = m; object = e })
-  | Ok bases ↦ with_fresh (record { serial = suc serials; «module» = m; bases = bases }) (placed_from lib (suc serials) (occupied ++ ranges_of lib m bases) others)
+  | Ok bases ↦ with_fresh (record { serial = suc serials; «module» = m; bases = bases })
+      (placed_from lib (suc serials) (occupied ++ ranges_of lib m bases) others)
 ]
 
 unfoldable pub placing : Library → Eager → ℕ → ℕ → Result (List Fresh) NoRoom

@@ -32,6 +32,8 @@ pub record LeavesNothing (lib : Library) (failing : Failing) (e after : Eager) (
 
 abbrev pub FailedLeavesNothing : Type 0
 FailedLeavesNothing =
-    (lib : Library) (failing : Failing) (contents : Held) (h : List Entry) (pid : ℕ) (how : How) (m by : ℕ) (fresh : List Fresh) (calls : List Call) (gone : List Gone) →
+    (lib : Library) (failing : Failing) (contents : Held) (h : List Entry) (pid : ℕ) (how : How) (m by : ℕ) (fresh : List Fresh) (calls : List Call)
+    (gone : List Gone) →
     Follows lib failing contents h (failed_entry pid how m by fresh calls gone) →
-    LeavesNothing lib failing (state_after lib failing h) (after_entry lib (state_after lib failing h) (failed_entry pid how m by fresh calls gone)) pid m by fresh gone
+    LeavesNothing lib failing (state_after lib failing h)
+    (after_entry lib (state_after lib failing h) (failed_entry pid how m by fresh calls gone)) pid m by fresh gone

@@ -9,7 +9,8 @@ use Rattle.load_model.specs.Histories.{state_after, Legal}
 -- What a process reaches is a module of the library, and fit.
 abbrev pub ReachedIsFit : Type 0
 ReachedIsFit =
-    (lib : Library) (failing : Failing) (contents : Held) (h : List Entry) → Legal lib failing contents h → (pid m : ℕ) → reaches lib ((state_after lib failing h).processes pid) m ≡ true →
+    (lib : Library) (failing : Failing) (contents : Held) (h : List Entry) → Legal lib failing contents h → (pid m : ℕ) →
+    reaches lib ((state_after lib failing h).processes pid) m ≡ true →
     (m < length lib) × IsFit lib m
 
 -- What a fit module reaches through imports is fit.

@@ -27,22 +27,26 @@ ask_of entry = (entry.pid, ask_in entry.deed)
 
 -- Two legal histories whose entries ask the same, place by place, are the same.
 abbrev pub AsksDecide : Type 0
-AsksDecide = (lib : Library) (failing : Failing) (contents : Held) (h k : List Entry) → Legal lib failing contents h → Legal lib failing contents k → map ask_of h ≡ map ask_of k → h ≡ k
+AsksDecide = (lib : Library) (failing : Failing) (contents : Held) (h k : List Entry) → Legal lib failing contents h → Legal lib failing contents k →
+    map ask_of h ≡ map ask_of k → h ≡ k
 
 -- What a legal history begins with is legal.
 abbrev pub PrefixIsLegal : Type 0
-PrefixIsLegal = (lib : Library) (failing : Failing) (contents : Held) (h more : List Entry) → Legal lib failing contents (h ++ more) → Legal lib failing contents h
+PrefixIsLegal =
+    (lib : Library) (failing : Failing) (contents : Held) (h more : List Entry) → Legal lib failing contents (h ++ more) → Legal lib failing contents h
 
 -- Each entry of a legal history follows those before it.
 abbrev pub EachFollows : Type 0
 EachFollows =
-    (lib : Library) (failing : Failing) (contents : Held) (before : List Entry) (entry : Entry) (behind : List Entry) → Legal lib failing contents (before ++ entry ∷ behind) →
+    (lib : Library) (failing : Failing) (contents : Held) (before : List Entry) (entry : Entry) (behind : List Entry) →
+    Legal lib failing contents (before ++ entry ∷ behind) →
     Follows lib failing contents before entry
 
 -- A legal history and an entry that follows it are legal.
 abbrev pub OneMoreIsLegal : Type 0
 OneMoreIsLegal =
-    (lib : Library) (failing : Failing) (contents : Held) (h : List Entry) (entry : Entry) → Legal lib failing contents h → Follows lib failing contents h entry → Legal lib failing contents (h ++ entry ∷ [])
+    (lib : Library) (failing : Failing) (contents : Held) (h : List Entry) (entry : Entry) → Legal lib failing contents h →
+    Follows lib failing contents h entry → Legal lib failing contents (h ++ entry ∷ [])
 
 -- the empty history is
 abbrev pub NothingIsLegal : Type 0
@@ -50,7 +54,8 @@ NothingIsLegal = (lib : Library) (failing : Failing) (contents : Held) → Legal
 
 -- One more entry takes the state one step on.
 abbrev pub OneMoreIsAfter : Type 0
-OneMoreIsAfter = (lib : Library) (failing : Failing) (h : List Entry) (entry : Entry) → state_after lib failing (h ++ entry ∷ []) ≡ after_entry lib (state_after lib failing h) entry
+OneMoreIsAfter = (lib : Library) (failing : Failing) (h : List Entry) (entry : Entry) →
+    state_after lib failing (h ++ entry ∷ []) ≡ after_entry lib (state_after lib failing h) entry
 
 -- A page of a residence has its fault once.
 abbrev pub FaultOnce : Type 0
@@ -63,7 +68,8 @@ FaultOnce =
 -- A module is resident exactly while some process reaches it.
 abbrev pub ReachedIsResident : Type 0
 ReachedIsResident =
-    (lib : Library) (failing : Failing) (contents : Held) (h : List Entry) → Legal lib failing contents h → (m : ℕ) → is_some (residence_of (state_after lib failing h) m) ≡ is_reached lib (state_after lib failing h) m
+    (lib : Library) (failing : Failing) (contents : Held) (h : List Entry) → Legal lib failing contents h → (m : ℕ) →
+    is_some (residence_of (state_after lib failing h) m) ≡ is_reached lib (state_after lib failing h) m
 
 -- A process has attached exactly what it reaches.
 abbrev pub AttachedIsReached : Type 0
@@ -86,7 +92,8 @@ gone_in (deeds.Shared serial m object offset bytes) = []
 -- What is gone with an entry is what was resident and no process reaches after it.
 abbrev pub GoneIsUnreached : Type 0
 GoneIsUnreached =
-    (lib : Library) (failing : Failing) (contents : Held) (h : List Entry) (entry : Entry) (m : ℕ) → Legal lib failing contents h → Follows lib failing contents h entry →
+    (lib : Library) (failing : Failing) (contents : Held) (h : List Entry) (entry : Entry) (m : ℕ) → Legal lib failing contents h →
+    Follows lib failing contents h entry →
     is_among (map (λ g. g.«module») (gone_in entry.deed)) m ≡
     is_some (residence_of (state_after lib failing h) m) && not (is_reached lib (after_entry lib (state_after lib failing h) entry) m)
 
@@ -98,14 +105,16 @@ stay_of (Some r) = Some (record r { writes = [] })
 -- A residence whose module is still reached after an entry stands as it was.
 abbrev pub ResidenceStays : Type 0
 ResidenceStays =
-    (lib : Library) (failing : Failing) (contents : Held) (h : List Entry) (entry : Entry) (m : ℕ) → Legal lib failing contents h → Follows lib failing contents h entry →
+    (lib : Library) (failing : Failing) (contents : Held) (h : List Entry) (entry : Entry) (m : ℕ) → Legal lib failing contents h →
+    Follows lib failing contents h entry →
     is_some (residence_of (state_after lib failing h) m) ≡ true → is_reached lib (after_entry lib (state_after lib failing h) entry) m ≡ true →
     stay_of (residence_of (after_entry lib (state_after lib failing h) entry) m) ≡ stay_of (residence_of (state_after lib failing h) m)
 
 -- While a residence stands, each module that its module reaches is resident, and keeps its residence.
 abbrev pub ReachStays : Type 0
 ReachStays =
-    (lib : Library) (failing : Failing) (contents : Held) (h : List Entry) (entry : Entry) (m k : ℕ) → Legal lib failing contents h → Follows lib failing contents h entry →
+    (lib : Library) (failing : Failing) (contents : Held) (h : List Entry) (entry : Entry) (m k : ℕ) → Legal lib failing contents h →
+    Follows lib failing contents h entry →
     is_some (residence_of (state_after lib failing h) m) ≡ true → is_some (residence_of (after_entry lib (state_after lib failing h) entry) m) ≡ true →
     is_among (order_of lib m) k ≡ true →
     (is_some (residence_of (state_after lib failing h) k) ≡ true)
@@ -132,13 +141,16 @@ IsSteady commands.Exit = ⊥
 -- whatever was touched so far.
 abbrev pub OthersRefuseAlike : Type 0
 OthersRefuseAlike =
-    (lib : Library) (failing : Failing) (contents : Held) (h : List Entry) (entry : Entry) (touched : ℕ → List PageOf) (pid : ℕ) (command : Command) → Legal lib failing contents h →
+    (lib : Library) (failing : Failing) (contents : Held) (h : List Entry) (entry : Entry) (touched : ℕ → List PageOf) (pid : ℕ) (command : Command) →
+    Legal lib failing contents h →
     Follows lib failing contents h entry → is_among pids pid ≡ true → (pid == entry.pid) ≡ false →
-    refusal_of lib (retouched touched (after_entry lib (state_after lib failing h) entry)) pid command ≡ refusal_of lib (retouched touched (state_after lib failing h)) pid command
+    refusal_of lib (retouched touched (after_entry lib (state_after lib failing h) entry)) pid command
+    ≡ refusal_of lib (retouched touched (state_after lib failing h)) pid command
 
 abbrev pub OthersAnswerAlike : Type 0
 OthersAnswerAlike =
-    (lib : Library) (failing : Failing) (contents : Held) (h : List Entry) (entry : Entry) (touched : ℕ → List PageOf) (pid : ℕ) (command : Command) → Legal lib failing contents h →
+    (lib : Library) (failing : Failing) (contents : Held) (h : List Entry) (entry : Entry) (touched : ℕ → List PageOf) (pid : ℕ) (command : Command) →
+    Legal lib failing contents h →
     Follows lib failing contents h entry → is_among pids pid ≡ true → (pid == entry.pid) ≡ false → IsSteady command →
     answer_of lib contents (retouched touched (after_entry lib (state_after lib failing h) entry)) pid command ≡
     answer_of lib contents (retouched touched (state_after lib failing h)) pid command
@@ -146,9 +158,11 @@ OthersAnswerAlike =
 -- Nor does it change a byte of code, or of the process's own data, in a residence that the process reaches.
 abbrev pub OthersBytesAlike : Type 0
 OthersBytesAlike =
-    (lib : Library) (failing : Failing) (contents : Held) (h : List Entry) (entry : Entry) (pid m object x : ℕ) (before after : Residence) → Legal lib failing contents h →
+    (lib : Library) (failing : Failing) (contents : Held) (h : List Entry) (entry : Entry) (pid m object x : ℕ) (before after : Residence) →
+    Legal lib failing contents h →
     Follows lib failing contents h entry → is_among pids pid ≡ true → (pid == entry.pid) ≡ false → (class_of (object_at lib m object) ≡ classes.Shared → ⊥) →
-    attached_residence lib (state_after lib failing h) pid m ≡ Some before → attached_residence lib (after_entry lib (state_after lib failing h) entry) pid m ≡ Some after →
+    attached_residence lib (state_after lib failing h) pid m ≡ Some before →
+    attached_residence lib (after_entry lib (state_after lib failing h) entry) pid m ≡ Some after →
     Byte lib contents (after_entry lib (state_after lib failing h) entry) pid after object x ≡ Byte lib contents (state_after lib failing h) pid before object x
 
 -- ---- what objects hold
@@ -169,7 +183,8 @@ HeldAnswersAlike =
 -- Where they agree in each state along a history, it is legal by both.
 abbrev pub HeldHistoriesAlike : Type 0
 HeldHistoriesAlike =
-    (lib : Library) (failing : Failing) (a b : Held) (h : List Entry) → ((before behind : List Entry) → h ≡ before ++ behind → AgreeAt lib a b (state_after lib failing before)) →
+    (lib : Library) (failing : Failing) (a b : Held) (h : List Entry) →
+    ((before behind : List Entry) → h ≡ before ++ behind → AgreeAt lib a b (state_after lib failing before)) →
     Legal lib failing a h → Legal lib failing b h
 
 -- ---- counts

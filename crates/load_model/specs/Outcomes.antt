@@ -59,7 +59,8 @@ HasDone (deeds.Shared serial m object offset bytes) = Unit {0}
 pub data IsTold (number : ℕ) : Deed → Outcome → Type 0 where
   arena_full : {how : How} {m of object size : ℕ} → IsTold number (deeds.Full how m of object size) (told (Refused (ArenaFull number of object size)))
   init_failed :
-      {how : How} {m by : ℕ} {fresh : List Fresh} {calls : List Call} {gone : List Gone} → IsTold number (deeds.Failed how m by fresh calls gone) (told (Refused (InitFailed number by)))
+      {how : How} {m by : ℕ} {fresh : List Fresh} {calls : List Call} {gone : List Gone} →
+      IsTold number (deeds.Failed how m by fresh calls gone) (told (Refused (InitFailed number by)))
   is_done : {deed : Deed} → HasDone deed → IsTold number deed (done number)
 
 -- A command that is refused is told why, and has no entry.

@@ -26,7 +26,8 @@ Stands lib m bases = StandIn (arena_of lib m) (objects_of lib m) bases
 -- So stands each residence, in every legal history.
 abbrev pub BasesStand : Type 0
 BasesStand =
-    (lib : Library) (failing : Failing) (contents : Held) (h : List Entry) → Legal lib failing contents h → AllByRecursion (λ (r : Residence). Stands lib r.«module» r.bases) (state_after lib failing h).residences
+    (lib : Library) (failing : Failing) (contents : Held) (h : List Entry) → Legal lib failing contents h →
+    AllByRecursion (λ (r : Residence). Stands lib r.«module» r.bases) (state_after lib failing h).residences
 
 -- So an object of a module that is resident has 2^28 bytes at most, a base in its arena, and its end inside.
 abbrev pub ResidentsFit : Type 0

@@ -20,7 +20,8 @@ SerialsRise =
 -- A fault names a serial number that was given, so no page of a residence to come has had one.
 abbrev pub FaultsAreGiven : Type 0
 FaultsAreGiven =
-    (lib : Library) (failing : Failing) (contents : Held) (h : List Entry) (serial : ℕ) (p : PageId) → Legal lib failing contents h → has_fault h serial p ≡ true → serial ≤ (state_after lib failing h).serials
+    (lib : Library) (failing : Failing) (contents : Held) (h : List Entry) (serial : ℕ) (p : PageId) → Legal lib failing contents h →
+    has_fault h serial p ≡ true → serial ≤ (state_after lib failing h).serials
 
 -- Residences of one serial number are one.
 abbrev pub SerialsAreOwn : Type 0

@@ -66,7 +66,8 @@ pub record IsMapped (lib : Library) (contents : Held) (e : Eager) (pid : ℕ) (p
   pub serial : p.of.serial ≡ residence.serial
   pub bytes :
       (x : ℕ) → x / PAGE_SIZE ≡ p.of.page.page → x < (object_at lib residence.«module» p.of.page.object).size →
-      slice_index p.bytes (x % PAGE_SIZE) ≡ lying_byte (class_of (object_at lib residence.«module» p.of.page.object)) lib contents e pid residence p.of.page.object x
+      slice_index p.bytes (x % PAGE_SIZE) ≡ lying_byte
+      (class_of (object_at lib residence.«module» p.of.page.object)) lib contents e pid residence p.of.page.object x
 
 -- a write lies in pages that are mapped
 abbrev pub is_covered : List PageOf → OwnWrite → Bool

@@ -30,7 +30,8 @@ NewStands = (lib : Library) (failing : Failing) (contents : Held) (pid : ℕ) �
 -- What a view stands for goes on through entries of other processes.
 abbrev pub StandsOn : Type 0
 StandsOn =
-    (lib : Library) (failing : Failing) (contents : Held) (v : Holding) (h more : List Entry) → is_among pids v.pid ≡ true → StandsFor lib failing contents v h →
+    (lib : Library) (failing : Failing) (contents : Held) (v : Holding) (h more : List Entry) → is_among pids v.pid ≡ true →
+    StandsFor lib failing contents v h →
     Legal lib failing contents (h ++ more) → AllByRecursion (λ (x : Entry). (v.pid == x.pid) ≡ false) more →
     StandsFor lib failing contents (record v { front = length (h ++ more) }) (h ++ more)
 
@@ -70,7 +71,8 @@ StandsQuiet =
 -- A page more that is mapped: its bytes are those that lie there, and where it is no private one it had its fault.
 abbrev pub StandsMapped : Type 0
 StandsMapped =
-    (lib : Library) (failing : Failing) (contents : Held) (v : Holding) (h : List Entry) (p : Mapped) → IsMapped lib contents (state_after lib failing h) v.pid p →
+    (lib : Library) (failing : Failing) (contents : Held) (v : Holding) (h : List Entry) (p : Mapped) →
+    IsMapped lib contents (state_after lib failing h) v.pid p →
     WasFixed lib v h p → StandsFor lib failing contents v h → StandsFor lib failing contents (record v { mapped = v.mapped ++ p ∷ [] }) h
 
 -- ---- what the process writes for itself
@@ -94,8 +96,10 @@ WritesOwn lib deed s k w = ⊥
 -- Behind such an entry of its own a view stands with the bytes put into its pages, where all of those are mapped.
 abbrev pub StandsWritten : Type 0
 StandsWritten =
-    (lib : Library) (failing : Failing) (contents : Held) (v : Holding) (h : List Entry) (x : Entry) (serial m : ℕ) (w : Written) → Legal lib failing contents h →
-    Follows lib failing contents h x → x.pid ≡ v.pid → WritesOwn lib x.deed serial m w → is_covered (mapped_pages v) (record { serial = serial; write = w }) ≡ true →
+    (lib : Library) (failing : Failing) (contents : Held) (v : Holding) (h : List Entry) (x : Entry) (serial m : ℕ) (w : Written) →
+    Legal lib failing contents h →
+    Follows lib failing contents h x → x.pid ≡ v.pid → WritesOwn lib x.deed serial m w →
+    is_covered (mapped_pages v) (record { serial = serial; write = w }) ≡ true →
     StandsFor lib failing contents v h →
     StandsFor lib failing contents (record v { mapped = map (written_over serial w) v.mapped; front = length (h ++ x ∷ []) }) (h ++ x ∷ [])
 
@@ -105,8 +109,10 @@ StandsWritten =
 -- the pages that were mapped stand as they were.
 abbrev pub StandsEntered : Type 0
 StandsEntered =
-    (lib : Library) (failing : Failing) (contents : Held) (v : Holding) (h : List Entry) (x : Entry) (how : How) (m : ℕ) (fresh : List Fresh) (calls : List Call)
-    (row : Row) (stays : List Fresh) → Legal lib failing contents h → Follows lib failing contents h x → x.pid ≡ v.pid → x.deed ≡ deeds.Enter how m fresh calls →
+    (lib : Library) (failing : Failing) (contents : Held) (v : Holding) (h : List Entry) (x : Entry) (how : How) (m : ℕ) (fresh : List Fresh)
+    (calls : List Call)
+    (row : Row) (stays : List Fresh) → Legal lib failing contents h → Follows lib failing contents h x → x.pid ≡ v.pid →
+    x.deed ≡ deeds.Enter how m fresh calls →
     IsRowOf lib ((state_after lib failing (h ++ x ∷ [])).processes v.pid) row →
     ((k : ℕ) → find (λ s. s.«module» == k) stays ≡ option_map fresh_of (attached_residence lib (state_after lib failing (h ++ x ∷ [])) v.pid k)) →
     StandsFor lib failing contents v h → StandsFor lib failing contents (record v { row = row; stays = stays; front = length (h ++ x ∷ []) }) (h ++ x ∷ [])

@@ -26,7 +26,8 @@ mapped_kept lib e after pages = filter (λ (p : Mapped). not (is_among (left_ser
 abbrev pub KeptAreReached : Type 0
 KeptAreReached =
     (lib : Library) (failing : Failing) (contents : Held) (h : List Entry) (x : Entry) (after : Process) (p : Mapped) → Legal lib failing contents h →
-    Follows lib failing contents h x → GivesUpTo x.deed ((state_after lib failing h).processes x.pid) after → (it : IsMapped lib contents (state_after lib failing h) x.pid p) →
+    Follows lib failing contents h x → GivesUpTo x.deed ((state_after lib failing h).processes x.pid) after →
+    (it : IsMapped lib contents (state_after lib failing h) x.pid p) →
     not (is_among (left_serials lib (state_after lib failing h) after) p.of.serial) ≡ reaches lib after it.residence.«module»
 
 -- So a view that has mapped what its process touched goes on to have.
@@ -45,5 +46,12 @@ StandsLeft =
     ((k : ℕ) → find (λ s. s.«module» == k) stays ≡ option_map fresh_of (attached_residence lib (state_after lib failing (h ++ x ∷ [])) v.pid k)) →
     StandsFor lib failing contents v h →
     StandsFor lib failing contents
-    (record v { ended = after.ended; row = row; stays = stays; mapped = mapped_kept lib (state_after lib failing h) after v.mapped; front = length (h ++ x ∷ []) })
+    (record v {
+      ended = after.ended;
+      row = row;
+      stays = stays;
+      mapped = mapped_kept lib (state_after lib failing h) after v.mapped;
+      front = length
+          (h ++ x ∷ []);
+    })
     (h ++ x ∷ [])

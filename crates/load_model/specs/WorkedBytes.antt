@@ -45,5 +45,6 @@ pub record WorkedWrites : Type 0 where
       answer_after store (both_write ++ (1, Free (codes "S")) ∷ (1, Load (codes "S")) ∷ (1, touch_S 2) ∷ []) 1 (commands.Shared (place (codes "S") 2 0 1)) ≡
       entry (deeds.Shared 1 0 2 0 (0xAA ∷ []))
   pub shared_ends :
-      answer_after store (both_write ++ (1, Exit) ∷ (2, Free (codes "S")) ∷ (2, Load (codes "S")) ∷ (2, touch_S 2) ∷ []) 2 (commands.Shared (place (codes "S") 2 0 1)) ≡
+      answer_after store (both_write ++ (1, Exit) ∷ (2, Free (codes "S")) ∷ (2, Load (codes "S")) ∷ (2, touch_S 2) ∷ []) 2
+      (commands.Shared (place (codes "S") 2 0 1)) ≡
       entry (deeds.Shared 2 0 2 0 (0 ∷ []))

@@ -34,7 +34,8 @@ coming_back =
 pub record WorkedCycles : Type 0 where
   pub first :
       answer_after each_other [] 1 (Load (codes "X")) ≡
-      entry (deeds.Enter ways.Load 0 (fresh 1 1 (0x10000000 ∷ []) ∷ fresh 2 0 (0x10010000 ∷ []) ∷ []) (call Init 1 1 0x10000000 ∷ call Init 2 0 0x10010000 ∷ []))
+      entry (deeds.Enter ways.Load 0 (fresh 1 1 (0x10000000 ∷ []) ∷ fresh 2 0 (0x10010000 ∷ []) ∷ [])
+      (call Init 1 1 0x10000000 ∷ call Init 2 0 0x10010000 ∷ []))
   pub second : answer_after each_other ((1, Load (codes "X")) ∷ []) 2 (Load (codes "Y")) ≡ entry (deeds.Enter ways.Load 1 [] [])
   -- both stand as long as some process reaches one of them
   pub one_left : answer_after each_other both_load 1 (Free (codes "X")) ≡ entry (deeds.Free 0 [] [])
@@ -42,7 +43,8 @@ pub record WorkedCycles : Type 0 where
       answer_after each_other (both_load ++ (1, Free (codes "X")) ∷ []) 2 (Free (codes "Y")) ≡
       entry (deeds.Free 1 (call Term 1 1 0x10000000 ∷ call Term 2 0 0x10010000 ∷ []) (gone 1 1 ∷ gone 2 0 ∷ []))
   -- one initialisation
-  pub itself : answer_after to_itself [] 1 (Load (codes "S")) ≡ entry (deeds.Enter ways.Load 0 (fresh 1 0 (0x10000000 ∷ []) ∷ []) (call Init 1 0 0x10000000 ∷ []))
+  pub itself : answer_after to_itself [] 1 (Load (codes "S"))
+      ≡ entry (deeds.Enter ways.Load 0 (fresh 1 0 (0x10000000 ∷ []) ∷ []) (call Init 1 0 0x10000000 ∷ []))
   -- forwarders that come back: the load of whose fixup uses them, and the query of whoever loads them
   pub looping : answer_after coming_back [] 1 (Load (codes "C")) ≡ refused why.ForwardLoop
   pub unused : answer_after coming_back [] 1 (Load (codes "A")) ≡ entry (deeds.Enter ways.Load 0 (fresh 1 1 [] ∷ fresh 2 0 [] ∷ []) [])

@@ -45,7 +45,8 @@ pub record WorkedFailures : Type 0 where
   -- C, which does not import B, loads where nothing is left of it but the serial numbers
   pub untouched :
       where_B_fails (load_A ∷ []) 1 (Load (codes "C")) ≡
-      entry (deeds.Enter ways.Load 2 (fresh 5 3 (0x10000000 ∷ []) ∷ fresh 6 2 (0x10010000 ∷ []) ∷ []) (call Init 5 3 0x10000000 ∷ call Init 6 2 0x10010000 ∷ []))
+      entry (deeds.Enter ways.Load 2 (fresh 5 3 (0x10000000 ∷ []) ∷ fresh 6 2 (0x10010000 ∷ []) ∷ [])
+      (call Init 5 3 0x10000000 ∷ call Init 6 2 0x10010000 ∷ []))
   -- it does not fail in another process
   pub others :
       where_B_fails (load_A ∷ []) 2 (Load (codes "A")) ≡
@@ -67,7 +68,8 @@ pub record WorkedFailures : Type 0 where
   -- a start fails with a library, before the program is called
   pub started :
       answer_where with_program ((1, 0) ∷ []) [] 1 (Start (codes "P")) ≡
-      entry (deeds.Failed ways.Start 1 0 (fresh 1 0 (0x10000000 ∷ []) ∷ fresh 2 1 (0x00010000 ∷ []) ∷ []) (call Init 1 0 0x10000000 ∷ []) (gone 2 1 ∷ gone 1 0 ∷ []))
+      entry (deeds.Failed ways.Start 1 0 (fresh 1 0 (0x10000000 ∷ []) ∷ fresh 2 1 (0x00010000 ∷ []) ∷ []) (call Init 1 0 0x10000000 ∷ [])
+      (gone 2 1 ∷ gone 1 0 ∷ []))
   -- want of a place is found before any call
   pub full : answer_where with_program ((1, 0) ∷ []) [] 1 (Load (codes "L")) ≡ entry (deeds.Full ways.Load 2 2 1 0x10000001)
   -- its caller is told so, with the number of the entry, as of want of a place; one whose load succeeds, that it is done

@@ -79,8 +79,10 @@ pub record WorkedPlaceRefusals : Type 0 where
   pub invalid : answer_after several load_E 1 (Touch (place (codes "E") 1 0xFFF 2)) ≡ refused why.Invalid
   pub last_invalid : answer_after several load_E 1 (Touch (place (codes "E") 1 0x1FFF 1)) ≡ refused why.Invalid
   pub fine : answer_after several load_E 1 (Touch (place (codes "E") 1 0x2000 1)) ≡ steady Fine
-  pub touched : answer_after several (load_E ++ (1, Touch (place (codes "E") 1 0x2000 1)) ∷ []) 1 (Peek (place (codes "E") 1 0x2FFF 1)) ≡ steady (Bytes (0 ∷ []))
-  pub not_touched : answer_after several (load_E ++ (1, Touch (place (codes "E") 1 0 1)) ∷ []) 1 (Peek (place (codes "E") 1 0x2000 1)) ≡ refused (why.NotTouched 2)
+  pub touched : answer_after several (load_E ++ (1, Touch (place (codes "E") 1 0x2000 1)) ∷ []) 1 (Peek (place (codes "E") 1 0x2FFF 1))
+      ≡ steady (Bytes (0 ∷ []))
+  pub not_touched : answer_after several (load_E ++ (1, Touch (place (codes "E") 1 0 1)) ∷ []) 1 (Peek (place (codes "E") 1 0x2000 1))
+      ≡ refused (why.NotTouched 2)
   pub read_only : answer_after store both_write 1 (Write (place (codes "S") 1 0 1) (1 ∷ [])) ≡ refused why.ReadOnly
   pub is_shared : answer_after store both_write 1 (Peek (place (codes "S") 2 0 1)) ≡ refused why.IsShared
   pub not_shared : answer_after store both_write 1 (commands.Shared (place (codes "S") 3 0 1)) ≡ refused why.NotShared

@@ -53,4 +53,5 @@ pub record WorkedViews : Type 0 where
   -- with one load given up the process leaves the residence; with one of two it does not
   pub gone : mapped_kept store (behind one_load) (freeing 0 ((behind one_load).processes 1)) (own_page ∷ []) ≡ []
   pub kept :
-      mapped_kept store (behind ((1, Load (codes "S")) ∷ one_load)) (freeing 0 ((behind ((1, Load (codes "S")) ∷ one_load)).processes 1)) (own_page ∷ []) ≡ own_page ∷ []
+      mapped_kept store (behind ((1, Load (codes "S")) ∷ one_load)) (freeing 0 ((behind ((1, Load (codes "S")) ∷ one_load)).processes 1)) (own_page ∷ [])
+      ≡ own_page ∷ []

@@ -77,7 +77,8 @@ bundle_of_type zero objects imports bundle n ordinal c = Ok ([], c)
 bundle_of_type (suc zero) objects imports bundle n ordinal c = object_entries objects bundle n ordinal (at_entry 2) c
 bundle_of_type (suc (suc zero)) objects imports bundle n ordinal c = object_entries objects bundle n ordinal gate_entry c
 bundle_of_type (suc (suc (suc zero))) objects imports bundle n ordinal c = object_entries objects bundle n ordinal (at_entry 4) c
-bundle_of_type (suc (suc (suc (suc zero)))) objects imports bundle n ordinal c = number 2 c >>= λ reserved. bundle_entries n ordinal (forward_entry imports) reserved.1
+bundle_of_type (suc (suc (suc (suc zero)))) objects imports bundle n ordinal c =
+    number 2 c >>= λ reserved. bundle_entries n ordinal (forward_entry imports) reserved.1
 bundle_of_type (suc (suc (suc (suc (suc k))))) objects imports bundle n ordinal c = Err (fault kinds.EntryTable bundle)
 
 -- A bundle, behind the last ordinal of those before it: a count byte, which ends the table where it is 0, a

@@ -8,7 +8,8 @@ use Rattle.lx_model.specs.ExportTables.{Exported, greatest, AreBundlesOf, entrie
 -- The bundles of exports, whatever follows them, are read as the exports' entries, by rising ordinals.
 abbrev pub ExportsReadAgain : Type 0
 ExportsReadAgain =
-    (objects imports : ℕ) (xs : List Exported) (bs : List Bundle) (rest : List ℕ) → AreBundlesOf xs bs → AllByRecursion (BundleFits objects imports) bs → greatest xs ≤ LAST_ORDINAL →
+    (objects imports : ℕ) (xs : List Exported) (bs : List Bundle) (rest : List ℕ) → AreBundlesOf xs bs → AllByRecursion (BundleFits objects imports) bs →
+    greatest xs ≤ LAST_ORDINAL →
     entries_in objects imports (table_spelling bs ++ rest) ≡ Ok (entries_by_ordinal xs)
 
 -- No two lists of bundles are those of the same exports.

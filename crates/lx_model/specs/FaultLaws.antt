@@ -28,7 +28,8 @@ known_behind next s [] = s
 known_behind next s (x ∷ xs) = known_behind next (next s x) xs
 
 -- Items stand there, each spelled as it is written and where it may, and what follows them is wrong, by this cause.
-pub record FailsBehind {S X : Type 0} (spelling : X → List ℕ) (Goes : S → X → Type 0) (next : S → X → S) (Wrong : S → Cursor → LxRefusal → Type 0) (s : S) (c : Cursor) (e : LxRefusal) : Type 0 where
+pub record FailsBehind {S X : Type 0} (spelling : X → List ℕ) (Goes : S → X → Type 0) (next : S → X → S) (Wrong : S → Cursor → LxRefusal → Type 0) (s : S)
+    (c : Cursor) (e : LxRefusal) : Type 0 where
   pub items : List X
   pub left : List ℕ
   pub go : AllGo Goes next s items
@@ -70,7 +71,8 @@ abbrev pub BundleGoes : ℕ → ℕ → ℕ → Bundle → Type 0
 BundleGoes objects imports last b = BundleFits objects imports b × (last_with last b ≤ LAST_ORDINAL)
 
 abbrev pub BundleFaults : Type 0
-BundleFaults = (objects imports : ℕ) → FaultsAre (bundle_at objects imports) bundle_spelling (BundleGoes objects imports) last_with (WrongBundle objects imports)
+BundleFaults =
+    (objects imports : ℕ) → FaultsAre (bundle_at objects imports) bundle_spelling (BundleGoes objects imports) last_with (WrongBundle objects imports)
 
 abbrev pub RecordFaults : Type 0
 RecordFaults = FaultsAre next_record record_spelling (λ _ w. RecordFits w) (λ s _. s) WrongRecord
@@ -99,7 +101,8 @@ pub record RowFails (file : List ℕ) (place : ℕ) (rows : List Row) (e : LxRef
   pub good : AllGood file place before
   -- the field is cut off, or its value is not allowed
   pub cause : ((length file < place + wrong.offset + wrong.width) × (e ≡ fault Short (place + wrong.offset)))
-      ⊎ ((place + wrong.offset + wrong.width ≤ length file) × (wrong.allows (number_at wrong.width file (place + wrong.offset)) ≡ false) × (e ≡ fault wrong.kind (place + wrong.offset)))
+      ⊎ ((place + wrong.offset + wrong.width ≤ length file) × (wrong.allows (number_at wrong.width file (place + wrong.offset)) ≡ false)
+      × (e ≡ fault wrong.kind (place + wrong.offset)))
 
 abbrev pub HeaderFaults : Type 0
 HeaderFaults = (file : List ℕ) (place : ℕ) (rows : List Row) (e : LxRefusal) → (first (map (row_fault file place) rows) ≡ Some e) ↔ RowFails file place rows e

@@ -14,11 +14,13 @@ MOST_MODULES = 64
 
 -- a module has the name of an earlier one
 abbrev pub twice_at : List Parts → ℕ → Option LibraryRefusal
-twice_at mods second = option_and_then (λ first. if nat_lt first second then Some (NameTwice first second) else None) (module_named mods (module_of mods second).name)
+twice_at mods second =
+    option_and_then (λ first. if nat_lt first second then Some (NameTwice first second) else None) (module_named mods (module_of mods second).name)
 
 -- What is wrong with modules, in this order: there are too many; one has the name of another, the first such one.
 unfoldable pub LibraryFault : List Parts → Option LibraryRefusal
-LibraryFault mods = if nat_lt MOST_MODULES (length mods) then Some (TooManyModules (length mods)) else first (map (twice_at mods) (range_with_len 0 (length mods)))
+LibraryFault mods =
+    if nat_lt MOST_MODULES (length mods) then Some (TooManyModules (length mods)) else first (map (twice_at mods) (range_with_len 0 (length mods)))
 
 -- A library: nothing is wrong with its modules, and each of them was read.
 pub record IsLibrary (mods : List Parts) : Type 0 where

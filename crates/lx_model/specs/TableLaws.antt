@@ -49,7 +49,8 @@ NamesReadAgain = (ns : List Named) (rest : List ℕ) → AllByRecursion NameFits
 
 -- the names of import modules, whatever follows them
 abbrev pub ImportsReadAgain : Type 0
-ImportsReadAgain = (names : List (List ℕ)) (rest : List ℕ) → AllByRecursion ImportFits names → imports_in (length names) (flat_map import_spelling names ++ rest) ≡ Ok names
+ImportsReadAgain =
+    (names : List (List ℕ)) (rest : List ℕ) → AllByRecursion ImportFits names → imports_in (length names) (flat_map import_spelling names ++ rest) ≡ Ok names
 
 -- an entry table, whatever follows it: the ordinals of its bundles, one behind the other
 abbrev pub EntriesReadAgain : Type 0

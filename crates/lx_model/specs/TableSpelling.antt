@@ -36,7 +36,8 @@ pub record HeaderFits (fields : List ℕ) : Type 0 where
 
 -- size, linked base, flags, first page, page count, and a doubleword that is reserved
 abbrev pub object_spelling : ObjHead → List ℕ
-object_spelling o = little_bytes 4 o.size ++ little_bytes 4 o.base ++ little_bytes 4 o.flags ++ little_bytes 4 o.first ++ little_bytes 4 o.count ++ little_bytes 4 0
+object_spelling o =
+    little_bytes 4 o.size ++ little_bytes 4 o.base ++ little_bytes 4 o.flags ++ little_bytes 4 o.first ++ little_bytes 4 o.count ++ little_bytes 4 0
 
 abbrev pub objects_spelling : List ObjHead → List ℕ
 objects_spelling os = flat_map object_spelling os
@@ -59,7 +60,8 @@ page_flags Zero = 3
 -- An entry as it stands in the table: here `at` is its own offset, which is not shifted and counts from nowhere
 -- yet. There is none where its flags are none.
 abbrev pub page_fields : List ℕ → ℕ → Option PageHead
-page_fields file at = option_map (λ kind. record { kind = kind; at = number_at 4 file at; len = number_at 2 file (at + 4) }) (page_kind (number_at 2 file (at + 6)))
+page_fields file at =
+    option_map (λ kind. record { kind = kind; at = number_at 4 file at; len = number_at 2 file (at + 4) }) (page_kind (number_at 2 file (at + 6)))
 
 abbrev pub page_spelling : PageHead → List ℕ
 page_spelling p = little_bytes 4 p.at ++ little_bytes 2 p.len ++ little_bytes 2 (page_flags p.kind)

@@ -12,4 +12,5 @@ is_set file x = list_any (λ p. nat_le p.at x && nat_lt x (p.at + p.len)) (set_p
 
 -- Every other byte of the old file stands where it stood.
 abbrev pub OldBytesStand : Type 0
-OldBytesStand = (file : List ℕ) (items : List ResItem) (x : ℕ) → HasHeader file → x < length file → is_set file x ≡ false → slice_index (bound_file file items) x ≡ slice_index file x
+OldBytesStand = (file : List ℕ) (items : List ResItem) (x : ℕ) → HasHeader file → x < length file → is_set file x ≡ false →
+    slice_index (bound_file file items) x ≡ slice_index file x

@@ -119,7 +119,8 @@ impl<T: Drop> Stays<T> {
     ) -> Result<(), NoMemory>
         requires { IsWithin lib.now entering.now }
         ensures { OnOk result (calls.new.items ≡ calls.old.items
-            ++ filter_map (init_of lib.now (state_with (residences_with self.now entering.now.fresh.now)) (map (λ f. f.«module») entering.now.fresh.now)) entering.now.joined.now) }
+            ++ filter_map (init_of lib.now (state_with (residences_with self.now entering.now.fresh.now))
+            (map (λ f. f.«module») entering.now.fresh.now)) entering.now.joined.now) }
     {
         for m in entering.joined {
             push_call(self.init_call(lib, entering.fresh, *m), calls)?;
@@ -197,7 +198,8 @@ impl<T: Drop> Stays<T> {
         failure: &Failure<'_>,
     ) -> Result<Calls, NoMemory>
         requires { IsWithin lib.now entering.now }
-        ensures { IfOk result (λ calls. (e : Eager) → standing_in e ≡ residences self.now → IsEnteringOf lib.now e failure.now.pid entering.now → IsFailureOf lib.now e entering.now failure.now
+        ensures { IfOk result (λ calls. (e : Eager) → standing_in e ≡ residences self.now → IsEnteringOf lib.now e failure.now.pid entering.now →
+            IsFailureOf lib.now e entering.now failure.now
             → calls ≡ failing_model.failed_calls lib.now e failure.now.pid entering.now.how entering.now.«module» failure.now.by entering.now.fresh.now) }
     {
         let mut calls = Vec::new(alloc);

@@ -57,7 +57,8 @@ impl<T: Drop> Stays<T> {
     /// The residence of module `m`.
     pub fn find(&self, m: u32) -> Option<&Stay<T>>
         ensures found { option_copied result ≡ find (is_of_module m) self.now }
-        ensures residence { (e : Eager) → standing_in e ≡ residences self.now → option_map (λ s. s.0) (option_copied result) ≡ option_map unwritten (residence_of e m) }
+        ensures residence { (e : Eager) → standing_in e ≡ residences self.now →
+            option_map (λ s. s.0) (option_copied result) ≡ option_map unwritten (residence_of e m) }
     {
         self.first_of(m)
     }

@@ -20,7 +20,8 @@ object_module = record empty_module {
       ∷ public (codes "_main") false 1 45
       ∷ public (codes "q.r") false 1 8 ∷ [];
   exts = extern (codes "loc") true ∷ [];
-  pieces = piece 1 0 (0 ∷ 0 ∷ 0 ∷ 0 ∷ 0 ∷ 0 ∷ 0 ∷ 0 ∷ 0 ∷ 0 ∷ 0 ∷ 0 ∷ 0 ∷ 0 ∷ 0x51 ∷ 0 ∷ 0 ∷ 0 ∷ 0 ∷ 0xEC ∷ 0x0A ∷ 0x85 ∷ 0x72 ∷ 0x2C ∷ 0xBC ∷ 0x3C ∷ 0xC5 ∷ 0xC1 ∷ 0x1F ∷ 0xD9 ∷ 0x8C ∷ 0 ∷ 0 ∷ 0 ∷ 0 ∷ []) ∷ [];
+  pieces = piece 1 0 (0 ∷ 0 ∷ 0 ∷ 0 ∷ 0 ∷ 0 ∷ 0 ∷ 0 ∷ 0 ∷ 0 ∷ 0 ∷ 0 ∷ 0 ∷ 0 ∷ 0x51 ∷ 0 ∷ 0 ∷ 0 ∷ 0 ∷ 0xEC ∷ 0x0A ∷ 0x85 ∷ 0x72 ∷ 0x2C ∷ 0xBC ∷ 0x3C ∷ 0xC5
+      ∷ 0xC1 ∷ 0x1F ∷ 0xD9 ∷ 0x8C ∷ 0 ∷ 0 ∷ 0 ∷ 0 ∷ []) ∷ [];
   fixes = fix 1 0 11 false (frames.Seg 1) (goals.Ext 1) 0x0
       ∷ fix 1 6 13 false (frames.Ext 1) (goals.Ext 1) 0x0
       ∷ fix 1 10 3 false (frames.Ext 1) (goals.Seg 1) 0x0

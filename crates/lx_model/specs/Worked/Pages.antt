@@ -19,7 +19,8 @@ use Rattle.lx_model.specs.Worked.File.{put, changed, Accepts, Refuses}
 -- The worked file with iterated pages from 100h on, data pages from 80h on, a page shift, and an entry of its page
 -- table with an offset, a size and flags.
 abbrev paged : ℕ → ℕ → ℕ → ℕ → List ℕ
-paged shift offset size flags = put (put (put (changed 0x2C (shift ∷ [])) 0x4C (0 ∷ 1 ∷ [])) 0x80 (0x80 ∷ [])) 0xDC (offset ∷ 0 ∷ 0 ∷ 0 ∷ size ∷ 0 ∷ flags ∷ 0 ∷ [])
+paged shift offset size flags =
+    put (put (put (changed 0x2C (shift ∷ [])) 0x4C (0 ∷ 1 ∷ [])) 0x80 (0x80 ∷ [])) 0xDC (offset ∷ 0 ∷ 0 ∷ 0 ∷ size ∷ 0 ∷ flags ∷ 0 ∷ [])
 
 abbrev page : PageKind → ℕ → ℕ → PageHead
 page kind at len = record { kind = kind; at = at; len = len }

@@ -14,7 +14,8 @@ use Rattle.lx_model.specs.Iterated.{expansion}
 
 -- The bytes are records, of which the first stands at place 100h and has these fixups.
 abbrev pub IsRecord : List ℕ → List Fix → Type 0
-IsRecord bytes fixes = records_at 0x100 bytes ≡ record { items = record { at = 0x100; fixes = fixes } ∷ []; end = Ok (record { at = 0x100 + length bytes; left = [] }) }
+IsRecord bytes fixes =
+    records_at 0x100 bytes ≡ record { items = record { at = 0x100; fixes = fixes } ∷ []; end = Ok (record { at = 0x100 + length bytes; left = [] }) }
 
 -- the bytes are wrong at once
 abbrev pub IsNoRecord : List ℕ → LxRefusal → Type 0
@@ -36,13 +37,15 @@ pub record WorkedRecords : Type 0 where
   -- an import by ordinal, with an ordinal of one byte and an additive of two
   pub import : IsRecord (0x07 ∷ 0x85 ∷ 0x04 ∷ 0x00 ∷ 0x01 ∷ 0x01 ∷ 0x04 ∷ 0x00 ∷ []) (fix Off32 (pos 4) (Ordinal 1 1) 4 ∷ [])
   -- an import by name, in wide numbers; an additive of four bytes
-  pub wide : IsRecord (0x08 ∷ 0x76 ∷ 0x00 ∷ 0x01 ∷ 0x02 ∷ 0x01 ∷ 0x78 ∷ 0x56 ∷ 0x34 ∷ 0x12 ∷ 0x00 ∷ 0x00 ∷ 0x00 ∷ 0x80 ∷ []) (fix Self32 (pos 256) (Named 0x102 0x12345678) 0x80000000 ∷ [])
+  pub wide : IsRecord (0x08 ∷ 0x76 ∷ 0x00 ∷ 0x01 ∷ 0x02 ∷ 0x01 ∷ 0x78 ∷ 0x56 ∷ 0x34 ∷ 0x12 ∷ 0x00 ∷ 0x00 ∷ 0x00 ∷ 0x80 ∷ [])
+      (fix Self32 (pos 256) (Named 0x102 0x12345678) 0x80000000 ∷ [])
   -- 80h makes the ordinal a byte, whatever 10h says; 10h alone a doubleword
   pub byte_ordinal : IsRecord (0x07 ∷ 0x91 ∷ 0x00 ∷ 0x00 ∷ 0x01 ∷ 0x05 ∷ []) (fix Off32 (pos 0) (Ordinal 1 5) 0 ∷ [])
   pub wide_ordinal : IsRecord (0x07 ∷ 0x11 ∷ 0x00 ∷ 0x00 ∷ 0x01 ∷ 0x05 ∷ 0x00 ∷ 0x01 ∷ 0x00 ∷ []) (fix Off32 (pos 0) (Ordinal 1 0x10005) 0 ∷ [])
   pub word_ordinal : IsRecord (0x07 ∷ 0x01 ∷ 0x00 ∷ 0x00 ∷ 0x01 ∷ 0x05 ∷ 0x01 ∷ []) (fix Off32 (pos 0) (Ordinal 1 0x105) 0 ∷ [])
   -- an additive of four bytes, at an offset in an object of two
-  pub wide_additive : IsRecord (0x07 ∷ 0x24 ∷ 0x00 ∷ 0x00 ∷ 0x01 ∷ 0x10 ∷ 0x00 ∷ 0x78 ∷ 0x56 ∷ 0x34 ∷ 0x12 ∷ []) (fix Off32 (pos 0) (Internal 1 0x10) 0x12345678 ∷ [])
+  pub wide_additive : IsRecord (0x07 ∷ 0x24 ∷ 0x00 ∷ 0x00 ∷ 0x01 ∷ 0x10 ∷ 0x00 ∷ 0x78 ∷ 0x56 ∷ 0x34 ∷ 0x12 ∷ [])
+      (fix Off32 (pos 0) (Internal 1 0x10) 0x12345678 ∷ [])
   -- an ordinal of the entry table, of two bytes
   pub own : IsRecord (0x06 ∷ 0x43 ∷ 0x10 ∷ 0x00 ∷ 0x2C ∷ 0x01 ∷ []) (fix Far32 (pos 16) (Own 300) 0 ∷ [])
   -- a selector of the alias: its target has no offset
