@@ -21,7 +21,7 @@ pub use pages::{Pages, first_refusal, have_bytes, place_pages};
 pub use paging::{PageFixes, object_fixes, page_fixes};
 pub use painting::{PlacedPiece, object_rows, paint_fields, placed_data};
 pub use refusal::refusal_of;
-pub use standing::{data_of, standings_of};
+pub use standing::standings_of;
 pub use start::start_place;
 pub use tables::{FirstNames, ImportTables, pair_of, tables_of};
 pub use values::{field_of, is_patched};
