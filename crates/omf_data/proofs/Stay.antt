@@ -20,7 +20,7 @@ use Rattle.omf_model.proofs.BegunLaws.{begun-whole}
 use Rattle.omf_model.proofs.PartsLaws.{add-lists}
 use Rattle.omf_fields.proofs.SpanLaws.{ok_is}
 use Rattle.omf_data.specs.declared.marks.Marks.{Marks}
-use Rattle.omf_data.specs.Marks.{HavePieces, HaveFixes, AreMarks, is_at}
+use Rattle.omf_data.specs.Marks.{HavePieces, HaveFixes, AreMarks, has_byte, touches_bare}
 
 -- more behind them
 pub pieces-more : (m : Marks) (xs ys : List Piece) → HavePieces m xs → HavePieces m (xs ++ ys)
@@ -32,7 +32,8 @@ pieces-more m xs ys have = record {
 pub fixes-more : (m : Marks) (xs ys : List FixAt) → HaveFixes m xs → HaveFixes m (xs ++ ys)
 fixes-more m xs ys have = record {
   seen = omega (arith, have.seen, length-append xs ys);
-  located = λ k. have.located k ∙ ap (list_any (is_at k)) (sym (take-append-le m.fixes xs ys have.seen));
+  located = λ seg x. have.located seg x ∙ ap (list_any (has_byte seg x)) (sym (take-append-le m.fixes xs ys have.seen));
+  bare = λ seg start len. have.bare seg start len ∙ ap (list_any (touches_bare seg start len)) (sym (take-append-le m.fixes xs ys have.seen));
 }
 
 -- a record more

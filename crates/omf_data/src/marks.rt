@@ -1,6 +1,6 @@
-//! How many bytes of data there are so far, and where the locations of the fixes so far lie.
+//! How many bytes of data there are so far, and which bytes the locations of the fixes so far have.
 
-ghost use Rattle.std.specs.Prelude.{◌≡◌, ◌+◌, ◌<◌, ◌≤◌, OnOk, length};
+ghost use Rattle.std.specs.Prelude.{◌≡◌, ◌+◌, ◌≤◌, ◌&&◌, ◌==◌, OnErr, OnOk, length, nat_lt};
 ghost use Rattle.std.specs.List.{list_any, sum_by};
 ghost use Rattle.obj_types.specs.declared.limits.TheConstants.{MAX_DATA};
 ghost use Rattle.obj_types.specs.declared.object.FixAt.{FixAt};
@@ -8,32 +8,33 @@ ghost use Rattle.obj_types.specs.declared.object.Piece.{Piece};
 ghost use Rattle.obj_types.specs.declared.parts.ObjParts.{ObjParts};
 ghost use Rattle.omf_model.specs.Fixups.{touches};
 ghost use Rattle.omf_model.specs.Items.{data_so_far};
-ghost use Rattle.omf_data.specs.Marks.{AreMarks, HaveAll, HaveFixes, HavePieces, reaches as reaches_behind};
+ghost use Rattle.omf_data.specs.Marks.{AreMarks, HaveAll, HaveFixes, HavePieces, KeepsCounts, KeepsLocations, SeesLocation, is_inside};
 
+use byte_marks::ByteMarks;
 use lx_types::NoMemory;
 use obj_types::{FixAt, ObjParts, Piece, location_len};
 use std::alloc::Global;
-use std::collections::BTreeSet;
-
-// The longest location has this many bytes.
-const LONGEST: u64 = 6;
 
 /// The marks of an unfinished module's pieces ("A0h LEDATA", "A2h LIDATA") and fixes ("9Ch FIXUPP"), or of the first of
-/// them: what came since is seen before marks are asked.
+/// them: what came since is seen before marks are asked. They take a bit for each byte of the pages of 4,096 bytes that
+/// have one of a location.
 #[derive(Drop)]
 pub struct Marks {
     pieces: usize,
     bytes: u32,
     fixes: usize,
-    // The segment, the offset and the kind of each location, in this order.
-    locations: BTreeSet<(u32, u64, u8)>,
+    // The bytes of the locations, by segment and offset.
+    located: ByteMarks,
+    // The segment and the offset of each location of a kind that there is not, which has no byte.
+    bare: Vec<(u32, u32)>,
 }
 
-/// Whether a location has a byte behind an offset or at it.
-fn reaches(location: &(u32, u64, u8), start: u64) -> bool
-    ensures { result ≡ reaches_behind start location.now }
+/// Whether one of these places without a byte has bytes of the segment on both sides, of `len` from `start` on.
+fn is_around(bare: &[(u32, u32)], seg: u32, start: u32, len: u32) -> bool
+    ensures { result ≡ list_any (λ place. place.0 == seg && nat_lt start place.1 && nat_lt place.1 (start + len)) bare.now }
 {
-    start < location.1 || start - location.1 < u64::from(location_len(location.2))
+    let past = u64::from(start) + u64::from(len);
+    bare.iter().any(|place| place.0 == seg && start < place.1 && (place.1 as u64) < past)
 }
 
 impl Marks {
@@ -45,7 +46,8 @@ impl Marks {
             pieces: 0,
             bytes: 0,
             fixes: 0,
-            locations: BTreeSet::new(alloc),
+            located: ByteMarks::new(alloc),
+            bare: Vec::new(alloc),
         }
     }
 
@@ -61,6 +63,20 @@ impl Marks {
         }
     }
 
+    /// Sees the location of a fix. After want of memory it has not.
+    fn see_location(&mut self, fix: &FixAt) -> Result<(), NoMemory>
+        ensures ok { OnOk result (SeesLocation self.old self.new fix.now) }
+        ensures err { OnErr result (KeepsLocations self.old self.new) }
+        ensures counts { KeepsCounts self.old self.new }
+    {
+        let len = location_len(fix.loc);
+        if len == 0 {
+            self.bare.push((fix.seg, fix.offset))?;
+            return Ok(());
+        }
+        self.located.mark(fix.seg, fix.offset, u32::from(len))
+    }
+
     /// Sees the fixes that came since.
     fn see_fixes(&mut self, fixes: &[FixAt]) -> Result<(), NoMemory>
         requires seen { HaveFixes self.old fixes.now }
@@ -70,10 +86,7 @@ impl Marks {
         ensures bytes { self.new.bytes ≡ self.old.bytes }
     {
         'fixes: while self.fixes < fixes.len() {
-            let fix = &fixes[self.fixes];
-            let _new = self
-                .locations
-                .insert((fix.seg, fix.offset as u64, fix.loc))?;
+            self.see_location(&fixes[self.fixes])?;
             self.fixes += 1;
         }
         Ok(())
@@ -97,19 +110,10 @@ impl Marks {
         self.bytes
     }
 
-    /// Whether `len` bytes of a segment from `start` on share one with the location of a fix. Only the locations that
-    /// begin among them, or less than the longest location before them, are looked at.
+    /// Whether `len` bytes of a segment from `start` on share one with the location of a fix.
     pub fn is_on_fix(&self, seg: u32, start: u32, len: u32) -> bool
         ensures { (p : ObjParts) → HaveAll self.now p → result ≡ list_any (touches seg start len) p.module.fixes }
     {
-        if len == 0 {
-            return false;
-        }
-        let start = start as u64;
-        let first = (seg, start.saturating_sub(LONGEST - 1), 0);
-        let past = (seg, start + len as u64, 0);
-        self.locations
-            .range(first..past)
-            .any(|location| reaches(location, start))
+        self.located.has_any(seg, start, len) || is_around(self.bare.as_slice(), seg, start, len)
     }
 }

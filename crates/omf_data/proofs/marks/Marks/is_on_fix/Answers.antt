@@ -1,18 +1,23 @@
-use Rattle.std.proofs.Common.{rules, tests, ℕ, ◌+◌, ◌-◌, sym, ap, ◌∙◌, arith}
-use Rattle.std.specs.declared.ops.Bound.TheVariants.{Included, Excluded}
-use Rattle.std.specs.BTreeSet.{keys_between}
-use Rattle.std.proofs.lemmas.Iterator.Consumers.{YieldsList-from_rest}
-use Rattle.std.proofs.lemmas.Iterator.Search.{any_from_yields_List}
-use Rattle.omf_data.specs.Marks.{order, reaches}
-use Rattle.omf_data.proofs.Touched.{all-located, any-touched, none-touched}
+use Rattle.std.proofs.Common.{◌≡◌, Bool, true, false, refl, sym, ap, ◌∙◌}
+use Rattle.std.specs.Prelude.{◌||◌}
+use Rattle.std.specs.List.{list_any}
+use Rattle.byte_marks.specs.Marks.{is_marked}
+use Rattle.omf_data.specs.Marks.{is_inside, touches_bare}
+use Rattle.omf_data.proofs.Touched.{all-located, all-bare, any-touched}
 use Rattle.omf_data.proofs.marks.Marks.is_on_fix.Goals as goal
 
-pub returns-then-len-eq0 : goal.returns-then-len-eq0
-returns-then-len-eq0 c = λ p have. sym (none-touched c.args.seg c.args.start c.args.len p.module.fixes c.if-len-eq0.true)
+true-or : (a b : Bool) → a ≡ true → a ≡ (a || b)
+true-or true b e = refl
+true-or false b e = absurd cc
 
-pub returns : goal.returns
-returns c = λ p have.
-    any_from_yields_List (reaches c.args.start) _ _ _ c.any.ensures.ran
-    (YieldsList-from_rest (keys_between order (Included (c.args.seg, c.args.start - 5, 0)) (Excluded (c.args.seg, c.args.start + c.args.len, 0)) c.args.self.now.locations) (c.range.ensures.between tt ∙ ap (λ (low : ℕ). keys_between order (Included (c.args.seg, low, 0)) (Excluded (c.args.seg, c.args.start + c.args.len, 0)) c.args.self.now.locations) c.saturating_sub.ensures))
-    (λ x b q k. search (rules, tests))
-    ∙ any-touched c.args.seg c.args.start c.args.len (omega (arith, c.if-len-eq0.false)) c.args.self.now.locations p.module.fixes (all-located c.args.self.now p have)
+pub returns-then-has_any : goal.returns-then-has_any
+returns-then-has_any c = λ p have.
+    let bare = list_any (touches_bare c.args.seg c.args.start c.args.len) p.module.fixes in
+    true-or c.has_any.result bare c.if-has_any.true
+    ∙ any-touched c.args.seg c.args.start c.args.len (is_marked c.args.self.now.located) p.module.fixes c.has_any.result bare (all-located c.args.self.now p have) c.has_any.ensures refl
+
+pub returns-else-has_any : goal.returns-else-has_any
+returns-else-has_any c = λ p have.
+    let bare = c.is_around.ensures ∙ ap (list_any (is_inside c.args.seg c.args.start c.args.len)) c.as_slice.ensures.value ∙ all-bare c.args.self.now p have c.args.seg c.args.start c.args.len in
+    ap (λ (b : Bool). b || c.is_around.result) (sym c.if-has_any.false)
+    ∙ any-touched c.args.seg c.args.start c.args.len (is_marked c.args.self.now.located) p.module.fixes c.has_any.result c.is_around.result (all-located c.args.self.now p have) c.has_any.ensures bare
