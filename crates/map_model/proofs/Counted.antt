@@ -30,7 +30,7 @@ use Rattle.map_model.proofs.Standing.{all_found, contribution_found, common_foun
 map_once : (name : List ℕ) (count : ℕ) → ends (map_line name count) ≡ 1
 unfolding map_line
 map_once name count =
-    one_line (codes "map" ∷ name_word (uppercase name) ∷ codes "objects" ∷ decimal count ∷ []) (refl, (name_free (uppercase name), (refl, (decimal_free count, tt))))
+    one_line (codes "map" ∷ name_word name ∷ codes "objects" ∷ decimal count ∷ []) (refl, (name_free name, (refl, (decimal_free count, tt))))
 
 object_once : (q : ℕ × LaidObject) → ends (object_line q) ≡ 1
 unfolding object_line
@@ -87,14 +87,14 @@ counted : (name : List ℕ) (l : Link) (places values : List Listed) → ends (m
     + (length (filter_map (line_of_common l) (enumerate_from 0 (commons l))) + (length places + (length values + length (imports l))))))
 unfolding map_text
 counted name l places values =
-    let a = map_line name (length (objects l)) in
+    let a = map_line (uppercase name) (length (objects l)) in
     let b = flat_map object_line (enumerate_from 1 (objects l)) in
     let c = flat_map (λ (line : List ℕ). line) (filter_map (line_of_contribution l) (contributions l)) in
     let d = flat_map (λ (line : List ℕ). line) (filter_map (line_of_common l) (enumerate_from 0 (commons l))) in
     let e = flat_map public_line places in
     let f = flat_map constant_line values in
     let g = flat_map import_line (imports l) in
-    let ha = map_once name (length (objects l)) in
+    let ha = map_once (uppercase name) (length (objects l)) in
     let hb = each_one object_line object_once (enumerate_from 1 (objects l)) ∙ length-enumerate_from 1 (objects l) in
     let hc = each_found (line_of_contribution l) (λ x text is. once_mapped (λ place. segment_line x (address_at l place)) (λ place. segment_once x (address_at l place)) (spot l x.by x.index) text is) (contributions l) in
     let hd = each_found (line_of_common l) (λ x text is. once_mapped (λ place. common_line x.1 (address_at l place)) (λ place. common_once x.1 (address_at l place)) (common_spot l x.0) text is) (enumerate_from 0 (commons l)) in

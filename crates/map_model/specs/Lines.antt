@@ -1,7 +1,6 @@
 -- The lines of a map, by their words: bases, addresses, values and flags as eight hexadecimal digits, all other numbers in
 -- decimal.
 use Rattle.std.specs.Prelude.{ℕ, List, [], ◌∷◌, ◌++◌, codes, decimal}
-use Rattle.lx_types.specs.Names.{uppercase}
 use Rattle.lx_types.specs.declared.entry.EntryKey.{EntryKey}
 use Rattle.lx_types.specs.declared.entry.EntryKey.TheVariants.{Ordinal, Named}
 use Rattle.obj_types.specs.declared.symbol.Common.{Common}
@@ -11,9 +10,8 @@ use Rattle.dump_model.specs.Lines.{name_word}
 use Rattle.link_model.specs.declared.symbols.LaidObject.{LaidObject}
 use Rattle.map_model.specs.Listed.{Contribution, Listed}
 
--- The module's name is in upper case.
 unfoldable pub map_line : List ℕ → ℕ → List ℕ
-map_line name count = line_of (codes "map" ∷ name_word (uppercase name) ∷ codes "objects" ∷ decimal count ∷ [])
+map_line name count = line_of (codes "map" ∷ name_word name ∷ codes "objects" ∷ decimal count ∷ [])
 
 -- object k, from 1
 unfoldable pub object_line : ℕ × LaidObject → List ℕ

@@ -5,6 +5,7 @@ use Rattle.std.specs.Option.{option_map}
 use Rattle.std.specs.declared.cmp.Ordering.{Ordering}
 use Rattle.std.specs.Ordering.{nat_cmp, ordering_then}
 use Rattle.std.specs.Cmp.Lexicographic.{slice_cmp}
+use Rattle.lx_types.specs.Names.{uppercase}
 use Rattle.obj_types.specs.declared.symbol.Common.{Common}
 use Rattle.link_model.specs.Link.{Link}
 use Rattle.link_model.specs.Layout.{objects, spot, common_spot}
@@ -40,11 +41,11 @@ pub record AreInOrder (cmp : Listed → Listed → Ordering) (items sorted : Lis
 
 -- ---- the text
 
--- The module, its objects, the contributions by chosen module and segment, the communals by slot, the publics that have a
+-- The module by its name in upper case, its objects, the contributions by chosen module and segment, the communals by slot, the publics that have a
 -- place and the others, in these orders, and the import pairs by slot.
 unfoldable pub map_text : List ℕ → Link → List Listed → List Listed → List ℕ
 map_text name l places values =
-    map_line name (length (objects l))
+    map_line (uppercase name) (length (objects l))
     ++ (flat_map object_line (enumerate_from 1 (objects l))
     ++ (flat_map (λ line. line) (filter_map (line_of_contribution l) (contributions l))
     ++ (flat_map (λ line. line) (filter_map (line_of_common l) (enumerate_from 0 (commons l)))
