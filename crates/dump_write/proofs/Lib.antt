@@ -1,2 +1,1 @@
-pub mod LeadingLaws
 pub mod LinesPushed

@@ -14,8 +14,8 @@ use Rattle.dump_model.specs.declared.listing.ListedPage.{ListedPage}
 use Rattle.dump_model.specs.declared.listing.Listing.{Listing}
 use Rattle.dump_model.specs.Lines.{name_word, kind_word, start_words, data_words, source_word, alias_words, target_words, head_words, module_line, object_line, page_line, fix_line, entry_line, name_line, end_line}
 use Rattle.dump_model.specs.Dumps.{page_lines, object_lines, numbered_import_line, Dump}
-use Rattle.dump_write.specs.Words.{leading}
-use Rattle.dump_write.proofs.LeadingLaws.{some-behind, group-pushed, behind-pushed}
+use Rattle.line_words.specs.Words.{leading}
+use Rattle.line_words.proofs.LeadingLaws.{some-behind, group-pushed, behind-pushed}
 
 pub fix-pushed : (out z a b c d new : List ℕ) (k i : ℕ) (f : Fix) → z ≡ out ++ leading (codes "fix" ∷ decimal k ∷ decimal i ∷ [])
     → a ≡ z ++ leading (signed_decimal f.offset ∷ []) → b ≡ a ++ leading (source_word f.source ∷ []) → c ≡ b ++ leading (alias_words f.alias) → d ≡ c ++ leading (target_words f.target)

@@ -6,7 +6,7 @@ ghost use Rattle.session_model.specs.Text.{line_of};
 ghost use Rattle.dump_model.specs.Lines.{head_words, import_line, entry_line, name_line};
 ghost use Rattle.dump_model.specs.Dumps.{numbered_import_line};
 
-use crate::words::{Word, push_leading, push_line};
+use line_words::{Word, push_leading, push_line};
 use lx_types::{EntryHead, FwdKey, Name};
 use std::alloc::AllocError;
 

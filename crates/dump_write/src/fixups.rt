@@ -3,9 +3,9 @@
 ghost use Rattle.std.specs.Prelude.{◌≡◌, ◌++◌, ◌∷◌, [], OnOk};
 ghost use Rattle.std.specs.Fmt.{signed_decimal};
 ghost use Rattle.dump_model.specs.Lines.{source_word, alias_words, target_words, fix_line};
-ghost use Rattle.dump_write.specs.Words.{leading};
+ghost use Rattle.line_words.specs.Words.{leading};
 
-use crate::words::{Word, push_leading, push_line};
+use line_words::{Word, push_leading, push_line};
 use lx_types::{Fix, FixTarget, Source};
 use std::alloc::AllocError;
 

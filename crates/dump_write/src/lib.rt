@@ -5,6 +5,5 @@ mod entries;
 mod fixups;
 mod objects;
 mod printing;
-mod words;
 
 pub use printing::dump;

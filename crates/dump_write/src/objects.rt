@@ -7,8 +7,8 @@ ghost use Rattle.dump_model.specs.Dumps.{page_lines, object_lines};
 ghost use Rattle.session_model.specs.Text.{line_of};
 
 use crate::fixups::{PageNumber, push_fix};
-use crate::words::{Word, push_leading, push_line};
 use dump_model::{ListedObject, ListedPage};
+use line_words::{Word, push_leading, push_line};
 use lx_types::{Fix, PageKind};
 use std::alloc::AllocError;
 
@@ -65,8 +65,8 @@ fn push_object(out: &mut Vec<u8>, number: u64, object: &ListedObject) -> Result<
     let pages = object.pages.as_slice();
     push_leading(out, &[Word::Text(b"object"), Word::Count(number)])?;
     push_leading(out, &[Word::Text(b"size"), Word::Number(object.size)])?;
-    push_leading(out, &[Word::Text(b"base"), Word::Flags(object.base)])?;
-    push_leading(out, &[Word::Text(b"flags"), Word::Flags(object.flags)])?;
+    push_leading(out, &[Word::Text(b"base"), Word::Hex(object.base)])?;
+    push_leading(out, &[Word::Text(b"flags"), Word::Hex(object.flags)])?;
     push_line(
         out,
         &[Word::Text(b"pages"), Word::Count(pages.len() as u64)],

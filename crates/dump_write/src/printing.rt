@@ -4,12 +4,12 @@ ghost use Rattle.std.specs.Prelude.{◌≡◌, ◌++◌, ◌∷◌, [], OnOk, If
 ghost use Rattle.session_model.specs.Text.{line_of};
 ghost use Rattle.dump_model.specs.Lines.{kind_word, start_words, module_line};
 ghost use Rattle.dump_model.specs.Dumps.{Dump};
-ghost use Rattle.dump_write.specs.Words.{leading};
+ghost use Rattle.line_words.specs.Words.{leading};
 
 use crate::entries::{push_entries, push_imports, push_names};
 use crate::objects::push_objects;
-use crate::words::{Word, push_leading, push_line};
 use dump_model::Listing;
+use line_words::{Word, push_leading, push_line};
 use lx_types::{Bytes, NoMemory, Seq};
 use std::alloc::{AllocError, Global};
 
@@ -41,7 +41,7 @@ fn push_module(out: &mut Vec<u8>, l: &Listing) -> Result<(), AllocError>
     let name = Word::Name(l.name.bytes());
     push_leading(out, &[Word::Text(b"module"), name])?;
     push_kind(out, l.library)?;
-    push_leading(out, &[Word::Text(b"flags"), Word::Flags(l.flags)])?;
+    push_leading(out, &[Word::Text(b"flags"), Word::Hex(l.flags)])?;
     push_leading(out, &[Word::Text(b"start")])?;
     push_start(out, l.start)
 }

@@ -2,7 +2,7 @@ use Rattle.std.proofs.Common.{[], ◌∷◌, ◌++◌, ap, ◌∙◌}
 use Rattle.std.specs.Prelude.{codes}
 use Rattle.std.proofs.lemmas.Result.{on_ok_weaker}
 use Rattle.dump_model.specs.Lines.{name_word}
-use Rattle.dump_write.specs.Words.{leading}
+use Rattle.line_words.specs.Words.{leading}
 use Rattle.dump_write.proofs.LinesPushed.{module-pushed, some-start}
 use Rattle.dump_write.proofs.printing.push_module.Goals as goal
 

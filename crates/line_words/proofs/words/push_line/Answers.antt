@@ -1,6 +1,6 @@
 use Rattle.std.proofs.lemmas.Result.{on_ok_weaker}
-use Rattle.dump_write.proofs.LeadingLaws.{line-pushed}
-use Rattle.dump_write.proofs.words.push_line.Goals as goal
+use Rattle.line_words.proofs.LeadingLaws.{line-pushed}
+use Rattle.line_words.proofs.words.push_line.Goals as goal
 
 pub returns-in_ok-push_word-in-len1-up : goal.returns-in_ok-push_word-in-len1-up
 returns-in_ok-push_word-in-len1-up c =

@@ -1,11 +1,11 @@
-//! The words of a line.
+//! The words of a line, as dumps and maps print them.
 
-ghost use Rattle.std.specs.Prelude.{◌≡◌, ◌++◌, ◌∷◌, ◌<◌, [], map, decimal, OnOk};
+ghost use Rattle.std.specs.Prelude.{◌≡◌, ◌++◌, ◌∷◌, ◌<◌, [], map, codes, decimal, OnOk};
 ghost use Rattle.std.specs.Fmt.{signed_decimal};
 ghost use Rattle.lx_types.specs.Escaped.{hex_digit, hex_byte};
 ghost use Rattle.session_model.specs.Text.{hex_address, line_of};
 ghost use Rattle.dump_model.specs.Lines.{name_word};
-ghost use Rattle.dump_write.specs.Words.{word_text, leading};
+ghost use Rattle.line_words.specs.Words.{word_text, leading};
 
 use itoa::Buffer;
 use lx_types::push_escaped;
@@ -13,7 +13,7 @@ use std::alloc::AllocError;
 
 /// A word.
 #[derive(Clone, Copy)]
-pub(crate) enum Word<'a> {
+pub enum Word<'a> {
     /// As it stands.
     Text(&'a [u8]),
     Number(u32),
@@ -21,7 +21,9 @@ pub(crate) enum Word<'a> {
     Count(u64),
     Signed(i32),
     /// Eight hexadecimal digits.
-    Flags(u32),
+    Hex(u32),
+    /// An ordinal, behind `@`.
+    Ordinal(u32),
     /// A name, with its escapes.
     Name(&'a [u8]),
 }
@@ -42,7 +44,7 @@ fn push_hex_byte(out: &mut Vec<u8>, n: u32) -> Result<(), AllocError>
     Ok(())
 }
 
-fn push_flags(out: &mut Vec<u8>, n: u32) -> Result<(), AllocError>
+fn push_hex(out: &mut Vec<u8>, n: u32) -> Result<(), AllocError>
     ensures { OnOk result (out.new.items ≡ out.old.items ++ hex_address n) }
 {
     push_hex_byte(out, n / 0x100_0000)?;
@@ -61,6 +63,13 @@ fn push_signed(out: &mut Vec<u8>, n: i32) -> Result<(), AllocError>
     ensures { OnOk result (out.new.items ≡ out.old.items ++ signed_decimal n) }
 {
     out.extend_from_slice(Buffer::new().format(n).as_bytes())
+}
+
+fn push_ordinal(out: &mut Vec<u8>, n: u32) -> Result<(), AllocError>
+    ensures { OnOk result (out.new.items ≡ out.old.items ++ (codes "@" ++ decimal n)) }
+{
+    out.push(b'@')?;
+    push_number(out, u64::from(n))
 }
 
 // The empty name is `%`, which no other name is.
@@ -82,13 +91,14 @@ fn push_word(out: &mut Vec<u8>, word: Word<'_>) -> Result<(), AllocError>
         Word::Number(n) => push_number(out, u64::from(n)),
         Word::Count(n) => push_number(out, n),
         Word::Signed(n) => push_signed(out, n),
-        Word::Flags(n) => push_flags(out, n),
+        Word::Hex(n) => push_hex(out, n),
+        Word::Ordinal(n) => push_ordinal(out, n),
         Word::Name(name) => push_name(out, name),
     }
 }
 
 /// The first words of a line, each with the blank behind it.
-pub(crate) fn push_leading(out: &mut Vec<u8>, words: &[Word<'_>]) -> Result<(), AllocError>
+pub fn push_leading(out: &mut Vec<u8>, words: &[Word<'_>]) -> Result<(), AllocError>
     ensures { OnOk result (out.new.items ≡ out.old.items ++ leading (map word_text words.now)) }
 {
     for word in words {
@@ -106,7 +116,7 @@ fn push_end(out: &mut Vec<u8>) -> Result<(), AllocError>
 }
 
 /// A line of words, or its last ones.
-pub(crate) fn push_line(out: &mut Vec<u8>, words: &[Word<'_>]) -> Result<(), AllocError>
+pub fn push_line(out: &mut Vec<u8>, words: &[Word<'_>]) -> Result<(), AllocError>
     ensures { OnOk result (out.new.items ≡ out.old.items ++ line_of (map word_text words.now)) }
 {
     match words {

@@ -2,8 +2,8 @@
 use Rattle.std.proofs.Common.{◌≡◌, ℕ, zero, suc, ◌-◌, ◌≤◌, List, [], ◌∷◌, ◌++◌, length, map, take, get_or, arith, refl, sym, ap, ◌∙◌, append_assoc}
 use Rattle.session_model.specs.Text.{line_of}
 use Rattle.dump_model.proofs.LineLaws.{line-cons}
-use Rattle.dump_write.specs.declared.words.Word.{Word}
-use Rattle.dump_write.specs.Words.{word_text, leading}
+use Rattle.line_words.specs.declared.words.Word.{Word}
+use Rattle.line_words.specs.Words.{word_text, leading}
 
 -- words behind the first ones of a line
 pub leading-line : (ws us : List (List ℕ)) → 1 ≤ length us → leading ws ++ line_of us ≡ line_of (ws ++ us)

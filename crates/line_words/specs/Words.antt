@@ -1,18 +1,19 @@
 -- The words of a line, as the code holds them.
-use Rattle.std.specs.Prelude.{ℕ, List, [], ◌∷◌, ◌++◌, decimal}
+use Rattle.std.specs.Prelude.{ℕ, List, [], ◌∷◌, ◌++◌, codes, decimal}
 use Rattle.std.specs.Fmt.{signed_decimal}
 use Rattle.std.specs.List.{flat_map}
 use Rattle.session_model.specs.Text.{hex_address}
 use Rattle.dump_model.specs.Lines.{name_word}
-use Rattle.dump_write.specs.declared.words.Word.{Word}
-use Rattle.dump_write.specs.declared.words.Word.TheVariants.{Text, Number, Count, Signed, Flags, Name}
+use Rattle.line_words.specs.declared.words.Word.{Word}
+use Rattle.line_words.specs.declared.words.Word.TheVariants.{Text, Number, Count, Signed, Hex, Ordinal, Name}
 
 abbrev pub word_text : Word → List ℕ
 word_text (Text text) = text.now
 word_text (Number n) = decimal n
 word_text (Count n) = decimal n
 word_text (Signed n) = signed_decimal n
-word_text (Flags n) = hex_address n
+word_text (Hex n) = hex_address n
+word_text (Ordinal n) = codes "@" ++ decimal n
 word_text (Name name) = name_word name.now
 
 -- a word, and the blank in front of the next
