@@ -14,7 +14,7 @@ HEAD = """\
 """
 
 # The commands that save nothing.
-SHOWING = ("image", "dump")
+SHOWING = ("image", "dump", "map")
 
 
 def content(name):

@@ -11,7 +11,7 @@ use Rattle.gen_model.specs.Sums.{totals_line}
 use Rattle.gen_laws.specs.Laws.{FirstHaveTotals, IsOne, ObjectsHaveFiles}
 use Rattle.lx_answer.specs.GenAnswer.{AreObjectFiles, GenWords, SavesInTurn, SaysGen, files_with}
 use Rattle.lx_answer.specs.Outcome.{Saved}
-use Rattle.lx_answer.specs.Words.{Command, MOST, base_of, bind, bind_of, command_of, count_of, dump_of, gen, gen_of, image, image_of, implib_of, link_of}
+use Rattle.lx_answer.specs.Words.{Command, MOST, base_of, bind, bind_of, command_of, count_of, dump_of, gen, gen_of, image, image_of, implib_of, link_of, map_of}
 use Rattle.lx_answer.specs.declared.said.Said.{Said}
 use Rattle.answer_laws.proofs.Loads.{AreSound}
 
@@ -86,6 +86,11 @@ all_dump [] = tt
 all_dump (file ∷ []) = tt
 all_dump (file ∷ more ∷ words) = tt
 
+all_map : (words : List (List ℕ)) → IsCounted (map_of words)
+all_map [] = tt
+all_map (definition ∷ []) = tt
+all_map (definition ∷ input ∷ inputs) = tt
+
 either : (b : Bool) (c d : Option Command) → IsCounted c → IsCounted d → IsCounted (cond b c d)
 either true c d h k = h
 either false c d h k = k
@@ -98,7 +103,8 @@ all_counted (word ∷ words) =
     (either (bytes_eq word (codes "implib")) (implib_of words) _ (all_implib words)
     (either (bytes_eq word (codes "bind")) (bind_of words) _ (all_bind words)
     (either (bytes_eq word (codes "gen")) (gen_of words) _ (all_gen words)
-    (either (bytes_eq word (codes "dump")) (dump_of words) None (all_dump words) tt)))))
+    (either (bytes_eq word (codes "dump")) (dump_of words) _ (all_dump words)
+    (either (bytes_eq word (codes "map")) (map_of words) None (all_map words) tt))))))
 
 -- ---- the object files
 

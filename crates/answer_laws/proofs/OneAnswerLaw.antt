@@ -1,23 +1,29 @@
 -- Words and contents have one answer at most.
 use Rattle.std.proofs.Common.{◌≡◌, ◌⊎◌, ℕ, List, [], ◌∷◌, ◌++◌, inl, inr, refl, ap, sym, subst, ◌∙◌}
-use Rattle.std.specs.Prelude.{Result, Ok, Err, Option, None, Some}
+use Rattle.std.specs.Prelude.{Result, Ok, Err, Option, None, Some, option_map}
 use Rattle.lx_ports.specs.Calls.{Call, load, save}
 use Rattle.lx_ports.specs.Files.{Contents}
 use Rattle.lx_ports.specs.declared.files.SaveFault.{SaveFault}
 use Rattle.obj_types.specs.declared.object.ObjModule.{ObjModule}
+use Rattle.obj_types.specs.declared.input.LinkInput.{LinkInput}
+use Rattle.link_model.specs.Link.{Link}
 use Rattle.link_model.specs.OneSegment.{alone}
+use Rattle.link_model.specs.Refusal.{link_refusal}
+use Rattle.image_model.specs.Linked.{called}
+use Rattle.map_model.specs.MapLaws.{MapsAreOne}
 use Rattle.gen_laws.proofs.OneLink.{link_once}
 use Rattle.lx_answer.specs.Answer.{Answer, IsSound, saves_in}
 use Rattle.lx_answer.specs.BindAnswer.{BindAnswer, bind_outcome}
 use Rattle.lx_answer.specs.ImageAnswer.{NAME, ImageAnswer, image_outcome}
 use Rattle.lx_answer.specs.ImplibAnswer.{all_imports, implib_outcome}
-use Rattle.lx_answer.specs.LinkAnswer.{LinkAnswer, input_of, link_outcome}
-use Rattle.lx_answer.specs.Outcome.{Outcome, Saved}
+use Rattle.lx_answer.specs.LinkAnswer.{LinkAnswer, input_of, input_with, link_outcome, link_text}
+use Rattle.lx_answer.specs.MapAnswer.{MapAnswer, MapsInput, ShowsMap, NAME as MAP}
+use Rattle.lx_answer.specs.Outcome.{Outcome, Saved, shown}
 use Rattle.lx_answer.specs.Reading.{Item, object, linked, resources}
 use Rattle.lx_answer.specs.Loading.{IsStopped}
 use Rattle.lx_answer.specs.Says.{ComesTo, Finishes, IsDone, IsSaved, SaysCommand, asked_files, said_after}
 use Rattle.lx_answer.specs.Stem.{stem_of}
-use Rattle.lx_answer.specs.Words.{Command, command_of, image, link, implib, bind, gen, dump}
+use Rattle.lx_answer.specs.Words.{Command, command_of, image, link, implib, bind, gen, dump, link_map}
 use Rattle.lx_answer.specs.declared.said.Said.{Said}
 use Rattle.answer_laws.specs.AnswerLaws.{AreSame, OneAnswer}
 use Rattle.answer_laws.proofs.GeneratedOnce.{gen_files_once, gen_said_once}
@@ -25,18 +31,29 @@ use Rattle.answer_laws.proofs.Loads.{ap2, AreSound, sound_front, sound_back, Sam
 
 -- ---- what the items come to
 
-comes_once : (command : Command) (items : List Item) (o p : Outcome) → ComesTo command items o → ComesTo command items p → o ≡ p
-comes_once (image file base) (object m ∷ []) o p h k =
+map_shown_once : MapsAreOne → (l : Link) (why : Option (List ℕ)) (o p : Outcome) → ShowsMap l why o → ShowsMap l why p → o ≡ p
+map_shown_once one l None o p h k = h.2 ∙ (ap (λ text. shown text) (one (called l) l h.0 k.0 h.1 k.1) ∙ sym k.2)
+map_shown_once one l (Some why) o p h k = h ∙ sym k
+
+map_once : MapsAreOne → (input : LinkInput) (o p : Outcome) → MapsInput input o → MapsInput input p → o ≡ p
+map_once one input o p h k =
+    let same : h.link ≡ k.link = link_once input h.link k.link h.of_input k.of_input in
+    let Q : Link → Type 0 = λ l. ShowsMap l (option_map link_text (link_refusal l)) p in
+    map_shown_once one h.link (option_map link_text (link_refusal h.link)) o p h.shows (subst Q (sym same) k.shows)
+
+comes_once : MapsAreOne → (command : Command) (items : List Item) (o p : Outcome) → ComesTo command items o → ComesTo command items p → o ≡ p
+comes_once one (image file base) (object m ∷ []) o p h k =
     h.comes_to ∙ (ap image_outcome (link_once (alone m NAME base) h.link k.link h.of_input k.of_input) ∙ sym k.comes_to)
-comes_once (image file base) items o p h k = absurd h
-comes_once (link out definition inputs) items o p h k =
+comes_once one (image file base) items o p h k = absurd h
+comes_once one (link out definition inputs) items o p h k =
     h.comes_to ∙ (ap (link_outcome out) (link_once (input_of out items) h.link k.link h.of_input k.of_input) ∙ sym k.comes_to)
-comes_once (implib out inputs) items o p h k = h ∙ sym k
-comes_once (bind out target file) (linked m ∷ resources xs ∷ []) o p h k = h ∙ sym k
-comes_once (bind out target file) items o p h k = absurd h
-comes_once (gen count prefix) items o p h k = absurd h
-comes_once (dump file) (linked m ∷ []) o p h k = h ∙ sym k
-comes_once (dump file) items o p h k = absurd h
+comes_once one (implib out inputs) items o p h k = h ∙ sym k
+comes_once one (bind out target file) (linked m ∷ resources xs ∷ []) o p h k = h ∙ sym k
+comes_once one (bind out target file) items o p h k = absurd h
+comes_once one (gen count prefix) items o p h k = absurd h
+comes_once one (dump file) (linked m ∷ []) o p h k = h ∙ sym k
+comes_once one (dump file) items o p h k = absurd h
+comes_once one (link_map definition inputs) items o p h k = map_once one (input_with MAP items) o p h k
 
 -- ---- the save
 
@@ -58,14 +75,14 @@ finishes_once contents (Some saved) o cs ds s t sc sd h k =
 
 -- ---- the whole command
 
-done_once : (contents : Contents) (command : Command) (cs ds : List Call) (s t : Said) → AreSound contents cs → AreSound contents ds
+done_once : MapsAreOne → (contents : Contents) (command : Command) (cs ds : List Call) (s t : Said) → AreSound contents cs → AreSound contents ds
     → IsDone command cs s → IsDone command ds t → SameStop cs ds s t
-done_once contents command cs ds s t sc sd h k =
+done_once one contents command cs ds s t sc sd h k =
     let sc2 : AreSound contents (h.loads ++ h.saves) = subst (AreSound contents) h.calls_are sc in
     let sd2 : AreSound contents (k.loads ++ k.saves) = subst (AreSound contents) k.calls_are sd in
     let loads : SameReads h.loads k.loads h.items k.items =
     reads_once contents (asked_files command) h.loads k.loads h.items k.items (sound_front contents h.loads h.saves sc2) (sound_front contents k.loads k.saves sd2) h.read k.read in
-    let same : h.outcome ≡ k.outcome = comes_once command h.items h.outcome k.outcome h.comes_to (subst (λ items. ComesTo command items k.outcome) (sym loads.items) k.comes_to) in
+    let same : h.outcome ≡ k.outcome = comes_once one command h.items h.outcome k.outcome h.comes_to (subst (λ items. ComesTo command items k.outcome) (sym loads.items) k.comes_to) in
     let end : Finishes h.outcome.saved h.outcome k.saves t = subst (λ (o : Outcome). Finishes o.saved o k.saves t) (sym same) k.finished in
     let saves = finishes_once contents h.outcome.saved h.outcome h.saves k.saves s t (sound_back contents h.loads h.saves sc2) (sound_back contents k.loads k.saves sd2) h.finished end in
     record {
@@ -76,40 +93,41 @@ done_once contents command cs ds s t sc sd h k =
 abbrev pub SaysRead : Command → List Call → Said → Type 0
 SaysRead command calls said = IsStopped (asked_files command) calls said ⊎ IsDone command calls said
 
-done_not_stopped : (contents : Contents) (command : Command) (cs ds : List Call) (s t : Said) → AreSound contents cs → AreSound contents ds
+done_not_stopped : MapsAreOne → (contents : Contents) (command : Command) (cs ds : List Call) (s t : Said) → AreSound contents cs → AreSound contents ds
     → IsDone command cs s → SaysRead command ds t → SameStop cs ds s t
-done_not_stopped contents command cs ds s t sc sd h (inl k) =
+done_not_stopped one contents command cs ds s t sc sd h (inl k) =
     let sc2 : AreSound contents (h.loads ++ h.saves) = subst (AreSound contents) h.calls_are sc in
     absurd (stops_or_reads contents (asked_files command) ds h.loads t h.items sd (sound_front contents h.loads h.saves sc2) (stops (asked_files command) ds t k) h.read)
-done_not_stopped contents command cs ds s t sc sd h (inr k) = done_once contents command cs ds s t sc sd h k
+done_not_stopped one contents command cs ds s t sc sd h (inr k) = done_once one contents command cs ds s t sc sd h k
 
-read_once : (contents : Contents) (command : Command) (cs ds : List Call) (s t : Said) → AreSound contents cs → AreSound contents ds
+read_once : MapsAreOne → (contents : Contents) (command : Command) (cs ds : List Call) (s t : Said) → AreSound contents cs → AreSound contents ds
     → SaysRead command cs s → SaysRead command ds t → SameStop cs ds s t
-read_once contents command cs ds s t sc sd (inr h) k = done_not_stopped contents command cs ds s t sc sd h k
-read_once contents command cs ds s t sc sd (inl h) (inl k) =
+read_once one contents command cs ds s t sc sd (inr h) k = done_not_stopped one contents command cs ds s t sc sd h k
+read_once one contents command cs ds s t sc sd (inl h) (inl k) =
     stops_once contents (asked_files command) cs ds s t sc sd (stops (asked_files command) cs s h) (stops (asked_files command) ds t k)
-read_once contents command cs ds s t sc sd (inl h) (inr k) =
-    let back = done_not_stopped contents command ds cs t s sd sc k (inl h) in
+read_once one contents command cs ds s t sc sd (inl h) (inr k) =
+    let back = done_not_stopped one contents command ds cs t s sd sc k (inl h) in
     record { calls = sym back.calls; said = sym back.said }
 
-module _ (contents : Contents) (cs ds : List Call) (s t : Said) (sc : AreSound contents cs) (sd : AreSound contents ds) where
+module _ (one : MapsAreOne) (contents : Contents) (cs ds : List Call) (s t : Said) (sc : AreSound contents cs) (sd : AreSound contents ds) where
   saves_once : (stop : SameStop cs ds s t) → saves_in cs ≡ saves_in ds
   saves_once stop = ap saves_in stop.calls
 
   says_once : (command : Option Command) → SaysCommand command cs s → SaysCommand command ds t → AreSame command (saves_in cs) (saves_in ds) s t
   says_once None h k = record { files = ap saves_in (h.0 ∙ sym k.0); answer = h.1 ∙ sym k.1 }
-  says_once (Some (image file base)) h k = let same = read_once contents (image file base) cs ds s t sc sd h k in record { files = saves_once same; answer = same.said }
-  says_once (Some (link out definition inputs)) h k = let same = read_once contents (link out definition inputs) cs ds s t sc sd h k in record { files = saves_once same; answer = same.said }
-  says_once (Some (implib out inputs)) h k = let same = read_once contents (implib out inputs) cs ds s t sc sd h k in record { files = saves_once same; answer = same.said }
-  says_once (Some (bind out target file)) h k = let same = read_once contents (bind out target file) cs ds s t sc sd h k in record { files = saves_once same; answer = same.said }
-  says_once (Some (dump file)) h k = let same = read_once contents (dump file) cs ds s t sc sd h k in record { files = saves_once same; answer = same.said }
+  says_once (Some (image file base)) h k = let same = read_once one contents (image file base) cs ds s t sc sd h k in record { files = saves_once same; answer = same.said }
+  says_once (Some (link out definition inputs)) h k = let same = read_once one contents (link out definition inputs) cs ds s t sc sd h k in record { files = saves_once same; answer = same.said }
+  says_once (Some (implib out inputs)) h k = let same = read_once one contents (implib out inputs) cs ds s t sc sd h k in record { files = saves_once same; answer = same.said }
+  says_once (Some (bind out target file)) h k = let same = read_once one contents (bind out target file) cs ds s t sc sd h k in record { files = saves_once same; answer = same.said }
+  says_once (Some (dump file)) h k = let same = read_once one contents (dump file) cs ds s t sc sd h k in record { files = saves_once same; answer = same.said }
+  says_once (Some (link_map d names)) h k = let same = read_once one contents (link_map d names) cs ds s t sc sd h k in record { files = saves_once same; answer = same.said }
   says_once (Some (gen count prefix)) h k = record {
     files = gen_files_once contents (record { count = count; prefix = prefix }) cs ds s t sc sd h k;
     answer = gen_said_once contents (record { count = count; prefix = prefix }) cs ds s t sc sd h k;
   }
 
-pub one_answer : OneAnswer
-one_answer words contents saves others said other h k =
+pub one_answer : MapsAreOne → OneAnswer
+one_answer one words contents saves others said other h k =
     let command = command_of words in
-    let same = says_once contents h.calls k.calls said other h.sound k.sound command h.says k.says in
+    let same = says_once one contents h.calls k.calls said other h.sound k.sound command h.says k.says in
     subst (λ (fs : List Saved). AreSame command fs others said other) (sym h.saves_are) (subst (λ (fs : List Saved). AreSame command (saves_in h.calls) fs said other) (sym k.saves_are) same)

@@ -1,10 +1,14 @@
 -- Words and contents have an answer.
 use Rattle.std.proofs.Common.{◌≡◌, ◌⊎◌, ℕ, List, [], ◌∷◌, ◌++◌, inl, inr, refl, sym, subst}
-use Rattle.std.specs.Prelude.{Result, Ok, Err, Option, None, Some}
+use Rattle.std.specs.Prelude.{Result, Ok, Err, Option, None, Some, option_map}
 use Rattle.lx_ports.specs.Calls.{Call, load, save}
 use Rattle.lx_ports.specs.Files.{Contents}
 use Rattle.lx_ports.specs.declared.files.LoadFault.{LoadFault}
+use Rattle.link_model.specs.Link.{Link}
 use Rattle.link_model.specs.OneSegment.{alone}
+use Rattle.link_model.specs.Refusal.{link_refusal}
+use Rattle.image_model.specs.Linked.{called}
+use Rattle.map_model.specs.MapLaws.{LinksHaveMaps}
 use Rattle.lx_answer.specs.Answer.{saves_in}
 use Rattle.lx_answer.specs.FileLine.{usage_line}
 use Rattle.dump_model.specs.Dumps.{Dump}
@@ -13,13 +17,14 @@ use Rattle.lx_answer.specs.DumpAnswer.{DumpAnswer}
 use Rattle.lx_answer.specs.BindAnswer.{BindAnswer, bind_outcome}
 use Rattle.lx_answer.specs.ImageAnswer.{NAME, ImageAnswer, image_outcome}
 use Rattle.lx_answer.specs.ImplibAnswer.{all_imports, implib_outcome}
-use Rattle.lx_answer.specs.LinkAnswer.{input_of, link_outcome}
+use Rattle.lx_answer.specs.LinkAnswer.{input_of, input_with, link_outcome, link_text}
 use Rattle.lx_answer.specs.Loading.{AreRead, Asked, IsRead, IsStopped, ReadsAnswer}
-use Rattle.lx_answer.specs.Outcome.{Outcome, Saved, shown}
+use Rattle.lx_answer.specs.MapAnswer.{MapAnswer, ShowsMap, NAME as MAP}
+use Rattle.lx_answer.specs.Outcome.{Outcome, Saved, shown, refused}
 use Rattle.lx_answer.specs.Reading.{Item, object, object_file, linked, module_file, resources, resource_file}
 use Rattle.lx_answer.specs.Says.{ComesTo, Finishes, IsDone, SaysCommand, asked_files, said_after}
 use Rattle.lx_answer.specs.Stem.{stem_of}
-use Rattle.lx_answer.specs.Words.{Command, command_of, image, link, implib, bind, gen, dump}
+use Rattle.lx_answer.specs.Words.{Command, command_of, image, link, implib, bind, gen, dump, link_map}
 use Rattle.lx_answer.specs.declared.said.Said.{Said}
 use Rattle.lx_types.specs.declared.parts.Parts.{Parts}
 use Rattle.obj_types.specs.declared.object.ObjModule.{ObjModule}
@@ -112,15 +117,26 @@ dumped_of file calls items h =
     let o = shown (Dump (listing_of m.0)) in
     (o, subst (λ xs. DumpAnswer xs o) (sym one.are) (subst (λ x. DumpAnswer (x ∷ []) o) (sym m.1) refl))
 
-comes_to_some : (command : Command) → ReadsFiles command → (calls : List Call) (items : List Item) → AreRead (asked_files command) calls items → HasOutcome command items
-comes_to_some (image file base) by calls items h = let found = shown_of base file calls items h in record { outcome = found.0; comes_to = found.1 }
-comes_to_some (link out definition inputs) by calls items h =
+map_some : LinksHaveMaps → (l : Link) (why : Option (List ℕ)) → (o : Outcome) × ShowsMap l why o
+map_some have l (Some why) = (refused MAP why, refl)
+map_some have l None = let found = have (called l) l in (shown found.0, (found.0, found.1, refl))
+
+mapped_of : LinksHaveMaps → (items : List Item) → (o : Outcome) × MapAnswer items o
+mapped_of have items =
+    let found = some_link (input_with MAP items) in
+    let some = map_some have found.link (option_map link_text (link_refusal found.link)) in
+    (some.0, record { link = found.link; of_input = found.of_input; shows = some.1 })
+
+comes_to_some : LinksHaveMaps → (command : Command) → ReadsFiles command → (calls : List Call) (items : List Item) → AreRead (asked_files command) calls items → HasOutcome command items
+comes_to_some have (image file base) by calls items h = let found = shown_of base file calls items h in record { outcome = found.0; comes_to = found.1 }
+comes_to_some have (link out definition inputs) by calls items h =
     let found = some_link (input_of out items) in
     record { outcome = link_outcome out found.link; comes_to = record { link = found.link; of_input = found.of_input; comes_to = refl } }
-comes_to_some (implib out inputs) by calls items h = record { outcome = implib_outcome out (all_imports (stem_of out) items); comes_to = refl }
-comes_to_some (bind out target file) by calls items h = let found = bound_of out target file calls items h in record { outcome = found.0; comes_to = found.1 }
-comes_to_some (gen count prefix) by calls items h = absurd by
-comes_to_some (dump file) by calls items h = let found = dumped_of file calls items h in record { outcome = found.0; comes_to = found.1 }
+comes_to_some have (implib out inputs) by calls items h = record { outcome = implib_outcome out (all_imports (stem_of out) items); comes_to = refl }
+comes_to_some have (bind out target file) by calls items h = let found = bound_of out target file calls items h in record { outcome = found.0; comes_to = found.1 }
+comes_to_some have (gen count prefix) by calls items h = absurd by
+comes_to_some have (link_map definition inputs) by calls items h = let found = mapped_of have items in record { outcome = found.0; comes_to = found.1 }
+comes_to_some have (dump file) by calls items h = let found = dumped_of file calls items h in record { outcome = found.0; comes_to = found.1 }
 
 -- ---- the save
 
@@ -155,11 +171,12 @@ says_of (implib out inputs) by calls said h = h
 says_of (bind out target file) by calls said h = h
 says_of (gen count prefix) by calls said h = absurd by
 says_of (dump file) by calls said h = h
+says_of (link_map definition inputs) by calls said h = h
 
-said_behind : (contents : Contents) (command : Command) → ReadsFiles command → IsLoaded contents (asked_files command) → IsSaid contents (Some command)
-said_behind contents command by (stopped calls said sound stop) = record { calls = calls; sound = sound; said = said; says = says_of command by calls said (inl stop) }
-said_behind contents command by (reads calls items sound read) =
-    let found = comes_to_some command by calls items read in
+said_behind : LinksHaveMaps → (contents : Contents) (command : Command) → ReadsFiles command → IsLoaded contents (asked_files command) → IsSaid contents (Some command)
+said_behind have contents command by (stopped calls said sound stop) = record { calls = calls; sound = sound; said = said; says = says_of command by calls said (inl stop) }
+said_behind have contents command by (reads calls items sound read) =
+    let found = comes_to_some have command by calls items read in
     let end = finished contents found.outcome.saved found.outcome in
     record {
       calls = calls ++ end.saves;
@@ -177,23 +194,24 @@ said_behind contents command by (reads calls items sound read) =
       }));
     }
 
-said_by_files : (contents : Contents) → HasBytes contents → (command : Command) → ReadsFiles command → IsSaid contents (Some command)
-said_by_files contents h command by = said_behind contents command by (all_loaded contents h (asked_files command))
+said_by_files : LinksHaveMaps → (contents : Contents) → HasBytes contents → (command : Command) → ReadsFiles command → IsSaid contents (Some command)
+said_by_files have contents h command by = said_behind have contents command by (all_loaded contents h (asked_files command))
 
-all_said : ObjectsHaveFiles → FirstHaveTotals → (contents : Contents) → HasBytes contents → (command : Option Command) → IsCounted command → IsSaid contents command
-all_said have told contents h None counted = record { calls = []; sound = tt; said = record { status = 2; text = usage_line }; says = (refl, refl) }
-all_said have told contents h (Some (image file base)) counted = said_by_files contents h (image file base) tt
-all_said have told contents h (Some (link out definition inputs)) counted = said_by_files contents h (link out definition inputs) tt
-all_said have told contents h (Some (implib out inputs)) counted = said_by_files contents h (implib out inputs) tt
-all_said have told contents h (Some (bind out target file)) counted = said_by_files contents h (bind out target file) tt
-all_said have told contents h (Some (dump file)) counted = said_by_files contents h (dump file) tt
-all_said have told contents h (Some (gen count prefix)) counted =
+all_said : LinksHaveMaps → ObjectsHaveFiles → FirstHaveTotals → (contents : Contents) → HasBytes contents → (command : Option Command) → IsCounted command → IsSaid contents command
+all_said maps have told contents h None counted = record { calls = []; sound = tt; said = record { status = 2; text = usage_line }; says = (refl, refl) }
+all_said maps have told contents h (Some (image file base)) counted = said_by_files maps contents h (image file base) tt
+all_said maps have told contents h (Some (link out definition inputs)) counted = said_by_files maps contents h (link out definition inputs) tt
+all_said maps have told contents h (Some (implib out inputs)) counted = said_by_files maps contents h (implib out inputs) tt
+all_said maps have told contents h (Some (bind out target file)) counted = said_by_files maps contents h (bind out target file) tt
+all_said maps have told contents h (Some (dump file)) counted = said_by_files maps contents h (dump file) tt
+all_said maps have told contents h (Some (link_map definition inputs)) counted = said_by_files maps contents h (link_map definition inputs) tt
+all_said maps have told contents h (Some (gen count prefix)) counted =
     let found = generated have told contents count prefix counted in
     record { calls = found.calls; sound = found.sound; said = found.said; says = found.says }
 
-pub some_answer : ObjectsHaveFiles → FirstHaveTotals → SomeAnswer
-some_answer have told words contents h =
-    let found = all_said have told contents h (command_of words) (all_counted words) in
+pub some_answer : LinksHaveMaps → ObjectsHaveFiles → FirstHaveTotals → SomeAnswer
+some_answer maps have told words contents h =
+    let found = all_said maps have told contents h (command_of words) (all_counted words) in
     record {
       saves = saves_in found.calls;
       said = found.said;

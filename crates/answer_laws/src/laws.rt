@@ -4,17 +4,21 @@ ghost use Rattle.answer_laws.specs.AnswerLaws.{OneAnswer, SomeAnswer};
 ghost use Rattle.answer_laws.specs.SmallestObjects.{ShowsSmallestObjects};
 
 use gen_laws::{modules_have_totals, objects_have_files};
+use map_model::{links_have_maps, maps_are_one};
 
 /// Words, with what each name has, have one answer at most: one status, one text, and the same files saved; of `gen` its object
 /// files mean the same modules, however they are spelled.
 pub fn words_have_one_answer()
     ensures { OneAnswer }
-{}
+{
+    maps_are_one();
+}
 
 /// They have one, whatever the words are and whatever bytes files have.
 pub fn words_have_an_answer()
     ensures { SomeAnswer }
 {
+    links_have_maps();
     objects_have_files();
     modules_have_totals();
 }

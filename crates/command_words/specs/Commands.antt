@@ -3,7 +3,7 @@ use Rattle.std.specs.Prelude.{ℕ, ◌≤◌, List, map, option_map, string_byte
 use Rattle.obj_types.specs.Definition.{IsBase}
 use Rattle.lx_answer.specs.Words as words
 use Rattle.command_words.specs.declared.words.Command.{Command}
-use Rattle.command_words.specs.declared.words.Command.TheVariants.{Image, Link, Implib, Bind, Gen, Dump}
+use Rattle.command_words.specs.declared.words.Command.TheVariants.{Image, Link, Implib, Bind, Gen, Dump, Map}
 
 abbrev pub meant : Command → words.Command
 meant (Image object base) = words.image object.now base
@@ -12,6 +12,7 @@ meant (Implib out inputs) = words.implib out.now (map string_bytes inputs.now)
 meant (Bind out target resources) = words.bind out.now target.now resources.now
 meant (Gen count prefix) = words.gen count prefix.now
 meant (Dump file) = words.dump file.now
+meant (Map definition inputs) = words.link_map (option_map (λ name. name.now) definition) (map string_bytes inputs.now)
 
 -- A base is one that a definition file may give, too.
 abbrev pub HasBase : Command → Type 0
@@ -21,6 +22,7 @@ HasBase (Implib out inputs) = Unit {0}
 HasBase (Bind out target resources) = Unit {0}
 HasBase (Gen count prefix) = Unit {0}
 HasBase (Dump file) = Unit {0}
+HasBase (Map definition inputs) = Unit {0}
 
 -- As many modules as a library has can be made.
 abbrev pub IsCount : ℕ → Type 0

@@ -1,7 +1,7 @@
 //! Which command the words are.
 ghost use Rattle.std.specs.Prelude.{◌≡◌, IfSome, map, option_map, string_bytes};
 ghost use Rattle.obj_types.specs.Definition.{IsBase};
-ghost use Rattle.lx_answer.specs.Words.{command_of, base_of, bind_of, count_of, definition_of, dump_of, gen_of, image_of, implib_of, link_of};
+ghost use Rattle.lx_answer.specs.Words.{command_of, base_of, bind_of, count_of, definition_of, dump_of, gen_of, image_of, implib_of, link_of, map_of};
 ghost use Rattle.command_words.specs.Commands.{HasBase, HasCount, IsCount, meant};
 
 use hex::FromHex;
@@ -43,6 +43,11 @@ pub enum Command<'a> {
     Dump {
         file: &'a str,
     },
+    /// `map DEF IN ..`: where all that a link places stands.
+    Map {
+        definition: Option<&'a str>,
+        inputs: &'a [String],
+    },
 }
 
 impl<'a> Command<'a> {
@@ -62,6 +67,7 @@ impl<'a> Command<'a> {
             "bind" => bind(rest),
             "gen" => generator(rest),
             "dump" => dump(rest),
+            "map" => mapped(rest),
             _ => None,
         }
     }
@@ -171,6 +177,23 @@ fn dump<'a>(words: &'a [String]) -> Option<Command<'a>>
         return None;
     };
     Some(Command::Dump { file })
+}
+
+fn mapped<'a>(words: &'a [String]) -> Option<Command<'a>>
+    ensures command { option_map meant result ≡ map_of (map string_bytes words.now) }
+    ensures based { IfSome result HasBase }
+    ensures counted { IfSome result HasCount }
+{
+    let [definition, inputs @ ..] = words else {
+        return None;
+    };
+    if inputs.is_empty() {
+        return None;
+    }
+    Some(Command::Map {
+        definition: definition_of(definition),
+        inputs,
+    })
 }
 
 // The number from 1 to 64 that a word is, in decimal digits without a sign, and without zeros in front.

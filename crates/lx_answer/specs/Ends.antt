@@ -11,7 +11,7 @@ use Rattle.lx_answer.specs.Answer.{Answer, saves_in}
 use Rattle.lx_answer.specs.GenAnswer.{names_of}
 use Rattle.lx_answer.specs.Loading.{AreBegun, file_limit}
 use Rattle.lx_answer.specs.Says.{Says, asked_files}
-use Rattle.lx_answer.specs.Words.{Command, command_of, image, link, implib, bind, gen, dump}
+use Rattle.lx_answer.specs.Words.{Command, command_of, image, link, implib, bind, gen, dump, link_map}
 use Rattle.lx_answer.specs.declared.said.Said.{Said}
 
 -- The statuses with which the program ends.
@@ -36,6 +36,7 @@ outputs_of (implib out inputs) = out ∷ []
 outputs_of (bind out target resources) = out ∷ []
 outputs_of (gen count prefix) = names_of count prefix
 outputs_of (dump file) = []
+outputs_of (link_map definition inputs) = []
 
 -- Saves of the first of these files, each once, in their order, of which all but the last were good.
 abbrev pub AreSaves : List (List ℕ) → List Call → Type 0

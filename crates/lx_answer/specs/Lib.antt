@@ -10,6 +10,7 @@ pub mod ImageAnswer
 pub mod ImplibAnswer
 pub mod BindAnswer
 pub mod DumpAnswer
+pub mod MapAnswer
 pub mod Says
 pub mod Answer
 pub mod Ends

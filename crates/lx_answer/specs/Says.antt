@@ -9,11 +9,12 @@ use Rattle.lx_answer.specs.GenAnswer.{SaysGen}
 use Rattle.lx_answer.specs.ImageAnswer.{ImageAnswer}
 use Rattle.lx_answer.specs.ImplibAnswer.{all_imports, implib_outcome}
 use Rattle.lx_answer.specs.LinkAnswer.{LinkAnswer}
+use Rattle.lx_answer.specs.MapAnswer.{MapAnswer}
 use Rattle.lx_answer.specs.Loading.{Asked, AreRead, IsStopped}
 use Rattle.lx_answer.specs.Outcome.{Outcome, Saved}
 use Rattle.lx_answer.specs.Reading.{Item, object_file, object_or_library, definition_file, module_or_definition, module_file, resource_file}
 use Rattle.lx_answer.specs.Stem.{stem_of}
-use Rattle.lx_answer.specs.Words.{Command, command_of, image, link, implib, bind, gen, dump}
+use Rattle.lx_answer.specs.Words.{Command, command_of, image, link, implib, bind, gen, dump, link_map}
 use Rattle.lx_answer.specs.declared.said.Said.{Said}
 
 -- ---- the files of a command
@@ -36,6 +37,7 @@ asked_files (implib out inputs) = asked_exporters inputs
 asked_files (bind out target resources) = record { kind = module_file; name = target } ∷ record { kind = resource_file; name = resources } ∷ []
 asked_files (gen count prefix) = []
 asked_files (dump file) = record { kind = module_file; name = file } ∷ []
+asked_files (link_map definition inputs) = asked_definition definition ++ asked_inputs inputs
 
 -- What the command comes to, by what its files mean. That is not asked of `gen`, which reads none.
 abbrev pub ComesTo : Command → List Item → Outcome → Type 0
@@ -45,6 +47,7 @@ ComesTo (implib out inputs) items outcome = outcome ≡ implib_outcome out (all_
 ComesTo (bind out target resources) items outcome = BindAnswer out items outcome
 ComesTo (gen count prefix) items outcome = ⊥
 ComesTo (dump file) items outcome = DumpAnswer items outcome
+ComesTo (link_map definition inputs) items outcome = MapAnswer items outcome
 
 -- ---- saving, behind all loads
 

@@ -14,6 +14,7 @@ pub data Command : Type 0 where
   bind : (out : List ℕ) → (target : List ℕ) → (resources : List ℕ) → Command
   gen : (count : ℕ) → (prefix : List ℕ) → Command
   dump : (file : List ℕ) → Command
+  link_map : (definition : Option (List ℕ)) → (inputs : List (List ℕ)) → Command
 
 -- ---- `image OBJ BASE`
 
@@ -76,6 +77,12 @@ abbrev pub dump_of : List (List ℕ) → Option Command
 dump_of (file ∷ []) = Some (dump file)
 dump_of _ = None
 
+-- ---- `map DEF IN ..`
+
+abbrev pub map_of : List (List ℕ) → Option Command
+map_of (definition ∷ input ∷ inputs) = Some (link_map (definition_of definition) (input ∷ inputs))
+map_of _ = None
+
 -- ---- all
 
 -- All other words are no command.
@@ -88,4 +95,5 @@ command_of (word ∷ words) =
     else if bytes_eq word (codes "bind") then bind_of words
     else if bytes_eq word (codes "gen") then gen_of words
     else if bytes_eq word (codes "dump") then dump_of words
+    else if bytes_eq word (codes "map") then map_of words
     else None

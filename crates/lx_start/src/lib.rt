@@ -34,6 +34,7 @@ lx bind OUT MODULE RES  adds the items of a resource file to a module, as: lx bi
 lx gen N PREFIX         makes N modules and a session of them, to try the others on, as: lx gen 2 g
 lx run FILE             runs the processes of a session in threads, as: lx run d.ses
 lx dump FILE            shows what is in a module, as: lx dump d.dll
+lx map DEF IN ..        shows where all stands that link would place, as: lx map d.def a.obj b.lib
 lx COMMAND --help       says more of one of them
 ";
 

@@ -14,7 +14,7 @@ use Rattle.lx_answer.specs.Loading.{AreBegun, AreRead, Asked, IsStopped}
 use Rattle.lx_answer.specs.Outcome.{Outcome, Saved}
 use Rattle.lx_answer.specs.Reading.{Item}
 use Rattle.lx_answer.specs.Says.{ComesTo, Finishes, IsDone, SaysCommand, asked_files}
-use Rattle.lx_answer.specs.Words.{Command, image, link, implib, bind, gen, dump}
+use Rattle.lx_answer.specs.Words.{Command, image, link, implib, bind, gen, dump, link_map}
 use Rattle.tool_read.specs.Steps.{AreLoads}
 use Rattle.lx_tool.specs.Doing.{Does, DoesOutcome, DoesWords, Keeps, Runs}
 use Rattle.lx_tool.proofs.Begun.{begun_loads, holds_behind, no_saves, read_begun, stopped_begun}
@@ -32,6 +32,7 @@ says_by_files (link out definition inputs) calls said says = says
 says_by_files (implib out inputs) calls said says = says
 says_by_files (bind out target resources) calls said says = says
 says_by_files (dump file) calls said says = says
+says_by_files (link_map definition inputs) calls said says = says
 says_by_files (gen count prefix) calls said (inl stopped) = absurd (none_asked stopped.before stopped.after stopped.here stopped.are)
 says_by_files (gen count prefix) calls said (inr done) = absurd done.comes_to
 

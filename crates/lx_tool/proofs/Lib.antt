@@ -11,6 +11,7 @@ mod Memory
 mod Imports
 mod Commands
 mod Linked
+mod Mapped
 mod OneLoad
 mod Saved
 mod SessionSays

@@ -2,6 +2,7 @@
 use Rattle.std.proofs.Common.{◌≡◌, ℕ, ◌+◌, ◌<◌, ◌≤◌, ◌⊎◌, Bool, true, false, List, [], ◌∷◌, ◌++◌, Option, Some, None, Result, Ok, Err, ◌∙◌, ap, sym, subst, refl, inl, inr, arith}
 use Rattle.std.specs.Prelude.{codes, if◌then◌else◌}
 use Rattle.std.specs.List.{AllByRecursion}
+use Rattle.link_model.specs.Link.{Link}
 use Rattle.lx_ports.specs.Calls.{Call, load, save, load_faults, is_failed_load}
 use Rattle.lx_ports.specs.declared.files.LoadFault.TheVariants as fault
 use Rattle.lx_ports.specs.declared.files.SaveFault.{SaveFault}
@@ -13,11 +14,12 @@ use Rattle.lx_answer.specs.DumpAnswer.{DumpAnswer}
 use Rattle.lx_answer.specs.GenAnswer.{GenWords, SaysGen}
 use Rattle.lx_answer.specs.ImageAnswer.{ImageAnswer, image_refusal, memory_text, NAME}
 use Rattle.lx_answer.specs.LinkAnswer.{counts_of}
+use Rattle.lx_answer.specs.MapAnswer.{ShowsMap}
 use Rattle.lx_answer.specs.Loading.{Asked, IsRefused, IsStopped}
 use Rattle.lx_answer.specs.Outcome.{Outcome, Saved, shown, kept, refused, refused_or}
 use Rattle.lx_answer.specs.Reading.{Item, object, library, definition, linked, session, resources}
 use Rattle.lx_answer.specs.Says.{ComesTo, Finishes, IsDone, SaysCommand, asked_files, said_after}
-use Rattle.lx_answer.specs.Words.{Command, image, link, implib, bind, gen, dump}
+use Rattle.lx_answer.specs.Words.{Command, image, link, implib, bind, gen, dump, link_map}
 use Rattle.lx_tool.proofs.Counts.{count-append}
 use Rattle.lx_tool.proofs.Generated.{saves_say}
 use Rattle.lx_tool.proofs.Begun.{IsPlain, begun_loads, no_saves, plain_joined, read_begun, read_plain, stopped_begun, stopped_plain}
@@ -54,6 +56,10 @@ dump_is : (items : List Item) (o : Outcome) → DumpAnswer items o → IsOutcome
 dump_is (linked m ∷ []) o is = inl (ap (λ (p : Outcome). p.said.status) is)
 dump_is items o is = absurd is
 
+map_is : (l : Link) (why : Option (List ℕ)) (o : Outcome) → ShowsMap l why o → IsOutcome o
+map_is l None o is = inl (ap (λ (p : Outcome). p.said.status) is.2)
+map_is l (Some why) o is = inr (ap (λ (p : Outcome). p.said.status) is, ap (λ (p : Outcome). p.saved) is)
+
 come_to_is : (command : Command) (items : List Item) (o : Outcome) → ComesTo command items o → IsOutcome o
 come_to_is (image name base) items o is = image_is base items o is
 come_to_is (link out d names) items o is = subst IsOutcome (sym is.comes_to) (or_refused out _ (kept out _ (counts_of is.link)) refl)
@@ -61,6 +67,7 @@ come_to_is (implib out names) items o is = subst IsOutcome (sym is) (if_kept _ (
 come_to_is (bind out target file) items o is = bind_is out items o is
 come_to_is (gen count prefix) items o is = absurd is
 come_to_is (dump file) items o is = dump_is items o is
+come_to_is (link_map definition inputs) items o is = map_is is.link _ o is.shows
 
 -- ---- what a status says
 
@@ -203,6 +210,7 @@ command_says none (link out d names) calls said says = read_says none (link out 
 command_says none (implib out names) calls said says = read_says none (implib out names) calls said says
 command_says none (bind out target file) calls said says = read_says none (bind out target file) calls said says
 command_says none (dump file) calls said says = read_says none (dump file) calls said says
+command_says none (link_map d names) calls said says = read_says none (link_map d names) calls said says
 command_says none (gen count prefix) calls said says = gen_says none (record { count = count; prefix = prefix }) calls said says
 
 pub status_says : (command : Option Command) (calls : List Call) (said : Said) → SaysCommand command calls said → StatusSays (command ≡ None) calls said

@@ -8,6 +8,7 @@ mod implib;
 mod library;
 mod link;
 mod main_call;
+mod map;
 mod output;
 mod refusals;
 mod run;

@@ -32,7 +32,8 @@ fn counts_line(alloc: Global, linked: &Linked) -> Result<Bytes, AllocError>
     Ok(Seq::from_vec(line))
 }
 
-fn refused(alloc: Global, out: &str, why: Fail<LinkRefusal>) -> Result<Said, NoMemory>
+/// What is said of a refused link, under a name.
+pub fn refused(alloc: Global, out: &str, why: Fail<LinkRefusal>) -> Result<Said, NoMemory>
     ensures { RefusesAs out.now why result }
 {
     match why {

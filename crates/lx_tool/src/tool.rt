@@ -10,6 +10,7 @@ use crate::dump::dump;
 use crate::image::image;
 use crate::implib::implib;
 use crate::link::link;
+use crate::map::show_map;
 use crate::output::put_whole;
 use command_words::Command;
 use gen_core::generate;
@@ -60,6 +61,7 @@ fn answer<F: Files>(alloc: Global, words: &[String], files: &mut F) -> Result<Sa
         ) => bind(alloc, files, out, target, resources),
         Some(Command::Gen { count, prefix }) => generate(alloc, files, count, prefix),
         Some(Command::Dump { file }) => dump(alloc, files, file),
+        Some(Command::Map { definition, inputs }) => show_map(alloc, files, definition, inputs),
         None => usage(alloc),
     }
 }
@@ -73,13 +75,14 @@ fn answer<F: Files>(alloc: Global, words: &[String], files: &mut F) -> Result<Sa
 /// `bind OUT MODULE RES` saves as OUT the file MODULE with the items of the resource file RES and puts how many they are.
 /// `gen N PREFIX` saves object files and definition files of N modules, from 1 to 64, and a session of them, under names that
 /// begin with PREFIX, and puts how many pages and record sources the modules have and what their words in memory sum to.
-/// `dump FILE` puts the lists of the module FILE. All other words are no command.
+/// `dump FILE` puts the lists of the module FILE. `map DEF IN ..` puts where all stands that the link of these files places. All other
+/// words are no command.
 ///
 /// The statuses: 0, the whole text was put; 1, a file is absent, too long (over 16,777,216 bytes) or has a fault, or the
 /// link, the library or the binding is refused; 2, the words are no command; 3, reading failed; 4, saving failed, or putting, after
 /// some of the text; 8, there was no memory, and nothing was saved or put. With 1, 2, 3 and a failed save one line was
 /// put. Each file is loaded once for each time that it is named, in the order of the words, and none behind the first
-/// that is refused; OUT is saved behind all loads, once. `image` and `dump` save nothing. The files of `gen` are saved one after the other, and none behind the
+/// that is refused; OUT is saved behind all loads, once. `image`, `dump` and `map` save nothing. The files of `gen` are saved one after the other, and none behind the
 /// first that is not; nothing is loaded for them.
 pub fn lx_build<F: Files, S: Sink>(
     alloc: Global,

@@ -64,7 +64,7 @@ fn behind<'a>(line: &'a str, file: &str) -> Option<&'a str> {
     line.strip_prefix(file)?.strip_prefix(": ")
 }
 
-/// The refusal that a line tells, where it names one of these words, or IMAGE or session.
+/// The refusal that a line tells, where it names one of these words, or IMAGE, MAP or session.
 pub fn refusal_of<'a>(line: &'a str, words: &'a [String]) -> Option<Told<'a>> {
     let line = line.strip_prefix("lx: ")?;
     let line = line.strip_suffix('\n').unwrap_or(line);
@@ -77,7 +77,7 @@ pub fn refusal_of<'a>(line: &'a str, words: &'a [String]) -> Option<Told<'a>> {
             });
         }
     }
-    for file in ["IMAGE", "session"] {
+    for file in ["IMAGE", "MAP", "session"] {
         if let Some(rest) = behind(line, file) {
             let fault = fault_of(rest)?;
             return Some(Told { file, fault });

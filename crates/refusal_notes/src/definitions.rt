@@ -61,6 +61,7 @@ pub fn definition_notes(
         let seems = looks_like(bytes).unwrap_or("no text");
         let wants = match command {
             "link" => "the words are link OUT DEF IN ..: is DEF forgotten, or - in its place?",
+            "map" => "the words are map DEF IN ..: is DEF forgotten, or - in its place?",
             _ => "implib reads definition files and modules",
         };
         return lines.add(format!(in alloc; "{file} seems to be {seems}: {wants}")?);

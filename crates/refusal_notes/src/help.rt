@@ -96,6 +96,19 @@ imports from, its entries and its names. Nothing is written.
 as: lx dump add.dll
 ";
 
+const MAP: &str = "\
+lx map DEF IN ..
+
+Prints where everything stands that link would make of these files: a line for each object, each segment of a module that is
+taken, each communal, each public and each import. Nothing is written.
+
+  DEF   the definition file; - for none: then the module is a program. Without a name in it the module is MAP
+  IN    an object file or a library, as of link
+
+as: lx map add.def add.obj
+    lx map - main.obj add.lib
+";
+
 /// The page of a command, or None where there is no such command.
 pub fn page_of(command: &str) -> Option<&'static str>
     ensures { is_some result ≡ is_command command.now }
@@ -108,6 +121,7 @@ pub fn page_of(command: &str) -> Option<&'static str>
         "gen" => Some(GEN),
         "run" => Some(RUN),
         "dump" => Some(DUMP),
+        "map" => Some(MAP),
         _ => None,
     }
 }

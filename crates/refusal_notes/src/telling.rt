@@ -44,7 +44,7 @@ fn usage(alloc: Global, lines: &mut Lines, ended: &Ended<'_>) -> Result<(), Allo
     let command = ended.word(0);
     let count = ended.words.len();
     let text = match command {
-        "" => "a command is wanted: link, implib, image, bind, gen, run or dump",
+        "" => "a command is wanted: link, implib, image, bind, gen, run, dump or map",
         "link" =>
             "link wants OUT DEF IN ..: the module, the definition file or -, and at least one file",
         "implib" =>
@@ -58,13 +58,14 @@ fn usage(alloc: Global, lines: &mut Lines, ended: &Ended<'_>) -> Result<(), Allo
             "gen wants N PREFIX: a number from 1 to 64, and what the names of the files begin with",
         "run" => "run wants FILE: a session",
         "dump" => "dump wants FILE: a module",
-        _ => "there are the commands link, implib, image, bind, gen, run and dump",
+        "map" => "map wants DEF IN ..: the definition file or -, and at least one file",
+        _ => "there are the commands link, implib, image, bind, gen, run, dump and map",
     };
     lines.add_text(alloc, text)?;
     match command {
-        "link" | "implib" | "image" | "bind" | "gen" | "run" | "dump" => lines.add(format!(in alloc;
-            "lx {command} --help says more"
-        )?),
+        "link" | "implib" | "image" | "bind" | "gen" | "run" | "dump" | "map" => lines.add(
+            format!(in alloc; "lx {command} --help says more")?,
+        ),
         _ => lines.add_text(alloc, "lx --help says more"),
     }
 }
@@ -120,12 +121,25 @@ fn load<F: Files>(alloc: Global, files: &mut F, name: &str) -> Option<Vec<u8>> {
     files.load(alloc, name, LONGEST).ok()
 }
 
+// The place of the first IN among the words of a link, of which `map` names no OUT. DEF stands before it.
+fn first_input(command: &str) -> Option<usize> {
+    match command {
+        "link" => Some(3),
+        "map" => Some(2),
+        _ => None,
+    }
+}
+
 // The imports of the definition file, where there is one that can be read.
 fn load_imports<F: Files>(alloc: Global, files: &mut F, ended: &Ended<'_>) -> Imports {
-    if ended.word(0) != "link" || ended.word(2) == "-" {
+    let Some(first) = first_input(ended.word(0)) else {
+        return Seq::new(alloc);
+    };
+    let name = ended.word(first.saturating_sub(1));
+    if name == "-" {
         return Seq::new(alloc);
     }
-    let Some(bytes) = load(alloc, files, ended.word(2)) else {
+    let Some(bytes) = load(alloc, files, name) else {
         return Seq::new(alloc);
     };
     match read_def(alloc, &bytes) {
@@ -140,9 +154,10 @@ fn load_inputs<F: Files>(
     files: &mut F,
     ended: &Ended<'_>,
 ) -> Result<Vec<(String, Vec<u8>)>, AllocError> {
-    let is_link = ended.word(0) == "link";
-    let first = if is_link { 3 } else { 1 };
-    let last = if is_link { ended.words.len() } else { 2 };
+    let (first, last) = match first_input(ended.word(0)) {
+        Some(first) => (first, ended.words.len()),
+        None => (1, 2),
+    };
     let mut inputs = Vec::new(alloc);
     for word in ended.words.iter().take(last).skip(first) {
         if let Some(bytes) = load(alloc, files, word.as_str()) {
@@ -163,9 +178,9 @@ fn imported(alloc: Global, imports: &[Imp]) -> Result<Vec<&[u8]>, AllocError> {
 
 // How many files the words of a link or of image name, without the definition file.
 fn input_count(ended: &Ended<'_>) -> usize {
-    match ended.word(0) {
-        "link" => ended.words.len().saturating_sub(3),
-        _ => 1,
+    match first_input(ended.word(0)) {
+        Some(first) => ended.words.len().saturating_sub(first),
+        None => 1,
     }
 }
 

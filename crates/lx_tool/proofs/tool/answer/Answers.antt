@@ -38,5 +38,10 @@ returns-in-Some-Dump g c =
     let same = c.in-Some-Dump.field-0-is in
     done_words _ _ _ _ _ (ap (λ (one : Command). Some (meant one)) (sym same) ∙ c.in-Some-Dump.ensures.command) c.dump.ensures
 
+pub returns-in-Some-Map : goal.returns-in-Some-Map
+returns-in-Some-Map g c =
+    let same = c.in-Some-Map.field-0-is in
+    done_words _ _ _ _ _ (ap (λ (one : Command). Some (meant one)) (sym same) ∙ c.in-Some-Map.ensures.command) c.show_map.ensures
+
 pub returns-in-None : goal.returns-in-None
 returns-in-None g c = done_words _ _ _ _ _ c.in-None.ensures.command (done_usage _ _ c.usage.ensures)

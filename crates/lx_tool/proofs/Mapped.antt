@@ -1,0 +1,46 @@
+-- From the map of a link, or its refusal, to what `map` does.
+use Rattle.std.proofs.Common.{◌≡◌, ℕ, List, Option, Some, None, Result, Ok, Err, ap, sym, subst, refl}
+use Rattle.std.specs.Prelude.{IfOk, option_map}
+use Rattle.lx_types.specs.Answers.{Answers}
+use Rattle.lx_types.specs.declared.fail.Fail.{Fail}
+use Rattle.lx_types.specs.declared.fail.Fail.TheVariants as fail
+use Rattle.lx_types.specs.declared.fail.NoMemory.{NoMemory}
+use Rattle.obj_types.specs.declared.input.LinkInput.{LinkInput}
+use Rattle.link_model.specs.declared.refusals.LinkRefusal.{LinkRefusal}
+use Rattle.link_core.specs.Links.{RefusesLink}
+use Rattle.link_map.specs.Mapped.{IsMapped}
+use Rattle.lx_ports.specs.Calls.{Call}
+use Rattle.lx_ports.specs.Files.{FilesState}
+use Rattle.lx_answer.specs.declared.said.Said.{Said}
+use Rattle.lx_answer.specs.LinkAnswer.{input_with, link_text}
+use Rattle.lx_answer.specs.MapAnswer.{NAME, MapsInput, ShowsMap}
+use Rattle.lx_answer.specs.Outcome.{Outcome, says_only}
+use Rattle.lx_answer.specs.Says.{asked_files}
+use Rattle.lx_answer.specs.Words.{link_map}
+use Rattle.tool_read.specs.Steps.{AreLoads, GivesAll}
+use Rattle.lx_tool.specs.Doing.{Does}
+use Rattle.lx_tool.specs.Refusals.{RefusesAs}
+use Rattle.lx_tool.proofs.Commands.{shown_done}
+
+pub map_shown : (input : LinkInput) (text : List ℕ) (said : Said) → IsMapped input text → said ≡ record { status = 0; text = text } → MapsInput input (says_only said)
+map_shown input text said is same =
+    let P : Option (List ℕ) → Type 0 = λ why. ShowsMap is.link why (says_only said) in
+    record { link = is.link; of_input = is.of_input; shows = subst P (sym (ap (option_map link_text) is.accepted)) (text, is.map, ap (λ s. says_only s) same) }
+
+map_refusal : (input : LinkInput) (refusal : LinkRefusal) (said : Said) → RefusesLink input refusal → RefusesAs NAME (fail.Said refusal) (Ok said) → MapsInput input (says_only said)
+map_refusal input refusal said is same =
+    let P : Option (List ℕ) → Type 0 = λ why. ShowsMap is.link why (says_only said) in
+    record { link = is.link; of_input = is.of_input; shows = subst P (sym (ap (option_map link_text) is.refused)) (ap (λ s. says_only s) same) }
+
+pub map_refused : (input : LinkInput) (why : Fail LinkRefusal) (r : Result Said NoMemory) → ((refusal : LinkRefusal) → why ≡ fail.Said refusal → RefusesLink input refusal)
+    → RefusesAs NAME why r → IfOk r (λ said. MapsInput input (says_only said))
+map_refused input (fail.Said refusal) (Ok said) by same = map_refusal input refusal said (by refusal refl) same
+map_refused input fail.NoMemory (Ok said) by same = absurd same
+map_refused input why (Err none) by same = tt
+
+pub map_done : (definition : Option (List ℕ)) (names : List (List ℕ)) (input : LinkInput) (calls : List Call) (before now : FilesState) (r : Result Said NoMemory)
+    → AreLoads calls before now → GivesAll (λ v items. v ≡ input_with NAME items) (asked_files (link_map definition names)) calls input
+    → IfOk r (λ said. MapsInput input (says_only said)) → Does (link_map definition names) before now r
+map_done definition names input calls before now r loads all shows =
+    let P : LinkInput → Type 0 = λ i. IfOk r (λ said. MapsInput i (says_only said)) in
+    shown_done (link_map definition names) calls all.items before now r loads all.read (subst P all.given shows)

@@ -1,0 +1,16 @@
+use Rattle.std.proofs.Common.{◌≡◌, List}
+use Rattle.obj_types.specs.declared.input.LinkInput.{LinkInput}
+use Rattle.lx_answer.specs.LinkAnswer.{input_with}
+use Rattle.lx_answer.specs.MapAnswer.{NAME}
+use Rattle.lx_answer.specs.Reading.{Item}
+use Rattle.lx_tool.proofs.Commands.{not_read}
+use Rattle.lx_tool.proofs.Mapped.{map_done}
+use Rattle.lx_tool.proofs.map.show_map.Goals as goal
+
+pub returns-in-Ok : goal.returns-in-Ok
+returns-in-Ok g c = map_done _ _ c.in-Ok.input c.in-Ok.ensures.read.calls _ _ _ c.in-Ok.ensures.read.loads c.in-Ok.ensures.read.reads c.mapped.ensures
+
+pub returns-in-Err : goal.returns-in-Err
+returns-in-Err g c =
+    let Gives : LinkInput → List Item → Type 0 = λ input items. input ≡ input_with NAME items in
+    not_read Gives _ c.in-Err.ensures.read.calls _ _ c.in-Err.why _ c.in-Err.ensures.read.loads c.in-Err.ensures.read.reads c.in_full.ensures

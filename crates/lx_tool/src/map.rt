@@ -1,0 +1,70 @@
+//! The command `map`: where all that a link places stands.
+ghost use Rattle.std.specs.Prelude.{◌≡◌, ◌++◌, IfOk, map, option_map, string_bytes};
+ghost use Rattle.obj_types.specs.Input.{WholeInput};
+ghost use Rattle.lx_answer.specs.LinkAnswer.{input_with};
+ghost use Rattle.lx_answer.specs.MapAnswer.{NAME, MapsInput};
+ghost use Rattle.lx_answer.specs.Outcome.{says_only};
+ghost use Rattle.lx_answer.specs.Says.{asked_definition, asked_inputs};
+ghost use Rattle.lx_answer.specs.Words as words;
+ghost use Rattle.tool_read.specs.Steps.{ReadsInTurn};
+ghost use Rattle.lx_tool.specs.Doing.{Does};
+
+use crate::link::refused;
+use crate::refusals::in_full;
+use link_map::map_input;
+use lx_answer::Said;
+use lx_ports::Files;
+use lx_types::{Fail, Name, NoMemory, Seq};
+use obj_types::LinkInput;
+use std::alloc::Global;
+use tool_read::read_input_with;
+
+/// The name of the module where its definition file gives none, and of its refusals.
+const MODULE: &str = "MAP";
+
+// The input of the link, whose files are loaded and read in turn.
+fn read_files<F: Files>(
+    alloc: Global,
+    files: &mut F,
+    definition: Option<&str>,
+    inputs: &[String],
+) -> Result<LinkInput, Fail<Said>>
+    ensures read { ReadsInTurn (λ input items. input ≡ input_with NAME items)
+        (asked_definition (option_map (λ name. name.now) definition.entry) ++ asked_inputs (map string_bytes inputs.now))
+        (F.state files.old) (F.state files.new) result }
+    ensures whole { IfOk result WholeInput }
+{
+    let stem = Name::of_short(alloc, MODULE.as_bytes())?;
+    read_input_with(alloc, files, stem, definition, inputs)
+}
+
+// The map of an input's link, or its refusal.
+fn mapped(alloc: Global, input: &LinkInput) -> Result<Said, NoMemory>
+    requires { WholeInput input.now }
+    ensures { IfOk result (λ said. MapsInput input.now (says_only said)) }
+{
+    match map_input(alloc, input) {
+        Ok(text) => Ok(Said {
+            status: 0,
+            text: Seq::from_vec(text),
+        }),
+        Err(why) => refused(alloc, MODULE, why),
+    }
+}
+
+/// Tells where all that a link places stands: loads the files in turn, as `link` does, and says the map of what they mean, or why
+/// they do not link. Nothing is saved.
+pub fn show_map<F: Files>(
+    alloc: Global,
+    files: &mut F,
+    definition: Option<&str>,
+    inputs: &[String],
+) -> Result<Said, NoMemory>
+    ensures { Does (words.link_map (option_map (λ name. name.now) definition.entry) (map string_bytes inputs.now))
+        (F.state files.old) (F.state files.new) result }
+{
+    match read_files(alloc, files, definition, inputs) {
+        Ok(input) => mapped(alloc, &input),
+        Err(why) => in_full(why),
+    }
+}
