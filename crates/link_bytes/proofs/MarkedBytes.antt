@@ -1,10 +1,10 @@
 -- Marks say which fixups share a byte with one.
-use Rattle.std.specs.Prelude.{◌≡◌, ℕ, zero, suc, ◌+◌, ◌-◌, ◌<◌, ◌≤◌, Bool, true, false, cond, not, ◌&&◌, ◌||◌, ◌==◌, nat_le, nat_lt, List, [], ◌∷◌, ◌++◌, map, reverse, drop, length, replicate, slice_index, refl}
+use Rattle.std.specs.Prelude.{◌≡◌, ℕ, zero, suc, ◌+◌, ◌-◌, ◌<◌, ◌≤◌, Bool, true, false, cond, not, ◌&&◌, ◌||◌, ◌==◌, nat_le, nat_lt, List, [], ◌∷◌, map, take, drop, set, length, replicate, slice_index, refl}
 use Rattle.std.specs.List.{list_any, All}
 use Rattle.std.proofs.Common.{ap, sym, ◌∙◌, arith, get_or, subst}
 use Rattle.std.proofs.lemmas.Bool.{and_parts}
 use Rattle.std.proofs.lemmas.Bool.Decides.{nat_tests}
-use Rattle.std.proofs.lemmas.List.{drop_more, get_or_default, get_or-replicate, length-replicate, reverse-append}
+use Rattle.std.proofs.lemmas.List.{drop_more, drop_all, drop-set, take-take, take-set-le, length-set, get_or-take, get_or_default, get_or-replicate, length-replicate}
 use Rattle.std.proofs.lemmas.List.Elements.{All-head, All-tail, All-drop}
 use Rattle.obj_types.specs.Location.{location_len}
 use Rattle.link_model.specs.Fixups as rules
@@ -105,38 +105,98 @@ mark-more old new q rs are painted = λ n x.
 
 -- ---- the live ones, from the last on
 
-kept_by : (b : Bool) (q : Fixup) (kept rest : List Fixup) (lives : List rules.Fixup) → map shown (reverse kept) ≡ lives → map shown (reverse (cond b kept (kept ++ q ∷ []))) ≡ cond b lives (shown q ∷ lives)
-kept_by true q kept rest lives e = e
-kept_by false q kept rest lives e = ap (map shown) (reverse-append kept (q ∷ [])) ∙ ap (λ ls. shown q ∷ ls) e
+-- The live ones of the fixups from a place on stand at the end, and those before the place are not touched.
+pub record LiveBehind (qs now : List Fixup) (left first : ℕ) : Type 0 where
+  pub count : length now ≡ length qs
+  pub before : left ≤ first
+  pub within : first ≤ length qs
+  pub untouched : take left now ≡ take left qs
+  pub live_is : map shown (drop first now) ≡ live (map shown (drop left qs))
 
-pub live-more :
-    (marks : Images) (qs : List Fixup) (i : ℕ) (q : Fixup) (kept new : List Fixup) → i < length qs → q ≡ get_or qs i q → All HasBytes qs → AreMarked marks (drop (i + 1) qs)
-    → map shown (reverse kept) ≡ live (map shown (drop (i + 1) qs)) → new ≡ cond (any_mark (byte_of marks q.object) q.offset (location_len q.fix.loc)) kept (kept ++ q ∷ [])
-    → map shown (reverse new) ≡ live (map shown (drop i qs))
-live-more marks qs i q kept new h is all are live_rest made =
-    let rest : List Fixup = drop (i + 1) qs in
-    let front : drop i qs ≡ q ∷ rest = drop_more qs i q h ∙ ap (λ r. r ∷ rest) (sym is) in
-    let bytes : All HasBytes (q ∷ rest) = subst (λ (ls : List Fixup). All HasBytes ls) front (All-drop HasBytes i qs all) in
-    ap (λ ks. map shown (reverse ks)) made
-    ∙ ap (λ (b : Bool). map shown (reverse (cond b kept (kept ++ q ∷ [])))) (marked-overlaps marks q rest are (All-head HasBytes q rest bytes) (All-tail HasBytes q rest bytes))
-    ∙ kept_by (list_any (overlap (shown q)) (map shown rest)) q kept rest (live (map shown rest)) live_rest
-    ∙ ap (λ ls. live (map shown ls)) (sym front)
+pub behind-all : (qs : List Fixup) → LiveBehind qs qs (length qs) (length qs)
+behind-all qs =
+    let none : drop (length qs) qs ≡ [] = drop_all (length qs) qs (omega arith) in
+    record {
+      count = refl;
+      before = omega arith;
+      within = omega arith;
+      untouched = refl;
+      live_is = ap (map shown) none ∙ sym (ap (λ (ls : List Fixup). live (map shown ls)) none);
+    }
 
--- The same, by the number of fixups that are left.
-pub live-step :
-    (marks marked : Images) (qs : List Fixup) (left : ℕ) (q : Fixup) (kept new : List Fixup) → 0 < left → left ≤ length qs → q ≡ get_or qs (left - 1) q → All HasBytes qs → AreMarked marks (drop left qs)
-    → map shown (reverse kept) ≡ live (map shown (drop left qs)) → new ≡ cond (any_mark (byte_of marks q.object) q.offset (location_len q.fix.loc)) kept (kept ++ q ∷ [])
-    → ((n : ℕ) (x : ℕ) → byte_of marked n x ≡ byte_after marks q.object q.offset (replicate (location_len q.fix.loc) 1) n x)
-    → AreMarked marked (drop (left - 1) qs) × (map shown (reverse new) ≡ live (map shown (drop (left - 1) qs)))
-live-step marks marked qs left q kept new some within is all are live_rest made painted =
+pub all-live : (qs now : List Fixup) (left first : ℕ) → LiveBehind qs now left first → left ≡ 0 → map shown (drop first now) ≡ live (map shown qs)
+all-live qs now left first is none = is.live_is ∙ ap (λ (n : ℕ). live (map shown (drop n qs))) none
+
+module _ (marks marked : Images) (qs now : List Fixup) (i first : ℕ) (q : Fixup) (all : All HasBytes qs) (are : AreMarked marks (drop (i + 1) qs)) (is : LiveBehind qs now (i + 1) first) (at : q ≡ get_or now i q) where
+  here : i < length qs
+  here = let a = is.before in let b = is.within in omega (arith, a, b)
+
+  read : q ≡ get_or qs i q
+  read = at ∙ sym (get_or-take (i + 1) now i q (omega arith)) ∙ ap (λ (ls : List Fixup). get_or ls i q) is.untouched ∙ get_or-take (i + 1) qs i q (omega arith)
+
+  front : drop i qs ≡ q ∷ drop (i + 1) qs
+  front = drop_more qs i q here ∙ ap (λ r. r ∷ drop (i + 1) qs) (sym read)
+
+  overlaps : any_mark (byte_of marks q.object) q.offset (location_len q.fix.loc) ≡ list_any (overlap (shown q)) (map shown (drop (i + 1) qs))
+  overlaps =
+      let bytes : All HasBytes (q ∷ drop (i + 1) qs) = subst (λ (ls : List Fixup). All HasBytes ls) front (All-drop HasBytes i qs all) in
+      marked-overlaps marks q (drop (i + 1) qs) are (All-head HasBytes q (drop (i + 1) qs) bytes) (All-tail HasBytes q (drop (i + 1) qs) bytes)
+
+  live_now : (b : Bool) → any_mark (byte_of marks q.object) q.offset (location_len q.fix.loc) ≡ b → live (map shown (drop i qs)) ≡ cond b (live (map shown (drop (i + 1) qs))) (shown q ∷ live (map shown (drop (i + 1) qs)))
+  live_now b e =
+      ap (λ (ls : List Fixup). live (map shown ls)) front
+      ∙ ap (λ (c : Bool). cond c (live (map shown (drop (i + 1) qs))) (shown q ∷ live (map shown (drop (i + 1) qs)))) (sym overlaps ∙ e)
+
+  still : take i now ≡ take i qs
+  still = sym (take-take i (i + 1) now (omega arith)) ∙ ap (take i) is.untouched ∙ take-take i (i + 1) qs (omega arith)
+
+  behind-more : (new : List Fixup) (after : ℕ) (b : Bool) → any_mark (byte_of marks q.object) q.offset (location_len q.fix.loc) ≡ b → after ≡ cond b first (first - 1) → new ≡ cond b now (set now (first - 1) q) → LiveBehind qs new i after
+  behind-more new after true e stays same =
+      let before : i + 1 ≤ first = is.before in
+      let within : first ≤ length qs = is.within in
+      record {
+        count = ap length same ∙ is.count;
+        before = omega arith;
+        within = omega arith;
+        untouched = ap (take i) same ∙ still;
+        live_is = ap (λ (n : ℕ). map shown (drop n new)) stays ∙ ap (λ (ls : List Fixup). map shown (drop first ls)) same ∙ is.live_is ∙ sym (live_now true e);
+      }
+  behind-more new after false e stays same =
+      let before : i + 1 ≤ first = is.before in
+      let within : first ≤ length qs = is.within in
+      let count : length now ≡ length qs = is.count in
+      let next : first - 1 + 1 ≡ first = omega arith in
+      record {
+        count = ap length same ∙ length-set now (first - 1) q ∙ is.count;
+        before = omega arith;
+        within = omega arith;
+        untouched = ap (take i) same ∙ take-set-le i now (first - 1) q (omega arith) ∙ still;
+        live_is = ap (λ (n : ℕ). map shown (drop n new)) stays ∙ ap (λ (ls : List Fixup). map shown (drop (first - 1) ls)) same
+            ∙ ap (map shown) (drop-set now (first - 1) q (omega arith) ∙ ap (λ (n : ℕ). q ∷ drop n now) next)
+            ∙ ap (λ ls. shown q ∷ ls) is.live_is ∙ sym (live_now false e);
+      }
+
+  marked-more : ((n : ℕ) (x : ℕ) → byte_of marked n x ≡ byte_after marks q.object q.offset (replicate (location_len q.fix.loc) 1) n x) → AreMarked marked (drop i qs)
+  marked-more painted = subst (λ (ls : List Fixup). AreMarked marked ls) (sym front) (mark-more marks marked q (drop (i + 1) qs) are painted)
+
+-- One fixup more, by the number of those that are left.
+pub behind-step :
+    (marks marked : Images) (qs now new : List Fixup) (left first after : ℕ) (d : Fixup) → 0 < left → All HasBytes qs → AreMarked marks (drop left qs) → LiveBehind qs now left first
+    → after ≡ cond (any_mark (byte_of marks (get_or now (left - 1) d).object) (get_or now (left - 1) d).offset (location_len (get_or now (left - 1) d).fix.loc)) first (first - 1)
+    → new ≡ cond (any_mark (byte_of marks (get_or now (left - 1) d).object) (get_or now (left - 1) d).offset (location_len (get_or now (left - 1) d).fix.loc)) now (set now (first - 1) (get_or now (left - 1) d))
+    → ((n : ℕ) (x : ℕ) → byte_of marked n x ≡ byte_after marks (get_or now (left - 1) d).object (get_or now (left - 1) d).offset (replicate (location_len (get_or now (left - 1) d).fix.loc) 1) n x)
+    → AreMarked marked (drop (left - 1) qs) × LiveBehind qs new (left - 1) after
+behind-step marks marked qs now new left first after d some all are is stays same painted =
     let i : ℕ = left - 1 in
+    let q : Fixup = get_or now i d in
     let next : left ≡ i + 1 = omega arith in
-    let h : i < length qs = omega arith in
     let are_next : AreMarked marks (drop (i + 1) qs) = subst (λ (n : ℕ). AreMarked marks (drop n qs)) next are in
-    let front : q ∷ drop (i + 1) qs ≡ drop i qs = ap (λ r. r ∷ drop (i + 1) qs) is ∙ sym (drop_more qs i q h) in (
-      subst (λ (ls : List Fixup). AreMarked marked ls) front (mark-more marks marked q (drop (i + 1) qs) are_next painted),
-      live-more marks qs i q kept new h is all are_next (live_rest ∙ ap (λ (n : ℕ). live (map shown (drop n qs))) next) made,
-    )
+    let is_next : LiveBehind qs now (i + 1) first = subst (λ (n : ℕ). LiveBehind qs now n first) next is in
+    let count : length now ≡ length qs = is.count in
+    let before : left ≤ first = is.before in
+    let within : first ≤ length qs = is.within in
+    let at : q ≡ get_or now i q = get_or_default now i d q (omega arith) in
+    (marked-more marks marked qs now i first q all are_next is_next at painted, behind-more marks marked qs now i first q all are_next is_next at new after _ refl stays same)
 
 -- A byte without mark, and those behind it.
 pub marks-step : (mark : ℕ → ℕ) (x n : ℕ) → 0 < n → mark x ≡ 0 → any_mark mark (x + 1) (n - 1) ≡ any_mark mark x n
@@ -144,14 +204,3 @@ marks-step mark x zero h none = absurd (omega arith)
 marks-step mark x (suc n) h none =
     let less : suc n - 1 ≡ n = omega arith in
     ap (any_mark mark (x + 1)) less ∙ sym (ap (λ (v : ℕ). not (v == 0) || any_mark mark (x + 1) n) none)
-
--- The same, of the fixup that was read at its place.
-pub live-step-at :
-    (marks marked : Images) (qs : List Fixup) (left : ℕ) (d : Fixup) (kept new : List Fixup) → 0 < left → left ≤ length qs → All HasBytes qs → AreMarked marks (drop left qs)
-    → map shown (reverse kept) ≡ live (map shown (drop left qs))
-    → new ≡ cond (any_mark (byte_of marks (get_or qs (left - 1) d).object) (get_or qs (left - 1) d).offset (location_len (get_or qs (left - 1) d).fix.loc)) kept (kept ++ get_or qs (left - 1) d ∷ [])
-    → ((n : ℕ) (x : ℕ) → byte_of marked n x ≡ byte_after marks (get_or qs (left - 1) d).object (get_or qs (left - 1) d).offset (replicate (location_len (get_or qs (left - 1) d).fix.loc) 1) n x)
-    → AreMarked marked (drop (left - 1) qs) × (map shown (reverse new) ≡ live (map shown (drop (left - 1) qs)))
-live-step-at marks marked qs left d kept new some within all are live_rest made painted =
-    let q : Fixup = get_or qs (left - 1) d in
-    live-step marks marked qs left q kept new some within (get_or_default qs (left - 1) d q (omega arith)) all are live_rest made painted

@@ -1,6 +1,6 @@
 //! Which fixups are live.
 
-ghost use Rattle.std.specs.Prelude.{◌≡◌, ◌+◌, ◌<◌, ◌++◌, ◌∷◌, [], ℕ, OnOk, IfOk, All, drop, map, replicate, reverse, if◌then◌else◌};
+ghost use Rattle.std.specs.Prelude.{◌≡◌, ◌+◌, ◌-◌, ◌<◌, ◌≤◌, ℕ, OnOk, IfOk, All, drop, length, map, replicate, set, if◌then◌else◌};
 ghost use Rattle.obj_types.specs.Location.{location_len as len_of_location};
 ghost use Rattle.link_model.specs.Mean.{live};
 ghost use Rattle.link_bytes.specs.Shown.{shown};
@@ -38,41 +38,61 @@ fn mark(alloc: Global, marks: &mut Images, q: &Fixup) -> Result<(), NoMemory>
     marks.paint(alloc, q.object, q.offset as usize, &ones[..len])
 }
 
-// Keeps a fixup with which none that stands after it shares a byte.
-fn keep(kept: &mut Vec<Fixup>, marks: &Images, q: Fixup) -> Result<(), NoMemory>
-    ensures { OnOk result (kept.new.items
-        ≡ (if any_mark (byte_of marks.now q.object) q.offset (len_of_location q.fix.loc) then kept.old.items else kept.old.items ++ q ∷ [])) }
+// Keeps a fixup with which none that stands after it shares a byte, in front of those that are kept, and answers where
+// these begin.
+fn keep(fixups: &mut [Fixup], first: usize, marks: &Images, q: Fixup) -> usize
+    requires some { 0 < first }
+    requires within { first ≤ length fixups.old }
+    ensures first { result ≡ (if any_mark (byte_of marks.now q.object) q.offset (len_of_location q.fix.loc) then first else first - 1) }
+    ensures fixups { fixups.new
+        ≡ (if any_mark (byte_of marks.now q.object) q.offset (len_of_location q.fix.loc) then fixups.old else set fixups.old (first - 1) q) }
 {
-    if !is_marked(marks, &q) {
-        kept.push(q)?;
+    if is_marked(marks, &q) {
+        return first;
     }
-    Ok(())
+    fixups[first - 1] = q;
+    first - 1
 }
 
-// The live ones of these fixups, from the last to the first.
-fn live_backwards(alloc: Global, fixups: &[Fixup]) -> Result<Vec<Fixup>, NoMemory>
-    requires { All HasBytes fixups.now }
-    ensures { IfOk result (λ kept. map shown (reverse kept.items) ≡ live (map shown fixups.now)) }
+// Puts the live ones of these fixups, in order, behind all others, and answers where they begin.
+fn live_behind(alloc: Global, fixups: &mut [Fixup]) -> Result<usize, NoMemory>
+    requires { All HasBytes fixups.old }
+    ensures within { IfOk result (λ first. first ≤ length fixups.new) }
+    ensures live { IfOk result (λ first. map shown (drop first fixups.new) ≡ live (map shown fixups.old)) }
 {
     let mut marks = Images::new(alloc);
     let mut left = fixups.len();
-    let mut kept = Vec::with_capacity(alloc, left)?;
+    let mut first = left;
     'fixups: while 0 < left {
         left -= 1;
         let q = fixups[left];
-        keep(&mut kept, &marks, q)?;
+        first = keep(fixups, first, &marks, q);
         mark(alloc, &mut marks, &q)?;
     }
-    Ok(kept)
+    Ok(first)
+}
+
+// Takes the first ones of these fixups away.
+fn remove_first(fixups: &mut Vec<Fixup>, count: usize)
+    requires { count ≤ length fixups.old.items }
+    ensures { fixups.new.items ≡ drop count fixups.old.items }
+{
+    if count == 0 {
+        return;
+    }
+    let len = fixups.len();
+    fixups.copy_within(count..len, 0);
+    fixups.truncate(len - count);
 }
 
 /// The live ones of these fixups, in order: those with which none that stands after them shares a byte. It goes from
-/// the last to the first and marks the bytes of each.
-pub fn live_of(alloc: Global, fixups: &[Fixup]) -> Result<Vec<Fixup>, NoMemory>
-    requires { All HasBytes fixups.now }
-    ensures { IfOk result (λ kept. map shown kept.items ≡ live (map shown fixups.now)) }
+/// the last to the first and marks the bytes of each. They stay in the memory that all of them have.
+pub fn live_of(alloc: Global, fixups: Vec<Fixup>) -> Result<Vec<Fixup>, NoMemory>
+    requires { All HasBytes fixups.items }
+    ensures { IfOk result (λ kept. map shown kept.items ≡ live (map shown fixups.items)) }
 {
-    let mut kept = live_backwards(alloc, fixups)?;
-    kept.as_mut_slice().reverse();
+    let mut kept = fixups;
+    let first = live_behind(alloc, kept.as_mut_slice())?;
+    remove_first(&mut kept, first);
     Ok(kept)
 }

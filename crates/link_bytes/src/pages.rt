@@ -6,7 +6,6 @@ ghost use Rattle.link_bytes.specs.Marks.{HasBytes};
 ghost use Rattle.link_model.specs.Link.{Link};
 ghost use Rattle.link_model.specs.Words.{first_of};
 ghost use Rattle.link_model.specs.Fixups as rules;
-ghost use Rattle.link_model.specs.Mean.{live};
 ghost use Rattle.link_model.specs.Patches as patches;
 ghost use Rattle.link_bytes.specs.Shown.{shown, piece_shown};
 ghost use Rattle.link_bytes.specs.Values.{IsAccepted};
@@ -52,17 +51,20 @@ pub fn first_refusal(fixups: &[Fixup]) -> Option<FixRefusal>
     None
 }
 
-// The live fixups that get records.
-fn recorded_of(alloc: Global, live: &[Fixup]) -> Result<Vec<Fixup>, NoMemory>
-    ensures { IfOk result (λ kept. map shown kept.items ≡ filter (λ q. not (patches.is_patched q)) (map shown live.now)) }
+// Leaves the fixups that get records.
+fn keep_recorded(live: &mut Vec<Fixup>)
+    ensures { live.new.items ≡ filter (λ q. not (patches.is_patched (shown q))) live.old.items }
 {
-    let mut kept = Vec::new(alloc);
-    for q in live {
-        if !is_patched(q) {
-            kept.push(*q)?;
-        }
-    }
-    Ok(kept)
+    live.retain(|q| !is_patched(q));
+}
+
+// The live fixups that get records. They stay in the memory that all of them have.
+fn recorded_of(live: Vec<Fixup>) -> Vec<Fixup>
+    ensures { map shown result.items ≡ filter (λ q. not (patches.is_patched q)) (map shown live.items) }
+{
+    let mut kept = live;
+    keep_recorded(&mut kept);
+    kept
 }
 
 // The bytes of each object before the loader.
@@ -79,14 +81,6 @@ fn bytes_of(
     paint_fields(alloc, &mut rows, live)?;
     let bytes = object_rows(alloc, &rows, objects)?;
     Ok(bytes)
-}
-
-// The live ones of these fixups, whose memory is given back.
-fn only_live(alloc: Global, fixups: Vec<Fixup>) -> Result<Vec<Fixup>, NoMemory>
-    requires { All HasBytes fixups.items }
-    ensures { IfOk result (λ kept. map shown kept.items ≡ live (map shown fixups.items)) }
-{
-    live_of(alloc, fixups.as_slice())
 }
 
 // The records of the fixups that get some, by object and page, and the tables of what they import. The memory of the
@@ -116,10 +110,9 @@ fn pages_of(
     requires { All IsAccepted fixups.items }
     ensures { IfOk result (λ pages. (l : Link) → AreOfLink l pieces.now fixups.items objects.now imports.now → ArePages l pages) }
 {
-    let live = only_live(alloc, fixups)?;
+    let live = live_of(alloc, fixups)?;
     let bytes = bytes_of(alloc, pieces, live.as_slice(), objects)?;
-    let recorded = recorded_of(alloc, live.as_slice())?;
-    drop(live);
+    let recorded = recorded_of(live);
     let (pages, tables) = records_of(alloc, recorded, imports)?;
     let fixes = object_fixes(alloc, &pages, objects)?;
     let (imports, procs) = tables.into_names();

@@ -1,12 +1,8 @@
-use Rattle.std.proofs.Common.{◌≡◌, ◌∙◌, ap, refl, map, List}
-use Rattle.std.specs.Prelude.{filter, not}
-use Rattle.std.specs.List.{All}
+use Rattle.std.proofs.Common.{◌∙◌, ap, refl, map, List}
 use Rattle.obj_types.specs.declared.symbol.Imp.{Imp}
-use Rattle.link_model.specs.Patches.{is_patched}
 use Rattle.link_bytes.specs.declared.fixup.Fixup.{Fixup}
 use Rattle.link_bytes.specs.Shown.{shown, piece_shown}
 use Rattle.link_bytes.specs.Placed.{bytes_with}
-use Rattle.link_bytes.specs.Values.{IsAccepted}
 use Rattle.link_bytes.proofs.PagesMade.{lent-accepted, lent-bytes, pages-are}
 use Rattle.link_bytes.proofs.pages.pages_of.Goals as goal
 
@@ -15,17 +11,15 @@ bytes_of-requires c = lent-accepted c.args.fixups.items c.in_ok-live.live.items 
 
 pub records_of-requires : goal.records_of-requires
 records_of-requires c =
-    let live_ok : All IsAccepted c.as_slice-2.result.now = lent-accepted c.args.fixups.items c.in_ok-live.live.items c.as_slice-2.result.now c.requires c.in_ok-live.ensures c.as_slice-2.ensures.value in
-    lent-bytes c.as_slice-2.result.now c.in_ok-recorded.recorded.items c.in_ok-recorded.recorded.items live_ok c.in_ok-recorded.ensures refl
+    lent-bytes c.in_ok-live.live.items c.recorded_of-recorded.result.items c.recorded_of-recorded.result.items
+    (lent-accepted c.args.fixups.items c.in_ok-live.live.items c.in_ok-live.live.items c.requires c.in_ok-live.ensures refl) c.recorded_of-recorded.ensures refl
 
 pub returns : goal.returns
 returns c = λ l of.
     let live : List Fixup = c.in_ok-live.live.items in
-    let recs : List Fixup = c.in_ok-recorded.recorded.items in
-    let is_recorded : map shown recs ≡ filter (λ q. not (is_patched q)) (map shown live) =
-    c.in_ok-recorded.ensures ∙ ap (λ (qs : List Fixup). filter (λ q. not (is_patched q)) (map shown qs)) c.as_slice-2.ensures.value in
+    let recs : List Fixup = c.recorded_of-recorded.result.items in
     let imports : List Imp = c.args.imports.now in
-    pages-are l c.args.pieces.now c.args.fixups.items c.args.objects.now imports live recs c.in_ok-pages.tables c.in_ok-pages.pages c.in_ok-fixes.fixes c.in_ok-bytes.bytes c.into_names-imports.result.0 c.into_names-imports.result.1 of c.in_ok-live.ensures is_recorded
+    pages-are l c.args.pieces.now c.args.fixups.items c.args.objects.now imports live recs c.in_ok-pages.tables c.in_ok-pages.pages c.in_ok-fixes.fixes c.in_ok-bytes.bytes c.into_names-imports.result.0 c.into_names-imports.result.1 of c.in_ok-live.ensures c.recorded_of-recorded.ensures
     c.in_ok-pages.ensures.0
     c.in_ok-pages.ensures.1
     c.in_ok-fixes.ensures
