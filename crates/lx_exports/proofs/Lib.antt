@@ -6,3 +6,4 @@ mod GivenOrdinals
 mod SlotsFilled
 mod TablesWritten
 mod TablesRead
+mod Marked

@@ -15,14 +15,14 @@ use Rattle.lx_exports.specs.Exports.{asked, numbered, with_ordinals}
 use Rattle.lx_exports.specs.Slots.{shown, greatest_of, slots_to, bundles_of}
 
 -- each export has an ordinal
-all_numbered : (os : List (Option ℕ)) → length (ordinals os) ≡ length os
+pub all_numbered : (os : List (Option ℕ)) → length (ordinals os) ≡ length os
 all_numbered os = mapped (λ q. ordinal_at os q.0 q.1) 0 os
   where
     mapped : (f : (ℕ × Option ℕ) → ℕ) (n : ℕ) (ps : List (Option ℕ)) → length (map f (enumerate_from n ps)) ≡ length ps
     mapped f n [] = refl
     mapped f n (p ∷ ps) = ap suc (mapped f (n + 1) ps)
 
-asked_len : (xs : List OutEntry) → length (asked xs) ≡ length xs
+pub asked_len : (xs : List OutEntry) → length (asked xs) ≡ length xs
 asked_len [] = refl
 asked_len (x ∷ xs) = ap suc (asked_len xs)
 
