@@ -9,3 +9,4 @@ mod SameFixes
 mod RecordsWritten
 mod TablesWritten
 mod Fields
+mod Asked

@@ -4,3 +4,4 @@ pub mod Value
 pub mod Sections
 pub mod LinkImages
 pub mod WrittenLaws
+pub mod Named

@@ -10,8 +10,8 @@ use lx_head::write_objects;
 use lx_types::{Bytes, NoMemory, ObjHead, PAGE_SIZE};
 use std::alloc::Global;
 
-// How many pages so many bytes take.
-fn page_count(size: u32) -> u32
+/// How many pages so many bytes take.
+pub fn page_count(size: u32) -> u32
     ensures { result ≡ page_count size }
 {
     size.div_ceil(PAGE_SIZE)
