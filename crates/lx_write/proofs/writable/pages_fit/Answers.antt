@@ -1,5 +1,4 @@
 use Rattle.std.proofs.Common.{◌∙◌, refl}
-use Rattle.std.specs.Prelude.{All}
 use Rattle.lx_write.specs.Named.{PageFits}
 use Rattle.lx_write.proofs.Asked.{more, ended, item, no_by}
 use Rattle.lx_write.proofs.writable.pages_fit.Goals as goal
