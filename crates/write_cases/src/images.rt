@@ -1,13 +1,12 @@
 //! Worked images, and the file of each.
 
-use crate::conditions::can_be_written;
 use crate::files::{FORWARDER, ITERATED, ONE_OBJECT, PROGRAM, STRADDLING};
 use link_model::LaidObject;
 use lx_exports::{EntryRefusal, OutEntry};
 use lx_types::{
     Bytes, EntryHead, Fail, Fix, FixTarget, FwdKey, Name, Names, NoMemory, Seq, Source,
 };
-use lx_write::{Image, name_offsets, write_module};
+use lx_write::{Image, can_be_written, name_offsets, write_module};
 use obj_types::ModKind;
 use std::alloc::Global;
 use std::test::Fail as Failed;
@@ -97,12 +96,19 @@ fn code(size: u32) -> LaidObject {
     }
 }
 
+// The file of an image that can be written.
+fn file_of(alloc: Global, image: &Image) -> Result<Vec<u8>, Fail<EntryRefusal>> {
+    if !can_be_written(alloc, image)? {
+        return Err(Fail::NoMemory);
+    }
+    write_module(alloc, image)
+}
+
 #[test]
 fn one_reference(rt: HostRuntime) -> Result<(), Failed> {
     let alloc = rt.alloc();
     let image = one_object(alloc, b"d", code(8), &[], &[&[plain(Source::Off32, 4, 0)]])?;
-    assert!(rt; can_be_written(&image));
-    let file = write_module(alloc, &image).map_err(|_| "the file")?;
+    let file = file_of(alloc, &image).map_err(|_| "the file")?;
     assert_eq!(rt; file.as_slice(), ONE_OBJECT.as_slice());
     Ok(())
 }
@@ -123,8 +129,7 @@ fn over_a_page_end(rt: HostRuntime) -> Result<(), Failed> {
         imports: names(alloc, &[b"M"])?,
         ..one_object(alloc, b"S", code(4100), &[], &pages)?
     };
-    assert!(rt; can_be_written(&image));
-    let file = write_module(alloc, &image).map_err(|_| "the file")?;
+    let file = file_of(alloc, &image).map_err(|_| "the file")?;
     assert_eq!(rt; file.as_slice(), STRADDLING.as_slice());
     Ok(())
 }
@@ -164,8 +169,7 @@ fn own_stack(rt: HostRuntime) -> Result<(), Failed> {
         exports: Seq::from_vec(vec![in alloc; export(alloc, b"f1", Some(9), 15, place(12))?]?),
         ..one_object(alloc, b"x", object, &[], &[&[]])?
     };
-    assert!(rt; can_be_written(&image));
-    let file = write_module(alloc, &image).map_err(|_| "the file")?;
+    let file = file_of(alloc, &image).map_err(|_| "the file")?;
     assert_eq!(rt; file.as_slice(), PROGRAM.as_slice());
     Ok(())
 }
@@ -203,8 +207,7 @@ fn forwarders(rt: HostRuntime) -> Result<(), Failed> {
         exports: Seq::from_vec(exports),
         ..one_object(alloc, b"O", object, &[0, 1, 2, 3, 0, 0, 2], &[&fixes])?
     };
-    assert!(rt; can_be_written(&image));
-    let file = write_module(alloc, &image).map_err(|_| "the file")?;
+    let file = file_of(alloc, &image).map_err(|_| "the file")?;
     assert_eq!(rt; file.as_slice(), FORWARDER.as_slice());
     Ok(())
 }
@@ -237,8 +240,7 @@ fn an_iterated_page(rt: HostRuntime) -> Result<(), Failed> {
         stack: Some((1, 0x64)),
         ..one_object(alloc, b"exports", object, &data, &[&fixes])?
     };
-    assert!(rt; can_be_written(&image));
-    let file = write_module(alloc, &image).map_err(|_| "the file")?;
+    let file = file_of(alloc, &image).map_err(|_| "the file")?;
     assert_eq!(rt; file.as_slice(), ITERATED.as_slice());
     Ok(())
 }
@@ -262,8 +264,7 @@ fn a_name_exported_twice(rt: HostRuntime) -> Result<(), Failed> {
         exports: Seq::from_vec(exports),
         ..one_object(alloc, b"d", code(8), &[], &[&[]])?
     };
-    assert!(rt; can_be_written(&image));
-    let told = write_module(alloc, &image);
+    let told = file_of(alloc, &image);
     assert!(rt; is_twice(told, b"g"));
     Ok(())
 }

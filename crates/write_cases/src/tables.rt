@@ -1,7 +1,6 @@
 //! The name tables and the entry table of a module's exports.
 
-use crate::conditions::{exports_fit, is_named};
-use lx_exports::{EntryRefusal, OutEntry, write_tables};
+use lx_exports::{EntryRefusal, OutEntry, Tables, exports_fit, write_tables};
 use lx_types::{EntryHead, Fail, FwdKey, Name, NoMemory};
 use std::alloc::Global;
 use std::test::Fail as Failed;
@@ -30,6 +29,19 @@ fn name(alloc: Global, text: &str) -> Result<Name, NoMemory> {
     Name::of(alloc, text.as_bytes()).map_err(|_| NoMemory)
 }
 
+// The tables of exports, where the module has a name and each export fits.
+fn tables_of(
+    alloc: Global,
+    module: &Name,
+    about: &Name,
+    exports: &[OutEntry],
+) -> Result<Tables, Fail<EntryRefusal>> {
+    if module.bytes().is_empty() || !exports_fit(exports) {
+        return Err(Fail::NoMemory);
+    }
+    write_tables(alloc, module, about, exports)
+}
+
 #[test]
 fn an_export_without_ordinal(rt: HostRuntime) -> Result<(), Failed> {
     let alloc = rt.alloc();
@@ -42,11 +54,8 @@ fn an_export_without_ordinal(rt: HostRuntime) -> Result<(), Failed> {
         export(alloc, "H", Some(1), place(1, 0x30))?,
     ];
     let module = name(alloc, "d")?;
-    assert!(rt; is_named(&module));
-    assert!(rt; exports_fit(&exports));
-    let tables = write_tables(alloc, &module, &name(alloc, "")?, &exports).map_err(
-        |_| "the tables",
-    )?;
+    let about = name(alloc, "")?;
+    let tables = tables_of(alloc, &module, &about, &exports).map_err(|_| "the tables")?;
     assert_eq!(rt; tables.ordinals.as_slice(), [2, 3, 1].as_slice());
     let resident = [1, 0x44, 0, 0, 1, 0x47, 3, 0, 0];
     assert_eq!(rt; tables.resident.as_slice(), resident.as_slice());
@@ -76,9 +85,7 @@ fn bundles_of_other_types(rt: HostRuntime) -> Result<(), Failed> {
     ];
     let module = name(alloc, "d")?;
     let about = name(alloc, "about d")?;
-    assert!(rt; is_named(&module));
-    assert!(rt; exports_fit(&exports));
-    let tables = write_tables(alloc, &module, &about, &exports).map_err(|_| "the tables")?;
+    let tables = tables_of(alloc, &module, &about, &exports).map_err(|_| "the tables")?;
     assert_eq!(rt; tables.ordinals.as_slice(), [3, 1].as_slice());
     let entries = [
         1, 3, 2, 0, 1, 0x45, 0x23, 1, 0, 1, 0, 1, 4, 0, 0, 0, 1, 0, 7, 0, 0, 0, 0,
@@ -100,10 +107,7 @@ fn refusal(
         export(alloc, first.0, first.1, place(1, 0))?,
         export(alloc, second.0, second.1, place(1, 0))?,
     ];
-    if !is_named(&module) || !exports_fit(&exports) {
-        return Err(NoMemory);
-    }
-    match write_tables(alloc, &module, &module, &exports) {
+    match tables_of(alloc, &module, &module, &exports) {
         Ok(_tables) => Ok(None),
         Err(fail) => match fail {
             Fail::Said(refusal) => Ok(Some(refusal)),
