@@ -1,6 +1,6 @@
 //! The fixups of a link, with what their values need.
 
-ghost use Rattle.std.specs.Prelude.{◌≡◌, ◌++◌, IfOk, OnOk, map, not, option_map, option_to_list};
+ghost use Rattle.std.specs.Prelude.{◌≡◌, ◌++◌, IfOk, OnOk, length, map, not, option_map, option_to_list, sum_by};
 ghost use Rattle.std.specs.List.{flat_map, enumerate_from};
 ghost use Rattle.obj_types.specs.Items.{item};
 ghost use Rattle.link_model.specs.Words.{option_any};
@@ -125,6 +125,20 @@ fn add_module(
     Ok(())
 }
 
+// How many fixups these modules have.
+fn count_fixes(modules: &[&ObjModule]) -> Result<usize, NoMemory>
+    ensures { IfOk result (λ count. count ≡ sum_by (λ m. length m.fixes) (map (λ m. m.now) modules.now)) }
+{
+    let mut count: usize = 0;
+    for object in modules {
+        let Some(more) = count.checked_add(object.fixes.as_slice().len()) else {
+            return Err(NoMemory);
+        };
+        count = more;
+    }
+    Ok(count)
+}
+
 // The fixups of these chosen modules.
 pub fn fixups_among(
     alloc: Global,
@@ -135,7 +149,7 @@ pub fn fixups_among(
     ensures { IfOk result (λ found. map shown found.items
         ≡ flat_map (λ q. fixups_in places.now syms.now q.0 q.1) (enumerate_from 1 (map (λ m. m.now) modules.now))) }
 {
-    let mut found = Vec::new(alloc);
+    let mut found = Vec::with_capacity(alloc, count_fixes(modules)?)?;
     for (index, object) in modules.iter().enumerate() {
         add_module(alloc, &mut found, places, syms, number(index + 1)?, object)?;
     }
