@@ -1,11 +1,10 @@
 //! Records of pages, from bytes that were worked out by hand.
 
-ghost use Rattle.std.specs.Prelude.{◌≡◌, ◌≤◌, false, IfOk};
+ghost use Rattle.std.specs.Prelude.{◌≡◌, false};
 ghost use Rattle.lx_types.specs.declared.fix.Source.TheVariants as source;
 ghost use Rattle.lx_types.specs.declared.fix.FixTarget.TheVariants as target;
-ghost use Rattle.lx_fixrec.specs.Writable.{MayBeWritten};
 
-use lx_fixrec::{encode_page, records};
+use lx_fixrec::{encode_page, may_be_written, records};
 use lx_types::{Fix, FixTarget, NoMemory, Source};
 use std::alloc::Global;
 
@@ -43,6 +42,7 @@ fn one_list(rt: HostRuntime) -> Result<(), NoMemory> {
         field(Source::Off32, 0),
         field(Source::Off32, 8),
     ];
+    assert!(rt; may_be_written(&fixes));
     let bytes = encode_page(rt.alloc(), &fixes)?;
     let want = [
         0x27, 0x00, 0x03, 0x01, 0x00, 0x00, 0x00, 0x00, 0x08, 0x00, 0xFC, 0x0F, 0x07, 0x85, 0x04,
@@ -94,13 +94,10 @@ fn wide_numbers(rt: HostRuntime) -> Result<(), NoMemory> {
 }
 
 // Byte sources, one behind the other.
-fn row(alloc: Global, count: u32) -> Result<Vec<Fix>, NoMemory>
-    requires { count ≤ 4096 }
-    ensures { IfOk result (λ fixes. MayBeWritten fixes.items) }
-{
+fn row(alloc: Global, count: u16) -> Result<Vec<Fix>, NoMemory> {
     let mut fixes = Vec::new(alloc);
     for at in 0..count {
-        fixes.push(field(Source::Byte, at as i32))?;
+        fixes.push(field(Source::Byte, i32::from(at)))?;
     }
     Ok(fixes)
 }
@@ -108,11 +105,26 @@ fn row(alloc: Global, count: u32) -> Result<Vec<Fix>, NoMemory>
 #[test]
 fn two_lists(rt: HostRuntime) -> Result<(), NoMemory> {
     let fixes = row(rt.alloc(), 300)?;
+    assert!(rt; may_be_written(&fixes));
     let bytes = encode_page(rt.alloc(), &fixes)?;
     let bytes = bytes.as_slice();
     // A list of 255 sources, and one of 45 that begins at offset 255.
     assert!(rt; bytes.len() == 516 + 96);
     assert_eq!(rt; [bytes[0], bytes[2], bytes[6]], [0x20, 0xFF, 0x00]);
     assert_eq!(rt; [bytes[516], bytes[518], bytes[522]], [0x20, 0x2D, 0xFF]);
+    Ok(())
+}
+
+#[test]
+fn not_written(rt: HostRuntime) -> Result<(), NoMemory> {
+    let begins = field(Source::Off32, 0);
+    let next = field(Source::Off32, 4);
+    let shared = field(Source::Off16, 3);
+    assert!(rt; may_be_written(&[]));
+    assert!(rt; may_be_written(&[next, begins]));
+    assert!(rt; !may_be_written(&[begins, next, shared]));
+    assert!(rt; !may_be_written(&[shared, begins]));
+    assert!(rt; !may_be_written(&[field(Source::Off32, -4)]));
+    assert!(rt; !may_be_written(&[field(Source::Byte, 4096)]));
     Ok(())
 }
