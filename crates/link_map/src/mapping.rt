@@ -10,12 +10,12 @@ ghost use Rattle.map_model.specs.Maps.{IsMap};
 ghost use Rattle.sym_table.specs.Binding.{IsBound};
 ghost use Rattle.seg_merge.specs.Layout.{IsLaidOut};
 ghost use Rattle.link_core.specs.Links.{RefusesLink};
-ghost use Rattle.link_core.specs.Planned.{IsPlanned};
+ghost use Rattle.link_core.specs.Planned.{IsPlanned, entry_failed};
 ghost use Rattle.link_map.specs.Mapped.{IsMapped};
 
 use comdat_core::{has_comdats, keep};
 use link_core::{Plan, plan_link};
-use link_model::{LinkRefusal, what_is_kept_is_whole, without_comdats_all_is_kept};
+use link_model::{EntryRefusal, LinkRefusal, what_is_kept_is_whole, without_comdats_all_is_kept};
 use lx_types::NoMemory;
 use lx_write::write_module;
 use map_core::map_kept;
@@ -48,6 +48,16 @@ fn plan_text(alloc: Global, kept: &LinkInput, plan: &Plan) -> Result<Vec<u8>, No
     map_kept(alloc, &plan.image.name, kept, &plan.syms, &layout)
 }
 
+// What exports have no tables, as what the link refuses.
+fn refused(fail: Fail<EntryRefusal>) -> Fail<LinkRefusal>
+    ensures { result ≡ entry_failed fail }
+{
+    match fail {
+        Fail::Said(refusal) => Fail::Said(LinkRefusal::Entry(refusal)),
+        Fail::NoMemory => Fail::NoMemory,
+    }
+}
+
 // The map of a plan, or what is refused of its exports, which are tried by writing the file.
 fn map_plan(
     alloc: Global,
@@ -61,8 +71,7 @@ fn map_plan(
     ensures { Answers result (λ text. IsMapped input.now text.items) (λ refusal. RefusesLink input.now refusal) }
 {
     match write_module(alloc, &plan.image) {
-        Err(Fail::Said(refusal)) => Err(Fail::Said(LinkRefusal::Entry(refusal))),
-        Err(Fail::NoMemory) => Err(Fail::NoMemory),
+        Err(fail) => Err(refused(fail)),
         Ok(_file) => Ok(plan_text(alloc, kept, plan)?),
     }
 }

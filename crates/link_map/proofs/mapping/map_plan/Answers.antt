@@ -1,5 +1,8 @@
+use Rattle.std.proofs.Common.{refl}
+use Rattle.link_model.specs.declared.refusals.LinkRefusal.TheVariants.{Entry}
 use Rattle.link_fix.proofs.AnswersMapped.{answers-value}
-use Rattle.link_core.proofs.Assembled.{entry-refused}
+use Rattle.link_core.specs.Planned.{entry_failed}
+use Rattle.link_core.proofs.Assembled.{entry-refused, failed-by}
 use Rattle.link_map.proofs.MapOfPlan.{bound_kept, laid_kept, map_of_plan}
 use Rattle.link_map.proofs.mapping.map_plan.Goals as goal
 
@@ -11,3 +14,14 @@ plan_text-requires-clause-bound c = bound_kept c.args.input.now c.args.kept.now 
 
 pub plan_text-requires-clause-lay : goal.plan_text-requires-clause-lay
 plan_text-requires-clause-lay c = laid_kept c.args.input.now c.args.kept.now c.args.plan.now c.requires.kept c.requires.planned
+
+pub returns-in-Err : goal.returns-in-Err
+returns-in-Err c =
+    failed-by c.write_module.result c.in-Err.fail entry_failed Entry c.refused.result _ _ _ _ (λ e. refl) refl c.refused.ensures c.in-Err.is
+    (λ e h. entry-refused c.args.input.now c.args.plan.now e c.requires.planned h) c.write_module.ensures.written
+
+pub returns-in_ok-plan_text-in-Ok : goal.returns-in_ok-plan_text-in-Ok
+returns-in_ok-plan_text-in-Ok c =
+    let told = answers-value c.write_module.result c.in-Ok._file _ _ c.in-Ok.is c.write_module.ensures.written in
+    map_of_plan c.args.input.now c.args.kept.now c.args.plan.now c.in_ok-plan_text-in-Ok.field-0.items c.requires.kept c.requires.planned told.0
+    c.in_ok-plan_text-in-Ok.ensures
