@@ -82,6 +82,36 @@ def with_names(number, count, others):
     return out + record(0x8A, b"\0")
 
 
+def module(fixups):
+    """An LX library of one object of zeros, with fixups to itself, some 15 on a page: 65,536 pages where they are a million."""
+    pages = max(1, fixups * 65536 // 1_000_000)
+    counts = [fixups * (page + 1) // pages - fixups * page // pages for page in range(pages)]
+    record = [struct.pack("<BBHBH", 7, 0, 16 * k, 1, 0) for k in range(max(counts))]
+    bodies = b"".join(b"".join(record[:count]) for count in counts)
+    places, at = [], 0
+    for count in counts:
+        places.append(at)
+        at += 7 * count
+    names = b"\x01D\0\0\0"
+    page_table = b"\0\0\0\0\0\0\x03\0" * pages
+    place_table = struct.pack("<%dI" % (pages + 1), *places, at)
+    objects = struct.pack("<6I", 4096 * pages, 0x10000000, 0x2005, 1, pages, 0)
+    at_pages = 0xC4 + len(objects)
+    at_names = at_pages + len(page_table)
+    at_places = at_names + len(names) + 1
+    at_records = at_places + len(place_table)
+    end = at_records + len(bodies) + 1
+    fields = {
+        0x08: 2 | 1 << 16, 0x10: 0x8000, 0x14: pages, 0x28: 4096, 0x30: end - at_places, 0x38: at_places - 0xC4, 0x40: 0xC4,
+        0x44: 1, 0x48: at_pages, 0x4C: end, 0x58: at_names, 0x5C: at_names + len(names), 0x68: at_places, 0x6C: at_records,
+        0x70: end - 1, 0x78: end - 1, 0x80: end, 0x88: end, 0x8C: len(names),
+    }
+    head = bytearray(b"LX" + bytes(0xC2))
+    for place, number in fields.items():
+        struct.pack_into("<I", head, place, number)
+    return bytes(head) + objects + page_table + names + b"\0" + place_table + bodies + b"\0" + names
+
+
 def run(command, folder):
     """The seconds and the peak memory in MiB of a command, which has to end with 0."""
     begin = time.monotonic()
@@ -226,6 +256,14 @@ def measure(options):
     def image_of_data(folder, size):
         return [lx, "image", put(folder, "a.obj", with_data(size)), "00010000"]
 
+    def dump(folder, size):
+        return [lx, "dump", put(folder, "a.dll", module(size))]
+
+    def link_map(folder, size):
+        put(folder, "lib.def", b"LIBRARY\n")
+        names = [put(folder, "m%d.obj" % k, with_names(k, size, 8)) for k in range(8)]
+        return [lx, "map", "lib.def"] + names
+
     table = Table(options)
     table.head()
     table.row("link: fixups of one object file", 100_000, fixups)
@@ -235,6 +273,8 @@ def measure(options):
     table.row("implib: exports of a definition file", 4_000, exports)
     table.row("image: fixups of one object file", 20_000, image)
     table.row("image: bytes of one object file", 2_000_000, image_of_data)
+    table.row("dump: fixups of a module, 15 on a page", 125_000, dump)
+    table.row("map: publics and externals of 8 files", 2_000, link_map)
     if options.save:
         table.save(options.save)
 
