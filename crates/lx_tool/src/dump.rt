@@ -15,11 +15,11 @@ use std::alloc::Global;
 use tool_read::read_module;
 
 // The text of a module's lists.
-fn dumped(alloc: Global, module: &Module) -> Result<Said, NoMemory>
-    requires { IsRead module.now }
-    ensures { IfOk result (λ said. said ≡ record { status = 0; text = Dump (listing_of module.now) }) }
+fn dumped(alloc: Global, m: &Module) -> Result<Said, NoMemory>
+    requires { IsRead m.now }
+    ensures { IfOk result (λ said. said ≡ record { status = 0; text = Dump (listing_of m.now) }) }
 {
-    let lists = listing(alloc, module)?;
+    let lists = listing(alloc, m)?;
     Ok(Said {
         status: 0,
         text: dump_core::dump(alloc, &lists)?,
