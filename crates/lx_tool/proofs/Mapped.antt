@@ -1,5 +1,5 @@
 -- From the map of a link, or its refusal, to what `map` does.
-use Rattle.std.proofs.Common.{◌≡◌, ℕ, List, Option, Some, None, Result, Ok, Err, ap, sym, subst, refl}
+use Rattle.std.proofs.Common.{◌≡◌, ℕ, List, Option, Result, Ok, Err, ap, sym, subst}
 use Rattle.std.specs.Prelude.{IfOk, option_map}
 use Rattle.lx_types.specs.Answers.{Answers}
 use Rattle.lx_types.specs.declared.fail.Fail.{Fail}
@@ -14,7 +14,7 @@ use Rattle.lx_ports.specs.Files.{FilesState}
 use Rattle.lx_answer.specs.declared.said.Said.{Said}
 use Rattle.lx_answer.specs.LinkAnswer.{input_with, link_text}
 use Rattle.lx_answer.specs.MapAnswer.{NAME, MapsInput, ShowsMap}
-use Rattle.lx_answer.specs.Outcome.{Outcome, says_only}
+use Rattle.lx_answer.specs.Outcome.{says_only, shown}
 use Rattle.lx_answer.specs.Says.{asked_files}
 use Rattle.lx_answer.specs.Words.{link_map}
 use Rattle.tool_read.specs.Steps.{AreLoads, GivesAll}
@@ -22,21 +22,21 @@ use Rattle.lx_tool.specs.Doing.{Does}
 use Rattle.lx_tool.specs.Refusals.{RefusesAs}
 use Rattle.lx_tool.proofs.Commands.{shown_done}
 
-pub map_shown : (input : LinkInput) (text : List ℕ) (said : Said) → IsMapped input text → said ≡ record { status = 0; text = text } → MapsInput input (says_only said)
-map_shown input text said is same =
-    let P : Option (List ℕ) → Type 0 = λ why. ShowsMap is.link why (says_only said) in
-    record { link = is.link; of_input = is.of_input; shows = subst P (sym (ap (option_map link_text) is.accepted)) (text, is.map, ap (λ s. says_only s) same) }
+pub map_shown : (input : LinkInput) (text put : List ℕ) → IsMapped input text → put ≡ text → MapsInput input (says_only (record { status = 0; text = put }))
+map_shown input text put is same =
+    let P : Option (List ℕ) → Type 0 = λ why. ShowsMap is.link why (shown put) in
+    record { link = is.link; of_input = is.of_input; shows = subst P (sym (ap (option_map link_text) is.accepted)) (text, is.map, ap (λ t. shown t) same) }
 
 map_refusal : (input : LinkInput) (refusal : LinkRefusal) (said : Said) → RefusesLink input refusal → RefusesAs NAME (fail.Said refusal) (Ok said) → MapsInput input (says_only said)
 map_refusal input refusal said is same =
     let P : Option (List ℕ) → Type 0 = λ why. ShowsMap is.link why (says_only said) in
     record { link = is.link; of_input = is.of_input; shows = subst P (sym (ap (option_map link_text) is.refused)) (ap (λ s. says_only s) same) }
 
-pub map_refused : (input : LinkInput) (why : Fail LinkRefusal) (r : Result Said NoMemory) → ((refusal : LinkRefusal) → why ≡ fail.Said refusal → RefusesLink input refusal)
+pub map_refused : {A : Type 0} (P : A → Type 0) (input : LinkInput) (why : Fail LinkRefusal) (r : Result Said NoMemory) → Answers {A = A} (Err why) P (λ refusal. RefusesLink input refusal)
     → RefusesAs NAME why r → IfOk r (λ said. MapsInput input (says_only said))
-map_refused input (fail.Said refusal) (Ok said) by same = map_refusal input refusal said (by refusal refl) same
-map_refused input fail.NoMemory (Ok said) by same = absurd same
-map_refused input why (Err none) by same = tt
+map_refused P input (fail.Said refusal) (Ok said) by same = map_refusal input refusal said by same
+map_refused P input fail.NoMemory (Ok said) by same = absurd same
+map_refused P input why (Err none) by same = tt
 
 pub map_done : (definition : Option (List ℕ)) (names : List (List ℕ)) (input : LinkInput) (calls : List Call) (before now : FilesState) (r : Result Said NoMemory)
     → AreLoads calls before now → GivesAll (λ v items. v ≡ input_with NAME items) (asked_files (link_map definition names)) calls input
