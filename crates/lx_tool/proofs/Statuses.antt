@@ -1,8 +1,9 @@
 -- What the statuses of a command say of its calls.
 use Rattle.std.proofs.Common.{◌≡◌, ℕ, ◌+◌, ◌<◌, ◌≤◌, ◌⊎◌, Bool, true, false, List, [], ◌∷◌, ◌++◌, Option, Some, None, Result, Ok, Err, ◌∙◌, ap, sym, subst, refl, inl, inr, arith}
-use Rattle.std.specs.Prelude.{codes, if◌then◌else◌}
+use Rattle.std.specs.Prelude.{codes, if◌then◌else◌, option_map}
 use Rattle.std.specs.List.{AllByRecursion}
 use Rattle.link_model.specs.Link.{Link}
+use Rattle.link_model.specs.Refusal.{link_refusal}
 use Rattle.lx_ports.specs.Calls.{Call, load, save, load_faults, is_failed_load}
 use Rattle.lx_ports.specs.declared.files.LoadFault.TheVariants as fault
 use Rattle.lx_ports.specs.declared.files.SaveFault.{SaveFault}
@@ -13,7 +14,7 @@ use Rattle.lx_answer.specs.BindAnswer.{BindAnswer}
 use Rattle.lx_answer.specs.DumpAnswer.{DumpAnswer}
 use Rattle.lx_answer.specs.GenAnswer.{GenWords, SaysGen}
 use Rattle.lx_answer.specs.ImageAnswer.{ImageAnswer, image_refusal, memory_text, NAME}
-use Rattle.lx_answer.specs.LinkAnswer.{counts_of}
+use Rattle.lx_answer.specs.LinkAnswer.{counts_of, link_text}
 use Rattle.lx_answer.specs.MapAnswer.{ShowsMap}
 use Rattle.lx_answer.specs.Loading.{Asked, IsRefused, IsStopped}
 use Rattle.lx_answer.specs.Outcome.{Outcome, Saved, shown, kept, refused, refused_or}
@@ -67,7 +68,7 @@ come_to_is (implib out names) items o is = subst IsOutcome (sym is) (if_kept _ (
 come_to_is (bind out target file) items o is = bind_is out items o is
 come_to_is (gen count prefix) items o is = absurd is
 come_to_is (dump file) items o is = dump_is items o is
-come_to_is (link_map definition inputs) items o is = map_is is.link _ o is.shows
+come_to_is (link_map definition inputs) items o is = map_is is.link (option_map link_text (link_refusal is.link)) o is.shows
 
 -- ---- what a status says
 
