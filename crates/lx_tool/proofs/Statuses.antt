@@ -68,7 +68,7 @@ come_to_is (implib out names) items o is = subst IsOutcome (sym is) (if_kept _ (
 come_to_is (bind out target file) items o is = bind_is out items o is
 come_to_is (gen count prefix) items o is = absurd is
 come_to_is (dump file) items o is = dump_is items o is
-come_to_is (link_map definition inputs) items o is = map_is is.link (option_map link_text (link_refusal is.link)) o is.shows
+come_to_is (link_map d names) items o is = map_is is.link (option_map link_text (link_refusal is.link)) o is.shows
 
 -- ---- what a status says
 
