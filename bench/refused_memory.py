@@ -51,6 +51,8 @@ RUNS = [
     ("implib", ["implib", "d.lib", "d.def"]),
     ("bind", ["bind", "o.dll", "good.dll", "abc.res"]),
     ("gen", ["gen", "1", "g"]),
+    ("dump", ["dump", "good.dll"]),
+    ("map", ["map", "d.def", "a.obj"]),
     ("a session of one script", ["run", "s.ses"]),
     ("a session of three scripts", ["run", "many.ses"]),
 ]
