@@ -1,4 +1,4 @@
-//! Tests of the readers of object files, each call once with enough memory: apart from `lx_cases`, so that
+//! Tests of the readers of object files, each call once with enough memory: apart from `small_cases`, so that
 //! the two are proved side by side.
 #![tactic(auto)]
 

@@ -1,5 +1,5 @@
 //! Tests of the writer of modules on the files of worked links, and of the tables of a module's exports: apart from
-//! `lx_cases`, so that they are proved side by side.
+//! `small_cases`, so that they are proved side by side.
 #![tactic(auto)]
 
 #[cfg(test)]
