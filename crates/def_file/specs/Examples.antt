@@ -48,8 +48,18 @@ pub record WorkedFiles : Type 0 where
   pub empty : read_of [] ≡ Ok plain_program
   pub program : read_of (codes "NAME p WINDOWAPI ;'") ≡ Ok (record plain_program { name = Some (codes "p") })
   pub library :
-      read_of (lines (codes "library 'NAME' initinstance" ∷ codes "DESCRIPTION\"it; is\"" ∷ codes "STACKSIZE 0x2000 HEAPSIZE 07" ∷ codes "BASE=65536 PROTMODE EXETYPE OS2" ∷ []))
-      ≡ Ok (record plain_program { kind = modules.Library; name = Some (codes "NAME"); init_each = true; about = codes "it; is"; stack = 8192; heap = 7; base = Some 65536 })
+      read_of (lines (codes "library 'NAME' initinstance" ∷ codes "DESCRIPTION\"it; is\"" ∷ codes "STACKSIZE 0x2000 HEAPSIZE 07"
+      ∷ codes "BASE=65536 PROTMODE EXETYPE OS2" ∷ []))
+      ≡ Ok (record plain_program {
+        kind = modules.Library;
+        name = Some
+            (codes "NAME");
+        init_each = true;
+        about = codes "it; is";
+        stack = 8192;
+        heap = 7;
+        base = Some 65536;
+      })
   pub exports :
       read_of (codes "EXPORTS a b=F@7 RESIDENTNAME NODATA 3 'c d' 0x1F")
       ≡ Ok (record plain_program {

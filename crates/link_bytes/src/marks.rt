@@ -31,7 +31,8 @@ fn is_marked(marks: &Images, q: &Fixup) -> bool
 
 // Marks the bytes of a fixup's field.
 fn mark(alloc: Global, marks: &mut Images, q: &Fixup) -> Result<(), NoMemory>
-    ensures { OnOk result ((n : ℕ) (x : ℕ) → byte_of marks.new n x ≡ byte_after marks.old q.now.object q.now.offset (replicate (len_of_location q.now.fix.loc) 1) n x) }
+    ensures { OnOk result ((n : ℕ) (x : ℕ) → byte_of marks.new n x
+        ≡ byte_after marks.old q.now.object q.now.offset (replicate (len_of_location q.now.fix.loc) 1) n x) }
 {
     let ones = [1; 6];
     let len = usize::from(location_len(q.fix.loc));

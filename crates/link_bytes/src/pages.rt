@@ -92,7 +92,8 @@ fn records_of(
 ) -> Result<(PageFixes, ImportTables), NoMemory>
     requires { All HasBytes recorded.items }
     ensures { IfOk result (λ made. ArePairs made.1 (pairs_among imports.now (map shown recorded.items))
-        × ((pairs : List Imp) → ArePairs made.1 pairs → (n : ℕ) (k : ℕ) → fixes_of made.0 n k ≡ records_among imports.now pairs (map shown recorded.items) n k)) }
+        × ((pairs : List Imp) → ArePairs made.1 pairs → (n : ℕ) (k : ℕ) →
+        fixes_of made.0 n k ≡ records_among imports.now pairs (map shown recorded.items) n k)) }
 {
     let tables = tables_of(alloc, imports, recorded.as_slice())?;
     let pages = page_fixes(alloc, imports, &tables, recorded.as_slice())?;

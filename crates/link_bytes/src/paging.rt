@@ -97,7 +97,8 @@ pub fn target_of(
     tables: &ImportTables,
     q: &Fixup,
 ) -> Result<Option<(FixTarget, u32)>, NoMemory>
-    ensures { IfOk result (λ target. (pairs : List Imp) → ArePairs tables.now pairs → target ≡ target_among imports.now pairs (shown q.now) (target_shown q.now.target)) }
+    ensures { IfOk result (λ target. (pairs : List Imp) → ArePairs tables.now pairs →
+        target ≡ target_among imports.now pairs (shown q.now) (target_shown q.now.target)) }
 {
     match q.target {
         Target::Internal { object, offset } => Ok(Some(internal_target(q, object, offset))),
@@ -241,7 +242,8 @@ pub fn page_fixes(
     recorded: &[Fixup],
 ) -> Result<PageFixes, NoMemory>
     requires { All HasBytes recorded.now }
-    ensures { IfOk result (λ pages. (pairs : List Imp) → ArePairs tables.now pairs → (n : ℕ) (k : ℕ) → fixes_of pages n k ≡ records_among imports.now pairs (map shown recorded.now) n k) }
+    ensures { IfOk result (λ pages. (pairs : List Imp) → ArePairs tables.now pairs → (n : ℕ) (k : ℕ) →
+        fixes_of pages n k ≡ records_among imports.now pairs (map shown recorded.now) n k) }
 {
     let mut pages = PageFixes::new(alloc);
     for q in recorded {
@@ -280,7 +282,8 @@ pub fn object_fixes(
     pages: &PageFixes,
     objects: &[LaidObject],
 ) -> Result<Seq<Seq<Seq<Fix>>>, NoMemory>
-    ensures { IfOk result (λ all. all ≡ map (λ q. map (fixes_of pages.now q.0) (range_with_len 0 (records.page_count q.1.size))) (enumerate_from 1 objects.now)) }
+    ensures { IfOk result (λ all. all ≡ map (λ q. map (fixes_of pages.now q.0) (range_with_len 0 (records.page_count q.1.size)))
+        (enumerate_from 1 objects.now)) }
 {
     let mut all = Seq::new(alloc);
     let mut number = 0;

@@ -36,7 +36,8 @@ impl FirstNames {
 
     /// Adds a name, unless it is there.
     pub fn push(&mut self, alloc: Global, name: Name) -> Result<(), NoMemory>
-        ensures { OnOk result ((pushed : List (List ℕ)) → AreFirst self.old (firsts bytes_eq pushed) → AreFirst self.new (firsts bytes_eq (pushed ++ name ∷ []))) }
+        ensures { OnOk result ((pushed : List (List ℕ)) → AreFirst self.old (firsts bytes_eq pushed) →
+            AreFirst self.new (firsts bytes_eq (pushed ++ name ∷ []))) }
     {
         if !self.has(&name) {
             self.places.push(alloc, name.bytes(), ())?;
@@ -91,7 +92,8 @@ impl ImportTables {
 
     fn push_proc(&mut self, alloc: Global, entry: &EntryKey) -> Result<(), NoMemory>
         ensures modules { OnOk result (self.new.modules ≡ self.old.modules) }
-        ensures procs { OnOk result ((pushed : List (List ℕ)) → AreFirst self.old.procs (firsts bytes_eq pushed) → AreFirst self.new.procs (firsts bytes_eq (pushed ++ option_to_list (proc_name entry.now)))) }
+        ensures procs { OnOk result ((pushed : List (List ℕ)) → AreFirst self.old.procs (firsts bytes_eq pushed) →
+            AreFirst self.new.procs (firsts bytes_eq (pushed ++ option_to_list (proc_name entry.now)))) }
     {
         match entry {
             EntryKey::Ordinal(_) => Ok(()),

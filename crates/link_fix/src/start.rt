@@ -36,7 +36,8 @@ fn place_of(
     module: u32,
     start: &StartAt,
 ) -> Option<(u32, u32)>
-    ensures { (l : Link) → objects.now ≡ layout.objects l → ArePlaces l places.now → HasMeanings l syms.now → result ≡ rules.place_of_start l («module», start.now) }
+    ensures { (l : Link) → objects.now ≡ layout.objects l → ArePlaces l places.now → HasMeanings l syms.now →
+        result ≡ rules.place_of_start l («module», start.now) }
 {
     match target_of(places, syms, module, start.goal) {
         None => None,
@@ -52,7 +53,8 @@ pub fn start_of(
     objects: &[LaidObject],
     modules: &[&ObjModule],
 ) -> Result<Result<Option<(u32, u32)>, FixRefusal>, NoMemory>
-    ensures { IfOk result (λ start. (l : Link) → l.modules ≡ map (λ m. m.now) modules.now → objects.now ≡ layout.objects l → ArePlaces l places.now → HasMeanings l syms.now
+    ensures { IfOk result (λ start. (l : Link) → l.modules ≡ map (λ m. m.now) modules.now → objects.now ≡ layout.objects l → ArePlaces l places.now →
+        HasMeanings l syms.now
         → MatchResult start (λ place. (place ≡ rules.Start l) × (rules.start_outside l ≡ None)) (λ refusal. rules.start_outside l ≡ Some refusal)) }
 {
     match first_start(modules)? {

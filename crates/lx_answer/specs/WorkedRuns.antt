@@ -42,7 +42,8 @@ pub record WorkedRunWords : Type 0 where
   pub none : command_of (codes "run" ∷ S ∷ []) ≡ None
 
 pub record WorkedRuns : Type 0 where
-  pub empty : SaysRun S (loaded [] ∷ []) (record { status = 0; text = ln (codes "history") ++ ln (codes "summary processes 0 entries 0 faults 0") }) (Some nothing)
+  pub empty : SaysRun S (loaded [] ∷ []) (record { status = 0; text = ln (codes "history") ++ ln (codes "summary processes 0 entries 0 faults 0") })
+      (Some nothing)
   pub absent : SaysRun S (load S (Err Absent) ∷ []) (says 1 (codes "lx: s.ses: absent")) None
   pub wrong : SaysRun S (loaded (codes "took a.dll") ∷ []) (says 1 (codes "lx: s.ses: line 1 Statement")) None
   -- the first file that is not there is told; none behind it is loaded
@@ -52,8 +53,10 @@ pub record WorkedRuns : Type 0 where
 -- the files of module lines, in the order in which they are loaded
 pub record WorkedLineFiles : Type 0 where
   pub files :
-      asked_lines (Take (codes "a.dll") ∷ Build (codes "B") (codes "b.def") (codes "b.obj" ∷ codes "c.lib" ∷ []) ∷ Build (codes "D") (codes "-") (codes "d.obj" ∷ []) ∷ [])
-      ≡ record { kind = module_file; name = codes "a.dll" } ∷ record { kind = definition_file; name = codes "b.def" } ∷ record { kind = object_or_library; name = codes "b.obj" }
+      asked_lines (Take (codes "a.dll") ∷ Build (codes "B") (codes "b.def") (codes "b.obj" ∷ codes "c.lib" ∷ [])
+      ∷ Build (codes "D") (codes "-") (codes "d.obj" ∷ []) ∷ [])
+      ≡ record { kind = module_file; name = codes "a.dll" } ∷ record { kind = definition_file; name = codes "b.def" }
+      ∷ record { kind = object_or_library; name = codes "b.obj" }
       ∷ record { kind = object_or_library; name = codes "c.lib" } ∷ record { kind = object_or_library; name = codes "d.obj" } ∷ []
   pub many : library_text (TooManyModules 65) ≡ codes "TooManyModules 65"
   pub twice : library_text (NameTwice 0 1) ≡ codes "NameTwice 0 1"

@@ -58,7 +58,8 @@ items_behind c = flat_map sources_of (behind c).items
 abbrev pub Finds : Result (Option Found) RecRefusal → Cursor → Cursor → Type 0
 Finds (Ok None) old new = (items_behind old ≡ []) × (fault_of (behind old).end ≡ None) × (length new.left ≡ 0)
 Finds (Ok (Some found)) old new =
-    (items_behind old ≡ (found.at, found.fix) ∷ map (λ f. (found.at, f)) (record_fixes found.«record») ++ items_behind new) × (fault_of (behind old).end ≡ fault_of (behind new).end) × IsGood found.«record»
+    (items_behind old ≡ (found.at, found.fix) ∷ map (λ f. (found.at, f)) (record_fixes found.«record») ++ items_behind new)
+    × (fault_of (behind old).end ≡ fault_of (behind new).end) × IsGood found.«record»
 Finds (Err r) old new = (items_behind old ≡ []) × (fault_of (behind old).end ≡ Some (refusal r))
 
 -- how many items come

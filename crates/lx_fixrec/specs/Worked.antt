@@ -20,7 +20,8 @@ alias_fix source offset target additive = record { source = source; alias = true
 
 pub record WorkedWriting : Type 0 where
   -- three sources of one target, given in another order, and two others between them
-  pub listed : page (fix Off32 (pos 4092) (Internal 1 0) 0 ∷ fix Off32 (pos 4) (Ordinal 1 1) 4 ∷ fix Off32 (pos 0) (Internal 1 0) 0 ∷ fix Off32 (pos 12) (Named 1 8) 0 ∷ fix Off32 (pos 8) (Internal 1 0) 0 ∷ [])
+  pub listed : page (fix Off32 (pos 4092) (Internal 1 0) 0 ∷ fix Off32 (pos 4) (Ordinal 1 1) 4 ∷ fix Off32 (pos 0) (Internal 1 0) 0
+      ∷ fix Off32 (pos 12) (Named 1 8) 0 ∷ fix Off32 (pos 8) (Internal 1 0) 0 ∷ [])
       ≡ 0x27 ∷ 0x00 ∷ 0x03 ∷ 0x01 ∷ 0x00 ∷ 0x00 ∷ 0x00 ∷ 0x00 ∷ 0x08 ∷ 0x00 ∷ 0xFC ∷ 0x0F
       ∷ 0x07 ∷ 0x85 ∷ 0x04 ∷ 0x00 ∷ 0x01 ∷ 0x01 ∷ 0x04 ∷ 0x00
       ∷ 0x07 ∷ 0x02 ∷ 0x0C ∷ 0x00 ∷ 0x01 ∷ 0x08 ∷ 0x00 ∷ []

@@ -82,8 +82,8 @@ fn answer<F: Files>(alloc: Global, words: &[String], files: &mut F) -> Result<Sa
 /// link, the library or the binding is refused; 2, the words are no command; 3, reading failed; 4, saving failed, or putting, after
 /// some of the text; 8, there was no memory, and nothing was saved or put. With 1, 2, 3 and a failed save one line was
 /// put. Each file is loaded once for each time that it is named, in the order of the words, and none behind the first
-/// that is refused; OUT is saved behind all loads, once. `image`, `dump` and `map` save nothing. The files of `gen` are saved one after the other, and none behind the
-/// first that is not; nothing is loaded for them.
+/// that is refused; OUT is saved behind all loads, once. `image`, `dump` and `map` save nothing. The files of `gen` are saved
+/// one after the other, and none behind the first that is not; nothing is loaded for them.
 pub fn lx_build<F: Files, S: Sink>(
     alloc: Global,
     words: &[String],

@@ -39,7 +39,8 @@ pub record HaveFixes (m : Marks) (fixes : List FixAt) : Type 0 where
 -- A location more was seen.
 pub record SeesLocation (m n : Marks) (f : FixAt) : Type 0 where
   pub located : (seg x : ℕ) → is_marked n.located seg x ≡ (is_marked m.located seg x || has_byte seg x f)
-  pub bare : (seg start len : ℕ) → list_any (is_inside seg start len) n.bare.items ≡ (list_any (is_inside seg start len) m.bare.items || touches_bare seg start len f)
+  pub bare : (seg start len : ℕ) → list_any (is_inside seg start len) n.bare.items
+      ≡ (list_any (is_inside seg start len) m.bare.items || touches_bare seg start len f)
 
 -- None more was.
 pub record KeepsLocations (m n : Marks) : Type 0 where

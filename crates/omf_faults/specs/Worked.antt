@@ -62,8 +62,8 @@ two_faults =
     -- a continuation of none, past the limit
     ∷ (0xC3, 0x01 ∷ 0x13 ∷ 0x05 ∷ 0x00 ∷ 0x00 ∷ 0x00 ∷ 0x01 ∷ 0x00 ∷ 0x02 ∷ 0xAA ∷ [], BadField 0)
     ∷ (0xC3, 0x00 ∷ 0x13 ∷ 0x05 ∷ 0x00 ∷ 0x00 ∷ 0x00 ∷ 0x01 ∷ 0x00 ∷ 0x02 ∷ 0xAA ∷ [], DataRange 6)
-    -- FIXUPP: a THREAD of the frame method 3, and no index; location 4, and no second byte; a thread that is not set, and the target method 3; the group 1 of none, on the
-    -- fixup; past the data, and on the fixup
+    -- FIXUPP: a THREAD of the frame method 3, and no index; location 4, and no second byte; a thread that is not set, and the target
+    -- method 3; the group 1 of none, on the fixup; past the data, and on the fixup
     ∷ (0x9D, 0x4C ∷ [], BadField 3)
     ∷ (0x9D, 0x90 ∷ [], BadLocation 3 4)
     ∷ (0x9D, 0xE4 ∷ 0x04 ∷ 0x83 ∷ [], NoThread 5)

@@ -29,22 +29,28 @@ pub fn field_is_refused()
     ensures numbers { (n : ℕ) (c : Cursor) (f : OmfRefusal) → AreBytes c.left → number_at n c ≡ Err f → PassesEnd (number n) c f }
     ensures names { (c : Cursor) (f : OmfRefusal) → AreBytes c.left → name_at c ≡ Err f → PassesEnd name c f }
     ensures indices { (c : Cursor) (f : OmfRefusal) → AreBytes c.left → index_at c ≡ Err f → PassesEnd index c f }
-    ensures below { (have : ℕ) (c : Cursor) (f : OmfRefusal) → AreBytes c.left → index_below have c ≡ Err f → PassesEnd index c f ⊎ IsNoIndex (λ i. (1 ≤ i) × (i ≤ have)) have c f }
-    ensures or_zero { (have : ℕ) (c : Cursor) (f : OmfRefusal) → AreBytes c.left → index_or_zero have c ≡ Err f → PassesEnd index c f ⊎ IsNoIndex (λ i. i ≤ have) have c f }
+    ensures below { (have : ℕ) (c : Cursor) (f : OmfRefusal) → AreBytes c.left → index_below have c ≡ Err f → PassesEnd index c f
+        ⊎ IsNoIndex (λ i. (1 ≤ i) × (i ≤ have)) have c f }
+    ensures or_zero { (have : ℕ) (c : Cursor) (f : OmfRefusal) → AreBytes c.left → index_or_zero have c ≡ Err f → PassesEnd index c f
+        ⊎ IsNoIndex (λ i. i ≤ have) have c f }
 {}
 
 /// A list up to the end is its first item and then the list of what is behind it: `more` turns than bytes change
 /// nothing.
 pub fn list_of_items<A>()
     ensures none { (one : Cursor → Reading A) (c : Cursor) → c.left ≡ [] → list_at one c ≡ Ok [] }
-    ensures first { (one : Cursor → Reading A) (c : Cursor) → TakesBytes one → AreBytes c.left → c.left ≢ [] → list_at one c ≡ item_and_others one (list_at one) c }
-    ensures more { (one : Cursor → Reading A) (most : ℕ) (c : Cursor) → TakesBytes one → AreBytes c.left → length c.left ≤ most → list_within one most c ≡ list_at one c }
+    ensures first { (one : Cursor → Reading A) (c : Cursor) → TakesBytes one → AreBytes c.left → c.left ≢ [] →
+        list_at one c ≡ item_and_others one (list_at one) c }
+    ensures more { (one : Cursor → Reading A) (most : ℕ) (c : Cursor) → TakesBytes one → AreBytes c.left → length c.left ≤ most →
+        list_within one most c ≡ list_at one c }
 {}
 
 /// A list that is read item after item, as a loop does: the items so far and what is still to be read are what was
 /// to be read before.
 pub fn list_item_by_item<A>()
-    ensures item { (one : Cursor → Reading A) (items : List A) (c : Cursor) (x : A) (d : Cursor) → TakesBytes one → AreBytes c.left → c.left ≢ [] → one c ≡ Ok (x, d) → onto items (list_at one c) ≡ onto (items ++ x ∷ []) (list_at one d) }
-    ensures refused { (one : Cursor → Reading A) (items : List A) (c : Cursor) (refusal : OmfRefusal) → TakesBytes one → AreBytes c.left → c.left ≢ [] → one c ≡ Err refusal → onto items (list_at one c) ≡ Err refusal }
+    ensures item { (one : Cursor → Reading A) (items : List A) (c : Cursor) (x : A) (d : Cursor) → TakesBytes one → AreBytes c.left → c.left ≢ [] →
+        one c ≡ Ok (x, d) → onto items (list_at one c) ≡ onto (items ++ x ∷ []) (list_at one d) }
+    ensures refused { (one : Cursor → Reading A) (items : List A) (c : Cursor) (refusal : OmfRefusal) → TakesBytes one → AreBytes c.left → c.left ≢ [] →
+        one c ≡ Err refusal → onto items (list_at one c) ≡ Err refusal }
     ensures done { (one : Cursor → Reading A) (items : List A) (c : Cursor) → c.left ≡ [] → onto items (list_at one c) ≡ Ok items }
 {}

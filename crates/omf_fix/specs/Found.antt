@@ -55,7 +55,8 @@ found_at number left wide live f c = seen (with_block number wide live (c.at - 3
 
 -- All blocks up to the end.
 abbrev pub blocks_found : ℕ → Bool → Found → Cursor → Result Found OmfRefusal
-blocks_found number wide f c = blocks_at wide c >>= λ blocks. Ok (f.0 + expanded_len blocks, f.1 ++ map (λ x. f.0 + x) (block_copies wide (c.at - 3) blocks number), f.2 ++ contents wide (c.at - 3) blocks)
+blocks_found number wide f c = blocks_at wide c
+    >>= λ blocks. Ok (f.0 + expanded_len blocks, f.1 ++ map (λ x. f.0 + x) (block_copies wide (c.at - 3) blocks number), f.2 ++ contents wide (c.at - 3) blocks)
 
 -- In a record's contents.
 pub record IsInContents (c : Cursor) : Type 0 where

@@ -35,7 +35,8 @@ fn frame_index(
     fix: u8,
 ) -> Result<Option<u32>, OmfRefusal>
     requires { Counts have before.now }
-    ensures { Reads (λ index. index) as_is result (where_so (not (by_frame_thread fix) && index_follows (frame_bits fix)) (method_index_at judged before.now (frame_bits fix))) fields.old fields.new }
+    ensures { Reads (λ index. index) as_is result
+        (where_so (not (by_frame_thread fix) && index_follows (frame_bits fix)) (method_index_at judged before.now (frame_bits fix))) fields.old fields.new }
 {
     let method = fix / 16 % 8;
     if fix >= 0x80 || !has_index(method) {
@@ -53,7 +54,8 @@ fn target_index(
     fix: u8,
 ) -> Result<Option<u32>, OmfRefusal>
     requires { Counts have before.now }
-    ensures { Reads (λ index. index) as_is result (where_so (not (by_target_thread fix)) (method_index_at judged before.now (target_bits fix))) fields.old fields.new }
+    ensures { Reads (λ index. index) as_is result
+        (where_so (not (by_target_thread fix)) (method_index_at judged before.now (target_bits fix))) fields.old fields.new }
 {
     if fix / 8 % 2 == 1 {
         return Ok(None);

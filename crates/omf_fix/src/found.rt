@@ -105,7 +105,13 @@ fn repeat_found(found: &mut Copies, start: usize, before: usize, times: u32) -> 
     requires some { 1 ≤ times }
     requires there { start ≤ vec_len found.old.places }
     requires before { before ≤ found.old.len }
-    ensures { OnOk result (found_in found.new ≡ (before + times * (found.old.len - before), take start found.old.places.items ++ repeated times (found.old.len - before) (drop start found.old.places.items), found.old.contents.items)) }
+    ensures { OnOk result (found_in found.new
+        ≡ (
+          before + times * (found.old.len - before),
+          take start found.old.places.items
+              ++ repeated times (found.old.len - before) (drop start found.old.places.items),
+          found.old.contents.items,
+        )) }
 {
     let unit = found.len - before;
     repeat_places(&mut found.places, start, unit, times)?;
@@ -147,7 +153,14 @@ fn find_content(
     number: usize,
 ) -> Result<(), NoMemory>
     requires { first ≤ past }
-    ensures { OnOk result (found_in found.new ≡ (found.old.len + times * (past - first), found.old.places.items ++ map (λ x. found.old.len + x) (repeated times (past - first) (place_in first (past - first) number)), found.old.contents.items ++ (first, past) ∷ [])) }
+    ensures { OnOk result (found_in found.new
+        ≡ (
+          found.old.len + times * (past - first),
+          found.old.places.items
+              ++ map (λ x. found.old.len + x) (repeated times (past - first) (place_in first (past - first) number)),
+          found.old.contents.items
+              ++ (first, past) ∷ [],
+        )) }
 {
     found.contents.push((first, past))?;
     if times == 0 {

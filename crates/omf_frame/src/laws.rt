@@ -54,5 +54,6 @@ pub fn type_numbers()
 /// A record is cut off exactly where no whole record begins.
 pub fn cut_off_or_whole()
     ensures not_both { (bytes : List ℕ) (ty : ℕ) (body : List ℕ) (checksum : ℕ) (rest : List ℕ) → IsCutOff bytes → BeginsWhole bytes ty body checksum rest → ⊥ }
-    ensures either { (bytes : List ℕ) → AreBytes bytes → ((ty checksum : ℕ) (body rest : List ℕ) → BeginsWhole bytes ty body checksum rest → ⊥) → IsCutOff bytes }
+    ensures either { (bytes : List ℕ) → AreBytes bytes → ((ty checksum : ℕ) (body rest : List ℕ) → BeginsWhole bytes ty body checksum rest → ⊥) →
+        IsCutOff bytes }
 {}

@@ -55,7 +55,8 @@ add p (pubdef local group segment frame defs) = record p { «module» = record p
 add p (extdef local defs) = record p { «module» = record p.module { exts = p.module.exts ++ map (ext_of local) defs } }
 add p (comdef defs) = record p { «module» = record p.module { exts = p.module.exts ++ map com_of defs } }
 add p (ledata seg offset content) = add_data p (record { seg = seg; offset = offset; bytes = content }) (datas.Straight seg offset (length content))
-add p (lidata wide seg offset blocks) = add_data p (record { seg = seg; offset = offset; bytes = expanded blocks }) (datas.Blocks seg offset wide (block_bytes wide blocks))
+add p (lidata wide seg offset blocks) =
+    add_data p (record { seg = seg; offset = offset; bytes = expanded blocks }) (datas.Blocks seg offset wide (block_bytes wide blocks))
 add p (comdat d) = add_comdat p d
 add p (fixupp fields) = add_fields p fields
 add p (modend kind start) = record p { «module» = record p.module { start = start_of p.threads start } }

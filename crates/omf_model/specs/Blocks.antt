@@ -35,7 +35,8 @@ block_bytes wide (nested times inner rest) = head_bytes wide times (count_of inn
 abbrev pub FitBlocks : Bool → Blocks → Type 0
 FitBlocks wide none = Unit {0}
 FitBlocks wide (bytes times content rest) = (times < 256 ^ width wide) × (length content < 256) × FitBlocks wide rest
-FitBlocks wide (nested times inner rest) = (times < 256 ^ width wide) × (1 ≤ count_of inner) × (count_of inner < 2 ^ 16) × FitBlocks wide inner × FitBlocks wide rest
+FitBlocks wide (nested times inner rest) =
+    (times < 256 ^ width wide) × (1 ≤ count_of inner) × (count_of inner < 2 ^ 16) × FitBlocks wide inner × FitBlocks wide rest
 
 -- A block's content, joined repeat-count times.
 abbrev pub expanded : Blocks → List ℕ

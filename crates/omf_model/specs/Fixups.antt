@@ -21,7 +21,8 @@ abbrev pub is_frame_method : ℕ → Bool
 is_frame_method m = nat_le m 2 || m == 4 || m == 5
 
 abbrev pub frame_by : ℕ → ℕ → Frame
-frame_by m i = if m == 0 then frames.Seg i else if m == 1 then frames.Group i else if m == 2 then frames.Ext i else if m == 4 then frames.Here else frames.OfTarget
+frame_by m i =
+    if m == 0 then frames.Seg i else if m == 1 then frames.Group i else if m == 2 then frames.Ext i else if m == 4 then frames.Here else frames.OfTarget
 
 -- The target methods: 0 segment, 1 group, 2 external.
 abbrev pub is_target_method : ℕ → Bool

@@ -55,6 +55,9 @@ pub data PageFault (size : ℕ) : ℕ → List ℕ → OmfRefusal → Type 0 whe
 -- gives no page size, or its modules have one.
 pub data LibraryFault : List ℕ → OmfRefusal → Type 0 where
   no_record : {bytes : List ℕ} → IsCutOff bytes → LibraryFault bytes (Short 0)
-  other_type : {bytes : List ℕ} (ty : ℕ) (body : List ℕ) (checksum : ℕ) (rest : List ℕ) → BeginsWhole bytes ty body checksum rest → ty ≢ 0xF0 → LibraryFault bytes (BadField 0)
-  no_page : {bytes : List ℕ} (body : List ℕ) (checksum : ℕ) (rest : List ℕ) → BeginsWhole bytes 0xF0 body checksum rest → is_page_size (4 + length body) ≡ false → LibraryFault bytes (BadField 1)
-  in_modules : {bytes : List ℕ} {refusal : OmfRefusal} (size : ℕ) (front back : List ℕ) → bytes ≡ front ++ back → IsHeader size front → PageFault size size back refusal → LibraryFault bytes refusal
+  other_type : {bytes : List ℕ} (ty : ℕ) (body : List ℕ) (checksum : ℕ) (rest : List ℕ) → BeginsWhole bytes ty body checksum rest → ty ≢ 0xF0 →
+      LibraryFault bytes (BadField 0)
+  no_page : {bytes : List ℕ} (body : List ℕ) (checksum : ℕ) (rest : List ℕ) → BeginsWhole bytes 0xF0 body checksum rest →
+      is_page_size (4 + length body) ≡ false → LibraryFault bytes (BadField 1)
+  in_modules : {bytes : List ℕ} {refusal : OmfRefusal} (size : ℕ) (front back : List ℕ) → bytes ≡ front ++ back → IsHeader size front →
+      PageFault size size back refusal → LibraryFault bytes refusal

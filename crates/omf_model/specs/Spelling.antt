@@ -53,7 +53,8 @@ abbrev pub impdef_form : ImpDef → Form
 impdef_form d = class_form 0xA0 then byte 1 then byte d.flag then name d.internal then name d.from then entry_form d.flag d.entry then anything
 
 abbrev pub expdef_form : ExpDef → Form
-expdef_form d = class_form 0xA0 then byte 2 then byte d.flag then name d.exported then name d.internal then present (nat_le 128 d.flag) (number 2) d.ordinal then anything
+expdef_form d =
+    class_form 0xA0 then byte 2 then byte d.flag then name d.exported then name d.internal then present (nat_le 128 d.flag) (number 2) d.ordinal then anything
 
 abbrev pub segdef_form : Bool → SegDef → Form
 segdef_form wide d bytes = (is_too_long wide d.attributes d.len ≡ false) × (
@@ -115,7 +116,8 @@ contents_form wide (expdef d) = expdef_form d
 contents_form wide (lnames texts) = each name texts
 contents_form wide (segdef d) = segdef_form wide d
 contents_form wide (grpdef i members) = index i then each member_form members
-contents_form wide (pubdef local group segment frame defs) = index group then index segment then present (segment == 0) (number 2) frame then each (pub_form wide) defs
+contents_form wide (pubdef local group segment frame defs) =
+    index group then index segment then present (segment == 0) (number 2) frame then each (pub_form wide) defs
 contents_form wide (extdef local defs) = each ext_form defs
 contents_form wide (comdef defs) = each com_form defs
 contents_form wide (ledata segment offset content) = index segment then number (width wide) offset then λ bytes. bytes ≡ content

@@ -28,6 +28,8 @@ pub fn copies_are_computed()
 
 /// Two locations on the same blocks meet exactly where they share a byte before expansion and have copies.
 pub fn locations_on_blocks()
-    ensures meet { (wide : Bool) (b : Blocks) (o la p lb : ℕ) → 1 ≤ la → 1 ≤ lb → IsInBlock wide b o la → IsInBlock wide b p lb → ShareByte o la p lb → HasCopy wide b o → HasCopy wide b p → CopiesMeet wide b o la p lb }
-    ensures share { (wide : Bool) (b : Blocks) (o la p lb : ℕ) → 1 ≤ la → 1 ≤ lb → IsInBlock wide b o la → IsInBlock wide b p lb → CopiesMeet wide b o la p lb → ShareByte o la p lb }
+    ensures meet { (wide : Bool) (b : Blocks) (o la p lb : ℕ) → 1 ≤ la → 1 ≤ lb → IsInBlock wide b o la → IsInBlock wide b p lb → ShareByte o la p lb →
+        HasCopy wide b o → HasCopy wide b p → CopiesMeet wide b o la p lb }
+    ensures share { (wide : Bool) (b : Blocks) (o la p lb : ℕ) → 1 ≤ la → 1 ≤ lb → IsInBlock wide b o la → IsInBlock wide b p lb →
+        CopiesMeet wide b o la p lb → ShareByte o la p lb }
 {}

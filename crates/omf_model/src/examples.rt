@@ -24,7 +24,8 @@ pub fn threads()
 
 /// Blocks of two bytes, six times; and a fixup on them, which is one in each copy.
 pub fn copies_of_blocks()
-    ensures { object_of (start 12 ++ blocks_record ++ blocks_fixup ++ end_record) ≡ Ok (module_a 12 (piece (repeat 6 (0xAB ∷ 0xCD ∷ [])) ∷ []) (map (fix_at 1) (0 ∷ 2 ∷ 4 ∷ 6 ∷ 8 ∷ 10 ∷ []))) }
+    ensures { object_of (start 12 ++ blocks_record ++ blocks_fixup ++ end_record)
+        ≡ Ok (module_a 12 (piece (repeat 6 (0xAB ∷ 0xCD ∷ [])) ∷ []) (map (fix_at 1) (0 ∷ 2 ∷ 4 ∷ 6 ∷ 8 ∷ 10 ∷ []))) }
 {}
 
 /// An import library of one module.
@@ -44,7 +45,9 @@ pub fn each_refusal()
 
 /// Of a file that is cut off, the record that is not whole is the first fault.
 pub fn the_first_bytes()
-    ensures { map (λ n. object_of (take n (start 8 ++ zero_data ++ fixup_record ++ end_record))) (0 ∷ 5 ∷ 6 ∷ 27 ∷ 28 ∷ 39 ∷ 40 ∷ 44 ∷ 45 ∷ 61 ∷ 62 ∷ 70 ∷ 71 ∷ 75 ∷ []) ≡ map (λ at. Err (Short at)) (0 ∷ 0 ∷ 6 ∷ 6 ∷ 28 ∷ 28 ∷ 40 ∷ 40 ∷ 45 ∷ 45 ∷ 62 ∷ 62 ∷ 71 ∷ 71 ∷ []) }
+    ensures { map (λ n. object_of (take n (start 8 ++ zero_data ++ fixup_record ++ end_record)))
+        (0 ∷ 5 ∷ 6 ∷ 27 ∷ 28 ∷ 39 ∷ 40 ∷ 44 ∷ 45 ∷ 61 ∷ 62 ∷ 70 ∷ 71 ∷ 75 ∷ [])
+        ≡ map (λ at. Err (Short at)) (0 ∷ 0 ∷ 6 ∷ 6 ∷ 28 ∷ 28 ∷ 40 ∷ 40 ∷ 45 ∷ 45 ∷ 62 ∷ 62 ∷ 71 ∷ 71 ∷ []) }
 {}
 
 /// A fixup on LIDATA with more copies than a module may have fixups.

@@ -13,5 +13,6 @@ ghost use Rattle.omf_model.specs.ReadModule.{contents_of, reader_of, record_at};
 pub fn faults_lie_in_their_record()
     ensures around { (c : Cursor) (f : OmfRefusal) → raw_at c ≡ Err f → place f ≡ c.at }
     ensures contents { (ty : ℕ) (p : ObjParts) (at : ℕ) (c : Cursor) (f : OmfRefusal) → at ≤ c.at → reader_of ty p at c ≡ Err f → IsInRecord at c f }
-    ensures record { (p : ObjParts) (c : Cursor) (f : OmfRefusal) → record_at p c ≡ Err f → (place f ≡ c.at) ⊎ ((r : RawRecord) × (raw_at c ≡ Ok r) × IsInRecord r.at (contents_of r) f) }
+    ensures record { (p : ObjParts) (c : Cursor) (f : OmfRefusal) → record_at p c ≡ Err f → (place f ≡ c.at)
+        ⊎ ((r : RawRecord) × (raw_at c ≡ Ok r) × IsInRecord r.at (contents_of r) f) }
 {}

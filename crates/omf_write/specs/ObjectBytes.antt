@@ -52,7 +52,8 @@ place_bytes align = if align == 0 then 0 ∷ 0 ∷ 0 ∷ [] else []
 
 abbrev pub segdef_bytes : NameList → Seg → List ℕ
 segdef_bytes names s =
-    attributes_of s ∷ (place_bytes s.align ++ (little_bytes 4 s.len ++ (index_bytes (name_index names s.name) ++ (index_bytes (name_index names s.class) ++ 0 ∷ []))))
+    attributes_of s ∷ (place_bytes s.align ++
+    (little_bytes 4 s.len ++ (index_bytes (name_index names s.name) ++ (index_bytes (name_index names s.class) ++ 0 ∷ []))))
 
 abbrev pub segdef_record : NameList → Seg → List ℕ
 segdef_record names s = record_of 0x99 (segdef_bytes names s)
@@ -203,7 +204,8 @@ end_record None = record_of 0x8A (0 ∷ [])
 end_record (Some s) = record_of 0x8B (start_bytes s)
 
 abbrev pub symbol_records : ObjModule → List ℕ
-symbol_records m = flat_map extdef_record m.exts ++ (flat_map pubdef_record m.pubs ++ (flat_map impdef_record m.imports ++ (flat_map expdef_record m.exports ++ flat_map deflib_record m.deflibs)))
+symbol_records m = flat_map extdef_record m.exts
+    ++ (flat_map pubdef_record m.pubs ++ (flat_map impdef_record m.imports ++ (flat_map expdef_record m.exports ++ flat_map deflib_record m.deflibs)))
 
 abbrev pub segment_records : NameList → ObjModule → List ℕ
 segment_records names m = name_records names ++ (flat_map (segdef_record names) m.segs ++ flat_map (grpdef_record names) m.groups)

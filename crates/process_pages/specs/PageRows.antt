@@ -24,7 +24,8 @@ pub record Cover (m : Parts) (rows : PagePlaces) : Type 0 where
 -- Each page of the residence has the place at which it stands among those that are mapped, and none where it does not.
 abbrev pub ArePlaces : Parts → ℕ → PagePlaces → List Mapped → Type 0
 ArePlaces m serial rows mapped =
-    (object n : ℕ) → IsNumberOf object (length m.objects) → n < pages_of (object_of m object) → place_in rows (page object n) ≡ position (is_mapped_at serial (page object n)) mapped
+    (object n : ℕ) → IsNumberOf object (length m.objects) → n < pages_of (object_of m object) →
+    place_in rows (page object n) ≡ position (is_mapped_at serial (page object n)) mapped
 
 -- the rows of a module that has no page mapped
 pub record HaveNone (m : Parts) (rows : PagePlaces) : Type 0 where

@@ -53,7 +53,8 @@ pub record Did (b c : Ledger) (v w : ProcessView) (command : Command) (outcome :
   pub stands : StandsAt c w
   pub library : w.library ≡ v.library
   pub pid : w.holding.pid ≡ v.holding.pid
-  pub mapped : mapped_pages w.holding ≡ touched_behind b.library (state_of b) v.holding.pid (entry_of b v.holding.pid ask).deed (λ _. mapped_pages v.holding) v.holding.pid
+  pub mapped : mapped_pages w.holding ≡ touched_behind b.library (state_of b) v.holding.pid (entry_of b v.holding.pid ask).deed
+      (λ _. mapped_pages v.holding) v.holding.pid
 
 -- nothing was done, but that there may be more room
 abbrev pub IsIdle : Ledger → Ledger → ProcessView → ProcessView → Type 0
@@ -61,7 +62,12 @@ IsIdle b c v w = (c ≡ b) × (without_room w ≡ without_room v)
 
 -- the view with a residence more, in its room
 abbrev pub with_stay : ResidenceFor → ProcessView → ProcessView
-with_stay r v = record v { holding = record v.holding { stays = map fresh_shown (v.residences ++ r ∷ []) }; residences = v.residences ++ r ∷ []; stay_room = v.stay_room - 1 }
+with_stay r v =
+    record v {
+      holding = record v.holding { stays = map fresh_shown (v.residences ++ r ∷ []) };
+      residences = v.residences ++ r ∷ [];
+      stay_room = v.stay_room - 1;
+    }
 
 -- What a deed comes to: it is done; or its entry says why it is not; or no memory was found.
 abbrev pub IsDone : Ledger → Ledger → ProcessView → ProcessView → Command → Result Unit (Fail Refusal) → Type 0

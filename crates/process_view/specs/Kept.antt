@@ -9,7 +9,8 @@ use Rattle.process_view.specs.declared.view.View.TheInside.{Inside}
 abbrev pub view_of : Inside → ProcessView
 view_of v = record {
   library = arc_value v.lib;
-  holding = record { pid = v.pid; ended = v.ended; row = v.holder; stays = map fresh_shown (residences_in v.stays.items); mapped = v.pages.items; front = v.front };
+  holding =
+      record { pid = v.pid; ended = v.ended; row = v.holder; stays = map fresh_shown (residences_in v.stays.items); mapped = v.pages.items; front = v.front };
   residences = residences_in v.stays.items;
   page_room = vec_capacity v.pages - vec_len v.pages;
   stay_room = vec_capacity v.stays - vec_len v.stays;

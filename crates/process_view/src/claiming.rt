@@ -20,8 +20,10 @@ impl View {
     /// Whether all processes share a page of a residence.
     pub fn is_common(&self, k: usize, p: PageId) -> bool
         requires stay { k < length self.now.residences }
-        requires object { (d : ResidenceFor) → IsNumberOf p.object (length (module_of self.now.library (slice_index_or self.now.residences k d).«module»).objects) }
-        requires page { (d : ResidenceFor) → p.page < pages_of (object_of (module_of self.now.library (slice_index_or self.now.residences k d).«module») p.object) }
+        requires object { (d : ResidenceFor) → IsNumberOf p.object
+            (length (module_of self.now.library (slice_index_or self.now.residences k d).«module»).objects) }
+        requires page { (d : ResidenceFor) → p.page < pages_of
+            (object_of (module_of self.now.library (slice_index_or self.now.residences k d).«module») p.object) }
         ensures { (d : ResidenceFor) → result ≡ is_fixable (module_of self.now.library (slice_index_or self.now.residences k d).«module») p }
     {
         is_common(self.library(), self.stay_module(k), p)
@@ -34,7 +36,8 @@ impl View {
         requires stay { k < length self.old.residences }
         requires page { (d : ResidenceFor) → CanMap self.old (slice_index_or self.old.residences k d) p }
         requires common { (d : ResidenceFor) → IsCommonPage self.old (slice_index_or self.old.residences k d) p }
-        ensures { (d : ResidenceFor) → MatchResult result (IsClaimedIn board.old board.new self.old self.new (slice_index_or self.old.residences k d) p) (λ _. IsIdle board.old board.new self.old self.new) }
+        ensures { (d : ResidenceFor) → MatchResult result (IsClaimedIn board.old board.new self.old self.new (slice_index_or self.old.residences k d) p)
+            (λ _. IsIdle board.old board.new self.old self.new) }
     {
         residences_stay();
         views_stand();

@@ -14,7 +14,8 @@ impl View {
     // Keeps nothing: no load, no residence, no page.
     pub(crate) fn leave_all(&mut self)
         requires { (p : Process) × IsRowOf self.old.library p self.old.holding.row }
-        ensures row { (lib : Library) (p : Process) (e : Eager) → IsRowOf lib p self.old.holding.row → IsRowOf lib (keeping lib e (exiting p)) self.new.holding.row }
+        ensures row { (lib : Library) (p : Process) (e : Eager) → IsRowOf lib p self.old.holding.row →
+            IsRowOf lib (keeping lib e (exiting p)) self.new.holding.row }
         ensures rest { self.new ≡ record {
           library = self.old.library;
           holding = record self.old.holding { ended = true; row = self.new.holding.row; stays = []; mapped = [] };
@@ -36,8 +37,10 @@ impl View {
         requires counted { All (λ k. 0 < slice_index self.old.holding.row.reached k) (order_of self.old.library m) }
         requires once { AllPairs (λ a b. a ≡ b → ⊥) (order_of self.old.library m) }
         requires row { (p : Process) × IsRowOf self.old.library p self.old.holding.row }
-        ensures row { (p : Process) (e : Eager) → IsRowOf self.old.library p self.old.holding.row → IsRowOf self.old.library (keeping self.old.library e (freeing m p)) self.new.holding.row }
-        ensures rest { (p : Process) → IsRowOf self.old.library p self.old.holding.row → self.new ≡ freed_view self.old (reaches self.old.library (freeing m p)) self.new.holding.row self.new.page_room self.new.stay_room }
+        ensures row { (p : Process) (e : Eager) → IsRowOf self.old.library p self.old.holding.row →
+            IsRowOf self.old.library (keeping self.old.library e (freeing m p)) self.new.holding.row }
+        ensures rest { (p : Process) → IsRowOf self.old.library p self.old.holding.row →
+            self.new ≡ freed_view self.old (reaches self.old.library (freeing m p)) self.new.holding.row self.new.page_room self.new.stay_room }
     {
         self.holder.free(self.lib.order(m), m);
         keep_reached(&mut self.stays, self.lib.len(), &self.holder);

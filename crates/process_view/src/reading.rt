@@ -105,7 +105,8 @@ impl View {
     pub(crate) fn copy_place(&self, k: usize, place: &Place, into: &mut [u8])
         requires fits { length into.old ≡ place.now.len }
         requires named { IsStayNamed self.now place.now.«module» k }
-        requires used { (view_place_refusal self.now.library self.now.holding uses.peek place.now ≡ None) ⊎ (view_place_refusal self.now.library self.now.holding uses.share place.now ≡ None) }
+        requires used { (view_place_refusal self.now.library self.now.holding uses.peek place.now ≡ None)
+            ⊎ (view_place_refusal self.now.library self.now.holding uses.share place.now ≡ None) }
         ensures { into.new ≡ view_bytes self.now.holding place.now (stay_named self.now.library self.now.holding place.now.«module») }
     {
         let stay = &self.stays[k];

@@ -63,7 +63,8 @@ ghost use Rattle.load_model.specs.Refusals.{when, ◌orelse◌};
 // Why a library cannot be loaded by who holds this many loads of it.
 fn library_refusal(lib: &Library, m: u32, held: u32) -> Option<Refusal>
     requires { m < length lib.now }
-    ensures { result ≡ (when (not (modules.is_library lib.now m)) Refusal.NotLibrary orelse modules.unfit lib.now m orelse when (nat_le 65535 held) Refusal.CountFull) }
+    ensures { result ≡ (when (not (modules.is_library lib.now m)) Refusal.NotLibrary orelse modules.unfit lib.now m
+        orelse when (nat_le 65535 held) Refusal.CountFull) }
 {
     if !is_library(lib, m) {
         return Some(Refusal::NotLibrary);
@@ -120,7 +121,8 @@ impl View {
     #[tactic(auto, unfolding(load_model::specs::ViewAnswers::view_refusal, load_model::specs::Modules::number_of))]
     pub fn to_enter(&self, how: How, name: &Name) -> Result<u32, Refusal>
         ensures { MatchResult result
-            (λ m. (view_refusal self.now.library self.now.holding (enter_command how name.now) ≡ None) × (number_of self.now.library name.now ≡ Some m) × (m < length self.now.library))
+            (λ m. (view_refusal self.now.library self.now.holding (enter_command how name.now) ≡ None) × (number_of self.now.library name.now ≡ Some m)
+            × (m < length self.now.library))
             (λ refusal. view_refusal self.now.library self.now.holding (enter_command how name.now) ≡ Some refusal) }
     {
         if self.ended {
@@ -146,7 +148,8 @@ impl View {
     #[tactic(auto, unfolding(load_model::specs::ViewAnswers::view_refusal, load_model::specs::Modules::number_of))]
     pub fn to_free(&self, name: &Name) -> Result<u32, Refusal>
         ensures { MatchResult result
-            (λ m. (view_refusal self.now.library self.now.holding (commands.Free name.now) ≡ None) × (number_of self.now.library name.now ≡ Some m) × (m < length self.now.library))
+            (λ m. (view_refusal self.now.library self.now.holding (commands.Free name.now) ≡ None) × (number_of self.now.library name.now ≡ Some m)
+            × (m < length self.now.library))
             (λ refusal. view_refusal self.now.library self.now.holding (commands.Free name.now) ≡ Some refusal) }
     {
         if self.ended {

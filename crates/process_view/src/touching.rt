@@ -35,8 +35,10 @@ impl View {
     /// Whether a page of a residence is mapped.
     pub fn is_mapped(&self, k: usize, p: PageId) -> bool
         requires stay { k < length self.now.residences }
-        requires object { (d : ResidenceFor) → IsNumberOf p.object (length (module_of self.now.library (slice_index_or self.now.residences k d).«module»).objects) }
-        requires page { (d : ResidenceFor) → p.page < pages_of (object_of (module_of self.now.library (slice_index_or self.now.residences k d).«module») p.object) }
+        requires object { (d : ResidenceFor) → IsNumberOf p.object
+            (length (module_of self.now.library (slice_index_or self.now.residences k d).«module»).objects) }
+        requires page { (d : ResidenceFor) → p.page < pages_of
+            (object_of (module_of self.now.library (slice_index_or self.now.residences k d).«module») p.object) }
         ensures { (d : ResidenceFor) → result ≡ has_page (mapped_pages self.now.holding) (slice_index_or self.now.residences k d).serial p }
     {
         self.stays[k].places.get(p).is_some()
@@ -108,7 +110,8 @@ impl View {
         requires own { (d : ResidenceFor) → right.serial ≡ (slice_index_or self.old.residences k d).serial }
         requires common { (d : ResidenceFor) → IsCommonPage self.old (slice_index_or self.old.residences k d) right.page }
         ensures mapped { (d : ResidenceFor) → IsFixedIn self.old self.new (slice_index_or self.old.residences k d) right.page }
-        ensures steps { (d : ResidenceFor) → steps.new ≡ steps.old + source_count self.old.library (slice_index_or self.old.residences k d).«module» right.page }
+        ensures steps { (d : ResidenceFor) → steps.new
+            ≡ steps.old + source_count self.old.library (slice_index_or self.old.residences k d).«module» right.page }
     {
         let (buffer, mut copy) = buffers;
         let residence = self.residence(k);

@@ -22,12 +22,14 @@ pub record AreTables (def : DefFile) (ps : List Part) (names : List (List ℕ)) 
   pub groups_are : AreGroupsOf (is_member members) names (heads_of ps) (map (λ v. v.items) t.groups.items)
   pub heads_are : map shown t.heads.items ≡ heads_of ps
   pub flags_are : t.flags.items ≡ map (flags_in def) (heads_of ps)
-  pub objects_are : map object_shown t.objects.items ≡ map (key_at (heads_of ps) t.flags.items names (map (λ v. v.items) t.groups.items)) (range_with_len 0 (length (heads_of ps)))
+  pub objects_are : map object_shown t.objects.items
+      ≡ map (key_at (heads_of ps) t.flags.items names (map (λ v. v.items) t.groups.items)) (range_with_len 0 (length (heads_of ps)))
   pub parts_are : map (λ v. map shown v.items) t.parts.items ≡ map (λ s. filter (joins s) ps) (heads_of ps)
 
 -- These are the modules, the definition file, all parts, the names of groups and what is in groups of a link, and the
 -- numbers of its logical segments in the order in which they stand.
-pub record InOrder (l : Link) (modules : List ObjModule) (def : DefFile) (ps : List Part) (names : List (List ℕ)) (members : List (List ℕ × SegmentKey)) (order : List ℕ) : Type 0 where
+pub record InOrder (l : Link) (modules : List ObjModule) (def : DefFile) (ps : List Part) (names : List (List ℕ)) (members : List (List ℕ × SegmentKey))
+    (order : List ℕ) : Type 0 where
   pub modules_are : modules ≡ l.modules
   pub def_is : def ≡ l.def
   pub parts_are : ps ≡ all_parts l
@@ -36,7 +38,8 @@ pub record InOrder (l : Link) (modules : List ObjModule) (def : DefFile) (ps : L
   pub order_is : map (slice_get (heads_of ps)) order ≡ map (λ s. Some s) (ordered l)
 
 -- The same, with what is known of each logical segment.
-pub record TablesStand (l : Link) (modules : List ObjModule) (def : DefFile) (ps : List Part) (names : List (List ℕ)) (t : Tables) (order : List ℕ) : Type 0 where
+pub record TablesStand (l : Link) (modules : List ObjModule) (def : DefFile) (ps : List Part) (names : List (List ℕ)) (t : Tables)
+    (order : List ℕ) : Type 0 where
   pub members : List (List ℕ × SegmentKey)
   pub in_order : InOrder l modules def ps names members order
   pub tables : AreTables def ps names members t

@@ -12,5 +12,6 @@ use Rattle.sym_table.specs.Symbols.{SymbolTable}
 
 -- External e of chosen module n has the meaning that the rules give it.
 abbrev pub FindsMeanings : Type 0
-FindsMeanings = (input : LinkInput) (s : SymbolTable) (n e : ℕ) (m : ObjModule) (x : Ext) → IsBound input s → chosen_module (link_of input s.chosen) n ≡ Some m → item m.exts e ≡ Some x
+FindsMeanings = (input : LinkInput) (s : SymbolTable) (n e : ℕ) (m : ObjModule) (x : Ext) → IsBound input s →
+    chosen_module (link_of input s.chosen) n ≡ Some m → item m.exts e ≡ Some x
     → option_and_then (λ row. item row e) (item s.meanings n) ≡ Sym (link_of input s.chosen) n x

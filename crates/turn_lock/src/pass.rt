@@ -27,7 +27,8 @@ impl<V: Chronicle> Model for Pass<V> {
 
     ghost view = { λ p. p.seat };
 
-    ghost invariant = { λ p. (p.tickets ≡ p.seat.me.0.drawn) × (p.front ≡ length p.seat.me.0.seen) × (0 < p.pid) × (p.pid ≡ p.seat.me.0.pid) × (p.live ≡ p.seat.me.0.live) };
+    ghost invariant = { λ p. (p.tickets ≡ p.seat.me.0.drawn) × (p.front ≡ length p.seat.me.0.seen) × (0 < p.pid) × (p.pid ≡ p.seat.me.0.pid)
+        × (p.live ≡ p.seat.me.0.live) };
 }
 
 impl<V: Chronicle> Pass<V> {
