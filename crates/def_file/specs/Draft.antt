@@ -29,6 +29,10 @@ no_statements =
       imports = [];
     }
 
+-- What the statements so far say, and the place that is reached.
+abbrev pub reading : Draft → Place → Reading
+reading d p = record { draft = d; place = p }
+
 -- Before the first token.
 abbrev pub fresh : Reading
 fresh = record { draft = no_statements; place = place.Statement }

@@ -4,14 +4,16 @@ ghost use Rattle.std.specs.Prelude.{IfOk};
 ghost use Rattle.def_tokens.specs.Lexemes.{lexeme_of};
 ghost use Rattle.obj_types.specs.Definition.{WholeExport};
 ghost use Rattle.lx_types.specs.Answers.{if_said, Gives};
+ghost use Rattle.def_file.specs.declared.draft.Draft.{Draft};
+ghost use Rattle.def_file.specs.Draft.{reading};
 ghost use Rattle.def_file.specs.Whole.{WholeReading, WholeDraft};
 ghost use Rattle.def_file.specs.Exports.{exports, behind_nodata, behind_resident, behind_ordinal, behind_internal, behind_name, export, internal, ordinal};
 
 use crate::DefKind;
-use crate::draft::{Draft, Part, Place, Reading};
+use crate::draft::{Draft, Part, Place};
 use crate::names::name_of;
 use crate::numbers::within;
-use crate::statements::{at, statement};
+use crate::statements::statement;
 use def_tokens::{Keyword, Token};
 use lx_types::Fail;
 use obj_types::Exp;
@@ -19,10 +21,10 @@ use std::alloc::Global;
 
 /// Another item of EXPORTS, or the next statement.
 #[tactic(auto, unfolding(crate::specs::Exports::exports))]
-pub fn exports(alloc: Global, draft: Draft, token: Token<'_>) -> Result<Reading, Fail<DefKind>>
-    requires { WholeDraft draft }
-    ensures value { Gives (λ x. x) if_said result (exports draft (lexeme_of token.entry)) }
-    ensures whole { IfOk result (λ r. WholeReading r) }
+pub fn exports(alloc: Global, draft: &Draft, token: Token<'_>) -> Result<Place, Fail<DefKind>>
+    requires { WholeDraft draft.now }
+    ensures value { Gives (reading draft.now) if_said result (exports draft.now (lexeme_of token.entry)) }
+    ensures whole { IfOk result (λ p. WholeReading (reading draft.now p)) }
 {
     match token.name() {
         Some(bytes) => {
@@ -34,13 +36,10 @@ pub fn exports(alloc: Global, draft: Draft, token: Token<'_>) -> Result<Reading,
                 nodata: false,
                 words: 0,
             };
-            at(
-                draft,
-                Place::Export {
-                    item,
-                    part: Part::Name,
-                },
-            )
+            Ok(Place::Export {
+                item,
+                part: Part::Name,
+            })
         }
         None => statement(draft, token),
     }
@@ -50,20 +49,20 @@ pub fn exports(alloc: Global, draft: Draft, token: Token<'_>) -> Result<Reading,
 #[tactic(auto, using(crate::proofs::WholeLaws::all_pushed), unfolding(crate::specs::Exports::behind_nodata))]
 fn behind_nodata(
     alloc: Global,
-    mut draft: Draft,
+    draft: &mut Draft,
     mut item: Exp,
     token: Token<'_>,
-) -> Result<Reading, Fail<DefKind>>
-    requires whole { WholeDraft draft }
+) -> Result<Place, Fail<DefKind>>
+    requires whole { WholeDraft draft.old }
     requires item { WholeExport item }
-    ensures value { Gives (λ x. x) if_said result (behind_nodata draft item (lexeme_of token.entry)) }
-    ensures whole { IfOk result (λ r. WholeReading r) }
+    ensures value { Gives (reading draft.new) if_said result (behind_nodata draft.old item (lexeme_of token.entry)) }
+    ensures whole { IfOk result (λ p. WholeReading (reading draft.new p)) }
 {
     match token.number() {
         Some(value) => {
             item.words = within(0, 31, value)? as u8;
             draft.exports.push(item)?;
-            at(draft, Place::Exports)
+            Ok(Place::Exports)
         }
         None => {
             draft.exports.push(item)?;
@@ -75,20 +74,20 @@ fn behind_nodata(
 #[tactic(auto, unfolding(crate::specs::Exports::behind_resident))]
 fn behind_resident(
     alloc: Global,
-    draft: Draft,
+    draft: &mut Draft,
     mut item: Exp,
     token: Token<'_>,
-) -> Result<Reading, Fail<DefKind>>
-    requires whole { WholeDraft draft }
+) -> Result<Place, Fail<DefKind>>
+    requires whole { WholeDraft draft.old }
     requires item { WholeExport item }
-    ensures value { Gives (λ x. x) if_said result (behind_resident draft item (lexeme_of token.entry)) }
-    ensures whole { IfOk result (λ r. WholeReading r) }
+    ensures value { Gives (reading draft.new) if_said result (behind_resident draft.old item (lexeme_of token.entry)) }
+    ensures whole { IfOk result (λ p. WholeReading (reading draft.new p)) }
 {
     match token.keyword() {
         Some(Keyword::NoData) => {
             item.nodata = true;
             let part = Part::NoData;
-            at(draft, Place::Export { item, part })
+            Ok(Place::Export { item, part })
         }
         _ => behind_nodata(alloc, draft, item, token),
     }
@@ -97,20 +96,20 @@ fn behind_resident(
 #[tactic(auto, unfolding(crate::specs::Exports::behind_ordinal))]
 fn behind_ordinal(
     alloc: Global,
-    draft: Draft,
+    draft: &mut Draft,
     mut item: Exp,
     token: Token<'_>,
-) -> Result<Reading, Fail<DefKind>>
-    requires whole { WholeDraft draft }
+) -> Result<Place, Fail<DefKind>>
+    requires whole { WholeDraft draft.old }
     requires item { WholeExport item }
-    ensures value { Gives (λ x. x) if_said result (behind_ordinal draft item (lexeme_of token.entry)) }
-    ensures whole { IfOk result (λ r. WholeReading r) }
+    ensures value { Gives (reading draft.new) if_said result (behind_ordinal draft.old item (lexeme_of token.entry)) }
+    ensures whole { IfOk result (λ p. WholeReading (reading draft.new p)) }
 {
     match token.keyword() {
         Some(Keyword::ResidentName) => {
             item.resident = true;
             let part = Part::Resident;
-            at(draft, Place::Export { item, part })
+            Ok(Place::Export { item, part })
         }
         _ => behind_resident(alloc, draft, item, token),
     }
@@ -119,17 +118,17 @@ fn behind_ordinal(
 #[tactic(auto, unfolding(crate::specs::Exports::behind_internal))]
 fn behind_internal(
     alloc: Global,
-    draft: Draft,
+    draft: &mut Draft,
     item: Exp,
     token: Token<'_>,
-) -> Result<Reading, Fail<DefKind>>
-    requires whole { WholeDraft draft }
+) -> Result<Place, Fail<DefKind>>
+    requires whole { WholeDraft draft.old }
     requires item { WholeExport item }
-    ensures value { Gives (λ x. x) if_said result (behind_internal draft item (lexeme_of token.entry)) }
-    ensures whole { IfOk result (λ r. WholeReading r) }
+    ensures value { Gives (reading draft.new) if_said result (behind_internal draft.old item (lexeme_of token.entry)) }
+    ensures whole { IfOk result (λ p. WholeReading (reading draft.new p)) }
 {
     if token.is_at() {
-        at(draft, Place::Ordinal { item })
+        Ok(Place::Ordinal { item })
     } else {
         behind_ordinal(alloc, draft, item, token)
     }
@@ -138,17 +137,17 @@ fn behind_internal(
 #[tactic(auto, unfolding(crate::specs::Exports::behind_name))]
 fn behind_name(
     alloc: Global,
-    draft: Draft,
+    draft: &mut Draft,
     item: Exp,
     token: Token<'_>,
-) -> Result<Reading, Fail<DefKind>>
-    requires whole { WholeDraft draft }
+) -> Result<Place, Fail<DefKind>>
+    requires whole { WholeDraft draft.old }
     requires item { WholeExport item }
-    ensures value { Gives (λ x. x) if_said result (behind_name draft item (lexeme_of token.entry)) }
-    ensures whole { IfOk result (λ r. WholeReading r) }
+    ensures value { Gives (reading draft.new) if_said result (behind_name draft.old item (lexeme_of token.entry)) }
+    ensures whole { IfOk result (λ p. WholeReading (reading draft.new p)) }
 {
     if token.is_equals() {
-        at(draft, Place::Internal { item })
+        Ok(Place::Internal { item })
     } else {
         behind_internal(alloc, draft, item, token)
     }
@@ -158,15 +157,15 @@ fn behind_name(
 #[tactic(auto, unfolding(crate::specs::Exports::export))]
 pub fn export(
     alloc: Global,
-    draft: Draft,
+    draft: &mut Draft,
     item: Exp,
     part: Part,
     token: Token<'_>,
-) -> Result<Reading, Fail<DefKind>>
-    requires whole { WholeDraft draft }
+) -> Result<Place, Fail<DefKind>>
+    requires whole { WholeDraft draft.old }
     requires item { WholeExport item }
-    ensures value { Gives (λ x. x) if_said result (export draft item part (lexeme_of token.entry)) }
-    ensures whole { IfOk result (λ r. WholeReading r) }
+    ensures value { Gives (reading draft.new) if_said result (export draft.old item part (lexeme_of token.entry)) }
+    ensures whole { IfOk result (λ p. WholeReading (reading draft.new p)) }
 {
     match part {
         Part::Name => behind_name(alloc, draft, item, token),
@@ -179,22 +178,16 @@ pub fn export(
 
 /// Behind `=` in an item of EXPORTS.
 #[tactic(auto, unfolding(crate::specs::Exports::internal))]
-pub fn internal(
-    alloc: Global,
-    draft: Draft,
-    mut item: Exp,
-    token: Token<'_>,
-) -> Result<Reading, Fail<DefKind>>
-    requires whole { WholeDraft draft }
+pub fn internal(alloc: Global, mut item: Exp, token: Token<'_>) -> Result<Place, Fail<DefKind>>
     requires item { WholeExport item }
-    ensures value { Gives (λ x. x) if_said result (internal draft item (lexeme_of token.entry)) }
-    ensures whole { IfOk result (λ r. WholeReading r) }
+    ensures value { (d : Draft) → Gives (reading d) if_said result (internal d item (lexeme_of token.entry)) }
+    ensures whole { (d : Draft) → WholeDraft d → IfOk result (λ p. WholeReading (reading d p)) }
 {
     match token.name() {
         Some(bytes) => {
             item.internal = name_of(alloc, bytes)?;
             let part = Part::Internal;
-            at(draft, Place::Export { item, part })
+            Ok(Place::Export { item, part })
         }
         None => Err(Fail::Said(DefKind::Expected)),
     }
@@ -202,17 +195,16 @@ pub fn internal(
 
 /// Behind `@` in an item of EXPORTS.
 #[tactic(auto, unfolding(crate::specs::Exports::ordinal))]
-pub fn ordinal(draft: Draft, mut item: Exp, token: Token<'_>) -> Result<Reading, Fail<DefKind>>
-    requires whole { WholeDraft draft }
+pub fn ordinal(mut item: Exp, token: Token<'_>) -> Result<Place, Fail<DefKind>>
     requires item { WholeExport item }
-    ensures value { Gives (λ x. x) if_said result (ordinal draft item (lexeme_of token.entry)) }
-    ensures whole { IfOk result (λ r. WholeReading r) }
+    ensures value { (d : Draft) → Gives (reading d) if_said result (ordinal d item (lexeme_of token.entry)) }
+    ensures whole { (d : Draft) → WholeDraft d → IfOk result (λ p. WholeReading (reading d p)) }
 {
     match token.number() {
         Some(value) => {
             item.ordinal = Some(within(1, 65_535, value)? as u16);
             let part = Part::Ordinal;
-            at(draft, Place::Export { item, part })
+            Ok(Place::Export { item, part })
         }
         None => Err(Fail::Said(DefKind::Expected)),
     }

@@ -5,15 +5,16 @@ ghost use Rattle.def_tokens.specs.Lexemes.{lexeme_of};
 ghost use Rattle.obj_types.specs.Definition.{WholeImport};
 ghost use Rattle.def_file.specs.declared.draft.Place.TheVariants as place;
 ghost use Rattle.lx_types.specs.Answers.{if_said, Gives};
-ghost use Rattle.def_file.specs.Draft.{at};
+ghost use Rattle.def_file.specs.declared.draft.Draft.{Draft};
+ghost use Rattle.def_file.specs.Draft.{at, reading};
 ghost use Rattle.def_file.specs.Whole.{WholeReading, WholeDraft};
 ghost use Rattle.def_file.specs.Imports.{imports, import_first, import_equals, import_module, import_by_name, import_ordinal, import_dot, with_import};
 
 use crate::DefKind;
-use crate::draft::{Draft, Place, Reading};
+use crate::draft::{Draft, Place};
 use crate::names::name_of;
 use crate::numbers::within;
-use crate::statements::{at, statement};
+use crate::statements::statement;
 use def_tokens::Token;
 use lx_types::{EntryKey, Fail, Name};
 use obj_types::Imp;
@@ -21,15 +22,15 @@ use std::alloc::Global;
 
 /// Another item of IMPORTS, or the next statement.
 #[tactic(auto, unfolding(crate::specs::Imports::imports))]
-pub fn imports(alloc: Global, draft: Draft, token: Token<'_>) -> Result<Reading, Fail<DefKind>>
-    requires { WholeDraft draft }
-    ensures value { Gives (λ x. x) if_said result (imports draft (lexeme_of token.entry)) }
-    ensures whole { IfOk result (λ r. WholeReading r) }
+pub fn imports(alloc: Global, draft: &Draft, token: Token<'_>) -> Result<Place, Fail<DefKind>>
+    requires { WholeDraft draft.now }
+    ensures value { Gives (reading draft.now) if_said result (imports draft.now (lexeme_of token.entry)) }
+    ensures whole { IfOk result (λ p. WholeReading (reading draft.now p)) }
 {
     match token.name() {
         Some(bytes) => {
             let name = name_of(alloc, bytes)?;
-            at(draft, Place::Import { name })
+            Ok(Place::Import { name })
         }
         None => statement(draft, token),
     }
@@ -37,23 +38,19 @@ pub fn imports(alloc: Global, draft: Draft, token: Token<'_>) -> Result<Reading,
 
 /// Behind the first name of an item.
 #[tactic(auto, unfolding(crate::specs::Imports::import_first))]
-pub fn import_first(draft: Draft, name: Name, token: Token<'_>) -> Result<Reading, Fail<DefKind>>
-    requires whole { WholeDraft draft }
+pub fn import_first(name: Name, token: Token<'_>) -> Result<Place, Fail<DefKind>>
     requires name { name ≢ [] }
-    ensures value { Gives (λ x. x) if_said result (import_first draft name (lexeme_of token.entry)) }
-    ensures whole { IfOk result (λ r. WholeReading r) }
+    ensures value { (d : Draft) → Gives (reading d) if_said result (import_first d name (lexeme_of token.entry)) }
+    ensures whole { (d : Draft) → WholeDraft d → IfOk result (λ p. WholeReading (reading d p)) }
 {
     if token.is_equals() {
-        at(draft, Place::ImportEquals { internal: name })
+        Ok(Place::ImportEquals { internal: name })
     } else if token.is_dot() {
         let internal = None;
-        at(
-            draft,
-            Place::ImportDot {
-                internal,
-                module: name,
-            },
-        )
+        Ok(Place::ImportDot {
+            internal,
+            module: name,
+        })
     } else {
         Err(Fail::Said(DefKind::Expected))
     }
@@ -63,19 +60,17 @@ pub fn import_first(draft: Draft, name: Name, token: Token<'_>) -> Result<Readin
 #[tactic(auto, unfolding(crate::specs::Imports::import_equals))]
 pub fn import_equals(
     alloc: Global,
-    draft: Draft,
     internal: Name,
     token: Token<'_>,
-) -> Result<Reading, Fail<DefKind>>
-    requires whole { WholeDraft draft }
+) -> Result<Place, Fail<DefKind>>
     requires internal { internal ≢ [] }
-    ensures value { Gives (λ x. x) if_said result (import_equals draft internal (lexeme_of token.entry)) }
-    ensures whole { IfOk result (λ r. WholeReading r) }
+    ensures value { (d : Draft) → Gives (reading d) if_said result (import_equals d internal (lexeme_of token.entry)) }
+    ensures whole { (d : Draft) → WholeDraft d → IfOk result (λ p. WholeReading (reading d p)) }
 {
     match token.name() {
         Some(bytes) => {
             let module = name_of(alloc, bytes)?;
-            at(draft, Place::ImportModule { internal, module })
+            Ok(Place::ImportModule { internal, module })
         }
         None => Err(Fail::Said(DefKind::Expected)),
     }
@@ -83,56 +78,47 @@ pub fn import_equals(
 
 /// Behind the module's name of an item that has an internal name.
 #[tactic(auto, unfolding(crate::specs::Imports::import_module))]
-pub fn import_module(
-    draft: Draft,
-    internal: Name,
-    from: Name,
-    token: Token<'_>,
-) -> Result<Reading, Fail<DefKind>>
-    requires whole { WholeDraft draft }
+pub fn import_module(internal: Name, from: Name, token: Token<'_>) -> Result<Place, Fail<DefKind>>
     requires internal { internal ≢ [] }
     requires from { from ≢ [] }
-    ensures value { Gives (λ x. x) if_said result (import_module draft internal from (lexeme_of token.entry)) }
-    ensures whole { IfOk result (λ r. WholeReading r) }
+    ensures value { (d : Draft) → Gives (reading d) if_said result (import_module d internal from (lexeme_of token.entry)) }
+    ensures whole { (d : Draft) → WholeDraft d → IfOk result (λ p. WholeReading (reading d p)) }
 {
     if token.is_dot() {
         let internal = Some(internal);
-        at(
-            draft,
-            Place::ImportDot {
-                internal,
-                module: from,
-            },
-        )
+        Ok(Place::ImportDot {
+            internal,
+            module: from,
+        })
     } else {
         Err(Fail::Said(DefKind::Expected))
     }
 }
 
 #[tactic(auto, using(crate::proofs::WholeLaws::all_pushed))]
-fn with_import(mut draft: Draft, item: Imp) -> Result<Reading, Fail<DefKind>>
-    requires whole { WholeDraft draft }
+fn with_import(draft: &mut Draft, item: Imp) -> Result<Place, Fail<DefKind>>
+    requires whole { WholeDraft draft.old }
     requires item { WholeImport item }
-    ensures value { Gives (λ x. x) if_said result (at (with_import draft item) place.Imports) }
-    ensures whole { IfOk result (λ r. WholeReading r) }
+    ensures value { Gives (reading draft.new) if_said result (at (with_import draft.old item) place.Imports) }
+    ensures whole { IfOk result (λ p. WholeReading (reading draft.new p)) }
 {
     draft.imports.push(item)?;
-    at(draft, Place::Imports)
+    Ok(Place::Imports)
 }
 
 // An entry by name, which is the internal name too where there is none.
 fn import_by_name(
     alloc: Global,
-    draft: Draft,
+    draft: &mut Draft,
     internal: Option<Name>,
     from: Name,
     bytes: &[u8],
-) -> Result<Reading, Fail<DefKind>>
-    requires whole { WholeDraft draft }
+) -> Result<Place, Fail<DefKind>>
+    requires whole { WholeDraft draft.old }
     requires internal { IfSome internal (λ n. n ≢ []) }
     requires from { from ≢ [] }
-    ensures value { Gives (λ x. x) if_said result (import_by_name draft internal from bytes.now) }
-    ensures whole { IfOk result (λ r. WholeReading r) }
+    ensures value { Gives (reading draft.new) if_said result (import_by_name draft.old internal from bytes.now) }
+    ensures whole { IfOk result (λ p. WholeReading (reading draft.new p)) }
 {
     let module = from;
     let entry = EntryKey::Named(name_of(alloc, bytes)?);
@@ -161,16 +147,16 @@ fn import_by_name(
 
 // An entry by ordinal, which wants an internal name.
 fn import_ordinal(
-    draft: Draft,
+    draft: &mut Draft,
     internal: Option<Name>,
     from: Name,
     value: Option<u32>,
-) -> Result<Reading, Fail<DefKind>>
-    requires whole { WholeDraft draft }
+) -> Result<Place, Fail<DefKind>>
+    requires whole { WholeDraft draft.old }
     requires internal { IfSome internal (λ n. n ≢ []) }
     requires from { from ≢ [] }
-    ensures value { Gives (λ x. x) if_said result (import_ordinal draft internal from value) }
-    ensures whole { IfOk result (λ r. WholeReading r) }
+    ensures value { Gives (reading draft.new) if_said result (import_ordinal draft.old internal from value) }
+    ensures whole { IfOk result (λ p. WholeReading (reading draft.new p)) }
 {
     match internal {
         Some(name) => {
@@ -192,16 +178,16 @@ fn import_ordinal(
 #[tactic(auto, unfolding(crate::specs::Imports::import_dot))]
 pub fn import_dot(
     alloc: Global,
-    draft: Draft,
+    draft: &mut Draft,
     internal: Option<Name>,
     from: Name,
     token: Token<'_>,
-) -> Result<Reading, Fail<DefKind>>
-    requires whole { WholeDraft draft }
+) -> Result<Place, Fail<DefKind>>
+    requires whole { WholeDraft draft.old }
     requires internal { IfSome internal (λ n. n ≢ []) }
     requires from { from ≢ [] }
-    ensures value { Gives (λ x. x) if_said result (import_dot draft internal from (lexeme_of token.entry)) }
-    ensures whole { IfOk result (λ r. WholeReading r) }
+    ensures value { Gives (reading draft.new) if_said result (import_dot draft.old internal from (lexeme_of token.entry)) }
+    ensures whole { IfOk result (λ p. WholeReading (reading draft.new p)) }
 {
     if let Some(bytes) = token.name() {
         return import_by_name(alloc, draft, internal, from, bytes);

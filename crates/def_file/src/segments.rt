@@ -3,29 +3,31 @@
 ghost use Rattle.std.specs.Prelude.{IfOk, ◌≢◌, []};
 ghost use Rattle.def_tokens.specs.Lexemes.{lexeme_of};
 ghost use Rattle.lx_types.specs.Answers.{if_said, Gives};
+ghost use Rattle.def_file.specs.declared.draft.Draft.{Draft};
+ghost use Rattle.def_file.specs.Draft.{reading};
 ghost use Rattle.def_file.specs.Whole.{WholeReading, WholeDraft, WholeOwner};
 ghost use Rattle.def_file.specs.Segments.{segments, behind_list, attributes, segment, class};
 
 use crate::DefKind;
 use crate::attributes::with_word;
-use crate::draft::{Draft, Owner, Place, Reading, SegDraft, Words};
+use crate::draft::{Draft, Owner, Place, SegDraft, Words};
 use crate::names::{name_of, text_of};
-use crate::statements::{at, statement};
+use crate::statements::statement;
 use def_tokens::{Keyword, Token};
 use lx_types::{Fail, Name};
 use std::alloc::Global;
 
 /// Another item of SEGMENTS, or the next statement.
 #[tactic(auto, unfolding(crate::specs::Segments::segments))]
-pub fn segments(alloc: Global, draft: Draft, token: Token<'_>) -> Result<Reading, Fail<DefKind>>
-    requires { WholeDraft draft }
-    ensures value { Gives (λ x. x) if_said result (segments draft (lexeme_of token.entry)) }
-    ensures whole { IfOk result (λ r. WholeReading r) }
+pub fn segments(alloc: Global, draft: &Draft, token: Token<'_>) -> Result<Place, Fail<DefKind>>
+    requires { WholeDraft draft.now }
+    ensures value { Gives (reading draft.now) if_said result (segments draft.now (lexeme_of token.entry)) }
+    ensures whole { IfOk result (λ p. WholeReading (reading draft.now p)) }
 {
     match token.name() {
         Some(bytes) => {
             let name = name_of(alloc, bytes)?;
-            at(draft, Place::Segment { name })
+            Ok(Place::Segment { name })
         }
         None => statement(draft, token),
     }
@@ -35,15 +37,15 @@ pub fn segments(alloc: Global, draft: Draft, token: Token<'_>) -> Result<Reading
 #[tactic(auto, using(crate::proofs::WholeLaws::all_pushed), unfolding(crate::specs::Segments::behind_list))]
 fn behind_list(
     alloc: Global,
-    mut draft: Draft,
+    draft: &mut Draft,
     of: Owner,
     words: Words,
     token: Token<'_>,
-) -> Result<Reading, Fail<DefKind>>
-    requires whole { WholeDraft draft }
+) -> Result<Place, Fail<DefKind>>
+    requires whole { WholeDraft draft.old }
     requires owner { WholeOwner of }
-    ensures value { Gives (λ x. x) if_said result (behind_list draft of words (lexeme_of token.entry)) }
-    ensures whole { IfOk result (λ r. WholeReading r) }
+    ensures value { Gives (reading draft.new) if_said result (behind_list draft.old of words (lexeme_of token.entry)) }
+    ensures whole { IfOk result (λ p. WholeReading (reading draft.new p)) }
 {
     match of {
         Owner::Code => {
@@ -65,22 +67,22 @@ fn behind_list(
 #[tactic(auto, unfolding(crate::specs::Segments::attributes))]
 pub fn attributes(
     alloc: Global,
-    draft: Draft,
+    draft: &mut Draft,
     of: Owner,
     words: Words,
     token: Token<'_>,
-) -> Result<Reading, Fail<DefKind>>
-    requires whole { WholeDraft draft }
+) -> Result<Place, Fail<DefKind>>
+    requires whole { WholeDraft draft.old }
     requires owner { WholeOwner of }
-    ensures value { Gives (λ x. x) if_said result (attributes draft of words (lexeme_of token.entry)) }
-    ensures whole { IfOk result (λ r. WholeReading r) }
+    ensures value { Gives (reading draft.new) if_said result (attributes draft.old of words (lexeme_of token.entry)) }
+    ensures whole { IfOk result (λ p. WholeReading (reading draft.new p)) }
 {
     match token.keyword() {
         Some(Keyword::Attribute(pair, on)) => {
             let words = with_word(words, pair, on)?;
-            at(draft, Place::Attributes { of, words })
+            Ok(Place::Attributes { of, words })
         }
-        Some(Keyword::NoEffect) => at(draft, Place::Attributes { of, words }),
+        Some(Keyword::NoEffect) => Ok(Place::Attributes { of, words }),
         _ => behind_list(alloc, draft, of, words, token),
     }
 }
@@ -89,17 +91,17 @@ pub fn attributes(
 #[tactic(auto, unfolding(crate::specs::Segments::segment))]
 pub fn segment(
     alloc: Global,
-    draft: Draft,
+    draft: &mut Draft,
     name: Name,
     token: Token<'_>,
-) -> Result<Reading, Fail<DefKind>>
-    requires whole { WholeDraft draft }
+) -> Result<Place, Fail<DefKind>>
+    requires whole { WholeDraft draft.old }
     requires name { name ≢ [] }
-    ensures value { Gives (λ x. x) if_said result (segment draft name (lexeme_of token.entry)) }
-    ensures whole { IfOk result (λ r. WholeReading r) }
+    ensures value { Gives (reading draft.new) if_said result (segment draft.old name (lexeme_of token.entry)) }
+    ensures whole { IfOk result (λ p. WholeReading (reading draft.new p)) }
 {
     match token.keyword() {
-        Some(Keyword::Class) => at(draft, Place::Class { name }),
+        Some(Keyword::Class) => Ok(Place::Class { name }),
         _ => {
             let of = Owner::Segment { name, class: None };
             attributes(alloc, draft, of, Words::NONE, token)
@@ -109,28 +111,19 @@ pub fn segment(
 
 /// Behind CLASS.
 #[tactic(auto, unfolding(crate::specs::Segments::class))]
-pub fn class(
-    alloc: Global,
-    draft: Draft,
-    name: Name,
-    token: Token<'_>,
-) -> Result<Reading, Fail<DefKind>>
-    requires whole { WholeDraft draft }
+pub fn class(alloc: Global, name: Name, token: Token<'_>) -> Result<Place, Fail<DefKind>>
     requires name { name ≢ [] }
-    ensures value { Gives (λ x. x) if_said result (class draft name (lexeme_of token.entry)) }
-    ensures whole { IfOk result (λ r. WholeReading r) }
+    ensures value { (d : Draft) → Gives (reading d) if_said result (class d name (lexeme_of token.entry)) }
+    ensures whole { (d : Draft) → WholeDraft d → IfOk result (λ p. WholeReading (reading d p)) }
 {
     match token.text() {
         Some(bytes) => {
             let class = Some(text_of(alloc, bytes)?);
             let of = Owner::Segment { name, class };
-            at(
-                draft,
-                Place::Attributes {
-                    of,
-                    words: Words::NONE,
-                },
-            )
+            Ok(Place::Attributes {
+                of,
+                words: Words::NONE,
+            })
         }
         None => Err(Fail::Said(DefKind::Expected)),
     }

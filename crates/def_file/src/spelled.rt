@@ -9,31 +9,13 @@ ghost use Rattle.def_file.specs.Writing.{kind_tokens, attribute_tokens, segment_
 use def_tokens::{Keyword, Pair, Token};
 use lx_types::{EntryKey, NoMemory};
 use obj_types::{Attrs, DefFile, Exp, Imp, ModKind, SegAttrs};
-use std::alloc::Global;
 
-// Adds the words of a list of attributes.
-fn push_attributes(tokens: &mut Vec<Token<'_>>, attrs: Attrs) -> Result<(), NoMemory>
-    ensures { IfOk result (λ _. map lexeme_of tokens.new.items
-        ≡ map lexeme_of tokens.old.items ++ attribute_tokens attrs) }
-{
-    if attrs.exec {
-        tokens.push(Token::Keyword(Keyword::Attribute(Pair::Read, attrs.read)))?;
-    }
-    tokens.push(Token::Keyword(Keyword::Attribute(Pair::Write, attrs.write)))?;
-    tokens.push(Token::Keyword(Keyword::Attribute(Pair::Shared, attrs.shared)))?;
-    tokens.push(Token::Keyword(Keyword::Attribute(Pair::Preload, attrs.preload)))?;
-    tokens.push(Token::Keyword(Keyword::Attribute(Pair::Conforming, attrs.conforming)))?;
-    tokens.push(Token::Keyword(Keyword::Attribute(Pair::Iopl, attrs.iopl)))?;
-    Ok(())
-}
-
-/// NAME or LIBRARY.
-pub fn kind_tokens<'a>(alloc: Global, d: &'a DefFile) -> Result<Vec<Token<'a>>, NoMemory>
-    ensures tokens { IfOk result (λ tokens. map lexeme_of tokens.items
-        ≡ kind_tokens d.now.kind d.now.name d.now.init_each d.now.term_each) }
+/// Adds NAME or LIBRARY.
+pub fn push_kind<'a>(tokens: &mut Vec<Token<'a>>, d: &'a DefFile) -> Result<(), NoMemory>
+    ensures tokens { IfOk result (λ _. map lexeme_of tokens.new.items
+        ≡ map lexeme_of tokens.old.items ++ kind_tokens d.now.kind d.now.name d.now.init_each d.now.term_each) }
     ensures short { IfOk result (λ _. IfSome d.now.name IsName) }
 {
-    let mut tokens = Vec::new(alloc);
     tokens.push(Token::Keyword(match d.kind {
         ModKind::Program => Keyword::Name,
         ModKind::Library => Keyword::Library,
@@ -42,39 +24,44 @@ pub fn kind_tokens<'a>(alloc: Global, d: &'a DefFile) -> Result<Vec<Token<'a>>, 
         tokens.push(Token::Text(name.bytes()))?;
     }
     if let ModKind::Library = d.kind {
-        tokens.push(Token::Keyword(Keyword::Init { each: d.init_each }))?;
-        tokens.push(Token::Keyword(Keyword::Term { each: d.term_each }))?;
+        tokens.extend_from_slice(&[
+            Token::Keyword(Keyword::Init { each: d.init_each }),
+            Token::Keyword(Keyword::Term { each: d.term_each }),
+        ])?;
     }
-    Ok(tokens)
+    Ok(())
 }
 
-/// CODE or DATA.
-pub fn attributes_of(
-    alloc: Global,
-    begins: Keyword,
-    attrs: Attrs,
-) -> Result<Vec<Token<'static>>, NoMemory>
-    ensures { IfOk result (λ tokens. map lexeme_of tokens.items ≡ keyword begins ∷ attribute_tokens attrs) }
+/// Adds the words of a list of attributes.
+pub fn push_attributes(tokens: &mut Vec<Token<'_>>, attrs: Attrs) -> Result<(), NoMemory>
+    ensures { IfOk result (λ _. map lexeme_of tokens.new.items
+        ≡ map lexeme_of tokens.old.items ++ attribute_tokens attrs) }
 {
-    let mut tokens = Vec::new(alloc);
-    tokens.push(Token::Keyword(begins))?;
-    push_attributes(&mut tokens, attrs)?;
-    Ok(tokens)
+    if attrs.exec {
+        tokens.push(Token::Keyword(Keyword::Attribute(Pair::Read, attrs.read)))?;
+    }
+    tokens.extend_from_slice(&[
+        Token::Keyword(Keyword::Attribute(Pair::Write, attrs.write)),
+        Token::Keyword(Keyword::Attribute(Pair::Shared, attrs.shared)),
+        Token::Keyword(Keyword::Attribute(Pair::Preload, attrs.preload)),
+        Token::Keyword(Keyword::Attribute(Pair::Conforming, attrs.conforming)),
+        Token::Keyword(Keyword::Attribute(Pair::Iopl, attrs.iopl)),
+    ])?;
+    Ok(())
 }
 
-/// An item of SEGMENTS.
-pub fn segment_tokens<'a>(alloc: Global, s: &'a SegAttrs) -> Result<Vec<Token<'a>>, NoMemory>
-    ensures tokens { IfOk result (λ tokens. map lexeme_of tokens.items ≡ segment_tokens s.now) }
+/// Adds an item of SEGMENTS.
+pub fn push_segment<'a>(tokens: &mut Vec<Token<'a>>, s: &'a SegAttrs) -> Result<(), NoMemory>
+    ensures tokens { IfOk result (λ _. map lexeme_of tokens.new.items
+        ≡ map lexeme_of tokens.old.items ++ segment_tokens s.now) }
     ensures short { IfOk result (λ _. SegmentNames IsName s.now) }
 {
-    let mut tokens = Vec::new(alloc);
     tokens.push(Token::Text(s.name.bytes()))?;
     if let Some(class) = &s.class {
-        tokens.push(Token::Keyword(Keyword::Class))?;
-        tokens.push(Token::Text(class.bytes()))?;
+        let class = Token::Text(class.bytes());
+        tokens.extend_from_slice(&[Token::Keyword(Keyword::Class), class])?;
     }
-    push_attributes(&mut tokens, s.attrs)?;
-    Ok(tokens)
+    push_attributes(tokens, s.attrs)
 }
 
 fn push_ordinal(tokens: &mut Vec<Token<'_>>, ordinal: Option<u16>) -> Result<(), NoMemory>
@@ -82,8 +69,8 @@ fn push_ordinal(tokens: &mut Vec<Token<'_>>, ordinal: Option<u16>) -> Result<(),
         ≡ map lexeme_of tokens.old.items ++ ordinal_tokens ordinal) }
 {
     if let Some(ordinal) = ordinal {
-        tokens.push(Token::At)?;
-        tokens.push(Token::Number(Some(u32::from(ordinal))))?;
+        let ordinal = Token::Number(Some(u32::from(ordinal)));
+        tokens.extend_from_slice(&[Token::At, ordinal])?;
     }
     Ok(())
 }
@@ -109,20 +96,19 @@ fn push_words(tokens: &mut Vec<Token<'_>>, words: u8) -> Result<(), NoMemory>
     Ok(())
 }
 
-/// An item of EXPORTS.
-pub fn export_tokens<'a>(alloc: Global, e: &'a Exp) -> Result<Vec<Token<'a>>, NoMemory>
-    ensures tokens { IfOk result (λ tokens. map lexeme_of tokens.items ≡ export_tokens e.now) }
+/// Adds an item of EXPORTS.
+pub fn push_export<'a>(tokens: &mut Vec<Token<'a>>, e: &'a Exp) -> Result<(), NoMemory>
+    ensures tokens { IfOk result (λ _. map lexeme_of tokens.new.items
+        ≡ map lexeme_of tokens.old.items ++ export_tokens e.now) }
     ensures short { IfOk result (λ _. ExportNames IsName e.now) }
 {
-    let mut tokens = Vec::new(alloc);
-    tokens.push(Token::Text(e.name.bytes()))?;
-    tokens.push(Token::Equals)?;
-    tokens.push(Token::Text(e.internal.bytes()))?;
-    push_ordinal(&mut tokens, e.ordinal)?;
-    push_flag(&mut tokens, e.resident, Keyword::ResidentName)?;
-    push_flag(&mut tokens, e.nodata, Keyword::NoData)?;
-    push_words(&mut tokens, e.words)?;
-    Ok(tokens)
+    let name = Token::Text(e.name.bytes());
+    let internal = Token::Text(e.internal.bytes());
+    tokens.extend_from_slice(&[name, Token::Equals, internal])?;
+    push_ordinal(tokens, e.ordinal)?;
+    push_flag(tokens, e.resident, Keyword::ResidentName)?;
+    push_flag(tokens, e.nodata, Keyword::NoData)?;
+    push_words(tokens, e.words)
 }
 
 // How an import asks for its entry.
@@ -137,15 +123,11 @@ fn entry_token(entry: &EntryKey) -> Token<'_>
 }
 
 /// An item of IMPORTS.
-pub fn import_tokens<'a>(alloc: Global, i: &'a Imp) -> Result<Vec<Token<'a>>, NoMemory>
-    ensures tokens { IfOk result (λ tokens. map lexeme_of tokens.items ≡ import_tokens i.now) }
-    ensures short { IfOk result (λ _. ImportNames IsName i.now) }
+pub fn import_tokens(i: &Imp) -> [Token<'_>; 5]
+    ensures tokens { map lexeme_of result ≡ import_tokens i.now }
+    ensures short { ImportNames IsName i.now }
 {
-    let mut tokens = Vec::new(alloc);
-    tokens.push(Token::Text(i.name.bytes()))?;
-    tokens.push(Token::Equals)?;
-    tokens.push(Token::Text(i.module.bytes()))?;
-    tokens.push(Token::Dot)?;
-    tokens.push(entry_token(&i.entry))?;
-    Ok(tokens)
+    let name = Token::Text(i.name.bytes());
+    let from = Token::Text(i.module.bytes());
+    [name, Token::Equals, from, Token::Dot, entry_token(&i.entry)]
 }

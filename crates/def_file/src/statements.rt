@@ -4,30 +4,20 @@ ghost use Rattle.std.specs.Prelude.{◌≡◌, IfOk, IfSome, None, Some};
 ghost use Rattle.obj_types.specs.declared.definition.ModKind.TheVariants as modules;
 ghost use Rattle.def_tokens.specs.Lexemes.{lexeme_of};
 ghost use Rattle.lx_types.specs.Answers.{if_said, Gives};
-ghost use Rattle.def_file.specs.Whole.{WholeReading, WholeDraft, WholePlace, FitsKind};
-ghost use Rattle.def_file.specs.Draft.{at};
+ghost use Rattle.def_file.specs.Whole.{WholeReading, WholeDraft, WholePlace};
+ghost use Rattle.def_file.specs.declared.draft.Draft.{Draft};
+ghost use Rattle.def_file.specs.Draft.{reading};
 ghost use Rattle.def_file.specs.Statements.{begun_by, is_second, keyword_statement, statement, program_name, program, library_words, library, description, sized, size, base, exe_type};
 
 use crate::DefKind;
 use crate::attributes::agreed;
-use crate::draft::{Draft, Owner, Place, Reading, Size, Words};
+use crate::draft::{Draft, Owner, Place, Size, Words};
 use crate::names::{name_of, text_of};
 use crate::numbers::{base_of, within};
 use def_tokens::{Keyword, Token};
 use lx_types::Fail;
 use obj_types::{MAX_DATA, ModKind};
 use std::alloc::Global;
-
-/// The next token may stand behind `place`.
-pub fn at(draft: Draft, place: Place) -> Result<Reading, Fail<DefKind>>
-    requires whole { WholeDraft draft }
-    requires place { WholePlace place }
-    requires kind { FitsKind place draft.kind }
-    ensures value { Gives (λ x. x) if_said result (at draft place) }
-    ensures whole { IfOk result (λ r. WholeReading r) }
-{
-    Ok(Reading { draft, place })
-}
 
 // What a keyword begins, if it begins a statement that is read.
 fn begun_by(keyword: Keyword) -> Option<Place>
@@ -76,17 +66,17 @@ fn is_second(draft: &Draft, keyword: Keyword) -> bool
 }
 
 #[tactic(auto, using(crate::proofs::KindLaws::begun_kind), unfolding(crate::specs::Statements::keyword_statement))]
-fn keyword_statement(draft: Draft, keyword: Keyword) -> Result<Reading, Fail<DefKind>>
-    requires { WholeDraft draft }
-    ensures value { Gives (λ x. x) if_said result (keyword_statement draft keyword) }
-    ensures whole { IfOk result (λ r. WholeReading r) }
+fn keyword_statement(draft: &Draft, keyword: Keyword) -> Result<Place, Fail<DefKind>>
+    requires { WholeDraft draft.now }
+    ensures value { Gives (reading draft.now) if_said result (keyword_statement draft.now keyword) }
+    ensures whole { IfOk result (λ p. WholeReading (reading draft.now p)) }
 {
     match begun_by(keyword) {
         Some(place) => {
-            if is_second(&draft, keyword) {
+            if is_second(draft, keyword) {
                 return Err(Fail::Said(DefKind::Twice));
             }
-            at(draft, place)
+            Ok(place)
         }
         None => Err(Fail::Said(DefKind::Statement)),
     }
@@ -94,44 +84,44 @@ fn keyword_statement(draft: Draft, keyword: Keyword) -> Result<Reading, Fail<Def
 
 /// A statement, or the file's end.
 #[tactic(auto, unfolding(crate::specs::Statements::statement))]
-pub fn statement(draft: Draft, token: Token<'_>) -> Result<Reading, Fail<DefKind>>
-    requires { WholeDraft draft }
-    ensures value { Gives (λ x. x) if_said result (statement draft (lexeme_of token.entry)) }
-    ensures whole { IfOk result (λ r. WholeReading r) }
+pub fn statement(draft: &Draft, token: Token<'_>) -> Result<Place, Fail<DefKind>>
+    requires { WholeDraft draft.now }
+    ensures value { Gives (reading draft.now) if_said result (statement draft.now (lexeme_of token.entry)) }
+    ensures whole { IfOk result (λ p. WholeReading (reading draft.now p)) }
 {
     match token.keyword() {
         Some(keyword) => keyword_statement(draft, keyword),
-        None if token.is_end() => at(draft, Place::Statement),
+        None if token.is_end() => Ok(Place::Statement),
         None => Err(Fail::Said(DefKind::Statement)),
     }
 }
 
 /// Behind NAME and a name: a window word may stand.
 #[tactic(auto, unfolding(crate::specs::Statements::program_name))]
-pub fn program_name(draft: Draft, token: Token<'_>) -> Result<Reading, Fail<DefKind>>
-    requires { WholeDraft draft }
-    ensures value { Gives (λ x. x) if_said result (program_name draft (lexeme_of token.entry)) }
-    ensures whole { IfOk result (λ r. WholeReading r) }
+pub fn program_name(draft: &Draft, token: Token<'_>) -> Result<Place, Fail<DefKind>>
+    requires { WholeDraft draft.now }
+    ensures value { Gives (reading draft.now) if_said result (program_name draft.now (lexeme_of token.entry)) }
+    ensures whole { IfOk result (λ p. WholeReading (reading draft.now p)) }
 {
     match token.keyword() {
-        Some(Keyword::Window) => at(draft, Place::Statement),
+        Some(Keyword::Window) => Ok(Place::Statement),
         _ => statement(draft, token),
     }
 }
 
 /// Behind NAME.
 #[tactic(auto, using(crate::proofs::KindLaws::calls_none), unfolding(crate::specs::Statements::program))]
-pub fn program(alloc: Global, mut draft: Draft, token: Token<'_>) -> Result<Reading, Fail<DefKind>>
-    requires whole { WholeDraft draft }
-    requires kind { draft.kind ≡ None }
-    ensures value { Gives (λ x. x) if_said result (program draft (lexeme_of token.entry)) }
-    ensures whole { IfOk result (λ r. WholeReading r) }
+pub fn program(alloc: Global, draft: &mut Draft, token: Token<'_>) -> Result<Place, Fail<DefKind>>
+    requires whole { WholeDraft draft.old }
+    requires kind { draft.old.kind ≡ None }
+    ensures value { Gives (reading draft.new) if_said result (program draft.old (lexeme_of token.entry)) }
+    ensures whole { IfOk result (λ p. WholeReading (reading draft.new p)) }
 {
     draft.kind = Some(ModKind::Program);
     match token.name() {
         Some(bytes) => {
             draft.name = Some(name_of(alloc, bytes)?);
-            at(draft, Place::ProgramName)
+            Ok(Place::ProgramName)
         }
         None => program_name(draft, token),
     }
@@ -139,20 +129,20 @@ pub fn program(alloc: Global, mut draft: Draft, token: Token<'_>) -> Result<Read
 
 /// Behind LIBRARY and its name or words: a word on its calls may stand.
 #[tactic(auto, using(crate::proofs::KindLaws::calls_of_library), unfolding(crate::specs::Statements::library_words))]
-pub fn library_words(mut draft: Draft, token: Token<'_>) -> Result<Reading, Fail<DefKind>>
-    requires whole { WholeDraft draft }
-    requires kind { draft.kind ≡ Some modules.Library }
-    ensures value { Gives (λ x. x) if_said result (library_words draft (lexeme_of token.entry)) }
-    ensures whole { IfOk result (λ r. WholeReading r) }
+pub fn library_words(draft: &mut Draft, token: Token<'_>) -> Result<Place, Fail<DefKind>>
+    requires whole { WholeDraft draft.old }
+    requires kind { draft.old.kind ≡ Some modules.Library }
+    ensures value { Gives (reading draft.new) if_said result (library_words draft.old (lexeme_of token.entry)) }
+    ensures whole { IfOk result (λ p. WholeReading (reading draft.new p)) }
 {
     match token.keyword() {
         Some(Keyword::Init { each }) => {
             draft.init_each = agreed(draft.init_each, each)?;
-            at(draft, Place::LibraryWords)
+            Ok(Place::LibraryWords)
         }
         Some(Keyword::Term { each }) => {
             draft.term_each = agreed(draft.term_each, each)?;
-            at(draft, Place::LibraryWords)
+            Ok(Place::LibraryWords)
         }
         _ => statement(draft, token),
     }
@@ -160,17 +150,17 @@ pub fn library_words(mut draft: Draft, token: Token<'_>) -> Result<Reading, Fail
 
 /// Behind LIBRARY.
 #[tactic(auto, unfolding(crate::specs::Statements::library))]
-pub fn library(alloc: Global, mut draft: Draft, token: Token<'_>) -> Result<Reading, Fail<DefKind>>
-    requires whole { WholeDraft draft }
-    requires kind { draft.kind ≡ None }
-    ensures value { Gives (λ x. x) if_said result (library draft (lexeme_of token.entry)) }
-    ensures whole { IfOk result (λ r. WholeReading r) }
+pub fn library(alloc: Global, draft: &mut Draft, token: Token<'_>) -> Result<Place, Fail<DefKind>>
+    requires whole { WholeDraft draft.old }
+    requires kind { draft.old.kind ≡ None }
+    ensures value { Gives (reading draft.new) if_said result (library draft.old (lexeme_of token.entry)) }
+    ensures whole { IfOk result (λ p. WholeReading (reading draft.new p)) }
 {
     draft.kind = Some(ModKind::Library);
     match token.name() {
         Some(bytes) => {
             draft.name = Some(name_of(alloc, bytes)?);
-            at(draft, Place::LibraryWords)
+            Ok(Place::LibraryWords)
         }
         None => library_words(draft, token),
     }
@@ -180,17 +170,17 @@ pub fn library(alloc: Global, mut draft: Draft, token: Token<'_>) -> Result<Read
 #[tactic(auto, unfolding(crate::specs::Statements::description))]
 pub fn description(
     alloc: Global,
-    mut draft: Draft,
+    draft: &mut Draft,
     token: Token<'_>,
-) -> Result<Reading, Fail<DefKind>>
-    requires { WholeDraft draft }
-    ensures value { Gives (λ x. x) if_said result (description draft (lexeme_of token.entry)) }
-    ensures whole { IfOk result (λ r. WholeReading r) }
+) -> Result<Place, Fail<DefKind>>
+    requires { WholeDraft draft.old }
+    ensures value { Gives (reading draft.new) if_said result (description draft.old (lexeme_of token.entry)) }
+    ensures whole { IfOk result (λ p. WholeReading (reading draft.new p)) }
 {
     match token.text() {
         Some(bytes) => {
             draft.about = Some(text_of(alloc, bytes)?);
-            at(draft, Place::Statement)
+            Ok(Place::Statement)
         }
         None => Err(Fail::Said(DefKind::Expected)),
     }
@@ -198,25 +188,25 @@ pub fn description(
 
 // The number of STACKSIZE, HEAPSIZE or BASE.
 #[tactic(auto, unfolding(crate::specs::Statements::sized))]
-fn sized(mut draft: Draft, which: Size, value: Option<u32>) -> Result<Reading, Fail<DefKind>>
-    requires { WholeDraft draft }
-    ensures value { Gives (λ x. x) if_said result (sized draft which value) }
-    ensures whole { IfOk result (λ r. WholeReading r) }
+fn sized(draft: &mut Draft, which: Size, value: Option<u32>) -> Result<Place, Fail<DefKind>>
+    requires { WholeDraft draft.old }
+    ensures value { Gives (reading draft.new) if_said result (sized draft.old which value) }
+    ensures whole { IfOk result (λ p. WholeReading (reading draft.new p)) }
 {
     match which {
         Size::Stack => draft.stack = Some(within(0, MAX_DATA, value)?),
         Size::Heap => draft.heap = Some(within(0, u32::MAX, value)?),
         Size::Base => draft.base = Some(base_of(value)?),
     }
-    at(draft, Place::Statement)
+    Ok(Place::Statement)
 }
 
 /// Where the number of STACKSIZE, HEAPSIZE or BASE has to stand.
 #[tactic(auto, unfolding(crate::specs::Statements::size))]
-pub fn size(draft: Draft, which: Size, token: Token<'_>) -> Result<Reading, Fail<DefKind>>
-    requires { WholeDraft draft }
-    ensures value { Gives (λ x. x) if_said result (size draft which (lexeme_of token.entry)) }
-    ensures whole { IfOk result (λ r. WholeReading r) }
+pub fn size(draft: &mut Draft, which: Size, token: Token<'_>) -> Result<Place, Fail<DefKind>>
+    requires { WholeDraft draft.old }
+    ensures value { Gives (reading draft.new) if_said result (size draft.old which (lexeme_of token.entry)) }
+    ensures whole { IfOk result (λ p. WholeReading (reading draft.new p)) }
 {
     match token.number() {
         Some(value) => sized(draft, which, value),
@@ -226,13 +216,12 @@ pub fn size(draft: Draft, which: Size, token: Token<'_>) -> Result<Reading, Fail
 
 /// Behind BASE.
 #[tactic(auto, unfolding(crate::specs::Statements::base))]
-pub fn base(draft: Draft, token: Token<'_>) -> Result<Reading, Fail<DefKind>>
-    requires { WholeDraft draft }
-    ensures value { Gives (λ x. x) if_said result (base draft (lexeme_of token.entry)) }
-    ensures whole { IfOk result (λ r. WholeReading r) }
+pub fn base(token: Token<'_>) -> Result<Place, Fail<DefKind>>
+    ensures value { (d : Draft) → Gives (reading d) if_said result (base d (lexeme_of token.entry)) }
+    ensures whole { (d : Draft) → WholeDraft d → IfOk result (λ p. WholeReading (reading d p)) }
 {
     if token.is_equals() {
-        at(draft, Place::Size(Size::Base))
+        Ok(Place::Size(Size::Base))
     } else {
         Err(Fail::Said(DefKind::Expected))
     }
@@ -240,15 +229,14 @@ pub fn base(draft: Draft, token: Token<'_>) -> Result<Reading, Fail<DefKind>>
 
 /// Behind EXETYPE.
 #[tactic(auto, unfolding(crate::specs::Statements::exe_type))]
-pub fn exe_type(alloc: Global, draft: Draft, token: Token<'_>) -> Result<Reading, Fail<DefKind>>
-    requires { WholeDraft draft }
-    ensures value { Gives (λ x. x) if_said result (exe_type draft (lexeme_of token.entry)) }
-    ensures whole { IfOk result (λ r. WholeReading r) }
+pub fn exe_type(alloc: Global, token: Token<'_>) -> Result<Place, Fail<DefKind>>
+    ensures value { (d : Draft) → Gives (reading d) if_said result (exe_type d (lexeme_of token.entry)) }
+    ensures whole { (d : Draft) → WholeDraft d → IfOk result (λ p. WholeReading (reading d p)) }
 {
     match token.name() {
         Some(bytes) => {
             name_of(alloc, bytes)?;
-            at(draft, Place::Statement)
+            Ok(Place::Statement)
         }
         None => Err(Fail::Said(DefKind::Expected)),
     }

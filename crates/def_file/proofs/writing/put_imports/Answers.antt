@@ -1,9 +1,8 @@
-use Rattle.std.proofs.Common.{◌<◌, ◌++◌, ◌∙◌, ap, map, length, arith}
+use Rattle.std.proofs.Common.{◌<◌, length, arith}
 use Rattle.lx_types.specs.Names.{IsName}
 use Rattle.obj_types.specs.declared.symbol.Imp.{Imp}
-use Rattle.def_tokens.specs.Lexemes.{lexeme_of}
 use Rattle.def_file.specs.Names.{ImportNames}
-use Rattle.def_file.specs.Writing.{import_tokens, item_text}
+use Rattle.def_file.specs.Writing.{import_tokens}
 use Rattle.def_file.proofs.WritingLaws.{written_more, all_more}
 use Rattle.def_file.proofs.writing.put_imports.Goals as goal
 
@@ -13,8 +12,7 @@ loop-import-preserved c =
     let xs = c.args.imports.now in
     let x = c.import-item.result in
     let within : i < length xs = omega arith in (
-      written_more import_tokens c.args.out.now.items c.loop-import.out.items c.put_item.new.out.items xs i x within c.import-item.is c.loop-import.invariant.0
-          (c.in_ok-put_item.ensures ∙ ap (λ ts. c.loop-import.out.items ++ item_text ts)
-          (ap (λ ts. map lexeme_of ts) c.as_slice.ensures.value ∙ c.in_ok-import_tokens.ensures.tokens)),
-      all_more (λ (s : Imp). ImportNames IsName s) xs i x within c.import-item.is c.loop-import.invariant.1 c.in_ok-import_tokens.ensures.short,
+      written_more import_tokens c.args.out.now.items c.loop-import.out.items c.put_import.new.out.items xs i x within c.import-item.is c.loop-import.invariant.0
+          c.in_ok-put_import.ensures.text,
+      all_more (λ (s : Imp). ImportNames IsName s) xs i x within c.import-item.is c.loop-import.invariant.1 c.in_ok-put_import.ensures.short,
     )

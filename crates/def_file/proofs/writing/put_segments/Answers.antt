@@ -1,9 +1,8 @@
-use Rattle.std.proofs.Common.{◌<◌, ◌++◌, ◌∙◌, ap, map, length, arith}
+use Rattle.std.proofs.Common.{◌<◌, length, arith}
 use Rattle.lx_types.specs.Names.{IsName}
 use Rattle.obj_types.specs.declared.definition.SegAttrs.{SegAttrs}
-use Rattle.def_tokens.specs.Lexemes.{lexeme_of}
 use Rattle.def_file.specs.Names.{SegmentNames}
-use Rattle.def_file.specs.Writing.{segment_tokens, item_text}
+use Rattle.def_file.specs.Writing.{segment_tokens}
 use Rattle.def_file.proofs.WritingLaws.{written_more, all_more}
 use Rattle.def_file.proofs.writing.put_segments.Goals as goal
 
@@ -13,8 +12,7 @@ loop-segment-preserved c =
     let xs = c.args.segs.now in
     let x = c.segment-item.result in
     let within : i < length xs = omega arith in (
-      written_more segment_tokens c.args.out.now.items c.loop-segment.out.items c.put_item.new.out.items xs i x within c.segment-item.is c.loop-segment.invariant.0
-          (c.in_ok-put_item.ensures ∙ ap (λ ts. c.loop-segment.out.items ++ item_text ts)
-          (ap (λ ts. map lexeme_of ts) c.as_slice.ensures.value ∙ c.in_ok-segment_tokens.ensures.tokens)),
-      all_more (λ (s : SegAttrs). SegmentNames IsName s) xs i x within c.segment-item.is c.loop-segment.invariant.1 c.in_ok-segment_tokens.ensures.short,
+      written_more segment_tokens c.args.out.now.items c.loop-segment.out.items c.put_segment.new.out.items xs i x within c.segment-item.is c.loop-segment.invariant.0
+          c.in_ok-put_segment.ensures.text,
+      all_more (λ (s : SegAttrs). SegmentNames IsName s) xs i x within c.segment-item.is c.loop-segment.invariant.1 c.in_ok-put_segment.ensures.short,
     )
