@@ -21,9 +21,10 @@ use Rattle.first_table.specs.Entries.{is_named, with_entry}
 use Rattle.first_table.proofs.Shown.{any-place, behind}
 use Rattle.sym_table.specs.Links.{link_with}
 use Rattle.sym_table.specs.Firsts.{same_name}
-use Rattle.sym_table.specs.Communals.{with_greatest, slotted}
+use Rattle.sym_table.specs.declared.communals.Comdef.{Comdef}
+use Rattle.sym_table.specs.Communals.{comdef_shown, long_as, AreGreatest, with_greatest, slotted}
 use Rattle.sym_table.proofs.FirstOnes.{entry-push}
-use Rattle.sym_table.proofs.Lists.{modules-push}
+use Rattle.sym_table.proofs.Lists.{map-more, modules-push}
 
 without_number : (n : ℕ) (es : List Ext) → filter_map (λ (q : ℕ × Ext). comdef_of q.1) (map (λ (e : Ext). (n, e)) es) ≡ filter_map comdef_of es
 without_number n [] = refl
@@ -70,38 +71,59 @@ present_by : (name : List ℕ) (slots : List (List ℕ × SymDef)) (place : ℕ)
 present_by name slots place true is at not_last = refl
 present_by name slots place false is at not_last = absurd (not_last (at ∙ sym (behind (is_named {V = SymDef} name) slots is)))
 
--- The slots' names are those of the first COMDEFs.
-same_names : (all es : List (List ℕ × Common)) (name : List ℕ) (list : List (List ℕ × Common)) (slots : List (List ℕ × SymDef)) → list ≡ map (with_greatest all) (firsts same_name es) → slots ≡ slotted list →
-    list_any (is_named {V = Common} name) (firsts same_name es) ≡ list_any (is_named {V = SymDef} name) slots
-same_names all es name list slots e f =
-    sym (ap (list_any (is_named {V = SymDef} name)) f ∙ (named_slots name 0 list ∙ (ap (list_any (is_named {V = Common} name)) e ∙ named_greatest name all (firsts same_name es))))
+-- ---- one more communal
 
-pub new_communal : (all es : List (List ℕ × Common)) (x : List ℕ × Common) (list : List (List ℕ × Common)) (slots : List (List ℕ × SymDef)) (place : ℕ) →
-    list ≡ map (with_greatest all) (firsts same_name es) → slots ≡ slotted list → place ≡ position_or_len (is_named {V = SymDef} x.0) slots → place ≡ length slots →
-    (list ++ with_greatest all x ∷ [] ≡ map (with_greatest all) (firsts same_name (es ++ x ∷ []))) × (with_entry slots x.0 (means.Common (length slots)) ≡ slotted (list ++ with_greatest all x ∷ []))
-new_communal all es x list slots place e f at last =
-    let none : list_any (is_named {V = SymDef} x.0) slots ≡ false = absent_by x.0 slots place at last in
-    let new : List ℕ × SymDef = (x.0, means.Common (length slots)) in
-    let table : List (List ℕ × Common) = firsts same_name es in (
-      ap (λ (t : List (List ℕ × Common)). t ++ with_greatest all x ∷ []) e
-          ∙ sym (map-append (with_greatest all) table (x ∷ []))
-          ∙ ap (map (with_greatest all)) (sym (sym (entry-push es x.0 x.1) ∙ ap (λ (b : Bool). cond b table (table ++ x ∷ [])) (same_names all es x.0 list slots e f ∙ none))),
-      ap (λ (b : Bool). cond b slots (slots ++ new ∷ [])) none
-          ∙ ap (λ (n : ℕ). let v : List ℕ × SymDef = (x.0, means.Common n) in slots ++ v ∷ []) (ap length f ∙ length-slotted list)
-          ∙ ap (λ (t : List (List ℕ × SymDef)). let v : List ℕ × SymDef = (x.0, means.Common (length list)) in t ++ v ∷ []) f
-          ∙ sym (slotted-push 0 list (with_greatest all x) ∙ ap (λ (n : ℕ). let v : List ℕ × SymDef = (x.0, means.Common n) in slotted list ++ v ∷ []) (omega arith)),
+abbrev pub slot_entry : List (List ℕ × SymDef) → List ℕ → List (List ℕ × SymDef)
+slot_entry slots name = with_entry slots name (means.Common (length slots))
+
+-- A name that has no slot gets the next one.
+pub new_slot : (name : List ℕ) (v : Common) (list new : List (List ℕ × Common)) (slots : List (List ℕ × SymDef)) (place : ℕ) → slots ≡ slotted list → place ≡ position_or_len (is_named {V = SymDef} name) slots → place ≡ length slots →
+    new ≡ list ++ (name, v) ∷ [] → (new ≡ with_entry list name v) × (slot_entry slots name ≡ slotted new)
+new_slot name v list new slots place f at last is =
+    let none : list_any (is_named {V = SymDef} name) slots ≡ false = absent_by name slots place at last in
+    let own : list_any (is_named {V = Common} name) list ≡ false = sym (ap (list_any (is_named {V = SymDef} name)) f ∙ named_slots name 0 list) ∙ none in
+    let entry : List ℕ × Common = (name, v) in
+    let slot : List ℕ × SymDef = (name, means.Common (length slots)) in (
+      is ∙ sym (ap (λ (b : Bool). cond b list (list ++ entry ∷ [])) own),
+      ap (λ (b : Bool). cond b slots (slots ++ slot ∷ [])) none
+          ∙ ap (λ (n : ℕ). let e : List ℕ × SymDef = (name, means.Common n) in slots ++ e ∷ []) (ap length f ∙ length-slotted list)
+          ∙ ap (λ (t : List (List ℕ × SymDef)). let e : List ℕ × SymDef = (name, means.Common (length list)) in t ++ e ∷ []) f
+          ∙ sym (slotted-push 0 list entry ∙ ap (λ (n : ℕ). let e : List ℕ × SymDef = (name, means.Common n) in slotted list ++ e ∷ []) (omega arith))
+          ∙ ap slotted (sym is),
     )
 
-pub old_communal : (all es : List (List ℕ × Common)) (x : List ℕ × Common) (list : List (List ℕ × Common)) (slots : List (List ℕ × SymDef)) (place : ℕ) (value : SymDef) →
-    list ≡ map (with_greatest all) (firsts same_name es) → slots ≡ slotted list → place ≡ position_or_len (is_named {V = SymDef} x.0) slots → (place ≡ length slots → ⊥) →
-    (list ≡ map (with_greatest all) (firsts same_name (es ++ x ∷ []))) × (with_entry slots x.0 value ≡ slotted list)
-old_communal all es x list slots place value e f at not_last =
-    let some : list_any (is_named {V = SymDef} x.0) slots ≡ true = present_by x.0 slots place (list_any (is_named {V = SymDef} x.0) slots) refl at not_last in
-    let table : List (List ℕ × Common) = firsts same_name es in
-    let new : List ℕ × SymDef = (x.0, value) in (
-      e ∙ ap (map (with_greatest all)) (sym (sym (entry-push es x.0 x.1) ∙ ap (λ (b : Bool). cond b table (table ++ x ∷ [])) (same_names all es x.0 list slots e f ∙ some))),
-      ap (λ (b : Bool). cond b slots (slots ++ new ∷ [])) some ∙ f,
+-- A name that has a slot keeps it.
+pub old_slot : (name : List ℕ) (v : Common) (list : List (List ℕ × Common)) (slots : List (List ℕ × SymDef)) (place : ℕ) → slots ≡ slotted list → place ≡ position_or_len (is_named {V = SymDef} name) slots → (place ≡ length slots → ⊥) →
+    (list ≡ with_entry list name v) × (slot_entry slots name ≡ slotted list)
+old_slot name v list slots place f at not_last =
+    let some : list_any (is_named {V = SymDef} name) slots ≡ true = present_by name slots place (list_any (is_named {V = SymDef} name) slots) refl at not_last in
+    let own : list_any (is_named {V = Common} name) list ≡ true = sym (ap (list_any (is_named {V = SymDef} name)) f ∙ named_slots name 0 list) ∙ some in
+    let entry : List ℕ × Common = (name, v) in
+    let slot : List ℕ × SymDef = (name, means.Common (length slots)) in (
+      sym (ap (λ (b : Bool). cond b list (list ++ entry ∷ [])) own),
+      ap (λ (b : Bool). cond b slots (slots ++ slot ∷ [])) some ∙ f,
     )
+
+-- One more entry of a list by first appearance, where each has the greatest length of its name.
+greatest_entry : (all table : List (List ℕ × Common)) (x : List ℕ × Common) → with_entry (map (with_greatest all) table) x.0 (with_greatest all x).1 ≡ map (with_greatest all) (with_entry table x.0 x.1)
+greatest_entry all table x =
+    ap (λ (b : Bool). cond b (map (with_greatest all) table) (map (with_greatest all) table ++ with_greatest all x ∷ [])) (named_greatest x.0 all table)
+    ∙ by (list_any (is_named {V = Common} x.0) table)
+  where
+    by : (b : Bool) → cond b (map (with_greatest all) table) (map (with_greatest all) table ++ with_greatest all x ∷ []) ≡ map (with_greatest all) (cond b table (table ++ x ∷ []))
+    by true = refl
+    by false = sym (map-append (with_greatest all) table (x ∷ []))
+
+pub communal-more : (all : List (List ℕ × Common)) (lens : List (List ℕ × ℕ)) (cs : List Comdef) (i : ℕ) (c : Comdef) (list : List (List ℕ × Common)) → AreGreatest all lens → i < length cs → c ≡ get_or cs i c →
+    list ≡ map (with_greatest all) (firsts same_name (map comdef_shown (take i cs))) →
+    with_entry list c.name.now (long_as lens c) ≡ map (with_greatest all) (firsts same_name (map comdef_shown (take (i + 1) cs)))
+communal-more all lens cs i c list are there is before =
+    let x : List ℕ × Common = comdef_shown c in
+    let es : List (List ℕ × Common) = map comdef_shown (take i cs) in
+    ap (λ (n : ℕ). let v : Common = record { far = c.common.far; len = n } in with_entry list c.name.now v) (are c.name.now)
+    ∙ ap (λ (t : List (List ℕ × Common)). with_entry t x.0 (with_greatest all x).1) before
+    ∙ greatest_entry all (firsts same_name es) x
+    ∙ ap (map (with_greatest all)) (entry-push es x.0 x.1 ∙ ap (firsts same_name) (sym (map-more comdef_shown cs i c there is)))
 
 -- ---- one more external of a module
 

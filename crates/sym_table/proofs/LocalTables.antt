@@ -1,5 +1,5 @@
 -- The table of a module's local publics gives what a search of its publics gives.
-use Rattle.std.specs.Prelude.{◌≡◌, ℕ, ◌+◌, ◌<◌, ◌&&◌, Bool, cond, List, [], ◌∷◌, ◌++◌, Option, Some, None, length, take, find, bytes_eq, refl}
+use Rattle.std.specs.Prelude.{◌≡◌, ℕ, ◌+◌, ◌<◌, ◌&&◌, Bool, true, false, cond, List, [], ◌∷◌, ◌++◌, Option, Some, None, map, length, take, find, is_none, bytes_eq, refl}
 use Rattle.std.specs.Option.{option_map, option_or}
 use Rattle.std.proofs.Common.{ap, sym, ◌∙◌}
 use Rattle.std.proofs.Math.ListN.{get_or}
@@ -10,10 +10,11 @@ use Rattle.obj_types.specs.declared.symbol.Ext.{Ext}
 use Rattle.obj_types.specs.declared.symbol.Pub.{Pub}
 use Rattle.obj_types.specs.declared.symbol.PubPlace.{PubPlace}
 use Rattle.link_model.specs.declared.symbols.SymDef.{SymDef}
+use Rattle.link_model.specs.declared.refusals.SymRefusal.TheVariants.{Missing}
 use Rattle.link_model.specs.Symbols as rules
 use Rattle.first_table.specs.Entries.{value_named}
 use Rattle.sym_table.specs.declared.meanings.Globals.{Globals}
-use Rattle.sym_table.specs.Meanings.{global_in, meaning_in, meaning_by}
+use Rattle.sym_table.specs.Meanings.{global_in, meaning_in, meaning_by, missing_by, row_in, missing_row}
 use Rattle.sym_table.proofs.LeaderTables.{when, map-or, map-when}
 
 -- The place of the first local public of a name.
@@ -38,7 +39,37 @@ composed by None = refl
 composed by (Some p) = refl
 
 -- An external's meaning by the table.
-pub meaning_is_by : (globals : Globals) (by : ℕ) (m : ObjModule) (locals : List (List ℕ × PubPlace)) (e : Ext) → ((name : List ℕ) → value_named name locals ≡ local_place name m.pubs) → meaning_by globals by locals e ≡ meaning_in globals by m e
+meaning_is_by : (globals : Globals) (by : ℕ) (m : ObjModule) (locals : List (List ℕ × PubPlace)) (e : Ext) → ((name : List ℕ) → value_named name locals ≡ local_place name m.pubs) → meaning_by globals by locals e ≡ meaning_in globals by m e
 meaning_is_by globals by m locals e are =
     ap (λ (o : Option SymDef). cond e.local o (global_in globals e.name))
     (ap (option_map (rules.at_place by)) (are e.name) ∙ composed by (find (λ p. p.local && bytes_eq p.name e.name) m.pubs))
+
+-- ---- all externals of a module
+
+map_alike : {X Y : Type 0} (f g : X → Y) → ((x : X) → f x ≡ g x) → (xs : List X) → map f xs ≡ map g xs
+map_alike f g same [] = refl
+map_alike {X} {Y} f g same (x ∷ xs) = ap (λ (y : Y). y ∷ map f xs) (same x) ∙ ap (λ (t : List Y). g x ∷ t) (map_alike f g same xs)
+
+missing_alike : (f g : Ext → Option SymDef) → ((e : Ext) → f e ≡ g e) → (es : List Ext) → missing_by f es ≡ missing_by g es
+missing_alike f g same [] = refl
+missing_alike f g same (e ∷ es) =
+    ap (λ (b : Bool). option_map (λ (x : Ext). Missing x.name) (cond b (Some e) (find (λ x. is_none (f x)) es))) (ap is_none (same e)) ∙ by (is_none (g e)) (missing_alike f g same es)
+  where
+    by : (b : Bool) → missing_by f es ≡ missing_by g es → option_map (λ (x : Ext). Missing x.name) (cond b (Some e) (find (λ x. is_none (f x)) es)) ≡ option_map (λ (x : Ext). Missing x.name) (cond b (Some e) (find (λ x. is_none (g x)) es))
+    by true h = refl
+    by false h = h
+
+-- A table has the places of a module's local publics.
+abbrev pub AreLocals : ObjModule → List Pub → List (List ℕ × PubPlace) → Type 0
+AreLocals m pubs locals = (pubs ≡ m.pubs) × ((name : List ℕ) → value_named name locals ≡ local_place name pubs)
+
+located : (globals : Globals) (by : ℕ) (m : ObjModule) (pubs : List Pub) (locals : List (List ℕ × PubPlace)) → AreLocals m pubs locals → (e : Ext) → meaning_by globals by locals e ≡ meaning_in globals by m e
+located globals by m pubs locals are e = meaning_is_by globals by m locals e (λ name. are.1 name ∙ ap (local_place name) are.0)
+
+pub row_is : (globals : Globals) (by : ℕ) (m : ObjModule) (pubs : List Pub) (locals : List (List ℕ × PubPlace)) (es : List Ext) → AreLocals m pubs locals → es ≡ m.exts → map (meaning_by globals by locals) es ≡ row_in globals by m
+row_is globals by m pubs locals es are same =
+    map_alike (meaning_by globals by locals) (meaning_in globals by m) (located globals by m pubs locals are) es ∙ ap (map (meaning_in globals by m)) same
+
+pub missing_is : (globals : Globals) (by : ℕ) (m : ObjModule) (pubs : List Pub) (locals : List (List ℕ × PubPlace)) (es : List Ext) → AreLocals m pubs locals → es ≡ m.exts → missing_by (meaning_by globals by locals) es ≡ missing_row globals by m
+missing_is globals by m pubs locals es are same =
+    missing_alike (meaning_by globals by locals) (meaning_in globals by m) (located globals by m pubs locals are) es ∙ ap (missing_by (meaning_in globals by m)) same

@@ -1,9 +1,10 @@
 -- Communals, from COMDEFs that are lent.
-use Rattle.std.specs.Prelude.{ℕ, List, map, max, filter, bytes_eq}
+use Rattle.std.specs.Prelude.{◌≡◌, ℕ, List, map, max, filter, bytes_eq, unwrap_or}
 use Rattle.std.specs.List.{fold, enumerate_from}
 use Rattle.obj_types.specs.declared.symbol.Common.{Common}
 use Rattle.link_model.specs.declared.symbols.SymDef.{SymDef}
 use Rattle.link_model.specs.declared.symbols.SymDef.TheVariants as means
+use Rattle.first_table.specs.Entries.{value_named}
 use Rattle.sym_table.specs.declared.communals.Comdef.{Comdef}
 
 abbrev pub comdef_shown : Comdef → List ℕ × Common
@@ -16,6 +17,14 @@ greatest_of comdefs name = fold (λ len c. max len c.1.len) 0 (filter (λ q. byt
 -- A communal is as long as the longest of these COMDEFs of its name.
 abbrev pub with_greatest : List (List ℕ × Common) → (List ℕ × Common) → List ℕ × Common
 with_greatest comdefs c = (c.0, record { far = c.1.far; len = greatest_of comdefs c.0 })
+
+-- The table has for each name the length of the longest of these COMDEFs.
+abbrev pub AreGreatest : List (List ℕ × Common) → List (List ℕ × ℕ) → Type 0
+AreGreatest comdefs lens = (name : List ℕ) → unwrap_or (value_named name lens) 0 ≡ greatest_of comdefs name
+
+-- A COMDEF's storage, with the length that the table has for its name.
+abbrev pub long_as : List (List ℕ × ℕ) → Comdef → Common
+long_as lens c = record { far = c.common.far; len = unwrap_or (value_named c.name.now lens) 0 }
 
 -- Each name with its slot.
 abbrev pub slotted : List (List ℕ × Common) → List (List ℕ × SymDef)

@@ -8,6 +8,7 @@ pub mod Symbols
 pub mod Binding
 pub mod Refusing
 pub mod Leading
+pub mod Choices
 pub mod Finding
 pub mod ImportKeys
 pub mod ImportLists

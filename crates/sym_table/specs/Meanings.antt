@@ -42,10 +42,13 @@ row_in globals by m = map (meaning_in globals by m) m.exts
 abbrev pub rows_in : Globals → List ObjModule → List (List (Option SymDef))
 rows_in globals modules = map (λ q. row_in globals q.0 q.1) (enumerate_from 1 modules)
 
+-- The first of these externals that means nothing.
+abbrev pub missing_by : (Ext → Option SymDef) → List Ext → Option SymRefusal
+missing_by meaning es = option_map (λ e. Missing e.name) (find (λ e. is_none (meaning e)) es)
+
 -- The first external of a module that means nothing.
 abbrev pub missing_row : Globals → ℕ → ObjModule → Option SymRefusal
-missing_row globals by m =
-    option_map (λ e. Missing e.name) (find (λ e. is_none (meaning_in globals by m e)) m.exts)
+missing_row globals by m = missing_by (meaning_in globals by m) m.exts
 
 -- The first of all modules that has one.
 abbrev pub missing_external_in : Globals → List ObjModule → Option SymRefusal

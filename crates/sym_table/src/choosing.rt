@@ -1,13 +1,14 @@
 //! Choosing modules by an index of the names that library modules define.
 
-ghost use Rattle.std.specs.Prelude.{◌≡◌, ◌||◌, ◌==◌, ℕ, List, IfOk, OnOk, is_some, slice_get, option_copied};
+ghost use Rattle.std.specs.Prelude.{◌≡◌, ◌++◌, ◌∷◌, [], ◌||◌, ◌==◌, ℕ, List, IfOk, OnOk, true, is_some, option_to_list};
 ghost use Rattle.std.specs.Ordering.{nat_cmp};
 ghost use Rattle.std.specs.List.{list_any};
 ghost use Rattle.std.specs.Option.{option_or};
 ghost use Rattle.std.specs.BTreeSet.{contains};
 ghost use Rattle.first_table.specs.Entries.{value_named};
-ghost use Rattle.link_model.specs.Choosing.{Chosen, defines, is_defined, modules_of, object_picks};
-ghost use Rattle.sym_table.specs.Leading.{leader, waits, has_public, has_import, given, awaited, awaits};
+ghost use Rattle.link_model.specs.Choosing.{Chosen, defines, is_defined, next_pick, object_picks};
+ghost use Rattle.sym_table.specs.Choices.{AreLeaders, IsChoice};
+ghost use Rattle.sym_table.specs.Leading.{leader, has_public, has_import, given, awaited, awaits};
 
 use first_table::NameTable;
 use link_model::{Pick, number};
@@ -142,10 +143,97 @@ fn object_files(alloc: Global, input: &LinkInput) -> Result<Seq<Pick>, NoMemory>
     Ok(picks)
 }
 
-fn library_at(input: &LinkInput, index: u32) -> Option<&ObjModule>
-    ensures { option_copied result ≡ slice_get input.now.libs index }
+/// The modules that are chosen so far, and what they and the definition file define.
+#[derive(Drop)]
+pub struct Choice {
+    pub picks: Seq<Pick>,
+    /// The names that are defined.
+    pub defined: NameTable<u32>,
+    /// The library modules that are the first to define a name which is wanted and not defined.
+    pub waiting: BTreeSet<u32>,
+}
+
+// The object files alone.
+fn first_choice(
+    alloc: Global,
+    input: &LinkInput,
+    leaders: &NameTable<u32>,
+) -> Result<Choice, NoMemory>
+    requires { AreLeaders input.now leaders.now }
+    ensures picks { IfOk result (λ choice. choice.picks ≡ object_picks input.now) }
+    ensures known { IfOk result (λ choice. IsChoice input.now choice) }
 {
-    input.libs.as_slice().get(index as usize)
+    let defined = defined_first(alloc, input)?;
+    let waiting = waiting_first(alloc, leaders, &defined, input.objects.as_slice())?;
+    let picks = object_files(alloc, input)?;
+    Ok(Choice {
+        picks,
+        defined,
+        waiting,
+    })
+}
+
+// Adds a library module to the chosen ones.
+fn add_choice(
+    alloc: Global,
+    leaders: &NameTable<u32>,
+    choice: &mut Choice,
+    index: u32,
+    object: &ObjModule,
+) -> Result<(), NoMemory>
+    ensures picks { OnOk result (choice.new.picks ≡ choice.old.picks ++ record { lib = true; index = index } ∷ []) }
+    ensures defined { OnOk result ((name : List ℕ) → value_named name choice.new.defined
+        ≡ option_or (value_named name choice.old.defined) (given (defines object.now name) index)) }
+    ensures waiting { OnOk result ((k : ℕ) → contains nat_cmp choice.new.waiting k
+        ≡ (contains nat_cmp choice.old.waiting k || list_any (awaits leaders.now choice.new.defined k) object.now.exts)) }
+{
+    choice.picks.push(Pick { lib: true, index })?;
+    add_module(alloc, &mut choice.defined, index, object)?;
+    await_wanted(
+        &mut choice.waiting,
+        leaders,
+        &choice.defined,
+        object.exts.as_slice(),
+    )
+}
+
+// Chooses one more module, and answers whether there was one to choose.
+fn choose_next(
+    alloc: Global,
+    input: &LinkInput,
+    leaders: &NameTable<u32>,
+    choice: &mut Choice,
+) -> Result<bool, NoMemory>
+    requires leaders { AreLeaders input.now leaders.now }
+    requires known { IsChoice input.now choice.old }
+    ensures more { IfOk result (λ more. more ≡ is_some (next_pick input.now choice.old.picks)) }
+    ensures picks { OnOk result (choice.new.picks ≡ choice.old.picks ++ option_to_list (next_pick input.now choice.old.picks)) }
+    ensures known { OnOk result (IsChoice input.now choice.new) }
+{
+    match choice.waiting.pop_first() {
+        None => Ok(false),
+        Some(index) => {
+            let object = &input.libs.as_slice()[index as usize];
+            add_choice(alloc, leaders, choice, index, object)?;
+            Ok(true)
+        }
+    }
+}
+
+// Chooses all library modules that are to be chosen behind the object files.
+fn choose_all(
+    alloc: Global,
+    input: &LinkInput,
+    leaders: &NameTable<u32>,
+    choice: &mut Choice,
+) -> Result<(), NoMemory>
+    requires leaders { AreLeaders input.now leaders.now }
+    requires picks { choice.old.picks ≡ object_picks input.now }
+    requires known { IsChoice input.now choice.old }
+    ensures { OnOk result (Chosen input.now choice.new.picks) }
+{
+    'choosing: while choose_next(alloc, input, leaders, choice)? {}
+    Ok(())
 }
 
 /// The modules that a link chooses, in the order in which they are chosen. Each name is looked up once for each module
@@ -154,15 +242,7 @@ pub fn choose_by_names(alloc: Global, input: &LinkInput) -> Result<Seq<Pick>, No
     ensures { IfOk result (λ picks. Chosen input.now picks) }
 {
     let leaders = leaders_of(alloc, input.libs.as_slice())?;
-    let mut defined = defined_first(alloc, input)?;
-    let mut waiting = waiting_first(alloc, &leaders, &defined, input.objects.as_slice())?;
-    let mut picks = object_files(alloc, input)?;
-    while let Some(index) = waiting.pop_first() {
-        picks.push(Pick { lib: true, index })?;
-        if let Some(object) = library_at(input, index) {
-            add_module(alloc, &mut defined, index, object)?;
-            await_wanted(&mut waiting, &leaders, &defined, object.exts.as_slice())?;
-        }
-    }
-    Ok(picks)
+    let mut choice = first_choice(alloc, input, &leaders)?;
+    choose_all(alloc, input, &leaders, &mut choice)?;
+    Ok(choice.picks)
 }

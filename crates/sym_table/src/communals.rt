@@ -2,12 +2,12 @@
 
 ghost use Rattle.std.specs.Prelude.{◌≡◌, ◌++◌, ℕ, List, map, filter, is_none, option_map, unwrap_or, IfOk, OnOk};
 ghost use Rattle.std.specs.List.{filter_map};
-ghost use Rattle.first_table.specs.Entries.{value_named};
+ghost use Rattle.first_table.specs.Entries.{value_named, with_entry};
 ghost use Rattle.link_model.specs.Appearance.{firsts};
 ghost use Rattle.link_model.specs.Symbols.{comdef_of, comdefs};
 ghost use Rattle.sym_table.specs.Links.{link_with};
 ghost use Rattle.sym_table.specs.Firsts.{same_name};
-ghost use Rattle.sym_table.specs.Communals.{comdef_shown, greatest_of, with_greatest, slotted};
+ghost use Rattle.sym_table.specs.Communals.{comdef_shown, long_as, with_greatest, AreGreatest, slotted};
 
 use crate::definitions::Definition;
 use first_table::NameTable;
@@ -94,8 +94,7 @@ fn len_in(lens: &NameTable<u32>, name: &Name) -> u32
 
 // The greatest length that a COMDEF of each name has.
 fn lens_of(alloc: Global, comdefs: &[Comdef<'_>]) -> Result<NameTable<u32>, NoMemory>
-    ensures { IfOk result (λ lens. (name : List ℕ) → unwrap_or (value_named name lens) 0
-        ≡ greatest_of (map comdef_shown comdefs.now) name) }
+    ensures { IfOk result (λ lens. AreGreatest (map comdef_shown comdefs.now) lens) }
 {
     let mut lens = NameTable::new(alloc);
     for comdef in comdefs {
@@ -112,6 +111,52 @@ pub struct Communals {
     pub slots: NameTable<SymDef>,
 }
 
+// Adds the communal of a COMDEF, where its name has none yet.
+fn add_communal(
+    alloc: Global,
+    communals: &mut Communals,
+    lens: &NameTable<u32>,
+    comdef: &Comdef<'_>,
+) -> Result<(), NoMemory>
+    requires { communals.old.slots ≡ slotted communals.old.list }
+    ensures list { OnOk result (communals.new.list ≡ with_entry communals.old.list comdef.now.name.now (long_as lens.now comdef.now)) }
+    ensures slots { OnOk result (communals.new.slots ≡ slotted communals.new.list) }
+{
+    let slot = communals.slots.len();
+    let meaning = SymDef::Common {
+        slot: number(slot)?,
+    };
+    let place = communals.slots.push(alloc, comdef.name.bytes(), meaning)?;
+    if place == slot {
+        let common = Common {
+            far: comdef.common.far,
+            len: len_in(lens, comdef.name),
+        };
+        communals.list.push((comdef.name.copied(alloc)?, common))?;
+    }
+    Ok(())
+}
+
+// The communals of these COMDEFs, by the lengths of all names.
+fn communals_by(
+    alloc: Global,
+    lens: &NameTable<u32>,
+    comdefs: &[Comdef<'_>],
+) -> Result<Communals, NoMemory>
+    ensures list { IfOk result (λ c. (all : List (List ℕ × Common)) → AreGreatest all lens.now
+        → c.list ≡ map (with_greatest all) (firsts same_name (map comdef_shown comdefs.now))) }
+    ensures slots { IfOk result (λ c. c.slots ≡ slotted c.list) }
+{
+    let mut communals = Communals {
+        list: Seq::new(alloc),
+        slots: NameTable::new(alloc),
+    };
+    for comdef in comdefs {
+        add_communal(alloc, &mut communals, lens, comdef)?;
+    }
+    Ok(communals)
+}
+
 /// The communals of these COMDEFs without definition, among all COMDEFs.
 pub fn communals_of(
     alloc: Global,
@@ -123,20 +168,5 @@ pub fn communals_of(
     ensures slots { IfOk result (λ c. c.slots ≡ slotted c.list) }
 {
     let lens = lens_of(alloc, comdefs)?;
-    let mut list = Seq::new(alloc);
-    let mut slots = NameTable::new(alloc);
-    for comdef in undefined {
-        let slot = slots.len();
-        let meaning = SymDef::Common {
-            slot: number(slot)?,
-        };
-        if slots.push(alloc, comdef.name.bytes(), meaning)? == slot {
-            let common = Common {
-                far: comdef.common.far,
-                len: len_in(&lens, comdef.name),
-            };
-            list.push((comdef.name.copied(alloc)?, common))?;
-        }
-    }
-    Ok(Communals { list, slots })
+    communals_by(alloc, &lens, undefined)
 }

@@ -4,22 +4,22 @@ ghost use Rattle.std.specs.Prelude.{◌≡◌, Some, None, map, filter, is_none,
 ghost use Rattle.lx_types.specs.Answers.{Answers};
 ghost use Rattle.first_table.specs.Entries.{value_named};
 ghost use Rattle.link_model.specs.Appearance.{firsts};
-ghost use Rattle.link_model.specs.Symbols.{comdefs};
+ghost use Rattle.link_model.specs.Symbols.{comdefs, definitions};
 ghost use Rattle.link_model.specs.SymbolRefusals.{twice};
 ghost use Rattle.sym_table.specs.Links.{link_with};
 ghost use Rattle.sym_table.specs.Firsts.{same_name};
 ghost use Rattle.sym_table.specs.Definitions.{shown, imports_among};
 ghost use Rattle.sym_table.specs.Communals.{with_greatest, slotted};
-ghost use Rattle.sym_table.specs.Meanings.{defined_by};
+ghost use Rattle.sym_table.specs.Meanings as rules;
 ghost use Rattle.sym_table.specs.Binding.{AreNamesOf};
 
-use crate::communals::{comdefs_of, communals_of, undefined_of};
+use crate::communals::{Communals, comdefs_of, communals_of, undefined_of};
 use crate::definitions::{Definition, definitions_of};
 use crate::firsts::first_definitions;
 use crate::imports::imports_of;
 use crate::meanings::{Globals, defined_of};
 use first_table::NameTable;
-use link_model::SymRefusal;
+use link_model::{SymDef, SymRefusal};
 use obj_types::{Common, Fail, Imp, LinkInput, Name, NoMemory, ObjModule, Seq};
 use std::alloc::Global;
 
@@ -29,6 +29,44 @@ pub struct GlobalNames {
     pub globals: Globals,
     pub commons: Seq<(Name, Common)>,
     pub imports: Seq<Imp>,
+}
+
+// The communals of a link of these modules, where this table has the names that are defined.
+fn communals_beside(
+    alloc: Global,
+    input: &LinkInput,
+    modules: &[&ObjModule],
+    defined: &NameTable<Definition<'_>>,
+) -> Result<Communals, NoMemory>
+    ensures list { IfOk result (λ c. c.list
+        ≡ (let all = comdefs (link_with input.now modules.now) in
+        map (with_greatest all) (firsts same_name (filter (λ c. is_none (value_named c.0 defined.now)) all)))) }
+    ensures slots { IfOk result (λ c. c.slots ≡ slotted c.list) }
+{
+    let comdefs = comdefs_of(alloc, input, modules)?;
+    let undefined = undefined_of(alloc, defined, comdefs.as_slice())?;
+    communals_of(alloc, comdefs.as_slice(), undefined.as_slice())
+}
+
+/// What definitions give: what each name means by its first one, and the import pairs.
+#[derive(Drop)]
+pub struct Defined {
+    pub meanings: NameTable<Option<SymDef>>,
+    pub imports: Seq<Imp>,
+}
+
+// What these definitions give.
+fn defined_by(alloc: Global, found: &[Definition<'_>]) -> Result<Defined, NoMemory>
+    ensures imports { IfOk result (λ d. d.imports ≡ imports_among (map shown found.now)) }
+    ensures meanings { IfOk result (λ d. d.meanings
+        ≡ firsts same_name (map (rules.defined_by (imports_among (map shown found.now))) (map shown found.now))) }
+{
+    let imports = imports_of(alloc, found)?;
+    let meanings = defined_of(alloc, &imports, found)?;
+    Ok(Defined {
+        meanings,
+        imports: imports.list,
+    })
 }
 
 // The names by these definitions, the first of each name in a table.
@@ -44,22 +82,37 @@ fn names_by(
         ≡ (let all = comdefs (link_with input.now modules.now) in
         map (with_greatest all) (firsts same_name (filter (λ c. is_none (value_named c.0 first.now)) all)))) }
     ensures defined { IfOk result (λ n. n.globals.defined
-        ≡ firsts same_name (map (defined_by (imports_among (map shown found.now))) (map shown found.now))) }
+        ≡ firsts same_name (map (rules.defined_by (imports_among (map shown found.now))) (map shown found.now))) }
     ensures communal { IfOk result (λ n. n.globals.communal ≡ slotted n.commons) }
 {
-    let imports = imports_of(alloc, found)?;
-    let comdefs = comdefs_of(alloc, input, modules)?;
-    let undefined = undefined_of(alloc, first, comdefs.as_slice())?;
-    let communals = communals_of(alloc, comdefs.as_slice(), undefined.as_slice())?;
-    let defined = defined_of(alloc, &imports, found)?;
+    let communals = communals_beside(alloc, input, modules, first)?;
+    let defined = defined_by(alloc, found)?;
     Ok(GlobalNames {
         globals: Globals {
-            defined,
+            defined: defined.meanings,
             communal: communals.slots,
         },
         commons: communals.list,
-        imports: imports.list,
+        imports: defined.imports,
     })
+}
+
+// The names of a link of these modules, by its definitions.
+fn names_of(
+    alloc: Global,
+    input: &LinkInput,
+    modules: &[&ObjModule],
+    found: &[Definition<'_>],
+) -> Result<GlobalNames, Fail<SymRefusal>>
+    requires { map shown found.now ≡ definitions (link_with input.now modules.now) }
+    ensures { Answers result
+        (λ names. (twice (link_with input.now modules.now) ≡ None) × AreNamesOf (link_with input.now modules.now) names)
+        (λ refusal. twice (link_with input.now modules.now) ≡ Some refusal) }
+{
+    match first_definitions(alloc, found) {
+        Err(fail) => Err(fail),
+        Ok(first) => Ok(names_by(alloc, input, modules, found, &first)?),
+    }
 }
 
 /// What the names of a link of these modules mean that are not local. A second definition is `Twice`.
@@ -73,8 +126,5 @@ pub fn global_names_of(
         (λ refusal. twice (link_with input.now modules.now) ≡ Some refusal) }
 {
     let found = definitions_of(alloc, input, modules)?;
-    match first_definitions(alloc, found.as_slice()) {
-        Err(fail) => Err(fail),
-        Ok(first) => Ok(names_by(alloc, input, modules, found.as_slice(), &first)?),
-    }
+    names_of(alloc, input, modules, found.as_slice())
 }

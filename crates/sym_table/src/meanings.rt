@@ -12,7 +12,7 @@ ghost use Rattle.sym_table.specs.Firsts.{same_name};
 ghost use Rattle.sym_table.specs.ImportLists.{AreListed};
 ghost use Rattle.sym_table.specs.Definitions.{meaning_shown, shown, meaning_among};
 ghost use Rattle.link_model.specs.SymbolRefusals.{is_exportable};
-ghost use Rattle.sym_table.specs.Meanings.{defined_by, global_in, meaning_by, row_in, missing_row, missing_export_in};
+ghost use Rattle.sym_table.specs.Meanings.{defined_by, global_in, meaning_by, missing_by, row_in, missing_row, missing_export_in};
 
 use crate::definitions::{Definition, Meaning};
 use crate::imports::{Imports, slot_of};
@@ -135,6 +135,28 @@ fn missing(alloc: Global, name: &Name) -> Result<SymRefusal, NoMemory>
     })
 }
 
+// The meanings of these externals, where a table has the module's local publics.
+fn row_by(
+    alloc: Global,
+    globals: &Globals,
+    by: u32,
+    locals: &NameTable<PubPlace>,
+    externals: &[Ext],
+) -> Result<Seq<SymDef>, Fail<SymRefusal>>
+    ensures { Answers result
+        (λ row. map Some row ≡ map (meaning_by globals.now by locals.now) externals.now)
+        (λ refusal. missing_by (meaning_by globals.now by locals.now) externals.now ≡ Some refusal) }
+{
+    let mut row = Seq::new(alloc);
+    for external in externals {
+        match external_meaning(globals, by, locals, external) {
+            None => return Err(Fail::Said(missing(alloc, &external.name)?)),
+            Some(meaning) => row.push(meaning)?,
+        }
+    }
+    Ok(row)
+}
+
 /// The meanings of a module's externals; the first that means nothing is `Missing`.
 pub fn externals_of(
     alloc: Global,
@@ -147,14 +169,7 @@ pub fn externals_of(
         (λ refusal. missing_row globals.now by object.now ≡ Some refusal) }
 {
     let locals = locals_of(alloc, object.pubs.as_slice())?;
-    let mut row = Seq::new(alloc);
-    for external in object.exts.as_slice() {
-        match external_meaning(globals, by, &locals, external) {
-            None => return Err(Fail::Said(missing(alloc, &external.name)?)),
-            Some(meaning) => row.push(meaning)?,
-        }
-    }
-    Ok(row)
+    row_by(alloc, globals, by, &locals, object.exts.as_slice())
 }
 
 fn is_exportable(meaning: Option<SymDef>) -> bool
