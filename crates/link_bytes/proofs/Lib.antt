@@ -1,6 +1,7 @@
 pub mod ImageRows
 pub mod PatchValues
 pub mod AcceptedFixups
+pub mod BareFixups
 pub mod StartPlaces
 pub mod PagesMade
 pub mod LinkPages

@@ -42,7 +42,7 @@ filter_map-same {X} {Y} f g (x ∷ xs) same =
 
 -- ---- what holds of all fixups holds of the live ones
 
-abbrev Accepts : rules.Fixup → Type 0
+abbrev pub Accepts : rules.Fixup → Type 0
 Accepts r = (rules.fix_refusal r ≡ None) × (0 < location_len r.fix.loc)
 
 all_unmapped : (P : rules.Fixup → Type 0) (qs : List Fixup) → All P (map shown qs) → All (λ q. P (shown q)) qs
@@ -61,7 +61,7 @@ all_live P (q ∷ qs) all = all_live_by P q qs (list_any (overlap q) qs) (All-he
 accepts : (qs : List Fixup) → All IsAccepted qs → All Accepts (map shown qs)
 accepts qs all = All-map Accepts shown qs (All-weaker IsAccepted (λ q. Accepts (shown q)) (λ q a. (a.accepted, a.location)) qs all)
 
-accepted : (qs : List Fixup) → All Accepts (map shown qs) → All IsAccepted qs
+pub accepted : (qs : List Fixup) → All Accepts (map shown qs) → All IsAccepted qs
 accepted qs all = All-weaker (λ q. Accepts (shown q)) IsAccepted (λ q a. record { accepted = a.0; location = a.1 }) qs (all_unmapped Accepts qs all)
 
 pub live-accepted : (qs kept : List Fixup) → All IsAccepted qs → map shown kept ≡ live (map shown qs) → All IsAccepted kept

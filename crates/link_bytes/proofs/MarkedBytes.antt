@@ -70,17 +70,17 @@ where-overlap q r hq hr =
     let run : P (location_len q.fix.loc) = rw (← len) (where-run r.offset (fixup_end r) q.offset (location_len q.fix.loc - 1) (r.object == q.object) (omega (arith, hr))) in
     run ∙ ap (λ (b : Bool). b && nat_lt q.offset (fixup_end r) && nat_lt r.offset (fixup_end q)) (swapped r.object q.object)
 
-where-overlaps : (q : Fixup) (rs : List Fixup) → HasBytes q → All HasBytes rs → any_where (λ y. list_any (fixup_covers q.object y) (map shown rs)) q.offset (location_len q.fix.loc) ≡ list_any (overlap (shown q)) (map shown rs)
-where-overlaps q [] hq hrs = where-none q.offset (location_len q.fix.loc)
+where-overlaps : (q : Fixup) (rs : List Fixup) → HasBytes q → All HasBytes rs → any_where (λ y. list_any (fixup_covers q.object y) (map shown rs)) q.offset (location_len q.loc) ≡ list_any (overlap (shown q)) (map shown rs)
+where-overlaps q [] hq hrs = where-none q.offset (location_len q.loc)
 where-overlaps q (r ∷ rs) hq hrs =
-    where-or (λ y. fixup_covers q.object y (shown r)) (λ y. list_any (fixup_covers q.object y) (map shown rs)) q.offset (location_len q.fix.loc)
-    ∙ ap (λ (b : Bool). b || any_where (λ y. list_any (fixup_covers q.object y) (map shown rs)) q.offset (location_len q.fix.loc)) (where-overlap (shown q) (shown r) hq (All-head HasBytes r rs hrs))
+    where-or (λ y. fixup_covers q.object y (shown r)) (λ y. list_any (fixup_covers q.object y) (map shown rs)) q.offset (location_len q.loc)
+    ∙ ap (λ (b : Bool). b || any_where (λ y. list_any (fixup_covers q.object y) (map shown rs)) q.offset (location_len q.loc)) (where-overlap (shown q) (shown r) hq (All-head HasBytes r rs hrs))
     ∙ ap (λ (b : Bool). overlap (shown q) (shown r) || b) (where-overlaps q rs hq (All-tail HasBytes r rs hrs))
 
 -- A byte of a fixup has a mark exactly where one of the marked fixups shares a byte with it.
-pub marked-overlaps : (marks : Images) (q : Fixup) (rs : List Fixup) → AreMarked marks rs → HasBytes q → All HasBytes rs → any_mark (byte_of marks q.object) q.offset (location_len q.fix.loc) ≡ list_any (overlap (shown q)) (map shown rs)
+pub marked-overlaps : (marks : Images) (q : Fixup) (rs : List Fixup) → AreMarked marks rs → HasBytes q → All HasBytes rs → any_mark (byte_of marks q.object) q.offset (location_len q.loc) ≡ list_any (overlap (shown q)) (map shown rs)
 marked-overlaps marks q rs are hq hrs =
-    marks-test (byte_of marks q.object) (λ y. list_any (fixup_covers q.object y) (map shown rs)) (are q.object) q.offset (location_len q.fix.loc)
+    marks-test (byte_of marks q.object) (λ y. list_any (fixup_covers q.object y) (map shown rs)) (are q.object) q.offset (location_len q.loc)
     ∙ where-overlaps q rs hq hrs
 
 -- ---- one more fixup
@@ -95,9 +95,9 @@ in_run object offset n x len o e =
     let first : nat_le offset x ≡ true = (and_parts (o == n) (nat_le offset x) ((and_parts (o == n && nat_le offset x) (nat_lt x (offset + len)) e).0)).1 in
     grind (arith, nat_tests)
 
-pub mark-more : (old new : Images) (q : Fixup) (rs : List Fixup) → AreMarked old rs → ((n : ℕ) (x : ℕ) → byte_of new n x ≡ byte_after old q.object q.offset (replicate (location_len q.fix.loc) 1) n x) → AreMarked new (q ∷ rs)
+pub mark-more : (old new : Images) (q : Fixup) (rs : List Fixup) → AreMarked old rs → ((n : ℕ) (x : ℕ) → byte_of new n x ≡ byte_after old q.object q.offset (replicate (location_len q.loc) 1) n x) → AreMarked new (q ∷ rs)
 mark-more old new q rs are painted = λ n x.
-    let len : ℕ = location_len q.fix.loc in
+    let len : ℕ = location_len q.loc in
     painted n x
     ∙ ap (λ (k : ℕ). cond (is_painted q.object q.offset k n x) (slice_index (replicate len 1) (x - q.offset)) (byte_of old n x)) (length-replicate {A = ℕ} len 1)
     ∙ mark_by (is_painted q.object q.offset len n x) (list_any (fixup_covers n x) (map shown rs)) (slice_index (replicate len 1) (x - q.offset)) (byte_of old n x)
@@ -137,12 +137,12 @@ module _ (marks marked : Images) (qs now : List Fixup) (i first : ℕ) (q : Fixu
   front : drop i qs ≡ q ∷ drop (i + 1) qs
   front = drop_more qs i q here ∙ ap (λ r. r ∷ drop (i + 1) qs) (sym read)
 
-  overlaps : any_mark (byte_of marks q.object) q.offset (location_len q.fix.loc) ≡ list_any (overlap (shown q)) (map shown (drop (i + 1) qs))
+  overlaps : any_mark (byte_of marks q.object) q.offset (location_len q.loc) ≡ list_any (overlap (shown q)) (map shown (drop (i + 1) qs))
   overlaps =
       let bytes : All HasBytes (q ∷ drop (i + 1) qs) = subst (λ (ls : List Fixup). All HasBytes ls) front (All-drop HasBytes i qs all) in
       marked-overlaps marks q (drop (i + 1) qs) are (All-head HasBytes q (drop (i + 1) qs) bytes) (All-tail HasBytes q (drop (i + 1) qs) bytes)
 
-  live_now : (b : Bool) → any_mark (byte_of marks q.object) q.offset (location_len q.fix.loc) ≡ b → live (map shown (drop i qs)) ≡ cond b (live (map shown (drop (i + 1) qs))) (shown q ∷ live (map shown (drop (i + 1) qs)))
+  live_now : (b : Bool) → any_mark (byte_of marks q.object) q.offset (location_len q.loc) ≡ b → live (map shown (drop i qs)) ≡ cond b (live (map shown (drop (i + 1) qs))) (shown q ∷ live (map shown (drop (i + 1) qs)))
   live_now b e =
       ap (λ (ls : List Fixup). live (map shown ls)) front
       ∙ ap (λ (c : Bool). cond c (live (map shown (drop (i + 1) qs))) (shown q ∷ live (map shown (drop (i + 1) qs)))) (sym overlaps ∙ e)
@@ -150,7 +150,7 @@ module _ (marks marked : Images) (qs now : List Fixup) (i first : ℕ) (q : Fixu
   still : take i now ≡ take i qs
   still = sym (take-take i (i + 1) now (omega arith)) ∙ ap (take i) is.untouched ∙ take-take i (i + 1) qs (omega arith)
 
-  behind-more : (new : List Fixup) (after : ℕ) (b : Bool) → any_mark (byte_of marks q.object) q.offset (location_len q.fix.loc) ≡ b → after ≡ cond b first (first - 1) → new ≡ cond b now (set now (first - 1) q) → LiveBehind qs new i after
+  behind-more : (new : List Fixup) (after : ℕ) (b : Bool) → any_mark (byte_of marks q.object) q.offset (location_len q.loc) ≡ b → after ≡ cond b first (first - 1) → new ≡ cond b now (set now (first - 1) q) → LiveBehind qs new i after
   behind-more new after true e stays same =
       let before : i + 1 ≤ first = is.before in
       let within : first ≤ length qs = is.within in
@@ -176,15 +176,15 @@ module _ (marks marked : Images) (qs now : List Fixup) (i first : ℕ) (q : Fixu
             ∙ ap (λ ls. shown q ∷ ls) is.live_is ∙ sym (live_now false e);
       }
 
-  marked-more : ((n : ℕ) (x : ℕ) → byte_of marked n x ≡ byte_after marks q.object q.offset (replicate (location_len q.fix.loc) 1) n x) → AreMarked marked (drop i qs)
+  marked-more : ((n : ℕ) (x : ℕ) → byte_of marked n x ≡ byte_after marks q.object q.offset (replicate (location_len q.loc) 1) n x) → AreMarked marked (drop i qs)
   marked-more painted = subst (λ (ls : List Fixup). AreMarked marked ls) (sym front) (mark-more marks marked q (drop (i + 1) qs) are painted)
 
 -- One fixup more, by the number of those that are left.
 pub behind-step :
     (marks marked : Images) (qs now new : List Fixup) (left first after : ℕ) (d : Fixup) → 0 < left → All HasBytes qs → AreMarked marks (drop left qs) → LiveBehind qs now left first
-    → after ≡ cond (any_mark (byte_of marks (get_or now (left - 1) d).object) (get_or now (left - 1) d).offset (location_len (get_or now (left - 1) d).fix.loc)) first (first - 1)
-    → new ≡ cond (any_mark (byte_of marks (get_or now (left - 1) d).object) (get_or now (left - 1) d).offset (location_len (get_or now (left - 1) d).fix.loc)) now (set now (first - 1) (get_or now (left - 1) d))
-    → ((n : ℕ) (x : ℕ) → byte_of marked n x ≡ byte_after marks (get_or now (left - 1) d).object (get_or now (left - 1) d).offset (replicate (location_len (get_or now (left - 1) d).fix.loc) 1) n x)
+    → after ≡ cond (any_mark (byte_of marks (get_or now (left - 1) d).object) (get_or now (left - 1) d).offset (location_len (get_or now (left - 1) d).loc)) first (first - 1)
+    → new ≡ cond (any_mark (byte_of marks (get_or now (left - 1) d).object) (get_or now (left - 1) d).offset (location_len (get_or now (left - 1) d).loc)) now (set now (first - 1) (get_or now (left - 1) d))
+    → ((n : ℕ) (x : ℕ) → byte_of marked n x ≡ byte_after marks (get_or now (left - 1) d).object (get_or now (left - 1) d).offset (replicate (location_len (get_or now (left - 1) d).loc) 1) n x)
     → AreMarked marked (drop (left - 1) qs) × LiveBehind qs new (left - 1) after
 behind-step marks marked qs now new left first after d some all are is stays same painted =
     let i : ℕ = left - 1 in

@@ -75,11 +75,11 @@ field_by false v w o e = refl
 
 -- A field is painted.
 pub field-painted :
-    (old new : Images) (q : Fixup) (field : List ℕ) → ((l : Link) (k : ℕ) → k < location_len q.fix.loc → slice_index field k ≡ field_byte l (shown q) k) → location_len q.fix.loc ≤ length field
-    → ((n : ℕ) (x : ℕ) → byte_of new n x ≡ byte_after old q.object q.offset (take (location_len q.fix.loc) field) n x)
+    (old new : Images) (q : Fixup) (field : List ℕ) → ((l : Link) (k : ℕ) → k < location_len q.loc → slice_index field k ≡ field_byte l (shown q) k) → location_len q.loc ≤ length field
+    → ((n : ℕ) (x : ℕ) → byte_of new n x ≡ byte_after old q.object q.offset (take (location_len q.loc) field) n x)
     → (l : Link) (n : ℕ) (x : ℕ) → byte_of new n x ≡ cond (fixup_covers n x (shown q)) (field_byte l (shown q) (x - q.offset)) (byte_of old n x)
 field-painted old new q field value room painted = λ l n x.
-    let len : ℕ = location_len q.fix.loc in
+    let len : ℕ = location_len q.loc in
     painted n x
     ∙ ap (λ (k : ℕ). cond (is_painted q.object q.offset k n x) (slice_index (take len field) (x - q.offset)) (byte_of old n x)) (length-take-le len field room)
     ∙ field_by (is_painted q.object q.offset len n x) (slice_index (take len field) (x - q.offset)) (field_byte l (shown q) (x - q.offset)) (byte_of old n x)

@@ -1,4 +1,5 @@
 pub mod Shown
+pub mod Bare
 pub mod Images
 pub mod Values
 pub mod Standing

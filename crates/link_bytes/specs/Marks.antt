@@ -20,4 +20,4 @@ AreMarked marks qs =
 
 -- A location that there is.
 abbrev pub HasBytes : Fixup → Type 0
-HasBytes q = 0 < location_len q.fix.loc
+HasBytes q = 0 < location_len q.loc

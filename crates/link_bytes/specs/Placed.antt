@@ -14,6 +14,7 @@ use Rattle.link_bytes.specs.declared.fixup.Fixup.{Fixup}
 use Rattle.link_bytes.specs.declared.painting.PlacedPiece.{PlacedPiece}
 use Rattle.link_bytes.specs.declared.pages.Pages.{Pages}
 use Rattle.std.specs.List.{range_with_len, enumerate_from}
+use Rattle.link_bytes.specs.Bare.{bare}
 use Rattle.link_bytes.specs.Shown.{shown, piece_shown}
 use Rattle.link_bytes.specs.Pieces.{of_placed}
 use Rattle.link_bytes.specs.Values.{with_fields}
@@ -23,10 +24,10 @@ abbrev pub bytes_with : Link → List rules.Fixup → List mean.PlacedPiece → 
 bytes_with l live pieces objects =
     map (λ q. map (with_fields l live (of_placed pieces) q.0) (range_with_len 0 q.1.size)) (enumerate_from 1 objects)
 
--- These are the pieces, the fixups, the objects and the import pairs of a link.
+-- These are the pieces, what is left of the fixups, the objects and the import pairs of a link.
 pub record AreOfLink (l : Link) (pieces : List PlacedPiece) (fixups : List Fixup) (objects : List LaidObject) (imports : List Imp) : Type 0 where
   pub all_pieces : map piece_shown pieces ≡ mean.pieces l
-  pub all_fixups : map shown fixups ≡ rules.fixups l
+  pub all_fixups : map shown fixups ≡ map bare (rules.fixups l)
   pub all_objects : objects ≡ layout.objects l
   pub all_imports : imports ≡ symbols.imports l
 

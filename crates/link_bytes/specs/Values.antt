@@ -17,7 +17,7 @@ field_byte l q k = if is_patched q then slice_index (value_bytes l (linked_world
 -- A fixup that is not refused, on a location that there is.
 pub record IsAccepted (q : Fixup) : Type 0 where
   pub accepted : rules.fix_refusal (shown q) ≡ None
-  pub location : 0 < location_len q.fix.loc
+  pub location : 0 < location_len q.loc
 
 -- Byte x of an object: of the field of the first of these fixups that covers it, else what stood there.
 abbrev pub with_fields : Link → List rules.Fixup → (ℕ → ℕ → ℕ) → ℕ → ℕ → ℕ

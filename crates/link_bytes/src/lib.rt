@@ -14,10 +14,10 @@ mod start;
 mod tables;
 mod values;
 
-pub use fixup::{Fixup, Target};
+pub use fixup::{Fixup, PlacedFixup, Target};
 pub use images::Images;
 pub use marks::live_of;
-pub use pages::{Pages, first_refusal, have_bytes, place_pages};
+pub use pages::{Pages, place_pages};
 pub use paging::{PageFixes, object_fixes, page_fixes};
 pub use painting::{PlacedPiece, object_rows, paint_fields, placed_data};
 pub use refusal::refusal_of;

@@ -15,10 +15,10 @@ use std::alloc::Global;
 
 // Whether a byte of a fixup's field has a mark.
 fn is_marked(marks: &Images, q: &Fixup) -> bool
-    ensures { result ≡ any_mark (byte_of marks.now q.now.object) q.now.offset (len_of_location q.now.fix.loc) }
+    ensures { result ≡ any_mark (byte_of marks.now q.now.object) q.now.offset (len_of_location q.now.loc) }
 {
     let mut at = q.offset as usize;
-    let mut left = location_len(q.fix.loc);
+    let mut left = location_len(q.loc);
     'bytes: while 0 < left {
         if marks.byte(q.object, at) != 0 {
             return true;
@@ -32,10 +32,10 @@ fn is_marked(marks: &Images, q: &Fixup) -> bool
 // Marks the bytes of a fixup's field.
 fn mark(alloc: Global, marks: &mut Images, q: &Fixup) -> Result<(), NoMemory>
     ensures { OnOk result ((n : ℕ) (x : ℕ) → byte_of marks.new n x
-        ≡ byte_after marks.old q.now.object q.now.offset (replicate (len_of_location q.now.fix.loc) 1) n x) }
+        ≡ byte_after marks.old q.now.object q.now.offset (replicate (len_of_location q.now.loc) 1) n x) }
 {
     let ones = [1; 6];
-    let len = usize::from(location_len(q.fix.loc));
+    let len = usize::from(location_len(q.loc));
     marks.paint(alloc, q.object, q.offset as usize, &ones[..len])
 }
 
@@ -44,9 +44,9 @@ fn mark(alloc: Global, marks: &mut Images, q: &Fixup) -> Result<(), NoMemory>
 fn keep(fixups: &mut [Fixup], first: usize, marks: &Images, q: Fixup) -> usize
     requires some { 0 < first }
     requires within { first ≤ length fixups.old }
-    ensures first { result ≡ (if any_mark (byte_of marks.now q.object) q.offset (len_of_location q.fix.loc) then first else first - 1) }
+    ensures first { result ≡ (if any_mark (byte_of marks.now q.object) q.offset (len_of_location q.loc) then first else first - 1) }
     ensures fixups { fixups.new
-        ≡ (if any_mark (byte_of marks.now q.object) q.offset (len_of_location q.fix.loc) then fixups.old else set fixups.old (first - 1) q) }
+        ≡ (if any_mark (byte_of marks.now q.object) q.offset (len_of_location q.loc) then fixups.old else set fixups.old (first - 1) q) }
 {
     if is_marked(marks, &q) {
         return first;

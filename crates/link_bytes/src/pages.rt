@@ -1,11 +1,8 @@
 //! The pages of a link before the loader, from its pieces and fixups at their places.
 
-ghost use Rattle.std.specs.Prelude.{◌≡◌, ℕ, IfOk, All, List, Some, None, IsTrue, ◌↔◌, map, filter, not};
-ghost use Rattle.lx_types.specs.Answers.{Answers};
+ghost use Rattle.std.specs.Prelude.{◌≡◌, ℕ, IfOk, All, List, map, filter, not};
 ghost use Rattle.link_bytes.specs.Marks.{HasBytes};
 ghost use Rattle.link_model.specs.Link.{Link};
-ghost use Rattle.link_model.specs.Words.{first_of};
-ghost use Rattle.link_model.specs.Fixups as rules;
 ghost use Rattle.link_model.specs.Patches as patches;
 ghost use Rattle.link_bytes.specs.Shown.{shown, piece_shown};
 ghost use Rattle.link_bytes.specs.Values.{IsAccepted};
@@ -18,12 +15,11 @@ use crate::fixup::Fixup;
 use crate::marks::live_of;
 use crate::paging::{PageFixes, object_fixes, page_fixes};
 use crate::painting::{PlacedPiece, object_rows, paint_fields, placed_data};
-use crate::refusal::refusal_of;
 use crate::tables::{ImportTables, tables_of};
 use crate::values::is_patched;
-use link_model::{FixRefusal, LaidObject};
-use lx_types::{Bytes, Fail, Fix, Names, NoMemory, Seq};
-use obj_types::{Imp, location_len};
+use link_model::LaidObject;
+use lx_types::{Bytes, Fix, Names, NoMemory, Seq};
+use obj_types::Imp;
 use std::alloc::Global;
 
 /// What a link puts into its module's pages, and what it leaves to the loader.
@@ -37,18 +33,6 @@ pub struct Pages {
     pub imports: Names,
     /// The names of procedures that fixups name.
     pub procs: Names,
-}
-
-/// The first refusal of these fixups.
-pub fn first_refusal(fixups: &[Fixup]) -> Option<FixRefusal>
-    ensures { result ≡ first_of (map rules.fix_refusal (map shown fixups.now)) }
-{
-    for q in fixups {
-        if let Some(refusal) = refusal_of(q) {
-            return Some(refusal);
-        }
-    }
-    None
 }
 
 // Leaves the fixups that get records.
@@ -100,8 +84,8 @@ fn records_of(
     Ok((pages, tables))
 }
 
-// The pages of a link whose fixups are not refused.
-fn pages_of(
+/// The pages of a link whose fixups are not refused. It gives the memory of the fixups back as soon as it can.
+pub fn place_pages(
     alloc: Global,
     pieces: &[PlacedPiece],
     fixups: Vec<Fixup>,
@@ -123,36 +107,4 @@ fn pages_of(
         imports,
         procs,
     })
-}
-
-/// Whether each fixup stands on a location that there is.
-pub fn have_bytes(fixups: &[Fixup]) -> bool
-    ensures { IsTrue result ↔ All HasBytes fixups.now }
-{
-    for q in fixups {
-        if location_len(q.fix.loc) == 0 {
-            return false;
-        }
-    }
-    true
-}
-
-/// The pages of a link, or the first refusal of its fixups. It gives the memory of the fixups back as soon as it can.
-pub fn place_pages(
-    alloc: Global,
-    pieces: &[PlacedPiece],
-    fixups: Vec<Fixup>,
-    objects: &[LaidObject],
-    imports: &[Imp],
-) -> Result<Pages, Fail<FixRefusal>>
-    requires { All HasBytes fixups.items }
-    ensures { Answers result
-        (λ pages. (first_of (map rules.fix_refusal (map shown fixups.items)) ≡ None)
-        × ((l : Link) → AreOfLink l pieces.now fixups.items objects.now imports.now → ArePages l pages))
-        (λ refusal. first_of (map rules.fix_refusal (map shown fixups.items)) ≡ Some refusal) }
-{
-    match first_refusal(fixups.as_slice()) {
-        Some(refusal) => Err(Fail::Said(refusal)),
-        None => Ok(pages_of(alloc, pieces, fixups, objects, imports)?),
-    }
 }

@@ -31,13 +31,13 @@ pub struct PageFixes {
 fn source_of(q: &Fixup) -> Source
     ensures { result ≡ records.source_of (shown q.now) }
 {
-    match q.fix.loc {
+    match q.loc {
         LOCATION_BYTE => Source::Byte,
         LOCATION_OFFSET_16 | LOCATION_LOADER_16 => Source::Off16,
         LOCATION_SELECTOR => Source::Sel,
         LOCATION_FAR_16 => Source::Far16,
         LOCATION_FAR_32 => Source::Far32,
-        _ if q.fix.selfrel => Source::Self32,
+        _ if q.selfrel => Source::Self32,
         _ => Source::Off32,
     }
 }
@@ -46,7 +46,7 @@ fn source_of(q: &Fixup) -> Source
 fn has_alias(q: &Fixup) -> bool
     ensures { result ≡ records.has_alias (shown q.now) }
 {
-    q.fix.loc == LOCATION_FAR_16 || q.fix.loc == LOCATION_SELECTOR && q.narrow
+    q.loc == LOCATION_FAR_16 || q.loc == LOCATION_SELECTOR && q.narrow
 }
 
 fn sum(a: u32, b: u32) -> u32
@@ -60,8 +60,8 @@ fn sum(a: u32, b: u32) -> u32
 fn internal_target(q: &Fixup, object: u32, offset: u32) -> (FixTarget, u32)
     ensures { Some result ≡ target_among [] [] (shown q.now) (Internal object offset) }
 {
-    let at = sum(offset, q.fix.disp);
-    if q.fix.loc == LOCATION_SELECTOR {
+    let at = sum(offset, q.disp);
+    if q.loc == LOCATION_SELECTOR {
         let additive = if 0x1_0000 <= at { at } else { 0 };
         (FixTarget::Internal { object, offset: 0 }, additive)
     } else {
@@ -84,7 +84,7 @@ fn entry_target(
         None => Ok(None),
         Some(pair) => match tables.target_of(alloc, pair)? {
             None => Ok(None),
-            Some(target) => Ok(Some((target, sum(q.fix.disp, q.standing)))),
+            Some(target) => Ok(Some((target, sum(q.disp, q.standing)))),
         },
     }
 }
@@ -202,12 +202,12 @@ fn add_records(
     q: &Fixup,
     target: (FixTarget, u32),
 ) -> Result<(), NoMemory>
-    requires { 0 < len_of_location q.now.fix.loc }
+    requires { 0 < len_of_location q.now.loc }
     ensures { OnOk result ((n : ℕ) (k : ℕ) → fixes_of pages.new n k
         ≡ fixes_of pages.old n k ++ (if records.stands_on n k (shown q.now) then record_with k (shown q.now) target ∷ [] else [])) }
 {
     let first = q.offset / PAGE_SIZE;
-    let end = u64::from(q.offset) + u64::from(location_len(q.fix.loc));
+    let end = u64::from(q.offset) + u64::from(location_len(q.loc));
     let last = ((end - 1) / u64::from(PAGE_SIZE)) as u32;
     pages.push(alloc, q.object, first, record_at(q, first, target))?;
     if first < last {
@@ -224,7 +224,7 @@ fn add_fixup(
     tables: &ImportTables,
     q: &Fixup,
 ) -> Result<(), NoMemory>
-    requires { 0 < len_of_location q.now.fix.loc }
+    requires { 0 < len_of_location q.now.loc }
     ensures { OnOk result ((pairs : List Imp) → ArePairs tables.now pairs → (n : ℕ) (k : ℕ) → fixes_of pages.new n k
         ≡ fixes_of pages.old n k ++ (if records.stands_on n k (shown q.now) then option_to_list (record_among imports.now pairs k (shown q.now)) else [])) }
 {

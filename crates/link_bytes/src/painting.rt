@@ -45,7 +45,7 @@ fn paint_field(alloc: Global, rows: &mut Images, q: &Fixup) -> Result<(), NoMemo
         ≡ (if fixup_covers n x (shown q.now) then field_byte l (shown q.now) (x - q.now.offset) else byte_of rows.old n x)) }
 {
     let field = field_of(q);
-    let len = usize::from(location_len(q.fix.loc));
+    let len = usize::from(location_len(q.loc));
     rows.paint(alloc, q.object, q.offset as usize, &field[..len])?;
     Ok(())
 }

@@ -4,9 +4,9 @@ ghost use Rattle.std.specs.Prelude.{◌≡◌, ◌<◌, ◌^◌, ◌==◌, not};
 ghost use Rattle.link_model.specs.Goals as goals;
 ghost use Rattle.link_model.specs.Words.{difference as difference_of, option_any};
 ghost use Rattle.link_model.specs.Fixups as rules;
-ghost use Rattle.link_bytes.specs.Shown.{shown, target_shown};
+ghost use Rattle.link_bytes.specs.Shown.{placed_shown, target_shown};
 
-use crate::fixup::{Fixup, Target};
+use crate::fixup::{PlacedFixup, Target};
 use crate::location::is_short;
 use link_model::FixRefusal;
 use obj_types::{LOCATION_BYTE, LOCATION_LOADER_32, LOCATION_OFFSET_32, has_selector};
@@ -42,19 +42,19 @@ fn object_of_target(target: Target) -> Option<u32>
     }
 }
 
-/// Whether a fixup's target is in the object of its location.
-pub fn stays_in_object(q: &Fixup) -> bool
-    ensures { result ≡ rules.stays_in_object (shown q.now) }
+/// Whether a target is in an object, as that of a fixup's location.
+pub fn is_in(target: Target, object: u32) -> bool
+    ensures { result ≡ option_any (λ o. o == object) (goals.object_of_target (target_shown target)) }
 {
-    match object_of_target(q.target) {
-        Some(object) => object == q.object,
+    match object_of_target(target) {
+        Some(of_target) => of_target == object,
         None => false,
     }
 }
 
 // How far it is from the byte after the location to the target, modulo 2^32.
-fn distance(q: &Fixup) -> u32
-    ensures { result ≡ rules.distance (shown q.now) (target_shown q.now.target) }
+fn distance(q: &PlacedFixup) -> u32
+    ensures { result ≡ rules.distance (placed_shown q.now) (target_shown q.now.target) }
 {
     match q.target {
         Target::Internal { object: _, offset } => difference(
@@ -72,12 +72,12 @@ fn is_past_reach(distance: u32) -> bool
     127 < distance && distance < 0xFFFF_FF80
 }
 
-fn is_far_self(q: &Fixup) -> bool
-    ensures { result ≡ rules.is_far_self (shown q.now) }
+fn is_far_self(q: &PlacedFixup) -> bool
+    ensures { result ≡ rules.is_far_self (placed_shown q.now) }
 {
     q.fix.selfrel
         && (is_constant(q.target)
-            || is_short(q.fix.loc) && !stays_in_object(q)
+            || is_short(q.fix.loc) && !is_in(q.target, q.object)
             || q.fix.loc == LOCATION_BYTE && is_past_reach(distance(q)))
 }
 
@@ -91,16 +91,16 @@ fn are_apart(frame: Option<u32>, object: Option<u32>) -> bool
     }
 }
 
-fn is_frame_apart(q: &Fixup) -> bool
-    ensures { result ≡ rules.is_frame_apart (shown q.now) }
+fn is_frame_apart(q: &PlacedFixup) -> bool
+    ensures { result ≡ rules.is_frame_apart (placed_shown q.now) }
 {
     !q.fix.selfrel
         && !(q.fix.loc == LOCATION_OFFSET_32 || q.fix.loc == LOCATION_LOADER_32)
         && are_apart(q.frame, object_of_target(q.target))
 }
 
-fn is_const_selector(q: &Fixup) -> bool
-    ensures { result ≡ rules.is_const_selector (shown q.now) }
+fn is_const_selector(q: &PlacedFixup) -> bool
+    ensures { result ≡ rules.is_const_selector (placed_shown q.now) }
 {
     has_selector(q.fix.loc) && is_constant(q.target)
 }
@@ -109,8 +109,8 @@ fn is_const_selector(q: &Fixup) -> bool
 /// `FrameApart` where the frame names another object than the target's, `ConstSelector` for the selector of a number
 /// ("9Ch FIXUPP").
 #[tactic(auto, unfolding(link_model::specs::Fixups::fix_refusal))]
-pub fn refusal_of(q: &Fixup) -> Option<FixRefusal>
-    ensures { result ≡ rules.fix_refusal (shown q.now) }
+pub fn refusal_of(q: &PlacedFixup) -> Option<FixRefusal>
+    ensures { result ≡ rules.fix_refusal (placed_shown q.now) }
 {
     let (module, seg, offset) = (q.by, q.fix.seg, q.fix.offset);
     if is_far_self(q) {

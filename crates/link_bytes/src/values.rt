@@ -12,25 +12,25 @@ ghost use Rattle.link_bytes.specs.Shown.{shown};
 ghost use Rattle.link_bytes.specs.Values.{field_byte};
 
 use crate::fixup::{Fixup, Target};
-use crate::refusal::{difference, is_constant, stays_in_object};
+use crate::refusal::{difference, is_constant, is_in};
 use obj_types::location_len;
 
 /// Whether the value of a fixup is the same at all bases: a constant, or the distance within one object.
 pub fn is_patched(q: &Fixup) -> bool
     ensures { result ≡ patched (shown q.now) }
 {
-    is_constant(q.target) || q.fix.selfrel && stays_in_object(q)
+    is_constant(q.target) || q.selfrel && is_in(q.target, q.object)
 }
 
 // The value of a fixup that no base changes.
 fn patch(q: &Fixup) -> u32
     requires patched { IsTrue (patched (shown q.now)) }
     requires accepted { fix_refusal (shown q.now) ≡ None }
-    requires location { 0 < len_of_location q.now.fix.loc }
-    ensures { (l : Link) → value_bytes l (linked_world l) (shown q.now) ≡ little_bytes (len_of_location q.now.fix.loc) result }
+    requires location { 0 < len_of_location q.now.loc }
+    ensures { (l : Link) → value_bytes l (linked_world l) (shown q.now) ≡ little_bytes (len_of_location q.now.loc) result }
 {
-    let added = u64::from(q.fix.disp) + u64::from(q.standing);
-    let past = u64::from(q.offset) + u64::from(location_len(q.fix.loc));
+    let added = u64::from(q.disp) + u64::from(q.standing);
+    let past = u64::from(q.offset) + u64::from(location_len(q.loc));
     match q.target {
         Target::Internal { object: _, offset } => difference(u64::from(offset) + added, past),
         Target::Constant { value } => ((u64::from(value) + added) % 0x1_0000_0000) as u32,
@@ -56,8 +56,8 @@ fn bytes_of(n: u32) -> [u8; 6]
 /// changes it, and zeros where the loader gets a record.
 pub fn field_of(q: &Fixup) -> [u8; 6]
     requires accepted { fix_refusal (shown q.now) ≡ None }
-    requires location { 0 < len_of_location q.now.fix.loc }
-    ensures { (l : Link) (k : ℕ) → k < len_of_location q.now.fix.loc → slice_index result k ≡ field_byte l (shown q.now) k }
+    requires location { 0 < len_of_location q.now.loc }
+    ensures { (l : Link) (k : ℕ) → k < len_of_location q.now.loc → slice_index result k ≡ field_byte l (shown q.now) k }
 {
     if is_patched(q) {
         bytes_of(patch(q))

@@ -6,7 +6,7 @@ use Rattle.link_bytes.proofs.marks.is_marked.Given as goal
 
 abbrev pub invariant-bytes : goal.invariant-bytes
 invariant-bytes l = record {
-  same : any_mark (byte_of l.marks l.q.object) l.at l.left ≡ any_mark (byte_of l.marks l.q.object) l.q.offset (location_len l.q.fix.loc);
+  same : any_mark (byte_of l.marks l.q.object) l.at l.left ≡ any_mark (byte_of l.marks l.q.object) l.q.offset (location_len l.q.loc);
   place : l.at + l.left < 2 ^ 33;
 }
 
