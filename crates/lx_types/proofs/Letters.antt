@@ -1,12 +1,10 @@
 -- Names agree in upper case exactly where they agree in lower case.
 use Rattle.std.proofs.Common.{◌≡◌, ℕ, List, [], ◌∷◌, map, arith, ap, sym, ◌∙◌, refl}
 use Rattle.std.specs.Char.{to_ascii_uppercase, to_ascii_lowercase}
+use Rattle.std.proofs.lemmas.Str.Ascii.{lowercase-uppercase}
 
 upper-of-lower : (c : ℕ) → to_ascii_uppercase (to_ascii_lowercase c) ≡ to_ascii_uppercase c
 upper-of-lower c = grind arith
-
-lower-of-upper : (c : ℕ) → to_ascii_lowercase (to_ascii_uppercase c) ≡ to_ascii_lowercase c
-lower-of-upper c = grind arith
 
 upper-lower : (xs : List ℕ) → map to_ascii_uppercase (map to_ascii_lowercase xs) ≡ map to_ascii_uppercase xs
 upper-lower [] = refl
@@ -14,7 +12,7 @@ upper-lower (x ∷ xs) = rw (upper-of-lower x, upper-lower xs) refl
 
 lower-upper : (xs : List ℕ) → map to_ascii_lowercase (map to_ascii_uppercase xs) ≡ map to_ascii_lowercase xs
 lower-upper [] = refl
-lower-upper (x ∷ xs) = rw (lower-of-upper x, lower-upper xs) refl
+lower-upper (x ∷ xs) = rw (lowercase-uppercase x, lower-upper xs) refl
 
 pub upper-from-lower : (xs ys : List ℕ) → map to_ascii_lowercase xs ≡ map to_ascii_lowercase ys → map to_ascii_uppercase xs ≡ map to_ascii_uppercase ys
 upper-from-lower xs ys same = sym (upper-lower xs) ∙ ap (map to_ascii_uppercase) same ∙ upper-lower ys

@@ -2,7 +2,7 @@
 use Rattle.std.proofs.Common.{◌≡◌, ℕ, zero, suc, ◌+◌, ◌<◌, ◌≤◌, Bool, true, false, cond, eqb, List, [], ◌∷◌, length, get_or, Option, Some, None, refl, subst, ap, ◌∙◌, arith, inl, inr}
 use Rattle.std.specs.Prelude.{AllPairs, find, option_map}
 use Rattle.std.proofs.lemmas.List.{get_or_default}
-use Rattle.std.proofs.lemmas.Bool.{cases_lt}
+use Rattle.std.proofs.lemmas.Bool.{cases_lt, eq-eqb}
 use Rattle.std.proofs.lemmas.Bool.Decides.{nat_tests}
 use Rattle.lx_types.specs.declared.entry.EntryHead.{EntryHead}
 use Rattle.lx_types.specs.Parts.{entry_of}
@@ -25,10 +25,7 @@ first_is e es ordinal is = ap (λ (b : Bool). entry_if b e es ordinal) is
 first_is_not : (e : Entry) (es : List Entry) (ordinal : ℕ) → eqb e.0 ordinal ≡ false → entry_of (e ∷ es) ordinal ≡ entry_of es ordinal
 first_is_not e es ordinal is = ap (λ (b : Bool). entry_if b e es ordinal) is
 
-same : (m n : ℕ) → m ≡ n → eqb m n ≡ true
-same m n h = grind (arith, nat_tests)
-
-above : (m n : ℕ) → n < m → eqb m n ≡ false
+pub above : (m n : ℕ) → n < m → eqb m n ≡ false
 above m n h = grind (arith, nat_tests)
 
 below : (m n : ℕ) → m < n → eqb m n ≡ false
@@ -36,7 +33,7 @@ below m n h = grind (arith, nat_tests)
 
 pub entry_found : (es : List Entry) (ordinal k : ℕ) (d : Entry) → Rising es → k < length es → (get_or es k d).0 ≡ ordinal → entry_of es ordinal ≡ Some (get_or es k d).1
 entry_found [] ordinal k d rising lt is = absurd (omega arith)
-entry_found (e ∷ es) ordinal zero d rising lt is = first_is e es ordinal (same e.0 ordinal is)
+entry_found (e ∷ es) ordinal zero d rising lt is = first_is e es ordinal (eq-eqb e.0 ordinal is)
 entry_found (e ∷ es) ordinal (suc k) d rising lt is =
     let less : e.0 < (get_or es k d).0 = rising 0 (suc k) d (omega arith) lt in
     first_is_not e es ordinal (below e.0 ordinal (omega arith)) ∙ entry_found es ordinal k d (Rising-tail e es rising) (omega arith) is
