@@ -5,14 +5,13 @@ use Rattle.std.specs.Option.{option_map_or}
 use Rattle.std.specs.Bool.{Decides}
 use Rattle.std.specs.Cmp.{IsEquivalence}
 use Rattle.std.proofs.lemmas.Cmp.{and_equiv, nat_eq_equiv, on_equiv}
-use Rattle.std.proofs.lemmas.Bool.{eqb-true, eq-eqb}
+use Rattle.std.proofs.lemmas.Bool.{eqb-true, eq-eqb, and_from, and_parts, cases_Bool}
 use Rattle.indexmap.specs.IndexMap.{Updates, get}
 use Rattle.byte_marks.specs.declared.page.Page.{Page}
 use Rattle.byte_marks.specs.declared.marks.PageAt.{PageAt}
 use Rattle.byte_marks.specs.declared.marks.ByteMarks.{ByteMarks}
 use Rattle.byte_marks.specs.Bits.{is_from, is_set}
 use Rattle.byte_marks.specs.Marks.{HasPage, is_marked, is_page, page_of}
-use Rattle.byte_marks.proofs.Tests.{both, true_both, bool_cases}
 
 -- ---- keys
 
@@ -21,13 +20,13 @@ same-page a b = (there, back)
   where
     there : is_page a b ≡ true → a ≡ b
     there e =
-        let h = both _ _ e in
+        let h = and_parts _ _ e in
         let row : a.row ≡ b.row = eqb-true _ _ h.0 in
         let page : a.page ≡ b.page = eqb-true _ _ h.1 in
         λ i. record { row = row i; page = page i }
 
     back : a ≡ b → is_page a b ≡ true
-    back e = true_both _ _ (eq-eqb _ _ (ap (λ (k : PageAt). k.row) e)) (eq-eqb _ _ (ap (λ (k : PageAt). k.page) e))
+    back e = and_from _ _ (eq-eqb _ _ (ap (λ (k : PageAt). k.row) e)) (eq-eqb _ _ (ap (λ (k : PageAt). k.page) e))
 
 pub pages-equiv : IsEquivalence is_page
 pages-equiv = and_equiv (on_equiv (λ (p : PageAt). p.row) nat_eq_equiv) (on_equiv (λ (p : PageAt). p.page) nat_eq_equiv)
@@ -47,7 +46,7 @@ pub page-added : (m n : ByteMarks) (at : PageAt) (new : Page) → Updates is_pag
     → (row x : ℕ) → is_marked n row x ≡ is_marked m row x
 page-added m n at new updates none empty row x =
     let q = page_of row x in
-    elim (bool_cases (is_page at q)) [
+    elim (cases_Bool (is_page at q)) [
       | inl here ↦
           let same : at ≡ q = (same-page at q).0 here in
           let before : get is_page m.pages q ≡ None = ap (get is_page m.pages) (sym same) ∙ none in
@@ -60,7 +59,7 @@ page-added m n at new updates none empty row x =
 
 pub page-stays : (m n : ByteMarks) (at : PageAt) (new : Page) → Updates is_page m.pages n.pages at (Some new) → (other : PageAt) → HasPage m other → HasPage n other
 page-stays m n at new updates other has =
-    elim (bool_cases (is_page at other)) [
+    elim (cases_Bool (is_page at other)) [
       | inl here ↦ subst IsSome (sym (updates.0 other ∙ ap (λ (b : Bool). cond b (Some new) (get is_page m.pages other)) here)) refl
       | inr apart ↦ subst IsSome (sym (updates.0 other ∙ ap (λ (b : Bool). cond b (Some new) (get is_page m.pages other)) apart)) has
     ]
@@ -71,7 +70,7 @@ pub page-marked : (m n : ByteMarks) (at : PageAt) (old new : Page) (from past : 
     → (row x : ℕ) → is_marked n row x ≡ (is_marked m row x || (row == at.row && x / 4096 == at.page && is_from from past (x % 4096)))
 page-marked m n at old new from past updates there marked row x =
     let q = page_of row x in
-    elim (bool_cases (is_page at q)) [
+    elim (cases_Bool (is_page at q)) [
       | inl here ↦
           let same : at ≡ q = (same-page at q).0 here in
           let before : get is_page m.pages q ≡ Some old = ap (get is_page m.pages) (sym same) ∙ there in
@@ -88,7 +87,7 @@ page-marked m n at old new from past updates there marked row x =
   where
     none-turned : (q : PageAt) → is_page at q ≡ false → is_page q at ≡ false
     none-turned q apart =
-        elim (bool_cases (is_page q at)) [
+        elim (cases_Bool (is_page q at)) [
           | inl e ↦ absurd (true≢false (sym ((same-page at q).1 (sym ((same-page q at).0 e))) ∙ apart))
           | inr e ↦ e
         ]

@@ -1,40 +1,19 @@
 -- Runs of numbers that pass a test, and their parts.
-use Rattle.std.proofs.Common.{◌≡◌, ℕ, ◌+◌, ◌-◌, ◌*◌, ◌/◌, ◌%◌, ◌<◌, ◌≤◌, Bool, true, false, refl, sym, ap, ◌∙◌, arith, inl, inr, true≢false}
-use Rattle.std.specs.Prelude.{◌||◌, ◌&&◌, ◌==◌, ◌⊎◌}
-use Rattle.std.proofs.lemmas.Bool.{leb-true, le-leb, ltb-true, lt-ltb}
+use Rattle.std.proofs.Common.{◌≡◌, ℕ, ◌+◌, ◌-◌, ◌*◌, ◌/◌, ◌%◌, ◌<◌, ◌≤◌, Bool, true, false, sym, ap, ◌∙◌, arith, inl, inr, true≢false}
+use Rattle.std.specs.Prelude.{◌||◌, ◌&&◌, ◌==◌}
+use Rattle.std.proofs.lemmas.Bool.{leb-true, le-leb, ltb-true, lt-ltb, and_from, and_parts, cases_Bool}
 use Rattle.std.proofs.lemmas.Bool.Decides.{nat_tests, leb_tells}
 use Rattle.byte_marks.specs.Bits.{HasBit, is_from}
 
 -- ---- tests
 
-pub bool_cases : (b : Bool) → (b ≡ true) ⊎ (b ≡ false)
-bool_cases true = inl refl
-bool_cases false = inr refl
-
-pub alike : (a b : Bool) → (a ≡ true → b ≡ true) → (b ≡ true → a ≡ true) → a ≡ b
-alike true b f g = sym (f refl)
-alike false true f g = g refl
-alike false false f g = refl
-
-pub both : (a b : Bool) → (a && b) ≡ true → (a ≡ true) × (b ≡ true)
-both true b e = (refl, e)
-both false b e = absurd cc
-
-pub true_both : (a b : Bool) → a ≡ true → b ≡ true → (a && b) ≡ true
-true_both true b p q = q
-true_both false b p q = absurd cc
-
-pub or_regroup : (a b c : Bool) → ((a || b) || c) ≡ (a || (b || c))
-or_regroup true b c = refl
-or_regroup false b c = refl
-
 -- ---- numbers from one up to another
 
 pub among : (from past i : ℕ) → is_from from past i ≡ true → (from ≤ i) × (i < past)
-among from past i e = let h = both _ _ e in (leb-true _ _ h.0, ltb-true _ _ h.1)
+among from past i e = let h = and_parts _ _ e in (leb-true _ _ h.0, ltb-true _ _ h.1)
 
 pub is_among : (from past i : ℕ) → from ≤ i → i < past → is_from from past i ≡ true
-is_among from past i p q = true_both _ _ (le-leb _ _ p) (lt-ltb _ _ q)
+is_among from past i p q = and_from _ _ (le-leb _ _ p) (lt-ltb _ _ q)
 
 -- a run and the part behind it that lies in one block
 pub run-of_words : (from at end x : ℕ) → from ≤ at → at ≤ end → end ≤ at / 64 * 64 + 64
@@ -71,7 +50,7 @@ part-has test first from past at end p q r has =
 
 pub part-none : (test : ℕ → Bool) (first at end : ℕ) → first ≤ at → (HasBit (λ i. test (first + i)) (at - first) (end - first) → ⊥) → NoneBetween test at end
 part-none test first at end p none x least below =
-    elim (bool_cases (test x)) [
+    elim (cases_Bool (test x)) [
       | inl passes ↦
           let place : first + (x - first) ≡ x = omega arith in
           absurd (none (record { place = x - first; least = omega arith; below = omega arith; passes = ap test place ∙ passes }))

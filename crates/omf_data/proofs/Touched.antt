@@ -2,16 +2,18 @@
 use Rattle.std.proofs.Common.{◌≡◌, ℕ, suc, ◌+◌, ◌<◌, ◌≤◌, Bool, true, false, List, [], ◌∷◌, refl, sym, ap, ◌∙◌, arith, inl, inr, max}
 use Rattle.std.specs.Prelude.{take, length, get_or, ◌&&◌, ◌||◌, ◌==◌, nat_le, nat_lt, IsTrue, ◌↔◌}
 use Rattle.std.specs.List.{list_any}
-use Rattle.std.proofs.lemmas.Bool.{ltb-true, lt-ltb, leb-true, le-leb}
+use Rattle.std.proofs.lemmas.Bool.{ltb-true, lt-ltb, leb-true, le-leb, or_left, or_right, and_from}
 use Rattle.std.proofs.lemmas.Bool.Decides.{eqb_tells, nat_tests}
 use Rattle.std.proofs.lemmas.List.Folds.{list_any-append}
 use Rattle.std.proofs.Math.Seq.{take-length, take-suc}
+use Rattle.std.proofs.Math.Bool.{or-false}
+use Rattle.lx_types.proofs.Bools.{same_test}
 use Rattle.obj_types.specs.declared.object.FixAt.{FixAt}
 use Rattle.obj_types.specs.declared.parts.ObjParts.{ObjParts}
 use Rattle.obj_types.specs.Location.{end_of, location_len}
 use Rattle.omf_model.specs.Fixups.{touches}
 use Rattle.omf_model.proofs.DataLaws.{bool_cases}
-use Rattle.omf_model.proofs.FixLaws.{true_and, and_true}
+use Rattle.omf_model.proofs.FixLaws.{and_true}
 use Rattle.byte_marks.specs.Bits.{HasBit}
 use Rattle.byte_marks.specs.Marks.{is_marked}
 use Rattle.omf_data.specs.declared.marks.Marks.{Marks}
@@ -19,41 +21,24 @@ use Rattle.omf_data.specs.Marks.{HaveAll, HaveFixes, KeepsLocations, SeesLocatio
 
 -- ---- lists
 
-or-right : (a b : Bool) → b ≡ true → (a || b) ≡ true
-or-right true b e = refl
-or-right false b e = e
-
-or-left : (a b : Bool) → a ≡ true → (a || b) ≡ true
-or-left true b e = refl
-or-left false b e = absurd cc
-
-or-none : (a : Bool) → (a || false) ≡ a
-or-none true = refl
-or-none false = refl
-
 -- what passes a test, and that it would pass others
 found : {A : Type 0} (p : A → Bool) (xs : List A) → list_any p xs ≡ true → (x : A) × (p x ≡ true) × ((q : A → Bool) → q x ≡ true → list_any q xs ≡ true)
 found p [] e = absurd cc
 found {A} p (x ∷ xs) e =
     elim (bool_cases (p x)) [
-      | inl passed ↦ (x, passed, λ q h. or-left (q x) (list_any q xs) h)
+      | inl passed ↦ (x, passed, λ q h. or_left (q x) (list_any q xs) h)
       | inr failed ↦
           let rest : list_any p xs ≡ true = sym (ap (λ (b : Bool). b || list_any p xs) failed) ∙ e in
           let w = found p xs rest in
-          (w.0, w.1, λ q h. or-right (q x) (list_any q xs) (w.2 q h))
+          (w.0, w.1, λ q h. or_right (q x) (list_any q xs) (w.2 q h))
     ]
-
-alike : (a b : Bool) → (a ≡ true → b ≡ true) → (b ≡ true → a ≡ true) → a ≡ b
-alike true b f g = sym (f refl)
-alike false true f g = g refl
-alike false false f g = refl
 
 -- one more of the first ones
 pub any-more : (p : FixAt → Bool) (fixes : List FixAt) (n : ℕ) (d : FixAt) → n < length fixes → list_any p (take (n + 1) fixes) ≡ (list_any p (take n fixes) || p (get_or fixes n d))
 any-more p fixes n d more =
     let count : n + 1 ≡ suc n = omega arith in
     ap (λ (i : ℕ). list_any p (take i fixes)) count ∙ ap (list_any p) (take-suc fixes n d more) ∙ list_any-append p (take n fixes) (get_or fixes n d ∷ [])
-    ∙ ap (λ (b : Bool). list_any p (take n fixes) || b) (or-none (p (get_or fixes n d)))
+    ∙ ap (λ (b : Bool). list_any p (take n fixes) || b) (or-false (p (get_or fixes n d)))
 
 -- ---- locations
 
@@ -65,7 +50,7 @@ module _ (seg start len : ℕ) where
       let inner = and_true _ _ outer.0 in
       let from : f.offset ≤ x = leb-true _ _ inner.1 in
       let past : x < end_of f = ltb-true _ _ outer.1 in
-      true_and _ _ (true_and _ _ (true_and _ _ inner.0 (lt-ltb 0 len (omega arith))) (lt-ltb _ _ (omega arith))) (lt-ltb _ _ (omega arith))
+      and_from _ _ (and_from _ _ (and_from _ _ inner.0 (lt-ltb 0 len (omega arith))) (lt-ltb _ _ (omega arith))) (lt-ltb _ _ (omega arith))
 
   -- one that has a byte has one among them where they touch it
   touched-byte : (f : FixAt) → 0 < location_len f.loc → touches seg start len f ≡ true
@@ -82,13 +67,13 @@ module _ (seg start len : ℕ) where
       let own : (f.seg == seg) ≡ true = c.0 in
       let first : start ≤ max f.offset start = omega arith in
       let below : max f.offset start < start + len = omega (arith, there, before) in
-      let inner : (f.seg == seg && nat_le f.offset (max f.offset start)) ≡ true = true_and (f.seg == seg) (nat_le f.offset (max f.offset start)) own (le-leb f.offset (max f.offset start) least) in
-      (first, below, true_and (f.seg == seg && nat_le f.offset (max f.offset start)) (nat_lt (max f.offset start) (end_of f)) inner (lt-ltb (max f.offset start) (end_of f) past))
+      let inner : (f.seg == seg && nat_le f.offset (max f.offset start)) ≡ true = and_from (f.seg == seg) (nat_le f.offset (max f.offset start)) own (le-leb f.offset (max f.offset start) least) in
+      (first, below, and_from (f.seg == seg && nat_le f.offset (max f.offset start)) (nat_lt (max f.offset start) (end_of f)) inner (lt-ltb (max f.offset start) (end_of f) past))
 
   -- The bytes that are marked, and the places without a byte, tell whether one of the fixes is touched.
   pub any-touched : (marked : ℕ → ℕ → Bool) (fixes : List FixAt) (r b : Bool) → ((s x : ℕ) → marked s x ≡ list_any (has_byte s x) fixes)
       → (IsTrue r ↔ HasBit (marked seg) start (start + len)) → b ≡ list_any (touches_bare seg start len) fixes → (r || b) ≡ list_any (touches seg start len) fixes
-  any-touched marked fixes r b located asked bare = alike _ _ (there r b asked.0 bare) back
+  any-touched marked fixes r b located asked bare = same_test _ _ (there r b asked.0 bare) back
     where
       there : (r b : Bool) → (IsTrue r → HasBit (marked seg) start (start + len)) → b ≡ list_any (touches_bare seg start len) fixes → (r || b) ≡ true → list_any (touches seg start len) fixes ≡ true
       there true b asked bare e =
@@ -103,10 +88,10 @@ module _ (seg start len : ℕ) where
       back e =
           let w = found (touches seg start len) fixes e in
           elim (eqb_tells (location_len w.0.loc) 0) [
-            | inl none ↦ or-right r b (bare ∙ w.2 (touches_bare seg start len) (true_and _ _ none.0 w.1))
+            | inl none ↦ or_right r b (bare ∙ w.2 (touches_bare seg start len) (and_from _ _ none.0 w.1))
             | inr some ↦
                 let h = touched-byte w.0 (let apart = some.1 in omega arith) w.1 in
-                or-left r b (asked.1 (record { place = max w.0.offset start; least = h.0; below = h.1; passes = located seg (max w.0.offset start) ∙ w.2 (has_byte seg (max w.0.offset start)) h.2 }))
+                or_left r b (asked.1 (record { place = max w.0.offset start; least = h.0; below = h.1; passes = located seg (max w.0.offset start) ∙ w.2 (has_byte seg (max w.0.offset start)) h.2 }))
           ]
 
 -- ---- what has been seen

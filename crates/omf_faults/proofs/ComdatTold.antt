@@ -2,7 +2,7 @@
 use Rattle.std.proofs.Common.{◌≡◌, ◌≢◌, ℕ, zero, suc, ◌+◌, Bool, true, false, cond, eqb, leb, List, length, Result, Ok, Err, refl, sym, ap, subst, ◌∙◌, arith, inl, inr}
 use Rattle.std.specs.Prelude.{◌↔◌, not}
 use Rattle.std.specs.List.{list_any}
-use Rattle.std.proofs.lemmas.Bool.{eqb-false, ne_eqb}
+use Rattle.std.proofs.lemmas.Bool.{eqb-false, ne_eqb, cases_Bool}
 use Rattle.lx_bytes.specs.Cursor.{Cursor}
 use Rattle.lx_bytes.specs.LittleEndian.{AreBytes}
 use Rattle.obj_types.specs.declared.limits.TheConstants.{MAX_DATA}
@@ -25,7 +25,7 @@ use Rattle.omf_faults.specs.FieldParts.{a_byte}
 use Rattle.omf_faults.specs.ComdatRecords.{WrongBaseSegment, the_base, Named, WrongNamed, WrongComdat}
 use Rattle.omf_faults.specs.Laws.{FailsAs}
 use Rattle.omf_faults.proofs.Told.{Judges, part_tells, spanned_part_tells, done_tells, condition_tells, breaks_tells, breaks_then, itself, only_judges}
-use Rattle.omf_faults.proofs.FieldTold.{byte_judges, number_judges, below_judges, or_none_judges, two_ways}
+use Rattle.omf_faults.proofs.FieldTold.{byte_judges, number_judges, below_judges, or_none_judges}
 use Rattle.omf_faults.proofs.PlainTold.{plain_or_none_judges}
 use Rattle.omf_faults.proofs.NameTold.{is_not, is_at_most}
 
@@ -43,9 +43,9 @@ unfolding not_none
 zero_late p at zero d = refl
 zero_late p at (suc i) d =
     let some : eqb (suc i) 0 ≡ false = ne_eqb (suc i) 0 (λ e. omega (arith, e)) in
-    elim (two_ways (leb (suc i) (length p.module.segs))) [
+    elim (cases_Bool (leb (suc i) (length p.module.segs))) [
       | inr h ↦ rw (some, h) refl
-      | inl h ↦ elim (two_ways (is_debug_seg p.module.segs (suc i))) [
+      | inl h ↦ elim (cases_Bool (is_debug_seg p.module.segs (suc i))) [
         | inl d ↦ rw (some, h, d) refl
         | inr d ↦ rw (some, h, d, some) refl
       ]

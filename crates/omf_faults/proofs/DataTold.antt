@@ -24,10 +24,11 @@ use Rattle.omf_model.specs.Good.{GoodBlocks}
 use Rattle.omf_model.specs.ReadData.{seg_len, judge_data, ledata_at, counted_len, lidata_at}
 use Rattle.omf_model.proofs.PlainLaws.{some_at}
 use Rattle.omf_model.proofs.BlockLaws.{blocks_sound, blocks_complete}
+use Rattle.omf_model.proofs.ModuleLaws.{bind_err}
 use Rattle.omf_faults.specs.Parts.{ConditionThen, Breaks, WrongItem}
 use Rattle.omf_faults.specs.DataRecords.{Stretch, WrongData, WrongLedata, outermost, WrongLidata}
 use Rattle.omf_faults.specs.Laws.{FailsAs}
-use Rattle.omf_faults.proofs.Told.{ok_no_err, bind_err, err_bind, done_tells, part_tells, good_part_tells, condition_tells, breaks_tells}
+use Rattle.omf_faults.proofs.Told.{ok_no_err, err_bind, done_tells, part_tells, good_part_tells, condition_tells, breaks_tells}
 use Rattle.omf_faults.proofs.FieldTold.{number_judges, below_judges}
 use Rattle.omf_faults.proofs.NameTold.{is_not, is_at_most}
 use Rattle.omf_faults.proofs.BlockTold.{blocks_tell}

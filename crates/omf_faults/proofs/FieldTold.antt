@@ -1,7 +1,7 @@
 -- Each field that is read fails exactly where it passes the end or has a value that is not allowed.
 use Rattle.std.proofs.Common.{◌≡◌, ◌≢◌, ℕ, ◌+◌, ◌/◌, ◌≤◌, Bool, true, false, ltb, List, [], ◌∷◌, ◌++◌, length, Ok, Err, refl, sym, ap, subst, ◌∙◌, arith, inl, inr, length-append}
 use Rattle.std.specs.Prelude.{◌⊎◌}
-use Rattle.std.proofs.lemmas.Bool.{lt-ltb, le-ltb}
+use Rattle.std.proofs.lemmas.Bool.{lt-ltb, le-ltb, cases_Bool}
 use Rattle.lx_bytes.specs.Cursor.{Cursor}
 use Rattle.lx_bytes.specs.LittleEndian.{AreBytes}
 use Rattle.lx_bytes.proofs.Numbers.{length-little_bytes}
@@ -14,8 +14,9 @@ use Rattle.omf_fields.specs.Faults.{PassesEnd, IsNoIndex}
 use Rattle.omf_fields.proofs.SpanLaws.{Spans, Sound, Complete, ok_is, bind_ok}
 use Rattle.omf_fields.proofs.FieldLaws.{among, among_or_zero, is_among_index, is_among_zero, byte_sound, byte_complete, number_sound, number_complete, name_sound, name_complete, index_sound, index_complete}
 use Rattle.omf_fields.proofs.FaultLaws.{byte-short, number-short, name-short, index-short}
+use Rattle.omf_model.proofs.ModuleLaws.{bind_err}
 use Rattle.omf_faults.specs.FieldParts.{field, a_byte, a_number, a_name, index_with, index_from_one, index_or_none}
-use Rattle.omf_faults.proofs.Told.{Judges, refused, ok_no_err, err_bind, bind_err}
+use Rattle.omf_faults.proofs.Told.{Judges, refused, ok_no_err, err_bind}
 
 -- ---- what is left, and what is missing of a field
 
@@ -85,7 +86,7 @@ index_judges = record { sound = index_sound; complete = index_complete; tells = 
 abbrev pub Picks : (ℕ → ℕ × Cursor → Reading ℕ) → (ℕ → Type 0) → ℕ → Type 0
 Picks pick Allowed have = (at : ℕ) (x : ℕ × Cursor) → ((pick at x ≡ Ok x) × Allowed x.0) ⊎ ((pick at x ≡ Err (BadIndex at x.0 have)) × (Allowed x.0 → ⊥))
 
-bad_index_is : (d e : OmfRefusal) → refused {A = ℕ × Cursor} d ≡ Err e → e ≡ d
+pub bad_index_is : (d e : OmfRefusal) → refused {A = ℕ × Cursor} d ≡ Err e → e ≡ d
 bad_index_is d e is = let same : d ≡ e = cc in sym same
 
 pub index_with_judges : (pick : ℕ → ℕ × Cursor → Reading ℕ) (Allowed : ℕ → Type 0) (have : ℕ) → Picks pick Allowed have → Judges (λ c. index_at c >>= pick c.at) (index_with Allowed have)
@@ -132,17 +133,12 @@ index_with_judges pick Allowed have picks = record { sound = sound; complete = c
           | inr h ↦ ap (λ (r : Reading ℕ). r >>= pick c.at) (index_complete c w.index_there w.behind w.spelled tt) ∙ h.0 ∙ ap (λ (y : OmfRefusal). refused {A = ℕ × Cursor} y) (sym w.is)
         ]
 
--- which of two a test is
-pub two_ways : (b : Bool) → (b ≡ true) ⊎ (b ≡ false)
-two_ways true = inl refl
-two_ways false = inr refl
-
 pub not_both : {X : Type 0} (b : Bool) → b ≡ true → b ≡ false → X
 not_both b is isnt = let both : true ≡ false = sym is ∙ isnt in absurd cc
 
 below_picks : (have : ℕ) → Picks (checked false have) (λ i. (1 ≤ i) × (i ≤ have)) have
 below_picks have at x =
-    elim (two_ways (is_among false have x.0)) [
+    elim (cases_Bool (is_among false have x.0)) [
       | inl h ↦ inl (rw h refl, among have x.0 h)
       | inr h ↦ inr (rw h refl, λ a. not_both (is_among false have x.0) (is_among_index have x.0 a.0 a.1) h)
     ]
@@ -153,7 +149,7 @@ below_judges have = index_with_judges (checked false have) (λ i. (1 ≤ i) × (
 
 or_none_picks : (have : ℕ) → Picks (checked true have) (λ i. i ≤ have) have
 or_none_picks have at x =
-    elim (two_ways (is_among true have x.0)) [
+    elim (cases_Bool (is_among true have x.0)) [
       | inl h ↦ inl (rw h refl, among_or_zero have x.0 h)
       | inr h ↦ inr (rw h refl, λ a. not_both (is_among true have x.0) (is_among_zero have x.0 a) h)
     ]

@@ -2,7 +2,6 @@
 use Rattle.std.proofs.Common.{◌≡◌, ℕ, suc, ◌+◌, Bool, true, false, eqb, List, [], ◌∷◌, ◌++◌, length, Result, Ok, Err, refl, sym, ap, subst, ◌∙◌, inl, inr}
 use Rattle.std.specs.Prelude.{◌||◌, ◌⊎◌, ◌↔◌}
 use Rattle.std.proofs.lemmas.Bool.{eqb-true, eqb-false, eq-eqb}
-use Rattle.std.proofs.lemmas.List.{take_at}
 use Rattle.lx_bytes.specs.Cursor.{Cursor}
 use Rattle.lx_bytes.specs.LittleEndian.{AreBytes}
 use Rattle.obj_types.specs.declared.refusal.OmfRefusal.{OmfRefusal}
@@ -14,31 +13,28 @@ use Rattle.omf_frame.specs.declared.refusal.FrameRefusal.TheVariants as framing
 use Rattle.lx_types.specs.Answers.{◌>>=◌}
 use Rattle.omf_fields.specs.Fields.{check, name_at}
 use Rattle.omf_fields.proofs.SpanLaws.{done}
-use Rattle.omf_fields.proofs.FieldLaws.{AreBytes-take}
 use Rattle.omf_model.specs.Record.{Record, header}
 use Rattle.omf_model.specs.RawRecord.{RawRecord, whole_at, raw_at, sum_of}
 use Rattle.omf_model.specs.ReadModule.{contents_of, reader_of, record_at, header_at}
 use Rattle.omf_model.specs.Object.{FaultAt, at_header, after_records}
 use Rattle.omf_model.specs.Parts.{parts_of}
 use Rattle.omf_model.proofs.RawLaws.{raw, whole_sound, whole_short, whole_cut, raw_sound, raw_refused, raw_begun}
-use Rattle.omf_model.proofs.RecordLaws.{reader_sound, reader_complete}
+use Rattle.omf_model.proofs.RecordLaws.{reader_sound, reader_complete, AreBytes-front}
+use Rattle.omf_model.proofs.ModuleLaws.{bind_err}
 use Rattle.omf_faults.specs.Parts.{ConditionThen}
 use Rattle.omf_faults.specs.FieldParts.{a_name}
 use Rattle.omf_faults.specs.WrongContents.{WrongContents}
 use Rattle.omf_faults.specs.FirstFaults.{GoodContents, WrongFrame, contents_at, FrameThen, WrongRecord, WrongHeader, WrongModule}
-use Rattle.omf_faults.proofs.Told.{refused, ok_no_err, bind_err, err_bind, done_tells, last_tells, condition_tells}
+use Rattle.omf_faults.proofs.Told.{refused, ok_no_err, err_bind, done_tells, last_tells, condition_tells}
 use Rattle.omf_faults.proofs.FieldTold.{name_judges}
 use Rattle.omf_faults.proofs.TypeTold.{contents_found, contents_shown}
 
 -- ---- a record's contents are bytes
 
-front_bytes : (xs ys : List ℕ) → AreBytes (xs ++ ys) → AreBytes xs
-front_bytes xs ys h = subst AreBytes (take_at xs ys (length xs) refl) (AreBytes-take (length xs) (xs ++ ys) h)
-
 body_bytes : (bytes : List ℕ) (ty : ℕ) (body : List ℕ) (checksum : ℕ) (rest : List ℕ) → BeginsWhole bytes ty body checksum rest → AreBytes bytes → AreBytes body
 body_bytes bytes ty body checksum rest w h =
-    let all : AreBytes (record_bytes ty body checksum) = front_bytes (record_bytes ty body checksum) rest (subst AreBytes w.joined h) in
-    front_bytes body (checksum ∷ []) (λ i. all (suc (suc (suc i))))
+    let all : AreBytes (record_bytes ty body checksum) = AreBytes-front (record_bytes ty body checksum) rest (subst AreBytes w.joined h) in
+    AreBytes-front body (checksum ∷ []) (λ i. all (suc (suc (suc i))))
 
 -- ---- what stands round a record's contents
 

@@ -1,7 +1,7 @@
 -- A fix byte and what stands behind it fail exactly so.
 use Rattle.std.proofs.Common.{◌≡◌, ℕ, ◌%◌, ◌≤◌, Bool, true, false, cond, eqb, length, Option, Some, None, Result, Ok, Err, refl, sym, ap, subst, ◌∙◌, inl, inr}
 use Rattle.std.specs.Prelude.{◌&&◌, ◌||◌, ◌↔◌, not, is_some, IsSome}
-use Rattle.std.proofs.lemmas.Bool.{eqb-true, eqb-false}
+use Rattle.std.proofs.lemmas.Bool.{eqb-true, eqb-false, cases_Bool, and_from}
 use Rattle.lx_bytes.specs.Cursor.{Cursor}
 use Rattle.lx_bytes.specs.LittleEndian.{AreBytes}
 use Rattle.obj_types.specs.declared.refusal.OmfRefusal.{OmfRefusal}
@@ -20,12 +20,12 @@ use Rattle.omf_model.specs.Fixups.{has_index, are_methods, have_of}
 use Rattle.omf_model.specs.ReadNames.{plain_seg_at}
 use Rattle.omf_model.specs.ReadFixups.{method_index_at, check_plain, check_frame, check_goal, thread_frame, thread_goal, has_threads, fix_data_at}
 use Rattle.omf_model.proofs.PlainLaws.{plain_from, plain_index, plain_not_debug}
-use Rattle.omf_model.proofs.FixLaws.{and_true, true_and, GoodFix, fix_sound, fix_complete}
+use Rattle.omf_model.proofs.FixLaws.{and_true, GoodFix, fix_sound, fix_complete}
 use Rattle.omf_faults.specs.Parts.{Part}
 use Rattle.omf_faults.specs.FieldParts.{a_number, index_with}
 use Rattle.omf_faults.specs.FixupRecords.{IsOfMethod, method_index, frame_thread, target_thread, AreSet, FrameIsDebug, TargetIsDebug, NoneThen, WrongFixData, GoodFixBy, fix_data}
 use Rattle.omf_faults.proofs.Told.{Judges, refused, part_tells, last_tells, condition_tells, itself, only_judges, no_truth}
-use Rattle.omf_faults.proofs.FieldTold.{byte_judges, number_judges, index_judges, below_judges, two_ways, not_both}
+use Rattle.omf_faults.proofs.FieldTold.{byte_judges, number_judges, index_judges, below_judges, not_both}
 use Rattle.omf_faults.proofs.PlainTold.{plain_judges}
 
 -- ---- indices
@@ -81,7 +81,7 @@ are_set p fix =
     let f = set_by (by_frame_thread fix) (frame_thread p (frame_bits fix % 4)) in
     let t = set_by (by_target_thread fix) (target_thread p (target_bits fix)) in (
       λ h. let both = and_true _ _ h in record { frame = f.0 both.0; target = t.0 both.1 },
-      λ s. true_and _ _ (f.1 s.frame) (t.1 s.target),
+      λ s. and_from _ _ (f.1 s.frame) (t.1 s.target),
     )
 
 unit : Result (Unit {0}) OmfRefusal
@@ -91,7 +91,7 @@ unit = Ok tt
 check_tells : {B : Type 0} (p : ObjParts) (IsDebug : ℕ → Type 0) (at i : ℕ) → (is_debug_seg p.module.segs i ≡ true → IsDebug i) → ((j : ℕ) → IsDebug j → (i ≡ j) × (is_debug_seg p.module.segs j ≡ true))
     → (f : Unit {0} → Result B OmfRefusal) (e : OmfRefusal) (Behind : Type 0) → (f tt ≡ Err e) ↔ Behind → ((check_plain true p at i >>= f) ≡ Err e) ↔ NoneThen p IsDebug at e Behind
 check_tells {B} p IsDebug at i to from f e Behind k =
-    elim (two_ways (is_debug_seg p.module.segs i)) [
+    elim (cases_Bool (is_debug_seg p.module.segs i)) [
       | inl h ↦
           let fails : (check_plain true p at i >>= f) ≡ refused {A = B} (BadIndex at i (length p.module.segs)) = rw h refl in (
             λ is. let both : refused {A = B} (BadIndex at i (length p.module.segs)) ≡ Err e = sym fails ∙ is in inl (i, to h, (let same : BadIndex at i (length p.module.segs) ≡ e = cc in sym same)),

@@ -1,7 +1,7 @@
 -- FIXUPP and MODEND fail exactly so.
-use Rattle.std.proofs.Common.{◌≡◌, ◌≢◌, ℕ, ◌+◌, ◌<◌, ◌≤◌, Bool, true, false, cond, eqb, ltb, leb, List, [], ◌∷◌, length, Ok, Err, refl, sym, ap, ◌∙◌, arith, inl, inr, length-append}
+use Rattle.std.proofs.Common.{◌≡◌, ◌≢◌, ℕ, ◌+◌, ◌<◌, ◌≤◌, Bool, true, false, cond, eqb, ltb, leb, List, [], ◌∷◌, length, Ok, Err, refl, sym, ap, ◌∙◌, arith, inl, inr}
 use Rattle.std.specs.Prelude.{◌||◌, ◌⊎◌, ◌↔◌, not}
-use Rattle.std.proofs.lemmas.Bool.{ltb-true, ltb-false, lt-ltb, le-ltb, ne_eqb}
+use Rattle.std.proofs.lemmas.Bool.{ltb-true, ltb-false, lt-ltb, le-ltb, ne_eqb, cases_Bool}
 use Rattle.lx_bytes.specs.Cursor.{Cursor}
 use Rattle.lx_bytes.specs.LittleEndian.{AreBytes}
 use Rattle.obj_types.specs.declared.limits.TheConstants.{MAX_FIXES}
@@ -15,20 +15,18 @@ use Rattle.lx_types.specs.Answers.{◌>>=◌}
 use Rattle.omf_fields.specs.Within.{within}
 use Rattle.omf_fields.specs.Fields.{Reading, check, byte_of, byte_at}
 use Rattle.omf_fields.specs.Forms.{byte}
-use Rattle.omf_fields.proofs.SpanLaws.{Sound, Complete, given}
-use Rattle.omf_fields.proofs.FieldLaws.{Free, chosen, byte_sound, byte_complete}
 use Rattle.omf_model.specs.Record.{fixupp, modend, FixData, FixField, thread, fixup, thread_method, location_of, offset_of, has_start}
 use Rattle.omf_model.specs.Fixups.{has_index, has_data, fixes_by, are_apart, have_of, is_location, is_thread_method}
 use Rattle.omf_model.specs.Good.{GoodField}
 use Rattle.omf_model.specs.Spelling.{field_form}
 use Rattle.omf_model.specs.ReadFixups.{FirstByte, thread_at, is_dropped, second_of, judge_fixup, fixup_at, fix_data_at, field_at, fields_within, fields_at, fixupp_at, modend_at}
-use Rattle.omf_model.proofs.FixuppLaws.{field_sound, field_complete, field_one}
+use Rattle.omf_model.proofs.FixuppLaws.{field_sound, field_complete, field_one, second_sound, second_complete}
 use Rattle.omf_faults.specs.Parts.{ConditionThen, Breaks}
 use Rattle.omf_faults.specs.FieldParts.{second_byte}
 use Rattle.omf_faults.specs.FixupRecords.{WrongThread, WrongJudged, WrongDropped, WrongFixup, WrongField, fields, WrongFixupp, WrongModend}
 use Rattle.omf_faults.specs.Laws.{FailsAs}
 use Rattle.omf_faults.proofs.Told.{Judges, refused, ok_no_err, done_tells, part_tells, last_tells, condition_tells, breaks_tells, itself, choose_tells, only_judges, behind_tells}
-use Rattle.omf_faults.proofs.FieldTold.{byte_judges, below_judges, two_ways}
+use Rattle.omf_faults.proofs.FieldTold.{byte_judges, below_judges}
 use Rattle.omf_faults.proofs.NameTold.{is_at_most}
 use Rattle.omf_faults.proofs.FixTold.{fix_judges}
 
@@ -44,18 +42,6 @@ thread_tells p record_at at b c e bytes =
     last_tells _ _ (only_judges (has_index (thread_method b)) _ _ (below_judges (have_of p (thread_method b)))) c (λ i. (thread b i.0, i.1)) e bytes
 
 -- ---- FIXUP
-
-second_sound : (at : ℕ) → Sound (second_of at) byte Free
-second_sound at c x d bytes e =
-    elim (chosen (eqb (length c.left) 0) (Err (Short at)) (byte_at c) (given x d) e) [
-      | inl h ↦ absurd cc
-      | inr h ↦ byte_sound c x d bytes h.1
-    ]
-
-second_complete : (at : ℕ) → Complete (second_of at) byte Free
-second_complete at c x d t ok =
-    let long : length c.left ≡ 1 + length d.left = ap (λ (xs : List ℕ). length xs) t.joined ∙ length-append t.front d.left ∙ ap (λ (xs : List ℕ). length xs + length d.left) t.so.1 in
-    rw (ne_eqb (length c.left) 0 (λ none. omega (arith, none, long))) (byte_complete c x d t ok)
 
 second_tells : (at place : ℕ) (left : List ℕ) (e : OmfRefusal) → (cond (eqb (length left) 0) (refused {A = ℕ × Cursor} (Short at)) (byte_of place left) ≡ Err e) ↔ ((left ≡ []) × (e ≡ Short at))
 second_tells at place [] e = (λ is. (refl, (let same : Short at ≡ e = cc in sym same)), λ w. ap (λ (y : OmfRefusal). refused {A = ℕ × Cursor} y) (sym w.1))
@@ -107,7 +93,7 @@ dropped_is datas.Dropped = (λ h. refl, λ h. refl)
 kept_is : (last : LastData) → (is_dropped last ≡ false) ↔ (last ≢ datas.Dropped)
 kept_is last = (
   λ h same. let both : true ≡ false = sym ((dropped_is last).1 same) ∙ h in absurd cc,
-  λ h. elim (two_ways (is_dropped last)) [ inl is ↦ absurd (h ((dropped_is last).0 is)) | inr is ↦ is ],
+  λ h. elim (cases_Bool (is_dropped last)) [ inl is ↦ absurd (h ((dropped_is last).0 is)) | inr is ↦ is ],
 )
 
 -- which of two a fixup is, by a test

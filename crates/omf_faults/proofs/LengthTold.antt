@@ -1,7 +1,7 @@
 -- The lengths of COMDEF fail exactly where one passes the end or has a first byte that says no width.
 use Rattle.std.proofs.Common.{◌≡◌, ◌≢◌, ℕ, suc, ◌+◌, ◌^◌, ◌<◌, ◌≤◌, Bool, true, false, cond, ltb, leb, eqb, List, [], ◌∷◌, ◌++◌, length, take, drop, Option, Some, None, Err, refl, sym, ap, subst, ◌∙◌, arith, inl, inr, length-append}
 use Rattle.std.specs.Prelude.{◌⊎◌}
-use Rattle.std.proofs.lemmas.Bool.{lt-ltb, ltb-true, leb-true, leb-false, lt-leb, eqb-true, eqb-false, ne_eqb}
+use Rattle.std.proofs.lemmas.Bool.{lt-ltb, ltb-true, leb-true, leb-false, lt-leb, eqb-true, eqb-false, ne_eqb, cases_Bool}
 use Rattle.lx_bytes.specs.Cursor.{Cursor}
 use Rattle.lx_bytes.specs.LittleEndian.{AreBytes, little, little_bytes}
 use Rattle.lx_bytes.proofs.Numbers.{length-little_bytes}
@@ -17,7 +17,7 @@ use Rattle.omf_fields.proofs.FaultLaws.{number-short}
 use Rattle.omf_fields.proofs.LengthLaws.{length_sound, length_complete}
 use Rattle.omf_faults.specs.FieldParts.{IsNoLength, a_length}
 use Rattle.omf_faults.proofs.Told.{Judges, refused, ok_no_err}
-use Rattle.omf_faults.proofs.FieldTold.{two_ways, some-missing, short_is}
+use Rattle.omf_faults.proofs.FieldTold.{some-missing, short_is, bad_index_is}
 
 -- what a first byte says of the width of what follows it
 abbrev NoWidth : ℕ → Type 0
@@ -28,13 +28,13 @@ Wide first n b = (b ≡ first) × (length_bytes b ≡ Some n)
 
 says : (b : ℕ) → ((b ≤ 0x80) × (length_bytes b ≡ Some 0)) ⊎ Wide 0x81 2 b ⊎ Wide 0x84 3 b ⊎ Wide 0x88 4 b ⊎ NoWidth b
 says b =
-    elim (two_ways (leb b 0x80)) [
+    elim (cases_Bool (leb b 0x80)) [
       | inl h ↦ inl (leb-true _ _ h, rw h refl)
-      | inr h ↦ elim (two_ways (eqb b 0x81)) [
+      | inr h ↦ elim (cases_Bool (eqb b 0x81)) [
         | inl i ↦ inr (inl (eqb-true _ _ i, rw (h, i) refl))
-        | inr i ↦ elim (two_ways (eqb b 0x84)) [
+        | inr i ↦ elim (cases_Bool (eqb b 0x84)) [
           | inl j ↦ inr (inr (inl (eqb-true _ _ j, rw (h, i, j) refl)))
-          | inr j ↦ elim (two_ways (eqb b 0x88)) [
+          | inr j ↦ elim (cases_Bool (eqb b 0x88)) [
             | inl k ↦ inr (inr (inr (inl (eqb-true _ _ k, rw (h, i, j, k) refl))))
             | inr k ↦ inr (inr (inr (inr (leb-false _ _ h, (eqb-false _ _ i, eqb-false _ _ j, eqb-false _ _ k), rw (h, i, j, k) refl))))
           ]
@@ -44,16 +44,13 @@ says b =
 
 -- ---- what fails
 
-field_is : (d e : OmfRefusal) → refused {A = ℕ × Cursor} d ≡ Err e → e ≡ d
-field_is d e is = let same : d ≡ e = cc in sym same
-
 -- the bytes behind the first one are too few
 cut : (at b n : ℕ) (rest : List ℕ) (e : OmfRefusal) → sized at b (Some n) rest ≡ Err e → (length rest < n) × (e ≡ Short at)
 cut at b n rest e is = by (ltb (length rest) n) refl is
   where
     by : (few : Bool) → ltb (length rest) n ≡ few → (cond few (refused {A = List ℕ × Cursor} (Short at)) (given (take n rest) (record { at = at + 1 + n; left = drop n rest })) >>= λ more. given (cond (eqb n 0) b (little more.0)) more.1) ≡ Err e
         → (length rest < n) × (e ≡ Short at)
-    by true few is = (ltb-true _ _ few, field_is (Short at) e is)
+    by true few is = (ltb-true _ _ few, bad_index_is (Short at) e is)
     by false few is = absurd (ok_no_err (cond (eqb n 0) b (little (take n rest)), (let d : Cursor = record { at = at + 1 + n; left = drop n rest } in d)) e is)
 
 cut_short : (at b n : ℕ) (rest : List ℕ) (e : OmfRefusal) → length rest < n → e ≡ Short at → sized at b (Some n) rest ≡ Err e
@@ -74,7 +71,7 @@ length-short c e bytes is = of c.at c.left e bytes is
         record { is = few.1; value = m.value; missing = m.missing; some = m.some; so = form m.value (rest ++ m.missing) m.so.0 m.so.1 }
 
     of : (at : ℕ) (left : List ℕ) (e : OmfRefusal) → AreBytes left → length_of at left ≡ Err e → PassesEnd length_form (record { at = at; left = left }) e ⊎ IsNoLength (record { at = at; left = left }) e
-    of at [] e bytes is = inl (record { is = field_is (Short at) e is; value = 0; missing = 0 ∷ []; some = λ z. cc; so = inl (omega arith, refl) })
+    of at [] e bytes is = inl (record { is = bad_index_is (Short at) e is; value = 0; missing = 0 ∷ []; some = λ z. cc; so = inl (omega arith, refl) })
     of at (b ∷ rest) e bytes is =
         let others : AreBytes rest = AreBytes-rest b rest bytes in
         elim (says b) [
@@ -91,7 +88,7 @@ length-short c e bytes is = of c.at c.left e bytes is
                   stands = refl;
                   large = k.0;
                   none = k.1;
-                  is = field_is (BadField at) e (sym (ap (λ (o : Option ℕ). sized at b o rest) k.2) ∙ is);
+                  is = bad_index_is (BadField at) e (sym (ap (λ (o : Option ℕ). sized at b o rest) k.2) ∙ is);
                 })
               ]
             ]

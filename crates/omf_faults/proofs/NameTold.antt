@@ -1,7 +1,7 @@
 -- The records of names, segments, groups and symbols fail exactly so.
-use Rattle.std.proofs.Common.{◌≡◌, ℕ, ◌*◌, ◌≤◌, Bool, true, false, cond, leb, eqb, List, length, Err, refl, sym, ap, ◌∙◌, arith, inl, inr}
+use Rattle.std.proofs.Common.{◌≡◌, ℕ, ◌*◌, ◌≤◌, Bool, true, false, cond, leb, eqb, length, Err, refl, sym, ap, ◌∙◌, arith, inl, inr}
 use Rattle.std.specs.Prelude.{◌⊎◌, ◌↔◌, not, ◌==◌}
-use Rattle.std.proofs.lemmas.Bool.{leb-true, le-leb, eqb-true, eqb-false, eq-eqb, ne_eqb}
+use Rattle.std.proofs.lemmas.Bool.{leb-true, le-leb, eqb-true, eqb-false, eq-eqb, ne_eqb, cases_Bool}
 use Rattle.lx_bytes.specs.Cursor.{Cursor}
 use Rattle.lx_bytes.specs.LittleEndian.{AreBytes}
 use Rattle.obj_types.specs.declared.limits.TheConstants.{MAX_DATA}
@@ -9,19 +9,18 @@ use Rattle.obj_types.specs.declared.refusal.OmfRefusal.{OmfRefusal}
 use Rattle.obj_types.specs.declared.refusal.OmfRefusal.TheVariants.{BadField}
 use Rattle.obj_types.specs.declared.parts.ObjParts.{ObjParts}
 use Rattle.omf_fields.specs.Fields.{Reading, width, byte_at, number_at, name_at, index_below}
-use Rattle.omf_fields.specs.Forms.{byte, name}
-use Rattle.omf_fields.proofs.ListLaws.{OneByte}
+use Rattle.omf_fields.specs.Forms.{name}
+use Rattle.omf_fields.proofs.ItemLaws.{name-one}
 use Rattle.omf_model.specs.Record.{lnames, segdef, align_of, is_too_long, are_attributes, grpdef, extdef, ExtDef, pubdef, PubDef, comdef, ComDef, Communal, far, near}
 use Rattle.omf_model.specs.ReadNames.{lnames_at, segdef_at, member_at, grpdef_at, plain_seg_at, ext_at, extdef_at, pub_at, pubdef_at, far_at, near_at, communal_at, com_at, comdef_at}
-use Rattle.omf_model.specs.Spelling.{ext_form, member_form, pub_form, com_form}
 use Rattle.omf_model.proofs.PlainLaws.{plain_index}
-use Rattle.omf_model.proofs.NameLaws.{name_one, then_one, MemberIn, ext_sound, ext_complete, pub_sound, pub_complete, member_sound, member_complete, communal_sound, communal_complete, com_sound, com_complete}
+use Rattle.omf_model.proofs.NameLaws.{MemberIn, ext_sound, ext_complete, pub_sound, pub_complete, member_sound, member_complete, communal_sound, communal_complete, com_sound, com_complete, ext_one, pub_one, member_one, com_one}
 use Rattle.omf_faults.specs.Parts.{ConditionThen}
 use Rattle.omf_faults.specs.FieldParts.{a_byte, a_number, a_name}
 use Rattle.omf_faults.specs.NameRecords.{WrongLnames, WrongSegdef, segment_of, member, is_flat, WrongGrpdef, symbol, WrongPubdef, external, WrongExtdef, WrongFar, WrongNear, communal, common_symbol, WrongComdef}
 use Rattle.omf_faults.specs.Laws.{FailsAs}
 use Rattle.omf_faults.proofs.Told.{Judges, refused, part_tells, last_tells, condition_tells, breaks_then, itself, only_judges}
-use Rattle.omf_faults.proofs.FieldTold.{byte_judges, number_judges, name_judges, below_judges, or_none_judges, two_ways}
+use Rattle.omf_faults.proofs.FieldTold.{byte_judges, number_judges, name_judges, below_judges, or_none_judges}
 use Rattle.omf_faults.proofs.LengthTold.{length_judges}
 use Rattle.omf_faults.proofs.PlainTold.{plain_judges, plain_or_none_judges}
 use Rattle.omf_faults.proofs.ListTold.{items_tell}
@@ -42,7 +41,7 @@ is_at_most m n = (λ h. leb-true m n h, λ h. le-leb m n h)
 
 pub lnames_told : FailsAs lnames_at WrongLnames
 unfolding lnames_at
-lnames_told c e bytes = items_tell name_at a_name name_judges name_one c (λ names. lnames names) e bytes
+lnames_told c e bytes = items_tell name_at a_name name_judges name-one c (λ names. lnames names) e bytes
 
 -- ---- SEGDEF
 
@@ -70,9 +69,6 @@ ext_tells c e bytes =
 ext_judges : Judges ext_at external
 ext_judges = record { sound = ext_sound; complete = ext_complete; tells = ext_tells }
 
-ext_one : OneByte ext_form
-ext_one d bytes h = then_one (name d.name) _ bytes h (name_one d.name)
-
 pub extdef_told : (local : Bool) → FailsAs (extdef_at local) WrongExtdef
 unfolding extdef_at
 extdef_told local c e bytes = items_tell ext_at external ext_judges ext_one c (λ defs. extdef local defs) e bytes
@@ -88,9 +84,6 @@ pub_tells wide c e bytes =
 
 pub_judges : (wide : Bool) → Judges (pub_at wide) (symbol wide)
 pub_judges wide = record { sound = pub_sound wide; complete = pub_complete wide; tells = pub_tells wide }
-
-pub_one : (wide : Bool) → OneByte (pub_form wide)
-pub_one wide d bytes h = then_one (name d.name) _ bytes h (name_one d.name)
 
 pub pubdef_told : (local wide : Bool) (p : ObjParts) → FailsAs (pubdef_at local wide p) (WrongPubdef wide p)
 unfolding pubdef_at
@@ -128,9 +121,6 @@ member_judges p flat = record {
   tells = member_tells p flat;
 }
 
-member_one : OneByte member_form
-member_one i bytes h = then_one (byte 255) _ bytes h (λ front f. let len : length front ≡ 1 = ap (λ (xs : List ℕ). length xs) f.1 in omega (arith, len))
-
 pub grpdef_told : (p : ObjParts) → FailsAs (grpdef_at p) (WrongGrpdef p)
 unfolding grpdef_at
 grpdef_told p c e bytes =
@@ -160,11 +150,11 @@ WrongKind at kind d e = ConditionThen ((kind ≡ 0x61) ⊎ (kind ≡ 0x62)) (Bad
 
 kind_found : (at kind : ℕ) (d : Cursor) (e : OmfRefusal) → AreBytes d.left → lengths_at at kind d ≡ Err e → WrongKind at kind d e
 kind_found at kind d e bytes is =
-    elim (two_ways (eqb kind 0x61)) [
+    elim (cases_Bool (eqb kind 0x61)) [
       | inl h ↦ let k = eqb-true _ _ h in inr (inl k, inl (k, (far_tells d e bytes).0 (sym (ap (λ (b : Bool). cond b (far_at d) (cond (eqb kind 0x62) (near_at d) (Err (BadField at)))) h) ∙ is)))
       | inr h ↦
           let others : cond (eqb kind 0x62) (near_at d) (Err (BadField at)) ≡ Err e = sym (ap (λ (b : Bool). cond b (far_at d) (cond (eqb kind 0x62) (near_at d) (Err (BadField at)))) h) ∙ is in
-          elim (two_ways (eqb kind 0x62)) [
+          elim (cases_Bool (eqb kind 0x62)) [
             | inl i ↦ let k = eqb-true _ _ i in inr (inr k, inr (k, (near_tells d e bytes).0 (sym (ap (λ (b : Bool). cond b (near_at d) (Err (BadField at))) i) ∙ others)))
             | inr i ↦
                 let none : refused {A = Communal × Cursor} (BadField at) ≡ Err e = sym (ap (λ (b : Bool). cond b (near_at d) (Err (BadField at))) i) ∙ others in
@@ -199,9 +189,6 @@ com_tells c e bytes =
 
 com_judges : Judges com_at common_symbol
 com_judges = record { sound = com_sound; complete = com_complete; tells = com_tells }
-
-com_one : OneByte com_form
-com_one d bytes h = then_one (name d.name) _ bytes h (name_one d.name)
 
 pub comdef_told : FailsAs comdef_at WrongComdef
 unfolding comdef_at

@@ -1,6 +1,7 @@
 -- The indices of segments that are no debug segments fail exactly so.
 use Rattle.std.proofs.Common.{◌≡◌, ◌≢◌, ℕ, zero, suc, ◌≤◌, true, false, List, length, refl, arith, inl, inr}
 use Rattle.std.specs.Prelude.{IsSomeAnd}
+use Rattle.std.proofs.lemmas.Bool.{cases_Bool}
 use Rattle.obj_types.specs.declared.object.Seg.{Seg}
 use Rattle.obj_types.specs.declared.parts.ObjParts.{ObjParts}
 use Rattle.obj_types.specs.Items.{item}
@@ -12,13 +13,13 @@ use Rattle.omf_model.specs.ReadNames.{checked_plain, plain_seg_at, plain_seg_or_
 use Rattle.omf_model.proofs.PlainLaws.{plain_from, plain_index, plain_not_debug}
 use Rattle.omf_faults.specs.FieldParts.{plain_segment, plain_segment_or_none}
 use Rattle.omf_faults.proofs.Told.{Judges}
-use Rattle.omf_faults.proofs.FieldTold.{Picks, two_ways, not_both, index_with_judges}
+use Rattle.omf_faults.proofs.FieldTold.{Picks, not_both, index_with_judges}
 
 plain_picks : (p : ObjParts) → Picks (checked_plain false p) (IsPlainSeg p.module) (length p.module.segs)
 plain_picks p at x =
-    elim (two_ways (is_among false (length p.module.segs) x.0)) [
+    elim (cases_Bool (is_among false (length p.module.segs) x.0)) [
       | inr h ↦ inr (rw h refl, λ a. let range = plain_index p.module.segs x.0 a in not_both (is_among false (length p.module.segs) x.0) (is_among_index (length p.module.segs) x.0 range.0 range.1) h)
-      | inl h ↦ elim (two_ways (is_debug_seg p.module.segs x.0)) [
+      | inl h ↦ elim (cases_Bool (is_debug_seg p.module.segs x.0)) [
         | inl d ↦ inr (rw (h, d) refl, λ a. not_both (is_debug_seg p.module.segs x.0) d (plain_not_debug p.module.segs x.0 a))
         | inr d ↦ inl (rw (h, d) refl, plain_from p.module.segs x.0 (among (length p.module.segs) x.0 h) d)
       ]
@@ -47,9 +48,9 @@ or_none_plain segs (suc i) h = plain_not_debug segs (suc i) (h (λ none. omega (
 
 or_none_picks : (p : ObjParts) → Picks (checked_plain true p) (λ i. i ≢ 0 → IsPlainSeg p.module i) (length p.module.segs)
 or_none_picks p at x =
-    elim (two_ways (is_among true (length p.module.segs) x.0)) [
+    elim (cases_Bool (is_among true (length p.module.segs) x.0)) [
       | inr h ↦ inr (rw h refl, λ a. not_both (is_among true (length p.module.segs) x.0) (is_among_zero (length p.module.segs) x.0 (or_none_range p.module.segs x.0 a)) h)
-      | inl h ↦ elim (two_ways (is_debug_seg p.module.segs x.0)) [
+      | inl h ↦ elim (cases_Bool (is_debug_seg p.module.segs x.0)) [
         | inl d ↦ inr (rw (h, d) refl, λ a. not_both (is_debug_seg p.module.segs x.0) d (or_none_plain p.module.segs x.0 a))
         | inr d ↦ inl (rw (h, d) refl, or_none_from p.module.segs x.0 (among_or_zero (length p.module.segs) x.0 h) d)
       ]

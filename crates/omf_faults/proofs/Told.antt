@@ -12,6 +12,7 @@ use Rattle.omf_fields.specs.Forms.{Form}
 use Rattle.omf_fields.proofs.SpanLaws.{Spans, bytes_behind, Sound, Complete, given, done}
 use Rattle.omf_fields.proofs.FieldLaws.{chosen}
 use Rattle.omf_fields.proofs.ListLaws.{OneByte, present_sound, present_complete}
+use Rattle.omf_model.proofs.ModuleLaws.{bind_err}
 use Rattle.omf_faults.specs.Parts.{Part, PartThen, ConditionThen, Breaks, only, Items, Stand, known_behind, WrongBehind, alike, WrongOf}
 
 abbrev pub refused : {A : Type 0} → OmfRefusal → Result A OmfRefusal
@@ -28,11 +29,6 @@ ok_no_err x e is = absurd cc
 
 pub err_is : {A B : Type 0} (d e : OmfRefusal) → refused {A = A} d ≡ Err e → refused {A = B} d ≡ Err e
 err_is {A} {B} d e is = let same : d ≡ e = cc in ap (λ (y : OmfRefusal). refused {A = B} y) same
-
--- a step that failed, or what is behind it
-pub bind_err : {A B : Type 0} (r : Result A OmfRefusal) (f : A → Result B OmfRefusal) (e : OmfRefusal) → (r >>= f) ≡ Err e → (r ≡ Err e) ⊎ ((x : A) × (r ≡ Ok x) × (f x ≡ Err e))
-bind_err (Ok x) f e is = inr (x, refl, is)
-bind_err {A} {B} (Err d) f e is = inl (err_is {A = B} {B = A} d e is)
 
 pub err_bind : {A B : Type 0} (r : Result A OmfRefusal) (f : A → Result B OmfRefusal) (e : OmfRefusal) → r ≡ Err e → (r >>= f) ≡ Err e
 err_bind (Ok x) f e is = absurd cc

@@ -2,7 +2,7 @@
 use Rattle.std.proofs.Common.{◌≡◌, ℕ, Bool, true, false, eqb, List, [], ◌∷◌, Ok, Err, refl, sym, ap, subst, ◌∙◌, inl, inr}
 use Rattle.std.specs.Prelude.{◌||◌}
 use Rattle.std.specs.List.{list_any, AllByRecursion}
-use Rattle.std.proofs.lemmas.Bool.{eqb-true, eqb-false, ne_eqb}
+use Rattle.std.proofs.lemmas.Bool.{eqb-true, eqb-false, ne_eqb, cases_Bool, or_parts}
 use Rattle.lx_bytes.specs.Cursor.{Cursor}
 use Rattle.lx_bytes.specs.LittleEndian.{AreBytes}
 use Rattle.obj_types.specs.declared.refusal.OmfRefusal.{OmfRefusal}
@@ -13,7 +13,6 @@ use Rattle.omf_model.specs.Record.{Record, passed}
 use Rattle.omf_model.specs.ReadModule.{reader_of}
 use Rattle.omf_faults.specs.WrongContents.{WrongContents}
 use Rattle.omf_faults.proofs.Told.{refused, ok_no_err}
-use Rattle.omf_faults.proofs.FieldTold.{two_ways}
 use Rattle.omf_faults.proofs.NameTold.{lnames_told, segdef_told, grpdef_told, pubdef_told, extdef_told, comdef_told}
 use Rattle.omf_faults.proofs.CommentTold.{coment_told}
 use Rattle.omf_faults.proofs.DataTold.{ledata_told, lidata_told}
@@ -22,23 +21,19 @@ use Rattle.omf_faults.proofs.FixupTold.{fixupp_told, modend_told}
 
 -- ---- by the types that there are
 
-or_false : (a b : Bool) → (a || b) ≡ false → (a ≡ false) × (b ≡ false)
-or_false true b is = absurd cc
-or_false false b is = (refl, is)
-
 abbrev none : List ℕ → ℕ → Bool
 none types ty = list_any (λ known. eqb known ty) types
 
 apart : (types : List ℕ) (ty : ℕ) → none types ty ≡ false → AllByRecursion (λ known. eqb ty known ≡ false) types
 apart [] ty is = tt
 apart (t ∷ types) ty is =
-    let both = or_false (eqb t ty) (none types ty) is in
+    let both = or_parts (eqb t ty) (none types ty) is in
     (ne_eqb ty t (λ same. eqb-false t ty both.0 (sym same)), apart types ty both.1)
 
 by_type : (P : ℕ → Type 0) (types : List ℕ) → AllByRecursion P types → (ty : ℕ) → (none types ty ≡ false → P ty) → P ty
 by_type P [] each ty otherwise = otherwise refl
 by_type P (t ∷ types) each ty otherwise =
-    elim (two_ways (eqb t ty)) [
+    elim (cases_Bool (eqb t ty)) [
       | inl h ↦ subst P (eqb-true t ty h) each.0
       | inr h ↦ by_type P types each.1 ty (λ is. otherwise (ap (λ (b : Bool). b || none types ty) h ∙ is))
     ]

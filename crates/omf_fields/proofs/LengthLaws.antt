@@ -6,10 +6,11 @@ use Rattle.lx_bytes.specs.Cursor.{Cursor}
 use Rattle.lx_bytes.specs.LittleEndian.{AreBytes, little, little_bytes}
 use Rattle.lx_bytes.proofs.Numbers.{length-little_bytes, little-little_bytes, little_bytes-little}
 use Rattle.obj_types.specs.declared.refusal.OmfRefusal.TheVariants.{Short}
+use Rattle.omf_frame.proofs.Records.{AreBytes-take}
 use Rattle.omf_fields.specs.Fields.{rest_of, length_bytes, sized, length_of, length_at}
 use Rattle.omf_fields.specs.Forms.{length_form}
 use Rattle.omf_fields.proofs.SpanLaws.{Spans, cursor_is, Sound, Complete, given, ok_is, bind_ok}
-use Rattle.omf_fields.proofs.FieldLaws.{Free, guard_ok, chosen, AreBytes-take, AreBytes-rest, little-below}
+use Rattle.omf_fields.proofs.FieldLaws.{Free, guard_ok, chosen, AreBytes-rest, little-below}
 
 abbrev some : ℕ → Option ℕ
 some n = Some n

@@ -49,7 +49,7 @@ record_bytes_one ty ty' body body' c c' same =
     let both = append_one body body' (c ∷ []) (c' ∷ []) long tails in
     (tys, both.0, ap (λ (l : List ℕ). get_or l 0 0) both.1)
 
-pair_of_bytes : (l h : ℕ) → l < 256 → h < 256 → AreBytes (l ∷ h ∷ [])
+pub pair_of_bytes : (l h : ℕ) → l < 256 → h < 256 → AreBytes (l ∷ h ∷ [])
 pair_of_bytes l h low high zero = low
 pair_of_bytes l h low high (suc zero) = high
 pair_of_bytes l h low high (suc (suc i)) = omega arith
@@ -104,7 +104,7 @@ not_checksum types bodies checksums sums checksum_not sum_not (inr zero_sum) =
 
 -- ---- records that are cut off
 
-AreBytes-take : (n : ℕ) (bs : List ℕ) → AreBytes bs → AreBytes (take n bs)
+pub AreBytes-take : (n : ℕ) (bs : List ℕ) → AreBytes bs → AreBytes (take n bs)
 AreBytes-take n bs h i =
     elim (cases_lt i n) [
       | inl lt ↦ rw (get_or-take n bs i 0 lt) (h i)

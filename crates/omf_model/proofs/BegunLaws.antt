@@ -4,6 +4,7 @@ use Rattle.std.specs.Prelude.{◌&&◌}
 use Rattle.std.specs.List.{AllByRecursion, Contains}
 use Rattle.std.proofs.Math.Seq.{get_or-append_seam}
 use Rattle.std.proofs.lemmas.List.{append-nil}
+use Rattle.lx_types.proofs.Lists.{all_joined, all_weaker}
 use Rattle.lx_bytes.specs.Cursor.{Cursor}
 use Rattle.lx_bytes.specs.LittleEndian.{AreBytes}
 use Rattle.obj_types.specs.declared.object.FixAt.{FixAt}
@@ -27,8 +28,7 @@ use Rattle.omf_model.specs.Good.{GoodAfter, GoodData, GoodComdat, GoodFixup, Goo
 use Rattle.omf_model.specs.Begun.{AreBegun, IsBegun, LiesAt, last_offset, last_len, IsOnLast, SplitsAtLast, IsWholeSoFar}
 use Rattle.omf_model.proofs.DataLaws.{bool_cases}
 use Rattle.omf_model.proofs.BlockLaws.{blocks_in-bytes}
-use Rattle.omf_model.proofs.PairLaws.{all-at, all-app}
-use Rattle.omf_model.proofs.GrowLaws.{all-each}
+use Rattle.omf_model.proofs.PairLaws.{all-at}
 use Rattle.omf_model.proofs.PartsLaws.{parts_of-snoc}
 use Rattle.omf_model.proofs.ModuleLaws.{parts_header}
 use Rattle.omf_model.proofs.RecordLaws.{reader_sound}
@@ -66,7 +66,7 @@ begun-kept p r b good still =
     record {
       records = b.records ++ r ∷ [];
       begun = more-begun b.records r b.begun here;
-      still = all-app (λ (q : Record). is_end q ≡ false) b.records (r ∷ []) b.still (still, tt);
+      still = all_joined (λ (q : Record). is_end q ≡ false) b.records (r ∷ []) b.still (still, tt);
       meant = ap (λ (q : ObjParts). add q r) b.meant ∙ sym (parts_of-snoc b.records r);
     }
 
@@ -136,7 +136,7 @@ splits-field p f s g = record {
   own = s.own ++ fixes_by p.last p.threads f;
   joined = ap (λ (fs : List FixAt). fs ++ fixes_by p.last p.threads f) s.joined ∙ append_assoc s.earlier s.own (fixes_by p.last p.threads f);
   outside = s.outside;
-  inside = all-app (IsOnLast p.last) s.own (fixes_by p.last p.threads f) s.inside (new-on p f p.last refl g);
+  inside = all_joined (IsOnLast p.last) s.own (fixes_by p.last p.threads f) s.inside (new-on p f p.last refl g);
 }
 
 splits-fields : (fs : List FixField) (p : ObjParts) → SplitsAtLast p.last p.module.fixes → GoodFields p fs → SplitsAtLast (add_fields p fs).last (add_fields p fs).module.fixes
@@ -203,7 +203,7 @@ begun-whole p b =
       whole = sane-whole p s;
       pubs = all-at (PubIn p) p.module.pubs s.pubs;
       pieces = all-at (PieceIn p) p.module.pieces s.pieces;
-      fixes = all-at (λ (f : FixAt). LiesAt p f.seg f.offset (location_len f.loc)) p.module.fixes (all-each (WholeFixAt p) (λ (f : FixAt). LiesAt p f.seg f.offset (location_len f.loc)) (λ f w. w.place) p.module.fixes s.fixes);
+      fixes = all-at (λ (f : FixAt). LiesAt p f.seg f.offset (location_len f.loc)) p.module.fixes (all_weaker (WholeFixAt p) (λ (f : FixAt). LiesAt p f.seg f.offset (location_len f.loc)) (λ f w. w.place) p.module.fixes s.fixes);
       data_limit = s.data_limit;
       last = s.last;
       frames_set = all-at (FrameSet p.module) p.threads.frame s.frames;

@@ -2,7 +2,7 @@
 use Rattle.std.proofs.Common.{◌≡◌, ℕ, ◌+◌, ◌≤◌, Bool, true, false, eqb, leb, List, length, Option, Some, None, Ok, refl, subst, arith}
 use Rattle.std.specs.Prelude.{not, is_some}
 use Rattle.std.specs.List.{list_any}
-use Rattle.std.proofs.lemmas.Bool.{leb-true, le-leb, ne_eqb}
+use Rattle.std.proofs.lemmas.Bool.{leb-true, le-leb, ne_eqb, not-true}
 use Rattle.lx_bytes.specs.Cursor.{Cursor}
 use Rattle.lx_bytes.specs.LittleEndian.{AreBytes}
 use Rattle.obj_types.specs.declared.limits.TheConstants.{MAX_DATA}
@@ -21,7 +21,7 @@ use Rattle.omf_model.specs.Good.{GoodBase, GoodComdatFields, GoodComdat}
 use Rattle.omf_fields.proofs.SpanLaws.{Spans, then_spans, then_splits, then_left, left_splits, Sound, Complete, ok_is, bind_ok, step, checked_step}
 use Rattle.omf_fields.proofs.FieldLaws.{is_among_index, byte_sound, byte_complete, number_sound, number_complete, index_complete, or_zero_sound, or_zero_complete, below_sound, below_complete}
 use Rattle.omf_fields.proofs.ListLaws.{present_sound, present_complete}
-use Rattle.omf_model.proofs.PlainLaws.{not_true, plain_index, plain_not_debug, plain_sound}
+use Rattle.omf_model.proofs.PlainLaws.{plain_index, plain_not_debug, plain_sound}
 use Rattle.omf_model.proofs.DataLaws.{check_so}
 use Rattle.omf_model.proofs.NameLaws.{IsRead}
 
@@ -128,7 +128,7 @@ judge_sound p at offset_at d u fields e =
     let range = checked_step (leb (end_of d) MAX_DATA) _ _ u turn.1 in
     let limit = checked_step (leb (data_so_far p + length d.content) MAX_DATA) _ _ u range.1 in
     let apart = check_so (not (list_any (touches (number_so_far p d) d.offset (length d.content)) p.module.fixes)) _ u limit.1 in
-    record { fields = fields; turn = turn.0; range = leb-true _ _ range.0; limit = leb-true _ _ limit.0; on_no_fix = not_true _ apart }
+    record { fields = fields; turn = turn.0; range = leb-true _ _ range.0; limit = leb-true _ _ limit.0; on_no_fix = not-true _ apart }
 
 judge_complete : (p : ObjParts) (at offset_at : ℕ) (d : ComDat) → GoodComdat p d → judge_comdat p at offset_at d ≡ Ok tt
 unfolding judge_comdat

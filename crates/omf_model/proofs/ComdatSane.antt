@@ -2,10 +2,11 @@
 use Rattle.std.proofs.Common.{◌≡◌, ℕ, zero, suc, ◌+◌, ◌<◌, ◌≤◌, Bool, true, false, cond, eqb, List, [], ◌∷◌, ◌++◌, length, Option, Some, None, refl, sym, ap, subst, ◌∙◌, arith, inl, inr, length-append}
 use Rattle.std.specs.Prelude.{◌||◌, not, unwrap_or, slice_get, bytes_eq}
 use Rattle.std.specs.List.{AllByRecursion, filter, position_or_len}
-use Rattle.std.proofs.lemmas.Bool.{eq-eqb}
+use Rattle.std.proofs.lemmas.Bool.{eq-eqb, not-true}
 use Rattle.std.proofs.lemmas.List.{append-nil, length-map}
 use Rattle.std.proofs.lemmas.List.Elements.{filter-append}
 use Rattle.std.proofs.lemmas.List.Sums.{sum_by-append}
+use Rattle.lx_types.proofs.Lists.{all_joined, all_weaker}
 use Rattle.obj_types.specs.declared.object.Seg.{Seg}
 use Rattle.obj_types.specs.declared.object.Piece.{Piece}
 use Rattle.obj_types.specs.declared.object.ObjModule.{ObjModule}
@@ -24,9 +25,7 @@ use Rattle.omf_model.specs.Add.{add_named, add_comdat}
 use Rattle.omf_model.specs.Begun.{IsComdat, IsNumbered, LiesAt, InFrame, InGoal}
 use Rattle.omf_model.specs.Good.{GoodComdat}
 use Rattle.omf_model.proofs.DataLaws.{bool_cases}
-use Rattle.omf_model.proofs.PlainLaws.{not_true}
-use Rattle.omf_model.proofs.PairLaws.{all-app}
-use Rattle.omf_model.proofs.GrowLaws.{Grows, all-each, group-grows, start-grows}
+use Rattle.omf_model.proofs.GrowLaws.{Grows, group-grows, start-grows}
 use Rattle.omf_model.proofs.NumberLaws.{not-equal, end-reached, PartsGrow, numbered-grows, lies_at-grows, fix_at-grows, WholeFixAt, numbers-from, enumerate-snoc, in_number, HasPublic, publics-more, none-of}
 use Rattle.omf_model.proofs.SaneLaws.{PieceIn}
 use Rattle.omf_model.proofs.SaneStep.{WholeBegun, PubIn, Sane, counted, FrameSet, GoalSet, option-grows, in_frame-grows, in_goal-grows}
@@ -141,7 +140,7 @@ module _ (p : ObjParts) (d : ComDat) (s : Sane p) (good : GoodComdat p d) where
   first e = record {
     pubs-are = rw e refl;
     begun-are = rw e refl;
-    next = omega (arith, long, new-place (begun_names p.comdats) name (not_true _ (turn-so false e)));
+    next = omega (arith, long, new-place (begun_names p.comdats) name (not-true _ (turn-so false e)));
   }
 
   abbrev after : ObjParts
@@ -182,7 +181,7 @@ module _ (p : ObjParts) (d : ComDat) (s : Sane p) (good : GoodComdat p d) where
   own-public : number ≡ COMDAT_BASE + 1 + length p.comdats → HasPublic (p.module.pubs ++ own_pub ∷ []) (number, own_begun)
   own-public next =
       let past : COMDAT_BASE + length p.comdats < number = omega (arith, next) in
-      let none = none-of p.module.pubs number (all-each (PubIn p) (λ (x : Pub). in_number number x ≡ false) (λ x h. numbered-apart past x.place h) p.module.pubs s.pubs) in
+      let none = none-of p.module.pubs number (all_weaker (PubIn p) (λ (x : Pub). in_number number x ≡ false) (λ x h. numbered-apart past x.place h) p.module.pubs s.pubs) in
       let own : filter (in_number number) (own_pub ∷ []) ≡ own_pub ∷ [] = rw (eq-eqb number number refl) refl in
       record {
         public = own_pub;
@@ -194,7 +193,7 @@ module _ (p : ObjParts) (d : ComDat) (s : Sane p) (good : GoodComdat p d) where
   others-public : number ≡ COMDAT_BASE + 1 + length p.comdats → AllByRecursion (HasPublic (p.module.pubs ++ own_pub ∷ [])) (counted p.comdats)
   others-public next =
       publics-more p.module.pubs (own_pub ∷ []) (counted p.comdats)
-      (all-each (λ (q : ℕ × BegunComdat). (COMDAT_BASE + 1 ≤ q.0) × (q.0 < COMDAT_BASE + 1 + length p.comdats)) (λ (q : ℕ × BegunComdat). filter (in_number q.0) (own_pub ∷ []) ≡ [])
+      (all_weaker (λ (q : ℕ × BegunComdat). (COMDAT_BASE + 1 ≤ q.0) × (q.0 < COMDAT_BASE + 1 + length p.comdats)) (λ (q : ℕ × BegunComdat). filter (in_number q.0) (own_pub ∷ []) ≡ [])
       (λ q h. none-of (own_pub ∷ []) q.0 (not-equal number q.0 (λ e. omega (arith, e, next, h.1)), tt))
       (counted p.comdats) (numbers-from (COMDAT_BASE + 1) p.comdats))
       s.publics
@@ -202,7 +201,7 @@ module _ (p : ObjParts) (d : ComDat) (s : Sane p) (good : GoodComdat p d) where
   first-new : Begins p name number d new_pubs new_begun → New
   first-new g =
       let there : IsComdat after number = (omega (arith, g.next), omega (arith, g.next, length-append p.comdats new_begun, ap (λ (bs : List BegunComdat). length bs) g.begun-are)) in
-      let all = all-app (HasPublic (p.module.pubs ++ own_pub ∷ [])) (counted p.comdats) ((number, own_begun) ∷ []) (others-public g.next) (own-public g.next, tt) in
+      let all = all_joined (HasPublic (p.module.pubs ++ own_pub ∷ [])) (counted p.comdats) ((number, own_begun) ∷ []) (others-public g.next) (own-public g.next, tt) in
       let counts = enumerate-snoc (COMDAT_BASE + 1) number p.comdats own_begun g.next in
       record {
         there = there;
@@ -238,21 +237,21 @@ module _ (p : ObjParts) (d : ComDat) (s : Sane p) (good : GoodComdat p d) where
       let g : Grows p.module m = after-grows.module in
       record {
         segs = s.segs;
-        groups = all-each (WholeGroup p.module) (WholeGroup m) (group-grows p.module m g) p.module.groups s.groups;
-        pubs = all-app (PubIn after) p.module.pubs new_pubs (all-each (PubIn p) (PubIn after) (λ x h. numbered-grows p after after-grows x.place h) p.module.pubs s.pubs) new.pubs;
-        pieces = all-app (PieceIn after) p.module.pieces (piece_with number d ∷ []) (all-each (PieceIn p) (PieceIn after) (λ x h. lies_at-grows p after after-grows x.seg x.offset _ h) p.module.pieces s.pieces) (own-lies, tt);
-        fixes = all-each (WholeFixAt p) (WholeFixAt after) (fix_at-grows p after after-grows) p.module.fixes s.fixes;
+        groups = all_weaker (WholeGroup p.module) (WholeGroup m) (group-grows p.module m g) p.module.groups s.groups;
+        pubs = all_joined (PubIn after) p.module.pubs new_pubs (all_weaker (PubIn p) (PubIn after) (λ x h. numbered-grows p after after-grows x.place h) p.module.pubs s.pubs) new.pubs;
+        pieces = all_joined (PieceIn after) p.module.pieces (piece_with number d ∷ []) (all_weaker (PieceIn p) (PieceIn after) (λ x h. lies_at-grows p after after-grows x.seg x.offset _ h) p.module.pieces s.pieces) (own-lies, tt);
+        fixes = all_weaker (WholeFixAt p) (WholeFixAt after) (fix_at-grows p after after-grows) p.module.fixes s.fixes;
         apart = s.apart;
         imports = s.imports;
         exports = s.exports;
         start = option-grows (WholeStart p.module) (WholeStart m) (start-grows p.module m g) p.module.start s.start;
         data_limit = omega (arith, good.limit, sum_by-append (λ (x : Piece). length x.bytes) p.module.pieces (piece_with number d ∷ []));
         fix_limit = s.fix_limit;
-        comdats = all-app WholeBegun p.comdats new_begun s.comdats new.begun;
+        comdats = all_joined WholeBegun p.comdats new_begun s.comdats new.begun;
         publics = new.publics;
         last = own-lies;
-        frames = all-each (FrameSet p.module) (FrameSet m) (option-grows (InFrame p.module) (InFrame m) (in_frame-grows p.module m g)) p.threads.frame s.frames;
-        goals = all-each (GoalSet p.module) (GoalSet m) (option-grows (InGoal p.module) (InGoal m) (in_goal-grows p.module m g)) p.threads.goal s.goals;
+        frames = all_weaker (FrameSet p.module) (FrameSet m) (option-grows (InFrame p.module) (InFrame m) (in_frame-grows p.module m g)) p.threads.frame s.frames;
+        goals = all_weaker (GoalSet p.module) (GoalSet m) (option-grows (InGoal p.module) (InGoal m) (in_goal-grows p.module m g)) p.threads.goal s.goals;
         four_frames = s.four_frames;
         four_goals = s.four_goals;
       }

@@ -1,7 +1,7 @@
 -- The comments: what is read is spelled so and good, and what is so is read. "88h COMENT".
-use Rattle.std.proofs.Common.{◌≡◌, ◌≢◌, ℕ, ◌≤◌, Bool, true, false, cond, eqb, leb, ltb, List, [], ◌∷◌, length, Ok, refl, ap, subst, arith, inl, inr}
+use Rattle.std.proofs.Common.{◌≡◌, ◌≢◌, ℕ, ◌≤◌, Bool, true, false, cond, eqb, leb, ltb, List, [], ◌∷◌, length, Ok, refl, ap, subst, inl, inr}
 use Rattle.std.specs.Prelude.{not}
-use Rattle.std.proofs.lemmas.Bool.{eqb-true, eqb-false, ne_eqb, ltb-false, le-ltb}
+use Rattle.std.proofs.lemmas.Bool.{eqb-true, eqb-false, ne_eqb, ltb-false, le-ltb, not-true}
 use Rattle.lx_bytes.specs.Cursor.{Cursor}
 use Rattle.lx_bytes.specs.LittleEndian.{AreBytes}
 use Rattle.obj_types.specs.declared.refusal.OmfRefusal.TheVariants.{BadField}
@@ -15,7 +15,7 @@ use Rattle.omf_model.specs.Spelling.{contents_form, class_form, entry_form}
 use Rattle.omf_fields.proofs.SpanLaws.{Spans, then_spans, then_splits, then_left, left_splits, Sound, Complete, given, ok_is, step, checked_step}
 use Rattle.omf_fields.proofs.FieldLaws.{Free, chosen, guard_ok, name_sound, name_complete, number_sound, number_complete, byte_sound, byte_complete}
 use Rattle.omf_fields.proofs.ListLaws.{present_sound, present_complete}
-use Rattle.omf_model.proofs.PlainLaws.{not_true}
+use Rattle.omf_fields.proofs.ItemLaws.{not-empty}
 use Rattle.omf_model.proofs.NameLaws.{IsRead, free_option}
 
 abbrev pub comment_types : List (ℕ × Bool)
@@ -26,10 +26,6 @@ comment_types = (0x88, false) ∷ []
 not_empty : (text : List ℕ) → eqb (length text) 0 ≡ false → text ≢ []
 not_empty text h none = eqb-false _ _ h (ap (λ (xs : List ℕ). length xs) none)
 
-is_not_empty : (text : List ℕ) → text ≢ [] → eqb (length text) 0 ≡ false
-is_not_empty [] h = absurd (h refl)
-is_not_empty (b ∷ rest) h = ne_eqb _ _ (λ none. omega (arith, none))
-
 abbrev pub IsGiven : List ℕ → Type 0
 IsGiven text = text ≢ []
 
@@ -38,11 +34,11 @@ unfolding given_name_at
 given_sound c x d bytes e =
     step _ _ _ name_sound c _ (x, d) bytes e λ n c1 t1 f1 b1 e1.
     let h = checked_step (not (eqb (length n) 0)) _ _ (x, d) e1 in
-    subst (λ (q : List ℕ × Cursor). Spans (name q.0) c q.1 × IsGiven q.0) (ok_is (n, c1) (x, d) h.1) (t1, not_empty n (not_true _ h.0))
+    subst (λ (q : List ℕ × Cursor). Spans (name q.0) c q.1 × IsGiven q.0) (ok_is (n, c1) (x, d) h.1) (t1, not_empty n (not-true _ h.0))
 
 given_complete : Complete given_name_at name IsGiven
 unfolding given_name_at
-given_complete c x d t ok = rw (name_complete c x d t tt, is_not_empty x ok) refl
+given_complete c x d t ok = rw (name_complete c x d t tt, not-empty x ok) refl
 
 -- ---- IMPDEF
 

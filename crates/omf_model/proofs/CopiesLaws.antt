@@ -4,6 +4,7 @@ use Rattle.std.specs.List.{AllByRecursion, Contains, repeat, range_with_len}
 use Rattle.std.proofs.Math.Nat.{suc-mul}
 use Rattle.std.proofs.lemmas.Bool.{cases_lt}
 use Rattle.std.proofs.lemmas.List.{length-map, nil_from_length}
+use Rattle.std.proofs.lemmas.List.FromFn.{length-range_with_len}
 use Rattle.lx_bytes.specs.Cursor.{Cursor}
 use Rattle.lx_bytes.specs.LittleEndian.{AreBytes}
 use Rattle.obj_types.specs.declared.limits.TheConstants.{MAX_DATA, MAX_DEPTH}
@@ -15,7 +16,7 @@ use Rattle.omf_model.specs.ReadData.{counted_len}
 use Rattle.omf_model.specs.Copies.{repeated, is_inside, place_in, block_copies, copy_count, capped, capped_len, IsInBlock, ShareByte, HasCopy, CopiesMeet}
 use Rattle.omf_model.proofs.DataLaws.{bool_cases}
 use Rattle.omf_model.proofs.BlockLaws.{blocks_sound}
-use Rattle.omf_model.proofs.CopyLaws.{Runs, length-range, length-repeat, length-expanded, length-origins, origins-run}
+use Rattle.omf_model.proofs.CopyLaws.{Runs, length-repeat, length-expanded, length-origins, origins-run}
 use Rattle.omf_model.proofs.PairLaws.{all-at, IsPlace, places-are}
 use Rattle.omf_model.proofs.PlaceLaws.{places-append, places-repeat, places-range, has-place, length-repeated}
 
@@ -26,7 +27,7 @@ copies-found wide at none o = refl
 copies-found wide at (bytes times content rest) o =
     let first : ℕ = at + width wide + 3 in
     let unit : List ℕ = range_with_len first (length content) in
-    let long : length unit ≡ length content = length-range first (length content) in
+    let long : length unit ≡ length content = length-range_with_len first (length content) in
     let whole : length (repeat times unit) ≡ times * length content = length-repeat times unit ∙ ap (λ (n : ℕ). times * n) long in
     places-append o (repeat times unit) (origins wide (first + length content) rest)
     ∙ (λ i. (places-repeat o times unit ∙ (λ j. repeated times (long j) (places-range o first (length content) j))) i ++ map (λ k. whole i + k) (copies-found wide (first + length content) rest o i))

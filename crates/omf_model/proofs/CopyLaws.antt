@@ -5,6 +5,8 @@ use Rattle.std.proofs.lemmas.Bool.{cases_lt}
 use Rattle.std.proofs.Math.Nat.{suc-mul}
 use Rattle.std.proofs.Math.ListN.{get_or-append}
 use Rattle.std.proofs.Math.Seq.{get_or-append_right}
+use Rattle.std.proofs.lemmas.List.FromFn.{length-range_with_len}
+use Rattle.lx_types.proofs.Lists.{all_joined}
 use Rattle.lx_bytes.specs.LittleEndian.{little_bytes}
 use Rattle.lx_bytes.proofs.Numbers.{length-little_bytes}
 use Rattle.omf_fields.specs.Fields.{width}
@@ -60,10 +62,6 @@ between-repeat (suc n) xs lo hi h = between-append xs (repeat n xs) lo hi h (bet
 between-wider : (xs : List ℕ) (lo hi a z : ℕ) → a ≤ lo → hi ≤ z → Between xs lo hi → Between xs a z
 between-wider xs lo hi a z low high h x lt = let b = h x lt in (omega (arith, low, b.0), omega (arith, high, b.1))
 
-pub length-range : (a n : ℕ) → length (range_with_len a n) ≡ n
-length-range a zero = refl
-length-range a (suc n) = omega (arith, length-range (a + 1) n)
-
 range-at : (a n x : ℕ) → x < n → get_or (range_with_len a n) x 0 ≡ a + x
 range-at a zero x lt = absurd (omega (arith, lt))
 range-at a (suc n) zero lt = omega arith
@@ -71,15 +69,15 @@ range-at a (suc n) (suc x) lt = range-at (a + 1) n x (omega (arith, lt)) ∙ ome
 
 range-between : (a n : ℕ) → Between (range_with_len a n) a (a + n)
 range-between a n x lt =
-    let small : x < n = omega (arith, lt, length-range a n) in
+    let small : x < n = omega (arith, lt, length-range_with_len a n) in
     (omega (arith, range-at a n x small), omega (arith, small, range-at a n x small))
 
 range-runs : (a n : ℕ) → Runs (range_with_len a n) a (a + n)
 range-runs a n x j lt low high =
-    let small : x < n = omega (arith, lt, length-range a n) in
+    let small : x < n = omega (arith, lt, length-range_with_len a n) in
     let at_x = range-at a n x small in
     let fits : x + j < n = omega (arith, at_x, high) in
-    record { there = omega (arith, fits, length-range a n); is = range-at a n (x + j) fits ∙ (let e : a + (x + j) ≡ get_or (range_with_len a n) x 0 + j = omega (arith, at_x) in e) }
+    record { there = omega (arith, fits, length-range_with_len a n); is = range-at a n (x + j) fits ∙ (let e : a + (x + j) ≡ get_or (range_with_len a n) x 0 + j = omega (arith, at_x) in e) }
 
 -- nothing of the interval is there
 runs-below : (xs : List ℕ) (lo hi a z : ℕ) → Between xs lo hi → hi ≤ a → Runs xs a z
@@ -125,10 +123,6 @@ origins-between wide at (nested times inner rest) =
 abbrev Inside : ℕ → ℕ → ℕ × ℕ → Type 0
 Inside lo hi c = (lo ≤ c.0) × (c.1 ≤ hi)
 
-all-append : {A : Type 0} (P : A → Type 0) (xs ys : List A) → AllByRecursion P xs → AllByRecursion P ys → AllByRecursion P (xs ++ ys)
-all-append P [] ys a b = b
-all-append P (x ∷ xs) ys a b = (a.0, all-append P xs ys a.1 b)
-
 all-map : {A : Type 0} (P Q : A → Type 0) (xs : List A) → ((x : A) → P x → Q x) → AllByRecursion P xs → AllByRecursion Q xs
 all-map P Q [] h a = tt
 all-map P Q (x ∷ xs) h a = (h x a.0, all-map P Q xs h a.1)
@@ -147,7 +141,7 @@ contents-inside wide at (nested times inner rest) =
     let first : ℕ = at + width wide + 2 in
     let past : ℕ = first + length (block_bytes wide inner) in
     let long = nested_long wide times inner rest in
-    all-append (Inside at (at + length (block_bytes wide (nested times inner rest)))) (contents wide first inner) (contents wide past rest)
+    all_joined (Inside at (at + length (block_bytes wide (nested times inner rest)))) (contents wide first inner) (contents wide past rest)
     (all-map (Inside first past) (Inside at (at + length (block_bytes wide (nested times inner rest)))) (contents wide first inner) (λ c h. (omega (arith, h.0), omega (arith, long, h.1))) (contents-inside wide first inner))
     (all-map (Inside past (past + length (block_bytes wide rest))) (Inside at (at + length (block_bytes wide (nested times inner rest)))) (contents wide past rest) (λ c h. (omega (arith, h.0), omega (arith, long, h.1))) (contents-inside wide past rest))
 
@@ -180,7 +174,7 @@ origins-run wide at (nested times inner rest) =
     let later : List ℕ = origins wide past rest in
     let own_between = between-repeat times (origins wide first inner) first past (origins-between wide first inner) in
     let later_between = origins-between wide past rest in
-    all-append (RunsOf (own ++ later)) (contents wide first inner) (contents wide past rest)
+    all_joined (RunsOf (own ++ later)) (contents wide first inner) (contents wide past rest)
     (all-map (λ c. RunsOf (origins wide first inner) c × Inside first past c) (RunsOf (own ++ later)) (contents wide first inner)
     (λ c h. runs-append own later c.0 c.1 (runs-repeat times (origins wide first inner) c.0 c.1 h.0) (runs-above later past (past + length (block_bytes wide rest)) c.0 c.1 later_between h.1.1))
     (all-both (RunsOf (origins wide first inner)) (Inside first past) (contents wide first inner) (origins-run wide first inner) (contents-inside wide first inner)))
@@ -203,7 +197,7 @@ pub length-origins : (wide : Bool) (at : ℕ) (b : Blocks) → length (origins w
 length-origins wide at none = refl
 length-origins wide at (bytes times content rest) =
     length-append (repeat times (range_with_len (at + width wide + 3) (length content))) (origins wide (at + width wide + 3 + length content) rest)
-    ∙ (λ i. (length-repeat times (range_with_len (at + width wide + 3) (length content)) ∙ ap (λ (n : ℕ). times * n) (length-range (at + width wide + 3) (length content))) i + length-origins wide (at + width wide + 3 + length content) rest i)
+    ∙ (λ i. (length-repeat times (range_with_len (at + width wide + 3) (length content)) ∙ ap (λ (n : ℕ). times * n) (length-range_with_len (at + width wide + 3) (length content))) i + length-origins wide (at + width wide + 3 + length content) rest i)
 length-origins wide at (nested times inner rest) =
     length-append (repeat times (origins wide (at + width wide + 2) inner)) (origins wide (at + width wide + 2 + length (block_bytes wide inner)) rest)
     ∙ (λ i. (length-repeat times (origins wide (at + width wide + 2) inner) ∙ ap (λ (n : ℕ). times * n) (length-origins wide (at + width wide + 2) inner)) i + length-origins wide (at + width wide + 2 + length (block_bytes wide inner)) rest i)

@@ -3,7 +3,7 @@ use Rattle.omf_model.specs.Fixups.{touches}
 use Rattle.std.proofs.Common.{◌≡◌, ℕ, zero, suc, ◌+◌, ◌≤◌, Bool, true, false, cond, leb, List, [], ◌∷◌, length, Option, Some, None, Ok, refl, sym, subst, arith, inl, inr}
 use Rattle.std.specs.Prelude.{◌⊎◌, IsSomeAnd, not, unwrap_or, option_map}
 use Rattle.std.specs.List.{list_any}
-use Rattle.std.proofs.lemmas.Bool.{leb-true, le-leb}
+use Rattle.std.proofs.lemmas.Bool.{leb-true, le-leb, not-true}
 use Rattle.lx_bytes.specs.Cursor.{Cursor}
 use Rattle.lx_bytes.specs.LittleEndian.{AreBytes}
 use Rattle.obj_types.specs.declared.limits.TheConstants.{MAX_DATA}
@@ -23,7 +23,7 @@ use Rattle.omf_model.specs.Spelling.{pair, contents_form}
 use Rattle.omf_model.specs.Good.{GoodAfter, GoodPlace, GoodData}
 use Rattle.omf_fields.proofs.SpanLaws.{then_left, left_splits, ok_is, bind_ok, step, checked_step}
 use Rattle.omf_fields.proofs.FieldLaws.{FromOne, chosen, number_sound, number_complete, below_sound, below_complete}
-use Rattle.omf_model.proofs.PlainLaws.{index_small, some_at, not_true}
+use Rattle.omf_model.proofs.PlainLaws.{index_small, some_at}
 use Rattle.omf_model.proofs.BlockLaws.{blocks_sound, blocks_complete}
 use Rattle.omf_model.proofs.NameLaws.{IsRead}
 
@@ -73,7 +73,7 @@ judge_sound p at offset_at seg offset len u range e plain =
           record {
             range = lies_from p.module.segs seg offset len range plain (leb-true _ _ a.0);
             limit = leb-true _ _ b.0;
-            on_no_fix = not_true _ c;
+            on_no_fix = not-true _ c;
           }
     ]
 

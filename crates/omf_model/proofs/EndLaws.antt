@@ -79,12 +79,12 @@ finished-same p none no_comdats by_index = rw none (λ i. record p.module {
 
 -- ---- a whole module has indices alone
 
-behind : {A : Type 0} (P : A → Type 0) (xs : List A) (i : ℕ) → IsSomeAnd (slice_get xs i) P → i < length xs
+pub behind : {A : Type 0} (P : A → Type 0) (xs : List A) (i : ℕ) → IsSomeAnd (slice_get xs i) P → i < length xs
 behind P [] i h = absurd h
 behind P (x ∷ xs) zero h = omega arith
 behind P (x ∷ xs) (suc i) h = omega (arith, behind P xs i h)
 
-in-bounds : {A : Type 0} (P : A → Type 0) (xs : List A) (i : ℕ) → IsSomeAnd (item xs i) P → i ≤ length xs
+pub in-bounds : {A : Type 0} (P : A → Type 0) (xs : List A) (i : ℕ) → IsSomeAnd (item xs i) P → i ≤ length xs
 in-bounds P xs zero h = omega arith
 in-bounds P xs (suc i) h = omega (arith, behind P xs i h)
 

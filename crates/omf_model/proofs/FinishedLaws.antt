@@ -5,6 +5,7 @@ use Rattle.std.specs.List.{All, AllByRecursion, enumerate_from, filter, fold, su
 use Rattle.std.proofs.lemmas.Bool.{le-leb, lt-leb}
 use Rattle.std.proofs.lemmas.List.{length-map}
 use Rattle.std.proofs.lemmas.List.FromFn.{length-enumerate_from}
+use Rattle.lx_types.proofs.Lists.{all_joined, all_weaker, all_kept}
 use Rattle.obj_types.specs.declared.object.Seg.{Seg}
 use Rattle.obj_types.specs.declared.object.Group.{Group}
 use Rattle.obj_types.specs.declared.object.Piece.{Piece}
@@ -28,11 +29,12 @@ use Rattle.obj_types.specs.Whole.{WholeSeg, IsPlainSeg, LiesIn, WholeGroup, Whol
 use Rattle.omf_model.specs.Finished.{index_for, place_for, public_for, piece_for, fix_for, greatest_end, seg_for, segs_for, numbered, comdat_for, group_for, finished}
 use Rattle.omf_model.specs.Begun.{IsComdat, IsNumber, IsNumbered, LiesAt}
 use Rattle.omf_model.proofs.DataLaws.{bool_cases}
-use Rattle.omf_model.proofs.PairLaws.{Pairs, all-at, pairs-at, all-app, pairs-map, all-mapped}
-use Rattle.omf_model.proofs.GrowLaws.{Grows, all-each, plain-grows, lies-grows, frame-grows, goal-grows, group-grows, start-grows}
+use Rattle.omf_model.proofs.PairLaws.{Pairs, all-at, pairs-at, pairs-map, all-mapped}
+use Rattle.omf_model.proofs.GrowLaws.{Grows, plain-grows, lies-grows, frame-grows, goal-grows, group-grows, start-grows}
 use Rattle.omf_model.proofs.NumberLaws.{same-test, WholeFixAt, numbers-from, in_number, HasPublic}
 use Rattle.omf_model.proofs.SaneLaws.{PieceIn, HasModule}
 use Rattle.omf_model.proofs.SaneStep.{WholeBegun, PubIn, Sane, counted, Apart, option-grows}
+use Rattle.omf_model.proofs.EndLaws.{in-bounds}
 
 -- ---- lists
 
@@ -46,15 +48,6 @@ item-behind : {A : Type 0} (P : A → Type 0) (xs ys : List A) (k i : ℕ) → i
 item-behind P xs ys k zero e h = absurd (omega (arith, e))
 item-behind P xs ys k (suc i) e h = get-behind P xs ys k i (omega (arith, e)) h
 
-in-range : {A : Type 0} (P : A → Type 0) (xs : List A) (i : ℕ) → IsSomeAnd (slice_get xs i) P → i < length xs
-in-range P [] i h = absurd h
-in-range P (x ∷ xs) zero h = omega arith
-in-range P (x ∷ xs) (suc i) h = omega (arith, in-range P xs i h)
-
-item-index : {A : Type 0} (P : A → Type 0) (xs : List A) (i : ℕ) → IsSomeAnd (item xs i) P → i ≤ length xs
-item-index P xs zero h = absurd h
-item-index P xs (suc i) h = omega (arith, in-range P xs i h)
-
 some-so : {A : Type 0} (P Q : A → Type 0) (o : Option A) → ((x : A) → P x → Q x) → IsSomeAnd o P → IsSomeAnd o Q
 some-so P Q None h k = absurd k
 some-so P Q (Some x) h k = h x k
@@ -62,14 +55,6 @@ some-so P Q (Some x) h k = h x k
 all-back : {A : Type 0} (P : A → Type 0) (xs : List A) → All P xs → AllByRecursion P xs
 all-back P [] h = tt
 all-back P (x ∷ xs) h = (h 0 x (omega arith), all-back P xs (λ k d lt. h (suc k) d (omega (arith, lt))))
-
-all-kept : {A : Type 0} (P : A → Type 0) (test : A → Bool) (xs : List A) → AllByRecursion P xs → AllByRecursion P (filter test xs)
-all-kept P test [] h = tt
-all-kept P test (x ∷ xs) h =
-    elim (bool_cases (test x)) [
-      | inl t ↦ rw t (h.0, all-kept P test xs h.1)
-      | inr t ↦ rw t (all-kept P test xs h.1)
-    ]
 
 sum-from : {A : Type 0} (f : A → ℕ) (g : A → A) → ((x : A) → f (g x) ≡ f x) → (m : ℕ) (xs : List A) → fold (λ n x. n + f x) m (map g xs) ≡ fold (λ n x. n + f x) m xs
 sum-from f g same m [] = refl
@@ -177,14 +162,14 @@ module _ (p : ObjParts) (s : Sane p) where
   number-counted : (i : ℕ) → IsNumber p i → IsCounted i
   number-counted i h =
       elim h [
-        | inl plain ↦ inl (plain.0, item-index (λ (x : Seg). x.debug ≡ false) p.module.segs i plain.1)
+        | inl plain ↦ inl (plain.0, in-bounds (λ (x : Seg). x.debug ≡ false) p.module.segs i plain.1)
         | inr comdat ↦ inr comdat.0
       ]
 
   lies-counted : (i offset len : ℕ) → LiesAt p i offset len → IsCounted i
   lies-counted i offset len h =
       elim h [
-        | inl lies ↦ inl (lies.0, item-index (λ (x : Seg). (x.debug ≡ false) × (offset + len ≤ x.len)) p.module.segs i lies.1)
+        | inl lies ↦ inl (lies.0, in-bounds (λ (x : Seg). (x.debug ≡ false) × (offset + len ≤ x.len)) p.module.segs i lies.1)
         | inr lies ↦ inr lies.comdat.0
       ]
 
@@ -208,7 +193,7 @@ module _ (p : ObjParts) (s : Sane p) where
 
   numbers-plain : AllByRecursion (λ (q : ℕ × BegunComdat). IsPlainSeg end q.0) (numbered n p.comdats)
   numbers-plain =
-      all-each (λ (q : ℕ × BegunComdat). (n + 1 ≤ q.0) × (q.0 < n + 1 + length p.comdats)) (λ (q : ℕ × BegunComdat). IsPlainSeg end q.0)
+      all_weaker (λ (q : ℕ × BegunComdat). (n + 1 ≤ q.0) × (q.0 < n + 1 + length p.comdats)) (λ (q : ℕ × BegunComdat). IsPlainSeg end q.0)
       (λ q h. some-so _ (λ (x : Seg). x.debug ≡ false) (item end.segs q.0) (λ x k. k.0) (comdat-seg (q.0 - (n + 1)) q.0 (omega (arith, h.0)) (omega (arith, h.0, h.1))))
       (numbered n p.comdats) (numbers-from (n + 1) p.comdats)
 
@@ -219,10 +204,10 @@ module _ (p : ObjParts) (s : Sane p) where
         | inr not_flat ↦
             let named : ℕ × BegunComdat → Bool = λ b. eqb b.1.group q.0 in
             let new : List ℕ = map (λ (b : ℕ × BegunComdat). b.0) (filter named (numbered n p.comdats)) in
-            let old : AllByRecursion (IsPlainSeg end) q.1.members = all-each (IsPlainSeg p.module) (IsPlainSeg end) (plain-grows p.module end end-grows) q.1.members (all-back (IsPlainSeg p.module) q.1.members h.members) in
-            let own : AllByRecursion (IsPlainSeg end) new = all-mapped (λ (b : ℕ × BegunComdat). IsPlainSeg end b.0) (IsPlainSeg end) (λ b. b.0) (λ b k. k) (filter named (numbered n p.comdats)) (all-kept (λ (b : ℕ × BegunComdat). IsPlainSeg end b.0) named (numbered n p.comdats) numbers-plain) in
+            let old : AllByRecursion (IsPlainSeg end) q.1.members = all_weaker (IsPlainSeg p.module) (IsPlainSeg end) (plain-grows p.module end end-grows) q.1.members (all-back (IsPlainSeg p.module) q.1.members h.members) in
+            let own : AllByRecursion (IsPlainSeg end) new = all-mapped (λ (b : ℕ × BegunComdat). IsPlainSeg end b.0) (IsPlainSeg end) (λ b. b.0) (λ b k. k) (filter named (numbered n p.comdats)) (all_kept (λ (b : ℕ × BegunComdat). IsPlainSeg end b.0) named (numbered n p.comdats) numbers-plain) in
             let whole : WholeGroup end (record q.1 { members = q.1.members ++ new }) = record {
-              members = all-at (IsPlainSeg end) (q.1.members ++ new) (all-app (IsPlainSeg end) q.1.members new old own);
+              members = all-at (IsPlainSeg end) (q.1.members ++ new) (all_joined (IsPlainSeg end) q.1.members new old own);
               flat = λ e. let yes' : bytes_eq q.1.name (codes "FLAT") ≡ true = ap (λ (xs : List ℕ). bytes_eq xs (codes "FLAT")) e in absurd cc;
             } in
             rw not_flat whole
@@ -255,14 +240,14 @@ module _ (p : ObjParts) (s : Sane p) where
   -- ---- COMDATs
 
   frame-apart : (c : ℕ) → n < c → (f : Frame) → WholeFrame p.module f → IsApartFrame c f
-  frame-apart c past (frames.Seg i) h = λ e. omega (arith, e, past, item-index (λ (x : Seg). x.debug ≡ false) p.module.segs i h)
+  frame-apart c past (frames.Seg i) h = λ e. omega (arith, e, past, in-bounds (λ (x : Seg). x.debug ≡ false) p.module.segs i h)
   frame-apart c past (frames.Group i) h = tt
   frame-apart c past (frames.Ext i) h = tt
   frame-apart c past frames.Here h = tt
   frame-apart c past frames.OfTarget h = tt
 
   goal-apart : (c : ℕ) → n < c → (f : Goal) → WholeGoal p.module f → IsApartGoal c f
-  goal-apart c past (goals.Seg i) h = λ e. omega (arith, e, past, item-index (λ (x : Seg). x.debug ≡ false) p.module.segs i h)
+  goal-apart c past (goals.Seg i) h = λ e. omega (arith, e, past, in-bounds (λ (x : Seg). x.debug ≡ false) p.module.segs i h)
   goal-apart c past (goals.Group i) h = tt
   goal-apart c past (goals.Ext i) h = tt
 
@@ -312,7 +297,7 @@ module _ (p : ObjParts) (s : Sane p) where
   numbers-apart : (bs : List BegunComdat) (c : ℕ) → Pairs (λ (q r : ℕ × BegunComdat). q.0 ≢ r.0) (enumerate_from c bs)
   numbers-apart [] c = tt
   numbers-apart (b ∷ bs) c = (
-    all-each (λ (q : ℕ × BegunComdat). (c + 1 ≤ q.0) × (q.0 < c + 1 + length bs)) (λ (q : ℕ × BegunComdat). c ≢ q.0) (λ q h e. omega (arith, e, h.0)) (enumerate_from (c + 1) bs) (numbers-from (c + 1) bs),
+    all_weaker (λ (q : ℕ × BegunComdat). (c + 1 ≤ q.0) × (q.0 < c + 1 + length bs)) (λ (q : ℕ × BegunComdat). c ≢ q.0) (λ q h e. omega (arith, e, h.0)) (enumerate_from (c + 1) bs) (numbers-from (c + 1) bs),
     numbers-apart bs (c + 1),
   )
 
@@ -320,7 +305,7 @@ module _ (p : ObjParts) (s : Sane p) where
 
   end-whole : WholeModule end
   end-whole = record {
-    segs = all-at WholeSeg end.segs (all-app WholeSeg p.module.segs new_segs s.segs (segs-whole p.module.pieces p.comdats (COMDAT_BASE + 1) s.comdats));
+    segs = all-at WholeSeg end.segs (all_joined WholeSeg p.module.segs new_segs s.segs (segs-whole p.module.pieces p.comdats (COMDAT_BASE + 1) s.comdats));
     groups = all-at (WholeGroup end) end.groups (groups-end 1 p.module.groups s.groups);
     pubs = all-at (λ (x : Pub). WholePlace end x.place) end.pubs (all-mapped (PubIn p) (λ (x : Pub). WholePlace end x.place) (public_for n) (λ x h. place-end x.place h) p.module.pubs s.pubs);
     pieces = all-at (λ (x : Piece). LiesIn end x.seg x.offset (length x.bytes)) end.pieces (all-mapped (PieceIn p) (λ (x : Piece). LiesIn end x.seg x.offset (length x.bytes)) (piece_for n) (λ x h. lies-at x.seg x.offset (length x.bytes) h) p.module.pieces s.pieces);

@@ -1,7 +1,7 @@
 -- A fix byte and what stands behind it: what is read is spelled so and good, and what is so is read.
 use Rattle.std.proofs.Common.{◌≡◌, ℕ, ◌%◌, ◌≤◌, Bool, true, false, cond, eqb, List, length, get_or, Option, Some, None, Ok, refl, ap, subst, ◌∙◌, inl, inr}
 use Rattle.std.specs.Prelude.{◌&&◌, ◌||◌, IfSome, not, is_some, unwrap_or}
-use Rattle.std.proofs.lemmas.Bool.{eqb-true}
+use Rattle.std.proofs.lemmas.Bool.{eqb-true, and_from}
 use Rattle.lx_bytes.specs.Cursor.{Cursor}
 use Rattle.obj_types.specs.declared.refusal.OmfRefusal.TheVariants.{BadIndex}
 use Rattle.obj_types.specs.declared.object.Frame.{Frame}
@@ -28,10 +28,6 @@ use Rattle.omf_model.proofs.NameLaws.{free_option}
 pub and_true : (a b : Bool) → (a && b) ≡ true → (a ≡ true) × (b ≡ true)
 and_true true b e = (refl, e)
 and_true false b e = absurd cc
-
-pub true_and : (a b : Bool) → a ≡ true → b ≡ true → (a && b) ≡ true
-true_and true b p q = q
-true_and false b p q = absurd cc
 
 -- ---- threads
 
@@ -239,7 +235,7 @@ fix_sound p wide judged c x d bytes e =
 
 threads_again : (p : ObjParts) (d : FixData) → GoodMethods p d → has_threads p d.fix ≡ true
 threads_again p d g =
-    true_and _ _ (set_back (by_frame_thread d.fix) (get_or p.threads.frame (frame_bits d.fix % 4) None) (frame_by (frame_bits d.fix) (unwrap_or d.frame 0)) g.frame_set)
+    and_from _ _ (set_back (by_frame_thread d.fix) (get_or p.threads.frame (frame_bits d.fix % 4) None) (frame_by (frame_bits d.fix) (unwrap_or d.frame 0)) g.frame_set)
     (set_back (by_target_thread d.fix) (get_or p.threads.goal (target_bits d.fix) None) (goal_by (target_bits d.fix) (unwrap_or d.target 0)) g.goal_set)
 
 frame_index_again : (p : ObjParts) (m : ℕ) (b : Bool) (t : Option Frame) (o : Option ℕ) (front : List ℕ) → present (not b && has_index m) index o front → IfSome o (HasMethod p m) → IfSome (cond b t (Some (frame_by m (unwrap_or o 0)))) (IsPlainFrame p) → IfSome o (MethodIndex p m)

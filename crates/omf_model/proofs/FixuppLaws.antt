@@ -44,14 +44,14 @@ thread_sound p wide record_at b c0 c x d bytes small front e =
 
 -- ---- FIXUP
 
-second_sound : (at : ℕ) → Sound (second_of at) byte Free
+pub second_sound : (at : ℕ) → Sound (second_of at) byte Free
 second_sound at c x d bytes e =
     elim (chosen (eqb (length c.left) 0) (Err (Short at)) (byte_at c) (given x d) e) [
       | inl h ↦ absurd cc
       | inr h ↦ byte_sound c x d bytes h.1
     ]
 
-second_complete : (at : ℕ) → Complete (second_of at) byte Free
+pub second_complete : (at : ℕ) → Complete (second_of at) byte Free
 second_complete at c x d t ok =
     let long : length c.left ≡ 1 + length d.left = ap (λ (xs : List ℕ). length xs) t.joined ∙ length-append t.front d.left ∙ ap (λ (xs : List ℕ). length xs + length d.left) t.so.1 in
     rw (ne_eqb (length c.left) 0 (λ none. omega (arith, none, long))) (byte_complete c x d t ok)

@@ -2,6 +2,7 @@
 use Rattle.std.proofs.Common.{◌≡◌, ℕ, zero, suc, ◌+◌, ◌≤◌, false, List, [], ◌∷◌, ◌++◌, length, sym, subst, arith}
 use Rattle.std.specs.Prelude.{IsSomeAnd, slice_get}
 use Rattle.std.specs.List.{AllByRecursion}
+use Rattle.lx_types.proofs.Lists.{all_weaker}
 use Rattle.obj_types.specs.declared.object.Seg.{Seg}
 use Rattle.obj_types.specs.declared.object.Group.{Group}
 use Rattle.obj_types.specs.declared.object.Frame.{Frame}
@@ -15,10 +16,6 @@ use Rattle.obj_types.specs.declared.symbol.PubPlace.{PubPlace}
 use Rattle.obj_types.specs.declared.symbol.PubPlace.TheVariants.{In, Const}
 use Rattle.obj_types.specs.Items.{item}
 use Rattle.obj_types.specs.Whole.{IsPlainSeg, LiesIn, WholeGroup, WholePlace, WholeFrame, WholeGoal, WholeFix, WholeStart}
-
-pub all-each : {A : Type 0} (P Q : A → Type 0) → ((x : A) → P x → Q x) → (xs : List A) → AllByRecursion P xs → AllByRecursion Q xs
-all-each P Q h [] a = tt
-all-each P Q h (x ∷ xs) a = (h x a.0, all-each P Q h xs a.1)
 
 -- m has what old has, and maybe more behind it
 pub record Grows (old m : ObjModule) : Type 0 where
@@ -59,7 +56,7 @@ module _ (old m : ObjModule) (g : Grows old m) where
   goal-grows (goals.Ext i) h = (h.0, omega (arith, h.1, g.exts))
 
   members-grow : (is : List ℕ) → AllByRecursion (IsPlainSeg old) is → AllByRecursion (IsPlainSeg m) is
-  members-grow is h = all-each (IsPlainSeg old) (IsPlainSeg m) plain-grows is h
+  members-grow is h = all_weaker (IsPlainSeg old) (IsPlainSeg m) plain-grows is h
 
   pub place-grows : (p : PubPlace) → WholePlace old p → WholePlace m p
   place-grows (In seg offset) h = plain-grows seg h

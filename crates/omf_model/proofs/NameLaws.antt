@@ -1,8 +1,8 @@
 -- The records of names, segments and symbols: what is read is spelled so and good, and what is so is read.
-use Rattle.std.proofs.Common.{◌≡◌, ℕ, suc, ◌+◌, ◌*◌, ◌≤◌, Bool, true, false, cond, eqb, leb, List, [], ◌∷◌, length, Option, Some, None, Ok, Err, refl, ap, subst, ◌∙◌, arith, inl, inr, length-append}
+use Rattle.std.proofs.Common.{◌≡◌, ℕ, ◌+◌, ◌*◌, ◌≤◌, Bool, true, false, cond, eqb, leb, List, [], ◌∷◌, length, Option, Some, None, Ok, Err, refl, ap, subst, ◌∙◌, arith, inl, inr, length-append}
 use Rattle.std.specs.Prelude.{IfSome, not, bytes_eq, codes, ◌==◌}
 use Rattle.std.specs.List.{AllByRecursion}
-use Rattle.std.proofs.lemmas.Bool.{eqb-true, le-leb, leb-true}
+use Rattle.std.proofs.lemmas.Bool.{eqb-true, le-leb, leb-true, not-true}
 use Rattle.lx_bytes.specs.Cursor.{Cursor}
 use Rattle.lx_bytes.specs.LittleEndian.{AreBytes}
 use Rattle.obj_types.specs.declared.limits.TheConstants.{MAX_DATA}
@@ -20,7 +20,8 @@ use Rattle.omf_fields.proofs.SpanLaws.{Spans, then_spans, then_splits, then_left
 use Rattle.omf_fields.proofs.FieldLaws.{Free, FromOne, chosen, name_sound, name_complete, number_sound, number_complete, byte_sound, byte_complete, or_zero_sound, or_zero_complete, below_sound, below_complete}
 use Rattle.omf_fields.proofs.ListLaws.{OneByte, list_sound, list_complete, present_sound, present_complete}
 use Rattle.omf_fields.proofs.LengthLaws.{length_sound, length_complete}
-use Rattle.omf_model.proofs.PlainLaws.{index_small, not_true, plain_sound, plain_complete, plain_index, or_zero_plain_sound, or_zero_plain_complete}
+use Rattle.omf_fields.proofs.ItemLaws.{name-one}
+use Rattle.omf_model.proofs.PlainLaws.{index_small, plain_sound, plain_complete, plain_index, or_zero_plain_sound, or_zero_plain_complete}
 
 -- the bytes at a cursor spell a record that is good, of these types
 abbrev pub IsRead : List (ℕ × Bool) → ObjParts → Bool → Cursor → Record → Type 0
@@ -38,9 +39,6 @@ all_free (x ∷ xs) = (tt, all_free xs)
 
 -- ---- items take bytes
 
-pub name_one : OneByte name
-name_one text bytes h = let len : length bytes ≡ suc (length text) = ap (λ (xs : List ℕ). length xs) h.1 in omega (arith, len)
-
 pub then_one : (first second : Form) (bytes : List ℕ) → (first then second) bytes → ((front : List ℕ) → first front → 1 ≤ length front) → 1 ≤ length bytes
 then_one first second bytes t one =
     let len : length bytes ≡ length t.front + length t.back = ap (λ (xs : List ℕ). length xs) t.joined ∙ length-append t.front t.back in
@@ -52,12 +50,12 @@ pub lnames_sound : (p : ObjParts) (wide : Bool) (c : Cursor) (r : Record) → Ar
 unfolding lnames_at
 lnames_sound p wide c r bytes e =
     let a = bind_ok (list_at name_at c) _ r e in
-    let l = list_sound name_at name Free name_sound name_one c a.0 bytes a.1 in
+    let l = list_sound name_at name Free name_sound name-one c a.0 bytes a.1 in
     subst (λ (q : Record). IsRead ((0x96, false) ∷ []) p wide c q) (ok_is (lnames a.0) r a.2) (l.0, tt, refl)
 
 pub lnames_complete : (c : Cursor) (names : List (List ℕ)) → each name names c.left → lnames_at c ≡ Ok (lnames names)
 unfolding lnames_at
-lnames_complete c names so = rw (list_complete name_at name Free name_complete name_one c names so (all_free names)) refl
+lnames_complete c names so = rw (list_complete name_at name Free name_complete name-one c names so (all_free names)) refl
 
 -- ---- SEGDEF
 
@@ -74,7 +72,7 @@ segdef_sound p wide c r bytes e =
     step _ _ _ (below_sound (length p.names)) c5 _ r b5 e5 λ class c6 t6 g6 b6 e6.
     step _ _ _ (or_zero_sound (length p.names)) c6 _ r b6 e6 λ overlay c7 t7 g7 b7 e7.
     subst (λ (q : Record). IsRead (pair 0x98) p wide c q) (ok_is _ r e7) (
-      (not_true _ k2.0, then_left _ _ c c1 t1 (then_left _ _ c1 c2 t2 (then_left _ _ c2 c3 t3 (then_left _ _ c3 c4 t4 (then_left _ _ c4 c5 t5 (then_left _ _ c5 c6 t6 (then_left _ anything c6 c7 t7 tt))))))),
+      (not-true _ k2.0, then_left _ _ c c1 t1 (then_left _ _ c1 c2 t2 (then_left _ _ c2 c3 t3 (then_left _ _ c3 c4 t4 (then_left _ _ c4 c5 t5 (then_left _ _ c5 c6 t6 (then_left _ anything c6 c7 t7 tt))))))),
       record { attributes = k1.0; name = g5; class = g6; overlay = g7 },
       refl,
     )
@@ -129,8 +127,8 @@ ext_complete c x d t ok =
     let s = then_splits (name x.name) (index x.type) c d t in
     rw (name_complete c x.name s.0 s.1 tt, or_zero_complete 0 s.0 x.type d s.2 (omega (arith, ok))) refl
 
-ext_one : OneByte ext_form
-ext_one d bytes h = then_one (name d.name) (index d.type) bytes h (name_one d.name)
+pub ext_one : OneByte ext_form
+ext_one d bytes h = then_one (name d.name) (index d.type) bytes h (name-one d.name)
 
 pub extdef_sound : (p : ObjParts) (wide local : Bool) (c : Cursor) (r : Record) → AreBytes c.left → extdef_at local c ≡ Ok r → IsRead (ext_types local) p wide c r
 unfolding extdef_at
@@ -164,8 +162,8 @@ pub_complete wide c x d t ok =
     let s2 = then_splits (number (width wide) x.offset) (index x.type) s1.0 d s1.2 in
     rw (name_complete c x.name s1.0 s1.1 tt, number_complete (width wide) s1.0 x.offset s2.0 s2.1 tt, or_zero_complete 0 s2.0 x.type d s2.2 (omega (arith, ok))) refl
 
-pub_one : (wide : Bool) → OneByte (pub_form wide)
-pub_one wide d bytes h = then_one (name d.name) _ bytes h (name_one d.name)
+pub pub_one : (wide : Bool) → OneByte (pub_form wide)
+pub_one wide d bytes h = then_one (name d.name) _ bytes h (name-one d.name)
 
 pub pubdef_sound : (p : ObjParts) (wide local : Bool) (c : Cursor) (r : Record) → AreBytes c.left → pubdef_at local wide p c ≡ Ok r → IsRead (pub_types local) p wide c r
 unfolding pubdef_at
@@ -215,7 +213,7 @@ member_complete p flat c x d t ok =
     let s = then_splits (byte 255) (index x) c d t in
     rw (byte_complete c 255 s.0 s.1 tt) (member_index_again p flat s.0 x d s.2 ok)
 
-member_one : OneByte member_form
+pub member_one : OneByte member_form
 member_one i bytes h = then_one (byte 255) (index i) bytes h (λ front f. let len : length front ≡ 1 = ap (λ (xs : List ℕ). length xs) f.1 in omega (arith, len))
 
 abbrev flat_name : ObjParts → ℕ → Bool
@@ -305,8 +303,8 @@ com_complete c x d t ok =
     let s2 = then_splits (index x.type) (communal_form x.communal) s1.0 d s1.2 in
     rw (name_complete c x.name s1.0 s1.1 tt, or_zero_complete 0 s1.0 x.type s2.0 s2.1 (omega (arith, ok.0)), communal_complete s2.0 x.communal d s2.2 ok.1) refl
 
-com_one : OneByte com_form
-com_one d bytes h = then_one (name d.name) _ bytes h (name_one d.name)
+pub com_one : OneByte com_form
+com_one d bytes h = then_one (name d.name) _ bytes h (name-one d.name)
 
 pub comdef_sound : (p : ObjParts) (wide : Bool) (c : Cursor) (r : Record) → AreBytes c.left → comdef_at c ≡ Ok r → IsRead ((0xB0, false) ∷ []) p wide c r
 unfolding comdef_at

@@ -3,6 +3,7 @@ use Rattle.std.proofs.Common.{◌≡◌, ℕ, zero, suc, ◌+◌, ◌-◌, ◌<�
 use Rattle.std.specs.Prelude.{◌&&◌, ◌||◌}
 use Rattle.std.specs.List.{AllByRecursion, AllPairs, filter, list_any, range_with_len}
 use Rattle.std.proofs.lemmas.Bool.{cases_lt, eqb-true, leb-true}
+use Rattle.lx_types.proofs.Lists.{all_joined}
 use Rattle.omf_model.specs.Blocks.{Blocks, origins, contents, expanded_len}
 use Rattle.omf_model.specs.Fixups.{places_of}
 use Rattle.omf_model.proofs.DataLaws.{bool_cases}
@@ -25,14 +26,10 @@ pairs-at R (x ∷ xs) h zero (suc j) d lt past = all-at (R x) xs h.0 j d (omega 
 pairs-at R (x ∷ xs) h (suc i) zero d lt past = absurd (omega (arith, lt))
 pairs-at R (x ∷ xs) h (suc i) (suc j) d lt past = pairs-at R xs h.1 i j d (omega (arith, lt)) (omega (arith, past))
 
-pub all-app : {A : Type 0} (P : A → Type 0) (xs ys : List A) → AllByRecursion P xs → AllByRecursion P ys → AllByRecursion P (xs ++ ys)
-all-app P [] ys a b = b
-all-app P (x ∷ xs) ys a b = (a.0, all-app P xs ys a.1 b)
-
 -- each pair of two lists joined
 pub pairs-append : {A : Type 0} (R : A → A → Type 0) (xs ys : List A) → Pairs R xs → Pairs R ys → AllByRecursion (λ x. AllByRecursion (R x) ys) xs → Pairs R (xs ++ ys)
 pairs-append R [] ys a b c = b
-pairs-append R (x ∷ xs) ys a b c = (all-app (R x) xs ys a.0 c.0, pairs-append R xs ys a.1 b c.1)
+pairs-append R (x ∷ xs) ys a b c = (all_joined (R x) xs ys a.0 c.0, pairs-append R xs ys a.1 b c.1)
 
 pub pairs-map : {A B : Type 0} (R : A → A → Type 0) (S : B → B → Type 0) (f : A → B) → ((x y : A) → R x y → S (f x) (f y)) → (xs : List A) → Pairs R xs → Pairs S (map f xs)
 pairs-map R S f h [] p = tt

@@ -6,6 +6,7 @@ use Rattle.obj_types.specs.Items.{item}
 use Rattle.obj_types.specs.Whole.{IsPlainSeg}
 use Rattle.omf_model.specs.Items.{is_debug_seg}
 use Rattle.std.proofs.Common.{◌≡◌, ◌≢◌, ℕ, zero, suc, ◌<◌, ◌≤◌, Bool, true, false, List, [], ◌∷◌, length, Option, Some, None, refl, sym, ap, subst, arith, inl, inr}
+use Rattle.std.proofs.lemmas.Bool.{not-true}
 use Rattle.lx_bytes.specs.Cursor.{Cursor}
 use Rattle.obj_types.specs.declared.parts.ObjParts.{ObjParts}
 use Rattle.obj_types.specs.declared.parts.TheConstants.{COMDAT_BASE}
@@ -63,10 +64,6 @@ plain_index segs (suc i) h = (omega arith, omega (arith, in_bounds segs i (λ (s
 pub plain_not_debug : (segs : List Seg) (i : ℕ) → IsSomeAnd (item segs i) (λ (s : Seg). s.debug ≡ false) → is_debug_seg segs i ≡ false
 plain_not_debug segs i h = is_no_debug (item segs i) h
 
-pub not_true : (b : Bool) → not b ≡ true → b ≡ false
-not_true true e = absurd cc
-not_true false e = refl
-
 pub plain_sound : (p : ObjParts) → Sound (plain_seg_at p) index (IsPlainSeg p.module)
 unfolding plain_seg_at
 plain_sound p c x d bytes e =
@@ -78,7 +75,7 @@ plain_sound p c x d bytes e =
     let spans : Spans (index a.0.0) c a.0.1 = subst (λ (q : ℕ × Cursor). Spans (index q.0) c q.1) g.1 t in
     let range : FromOne (length p.module.segs) a.0.0 = subst (λ (k : ℕ). FromOne (length p.module.segs) k) (sym same) (among _ i g.0) in
     subst (λ (q : ℕ × Cursor). Spans (index q.0) c q.1 × IsPlainSeg p.module q.0) (ok_is a.0 (x, d) h.1)
-    (spans, plain_from p.module.segs a.0.0 range (not_true _ h.0))
+    (spans, plain_from p.module.segs a.0.0 range (not-true _ h.0))
 
 pub plain_complete : (p : ObjParts) → Complete (plain_seg_at p) index (IsPlainSeg p.module)
 unfolding plain_seg_at
@@ -112,7 +109,7 @@ or_zero_plain_sound p c x d bytes e =
     let spans : Spans (index a.0.0) c a.0.1 = subst (λ (q : ℕ × Cursor). Spans (index q.0) c q.1) g.1 t in
     let range : a.0.0 ≤ length p.module.segs = subst (λ (k : ℕ). k ≤ length p.module.segs) (sym same) (among_or_zero _ i g.0) in
     subst (λ (q : ℕ × Cursor). Spans (index q.0) c q.1 × PlainOrZero p q.0) (ok_is a.0 (x, d) h.1)
-    (spans, or_zero_from p.module.segs a.0.0 range (not_true _ h.0))
+    (spans, or_zero_from p.module.segs a.0.0 range (not-true _ h.0))
 
 pub or_zero_plain_complete : (p : ObjParts) → Complete (plain_seg_or_zero p) index (PlainOrZero p)
 unfolding plain_seg_or_zero

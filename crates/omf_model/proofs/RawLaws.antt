@@ -2,7 +2,7 @@
 use Rattle.std.proofs.Common.{◌≡◌, ℕ, zero, suc, ◌+◌, ◌-◌, ◌/◌, ◌%◌, ◌<◌, ◌≤◌, Bool, true, false, cond, eqb, List, [], ◌∷◌, ◌++◌, length, take, drop, get_or, Result, Ok, Err, refl, sym, ap, subst, ◌∙◌, arith, inl, inr, append_assoc, length-append}
 use Rattle.std.specs.Prelude.{◌⊎◌, ◌||◌}
 use Rattle.std.proofs.Math.Seq.{take-suc, get_or-append_seam}
-use Rattle.std.proofs.lemmas.Bool.{cases_lt, eqb-false, eqb-true, eq-eqb, ne_eqb, leb-true, le-leb}
+use Rattle.std.proofs.lemmas.Bool.{cases_lt, eqb-false, eqb-true, eq-eqb, ne_eqb, leb-true, le-leb, not-true, false_from_ne_true}
 use Rattle.std.proofs.lemmas.List.{take_at, drop_at, take-append-drop, length-take}
 use Rattle.lx_bytes.specs.Cursor.{Cursor}
 use Rattle.lx_bytes.specs.LittleEndian.{AreBytes, little, little_bytes}
@@ -13,12 +13,12 @@ use Rattle.omf_frame.specs.Delimited.{length_word}
 use Rattle.omf_frame.specs.Refusal.{IsCutOff, no_length, length_0, past_end, Refuses}
 use Rattle.omf_frame.specs.declared.refusal.FrameRefusal.{FrameRefusal}
 use Rattle.omf_frame.specs.declared.refusal.FrameRefusal.TheVariants as framing
+use Rattle.omf_frame.proofs.Records.{pair_of_bytes}
 use Rattle.obj_types.specs.declared.refusal.OmfRefusal.{OmfRefusal}
 use Rattle.obj_types.specs.declared.refusal.OmfRefusal.TheVariants.{Short, UnknownType, BadChecksum}
 use Rattle.omf_model.specs.RawRecord.{RawRecord, raw_of, is_whole, whole_at, raw_at, sum_of, as_omf}
 use Rattle.omf_fields.proofs.SpanLaws.{done, ok_is, bind_ok, checked_step}
 use Rattle.omf_fields.proofs.FieldLaws.{guard_so, chosen}
-use Rattle.omf_model.proofs.PlainLaws.{not_true}
 use Rattle.omf_model.proofs.FixLaws.{and_true}
 use Rattle.omf_model.proofs.DataLaws.{bool_cases}
 
@@ -33,15 +33,10 @@ raw_is f at ty body checksum rest a b c d e g = λ i. record { at = a i; ty = b 
 tail_parts : (k : ℕ) (xs : List ℕ) → suc k ≤ length xs → take k xs ++ get_or xs k 0 ∷ [] ++ drop (suc k) xs ≡ xs
 tail_parts k xs long = ap (λ (ys : List ℕ). ys ++ drop (suc k) xs) (sym (take-suc xs k 0 (omega (arith, long)))) ∙ take-append-drop (suc k) xs
 
-pair_bytes : (l h : ℕ) → l < 256 → h < 256 → AreBytes (l ∷ h ∷ [])
-pair_bytes l h low high zero = low
-pair_bytes l h low high (suc zero) = high
-pair_bytes l h low high (suc (suc i)) = omega arith
-
 whole_begins : (t l h k : ℕ) (xs : List ℕ) → l < 256 → h < 256 → little (l ∷ h ∷ []) ≡ suc k → suc k ≤ length xs → BeginsWhole (t ∷ l ∷ h ∷ xs) t (take k xs) (get_or xs k 0) (drop (suc k) xs)
 whole_begins t l h k xs low high word long =
     let body : length (take k xs) ≡ k = omega (arith, long, length-take k xs) in
-    let spelled : little_bytes 2 (length (take k xs) + 1) ≡ l ∷ h ∷ [] = ap (λ (n : ℕ). little_bytes 2 n) (let e : length (take k xs) + 1 ≡ little (l ∷ h ∷ []) = omega (arith, body, word) in e) ∙ little_bytes-little (l ∷ h ∷ []) (pair_bytes l h low high) in
+    let spelled : little_bytes 2 (length (take k xs) + 1) ≡ l ∷ h ∷ [] = ap (λ (n : ℕ). little_bytes 2 n) (let e : length (take k xs) + 1 ≡ little (l ∷ h ∷ []) = omega (arith, body, word) in e) ∙ little_bytes-little (l ∷ h ∷ []) (pair_of_bytes l h low high) in
     record {
       joined = ap (λ (ys : List ℕ). t ∷ l ∷ h ∷ ys) (sym (tail_parts k xs long)) ∙ ap (λ (ws : List ℕ). t ∷ ws ++ take k xs ++ get_or xs k 0 ∷ [] ++ drop (suc k) xs) (sym spelled);
       counted = omega (arith, body, word, low, high);
@@ -80,7 +75,7 @@ whole_left at (t ∷ l ∷ h ∷ xs) f bytes e =
     let g = guard_so (is_whole len (t ∷ l ∷ h ∷ xs)) (Short at) (raw_of len (record { at = at; left = t ∷ l ∷ h ∷ xs })) f e in
     let a = and_true _ _ g.0 in
     let b = and_true _ _ a.0 in
-    let some : 1 ≤ len = positive len (not_true _ b.1) in
+    let some : 1 ≤ len = positive len (not-true _ b.1) in
     let fits : 3 + len ≤ length (t ∷ l ∷ h ∷ xs) = leb-true _ _ a.1 in
     raw_found at t l h (len - 1) xs (bytes 1) (bytes 2) (omega (arith, some)) (omega (arith, some, fits)) f g.1
   where
@@ -167,16 +162,12 @@ whole_short c f e =
       | inr h ↦ refusal_is (Short c.at) f h.1
     ]
 
-unknown_again : (b : Bool) → (b ≡ true → ⊥) → b ≡ false
-unknown_again true h = absurd (h refl)
-unknown_again false h = refl
-
 -- what a whole record is, by its test
 whole_parts : (len : ℕ) (bytes : List ℕ) → is_whole len bytes ≡ true → (3 ≤ length bytes) × (eqb len 0 ≡ false) × (3 + len ≤ length bytes)
 whole_parts len bytes e =
     let a = and_true _ _ e in
     let b = and_true _ _ a.0 in
-    (leb-true _ _ b.0, not_true _ b.1, leb-true _ _ a.1)
+    (leb-true _ _ b.0, not-true _ b.1, leb-true _ _ a.1)
 
 not_whole : (bytes : List ℕ) → IsCutOff bytes → is_whole (length_word bytes) bytes ≡ true → ⊥
 not_whole bytes (no_length h) e = omega (arith, h, (whole_parts _ bytes e).0)
@@ -185,7 +176,7 @@ not_whole bytes (past_end h) e = omega (arith, h, (whole_parts _ bytes e).2)
 
 pub cut_off : (c : Cursor) → IsCutOff c.left → whole_at c ≡ Err (Short c.at)
 unfolding whole_at
-cut_off c cut = rw (unknown_again (is_whole (length_word c.left) c.left) (not_whole c.left cut)) refl
+cut_off c cut = rw (false_from_ne_true (is_whole (length_word c.left) c.left) (not_whole c.left cut)) refl
 
 cut_off_from : (bytes : List ℕ) → is_whole (length_word bytes) bytes ≡ false → IsCutOff bytes
 cut_off_from bytes e =
@@ -221,7 +212,7 @@ pub raw_refused : (c : Cursor) (refusal : FrameRefusal) → Refuses c refusal �
 unfolding raw_at
 raw_refused c (framing.Short at) h = rw (cut_off c h.1) (at_place at c.at (λ n. Short n) h.0)
 raw_refused c (framing.UnknownType at ty) h =
-    rw (whole_complete c ty h.1.body h.1.checksum h.1.rest h.1.whole, unknown_again (is_record_type ty) h.1.unknown) (at_place at c.at (λ n. UnknownType n ty) h.0)
+    rw (whole_complete c ty h.1.body h.1.checksum h.1.rest h.1.whole, false_from_ne_true (is_record_type ty) h.1.unknown) (at_place at c.at (λ n. UnknownType n ty) h.0)
 raw_refused c (framing.BadChecksum at total) h =
     rw (whole_complete c h.1.ty h.1.body h.1.checksum h.1.rest h.1.whole, h.1.known, wrong_again h.1.checksum (record_sum h.1.ty h.1.body h.1.checksum) h.1.wrong)
     (λ i. Err (BadChecksum (sym h.0 i) (sym h.1.sum i)))

@@ -2,12 +2,13 @@
 use Rattle.std.proofs.Common.{◌≡◌, ℕ, zero, suc, ◌+◌, ◌<◌, ◌≤◌, Bool, true, false, cond, eqb, List, [], ◌∷◌, ◌++◌, length, get_or, Result, Ok, refl, sym, ap, subst, ◌∙◌, arith, inl, inr, length-append}
 use Rattle.std.specs.Prelude.{◌⊎◌, ◌||◌}
 use Rattle.std.specs.List.{Contains}
-use Rattle.std.proofs.lemmas.Bool.{eqb-true}
+use Rattle.std.proofs.lemmas.Bool.{eqb-true, or_cases}
 use Rattle.lx_bytes.specs.Cursor.{Cursor}
 use Rattle.lx_bytes.specs.LittleEndian.{AreBytes}
 use Rattle.std.proofs.lemmas.List.{append-nil, take_at}
 use Rattle.omf_frame.specs.Frame.{record_bytes, BeginsWhole, IsChecksum}
 use Rattle.omf_frame.specs.RecordType.{is_record_type}
+use Rattle.omf_frame.proofs.Records.{AreBytes-take}
 use Rattle.obj_types.specs.declared.refusal.OmfRefusal.{OmfRefusal}
 use Rattle.obj_types.specs.declared.parts.ObjParts.{ObjParts}
 use Rattle.omf_fields.specs.Forms.{Form, anything, name}
@@ -17,7 +18,7 @@ use Rattle.omf_model.specs.ReadModule.{contents_of, is_wide, reader_of, record_a
 use Rattle.omf_model.specs.Spelling.{pair, types_of, contents_form, Spells}
 use Rattle.omf_model.specs.Good.{GoodAfter}
 use Rattle.omf_fields.proofs.SpanLaws.{Spans, cursor_is, then_left, left_splits, Sound, Complete, given, ok_is, bind_ok, step, checked_step}
-use Rattle.omf_fields.proofs.FieldLaws.{Free, AreBytes-take, name_sound, name_complete}
+use Rattle.omf_fields.proofs.FieldLaws.{Free, name_sound, name_complete}
 use Rattle.omf_model.proofs.NameLaws.{IsRead, ext_types, pub_types, lnames_sound, lnames_complete, segdef_sound, segdef_complete, grpdef_sound, grpdef_complete, pubdef_sound, pubdef_complete, extdef_sound, extdef_complete, comdef_sound, comdef_complete}
 use Rattle.omf_model.proofs.CommentLaws.{comment_types, coment_sound, library_complete, impdef_read, expdef_read, comment_read}
 use Rattle.omf_model.proofs.DataLaws.{block_types, ledata_sound, ledata_complete, lidata_sound, lidata_complete}
@@ -41,10 +42,6 @@ pub record Found (ty : ℕ) (p : ObjParts) (c : Cursor) (r : Record) : Type 0 wh
   pub content : contents_form wide r c.left
   pub good : GoodAfter p r
 
-one_of : (b c : Bool) → (b || c) ≡ true → (b ≡ true) ⊎ (c ≡ true)
-one_of true c e = inl refl
-one_of false c e = inr e
-
 found : (types : List (ℕ × Bool)) (ty : ℕ) (p : ObjParts) (c : Cursor) (r : Record) (wide : Bool) → Contains types (ty, wide) → IsRead types p wide c r → Found ty p c r
 found types ty p c r wide is h = record { wide = wide; is_type = subst (λ (ts : List (ℕ × Bool)). Contains ts (ty, wide)) (sym h.2) is; content = h.0; good = h.1 }
 
@@ -62,16 +59,16 @@ single a ty wide e = subst (λ (k : ℕ). HasType (only a wide) k wide) (sym (eq
 -- of a pair of types, or of one with a twin
 twin : (a b ty : ℕ) (types : List (ℕ × Bool)) → Contains types (a, is_wide a) → Contains types (b, is_wide b) → (eqb ty a || eqb ty b) ≡ true → Contains types (ty, is_wide ty)
 twin a b ty types first second e =
-    elim (one_of (eqb ty a) (eqb ty b) e) [
+    elim (or_cases (eqb ty a) (eqb ty b) e) [
       | inl h ↦ subst (λ (k : ℕ). Contains types (k, is_wide k)) (sym (eqb-true ty a h)) first
       | inr h ↦ subst (λ (k : ℕ). Contains types (k, is_wide k)) (sym (eqb-true ty b h)) second
     ]
 
 four : (ty : ℕ) → (eqb ty 0x80 || eqb ty 0x82 || eqb ty 0x94 || eqb ty 0x95) ≡ true → Contains (types_of passed) (ty, is_wide ty)
 four ty e =
-    elim (one_of (eqb ty 0x80 || eqb ty 0x82 || eqb ty 0x94) (eqb ty 0x95) e) [
+    elim (or_cases (eqb ty 0x80 || eqb ty 0x82 || eqb ty 0x94) (eqb ty 0x95) e) [
       | inr h ↦ subst (λ (k : ℕ). Contains (types_of passed) (k, is_wide k)) (sym (eqb-true ty 0x95 h)) (3, omega arith, refl)
-      | inl h ↦ elim (one_of (eqb ty 0x80 || eqb ty 0x82) (eqb ty 0x94) h) [
+      | inl h ↦ elim (or_cases (eqb ty 0x80 || eqb ty 0x82) (eqb ty 0x94) h) [
         | inr k ↦ subst (λ (k : ℕ). Contains (types_of passed) (k, is_wide k)) (sym (eqb-true ty 0x94 k)) (2, omega arith, refl)
         | inl k ↦ twin 0x80 0x82 ty (types_of passed) (0, omega arith, refl) (1, omega arith, refl) k
       ]
@@ -128,7 +125,7 @@ reader_sound ty at p c r bytes e =
   where
     blocks_type : (ty : ℕ) → (eqb ty 0xA2 || eqb ty 0xA3) ≡ true → Contains (block_types (is_wide ty)) (ty, is_wide ty)
     blocks_type ty e =
-        elim (one_of (eqb ty 0xA2) (eqb ty 0xA3) e) [
+        elim (or_cases (eqb ty 0xA2) (eqb ty 0xA3) e) [
           | inl h ↦ subst (λ (k : ℕ). Contains (block_types (is_wide k)) (k, is_wide k)) (sym (eqb-true ty 0xA2 h)) (0, omega arith, refl)
           | inr h ↦ subst (λ (k : ℕ). Contains (block_types (is_wide k)) (k, is_wide k)) (sym (eqb-true ty 0xA3 h)) (0, omega arith, refl)
         ]
@@ -219,7 +216,7 @@ raw_spans c f is r wide ty known right content = record {
   };
 }
 
-AreBytes-front : (xs ys : List ℕ) → AreBytes (xs ++ ys) → AreBytes xs
+pub AreBytes-front : (xs ys : List ℕ) → AreBytes (xs ++ ys) → AreBytes xs
 AreBytes-front xs ys h = subst AreBytes (take_at xs ys (length xs) refl) (AreBytes-take (length xs) (xs ++ ys) h)
 
 -- a record's contents are bytes
@@ -276,7 +273,7 @@ header_sound c r d bytes e =
   where
     header_type : (ty : ℕ) → (eqb ty 0x80 || eqb ty 0x82) ≡ true → HasType (let ts : List (ℕ × Bool) = (0x80, false) ∷ (0x82, false) ∷ [] in ts) ty false
     header_type ty e =
-        elim (one_of (eqb ty 0x80) (eqb ty 0x82) e) [
+        elim (or_cases (eqb ty 0x80) (eqb ty 0x82) e) [
           | inl h ↦ subst (λ (k : ℕ). HasType ((0x80, false) ∷ (0x82, false) ∷ []) k false) (sym (eqb-true ty 0x80 h)) (0, omega arith, refl)
           | inr h ↦ subst (λ (k : ℕ). HasType ((0x80, false) ∷ (0x82, false) ∷ []) k false) (sym (eqb-true ty 0x82 h)) (1, omega arith, refl)
         ]

@@ -2,7 +2,8 @@
 use Rattle.std.proofs.Common.{◌≡◌, ◌≢◌, ℕ, ◌+◌, ◌≤◌, Bool, true, false, cond, eqb, List, [], ◌∷◌, length, map, refl, sym, ap, subst, arith, inl, inr}
 use Rattle.std.specs.Prelude.{codes, bytes_eq}
 use Rattle.std.specs.List.{AllByRecursion, sum_by}
-use Rattle.std.proofs.lemmas.Bool.{leb-true, eqb-false}
+use Rattle.std.proofs.lemmas.Bool.{leb-true, eqb-false, not-true}
+use Rattle.lx_types.proofs.Lists.{all_weaker}
 use Rattle.obj_types.specs.declared.limits.TheConstants.{MAX_DATA}
 use Rattle.obj_types.specs.declared.object.Piece.{Piece}
 use Rattle.obj_types.specs.declared.symbol.Pub.{Pub}
@@ -22,9 +23,7 @@ use Rattle.omf_model.specs.Begun.{LiesAt, LastFits}
 use Rattle.omf_model.specs.Good.{GoodMember, GoodData, GoodAfter}
 use Rattle.omf_model.proofs.DataLaws.{bool_cases}
 use Rattle.omf_model.proofs.FixLaws.{and_true}
-use Rattle.omf_model.proofs.PlainLaws.{not_true}
 use Rattle.omf_model.proofs.PairLaws.{all-at}
-use Rattle.omf_model.proofs.GrowLaws.{all-each}
 use Rattle.omf_model.proofs.CopyLaws.{length-expanded}
 use Rattle.omf_model.proofs.BlockLaws.{blocks_in-bytes}
 
@@ -34,7 +33,7 @@ from_attributes : (a : ℕ) → are_attributes a ≡ true → (align_of a ≤ 5)
 from_attributes a e =
     let x = and_true _ _ e in
     let y = and_true _ _ x.0 in
-    (leb-true _ _ y.0, eqb-false _ _ (not_true _ y.1), eqb-false _ _ (not_true _ x.1))
+    (leb-true _ _ y.0, eqb-false _ _ (not-true _ y.1), eqb-false _ _ (not-true _ x.1))
 
 pub segs-whole : (p : ObjParts) (r : Record) → GoodAfter p r → AllByRecursion WholeSeg (segs_in p.names r)
 segs-whole p (segdef d) g =
@@ -44,14 +43,14 @@ segs-whole p r g = tt
 
 flat_or_not : (b : Bool) (members : List ℕ) (P : ℕ → Type 0) → AllByRecursion (λ i. b ≡ false → P i) members → AllByRecursion P (cond b [] members)
 flat_or_not true members P h = tt
-flat_or_not false members P h = all-each (λ i. false ≡ false → P i) P (λ i k. k refl) members h
+flat_or_not false members P h = all_weaker (λ i. false ≡ false → P i) P (λ i k. k refl) members h
 
 is_flat : (b : Bool) (members : List ℕ) → b ≡ true → cond b [] members ≡ []
 is_flat true members e = refl
 is_flat false members e = absurd cc
 
 member_plain : (p : ObjParts) (n : ℕ) (members : List ℕ) → AllByRecursion (GoodMember p n) members → AllByRecursion (λ i. bytes_eq (name_with p.names n) (codes "FLAT") ≡ false → IsPlainSeg p.module i) members
-member_plain p n members h = all-each (GoodMember p n) _ (λ i k. k.1) members h
+member_plain p n members h = all_weaker (GoodMember p n) _ (λ i k. k.1) members h
 
 pub groups-whole : (p : ObjParts) (r : Record) → GoodAfter p r → AllByRecursion (WholeGroup p.module) (groups_in p.names r)
 groups-whole p (grpdef n members) g =

@@ -5,6 +5,7 @@ use Rattle.std.specs.List.{AllByRecursion, enumerate_from, filter}
 use Rattle.std.proofs.lemmas.List.{append-nil}
 use Rattle.std.proofs.lemmas.List.Sums.{sum_by-append}
 use Rattle.std.proofs.lemmas.Bool.{eqb-true}
+use Rattle.lx_types.proofs.Lists.{all_joined, all_weaker}
 use Rattle.obj_types.specs.declared.limits.TheConstants.{MAX_DATA, MAX_FIXES}
 use Rattle.obj_types.specs.declared.object.Seg.{Seg}
 use Rattle.obj_types.specs.declared.object.Piece.{Piece}
@@ -37,8 +38,8 @@ use Rattle.omf_model.specs.Good.{GoodAfter, GoodFixData, IsPlainFrame, IsPlainGo
 use Rattle.omf_fields.proofs.FieldLaws.{FromOne}
 use Rattle.omf_model.proofs.DataLaws.{bool_cases}
 use Rattle.omf_model.proofs.PlainLaws.{plain_from}
-use Rattle.omf_model.proofs.PairLaws.{Pairs, all-app}
-use Rattle.omf_model.proofs.GrowLaws.{Grows, all-each, lies-grows, group-grows, start-grows}
+use Rattle.omf_model.proofs.PairLaws.{Pairs}
+use Rattle.omf_model.proofs.GrowLaws.{Grows, lies-grows, group-grows, start-grows}
 use Rattle.omf_model.proofs.NumberLaws.{not-equal, PartsGrow, WholeFixAt, numbered-grows, lies_at-grows, fix_at-grows, numbers-from, in_number, HasPublic, publics-more, none-of}
 use Rattle.omf_model.proofs.PartsLaws.{no_threads, add-lists}
 use Rattle.omf_model.proofs.SaneLaws.{IsOther, IsIndexed, PubIndexed, PieceIn, pieces_by, datas_by, HasModule, segs-whole, groups-whole, pubs-whole, imports-whole, exports-whole, data-whole}
@@ -257,8 +258,8 @@ indexed-apart p number past (Const value) h = refl
 
 none-indexed : (p : ObjParts) (xs : List Pub) → AllByRecursion (PubIndexed p) xs → (qs : List (ℕ × BegunComdat)) (n : ℕ) → AllByRecursion (λ (q : ℕ × BegunComdat). (COMDAT_BASE + 1 ≤ q.0) × (q.0 < n)) qs → AllByRecursion (λ (q : ℕ × BegunComdat). filter (in_number q.0) xs ≡ []) qs
 none-indexed p xs h qs n past =
-    all-each (λ (q : ℕ × BegunComdat). (COMDAT_BASE + 1 ≤ q.0) × (q.0 < n)) (λ (q : ℕ × BegunComdat). filter (in_number q.0) xs ≡ [])
-    (λ q k. none-of xs q.0 (all-each (PubIndexed p) (λ (x : Pub). in_number q.0 x ≡ false) (λ x i. indexed-apart p q.0 (omega (arith, k.0)) x.place i) xs h)) qs past
+    all_weaker (λ (q : ℕ × BegunComdat). (COMDAT_BASE + 1 ≤ q.0) × (q.0 < n)) (λ (q : ℕ × BegunComdat). filter (in_number q.0) xs ≡ [])
+    (λ q k. none-of xs q.0 (all_weaker (PubIndexed p) (λ (x : Pub). in_number q.0 x ≡ false) (λ x i. indexed-apart p q.0 (omega (arith, k.0)) x.place i) xs h)) qs past
 
 lists-sane : (p : ObjParts) (r : Record) → fields_in r ≡ [] → IsOther r → Sane p → GoodAfter p r → Sane (parts_with p r)
 unfolding parts_with module_with
@@ -274,22 +275,22 @@ lists-sane p r none other s good =
     let new : List Pub = pubs_in p.names (begun_so_far p) r in
     let indexed : AllByRecursion (PubIndexed p) new = pubs-whole p r good other in
     record {
-      segs = all-app WholeSeg p.module.segs (segs_in p.names r) s.segs (segs-whole p r good);
-      groups = all-app (WholeGroup m) p.module.groups (groups_in p.names r) (all-each (WholeGroup p.module) (WholeGroup m) (group-grows p.module m g) p.module.groups s.groups) (all-each (WholeGroup p.module) (WholeGroup m) (group-grows p.module m g) (groups_in p.names r) (groups-whole p r good));
-      pubs = all-app (PubIn q) p.module.pubs new (all-each (PubIn p) (PubIn q) (λ x h. numbered-grows p q more x.place h) p.module.pubs s.pubs) (all-each (PubIndexed p) (PubIn q) (λ x h. numbered-grows p q more x.place (indexed-numbered p x.place h)) new indexed);
-      pieces = all-app (PieceIn q) p.module.pieces (pieces_by p r) (all-each (PieceIn p) (PieceIn q) (λ x h. lies_at-grows p q more x.seg x.offset _ h) p.module.pieces s.pieces) (all-each (PieceIn p) (PieceIn q) (λ x h. lies_at-grows p q more x.seg x.offset _ h) (pieces_by p r) d.pieces);
-      fixes = subst (AllByRecursion (WholeFixAt q)) (sym fixes) (all-each (WholeFixAt p) (WholeFixAt q) (fix_at-grows p q more) p.module.fixes s.fixes);
+      segs = all_joined WholeSeg p.module.segs (segs_in p.names r) s.segs (segs-whole p r good);
+      groups = all_joined (WholeGroup m) p.module.groups (groups_in p.names r) (all_weaker (WholeGroup p.module) (WholeGroup m) (group-grows p.module m g) p.module.groups s.groups) (all_weaker (WholeGroup p.module) (WholeGroup m) (group-grows p.module m g) (groups_in p.names r) (groups-whole p r good));
+      pubs = all_joined (PubIn q) p.module.pubs new (all_weaker (PubIn p) (PubIn q) (λ x h. numbered-grows p q more x.place h) p.module.pubs s.pubs) (all_weaker (PubIndexed p) (PubIn q) (λ x h. numbered-grows p q more x.place (indexed-numbered p x.place h)) new indexed);
+      pieces = all_joined (PieceIn q) p.module.pieces (pieces_by p r) (all_weaker (PieceIn p) (PieceIn q) (λ x h. lies_at-grows p q more x.seg x.offset _ h) p.module.pieces s.pieces) (all_weaker (PieceIn p) (PieceIn q) (λ x h. lies_at-grows p q more x.seg x.offset _ h) (pieces_by p r) d.pieces);
+      fixes = subst (AllByRecursion (WholeFixAt q)) (sym fixes) (all_weaker (WholeFixAt p) (WholeFixAt q) (fix_at-grows p q more) p.module.fixes s.fixes);
       apart = subst (Pairs Apart) (sym fixes) s.apart;
-      imports = all-app HasModule p.module.imports (imports_in r) s.imports (imports-whole p r good);
-      exports = all-app WholeExp p.module.exports (exports_in r) s.exports (exports-whole p r good);
-      start = latest-all (StartSet m) p.module.start (starts_in p.threads r) (option-grows (WholeStart p.module) (WholeStart m) (start-grows p.module m g) p.module.start s.start) (all-each (StartSet p.module) (StartSet m) (option-grows (WholeStart p.module) (WholeStart m) (start-grows p.module m g)) (starts_in p.threads r) (starts-whole p r s good));
+      imports = all_joined HasModule p.module.imports (imports_in r) s.imports (imports-whole p r good);
+      exports = all_joined WholeExp p.module.exports (exports_in r) s.exports (exports-whole p r good);
+      start = latest-all (StartSet m) p.module.start (starts_in p.threads r) (option-grows (WholeStart p.module) (WholeStart m) (start-grows p.module m g) p.module.start s.start) (all_weaker (StartSet p.module) (StartSet m) (option-grows (WholeStart p.module) (WholeStart m) (start-grows p.module m g)) (starts_in p.threads r) (starts-whole p r s good));
       data_limit = omega (arith, d.limit s.data_limit, sum_by-append (λ (x : Piece). length x.bytes) p.module.pieces (pieces_by p r));
       fix_limit = subst (λ (fs : List FixAt). length fs ≤ MAX_FIXES) (sym fixes) s.fix_limit;
       comdats = subst (AllByRecursion WholeBegun) (sym comdats) s.comdats;
       publics = subst (λ (bs : List BegunComdat). AllByRecursion (HasPublic (p.module.pubs ++ new)) (counted bs)) (sym comdats) (publics-more p.module.pubs new (counted p.comdats) (none-indexed p new indexed (counted p.comdats) _ (numbers-from (COMDAT_BASE + 1) p.comdats)) s.publics);
-      last = latest-all (LastFits q) p.last (datas_by p r) (last-grows p q more p.last s.last) (all-each (LastFits p) (LastFits q) (last-grows p q more) (datas_by p r) d.last);
-      frames = subst (λ (ts : Threads). AllByRecursion (FrameSet m) ts.frame) (sym threads) (all-each (FrameSet p.module) (FrameSet m) (option-grows (InFrame p.module) (InFrame m) (in_frame-grows p.module m g)) p.threads.frame s.frames);
-      goals = subst (λ (ts : Threads). AllByRecursion (GoalSet m) ts.goal) (sym threads) (all-each (GoalSet p.module) (GoalSet m) (option-grows (InGoal p.module) (InGoal m) (in_goal-grows p.module m g)) p.threads.goal s.goals);
+      last = latest-all (LastFits q) p.last (datas_by p r) (last-grows p q more p.last s.last) (all_weaker (LastFits p) (LastFits q) (last-grows p q more) (datas_by p r) d.last);
+      frames = subst (λ (ts : Threads). AllByRecursion (FrameSet m) ts.frame) (sym threads) (all_weaker (FrameSet p.module) (FrameSet m) (option-grows (InFrame p.module) (InFrame m) (in_frame-grows p.module m g)) p.threads.frame s.frames);
+      goals = subst (λ (ts : Threads). AllByRecursion (GoalSet m) ts.goal) (sym threads) (all_weaker (GoalSet p.module) (GoalSet m) (option-grows (InGoal p.module) (InGoal m) (in_goal-grows p.module m g)) p.threads.goal s.goals);
       four_frames = subst (λ (ts : Threads). length ts.frame ≡ 4) (sym threads) s.four_frames;
       four_goals = subst (λ (ts : Threads). length ts.goal ≡ 4) (sym threads) s.four_goals;
     }

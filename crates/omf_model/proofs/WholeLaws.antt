@@ -3,7 +3,8 @@ use Rattle.std.proofs.Common.{◌≡◌, ℕ, ◌+◌, ◌<◌, ◌≤◌, Bool,
 use Rattle.std.specs.Prelude.{◌&&◌, ◌||◌, IfSome, not, unwrap_or}
 use Rattle.std.specs.List.{All, AllByRecursion, cons_option, list_any}
 use Rattle.std.proofs.lemmas.List.{append-nil}
-use Rattle.std.proofs.lemmas.Bool.{leb-true, ltb-true, le-ltb}
+use Rattle.std.proofs.lemmas.Bool.{leb-true, ltb-true, le-ltb, not-true}
+use Rattle.lx_types.proofs.Lists.{all_joined, all_weaker}
 use Rattle.obj_types.specs.declared.limits.TheConstants.{MAX_FIXES}
 use Rattle.obj_types.specs.declared.object.Frame.TheVariants as frames
 use Rattle.obj_types.specs.declared.object.Goal.TheVariants as goals
@@ -28,10 +29,9 @@ use Rattle.omf_model.specs.Good.{GoodAfter, GoodThread, GoodFixup, GoodAfterData
 use Rattle.omf_model.specs.Object.{IsModule, Obj}
 use Rattle.omf_model.specs.Library.{ArePaged, Lib}
 use Rattle.omf_model.proofs.DataLaws.{bool_cases}
-use Rattle.omf_model.proofs.PlainLaws.{not_true}
 use Rattle.omf_model.proofs.FixLaws.{and_true}
-use Rattle.omf_model.proofs.PairLaws.{Pairs, all-at, all-app, pairs-append, pairs-map, all-mapped, copies}
-use Rattle.omf_model.proofs.GrowLaws.{Grows, all-each, group-grows, start-grows}
+use Rattle.omf_model.proofs.PairLaws.{Pairs, all-at, pairs-append, pairs-map, all-mapped, copies}
+use Rattle.omf_model.proofs.GrowLaws.{Grows, group-grows, start-grows}
 use Rattle.omf_model.proofs.NumberLaws.{PartsGrow, WholeFixAt, numbered-grows, lies_at-grows, fix_at-grows, lies_at-less}
 use Rattle.omf_model.proofs.PartsLaws.{parts_of-snoc}
 use Rattle.omf_model.proofs.SaneLaws.{PieceIn}
@@ -72,10 +72,10 @@ with-sane p fs ts s f t =
     let g : Grows p.module m = more.module in
     record {
       segs = s.segs;
-      groups = all-each (WholeGroup p.module) (WholeGroup m) (group-grows p.module m g) p.module.groups s.groups;
-      pubs = all-each (PubIn p) (PubIn q) (λ x h. numbered-grows p q more x.place h) p.module.pubs s.pubs;
-      pieces = all-each (PieceIn p) (PieceIn q) (λ x h. lies_at-grows p q more x.seg x.offset _ h) p.module.pieces s.pieces;
-      fixes = all-each (WholeFixAt p) (WholeFixAt q) (fix_at-grows p q more) fs f.whole;
+      groups = all_weaker (WholeGroup p.module) (WholeGroup m) (group-grows p.module m g) p.module.groups s.groups;
+      pubs = all_weaker (PubIn p) (PubIn q) (λ x h. numbered-grows p q more x.place h) p.module.pubs s.pubs;
+      pieces = all_weaker (PieceIn p) (PieceIn q) (λ x h. lies_at-grows p q more x.seg x.offset _ h) p.module.pieces s.pieces;
+      fixes = all_weaker (WholeFixAt p) (WholeFixAt q) (fix_at-grows p q more) fs f.whole;
       apart = f.apart;
       imports = s.imports;
       exports = s.exports;
@@ -85,8 +85,8 @@ with-sane p fs ts s f t =
       comdats = s.comdats;
       publics = s.publics;
       last = last-grows p q more p.last s.last;
-      frames = all-each (FrameSet p.module) (FrameSet m) (option-grows (InFrame p.module) (InFrame m) (in_frame-grows p.module m g)) ts.frame t.frames;
-      goals = all-each (GoalSet p.module) (GoalSet m) (option-grows (InGoal p.module) (InGoal m) (in_goal-grows p.module m g)) ts.goal t.goals;
+      frames = all_weaker (FrameSet p.module) (FrameSet m) (option-grows (InFrame p.module) (InFrame m) (in_frame-grows p.module m g)) ts.frame t.frames;
+      goals = all_weaker (GoalSet p.module) (GoalSet m) (option-grows (InGoal p.module) (InGoal m) (in_goal-grows p.module m g)) ts.goal t.goals;
       four_frames = t.four_frames;
       four_goals = t.four_goals;
     }
@@ -215,17 +215,17 @@ none-any test (x ∷ xs) e =
 
 swap : (R : FixAt → FixAt → Type 0) (xs ys : List FixAt) → AllByRecursion (λ y. AllByRecursion (λ x. R x y) xs) ys → AllByRecursion (λ x. AllByRecursion (R x) ys) xs
 swap R [] ys h = tt
-swap R (x ∷ xs) ys h = (all-each (λ y. AllByRecursion (λ z. R z y) (x ∷ xs)) (R x) (λ y k. k.0) ys h, swap R xs ys (all-each (λ y. AllByRecursion (λ z. R z y) (x ∷ xs)) (λ y. AllByRecursion (λ z. R z y) xs) (λ y k. k.1) ys h))
+swap R (x ∷ xs) ys h = (all_weaker (λ y. AllByRecursion (λ z. R z y) (x ∷ xs)) (R x) (λ y k. k.0) ys h, swap R xs ys (all_weaker (λ y. AllByRecursion (λ z. R z y) (x ∷ xs)) (λ y. AllByRecursion (λ z. R z y) xs) (λ y k. k.1) ys h))
 
 apart-all : (earlier new : List FixAt) → are_apart earlier new ≡ true → AllByRecursion (λ f. AllByRecursion (Apart f) new) earlier
 apart-all earlier new e =
     swap Apart earlier new
-    (all-each (λ g. list_any (λ f. meets f g) earlier ≡ false) (λ g. AllByRecursion (λ f. meets f g ≡ false) earlier) (λ g h. none-any (λ f. meets f g) earlier h) new
-    (none-any (λ g. list_any (λ f. meets f g) earlier) new (not_true _ e)))
+    (all_weaker (λ g. list_any (λ f. meets f g) earlier ≡ false) (λ g. AllByRecursion (λ f. meets f g ≡ false) earlier) (λ g h. none-any (λ f. meets f g) earlier h) new
+    (none-any (λ g. list_any (λ f. meets f g) earlier) new (not-true _ e)))
 
 new_fixes : (p : ObjParts) (fs : List FixAt) → Sane p → Own p fs → are_apart p.module.fixes fs ≡ true → length p.module.fixes + length fs ≤ MAX_FIXES → NewFixes p (p.module.fixes ++ fs)
 new_fixes p fs s o apart limit = record {
-  whole = all-app (WholeFixAt p) p.module.fixes fs s.fixes o.whole;
+  whole = all_joined (WholeFixAt p) p.module.fixes fs s.fixes o.whole;
   apart = pairs-append Apart p.module.fixes fs s.apart o.apart (apart-all p.module.fixes fs apart);
   limit = omega (arith, limit, length-append p.module.fixes fs);
 }

@@ -4,6 +4,7 @@ use Rattle.std.proofs.lemmas.List.{append-nil, take_at, drop_at}
 use Rattle.std.proofs.lemmas.List.Sums.{sum_by-append}
 use Rattle.std.proofs.lemmas.Bool.Decides.{nat_tests}
 use Rattle.std.specs.List.{AllByRecursion, list_any, sum_by, prefix_len}
+use Rattle.lx_types.proofs.Lists.{all_joined, all_front, all_back}
 use Rattle.lx_bytes.specs.LittleEndian.{little_bytes}
 use Rattle.lx_bytes.proofs.Numbers.{length-little_bytes}
 use Rattle.obj_types.specs.declared.limits.TheConstants.{MAX_DATA}
@@ -24,12 +25,11 @@ use Rattle.omf_model.specs.Fixups.{touches}
 use Rattle.omf_model.specs.Add.{add}
 use Rattle.omf_model.specs.Spelling.{contents_form}
 use Rattle.omf_model.specs.Good.{GoodData}
-use Rattle.omf_model.proofs.PairLaws.{all-app}
 use Rattle.omf_write.specs.ObjectBytes.{index_bytes, ledata_record, lies_on, on_piece, behind_piece, piece_records, data_records, fixupp_records, records_needed}
 use Rattle.omf_write.specs.Writable.{LiesOn, IsOff, FollowPieces}
 use Rattle.omf_write.proofs.FieldBytes.{spells_as, index_spelled, index_len}
 use Rattle.omf_write.proofs.FixDataRead.{data_parts, Few, no_debug, seg_least}
-use Rattle.omf_write.proofs.FixupsRead.{ReadyFix, Allowed, allowed_front, allowed_on, all_front, all_back, last_of, fixups_go}
+use Rattle.omf_write.proofs.FixupsRead.{ReadyFix, Allowed, allowed_front, allowed_on, last_of, fixups_go}
 use Rattle.omf_write.proofs.Goes.{Goes, one, stays, goes_on}
 use Rattle.omf_write.proofs.ImportRead.{both}
 
@@ -137,7 +137,7 @@ located m (f ∷ fixes) all = (all.0.whole.location, located m fixes all.1)
 
 off_both : (done own : List FixAt) (ps : List Piece) → AllByRecursion (λ q. AllByRecursion (IsOff q) done) ps → AllByRecursion (λ q. AllByRecursion (IsOff q) own) ps → AllByRecursion (λ q. AllByRecursion (IsOff q) (done ++ own)) ps
 off_both done own [] a b = tt
-off_both done own (q ∷ ps) a b = (all-app (IsOff q) done own a.0 b.0, off_both done own ps a.1 b.1)
+off_both done own (q ∷ ps) a b = (all_joined (IsOff q) done own a.0 b.0, off_both done own ps a.1 b.1)
 
 pub data_go : (names : List (List ℕ)) (m : ObjModule) → Few m → (before pieces : List Piece) (done fixes : List FixAt) (last : LastData) → AllByRecursion (ReadyPiece m) pieces → sum_by size (before ++ pieces) ≤ MAX_DATA
     → AllByRecursion (ReadyFix m) fixes → AllByRecursion (λ q. AllByRecursion (IsOff q) done) pieces → FollowPieces pieces fixes → Allowed (done ++ fixes) → DataGo names m before pieces done fixes last

@@ -4,6 +4,8 @@ use Rattle.std.proofs.lemmas.List.{append-nil, take-append-drop, length-take, le
 use Rattle.std.proofs.lemmas.Bool.Decides.{nat_tests}
 use Rattle.std.specs.Prelude.{◌==◌, ◌&&◌, not, nat_le, nat_lt, unwrap_or}
 use Rattle.std.specs.List.{AllByRecursion, flat_map, list_any}
+use Rattle.std.proofs.lemmas.Bool.{leb-true, eqb-true}
+use Rattle.lx_types.proofs.Lists.{all_front, all_back}
 use Rattle.obj_types.specs.declared.limits.TheConstants.{MAX_FIXES}
 use Rattle.obj_types.specs.declared.object.Piece.{Piece}
 use Rattle.obj_types.specs.declared.object.Frame.TheVariants as frames
@@ -83,17 +85,11 @@ record OnPiece (p : Piece) (f : FixAt) : Type 0 where
   low : p.offset ≤ f.offset
   high : f.offset + location_len f.loc ≤ p.offset + length p.bytes
 
-same_number : (a b : ℕ) → (a == b) ≡ true → a ≡ b
-same_number a b e = grind (arith, nat_tests)
-
-at_most : (a b : ℕ) → nat_le a b ≡ true → a ≤ b
-at_most a b e = grind (arith, nat_tests)
-
 on_piece_is : (p : Piece) (f : FixAt) → LiesOn p f → OnPiece p f
 on_piece_is p f on =
     let first = and_true (f.seg == p.seg) (nat_le p.offset f.offset && nat_le (end_of f) (p.offset + length p.bytes)) on in
     let second = and_true (nat_le p.offset f.offset) (nat_le (end_of f) (p.offset + length p.bytes)) first.1 in
-    record { seg = same_number f.seg p.seg first.0; low = at_most p.offset f.offset second.0; high = at_most (end_of f) (p.offset + length p.bytes) second.1 }
+    record { seg = eqb-true f.seg p.seg first.0; low = leb-true p.offset f.offset second.0; high = leb-true (end_of f) (p.offset + length p.bytes) second.1 }
 
 short_offset : (p : Piece) (f : FixAt) → length p.bytes ≤ 1024 → 0 < location_len f.loc → OnPiece p f → from_piece p f < 1024
 short_offset p f short some on = let high = on.high in let low = on.low in omega (arith, high, low, short, some)
@@ -183,14 +179,6 @@ each_before (x ∷ xs) f ys pairs = (found xs pairs.0, each_before xs f ys pairs
     found : (zs : List FixAt) → AllByRecursion (Apart x) (zs ++ f ∷ ys) → Apart x f
     found [] all = all.0
     found (z ∷ zs) all = found zs all.1
-
-pub all_front : {A : Type 0} (P : A → Type 0) (xs ys : List A) → AllByRecursion P (xs ++ ys) → AllByRecursion P xs
-all_front P [] ys all = tt
-all_front P (x ∷ xs) ys all = (all.0, all_front P xs ys all.1)
-
-pub all_back : {A : Type 0} (P : A → Type 0) (xs ys : List A) → AllByRecursion P (xs ++ ys) → AllByRecursion P ys
-all_back P [] ys all = all
-all_back P (x ∷ xs) ys all = all_back P xs ys all.1
 
 pairs_front : (xs ys : List FixAt) → Pairs Apart (xs ++ ys) → Pairs Apart xs
 pairs_front [] ys pairs = tt

@@ -5,10 +5,6 @@ use Rattle.lx_types.specs.Answers.{Answers}
 use Rattle.lx_types.specs.declared.fail.Fail.{Fail}
 use Rattle.lx_types.specs.declared.fail.Fail.TheVariants.{Said, NoMemory}
 
-pub ok_follows : {A E : Type 0} (P Q : A → Type 0) (r : Result A E) → ((a : A) → P a → Q a) → IfOk r P → IfOk r Q
-ok_follows P Q (Ok a) f h = f a h
-ok_follows P Q (Err e) f h = h
-
 pub answer_follows : {A R : Type 0} (P Q : A → Type 0) (W : R → Type 0) (r : Result A (Fail R)) → ((a : A) → P a → Q a) → Answers r P W → IfOk r Q
 answer_follows P Q W (Ok a) f h = f a h
 answer_follows P Q W (Err (Said e)) f h = tt

@@ -9,6 +9,7 @@ use Rattle.std.proofs.lemmas.Bool.Decides.{nat_tests}
 use Rattle.std.proofs.lemmas.List.Sums.{prefix_len-le-length}
 use Rattle.std.specs.Prelude.{bytes_eq, unwrap_or, nat_lt, not, is_some}
 use Rattle.std.specs.List.{list_any, position, position_or_len}
+use Rattle.lx_types.proofs.Bools.{some_by}
 use Rattle.obj_types.specs.Items.{item}
 use Rattle.first_table.specs.Entries.{is_named, with_entry}
 use Rattle.omf_model.specs.Items.{name_with}
@@ -99,10 +100,6 @@ pub with_both : (entries : NameList) (xs ys : List (List ℕ)) → with_names en
 with_both entries [] ys = refl
 with_both entries (x ∷ xs) ys = with_both (with_entry entries x 0) xs ys
 
-some_place_by : (b : Bool) (n : ℕ) → is_some (cond b (Some n) None) ≡ b
-some_place_by true n = refl
-some_place_by false n = refl
-
 below_is_there_by : (b : Bool) (test : (List ℕ × ℕ) → Bool) (e : List ℕ × ℕ) (xs : NameList) → test e ≡ b → nat_lt (position_or_len test xs) (length xs) ≡ list_any test xs → nat_lt (position_or_len test (e ∷ xs)) (length (e ∷ xs)) ≡ list_any test (e ∷ xs)
 below_is_there_by true test e xs is rest = rw is (first_below (length xs))
   where
@@ -119,7 +116,7 @@ below_is_there test (e ∷ xs) = below_is_there_by (test e) test e xs refl (belo
 
 -- a name has a place exactly where it is there
 pub place_is : (test : (List ℕ × ℕ) → Bool) (entries : NameList) → is_some (position test entries) ≡ list_any test entries
-place_is test entries = some_place_by (nat_lt (position_or_len test entries) (length entries)) (position_or_len test entries) ∙ below_is_there test entries
+place_is test entries = some_by (nat_lt (position_or_len test entries) (length entries)) (position_or_len test entries) ∙ below_is_there test entries
 
 pub found : (name : List ℕ) (entries : NameList) → is_some (position (is_named name) entries) ≡ true → with_entry entries name 0 ≡ entries
 found name entries some = let there : list_any (is_named name) entries ≡ true = sym (place_is (is_named name) entries) ∙ some in rw there refl

@@ -1,6 +1,6 @@
 use Rattle.std.proofs.Common.{◌≡◌, ℕ, None, Some, ap, ◌∙◌}
 use Rattle.std.specs.Prelude.{◌||◌, slice_get}
-use Rattle.std.proofs.lemmas.Option.{slice_get-map}
+use Rattle.std.proofs.lemmas.Option.{slice_get-map, same_Some}
 use Rattle.std.specs.Option.{option_map}
 use Rattle.indexmap.specs.IndexMap.{Updates, values, with_value_at}
 use Rattle.indexmap.proofs.CallerLemmas.{updates-with_value_at}
@@ -16,9 +16,6 @@ use Rattle.byte_marks.proofs.marks.ByteMarks.mark_page.Goals as goal
 value_at : (m : ByteMarks) (at : PageAt) (place : ℕ) (h : IsPlaceOf m at place) → slice_get (values m.pages) place ≡ Some h.page
 value_at m at place h = slice_get-map (λ (e : PageAt × Page). e.1) m.pages.entries place ∙ ap (option_map (λ (e : PageAt × Page). e.1)) h.entry
 
-same_some : {A : Type 0} (x y : A) → Some x ≡ Some y → x ≡ y
-same_some x y e = cc
-
 pub returns-in-Some-get_index_mut-clause-marks : goal.returns-in-Some-get_index_mut-clause-marks
 returns-in-Some-get_index_mut-clause-marks c =
     let m = c.args.self.now in
@@ -27,7 +24,7 @@ returns-in-Some-get_index_mut-clause-marks c =
     let new = c.mark.new.self in
     let h : IsPlaceOf m at place = c.in-Some.ensures in
     let updates : Updates is_page m.pages (with_value_at m.pages place new) at (Some new) = updates-with_value_at m.pages place new pages-equiv c.get_index_mut.ensures.unique at h.page h.entry in
-    let old : c.in-Some-get_index_mut.page.now ≡ h.page = same_some _ _ (c.in-Some-get_index_mut.ensures.value ∙ value_at m at place h) in
+    let old : c.in-Some-get_index_mut.page.now ≡ h.page = same_Some _ _ (c.in-Some-get_index_mut.ensures.value ∙ value_at m at place h) in
     page-marked m (record { pages = with_value_at m.pages place new; last = place }) at h.page new c.args.from c.args.past updates h.found
     (λ x. c.mark.ensures x ∙ ap (λ (p : Page). is_set p.words x || is_from c.args.from c.args.past x) old)
 
