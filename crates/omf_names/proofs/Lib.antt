@@ -4,5 +4,5 @@ mod ListRead
 mod Takes
 mod ExternalsRead
 mod PublicsRead
-mod GroupRead
+pub mod GroupRead
 mod CommentRead
