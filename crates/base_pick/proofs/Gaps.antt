@@ -178,7 +178,7 @@ all_apart : (p : AddressRange → Bool) (ranges : List AddressRange) → ((j : �
 all_apart p [] each = refl
 all_apart p (r ∷ ranges) each = and_from (p r) (list_all p ranges) (each 0 r (omega (arith))) (all_apart p ranges (λ j d below. each (suc j) d (omega (arith, below))))
 
-room-unit : (size : ℕ) → 65536 ≤ room size
+pub room-unit : (size : ℕ) → 65536 ≤ room size
 room-unit size = omega arith
 
 is_place-there : (arena : AddressRange) (ranges : List AddressRange) (size base : ℕ) → IsAfter arena ranges size (length ranges) base →

@@ -2,19 +2,12 @@
 use Rattle.std.proofs.Common.{◌≡◌, ℕ, zero, suc, ◌+◌, ◌*◌, ◌-◌, ◌/◌, ◌%◌, ◌<◌, ◌≤◌, ◌==◌, Bool, true, false, cond, ◌&&◌, List, map, find, Option, Some, None, refl, sym, ◌∙◌, ap, subst, arith}
 use Rattle.std.specs.Prelude.{MatchOption, nat_le}
 use Rattle.std.specs.List.{range_with_len}
-use Rattle.std.proofs.lemmas.Bool.{eqb-true, eqb-false, leb-true}
+use Rattle.std.proofs.lemmas.Bool.{eqb-true, eqb-false, leb-true, and_parts}
 use Rattle.lx_types.specs.Addresses.{UNIT, room}
 use Rattle.base_pick.specs.declared.occupied.AddressRange.{AddressRange}
 use Rattle.base_pick.specs.Places.{is_place, bases_in}
 use Rattle.base_pick.specs.LeastPlaces.{IsLeastPlace, LeastIsFound}
-
-and_left : (a b : Bool) → (a && b) ≡ true → a ≡ true
-and_left true b h = refl
-and_left false b h = h
-
-and_right : (a b : Bool) → (a && b) ≡ true → b ≡ true
-and_right true b h = h
-and_right false b h = cc
+use Rattle.base_pick.proofs.Gaps.{room-unit}
 
 -- ---- the first number of some that passes
 
@@ -67,9 +60,6 @@ pub record Multiple (arena : AddressRange) (place : ℕ) : Type 0 where
   pub below : number < (arena.to - arena.from) / 65536
   pub is : place ≡ arena.from + number * 65536
 
-room_is : (size : ℕ) → 65536 ≤ room size
-room_is size = omega arith
-
 apart_by : (from place : ℕ) → from % 65536 ≡ 0 → place % 65536 ≡ 0 → from ≤ place → place ≡ from + ((place - from) / 65536) * 65536
 apart_by from place even is low = omega arith
 
@@ -78,11 +68,11 @@ number_below from end place low high = omega arith
 
 free_is : (arena : AddressRange) (spans : List AddressRange) (size place : ℕ) → arena.from % 65536 ≡ 0 → is_place arena spans size place ≡ true → Multiple arena place
 free_is arena spans size place even free =
-    let rest : (((place % UNIT == 0) && nat_le arena.from place) && nat_le (place + room size) arena.to) ≡ true = and_left _ _ free in
-    let low : arena.from ≤ place = leb-true _ _ (and_right (place % UNIT == 0) _ (and_left _ _ rest)) in
-    let fits : place + room size ≤ arena.to = leb-true _ _ (and_right _ _ rest) in
-    let is : place % 65536 ≡ 0 = eqb-true _ _ (and_left (place % UNIT == 0) _ (and_left _ _ rest)) in
-    let more : 65536 ≤ room size = room_is size in
+    let rest : (((place % UNIT == 0) && nat_le arena.from place) && nat_le (place + room size) arena.to) ≡ true = (and_parts _ _ free).0 in
+    let low : arena.from ≤ place = leb-true _ _ (and_parts (place % UNIT == 0) _ (and_parts _ _ rest).0).1 in
+    let fits : place + room size ≤ arena.to = leb-true _ _ (and_parts _ _ rest).1 in
+    let is : place % 65536 ≡ 0 = eqb-true _ _ (and_parts (place % UNIT == 0) _ (and_parts _ _ rest).0).0 in
+    let more : 65536 ≤ room size = room-unit size in
     let high : place + 65536 ≤ arena.to = above place (room size) arena.to more fits in
     record {
       number = (place - arena.from) / 65536;

@@ -2,8 +2,7 @@
 use Rattle.std.proofs.Common.{◌≡◌, ℕ, zero, suc, ◌+◌, ◌<◌, ◌≤◌, ◌^◌, Bool, true, false, List, [], ◌∷◌, length, map, Option, Some, None, Result, Ok, Err, refl, sym, subst, ap, ◌∙◌, arith, inl, inr}
 use Rattle.std.specs.Prelude.{◌≢◌, nat_lt, nat_le, if◌then◌else◌, IfSome}
 use Rattle.std.specs.List.{range_with_len, AllByRecursion as Each}
-use Rattle.std.proofs.lemmas.Bool.{cases_lt}
-use Rattle.std.proofs.lemmas.Bool.Decides.{nat_tests}
+use Rattle.std.proofs.lemmas.Bool.{cases_lt, le-leb, le-ltb}
 use Rattle.lx_types.specs.declared.refusal.LxRefusal.{LxRefusal}
 use Rattle.lx_types.specs.declared.refusal.LxKind.TheVariants.{Short, Field}
 use Rattle.lx_types.specs.Sound.{IsNumberOf}
@@ -27,12 +26,6 @@ otherwise b x y is = ap (λ (c : Bool). if c then x else y) is
 pub then_this : {A : Type 0} (b : Bool) (x y : A) → b ≡ true → (if b then x else y) ≡ x
 then_this b x y is = ap (λ (c : Bool). if c then x else y) is
 
-pub not_less : (m n : ℕ) → n ≤ m → nat_lt m n ≡ false
-not_less m n le = grind (arith, nat_tests)
-
-pub no_more : (m n : ℕ) → m ≤ n → nat_le m n ≡ true
-no_more m n le = grind (arith, nat_tests)
-
 -- ---- no fault in any of a list
 
 pub none_first : {A B : Type 0} (f : B → Option A) (xs : List B) → Each (λ x. f x ≡ None) xs → first (map f xs) ≡ None
@@ -55,7 +48,7 @@ each_at P f a (suc n) k each low high =
     ]
 
 pub not_short : (n : ℕ) (file : List ℕ) (at : ℕ) → at + n ≤ length file → short_at n file at ≡ None
-not_short n file at le = otherwise (nat_lt (length file) (at + n)) (Some (fault Short at)) None (not_less (length file) (at + n) le)
+not_short n file at le = otherwise (nat_lt (length file) (at + n)) (Some (fault Short at)) None (le-ltb (length file) (at + n) le)
 
 pub behind_none : {A : Type 0} (a b : Option A) → a ≡ None → b ≡ None → (a then b) ≡ None
 behind_none {A} a b is that = ap (λ (o : Option A). o then b) is ∙ that
@@ -70,7 +63,7 @@ record Good (file : List ℕ) (r : Row) : Type 0 where
 row_good : (file : List ℕ) (r : Row) → HEADER_LEN ≤ length file → Good file r → row_fault file 0 r ≡ None
 row_good file r long good =
     let inside = good.within in
-    otherwise (nat_lt (length file) (0 + r.offset + r.width)) (Some (fault Short (0 + r.offset))) (if r.allows (number_at r.width file (0 + r.offset)) then None else Some (fault r.kind (0 + r.offset))) (not_less (length file) (0 + r.offset + r.width) (omega (arith, long, inside)))
+    otherwise (nat_lt (length file) (0 + r.offset + r.width)) (Some (fault Short (0 + r.offset))) (if r.allows (number_at r.width file (0 + r.offset)) then None else Some (fault r.kind (0 + r.offset))) (le-ltb (length file) (0 + r.offset + r.width) (omega (arith, long, inside)))
     ∙ then_this (r.allows (number_at r.width file (0 + r.offset))) None (Some (fault r.kind (0 + r.offset))) good.allowed
 
 rows_good : (file : List ℕ) (rs : List Row) → HEADER_LEN ≤ length file → Each (Good file) rs → Each (λ r. row_fault file 0 r ≡ None) rs
@@ -88,10 +81,10 @@ flags_allowed : (m : Image) → ImageFits m → is_module_flags (number_at 4 (fi
 flags_allowed m fits = ap is_module_flags (by_place m 0x10 ∙ (tables m fits).flags) ∙ fits.kind
 
 pages_allowed : (m : Image) → ImageFits m → nat_le (number_at 4 (file_of m) (0 + 0x14)) MOST_PAGES ≡ true
-pages_allowed m fits = ap (λ (n : ℕ). nat_le n MOST_PAGES) (by_place m 0x14 ∙ (tables m fits).page_number) ∙ no_more (length m.pages) MOST_PAGES fits.few_pages
+pages_allowed m fits = ap (λ (n : ℕ). nat_le n MOST_PAGES) (by_place m 0x14 ∙ (tables m fits).page_number) ∙ le-leb (length m.pages) MOST_PAGES fits.few_pages
 
 objects_allowed : (m : Image) → ImageFits m → nat_le (number_at 4 (file_of m) (0 + 0x44)) MOST_OBJECTS ≡ true
-objects_allowed m fits = ap (λ (n : ℕ). nat_le n MOST_OBJECTS) (by_place m 0x44 ∙ (tables m fits).object_number) ∙ no_more (length m.objects) MOST_OBJECTS fits.few_objects
+objects_allowed m fits = ap (λ (n : ℕ). nat_le n MOST_OBJECTS) (by_place m 0x44 ∙ (tables m fits).object_number) ∙ le-leb (length m.objects) MOST_OBJECTS fits.few_objects
 
 all_good : (m : Image) → ImageFits m → Each (Good (file_of m)) rows
 unfolding file_of header_fields_of
@@ -136,4 +129,4 @@ start_faultless m fits =
     let file = file_of m in
     let t = tables m fits in
     then_this (nat_le (field file 0x18) (object_count file)) None (Some (fault Field (header_place file + 0x18)))
-    (ap (λ (n : ℕ). nat_le n (object_count file)) t.start_object ∙ ap (λ (n : ℕ). nat_le (object_field m.start) n) t.object_number ∙ no_more (object_field m.start) (length m.objects) (start_there (length m.objects) m.start fits.start))
+    (ap (λ (n : ℕ). nat_le n (object_count file)) t.start_object ∙ ap (λ (n : ℕ). nat_le (object_field m.start) n) t.object_number ∙ le-leb (object_field m.start) (length m.objects) (start_there (length m.objects) m.start fits.start))

@@ -1,7 +1,8 @@
 -- A written file has no fault in its page table and its page data.
-use Rattle.std.proofs.Common.{◌≡◌, ℕ, ◌+◌, ◌*◌, ◌<◌, ◌≤◌, Bool, true, List, [], ◌∷◌, ◌++◌, length, map, Option, Some, None, Result, refl, sym, subst, ap, ◌∙◌, length-append, arith}
+use Rattle.std.proofs.Common.{◌≡◌, ℕ, ◌+◌, ◌*◌, ◌<◌, ◌≤◌, List, [], ◌∷◌, ◌++◌, length, map, Option, Some, None, Result, refl, sym, subst, ap, ◌∙◌, length-append, arith}
 use Rattle.std.specs.Prelude.{◌&&◌, nat_le, if◌then◌else◌}
 use Rattle.std.specs.List.{flat_map, range_with_len, AllByRecursion as Each}
+use Rattle.std.proofs.lemmas.Bool.{le-leb, and_from}
 use Rattle.lx_types.specs.Parts.{span}
 use Rattle.lx_types.specs.declared.object.PageHead.{PageHead}
 use Rattle.lx_types.specs.declared.object.TheConstants.{PAGE_SIZE}
@@ -19,7 +20,7 @@ use Rattle.image_model.specs.Sections.{sections, data_at}
 use Rattle.image_model.specs.File.{file_of}
 use Rattle.image_model.specs.ReadBack.{FormFits, placed_page, ImageFits}
 use Rattle.image_model.proofs.Fields.{tables}
-use Rattle.image_model.proofs.Faultless.{then_this, no_more, all_none, each_at, not_short, behind_none}
+use Rattle.image_model.proofs.Faultless.{then_this, all_none, each_at, not_short, behind_none}
 use Rattle.image_model.proofs.PagesRead.{heads_long, page_entries_read}
 use Rattle.image_model.proofs.Places.{file_long}
 use Rattle.image_model.proofs.RecordsRead.{spanned, regrouped}
@@ -31,20 +32,17 @@ use Rattle.image_model.proofs.Standing.{HasFrom, standing, behind, from_others}
 abbrev IsGood : List ℕ → PageHead → Type 0
 IsGood file page = (entry : ℕ) → kind_fault file entry page.kind page ≡ None
 
-both : (a b : Bool) → a ≡ true → b ≡ true → (a && b) ≡ true
-both a b p q = ap (λ (x : Bool). x && b) p ∙ q
-
 ends_inside : (file : List ℕ) (at : ℕ) (some rest : List ℕ) → HasFrom file at (some ++ rest) → at + length some ≤ length file
 ends_inside file at some rest has = omega (arith, has.long, ap length has.spelled, length-append has.before (some ++ rest), length-append some rest)
 
 form_good : (file : List ℕ) (from at : ℕ) (form : PageForm) (rest : List ℕ) → FormFits form → HasFrom file (from + at) (form_data form ++ rest) → IsGood file (placed_page from (page_head at form))
 form_good file from at (plain bytes) rest fits has entry =
     then_this (nat_le (from + at + length bytes) (length file) && nat_le (length bytes) PAGE_SIZE) None (Some (fault kinds.PageData entry))
-    (both (nat_le (from + at + length bytes) (length file)) (nat_le (length bytes) PAGE_SIZE) (no_more (from + at + length bytes) (length file) (ends_inside file (from + at) bytes rest has)) (no_more (length bytes) PAGE_SIZE fits))
+    (and_from (nat_le (from + at + length bytes) (length file)) (nat_le (length bytes) PAGE_SIZE) (le-leb (from + at + length bytes) (length file) (ends_inside file (from + at) bytes rest has)) (le-leb (length bytes) PAGE_SIZE fits))
 form_good file from at (iterated groups) rest fits has entry =
     let bytes = groups_spelling groups in
     then_this (nat_le (from + at + length bytes) (length file)) (fault_of (placed (from + at) (expansion (span file (from + at) (from + at + length bytes))))) (Some (fault kinds.PageData entry))
-    (no_more (from + at + length bytes) (length file) (ends_inside file (from + at) bytes rest has))
+    (le-leb (from + at + length bytes) (length file) (ends_inside file (from + at) bytes rest has))
     ∙ ap (λ (ys : List ℕ). fault_of (placed (from + at) (expansion ys))) (spanned file (from + at) bytes rest has)
     ∙ ap (λ (r : Result (List ℕ) LxRefusal). fault_of (placed (from + at) r)) (groups_again groups fits.0 fits.1)
 form_good file from at zeros rest fits has entry = refl
@@ -73,7 +71,7 @@ entries_good m fits =
 
 -- ---- entries
 
-pages_long : (ps : List PageHead) → length (pages_spelling ps) ≡ 8 * length ps
+pub pages_long : (ps : List PageHead) → length (pages_spelling ps) ≡ 8 * length ps
 pages_long [] = refl
 pages_long (p ∷ ps) = omega (arith, length-append (page_spelling p) (pages_spelling ps), pages_long ps)
 

@@ -2,6 +2,7 @@
 use Rattle.std.proofs.Common.{◌≡◌, ℕ, ◌+◌, true, List, [], ◌∷◌, ◌++◌, length, map, Option, Some, None, Result, refl, sym, subst, ap, ◌∙◌}
 use Rattle.std.specs.Prelude.{if◌then◌else◌}
 use Rattle.std.specs.List.{flat_map, range_with_len, AllByRecursion as Each}
+use Rattle.lx_types.proofs.Lists.{all_front, all_back}
 use Rattle.lx_types.specs.declared.fix.Fix.{Fix}
 use Rattle.lx_types.specs.declared.fix.FixTarget.{FixTarget}
 use Rattle.lx_types.specs.declared.refusal.LxRefusal.{LxRefusal}
@@ -32,14 +33,6 @@ IsThere within target = is_target within target ≡ true
 
 -- ---- lists of targets
 
-left : {A : Type 0} (P : A → Type 0) (xs ys : List A) → Each P (xs ++ ys) → Each P xs
-left P [] ys each = tt
-left P (x ∷ xs) ys each = (each.0, left P xs ys each.1)
-
-right : {A : Type 0} (P : A → Type 0) (xs ys : List A) → Each P (xs ++ ys) → Each P ys
-right P [] ys each = each
-right P (x ∷ xs) ys each = right P xs ys each.1
-
 split : (fs gs : List Fix) → map (λ f. f.target) (fs ++ gs) ≡ map (λ f. f.target) fs ++ map (λ f. f.target) gs
 split [] gs = refl
 split (f ∷ fs) gs = ap (λ (ts : List FixTarget). f.target ∷ ts) (split fs gs)
@@ -55,8 +48,8 @@ items_good within [] there = tt
 items_good within (r ∷ items) there =
     let others = flat_map (λ x. x.fixes) items in
     let parts = subst (λ (ts : List FixTarget). Each (IsThere within) ts) (split r.fixes others) there in (
-      none_first (λ f. if is_target within f.target then None else Some (fault BadTarget r.at)) r.fixes (fixes_good within r.at r.fixes (left (IsThere within) (map (λ f. f.target) r.fixes) (map (λ f. f.target) others) parts)),
-      items_good within items (right (IsThere within) (map (λ f. f.target) r.fixes) (map (λ f. f.target) others) parts),
+      none_first (λ f. if is_target within f.target then None else Some (fault BadTarget r.at)) r.fixes (fixes_good within r.at r.fixes (all_front (IsThere within) (map (λ f. f.target) r.fixes) (map (λ f. f.target) others) parts)),
+      items_good within items (all_back (IsThere within) (map (λ f. f.target) r.fixes) (map (λ f. f.target) others) parts),
     )
 
 page_good : (within : Targets) (records : Many Record) (fixes : List Fix) → Means records fixes → Each (IsThere within) (map (λ f. f.target) fixes) → records_fault within records ≡ None
@@ -76,8 +69,8 @@ pages_good within file (page ∷ pages) at rest has fits there =
     let here = regrouped file at bytes (flat_map page_records pages) rest has in
     let own = map (λ f. f.target) (flat_map fixes_written page) in
     let others = flat_map (λ p. map (λ f. f.target) (flat_map fixes_written p)) pages in (
-      page_good within (records_in_span file (at, at + length bytes)) (flat_map fixes_written page) (page_means file at page tail here fits.0) (left (IsThere within) own others there),
-      pages_good within file pages (at + length bytes) rest (behind file at bytes tail here) fits.1 (right (IsThere within) own others there),
+      page_good within (records_in_span file (at, at + length bytes)) (flat_map fixes_written page) (page_means file at page tail here fits.0) (all_front (IsThere within) own others there),
+      pages_good within file pages (at + length bytes) rest (behind file at bytes tail here) fits.1 (all_back (IsThere within) own others there),
     )
 
 abbrev targets_by : ℕ → ℕ → List ℕ → ℕ → List Numbered → Targets

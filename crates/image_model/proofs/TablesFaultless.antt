@@ -2,7 +2,7 @@
 use Rattle.std.proofs.Common.{◌≡◌, ℕ, suc, ◌+◌, ◌-◌, ◌*◌, ◌<◌, ◌≤◌, Bool, true, false, List, [], ◌∷◌, length, map, Some, None, refl, sym, subst, ap, ◌∙◌, arith, length-append, inl, inr}
 use Rattle.std.specs.Prelude.{◌==◌, ◌&&◌, ◌||◌, not, nat_lt, nat_le, if◌then◌else◌, ◌++◌}
 use Rattle.std.specs.List.{flat_map, range_with_len, AllByRecursion as Each}
-use Rattle.std.proofs.lemmas.Bool.{cases_lt}
+use Rattle.std.proofs.lemmas.Bool.{cases_lt, le-ltb, or_from, and_left, and_right}
 use Rattle.lx_types.specs.declared.object.ObjHead.{ObjHead}
 use Rattle.lx_types.specs.declared.refusal.LxKind.TheVariants as kinds
 use Rattle.lx_types.specs.Sound.{HasPages}
@@ -19,7 +19,7 @@ use Rattle.image_model.specs.Sections.{sections, spans_at, records_at}
 use Rattle.image_model.specs.File.{file_of}
 use Rattle.image_model.specs.ReadBack.{ImageFits}
 use Rattle.image_model.proofs.Fields.{tables}
-use Rattle.image_model.proofs.Faultless.{otherwise, then_this, not_less, all_none, each_at, not_short, behind_none}
+use Rattle.image_model.proofs.Faultless.{otherwise, then_this, all_none, each_at, not_short, behind_none}
 use Rattle.image_model.proofs.Places.{file_long}
 use Rattle.image_model.proofs.SectionsRead.{sections_read}
 use Rattle.image_model.proofs.SpansRead.{offsets_long, offsets_read, has_some, head_of, tail_of, first_offset}
@@ -36,7 +36,7 @@ none_false a b p = ap (λ (x : Bool). not x && b) p
 has_pages : (pages : ℕ) (o : ObjHead) → HasPages pages o → lacks_pages pages o ≡ false
 has_pages pages o (inl none) = none_false (o.count == 0) (o.first == 0 || nat_lt (pages + 1) (o.first + o.count)) (ap (λ (n : ℕ). n == 0) none)
 has_pages pages o (inr some) =
-    both_false (not (o.count == 0)) (o.first == 0) (nat_lt (pages + 1) (o.first + o.count)) (not_zero o.first (omega (arith, some.0))) (not_less (pages + 1) (o.first + o.count) some.1)
+    both_false (not (o.count == 0)) (o.first == 0) (nat_lt (pages + 1) (o.first + o.count)) (not_zero o.first (omega (arith, some.0))) (le-ltb (pages + 1) (o.first + o.count) some.1)
 
 objects_long : (os : List ObjHead) → length (objects_spelling os) ≡ 24 * length os
 objects_long [] = refl
@@ -45,10 +45,6 @@ objects_long (o ∷ os) = omega (arith, length-append (object_spelling o) (objec
 entries_have_pages : (m : Image) → ImageFits m → Each (HasPages (length m.pages)) (map (λ k. object_entry (file_of m) (object_place (file_of m) k)) (range_with_len 0 (object_count (file_of m))))
 unfolding objects_of
 entries_have_pages m fits = subst (λ (os : List ObjHead). Each (HasPages (length m.pages)) os) (sym (sections_read m fits).objects) fits.own_pages
-
-and_false : (a b : Bool) → b ≡ false → (a && b) ≡ false
-and_false true b p = p
-and_false false b p = refl
 
 object_faultless : (m : Image) → ImageFits m → (k : ℕ) → k < object_count (file_of m) → object_fault (file_of m) k ≡ None
 unfolding sections
@@ -60,7 +56,7 @@ object_faultless m fits k below =
     let pages : HasPages (length m.pages) o = each_at (HasPages (length m.pages)) (λ i. object_entry file (object_place file i)) 0 (object_count file) k (entries_have_pages m fits) (omega arith) (omega (arith, below)) in
     let lacks : lacks_pages (page_count file) o ≡ false = ap (λ (n : ℕ). lacks_pages n o) t.page_number ∙ has_pages (length m.pages) o pages in
     let inside : at + 24 ≤ length file = omega (arith, below, t.objects, t.object_number, file_long m, objects_long m.objects) in
-    otherwise (nat_le (at + 20) (length file) && lacks_pages (page_count file) o) (Some (fault kinds.Object at)) (first (map (λ i. short_at 4 file (at + 4 * i)) (range_with_len 0 6))) (and_false (nat_le (at + 20) (length file)) (lacks_pages (page_count file) o) lacks)
+    otherwise (nat_le (at + 20) (length file) && lacks_pages (page_count file) o) (Some (fault kinds.Object at)) (first (map (λ i. short_at 4 file (at + 4 * i)) (range_with_len 0 6))) (and_right (nat_le (at + 20) (length file)) (lacks_pages (page_count file) o) lacks)
     ∙ all_none (λ i. short_at 4 file (at + 4 * i)) 0 6 (λ i low high. not_short 4 file (at + 4 * i) (omega (arith, inside, high)))
 
 pub objects_faultless : (m : Image) → ImageFits m → objects_fault (file_of m) ≡ None
@@ -97,22 +93,16 @@ bounded number (page ∷ pages) k at j is low high =
       | inr ge ↦ let same : k ≡ j = omega (arith, ge, low) in subst (λ (i : ℕ). number i ≤ at + length (page_records page ++ flat_map page_records pages)) same (omega (arith, here))
     ]
 
-doublewords_long : (ns : List ℕ) → length (doublewords ns) ≡ 4 * length ns
+pub doublewords_long : (ns : List ℕ) → length (doublewords ns) ≡ 4 * length ns
 doublewords_long [] = refl
 doublewords_long (n ∷ ns) = omega (arith, doublewords_long ns)
-
-first_false : (a b : Bool) → a ≡ false → (a && b) ≡ false
-first_false a b p = ap (λ (x : Bool). x && b) p
 
 in_order : (file : List ℕ) (k : ℕ) → (0 < k → records_place file (k - 1) ≤ records_place file k) → is_out_of_order file k ≡ false
 in_order file k rise =
     elim (cases_lt 0 k) [
-      | inl some ↦ and_false (nat_lt 0 k) (nat_lt (records_place file k) (records_place file (k - 1))) (not_less (records_place file k) (records_place file (k - 1)) (rise some))
-      | inr none ↦ first_false (nat_lt 0 k) (nat_lt (records_place file k) (records_place file (k - 1))) (not_less 0 k none)
+      | inl some ↦ and_right (nat_lt 0 k) (nat_lt (records_place file k) (records_place file (k - 1))) (le-ltb (records_place file k) (records_place file (k - 1)) (rise some))
+      | inr none ↦ and_left (nat_lt 0 k) (nat_lt (records_place file k) (records_place file (k - 1))) (le-ltb 0 k none)
     ]
-
-neither : (a b : Bool) → a ≡ false → b ≡ false → (a || b) ≡ false
-neither a b p q = ap (λ (x : Bool). x || b) p ∙ q
 
 -- records of one page begin where those before end
 rise_at : (file : List ℕ) (from : ℕ) (number : ℕ → ℕ) (pages : List (List Written)) (k : ℕ) → ((i : ℕ) → records_place file i ≡ from + number i) → map number (range_with_len 0 (suc (length pages))) ≡ record_offsets_from 0 pages → k ≤ length pages → 0 < k → records_place file (k - 1) ≤ records_place file k
@@ -139,7 +129,7 @@ span_faultless m fits k within =
     behind_none (short_at 4 file (offset_place file k)) (if is_out_of_order file k || nat_lt (length file) (records_place file k) then Some (fault kinds.FixTable (offset_place file k)) else None)
     (not_short 4 file (offset_place file k) inside)
     (otherwise (is_out_of_order file k || nat_lt (length file) (records_place file k)) (Some (fault kinds.FixTable (offset_place file k))) None
-    (neither (is_out_of_order file k) (nat_lt (length file) (records_place file k)) (in_order file k before) (not_less (length file) (records_place file k) ends)))
+    (or_from (is_out_of_order file k) (nat_lt (length file) (records_place file k)) (in_order file k before) (le-ltb (length file) (records_place file k) ends)))
 
 pub spans_faultless : (m : Image) → ImageFits m → spans_fault (file_of m) ≡ None
 unfolding spans_fault

@@ -60,10 +60,10 @@ without_none m e = λ i. record m {
   comdats = sym e i;
 }
 
-none_taken : (before : List ObjModule) (m : ObjModule) → m.comdats ≡ [] → taken before m ≡ []
+pub none_taken : (before : List ObjModule) (m : ObjModule) → m.comdats ≡ [] → taken before m ≡ []
 none_taken before m e = ap (λ (cs : List Comdat). repeated (flat_map shared before) (filter (λ c. not (is_local m c)) cs)) e
 
-module_kept : (before : List ObjModule) (m : ObjModule) → m.comdats ≡ [] → kept_module before m ≡ m
+pub module_kept : (before : List ObjModule) (m : ObjModule) → m.comdats ≡ [] → kept_module before m ≡ m
 module_kept before m e = ap (λ (cs : List Comdat). without (is_seg_of cs) m) (none_taken before m e) ∙ without_none m e
 
 -- ---- nor out of an input

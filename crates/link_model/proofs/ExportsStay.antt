@@ -1,9 +1,11 @@
 -- There is one export for each that is asked, and the chosen modules of a whole input are whole.
-use Rattle.std.specs.Prelude.{◌≡◌, ℕ, suc, ◌+◌, ◌<◌, Bool, true, false, List, [], ◌∷◌, Option, Some, None, IsSome, map, length, slice_get, is_some, if◌then◌else◌, refl}
-use Rattle.std.specs.List.{filter_map, cons_option, enumerate_from, zip, AllByRecursion}
+use Rattle.std.specs.Prelude.{◌≡◌, ℕ, ◌<◌, Bool, true, false, List, [], ◌∷◌, Option, Some, None, IsSome, map, length, slice_get, is_some, if◌then◌else◌, refl}
+use Rattle.std.specs.List.{filter_map, cons_option, zip, AllByRecursion}
 use Rattle.std.specs.Option.{option_map, option_and_then, IsSomeAnd}
 use Rattle.std.proofs.Common.{ap, sym, ◌∙◌, arith, true≢false, subst}
 use Rattle.std.proofs.lemmas.List.Elements.{All-from_recursion}
+use Rattle.std.proofs.lemmas.List.{length-map}
+use Rattle.lx_types.proofs.Lists.{length-map-enumerate_from}
 use Rattle.obj_types.specs.declared.object.ObjModule.{ObjModule}
 use Rattle.obj_types.specs.declared.input.LinkInput.{LinkInput}
 use Rattle.obj_types.specs.declared.symbol.Exp.{Exp}
@@ -98,19 +100,11 @@ all_ordinals l (n ∷ ns) (x ∷ xs) whole e h =
     let shorter : length ns ≡ length xs = omega (arith, e) in
     ordinals_by n x (export_of l n x) (out_of l ns xs) ns (export_there l n x whole h.0) (all_ordinals l ns xs whole shorter h.1)
 
-length-numbered : {X Y : Type 0} (f : ℕ × X → Y) (b : ℕ) (xs : List X) → length (map f (enumerate_from b xs)) ≡ length xs
-length-numbered f b [] = refl
-length-numbered f b (x ∷ xs) = ap suc (length-numbered f (b + 1) xs)
-
-length-mapped : {X Y : Type 0} (f : X → Y) (xs : List X) → length (map f xs) ≡ length xs
-length-mapped f [] = refl
-length-mapped f (x ∷ xs) = ap suc (length-mapped f xs)
-
 pub exports_stay : ExportsStay
 unfolding rules
 exports_stay l whole e =
     let os = asked_ordinals l in
-    let as_many : length (ordinals os) ≡ length (exports l) = length-numbered (λ q. ordinal_at os q.0 q.1) 0 os ∙ length-mapped (λ (x : Exp). x.ordinal) (exports l) in
+    let as_many : length (ordinals os) ≡ length (exports l) = length-map-enumerate_from (λ q. ordinal_at os q.0 q.1) 0 os ∙ length-map (exports l) (λ (x : Exp). x.ordinal) in
     let lead = exports_lead l e in
     record { names = all_names l (ordinals os) (exports l) whole as_many lead; ordinals = all_ordinals l (ordinals os) (exports l) whole as_many lead }
 

@@ -23,7 +23,7 @@ pub not_mapped : {X Y : Type 0} (f : X → Y) (o : Option X) → option_map f o 
 not_mapped f None e = refl
 not_mapped f (Some x) e = absurd (true≢false (ap is_some e))
 
-not_first_by : {X : Type 0} (x : X) (rest : Option X) (b : Bool) → cond b (Some x) rest ≡ None → (b ≡ false) × (rest ≡ None)
+pub not_first_by : {X : Type 0} (x : X) (rest : Option X) (b : Bool) → cond b (Some x) rest ≡ None → (b ≡ false) × (rest ≡ None)
 not_first_by x rest true e = absurd (true≢false (ap is_some e))
 not_first_by x rest false e = (refl, e)
 

@@ -1,9 +1,12 @@
 -- All fixups and exports of a whole link whose names are not refused have a target and a place.
-use Rattle.std.specs.Prelude.{◌≡◌, ℕ, zero, suc, ◌+◌, ◌<◌, Bool, true, false, cond, not, ◌&&◌, List, [], ◌∷◌, ◌++◌, Option, Some, None, IsSome, map, length, filter, slice_get, is_some, unwrap_or, bytes_eq, refl}
+use Rattle.std.specs.Prelude.{◌≡◌, ℕ, zero, suc, ◌+◌, ◌<◌, Bool, true, false, cond, not, ◌&&◌, List, [], ◌∷◌, ◌++◌, Option, Some, None, IsSome, map, length, filter, slice_get, is_some, bytes_eq, refl}
 use Rattle.std.specs.List.{find, filter_map, flat_map, enumerate_from, position, cons_option}
 use Rattle.std.specs.Option.{option_map, option_and_then, option_or, IsSomeAnd}
 use Rattle.std.proofs.Common.{ap, sym, ◌∙◌, arith, true≢false, subst, inl, inr}
 use Rattle.std.proofs.lemmas.List.Quantifiers.{position-Some}
+use Rattle.std.proofs.lemmas.Option.{same_Some}
+use Rattle.std.proofs.lemmas.List.{map-append}
+use Rattle.lx_types.proofs.Options.{mapped_some, some_and}
 use Rattle.obj_types.specs.declared.object.FixAt.{FixAt}
 use Rattle.obj_types.specs.declared.object.Goal.{Goal}
 use Rattle.obj_types.specs.declared.object.Goal.TheVariants as goals
@@ -44,15 +47,11 @@ numbered_module l q i =
     let same : suc r.place ≡ q.0 = omega (arith, n) in
     subst (λ (k : ℕ). item l.modules k ≡ Some q.1) same r.is
 
-some_by : {X : Type 0} (o : Option X) (P : X → Type 0) → IsSomeAnd o P → IsSome o
-some_by None P h = absurd h
-some_by (Some x) P h = refl
-
 plain_stands : (l : Link) (n index : ℕ) (m : ObjModule) → chosen_module l n ≡ Some m → IsPlainSeg m index → IsSome (spot l n index)
 unfolding rules
 plain_stands l n index m em plain =
     let s = value_of (item m.segs index) (λ s. s.debug ≡ false) plain in
-    some_by (spot l n index) (LiesInObject l s.item.len) (segments_stand l n index m s.item em s.is s.holds)
+    some_and (spot l n index) (LiesInObject l s.item.len) (segments_stand l n index m s.item em s.is s.holds)
 
 -- ---- what a meaning names is there
 
@@ -71,9 +70,6 @@ place_there : (l : Link) (n : ℕ) (m : ObjModule) (place : PubPlace) → chosen
 place_there l n m (places.In seg offset) e whole = record { owner = m; chosen = e; plain = whole }
 place_there l n m (places.Const value) e whole = tt
 
-option_is : {X : Type 0} (x y : X) → Some x ≡ Some y → x ≡ y
-option_is {X} x y e = ap (λ (o : Option X). unwrap_or o x) e
-
 -- ---- local names
 
 local_by : (l : Link) (n : ℕ) (m : ObjModule) (name : List ℕ) (d : SymDef) → WholeModule m → chosen_module l n ≡ Some m → (o : Option Pub) → find (λ p. p.local && bytes_eq p.name name) m.pubs ≡ o → option_map (λ p. at_place n p.place) o ≡ Some d → IsThere l d
@@ -81,7 +77,7 @@ local_by l n m name d whole em None is e = absurd (true≢false (sym (ap is_some
 local_by l n m name d whole em (Some p) is e =
     let inside = found_as (λ (p : Pub). p.local && bytes_eq p.name name) m.pubs p is in
     let there = place_there l n m p.place em (all_in (λ (p : Pub). WholePlace m p.place) m.pubs whole.pubs inside.inside) in
-    subst (IsThere l) (option_is (at_place n p.place) d e) there
+    subst (IsThere l) (same_Some (at_place n p.place) d e) there
 
 local_there : (l : Link) (n : ℕ) (m : ObjModule) (name : List ℕ) (d : SymDef) → WholeLink l → chosen_module l n ≡ Some m → local_meaning l n name ≡ Some d → IsThere l d
 local_there l n m name d whole em e =
@@ -105,7 +101,7 @@ public_from l n m d place whole em r e =
     let p = r.item in
     let inside = from_filter (λ (p : Pub). not p.local) m.pubs r.inside in
     let holds : WholePlace m p.place = all_in (λ (p : Pub). WholePlace m p.place) m.pubs whole.pubs inside in
-    let same : p.place ≡ place = option_is p.place place (ap (λ (t : Definition). place_in t.meaning) r.is ∙ e) in
+    let same : p.place ≡ place = same_Some p.place place (ap (λ (t : Definition). place_in t.meaning) r.is ∙ e) in
     let by : n ≡ d.by = ap (λ (t : Definition). t.by) r.is in
     record { owner = m; chosen = subst (λ (k : ℕ). chosen_module l k ≡ Some m) by em; whole = subst (WholePlace m) same holds }
 
@@ -132,7 +128,7 @@ communal_by : (l : Link) (name : List ℕ) (d : SymDef) (o : Option ℕ) → pla
 unfolding rules
 communal_by l name d None is e = absurd (true≢false (sym (ap is_some e)))
 communal_by l name d (Some slot) is e =
-    subst (IsThere l) (option_is (means.Common slot) d e) (below (λ c. bytes_eq name c.0) (commons l) slot is)
+    subst (IsThere l) (same_Some (means.Common slot) d e) (below (λ c. bytes_eq name c.0) (commons l) slot is)
 
 communal_there : (l : Link) (name : List ℕ) (d : SymDef) → option_map (λ slot. means.Common slot) (place_by bytes_eq (λ c. c.0) name (commons l)) ≡ Some d → IsThere l d
 unfolding rules
@@ -142,13 +138,13 @@ import_by : (l : Link) (name : List ℕ) (pair : Imp) (d : SymDef) (o : Option �
 unfolding rules
 import_by l name pair d None is e = communal_there l name d e
 import_by l name pair d (Some slot) is e =
-    subst (IsThere l) (option_is (means.Import slot) d e) (below (λ i. same_import (import_key pair) (import_key i)) (imports l) slot is)
+    subst (IsThere l) (same_Some (means.Import slot) d e) (below (λ i. same_import (import_key pair) (import_key i)) (imports l) slot is)
 
 meaning_by : (l : Link) (name : List ℕ) (d : SymDef) (df : Definition) (m : Meaning) → WholeLink l → In df (definitions l) → df.meaning ≡ m → option_or (by_definition l df m) (option_map (λ slot. means.Common slot) (place_by bytes_eq (λ c. c.0) name (commons l))) ≡ Some d → IsThere l d
 unfolding rules
 meaning_by l name d df (Public place) whole i is e =
     let r = public_defined l df place whole i (ap place_in is) in
-    subst (IsThere l) (option_is (at_place df.by place) d e) (place_there l df.by r.owner place r.chosen r.whole)
+    subst (IsThere l) (same_Some (at_place df.by place) d e) (place_there l df.by r.owner place r.chosen r.whole)
 meaning_by l name d df (Imported pair) whole i is e =
     import_by l name pair d (place_by same_import import_key (import_key pair) (imports l)) refl e
 
@@ -173,18 +169,14 @@ sym_there l n m e d whole em is = sym_by l n m e.name e.local d whole em is
 
 -- ---- targets
 
-mapped : {X Y : Type 0} (f : X → Y) (o : Option X) → IsSome o → IsSome (option_map f o)
-mapped f None h = h
-mapped f (Some x) h = refl
-
 pub symbol_target : (l : Link) (d : SymDef) → IsThere l d → IsSome (of_symbol l d)
 unfolding rules
 symbol_target l (means.In n seg offset) h =
-    mapped _ _ (mapped (shifted offset) (spot l n seg) (plain_stands l n seg h.owner h.chosen h.plain))
+    mapped_some _ _ (mapped_some (shifted offset) (spot l n seg) (plain_stands l n seg h.owner h.chosen h.plain))
 symbol_target l (means.Const value) h = refl
 symbol_target l (means.Common slot) h =
     let c = item_at (commons l) slot h in
-    mapped _ _ (some_by (common_spot l slot) (LiesInObject l c.item.1.len) (communals_stand l slot c.item c.is))
+    mapped_some _ _ (some_and (common_spot l slot) (LiesInObject l c.item.1.len) (communals_stand l slot c.item c.is))
 symbol_target l (means.Import slot) h = refl
 
 pub record AtIndex {X : Type 0} (xs : List X) (i : ℕ) : Type 0 where
@@ -200,7 +192,7 @@ at_index xs (suc i) h =
 module_in_list : (ms : List ObjModule) (b k : ℕ) (m : ObjModule) → slice_get ms k ≡ Some m → In (b + k, m) (enumerate_from b ms)
 module_in_list [] b k m e = absurd (true≢false (sym (ap is_some e)))
 module_in_list (x ∷ ms) b zero m e =
-    let same : x ≡ m = option_is x m e in
+    let same : x ≡ m = same_Some x m e in
     let at : b ≡ b + 0 = omega arith in
     subst (λ (t : ObjModule). In (b + 0, t) ((b, x) ∷ enumerate_from (b + 1) ms)) same (subst (λ (n : ℕ). In (n, x) ((b, x) ∷ enumerate_from (b + 1) ms)) at here)
 module_in_list (x ∷ ms) b (suc k) m e =
@@ -225,11 +217,11 @@ external_target l n i m whole e em index =
 
 goal_target : (l : Link) (n : ℕ) (m : ObjModule) (goal : Goal) → WholeLink l → sym_refusal l ≡ None → chosen_module l n ≡ Some m → WholeGoal m goal → IsSome (target_of l n goal)
 unfolding rules
-goal_target l n m (goals.Seg i) whole e em h = mapped _ _ (plain_stands l n i m em h)
+goal_target l n m (goals.Seg i) whole e em h = mapped_some _ _ (plain_stands l n i m em h)
 goal_target l n m (goals.Ext i) whole e em h = external_target l n i m whole e em h
 goal_target l n m (goals.Group i) whole e em h =
     let g = at_index m.groups i h in
-    mapped _ _ (subst (λ (o : Option (List ℕ)). is_some o ≡ true) (sym (ap (option_and_then (λ m. option_map (λ g. g.name) (item m.groups i))) em ∙ ap (option_map (λ g. g.name)) g.is)) refl)
+    mapped_some _ _ (subst (λ (o : Option (List ℕ)). is_some o ≡ true) (sym (ap (option_and_then (λ m. option_map (λ g. g.name) (item m.groups i))) em ∙ ap (option_map (λ g. g.name)) g.is)) refl)
 
 -- ---- fixups
 
@@ -259,10 +251,6 @@ stay : (h : FixAt → Option Fixup) (fs : List FixAt) → ((f : FixAt) → In f 
 stay h [] all = refl
 stay h (f ∷ fs) all = stays_by f (h f) (filter_map h fs) fs (all f here) (stay h fs (λ g i. all g (there i)))
 
-pub map-both : {X Y : Type 0} (f : X → Y) (xs ys : List X) → map f (xs ++ ys) ≡ map f xs ++ map f ys
-map-both f [] ys = refl
-map-both f (x ∷ xs) ys = ap (λ t. f x ∷ t) (map-both f xs ys)
-
 stay_in_modules : (l : Link) (b : ℕ) (ms : List ObjModule) → WholeLink l → sym_refusal l ≡ None → ((q : ℕ × ObjModule) → In q (enumerate_from b ms) → chosen_module l q.0 ≡ Some q.1) → map (λ x. x.fix) (flat_map (λ q. filter_map (fixup_of l q.0 q.1) q.1.fixes) (enumerate_from b ms)) ≡ flat_map (λ m. m.fixes) ms
 unfolding rules
 stay_in_modules l b [] whole e chosen = refl
@@ -271,7 +259,7 @@ stay_in_modules l b (m ∷ ms) whole e chosen =
     let w = module_whole l b m whole em in
     let first = stay (fixup_of l b m) m.fixes (λ f i. fixup_there l b m f whole e em (all_in (WholeFix m) m.fixes w.fixes i)) in
     let rest = flat_map (λ (q : ℕ × ObjModule). filter_map (fixup_of l q.0 q.1) q.1.fixes) (enumerate_from (b + 1) ms) in
-    map-both (λ (x : Fixup). x.fix) (filter_map (fixup_of l b m) m.fixes) rest ∙ (ap (λ (t : List FixAt). t ++ map (λ x. x.fix) rest) first ∙ ap (λ (t : List FixAt). m.fixes ++ t) (stay_in_modules l (b + 1) ms whole e (λ q i. chosen q (there i))))
+    map-append (λ (x : Fixup). x.fix) (filter_map (fixup_of l b m) m.fixes) rest ∙ (ap (λ (t : List FixAt). t ++ map (λ x. x.fix) rest) first ∙ ap (λ (t : List FixAt). m.fixes ++ t) (stay_in_modules l (b + 1) ms whole e (λ q i. chosen q (there i))))
 
 pub fixups_stay : FixupsStay
 unfolding rules

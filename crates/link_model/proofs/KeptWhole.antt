@@ -1,14 +1,16 @@
 -- What is kept of a whole input is whole: a segment that is taken out is named by nothing that stays.
-use Rattle.std.specs.Prelude.{◌≡◌, ◌≢◌, ℕ, zero, suc, ◌+◌, ◌≤◌, Bool, true, false, cond, not, ◌||◌, ◌==◌, List, [], ◌∷◌, ◌++◌, Option, Some, None, map, length, filter, slice_get, refl}
+use Rattle.std.specs.Prelude.{◌≡◌, ◌≢◌, ℕ, zero, suc, ◌+◌, ◌≤◌, Bool, true, false, cond, not, ◌==◌, List, [], ◌∷◌, ◌++◌, Option, Some, None, map, length, filter, slice_get, refl}
 use Rattle.std.specs.List.{list_any, enumerate_from, sum_by, All, AllByRecursion}
 use Rattle.std.specs.Option.{IsSomeAnd, IfSome}
-use Rattle.std.proofs.Common.{ap, sym, ◌∙◌, arith, true≢false, subst, ne_eqb}
+use Rattle.std.proofs.Common.{ap, sym, ◌∙◌, arith, subst, ne_eqb}
 use Rattle.std.proofs.Math.ListN.{get_or}
 use Rattle.std.proofs.lemmas.List.{length-map}
 use Rattle.std.proofs.lemmas.List.Elements.{All-from_recursion, recursion_from_All}
 use Rattle.std.proofs.lemmas.List.Filters.{length-filter_both, sum_by-filter_both}
 use Rattle.std.proofs.lemmas.List.Sums.{sum_by-cons}
 use Rattle.std.proofs.lemmas.List.Kept.{AllPairs-filter}
+use Rattle.std.proofs.lemmas.Bool.{or_from, not-true}
+use Rattle.lx_types.proofs.Lists.{all_weaker}
 use Rattle.obj_types.specs.declared.object.Seg.{Seg}
 use Rattle.obj_types.specs.declared.object.Group.{Group}
 use Rattle.obj_types.specs.declared.object.Piece.{Piece}
@@ -48,14 +50,6 @@ all_numbered : {X Y : Type 0} (P : X → Type 0) (Q : Y → Type 0) (f : ℕ × 
 all_numbered P Q f g s [] h = tt
 all_numbered P Q f g s (x ∷ xs) h = (g s x h.0, all_numbered P Q f g (s + 1) xs h.1)
 
-all_weaker : {X : Type 0} (P Q : X → Type 0) → ((x : X) → P x → Q x) → (xs : List X) → AllByRecursion P xs → AllByRecursion Q xs
-all_weaker P Q f [] h = tt
-all_weaker P Q f (x ∷ xs) h = (f x h.0, all_weaker P Q f xs h.1)
-
-not_true : (b : Bool) → not b ≡ true → b ≡ false
-not_true false e = refl
-not_true true e = absurd (true≢false (sym e))
-
 -- ---- the segments that stay
 
 seg_at : (gone : ℕ → Bool) (segs : List Seg) (s k : ℕ) (P : Seg → Type 0) → ((x : Seg) → P x → P (seg_without gone (s + k) x)) → IsSomeAnd (slice_get segs k) P → IsSomeAnd (slice_get (map (λ q. seg_without gone q.0 q.1) (enumerate_from s segs)) k) P
@@ -70,16 +64,12 @@ seg_stays gone m zero P f h = h
 seg_stays gone m (suc k) P f h =
     seg_at gone m.segs 1 k P (λ x p. subst (λ (n : ℕ). P (seg_without gone n x)) (let e : suc k ≡ 1 + k = omega arith in e) (f x p)) h
 
-plain_by : (b c : Bool) → b ≡ false → c ≡ false → (b || c) ≡ false
-plain_by false c e f = f
-plain_by true c e f = absurd (true≢false e)
-
 plain_stays : (gone : ℕ → Bool) (m : ObjModule) (i : ℕ) → gone i ≡ false → IsPlainSeg m i → IsPlainSeg (without gone m) i
-plain_stays gone m i e h = seg_stays gone m i (λ (s : Seg). s.debug ≡ false) (λ x p. plain_by x.debug (gone i) p e) h
+plain_stays gone m i e h = seg_stays gone m i (λ (s : Seg). s.debug ≡ false) (λ x p. or_from x.debug (gone i) p e) h
 
 lies_stays : (gone : ℕ → Bool) (m : ObjModule) (i offset len : ℕ) → gone i ≡ false → LiesIn m i offset len → LiesIn (without gone m) i offset len
 lies_stays gone m i offset len e h =
-    seg_stays gone m i (λ (s : Seg). (s.debug ≡ false) × (offset + len ≤ s.len)) (λ x p. (plain_by x.debug (gone i) p.0 e, p.1)) h
+    seg_stays gone m i (λ (s : Seg). (s.debug ≡ false) × (offset + len ≤ s.len)) (λ x p. (or_from x.debug (gone i) p.0 e, p.1)) h
 
 -- ---- what names segments
 
@@ -112,17 +102,14 @@ goal_whole gone m (goals.Group i) h e = groups_stay gone m i h
 goal_whole gone m (goals.Ext i) h e = h
 
 place_whole : (gone : ℕ → Bool) (m : ObjModule) (p : PubPlace) → WholePlace m p → not (is_place_in gone p) ≡ true → WholePlace (without gone m) p
-place_whole gone m (In seg offset) h e = plain_stays gone m seg (not_true (gone seg) e) h
+place_whole gone m (In seg offset) h e = plain_stays gone m seg (not-true (gone seg) e) h
 place_whole gone m (Const value) h e = tt
 
 -- ---- COMDATs are apart from what names segments
 
-none_by : (b c : Bool) → b ≡ false → c ≡ false → (b || c) ≡ false
-none_by b c e f = plain_by b c e f
-
 apart_from : (cs : List Comdat) (i : ℕ) → AllByRecursion (λ (c : Comdat). i ≢ c.seg) cs → is_seg_of cs i ≡ false
 apart_from [] i h = refl
-apart_from (c ∷ cs) i h = none_by (c.seg == i) (is_seg_of cs i) (ne_eqb c.seg i (λ e. h.0 (sym e))) (apart_from cs i h.1)
+apart_from (c ∷ cs) i h = or_from (c.seg == i) (is_seg_of cs i) (ne_eqb c.seg i (λ e. h.0 (sym e))) (apart_from cs i h.1)
 
 frame_stays : (cs : List Comdat) (f : Frame) → AllByRecursion (λ (c : Comdat). IsApartFrame c.seg f) cs → FrameStays (is_seg_of cs) f
 frame_stays cs (frames.Seg i) h = apart_from cs i h
@@ -150,7 +137,7 @@ fix_whole m gone f h e =
     record {
       location = w.location;
       relative = w.relative;
-      place = lies_stays gone m f.seg f.offset _ (not_true (gone f.seg) e) w.place;
+      place = lies_stays gone m f.seg f.offset _ (not-true (gone f.seg) e) w.place;
       frame = frame_whole gone m f.frame w.frame h.frame;
       goal = goal_whole gone m f.goal w.goal h.goal;
     }
@@ -181,7 +168,7 @@ group_whole : (gone : ℕ → Bool) (m : ObjModule) (g : Group) → WholeGroup m
 group_whole gone m g h =
     record {
       members = All-from_recursion (IsPlainSeg (without gone m)) (filter (λ i. not (gone i)) g.members)
-          (all_filter (IsPlainSeg m) (IsPlainSeg (without gone m)) (λ i. not (gone i)) (λ i p e. plain_stays gone m i (not_true (gone i) e) p) g.members (recursion_from_All (IsPlainSeg m) g.members h.members));
+          (all_filter (IsPlainSeg m) (IsPlainSeg (without gone m)) (λ i. not (gone i)) (λ i p e. plain_stays gone m i (not-true (gone i) e) p) g.members (recursion_from_All (IsPlainSeg m) g.members h.members));
       flat = λ e. ap (filter (λ i. not (gone i))) (h.flat e);
     }
 
@@ -204,7 +191,7 @@ without_whole m cs w h =
       pubs = All-from_recursion (λ (p : Pub). WholePlace n p.place) n.pubs
           (all_filter (λ (p : Pub). WholePlace m p.place) (λ (p : Pub). WholePlace n p.place) (λ p. not (is_place_in gone p.place)) (λ p v e. place_whole gone m p.place v e) m.pubs (recursion_from_All (λ (p : Pub). WholePlace m p.place) m.pubs w.pubs));
       pieces = All-from_recursion (PieceIn n) n.pieces
-          (all_filter (PieceIn m) (PieceIn n) (λ p. not (gone p.seg)) (λ p v e. lies_stays gone m p.seg p.offset (length p.bytes) (not_true (gone p.seg) e) v) m.pieces (recursion_from_All (PieceIn m) m.pieces w.pieces));
+          (all_filter (PieceIn m) (PieceIn n) (λ p. not (gone p.seg)) (λ p v e. lies_stays gone m p.seg p.offset (length p.bytes) (not-true (gone p.seg) e) v) m.pieces (recursion_from_All (PieceIn m) m.pieces w.pieces));
       fixes = All-from_recursion (WholeFix n) n.fixes
           (all_filter (NamedFix m gone) (WholeFix n) (λ f. not (gone f.seg)) (fix_whole m gone) m.fixes (recursion_from_All (NamedFix m gone) m.fixes (fixes_named m cs w h)));
       apart = AllPairs-filter (λ f g. meets f g ≡ false) (λ f. not (gone f.seg)) m.fixes w.apart;

@@ -4,6 +4,7 @@ use Rattle.std.specs.Cmp.{IsEquivalence}
 use Rattle.std.proofs.Common.{ap, sym, ◌∙◌, true≢false, subst}
 use Rattle.std.proofs.lemmas.Bool.{eqb-true, eq-eqb, and_parts, and_from}
 use Rattle.std.proofs.lemmas.Slice.Eq.{bytes_eq-Decides}
+use Rattle.lx_types.proofs.Bools.{same_test}
 use Rattle.link_model.specs.Parts.{Origin, Segment, Communal, OwnStack, same_origin, SegmentKey, Private, Public, Common, segment_key, same_segment, joins}
 use Rattle.link_model.specs.Order.{ObjectKey, Group, Wide, Narrow, same_object, object_key}
 use Rattle.link_model.specs.Link.{Link}
@@ -14,11 +15,6 @@ pub record Decided {K : Type 0} (same : K → K → Bool) : Type 0 where
   pub itself : (k : K) → same k k ≡ true
   pub equal : (a b : K) → same a b ≡ true → a ≡ b
 
-agree_by : (s t : Bool) → (s ≡ true → t ≡ true) → (t ≡ true → s ≡ true) → s ≡ t
-agree_by true t f g = sym (f refl)
-agree_by false true f g = g refl
-agree_by false false f g = refl
-
 turned : {K : Type 0} {same : K → K → Bool} (d : Decided same) → (a b : K) → same a b ≡ true → same b a ≡ true
 turned {K} {same} d a b e = subst (λ k. same k a ≡ true) (d.equal a b e) (d.itself a)
 
@@ -26,24 +22,21 @@ pub equivalence : {K X : Type 0} {same : K → K → Bool} (d : Decided same) �
 equivalence {K} {X} {same} d key =
     record {
       refl = λ x. d.itself (key x);
-      symm = λ x y. agree_by (same (key x) (key y)) (same (key y) (key x)) (turned d (key x) (key y)) (turned d (key y) (key x));
+      symm = λ x y. same_test (same (key x) (key y)) (same (key y) (key x)) (turned d (key x) (key y)) (turned d (key y) (key x));
       congr = λ x y z e. ap (λ k. same k (key z)) (d.equal (key x) (key y) e);
     }
 
 -- ---- the keys
 
-number_itself : (n : ℕ) → (n == n) ≡ true
-number_itself n = eq-eqb n n refl
-
-name_itself : (name : List ℕ) → bytes_eq name name ≡ true
+pub name_itself : (name : List ℕ) → bytes_eq name name ≡ true
 name_itself name = (bytes_eq-Decides name name).1 refl
 
-name_equal : (a b : List ℕ) → bytes_eq a b ≡ true → a ≡ b
+pub name_equal : (a b : List ℕ) → bytes_eq a b ≡ true → a ≡ b
 name_equal a b e = (bytes_eq-Decides a b).0 e
 
 pub origin_itself : (o : Origin) → same_origin o o ≡ true
-origin_itself (Segment n i) = and_from (n == n) (i == i) (number_itself n) (number_itself i)
-origin_itself (Communal slot) = number_itself slot
+origin_itself (Segment n i) = and_from (n == n) (i == i) (eq-eqb n n refl) (eq-eqb i i refl)
+origin_itself (Communal slot) = eq-eqb slot slot refl
 origin_itself OwnStack = refl
 
 never : {P : Type 0} → false ≡ true → P
@@ -87,7 +80,7 @@ segment_keys = record { itself = segment_itself; equal = segment_equal }
 
 object_itself : (k : ObjectKey) → same_object k k ≡ true
 object_itself (Group name) = name_itself name
-object_itself (Wide flags) = number_itself flags
+object_itself (Wide flags) = eq-eqb flags flags refl
 object_itself (Narrow key) = segment_itself key
 
 object_equal : (a b : ObjectKey) → same_object a b ≡ true → a ≡ b

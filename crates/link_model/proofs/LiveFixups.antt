@@ -4,7 +4,7 @@ use Rattle.std.specs.List.{list_any, AllPairs, AllByRecursion}
 use Rattle.std.proofs.Common.{ap, sym, ◌∙◌, arith, true≢false, subst}
 use Rattle.std.proofs.lemmas.List.Elements.{All-from_recursion}
 use Rattle.std.proofs.lemmas.List.Kept.{AllPairs-cons}
-use Rattle.std.proofs.lemmas.Bool.{eqb-true}
+use Rattle.std.proofs.lemmas.Bool.{eqb-true, or_parts}
 use Rattle.lx_bytes.specs.LittleEndian.{little_bytes}
 use Rattle.obj_types.specs.Items.{item}
 use Rattle.obj_types.specs.Location.{location_len}
@@ -22,14 +22,6 @@ use Rattle.link_model.proofs.Rules.{rules}
 
 -- ---- live fixups
 
-or_first : (a b : Bool) → (a || b) ≡ false → a ≡ false
-or_first false b e = refl
-or_first true b e = absurd (true≢false e)
-
-or_second : (a b : Bool) → (a || b) ≡ false → b ≡ false
-or_second false b e = e
-or_second true b e = absurd (true≢false e)
-
 none_by : (test : Fixup → Bool) (q : Fixup) (qs rest : List Fixup) (b : Bool) → test q ≡ false → list_any test rest ≡ false → list_any test (cond b rest (q ∷ rest)) ≡ false
 none_by test q qs rest true here later = later
 none_by test q qs rest false here later = ap (λ (c : Bool). c || list_any test rest) here ∙ later
@@ -38,11 +30,11 @@ none_by test q qs rest false here later = ap (λ (c : Bool). c || list_any test 
 none_live : (test : Fixup → Bool) (qs : List Fixup) → list_any test qs ≡ false → list_any test (live qs) ≡ false
 none_live test [] e = refl
 none_live test (q ∷ qs) e =
-    none_by test q qs (live qs) (list_any (overlap q) qs) (or_first (test q) (list_any test qs) e) (none_live test qs (or_second (test q) (list_any test qs) e))
+    none_by test q qs (live qs) (list_any (overlap q) qs) (or_parts (test q) (list_any test qs) e).0 (none_live test qs (or_parts (test q) (list_any test qs) e).1)
 
 each_fails : (test : Fixup → Bool) (qs : List Fixup) → list_any test qs ≡ false → AllByRecursion (λ q. test q ≡ false) qs
 each_fails test [] e = tt
-each_fails test (q ∷ qs) e = (or_first (test q) (list_any test qs) e, each_fails test qs (or_second (test q) (list_any test qs) e))
+each_fails test (q ∷ qs) e = ((or_parts (test q) (list_any test qs) e).0, each_fails test qs (or_parts (test q) (list_any test qs) e).1)
 
 live_by : (q : Fixup) (qs : List Fixup) (b : Bool) → list_any (overlap q) qs ≡ b → AllPairs (λ a b. overlap a b ≡ false) (live qs) → AllPairs (λ a b. overlap a b ≡ false) (cond b (live qs) (q ∷ live qs))
 live_by q qs true e rest = rest

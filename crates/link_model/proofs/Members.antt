@@ -1,13 +1,14 @@
 -- What is in a list: by tests, and through `map`, `filter`, `flat_map` and `++`.
-use Rattle.std.specs.Prelude.{◌≡◌, ℕ, zero, suc, ◌+◌, ◌<◌, Bool, true, false, cond, not, ◌||◌, List, [], ◌∷◌, ◌++◌, Option, Some, None, map, length, filter, slice_get, is_some, IsSome, unwrap_or, refl}
+use Rattle.std.specs.Prelude.{◌≡◌, ℕ, zero, suc, ◌+◌, ◌<◌, Bool, true, false, cond, not, ◌||◌, List, [], ◌∷◌, ◌++◌, Option, Some, None, map, length, filter, slice_get, is_some, IsSome, refl}
 use Rattle.std.specs.List.{find, list_any, flat_map, enumerate_from, position, position_or_len, All, AllByRecursion, Contains}
 use Rattle.std.specs.Option.{IsSomeAnd}
 use Rattle.std.proofs.Common.{ap, sym, ◌∙◌, arith, true≢false, subst}
 use Rattle.std.proofs.Common.{inl, inr, ◌⊎◌}
 use Rattle.std.proofs.Math.Nat.{add-zero}
 use Rattle.std.proofs.Math.ListN.{get_or}
-use Rattle.std.proofs.lemmas.Bool.{lt-ltb}
+use Rattle.std.proofs.lemmas.Bool.{lt-ltb, or_right}
 use Rattle.std.proofs.lemmas.List.Elements.{recursion_from_All}
+use Rattle.std.proofs.lemmas.Option.{same_Some}
 
 pub data In {X : Type 0} (x : X) : List X → Type 0 where
   here : {xs : List X} → In x (x ∷ xs)
@@ -45,14 +46,10 @@ in_flat_map f {xs = z ∷ xs} (there i) j = in_right (f z) (in_flat_map f i j)
 
 -- ---- by tests
 
-or_there : (a b : Bool) → b ≡ true → (a || b) ≡ true
-or_there true b e = refl
-or_there false b e = e
-
 pub any_in : {X : Type 0} (test : X → Bool) {x : X} {xs : List X} → In x xs → test x ≡ true → list_any test xs ≡ true
 any_in test {xs = []} i e = elim i [ ]
 any_in test {xs = x ∷ xs} here e = ap (λ (b : Bool). b || list_any test xs) e
-any_in test {xs = y ∷ xs} (there i) e = or_there (test y) (list_any test xs) (any_in test i e)
+any_in test {xs = y ∷ xs} (there i) e = or_right (test y) (list_any test xs) (any_in test i e)
 
 -- The item that a test passes.
 pub record Found {X : Type 0} (test : X → Bool) (xs : List X) : Type 0 where
@@ -76,12 +73,9 @@ pub record FoundAs {X : Type 0} (test : X → Bool) (xs : List X) (x : X) : Type
   pub inside : In x xs
   pub passes : test x ≡ true
 
-some_is : {X : Type 0} (x y : X) → Some x ≡ Some y → x ≡ y
-some_is {X} x y e = ap (λ (o : Option X). unwrap_or o x) e
-
 found_as_by : {X : Type 0} (test : X → Bool) (y : X) (xs : List X) (x : X) (b : Bool) → test y ≡ b → cond b (Some y) (find test xs) ≡ Some x → (find test xs ≡ Some x → FoundAs test xs x) → FoundAs test (y ∷ xs) x
 found_as_by test y xs x true is e rest =
-    let same : y ≡ x = some_is y x e in
+    let same : y ≡ x = same_Some y x e in
     subst (λ z. FoundAs test (y ∷ xs) z) same (record { inside = here; passes = is })
 found_as_by test y xs x false is e rest =
     let r = rest e in record { inside = there r.inside; passes = r.passes }
@@ -128,7 +122,7 @@ item_at (x ∷ xs) (suc k) h = let r = item_at xs k (omega (arith, h)) in record
 
 pub in_at : {X : Type 0} (xs : List X) (k : ℕ) (x : X) → slice_get xs k ≡ Some x → In x xs
 in_at [] k x e = absurd (true≢false (sym (ap is_some e)))
-in_at (y ∷ xs) zero x e = subst (λ z. In z (y ∷ xs)) (some_is y x e) here
+in_at (y ∷ xs) zero x e = subst (λ z. In z (y ∷ xs)) (same_Some y x e) here
 in_at (y ∷ xs) (suc k) x e = there (in_at xs k x e)
 
 -- ---- from where an item is

@@ -3,6 +3,7 @@ use Rattle.std.specs.Prelude.{◌≡◌, ℕ, ◌+◌, List, [], ◌∷◌, ◌+
 use Rattle.std.specs.List.{filter_map, flat_map, enumerate_from, cons_option}
 use Rattle.std.specs.Option.{option_map}
 use Rattle.std.proofs.Common.{ap, sym, ◌∙◌, true≢false}
+use Rattle.std.proofs.lemmas.List.{map-append}
 use Rattle.obj_types.specs.declared.object.Piece.{Piece}
 use Rattle.obj_types.specs.declared.object.ObjModule.{ObjModule}
 use Rattle.obj_types.specs.Whole.{LiesIn}
@@ -11,7 +12,7 @@ use Rattle.link_model.specs.Layout.{spot}
 use Rattle.link_model.specs.Mean.{PlacedPiece, placed_piece}
 use Rattle.link_model.specs.NothingDropped.{WholeLink, PiecesStay}
 use Rattle.link_model.proofs.Members.{In, here, there, all_in}
-use Rattle.link_model.proofs.FixupsStay.{module_whole, numbered_module, lies_stands, map-both}
+use Rattle.link_model.proofs.FixupsStay.{module_whole, numbered_module, lies_stands}
 
 piece_by : (p : Piece) (o : Option (ℕ × ℕ)) (rest : List PlacedPiece) (bytes : List (List ℕ)) → IsSome o → map (λ x. x.bytes) rest ≡ bytes → map (λ x. x.bytes) (cons_option (option_map (λ q. record { object = q.0; offset = q.1 + p.offset; bytes = p.bytes }) o) rest) ≡ p.bytes ∷ bytes
 piece_by p None rest bytes h e = absurd (true≢false (sym h))
@@ -29,7 +30,7 @@ stay_in_modules l b (m ∷ ms) whole chosen =
     let w = module_whole l b m whole em in
     let first = stay l b m.pieces (λ p i. lies_stands l b m p.seg p.offset (length p.bytes) em (all_in (λ (p : Piece). LiesIn m p.seg p.offset (length p.bytes)) m.pieces w.pieces i)) in
     let rest = flat_map (λ (q : ℕ × ObjModule). filter_map (placed_piece l q.0) q.1.pieces) (enumerate_from (b + 1) ms) in
-    map-both (λ (x : PlacedPiece). x.bytes) (filter_map (placed_piece l b) m.pieces) rest ∙ (ap (λ (t : List (List ℕ)). t ++ map (λ x. x.bytes) rest) first ∙ ap (λ (t : List (List ℕ)). map (λ p. p.bytes) m.pieces ++ t) (stay_in_modules l (b + 1) ms whole (λ q i. chosen q (there i))))
+    map-append (λ (x : PlacedPiece). x.bytes) (filter_map (placed_piece l b) m.pieces) rest ∙ (ap (λ (t : List (List ℕ)). t ++ map (λ x. x.bytes) rest) first ∙ ap (λ (t : List (List ℕ)). map (λ p. p.bytes) m.pieces ++ t) (stay_in_modules l (b + 1) ms whole (λ q i. chosen q (there i))))
 
 pub pieces_stay : PiecesStay
 pieces_stay l whole = stay_in_modules l 1 l.modules whole (λ q i. numbered_module l q i)

@@ -5,11 +5,13 @@ use Rattle.std.specs.Option.{option_map, option_and_then, option_map_or}
 use Rattle.std.specs.Cmp.Lexicographic.{nat_list_eq_equiv}
 use Rattle.std.proofs.Common.{ap, sym, ◌∙◌, true≢false, subst}
 use Rattle.std.proofs.lemmas.Bool.{not-true}
+use Rattle.std.proofs.lemmas.Option.{same_Some}
 use Rattle.lx_types.specs.Names.{uppercase}
 use Rattle.lx_types.specs.declared.entry.EntryKey.{EntryKey}
 use Rattle.lx_types.specs.declared.entry.EntryKey.TheVariants as keys
 use Rattle.lx_types.specs.declared.fix.Fix.{Fix}
 use Rattle.lx_types.specs.declared.fix.FixTarget.{FixTarget}
+use Rattle.lx_types.proofs.Options.{mapped_some}
 use Rattle.obj_types.specs.declared.object.FixAt.{FixAt}
 use Rattle.obj_types.specs.declared.object.Goal.{Goal}
 use Rattle.obj_types.specs.declared.object.Goal.TheVariants as goals
@@ -94,18 +96,15 @@ InImports l t = is_entry t ≡ true → slot_of t < length (imports l)
 not_there : (l : Link) (t : Target) → is_entry t ≡ false → InImports l t
 not_there l t other entry = absurd (true≢false (sym entry ∙ other))
 
-target_is : (a b : Target) → Some a ≡ Some b → a ≡ b
-target_is a b e = ap (λ (o : Option Target). unwrap_or o a) e
-
 place_target : (l : Link) (o : Option (ℕ × ℕ)) (t : Target) → option_map (λ q. Internal q.0 q.1) o ≡ Some t → InImports l t
 place_target l None t e = absurd (true≢false (sym (ap is_some e)))
-place_target l (Some q) t e = not_there l t (sym (ap is_entry (target_is (Internal q.0 q.1) t e)))
+place_target l (Some q) t e = not_there l t (sym (ap is_entry (same_Some (Internal q.0 q.1) t e)))
 
 symbol_target : (l : Link) (d : SymDef) (t : Target) → IsThere l d → of_symbol l d ≡ Some t → InImports l t
 symbol_target l (means.In n seg offset) t h e = place_target l (option_map (shifted offset) (spot l n seg)) t e
-symbol_target l (means.Const value) t h e = not_there l t (sym (ap is_entry (target_is (Constant value) t e)))
+symbol_target l (means.Const value) t h e = not_there l t (sym (ap is_entry (same_Some (Constant value) t e)))
 symbol_target l (means.Common slot) t h e = place_target l (common_spot l slot) t e
-symbol_target l (means.Import slot) t h e = subst (InImports l) (target_is (Entry slot) t e) (λ entry. h)
+symbol_target l (means.Import slot) t h e = subst (InImports l) (same_Some (Entry slot) t e) (λ entry. h)
 
 group_target : (l : Link) (o : Option ℕ) (t : Target) → option_map_or (λ o. Internal o 0) o (Constant 0) ≡ t → InImports l t
 group_target l None t e = not_there l t (sym (ap is_entry e))
@@ -114,7 +113,7 @@ group_target l (Some o) t e = not_there l t (sym (ap is_entry e))
 named_group_target : (l : Link) (g : Option (List ℕ)) (t : Target) → option_map (λ g. option_map_or (λ o. Internal o 0) (object_of_group l g) (Constant 0)) g ≡ Some t → InImports l t
 named_group_target l None t e = absurd (true≢false (sym (ap is_some e)))
 named_group_target l (Some g) t e =
-    group_target l (object_of_group l g) t (target_is (option_map_or (λ o. Internal o 0) (object_of_group l g) (Constant 0)) t e)
+    group_target l (object_of_group l g) t (same_Some (option_map_or (λ o. Internal o 0) (object_of_group l g) (Constant 0)) t e)
 
 goal_target : (l : Link) (n : ℕ) (goal : Goal) (t : Target) → WholeLink l → target_of l n goal ≡ Some t → InImports l t
 unfolding rules
@@ -144,16 +143,12 @@ pub in_table : (names : List (List ℕ)) (name : List ℕ) → In name names →
 in_table names name i =
     ap is_some (position_is (bytes_eq name) (firsts bytes_eq names) (any-firsts nat_list_eq_equiv name names ∙ any_in (bytes_eq name) i (nat_list_eq_equiv.refl name)))
 
-mapped : {X Y : Type 0} (f : X → Y) (o : Option X) → IsSome o → IsSome (option_map f o)
-mapped f None h = h
-mapped f (Some x) h = refl
-
-entry_there : (pairs : List Imp) (number : ℕ) (pair : Imp) (entry : EntryKey) → In pair pairs → pair.entry ≡ entry → IsSome (entry_target pairs number entry)
+pub entry_there : (pairs : List Imp) (number : ℕ) (pair : Imp) (entry : EntryKey) → In pair pairs → pair.entry ≡ entry → IsSome (entry_target pairs number entry)
 entry_there pairs number pair (keys.Ordinal n) i e = refl
 entry_there pairs number pair (keys.Named name) i e =
-    mapped _ _ (in_table (filter_map (λ pair. proc_name pair.entry) pairs) name (in_filter_map (λ (pair : Imp). proc_name pair.entry) i (ap proc_name e)))
+    mapped_some _ _ (in_table (filter_map (λ pair. proc_name pair.entry) pairs) name (in_filter_map (λ (pair : Imp). proc_name pair.entry) i (ap proc_name e)))
 
-then_there : {X Y : Type 0} (f : X → Option Y) (o : Option X) → IsSome o → ((x : X) → IsSome (f x)) → IsSome (option_and_then f o)
+pub then_there : {X Y : Type 0} (f : X → Option Y) (o : Option X) → IsSome o → ((x : X) → IsSome (f x)) → IsSome (option_and_then f o)
 then_there f None h all = h
 then_there f (Some x) h all = all x
 
@@ -178,7 +173,7 @@ unfolding rules
 entry_record l q slot i is below =
     let pair = item_at (imports l) slot below in
     let used : In pair.item (used_pairs l) = in_filter_map (λ (q : Fixup). pair_used l q.target) i (ap (pair_used l) is ∙ pair.is) in
-    mapped _ _ (subst (λ (o : Option Imp). is_some (option_and_then (import_target (used_pairs l)) o) ≡ true) (sym pair.is) (pair_there (used_pairs l) pair.item used))
+    mapped_some _ _ (subst (λ (o : Option Imp). is_some (option_and_then (import_target (used_pairs l)) o) ≡ true) (sym pair.is) (pair_there (used_pairs l) pair.item used))
 
 target_record : (l : Link) (q : Fixup) (t : Target) → In q (recorded l) → q.target ≡ t → is_patched q ≡ false → InImports l t → IsSome (target_and_additive l q t)
 target_record l q (Internal o offset) i is kept h = refl

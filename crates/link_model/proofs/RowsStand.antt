@@ -1,5 +1,5 @@
 -- Each part of a link has a row, and lies in what its row has.
-use Rattle.std.specs.Prelude.{◌≡◌, ℕ, zero, suc, ◌+◌, ◌≤◌, ◌<◌, Bool, true, false, cond, ◌==◌, List, [], ◌∷◌, ◌++◌, Option, Some, None, map, max, length, filter, slice_get, is_some, unwrap_or, bytes_eq, ◌||◌, refl}
+use Rattle.std.specs.Prelude.{◌≡◌, ℕ, zero, suc, ◌+◌, ◌≤◌, ◌<◌, Bool, true, false, cond, ◌==◌, List, [], ◌∷◌, ◌++◌, Option, Some, None, map, max, length, filter, slice_get, is_some, unwrap_or, bytes_eq, refl}
 use Rattle.std.specs.List.{find, fold, list_any, enumerate_from, position_or_len}
 use Rattle.std.specs.Option.{option_map, option_and_then, option_or, option_map_or, IsSomeAnd}
 use Rattle.std.specs.Cmp.Lexicographic.{nat_list_eq_equiv}
@@ -9,6 +9,7 @@ use Rattle.std.proofs.Math.Numerals.{add-one}
 use Rattle.std.proofs.lemmas.Bool.{eq-eqb}
 use Rattle.std.proofs.lemmas.List.{append-nil}
 use Rattle.std.proofs.lemmas.List.Folds.{find-append}
+use Rattle.lx_types.proofs.Lists.{any_map}
 use Rattle.obj_types.specs.Items.{item}
 use Rattle.link_model.specs.declared.symbols.LaidObject.{LaidObject}
 use Rattle.link_model.specs.Link.{Link}
@@ -39,19 +40,15 @@ has_segment l p i =
     let s = found (joins p) (segments l) (any-firsts joining p (parts l) ∙ any_in (joins p) i (joining.refl p)) in
     record { item = s.item; inside = in_left (own_stacks l) (in_class l s.item s.inside); passes = s.passes }
 
-map_append : {X Y : Type 0} (f : X → Y) (xs : List X) (y : X) (ss : List Y) → map f (xs ++ y ∷ []) ++ ss ≡ map f xs ++ f y ∷ ss
+pub map_append : {X Y : Type 0} (f : X → Y) (xs : List X) (y : X) (ss : List Y) → map f (xs ++ y ∷ []) ++ ss ≡ map f xs ++ f y ∷ ss
 map_append f [] y ss = refl
 map_append f (x ∷ xs) y ss = ap (λ t. f x ∷ t) (map_append f xs y ss)
 
 -- The rows have the logical segments in order.
-segments_of_rows : (l : Link) (earlier : List Row) (ss : List Part) → map (λ r. r.segment) (rows_after l earlier ss) ≡ map (λ r. r.segment) earlier ++ ss
+pub segments_of_rows : (l : Link) (earlier : List Row) (ss : List Part) → map (λ r. r.segment) (rows_after l earlier ss) ≡ map (λ r. r.segment) earlier ++ ss
 segments_of_rows l earlier [] = sym (append-nil (map (λ r. r.segment) earlier))
 segments_of_rows l earlier (s ∷ ss) =
     segments_of_rows l (earlier ++ row_after l earlier s ∷ []) ss ∙ map_append (λ (r : Row). r.segment) earlier (row_after l earlier s) ss
-
-any_map : {X Y : Type 0} (test : Y → Bool) (f : X → Y) (xs : List X) → list_any test (map f xs) ≡ list_any (λ x. test (f x)) xs
-any_map test f [] = refl
-any_map test f (x ∷ xs) = ap (λ (b : Bool). test (f x) || b) (any_map test f xs)
 
 -- ---- what a row says
 
@@ -98,12 +95,12 @@ has_row l p i =
 
 -- ---- a row lies in its object
 
-max_from : (n : ℕ) (rs : List Row) → n ≤ fold (λ end r. max end r.end) n rs
+pub max_from : (n : ℕ) (rs : List Row) → n ≤ fold (λ end r. max end r.end) n rs
 max_from n [] = omega arith
 max_from n (r ∷ rs) =
     let here = le-max_left n r.end in let rest = max_from (max n r.end) rs in omega (arith, here, rest)
 
-max_in : {r : Row} (n : ℕ) {rs : List Row} → In r rs → r.end ≤ fold (λ end r. max end r.end) n rs
+pub max_in : {r : Row} (n : ℕ) {rs : List Row} → In r rs → r.end ≤ fold (λ end r. max end r.end) n rs
 max_in {r = r} n {rs = []} i = elim i [ ]
 max_in {r = r} n {rs = q ∷ rs} here =
     let this = le-max_right n r.end in let rest = max_from (max n r.end) rs in omega (arith, this, rest)

@@ -1,11 +1,11 @@
 -- Searches through lists that are made of other lists.
-use Rattle.std.specs.Prelude.{◌≡◌, ℕ, Bool, true, false, cond, not, ◌&&◌, ◌||◌, List, [], ◌∷◌, ◌++◌, Option, Some, None, map, filter, refl}
+use Rattle.std.specs.Prelude.{◌≡◌, ℕ, Bool, true, not, ◌&&◌, ◌||◌, List, [], ◌∷◌, Option, Some, None, filter, refl}
 use Rattle.std.specs.List.{list_any, filter_map, flat_map, cons_option}
 use Rattle.std.proofs.Common.{ap, sym, ◌∙◌}
-use Rattle.std.proofs.Math.Bool.{or_assoc}
 use Rattle.std.specs.Prelude.{find}
 use Rattle.std.specs.List.{enumerate_from}
 use Rattle.std.specs.Option.{option_map}
+use Rattle.lx_types.proofs.Lists.{any_map, any_filter, any_flat_map}
 use Rattle.obj_types.specs.declared.object.ObjModule.{ObjModule}
 use Rattle.obj_types.specs.declared.symbol.Ext.{Ext}
 use Rattle.obj_types.specs.declared.input.LinkInput.{LinkInput}
@@ -22,26 +22,6 @@ pub list_any_filter_map : {X Y : Type 0} (test : Y → Bool) (h : X → Option Y
 list_any_filter_map test h [] = refl
 list_any_filter_map test h (x ∷ xs) =
     any_cons_option test (h x) (filter_map h xs) ∙ ap (λ (b : Bool). option_any test (h x) || b) (list_any_filter_map test h xs)
-
-any_filter : {X : Type 0} (test keep : X → Bool) (xs : List X) → list_any test (filter keep xs) ≡ list_any (λ x. keep x && test x) xs
-any_filter test keep [] = refl
-any_filter test keep (x ∷ xs) = kept test (keep x) x (filter keep xs) ∙ ap (λ (b : Bool). (keep x && test x) || b) (any_filter test keep xs)
-  where
-    kept : {X : Type 0} (test : X → Bool) (b : Bool) (x : X) (ys : List X) → list_any test (cond b (x ∷ ys) ys) ≡ ((b && test x) || list_any test ys)
-    kept test true x ys = refl
-    kept test false x ys = refl
-
-any_append : {X : Type 0} (test : X → Bool) (xs ys : List X) → list_any test (xs ++ ys) ≡ (list_any test xs || list_any test ys)
-any_append test [] ys = refl
-any_append test (x ∷ xs) ys = ap (λ (b : Bool). test x || b) (any_append test xs ys) ∙ sym (or_assoc (test x) (list_any test xs) (list_any test ys))
-
-any_flat_map : {X Y : Type 0} (test : Y → Bool) (f : X → List Y) (xs : List X) → list_any test (flat_map f xs) ≡ list_any (λ x. list_any test (f x)) xs
-any_flat_map test f [] = refl
-any_flat_map test f (x ∷ xs) = any_append test (f x) (flat_map f xs) ∙ ap (λ (b : Bool). list_any test (f x) || b) (any_flat_map test f xs)
-
-any_map : {X Y : Type 0} (test : Y → Bool) (f : X → Y) (xs : List X) → list_any test (map f xs) ≡ list_any (λ x. test (f x)) xs
-any_map test f [] = refl
-any_map test f (x ∷ xs) = ap (λ (b : Bool). test (f x) || b) (any_map test f xs)
 
 any_same : {X : Type 0} (f g : X → Bool) (xs : List X) → ((x : X) → f x ≡ g x) → list_any f xs ≡ list_any g xs
 any_same f g [] same = refl

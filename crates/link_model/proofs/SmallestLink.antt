@@ -130,7 +130,7 @@ data_at-link name [] places stem base x = refl
 data_at-link name (b ∷ bytes) places stem base x =
     in_piece (λ (p : PlacedPiece). slice_index p.bytes (x - p.offset)) (record { object = 1; offset = 0; bytes = b ∷ bytes }) (b ∷ bytes) x (ap (λ (n : ℕ). slice_index (b ∷ bytes) n) (sub-zero x))
 
-in_page : (bytes places : List ℕ) → length bytes ≤ 4096 → AllByRecursion (λ p. p + 4 ≤ length bytes) places → AllByRecursion InPage places
+pub in_page : (bytes places : List ℕ) → length bytes ≤ 4096 → AllByRecursion (λ p. p + 4 ≤ length bytes) places → AllByRecursion InPage places
 in_page bytes [] len h = tt
 in_page bytes (p ∷ ps) len h = let first = h.0 in (omega arith, in_page bytes ps len h.1)
 

@@ -87,11 +87,11 @@ find-firsts same test key (x ∷ xs) = find_by same test key x xs (firsts same x
 
 -- ---- places
 
-place_kept_by : {X : Type 0} (test : X → Bool) (ys zs : List X) (b : Bool) → (b || list_any test ys) ≡ true → (list_any test ys ≡ true → position_or_len test (ys ++ zs) ≡ position_or_len test ys) → cond (not b) (1 + position_or_len test (ys ++ zs)) 0 ≡ cond (not b) (1 + position_or_len test ys) 0
+pub place_kept_by : {X : Type 0} (test : X → Bool) (ys zs : List X) (b : Bool) → (b || list_any test ys) ≡ true → (list_any test ys ≡ true → position_or_len test (ys ++ zs) ≡ position_or_len test ys) → cond (not b) (1 + position_or_len test (ys ++ zs)) 0 ≡ cond (not b) (1 + position_or_len test ys) 0
 place_kept_by test ys zs true e rest = refl
 place_kept_by test ys zs false e rest = ap (λ (n : ℕ). 1 + n) (rest e)
 
-place_kept : {X : Type 0} (test : X → Bool) (ys zs : List X) → list_any test ys ≡ true → position_or_len test (ys ++ zs) ≡ position_or_len test ys
+pub place_kept : {X : Type 0} (test : X → Bool) (ys zs : List X) → list_any test ys ≡ true → position_or_len test (ys ++ zs) ≡ position_or_len test ys
 place_kept test [] zs e = absurd (true≢false (sym e))
 place_kept test (y ∷ ys) zs e = place_kept_by test ys zs (test y) e (place_kept test ys zs)
 
@@ -99,7 +99,7 @@ none_before_by : {X : Type 0} (test : X → Bool) (ys : List X) (m : ℕ) (b : B
 none_before_by test ys m true e rest = absurd (true≢false e)
 none_before_by test ys m false e rest = let same = rest e in omega (arith, same)
 
-none_before : {X : Type 0} (test : X → Bool) (ys : List X) → list_any test ys ≡ false → position_or_len test ys ≡ length ys
+pub none_before : {X : Type 0} (test : X → Bool) (ys : List X) → list_any test ys ≡ false → position_or_len test ys ≡ length ys
 none_before test [] e = refl
 none_before test (y ∷ ys) e = none_before_by test ys (position_or_len test ys) (test y) e (none_before test ys)
 

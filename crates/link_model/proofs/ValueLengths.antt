@@ -1,18 +1,14 @@
 -- A value has as many bytes as its location.
-use Rattle.std.specs.Prelude.{◌≡◌, ℕ, zero, suc, ◌<◌, ◌≤◌, Bool, true, false, cond, ◌||◌, ◌==◌, List, Option, Some, None, length, ◌/◌, unwrap_or, is_some, refl}
+use Rattle.std.specs.Prelude.{◌≡◌, ℕ, ◌<◌, ◌≤◌, Bool, true, false, cond, ◌||◌, ◌==◌, List, Option, Some, None, length, unwrap_or, is_some, refl}
 use Rattle.std.proofs.Common.{ap, sym, ◌∙◌, arith, true≢false, inl, inr}
 use Rattle.std.proofs.lemmas.Bool.{agree_below_at, cases_lt, ne_eqb, eqb-true, or_cases}
-use Rattle.lx_bytes.specs.LittleEndian.{little_bytes}
+use Rattle.lx_bytes.proofs.Numbers.{length-little_bytes}
 use Rattle.obj_types.specs.Location.{location_len}
 use Rattle.link_model.specs.Link.{Link}
 use Rattle.link_model.specs.Fixups.{Fixup, fix_refusal}
 use Rattle.link_model.specs.Value.{World, relative_to_segment, relative_to_self, value_bytes, place_address, sum_number, target_number, target_flags}
 use Rattle.link_model.specs.NothingDropped.{ValuesFit}
 use Rattle.link_model.proofs.Rules.{rules}
-
-length-little : (n v : ℕ) → length (little_bytes n v) ≡ n
-length-little zero v = refl
-length-little (suc n) v = ap suc (length-little n (v / 256))
 
 -- Of a location that there is, which is below 14.
 abbrev fits_at : ℕ → ℕ → ℕ → Bool → ℕ → Bool
@@ -22,7 +18,7 @@ fits_at t v flags narrow loc =
 all_fit : (t v flags loc : ℕ) (narrow : Bool) → loc < 14 → fits_at t v flags narrow loc ≡ true
 all_fit t v flags loc narrow h = agree_below_at (fits_at t v flags narrow) (λ n. true) 14 loc refl h
 
-no_location : (loc : ℕ) → 14 ≤ loc → location_len loc ≡ 0
+pub no_location : (loc : ℕ) → 14 ≤ loc → location_len loc ≡ 0
 no_location loc h =
     rw (ne_eqb loc 0 (λ e. omega (arith, h, e)), ne_eqb loc 1 (λ e. omega (arith, h, e)), ne_eqb loc 2 (λ e. omega (arith, h, e)), ne_eqb loc 5 (λ e. omega (arith, h, e)), ne_eqb loc 3 (λ e. omega (arith, h, e)), ne_eqb loc 9 (λ e. omega (arith, h, e)), ne_eqb loc 13 (λ e. omega (arith, h, e)), ne_eqb loc 11 (λ e. omega (arith, h, e))) refl
 
@@ -41,7 +37,7 @@ bytes_fit_by false a b n ea eb = eb
 pub bytes_fit : (l : Link) (w : World) (q : Fixup) → 0 < location_len q.fix.loc → length (value_bytes l w q) ≡ location_len q.fix.loc
 unfolding rules
 bytes_fit l w q h =
-    bytes_fit_by q.fix.selfrel (relative_to_self q.fix.loc (place_address w q.object q.offset) (sum_number l w q)) (relative_to_segment q.fix.loc (target_number l w q) (sum_number l w q) (target_flags l w q.target) q.narrow) (location_len q.fix.loc) (length-little (location_len q.fix.loc) _) (segment_fits (target_number l w q) (sum_number l w q) (target_flags l w q.target) q.fix.loc q.narrow h)
+    bytes_fit_by q.fix.selfrel (relative_to_self q.fix.loc (place_address w q.object q.offset) (sum_number l w q)) (relative_to_segment q.fix.loc (target_number l w q) (sum_number l w q) (target_flags l w q.target) q.narrow) (location_len q.fix.loc) (length-little_bytes (location_len q.fix.loc) _) (segment_fits (target_number l w q) (sum_number l w q) (target_flags l w q.target) q.fix.loc q.narrow h)
 
 is_bytes : (b : Bool) (bytes all : List ℕ) → cond b None (Some all) ≡ Some bytes → all ≡ bytes
 is_bytes true bytes all e = absurd (true≢false (sym (ap is_some e)))

@@ -1,7 +1,7 @@
 -- Commands that are not refused, and states that differ in touched pages alone.
-use Rattle.std.proofs.Common.{◌≡◌, ℕ, ◌==◌, Bool, true, false, not, List, length, Option, Some, None, refl, sym, ◌∙◌, ap, subst}
+use Rattle.std.proofs.Common.{◌≡◌, ℕ, ◌==◌, true, false, not, List, length, Option, Some, None, refl, sym, ◌∙◌, ap, subst}
 use Rattle.std.specs.Prelude.{unwrap_or, is_none, nat_lt}
-use Rattle.std.proofs.lemmas.Bool.{eq-eqb, lt-ltb}
+use Rattle.std.proofs.lemmas.Bool.{eq-eqb, lt-ltb, not_from_false}
 use Rattle.std.proofs.lemmas.List.Quantifiers.{position-Some}
 use Rattle.load_model.specs.declared.commands.Place.{Place}
 use Rattle.load_model.specs.declared.commands.Command.{Command}
@@ -54,9 +54,6 @@ free_may lib e pid None h = absurd (some_none (right_none (when (e.processes pid
 
 -- ---- places
 
-not_false : (b : Bool) → b ≡ false → not b ≡ true
-not_false b h = ap not h
-
 -- what is so of a place that is not refused
 pub record Open (lib : Library) (e : Eager) (pid : ℕ) (how : Purpose) (place : Place) : Type 0 where
   pub going : not (e.processes pid).ended ≡ true
@@ -78,7 +75,7 @@ open_by lib e pid how place h (Some m) is (Some r) found_is =
     in
     let same : r.«module» ≡ meant lib place.«module» = sym (ap (λ n. unwrap_or n (length lib)) (named_is lib e pid place.«module» r found_is).1) in
     record {
-      going = not_false _ (when_none _ Ended (left_none _ _ h));
+      going = not_from_false _ (when_none _ Ended (left_none _ _ h));
       attached =
           ap (is_serial (serial_named lib e pid place)) (attached_named lib e pid place.«module» m is ∙ found_is)
           ∙ ap (λ o. r.serial == serial_of o) found_is ∙ eq-eqb r.serial r.serial refl;

@@ -77,11 +77,11 @@ named_stays lib e after q name alike = step (number_of lib name)
 
 -- ---- refusals
 
-place_by_stay : (lib : Library) (p : Process) (how : Purpose) (place : Place) (r : Option Residence) → residence_refusal lib p how place r ≡ residence_refusal lib p how place (stay_of r)
+pub place_by_stay : (lib : Library) (p : Process) (how : Purpose) (place : Place) (r : Option Residence) → residence_refusal lib p how place r ≡ residence_refusal lib p how place (stay_of r)
 place_by_stay lib p how place None = refl
 place_by_stay lib p how place (Some r) = refl
 
-key_by_stay : (lib : Library) (key : EntryKey) (r : Option Residence) → key_refusal lib key r ≡ key_refusal lib key (stay_of r)
+pub key_by_stay : (lib : Library) (key : EntryKey) (r : Option Residence) → key_refusal lib key r ≡ key_refusal lib key (stay_of r)
 key_by_stay lib key None = refl
 key_by_stay lib key (Some r) = refl
 
@@ -102,7 +102,7 @@ query_alike lib e after q name key alike =
     (key_by_stay lib key (residence_named lib after q name) ∙ ap (key_refusal lib key) (named_stays lib e after q name alike)
     ∙ sym (key_by_stay lib key (residence_named lib e q name)))
 
-found_by_stay : (lib : Library) (ty id : ℕ) (r : Option Residence) → found_refusal lib ty id r ≡ found_refusal lib ty id (stay_of r)
+pub found_by_stay : (lib : Library) (ty id : ℕ) (r : Option Residence) → found_refusal lib ty id r ≡ found_refusal lib ty id (stay_of r)
 found_by_stay lib ty id None = refl
 found_by_stay lib ty id (Some r) = refl
 

@@ -1,9 +1,5 @@
 -- Tests that pass and fail.
-use Rattle.std.proofs.Common.{◌≡◌, Bool, true, false, not, ◌&&◌, ◌||◌, refl}
-
-pub negated : (b : Bool) → not b ≡ true → b ≡ false
-negated true e = cc
-negated false e = refl
+use Rattle.std.proofs.Common.{◌≡◌, Bool, true, false, ◌&&◌, ◌||◌, refl}
 
 pub and_left : (a b : Bool) → a && b ≡ true → a ≡ true
 and_left true b e = refl
@@ -15,10 +11,6 @@ and_right false b e = cc
 
 pub and_true : (a b : Bool) → a ≡ true → b ≡ true → a && b ≡ true
 and_true a b p q = cc
-
-pub or_assoc : (a b c : Bool) → (a || b) || c ≡ a || (b || c)
-or_assoc true b c = refl
-or_assoc false b c = refl
 
 pub or_false : (a : Bool) → a || false ≡ a
 or_false true = refl

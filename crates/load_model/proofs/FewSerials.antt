@@ -45,7 +45,7 @@ orders_are_few once within lib m below =
 
 -- ---- newcomers
 
-fewer : {X : Type 0} (f : X → Bool) (xs : List X) → length (filter f xs) ≤ length xs
+pub fewer : {X : Type 0} (f : X → Bool) (xs : List X) → length (filter f xs) ≤ length xs
 fewer f xs = subst (λ n. n ≤ length xs) (sym (length-filter f xs)) (count_by-le-length f xs)
 
 new_are_few : OrdersAreFew → (lib : Library) (e : Eager) (pid m : ℕ) → m < length lib → length (newcomers lib e pid m) ≤ length lib

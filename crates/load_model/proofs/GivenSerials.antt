@@ -3,6 +3,7 @@ use Rattle.std.proofs.Common.{◌≡◌, ℕ, ◌≤◌, ◌==◌, Bool, true, f
 use Rattle.std.proofs.lemmas.Bool.{eqb-true, or_cases}
 use Rattle.std.proofs.lemmas.List.{append-nil}
 use Rattle.std.proofs.lemmas.List.Folds.{list_any-append}
+use Rattle.std.proofs.Math.Bool.{or-false}
 use Rattle.lx_types.specs.declared.object.PageId.{PageId}
 use Rattle.lx_types.specs.declared.object.Class.{Class}
 use Rattle.lx_types.specs.declared.object.Class.TheVariants as classes
@@ -92,13 +93,9 @@ fault_below lib e pid serial high p (deeds.Write s m object offset bytes) h may 
 fault_below lib e pid serial high p (deeds.Debug s m object offset bytes) h may is = cc
 fault_below lib e pid serial high p (deeds.Shared s m object offset bytes) h may is = cc
 
-or_nil : (b : Bool) → b || false ≡ b
-or_nil true = refl
-or_nil false = refl
-
 one_more : (h : List Entry) (x : Entry) (serial : ℕ) (p : PageId) → has_fault (h ++ x ∷ []) serial p ≡ has_fault h serial p || is_fault_of serial p x.deed
 unfolding has_fault
-one_more h x serial p = list_any-append (λ entry. is_fault_of serial p entry.deed) h (x ∷ []) ∙ ap (λ b. has_fault h serial p || b) (or_nil (is_fault_of serial p x.deed))
+one_more h x serial p = list_any-append (λ entry. is_fault_of serial p entry.deed) h (x ∷ []) ∙ ap (λ b. has_fault h serial p || b) (or-false (is_fault_of serial p x.deed))
 
 abbrev Given : Library → Failing → List Entry → Type 0
 Given lib failing h = (serial : ℕ) (p : PageId) → has_fault h serial p ≡ true → serial ≤ (state_after lib failing h).serials

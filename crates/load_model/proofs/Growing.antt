@@ -1,6 +1,6 @@
 -- Legal histories: cut anywhere, and longer by one entry.
 use Rattle.std.proofs.Common.{◌≡◌, ℕ, true, false, List, [], ◌∷◌, ◌++◌, map, refl, sym, ◌∙◌, ap, subst, append_assoc}
-use Rattle.std.proofs.lemmas.Bool.{eqb-true}
+use Rattle.std.proofs.lemmas.Bool.{eqb-true, not-true}
 use Rattle.std.proofs.lemmas.List.{append-nil}
 use Rattle.std.proofs.lemmas.List.Sums.{fold-append}
 use Rattle.lx_types.specs.declared.object.PageId.{PageId}
@@ -12,7 +12,7 @@ use Rattle.load_model.specs.Modules.{Library, Held}
 use Rattle.load_model.specs.Asks.{Ask, deed_of}
 use Rattle.load_model.specs.Memory.{is_page}
 use Rattle.load_model.specs.Histories.{state_after, is_fault_of, is_first_fault, has_fault, Follows, AllFollow, Legal}
-use Rattle.load_model.proofs.Bools.{and_left, and_right, negated}
+use Rattle.load_model.proofs.Bools.{and_left, and_right}
 use Rattle.load_model.specs.Laws.{ask_of, AsksDecide, PrefixIsLegal, EachFollows, OneMoreIsLegal, NothingIsLegal, OneMoreIsAfter, FaultOnce}
 
 first_follow : (lib : Library) (failing : Failing) (contents : Held) (before h more : List Entry) → AllFollow lib failing contents before (h ++ more) → AllFollow lib failing contents before h
@@ -85,7 +85,7 @@ first_of_page h serial p (deeds.Fault other m q) is first =
     let pages : q.page ≡ p.page = eqb-true _ _ (and_right _ _ page) in
     let E : ℕ → ℕ → PageId = λ o n. record { object = o; page = n } in
     let e : q ≡ p = ap (λ o. E o q.page) objects ∙ ap (E p.object) pages in
-    ap (λ s. has_fault h s p) (sym same) ∙ ap (has_fault h other) (sym e) ∙ negated _ first
+    ap (λ s. has_fault h s p) (sym same) ∙ ap (has_fault h other) (sym e) ∙ not-true _ first
 first_of_page h serial p (deeds.Enter how m fresh calls) is first = cc
 first_of_page h serial p (deeds.Full how m of object size) is first = cc
 first_of_page h serial p (deeds.Failed how m by fresh calls gone) is first = cc

@@ -2,7 +2,7 @@
 use Rattle.std.proofs.Common.{◌≡◌, ℕ, zero, suc, ◌+◌, ◌<◌, ◌≤◌, ◌==◌, Bool, true, false, ◌||◌, List, [], ◌∷◌, ◌++◌, map, length, Option, Some, None, refl, sym, ◌∙◌, ap, subst, append_assoc, arith}
 use Rattle.std.specs.Prelude.{unwrap_or, is_none, nat_lt}
 use Rattle.std.specs.List.{range_with_len}
-use Rattle.std.proofs.lemmas.Bool.{eqb-false, ltb-false}
+use Rattle.std.proofs.lemmas.Bool.{eqb-false, ltb-false, or_parts}
 use Rattle.std.proofs.lemmas.List.{append-nil}
 use Rattle.lx_types.specs.Sound.{IsNumberOf}
 use Rattle.load_model.specs.declared.commands.Place.{Place}
@@ -27,7 +27,7 @@ use Rattle.load_model.proofs.Bytes.{attached_is, named_is, left_none, right_none
 
 -- ---- bytes in a row
 
-range_same : (f g : ℕ → ℕ) (n from : ℕ) → ((x : ℕ) → from ≤ x → x < from + n → f x ≡ g x) → map f (range_with_len from n) ≡ map g (range_with_len from n)
+pub range_same : (f g : ℕ → ℕ) (n from : ℕ) → ((x : ℕ) → from ≤ x → x < from + n → f x ≡ g x) → map f (range_with_len from n) ≡ map g (range_with_len from n)
 range_same f g zero from h = refl
 range_same f g (suc n) from h =
     let here : f from ≡ g from = h from (omega arith) (omega arith) in
@@ -42,14 +42,6 @@ pub when_none : (b : Bool) (r : Refusal) → when b r ≡ None → b ≡ false
 when_none true r h = cc
 when_none false r h = refl
 
-or_left : (a b : Bool) → a || b ≡ false → a ≡ false
-or_left true b h = h
-or_left false b h = refl
-
-or_right : (a b : Bool) → a || b ≡ false → b ≡ false
-or_right true b h = cc
-or_right false b h = h
-
 pub record Inside (lib : Library) (m object offset len : ℕ) : Type 0 where
   pub there : IsNumberOf object (length (objects_of lib m))
   pub end : offset + len ≤ (object_at lib m object).size
@@ -58,11 +50,11 @@ pub span_inside : (lib : Library) (how : Purpose) (m object offset len : ℕ) �
 unfolding span_refusal
 span_inside lib how m object offset len h =
     let out : is_outside lib m object offset len ≡ false = when_none _ Range (left_none _ _ h) in
-    let first : (object == 0) || nat_lt (length (objects_of lib m)) object ≡ false = or_left _ _ out in
-    let nonzero : object ≡ 0 → ⊥ = eqb-false object 0 (or_left _ _ first) in
-    let below : object ≤ length (objects_of lib m) = ltb-false _ _ (or_right _ _ first) in
+    let first : (object == 0) || nat_lt (length (objects_of lib m)) object ≡ false = (or_parts _ _ out).0 in
+    let nonzero : object ≡ 0 → ⊥ = eqb-false object 0 (or_parts _ _ first).0 in
+    let below : object ≤ length (objects_of lib m) = ltb-false _ _ (or_parts _ _ first).1 in
     let one : 1 ≤ object = above_zero object nonzero in
-    record { there = (one, below); end = ltb-false _ _ (or_right _ _ out) }
+    record { there = (one, below); end = ltb-false _ _ (or_parts _ _ out).1 }
   where
     above_zero : (n : ℕ) → (n ≡ 0 → ⊥) → 1 ≤ n
     above_zero zero h = absurd (h refl)

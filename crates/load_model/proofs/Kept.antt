@@ -2,6 +2,7 @@
 use Rattle.std.proofs.Common.{◌≡◌, ℕ, suc, ◌==◌, Bool, true, false, if◌then◌else◌, not, ◌&&◌, ◌||◌, List, [], ◌∷◌, ◌++◌, map, Option, Some, None, Result, Ok, Err, is_some, is_none, option_to_list, refl, sym, ◌∙◌, ap}
 use Rattle.std.specs.List.{list_any}
 use Rattle.std.proofs.lemmas.Bool.{eq-eqb}
+use Rattle.lx_types.proofs.Lists.{any_map}
 use Rattle.load_model.specs.declared.commands.Refusal.{Refusal}
 use Rattle.load_model.specs.declared.commands.Refusal.TheVariants.{Ended, Started}
 use Rattle.load_model.specs.declared.deeds.How.{How}
@@ -17,13 +18,9 @@ use Rattle.load_model.specs.Entering.{NoRoom, ranges_of, with_fresh_residences, 
 use Rattle.load_model.specs.Initialising.{failing_module, entered, enter_by, enter_deed}
 use Rattle.load_model.specs.Refusals.{when, ◌orelse◌, enter_refusal}
 use Rattle.load_model.proofs.Bools.{or_swap}
-use Rattle.load_model.proofs.Among.{any_append, any_map, any_same, among_append, among_filter, some_find, any_split}
+use Rattle.load_model.proofs.Among.{any_append, any_same, among_append, among_filter, some_find, any_split}
 
 -- ---- processes
-
--- a number equals itself
-same_number : (n : ℕ) → (n == n) ≡ true
-same_number n = eq-eqb n n refl
 
 -- what is reached by other processes than one
 abbrev pub others : Library → Eager → ℕ → ℕ → Bool
@@ -31,7 +28,7 @@ others lib e pid m = list_any (λ q. not (q == pid) && reaches lib (e.processes 
 
 pub process_at : (e : Eager) (pid : ℕ) (p : Process) → (with_process e pid p).processes pid ≡ p
 unfolding with_process
-process_at e pid p = ap (λ b. if b then p else e.processes pid) (same_number pid)
+process_at e pid p = ap (λ b. if b then p else e.processes pid) (eq-eqb pid pid refl)
 
 pub process_apart : (e : Eager) (pid : ℕ) (p : Process) (q : ℕ) → (q == pid) ≡ false → (with_process e pid p).processes q ≡ e.processes q
 unfolding with_process

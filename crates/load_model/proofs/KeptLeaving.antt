@@ -3,13 +3,14 @@ use Rattle.std.proofs.Common.{◌≡◌, ℕ, ◌==◌, Bool, true, false, if◌
 use Rattle.std.specs.List.{list_any}
 use Rattle.lx_types.specs.declared.object.Class.{Class}
 use Rattle.lx_types.specs.declared.object.Class.TheVariants as classes
+use Rattle.lx_types.proofs.Lists.{any_map}
 use Rattle.load_model.specs.Modules.{Library, order_of}
 use Rattle.load_model.specs.State.{Residence, Process, Eager, Written, with_process, is_among, pids, reaches, is_reached}
 use Rattle.load_model.specs.Leaving.{left, gone_modules, gone_of, gone, keeping, after_leaving, without_one, freeing, exiting}
 use Rattle.load_model.specs.Memory.{with_write, writing}
 use Rattle.load_model.specs.Asks.{after_write}
 use Rattle.load_model.proofs.Bools.{or_true}
-use Rattle.load_model.proofs.Among.{any_map, any_same, any_filter_at, among_filter, any_reverse}
+use Rattle.load_model.proofs.Among.{any_same, any_filter_at, among_filter, any_reverse}
 use Rattle.load_model.proofs.Kept.{Kept, others, reached_apart, reached_with, attached_elsewhere}
 
 -- the process after it gave something up: it has attached what it had, and reaches no more

@@ -4,6 +4,7 @@ use Rattle.std.proofs.Common.{◌≡◌, ℕ, zero, suc, ◌<◌, ◌==◌, Bool
 use Rattle.std.specs.Prelude.{Contains}
 use Rattle.std.specs.List.{list_any}
 use Rattle.std.proofs.lemmas.Bool.{eqb-true, eq-eqb}
+use Rattle.lx_types.proofs.Lists.{any_weaker}
 use Rattle.lx_model.specs.Reach.{Reach, Order}
 use Rattle.lx_model.specs.Reach.Reach.{itself, further}
 use Rattle.lx_model.specs.Laws.{OrderIsReached, ReachedIsOrdered}
@@ -42,23 +43,15 @@ orders_nest reached ordered lib a b c first second =
 
 -- ---- processes
 
-any_more : {X : Type 0} (f g : X → Bool) → ((x : X) → f x ≡ true → g x ≡ true) → (xs : List X) → list_any f xs ≡ true → list_any g xs ≡ true
-any_more f g more [] h = h
-any_more f g more (x ∷ xs) h = step (f x) refl (any_more f g more xs) h
-  where
-    step : (b : Bool) → f x ≡ b → (list_any f xs ≡ true → list_any g xs ≡ true) → b || list_any f xs ≡ true → g x || list_any g xs ≡ true
-    step true e later h = ap (λ b. b || list_any g xs) (more x e)
-    step false e later h = ap (λ b. g x || b) (later h) ∙ or_true (g x)
-
 pub reaches_closed : OrdersNest → (lib : Library) (p : Process) (m k : ℕ) → reaches lib p m ≡ true → is_among (order_of lib m) k ≡ true → reaches lib p k ≡ true
 unfolding reaches
 reaches_closed nest lib p m k h member =
-    any_more (λ root. is_among (order_of lib root) m) (λ root. is_among (order_of lib root) k) (λ root first. nest lib root m k first member) (roots p) h
+    any_weaker (λ root. is_among (order_of lib root) m) (λ root. is_among (order_of lib root) k) (λ root first. nest lib root m k first member) (roots p) h
 
 pub reached_closed : OrdersNest → (lib : Library) (e : Eager) (m k : ℕ) → is_reached lib e m ≡ true → is_among (order_of lib m) k ≡ true → is_reached lib e k ≡ true
 unfolding is_reached
 reached_closed nest lib e m k h member =
-    any_more (λ pid. reaches lib (e.processes pid) m) (λ pid. reaches lib (e.processes pid) k) (λ pid first. reaches_closed nest lib (e.processes pid) m k first member) pids h
+    any_weaker (λ pid. reaches lib (e.processes pid) m) (λ pid. reaches lib (e.processes pid) k) (λ pid first. reaches_closed nest lib (e.processes pid) m k first member) pids h
 
 -- what one process reaches is reached
 pub one_reaches : (lib : Library) (e : Eager) (pid m : ℕ) → is_among pids pid ≡ true → reaches lib (e.processes pid) m ≡ true → is_reached lib e m ≡ true

@@ -1,6 +1,6 @@
 -- What processes reach is fit.
-use Rattle.std.proofs.Common.{◌≡◌, ℕ, ◌+◌, ◌<◌, ◌==◌, Bool, true, false, if◌then◌else◌, not, ◌||◌, cond, List, [], ◌∷◌, ◌++◌, map, length, Option, Some, None, option_to_list, refl, sym, ◌∙◌, ap, subst, append_assoc}
-use Rattle.std.specs.Prelude.{unwrap_or, position, option_map, is_none, is_some}
+use Rattle.std.proofs.Common.{◌≡◌, ℕ, ◌<◌, ◌==◌, Bool, true, false, if◌then◌else◌, not, ◌||◌, List, [], ◌∷◌, ◌++◌, map, length, Option, Some, None, option_to_list, refl, sym, ◌∙◌, ap, subst, append_assoc}
+use Rattle.std.specs.Prelude.{is_none, is_some}
 use Rattle.std.specs.List.{list_any}
 use Rattle.std.proofs.lemmas.Bool.{eqb-true, eq-eqb, ltb-true}
 use Rattle.std.proofs.lemmas.List.{append-nil}
@@ -12,9 +12,9 @@ use Rattle.lx_model.specs.declared.library.EntryFault.TheVariants as faults
 use Rattle.lx_model.specs.declared.library.Health.{Health}
 use Rattle.lx_model.specs.declared.library.Health.TheVariants.{Fit, NoModule, NoEntry, ForwardLoop, Gate286}
 use Rattle.lx_model.specs.Reading.{first, ◌then◌}
-use Rattle.lx_model.specs.Library.{module_of, library_named}
 use Rattle.lx_model.specs.Laws.{OrderIsInLibrary}
 use Rattle.lx_model.specs.Reach.{Order, lost_import, target_of_fault, HealthOf}
+use Rattle.lx_model.proofs.FitModules.{unfit_first, unfit_lost, unfit_if, not_first, not_last}
 use Rattle.load_model.specs.declared.commands.Refusal.{Refusal}
 use Rattle.load_model.specs.declared.commands.Refusal.TheVariants.{Ended, Started, NotProgram, NotLibrary, CountFull}
 use Rattle.load_model.specs.declared.deeds.How.{How}
@@ -36,36 +36,6 @@ use Rattle.load_model.proofs.KeptLeaving.{roots_less}
 use Rattle.load_model.proofs.Growing.{one_more_is_after}
 
 -- ---- a member of a fit module's order is fit
-
-abbrev Unfit : Option Health → Type 0
-Unfit o = (h : Health) → o ≡ Some h → h ≡ Fit → ⊥
-
-unfit_first : (f : ℕ → Option Health) → ((by : ℕ) → Unfit (f by)) → (ms : List ℕ) → Unfit (first (map f ms))
-unfit_first f bad [] h e fit = absurd cc
-unfit_first f bad (m ∷ ms) h e fit = by_head (f m) refl (unfit_first f bad ms) e
-  where
-    by_head : (o : Option Health) → f m ≡ o → Unfit (first (map f ms)) → first (o ∷ map f ms) ≡ Some h → ⊥
-    by_head (Some y) is again e' = bad m h (is ∙ e') fit
-    by_head None is again e' = again h e' fit
-
-unfit_lost : (lib : List Parts) (m : ℕ) → Unfit (lost_import lib m)
-unfit_lost lib m = by_place (position (λ name. is_none (library_named lib name)) (module_of lib m).imports)
-  where
-    by_place : (o : Option ℕ) → Unfit (option_map (λ k. NoModule m (k + 1)) o)
-    by_place (Some k) h e fit = absurd cc
-    by_place None h e fit = absurd cc
-
-unfit_if : (b : Bool) (kind : Health) → (kind ≡ Fit → ⊥) → Unfit (cond b (Some kind) None)
-unfit_if true kind bad h e fit = let same : kind ≡ h = cc in bad (same ∙ fit)
-unfit_if false kind bad h e fit = absurd cc
-
-not_first : (o rest : Option Health) → Unfit o → unwrap_or (o then rest) Fit ≡ Fit → (o ≡ None) × (unwrap_or rest Fit ≡ Fit)
-not_first (Some h) rest bad e = absurd (bad h refl e)
-not_first None rest bad e = (refl, e)
-
-not_last : (o : Option Health) → Unfit o → unwrap_or o Fit ≡ Fit → o ≡ None
-not_last (Some h) bad e = absurd (bad h refl e)
-not_last None bad e = refl
 
 none_of : (f : ℕ → Option Health) (ms : List ℕ) (x : ℕ) → first (map f ms) ≡ None → is_among ms x ≡ true → f x ≡ None
 none_of f [] x e h = cc

@@ -193,7 +193,7 @@ object_stands arena (o ∷ os) (base ∷ bases) (suc k) all below = object_stand
 object_stands arena [] (base ∷ bases) k all below = absurd all
 object_stands arena (o ∷ os) [] k all below = absurd all
 
-room_holds : (size : ℕ) → size ≤ room size
+pub room_holds : (size : ℕ) → size ≤ room size
 room_holds size = omega arith
 
 small : (from to size base : ℕ) → to ≤ from + 2 ^ 28 → nat_le from base ≡ true → nat_le (base + room size) to ≡ true → size ≤ 2 ^ 28

@@ -5,6 +5,7 @@ use Rattle.std.specs.Prelude.{nat_lt, count_by, fold, cond}
 use Rattle.std.proofs.Common.{◌+◌, arith}
 use Rattle.std.proofs.lemmas.Bool.{lt-ltb}
 use Rattle.std.proofs.lemmas.List.{append-nil}
+use Rattle.std.proofs.Math.Bool.{or_assoc}
 use Rattle.load_model.specs.declared.deeds.Call.{Call}
 use Rattle.load_model.specs.declared.deeds.Gone.{Gone}
 use Rattle.load_model.specs.declared.deeds.Deed.{Deed}
@@ -19,7 +20,7 @@ use Rattle.load_model.specs.Leaving.{gone, freeing, exiting}
 use Rattle.load_model.specs.Asks.{ask_in, deed_of, may_ask, after_deed}
 use Rattle.load_model.specs.Histories.{state_after, Follows, AllFollow, Legal}
 use Rattle.load_model.specs.Laws.{gone_in, ReachedIsResident, AttachedIsReached, GoneIsUnreached, CountsAreResidence}
-use Rattle.load_model.proofs.Bools.{and_right, or_assoc, or_false, or_true}
+use Rattle.load_model.proofs.Bools.{and_right, or_false, or_true}
 use Rattle.load_model.proofs.Kept.{Kept, others, is_resident, reached_apart, entered_kept, entered_reached, fresh_are_new}
 use Rattle.load_model.proofs.KeptLeaving.{freeing_gives_up, exiting_gives_up, left_kept, gone_unreached, written_kept, written_reached}
 use Rattle.load_model.proofs.Growing.{one_more_is_after}
@@ -137,7 +138,7 @@ any_from f a [] = sym (or_false (nat_lt 0 a))
 any_from f a (x ∷ xs) =
     any_from f (a + cond (f x) 1 0) xs ∙ ap (λ b. b || list_any f xs) (one_more a (f x)) ∙ or_assoc (nat_lt 0 a) (f x) (list_any f xs)
 
-any_counts : {X : Type 0} (f : X → Bool) (xs : List X) → list_any f xs ≡ nat_lt 0 (count_by f xs)
+pub any_counts : {X : Type 0} (f : X → Bool) (xs : List X) → list_any f xs ≡ nat_lt 0 (count_by f xs)
 any_counts f xs = sym (any_from f 0 xs)
 
 pub counts_are_residence : CountsAreResidence

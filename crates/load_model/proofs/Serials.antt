@@ -1,6 +1,6 @@
 -- Serial numbers rise.
 use Rattle.std.proofs.Common.{◌≡◌, ℕ, suc, ◌+◌, ◌≤◌, ◌<◌, ◌==◌, Bool, true, false, cond, if◌then◌else◌, List, [], ◌∷◌, ◌++◌, map, filter, length, Result, Ok, Err, refl, sym, ◌∙◌, ap, subst, append_assoc, arith}
-use Rattle.std.proofs.lemmas.List.{append-nil}
+use Rattle.std.proofs.lemmas.List.{append-nil, map-append}
 use Rattle.lx_types.specs.declared.object.Class.{Class}
 use Rattle.lx_types.specs.declared.object.Class.TheVariants as classes
 use Rattle.load_model.specs.declared.deeds.Fresh.{Fresh}
@@ -24,7 +24,7 @@ use Rattle.load_model.proofs.Kept.{enter_step}
 
 -- ---- numbers that rise
 
-rise_higher : (low mid : ℕ) (ns : List ℕ) (high : ℕ) → low ≤ mid → Rise mid ns high → Rise low ns high
+pub rise_higher : (low mid : ℕ) (ns : List ℕ) (high : ℕ) → low ≤ mid → Rise mid ns high → Rise low ns high
 rise_higher low mid [] high h r = omega arith
 rise_higher low mid (n ∷ ns) high h r = (let first : mid < n = r.0 in let less : low < n = omega arith in (less, r.1))
 
@@ -35,7 +35,7 @@ rise_join low (n ∷ ns) mid ms high a b = (a.0, rise_join n ns mid ms high a.1 
 serials_of : List Residence → List ℕ
 serials_of rs = map (λ r. r.serial) rs
 
-rise_filter : (f : Residence → Bool) (low : ℕ) (rs : List Residence) (high : ℕ) → Rise low (map (λ r. r.serial) rs) high → Rise low (map (λ r. r.serial) (filter f rs)) high
+pub rise_filter : (f : Residence → Bool) (low : ℕ) (rs : List Residence) (high : ℕ) → Rise low (map (λ r. r.serial) rs) high → Rise low (map (λ r. r.serial) (filter f rs)) high
 rise_filter f low [] high h = h
 rise_filter f low (r ∷ rs) high h = step (f r) (rise_filter f r.serial rs high h.1)
   where
@@ -85,10 +85,6 @@ placed_rise lib (m ∷ ms) serials spans fresh e = step (bases_for lib spans m) 
     step (Err x) e each = cc
     step (Ok bases) e each = fresh_rise _ serials _ fresh refl (each bases) e
 
-map_append : {X Y : Type 0} (f : X → Y) (xs ys : List X) → map f (xs ++ ys) ≡ map f xs ++ map f ys
-map_append f [] ys = refl
-map_append f (x ∷ xs) ys = ap (λ zs. f x ∷ zs) (map_append f xs ys)
-
 fresh_serials : (fresh : List Fresh) → map (λ r. r.serial) (map residence_from fresh) ≡ map (λ f. f.serial) fresh
 fresh_serials [] = refl
 fresh_serials (f ∷ fs) = ap (λ ns. f.serial ∷ ns) (fresh_serials fs)
@@ -115,7 +111,7 @@ written_rises e pid serial w classes.Shared h = subst (λ ns. Rise 0 ns e.serial
 entered_rises : (lib : Library) (e : Eager) (pid : ℕ) (how : How) (m : ℕ) (fresh : List Fresh) → placing lib e pid m ≡ Ok fresh → Rising e → Rising (after_entering lib e pid how m fresh)
 unfolding after_entering with_process placing
 entered_rises lib e pid how m fresh is h =
-    subst (λ ns. Rise 0 ns (e.serials + length fresh)) (sym (map_append (λ r. r.serial) e.residences (map residence_from fresh) ∙ ap (λ ns. map (λ r. r.serial) e.residences ++ ns) (fresh_serials fresh)))
+    subst (λ ns. Rise 0 ns (e.serials + length fresh)) (sym (map-append (λ r. r.serial) e.residences (map residence_from fresh) ∙ ap (λ ns. map (λ r. r.serial) e.residences ++ ns) (fresh_serials fresh)))
     (rise_join 0 (map (λ r. r.serial) e.residences) e.serials (map (λ f. f.serial) fresh) (e.serials + length fresh) h
     (placed_rise lib (newcomers lib e pid m) e.serials _ fresh is))
 

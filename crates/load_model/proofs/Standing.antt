@@ -1,10 +1,11 @@
 -- What a view stands for, through entries of other processes, and what it refuses.
-use Rattle.std.proofs.Common.{◌≡◌, ℕ, zero, suc, ◌<◌, ◌==◌, Bool, true, false, not, ◌||◌, List, [], ◌∷◌, ◌++◌, map, length, Option, Some, None, option_map, refl, sym, ◌∙◌, ap, subst, append_assoc, append-nil}
+use Rattle.std.proofs.Common.{◌≡◌, ℕ, zero, suc, ◌<◌, ◌==◌, true, false, not, List, [], ◌∷◌, ◌++◌, map, length, Option, Some, None, option_map, refl, sym, ◌∙◌, ap, subst, append_assoc, append-nil}
 use Rattle.std.specs.Prelude.{slice_index, nat_le}
 use Rattle.std.specs.List.{AllByRecursion}
 use Rattle.std.proofs.lemmas.List.{length-map}
 use Rattle.std.proofs.lemmas.List.Folds.{list_any-append}
 use Rattle.std.proofs.lemmas.List.Quantifiers.{position-Some}
+use Rattle.std.proofs.lemmas.Bool.{or_left}
 use Rattle.lx_types.specs.Object.{class_of}
 use Rattle.lx_types.specs.declared.object.Class.{Class}
 use Rattle.lx_types.specs.declared.object.Class.TheVariants as classes
@@ -31,7 +32,7 @@ use Rattle.load_model.specs.ViewAnswers.{seen_process, view_module_refusal, view
 use Rattle.load_model.specs.ViewLaws.{NewStands, StandsOn, RefusedByView}
 use Rattle.load_model.proofs.Orders.{OrdersNest}
 use Rattle.load_model.proofs.Growing.{one_more_is_after, prefix_is_legal, each_follows}
-use Rattle.load_model.proofs.Apart.{attached_stays, others_leave_alike}
+use Rattle.load_model.proofs.Apart.{attached_stays, others_leave_alike, place_by_stay, key_by_stay, found_by_stay}
 use Rattle.load_model.proofs.Bytes.{with_writes, same_stay, some_stay, attached_is, bases_alike, byte_alike}
 use Rattle.load_model.proofs.Touched.{named_apart}
 
@@ -112,15 +113,11 @@ view_alike nest lib contents v e after alike view = record {
   writes = subst (λ (p : Process). AllByRecursion (λ w. is_covered (mapped_pages v) w ≡ true) p.writes) (sym alike.process) view.writes;
 }
 
-or_true_left : (a b : Bool) → a ≡ true → a || b ≡ true
-or_true_left true b e = refl
-or_true_left false b e = cc
-
 pub fixed_more : (lib : Library) (v : Holding) (h : List Entry) (x : Entry) (ps : List Mapped) → AllByRecursion (WasFixed lib v h) ps → AllByRecursion (WasFixed lib v (h ++ x ∷ [])) ps
 unfolding has_fault
 fixed_more lib v h x [] all = tt
 fixed_more lib v h x (p ∷ ps) all = (
-  λ m s at same own. list_any-append (λ (entry : Entry). is_fault_of p.of.serial p.of.page entry.deed) h (x ∷ []) ∙ or_true_left (has_fault h p.of.serial p.of.page) _ (all.0 m s at same own),
+  λ m s at same own. list_any-append (λ (entry : Entry). is_fault_of p.of.serial p.of.page entry.deed) h (x ∷ []) ∙ or_left (has_fault h p.of.serial p.of.page) _ (all.0 m s at same own),
   fixed_more lib v h x ps all.1,
 )
 
@@ -207,10 +204,6 @@ named_by_view lib contents v e name view = step (number_of lib name)
     step None = refl
     step (Some m) = sym (seen_stay (attached_residence lib e v.pid m)) ∙ ap (option_map residence_from) (sym (view.stays m))
 
-refused_by_stay : (lib : Library) (p : Process) (how : Purpose) (at : Place) (r : Option Residence) → residence_refusal lib p how at r ≡ residence_refusal lib p how at (stay_of r)
-refused_by_stay lib p how at None = refl
-refused_by_stay lib p how at (Some r) = refl
-
 touched_by_view : (p : Process) (pages : List PageOf) (v : Holding) (how : Purpose) (serial object offset len : ℕ) →
     touch_refusal how (record p { touched = mapped_pages v }) serial object offset len ≡ touch_refusal how (seen_process v) serial object offset len
 touched_by_view p pages v touch serial object offset len = refl
@@ -234,16 +227,8 @@ place_by_view lib contents v e how at view =
     ∙ ap (λ r. when v.ended Ended orelse r)
     (ap (residence_refusal lib (record (e.processes v.pid) { touched = mapped_pages v }) how at) (named_apart lib e (λ q. mapped_pages v) v.pid at.«module»)
     ∙ residence_by_view lib (e.processes v.pid) v how at (residence_named lib e v.pid at.«module»)
-    ∙ refused_by_stay lib (seen_process v) how at (residence_named lib e v.pid at.«module»)
+    ∙ place_by_stay lib (seen_process v) how at (residence_named lib e v.pid at.«module»)
     ∙ ap (residence_refusal lib (seen_process v) how at) (named_by_view lib contents v e at.«module» view))
-
-key_by_stay : (lib : Library) (key : EntryKey) (r : Option Residence) → key_refusal lib key r ≡ key_refusal lib key (stay_of r)
-key_by_stay lib key None = refl
-key_by_stay lib key (Some r) = refl
-
-found_by_stay : (lib : Library) (ty id : ℕ) (r : Option Residence) → found_refusal lib ty id r ≡ found_refusal lib ty id (stay_of r)
-found_by_stay lib ty id None = refl
-found_by_stay lib ty id (Some r) = refl
 
 pub query_by_view : (lib : Library) (contents : Held) (v : Holding) (e : Eager) (name : List ℕ) (key : EntryKey) → IsViewOf lib contents v e →
     query_refusal lib (retouched (λ q. mapped_pages v) e) v.pid name key ≡ (when v.ended Ended orelse key_refusal lib key (stay_named lib v name))

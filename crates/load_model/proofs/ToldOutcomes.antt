@@ -63,7 +63,7 @@ asks_to_enter lib e pid how m (Ok fresh) = step (failing_module lib e pid how m 
     step None = refl
     step (Some by) = refl
 
-bytes_long : (lib : Library) (contents : Held) (e : Eager) (pid serial object offset len : ℕ) (o : Option Residence) → is_serial serial o ≡ true →
+pub bytes_long : (lib : Library) (contents : Held) (e : Eager) (pid serial object offset len : ℕ) (o : Option Residence) → is_serial serial o ≡ true →
     length (bytes_at lib contents e pid object offset len o) ≡ len
 unfolding Bytes
 bytes_long lib contents e pid serial object offset len None at = cc

@@ -1,9 +1,10 @@
 -- Touched pages: answers read them page by page, and entries take all else along.
-use Rattle.std.proofs.Common.{◌≡◌, ℕ, ◌==◌, Bool, true, false, cond, if◌then◌else◌, not, List, [], ◌∷◌, filter, find, Option, Some, None, option_map, Result, Ok, Err, refl, sym, ◌∙◌, ap, eqb-true}
+use Rattle.std.proofs.Common.{◌≡◌, ℕ, ◌==◌, Bool, true, false, if◌then◌else◌, not, List, filter, Option, Some, None, option_map, Result, Ok, Err, refl, sym, ◌∙◌, ap, eqb-true}
 use Rattle.lx_types.specs.Object.{class_of}
 use Rattle.lx_types.specs.declared.object.Class.{Class}
 use Rattle.lx_types.specs.declared.object.Class.TheVariants as classes
 use Rattle.lx_types.specs.declared.entry.EntryKey.{EntryKey}
+use Rattle.base_pick.proofs.Placing.{find-same}
 use Rattle.load_model.specs.declared.commands.Place.{Place}
 use Rattle.load_model.specs.declared.commands.Command.{Command}
 use Rattle.load_model.specs.declared.commands.Command.TheVariants as commands
@@ -28,14 +29,10 @@ use Rattle.load_model.proofs.Retouched.{gone_same, bytes_same, touched_is_apart}
 
 -- ---- refusals
 
-find_same : (f g : ℕ → Bool) → ((n : ℕ) → f n ≡ g n) → (xs : List ℕ) → find f xs ≡ find g xs
-find_same f g same [] = refl
-find_same f g same (x ∷ xs) = ap (λ b. cond b (Some x) (find f xs)) (same x) ∙ ap (λ o. cond (g x) (Some x) o) (find_same f g same xs)
-
 pub untouched_by_pages : (p : Process) (a b : List PageOf) (serial object offset len : ℕ) → SamePages a b →
     first_untouched (record p { touched = a }) serial object offset len ≡ first_untouched (record p { touched = b }) serial object offset len
 untouched_by_pages p a b serial object offset len same =
-    find_same (λ n. not (has_page a serial (page object n))) (λ n. not (has_page b serial (page object n))) (λ n. ap not (same serial (page object n))) (pages_over offset len)
+    find-same (λ n. not (has_page a serial (page object n))) (λ n. not (has_page b serial (page object n))) (λ n. ap not (same serial (page object n))) (pages_over offset len)
 
 touch_by_pages : (how : Purpose) (p : Process) (a b : List PageOf) (serial object offset len : ℕ) → SamePages a b →
     touch_refusal how (record p { touched = a }) serial object offset len ≡ touch_refusal how (record p { touched = b }) serial object offset len

@@ -1,7 +1,7 @@
 -- A view behind a free or an exit of its own.
 use Rattle.std.proofs.Common.{◌≡◌, ℕ, ◌==◌, Bool, true, false, cond, if◌then◌else◌, not, ◌&&◌, ◌||◌, List, [], ◌∷◌, ◌++◌, map, filter, find, length, Option, Some, None, option_map, is_some, refl, sym, ◌∙◌, ap, subst}
 use Rattle.std.specs.List.{AllByRecursion, list_all}
-use Rattle.std.proofs.lemmas.Bool.{eqb-true, eq-eqb}
+use Rattle.std.proofs.lemmas.Bool.{eqb-true, eq-eqb, not-true}
 use Rattle.lx_types.specs.declared.object.Class.{Class}
 use Rattle.lx_types.specs.declared.object.Class.TheVariants as classes
 use Rattle.lx_types.specs.declared.object.PageId.{PageId}
@@ -19,7 +19,7 @@ use Rattle.load_model.specs.Touched.{has_page, pages_kept}
 use Rattle.load_model.specs.Rows.{Row, IsRowOf}
 use Rattle.load_model.specs.Standing.{Mapped, Holding, mapped_pages, fresh_of, IsMapped, is_covered, WasFixed, StandsFor}
 use Rattle.load_model.specs.ViewLeaving.{GivesUpTo, mapped_kept, KeptAreReached, KeptAreTouched, StandsLeft}
-use Rattle.load_model.proofs.Bools.{negated, and_left, and_right, or_true}
+use Rattle.load_model.proofs.Bools.{and_left, and_right, or_true}
 use Rattle.load_model.proofs.Among.{any_filter, any_same}
 use Rattle.load_model.proofs.Orders.{OrdersNest, one_reaches}
 use Rattle.load_model.proofs.Growing.{one_more_is_after}
@@ -303,7 +303,7 @@ left_unreached lib failing contents h pid p k r legal there gives at among =
     in
     let is_other : other.0.«module» ≡ found.0 = (attached_is lib e pid found.0 other.0 (attached_is_resident lib e pid found.0 (and_left _ _ both) ∙ other.1)).1 in
     let same : k ≡ found.0 = sym (attached_is lib e pid k r at).1 ∙ ap (λ (s : Residence). s.«module») one ∙ is_other in
-    ap (reaches lib p) same ∙ negated (reaches lib p found.0) (and_right _ _ both)
+    ap (reaches lib p) same ∙ not-true (reaches lib p found.0) (and_right _ _ both)
 
 pub kept_are_reached : KeptAreReached
 kept_are_reached lib failing contents h x p q legal follows gives it = step (is_among (left_serials lib e p) q.of.serial) refl

@@ -33,7 +33,7 @@ use Rattle.load_model.proofs.Orders.{OrdersNest, reaches_closed}
 use Rattle.load_model.proofs.EntryReach.{SpotsAreOrdered}
 use Rattle.load_model.proofs.Answers.{answer_by, answer_is}
 use Rattle.load_model.proofs.Bytes.{with_writes, named_is, left_none, right_none, bases_by_stay, peeked_class}
-use Rattle.load_model.proofs.Holding.{Inside, span_inside}
+use Rattle.load_model.proofs.Holding.{Inside, span_inside, range_same}
 use Rattle.load_model.proofs.Touched.{fine_apart}
 use Rattle.load_model.proofs.SerialsOwn.{serials_are_own}
 use Rattle.load_model.proofs.Standing.{seen_stay, named_by_view, refusals_by_view}
@@ -106,7 +106,7 @@ page_in_place f offset len x none low high = step (len == 0) refl none
 
 -- ---- bytes
 
-own_byte : (c : Class) (lib : Library) (contents : Held) (e : Eager) (q : ℕ) (r : Residence) (object x : ℕ) → class_refusal peek c ≡ None →
+pub own_byte : (c : Class) (lib : Library) (contents : Held) (e : Eager) (q : ℕ) (r : Residence) (object x : ℕ) → class_refusal peek c ≡ None →
     lying_byte c lib contents e q r object x ≡ Byte lib contents e q r object x
 own_byte classes.Code lib contents e q r object x h = refl
 own_byte classes.Private lib contents e q r object x h = refl
@@ -124,7 +124,7 @@ pub attached_is_resident : (lib : Library) (e : Eager) (q m : ℕ) → reaches l
 unfolding attached_residence
 attached_is_resident lib e q m reached = ap (λ b. if b then residence_of e m else None) reached
 
-attached_named_is : (lib : Library) (e : Eager) (q : ℕ) (name : List ℕ) (r : Residence) → residence_named lib e q name ≡ Some r → attached_residence lib e q r.«module» ≡ Some r
+pub attached_named_is : (lib : Library) (e : Eager) (q : ℕ) (name : List ℕ) (r : Residence) → residence_named lib e q name ≡ Some r → attached_residence lib e q r.«module» ≡ Some r
 unfolding residence_named
 attached_named_is lib e q name r is = sym (ap (residence_if lib e q) (named_is lib e q name r is).1) ∙ is
 
@@ -156,12 +156,6 @@ byte_by_view lib failing contents v h r object x legal view there touched below 
     bytes_at p o at s same is =
         is ∙ ap (λ (k : ℕ). lying_byte (class_of (object_at lib s.«module» k)) lib contents (state_after lib failing h) v.pid s k x) at
         ∙ ap (λ (t : Residence). lying_byte (class_of (object_at lib t.«module» o)) lib contents (state_after lib failing h) v.pid t o x) same
-
-range_same : (f g : ℕ → ℕ) (len from : ℕ) → ((x : ℕ) → from ≤ x → x < from + len → f x ≡ g x) → map f (range_with_len from len) ≡ map g (range_with_len from len)
-range_same f g zero from each = refl
-range_same f g (suc len) from each =
-    ap (λ y. y ∷ map f (range_with_len (from + 1) len)) (each from (omega arith) (omega arith))
-    ∙ ap (λ ys. g from ∷ ys) (range_same f g len (from + 1) (λ x low high. each x (omega arith) (omega arith)))
 
 not_touched : (o : Option ℕ) → option_map NotTouched o ≡ None → o ≡ None
 not_touched None h = refl

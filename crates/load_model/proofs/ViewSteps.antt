@@ -1,7 +1,8 @@
 -- A view behind an entry of its own that changes nothing in it, and with a page more.
-use Rattle.std.proofs.Common.{◌≡◌, ℕ, ◌==◌, ◌&&◌, ◌||◌, Bool, true, false, List, [], ◌∷◌, ◌++◌, map, length, refl, sym, ◌∙◌, ap, subst}
+use Rattle.std.proofs.Common.{◌≡◌, ℕ, ◌==◌, ◌&&◌, Bool, true, false, List, [], ◌∷◌, ◌++◌, map, length, refl, sym, ◌∙◌, ap, subst}
 use Rattle.std.specs.List.{AllByRecursion, list_all}
 use Rattle.std.proofs.lemmas.List.Folds.{list_any-append}
+use Rattle.std.proofs.lemmas.Bool.{or_left}
 use Rattle.lx_types.specs.Object.{class_of}
 use Rattle.lx_types.specs.declared.object.Class.{Class}
 use Rattle.lx_types.specs.declared.object.Class.TheVariants as classes
@@ -61,18 +62,14 @@ all_and : (P : Mapped → Type 0) (ps : List Mapped) (p : Mapped) → AllByRecur
 all_and P [] p all one = (one, tt)
 all_and P (q ∷ ps) p all one = (all.0, all_and P ps p all.1 one)
 
-or_more : (a b : Bool) → a ≡ true → a || b ≡ true
-or_more true b e = refl
-or_more false b e = cc
-
 pages_more : (ps : List Mapped) (p : Mapped) → map (λ (q : Mapped). q.of) (ps ++ p ∷ []) ≡ map (λ (q : Mapped). q.of) ps ++ p.of ∷ []
 pages_more [] p = refl
 pages_more (q ∷ ps) p = ap (λ xs. q.of ∷ xs) (pages_more ps p)
 
 page_stays : (pages : List PageOf) (one : PageOf) (serial : ℕ) (q : PageId) → has_page pages serial q ≡ true → has_page (pages ++ one ∷ []) serial q ≡ true
-page_stays pages one serial q h = list_any-append (λ t. (t.serial == serial) && is_page t.page q) pages (one ∷ []) ∙ or_more (has_page pages serial q) _ h
+page_stays pages one serial q h = list_any-append (λ t. (t.serial == serial) && is_page t.page q) pages (one ∷ []) ∙ or_left (has_page pages serial q) _ h
 
-each_more : (f g : ℕ → Bool) → ((n : ℕ) → f n ≡ true → g n ≡ true) → (ns : List ℕ) → list_all f ns ≡ true → list_all g ns ≡ true
+pub each_more : (f g : ℕ → Bool) → ((n : ℕ) → f n ≡ true → g n ≡ true) → (ns : List ℕ) → list_all f ns ≡ true → list_all g ns ≡ true
 each_more f g more [] h = refl
 each_more f g more (n ∷ ns) h = step (f n) refl h (each_more f g more ns)
   where

@@ -6,6 +6,7 @@ use Rattle.std.proofs.lemmas.Bool.{eqb-true, eq-eqb}
 use Rattle.std.proofs.lemmas.List.{map-append, reverse-append, append-nil}
 use Rattle.std.proofs.lemmas.List.Elements.{filter-append, filter_map-append}
 use Rattle.std.proofs.lemmas.List.FromFn.{get_or-map-range_with_len}
+use Rattle.std.proofs.Math.Bool.{and-false}
 use Rattle.lx_types.specs.Object.{class_of}
 use Rattle.lx_types.specs.declared.object.Class.{Class}
 use Rattle.lx_types.specs.declared.object.Class.TheVariants as classes
@@ -27,7 +28,7 @@ use Rattle.load_model.proofs.Bytes.{attached_is}
 use Rattle.load_model.proofs.Growing.{one_more_is_after}
 use Rattle.load_model.proofs.SerialsOwn.{serials_are_own}
 use Rattle.load_model.proofs.Standing.{fixed_more}
-use Rattle.load_model.proofs.ViewReplies.{residence_is}
+use Rattle.load_model.proofs.ViewReplies.{residence_is, own_byte}
 
 -- ---- the last write
 
@@ -132,12 +133,6 @@ byte_put w page bytes x on =
     whole : (n p : ℕ) → n / PAGE_SIZE ≡ p → p * PAGE_SIZE + n % PAGE_SIZE ≡ n
     whole n p h = omega (arith, h)
 
-lies : (c : Class) (lib : Library) (contents : Held) (e : Eager) (q : ℕ) (r : Residence) (object x : ℕ) → class_refusal peek c ≡ None →
-    lying_byte c lib contents e q r object x ≡ Byte lib contents e q r object x
-lies classes.Code lib contents e q r object x own = refl
-lies classes.Private lib contents e q r object x own = refl
-lies classes.Shared lib contents e q r object x own = cc
-
 -- a page of another object, or of another residence, lies as it did
 other_lies : (c : Class) (lib : Library) (contents : Held) (e : Eager) (q serial : ℕ) (w : Written) (r : Residence) (object x : ℕ) → class_of (object_at lib r.«module» object) ≡ c →
     ((serial == r.serial) && (w.object == object)) ≡ false →
@@ -158,10 +153,6 @@ turned a b false is = step (b == a) refl
     step : (d : Bool) → (b == a) ≡ d → (b == a) ≡ false
     step false h = h
     step true h = (let wrong : true ≡ false = sym (eq-eqb a b (sym (eqb-true b a h))) ∙ is in cc)
-
-no_and : (a : Bool) → (a && false) ≡ false
-no_and true = refl
-no_and false = refl
 
 page_stays : (lib : Library) (contents : Held) (e : Eager) (q serial : ℕ) (w : Written) (p : Mapped) (it : IsMapped lib contents e q p) →
     ((serial == it.residence.serial) && (w.object == p.of.page.object)) ≡ false → IsMapped lib contents (behind_write e q serial w) q p
@@ -195,13 +186,13 @@ page_written lib contents e q serial w p aims it = step (p.of.serial == serial) 
           serial = it.serial;
           bytes = λ x on below.
               byte_put w p.of.page.page p.bytes x on
-              ∙ ap (last_put (w ∷ []) x) (it.bytes x on below ∙ lies (class_of (object_at lib it.residence.«module» p.of.page.object)) lib contents e q it.residence p.of.page.object x own)
+              ∙ ap (last_put (w ∷ []) x) (it.bytes x on below ∙ own_byte (class_of (object_at lib it.residence.«module» p.of.page.object)) lib contents e q it.residence p.of.page.object x own)
               ∙ sym (byte_written lib contents e q serial w it.residence p.of.page.object x own true hits)
-              ∙ sym (lies (class_of (object_at lib it.residence.«module» p.of.page.object)) lib contents (behind_write e q serial w) q it.residence p.of.page.object x own);
+              ∙ sym (own_byte (class_of (object_at lib it.residence.«module» p.of.page.object)) lib contents (behind_write e q serial w) q it.residence p.of.page.object x own);
         }
     step true false is at =
         page_stays lib contents e q serial w p it
-        (ap (λ n. (serial == n) && (w.object == p.of.page.object)) (sym it.serial) ∙ ap (λ b. (serial == p.of.serial) && b) (turned p.of.page.object w.object false at) ∙ no_and (serial == p.of.serial))
+        (ap (λ n. (serial == n) && (w.object == p.of.page.object)) (sym it.serial) ∙ ap (λ b. (serial == p.of.serial) && b) (turned p.of.page.object w.object false at) ∙ and-false (serial == p.of.serial))
     step false b is at =
         page_stays lib contents e q serial w p it
         (ap (λ n. (serial == n) && (w.object == p.of.page.object)) (sym it.serial) ∙ ap (λ c. c && (w.object == p.of.page.object)) (turned p.of.serial serial false is))

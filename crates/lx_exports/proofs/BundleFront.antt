@@ -2,13 +2,13 @@
 use Rattle.std.proofs.Common.{◌≡◌, ℕ, zero, suc, ◌+◌, ◌<◌, ◌≤◌, Bool, true, false, List, [], ◌∷◌, ◌++◌, length, map, take, drop, refl, sym, subst, ap, ◌∙◌, append_assoc, length-take, length-drop, length-append, arith}
 use Rattle.std.specs.Prelude.{if◌then◌else◌, Option, Some, None, slice_index_or}
 use Rattle.std.specs.List.{flat_map, filter_map, cons_option, AllByRecursion as Each}
-use Rattle.std.proofs.lemmas.List.{take-append-drop, take_all}
+use Rattle.std.proofs.lemmas.List.{take-append-drop, take_all, length-map, nil_from_length}
+use Rattle.std.proofs.lemmas.Bool.{eqb-true}
 use Rattle.lx_bytes.specs.LittleEndian.{little_bytes}
 use Rattle.lx_model.specs.Bundles.{AtEntry, GateEntry, ForwardEntry, Bundle, bundle_spelling, at_spelling, forward_spelling}
 use Rattle.lx_model.specs.ExportTables as tables
 use Rattle.lx_model.specs.ExportTables.{empty, narrow_at, gate_at, wide_at, forwarder, MOST_ENTRIES}
 use Rattle.lx_model.specs.JoinedEntries.{joins, Run, before_runs, runs_of, parts_from, parts_of, at_in, forwarder_in, bundle_of}
-use Rattle.lx_model.proofs.RecordsRead.{equal}
 use Rattle.lx_model.proofs.JoinedBundles.{joins_as}
 use Rattle.lx_exports.specs.declared.slots.Slot.{Slot}
 use Rattle.lx_exports.specs.declared.slots.Slot.TheVariants.{Empty, Narrow, Wide, Forwarder}
@@ -52,10 +52,6 @@ runs_front s (t ∷ front) rest all =
 
 -- ---- parts
 
-nothing : {A : Type 0} (xs : List A) → length xs ≡ 0 → xs ≡ []
-nothing [] is = refl
-nothing (x ∷ xs) is = absurd (omega (arith, is))
-
 no_parts : (n : ℕ) → parts_from n [] ≡ []
 no_parts zero = refl
 no_parts (suc n) = refl
@@ -63,7 +59,7 @@ no_parts (suc n) = refl
 parts_short : (s : tables.Slot) (ss : List tables.Slot) → length (s ∷ ss) ≤ 255 → parts_of (s ∷ ss) ≡ (s ∷ ss) ∷ []
 parts_short s ss short =
     let whole = s ∷ ss in
-    let none : drop 255 whole ≡ [] = nothing (drop 255 whole) (omega (arith, short, length-drop 255 whole)) in
+    let none : drop 255 whole ≡ [] = nil_from_length (drop 255 whole) (omega (arith, short, length-drop 255 whole)) in
     let taken : take 255 whole ≡ whole = take_all 255 whole short in
     ap (λ (ts : List tables.Slot). ts ∷ parts_from (length ss) (drop 255 whole)) taken
     ∙ ap (λ (ts : List tables.Slot). whole ∷ parts_from (length ss) ts) none
@@ -99,10 +95,10 @@ parts_full s front t ts full =
 
 same_bundle : (s t : tables.Slot) → joins s t ≡ true → (p : List tables.Slot) → bundle_of s p ≡ bundle_of t p
 same_bundle empty empty is p = refl
-same_bundle (narrow_at o e) (narrow_at q f) is p = ap (λ (n : ℕ). bundle_of (narrow_at n e) p) (equal o q is)
-same_bundle (gate_at o e) (gate_at q f) is p = ap (λ (n : ℕ). bundle_of (gate_at n e) p) (equal o q is)
-same_bundle (wide_at o e) (wide_at q f) is p = ap (λ (n : ℕ). bundle_of (wide_at n e) p) (equal o q is)
-same_bundle (forwarder o e) (forwarder q f) is p = ap (λ (n : ℕ). bundle_of (forwarder n e) p) (equal o q is)
+same_bundle (narrow_at o e) (narrow_at q f) is p = ap (λ (n : ℕ). bundle_of (narrow_at n e) p) (eqb-true o q is)
+same_bundle (gate_at o e) (gate_at q f) is p = ap (λ (n : ℕ). bundle_of (gate_at n e) p) (eqb-true o q is)
+same_bundle (wide_at o e) (wide_at q f) is p = ap (λ (n : ℕ). bundle_of (wide_at n e) p) (eqb-true o q is)
+same_bundle (forwarder o e) (forwarder q f) is p = ap (λ (n : ℕ). bundle_of (forwarder n e) p) (eqb-true o q is)
 same_bundle s t is p = absurd cc
 
 same_bundles : (s t : tables.Slot) → joins s t ≡ true → (ps : List (List tables.Slot)) → map (bundle_of s) ps ≡ map (bundle_of t) ps
@@ -198,13 +194,9 @@ forward_bytes o a (Narrow p f e ∷ ss) all = absurd cc
 forward_bytes o a (Wide p f e ∷ ss) all = absurd cc
 forward_bytes o a (Forwarder f i k ∷ ss) all = more forwarder_in forward_spelling (Forwarder f i k) (record { flags = f; import = i; key = k }) ss refl refl (forward_bytes o a ss all.1)
 
-mapped : {A B : Type 0} (f : A → B) (xs : List A) → length (map f xs) ≡ length xs
-mapped f [] = refl
-mapped f (x ∷ xs) = ap suc (mapped f xs)
-
 -- The head and the entries of slots that join are their bundle.
 pub bundle_bytes : (s : Slot) (ss : List Slot) → Joined (shown s) ss → head_bytes (length ss) s ++ flat_map entry_bytes ss ≡ bundle_spelling (bundle_of (shown s) (map shown ss))
-bundle_bytes Empty ss all = ap (λ (xs : List ℕ). length ss ∷ 0 ∷ xs) (none_bytes ss all) ∙ ap (λ (n : ℕ). n ∷ 0 ∷ []) (sym (mapped shown ss))
+bundle_bytes Empty ss all = ap (λ (xs : List ℕ). length ss ∷ 0 ∷ xs) (none_bytes ss all) ∙ ap (λ (n : ℕ). n ∷ 0 ∷ []) (sym (length-map ss shown))
 bundle_bytes (Narrow o f e) ss all =
     let es = narrow_bytes o (record { flags = f; offset = e }) ss all in
     ap (λ (xs : List ℕ). length ss ∷ 1 ∷ little_bytes 2 o ++ xs) es.0
@@ -242,10 +234,10 @@ written s ss k begin =
     let size : length (s ∷ front) ≡ suc k = omega (arith, length-take k ss, begin.there) in
     let bytes : head_bytes (suc k) s ++ flat_map entry_bytes (s ∷ front) ≡ bundle_spelling (bundle_of (shown s) (map shown (s ∷ front))) =
     ap (λ (n : ℕ). head_bytes n s ++ flat_map entry_bytes (s ∷ front)) (sym size) ∙ bundle_bytes s (s ∷ front) begin.alike in
-    let short : length (shown s ∷ map shown front) ≤ 255 = omega (arith, mapped shown front, size, begin.few) in
+    let short : length (shown s ∷ map shown front) ≤ 255 = omega (arith, length-map front shown, size, begin.few) in
     let stop : Stops (shown s) (suc k) (map shown rest) = stops_at (shown s) (suc k) k ss (λ less there. begin.whole less (omega (arith, there))) in
     let front_is = bundle_front (shown s) (map shown front) (map shown rest) (all_shown (shown s) front begin.alike.1) short
-    (subst (λ (n : ℕ). Stops (shown s) n (map shown rest)) (omega (arith, mapped shown front, size)) stop) in
+    (subst (λ (n : ℕ). Stops (shown s) n (map shown rest)) (omega (arith, length-map front shown, size)) stop) in
     let joined : map shown (s ∷ ss) ≡ shown s ∷ map shown front ++ map shown rest =
     ap (λ (ts : List Slot). map shown (s ∷ ts)) (sym (take-append-drop k ss)) ∙ ap (λ (ts : List tables.Slot). shown s ∷ ts) (map_append front rest) in
     ap (λ (xs : List ℕ). xs ++ flat_map bundle_spelling (bundles_of (map shown rest))) bytes

@@ -3,7 +3,7 @@ use Rattle.std.proofs.Common.{◌≡◌, ◌≢◌, ℕ, zero, suc, ◌+◌, ◌
 use Rattle.std.specs.Prelude.{◌==◌, ◌||◌, not, Option, Some, None, slice_index, slice_index_or, slice_set, replicate, find, nat_lt, cond}
 use Rattle.std.specs.List.{list_any, range_with_len, enumerate_from}
 use Rattle.std.proofs.lemmas.Bool.Decides.{nat_tests}
-use Rattle.std.proofs.lemmas.Bool.{cases_Bool}
+use Rattle.std.proofs.lemmas.Bool.{cases_Bool, ne_eqb}
 use Rattle.std.proofs.lemmas.List.{append-nil, get_or-replicate, length-replicate, take_more, get_or-set_same, get_or-set_other}
 use Rattle.std.proofs.lemmas.List.Elements.{filter-append}
 use Rattle.std.proofs.lemmas.List.Filters.{length-filter_both}
@@ -11,29 +11,16 @@ use Rattle.std.proofs.lemmas.List.Folds.{list_any-append}
 use Rattle.std.proofs.lemmas.List.FromFn.{length-range_with_len}
 use Rattle.std.proofs.Math.Seq.{drop-cons, get_or-append_seam}
 use Rattle.std.proofs.Math.ListN.{length-set}
+use Rattle.std.proofs.Math.Bool.{or-true, or-false}
 use Rattle.lx_exports.specs.Marks.{AreMarksOf, wrong_among, is_free}
 
 -- ---- marks
-
-equal_is : (n m : ℕ) → n ≡ m → (n == m) ≡ true
-equal_is n m is = grind (arith, nat_tests)
-
-other_is : (n m : ℕ) → n ≢ m → (n == m) ≡ false
-other_is n m is = grind (arith, nat_tests)
 
 pub no_marks : (marks : List Bool) → marks ≡ replicate 65536 false → AreMarksOf marks []
 no_marks marks is = record {
   all = ap length is ∙ length-replicate 65536 false;
   each = λ n short. ap (λ (ms : List Bool). get_or ms n false) is ∙ get_or-replicate 65536 n false false short;
 }
-
-or_false : (b : Bool) → (b || false) ≡ b
-or_false true = refl
-or_false false = refl
-
-or_true : (b : Bool) → (b || true) ≡ true
-or_true true = refl
-or_true false = refl
 
 marked_more : (marks : List Bool) (numbers : List ℕ) (n : ℕ) → AreMarksOf marks numbers → n < 65536 → (k : ℕ) → k < 65536 →
     get_or (slice_set marks n true) k false ≡ list_any (λ g. g == k) (numbers ++ n ∷ [])
@@ -44,14 +31,14 @@ marked_more marks numbers n are fits k short =
           let is : k ≡ n = grind (arith, nat_tests, same) in
           ap (λ (j : ℕ). get_or (slice_set marks n true) j false) is
           ∙ get_or-set_same marks n true false (omega (arith, are.all, fits))
-          ∙ sym (or_true (list_any (λ g. g == k) numbers))
+          ∙ sym (or-true (list_any (λ g. g == k) numbers))
           ∙ ap (λ (b : Bool). list_any (λ g. g == k) numbers || (b || false)) (sym same)
           ∙ sym whole
       | inr apart ↦
           let is : k ≢ n = grind (arith, nat_tests, apart) in
           get_or-set_other marks n k true false is
           ∙ are.each k short
-          ∙ sym (or_false (list_any (λ g. g == k) numbers))
+          ∙ sym (or-false (list_any (λ g. g == k) numbers))
           ∙ ap (λ (b : Bool). list_any (λ g. g == k) numbers || (b || false)) (sym apart)
           ∙ sym whole
     ]
@@ -103,7 +90,7 @@ none_free numbers a (suc n) none =
 equal_after : (g a n : ℕ) → g < a → filter (λ k. g == k) (range_with_len a n) ≡ []
 equal_after g a zero less = refl
 equal_after g a (suc n) less =
-    ap (λ (b : Bool). cond b (a ∷ filter (λ k. g == k) (range_with_len (a + 1) n)) (filter (λ k. g == k) (range_with_len (a + 1) n))) (other_is g a (omega (arith, less)))
+    ap (λ (b : Bool). cond b (a ∷ filter (λ k. g == k) (range_with_len (a + 1) n)) (filter (λ k. g == k) (range_with_len (a + 1) n))) (ne_eqb g a (omega (arith, less)))
     ∙ equal_after g (a + 1) n (omega (arith, less))
 
 equal_once : (g a n : ℕ) → length (filter (λ k. g == k) (range_with_len a n)) ≤ 1

@@ -7,6 +7,7 @@ use Rattle.std.proofs.lemmas.List.{take_more, map-append}
 use Rattle.std.proofs.lemmas.List.Elements.{filter-append}
 use Rattle.std.proofs.lemmas.List.Folds.{list_any-append}
 use Rattle.std.proofs.Math.Seq.{drop-cons}
+use Rattle.std.proofs.lemmas.Bool.{or_right, or_left}
 use Rattle.link_model.specs.Exports.{given, ordinals, ordinal_at, ordinal_past, free_ordinals}
 use Rattle.link_model.specs.declared.limits.TheConstants.{MAX_NUMBER}
 use Rattle.link_model.specs.declared.refusals.EntryRefusal.TheVariants.{Ordinal}
@@ -43,7 +44,7 @@ asked_front [] (suc i) = refl
 asked_front (x ∷ xs) zero = refl
 asked_front (x ∷ xs) (suc i) = ap (λ (os : List (Option ℕ)). x.ordinal ∷ os) (asked_front xs i)
 
-asked_len : (xs : List OutEntry) → length (asked xs) ≡ length xs
+pub asked_len : (xs : List OutEntry) → length (asked xs) ≡ length xs
 asked_len [] = refl
 asked_len (x ∷ xs) = ap suc (asked_len xs)
 
@@ -127,15 +128,8 @@ given_more xs i from after n x ns marks None there is are known asks takes =
 
 -- ---- no ordinal is left
 
-or_true : (b c : Bool) → b ≡ true → (b || c) ≡ true
-or_true b c is = ap (λ (d : Bool). d || c) is
-
 past_is : (n : ℕ) → 65535 < n → nat_lt 65535 n ≡ true
 past_is n past = grind (arith, nat_tests, past)
-
-either : (b c : Bool) → c ≡ true → (b || c) ≡ true
-either true c is = refl
-either false c is = is
 
 pub past_from : (xs : List OutEntry) (i from after : ℕ) (x : OutEntry) (ns : List ℕ) (marks : List Bool) (o : Option ℕ) → i < length xs → x ≡ get_or xs i x → AreMarksOf marks (given (asked xs)) → Given xs i from ns →
     x.ordinal ≡ o → TakesOrdinal marks o from after None → ordinal_past MAX_NUMBER (asked xs) ≡ Some (Ordinal 65536)
@@ -152,6 +146,6 @@ past_from xs i from after x ns marks None there is are known asks takes =
     let found : list_any (nat_lt 65535) (ordinals os) ≡ true =
     ap (list_any (nat_lt 65535)) (sym known.joined ∙ ap (λ (ms : List ℕ). ns ++ ms) (rest_is xs i x there is))
     ∙ list_any-append (nat_lt 65535) ns (ordinal_at os i x.ordinal ∷ rest_from xs (i + 1))
-    ∙ either (list_any (nat_lt 65535) ns) (nat_lt 65535 (ordinal_at os i x.ordinal) || list_any (nat_lt 65535) (rest_from xs (i + 1)))
-    (or_true (nat_lt 65535 (ordinal_at os i x.ordinal)) (list_any (nat_lt 65535) (rest_from xs (i + 1))) here) in
+    ∙ or_right (list_any (nat_lt 65535) ns) (nat_lt 65535 (ordinal_at os i x.ordinal) || list_any (nat_lt 65535) (rest_from xs (i + 1)))
+    (or_left (nat_lt 65535 (ordinal_at os i x.ordinal)) (list_any (nat_lt 65535) (rest_from xs (i + 1))) here) in
     ap (λ (b : Bool). cond b (Some (Ordinal 65536)) None) found

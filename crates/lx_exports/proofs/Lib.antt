@@ -2,7 +2,7 @@ pub mod BundleFront
 mod FreeOrdinals
 mod NamesApart
 mod NamesWritten
-mod GivenOrdinals
+pub mod GivenOrdinals
 mod SlotsFilled
 mod TablesWritten
 mod TablesRead

@@ -10,7 +10,8 @@ use Rattle.link_model.specs.Exports.{ordinals}
 use Rattle.lx_exports.specs.declared.exports.OutEntry.{OutEntry}
 use Rattle.lx_exports.specs.Exports.{asked, with_ordinals, exported_of}
 use Rattle.lx_exports.specs.Marks.{AreMarksOf}
-use Rattle.lx_exports.proofs.TablesWritten.{all_numbered, asked_len}
+use Rattle.lx_exports.proofs.TablesWritten.{all_numbered}
+use Rattle.lx_exports.proofs.GivenOrdinals.{asked_len}
 
 not_over : (n k : ℕ) → n < 65536 → 65536 ≤ k → (n == k) ≡ false
 not_over n k short long = grind (arith, nat_tests)

@@ -4,7 +4,7 @@ use Rattle.std.specs.Prelude.{◌==◌, Option, Some, None, find, cond, slice_se
 use Rattle.std.specs.List.{range_with_len, zip, AllByRecursion as Each}
 use Rattle.std.specs.Option.{option_or}
 use Rattle.std.proofs.lemmas.Bool.Decides.{nat_tests}
-use Rattle.std.proofs.lemmas.Bool.{cases_Bool}
+use Rattle.std.proofs.lemmas.Bool.{cases_Bool, ne_eqb, eq-eqb}
 use Rattle.std.proofs.lemmas.List.{append-nil, get_or_default}
 use Rattle.std.proofs.lemmas.List.Folds.{find-append}
 use Rattle.std.proofs.lemmas.List.FromFn.{length-map-range_with_len, get_or-map-range_with_len}
@@ -13,6 +13,7 @@ use Rattle.lx_types.specs.declared.entry.EntryHead.{EntryHead}
 use Rattle.lx_types.specs.declared.entry.EntryHead.TheVariants.{At, Gate286, Forward}
 use Rattle.lx_types.specs.declared.entry.FwdKey.{FwdKey}
 use Rattle.lx_types.specs.declared.entry.FwdKey.TheVariants.{Ordinal, NameAt}
+use Rattle.lx_types.proofs.Options.{or_none}
 use Rattle.lx_exports.specs.declared.exports.OutEntry.{OutEntry}
 use Rattle.lx_exports.specs.declared.slots.Slot.{Slot}
 use Rattle.lx_exports.specs.declared.slots.Slot.TheVariants.{Empty, Narrow, Wide, Forwarder}
@@ -91,19 +92,9 @@ no_empty (Some h) is = absurd (not_empty h is)
 with_one : (before : List Exported) (y : Exported) (k : ℕ) → export_at (before ++ y ∷ []) k ≡ option_or (export_at before k) (cond (y.ordinal == k) (Some y) None)
 with_one before y k = find-append (λ x. x.ordinal == k) before (y ∷ [])
 
-other_is : (n m : ℕ) → n ≢ m → (n == m) ≡ false
-other_is n m is = grind (arith, nat_tests)
-
-self_is : (n : ℕ) → (n == n) ≡ true
-self_is n = grind (arith, nat_tests)
-
-or_none : {A : Type 0} (o : Option A) → option_or o None ≡ o
-or_none None = refl
-or_none (Some x) = refl
-
 elsewhere : (before : List Exported) (y : Exported) (k : ℕ) → k ≢ y.ordinal → export_at (before ++ y ∷ []) k ≡ export_at before k
 elsewhere before y k apart =
-    with_one before y k ∙ ap (λ (b : Bool). option_or (export_at before k) (cond b (Some y) None)) (other_is y.ordinal k (λ same. apart (sym same))) ∙ or_none (export_at before k)
+    with_one before y k ∙ ap (λ (b : Bool). option_or (export_at before k) (cond b (Some y) None)) (ne_eqb y.ordinal k (λ same. apart (sym same))) ∙ or_none (export_at before k)
 
 kept_at : (before : List Exported) (y : Exported) (k : ℕ) (o : Option Exported) → export_at before k ≡ o → (o ≢ None) → export_at (before ++ y ∷ []) k ≡ export_at before k
 kept_at before y k None is some = absurd (some refl)
@@ -179,7 +170,7 @@ put xs ns x n left ordinals slots s known free is =
     let none : export_at known.before n ≡ None = no_empty (export_at known.before n) (sym (place_now xs ns (x ∷ left) (n ∷ ordinals) slots n known le) ∙ empty_is (get_or slots n Empty) free) in
     let here : at_places (known.before ++ y ∷ []) (0 + n) ≡ shown s =
     ap (at_places (known.before ++ y ∷ [])) (omega arith)
-    ∙ ap slot_or_empty (with_one known.before y n ∙ ap (λ (o : Option Exported). option_or o (cond (n == n) (Some y) None)) none ∙ ap (λ (b : Bool). cond b (Some y) None) (self_is n))
+    ∙ ap slot_or_empty (with_one known.before y n ∙ ap (λ (o : Option Exported). option_or o (cond (n == n) (Some y) None)) none ∙ ap (λ (b : Bool). cond b (Some y) None) (eq-eqb n n refl))
     ∙ sym is in
     step xs ns x n left ordinals slots (slice_set slots n s) known
     (shown_set slots n s

@@ -1,11 +1,12 @@
 -- The tables that are written are read again.
-use Rattle.std.proofs.Common.{◌≡◌, ℕ, zero, suc, ◌+◌, ◌*◌, ◌^◌, ◌<◌, ◌≤◌, Bool, true, false, List, [], ◌∷◌, ◌++◌, length, map, filter, refl, sym, subst, ap, ◌∙◌, arith, max, inl, inr}
+use Rattle.std.proofs.Common.{◌≡◌, ℕ, zero, suc, ◌+◌, ◌*◌, ◌^◌, ◌<◌, ◌≤◌, Bool, true, false, List, [], ◌∷◌, length, map, filter, refl, sym, subst, ap, ◌∙◌, arith, max, inl, inr}
 use Rattle.std.specs.Prelude.{Option, Some, None, Ok, not, find, nat_lt, cond, ◌==◌, ◌||◌, IsTrue}
 use Rattle.std.specs.List.{list_any, range_with_len, flat_map, AllByRecursion as Each}
 use Rattle.std.specs.Option.{option_or}
 use Rattle.std.proofs.lemmas.Bool.Decides.{nat_tests}
 use Rattle.std.proofs.lemmas.Bool.{cases_Bool}
 use Rattle.std.proofs.lemmas.List.{append-nil}
+use Rattle.lx_types.proofs.Lists.{all_front, all_back}
 use Rattle.lx_types.specs.Names.{IsName, uppercase}
 use Rattle.lx_types.specs.declared.entry.EntryHead.{EntryHead}
 use Rattle.lx_types.specs.declared.entry.EntryHead.TheVariants.{At, Gate286, Forward}
@@ -137,14 +138,6 @@ slots_fit : (objects imports a n : ℕ) (ys : List Exported) → Each (Known obj
 slots_fit objects imports a zero ys known = tt
 slots_fit objects imports a (suc n) ys known = (found_fits objects imports a ys known, slots_fit objects imports (a + 1) n ys known)
 
-front_of : {A : Type 0} (P : A → Type 0) (xs ys : List A) → Each P (xs ++ ys) → Each P xs
-front_of P [] ys each = tt
-front_of P (x ∷ xs) ys each = (each.0, front_of P xs ys each.1)
-
-rest_of : {A : Type 0} (P : A → Type 0) (xs ys : List A) → Each P (xs ++ ys) → Each P ys
-rest_of P [] ys each = each
-rest_of P (x ∷ xs) ys each = rest_of P xs ys each.1
-
 entries_fit : {E : Type 0} (objects imports : ℕ) (slot : E → Slot) (P : E → Type 0) → ((e : E) → SlotFits objects imports (slot e) → P e) → (es : List E) → Each (SlotFits objects imports) (map slot es) → Each P es
 entries_fit objects imports slot P of [] fit = tt
 entries_fit objects imports slot P of (e ∷ es) fit = (of e fit.0, entries_fit objects imports slot P of es fit.1)
@@ -163,8 +156,8 @@ body_fits objects imports (forwarders r (e ∷ es)) some fit = (fit.0.0, entries
 bundles_fit : (objects imports : ℕ) (bs : List Bundle) → Each (λ b. 0 < ordinal_count b) bs → Each (λ b. ordinal_count b ≤ 255) bs → Each (SlotFits objects imports) (flat_map slots_of bs) → Each (BundleFits objects imports) bs
 bundles_fit objects imports [] some most fit = tt
 bundles_fit objects imports (b ∷ bs) some most fit = (
-  record { some = some.0; few = omega (arith, most.0); body = body_fits objects imports b some.0 (front_of (SlotFits objects imports) (slots_of b) (flat_map slots_of bs) fit) },
-  bundles_fit objects imports bs some.1 most.1 (rest_of (SlotFits objects imports) (slots_of b) (flat_map slots_of bs) fit),
+  record { some = some.0; few = omega (arith, most.0); body = body_fits objects imports b some.0 (all_front (SlotFits objects imports) (slots_of b) (flat_map slots_of bs) fit) },
+  bundles_fit objects imports bs some.1 most.1 (all_back (SlotFits objects imports) (slots_of b) (flat_map slots_of bs) fit),
 )
 
 greatest_fits : (objects imports : ℕ) (ys : List Exported) → Each (Known objects imports) ys → greatest ys ≤ LAST_ORDINAL

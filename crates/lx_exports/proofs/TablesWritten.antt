@@ -13,6 +13,7 @@ use Rattle.lx_exports.specs.declared.exports.OutEntry.{OutEntry}
 use Rattle.lx_exports.specs.declared.slots.Slot.{Slot}
 use Rattle.lx_exports.specs.Exports.{asked, numbered, with_ordinals}
 use Rattle.lx_exports.specs.Slots.{shown, greatest_of, slots_to, bundles_of}
+use Rattle.lx_exports.proofs.GivenOrdinals.{asked_len}
 
 -- each export has an ordinal
 pub all_numbered : (os : List (Option ℕ)) → length (ordinals os) ≡ length os
@@ -21,10 +22,6 @@ all_numbered os = mapped (λ q. ordinal_at os q.0 q.1) 0 os
     mapped : (f : (ℕ × Option ℕ) → ℕ) (n : ℕ) (ps : List (Option ℕ)) → length (map f (enumerate_from n ps)) ≡ length ps
     mapped f n [] = refl
     mapped f n (p ∷ ps) = ap suc (mapped f (n + 1) ps)
-
-pub asked_len : (xs : List OutEntry) → length (asked xs) ≡ length xs
-asked_len [] = refl
-asked_len (x ∷ xs) = ap suc (asked_len xs)
 
 greatest_is : (xs : List OutEntry) (ns : List ℕ) → length ns ≡ length xs → greatest (with_ordinals xs ns) ≡ greatest_of ns
 greatest_is [] [] same = refl

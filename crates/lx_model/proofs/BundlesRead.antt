@@ -132,7 +132,7 @@ end_reads : (objects imports last : ℕ) → ReadsAs (bundle_at objects imports 
 unfolding bundle_at
 end_reads objects imports last at rest = then_ok (number 1 (cursor at (0 ∷ rest))) (behind_count objects imports last at) (0, cursor (at + 1) rest) (Ok (None, cursor (at + 1) rest)) (byte_reads 0 (omega arith) at rest) refl
 
-regroup : (a b c d : List ℕ) → ((a ++ b) ++ c) ++ d ≡ a ++ ((b ++ c) ++ d)
+pub regroup : (a b c d : List ℕ) → ((a ++ b) ++ c) ++ d ≡ a ++ ((b ++ c) ++ d)
 regroup a b c d = simp append_assoc
 
 -- the entries of each bundle

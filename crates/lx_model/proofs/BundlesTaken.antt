@@ -1,7 +1,7 @@
 -- Entry tables that are read are spelled so.
 use Rattle.std.proofs.Common.{◌≡◌, ℕ, zero, suc, ◌+◌, ◌<◌, ◌≤◌, ◌^◌, Bool, true, false, cond, eqb, ltb, not, List, [], ◌∷◌, ◌++◌, length, map, Option, Some, None, Ok, Err, refl, sym, subst, ap, ◌∙◌, append_assoc, arith}
 use Rattle.std.specs.List.{flat_map, enumerate_from, AllByRecursion as Each}
-use Rattle.std.proofs.lemmas.Bool.{ltb-false}
+use Rattle.std.proofs.lemmas.Bool.{ltb-false, eqb-true}
 use Rattle.lx_bytes.specs.Cursor.{Cursor}
 use Rattle.lx_bytes.specs.LittleEndian.{AreBytes, little_bytes}
 use Rattle.lx_types.specs.declared.refusal.LxKind.TheVariants as kinds
@@ -14,8 +14,9 @@ use Rattle.lx_model.proofs.Entries.{further, behind_count, numbered}
 use Rattle.lx_model.proofs.Many.{whole_ends, Cases, many_holds}
 use Rattle.lx_model.proofs.Shortening.{bundle_shortens}
 use Rattle.lx_model.proofs.Steps.{bind_ok, guard_ok, done}
-use Rattle.lx_model.proofs.TablesTaken.{byte_taken, equal, positive}
+use Rattle.lx_model.proofs.TablesTaken.{positive}
 use Rattle.lx_model.proofs.Takes.{Takes, Takes-then, number_takes, takes_nothing}
+use Rattle.lx_model.proofs.RecordsTaken.{byte_taken}
 
 -- ---- entries
 
@@ -254,7 +255,7 @@ by_count : (objects imports last at count : ℕ) (none : Bool) (c f d : Cursor) 
     cond none (ends f) (cond (ltb LAST_ORDINAL (last + count)) (Err (fault kinds.EntryTable at)) (further objects imports last at (count, f))) ≡ Ok (o, d) → StepTaken objects imports last c o d
 by_count objects imports last at count true c f d o is few first e =
     let pair : (None, f) ≡ (o, d) = cc in
-    let zero_count = equal count 0 is in
+    let zero_count = eqb-true count 0 is in
     subst (λ (p : Option (List Numbered × ℕ) × Cursor). StepTaken objects imports last c p.0 p.1) pair (subst (λ (x : ℕ). Takes c (x ∷ []) f) zero_count first)
 by_count objects imports last at count false c f d o is few first e =
     let guard = guard_ok (ltb LAST_ORDINAL (last + count)) (fault kinds.EntryTable at) (further objects imports last at (count, f)) (o, d) e in

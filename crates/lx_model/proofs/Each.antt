@@ -1,17 +1,14 @@
 -- What holds of each item of a list, by recursion, through the words that the definitions use.
-use Rattle.std.proofs.Common.{◌≡◌, ℕ, zero, suc, ◌+◌, ◌<◌, ◌≤◌, Bool, true, false, cond, List, [], ◌∷◌, ◌++◌, map, Option, None, refl, arith}
+use Rattle.std.proofs.Common.{◌≡◌, ℕ, zero, suc, ◌+◌, ◌<◌, ◌≤◌, Bool, true, false, cond, List, [], ◌∷◌, map, Option, None, refl, arith}
 use Rattle.std.specs.Prelude.{filter}
 use Rattle.std.specs.List.{flat_map, range_with_len, AllByRecursion as Each}
+use Rattle.lx_types.proofs.Lists.{all_joined}
 use Rattle.lx_model.specs.Reading.{first}
 use Rattle.lx_model.proofs.Firsts.{first_cons_none}
 
-pub each_append : {X : Type 0} (P : X → Type 0) (xs ys : List X) → Each P xs → Each P ys → Each P (xs ++ ys)
-each_append P [] ys a b = b
-each_append P (x ∷ xs) ys a b = (a.0, each_append P xs ys a.1 b)
-
 pub each_flat_map : {A X : Type 0} (P : X → Type 0) (f : A → List X) (xs : List A) → Each (λ a. Each P (f a)) xs → Each P (flat_map f xs)
 each_flat_map P f [] h = tt
-each_flat_map P f (x ∷ xs) h = each_append P (f x) (flat_map f xs) h.0 (each_flat_map P f xs h.1)
+each_flat_map P f (x ∷ xs) h = all_joined P (f x) (flat_map f xs) h.0 (each_flat_map P f xs h.1)
 
 pub each_map : {A X : Type 0} (P : X → Type 0) (f : A → X) (xs : List A) → Each (λ a. P (f a)) xs → Each P (map f xs)
 each_map P f [] h = tt

@@ -94,7 +94,7 @@ length-slots_of (gates object es) = length-map es (gate_at object)
 length-slots_of (wide object es) = length-map es (wide_at object)
 length-slots_of (forwarders reserved es) = length-map es (forwarder reserved)
 
-together : (bs : List Bundle) → length (flat_map slots_of bs) ≡ ordinals_together bs
+pub together : (bs : List Bundle) → length (flat_map slots_of bs) ≡ ordinals_together bs
 together [] = refl
 together (b ∷ bs) =
     let here = length-slots_of b in

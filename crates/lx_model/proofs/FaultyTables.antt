@@ -1,6 +1,6 @@
 -- Where names, import modules and groups of iterated data are wrong.
 use Rattle.std.proofs.Common.{◌≡◌, ℕ, zero, suc, ◌+◌, ◌-◌, ◌*◌, ◌<◌, ◌≤◌, ◌⊎◌, Bool, true, false, cond, eqb, ltb, Option, Some, List, [], ◌∷◌, ◌++◌, length, take, drop, Ok, Err, refl, sym, subst, ap, ◌∙◌, arith, inl, inr}
-use Rattle.std.proofs.lemmas.Bool.{ltb-true, lt-ltb, cases_lt}
+use Rattle.std.proofs.lemmas.Bool.{ltb-true, lt-ltb, cases_lt, eqb-true}
 use Rattle.std.proofs.lemmas.List.{length-drop, length-take}
 use Rattle.lx_bytes.specs.Cursor.{Cursor, advance}
 use Rattle.lx_bytes.specs.LittleEndian.{AreBytes, little}
@@ -19,7 +19,7 @@ use Rattle.lx_model.proofs.NamesRead.{entry_reads, not_zero}
 use Rattle.lx_model.proofs.PagesRead.{group_read}
 use Rattle.lx_model.proofs.Shortening.{name_shortens, import_shortens, group_shortens}
 use Rattle.lx_model.proofs.Steps.{done, chosen, other}
-use Rattle.lx_model.proofs.TablesTaken.{entry_taken, group_taken, positive, equal}
+use Rattle.lx_model.proofs.TablesTaken.{entry_taken, group_taken, positive}
 
 -- ---- names
 
@@ -90,7 +90,7 @@ WrongAlone c e = FieldThen 1 c e (λ len d. ((len ≡ 0) × (e ≡ fault kinds.I
 
 import_behind : (at n len : ℕ) (d : Cursor) (e : LxRefusal) (none : Bool) → eqb len 0 ≡ none → (cond none (Err (fault kinds.ImportTable at)) (text len d) >>= numbered n) ≡ Err e →
     ((len ≡ 0) × (e ≡ fault kinds.ImportTable at)) ⊎ ((0 < len) × IsCutAmong (len ∷ []) d e)
-import_behind at n len d e true is fails = inl (equal len 0 is, (let same : fault kinds.ImportTable at ≡ e = cc in sym same))
+import_behind at n len d e true is fails = inl (eqb-true len 0 is, (let same : fault kinds.ImportTable at ≡ e = cc in sym same))
 import_behind at n len d e false is fails = inr (
   positive len is,
   elim (text_err len d (numbered n) e fails) [

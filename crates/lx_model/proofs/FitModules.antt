@@ -2,7 +2,7 @@
 use Rattle.std.proofs.Common.{◌≡◌, ℕ, ◌+◌, ◌-◌, ◌||◌, Bool, true, false, cond, ltb, leb, List, [], ◌∷◌, map, length, get_or, Option, Some, None, Result, Ok, Err, refl, sym, subst, ap, ◌∙◌, inl, inr}
 use Rattle.std.specs.Prelude.{All, Contains, unwrap_or, position, option_map, is_none}
 use Rattle.std.specs.List.{list_any, AllByRecursion as Each}
-use Rattle.std.proofs.lemmas.Bool.{cases_lt}
+use Rattle.std.proofs.lemmas.Bool.{cases_lt, or_parts}
 use Rattle.std.proofs.lemmas.List.{get_or_past}
 use Rattle.std.proofs.lemmas.List.Elements.{All-from_recursion}
 use Rattle.lx_types.specs.declared.refusal.LxRefusal.{LxRefusal}
@@ -40,17 +40,17 @@ use Rattle.lx_model.proofs.Visits.{reached_is_ordered}
 
 -- ---- health
 
-spot_of : (r : Result Spot EntryFault) → ends_in faults.NoEntry r ≡ false → ends_in faults.ForwardLoop r ≡ false → ends_in faults.Gate286 r ≡ false → (s : Spot) × (r ≡ Ok s)
+pub spot_of : (r : Result Spot EntryFault) → ends_in faults.NoEntry r ≡ false → ends_in faults.ForwardLoop r ≡ false → ends_in faults.Gate286 r ≡ false → (s : Spot) × (r ≡ Ok s)
 spot_of (Ok s) a b c = (s, refl)
 spot_of (Err faults.NoEntry) a b c = absurd cc
 spot_of (Err faults.Gate286) a b c = absurd cc
 spot_of (Err faults.ForwardLoop) a b c = absurd cc
 
 -- an answer is no fit
-abbrev Unfit : Option Health → Type 0
+abbrev pub Unfit : Option Health → Type 0
 Unfit o = (h : Health) → o ≡ Some h → h ≡ Fit → ⊥
 
-unfit_first : (f : ℕ → Option Health) → ((by : ℕ) → Unfit (f by)) → (ms : List ℕ) → Unfit (first (map f ms))
+pub unfit_first : (f : ℕ → Option Health) → ((by : ℕ) → Unfit (f by)) → (ms : List ℕ) → Unfit (first (map f ms))
 unfit_first f bad [] h e fit = absurd cc
 unfit_first f bad (m ∷ ms) h e fit = by_head (f m) refl (unfit_first f bad ms) e
   where
@@ -58,29 +58,29 @@ unfit_first f bad (m ∷ ms) h e fit = by_head (f m) refl (unfit_first f bad ms)
     by_head (Some y) is again e' = bad m h (is ∙ e') fit
     by_head None is again e' = again h e' fit
 
-unfit_lost : (lib : List Parts) (m : ℕ) → Unfit (lost_import lib m)
+pub unfit_lost : (lib : List Parts) (m : ℕ) → Unfit (lost_import lib m)
 unfit_lost lib m = by_place (position (λ name. is_none (library_named lib name)) (module_of lib m).imports)
   where
     by_place : (o : Option ℕ) → Unfit (option_map (λ k. NoModule m (k + 1)) o)
     by_place (Some k) h e fit = absurd cc
     by_place None h e fit = absurd cc
 
-unfit_if : (b : Bool) (kind : Health) → (kind ≡ Fit → ⊥) → Unfit (cond b (Some kind) None)
+pub unfit_if : (b : Bool) (kind : Health) → (kind ≡ Fit → ⊥) → Unfit (cond b (Some kind) None)
 unfit_if true kind bad h e fit = let same : kind ≡ h = cc in bad (same ∙ fit)
 unfit_if false kind bad h e fit = absurd cc
 
-not_first : (o rest : Option Health) → Unfit o → unwrap_or (o then rest) Fit ≡ Fit → (o ≡ None) × (unwrap_or rest Fit ≡ Fit)
+pub not_first : (o rest : Option Health) → Unfit o → unwrap_or (o then rest) Fit ≡ Fit → (o ≡ None) × (unwrap_or rest Fit ≡ Fit)
 not_first (Some h) rest bad e = absurd (bad h refl e)
 not_first None rest bad e = (refl, e)
 
-not_last : (o : Option Health) → Unfit o → unwrap_or o Fit ≡ Fit → o ≡ None
+pub not_last : (o : Option Health) → Unfit o → unwrap_or o Fit ≡ Fit → o ≡ None
 not_last (Some h) bad e = absurd (bad h refl e)
 not_last None bad e = refl
 
 each_at : (P : ℕ → Type 0) (xs : List ℕ) (x : ℕ) → Each P xs → Contains xs x → P x
 each_at P xs x h c = subst P c.2 (All-from_recursion P xs h c.0 x c.1)
 
-if_none : (b : Bool) (kind : Health) → cond b (Some kind) None ≡ None → b ≡ false
+pub if_none : (b : Bool) (kind : Health) → cond b (Some kind) None ≡ None → b ≡ false
 if_none true kind e = absurd cc
 if_none false kind e = refl
 
@@ -113,17 +113,9 @@ fit_is_sure lib m e =
 
 -- ---- spots
 
-or_left_false : (a b : Bool) → (a || b) ≡ false → a ≡ false
-or_left_false true b e = e
-or_left_false false b e = refl
-
-or_right_false : (a b : Bool) → (a || b) ≡ false → b ≡ false
-or_right_false true b e = absurd cc
-or_right_false false b e = e
-
 any_by : (p : FixTarget → Bool) (u t : FixTarget) (ts : List FixTarget) → (list_any p ts ≡ false → among t ts ≡ true → p t ≡ false) → (b : Bool) → same_target u t ≡ b → (p u || list_any p ts) ≡ false → (same_target u t || among t ts) ≡ true → p t ≡ false
-any_by p u t ts again true is none h = subst (λ (x : FixTarget). p x ≡ false) (same_is u t is) (or_left_false (p u) (list_any p ts) none)
-any_by p u t ts again false is none h = again (or_right_false (p u) (list_any p ts) none) (rw is at h)
+any_by p u t ts again true is none h = subst (λ (x : FixTarget). p x ≡ false) (same_is u t is) (or_parts (p u) (list_any p ts) none).0
+any_by p u t ts again false is none h = again (or_parts (p u) (list_any p ts) none).1 (rw is at h)
 
 any_at : (p : FixTarget → Bool) (ts : List FixTarget) (t : FixTarget) → list_any p ts ≡ false → among t ts ≡ true → p t ≡ false
 any_at p [] t none h = absurd cc

@@ -12,8 +12,9 @@ use Rattle.lx_model.proofs.NamesRead.{not_zero}
 use Rattle.lx_model.proofs.ReadsAs.{ReadsAs, text_reads, byte_reads, bind_reads, done_reads}
 use Rattle.lx_model.proofs.Shortening.{import_shortens}
 use Rattle.lx_model.proofs.Steps.{bind_ok, guard_ok, done, never, at_item}
-use Rattle.lx_model.proofs.TablesTaken.{byte_taken, positive}
+use Rattle.lx_model.proofs.TablesTaken.{positive}
 use Rattle.lx_model.proofs.Takes.{Takes, Takes-then, takes_nothing, number_takes, text_takes}
+use Rattle.lx_model.proofs.RecordsTaken.{byte_taken}
 
 abbrev item : ℕ → List ℕ → Option (List ℕ × ℕ)
 item n name = Some (name, n)
@@ -31,7 +32,7 @@ pub name_reads : (n : ℕ) (name : List ℕ) → ImportFits name → ReadsAs (im
 unfolding import_entry
 name_reads n name fits = done_reads import_name (item n) (import_spelling name) name (alone_reads name fits)
 
-names_end : (c : Cursor) → import_entry 0 c ≡ Ok (None, c)
+pub names_end : (c : Cursor) → import_entry 0 c ≡ Ok (None, c)
 unfolding import_entry
 names_end c = refl
 

@@ -8,13 +8,9 @@ use Rattle.lx_types.specs.declared.entry.FwdKey.TheVariants.{Ordinal, NameAt}
 use Rattle.lx_model.specs.Bundles.{AtEntry, GateEntry, ForwardEntry, Bundle, unused, narrow, gates, wide, forwarders, ordinal_count}
 use Rattle.lx_model.specs.ExportTables.{Exported, Slot, empty, narrow_at, gate_at, wide_at, forwarder, slots, slots_of, head_slot, slot_or_empty, export_at, greatest, same_kind, MOST_ENTRIES, AreJoined}
 use Rattle.lx_model.specs.JoinedEntries.{joins, Run, before_runs, runs_of, parts_from, parts_of, at_in, gate_in, forwarder_in, bundle_of, bundles_for, BundlesAreJoined}
-use Rattle.std.proofs.lemmas.Bool.Decides.{nat_tests}
-use Rattle.lx_model.proofs.RecordsRead.{equal}
-
--- ---- slots that join
-
-alike : (n : ℕ) → (n == n) ≡ true
-alike n = grind (arith, nat_tests)
+use Rattle.std.proofs.lemmas.List.{length-map}
+use Rattle.std.proofs.lemmas.Bool.{eq-eqb, eqb-true}
+use Rattle.lx_types.proofs.Lists.{all_front, all_joined as each_append, all_back}
 
 -- ---- a bundle of slots that join
 
@@ -30,7 +26,7 @@ narrow_is : (o : ℕ) (a : AtEntry) (ss : List Slot) → Each (λ t. joins (narr
 narrow_is o a [] all = refl
 narrow_is o a (empty ∷ ss) all = absurd cc
 narrow_is o a (narrow_at p e ∷ ss) all =
-    ap (λ (n : ℕ). narrow_at n e ∷ map (narrow_at o) (filter_map at_in ss)) (equal o p all.0) ∙ ap (λ (ts : List Slot). narrow_at p e ∷ ts) (narrow_is o a ss all.1)
+    ap (λ (n : ℕ). narrow_at n e ∷ map (narrow_at o) (filter_map at_in ss)) (eqb-true o p all.0) ∙ ap (λ (ts : List Slot). narrow_at p e ∷ ts) (narrow_is o a ss all.1)
 narrow_is o a (gate_at p e ∷ ss) all = absurd cc
 narrow_is o a (wide_at p e ∷ ss) all = absurd cc
 narrow_is o a (forwarder p e ∷ ss) all = absurd cc
@@ -40,7 +36,7 @@ gate_is o a [] all = refl
 gate_is o a (empty ∷ ss) all = absurd cc
 gate_is o a (narrow_at p e ∷ ss) all = absurd cc
 gate_is o a (gate_at p e ∷ ss) all =
-    ap (λ (n : ℕ). gate_at n e ∷ map (gate_at o) (filter_map gate_in ss)) (equal o p all.0) ∙ ap (λ (ts : List Slot). gate_at p e ∷ ts) (gate_is o a ss all.1)
+    ap (λ (n : ℕ). gate_at n e ∷ map (gate_at o) (filter_map gate_in ss)) (eqb-true o p all.0) ∙ ap (λ (ts : List Slot). gate_at p e ∷ ts) (gate_is o a ss all.1)
 gate_is o a (wide_at p e ∷ ss) all = absurd cc
 gate_is o a (forwarder p e ∷ ss) all = absurd cc
 
@@ -50,7 +46,7 @@ wide_is o a (empty ∷ ss) all = absurd cc
 wide_is o a (narrow_at p e ∷ ss) all = absurd cc
 wide_is o a (gate_at p e ∷ ss) all = absurd cc
 wide_is o a (wide_at p e ∷ ss) all =
-    ap (λ (n : ℕ). wide_at n e ∷ map (wide_at o) (filter_map at_in ss)) (equal o p all.0) ∙ ap (λ (ts : List Slot). wide_at p e ∷ ts) (wide_is o a ss all.1)
+    ap (λ (n : ℕ). wide_at n e ∷ map (wide_at o) (filter_map at_in ss)) (eqb-true o p all.0) ∙ ap (λ (ts : List Slot). wide_at p e ∷ ts) (wide_is o a ss all.1)
 wide_is o a (forwarder p e ∷ ss) all = absurd cc
 
 forwarder_is : (o : ℕ) (a : ForwardEntry) (ss : List Slot) → Each (λ t. joins (forwarder o a) t ≡ true) ss → map (forwarder o) (filter_map forwarder_in ss) ≡ ss
@@ -60,7 +56,7 @@ forwarder_is o a (narrow_at p e ∷ ss) all = absurd cc
 forwarder_is o a (gate_at p e ∷ ss) all = absurd cc
 forwarder_is o a (wide_at p e ∷ ss) all = absurd cc
 forwarder_is o a (forwarder p e ∷ ss) all =
-    ap (λ (n : ℕ). forwarder n e ∷ map (forwarder o) (filter_map forwarder_in ss)) (equal o p all.0) ∙ ap (λ (ts : List Slot). forwarder p e ∷ ts) (forwarder_is o a ss all.1)
+    ap (λ (n : ℕ). forwarder n e ∷ map (forwarder o) (filter_map forwarder_in ss)) (eqb-true o p all.0) ∙ ap (λ (ts : List Slot). forwarder p e ∷ ts) (forwarder_is o a ss all.1)
 
 bundle_is : (s : Slot) (ss : List Slot) → Each (λ t. joins s t ≡ true) ss → slots_of (bundle_of s ss) ≡ ss
 bundle_is empty ss all = unused_is ss all
@@ -69,20 +65,16 @@ bundle_is (gate_at o a) ss all = gate_is o a ss all
 bundle_is (wide_at o a) ss all = wide_is o a ss all
 bundle_is (forwarder o a) ss all = forwarder_is o a ss all
 
-mapped : {A B : Type 0} (f : A → B) (xs : List A) → length (map f xs) ≡ length xs
-mapped f [] = refl
-mapped f (x ∷ xs) = ap suc (mapped f xs)
-
 repeated : (n : ℕ) → length (replicate n empty) ≡ n
 repeated zero = refl
 repeated (suc n) = ap suc (repeated n)
 
 count_is : (b : Bundle) → ordinal_count b ≡ length (slots_of b)
 count_is (unused n) = sym (repeated n)
-count_is (narrow o es) = sym (mapped (narrow_at o) es)
-count_is (gates o es) = sym (mapped (gate_at o) es)
-count_is (wide o es) = sym (mapped (wide_at o) es)
-count_is (forwarders o es) = sym (mapped (forwarder o) es)
+count_is (narrow o es) = sym (length-map es (narrow_at o))
+count_is (gates o es) = sym (length-map es (gate_at o))
+count_is (wide o es) = sym (length-map es (wide_at o))
+count_is (forwarders o es) = sym (length-map es (forwarder o))
 
 counted : (s : Slot) (ss : List Slot) → Each (λ t. joins s t ≡ true) ss → ordinal_count (bundle_of s ss) ≡ length ss
 counted s ss all = count_is (bundle_of s ss) ∙ ap length (bundle_is s ss all)
@@ -119,18 +111,18 @@ forwarder_same o e f (forwarder p g) = refl
 
 pub joins_as : (s t u : Slot) → joins s t ≡ true → joins s u ≡ joins t u
 joins_as empty empty u is = refl
-joins_as (narrow_at o e) (narrow_at p f) u is = ap (λ (n : ℕ). joins (narrow_at n e) u) (equal o p is) ∙ narrow_same p e f u
-joins_as (gate_at o e) (gate_at p f) u is = ap (λ (n : ℕ). joins (gate_at n e) u) (equal o p is) ∙ gate_same p e f u
-joins_as (wide_at o e) (wide_at p f) u is = ap (λ (n : ℕ). joins (wide_at n e) u) (equal o p is) ∙ wide_same p e f u
-joins_as (forwarder o e) (forwarder p f) u is = ap (λ (n : ℕ). joins (forwarder n e) u) (equal o p is) ∙ forwarder_same p e f u
+joins_as (narrow_at o e) (narrow_at p f) u is = ap (λ (n : ℕ). joins (narrow_at n e) u) (eqb-true o p is) ∙ narrow_same p e f u
+joins_as (gate_at o e) (gate_at p f) u is = ap (λ (n : ℕ). joins (gate_at n e) u) (eqb-true o p is) ∙ gate_same p e f u
+joins_as (wide_at o e) (wide_at p f) u is = ap (λ (n : ℕ). joins (wide_at n e) u) (eqb-true o p is) ∙ wide_same p e f u
+joins_as (forwarder o e) (forwarder p f) u is = ap (λ (n : ℕ). joins (forwarder n e) u) (eqb-true o p is) ∙ forwarder_same p e f u
 joins_as s t u is = absurd cc
 
 joins_self : (s : Slot) → joins s s ≡ true
 joins_self empty = refl
-joins_self (narrow_at o e) = alike o
-joins_self (gate_at o e) = alike o
-joins_self (wide_at o e) = alike o
-joins_self (forwarder o e) = alike o
+joins_self (narrow_at o e) = eq-eqb o o refl
+joins_self (gate_at o e) = eq-eqb o o refl
+joins_self (wide_at o e) = eq-eqb o o refl
+joins_self (forwarder o e) = eq-eqb o o refl
 
 all_as : (s t : Slot) (us : List Slot) → joins s t ≡ true → Each (λ u. joins t u ≡ true) us → Each (λ u. joins s u ≡ true) us
 all_as s t [] is all = tt
@@ -182,14 +174,6 @@ runs_are (s ∷ ss) = more_runs s ss (runs_of ss) (runs_are ss)
 
 -- ---- parts
 
-left : {A : Type 0} (P : A → Type 0) (xs ys : List A) → Each P (xs ++ ys) → Each P xs
-left P [] ys each = tt
-left P (x ∷ xs) ys each = (each.0, left P xs ys each.1)
-
-right : {A : Type 0} (P : A → Type 0) (xs ys : List A) → Each P (xs ++ ys) → Each P ys
-right P [] ys each = each
-right P (x ∷ xs) ys each = right P xs ys each.1
-
 parts_whole : (n : ℕ) (ss : List Slot) → length ss ≤ n → flat_map (λ p. p) (parts_from n ss) ≡ ss
 parts_whole zero [] short = refl
 parts_whole zero (s ∷ ss) short = absurd (omega (arith, short))
@@ -201,7 +185,7 @@ parts_whole (suc n) (s ∷ ss) short =
 
 parts_each : (P : Slot → Type 0) (ps : List (List Slot)) → Each P (flat_map (λ p. p) ps) → Each (Each P) ps
 parts_each P [] each = tt
-parts_each P (p ∷ ps) each = (left P p (flat_map (λ q. q) ps) each, parts_each P ps (right P p (flat_map (λ q. q) ps) each))
+parts_each P (p ∷ ps) each = (all_front P p (flat_map (λ q. q) ps) each, parts_each P ps (all_back P p (flat_map (λ q. q) ps) each))
 
 parts_some : (n : ℕ) (ss : List Slot) → Each (λ p. 0 < length p) (parts_from n ss)
 parts_some zero ss = tt
@@ -259,14 +243,10 @@ all_slots (r ∷ rs) alike_each =
     ∙ ap (λ (ts : List Slot). ts ++ flat_map slots_of (flat_map bundles_in rs)) (each_is r.first (parts_of (slots_in r)) (run_alike r alike_each.0) ∙ parts_whole (length (slots_in r)) (slots_in r) (omega arith))
     ∙ ap (λ (ts : List Slot). slots_in r ++ ts) (all_slots rs alike_each.1)
 
-together : {A : Type 0} (P : A → Type 0) (xs ys : List A) → Each P xs → Each P ys → Each P (xs ++ ys)
-together P [] ys each others = others
-together P (x ∷ xs) ys each others = (each.0, together P xs ys each.1 others)
-
 all_counts : (P : ℕ → Type 0) (rs : List Run) → ((n : ℕ) (ss : List Slot) → Each (λ p. P (length p)) (parts_from n ss)) → Each Alike rs → Each (λ b. P (ordinal_count b)) (flat_map bundles_in rs)
 all_counts P [] are alike_each = tt
 all_counts P (r ∷ rs) are alike_each =
-    together (λ b. P (ordinal_count b)) (bundles_in r) (flat_map bundles_in rs) (counts P r.first (parts_of (slots_in r)) (run_alike r alike_each.0) (are (length (slots_in r)) (slots_in r))) (all_counts P rs are alike_each.1)
+    each_append (λ b. P (ordinal_count b)) (bundles_in r) (flat_map bundles_in rs) (counts P r.first (parts_of (slots_in r)) (run_alike r alike_each.0) (are (length (slots_in r)) (slots_in r))) (all_counts P rs are alike_each.1)
 
 -- ---- bundles of neighbouring runs differ
 
@@ -335,7 +315,7 @@ slots_reserve xs (n ∷ ns) = (slot_reserves (export_at xs n), slots_reserve xs 
 
 firsts : (rs : List Run) → Each NoReserved (flat_map slots_in rs) → Each (λ q. NoReserved q.first) rs
 firsts [] none = tt
-firsts (r ∷ rs) none = (none.0, firsts rs (right NoReserved r.others (flat_map slots_in rs) none.1))
+firsts (r ∷ rs) none = (none.0, firsts rs (all_back NoReserved r.others (flat_map slots_in rs) none.1))
 
 pub bundles_joined : BundlesAreJoined
 unfolding bundles_for

@@ -7,6 +7,7 @@ use Rattle.std.proofs.lemmas.Bool.Decides.{nat_tests}
 use Rattle.std.proofs.lemmas.List.Sums.{sum_by-cons}
 use Rattle.std.proofs.lemmas.List.FromFn.{length-map-range_with_len, get_or-map-range_with_len}
 use Rattle.std.proofs.lemmas.Map.Steps.{length-le_from_distinct_below}
+use Rattle.std.proofs.lemmas.Bool.{eqb-true}
 use Rattle.lx_types.specs.declared.parts.Parts.{Parts}
 use Rattle.lx_types.specs.declared.entry.EntryHead.{EntryHead}
 use Rattle.lx_types.specs.declared.entry.EntryHead.TheVariants.{At, Gate286, Forward}
@@ -40,7 +41,7 @@ begins n lib p q e = by_stands (stands_at lib p) refl e
     by_stands (fails f) is h = absurd cc
     by_stands (forwards r) is h = record { next = r; here = is; behind = h }
 
-step_is : (n : ℕ) (lib : List Parts) (p r : OrdinalOf) → stands_at lib p ≡ forwards r → forwarded (suc n) lib p ≡ forwarded n lib r
+pub step_is : (n : ℕ) (lib : List Parts) (p r : OrdinalOf) → stands_at lib p ≡ forwards r → forwarded (suc n) lib p ≡ forwarded n lib r
 unfolding forwarded forwarded_if
 step_is n lib p r here = ap (λ (s : Stands). forwarded_if s n lib) here
 
@@ -48,7 +49,7 @@ pub followed_if : Stands → ℕ → List Parts → Result Spot EntryFault
 unfolding followed
 followed_if s n lib = elim s [ spot a ↦ Ok a | fails e ↦ Err e | forwards q ↦ followed n lib q ]
 
-follow_is : (n : ℕ) (lib : List Parts) (p r : OrdinalOf) → stands_at lib p ≡ forwards r → followed (suc n) lib p ≡ followed n lib r
+pub follow_is : (n : ℕ) (lib : List Parts) (p r : OrdinalOf) → stands_at lib p ≡ forwards r → followed (suc n) lib p ≡ followed n lib r
 unfolding followed followed_if
 follow_is n lib p r here = ap (λ (s : Stands). followed_if s n lib) here
 
@@ -155,16 +156,13 @@ index_below (e ∷ es) ordinal h = by_test (λ g. index_below es ordinal g) (eqb
     by_test again true g = omega arith
     by_test again false g = let rest = again g in omega arith
 
-equal : (m n : ℕ) → eqb m n ≡ true → m ≡ n
-equal m n h = grind (arith, nat_tests)
-
 index_same : (es : List (ℕ × EntryHead)) (a b : ℕ) → Has es a → Has es b → index_of a es ≡ index_of b es → a ≡ b
 index_same [] a b h g same = let none : None ≡ Some h.0 = h.1 in absurd cc
 index_same (e ∷ es) a b h g same = by_tests (λ i j k. index_same es a b i j k) (eqb e.0 a) (eqb e.0 b) refl refl h g same
   where
     by_tests : (Has es a → Has es b → index_of a es ≡ index_of b es → a ≡ b) → (s t : Bool) → eqb e.0 a ≡ s → eqb e.0 b ≡ t →
         (x : EntryHead) × (entry_if s e es a ≡ Some x) → (y : EntryHead) × (entry_if t e es b ≡ Some y) → cond s 0 (suc (index_of a es)) ≡ cond t 0 (suc (index_of b es)) → a ≡ b
-    by_tests again true true p q i j k = sym (equal e.0 a p) ∙ equal e.0 b q
+    by_tests again true true p q i j k = sym (eqb-true e.0 a p) ∙ eqb-true e.0 b q
     by_tests again true false p q i j k = absurd (omega arith)
     by_tests again false true p q i j k = absurd (omega arith)
     by_tests again false false p q i j k = again i j (omega arith)
@@ -231,7 +229,7 @@ seek x [] = inl tt
 seek x (y ∷ ys) = by_test (eqb x y) refl (seek x ys)
   where
     by_test : (b : Bool) → eqb x y ≡ b → Each (λ z. eqb x z ≡ false) ys ⊎ ((k : ℕ) × (k < length ys) × (x ≡ get_or ys k 0)) → Each (λ z. eqb x z ≡ false) (y ∷ ys) ⊎ ((k : ℕ) × (k < length (y ∷ ys)) × (x ≡ get_or (y ∷ ys) k 0))
-    by_test true e rest = inr (0, omega arith, equal x y e)
+    by_test true e rest = inr (0, omega arith, eqb-true x y e)
     by_test false e (inl apart) = inl (e, apart)
     by_test false e (inr found) = inr (suc found.0, omega arith, found.2)
 

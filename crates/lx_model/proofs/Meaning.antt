@@ -32,7 +32,7 @@ either file = by_fault (LxFault file) refl
 
 -- ---- tables that were read
 
-read_ok : {A : Type 0} (at : ℕ) (other : A) (r : Result A LxRefusal) → fault_of (placed at r) ≡ None → r ≡ Ok (value_or other (placed at r))
+pub read_ok : {A : Type 0} (at : ℕ) (other : A) (r : Result A LxRefusal) → fault_of (placed at r) ≡ None → r ≡ Ok (value_or other (placed at r))
 read_ok at other (Ok x) e = refl
 read_ok at other (Err f) e = absurd cc
 

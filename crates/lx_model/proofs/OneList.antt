@@ -1,7 +1,6 @@
 -- There is one list of bundles for what stands at the ordinals.
 use Rattle.std.proofs.Common.{◌≡◌, ℕ, zero, suc, ◌<◌, ◌≤◌, true, List, [], ◌∷◌, ◌++◌, map, length, refl, sym, subst, ap, ◌∙◌, inl, inr, lit<, eq-eqb, arith, length-append}
 use Rattle.std.specs.Prelude.{replicate}
-use Rattle.std.specs.Prelude.{◌==◌}
 use Rattle.std.proofs.lemmas.List.{length-replicate}
 use Rattle.std.proofs.lemmas.Bool.{cases_lt}
 use Rattle.std.specs.List.{flat_map, AllByRecursion}
@@ -45,9 +44,6 @@ each_kind (gates object es) = mapped_kind (gate_at object) (2, object) (λ e. re
 each_kind (wide object es) = mapped_kind (wide_at object) (3, object) (λ e. refl) es
 each_kind (forwarders reserved es) = mapped_kind (forwarder reserved) (4, 0) (λ e. refl) es
 
-same_number : (n m : ℕ) → n ≡ m → (n == m) ≡ true
-same_number n m e = eq-eqb n m e
-
 one_kind : (b c : Bundle) → kind_of b ≡ kind_of c → same_kind b c ≡ true
 one_kind (unused n) (unused m) k = refl
 one_kind (unused n) (narrow p fs) k = absurd (let type : 0 ≡ 1 = ap (λ (p : Kind). p.0) k in omega arith)
@@ -55,19 +51,19 @@ one_kind (unused n) (gates p fs) k = absurd (let type : 0 ≡ 2 = ap (λ (p : Ki
 one_kind (unused n) (wide p fs) k = absurd (let type : 0 ≡ 3 = ap (λ (p : Kind). p.0) k in omega arith)
 one_kind (unused n) (forwarders q fs) k = absurd (let type : 0 ≡ 4 = ap (λ (p : Kind). p.0) k in omega arith)
 one_kind (narrow o es) (unused m) k = absurd (let type : 1 ≡ 0 = ap (λ (p : Kind). p.0) k in omega arith)
-one_kind (narrow o es) (narrow p fs) k = same_number o p (ap (λ (p : Kind). p.1) k)
+one_kind (narrow o es) (narrow p fs) k = eq-eqb o p (ap (λ (p : Kind). p.1) k)
 one_kind (narrow o es) (gates p fs) k = absurd (let type : 1 ≡ 2 = ap (λ (p : Kind). p.0) k in omega arith)
 one_kind (narrow o es) (wide p fs) k = absurd (let type : 1 ≡ 3 = ap (λ (p : Kind). p.0) k in omega arith)
 one_kind (narrow o es) (forwarders q fs) k = absurd (let type : 1 ≡ 4 = ap (λ (p : Kind). p.0) k in omega arith)
 one_kind (gates o es) (unused m) k = absurd (let type : 2 ≡ 0 = ap (λ (p : Kind). p.0) k in omega arith)
 one_kind (gates o es) (narrow p fs) k = absurd (let type : 2 ≡ 1 = ap (λ (p : Kind). p.0) k in omega arith)
-one_kind (gates o es) (gates p fs) k = same_number o p (ap (λ (p : Kind). p.1) k)
+one_kind (gates o es) (gates p fs) k = eq-eqb o p (ap (λ (p : Kind). p.1) k)
 one_kind (gates o es) (wide p fs) k = absurd (let type : 2 ≡ 3 = ap (λ (p : Kind). p.0) k in omega arith)
 one_kind (gates o es) (forwarders q fs) k = absurd (let type : 2 ≡ 4 = ap (λ (p : Kind). p.0) k in omega arith)
 one_kind (wide o es) (unused m) k = absurd (let type : 3 ≡ 0 = ap (λ (p : Kind). p.0) k in omega arith)
 one_kind (wide o es) (narrow p fs) k = absurd (let type : 3 ≡ 1 = ap (λ (p : Kind). p.0) k in omega arith)
 one_kind (wide o es) (gates p fs) k = absurd (let type : 3 ≡ 2 = ap (λ (p : Kind). p.0) k in omega arith)
-one_kind (wide o es) (wide p fs) k = same_number o p (ap (λ (p : Kind). p.1) k)
+one_kind (wide o es) (wide p fs) k = eq-eqb o p (ap (λ (p : Kind). p.1) k)
 one_kind (wide o es) (forwarders q fs) k = absurd (let type : 3 ≡ 4 = ap (λ (p : Kind). p.0) k in omega arith)
 one_kind (forwarders r es) (unused m) k = absurd (let type : 4 ≡ 0 = ap (λ (p : Kind). p.0) k in omega arith)
 one_kind (forwarders r es) (narrow p fs) k = absurd (let type : 4 ≡ 1 = ap (λ (p : Kind). p.0) k in omega arith)

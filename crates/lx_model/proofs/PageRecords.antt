@@ -1,6 +1,7 @@
 -- The records of a page that have no fault are all spelled so.
 use Rattle.std.proofs.Common.{◌≡◌, ℕ, Bool, true, false, cond, eqb, List, [], ◌∷◌, ◌++◌, length, Option, Some, None, Ok, refl, subst, ap, ◌∙◌}
 use Rattle.std.specs.List.{flat_map, AllByRecursion as Each}
+use Rattle.std.proofs.lemmas.Bool.{eqb-true}
 use Rattle.lx_bytes.specs.Cursor.{Cursor}
 use Rattle.lx_bytes.specs.LittleEndian.{AreBytes}
 use Rattle.lx_types.specs.declared.fix.Fix.{Fix}
@@ -12,7 +13,7 @@ use Rattle.lx_model.proofs.Many.{Cases, many_holds}
 use Rattle.lx_model.proofs.RecordsTaken.{RecordTaken, record_taken}
 use Rattle.lx_model.proofs.Shortening.{record_shortens}
 use Rattle.lx_model.proofs.Steps.{bind_ok, done}
-use Rattle.lx_model.proofs.TablesTaken.{empty, equal}
+use Rattle.lx_model.proofs.TablesTaken.{empty}
 
 -- no bytes are left, or a record
 abbrev StepTaken : Cursor → Option (Record × Unit {0}) → Cursor → Type 0
@@ -23,7 +24,7 @@ by_left : (c d : Cursor) (o : Option (Record × Unit {0})) (none : Bool) → Are
     cond none (ends c) (record_at c >>= λ fixes. done (Some (record { at = c.at; fixes = fixes.0 }, tt), fixes.1)) ≡ Ok (o, d) → StepTaken c o d
 by_left c d o true h is e =
     let pair : (None, c) ≡ (o, d) = cc in
-    let here : c.left ≡ [] = empty c.left (equal (length c.left) 0 is) in
+    let here : c.left ≡ [] = empty c.left (eqb-true (length c.left) 0 is) in
     subst (λ (p : Option (Record × Unit {0}) × Cursor). StepTaken c p.0 p.1) pair here
 by_left c d o false h is e =
     let first = bind_ok (record_at c) (λ fixes. done (Some (record { at = c.at; fixes = fixes.0 }, tt), fixes.1)) (o, d) e in

@@ -2,11 +2,12 @@
 use Rattle.std.proofs.Common.{◌≡◌, ℕ, zero, suc, ◌+◌, ◌-◌, ◌<◌, ◌≤◌, ◌||◌, Bool, true, false, cond, ltb, not, List, [], ◌∷◌, ◌++◌, map, get_or, None, refl, sym, subst, ap, ◌∙◌, append_assoc, arith, inl, inr}
 use Rattle.std.specs.Prelude.{Contains, filter}
 use Rattle.std.specs.List.{flat_map, range_with_len, AllByRecursion as Each}
-use Rattle.std.proofs.lemmas.Bool.{cases_lt}
+use Rattle.std.proofs.lemmas.Bool.{cases_lt, both_ways, or_right}
 use Rattle.std.proofs.lemmas.Bool.Decides.{nat_tests}
 use Rattle.std.proofs.lemmas.List.{get_or_past}
 use Rattle.std.proofs.lemmas.List.Elements.{All-from_recursion}
 use Rattle.std.proofs.lemmas.List.FromFn.{length-map-range_with_len, get_or-map-range_with_len}
+use Rattle.lx_types.proofs.Lists.{all_front, all_back}
 use Rattle.lx_types.specs.declared.fix.Fix.{Fix}
 use Rattle.lx_types.specs.declared.fix.FixTarget.{FixTarget}
 use Rattle.lx_types.specs.declared.fix.FixTarget.TheVariants.{Internal, Ordinal, Named, Own}
@@ -33,23 +34,15 @@ read_is_sound m read = sound m.file m read.short read.means
 
 -- ---- parts of lists
 
-each_left : {X : Type 0} (P : X → Type 0) (xs ys : List X) → Each P (xs ++ ys) → Each P xs
-each_left P [] ys h = tt
-each_left P (x ∷ xs) ys h = (h.0, each_left P xs ys h.1)
-
-each_right : {X : Type 0} (P : X → Type 0) (xs ys : List X) → Each P (xs ++ ys) → Each P ys
-each_right P [] ys h = h
-each_right P (x ∷ xs) ys h = each_right P xs ys h.1
-
-each_unmap : {A X : Type 0} (P : X → Type 0) (f : A → X) (xs : List A) → Each P (map f xs) → Each (λ a. P (f a)) xs
+pub each_unmap : {A X : Type 0} (P : X → Type 0) (f : A → X) (xs : List A) → Each P (map f xs) → Each (λ a. P (f a)) xs
 each_unmap P f [] h = tt
 each_unmap P f (x ∷ xs) h = (h.0, each_unmap P f xs h.1)
 
 each_of_range : {X : Type 0} (P : X → Type 0) (f : ℕ → List X) (a n k : ℕ) → Each P (flat_map f (range_with_len a n)) → a ≤ k → k < a + n → Each P (f k)
 each_of_range P f a zero k h low lt = absurd (omega arith)
 each_of_range P f a (suc n) k h low lt = elim (cases_lt a k) [
-  | inl less ↦ each_of_range P f (a + 1) n k (each_right P (f a) (flat_map f (range_with_len (a + 1) n)) h) (omega arith) (omega arith)
-  | inr ge ↦ let same : a ≡ k = omega arith in subst (λ (j : ℕ). Each P (f j)) same (each_left P (f a) (flat_map f (range_with_len (a + 1) n)) h)
+  | inl less ↦ each_of_range P f (a + 1) n k (all_back P (f a) (flat_map f (range_with_len (a + 1) n)) h) (omega arith) (omega arith)
+  | inr ge ↦ let same : a ≡ k = omega arith in subst (λ (j : ℕ). Each P (f j)) same (all_front P (f a) (flat_map f (range_with_len (a + 1) n)) h)
 ]
 
 -- ---- the records of a page
@@ -111,10 +104,6 @@ same_self (Ordinal i x) = grind (arith, nat_tests)
 same_self (Named i x) = grind (arith, nat_tests)
 same_self (Own x) = grind (arith, nat_tests)
 
-or_right : (a b : Bool) → b ≡ true → (a || b) ≡ true
-or_right true b e = refl
-or_right false b e = e
-
 once_by : (u t : FixTarget) (ts : List FixTarget) → (among t ts ≡ true → among t (once ts) ≡ true) → (b : Bool) → same_target u t ≡ b → (same_target u t || among t ts) ≡ true →
     (same_target u t || among t (filter (λ v. not (same_target u v)) (once ts))) ≡ true
 once_by u t ts again true is h = rw is refl
@@ -126,17 +115,13 @@ among_once : (t : FixTarget) (ts : List FixTarget) → among t ts ≡ true → a
 among_once t [] e = e
 among_once t (u ∷ ts) e = once_by u t ts (among_once t ts) (same_target u t) refl e
 
-both : (b : Bool) → b ≡ true → b ≡ false → ⊥
-both true p q = absurd cc
-both false p q = absurd cc
-
 filter_by : (u t : FixTarget) (ts : List FixTarget) → is_reference t ≡ true → (among t ts ≡ true → among t (filter is_reference ts) ≡ true) → (b : Bool) → same_target u t ≡ b → (kept : Bool) → is_reference u ≡ kept →
     (same_target u t || among t ts) ≡ true → among t (cond kept (u ∷ filter is_reference ts) (filter is_reference ts)) ≡ true
 filter_by u t ts r again true is true k h = rw is refl
 filter_by u t ts r again true is false k h =
     let equal = same_is u t is in
     let other : is_reference t ≡ false = subst (λ (x : FixTarget). is_reference x ≡ false) equal k in
-    absurd (both (is_reference t) r other)
+    absurd (both_ways (is_reference t) other r)
 filter_by u t ts r again false is true k h = or_right (same_target u t) (among t (filter is_reference ts)) (again (rw is at h))
 filter_by u t ts r again false is false k h = again (rw is at h)
 

@@ -4,7 +4,7 @@ use Rattle.std.specs.List.{flat_map, AllByRecursion as Each}
 use Rattle.std.specs.Int.{w16, cast_signed, cast_unsigned}
 use Rattle.std.proofs.Math.Facts.{to_z_pos, to_z-neg}
 use Rattle.std.proofs.lemmas.Bool.Decides.{nat_tests}
-use Rattle.std.proofs.lemmas.Bool.{ltb-true}
+use Rattle.std.proofs.lemmas.Bool.{ltb-true, not-true, eqb-true}
 use Rattle.lx_bytes.specs.Cursor.{Cursor}
 use Rattle.lx_bytes.specs.LittleEndian.{little_bytes}
 use Rattle.lx_types.specs.declared.refusal.LxRefusal.{LxRefusal}
@@ -135,18 +135,11 @@ all_good (suc (suc zero)) lt = good_at_each 2 refl
 all_good (suc (suc (suc zero))) lt = good_at_each 3 refl
 all_good (suc (suc (suc (suc code)))) lt = absurd (omega arith)
 
-not_true : (b : Bool) → not b ≡ true → b ≡ false
-not_true true h = absurd cc
-not_true false h = refl
-
 pub same_true : (a b : Bool) → same a b ≡ true → a ≡ b
 same_true true true h = refl
 same_true true false h = absurd cc
 same_true false true h = absurd cc
 same_true false false h = refl
-
-pub equal : (m n : ℕ) → (m == n) ≡ true → m ≡ n
-equal m n h = grind (arith, nat_tests)
 
 pub record GoodFlags (s : Sizes) (code : ℕ) : Type 0 where
   pub below : flags_of s code < 256
@@ -162,8 +155,8 @@ flags_good s code lt =
     let two = left_true (ltb flags 256 && (flags % 4 == code)) (not (has CHAIN flags)) front in
     record {
       below = ltb-true flags 256 (left_true (ltb flags 256) (flags % 4 == code) two);
-      kind = equal (flags % 4) code (right_true (ltb flags 256) (flags % 4 == code) two);
-      chain = not_true (has CHAIN flags) (right_true (ltb flags 256 && (flags % 4 == code)) (not (has CHAIN flags)) front);
+      kind = eqb-true (flags % 4) code (right_true (ltb flags 256) (flags % 4 == code) two);
+      chain = not-true (has CHAIN flags) (right_true (ltb flags 256 && (flags % 4 == code)) (not (has CHAIN flags)) front);
       additive = same_true (has ADDITIVE flags) s.additive (right_true (ltb flags 256 && (flags % 4 == code) && not (has CHAIN flags)) (same (has ADDITIVE flags) s.additive) h);
     }
 
@@ -294,7 +287,7 @@ list_reads kind flags target additive offsets h few low =
 abbrev body : Bool → SourceKind → ℕ → Cursor → Read (List Fix)
 body listed kind flags c = cond listed (list_at kind flags c) (single_at kind flags c)
 
-regroup_list : (n : ℕ) (t a o : List ℕ) → (n ∷ []) ++ (t ++ (a ++ o)) ≡ (n ∷ (t ++ a)) ++ o
+pub regroup_list : (n : ℕ) (t a o : List ℕ) → (n ∷ []) ++ (t ++ (a ++ o)) ≡ (n ∷ (t ++ a)) ++ o
 regroup_list n t a o = ap (λ (x : List ℕ). n ∷ x) (sym (append_assoc t a o))
 
 one_reads : (kind : SourceKind) (flags : ℕ) (target : FixTarget) (additive : ℕ) (offsets : List ℤ) → FieldsFit kind.source flags target additive → length offsets ≡ 1 → Each (OffsetFits kind.source) offsets →

@@ -1,10 +1,10 @@
 -- Each fixup record that is read is spelled so.
-use Rattle.std.proofs.Common.{◌≡◌, ℕ, zero, suc, ◌+◌, ◌-◌, ◌<◌, ◌^◌, ◌%◌, ◌==◌, ◌&&◌, ◌||◌, Bool, true, false, cond, ltb, List, [], ◌∷◌, ◌++◌, length, Option, Some, None, Ok, Err, ℤ, negsuc, refl, sym, subst, ap, ◌∙◌, ◌⊎◌, append_assoc, arith, inl, inr}
+use Rattle.std.proofs.Common.{◌≡◌, ℕ, zero, suc, ◌+◌, ◌-◌, ◌<◌, ◌^◌, ◌%◌, ◌==◌, ◌&&◌, ◌||◌, Bool, true, false, cond, ltb, List, [], ◌∷◌, ◌++◌, length, Option, Some, None, Ok, Err, ℤ, negsuc, refl, sym, subst, ap, ◌∙◌, arith, inl, inr}
 use Rattle.std.specs.List.{flat_map, AllByRecursion as Each}
 use Rattle.std.specs.Int.{w16, cast_signed, cast_unsigned}
 use Rattle.std.proofs.Math.Facts.{to_z_pos, to_z-neg}
 use Rattle.std.proofs.lemmas.Int.{of_z-to_z}
-use Rattle.std.proofs.lemmas.Bool.{cases_lt, ltb-true}
+use Rattle.std.proofs.lemmas.Bool.{cases_lt, ltb-true, or_cases, eqb-true}
 use Rattle.lx_bytes.specs.Cursor.{Cursor}
 use Rattle.lx_bytes.specs.LittleEndian.{AreBytes, little_bytes}
 use Rattle.lx_types.specs.declared.refusal.LxRefusal.{LxRefusal}
@@ -21,7 +21,7 @@ use Rattle.lx_model.specs.RecordFields.{ADDITIVE, CHAIN, WIDE_TARGET, WIDE_ADDIT
 use Rattle.lx_model.specs.Records.{fixes_at_offsets, single_at, list_at, behind_source, record_at}
 use Rattle.lx_model.specs.RecordSpelling.{Sizes, Written, target_code, flags_of, flags_byte, target_spelling, additive_spelling, offset_spelling, offsets_spelling, record_spelling, fixes_written, TargetFits, AdditiveFits, OffsetFits, CountFits, AliasFits, RecordFits}
 use Rattle.lx_model.proofs.Steps.{bind_ok, guard_ok, done}
-use Rattle.lx_model.proofs.RecordsRead.{left_true, right_true, equal, size_small}
+use Rattle.lx_model.proofs.RecordsRead.{left_true, right_true, size_small, regroup_list}
 use Rattle.lx_model.proofs.Takes.{Takes, Takes-then, takes_nothing, number_takes, byte_spelled}
 
 -- ---- tests over all bytes
@@ -62,7 +62,7 @@ kind_taken : (byte : ℕ) (kind : SourceKind) → byte < 256 → source_of_byte 
 kind_taken byte kind lt is =
     let good : ((source_byte kind == byte) && alias_allowed kind.alias kind.source) ≡ true = subst (λ (o : Option SourceKind). kind_good byte o ≡ true) is (all_kinds byte lt) in
     record {
-      spelled = equal (source_byte kind) byte (left_true (source_byte kind == byte) (alias_allowed kind.alias kind.source) good);
+      spelled = eqb-true (source_byte kind) byte (left_true (source_byte kind == byte) (alias_allowed kind.alias kind.source) good);
       alias = alias_fits kind.alias kind.source (right_true (source_byte kind == byte) (alias_allowed kind.alias kind.source) good);
     }
 
@@ -79,7 +79,7 @@ or_right true b e h = absurd cc
 or_right false b e h = h
 
 flags_spelled : (flags : ℕ) → flags < 256 → has CHAIN flags ≡ false → flags_of (sizes_from flags) (flags % 4) ≡ flags
-flags_spelled flags lt chain = equal _ _ (or_right (has CHAIN flags) (flags_of (sizes_from flags) (flags % 4) == flags) chain (below_all 256 flags flags_good refl lt))
+flags_spelled flags lt chain = eqb-true _ _ (or_right (has CHAIN flags) (flags_of (sizes_from flags) (flags % 4) == flags) chain (below_all 256 flags flags_good refl lt))
 
 -- ---- target and additive
 
@@ -160,12 +160,8 @@ chosen_ok : {A : Type 0} (b : Bool) (x y : A) (e : LxRefusal) → cond b (done x
 chosen_ok true x y e h = (refl, cc)
 chosen_ok false x y e h = absurd cc
 
-either_true : (a b : Bool) → (a || b) ≡ true → (a ≡ true) ⊎ (b ≡ true)
-either_true true b h = inl refl
-either_true false b h = inr h
-
 word_fits : (source : Source) (w : ℕ) → w < 2 ^ 16 → reaches_page source w ≡ true → OffsetFits source (cast_signed w16 w)
-word_fits source w lt h = elim (either_true (ltb w PAGE_SIZE) (ltb (2 ^ 16) (w + source_size source)) h) [
+word_fits source w lt h = elim (or_cases (ltb w PAGE_SIZE) (ltb (2 ^ 16) (w + source_size source)) h) [
   | inl low ↦
       let below : w < PAGE_SIZE = ltb-true w PAGE_SIZE low in
       subst (λ (z : ℤ). OffsetFits source z) (sym (to_z_pos w16 {n = w} (omega arith))) below
@@ -268,10 +264,7 @@ single_taken kind flags c d fixes h e =
     } in
     subst (λ (p : List Fix × Cursor). BodyTaken false kind flags c p.0 p.1) pair here
 
-regroup : (n : ℕ) (t a o : List ℕ) → (n ∷ []) ++ (t ++ (a ++ o)) ≡ (n ∷ (t ++ a)) ++ o
-regroup n t a o = ap (λ (x : List ℕ). n ∷ x) (sym (append_assoc t a o))
-
-byte_taken : (c d : Cursor) (x : ℕ) → x < 256 ^ 1 → Takes c (little_bytes 1 x) d → Takes c (x ∷ []) d
+pub byte_taken : (c d : Cursor) (x : ℕ) → x < 256 ^ 1 → Takes c (little_bytes 1 x) d → Takes c (x ∷ []) d
 byte_taken c d x lt h = subst (λ (t : List ℕ). Takes c t d) (byte_spelled x lt) h
 
 list_taken : (kind : SourceKind) (flags : ℕ) (c d : Cursor) (fixes : List Fix) → AreBytes c.left → list_at kind flags c ≡ Ok (fixes, d) → BodyTaken true kind flags c fixes d
@@ -295,7 +288,7 @@ list_taken kind flags c d fixes h e =
     let tail = Takes-then t.1 a.1 o.1 (additive_spelling flags a.0) (flat_map offset_spelling o.0) additive.taken offsets.taken in
     let more = Takes-then n.1 t.1 o.1 (target_spelling source flags t.0) (additive_spelling flags a.0 ++ flat_map offset_spelling o.0) target.taken tail in
     let all = Takes-then c n.1 o.1 (n.0 ∷ []) (target_spelling source flags t.0 ++ (additive_spelling flags a.0 ++ flat_map offset_spelling o.0)) byte more in
-    let grouped = subst (λ (x : List ℕ). Takes c x o.1) (regroup n.0 (target_spelling source flags t.0) (additive_spelling flags a.0) (flat_map offset_spelling o.0)) all in
+    let grouped = subst (λ (x : List ℕ). Takes c x o.1) (regroup_list n.0 (target_spelling source flags t.0) (additive_spelling flags a.0) (flat_map offset_spelling o.0)) all in
     let here : BodyTaken true kind flags c (fixes_at_offsets kind t.0 a.0 o.0) o.1 = record {
       target = t.0;
       additive = a.0;

@@ -1,9 +1,10 @@
 -- The parts of a faultless file fit each other: the references of its records.
-use Rattle.std.proofs.Common.{◌≡◌, ℕ, ◌+◌, Bool, true, false, cond, ◌&&◌, not, List, [], ◌∷◌, map, Some, None, refl, arith}
+use Rattle.std.proofs.Common.{◌≡◌, ℕ, ◌+◌, Bool, true, false, cond, not, List, [], ◌∷◌, map, Some, None, refl, arith}
 use Rattle.std.specs.Prelude.{All, is_some}
 use Rattle.std.specs.List.{range_with_len, AllByRecursion as Each}
 use Rattle.std.proofs.lemmas.Bool.Decides.{nat_tests}
 use Rattle.std.proofs.lemmas.List.Elements.{All-from_recursion}
+use Rattle.std.proofs.lemmas.Bool.{and_parts}
 use Rattle.lx_types.specs.declared.refusal.LxRefusal.{LxRefusal}
 use Rattle.lx_types.specs.declared.refusal.LxKind.TheVariants.{BadTarget}
 use Rattle.lx_types.specs.declared.fix.FixTarget.{FixTarget}
@@ -47,21 +48,17 @@ targets_there file h =
     each_map (IsThere (targets_in file)) (λ f. f.target) (fixes_of (page_records file k))
     (records_there (targets_in file) (page_records file k) (each_none (page_count file) (page_records_fault file) k h (omega arith)))))
 
-each_once : (P : FixTarget → Type 0) (ts : List FixTarget) → Each P ts → Each P (once ts)
+pub each_once : (P : FixTarget → Type 0) (ts : List FixTarget) → Each P ts → Each P (once ts)
 each_once P [] h = tt
 each_once P (t ∷ ts) h = (h.0, each_more (λ u. P u × (not (same_target t u) ≡ true)) P _ (λ u p. p.0) (each_filter P (λ u. not (same_target t u)) (once ts) (each_once P ts h.1)))
 
-numbered : (count number : ℕ) → names_one_of count number ≡ true → IsNumberOf number count
+pub numbered : (count number : ℕ) → names_one_of count number ≡ true → IsNumberOf number count
 numbered count number e = (grind (arith, nat_tests), grind (arith, nat_tests))
-
-left_true : (a b : Bool) → (a && b) ≡ true → a ≡ true
-left_true true b e = refl
-left_true false b e = e
 
 fits : (m : Targets) (t : FixTarget) → IsThere m t → is_reference t ≡ true → RefFits m.imports t
 fits m (Internal o x) h r = absurd cc
 fits m (Ordinal i x) h r = numbered m.imports i h
-fits m (Named i x) h r = numbered m.imports i (left_true (names_one_of m.imports i) (is_some (name_at m.file (m.procs_at + x))) h)
+fits m (Named i x) h r = numbered m.imports i (and_parts (names_one_of m.imports i) (is_some (name_at m.file (m.procs_at + x))) h).0
 fits m (Own x) h r = tt
 
 pub refs_fit : (file : List ℕ) → first_of (page_count file) (page_records_fault file) ≡ None → All (RefFits (import_count file)) (refs_of file)

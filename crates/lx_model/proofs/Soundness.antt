@@ -20,7 +20,7 @@ use Rattle.lx_model.proofs.Firsts.{then_none, each_none, each_entry, first_none}
 has_pages : (pages : ℕ) (o : ObjHead) → lacks_pages pages o ≡ false → HasPages pages o
 has_pages pages o e = grind (arith, nat_tests)
 
-not_short : (n : ℕ) (file : List ℕ) (at : ℕ) → short_at n file at ≡ None → at + n ≤ length file
+pub not_short : (n : ℕ) (file : List ℕ) (at : ℕ) → short_at n file at ≡ None → at + n ≤ length file
 not_short n file at e = grind (arith, nat_tests)
 
 -- an answer of None is not that of a test which gives a fault

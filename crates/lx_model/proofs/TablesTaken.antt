@@ -1,7 +1,7 @@
 -- Name tables and groups of iterated data that are read are spelled so.
 use Rattle.std.proofs.Common.{◌≡◌, ℕ, zero, suc, ◌+◌, ◌*◌, ◌<◌, ◌≤◌, ◌^◌, Bool, true, false, cond, eqb, ltb, List, [], ◌∷◌, ◌++◌, length, Option, Some, None, Result, Ok, Err, refl, sym, subst, ap, ◌∙◌, append_assoc, arith, length-append}
 use Rattle.std.specs.List.{flat_map, repeat, AllByRecursion as Each}
-use Rattle.std.proofs.lemmas.Bool.{ltb-false}
+use Rattle.std.proofs.lemmas.Bool.{ltb-false, eqb-true}
 use Rattle.std.proofs.lemmas.Bool.Decides.{nat_tests}
 use Rattle.std.proofs.Math.Nat.{suc-mul}
 use Rattle.lx_bytes.specs.Cursor.{Cursor}
@@ -15,7 +15,8 @@ use Rattle.lx_model.specs.Iterated.{Group, group_spelling, groups_spelling, grou
 use Rattle.lx_model.proofs.Many.{whole_ends, Cases, many_holds}
 use Rattle.lx_model.proofs.Shortening.{name_shortens, group_shortens}
 use Rattle.lx_model.proofs.Steps.{bind_ok, guard_ok, done}
-use Rattle.lx_model.proofs.Takes.{Takes, Takes-then, number_takes, text_takes, byte_spelled}
+use Rattle.lx_model.proofs.Takes.{Takes, Takes-then, number_takes, text_takes}
+use Rattle.lx_model.proofs.RecordsTaken.{byte_taken}
 
 -- ---- names
 
@@ -23,12 +24,6 @@ use Rattle.lx_model.proofs.Takes.{Takes, Takes-then, number_takes, text_takes, b
 abbrev pub EntryTaken : Cursor → Option (Named × Unit {0}) → Cursor → Type 0
 EntryTaken c None d = Takes c (0 ∷ []) d
 EntryTaken c (Some x) d = NameFits x.0 × Takes c (name_spelling x.0) d
-
-pub byte_taken : (c d : Cursor) (x : ℕ) → x < 256 ^ 1 → Takes c (little_bytes 1 x) d → Takes c (x ∷ []) d
-byte_taken c d x lt h = subst (λ (t : List ℕ). Takes c t d) (byte_spelled x lt) h
-
-pub equal : (m n : ℕ) → eqb m n ≡ true → m ≡ n
-equal m n h = grind (arith, nat_tests)
 
 pub positive : (n : ℕ) → eqb n 0 ≡ false → 0 < n
 positive n h = grind (arith, nat_tests)
@@ -40,7 +35,7 @@ by_length : (c l d : Cursor) (len : ℕ) (o : Option (Named × Unit {0})) (none 
     cond none (ends l) (text len l >>= λ name. number 2 name.1 >>= λ ordinal. named_read name.0 ordinal.0 ordinal.1) ≡ Ok (o, d) → EntryTaken c o d
 by_length c l d len o true is lt first e =
     let pair : (None, l) ≡ (o, d) = cc in
-    let zero_len = equal len 0 is in
+    let zero_len = eqb-true len 0 is in
     subst (λ (p : Option (Named × Unit {0}) × Cursor). EntryTaken c p.0 p.1) pair (subst (λ (x : ℕ). Takes c (x ∷ []) l) zero_len first)
 by_length c l d len o false is lt first e =
     let step = bind_ok (text len l) (λ name. number 2 name.1 >>= λ ordinal. named_read name.0 ordinal.0 ordinal.1) (o, d) e in
@@ -142,7 +137,7 @@ by_left : (before : ℕ) (c d : Cursor) (o : Option (Group × ℕ)) (none : Bool
     StepTaken before c o d
 by_left before c d o true h is e =
     let pair : (None, c) ≡ (o, d) = cc in
-    subst (λ (p : Option (Group × ℕ) × Cursor). StepTaken before c p.0 p.1) pair (refl, equal (length c.left) 0 is)
+    subst (λ (p : Option (Group × ℕ) × Cursor). StepTaken before c p.0 p.1) pair (refl, eqb-true (length c.left) 0 is)
 by_left before c d o false h is e =
     let first = bind_ok (fault_at c.at (group_fields c)) (λ group. cond (ltb PAGE_SIZE (before + group.0.times * length group.0.bytes)) (Err (fault TooLong c.at)) (done (Some (group.0, before + group.0.times * length group.0.bytes), group.1))) (o, d) e in
     let group = first.0 in

@@ -21,7 +21,7 @@ Takes-then c d e xs ys p q = record { parts = p.parts ∙ ap (λ (t : List ℕ).
 pub takes_nothing : (c : Cursor) → AreBytes c.left → Takes c [] c
 takes_nothing c h = record { parts = refl; rest = h }
 
-AreBytes-drop : (n : ℕ) (bytes : List ℕ) → AreBytes bytes → AreBytes (drop n bytes)
+pub AreBytes-drop : (n : ℕ) (bytes : List ℕ) → AreBytes bytes → AreBytes (drop n bytes)
 AreBytes-drop n bytes h i = rw get_or-drop (h (n + i))
 
 AreBytes-take : (n : ℕ) (bytes : List ℕ) → AreBytes bytes → AreBytes (take n bytes)

@@ -105,7 +105,7 @@ line_other lib pid q e f c r apart s = s
 
 -- ---- items
 
-flip : (q pid : ℕ) → (q == pid) ≡ false → (pid == q) ≡ false
+pub flip : (q pid : ℕ) → (q == pid) ≡ false → (pid == q) ≡ false
 flip q pid h = ne_eqb pid q (λ e. true≢false (sym (eq-eqb q pid (sym e)) ∙ h))
 
 line_step : (lib : Library) (pid q : ℕ) (l : Line) (items : List Item) (e f : Eager) → SameFor pid e f →

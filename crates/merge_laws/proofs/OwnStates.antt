@@ -1,5 +1,5 @@
 -- A process's own state is the history's, but for touched pages, and which those are.
-use Rattle.std.proofs.Common.{length, ◌≤◌, arith, append_assoc, append-nil, length-append, ◌≡◌, ℕ, ◌+◌, ◌==◌, ◌&&◌, ◌||◌, Bool, true, false, not, if◌then◌else◌, List, [], ◌∷◌, ◌++◌, map, filter, flat_map, Option, Some, None, refl, sym, ◌∙◌, ap, subst, IsTrue, eqb-true, eq-eqb}
+use Rattle.std.proofs.Common.{length, ◌≤◌, arith, append_assoc, append-nil, length-append, ◌≡◌, ℕ, ◌+◌, ◌==◌, ◌&&◌, ◌||◌, Bool, true, false, not, if◌then◌else◌, List, [], ◌∷◌, ◌++◌, filter, flat_map, Option, Some, None, refl, sym, ◌∙◌, ap, subst, IsTrue, eqb-true, eq-eqb}
 use Rattle.std.specs.List.{enumerate_from, list_any, list_all}
 use Rattle.std.proofs.lemmas.List.Folds.{list_any-append}
 use Rattle.std.proofs.lemmas.List.Sums.{fold-append}
@@ -30,7 +30,7 @@ use Rattle.load_model.proofs.Touched.{named_apart, answered_by_pages, entries_mo
 use Rattle.session_model.specs.declared.sessions.Line.{Line}
 use Rattle.session_model.specs.Merging.{Item, entry, line, after_item, state_behind, is_first_touch, had_faults, is_fault_item, uses_touched}
 use Rattle.session_model.specs.MergeLaws.{entries_in, touched_in}
-use Rattle.session_model.proofs.MergeStates.{entries_append, states_are_the_historys}
+use Rattle.session_model.proofs.MergeStates.{entries_append, states_are_the_historys, no_entries}
 use Rattle.session_model.proofs.UsedPages.{uses_by_pages}
 use Rattle.merge_laws.specs.Accounts.{lines_behind, own_items, own_state}
 use Rattle.merge_laws.specs.OwnStates.{HasTouched, OwnItemsHaveHistory, OwnStateIsTheHistorys, FollowingReplies, pages_at, pages_behind_line, NothingTouched, TouchedBehindEntry, TouchedBehindLine, TouchedGoesOn, TouchedDecides, are_fixed, TouchFollowsFaults}
@@ -39,10 +39,6 @@ use Rattle.merge_laws.proofs.Steps.{higher}
 use Rattle.merge_laws.proofs.Growing.{items_entry, items_line}
 
 -- ---- the state
-
-no_entries : (pid : ℕ) (ls : List Line) → entries_in (map (line pid) ls) ≡ []
-no_entries pid [] = refl
-no_entries pid (l ∷ ls) = no_entries pid ls
 
 behind_entries : (pid n : ℕ) (h : List Entry) (lines : List Line) →
     entries_in (flat_map (λ (e : ℕ × Entry). entry e.1 ∷ lines_behind pid lines e.0) (enumerate_from n h)) ≡ h

@@ -1,5 +1,5 @@
 -- What a process can say of itself, one step further.
-use Rattle.std.proofs.Common.{◌≡◌, ℕ, ◌≤◌, ◌==◌, ◌&&◌, Bool, true, false, not, if◌then◌else◌, List, [], ◌∷◌, ◌++◌, length, filter, inr, refl, sym, ◌∙◌, ap, subst, arith, append_assoc, append-nil, length-append, eq-eqb, ne_eqb, true≢false}
+use Rattle.std.proofs.Common.{◌≡◌, ℕ, ◌≤◌, ◌==◌, ◌&&◌, Bool, true, false, not, if◌then◌else◌, List, [], ◌∷◌, ◌++◌, length, filter, inr, refl, sym, ◌∙◌, ap, subst, arith, append_assoc, append-nil, length-append, eq-eqb, true≢false}
 use Rattle.std.proofs.lemmas.List.Elements.{filter-append}
 use Rattle.load_model.specs.declared.commands.Command.{Command}
 use Rattle.load_model.specs.declared.deeds.Entry.{Entry}
@@ -12,6 +12,7 @@ use Rattle.merge_laws.specs.MidTouch.{touch_line, IsFaultFor, LeadsOrWaits}
 use Rattle.merge_laws.specs.AccountLaws.{AccountBegins, OthersEntryStays, OwnEntryAdds, OwnLineAdds, TouchBegins, TouchWaits, TouchFaults, TouchEnds, AccountGoesOn, TouchGoesOn}
 use Rattle.merge_laws.proofs.Growing.{items_entry, items_line, places_end}
 use Rattle.merge_laws.proofs.Leading.{no_fault, is_a_fault, still_leads, leads_or_waits, still_waits, now_leads}
+use Rattle.merge_laws.proofs.Alike.{flip}
 
 -- ---- fronts and commands
 
@@ -92,14 +93,11 @@ module _ (lib : Library) (failing : Failing) (contents : Held) (k : ℕ) (F G : 
 
 -- ---- whose an entry is
 
-other_pid : (k pid : ℕ) → (k == pid) ≡ false → (pid == k) ≡ false
-other_pid k pid apart = ne_eqb pid k (λ e. true≢false (sym (eq-eqb k pid (sym e)) ∙ apart))
-
 not_own : (k : ℕ) (x : Entry) → (k == x.pid) ≡ false → is_of k (entry x) ≡ true → ⊥
-not_own k x apart mine = true≢false (sym mine ∙ other_pid k x.pid apart)
+not_own k x apart mine = true≢false (sym mine ∙ flip k x.pid apart)
 
 not_its_command : (k : ℕ) (x : Entry) → (k == x.pid) ≡ false → is_command_of k (entry x) ≡ false
-not_its_command k x apart = ap (λ b. b && not (is_fault x.deed)) (other_pid k x.pid apart)
+not_its_command k x apart = ap (λ b. b && not (is_fault x.deed)) (flip k x.pid apart)
 
 -- ---- the laws
 

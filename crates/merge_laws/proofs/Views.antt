@@ -11,9 +11,9 @@ use Rattle.load_model.specs.declared.commands.Reply.TheVariants as replies
 use Rattle.load_model.specs.declared.deeds.Fresh.{Fresh}
 use Rattle.load_model.specs.declared.deeds.Entry.{Entry}
 use Rattle.load_model.specs.Modules.{Library, Held, object_at}
-use Rattle.load_model.specs.State.{PageOf, Residence, Failing, Eager, is_among, serial_of, attached_residence}
+use Rattle.load_model.specs.State.{PageOf, Residence, Failing, Eager, is_among, serial_of}
 use Rattle.load_model.specs.Memory.{is_page, page, pages_over}
-use Rattle.load_model.specs.Refusals.{when, ◌orelse◌, touch, residence_refusal, residence_if, residence_named, place_refusal, refusal_of}
+use Rattle.load_model.specs.Refusals.{when, ◌orelse◌, touch, residence_refusal, residence_named, place_refusal, refusal_of}
 use Rattle.load_model.specs.Asks.{is_own}
 use Rattle.load_model.specs.Step.{steady, fine_answer, answer_of, serial_named}
 use Rattle.load_model.specs.Histories.{state_after, has_fault}
@@ -25,10 +25,11 @@ use Rattle.load_model.specs.ViewAnswers.{stay_named, seen_process, view_refusal}
 use Rattle.load_model.specs.ViewLaws.{over_page, written_over, RefusedByView, AnsweredByView}
 use Rattle.load_model.proofs.Answers.{answer_by, answer_is}
 use Rattle.load_model.proofs.Bools.{and_left, and_right}
-use Rattle.load_model.proofs.Bytes.{named_is}
 use Rattle.load_model.proofs.Standing.{named_by_view}
 use Rattle.load_model.proofs.Touched.{named_apart}
 use Rattle.load_model.proofs.ViewLeaving.{kept_are_touched}
+use Rattle.load_model.proofs.ViewSteps.{each_more}
+use Rattle.load_model.proofs.ViewReplies.{attached_named_is}
 use Rattle.session_model.specs.MergeLaws.{touched_in}
 use Rattle.merge_laws.specs.Accounts.{own_state}
 use Rattle.merge_laws.specs.OwnStates.{HasTouched, pages_at, state_with, is_fixed, are_fixed}
@@ -98,12 +99,7 @@ had_fault_by lib v h m s q (p ∷ ps) at apart all has = step ((p.of.serial == s
         (subst (λ (n : ℕ). has_fault h n p.of.page ≡ true) serial (all.0 m s at (sym serial) (subst (λ (x : PageId). is_own (class_of (object_at lib m x.object)) ≡ false) (sym there) apart)))
     step false is has later = later has
 
-all_more : (f g : ℕ → Bool) → ((n : ℕ) → f n ≡ true → g n ≡ true) → (xs : List ℕ) → list_all f xs ≡ true → list_all g xs ≡ true
-all_more f g more [] all = refl
-all_more f g more (x ∷ xs) all =
-    ap (λ b. b && list_all g xs) (more x (and_left (f x) (list_all f xs) all)) ∙ all_more f g more xs (and_right (f x) (list_all f xs) all)
-
-stay_serial : (o : Option Residence) → serial_of (stay_of o) ≡ serial_of o
+pub stay_serial : (o : Option Residence) → serial_of (stay_of o) ≡ serial_of o
 stay_serial None = refl
 stay_serial (Some r) = refl
 
@@ -111,11 +107,6 @@ serial_by_view : (lib : Library) (failing : Failing) (contents : Held) (v : Hold
     serial_named lib (state_after lib failing h) v.pid at ≡ serial_seen lib v at
 serial_by_view lib failing contents v h at stands =
     sym (stay_serial (residence_named lib (state_after lib failing h) v.pid at.«module»)) ∙ ap serial_of (named_by_view lib contents v (state_after lib failing h) at.«module» stands.view)
-
-attached_named : (lib : Library) (e : Eager) (pid : ℕ) (name : List ℕ) (r : Residence) → residence_named lib e pid name ≡ Some r →
-    attached_residence lib e pid r.«module» ≡ Some r
-unfolding residence_named
-attached_named lib e pid name r is = sym (ap (residence_if lib e pid) (named_is lib e pid name r is).1) ∙ is
 
 refused_unattached : (lib : Library) (v : Holding) (at : Place) → stay_named lib v at.«module» ≡ None → view_refusal lib v (commands.Touch at) ≡ None → ⊥
 unfolding view_refusal
@@ -131,11 +122,11 @@ fixed_by : (lib : Library) (failing : Failing) (contents : Held) (v : Holding) (
 fixed_by lib failing contents v h at None is stands none has =
     absurd (refused_unattached lib v at (sym (named_by_view lib contents v (state_after lib failing h) at.«module» stands.view) ∙ ap stay_of is) none)
 fixed_by lib failing contents v h at (Some r) is stands none has =
-    all_more (λ n. has_page (mapped_pages v) r.serial (page at.object n)) (λ n. is_fixed lib h r.serial r.«module» (page at.object n))
+    each_more (λ n. has_page (mapped_pages v) r.serial (page at.object n)) (λ n. is_fixed lib h r.serial r.«module» (page at.object n))
     (λ n there. one n there (is_own (class_of (object_at lib r.«module» at.object))) refl) (pages_over at.offset at.len) has
   where
     stay : stay_at v r.«module» ≡ Some (fresh_of r)
-    stay = stands.view.stays r.«module» ∙ ap (option_map fresh_of) (attached_named lib (state_after lib failing h) v.pid at.«module» r is)
+    stay = stands.view.stays r.«module» ∙ ap (option_map fresh_of) (attached_named_is lib (state_after lib failing h) v.pid at.«module» r is)
 
     one : (n : ℕ) → has_page (mapped_pages v) r.serial (page at.object n) ≡ true → (b : Bool) → is_own (class_of (object_at lib r.«module» at.object)) ≡ b →
         is_fixed lib h r.serial r.«module» (page at.object n) ≡ true

@@ -3,6 +3,7 @@ use Rattle.std.proofs.Common.{◌≡◌, ℕ, zero, suc, ◌+◌, ◌<◌, ◌�
 use Rattle.std.specs.List.{enumerate_from, AllByRecursion}
 use Rattle.std.proofs.lemmas.List.{length-map}
 use Rattle.std.proofs.lemmas.List.Elements.{filter-append}
+use Rattle.std.proofs.lemmas.Option.{slice_get_within}
 use Rattle.load_model.specs.declared.commands.Command.{Command}
 use Rattle.load_model.specs.declared.deeds.Entry.{Entry}
 use Rattle.load_model.specs.Modules.{Library, Held}
@@ -107,24 +108,15 @@ there [] i lt = absurd (omega arith)
 there (x ∷ xs) zero lt = (x, refl)
 there (x ∷ xs) (suc i) lt = there xs i (omega arith)
 
--- what stands at a place stands below the length
-short : {A : Type 0} (xs : List A) (i : ℕ) (x : A) → slice_get xs i ≡ Some x → i < length xs
-short [] i x e = absurd (cc (e))
-short (y ∷ xs) zero x e = omega arith
-short (y ∷ xs) (suc i) x e = let h = short xs i x e in omega arith
-
 -- ---- each item is of one of them
 
 append_of : (n : ℕ) (xs ys : List Item) → AllOf n xs → AllOf n ys → AllOf n (xs ++ ys)
 append_of n [] ys a b = b
 append_of n (x ∷ xs) ys a b = (a.0, append_of n xs ys a.1 b)
 
-same_self : (q : ℕ) → (q == q) ≡ true
-same_self q = eq-eqb q q refl
-
 lines_are_of : (n q : ℕ) (ls : List Line) → 1 ≤ q → q ≤ n → AllOf n (map (line q) ls)
 lines_are_of n q [] a b = tt
-lines_are_of n q (l ∷ ls) a b = ((q, a, b, same_self q), lines_are_of n q ls a b)
+lines_are_of n q (l ∷ ls) a b = ((q, a, b, eq-eqb q q refl), lines_are_of n q ls a b)
 
 at_are_of : (n k front : ℕ) (s : List ScriptLines) → 1 ≤ k → k + length s ≤ n + 1 → AllOf n (flat_map (lines_of front) (enumerate_from k s))
 at_are_of n k front [] a b = tt
@@ -134,7 +126,7 @@ entries_are_of : (n k : ℕ) (h : List Entry) (s : List ScriptLines) → length 
     AllOf n (flat_map (λ (e : ℕ × Entry). entry e.1 ∷ lines_at s e.0) (enumerate_from k h))
 entries_are_of n k [] s len all = tt
 entries_are_of n k (x ∷ h) s len all =
-    ((x.pid, all.0.0, all.0.1, same_self x.pid), append_of n (lines_at s k) _ (at_are_of n 1 k s (omega arith) (omega arith)) (entries_are_of n (k + 1) h s len all.1))
+    ((x.pid, all.0.0, all.0.1, eq-eqb x.pid x.pid refl), append_of n (lines_at s k) _ (at_are_of n 1 k s (omega arith) (omega arith)) (entries_are_of n (k + 1) h s len all.1))
 
 merge_is_of : (n : ℕ) (h : List Entry) (s : List ScriptLines) → length s ≡ n → AllByRecursion (λ (x : Entry). (1 ≤ x.pid) × (x.pid ≤ n)) h → AllOf n (merge_of h s)
 unfolding merge_of
@@ -165,9 +157,9 @@ accounts_merge lib failing contents h s scripts numbers entries each =
     record {
       processes = numbers;
       entries = entries;
-      fronts = fronts_rise h s (λ i sl at. let lt = short s i sl at in let c = there scripts i (omega arith) in (each i sl c.0 at c.1).fronts);
+      fronts = fronts_rise h s (λ i sl at. let lt = slice_get_within s i sl at in let c = there scripts i (omega arith) in (each i sl c.0 at c.1).fronts);
       commands = all_commands lib (merge_of h s) 1 scripts
-          (λ i c is. let lt = short scripts i c is in let sl = there s i (omega arith) in
+          (λ i c is. let lt = slice_get_within scripts i c is in let sl = there s i (omega arith) in
           its_commands lib failing contents h s (1 + i) i sl.0 c.commands sl.1 refl (each i sl.0 c sl.1 is));
       faults = gathered (FaultLeads lib failing) h s scripts len entries
           (λ i sl c at is. its_faults lib failing contents h s (1 + i) i sl c.commands at refl (each i sl c at is));

@@ -1,8 +1,7 @@
 -- An item without a fault stands there as it is spelled.
 use Rattle.std.proofs.Common.{◌≡◌, ℕ, zero, suc, ◌+◌, ◌<◌, ◌≤◌, ◌^◌, Bool, true, false, cond, ltb, eqb, List, [], ◌∷◌, ◌++◌, length, take, drop, get_or, Some, None, refl, sym, ap, ◌∙◌, arith}
-use Rattle.std.proofs.lemmas.Bool.{ltb-false}
-use Rattle.std.proofs.lemmas.Bool.Decides.{nat_tests}
-use Rattle.std.proofs.lemmas.List.{length-take, length-drop, get_or-drop}
+use Rattle.std.proofs.lemmas.Bool.{ltb-false, eqb-true}
+use Rattle.std.proofs.lemmas.List.{length-take, length-drop}
 use Rattle.lx_bytes.specs.LittleEndian.{AreBytes, little, little_bytes}
 use Rattle.lx_bytes.proofs.Numbers.{little_bytes-little}
 use Rattle.lx_model.specs.Reading.{number_at, ◌then◌}
@@ -22,13 +21,10 @@ is_mark : (good : Bool) (e : ResRefusal) → cond good None (Some e) ≡ None �
 is_mark true e none = refl
 is_mark false e none = absurd cc
 
-equal : (m n : ℕ) → eqb m n ≡ true → m ≡ n
-equal m n e = grind (arith, nat_tests)
-
 marked : (at : ℕ) (left : List ℕ) (offset : ℕ) → mark_fault at left offset ≡ None → get_or left offset 0 ≡ MARK
 marked at left offset none =
     let parts = then_none (short_field at left offset 1) (cond (eqb (get_or left offset 0) MARK) None (Some (BadItem (at + offset)))) none in
-    equal (get_or left offset 0) MARK (is_mark (eqb (get_or left offset 0) MARK) (BadItem (at + offset)) parts.1)
+    eqb-true (get_or left offset 0) MARK (is_mark (eqb (get_or left offset 0) MARK) (BadItem (at + offset)) parts.1)
 
 long : (at : ℕ) (left : List ℕ) (offset width : ℕ) → short_field at left offset width ≡ None → offset + width ≤ length left
 long at left offset width none = ltb-false (length left) (offset + width) (is_there (ltb (length left) (offset + width)) (Short (at + offset)) none)
@@ -106,9 +102,6 @@ take_more (suc m) n (x ∷ xs) =
     ap (λ (k : ℕ). take k (x ∷ xs)) more ∙ ap (λ (ys : List ℕ). x ∷ ys) (take_more m n xs)
 
 -- ---- the item
-
-pub AreBytes-drop : (n : ℕ) (bytes : List ℕ) → AreBytes bytes → AreBytes (drop n bytes)
-AreBytes-drop n bytes h i = rw get_or-drop (h (n + i))
 
 word_small : (a b : ℕ) → a < 256 → b < 256 → little (a ∷ b ∷ []) < 2 ^ 16
 word_small a b p q = omega arith

@@ -6,9 +6,11 @@ use Rattle.std.specs.HashSet.{HashSet}
 use Rattle.std.proofs.lemmas.Bool.Decides.{nat_tests}
 use Rattle.std.proofs.lemmas.List.{length-drop, length-take, take-append-drop}
 use Rattle.std.proofs.lemmas.List.Folds.{list_any-append}
+use Rattle.std.proofs.lemmas.Bool.{or_parts}
+use Rattle.lx_types.proofs.Lists.{all_joined}
 use Rattle.lx_bytes.specs.LittleEndian.{AreBytes}
 use Rattle.lx_model.specs.Reading.{◌then◌}
-use Rattle.lx_model.proofs.Each.{each_append}
+use Rattle.lx_model.proofs.Takes.{AreBytes-drop}
 use Rattle.res_file.specs.ItemFields.{FIELDS, type_at, id_at, length_at, item_at, fields_fault}
 use Rattle.res_file.specs.ResFile.{item_spelling, items_spelling, ItemFits, has_key, same_key, AreApart, IsResFile}
 use Rattle.res_file.specs.Faults.{FirstFault, item_fault, is_second}
@@ -16,23 +18,19 @@ use Rattle.res_file.specs.Seen.{AreRead, AreKeysOf, Key, same}
 use Rattle.res_file.specs.declared.item.ResItem.{ResItem}
 use Rattle.res_file.specs.declared.refusal.ResRefusal.{ResRefusal}
 use Rattle.res_file.specs.declared.refusal.ResRefusal.TheVariants.{Twice}
-use Rattle.res_file.proofs.GoodItem.{take_none, take_more, AreBytes-drop, spells_item, good}
+use Rattle.res_file.proofs.GoodItem.{take_none, take_more, spells_item, good}
 
 -- ---- apart
 
-or_false : (a b : Bool) → (a || b) ≡ false → (a ≡ false) × (b ≡ false)
-or_false true b e = absurd cc
-or_false false b e = (refl, e)
-
-turned : (a b c d : ℕ) → (eqb a b && eqb c d) ≡ false → (eqb b a && eqb d c) ≡ false
+pub turned : (a b c d : ℕ) → (eqb a b && eqb c d) ≡ false → (eqb b a && eqb d c) ≡ false
 turned a b c d e = grind (arith, nat_tests)
 
 apart_more : (items : List ResItem) (y : ResItem) → AreApart items → list_any (has_key y.ty y.id) items ≡ false → AreApart (items ++ y ∷ [])
 apart_more [] y h none = (tt, tt)
 apart_more (i ∷ items) y h none =
-    let parts = or_false (has_key y.ty y.id i) (list_any (has_key y.ty y.id) items) none in
+    let parts = or_parts (has_key y.ty y.id i) (list_any (has_key y.ty y.id) items) none in
     let here : same_key i y ≡ false = turned i.ty y.ty i.id y.id parts.0 in
-    (each_append (λ other. same_key i other ≡ false) items (y ∷ []) h.0 (here, tt), apart_more items y h.1 parts.1)
+    (all_joined (λ other. same_key i other ≡ false) items (y ∷ []) h.0 (here, tt), apart_more items y h.1 parts.1)
 
 -- ---- spelled
 
@@ -55,7 +53,7 @@ one_more bytes at items are read none new =
           ∙ ap (λ (front : List ℕ). front ++ take (FIELDS + length_at left) left) read.spelled
           ∙ ap (λ (more : List ℕ). items_spelling items ++ more) item.spelled
           ∙ sym (spelling_more items (item_at left));
-      fit = each_append ItemFits items (item_at left ∷ []) read.fit (item.fits, tt);
+      fit = all_joined ItemFits items (item_at left ∷ []) read.fit (item.fits, tt);
       apart = apart_more items (item_at left) read.apart new;
     }
 

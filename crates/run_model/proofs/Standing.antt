@@ -19,15 +19,13 @@ use Rattle.load_model.specs.Fitness.{ReachedIsFit}
 use Rattle.load_model.specs.Laws.{ReachedIsResident}
 use Rattle.load_model.specs.ResidenceBases.{arena_of, ResidentsFit}
 use Rattle.load_model.proofs.Bools.{and_left, and_right}
+use Rattle.load_model.proofs.ResidenceBases.{room_holds}
 use Rattle.run_model.specs.Standing.{ObjectsStand, ReachedStand}
 
 -- ---- a place of an arena
 
 at_unit : (arena : AddressRange) (size base : ℕ) → is_in_arena arena size base ≡ true → base % UNIT ≡ 0
 at_unit arena size base is = eqb-true (base % UNIT) 0 (and_left (base % UNIT == 0) (nat_le arena.from base) (and_left ((base % UNIT == 0) && nat_le arena.from base) (nat_le (base + room size) arena.to) is))
-
-room_holds : (size : ℕ) → size ≤ room size
-room_holds size = omega arith
 
 ends_by : (arena : AddressRange) (size base : ℕ) → arena.to ≤ SHARED_END → is_in_arena arena size base ≡ true → base + size ≤ SHARED_END
 ends_by arena size base high is =

@@ -1,8 +1,8 @@
 -- What bytes say is within bounds: line by line, and the statements together.
-use Rattle.std.proofs.Common.{◌≡◌, ℕ, suc, ◌+◌, ◌≤◌, ◌<◌, Bool, true, false, if◌then◌else◌, ◌&&◌, List, [], ◌∷◌, ◌++◌, length, map, filter_map, Option, Some, None, refl, sym, ◌∙◌, ap, subst, arith}
+use Rattle.std.proofs.Common.{◌≡◌, ℕ, suc, ◌+◌, ◌≤◌, ◌<◌, Bool, true, false, if◌then◌else◌, List, [], ◌∷◌, ◌++◌, length, map, filter_map, Option, Some, None, refl, sym, ◌∙◌, ap, subst, arith}
 use Rattle.std.specs.Prelude.{unwrap_or, nat_lt}
 use Rattle.std.specs.List.{AllByRecursion, cons_option}
-use Rattle.std.proofs.lemmas.Bool.{ltb-true, leb-true}
+use Rattle.std.proofs.lemmas.Bool.{ltb-true, leb-true, and_parts}
 use Rattle.std.proofs.lemmas.List.{append-nil}
 use Rattle.std.proofs.lemmas.List.Elements.{filter_map-append}
 use Rattle.std.proofs.lemmas.List.Sums.{fold-append}
@@ -120,22 +120,14 @@ scripts_good last n (process k ∷ sts) fine =
 
 -- ---- numbers
 
-and_left : (a b : Bool) → a && b ≡ true → a ≡ true
-and_left true b h = refl
-and_left false b h = cc
-
-and_right : (a b : Bool) → a && b ≡ true → b ≡ true
-and_right true b h = h
-and_right false b h = cc
-
 rises_above : (last : Option ℕ) (n k : ℕ) → fault_among last n (process k) ≡ None → (unwrap_or last 0 < k) × (k ≤ MOST_PROCESSES)
 rises_above None n k h =
     let it = if_none (rises None k) kinds.Order h in
-    let one : 1 ≤ k = leb-true 1 k (and_left _ _ it) in
-    (omega arith, leb-true k MOST_PROCESSES (and_right _ _ it))
+    let one : 1 ≤ k = leb-true 1 k (and_parts _ _ it).0 in
+    (omega arith, leb-true k MOST_PROCESSES (and_parts _ _ it).1)
 rises_above (Some l) n k h =
     let it = if_none (rises (Some l) k) kinds.Order h in
-    (ltb-true l k (and_left _ _ it), leb-true k MOST_PROCESSES (and_right _ _ it))
+    (ltb-true l k (and_parts _ _ it).0, leb-true k MOST_PROCESSES (and_parts _ _ it).1)
 
 numbers_rise : (last : Option ℕ) (n : ℕ) (sts : List Statement) → unwrap_or last 0 ≤ MOST_PROCESSES → Fine last n sts → Rise (unwrap_or last 0) (map (λ s. s.pid) (scripts_of sts)) MOST_PROCESSES
 numbers_rise last n [] low fine = low

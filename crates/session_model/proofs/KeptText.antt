@@ -1,9 +1,10 @@
 -- Lines behind lines.
 use Rattle.std.proofs.Common.{◌≡◌, ℕ, ◌<◌, Bool, true, false, List, [], ◌∷◌, ◌++◌, length, refl, ap, ◌∙◌, arith}
-use Rattle.std.specs.Prelude.{◌==◌, ◌&&◌, if◌then◌else◌, option_to_list, Option, Some, None}
+use Rattle.std.specs.Prelude.{◌==◌, if◌then◌else◌, option_to_list, Option, Some, None}
 use Rattle.std.specs.List.{cons_option, filter_map, list_all}
 use Rattle.std.proofs.lemmas.List.Elements.{filter_map-append}
 use Rattle.std.proofs.lemmas.Bool.Decides.{nat_tests}
+use Rattle.std.proofs.lemmas.Bool.{and_parts}
 use Rattle.session_model.specs.Lines.{is_allowed, is_cut, with_byte, lines_in}
 use Rattle.session_model.specs.Kept.{AreLines, IsOneLine}
 
@@ -76,25 +77,17 @@ not_end b h = grind (arith, nat_tests)
 not_cr : (b : ℕ) → is_allowed b ≡ true → (b == 13) ≡ false
 not_cr b h = grind (arith, nat_tests)
 
-uncut : (b : ℕ) (text : List ℕ) → (b == 13) ≡ false → is_cut b text ≡ false
+pub uncut : (b : ℕ) (text : List ℕ) → (b == 13) ≡ false → is_cut b text ≡ false
 uncut b [] h = refl
 uncut b (c ∷ text) h = rw h refl
-
-and-left : (a b : Bool) → a && b ≡ true → a ≡ true
-and-left true b h = refl
-and-left false b h = cc
-
-and-right : (a b : Bool) → a && b ≡ true → b ≡ true
-and-right true b h = h
-and-right false b h = cc
 
 line-alone : (line : List ℕ) → IsOneLine line → lines_in (line ++ 0x0A ∷ []) ≡ line ∷ []
 unfolding lines_in
 line-alone [] h = refl
 line-alone (b ∷ line) h =
-    let good = and-left (is_allowed b) (list_all is_allowed line) h in
+    let good = (and_parts (is_allowed b) (list_all is_allowed line) h).0 in
     second _ _ _ (uncut b (line ++ 0x0A ∷ []) (not_cr b good)) ∙ second _ _ _ (not_end b good)
-    ∙ ap (with_byte b) (line-alone line (and-right (is_allowed b) (list_all is_allowed line) h))
+    ∙ ap (with_byte b) (line-alone line (and_parts (is_allowed b) (list_all is_allowed line) h).1)
 
 one-listed : {A : Type 0} (f : List ℕ → Option A) (line : List ℕ) → filter_map f (line ∷ []) ≡ option_to_list (f line)
 one-listed {A} f line = by_case (f line)

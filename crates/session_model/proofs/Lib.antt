@@ -4,4 +4,4 @@ pub mod HeldMerges
 pub mod Readings
 pub mod Bounded
 pub mod UsedPages
-mod KeptText
+pub mod KeptText

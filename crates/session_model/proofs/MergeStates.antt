@@ -28,7 +28,7 @@ entries_append [] b = refl
 entries_append (entry x ∷ a) b = ap (λ xs. x ∷ xs) (entries_append a b)
 entries_append (line pid l ∷ a) b = entries_append a b
 
-no_entries : (pid : ℕ) (ls : List Line) → entries_in (map (line pid) ls) ≡ []
+pub no_entries : (pid : ℕ) (ls : List Line) → entries_in (map (line pid) ls) ≡ []
 no_entries pid [] = refl
 no_entries pid (l ∷ ls) = no_entries pid ls
 

@@ -2,8 +2,9 @@
 use Rattle.std.proofs.Common.{◌≡◌, ℕ, ◌≤◌, ◌<◌, ◌^◌, ◌==◌, Bool, true, false, if◌then◌else◌, not, ◌&&◌, ◌||◌, List, [], ◌∷◌, length, Option, Some, None, option_map, option_and_then, refl, ap, subst, arith}
 use Rattle.std.specs.Prelude.{codes, nat_lt, nat_le, drop}
 use Rattle.std.specs.List.{list_any, list_all, AllByRecursion}
-use Rattle.std.proofs.lemmas.Bool.{ltb-true, ltb-false, leb-true, eqb-false}
+use Rattle.std.proofs.lemmas.Bool.{ltb-true, ltb-false, leb-true, eqb-false, and_parts, or_parts}
 use Rattle.std.proofs.lemmas.Slice.Eq.{bytes_eq-Decides}
+use Rattle.std.proofs.lemmas.Option.{same_Some}
 use Rattle.lx_types.specs.declared.entry.EntryKey.{EntryKey}
 use Rattle.lx_types.specs.declared.entry.EntryKey.TheVariants.{Ordinal, Named}
 use Rattle.load_model.specs.declared.commands.Place.{Place}
@@ -46,31 +47,12 @@ where_some : {A : Type 0} (b : Bool) (x y : A) → (if b then Some x else None) 
 where_some false x y h = cc
 where_some true x y h = (let same : x ≡ y = cc in (refl, same))
 
-said : (kind : SessionKind) (o : Option Statement) (st : Statement) → or_wrong kind o ≡ says st → o ≡ Some st
+pub said : (kind : SessionKind) (o : Option Statement) (st : Statement) → or_wrong kind o ≡ says st → o ≡ Some st
 said kind None st h = cc
 said kind (Some x) st h = (let same : x ≡ st = cc in ap Some same)
 
-said_is : (x st : Statement) → says x ≡ says st → x ≡ st
+pub said_is : (x st : Statement) → says x ≡ says st → x ≡ st
 said_is x st h = cc
-
-some_is : {A : Type 0} (x y : A) → Some x ≡ Some y → x ≡ y
-some_is x y h = cc
-
-or_left : (a b : Bool) → a || b ≡ false → a ≡ false
-or_left true b h = h
-or_left false b h = refl
-
-or_right : (a b : Bool) → a || b ≡ false → b ≡ false
-or_right true b h = cc
-or_right false b h = h
-
-and_left : (a b : Bool) → a && b ≡ true → a ≡ true
-and_left true b h = refl
-and_left false b h = cc
-
-and_right : (a b : Bool) → a && b ≡ true → b ≡ true
-and_right true b h = h
-and_right false b h = cc
 
 -- ---- numbers
 
@@ -100,9 +82,9 @@ short_length most word n h =
     let f = bind_some (λ k. if (k == 0) || nat_lt most k then None else Some k) (number_in word) n h in
     let it : ((f.it == 0) || nat_lt most f.it ≡ false) × (f.it ≡ n) = unless_some ((f.it == 0) || nat_lt most f.it) f.it n f.gives in
     record {
-      some = subst (λ k. 1 ≤ k) it.1 (one_at_least f.it (or_left _ _ it.0));
+      some = subst (λ k. 1 ≤ k) it.1 (one_at_least f.it (or_parts _ _ it.0).0);
       number = subst IsNumber it.1 (number_fits word f.it f.there);
-      few = subst (λ k. k ≤ most) it.1 (ltb-false most f.it (or_right _ _ it.0));
+      few = subst (λ k. k ≤ most) it.1 (ltb-false most f.it (or_parts _ _ it.0).1);
     }
 
 pub record Parts (most : Option ℕ) (name object offset len : List ℕ) (p : Place) : Type 0 where
@@ -126,7 +108,7 @@ parts_of_place most name object offset len p h =
       object_is = f.there;
       offset_is = g.there;
       length_is = k.there;
-      is = some_is (place_of name f.it g.it k.it) p k.gives;
+      is = same_Some (place_of name f.it g.it k.it) p k.gives;
     }
 
 any_place : (name object offset len : List ℕ) (p : Place) → IsWord name → place_in None name object offset len ≡ Some p → IsPlace p
@@ -161,8 +143,8 @@ bytes_fit word bytes h =
     let f = bind_some (λ bs. if (length bs == 0) || nat_lt MOST_BYTES (length bs) then None else Some bs) (hex_bytes word) bytes h in
     let it : ((length f.it == 0) || nat_lt MOST_BYTES (length f.it) ≡ false) × (f.it ≡ bytes) =
     unless_some ((length f.it == 0) || nat_lt MOST_BYTES (length f.it)) f.it bytes f.gives in (
-      subst (λ bs. 1 ≤ length bs) it.1 (one_at_least (length f.it) (or_left _ _ it.0)),
-      subst (λ bs. length bs ≤ MOST_BYTES) it.1 (ltb-false MOST_BYTES (length f.it) (or_right _ _ it.0)),
+      subst (λ bs. 1 ≤ length bs) it.1 (one_at_least (length f.it) (or_parts _ _ it.0).0),
+      subst (λ bs. length bs ≤ MOST_BYTES) it.1 (ltb-false MOST_BYTES (length f.it) (or_parts _ _ it.0).1),
     )
 
 number_16 : (word : List ℕ) (n : ℕ) → word_in word ≡ Some n → n < 2 ^ 16
@@ -175,7 +157,7 @@ process_fits : (word : List ℕ) (n : ℕ) → process_in word ≡ Some n → (1
 process_fits word n h =
     let f = bind_some (λ k. if nat_le 1 k && nat_le k MOST_PROCESSES then Some k else None) (number_in word) n h in
     let it : (nat_le 1 f.it && nat_le f.it MOST_PROCESSES ≡ true) × (f.it ≡ n) = where_some (nat_le 1 f.it && nat_le f.it MOST_PROCESSES) f.it n f.gives in
-    (subst (λ k. 1 ≤ k) it.1 (leb-true 1 f.it (and_left _ _ it.0)), subst (λ k. k ≤ MOST_PROCESSES) it.1 (leb-true f.it MOST_PROCESSES (and_right _ _ it.0)))
+    (subst (λ k. 1 ≤ k) it.1 (leb-true 1 f.it (and_parts _ _ it.0).0), subst (λ k. k ≤ MOST_PROCESSES) it.1 (leb-true f.it MOST_PROCESSES (and_parts _ _ it.0).1))
 
 key_fits : (word : List ℕ) (key : EntryKey) → IsWord word → key_in word ≡ Some key → IsKey key
 key_fits word key short h = step (begins_with_at word) h
@@ -183,8 +165,8 @@ key_fits word key short h = step (begins_with_at word) h
     step : (b : Bool) → (if b then option_map Ordinal (number_in (drop 1 word)) else Some (Named word)) ≡ Some key → IsKey key
     step true h =
         let f = map_some Ordinal (number_in (drop 1 word)) key h in
-        subst IsKey (some_is (Ordinal f.it) key f.gives) (number_fits (drop 1 word) f.it f.there)
-    step false h = subst IsKey (some_is (Named word) key h) short
+        subst IsKey (same_Some (Ordinal f.it) key f.gives) (number_fits (drop 1 word) f.it f.there)
+    step false h = subst IsKey (same_Some (Named word) key h) short
 
 -- ---- words
 
@@ -193,7 +175,7 @@ word_short w h = ltb-false MOST_WORD (length w) h
 
 all_short : (ws : List (List ℕ)) → list_any is_long ws ≡ false → AllByRecursion IsWord ws
 all_short [] h = tt
-all_short (w ∷ ws) h = (word_short w (or_left _ _ h), all_short ws (or_right _ _ h))
+all_short (w ∷ ws) h = (word_short w (or_parts _ _ h).0, all_short ws (or_parts _ _ h).1)
 
 -- ---- statements
 
@@ -206,7 +188,7 @@ two_good w a st short h = one (is_word w (codes "take")) (is_word w (codes "star
     number : or_wrong kinds.Number (option_map process (number_in a)) ≡ says st → IsStatement st
     number h =
         let f = map_some process (number_in a) st (said kinds.Number (option_map process (number_in a)) st h) in
-        subst IsStatement (some_is (process f.it) st f.gives) tt
+        subst IsStatement (same_Some (process f.it) st f.gives) tt
 
     one : (t s l f : Bool) →
         (if t then says (gives (Take a)) else if s then says (command (Start a)) else if l then says (command (Load a)) else if f then says (command (Free a))
@@ -226,10 +208,10 @@ three_good w a b st short_a short_b h = step (is_word w (codes "failing")) h
     step true h =
         let f = map_some (failing_of a) (process_in b) st (said kinds.Number (option_map (failing_of a) (process_in b)) st h) in
         let it = process_fits b f.it f.there in
-        subst IsStatement (some_is (failing_of a f.it) st f.gives) (record { name = short_a; least = it.0; most = it.1 })
+        subst IsStatement (same_Some (failing_of a f.it) st f.gives) (record { name = short_a; least = it.0; most = it.1 })
     step false h =
         let f = map_some (λ k. command (Query a k)) (key_in b) st (said kinds.Number (option_map (λ k. command (Query a k)) (key_in b)) st h) in
-        subst IsStatement (some_is (command (Query a f.it)) st f.gives) (short_a, key_fits b f.it short_b f.there)
+        subst IsStatement (same_Some (command (Query a f.it)) st f.gives) (short_a, key_fits b f.it short_b f.there)
 
 four_good : (w a b c : List ℕ) (st : Statement) → IsWord a → IsWord b → IsWord c → four_words w a b c ≡ says st → IsStatement st
 four_good w a b c st short_a short_b short_c h = step (is_word w (codes "getres")) h
@@ -241,7 +223,7 @@ four_good w a b c st short_a short_b short_c h = step (is_word w (codes "getres"
         let f = bind_some (λ ty. option_map (λ id. command (GetRes a ty id)) (word_in c)) (word_in b) st
         (said kinds.Number (option_and_then (λ ty. option_map (λ id. command (GetRes a ty id)) (word_in c)) (word_in b)) st h) in
         let g = map_some (λ id. command (GetRes a f.it id)) (word_in c) st f.gives in
-        subst IsStatement (some_is (command (GetRes a f.it g.it)) st g.gives) (short_a, number_16 b f.it f.there, number_16 c g.it g.there)
+        subst IsStatement (same_Some (command (GetRes a f.it g.it)) st g.gives) (short_a, number_16 b f.it f.there, number_16 c g.it g.there)
     step false h = is_said (gives (Build a b (c ∷ []))) st (short_a, short_b, omega arith, (short_c, tt)) h
 
 written_good : (kind : Place → List ℕ → Command) (name object offset hex : List ℕ) (st : Statement) → IsWord name →
@@ -279,13 +261,13 @@ five_good w a b c d st short h = one (is_word w (codes "touch")) (is_word w (cod
         else write_of Write a (number_in b) (number_in c) (hex_in d)) ≡ says st → IsStatement st
     one true p s g h =
         let f = map_some (λ q. command (Touch q)) (place_in None a b c d) st (said kinds.Number (option_map (λ q. command (Touch q)) (place_in None a b c d)) st h) in
-        subst IsStatement (some_is (command (Touch f.it)) st f.gives) (any_place a b c d f.it short f.there)
+        subst IsStatement (same_Some (command (Touch f.it)) st f.gives) (any_place a b c d f.it short f.there)
     one false true s g h =
         let f = map_some (λ q. command (Peek q)) (place_in (Some MOST_BYTES) a b c d) st (said kinds.Number (option_map (λ q. command (Peek q)) (place_in (Some MOST_BYTES) a b c d)) st h) in
-        subst IsStatement (some_is (command (Peek f.it)) st f.gives) (short_place a b c d f.it short f.there)
+        subst IsStatement (same_Some (command (Peek f.it)) st f.gives) (short_place a b c d f.it short f.there)
     one false false true g h =
         let f = map_some (λ q. command (Shared q)) (place_in (Some MOST_BYTES) a b c d) st (said kinds.Number (option_map (λ q. command (Shared q)) (place_in (Some MOST_BYTES) a b c d)) st h) in
-        subst IsStatement (some_is (command (Shared f.it)) st f.gives) (short_place a b c d f.it short f.there)
+        subst IsStatement (same_Some (command (Shared f.it)) st f.gives) (short_place a b c d f.it short f.there)
     one false false false true h = written_good Debug a b c d st short (λ p bytes good. good) h
     one false false false false h = written_good Write a b c d st short (λ p bytes good. good) h
 
@@ -295,14 +277,14 @@ no_bytes w is = (let same : w ≡ codes "build" = (bytes_eq-Decides w (codes "bu
 pub words_good : (ws : List (List ℕ)) (st : Statement) → has_long ws ≡ false → statement_of ws ≡ says st → IsStatement st
 words_good [] st short h = cc
 words_good (w ∷ []) st short h = is_said (command Exit) st tt h
-words_good (w ∷ a ∷ []) st short h = two_good w a st (word_short a (or_left _ _ (or_right _ _ short))) h
+words_good (w ∷ a ∷ []) st short h = two_good w a st (word_short a (or_parts _ _ (or_parts _ _ short).1).0) h
 words_good (w ∷ a ∷ b ∷ []) st short h =
-    three_good w a b st (word_short a (or_left _ _ (or_right _ _ short))) (word_short b (or_left _ _ (or_right _ _ (or_right _ _ short)))) h
+    three_good w a b st (word_short a (or_parts _ _ (or_parts _ _ short).1).0) (word_short b (or_parts _ _ (or_parts _ _ (or_parts _ _ short).1).1).0) h
 words_good (w ∷ a ∷ b ∷ c ∷ []) st short h =
     let all : AllByRecursion IsWord (w ∷ a ∷ b ∷ c ∷ []) = all_short (w ∷ a ∷ b ∷ c ∷ []) short in
     four_good w a b c st all.1.0 all.1.1.0 all.1.1.1.0 h
 words_good (w ∷ a ∷ b ∷ c ∷ d ∷ ws) st short h =
-    let all : AllByRecursion IsWord (w ∷ a ∷ b ∷ c ∷ ws) = all_short (w ∷ a ∷ b ∷ c ∷ ws) (or_left _ _ short) in
+    let all : AllByRecursion IsWord (w ∷ a ∷ b ∷ c ∷ ws) = all_short (w ∷ a ∷ b ∷ c ∷ ws) (or_parts _ _ short).0 in
     step (is_word w (codes "build")) refl all h
   where
     last : (x y : Bool) → x && not y ≡ false → y ≡ false → x ≡ false
@@ -314,16 +296,16 @@ words_good (w ∷ a ∷ b ∷ c ∷ d ∷ ws) st short h =
         (if g then says (gives (Build a b (c ∷ d ∷ ws))) else five_words w a b c d) ≡ says st → IsStatement st
     step true is all h =
         is_said (gives (Build a b (c ∷ d ∷ ws))) st
-        (all.1.0, all.1.1.0, omega arith, (all.1.1.1.0, (word_short d (last (is_long d) (has_bytes w) (or_right _ _ short) (no_bytes w is)), all.1.1.1.1))) h
+        (all.1.0, all.1.1.0, omega arith, (all.1.1.1.0, (word_short d (last (is_long d) (has_bytes w) (or_parts _ _ short).1 (no_bytes w is)), all.1.1.1.1))) h
     step false is all h = five_good w a b c d st all.1.0 h
 
 -- ---- lines
 
-not_wrong : (b : Bool) (kind : SessionKind) (r : Reading) (st : Statement) → (if b then wrong kind else r) ≡ says st → (b ≡ false) × (r ≡ says st)
+pub not_wrong : (b : Bool) (kind : SessionKind) (r : Reading) (st : Statement) → (if b then wrong kind else r) ≡ says st → (b ≡ false) × (r ≡ says st)
 not_wrong true kind r st h = cc
 not_wrong false kind r st h = (refl, h)
 
-not_nothing : (b : Bool) (r : Reading) (st : Statement) → (if b then nothing else r) ≡ says st → r ≡ says st
+pub not_nothing : (b : Bool) (r : Reading) (st : Statement) → (if b then nothing else r) ≡ says st → r ≡ says st
 not_nothing true r st h = cc
 not_nothing false r st h = h
 
@@ -332,7 +314,7 @@ counted None ws st h = cc
 counted (Some counts) ws st h =
     let it : (not (is_within (length ws) counts) || has_long ws ≡ false) × (statement_of ws ≡ says st) =
     not_wrong (not (is_within (length ws) counts) || has_long ws) kinds.Count (statement_of ws) st h in
-    words_good ws st (or_right _ _ it.0) it.1
+    words_good ws st (or_parts _ _ it.0).1 it.1
 
 said_by_words : (ws : List (List ℕ)) (st : Statement) → of_words ws ≡ says st → IsStatement st
 said_by_words [] st h = cc

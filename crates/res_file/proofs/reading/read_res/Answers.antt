@@ -2,6 +2,7 @@ use Rattle.std.proofs.Common.{◌≡◌, ℕ, ◌+◌, ◌≤◌, Bool, true, fa
 use Rattle.std.specs.List.{list_any}
 use Rattle.std.specs.HashSet as bag
 use Rattle.std.proofs.lemmas.List.{length-take, length-drop, take_rest}
+use Rattle.std.proofs.lemmas.Bool.{not-false, not-true}
 use Rattle.lx_bytes.specs.LittleEndian.{AreBytes}
 use Rattle.res_file.specs.ItemFields.{FIELDS, type_at, id_at, length_at, item_at, fields_fault}
 use Rattle.res_file.specs.ResFile.{has_key}
@@ -10,14 +11,6 @@ use Rattle.res_file.specs.declared.item.ResItem.{ResItem}
 use Rattle.res_file.specs.declared.refusal.ResRefusal.TheVariants.{Twice}
 use Rattle.res_file.proofs.Progress.{one_more, faulty, fault_of_key, keys_more}
 use Rattle.res_file.proofs.reading.read_res.Goals as goal
-
-not_true : (b : Bool) → not b ≡ true → b ≡ false
-not_true true e = absurd cc
-not_true false e = refl
-
-not_false : (b : Bool) → not b ≡ false → b ≡ true
-not_false true e = refl
-not_false false e = absurd cc
 
 present : (added there : Bool) → added ≡ not there → added ≡ false → there ≡ true
 present true there e f = absurd cc
@@ -44,7 +37,7 @@ returns-then-not-branch c =
     let same_left = take_rest c.args.bytes.now c.items.at in
     let is = subst (λ (l : List ℕ). item ≡ item_at l) same_left c.in-Ok.ensures.item in
     let judged = subst (λ (l : List ℕ). fields_fault c.items.at l ≡ None) same_left c.in-Ok.ensures.judged in
-    let old : c.in_ok-insert.field-0 ≡ false = search (rules, not_true) in
+    let old : c.in_ok-insert.field-0 ≡ false = search (rules, not-true) in
     let there = present c.in_ok-insert.field-0 (bag.contains same c.items.seen (item.ty, item.id)) c.in_ok-insert.ensures.added old in
     let second = key_at items left item true is (sym (c.items.invariant.seen (item.ty, item.id)) ∙ there) in
     faulty c.args.bytes.now c.items.at items (Twice c.items.at) c.items.invariant.read c.items-test.true
@@ -62,7 +55,7 @@ items-preserved c =
     let judged = subst (λ (l : List ℕ). fields_fault at l ≡ None) same_left c.in-Ok.ensures.judged in
     let there = subst (λ (l : List ℕ). FIELDS + length_at l ≤ length l) same_left c.in-Ok.ensures.there in
     let are : AreBytes bytes = λ i. let byte = c.type_inv.bytes i in omega (arith, byte) in
-    let new : c.in_ok-insert.field-0 ≡ true = search (rules, not_false) in
+    let new : c.in_ok-insert.field-0 ≡ true = search (rules, not-false) in
     let none = absent c.in_ok-insert.field-0 (bag.contains same c.items.seen (item.ty, item.id)) c.in_ok-insert.ensures.added new in
     let first = key_at items left item false is (sym (c.items.invariant.seen (item.ty, item.id)) ∙ none) in
     let pushed : c.push.new.self.items ≡ items ++ item ∷ [] = c.in_ok-push.ensures.items ∙ ap (λ (i : ResItem). items ++ i ∷ []) c.in_ok-owned.ensures in

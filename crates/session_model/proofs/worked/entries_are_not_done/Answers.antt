@@ -1,5 +1,6 @@
-use Rattle.std.proofs.Common.{◌≡◌, ℕ, true, false, List, [], ◌∷◌, ◌++◌, map, flat_map, bytes_eq, refl, sym, ◌∙◌, ap}
+use Rattle.std.proofs.Common.{◌≡◌, ℕ, false, List, [], ◌∷◌, ◌++◌, map, flat_map, bytes_eq, refl, sym, ◌∙◌, ap}
 use Rattle.std.proofs.lemmas.Slice.Eq.{bytes_eq-Decides}
+use Rattle.std.proofs.lemmas.Bool.{false≢true}
 use Rattle.load_model.specs.declared.deeds.CallKind.{CallKind}
 use Rattle.load_model.specs.declared.deeds.CallKind.TheVariants as kinds
 use Rattle.load_model.specs.declared.deeds.Deed.{Deed}
@@ -35,11 +36,8 @@ told (deeds.Write serial m object offset bytes) = []
 told (deeds.Debug serial m object offset bytes) = []
 told (deeds.Shared serial m object offset bytes) = []
 
-false_true : false ≡ true → ⊥
-false_true e = cc
-
 differs : (xs ys : List ℕ) → bytes_eq xs ys ≡ false → xs ≡ ys → ⊥
-differs xs ys apart same = false_true (sym apart ∙ (bytes_eq-Decides xs ys).1 same)
+differs xs ys apart same = false≢true (sym apart ∙ (bytes_eq-Decides xs ys).1 same)
 
 pub returns : goal.returns
 unfolding number_of is_library start_of inits_each terms_each order_of unfit entry_spot resource_of objects_of object_at is_invalid Order visit HealthOf Entry followed Res places_from with_process reaches is_reached residence_of attached_residence joined newcomers resident_ranges bases_for placed_from placing after_entering entering_calls failing_module failed_calls enter_deed left gone_modules gone leaving_calls keeping after_leaving bases_seen writes_seen Byte Bytes module_refusal enter_refusal span_refusal residence_named place_refusal query_refusal resource_refusal refusal_of deed_of may_ask after_deed address_of fine_answer answer_of after_steady Step state_after has_fault Legal

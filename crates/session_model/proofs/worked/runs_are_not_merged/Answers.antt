@@ -1,5 +1,6 @@
-use Rattle.std.proofs.Common.{◌≡◌, ◌≤◌, ℕ, true, false, List, [], bytes_eq, refl, sym, ◌∙◌, ap, arith}
+use Rattle.std.proofs.Common.{◌≡◌, ◌≤◌, ℕ, false, List, [], bytes_eq, refl, sym, ◌∙◌, ap, arith}
 use Rattle.std.proofs.lemmas.Slice.Eq.{bytes_eq-Decides}
+use Rattle.std.proofs.lemmas.Bool.{false≢true}
 use Rattle.load_model.specs.declared.commands.Reply.TheVariants as replies
 use Rattle.load_model.specs.Modules.{bases_for, Order, visit, HealthOf, Entry, followed, Res, number_of, is_library, start_of, inits_each, terms_each, order_of, unfit, entry_spot, resource_of, objects_of, object_at, is_invalid}
 use Rattle.base_pick.specs.Places.{places_from}
@@ -15,11 +16,8 @@ use Rattle.load_model.specs.Histories.{state_after, has_fault, Legal}
 use Rattle.session_model.specs.Merging.{merge_of, state_behind}
 use Rattle.session_model.proofs.worked.runs_are_not_merged.Goals as goal
 
-false_true : false ≡ true → ⊥
-false_true e = cc
-
 differs : (xs ys : List ℕ) → bytes_eq xs ys ≡ false → xs ≡ ys → ⊥
-differs xs ys apart same = false_true (sym apart ∙ (bytes_eq-Decides xs ys).1 same)
+differs xs ys apart same = false≢true (sym apart ∙ (bytes_eq-Decides xs ys).1 same)
 
 abbrev peeked : Answer → List ℕ
 peeked (entry deed) = []
