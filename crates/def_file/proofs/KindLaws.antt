@@ -1,6 +1,6 @@
 -- What of the module's kind holds of all that is read, and that statements can give what was read.
 use Rattle.std.proofs.Common.{◌≡◌, ℕ, Bool, true, false, cond, ◌||◌, Option, Some, None, List, map, slice_index_or, is_some, unwrap_or, refl, sym, subst, ap, ◌∙◌}
-use Rattle.std.specs.Prelude.{IfSome}
+use Rattle.std.specs.Prelude.{IfSome, Err, if◌then◌else◌}
 use Rattle.std.specs.List.{All}
 use Rattle.std.specs.Option.{option_map_or}
 use Rattle.std.proofs.lemmas.List.Elements.{All-map}
@@ -16,9 +16,10 @@ use Rattle.def_file.specs.declared.draft.Place.{Place}
 use Rattle.def_file.specs.declared.draft.Place.TheVariants as place
 use Rattle.def_file.specs.declared.draft.Owner.TheVariants as owners
 use Rattle.def_file.specs.declared.draft.Size.TheVariants as sizes
-use Rattle.def_file.specs.Draft.{no_words}
+use Rattle.def_file.specs.declared.refusal.DefKind.TheVariants as kinds
+use Rattle.def_file.specs.Draft.{at, no_words}
 use Rattle.def_file.specs.Attributes.{attrs_with}
-use Rattle.def_file.specs.Statements.{begun_by, is_second}
+use Rattle.def_file.specs.Statements.{begun_by, is_second, keyword_statement}
 use Rattle.obj_types.specs.Defaults.{code_attrs, data_attrs}
 use Rattle.def_file.specs.Meaning.{file_of, segment_of, is_code, is_code_class}
 use Rattle.def_file.specs.Stated.{Stated, StatedSegment}
@@ -60,6 +61,32 @@ begun_kind kw.ResidentName d p is first = absurd cc
 begun_kind kw.NoData d p is first = absurd cc
 begun_kind (kw.Attribute pair on) d p is first = absurd cc
 begun_kind kw.NoEffect d p is first = absurd cc
+
+-- what stands in the file already begins a statement
+pub twice : (k : Keyword) (d : Draft) → is_second d k ≡ true → keyword_statement d k ≡ Err kinds.Twice
+unfolding keyword_statement
+twice kw.Name d is = ap (λ (x : Bool). option_map_or (λ (p : Place). if x then Err kinds.Twice else at d p) (begun_by kw.Name) (Err kinds.Statement)) is
+twice kw.Library d is = ap (λ (x : Bool). option_map_or (λ (p : Place). if x then Err kinds.Twice else at d p) (begun_by kw.Library) (Err kinds.Statement)) is
+twice kw.Description d is = ap (λ (x : Bool). option_map_or (λ (p : Place). if x then Err kinds.Twice else at d p) (begun_by kw.Description) (Err kinds.Statement)) is
+twice kw.Code d is = ap (λ (x : Bool). option_map_or (λ (p : Place). if x then Err kinds.Twice else at d p) (begun_by kw.Code) (Err kinds.Statement)) is
+twice kw.Data d is = ap (λ (x : Bool). option_map_or (λ (p : Place). if x then Err kinds.Twice else at d p) (begun_by kw.Data) (Err kinds.Statement)) is
+twice kw.StackSize d is = ap (λ (x : Bool). option_map_or (λ (p : Place). if x then Err kinds.Twice else at d p) (begun_by kw.StackSize) (Err kinds.Statement)) is
+twice kw.HeapSize d is = ap (λ (x : Bool). option_map_or (λ (p : Place). if x then Err kinds.Twice else at d p) (begun_by kw.HeapSize) (Err kinds.Statement)) is
+twice kw.Base d is = ap (λ (x : Bool). option_map_or (λ (p : Place). if x then Err kinds.Twice else at d p) (begun_by kw.Base) (Err kinds.Statement)) is
+twice kw.Segments d is = absurd cc
+twice kw.Exports d is = absurd cc
+twice kw.Imports d is = absurd cc
+twice kw.ProtMode d is = absurd cc
+twice kw.ExeType d is = absurd cc
+twice kw.Unread d is = absurd cc
+twice kw.Window d is = absurd cc
+twice (kw.Init each) d is = absurd cc
+twice (kw.Term each) d is = absurd cc
+twice kw.Class d is = absurd cc
+twice kw.ResidentName d is = absurd cc
+twice kw.NoData d is = absurd cc
+twice (kw.Attribute pair on) d is = absurd cc
+twice kw.NoEffect d is = absurd cc
 
 pub calls_none : (kind : Option ModKind) (init term : Option Bool) → kind ≡ None → CallsFit kind init term → (init ≡ None) × (term ≡ None)
 calls_none None init term is fits = fits

@@ -1,13 +1,13 @@
 //! EXPORTS.
 
-ghost use Rattle.std.specs.Prelude.{IfOk};
+ghost use Rattle.std.specs.Prelude.{◌≡◌, IfOk};
 ghost use Rattle.def_tokens.specs.Lexemes.{lexeme_of};
 ghost use Rattle.obj_types.specs.Definition.{WholeExport};
 ghost use Rattle.lx_types.specs.Answers.{if_said, Gives};
 ghost use Rattle.def_file.specs.declared.draft.Draft.{Draft};
 ghost use Rattle.def_file.specs.Draft.{reading};
 ghost use Rattle.def_file.specs.Whole.{WholeReading, WholeDraft};
-ghost use Rattle.def_file.specs.Exports.{exports, behind_nodata, behind_resident, behind_ordinal, behind_internal, behind_name, export, internal, ordinal};
+ghost use Rattle.def_file.specs.Exports.{with_export, exports, behind_nodata, behind_resident, behind_ordinal, behind_internal, behind_name, export, internal, ordinal};
 
 use crate::DefKind;
 use crate::draft::{Draft, Part, Place};
@@ -15,7 +15,7 @@ use crate::names::name_of;
 use crate::numbers::within;
 use crate::statements::statement;
 use def_tokens::{Keyword, Token};
-use lx_types::Fail;
+use lx_types::{Fail, NoMemory};
 use obj_types::Exp;
 use std::alloc::Global;
 
@@ -45,8 +45,20 @@ pub fn exports(alloc: Global, draft: &Draft, token: Token<'_>) -> Result<Place, 
     }
 }
 
+// A whole item.
+#[tactic(auto, using(crate::proofs::WholeLaws::all_pushed))]
+fn with_export(draft: &mut Draft, item: Exp) -> Result<(), NoMemory>
+    requires whole { WholeDraft draft.old }
+    requires item { WholeExport item }
+    ensures value { IfOk result (λ _. draft.new ≡ with_export draft.old item) }
+    ensures whole { IfOk result (λ _. WholeDraft draft.new) }
+{
+    draft.exports.push(item)?;
+    Ok(())
+}
+
 // The number of parameter words, or the next item.
-#[tactic(auto, using(crate::proofs::WholeLaws::all_pushed), unfolding(crate::specs::Exports::behind_nodata))]
+#[tactic(auto, unfolding(crate::specs::Exports::behind_nodata))]
 fn behind_nodata(
     alloc: Global,
     draft: &mut Draft,
@@ -61,11 +73,11 @@ fn behind_nodata(
     match token.number() {
         Some(value) => {
             item.words = within(0, 31, value)? as u8;
-            draft.exports.push(item)?;
+            with_export(draft, item)?;
             Ok(Place::Exports)
         }
         None => {
-            draft.exports.push(item)?;
+            with_export(draft, item)?;
             exports(alloc, draft, token)
         }
     }

@@ -65,6 +65,7 @@ pub fn file_of(alloc: Global, draft: Draft) -> Result<DefFile, NoMemory>
 {
     let code = attrs_with(Attrs::CODE, draft.code.unwrap_or(Words::NONE));
     let plain = attrs_with(Attrs::DATA, draft.plain.unwrap_or(Words::NONE));
+    let segs = segments_of(alloc, code, plain, draft.segs)?;
     Ok(DefFile {
         kind: draft.kind.unwrap_or(ModKind::Program),
         name: draft.name,
@@ -76,7 +77,7 @@ pub fn file_of(alloc: Global, draft: Draft) -> Result<DefFile, NoMemory>
         base: draft.base,
         code,
         plain,
-        segs: segments_of(alloc, code, plain, draft.segs)?,
+        segs,
         exports: draft.exports,
         imports: draft.imports,
     })

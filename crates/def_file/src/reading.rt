@@ -78,6 +78,7 @@ fn step(
     ensures whole { IfOk result (λ p. WholeReading (reading draft.new p)) }
 {
     if token.is_stray() {
+        drop(place);
         return Err(Fail::Said(DefKind::Token));
     }
     token_at(alloc, draft, place, token)
@@ -113,6 +114,7 @@ fn rest(
             Err(fail) => return Err(at_line(at.line, fail)),
         };
         if at.token.is_end() {
+            drop(place);
             return Ok(());
         }
     }

@@ -1,8 +1,8 @@
 //! The tokens of the statements, as they are written.
 
-ghost use Rattle.std.specs.Prelude.{◌≡◌, ◌∷◌, ◌++◌, map, IfOk, IfSome};
+ghost use Rattle.std.specs.Prelude.{◌≡◌, ◌++◌, map, IfOk, IfSome};
 ghost use Rattle.lx_types.specs.Names.{IsName};
-ghost use Rattle.def_tokens.specs.Lexemes.{lexeme_of, keyword};
+ghost use Rattle.def_tokens.specs.Lexemes.{lexeme_of};
 ghost use Rattle.def_file.specs.Names.{SegmentNames, ExportNames, EntryName, ImportNames};
 ghost use Rattle.def_file.specs.Writing.{kind_tokens, attribute_tokens, segment_tokens, ordinal_tokens, flag_tokens, words_tokens, export_tokens, entry_token, import_tokens};
 

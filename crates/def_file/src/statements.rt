@@ -65,19 +65,17 @@ fn is_second(draft: &Draft, keyword: Keyword) -> bool
     }
 }
 
-#[tactic(auto, using(crate::proofs::KindLaws::begun_kind), unfolding(crate::specs::Statements::keyword_statement))]
+#[tactic(auto, using(crate::proofs::KindLaws::begun_kind, crate::proofs::KindLaws::twice), unfolding(crate::specs::Statements::keyword_statement))]
 fn keyword_statement(draft: &Draft, keyword: Keyword) -> Result<Place, Fail<DefKind>>
     requires { WholeDraft draft.now }
     ensures value { Gives (reading draft.now) if_said result (keyword_statement draft.now keyword) }
     ensures whole { IfOk result (λ p. WholeReading (reading draft.now p)) }
 {
+    if is_second(draft, keyword) {
+        return Err(Fail::Said(DefKind::Twice));
+    }
     match begun_by(keyword) {
-        Some(place) => {
-            if is_second(draft, keyword) {
-                return Err(Fail::Said(DefKind::Twice));
-            }
-            Ok(place)
-        }
+        Some(place) => Ok(place),
         None => Err(Fail::Said(DefKind::Statement)),
     }
 }
