@@ -4,3 +4,4 @@ pub mod Mapping
 pub mod Copies
 pub mod Writes
 pub mod Placing
+pub mod StayFinders

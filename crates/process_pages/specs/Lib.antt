@@ -1,3 +1,4 @@
 pub mod PageRows
 pub mod Stays
 pub mod Reading
+pub mod StayFinders

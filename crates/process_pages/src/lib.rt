@@ -5,6 +5,7 @@ mod freeing;
 mod own_page;
 mod page_rows;
 mod reading;
+mod stay_finder;
 mod stays;
 mod writing;
 
@@ -12,5 +13,6 @@ pub use freeing::{keep_places, keep_reached};
 pub use own_page::OwnPage;
 pub use page_rows::PageRows;
 pub use reading::copy_out;
+pub use stay_finder::StayFinder;
 pub use stays::{Stay, stay_place};
 pub use writing::put_all;

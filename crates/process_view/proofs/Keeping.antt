@@ -16,6 +16,7 @@ use Rattle.process_pages.specs.Stays.{residence_in, residences_in, IsPlaced, Are
 use Rattle.process_view.specs.Deeds.{with_stay}
 use Rattle.process_pages.specs.declared.stays.Stay.{Stay}
 use Rattle.process_pages.proofs.Mapping.{not_placed}
+use Rattle.process_pages.proofs.StayFinders.{one_more}
 use Rattle.process_view.proofs.Mapping.{view_made}
 
 pairs_push : {X : Type 0} (R : X → X → Type 0) (xs : List X) (y : X) → AllPairs R xs → All (λ x. R x y) xs → AllPairs R (xs ++ y ∷ [])
@@ -23,10 +24,6 @@ pairs_push R [] y h all = λ i j d below within. absurd (omega (arith, below, wi
 pairs_push R (x ∷ xs) y h all =
     AllPairs-cons R x (xs ++ y ∷ []) (All-push (R x) xs y (λ j d u. h zero (suc j) d (omega arith) (omega (arith, u))) (all zero x (omega arith)))
     (pairs_push R xs y (λ i j d below within. h (suc i) (suc j) d (omega (arith, below)) (omega (arith, within))) (λ k d u. all (suc k) d (omega (arith, u))))
-
-pub one_more : (stays : List Stay) (s : Stay) → residences_in (stays ++ s ∷ []) ≡ residences_in stays ++ residence_in s ∷ []
-one_more [] s = refl
-one_more (x ∷ xs) s = ap (λ rs. residence_in x ∷ rs) (one_more xs s)
 
 pub placed_none : (lib : List Parts) (mapped : List Mapped) (s : Stay) → (residence_in s).«module» < length lib → HaveNone (module_of lib (residence_in s).«module») s.places →
     ((p : PageId) → has_page (map (λ x. x.of) mapped) (residence_in s).serial p ≡ false) → IsPlaced lib mapped s

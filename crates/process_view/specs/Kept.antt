@@ -4,6 +4,7 @@ use Rattle.std.specs.Arc.{arc_value}
 use Rattle.load_model.specs.State.{pids, is_among}
 use Rattle.process_view.specs.ProcessViews.{ProcessView, fresh_shown}
 use Rattle.process_pages.specs.Stays.{residences_in, IsPlaced, AreApart}
+use Rattle.process_pages.specs.StayFinders.{AreRight}
 use Rattle.process_view.specs.declared.view.View.TheInside.{Inside}
 
 abbrev pub view_of : Inside → ProcessView
@@ -16,10 +17,11 @@ view_of v = record {
   stay_room = vec_capacity v.stays - vec_len v.stays;
 }
 
--- The process is one of 16, both counts are by module, and all its residences are placed.
+-- The process is one of 16, both counts are by module, all its residences are placed, and they are found where they stand.
 pub record Keeps (v : Inside) : Type 0 where
   pub process : is_among pids v.pid ≡ true
   pub loads : length v.holder.loads ≡ length (arc_value v.lib)
   pub reached : length v.holder.reached ≡ length (arc_value v.lib)
   pub placed : All (IsPlaced (arc_value v.lib) v.pages.items) v.stays.items
   pub apart : AreApart (residences_in v.stays.items)
+  pub found : AreRight v.finder (residences_in v.stays.items)

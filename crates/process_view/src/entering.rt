@@ -24,6 +24,7 @@ impl View {
         requires apart { All (λ r. r.serial ≡ (arc_value residence).serial → ⊥) self.old.residences }
         ensures { self.new ≡ with_stay (arc_value residence) self.old }
     {
+        self.finder.join(residence.module(), self.stays.len());
         self.stays.push_reserved(Stay { residence, places });
     }
 }

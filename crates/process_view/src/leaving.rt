@@ -8,7 +8,7 @@ ghost use Rattle.load_model.specs.Rows.{IsRowOf};
 ghost use Rattle.process_view.specs.ProcessViews.{freed_view};
 
 use crate::view::View;
-use process_pages::{keep_places, keep_reached};
+use process_pages::{StayFinder, keep_places, keep_reached};
 
 impl View {
     // Keeps nothing: no load, no residence, no page.
@@ -26,6 +26,7 @@ impl View {
     {
         self.holder.exit();
         self.stays.clear();
+        self.finder = StayFinder::none();
         self.pages.clear();
         self.ended = true;
     }
@@ -45,5 +46,6 @@ impl View {
         self.holder.free(self.lib.order(m), m);
         keep_reached(&mut self.stays, self.lib.len(), &self.holder);
         keep_places(self.stays.as_mut_slice(), &mut self.pages);
+        self.finder = StayFinder::of(self.stays.as_slice());
     }
 }

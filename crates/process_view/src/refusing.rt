@@ -18,7 +18,7 @@ use hold_rows::Holder;
 use load_model::{How, Place, Refusal};
 use lx_types::{Name, PageId};
 use mod_graph::{Health, Library};
-use process_pages::{PageRows, stay_place};
+use process_pages::PageRows;
 
 /// How many loads of one module a process may hold.
 const MOST_LOADS: u32 = 65535;
@@ -114,7 +114,7 @@ impl View {
         ensures { MatchOption result (stay_named self.now.library self.now.holding name.now ≡ None) (IsStayNamed self.now name.now) }
     {
         let m = self.hints.find(&self.lib, name)?;
-        stay_place(&self.stays, m)
+        self.finder.find(&self.stays, m)
     }
 
     /// The module that a start or a load asks for by name, or why the view refuses it.

@@ -9,7 +9,7 @@ use crate::name_hints::NameHints;
 use hold_rows::Holder;
 use load_core::Board;
 use mod_graph::Library;
-use process_pages::{OwnPage, Stay};
+use process_pages::{OwnPage, Stay, StayFinder};
 use std::alloc::Global;
 use std::marker::Model;
 use std::sync::Arc;
@@ -24,6 +24,7 @@ pub struct View {
     pub(crate) ended: bool,
     pub(crate) holder: Holder,
     pub(crate) stays: Vec<Stay>,
+    pub(crate) finder: StayFinder,
     pub(crate) pages: Vec<OwnPage>,
     pub(crate) front: u64,
 }
@@ -54,6 +55,7 @@ impl View {
             ended: false,
             holder,
             stays: Vec::new(alloc),
+            finder: StayFinder::none(),
             pages: Vec::new(alloc),
             front: 0,
         }

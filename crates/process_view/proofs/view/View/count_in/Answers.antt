@@ -20,7 +20,7 @@ invariant_of-self c =
     let R : ProcessView → Type 0 = λ v. IsRowOf v.library p v.holding.row in
     let lib = arc_value c.self.inside.lib in
     let next = c.start.ensures lib p (subst R (sym c.self.view_is) c.requires.row) (order_named lib c.args.m c.order.result.now (c.order.ensures ∙ ap (λ l. Order l c.args.m) c.deref.ensures)) in
-    record { process = c.self.invariant.process; loads = next.loads_are; reached = next.reached_are; placed = c.self.invariant.placed; apart = c.self.invariant.apart }
+    record { process = c.self.invariant.process; loads = next.loads_are; reached = next.reached_are; placed = c.self.invariant.placed; apart = c.self.invariant.apart; found = c.self.invariant.found }
 
 pub returns-in-Start-clause-row : goal.returns-in-Start-clause-row
 returns-in-Start-clause-row c = λ p rows.
@@ -42,7 +42,7 @@ invariant_of-self-in-Load c =
     let R : ProcessView → Type 0 = λ v. IsRowOf v.library p v.holding.row in
     let lib = arc_value c.self.inside.lib in
     let next = c.load.ensures lib p (subst R (sym c.self.view_is) c.requires.row) (order_named lib c.args.m c.order-in-Load.result.now (c.order-in-Load.ensures ∙ ap (λ l. Order l c.args.m) c.deref-in-Load.ensures)) in
-    record { process = c.self.invariant.process; loads = next.loads_are; reached = next.reached_are; placed = c.self.invariant.placed; apart = c.self.invariant.apart }
+    record { process = c.self.invariant.process; loads = next.loads_are; reached = next.reached_are; placed = c.self.invariant.placed; apart = c.self.invariant.apart; found = c.self.invariant.found }
 
 pub returns-in-Load-clause-row : goal.returns-in-Load-clause-row
 returns-in-Load-clause-row c = λ p rows.

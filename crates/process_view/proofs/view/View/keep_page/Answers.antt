@@ -18,6 +18,7 @@ use Rattle.process_pages.specs.Stays.{page_with}
 use Rattle.process_view.specs.Deeds.{with_page}
 use Rattle.process_view.specs.Kept.{view_of}
 use Rattle.process_pages.specs.Stays.{residence_in, residences_in, IsPlaced, AreApart}
+use Rattle.process_pages.specs.StayFinders.{AreRight}
 use Rattle.process_pages.specs.declared.stays.Stay.{Stay}
 use Rattle.process_pages.proofs.Mapping.{not_placed, placed_with, residences_set}
 use Rattle.process_view.proofs.Mapping.{page_kept}
@@ -98,12 +99,14 @@ invariant_of-self c =
     let all = placed_with lib pages stays c.args.k s t p bytes c.self.invariant.placed c.self.invariant.apart within at refl rows here.0 here.1 none in
     let M : List Mapped → Type 0 = λ ms. All (IsPlaced lib ms) (set stays c.args.k t) in
     let S : List ResidenceFor → Type 0 = AreApart in
+    let F : List ResidenceFor → Type 0 = AreRight c.self.inside.finder in
     record {
       process = c.self.invariant.process;
       loads = c.self.invariant.loads;
       reached = c.self.invariant.reached;
       placed = subst M (sym more) all;
       apart = subst S (sym residences) c.self.invariant.apart;
+      found = subst F (sym residences) c.self.invariant.found;
     }
 
 pub returns : goal.returns

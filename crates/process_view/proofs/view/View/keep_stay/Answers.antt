@@ -1,4 +1,5 @@
-use Rattle.std.proofs.Common.{◌≡◌, ◌<◌, List, length, false, sym, subst}
+use Rattle.std.proofs.Common.{◌≡◌, ◌∙◌, ◌<◌, List, length, false, sym, ap, subst}
+use Rattle.std.proofs.lemmas.List.{length-map}
 use Rattle.std.specs.Prelude.{All}
 use Rattle.std.specs.Arc.{arc_value}
 use Rattle.std.proofs.lemmas.List.Elements.{All-push}
@@ -8,8 +9,11 @@ use Rattle.load_model.specs.Standing.{mapped_pages}
 use Rattle.load_model.specs.Touched.{has_page}
 use Rattle.process_pages.specs.PageRows.{HaveNone}
 use Rattle.process_view.specs.ProcessViews.{ProcessView}
-use Rattle.process_pages.specs.Stays.{residences_in, IsPlaced, AreApart}
+use Rattle.page_frames.specs.Residences.{ResidenceFor}
+use Rattle.process_pages.specs.Stays.{residence_in, residences_in, IsPlaced, AreApart}
+use Rattle.process_pages.specs.StayFinders.{AreRight}
 use Rattle.process_pages.specs.declared.stays.Stay.{Stay}
+use Rattle.process_pages.proofs.StayFinders.{one_more}
 use Rattle.process_view.proofs.Keeping.{placed_none, apart_more}
 use Rattle.process_view.proofs.view.View.keep_stay.Goals as goal
 
@@ -28,10 +32,16 @@ invariant_of-self c =
     let apart = apart_more stays s c.self.invariant.apart (subst A (sym c.self.view_is) c.requires.apart) in
     let P : List Stay → Type 0 = λ xs. All (IsPlaced lib pages) xs in
     let Q : List Stay → Type 0 = λ xs. AreApart (residences_in xs) in
+    let F : List Stay → Type 0 = λ xs. AreRight c.join.new.self (residences_in xs) in
+    let G : List ResidenceFor → Type 0 = AreRight c.join.new.self in
+    let number : r.«module» ≡ c.module.result = sym (c.module.ensures.number ∙ ap (λ (q : ResidenceFor). q.«module») c.deref.ensures) in
+    let long : length (residences_in stays) ≡ c.len.result = length-map stays residence_in ∙ sym (c.len.ensures ∙ c.self.inside.stays.ok.0) in
+    let found = c.join.ensures r (residences_in stays) number long c.self.invariant.found in
     record {
       process = c.self.invariant.process;
       loads = c.self.invariant.loads;
       reached = c.self.invariant.reached;
       placed = subst P (sym c.push_reserved.ensures.items) (All-push (IsPlaced lib pages) stays s c.self.invariant.placed placed);
       apart = subst Q (sym c.push_reserved.ensures.items) apart;
+      found = subst F (sym c.push_reserved.ensures.items) (subst G (sym (one_more stays s)) found);
     }

@@ -1,9 +1,11 @@
-use Rattle.std.proofs.Common.{[], sym, subst}
+use Rattle.std.proofs.Common.{[], List, sym, subst}
 use Rattle.std.specs.Arc.{arc_value}
 use Rattle.load_model.specs.State.{nothing_yet}
 use Rattle.load_model.specs.Rows.{IsRowOf}
 use Rattle.process_view.specs.ProcessViews.{ProcessView}
-use Rattle.process_pages.specs.Stays.{IsPlaced}
+use Rattle.process_pages.specs.Stays.{residences_in, IsPlaced}
+use Rattle.process_pages.specs.StayFinders.{AreRight}
+use Rattle.process_pages.specs.declared.stays.Stay.{Stay}
 use Rattle.process_view.proofs.Left.{all_nothing, apart_nothing}
 use Rattle.process_view.proofs.view.View.leave_all.Goals as goal
 
@@ -13,10 +15,12 @@ invariant_of-self c =
     let R : ProcessView → Type 0 = λ v. IsRowOf v.library p v.holding.row in
     let row = subst R (sym c.self.view_is) c.requires.1 in
     let next = c.exit.ensures (arc_value c.self.inside.lib) p (nothing_yet []) row in
+    let F : List Stay → Type 0 = λ xs. AreRight c.none-self-inside.result (residences_in xs) in
     record {
       process = c.self.invariant.process;
       loads = next.loads_are;
       reached = next.reached_are;
       placed = all_nothing (IsPlaced (arc_value c.self.inside.lib) c.clear-2.new.self.items) c.clear.new.self.items c.clear.ensures.items;
       apart = apart_nothing c.clear.new.self.items c.clear.ensures.items;
+      found = subst F (sym c.clear.ensures.items) c.none-self-inside.ensures;
     }

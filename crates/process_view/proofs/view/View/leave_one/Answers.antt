@@ -14,6 +14,7 @@ use Rattle.process_view.specs.ProcessViews.{ProcessView, freed_view}
 use Rattle.process_pages.specs.Stays.{pages_with}
 use Rattle.process_view.specs.Kept.{view_of}
 use Rattle.process_pages.specs.Stays.{residence_in, residences_in, IsPlaced, AreApart}
+use Rattle.process_pages.specs.StayFinders.{AreRight}
 use Rattle.process_pages.specs.declared.stays.Stay.{Stay}
 use Rattle.process_view.proofs.Mapping.{view_made}
 use Rattle.process_pages.proofs.Placing.{kept_residences, kept_pages, reach_kept}
@@ -65,7 +66,7 @@ invariant_of-self c =
     let B : List ResidenceFor → Type 0 = λ rs. AreApart rs in
     let long : c.len.result ≡ length lib = c.len.ensures.count ∙ ap (λ (l : Library). length l) c.deref-2.ensures in
     let passes : ℕ → Bool = λ k. reaches lib (keeping lib (nothing_yet []) (freeing c.args.m p)) k in
-    let F : List Stay → Type 0 = λ ss. AreApart (residences_in ss) in
+    let F : List Stay → Type 0 = λ ss. AreRight c.of-self-inside.result (residences_in ss) in
     let same : residences_in (filter test stays) ≡ filter (λ (r : ResidenceFor). passes r.«module») (residences_in stays) =
     ap (λ (n : ℕ). residences_in (filter (λ (s : Stay). nat_lt (residence_in s).«module» n && passes (residence_in s).«module») stays)) long
     ∙ kept_residences lib pages passes stays (recursion_from_All (IsPlaced lib pages) stays c.self.invariant.placed)
@@ -85,6 +86,7 @@ invariant_of-self c =
       reached = next.reached_are;
       placed = subst W (sym whole) (c.keep_places.ensures.placed lib old (subst P (sym kept) (All-filter test (IsPlaced lib pages) stays c.self.invariant.placed)));
       apart = subst A (sym whole) (subst B (sym c.keep_places.ensures.residences) old);
+      found = subst F c.as_slice.ensures.value c.of-self-inside.ensures;
     }
 
 pub returns-clause-row : goal.returns-clause-row

@@ -28,6 +28,7 @@ invariant_of-self c =
       reached = c.self.invariant.reached;
       placed = subst M (sym items) (placed_written (arc_value c.self.inside.lib) pages.items c.args.serial c.args.write.now c.self.inside.stays.items c.self.invariant.placed);
       apart = c.self.invariant.apart;
+      found = c.self.invariant.found;
     }
 
 pub returns : goal.returns

@@ -29,9 +29,9 @@ returns c =
     let w = view_of c.self.inside in
     let name = c.args.name.now in
     let e : number_of w.library name ≡ Some c.in_ok-m.m = ap (λ (lib : List Parts). module_named lib name) (sym c.deref.ensures) ∙ sym c.find.ensures.number ∙ c.in_ok-m.was in
-    let p : c.stay_place.result ≡ position (λ (r : ResidenceFor). r.«module» == c.in_ok-m.m) w.residences =
-    c.stay_place.ensures ∙ ap (λ (ss : List Stay). position (λ (s : Stay). (residence_in s).«module» == c.in_ok-m.m) ss) c.deref-2.ensures.value
+    let p : c.find-2.result ≡ position (λ (r : ResidenceFor). r.«module» == c.in_ok-m.m) w.residences =
+    c.find-2.ensures ∙ ap (λ (ss : List Stay). position (λ (s : Stay). (residence_in s).«module» == c.in_ok-m.m) ss) c.deref-2.ensures.value
     ∙ sym (position_map (λ (r : ResidenceFor). r.«module» == c.in_ok-m.m) residence_in c.self.inside.stays.items)
     in
-    let P : ProcessView → Type 0 = λ v. MatchOption c.stay_place.result (stay_named v.library v.holding name ≡ None) (IsStayNamed v name) in
-    subst P c.self.view_is (named_by_place w name c.in_ok-m.m c.stay_place.result (record { stays = refl }) e p)
+    let P : ProcessView → Type 0 = λ v. MatchOption c.find-2.result (stay_named v.library v.holding name ≡ None) (IsStayNamed v name) in
+    subst P c.self.view_is (named_by_place w name c.in_ok-m.m c.find-2.result (record { stays = refl }) e p)
