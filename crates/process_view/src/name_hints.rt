@@ -6,19 +6,23 @@ ghost use Rattle.lx_model.specs.Library.{has_name, module_named, module_of};
 use lx_types::Name;
 use mod_graph::Library;
 
-/// How many hints there are, one for each key.
+/// How many hints there are.
 const HINTS: usize = 256;
 
-/// For each key of a name the number of a module that has such a name: where to look first. Nothing rests on it.
+/// How many hints a name has: the one of its key, and those behind it.
+const TRIES: usize = 4;
+
+/// The number of a module at the key of its name, or at the next place that was free: where to look first. Nothing rests on
+/// it.
 #[derive(Drop)]
 pub struct NameHints {
-    modules: [u8; HINTS],
+    modules: [Option<u8>; HINTS],
 }
 
 // The letter so many places before the end of a name, in lower case, and 0 where there is none.
 fn letter(name: &[u8], back: usize) -> u8 {
     match name.get(name.len().wrapping_sub(back)) {
-        Some(byte) => *byte | 0x20,
+        Some(byte) => byte.to_ascii_lowercase(),
         None => 0,
     }
 }
@@ -52,25 +56,32 @@ fn is_meant(lib: &Library, m: u32, name: &Name) -> bool
 impl NameHints {
     /// The hints of a library's modules.
     pub fn of(lib: &Library) -> NameHints {
-        let mut modules = [0; HINTS];
+        let mut modules = [None; HINTS];
         for m in 0..lib.len() {
-            if let Some(hint) = modules.get_mut(key(lib.module(m).name())) {
-                *hint = (m % 256) as u8;
+            let key = key(lib.module(m).name());
+            for back in 0..TRIES {
+                let place = key.wrapping_add(back) % HINTS;
+                if modules[place].is_none() {
+                    modules[place] = Some((m % 256) as u8);
+                    break;
+                }
             }
         }
         NameHints { modules }
     }
 
-    // The module that a name means, where its hint finds it.
+    // The module that a name means, where one of its hints finds it.
     fn hinted(&self, lib: &Library, name: &Name) -> Option<u32>
         ensures { IfSome result (λ m. (module_named lib.now name.now ≡ Some m) × (m < length lib.now)) }
     {
-        let m = u32::from(*self.modules.get(key(name))?);
-        if m < lib.len() && is_meant(lib, m, name) {
-            Some(m)
-        } else {
-            None
+        let key = key(name);
+        for back in 0..TRIES {
+            let m = u32::from(self.modules[key.wrapping_add(back) % HINTS]?);
+            if m < lib.len() && is_meant(lib, m, name) {
+                return Some(m);
+            }
         }
+        None
     }
 
     /// The module that a name means. One whose hint finds it is found without a look at the others.
