@@ -6,6 +6,7 @@ use Rattle.std.proofs.lemmas.Bool.{cases_eq, cases_lt, eq-eqb}
 use Rattle.std.proofs.lemmas.List.{get_or_past}
 use Rattle.std.proofs.lemmas.List.Elements.{All-head, All-filter, filter_passes}
 use Rattle.std.proofs.lemmas.List.Sums.{count_by-le-length}
+use Rattle.std.proofs.Math.Bool.{or-true}
 use Rattle.load_model.specs.Modules.{order_of}
 use Rattle.load_model.specs.State.{is_among, roots}
 use Rattle.hold_rows.specs.Counts.{one_if}
@@ -14,14 +15,10 @@ use Rattle.hold_rows.proofs.RowLaws.{count_cons, without_count}
 
 -- ---- what is held is counted
 
-or_true : (b : Bool) → b || true ≡ true
-or_true true = refl
-or_true false = refl
-
 among_own : (xs : List ℕ) (x i d : ℕ) → i < length xs → x ≡ get_or xs i d → is_among xs x ≡ true
 among_own [] x i d h e = absurd (omega (arith, h))
 among_own (y ∷ ys) x zero d h e = ap (λ b. b || list_any (λ other. other == x) ys) (eq-eqb y x (sym e))
-among_own (y ∷ ys) x (suc j) d h e = ap (λ b. (y == x) || b) (among_own ys x j d (omega (arith, h)) e) ∙ or_true (y == x)
+among_own (y ∷ ys) x (suc j) d h e = ap (λ b. (y == x) || b) (among_own ys x j d (omega (arith, h)) e) ∙ or-true (y == x)
 
 roots_count : (f : ℕ → Bool) (s : Option ℕ) (xs : List ℕ) → count_by f xs ≤ count_by f (option_to_list s ++ xs)
 roots_count f None xs = omega arith

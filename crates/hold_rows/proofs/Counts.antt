@@ -1,5 +1,5 @@
 -- Counts of the modules of an order, one more at a time.
-use Rattle.std.proofs.Common.{◌≡◌, ℕ, ◌+◌, ◌<◌, ◌==◌, Bool, true, false, cond, ◌||◌, inl, inr, List, [], ◌∷◌, ◌++◌, length, get_or, set, take, refl, sym, ◌∙◌, ap, subst, arith, append_assoc, get_or-set_same, get_or-set_other, ◌-◌, zero, suc}
+use Rattle.std.proofs.Common.{◌≡◌, ℕ, ◌+◌, ◌<◌, ◌==◌, Bool, true, false, cond, ◌||◌, inl, inr, List, [], ◌∷◌, ◌++◌, length, get_or, set, take, sym, ◌∙◌, ap, subst, arith, append_assoc, get_or-set_same, get_or-set_other, ◌-◌, zero, suc}
 use Rattle.std.specs.Prelude.{All, filter, eqb, nat_lt}
 use Rattle.std.specs.List.{list_any}
 use Rattle.std.proofs.lemmas.Bool.{cases_eq, eq-eqb, ne_eqb}
@@ -15,16 +15,13 @@ use Rattle.std.proofs.lemmas.Map.Made.{IsDistinct-from_AllPairs}
 use Rattle.std.proofs.lemmas.Map.Steps.{length-le_from_distinct_below}
 use Rattle.std.proofs.lemmas.List.{get_or_append_left, length-append}
 use Rattle.std.proofs.Math.Seq.{get_or-append_seam}
+use Rattle.std.proofs.Math.Bool.{or-false}
 use Rattle.hold_rows.specs.Counts.{one_if, AreApart, AreAttached}
-
-or_nil : (b : Bool) → b || false ≡ b
-or_nil true = refl
-or_nil false = refl
 
 among_more : (order : List ℕ) (i k : ℕ) → i < length order → is_among (take (i + 1) order) k ≡ is_among (take i order) k || (get_or order i 0 == k)
 among_more order i k h =
     ap (λ ys. is_among ys k) (take_more order i 0 h) ∙ list_any-append (λ other. other == k) (take i order) (get_or order i 0 ∷ [])
-    ∙ ap (λ b. is_among (take i order) k || b) (or_nil (get_or order i 0 == k))
+    ∙ ap (λ b. is_among (take i order) k || b) (or-false (get_or order i 0 == k))
 
 -- a module of an order is not among those before it
 pub not_before : (order : List ℕ) (i : ℕ) → AreApart order → i < length order → is_among (take i order) (get_or order i 0) ≡ false

@@ -1,7 +1,6 @@
 -- What a root more does to a row.
-use Rattle.std.proofs.Common.{◌≡◌, ℕ, zero, suc, ◌+◌, ◌<◌, ◌==◌, Bool, true, false, not, ◌||◌, cond, inl, inr, List, [], ◌∷◌, ◌++◌, length, get_or, set, Option, Some, None, option_to_list, refl, sym, ◌∙◌, ap, arith, length-set, get_or-set_same, get_or-set_other, ◌-◌}
+use Rattle.std.proofs.Common.{◌≡◌, ℕ, zero, suc, ◌+◌, ◌<◌, ◌==◌, Bool, true, false, not, cond, inl, inr, List, [], ◌∷◌, ◌++◌, length, get_or, set, Option, Some, None, option_to_list, refl, sym, ◌∙◌, ap, arith, length-set, get_or-set_same, get_or-set_other, ◌-◌}
 use Rattle.std.specs.Prelude.{nat_lt, All, filter, count_by, reverse, reverse}
-use Rattle.std.specs.List.{list_any}
 use Rattle.std.proofs.lemmas.Bool.{cases_eq, eq-eqb, ne_eqb, lt-ltb}
 use Rattle.std.proofs.lemmas.List.Elements.{All-head, All-tail}
 use Rattle.std.proofs.lemmas.List.Sums.{sum_by-cons}
@@ -9,20 +8,13 @@ use Rattle.load_model.specs.Modules.{Library, order_of}
 use Rattle.load_model.specs.State.{Process, is_among, roots, reaches, Eager, new_process}
 use Rattle.load_model.specs.Leaving.{without_one, freeing, exiting, left, keeping}
 use Rattle.load_model.specs.Rows.{Row, IsRowOf, unreached, reach_count}
+use Rattle.load_model.proofs.Residents.{any_counts}
 use Rattle.hold_rows.specs.Counts.{one_if, AreCounted}
 
 -- ---- counts and tests
 
 pub count_cons : {X : Type 0} (f : X → Bool) (x : X) (xs : List X) → count_by f (x ∷ xs) ≡ one_if (f x) + count_by f xs
 count_cons f x xs = sum_by-cons (λ y. cond (f y) 1 0) x xs
-
-any_counts : {X : Type 0} (f : X → Bool) (xs : List X) → list_any f xs ≡ nat_lt 0 (count_by f xs)
-any_counts f [] = refl
-any_counts f (x ∷ xs) = ap (λ b. f x || b) (any_counts f xs) ∙ by_test (f x) (count_by f xs) ∙ ap (nat_lt 0) (sym (count_cons f x xs))
-  where
-    by_test : (b : Bool) (n : ℕ) → b || nat_lt 0 n ≡ nat_lt 0 (one_if b + n)
-    by_test true n = (let more : 0 < 1 + n = omega arith in sym (lt-ltb 0 (1 + n) more))
-    by_test false n = (let same : 0 + n ≡ n = omega arith in ap (nat_lt 0) (sym same))
 
 none_is : (n : ℕ) → (n == 0) ≡ not (nat_lt 0 n)
 none_is zero = refl

@@ -22,7 +22,7 @@ pub LibraryFault-few : (mods : List Parts) → length mods ≤ 64 → LibraryFau
 unfolding LibraryFault
 LibraryFault-few mods few = rw (le-ltb 64 (length mods) few) refl
 
-never_some : {A : Type 0} (x : A) → Some x ≡ None → ⊥
+pub never_some : {A : Type 0} (x : A) → Some x ≡ None → ⊥
 never_some x is = cc
 
 pub few_accepted : (mods : List Parts) → LibraryFault mods ≡ None → length mods ≤ 64

@@ -35,10 +35,6 @@ pub table_more : {A : Type 0} (f : ℕ → A) (xs ys : List A) (y : A) (n : ℕ)
 table_more f xs ys y n table last more =
     more ∙ ap (λ zs. zs ++ y ∷ []) table ∙ ap (λ z. map f (range_with_len 0 n) ++ z ∷ []) last ∙ sym (map-range_with_len_more f 0 n n (omega arith))
 
-pub map_same : {A B : Type 0} (f g : A → B) → ((x : A) → f x ≡ g x) → (xs : List A) → map f xs ≡ map g xs
-map_same f g same [] = refl
-map_same f g same (x ∷ xs) = ap (λ y. y ∷ map f xs) (same x) ∙ ap (λ ys. g x ∷ ys) (map_same f g same xs)
-
 pub map_same_within : {A B : Type 0} (f g : A → B) (xs : List A) → ((k : ℕ) (d : A) → k < length xs → f (get_or xs k d) ≡ g (get_or xs k d)) → map f xs ≡ map g xs
 map_same_within f g [] same = refl
 map_same_within f g (x ∷ xs) same =

@@ -5,6 +5,7 @@ use Rattle.std.proofs.lemmas.Slice.Eq.{bytes_eq-Decides}
 use Rattle.std.specs.Map.{lookup}
 use Rattle.indexmap.specs.IndexMap.{insert_entry}
 use Rattle.lx_types.specs.Parts.{ordinal_named}
+use Rattle.lx_types.proofs.Bools.{same_test}
 
 -- an index' entries by the bytes of their names
 abbrev pub shown : {K : Type 0} → (K → List ℕ) → List (K × ℕ) → List (List ℕ × ℕ)
@@ -39,15 +40,9 @@ never_both false false x y z apart = refl
 
 -- ---- bytes are compared either way round
 
-same_Bool : (b c : Bool) → (b ≡ true → c ≡ true) → (c ≡ true → b ≡ true) → b ≡ c
-same_Bool true true to from = refl
-same_Bool false false to from = refl
-same_Bool true false to from = sym (to refl)
-same_Bool false true to from = from refl
-
 pub bytes_eq-sym : (xs ys : List ℕ) → bytes_eq xs ys ≡ bytes_eq ys xs
 bytes_eq-sym xs ys =
-    same_Bool (bytes_eq xs ys) (bytes_eq ys xs)
+    same_test (bytes_eq xs ys) (bytes_eq ys xs)
     (λ e. (bytes_eq-Decides ys xs).1 (sym ((bytes_eq-Decides xs ys).0 e)))
     (λ e. (bytes_eq-Decides xs ys).1 (sym ((bytes_eq-Decides ys xs).0 e)))
 

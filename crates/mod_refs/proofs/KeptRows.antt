@@ -1,7 +1,7 @@
 -- What the row of a process keeps through a load and a free, and what its counts allow.
 use Rattle.std.proofs.Common.{◌≡◌, ℕ, ◌+◌, ◌-◌, ◌<◌, ◌≤◌, ◌==◌, Bool, true, false, not, cond, inl, inr, List, [], ◌∷◌, ◌++◌, length, get_or, refl, sym, ◌∙◌, ap, subst, arith}
 use Rattle.std.specs.Prelude.{All, Contains, filter, count_by, reverse}
-use Rattle.std.proofs.lemmas.Bool.{cases_eq, eq-eqb, ne_eqb}
+use Rattle.std.proofs.lemmas.Bool.{cases_eq, eq-eqb, ne_eqb, not-true}
 use Rattle.std.proofs.lemmas.List.{get_or_default, get_or-reverse, length-reverse}
 use Rattle.std.proofs.lemmas.List.Elements.{All-nil, All-cons, All-head, All-tail, All-append, All-filter, All-same, Contains-get_or, filter_passes}
 use Rattle.lx_model.specs.Laws.{OrderIsInLibrary}
@@ -177,13 +177,9 @@ unfolding left
 left_within lib p within =
     All-reverse (λ k. k < length lib) (filter (λ k. not (reaches lib p k)) p.attached) (All-filter (λ k. not (reaches lib p k)) (λ k. k < length lib) p.attached within)
 
-not_true : (b : Bool) → not b ≡ true → b ≡ false
-not_true true e = sym e
-not_true false e = refl
-
 -- what leaves is not reached
 pub left_unreached : (lib : Library) (p : Process) → All (λ k. reaches lib p k ≡ false) (left lib p)
 unfolding left
 left_unreached lib p =
     All-reverse (λ k. reaches lib p k ≡ false) (filter (λ k. not (reaches lib p k)) p.attached)
-    (λ i d h. not_true (reaches lib p (get_or (filter (λ k. not (reaches lib p k)) p.attached) i d)) (filter_passes (λ k. not (reaches lib p k)) p.attached i d h))
+    (λ i d h. not-true (reaches lib p (get_or (filter (λ k. not (reaches lib p k)) p.attached) i d)) (filter_passes (λ k. not (reaches lib p k)) p.attached i d h))

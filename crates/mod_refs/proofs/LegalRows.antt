@@ -1,10 +1,11 @@
 -- The rows of a legal history.
-use Rattle.std.proofs.Common.{◌≡◌, ℕ, ◌<◌, ◌≤◌, ◌==◌, ◌∷◌, [], ◌||◌, Bool, true, false, List, length, get_or, option_to_list, refl, sym, ◌∙◌, ap, arith}
+use Rattle.std.proofs.Common.{◌≡◌, ℕ, ◌<◌, ◌≤◌, ◌==◌, ◌∷◌, [], ◌||◌, true, false, List, length, get_or, option_to_list, refl, sym, ◌∙◌, ap, arith}
 use Rattle.std.specs.Prelude.{All}
 use Rattle.std.specs.List.{list_any}
 use Rattle.std.proofs.lemmas.Bool.{eq-eqb}
 use Rattle.std.proofs.lemmas.List.{get_or_default}
 use Rattle.std.proofs.lemmas.List.Folds.{list_any-append, list_any_at}
+use Rattle.std.proofs.Math.Bool.{or-true}
 use Rattle.lx_model.specs.Laws.{OrderEndsWithItself}
 use Rattle.load_model.specs.Modules.{Library, order_of}
 use Rattle.load_model.specs.State.{Process, is_among, reaches, count_of}
@@ -16,10 +17,6 @@ use Rattle.load_model.specs.Rows.{Row, IsRowOf}
 use Rattle.mod_refs.specs.AllRows.{row_at}
 use Rattle.mod_refs.specs.Laws.{LegalRowsAreKept}
 
-or_true : (b : Bool) → b || true ≡ true
-or_true true = refl
-or_true false = refl
-
 among_own : (xs : List ℕ) (i d : ℕ) → i < length xs → is_among xs (get_or xs i d) ≡ true
 among_own xs i d h = list_any_at (λ other. other == get_or xs i d) xs i d h (eq-eqb (get_or xs i d) (get_or xs i d) refl)
 
@@ -28,7 +25,7 @@ own_order : OrderEndsWithItself → (lib : Library) (m : ℕ) → is_among (orde
 unfolding order_of
 own_order ends lib m =
     let last = ends lib m in
-    ap (λ xs. is_among xs m) last.1 ∙ list_any-append (λ other. other == m) last.0 (m ∷ []) ∙ ap (λ b. is_among last.0 m || (b || false)) (eq-eqb m m refl) ∙ or_true (is_among last.0 m)
+    ap (λ xs. is_among xs m) last.1 ∙ list_any-append (λ other. other == m) last.0 (m ∷ []) ∙ ap (λ b. is_among last.0 m || (b || false)) (eq-eqb m m refl) ∙ or-true (is_among last.0 m)
 
 -- what a process holds it reaches
 loads_reached : OrderEndsWithItself → (lib : Library) (p : Process) (i d : ℕ) → i < length p.loads → reaches lib p (get_or p.loads i d) ≡ true
@@ -38,7 +35,7 @@ loads_reached ends lib p i d h =
     list_any-append (λ root. is_among (order_of lib root) (get_or p.loads i d)) (option_to_list p.started) p.loads
     ∙ ap (λ b. list_any (λ root. is_among (order_of lib root) (get_or p.loads i d)) (option_to_list p.started) || b)
     (list_any_at (λ root. is_among (order_of lib root) (get_or p.loads i d)) p.loads i d h (own_order ends lib (get_or p.loads i d)))
-    ∙ or_true (list_any (λ root. is_among (order_of lib root) (get_or p.loads i d)) (option_to_list p.started))
+    ∙ or-true (list_any (λ root. is_among (order_of lib root) (get_or p.loads i d)) (option_to_list p.started))
 
 few_loads : (lib : Library) (p : Process) (row : Row) → IsRowOf lib p row → ((m : ℕ) → count_of p m ≤ 65535) → All (λ n. n ≤ 65535) row.loads
 few_loads lib p row is few = λ i d h.

@@ -1,9 +1,9 @@
 use Rattle.std.proofs.Common.{◌≡◌, ℕ, List, map, length, ◌∙◌, ap}
 use Rattle.std.specs.List.{range_with_len}
 use Rattle.lx_types.specs.declared.parts.Parts.{Parts}
+use Rattle.lx_types.proofs.Lists.{map_agree}
 use Rattle.lx_model.specs.Reach.{Order, imports_of}
 use Rattle.mod_graph.specs.Visiting.{order_in}
-use Rattle.mod_graph.proofs.Lists.{map_same}
 use Rattle.mod_graph.proofs.Orders.{order_in-is}
 use Rattle.mod_graph.proofs.order.orders_of.Goals as goal
 
@@ -11,7 +11,7 @@ in_library : (lib : List Parts) (graph orders : List (List ℕ)) → graph ≡ m
     orders ≡ map (order_in graph) (range_with_len 0 (length graph)) → orders ≡ map (Order lib) (range_with_len 0 (length lib))
 in_library lib graph orders graph_is graph_length is =
     is ∙ ap (λ n. map (order_in graph) (range_with_len 0 n)) graph_length
-    ∙ map_same (order_in graph) (Order lib) (order_in-is lib graph graph_is) (range_with_len 0 (length lib))
+    ∙ map_agree (order_in graph) (Order lib) (order_in-is lib graph graph_is) (range_with_len 0 (length lib))
 
 pub returns-clause-orders : goal.returns-clause-orders
 returns-clause-orders c =
