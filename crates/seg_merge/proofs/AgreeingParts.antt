@@ -2,11 +2,12 @@
 use Rattle.std.specs.Prelude.{◌≡◌, ℕ, zero, suc, ◌<◌, Bool, true, false, cond, not, ◌&&◌, ◌||◌, List, [], ◌∷◌, ◌++◌, Option, Some, None, take, length, get_or, bytes_eq, refl}
 use Rattle.std.specs.List.{list_any, find}
 use Rattle.std.specs.Bool.{beq}
-use Rattle.std.specs.Option.{option_map, option_map_or}
+use Rattle.std.specs.Option.{option_map_or}
 use Rattle.std.proofs.Common.{ap, sym, ◌∙◌, arith, append_assoc}
 use Rattle.std.proofs.lemmas.Bool.{and_parts}
 use Rattle.std.proofs.lemmas.List.{append-nil, get_or-take, length-take-le}
 use Rattle.std.proofs.lemmas.Slice.Eq.{bytes_eq-Decides}
+use Rattle.lx_types.proofs.Options.{mapped_none}
 use Rattle.obj_types.specs.declared.definition.Attrs.{Attrs}
 use Rattle.obj_types.specs.declared.definition.SegAttrs.{SegAttrs}
 use Rattle.link_model.specs.declared.refusals.LayRefusal.TheVariants.{UseMixed}
@@ -76,14 +77,10 @@ level true false j o e f = absurd (clash (ap (λ (t : Bool). t || o) f) e)
 level false true j o e f = absurd (clash (ap (λ (t : Bool). t || o) f) e)
 level false false j o e f = refl
 
-none_mapped : {X Y : Type 0} (f : X → Y) (o : Option X) → option_map f o ≡ None → o ≡ None
-none_mapped f None e = refl
-none_mapped f (Some x) e = cc
-
 pub flags-agree : FlagsAgree
 flags-agree l e i j d lt below joined =
     let a : Part = get_or (parts l) i d in
     let b : Part = get_or (parts l) j d in
     let names = same_names a b (earlier-other (parts l) (parts-distinct l) i j d lt below) joined in
-    let fits = no-conflict (differ_in_use l) (parts l) i j d (none_mapped (λ (p : Part). UseMixed p.name) (first_conflict (differ_in_use l) [] (parts l)) e) lt below in
+    let fits = no-conflict (differ_in_use l) (parts l) i j d (mapped_none (λ (p : Part). UseMixed p.name) (first_conflict (differ_in_use l) [] (parts l)) e) lt below in
     flags-same l a b names.0 names.1 (level a.wide b.wide (joins a b) _ fits joined)

@@ -1,23 +1,16 @@
 -- The first group of a logical segment is that with the least place.
 use Rattle.std.specs.Prelude.{◌≡◌, ℕ, zero, suc, ◌<◌, ◌≤◌, ◌==◌, Bool, true, false, cond, ◌||◌, List, [], ◌∷◌, Some, min, fold, length, get_or, slice_get, find, refl}
 use Rattle.std.specs.List.{list_any}
-use Rattle.std.proofs.Common.{ap, sym, ◌∙◌, arith, true≢false}
-use Rattle.std.proofs.lemmas.Bool.{eq-eqb}
-use Rattle.std.proofs.lemmas.Bool.Decides.{nat_tests}
-use Rattle.std.proofs.lemmas.Option.{get_or_from_slice_get}
+use Rattle.std.proofs.Common.{ap, sym, ◌∙◌, arith}
+use Rattle.std.proofs.lemmas.Bool.{eqb-false}
+use Rattle.std.proofs.lemmas.Option.{get_or_from_slice_get, slice_get_within}
 use Rattle.link_model.specs.Parts.{Part}
+use Rattle.seg_parts.proofs.Listed.{apart_above}
 use Rattle.seg_merge.specs.Membership.{AreGroupsOf}
 use Rattle.seg_merge.specs.Ordered.{first_group}
-use Rattle.seg_merge.proofs.Gets.{get-below}
 
 abbrev least : ℕ → List ℕ → ℕ
 least a gs = fold (λ (n : ℕ) (j : ℕ). min n j) a gs
-
-apart : (j g : ℕ) → g < j → j == g ≡ false
-apart j g lt = grind (arith, nat_tests)
-
-differs : (a b : ℕ) → a == b ≡ false → a ≡ b → ⊥
-differs a b e same = true≢false (sym (eq-eqb a b same) ∙ e)
 
 least-most : (gs : List ℕ) (a : ℕ) → least a gs ≤ a
 least-most [] a = omega arith
@@ -27,7 +20,7 @@ least-none : (gs : List ℕ) (a g : ℕ) → g < least a gs → list_any (λ j. 
 least-none [] a g lt = refl
 least-none (j ∷ gs) a g lt =
     let under : g < j = omega (arith, lt, least-most gs (min a j)) in
-    ap (λ (b : Bool). b || list_any (λ i. i == g) gs) (apart j g under) ∙ least-none gs (min a j) g lt
+    ap (λ (b : Bool). b || list_any (λ i. i == g) gs) (apart_above j g under) ∙ least-none gs (min a j) g lt
 
 least-hit : (gs : List ℕ) (a m : ℕ) → m ≡ least a gs → m < a → list_any (λ j. j == m) gs ≡ true
 least-hit [] a m e lt = absurd (omega (arith, e, lt))
@@ -39,7 +32,7 @@ least-hit (j ∷ gs) a m e lt =
   where
     by : (b : Bool) → j == m ≡ b → ((j ≡ m → ⊥) → list_any (λ i. i == m) gs ≡ true) → (b || list_any (λ i. i == m) gs) ≡ true
     by true is later = refl
-    by false is later = later (differs j m is)
+    by false is later = later (eqb-false j m is)
 
 find-place : {X : Type 0} (p : X → Bool) (xs : List X) (m : ℕ) (d : X) → ((g : ℕ) → g < m → g < length xs → p (get_or xs g d) ≡ false) → (m < length xs → p (get_or xs m d) ≡ true) → find p xs ≡ slice_get xs m
 find-place p [] m d none hit = refl
@@ -52,7 +45,7 @@ pub first-group-is : (is_in : List ℕ → Part → Bool) (names : List (List �
     first_group names (get_or lists k []) ≡ find (λ g. is_in g s) names
 first-group-is is_in names heads lists groups k s e =
     let gs : List ℕ = get_or lists k [] in
-    let at = λ (g : ℕ) (below : g < length names). groups.members k g [] [] s (get-below heads k s e) below ∙ ap (is_in (get_or names g [])) (get_or_from_slice_get heads k s s e) in
+    let at = λ (g : ℕ) (below : g < length names). groups.members k g [] [] s (slice_get_within heads k s e) below ∙ ap (is_in (get_or names g [])) (get_or_from_slice_get heads k s s e) in
     sym
     (find-place (λ g. is_in g s) names (least (length names) gs) []
     (λ g lt below. sym (at g below) ∙ least-none gs (length names) g lt)

@@ -2,11 +2,7 @@
 use Rattle.std.specs.Prelude.{◌≡◌, ℕ, zero, suc, ◌<◌, List, [], ◌∷◌, ◌++◌, Some, map, length, get_or, slice_get, refl}
 use Rattle.std.proofs.Common.{ap, sym, ◌∙◌, arith}
 use Rattle.std.proofs.lemmas.List.{get_or-map}
-
-pub get-below : {X : Type 0} (xs : List X) (k : ℕ) (x : X) → slice_get xs k ≡ Some x → k < length xs
-get-below [] k x e = absurd (cc)
-get-below (y ∷ ys) zero x e = omega arith
-get-below (y ∷ ys) (suc k) x e = omega (arith, get-below ys k x e)
+use Rattle.std.proofs.lemmas.Option.{slice_get_within}
 
 pub mapped-get : {X Y : Type 0} (f : X → Y) (xs : List X) (k : ℕ) (x : X) (d : Y) → slice_get xs k ≡ Some x → get_or (map f xs) k d ≡ f x
 mapped-get f [] k x d e = absurd (cc)
@@ -38,7 +34,7 @@ pub each-below : {X : Type 0} (xs : List X) (order : List ℕ) (items : List X) 
 each-below xs [] items e i d lt = absurd (omega (arith, lt))
 each-below xs (k ∷ order) [] e i d lt = absurd (cc)
 each-below xs (k ∷ order) (x ∷ items) e zero d lt =
-    let first : slice_get xs k ≡ Some x = cc in get-below xs k x first
+    let first : slice_get xs k ≡ Some x = cc in slice_get_within xs k x first
 each-below {X} xs (k ∷ order) (x ∷ items) e (suc i) d lt =
     let rest : map (slice_get xs) order ≡ map (λ (y : X). Some y) items = cc in
     each-below xs order items rest i d (omega (arith, lt))

@@ -3,12 +3,12 @@ use Rattle.std.specs.Prelude.{◌≡◌, ℕ, zero, suc, ◌+◌, ◌<◌, ◌==
 use Rattle.std.specs.List.{list_any, position_or_len, range_with_len}
 use Rattle.std.specs.Cmp.Lexicographic.{nat_list_eq_equiv}
 use Rattle.std.proofs.Common.{ap, sym, ◌∙◌, arith, subst}
-use Rattle.std.proofs.lemmas.Bool.{eqb-true, eq-eqb}
-use Rattle.std.proofs.lemmas.Bool.Decides.{nat_tests}
-use Rattle.std.proofs.lemmas.List.{get_or-map, get_or-set_same, get_or-set_other, length-set, length-map, map-set}
+use Rattle.std.proofs.lemmas.Bool.{eqb-true, ltb-true}
+use Rattle.std.proofs.lemmas.List.{get_or-map, get_or-set_same, get_or-set_other, length-set, length-map, map-set, get_or_default}
 use Rattle.std.proofs.lemmas.List.Elements.{All-nil, All-push}
 use Rattle.std.proofs.lemmas.List.Folds.{list_any-append}
 use Rattle.std.proofs.lemmas.List.FromFn.{get_or-map-range_with_len, length-map-range_with_len}
+use Rattle.std.proofs.Math.Bool.{and-true, and-false, or-false}
 use Rattle.first_table.proofs.Shown.{any-place}
 use Rattle.link_model.specs.declared.keys.SegmentKey.{SegmentKey}
 use Rattle.link_model.specs.Parts.{Part, segment_key, same_segment}
@@ -18,29 +18,11 @@ use Rattle.seg_parts.specs.LogicalSegments.{name_shown, heads_of, segment_keys_o
 use Rattle.seg_parts.specs.Members.{member_shown, is_member}
 use Rattle.seg_parts.proofs.ClassOrder.{place-is}
 use Rattle.sym_table.proofs.Lists.{firsts-keys, map-more}
-use Rattle.seg_parts.proofs.Ranges.{get_or-same}
 use Rattle.seg_parts.proofs.Tables.{segments_equal}
+use Rattle.seg_parts.proofs.EndSums.{differs}
 use Rattle.seg_merge.specs.Membership.{both, AreGroupsOf}
 
 -- ---- small steps
-
-pub or_false : (b : Bool) → (b || false) ≡ b
-or_false true = refl
-or_false false = refl
-
-and_false : (b : Bool) → (b && false) ≡ false
-and_false true = refl
-and_false false = refl
-
-and_true : (b : Bool) → (b && true) ≡ b
-and_true true = refl
-and_true false = refl
-
-other : (a b : ℕ) → a == b ≡ false → b ≡ a → ⊥
-other a b e h = absurd (true_false (sym (eq-eqb a b (sym h)) ∙ e))
-  where
-    true_false : true ≡ false → ⊥
-    true_false e = cc
 
 some_at : (a n k : ℕ) (b : Bool) → cond b (Some a) None ≡ Some k → (b ≡ true) × (a ≡ k)
 some_at a n k true e = (refl, cc)
@@ -50,14 +32,11 @@ none_at : (a : ℕ) (b : Bool) → cond b (Some a) None ≡ None → b ≡ false
 none_at a true e = cc
 none_at a false e = refl
 
-below_by : (n m : ℕ) → nat_lt n m ≡ true → n < m
-below_by n m e = grind (arith, nat_tests)
-
 -- A key that is found stands where keys are the same as it.
 found-at : {K : Type 0} (same : K → K → Bool) (j : K) (ts : List K) (p : ℕ) → position (same j) ts ≡ Some p → (position_or_len (same j) ts ≡ p) × (p < length ts)
 found-at same j ts p e =
     let at = some_at (position_or_len (same j) ts) 0 p (nat_lt (position_or_len (same j) ts) (length ts)) e in
-    (at.1, subst (λ (n : ℕ). n < length ts) at.1 (below_by (position_or_len (same j) ts) (length ts) at.0))
+    (at.1, subst (λ (n : ℕ). n < length ts) at.1 (ltb-true (position_or_len (same j) ts) (length ts) at.0))
 
 -- A key that is not found is the same as none.
 any_by : {K : Type 0} (p : K → Bool) (t : K) (ts : List K) (d : K) (k : ℕ) (b c : Bool) → p t ≡ b → list_any p ts ≡ c → (b || c) ≡ false → k < length (t ∷ ts) → ((i : ℕ) → list_any p ts ≡ false → i < length ts → p (get_or ts i d) ≡ false) → p (get_or (t ∷ ts) k d) ≡ false
@@ -78,7 +57,7 @@ nowhere same j ts k d e lt =
 pub member-more : (ms : List (List ℕ × SegmentKey)) (m : List ℕ × SegmentKey) (g : List ℕ) (p : Part) → is_member (ms ++ m ∷ []) g p ≡ (is_member ms g p || (bytes_eq m.0 g && same_segment m.1 (segment_key p)))
 member-more ms m g p =
     list_any-append (λ q. bytes_eq q.0 g && same_segment (segment_key p) q.1) ms (m ∷ [])
-    ∙ ap (λ (b : Bool). is_member ms g p || b) (or_false (bytes_eq m.0 g && same_segment (segment_key p) m.1))
+    ∙ ap (λ (b : Bool). is_member ms g p || b) (or-false (bytes_eq m.0 g && same_segment (segment_key p) m.1))
     ∙ ap (λ (b : Bool). is_member ms g p || (bytes_eq m.0 g && b)) (segments_equal.symm (segment_key p) m.1)
 
 keys_of_heads : (ps : List Part) → map segment_key (heads_of ps) ≡ segment_keys_of ps
@@ -91,7 +70,7 @@ pub keys_length : (ps : List Part) → length (heads_of ps) ≡ length (segment_
 keys_length ps = sym (length-map (heads_of ps) segment_key) ∙ ap length (keys_of_heads ps)
 
 has-more : (js : List ℕ) (g0 g : ℕ) → list_any (λ j. j == g) (js ++ g0 ∷ []) ≡ (list_any (λ j. j == g) js || g0 == g)
-has-more js g0 g = list_any-append (λ j. j == g) js (g0 ∷ []) ∙ ap (λ (b : Bool). list_any (λ j. j == g) js || b) (or_false (g0 == g))
+has-more js g0 g = list_any-append (λ j. j == g) js (g0 ∷ []) ∙ ap (λ (b : Bool). list_any (λ j. j == g) js || b) (or-false (g0 == g))
 
 module _ (ms : List (List ℕ × SegmentKey)) (m : List ℕ × SegmentKey) (names : List (List ℕ)) (ps : List Part) (lists : List (List ℕ)) (old : AreGroupsOf (is_member ms) names (heads_of ps) lists) where
   -- One that is in no group, or in no logical segment.
@@ -101,7 +80,7 @@ module _ (ms : List (List ℕ × SegmentKey)) (m : List ℕ × SegmentKey) (name
         one_each = old.one_each;
         below = old.below;
         members = λ k g d n h lt under.
-            old.members k g d n h lt under ∙ sym (or_false (is_member ms (get_or names g n) (get_or (heads_of ps) k h)))
+            old.members k g d n h lt under ∙ sym (or-false (is_member ms (get_or names g n) (get_or (heads_of ps) k h)))
             ∙ ap (λ (b : Bool). is_member ms (get_or names g n) (get_or (heads_of ps) k h) || b) (sym (apart k g n h (position (bytes_eq m.0) names) (position (same_segment m.1) (segment_keys_of ps)) refl refl none lt under))
             ∙ sym (member-more ms m (get_or names g n) (get_or (heads_of ps) k h));
       }
@@ -111,7 +90,7 @@ module _ (ms : List (List ℕ × SegmentKey)) (m : List ℕ × SegmentKey) (name
       apart k g n h None b e f is lt under = ap (λ (c : Bool). c && same_segment m.1 (segment_key (get_or (heads_of ps) k h))) (nowhere bytes_eq m.0 names g n e under)
       apart k g n h (Some a) None e f is lt under =
           ap (λ (c : Bool). bytes_eq m.0 (get_or names g n) && c) (ap (same_segment m.1) (key_at ps k h lt) ∙ nowhere same_segment m.1 (segment_keys_of ps) k (segment_key h) f (omega (arith, lt, keys_length ps)))
-          ∙ and_false (bytes_eq m.0 (get_or names g n))
+          ∙ and-false (bytes_eq m.0 (get_or names g n))
       apart k g n h (Some a) (Some b) e f is lt under = cc
 
   module _ (g0 s0 : ℕ) (apart : AllPairs (λ a b. bytes_eq a b ≡ false) names) (places : both (position (bytes_eq m.0) names) (position (same_segment m.1) (segment_keys_of ps)) ≡ Some (g0, s0)) where
@@ -156,7 +135,7 @@ module _ (ms : List (List ℕ × SegmentKey)) (m : List ℕ × SegmentKey) (name
             ap (λ (i : ℕ). get_or (set lists s0 after) i d) (sym (eqb-true s0 k is)) ∙ get_or-set_same lists s0 after d segment-below ∙ grown
 
         there : (k : ℕ) (d : List ℕ) → s0 == k ≡ false → get_or (set lists s0 after) k d ≡ get_or lists k d
-        there k d is = get_or-set_other lists s0 k after d (other s0 k is)
+        there k d is = get_or-set_other lists s0 k after d (differs s0 k is)
 
         within : (k : ℕ) (d : List ℕ) (b : Bool) → s0 == k ≡ b → k < length lists → All (λ g. g < length names) (get_or (set lists s0 after) k d)
         within k d true is lt =
@@ -173,13 +152,13 @@ module _ (ms : List (List ℕ × SegmentKey)) (m : List ℕ × SegmentKey) (name
             ap (list_any (λ j. j == g)) (here k d is) ∙ has-more before g0 g
             ∙ ap (λ (t : List ℕ). list_any (λ j. j == g) t || g0 == g) same
             ∙ ap (λ (b : Bool). b || g0 == g) (old.members k g before n h lt under)
-            ∙ ap (λ (b : Bool). is_member ms name head || b) (sym (is_group g n under) ∙ sym (and_true (bytes_eq m.0 name)) ∙ ap (λ (b : Bool). bytes_eq m.0 name && b) (sym (is_segment k h lt ∙ is)))
+            ∙ ap (λ (b : Bool). is_member ms name head || b) (sym (is_group g n under) ∙ sym (and-true (bytes_eq m.0 name)) ∙ ap (λ (b : Bool). bytes_eq m.0 name && b) (sym (is_segment k h lt ∙ is)))
             ∙ sym (member-more ms m name head)
         each k g d n h false is lt under =
             let name : List ℕ = get_or names g n in
             let head : Part = get_or (heads_of ps) k h in
-            ap (list_any (λ j. j == g)) (there k d is) ∙ old.members k g d n h lt under ∙ sym (or_false (is_member ms name head))
-            ∙ ap (λ (b : Bool). is_member ms name head || b) (sym (and_false (bytes_eq m.0 name)) ∙ ap (λ (b : Bool). bytes_eq m.0 name && b) (sym (is_segment k h lt ∙ is)))
+            ap (list_any (λ j. j == g)) (there k d is) ∙ old.members k g d n h lt under ∙ sym (or-false (is_member ms name head))
+            ∙ ap (λ (b : Bool). is_member ms name head || b) (sym (and-false (bytes_eq m.0 name)) ∙ ap (λ (b : Bool). bytes_eq m.0 name && b) (sym (is_segment k h lt ∙ is)))
             ∙ sym (member-more ms m name head)
 
 -- Without members all lists are empty.
@@ -205,14 +184,14 @@ some-step items members i d lt names ps vs g0 s0 old new apart places are at gro
     let m : List ℕ × SegmentKey = member_shown (get_or members i d) in
     let below : s0 < length (map items vs) = segment-below ms m names ps (map items vs) are g0 s0 apart places in
     let first : items old ≡ get_or (map items vs) s0 (items old) = ap items at ∙ sym (get_or-map items vs s0 old (items old) (omega (arith, below, length-map vs items))) in
-    subst (λ (t : List (List ℕ × SegmentKey)). AreGroupsOf (is_member t) names (heads_of ps) (map items (set vs s0 new))) (sym (map-more member_shown members i (get_or members i d) lt (get_or-same members i d (get_or members i d) lt)))
+    subst (λ (t : List (List ℕ × SegmentKey)). AreGroupsOf (is_member t) names (heads_of ps) (map items (set vs s0 new))) (sym (map-more member_shown members i (get_or members i d) lt (get_or_default members i d (get_or members i d) lt)))
     (subst (AreGroupsOf (is_member (ms ++ m ∷ [])) names (heads_of ps)) (sym (map-set items vs s0 new)) (one-more ms m names ps (map items vs) are g0 s0 apart places (items old) (items new) first grown))
 
 pub none-step : (members : List Member) (i : ℕ) (d : Member) → i < length members → (names : List (List ℕ)) (ps : List Part) (lists : List (List ℕ)) →
     both (position (bytes_eq (get_or members i d).group.now) names) (position (same_segment (name_shown (get_or members i d).segment)) (segment_keys_of ps)) ≡ None →
     AreGroupsOf (is_member (map member_shown (take i members))) names (heads_of ps) lists → AreGroupsOf (is_member (map member_shown (take (i + 1) members))) names (heads_of ps) lists
 none-step members i d lt names ps lists none are =
-    subst (λ (t : List (List ℕ × SegmentKey)). AreGroupsOf (is_member t) names (heads_of ps) lists) (sym (map-more member_shown members i (get_or members i d) lt (get_or-same members i d (get_or members i d) lt)))
+    subst (λ (t : List (List ℕ × SegmentKey)). AreGroupsOf (is_member t) names (heads_of ps) lists) (sym (map-more member_shown members i (get_or members i d) lt (get_or_default members i d (get_or members i d) lt)))
     (none-more (map member_shown (take i members)) (member_shown (get_or members i d)) names ps lists are none)
 
 pub step-below : {V : Type 0} (items : V → List ℕ) (members : List Member) (i : ℕ) (d : Member) (names : List (List ℕ)) (ps : List Part) (vs : List V) (g0 s0 : ℕ) → AllPairs (λ a b. bytes_eq a b ≡ false) names →

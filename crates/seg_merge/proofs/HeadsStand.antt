@@ -3,10 +3,13 @@ use Rattle.std.specs.Prelude.{◌≡◌, ℕ, suc, ◌+◌, ◌<◌, ◌==◌, B
 use Rattle.std.specs.List.{list_any, find, range_with_len}
 use Rattle.std.specs.Option.{option_map}
 use Rattle.std.proofs.Common.{ap, sym, ◌∙◌, arith, subst}
-use Rattle.std.proofs.lemmas.Bool.{eqb-true, eq-eqb}
+use Rattle.std.proofs.lemmas.Bool.{eqb-true, eq-eqb, ltb-true, lt-ltb}
 use Rattle.std.proofs.lemmas.Bool.Decides.{nat_tests}
 use Rattle.std.proofs.lemmas.List.{get_or-map, get_or-take, length-take-le}
 use Rattle.std.proofs.lemmas.List.Elements.{All-cons, All-tail, All-filter}
+use Rattle.std.proofs.lemmas.List.Folds.{list_any_at}
+use Rattle.lx_types.proofs.Bools.{same_test}
+use Rattle.lx_types.proofs.Lists.{any_map, any_filter, any_agree}
 use Rattle.link_model.specs.declared.refusals.LayRefusal.TheVariants.{GroupSplit}
 use Rattle.link_model.specs.Appearance.{firsts}
 use Rattle.link_model.specs.Link.{Link}
@@ -18,9 +21,8 @@ use Rattle.link_model.specs.Flags.{flags_of}
 use Rattle.link_model.specs.LayoutRefusals.{use_mixed, group_split, has_member_of, has_two_flags}
 use Rattle.seg_merge.specs.Membership.{AreGroupsOf}
 use Rattle.seg_merge.specs.Splits.{has, differ, with_flags, first_flags, splits, is_split, split_group}
-use Rattle.seg_merge.proofs.MixedUse.{any-found, any-at, any-filter}
+use Rattle.seg_merge.proofs.MixedUse.{any-found}
 use Rattle.seg_merge.proofs.UseWalk.{in_group-alike}
-use Rattle.seg_parts.proofs.GroupMembers.{any-same}
 use Rattle.seg_parts.proofs.Lists.{find_mapped}
 use Rattle.seg_merge.proofs.SplitMarks.{find-numbered}
 use Rattle.seg_merge.proofs.AgreeingParts.{flags-agree}
@@ -89,7 +91,7 @@ others-kept same p x xs alike none =
 any_heads_by : {X : Type 0} (same : X → X → Bool) (p : X → Bool) (x : X) (xs : List X) (b : Bool) → Alike same p (x ∷ xs) → p x ≡ b → list_any p (firsts same xs) ≡ list_any p xs → (b || list_any p (filter (λ y. not (same x y)) (firsts same xs))) ≡ (b || list_any p xs)
 any_heads_by same p x xs true alike is rest = refl
 any_heads_by same p x xs false alike is rest =
-    any-filter p (λ y. not (same x y)) (firsts same xs) ∙ any-both p (λ y. not (same x y)) (firsts same xs) (others-kept same p x xs alike is) ∙ rest
+    any_filter p (λ y. not (same x y)) (firsts same xs) ∙ any-both p (λ y. not (same x y)) (firsts same xs) (others-kept same p x xs alike is) ∙ rest
 
 pub any-heads : {X : Type 0} (same : X → X → Bool) (p : X → Bool) (xs : List X) → Alike same p xs → list_any p (firsts same xs) ≡ list_any p xs
 any-heads same p [] alike = refl
@@ -104,10 +106,6 @@ find-heads same p [] alike = refl
 find-heads same p (x ∷ xs) alike = find_heads_by same p x xs (p x) alike refl (find-heads same p xs (Alike-tail same p x xs alike))
 
 -- ---- two flags
-
-any-map : {X Y : Type 0} (c : Y → Bool) (f : X → Y) (xs : List X) → list_any c (map f xs) ≡ list_any (λ x. c (f x)) xs
-any-map c f [] = refl
-any-map c f (x ∷ xs) = ap (λ (b : Bool). c (f x) || b) (any-map c f xs)
 
 some_in : {X : Type 0} (c : X → Bool) (xs : List X) → nat_lt 1 (suc (length (filter c xs))) ≡ list_any c xs
 some_in c [] = refl
@@ -129,8 +127,8 @@ two_by p f x xs true e =
     let rest : List ℕ = map f (filter p xs) in
     some_in (λ n. not (f x == n)) (firsts (λ m n. m == n) rest)
     ∙ any-heads (λ m n. m == n) (λ n. not (f x == n)) rest (λ i j d lt below same. ap (λ (n : ℕ). not (f x == n)) (eqb-true (get_or rest i d) (get_or rest j d) same))
-    ∙ any-map (λ n. not (f x == n)) f (filter p xs)
-    ∙ any-filter (λ y. not (f x == f y)) p xs
+    ∙ any_map (λ n. not (f x == n)) f (filter p xs)
+    ∙ any_filter (λ y. not (f x == f y)) p xs
     ∙ sym (ap (λ (c : Bool). c || list_any (λ y. p y && not (f x == f y)) xs) (not_itself (f x)))
 two_by p f x xs false e = e
 
@@ -153,33 +151,22 @@ any-or p e d (x ∷ xs) =
     ap (λ (b : Bool). (p x && (e x || d x)) || b) (any-or p e d xs)
     ∙ or_mixed (p x) (e x) (d x) (list_any (λ y. p y && e y) xs) (list_any (λ y. p y && d y) xs)
 
-agree : (a b : Bool) → (a ≡ true → b ≡ true) → (b ≡ true → a ≡ true) → a ≡ b
-agree true b f g = sym (f refl)
-agree false true f g = g refl
-agree false false f g = refl
-
-less : (a b : ℕ) → a < b → nat_lt a b ≡ true
-less a b h = grind (arith, nat_tests)
-
-less_by : (a b : ℕ) → nat_lt a b ≡ true → a < b
-less_by a b h = grind (arith, nat_tests)
-
 module _ (l : Link) (names : List (List ℕ)) (lists : List (List ℕ)) (are : AreGroupsOf (in_group l) names (segments l) lists) where
   -- An earlier group has the logical segment.
   earlier : (k g : ℕ) (h : Part) → k < length (segments l) → g < length names → list_any (λ j. nat_lt j g) (get_or lists k []) ≡ list_any (λ e. in_group l e (get_or (segments l) k h)) (take g names)
   earlier k g h lt under =
       let js : List ℕ = get_or lists k [] in
       let len : length (take g names) ≡ g = length-take-le g names (omega (arith, under)) in
-      agree (list_any (λ j. nat_lt j g) js) (list_any (λ e. in_group l e (get_or (segments l) k h)) (take g names))
+      same_test (list_any (λ j. nat_lt j g) js) (list_any (λ e. in_group l e (get_or (segments l) k h)) (take g names))
       (λ is. any-found (λ j. nat_lt j g) js 0 is (λ i at found. let j : ℕ = get_or js i 0 in
-      let below : j < g = less_by j g found in
-      any-at (λ e. in_group l e (get_or (segments l) k h)) (take g names) j [] (omega (arith, below, len))
+      let below : j < g = ltb-true j g found in
+      list_any_at (λ e. in_group l e (get_or (segments l) k h)) (take g names) j [] (omega (arith, below, len))
       (ap (λ (e : List ℕ). in_group l e (get_or (segments l) k h)) (get_or-take g names j [] below)
-      ∙ sym (are.members k j [] [] h lt (omega (arith, below, under))) ∙ any-at (λ i2. i2 == j) js i 0 at (eq-eqb j j refl))))
+      ∙ sym (are.members k j [] [] h lt (omega (arith, below, under))) ∙ list_any_at (λ i2. i2 == j) js i 0 at (eq-eqb j j refl))))
       (λ is. any-found (λ e. in_group l e (get_or (segments l) k h)) (take g names) [] is (λ j at found. let below : j < g = omega (arith, at, len) in
       any-found (λ i2. i2 == j) js 0
       (are.members k j [] [] h lt (omega (arith, below, under)) ∙ ap (λ (e : List ℕ). in_group l e (get_or (segments l) k h)) (sym (get_or-take g names j [] below)) ∙ found)
-      (λ i there same. any-at (λ i2. nat_lt i2 g) js i 0 there (less (get_or js i 0) g (let at2 = eqb-true (get_or js i 0) j same in omega (arith, at2, below))))))
+      (λ i there same. list_any_at (λ i2. nat_lt i2 g) js i 0 there (lt-ltb (get_or js i 0) g (let at2 = eqb-true (get_or js i 0) j same in omega (arith, at2, below))))))
 
 -- ---- logical segments by their numbers
 
@@ -242,7 +229,7 @@ module _ (l : Link) (lists : List (List ℕ)) (are : AreGroupsOf (in_group l) (g
       let known : Option ℕ = option_map (flags_of l) (find (in_group l n) (parts l)) in
       let test : Part → Bool = λ h. in_group l n h && (list_any (λ e. in_group l e h) before || differ known (flags_of l h)) in
       ap (λ (o : Option ℕ). list_any (splits g o) (with_flags lists flags)) (first-is g d under)
-      ∙ any-map (splits g known) row (range_with_len 0 (length lists))
+      ∙ any_map (splits g known) row (range_with_len 0 (length lists))
       ∙ ap (λ (m : ℕ). list_any (λ k. splits g known (row k)) (range_with_len 0 m)) are.one_each
       ∙ any-range (λ k. splits g known (row k)) test 0 (segments l)
       (λ k h lt. let head : Part = get_or (segments l) k h in
@@ -253,7 +240,7 @@ module _ (l : Link) (lists : List (List ℕ)) (are : AreGroupsOf (in_group l) (g
       ∙ any-heads joins test (parts l)
       (λ i j e lt below same. let a : Part = get_or (parts l) i e in let b : Part = get_or (parts l) j e in
       ap (λ (t : Bool). t && (list_any (λ c. in_group l c a) before || differ known (flags_of l a))) (in_group-alike l n a b same)
-      ∙ ap (λ (t : Bool). in_group l n b && (t || differ known (flags_of l a))) (any-same (λ c. in_group l c a) (λ c. in_group l c b) (λ c. in_group-alike l c a b same) before)
+      ∙ ap (λ (t : Bool). in_group l n b && (t || differ known (flags_of l a))) (any_agree (λ c. in_group l c a) (λ c. in_group l c b) (λ c. in_group-alike l c a b same) before)
       ∙ ap (λ (m : ℕ). in_group l n b && (list_any (λ c. in_group l c b) before || differ known m)) (flags-agree l one_use i j e lt below same))
       ∙ any-or (in_group l n) (λ h. list_any (λ e. in_group l e h) before) (λ h. differ known (flags_of l h)) (parts l)
       ∙ ap (λ (b : Bool). has_member_of l before n || b) (sym (two-flags (in_group l n) (flags_of l) (parts l)))

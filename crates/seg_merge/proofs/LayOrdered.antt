@@ -15,11 +15,12 @@ use Rattle.seg_parts.specs.LogicalSegments.{places}
 use Rattle.seg_parts.specs.Placing.{unplaced_shown, placed_shown, StandIn}
 use Rattle.seg_parts.specs.Rows.{Unplaced, rows_behind, too_large_in}
 use Rattle.seg_parts.proofs.Tables.{places-below}
+use Rattle.seg_parts.proofs.ObjectNames.{objects_equal}
 use Rattle.seg_merge.specs.ByNumber.{no_row}
 use Rattle.seg_merge.specs.Laid.{keys_of, object_heads_of, flags_of_objects, stack_number, unit_at, units_in, rows_in, sizes_in}
 use Rattle.seg_merge.specs.Ordered.{Ordered}
 use Rattle.seg_merge.proofs.ObjectSizes.{sizes-are, sizes-within, count-within}
-use Rattle.seg_merge.proofs.ObjectTable.{objects-equal, heads-length}
+use Rattle.seg_merge.proofs.ObjectTable.{heads-length}
 use Rattle.seg_merge.proofs.RowLimits.{objects-within}
 
 -- What the units of logical segments in these objects are.
@@ -40,7 +41,7 @@ units-below os size units count flags are len flags_are k d lt =
     let there : k < length (places same_object (keys_of os)) = omega (arith, lt, length-map units (λ (u : lent.Unplaced). u.object), ap length are.objects) in
     let at : get_or (places same_object (keys_of os)) k 0 ≡ (get_or units k d).object =
     ap (λ (t : List ℕ). get_or t k 0) (sym are.objects) ∙ get_or-map (λ (u : lent.Unplaced). u.object) units k d 0 lt in
-    omega (arith, places-below same_object objects-equal (keys_of os) k 0 there, at, len, ap length flags_are, heads-length os)
+    omega (arith, places-below same_object objects_equal (keys_of os) k 0 there, at, len, ap length flags_are, heads-length os)
 
 module _ (os : List Ordered) (size count : ℕ) (units : List lent.Unplaced) (rows : Rows) (are : AreUnits os size units) (stand : StandIn count (map unplaced_shown units) rows) where
   pub rows-are : map placed_shown rows.rows.items ≡ rows_in size os

@@ -3,15 +3,17 @@ use Rattle.std.specs.Prelude.{◌≡◌, ℕ, suc, ◌<◌, ◌==◌, Bool, true
 use Rattle.std.specs.List.{list_any}
 use Rattle.std.specs.Bool.{beq}
 use Rattle.std.proofs.Common.{ap, sym, ◌∙◌, arith, subst}
-use Rattle.std.proofs.lemmas.Bool.{eqb-true, eq-eqb}
+use Rattle.std.proofs.lemmas.Bool.{eqb-true, eq-eqb, and_from, and_parts}
 use Rattle.std.proofs.lemmas.List.{get_or-set_same, get_or-set_other, length-set}
-use Rattle.std.proofs.lemmas.List.Folds.{list_any-append}
+use Rattle.std.proofs.lemmas.List.Folds.{list_any-append, list_any_at}
+use Rattle.std.proofs.Math.Bool.{or-false, or-true}
+use Rattle.lx_types.proofs.Lists.{any_filter, any_weaker}
 use Rattle.link_model.specs.Words.{option_any}
 use Rattle.link_model.specs.Parts.{Part, joins}
 use Rattle.link_model.proofs.KeyTests.{joining}
 use Rattle.seg_merge.specs.Membership.{AreGroupsOf}
 use Rattle.seg_merge.specs.Uses.{conflicts, mixed_by, AreSet, AddsBehind}
-use Rattle.seg_merge.proofs.GroupPlaces.{or_false, any_get}
+use Rattle.seg_merge.proofs.GroupPlaces.{any_get}
 
 -- ---- of truth values
 
@@ -35,13 +37,6 @@ beq_itself : (w : Bool) → beq w w ≡ true
 beq_itself true = refl
 beq_itself false = refl
 
-pub both_parts : (a b : Bool) → (a && b) ≡ true → (a ≡ true) × (b ≡ true)
-both_parts true b e = (refl, e)
-both_parts false b e = cc
-
-pub both_from : (a b : Bool) → a ≡ true → b ≡ true → (a && b) ≡ true
-both_from a b e f = ap (λ (c : Bool). c && b) e ∙ f
-
 never_both : (a b : Bool) → (a ≡ true → b ≡ true → ⊥) → (a && b) ≡ false
 never_both true true f = absurd (f refl refl)
 never_both true false f = refl
@@ -55,28 +50,9 @@ clash e f = absurd (no (sym e ∙ f))
 
 -- ---- of searches
 
-or_true : (c : Bool) → (c || true) ≡ true
-or_true true = refl
-or_true false = refl
-
-weaker_by : (a b c d : Bool) → (a || b) ≡ true → (a ≡ true → c ≡ true) → (b ≡ true → d ≡ true) → (c || d) ≡ true
-weaker_by true b c d e f g = ap (λ (t : Bool). t || d) (f refl)
-weaker_by false b c d e f g = ap (λ (t : Bool). c || t) (g e) ∙ or_true c
-
-pub any-weaker : {X : Type 0} (p q : X → Bool) → ((x : X) → p x ≡ true → q x ≡ true) → (xs : List X) → list_any p xs ≡ true → list_any q xs ≡ true
-any-weaker p q h [] e = e
-any-weaker p q h (x ∷ xs) e = weaker_by (p x) (list_any p xs) (q x) (list_any q xs) e (h x) (any-weaker p q h xs)
-
 pub any-none : {X : Type 0} (p : X → Bool) (xs : List X) → ((k : ℕ) (d : X) → k < length xs → p (get_or xs k d) ≡ false) → list_any p xs ≡ false
 any-none p [] h = refl
 any-none p (x ∷ xs) h = ap (λ (b : Bool). b || list_any p xs) (h 0 x (omega arith)) ∙ any-none p xs (λ k d lt. h (suc k) d (omega arith))
-
-pub any-at : {X : Type 0} (p : X → Bool) (xs : List X) (k : ℕ) (d : X) → k < length xs → p (get_or xs k d) ≡ true → list_any p xs ≡ true
-any-at p xs k d lt is = by (list_any p xs) refl
-  where
-    by : (b : Bool) → list_any p xs ≡ b → list_any p xs ≡ true
-    by true e = e
-    by false e = absurd (clash is (any_get p xs k d e lt))
 
 either : {P : Type 0} (a b : Bool) → (a || b) ≡ true → (a ≡ true → P) → (b ≡ true → P) → P
 either true b e f g = f refl
@@ -86,14 +62,6 @@ pub any-found : {X : Type 0} {P : Type 0} (p : X → Bool) (xs : List X) (d : X)
 any-found p [] d e f = cc
 any-found p (x ∷ xs) d e f =
     either (p x) (list_any p xs) e (λ is. f 0 (omega arith) is) (λ rest. any-found p xs d rest (λ k lt h. f (suc k) (omega arith) h))
-
-kept_by : {X : Type 0} (f : X → Bool) (x : X) (xs : List X) (b : Bool) → list_any f (cond b (x ∷ xs) xs) ≡ ((b && f x) || list_any f xs)
-kept_by f x xs true = refl
-kept_by f x xs false = refl
-
-pub any-filter : {X : Type 0} (f c : X → Bool) (xs : List X) → list_any f (filter c xs) ≡ list_any (λ x. c x && f x) xs
-any-filter f c [] = refl
-any-filter f c (x ∷ xs) = kept_by f x (filter c xs) (c x) ∙ ap (λ (b : Bool). (c x && f x) || b) (any-filter f c xs)
 
 -- ---- the parts of one use
 
@@ -107,12 +75,12 @@ IsUse known test ps = (w : Bool) → marks test ps w ≡ option_any (λ v. beq v
 
 marks-more : (test : Part → Bool) (ps : List Part) (p : Part) (w : Bool) → marks test (ps ++ p ∷ []) w ≡ (marks test ps w || (test p && beq p.wide w))
 marks-more test ps p w =
-    list_any-append (λ q. test q && beq q.wide w) ps (p ∷ []) ∙ ap (λ (b : Bool). marks test ps w || b) (or_false (test p && beq p.wide w))
+    list_any-append (λ q. test q && beq q.wide w) ps (p ∷ []) ∙ ap (λ (b : Bool). marks test ps w || b) (or-false (test p && beq p.wide w))
 
 -- Another part.
 use-other : (known : Option Bool) (test : Part → Bool) (ps : List Part) (p : Part) → test p ≡ false → IsUse known test ps → IsUse known test (ps ++ p ∷ [])
 use-other known test ps p is old w =
-    marks-more test ps p w ∙ ap (λ (b : Bool). marks test ps w || (b && beq p.wide w)) is ∙ or_false (marks test ps w) ∙ old w
+    marks-more test ps p w ∙ ap (λ (b : Bool). marks test ps w || (b && beq p.wide w)) is ∙ or-false (marks test ps w) ∙ old w
 
 -- One more of the same use.
 use-more : (known : Option Bool) (test : Part → Bool) (ps : List Part) (p : Part) → test p ≡ true → conflicts p.wide known ≡ false → IsUse known test ps → IsUse (Some p.wide) test (ps ++ p ∷ [])
@@ -176,10 +144,10 @@ module _ (is_in : List ℕ → Part → Bool) (names : List (List ℕ)) (heads :
 
   by_segment : marks (joins head) ps (not p.wide) ≡ true → list_any (λ q. differ_by is_in names q p) ps ≡ true
   by_segment e =
-      any-weaker (λ q. joins head q && beq q.wide (not p.wide)) (λ q. differ_by is_in names q p)
-      (λ q f. let two = both_parts (joins head q) (beq q.wide (not p.wide)) f in
+      any_weaker (λ q. joins head q && beq q.wide (not p.wide)) (λ q. differ_by is_in names q p)
+      (λ q f. let two = and_parts (joins head q) (beq q.wide (not p.wide)) f in
       let same : joins q p ≡ true = joining.symm q p ∙ sym (joining.congr head p q of_head) ∙ two.0 in
-      both_from (not (beq q.wide p.wide)) (joins q p || list_any (λ g. is_in g p) (filter (λ g. is_in g q) names)) (opposite q.wide p.wide two.1)
+      and_from (not (beq q.wide p.wide)) (joins q p || list_any (λ g. is_in g p) (filter (λ g. is_in g q) names)) (opposite q.wide p.wide two.1)
       (ap (λ (b : Bool). b || list_any (λ g. is_in g p) (filter (λ g. is_in g q) names)) same)) ps e
     where
       opposite : (a b : Bool) → beq a (not b) ≡ true → not (beq a b) ≡ true
@@ -191,12 +159,12 @@ module _ (is_in : List ℕ → Part → Bool) (names : List (List ℕ)) (heads :
   by_group : (g : ℕ) (n : List ℕ) → g < length names → is_in (get_or names g n) p ≡ true → marks (is_in (get_or names g n)) ps (not p.wide) ≡ true → list_any (λ q. differ_by is_in names q p) ps ≡ true
   by_group g n lt has e =
       let name : List ℕ = get_or names g n in
-      any-weaker (λ q. is_in name q && beq q.wide (not p.wide)) (λ q. differ_by is_in names q p)
-      (λ q f. let two = both_parts (is_in name q) (beq q.wide (not p.wide)) f in
+      any_weaker (λ q. is_in name q && beq q.wide (not p.wide)) (λ q. differ_by is_in names q p)
+      (λ q f. let two = and_parts (is_in name q) (beq q.wide (not p.wide)) f in
       let shared : list_any (λ h. is_in h p) (filter (λ h. is_in h q) names) ≡ true =
-      any-filter (λ h. is_in h p) (λ h. is_in h q) names ∙ any-at (λ h. is_in h q && is_in h p) names g n lt (both_from (is_in name q) (is_in name p) two.0 has) in
-      both_from (not (beq q.wide p.wide)) (joins q p || list_any (λ h. is_in h p) (filter (λ h. is_in h q) names)) (opposite q.wide p.wide two.1)
-      (ap (λ (b : Bool). joins q p || b) shared ∙ or_true (joins q p))) ps e
+      any_filter (λ h. is_in h p) (λ h. is_in h q) names ∙ list_any_at (λ h. is_in h q && is_in h p) names g n lt (and_from (is_in name q) (is_in name p) two.0 has) in
+      and_from (not (beq q.wide p.wide)) (joins q p || list_any (λ h. is_in h p) (filter (λ h. is_in h q) names)) (opposite q.wide p.wide two.1)
+      (ap (λ (b : Bool). joins q p || b) shared ∙ or-true (joins q p))) ps e
     where
       opposite : (a b : Bool) → beq a (not b) ≡ true → not (beq a b) ≡ true
       opposite true true e = cc
@@ -212,7 +180,7 @@ module _ (is_in : List ℕ → Part → Bool) (names : List (List ℕ)) (heads :
       (λ turned shared. let wide : beq q.wide (not p.wide) ≡ true = ap (λ (w : Bool). beq w (not p.wide)) (flip q.wide p.wide turned) ∙ beq_itself (not p.wide) in
       clash shared (ap (λ (b : Bool). b || list_any (λ g. is_in g p) (filter (λ g. is_in g q) names))
       (joining.symm q p ∙ sym (joining.congr head p q of_head) ∙ alone (joins head q) (beq q.wide (not p.wide)) wide (any_get (λ r. joins head r && beq r.wide (not p.wide)) ps i d none lt))
-      ∙ any-filter (λ g. is_in g p) (λ g. is_in g q) names
+      ∙ any_filter (λ g. is_in g p) (λ g. is_in g q) names
       ∙ any-none (λ g. is_in g q && is_in g p) names (λ g n under. never_both (is_in (get_or names g n) q) (is_in (get_or names g n) p)
       (λ one two. clash one (alone (is_in (get_or names g n) q) (beq q.wide (not p.wide)) wide (any_get (λ r. is_in (get_or names g n) r && beq r.wide (not p.wide)) ps i d (others g n under two) lt)))))))
     where
@@ -228,9 +196,9 @@ module _ (is_in : List ℕ → Part → Bool) (names : List (List ℕ)) (heads :
   group_known g n w is lt has =
       let name : List ℕ = get_or names g n in
       let marked : marks (joins head) ps w ≡ true = known.segments k p below w ∙ ap (option_any (λ v. beq v w)) is ∙ beq_itself w in
-      let there : marks (is_in name) ps w ≡ true = any-weaker (λ q. joins head q && beq q.wide w) (λ q. is_in name q && beq q.wide w)
-      (λ q f. let two = both_parts (joins head q) (beq q.wide w) f in
-      both_from (is_in name q) (beq q.wide w) (sym (alike name head q two.0) ∙ alike name head p of_head ∙ has) two.1) ps marked in
+      let there : marks (is_in name) ps w ≡ true = any_weaker (λ q. joins head q && beq q.wide w) (λ q. is_in name q && beq q.wide w)
+      (λ q f. let two = and_parts (joins head q) (beq q.wide w) f in
+      and_from (is_in name q) (beq q.wide w) (sym (alike name head q two.0) ∙ alike name head p of_head ∙ has) two.1) ps marked in
       known-by (get_or uses g None) w (sym (known.groups g n lt w) ∙ there)
 
   pub mixed-is : mixed_by p.wide gs uses own ≡ list_any (λ q. differ_by is_in names q p) ps
@@ -240,7 +208,7 @@ module _ (is_in : List ℕ → Part → Bool) (names : List (List ℕ)) (heads :
       first true is e =
           any-found (λ g. conflicts p.wide (get_or uses g None)) gs 0 e (λ i lt found. let g : ℕ = get_or gs i 0 in
           let under : g < length names = are.below k [] (omega (arith, below, are.one_each)) i 0 lt in
-          let has : is_in (get_or names g []) p ≡ true = sym (in_lists g [] under) ∙ any-at (λ j. j == g) gs i 0 lt (eq-eqb g g refl) in
+          let has : is_in (get_or names g []) p ≡ true = sym (in_lists g [] under) ∙ list_any_at (λ j. j == g) gs i 0 lt (eq-eqb g g refl) in
           sym (by_group g [] under has (known.groups g [] under (not p.wide) ∙ sym (conflict-by (get_or uses g None) p.wide) ∙ found)))
       first false is e =
           sym (without (known.segments k p below (not p.wide) ∙ ap (option_any (λ v. beq v (not p.wide))) is)

@@ -16,9 +16,10 @@ use Rattle.seg_parts.specs.declared.rows.Unplaced as lent
 use Rattle.seg_parts.specs.LogicalSegments.{places}
 use Rattle.seg_parts.specs.Placing.{unplaced_shown}
 use Rattle.seg_parts.specs.Rows.{Unplaced, row_behind, rows_behind, too_large_in}
+use Rattle.seg_parts.proofs.ObjectNames.{objects_equal}
 use Rattle.seg_merge.specs.Ordered.{Ordered}
 use Rattle.seg_merge.specs.Laid.{keys_of, object_heads_of, flags_of_objects}
-use Rattle.seg_merge.proofs.ObjectTable.{numbers-are, objects-equal, heads-length}
+use Rattle.seg_merge.proofs.ObjectTable.{numbers-are, heads-length}
 use Rattle.seg_merge.proofs.RowLimits.{size-within, objects-within}
 
 -- ---- one size with one flag
@@ -52,7 +53,7 @@ pub row-numbers : (os : List Ordered) (units : List lent.Unplaced) → map (λ (
     firsts (λ a b. a == b) (map (λ (r : Row). r.object) (rows_behind [] (map unplaced_shown units))) ≡ range_with_len 1 (length (flags_of_objects os))
 row-numbers os units e =
     ap (firsts (λ a b. a == b)) (row-objects units (places same_object (keys_of os)) e)
-    ∙ numbers-are same_object objects-equal (keys_of os) ∙ ap (range_with_len 1) (sym (heads-length os))
+    ∙ numbers-are same_object objects_equal (keys_of os) ∙ ap (range_with_len 1) (sym (heads-length os))
 
 -- ---- their sum
 

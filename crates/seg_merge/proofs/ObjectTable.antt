@@ -1,43 +1,29 @@
 -- Objects are numbered by first appearance.
-use Rattle.std.specs.Prelude.{◌≡◌, ℕ, zero, suc, ◌+◌, ◌<◌, ◌≤◌, ◌==◌, Bool, true, false, cond, not, ◌||◌, List, [], ◌∷◌, ◌++◌, map, take, drop, length, get_or, refl}
+use Rattle.std.specs.Prelude.{◌≡◌, ℕ, zero, suc, ◌+◌, ◌<◌, ◌≤◌, ◌==◌, Bool, true, false, cond, ◌||◌, List, [], ◌∷◌, ◌++◌, map, take, drop, length, get_or, refl}
 use Rattle.std.specs.List.{list_any, range_with_len, position_or_len}
 use Rattle.std.specs.Cmp.{IsEquivalence}
 use Rattle.std.proofs.Common.{ap, sym, subst, ◌∙◌, arith, append_assoc, true≢false}
-use Rattle.std.proofs.lemmas.Bool.{eq-eqb, eqb-true}
+use Rattle.std.proofs.lemmas.Bool.{eq-eqb}
 use Rattle.std.proofs.lemmas.Bool.Decides.{nat_tests}
 use Rattle.std.proofs.lemmas.List.{map-append, append-nil, length-append, length-map, get_or-map}
 use Rattle.std.proofs.lemmas.List.Folds.{list_any-append}
+use Rattle.lx_types.proofs.Lists.{range-push}
 use Rattle.link_model.specs.Appearance.{firsts}
 use Rattle.link_model.specs.declared.keys.ObjectKey.{ObjectKey}
 use Rattle.link_model.specs.Order.{same_object}
 use Rattle.link_model.proofs.KeyTests.{equivalence, object_keys}
 use Rattle.link_model.proofs.Members.{placed}
-use Rattle.link_model.proofs.Tables.{firsts-push}
+use Rattle.link_model.proofs.Tables.{firsts-push, none_before}
 use Rattle.seg_parts.specs.LogicalSegments.{places}
 use Rattle.sym_table.proofs.Lists.{firsts-keys}
 use Rattle.seg_parts.proofs.Lists.{take-push, split-at}
 use Rattle.seg_parts.proofs.Tables.{places-push, place-push, place-stays}
+use Rattle.seg_parts.proofs.ObjectNames.{objects_equal}
+use Rattle.seg_parts.proofs.EndSums.{nat_equal}
 use Rattle.seg_merge.specs.Ordered.{Ordered}
 use Rattle.seg_merge.specs.Laid.{keys_of, object_heads_of, flags_of_objects}
 
 -- ---- the numbers of a table
-
-nat_equal : IsEquivalence (λ (a b : ℕ). a == b)
-nat_equal =
-    record {
-      refl = λ x. eq-eqb x x refl;
-      symm = λ x y. swap x y;
-      congr = λ x y z e. ap (λ (n : ℕ). n == z) (eqb-true x y e);
-    }
-  where
-    swap : (a b : ℕ) → a == b ≡ b == a
-    swap a b = grind (arith, nat_tests)
-
-pub range-push : (a n : ℕ) → range_with_len a (suc n) ≡ range_with_len a n ++ (a + n) ∷ []
-range-push a zero = let same : a ≡ a + 0 = omega arith in ap (λ (k : ℕ). k ∷ []) same
-range-push a (suc n) =
-    let same : a + 1 + n ≡ a + suc n = omega arith in
-    ap (λ (t : List ℕ). a ∷ t) (range-push (a + 1) n ∙ ap (λ (k : ℕ). range_with_len (a + 1) n ++ k ∷ []) same)
 
 in_range : (a n k : ℕ) → a ≤ k → k < a + n → list_any (λ m. k == m) (range_with_len a n) ≡ true
 in_range a zero k low high = absurd (omega (arith, low, high))
@@ -56,14 +42,6 @@ past_range a (suc n) k past = ap (λ (b : Bool). b || list_any (λ m. k == m) (r
   where
     apart : (x y : ℕ) → y < x → x == y ≡ false
     apart x y lt = grind (arith, nat_tests)
-
-none_before : {X : Type 0} (test : X → Bool) (ys : List X) → list_any test ys ≡ false → position_or_len test ys ≡ length ys
-none_before test [] e = refl
-none_before test (y ∷ ys) e = by (test y) e (λ h. none_before test ys h)
-  where
-    by : (b : Bool) → (b || list_any test ys) ≡ false → (list_any test ys ≡ false → position_or_len test ys ≡ length ys) → cond (not b) (1 + position_or_len test ys) 0 ≡ suc (length ys)
-    by true f rest = absurd (true≢false f)
-    by false f rest = let same = rest f in omega (arith, same)
 
 abbrev Numbered : {K : Type 0} → (K → K → Bool) → List K → Type 0
 Numbered same ks = firsts (λ a b. a == b) (map (λ n. n + 1) (places same ks)) ≡ range_with_len 1 (length (firsts same ks))
@@ -136,9 +114,6 @@ place-before {K} same eqv ks i d k lt is =
 
 -- ---- the flags of objects
 
-pub objects-equal : IsEquivalence same_object
-objects-equal = equivalence object_keys (λ (k : ObjectKey). k)
-
 keyed : IsEquivalence (λ (a b : Ordered). same_object a.key b.key)
 keyed = equivalence object_keys (λ (o : Ordered). o.key)
 
@@ -184,7 +159,7 @@ key_at os i o lt is = ap (λ (t : Ordered). t.key) is ∙ sym (get_or-map (λ (t
 
 place_of : (os : List Ordered) (i : ℕ) (o : Ordered) → i < length os → o ≡ get_or os i o → get_or (places same_object (keys_of os)) i 0 ≡ position_or_len (same_object o.key) (firsts same_object (keys_of (take i os)))
 place_of os i o lt is =
-    place-before same_object objects-equal (keys_of os) i 0 o.key (omega (arith, lt, length-map os (λ (t : Ordered). t.key))) (key_at os i o lt is)
+    place-before same_object objects_equal (keys_of os) i 0 o.key (omega (arith, lt, length-map os (λ (t : Ordered). t.key))) (key_at os i o lt is)
     ∙ ap (λ (t : List ObjectKey). position_or_len (same_object o.key) (firsts same_object t)) (keys_taken os i)
 
 -- The flags so far, where the next logical segment begins an object, and where it does not.

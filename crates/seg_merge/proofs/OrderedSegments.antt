@@ -5,7 +5,7 @@ use Rattle.std.specs.Option.{option_map_or}
 use Rattle.std.proofs.Common.{ap, sym, ◌∙◌, arith}
 use Rattle.std.proofs.lemmas.List.FromFn.{get_or-map-range_with_len}
 use Rattle.std.proofs.lemmas.Bool.{eqb-true}
-use Rattle.std.proofs.lemmas.Option.{get_or_from_slice_get}
+use Rattle.std.proofs.lemmas.Option.{get_or_from_slice_get, slice_get_within}
 use Rattle.link_model.specs.declared.keys.ObjectKey.{ObjectKey}
 use Rattle.link_model.specs.declared.keys.ObjectKey.TheVariants.{Group, Wide, Narrow}
 use Rattle.link_model.specs.Link.{Link}
@@ -19,13 +19,13 @@ use Rattle.seg_parts.specs.LogicalSegments.{heads_of}
 use Rattle.seg_parts.proofs.ClassOrder.{place-is}
 use Rattle.seg_merge.specs.Membership.{AreGroupsOf}
 use Rattle.seg_merge.specs.Ordered.{Ordered, all_parts, ordered_in, ordered_at, key_at, first_group}
-use Rattle.seg_merge.proofs.Gets.{get-below, mapped-get}
+use Rattle.seg_merge.proofs.Gets.{mapped-get}
 use Rattle.seg_merge.proofs.FirstGroups.{first-group-is}
 
 -- A first part joins only itself.
 pub number-is : (ps : List Part) (k : ℕ) (s t : Part) → slice_get (heads_of ps) k ≡ Some t → position_or_len (joins s) (heads_of ps) == k ≡ joins s t
 number-is ps k s t e =
-    place-is joins joining s (heads_of ps) k s (firsts-apart joins ps) (get-below (heads_of ps) k t e) ∙ ap (joins s) (get_or_from_slice_get (heads_of ps) k t s e)
+    place-is joins joining s (heads_of ps) k s (firsts-apart joins ps) (slice_get_within (heads_of ps) k t e) ∙ ap (joins s) (get_or_from_slice_get (heads_of ps) k t s e)
 
 pub own-number : (ps : List Part) (k : ℕ) (s : Part) → slice_get (heads_of ps) k ≡ Some s → position_or_len (joins s) (heads_of ps) ≡ k
 own-number ps k s e = eqb-true (position_or_len (joins s) (heads_of ps)) k (number-is ps k s s e ∙ joining.refl s)
@@ -62,7 +62,7 @@ ordered-at-is l hs keys flags lists names groups hs_are keys_are flags_are lists
     let head : h ≡ s = ap (λ (t : List Part). get_or t k own_stack) hs_are ∙ get_or_from_slice_get heads k s own_stack e in
     let flag : f ≡ flags_of l s = ap (λ (t : List ℕ). get_or t k 0) flags_are ∙ mapped-get (flags_of l) heads k s 0 e in
     let own : ps ≡ parts_of l s = ap (λ (t : List (List Part)). get_or t k []) lists_are ∙ mapped-get (λ t. filter (joins t) (all_parts l)) heads k s [] e in
-    let key : j ≡ object_key l s = ap (λ (t : List ObjectKey). get_or t k (Wide 0)) keys_are ∙ get_or-map-range_with_len (key_at heads flags names groups) 0 (length heads) k k (Wide 0) (get-below heads k s e) (omega arith)
+    let key : j ≡ object_key l s = ap (λ (t : List ObjectKey). get_or t k (Wide 0)) keys_are ∙ get_or-map-range_with_len (key_at heads flags names groups) 0 (length heads) k k (Wide 0) (slice_get_within heads k s e) (omega arith)
     ∙ key_is l flags names groups flags_are names_are groups_are k s e in
     ap (λ (n : ℕ). made n h j f ps) (sym (own-number (all_parts l) k s e))
     ∙ ap (λ (t : Part). made (position_or_len (joins s) heads) t j f ps) head

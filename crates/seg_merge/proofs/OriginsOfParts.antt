@@ -2,8 +2,8 @@
 use Rattle.std.specs.Prelude.{◌≡◌, ℕ, zero, suc, ◌+◌, ◌<◌, ◌==◌, Bool, true, false, cond, not, ◌&&◌, ◌||◌, List, [], ◌∷◌, ◌++◌, map, filter, take, length, get_or, refl}
 use Rattle.std.specs.List.{list_any, flat_map, enumerate_from}
 use Rattle.std.proofs.Common.{ap, ◌∙◌, arith, append_assoc}
-use Rattle.std.proofs.lemmas.Bool.Decides.{nat_tests}
 use Rattle.std.proofs.lemmas.List.Folds.{list_any-append}
+use Rattle.std.proofs.lemmas.Bool.{and_right}
 use Rattle.obj_types.specs.declared.object.Seg.{Seg}
 use Rattle.obj_types.specs.declared.object.ObjModule.{ObjModule}
 use Rattle.obj_types.specs.declared.symbol.Common.{Common}
@@ -15,6 +15,7 @@ use Rattle.link_model.specs.Symbols.{commons}
 use Rattle.link_model.specs.Order.{own_stack, own_stacks, is_program, parts_of}
 use Rattle.link_model.specs.Rows.{before, aligned, end_of_parts}
 use Rattle.link_model.proofs.KeyTests.{origin_itself}
+use Rattle.seg_parts.proofs.Listed.{apart}
 use Rattle.seg_merge.specs.Origins.{OffsetsAre}
 use Rattle.link_model.specs.Communals.{of_common, communals, parts}
 use Rattle.seg_merge.proofs.GroupPlaces.{any_get}
@@ -26,18 +27,11 @@ abbrev pub Distinct : List Part → Type 0
 Distinct [] = Unit {0}
 Distinct (p ∷ ps) = absent p.origin ps × Distinct ps
 
-apart : (a b : ℕ) → a < b → a == b ≡ false
-apart a b h = grind (arith, nat_tests)
-
-and_none : (a b : Bool) → b ≡ false → (a && b) ≡ false
-and_none true b e = e
-and_none false b e = refl
-
 -- ---- in one module
 
 below_by : (n i k : ℕ) (s : Seg) (rest : List (ℕ × Seg)) (d : Bool) → i < k → absent (Segment n i) (map (λ (q : ℕ × Seg). of_seg n q.0 q.1) rest) → absent (Segment n i) (map (λ (q : ℕ × Seg). of_seg n q.0 q.1) (cond (not d) ((k, s) ∷ rest) rest))
 below_by n i k s rest true lt e = e
-below_by n i k s rest false lt e = ap (λ (b : Bool). b || list_any (λ q. same_origin (Segment n i) q.origin) (map (λ (q : ℕ × Seg). of_seg n q.0 q.1) rest)) (and_none (n == n) (i == k) (apart i k lt)) ∙ e
+below_by n i k s rest false lt e = ap (λ (b : Bool). b || list_any (λ q. same_origin (Segment n i) q.origin) (map (λ (q : ℕ × Seg). of_seg n q.0 q.1) rest)) (and_right (n == n) (i == k) (apart i k lt)) ∙ e
 
 below : (n i k : ℕ) (segs : List Seg) → i < k → absent (Segment n i) (map (λ q. of_seg n q.0 q.1) (filter (λ q. not q.1.debug) (enumerate_from k segs)))
 below n i k [] lt = refl

@@ -1,11 +1,11 @@
 -- The row of each part of a link, and what it says.
 use Rattle.std.specs.Prelude.{◌≡◌, ℕ, ◌+◌, ◌<◌, ◌≤◌, ◌==◌, Bool, true, false, cond, ◌||◌, List, [], ◌∷◌, ◌++◌, Option, Some, None, All, map, find, take, length, get_or, nat_lt, refl}
 use Rattle.std.specs.List.{enumerate_from, AllByRecursion}
-use Rattle.std.specs.Option.{option_map}
 use Rattle.std.proofs.Common.{ap, sym, ◌∙◌, arith, subst}
-use Rattle.std.proofs.lemmas.Bool.{eq-eqb}
-use Rattle.std.proofs.lemmas.Bool.Decides.{nat_tests}
+use Rattle.std.proofs.lemmas.Bool.{eq-eqb, ltb-false}
 use Rattle.std.proofs.lemmas.List.{length-map, get_or-map}
+use Rattle.lx_types.proofs.Lists.{none_found}
+use Rattle.lx_types.proofs.Options.{mapped_none}
 use Rattle.link_model.specs.declared.limits.TheConstants.{MAX_MEMORY, MAX_NARROW_OBJECT, MAX_OBJECTS}
 use Rattle.link_model.specs.declared.keys.SegmentKey.{SegmentKey}
 use Rattle.link_model.specs.declared.refusals.LayRefusal.TheVariants.{TooLarge}
@@ -42,18 +42,6 @@ end-is l r i =
 
 -- ---- limits
 
-none_mapped : {X Y : Type 0} (f : X → Y) (o : Option X) → option_map f o ≡ None → o ≡ None
-none_mapped f None e = refl
-none_mapped f (Some x) e = cc
-
-none_found : {X : Type 0} (p : X → Bool) (xs : List X) → find p xs ≡ None → AllByRecursion (λ x. p x ≡ false) xs
-none_found p [] e = tt
-none_found {X} p (y ∷ ys) e = by (p y) refl (none_found p ys) e
-  where
-    by : (b : Bool) → p y ≡ b → (find p ys ≡ None → AllByRecursion (λ x. p x ≡ false) ys) → cond b (Some y) (find p ys) ≡ None → (p y ≡ false) × AllByRecursion (λ x. p x ≡ false) ys
-    by true is rest f = cc
-    by false is rest f = (is, rest f)
-
 unnumbered : (Q : ℕ × Row → Type 0) (P : Row → Type 0) → ((q : ℕ × Row) → Q q → P q.1) → (s : ℕ) (rs : List Row) → AllByRecursion Q (enumerate_from s rs) → AllByRecursion P rs
 unnumbered Q P f s [] all = tt
 unnumbered Q P f s (r ∷ rs) all = (f (s, r) all.0, unnumbered Q P f (s + 1) rs all.1)
@@ -62,9 +50,6 @@ either : (a b c : Bool) → (a || b || c) ≡ false → (a ≡ false) × (c ≡ 
 either true b c e = cc
 either false true c e = cc
 either false false c e = (refl, e)
-
-not_less : (a b : ℕ) → nat_lt a b ≡ false → b ≤ a
-not_less a b e = grind (arith, nat_tests)
 
 limit_most : (p : Part) → object_limit p ≤ MAX_MEMORY
 limit_most p = by p.wide
@@ -76,16 +61,16 @@ limit_most p = by p.wide
 within : (earlier : List Row) (r : Row) → passes_limits earlier r ≡ false → (r.end ≤ MAX_MEMORY) × (r.object ≤ MAX_OBJECTS)
 within earlier r e =
     let two = either (nat_lt (object_limit r.segment) r.end) (nat_lt MAX_MEMORY (size_of_rows earlier)) (nat_lt MAX_OBJECTS r.object) e in
-    let end = not_less (object_limit r.segment) r.end two.0 in
+    let end = ltb-false (object_limit r.segment) r.end two.0 in
     let most = limit_most r.segment in
-    (omega (arith, end, most), not_less MAX_OBJECTS r.object two.1)
+    (omega (arith, end, most), ltb-false MAX_OBJECTS r.object two.1)
 
 limits : (l : Link) → too_large l ≡ None → (r : Row) → In r (rows l) → (r.end ≤ MAX_MEMORY) × (r.object ≤ MAX_OBJECTS)
 limits l e r i =
     let test : ℕ × Row → Bool = λ q. passes_limits (take q.0 (rows l)) q.1 in
     each_in (λ (q : Row). (q.end ≤ MAX_MEMORY) × (q.object ≤ MAX_OBJECTS)) (rows l)
     (unnumbered (λ q. test q ≡ false) (λ q. (q.end ≤ MAX_MEMORY) × (q.object ≤ MAX_OBJECTS)) (λ q fits. within (take q.0 (rows l)) q.1 fits) 1 (rows l)
-    (none_found test (enumerate_from 1 (rows l)) (none_mapped (λ (q : ℕ × Row). TooLarge q.1.segment.name) (find test (enumerate_from 1 (rows l))) e))) i
+    (none_found test (enumerate_from 1 (rows l)) (mapped_none (λ (q : ℕ × Row). TooLarge q.1.segment.name) (find test (enumerate_from 1 (rows l))) e))) i
 
 -- ---- the rows by the numbers of logical segments
 

@@ -4,7 +4,7 @@ use Rattle.std.specs.Option.{option_map}
 use Rattle.std.proofs.Common.{ap, sym, ◌∙◌, arith, subst}
 use Rattle.std.proofs.Math.Nat.{le-max_left, le-max_right}
 use Rattle.std.proofs.lemmas.Bool.{eqb-true, eq-eqb}
-use Rattle.std.proofs.lemmas.List.{append-nil, get_or-map, get_or-set_same, get_or-set_other, length-set, length-map, map-append}
+use Rattle.std.proofs.lemmas.List.{append-nil, get_or-map, get_or-set_same, get_or-set_other, length-set, length-map, map-append, get_or_default}
 use Rattle.std.proofs.lemmas.List.Elements.{filter-append}
 use Rattle.std.proofs.lemmas.List.Sums.{fold-append}
 use Rattle.link_model.specs.declared.limits.TheConstants.{MAX_MEMORY}
@@ -161,11 +161,6 @@ first_fits : (b : Bool) (start at len : ℕ) → cond b start (at + len) ≤ MAX
 first_fits true start at len h = h
 first_fits false start at len h = omega (arith, h)
 
-get_same : {X : Type 0} (xs : List X) (k : ℕ) (a b : X) → k < length xs → get_or xs k a ≡ get_or xs k b
-get_same [] k a b h = absurd (omega (arith, h))
-get_same (x ∷ xs) zero a b h = refl
-get_same (x ∷ xs) (suc k) a b h = get_same xs k a b (omega (arith, h))
-
 module _ (l : Link) (ps : List Part) (placed : List Placed) (stand : RowsStand l ps placed) (i : ℕ) (p : Part) (n : ℕ) (r : Placed) (lt : i < length ps) (is : p ≡ get_or ps i p) (at : n ≡ get_or (numbers_of ps) i 0) (row : r ≡ get_or placed n r) (ends : List ℕ) (places : List (ℕ × ℕ)) (walked : Walked ps placed i ends places) where
   pub end-under : n < length ends
   end-under = let under = number-under l ps placed stand i p n r lt is at row in omega (arith, under, walked.as_many)
@@ -202,7 +197,7 @@ module _ (l : Link) (ps : List Part) (placed : List Placed) (stand : RowsStand l
         where
           each : (k d : ℕ) (q : Placed) → k < length placed → (b : Bool) → n == k ≡ b → get_or (set ends n next) k d ≡ ended (get_or placed k q) (take (i + 1) ps)
           each k d q below true same =
-              let mine : r ≡ get_or placed k q = row ∙ ap (λ (m : ℕ). get_or placed m r) (eqb-true n k same) ∙ get_same placed k r q below in
+              let mine : r ≡ get_or placed k q = row ∙ ap (λ (m : ℕ). get_or placed m r) (eqb-true n k same) ∙ get_or_default placed k r q below in
               ap (λ (m : ℕ). get_or (set ends n next) m d) (sym (eqb-true n k same)) ∙ get_or-set_same ends n next d end-under ∙ is_next ∙ next-is
               ∙ ap (λ (m : ℕ). cond (is_shared r) r.start m) (sym (end-kept (joins (shown r.head)) r.start ps i p lt is (own-joins l ps placed stand i p n r lt is at row)))
               ∙ ap (λ (t : Placed). ended t (take (i + 1) ps)) mine

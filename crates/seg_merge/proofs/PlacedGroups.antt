@@ -8,6 +8,8 @@ use Rattle.std.proofs.lemmas.Bool.{eq-eqb}
 use Rattle.std.proofs.lemmas.List.{get_or-map}
 use Rattle.std.proofs.lemmas.List.Folds.{list_any-append, find-append}
 use Rattle.std.proofs.lemmas.Slice.Eq.{bytes_eq-Decides}
+use Rattle.lx_types.proofs.Options.{or_none}
+use Rattle.lx_types.proofs.Lists.{any_filter}
 use Rattle.obj_types.specs.declared.object.Group.{Group}
 use Rattle.obj_types.specs.declared.object.ObjModule.{ObjModule}
 use Rattle.obj_types.specs.Items.{item}
@@ -35,7 +37,6 @@ use Rattle.seg_merge.specs.Placing.{object_named}
 use Rattle.seg_merge.specs.Splits.{has, with_flags, HaveFlags}
 use Rattle.seg_merge.specs.Standing.{RowsStand}
 use Rattle.seg_merge.proofs.HeadsStand.{find-heads, find-range}
-use Rattle.seg_merge.proofs.MixedUse.{any-filter}
 use Rattle.seg_merge.proofs.UseWalk.{in_group-alike}
 use Rattle.seg_merge.proofs.SpotsFound.{item-mapped, then-mapped}
 
@@ -100,7 +101,7 @@ flat-nowhere l g flat =
     let names : List (List ℕ) = flat_map (λ m. map (λ h. h.name) m.groups) l.modules in
     let none : list_any (bytes_eq g) (group_names l) ≡ false =
     any-firsts nat_list_eq_equiv g (filter (λ h. not (bytes_eq h FLAT)) names)
-    ∙ any-filter (bytes_eq g) (λ h. not (bytes_eq h FLAT)) names
+    ∙ any_filter (bytes_eq g) (λ h. not (bytes_eq h FLAT)) names
     ∙ none_all (λ x. not (bytes_eq x FLAT) && bytes_eq g x) (λ x. flat_by g x (bytes_eq x FLAT) (bytes_eq g x) flat refl refl) names in
     ap (λ (b : Bool). cond b (Some (position_or_len (bytes_eq g) (group_names l))) None) (sym (any-place (bytes_eq g) (group_names l)) ∙ none)
 
@@ -125,10 +126,6 @@ has_object l h (Some r) e = refl
 none_own : (l : Link) (g : List ℕ) (b : Bool) → find (in_group l g) (cond b (own_stack ∷ []) []) ≡ None
 none_own l g true = ap (λ (t : Bool). cond t (Some own_stack) None) (stack-in-none l g)
 none_own l g false = refl
-
-or_none : {X : Type 0} (o : Option X) → option_or o None ≡ o
-or_none None = refl
-or_none (Some x) = refl
 
 module _ (l : Link) (ps : List Part) (rows : List Placed) (stand : RowsStand l ps rows) where
   -- The first logical segment of a group is that of its first part.
@@ -205,7 +202,7 @@ group-named l m h i j other =
     any-firsts nat_list_eq_equiv h.name (filter (λ g. not (bytes_eq g FLAT)) names)
     ∙ any_in (bytes_eq h.name) (in_filter (λ g. not (bytes_eq g FLAT)) (in_flat_map (λ (t : ObjModule). map (λ g. g.name) t.groups) i (in_map (λ (g : Group). g.name) j)) (ap not other)) (nat_list_eq_equiv.refl h.name)
 
-in_item : {X : Type 0} (xs : List X) (n : ℕ) (x : X) → item xs n ≡ Some x → In x xs
+pub in_item : {X : Type 0} (xs : List X) (n : ℕ) (x : X) → item xs n ≡ Some x → In x xs
 in_item xs zero x e = cc
 in_item xs (suc n) x e = in_at xs n x e
 

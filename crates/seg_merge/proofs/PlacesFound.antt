@@ -1,10 +1,9 @@
 -- The places of a link from those of its parts and of its logical segments.
-use Rattle.std.specs.Prelude.{◌≡◌, ℕ, ◌+◌, ◌<◌, Bool, List, ◌++◌, Option, Some, All, map, filter, length, slice_get}
+use Rattle.std.specs.Prelude.{◌≡◌, ℕ, ◌+◌, List, ◌++◌, Option, Some, map, filter, length, slice_get}
 use Rattle.std.specs.Borrow.{Bor}
 use Rattle.std.specs.List.{enumerate_from, flat_map}
 use Rattle.std.specs.Option.{option_map, option_and_then}
-use Rattle.std.proofs.Common.{ap, sym, ◌∙◌, arith, subst, append_assoc}
-use Rattle.std.proofs.lemmas.List.{length-map, get_or-map}
+use Rattle.std.proofs.Common.{ap, sym, ◌∙◌, subst, append_assoc}
 use Rattle.obj_types.specs.declared.object.ObjModule.{ObjModule}
 use Rattle.obj_types.specs.Items.{item}
 use Rattle.link_model.specs.Link.{Link}
@@ -14,7 +13,6 @@ use Rattle.link_model.specs.Order.{own_stacks}
 use Rattle.link_model.specs.Layout.{place_of_part, spot, common_spot}
 use Rattle.link_model.specs.Goals.{object_of_group, group_name}
 use Rattle.seg_parts.specs.declared.rows.Placed.{Placed}
-use Rattle.seg_merge.specs.Membership.{AreGroupsOf}
 use Rattle.seg_merge.specs.Placing.{ArePlacesOf, AreSpotsOf, comes_of_communal, object_named}
 use Rattle.seg_merge.specs.Splits.{with_flags, HaveFlags}
 use Rattle.seg_merge.specs.Standing.{StandsSo}
@@ -52,7 +50,3 @@ module _ (l : Link) (ms : List ObjModule) (ps : List Part) (rows : List Placed) 
       (object-is l ps rows stand.rows_stand names groups numbers objects stand.names_are stand.groups_are numbered known_here)
       (found ∙ ap (λ (t : List (Option ℕ)). map (λ (m : Bor ObjModule). map (λ g. object_named names t g.name) m.now.groups) lents) same
       ∙ sym (mapped_twice row (λ (m : Bor ObjModule). m.now) lents) ∙ ap (map row) (same_modules ∙ stand.modules_are))
-
-pub groups-below : {V : Type 0} (items : V → List ℕ) (vs : List V) (is_in : List ℕ → Part → Bool) (names : List (List ℕ)) (heads : List Part) → AreGroupsOf is_in names heads (map items vs) → All (λ v. All (λ g. g < length names) (items v)) vs
-groups-below items vs is_in names heads are = λ k v lt.
-    subst (All (λ g. g < length names)) (get_or-map items vs k v (items v) lt) (are.below k (items v) (omega (arith, lt, length-map vs items)))

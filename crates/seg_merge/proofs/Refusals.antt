@@ -4,6 +4,7 @@ use Rattle.std.specs.List.{enumerate_from}
 use Rattle.std.specs.Option.{option_map, option_or}
 use Rattle.std.proofs.Common.{ap, ◌∙◌}
 use Rattle.std.proofs.lemmas.List.Folds.{find-append}
+use Rattle.lx_types.proofs.Options.{or_none}
 use Rattle.obj_types.specs.declared.symbol.Common.{Common}
 use Rattle.link_model.specs.declared.refusals.LayRefusal.{LayRefusal}
 use Rattle.link_model.specs.declared.refusals.LayRefusal.TheVariants.{AbsoluteSeg}
@@ -20,10 +21,6 @@ use Rattle.seg_parts.specs.Refusals.{absolute_in}
 no_communal : (l : Link) (s : ℕ) (cs : List (List ℕ × Common)) → find (λ p. p.align == 0) (map (λ q. of_common l q.0 q.1.1) (enumerate_from s cs)) ≡ None
 no_communal l s [] = refl
 no_communal l s (c ∷ cs) = no_communal l (s + 1) cs
-
-or_none : {X : Type 0} (o : Option X) → option_or o None ≡ o
-or_none None = refl
-or_none (Some x) = refl
 
 pub absolute-is : (l : Link) → absolute_in (parts l) ≡ absolute l
 unfolding parts

@@ -3,8 +3,8 @@ use Rattle.std.specs.Prelude.{◌≡◌, ℕ, zero, suc, ◌<◌, ◌≤◌, Boo
 use Rattle.std.specs.List.{All}
 use Rattle.std.specs.Option.{option_map}
 use Rattle.std.proofs.Common.{sym, subst, ◌∙◌, arith, append_assoc, true≢false}
-use Rattle.std.proofs.lemmas.Bool.Decides.{nat_tests}
 use Rattle.std.proofs.lemmas.List.{append-nil}
+use Rattle.std.proofs.lemmas.Bool.{ltb-false}
 use Rattle.link_model.specs.declared.limits.TheConstants.{MAX_MEMORY, MAX_OBJECTS}
 use Rattle.link_model.specs.declared.refusals.LayRefusal.TheVariants.{TooLarge}
 use Rattle.link_model.specs.Rows.{Row}
@@ -29,13 +29,10 @@ two_of false true c e = absurd (true≢false e)
 two_of false false true e = absurd (true≢false e)
 two_of false false false e = (refl, refl)
 
-most : (a b : ℕ) → nat_lt a b ≡ false → b ≤ a
-most a b e = grind (arith, nat_tests)
-
 within : (rs : List Row) (r : Row) → passes_limits rs r ≡ false → (size_of_rows rs ≤ MAX_MEMORY) × (r.object ≤ MAX_OBJECTS)
 within rs r e =
     let two = two_of (nat_lt (object_limit r.segment) r.end) (nat_lt MAX_MEMORY (size_of_rows rs)) (nat_lt MAX_OBJECTS r.object) e in
-    (most MAX_MEMORY (size_of_rows rs) two.0, most MAX_OBJECTS r.object two.1)
+    (ltb-false MAX_MEMORY (size_of_rows rs) two.0, ltb-false MAX_OBJECTS r.object two.1)
 
 size_from : (earlier rs : List Row) → past_limits earlier rs ≡ None → size_of_rows earlier ≤ MAX_MEMORY → size_of_rows (earlier ++ rs) ≤ MAX_MEMORY
 size_from earlier [] e few = subst (λ (t : List Row). size_of_rows t ≤ MAX_MEMORY) (sym (append-nil earlier)) few

@@ -1,14 +1,15 @@
 -- The rows of a link, by the numbers of its logical segments.
-use Rattle.std.specs.Prelude.{◌≡◌, ℕ, suc, ◌+◌, ◌<◌, ◌≤◌, ◌==◌, Bool, true, false, cond, not, ◌||◌, nat_lt, List, [], ◌∷◌, ◌++◌, Option, Some, None, map, filter, length, get_or, slice_get, refl}
+use Rattle.std.specs.Prelude.{◌≡◌, ℕ, suc, ◌+◌, ◌<◌, ◌==◌, Bool, true, false, cond, not, ◌||◌, nat_lt, List, [], ◌∷◌, ◌++◌, Option, Some, None, map, filter, length, get_or, slice_get, refl}
 use Rattle.std.specs.List.{All, find, list_any, enumerate_from, range_with_len, position, position_or_len}
 use Rattle.std.specs.Option.{option_and_then}
-use Rattle.std.proofs.Common.{ap, sym, subst, ◌∙◌, arith, true≢false, inl, inr}
+use Rattle.std.proofs.Common.{ap, sym, subst, ◌∙◌, arith, true≢false, inl, inr, map-id}
 use Rattle.std.proofs.lemmas.List.Elements.{All-map}
-use Rattle.std.proofs.lemmas.Bool.Decides.{nat_tests}
 use Rattle.std.proofs.lemmas.List.{length-map}
 use Rattle.std.proofs.lemmas.List.FromFn.{length-range_with_len, get_or-range_with_len}
 use Rattle.std.proofs.lemmas.Option.{slice_get-get_or, slice_get_past, get_or_from_slice_get}
 use Rattle.std.proofs.lemmas.Simd.{map-map}
+use Rattle.std.proofs.lemmas.Bool.{ltb-false}
+use Rattle.std.proofs.lemmas.List.Folds.{find_at}
 use Rattle.link_model.specs.Appearance.{firsts}
 use Rattle.link_model.specs.Link.{Link}
 use Rattle.link_model.specs.Parts.{Part, joins}
@@ -35,26 +36,12 @@ heads_from : (earlier : List Row) (us : List Unplaced) → map (λ (r : Row). r.
 heads_from earlier [] = refl
 heads_from earlier (u ∷ us) = ap (λ (t : List Part). u.head ∷ t) (heads_from (earlier ++ row_behind earlier u ∷ []) us)
 
-same_list : {X : Type 0} (xs : List X) → map (λ x. x) xs ≡ xs
-same_list [] = refl
-same_list {X} (x ∷ xs) = ap (λ (t : List X). x ∷ t) (same_list xs)
-
 pub row-segments : (l : Link) → map (λ (r : Row). r.segment) (rows l) ≡ ordered l
 row-segments l =
     ap (map (λ (r : Row). r.segment)) (rows-are l) ∙ heads_from [] (map (unplaced_in l) (ordered l))
-    ∙ map-map (λ (u : Unplaced). u.head) (unplaced_in l) (ordered l) ∙ same_list (ordered l)
+    ∙ map-map (λ (u : Unplaced). u.head) (unplaced_in l) (ordered l) ∙ map-id (ordered l)
 
 -- ---- the first that passes a test
-
-pub find-get : {X : Type 0} (p : X → Bool) (xs : List X) → find p xs ≡ slice_get xs (position_or_len p xs)
-find-get p [] = refl
-find-get {X} p (x ∷ xs) = by (p x) (find-get p xs)
-  where
-    by : (b : Bool) → find p xs ≡ slice_get xs (position_or_len p xs) → cond b (Some x) (find p xs) ≡ slice_get (x ∷ xs) (cond (not b) (1 + position_or_len p xs) 0)
-    by true later = refl
-    by false later =
-        let next : suc (position_or_len p xs) ≡ 1 + position_or_len p xs = omega arith in
-        later ∙ ap (slice_get (x ∷ xs)) next
 
 place_mapped : {X : Type 0} (p : X → Bool) (xs : List X) → position_or_len p xs ≡ position_or_len (λ b. b) (map p xs)
 place_mapped p [] = refl
@@ -70,18 +57,15 @@ any_mapped p (x ∷ xs) = ap (λ (b : Bool). p x || b) (any_mapped p xs)
 same_any : {X Y : Type 0} (p : X → Bool) (q : Y → Bool) (xs : List X) (ys : List Y) → map p xs ≡ map q ys → list_any p xs ≡ list_any q ys
 same_any p q xs ys e = any_mapped p xs ∙ ap (list_any (λ b. b)) e ∙ sym (any_mapped q ys)
 
-not_less : (a b : ℕ) → nat_lt a b ≡ false → b ≤ a
-not_less a b e = grind (arith, nat_tests)
-
 -- By the place among others that pass as these do.
 pub find-at : {X Y : Type 0} (p : X → Bool) (q : Y → Bool) (xs : List X) (ys : List Y) → map p xs ≡ map q ys → find p xs ≡ option_and_then (slice_get xs) (position q ys)
 find-at {X} {Y} p q xs ys e = by (nat_lt (position_or_len q ys) (length ys)) refl
   where
     by : (b : Bool) → nat_lt (position_or_len q ys) (length ys) ≡ b → find p xs ≡ option_and_then (slice_get xs) (cond b (Some (position_or_len q ys)) None)
-    by true lt = find-get p xs ∙ ap (slice_get xs) (same-place p q xs ys e)
+    by true lt = find_at p xs ∙ ap (slice_get xs) (same-place p q xs ys e)
     by false past =
         let long : length xs ≡ length ys = sym (length-map xs p) ∙ ap length e ∙ length-map ys q in
-        find-get p xs ∙ ap (slice_get xs) (same-place p q xs ys e) ∙ slice_get_past xs (position_or_len q ys) (omega (arith, long, not_less (position_or_len q ys) (length ys) past))
+        find_at p xs ∙ ap (slice_get xs) (same-place p q xs ys e) ∙ slice_get_past xs (position_or_len q ys) (omega (arith, long, ltb-false (position_or_len q ys) (length ys) past))
 
 -- ---- by number
 
@@ -145,7 +129,7 @@ at_number l order k t in_order e =
     let first = first_place 0 k order any in
     let place : ℕ = get_or (places_with order k) 0 0 in
     let at : place ≡ position_or_len p (rows l) = first.1 ∙ omega arith ∙ sym (same-place p (λ n. n == k) (rows l) order same) in
-    let got : row_of l t ≡ slice_get (rows l) place = find-get p (rows l) ∙ ap (slice_get (rows l)) (sym at) in
+    let got : row_of l t ≡ slice_get (rows l) place = find_at p (rows l) ∙ ap (slice_get (rows l)) (sym at) in
     record {
       some = first.0;
       is = got ∙ some_at (rows l) place row.row no_row (sym got ∙ row.is);

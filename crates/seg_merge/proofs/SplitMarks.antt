@@ -11,6 +11,7 @@ use Rattle.link_model.specs.declared.refusals.LayRefusal.{LayRefusal}
 use Rattle.link_model.specs.declared.refusals.LayRefusal.TheVariants.{GroupSplit}
 use Rattle.std.specs.Prelude.{Result, Ok, Err}
 use Rattle.std.specs.Borrow.{Bor}
+use Rattle.std.proofs.Math.Bool.{or-false, or_assoc}
 use Rattle.lx_types.specs.declared.name.Name.{Name}
 use Rattle.lx_types.specs.Answers.{Answers}
 use Rattle.lx_types.specs.declared.fail.Fail.{Fail}
@@ -19,7 +20,6 @@ use Rattle.sym_table.proofs.Lists.{map-more}
 use Rattle.seg_parts.proofs.Lists.{split-at}
 use Rattle.seg_parts.proofs.Ranges.{range-more}
 use Rattle.seg_merge.specs.Splits.{has, differ, first_with_flags, splits, is_split, split_group, marked_group, AreFlagged, AreMarked, HaveFlags, AreSplit}
-use Rattle.seg_merge.proofs.GroupPlaces.{or_false}
 
 rows-more : (lists : List (List ℕ)) (flags : List ℕ) (i : ℕ) → first_with_flags (i + 1) lists flags ≡ first_with_flags i lists flags ++ (get_or lists i [], get_or flags i 0) ∷ []
 rows-more lists flags i = range-more (λ k. (get_or lists k [], get_or flags k 0)) i
@@ -63,12 +63,8 @@ flags-step count i lists flags gs f known new at is old are =
 min_below : (a x g : ℕ) → nat_lt (min a x) g ≡ (nat_lt a g || nat_lt x g)
 min_below a x g = grind (arith, nat_tests)
 
-or_assoc : (a b c : Bool) → ((a || b) || c) ≡ (a || (b || c))
-or_assoc true b c = refl
-or_assoc false b c = refl
-
 least_below : (gs : List ℕ) (a g : ℕ) → nat_lt (fold (λ (n : ℕ) (j : ℕ). min n j) a gs) g ≡ (nat_lt a g || list_any (λ j. nat_lt j g) gs)
-least_below [] a g = sym (or_false (nat_lt a g))
+least_below [] a g = sym (or-false (nat_lt a g))
 least_below (x ∷ gs) a g =
     least_below gs (min a x) g ∙ ap (λ (b : Bool). b || list_any (λ j. nat_lt j g) gs) (min_below a x g) ∙ or_assoc (nat_lt a g) (nat_lt x g) (list_any (λ j. nat_lt j g) gs)
 
@@ -85,7 +81,7 @@ marks-more count known qs q first split new is old are =
           are.each g (omega (arith, lt, old.as_many))
           ∙ ap (λ (b : Bool). b || (has g q.0 && (nat_lt first g || differ (get_or known g None) q.1))) (old.each g lt)
           ∙ ap (λ (b : Bool). list_any (splits g (get_or known g None)) qs || (has g q.0 && (b || differ (get_or known g None) q.1))) below
-          ∙ ap (λ (b : Bool). list_any (splits g (get_or known g None)) qs || b) (sym (or_false (splits g (get_or known g None) q)))
+          ∙ ap (λ (b : Bool). list_any (splits g (get_or known g None)) qs || b) (sym (or-false (splits g (get_or known g None) q)))
           ∙ sym (list_any-append (splits g (get_or known g None)) qs (q ∷ []));
     }
 

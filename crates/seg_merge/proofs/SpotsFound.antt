@@ -7,6 +7,10 @@ use Rattle.std.proofs.lemmas.Bool.{eq-eqb, ne_eqb, and_left}
 use Rattle.std.proofs.lemmas.List.{append-nil}
 use Rattle.std.proofs.lemmas.List.Elements.{filter-append}
 use Rattle.std.proofs.lemmas.List.Folds.{find-append}
+use Rattle.std.proofs.lemmas.Option.{slice_get-map}
+use Rattle.lx_types.proofs.Lists.{find_agree}
+use Rattle.lx_types.proofs.Options.{or_none}
+use Rattle.lx_types.proofs.Bools.{same_test}
 use Rattle.obj_types.specs.declared.object.Seg.{Seg}
 use Rattle.obj_types.specs.declared.object.ObjModule.{ObjModule}
 use Rattle.obj_types.specs.declared.symbol.Common.{Common}
@@ -25,25 +29,11 @@ use Rattle.seg_merge.specs.Placing.{ArePlacesOf, seg_place, seg_places, comes_of
 
 -- ---- small steps
 
-find-alike : {X : Type 0} (p q : X → Bool) → ((x : X) → p x ≡ q x) → (xs : List X) → find p xs ≡ find q xs
-find-alike p q h [] = refl
-find-alike {X} p q h (x ∷ xs) =
-    ap (λ (b : Bool). cond b (Some x) (find p xs)) (h x) ∙ ap (λ (o : Option X). cond (q x) (Some x) o) (find-alike p q h xs)
-
-agree : (s t : Bool) → (s ≡ true → t ≡ true) → (t ≡ true → s ≡ true) → s ≡ t
-agree true t f g = sym (f refl)
-agree false true f g = g refl
-agree false false f g = refl
-
 turned : (a b : Origin) → same_origin a b ≡ true → same_origin b a ≡ true
 turned a b e = ap (λ (o : Origin). same_origin o a) (sym (origin_equal a b e)) ∙ origin_itself a
 
 either-way : (a b : Origin) → same_origin a b ≡ same_origin b a
-either-way a b = agree (same_origin a b) (same_origin b a) (turned a b) (turned b a)
-
-or_none : {X : Type 0} (o : Option X) → option_or o None ≡ o
-or_none None = refl
-or_none (Some x) = refl
+either-way a b = same_test (same_origin a b) (same_origin b a) (turned a b) (turned b a)
 
 -- ---- segments
 
@@ -106,7 +96,7 @@ none_common l n i s (c ∷ cs) = none_common l n i (s + 1) cs
 segment-found : (l : Link) (n i : ℕ) → find (λ p. same_origin p.origin (Segment n i)) (parts l) ≡ option_and_then (λ m. option_and_then (plain_part n i) (item m.segs i)) (item l.modules n)
 unfolding parts has
 segment-found l n i =
-    find-alike (λ p. same_origin p.origin (Segment n i)) (has n i) (λ p. either-way p.origin (Segment n i)) (contributions l ++ communals l)
+    find_agree (λ p. same_origin p.origin (Segment n i)) (has n i) (λ p. either-way p.origin (Segment n i)) (contributions l ++ communals l)
     ∙ find-append (has n i) (contributions l) (communals l)
     ∙ ap (option_or (find (has n i) (contributions l))) (none_common l n i 0 (commons l))
     ∙ or_none (find (has n i) (contributions l))
@@ -183,14 +173,9 @@ communals-kept l =
 
 -- ---- look-ups
 
-mapped_at : {X Y : Type 0} (f : X → Y) (xs : List X) (k : ℕ) → slice_get (map f xs) k ≡ option_map f (slice_get xs k)
-mapped_at f [] k = refl
-mapped_at f (x ∷ xs) zero = refl
-mapped_at f (x ∷ xs) (suc k) = mapped_at f xs k
-
 pub item-mapped : {X Y : Type 0} (f : X → Y) (xs : List X) (n : ℕ) → item (map f xs) n ≡ option_map f (item xs n)
 item-mapped f xs zero = refl
-item-mapped f xs (suc n) = mapped_at f xs n
+item-mapped f xs (suc n) = slice_get-map f xs n
 
 numbered_at : {X Y : Type 0} (f : ℕ × X → Y) (s : ℕ) (xs : List X) (k n : ℕ) → n ≡ s + k → slice_get (map f (enumerate_from s xs)) k ≡ option_map (λ x. f (n, x)) (slice_get xs k)
 numbered_at f s [] k n at = refl

@@ -1,5 +1,5 @@
 -- The first logical segment that has a stack.
-use Rattle.std.specs.Prelude.{◌≡◌, ℕ, zero, suc, Bool, true, false, cond, nat_lt, List, [], ◌∷◌, Option, Some, None, map, length, slice_get, find, refl}
+use Rattle.std.specs.Prelude.{◌≡◌, ℕ, Bool, true, false, cond, nat_lt, List, [], ◌∷◌, Option, Some, None, map, length, find, refl}
 use Rattle.std.specs.List.{list_any, position, position_or_len}
 use Rattle.std.specs.Option.{option_map}
 use Rattle.std.proofs.Common.{ap, sym, ◌∙◌}
@@ -33,8 +33,3 @@ pub stack-position : (os : List OrderedSegment) → position any_stack os ≡ po
 stack-position os =
     ap (λ (n : ℕ). cond (nat_lt n (length os)) (Some n) None) (same-place any_stack has_stack os (map ordered_shown os) (tests os))
     ∙ ap (λ (n : ℕ). cond (nat_lt (position_or_len has_stack (map ordered_shown os)) n) (Some (position_or_len has_stack (map ordered_shown os))) None) (sym (length-map os ordered_shown))
-
-pub mapped-slice : {X Y : Type 0} (f : X → Y) (xs : List X) (i : ℕ) → slice_get (map f xs) i ≡ option_map f (slice_get xs i)
-mapped-slice f [] i = refl
-mapped-slice f (x ∷ xs) zero = refl
-mapped-slice f (x ∷ xs) (suc i) = mapped-slice f xs i

@@ -2,13 +2,12 @@
 use Rattle.std.specs.Prelude.{◌≡◌, ℕ, ◌+◌, ◌<◌, List, [], ◌∷◌, ◌++◌, Option, map, take, length, get_or}
 use Rattle.std.specs.List.{enumerate_from}
 use Rattle.std.proofs.Common.{ap, sym, ◌∙◌, arith}
-use Rattle.std.proofs.lemmas.List.{map-append, length-map}
+use Rattle.std.proofs.lemmas.List.{map-append, length-map, get_or_default}
 use Rattle.seg_parts.specs.declared.rows.Unplaced as lent
 use Rattle.seg_parts.specs.Parts.{shown}
 use Rattle.seg_parts.specs.Placing.{unplaced_shown}
 use Rattle.seg_parts.specs.Rows.{Unplaced}
 use Rattle.seg_parts.proofs.Lists.{take-push, enumerate-more}
-use Rattle.seg_parts.proofs.Ranges.{get_or-same}
 use Rattle.seg_merge.specs.declared.ordered.OrderedSegment.{OrderedSegment}
 use Rattle.seg_merge.specs.Laid.{least_of, unit_at}
 use Rattle.seg_merge.specs.Ordered.{Ordered, ordered_shown}
@@ -19,7 +18,7 @@ pub objects-more : (objects : List ℕ) (units next : List lent.Unplaced) (i : �
 objects-more objects units next i u lt so_far grown is =
     ap (map (λ (v : lent.Unplaced). v.object)) grown ∙ map-append (λ (v : lent.Unplaced). v.object) units (u ∷ [])
     ∙ ap (λ (t : List ℕ). t ++ u.object ∷ []) so_far
-    ∙ sym (take-push objects i u.object lt (is ∙ get_or-same objects i 0 u.object lt))
+    ∙ sym (take-push objects i u.object lt (is ∙ get_or_default objects i 0 u.object lt))
 
 pub units-more : (ordered : List OrderedSegment) (objects : List ℕ) (stack : Option ℕ) (size : ℕ) (units next : List lent.Unplaced) (i : ℕ) (o : OrderedSegment) (u : lent.Unplaced) → i < length ordered → o ≡ get_or ordered i o →
     map unplaced_shown units ≡ map (unit_at objects stack size) (enumerate_from 0 (take i (map ordered_shown ordered))) → next ≡ units ++ u ∷ [] →

@@ -2,9 +2,8 @@
 use Rattle.std.specs.Prelude.{◌≡◌, ℕ, ◌+◌, ◌<◌, List, [], ◌∷◌, ◌++◌, take, length, get_or, refl}
 use Rattle.std.specs.List.{zip}
 use Rattle.std.proofs.Common.{ap, sym, ◌∙◌, arith}
-use Rattle.std.proofs.lemmas.List.{length-take-le}
+use Rattle.std.proofs.lemmas.List.{length-take-le, get_or_default}
 use Rattle.seg_parts.proofs.Lists.{take-push}
-use Rattle.seg_parts.proofs.Ranges.{get_or-same}
 
 pushed : (xs ys : List ℕ) (x y : ℕ) → length xs ≡ length ys → zip (xs ++ x ∷ []) (ys ++ y ∷ []) ≡ zip xs ys ++ (x, y) ∷ []
 pushed [] [] x y e = refl
@@ -18,4 +17,4 @@ zip-more xs ys i x y pairs next lt under so_far grown =
     let b : ℕ = get_or ys i y in
     let long : length (take i xs) ≡ length (take i ys) = omega (arith, length-take-le i xs (omega (arith, lt)), length-take-le i ys (omega (arith, under))) in
     grown ∙ ap (λ (t : List (ℕ × ℕ)). t ++ (a, b) ∷ []) so_far ∙ sym (pushed (take i xs) (take i ys) a b long)
-    ∙ ap (λ (t : List ℕ). zip t (take i ys ++ b ∷ [])) (sym (take-push xs i a lt (get_or-same xs i x a lt))) ∙ ap (zip (take (i + 1) xs)) (sym (take-push ys i b under (get_or-same ys i y b under)))
+    ∙ ap (λ (t : List ℕ). zip t (take i ys ++ b ∷ [])) (sym (take-push xs i a lt (get_or_default xs i x a lt))) ∙ ap (zip (take (i + 1) xs)) (sym (take-push ys i b under (get_or_default ys i y b under)))

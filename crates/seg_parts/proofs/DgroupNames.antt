@@ -1,10 +1,11 @@
 -- The names of the logical segments of DGROUP, with one more member.
-use Rattle.std.specs.Prelude.{◌≡◌, ℕ, ◌+◌, ◌<◌, take, Bool, true, false, cond, ◌&&◌, ◌||◌, List, [], ◌∷◌, ◌++◌, Some, None, map, length, nat_lt, position, is_some, bytes_eq, refl}
+use Rattle.std.specs.Prelude.{◌≡◌, ℕ, ◌+◌, ◌<◌, take, Bool, true, false, cond, ◌&&◌, ◌||◌, List, [], ◌∷◌, ◌++◌, map, length, nat_lt, position, is_some, bytes_eq, refl}
 use Rattle.std.specs.List.{list_any, position_or_len}
 use Rattle.std.specs.Cmp.{IsEquivalence}
 use Rattle.std.proofs.Common.{ap, sym, ◌∙◌}
-use Rattle.std.proofs.lemmas.List.{map-append}
+use Rattle.std.proofs.lemmas.List.{map-append, get_or_default}
 use Rattle.std.proofs.lemmas.List.Folds.{list_any-append}
+use Rattle.lx_types.proofs.Bools.{some_by}
 use Rattle.link_model.specs.declared.keys.SegmentKey.{SegmentKey}
 use Rattle.link_model.specs.Groups.{DGROUP}
 use Rattle.link_model.specs.Parts.{Part, segment_key, same_segment}
@@ -17,21 +18,13 @@ use Rattle.seg_parts.specs.Communals.{is_in}
 use Rattle.seg_parts.specs.Members.{member_shown, is_member}
 use Rattle.seg_parts.specs.declared.members.Member.{Member}
 use Rattle.std.proofs.Math.ListN.{get_or}
+use Rattle.std.proofs.Math.Bool.{or-false}
 use Rattle.sym_table.proofs.Lists.{map-more}
-use Rattle.seg_parts.proofs.Ranges.{get_or-same}
 use Rattle.seg_parts.proofs.Names.{names-shown}
 use Rattle.seg_parts.proofs.Tables.{any-shown}
 
-some_by : (b : Bool) (n : ℕ) → is_some (cond b (Some n) None) ≡ b
-some_by true n = refl
-some_by false n = refl
-
 pub some-position : {X : Type 0} (p : X → Bool) (xs : List X) → is_some (position p xs) ≡ list_any p xs
 some-position p xs = some_by (nat_lt (position_or_len p xs) (length xs)) (position_or_len p xs) ∙ sym (any-place p xs)
-
-or_false : (b : Bool) → (b || false) ≡ b
-or_false true = refl
-or_false false = refl
 
 pub equal : IsEquivalence same_segment
 equal = equivalence segment_keys (λ (k : SegmentKey). k)
@@ -45,7 +38,7 @@ known : (k x : SegmentKey) (ks : List SegmentKey) (b : Bool) → same_segment k 
 known k x ks true e there =
     let has : list_any (same_segment k) ks ≡ true = alike k x ks e ∙ there in
     has ∙ ap (λ (b : Bool). b || true) (sym has)
-known k x ks false e there = sym (or_false (list_any (same_segment k) ks))
+known k x ks false e there = sym (or-false (list_any (same_segment k) ks))
 
 inserted : (names : List SegmentName) (x : SegmentName) (k : SegmentKey) (b : Bool) → list_any (eq-value.it x) names ≡ b →
     list_any (same_segment k) (map name_shown (cond b names (names ++ x ∷ []))) ≡ (list_any (same_segment k) (map name_shown names) || same_segment k (name_shown x))
@@ -54,12 +47,12 @@ inserted names x k true e =
 inserted names x k false e =
     ap (list_any (same_segment k)) (map-append name_shown names (x ∷ []))
     ∙ list_any-append (same_segment k) (map name_shown names) (name_shown x ∷ [])
-    ∙ ap (λ (b : Bool). list_any (same_segment k) (map name_shown names) || b) (or_false (same_segment k (name_shown x)))
+    ∙ ap (λ (b : Bool). list_any (same_segment k) (map name_shown names) || b) (or-false (same_segment k (name_shown x)))
 
 more : (ms : List (List ℕ × SegmentKey)) (m : List ℕ × SegmentKey) (p : Part) (b : Bool) → bytes_eq m.0 DGROUP ≡ b → is_member (ms ++ m ∷ []) DGROUP p ≡ (is_member ms DGROUP p || (b && same_segment (segment_key p) m.1))
 more ms m p b e =
     list_any-append (λ q. bytes_eq q.0 DGROUP && same_segment (segment_key p) q.1) ms (m ∷ [])
-    ∙ ap (λ (t : Bool). is_member ms DGROUP p || t) (or_false (bytes_eq m.0 DGROUP && same_segment (segment_key p) m.1))
+    ∙ ap (λ (t : Bool). is_member ms DGROUP p || t) (or-false (bytes_eq m.0 DGROUP && same_segment (segment_key p) m.1))
     ∙ ap (λ (t : Bool). is_member ms DGROUP p || (t && same_segment (segment_key p) m.1)) e
 
 pub added-name : (names new : List SegmentName) (ms : List (List ℕ × SegmentKey)) (group : List ℕ) (x : SegmentName) → bytes_eq group DGROUP ≡ true → new ≡ cond (list_any (eq-value.it x) names) names (names ++ x ∷ []) →
@@ -72,11 +65,11 @@ added-name names new ms group x is grown old p =
 
 pub other-name : (names : List SegmentName) (ms : List (List ℕ × SegmentKey)) (group : List ℕ) (x : SegmentName) → bytes_eq group DGROUP ≡ false →
     ((p : Part) → is_in names p ≡ is_member ms DGROUP p) → (p : Part) → is_in names p ≡ is_member (ms ++ (group, name_shown x) ∷ []) DGROUP p
-other-name names ms group x is old p = old p ∙ sym (or_false (is_member ms DGROUP p)) ∙ sym (more ms (group, name_shown x) p false is)
+other-name names ms group x is old p = old p ∙ sym (or-false (is_member ms DGROUP p)) ∙ sym (more ms (group, name_shown x) p false is)
 
 module _ (members : List Member) (i : ℕ) (d : Member) (below : i < length members) where
   one_more : map member_shown (take (i + 1) members) ≡ map member_shown (take i members) ++ member_shown (get_or members i d) ∷ []
-  one_more = map-more member_shown members i (get_or members i d) below (get_or-same members i d (get_or members i d) below)
+  one_more = map-more member_shown members i (get_or members i d) below (get_or_default members i d (get_or members i d) below)
 
   pub dgroup-in : (names new : List SegmentName) → bytes_eq (get_or members i d).group.now DGROUP ≡ true →
       new ≡ cond (list_any (eq-value.it (get_or members i d).segment) names) names (names ++ (get_or members i d).segment ∷ []) →

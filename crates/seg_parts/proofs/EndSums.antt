@@ -4,9 +4,9 @@ use Rattle.std.specs.List.{fold, list_any, range_with_len, AllPairs}
 use Rattle.std.specs.Cmp.{IsEquivalence}
 use Rattle.std.proofs.Common.{ap, sym, ◌∙◌, arith, true≢false}
 use Rattle.std.proofs.Math.ListN.{get_or, set}
-use Rattle.std.proofs.lemmas.Bool.{eqb-true, eq-eqb}
+use Rattle.std.proofs.lemmas.Bool.{eqb-true, eq-eqb, le-ltb, lt-ltb}
 use Rattle.std.proofs.lemmas.Bool.Decides.{nat_tests}
-use Rattle.std.proofs.lemmas.List.{map-append}
+use Rattle.std.proofs.lemmas.List.{map-append, get_or_default}
 use Rattle.std.proofs.lemmas.List.Elements.{filter-append}
 use Rattle.std.proofs.lemmas.List.Sums.{fold-append, sum_by-append}
 use Rattle.std.proofs.lemmas.List.FromFn.{get_or-map-range_with_len, length-map-range_with_len}
@@ -19,7 +19,7 @@ use Rattle.seg_parts.specs.declared.rows.Ends.{Ends}
 use Rattle.seg_parts.specs.Rows.{row_at, row_behind}
 use Rattle.seg_parts.specs.Placing.{unplaced_shown, AreEnds, Adds}
 use Rattle.link_model.proofs.Tables.{firsts-push, firsts-apart, any-firsts}
-use Rattle.seg_parts.proofs.Ranges.{set-range, get_or-same}
+use Rattle.seg_parts.proofs.Ranges.{set-range}
 
 -- ---- the end of one object
 
@@ -68,7 +68,7 @@ ends-more count k rs r ends below is all =
 
 -- ---- their sum
 
-nat_equal : IsEquivalence (λ (a b : ℕ). a == b)
+pub nat_equal : IsEquivalence (λ (a b : ℕ). a == b)
 nat_equal =
     record {
       refl = λ x. eq-eqb x x refl;
@@ -84,7 +84,7 @@ sum_of_cons f x xs =
     let none : 0 + f x ≡ f x = omega arith in
     sum_by-append f (x ∷ []) xs ∙ ap (λ (n : ℕ). n + sum_by f xs) none
 
-differs : (a b : ℕ) → a == b ≡ false → b ≡ a → ⊥
+pub differs : (a b : ℕ) → a == b ≡ false → b ≡ a → ⊥
 differs a b h i = true≢false (sym (eq-eqb a b (sym i)) ∙ h)
 
 same_sum : (f g : ℕ → ℕ) (o : ℕ) (xs : List ℕ) → ((j : ℕ) → (j ≡ o → ⊥) → g j ≡ f j) → list_any (λ n. o == n) xs ≡ false → sum_by g xs ≡ sum_by f xs
@@ -178,7 +178,7 @@ ends-after count rows u old new end are below is adds =
 pub row-found : (count : ℕ) (rows : List Row) (u : lent.Unplaced) (old : Ends) (at : ℕ) → AreEnds count rows old → u.object < length old.ends.items → at ≡ get_or old.ends.items u.object at →
     row_at at (unplaced_shown u) ≡ row_behind rows (unplaced_shown u)
 row-found count rows u old at are below is =
-    ap (λ (n : ℕ). row_at n (unplaced_shown u)) (is ∙ get_or-same old.ends.items u.object at 0 below) ∙ row-here count rows u old are below
+    ap (λ (n : ℕ). row_at n (unplaced_shown u)) (is ∙ get_or_default old.ends.items u.object at 0 below) ∙ row-here count rows u old are below
 
 member_le : (f : ℕ → ℕ) (o : ℕ) (xs : List ℕ) → list_any (λ n. o == n) xs ≡ true → f o ≤ sum_by f xs
 member_le f o [] e = absurd (true≢false (sym e))
@@ -231,25 +231,19 @@ third_over a b false e = absurd (true≢false (sym e))
 none_over : (a b c : Bool) → a ≡ false → b ≡ false → c ≡ false → over a b c ≡ false
 none_over a b c e f g = ap (λ (t : Bool). over t b c) e ∙ ap (λ (t : Bool). over false t c) f ∙ g
 
-below_true : (a b : ℕ) → a < b → nat_lt a b ≡ true
-below_true a b h = grind (arith, nat_tests)
-
-not_below : (a b : ℕ) → b ≤ a → nat_lt a b ≡ false
-not_below a b h = grind (arith, nat_tests)
-
 pub past-end : (rows : List Row) (r : Row) → object_limit r.segment < r.end → passes_limits (rows ++ r ∷ []) r ≡ true
 past-end rows r h =
-    first_over (nat_lt (object_limit r.segment) r.end) (nat_lt MAX_MEMORY (size_of_rows (rows ++ r ∷ []))) (nat_lt MAX_OBJECTS r.object) (below_true (object_limit r.segment) r.end h)
+    first_over (nat_lt (object_limit r.segment) r.end) (nat_lt MAX_MEMORY (size_of_rows (rows ++ r ∷ []))) (nat_lt MAX_OBJECTS r.object) (lt-ltb (object_limit r.segment) r.end h)
 
 pub past-memory : (rows : List Row) (r : Row) → MAX_MEMORY < size_of_rows (rows ++ r ∷ []) → passes_limits (rows ++ r ∷ []) r ≡ true
 past-memory rows r h =
-    second_over (nat_lt (object_limit r.segment) r.end) (nat_lt MAX_MEMORY (size_of_rows (rows ++ r ∷ []))) (nat_lt MAX_OBJECTS r.object) (below_true MAX_MEMORY (size_of_rows (rows ++ r ∷ [])) h)
+    second_over (nat_lt (object_limit r.segment) r.end) (nat_lt MAX_MEMORY (size_of_rows (rows ++ r ∷ []))) (nat_lt MAX_OBJECTS r.object) (lt-ltb MAX_MEMORY (size_of_rows (rows ++ r ∷ [])) h)
 
 pub past-objects : (rows : List Row) (r : Row) → MAX_OBJECTS < r.object → passes_limits (rows ++ r ∷ []) r ≡ true
 past-objects rows r h =
-    third_over (nat_lt (object_limit r.segment) r.end) (nat_lt MAX_MEMORY (size_of_rows (rows ++ r ∷ []))) (nat_lt MAX_OBJECTS r.object) (below_true MAX_OBJECTS r.object h)
+    third_over (nat_lt (object_limit r.segment) r.end) (nat_lt MAX_MEMORY (size_of_rows (rows ++ r ∷ []))) (nat_lt MAX_OBJECTS r.object) (lt-ltb MAX_OBJECTS r.object h)
 
 pub within-limits : (rows : List Row) (r : Row) → r.end ≤ object_limit r.segment → size_of_rows (rows ++ r ∷ []) ≤ MAX_MEMORY → r.object ≤ MAX_OBJECTS → passes_limits (rows ++ r ∷ []) r ≡ false
 within-limits rows r e f g =
     none_over (nat_lt (object_limit r.segment) r.end) (nat_lt MAX_MEMORY (size_of_rows (rows ++ r ∷ []))) (nat_lt MAX_OBJECTS r.object)
-    (not_below (object_limit r.segment) r.end e) (not_below MAX_MEMORY (size_of_rows (rows ++ r ∷ [])) f) (not_below MAX_OBJECTS r.object g)
+    (le-ltb (object_limit r.segment) r.end e) (le-ltb MAX_MEMORY (size_of_rows (rows ++ r ∷ [])) f) (le-ltb MAX_OBJECTS r.object g)

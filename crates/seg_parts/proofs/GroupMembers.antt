@@ -5,6 +5,7 @@ use Rattle.std.specs.Option.{option_map, option_map_or}
 use Rattle.std.specs.Cmp.Lexicographic.{nat_list_eq_equiv}
 use Rattle.std.proofs.Common.{ap, sym, ◌∙◌}
 use Rattle.std.proofs.lemmas.List.Folds.{list_any-append}
+use Rattle.lx_types.proofs.Lists.{any_flat_map, any_agree, find_agree}
 use Rattle.obj_types.specs.declared.object.Group.{Group}
 use Rattle.obj_types.specs.declared.object.ObjModule.{ObjModule}
 use Rattle.link_model.specs.declared.keys.Origin.TheVariants.{Segment}
@@ -17,14 +18,6 @@ use Rattle.link_model.specs.Communals.{near_wide}
 use Rattle.seg_parts.specs.Communals.{is_in, is_other}
 use Rattle.seg_parts.specs.Members.{listed_by, listed_in, memberships, near_members, is_member}
 use Rattle.seg_parts.specs.Steps.{GroupsHaveMembers, CommunalsFollow}
-
-any-flat : {X Y : Type 0} (p : Y → Bool) (f : X → List Y) (xs : List X) → list_any p (flat_map f xs) ≡ list_any (λ x. list_any p (f x)) xs
-any-flat p f [] = refl
-any-flat p f (x ∷ xs) = list_any-append p (f x) (flat_map f xs) ∙ ap (λ (b : Bool). list_any p (f x) || b) (any-flat p f xs)
-
-pub any-same : {X : Type 0} (p q : X → Bool) → ((x : X) → p x ≡ q x) → (xs : List X) → list_any p xs ≡ list_any q xs
-any-same p q h [] = refl
-any-same p q h (x ∷ xs) = ap (λ (b : Bool). b || list_any p xs) (h x) ∙ ap (λ (b : Bool). q x || b) (any-same p q h xs)
 
 -- ---- one group of a module
 
@@ -71,10 +64,10 @@ of_groups n m g p (h ∷ hs) =
 
 listed_is : (l : Link) (g : List ℕ) (p : Part) → is_listed l g p ≡ is_member (memberships l) g p
 listed_is l g p =
-    any-flat (λ q. joins p q) (λ (t : ℕ × ObjModule). flat_map (members_in t.0 t.1) (filter (λ h. bytes_eq h.name g) t.1.groups)) (enumerate_from 1 l.modules)
-    ∙ any-same (λ (t : ℕ × ObjModule). list_any (λ q. joins p q) (flat_map (members_in t.0 t.1) (filter (λ h. bytes_eq h.name g) t.1.groups))) (λ t. is_member (listed_in t.0 t.1) g p)
+    any_flat_map (λ q. joins p q) (λ (t : ℕ × ObjModule). flat_map (members_in t.0 t.1) (filter (λ h. bytes_eq h.name g) t.1.groups)) (enumerate_from 1 l.modules)
+    ∙ any_agree (λ (t : ℕ × ObjModule). list_any (λ q. joins p q) (flat_map (members_in t.0 t.1) (filter (λ h. bytes_eq h.name g) t.1.groups))) (λ t. is_member (listed_in t.0 t.1) g p)
     (λ t. of_groups t.0 t.1 g p t.1.groups) (enumerate_from 1 l.modules)
-    ∙ sym (any-flat (λ (q : List ℕ × SegmentKey). bytes_eq q.0 g && same_segment (segment_key p) q.1) (λ (t : ℕ × ObjModule). listed_in t.0 t.1) (enumerate_from 1 l.modules))
+    ∙ sym (any_flat_map (λ (q : List ℕ × SegmentKey). bytes_eq q.0 g && same_segment (segment_key p) q.1) (λ (t : ℕ × ObjModule). listed_in t.0 t.1) (enumerate_from 1 l.modules))
 
 -- ---- the near communals
 
@@ -110,20 +103,16 @@ groups_of_members l g p =
 
 -- ---- what communals follow
 
-find-same : {X : Type 0} (p q : X → Bool) → ((x : X) → p x ≡ q x) → (xs : List X) → find p xs ≡ find q xs
-find-same p q h [] = refl
-find-same {X} p q h (x ∷ xs) = ap (λ (b : Bool). cond b (Some x) (find p xs)) (h x) ∙ ap (λ (o : Option X). cond (q x) (Some x) o) (find-same p q h xs)
-
 pub communals_of_members : CommunalsFollow
 communals_of_members l names says =
     let same : (p : Part) → is_in names p ≡ in_group l DGROUP p = λ p. says p ∙ sym (groups_of_members l DGROUP p) in
     let followed_is : (own : Part → Bool) → find (is_other names own) (contributions l) ≡ find (λ p. in_group l DGROUP p && not (own p)) (contributions l) =
-    λ own. find-same (is_other names own) (λ p. in_group l DGROUP p && not (own p)) (λ p. ap (λ (b : Bool). b && not (own p)) (same p)) (contributions l) in
+    λ own. find_agree (is_other names own) (λ p. in_group l DGROUP p && not (own p)) (λ p. ap (λ (b : Bool). b && not (own p)) (same p)) (contributions l) in
     let otherwise : Bool = cond (has_near l) (near_wide l) true in
     record {
       near = ap (λ (o : Option Part). option_map_or (λ p. p.wide) o true) (followed_is is_near_bss);
       far =
           ap (λ (b : Bool). cond b (option_map_or (λ p. p.wide) (find (is_other names is_far_bss) (contributions l)) otherwise) true)
-          (any-same (λ p. is_far_bss p && is_in names p) (λ p. is_far_bss p && in_group l DGROUP p) (λ p. ap (λ (b : Bool). is_far_bss p && b) (same p)) (contributions l))
+          (any_agree (λ p. is_far_bss p && is_in names p) (λ p. is_far_bss p && in_group l DGROUP p) (λ p. ap (λ (b : Bool). is_far_bss p && b) (same p)) (contributions l))
           ∙ ap (λ (o : Option Part). cond (list_any (λ p. is_far_bss p && in_group l DGROUP p) (contributions l)) (option_map_or (λ p. p.wide) o otherwise) true) (followed_is is_far_bss);
     }

@@ -1,9 +1,9 @@
 -- The contribution with an index of a module.
-use Rattle.std.specs.Prelude.{◌≡◌, ℕ, zero, suc, ◌+◌, ◌-◌, ◌<◌, ◌==◌, ◌&&◌, Bool, true, false, cond, not, List, [], ◌∷◌, Option, Some, None, map, filter, find, slice_get, refl}
+use Rattle.std.specs.Prelude.{◌≡◌, ℕ, zero, suc, ◌+◌, ◌-◌, ◌<◌, ◌==◌, Bool, true, false, cond, not, List, [], ◌∷◌, Option, Some, None, map, filter, find, slice_get, refl}
 use Rattle.std.specs.List.{enumerate_from}
 use Rattle.std.specs.Option.{option_and_then}
-use Rattle.std.proofs.Common.{ap, sym, ◌∙◌, arith, true≢false}
-use Rattle.std.proofs.lemmas.Bool.{eq-eqb}
+use Rattle.std.proofs.Common.{ap, sym, ◌∙◌, arith}
+use Rattle.std.proofs.lemmas.Bool.{eq-eqb, and_from, and_right}
 use Rattle.std.proofs.lemmas.Bool.Decides.{nat_tests}
 use Rattle.obj_types.specs.declared.object.Seg.{Seg}
 use Rattle.obj_types.specs.declared.object.ObjModule.{ObjModule}
@@ -20,19 +20,11 @@ numbered n k segs = map (λ q. of_seg n q.0 q.1) (filter (λ q. not q.1.debug) (
 has : ℕ → ℕ → Part → Bool
 has n index p = same_origin (Segment n index) p.origin
 
-apart : (a b : ℕ) → a < b → a == b ≡ false
+pub apart : (a b : ℕ) → a < b → a == b ≡ false
 apart a b h = grind (arith, nat_tests)
 
-apart_above : (a b : ℕ) → b < a → a == b ≡ false
+pub apart_above : (a b : ℕ) → b < a → a == b ≡ false
 apart_above a b h = grind (arith, nat_tests)
-
-and_right : (a b : Bool) → b ≡ false → (a && b) ≡ false
-and_right true b e = e
-and_right false b e = refl
-
-and_both : (a b : Bool) → a ≡ true → b ≡ true → (a && b) ≡ true
-and_both true b e f = f
-and_both false b e f = absurd (true≢false (sym e))
 
 other : (n index k : ℕ) (s : Seg) → index == k ≡ false → has n index (of_seg n k s) ≡ false
 unfolding has
@@ -40,7 +32,7 @@ other n index k s e = and_right (n == n) (index == k) e
 
 itself : (n index k : ℕ) (s : Seg) → index == k ≡ true → has n index (of_seg n k s) ≡ true
 unfolding has
-itself n index k s e = and_both (n == n) (index == k) (eq-eqb n n refl) e
+itself n index k s e = and_from (n == n) (index == k) (eq-eqb n n refl) e
 
 skip_by : (n index k : ℕ) (s : Seg) (rest : List Part) (d : Bool) → index == k ≡ false → find (has n index) (cond (not d) (of_seg n k s ∷ rest) rest) ≡ find (has n index) rest
 skip_by n index k s rest true e = refl

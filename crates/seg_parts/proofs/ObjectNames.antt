@@ -4,12 +4,12 @@ use Rattle.std.specs.List.{list_any, position_or_len}
 use Rattle.std.specs.Cmp.{IsEquivalence}
 use Rattle.std.proofs.Common.{ap, sym, ◌∙◌}
 use Rattle.std.proofs.Math.ListN.{get_or}
+use Rattle.std.proofs.lemmas.List.{get_or_default}
 use Rattle.sym_table.proofs.Lists.{map-more}
 use Rattle.link_model.specs.Appearance.{firsts}
 use Rattle.link_model.specs.declared.keys.ObjectKey.{ObjectKey}
 use Rattle.link_model.proofs.KeyTests.{equivalence, object_keys}
 use Rattle.seg_parts.specs.LogicalSegments.{places}
-use Rattle.seg_parts.proofs.Ranges.{get_or-same}
 use Rattle.seg_parts.proofs.Tables.{keys-push, place-shown, places-push}
 use Rattle.link_model.specs.Order.{same_object}
 use Rattle.seg_parts.specs.declared.objects.ObjectName.{ObjectName}
@@ -29,7 +29,7 @@ objects-shown (names.Narrow s) (names.Group a2) = refl
 objects-shown (names.Narrow s) (names.Wide f2) = refl
 objects-shown (names.Narrow s) (names.Narrow s2) = names-shown s s2
 
-objects_equal : IsEquivalence same_object
+pub objects_equal : IsEquivalence same_object
 objects_equal = equivalence object_keys (λ (k : ObjectKey). k)
 
 -- One more object.
@@ -40,7 +40,7 @@ pub object-more : (objects names new : List ObjectName) (i : ℕ) (d : ObjectNam
 object-more objects names new i d found after n below old grown at more =
     let x : ObjectName = get_or objects i d in
     let ks : List ObjectKey = map object_shown (take i objects) in
-    let one : map object_shown (take (i + 1) objects) ≡ ks ++ object_shown x ∷ [] = map-more object_shown objects i x below (get_or-same objects i d x below) in
+    let one : map object_shown (take (i + 1) objects) ≡ ks ++ object_shown x ∷ [] = map-more object_shown objects i x below (get_or_default objects i d x below) in
     let place : n ≡ position_or_len (same_object (object_shown x)) (firsts same_object ks) =
     at ∙ place-shown eq-value.it same_object object_shown objects-shown x names ∙ ap (position_or_len (same_object (object_shown x))) old.0 in (
       ap (map object_shown) grown ∙ keys-push eq-value.it same_object object_shown objects-shown objects_equal names ks x old.0 ∙ ap (firsts same_object) (sym one),

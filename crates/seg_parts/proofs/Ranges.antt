@@ -6,6 +6,7 @@ use Rattle.std.proofs.Math.ListN.{get_or, set}
 use Rattle.std.proofs.lemmas.List.{append-nil, length-map, get_or-map, map-set, map-append}
 use Rattle.std.proofs.lemmas.List.FromFn.{length-map-range_with_len, get_or-map-range_with_len}
 use Rattle.std.proofs.lemmas.Bool.{eq-eqb, ne_eqb}
+use Rattle.lx_types.proofs.Lists.{range-push}
 use Rattle.seg_parts.specs.Order.{places_with, gathered}
 use Rattle.seg_parts.proofs.Lists.{picked-more}
 
@@ -52,16 +53,6 @@ lists-more {V} items vs ns count i n old new there is below all at grown =
 
 pub lists-length : {V : Type 0} (items : V → List ℕ) (vs : List V) (ns : List ℕ) (count : ℕ) → map items vs ≡ gathered ns count → length vs ≡ count
 lists-length items vs ns count all = sym (length-map vs items) ∙ ap length all ∙ length-map-range_with_len (places_with ns) 0 count
-
-pub get_or-same : {X : Type 0} (xs : List X) (i : ℕ) (d e : X) → i < length xs → get_or xs i d ≡ get_or xs i e
-get_or-same [] i d e lt = absurd (omega arith)
-get_or-same (x ∷ xs) zero d e lt = refl
-get_or-same (x ∷ xs) (suc i) d e lt = get_or-same xs i d e (omega arith)
-
-range-push : (a n : ℕ) → range_with_len a (suc n) ≡ range_with_len a n ++ (a + n) ∷ []
-range-push a zero = ap (λ (m : ℕ). m ∷ []) (omega arith)
-range-push a (suc n) =
-    ap (λ (t : List ℕ). a ∷ t) (range-push (a + 1) n) ∙ ap (λ (m : ℕ). a ∷ (range_with_len (a + 1) n ++ m ∷ [])) (omega arith)
 
 pub range-from-more : {X : Type 0} (f : ℕ → X) (a n : ℕ) → map f (range_with_len a (n + 1)) ≡ map f (range_with_len a n) ++ f (a + n) ∷ []
 range-from-more {X} f a n =

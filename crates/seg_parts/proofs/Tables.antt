@@ -2,15 +2,14 @@
 use Rattle.std.specs.Prelude.{◌≡◌, ℕ, ◌+◌, ◌<◌, Bool, true, false, cond, not, ◌||◌, List, [], ◌∷◌, ◌++◌, Some, None, nat_lt, map, length, position, refl}
 use Rattle.std.specs.List.{list_any, position_or_len, All}
 use Rattle.std.proofs.lemmas.List.Elements.{All-cons}
-use Rattle.std.proofs.lemmas.Bool.Decides.{nat_tests}
 use Rattle.first_table.proofs.Shown.{any-place}
 use Rattle.std.specs.Cmp.{IsEquivalence}
 use Rattle.std.proofs.Common.{ap, sym, ◌∙◌, arith}
 use Rattle.std.proofs.lemmas.List.{map-append, length-map}
 use Rattle.link_model.specs.Appearance.{firsts, firsts_by}
-use Rattle.link_model.proofs.Tables.{firsts-push, any-firsts}
+use Rattle.link_model.proofs.Tables.{firsts-push, any-firsts, place_kept}
 use Rattle.sym_table.proofs.Lists.{firsts-keys}
-use Rattle.std.proofs.lemmas.Bool.{or_right}
+use Rattle.std.proofs.lemmas.Bool.{or_right, ltb-true}
 use Rattle.link_model.specs.declared.keys.SegmentKey.{SegmentKey}
 use Rattle.link_model.specs.Parts as rules
 use Rattle.link_model.proofs.KeyTests.{equivalence, segment_keys, joining}
@@ -62,17 +61,9 @@ heads-push {X} {K} same key eqv xs x =
 
 -- ---- places
 
-kept_place : {X : Type 0} (test : X → Bool) (ys zs : List X) (b : Bool) → (b || list_any test ys) ≡ true → (list_any test ys ≡ true → position_or_len test (ys ++ zs) ≡ position_or_len test ys) → cond (not b) (1 + position_or_len test (ys ++ zs)) 0 ≡ cond (not b) (1 + position_or_len test ys) 0
-kept_place test ys zs true e rest = refl
-kept_place test ys zs false e rest = ap (λ (n : ℕ). 1 + n) (rest e)
-
-pub place-kept : {X : Type 0} (test : X → Bool) (ys zs : List X) → list_any test ys ≡ true → position_or_len test (ys ++ zs) ≡ position_or_len test ys
-place-kept test [] zs e = cc
-place-kept test (y ∷ ys) zs e = kept_place test ys zs (test y) e (place-kept test ys zs)
-
 place_by : {X : Type 0} (test : X → Bool) (ys : List X) (x : X) (b : Bool) → list_any test ys ≡ true → position_or_len test (cond b ys (ys ++ x ∷ [])) ≡ position_or_len test ys
 place_by test ys x true e = refl
-place_by test ys x false e = place-kept test ys (x ∷ []) e
+place_by test ys x false e = place_kept test ys (x ∷ []) e
 
 -- A key that is among these keeps its place when one more comes.
 pub place-stays : {K : Type 0} (same : K → K → Bool) → IsEquivalence same → (ks : List K) (k j : K) → list_any (same j) ks ≡ true → position_or_len (same j) (firsts same (ks ++ k ∷ [])) ≡ position_or_len (same j) (firsts same ks)
@@ -170,15 +161,12 @@ position-shown {N} {K} eq same f h k ns =
     ap (λ (n : ℕ). cond (nat_lt n (length ns)) (Some n) None) (place-shown eq same f h k ns)
     ∙ ap (λ (n : ℕ). cond (nat_lt (position_or_len (same (f k)) (map f ns)) n) (Some (position_or_len (same (f k)) (map f ns))) None) (sym (length-map ns f))
 
-below_by : (n m : ℕ) → nat_lt n m ≡ true → n < m
-below_by n m e = grind (arith, nat_tests)
-
 places_below : {K : Type 0} (same : K → K → Bool) → (all : List K) (ks : List K) → ((j : K) → list_any (same j) ks ≡ true → list_any (same j) (firsts same all) ≡ true) → IsEquivalence same →
     All (λ n. n < length (firsts same all)) (map (λ j. position_or_len (same j) (firsts same all)) ks)
 places_below same all [] within eqv = λ k d lt. absurd (omega arith)
 places_below {K} same all (j ∷ ks) within eqv =
     All-cons (λ n. n < length (firsts same all)) (position_or_len (same j) (firsts same all)) (map (λ i. position_or_len (same i) (firsts same all)) ks)
-    (below_by (position_or_len (same j) (firsts same all)) (length (firsts same all))
+    (ltb-true (position_or_len (same j) (firsts same all)) (length (firsts same all))
     (sym (any-place (same j) (firsts same all)) ∙ within j (ap (λ (b : Bool). b || list_any (same j) ks) (eqv.refl j))))
     (places_below same all ks (λ i e. within i (or_right (same i j) (list_any (same i) ks) e)) eqv)
 

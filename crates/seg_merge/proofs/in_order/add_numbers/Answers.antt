@@ -1,7 +1,7 @@
 use Rattle.std.specs.Prelude.{◌≡◌, ℕ, suc, ◌+◌, ◌-◌, ◌≤◌, List, [], ◌∷◌, ◌++◌}
 use Rattle.std.specs.List.{range_with_len}
 use Rattle.std.proofs.Common.{ap, sym, ◌∙◌, arith, append_assoc}
-use Rattle.seg_merge.proofs.ObjectTable.{range-push}
+use Rattle.lx_types.proofs.Lists.{range-push}
 use Rattle.seg_merge.proofs.in_order.add_numbers.Goals as goal
 
 numbers-more : (init now next : List ℕ) (from n : ℕ) → from ≤ n → now ≡ init ++ range_with_len from (n - from) → next ≡ now ++ n ∷ [] → next ≡ init ++ range_with_len from (n + 1 - from)

@@ -5,8 +5,9 @@ use Rattle.link_model.specs.Layout.{place_of_part}
 use Rattle.seg_parts.specs.LogicalSegments.{heads_of}
 use Rattle.seg_parts.specs.Parts.{shown}
 use Rattle.seg_merge.proofs.PartRows.{objects-few}
-use Rattle.seg_merge.proofs.PlacesFound.{groups-below, spots-found, commons-found, groups-found}
+use Rattle.seg_merge.proofs.PlacesFound.{spots-found, commons-found, groups-found}
 use Rattle.seg_merge.proofs.placing.places_of.Goals as goal
+use Rattle.seg_merge.proofs.LinkGroups.{lists-below}
 
 pub objects_of-requires : goal.objects_of-requires
 objects_of-requires c = objects-few c.requires.0 c.args.segments.now c.args.rows.now c.requires.1.rows_stand
@@ -15,7 +16,7 @@ pub flags_of_groups-requires-clause-below : goal.flags_of_groups-requires-clause
 flags_of_groups-requires-clause-below c =
     let long : length c.args.names.now ≡ length c.names.result.now = sym (ap length c.names.ensures) ∙ length-map c.names.result.now (λ n. n.now) in
     subst (λ (n : ℕ). All (λ v. All (λ g. g < n) v.items) c.args.groups.now) long
-    (groups-below (λ v. v.items) c.args.groups.now (in_group c.requires.0) c.args.names.now (heads_of c.args.segments.now) c.requires.1.groups_are)
+    (lists-below (λ v. v.items) c.args.groups.now (in_group c.requires.0) c.args.names.now (heads_of c.args.segments.now) c.requires.1.groups_are)
 
 pub returns : goal.returns
 returns c = λ l stand.

@@ -1,10 +1,9 @@
 use Rattle.std.proofs.Common.{◌≡◌, ◌∙◌, ◌∷◌, [], ap, sym, map, ℕ, List, Option}
 use Rattle.std.proofs.Math.ListN.{get_or}
-use Rattle.std.proofs.lemmas.List.{map-append}
+use Rattle.std.proofs.lemmas.List.{map-append, get_or_default}
 use Rattle.link_model.specs.declared.keys.SegmentKey.{SegmentKey}
 use Rattle.seg_parts.proofs.Lists.{added, passed}
 use Rattle.seg_parts.specs.Members.{member_shown, listed_at}
-use Rattle.seg_parts.proofs.Ranges.{get_or-same}
 use Rattle.seg_parts.proofs.members.add_listed.Goals as goal
 use Rattle.seg_parts.proofs.members.add_listed.Goals.{in-Some+in_ok-push, in_default}
 
@@ -13,7 +12,7 @@ loop-index-preserved c =
     let xs : List ℕ = c.as_slice-index-items.result.now in
     let i : ℕ = c.loop-index.index-index in
     let x : ℕ = get_or xs i 0 in
-    let is : x ≡ get_or xs i x = get_or-same xs i 0 x c.loop-index-test.true in
+    let is : x ≡ get_or xs i x = get_or_default xs i 0 x c.loop-index-test.true in
     let h : ℕ → Option (List ℕ × SegmentKey) = listed_at c.args.module c.args.object.now c.args.group.now in
     elim c.match-member_at.branch [
       | in-Some+in_ok-push w ↦
