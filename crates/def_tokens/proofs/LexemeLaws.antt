@@ -4,11 +4,11 @@ use Rattle.std.specs.Prelude.{slice_index, ◌==◌, not}
 use Rattle.std.specs.List.{list_all, prefix_len}
 use Rattle.std.proofs.Math.Seq.{take-append_seam, get_or-append_seam}
 use Rattle.std.proofs.lemmas.List.Elements.{All-head, All-tail}
-use Rattle.std.proofs.lemmas.Bool.{ne_eqb}
+use Rattle.std.proofs.lemmas.Bool.{ne_eqb, and_from, lt-ltb}
 use Rattle.def_tokens.specs.Lexemes.{Lexeme, equals, at, dot, text, stray}
 use Rattle.def_tokens.specs.Tokens.{tokens_behind, tokens_of, blank_len, front_of, front, Front, line_behind, Placed, is_word_byte, word_front, word_lexeme, text_front, text_len}
 use Rattle.def_tokens.specs.Spelling.{IsQuotable}
-use Rattle.def_tokens.proofs.TokenLaws.{tokens-token, if-first, if-second, below-is_true}
+use Rattle.def_tokens.proofs.TokenLaws.{tokens-token, if-first, if-second}
 
 abbrev pub bare : List Placed → List Lexeme
 bare ts = map (λ (t : Placed). t.lexeme) ts
@@ -102,9 +102,9 @@ quoted-front : (bytes rest : List ℕ) → IsQuotable bytes → text_front 39 (b
 quoted-front bytes rest h =
     let xs : List ℕ = bytes ++ 39 ∷ rest in
     let here : (slice_index xs (length bytes) == 39) ≡ true = ap (λ b. b == 39) (get_or-append_seam bytes 39 rest 0) in
-    let within : nat_lt (length bytes) (length xs) ≡ true = below-is_true (length bytes) (length xs) (simp length-append (omega arith)) in
+    let within : nat_lt (length bytes) (length xs) ≡ true = lt-ltb (length bytes) (length xs) (simp length-append (omega arith)) in
     ap (λ len. cond (nat_lt len (length xs) && slice_index xs len == 39) (front (len + 2) (text (take len xs))) (front 1 stray)) (quoted-len bytes rest h)
-    ∙ if-first _ _ _ (both-true _ _ within here)
+    ∙ if-first _ _ _ (and_from _ _ within here)
     ∙ ap (λ bs. front (length bytes + 2) (text bs)) (take-append_seam bytes (39 ∷ rest))
 
 pub lexemes-text : (bytes rest : List ℕ) → IsQuotable bytes → lexemes (39 ∷ (bytes ++ 39 ∷ rest)) ≡ text bytes ∷ lexemes rest

@@ -7,6 +7,7 @@ use Rattle.std.proofs.lemmas.List.Elements.{All-head, All-tail}
 use Rattle.std.proofs.lemmas.Bool.Decides.{nat_tests}
 use Rattle.std.proofs.lemmas.Fmt.{decimal_nonempty, digits_decimal, digits_value-decimal}
 use Rattle.std.proofs.lemmas.Str.Parse.{IsNumeralModel, IsDigitsTest, FoldsDigits, numerals_by_fold}
+use Rattle.std.proofs.lemmas.Bool.{and_from, lt-ltb}
 use Rattle.def_tokens.specs.declared.keyword.Keyword.{Keyword}
 use Rattle.def_tokens.specs.declared.keyword.Keyword.TheVariants as kw
 use Rattle.def_tokens.specs.declared.keyword.Pair.TheVariants as pairs
@@ -14,8 +15,8 @@ use Rattle.def_tokens.specs.Lexemes.{Lexeme, number, equals, at, dot, text, word
 use Rattle.def_tokens.specs.Numbers.{digit_of, are_digits, value_from, value_of, number_of}
 use Rattle.def_tokens.specs.Tokens.{is_word_byte, word_lexeme}
 use Rattle.def_tokens.specs.Spelling.{word_of, spelling, Spells, gap, text_behind, line_text}
-use Rattle.def_tokens.proofs.TokenLaws.{if-first, below-is_true}
-use Rattle.def_tokens.proofs.LexemeLaws.{lexemes, lexemes-space, lexemes-line_end, lexemes-equals, lexemes-at, lexemes-dot, lexemes-text, lexemes-run, both-true, first-true, second-true}
+use Rattle.def_tokens.proofs.TokenLaws.{if-first}
+use Rattle.def_tokens.proofs.LexemeLaws.{lexemes, lexemes-space, lexemes-line_end, lexemes-equals, lexemes-at, lexemes-dot, lexemes-text, lexemes-run, first-true, second-true}
 
 -- A run of letters, digits and signs that is this token.
 record Run (t : Lexeme) (run : List ℕ) : Type 0 where
@@ -84,7 +85,7 @@ our-digits : IsDigitsTest (λ ds. are_digits 10 ds ≡ true)
 our-digits = record {
   empty = refl;
   parts = λ c cs h. (digit-in c (first-true _ _ h), second-true _ _ h);
-  more = λ c cs h k. let is = digit-is c h in both-true _ _ (below-is_true (digit_of c) 10 (omega (arith, is, h))) k;
+  more = λ c cs h k. let is = digit-is c h in and_from _ _ (lt-ltb (digit_of c) 10 (omega (arith, is, h))) k;
 }
 
 our-value : FoldsDigits (λ start ds. value_from 10 start ds)
@@ -98,14 +99,14 @@ our-numerals = numerals_by_fold _ our-digits _ our-value
 
 digits-words : (ds : List ℕ) → are_digits 10 ds ≡ true → list_all (λ b. is_word_byte b) ds ≡ true
 digits-words [] h = refl
-digits-words (d ∷ ds) h = both-true _ _ (digit-word d (digit-in d (first-true _ _ h))) (digits-words ds (second-true _ _ h))
+digits-words (d ∷ ds) h = and_from _ _ (digit-word d (digit-in d (first-true _ _ h))) (digits-words ds (second-true _ _ h))
 
 digits-token : (ds : List ℕ) (n : ℕ) → 0 < length ds → are_digits 10 ds ≡ true → value_from 10 0 ds ≡ n → n < 2 ^ 32
     → word_lexeme ds ≡ number (Some n)
 digits-token [] n some h is small = absurd (omega arith)
 digits-token (d ∷ ds) n some h is small =
     let value : value_of 10 (d ∷ ds) ≡ Some n =
-    if-first _ _ _ (below-is_true (value_from 10 0 (d ∷ ds)) 4294967296 (omega (arith, is, small))) ∙ ap Some is in
+    if-first _ _ _ (lt-ltb (value_from 10 0 (d ∷ ds)) 4294967296 (omega (arith, is, small))) ∙ ap Some is in
     let spelled : number_of (d ∷ ds) ≡ Some (Some n) = if-first _ _ _ h ∙ ap Some value in
     if-first (is_ascii_digit d) _ _ (digit-first d (digit-in d (first-true _ _ h)))
     ∙ ap (λ v. option_map_or number v stray) spelled

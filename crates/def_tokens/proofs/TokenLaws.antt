@@ -1,9 +1,9 @@
 -- Equations of the tokens of bytes, and of the values of digits.
 use Rattle.std.proofs.Common.{◌≡◌, ℕ, zero, suc, ◌+◌, ◌-◌, ◌*◌, ◌<◌, ◌≤◌, List, [], ◌∷◌, length, drop, take, refl, arith, ◌∙◌, ap, sym, subst, get_or, Bool, true, false, cond, None, nat_lt}
 use Rattle.std.specs.Prelude.{slice_index}
-use Rattle.std.proofs.lemmas.Bool.Decides.{nat_tests}
 use Rattle.std.proofs.lemmas.List.{take_rest}
 use Rattle.std.proofs.Math.Nat.{mul-le-mul_left}
+use Rattle.std.proofs.lemmas.Bool.{le-ltb, lt-ltb}
 use Rattle.def_tokens.specs.Numbers.{value_from, value_of, digit_of}
 use Rattle.def_tokens.specs.Lexemes.{Lexeme, ending, is_ending}
 use Rattle.def_tokens.specs.Tokens.{tokens_behind, blank_len, front_of, front, line_behind, Placed, before}
@@ -15,12 +15,6 @@ if-first false x y h = cc
 pub if-second : {A : Type 0} (test : Bool) (x y : A) → test ≡ false → cond test x y ≡ y
 if-second true x y h = cc
 if-second false x y h = refl
-
-pub below-is_true : (m n : ℕ) → m < n → nat_lt m n ≡ true
-below-is_true m n h = grind (arith, nat_tests)
-
-above-is_false : (m n : ℕ) → n ≤ m → nat_lt m n ≡ false
-above-is_false m n h = grind (arith, nat_tests)
 
 -- Bytes that belong to the token before are passed over.
 tokens-drop : (n line : ℕ) (bytes : List ℕ) → tokens_behind n line bytes ≡ tokens_behind 0 line (drop n bytes)
@@ -40,7 +34,7 @@ tokens-blank : (line b : ℕ) (bytes : List ℕ) → 0 < blank_len (b ∷ bytes)
     → tokens_behind 0 line (b ∷ bytes) ≡ tokens_behind 0 (line_behind b line) (drop (blank_len (b ∷ bytes)) (b ∷ bytes))
 unfolding tokens_behind
 tokens-blank line b bytes some =
-    if-first (nat_lt 0 (blank_len (b ∷ bytes))) _ _ (below-is_true 0 (blank_len (b ∷ bytes)) some)
+    if-first (nat_lt 0 (blank_len (b ∷ bytes))) _ _ (lt-ltb 0 (blank_len (b ∷ bytes)) some)
     ∙ tokens-behind (blank_len (b ∷ bytes)) (line_behind b line) b bytes some
 
 -- A token at the front.
@@ -49,7 +43,7 @@ pub tokens-token : (line b : ℕ) (bytes : List ℕ) → blank_len (b ∷ bytes)
     ≡ record { line = line; lexeme = (front_of b bytes).lexeme } ∷ tokens_behind 0 line (drop (front_of b bytes).len (b ∷ bytes))
 unfolding tokens_behind
 tokens-token line b bytes none some =
-    if-second (nat_lt 0 (blank_len (b ∷ bytes))) _ _ (above-is_false 0 (blank_len (b ∷ bytes)) (omega arith))
+    if-second (nat_lt 0 (blank_len (b ∷ bytes))) _ _ (le-ltb 0 (blank_len (b ∷ bytes)) (omega arith))
     ∙ ap (λ ts. record { line = line; lexeme = (front_of b bytes).lexeme } ∷ ts) (tokens-behind (front_of b bytes).len line b bytes some)
 
 -- A reader that passes over a blank has the same tokens before it.
@@ -117,4 +111,4 @@ value-front base start (suc i) (d ∷ digits) some = value-front base (start * b
 pub value-over : (base i : ℕ) (digits : List ℕ) → 1 ≤ base → 4294967296 ≤ value_from base 0 (take i digits) → None ≡ value_of base digits
 value-over base i digits some over =
     let front = value-front base 0 i digits some in
-    sym (if-second (nat_lt (value_from base 0 digits) 4294967296) _ _ (above-is_false (value_from base 0 digits) 4294967296 (omega (arith, front, over))))
+    sym (if-second (nat_lt (value_from base 0 digits) 4294967296) _ _ (le-ltb (value_from base 0 digits) 4294967296 (omega (arith, front, over))))
