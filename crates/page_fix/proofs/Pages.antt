@@ -1,11 +1,12 @@
 -- Lists of pages: which page a test finds, and tests along ranges.
 use Rattle.std.proofs.Common.{◌≡◌, ◌<◌, ◌≤◌, ◌+◌, ◌-◌, ◌∙◌, ℕ, zero, suc, Bool, true, false, List, [], ◌∷◌, ◌++◌, length, map, refl, ap, arith, eqb}
-use Rattle.std.specs.Prelude.{◌&&◌, ◌||◌, cond}
+use Rattle.std.specs.Prelude.{◌&&◌, cond}
 use Rattle.std.specs.List.{filter, flat_map, list_any, range_with_len}
 use Rattle.std.proofs.lemmas.Bool.{eqb-true, eq-eqb, and_parts, and_from}
-use Rattle.std.proofs.lemmas.List.Folds.{list_any-append, list_any_at}
+use Rattle.std.proofs.lemmas.List.Folds.{list_any_at}
 use Rattle.std.proofs.lemmas.List.FromFn.{get_or-map-range_with_len, get_or-range_with_len, length-map-range_with_len, length-range_with_len}
 use Rattle.lx_types.specs.declared.object.PageId.{PageId}
+use Rattle.lx_types.proofs.Lists.{any_flat_map}
 use Rattle.page_fix.specs.Fixable.{is_page}
 
 pub same_page : (p q : PageId) → is_page p q ≡ true → p ≡ q
@@ -15,10 +16,6 @@ same_page p q is =
 
 pub is_page_refl : (p : PageId) → is_page p p ≡ true
 is_page_refl p = and_from (eqb p.object p.object) (eqb p.page p.page) (eq-eqb p.object p.object refl) (eq-eqb p.page p.page refl)
-
-pub any_flat : {X A : Type 0} (t : A → Bool) (f : X → List A) (xs : List X) → list_any t (flat_map f xs) ≡ list_any (λ x. list_any t (f x)) xs
-any_flat t f [] = refl
-any_flat t f (x ∷ xs) = list_any-append t (f x) (flat_map f xs) ∙ ap (λ b. list_any t (f x) || b) (any_flat t f xs)
 
 -- a filter of a filter
 pub filter_twice : {X : Type 0} (t u : X → Bool) (xs : List X) → filter t (filter u xs) ≡ filter (λ x. u x && t x) xs
@@ -52,7 +49,7 @@ page_found p n below =
 pub found_in_rows : (p : PageId) (sizes : ℕ → ℕ) (n : ℕ) → 1 ≤ p.object → p.object ≤ n → p.page < sizes p.object →
     list_any (is_page p) (flat_map (λ object. pages_to object (sizes object)) (range_with_len 1 n)) ≡ true
 found_in_rows p sizes n low high below =
-    any_flat (is_page p) (λ object. pages_to object (sizes object)) (range_with_len 1 n)
+    any_flat_map (is_page p) (λ object. pages_to object (sizes object)) (range_with_len 1 n)
     ∙ list_any_at (λ object. list_any (is_page p) (pages_to object (sizes object))) (range_with_len 1 n) k 0
     (let long = length-range_with_len 1 n in omega arith)
     (ap (λ object. list_any (is_page p) (pages_to object (sizes object))) (get_or-range_with_len 1 n k 0 (omega arith) ∙ number) ∙ page_found p (sizes p.object) below)
