@@ -25,6 +25,7 @@ use Rattle.seg_parts.specs.Order.{gathered}
 use Rattle.seg_parts.specs.Parts.{shown}
 use Rattle.seg_parts.specs.Placing.{placed_shown}
 use Rattle.seg_parts.specs.Rows.{too_large_in}
+use Rattle.seg_merge.specs.declared.in_order.StandingSegments.{StandingSegments}
 use Rattle.seg_merge.specs.declared.laid.Laid.{Laid}
 use Rattle.seg_merge.specs.declared.ordered.OrderedSegment.{OrderedSegment}
 use Rattle.seg_merge.specs.declared.ordered.Tables.{Tables}
@@ -41,18 +42,18 @@ use Rattle.seg_merge.proofs.OrderedSegments.{ordered-at-is}
 use Rattle.seg_merge.proofs.RowsOfLinks.{row-segments, each-some, rows-by-number}
 use Rattle.seg_merge.proofs.UnitsOfLinks.{placed-in}
 
-module _ (l : Link) (modules : List ObjModule) (def : DefFile) (ps : List Part) (names : List (List ℕ)) (members : List (List ℕ × SegmentKey)) (order : List ℕ) (i : InOrder l modules def ps names members order) where
-  pub in-order : map (slice_get (heads_of (all_parts l))) order ≡ map (λ (s : Part). Some s) (ordered l)
-  in-order = ap (λ (t : List Part). map (slice_get (heads_of t)) order) (sym i.parts_are) ∙ i.order_is
+module _ (l : Link) (modules : List ObjModule) (def : DefFile) (standing : StandingSegments) (members : List (List ℕ × SegmentKey)) (i : InOrder l modules def standing members) where
+  pub in-order : map (slice_get (heads_of (all_parts l))) standing.order.now ≡ map (λ (s : Part). Some s) (ordered l)
+  in-order = ap (λ (t : List Part). map (slice_get (heads_of t)) standing.order.now) (sym i.parts_are) ∙ i.order_is
 
   pub got : Got l
-  got t j = placed-in (heads_of (all_parts l)) order (ordered l) t in-order j
+  got t j = placed-in (heads_of (all_parts l)) standing.order.now (ordered l) t in-order j
 
-  pub groups-are : (t : Tables) → AreTables def ps names members t → AreGroupsOf (in_group l) names (heads_of ps) (map (λ v. v.items) t.groups.items)
-  groups-are t a = in-link l members names (heads_of ps) (map (λ v. v.items) t.groups.items) (sym i.members_are) a.groups_are
+  pub groups-are : (t : Tables) → AreTables def standing.segments standing.names members t → AreGroupsOf (in_group l) standing.names (heads_of standing.segments) (map (λ v. v.items) t.groups.items)
+  groups-are t a = in-link l members standing.names (heads_of standing.segments) (map (λ v. v.items) t.groups.items) (sym i.members_are) a.groups_are
 
   -- The logical segments of the tables are those of the link.
-  ordered-are : (t : Tables) → AreTables def ps names members t → map (table_at t) order ≡ all_in l
+  ordered-are : (t : Tables) → AreTables def standing.segments standing.names members t → map (table_at t) standing.order.now ≡ all_in l
   ordered-are t a =
       let hs : List Part = map shown t.heads.items in
       let keys : List ObjectKey = map object_shown t.objects.items in
@@ -61,15 +62,15 @@ module _ (l : Link) (modules : List ObjModule) (def : DefFile) (ps : List Part) 
       let groups : List (List ℕ) = map (λ v. v.items) t.groups.items in
       let all : List Part = heads_of (all_parts l) in
       let hs_are : hs ≡ all = a.heads_are ∙ ap heads_of i.parts_are in
-      let keys_are : keys ≡ map (key_at all flags names groups) (range_with_len 0 (length all)) = a.objects_are ∙ ap (λ (qs : List Part). map (key_at (heads_of qs) flags names groups) (range_with_len 0 (length (heads_of qs)))) i.parts_are in
+      let keys_are : keys ≡ map (key_at all flags standing.names groups) (range_with_len 0 (length all)) = a.objects_are ∙ ap (λ (qs : List Part). map (key_at (heads_of qs) flags standing.names groups) (range_with_len 0 (length (heads_of qs)))) i.parts_are in
       let lists_are : lists ≡ map (λ s. filter (joins s) (all_parts l)) all = a.parts_are ∙ ap (λ (qs : List Part). map (λ s. filter (joins s) qs) (heads_of qs)) i.parts_are in
-      let flags_are : flags ≡ map (flags_of l) all = a.flags_are ∙ ap (λ (d : DefFile). map (flags_in d) (heads_of ps)) i.def_is ∙ ap (λ (qs : List Part). map (flags_in l.def) (heads_of qs)) i.parts_are in
-      let groups_are : AreGroupsOf (in_group l) names all groups = subst (λ (qs : List Part). AreGroupsOf (in_group l) names (heads_of qs) groups) i.parts_are (groups-are t a) in
+      let flags_are : flags ≡ map (flags_of l) all = a.flags_are ∙ ap (λ (d : DefFile). map (flags_in d) (heads_of standing.segments)) i.def_is ∙ ap (λ (qs : List Part). map (flags_in l.def) (heads_of qs)) i.parts_are in
+      let groups_are : AreGroupsOf (in_group l) standing.names all groups = subst (λ (qs : List Part). AreGroupsOf (in_group l) standing.names (heads_of qs) groups) i.parts_are (groups-are t a) in
       pointwise (table_at t) (ordered_in l) all
-      (λ k s e. ordered-at-is l hs keys flags lists names groups hs_are keys_are flags_are lists_are i.names_are groups_are k s e)
-      order (ordered l) in-order
+      (λ k s e. ordered-at-is l hs keys flags lists standing.names groups hs_are keys_are flags_are lists_are i.names_are groups_are k s e)
+      standing.order.now (ordered l) in-order
 
-  pub slice-is : (t : Tables) (items slice : List OrderedSegment) → AreTables def ps names members t → map ordered_shown items ≡ map (table_at t) order → slice ≡ items → map ordered_shown slice ≡ all_in l
+  pub slice-is : (t : Tables) (items slice : List OrderedSegment) → AreTables def standing.segments standing.names members t → map ordered_shown items ≡ map (table_at t) standing.order.now → slice ≡ items → map ordered_shown slice ≡ all_in l
   slice-is t items slice a shown_are same = ap (map ordered_shown) same ∙ shown_are ∙ ordered-are t a
 
   rows_in_is : (os : List Ordered) → os ≡ all_in l → laid.rows_in def.stack os ≡ laid.rows_in l.def.stack (all_in l)
@@ -98,19 +99,19 @@ module _ (l : Link) (modules : List ObjModule) (def : DefFile) (ps : List Part) 
       ∙ ap (λ (t : List Ordered). option_map (λ (q : Row). (q.object, q.end)) (laid.stack_row_in t (laid.rows_in l.def.stack t))) e
       ∙ stack-is l got
 
-  pub as-many : (os : List Ordered) (r : Laid) (placed : List Placed) → os ≡ all_in l → laid.AreLaid def os r → placed ≡ r.rows.items → length placed ≡ length order
+  pub as-many : (os : List Ordered) (r : Laid) (placed : List Placed) → os ≡ all_in l → laid.AreLaid def os r → placed ≡ r.rows.items → length placed ≡ length standing.order.now
   as-many os r placed e a same =
       let placed_are : length placed ≡ length (rows l) = ap length same ∙ sym (length-map r.rows.items placed_shown) ∙ ap length (laid-rows os r e a) in
       let rows_are : length (rows l) ≡ length (ordered l) = sym (length-map (rows l) (λ (q : Row). q.segment)) ∙ ap length (row-segments l) in
-      let order_is : length order ≡ length (ordered l) = sym (length-map order (slice_get (heads_of (all_parts l)))) ∙ ap length in-order ∙ length-map (ordered l) (λ (s : Part). Some s) in
+      let order_is : length standing.order.now ≡ length (ordered l) = sym (length-map standing.order.now (slice_get (heads_of (all_parts l)))) ∙ ap length in-order ∙ length-map (ordered l) (λ (s : Part). Some s) in
       placed_are ∙ rows_are ∙ sym order_is
 
-  pub some-each : (count : ℕ) → count ≡ length (heads_of ps) → All (λ places. 0 < length places) (gathered order count)
-  some-each count len = each-some l order count in-order (len ∙ ap (λ (qs : List Part). length (heads_of qs)) i.parts_are)
+  pub some-each : (count : ℕ) → count ≡ length (heads_of standing.segments) → All (λ places. 0 < length places) (gathered standing.order.now count)
+  some-each count len = each-some l standing.order.now count in-order (len ∙ ap (λ (qs : List Part). length (heads_of qs)) i.parts_are)
 
   -- The rows by number are as the places ask for them.
-  pub stands-so : (os : List Ordered) (r : Laid) (t : Tables) (placed : List Placed) (count : ℕ) → os ≡ all_in l → laid.AreLaid def os r → AreTables def ps names members t → count ≡ length (heads_of ps) →
-      map placed_shown placed ≡ map (row_at (map placed_shown r.rows.items)) (gathered order count) → StandsSo l modules ps placed names (map (λ v. v.items) t.groups.items)
+  pub stands-so : (os : List Ordered) (r : Laid) (t : Tables) (placed : List Placed) (count : ℕ) → os ≡ all_in l → laid.AreLaid def os r → AreTables def standing.segments standing.names members t → count ≡ length (heads_of standing.segments) →
+      map placed_shown placed ≡ map (row_at (map placed_shown r.rows.items)) (gathered standing.order.now count) → StandsSo l modules standing.segments placed standing.names (map (λ v. v.items) t.groups.items)
   stands-so os r t placed count e a tables len rows_are =
       let counted : count ≡ length (heads_of (all_parts l)) = len ∙ ap (λ (qs : List Part). length (heads_of qs)) i.parts_are in
       record {
@@ -120,8 +121,8 @@ module _ (l : Link) (modules : List ObjModule) (def : DefFile) (ps : List Part) 
               parts_are = i.parts_are;
               rows_are =
                   ap (λ (qs : List Part). map (row_of l) (heads_of qs)) i.parts_are
-                  ∙ rows-by-number l order count in-order counted
-                  ∙ ap (λ (rs : List Row). map (λ (q : Row). Some q) (map (row_at rs) (gathered order count))) (sym (laid-rows os r e a))
+                  ∙ rows-by-number l standing.order.now count in-order counted
+                  ∙ ap (λ (rs : List Row). map (λ (q : Row). Some q) (map (row_at rs) (gathered standing.order.now count))) (sym (laid-rows os r e a))
                   ∙ ap (map (λ (q : Row). Some q)) (sym rows_are)
                   ∙ map-map (λ (q : Row). Some q) placed_shown placed;
               none_too_large = laid-none os r e a;
@@ -130,9 +131,9 @@ module _ (l : Link) (modules : List ObjModule) (def : DefFile) (ps : List Part) 
         groups_are = groups-are t tables;
       }
 
-  pub stands-with : (os : List Ordered) (r : Laid) (t : Tables) (placed items rows : List Placed) (count : ℕ) (groups : List (Vec ℕ Global)) → os ≡ all_in l → laid.AreLaid def os r → AreTables def ps names members t → count ≡ length (heads_of ps) →
-      placed ≡ items → map placed_shown items ≡ map (row_at (map placed_shown rows)) (gathered order count) → rows ≡ r.rows.items → groups ≡ t.groups.items → StandsSo l modules ps placed names (map (λ v. v.items) groups)
+  pub stands-with : (os : List Ordered) (r : Laid) (t : Tables) (placed items rows : List Placed) (count : ℕ) (groups : List (Vec ℕ Global)) → os ≡ all_in l → laid.AreLaid def os r → AreTables def standing.segments standing.names members t → count ≡ length (heads_of standing.segments) →
+      placed ≡ items → map placed_shown items ≡ map (row_at (map placed_shown rows)) (gathered standing.order.now count) → rows ≡ r.rows.items → groups ≡ t.groups.items → StandsSo l modules standing.segments placed standing.names (map (λ v. v.items) groups)
   stands-with os r t placed items rows count groups e a tables len placed_are rows_are same groups_are =
-      subst (λ (gs : List (Vec ℕ Global)). StandsSo l modules ps placed names (map (λ v. v.items) gs)) (sym groups_are)
+      subst (λ (gs : List (Vec ℕ Global)). StandsSo l modules standing.segments placed standing.names (map (λ v. v.items) gs)) (sym groups_are)
       (stands-so os r t placed count e a tables len
-      (ap (map placed_shown) placed_are ∙ rows_are ∙ ap (λ (rs : List Placed). map (row_at (map placed_shown rs)) (gathered order count)) same))
+      (ap (map placed_shown) placed_are ∙ rows_are ∙ ap (λ (rs : List Placed). map (row_at (map placed_shown rs)) (gathered standing.order.now count)) same))

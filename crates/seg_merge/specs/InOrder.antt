@@ -15,6 +15,7 @@ use Rattle.seg_parts.specs.Objects.{object_shown}
 use Rattle.seg_parts.specs.Parts.{shown}
 use Rattle.seg_merge.specs.Membership.{AreGroupsOf}
 use Rattle.seg_merge.specs.Ordered.{all_parts, key_at}
+use Rattle.seg_merge.specs.declared.in_order.StandingSegments.{StandingSegments}
 use Rattle.seg_merge.specs.declared.ordered.Tables.{Tables}
 
 -- What is known of each logical segment of these parts.
@@ -28,18 +29,16 @@ pub record AreTables (def : DefFile) (ps : List Part) (names : List (List ℕ)) 
 
 -- These are the modules, the definition file, all parts, the names of groups and what is in groups of a link, and the
 -- numbers of its logical segments in the order in which they stand.
-pub record InOrder (l : Link) (modules : List ObjModule) (def : DefFile) (ps : List Part) (names : List (List ℕ)) (members : List (List ℕ × SegmentKey))
-    (order : List ℕ) : Type 0 where
+pub record InOrder (l : Link) (modules : List ObjModule) (def : DefFile) (standing : StandingSegments) (members : List (List ℕ × SegmentKey)) : Type 0 where
   pub modules_are : modules ≡ l.modules
   pub def_is : def ≡ l.def
-  pub parts_are : ps ≡ all_parts l
-  pub names_are : names ≡ group_names l
+  pub parts_are : standing.segments ≡ all_parts l
+  pub names_are : standing.names ≡ group_names l
   pub members_are : members ≡ all_memberships l
-  pub order_is : map (slice_get (heads_of ps)) order ≡ map (λ s. Some s) (ordered l)
+  pub order_is : map (slice_get (heads_of standing.segments)) standing.order.now ≡ map (λ s. Some s) (ordered l)
 
 -- The same, with what is known of each logical segment.
-pub record TablesStand (l : Link) (modules : List ObjModule) (def : DefFile) (ps : List Part) (names : List (List ℕ)) (t : Tables)
-    (order : List ℕ) : Type 0 where
+pub record TablesStand (l : Link) (modules : List ObjModule) (def : DefFile) (standing : StandingSegments) (t : Tables) : Type 0 where
   pub members : List (List ℕ × SegmentKey)
-  pub in_order : InOrder l modules def ps names members order
-  pub tables : AreTables def ps names members t
+  pub in_order : InOrder l modules def standing members
+  pub tables : AreTables def standing.segments standing.names members t

@@ -14,6 +14,15 @@ use obj_types::DefFile;
 use seg_parts::{GroupNames, LogicalSegments, Member, flags_of};
 use std::alloc::Global;
 
+/// The logical segments of a link and the names of its groups.
+#[derive(Drop)]
+pub struct StandingSegments<'a, 'b> {
+    pub segments: LogicalSegments<'a>,
+    pub names: GroupNames<'a>,
+    /// The numbers of the logical segments, from 0, in the order in which they stand.
+    pub order: &'b [usize],
+}
+
 /// Adds the numbers from one on and below another.
 pub fn add_numbers(order: &mut Vec<usize>, from: usize, to: usize) -> Result<(), NoMemory>
     requires { from ≤ to }

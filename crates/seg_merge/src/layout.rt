@@ -18,7 +18,7 @@ ghost use Rattle.seg_merge.specs.Layout.{IsLaidOut};
 
 use crate::by_number::rows_by_number;
 use crate::grouped::{Grouped, grouped_of};
-use crate::in_order::{add_numbers, tables_of};
+use crate::in_order::{StandingSegments, add_numbers, tables_of};
 use crate::laid::lay_ordered;
 use crate::ordered::{Tables, ordered_of};
 use crate::own_stack::with_own_stack;
@@ -27,7 +27,7 @@ use crate::placing::places_of;
 use link_model::{LaidObject, LayRefusal, Name, modules_at};
 use lx_types::Seq;
 use obj_types::{Common, DefFile, Fail, LinkInput, ObjModule};
-use seg_parts::{FixedNames, GroupNames, LogicalSegments, Member, by_class, fixed_names};
+use seg_parts::{FixedNames, Member, by_class, fixed_names};
 use std::alloc::Global;
 use sym_table::Symbols;
 
@@ -70,34 +70,27 @@ fn lay_tables(
     alloc: Global,
     def: &DefFile,
     modules: &[&ObjModule],
-    segments: &LogicalSegments<'_>,
-    names: &GroupNames<'_>,
+    standing: &StandingSegments<'_, '_>,
     tables: &Tables<'_>,
-    order: &[usize],
 ) -> Result<Layout, Fail<LayRefusal>>
     requires base { first_base_of def.now ≤ 0x1FFF0000 }
-    requires stand { (l : Link) × TablesStand l (map (λ m. m.now) modules.now) def.now segments.now names.now tables.now order.now }
-    ensures { (l : Link) → TablesStand l (map (λ m. m.now) modules.now) def.now segments.now names.now tables.now order.now
+    requires stand { (l : Link) × TablesStand l (map (λ m. m.now) modules.now) def.now standing.now tables.now }
+    ensures { (l : Link) → TablesStand l (map (λ m. m.now) modules.now) def.now standing.now tables.now
         → Answers result
         (λ layout. (too_large l ≡ None) × IsLaidOut l layout)
         (λ refusal. too_large l ≡ Some refusal) }
 {
+    let order = standing.order;
     let ordered = ordered_of(alloc, tables, order)?;
     match lay_ordered(alloc, def, ordered.as_slice()) {
         Err(fail) => Err(fail),
         Ok(laid) => {
-            let count = segments.heads().len();
+            let count = standing.segments.heads().len();
             let rows = rows_by_number(alloc, order, laid.rows.as_slice(), count)?;
+            let groups = tables.groups.as_slice();
             Ok(Layout {
                 objects: laid.objects,
-                places: places_of(
-                    alloc,
-                    modules,
-                    segments,
-                    rows.as_slice(),
-                    names,
-                    tables.groups.as_slice(),
-                )?,
+                places: places_of(alloc, modules, standing, rows.as_slice(), groups)?,
                 stack: laid.stack,
             })
         }
@@ -109,20 +102,18 @@ fn lay_segments<'a>(
     alloc: Global,
     def: &DefFile,
     modules: &[&ObjModule],
-    segments: &LogicalSegments<'a>,
-    names: &GroupNames<'a>,
+    standing: &StandingSegments<'a, '_>,
     members: &[Member<'_>],
-    order: &[usize],
 ) -> Result<Layout, Fail<LayRefusal>>
     requires base { first_base_of def.now ≤ 0x1FFF0000 }
-    requires order { (l : Link) × InOrder l (map (λ m. m.now) modules.now) def.now segments.now names.now (map member_shown members.now) order.now }
-    ensures { (l : Link) → InOrder l (map (λ m. m.now) modules.now) def.now segments.now names.now (map member_shown members.now) order.now
+    requires order { (l : Link) × InOrder l (map (λ m. m.now) modules.now) def.now standing.now (map member_shown members.now) }
+    ensures { (l : Link) → InOrder l (map (λ m. m.now) modules.now) def.now standing.now (map member_shown members.now)
         → Answers result
         (λ layout. (too_large l ≡ None) × IsLaidOut l layout)
         (λ refusal. too_large l ≡ Some refusal) }
 {
-    let tables = tables_of(alloc, def, segments, names, members)?;
-    lay_tables(alloc, def, modules, segments, names, &tables, order)
+    let tables = tables_of(alloc, def, &standing.segments, &standing.names, members)?;
+    lay_tables(alloc, def, modules, standing, &tables)
 }
 
 // The layout of a link of these logical segments and groups.
@@ -149,15 +140,12 @@ fn lay_grouped<'a>(
     let mut order = by_class(alloc, segments.heads())?;
     let segments = with_own_stack(alloc, segments, input.def.kind, fixed)?;
     add_numbers(&mut order, count, segments.heads().len())?;
-    lay_segments(
-        alloc,
-        &input.def,
-        modules,
-        &segments,
-        &names,
-        members.as_slice(),
-        order.as_slice(),
-    )
+    let standing = StandingSegments {
+        segments,
+        names,
+        order: order.as_slice(),
+    };
+    lay_segments(alloc, &input.def, modules, &standing, members.as_slice())
 }
 
 // The layout of a link of these modules whose communals are these.

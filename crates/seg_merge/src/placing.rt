@@ -5,6 +5,7 @@ ghost use Rattle.link_model.specs.Link.{Link};
 ghost use Rattle.seg_merge.specs.Places.{ArePlaces};
 ghost use Rattle.seg_merge.specs.Standing.{StandsSo};
 
+use crate::in_order::StandingSegments;
 use crate::places::Places;
 use crate::placing_groups::{groups_of, objects_of};
 use crate::placing_parts::part_places;
@@ -12,30 +13,34 @@ use crate::placing_spots::{commons_of, spots_of};
 use crate::splits::flags_of_groups;
 use link_model::NoMemory;
 use obj_types::ObjModule;
-use seg_parts::{GroupNames, LogicalSegments, Placed};
+use seg_parts::Placed;
 use std::alloc::Global;
 
 /// The places of a link of these modules and parts. `rows` are its logical segments in their objects and `groups` the
-/// places of their groups among `names`, both by the numbers of the logical segments.
+/// places of their groups among the names, both by the numbers of the logical segments.
 pub fn places_of(
     alloc: Global,
     modules: &[&ObjModule],
-    segments: &LogicalSegments<'_>,
+    standing: &StandingSegments<'_, '_>,
     rows: &[Placed<'_>],
-    names: &GroupNames<'_>,
     groups: &[Vec<usize>],
 ) -> Result<Places, NoMemory>
-    requires { (l : Link) × StandsSo l (map (λ m. m.now) modules.now) segments.now rows.now names.now (map (λ v. v.items) groups.now) }
-    ensures { IfOk result (λ places. (l : Link) → StandsSo l (map (λ m. m.now) modules.now) segments.now rows.now names.now (map (λ v. v.items) groups.now)
+    requires { (l : Link) × StandsSo l (map (λ m. m.now) modules.now) standing.now.segments rows.now standing.now.names (map (λ v. v.items) groups.now) }
+    ensures { IfOk result (λ places. (l : Link) → StandsSo l (map (λ m. m.now) modules.now) standing.now.segments rows.now standing.now.names (map (λ v. v.items) groups.now)
         → ArePlaces l places) }
 {
-    let places = part_places(alloc, segments, rows)?;
+    let places = part_places(alloc, &standing.segments, rows)?;
     let numbers = objects_of(alloc, rows)?;
     // A group's object is that of its first logical segment, told as flags are.
-    let objects = flags_of_groups(alloc, groups, numbers.as_slice(), names.names().len())?;
+    let objects = flags_of_groups(
+        alloc,
+        groups,
+        numbers.as_slice(),
+        standing.names.names().len(),
+    )?;
     Ok(Places {
         spots: spots_of(alloc, modules, places.as_slice())?,
-        commons: commons_of(alloc, segments.parts(), places.as_slice())?,
-        groups: groups_of(alloc, modules, names, objects.as_slice())?,
+        commons: commons_of(alloc, standing.segments.parts(), places.as_slice())?,
+        groups: groups_of(alloc, modules, &standing.names, objects.as_slice())?,
     })
 }

@@ -32,10 +32,10 @@ lay_segments-requires-clause-order c =
         def_is = refl;
         parts_are = all-are l plain all c.requires.grouped.parts_are c.in_ok-segments.ensures;
         names_are = c.requires.grouped.names_are;
-        members_are = ap (map member_shown) c.as_slice.ensures.value ∙ c.requires.grouped.members_are;
+        members_are = ap (map member_shown) c.as_slice-2.ensures.value ∙ c.requires.grouped.members_are;
         order_is =
-            standing-order l plain all c.requires.grouped.parts_are c.in_ok-segments.ensures c.as_slice-2.result.now
-            (c.as_slice-2.ensures.value ∙ order-by plain all (map shown c.heads.result.now) c.in_ok-order.order.items c.add_numbers.new.order.items (length c.heads-count.result.now) (length c.heads-2.result.now)
+            standing-order l plain all c.requires.grouped.parts_are c.in_ok-segments.ensures c.as_slice.result.now
+            (c.as_slice.ensures.value ∙ order-by plain all (map shown c.heads.result.now) c.in_ok-order.order.items c.add_numbers.new.order.items (length c.heads-count.result.now) (length c.heads-2.result.now)
             c.heads.ensures c.in_ok-order.ensures c.in_ok-add_numbers.ensures before after);
       },
     )
@@ -52,9 +52,9 @@ returns c =
       def_is = refl;
       parts_are = all-are l plain all c.requires.grouped.parts_are c.in_ok-segments.ensures;
       names_are = c.requires.grouped.names_are;
-      members_are = ap (map member_shown) c.as_slice.ensures.value ∙ c.requires.grouped.members_are;
+      members_are = ap (map member_shown) c.as_slice-2.ensures.value ∙ c.requires.grouped.members_are;
       order_is =
-          standing-order l plain all c.requires.grouped.parts_are c.in_ok-segments.ensures c.as_slice-2.result.now
-          (c.as_slice-2.ensures.value ∙ order-by plain all (map shown c.heads.result.now) c.in_ok-order.order.items c.add_numbers.new.order.items (length c.heads-count.result.now) (length c.heads-2.result.now)
+          standing-order l plain all c.requires.grouped.parts_are c.in_ok-segments.ensures c.as_slice.result.now
+          (c.as_slice.ensures.value ∙ order-by plain all (map shown c.heads.result.now) c.in_ok-order.order.items c.add_numbers.new.order.items (length c.heads-count.result.now) (length c.heads-2.result.now)
           c.heads.ensures c.in_ok-order.ensures c.in_ok-add_numbers.ensures before after);
     })

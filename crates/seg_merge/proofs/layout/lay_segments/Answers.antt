@@ -4,7 +4,7 @@ use Rattle.seg_merge.proofs.LinkGroups.{names-apart}
 use Rattle.seg_merge.proofs.layout.lay_segments.Goals as goal
 
 pub tables_of-requires : goal.tables_of-requires
-tables_of-requires c = names-apart c.requires.order.0 c.args.names.now (sym c.requires.order.1.names_are)
+tables_of-requires c = names-apart c.requires.order.0 c.args.standing.now.names (sym c.requires.order.1.names_are)
 
 pub lay_tables-requires-clause-stand : goal.lay_tables-requires-clause-stand
 lay_tables-requires-clause-stand c =
