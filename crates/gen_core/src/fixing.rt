@@ -1,6 +1,6 @@
 //! The words of modules, page by page.
 
-ghost use Rattle.std.specs.Prelude.{◌≡◌, ◌*◌, ◌<◌, ◌^◌, IfOk, box_value, length, slice_index};
+ghost use Rattle.std.specs.Prelude.{◌≡◌, ◌*◌, ◌<◌, ◌^◌, IfOk, length, slice_index};
 ghost use Rattle.lx_types.specs.Object.{pages_of};
 ghost use Rattle.lx_types.specs.Parts.{object_of};
 ghost use Rattle.lx_types.specs.Sound.{IsNumberOf};
@@ -9,9 +9,10 @@ ghost use Rattle.lx_model.specs.ModuleBytes.{fixed_page};
 ghost use Rattle.gen_model.specs.Sums.{word_at};
 ghost use Rattle.gen_core.specs.Fixing.{library_words, module_words, object_words, page_words, total};
 
-use lx_types::{Bases, NoMemory, PageId};
+use lx_types::{Bases, Module, NoMemory, PageId};
 use mod_graph::Library;
-use page_fix::{Rights, Steps, fix_page, fix_private};
+use module_pages::ModulePages;
+use page_fix::Steps;
 use std::alloc::Global;
 use std::sync::ledger::Ledger;
 
@@ -38,83 +39,62 @@ fn sum_of_page(bytes: &[u8; 4096]) -> u32
     sum
 }
 
-/// A module of a library at the bases of a load.
-#[derive(Clone, Copy)]
-struct Standing<'a> {
-    lib: &'a Library,
-    bases: &'a Bases,
-    module: u32,
-    ghost there: { «module» < length lib.now },
+// The sum of the words of a page.
+fn sum_of<L: Ledger>(
+    alloc: Global,
+    pages: &mut ModulePages<'_>,
+    p: PageId,
+    steps: &mut Steps<L>,
+) -> Result<u32, NoMemory>
+    requires object { IsNumberOf p.object (length (module_of pages.old.library pages.old.«module»).objects) }
+    requires page { p.page < pages_of (object_of (module_of pages.old.library pages.old.«module») p.object) }
+    ensures stay { pages.new ≡ pages.old }
+    ensures sum { IfOk result (λ sum. sum ≡ total (page_words (slice_index (fixed_page pages.old.library pages.old.«module» pages.old.bases p)))) }
+{
+    let buffer = Box::new(alloc, [0; 4096])?;
+    let page = pages.page(p, buffer, steps);
+    Ok(sum_of_page(&page))
 }
 
-impl Standing<'_> {
-    // A page with its fixups, in a buffer: by its right where all processes share it, otherwise as a process's own.
-    fn fixed<L: Ledger>(
-        &self,
-        p: PageId,
-        buffer: Box<[u8; 4096]>,
-        rights: &mut Rights,
-        steps: &mut Steps<L>,
-    ) -> Box<[u8; 4096]>
-        requires object { IsNumberOf p.object (length (module_of self.now.lib.now self.now.«module»).objects) }
-        requires page { p.page < pages_of (object_of (module_of self.now.lib.now self.now.«module») p.object) }
-        ensures { box_value result ≡ fixed_page self.now.lib.now self.now.«module» self.now.bases.now p }
-    {
-        let Standing { lib, bases, module } = *self;
-        match rights.take(p) {
-            Some(right) => fix_page(right, lib, module, bases, buffer, steps).into_bytes(),
-            None => fix_private(lib, module, bases, p, buffer, steps),
-        }
+// The sum of the words of an object of a module, whose pages are given.
+fn sum_of_object<L: Ledger>(
+    alloc: Global,
+    module: &Module,
+    pages: &mut ModulePages<'_>,
+    object: u32,
+    steps: &mut Steps<L>,
+) -> Result<u32, NoMemory>
+    requires module { «module».now ≡ module_of pages.old.library pages.old.«module» }
+    requires number { IsNumberOf object (length «module».now.objects) }
+    ensures stay { pages.new ≡ pages.old }
+    ensures sum { IfOk result (λ sum. sum ≡ total (object_words pages.old.library pages.old.bases pages.old.«module» object)) }
+{
+    let mut sum = 0u32;
+    for page in 0..module.pages(object) {
+        sum = sum.wrapping_add(sum_of(alloc, pages, PageId { object, page }, steps)?);
     }
+    Ok(sum)
+}
 
-    // The sum of the words of a page.
-    fn sum_of<L: Ledger>(
-        &self,
-        alloc: Global,
-        p: PageId,
-        rights: &mut Rights,
-        steps: &mut Steps<L>,
-    ) -> Result<u32, NoMemory>
-        requires object { IsNumberOf p.object (length (module_of self.now.lib.now self.now.«module»).objects) }
-        requires page { p.page < pages_of (object_of (module_of self.now.lib.now self.now.«module») p.object) }
-        ensures { IfOk result (λ sum. sum ≡ total (page_words (slice_index (fixed_page self.now.lib.now self.now.«module» self.now.bases.now p)))) }
-    {
-        let buffer = Box::new(alloc, [0; 4096])?;
-        let page = self.fixed(p, buffer, rights, steps);
-        Ok(sum_of_page(&page))
+// The sum of the words of a module of a library at the bases of a load.
+fn sum_of_module<L: Ledger>(
+    alloc: Global,
+    lib: &Library,
+    bases: &Bases,
+    number: u32,
+    steps: &mut Steps<L>,
+) -> Result<u32, NoMemory>
+    requires there { number < length lib.now }
+    requires few { length (module_of lib.now number).objects < 2 ^ 32 }
+    ensures { IfOk result (λ sum. sum ≡ total (module_words lib.now bases.now number)) }
+{
+    let module = lib.module(number);
+    let mut pages = ModulePages::of(alloc, lib, bases, number)?;
+    let mut sum = 0u32;
+    for before in 0..module.objects().len() as u32 {
+        sum = sum.wrapping_add(sum_of_object(alloc, module, &mut pages, before + 1, steps)?);
     }
-
-    // The sum of the words of an object.
-    fn sum_of_object<L: Ledger>(
-        &self,
-        alloc: Global,
-        object: u32,
-        rights: &mut Rights,
-        steps: &mut Steps<L>,
-    ) -> Result<u32, NoMemory>
-        requires { IsNumberOf object (length (module_of self.now.lib.now self.now.«module»).objects) }
-        ensures { IfOk result (λ sum. sum ≡ total (object_words self.now.lib.now self.now.bases.now self.now.«module» object)) }
-    {
-        let mut sum = 0u32;
-        for page in 0..self.lib.module(self.module).pages(object) {
-            sum = sum.wrapping_add(self.sum_of(alloc, PageId { object, page }, rights, steps)?);
-        }
-        Ok(sum)
-    }
-
-    // The sum of the words of the module. The rights to its pages are its own.
-    fn sum<L: Ledger>(&self, alloc: Global, steps: &mut Steps<L>) -> Result<u32, NoMemory>
-        requires few { length (module_of self.now.lib.now self.now.«module»).objects < 2 ^ 32 }
-        ensures { IfOk result (λ sum. sum ≡ total (module_words self.now.lib.now self.now.bases.now self.now.«module»)) }
-    {
-        let module = self.lib.module(self.module);
-        let mut rights = Rights::make(alloc, 0, module)?;
-        let mut sum = 0u32;
-        for before in 0..module.objects().len() as u32 {
-            sum = sum.wrapping_add(self.sum_of_object(alloc, before + 1, &mut rights, steps)?);
-        }
-        Ok(sum)
-    }
+    Ok(sum)
 }
 
 /// The sum of all 32-bit words of all pages of a library at the bases of a load, modulo 2^32: each page is fixed, and its words
@@ -129,8 +109,7 @@ pub fn sum_of_words<L: Ledger>(
 {
     let mut sum = 0u32;
     for module in 0..lib.len() {
-        let standing = Standing { lib, bases, module };
-        sum = sum.wrapping_add(standing.sum(alloc, steps)?);
+        sum = sum.wrapping_add(sum_of_module(alloc, lib, bases, module, steps)?);
     }
     Ok(sum)
 }

@@ -4,13 +4,13 @@ use Rattle.gen_core.proofs.FewObjects.{few_objects}
 use Rattle.gen_core.proofs.Words.{library_is, total_further}
 use Rattle.gen_core.proofs.fixing.sum_of_words.Goals as goal
 
-pub sum-requires : goal.sum-requires
-sum-requires g c = record { few = few_objects c.args.lib.now c.loop-module.«module» c.len-module-end.ensures.library (search rules) }
+pub sum_of_module-requires-clause-few : goal.sum_of_module-requires-clause-few
+sum_of_module-requires-clause-few g c = few_objects c.args.lib.now c.loop-module.«module» c.len-module-end.ensures.library (search rules)
 
 pub loop-module-preserved : goal.loop-module-preserved
 loop-module-preserved g c =
     let m = c.loop-module.«module» in
-    total_further (module_words c.args.lib.now c.args.bases.now) 0 m m c.loop-module.sum c.in_ok-sum.field-0 (zero-add m) c.loop-module.invariant c.in_ok-sum.ensures
+    total_further (module_words c.args.lib.now c.args.bases.now) 0 m m c.loop-module.sum c.in_ok-sum_of_module.field-0 (zero-add m) c.loop-module.invariant c.in_ok-sum_of_module.ensures
 
 pub returns : goal.returns
 returns g c =

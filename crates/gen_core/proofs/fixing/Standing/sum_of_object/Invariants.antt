@@ -1,6 +1,0 @@
-use Rattle.std.proofs.Common.{◌≡◌}
-use Rattle.gen_core.specs.Fixing.{front_words, total}
-use Rattle.gen_core.proofs.fixing.Standing.sum_of_object.Given as goal
-
-abbrev pub invariant-loop-page : goal.invariant-loop-page
-invariant-loop-page g l = l.sum ≡ total (front_words l.self.lib.now l.self.bases.now l.self.«module» l.object l.page)

@@ -1,0 +1,25 @@
+use Rattle.std.proofs.Common.{◌∙◌, ap, sym}
+use Rattle.std.specs.Prelude.{slice_index}
+use Rattle.lx_model.specs.ModuleBytes.{fixed_page}
+use Rattle.module_pages.specs.Placed.{PlacedModule}
+use Rattle.gen_core.specs.Fixing.{front_words, page_words, total}
+use Rattle.gen_core.proofs.Words.{no_pages, page_further, total_more}
+use Rattle.gen_core.proofs.fixing.sum_of_object.Goals as goal
+
+pub loop-page-init-clause-sum : goal.loop-page-init-clause-sum
+loop-page-init-clause-sum g c = let m = c.args.pages.now in sym (ap total (no_pages m.library m.«module» m.bases c.args.object))
+
+pub loop-page-preserved : goal.loop-page-preserved
+loop-page-preserved g c =
+    let m = c.args.pages.now in
+    let k = c.loop-page.page in
+    let front = front_words m.library m.bases m.«module» c.args.object k in
+    let page = page_words (slice_index (fixed_page m.library m.«module» m.bases (record { object = c.args.object; page = k }))) in
+    let more =
+    c.in_ok-sum_of.ensures ∙ ap (λ (p : PlacedModule). total (page_words (slice_index (fixed_page p.library p.«module» p.bases (record { object = c.args.object; page = k }))))) c.loop-page.invariant.stay in
+    record {
+      stay = c.sum_of.ensures.stay ∙ c.loop-page.invariant.stay;
+      sum =
+          total_more front page c.loop-page.sum c.in_ok-sum_of.field-0 c.loop-page.invariant.sum more
+          ∙ ap total (page_further m.library m.«module» m.bases c.args.object k);
+    }
