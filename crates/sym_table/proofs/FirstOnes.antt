@@ -1,8 +1,8 @@
 -- The table of first definitions: one more, and what is found in it.
-use Rattle.std.specs.Prelude.{◌≡◌, ℕ, Bool, true, false, cond, List, [], ◌∷◌, ◌++◌, Option, Some, None, map, bytes_eq, find, refl}
+use Rattle.std.specs.Prelude.{◌≡◌, ℕ, Bool, true, false, cond, List, [], ◌∷◌, ◌++◌, Option, Some, None, map, bytes_eq, find, is_some, refl}
 use Rattle.std.specs.Option.{option_map}
 use Rattle.std.specs.Cmp.Lexicographic.{nat_list_eq_equiv, on_texts_equal}
-use Rattle.std.proofs.Common.{ap, sym, ◌∙◌}
+use Rattle.std.proofs.Common.{ap, sym, ◌∙◌, true≢false}
 use Rattle.std.proofs.lemmas.List.{map-append}
 use Rattle.std.proofs.lemmas.Slice.Eq.{bytes_eq-Decides}
 use Rattle.std.specs.Prelude.{◌+◌, ◌<◌, not, length, take, drop}
@@ -10,6 +10,7 @@ use Rattle.std.specs.Option.{option_or, option_and_then}
 use Rattle.std.proofs.Math.ListN.{get_or}
 use Rattle.std.proofs.lemmas.List.{take_more, take-append-drop}
 use Rattle.std.proofs.lemmas.List.Folds.{find-append}
+use Rattle.link_model.specs.declared.refusals.SymRefusal.{SymRefusal}
 use Rattle.link_model.specs.declared.refusals.SymRefusal.TheVariants.{Twice}
 use Rattle.link_model.specs.Words.{first_conflict}
 use Rattle.link_model.specs.SymbolRefusals.{counts_once, conflicts}
@@ -21,7 +22,7 @@ use Rattle.link_model.specs.Symbols as rules
 use Rattle.link_model.proofs.Tables.{firsts-push, find-firsts, OfKey}
 use Rattle.sym_table.specs.declared.definitions.Definition.{Definition}
 use Rattle.sym_table.specs.Definitions.{shown}
-use Rattle.sym_table.specs.Firsts.{same_name, named, firsts_of}
+use Rattle.sym_table.specs.Firsts.{same_name, named, firsts_of, second_in}
 
 name_test : {V : Type 0} (name : List ℕ) → OfKey {X = List ℕ × V} same_name (is_named name)
 name_test name x y e =
@@ -80,7 +81,7 @@ no_second found i d there is none on_time =
     judged found i d there is none ∙ ap (λ (b : Bool). cond b (Some (shown d)) None) on_time
 
 -- It is the first second one.
-pub second_found : (found : List Definition) (i : ℕ) (d first : Definition) → i < length found → d ≡ get_or found i d → first_conflict conflicts [] (map shown (take i found)) ≡ None →
+second_found : (found : List Definition) (i : ℕ) (d first : Definition) → i < length found → d ≡ get_or found i d → first_conflict conflicts [] (map shown (take i found)) ≡ None →
     value_named d.name.now (firsts_of (take i found)) ≡ Some first → counts_once (meaning_shown first.meaning) (meaning_shown d.meaning) ≡ false → twice_among (map shown found) ≡ Some (Twice d.name.now first.by d.by)
 second_found found i d first there is none of_name twice =
     let whole : List rules.Definition = map shown found in
@@ -99,3 +100,30 @@ second_found found i d first there is none of_name twice =
     ∙ ap (λ (o : Option rules.Definition). option_or o (find test (map shown (drop i found)))) (sym (first_found d.name.now (take i found)) ∙ shown_first) in
     ap (λ (o : Option rules.Definition). option_and_then (λ (second : rules.Definition). option_map (λ (f : rules.Definition). Twice second.name f.by second.by) (find (λ e. bytes_eq e.name second.name) whole)) o) of_whole
     ∙ ap (λ (o : Option rules.Definition). option_map (λ (f : rules.Definition). Twice d.name.now f.by d.by) o) first_of_whole
+
+-- ---- by what is found beside the first ones
+
+-- What a first definition refuses.
+abbrev refused_by : Definition → Bool → Definition → Option SymRefusal
+refused_by d once f = cond once None (Some (Twice d.name.now f.by d.by))
+
+pub not_late : (d : Definition) (o : Option Definition) → option_and_then (λ f. refused_by d (counts_once (meaning_shown f.meaning) (meaning_shown d.meaning)) f) o ≡ None → late (shown d) (option_map shown o) ≡ false
+not_late d None e = refl
+not_late d (Some f) e = by (counts_once (meaning_shown f.meaning) (meaning_shown d.meaning)) e
+  where
+    by : (once : Bool) → refused_by d once f ≡ None → not once ≡ false
+    by true e = refl
+    by false e = absurd (true≢false (ap is_some e))
+
+pub first_second : (found : List Definition) (i : ℕ) (d : Definition) (r : SymRefusal) → i < length found → d ≡ get_or found i d → first_conflict conflicts [] (map shown (take i found)) ≡ None →
+    second_in (firsts_of (take i found)) d ≡ Some r → twice_among (map shown found) ≡ Some r
+first_second found i d r there is none second =
+    by_first (value_named d.name.now (firsts_of (take i found))) refl second
+  where
+    by_once : (f : Definition) (once : Bool) → value_named d.name.now (firsts_of (take i found)) ≡ Some f → counts_once (meaning_shown f.meaning) (meaning_shown d.meaning) ≡ once → refused_by d once f ≡ Some r → twice_among (map shown found) ≡ Some r
+    by_once f true at test e = absurd (true≢false (sym (ap is_some e)))
+    by_once f false at test e = second_found found i d f there is none at test ∙ e
+
+    by_first : (o : Option Definition) → value_named d.name.now (firsts_of (take i found)) ≡ o → option_and_then (λ f. refused_by d (counts_once (meaning_shown f.meaning) (meaning_shown d.meaning)) f) o ≡ Some r → twice_among (map shown found) ≡ Some r
+    by_first None at e = absurd (true≢false (sym (ap is_some e)))
+    by_first (Some f) at e = by_once f (counts_once (meaning_shown f.meaning) (meaning_shown d.meaning)) at refl e

@@ -6,7 +6,8 @@ ghost use Rattle.link_model.specs.Symbols.{same_pair, same_entry};
 ghost use Rattle.link_model.specs.SymbolRefusals.{counts_once};
 ghost use Rattle.link_model.specs.declared.refusals.SymRefusal.TheVariants.{Twice};
 ghost use Rattle.sym_table.specs.Definitions.{meaning_shown, shown, twice_among};
-ghost use Rattle.sym_table.specs.Firsts.{firsts_of};
+ghost use Rattle.first_table.specs.Entries.{with_entry};
+ghost use Rattle.sym_table.specs.Firsts.{firsts_of, second_in};
 
 use crate::definitions::{Definition, Meaning};
 use first_table::NameTable;
@@ -54,6 +55,27 @@ fn twice(
     })
 }
 
+// Adds a definition where its name has none. A second one is `Twice`, unless the two count once.
+fn add_definition<'a>(
+    alloc: Global,
+    table: &mut NameTable<Definition<'a>>,
+    definition: &Definition<'a>,
+) -> Result<(), Fail<SymRefusal>>
+    ensures { Answers result
+        (λ _. (table.new ≡ with_entry table.old definition.entry.now.name.now definition.entry.now)
+        × (second_in table.old definition.entry.now ≡ None))
+        (λ refusal. second_in table.old definition.entry.now ≡ Some refusal) }
+{
+    let first: Option<&Definition<'a>> = table.get(definition.name.bytes());
+    if let Some(first) = first {
+        if !counts_once(first, definition) {
+            return Err(Fail::Said(twice(alloc, first, definition)?));
+        }
+    }
+    table.push(alloc, definition.name.bytes(), *definition)?;
+    Ok(())
+}
+
 /// The table of first definitions.
 pub fn first_definitions<'a>(
     alloc: Global,
@@ -65,13 +87,10 @@ pub fn first_definitions<'a>(
 {
     let mut table = NameTable::new(alloc);
     for definition in found {
-        let first: Option<&Definition<'a>> = table.get(definition.name.bytes());
-        if let Some(first) = first {
-            if !counts_once(first, definition) {
-                return Err(Fail::Said(twice(alloc, first, definition)?));
-            }
+        match add_definition(alloc, &mut table, definition) {
+            Ok(()) => {}
+            Err(fail) => return Err(fail),
         }
-        table.push(alloc, definition.name.bytes(), *definition)?;
     }
     Ok(table)
 }
