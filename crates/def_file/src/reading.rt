@@ -78,6 +78,7 @@ fn step(
     ensures whole { IfOk result (λ p. WholeReading (reading draft.new p)) }
 {
     if token.is_stray() {
+        // (by a call: written out, the end of each variant is proved where it stands)
         drop(place);
         return Err(Fail::Said(DefKind::Token));
     }
