@@ -28,7 +28,7 @@ step_none : (ordinal : ℕ) (read : Cursor → Read EntryHead) (c : Cursor) → 
 unfolding bundle_entries
 step_none ordinal read c = refl
 
-left_more : (count i : ℕ) → i < count → count - i ≡ suc (count - (i + 1))
+pub left_more : (count i : ℕ) → i < count → count - i ≡ suc (count - (i + 1))
 left_more count i lt = omega arith
 
 pub one_more : (count i ordinal : ℕ) (read : Cursor → Read EntryHead) (c d : Cursor) (head : EntryHead) (before : List Numbered) (all : Read (List Numbered)) → i < count → read c ≡ Ok (head, d) →

@@ -1,11 +1,13 @@
 -- One import module's name after another.
-use Rattle.std.proofs.Common.{◌≡◌, ℕ, suc, ◌+◌, ◌-◌, ◌<◌, List, [], ◌∷◌, ◌++◌, None, Some, Ok, Err, refl, subst, arith}
+use Rattle.std.proofs.Common.{◌≡◌, ℕ, suc, ◌+◌, ◌-◌, ◌<◌, List, [], ◌∷◌, ◌++◌, Some, Ok, Err, refl, subst}
 use Rattle.lx_bytes.specs.Cursor.{Cursor}
 use Rattle.lx_types.specs.declared.refusal.LxRefusal.{LxRefusal}
 use Rattle.lx_model.specs.NameTables.{import_name, import_entry}
 use Rattle.lx_model.specs.Reading.{Many, many, front, whole}
 use Rattle.lx_model.proofs.Many.{front_none, front_wrong, front_more}
 use Rattle.lx_model.proofs.Shortening.{import_shortens}
+use Rattle.lx_model.proofs.ImportsRead.{names_end}
+use Rattle.lx_entry.proofs.EntryLoop.{left_more}
 
 step_more : (n : ℕ) (c d : Cursor) (name : List ℕ) → import_name c ≡ Ok (name, d) → import_entry (suc n) c ≡ Ok (Some (name, n), d)
 unfolding import_entry
@@ -14,13 +16,6 @@ step_more n c d name e = rw e refl
 step_wrong : (n : ℕ) (c : Cursor) (f : LxRefusal) → import_name c ≡ Err f → import_entry (suc n) c ≡ Err f
 unfolding import_entry
 step_wrong n c f e = rw e refl
-
-step_none : (c : Cursor) → import_entry 0 c ≡ Ok (None, c)
-unfolding import_entry
-step_none c = refl
-
-left_more : (count i : ℕ) → i < count → count - i ≡ suc (count - (i + 1))
-left_more count i lt = omega arith
 
 pub one_more : (count i : ℕ) (c d : Cursor) (names : List (List ℕ)) (name : List ℕ) (all : Many (List ℕ)) → i < count → import_name c ≡ Ok (name, d) →
     front names (many import_entry (count - i) c) ≡ all → front (names ++ name ∷ []) (many import_entry (count - (i + 1)) d) ≡ all
@@ -39,4 +34,4 @@ wrong count i c names all f lt e kept =
 pub all_read : (count i : ℕ) (c : Cursor) (names : List (List ℕ)) (all : Many (List ℕ)) → count - i ≡ 0 → front names (many import_entry (count - i) c) ≡ all → whole all ≡ Ok names
 all_read count i c names all none kept =
     let here : front names (many import_entry 0 c) ≡ all = subst (λ (k : ℕ). front names (many import_entry k c) ≡ all) none kept in
-    front_none import_entry 0 c c names all (step_none c) here
+    front_none import_entry 0 c c names all (names_end c) here

@@ -4,6 +4,7 @@ use Rattle.std.specs.Prelude.{replicate}
 use Rattle.std.specs.List.{range_with_len, AllByRecursion}
 use Rattle.std.proofs.lemmas.List.FromFn.{get_or-map-range_with_len}
 use Rattle.std.proofs.lemmas.Bool.Decides.{nat_tests}
+use Rattle.std.proofs.lemmas.Bool.{le-leb}
 use Rattle.lx_types.specs.declared.refusal.LxRefusal.{LxRefusal}
 use Rattle.lx_types.specs.declared.refusal.LxKind.TheVariants.{Field, TooMany}
 use Rattle.lx_model.specs.Reading.{first, number_at}
@@ -65,14 +66,8 @@ with_any file offset others long good (suc n) a within = with_row file (row (off
 
 -- ---- the numbers in the rows
 
-no_more : (n most : ℕ) → n ≤ most → leb n most ≡ true
-no_more n most le = grind (arith, nat_tests)
-
 between : (n : ℕ) → 1 ≤ n → n ≤ 3 → (leb 1 n && leb n 3) ≡ true
-between n low high = rw (no_more 1 n low, no_more n 3 high) refl
-
-same_number : (n m : ℕ) → n ≡ m → eqb n m ≡ true
-same_number n m e = eq-eqb n m e
+between n low high = rw (le-leb 1 n low, le-leb n 3 high) refl
 
 starts : (f g : ℕ) (others : List ℕ) → is_lx_at (header_spelling (0x584C ∷ f ∷ g ∷ others)) 0 ≡ true
 starts f g others = refl
@@ -115,19 +110,19 @@ words_of f g others count fit good =
     let long = length-spelling fields count in
     let at = told fields count fit good place in
     let heap = with_any file 0x48 [] long (record { each = tt }) 25 0 (omega arith) in
-    let objects = with_row file (row 0x44 4 (λ v. leb v 1024) TooMany) _ long (omega arith) (rw (at 17 (omega arith)) (no_more _ _ good.objects)) heap in
+    let objects = with_row file (row 0x44 4 (λ v. leb v 1024) TooMany) _ long (omega arith) (rw (at 17 (omega arith)) (le-leb _ _ good.objects)) heap in
     let tables = with_any file 0x30 _ long objects 5 0 (omega arith) in
-    let shift = with_row file (row 0x2C 4 (λ v. leb v 12) Field) _ long (omega arith) (rw (at 11 (omega arith)) (no_more _ _ good.page_shift)) tables in
-    let size = with_row file (row 0x28 4 (λ v. eqb v 4096) Field) _ long (omega arith) (same_number _ _ (at 10 (omega arith) ∙ good.page_size)) shift in
+    let shift = with_row file (row 0x2C 4 (λ v. leb v 12) Field) _ long (omega arith) (rw (at 11 (omega arith)) (le-leb _ _ good.page_shift)) tables in
+    let size = with_row file (row 0x28 4 (λ v. eqb v 4096) Field) _ long (omega arith) (eq-eqb _ _ (at 10 (omega arith) ∙ good.page_size)) shift in
     let start = with_any file 0x18 _ long size 4 0 (omega arith) in
-    let pages = with_row file (row 0x14 4 (λ v. leb v 65536) TooMany) _ long (omega arith) (rw (at 5 (omega arith)) (no_more _ _ good.pages)) start in
+    let pages = with_row file (row 0x14 4 (λ v. leb v 65536) TooMany) _ long (omega arith) (rw (at 5 (omega arith)) (le-leb _ _ good.pages)) start in
     let flags = with_row file (row 0x10 4 is_module_flags Field) _ long (omega arith) (rw (at 4 (omega arith)) good.flags) pages in
     let version = with_row file (row 0x0C 4 (λ _. true) Field) _ long (omega arith) refl flags in
-    let system = with_row file (row 0x0A 2 (λ v. eqb v 1) Field) _ long (omega arith) (same_number _ _ (high f g others fit.1.1.0 ∙ good.system)) version in
+    let system = with_row file (row 0x0A 2 (λ v. eqb v 1) Field) _ long (omega arith) (eq-eqb _ _ (high f g others fit.1.1.0 ∙ good.system)) version in
     let cpu = with_row file (row 0x08 2 (λ v. leb 1 v && leb v 3) Field) _ long (omega arith) (rw (low f g others) (between _ good.cpu.0 good.cpu.1)) system in
-    let level = with_row file (row 0x04 4 (λ v. eqb v 0) Field) _ long (omega arith) (same_number _ _ (at 1 (omega arith) ∙ good.level)) cpu in
-    let words = with_row file (row 0x03 1 (λ v. eqb v 0) Field) _ long (omega arith) (same_number _ _ (word_order f g others)) level in
-    let bytes = with_row file (row 0x02 1 (λ v. eqb v 0) Field) _ long (omega arith) (same_number _ _ (byte_order f g others)) words in
+    let level = with_row file (row 0x04 4 (λ v. eqb v 0) Field) _ long (omega arith) (eq-eqb _ _ (at 1 (omega arith) ∙ good.level)) cpu in
+    let words = with_row file (row 0x03 1 (λ v. eqb v 0) Field) _ long (omega arith) (eq-eqb _ _ (word_order f g others)) level in
+    let bytes = with_row file (row 0x02 1 (λ v. eqb v 0) Field) _ long (omega arith) (eq-eqb _ _ (byte_order f g others)) words in
     let here : first (map (row_fault file 0) rows) ≡ None = all_good (row_fault file 0) rows bytes.each in
     rw place here
 

@@ -1,6 +1,6 @@
 -- What a header without a fault says.
-use Rattle.std.proofs.Common.{◌≡◌, ℕ, ◌+◌, ◌≤◌, Bool, true, false, cond, ltb, leb, List, map, length, Some, None, refl, arith}
-use Rattle.std.proofs.lemmas.Bool.Decides.{nat_tests}
+use Rattle.std.proofs.Common.{◌≡◌, ℕ, ◌+◌, ◌≤◌, Bool, true, false, cond, ltb, leb, List, map, length, Some, None, refl}
+use Rattle.std.proofs.lemmas.Bool.{leb-true}
 use Rattle.lx_types.specs.declared.refusal.LxRefusal.{LxRefusal}
 use Rattle.lx_types.specs.declared.refusal.LxKind.TheVariants.{Short, Field}
 use Rattle.lx_model.specs.Reading.{fault, number_at, first}
@@ -13,13 +13,10 @@ allowed true good a b is = absurd cc
 allowed false true a b is = refl
 allowed false false a b is = absurd cc
 
-at_most : (n most : ℕ) → leb n most ≡ true → n ≤ most
-at_most n most is = grind (arith, nat_tests)
-
 pub shift_fits : (file : List ℕ) → header_fault file ≡ None → field file 0x2C ≤ 12
 unfolding header_fault field
 shift_fits file none =
     let place = header_place file in
     let good = each_first (row_fault file place) rows (then_none (place_fault file) (first (map (row_fault file place) rows)) none).1 in
     let shift : row_fault file place (row 0x2C 4 (λ v. leb v 12) Field) ≡ None = good.1.1.1.1.1.1.1.1.1.1.1.1.1.0 in
-    at_most (number_at 4 file (place + 0x2C)) 12 (allowed (ltb (length file) (place + 0x2C + 4)) (leb (number_at 4 file (place + 0x2C)) 12) (fault Short (place + 0x2C)) (fault Field (place + 0x2C)) shift)
+    leb-true (number_at 4 file (place + 0x2C)) 12 (allowed (ltb (length file) (place + 0x2C + 4)) (leb (number_at 4 file (place + 0x2C)) 12) (fault Short (place + 0x2C)) (fault Field (place + 0x2C)) shift)

@@ -1,5 +1,5 @@
 -- A table that is read entry by entry: the entries so far, and what is left.
-use Rattle.std.proofs.Common.{◌≡◌, ℕ, suc, ◌+◌, ◌-◌, ◌<◌, ◌≤◌, List, [], ◌∷◌, ◌++◌, map, Option, Some, None, Result, Ok, Err, refl, sym, subst, ap, ◌∙◌, append_assoc, append-nil, arith}
+use Rattle.std.proofs.Common.{◌≡◌, ℕ, ◌+◌, ◌-◌, ◌<◌, ◌≤◌, List, [], ◌∷◌, ◌++◌, map, Option, Some, None, Result, Ok, Err, refl, sym, subst, ap, ◌∙◌, append_assoc, append-nil, arith}
 use Rattle.std.specs.Prelude.{IsErrAnd}
 use Rattle.std.specs.List.{range_with_len}
 use Rattle.lx_types.specs.declared.fail.Fail.{Fail}
@@ -10,6 +10,7 @@ use Rattle.lx_model.specs.Header.{page_count, object_count}
 use Rattle.lx_model.specs.Tables.{object_entry, object_place, object_fault, objects_of, objects_fault, page_entry, page_place, page_or_zero, page_fault, page_heads, pages_fault}
 use Rattle.lx_types.specs.Answers.{as_is, if_said, as_said}
 use Rattle.lx_model.specs.Judging.{Judges}
+use Rattle.lx_entry.proofs.EntryLoop.{left_more}
 
 -- the entries so far with those that are left are all of them, and what is wrong is wrong with those that are left
 pub record Kept {X : Type 0} (f : ℕ → Option LxRefusal) (g : ℕ → X) (n k : ℕ) (before : List X) : Type 0 where
@@ -21,13 +22,10 @@ kept_start f g n =
     let all : n - 0 ≡ n = omega arith in
     record { items = ap (λ (m : ℕ). map g (range_with_len 0 m)) all; faults = ap (λ (m : ℕ). first (map f (range_with_len 0 m))) all }
 
-one_left : (n k : ℕ) → k < n → n - k ≡ suc (n - (k + 1))
-one_left n k lt = omega arith
-
 pub kept_more : {X : Type 0} (f : ℕ → Option LxRefusal) (g : ℕ → X) (n k : ℕ) (before : List X) → k < n → f k ≡ None → Kept f g n k before → Kept f g n (k + 1) (before ++ g k ∷ [])
 kept_more {X} f g n k before lt none kept =
     let m = n - (k + 1) in
-    let left = one_left n k lt in
+    let left = left_more n k lt in
     let items : map g (range_with_len k (n - k)) ≡ g k ∷ map g (range_with_len (k + 1) m) = ap (λ (i : ℕ). map g (range_with_len k i)) left in
     let faults : first (map f (range_with_len k (n - k))) ≡ first (None ∷ map f (range_with_len (k + 1) m)) =
     ap (λ (i : ℕ). first (map f (range_with_len k i))) left ∙ ap (λ (x : Option LxRefusal). first (x ∷ map f (range_with_len (k + 1) m))) none in
@@ -39,7 +37,7 @@ kept_more {X} f g n k before lt none kept =
 pub kept_wrong : {X : Type 0} (f : ℕ → Option LxRefusal) (g : ℕ → X) (n k : ℕ) (before : List X) (e : LxRefusal) → k < n → f k ≡ Some e → Kept f g n k before → first_of n f ≡ Some e
 kept_wrong f g n k before e lt some kept =
     let m = n - (k + 1) in
-    sym kept.faults ∙ ap (λ (i : ℕ). first (map f (range_with_len k i))) (one_left n k lt) ∙ ap (λ (x : Option LxRefusal). first (x ∷ map f (range_with_len (k + 1) m))) some
+    sym kept.faults ∙ ap (λ (i : ℕ). first (map f (range_with_len k i))) (left_more n k lt) ∙ ap (λ (x : Option LxRefusal). first (x ∷ map f (range_with_len (k + 1) m))) some
 
 pub kept_end : {X : Type 0} (f : ℕ → Option LxRefusal) (g : ℕ → X) (n k : ℕ) (before : List X) → n ≤ k → Kept f g n k before → (first_of n f ≡ None) × (before ≡ map g (range_with_len 0 n))
 kept_end {X} f g n k before ended kept =

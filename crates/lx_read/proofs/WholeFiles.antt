@@ -6,14 +6,14 @@ use Rattle.lx_types.specs.declared.fail.Fail.TheVariants.{Said, NoMemory}
 use Rattle.lx_types.specs.declared.refusal.LxRefusal.{LxRefusal}
 use Rattle.lx_types.specs.declared.parts.Parts.{Parts}
 use Rattle.lx_types.specs.Sound.{Sound}
-use Rattle.lx_model.specs.Reading.{◌then◌, placed, fault_of, value_or}
+use Rattle.lx_model.specs.Reading.{◌then◌, value_or}
 use Rattle.lx_model.specs.Header.{table, object_count, import_count, header_fault}
 use Rattle.lx_model.specs.Tables.{objects_fault, pages_fault}
 use Rattle.lx_model.specs.NameTables.{resident_fault, others_fault}
 use Rattle.lx_model.specs.EntryTable.{LAST_ORDINAL, entries_in, entries_of, entries_fault}
 use Rattle.lx_model.specs.Module.{LxFault, IsRead, parts_of}
 use Rattle.lx_model.proofs.Entries.{Run-pairs, run_of_table}
-use Rattle.lx_model.proofs.Meaning.{sound}
+use Rattle.lx_model.proofs.Meaning.{sound, read_ok}
 use Rattle.lx_read.specs.Headers.{IsHeaderOf, ReadsHeader}
 use Rattle.lx_types.specs.Answers.{if_said, as_said}
 use Rattle.lx_model.specs.Judging.{Judges, IsFault}
@@ -22,10 +22,6 @@ use Rattle.lx_read.specs.declared.header.Header.{Header}
 use Rattle.lx_read.specs.declared.reading.Found.{Found}
 
 -- ---- entries
-
-read_ok : {A : Type 0} (at : ℕ) (other : A) (r : Result A LxRefusal) → fault_of (placed at r) ≡ None → r ≡ Ok (value_or other (placed at r))
-read_ok at other (Ok x) e = refl
-read_ok at other (Err f) e = absurd cc
 
 pub entries_rise : (file : List ℕ) → entries_fault file ≡ None → AllPairs (λ a b. a.0 < b.0) (value_or [] (entries_of file))
 entries_rise file none =
