@@ -26,7 +26,8 @@ pub fn places_of(
     groups: &[Vec<usize>],
 ) -> Result<Places, NoMemory>
     requires { (l : Link) × StandsSo l (map (λ m. m.now) modules.now) standing.now.segments rows.now standing.now.names (map (λ v. v.items) groups.now) }
-    ensures { IfOk result (λ places. (l : Link) → StandsSo l (map (λ m. m.now) modules.now) standing.now.segments rows.now standing.now.names (map (λ v. v.items) groups.now)
+    ensures { IfOk result (λ places. (l : Link) →
+        StandsSo l (map (λ m. m.now) modules.now) standing.now.segments rows.now standing.now.names (map (λ v. v.items) groups.now)
         → ArePlaces l places) }
 {
     let places = part_places(alloc, &standing.segments, rows)?;
