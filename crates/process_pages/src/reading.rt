@@ -14,17 +14,27 @@ use lx_types::PageId;
 /// How many bytes a page has.
 const PAGE: usize = 4096;
 
-/// How many bytes are copied at once at most. The C library copies a longer run by one instruction, beside which a
-/// processor does nothing else, and so the look-ups of what is copied next would wait for its end.
-const RUN: usize = 2048;
+/// How many bytes of a page are copied first. The C library copies a longer run by one instruction, beside which a processor
+/// does nothing else, and so the look-ups of what is copied next would wait for its end.
+const HALF: usize = 2048;
 
-// Puts a run in the place of other bytes.
-fn replace(into: &mut [u8], place: usize, run: &[u8])
+// Puts a run in the place of other bytes at once.
+fn put(into: &mut [u8], place: usize, run: &[u8])
     requires { place + length run.now ≤ length into.old }
     ensures { (k : ℕ) → slice_index into.new k ≡ replaced place run.now into.old k }
 {
     let end = place + run.len();
     into[place..end].copy_from_slice(run);
+}
+
+// Puts a run of a page in the place of other bytes, by halves.
+fn replace(into: &mut [u8], place: usize, run: &[u8])
+    requires { place + length run.now ≤ length into.old }
+    ensures { (k : ℕ) → slice_index into.new k ≡ replaced place run.now into.old k }
+{
+    let half = run.len().min(HALF);
+    put(into, place, &run[..half]);
+    put(into, place + half, &run[half..]);
 }
 
 // The bytes of a page that is mapped.
@@ -39,7 +49,7 @@ fn bytes_of<'a>(pages: &'a [OwnPage], places: &PageRows, p: PageId) -> &'a [u8; 
     pages[place].bytes()
 }
 
-/// Copies the bytes of a place out of pages that are mapped, half a page at a time.
+/// Copies the bytes of a place out of pages that are mapped, page by page.
 pub fn copy_out(pages: &[OwnPage], places: &PageRows, place: &Place, into: &mut [u8])
     requires fits { length into.old ≡ place.now.len }
     requires there { AreThere places.now pages.now place.now.object place.now.offset place.now.len }
@@ -50,7 +60,7 @@ pub fn copy_out(pages: &[OwnPage], places: &PageRows, place: &Place, into: &mut 
     while done < end {
         let at = place.offset as usize + done;
         let within = at % PAGE;
-        let len = (RUN - at % RUN).min(end - done);
+        let len = (PAGE - within).min(end - done);
         let p = PageId {
             object: place.object,
             page: (at / PAGE) as u32,
