@@ -1,7 +1,7 @@
 -- The lines of a dump, by their words: flags and bases as eight hexadecimal digits, all other numbers in decimal.
 use Rattle.std.specs.Prelude.{ℕ, Bool, true, false, List, [], ◌∷◌, ◌++◌, length, codes, decimal, Option, Some, None}
 use Rattle.std.specs.Fmt.{signed_decimal}
-use Rattle.lx_types.specs.Escaped.{escaped}
+use Rattle.lx_types.specs.Escaped.{escaped, hex_address}
 use Rattle.lx_types.specs.declared.object.PageKind.TheVariants as kinds
 use Rattle.lx_types.specs.declared.fix.Source.{Source}
 use Rattle.lx_types.specs.declared.fix.Source.TheVariants as sources
@@ -13,7 +13,7 @@ use Rattle.lx_types.specs.declared.entry.EntryHead.TheVariants as heads
 use Rattle.lx_types.specs.declared.entry.FwdKey.{FwdKey}
 use Rattle.lx_types.specs.declared.entry.FwdKey.TheVariants as keys
 use Rattle.lx_types.specs.declared.object.PageKind.{PageKind}
-use Rattle.session_model.specs.Text.{hex_address, line_of}
+use Rattle.session_model.specs.Text.{line_of}
 use Rattle.dump_model.specs.declared.listing.ListedObject.{ListedObject}
 use Rattle.dump_model.specs.declared.listing.ListedPage.{ListedPage}
 use Rattle.dump_model.specs.declared.listing.Listing.{Listing}

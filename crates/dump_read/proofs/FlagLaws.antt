@@ -8,8 +8,7 @@ use Rattle.dump_read.specs.Settled.{Begins}
 use Rattle.dump_read.specs.Words.{IsHex}
 use Rattle.dump_read.proofs.Fronts.{joined, same-head}
 use Rattle.dump_read.proofs.Forms.{IsWords}
-use Rattle.lx_types.specs.Escaped.{hex_digit, hex_byte}
-use Rattle.session_model.specs.Text.{hex_address}
+use Rattle.lx_types.specs.Escaped.{hex_digit, hex_byte, hex_address}
 
 same-byte : (x b : ℕ) → b / 16 % 16 ≡ x / 16 % 16 → b % 16 ≡ x % 16 → hex_byte b ≡ hex_byte x
 same-byte x b high low = ap (λ d. hex_digit d ∷ hex_digit (b % 16) ∷ []) high ∙ ap (λ d. hex_digit (x / 16 % 16) ∷ hex_digit d ∷ []) low

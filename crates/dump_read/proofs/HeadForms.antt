@@ -1,7 +1,7 @@
 -- The line of the module, as it is read.
 use Rattle.std.proofs.Common.{◌≡◌, ℕ, zero, suc, ◌≤◌, ◌<◌, Bool, true, false, List, [], ◌∷◌, ◌++◌, length, Option, Some, None, refl, sym, subst, ap, ◌∙◌, arith, append_assoc, append-nil, inl, inr, ◌⊎◌}
 use Rattle.std.specs.Prelude.{codes, decimal, ◌==◌}
-use Rattle.session_model.specs.Text.{hex_address}
+use Rattle.lx_types.specs.Escaped.{hex_address}
 use Rattle.dump_model.specs.Bounds.{Has32, IsPair, IsListedName}
 use Rattle.dump_model.specs.Lines.{name_word, kind_word, start_words}
 use Rattle.dump_read.specs.declared.head.ModuleHead.{ModuleHead}

@@ -1,7 +1,8 @@
 -- The lines of objects and pages, as they are read.
 use Rattle.std.proofs.Common.{◌≡◌, ℕ, zero, suc, ◌≤◌, ◌<◌, true, List, [], ◌∷◌, ◌++◌, length, refl, sym, subst, ap, ◌∙◌, arith, append_assoc, append-nil}
 use Rattle.std.specs.Prelude.{codes, decimal}
-use Rattle.session_model.specs.Text.{hex_address, line_of}
+use Rattle.lx_types.specs.Escaped.{hex_address}
+use Rattle.session_model.specs.Text.{line_of}
 use Rattle.lx_types.specs.declared.object.PageKind.{PageKind}
 use Rattle.lx_types.specs.declared.object.PageKind.TheVariants as kinds
 use Rattle.lx_types.specs.declared.object.PageHead.{PageHead}

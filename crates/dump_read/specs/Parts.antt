@@ -11,7 +11,8 @@ use Rattle.lx_types.specs.declared.entry.FwdKey.{FwdKey}
 use Rattle.lx_types.specs.declared.object.PageKind.{PageKind}
 use Rattle.lx_types.specs.declared.object.PageKind.TheVariants as kinds
 use Rattle.lx_types.specs.declared.object.PageHead.{PageHead}
-use Rattle.session_model.specs.Text.{hex_address, line_of}
+use Rattle.lx_types.specs.Escaped.{hex_address}
+use Rattle.session_model.specs.Text.{line_of}
 use Rattle.dump_model.specs.Bounds.{Has32, HasData, IsTarget, IsHead, IsListedName, IsPair}
 use Rattle.dump_model.specs.Lines.{name_word, kind_word, start_words, data_words, alias_words, target_words, head_words, key_words}
 use Rattle.dump_read.specs.declared.objects.ObjectHead.{ObjectHead}

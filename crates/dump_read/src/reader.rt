@@ -2,7 +2,7 @@
 
 ghost use Rattle.std.specs.Prelude.{◌≡◌, ◌≤◌, ◌<◌, ◌++◌, ◌∷◌, [], length, decimal, IsTrue, IfOk, Bool, map};
 ghost use Rattle.std.specs.Fmt.{signed_decimal};
-ghost use Rattle.session_model.specs.Text.{hex_address};
+ghost use Rattle.lx_types.specs.Escaped.{hex_address};
 ghost use Rattle.dump_model.specs.Bounds.{Has32, HasSigned32, IsListedName};
 ghost use Rattle.dump_model.specs.Lines.{name_word};
 ghost use Rattle.dump_read.specs.Taken.{IsBehind, Reads, Takes, shut};

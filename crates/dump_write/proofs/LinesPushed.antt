@@ -8,7 +8,8 @@ use Rattle.lx_types.specs.declared.object.PageKind.{PageKind}
 use Rattle.lx_types.specs.declared.object.PageKind.TheVariants as kinds
 use Rattle.lx_types.specs.declared.entry.EntryHead.{EntryHead}
 use Rattle.lx_types.specs.declared.entry.EntryHead.TheVariants as heads
-use Rattle.session_model.specs.Text.{hex_address, line_of}
+use Rattle.lx_types.specs.Escaped.{hex_address}
+use Rattle.session_model.specs.Text.{line_of}
 use Rattle.dump_model.specs.declared.listing.ListedObject.{ListedObject}
 use Rattle.dump_model.specs.declared.listing.ListedPage.{ListedPage}
 use Rattle.dump_model.specs.declared.listing.Listing.{Listing}

@@ -2,7 +2,7 @@
 use Rattle.std.specs.Prelude.{ℕ, List, [], ◌∷◌, ◌++◌, codes, decimal}
 use Rattle.std.specs.Fmt.{signed_decimal}
 use Rattle.std.specs.List.{flat_map}
-use Rattle.session_model.specs.Text.{hex_address}
+use Rattle.lx_types.specs.Escaped.{hex_address}
 use Rattle.dump_model.specs.Lines.{name_word}
 use Rattle.line_words.specs.declared.words.Word.{Word}
 use Rattle.line_words.specs.declared.words.Word.TheVariants.{Text, Number, Count, Signed, Hex, Ordinal, Name}

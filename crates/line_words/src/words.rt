@@ -1,14 +1,13 @@
 //! The words of a line, as dumps and maps print them.
 
-ghost use Rattle.std.specs.Prelude.{◌≡◌, ◌++◌, ◌∷◌, ◌<◌, [], map, codes, decimal, OnOk};
+ghost use Rattle.std.specs.Prelude.{◌≡◌, ◌++◌, ◌∷◌, [], map, codes, decimal, OnOk};
 ghost use Rattle.std.specs.Fmt.{signed_decimal};
-ghost use Rattle.lx_types.specs.Escaped.{hex_digit, hex_byte};
-ghost use Rattle.session_model.specs.Text.{hex_address, line_of};
+ghost use Rattle.session_model.specs.Text.{line_of};
 ghost use Rattle.dump_model.specs.Lines.{name_word};
 ghost use Rattle.line_words.specs.Words.{word_text, leading};
 
 use itoa::Buffer;
-use lx_types::push_escaped;
+use lx_types::{push_escaped, push_hex_address};
 use std::alloc::AllocError;
 
 /// A word.
@@ -26,31 +25,6 @@ pub enum Word<'a> {
     Ordinal(u32),
     /// A name, with its escapes.
     Name(&'a [u8]),
-}
-
-fn hex_digit(n: u8) -> u8
-    requires { n < 16 }
-    ensures { result ≡ hex_digit n }
-{
-    if n < 10 { b'0' + n } else { b'A' - 10 + n }
-}
-
-// The last two digits of a number.
-fn push_hex_byte(out: &mut Vec<u8>, n: u32) -> Result<(), AllocError>
-    ensures { OnOk result (out.new.items ≡ out.old.items ++ hex_byte n) }
-{
-    out.push(hex_digit((n / 16 % 16) as u8))?;
-    out.push(hex_digit((n % 16) as u8))?;
-    Ok(())
-}
-
-fn push_hex(out: &mut Vec<u8>, n: u32) -> Result<(), AllocError>
-    ensures { OnOk result (out.new.items ≡ out.old.items ++ hex_address n) }
-{
-    push_hex_byte(out, n / 0x100_0000)?;
-    push_hex_byte(out, n / 0x1_0000)?;
-    push_hex_byte(out, n / 0x100)?;
-    push_hex_byte(out, n)
 }
 
 fn push_number(out: &mut Vec<u8>, n: u64) -> Result<(), AllocError>
@@ -91,7 +65,7 @@ fn push_word(out: &mut Vec<u8>, word: Word<'_>) -> Result<(), AllocError>
         Word::Number(n) => push_number(out, u64::from(n)),
         Word::Count(n) => push_number(out, n),
         Word::Signed(n) => push_signed(out, n),
-        Word::Hex(n) => push_hex(out, n),
+        Word::Hex(n) => push_hex_address(out, n),
         Word::Ordinal(n) => push_ordinal(out, n),
         Word::Name(name) => push_name(out, name),
     }

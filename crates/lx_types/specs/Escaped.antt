@@ -1,6 +1,6 @@
--- How a name is told, in refusals and in transcripts: bytes that are no visible ASCII, and `%`, as `%` and two
--- hexadecimal digits in upper case.
-use Rattle.std.specs.Prelude.{ℕ, ◌+◌, ◌/◌, ◌%◌, ◌==◌, ◌&&◌, not, Bool, List, [], ◌∷◌, nat_le, nat_lt, if◌then◌else◌}
+-- How numbers and names are told, in refusals and in transcripts: hexadecimal digits in upper case; of a name bytes that are no
+-- visible ASCII, and `%`, as `%` and two of them.
+use Rattle.std.specs.Prelude.{ℕ, ◌+◌, ◌/◌, ◌%◌, ◌==◌, ◌&&◌, not, Bool, List, [], ◌∷◌, ◌++◌, nat_le, nat_lt, if◌then◌else◌}
 use Rattle.std.specs.List.{flat_map}
 
 -- a hexadecimal digit, in upper case
@@ -10,6 +10,10 @@ hex_digit d = if nat_lt d 10 then 0x30 + d else 0x37 + d
 -- a byte as two digits
 abbrev pub hex_byte : ℕ → List ℕ
 hex_byte b = hex_digit (b / 16 % 16) ∷ hex_digit (b % 16) ∷ []
+
+-- a number of 32 bits as eight
+abbrev pub hex_address : ℕ → List ℕ
+hex_address a = hex_byte (a / 0x100_0000) ++ hex_byte (a / 0x1_0000) ++ hex_byte (a / 0x100) ++ hex_byte a
 
 -- from `!` to `~`, and not `%`
 abbrev pub is_plain : ℕ → Bool

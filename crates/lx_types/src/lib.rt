@@ -3,6 +3,7 @@
 
 mod bases;
 mod counts;
+mod digits;
 mod entry;
 mod escaped;
 mod fail;
@@ -20,6 +21,7 @@ mod sharing;
 
 pub use bases::{Bases, ModBases};
 pub use counts::count;
+pub use digits::{push_hex_address, push_hex_byte};
 pub use entry::{EntryHead, EntryKey, FwdKey};
 pub use escaped::push_escaped;
 pub use fail::{Fail, NoMemory};

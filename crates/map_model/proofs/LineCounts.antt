@@ -4,8 +4,8 @@ use Rattle.std.specs.List.{AllByRecursion, sum_by, flat_map, filter_map, cons_op
 use Rattle.std.specs.Fmt.{digits, digits_onto, digit_glyph}
 use Rattle.std.proofs.Common.{ap, arith}
 use Rattle.std.proofs.lemmas.List.Sums.{sum_by-cons, sum_by-append}
-use Rattle.lx_types.specs.Escaped.{hex_digit, hex_byte, is_plain, escaped_byte, escaped}
-use Rattle.session_model.specs.Text.{hex_address, words, line_of}
+use Rattle.lx_types.specs.Escaped.{hex_digit, hex_byte, is_plain, escaped_byte, escaped, hex_address}
+use Rattle.session_model.specs.Text.{words, line_of}
 use Rattle.dump_model.specs.Lines.{name_word}
 
 abbrev is_end : ℕ → ℕ

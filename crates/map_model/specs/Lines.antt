@@ -5,7 +5,8 @@ use Rattle.lx_types.specs.declared.entry.EntryKey.{EntryKey}
 use Rattle.lx_types.specs.declared.entry.EntryKey.TheVariants.{Ordinal, Named}
 use Rattle.obj_types.specs.declared.symbol.Common.{Common}
 use Rattle.obj_types.specs.declared.symbol.Imp.{Imp}
-use Rattle.session_model.specs.Text.{hex_address, line_of}
+use Rattle.lx_types.specs.Escaped.{hex_address}
+use Rattle.session_model.specs.Text.{line_of}
 use Rattle.dump_model.specs.Lines.{name_word}
 use Rattle.link_model.specs.declared.symbols.LaidObject.{LaidObject}
 use Rattle.map_model.specs.Listed.{Contribution, Listed}

@@ -1,10 +1,6 @@
--- How numbers and bytes are written in a transcript, and its lines.
-use Rattle.std.specs.Prelude.{ℕ, ◌/◌, List, [], ◌∷◌, ◌++◌, map, flat_map}
+-- How bytes are written in a transcript, and its lines.
+use Rattle.std.specs.Prelude.{ℕ, List, [], ◌∷◌, ◌++◌, map, flat_map}
 use Rattle.lx_types.specs.Escaped.{hex_byte}
-
--- eight digits
-abbrev pub hex_address : ℕ → List ℕ
-hex_address a = hex_byte (a / 0x100_0000) ++ hex_byte (a / 0x1_0000) ++ hex_byte (a / 0x100) ++ hex_byte a
 
 -- words with one blank between each two
 abbrev pub words : List (List ℕ) → List ℕ

@@ -24,8 +24,8 @@ use Rattle.load_model.specs.Modules.{Library, name_of}
 use Rattle.session_model.specs.declared.sessions.Line.{Line}
 use Rattle.session_model.specs.declared.sessions.ScriptLines.{ScriptLines}
 use Rattle.session_model.specs.Merging.{is_fault, numbers_of}
-use Rattle.lx_types.specs.Escaped.{escaped}
-use Rattle.session_model.specs.Text.{hex_address, line_of, inner_line, bytes_words, bytes_word}
+use Rattle.lx_types.specs.Escaped.{escaped, hex_address}
+use Rattle.session_model.specs.Text.{line_of, inner_line, bytes_words, bytes_word}
 
 -- ---- entries
 

@@ -1,7 +1,7 @@
 -- The words of a line, as the code holds them.
 use Rattle.std.specs.Prelude.{ℕ, List, ◌++◌, codes, decimal}
-use Rattle.lx_types.specs.Escaped.{escaped}
-use Rattle.session_model.specs.Text.{hex_address, bytes_word}
+use Rattle.lx_types.specs.Escaped.{escaped, hex_address}
+use Rattle.session_model.specs.Text.{bytes_word}
 use Rattle.session_text.specs.declared.words.Word.{Word}
 use Rattle.session_text.specs.declared.words.Word.TheVariants.{Text, Number, Process, Ordinal, Address, Name, Bytes}
 

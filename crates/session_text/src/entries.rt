@@ -3,7 +3,8 @@
 ghost use Rattle.std.specs.Prelude.{◌≡◌, ◌++◌, ◌∷◌, [], codes, decimal, map, OnOk};
 ghost use Rattle.std.specs.List.{flat_map};
 ghost use Rattle.session_model.specs.Merging.{numbers_of};
-ghost use Rattle.session_model.specs.Text.{hex_address, bytes_words};
+ghost use Rattle.lx_types.specs.Escaped.{hex_address};
+ghost use Rattle.session_model.specs.Text.{bytes_words};
 ghost use Rattle.session_model.specs.Transcript.{module_text, how_text, kind_text, new_line, call_line, gone_line, place_words, deed_words, deed_lines, process_text, entry_text};
 ghost use Rattle.session_text.specs.Deeds.{bytes_deed_text};
 ghost use Rattle.session_text.specs.Spaced.{spaced};

@@ -1,13 +1,12 @@
 //! The words of a line.
 
-ghost use Rattle.std.specs.Prelude.{◌≡◌, ◌++◌, ◌∷◌, ◌<◌, [], map, decimal, OnOk};
-ghost use Rattle.lx_types.specs.Escaped.{hex_digit, hex_byte};
-ghost use Rattle.session_model.specs.Text.{hex_address, bytes_word, bytes_words, words, line_of, inner_line};
+ghost use Rattle.std.specs.Prelude.{◌≡◌, ◌++◌, ◌∷◌, [], map, decimal, OnOk};
+ghost use Rattle.session_model.specs.Text.{bytes_word, bytes_words, words, line_of, inner_line};
 ghost use Rattle.session_text.specs.Spaced.{spaced};
 ghost use Rattle.session_text.specs.Words.{word_text};
 
 use itoa::Buffer;
-use lx_types::push_escaped;
+use lx_types::{push_escaped, push_hex_address, push_hex_byte};
 use std::alloc::AllocError;
 
 /// A word.
@@ -26,35 +25,10 @@ pub(crate) enum Word<'a> {
     Bytes(&'a [u8]),
 }
 
-fn hex_digit(n: u8) -> u8
-    requires { n < 16 }
-    ensures { result ≡ hex_digit n }
-{
-    if n < 10 { b'0' + n } else { b'A' - 10 + n }
-}
-
-// The last two digits of a number.
-fn push_hex_byte(out: &mut Vec<u8>, n: u32) -> Result<(), AllocError>
-    ensures { OnOk result (out.new.items ≡ out.old.items ++ hex_byte n) }
-{
-    out.push(hex_digit((n / 16 % 16) as u8))?;
-    out.push(hex_digit((n % 16) as u8))?;
-    Ok(())
-}
-
 fn push_number(out: &mut Vec<u8>, n: u64) -> Result<(), AllocError>
     ensures { OnOk result (out.new.items ≡ out.old.items ++ decimal n) }
 {
     out.extend_from_slice(Buffer::new().format(n).as_bytes())
-}
-
-fn push_address(out: &mut Vec<u8>, address: u32) -> Result<(), AllocError>
-    ensures { OnOk result (out.new.items ≡ out.old.items ++ hex_address address) }
-{
-    push_hex_byte(out, address / 0x100_0000)?;
-    push_hex_byte(out, address / 0x1_0000)?;
-    push_hex_byte(out, address / 0x100)?;
-    push_hex_byte(out, address)
 }
 
 fn push_hex(out: &mut Vec<u8>, bytes: &[u8]) -> Result<(), AllocError>
@@ -80,7 +54,7 @@ fn push_word(out: &mut Vec<u8>, word: Word<'_>) -> Result<(), AllocError>
             out.push(b'@')?;
             push_number(out, u64::from(n))
         }
-        Word::Address(address) => push_address(out, address),
+        Word::Address(address) => push_hex_address(out, address),
         Word::Name(name) => push_escaped(out, name),
         Word::Bytes(bytes) => push_hex(out, bytes),
     }

@@ -1,5 +1,5 @@
 use Rattle.std.proofs.Common.{◌≡◌, ◌++◌, map, drop}
-use Rattle.session_model.specs.Text.{hex_address}
+use Rattle.lx_types.specs.Escaped.{hex_address}
 use Rattle.session_text.specs.Spaced.{spaced}
 use Rattle.session_text.proofs.entries.push_addresses.Given as goal
 

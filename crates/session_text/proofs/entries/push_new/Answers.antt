@@ -1,6 +1,7 @@
 use Rattle.std.proofs.Common.{[], ◌∷◌, ◌++◌, map, ap, ◌∙◌}
 use Rattle.std.specs.Prelude.{codes, decimal}
-use Rattle.session_model.specs.Text.{words, hex_address}
+use Rattle.lx_types.specs.Escaped.{hex_address}
+use Rattle.session_model.specs.Text.{words}
 use Rattle.session_model.specs.Transcript.{module_text}
 use Rattle.session_text.specs.Spaced.{spaced}
 use Rattle.session_text.proofs.SpacedLaws.{inner-pushed}

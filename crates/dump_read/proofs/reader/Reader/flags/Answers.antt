@@ -1,4 +1,4 @@
-use Rattle.session_model.specs.Text.{hex_address}
+use Rattle.lx_types.specs.Escaped.{hex_address}
 use Rattle.dump_model.specs.Bounds.{Has32}
 use Rattle.dump_read.proofs.FlagLaws.{flags-words}
 use Rattle.dump_read.proofs.Steps.{told-or, word-reads}
