@@ -1,7 +1,8 @@
 -- A statement whose arguments are as many as it has, of which none is too long.
 use Rattle.std.proofs.Common.{◌≡◌, ℕ, Bool, true, false, cond, List, [], ◌∷◌, Option, Some, None, option_map, refl, sym, ap, subst, ◌∙◌}
-use Rattle.std.specs.Prelude.{◌&&◌, ◌||◌, not}
+use Rattle.std.specs.Prelude.{◌&&◌, not}
 use Rattle.std.specs.List.{list_any}
+use Rattle.std.proofs.lemmas.Bool.{or_from}
 use Rattle.session_model.specs.Statements.{is_long, word_count, by_count, three_words, five_words, Reading}
 use Rattle.session_lines.specs.declared.keyword.TwoWords.{TwoWords}
 use Rattle.session_lines.specs.declared.keyword.TwoWords.TheVariants as two
@@ -76,15 +77,12 @@ four-parts long (x ∷ ws) a h =
 
 -- ---- such arguments are counted right
 
-pub or-none : (a b : Bool) → a ≡ false → b ≡ false → a || b ≡ false
-or-none a b h k = rw (h, k) refl
-
 and-true : (a : Bool) → a && true ≡ false → a ≡ false
 and-true true h = h
 and-true false h = refl
 
 pub three-short : (a b : List ℕ) → is_long a ≡ false → is_long b ≡ false → list_any is_long (a ∷ b ∷ []) ≡ false
-three-short a b h k = or-none (is_long a) _ h (or-none (is_long b) _ k refl)
+three-short a b h k = or_from (is_long a) _ h (or_from (is_long b) _ k refl)
 
 pub counted : (t : Bool) (x y : Reading) → t ≡ false → cond t x y ≡ y
 counted true x y h = absurd (let no : ⊥ = cc in no)
@@ -103,9 +101,9 @@ two-read w ws a h =
 
 pub place-counted : (w : PlaceWord) (a b c d : List ℕ) → is_long a ≡ false → is_long b ≡ false → is_long c ≡ false → is_long d && true ≡ false
     → by_count (word_count (place_spelled w)) (place_spelled w ∷ a ∷ b ∷ c ∷ d ∷ []) ≡ five_words (place_spelled w) a b c d
-place-counted place.Touch a b c d h k l m = counted _ _ _ (or-none (list_any is_long (a ∷ b ∷ c ∷ [])) (is_long d && true) (or-none (is_long a) _ h (three-short b c k l)) m)
-place-counted place.Peek a b c d h k l m = counted _ _ _ (or-none (list_any is_long (a ∷ b ∷ c ∷ [])) (is_long d && true) (or-none (is_long a) _ h (three-short b c k l)) m)
-place-counted place.Shared a b c d h k l m = counted _ _ _ (or-none (list_any is_long (a ∷ b ∷ c ∷ [])) (is_long d && true) (or-none (is_long a) _ h (three-short b c k l)) m)
+place-counted place.Touch a b c d h k l m = counted _ _ _ (or_from (list_any is_long (a ∷ b ∷ c ∷ [])) (is_long d && true) (or_from (is_long a) _ h (three-short b c k l)) m)
+place-counted place.Peek a b c d h k l m = counted _ _ _ (or_from (list_any is_long (a ∷ b ∷ c ∷ [])) (is_long d && true) (or_from (is_long a) _ h (three-short b c k l)) m)
+place-counted place.Shared a b c d h k l m = counted _ _ _ (or_from (list_any is_long (a ∷ b ∷ c ∷ [])) (is_long d && true) (or_from (is_long a) _ h (three-short b c k l)) m)
 
 pub place-read : (w : PlaceWord) (ws : List (List ℕ)) (a : Four) → four_of false ws ≡ Some a
     → by_count (word_count (place_spelled w)) (place_spelled w ∷ ws) ≡ five_words (place_spelled w) a.name a.object a.offset a.last
@@ -115,8 +113,8 @@ place-read w ws a h =
 
 pub bytes-counted : (w : BytesWord) (a b c d : List ℕ) → is_long a ≡ false → is_long b ≡ false → is_long c ≡ false → is_long d && false ≡ false
     → by_count (word_count (bytes_spelled w)) (bytes_spelled w ∷ a ∷ b ∷ c ∷ d ∷ []) ≡ five_words (bytes_spelled w) a b c d
-bytes-counted bytes.Write a b c d h k l m = counted _ _ _ (or-none (list_any is_long (a ∷ b ∷ c ∷ [])) (is_long d && false) (or-none (is_long a) _ h (three-short b c k l)) m)
-bytes-counted bytes.Debug a b c d h k l m = counted _ _ _ (or-none (list_any is_long (a ∷ b ∷ c ∷ [])) (is_long d && false) (or-none (is_long a) _ h (three-short b c k l)) m)
+bytes-counted bytes.Write a b c d h k l m = counted _ _ _ (or_from (list_any is_long (a ∷ b ∷ c ∷ [])) (is_long d && false) (or_from (is_long a) _ h (three-short b c k l)) m)
+bytes-counted bytes.Debug a b c d h k l m = counted _ _ _ (or_from (list_any is_long (a ∷ b ∷ c ∷ [])) (is_long d && false) (or_from (is_long a) _ h (three-short b c k l)) m)
 
 pub bytes-read : (w : BytesWord) (ws : List (List ℕ)) (a : Four) → four_of true ws ≡ Some a
     → by_count (word_count (bytes_spelled w)) (bytes_spelled w ∷ ws) ≡ five_words (bytes_spelled w) a.name a.object a.offset a.last

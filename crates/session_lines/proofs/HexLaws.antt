@@ -2,11 +2,11 @@
 use Rattle.std.proofs.Common.{◌≡◌, ℕ, ◌+◌, ◌*◌, ◌%◌, ◌<◌, ◌≤◌, Bool, true, false, cond, List, [], ◌∷◌, length, Option, Some, None, option_map, option_and_then, Result, Ok, Err, refl, sym, ap, ◌∙◌, arith}
 use Rattle.std.specs.Prelude.{◌==◌, ◌||◌, nat_lt}
 use Rattle.std.proofs.lemmas.Bool.Decides.{nat_tests}
+use Rattle.std.proofs.lemmas.Bool.{le-ltb, lt-ltb, ne_eqb, cond-false, cond-true, or_from, or_right}
 use Rattle.hex.specs.declared.error.FromHexError.{FromHexError}
 use Rattle.hex.specs.Hex.{hex_digit_value, digit_or_error, value_at, decode_pairs, decode_of, ◌>>=◌}
 use Rattle.session_model.specs.Lines.{hex_value, hex_bytes}
 use Rattle.session_model.specs.Statements.{MOST_BYTES, hex_in}
-use Rattle.session_lines.proofs.Choices.{if_first, if_second, less, not_less, not_equal}
 
 -- the value of a result, where it has one
 abbrev value_in : {A : Type 0} → Result A FromHexError → Option A
@@ -81,13 +81,6 @@ hex-empty (b ∷ word) none = absurd (omega arith)
 abbrev in_bounds : List ℕ → Option (List ℕ)
 in_bounds bytes = cond ((length bytes == 0) || nat_lt MOST_BYTES (length bytes)) None (Some bytes)
 
-or_second : (a b : Bool) → b ≡ true → a || b ≡ true
-or_second true b h = refl
-or_second false b h = h
-
-or_none : (a b : Bool) → a ≡ false → b ≡ false → a || b ≡ false
-or_none a b h k = rw (h, k) refl
-
 pub hex-long : (word : List ℕ) → 8192 < length word → hex_in word ≡ None
 hex-long word long = step (hex_bytes word) refl
   where
@@ -96,7 +89,7 @@ hex-long word long = step (hex_bytes word) refl
     step (Some bytes) h =
         let n = hex_length word bytes h in
         ap (λ o. option_and_then in_bounds o) h
-        ∙ if_first _ _ _ (or_second (length bytes == 0) (nat_lt MOST_BYTES (length bytes)) (less MOST_BYTES (length bytes) (omega (arith, n))))
+        ∙ cond-true _ _ _ (or_right (length bytes == 0) (nat_lt MOST_BYTES (length bytes)) (lt-ltb MOST_BYTES (length bytes) (omega (arith, n))))
 
 -- the text has pairs
 even-pairs : (word : List ℕ) (r : Result (List ℕ) FromHexError) → decode_of word ≡ r → value_in r ≡ hex_bytes word
@@ -107,15 +100,15 @@ even-pairs word r is = step (length word % 2 == 1) refl
     odd-none (Some bytes) h odd = let n = hex_length word bytes h in absurd (grind (arith, nat_tests))
 
     step : (t : Bool) → (length word % 2 == 1) ≡ t → value_in r ≡ hex_bytes word
-    step true odd = ap (λ r. value_in r) (sym is ∙ if_first _ _ _ odd) ∙ sym (odd-none (hex_bytes word) refl odd)
-    step false even = ap (λ r. value_in r) (sym is ∙ if_second _ _ _ even) ∙ pairs-value 0 word
+    step true odd = ap (λ r. value_in r) (sym is ∙ cond-true _ _ _ odd) ∙ sym (odd-none (hex_bytes word) refl odd)
+    step false even = ap (λ r. value_in r) (sym is ∙ cond-false _ _ _ even) ∙ pairs-value 0 word
 
 pub hex-decoded : (word bytes : List ℕ) → 0 < length word → length word ≤ 8192 → decode_of word ≡ Ok bytes → Some bytes ≡ hex_in word
 hex-decoded word bytes some few is =
     let found : hex_bytes word ≡ Some bytes = sym (even-pairs word (Ok bytes) is) in
     let n = hex_length word bytes found in
     sym (ap (λ o. option_and_then in_bounds o) found
-    ∙ if_second _ _ _ (or_none (length bytes == 0) (nat_lt MOST_BYTES (length bytes)) (not_equal (length bytes) 0 (λ z. omega (arith, n, z))) (not_less MOST_BYTES (length bytes) (omega (arith, n)))))
+    ∙ cond-false _ _ _ (or_from (length bytes == 0) (nat_lt MOST_BYTES (length bytes)) (ne_eqb (length bytes) 0 (λ z. omega (arith, n, z))) (le-ltb MOST_BYTES (length bytes) (omega (arith, n)))))
 
 pub hex-refused : (word : List ℕ) (e : FromHexError) → decode_of word ≡ Err e → None ≡ hex_in word
 hex-refused word e is = sym (ap (λ o. option_and_then in_bounds o) (sym (even-pairs word (Err e) is)))

@@ -2,11 +2,11 @@
 use Rattle.std.proofs.Common.{◌≡◌, ℕ, ◌+◌, ◌*◌, ◌^◌, ◌<◌, ◌≤◌, true, false, List, [], ◌∷◌, length, drop, get_or, Option, Some, None, option_map, option_and_then, refl, sym, ap, ◌∙◌, arith}
 use Rattle.std.specs.Prelude.{nat_lt}
 use Rattle.std.proofs.lemmas.List.{drop_more}
+use Rattle.std.proofs.lemmas.Bool.{le-ltb, cond-false, cond-true}
 use Rattle.session_model.specs.Lines.{digits_onto, below, is_hex, number_in}
 use Rattle.session_lines.specs.declared.numbers.Base.{Base}
 use Rattle.session_lines.specs.declared.numbers.Base.TheVariants.{Ten, Sixteen}
 use Rattle.session_lines.specs.Digits.{radix, digit_of, small_number}
-use Rattle.session_lines.proofs.Choices.{if_first, if_second, not_less}
 
 -- the number of digits behind those that make a number so far
 abbrev pub small_onto : Base → ℕ → List ℕ → Option ℕ
@@ -56,7 +56,7 @@ grown base v d limit some h = grind arith
 
 onto-over : (base : ℕ) (value : ℕ → Option ℕ) (limit v : ℕ) (ds : List ℕ) → 1 ≤ base → limit ≤ v
     → option_and_then (below limit) (digits_onto base value (Some v) ds) ≡ None
-onto-over base value limit v [] some h = if_second (nat_lt v limit) _ _ (not_less v limit h)
+onto-over base value limit v [] some h = cond-false (nat_lt v limit) _ _ (le-ltb v limit h)
 onto-over base value limit v (d ∷ ds) some h =
     step (value d) refl (λ digit. onto-over base value limit (v * base + digit) ds some (grown base v digit limit some h))
   where
@@ -73,8 +73,8 @@ small-over base v digits h = onto-over (radix base) (digit_of base) (2 ^ 32) v d
 
 pub number-hex : (word : List ℕ) → is_hex word ≡ true → number_in word ≡ small_number Sixteen (drop 2 word)
 unfolding number_in
-number-hex word h = ap (λ o. option_and_then (below (2 ^ 32)) o) (if_first (is_hex word) _ _ h)
+number-hex word h = ap (λ o. option_and_then (below (2 ^ 32)) o) (cond-true (is_hex word) _ _ h)
 
 pub number-decimal : (word : List ℕ) → is_hex word ≡ false → number_in word ≡ small_number Ten word
 unfolding number_in
-number-decimal word h = ap (λ o. option_and_then (below (2 ^ 32)) o) (if_second (is_hex word) _ _ h)
+number-decimal word h = ap (λ o. option_and_then (below (2 ^ 32)) o) (cond-false (is_hex word) _ _ h)

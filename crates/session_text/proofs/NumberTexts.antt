@@ -1,15 +1,15 @@
 -- Numbers in decimal and bytes in hexadecimal are plain words, and are read again.
-use Rattle.std.proofs.Common.{◌≡◌, ℕ, ◌+◌, ◌-◌, ◌*◌, ◌/◌, ◌%◌, ◌^◌, ◌<◌, ◌≤◌, Bool, true, false, cond, List, [], ◌∷◌, length, Option, Some, None, option_map, option_and_then, refl, ap, ◌∙◌, arith}
-use Rattle.std.specs.Prelude.{◌==◌, ◌&&◌, ◌||◌, nat_lt, decimal}
+use Rattle.std.proofs.Common.{◌≡◌, ℕ, ◌+◌, ◌-◌, ◌*◌, ◌/◌, ◌%◌, ◌^◌, ◌<◌, ◌≤◌, true, false, cond, List, [], ◌∷◌, length, Option, Some, None, option_map, option_and_then, refl, ap, ◌∙◌, arith}
+use Rattle.std.specs.Prelude.{◌==◌, ◌||◌, nat_lt, decimal}
 use Rattle.std.specs.List.{AllByRecursion, list_all, fold}
 use Rattle.std.proofs.lemmas.Bool.Decides.{nat_tests}
 use Rattle.std.proofs.lemmas.Fmt.{decimal_nonempty, digits_decimal, digits_value-decimal, length-decimal-le}
 use Rattle.std.proofs.lemmas.Str.Parse.{IsNumeralModel, IsDigitsTest, FoldsDigits, numerals_by_fold}
+use Rattle.std.proofs.lemmas.Bool.{and_parts, and_from, le-ltb, lt-ltb, ne_eqb, cond-false, cond-true, or_from, and_right}
 use Rattle.lx_types.specs.Escaped.{hex_digit}
 use Rattle.session_model.specs.Lines.{is_digit, hex_value, decimal_value, digits_onto, is_hex, below, number_in, hex_bytes}
 use Rattle.session_model.specs.Statements.{MOST_BYTES, MOST_WORD, is_long, hex_in}
 use Rattle.session_model.specs.Text.{bytes_word}
-use Rattle.session_lines.proofs.Choices.{if_first, if_second, less, not_less, not_equal, both-true, first-true, second-true}
 use Rattle.session_text.specs.Writable.{IsVisible, IsPlain, IsByte}
 
 -- ---- digits
@@ -26,8 +26,8 @@ value_of n ds = fold (λ v d. v * 10 + (d - 48)) n ds
 our-digits : IsDigitsTest (λ ds. list_all is_digit ds ≡ true)
 our-digits = record {
   empty = refl;
-  parts = λ c cs h. (digit-in c (first-true _ _ h), second-true _ _ h);
-  more = λ c cs h k. both-true _ _ (digit-is c h) k;
+  parts = λ c cs h. (digit-in c (and_parts _ _ h).0, (and_parts _ _ h).1);
+  more = λ c cs h k. and_from _ _ (digit-is c h) k;
 }
 
 our-value : FoldsDigits (λ start ds. value_of start ds)
@@ -39,26 +39,22 @@ our-numerals = numerals_by_fold _ our-digits _ our-value
 digits-read : (ds : List ℕ) (v : ℕ) → list_all is_digit ds ≡ true → digits_onto 10 decimal_value (Some v) ds ≡ Some (value_of v ds)
 digits-read [] v h = refl
 digits-read (d ∷ ds) v h =
-    ap (λ o. digits_onto 10 decimal_value (option_map (λ digit. v * 10 + digit) o) ds) (if_first (is_digit d) (Some (d - 48)) None (first-true (is_digit d) (list_all is_digit ds) h))
-    ∙ digits-read ds (v * 10 + (d - 48)) (second-true (is_digit d) (list_all is_digit ds) h)
-
-and-second : (a b : Bool) → b ≡ false → a && b ≡ false
-and-second true b h = h
-and-second false b h = refl
+    ap (λ o. digits_onto 10 decimal_value (option_map (λ digit. v * 10 + digit) o) ds) (cond-true (is_digit d) (Some (d - 48)) None (and_parts (is_digit d) (list_all is_digit ds) h).0)
+    ∙ digits-read ds (v * 10 + (d - 48)) (and_parts (is_digit d) (list_all is_digit ds) h).1
 
 not-hex : (ds : List ℕ) → list_all is_digit ds ≡ true → is_hex ds ≡ false
 not-hex [] h = refl
 not-hex (a ∷ []) h = refl
 not-hex (a ∷ b ∷ ds) h =
-    let digit = digit-in b (first-true (is_digit b) (list_all is_digit ds) (second-true (is_digit a) (list_all is_digit (b ∷ ds)) h)) in
-    and-second (a == 0x30) (b == 0x78) (not_equal b 0x78 (λ e. omega (arith, digit, e)))
+    let digit = digit-in b (and_parts (is_digit b) (list_all is_digit ds) (and_parts (is_digit a) (list_all is_digit (b ∷ ds)) h).1).0 in
+    and_right (a == 0x30) (b == 0x78) (ne_eqb b 0x78 (λ e. omega (arith, digit, e)))
 
 number-of : (ds : List ℕ) (n : ℕ) → 0 < length ds → list_all is_digit ds ≡ true → value_of 0 ds ≡ n → n < 2 ^ 32 → number_in ds ≡ Some n
 unfolding number_in
 number-of [] n some h is small = absurd (omega arith)
 number-of (d ∷ ds) n some h is small =
-    ap (λ o. option_and_then (below (2 ^ 32)) o) (if_second (is_hex (d ∷ ds)) _ _ (not-hex (d ∷ ds) h) ∙ digits-read (d ∷ ds) 0 h ∙ ap Some is)
-    ∙ if_first (nat_lt n (2 ^ 32)) _ _ (less n (2 ^ 32) small)
+    ap (λ o. option_and_then (below (2 ^ 32)) o) (cond-false (is_hex (d ∷ ds)) _ _ (not-hex (d ∷ ds) h) ∙ digits-read (d ∷ ds) 0 h ∙ ap Some is)
+    ∙ cond-true (nat_lt n (2 ^ 32)) _ _ (lt-ltb n (2 ^ 32) small)
 
 pub number-read : (n : ℕ) → n < 2 ^ 32 → number_in (decimal n) ≡ Some n
 number-read n small =
@@ -66,13 +62,13 @@ number-read n small =
     number-of (decimal n) n (decimal_nonempty n wide) (digits_decimal our-numerals n wide) (digits_value-decimal our-numerals n wide) small
 
 pub number-short : (n : ℕ) → n < 2 ^ 32 → is_long (decimal n) ≡ false
-number-short n small = let few = length-decimal-le 10 n (omega arith) (omega arith) (omega arith) in not_less MOST_WORD (length (decimal n)) (omega (arith, few))
+number-short n small = let few = length-decimal-le 10 n (omega arith) (omega arith) (omega arith) in le-ltb MOST_WORD (length (decimal n)) (omega (arith, few))
 
 digits-visible : (ds : List ℕ) → list_all is_digit ds ≡ true → AllByRecursion IsVisible ds
 digits-visible [] h = tt
 digits-visible (d ∷ ds) h =
-    let digit = digit-in d (first-true (is_digit d) (list_all is_digit ds) h) in
-    ((omega (arith, digit.0), omega (arith, digit.1)), digits-visible ds (second-true (is_digit d) (list_all is_digit ds) h))
+    let digit = digit-in d (and_parts (is_digit d) (list_all is_digit ds) h).0 in
+    ((omega (arith, digit.0), omega (arith, digit.1)), digits-visible ds (and_parts (is_digit d) (list_all is_digit ds) h).1)
 
 pub number-plain : (n : ℕ) → n < 2 ^ 32 → IsPlain (decimal n)
 number-plain n small =
@@ -83,7 +79,7 @@ pub ordinal-plain : (n : ℕ) → n < 2 ^ 32 → IsPlain (0x40 ∷ decimal n)
 ordinal-plain n small = record { some = omega arith; visible = ((omega arith, omega arith), (number-plain n small).visible) }
 
 pub ordinal-short : (n : ℕ) → n < 2 ^ 32 → is_long (0x40 ∷ decimal n) ≡ false
-ordinal-short n small = let few = length-decimal-le 10 n (omega arith) (omega arith) (omega arith) in not_less MOST_WORD (length (0x40 ∷ decimal n)) (omega (arith, few))
+ordinal-short n small = let few = length-decimal-le 10 n (omega arith) (omega arith) (omega arith) in le-ltb MOST_WORD (length (0x40 ∷ decimal n)) (omega (arith, few))
 
 -- ---- bytes
 
@@ -109,13 +105,10 @@ bytes-read (b ∷ bytes) h =
     ∙ ap (λ o. joined (Some (b / 16 % 16)) o (Some bytes)) (hex-digit_read (b % 16) low)
     ∙ ap (λ b. Some (b ∷ bytes)) whole
 
-or-none : (a b : Bool) → a ≡ false → b ≡ false → a || b ≡ false
-or-none a b h k = rw (h, k) refl
-
 pub hex-read : (bytes : List ℕ) → AllByRecursion IsByte bytes → 1 ≤ length bytes → length bytes ≤ MOST_BYTES → hex_in (bytes_word bytes) ≡ Some bytes
 hex-read bytes h some few =
     ap (λ o. option_and_then (λ bs. cond ((length bs == 0) || nat_lt MOST_BYTES (length bs)) None (Some bs)) o) (bytes-read bytes h)
-    ∙ if_second _ _ _ (or-none (length bytes == 0) (nat_lt MOST_BYTES (length bytes)) (not_equal (length bytes) 0 (λ z. omega (arith, some, z))) (not_less MOST_BYTES (length bytes) few))
+    ∙ cond-false _ _ _ (or_from (length bytes == 0) (nat_lt MOST_BYTES (length bytes)) (ne_eqb (length bytes) 0 (λ z. omega (arith, some, z))) (le-ltb MOST_BYTES (length bytes) few))
 
 pub hex-plain : (bytes : List ℕ) → 1 ≤ length bytes → IsPlain (bytes_word bytes)
 hex-plain [] some = absurd (omega arith)

@@ -1,13 +1,14 @@
 -- Words of visible bytes, with one blank between each two, are read as these words, and their line as one line.
 use Rattle.std.proofs.Common.{◌≡◌, ◌≢◌, ℕ, suc, ◌+◌, true, false, cond, List, [], ◌∷◌, ◌++◌, length, take, drop, refl, sym, ap, ◌∙◌, arith, append-nil}
-use Rattle.std.specs.Prelude.{◌==◌, not}
+use Rattle.std.specs.Prelude.{not}
 use Rattle.std.specs.List.{AllByRecursion, list_all}
 use Rattle.std.proofs.lemmas.Bool.Decides.{nat_tests}
 use Rattle.std.proofs.lemmas.List.{take_at, drop_at}
 use Rattle.std.proofs.lemmas.List.Folds.{list_all-append}
-use Rattle.session_model.specs.Lines.{is_blank, is_allowed, is_cut, with_byte, lines_in, words_in}
+use Rattle.std.proofs.lemmas.Bool.{not_from_false, and_parts, and_from, ne_eqb, cond-true}
+use Rattle.session_model.specs.Lines.{is_blank, is_allowed, with_byte, lines_in, words_in}
 use Rattle.session_model.specs.Text.{words}
-use Rattle.session_lines.proofs.Choices.{if_first, not_equal, both-true, first-true, second-true, not-false}
+use Rattle.session_model.proofs.KeptText.{uncut}
 use Rattle.session_lines.proofs.WordLaws.{word_len, words-first}
 use Rattle.session_lines.proofs.LineLaws.{line_end, line_byte}
 use Rattle.session_text.specs.Writable.{IsVisible, IsPlain}
@@ -21,7 +22,7 @@ visible-allowed b h = grind (arith, nat_tests)
 -- ---- words
 
 run-step : (b : ℕ) (n k : ℕ) → IsVisible b → n ≡ k → cond (not (is_blank b)) (1 + n) 0 ≡ suc k
-run-step b n k h e = if_first (not (is_blank b)) (1 + n) 0 (not-false (is_blank b) (visible-not_blank b h)) ∙ omega (arith, e)
+run-step b n k h e = cond-true (not (is_blank b)) (1 + n) 0 (not_from_false (is_blank b) (visible-not_blank b h)) ∙ omega (arith, e)
 
 run-last : (w : List ℕ) → AllByRecursion IsVisible w → word_len w ≡ length w
 run-last [] h = refl
@@ -55,20 +56,16 @@ words-read (w ∷ v ∷ ws) h = word-before w (words (v ∷ ws)) h.0 ∙ ap (λ 
 
 word-allowed : (w : List ℕ) → AllByRecursion IsVisible w → list_all is_allowed w ≡ true
 word-allowed [] h = refl
-word-allowed (b ∷ w) h = both-true (is_allowed b) (list_all is_allowed w) (visible-allowed b h.0) (word-allowed w h.1)
+word-allowed (b ∷ w) h = and_from (is_allowed b) (list_all is_allowed w) (visible-allowed b h.0) (word-allowed w h.1)
 
 pub words-allowed : (ws : List (List ℕ)) → AllByRecursion IsPlain ws → list_all is_allowed (words ws) ≡ true
 words-allowed [] h = refl
 words-allowed (w ∷ []) h = word-allowed w h.0.visible
 words-allowed (w ∷ v ∷ ws) h =
     list_all-append is_allowed w (0x20 ∷ words (v ∷ ws))
-    ∙ both-true (list_all is_allowed w) (list_all is_allowed (words (v ∷ ws))) (word-allowed w h.0.visible) (words-allowed (v ∷ ws) h.1)
+    ∙ and_from (list_all is_allowed w) (list_all is_allowed (words (v ∷ ws))) (word-allowed w h.0.visible) (words-allowed (v ∷ ws) h.1)
 
 -- ---- lines
-
-uncut : (b : ℕ) (bytes : List ℕ) → (b == 13) ≡ false → is_cut b bytes ≡ false
-uncut b [] h = refl
-uncut b (c ∷ bytes) h = rw h refl
 
 allowed-inner : (b : ℕ) → is_allowed b ≡ true → (b ≢ 10) × (b ≢ 13)
 allowed-inner b h = ((λ e. outside b 10 refl h e), (λ e. outside b 13 refl h e))
@@ -79,6 +76,6 @@ allowed-inner b h = ((λ e. outside b 10 refl h e), (λ e. outside b 13 refl h e
 pub line-written : (line rest : List ℕ) → list_all is_allowed line ≡ true → lines_in (line ++ 0x0A ∷ rest) ≡ line ∷ lines_in rest
 line-written [] rest h = line_end 10 rest refl
 line-written (b ∷ line) rest h =
-    let inner = allowed-inner b (first-true (is_allowed b) (list_all is_allowed line) h) in
-    line_byte b (line ++ 0x0A ∷ rest) (uncut b (line ++ 0x0A ∷ rest) (not_equal b 13 inner.1)) inner.0
-    ∙ ap (with_byte b) (line-written line rest (second-true (is_allowed b) (list_all is_allowed line) h))
+    let inner = allowed-inner b (and_parts (is_allowed b) (list_all is_allowed line) h).0 in
+    line_byte b (line ++ 0x0A ∷ rest) (uncut b (line ++ 0x0A ∷ rest) (ne_eqb b 13 inner.1)) inner.0
+    ∙ ap (with_byte b) (line-written line rest (and_parts (is_allowed b) (list_all is_allowed line) h).1)

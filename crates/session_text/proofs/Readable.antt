@@ -3,6 +3,8 @@ use Rattle.std.proofs.Common.{◌≡◌, ℕ, ◌+◌, ◌-◌, ◌*◌, ◌<◌
 use Rattle.std.specs.Prelude.{codes, nat_lt, nat_le, drop, ◌==◌, ◌&&◌, ◌||◌, not, if◌then◌else◌}
 use Rattle.std.specs.List.{list_all, AllByRecursion, filter_map, cons_option}
 use Rattle.std.proofs.lemmas.Bool.Decides.{nat_tests}
+use Rattle.std.proofs.lemmas.Bool.{and_parts, not-false}
+use Rattle.std.proofs.lemmas.Option.{same_Some}
 use Rattle.lx_types.specs.declared.entry.EntryKey.{EntryKey}
 use Rattle.lx_types.specs.declared.entry.EntryKey.TheVariants.{Ordinal, Named}
 use Rattle.load_model.specs.declared.commands.Place.{Place}
@@ -10,13 +12,12 @@ use Rattle.load_model.specs.declared.commands.Command.{Command}
 use Rattle.load_model.specs.declared.commands.Command.TheVariants.{Start, Load, Free, Touch, Peek, Shared, Write, Debug, Query, GetRes, Exit}
 use Rattle.session_model.specs.declared.sessions.ModLine.TheVariants.{Take, Build}
 use Rattle.session_model.specs.declared.sessions.Session.{Session}
-use Rattle.session_model.specs.declared.sessions.SessionKind.{SessionKind}
 use Rattle.session_model.specs.declared.sessions.SessionKind.TheVariants as kinds
 use Rattle.session_model.specs.Lines.{is_allowed, is_blank, onto_word, lines_in, words_in, number_in, hex_value, hex_bytes}
 use Rattle.session_model.specs.Statements.{Statement, gives, fails, process, command, Reading, nothing, says, wrong, or_wrong, MOST_BYTES, place_of, length_in, place_in, begins_with_at, key_in, process_in, word_in, hex_in, write_of, is_word, word_count, has_long, is_within, two_words, failing_of, three_words, four_words, five_words, statement_of, by_count, is_comment, of_words, reading_of}
 use Rattle.session_model.specs.Sessions.{module_of, failing_in, commands_of, scripts_of, session_of, statement_in, statements_of, Ses}
 use Rattle.session_model.specs.Bounds.{IsSession}
-use Rattle.session_lines.proofs.Choices.{first-true, second-true}
+use Rattle.session_model.proofs.Readings.{said, said_is, not_wrong, not_nothing}
 use Rattle.session_text.specs.Writable.{IsVisible, IsPlain, HasPlainKey, IsByte, IsPlainCommand, IsPlainModule, IsPlainFailing, IsPlainScript, IsWritable}
 
 -- ---- words of a line
@@ -42,11 +43,11 @@ onto-plain b (c ∷ bytes) (w ∷ ws) h p = step (is_blank c)
 words-plain : (line : List ℕ) → list_all is_allowed line ≡ true → Plain (words_in line)
 unfolding words_in
 words-plain [] h = tt
-words-plain (b ∷ bytes) h = step (is_blank b) refl (words-plain bytes (second-true (is_allowed b) (list_all is_allowed bytes) h))
+words-plain (b ∷ bytes) h = step (is_blank b) refl (words-plain bytes (and_parts (is_allowed b) (list_all is_allowed bytes) h).1)
   where
     step : (t : Bool) → is_blank b ≡ t → Plain (words_in bytes) → Plain (if t then words_in bytes else onto_word b bytes (words_in bytes))
     step true is p = p
-    step false is p = onto-plain b bytes (words_in bytes) (visible b (first-true (is_allowed b) (list_all is_allowed bytes) h) is) p
+    step false is p = onto-plain b bytes (words_in bytes) (visible b (and_parts (is_allowed b) (list_all is_allowed bytes) h).0 is) p
 
 -- ---- bytes of a write
 
@@ -114,16 +115,6 @@ map-some : {A B : Type 0} (f : A → B) (o : Option A) (y : B) → option_map f 
 map-some f None y h = cc
 map-some f (Some x) y h = record { it = x; there = refl; gives = h }
 
-said : (kind : SessionKind) (o : Option Statement) (st : Statement) → or_wrong kind o ≡ says st → o ≡ Some st
-said kind None st h = cc
-said kind (Some x) st h = (let same : x ≡ st = cc in ap Some same)
-
-said-is : (x st : Statement) → says x ≡ says st → x ≡ st
-said-is x st h = cc
-
-some-is : {A : Type 0} (x y : A) → Some x ≡ Some y → x ≡ y
-some-is x y h = cc
-
 unless-some : {A : Type 0} (b : Bool) (x y : A) → (if b then None else Some x) ≡ Some y → x ≡ y
 unless-some true x y h = cc
 unless-some false x y h = cc
@@ -137,14 +128,14 @@ IsPlainStatement (process n) = Unit {0}
 IsPlainStatement (command c) = IsPlainCommand c
 
 is-said : (x st : Statement) → IsPlainStatement x → says x ≡ says st → IsPlainStatement st
-is-said x st plain h = subst IsPlainStatement (said-is x st h) plain
+is-said x st plain h = subst IsPlainStatement (said_is x st h) plain
 
 -- a statement of a number, whatever the number is
 of-number : {A : Type 0} (f : A → Statement) (o : Option A) (st : Statement) → ((x : A) → o ≡ Some x → IsPlainStatement (f x))
     → or_wrong kinds.Number (option_map f o) ≡ says st → IsPlainStatement st
 of-number f o st plain h =
     let it = map-some f o st (said kinds.Number (option_map f o) st h) in
-    subst IsPlainStatement (some-is (f it.it) st it.gives) (plain it.it it.there)
+    subst IsPlainStatement (same_Some (f it.it) st it.gives) (plain it.it it.there)
 
 two-plain : (w a : List ℕ) (st : Statement) → IsPlain a → two_words w a ≡ says st → IsPlainStatement st
 two-plain w a st p h = one (is_word w (codes "take")) (is_word w (codes "start")) (is_word w (codes "load")) (is_word w (codes "free")) h
@@ -164,8 +155,8 @@ key-plain word key p h = step (begins_with_at word) refl h
     step : (b : Bool) → begins_with_at word ≡ b → (if b then option_map Ordinal (number_in (drop 1 word)) else Some (Named word)) ≡ Some key → HasPlainKey key
     step true is h =
         let f = map-some Ordinal (number_in (drop 1 word)) key h in
-        subst HasPlainKey (some-is (Ordinal f.it) key f.gives) tt
-    step false is h = subst HasPlainKey (some-is (Named word) key h) (record { plain = p; named = is })
+        subst HasPlainKey (same_Some (Ordinal f.it) key f.gives) tt
+    step false is h = subst HasPlainKey (same_Some (Named word) key h) (record { plain = p; named = is })
 
 three-plain : (w a b : List ℕ) (st : Statement) → IsPlain a → IsPlain b → three_words w a b ≡ says st → IsPlainStatement st
 three-plain w a b st p q h = step (is_word w (codes "failing")) h
@@ -186,7 +177,7 @@ four-plain w a b c st p q r h = step (is_word w (codes "getres")) h
         let f = bind-some (λ ty. option_map (λ id. command (GetRes a ty id)) (word_in c)) (word_in b) st
         (said kinds.Number (option_and_then (λ ty. option_map (λ id. command (GetRes a ty id)) (word_in c)) (word_in b)) st h) in
         let g = map-some (λ id. command (GetRes a f.it id)) (word_in c) st f.gives in
-        subst IsPlainStatement (some-is (command (GetRes a f.it g.it)) st g.gives) p
+        subst IsPlainStatement (same_Some (command (GetRes a f.it g.it)) st g.gives) p
     step false h = is-said (gives (Build a b (c ∷ []))) st (p, q, (r, tt)) h
 
 -- a place has the name
@@ -195,7 +186,7 @@ place-named most name object offset len p h =
     let f = bind-some (λ o. option_and_then (λ x. option_map (place_of name o x) (length_in most len)) (number_in offset)) (number_in object) p h in
     let g = bind-some (λ x. option_map (place_of name f.it x) (length_in most len)) (number_in offset) p f.gives in
     let k = map-some (place_of name f.it g.it) (length_in most len) p g.gives in
-    sym (ap (λ p. p.«module») (some-is (place_of name f.it g.it k.it) p k.gives))
+    sym (ap (λ p. p.«module») (same_Some (place_of name f.it g.it k.it) p k.gives))
 
 written-plain : (kind : Place → List ℕ → Command) (name object offset hex : List ℕ) (st : Statement) →
     ((p : Place) (bytes : List ℕ) → p.«module» ≡ name → AllByRecursion IsByte bytes → IsPlainCommand (kind p bytes)) →
@@ -246,31 +237,19 @@ words-said (w ∷ a ∷ b ∷ c ∷ d ∷ ws) st p h = step (is_word w (codes "b
 
 -- ---- lines
 
-not-wrong : (b : Bool) (kind : SessionKind) (r : Reading) (st : Statement) → (if b then wrong kind else r) ≡ says st → (b ≡ false) × (r ≡ says st)
-not-wrong true kind r st h = cc
-not-wrong false kind r st h = (refl, h)
-
-not-nothing : (b : Bool) (r : Reading) (st : Statement) → (if b then nothing else r) ≡ says st → r ≡ says st
-not-nothing true r st h = cc
-not-nothing false r st h = h
-
-not-false : (b : Bool) → not b ≡ false → b ≡ true
-not-false true h = refl
-not-false false h = cc
-
 counted : (counts : Option (ℕ × Option ℕ)) (ws : List (List ℕ)) (st : Statement) → Plain ws → by_count counts ws ≡ says st → IsPlainStatement st
 counted None ws st p h = cc
 counted (Some counts) ws st p h =
-    words-said ws st p (not-wrong (not (is_within (length ws) counts) || has_long ws) kinds.Count (statement_of ws) st h).1
+    words-said ws st p (not_wrong (not (is_within (length ws) counts) || has_long ws) kinds.Count (statement_of ws) st h).1
 
 by-words : (ws : List (List ℕ)) (st : Statement) → Plain ws → of_words ws ≡ says st → IsPlainStatement st
 by-words [] st p h = cc
-by-words (w ∷ ws) st p h = counted (word_count w) (w ∷ ws) st p (not-nothing (is_comment w) (by_count (word_count w) (w ∷ ws)) st h)
+by-words (w ∷ ws) st p h = counted (word_count w) (w ∷ ws) st p (not_nothing (is_comment w) (by_count (word_count w) (w ∷ ws)) st h)
 
 line-plain : (line : List ℕ) (st : Statement) → reading_of line ≡ says st → IsPlainStatement st
 unfolding reading_of
 line-plain line st h =
-    let it = not-wrong (not (list_all is_allowed line)) kinds.Byte (of_words (words_in line)) st h in
+    let it = not_wrong (not (list_all is_allowed line)) kinds.Byte (of_words (words_in line)) st h in
     by-words (words_in line) st (words-plain line (not-false (list_all is_allowed line) it.0)) it.1
 
 statements-plain : (lines : List (List ℕ)) → AllByRecursion IsPlainStatement (statements_of lines)

@@ -5,6 +5,8 @@ use Rattle.std.specs.List.{AllByRecursion, flat_map, filter_map, cons_option}
 use Rattle.std.proofs.lemmas.Bool.Decides.{nat_tests}
 use Rattle.std.proofs.lemmas.List.Concat.{flat_map-append}
 use Rattle.std.proofs.lemmas.List.Elements.{filter_map-append}
+use Rattle.std.proofs.lemmas.Bool.{lt-ltb, cond-true}
+use Rattle.std.proofs.lemmas.List.Folds.{flat_map-map}
 use Rattle.load_model.specs.declared.commands.Command.{Command}
 use Rattle.load_model.specs.Serials.{Rise}
 use Rattle.session_model.specs.declared.sessions.FailingLine.{FailingLine}
@@ -16,7 +18,6 @@ use Rattle.session_model.specs.Statements.{Statement, gives, fails, process, com
 use Rattle.session_model.specs.Sessions.{module_of, failing_in, commands_of, scripts_of, session_of, statement_in, statements_of, number_or, count_or, last_number, commands_so_far, MOST_COMMANDS, rises, fault_among, fault_behind, line_fault, or_next, fault_from, SesFault, Ses}
 use Rattle.session_model.specs.Bounds.{IsCommand, IsModLine, IsFailingLine, IsScript}
 use Rattle.session_model.specs.Text.{words, line_of}
-use Rattle.session_lines.proofs.Choices.{if_first, less}
 use Rattle.session_lines.proofs.DraftLaws.{numbers-more, counts-more, session-same}
 use Rattle.session_text.specs.Sessions.{module_line, failing_line, command_line, process_words, script_lines, session_bytes}
 use Rattle.session_text.specs.Writable.{IsPlainCommand, IsPlainModule, IsPlainFailing, IsPlainScript, IsWritable}
@@ -39,10 +40,6 @@ text_of st = words (statement_words st)
 
 abbrev written : Statement → List ℕ
 written st = line_of (statement_words st)
-
-flat_map-map : {X Y A : Type 0} (f : Y → List A) (g : X → Y) (xs : List X) → flat_map f (map g xs) ≡ flat_map (λ x. f (g x)) xs
-flat_map-map f g [] = refl
-flat_map-map f g (x ∷ xs) = ap (λ bytes. f (g x) ++ bytes) (flat_map-map f g xs)
 
 scripts-written : (scs : List Script) → flat_map written (scripts_said scs) ≡ flat_map script_lines scs
 scripts-written [] = refl
@@ -150,7 +147,7 @@ good-commands : (pid n : ℕ) (cs : List Command) (sts : List Statement) → n +
 unfolding Good
 good-commands pid n [] sts few h = h n
 good-commands pid n (c ∷ cs) sts few h =
-    (if_first (nat_lt n MOST_COMMANDS) _ _ (less n MOST_COMMANDS (omega (arith, few))), good-commands pid (n + 1) cs sts (omega (arith, few)) h)
+    (cond-true (nat_lt n MOST_COMMANDS) _ _ (lt-ltb n MOST_COMMANDS (omega (arith, few))), good-commands pid (n + 1) cs sts (omega (arith, few)) h)
 
 -- the last number is this one, or none where it is 0
 abbrev IsLast : Option ℕ → ℕ → Type 0
@@ -173,7 +170,7 @@ unfolding Good
 good-scripts last low n [] is rise h = tt
 good-scripts last low n (s ∷ scs) is rise h =
     let most = rise-most s.pid (map (λ s. s.pid) scs) rise.1 in (
-      if_first (rises last s.pid) None _ (rises-so last low s.pid is rise.0 most),
+      cond-true (rises last s.pid) None _ (rises-so last low s.pid is rise.0 most),
       good-commands s.pid 0 s.commands (scripts_said scs) (omega (arith, h.0.few)) (λ n. good-scripts (Some s.pid) s.pid n scs refl rise.1 h.1),
     )
 

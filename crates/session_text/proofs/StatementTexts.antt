@@ -2,8 +2,9 @@
 use Rattle.std.proofs.Common.{◌≡◌, ℕ, suc, ◌^◌, ◌<◌, ◌≤◌, Bool, true, false, cond, List, [], ◌∷◌, length, Option, Some, None, option_map, option_and_then, refl, ap, ◌∙◌, arith, lit<}
 use Rattle.std.specs.Prelude.{◌==◌, ◌&&◌, ◌||◌, not, nat_lt, nat_le, codes, decimal}
 use Rattle.std.specs.List.{AllByRecursion, list_any, list_all}
-use Rattle.std.proofs.lemmas.Bool.{leb-true}
+use Rattle.std.proofs.lemmas.Bool.{leb-true, or_from, not_from_true, and_parts, le-ltb, lt-ltb, ne_eqb, cond-false, cond-true, and_left}
 use Rattle.std.proofs.lemmas.Bool.Decides.{nat_tests}
+use Rattle.std.proofs.Math.Bool.{and-false}
 use Rattle.lx_types.specs.declared.entry.EntryKey.{EntryKey}
 use Rattle.lx_types.specs.declared.entry.EntryKey.TheVariants.{Ordinal, Named}
 use Rattle.load_model.specs.declared.commands.Place.{Place}
@@ -16,8 +17,7 @@ use Rattle.session_model.specs.Statements.{Statement, gives, fails, process, com
 use Rattle.session_model.specs.Bounds.{IsWord, IsPlace, IsReadable, IsWritten, IsKey, IsCommand, IsModLine, IsFailingLine}
 use Rattle.session_model.specs.Text.{words, bytes_word}
 use Rattle.session_model.specs.Transcript.{key_text, command_words}
-use Rattle.session_lines.proofs.Choices.{if_first, if_second, less, not_less, not_equal, first-true, second-true, not-true}
-use Rattle.session_lines.proofs.ArgumentLaws.{or-none, counted, three-short}
+use Rattle.session_lines.proofs.ArgumentLaws.{counted, three-short}
 use Rattle.session_text.specs.Sessions.{module_words, failing_words, process_words}
 use Rattle.session_text.specs.Writable.{IsVisible, IsPlain, HasPlainKey, IsByte, IsPlainCommand, IsPlainModule, IsPlainFailing}
 use Rattle.session_text.proofs.PlainWords.{words-read, words-allowed}
@@ -41,8 +41,8 @@ IsSayable (command c) = IsCommand c × IsPlainCommand c
 all-visible : (w : List ℕ) → list_all (λ b. nat_le 0x21 b && nat_le b 0x7E) w ≡ true → AllByRecursion IsVisible w
 all-visible [] h = tt
 all-visible (b ∷ w) h =
-    let here : nat_le 0x21 b && nat_le b 0x7E ≡ true = first-true _ _ h in
-    ((leb-true 0x21 b (first-true _ _ here), leb-true b 0x7E (second-true _ _ here)), all-visible w (second-true (nat_le 0x21 b && nat_le b 0x7E) _ h))
+    let here : nat_le 0x21 b && nat_le b 0x7E ≡ true = (and_parts _ _ h).0 in
+    ((leb-true 0x21 b (and_parts _ _ here).0, leb-true b 0x7E (and_parts _ _ here).1), all-visible w (and_parts (nat_le 0x21 b && nat_le b 0x7E) _ h).1)
 
 literal : (w : List ℕ) → 0 < length w → list_all (λ b. nat_le 0x21 b && nat_le b 0x7E) w ≡ true → IsPlain w
 literal w some h = record { some = some; visible = all-visible w h }
@@ -87,35 +87,28 @@ statement-plain (command c) h = command-plain c h.0 h.1
 -- ---- what they say
 
 short : (w : List ℕ) → IsWord w → is_long w ≡ false
-short w h = not_less MOST_WORD (length w) h
+short w h = le-ltb MOST_WORD (length w) h
 
 one-short : (a : List ℕ) → is_long a ≡ false → list_any is_long (a ∷ []) ≡ false
-one-short a h = or-none (is_long a) false h refl
-
-and-second : (a : Bool) → a && false ≡ false
-and-second true = refl
-and-second false = refl
-
-and-false : (a b : Bool) → a ≡ false → a && b ≡ false
-and-false a b h = rw h refl
+one-short a h = or_from (is_long a) false h refl
 
 place-short : (a b c d : List ℕ) → is_long a ≡ false → is_long b ≡ false → is_long c ≡ false → is_long d ≡ false
     → list_any is_long (a ∷ b ∷ c ∷ []) || (is_long d && true) ≡ false
 place-short a b c d h k l m =
-    or-none (list_any is_long (a ∷ b ∷ c ∷ [])) (is_long d && true) (or-none (is_long a) _ h (three-short b c k l)) (and-false (is_long d) true m)
+    or_from (list_any is_long (a ∷ b ∷ c ∷ [])) (is_long d && true) (or_from (is_long a) _ h (three-short b c k l)) (and_left (is_long d) true m)
 
 bytes-short : (a b c d : List ℕ) → is_long a ≡ false → is_long b ≡ false → is_long c ≡ false → list_any is_long (a ∷ b ∷ c ∷ []) || (is_long d && false) ≡ false
 bytes-short a b c d h k l =
-    or-none (list_any is_long (a ∷ b ∷ c ∷ [])) (is_long d && false) (or-none (is_long a) _ h (three-short b c k l)) (and-second (is_long d))
+    or_from (list_any is_long (a ∷ b ∷ c ∷ [])) (is_long d && false) (or_from (is_long a) _ h (three-short b c k l)) (and-false (is_long d))
 
 length-any : (n : ℕ) → n < 2 ^ 32 → 1 ≤ n → length_in None (decimal n) ≡ Some n
 length-any n small some =
-    ap (λ o. option_and_then (λ n. cond (n == 0) None (Some n)) o) (number-read n small) ∙ if_second (n == 0) _ _ (not_equal n 0 (λ z. omega (arith, some, z)))
+    ap (λ o. option_and_then (λ n. cond (n == 0) None (Some n)) o) (number-read n small) ∙ cond-false (n == 0) _ _ (ne_eqb n 0 (λ z. omega (arith, some, z)))
 
 length-few : (n : ℕ) → n < 2 ^ 32 → 1 ≤ n → n ≤ MOST_BYTES → length_in (Some MOST_BYTES) (decimal n) ≡ Some n
 length-few n small some few =
     ap (λ o. option_and_then (λ n. cond ((n == 0) || nat_lt MOST_BYTES n) None (Some n)) o) (number-read n small)
-    ∙ if_second _ _ _ (or-none (n == 0) (nat_lt MOST_BYTES n) (not_equal n 0 (λ z. omega (arith, some, z))) (not_less MOST_BYTES n few))
+    ∙ cond-false _ _ _ (or_from (n == 0) (nat_lt MOST_BYTES n) (ne_eqb n 0 (λ z. omega (arith, some, z))) (le-ltb MOST_BYTES n few))
 
 place-said : (most : Option ℕ) (p : Place) → IsPlace p → length_in most (decimal p.len) ≡ Some p.len
     → place_in most p.«module» (decimal p.object) (decimal p.offset) (decimal p.len) ≡ Some p
@@ -142,7 +135,7 @@ write-said kind p bs h all =
 
 key-said : (key : EntryKey) → IsKey key → HasPlainKey key → key_in (key_text key) ≡ Some key
 key-said (Ordinal n) h p = ap (λ o. option_map Ordinal o) (number-read n h)
-key-said (Named name) h p = if_second (begins_with_at name) _ _ p.named
+key-said (Named name) h p = cond-false (begins_with_at name) _ _ p.named
 
 key-short : (key : EntryKey) → IsKey key → is_long (key_text key) ≡ false
 key-short (Ordinal n) h = ordinal-short n h
@@ -150,27 +143,27 @@ key-short (Named name) h = short name h
 
 word-said : (n : ℕ) → n < 2 ^ 16 → word_in (decimal n) ≡ Some n
 word-said n h =
-    ap (λ o. option_and_then (λ n. cond (nat_lt n 0x1_0000) (Some n) None) o) (number-read n (omega (arith, h))) ∙ if_first _ _ _ (less n 0x1_0000 h)
+    ap (λ o. option_and_then (λ n. cond (nat_lt n 0x1_0000) (Some n) None) o) (number-read n (omega (arith, h))) ∙ cond-true _ _ _ (lt-ltb n 0x1_0000 h)
 
 getres-said : (name : List ℕ) (ty id : ℕ) → is_long name ≡ false → ty < 2 ^ 16 → id < 2 ^ 16
     → by_count (word_count (codes "getres")) (codes "getres" ∷ name ∷ decimal ty ∷ decimal id ∷ []) ≡ says (command (GetRes name ty id))
 getres-said name ty id s h k =
     counted (list_any is_long (name ∷ decimal ty ∷ decimal id ∷ [])) _ _
-    (or-none (is_long name) _ s (three-short (decimal ty) (decimal id) (number-short ty (omega (arith, h))) (number-short id (omega (arith, k)))))
+    (or_from (is_long name) _ s (three-short (decimal ty) (decimal id) (number-short ty (omega (arith, h))) (number-short id (omega (arith, k)))))
     ∙ ap (λ o. or_wrong kinds.Number (option_and_then (λ ty. option_map (λ id. command (GetRes name ty id)) (word_in (decimal id))) o)) (word-said ty h)
     ∙ ap (λ o. or_wrong kinds.Number (option_map (λ id. command (GetRes name ty id)) o)) (word-said id k)
 
 process-said : (n : ℕ) → 1 ≤ n → n ≤ MOST_PROCESSES → process_in (decimal n) ≡ Some n
 process-said n some few =
     ap (λ o. option_and_then (λ n. cond (nat_le 1 n && nat_le n MOST_PROCESSES) (Some n) None) o) (number-read n (omega (arith, few)))
-    ∙ if_first _ _ _ (both n some few)
+    ∙ cond-true _ _ _ (both n some few)
   where
     both : (n : ℕ) → 1 ≤ n → n ≤ MOST_PROCESSES → nat_le 1 n && nat_le n MOST_PROCESSES ≡ true
     both n some few = grind (arith, nat_tests)
 
 all-short : (ws : List (List ℕ)) → AllByRecursion IsWord ws → list_any is_long ws ≡ false
 all-short [] h = refl
-all-short (w ∷ ws) h = or-none (is_long w) (list_any is_long ws) (short w h.0) (all-short ws h.1)
+all-short (w ∷ ws) h = or_from (is_long w) (list_any is_long ws) (short w h.0) (all-short ws h.1)
 
 -- how long a list of words is that goes on
 at-least : (n : ℕ) → nat_le 4 (suc (suc (suc (suc (suc n))))) ≡ true
@@ -184,7 +177,7 @@ build-said : (stem def : List ℕ) (files : List (List ℕ)) → IsWord stem →
     → by_count (word_count (codes "build")) (codes "build" ∷ stem ∷ def ∷ files) ≡ says (gives (Build stem def files))
 build-said stem def [] s d some h = absurd (omega arith)
 build-said stem def (f ∷ []) s d some h =
-    counted (list_any is_long (stem ∷ def ∷ f ∷ [])) _ _ (or-none (is_long stem) _ (short stem s) (three-short def f (short def d) (short f h.0)))
+    counted (list_any is_long (stem ∷ def ∷ f ∷ [])) _ _ (or_from (is_long stem) _ (short stem s) (three-short def f (short def d) (short f h.0)))
 build-said stem def (f ∷ g ∷ files) s d some h =
     counted _ _ _ (long-none (is_long stem) (is_long def) (is_long f) (list_any is_long files) (is_long g) (length files)
     (short stem s) (short def d) (short f h.0) (all-short files h.1.1) (short g h.1.0))
@@ -235,4 +228,4 @@ pub statement-read : (st : Statement) → IsSayable st → reading_of (words (st
 unfolding reading_of
 statement-read st h =
     let plain = statement-plain st h in
-    if_second _ _ _ (not-true _ (words-allowed (statement_words st) plain)) ∙ ap of_words (words-read (statement_words st) plain) ∙ words-said st h
+    cond-false _ _ _ (not_from_true _ (words-allowed (statement_words st) plain)) ∙ ap of_words (words-read (statement_words st) plain) ∙ words-said st h
