@@ -26,7 +26,7 @@ paged_above file some =
     let low = ends.1 in
     omega (arith, above, low)
 
-by_pages : (none : Bool) (a b e : ℕ) → e ≤ a → e ≤ b → e ≤ cond none a b
+pub by_pages : (none : Bool) (a b e : ℕ) → e ≤ a → e ≤ b → e ≤ cond none a b
 by_pages true a b e p q = p
 by_pages false a b e p q = q
 

@@ -1,7 +1,6 @@
 -- What a header without a fault says.
 use Rattle.std.proofs.Common.{◌≡◌, ℕ, ◌+◌, ◌≤◌, ◌<◌, ◌^◌, Bool, true, false, cond, ltb, leb, List, map, length, Some, None, refl, ap, get_or, arith}
-use Rattle.std.proofs.lemmas.Bool.{ltb-false}
-use Rattle.std.proofs.lemmas.Bool.Decides.{nat_tests}
+use Rattle.std.proofs.lemmas.Bool.{ltb-false, leb-true}
 use Rattle.lx_types.specs.declared.refusal.LxRefusal.{LxRefusal}
 use Rattle.lx_types.specs.declared.refusal.LxKind.TheVariants.{Short, Field, TooMany}
 use Rattle.lx_model.specs.Reading.{fault, number_at, first}
@@ -13,7 +12,7 @@ use Rattle.lx_types.specs.declared.parts.Parts.{Parts}
 use Rattle.lx_head.specs.declared.head.Head.{Head}
 use Rattle.res_bind.specs.Numbers.{HasHeader, IsHeadOf}
 
-allowed : (short good : Bool) (a b : LxRefusal) → cond short (Some a) (cond good None (Some b)) ≡ None → good ≡ true
+pub allowed : (short good : Bool) (a b : LxRefusal) → cond short (Some a) (cond good None (Some b)) ≡ None → good ≡ true
 allowed true good a b is = absurd cc
 allowed false true a b is = refl
 allowed false false a b is = absurd cc
@@ -21,9 +20,6 @@ allowed false false a b is = absurd cc
 there : (short good : Bool) (a b : LxRefusal) → cond short (Some a) (cond good None (Some b)) ≡ None → short ≡ false
 there true good a b is = absurd cc
 there false good a b is = refl
-
-at_most : (n most : ℕ) → leb n most ≡ true → n ≤ most
-at_most n most is = grind (arith, nat_tests)
 
 pub header_good : (m : Parts) → IsRead m → header_fault m.file ≡ None
 unfolding LxFault
@@ -43,9 +39,9 @@ head_is file h short none place fields =
       place = place;
       fields = fields;
       long = let le = ltb-false (length file) (at + 0xA8 + 4) (there (ltb (length file) (at + 0xA8 + 4)) true (fault Short (at + 0xA8)) (fault Field (at + 0xA8)) last) in omega (arith, le);
-      shift = at_most (number_at 4 file (at + 0x2C)) 12 (allowed (ltb (length file) (at + 0x2C + 4)) (leb (number_at 4 file (at + 0x2C)) 12) (fault Short (at + 0x2C)) (fault Field (at + 0x2C)) shift);
-      few_pages = at_most (number_at 4 file (at + 0x14)) MOST_PAGES (allowed (ltb (length file) (at + 0x14 + 4)) (leb (number_at 4 file (at + 0x14)) MOST_PAGES) (fault Short (at + 0x14)) (fault TooMany (at + 0x14)) pages);
-      few_objects = at_most (number_at 4 file (at + 0x44)) MOST_OBJECTS (allowed (ltb (length file) (at + 0x44 + 4)) (leb (number_at 4 file (at + 0x44)) MOST_OBJECTS) (fault Short (at + 0x44)) (fault TooMany (at + 0x44)) objects);
+      shift = leb-true (number_at 4 file (at + 0x2C)) 12 (allowed (ltb (length file) (at + 0x2C + 4)) (leb (number_at 4 file (at + 0x2C)) 12) (fault Short (at + 0x2C)) (fault Field (at + 0x2C)) shift);
+      few_pages = leb-true (number_at 4 file (at + 0x14)) MOST_PAGES (allowed (ltb (length file) (at + 0x14 + 4)) (leb (number_at 4 file (at + 0x14)) MOST_PAGES) (fault Short (at + 0x14)) (fault TooMany (at + 0x14)) pages);
+      few_objects = leb-true (number_at 4 file (at + 0x44)) MOST_OBJECTS (allowed (ltb (length file) (at + 0x44 + 4)) (leb (number_at 4 file (at + 0x44)) MOST_OBJECTS) (fault Short (at + 0x44)) (fault TooMany (at + 0x44)) objects);
     }
 
 -- the shift as the header has it

@@ -1,6 +1,6 @@
 -- Old bytes stand, but for those of the fields that are set.
 use Rattle.std.proofs.Common.{◌≡◌, ℕ, ◌+◌, ◌-◌, ◌<◌, ◌≤◌, Bool, true, false, cond, ◌&&◌, ◌||◌, ltb, leb, List, [], ◌∷◌, ◌++◌, map, length, take, drop, get_or, ◌⊎◌, inl, inr, refl, ap, ◌∙◌, arith, length-append, lit≤}
-use Rattle.std.proofs.lemmas.Bool.{cases_lt}
+use Rattle.std.proofs.lemmas.Bool.{cases_lt, or_parts}
 use Rattle.std.proofs.lemmas.Bool.Decides.{nat_tests}
 use Rattle.std.proofs.lemmas.List.{length-take, length-drop, get_or_append_left, get_or-append_right, get_or-take, get_or-drop}
 use Rattle.lx_bytes.specs.LittleEndian.{little_bytes}
@@ -61,10 +61,6 @@ one_more old x at v now le out stands =
     let fits : at + 4 ≤ length now = omega (arith, le, stands.long) in
     record { long = number_length at v now fits ∙ stands.long; byte = number_stands at v x now fits out ∙ stands.byte }
 
-or_false : (a b : Bool) → (a || b) ≡ false → (a ≡ false) × (b ≡ false)
-or_false true b e = absurd cc
-or_false false b e = (refl, e)
-
 outside : (at x : ℕ) → (leb at x && ltb x (at + 4)) ≡ false → Outside at x
 outside at x e = elim (cases_lt x at) [ inl lt ↦ inl lt | inr ge ↦ inr (past at x e ge) ]
   where
@@ -82,7 +78,7 @@ hit at x = leb at x && ltb x (at + 4)
 -- the field of the fixup page table, which is set where there is one
 last_stands : (records : Bool) (old : List ℕ) (x p v : ℕ) (now : List ℕ) → p + 0xAC ≤ length old → list_any (λ q. leb q.at x && ltb x (q.at + q.len)) (map (λ offset. part (p + offset) 4) (cond records (0x68 ∷ []) [])) ≡ false →
     Stands old x now → Stands old x (cond records (with_number (p + 0x68) v now) now)
-last_stands true old x p v now long unset stands = one_more old x (p + 0x68) v now (room p 0x68 (length old) long (lit≤ tt)) (outside (p + 0x68) x (or_false (hit (p + 0x68) x) false unset).0) stands
+last_stands true old x p v now long unset stands = one_more old x (p + 0x68) v now (room p 0x68 (length old) long (lit≤ tt)) (outside (p + 0x68) x (or_parts (hit (p + 0x68) x) false unset).0) stands
 last_stands false old x p v now long unset stands = stands
 
 pub fields_stand : (file : List ℕ) (items : List ResItem) (x : ℕ) → header_place file + 0xAC ≤ length file → is_set file x ≡ false → Stands file x (with_fields file items)
@@ -95,12 +91,12 @@ fields_stand file items x long unset =
     let r3 = hit (p + 0x48) x || r4 in
     let r2 = hit (p + 0x44) x || r3 in
     let r1 = hit (p + 0x40) x || r2 in
-    let a = or_false (hit (p + 0x14) x) r1 unset in
-    let b = or_false (hit (p + 0x40) x) r2 a.1 in
-    let c = or_false (hit (p + 0x44) x) r3 b.1 in
-    let d = or_false (hit (p + 0x48) x) r4 c.1 in
-    let e = or_false (hit (p + 0x50) x) r5 d.1 in
-    let f = or_false (hit (p + 0x54) x) r6 e.1 in
+    let a = or_parts (hit (p + 0x14) x) r1 unset in
+    let b = or_parts (hit (p + 0x40) x) r2 a.1 in
+    let c = or_parts (hit (p + 0x44) x) r3 b.1 in
+    let d = or_parts (hit (p + 0x48) x) r4 c.1 in
+    let e = or_parts (hit (p + 0x50) x) r5 d.1 in
+    let f = or_parts (hit (p + 0x54) x) r6 e.1 in
     let start : Stands file x file = record { long = refl; byte = refl } in
     let n14 = page_count file + new_page_count items in
     let f14 = with_number (p + 0x14) n14 file in

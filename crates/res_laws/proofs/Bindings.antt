@@ -3,6 +3,7 @@ use Rattle.std.proofs.Common.{◌≡◌, ℕ, ◌+◌, ◌*◌, ◌&&◌, Bool, 
 use Rattle.std.specs.Prelude.{find, option_map}
 use Rattle.std.specs.List.{range_with_len}
 use Rattle.std.proofs.lemmas.List.Elements.{All-nil}
+use Rattle.std.proofs.lemmas.Bool.{eqb-true}
 use Rattle.lx_types.specs.declared.parts.Parts.{Parts}
 use Rattle.lx_model.specs.Header.{field}
 use Rattle.lx_model.specs.Module.{IsRead, parts_of}
@@ -21,7 +22,7 @@ use Rattle.res_laws.proofs.Standing.{extended}
 use Rattle.res_laws.proofs.Layouts.{CanExtend, small, stands}
 use Rattle.res_laws.proofs.Faultless.{faultless}
 use Rattle.res_laws.proofs.PartsNow.{name_now, flags_now, start_now, all_objects, imports_now, entries_now, names_now, heads_go_on, spans_go_on, page_stands, raw_stands, records_stand}
-use Rattle.res_laws.proofs.FixedNow.{equal, lib_is, fixed_now}
+use Rattle.res_laws.proofs.FixedNow.{lib_is, fixed_now}
 use Rattle.res_laws.proofs.FoundNow.{found_now, others_now}
 
 -- ---- without items
@@ -31,7 +32,7 @@ same_library lib k m is =
     map_range (λ j. cond (eqb j k) m (module_of lib j)) (module_of lib) 0 0 (length lib) (λ j lt. by_test (0 + j) (eqb (0 + j) k) refl) ∙ sym (lib_is lib)
   where
     by_test : (j : ℕ) (b : Bool) → eqb j k ≡ b → cond b m (module_of lib j) ≡ module_of lib j
-    by_test j true e = sym is ∙ ap (module_of lib) (sym (equal j k e))
+    by_test j true e = sym is ∙ ap (module_of lib) (sym (eqb-true j k e))
     by_test j false e = refl
 
 no_resources : (file : List ℕ) (items : List ResItem) → bind_refusal file items ≡ None → (field file 0x54 ≡ 0) × (items_refusal file items ≡ None)
@@ -39,7 +40,7 @@ unfolding bind_refusal
 no_resources file items e = by_test (eqb (field file 0x54) 0) refl e
   where
     by_test : (b : Bool) → eqb (field file 0x54) 0 ≡ b → cond (not b) (Some HasResources) (items_refusal file items) ≡ None → (field file 0x54 ≡ 0) × (items_refusal file items ≡ None)
-    by_test true is h = (equal (field file 0x54) 0 is, h)
+    by_test true is h = (eqb-true (field file 0x54) 0 is, h)
     by_test false is h = absurd cc
 
 none_found : (m : Parts) (ty id : ℕ) → field m.file 0x54 ≡ 0 → Res m ty id ≡ None

@@ -2,13 +2,13 @@
 use Rattle.std.proofs.Common.{◌≡◌, ℕ, ◌*◌, Bool, true, List, [], ◌∷◌, ◌++◌, map, sym, ◌∙◌}
 use Rattle.std.specs.List.{list_all}
 use Rattle.std.proofs.lemmas.List.Folds.{list_all-append}
+use Rattle.std.proofs.lemmas.Bool.{and_parts}
 use Rattle.lx_model.specs.Header.{table, page_count, object_count}
 use Rattle.lx_model.specs.Tables.{page_heads}
 use Rattle.res_bind.specs.Clear.{Part, part, are_apart, set_parts, place_parts, resident_part, import_part, entry_part, other_parts, fixup_parts, data_part, procedure_parts, read_parts, is_clear}
-use Rattle.res_laws.proofs.Sets.{and_true}
 
 pub split_all : {X : Type 0} (p : X → Bool) (xs ys : List X) → list_all p (xs ++ ys) ≡ true → (list_all p xs ≡ true) × (list_all p ys ≡ true)
-split_all p xs ys e = and_true (list_all p xs) (list_all p ys) (sym (list_all-append p xs ys) ∙ e)
+split_all p xs ys e = and_parts (list_all p xs) (list_all p ys) (sym (list_all-append p xs ys) ∙ e)
 
 -- a part has no byte of the fields that are set
 abbrev pub is_free : List ℕ → Part → Bool
@@ -41,9 +41,9 @@ frees file e =
     let d = split_all q (place_parts file ++ two ++ three) (other_parts file) c.0 in
     let f = split_all q (place_parts file ++ two) three d.0 in
     let g = split_all q (place_parts file) two f.0 in
-    let h = and_true (q objects) (list_all q (heads ∷ [])) g.1 in
-    let i = and_true (q heads) (list_all q []) h.1 in
-    let j = and_true (q (resident_part file)) (list_all q (import_part file ∷ entry_part file ∷ [])) f.1 in
-    let k = and_true (q (import_part file)) (list_all q (entry_part file ∷ [])) j.1 in
-    let l = and_true (q (entry_part file)) (list_all q []) k.1 in
+    let h = and_parts (q objects) (list_all q (heads ∷ [])) g.1 in
+    let i = and_parts (q heads) (list_all q []) h.1 in
+    let j = and_parts (q (resident_part file)) (list_all q (import_part file ∷ entry_part file ∷ [])) f.1 in
+    let k = and_parts (q (import_part file)) (list_all q (entry_part file ∷ [])) j.1 in
+    let l = and_parts (q (entry_part file)) (list_all q []) k.1 in
     record { place = g.0; objects = h.0; heads = i.0; residents = j.0; imports = k.0; entries = l.0; others = d.1; fixups = c.1; contents = b.1; names = a.1 }

@@ -1,5 +1,5 @@
 -- What holds of each item of lists that are made of others.
-use Rattle.std.proofs.Common.{◌≡◌, ℕ, zero, suc, ◌+◌, ◌<◌, ◌≤◌, Bool, true, List, [], ◌∷◌, ◌++◌, map, subst, arith, inl, inr}
+use Rattle.std.proofs.Common.{◌≡◌, ℕ, zero, suc, ◌+◌, ◌<◌, ◌≤◌, Bool, true, List, [], ◌∷◌, ◌++◌, subst, arith, inl, inr}
 use Rattle.std.specs.List.{flat_map, list_all, range_with_len, AllByRecursion as Each}
 use Rattle.std.proofs.lemmas.Bool.{cases_lt}
 use Rattle.res_laws.proofs.Clear.{split_all}
@@ -11,10 +11,6 @@ each_parts P (x ∷ xs) ys h = let rest = each_parts P xs ys h.1 in ((h.0, rest.
 pub each_inner : {A X : Type 0} (P : X → Type 0) (f : A → List X) (xs : List A) → Each P (flat_map f xs) → Each (λ a. Each P (f a)) xs
 each_inner P f [] h = tt
 each_inner P f (x ∷ xs) h = let parts = each_parts P (f x) (flat_map f xs) h in (parts.0, each_inner P f xs parts.1)
-
-pub each_unmap : {A X : Type 0} (P : X → Type 0) (f : A → X) (xs : List A) → Each P (map f xs) → Each (λ a. P (f a)) xs
-each_unmap P f [] h = tt
-each_unmap P f (x ∷ xs) h = (h.0, each_unmap P f xs h.1)
 
 pub each_both : {X : Type 0} (P Q : X → Type 0) (xs : List X) → Each P xs → Each Q xs → Each (λ x. P x × Q x) xs
 each_both P Q [] g h = tt

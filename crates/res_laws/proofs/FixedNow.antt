@@ -2,8 +2,7 @@
 use Rattle.std.proofs.Common.{◌≡◌, ℕ, ◌+◌, ◌<◌, inl, inr, Bool, true, false, cond, ◌&&◌, not, ltb, eqb, List, [], ◌∷◌, map, length, Some, None, refl, sym, subst, ap, ◌∙◌, arith}
 use Rattle.std.specs.Prelude.{position, option_map, is_some, find, bytes_eq, bit_and}
 use Rattle.std.specs.List.{prefix_len, fold, sum_by, flat_map, list_all, range_with_len, AllByRecursion as Each}
-use Rattle.std.proofs.lemmas.Bool.{cases_lt}
-use Rattle.std.proofs.lemmas.Bool.Decides.{nat_tests}
+use Rattle.std.proofs.lemmas.Bool.{cases_lt, eq-eqb, eqb-true}
 use Rattle.std.proofs.lemmas.List.{length-map, get_or_past}
 use Rattle.std.proofs.lemmas.List.Elements.{recursion_from_All}
 use Rattle.std.proofs.lemmas.List.FromFn.{length-map-range_with_len, get_or-map-range_with_len, fill_by_all}
@@ -20,18 +19,20 @@ use Rattle.lx_types.specs.declared.parts.Parts.{Parts}
 use Rattle.lx_types.specs.declared.parts.TheConstants.{MODULE_KIND, MODULE_LIBRARY}
 use Rattle.lx_model.specs.Reading.{value_or, Many}
 use Rattle.lx_model.specs.Header.{object_count}
-use Rattle.lx_model.specs.EntryTable.{Numbered, names_one_of, entries_of}
+use Rattle.lx_model.specs.EntryTable.{Numbered, entries_of}
 use Rattle.lx_model.specs.Records.{Record, records_at, fixes_of}
 use Rattle.lx_model.specs.Module.{IsRead, parts_of, page_records, targets_of, is_target, targets_in}
 use Rattle.lx_model.specs.Library.{no_module, module_of, has_name}
 use Rattle.lx_model.specs.Fixed.{Raw, sources_of, Fixed}
 use Rattle.lx_types.specs.declared.bases.Bases.{Bases}
+use Rattle.lx_types.proofs.Ordinals.{above}
 use Rattle.lx_model.specs.Gathering.{IsLibrary}
 use Rattle.lx_model.specs.Reach.{IsFit}
 use Rattle.lx_model.specs.ModuleLaws.{HasSpot}
 use Rattle.lx_model.proofs.Each.{each_in_range, each_more}
 use Rattle.lx_model.proofs.FitModules.{fit_has_spots}
 use Rattle.lx_model.proofs.ReadModules.{read_is_sound}
+use Rattle.lx_model.proofs.References.{numbered}
 use Rattle.res_file.specs.declared.item.ResItem.{ResItem}
 use Rattle.res_bind.specs.Clear.{name_parts, names_of_target, names_of_head}
 use Rattle.res_laws.specs.Binding.{IsOldPage, with_module, FixedStands}
@@ -46,21 +47,12 @@ use Rattle.res_laws.proofs.Alike.{KeyStands, HeadStands, TargetStands, Alike, fi
 
 -- ---- one module in another's place
 
-pub equal : (m n : ℕ) → eqb m n ≡ true → m ≡ n
-equal m n e = grind (arith, nat_tests)
-
-itself : (n : ℕ) → eqb n n ≡ true
-itself n = grind (arith, nat_tests)
-
-not_equal : (m n : ℕ) → n < m → eqb m n ≡ false
-not_equal m n lt = grind (arith, nat_tests)
-
 pub module_is : (lib : List Parts) (k : ℕ) (now : Parts) (j : ℕ) → k < length lib → module_of (with_module lib k now) j ≡ cond (eqb j k) now (module_of lib j)
 module_is lib k now j lt = elim (cases_lt j (length lib)) [
   | inl less ↦ get_or-map-range_with_len (λ j. cond (eqb j k) now (module_of lib j)) 0 (length lib) j j no_module less (omega arith)
   | inr ge ↦
       let size = length-map-range_with_len (λ j. cond (eqb j k) now (module_of lib j)) 0 (length lib) in
-      get_or_past (with_module lib k now) j no_module (omega (arith, size, ge)) ∙ sym (get_or_past lib j no_module ge) ∙ ap (λ (b : Bool). cond b now (module_of lib j)) (sym (not_equal j k (omega (arith, lt, ge))))
+      get_or_past (with_module lib k now) j no_module (omega (arith, size, ge)) ∙ sym (get_or_past lib j no_module ge) ∙ ap (λ (b : Bool). cond b now (module_of lib j)) (sym (above j k (omega (arith, lt, ge))))
 ]
 
 -- what is the same of both modules is the same of all
@@ -68,11 +60,11 @@ pub all_same : {X : Type 0} (f : Parts → X) (lib : List Parts) (k : ℕ) (now 
 all_same {X} f lib k now j lt same = ap f (module_is lib k now j lt) ∙ by_test (eqb j k) refl
   where
     by_test : (b : Bool) → eqb j k ≡ b → f (cond b now (module_of lib j)) ≡ f (module_of lib j)
-    by_test true is = same ∙ ap (λ (n : ℕ). f (module_of lib n)) (sym (equal j k is))
+    by_test true is = same ∙ ap (λ (n : ℕ). f (module_of lib n)) (sym (eqb-true j k is))
     by_test false is = refl
 
 pub at_place : (lib : List Parts) (k : ℕ) (now : Parts) → k < length lib → module_of (with_module lib k now) k ≡ now
-at_place lib k now lt = module_is lib k now k lt ∙ ap (λ (b : Bool). cond b now (module_of lib k)) (itself k)
+at_place lib k now lt = module_is lib k now k lt ∙ ap (λ (b : Bool). cond b now (module_of lib k)) (eq-eqb k k refl)
 
 -- ---- what is made of all modules
 
@@ -101,7 +93,7 @@ each_same : {X : Type 0} (f : Parts → X) (lib : List Parts) (k : ℕ) (now : P
 each_same {X} f lib k now same = each_in_range (λ j. f (cond (eqb j k) now (module_of lib j)) ≡ f (module_of lib j)) 0 (length lib) (λ j low lt. by_test j (eqb j k) refl)
   where
     by_test : (j : ℕ) (b : Bool) → eqb j k ≡ b → f (cond b now (module_of lib j)) ≡ f (module_of lib j)
-    by_test j true is = same ∙ ap (λ (n : ℕ). f (module_of lib n)) (sym (equal j k is))
+    by_test j true is = same ∙ ap (λ (n : ℕ). f (module_of lib n)) (sym (eqb-true j k is))
     by_test j false is = refl
 
 pub found_same : (p : Parts → Bool) (lib : List Parts) (k : ℕ) (now : Parts) → p now ≡ p (module_of lib k) → position p (with_module lib k now) ≡ position p lib
@@ -167,9 +159,9 @@ heads_stand file items lib k m ordinal head can sound lt is there = by_test (eqb
         let old = parts_of file in
         let each = each_both (λ (x : Numbered). HeadFits (length old.objects) (length old.imports) x.1) (λ (x : Numbered). list_all (is_free file) (names_of_head file x.1) ≡ true) old.entries
         (recursion_from_All (λ (x : Numbered). HeadFits (length old.objects) (length old.imports) x.1) old.entries sound.entries) (heads_free file items can) in
-        let found : entry_of old.entries ordinal ≡ Some head = ap (λ (p : Parts). entry_of p.entries ordinal) (sym is) ∙ ap (λ (n : ℕ). entry_of (module_of lib n).entries ordinal) (sym (equal m k e)) ∙ there in
+        let found : entry_of old.entries ordinal ≡ Some head = ap (λ (p : Parts). entry_of p.entries ordinal) (sym is) ∙ ap (λ (n : ℕ). entry_of (module_of lib n).entries ordinal) (sym (eqb-true m k e)) ∙ there in
         let good = head_holds (λ h. HeadFits (length old.objects) (length old.imports) h × (list_all (is_free file) (names_of_head file h) ≡ true)) ordinal head old.entries each found in
-        subst (λ (n : ℕ). HeadStands lib (with_module lib k (parts_of (extended file items))) n head) (sym (equal m k e)) (both head good)
+        subst (λ (n : ℕ). HeadStands lib (with_module lib k (parts_of (extended file items))) n head) (sym (eqb-true m k e)) (both head good)
     by_test false e = head_itself lib (with_module lib k (parts_of (extended file items))) m head (module_is lib k (parts_of (extended file items)) m lt ∙ ap (λ (b : Bool). cond b (parts_of (extended file items)) (module_of lib m)) e)
 
 pub alike : (file : List ℕ) (items : List ResItem) (lib : List Parts) (k : ℕ) → CanExtend file items → Sound (parts_of file) → k < length lib → module_of lib k ≡ parts_of file → Alike lib (with_module lib k (parts_of (extended file items)))
@@ -190,9 +182,6 @@ alike file items lib k can sound lt is =
 
 -- ---- targets of sources
 
-number_of : (count number : ℕ) → names_one_of count number ≡ true → IsNumberOf number count
-number_of count number e = (grind (arith, nat_tests), grind (arith, nat_tests))
-
 parts_number : (file : List ℕ) → length (parts_of file).objects ≡ object_count file
 unfolding parts_of
 parts_number file = objects_number file
@@ -201,7 +190,7 @@ pub target_stands : (file : List ℕ) (items : List ResItem) (lib : List Parts) 
     TargetStands lib (with_module lib k (parts_of (extended file items))) k t
 target_stands file items lib k (targets.Internal object offset) can lt is there free =
     ap (λ (m : Parts). object_of m object) (at_place lib k (parts_of (extended file items)) lt)
-    ∙ object_stands file items object can (subst (IsNumberOf object) (sym (parts_number file)) (number_of (object_count file) object there)) ∙ ap (λ (m : Parts). object_of m object) (sym is)
+    ∙ object_stands file items object can (subst (IsNumberOf object) (sym (parts_number file)) (numbered (object_count file) object there)) ∙ ap (λ (m : Parts). object_of m object) (sym is)
 target_stands file items lib k (targets.Ordinal import ordinal) can lt is there free = tt
 target_stands file items lib k (targets.Named import at) can lt is there free = key_stands file items lib k at can lt is free
 target_stands file items lib k (targets.Own ordinal) can lt is there free = tt
@@ -257,6 +246,6 @@ fixed_now file items can read lib k j bases p i library lt is below fit old = by
   where
     by_test : (b : Bool) → eqb j k ≡ b → Fixed (with_module lib k (parts_of (extended file items))) j bases p i ≡ Fixed lib j bases p i
     by_test true e =
-        let same = equal j k e in
+        let same = eqb-true j k e in
         subst (λ (n : ℕ). Fixed (with_module lib k (parts_of (extended file items))) n bases p i ≡ Fixed lib n bases p i) (sym same) (own_stands file items lib k bases p i can read library lt is (subst (IsFit lib) same fit) (old same))
     by_test false e = other_stands file items lib k j bases p i can read library lt is below fit e

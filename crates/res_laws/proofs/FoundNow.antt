@@ -6,6 +6,7 @@ use Rattle.std.proofs.lemmas.Bool.Decides.{nat_tests}
 use Rattle.std.proofs.lemmas.List.{length-replicate, length_push, take_at, get_or_at, get_or-append_right, get_or_append_left, get_or-take, get_or-drop}
 use Rattle.std.proofs.lemmas.List.Elements.{All-from_recursion}
 use Rattle.std.proofs.lemmas.List.FromFn.{get_or-map-range_with_len, fill_by_all}
+use Rattle.std.proofs.lemmas.Bool.{le-leb, and_from}
 use Rattle.lx_bytes.specs.LittleEndian.{little, little_bytes}
 use Rattle.lx_bytes.proofs.Numbers.{length-little_bytes, little-little_bytes}
 use Rattle.lx_types.specs.Object.{zero_page, page_of}
@@ -93,12 +94,6 @@ size_is file items = refl
 all_three : (a b c : Bool) → a ≡ true → b ≡ true → c ≡ true → (a && b && c) ≡ true
 all_three a b c p q r = rw (p, q, r) refl
 
-two_true : (a b : Bool) → a ≡ true → b ≡ true → (a && b) ≡ true
-two_true a b p q = rw (p, q) refl
-
-at_most : (m n : ℕ) → m ≤ n → leb m n ≡ true
-at_most m n le = grind (arith, nat_tests)
-
 not_zero : (n : ℕ) → not (eqb (n + 1) 0) ≡ true
 not_zero n = grind (arith, nat_tests)
 
@@ -108,9 +103,9 @@ lies_whole file items r can there object le =
     let now = parts_of (extended file items) in
     let number = new_number file items can in
     let size : (object_of now r.spot.object).size ≡ object_size items = ap (λ (o : ℕ). (object_of now o).size) object ∙ ap (λ (o : ObjHead). o.size) (new_is file items can) ∙ size_is file items in
-    two_true (leb (r.at + RESOURCE_SIZE) (length (extended file items))) (is_in_object now r.spot) (at_most (r.at + 14) (length (extended file items)) there)
+    and_from (leb (r.at + RESOURCE_SIZE) (length (extended file items))) (is_in_object now r.spot) (le-leb (r.at + 14) (length (extended file items)) there)
     (all_three (not (eqb r.spot.object 0)) (leb r.spot.object (length now.objects)) (leb (r.spot.offset + r.spot.len) (object_of now r.spot.object).size)
-    (ap (λ (o : ℕ). not (eqb o 0)) object ∙ not_zero (object_count file)) (at_most r.spot.object (length now.objects) (omega (arith, object, number))) (at_most (r.spot.offset + r.spot.len) (object_of now r.spot.object).size (omega (arith, size, le))))
+    (ap (λ (o : ℕ). not (eqb o 0)) object ∙ not_zero (object_count file)) (le-leb r.spot.object (length now.objects) (omega (arith, object, number))) (le-leb (r.spot.offset + r.spot.len) (object_of now r.spot.object).size (omega (arith, size, le))))
 
 -- ---- the search
 

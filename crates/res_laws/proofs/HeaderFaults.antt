@@ -14,6 +14,7 @@ use Rattle.lx_model.proofs.Each.{each_first, each_in_range}
 use Rattle.res_file.specs.declared.item.ResItem.{ResItem}
 use Rattle.res_bind.specs.Clear.{set_offsets}
 use Rattle.res_bind.specs.Placed.{new_page_count}
+use Rattle.res_bind.proofs.Headers.{allowed}
 use Rattle.res_laws.proofs.Standing.{extended, lies_free}
 use Rattle.res_laws.proofs.Layouts.{CanExtend, small}
 use Rattle.res_laws.proofs.HeaderNow.{long_of, longer, lx_same, place_same, width_same, header_now}
@@ -36,11 +37,6 @@ long_enough n file at le = rw (le-ltb (length file) (at + n) le) refl
 row_ok : (short good : Bool) (a b : LxRefusal) → short ≡ false → good ≡ true → cond short (Some a) (cond good None (Some b)) ≡ None
 row_ok short good a b p q = rw (p, q) refl
 
-row_good : (short good : Bool) (a b : LxRefusal) → cond short (Some a) (cond good None (Some b)) ≡ None → good ≡ true
-row_good true good a b e = absurd cc
-row_good false true a b e = refl
-row_good false false a b e = absurd cc
-
 within : (n : ℕ) → leb n 0xAC ≡ true → n ≤ 0xAC
 within n e = grind (arith, nat_tests)
 
@@ -51,7 +47,7 @@ same_row : (file : List ℕ) (items : List ResItem) (r : Row) → CanExtend file
     row_fault file (header_place file) r ≡ None → row_fault (extended file items) (header_place file) r ≡ None
 same_row file items r can e f low good =
     let at = header_place file + r.offset in
-    let old = row_good (ltb (length file) (at + r.width)) (r.allows (number_at r.width file at)) (fault Short at) (fault r.kind at) good in
+    let old = allowed (ltb (length file) (at + r.width)) (r.allows (number_at r.width file at)) (fault Short at) (fault r.kind at) good in
     row_ok _ (r.allows (number_at r.width (extended file items) at)) (fault Short at) (fault r.kind at) (fits_now file items r.offset r.width can (within (r.offset + r.width) low)) (ap r.allows (width_same file items r.width r.offset can e f low) ∙ old)
 
 any_row : (file : List ℕ) (items : List ResItem) (o : ℕ) → CanExtend file items → leb (o + 4) 0xAC ≡ true → row_fault (extended file items) (header_place file) (row o 4 (λ _. true) Field) ≡ None

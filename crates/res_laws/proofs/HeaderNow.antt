@@ -2,6 +2,7 @@
 use Rattle.std.proofs.Common.{◌≡◌, ℕ, ◌+◌, ◌-◌, ◌<◌, ◌≤◌, ◌^◌, Bool, true, false, cond, ◌&&◌, leb, ltb, eqb, List, [], ◌∷◌, map, length, refl, sym, subst, ap, ◌∙◌, arith, length-append, lit≤}
 use Rattle.std.specs.List.{list_all, list_any}
 use Rattle.std.proofs.lemmas.Bool.Decides.{nat_tests}
+use Rattle.std.proofs.lemmas.Bool.{and_parts, or_from}
 use Rattle.lx_model.specs.Reading.{number_at}
 use Rattle.lx_model.specs.Header.{is_lx_at, header_place, field, table, page_count, object_count}
 use Rattle.lx_model.specs.FixupPages.{has_records}
@@ -11,8 +12,8 @@ use Rattle.res_bind.specs.Clear.{part, set_offsets}
 use Rattle.res_bind.specs.Layout.{objects_place, pages_place, fixups_place, resources_place}
 use Rattle.res_bind.specs.Placed.{new_page_count}
 use Rattle.res_laws.proofs.Lists.{Same, number_same, at_start, number_front}
-use Rattle.res_laws.proofs.Sets.{set_all, all_set, and_true}
-use Rattle.res_laws.proofs.Standing.{extended, byte_stands, part_stands, field_stands, free_stands, lies_free, or_both, front_long}
+use Rattle.res_laws.proofs.Sets.{set_all, all_set}
+use Rattle.res_laws.proofs.Standing.{extended, byte_stands, part_stands, field_stands, free_stands, lies_free, front_long}
 use Rattle.res_laws.proofs.Clear.{frees, is_free}
 use Rattle.res_laws.proofs.Layouts.{CanExtend, header_of, small, rise}
 
@@ -32,8 +33,8 @@ longer file items can =
 low_none : (offsets : List ℕ) (p x : ℕ) → list_all (λ s. leb 0x14 s) offsets ≡ true → x < 0x14 → list_any (λ q. leb q.at x && ltb x (q.at + q.len)) (map (λ offset. part (p + offset) 4) offsets) ≡ false
 low_none [] p x e lt = refl
 low_none (s ∷ offsets) p x e lt =
-    let test = and_true (leb 0x14 s) (list_all (λ s. leb 0x14 s) offsets) e in
-    or_both (leb (p + s) x && ltb x (p + s + 4)) _ (not_here p s x test.0 lt) (low_none offsets p x test.1 lt)
+    let test = and_parts (leb 0x14 s) (list_all (λ s. leb 0x14 s) offsets) e in
+    or_from (leb (p + s) x && ltb x (p + s + 4)) _ (not_here p s x test.0 lt) (low_none offsets p x test.1 lt)
   where
     not_here : (p s x : ℕ) → leb 0x14 s ≡ true → x < 0x14 → (leb (p + s) x && ltb x (p + s + 4)) ≡ false
     not_here p s x e lt = grind (arith, nat_tests)
@@ -58,7 +59,7 @@ place_number : (file : List ℕ) (items : List ResItem) → CanExtend file items
 place_number file items can none =
     let long = long_of file items can in
     let free : list_all (is_free file) (part 0x3C 4 ∷ []) ≡ true = subst (λ (b : Bool). list_all (is_free file) (cond b [] (part 0x3C 4 ∷ [])) ≡ true) none (frees file can.clear).place in
-    let here = and_true (is_free file (part 0x3C 4)) true free in
+    let here = and_parts (is_free file (part 0x3C 4)) true free in
     let there : 0x3C + 4 ≤ length file = omega (arith, long) in
     number_same 4 file (extended file items) 0x3C there (longer file items can) (part_stands file items 0x3C 4 long there here.0)
 

@@ -1,7 +1,8 @@
 -- Libraries whose modules are alike have the same orders, and what is fit in one is fit in the other.
-use Rattle.std.proofs.Common.{◌≡◌, ℕ, zero, suc, ◌+◌, ◌||◌, Bool, true, false, cond, not, ltb, List, [], ◌∷◌, ◌++◌, map, length, Option, Some, None, Result, Ok, Err, refl, sym, subst, ap, ◌∙◌}
+use Rattle.std.proofs.Common.{◌≡◌, ℕ, zero, suc, ◌+◌, ◌||◌, Bool, false, cond, not, ltb, List, [], ◌∷◌, ◌++◌, map, length, Option, Some, None, Result, Ok, refl, sym, subst, ap, ◌∙◌}
 use Rattle.std.specs.Prelude.{unwrap_or, position, option_map, is_none, filter_map}
 use Rattle.std.specs.List.{list_any, fold, prefix_len, cons_option, AllByRecursion as Each}
+use Rattle.std.proofs.lemmas.Bool.{or_parts}
 use Rattle.lx_types.specs.declared.fix.FixTarget.{FixTarget}
 use Rattle.lx_types.specs.declared.parts.Parts.{Parts}
 use Rattle.lx_model.specs.declared.library.EntryFault.{EntryFault}
@@ -14,6 +15,7 @@ use Rattle.lx_model.specs.Library.{module_of, library_named}
 use Rattle.lx_model.specs.Entries.{target_spot}
 use Rattle.lx_model.specs.Reach.{imports_of, Visits, is_among, visit, Order, lost_import, ends_in, target_of_fault, HealthOf, IsFit}
 use Rattle.lx_model.proofs.Each.{each_first, each_more}
+use Rattle.lx_model.proofs.FitModules.{spot_of, if_none, unfit_first, unfit_lost, unfit_if, not_first, not_last}
 use Rattle.res_laws.proofs.HeaderFaults.{none_first}
 use Rattle.res_laws.proofs.Eaches.{each_both}
 use Rattle.res_laws.proofs.Alike.{TargetStands, Alike, target_leads}
@@ -62,37 +64,6 @@ lost_same lib other m alike =
     ∙ ap (λ (n : ℕ). option_map (λ (k : ℕ). NoModule m (k + 1)) (cond (ltb n (length names)) (Some n) None))
     (prefix_same (λ name. not (is_none (library_named other name))) (λ name. not (is_none (library_named lib name))) names (λ name. ap (λ (o : Option ℕ). not (is_none o)) (alike.libraries name)))
 
--- an answer is no fit
-abbrev Unfit : Option Health → Type 0
-Unfit o = (h : Health) → o ≡ Some h → h ≡ Fit → ⊥
-
-unfit_first : (f : ℕ → Option Health) → ((by : ℕ) → Unfit (f by)) → (ms : List ℕ) → Unfit (first (map f ms))
-unfit_first f bad [] h e fit = absurd cc
-unfit_first f bad (m ∷ ms) h e fit = by_head (f m) refl (unfit_first f bad ms) e
-  where
-    by_head : (o : Option Health) → f m ≡ o → Unfit (first (map f ms)) → first (o ∷ map f ms) ≡ Some h → ⊥
-    by_head (Some y) is again e' = bad m h (is ∙ e') fit
-    by_head None is again e' = again h e' fit
-
-unfit_lost : (lib : List Parts) (m : ℕ) → Unfit (lost_import lib m)
-unfit_lost lib m = by_place (position (λ name. is_none (library_named lib name)) (module_of lib m).imports)
-  where
-    by_place : (o : Option ℕ) → Unfit (option_map (λ k. NoModule m (k + 1)) o)
-    by_place (Some k) h e fit = absurd cc
-    by_place None h e fit = absurd cc
-
-unfit_if : (b : Bool) (kind : Health) → (kind ≡ Fit → ⊥) → Unfit (cond b (Some kind) None)
-unfit_if true kind bad h e fit = let same : kind ≡ h = cc in bad (same ∙ fit)
-unfit_if false kind bad h e fit = absurd cc
-
-not_first : (o rest : Option Health) → Unfit o → unwrap_or (o then rest) Fit ≡ Fit → (o ≡ None) × (unwrap_or rest Fit ≡ Fit)
-not_first (Some h) rest bad e = absurd (bad h refl e)
-not_first None rest bad e = (refl, e)
-
-not_last : (o : Option Health) → Unfit o → unwrap_or o Fit ≡ Fit → o ≡ None
-not_last (Some h) bad e = absurd (bad h refl e)
-not_last None bad e = refl
-
 -- what is looked for in each module
 abbrev entry_fault : List Parts → ℕ → Option Health
 entry_fault lib by = target_of_fault faults.NoEntry (NoEntry by) lib by
@@ -136,22 +107,8 @@ members_fit lib m h =
 
 -- ---- references
 
-if_none : (b : Bool) (kind : Health) → cond b (Some kind) None ≡ None → b ≡ false
-if_none true kind e = absurd cc
-if_none false kind e = refl
-
 none_if : (b : Bool) (kind : Health) → b ≡ false → cond b (Some kind) None ≡ None
 none_if b kind e = rw e refl
-
-spot_of : (r : Result Spot EntryFault) → ends_in faults.NoEntry r ≡ false → ends_in faults.ForwardLoop r ≡ false → ends_in faults.Gate286 r ≡ false → (s : Spot) × (r ≡ Ok s)
-spot_of (Ok s) a b c = (s, refl)
-spot_of (Err faults.NoEntry) a b c = absurd cc
-spot_of (Err faults.Gate286) a b c = absurd cc
-spot_of (Err faults.ForwardLoop) a b c = absurd cc
-
-or_false : (a b : Bool) → (a || b) ≡ false → (a ≡ false) × (b ≡ false)
-or_false true b e = absurd cc
-or_false false b e = (refl, e)
 
 abbrev HasSpot : List Parts → ℕ → FixTarget → Type 0
 HasSpot lib by t = (s : Spot) × (target_spot lib by t ≡ Ok s)
@@ -162,9 +119,9 @@ ends_here e lib by t = ends_in e (target_spot lib by t)
 each_spot : (lib : List Parts) (by : ℕ) (ts : List FixTarget) → list_any (ends_here faults.NoEntry lib by) ts ≡ false → list_any (ends_here faults.ForwardLoop lib by) ts ≡ false → list_any (ends_here faults.Gate286 lib by) ts ≡ false → Each (HasSpot lib by) ts
 each_spot lib by [] a b c = tt
 each_spot lib by (t ∷ ts) a b c =
-    let p = or_false (ends_here faults.NoEntry lib by t) (list_any (ends_here faults.NoEntry lib by) ts) a in
-    let q = or_false (ends_here faults.ForwardLoop lib by t) (list_any (ends_here faults.ForwardLoop lib by) ts) b in
-    let r = or_false (ends_here faults.Gate286 lib by t) (list_any (ends_here faults.Gate286 lib by) ts) c in
+    let p = or_parts (ends_here faults.NoEntry lib by t) (list_any (ends_here faults.NoEntry lib by) ts) a in
+    let q = or_parts (ends_here faults.ForwardLoop lib by t) (list_any (ends_here faults.ForwardLoop lib by) ts) b in
+    let r = or_parts (ends_here faults.Gate286 lib by t) (list_any (ends_here faults.Gate286 lib by) ts) c in
     (spot_of (target_spot lib by t) p.0 q.0 r.0, each_spot lib by ts p.1 q.1 r.1)
 
 no_end : (e : EntryFault) (lib : List Parts) (by : ℕ) (ts : List FixTarget) → Each (HasSpot lib by) ts → list_any (ends_here e lib by) ts ≡ false

@@ -2,7 +2,7 @@
 use Rattle.std.proofs.Common.{◌≡◌, ℕ, zero, suc, ◌+◌, ◌-◌, ◌*◌, ◌<◌, ◌≤◌, ◌^◌, inl, inr, Bool, true, false, cond, ◌&&◌, ◌||◌, leb, ltb, eqb, List, [], ◌∷◌, ◌++◌, length, Option, Some, None, refl, sym, ap, append_assoc, arith, length-append}
 use Rattle.std.specs.Prelude.{replicate}
 use Rattle.std.specs.List.{flat_map, repeat, AllByRecursion as Each}
-use Rattle.std.proofs.Math.Nat.{pow-suc, suc-mul}
+use Rattle.std.proofs.Math.Nat.{pow-suc}
 use Rattle.std.proofs.lemmas.Bool.Decides.{nat_tests}
 use Rattle.std.proofs.lemmas.List.{length-replicate}
 use Rattle.std.proofs.lemmas.List.FromFn.{length-map-range_with_len}
@@ -17,6 +17,8 @@ use Rattle.lx_model.specs.Module.{LxFault}
 use Rattle.lx_model.specs.TableSpelling.{object_spelling, page_spelling, pages_spelling}
 use Rattle.lx_model.proofs.Firsts.{then_none, first_none, each_none}
 use Rattle.lx_model.proofs.Meaning.{judged}
+use Rattle.lx_model.proofs.Soundness.{not_short}
+use Rattle.lx_model.proofs.TablesTaken.{length-repeat}
 use Rattle.res_file.specs.ResFile.{ItemFits}
 use Rattle.res_file.specs.declared.item.ResItem.{ResItem}
 use Rattle.res_bind.specs.Bound.{old_entries, object_table, page_table, fixup_table, last_offset, new_object, new_pages, new_page, with_fields, appended}
@@ -30,6 +32,7 @@ use Rattle.res_bind.specs.declared.refusal.BindRefusal.TheVariants.{TooMany, Too
 use Rattle.res_bind.proofs.Headers.{head_is}
 use Rattle.res_bind.proofs.Multiples.{unit_above}
 use Rattle.res_bind.proofs.Sizes.{aligned_above}
+use Rattle.res_bind.proofs.Facts.{by_pages}
 use Rattle.res_laws.proofs.Lists.{At, at_start, at_more, at_place, at_same, IsThere, length_table, length_span}
 use Rattle.res_laws.proofs.Standing.{extended, front_long}
 
@@ -79,10 +82,6 @@ pow_some (suc n) = let more = pow-suc 2 n in let some = pow_some n in omega (ari
 pub unit_some : (file : List ℕ) → 1 ≤ page_unit file
 unit_some file = pow_some (field file 0x2C)
 
-either_above : (none : Bool) (a b low : ℕ) → low ≤ a → low ≤ b → low ≤ cond none a b
-either_above true a b low p q = p
-either_above false a b low p q = q
-
 pub data_above : (file : List ℕ) (pages : ℕ) → (length file ≤ data_place file pages) × (field file 0x80 ≤ data_place file pages)
 data_above file pages =
     let above = unit_above (end_of file - field file 0x80) (page_unit file) (unit_some file) in
@@ -90,7 +89,7 @@ data_above file pages =
     let low = ends.0 in
     let low' = ends.1 in
     let paged : end_of file ≤ paged_place file = omega (arith, above, low') in
-    let all = either_above (eqb pages 0) (end_of file) (paged_place file) (end_of file) (omega arith) paged in
+    let all = by_pages (eqb pages 0) (end_of file) (paged_place file) (end_of file) (omega arith) paged in
     (omega (arith, all, low), omega (arith, all, low'))
 
 -- how many bytes the new fixup page table has
@@ -134,9 +133,6 @@ size_small file items can =
     omega (arith, o, p, f, e, w, m)
 
 -- ---- old tables lie in the file
-
-not_short : (n : ℕ) (file : List ℕ) (at : ℕ) → short_at n file at ≡ None → at + n ≤ length file
-not_short n file at e = grind (arith, nat_tests)
 
 behind_test : (b : Bool) (e : LxRefusal) (other : Option LxRefusal) → cond b (Some e) other ≡ None → other ≡ None
 behind_test true e other h = absurd cc
@@ -230,10 +226,6 @@ pages_length file items e =
     let number = pages_number file items in
     omega (arith, size, whole, new, number)
 
-pub repeat_length : (n : ℕ) (xs : List ℕ) → length (repeat n xs) ≡ n * length xs
-repeat_length zero xs = omega arith
-repeat_length (suc n) xs = let rest = repeat_length n xs in let product = suc-mul n (length xs) in let whole = length-append xs (repeat n xs) in omega (arith, rest, product, whole)
-
 pub last_length : (file : List ℕ) → LxFault file ≡ None → has_records file ≡ true → length (last_offset file) ≡ 4
 last_length file e is = let there = offsets_there file e is in length_span file (table file 0x68 + 4 * page_count file) 4 (omega (arith, there))
 
@@ -243,7 +235,7 @@ fixups_by file items true e is =
     let there = offsets_there file e (is refl) in
     let size = length_span file (table file 0x68) (4 * (page_count file + 1)) there in
     let last = last_length file e (is refl) in
-    let again = repeat_length (new_page_count items) (last_offset file) in
+    let again = length-repeat (new_page_count items) (last_offset file) in
     let whole = length-append (old_entries file 0x68 4 (page_count file + 1)) (repeat (new_page_count items) (last_offset file)) in
     let product : new_page_count items * length (last_offset file) ≡ new_page_count items * 4 = ap (λ (n : ℕ). new_page_count items * n) last in
     omega (arith, size, again, whole, product)

@@ -1,8 +1,9 @@
 -- The name tables, the import modules and the entries of the bound file are those of the old one.
-use Rattle.std.proofs.Common.{◌≡◌, ℕ, ◌+◌, ◌≤◌, Bool, true, false, cond, eqb, leb, List, [], ◌∷◌, ◌++◌, length, take, drop, Option, Some, None, Result, Ok, Err, refl, sym, subst, ap, ◌∙◌, append_assoc, arith, length-append}
+use Rattle.std.proofs.Common.{◌≡◌, ℕ, ◌+◌, ◌≤◌, Bool, true, false, cond, eqb, leb, List, [], ◌∷◌, ◌++◌, length, take, drop, Option, Some, None, Result, Ok, Err, refl, sym, subst, ap, ◌∙◌, arith, length-append}
 use Rattle.std.specs.List.{list_all, flat_map, AllByRecursion as Each}
 use Rattle.std.proofs.lemmas.List.{length-take}
 use Rattle.std.proofs.lemmas.Bool.Decides.{nat_tests}
+use Rattle.std.proofs.lemmas.Bool.{and_parts}
 use Rattle.lx_types.specs.declared.refusal.LxKind.TheVariants.{Field}
 use Rattle.lx_bytes.specs.LittleEndian.{AreBytes}
 use Rattle.lx_types.specs.declared.refusal.LxRefusal.{LxRefusal}
@@ -18,23 +19,19 @@ use Rattle.lx_model.proofs.BundlesTaken as bundles_taken
 use Rattle.lx_model.proofs.Firsts.{then_none}
 use Rattle.lx_model.proofs.ImportsRead as imports_read
 use Rattle.lx_model.proofs.Many.{many_ends, many_more}
-use Rattle.lx_model.proofs.Meaning.{judged}
+use Rattle.lx_model.proofs.Meaning.{judged, read_ok}
 use Rattle.lx_model.proofs.NamesRead as names_read
 use Rattle.lx_model.proofs.ReadsAs.{byte_reads}
 use Rattle.lx_model.proofs.Shortening.{bundle_shortens}
 use Rattle.lx_model.proofs.TablesTaken as tables_taken
+use Rattle.lx_model.proofs.BundlesRead.{regroup}
 use Rattle.res_file.specs.declared.item.ResItem.{ResItem}
 use Rattle.res_bind.specs.Clear.{Part, taken}
-use Rattle.res_laws.proofs.Sets.{and_true}
 use Rattle.res_laws.proofs.Standing.{extended}
 use Rattle.res_laws.proofs.Clear.{frees, is_free}
 use Rattle.res_laws.proofs.Layouts.{CanExtend}
 use Rattle.res_laws.proofs.HeaderNow.{field_same, table_same, header_now}
 use Rattle.res_laws.proofs.Fronts.{bytes_from, bytes_up_to, front_stands, taken_is, take_begins, begins_take}
-
-read_ok : {A : Type 0} (at : ℕ) (other : A) (r : Result A LxRefusal) → fault_of (placed at r) ≡ None → r ≡ Ok (value_or other (placed at r))
-read_ok at other (Ok x) e = refl
-read_ok at other (Err f) e = absurd cc
 
 -- ---- names
 
@@ -126,7 +123,7 @@ others_by file items false can e free =
     let n = field file 0x8C in
     let bytes = take n (drop at file) in
     let read = read_ok at [] (names_in bytes) e in
-    let here = and_true (is_free file (taken at bytes (many name_entry tt (cursor 0 bytes)))) true free in
+    let here = and_parts (is_free file (taken at bytes (many name_entry tt (cursor 0 bytes)))) true free in
     ap (placed at) (others_still file items at n (value_or [] (placed at (names_in bytes))) can read here.0 ∙ sym read)
 
 pub others_same : (file : List ℕ) (items : List ResItem) → CanExtend file items → other_names (extended file items) ≡ other_names file
@@ -176,9 +173,6 @@ imports_faultless file items can = ap fault_of (imports_same file items can) ∙
 end_reads : (objects imports last at : ℕ) (rest : List ℕ) → bundle_at objects imports last (cursor at (0 ∷ rest)) ≡ Ok (None, cursor (at + 1) rest)
 unfolding bundle_at
 end_reads objects imports last at rest = rw (byte_reads 0 (omega arith) at rest) refl
-
-regroup : (a b c d : List ℕ) → ((a ++ b) ++ c) ++ d ≡ a ++ ((b ++ c) ++ d)
-regroup a b c d = simp append_assoc
 
 -- a table of bundles ends where it is spelled to
 bundles_end : (objects imports : ℕ) (bs : List Bundle) (last at : ℕ) (rest : List ℕ) → Each (BundleFits objects imports) bs → last + ordinals_together bs ≤ LAST_ORDINAL →

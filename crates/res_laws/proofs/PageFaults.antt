@@ -4,6 +4,7 @@ use Rattle.std.specs.List.{list_all}
 use Rattle.std.proofs.lemmas.Bool.Decides.{nat_tests}
 use Rattle.std.proofs.lemmas.List.FromFn.{length-map-range_with_len, get_or-map-range_with_len}
 use Rattle.std.proofs.lemmas.List.Folds.{list_all-map}
+use Rattle.std.proofs.lemmas.Bool.{le-leb}
 use Rattle.lx_types.specs.Object.{zero_page}
 use Rattle.lx_types.specs.Parts.{span}
 use Rattle.lx_types.specs.declared.object.PageHead.{PageHead}
@@ -61,9 +62,6 @@ plain_still at len old now le e = grind (arith, nat_tests)
 inside : (at len old : ℕ) → leb (at + len) old ≡ true → at + len ≤ old
 inside at len old e = grind (arith, nat_tests)
 
-inside_test : (n old : ℕ) → n ≤ old → leb n old ≡ true
-inside_test n old le = grind (arith, nat_tests)
-
 -- its data stands, where it lies in the file
 abbrev DataStands : List ℕ → List ℕ → PageHead → Type 0
 DataStands file now page = page.at + page.len ≤ length file → span now page.at (page.at + page.len) ≡ span file page.at (page.at + page.len)
@@ -75,7 +73,7 @@ kind_still file now a b Plain page long same e =
 kind_still file now a b Iterated page long same e =
     let good = if_good (leb (page.at + page.len) (length file)) (fault_of (placed page.at (expansion (span file page.at (page.at + page.len))))) (fault kinds.PageData b) e in
     let there = inside page.at page.len (length file) good.0 in
-    rw (inside_test (page.at + page.len) (length now) (omega (arith, there, long)), same there) good.1
+    rw (le-leb (page.at + page.len) (length now) (omega (arith, there, long)), same there) good.1
 kind_still file now a b Invalid page long same e = refl
 kind_still file now a b Zero page long same e = refl
 
@@ -120,7 +118,7 @@ new_good file items k can lt =
     let long = (stands file items can).long in
     let there : page.at + page.len ≤ length now = omega (arith, begins, o, p, f, e, w, long) in
     let short : page.len ≤ PAGE_SIZE = omega arith in
-    let good : data_fault now a (Some page) ≡ None = rw (inside_test (page.at + page.len) (length now) there, inside_test page.len PAGE_SIZE short) refl in
+    let good : data_fault now a (Some page) ≡ None = rw (le-leb (page.at + page.len) (length now) there, le-leb page.len PAGE_SIZE short) refl in
     subst (λ (entry : Option PageHead). data_fault now a entry ≡ None) (sym (new_entry file items k can lt)) good
 
 -- ---- all

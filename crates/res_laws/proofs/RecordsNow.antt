@@ -4,6 +4,7 @@ use Rattle.std.specs.Prelude.{is_some}
 use Rattle.std.specs.List.{range_with_len, flat_map, list_all, AllByRecursion as Each}
 use Rattle.std.proofs.lemmas.Bool.Decides.{nat_tests}
 use Rattle.std.proofs.lemmas.List.FromFn.{length-map-range_with_len, get_or-map-range_with_len}
+use Rattle.std.proofs.lemmas.Bool.{and_parts}
 use Rattle.lx_types.specs.Parts.{span, name_at, entry_of}
 use Rattle.lx_types.specs.declared.fix.Fix.{Fix}
 use Rattle.lx_types.specs.declared.fix.FixTarget.{FixTarget}
@@ -23,14 +24,14 @@ use Rattle.lx_model.proofs.Meaning.{judged}
 use Rattle.lx_model.proofs.PagesRead.{next_ends}
 use Rattle.lx_model.proofs.References.{records_there}
 use Rattle.lx_model.proofs.Soundness.{spans_fit}
+use Rattle.lx_model.proofs.ReadModules.{each_unmap}
 use Rattle.res_file.specs.declared.item.ResItem.{ResItem}
 use Rattle.res_bind.specs.Clear.{Part, part, records_part, name_parts, names_of_target, names_of_head}
 use Rattle.res_bind.specs.Placed.{new_page_count}
 use Rattle.res_laws.proofs.Lists.{all_at, each_two, same_part, span_same}
-use Rattle.res_laws.proofs.Sets.{and_true}
 use Rattle.res_laws.proofs.Standing.{extended, part_stands}
 use Rattle.res_laws.proofs.Clear.{frees, is_free, split_all}
-use Rattle.res_laws.proofs.Eaches.{each_inner, each_unmap, each_both, each_at, each_tests}
+use Rattle.res_laws.proofs.Eaches.{each_inner, each_both, each_at, each_tests}
 use Rattle.res_laws.proofs.Layouts.{CanExtend}
 use Rattle.res_laws.proofs.HeaderNow.{long_of, longer, field_same, table_same, header_now}
 use Rattle.res_laws.proofs.HeaderFaults.{none_then, none_first, none_range}
@@ -79,7 +80,7 @@ names_stand file items offset can some free =
     let at = table file 0x78 + offset in
     let q = part at (1 + get_or file at 0) in
     let parts : list_all (is_free file) (q ∷ []) ≡ true = subst (λ (b : Bool). list_all (is_free file) (cond b (q ∷ []) []) ≡ true) some free in
-    ap (λ (t : ℕ). name_at (extended file items) (t + offset)) (table_same file items 0x78 can refl refl refl) ∙ name_stands file items at can some (and_true (is_free file q) true parts).0
+    ap (λ (t : ℕ). name_at (extended file items) (t + offset)) (table_same file items 0x78 can refl refl refl) ∙ name_stands file items at can some (and_parts (is_free file q) true parts).0
 
 -- ---- records
 
@@ -94,7 +95,7 @@ span_at file k e lt =
 part_by : (file : List ℕ) (k : ℕ) (records : Bool) → has_records file ≡ records → k < page_count file → list_all (is_free file) (cond records (part (table file 0x68) (4 * (page_count file + 1)) ∷ map (records_part file) (range_with_len 0 (page_count file))) []) ≡ true →
     (is_free file (records_part file k) ≡ true) ⊎ ((records_span file k).1 ≡ 0)
 part_by file k true is lt e =
-    let here = and_true (is_free file (part (table file 0x68) (4 * (page_count file + 1)))) (list_all (is_free file) (map (records_part file) (range_with_len 0 (page_count file)))) e in
+    let here = and_parts (is_free file (part (table file 0x68) (4 * (page_count file + 1)))) (list_all (is_free file) (map (records_part file) (range_with_len 0 (page_count file)))) e in
     let size = length-map-range_with_len (records_part file) 0 (page_count file) in
     inl (subst (λ (q : Part). is_free file q ≡ true) (get_or-map-range_with_len (records_part file) 0 (page_count file) k k (part 0 0) lt (omega arith))
     (all_at (is_free file) (map (records_part file) (range_with_len 0 (page_count file))) k (part 0 0) here.1 (omega (arith, lt, size))))
@@ -145,7 +146,7 @@ target_still : (file : List ℕ) (items : List ResItem) (t : FixTarget) → CanE
 target_still file items (Internal o x) can e free = still_one (object_count file) o (object_count (extended file items)) (header_now file items can).count e
 target_still file items (Ordinal i x) can e free = ap (λ (n : ℕ). names_one_of n i) (field_same file items 0x74 can refl refl refl) ∙ e
 target_still file items (Named i x) can e free =
-    let parts = and_true (names_one_of (import_count file) i) (is_some (name_at file (table file 0x78 + x))) e in
+    let parts = and_parts (names_one_of (import_count file) i) (is_some (name_at file (table file 0x78 + x))) e in
     ap (λ (n : ℕ). names_one_of n i && is_some (name_at (extended file items) (table (extended file items) 0x78 + x))) (field_same file items 0x74 can refl refl refl)
     ∙ ap (λ (o : Option (List ℕ)). names_one_of (import_count file) i && is_some o) (names_stand file items x can parts.1 free) ∙ e
 target_still file items (Own x) can e free = ap (λ (r : Result (List Numbered) LxRefusal). is_some (entry_of (value_or [] r) x)) (entries_same file items can) ∙ e

@@ -1,9 +1,10 @@
 -- A library with the bound module in the old one's place serves as the old library did.
-use Rattle.std.proofs.Common.{◌≡◌, ℕ, zero, suc, ◌+◌, ◌<◌, ◌≤◌, Bool, true, false, cond, not, ltb, eqb, List, [], ◌∷◌, ◌++◌, map, length, Option, Some, None, refl, sym, subst, ap, ◌∙◌, append-nil, arith}
+use Rattle.std.proofs.Common.{◌≡◌, ℕ, zero, suc, ◌+◌, ◌<◌, ◌≤◌, Bool, true, false, cond, ltb, eqb, List, [], ◌∷◌, ◌++◌, map, length, Option, Some, None, refl, sym, subst, ap, ◌∙◌, append-nil, arith}
 use Rattle.std.specs.Prelude.{filter, option_and_then}
 use Rattle.std.specs.List.{flat_map, list_all, range_with_len, AllByRecursion as Each}
 use Rattle.std.proofs.lemmas.Grind.{flat_map-append}
 use Rattle.std.proofs.lemmas.List.FromFn.{length-map-range_with_len}
+use Rattle.std.proofs.lemmas.Bool.{eqb-true}
 use Rattle.lx_types.specs.declared.fix.Fix.{Fix}
 use Rattle.lx_types.specs.declared.fix.FixTarget.{FixTarget}
 use Rattle.lx_types.specs.declared.parts.Parts.{Parts}
@@ -14,14 +15,14 @@ use Rattle.lx_model.specs.Header.{page_count}
 use Rattle.lx_model.specs.EntryTable.{entries_of}
 use Rattle.lx_model.specs.Records.{Record, fixes_of}
 use Rattle.lx_model.specs.Reading.{Many}
-use Rattle.lx_model.specs.Module.{IsRead, parts_of, page_records, targets_of, same_target, is_reference, once, refs_of, is_target, targets_in}
+use Rattle.lx_model.specs.Module.{IsRead, parts_of, page_records, targets_of, is_reference, once, refs_of, is_target, targets_in}
 use Rattle.lx_model.specs.Library.{no_module, module_of, has_name, module_named}
 use Rattle.lx_model.specs.Gathering.{MOST_MODULES, twice_at, LibraryFault, IsLibrary}
 use Rattle.lx_model.proofs.Each.{each_more, each_filter}
 use Rattle.lx_model.proofs.Firsts.{each_entry}
 use Rattle.lx_model.proofs.Meaning.{judged}
 use Rattle.lx_model.proofs.ReadModules.{read_is_sound}
-use Rattle.lx_model.proofs.References.{targets_there}
+use Rattle.lx_model.proofs.References.{targets_there, each_once}
 use Rattle.res_file.specs.declared.item.ResItem.{ResItem}
 use Rattle.res_bind.specs.Clear.{names_of_target, names_of_head}
 use Rattle.res_bind.specs.Placed.{new_page_count}
@@ -36,7 +37,7 @@ use Rattle.res_laws.proofs.HeaderNow.{header_now}
 use Rattle.res_laws.proofs.RecordsNow.{old_records, new_records}
 use Rattle.res_laws.proofs.PartsNow.{name_now}
 use Rattle.res_laws.proofs.Alike.{TargetStands, entry_leads}
-use Rattle.res_laws.proofs.FixedNow.{equal, module_is, all_same, found_same, at_place, target_stands, target_itself, alike}
+use Rattle.res_laws.proofs.FixedNow.{module_is, all_same, found_same, at_place, target_stands, target_itself, alike}
 use Rattle.res_laws.proofs.Healthy.{RefsStand, order_same, still_fit}
 use Rattle.res_laws.proofs.Bindings.{can_extend, read_now, same_library}
 
@@ -74,10 +75,6 @@ refs_now : (file : List ℕ) (items : List ResItem) → CanExtend file items →
 unfolding parts_of refs_of
 refs_now file items can = ap (λ (ts : List FixTarget). once (filter is_reference ts)) (targets_same file items can)
 
-each_once : (P : FixTarget → Type 0) (ts : List FixTarget) → Each P ts → Each P (once ts)
-each_once P [] h = tt
-each_once P (t ∷ ts) h = (h.0, each_more (λ u. P u × (not (same_target t u) ≡ true)) P _ (λ u p. p.0) (each_filter P (λ u. not (same_target t u)) (once ts) (each_once P ts h.1)))
-
 abbrev IsKept : List ℕ → FixTarget → Type 0
 IsKept file t = (is_target (targets_in file) t ≡ true) × (list_all (is_free file) (names_of_target file t) ≡ true)
 
@@ -107,7 +104,7 @@ refs_stand file items lib k by can lt is = by_test (eqb by k) refl
         )
 
     by_test : (b : Bool) → eqb by k ≡ b → RefsStand lib (with_module lib k (parts_of (extended file items))) by
-    by_test true e = subst (RefsStand lib (with_module lib k (parts_of (extended file items)))) (sym (equal by k e)) own
+    by_test true e = subst (RefsStand lib (with_module lib k (parts_of (extended file items)))) (sym (eqb-true by k e)) own
     by_test false e =
         let now = parts_of (extended file items) in
         let same = module_is lib k now by lt ∙ ap (λ (b : Bool). cond b now (module_of lib by)) e in

@@ -3,6 +3,7 @@ use Rattle.std.proofs.Common.{◌≡◌, ℕ, ◌+◌, ◌<◌, ◌≤◌, ◌^�
 use Rattle.std.specs.List.{list_all}
 use Rattle.std.proofs.lemmas.Bool.Decides.{nat_tests}
 use Rattle.std.proofs.lemmas.List.{length-take, take_at, drop_at}
+use Rattle.std.proofs.lemmas.Bool.{and_parts}
 use Rattle.lx_bytes.specs.LittleEndian.{little, little_bytes}
 use Rattle.lx_bytes.proofs.Numbers.{length-little_bytes, little-little_bytes}
 use Rattle.lx_model.specs.Reading.{number_at}
@@ -11,10 +12,6 @@ use Rattle.res_bind.proofs.Kept.{number_length, number_stands, Outside}
 use Rattle.res_laws.proofs.Lists.{number_same}
 
 -- ---- one number
-
-pub and_true : (a b : Bool) → (a && b) ≡ true → (a ≡ true) × (b ≡ true)
-and_true true b e = (refl, e)
-and_true false b e = absurd cc
 
 -- two fields of four bytes have no byte in common
 abbrev pub are_two : ℕ → ℕ → Bool
@@ -62,8 +59,8 @@ fits_in o place len e le = grind (arith, nat_tests)
 pub all_others : (sets : List (ℕ × ℕ)) (place o : ℕ) (file : List ℕ) → lie_apart o sets ≡ true → leb o 0xA8 ≡ true → place + 0xAC ≤ length file → number_at 4 (set_all sets place file) (place + o) ≡ number_at 4 file (place + o)
 all_others [] place o file e there long = refl
 all_others (s ∷ sets) place o file e there long =
-    let test = and_true (leb s.0 0xA8 && are_two s.0 o) (lie_apart o sets) e in
-    let parts = and_true (leb s.0 0xA8) (are_two s.0 o) test.0 in
+    let test = and_parts (leb s.0 0xA8 && are_two s.0 o) (lie_apart o sets) e in
+    let parts = and_parts (leb s.0 0xA8) (are_two s.0 o) test.0 in
     let le = fits_in s.0 place (length file) parts.0 long in
     let size = number_length (place + s.0) s.1 file le in
     all_others sets place o (with_number (place + s.0) s.1 file) test.1 there (omega (arith, size, long))
@@ -76,7 +73,7 @@ all_set [] o v after place file b e there fits long =
     let size = number_length (place + o) v file le in
     all_others after place o (with_number (place + o) v file) e there (omega (arith, size, long)) ∙ set_is (place + o) v file le fits
 all_set (s ∷ before) o v after place file b e there fits long =
-    let test = and_true (leb s.0 0xA8) (list_all (λ t. leb t.0 0xA8) before) b in
+    let test = and_parts (leb s.0 0xA8) (list_all (λ t. leb t.0 0xA8) before) b in
     let le = fits_in s.0 place (length file) test.0 long in
     let size = number_length (place + s.0) s.1 file le in
     all_set before o v after place (with_number (place + s.0) s.1 file) test.1 e there fits (omega (arith, size, long))

@@ -3,6 +3,7 @@ use Rattle.std.proofs.Common.{◌≡◌, ℕ, zero, suc, ◌+◌, ◌-◌, ◌*�
 use Rattle.std.specs.List.{range_with_len, repeat}
 use Rattle.std.proofs.lemmas.Bool.Decides.{nat_tests}
 use Rattle.std.proofs.lemmas.List.{take_at}
+use Rattle.std.proofs.lemmas.Bool.{or_parts}
 use Rattle.lx_bytes.specs.LittleEndian.{little}
 use Rattle.lx_types.specs.Parts.{span}
 use Rattle.lx_types.specs.declared.refusal.LxRefusal.{LxRefusal}
@@ -153,10 +154,6 @@ old_order file items k can is lt e =
 new_order : (k r old now : ℕ) → old ≤ now → ltb old r ≡ false → ((ltb 0 k && ltb r r) || ltb now r) ≡ false
 new_order k r old now le e = grind (arith, nat_tests)
 
-or_last : (a b : Bool) → (a || b) ≡ false → b ≡ false
-or_last true b e = absurd cc
-or_last false b e = e
-
 spans_by : (file : List ℕ) (items : List ResItem) (records : Bool) → CanExtend file items → has_records file ≡ records → cond records (first_of (page_count file + 1) (span_fault file)) None ≡ None →
     cond records (first_of (page_count (extended file items) + 1) (span_fault (extended file items))) None ≡ None
 spans_by file items true can is e =
@@ -173,7 +170,7 @@ spans_by file items true can is e =
     let count : n + 1 + m ≡ page_count now + 1 = (let p = h.pages in omega (arith, p)) in
     let end = each_none (n + 1) (span_fault file) n e (omega arith) in
     let wrong = is_out_of_order file n || ltb (length file) (records_place file n) in
-    let last = or_last (is_out_of_order file n) (ltb (length file) (records_place file n)) (no_fault wrong (fault FixTable (offset_place file n)) (then_none (short_at 4 file (offset_place file n)) _ end).1) in
+    let last = (or_parts (is_out_of_order file n) (ltb (length file) (records_place file n)) (no_fault wrong (fault FixTable (offset_place file n)) (then_none (short_at 4 file (offset_place file n)) _ end).1)).1 in
     subst (λ (c : ℕ). first_of c (span_fault now) ≡ None) count (none_range (span_fault now) (n + 1 + m) (each_two (λ k. span_fault now k ≡ None) (n + 1) m
     (λ k lt. offset_good now k (room k (omega (arith, lt))) (old_order file items k can is lt e))
     (λ j lt.

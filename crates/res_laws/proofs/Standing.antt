@@ -4,6 +4,7 @@ use Rattle.std.specs.List.{list_all, list_any}
 use Rattle.std.specs.Prelude.{min, max}
 use Rattle.std.proofs.lemmas.Bool.Decides.{nat_tests}
 use Rattle.std.proofs.lemmas.List.{get_or_append_left}
+use Rattle.std.proofs.lemmas.Bool.{and_parts, or_from}
 use Rattle.lx_model.specs.Header.{header_place}
 use Rattle.lx_model.specs.FixupPages.{has_records}
 use Rattle.res_file.specs.declared.item.ResItem.{ResItem}
@@ -12,7 +13,6 @@ use Rattle.res_bind.specs.Clear.{Part, part, are_apart, set_offsets, set_parts}
 use Rattle.res_bind.specs.Laws.{is_set}
 use Rattle.res_bind.proofs.Kept.{fields_stand}
 use Rattle.res_laws.proofs.Lists.{Same}
-use Rattle.res_laws.proofs.Sets.{and_true}
 
 -- the file with an object more
 abbrev pub extended : List ℕ → List ResItem → List ℕ
@@ -32,15 +32,11 @@ has_place x q = leb q.at x && ltb x (q.at + q.len)
 not_in_both : (a m b n x : ℕ) → leb (min (a + m) (b + n)) (max a b) ≡ true → a ≤ x → x < a + m → (leb b x && ltb x (b + n)) ≡ false
 not_in_both a m b n x e low high = grind (arith, nat_tests)
 
-pub or_both : (a b : Bool) → a ≡ false → b ≡ false → (a || b) ≡ false
-or_both true b e f = absurd cc
-or_both false b e f = f
-
 in_none : (parts : List Part) (q : Part) (x : ℕ) → list_all (are_apart q) parts ≡ true → q.at ≤ x → x < q.at + q.len → list_any (has_place x) parts ≡ false
 in_none [] q x e low high = refl
 in_none (r ∷ parts) q x e low high =
-    let test = and_true (are_apart q r) (list_all (are_apart q) parts) e in
-    or_both (has_place x r) (list_any (has_place x) parts) (not_in_both q.at q.len r.at r.len x test.0 low high) (in_none parts q x test.1 low high)
+    let test = and_parts (are_apart q r) (list_all (are_apart q) parts) e in
+    or_from (has_place x r) (list_any (has_place x) parts) (not_in_both q.at q.len r.at r.len x test.0 low high) (in_none parts q x test.1 low high)
 
 -- a part of the file that is apart from the fields stands
 pub part_stands : (file : List ℕ) (items : List ResItem) (at len : ℕ) → header_place file + 0xAC ≤ length file → at + len ≤ length file → list_all (are_apart (part at len)) (set_parts file) ≡ true → Same file (extended file items) at len
@@ -58,8 +54,8 @@ not_at o w s p x e low high = grind (arith, nat_tests)
 at_none : (offsets : List ℕ) (o w p x : ℕ) → lies_free o w offsets ≡ true → p + o ≤ x → x < p + o + w → list_any (has_place x) (map (λ offset. part (p + offset) 4) offsets) ≡ false
 at_none [] o w p x e low high = refl
 at_none (s ∷ offsets) o w p x e low high =
-    let test = and_true (leb (o + w) s || leb (s + 4) o) (lies_free o w offsets) e in
-    or_both (has_place x (part (p + s) 4)) (list_any (has_place x) (map (λ offset. part (p + offset) 4) offsets)) (not_at o w s p x test.0 low high) (at_none offsets o w p x test.1 low high)
+    let test = and_parts (leb (o + w) s || leb (s + 4) o) (lies_free o w offsets) e in
+    or_from (has_place x (part (p + s) 4)) (list_any (has_place x) (map (λ offset. part (p + offset) 4) offsets)) (not_at o w s p x test.0 low high) (at_none offsets o w p x test.1 low high)
 
 either_free : (o w : ℕ) (records : Bool) → lies_free o w (set_offsets true) ≡ true → lies_free o w (set_offsets false) ≡ true → lies_free o w (set_offsets records) ≡ true
 either_free o w true e f = e
