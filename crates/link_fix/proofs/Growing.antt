@@ -3,33 +3,30 @@ use Rattle.std.specs.Prelude.{◌≡◌, ℕ, ◌+◌, ◌<◌, List, [], ◌∷
 use Rattle.std.specs.List.{filter_map, cons_option, flat_map, enumerate_from}
 use Rattle.std.specs.Borrow.{Bor}
 use Rattle.std.proofs.Common.{ap, sym, ◌∙◌, arith, get_or, append_assoc}
-use Rattle.std.proofs.lemmas.List.{append-nil, take_more, map-append, length-map, length-take-le, get_or-map}
+use Rattle.std.proofs.lemmas.List.{append-nil, take_more, map-append, length-map, length-take-le}
 use Rattle.std.proofs.lemmas.List.Elements.{filter_map-append}
 use Rattle.obj_types.specs.declared.object.FixAt.{FixAt}
 use Rattle.obj_types.specs.declared.object.ObjModule.{ObjModule}
-use Rattle.link_model.specs.Fixups.{Fixup, standing_in}
-use Rattle.sym_table.specs.Symbols.{SymbolTable}
-use Rattle.seg_merge.specs.declared.places.Places.{Places}
-use Rattle.link_fix.specs.Fixed.{fixup_at}
+use Rattle.link_model.specs.Fixups.{Fixup}
+use Rattle.link_bytes.specs.Bare.{bare}
 
 one_option : {Y : Type 0} (o : Option Y) → cons_option o [] ≡ option_to_list o
 one_option (Some y) = refl
 one_option None = refl
 
+-- What is left of one more fixup of a module.
 pub fix-more :
-    (p : Places) (s : SymbolTable) (n : ℕ) (m : ObjModule) (numbers : List ℕ) (lent : List FixAt) (i : ℕ) (d : FixAt) (start before new : List Fixup) → lent ≡ m.fixes → numbers ≡ map (standing_in m) m.fixes → i < length m.fixes
-    → before ≡ start ++ filter_map (λ f. fixup_at p s n m f (standing_in m f)) (take i m.fixes) → new ≡ before ++ option_to_list (fixup_at p s n m (get_or lent i d) (get_or numbers i 0))
-    → new ≡ start ++ filter_map (λ f. fixup_at p s n m f (standing_in m f)) (take (i + 1) m.fixes)
-fix-more p s n m numbers lent i d start before new is counted h was made =
-    let F : FixAt → Option Fixup = λ f. fixup_at p s n m f (standing_in m f) in
-    let f : FixAt = get_or m.fixes i d in
-    let number : get_or numbers i 0 ≡ standing_in m f = ap (λ (ns : List ℕ). get_or ns i 0) counted ∙ get_or-map (standing_in m) m.fixes i d 0 h in
+    (F : FixAt → Option Fixup) (xs : List FixAt) (i : ℕ) (d : FixAt) (start before new : List Fixup) → i < length xs
+    → before ≡ start ++ map bare (filter_map F (take i xs)) → new ≡ before ++ map bare (option_to_list (F (get_or xs i d)))
+    → new ≡ start ++ map bare (filter_map F (take (i + 1) xs))
+fix-more F xs i d start before new h was made =
+    let f : FixAt = get_or xs i d in
+    let more : filter_map F (take i xs) ++ option_to_list (F f) ≡ filter_map F (take (i + 1) xs) =
+    ap (λ (qs : List Fixup). filter_map F (take i xs) ++ qs) (sym (one_option (F f))) ∙ sym (filter_map-append F (take i xs) (f ∷ [])) ∙ ap (filter_map F) (sym (take_more xs i d h)) in
     made
-    ∙ ap (λ (fs : List FixAt). before ++ option_to_list (fixup_at p s n m (get_or fs i d) (get_or numbers i 0))) is
-    ∙ ap (λ (k : ℕ). before ++ option_to_list (fixup_at p s n m f k)) number
-    ∙ ap (λ (qs : List Fixup). qs ++ option_to_list (F f)) was
-    ∙ append_assoc start (filter_map F (take i m.fixes)) (option_to_list (F f))
-    ∙ ap (λ (qs : List Fixup). start ++ qs) (ap (λ (qs : List Fixup). filter_map F (take i m.fixes) ++ qs) (sym (one_option (F f))) ∙ sym (filter_map-append F (take i m.fixes) (f ∷ [])) ∙ ap (filter_map F) (sym (take_more m.fixes i d h)))
+    ∙ ap (λ (qs : List Fixup). qs ++ map bare (option_to_list (F f))) was
+    ∙ append_assoc start (map bare (filter_map F (take i xs))) (map bare (option_to_list (F f)))
+    ∙ ap (λ (qs : List Fixup). start ++ qs) (sym (map-append bare (filter_map F (take i xs)) (option_to_list (F f))) ∙ ap (map bare) more)
 
 numbered-push : {X A : Type 0} (f : ℕ → X → List A) (s : ℕ) (xs : List X) (x : X) → flat_map (λ q. f q.0 q.1) (enumerate_from s (xs ++ x ∷ [])) ≡ flat_map (λ q. f q.0 q.1) (enumerate_from s xs) ++ f (s + length xs) x
 numbered-push f s [] x = append-nil (f s x) ∙ ap (λ (n : ℕ). f n x) (omega arith)
@@ -62,3 +59,8 @@ picked-more {X} {Y} f base before new xs i x h is was made =
     ∙ ap (λ (ys : List Y). ys ++ option_to_list (f x)) was
     ∙ append_assoc base (filter_map f (take i xs)) (option_to_list (f x))
     ∙ ap (λ (ys : List Y). base ++ ys) (ap (λ (ys : List Y). filter_map f (take i xs) ++ ys) (sym (one_option (f x))) ∙ sym (filter_map-append f (take i xs) (x ∷ [])) ∙ ap (filter_map f) more)
+
+pub flat-mapped : {X Y Z : Type 0} (g : Y → Z) (f : X → List Y) (xs : List X) → flat_map (λ x. map g (f x)) xs ≡ map g (flat_map f xs)
+flat-mapped g f [] = refl
+flat-mapped {X} {Y} {Z} g f (x ∷ xs) =
+    ap (λ (zs : List Z). map g (f x) ++ zs) (flat-mapped g f xs) ∙ sym (map-append g (f x) (flat_map f xs))

@@ -1,5 +1,6 @@
 pub mod Located
 pub mod Growing
+pub mod Judging
 pub mod Starts
 pub mod PlacedPieces
 pub mod PlacedPages

@@ -1,14 +1,13 @@
 -- From the places of a link to its pages.
-use Rattle.std.specs.Prelude.{◌≡◌, ℕ, ◌+◌, ◌<◌, List, [], ◌∷◌, ◌++◌, Option, Some, None, map, refl}
+use Rattle.std.specs.Prelude.{◌≡◌, ℕ, ◌+◌, ◌<◌, List, [], ◌∷◌, Option, Some, None, map}
 use Rattle.std.specs.Option.{option_map, option_and_then, option_or}
 use Rattle.std.specs.List.{All, filter_map, cons_option, flat_map, enumerate_from}
-use Rattle.std.proofs.Common.{ap, sym, ◌∙◌, subst}
+use Rattle.std.proofs.Common.{ap, ◌∙◌}
 use Rattle.std.proofs.lemmas.List.Elements.{All-nil, All-cons, All-head, All-tail, All-append}
 use Rattle.obj_types.specs.Location.{location_len}
 use Rattle.obj_types.specs.declared.object.FixAt.{FixAt}
 use Rattle.obj_types.specs.declared.object.ObjModule.{ObjModule}
 use Rattle.link_model.specs.declared.refusals.FixRefusal.{FixRefusal}
-use Rattle.link_model.specs.Words.{first_of}
 use Rattle.link_model.specs.Link.{Link}
 use Rattle.link_model.specs.Goals.{Target}
 use Rattle.link_model.specs.Fixups as rules
@@ -17,13 +16,14 @@ use Rattle.link_model.specs.Refusal.{place_refusal}
 use Rattle.sym_table.specs.Symbols.{SymbolTable}
 use Rattle.link_bytes.specs.declared.fixup.Fixup.{Fixup}
 use Rattle.link_bytes.specs.Shown.{shown}
-use Rattle.link_bytes.specs.Marks.{HasBytes}
+use Rattle.link_bytes.specs.Bare.{bare}
+use Rattle.link_bytes.specs.Values.{IsAccepted}
+use Rattle.link_bytes.proofs.AcceptedFixups.{OnLocation, bare-accepts}
 use Rattle.seg_merge.specs.declared.places.Places.{Places}
-use Rattle.link_fix.specs.Fixed.{target_at, location_at, frame_at, fixup_at, fixups_in}
+use Rattle.link_fix.specs.Fixed.{target_at, location_at, frame_at, fixup_at, fixups_in, fixups_by}
+use Rattle.link_fix.specs.Judged.{first_refusal}
 use Rattle.link_fix.specs.Placing.{HasLocations, fixup_refusal}
-
-abbrev OnLocation : rules.Fixup → Type 0
-OnLocation q = 0 < location_len q.fix.loc
+use Rattle.link_fix.proofs.Judging.{first-append, or-none}
 
 abbrev made : ℕ → ObjModule → FixAt → Option ℕ → Option (ℕ × ℕ) → Option Target → Option rules.Fixup
 made n m f frame place target =
@@ -49,28 +49,15 @@ in_modules p s b [] all = All-nil OnLocation
 in_modules p s b (m ∷ ms) all =
     All-append OnLocation (fixups_in p s b m) (flat_map (λ q. fixups_in p s q.0 q.1) (enumerate_from (b + 1) ms)) (in_module p s b m m.fixes (All-head HasLocations m ms all)) (in_modules p s (b + 1) ms (All-tail HasLocations m ms all))
 
-unmapped : (qs : List Fixup) → All OnLocation (map shown qs) → All HasBytes qs
-unmapped [] all = All-nil HasBytes
-unmapped (q ∷ qs) all = All-cons HasBytes q qs (All-head OnLocation (shown q) (map shown qs) all) (unmapped qs (All-tail OnLocation (shown q) (map shown qs) all))
-
-pub located : (p : Places) (s : SymbolTable) (ms : List ObjModule) (qs lent : List Fixup) → All HasLocations ms → map shown qs ≡ flat_map (λ q. fixups_in p s q.0 q.1) (enumerate_from 1 ms) → lent ≡ qs → All HasBytes lent
-located p s ms qs lent all is same =
-    subst (λ (xs : List Fixup). All HasBytes xs) (sym same) (unmapped qs (subst (λ (xs : List rules.Fixup). All OnLocation xs) (sym is) (in_modules p s 1 ms all)))
+-- What is left of the fixups of modules of which none is refused.
+pub all-accepted : (p : Places) (s : SymbolTable) (ms : List ObjModule) (kept : List Fixup) → All HasLocations ms → first_refusal (fixups_by p s ms) ≡ None → map shown kept ≡ map bare (fixups_by p s ms) → All IsAccepted kept
+all-accepted p s ms kept all none is = bare-accepts (fixups_by p s ms) kept none (in_modules p s 1 ms all) is
 
 -- ---- refusals
 
-first_append : (xs ys : List (Option FixRefusal)) → first_of (xs ++ ys) ≡ option_or (first_of xs) (first_of ys)
-first_append [] ys = refl
-first_append (Some x ∷ xs) ys = refl
-first_append (None ∷ xs) ys = first_append xs ys
-
-or_none : (o : Option FixRefusal) → option_or o None ≡ o
-or_none None = refl
-or_none (Some x) = refl
-
 refusal_is : (l : Link) → place_refusal l ≡ option_or (fixup_refusal l) (start_outside l)
 unfolding place_refusal
-refusal_is l = first_append (map rules.fix_refusal (rules.fixups l)) (start_outside l ∷ []) ∙ ap (option_or (fixup_refusal l)) (or_none (start_outside l))
+refusal_is l = first-append (map rules.fix_refusal (rules.fixups l)) (start_outside l ∷ []) ∙ ap (option_or (fixup_refusal l)) (or-none (start_outside l))
 
 pub refused-fixup : (l : Link) (r : FixRefusal) → fixup_refusal l ≡ Some r → place_refusal l ≡ Some r
 refused-fixup l r e = refusal_is l ∙ ap (λ (o : Option FixRefusal). option_or o (start_outside l)) e

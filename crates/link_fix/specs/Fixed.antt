@@ -1,7 +1,7 @@
 -- Targets, places and frames, where these are a link's places and meanings.
 use Rattle.std.specs.Prelude.{ℕ, List, Option, Some, None}
 use Rattle.std.specs.Option.{option_map, option_and_then, option_map_or}
-use Rattle.std.specs.List.{filter_map}
+use Rattle.std.specs.List.{filter_map, flat_map, enumerate_from}
 use Rattle.obj_types.specs.Items.{item}
 use Rattle.obj_types.specs.declared.object.FixAt.{FixAt}
 use Rattle.obj_types.specs.declared.object.ObjModule.{ObjModule}
@@ -64,3 +64,7 @@ fixup_at p s n m f standing =
 -- The fixups of a module.
 abbrev pub fixups_in : Places → SymbolTable → ℕ → ObjModule → List Fixup
 fixups_in p s n m = filter_map (λ f. fixup_at p s n m f (standing_in m f)) m.fixes
+
+-- The fixups of these modules, which count from 1.
+abbrev pub fixups_by : Places → SymbolTable → List ObjModule → List Fixup
+fixups_by p s ms = flat_map (λ q. fixups_in p s q.0 q.1) (enumerate_from 1 ms)

@@ -1,20 +1,24 @@
 //! The fixups of a link, with what their values need.
 
-ghost use Rattle.std.specs.Prelude.{◌≡◌, ◌++◌, IfOk, OnOk, length, map, not, option_map, option_to_list, sum_by};
-ghost use Rattle.std.specs.List.{flat_map, enumerate_from};
+ghost use Rattle.std.specs.Prelude.{◌≡◌, ◌∷◌, [], IfOk, All, None, Some, length, map, not, option_map, option_to_list, sum_by};
+ghost use Rattle.lx_types.specs.Answers.{Answers};
 ghost use Rattle.obj_types.specs.Items.{item};
 ghost use Rattle.link_model.specs.Words.{option_any};
 ghost use Rattle.link_model.specs.Fixups as rules;
 ghost use Rattle.link_model.specs.Link.{Link};
-ghost use Rattle.link_bytes.specs.Shown.{shown};
-ghost use Rattle.link_fix.specs.Fixed.{fixup_at, fixups_in};
+ghost use Rattle.link_bytes.specs.Bare.{bare};
+ghost use Rattle.link_bytes.specs.Shown.{shown, placed_shown};
+ghost use Rattle.link_bytes.specs.Values.{IsAccepted};
+ghost use Rattle.link_fix.specs.Fixed.{fixup_at, fixups_in, fixups_by};
+ghost use Rattle.link_fix.specs.Judged.{first_refusal, Adds};
 ghost use Rattle.seg_merge.specs.Places.{ArePlaces};
 ghost use Rattle.link_fix.specs.Meanings.{HasMeanings};
+ghost use Rattle.link_fix.specs.Placing.{HasLocations, fixup_refusal};
 
 use crate::goals::{frame_of, location_of, target_of};
-use link_bytes::{Fixup, standings_of};
-use link_model::number;
-use obj_types::{FixAt, NoMemory, ObjModule, Seg};
+use link_bytes::{Fixup, PlacedFixup, refusal_of, standings_of};
+use link_model::{FixRefusal, number};
+use obj_types::{Fail, FixAt, NoMemory, ObjModule, Seg};
 use seg_merge::Places;
 use std::alloc::Global;
 use sym_table::Symbols;
@@ -40,14 +44,14 @@ fn fixup_of(
     object: &ObjModule,
     fix: &FixAt,
     standing: u32,
-) -> Option<Fixup>
-    ensures { option_map shown result ≡ fixup_at places.now syms.now «module» object.now fix.now standing }
+) -> Option<PlacedFixup>
+    ensures { option_map placed_shown result ≡ fixup_at places.now syms.now «module» object.now fix.now standing }
 {
     match (
         target_of(places, syms, module, fix.goal),
         location_of(places, module, fix),
     ) {
-        (Some(target), Some((number, offset))) => Some(Fixup {
+        (Some(target), Some((number, offset))) => Some(PlacedFixup {
             by: module,
             fix: *fix,
             object: number,
@@ -61,7 +65,22 @@ fn fixup_of(
     }
 }
 
-// Adds a fixup, where its goal and its location are there.
+// Adds what is left of a fixup, unless it is refused.
+fn add_accepted(found: &mut Vec<Fixup>, q: &PlacedFixup) -> Result<(), Fail<FixRefusal>>
+    ensures { Answers result
+        (λ _. Adds (placed_shown q.now ∷ []) found.old.items found.new.items)
+        (λ refusal. first_refusal (placed_shown q.now ∷ []) ≡ Some refusal) }
+{
+    match refusal_of(q) {
+        Some(refusal) => Err(Fail::Said(refusal)),
+        None => {
+            found.push(q.bare())?;
+            Ok(())
+        }
+    }
+}
+
+// Adds what is left of a fixup, where its goal and its location are there.
 fn add_fixup(
     found: &mut Vec<Fixup>,
     places: &Places,
@@ -70,17 +89,19 @@ fn add_fixup(
     object: &ObjModule,
     fix: &FixAt,
     standing: u32,
-) -> Result<(), NoMemory>
-    ensures { OnOk result (map shown found.new.items
-        ≡ map shown found.old.items ++ option_to_list (fixup_at places.now syms.now «module» object.now fix.now standing)) }
+) -> Result<(), Fail<FixRefusal>>
+    ensures { Answers result
+        (λ _. Adds (option_to_list (fixup_at places.now syms.now «module» object.now fix.now standing)) found.old.items found.new.items)
+        (λ refusal. first_refusal (option_to_list (fixup_at places.now syms.now «module» object.now fix.now standing)) ≡ Some refusal) }
 {
-    if let Some(q) = fixup_of(places, syms, module, object, fix, standing) {
-        found.push(q)?;
+    match fixup_of(places, syms, module, object, fix, standing) {
+        Some(q) => add_accepted(found, &q),
+        None => Ok(()),
     }
-    Ok(())
 }
 
-// Adds the fixups of a chosen module, in file order, with the numbers that stand in their locations.
+// Adds what is left of the fixups of a chosen module, in file order, with the numbers that stand in their locations. The
+// first refusal ends it.
 fn add_fixups(
     found: &mut Vec<Fixup>,
     places: &Places,
@@ -88,9 +109,11 @@ fn add_fixups(
     module: u32,
     object: &ObjModule,
     numbers: &[u32],
-) -> Result<(), NoMemory>
+) -> Result<(), Fail<FixRefusal>>
     requires { numbers.now ≡ map (rules.standing_in object.now) object.now.fixes }
-    ensures { OnOk result (map shown found.new.items ≡ map shown found.old.items ++ fixups_in places.now syms.now «module» object.now) }
+    ensures { Answers result
+        (λ _. Adds (fixups_in places.now syms.now «module» object.now) found.old.items found.new.items)
+        (λ refusal. first_refusal (fixups_in places.now syms.now «module» object.now) ≡ Some refusal) }
 {
     let fixes = object.fixes.as_slice();
     let mut next = 0;
@@ -109,7 +132,7 @@ fn add_fixups(
     Ok(())
 }
 
-// Adds the fixups of a chosen module.
+// Adds what is left of the fixups of a chosen module.
 fn add_module(
     alloc: Global,
     found: &mut Vec<Fixup>,
@@ -117,12 +140,13 @@ fn add_module(
     syms: &Symbols,
     module: u32,
     object: &ObjModule,
-) -> Result<(), NoMemory>
-    ensures { OnOk result (map shown found.new.items ≡ map shown found.old.items ++ fixups_in places.now syms.now «module» object.now) }
+) -> Result<(), Fail<FixRefusal>>
+    ensures { Answers result
+        (λ _. Adds (fixups_in places.now syms.now «module» object.now) found.old.items found.new.items)
+        (λ refusal. first_refusal (fixups_in places.now syms.now «module» object.now) ≡ Some refusal) }
 {
     let numbers = standings_of(alloc, object)?;
-    add_fixups(found, places, syms, module, object, numbers.as_slice())?;
-    Ok(())
+    add_fixups(found, places, syms, module, object, numbers.as_slice())
 }
 
 // How many fixups these modules have.
@@ -139,15 +163,16 @@ fn count_fixes(modules: &[&ObjModule]) -> Result<usize, NoMemory>
     Ok(count)
 }
 
-// The fixups of these chosen modules.
-pub fn fixups_among(
+// What is left of the fixups of these chosen modules, or the first refusal of one.
+fn fixups_among(
     alloc: Global,
     places: &Places,
     syms: &Symbols,
     modules: &[&ObjModule],
-) -> Result<Vec<Fixup>, NoMemory>
-    ensures { IfOk result (λ found. map shown found.items
-        ≡ flat_map (λ q. fixups_in places.now syms.now q.0 q.1) (enumerate_from 1 (map (λ m. m.now) modules.now))) }
+) -> Result<Vec<Fixup>, Fail<FixRefusal>>
+    ensures { Answers result
+        (λ found. Adds (fixups_by places.now syms.now (map (λ m. m.now) modules.now)) [] found.items)
+        (λ refusal. first_refusal (fixups_by places.now syms.now (map (λ m. m.now) modules.now)) ≡ Some refusal) }
 {
     let mut found = Vec::with_capacity(alloc, count_fixes(modules)?)?;
     for (index, object) in modules.iter().enumerate() {
@@ -156,16 +181,21 @@ pub fn fixups_among(
     Ok(found)
 }
 
-/// All fixups of a link, in chosen order and in file order, where these are its places and its symbols.
+/// What is left of all fixups of a link, in chosen order and in file order, where these are its places and its symbols, or
+/// the first refusal of one.
 pub fn fixups_of(
     alloc: Global,
     places: &Places,
     syms: &Symbols,
     modules: &[&ObjModule],
-) -> Result<Vec<Fixup>, NoMemory>
-    ensures { IfOk result (λ found. (l : Link) → l.modules ≡ map (λ m. m.now) modules.now → ArePlaces l places.now → HasMeanings l syms.now
-        → map shown found.items ≡ rules.fixups l) }
+) -> Result<Vec<Fixup>, Fail<FixRefusal>>
+    requires { All HasLocations (map (λ m. m.now) modules.now) }
+    ensures accepted { IfOk result (λ found. All IsAccepted found.items) }
+    ensures fixups { Answers result
+        (λ found. (l : Link) → l.modules ≡ map (λ m. m.now) modules.now → ArePlaces l places.now → HasMeanings l syms.now
+        → (fixup_refusal l ≡ None) × (map shown found.items ≡ map bare (rules.fixups l)))
+        (λ refusal. (l : Link) → l.modules ≡ map (λ m. m.now) modules.now → ArePlaces l places.now → HasMeanings l syms.now
+        → fixup_refusal l ≡ Some refusal) }
 {
-    let found = fixups_among(alloc, places, syms, modules)?;
-    Ok(found)
+    fixups_among(alloc, places, syms, modules)
 }

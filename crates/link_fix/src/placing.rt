@@ -11,7 +11,7 @@ ghost use Rattle.link_bytes.specs.Placed.{ArePages};
 ghost use Rattle.sym_table.specs.Binding.{IsBound};
 ghost use Rattle.seg_merge.specs.Layout.{IsLaidOut};
 
-use crate::fixups::fixups_among;
+use crate::fixups::fixups_of;
 use crate::pieces::pieces_of;
 use crate::start::start_of;
 use link_bytes::{Pages, place_pages};
@@ -72,9 +72,15 @@ fn pages_of(
         (λ pages. (l : Link) → AreLaid l (map (λ m. m.now) modules.now) syms.now places.now objects.now → (fixup_refusal l ≡ None) × ArePages l pages)
         (λ refusal. (l : Link) → AreLaid l (map (λ m. m.now) modules.now) syms.now places.now objects.now → fixup_refusal l ≡ Some refusal) }
 {
-    let fixups = fixups_among(alloc, places, syms, modules)?;
-    let pieces = pieces_of(alloc, places, modules)?;
-    place_pages(alloc, pieces.as_slice(), fixups, objects, syms.imports())
+    match fixups_of(alloc, places, syms, modules) {
+        Err(fail) => Err(fail),
+        Ok(fixups) => {
+            let pieces = pieces_of(alloc, places, modules)?;
+            let pieces = pieces.as_slice();
+            let pages = place_pages(alloc, pieces, fixups, objects, syms.imports())?;
+            Ok(pages)
+        }
+    }
 }
 
 /// What the link of these modules puts into its pages, where these are its symbols, its places and its objects, and
