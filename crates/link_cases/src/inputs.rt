@@ -1,9 +1,12 @@
 //! Fixups on small links.
 
-use link_bytes::{Fixup, Pages, PlacedPiece, Target, have_bytes, place_pages};
+ghost use Rattle.std.specs.Prelude.{All, IfOk, IfSome};
+ghost use Rattle.link_bytes.specs.Values.{IsAccepted};
+
+use link_bytes::{Fixup, Pages, PlacedFixup, PlacedPiece, Target, place_pages, refusal_of};
 use link_model::LaidObject;
-use lx_types::{Fail, Fix, Name, NoMemory};
-use obj_types::{FixAt, Frame, Goal, Imp};
+use lx_types::{Fix, Name, NoMemory};
+use obj_types::{FixAt, Frame, Goal, Imp, location_len};
 use std::alloc::Global;
 
 pub fn name(alloc: Global, text: &[u8]) -> Result<Name, NoMemory> {
@@ -26,8 +29,8 @@ pub fn fix_at(loc: u8, offset: u32) -> FixAt {
 }
 
 /// A segment-relative fixup in object 1, of module 1 and a 32-bit segment.
-pub fn fixup(loc: u8, offset: u32, target: Target) -> Fixup {
-    Fixup {
+pub fn fixup(loc: u8, offset: u32, target: Target) -> PlacedFixup {
+    PlacedFixup {
         by: 1,
         fix: fix_at(loc, offset),
         object: 1,
@@ -39,7 +42,7 @@ pub fn fixup(loc: u8, offset: u32, target: Target) -> Fixup {
     }
 }
 
-pub fn self_relative(loc: u8, offset: u32, target: Target) -> Fixup {
+pub fn self_relative(loc: u8, offset: u32, target: Target) -> PlacedFixup {
     let mut q = fixup(loc, offset, target);
     q.fix.selfrel = true;
     q
@@ -58,22 +61,44 @@ pub fn object(size: u32) -> LaidObject {
     }
 }
 
+// What is left of a fixup, where it is not refused and stands on a location that there is.
+fn accepted_one(q: &PlacedFixup) -> Option<Fixup>
+    ensures { IfSome result IsAccepted }
+{
+    if location_len(q.fix.loc) == 0 {
+        return None;
+    }
+    match refusal_of(q) {
+        Some(_) => None,
+        None => Some(q.bare()),
+    }
+}
+
+// What is left of these fixups, where each is accepted.
+fn accepted(alloc: Global, fixups: &[PlacedFixup]) -> Result<Option<Vec<Fixup>>, NoMemory>
+    ensures { IfOk result (λ kept. IfSome kept (λ left. All IsAccepted left.items)) }
+{
+    let mut left = Vec::new(alloc);
+    for q in fixups {
+        match accepted_one(q) {
+            None => return Ok(None),
+            Some(kept) => left.push(kept)?,
+        }
+    }
+    Ok(Some(left))
+}
+
 /// The pages, where no fixup is refused.
 pub fn pages(
     alloc: Global,
     pieces: &[PlacedPiece<'_>],
-    fixups: &[Fixup],
+    fixups: &[PlacedFixup],
     objects: &[LaidObject],
     imports: &[Imp],
 ) -> Result<Option<Pages>, NoMemory> {
-    if !have_bytes(fixups) {
-        return Ok(None);
-    }
-    let fixups = Vec::from_slice(alloc, fixups)?;
-    match place_pages(alloc, pieces, fixups, objects, imports) {
-        Ok(pages) => Ok(Some(pages)),
-        Err(Fail::Said(_)) => Ok(None),
-        Err(Fail::NoMemory) => Err(NoMemory),
+    match accepted(alloc, fixups)? {
+        None => Ok(None),
+        Some(left) => Ok(Some(place_pages(alloc, pieces, left, objects, imports)?)),
     }
 }
 

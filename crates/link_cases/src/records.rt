@@ -1,7 +1,7 @@
 //! Records that are left to the loader.
 
 use crate::inputs::{fixup, name, object, own, pages, record, self_relative};
-use link_bytes::{Fixup, Pages, Target};
+use link_bytes::{Pages, PlacedFixup, Target};
 use lx_types::{EntryKey, Fix, FixTarget, NoMemory, Source};
 use obj_types::{Imp, Seq};
 use std::alloc::Global;
@@ -130,7 +130,7 @@ fn imports(alloc: Global) -> Result<Seq<Imp>, NoMemory> {
     Ok(list)
 }
 
-fn used(slot: u32, offset: u32) -> Fixup {
+fn used(slot: u32, offset: u32) -> PlacedFixup {
     let mut q = fixup(9, offset, Target::Entry { slot });
     q.standing = 0xFFFF_FFFF;
     q.fix.disp = 5;

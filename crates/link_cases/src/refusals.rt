@@ -1,11 +1,11 @@
 //! Fixups and starts that are refused.
 
-use crate::inputs::{fix_at, fixup, object, own, self_relative};
-use link_bytes::{Fixup, Target, first_refusal, refusal_of, start_place};
+use crate::inputs::{fixup, object, own, self_relative};
+use link_bytes::{PlacedFixup, Target, refusal_of, start_place};
 use link_model::FixRefusal;
 use obj_types::{Frame, Goal, StartAt};
 
-fn is_far(q: &Fixup) -> bool {
+fn is_far(q: &PlacedFixup) -> bool {
     matches!(
         refusal_of(q),
         Some(FixRefusal::FarSelf {
@@ -16,7 +16,7 @@ fn is_far(q: &Fixup) -> bool {
     )
 }
 
-fn far_byte(target: u32) -> Fixup {
+fn far_byte(target: u32) -> PlacedFixup {
     self_relative(0, 200, own(target))
 }
 
@@ -59,23 +59,21 @@ fn a_frame_of_another_object_is_apart(rt: HostRuntime) {
     assert!(rt; refusal_of(&wide).is_none());
 }
 
+fn is_const_selector(q: &PlacedFixup, at: u32) -> bool {
+    refusal_of(q)
+        == Some(FixRefusal::ConstSelector {
+            module: 1,
+            seg: 1,
+            offset: at,
+        })
+}
+
 #[test]
-fn the_first_refusal_is_answered(rt: HostRuntime) {
+fn a_number_has_no_selector(rt: HostRuntime) {
     let number = Target::Constant { value: 9 };
-    let fixups = [
-        fixup(9, 0, number),
-        fixup(2, 8, number),
-        fixup(11, 12, number),
-    ];
-    assert!(rt;
-        first_refusal(&fixups)
-            == Some(FixRefusal::ConstSelector {
-                module: 1,
-                seg: 1,
-                offset: 8
-            })
-    );
-    assert!(rt; fix_at(2, 8).offset == 8);
+    assert!(rt; refusal_of(&fixup(9, 0, number)).is_none());
+    assert!(rt; is_const_selector(&fixup(2, 8, number), 8));
+    assert!(rt; is_const_selector(&fixup(11, 12, number), 12));
 }
 
 fn start(disp: u32) -> StartAt {
