@@ -5,5 +5,5 @@ use Rattle.gen_core.proofs.fixing.sum_of.Goals as goal
 
 pub returns-clause-sum : goal.returns-clause-sum
 returns-clause-sum g c =
-    let bytes : c.deref.result.now ≡ box_value c.page.result = search rules in
-    c.sum_of_page.ensures ∙ ap (λ (b : List ℕ). total (page_words (slice_index b))) (bytes ∙ c.page.ensures.bytes)
+    let bytes : c.deref.result.now ≡ box_value c.page-page.result = search rules in
+    c.sum_of_page.ensures ∙ ap (λ (b : List ℕ). total (page_words (slice_index b))) (bytes ∙ c.page-page.ensures.bytes)

@@ -10,7 +10,7 @@ sum_of_module-requires-clause-few g c = few_objects c.args.lib.now c.loop-module
 pub loop-module-preserved : goal.loop-module-preserved
 loop-module-preserved g c =
     let m = c.loop-module.«module» in
-    total_further (module_words c.args.lib.now c.args.bases.now) 0 m m c.loop-module.sum c.in_ok-sum_of_module.field-0 (zero-add m) c.loop-module.invariant c.in_ok-sum_of_module.ensures
+    total_further (module_words c.args.lib.now c.args.bases.now) 0 m m c.loop-module.sum c.in_ok-sum.field-0 (zero-add m) c.loop-module.invariant c.in_ok-sum.ensures
 
 pub returns : goal.returns
 returns g c =
