@@ -5,7 +5,8 @@ Usage: bench.py [--scale N] [--against FILE] [--save FILE] [--only WORD] LX
 
     LX              the program as built
     --scale N       a factor for all sizes, 1 by default
-    --against FILE  prints beside each size its seconds and its memory as parts of those in FILE, a baseline
+    --against FILE  prints beside each size its seconds and its memory as parts of those in FILE, a baseline; or of those of FILE, where
+                    that is a program: then each command is run by both in turn, three times, and the least counts
     --save FILE     writes what was measured to FILE as a baseline
     --only WORD     only the rows whose name has this word
 
@@ -63,21 +64,22 @@ def with_fixups(count):
     return out + record(0x8A, b"\0")
 
 
-def with_data(count):
-    """An object file of so many bytes of data that do not repeat, 1,000 in each data record."""
-    data = random.Random(count).randbytes(count)
+def with_data(count, zeros=False):
+    """An object file of so many bytes of data, 1,000 in each data record: zeros, or bytes that do not repeat."""
+    data = bytes(count) if zeros else random.Random(count).randbytes(count)
     rows = [record(0xA1, b"\1" + struct.pack("<I", at) + data[at : at + 1000]) for at in range(0, count, 1000)]
     return begun("data", count, [], []) + b"".join(rows) + record(0x8A, b"\0")
 
 
-def with_names(number, count, others):
-    """An object file that defines names and calls those of the file before it, 250 in each data record."""
+def with_names(number, count, others, calls=1):
+    """An object file that defines names and calls those of the file before it so many times each, 200 in each data record."""
     wanted = ["f%d_%d" % ((number - 1) % others, k) for k in range(count)]
-    out = begun("m%d" % number, 5 * count, [("f%d_%d" % (number, k), 5 * k) for k in range(count)], wanted)
-    for first in range(0, count, 200):
-        here = range(first, min(first + 200, count))
+    out = begun("m%d" % number, 5 * count * calls, [("f%d_%d" % (number, k), 5 * k) for k in range(count)], wanted)
+    for first in range(0, count * calls, 200):
+        here = range(first, min(first + 200, count * calls))
         out += record(0xA1, b"\1" + struct.pack("<I", 5 * first) + b"\xE8\0\0\0\0" * len(here))
-        rows = b"".join(bytes([0xA4 | (5 * (k - first) + 1) >> 8, 5 * (k - first) + 1 & 0xFF, 0x56]) + index(k + 1) for k in here)
+        places = [5 * (k - first) + 1 for k in here]
+        rows = b"".join(bytes([0xA4 | at >> 8, at & 0xFF, 0x56]) + index(k % count + 1) for at, k in zip(places, here))
         out += record(0x9D, rows)
     return out + record(0x8A, b"\0")
 
@@ -140,7 +142,7 @@ def prepared(prepare, folder, size):
 
 
 class Table:
-    """What is measured, a line a size, beside a baseline."""
+    """What is measured, a line a size, beside a baseline or another program."""
 
     def __init__(self, options):
         self.options = options
@@ -149,26 +151,38 @@ class Table:
 
     def head(self):
         columns = "%-44s %9s %9s %8s %6s" % ("what", "size", "seconds", "MiB", "ratio")
-        print(columns + ("  time memory, of the baseline" if self.before else ""))
+        print(columns + ("  time memory, as parts of the other's" if self.before or self.options.other else ""))
 
-    def against(self, what, size, seconds, memory):
-        if not self.before:
+    def measured(self, command, folder):
+        """The seconds and the MiB of a command, and those that it is compared with, where there are any."""
+        if not self.options.other:
+            return run(command, folder), None
+        both = {}
+        for _ in range(3):
+            for lx in (self.options.lx, self.options.other):
+                both.setdefault(lx, []).append(run([lx] + command[1:], folder))
+        least = [tuple(min(column) for column in zip(*both[lx])) for lx in (self.options.lx, self.options.other)]
+        return least[0], least[1]
+
+    def against(self, what, size, now, other):
+        if self.before:
+            other = self.before["rows"].get(what, {}).get(str(size))
+        elif not self.options.other:
             return ""
-        was = self.before["rows"].get(what, {}).get(str(size))
-        return "    new" if was is None else "%6.2f %6.2f" % (seconds / was[0], memory / was[1])
+        return "    new" if other is None else "%6.2f %6.2f" % (now[0] / other[0], now[1] / other[1])
 
-    def row(self, what, first, prepare):
+    def row(self, what, first, prepare, factors=(1, 2, 4, 8)):
         if self.options.only not in what:
             return
         last = None
-        for size in [max(1, int(first * self.options.scale)) * k for k in (1, 2, 4, 8)]:
+        for size in [max(1, int(first * self.options.scale)) * k for k in factors]:
             with tempfile.TemporaryDirectory() as folder:
-                seconds, memory = run(prepared(prepare, folder, size), folder)
-            ratio = "" if last is None else "%6.2f" % (seconds / last)
-            beside = self.against(what, size, seconds, memory)
-            print(("%-44s %9d %9.3f %8.1f %6s%s" % (what, size, seconds, memory, ratio, beside)).rstrip(), flush=True)
-            self.rows.setdefault(what, {})[str(size)] = [round(seconds, 4), round(memory, 1)]
-            last = seconds
+                now, other = self.measured(prepared(prepare, folder, size), folder)
+            ratio = "" if last is None else "%6.2f" % (now[0] / last)
+            beside = self.against(what, size, now, other)
+            print(("%-44s %9d %9.3f %8.1f %6s%s" % (what, size, *now, ratio, beside)).rstrip(), flush=True)
+            self.rows.setdefault(what, {})[str(size)] = [round(now[0], 4), round(now[1], 1)]
+            last = now[0]
 
     def save(self, path):
         told = {"machine": "%s, %d processors" % (platform.machine(), os.cpu_count() or 0), "date": time.strftime("%Y-%m-%d")}
@@ -187,7 +201,7 @@ class Options:
     """The words of the command line."""
 
     def __init__(self, words):
-        self.scale, self.only, self.against, self.save, self.lx = 1.0, "", None, None, None
+        self.scale, self.only, self.against, self.other, self.save, self.lx = 1.0, "", None, None, None, None
         words = list(words)
         while words:
             word = words.pop(0)
@@ -210,6 +224,8 @@ class Options:
             self.scale = float(value)
             if not 0 < self.scale <= 1000:
                 raise ValueError("--scale wants a number above 0")
+        elif word == "--against" and os.access(value, os.X_OK) and not os.path.isdir(value):
+            self.other = os.path.realpath(value)
         elif word == "--against":
             with open(value, encoding="utf-8") as file:
                 self.against = json.load(file)
@@ -237,6 +253,26 @@ def measure(options):
         put(folder, "lib.def", b"LIBRARY\n")
         names = [put(folder, "m%d.obj" % k, with_names(k, size, 8)) for k in range(8)]
         return [lx, "link", "out.dll", "lib.def"] + names
+
+    def large(folder, size):
+        put(folder, "lib.def", b"LIBRARY\n")
+        names = [put(folder, "m%d.obj" % k, with_names(k, 1_000, size, 4)) for k in range(size)]
+        return [lx, "link", "out.dll", "lib.def"] + names
+
+    def data(folder, size):
+        put(folder, "lib.def", b"LIBRARY\n")
+        return [lx, "link", "out.dll", "lib.def", put(folder, "a.obj", with_data(size))]
+
+    def zeros(folder, size):
+        put(folder, "lib.def", b"LIBRARY\n")
+        return [lx, "link", "out.dll", "lib.def", put(folder, "a.obj", with_data(size, zeros=True))]
+
+    def generated(folder, size):
+        return [lx, "gen", str(size), "g"]
+
+    def generated_run(folder, size):
+        run(generated(folder, size), folder)
+        return [lx, "run", "g.ses"]
 
     def exports(folder, size):
         lines = "".join("  f%d @%d\n" % (k, k + 1) for k in range(size))
@@ -267,14 +303,21 @@ def measure(options):
     table = Table(options)
     table.head()
     table.row("link: fixups of one object file", 100_000, fixups)
+    table.row("link: 786,432 fixups of one object file", 786_432, fixups, (1,))
+    table.row("link: files of 1,000 names, 4,000 fixups", 1, large, (1, 2, 4, 8, 16, 32, 64))
     table.row("link: object files of 50 names each", 100, objects)
     table.row("link: publics and externals of 8 files", 2_000, publics)
     table.row("link: exports through an import library", 4_000, import_library)
     table.row("implib: exports of a definition file", 4_000, exports)
     table.row("image: fixups of one object file", 20_000, image)
+    table.row("image: 786,432 fixups of one object file", 786_432, image, (1,))
     table.row("image: bytes of one object file", 2_000_000, image_of_data)
+    table.row("link: bytes of one object file", 6_000_000, data, (1,))
+    table.row("link: bytes of zeros", 6_000_000, zeros, (1,))
     table.row("dump: fixups of a module, 15 on a page", 125_000, dump)
     table.row("map: publics and externals of 8 files", 2_000, link_map)
+    table.row("gen: modules", 8, generated)
+    table.row("run: the session of generated modules", 8, generated_run)
     if options.save:
         table.save(options.save)
 
