@@ -114,7 +114,8 @@ impl View {
     }
 
     /// Reads bytes of code or of the process's own data, with its own writes, into a buffer that is as long as the place. A
-    /// refusal leaves the buffer as it was. It takes no memory, and no more time than the copying.
+    /// refusal leaves the buffer as it was. It takes no memory. Beside the copying it looks up the module by its name, its
+    /// residence and each page.
     #[tactic(auto, unfolding(load_model::specs::ViewAnswers::view_refusal))]
     pub fn peek(&self, place: &Place, into: &mut [u8]) -> Result<(), Refusal>
         requires { length into.old ≡ place.now.len }
