@@ -118,11 +118,14 @@ def run(command, folder):
     """The seconds and the peak memory in MiB of a command, which has to end with 0."""
     begin = time.monotonic()
     child = subprocess.Popen(command, cwd=folder, stdout=subprocess.PIPE)
-    put = child.stdout.read()
+    put = child.stdout.read(200)
+    # (a long text that was kept would count in the peak of each later command)
+    while child.stdout.read(1 << 16):
+        pass
     _, status, usage = os.wait4(child.pid, 0)
     seconds = time.monotonic() - begin
     if status:
-        sys.exit("%s ended with %d: %s" % (" ".join(command[1:4]), os.waitstatus_to_exitcode(status), put[:200]))
+        sys.exit("%s ended with %d: %s" % (" ".join(command[1:4]), os.waitstatus_to_exitcode(status), put))
     return seconds, usage.ru_maxrss / 1024
 
 
