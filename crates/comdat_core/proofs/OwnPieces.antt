@@ -8,10 +8,10 @@ use Rattle.std.proofs.Math.ListN.{get_or}
 use Rattle.std.proofs.lemmas.List.{take_all}
 use Rattle.obj_types.specs.declared.object.Piece.{Piece}
 use Rattle.obj_types.specs.Data.{covers}
-use Rattle.link_bytes.specs.declared.images.Images.{Images}
-use Rattle.link_bytes.specs.Images.{byte_of, byte_after}
-use Rattle.link_bytes.specs.Pieces.{of_pieces}
-use Rattle.link_bytes.proofs.PaintedPieces.{reverse-more}
+use Rattle.link_fix.specs.declared.images.Images.{Images}
+use Rattle.link_fix.specs.Images.{byte_of, byte_after}
+use Rattle.link_fix.specs.Pieces.{of_pieces}
+use Rattle.link_fix.proofs.PaintedPieces.{reverse-more}
 use Rattle.link_model.specs.Clash as rules
 use Rattle.comdat_core.specs.declared.taking.Owned.{Owned}
 use Rattle.comdat_core.specs.Taking.{shown}

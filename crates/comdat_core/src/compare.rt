@@ -6,7 +6,7 @@ ghost use Rattle.link_model.specs.Clash as rules;
 ghost use Rattle.comdat_core.specs.Taking.{shown};
 
 use crate::taking::Owned;
-use link_bytes::Images;
+use link_fix::Images;
 use lx_types::NoMemory;
 use obj_types::Selection;
 use std::alloc::Global;

@@ -12,7 +12,7 @@ use Rattle.link_model.specs.declared.symbols.LaidObject.{LaidObject}
 use Rattle.lx_model.specs.Fixed.{Fixed}
 use Rattle.lx_model.specs.ModuleBytes.{FixedByte, fixed_page}
 use Rattle.image_model.specs.LinkLaws.{laid}
-use Rattle.link_bytes.proofs.NumberedLists.{numbered-more}
+use Rattle.link_fix.proofs.NumberedLists.{numbered-more}
 
 -- ---- ranges
 

@@ -1,9 +1,9 @@
 //! Fixups on small links.
 
 ghost use Rattle.std.specs.Prelude.{All, IfOk, IfSome};
-ghost use Rattle.link_bytes.specs.Values.{IsAccepted};
+ghost use Rattle.link_fix.specs.Values.{IsAccepted};
 
-use link_bytes::{Fixup, Pages, PlacedFixup, PlacedPiece, Target, place_pages, refusal_of};
+use link_fix::{Fixup, Pages, PlacedFixup, PlacedPiece, Target, place_pages, refusal_of};
 use link_model::LaidObject;
 use lx_types::{Fix, Name, NoMemory};
 use obj_types::{FixAt, Frame, Goal, Imp, location_len};

@@ -1,7 +1,7 @@
 //! Records that are left to the loader.
 
 use crate::inputs::{fixup, name, object, own, pages, record, self_relative};
-use link_bytes::{Pages, PlacedFixup, Target};
+use link_fix::{Pages, PlacedFixup, Target};
 use lx_types::{EntryKey, Fix, FixTarget, NoMemory, Source};
 use obj_types::{Imp, Seq};
 use std::alloc::Global;

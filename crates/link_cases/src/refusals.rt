@@ -1,7 +1,7 @@
 //! Fixups and starts that are refused.
 
 use crate::inputs::{fixup, object, own, self_relative};
-use link_bytes::{PlacedFixup, Target, refusal_of, start_place};
+use link_fix::{PlacedFixup, Target, refusal_of, start_place};
 use link_model::FixRefusal;
 use obj_types::{Frame, Goal, StartAt};
 

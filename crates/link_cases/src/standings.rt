@@ -1,7 +1,7 @@
 //! Numbers that stand in locations.
 
 use crate::inputs::fix_at;
-use link_bytes::standings_of;
+use link_fix::standings_of;
 use lx_types::NoMemory;
 use obj_types::{FixAt, ObjModule, ObjParts, Piece, Seq};
 use std::alloc::Global;

@@ -1,7 +1,7 @@
 //! Values that are patched, and zeros under records.
 
 use crate::inputs::{begins_with, fixup, object, own, pages, record, self_relative};
-use link_bytes::{PlacedPiece, Target};
+use link_fix::{PlacedPiece, Target};
 use lx_types::NoMemory;
 
 #[test]

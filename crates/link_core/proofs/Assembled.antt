@@ -42,8 +42,8 @@ use Rattle.sym_table.specs.Binding.{IsBound, IsRefused}
 use Rattle.seg_merge.specs.declared.layout.Layout.{Layout}
 use Rattle.seg_merge.specs.Layout.{IsLaidOut}
 use Rattle.seg_merge.specs.Places.{ArePlaces}
-use Rattle.link_fix.specs.declared.placing.Placed.{Placed}
-use Rattle.link_fix.specs.Placing.{ArePlaced}
+use Rattle.link_place.specs.declared.placing.Placed.{Placed}
+use Rattle.link_place.specs.Placing.{ArePlaced}
 use Rattle.link_core.specs.declared.image.LinkTables.{LinkTables}
 use Rattle.link_core.specs.declared.planning.Plan.{Plan}
 use Rattle.link_core.specs.Parts.{AreTables, HasParts}

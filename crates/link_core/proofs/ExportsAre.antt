@@ -45,8 +45,8 @@ use Rattle.sym_table.specs.Meanings.{global_in}
 use Rattle.sym_table.specs.Binding.{AreSymbolsOf}
 use Rattle.seg_merge.specs.declared.places.Places.{Places}
 use Rattle.seg_merge.specs.Places.{ArePlaces}
-use Rattle.link_fix.specs.Fixed.{symbol_at}
-use Rattle.link_bytes.specs.Tables.{pair_among}
+use Rattle.link_place.specs.Fixed.{symbol_at}
+use Rattle.link_fix.specs.Tables.{pair_among}
 use Rattle.link_core.specs.Exports.{lead_in, pair_in, forward_among, wide_among, entry_with, entry_to, entry_in, entries_in}
 use Rattle.link_core.specs.Parts.{all_pairs}
 use Rattle.link_core.proofs.ObjectsThere.{IsThere}

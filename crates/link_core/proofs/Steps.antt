@@ -12,9 +12,9 @@ use Rattle.obj_types.specs.declared.symbol.Imp.{Imp}
 use Rattle.lx_types.specs.Names.{uppercase}
 use Rattle.link_model.specs.Appearance.{firsts}
 use Rattle.link_model.specs.ImportTables.{modules_in, procs_in, proc_name, name_offset}
-use Rattle.link_bytes.specs.declared.tables.FirstNames.{FirstNames}
-use Rattle.link_bytes.specs.declared.tables.ImportTables.{ImportTables}
-use Rattle.link_bytes.specs.Tables.{AreFirst, ArePairs}
+use Rattle.link_fix.specs.declared.tables.FirstNames.{FirstNames}
+use Rattle.link_fix.specs.declared.tables.ImportTables.{ImportTables}
+use Rattle.link_fix.specs.Tables.{AreFirst, ArePairs}
 use Rattle.link_core.specs.Exports.{offsets_of}
 use Rattle.link_core.proofs.FewImports.{firsts-again}
 

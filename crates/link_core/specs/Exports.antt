@@ -19,8 +19,8 @@ use Rattle.lx_exports.specs.declared.exports.OutEntry.{OutEntry}
 use Rattle.sym_table.specs.Symbols.{SymbolTable}
 use Rattle.sym_table.specs.Meanings.{global_in}
 use Rattle.seg_merge.specs.declared.places.Places.{Places}
-use Rattle.link_fix.specs.Fixed.{symbol_at}
-use Rattle.link_bytes.specs.Tables.{pair_among}
+use Rattle.link_place.specs.Fixed.{symbol_at}
+use Rattle.link_fix.specs.Tables.{pair_among}
 
 -- The exports: EXPDEF records of these modules in order, then EXPORTS.
 abbrev pub exports_of : List ObjModule → DefFile → List Exp

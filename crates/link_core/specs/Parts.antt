@@ -11,7 +11,7 @@ use Rattle.link_model.specs.ImportTables.{modules_in, procs_in}
 use Rattle.lx_write.specs.declared.image.Image.{Image}
 use Rattle.sym_table.specs.Symbols.{SymbolTable}
 use Rattle.seg_merge.specs.declared.places.Places.{Places}
-use Rattle.link_fix.specs.declared.placing.Placed.{Placed}
+use Rattle.link_place.specs.declared.placing.Placed.{Placed}
 use Rattle.link_core.specs.Exports.{pair_in, entries_in}
 use Rattle.link_core.specs.Ranges.{HasRange}
 use Rattle.link_core.specs.declared.image.LinkTables.{LinkTables}

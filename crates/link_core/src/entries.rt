@@ -7,12 +7,12 @@ ghost use Rattle.obj_types.specs.declared.symbol.Imp.{Imp};
 ghost use Rattle.link_model.specs.ImportTables.{procs_in, with_offset};
 ghost use Rattle.image_model.specs.Exported.{forwarder_to};
 ghost use Rattle.lx_write.specs.Offsets.{NameIsThere};
-ghost use Rattle.link_bytes.specs.Shown.{target_shown};
-ghost use Rattle.link_bytes.specs.Tables.{ArePairs};
+ghost use Rattle.link_fix.specs.Shown.{target_shown};
+ghost use Rattle.link_fix.specs.Tables.{ArePairs};
 ghost use Rattle.link_core.specs.Exports.{offsets_of, forward_among, head_among, wide_among, entry_with, entry_to, entry_in, entries_in};
 
 use crate::exports::lead_of;
-use link_bytes::{ImportTables, Target};
+use link_fix::{ImportTables, Target};
 use link_model::LaidObject;
 use lx_exports::OutEntry;
 use lx_types::{EntryHead, FixTarget, FwdKey, NoMemory, OBJECT_BIG, Seq};

@@ -1,11 +1,11 @@
 //! The exports of a link, and where each leads.
 
 ghost use Rattle.std.specs.Prelude.{◌≡◌, ◌++◌, IfOk, OnOk, map, option_map, option_copied};
-ghost use Rattle.link_bytes.specs.Shown.{target_shown};
+ghost use Rattle.link_fix.specs.Shown.{target_shown};
 ghost use Rattle.link_core.specs.Exports as rules;
 
-use link_bytes::{Target, pair_of};
-use link_fix::of_symbol;
+use link_fix::{Target, pair_of};
+use link_place::of_symbol;
 use obj_types::{Exp, Imp, LinkInput, NoMemory, ObjModule};
 use seg_merge::Places;
 use std::alloc::Global;

@@ -10,7 +10,7 @@ ghost use Rattle.link_model.specs.Link.{link_of};
 ghost use Rattle.link_model.specs.Refusal.{place_refusal, link_refusal};
 ghost use Rattle.sym_table.specs.Binding.{IsBound};
 ghost use Rattle.seg_merge.specs.Layout.{IsLaidOut};
-ghost use Rattle.link_fix.specs.Placing.{ArePlaced};
+ghost use Rattle.link_place.specs.Placing.{ArePlaced};
 ghost use Rattle.link_core.specs.Links.{RefusesLink};
 ghost use Rattle.link_core.specs.Planned.{IsPlanOf, IsPlanned};
 
@@ -18,8 +18,8 @@ use crate::auto::auto_of;
 use crate::failing::{comdat_failed, lay_failed, place_failed, sym_failed};
 use crate::image::{image_of, tables_of};
 use comdat_core::judge;
-use link_fix::{Placed, place_fixes};
 use link_model::{LinkRefusal, modules_at};
+use link_place::{Placed, place_fixes};
 use lx_types::NoMemory;
 use lx_write::Image;
 use obj_types::{Fail, LinkInput};

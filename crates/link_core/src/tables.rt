@@ -6,11 +6,11 @@ ghost use Rattle.std.specs.List.{filter_map};
 ghost use Rattle.obj_types.specs.declared.symbol.Imp.{Imp};
 ghost use Rattle.link_model.specs.Appearance.{firsts};
 ghost use Rattle.link_model.specs.ImportTables.{modules_in, procs_in};
-ghost use Rattle.link_bytes.specs.Tables.{AreFirst, ArePairs};
+ghost use Rattle.link_fix.specs.Tables.{AreFirst, ArePairs};
 ghost use Rattle.link_core.specs.Exports.{pair_in};
 
 use crate::exports::forwarded;
-use link_bytes::{FirstNames, ImportTables};
+use link_fix::{FirstNames, ImportTables};
 use lx_types::{Name, NoMemory};
 use obj_types::Exp;
 use seg_merge::Places;

@@ -1,5 +1,11 @@
-pub mod Meanings
-pub mod Fixed
-pub mod Judged
-pub mod PlacedData
-pub mod Placing
+pub mod Shown
+pub mod Bare
+pub mod Images
+pub mod Values
+pub mod Standing
+pub mod Pieces
+pub mod Marks
+pub mod Tables
+pub mod Paging
+pub mod Placed
+pub mod Start

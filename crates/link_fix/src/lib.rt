@@ -1,16 +1,27 @@
-//! Fixups, data and the start of a link at their places: from what modules say to what its pages need.
+//! The bytes of a link's objects before the loader, and the fixups that are left to it.
 #![tactic(auto)]
 
-mod fixups;
-mod goals;
-mod laws;
-mod pieces;
-mod placing;
+mod fixup;
+mod images;
+mod location;
+mod marks;
+mod pages;
+mod paging;
+mod painting;
+mod refusal;
+mod standing;
 mod start;
+mod tables;
+mod values;
 
-pub use fixups::fixups_of;
-pub use goals::{frame_of, location_of, of_symbol, target_of};
-pub use laws::symbols_have_meanings;
-pub use pieces::pieces_of;
-pub use placing::{Placed, place_at, place_fixes};
-pub use start::start_of;
+pub use fixup::{Fixup, PlacedFixup, Target};
+pub use images::Images;
+pub use marks::live_of;
+pub use pages::{Pages, place_pages};
+pub use paging::{PageFixes, object_fixes, page_fixes};
+pub use painting::{PlacedPiece, object_rows, paint_fields, placed_data};
+pub use refusal::refusal_of;
+pub use standing::standings_of;
+pub use start::start_place;
+pub use tables::{FirstNames, ImportTables, pair_of, tables_of};
+pub use values::{field_of, is_patched};

@@ -1,67 +1,50 @@
-//! The start of a link.
+//! The start of a linked module.
 
-ghost use Rattle.std.specs.Prelude.{◌≡◌, None, Some, IfOk, map, MatchResult, option_and_then};
-ghost use Rattle.std.specs.List.{enumerate_from};
-ghost use Rattle.link_model.specs.Words.{first_of};
+ghost use Rattle.std.specs.Prelude.{◌≡◌};
 ghost use Rattle.link_model.specs.Link.{Link};
 ghost use Rattle.link_model.specs.Layout as layout;
-ghost use Rattle.link_model.specs.Start as rules;
-ghost use Rattle.seg_merge.specs.Places.{ArePlaces};
-ghost use Rattle.link_fix.specs.Meanings.{HasMeanings};
+ghost use Rattle.link_model.specs.Start as start_rules;
+ghost use Rattle.link_fix.specs.Shown.{target_shown};
+ghost use Rattle.link_fix.specs.Start.{is_among, start_among};
 
-use crate::goals::target_of;
-use link_bytes::start_place;
-use link_model::{FixRefusal, LaidObject, number};
-use obj_types::{NoMemory, ObjModule, StartAt};
-use seg_merge::Places;
-use sym_table::Symbols;
+use crate::fixup::Target;
+use link_model::LaidObject;
+use obj_types::StartAt;
 
-// The start address of the first chosen module that has one, with the module's number.
-fn first_start(modules: &[&ObjModule]) -> Result<Option<(u32, StartAt)>, NoMemory>
-    ensures { IfOk result (λ first. first ≡ first_of (map rules.start_of (enumerate_from 1 (map (λ m. m.now) modules.now)))) }
+// Whether an offset lies below the size of its object.
+fn is_in_object(objects: &[LaidObject], place: (u32, u32)) -> bool
+    ensures { result ≡ is_among objects.now place }
 {
-    for (index, object) in modules.iter().enumerate() {
-        if let Some(start) = object.start {
-            return Ok(Some((number(index + 1)?, start)));
-        }
-    }
-    Ok(None)
-}
-
-// The place of a module's start address.
-fn place_of(
-    places: &Places,
-    syms: &Symbols,
-    objects: &[LaidObject],
-    module: u32,
-    start: &StartAt,
-) -> Option<(u32, u32)>
-    ensures { (l : Link) → objects.now ≡ layout.objects l → ArePlaces l places.now → HasMeanings l syms.now →
-        result ≡ rules.place_of_start l («module», start.now) }
-{
-    match target_of(places, syms, module, start.goal) {
-        None => None,
-        Some(target) => start_place(objects, start, target),
-    }
-}
-
-/// The object and the offset at which the linked module starts. `StartOutside` comes exactly where the first start
-/// address of the chosen modules is in no object, or not below its object's size.
-pub fn start_of(
-    places: &Places,
-    syms: &Symbols,
-    objects: &[LaidObject],
-    modules: &[&ObjModule],
-) -> Result<Result<Option<(u32, u32)>, FixRefusal>, NoMemory>
-    ensures { IfOk result (λ start. (l : Link) → l.modules ≡ map (λ m. m.now) modules.now → objects.now ≡ layout.objects l → ArePlaces l places.now →
-        HasMeanings l syms.now
-        → MatchResult start (λ place. (place ≡ rules.Start l) × (rules.start_outside l ≡ None)) (λ refusal. rules.start_outside l ≡ Some refusal)) }
-{
-    match first_start(modules)? {
-        None => Ok(Ok(None)),
-        Some((module, start)) => match place_of(places, syms, objects, module, &start) {
-            Some(place) => Ok(Ok(Some(place))),
-            None => Ok(Err(FixRefusal::StartOutside { module })),
+    match place.0.checked_sub(1) {
+        None => false,
+        Some(index) => match objects.get(index as usize) {
+            None => false,
+            Some(object) => place.1 < object.size,
         },
     }
+}
+
+// The place of a start address whose target is known.
+fn place_of(objects: &[LaidObject], start: &StartAt, target: Target) -> Option<(u32, u32)>
+    ensures { result ≡ start_among objects.now start.now (target_shown target) }
+{
+    match target {
+        Target::Constant { value: _ } | Target::Entry { slot: _ } => None,
+        Target::Internal { object, offset } => {
+            let place = (object, offset.wrapping_add(start.disp));
+            if is_in_object(objects, place) {
+                Some(place)
+            } else {
+                None
+            }
+        }
+    }
+}
+
+/// The object and the offset at which a module starts, where the target of its start address is known. There is none
+/// where the target is in no object, or the offset is not below its object's size. The frame is not judged.
+pub fn start_place(objects: &[LaidObject], start: &StartAt, target: Target) -> Option<(u32, u32)>
+    ensures { (l : Link) → objects.now ≡ layout.objects l → result ≡ start_rules.start_place l start.now (target_shown target) }
+{
+    place_of(objects, start, target)
 }

@@ -22,7 +22,7 @@ use Rattle.seg_merge.specs.declared.layout.Layout.{Layout}
 use Rattle.seg_merge.specs.declared.places.Places.{Places}
 use Rattle.seg_merge.specs.Places.{ArePlaces}
 use Rattle.seg_merge.specs.Layout.{IsLaidOut}
-use Rattle.link_fix.specs.Fixed.{symbol_at}
+use Rattle.link_place.specs.Fixed.{symbol_at}
 use Rattle.map_model.specs.Listed.{address_among, Contribution, contribution, contributions_in, contributions, Listed, placed, valued, meaning, publics, placed_publics, constants}
 use Rattle.map_model.specs.Lines.{map_line, object_line, segment_line, common_line, public_line, constant_line, import_line}
 use Rattle.map_model.specs.Maps.{line_of_contribution, line_of_common, AreInOrder, by_number, by_name, map_text, IsMap}

@@ -12,7 +12,7 @@ use Rattle.map_model.specs.Listed.{address_among, Contribution, contribution, Li
 use Rattle.map_model.specs.Lines.{segment_line, common_line}
 use Rattle.seg_merge.specs.declared.layout.Layout.{Layout}
 use Rattle.seg_merge.specs.Places.{spot_in, common_in}
-use Rattle.link_fix.specs.Fixed.{symbol_at}
+use Rattle.link_place.specs.Fixed.{symbol_at}
 
 -- ---- lines
 

@@ -2,15 +2,15 @@
 
 ghost use Rattle.std.specs.Prelude.{◌≡◌, ◌++◌, OnOk, IfOk, map, option_map, option_to_list};
 ghost use Rattle.std.specs.List.{flat_map, enumerate_from, filter_map};
-ghost use Rattle.link_bytes.specs.Shown.{target_shown};
+ghost use Rattle.link_fix.specs.Shown.{target_shown};
 ghost use Rattle.map_model.specs.Maps as orders;
 ghost use Rattle.map_core.specs.Shown.{by_address, by_name};
 ghost use Rattle.map_core.specs.Places.{meaning_in, placed_in, valued_in, placed_in_module, valued_in_module};
 
 use crate::addresses::address_of;
-use link_bytes::Target;
-use link_fix::of_symbol;
+use link_fix::Target;
 use link_model::{SymDef, number};
+use link_place::of_symbol;
 use obj_types::{NoMemory, ObjModule, Pub, PubPlace};
 use seg_merge::Layout;
 use std::alloc::Global;

@@ -1,8 +1,8 @@
 use Rattle.std.proofs.Common.{◌≡◌, ℕ, ◌<◌, ◌≤◌, ◌+◌, ◌∙◌, ap, sym, subst, List, length, get_or}
 use Rattle.std.proofs.lemmas.Result.{IfOk-weaker}
 use Rattle.obj_types.specs.declared.object.Piece.{Piece}
-use Rattle.link_bytes.specs.declared.images.Images.{Images}
-use Rattle.link_bytes.specs.Images.{byte_of, byte_after}
+use Rattle.link_fix.specs.declared.images.Images.{Images}
+use Rattle.link_fix.specs.Images.{byte_of, byte_after}
 use Rattle.comdat_core.proofs.OwnPieces.{own_piece, other_piece, row_bytes}
 use Rattle.comdat_core.proofs.compare.bytes_of.Goals as goal
 use Rattle.comdat_core.proofs.compare.bytes_of.Goals.{then-piece-x+in_ok-paint, else-piece-x}

@@ -1,6 +1,6 @@
 use Rattle.std.proofs.Common.{◌≡◌, ℕ, take}
-use Rattle.link_bytes.specs.Images.{byte_of}
-use Rattle.link_bytes.specs.Pieces.{of_pieces}
+use Rattle.link_fix.specs.Images.{byte_of}
+use Rattle.link_fix.specs.Pieces.{of_pieces}
 use Rattle.comdat_core.proofs.compare.bytes_of.Given as goal
 
 abbrev pub invariant-loop-piece : goal.invariant-loop-piece

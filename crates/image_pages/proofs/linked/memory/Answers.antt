@@ -1,4 +1,4 @@
-use Rattle.link_fix.proofs.AnswersMapped.{answers-map}
+use Rattle.link_place.proofs.AnswersMapped.{answers-map}
 use Rattle.image_pages.proofs.MemoryIs.{from_file, is_memory, refuses_memory}
 use Rattle.image_pages.proofs.linked.memory.Goals as goal
 

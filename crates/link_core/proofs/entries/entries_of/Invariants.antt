@@ -1,6 +1,6 @@
 use Rattle.std.proofs.Common.{◌≡◌, map, take, List}
 use Rattle.obj_types.specs.declared.symbol.Imp.{Imp}
-use Rattle.link_bytes.specs.Tables.{ArePairs}
+use Rattle.link_fix.specs.Tables.{ArePairs}
 use Rattle.link_core.specs.Exports.{entries_in}
 use Rattle.link_core.proofs.entries.entries_of.Given as goal
 

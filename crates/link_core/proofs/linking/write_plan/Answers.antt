@@ -1,6 +1,6 @@
 use Rattle.std.proofs.Common.{refl}
 use Rattle.link_model.specs.declared.refusals.LinkRefusal.TheVariants.{Entry}
-use Rattle.link_fix.proofs.AnswersMapped.{answers-value}
+use Rattle.link_place.proofs.AnswersMapped.{answers-value}
 use Rattle.link_core.specs.Planned.{entry_failed}
 use Rattle.link_core.proofs.Assembled.{failed-by, entry-refused, linked-is}
 use Rattle.link_core.proofs.linking.write_plan.Goals as goal

@@ -1,6 +1,6 @@
 use Rattle.std.proofs.Common.{refl}
 use Rattle.link_model.specs.declared.refusals.LinkRefusal.TheVariants.{Fixing}
-use Rattle.link_fix.proofs.AnswersMapped.{answers-value}
+use Rattle.link_place.proofs.AnswersMapped.{answers-value}
 use Rattle.link_core.specs.Planned.{place_failed}
 use Rattle.link_core.proofs.Assembled.{failed-by, place-refused}
 use Rattle.link_core.proofs.planning.plan_laid.Goals as goal

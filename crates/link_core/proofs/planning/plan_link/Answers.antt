@@ -1,6 +1,6 @@
 use Rattle.std.proofs.Common.{refl, subst}
 use Rattle.link_model.specs.declared.refusals.LinkRefusal.TheVariants.{Sym}
-use Rattle.link_fix.proofs.AnswersMapped.{answers-value}
+use Rattle.link_place.proofs.AnswersMapped.{answers-value}
 use Rattle.sym_table.specs.Binding.{IsRefused}
 use Rattle.link_core.specs.Planned.{sym_failed}
 use Rattle.link_core.proofs.Assembled.{failed-by, sym-refused}

@@ -1,6 +1,6 @@
 use Rattle.std.proofs.Common.{List, subst}
 use Rattle.obj_types.specs.declared.symbol.Imp.{Imp}
-use Rattle.link_bytes.specs.Tables.{ArePairs}
+use Rattle.link_fix.specs.Tables.{ArePairs}
 use Rattle.link_core.specs.Exports.{pair_in}
 use Rattle.link_core.proofs.Steps.{picked-more}
 use Rattle.link_core.proofs.tables.add_forwards.Goals as goal

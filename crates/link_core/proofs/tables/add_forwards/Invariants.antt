@@ -1,7 +1,7 @@
 use Rattle.std.proofs.Common.{◌++◌, map, take, List}
 use Rattle.std.specs.List.{filter_map}
 use Rattle.obj_types.specs.declared.symbol.Imp.{Imp}
-use Rattle.link_bytes.specs.Tables.{ArePairs}
+use Rattle.link_fix.specs.Tables.{ArePairs}
 use Rattle.link_core.specs.Exports.{pair_in}
 use Rattle.link_core.proofs.tables.add_forwards.Given as goal
 

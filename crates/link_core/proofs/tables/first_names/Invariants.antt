@@ -1,6 +1,6 @@
 use Rattle.std.proofs.Common.{take, bytes_eq}
 use Rattle.link_model.specs.Appearance.{firsts}
-use Rattle.link_bytes.specs.Tables.{AreFirst}
+use Rattle.link_fix.specs.Tables.{AreFirst}
 use Rattle.link_core.proofs.tables.first_names.Given as goal
 
 abbrev pub invariant-loop-name : goal.invariant-loop-name

@@ -1,6 +1,6 @@
 use Rattle.std.proofs.Common.{sym, subst}
-use Rattle.link_bytes.specs.declared.tables.ImportTables.{ImportTables}
-use Rattle.link_bytes.specs.Tables.{ArePairs}
+use Rattle.link_fix.specs.declared.tables.ImportTables.{ImportTables}
+use Rattle.link_fix.specs.Tables.{ArePairs}
 use Rattle.link_core.proofs.Steps.{pairs-begin}
 use Rattle.link_core.proofs.tables.link_tables.Goals as goal
 

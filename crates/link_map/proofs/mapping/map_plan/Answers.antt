@@ -1,6 +1,6 @@
 use Rattle.std.proofs.Common.{refl}
 use Rattle.link_model.specs.declared.refusals.LinkRefusal.TheVariants.{Entry}
-use Rattle.link_fix.proofs.AnswersMapped.{answers-value}
+use Rattle.link_place.proofs.AnswersMapped.{answers-value}
 use Rattle.link_core.specs.Planned.{entry_failed}
 use Rattle.link_core.proofs.Assembled.{entry-refused, failed-by}
 use Rattle.link_map.proofs.MapOfPlan.{bound_kept, laid_kept, map_of_plan}

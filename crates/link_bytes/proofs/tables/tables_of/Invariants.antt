@@ -1,7 +1,0 @@
-use Rattle.std.proofs.Common.{map, take}
-use Rattle.link_bytes.specs.Shown.{shown}
-use Rattle.link_bytes.specs.Tables.{ArePairs, pairs_among}
-use Rattle.link_bytes.proofs.tables.tables_of.Given as goal
-
-abbrev pub invariant-loop-q : goal.invariant-loop-q
-invariant-loop-q l = ArePairs l.tables (pairs_among l.imports (map shown (take l.q-index l.recorded)))

@@ -1,5 +1,0 @@
-use Rattle.link_fix.proofs.Meanings.{has-meanings}
-use Rattle.link_fix.proofs.laws.symbols_have_meanings.Goals as goal
-
-pub returns : goal.returns
-returns c = λ l s are. has-meanings l s are.meanings

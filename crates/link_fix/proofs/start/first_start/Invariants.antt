@@ -1,6 +1,0 @@
-use Rattle.std.proofs.Common.{◌≡◌}
-use Rattle.link_fix.proofs.Starts.{first_from}
-use Rattle.link_fix.proofs.start.first_start.Given as goal
-
-abbrev pub invariant-loop-index : goal.invariant-loop-index
-invariant-loop-index l = first_from l.modules l.index ≡ first_from l.modules 0

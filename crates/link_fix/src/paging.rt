@@ -1,0 +1,295 @@
+//! The fixup records that are left to the loader, by object and page.
+
+ghost use Rattle.std.specs.Prelude.{◌≡◌, ◌+◌, ◌*◌, ◌<◌, ◌≤◌, ◌++◌, ◌∷◌, [], ℕ, List, OnOk, IfOk, All, map, length, option_to_list, if◌then◌else◌, ◌==◌};
+ghost use Rattle.std.specs.List.{range_with_len, enumerate_from};
+ghost use Rattle.obj_types.specs.Location.{location_len as len_of_location};
+ghost use Rattle.link_model.specs.Words.{wrapped};
+ghost use Rattle.link_model.specs.Goals.{Internal, Entry};
+ghost use Rattle.link_fix.specs.Marks.{HasBytes};
+ghost use Rattle.link_model.specs.Records as records;
+ghost use Rattle.link_fix.specs.Shown.{shown, target_shown};
+ghost use Rattle.link_fix.specs.Tables.{ArePairs};
+ghost use Rattle.link_fix.specs.Paging.{fixes_of, fixes_after, page_in, record_among, record_with, records_among, target_among};
+ghost use Rattle.obj_types.specs.declared.symbol.Imp.{Imp};
+
+use crate::fixup::{Fixup, Target};
+use crate::tables::ImportTables;
+use link_model::LaidObject;
+use lx_types::{Fix, FixTarget, NoMemory, PAGE_SIZE, Seq, Source};
+use obj_types::{
+    Imp, LOCATION_BYTE, LOCATION_FAR_16, LOCATION_FAR_32, LOCATION_LOADER_16, LOCATION_OFFSET_16,
+    LOCATION_SELECTOR, location_len,
+};
+use std::alloc::Global;
+
+/// Records by the number of an object and the number of a page, which counts from 0.
+#[derive(Drop)]
+pub struct PageFixes {
+    rows: Vec<Vec<Vec<Fix>>>,
+}
+
+fn source_of(q: &Fixup) -> Source
+    ensures { result ≡ records.source_of (shown q.now) }
+{
+    match q.loc {
+        LOCATION_BYTE => Source::Byte,
+        LOCATION_OFFSET_16 | LOCATION_LOADER_16 => Source::Off16,
+        LOCATION_SELECTOR => Source::Sel,
+        LOCATION_FAR_16 => Source::Far16,
+        LOCATION_FAR_32 => Source::Far32,
+        _ if q.selfrel => Source::Self32,
+        _ => Source::Off32,
+    }
+}
+
+// The selector of a 16:16 pointer, and one in a 16-bit segment, is the alias's.
+fn has_alias(q: &Fixup) -> bool
+    ensures { result ≡ records.has_alias (shown q.now) }
+{
+    q.loc == LOCATION_FAR_16 || q.loc == LOCATION_SELECTOR && q.narrow
+}
+
+fn sum(a: u32, b: u32) -> u32
+    ensures { result ≡ wrapped (a + b) }
+{
+    a.wrapping_add(b)
+}
+
+// Where the record of a place in the link leads, and what is added there: a selector has no offset, and an additive
+// where the place is 64 KiB or more into its object.
+fn internal_target(q: &Fixup, object: u32, offset: u32) -> (FixTarget, u32)
+    ensures { Some result ≡ target_among [] [] (shown q.now) (Internal object offset) }
+{
+    let at = sum(offset, q.disp);
+    if q.loc == LOCATION_SELECTOR {
+        let additive = if 0x1_0000 <= at { at } else { 0 };
+        (FixTarget::Internal { object, offset: 0 }, additive)
+    } else {
+        let offset = sum(at, q.standing);
+        (FixTarget::Internal { object, offset }, 0)
+    }
+}
+
+// Where the record of an entry point leads, and what is added there.
+fn entry_target(
+    alloc: Global,
+    imports: &[Imp],
+    tables: &ImportTables,
+    q: &Fixup,
+    slot: u32,
+) -> Result<Option<(FixTarget, u32)>, NoMemory>
+    ensures { IfOk result (λ target. (pairs : List Imp) → ArePairs tables.now pairs → target ≡ target_among imports.now pairs (shown q.now) (Entry slot)) }
+{
+    match imports.get(slot as usize) {
+        None => Ok(None),
+        Some(pair) => match tables.target_of(alloc, pair)? {
+            None => Ok(None),
+            Some(target) => Ok(Some((target, sum(q.disp, q.standing)))),
+        },
+    }
+}
+
+/// Where a fixup's record leads, and what is added there. There is none for a constant, nor for an entry point that is
+/// not in the tables.
+pub fn target_of(
+    alloc: Global,
+    imports: &[Imp],
+    tables: &ImportTables,
+    q: &Fixup,
+) -> Result<Option<(FixTarget, u32)>, NoMemory>
+    ensures { IfOk result (λ target. (pairs : List Imp) → ArePairs tables.now pairs →
+        target ≡ target_among imports.now pairs (shown q.now) (target_shown q.now.target)) }
+{
+    match q.target {
+        Target::Internal { object, offset } => Ok(Some(internal_target(q, object, offset))),
+        Target::Constant { value: _ } => Ok(None),
+        Target::Entry { slot } => {
+            let target = entry_target(alloc, imports, tables, q, slot)?;
+            Ok(target)
+        }
+    }
+}
+
+// The record on a page that has a byte of the field.
+fn record_at(q: &Fixup, page: u32, target: (FixTarget, u32)) -> Fix
+    requires begun { page * PAGE_SIZE ≤ q.now.offset + PAGE_SIZE }
+    requires reached { q.now.offset < page * PAGE_SIZE + PAGE_SIZE }
+    ensures { result ≡ record_with page (shown q.now) target }
+{
+    let start = u64::from(page) * u64::from(PAGE_SIZE);
+    Fix {
+        source: source_of(q),
+        alias: has_alias(q),
+        offset: (i64::from(q.offset) - start as i64) as i32,
+        target: target.0,
+        additive: target.1,
+    }
+}
+
+// Makes more pages than this number.
+fn add_pages(alloc: Global, row: &mut Vec<Vec<Fix>>, number: usize) -> Result<(), NoMemory>
+    ensures len { OnOk result (number < length row.new.items) }
+    ensures same { OnOk result ((k : ℕ) → page_in row.new.items k ≡ page_in row.old.items k) }
+{
+    'pages: while row.len() <= number {
+        row.push(Vec::new(alloc))?;
+    }
+    Ok(())
+}
+
+fn push_on_page(
+    alloc: Global,
+    row: &mut Vec<Vec<Fix>>,
+    page: usize,
+    fix: Fix,
+) -> Result<(), NoMemory>
+    ensures { OnOk result ((k : ℕ) → page_in row.new.items k ≡ (if page == k then page_in row.old.items k ++ fix ∷ [] else page_in row.old.items k)) }
+{
+    add_pages(alloc, row, page)?;
+    row[page].push(fix)?;
+    Ok(())
+}
+
+impl PageFixes {
+    /// No page has records. It takes no memory.
+    fn new(alloc: Global) -> PageFixes
+        ensures { (n : ℕ) (k : ℕ) → fixes_of result n k ≡ [] }
+    {
+        PageFixes {
+            rows: Vec::new(alloc),
+        }
+    }
+
+    // Makes more rows than this number.
+    fn add_rows(&mut self, alloc: Global, number: usize) -> Result<(), NoMemory>
+        ensures len { OnOk result (number < length self.new.rows.items) }
+        ensures same { OnOk result ((n : ℕ) (k : ℕ) → fixes_of self.new n k ≡ fixes_of self.old n k) }
+    {
+        'rows: while self.rows.len() <= number {
+            self.rows.push(Vec::new(alloc))?;
+        }
+        Ok(())
+    }
+
+    // Adds a record at the end of a page's.
+    fn push(&mut self, alloc: Global, object: u32, page: u32, fix: Fix) -> Result<(), NoMemory>
+        ensures { OnOk result ((n : ℕ) (k : ℕ) → fixes_of self.new n k ≡ fixes_after self.old object page fix n k) }
+    {
+        let place = object as usize;
+        self.add_rows(alloc, place)?;
+        push_on_page(alloc, &mut self.rows[place], page as usize, fix)?;
+        Ok(())
+    }
+
+    // The records of a page.
+    fn page(&self, object: usize, page: usize) -> &[Fix]
+        ensures { result.now ≡ fixes_of self.now object page }
+    {
+        match self.rows.get(object) {
+            None => &[],
+            Some(row) => match row.get(page) {
+                None => &[],
+                Some(fixes) => fixes.as_slice(),
+            },
+        }
+    }
+}
+
+// Adds the record of a fixup on each page on which it stands: on two where its field crosses a page's end.
+fn add_records(
+    alloc: Global,
+    pages: &mut PageFixes,
+    q: &Fixup,
+    target: (FixTarget, u32),
+) -> Result<(), NoMemory>
+    requires { 0 < len_of_location q.now.loc }
+    ensures { OnOk result ((n : ℕ) (k : ℕ) → fixes_of pages.new n k
+        ≡ fixes_of pages.old n k ++ (if records.stands_on n k (shown q.now) then record_with k (shown q.now) target ∷ [] else [])) }
+{
+    let first = q.offset / PAGE_SIZE;
+    let end = u64::from(q.offset) + u64::from(location_len(q.loc));
+    let last = ((end - 1) / u64::from(PAGE_SIZE)) as u32;
+    pages.push(alloc, q.object, first, record_at(q, first, target))?;
+    if first < last {
+        pages.push(alloc, q.object, last, record_at(q, last, target))?;
+    }
+    Ok(())
+}
+
+// Adds the records of a recorded fixup, where its target has a name.
+fn add_fixup(
+    alloc: Global,
+    pages: &mut PageFixes,
+    imports: &[Imp],
+    tables: &ImportTables,
+    q: &Fixup,
+) -> Result<(), NoMemory>
+    requires { 0 < len_of_location q.now.loc }
+    ensures { OnOk result ((pairs : List Imp) → ArePairs tables.now pairs → (n : ℕ) (k : ℕ) → fixes_of pages.new n k
+        ≡ fixes_of pages.old n k ++ (if records.stands_on n k (shown q.now) then option_to_list (record_among imports.now pairs k (shown q.now)) else [])) }
+{
+    if let Some(target) = target_of(alloc, imports, tables, q)? {
+        add_records(alloc, pages, q, target)?;
+    }
+    Ok(())
+}
+
+/// The records of these fixups, which the loader fixes, by object and page, in order.
+pub fn page_fixes(
+    alloc: Global,
+    imports: &[Imp],
+    tables: &ImportTables,
+    recorded: &[Fixup],
+) -> Result<PageFixes, NoMemory>
+    requires { All HasBytes recorded.now }
+    ensures { IfOk result (λ pages. (pairs : List Imp) → ArePairs tables.now pairs → (n : ℕ) (k : ℕ) →
+        fixes_of pages n k ≡ records_among imports.now pairs (map shown recorded.now) n k) }
+{
+    let mut pages = PageFixes::new(alloc);
+    for q in recorded {
+        add_fixup(alloc, &mut pages, imports, tables, q)?;
+    }
+    Ok(pages)
+}
+
+// The records of the first pages of an object.
+fn first_pages(
+    alloc: Global,
+    pages: &PageFixes,
+    object: usize,
+    count: usize,
+) -> Result<Seq<Seq<Fix>>, NoMemory>
+    ensures { IfOk result (λ list. list ≡ map (fixes_of pages.now object) (range_with_len 0 count)) }
+{
+    let mut list = Seq::new(alloc);
+    for page in 0..count {
+        let fixes = Vec::from_slice(alloc, pages.page(object, page))?;
+        list.push(Seq::from_vec(fixes))?;
+    }
+    Ok(list)
+}
+
+// How many pages a size takes.
+fn page_count(size: u32) -> usize
+    ensures { result ≡ records.page_count size }
+{
+    (size as usize + (PAGE_SIZE as usize - 1)) / PAGE_SIZE as usize
+}
+
+/// The records of each page of each object, as many pages as its size takes.
+pub fn object_fixes(
+    alloc: Global,
+    pages: &PageFixes,
+    objects: &[LaidObject],
+) -> Result<Seq<Seq<Seq<Fix>>>, NoMemory>
+    ensures { IfOk result (λ all. all ≡ map (λ q. map (fixes_of pages.now q.0) (range_with_len 0 (records.page_count q.1.size)))
+        (enumerate_from 1 objects.now)) }
+{
+    let mut all = Seq::new(alloc);
+    let mut number = 0;
+    for object in objects {
+        number += 1;
+        all.push(first_pages(alloc, pages, number, page_count(object.size))?)?;
+    }
+    Ok(all)
+}

@@ -1,0 +1,84 @@
+//! The bytes of objects before the loader: data, and over it the fields of live fixups.
+
+ghost use Rattle.std.specs.Prelude.{◌≡◌, ◌-◌, ℕ, OnOk, IfOk, All, map, length, if◌then◌else◌};
+ghost use Rattle.std.specs.List.{range_with_len, enumerate_from};
+ghost use Rattle.obj_types.specs.Location.{location_len as len_of_location};
+ghost use Rattle.link_model.specs.Link.{Link};
+ghost use Rattle.link_model.specs.Fixups.{fix_refusal};
+ghost use Rattle.link_model.specs.Mean.{fixup_covers};
+ghost use Rattle.link_fix.specs.Shown.{shown, piece_shown};
+ghost use Rattle.link_fix.specs.Images.{byte_of};
+ghost use Rattle.link_fix.specs.Pieces.{of_placed};
+ghost use Rattle.link_fix.specs.Values.{field_byte, IsAccepted, with_fields};
+
+use crate::fixup::Fixup;
+use crate::images::Images;
+use crate::values::field_of;
+use link_model::LaidObject;
+use lx_types::{Bytes, NoMemory, Seq};
+use obj_types::location_len;
+use std::alloc::Global;
+
+/// Data at its place in an object.
+#[derive(Clone, Copy)]
+pub struct PlacedPiece<'a> {
+    pub object: u32,
+    pub offset: usize,
+    pub bytes: &'a [u8],
+}
+
+/// The data of these pieces, as rows by object; a later piece covers an earlier one.
+pub fn placed_data(alloc: Global, pieces: &[PlacedPiece]) -> Result<Images, NoMemory>
+    ensures { IfOk result (λ rows. (n : ℕ) (x : ℕ) → byte_of rows n x ≡ of_placed (map piece_shown pieces.now) n x) }
+{
+    let mut rows = Images::new(alloc);
+    for piece in pieces {
+        rows.paint(alloc, piece.object, piece.offset, piece.bytes)?;
+    }
+    Ok(rows)
+}
+
+// Puts what stands in a fixup's field before the loader.
+fn paint_field(alloc: Global, rows: &mut Images, q: &Fixup) -> Result<(), NoMemory>
+    requires { IsAccepted q.now }
+    ensures { OnOk result ((l : Link) (n : ℕ) (x : ℕ) → byte_of rows.new n x
+        ≡ (if fixup_covers n x (shown q.now) then field_byte l (shown q.now) (x - q.now.offset) else byte_of rows.old n x)) }
+{
+    let field = field_of(q);
+    let len = usize::from(location_len(q.loc));
+    rows.paint(alloc, q.object, q.offset as usize, &field[..len])?;
+    Ok(())
+}
+
+/// Puts what stands in the fields of live fixups before the loader over the data: values that no base changes, and
+/// zeros where the loader gets a record. Where fields share bytes, which those of live fixups never do, the first
+/// fixup's stand.
+pub fn paint_fields(alloc: Global, rows: &mut Images, live: &[Fixup]) -> Result<(), NoMemory>
+    requires { All IsAccepted live.now }
+    ensures { OnOk result ((l : Link) (n : ℕ) (x : ℕ) → byte_of rows.new n x ≡ with_fields l (map shown live.now) (byte_of rows.old) n x) }
+{
+    let mut left = live.len();
+    'fields: while 0 < left {
+        left -= 1;
+        paint_field(alloc, rows, &live[left])?;
+    }
+    Ok(())
+}
+
+/// The bytes of each object, as many as its size.
+pub fn object_rows(
+    alloc: Global,
+    rows: &Images,
+    objects: &[LaidObject],
+) -> Result<Seq<Bytes>, NoMemory>
+    ensures { IfOk result (λ all. all ≡ map (λ q. map (byte_of rows.now q.0) (range_with_len 0 q.1.size)) (enumerate_from 1 objects.now)) }
+{
+    let mut all = Seq::new(alloc);
+    let mut number = 0;
+    for object in objects {
+        number += 1;
+        let bytes = rows.row(alloc, number, object.size as usize)?;
+        all.push(Seq::from_vec(bytes))?;
+    }
+    Ok(all)
+}

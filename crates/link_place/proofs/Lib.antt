@@ -1,0 +1,9 @@
+pub mod Located
+pub mod Growing
+pub mod Judging
+pub mod Starts
+pub mod PlacedPieces
+pub mod PlacedPages
+pub mod AnswersMapped
+pub mod Meanings
+pub mod WholeModules

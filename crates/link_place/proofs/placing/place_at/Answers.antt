@@ -1,0 +1,32 @@
+use Rattle.std.proofs.Common.{◌∙◌, ap, None, Some}
+use Rattle.link_place.specs.declared.placing.Placed.{Placed}
+use Rattle.link_place.proofs.PlacedPages.{refused-fixup, start-decides}
+use Rattle.link_place.proofs.AnswersMapped.{answers-failed, answers-value, matched-err, matched-ok}
+use Rattle.link_place.proofs.placing.place_at.Goals as goal
+
+pub returns-in-Err : goal.returns-in-Err
+returns-in-Err c =
+    answers-failed c.pages_of.result c.in-Err.fail _ _ _ _ c.in-Err.is (λ refusal told l laid. refused-fixup l refusal (told l laid)) c.pages_of.ensures
+
+pub returns-in-Err-2 : goal.returns-in-Err-2
+returns-in-Err-2 c = λ l laid.
+    let paged = answers-value c.pages_of.result c.in-Ok.pages _ _ c.in-Ok.is c.pages_of.ensures in
+    let told = matched-err c.in_ok-refusal-in-Ok.field-0 c.in-Err-2.refusal _ _ c.in-Err-2.is (c.in_ok-refusal-in-Ok.ensures l laid.modules laid.objects laid.places laid.meanings) in
+    start-decides l (Some c.in-Err-2.refusal) (paged l laid).0 told
+
+pub returns-in-Ok-2 : goal.returns-in-Ok-2
+returns-in-Ok-2 c = λ l laid.
+    let paged = answers-value c.pages_of.result c.in-Ok.pages _ _ c.in-Ok.is c.pages_of.ensures in
+    let told = matched-ok c.in_ok-refusal-in-Ok.field-0 c.in-Ok-2.start _ _ c.in-Ok-2.is (c.in_ok-refusal-in-Ok.ensures l laid.modules laid.objects laid.places laid.meanings) in
+    let made = c.with_start.ensures in
+    let pages = (paged l laid).1 in (
+      start-decides l None (paged l laid).0 told.1,
+      record {
+        bytes = ap (λ (p : Placed). p.bytes) made ∙ pages.bytes;
+        fixes = ap (λ (p : Placed). p.fixes) made ∙ pages.fixes;
+        imports = ap (λ (p : Placed). p.imports) made ∙ pages.imports;
+        procs = ap (λ (p : Placed). p.procs) made ∙ pages.procs;
+        start = ap (λ (p : Placed). p.start) made ∙ told.0;
+        top = ap (λ (p : Placed). p.stack) made;
+      },
+    )
