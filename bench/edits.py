@@ -3,12 +3,16 @@
 
 Usage: edits.py [--lanes N] [NAME ..]     NAME: a crate; all that have edits where none is named
        edits.py --applies [NAME ..]       only looks whether the text that each edit replaces stands once
+       edits.py --gate FOLDER             all edits, in one run of the gate over what is committed, in a new clone, FOLDER
 
 The gate tries the files crates/NAME/must-fail/*.edit alone. This script copies the repository into a temporary folder, with
 the libraries that were proved here, renames each .md beside them that is an edit to .edit, and runs `rt must-fail NAME` crate
 by crate, or N crates side by side. Libraries that are not proved yet are proved first. It prints a line for each edit, as soon as its crate
 is done, and last how many there were, and how many were refused. The exit status is 0 where all were. A whole run takes
 some two hours on one processor.
+
+With --gate they are tried where the gate proves each crate (`bench/gate.py`, with its table), so that no crate is checked
+for its edits alone: from nothing it takes an hour of processor time more than the gate. The log is FOLDER.log.
 """
 import os
 import re
@@ -122,10 +126,24 @@ def look(names):
     return not bad
 
 
+def in_the_gate(top):
+    """Runs the gate in a new clone in which each edit is tried, and returns its status, or 1 where an edit was not refused."""
+    subprocess.run(["git", "clone", "--quiet", ROOT, top], check=True)
+    count = sum(make_edits(f"{top}/crates/{it}") for it in crates_of(top))
+    ran = subprocess.run([sys.executable, f"{ROOT}/bench/gate.py", "--log", f"{top}.log", top], check=False)
+    with open(f"{top}.log", encoding="utf-8", errors="replace") as it:
+        told = {(crate, edit): how.startswith("refused") for crate, edit, how, _ in TOLD.findall(it.read())}
+    refused = sum(told.values())
+    print(f"{count} edits: {len(told)} tried, {refused} refused")
+    return ran.returncode or int(refused != count)
+
+
 def main(words):
     if words in (["-h"], ["--help"]):
         print(__doc__, end="")
         return 0
+    if words[:1] == ["--gate"] and len(words) == 2:
+        return in_the_gate(os.path.abspath(words[1]))
     lanes = 1
     only_looks = words[:1] == ["--applies"]
     words = words[only_looks:]
