@@ -2,7 +2,7 @@
 use Rattle.std.specs.Prelude.{ℕ, ◌-◌, ◌≤◌, map}
 use Rattle.std.specs.List.{AllByRecursion, range_with_len}
 use Rattle.std.proofs.Common.{arith, subst, sym}
-use Rattle.omf_write.specs.ImportModule.{NamesFit}
+use Rattle.implib_model.specs.ImportModule.{NamesFit}
 use Rattle.omf_write.specs.ObjectFits.{ExtFits, FixFits, ObjectFits, PieceFits}
 use Rattle.omf_write.specs.Written.{WritableModulesHaveFiles}
 use Rattle.gen_model.specs.Modules.{externals_of, external_before, gen_object, import_before, imports_of, reference, refers, zero_piece}

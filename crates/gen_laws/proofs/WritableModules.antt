@@ -17,7 +17,7 @@ use Rattle.obj_types.specs.declared.object.Piece.{Piece}
 use Rattle.obj_types.specs.declared.symbol.Ext.{Ext}
 use Rattle.obj_types.specs.declared.symbol.Imp.{Imp}
 use Rattle.obj_types.specs.declared.symbol.Pub.{Pub}
-use Rattle.omf_write.specs.ImportModule.{ImportFits}
+use Rattle.implib_model.specs.ImportModule.{ImportFits}
 use Rattle.omf_write.specs.Writable.{IsPlainExt, IsWritable}
 use Rattle.gen_model.specs.Modules.{code_segment, externals_of, external_before, flat_group, gen_definition, gen_object, import_before, imports_of, own_export, own_public, reference, refers, zero_piece}
 use Rattle.gen_laws.specs.Laws.{InputsAreWhole, ObjectsAreWritable}

@@ -9,7 +9,8 @@ use Rattle.lx_types.specs.declared.entry.EntryHead.{EntryHead}
 use Rattle.lx_types.specs.declared.parts.Parts.{Parts}
 use Rattle.obj_types.specs.declared.symbol.Imp.{Imp}
 use Rattle.implib_core.specs.declared.places.Places.{Places}
-use Rattle.implib_core.specs.ModuleImports.{Named, names_of, named_entries, import_named, imports_named, places_from, one_place, places_in, name_at, ArePlaces}
+use Rattle.implib_model.specs.ModuleImports.{Named, names_of, named_entries, import_named, imports_named}
+use Rattle.implib_core.specs.NamePlaces.{places_from, one_place, places_in, name_at, ArePlaces}
 
 -- ---- one name more
 

@@ -4,9 +4,9 @@ use Rattle.std.proofs.lemmas.List.{take_more, map-append}
 use Rattle.obj_types.specs.declared.object.ObjModule.{ObjModule}
 use Rattle.obj_types.specs.declared.symbol.Imp.{Imp}
 use Rattle.omf_model.specs.Object.{IsModule}
-use Rattle.omf_write.specs.ImportModule.{import_bytes, import_object}
-use Rattle.omf_write.specs.Library.{AreModules}
-use Rattle.implib_core.specs.Imports.{modules_of, objects_of}
+use Rattle.implib_model.specs.ImportModule.{import_bytes, import_object}
+use Rattle.implib_model.specs.Library.{AreModules}
+use Rattle.implib_model.specs.Imports.{modules_of, objects_of}
 
 are_more : (bytes : List (List ℕ)) (ms : List ObjModule) (b : List ℕ) (m : ObjModule) → AreModules bytes ms → IsModule b m → AreModules (bytes ++ b ∷ []) (ms ++ m ∷ [])
 are_more [] [] b m are is = (is, tt)

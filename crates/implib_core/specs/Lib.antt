@@ -1,2 +1,1 @@
-pub mod Imports
-pub mod ModuleImports
+pub mod NamePlaces

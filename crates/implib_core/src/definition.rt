@@ -5,10 +5,10 @@ ghost use Rattle.std.specs.List.{All, AllByRecursion};
 ghost use Rattle.lx_types.specs.Answers.{Answers};
 ghost use Rattle.obj_types.specs.Definition.{WholeDef, WholeExport};
 ghost use Rattle.omf_model.specs.Library.{Lib};
-ghost use Rattle.omf_write.specs.ImportModule.{ImportFits};
-ghost use Rattle.omf_write.specs.Library.{library_bytes, library_len};
+ghost use Rattle.implib_model.specs.ImportModule.{ImportFits};
+ghost use Rattle.implib_model.specs.Library.{library_bytes, library_len};
 ghost use Rattle.omf_write.specs.declared.libraries.TheConstants.{LIBRARY_LIMIT as limit};
-ghost use Rattle.implib_core.specs.Imports.{name_or, import_for, imports_for, imports_in, modules_of, objects_of};
+ghost use Rattle.implib_model.specs.Imports.{name_or, import_for, imports_for, imports_in, modules_of, objects_of};
 
 use crate::imports::library_of;
 use lx_types::{EntryKey, Fail, Name, NoMemory, Seq};

@@ -4,10 +4,10 @@ ghost use Rattle.std.specs.Prelude.{◌≡◌, ◌≤◌, ◌<◌, IfOk};
 ghost use Rattle.std.specs.List.{AllByRecursion};
 ghost use Rattle.lx_types.specs.Answers.{Answers};
 ghost use Rattle.omf_model.specs.Library.{Lib};
-ghost use Rattle.omf_write.specs.ImportModule.{ImportFits};
-ghost use Rattle.omf_write.specs.Library.{library_bytes, library_len, AreModules};
+ghost use Rattle.implib_model.specs.ImportModule.{ImportFits};
+ghost use Rattle.implib_model.specs.Library.{library_bytes, library_len, AreModules};
 ghost use Rattle.omf_write.specs.declared.libraries.TheConstants.{LIBRARY_LIMIT as limit};
-ghost use Rattle.implib_core.specs.Imports.{modules_of, objects_of};
+ghost use Rattle.implib_model.specs.Imports.{modules_of, objects_of};
 
 use lx_types::{Bytes, Fail, NoMemory, Seq};
 use obj_types::Imp;

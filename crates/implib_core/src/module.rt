@@ -5,11 +5,12 @@ ghost use Rattle.std.specs.List.{flat_map, AllByRecursion};
 ghost use Rattle.lx_types.specs.Answers.{Answers};
 ghost use Rattle.lx_model.specs.Module.{IsRead};
 ghost use Rattle.omf_model.specs.Library.{Lib};
-ghost use Rattle.omf_write.specs.ImportModule.{ImportFits};
-ghost use Rattle.omf_write.specs.Library.{library_bytes, library_len};
+ghost use Rattle.implib_model.specs.ImportModule.{ImportFits};
+ghost use Rattle.implib_model.specs.Library.{library_bytes, library_len};
 ghost use Rattle.omf_write.specs.declared.libraries.TheConstants.{LIBRARY_LIMIT as limit};
-ghost use Rattle.implib_core.specs.Imports.{modules_of, objects_of};
-ghost use Rattle.implib_core.specs.ModuleImports.{import_named, imports_named, name_at, places_in, ArePlaces};
+ghost use Rattle.implib_model.specs.Imports.{modules_of, objects_of};
+ghost use Rattle.implib_model.specs.ModuleImports.{import_named, imports_named};
+ghost use Rattle.implib_core.specs.NamePlaces.{name_at, places_in, ArePlaces};
 
 use crate::imports::library_of;
 use crate::places::Places;

@@ -1,7 +1,7 @@
 //! Where the names of each ordinal stand.
 
 ghost use Rattle.std.specs.Prelude.{◌≡◌, ◌++◌, ◌==◌, ℕ, [], false, IfOk};
-ghost use Rattle.implib_core.specs.ModuleImports.{places_in, places_from, one_place};
+ghost use Rattle.implib_core.specs.NamePlaces.{places_in, places_from, one_place};
 
 use indexmap::IndexMap;
 use lx_types::{Name, NoMemory};

@@ -30,8 +30,8 @@ use Rattle.link_model.specs.Symbols.{Imported, Definition, definitions, definiti
 use Rattle.link_model.proofs.Members.{In, in_map, in_filter, in_flat_map, in_contained, any_in, position_is, from_map, from_flat_map, from_numbered, in_at, found_as}
 use Rattle.link_model.proofs.Tables.{any-firsts}
 use Rattle.sym_table.proofs.ImportPairs.{import_tests}
-use Rattle.omf_write.specs.ImportModule.{import_meant}
-use Rattle.implib_core.specs.Imports.{name_or, import_for}
+use Rattle.implib_model.specs.ImportModule.{import_meant}
+use Rattle.implib_model.specs.Imports.{name_or, import_for}
 use Rattle.link_core.proofs.FewImports.{in-filter_map}
 use Rattle.layer_laws.specs.ImportLaws.{OnlyImported, Binds, ImportsBind}
 use Rattle.layer_laws.proofs.ForwardersNamed.{uppercase-twice}

@@ -13,8 +13,8 @@ use Rattle.link_model.specs.declared.symbols.Pick.{Pick}
 use Rattle.link_model.specs.Choosing.{wanted, defines, is_defined, undefined, module_of, modules_of, is_picked, is_drawn, next_pick}
 use Rattle.link_model.proofs.ExternalsMean.{not_mapped, none_passes}
 use Rattle.link_model.proofs.Members.{In, here, there, in_filter, in_at, in_contained, any_in, found, each_in, all_in, from_map}
-use Rattle.omf_write.specs.ImportModule.{import_object}
-use Rattle.implib_core.specs.Imports.{name_or, import_for, imports_in, objects_of}
+use Rattle.implib_model.specs.ImportModule.{import_object}
+use Rattle.implib_model.specs.Imports.{name_or, import_for, imports_in, objects_of}
 use Rattle.link_core.proofs.FewImports.{in-filter_map}
 use Rattle.link_core.proofs.TargetsThere.{from_filter_map}
 use Rattle.layer_laws.specs.ImportLaws.{OnlyImported}

@@ -15,8 +15,8 @@ use Rattle.link_model.specs.Choosing.{defines}
 use Rattle.link_model.specs.Kept.{Kept, is_local, is_place_in, is_seg_of, kept_behind, kept_module, repeated, shared, taken, without}
 use Rattle.link_model.proofs.AllKept.{all_is_kept}
 use Rattle.link_model.proofs.Members.{In, here, there, all_in, any_in, found, from_filter, from_map, in_contained}
-use Rattle.omf_write.specs.ImportModule.{import_object}
-use Rattle.implib_core.specs.Imports.{imports_in, objects_of}
+use Rattle.implib_model.specs.ImportModule.{import_object}
+use Rattle.implib_model.specs.Imports.{imports_in, objects_of}
 use Rattle.layer_laws.specs.ImportLaws.{OnlyImported}
 use Rattle.layer_laws.specs.Ranges.{InputInRange, ModuleInRange}
 use Rattle.layer_laws.proofs.ImportsDefined.{contained}

@@ -26,7 +26,7 @@ use Rattle.lx_model.proofs.Firsts.{first_none}
 use Rattle.image_model.specs.Linked.{image_of}
 use Rattle.image_model.proofs.LinksRead.{links_read}
 use Rattle.image_model.proofs.PartsRead.{parts_read}
-use Rattle.implib_core.specs.Imports.{name_or}
+use Rattle.implib_model.specs.Imports.{name_or}
 use Rattle.layer_laws.proofs.ForwardersNamed.{uppercase-twice}
 use Rattle.layer_laws.proofs.LoadedPages.{Loaded}
 

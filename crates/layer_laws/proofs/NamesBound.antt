@@ -15,8 +15,8 @@ use Rattle.link_model.specs.Choosing.{wanted, defines, next_pick, modules_of}
 use Rattle.link_model.specs.Link.{Link, link_of}
 use Rattle.link_model.specs.Symbols.{Meaning, Imported, Definition, of_public, of_import, definitions_in, definitions, definition_of}
 use Rattle.link_model.proofs.Members.{In, here, there, in_left, in_map, in_flat_map, in_contained, in_either, any_in, found, from_map, from_filter, from_flat_map, from_numbered, finds, found_as, in_at, all_in, each_in}
-use Rattle.omf_write.specs.ImportModule.{import_meant, import_object}
-use Rattle.implib_core.specs.Imports.{name_or, import_for, imports_in, objects_of}
+use Rattle.implib_model.specs.ImportModule.{import_meant, import_object}
+use Rattle.implib_model.specs.Imports.{name_or, import_for, imports_in, objects_of}
 use Rattle.layer_laws.specs.ImportLaws.{OnlyImported}
 use Rattle.layer_laws.proofs.Apart.{each-kept}
 use Rattle.layer_laws.proofs.ImportsDefined.{Gives, wanted-is-defined, chosen-gives, placed}

@@ -20,7 +20,7 @@ use Rattle.image_model.specs.Linked.{image_of}
 use Rattle.lx_model.specs.Gathering.{IsLibrary}
 use Rattle.lx_model.specs.Library.{library_named}
 use Rattle.image_model.specs.World.{entry_in}
-use Rattle.implib_core.specs.Imports.{key_of}
+use Rattle.implib_model.specs.Imports.{key_of}
 use Rattle.layer_laws.specs.EntryLaws.{leads_to, AreEntries}
 use Rattle.layer_laws.specs.ImportLaws.{IsPairOf, PairsReach}
 use Rattle.layer_laws.proofs.EntriesAreOut.{entries-are-out}

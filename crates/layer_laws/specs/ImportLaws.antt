@@ -21,7 +21,7 @@ use Rattle.lx_model.specs.Library.{library_named}
 use Rattle.image_model.specs.File.{file_of}
 use Rattle.image_model.specs.Linked.{image_of}
 use Rattle.image_model.specs.World.{entry_in}
-use Rattle.implib_core.specs.Imports.{name_or, key_of, imports_in, objects_of}
+use Rattle.implib_model.specs.Imports.{name_or, key_of, imports_in, objects_of}
 use Rattle.layer_laws.specs.LinkedImages.{Links}
 use Rattle.layer_laws.specs.LoadedBytes.{Holds}
 use Rattle.layer_laws.specs.EntryLaws.{leads_to}

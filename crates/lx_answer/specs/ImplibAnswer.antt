@@ -3,9 +3,9 @@ use Rattle.std.specs.Prelude.{ℕ, List, [], ◌∷◌, ◌++◌, codes, length,
 use Rattle.std.specs.Fmt.{decimal}
 use Rattle.std.specs.List.{flat_map}
 use Rattle.obj_types.specs.declared.symbol.Imp.{Imp}
-use Rattle.omf_write.specs.Library.{library_bytes, library_len}
-use Rattle.implib_core.specs.Imports.{imports_in, modules_of}
-use Rattle.implib_core.specs.ModuleImports.{imports_named}
+use Rattle.implib_model.specs.Library.{library_bytes, library_len}
+use Rattle.implib_model.specs.Imports.{imports_in, modules_of}
+use Rattle.implib_model.specs.ModuleImports.{imports_named}
 use Rattle.lx_answer.specs.Loading.{file_limit}
 use Rattle.lx_answer.specs.Outcome.{Outcome, kept, refused}
 use Rattle.lx_answer.specs.Reading.{Item, definition, linked}

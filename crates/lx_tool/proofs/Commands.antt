@@ -10,9 +10,9 @@ use Rattle.lx_types.specs.declared.parts.Parts.{Parts}
 use Rattle.obj_types.specs.declared.input.LinkInput.{LinkInput}
 use Rattle.obj_types.specs.declared.object.ObjModule.{ObjModule}
 use Rattle.obj_types.specs.declared.symbol.Imp.{Imp}
-use Rattle.omf_write.specs.Library.{library_bytes, library_len}
+use Rattle.implib_model.specs.Library.{library_bytes, library_len}
 use Rattle.omf_write.specs.declared.libraries.LibraryLong.{LibraryLong}
-use Rattle.implib_core.specs.Imports.{modules_of}
+use Rattle.implib_model.specs.Imports.{modules_of}
 use Rattle.link_model.specs.Link.{IsLinkOf}
 use Rattle.dump_model.specs.Dumps.{Dump}
 use Rattle.dump_model.specs.Listings.{listing_of}

@@ -9,9 +9,10 @@ use Rattle.lx_types.specs.Answers.{Answers}
 use Rattle.lx_types.specs.declared.fail.Fail.{Fail}
 use Rattle.lx_types.specs.declared.fail.Fail.TheVariants as fail
 use Rattle.obj_types.specs.declared.symbol.Imp.{Imp}
-use Rattle.omf_write.specs.Library.{library_bytes, library_len, modules_together, page_up, pages_of}
+use Rattle.implib_model.specs.Library.{library_bytes, library_len, page_up, pages_of}
+use Rattle.omf_write.specs.Joined.{modules_together}
 use Rattle.omf_write.specs.declared.libraries.LibraryLong.{LibraryLong}
-use Rattle.implib_core.specs.Imports.{modules_of}
+use Rattle.implib_model.specs.Imports.{modules_of}
 use Rattle.lx_answer.specs.ImplibAnswer.{all_imports, imports_of}
 use Rattle.lx_answer.specs.Loading.{file_limit}
 use Rattle.tool_read.specs.Readings.{exporter_item}

@@ -1,8 +1,8 @@
 -- An import library of the code, in the words of the definitions.
 use Rattle.std.specs.Prelude.{◌≡◌, ℕ, ◌<◌, ◌≤◌, List, length}
 use Rattle.obj_types.specs.declared.symbol.Imp.{Imp}
-use Rattle.omf_write.specs.Library.{library_bytes, library_len}
-use Rattle.implib_core.specs.Imports.{modules_of}
+use Rattle.implib_model.specs.Library.{library_bytes, library_len}
+use Rattle.implib_model.specs.Imports.{modules_of}
 use Rattle.lx_answer.specs.Loading.{file_limit}
 use Rattle.lx_tool.specs.declared.library.ImportLibrary.{ImportLibrary}
 

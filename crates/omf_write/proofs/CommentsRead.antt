@@ -13,8 +13,8 @@ use Rattle.omf_model.specs.Record.{impdef, expdef, default_library, ImpDef, ExpD
 use Rattle.omf_model.specs.Add.{add}
 use Rattle.omf_model.specs.Items.{import_of, export_of, or_else}
 use Rattle.omf_model.specs.Spelling.{contents_form, class_form, entry_form}
-use Rattle.omf_write.specs.Framed.{name_bytes}
-use Rattle.omf_write.specs.ImportModule.{ImportFits, NamesFit, flag_of, entry_bytes}
+use Rattle.implib_model.specs.Framed.{name_bytes}
+use Rattle.implib_model.specs.ImportModule.{ImportFits, NamesFit, flag_of, entry_bytes}
 use Rattle.omf_write.specs.ObjectBytes.{bit, impdef_bytes, impdef_record, ordinal_bit, ordinal_bytes, export_flag, expdef_bytes, expdef_record, deflib_record}
 use Rattle.omf_write.proofs.FieldBytes.{spells_as, name_spelled}
 use Rattle.omf_write.proofs.Goes.{Goes, one, items}

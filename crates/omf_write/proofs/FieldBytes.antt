@@ -6,7 +6,7 @@ use Rattle.omf_frame.specs.RecordType.{IsRecordType}
 use Rattle.omf_fields.specs.Forms.{byte, name, index}
 use Rattle.omf_model.specs.Record.{Record}
 use Rattle.omf_model.specs.Spelling.{Spells, types_of, contents_form}
-use Rattle.omf_write.specs.Framed.{record_of, name_bytes}
+use Rattle.implib_model.specs.Framed.{record_of, name_bytes}
 use Rattle.omf_write.specs.ObjectBytes.{index_bytes}
 use Rattle.omf_write.proofs.ImportRead.{framed}
 

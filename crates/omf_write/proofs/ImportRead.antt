@@ -21,8 +21,8 @@ use Rattle.omf_model.specs.Spelling.{Spells, types_of, contents_form, class_form
 use Rattle.omf_model.specs.Finished.{finished}
 use Rattle.omf_model.specs.Object.{AreModule, IsModule}
 use Rattle.omf_model.specs.Parts.{parts_of, module_of, names_of, segs_of, groups_of, comdats_of, pubs_of, pieces_of, fixes_of, fixes_in, starts_of, fields_of, last_of}
-use Rattle.omf_write.specs.Framed.{front_of, checksum_of, record_of, name_bytes}
-use Rattle.omf_write.specs.ImportModule.{EntryFits, ImportFits, IsShortEntry, NamesFit, flag_of, entry_bytes, import_comment, import_bytes, import_object}
+use Rattle.implib_model.specs.Framed.{front_of, checksum_of, record_of, name_bytes}
+use Rattle.implib_model.specs.ImportModule.{EntryFits, ImportFits, IsShortEntry, NamesFit, flag_of, entry_bytes, import_comment, import_bytes, import_object}
 
 -- ---- a record
 

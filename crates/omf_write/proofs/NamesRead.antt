@@ -13,7 +13,7 @@ use Rattle.lx_types.proofs.Bools.{some_by}
 use Rattle.obj_types.specs.Items.{item}
 use Rattle.first_table.specs.Entries.{is_named, with_entry}
 use Rattle.omf_model.specs.Items.{name_with}
-use Rattle.omf_write.specs.Framed.{record_of, name_bytes}
+use Rattle.implib_model.specs.Framed.{record_of, name_bytes}
 use Rattle.omf_write.specs.ObjectBytes.{lnames_record, name_records}
 use Rattle.omf_write.specs.ObjectNames.{NameList, with_names, texts, name_index}
 

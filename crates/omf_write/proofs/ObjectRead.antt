@@ -28,7 +28,7 @@ use Rattle.omf_model.specs.Spelling.{Spells, fix_data_form}
 use Rattle.omf_model.specs.Object.{IsModule, Obj}
 use Rattle.omf_model.proofs.EndLaws.{finished-whole}
 use Rattle.omf_model.proofs.ModuleLaws.{parts_header}
-use Rattle.omf_write.specs.Framed.{record_of, name_bytes}
+use Rattle.implib_model.specs.Framed.{record_of, name_bytes}
 use Rattle.omf_write.specs.ObjectNames.{NameList, names_of, texts}
 use Rattle.omf_write.specs.ObjectBytes.{lnames_record, segdef_record, grpdef_record, extdef_record, pubdef_record, impdef_record, expdef_record, deflib_record, segment_records, symbol_records, data_records, body_records, fix_data_bytes, end_record, object_bytes}
 use Rattle.omf_write.specs.ObjectFits.{ObjectFits, StartFits}

@@ -15,7 +15,7 @@ use Rattle.obj_types.specs.declared.symbol.Exp.{Exp}
 use Rattle.obj_types.specs.Whole.{WholeModule, WholeSeg, WholeGroup, WholePlace, WholeFix, WholeExp, IsPlainSeg, LiesIn}
 use Rattle.first_table.specs.Entries.{is_named, with_entry}
 use Rattle.omf_model.proofs.PairLaws.{Pairs}
-use Rattle.omf_write.specs.ImportModule.{ImportFits, NamesFit}
+use Rattle.implib_model.specs.ImportModule.{ImportFits, NamesFit}
 use Rattle.omf_write.specs.ObjectNames.{NameList, with_names, seg_names, group_names, names_of, texts}
 use Rattle.omf_write.specs.ObjectBytes.{grpdef_bytes}
 use Rattle.omf_write.specs.ObjectFits.{SegFits, GroupFits, ExtFits, PubFits, ExpFits, PieceFits, FixFits, ObjectFits}

@@ -17,7 +17,7 @@ use Rattle.omf_model.specs.Fixups.{unset}
 use Rattle.omf_model.specs.Add.{add}
 use Rattle.omf_model.specs.Spelling.{contents_form}
 use Rattle.omf_model.specs.Good.{GoodSegDef}
-use Rattle.omf_write.specs.Framed.{name_bytes}
+use Rattle.implib_model.specs.Framed.{name_bytes}
 use Rattle.omf_write.specs.ObjectNames.{NameList, texts, name_index}
 use Rattle.omf_write.specs.ObjectBytes.{index_bytes, bit, lnames_record, attributes_of, place_bytes, segdef_bytes, segdef_record}
 use Rattle.omf_write.specs.Writable.{IsNoDebug}

@@ -16,7 +16,7 @@ use Rattle.omf_fields.specs.Forms.{Form, ◌then◌, nothing, present, number, n
 use Rattle.omf_model.specs.Record.{Record, extdef, ExtDef, pubdef, PubDef}
 use Rattle.omf_model.specs.Add.{add}
 use Rattle.omf_model.specs.Spelling.{contents_form, ext_form, pub_form}
-use Rattle.omf_write.specs.Framed.{record_of, name_bytes}
+use Rattle.implib_model.specs.Framed.{record_of, name_bytes}
 use Rattle.omf_write.specs.ObjectBytes.{index_bytes, extdef_record, pubdef_bytes, pubdef_record}
 use Rattle.omf_write.specs.ObjectFits.{PlaceFits}
 use Rattle.omf_write.specs.Writable.{IsPlainExt, IsPlainPub, IsInSegment}

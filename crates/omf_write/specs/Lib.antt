@@ -1,6 +1,4 @@
-pub mod Framed
-pub mod ImportModule
-pub mod Library
+pub mod Joined
 pub mod ObjectBytes
 pub mod ObjectFits
 pub mod ObjectNames

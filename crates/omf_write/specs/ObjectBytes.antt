@@ -21,8 +21,8 @@ use Rattle.obj_types.specs.declared.symbol.Ext.{Ext}
 use Rattle.obj_types.specs.declared.symbol.Imp.{Imp}
 use Rattle.obj_types.specs.declared.symbol.Exp.{Exp}
 use Rattle.obj_types.specs.Location.{end_of}
-use Rattle.omf_write.specs.Framed.{record_of, name_bytes}
-use Rattle.omf_write.specs.ImportModule.{flag_of, entry_bytes}
+use Rattle.implib_model.specs.Framed.{record_of, name_bytes}
+use Rattle.implib_model.specs.ImportModule.{flag_of, entry_bytes}
 use Rattle.omf_write.specs.ObjectNames.{NameList, names_of, texts, name_index}
 
 -- ---- fields

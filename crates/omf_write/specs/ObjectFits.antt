@@ -13,7 +13,7 @@ use Rattle.obj_types.specs.declared.symbol.PubPlace.{PubPlace}
 use Rattle.obj_types.specs.declared.symbol.PubPlace.TheVariants.{In, Const}
 use Rattle.obj_types.specs.declared.symbol.Ext.{Ext}
 use Rattle.obj_types.specs.declared.symbol.Exp.{Exp}
-use Rattle.omf_write.specs.ImportModule.{NamesFit}
+use Rattle.implib_model.specs.ImportModule.{NamesFit}
 
 pub record SegFits (s : Seg) : Type 0 where
   pub name : IsName s.name

@@ -13,7 +13,7 @@ use Rattle.obj_types.specs.declared.symbol.Exp.{Exp}
 use Rattle.obj_types.specs.Whole.{WholeModule}
 use Rattle.omf_model.specs.Items.{is_debug}
 use Rattle.omf_model.specs.Fixups.{touches}
-use Rattle.omf_write.specs.ImportModule.{ImportFits}
+use Rattle.implib_model.specs.ImportModule.{ImportFits}
 use Rattle.omf_write.specs.ObjectNames.{names_of}
 use Rattle.omf_write.specs.ObjectBytes.{grpdef_bytes, lies_on}
 

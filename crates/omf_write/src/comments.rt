@@ -3,7 +3,7 @@
 ghost use Rattle.std.specs.Prelude.{◌≡◌, ◌++◌, ◌≤◌, ◌<◌, ◌^◌, IfOk, IfSome, OnOk, length};
 ghost use Rattle.std.specs.List.{AllByRecursion, flat_map};
 ghost use Rattle.lx_types.specs.Names.{IsName};
-ghost use Rattle.omf_write.specs.ImportModule.{ImportFits, NamesFit};
+ghost use Rattle.implib_model.specs.ImportModule.{ImportFits, NamesFit};
 ghost use Rattle.omf_write.specs.ObjectBytes.{export_flag, ordinal_bytes, impdef_bytes, impdef_record, expdef_bytes, expdef_record, deflib_bytes, deflib_record};
 ghost use Rattle.omf_write.specs.ObjectFits.{ExpFits};
 

@@ -1,7 +1,7 @@
 //! The fields of records ("Record Format", "Index fields").
 
 ghost use Rattle.std.specs.Prelude.{◌≡◌, ◌++◌, ◌≤◌, OnOk, length};
-ghost use Rattle.omf_write.specs.Framed.{name_bytes};
+ghost use Rattle.implib_model.specs.Framed.{name_bytes};
 ghost use Rattle.omf_write.specs.ObjectBytes.{index_bytes};
 
 use std::alloc::AllocError;

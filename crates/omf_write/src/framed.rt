@@ -1,7 +1,7 @@
 //! A record's bytes: its type, its length, its contents and its checksum ("Record Format").
 
 ghost use Rattle.std.specs.Prelude.{◌≡◌, ◌++◌, ◌-◌, ◌%◌, ◌<◌, OnOk, length, sum};
-ghost use Rattle.omf_write.specs.Framed.{record_of};
+ghost use Rattle.implib_model.specs.Framed.{record_of};
 
 use std::alloc::AllocError;
 

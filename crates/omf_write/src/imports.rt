@@ -2,7 +2,7 @@
 
 ghost use Rattle.std.specs.Prelude.{◌≡◌, ◌+◌, ◌++◌, ◌≤◌, OnOk, IfOk, length};
 ghost use Rattle.omf_model.specs.Object.{IsModule};
-ghost use Rattle.omf_write.specs.ImportModule.{ImportFits, NamesFit, EntryFits, import_comment, entry_bytes, import_bytes, import_object};
+ghost use Rattle.implib_model.specs.ImportModule.{ImportFits, NamesFit, EntryFits, import_comment, entry_bytes, import_bytes, import_object};
 
 use crate::fields::push_name;
 use crate::framed::push_record;

@@ -3,7 +3,8 @@
 ghost use Rattle.std.specs.Prelude.{◌≡◌, ◌++◌, ◌+◌, ◌*◌, ◌<◌, ◌≤◌, List, ℕ, OnOk, IfOk, MatchOption, length, map};
 ghost use Rattle.std.specs.List.{AllByRecursion};
 ghost use Rattle.lx_types.specs.Answers.{Answers};
-ghost use Rattle.omf_write.specs.Library.{HasEnds, pages_in, joined_pages, joined_len, joined_bytes, library_bytes, library_len, modules_together};
+ghost use Rattle.implib_model.specs.Library.{library_bytes, library_len};
+ghost use Rattle.omf_write.specs.Joined.{HasEnds, pages_in, joined_pages, joined_len, joined_bytes, modules_together};
 ghost use Rattle.omf_write.specs.declared.libraries.TheConstants.{LIBRARY_LIMIT as limit};
 
 use crate::libraries::{END, LIBRARY_LIMIT, LibraryLong, PAGE, push_header};

@@ -4,7 +4,7 @@ ghost use Rattle.std.specs.Prelude.{◌≡◌, ◌++◌, ◌+◌, ◌-◌, ◌%�
 ghost use Rattle.lx_types.specs.Answers.{Answers};
 ghost use Rattle.obj_types.specs.declared.object.ObjModule.{ObjModule};
 ghost use Rattle.omf_model.specs.Library.{Lib};
-ghost use Rattle.omf_write.specs.Library.{page_up, pages_of, library_len, header_bytes, end_bytes, library_bytes, AreModules};
+ghost use Rattle.implib_model.specs.Library.{page_up, pages_of, library_len, header_bytes, end_bytes, library_bytes, AreModules};
 
 use lx_types::{Bytes, Fail};
 use std::alloc::{AllocError, Global};

@@ -2,7 +2,7 @@
 
 ghost use Rattle.std.specs.Prelude.{◌≡◌, ◌++◌, ◌≤◌, ◌<◌, OnOk, IfOk, IfSome, length};
 ghost use Rattle.omf_model.specs.Object.{IsModule, Obj};
-ghost use Rattle.omf_write.specs.Framed.{record_of, name_bytes};
+ghost use Rattle.implib_model.specs.Framed.{record_of, name_bytes};
 ghost use Rattle.omf_write.specs.ObjectBytes.{segment_records, symbol_records, start_bytes, end_record, object_bytes};
 ghost use Rattle.omf_write.specs.ObjectFits.{SegmentsFit, SymbolsFit, StartFits, ObjectFits};
 ghost use Rattle.omf_write.specs.ObjectNames.{names_of};

@@ -1,5 +1,5 @@
 use Rattle.std.proofs.Common.{◌∷◌, [], ◌∙◌}
-use Rattle.implib_core.specs.Imports.{imports_in, modules_of}
+use Rattle.implib_model.specs.Imports.{imports_in, modules_of}
 use Rattle.implib_cases.proofs.import_libraries.joined_twice.Goals as goal
 
 pub join-requires : goal.join-requires

@@ -1,6 +1,6 @@
 use Rattle.std.proofs.Common.{◌≡◌, take}
-use Rattle.omf_write.specs.Library.{AreModules}
-use Rattle.implib_core.specs.Imports.{modules_of, objects_of}
+use Rattle.implib_model.specs.Library.{AreModules}
+use Rattle.implib_model.specs.Imports.{modules_of, objects_of}
 use Rattle.implib_core.proofs.imports.modules_of.Given as goal
 
 abbrev pub invariant-loop-import : goal.invariant-loop-import

@@ -1,7 +1,8 @@
 use Rattle.std.proofs.Common.{◌≡◌, map, take}
 use Rattle.std.specs.List.{AllByRecursion}
-use Rattle.omf_write.specs.ImportModule.{ImportFits}
-use Rattle.implib_core.specs.ModuleImports.{import_named, name_at}
+use Rattle.implib_model.specs.ImportModule.{ImportFits}
+use Rattle.implib_model.specs.ModuleImports.{import_named}
+use Rattle.implib_core.specs.NamePlaces.{name_at}
 use Rattle.implib_core.proofs.module.imports_at.Given as goal
 
 abbrev pub invariant-loop-place : goal.invariant-loop-place

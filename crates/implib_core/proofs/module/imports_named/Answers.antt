@@ -2,7 +2,8 @@ use Rattle.std.proofs.Common.{◌≡◌, ◌∙◌, ap, sym, subst, ℕ, List, R
 use Rattle.std.specs.Prelude.{IfOk}
 use Rattle.std.specs.List.{flat_map}
 use Rattle.lx_types.specs.declared.entry.EntryHead.{EntryHead}
-use Rattle.implib_core.specs.ModuleImports.{Named, import_named, name_at, places_in, places_from, imports_named, ArePlaces}
+use Rattle.implib_model.specs.ModuleImports.{Named, import_named, imports_named}
+use Rattle.implib_core.specs.NamePlaces.{name_at, places_in, places_from, ArePlaces}
 use Rattle.implib_core.proofs.NamePlaces.{Entries, ordered_are, same_order, imports_are}
 use Rattle.implib_core.proofs.module.imports_named.Goals as goal
 

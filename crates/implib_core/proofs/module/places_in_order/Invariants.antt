@@ -1,6 +1,6 @@
 use Rattle.std.proofs.Common.{◌≡◌, ◌++◌, drop}
 use Rattle.std.specs.List.{flat_map}
-use Rattle.implib_core.specs.ModuleImports.{places_in}
+use Rattle.implib_core.specs.NamePlaces.{places_in}
 use Rattle.implib_core.proofs.module.places_in_order.Given as goal
 
 abbrev pub invariant-loop-ordinal : goal.invariant-loop-ordinal

@@ -1,8 +1,8 @@
 use Rattle.std.proofs.Common.{List, length, ap, ◌∙◌}
 use Rattle.std.proofs.lemmas.List.{length-map}
 use Rattle.obj_types.specs.declared.object.ObjModule.{ObjModule}
-use Rattle.omf_write.specs.ImportModule.{import_object}
-use Rattle.implib_core.specs.Imports.{objects_of}
+use Rattle.implib_model.specs.ImportModule.{import_object}
+use Rattle.implib_model.specs.Imports.{objects_of}
 use Rattle.lx_tool.proofs.library.count_of.Goals as goal
 
 pub unreachable-requires : goal.unreachable-requires

@@ -1,7 +1,8 @@
 use Rattle.std.proofs.Common.{◌≡◌, List, ap, length, map, ◌∙◌, take}
 use Rattle.std.proofs.lemmas.List.{take_all}
 use Rattle.std.specs.List.{flat_map}
-use Rattle.omf_write.specs.Library.{library_bytes, library_len, modules_together}
+use Rattle.implib_model.specs.Library.{library_bytes, library_len}
+use Rattle.omf_write.specs.Joined.{modules_together}
 use Rattle.lx_answer.specs.ImplibAnswer.{all_imports}
 use Rattle.lx_answer.specs.Loading.{file_limit}
 use Rattle.std.specs.Prelude.{◌<◌}

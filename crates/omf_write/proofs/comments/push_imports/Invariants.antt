@@ -1,6 +1,6 @@
 use Rattle.std.proofs.Common.{◌≡◌, ◌++◌, take}
 use Rattle.std.specs.List.{AllByRecursion, flat_map}
-use Rattle.omf_write.specs.ImportModule.{NamesFit}
+use Rattle.implib_model.specs.ImportModule.{NamesFit}
 use Rattle.omf_write.specs.ObjectBytes.{impdef_record}
 use Rattle.omf_write.proofs.comments.push_imports.Given as goal
 

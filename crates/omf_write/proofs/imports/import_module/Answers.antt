@@ -1,7 +1,7 @@
 use Rattle.std.proofs.Common.{List, ℕ, sym, subst}
 use Rattle.lx_types.proofs.Options.{ok_weaker}
 use Rattle.omf_model.specs.Object.{IsModule}
-use Rattle.omf_write.specs.ImportModule.{import_object}
+use Rattle.implib_model.specs.ImportModule.{import_object}
 use Rattle.omf_write.proofs.ImportRead.{import_is_read}
 use Rattle.omf_write.proofs.imports.import_module.Goals as goal
 

@@ -1,6 +1,6 @@
 use Rattle.std.proofs.Common.{List, ℕ, sym, subst}
 use Rattle.std.specs.List.{AllByRecursion}
-use Rattle.omf_write.specs.Library.{HasEnds}
+use Rattle.omf_write.specs.Joined.{HasEnds}
 use Rattle.omf_write.proofs.JoinedRead.{all_ends, joined_answer}
 use Rattle.omf_write.proofs.joining.join.Goals as goal
 

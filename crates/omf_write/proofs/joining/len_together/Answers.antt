@@ -1,5 +1,5 @@
 use Rattle.std.proofs.Common.{◌≡◌, ℕ, List, subst, arith}
-use Rattle.omf_write.specs.Library.{pages_in}
+use Rattle.omf_write.specs.Joined.{pages_in}
 use Rattle.omf_write.proofs.JoinedRead.{too_long_together}
 use Rattle.omf_write.proofs.joining.len_together.Goals as goal
 

@@ -1,5 +1,5 @@
 use Rattle.std.proofs.Common.{◌≡◌, ◌≤◌, ◌+◌, length, take}
-use Rattle.omf_write.specs.Library.{joined_pages}
+use Rattle.omf_write.specs.Joined.{joined_pages}
 use Rattle.omf_write.specs.declared.libraries.TheConstants.{LIBRARY_LIMIT}
 use Rattle.omf_write.proofs.joining.len_together.Given as goal
 

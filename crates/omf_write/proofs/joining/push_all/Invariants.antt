@@ -1,5 +1,5 @@
 use Rattle.std.proofs.Common.{◌≡◌, ◌++◌, take}
-use Rattle.omf_write.specs.Library.{joined_pages}
+use Rattle.omf_write.specs.Joined.{joined_pages}
 use Rattle.omf_write.proofs.joining.push_all.Given as goal
 
 abbrev pub invariant-loop-library : goal.invariant-loop-library

@@ -1,5 +1,5 @@
 use Rattle.std.proofs.Common.{◌≡◌, ◌≤◌, ◌+◌, length, take}
-use Rattle.omf_write.specs.Library.{pages_of}
+use Rattle.implib_model.specs.Library.{pages_of}
 use Rattle.omf_write.specs.declared.libraries.TheConstants.{LIBRARY_LIMIT}
 use Rattle.omf_write.proofs.libraries.len_of.Given as goal
 

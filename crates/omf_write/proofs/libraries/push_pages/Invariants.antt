@@ -1,5 +1,5 @@
 use Rattle.std.proofs.Common.{◌≡◌, ◌++◌, take}
-use Rattle.omf_write.specs.Library.{pages_of}
+use Rattle.implib_model.specs.Library.{pages_of}
 use Rattle.omf_write.proofs.libraries.push_pages.Given as goal
 
 abbrev pub invariant-loop-own : goal.invariant-loop-own

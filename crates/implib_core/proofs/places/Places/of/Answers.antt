@@ -1,7 +1,8 @@
 use Rattle.std.proofs.Common.{◌∙◌, ◌++◌, ap, []}
 use Rattle.std.proofs.lemmas.List.{get_or_default}
 use Rattle.implib_core.proofs.NamePlaces.{place_more}
-use Rattle.implib_core.specs.ModuleImports.{Named, places_in, one_place}
+use Rattle.implib_model.specs.ModuleImports.{Named}
+use Rattle.implib_core.specs.NamePlaces.{places_in, one_place}
 use Rattle.implib_core.proofs.places.Places.of.Goals as goal
 
 pub loop-place-preserved : goal.loop-place-preserved

@@ -1,5 +1,5 @@
 use Rattle.std.proofs.Common.{◌≡◌, ℕ, take}
-use Rattle.implib_core.specs.ModuleImports.{places_in, places_from}
+use Rattle.implib_core.specs.NamePlaces.{places_in, places_from}
 use Rattle.implib_core.proofs.places.Places.of.Given as goal
 
 abbrev pub invariant-loop-place : goal.invariant-loop-place

@@ -7,7 +7,7 @@ use Rattle.obj_types.specs.declared.definition.DefFile.{DefFile}
 use Rattle.obj_types.specs.declared.object.ObjModule.{ObjModule}
 use Rattle.obj_types.specs.declared.symbol.Exp.{Exp}
 use Rattle.obj_types.specs.declared.symbol.Imp.{Imp}
-use Rattle.omf_write.specs.ImportModule.{import_bytes, import_object}
+use Rattle.implib_model.specs.ImportModule.{import_bytes, import_object}
 
 -- The module's name is the definition file's, or the stem where it gives none.
 abbrev pub name_or : Option (List ℕ) → List ℕ → List ℕ

@@ -8,7 +8,7 @@ use Rattle.lx_types.specs.declared.entry.EntryKey.TheVariants.{Ordinal, Named}
 use Rattle.obj_types.specs.declared.symbol.Imp.{Imp}
 use Rattle.obj_types.specs.declared.object.ObjModule.{ObjModule}
 use Rattle.obj_types.specs.Fresh.{empty_module}
-use Rattle.omf_write.specs.Framed.{record_of, name_bytes}
+use Rattle.implib_model.specs.Framed.{record_of, name_bytes}
 
 -- ---- what is to be written
 

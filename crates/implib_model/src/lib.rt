@@ -1,0 +1,7 @@
+//! Import libraries: which imports a definition file and a module give to those that link with it, the object module of each
+//! import, and the bytes of a library of such modules.
+#![tactic(auto)]
+
+mod worked;
+
+pub use worked::imports_are_written;
