@@ -5,7 +5,7 @@ use Rattle.std.proofs.Common.{ap, sym, ◌∙◌, arith, subst, append_assoc, le
 use Rattle.std.proofs.lemmas.List.{flat_map_more, map-append}
 use Rattle.std.proofs.lemmas.List.Elements.{All-from_recursion}
 use Rattle.omf_model.specs.Object.{Obj}
-use Rattle.session_text.specs.Sessions.{session_bytes}
+use Rattle.session_spelling.specs.Sessions.{session_bytes}
 use Rattle.gen_model.specs.declared.totals.Totals.{Totals}
 use Rattle.gen_model.specs.Modules.{gen_object, definition_text}
 use Rattle.gen_model.specs.Sessions.{gen_session, object_name, definition_name, session_name}

@@ -8,6 +8,7 @@ mod linking;
 mod outputs;
 mod placing;
 mod saving;
+mod sessions;
 mod telling;
 
 pub use laws::words_are_meant;

@@ -2,16 +2,15 @@
 
 ghost use Rattle.std.specs.Prelude.{ℕ, ◌≤◌, List, IfOk, string_bytes};
 ghost use Rattle.omf_model.specs.Object.{Obj};
-ghost use Rattle.session_text.specs.Sessions.{session_bytes};
+ghost use Rattle.session_spelling.specs.Sessions.{session_bytes};
 ghost use Rattle.gen_model.specs.Modules as modules;
 ghost use Rattle.gen_model.specs.Modules.{gen_object};
 ghost use Rattle.gen_model.specs.Sessions as names;
 ghost use Rattle.gen_core.specs.Generated.{AreOutputs, IsOutput};
 
+use crate::sessions::session_text;
 use gen_laws::objects_are_writable;
-use gen_model::{
-    definition_name, definition_text, object_module, object_name, session_name, session_text,
-};
+use gen_model::{definition_name, definition_text, object_module, object_name, session_name};
 use lx_types::{Bytes, NoMemory, Seq};
 use omf_write::object;
 use std::alloc::Global;

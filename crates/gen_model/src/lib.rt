@@ -7,13 +7,12 @@ mod names;
 mod objects;
 mod references;
 mod scripts;
-mod sessions;
 mod totals;
 mod worked;
 
 pub use modules::{definition_text, link_input};
 pub use names::{MOST, definition_name, object_name, session_name};
 pub use objects::object_module;
-pub use sessions::session_text;
+pub use scripts::scripts;
 pub use totals::Totals;
 pub use worked::{lines_are_told, modules_are_made, sessions_are_made};

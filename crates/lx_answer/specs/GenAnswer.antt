@@ -5,7 +5,7 @@ use Rattle.std.specs.List.{enumerate_from, flat_map}
 use Rattle.lx_ports.specs.Calls.{Call, save}
 use Rattle.lx_ports.specs.declared.files.SaveFault.{SaveFault}
 use Rattle.omf_model.specs.Object.{Obj}
-use Rattle.session_text.specs.Sessions.{session_bytes}
+use Rattle.session_spelling.specs.Sessions.{session_bytes}
 use Rattle.gen_model.specs.declared.totals.Totals.{Totals}
 use Rattle.gen_model.specs.Modules.{gen_object, definition_text}
 use Rattle.gen_model.specs.Sessions.{gen_session, object_name, definition_name, session_name, numbers}

@@ -19,7 +19,7 @@ use Rattle.session_model.specs.Sessions.{module_of, failing_in, commands_of, scr
 use Rattle.session_model.specs.Bounds.{IsCommand, IsModLine, IsFailingLine, IsScript}
 use Rattle.session_model.specs.Text.{words, line_of}
 use Rattle.session_lines.proofs.DraftLaws.{numbers-more, counts-more, session-same}
-use Rattle.session_text.specs.Sessions.{module_line, failing_line, command_line, process_words, script_lines, session_bytes}
+use Rattle.session_spelling.specs.Sessions.{module_line, failing_line, command_line, process_words, script_lines, session_bytes}
 use Rattle.session_text.specs.Writable.{IsPlainCommand, IsPlainModule, IsPlainFailing, IsPlainScript, IsWritable}
 use Rattle.session_text.proofs.PlainWords.{words-allowed, line-written}
 use Rattle.session_text.proofs.StatementTexts.{statement_words, IsSayable, statement-plain, statement-read}

@@ -18,7 +18,7 @@ use Rattle.session_model.specs.Bounds.{IsWord, IsPlace, IsReadable, IsWritten, I
 use Rattle.session_model.specs.Text.{words, bytes_word}
 use Rattle.session_model.specs.Transcript.{key_text, command_words}
 use Rattle.session_lines.proofs.ArgumentLaws.{counted, three-short}
-use Rattle.session_text.specs.Sessions.{module_words, failing_words, process_words}
+use Rattle.session_spelling.specs.Sessions.{module_words, failing_words, process_words}
 use Rattle.session_text.specs.Writable.{IsVisible, IsPlain, HasPlainKey, IsByte, IsPlainCommand, IsPlainModule, IsPlainFailing}
 use Rattle.session_text.proofs.PlainWords.{words-read, words-allowed}
 use Rattle.session_text.proofs.NumberTexts.{number-read, number-short, number-plain, ordinal-plain, ordinal-short, hex-read, hex-plain}

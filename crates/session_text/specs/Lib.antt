@@ -1,5 +1,4 @@
 pub mod Spaced
 pub mod Words
 pub mod Deeds
-pub mod Sessions
 pub mod Writable

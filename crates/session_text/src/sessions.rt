@@ -4,7 +4,7 @@ ghost use Rattle.std.specs.Prelude.{◌≡◌, ◌++◌, OnOk, IfOk};
 ghost use Rattle.std.specs.List.{flat_map};
 ghost use Rattle.session_model.specs.Sessions.{Ses};
 ghost use Rattle.session_text.specs.Spaced.{spaced};
-ghost use Rattle.session_text.specs.Sessions.{module_line, failing_line, command_line, script_lines, session_bytes};
+ghost use Rattle.session_spelling.specs.Sessions.{module_line, failing_line, command_line, script_lines, session_bytes};
 ghost use Rattle.session_text.specs.Writable.{IsWritable};
 
 use crate::commands::push_command;

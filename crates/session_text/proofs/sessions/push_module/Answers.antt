@@ -1,7 +1,7 @@
 use Rattle.std.proofs.Common.{[], ◌∷◌, ◌++◌, sym, ap, ◌∙◌}
 use Rattle.std.specs.Prelude.{codes}
 use Rattle.session_model.specs.Text.{words}
-use Rattle.session_text.specs.Sessions.{module_line}
+use Rattle.session_spelling.specs.Sessions.{module_line}
 use Rattle.session_text.proofs.SpacedLaws.{tail-pushed}
 use Rattle.session_text.proofs.sessions.push_module.Goals as goal
 

@@ -1,8 +1,8 @@
 use Rattle.std.proofs.Common.{◌≡◌, ◌+◌, ◌∙◌, arith}
-use Rattle.session_text.specs.Sessions.{module_line}
+use Rattle.session_spelling.specs.Sessions.{module_line}
 use Rattle.gen_model.specs.Sessions.{build_line}
 use Rattle.gen_model.proofs.Ranges.{lines_further}
-use Rattle.gen_model.proofs.sessions.push_build_lines.Goals as goal
+use Rattle.gen_core.proofs.sessions.push_build_lines.Goals as goal
 
 pub loop-before-preserved : goal.loop-before-preserved
 loop-before-preserved c =
