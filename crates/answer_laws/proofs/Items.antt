@@ -14,9 +14,9 @@ use Rattle.def_file.specs.declared.refusal.DefRefusal.{DefRefusal}
 use Rattle.def_file.specs.Reading.{read_of}
 use Rattle.lx_types.specs.declared.refusal.LxRefusal.{LxRefusal}
 use Rattle.lx_model.specs.Module.{LxFault, parts_of, Lx}
-use Rattle.refusal_text.specs.Files.{omf_text, lx_text, def_text}
-use Rattle.refusal_text.specs.Sessions.{session_text}
-use Rattle.refusal_text.specs.Resources.{res_text}
+use Rattle.lx_answer.specs.FileRefusals.{omf_text, lx_text, def_text}
+use Rattle.lx_answer.specs.SessionRefusals.{session_text}
+use Rattle.lx_answer.specs.ResourceRefusals.{res_text}
 use Rattle.res_file.specs.declared.refusal.ResRefusal.{ResRefusal}
 use Rattle.session_model.specs.declared.sessions.SessionRefusal.{SessionRefusal}
 use Rattle.session_model.specs.Sessions.{SesFault, Ses, session_of, statements_of}

@@ -2,7 +2,7 @@
 -- are not bound.
 use Rattle.std.specs.Prelude.{◌≡◌, ℕ, List, [], ◌∷◌, ◌++◌, codes, length, option_map, sum_by}
 use Rattle.std.specs.Fmt.{decimal}
-use Rattle.refusal_text.specs.Resources.{bind_text}
+use Rattle.lx_answer.specs.ResourceRefusals.{bind_text}
 use Rattle.res_file.specs.declared.item.ResItem.{ResItem}
 use Rattle.res_bind.specs.Bound.{bound_file}
 use Rattle.res_bind.specs.Refusal.{bind_refusal}

@@ -14,7 +14,7 @@ use Rattle.link_model.specs.Patches.{linked_world}
 use Rattle.link_model.specs.Refusal.{link_refusal}
 use Rattle.link_model.specs.Words.{first_of}
 use Rattle.image_model.specs.Linked.{link_modules}
-use Rattle.refusal_text.specs.Files.{field}
+use Rattle.lx_answer.specs.FileRefusals.{field}
 use Rattle.lx_answer.specs.ImageText.{image_text}
 use Rattle.lx_answer.specs.LinkAnswer.{link_text}
 use Rattle.lx_answer.specs.Outcome.{Outcome, shown, refused_or}

@@ -1,6 +1,10 @@
 pub mod Words
 pub mod Stem
 pub mod FileLine
+pub mod FileRefusals
+pub mod LinkRefusals
+pub mod SessionRefusals
+pub mod ResourceRefusals
 pub mod ImageText
 pub mod Reading
 pub mod Loading

@@ -17,7 +17,7 @@ use Rattle.link_model.specs.Refusal.{link_refusal}
 use Rattle.image_model.specs.File.{file_of}
 use Rattle.image_model.specs.Linked.{image_of, called, page_forms, page_fixes}
 use Rattle.lx_types.specs.Escaped.{escaped}
-use Rattle.refusal_text.specs.Links.{sym_text, comdat_text, lay_text, fix_text, entry_text}
+use Rattle.lx_answer.specs.LinkRefusals.{sym_text, comdat_text, lay_text, fix_text, entry_text}
 use Rattle.lx_answer.specs.Outcome.{Outcome, kept, refused_or}
 use Rattle.lx_answer.specs.Reading.{Item, object, library, definition}
 use Rattle.lx_answer.specs.Stem.{stem_of}

@@ -10,9 +10,9 @@ use Rattle.omf_model.specs.Object as object_files
 use Rattle.omf_model.specs.Library as libraries
 use Rattle.def_file.specs.Reading as definitions
 use Rattle.lx_model.specs.Module as modules
-use Rattle.refusal_text.specs.Files.{omf_text, lx_text, def_text}
-use Rattle.refusal_text.specs.Sessions.{session_text}
-use Rattle.refusal_text.specs.Resources.{res_text}
+use Rattle.lx_answer.specs.FileRefusals.{omf_text, lx_text, def_text}
+use Rattle.lx_answer.specs.SessionRefusals.{session_text}
+use Rattle.lx_answer.specs.ResourceRefusals.{res_text}
 use Rattle.res_file.specs.ResFile.{IsResFile}
 use Rattle.res_file.specs.Faults.{FirstFault}
 use Rattle.res_file.specs.declared.item.ResItem.{ResItem}

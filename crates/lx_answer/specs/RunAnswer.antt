@@ -16,7 +16,7 @@ use Rattle.session_model.specs.declared.sessions.Session.{Session}
 use Rattle.session_model.specs.FailingPairs.{failing_pairs}
 use Rattle.session_model.specs.Runs.{Run, IsRunOf, run_text}
 use Rattle.run_model.specs.Sources.{Source, taken, built, held, library_of}
-use Rattle.refusal_text.specs.Sessions.{library_text}
+use Rattle.lx_answer.specs.SessionRefusals.{library_text}
 use Rattle.lx_answer.specs.declared.said.Said.{Said}
 use Rattle.lx_answer.specs.FileLine.{file_line}
 use Rattle.lx_answer.specs.LinkAnswer.{input_with, link_text}

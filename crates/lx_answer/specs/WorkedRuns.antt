@@ -5,7 +5,7 @@ use Rattle.lx_ports.specs.declared.files.LoadFault.TheVariants.{Absent}
 use Rattle.lx_model.specs.declared.library.LibraryRefusal.TheVariants.{TooManyModules, NameTwice}
 use Rattle.session_model.specs.declared.sessions.ModLine.TheVariants.{Take, Build}
 use Rattle.session_model.specs.Runs.{Run}
-use Rattle.refusal_text.specs.Sessions.{library_text}
+use Rattle.lx_answer.specs.SessionRefusals.{library_text}
 use Rattle.lx_answer.specs.declared.said.Said.{Said}
 use Rattle.lx_answer.specs.Reading.{definition_file, module_file, object_or_library}
 use Rattle.lx_answer.specs.RunAnswer.{asked_lines, run_of, SaysRun}

@@ -16,7 +16,7 @@ use Rattle.implib_model.specs.Imports.{modules_of}
 use Rattle.link_model.specs.Link.{IsLinkOf}
 use Rattle.dump_model.specs.Dumps.{Dump}
 use Rattle.dump_model.specs.Listings.{listing_of}
-use Rattle.refusal_text.specs.Resources.{bind_text}
+use Rattle.lx_answer.specs.ResourceRefusals.{bind_text}
 use Rattle.res_file.specs.declared.item.ResItem.{ResItem}
 use Rattle.res_bind.specs.Bound.{bound_file}
 use Rattle.res_bind.specs.Refusal.{bind_refusal}

@@ -20,7 +20,7 @@ use Rattle.image_model.specs.Linked.{link_modules}
 use Rattle.image_pages.specs.declared.refusals.ImageRefusal.{ImageRefusal}
 use Rattle.image_pages.specs.declared.refusals.ImageRefusal.TheVariants as image
 use Rattle.image_pages.specs.Memory as memory
-use Rattle.refusal_text.specs.Files.{field}
+use Rattle.lx_answer.specs.FileRefusals.{field}
 use Rattle.lx_answer.specs.declared.said.Said.{Said}
 use Rattle.lx_answer.specs.FileLine.{file_line}
 use Rattle.lx_answer.specs.ImageAnswer.{NAME, ShowsObject, image_refusal, memory_of, memory_text}

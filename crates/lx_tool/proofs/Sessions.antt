@@ -10,7 +10,7 @@ use Rattle.load_model.specs.Modules.{fixed_bytes}
 use Rattle.lx_ports.specs.Calls.{Call}
 use Rattle.session_model.specs.FailingPairs.{failing_pairs}
 use Rattle.session_model.specs.Runs.{IsRunOf, run_text}
-use Rattle.refusal_text.specs.Sessions.{library_text}
+use Rattle.lx_answer.specs.SessionRefusals.{library_text}
 use Rattle.run_model.specs.Sources.{library_of}
 use Rattle.run_laws.specs.Bridge.{RunsByLinks}
 use Rattle.run_core.specs.declared.session.Ran.{Ran}

@@ -7,7 +7,7 @@ use Rattle.link_model.specs.declared.refusals.LinkRefusal.{LinkRefusal}
 use Rattle.image_pages.specs.declared.refusals.ImageRefusal.{ImageRefusal}
 use Rattle.image_pages.specs.declared.refusals.ImageRefusal.TheVariants as image
 use Rattle.omf_write.specs.declared.libraries.LibraryLong.{LibraryLong}
-use Rattle.refusal_text.specs.Files.{field}
+use Rattle.lx_answer.specs.FileRefusals.{field}
 use Rattle.lx_answer.specs.declared.said.Said.{Said}
 use Rattle.lx_answer.specs.FileLine.{file_line}
 use Rattle.lx_answer.specs.LinkAnswer.{link_text}

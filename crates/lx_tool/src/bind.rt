@@ -2,7 +2,7 @@
 ghost use Rattle.std.specs.Prelude.{◌≡◌, ◌≤◌, IfOk, length};
 ghost use Rattle.std.specs.List.{sum_by};
 ghost use Rattle.lx_model.specs.Module.{IsRead};
-ghost use Rattle.refusal_text.specs.Resources.{bind_text};
+ghost use Rattle.lx_answer.specs.ResourceRefusals.{bind_text};
 ghost use Rattle.res_file.specs.ResFile.{AreApart};
 ghost use Rattle.lx_answer.specs.BindAnswer.{bind_outcome, counts_of};
 ghost use Rattle.lx_answer.specs.Loading.{file_limit};

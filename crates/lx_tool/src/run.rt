@@ -1,7 +1,7 @@
 //! The command `run`: the scripts of a session, each on a thread of its own.
 ghost use Rattle.std.specs.Prelude.{ℕ, IfOk, List, codes};
 ghost use Rattle.lx_ports.specs.Calls.{Call};
-ghost use Rattle.refusal_text.specs.Sessions.{library_text};
+ghost use Rattle.lx_answer.specs.SessionRefusals.{library_text};
 ghost use Rattle.session_model.specs.Bounds.{IsSession};
 ghost use Rattle.session_model.specs.FailingPairs.{failing_pairs};
 ghost use Rattle.session_files.specs.SessionFiles.{AreSessionFiles};

@@ -2,7 +2,7 @@
 ghost use Rattle.std.specs.Prelude.{◌≡◌, ◌≤◌, IfOk, length};
 ghost use Rattle.obj_types.specs.Definition.{WholeDef};
 ghost use Rattle.lx_ports.specs.Calls.{load_answer};
-ghost use Rattle.refusal_text.specs.Files.{def_text};
+ghost use Rattle.lx_answer.specs.FileRefusals.{def_text};
 ghost use Rattle.lx_answer.specs.Loading.{file_limit};
 ghost use Rattle.lx_answer.specs.Reading.{definition, definition_file, definition_form};
 ghost use Rattle.tool_read.specs.Readings.{ReadsForm, ReadsLoad, SaysOf};

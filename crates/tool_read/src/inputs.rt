@@ -3,7 +3,7 @@ ghost use Rattle.std.specs.Prelude.{◌≡◌, ◌≤◌, IfOk, length};
 ghost use Rattle.std.specs.List.{All};
 ghost use Rattle.obj_types.specs.Whole.{WholeModule};
 ghost use Rattle.lx_ports.specs.Calls.{load_answer};
-ghost use Rattle.refusal_text.specs.Files.{omf_text};
+ghost use Rattle.lx_answer.specs.FileRefusals.{omf_text};
 ghost use Rattle.lx_answer.specs.Loading.{file_limit};
 ghost use Rattle.lx_answer.specs.Reading.{form_of, is_library, library, library_form, object, object_file, object_form, object_or_library};
 ghost use Rattle.tool_read.specs.Readings.{ReadsForm, ReadsLoad, SaysOf, WholeInputFile, input_item};

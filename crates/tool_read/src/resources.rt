@@ -2,7 +2,7 @@
 ghost use Rattle.std.specs.Prelude.{◌≡◌, ◌≤◌, ℕ, List, Result, IfOk, length, sum_by};
 ghost use Rattle.lx_ports.specs.Calls.{load_answer};
 ghost use Rattle.lx_ports.specs.declared.files.LoadFault.{LoadFault};
-ghost use Rattle.refusal_text.specs.Resources.{res_text};
+ghost use Rattle.lx_answer.specs.ResourceRefusals.{res_text};
 ghost use Rattle.res_file.specs.ResFile.{AreApart};
 ghost use Rattle.lx_answer.specs.Loading.{file_limit};
 ghost use Rattle.lx_answer.specs.Reading.{resources, resource_file, resource_form};

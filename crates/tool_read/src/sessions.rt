@@ -3,7 +3,7 @@ ghost use Rattle.std.specs.Prelude.{◌≡◌, ◌≤◌, ℕ, List, Result, IfO
 ghost use Rattle.lx_model.specs.Module.{IsRead};
 ghost use Rattle.lx_ports.specs.Calls.{load_answer};
 ghost use Rattle.lx_ports.specs.declared.files.LoadFault.{LoadFault};
-ghost use Rattle.refusal_text.specs.Sessions.{session_text};
+ghost use Rattle.lx_answer.specs.SessionRefusals.{session_text};
 ghost use Rattle.lx_answer.specs.Loading.{file_limit};
 ghost use Rattle.lx_answer.specs.Reading.{linked, module_file, session, session_file, session_form};
 ghost use Rattle.tool_read.specs.Readings.{ReadsForm, ReadsLoad, SaysOf};

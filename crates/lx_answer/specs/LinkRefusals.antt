@@ -10,7 +10,7 @@ use Rattle.link_model.specs.declared.refusals.FixRefusal.{FixRefusal}
 use Rattle.link_model.specs.declared.refusals.FixRefusal.TheVariants.{FarSelf, FrameApart, ConstSelector, StartOutside}
 use Rattle.link_model.specs.declared.refusals.EntryRefusal.{EntryRefusal}
 use Rattle.link_model.specs.declared.refusals.EntryRefusal.TheVariants.{Ordinal, NameTwice}
-use Rattle.refusal_text.specs.Files.{field}
+use Rattle.lx_answer.specs.FileRefusals.{field}
 use Rattle.lx_types.specs.Escaped.{escaped}
 
 abbrev pub named : List ℕ → List ℕ

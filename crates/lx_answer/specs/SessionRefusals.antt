@@ -5,7 +5,7 @@ use Rattle.lx_model.specs.declared.library.LibraryRefusal.TheVariants.{TooManyMo
 use Rattle.session_model.specs.declared.sessions.SessionKind.{SessionKind}
 use Rattle.session_model.specs.declared.sessions.SessionKind.TheVariants as session
 use Rattle.session_model.specs.declared.sessions.SessionRefusal.{SessionRefusal}
-use Rattle.refusal_text.specs.Files.{at_line, field}
+use Rattle.lx_answer.specs.FileRefusals.{at_line, field}
 
 abbrev pub session_kind : SessionKind → List ℕ
 session_kind session.Byte = codes "Byte"

@@ -1,6 +1,6 @@
 -- What is told of resource files and of modules to which resources are not bound: kinds by their names.
 use Rattle.std.specs.Prelude.{ℕ, List, codes}
-use Rattle.refusal_text.specs.Files.{placed}
+use Rattle.lx_answer.specs.FileRefusals.{placed}
 use Rattle.res_file.specs.declared.refusal.ResRefusal.{ResRefusal}
 use Rattle.res_file.specs.declared.refusal.ResRefusal.TheVariants.{Short, BadItem, Twice}
 use Rattle.res_bind.specs.declared.refusal.BindRefusal.{BindRefusal}

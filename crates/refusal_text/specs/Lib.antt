@@ -1,4 +1,0 @@
-pub mod Files
-pub mod Links
-pub mod Sessions
-pub mod Resources
