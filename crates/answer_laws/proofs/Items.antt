@@ -17,7 +17,7 @@ use Rattle.lx_model.specs.Module.{LxFault, parts_of, Lx}
 use Rattle.lx_answer.specs.FileRefusals.{omf_text, lx_text, def_text}
 use Rattle.lx_answer.specs.SessionRefusals.{session_text}
 use Rattle.lx_answer.specs.ResourceRefusals.{res_text}
-use Rattle.res_file.specs.declared.refusal.ResRefusal.{ResRefusal}
+use Rattle.res_model.specs.declared.refusal.ResRefusal.{ResRefusal}
 use Rattle.session_model.specs.declared.sessions.SessionRefusal.{SessionRefusal}
 use Rattle.session_model.specs.Sessions.{SesFault, Ses, session_of, statements_of}
 use Rattle.session_model.specs.Lines.{lines_in}

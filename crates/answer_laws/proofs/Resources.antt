@@ -8,13 +8,13 @@ use Rattle.std.proofs.Math.Seq.{take-append_seam, drop-append_seam}
 use Rattle.lx_bytes.specs.LittleEndian.{AreBytes, little, little_bytes}
 use Rattle.lx_bytes.proofs.Numbers.{little-little_bytes}
 use Rattle.lx_model.specs.Reading.{number_at, ◌then◌}
-use Rattle.res_file.specs.ItemFields.{MARK, FIELDS, type_at, id_at, length_at, item_at, short_field, mark_fault, fields_fault}
-use Rattle.res_file.specs.ResFile.{item_spelling, items_spelling, ItemFits, has_key, same_key, AreApart, IsResFile}
-use Rattle.res_file.specs.Faults.{FirstFault, item_fault, is_second}
+use Rattle.res_model.specs.ItemFields.{MARK, FIELDS, type_at, id_at, length_at, item_at, short_field, mark_fault, fields_fault}
+use Rattle.res_model.specs.ResFile.{item_spelling, items_spelling, ItemFits, has_key, same_key, AreApart, IsResFile}
+use Rattle.res_model.specs.Faults.{FirstFault, item_fault, is_second}
 use Rattle.res_file.specs.Seen.{AreRead}
-use Rattle.res_file.specs.declared.item.ResItem.{ResItem}
-use Rattle.res_file.specs.declared.refusal.ResRefusal.{ResRefusal}
-use Rattle.res_file.specs.declared.refusal.ResRefusal.TheVariants.{Short, BadItem, Twice}
+use Rattle.res_model.specs.declared.item.ResItem.{ResItem}
+use Rattle.res_model.specs.declared.refusal.ResRefusal.{ResRefusal}
+use Rattle.res_model.specs.declared.refusal.ResRefusal.TheVariants.{Short, BadItem, Twice}
 use Rattle.res_file.proofs.Progress.{nothing_read, one_more, all_read, faulty, fault_of_fields, fault_of_key}
 
 -- ---- the fields of an item as it is spelled

@@ -28,7 +28,7 @@ use Rattle.lx_answer.specs.Words.{Command, command_of, image, link, implib, bind
 use Rattle.lx_answer.specs.declared.said.Said.{Said}
 use Rattle.lx_types.specs.declared.parts.Parts.{Parts}
 use Rattle.obj_types.specs.declared.object.ObjModule.{ObjModule}
-use Rattle.res_file.specs.declared.item.ResItem.{ResItem}
+use Rattle.res_model.specs.declared.item.ResItem.{ResItem}
 use Rattle.gen_laws.specs.Laws.{FirstHaveTotals, ObjectsHaveFiles}
 use Rattle.answer_laws.specs.AnswerLaws.{HasBytes, SomeAnswer}
 use Rattle.answer_laws.proofs.GeneratedSome.{IsCounted, all_counted, generated}

@@ -3,9 +3,9 @@
 use Rattle.std.specs.Prelude.{◌≡◌, ℕ, List, [], ◌∷◌, ◌++◌, codes, length, option_map, sum_by}
 use Rattle.std.specs.Fmt.{decimal}
 use Rattle.lx_answer.specs.ResourceRefusals.{bind_text}
-use Rattle.res_file.specs.declared.item.ResItem.{ResItem}
-use Rattle.res_bind.specs.Bound.{bound_file}
-use Rattle.res_bind.specs.Refusal.{bind_refusal}
+use Rattle.res_model.specs.declared.item.ResItem.{ResItem}
+use Rattle.res_model.specs.Bound.{bound_file}
+use Rattle.res_model.specs.Refusal.{bind_refusal}
 use Rattle.lx_answer.specs.Outcome.{Outcome, kept, refused_or}
 use Rattle.lx_answer.specs.Reading.{Item, linked, resources}
 

@@ -13,10 +13,10 @@ use Rattle.lx_model.specs.Module as modules
 use Rattle.lx_answer.specs.FileRefusals.{omf_text, lx_text, def_text}
 use Rattle.lx_answer.specs.SessionRefusals.{session_text}
 use Rattle.lx_answer.specs.ResourceRefusals.{res_text}
-use Rattle.res_file.specs.ResFile.{IsResFile}
-use Rattle.res_file.specs.Faults.{FirstFault}
-use Rattle.res_file.specs.declared.item.ResItem.{ResItem}
-use Rattle.res_file.specs.declared.refusal.ResRefusal.{ResRefusal}
+use Rattle.res_model.specs.ResFile.{IsResFile}
+use Rattle.res_model.specs.Faults.{FirstFault}
+use Rattle.res_model.specs.declared.item.ResItem.{ResItem}
+use Rattle.res_model.specs.declared.refusal.ResRefusal.{ResRefusal}
 use Rattle.session_model.specs.declared.sessions.Session.{Session}
 use Rattle.session_model.specs.declared.sessions.SessionRefusal.{SessionRefusal}
 use Rattle.session_model.specs.Sessions as sessions

@@ -1,10 +1,10 @@
 -- What is told of resource files and of modules to which resources are not bound: kinds by their names.
 use Rattle.std.specs.Prelude.{ℕ, List, codes}
 use Rattle.lx_answer.specs.FileRefusals.{placed}
-use Rattle.res_file.specs.declared.refusal.ResRefusal.{ResRefusal}
-use Rattle.res_file.specs.declared.refusal.ResRefusal.TheVariants.{Short, BadItem, Twice}
-use Rattle.res_bind.specs.declared.refusal.BindRefusal.{BindRefusal}
-use Rattle.res_bind.specs.declared.refusal.BindRefusal.TheVariants.{HasResources, TooMany, TooLarge}
+use Rattle.res_model.specs.declared.refusal.ResRefusal.{ResRefusal}
+use Rattle.res_model.specs.declared.refusal.ResRefusal.TheVariants.{Short, BadItem, Twice}
+use Rattle.res_model.specs.declared.refusal.BindRefusal.{BindRefusal}
+use Rattle.res_model.specs.declared.refusal.BindRefusal.TheVariants.{HasResources, TooMany, TooLarge}
 
 -- `@AT KIND`
 abbrev pub res_text : ResRefusal → List ℕ

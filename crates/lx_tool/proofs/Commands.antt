@@ -17,10 +17,10 @@ use Rattle.link_model.specs.Link.{IsLinkOf}
 use Rattle.dump_model.specs.Dumps.{Dump}
 use Rattle.dump_model.specs.Listings.{listing_of}
 use Rattle.lx_answer.specs.ResourceRefusals.{bind_text}
-use Rattle.res_file.specs.declared.item.ResItem.{ResItem}
-use Rattle.res_bind.specs.Bound.{bound_file}
-use Rattle.res_bind.specs.Refusal.{bind_refusal}
-use Rattle.res_bind.specs.declared.refusal.BindRefusal.{BindRefusal}
+use Rattle.res_model.specs.declared.item.ResItem.{ResItem}
+use Rattle.res_model.specs.Bound.{bound_file}
+use Rattle.res_model.specs.Refusal.{bind_refusal}
+use Rattle.res_model.specs.declared.refusal.BindRefusal.{BindRefusal}
 use Rattle.lx_ports.specs.Calls.{Call}
 use Rattle.lx_ports.specs.Files.{FilesState}
 use Rattle.lx_answer.specs.declared.said.Said.{Said}

@@ -6,9 +6,9 @@ use Rattle.lx_types.specs.declared.object.ObjHead.{ObjHead}
 use Rattle.lx_types.specs.declared.parts.Parts.{Parts}
 use Rattle.lx_model.specs.Module.{IsRead, parts_of}
 use Rattle.lx_model.specs.Tables.{objects_of}
-use Rattle.res_file.specs.declared.item.ResItem.{ResItem}
-use Rattle.res_bind.specs.Placed.{object_size, page_number, new_page_count}
-use Rattle.res_bind.specs.Layout.{end_of, page_unit, paged_place, data_place, objects_place, pages_place, fixups_place, resources_place, end_place}
+use Rattle.res_model.specs.declared.item.ResItem.{ResItem}
+use Rattle.res_model.specs.Placed.{object_size, page_number, new_page_count}
+use Rattle.res_model.specs.Layout.{end_of, page_unit, paged_place, data_place, objects_place, pages_place, fixups_place, resources_place, end_place}
 use Rattle.res_bind.specs.Numbers.{IsPlanOf}
 use Rattle.res_bind.specs.declared.header.OldTables.{OldTables}
 use Rattle.res_bind.specs.declared.layout.Layout.{Layout}

@@ -6,12 +6,12 @@ use Rattle.std.proofs.lemmas.List.{length-take, length-drop, get_or_append_left,
 use Rattle.lx_bytes.specs.LittleEndian.{little_bytes}
 use Rattle.lx_model.specs.Header.{header_place, page_count, object_count}
 use Rattle.lx_model.specs.FixupPages.{has_records}
-use Rattle.res_file.specs.declared.item.ResItem.{ResItem}
-use Rattle.res_bind.specs.Placed.{new_page_count}
-use Rattle.res_bind.specs.Layout.{objects_place, pages_place, fixups_place, resources_place}
-use Rattle.res_bind.specs.Bound.{with_number, with_fields, appended}
+use Rattle.res_model.specs.declared.item.ResItem.{ResItem}
+use Rattle.res_model.specs.Placed.{new_page_count}
+use Rattle.res_model.specs.Layout.{objects_place, pages_place, fixups_place, resources_place}
+use Rattle.res_model.specs.Bound.{with_number, with_fields, appended}
 use Rattle.std.specs.List.{list_any}
-use Rattle.res_bind.specs.Clear.{part}
+use Rattle.res_model.specs.Clear.{part}
 use Rattle.res_bind.specs.Laws.{is_set, OldBytesStand}
 use Rattle.res_bind.proofs.Headers.{header_long}
 

@@ -1,7 +1,7 @@
 -- Multiples of a unit.
 use Rattle.std.proofs.Common.{ℕ, zero, suc, ◌+◌, ◌-◌, ◌*◌, ◌/◌, ◌%◌, ◌^◌, ◌<◌, ◌≤◌, arith}
 use Rattle.std.proofs.lemmas.Nat.{div-add-mod'}
-use Rattle.res_bind.specs.Placed.{up_to_unit}
+use Rattle.res_model.specs.Placed.{up_to_unit}
 
 pub unit_below : (n unit : ℕ) → n / unit * unit ≤ n
 unit_below n unit = let whole = div-add-mod' n unit in omega (arith, whole)

@@ -1,9 +1,9 @@
 -- Where items end: never before they begin.
 use Rattle.std.proofs.Common.{◌≡◌, ℕ, zero, suc, ◌+◌, ◌-◌, ◌<◌, ◌≤◌, List, [], ◌∷◌, ◌++◌, length, drop, get_or, refl, sym, ap, ◌∙◌, append_assoc, arith}
 use Rattle.std.specs.Prelude.{replicate, max}
-use Rattle.res_file.specs.declared.item.ResItem.{ResItem}
-use Rattle.res_bind.specs.Placed.{aligned, end_from, data_from, entry_spelling, entries_from}
-use Rattle.res_bind.specs.Bound.{ends_above}
+use Rattle.res_model.specs.declared.item.ResItem.{ResItem}
+use Rattle.res_model.specs.Placed.{aligned, end_from, data_from, entry_spelling, entries_from}
+use Rattle.res_model.specs.Bound.{ends_above}
 use Rattle.lx_types.specs.declared.object.ObjHead.{ObjHead}
 use Rattle.res_bind.proofs.Lists.{next_of}
 

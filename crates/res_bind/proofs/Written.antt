@@ -4,7 +4,7 @@ use Rattle.std.proofs.lemmas.List.{take_rest, drop-drop, length-drop}
 use Rattle.byteorder.specs.Endian as order
 use Rattle.lx_bytes.specs.LittleEndian.{little_bytes}
 use Rattle.lx_types.specs.Parts.{span}
-use Rattle.res_bind.specs.Bound.{with_number}
+use Rattle.res_model.specs.Bound.{with_number}
 use Rattle.res_bind.proofs.Sizes.{drop_all}
 use borrow.Rule.Slice.PartMut.{put_mid, post_of}
 

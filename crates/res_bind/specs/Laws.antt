@@ -1,9 +1,9 @@
 -- What the definitions say together.
 use Rattle.std.specs.Prelude.{◌≡◌, ℕ, ◌+◌, ◌<◌, ◌&&◌, Bool, false, List, length, nat_le, nat_lt, slice_index}
 use Rattle.std.specs.List.{list_any}
-use Rattle.res_file.specs.declared.item.ResItem.{ResItem}
-use Rattle.res_bind.specs.Bound.{bound_file}
-use Rattle.res_bind.specs.Clear.{set_parts}
+use Rattle.res_model.specs.declared.item.ResItem.{ResItem}
+use Rattle.res_model.specs.Bound.{bound_file}
+use Rattle.res_model.specs.Clear.{set_parts}
 use Rattle.res_bind.specs.Numbers.{HasHeader}
 
 -- a place lies in one of the header's fields that are set

@@ -1,11 +1,11 @@
 -- What the functions answer that make a layout.
 use Rattle.std.specs.Prelude.{◌≡◌, ℕ, ◌≤◌, ◌^◌, List, Option, Some, None, Result, Ok, Err}
-use Rattle.res_file.specs.declared.item.ResItem.{ResItem}
-use Rattle.res_bind.specs.Placed.{object_size}
-use Rattle.res_bind.specs.Refusal.{layout_refusal}
+use Rattle.res_model.specs.declared.item.ResItem.{ResItem}
+use Rattle.res_model.specs.Placed.{object_size}
+use Rattle.res_model.specs.Refusal.{layout_refusal}
 use Rattle.res_bind.specs.Numbers.{IsLayoutOf}
 use Rattle.res_bind.specs.declared.layout.Layout.{Layout}
-use Rattle.res_bind.specs.declared.refusal.BindRefusal.{BindRefusal}
+use Rattle.res_model.specs.declared.refusal.BindRefusal.{BindRefusal}
 
 -- the size of an object with these items, or that it has more than 32 bits
 abbrev pub IsSizeOf : List ResItem → Option ℕ → Type 0

@@ -1,9 +1,3 @@
-pub mod Placed
-pub mod Layout
-pub mod Bound
-pub mod Refusal
 pub mod Numbers
 pub mod Layouts
-pub mod Clear
 pub mod Laws
-pub mod Worked

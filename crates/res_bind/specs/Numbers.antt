@@ -5,10 +5,10 @@ use Rattle.lx_model.specs.FixupPages.{has_records}
 use Rattle.lx_model.specs.Tables.{objects_of}
 use Rattle.lx_types.specs.declared.object.ObjHead.{ObjHead}
 use Rattle.lx_head.specs.declared.head.Head.{Head}
-use Rattle.res_file.specs.declared.item.ResItem.{ResItem}
-use Rattle.res_bind.specs.Placed.{object_size, new_page_count}
-use Rattle.res_bind.specs.Layout.{page_unit, data_place, objects_place, pages_place, fixups_place, resources_place, end_place}
-use Rattle.res_bind.specs.Refusal.{MOST_BYTES}
+use Rattle.res_model.specs.declared.item.ResItem.{ResItem}
+use Rattle.res_model.specs.Placed.{object_size, new_page_count}
+use Rattle.res_model.specs.Layout.{page_unit, data_place, objects_place, pages_place, fixups_place, resources_place, end_place}
+use Rattle.res_model.specs.Refusal.{MOST_BYTES}
 use Rattle.res_bind.specs.declared.header.OldTables.{OldTables}
 use Rattle.res_bind.specs.declared.layout.Layout.{Layout}
 

@@ -4,9 +4,9 @@ ghost use Rattle.std.specs.Prelude.{◌≡◌, ◌++◌, ◌-◌, Some, None, If
 ghost use Rattle.lx_types.specs.Answers.{Answers};
 ghost use Rattle.lx_model.specs.Module.{IsRead};
 ghost use Rattle.lx_model.specs.Tables.{objects_of};
-ghost use Rattle.res_file.specs.ResFile.{AreApart};
-ghost use Rattle.res_bind.specs.Bound.{bound_file, appended, with_fields};
-ghost use Rattle.res_bind.specs.Refusal.{bind_refusal, layout_refusal, size_refusal};
+ghost use Rattle.res_model.specs.ResFile.{AreApart};
+ghost use Rattle.res_model.specs.Bound.{bound_file, appended, with_fields};
+ghost use Rattle.res_model.specs.Refusal.{bind_refusal, layout_refusal, size_refusal};
 ghost use Rattle.res_bind.specs.Numbers.{HasHeader, IsPlanOf};
 
 use crate::fields::set_fields;
@@ -14,10 +14,9 @@ use crate::header::old_tables;
 use crate::items::{push_items, push_resources};
 use crate::layout::{is_too_large, layout_of};
 use crate::plan::Plan;
-use crate::refusal::BindRefusal;
 use crate::tables::{push_fixups, push_objects, push_pages};
 use lx_types::{Fail, Module, NoMemory, ObjHead};
-use res_file::ResItem;
+use res_model::{BindRefusal, ResItem};
 use std::alloc::Global;
 
 // The file with the header's fields set, and zeros up to the data of the new pages.
@@ -34,7 +33,7 @@ fn front(alloc: Global, plan: &Plan<'_>) -> Result<Vec<u8>, NoMemory>
 }
 
 // The file with the items, by its layout.
-#[tactic(auto, unfolding(crate::specs::Bound::appended))]
+#[tactic(auto, unfolding(res_model::specs::Bound::appended))]
 fn bound(alloc: Global, plan: &Plan<'_>) -> Result<Vec<u8>, NoMemory>
     requires { IsPlanOf plan.now.file.now plan.now.tables plan.now.objects.now plan.now.items.now plan.now.layout }
     ensures { IfOk result (λ out. out.items ≡ with_fields plan.now.file.now plan.now.items.now ++ appended plan.now.file.now plan.now.items.now) }
@@ -89,7 +88,7 @@ fn extended(
 }
 
 // The file of a module with items.
-#[tactic(auto, unfolding(crate::specs::Refusal::bind_refusal))]
+#[tactic(auto, unfolding(res_model::specs::Refusal::bind_refusal))]
 fn bind_file(
     alloc: Global,
     file: &[u8],

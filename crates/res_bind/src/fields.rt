@@ -1,7 +1,7 @@
 //! The fields of the header that name the new tables.
 
 ghost use Rattle.std.specs.Prelude.{◌≡◌, ◌+◌, ◌≤◌, length};
-ghost use Rattle.res_bind.specs.Bound.{with_number, with_fields};
+ghost use Rattle.res_model.specs.Bound.{with_number, with_fields};
 ghost use Rattle.res_bind.specs.Numbers.{IsPlanOf};
 
 use crate::plan::Plan;
@@ -16,7 +16,7 @@ fn set(file: &mut [u8], at: usize, value: u32)
 }
 
 /// Puts the numbers of pages, objects and resources and the places of the tables into the header of the file.
-#[tactic(auto, unfolding(crate::specs::Bound::with_fields))]
+#[tactic(auto, unfolding(res_model::specs::Bound::with_fields))]
 pub fn set_fields(file: &mut [u8], plan: &Plan<'_>)
     requires plan { IsPlanOf plan.now.file.now plan.now.tables plan.now.objects.now plan.now.items.now plan.now.layout }
     requires file { file.old ≡ plan.now.file.now }

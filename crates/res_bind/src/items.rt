@@ -1,12 +1,12 @@
 //! The bytes of the new object, and the resource table that names its parts.
 
 ghost use Rattle.std.specs.Prelude.{◌≡◌, ◌++◌, ◌<◌, ◌^◌, length, replicate, OnOk};
-ghost use Rattle.res_bind.specs.Placed.{data_from, entries_from, entry_spelling, object_size};
+ghost use Rattle.res_model.specs.Placed.{data_from, entries_from, entry_spelling, object_size};
 
 use crate::units::aligned;
 use byteorder::{ByteOrder, LittleEndian};
 use lx_types::NoMemory;
-use res_file::ResItem;
+use res_model::ResItem;
 
 // Appends so many zeros.
 #[tactic(auto, using(crate::proofs::Lists::resized))]

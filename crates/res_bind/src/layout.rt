@@ -1,17 +1,16 @@
 //! Where everything stands in the bound file.
 
 ghost use Rattle.std.specs.Prelude.{◌≡◌, ◌+◌, ◌<◌, ◌≤◌, ◌^◌, MatchOption, length, nat_lt};
-ghost use Rattle.res_bind.specs.Placed.{aligned};
+ghost use Rattle.res_model.specs.Placed.{aligned};
 ghost use Rattle.res_bind.specs.Numbers.{AreTablesOf};
-ghost use Rattle.res_bind.specs.Layout.{data_place};
+ghost use Rattle.res_model.specs.Layout.{data_place};
 ghost use Rattle.res_bind.specs.Layouts.{IsSizeOf, GivesLayout};
-ghost use Rattle.res_bind.specs.Refusal.{MOST_BYTES};
+ghost use Rattle.res_model.specs.Refusal.{MOST_BYTES};
 
 use crate::header::OldTables;
-use crate::refusal::BindRefusal;
 use crate::units::{aligned, up_to_unit};
 use lx_types::PAGE_SIZE;
-use res_file::ResItem;
+use res_model::{BindRefusal, ResItem};
 
 /// The longest file that is written, in bytes.
 const LONGEST_FILE: u64 = 16_777_216;
@@ -80,7 +79,7 @@ pub fn is_too_large(bytes: u64) -> bool
 }
 
 /// The layout of a file with these items, or what is refused.
-#[tactic(auto, unfolding(crate::specs::Refusal::layout_refusal, crate::specs::Layout::objects_place, crate::specs::Layout::pages_place, crate::specs::Layout::fixups_place, crate::specs::Layout::resources_place, crate::specs::Layout::end_place))]
+#[tactic(auto, unfolding(res_model::specs::Refusal::layout_refusal, res_model::specs::Layout::objects_place, res_model::specs::Layout::pages_place, res_model::specs::Layout::fixups_place, res_model::specs::Layout::resources_place, res_model::specs::Layout::end_place))]
 pub fn layout_of(file: &[u8], old: &OldTables, items: &[ResItem]) -> Result<Layout, BindRefusal>
     requires { AreTablesOf file.now old.now }
     ensures { GivesLayout file.now items.now result }

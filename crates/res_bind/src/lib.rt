@@ -9,12 +9,8 @@ mod items;
 mod laws;
 mod layout;
 mod plan;
-mod refusal;
 mod tables;
 mod units;
-mod worked;
 
 pub use binding::bind_res;
 pub use laws::old_bytes_stand;
-pub use refusal::BindRefusal;
-pub use worked::{file_is_bound, items_are_placed};

@@ -3,7 +3,7 @@
 use crate::header::OldTables;
 use crate::layout::Layout;
 use lx_types::ObjHead;
-use res_file::ResItem;
+use res_model::ResItem;
 
 /// A module's file with its tables and objects, the items that are bound to it, and the layout of both together.
 #[derive(Clone, Copy)]

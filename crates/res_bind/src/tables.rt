@@ -3,7 +3,7 @@
 ghost use Rattle.std.specs.Prelude.{◌≡◌, ◌++◌, ◌<◌, ◌^◌, All, IfOk, OnOk, [], ◌∷◌, drop, take};
 ghost use Rattle.lx_model.specs.TableSpelling.{objects_spelling, pages_spelling};
 ghost use Rattle.std.specs.List.{repeat};
-ghost use Rattle.res_bind.specs.Bound.{base_above, new_object, new_page, new_pages, object_table, page_table, fixup_table};
+ghost use Rattle.res_model.specs.Bound.{base_above, new_object, new_page, new_pages, object_table, page_table, fixup_table};
 ghost use Rattle.res_bind.specs.Numbers.{IsPlanOf};
 
 use crate::plan::Plan;
@@ -34,7 +34,7 @@ fn base_above(objects: &[ObjHead]) -> u32
     if base > LAST_BASE { 0 } else { base as u32 }
 }
 
-#[tactic(auto, unfolding(crate::specs::Bound::new_object))]
+#[tactic(auto, unfolding(res_model::specs::Bound::new_object))]
 fn new_object(plan: &Plan<'_>) -> ObjHead
     requires { IsPlanOf plan.now.file.now plan.now.tables plan.now.objects.now plan.now.items.now plan.now.layout }
     ensures { result ≡ new_object plan.now.file.now plan.now.items.now }
@@ -91,7 +91,7 @@ pub fn push_objects(alloc: Global, out: &mut Vec<u8>, plan: &Plan<'_>) -> Result
 }
 
 // Page k of the new object.
-#[tactic(auto, unfolding(crate::specs::Bound::new_page))]
+#[tactic(auto, unfolding(res_model::specs::Bound::new_page))]
 fn new_page(plan: &Plan<'_>, k: u32) -> PageHead
     requires plan { IsPlanOf plan.now.file.now plan.now.tables plan.now.objects.now plan.now.items.now plan.now.layout }
     requires there { k < plan.now.layout.pages }
@@ -107,7 +107,7 @@ fn new_page(plan: &Plan<'_>, k: u32) -> PageHead
     }
 }
 
-#[tactic(auto, unfolding(crate::specs::Bound::new_pages))]
+#[tactic(auto, unfolding(res_model::specs::Bound::new_pages))]
 fn new_pages(alloc: Global, plan: &Plan<'_>) -> Result<Vec<PageHead>, NoMemory>
     requires { IsPlanOf plan.now.file.now plan.now.tables plan.now.objects.now plan.now.items.now plan.now.layout }
     ensures is { IfOk result (λ pages. pages.items ≡ new_pages plan.now.file.now plan.now.items.now) }
@@ -150,7 +150,7 @@ fn push_again(out: &mut Vec<u8>, bytes: &[u8], count: u32) -> Result<(), NoMemor
 }
 
 /// Appends the fixup page table, in which the new pages have no records; a module without records has no such table.
-#[tactic(auto, unfolding(crate::specs::Bound::fixup_table))]
+#[tactic(auto, unfolding(res_model::specs::Bound::fixup_table))]
 pub fn push_fixups(out: &mut Vec<u8>, plan: &Plan<'_>) -> Result<(), NoMemory>
     requires { IsPlanOf plan.now.file.now plan.now.tables plan.now.objects.now plan.now.items.now plan.now.layout }
     ensures { OnOk result (out.new.items ≡ out.old.items ++ fixup_table plan.now.file.now plan.now.layout.pages) }

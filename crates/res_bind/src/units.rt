@@ -1,7 +1,7 @@
 //! Multiples of a unit.
 
 ghost use Rattle.std.specs.Prelude.{◌≡◌, ◌+◌, ◌<◌, ◌≤◌, ◌^◌};
-ghost use Rattle.res_bind.specs.Placed.{up_to_unit, aligned};
+ghost use Rattle.res_model.specs.Placed.{up_to_unit, aligned};
 
 /// The least multiple of a unit that is not below a number.
 #[tactic(auto, using(crate::proofs::Multiples::unit_below))]

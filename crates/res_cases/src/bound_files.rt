@@ -3,9 +3,9 @@
 use lx_read::read_module;
 use lx_sample::ONE_OBJECT;
 use lx_types::{Bytes, Fail, Module, NoMemory, PageId, Seq};
-use res_bind::{BindRefusal, bind_res};
+use res_bind::bind_res;
 use res_core::find;
-use res_file::ResItem;
+use res_model::{BindRefusal, ResItem};
 use std::alloc::Global;
 
 /// What stands behind it once `ABC` is bound: the data, two objects, two pages, where records end, and the resource.

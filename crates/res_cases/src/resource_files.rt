@@ -1,7 +1,8 @@
 //! Items of resource files, and the first fault of files that are none.
 
 use lx_types::{Fail, NoMemory};
-use res_file::{ResRefusal, read_res};
+use res_file::read_res;
+use res_model::ResRefusal;
 use std::alloc::Global;
 
 /// Type 1, identifier 2, flags 1030h, and `ABC`.

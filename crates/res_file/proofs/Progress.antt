@@ -11,13 +11,13 @@ use Rattle.lx_types.proofs.Lists.{all_joined}
 use Rattle.lx_bytes.specs.LittleEndian.{AreBytes}
 use Rattle.lx_model.specs.Reading.{◌then◌}
 use Rattle.lx_model.proofs.Takes.{AreBytes-drop}
-use Rattle.res_file.specs.ItemFields.{FIELDS, type_at, id_at, length_at, item_at, fields_fault}
-use Rattle.res_file.specs.ResFile.{item_spelling, items_spelling, ItemFits, has_key, same_key, AreApart, IsResFile}
-use Rattle.res_file.specs.Faults.{FirstFault, item_fault, is_second}
+use Rattle.res_model.specs.ItemFields.{FIELDS, type_at, id_at, length_at, item_at, fields_fault}
+use Rattle.res_model.specs.ResFile.{item_spelling, items_spelling, ItemFits, has_key, same_key, AreApart, IsResFile}
+use Rattle.res_model.specs.Faults.{FirstFault, item_fault, is_second}
 use Rattle.res_file.specs.Seen.{AreRead, AreKeysOf, Key, same}
-use Rattle.res_file.specs.declared.item.ResItem.{ResItem}
-use Rattle.res_file.specs.declared.refusal.ResRefusal.{ResRefusal}
-use Rattle.res_file.specs.declared.refusal.ResRefusal.TheVariants.{Twice}
+use Rattle.res_model.specs.declared.item.ResItem.{ResItem}
+use Rattle.res_model.specs.declared.refusal.ResRefusal.{ResRefusal}
+use Rattle.res_model.specs.declared.refusal.ResRefusal.TheVariants.{Twice}
 use Rattle.res_file.proofs.GoodItem.{take_none, take_more, spells_item, good}
 
 -- ---- apart

@@ -3,8 +3,8 @@ use Rattle.std.specs.Prelude.{◌≡◌, ℕ, ◌≤◌, ◌==◌, ◌&&◌, Boo
 use Rattle.std.specs.List.{list_any, AllByRecursion}
 use Rattle.std.specs.HashSet as bag
 use Rattle.std.specs.HashSet.{HashSet}
-use Rattle.res_file.specs.ResFile.{has_key, items_spelling, ItemFits, AreApart}
-use Rattle.res_file.specs.declared.item.ResItem.{ResItem}
+use Rattle.res_model.specs.ResFile.{has_key, items_spelling, ItemFits, AreApart}
+use Rattle.res_model.specs.declared.item.ResItem.{ResItem}
 
 -- the bytes before a place are these items
 pub record AreRead (bytes : List ℕ) (at : ℕ) (items : List ResItem) : Type 0 where

@@ -4,10 +4,10 @@ ghost use Rattle.std.specs.Prelude.{◌≡◌, ◌+◌, ◌<◌, ◌^◌, ◌≤
 ghost use Rattle.lx_types.specs.Answers.{as_is};
 ghost use Rattle.lx_model.specs.Judging.{Judged, Judges};
 ghost use Rattle.lx_model.specs.Reading.{number_at};
-ghost use Rattle.res_file.specs.ItemFields.{FIELDS, fields_fault, item_at, length_at, mark_fault, short_field};
+ghost use Rattle.res_model.specs.ItemFields.{FIELDS, fields_fault, item_at, length_at, mark_fault, short_field};
 
-use crate::refusal::ResRefusal;
 use byteorder::{ByteOrder, LittleEndian};
+use res_model::ResRefusal;
 
 /// What stands before the type and before the identifier.
 const MARK: u8 = 0xFF;
@@ -74,7 +74,7 @@ fn data_length(left: &[u8], at: usize) -> Result<usize, ResRefusal>
 }
 
 /// The item at a place, that has these bytes from there on.
-#[tactic(auto, unfolding(crate::specs::ItemFields::fields_fault))]
+#[tactic(auto, unfolding(res_model::specs::ItemFields::fields_fault))]
 pub fn next_item(left: &[u8], at: usize) -> Result<Spelled<'_>, ResRefusal>
     requires { at < 2 ^ 63 }
     ensures judged { Judged as_is result (fields_fault at left.now) }

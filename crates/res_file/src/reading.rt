@@ -2,13 +2,12 @@
 
 ghost use Rattle.std.specs.Prelude.{◌≡◌, IfOk};
 ghost use Rattle.lx_types.specs.Answers.{Answers};
-ghost use Rattle.res_file.specs.ResFile.{IsResFile};
-ghost use Rattle.res_file.specs.Faults.{FirstFault};
+ghost use Rattle.res_model.specs.ResFile.{IsResFile};
+ghost use Rattle.res_model.specs.Faults.{FirstFault};
 
 use crate::fields::{FIELDS, Spelled, next_item};
-use crate::item::ResItem;
-use crate::refusal::ResRefusal;
 use lx_types::{Fail, NoMemory, Seq};
+use res_model::{ResItem, ResRefusal};
 use std::alloc::Global;
 use std::collections::HashSet;
 

@@ -11,11 +11,11 @@ use Rattle.lx_model.specs.Library.{module_of}
 use Rattle.lx_model.specs.Fixed.{Fixed}
 use Rattle.lx_model.specs.Resources.{Resource, RESOURCE_SIZE, resource_at, resource_table, is_whole, Res, resources_of}
 use Rattle.lx_model.specs.Resources as resources
-use Rattle.res_file.specs.ResFile.{AreApart}
-use Rattle.res_file.specs.declared.item.ResItem.{ResItem}
-use Rattle.res_bind.specs.Bound.{new_object, bound_file}
-use Rattle.res_bind.specs.declared.refusal.BindRefusal.TheVariants.{HasResources}
-use Rattle.res_bind.specs.Refusal.{bind_refusal, items_refusal}
+use Rattle.res_model.specs.ResFile.{AreApart}
+use Rattle.res_model.specs.declared.item.ResItem.{ResItem}
+use Rattle.res_model.specs.Bound.{new_object, bound_file}
+use Rattle.res_model.specs.declared.refusal.BindRefusal.TheVariants.{HasResources}
+use Rattle.res_model.specs.Refusal.{bind_refusal, items_refusal}
 use Rattle.res_laws.specs.Binding.{with_module, IsFound, CanBind, Binds, BoundFilesMean}
 use Rattle.res_laws.proofs.Lists.{map_range}
 use Rattle.res_laws.proofs.Standing.{extended}

@@ -5,7 +5,7 @@ use Rattle.std.proofs.lemmas.List.Folds.{list_all-append}
 use Rattle.std.proofs.lemmas.Bool.{and_parts}
 use Rattle.lx_model.specs.Header.{table, page_count, object_count}
 use Rattle.lx_model.specs.Tables.{page_heads}
-use Rattle.res_bind.specs.Clear.{Part, part, are_apart, set_parts, place_parts, resident_part, import_part, entry_part, other_parts, fixup_parts, data_part, procedure_parts, read_parts, is_clear}
+use Rattle.res_model.specs.Clear.{Part, part, are_apart, set_parts, place_parts, resident_part, import_part, entry_part, other_parts, fixup_parts, data_part, procedure_parts, read_parts, is_clear}
 
 pub split_all : {X : Type 0} (p : X → Bool) (xs ys : List X) → list_all p (xs ++ ys) ≡ true → (list_all p xs ≡ true) × (list_all p ys ≡ true)
 split_all p xs ys e = and_parts (list_all p xs) (list_all p ys) (sym (list_all-append p xs ys) ∙ e)

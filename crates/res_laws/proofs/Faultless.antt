@@ -7,7 +7,7 @@ use Rattle.lx_model.specs.NameTables.{resident_fault, others_fault, imports_faul
 use Rattle.lx_model.specs.EntryTable.{entries_fault}
 use Rattle.lx_model.specs.FixupPages.{spans_fault}
 use Rattle.lx_model.specs.Module.{LxFault, page_records_fault}
-use Rattle.res_file.specs.declared.item.ResItem.{ResItem}
+use Rattle.res_model.specs.declared.item.ResItem.{ResItem}
 use Rattle.res_laws.proofs.Standing.{extended}
 use Rattle.res_laws.proofs.Layouts.{CanExtend}
 use Rattle.res_laws.proofs.HeaderFaults.{none_then, header_faultless}

@@ -33,8 +33,8 @@ use Rattle.lx_model.proofs.Each.{each_in_range, each_more}
 use Rattle.lx_model.proofs.FitModules.{fit_has_spots}
 use Rattle.lx_model.proofs.ReadModules.{read_is_sound}
 use Rattle.lx_model.proofs.References.{numbered}
-use Rattle.res_file.specs.declared.item.ResItem.{ResItem}
-use Rattle.res_bind.specs.Clear.{name_parts, names_of_target, names_of_head}
+use Rattle.res_model.specs.declared.item.ResItem.{ResItem}
+use Rattle.res_model.specs.Clear.{name_parts, names_of_target, names_of_head}
 use Rattle.res_laws.specs.Binding.{IsOldPage, with_module, FixedStands}
 use Rattle.res_laws.proofs.Standing.{extended}
 use Rattle.res_laws.proofs.Clear.{frees, is_free, split_all}

@@ -24,11 +24,11 @@ use Rattle.lx_model.specs.ModuleBytes.{page_with}
 use Rattle.lx_model.specs.Fixed.{kind_bytes, page_bytes, Raw}
 use Rattle.lx_model.specs.Resources.{Resource, RESOURCE_SIZE, resource_at, resource_table, resource_count, resources_of, is_in_object, is_whole, Res}
 use Rattle.lx_model.specs.Resources as found
-use Rattle.res_file.specs.ResFile.{ItemFits, AreApart, same_key, has_key}
-use Rattle.res_file.specs.declared.item.ResItem.{ResItem}
-use Rattle.res_bind.specs.Bound.{new_object}
-use Rattle.res_bind.specs.Layout.{data_place, resources_place}
-use Rattle.res_bind.specs.Placed.{aligned, end_from, data_from, entry_spelling, entries_from, object_size, new_page_count}
+use Rattle.res_model.specs.ResFile.{ItemFits, AreApart, same_key, has_key}
+use Rattle.res_model.specs.declared.item.ResItem.{ResItem}
+use Rattle.res_model.specs.Bound.{new_object}
+use Rattle.res_model.specs.Layout.{data_place, resources_place}
+use Rattle.res_model.specs.Placed.{aligned, end_from, data_from, entry_spelling, entries_from, object_size, new_page_count}
 use Rattle.res_bind.proofs.Sizes.{aligned_above, end_above}
 use Rattle.res_laws.specs.Binding.{raw_bytes, IsFound}
 use Rattle.res_laws.proofs.Lists.{map_range, At, at_more, at_place, at_same}

@@ -7,8 +7,8 @@ use Rattle.lx_bytes.specs.Cursor.{Cursor}
 use Rattle.lx_bytes.specs.LittleEndian.{AreBytes}
 use Rattle.lx_types.specs.declared.refusal.LxRefusal.{LxRefusal}
 use Rattle.lx_model.specs.Reading.{cursor, Many}
-use Rattle.res_file.specs.declared.item.ResItem.{ResItem}
-use Rattle.res_bind.specs.Clear.{part, taken}
+use Rattle.res_model.specs.declared.item.ResItem.{ResItem}
+use Rattle.res_model.specs.Clear.{part, taken}
 use Rattle.res_laws.proofs.Lists.{Same, take_same}
 use Rattle.res_laws.proofs.Standing.{extended, part_stands}
 use Rattle.res_laws.proofs.Clear.{is_free}

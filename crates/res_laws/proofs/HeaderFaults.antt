@@ -11,9 +11,9 @@ use Rattle.lx_model.specs.Header.{Row, row, rows, row_fault, is_lx_at, place_fau
 use Rattle.lx_model.specs.Module.{LxFault}
 use Rattle.lx_model.proofs.Firsts.{then_none}
 use Rattle.lx_model.proofs.Each.{each_first, each_in_range}
-use Rattle.res_file.specs.declared.item.ResItem.{ResItem}
-use Rattle.res_bind.specs.Clear.{set_offsets}
-use Rattle.res_bind.specs.Placed.{new_page_count}
+use Rattle.res_model.specs.declared.item.ResItem.{ResItem}
+use Rattle.res_model.specs.Clear.{set_offsets}
+use Rattle.res_model.specs.Placed.{new_page_count}
 use Rattle.res_bind.proofs.Headers.{allowed}
 use Rattle.res_laws.proofs.Standing.{extended, lies_free}
 use Rattle.res_laws.proofs.Layouts.{CanExtend, small}

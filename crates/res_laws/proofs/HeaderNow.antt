@@ -6,11 +6,11 @@ use Rattle.std.proofs.lemmas.Bool.{and_parts, or_from}
 use Rattle.lx_model.specs.Reading.{number_at}
 use Rattle.lx_model.specs.Header.{is_lx_at, header_place, field, table, page_count, object_count}
 use Rattle.lx_model.specs.FixupPages.{has_records}
-use Rattle.res_file.specs.declared.item.ResItem.{ResItem}
-use Rattle.res_bind.specs.Bound.{with_fields, with_number, appended}
-use Rattle.res_bind.specs.Clear.{part, set_offsets}
-use Rattle.res_bind.specs.Layout.{objects_place, pages_place, fixups_place, resources_place}
-use Rattle.res_bind.specs.Placed.{new_page_count}
+use Rattle.res_model.specs.declared.item.ResItem.{ResItem}
+use Rattle.res_model.specs.Bound.{with_fields, with_number, appended}
+use Rattle.res_model.specs.Clear.{part, set_offsets}
+use Rattle.res_model.specs.Layout.{objects_place, pages_place, fixups_place, resources_place}
+use Rattle.res_model.specs.Placed.{new_page_count}
 use Rattle.res_laws.proofs.Lists.{Same, number_same, at_start, number_front}
 use Rattle.res_laws.proofs.Sets.{set_all, all_set}
 use Rattle.res_laws.proofs.Standing.{extended, byte_stands, part_stands, field_stands, free_stands, lies_free, front_long}

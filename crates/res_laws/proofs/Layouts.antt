@@ -19,16 +19,16 @@ use Rattle.lx_model.proofs.Firsts.{then_none, first_none, each_none}
 use Rattle.lx_model.proofs.Meaning.{judged}
 use Rattle.lx_model.proofs.Soundness.{not_short}
 use Rattle.lx_model.proofs.TablesTaken.{length-repeat}
-use Rattle.res_file.specs.ResFile.{ItemFits}
-use Rattle.res_file.specs.declared.item.ResItem.{ResItem}
-use Rattle.res_bind.specs.Bound.{old_entries, object_table, page_table, fixup_table, last_offset, new_object, new_pages, new_page, with_fields, appended}
-use Rattle.res_bind.specs.Clear.{is_clear}
-use Rattle.res_bind.specs.Layout.{end_of, page_unit, paged_place, data_place, objects_place, pages_place, fixups_place, resources_place, end_place}
+use Rattle.res_model.specs.ResFile.{ItemFits}
+use Rattle.res_model.specs.declared.item.ResItem.{ResItem}
+use Rattle.res_model.specs.Bound.{old_entries, object_table, page_table, fixup_table, last_offset, new_object, new_pages, new_page, with_fields, appended}
+use Rattle.res_model.specs.Clear.{is_clear}
+use Rattle.res_model.specs.Layout.{end_of, page_unit, paged_place, data_place, objects_place, pages_place, fixups_place, resources_place, end_place}
 use Rattle.res_bind.specs.Numbers.{IsHeadOf}
-use Rattle.res_bind.specs.Placed.{Placed, aligned, placed_from, end_from, data_from, entry_spelling, entries_from, object_size, new_page_count}
-use Rattle.res_bind.specs.Refusal.{MOST_BYTES, are_too_many, layout_refusal}
-use Rattle.res_bind.specs.declared.refusal.BindRefusal.{BindRefusal}
-use Rattle.res_bind.specs.declared.refusal.BindRefusal.TheVariants.{TooMany, TooLarge}
+use Rattle.res_model.specs.Placed.{Placed, aligned, placed_from, end_from, data_from, entry_spelling, entries_from, object_size, new_page_count}
+use Rattle.res_model.specs.Refusal.{MOST_BYTES, are_too_many, layout_refusal}
+use Rattle.res_model.specs.declared.refusal.BindRefusal.{BindRefusal}
+use Rattle.res_model.specs.declared.refusal.BindRefusal.TheVariants.{TooMany, TooLarge}
 use Rattle.res_bind.proofs.Headers.{head_is}
 use Rattle.res_bind.proofs.Multiples.{unit_above}
 use Rattle.res_bind.proofs.Sizes.{aligned_above}

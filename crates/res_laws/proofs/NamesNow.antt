@@ -25,8 +25,8 @@ use Rattle.lx_model.proofs.ReadsAs.{byte_reads}
 use Rattle.lx_model.proofs.Shortening.{bundle_shortens}
 use Rattle.lx_model.proofs.TablesTaken as tables_taken
 use Rattle.lx_model.proofs.BundlesRead.{regroup}
-use Rattle.res_file.specs.declared.item.ResItem.{ResItem}
-use Rattle.res_bind.specs.Clear.{Part, taken}
+use Rattle.res_model.specs.declared.item.ResItem.{ResItem}
+use Rattle.res_model.specs.Clear.{Part, taken}
 use Rattle.res_laws.proofs.Standing.{extended}
 use Rattle.res_laws.proofs.Clear.{frees, is_free}
 use Rattle.res_laws.proofs.Layouts.{CanExtend}

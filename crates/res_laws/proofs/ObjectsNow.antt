@@ -18,10 +18,10 @@ use Rattle.lx_model.proofs.Soundness.{objects_fit}
 use Rattle.res_laws.proofs.Lists.{each_two}
 use Rattle.res_laws.proofs.HeaderFaults.{none_range, long_enough}
 use Rattle.lx_model.proofs.PlacesRead.{objects_again}
-use Rattle.res_file.specs.declared.item.ResItem.{ResItem}
-use Rattle.res_bind.specs.Bound.{object_table, old_entries, new_object, ends_above, base_or_zero}
-use Rattle.res_bind.specs.Layout.{objects_place}
-use Rattle.res_bind.specs.Placed.{up_to_unit, new_page_count}
+use Rattle.res_model.specs.declared.item.ResItem.{ResItem}
+use Rattle.res_model.specs.Bound.{object_table, old_entries, new_object, ends_above, base_or_zero}
+use Rattle.res_model.specs.Layout.{objects_place}
+use Rattle.res_model.specs.Placed.{up_to_unit, new_page_count}
 use Rattle.res_laws.proofs.Lists.{map_range, At, at_more, at_same, copied, length_table}
 use Rattle.res_laws.proofs.Standing.{extended}
 use Rattle.res_laws.proofs.Layouts.{CanExtend, small, size_small, rise, stands, objects_there, from_pages}

@@ -20,10 +20,10 @@ use Rattle.lx_model.specs.Tables.{page_place, page_entry, page_or_zero, page_hea
 use Rattle.lx_model.proofs.Firsts.{each_none}
 use Rattle.lx_model.proofs.Meaning.{judged}
 use Rattle.lx_model.proofs.Soundness.{page_is_whole}
-use Rattle.res_file.specs.declared.item.ResItem.{ResItem}
-use Rattle.res_bind.specs.Clear.{part, data_part}
-use Rattle.res_bind.specs.Layout.{pages_place}
-use Rattle.res_bind.specs.Placed.{new_page_count, object_size}
+use Rattle.res_model.specs.declared.item.ResItem.{ResItem}
+use Rattle.res_model.specs.Clear.{part, data_part}
+use Rattle.res_model.specs.Layout.{pages_place}
+use Rattle.res_model.specs.Placed.{new_page_count, object_size}
 use Rattle.res_laws.proofs.Lists.{each_two, all_at, span_same}
 use Rattle.res_laws.proofs.Standing.{extended, part_stands}
 use Rattle.res_laws.proofs.Clear.{frees, is_free}

@@ -18,10 +18,10 @@ use Rattle.lx_model.specs.Tables.{page_kind, page_place, page_of_kind, page_entr
 use Rattle.lx_model.specs.TableSpelling.{page_fields, pages_spelling, PageHeadFits}
 use Rattle.lx_model.proofs.Each.{each_map, each_in_range}
 use Rattle.lx_model.proofs.PlacesRead.{pages_again}
-use Rattle.res_file.specs.declared.item.ResItem.{ResItem}
-use Rattle.res_bind.specs.Bound.{page_table, old_entries, new_page, new_pages}
-use Rattle.res_bind.specs.Layout.{page_unit, end_of, paged_place, data_place, pages_place}
-use Rattle.res_bind.specs.Placed.{page_number, new_page_count, object_size}
+use Rattle.res_model.specs.declared.item.ResItem.{ResItem}
+use Rattle.res_model.specs.Bound.{page_table, old_entries, new_page, new_pages}
+use Rattle.res_model.specs.Layout.{page_unit, end_of, paged_place, data_place, pages_place}
+use Rattle.res_model.specs.Placed.{page_number, new_page_count, object_size}
 use Rattle.res_laws.proofs.Lists.{map_range, map_split, At, at_more, at_same, copied, length_table}
 use Rattle.res_laws.proofs.Standing.{extended}
 use Rattle.res_laws.proofs.Layouts.{CanExtend, header_of, small, rise, stands, pages_there, pages_number, unit_some, from_fixups}

@@ -20,9 +20,9 @@ use Rattle.lx_model.specs.Module.{parts_of, LxFault}
 use Rattle.lx_model.specs.Fixed.{kind_bytes, page_bytes, Raw, records_of_page, sources_of}
 use Rattle.lx_model.proofs.Meaning.{judged}
 use Rattle.lx_model.proofs.Soundness.{objects_fit, pages_fit}
-use Rattle.res_file.specs.declared.item.ResItem.{ResItem}
-use Rattle.res_bind.specs.Bound.{new_object}
-use Rattle.res_bind.specs.Placed.{new_page_count}
+use Rattle.res_model.specs.declared.item.ResItem.{ResItem}
+use Rattle.res_model.specs.Bound.{new_object}
+use Rattle.res_model.specs.Placed.{new_page_count}
 use Rattle.res_laws.specs.Binding.{GoesOn, IsOldPage}
 use Rattle.res_laws.proofs.Standing.{extended}
 use Rattle.res_laws.proofs.Layouts.{CanExtend}

@@ -25,9 +25,9 @@ use Rattle.lx_model.proofs.PagesRead.{next_ends}
 use Rattle.lx_model.proofs.References.{records_there}
 use Rattle.lx_model.proofs.Soundness.{spans_fit}
 use Rattle.lx_model.proofs.ReadModules.{each_unmap}
-use Rattle.res_file.specs.declared.item.ResItem.{ResItem}
-use Rattle.res_bind.specs.Clear.{Part, part, records_part, name_parts, names_of_target, names_of_head}
-use Rattle.res_bind.specs.Placed.{new_page_count}
+use Rattle.res_model.specs.declared.item.ResItem.{ResItem}
+use Rattle.res_model.specs.Clear.{Part, part, records_part, name_parts, names_of_target, names_of_head}
+use Rattle.res_model.specs.Placed.{new_page_count}
 use Rattle.res_laws.proofs.Lists.{all_at, each_two, same_part, span_same}
 use Rattle.res_laws.proofs.Standing.{extended, part_stands}
 use Rattle.res_laws.proofs.Clear.{frees, is_free, split_all}

@@ -23,9 +23,9 @@ use Rattle.lx_model.proofs.Firsts.{each_entry}
 use Rattle.lx_model.proofs.Meaning.{judged}
 use Rattle.lx_model.proofs.ReadModules.{read_is_sound}
 use Rattle.lx_model.proofs.References.{targets_there, each_once}
-use Rattle.res_file.specs.declared.item.ResItem.{ResItem}
-use Rattle.res_bind.specs.Clear.{names_of_target, names_of_head}
-use Rattle.res_bind.specs.Placed.{new_page_count}
+use Rattle.res_model.specs.declared.item.ResItem.{ResItem}
+use Rattle.res_model.specs.Clear.{names_of_target, names_of_head}
+use Rattle.res_model.specs.Placed.{new_page_count}
 use Rattle.res_laws.specs.Binding.{with_module}
 use Rattle.res_laws.specs.Serving.{Serves, BoundModulesServe}
 use Rattle.res_laws.proofs.Lists.{map_range, range_split}

@@ -7,7 +7,7 @@ use Rattle.std.proofs.lemmas.Bool.{and_parts}
 use Rattle.lx_bytes.specs.LittleEndian.{little, little_bytes}
 use Rattle.lx_bytes.proofs.Numbers.{length-little_bytes, little-little_bytes}
 use Rattle.lx_model.specs.Reading.{number_at}
-use Rattle.res_bind.specs.Bound.{with_number}
+use Rattle.res_model.specs.Bound.{with_number}
 use Rattle.res_bind.proofs.Kept.{number_length, number_stands, Outside}
 use Rattle.res_laws.proofs.Lists.{number_same}
 

@@ -13,10 +13,10 @@ use Rattle.lx_model.specs.Header.{table, page_count}
 use Rattle.lx_model.specs.FixupPages.{has_records, offset_place, records_place, records_span, spans_of, is_out_of_order, span_fault, spans_fault}
 use Rattle.lx_model.proofs.Firsts.{each_none, then_none}
 use Rattle.lx_model.proofs.Meaning.{judged}
-use Rattle.res_file.specs.declared.item.ResItem.{ResItem}
-use Rattle.res_bind.specs.Bound.{fixup_table, old_entries, last_offset}
-use Rattle.res_bind.specs.Layout.{fixups_place}
-use Rattle.res_bind.specs.Placed.{new_page_count}
+use Rattle.res_model.specs.declared.item.ResItem.{ResItem}
+use Rattle.res_model.specs.Bound.{fixup_table, old_entries, last_offset}
+use Rattle.res_model.specs.Layout.{fixups_place}
+use Rattle.res_model.specs.Placed.{new_page_count}
 use Rattle.res_laws.proofs.Lists.{map_range, map_split, each_two, At, at_more, at_same, moved, length_span}
 use Rattle.res_laws.proofs.Standing.{extended}
 use Rattle.res_laws.proofs.Layouts.{CanExtend, rise, stands, offsets_there, last_length, fixups_size, from_resources, from_fixups}

@@ -7,9 +7,9 @@ use Rattle.std.proofs.lemmas.List.{get_or_append_left}
 use Rattle.std.proofs.lemmas.Bool.{and_parts, or_from}
 use Rattle.lx_model.specs.Header.{header_place}
 use Rattle.lx_model.specs.FixupPages.{has_records}
-use Rattle.res_file.specs.declared.item.ResItem.{ResItem}
-use Rattle.res_bind.specs.Bound.{with_fields, appended}
-use Rattle.res_bind.specs.Clear.{Part, part, are_apart, set_offsets, set_parts}
+use Rattle.res_model.specs.declared.item.ResItem.{ResItem}
+use Rattle.res_model.specs.Bound.{with_fields, appended}
+use Rattle.res_model.specs.Clear.{Part, part, are_apart, set_offsets, set_parts}
 use Rattle.res_bind.specs.Laws.{is_set}
 use Rattle.res_bind.proofs.Kept.{fields_stand}
 use Rattle.res_laws.proofs.Lists.{Same}

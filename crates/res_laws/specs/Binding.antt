@@ -18,11 +18,11 @@ use Rattle.lx_model.specs.Reach.{IsFit}
 use Rattle.lx_model.specs.Fixed.{Raw, Fixed, records_of_page}
 use Rattle.lx_model.specs.ModuleBytes.{page_with}
 use Rattle.lx_model.specs.Resources.{Res}
-use Rattle.res_file.specs.ResFile.{ItemFits, AreApart, has_key}
-use Rattle.res_file.specs.declared.item.ResItem.{ResItem}
-use Rattle.res_bind.specs.Bound.{new_object, bound_file}
-use Rattle.res_bind.specs.Clear.{is_clear}
-use Rattle.res_bind.specs.Refusal.{bind_refusal}
+use Rattle.res_model.specs.ResFile.{ItemFits, AreApart, has_key}
+use Rattle.res_model.specs.declared.item.ResItem.{ResItem}
+use Rattle.res_model.specs.Bound.{new_object, bound_file}
+use Rattle.res_model.specs.Clear.{is_clear}
+use Rattle.res_model.specs.Refusal.{bind_refusal}
 
 -- ---- what is bound
 

@@ -7,8 +7,8 @@ use Rattle.lx_model.specs.Gathering.{IsLibrary}
 use Rattle.lx_model.specs.Library.{module_of}
 use Rattle.lx_model.specs.Module.{parts_of}
 use Rattle.lx_model.specs.Reach.{Order, IsFit}
-use Rattle.res_file.specs.declared.item.ResItem.{ResItem}
-use Rattle.res_bind.specs.Bound.{bound_file}
+use Rattle.res_model.specs.declared.item.ResItem.{ResItem}
+use Rattle.res_model.specs.Bound.{bound_file}
 use Rattle.res_laws.specs.Binding.{CanBind, with_module}
 
 -- The other modules are a library too. What is loaded with a module is the same, in the same order; a module that was fit is

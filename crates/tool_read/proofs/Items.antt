@@ -2,9 +2,9 @@
 use Rattle.std.proofs.Common.{◌≡◌, ℕ, suc, ◌+◌, ◌≤◌, List, [], ◌∷◌, length, ap, arith, length-append}
 use Rattle.std.specs.List.{sum_by}
 use Rattle.std.proofs.lemmas.List.Sums.{sum_by-cons}
-use Rattle.res_file.specs.ItemFields.{FIELDS}
-use Rattle.res_file.specs.ResFile.{item_spelling, items_spelling, IsResFile}
-use Rattle.res_file.specs.declared.item.ResItem.{ResItem}
+use Rattle.res_model.specs.ItemFields.{FIELDS}
+use Rattle.res_model.specs.ResFile.{item_spelling, items_spelling, IsResFile}
+use Rattle.res_model.specs.declared.item.ResItem.{ResItem}
 
 twelve : (n : ℕ) → suc (suc (suc (suc (suc (suc (suc (suc (suc (suc (suc (suc n))))))))))) ≡ 12 + n
 twelve n = omega arith

@@ -1,7 +1,7 @@
 //! The files of `bind`, loaded and read in turn.
 ghost use Rattle.std.specs.Prelude.{◌≡◌, ◌≤◌, ◌∷◌, [], IfOk, length, sum_by};
 ghost use Rattle.lx_model.specs.Module.{IsRead};
-ghost use Rattle.res_file.specs.ResFile.{AreApart};
+ghost use Rattle.res_model.specs.ResFile.{AreApart};
 ghost use Rattle.lx_answer.specs.Loading.{file_limit};
 ghost use Rattle.lx_answer.specs.Reading.{linked, module_file, resource_file, resources};
 ghost use Rattle.tool_read.specs.Readings.{asked};
@@ -12,7 +12,7 @@ use crate::sessions::read_module;
 use lx_answer::Said;
 use lx_ports::Files;
 use lx_types::{Fail, Module, Seq};
-use res_file::ResItem;
+use res_model::ResItem;
 use std::alloc::Global;
 
 /// A module, and what is to be bound to it.

@@ -3,7 +3,7 @@ ghost use Rattle.std.specs.Prelude.{◌≡◌, ◌≤◌, ℕ, List, Result, IfO
 ghost use Rattle.lx_ports.specs.Calls.{load_answer};
 ghost use Rattle.lx_ports.specs.declared.files.LoadFault.{LoadFault};
 ghost use Rattle.lx_answer.specs.ResourceRefusals.{res_text};
-ghost use Rattle.res_file.specs.ResFile.{AreApart};
+ghost use Rattle.res_model.specs.ResFile.{AreApart};
 ghost use Rattle.lx_answer.specs.Loading.{file_limit};
 ghost use Rattle.lx_answer.specs.Reading.{resources, resource_file, resource_form};
 ghost use Rattle.tool_read.specs.Readings.{ReadsForm, ReadsLoad, SaysOf};
@@ -15,7 +15,8 @@ use lx_answer::Said;
 use lx_ports::{Files, LoadFault};
 use lx_types::{Bytes, Fail, Seq};
 use refusal_text::res_text;
-use res_file::{ResItem, ResRefusal, read_res};
+use res_file::read_res;
+use res_model::{ResItem, ResRefusal};
 use std::alloc::Global;
 
 fn fault(alloc: Global, refusal: ResRefusal) -> Fail<Bytes>

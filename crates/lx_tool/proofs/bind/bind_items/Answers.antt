@@ -1,5 +1,5 @@
 use Rattle.std.proofs.Common.{ℕ, List, subst}
-use Rattle.res_file.specs.declared.item.ResItem.{ResItem}
+use Rattle.res_model.specs.declared.item.ResItem.{ResItem}
 use Rattle.lx_answer.specs.BindAnswer.{bind_outcome}
 use Rattle.lx_answer.specs.Outcome.{kept}
 use Rattle.lx_tool.specs.Doing.{DoesOutcome}

@@ -1,5 +1,5 @@
 use Rattle.std.proofs.Common.{◌≡◌, ◌++◌, drop}
-use Rattle.res_bind.specs.Placed.{end_from, data_from}
+use Rattle.res_model.specs.Placed.{end_from, data_from}
 use Rattle.res_bind.proofs.items.push_items.Given as goal
 
 abbrev pub invariant-loop-item : goal.invariant-loop-item

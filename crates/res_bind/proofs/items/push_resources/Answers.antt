@@ -1,5 +1,5 @@
 use Rattle.std.proofs.Common.{◌≡◌, ◌+◌, length, drop, ap, arith}
-use Rattle.res_bind.specs.Placed.{aligned, object_size}
+use Rattle.res_model.specs.Placed.{aligned, object_size}
 use Rattle.res_bind.proofs.Sizes.{end_above, turn_below, size_step, entries_step}
 use Rattle.res_bind.proofs.items.push_resources.Goals as goal
 

@@ -1,5 +1,5 @@
 use Rattle.std.proofs.Common.{arith}
-use Rattle.res_bind.specs.Placed.{object_size}
+use Rattle.res_model.specs.Placed.{object_size}
 use Rattle.res_bind.proofs.Sizes.{turn_below}
 use Rattle.res_bind.proofs.layout.size_of.Goals as goal
 

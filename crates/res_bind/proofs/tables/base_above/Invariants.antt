@@ -1,5 +1,5 @@
 use Rattle.std.proofs.Common.{◌≡◌, ◌<◌, ◌^◌, drop}
-use Rattle.res_bind.specs.Bound.{ends_above}
+use Rattle.res_model.specs.Bound.{ends_above}
 use Rattle.res_bind.proofs.tables.base_above.Given as goal
 
 abbrev pub invariant-loop-object : goal.invariant-loop-object

@@ -1,5 +1,5 @@
 use Rattle.std.proofs.Common.{◌<◌, subst, ℕ, arith}
-use Rattle.res_bind.specs.Placed.{object_size}
+use Rattle.res_model.specs.Placed.{object_size}
 use Rattle.res_bind.proofs.Facts.{facts, pages_small}
 use Rattle.res_bind.proofs.tables.new_page.Goals as goal
 

@@ -3,7 +3,7 @@ use Rattle.std.specs.Prelude.{All}
 use Rattle.std.proofs.lemmas.List.Elements.{All-push}
 use Rattle.std.proofs.lemmas.List.FromFn.{map-range_with_len_more}
 use Rattle.lx_types.specs.declared.object.PageHead.{PageHead}
-use Rattle.res_bind.specs.Bound.{new_page}
+use Rattle.res_model.specs.Bound.{new_page}
 use Rattle.res_bind.proofs.tables.new_pages.Goals as goal
 
 pub loop-k-preserved : goal.loop-k-preserved

@@ -1,7 +1,7 @@
 use Rattle.std.proofs.Common.{◌≡◌, ◌<◌, ◌^◌, map}
 use Rattle.std.specs.Prelude.{All}
 use Rattle.std.specs.List.{range_with_len}
-use Rattle.res_bind.specs.Bound.{new_page}
+use Rattle.res_model.specs.Bound.{new_page}
 use Rattle.res_bind.proofs.tables.new_pages.Given as goal
 
 abbrev pub invariant-loop-k : goal.invariant-loop-k

@@ -1,7 +1,7 @@
 use Rattle.std.proofs.Common.{◌*◌, ◌∙◌, append-nil, arith}
 use Rattle.lx_model.specs.Header.{table, object_count}
 use Rattle.lx_model.specs.TableSpelling.{object_spelling}
-use Rattle.res_bind.specs.Bound.{new_object, old_entries, object_table}
+use Rattle.res_model.specs.Bound.{new_object, old_entries, object_table}
 use Rattle.res_bind.proofs.Written.{old_part, joined}
 use Rattle.res_bind.proofs.tables.push_objects.Goals as goal
 

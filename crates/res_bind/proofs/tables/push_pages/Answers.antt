@@ -1,7 +1,7 @@
 use Rattle.std.proofs.Common.{◌*◌, ◌∙◌, arith}
 use Rattle.lx_model.specs.Header.{table, page_count}
 use Rattle.lx_model.specs.TableSpelling.{pages_spelling}
-use Rattle.res_bind.specs.Bound.{new_pages, old_entries, page_table}
+use Rattle.res_model.specs.Bound.{new_pages, old_entries, page_table}
 use Rattle.res_bind.proofs.Written.{old_part, joined}
 use Rattle.res_bind.proofs.tables.push_pages.Goals as goal
 

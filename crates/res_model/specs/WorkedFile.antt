@@ -1,10 +1,10 @@
 -- Worked values: a file of one item, and what is wrong with it after a change.
 use Rattle.std.specs.Prelude.{◌≡◌, ℕ, List, [], ◌∷◌, ◌++◌, take, codes, slice_set, None, Some}
-use Rattle.res_file.specs.ItemFields.{item_at}
-use Rattle.res_file.specs.ResFile.{item_spelling, items_spelling}
-use Rattle.res_file.specs.Faults.{item_fault}
-use Rattle.res_file.specs.declared.item.ResItem.{ResItem}
-use Rattle.res_file.specs.declared.refusal.ResRefusal.TheVariants.{Short, BadItem, Twice}
+use Rattle.res_model.specs.ItemFields.{item_at}
+use Rattle.res_model.specs.ResFile.{item_spelling, items_spelling}
+use Rattle.res_model.specs.Faults.{item_fault}
+use Rattle.res_model.specs.declared.item.ResItem.{ResItem}
+use Rattle.res_model.specs.declared.refusal.ResRefusal.TheVariants.{Short, BadItem, Twice}
 
 -- type 1, identifier 2, flags 1030h, and `ABC`
 abbrev abc : List ℕ

@@ -2,8 +2,8 @@
 use Rattle.std.specs.Prelude.{◌≡◌, ℕ, ◌<◌, ◌^◌, ◌==◌, ◌&&◌, Bool, false, List, [], ◌∷◌, ◌++◌, length}
 use Rattle.std.specs.List.{flat_map, AllByRecursion}
 use Rattle.lx_bytes.specs.LittleEndian.{little_bytes}
-use Rattle.res_file.specs.ItemFields.{MARK}
-use Rattle.res_file.specs.declared.item.ResItem.{ResItem}
+use Rattle.res_model.specs.ItemFields.{MARK}
+use Rattle.res_model.specs.declared.item.ResItem.{ResItem}
 
 -- ---- how items are spelled
 

@@ -12,9 +12,9 @@ use Rattle.lx_model.specs.Header.{header_place, field, table, page_count, object
 use Rattle.lx_model.specs.Tables.{objects_of}
 use Rattle.lx_model.specs.FixupPages.{has_records}
 use Rattle.lx_model.specs.TableSpelling.{object_spelling, pages_spelling}
-use Rattle.res_file.specs.declared.item.ResItem.{ResItem}
-use Rattle.res_bind.specs.Placed.{up_to_unit, object_size, new_page_count, data_from, entries_from}
-use Rattle.res_bind.specs.Layout.{page_unit, data_place, objects_place, pages_place, fixups_place, resources_place}
+use Rattle.res_model.specs.declared.item.ResItem.{ResItem}
+use Rattle.res_model.specs.Placed.{up_to_unit, object_size, new_page_count, data_from, entries_from}
+use Rattle.res_model.specs.Layout.{page_unit, data_place, objects_place, pages_place, fixups_place, resources_place}
 
 -- ---- the new object
 

@@ -2,11 +2,11 @@
 use Rattle.std.specs.Prelude.{◌≡◌, ℕ, ◌<◌, ◌++◌, List, length, Option, Some, None, if◌then◌else◌}
 use Rattle.std.specs.List.{list_any}
 use Rattle.lx_model.specs.Reading.{◌then◌}
-use Rattle.res_file.specs.ItemFields.{type_at, id_at, fields_fault}
-use Rattle.res_file.specs.ResFile.{items_spelling, has_key, IsResFile}
-use Rattle.res_file.specs.declared.item.ResItem.{ResItem}
-use Rattle.res_file.specs.declared.refusal.ResRefusal.{ResRefusal}
-use Rattle.res_file.specs.declared.refusal.ResRefusal.TheVariants.{Twice}
+use Rattle.res_model.specs.ItemFields.{type_at, id_at, fields_fault}
+use Rattle.res_model.specs.ResFile.{items_spelling, has_key, IsResFile}
+use Rattle.res_model.specs.declared.item.ResItem.{ResItem}
+use Rattle.res_model.specs.declared.refusal.ResRefusal.{ResRefusal}
+use Rattle.res_model.specs.declared.refusal.ResRefusal.TheVariants.{Twice}
 
 -- one of the items has the type and the identifier of the one that stands here
 abbrev pub is_second : List ResItem → List ℕ → ℕ → Option ResRefusal

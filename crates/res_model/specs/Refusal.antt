@@ -1,11 +1,11 @@
 -- Which items are refused.
 use Rattle.std.specs.Prelude.{ℕ, ◌+◌, ◌==◌, ◌||◌, not, Bool, List, [], ◌∷◌, length, nat_lt, Option, Some, None, if◌then◌else◌}
 use Rattle.lx_model.specs.Header.{field, page_count, object_count, MOST_PAGES, MOST_OBJECTS}
-use Rattle.res_file.specs.declared.item.ResItem.{ResItem}
-use Rattle.res_bind.specs.Placed.{new_page_count}
-use Rattle.res_bind.specs.Layout.{end_place}
-use Rattle.res_bind.specs.declared.refusal.BindRefusal.{BindRefusal}
-use Rattle.res_bind.specs.declared.refusal.BindRefusal.TheVariants.{HasResources, TooMany, TooLarge}
+use Rattle.res_model.specs.declared.item.ResItem.{ResItem}
+use Rattle.res_model.specs.Placed.{new_page_count}
+use Rattle.res_model.specs.Layout.{end_place}
+use Rattle.res_model.specs.declared.refusal.BindRefusal.{BindRefusal}
+use Rattle.res_model.specs.declared.refusal.BindRefusal.TheVariants.{HasResources, TooMany, TooLarge}
 
 -- the most bytes of a file
 abbrev pub MOST_BYTES : ℕ

@@ -4,12 +4,12 @@ use Rattle.lx_types.specs.declared.object.ObjHead.{ObjHead}
 use Rattle.lx_model.specs.Module.{LxFault, parts_of}
 use Rattle.lx_model.specs.Resources.{Res}
 use Rattle.lx_model.specs.Worked.File.{worked_file}
-use Rattle.res_file.specs.declared.item.ResItem.{ResItem}
-use Rattle.res_bind.specs.Placed.{object_size, new_page_count, data_from, entries_from}
-use Rattle.res_bind.specs.Bound.{base_above, bound_file}
-use Rattle.res_bind.specs.Refusal.{bind_refusal}
-use Rattle.res_bind.specs.Clear.{is_clear}
-use Rattle.res_bind.specs.declared.refusal.BindRefusal.TheVariants.{HasResources}
+use Rattle.res_model.specs.declared.item.ResItem.{ResItem}
+use Rattle.res_model.specs.Placed.{object_size, new_page_count, data_from, entries_from}
+use Rattle.res_model.specs.Bound.{base_above, bound_file}
+use Rattle.res_model.specs.Refusal.{bind_refusal}
+use Rattle.res_model.specs.Clear.{is_clear}
+use Rattle.res_model.specs.declared.refusal.BindRefusal.TheVariants.{HasResources}
 
 abbrev item : ℕ → ℕ → List ℕ → ResItem
 item ty id bytes = record { ty = ty; id = id; flags = 0x1030; bytes = bytes }

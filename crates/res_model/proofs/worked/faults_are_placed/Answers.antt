@@ -1,6 +1,6 @@
 use Rattle.std.proofs.Common.{refl}
-use Rattle.res_file.specs.ItemFields.{fields_fault}
-use Rattle.res_file.proofs.worked.faults_are_placed.Goals as goal
+use Rattle.res_model.specs.ItemFields.{fields_fault}
+use Rattle.res_model.proofs.worked.faults_are_placed.Goals as goal
 
 pub returns : goal.returns
 unfolding fields_fault

@@ -2,8 +2,8 @@
 use Rattle.std.specs.Prelude.{ℕ, ◌+◌, ◌-◌, ◌*◌, ◌^◌, ◌==◌, List, length, max, if◌then◌else◌}
 use Rattle.lx_model.specs.Header.{field, page_count, object_count}
 use Rattle.lx_model.specs.FixupPages.{has_records}
-use Rattle.res_file.specs.declared.item.ResItem.{ResItem}
-use Rattle.res_bind.specs.Placed.{up_to_unit, object_size, new_page_count}
+use Rattle.res_model.specs.declared.item.ResItem.{ResItem}
+use Rattle.res_model.specs.Placed.{up_to_unit, object_size, new_page_count}
 
 -- the file's end, or where its data pages begin, where the file is shorter
 abbrev pub end_of : List ℕ → ℕ

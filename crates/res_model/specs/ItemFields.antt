@@ -1,9 +1,9 @@
 -- The fields of an item, by their offsets from its first byte, and what may be wrong with them.
 use Rattle.std.specs.Prelude.{ℕ, ◌+◌, ◌==◌, List, length, take, drop, Option, Some, None, nat_lt, slice_index, if◌then◌else◌}
 use Rattle.lx_model.specs.Reading.{number_at, ◌then◌}
-use Rattle.res_file.specs.declared.item.ResItem.{ResItem}
-use Rattle.res_file.specs.declared.refusal.ResRefusal.{ResRefusal}
-use Rattle.res_file.specs.declared.refusal.ResRefusal.TheVariants.{Short, BadItem}
+use Rattle.res_model.specs.declared.item.ResItem.{ResItem}
+use Rattle.res_model.specs.declared.refusal.ResRefusal.{ResRefusal}
+use Rattle.res_model.specs.declared.refusal.ResRefusal.TheVariants.{Short, BadItem}
 
 -- what stands before the type, and before the identifier
 abbrev pub MARK : ℕ

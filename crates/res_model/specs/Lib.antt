@@ -1,0 +1,10 @@
+pub mod ItemFields
+pub mod ResFile
+pub mod Faults
+pub mod WorkedFile
+pub mod Placed
+pub mod Layout
+pub mod Bound
+pub mod Refusal
+pub mod Clear
+pub mod Worked
