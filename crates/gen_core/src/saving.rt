@@ -6,13 +6,10 @@ ghost use Rattle.gen_core.specs.Generated.{HasLine, saved_of};
 
 use crate::outputs::{Output, outputs};
 use crate::telling::totals;
-use lx_answer::Said;
+use lx_answer::{DONE, Said, WRITE_FAILED};
 use lx_ports::{Files, SaveFault};
 use lx_types::{Bytes, NoMemory};
 use std::alloc::Global;
-
-/// The status after a save failed.
-const WRITE_FAILED: u8 = 4;
 
 // Saves one file.
 fn save_one<F: Files>(files: &mut F, output: &Output) -> Result<(), SaveFault>
@@ -36,7 +33,7 @@ fn save_all<F: Files>(files: &mut F, outputs: Vec<Output>, line: Bytes) -> Said
         }
     }
     Said {
-        status: 0,
+        status: DONE,
         text: line,
     }
 }

@@ -8,6 +8,7 @@ ghost use Rattle.lx_ports.specs.Counts.{Rose};
 ghost use Rattle.lx_start.specs.Ending.{EndsWith};
 ghost use Rattle.lx_start.specs.Telling.{asks_help, asks_page, help, told_of};
 
+use lx_answer::{DONE, NO_MEMORY, WRITE_FAILED};
 use lx_ports::{DiskFiles, Files, MemFiles, NoGate, Sink, StdSink};
 use lx_tool::{lx_main, put_whole};
 use refusal_notes::{Heard, Tell, Watched, page_of, tell_on};
@@ -18,12 +19,6 @@ use std::rt::Runtime;
 use std::sync::Wait;
 use std::thread::Threads;
 use std::{env, fs, io, rt};
-
-/// The status after standard output failed.
-const WRITE_FAILED: u8 = 4;
-
-/// The status of want of memory.
-const NO_MEMORY: u8 = 8;
 
 /// What `--help` puts: a line for each command.
 const HELP: &str = "\
@@ -121,7 +116,7 @@ fn tell<S: Sink>(out: &mut S, text: &str) -> ExitCode
     ensures write_failed { exit_status result ≡ 4 → Rose (S.state out.old).faults (S.state out.new).faults }
 {
     match put_whole(out, text.as_bytes()) {
-        Ok(()) => ExitCode::from(0),
+        Ok(()) => ExitCode::from(DONE),
         Err(_) => ExitCode::from(WRITE_FAILED),
     }
 }

@@ -12,7 +12,7 @@ ghost use Rattle.lx_tool.specs.Refusals.{RefusesBy};
 
 use crate::refusals::in_full;
 use crate::saving::keep;
-use lx_answer::Said;
+use lx_answer::{REFUSED, Said};
 use lx_ports::Files;
 use lx_types::{Bytes, Fail, NoMemory, Seq};
 use refusal_text::bind_text;
@@ -50,7 +50,7 @@ fn refused(alloc: Global, out: &str, why: Fail<BindRefusal>) -> Result<Said, NoM
     ensures { RefusesBy bind_text out.now why result }
 {
     match why {
-        Fail::Said(refusal) => said(alloc, 1, out, bind_text(refusal).as_bytes()),
+        Fail::Said(refusal) => said(alloc, REFUSED, out, bind_text(refusal).as_bytes()),
         Fail::NoMemory => Err(NoMemory),
     }
 }

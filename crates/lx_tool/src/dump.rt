@@ -8,7 +8,7 @@ ghost use Rattle.lx_tool.specs.Doing.{Does};
 
 use crate::refusals::in_full;
 use dump_core::listing;
-use lx_answer::Said;
+use lx_answer::{DONE, Said};
 use lx_ports::Files;
 use lx_types::{Module, NoMemory};
 use std::alloc::Global;
@@ -21,7 +21,7 @@ fn dumped(alloc: Global, m: &Module) -> Result<Said, NoMemory>
 {
     let lists = listing(alloc, m)?;
     Ok(Said {
-        status: 0,
+        status: DONE,
         text: dump_core::dump(alloc, &lists)?,
     })
 }

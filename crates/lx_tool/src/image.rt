@@ -13,7 +13,7 @@ ghost use Rattle.lx_tool.specs.Refusals.{RefusesImageAs};
 use crate::refusals::{image_text, in_full};
 use crate::text::memory_text;
 use image_pages::{ImageRefusal, memory};
-use lx_answer::Said;
+use lx_answer::{DONE, REFUSED, Said};
 use lx_ports::Files;
 use lx_types::{Fail, Name, NoMemory, Seq};
 use obj_types::{DefFile, LinkInput, ModKind, ObjModule};
@@ -62,7 +62,7 @@ fn refused(alloc: Global, why: Fail<ImageRefusal>) -> Result<Said, NoMemory>
     match why {
         Fail::Said(refusal) => {
             let text = image_text(alloc, &refusal)?;
-            said(alloc, 1, MODULE, &text)
+            said(alloc, REFUSED, MODULE, &text)
         }
         Fail::NoMemory => Err(NoMemory),
     }
@@ -77,7 +77,7 @@ fn shown(alloc: Global, object: ObjModule, base: u32) -> Result<Said, NoMemory>
     let input = input_of(alloc, object, base)?;
     match memory(alloc, &input) {
         Ok(rows) => Ok(Said {
-            status: 0,
+            status: DONE,
             text: memory_text(alloc, &rows)?,
         }),
         Err(why) => refused(alloc, why),

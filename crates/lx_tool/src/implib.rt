@@ -13,7 +13,7 @@ use crate::refusals::in_full;
 use crate::saving::keep;
 use command_words::stem_of;
 use implib_core::LibraryLong;
-use lx_answer::Said;
+use lx_answer::{REFUSED, Said};
 use lx_ports::Files;
 use lx_types::{Bytes, Fail, NoMemory, Seq};
 use std::alloc::{AllocError, Global};
@@ -31,7 +31,7 @@ fn refused(alloc: Global, out: &str, why: Fail<LibraryLong>) -> Result<Said, NoM
     ensures { RefusesLibrary out.now why result }
 {
     match why {
-        Fail::Said(_) => said(alloc, 1, out, b"LibraryLong".as_slice()),
+        Fail::Said(_) => said(alloc, REFUSED, out, b"LibraryLong".as_slice()),
         Fail::NoMemory => Err(NoMemory),
     }
 }

@@ -11,7 +11,7 @@ use crate::refusals::in_full;
 use crate::saving::keep;
 use link_core::{Linked, link_module};
 use link_model::LinkRefusal;
-use lx_answer::Said;
+use lx_answer::{REFUSED, Said};
 use lx_ports::Files;
 use lx_types::{Bytes, Fail, NoMemory, Seq, push_escaped};
 use obj_types::LinkInput;
@@ -39,7 +39,7 @@ pub fn refused(alloc: Global, out: &str, why: Fail<LinkRefusal>) -> Result<Said,
     match why {
         Fail::Said(refusal) => {
             let text = link_text(alloc, &refusal)?;
-            said(alloc, 1, out, &text)
+            said(alloc, REFUSED, out, &text)
         }
         Fail::NoMemory => Err(NoMemory),
     }

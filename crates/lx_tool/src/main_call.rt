@@ -8,16 +8,14 @@ ghost use Rattle.lx_tool.specs.Running.{PutsEnd, ShowsRun};
 
 use crate::output::put_whole;
 use crate::run::{SessionEnd, run};
-use crate::tool::{NO_MEMORY, WRITE_FAILED, lx_build};
+use crate::tool::lx_build;
+use lx_answer::{DONE, NO_MEMORY, WRITE_FAILED};
 use lx_ports::{Files, Gate, Sink, SinkFailed};
 use lx_types::NoMemory;
 use run_core::Ran;
 use std::alloc::Global;
 use std::sync::Wait;
 use std::thread::Threads;
-
-/// The status where all went well.
-const DONE: u8 = 0;
 
 /// How a call of the program ended: with its status; and with what ran, where a session ran: its transcript, the history of
 /// its loader, which was closed, and the steady lines of its scripts.

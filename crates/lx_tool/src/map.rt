@@ -12,7 +12,7 @@ ghost use Rattle.lx_tool.specs.Doing.{Does};
 use crate::link::refused;
 use crate::refusals::in_full;
 use link_map::map_input;
-use lx_answer::Said;
+use lx_answer::{DONE, Said};
 use lx_ports::Files;
 use lx_types::{Fail, Name, NoMemory, Seq};
 use obj_types::LinkInput;
@@ -45,7 +45,7 @@ fn mapped(alloc: Global, input: &LinkInput) -> Result<Said, NoMemory>
 {
     match map_input(alloc, input) {
         Ok(text) => Ok(Said {
-            status: 0,
+            status: DONE,
             text: Seq::from_vec(text),
         }),
         Err(why) => refused(alloc, MODULE, why),

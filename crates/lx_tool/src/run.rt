@@ -10,7 +10,7 @@ ghost use Rattle.lx_tool.specs.Refusals.{RefusesBy};
 ghost use Rattle.lx_tool.specs.Running.{DoesRun, SaysEnd};
 
 use crate::refusals::in_full;
-use lx_answer::Said;
+use lx_answer::{REFUSED, Said};
 use lx_model::LibraryRefusal;
 use lx_ports::{Files, Gate};
 use lx_types::{Fail, NoMemory};
@@ -39,7 +39,7 @@ fn ungathered(alloc: Global, why: Fail<LibraryRefusal>) -> Result<Said, NoMemory
     match why {
         Fail::Said(refusal) => {
             let text = library_text(alloc, refusal)?;
-            said(alloc, 1, "session", text.as_bytes())
+            said(alloc, REFUSED, "session", text.as_bytes())
         }
         Fail::NoMemory => Err(NoMemory),
     }

@@ -3,7 +3,7 @@ ghost use Rattle.std.specs.Prelude.{◌≡◌};
 ghost use Rattle.lx_answer.specs.Outcome.{kept};
 ghost use Rattle.lx_tool.specs.Doing.{DoesOutcome};
 
-use lx_answer::Said;
+use lx_answer::{DONE, Said, WRITE_FAILED};
 use lx_ports::Files;
 use lx_types::{Bytes, NoMemory};
 use std::alloc::Global;
@@ -22,9 +22,9 @@ pub fn keep<F: Files>(
 {
     let failed = file_line(alloc, name, b"write failed".as_slice())?;
     match files.save(name, bytes) {
-        Ok(()) => Ok(Said { status: 0, text }),
+        Ok(()) => Ok(Said { status: DONE, text }),
         Err(_) => Ok(Said {
-            status: 4,
+            status: WRITE_FAILED,
             text: failed,
         }),
     }

@@ -14,19 +14,10 @@ use crate::map::show_map;
 use crate::output::put_whole;
 use command_words::Command;
 use gen_core::generate;
-use lx_answer::Said;
+use lx_answer::{NO_MEMORY, Said, USAGE, WRITE_FAILED};
 use lx_ports::{Files, Sink};
 use lx_types::{NoMemory, Seq};
 use std::alloc::Global;
-
-/// The status where the words are no command.
-const USAGE: u8 = 2;
-
-/// The status after the sink failed.
-pub(crate) const WRITE_FAILED: u8 = 4;
-
-/// The status of want of memory.
-pub(crate) const NO_MEMORY: u8 = 8;
 
 fn usage(alloc: Global) -> Result<Said, NoMemory>
     ensures { IfOk result (λ said. said ≡ record { status = 2; text = usage_line }) }

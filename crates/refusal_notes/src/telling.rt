@@ -9,6 +9,7 @@ use crate::resources::{bind_meaning, resource_notes};
 use crate::sessions::{named_note, session_notes};
 use crate::watched::{Tell, Watched};
 use def_file::read_def;
+use lx_answer::{DONE, NO_MEMORY, READ_FAILED, REFUSED, USAGE, WRITE_FAILED};
 use lx_ports::{Files, Sink};
 use lx_types::Seq;
 use note_lines::{Fault, Lines, Mark, Told, module_kind, refusal_of};
@@ -328,7 +329,7 @@ pub fn notes_on<F: Files>(
 ) -> Result<Lines, AllocError> {
     let mut lines = Lines::new(alloc);
     match ended.status {
-        1 => {
+        REFUSED => {
             let text = std::str::from_utf8(ended.text).unwrap_or("");
             if ended.word(0) == "run" {
                 session_refused(alloc, files, &mut lines, ended, text)?;
@@ -336,14 +337,14 @@ pub fn notes_on<F: Files>(
                 refused(alloc, files, &mut lines, ended, &told)?;
             }
         }
-        2 => usage(alloc, &mut lines, ended)?,
-        3 => lines.add_text(
+        USAGE => usage(alloc, &mut lines, ended)?,
+        READ_FAILED => lines.add_text(
             alloc,
             "the system does not give the file's bytes: it may be a folder, or one that you may not read",
         )?,
-        4 if ended.word(0) == "gen" => not_all_written(alloc, &mut lines, ended)?,
-        4 => not_written(alloc, &mut lines, ended)?,
-        8 => no_memory(alloc, &mut lines)?,
+        WRITE_FAILED if ended.word(0) == "gen" => not_all_written(alloc, &mut lines, ended)?,
+        WRITE_FAILED => not_written(alloc, &mut lines, ended)?,
+        NO_MEMORY => no_memory(alloc, &mut lines)?,
         _ => {}
     }
     Ok(lines)
@@ -360,7 +361,7 @@ pub fn tell_on<F: Files, T: Tell, S: Sink, G: Files>(
     ensures { ⟦<Watched<F, T> as Files>⟧.state files.new ≡ ⟦<Watched<F, T> as Files>⟧.state files.old }
 {
     let (alloc, words, status) = call;
-    if status == 0 {
+    if status == DONE {
         if let Ok(lines) = files.warnings(words) {
             files.tell(&lines, Mark::Warning);
         }

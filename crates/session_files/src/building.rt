@@ -14,7 +14,7 @@ use crate::texts::{text_of, texts_of};
 use layer_laws::{input_range, linked_files_mean_their_links};
 use link_core::link;
 use link_model::LinkRefusal;
-use lx_answer::Said;
+use lx_answer::{REFUSED, Said};
 use lx_ports::Files;
 use lx_types::{Fail, Module, Name, NoMemory};
 use module_pages::read_faultless;
@@ -35,7 +35,7 @@ fn refused(alloc: Global, stem: &str, refusal: &LinkRefusal) -> Result<Said, NoM
     ensures { IfOk result (λ said. said ≡ record { status = 1; text = file_line stem.now (link_text refusal.now) }) }
 {
     let text = link_text(alloc, refusal)?;
-    said(alloc, 1, stem, &text)
+    said(alloc, REFUSED, stem, &text)
 }
 
 // The module that an input is linked to.

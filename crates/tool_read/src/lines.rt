@@ -3,7 +3,7 @@ ghost use Rattle.std.specs.Prelude.{◌≡◌, IfOk};
 ghost use Rattle.lx_answer.specs.FileLine.{file_line};
 ghost use Rattle.tool_read.specs.Readings.{SaysOf, Tells};
 
-use lx_answer::Said;
+use lx_answer::{REFUSED, Said};
 use lx_types::{Bytes, Fail, NoMemory, Seq};
 use std::alloc::Global;
 
@@ -44,7 +44,7 @@ pub fn told(alloc: Global, name: &str, why: Fail<Bytes>) -> Fail<Said>
     ensures { Tells name.now why result }
 {
     match why {
-        Fail::Said(text) => refusal(alloc, 1, name, text.as_slice()),
+        Fail::Said(text) => refusal(alloc, REFUSED, name, text.as_slice()),
         Fail::NoMemory => Fail::NoMemory,
     }
 }

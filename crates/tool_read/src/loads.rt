@@ -6,7 +6,7 @@ ghost use Rattle.lx_answer.specs.Reading.{Kind};
 ghost use Rattle.tool_read.specs.Readings.{Opens};
 
 use crate::lines::refusal;
-use lx_answer::Said;
+use lx_answer::{READ_FAILED, REFUSED, Said};
 use lx_ports::LoadFault;
 use lx_types::Fail;
 use std::alloc::Global;
@@ -26,9 +26,9 @@ pub fn opened(
 {
     match loaded {
         Ok(bytes) => Ok(bytes),
-        Err(LoadFault::Absent) => Err(refusal(alloc, 1, name, b"absent".as_slice())),
-        Err(LoadFault::TooLong) => Err(refusal(alloc, 1, name, b"too long".as_slice())),
-        Err(LoadFault::Failed) => Err(refusal(alloc, 3, name, b"read failed".as_slice())),
+        Err(LoadFault::Absent) => Err(refusal(alloc, REFUSED, name, b"absent".as_slice())),
+        Err(LoadFault::TooLong) => Err(refusal(alloc, REFUSED, name, b"too long".as_slice())),
+        Err(LoadFault::Failed) => Err(refusal(alloc, READ_FAILED, name, b"read failed".as_slice())),
         Err(LoadFault::NoMemory) => Err(Fail::NoMemory),
     }
 }
