@@ -17,8 +17,7 @@ use lx_ports::Files;
 use lx_types::{Bytes, Fail, NoMemory, Seq};
 use refusal_text::bind_text;
 use res_bind::bind_res;
-use res_model::BindRefusal;
-use res_model::ResItem;
+use res_model::{BindRefusal, ResItem};
 use std::alloc::Global;
 use tool_read::{Binding, read_binding, said};
 

@@ -3,8 +3,7 @@
 ghost use Rattle.std.specs.Prelude.{◌≡◌, IfOk, string_bytes};
 ghost use Rattle.lx_answer.specs.ResourceRefusals.{bind_text, res_text};
 
-use res_model::BindRefusal;
-use res_model::ResRefusal;
+use res_model::{BindRefusal, ResRefusal};
 use std::alloc::{AllocError, Global};
 
 /// What is told of the first fault of a resource file: `@AT KIND`.
