@@ -1,11 +1,12 @@
 -- Each contribution, each communal and each public of a link of whole modules stands for something.
 use Rattle.std.specs.Prelude.{◌≡◌, ℕ, suc, true, false, not, List, [], ◌∷◌, ◌++◌, Option, Some, None, IsSome, map, filter, slice_get, IsPermutation, refl}
 use Rattle.std.specs.List.{filter_map, cons_option, enumerate_from}
-use Rattle.std.specs.Option.{option_map, option_and_then, IsSomeAnd}
+use Rattle.std.specs.Option.{option_map, option_and_then}
 use Rattle.std.proofs.Common.{ap, sym, ◌∙◌, arith, subst}
 use Rattle.std.proofs.lemmas.Bool.{not-true}
 use Rattle.std.proofs.lemmas.List.Elements.{filter_passes}
 use Rattle.std.proofs.lemmas.List.Sorted.{IsPermutation-refl, IsPermutation-sym, IsPermutation-trans, IsPermutation-cons, IsPermutation-middle}
+use Rattle.lx_types.proofs.Options.{mapped_some, some_and}
 use Rattle.obj_types.specs.declared.object.Seg.{Seg}
 use Rattle.obj_types.specs.declared.object.ObjModule.{ObjModule}
 use Rattle.obj_types.specs.declared.symbol.Pub.{Pub}
@@ -25,14 +26,6 @@ use Rattle.map_model.specs.Listed.{Contribution, contribution, contributions_in,
 use Rattle.map_model.specs.Maps.{line_of_contribution, line_of_common}
 
 -- ---- what is found of each item
-
-some_by : {X : Type 0} (o : Option X) (P : X → Type 0) → IsSomeAnd o P → IsSome o
-some_by None P h = absurd h
-some_by (Some x) P h = refl
-
-mapped_some : {X Y : Type 0} (f : X → Y) (o : Option X) → IsSome o → IsSome (option_map f o)
-mapped_some f None h = h
-mapped_some f (Some x) h = refl
 
 pub all_found : {X Y : Type 0} (f : X → Option Y) (xs : List X) → ((x : X) → In x xs → IsSome (f x)) → map Some (filter_map f xs) ≡ map f xs
 all_found f [] each = refl
@@ -76,7 +69,7 @@ contribution_plain l c i =
 pub contribution_found : (l : Link) → SegmentsStand → (c : Contribution) → In c (contributions l) → IsSome (line_of_contribution l c)
 contribution_found l stand c i =
     let p = contribution_plain l c i in
-    mapped_some _ (spot l c.by c.index) (some_by (spot l c.by c.index) (LiesInObject l c.seg.len) (stand l c.by c.index p.owner c.seg p.chosen p.is p.plain))
+    mapped_some _ (spot l c.by c.index) (some_and (spot l c.by c.index) (LiesInObject l c.seg.len) (stand l c.by c.index p.owner c.seg p.chosen p.is p.plain))
 
 pub common_found : (l : Link) → CommunalsStand → (q : ℕ × (List ℕ × Common)) → In q (enumerate_from 0 (commons l)) → IsSome (line_of_common l q)
 common_found l stand q i =
@@ -84,7 +77,7 @@ common_found l stand q i =
     let at = r.number in
     let same : r.place ≡ q.0 = omega (arith, at) in
     let is : slice_get (commons l) q.0 ≡ Some q.1 = subst (λ (k : ℕ). slice_get (commons l) k ≡ Some q.1) same r.is in
-    mapped_some _ (common_spot l q.0) (some_by (common_spot l q.0) (LiesInObject l q.1.1.len) (stand l q.0 q.1 is))
+    mapped_some _ (common_spot l q.0) (some_and (common_spot l q.0) (LiesInObject l q.1.1.len) (stand l q.0 q.1 is))
 
 -- ---- publics
 
