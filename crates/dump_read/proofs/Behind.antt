@@ -2,9 +2,10 @@
 use Rattle.std.proofs.Common.{◌≡◌, ℕ, Bool, true, false, List, [], ◌∷◌, ◌++◌, refl, sym, subst, ap, ◌∙◌, inl, inr, append_assoc, ◌⊎◌}
 use Rattle.std.specs.Prelude.{◌&&◌, ◌||◌}
 use Rattle.std.specs.List.{AllByRecursion}
+use Rattle.std.proofs.lemmas.Bool.{or_parts, or_cases, and_parts}
 use Rattle.dump_read.specs.Taken.{no_break, IsWord, IsPiece, line_left, is_front, AllApart, is_begun, State, Took, Stops, Outcome, Reads}
 use Rattle.dump_read.specs.Sequences.{opens_behind}
-use Rattle.dump_read.proofs.Fronts.{both, either, neither, append-same, no_break-append, all-apart, begun-part}
+use Rattle.dump_read.proofs.Fronts.{append-same, no_break-append, all-apart, begun-part}
 
 -- Texts of values: a text is read in one way, it has a break if it has anything, and another value's text goes on with each piece.
 pub record IsForm {A : Type 0} (text : A → List ℕ) (InRange : A → Type 0) (opens : A → List (List ℕ)) : Type 0 where
@@ -124,9 +125,9 @@ module _ {A B C : Type 0} (ta : A → List ℕ) (ia : A → Type 0) (oa : A → 
     flag =
         flag-law old.begun (no_break (ta a)) (is_begun (oa a) mid.left) (no_break stops.used) stops.own mid.begun new.begun took.flag stops.flag
         ∙ ap (λ t. (old.begun && t) || ((is_begun (oa a) mid.left && no_break stops.used) || stops.own)) (sym (no_break-append (ta a) stops.used));
-    begun = λ own. when (either (is_begun (oa a) mid.left && no_break stops.used) stops.own own);
+    begun = λ own. when (or_cases (is_begun (oa a) mid.left && no_break stops.used) stops.own own);
     other = λ own c r s inside apart is.
-        let flags = neither (is_begun (oa a) mid.left && no_break stops.used) stops.own own in
+        let flags = or_parts (is_begun (oa a) mid.left && no_break stops.used) stops.own own in
         let z = stops.used ++ (line_left new.left ++ r) in
         let left-apart : AllApart (oa a) (stops.used ++ new.left) = subst (AllApart (oa a)) stops.is took.closed in
         let flag : is_begun (oa a) (stops.used ++ new.left) && no_break stops.used ≡ false =
@@ -155,12 +156,12 @@ module _ {A B C : Type 0} (ta : A → List ℕ) (ia : A → Type 0) (oa : A → 
             law.text v.0 took.range v.3 ∙ ap (λ xs. ta a ++ xs) v.5 ∙ sym (append_assoc (ta a) stops.used (new.left ++ v.1 ∷ v.2)),
           )
       when (inl go) =
-          let parts = both (is_begun (oa a) mid.left) (no_break stops.used) go in
+          let parts = and_parts (is_begun (oa a) mid.left) (no_break stops.used) go in
           let part = begun-part (oa a) mid.left (λ w. (x : A) × (rest : List ℕ) × ia x × (ta x ≡ ta a ++ (w ++ rest)))
           (form.pieces a took.range) took.closed (form.longer a took.range) parts.0 in
           let x = part.3 in
           let c = law.starts x.0 x.2 in
-          let word = both (no_break stops.used) (no_break new.left) (sym (no_break-append stops.used new.left) ∙ ap no_break (sym stops.is) ∙ part.2) in (
+          let word = and_parts (no_break stops.used) (no_break new.left) (sym (no_break-append stops.used new.left) ∙ ap no_break (sym stops.is) ∙ part.2) in (
             c.0,
             part.0,
             (part.1 ++ x.1) ++ c.1,

@@ -2,6 +2,7 @@
 use Rattle.std.proofs.Common.{◌≡◌, ℕ, ◌+◌, Bool, true, false, List, [], ◌∷◌, ◌++◌, length, refl, sym, subst, ap, ◌∙◌, arith, append_assoc}
 use Rattle.std.specs.Prelude.{codes, ◌||◌}
 use Rattle.std.specs.List.{AllByRecursion, flat_map}
+use Rattle.std.proofs.lemmas.Bool.{both_ways}
 use Rattle.lx_types.specs.declared.fix.Fix.{Fix}
 use Rattle.lx_types.specs.declared.object.PageHead.{PageHead}
 use Rattle.dump_model.specs.declared.listing.ListedObject.{ListedObject}
@@ -15,7 +16,6 @@ use Rattle.dump_read.specs.Settled.{is_among}
 use Rattle.dump_read.specs.Sequences.{list_text, list_opens, AllIn, CountIn}
 use Rattle.dump_read.specs.Parts.{HasHeadData, page_head_line, IsObjectHead, object_head_line}
 use Rattle.dump_read.specs.Lists.{numbered_fix, numbered_entry, numbered_name, fix_opens, page_opens, object_opens}
-use Rattle.dump_read.proofs.Fronts.{not-both}
 use Rattle.dump_read.proofs.Behind.{reads-behind}
 use Rattle.dump_read.proofs.Forms.{IsCode, code-form}
 use Rattle.dump_read.proofs.Lists.{IsElement, star-form, count-form, so-many, map-all}
@@ -54,12 +54,9 @@ name-element = code-element numbered_name IsNamed (codes "name ") (piece-test (c
 
 -- ---- pages
 
-flat-list : {X : Type 0} (text : X → List ℕ) (n : ℕ) (xs : List X) → flat_map text xs ≡ list_text (λ p. text p.1) n xs
+pub flat-list : {X : Type 0} (text : X → List ℕ) (n : ℕ) (xs : List X) → flat_map text xs ≡ list_text (λ p. text p.1) n xs
 flat-list text n [] = refl
 flat-list text n (x ∷ xs) = ap (λ rest. text x ++ rest) (flat-list text (n + 1) xs)
-
-pub flat-lists : {X : Type 0} (text : X → List ℕ) (n : ℕ) (xs : List X) → flat_map text xs ≡ list_text (λ p. text p.1) n xs
-flat-lists text n xs = flat-list text n xs
 
 abbrev head_of : ListedPage → PageHead
 head_of p = record { kind = p.kind; at = p.at; len = p.len }
@@ -78,7 +75,7 @@ among-differ : (known : List (List ℕ)) (first : List ℕ) (pieces : List (List
     → AllByRecursion (λ v. v ≡ first → ⊥) pieces
 among-differ known first [] other h = tt
 among-differ known first (p ∷ pieces) other h =
-    (λ is. not-both (is_among first known) (subst (λ v. is_among v known ≡ true) is h.0) other, among-differ known first pieces other h.1)
+    (λ is. both_ways (is_among first known) other (subst (λ v. is_among v known ≡ true) is h.0), among-differ known first pieces other h.1)
 
 page-one : (k i : ℕ) (a b : ListedPage) (r s : List ℕ) → IsPage a → IsPage b → AllApart (page_opens a) r → AllApart (page_opens b) s
     → page_lines k (i, a) ++ r ≡ page_lines k (i, b) ++ s → (a ≡ b) × (r ≡ s)
@@ -227,7 +224,7 @@ objects-known o h = wider (object_opens o) (pages-known o.pages h.pages)
       where
         more : (p : List ℕ) (t : Bool) → same_bytes p (codes "fix ") ≡ t → is_among p (codes "fix " ∷ []) ≡ true → is_among p (codes "fix " ∷ codes "object " ∷ []) ≡ true
         more p true e h = ap (λ t. t || is_among p (codes "object " ∷ [])) e
-        more p false e h = absurd (not-both (is_among p (codes "fix " ∷ [])) h (ap (λ t. t || false) e))
+        more p false e h = absurd (both_ways (is_among p (codes "fix " ∷ [])) (ap (λ t. t || false) e) h)
 
 -- an object's line, and as many pages as it says
 pub object-reads-whole : (k : ℕ) (h : ObjectHead) (pages : List ListedPage) (old mid new : State) → Reads (object_head_line k) IsObjectHead shut h old mid

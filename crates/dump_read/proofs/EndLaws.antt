@@ -2,10 +2,10 @@
 use Rattle.std.proofs.Common.{◌≡◌, ℕ, zero, suc, ◌+◌, ◌-◌, ◌<◌, ◌≤◌, Bool, true, false, cond, not, List, [], ◌∷◌, ◌++◌, length, get_or, refl, sym, subst, ap, ◌∙◌, arith, inl, inr, ◌⊎◌}
 use Rattle.std.specs.Prelude.{◌==◌}
 use Rattle.std.proofs.lemmas.Bool.Decides.{nat_tests}
+use Rattle.std.proofs.lemmas.Bool.{cases_Bool, both_ways, and_parts}
 use Rattle.dump_model.specs.Dumps.{first_lines}
 use Rattle.dump_read.specs.Taken.{is_in_word, no_break, IsWord, line_left}
 use Rattle.dump_read.specs.Ends.{ends, ends_open}
-use Rattle.dump_read.proofs.Fronts.{both, not-both, test}
 
 -- ---- one byte
 
@@ -34,7 +34,7 @@ first-line (b ∷ xs) = by (b == 10) (first-line xs)
 -- the lines of what was taken, and the next one
 pub lines-behind : (used left : List ℕ) → first_lines (suc (ends used)) (used ++ left) ≡ used ++ line_left left
 lines-behind [] left = first-line left
-lines-behind (b ∷ used) left = by (test (b == 10)) (lines-behind used left)
+lines-behind (b ∷ used) left = by (cases_Bool (b == 10)) (lines-behind used left)
   where
     by : ((b == 10) ≡ true) ⊎ ((b == 10) ≡ false) → first_lines (suc (ends used)) (used ++ left) ≡ used ++ line_left left
         → first_lines (suc (ends (b ∷ used))) (b ∷ (used ++ left)) ≡ b ∷ (used ++ line_left left)
@@ -46,7 +46,7 @@ lines-behind (b ∷ used) left = by (test (b == 10)) (lines-behind used left)
 -- the whole lines of what was taken begin it
 pub lines-front : (used left : List ℕ) → (rest : List ℕ) × (used ≡ first_lines (ends used) (used ++ left) ++ rest)
 lines-front [] left = ([], refl)
-lines-front (b ∷ used) left = by (test (b == 10)) (ends used) refl (lines-front used left)
+lines-front (b ∷ used) left = by (cases_Bool (b == 10)) (ends used) refl (lines-front used left)
   where
     Front : ℕ → Type 0
     Front n = (rest : List ℕ) × (b ∷ used ≡ first_lines n (b ∷ (used ++ left)) ++ rest)
@@ -64,7 +64,7 @@ lines-front (b ∷ used) left = by (test (b == 10)) (ends used) refl (lines-fron
 pub lines-short : (bytes : List ℕ) (n : ℕ) → n < ends bytes → length (first_lines n bytes) < length bytes
 lines-short [] n lt = absurd (omega arith)
 lines-short (b ∷ bytes) zero lt = omega arith
-lines-short (b ∷ bytes) (suc n) lt = by (test (b == 10)) (lines-short bytes n) (lines-short bytes (suc n))
+lines-short (b ∷ bytes) (suc n) lt = by (cases_Bool (b == 10)) (lines-short bytes n) (lines-short bytes (suc n))
   where
     by : ((b == 10) ≡ true) ⊎ ((b == 10) ≡ false) → (n < ends bytes → length (first_lines n bytes) < length bytes)
         → (suc n < ends bytes → length (first_lines (suc n) bytes) < length bytes) → length (first_lines (suc n) (b ∷ bytes)) < length (b ∷ bytes)
@@ -86,12 +86,12 @@ some-end b (c ∷ bytes) h = by (b == 10) (ends (c ∷ bytes)) (some-end c bytes
 -- all lines, of bytes that end with one
 pub lines-whole : (bytes : List ℕ) → ends_open bytes ≡ false → first_lines (ends bytes) bytes ≡ bytes
 lines-whole [] h = refl
-lines-whole (b ∷ []) h = by (test (b == 10))
+lines-whole (b ∷ []) h = by (cases_Bool (b == 10))
   where
     by : ((b == 10) ≡ true) ⊎ ((b == 10) ≡ false) → first_lines (ends (b ∷ [])) (b ∷ []) ≡ b ∷ []
     by (inl is) = ap (λ n. first_lines n (b ∷ [])) (one-end b [] is) ∙ step-end b 0 [] is
-    by (inr is) = absurd (not-both (not (b == 10)) (ap not is) h)
-lines-whole (b ∷ c ∷ bytes) h = by (test (b == 10)) (ends (c ∷ bytes)) refl (some-end c bytes h) (lines-whole (c ∷ bytes) h)
+    by (inr is) = absurd (both_ways (not (b == 10)) h (ap not is))
+lines-whole (b ∷ c ∷ bytes) h = by (cases_Bool (b == 10)) (ends (c ∷ bytes)) refl (some-end c bytes h) (lines-whole (c ∷ bytes) h)
   where
     by : ((b == 10) ≡ true) ⊎ ((b == 10) ≡ false) → (n : ℕ) → ends (c ∷ bytes) ≡ n → 1 ≤ n → first_lines (ends (c ∷ bytes)) (c ∷ bytes) ≡ c ∷ bytes
         → first_lines (ends (b ∷ c ∷ bytes)) (b ∷ c ∷ bytes) ≡ b ∷ c ∷ bytes
@@ -103,12 +103,12 @@ lines-whole (b ∷ c ∷ bytes) h = by (test (b == 10)) (ends (c ∷ bytes)) ref
 -- the lines that end, of bytes that do not end with one
 pub lines-open : (bytes : List ℕ) → ends_open bytes ≡ true → length (first_lines (ends bytes) bytes) < length bytes
 lines-open [] h = absurd cc
-lines-open (b ∷ []) h = by (test (b == 10))
+lines-open (b ∷ []) h = by (cases_Bool (b == 10))
   where
     by : ((b == 10) ≡ true) ⊎ ((b == 10) ≡ false) → length (first_lines (ends (b ∷ [])) (b ∷ [])) < length (b ∷ [])
-    by (inl is) = absurd (not-both (not (b == 10)) h (ap not is))
+    by (inl is) = absurd (both_ways (not (b == 10)) (ap not is) h)
     by (inr is) = omega (arith, ap (λ n. length (first_lines n (b ∷ []))) (no-end b [] is))
-lines-open (b ∷ c ∷ bytes) h = by (test (b == 10)) (ends (c ∷ bytes)) refl (lines-open (c ∷ bytes) h)
+lines-open (b ∷ c ∷ bytes) h = by (cases_Bool (b == 10)) (ends (c ∷ bytes)) refl (lines-open (c ∷ bytes) h)
   where
     by : ((b == 10) ≡ true) ⊎ ((b == 10) ≡ false) → (n : ℕ) → ends (c ∷ bytes) ≡ n → length (first_lines (ends (c ∷ bytes)) (c ∷ bytes)) < length (c ∷ bytes)
         → length (first_lines (ends (b ∷ c ∷ bytes)) (b ∷ c ∷ bytes)) < length (b ∷ c ∷ bytes)
@@ -139,7 +139,7 @@ word-end b h = grind (arith, nat_tests)
 pub word-ends : (w : List ℕ) → IsWord w → ends w ≡ 0
 word-ends [] h = refl
 word-ends (b ∷ w) h =
-    let parts = both (is_in_word b) (no_break w) h in no-end b w (word-end b parts.0) ∙ word-ends w parts.1
+    let parts = and_parts (is_in_word b) (no_break w) h in no-end b w (word-end b parts.0) ∙ word-ends w parts.1
 
 pub few-ends : (xs : List ℕ) → ends xs ≤ length xs
 few-ends [] = omega arith

@@ -3,10 +3,11 @@ use Rattle.std.proofs.Common.{◌≡◌, ℕ, ◌+◌, ◌*◌, ◌/◌, ◌%◌
 use Rattle.std.specs.List.{AllByRecursion}
 use Rattle.std.proofs.lemmas.Bool.Decides.{nat_tests}
 use Rattle.std.proofs.lemmas.List.{length-append}
+use Rattle.std.proofs.lemmas.Bool.{and_from}
 use Rattle.dump_read.specs.Taken.{is_in_word, no_break, IsWord}
 use Rattle.dump_read.specs.Settled.{Begins}
 use Rattle.dump_read.specs.Words.{IsHex}
-use Rattle.dump_read.proofs.Fronts.{joined, same-head}
+use Rattle.dump_read.proofs.Fronts.{same-head}
 use Rattle.dump_read.proofs.Forms.{IsWords}
 use Rattle.lx_types.specs.Escaped.{hex_digit, hex_byte, hex_address}
 
@@ -64,7 +65,7 @@ address-digits n =
 pub digits-word : (xs : List ℕ) → AllByRecursion IsHex xs → IsWord xs
 digits-word [] h = refl
 digits-word (x ∷ xs) h =
-    joined (is_in_word x) (no_break xs) (subst (λ b. is_in_word b ≡ true) (sym h.0.2) (hex-in h.0.0 h.0.1)) (digits-word xs h.1)
+    and_from (is_in_word x) (no_break xs) (subst (λ b. is_in_word b ≡ true) (sym h.0.2) (hex-in h.0.0 h.0.1)) (digits-word xs h.1)
 
 pub address-word : (n : ℕ) → IsWord (hex_address n)
 address-word n = digits-word (hex_address n) (address-digits n)

@@ -2,9 +2,10 @@
 use Rattle.std.proofs.Common.{◌≡◌, ℕ, zero, suc, ◌<◌, Bool, true, false, List, [], ◌∷◌, ◌++◌, length, refl, sym, subst, ap, ◌∙◌, append_assoc, arith}
 use Rattle.std.specs.Prelude.{◌&&◌, ◌||◌}
 use Rattle.std.specs.List.{AllByRecursion}
+use Rattle.std.proofs.lemmas.Bool.{both_ways, and_parts}
 use Rattle.dump_read.specs.Taken.{is_in_word, no_break, IsWord, IsBehind, IsPiece, State, Outcome, Reads, shut, Takes}
 use Rattle.dump_read.specs.Settled.{TakesOne, piece_at}
-use Rattle.dump_read.proofs.Fronts.{both, same-head, append-same, not-both, no_break-append}
+use Rattle.dump_read.proofs.Fronts.{same-head, append-same, no_break-append}
 use Rattle.dump_read.proofs.Behind.{IsForm, reads-behind}
 
 -- Texts of which one ends where it ends, with a blank or the end of a line.
@@ -17,7 +18,7 @@ pub record IsCode {A : Type 0} (text : A → List ℕ) (InRange : A → Type 0) 
 pub code-form : {A : Type 0} (text : A → List ℕ) (InRange : A → Type 0) → IsCode text InRange → IsForm text InRange shut
 code-form text InRange code = record {
   one = λ a b r s ha hb _ _ is. code.one a b r s ha hb is;
-  broken = λ a ha whole. absurd (not-both (no_break (text a)) whole (code.ended a ha));
+  broken = λ a ha whole. absurd (both_ways (no_break (text a)) (code.ended a ha) whole);
   pieces = λ a ha. tt;
   longer = λ a ha. tt;
 }
@@ -35,12 +36,12 @@ pub same-words : (v w r s : List ℕ) (b c : ℕ) → IsWord v → IsWord w → 
 same-words [] [] r s b c hv hw hb hc is =
     let parts = same-head b c r s is in (refl, parts.0, parts.1)
 same-words [] (w ∷ ws) r s b c hv hw hb hc is =
-    absurd (not-both (is_in_word w) (both (is_in_word w) (no_break ws) hw).0 (subst IsBehind (same-head b w r (ws ++ c ∷ s) is).0 hb))
+    absurd (both_ways (is_in_word w) (subst IsBehind (same-head b w r (ws ++ c ∷ s) is).0 hb) (and_parts (is_in_word w) (no_break ws) hw).0)
 same-words (v ∷ vs) [] r s b c hv hw hb hc is =
-    absurd (not-both (is_in_word v) (both (is_in_word v) (no_break vs) hv).0 (subst IsBehind (sym (same-head v c (vs ++ b ∷ r) s is).0) hc))
+    absurd (both_ways (is_in_word v) (subst IsBehind (sym (same-head v c (vs ++ b ∷ r) s is).0) hc) (and_parts (is_in_word v) (no_break vs) hv).0)
 same-words (v ∷ vs) (w ∷ ws) r s b c hv hw hb hc is =
     let parts = same-head v w (vs ++ b ∷ r) (ws ++ c ∷ s) is in
-    let others = same-words vs ws r s b c (both (is_in_word v) (no_break vs) hv).1 (both (is_in_word w) (no_break ws) hw).1 hb hc parts.1 in
+    let others = same-words vs ws r s b c (and_parts (is_in_word v) (no_break vs) hv).1 (and_parts (is_in_word w) (no_break ws) hw).1 hb hc parts.1 in
     (ap (λ x. x ∷ vs) parts.0 ∙ ap (λ xs. w ∷ xs) others.0, others.1, others.2)
 
 piece-parts : (p q r s : List ℕ) (i : IsPiece p) (j : IsPiece q) → p ++ r ≡ q ++ s → i.word ++ i.behind ∷ r ≡ j.word ++ j.behind ∷ s

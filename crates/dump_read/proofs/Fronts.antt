@@ -3,35 +3,8 @@ use Rattle.std.proofs.Common.{◌≡◌, ℕ, Bool, true, false, cond, List, [],
 use Rattle.std.specs.Prelude.{◌&&◌, ◌||◌, ◌==◌}
 use Rattle.std.proofs.lemmas.Bool.Decides.{nat_tests}
 use Rattle.std.specs.List.{AllByRecursion}
+use Rattle.std.proofs.lemmas.Bool.{both_ways, or_cases, and_from, and_parts, eq-eqb, eqb-true}
 use Rattle.dump_read.specs.Taken.{is_in_word, no_break, IsWord, IsBehind, IsPiece, line_left, is_front, Apart, AllApart, is_begun}
-
-pub both : (a b : Bool) → a && b ≡ true → (a ≡ true) × (b ≡ true)
-both true b h = (refl, h)
-both false b h = absurd cc
-
-pub joined : (a b : Bool) → a ≡ true → b ≡ true → a && b ≡ true
-joined a b h k = rw (h, k) refl
-
-pub either : (a b : Bool) → a || b ≡ true → (a ≡ true) ⊎ (b ≡ true)
-either true b h = inl refl
-either false b h = inr h
-
-pub neither : (a b : Bool) → a || b ≡ false → (a ≡ false) × (b ≡ false)
-neither true b h = absurd cc
-neither false b h = (refl, h)
-
-pub not-both : (b : Bool) → b ≡ true → b ≡ false → ⊥
-not-both b h k = absurd cc
-
-pub test : (b : Bool) → (b ≡ true) ⊎ (b ≡ false)
-test true = inl refl
-test false = inr refl
-
-pub same-number : (a b : ℕ) → (a == b) ≡ true → a ≡ b
-same-number a b h = grind (arith, nat_tests)
-
-pub equal-number : (a : ℕ) → (a == a) ≡ true
-equal-number a = grind (arith, nat_tests)
 
 pub same-head : (a b : ℕ) (r s : List ℕ) → a ∷ r ≡ b ∷ s → (a ≡ b) × (r ≡ s)
 same-head a b r s h = (ap (λ (xs : List ℕ). elim xs as (λ _. ℕ) [ [] ↦ 0 | x ∷ _ ↦ x ]) h, ap (λ (xs : List ℕ). elim xs as (λ _. List ℕ) [ [] ↦ [] | _ ∷ ys ↦ ys ]) h)
@@ -44,13 +17,13 @@ pub is-front : (front bytes : List ℕ) → is_front front bytes ≡ true → (r
 is-front [] bytes h = (bytes, refl)
 is-front (f ∷ front) [] h = absurd cc
 is-front (f ∷ front) (b ∷ bytes) h =
-    let parts = both (f == b) (is_front front bytes) h in
+    let parts = and_parts (f == b) (is_front front bytes) h in
     let more = is-front front bytes parts.1 in
-    (more.0, ap (λ c. c ∷ bytes) (sym (same-number f b parts.0)) ∙ ap (λ xs. f ∷ xs) more.1)
+    (more.0, ap (λ c. c ∷ bytes) (sym (eqb-true f b parts.0)) ∙ ap (λ xs. f ∷ xs) more.1)
 
 pub front-is : (front rest : List ℕ) → is_front front (front ++ rest) ≡ true
 front-is [] rest = refl
-front-is (f ∷ front) rest = joined (f == f) (is_front front (front ++ rest)) (equal-number f) (front-is front rest)
+front-is (f ∷ front) rest = and_from (f == f) (is_front front (front ++ rest)) (eq-eqb f f refl) (front-is front rest)
 
 pub no_break-append : (u v : List ℕ) → no_break (u ++ v) ≡ no_break u && no_break v
 no_break-append [] v = refl
@@ -95,21 +68,21 @@ meets-word [] (w ∷ word) behind h ends = Part w (word ++ behind ∷ []) refl r
 meets-word (b ∷ bytes) [] behind h ends = by (b == behind) refl
   where
     by : (t : Bool) → (b == behind) ≡ t → Meets (b ∷ bytes) (behind ∷ [])
-    by true is = Next bytes (ap (λ c. c ∷ bytes) (same-number b behind is))
-    by false is = Never (λ r s e. not-both (b == behind) (subst (λ c. (b == c) ≡ true) (same-head b behind _ s e).0 (equal-number b)) is)
+    by true is = Next bytes (ap (λ c. c ∷ bytes) (eqb-true b behind is))
+    by false is = Never (λ r s e. both_ways (b == behind) is (subst (λ c. (b == c) ≡ true) (same-head b behind _ s e).0 (eq-eqb b b refl)))
 meets-word (b ∷ bytes) (w ∷ word) behind h ends =
-    let parts = both (is_in_word w) (no_break word) h in by parts.0 (b == w) refl (meets-word bytes word behind parts.1 ends)
+    let parts = and_parts (is_in_word w) (no_break word) h in by parts.0 (b == w) refl (meets-word bytes word behind parts.1 ends)
   where
     by : is_in_word w ≡ true → (t : Bool) → (b == w) ≡ t → Meets bytes (word ++ behind ∷ []) → Meets (b ∷ bytes) (w ∷ (word ++ behind ∷ []))
-    by inside true is (Next rest e) = Next rest (ap (λ c. c ∷ bytes) (same-number b w is) ∙ ap (λ xs. w ∷ xs) e)
+    by inside true is (Next rest e) = Next rest (ap (λ c. c ∷ bytes) (eqb-true b w is) ∙ ap (λ xs. w ∷ xs) e)
     by inside true is (Part c rest e word-in) =
-        Part c rest (ap (λ d. d ∷ (word ++ behind ∷ [])) (sym (same-number b w is)) ∙ ap (λ xs. b ∷ xs) e)
-        (joined (is_in_word b) (no_break bytes) (subst (λ c. is_in_word c ≡ true) (sym (same-number b w is)) inside) word-in)
+        Part c rest (ap (λ d. d ∷ (word ++ behind ∷ [])) (sym (eqb-true b w is)) ∙ ap (λ xs. b ∷ xs) e)
+        (and_from (is_in_word b) (no_break bytes) (subst (λ c. is_in_word c ≡ true) (sym (eqb-true b w is)) inside) word-in)
     by inside true is (Never none) = Never (λ r s e.
-        let in-b : is_in_word b ≡ true = subst (λ c. is_in_word c ≡ true) (sym (same-number b w is)) inside in
+        let in-b : is_in_word b ≡ true = subst (λ c. is_in_word c ≡ true) (sym (eqb-true b w is)) inside in
         let line : line_left (b ∷ bytes) ++ r ≡ b ∷ (line_left bytes ++ r) = ap (λ xs. xs ++ r) (line-word b bytes in-b) in
         none r s (same-head b w (line_left bytes ++ r) ((word ++ behind ∷ []) ++ s) (sym line ∙ e)).1)
-    by inside false is more = Never (λ r s e. not-both (b == w) (subst (λ c. (b == c) ≡ true) (same-head b w _ _ e).0 (equal-number b)) is)
+    by inside false is more = Never (λ r s e. both_ways (b == w) is (subst (λ c. (b == c) ≡ true) (same-head b w _ _ e).0 (eq-eqb b b refl)))
 
 pub meets : (bytes piece : List ℕ) → IsPiece piece → Meets bytes piece
 meets bytes piece p = subst (Meets bytes) (sym p.is) (meets-word bytes p.word p.behind p.inside p.ends)
@@ -123,8 +96,8 @@ stays-apart piece used new r p apart flag s is = by (meets (used ++ new) piece p
     by (Next rest e) = apart rest e
     by (Part b rest e word) =
         let begun : is_front (used ++ new) piece ≡ true = subst (λ q. is_front (used ++ new) q ≡ true) (sym e) (front-is (used ++ new) (b ∷ rest)) in
-        let whole : no_break used ≡ true = (both (no_break used) (no_break new) (sym (no_break-append used new) ∙ word)).0 in
-        not-both (is_front (used ++ new) piece && no_break used) (joined (is_front (used ++ new) piece) (no_break used) begun whole) flag
+        let whole : no_break used ≡ true = (and_parts (no_break used) (no_break new) (sym (no_break-append used new) ∙ word)).0 in
+        both_ways (is_front (used ++ new) piece && no_break used) flag (and_from (is_front (used ++ new) piece) (no_break used) begun whole)
     by (Never none) =
         let more = line-begins used new in
         none (more.0 ++ r) s
@@ -148,7 +121,7 @@ pub begun-part : (pieces : List (List ℕ)) (bytes : List ℕ) (P : List ℕ →
     → is_begun pieces bytes ≡ true → (b : ℕ) × (rest : List ℕ) × IsWord bytes × P (bytes ++ b ∷ rest)
 begun-part [] bytes P ps apart each h = absurd cc
 begun-part (piece ∷ pieces) bytes P ps apart each h =
-    by (begun-part pieces bytes P ps.1 apart.1 each.1) (either (is_front bytes piece) (is_begun pieces bytes) h)
+    by (begun-part pieces bytes P ps.1 apart.1 each.1) (or_cases (is_front bytes piece) (is_begun pieces bytes) h)
   where
     at-piece : is_front bytes piece ≡ true → Meets bytes piece → (b : ℕ) × (rest : List ℕ) × IsWord bytes × P (bytes ++ b ∷ rest)
     at-piece front (Next rest e) = absurd (apart.0 rest e)

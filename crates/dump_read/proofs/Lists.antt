@@ -2,10 +2,11 @@
 use Rattle.std.proofs.Common.{◌≡◌, ℕ, zero, suc, ◌+◌, Bool, true, false, cond, List, [], ◌∷◌, ◌++◌, length, refl, sym, subst, ap, ◌∙◌, append_assoc, append-nil, arith, inl, inr, ◌⊎◌}
 use Rattle.std.specs.Prelude.{◌&&◌, ◌||◌, ◌==◌}
 use Rattle.std.specs.List.{AllByRecursion}
+use Rattle.std.proofs.lemmas.Bool.{both_ways, or_parts, or_cases, and_parts}
 use Rattle.dump_read.specs.Taken.{is_in_word, no_break, IsWord, IsPiece, line_left, is_front, Apart, AllApart, is_begun, State, Took, Stops, Outcome, Reads, shut}
 use Rattle.dump_read.specs.Settled.{IsNext}
 use Rattle.dump_read.specs.Sequences.{opens_behind, list_text, list_opens, AllIn, CountIn}
-use Rattle.dump_read.proofs.Fronts.{both, not-both, either, neither, front-is, no_break-append, stays-apart, begun-part, line-word, line-begins}
+use Rattle.dump_read.proofs.Fronts.{front-is, no_break-append, stays-apart, begun-part, line-word, line-begins}
 use Rattle.dump_read.proofs.Behind.{IsForm, reads-behind}
 use Rattle.dump_read.proofs.Forms.{same-pieces, piece-broken, front-broken}
 
@@ -36,7 +37,7 @@ behind-text (p ∷ ps) qs = refl
 pub line-piece-word : (word : List ℕ) (behind : ℕ) (rest : List ℕ) → IsWord word → (z : List ℕ) × (line_left (word ++ behind ∷ rest) ≡ (word ++ behind ∷ []) ++ z)
 line-piece-word [] behind rest h = (cond (behind == 10) [] (line_left rest), refl)
 line-piece-word (w ∷ word) behind rest h =
-    let parts = both (is_in_word w) (no_break word) h in
+    let parts = and_parts (is_in_word w) (no_break word) h in
     let more = line-piece-word word behind rest parts.1 in
     (more.0, line-word w (word ++ behind ∷ rest) parts.0 ∙ ap (λ xs. w ∷ xs) more.1)
 
@@ -95,7 +96,7 @@ read-else {B} {C} piece tb ib tc ic con b old mid new p law next reads =
         → (c : C) × (b : ℕ) × (more : List ℕ) × ic c × IsWord rest × (tc c ≡ used ++ (rest ++ b ∷ more))
     begun-of left used rest parts other front =
         let part = begun-part (piece ∷ []) left (λ w. w ≡ piece) (p, tt) ((λ more is. not-front piece left more other is), tt) (refl, tt) (yes-or front) in
-        let word = both (no_break used) (no_break rest) (sym (no_break-append used rest) ∙ ap no_break (sym parts) ∙ part.2) in (
+        let word = and_parts (no_break used) (no_break rest) (sym (no_break-append used rest) ∙ ap no_break (sym parts) ∙ part.2) in (
           law.some.0,
           part.0,
           part.1 ++ law.some.1,
@@ -108,13 +109,13 @@ read-else {B} {C} piece tb ib tc ic con b old mid new p law next reads =
         yes-or h = ap (λ t. t || false) h
 
         not-front : (piece left more : List ℕ) → is_front piece left ≡ false → left ≡ piece ++ more → ⊥
-        not-front piece left more other is = not-both (is_front piece left) (subst (λ xs. is_front piece xs ≡ true) (sym is) (front-is piece more)) other
+        not-front piece left more other is = both_ways (is_front piece left) other (subst (λ xs. is_front piece xs ≡ true) (sym is) (front-is piece more))
 
         regroup : (u n q r : List ℕ) → ((u ++ n) ++ q) ++ r ≡ u ++ (n ++ (q ++ r))
         regroup u n q r = simp append_assoc
 
     apart-of : (left : List ℕ) → is_front piece left ≡ false → Apart left piece
-    apart-of left other more is = not-both (is_front piece left) (subst (λ xs. is_front piece xs ≡ true) (sym is) (front-is piece more)) other
+    apart-of left other more is = both_ways (is_front piece left) other (subst (λ xs. is_front piece xs ≡ true) (sym is) (front-is piece more))
 
     stops : (left : List ℕ) (begun : Bool) → is_front piece left ≡ false
         → let old : State = record { left = left; begun = begun; stopped = false } in
@@ -125,15 +126,15 @@ read-else {B} {C} piece tb ib tc ic con b old mid new p law next reads =
       viable = let v = s.viable in (con v.0, v.1, law.into v.0 v.2, law.text v.0 v.2 ∙ v.3);
       own = (is_front left piece && no_break s.used) || s.own;
       flag = else-flag begun (is_front left piece) (no_break s.used) s.own new.begun s.flag;
-      begun = λ own. when (either (is_front left piece && no_break s.used) s.own own);
+      begun = λ own. when (or_cases (is_front left piece && no_break s.used) s.own own);
       other = λ own c r z inside _ is.
-          let flags = neither (is_front left piece && no_break s.used) s.own own in
+          let flags = or_parts (is_front left piece && no_break s.used) s.own own in
           no-other flags.0 flags.1 c r z inside is (law.back c inside);
     }
       where
         when : (is_front left piece && no_break s.used ≡ true) ⊎ (s.own ≡ true)
             → (c : C) × (b : ℕ) × (more : List ℕ) × ic c × IsWord new.left × (tc c ≡ s.used ++ (new.left ++ b ∷ more))
-        when (inl go) = begun-of left s.used new.left s.is other (both (is_front left piece) (no_break s.used) go).0
+        when (inl go) = begun-of left s.used new.left s.is other (and_parts (is_front left piece) (no_break s.used) go).0
         when (inr own) = let v = s.begun own in (con v.0, v.1, v.2, law.into v.0 v.3, v.4, law.text v.0 v.3 ∙ v.5)
 
         no-other : is_front left piece && no_break s.used ≡ false → s.own ≡ false → (c : C) (r z : List ℕ) → ic c
@@ -187,14 +188,14 @@ module _ {X : Type 0} (text : ℕ × X → List ℕ) (InRange : X → Type 0) (o
     one = λ a b r s ha hb ra sb is. element.one k a b r s ha hb ra sb is;
     broken = λ a ha whole.
         let broken : no_break (text (k, a)) ≡ false = ap no_break (sym (append-nil (text (k, a)))) ∙ text-broken k a [] ha in
-        absurd (not-both (no_break (text (k, a))) whole broken);
+        absurd (both_ways (no_break (text (k, a))) broken whole);
     pieces = element.pieces;
     longer = λ x h. element.longer k x h;
   }
 
   pub list-broken : (k : ℕ) (xs : List X) → AllIn InRange xs → no_break (list_text text k xs) ≡ true → list_text text k xs ≡ []
   list-broken k [] h whole = refl
-  list-broken k (x ∷ xs) h whole = absurd (not-both (no_break (list_text text k (x ∷ xs))) whole (text-broken k x (list_text text (k + 1) xs) h.0))
+  list-broken k (x ∷ xs) h whole = absurd (both_ways (no_break (list_text text k (x ∷ xs))) (text-broken k x (list_text text (k + 1) xs) h.0) whole)
 
   -- no other piece stands there
   differ-apart : (ps : List (List ℕ)) (z : List ℕ) → AllByRecursion IsPiece ps → AllByRecursion (λ v. v ≡ first → ⊥) ps → AllApart ps (first ++ z)

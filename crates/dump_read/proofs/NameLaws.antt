@@ -8,13 +8,14 @@ use Rattle.dump_read.specs.Words.{IsFirstDigit, IsFront, EndsOrNot}
 use Rattle.std.specs.List.{AllByRecursion}
 use Rattle.std.proofs.lemmas.Bool.Decides.{nat_tests}
 use Rattle.std.proofs.lemmas.List.{length-append}
+use Rattle.std.proofs.lemmas.Bool.{cases_Bool, both_ways, and_from}
 use Rattle.lx_types.specs.Escaped.{hex_digit, hex_byte, is_plain, escaped_byte, escaped}
 use Rattle.dump_model.specs.Bounds.{IsByte, IsListedName}
 use Rattle.dump_model.specs.Lines.{name_word}
 use Rattle.dump_read.specs.Taken.{is_in_word, no_break, IsWord}
 use Rattle.dump_read.specs.Settled.{Begins, Tells}
 use Rattle.dump_read.specs.Names.{FrontByte, EndsWithin, NoFront, IsPart}
-use Rattle.dump_read.proofs.Fronts.{joined, not-both, test, same-head, no_break-append}
+use Rattle.dump_read.proofs.Fronts.{same-head, no_break-append}
 use Rattle.dump_read.proofs.Forms.{IsWords}
 use Rattle.dump_read.proofs.FlagLaws.{digit-value, byte-one, digits-of-byte, digits-word}
 
@@ -27,13 +28,13 @@ pub escape-text : (b : ℕ) → is_plain b ≡ false → escaped_byte b ≡ 0x25
 escape-text b h = ap (λ t. cond t (b ∷ []) (0x25 ∷ hex_byte b)) h
 
 pub plain-percent : (b : ℕ) → is_plain b ≡ true → b ≡ 0x25 → ⊥
-plain-percent b h is = not-both (is_plain 0x25) (subst (λ c. is_plain c ≡ true) is h) refl
+plain-percent b h is = both_ways (is_plain 0x25) refl (subst (λ c. is_plain c ≡ true) is h)
 
 plain-in : (b : ℕ) → is_plain b ≡ true → is_in_word b ≡ true
 plain-in b h = grind (arith, nat_tests)
 
 pub byte-same : (a b : ℕ) (r s : List ℕ) → IsByte a → IsByte b → escaped_byte a ++ r ≡ escaped_byte b ++ s → (a ≡ b) × (r ≡ s)
-byte-same a b r s ha hb is = by (test (is_plain a)) (test (is_plain b))
+byte-same a b r s ha hb is = by (cases_Bool (is_plain a)) (cases_Bool (is_plain b))
   where
     by : (is_plain a ≡ true) ⊎ (is_plain a ≡ false) → (is_plain b ≡ true) ⊎ (is_plain b ≡ false) → (a ≡ b) × (r ≡ s)
     by (inl pa) (inl pb) = same-head a b r s (ap (λ x. x ++ r) (sym (plain-text a pa)) ∙ is ∙ ap (λ x. x ++ s) (plain-text b pb))
@@ -46,22 +47,22 @@ byte-same a b r s ha hb is = by (test (is_plain a)) (test (is_plain b))
         (same-head 0x25 0x25 (hex_byte a ++ r) (hex_byte b ++ s) (ap (λ x. x ++ r) (sym (escape-text a pa)) ∙ is ∙ ap (λ x. x ++ s) (escape-text b pb))).1
 
 byte-some : (b : ℕ) → (c : ℕ) × (rest : List ℕ) × (escaped_byte b ≡ c ∷ rest)
-byte-some b = by (test (is_plain b))
+byte-some b = by (cases_Bool (is_plain b))
   where
     by : (is_plain b ≡ true) ⊎ (is_plain b ≡ false) → (c : ℕ) × (rest : List ℕ) × (escaped_byte b ≡ c ∷ rest)
     by (inl p) = (b, [], plain-text b p)
     by (inr p) = (0x25, hex_byte b, escape-text b p)
 
 byte-word : (b : ℕ) → IsWord (escaped_byte b)
-byte-word b = by (test (is_plain b))
+byte-word b = by (cases_Bool (is_plain b))
   where
     by : (is_plain b ≡ true) ⊎ (is_plain b ≡ false) → IsWord (escaped_byte b)
-    by (inl p) = subst IsWord (sym (plain-text b p)) (joined (is_in_word b) true (plain-in b p) refl)
-    by (inr p) = subst IsWord (sym (escape-text b p)) (joined (is_in_word 0x25) (no_break (hex_byte b)) refl (digits-word (hex_byte b) (digits-of-byte b)))
+    by (inl p) = subst IsWord (sym (plain-text b p)) (and_from (is_in_word b) true (plain-in b p) refl)
+    by (inr p) = subst IsWord (sym (escape-text b p)) (and_from (is_in_word 0x25) (no_break (hex_byte b)) refl (digits-word (hex_byte b) (digits-of-byte b)))
 
 -- no byte is written as the sign of an escape alone
 no-percent : (b : ℕ) (bs : List ℕ) → escaped_byte b ++ escaped bs ≡ 0x25 ∷ [] → ⊥
-no-percent b bs is = by (test (is_plain b))
+no-percent b bs is = by (cases_Bool (is_plain b))
   where
     by : (is_plain b ≡ true) ⊎ (is_plain b ≡ false) → ⊥
     by (inl p) = plain-percent b p (same-head b 0x25 (escaped bs) [] (ap (λ x. x ++ escaped bs) (sym (plain-text b p)) ∙ is)).0
@@ -72,7 +73,7 @@ no-percent b bs is = by (test (is_plain b))
 
 pub escaped-word : (name : List ℕ) → IsWord (escaped name)
 escaped-word [] = refl
-escaped-word (b ∷ name) = no_break-append (escaped_byte b) (escaped name) ∙ joined (no_break (escaped_byte b)) (no_break (escaped name)) (byte-word b) (escaped-word name)
+escaped-word (b ∷ name) = no_break-append (escaped_byte b) (escaped name) ∙ and_from (no_break (escaped_byte b)) (no_break (escaped name)) (byte-word b) (escaped-word name)
 
 no-byte : (b : ℕ) (bs left : List ℕ) → escaped (b ∷ bs) ++ left ≡ [] → ⊥
 no-byte b bs left is =
@@ -248,25 +249,25 @@ pair-escape b high low other is = escape-text b other ∙ ap (λ x. 0x25 ∷ x) 
 
 -- two digits behind the sign that are none of an escape
 pub pair-none : (high low b : ℕ) → ((n : ℕ) → high ∷ low ∷ [] ≡ hex_byte n → ⊥) → escaped_byte b ≡ 0x25 ∷ high ∷ low ∷ [] → ⊥
-pair-none high low b none is = by (test (is_plain b))
+pair-none high low b none is = by (cases_Bool (is_plain b))
   where
     by : (is_plain b ≡ true) ⊎ (is_plain b ≡ false) → ⊥
     by (inl p) = plain-percent b p (same-head b 0x25 [] (high ∷ low ∷ []) (sym (plain-text b p) ∙ is)).0
     by (inr p) = none b (sym (same-head 0x25 0x25 (hex_byte b) (high ∷ low ∷ []) (sym (escape-text b p) ∙ is)).1)
 
 pub pair-plain : (high low b n : ℕ) → IsByte b → IsByte n → is_plain n ≡ true → high ∷ low ∷ [] ≡ hex_byte n → escaped_byte b ≡ 0x25 ∷ high ∷ low ∷ [] → ⊥
-pair-plain high low b n hb hn plain digits is = by (test (is_plain b))
+pair-plain high low b n hb hn plain digits is = by (cases_Bool (is_plain b))
   where
     by : (is_plain b ≡ true) ⊎ (is_plain b ≡ false) → ⊥
     by (inl p) = plain-percent b p (same-head b 0x25 [] (high ∷ low ∷ []) (sym (plain-text b p) ∙ is)).0
     by (inr p) =
         let same = byte-one b n hb hn [] [] (append-nil (hex_byte b) ∙ (same-head 0x25 0x25 (hex_byte b) (high ∷ low ∷ []) (sym (escape-text b p) ∙ is)).1 ∙ digits
         ∙ sym (append-nil (hex_byte n))) in
-        not-both (is_plain b) (subst (λ m. is_plain m ≡ true) (sym same.0) plain) p
+        both_ways (is_plain b) p (subst (λ m. is_plain m ≡ true) (sym same.0) plain)
 
 -- what stands behind the sign and one digit
 three-parts : (b h l r : ℕ) (s t : List ℕ) → 0x25 ∷ h ∷ l ∷ s ≡ escaped_byte b ++ t → escaped_byte b ≡ 0x25 ∷ h ∷ l ∷ []
-three-parts b h l r s t is = by (test (is_plain b))
+three-parts b h l r s t is = by (cases_Bool (is_plain b))
   where
     by : (is_plain b ≡ true) ⊎ (is_plain b ≡ false) → escaped_byte b ≡ 0x25 ∷ h ∷ l ∷ []
     by (inl p) = absurd (plain-percent b p (sym (same-head 0x25 b (h ∷ l ∷ s) t (is ∙ ap (λ x. x ++ t) (plain-text b p))).0))
@@ -288,7 +289,7 @@ one-digit-ends high first =
     (first.0, hex_digit (first.0 % 16), [], first.1, escape-text first.0 first.2 ∙ ap (λ c. 0x25 ∷ c ∷ hex_digit (first.0 % 16) ∷ []) (sym first.3))
 
 pub one-digit-none : (high : ℕ) → (IsFirstDigit high → ⊥) → NoFront (0x25 ∷ high ∷ [])
-one-digit-none high none b r s hb is = by (test (is_plain b))
+one-digit-none high none b r s hb is = by (cases_Bool (is_plain b))
   where
     by : (is_plain b ≡ true) ⊎ (is_plain b ≡ false) → ⊥
     by (inl p) = plain-percent b p (sym (same-head 0x25 b (high ∷ r) s (is ∙ ap (λ x. x ++ s) (plain-text b p))).0)
@@ -306,11 +307,11 @@ pub plain-front : (b : ℕ) (more : List ℕ) → is_plain b ≡ true → b ∷ 
 plain-front b more p = ap (λ x. x ++ more) (sym (plain-text b p))
 
 pub other-none : (b : ℕ) (more : List ℕ) → is_plain b ≡ false → (b ≡ 0x25 → ⊥) → NoFront (b ∷ more)
-other-none b more other sign n r s hn is = by (test (is_plain n))
+other-none b more other sign n r s hn is = by (cases_Bool (is_plain n))
   where
     by : (is_plain n ≡ true) ⊎ (is_plain n ≡ false) → ⊥
     by (inl p) =
-        not-both (is_plain b) (subst (λ m. is_plain m ≡ true) (sym (same-head b n (more ++ r) s (is ∙ ap (λ x. x ++ s) (plain-text n p))).0) p) other
+        both_ways (is_plain b) other (subst (λ m. is_plain m ≡ true) (sym (same-head b n (more ++ r) s (is ∙ ap (λ x. x ++ s) (plain-text n p))).0) p)
     by (inr p) = sign (same-head b 0x25 (more ++ r) (hex_byte n ++ s) (is ∙ ap (λ x. x ++ s) (escape-text n p))).0
 
 -- ---- where the bytes of a word stop
@@ -368,13 +369,13 @@ begins-full word bytes left part some many =
 pub tells-whole : (r : Bool) (word bytes left : List ℕ) → IsPart word bytes left → left ≡ [] → (word ≡ 0x25 ∷ [] → ⊥) → (r ≡ true → 0 < length bytes) → (0 < length bytes → r ≡ true)
     → Tells name_word IsListedName (then_some r bytes) word
 tells-whole true word bytes left part none other to from = whole-name word bytes left part none (to refl)
-tells-whole false word bytes left part none other to from = no-name word bytes left part other (λ _ some. not-both false (from some) refl)
+tells-whole false word bytes left part none other to from = no-name word bytes left part other (λ _ some. both_ways false refl (from some))
 
 pub tells-none : (word bytes left : List ℕ) → IsPart word bytes left → 0 < length left → (word ≡ 0x25 ∷ [] → ⊥) → Tells name_word IsListedName (then_some false bytes) word
 tells-none word bytes left part some other = no-name word bytes left part other (λ none _. omega (arith, some, ap length none))
 
 pub filled : (n : ℕ) (xs : List ℕ) → n ≡ length xs → (not (n == 0) ≡ true → 0 < length xs) × (0 < length xs → not (n == 0) ≡ true)
-filled n [] is = (λ h. absurd (not-both (not (n == 0)) h (subst (λ m. not (m == 0) ≡ false) (sym is) refl)), λ lt. absurd (omega arith))
+filled n [] is = (λ h. absurd (both_ways (not (n == 0)) (subst (λ m. not (m == 0) ≡ false) (sym is) refl) h), λ lt. absurd (omega arith))
 filled n (x ∷ xs) is = (λ _. omega arith, λ _. subst (λ m. not (m == 0) ≡ true) (sym is) (by (length xs)))
   where
     by : (k : ℕ) → not (suc k == 0) ≡ true

@@ -1,6 +1,6 @@
 -- Numbers in decimal are words, and each is the text of one number.
-use Rattle.std.proofs.Common.{◌≡◌, ℕ, ◌+◌, ◌*◌, ◌-◌, ◌^◌, ◌<◌, ◌≤◌, Bool, true, false, List, [], ◌∷◌, ◌++◌, length, get_or, zero, suc, ◌/◌, ◌%◌, append-nil, inl, inr, ◌⊎◌, w32, Result, Ok, Err, refl, sym, ap, ◌∙◌, arith}
-use Rattle.std.specs.Prelude.{◌&&◌, decimal, IsTrue, ℤ, pos, negsuc, Option, Some, None}
+use Rattle.std.proofs.Common.{◌≡◌, ℕ, ◌+◌, ◌*◌, ◌-◌, ◌^◌, ◌<◌, ◌≤◌, true, false, List, [], ◌∷◌, ◌++◌, length, get_or, zero, suc, ◌/◌, ◌%◌, append-nil, inl, inr, ◌⊎◌, w32, Result, Ok, Err, refl, sym, ap, ◌∙◌, arith}
+use Rattle.std.specs.Prelude.{decimal, IsTrue, ℤ, pos, negsuc, Option, Some, None}
 use Rattle.std.specs.List.{list_all, fold}
 use Rattle.std.proofs.lemmas.Bool.Decides.{nat_tests}
 use Rattle.std.proofs.lemmas.Fmt.{decimal_injective, digits_decimal, decimal_step, decimal_digit, first_decimal, signed_decimal_injective}
@@ -11,7 +11,8 @@ use Rattle.std.specs.Fmt.{signed_decimal}
 use Rattle.std.specs.Int.Signed.{mag}
 use Rattle.std.specs.Prelude.{nat_lt, FitsSigned, is_some}
 use Rattle.std.proofs.lemmas.List.{length-append}
-use Rattle.dump_read.proofs.Fronts.{test, same-head}
+use Rattle.std.proofs.lemmas.Bool.{cases_Bool, and_from, and_parts}
+use Rattle.dump_read.proofs.Fronts.{same-head}
 use Rattle.dump_read.proofs.Forms.{IsWords}
 use Rattle.dump_read.specs.Taken.{is_in_word, no_break, IsWord}
 use Rattle.dump_read.specs.Settled.{Begins, Tells}
@@ -25,13 +26,6 @@ same-ok a b r is other = cc
 pub no-true : IsTrue false → ⊥
 no-true h = absurd cc
 
-both : (a b : Bool) → a && b ≡ true → (a ≡ true) × (b ≡ true)
-both true b h = (refl, h)
-both false b h = absurd cc
-
-joined : (a b : Bool) → a ≡ true → b ≡ true → a && b ≡ true
-joined a b h k = rw (h, k) refl
-
 digit-in : (c : ℕ) → is_digit c ≡ true → (48 ≤ c) × (c ≤ 57)
 digit-in c h = (grind (arith, nat_tests), grind (arith, nat_tests))
 
@@ -44,8 +38,8 @@ digit-in_word c h = grind (arith, nat_tests)
 our-digits : IsDigitsTest (λ ds. list_all is_digit ds ≡ true)
 our-digits = record {
   empty = refl;
-  parts = λ c cs h. (digit-in c (both (is_digit c) (list_all is_digit cs) h).0, (both (is_digit c) (list_all is_digit cs) h).1);
-  more = λ c cs h k. joined (is_digit c) (list_all is_digit cs) (digit-is c h) k;
+  parts = λ c cs h. (digit-in c (and_parts (is_digit c) (list_all is_digit cs) h).0, (and_parts (is_digit c) (list_all is_digit cs) h).1);
+  more = λ c cs h k. and_from (is_digit c) (list_all is_digit cs) (digit-is c h) k;
 }
 
 abbrev value_of : ℕ → List ℕ → ℕ
@@ -60,8 +54,8 @@ our-numerals = numerals_by_fold _ our-digits _ our-value
 digits-word : (ds : List ℕ) → list_all is_digit ds ≡ true → IsWord ds
 digits-word [] h = refl
 digits-word (d ∷ ds) h =
-    let parts = both (is_digit d) (list_all is_digit ds) h in
-    joined (is_in_word d) (list_all is_in_word ds) (digit-in_word d parts.0) (digits-word ds parts.1)
+    let parts = and_parts (is_digit d) (list_all is_digit ds) h in
+    and_from (is_in_word d) (list_all is_in_word ds) (digit-in_word d parts.0) (digits-word ds parts.1)
 
 pub number-word : (n : ℕ) → Has32 n → IsWord (decimal n)
 number-word n small = digits-word (decimal n) (digits_decimal our-numerals n (omega (arith, small)))
@@ -98,7 +92,7 @@ begun-by zero n le small word (r ∷ rest) some is =
   where
     longer : (u v : List ℕ) → length (u ++ v) ≡ length u + length v
     longer u v = length-append u v
-begun-by (suc k) n le small word (r ∷ rest) some is = by (test (nat_lt n 10)) (split-last (decimal (n / 10)) word (r ∷ rest) (48 + n % 10)) (begun-by k (n / 10))
+begun-by (suc k) n le small word (r ∷ rest) some is = by (cases_Bool (nat_lt n 10)) (split-last (decimal (n / 10)) word (r ∷ rest) (48 + n % 10)) (begun-by k (n / 10))
   where
     by : (nat_lt n 10 ≡ true) ⊎ (nat_lt n 10 ≡ false)
         → (decimal (n / 10) ++ (48 + n % 10) ∷ [] ≡ word ++ r ∷ rest → (r ∷ rest ≡ []) ⊎ ((more : List ℕ) × (decimal (n / 10) ≡ word ++ more)))
@@ -127,7 +121,7 @@ sign-word = refl
 
 pub signed-word : (z : ℤ) → HasSigned32 z → IsWord (signed_decimal z)
 signed-word (pos n) small = number-word n (omega (arith, small))
-signed-word (negsuc n) small = joined (is_in_word 45) (no_break (decimal (suc n))) sign-word (number-word (suc n) (omega (arith, small)))
+signed-word (negsuc n) small = and_from (is_in_word 45) (no_break (decimal (suc n))) sign-word (number-word (suc n) (omega (arith, small)))
 
 pub small-mag : (z : ℤ) → HasSigned32 z → mag z < 2 ^ 63
 small-mag (pos n) h = omega (arith, h)

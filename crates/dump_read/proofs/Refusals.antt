@@ -2,12 +2,13 @@
 use Rattle.std.proofs.Common.{◌≡◌, ℕ, suc, ◌+◌, ◌-◌, ◌<◌, ◌≤◌, ◌^◌, Bool, true, false, List, [], ◌∷◌, ◌++◌, length, take, refl, sym, subst, ap, ◌∙◌, append_assoc, append-nil, arith, inl, inr, ◌⊎◌}
 use Rattle.std.specs.Prelude.{codes, ◌&&◌}
 use Rattle.std.proofs.lemmas.List.{length-append}
+use Rattle.std.proofs.lemmas.Bool.{cases_Bool, both_ways, and_parts}
 use Rattle.dump_model.specs.declared.listing.Listing.{Listing}
 use Rattle.dump_model.specs.Bounds.{IsListing}
 use Rattle.dump_model.specs.Dumps.{Dump, IsDump, BeginsDump, first_lines, RefusesAt}
 use Rattle.dump_read.specs.Taken.{IsWord, line_left, State, Outcome, Reads, shut}
 use Rattle.dump_read.specs.Ends.{ends, ends_open, beginning, NotDump}
-use Rattle.dump_read.proofs.Fronts.{both, not-both, test, whole-line}
+use Rattle.dump_read.proofs.Fronts.{whole-line}
 use Rattle.dump_read.proofs.Steps.{line-of-word}
 use Rattle.dump_read.proofs.WholeForms.{code-dump, dump-front}
 use Rattle.dump_read.proofs.EndLaws.{lines-behind, lines-front, lines-short, lines-whole, lines-open, ends-append, word-ends, fewer-ends}
@@ -35,19 +36,19 @@ place-of bytes s not-dump = by s.stopped refl not-dump.reads not-dump.some
       part = λ begun. stops.begun (sym stops.flag ∙ begun);
       none = λ begun l r range at. stops.other (sym stops.flag ∙ begun) l r [] range tt (at ∙ sym (append-nil (Dump l)));
     }
-    by false is took (inl halted) = absurd (not-both s.stopped halted is)
+    by false is took (inl halted) = absurd (both_ways s.stopped is halted)
     by false is took (inr some) = record {
       used = Dump not-dump.listing;
       is = took.is;
       viable = record { listing = not-dump.listing; rest = []; dump = record { bounds = took.range; text = append-nil (Dump not-dump.listing) } };
-      part = λ begun. absurd (not-both s.begun begun took.flag);
+      part = λ begun. absurd (both_ways s.begun took.flag begun);
       none = λ begun l r range at.
           some-line s.left r some (code-dump.one not-dump.listing l (line_left s.left ++ r) [] took.range range (at ∙ sym (append-nil (Dump l)))).1;
     }
 
 -- no dump is all of the bytes
 pub no-dump : (bytes : List ℕ) (s : State) → Place bytes s → (l : Listing) → IsDump bytes l → ⊥
-no-dump bytes s place l dump = by (test s.begun)
+no-dump bytes s place l dump = by (cases_Bool s.begun)
   where
     by : (s.begun ≡ true) ⊎ (s.begun ≡ false) → ⊥
     by (inl begun) =
@@ -84,7 +85,7 @@ refuses-here bytes s n not-dump flag count =
       none = no-dump bytes s place;
       from_one = omega arith;
       before = subst (λ m. BeginsDump (first_lines m bytes)) (sym here) (begins-front bytes s place);
-      first = by place count (test s.begun);
+      first = by place count (cases_Bool s.begun);
       some = λ two.
           let before : (n + 1) - 2 ≡ ends place.used - 1 = omega (arith, count) in
           subst (λ m. length (first_lines m bytes) < length bytes) (sym before)
@@ -110,7 +111,7 @@ pub refuses-behind : (bytes : List ℕ) (s : State) (n : ℕ) → (not-dump : No
     → RefusesAt bytes (n + 2)
 refuses-behind bytes s n not-dump flag count =
     let place = place-of bytes s not-dump in
-    let parts = both s.begun (ends_open bytes) flag in
+    let parts = and_parts s.begun (ends_open bytes) flag in
     let v = place.part parts.0 in
     let all : ends bytes ≡ ends place.used = omega (arith, ap ends place.is, ends-append place.used s.left, word-ends s.left v.4) in
     let next : (n + 2) - 1 ≡ suc (ends place.used) = omega (arith, count) in

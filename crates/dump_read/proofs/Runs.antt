@@ -3,10 +3,11 @@ use Rattle.std.proofs.Common.{◌≡◌, ℕ, suc, ◌+◌, ◌-◌, ◌<◌, Bo
 use Rattle.std.specs.Prelude.{◌&&◌, ◌||◌}
 use Rattle.std.specs.List.{AllByRecursion}
 use Rattle.std.proofs.lemmas.List.{length-append}
+use Rattle.std.proofs.lemmas.Bool.{both_ways}
 use Rattle.dump_read.specs.Taken.{no_break, IsPiece, is_front, Apart, AllApart, State, Took, Reads, shut}
 use Rattle.dump_read.specs.Settled.{is_among, IsNext}
 use Rattle.dump_read.specs.Sequences.{opens_behind, list_text, list_opens, AllIn, CountIn, StarSoFar, CountSoFar, reader_size}
-use Rattle.dump_read.proofs.Fronts.{not-both, is-front, front-is, no_break-append}
+use Rattle.dump_read.proofs.Fronts.{is-front, front-is, no_break-append}
 use Rattle.dump_read.proofs.Behind.{reads-behind}
 use Rattle.dump_read.proofs.Forms.{IsCode, code-form, same-pieces}
 use Rattle.dump_read.proofs.Lists.{IsElement, star-form, star-ends, star-goes, count-ends, count-goes, behind-text}
@@ -48,7 +49,7 @@ module _ {X : Type 0} (text : ℕ × X → List ℕ) (InRange : X → Type 0) (o
           (star-ends text InRange opens first element (k + length items) here next refl (apart left is.1) refl)
         where
           apart : (left : List ℕ) → is_front first left ≡ false → Apart left first
-          apart left other rest e = not-both (is_front first left) (subst (λ xs. is_front first xs ≡ true) (sym e) (front-is first rest)) other
+          apart left other rest e = both_ways (is_front first left) other (subst (λ xs. is_front first xs ≡ true) (sym e) (front-is first rest))
 
   -- each value makes what is left shorter, or is the last one
   pub star-smaller : (k : ℕ) (x : X) (here next new : State) → IsNext first true here next → Reads (λ y. text (k, y)) InRange opens x next new → reader_size new < reader_size here
@@ -158,7 +159,7 @@ pub other-apart : (known pieces : List (List ℕ)) (piece z : List ℕ) → AllB
     → is_among piece known ≡ false → AllApart pieces (piece ++ z)
 other-apart known [] piece z ps all p other = tt
 other-apart known (q ∷ pieces) piece z ps all p other = (
-  λ rest is. not-both (is_among piece known) (subst (λ v. is_among v known ≡ true) (sym (same-pieces piece q z rest p ps.0 is).0) all.0) other,
+  λ rest is. both_ways (is_among piece known) other (subst (λ v. is_among v known ≡ true) (sym (same-pieces piece q z rest p ps.0 is).0) all.0),
   other-apart known pieces piece z ps.1 all.1 p other,
 )
 

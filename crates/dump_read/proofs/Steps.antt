@@ -4,9 +4,10 @@ use Rattle.std.specs.Prelude.{◌&&◌, ◌||◌, ◌==◌, is_some, unwrap_or, 
 use Rattle.std.specs.List.{prefix_len, AllByRecursion}
 use Rattle.std.specs.Cmp.Lexicographic.{pointwise}
 use Rattle.std.specs.Bool.{then_some}
+use Rattle.std.proofs.lemmas.Bool.{both_ways, or_parts, or_cases, and_from, and_parts, not-true, eq-eqb, eqb-true}
 use Rattle.dump_read.specs.Taken.{is_in_word, no_break, IsWord, IsBehind, IsPiece, line_left, is_front, same_bytes, Apart, is_begun, State, Took, Stops, Outcome, Reads, shut, Takes}
 use Rattle.dump_read.specs.Settled.{TakesOne, piece_at, ended_by, Tells, Begins, front_word, goes, stops, settled, taken, taken_one, is_piece, is_among, are_pieces, IsPlace}
-use Rattle.dump_read.proofs.Fronts.{both, joined, either, neither, not-both, same-number, equal-number, same-head, is-front, front-is, line-word, whole-line, Meets, Next, Part, Never, meets}
+use Rattle.dump_read.proofs.Fronts.{same-head, is-front, front-is, line-word, whole-line, Meets, Next, Part, Never, meets}
 use Rattle.dump_read.proofs.Forms.{IsWords, same-words, piece-broken, piece-of}
 use Rattle.dump_read.proofs.Lists.{line-piece-word}
 
@@ -17,12 +18,12 @@ drop-front [] rest = refl
 drop-front (f ∷ front) rest = drop-front front rest
 
 front-apart : (front bytes : List ℕ) → is_front front bytes ≡ false → Apart bytes front
-front-apart front bytes h rest is = not-both (is_front front bytes) (subst (λ xs. is_front front xs ≡ true) (sym is) (front-is front rest)) h
+front-apart front bytes h rest is = both_ways (is_front front bytes) h (subst (λ xs. is_front front xs ≡ true) (sym is) (front-is front rest))
 
 pub front-short : (front bytes : List ℕ) → is_front front bytes ≡ true → length front ≤ length bytes
 front-short [] bytes h = omega arith
 front-short (f ∷ front) [] h = absurd cc
-front-short (f ∷ front) (b ∷ bytes) h = omega (arith, front-short front bytes (both (f == b) (is_front front bytes) h).1)
+front-short (f ∷ front) (b ∷ bytes) h = omega (arith, front-short front bytes (and_parts (f == b) (is_front front bytes) h).1)
 
 pub front-pointwise : (front bytes : List ℕ) → pointwise eqb front (take (length front) bytes) ≡ is_front front bytes
 front-pointwise [] bytes = refl
@@ -31,17 +32,13 @@ front-pointwise (f ∷ front) (b ∷ bytes) = ap (λ t. (f == b) && t) (front-po
 
 -- ---- a text as it stands
 
-not-in : (b : Bool) → not b ≡ true → b ≡ false
-not-in true h = absurd cc
-not-in false h = refl
-
 pub piece-test : (piece : List ℕ) → is_piece piece ≡ true → IsPiece piece
 piece-test [] h = absurd cc
-piece-test (b ∷ []) h = record { word = []; behind = b; inside = refl; ends = not-in (is_in_word b) h; is = refl }
+piece-test (b ∷ []) h = record { word = []; behind = b; inside = refl; ends = not-true (is_in_word b) h; is = refl }
 piece-test (b ∷ c ∷ bytes) h =
-    let parts = both (is_in_word b) (is_piece (c ∷ bytes)) h in
+    let parts = and_parts (is_in_word b) (is_piece (c ∷ bytes)) h in
     let p = piece-test (c ∷ bytes) parts.1 in
-    record { word = b ∷ p.word; behind = p.behind; inside = joined (is_in_word b) (no_break p.word) parts.0 p.inside; ends = p.ends; is = ap (λ xs. b ∷ xs) p.is }
+    record { word = b ∷ p.word; behind = p.behind; inside = and_from (is_in_word b) (no_break p.word) parts.0 p.inside; ends = p.ends; is = ap (λ xs. b ∷ xs) p.is }
 
 -- a piece that does not stand in front, and with which the first line does not begin
 never-there : (piece left r s : List ℕ) → IsPiece piece → is_front piece left ≡ false → is_front left piece ≡ false → line_left left ++ r ≡ piece ++ s → ⊥
@@ -107,7 +104,7 @@ taken-reads piece p old = by old.left old.begun old.stopped
 
 same-self : (p : List ℕ) → same_bytes p p ≡ true
 same-self [] = refl
-same-self (b ∷ p) = joined (b == b) (same_bytes p p) (equal-number b) (same-self p)
+same-self (b ∷ p) = and_from (b == b) (same_bytes p p) (eq-eqb b b refl) (same-self p)
 
 among-at : (p : List ℕ) (pieces : List (List ℕ)) (k : ℕ) → k < length pieces → p ≡ piece_at pieces k → is_among p pieces ≡ true
 among-at p [] k lt is = absurd (omega arith)
@@ -127,10 +124,10 @@ pub pieces-test : (pieces : List (List ℕ)) → are_pieces pieces ≡ true → 
 pieces-test [] h = absurd cc
 pieces-test (p ∷ []) h = record { all = (piece-test p h, tt); distinct = λ j k hj hk _. omega (arith, hj, hk); any = omega arith }
 pieces-test (p ∷ q ∷ pieces) h =
-    let parts = both (is_piece p) (not (is_among p (q ∷ pieces)) && are_pieces (q ∷ pieces)) h in
-    let more = both (not (is_among p (q ∷ pieces))) (are_pieces (q ∷ pieces)) parts.1 in
+    let parts = and_parts (is_piece p) (not (is_among p (q ∷ pieces)) && are_pieces (q ∷ pieces)) h in
+    let more = and_parts (not (is_among p (q ∷ pieces))) (are_pieces (q ∷ pieces)) parts.1 in
     let others = pieces-test (q ∷ pieces) more.1 in
-    let alone = not-in (is_among p (q ∷ pieces)) more.0 in
+    let alone = not-true (is_among p (q ∷ pieces)) more.0 in
     record {
       all = (piece-test p parts.0, others.all);
       distinct = distinct p (q ∷ pieces) others alone;
@@ -140,22 +137,22 @@ pieces-test (p ∷ q ∷ pieces) h =
     distinct : (p : List ℕ) (ps : List (List ℕ)) → ArePieces ps → is_among p ps ≡ false → (j k : ℕ) → j < length (p ∷ ps) → k < length (p ∷ ps)
         → piece_at (p ∷ ps) j ≡ piece_at (p ∷ ps) k → j ≡ k
     distinct p ps others alone zero zero hj hk is = refl
-    distinct p ps others alone zero (suc k) hj hk is = absurd (not-both (is_among p ps) (among-at p ps k (omega arith) is) alone)
-    distinct p ps others alone (suc j) zero hj hk is = absurd (not-both (is_among p ps) (among-at p ps j (omega arith) (sym is)) alone)
+    distinct p ps others alone zero (suc k) hj hk is = absurd (both_ways (is_among p ps) alone (among-at p ps k (omega arith) is))
+    distinct p ps others alone (suc j) zero hj hk is = absurd (both_ways (is_among p ps) alone (among-at p ps j (omega arith) (sym is)))
     distinct p ps others alone (suc j) (suc k) hj hk is = ap suc (others.distinct j k (omega arith) (omega arith) is)
 
 none-there : (pieces : List (List ℕ)) (left r s : List ℕ) (k : ℕ) → AllByRecursion IsPiece pieces → AllByRecursion (λ p. is_front p left ≡ false) pieces
     → is_begun pieces left ≡ false → k < length pieces → line_left left ++ r ≡ piece_at pieces k ++ s → ⊥
 none-there [] left r s k ps fronts begun lt is = omega arith
 none-there (p ∷ pieces) left r s zero ps fronts begun lt is =
-    never-there p left r s ps.0 fronts.0 (neither (is_front left p) (is_begun pieces left) begun).0 is
+    never-there p left r s ps.0 fronts.0 (or_parts (is_front left p) (is_begun pieces left) begun).0 is
 none-there (p ∷ pieces) left r s (suc k) ps fronts begun lt is =
-    none-there pieces left r s k ps.1 fronts.1 (neither (is_front left p) (is_begun pieces left) begun).1 (omega arith) is
+    none-there pieces left r s k ps.1 fronts.1 (or_parts (is_front left p) (is_begun pieces left) begun).1 (omega arith) is
 
 begun-at : (pieces : List (List ℕ)) (left : List ℕ) → AllByRecursion IsPiece pieces → AllByRecursion (λ p. is_front p left ≡ false) pieces → is_begun pieces left ≡ true
     → (k : ℕ) × (b : ℕ) × (rest : List ℕ) × (k < length pieces) × IsWord left × (piece_at pieces k ≡ left ++ b ∷ rest)
 begun-at [] left ps fronts h = absurd cc
-begun-at (p ∷ pieces) left ps fronts h = by (begun-at pieces left ps.1 fronts.1) (either (is_front left p) (is_begun pieces left) h)
+begun-at (p ∷ pieces) left ps fronts h = by (begun-at pieces left ps.1 fronts.1) (or_cases (is_front left p) (is_begun pieces left) h)
   where
     at-first : is_front left p ≡ true → Meets left p
         → (k : ℕ) × (b : ℕ) × (rest : List ℕ) × (k < length (p ∷ pieces)) × IsWord left × (piece_at (p ∷ pieces) k ≡ left ++ b ∷ rest)
@@ -223,19 +220,19 @@ front-parts (b ∷ left) = by (prefix_len is_in_word left) (is_in_word b) refl (
     by n false is others = inr (b, left, is, refl, refl)
     by n true is (inl all) =
         let one : 1 + n ≡ suc n = omega arith in
-        inl (joined (is_in_word b) (no_break left) is all.0, ap (λ m. take m (b ∷ left)) one ∙ ap (λ xs. b ∷ xs) all.1)
+        inl (and_from (is_in_word b) (no_break left) is all.0, ap (λ m. take m (b ∷ left)) one ∙ ap (λ xs. b ∷ xs) all.1)
     by n true is (inr parts) =
         let one : suc n ≡ 1 + n = omega arith in
         inr (
           parts.0,
           parts.1,
           parts.2,
-          subst (λ m. IsWord (take m (b ∷ left))) one (joined (is_in_word b) (no_break (take n left)) is parts.3),
+          subst (λ m. IsWord (take m (b ∷ left))) one (and_from (is_in_word b) (no_break (take n left)) is parts.3),
           subst (λ m. b ∷ left ≡ take m (b ∷ left) ++ parts.0 ∷ parts.1) one (ap (λ xs. b ∷ xs) parts.4),
         )
 
 same-length : (xs : List ℕ) → (length xs == length xs) ≡ true
-same-length xs = equal-number (length xs)
+same-length xs = eq-eqb (length xs) (length xs) refl
 
 longer-length : (xs rest : List ℕ) (b : ℕ) → (length xs == length (xs ++ b ∷ rest)) ≡ false
 longer-length xs rest b = by (length xs == length (xs ++ b ∷ rest)) refl
@@ -245,7 +242,7 @@ longer-length xs rest b = by (length xs == length (xs ++ b ∷ rest)) refl
     longer (x ∷ xs) = omega (arith, longer xs)
 
     by : (t : Bool) → (length xs == length (xs ++ b ∷ rest)) ≡ t → t ≡ false
-    by true is = absurd (omega (arith, same-number (length xs) (length (xs ++ b ∷ rest)) is, longer xs))
+    by true is = absurd (omega (arith, eqb-true (length xs) (length (xs ++ b ∷ rest)) is, longer xs))
     by false is = refl
 
 at-behind : (xs rest : List ℕ) (b d : ℕ) → get_or (xs ++ b ∷ rest) (length xs) d ≡ b
@@ -265,16 +262,16 @@ drop-behind front rest b =
 within-word : (v w r s : List ℕ) (behind : ℕ) → IsWord v → IsWord w → IsBehind behind → v ++ r ≡ w ++ behind ∷ s → (rest : List ℕ) × (w ≡ v ++ rest)
 within-word [] w r s behind hv hw ends is = (w, refl)
 within-word (b ∷ v) [] r s behind hv hw ends is =
-    absurd (not-both (is_in_word b) (both (is_in_word b) (no_break v) hv).0 (subst IsBehind (sym (same-head b behind (v ++ r) s is).0) ends))
+    absurd (both_ways (is_in_word b) (subst IsBehind (sym (same-head b behind (v ++ r) s is).0) ends) (and_parts (is_in_word b) (no_break v) hv).0)
 within-word (b ∷ v) (c ∷ w) r s behind hv hw ends is =
     let parts = same-head b c (v ++ r) (w ++ behind ∷ s) is in
-    let more = within-word v w r s behind (both (is_in_word b) (no_break v) hv).1 (both (is_in_word c) (no_break w) hw).1 ends parts.1 in
+    let more = within-word v w r s behind (and_parts (is_in_word b) (no_break v) hv).1 (and_parts (is_in_word c) (no_break w) hw).1 ends parts.1 in
     (more.0, ap (λ x. x ∷ w) (sym parts.0) ∙ ap (λ xs. b ∷ xs) more.1)
 
 pub line-of-word : (v : List ℕ) → IsWord v → line_left v ≡ v
 line-of-word [] h = refl
 line-of-word (b ∷ v) h =
-    let parts = both (is_in_word b) (no_break v) h in line-word b v parts.0 ∙ ap (λ xs. b ∷ xs) (line-of-word v parts.1)
+    let parts = and_parts (is_in_word b) (no_break v) h in line-word b v parts.0 ∙ ap (λ xs. b ∷ xs) (line-of-word v parts.1)
 
 or-right : (a b : Bool) → b ≡ false → a ≡ (a && true) || b
 or-right true b h = refl
@@ -295,7 +292,7 @@ module _ {A : Type 0} (text : A → List ℕ) (InRange : A → Type 0) (behind :
         let e : left ++ r ≡ text c ++ behind ∷ s =
         ap (λ xs. xs ++ r) (sym (line-of-word left word)) ∙ is ∙ append_assoc (text c) (behind ∷ []) s in
         let more = within-word left (text c) r s behind word (words.word c inside) ends e in
-        not-both begins (from (c, more.0, inside, more.1)) own;
+        both_ways begins own (from (c, more.0, inside, more.1));
   }
     where
       by : (c : A) (rest : List ℕ) → InRange c → text c ≡ left ++ rest
@@ -371,12 +368,12 @@ module _ {A : Type 0} (text : A → List ℕ) (InRange : A → Type 0) (behind :
           subst (λ new. Reads (ended_by behind text) InRange shut a old new) (compute b rest (Some x) true is)
           (subst (λ y. Took (ended_by behind text) InRange shut y old (goes (length word + 1) old)) (sym (same x refl))
           (subst (λ c. let old : State = record { left = word ++ c ∷ rest; begun = begun; stopped = false } in Took (ended_by behind text) InRange shut x old (goes (length word + 1) old))
-          (sym (same-number b behind is)) (there-step word rest begun x inside tells.0 tells.1)))
+          (sym (eqb-true b behind is)) (there-step word rest begun x inside tells.0 tells.1)))
       by b rest stop inside (Some x) tells same false is =
           let old : State = record { left = word ++ b ∷ rest; begun = begun; stopped = false } in
           subst (λ new. Reads (ended_by behind text) InRange shut a old new) (compute b rest (Some x) false is)
           (other-step word rest b begun inside stop (λ c range e same-byte.
-          not-both (b == behind) (subst (λ d. (b == d) ≡ true) same-byte (equal-number b)) is))
+          both_ways (b == behind) is (subst (λ d. (b == d) ≡ true) same-byte (eq-eqb b b refl))))
       by b rest stop inside None tells same t is =
           let old : State = record { left = word ++ b ∷ rest; begun = begun; stopped = false } in
           subst (λ new. Reads (ended_by behind text) InRange shut a old new) (compute b rest None t is)
@@ -434,7 +431,7 @@ known-reads known word behind flag begins old new h ends front to from begun nex
         begins-known
     by false to from next =
         word-reads {A = Unit {0}} (λ _. known) (λ _. Unit {0}) behind (known-words known h) ends word None false begins tt old new front refl next
-        (λ x _ is. not-both false (from is) refl) (λ x _. refl) begins-known
+        (λ x _ is. both_ways false refl (from is)) (λ x _. refl) begins-known
 
 -- ---- tests
 
@@ -443,25 +440,25 @@ same-pointwise [] [] h = refl
 same-pointwise [] (y ∷ ys) h = absurd cc
 same-pointwise (x ∷ xs) [] h = absurd cc
 same-pointwise (x ∷ xs) (y ∷ ys) h =
-    let parts = both (x == y) (pointwise eqb xs ys) h in
-    ap (λ z. z ∷ xs) (same-number x y parts.0) ∙ ap (λ zs. y ∷ zs) (same-pointwise xs ys parts.1)
+    let parts = and_parts (x == y) (pointwise eqb xs ys) h in
+    ap (λ z. z ∷ xs) (eqb-true x y parts.0) ∙ ap (λ zs. y ∷ zs) (same-pointwise xs ys parts.1)
 
 pub pointwise-same : (xs ys : List ℕ) → xs ≡ ys → pointwise eqb xs ys ≡ true
 pointwise-same xs ys is = subst (λ zs. pointwise eqb xs zs ≡ true) is (by xs)
   where
     by : (xs : List ℕ) → pointwise eqb xs xs ≡ true
     by [] = refl
-    by (x ∷ xs) = joined (x == x) (pointwise eqb xs xs) (equal-number x) (by xs)
+    by (x ∷ xs) = and_from (x == x) (pointwise eqb xs xs) (eq-eqb x x refl) (by xs)
 
 pub other-pointwise : (xs ys : List ℕ) → pointwise eqb xs ys ≡ false → xs ≡ ys → ⊥
-other-pointwise xs ys h is = not-both (pointwise eqb xs ys) (pointwise-same xs ys is) h
+other-pointwise xs ys h is = both_ways (pointwise eqb xs ys) h (pointwise-same xs ys is)
 
 pub empty-list : (xs : List ℕ) (n : ℕ) → n ≡ length xs → (n == 0) ≡ true → xs ≡ []
 empty-list [] n is h = refl
-empty-list (x ∷ xs) n is h = absurd (omega (arith, is, same-number n 0 h))
+empty-list (x ∷ xs) n is h = absurd (omega (arith, is, eqb-true n 0 h))
 
 pub filled-list : (xs : List ℕ) (n : ℕ) → n ≡ length xs → (n == 0) ≡ false → 0 < length xs
-filled-list [] n is h = absurd (not-both (n == 0) (subst (λ m. (m == 0) ≡ true) (sym is) refl) h)
+filled-list [] n is h = absurd (both_ways (n == 0) h (subst (λ m. (m == 0) ≡ true) (sym is) refl))
 filled-list (x ∷ xs) n is h = omega arith
 
 pub some-first : {k n : ℕ} {p : ℕ × ℕ} → Some (k, n) ≡ Some p → k ≡ p.0

@@ -20,7 +20,7 @@ use Rattle.dump_read.proofs.Runs.{code-list, list-reads, other-apart, opens-amon
 use Rattle.dump_read.proofs.Steps.{piece-test}
 use Rattle.dump_read.proofs.EntryForms.{import-front, entry-front, name-front}
 use Rattle.dump_read.proofs.HeadForms.{code-module, module-front}
-use Rattle.dump_read.proofs.Elements.{import-element, entry-element, name-element, object-element, objects-known, flat-lists}
+use Rattle.dump_read.proofs.Elements.{import-element, entry-element, name-element, object-element, objects-known, flat-list}
 
 abbrev pub end_text : List ℕ
 end_text = codes "end" ++ 0x0A ∷ []
@@ -177,9 +177,9 @@ unfolding Dump module_line
 dump-text p =
     let l = listing_of p in
     ap (λ x. module_head_line p.0 ++ (list_text object_lines 1 l.objects ++ (list_text numbered_import_line 1 l.imports ++ (x ++ (flat_map name_line l.names ++ end_line)))))
-    (flat-lists entry_line 1 l.entries)
+    (flat-list entry_line 1 l.entries)
     ∙ ap (λ x. module_head_line p.0 ++ (list_text object_lines 1 l.objects ++ (list_text numbered_import_line 1 l.imports ++ (list_text numbered_entry 1 l.entries ++ (x ++ end_line)))))
-    (flat-lists name_line 1 l.names)
+    (flat-list name_line 1 l.names)
 
 dump-view : IsView text0 In0 Dump IsListing listing_of
 dump-view = record {
