@@ -1,5 +1,5 @@
 -- A module from its first record on, and an object file.
-use Rattle.std.proofs.Common.{◌≡◌, ◌≢◌, ℕ, ◌+◌, true, ◌||◌, eqb, List, Ok, Err, refl, sym, ap, subst, ◌∙◌, inl, inr}
+use Rattle.std.proofs.Common.{◌≡◌, ◌≢◌, ℕ, true, ◌||◌, eqb, List, Ok, Err, refl, sym, ap, subst, ◌∙◌, inl, inr}
 use Rattle.std.specs.Prelude.{◌⊎◌}
 use Rattle.std.proofs.lemmas.Bool.{ne_eqb}
 use Rattle.lx_types.specs.declared.fail.Fail.{Fail}
@@ -13,7 +13,6 @@ use Rattle.obj_types.specs.declared.refusal.OmfRefusal.{OmfRefusal}
 use Rattle.obj_types.specs.declared.refusal.OmfRefusal.TheVariants.{BadField}
 use Rattle.lx_types.specs.Answers.{◌>>=◌, if_said, Gives}
 use Rattle.omf_fields.specs.Fields.{Reading, name_at}
-use Rattle.omf_fields.proofs.SpanLaws.{cursor_is}
 use Rattle.omf_frame.specs.declared.omf_record.Rec.{Rec}
 use Rattle.omf_model.specs.Add.{add}
 use Rattle.omf_model.specs.Begun.{IsBegun}
@@ -23,9 +22,6 @@ use Rattle.omf_model.specs.ReadModule.{header_at, module_at}
 use Rattle.omf_model.proofs.BegunLaws.{begun-first}
 use Rattle.omf_files.specs.Modules.{StandsAt, begun_at, finished_at}
 use Rattle.omf_files.proofs.RecordRead.{module-split}
-
-pub contents-are : (rec : Rec) (c : Cursor) → c.at ≡ rec.at + 3 → c.left ≡ rec.body.now → contents_at rec.at rec.body.now ≡ c
-contents-are rec c place bytes = cursor_is c (rec.at + 3) rec.body.now (sym place) (sym bytes)
 
 -- ---- the first record
 

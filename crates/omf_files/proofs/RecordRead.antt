@@ -1,5 +1,5 @@
 -- A record that stands at a cursor, and what it adds.
-use Rattle.std.proofs.Common.{◌≡◌, ℕ, zero, suc, ◌+◌, ◌<◌, ◌≤◌, Bool, true, false, List, [], ◌∷◌, ◌++◌, length, Option, Ok, Err, Result, refl, sym, ap, subst, ◌∙◌, arith, length-append}
+use Rattle.std.proofs.Common.{◌≡◌, ℕ, suc, ◌+◌, ◌<◌, ◌≤◌, Bool, true, false, List, [], ◌∷◌, ◌++◌, length, Option, Ok, Err, Result, refl, sym, ap, subst, ◌∙◌, arith, length-append}
 use Rattle.std.specs.List.{AllByRecursion}
 use Rattle.std.proofs.lemmas.List.Elements.{All-contains, All-weaker}
 use Rattle.lx_types.specs.declared.fail.Fail.{Fail}
@@ -41,7 +41,7 @@ use Rattle.omf_model.specs.Spelling.{types_of}
 use Rattle.omf_model.proofs.BegunLaws.{begun-kept, begun-whole, begun-ends}
 use Rattle.omf_model.proofs.PairLaws.{all-at}
 use Rattle.omf_model.proofs.RawLaws.{raw_begun, raw_refused, raw_sound}
-use Rattle.omf_model.proofs.RecordLaws.{header_sound, record_sound, reader_sound}
+use Rattle.omf_model.proofs.RecordLaws.{header_sound, record_sound, reader_sound, AreBytes-front}
 use Rattle.omf_model.proofs.TurnLaws.{rest-more, rest-next, rest-last, rest-refused}
 use Rattle.omf_files.specs.Modules.{StandsAt, begun_at, ends_module, finished_at}
 
@@ -89,11 +89,6 @@ ends-so : (ty at : ℕ) (p : ObjParts) (c : Cursor) (r : Record) → AreBytes c.
 ends-so ty at p c r bytes e =
     let f = reader_sound ty at p c r bytes e in
     All-contains (Tells r) (types_of r) (ty, f.wide) (all-at (Tells r) (types_of r) (types-tell r)) f.is_type
-
-AreBytes-front : (xs ys : List ℕ) → AreBytes (xs ++ ys) → AreBytes xs
-AreBytes-front [] ys h i = omega arith
-AreBytes-front (x ∷ xs) ys h zero = h zero
-AreBytes-front (x ∷ xs) ys h (suc i) = AreBytes-front xs ys (λ k. h (suc k)) i
 
 contents-bytes : (c : Cursor) (f : RawRecord) → AreBytes c.left → raw_at c ≡ Ok f → AreBytes f.contents
 contents-bytes c f bytes e =

@@ -1,5 +1,6 @@
 use Rattle.std.proofs.Common.{◌∙◌}
-use Rattle.omf_files.proofs.BeginRead.{contents-are, begun-refused, other-first, name-refused, named, parts-so, begun-so}
+use Rattle.omf_names.proofs.GroupRead.{contents-are}
+use Rattle.omf_files.proofs.BeginRead.{begun-refused, other-first, name-refused, named, parts-so, begun-so}
 use Rattle.omf_files.proofs.objects.begin.Goals as goal
 
 pub returns-in-Err-clause-read : goal.returns-in-Err-clause-read
