@@ -2,6 +2,7 @@
 use Rattle.std.proofs.Common.{◌≡◌, ◌≢◌, ℕ, ◌≤◌, ◌%◌, List, [], length, Result, Ok, Err, refl, arith, ap, sym, ◌∙◌, cond, Bool, true, false, nat_lt, ◌&&◌, nat_le}
 use Rattle.std.specs.Prelude.{◌==◌, Option, Some, None}
 use Rattle.std.proofs.lemmas.Bool.Decides.{nat_tests}
+use Rattle.std.proofs.lemmas.Bool.{both_ways}
 use Rattle.obj_types.specs.Definition.{IsBase}
 use Rattle.def_tokens.proofs.TokenLaws.{if-first}
 use Rattle.lx_types.specs.Answers.{◌>>=◌}
@@ -44,9 +45,6 @@ good_is x y h = cc
 pub not_good : (k : DefKind) (y : Reading) → refusal k ≡ Ok y → ⊥
 not_good k y h = cc
 
-true_not_false : (b : Bool) → b ≡ true → b ≡ false → ⊥
-true_not_false b h k = cc
-
 pub record Taken {A : Type 0} (Fits : Type 0) (x : A) (go : A → Result Reading DefKind) (r : Reading) : Type 0 where
   pub fits : Fits
   pub goes : go x ≡ Ok r
@@ -70,7 +68,7 @@ name_by : (bytes : List ℕ) (go : List ℕ → Result Reading DefKind) (r : Rea
 name_by bytes go r true is h = absurd (not_good kinds.Expected r h)
 name_by bytes go r false is h =
     let said = text_said bytes go r h in
-    record { fits = (λ none. true_not_false (length bytes == 0) (ap (λ (x : List ℕ). length x == 0) none) is, said.fits); goes = said.goes }
+    record { fits = (λ none. both_ways (length bytes == 0) is (ap (λ (x : List ℕ). length x == 0) none), said.fits); goes = said.goes }
 
 pub name_said : (bytes : List ℕ) (go : List ℕ → Result Reading DefKind) (r : Reading) → (name_of bytes >>= go) ≡ Ok r → Taken ((bytes ≢ []) × IsText bytes) bytes go r
 name_said bytes go r h = name_by bytes go r (length bytes == 0) refl h

@@ -159,7 +159,7 @@ here_is s before t ts k f h refused is =
       cause = subst (λ (g : DefRefusal). IsCause (bare before) t.lexeme g.kind) is (step_cause s before t.lexeme k h refused);
     }
 
-not_ending : (t : Lexeme) → t ≡ ending → is_ending t ≡ false → ⊥
+pub not_ending : (t : Lexeme) → t ≡ ending → is_ending t ≡ false → ⊥
 not_ending t h k = let yes : is_ending t ≡ true = ap is_ending h in cc
 
 placed_more : (before : List Placed) (t : Placed) (ts : List Placed) → (before ++ t ∷ []) ++ ts ≡ before ++ t ∷ ts

@@ -1,5 +1,5 @@
 -- A file has one first fault.
-use Rattle.std.proofs.Common.{◌≡◌, ℕ, ◌<◌, List, [], ◌∷◌, ◌++◌, length, Result, Ok, Err, refl, ap, sym, subst, ◌∙◌, Bool, true, false, inl, inr, append_assoc, append-nil, arith}
+use Rattle.std.proofs.Common.{◌≡◌, ℕ, ◌<◌, List, [], ◌∷◌, ◌++◌, length, Result, Ok, Err, refl, ap, sym, subst, ◌∙◌, true, false, inl, inr, append_assoc, append-nil, arith}
 use Rattle.std.specs.Prelude.{Some, None, is_some}
 use Rattle.obj_types.specs.declared.definition.DefFile.{DefFile}
 use Rattle.def_tokens.specs.declared.keyword.Keyword.{Keyword}
@@ -13,6 +13,7 @@ use Rattle.def_file.specs.Reading.{read_of}
 use Rattle.def_grammar.specs.Rules.{stands, counts_as}
 use Rattle.def_grammar.specs.Statements.{Statement}
 use Rattle.std.specs.List.{list_any}
+use Rattle.std.proofs.lemmas.Bool.{both_ways}
 use Rattle.def_grammar.specs.Sentences.{Sentence, bare}
 use Rattle.def_grammar.specs.Faults.{Begins, MayStand, AnotherMay, NoneMay, StandsAlready, HasBytes, IsCause, IsFirstFault, is_head, begins_statement, is_pair_word}
 use Rattle.def_grammar.specs.Laws.{FirstAreFaults}
@@ -44,9 +45,6 @@ head_of k ss h = absurd (none_counts ss h)
 
 begins : (before : List Lexeme) (t : Lexeme) → StandsAlready before t → begins_statement t ≡ true
 begins before t h = ap begins_statement h.is ∙ head_of h.begun h.statements h.again
-
-true_or_false : (b : Bool) → b ≡ true → b ≡ false → ⊥
-true_or_false b h k = cc
 
 -- A token is of one sort.
 abbrev sort : Lexeme → ℕ
@@ -113,7 +111,7 @@ statement_expected : Two kinds.Statement kinds.Expected
 statement_expected before t h k = elim (k.1) [ inl a ↦ a.0 h.0 | inr b ↦ none_or_another before t h.2 b.1 ]
 
 statement_twice : Two kinds.Statement kinds.Twice
-statement_twice before t h k = true_or_false (begins_statement t) (begins before t k.1) h.1
+statement_twice before t h k = both_ways (begins_statement t) h.1 (begins before t k.1)
 
 expected_number : Two kinds.Expected kinds.Number
 expected_number before t h k =

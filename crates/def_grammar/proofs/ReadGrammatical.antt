@@ -1,5 +1,5 @@
 -- What is read is grammatical.
-use Rattle.std.proofs.Common.{◌≡◌, ℕ, List, [], ◌∷◌, Result, Ok, Err, refl, ap, sym, subst, ◌∙◌, true, false}
+use Rattle.std.proofs.Common.{◌≡◌, ℕ, List, [], ◌∷◌, Result, Ok, Err, refl, ap, sym, subst, ◌∙◌, false}
 use Rattle.obj_types.specs.declared.definition.DefFile.{DefFile}
 use Rattle.def_tokens.specs.Lexemes.{Lexeme, ending, is_ending}
 use Rattle.def_tokens.specs.Tokens.{Placed, tokens_of}
@@ -15,6 +15,7 @@ use Rattle.def_grammar.specs.Laws.{ReadAreGrammatical}
 use Rattle.def_grammar.proofs.States.{State, closed, tokens_then, reading_of, IsState, Next, goes, ends}
 use Rattle.def_grammar.proofs.NextStates.{next}
 use Rattle.def_grammar.proofs.Ended.{AreEnded, files_ended}
+use Rattle.def_grammar.proofs.Faults.{not_ending}
 
 -- A token that was taken.
 pub record IsTaken (answer : Result Reading DefKind) (go : Reading → Result DefFile DefRefusal) (d : DefFile) : Type 0 where
@@ -37,9 +38,6 @@ read_is d e h = cc
 is_taken : (answer : Result Reading DefKind) (line : ℕ) (go : Reading → Result DefFile DefRefusal) (d : DefFile) → (at_line line answer >>= go) ≡ Ok d → IsTaken answer go d
 is_taken (Ok r) line go d h = record { reading = r; is = refl; goes = h }
 is_taken (Err k) line go d h = absurd (not_read _ d h)
-
-not_ending : (t : Lexeme) → t ≡ ending → is_ending t ≡ false → ⊥
-not_ending t h k = let yes : is_ending t ≡ true = ap is_ending h in cc
 
 -- The last token.
 last : (before : List Lexeme → List Lexeme) (t : Lexeme) (r : Reading) (d : DefFile) → t ≡ ending → file_of r.draft ≡ d → Next before t r → Sentence (before (t ∷ [])) d
