@@ -4,6 +4,7 @@ use Rattle.std.specs.Prelude.{IfSome, IsErrAnd}
 use Rattle.std.specs.List.{AllByRecursion}
 use Rattle.lx_types.specs.declared.fail.Fail.{Fail}
 use Rattle.lx_types.specs.declared.fail.Fail.TheVariants as fail
+use Rattle.lx_types.proofs.Lists.{all_joined}
 use Rattle.lx_ports.specs.Calls.{Call, load, save}
 use Rattle.lx_ports.specs.Files.{Contents, FilesState, IsLoadOf}
 use Rattle.lx_ports.specs.declared.files.LoadFault.{LoadFault}
@@ -15,10 +16,6 @@ use Rattle.tool_read.specs.Readings.{ReadsLoad, SaysOf, asked}
 use Rattle.tool_read.specs.Steps.{AreLoads, GivesAll, IsOneLoad, ReadsAll, ReadsInTurn}
 
 -- ---- loads
-
-all_joined : {X : Type 0} (P : X → Type 0) (xs ys : List X) → AllByRecursion P xs → AllByRecursion P ys → AllByRecursion P (xs ++ ys)
-all_joined P [] ys one two = two
-all_joined P (x ∷ xs) ys one two = (one.0, all_joined P xs ys one.1 two)
 
 told_joined : (had : Option Contents) (xs ys : List Call) → IfSome had (λ c. AllByRecursion (IsTold c) xs) → IfSome had (λ c. AllByRecursion (IsTold c) ys)
     → IfSome had (λ c. AllByRecursion (IsTold c) (xs ++ ys))
