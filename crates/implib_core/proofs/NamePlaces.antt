@@ -2,9 +2,9 @@
 use Rattle.std.proofs.Common.{◌≡◌, ℕ, zero, suc, ◌+◌, ◌<◌, ◌≤◌, ◌^◌, Bool, true, false, List, [], ◌∷◌, ◌++◌, length, map, take, get_or, length-append, length-take, refl, sym, subst, ap, ◌∙◌, append_assoc, arith}
 use Rattle.std.specs.Prelude.{◌==◌, filter, cond}
 use Rattle.std.specs.List.{flat_map, AllByRecursion as Each}
-use Rattle.std.proofs.lemmas.Bool.Decides.{nat_tests}
 use Rattle.std.proofs.lemmas.List.{take_more, map-append}
 use Rattle.std.proofs.Math.Seq.{get_or-append_seam}
+use Rattle.std.proofs.lemmas.Bool.{eqb-true}
 use Rattle.lx_types.specs.declared.entry.EntryHead.{EntryHead}
 use Rattle.lx_types.specs.declared.parts.Parts.{Parts}
 use Rattle.obj_types.specs.declared.symbol.Imp.{Imp}
@@ -44,9 +44,6 @@ record Stands (names : List Named) (ordinal at : ℕ) (rest : List Named) : Type
   each : map (name_at names) (places_from ordinal at rest) ≡ names_of ordinal rest
   of : AreOf names ordinal (places_from ordinal at rest)
 
-equal : (n m : ℕ) → (n == m) ≡ true → n ≡ m
-equal n m is = grind (arith, nat_tests, is)
-
 stand_by : (names : List Named) (ordinal at : ℕ) (n : Named) (rest : List Named) (b : Bool) → (n.1 == ordinal) ≡ b → at < length names → name_at names at ≡ n → Stands names ordinal (at + 1) rest →
     Stands names ordinal at (n ∷ rest)
 stand_by names ordinal at n rest true is there here more = record {
@@ -56,7 +53,7 @@ stand_by names ordinal at n rest true is there here more = record {
       ∙ ap (λ (ms : List Named). n ∷ ms) more.each
       ∙ sym (ap (λ (b : Bool). cond b (n ∷ names_of ordinal rest) (names_of ordinal rest)) is);
   of = subst (λ (b : Bool). AreOf names ordinal (cond b (at ∷ places_from ordinal (at + 1) rest) (places_from ordinal (at + 1) rest))) (sym is)
-      ((there, ap (λ (m : Named). m.1) here ∙ equal n.1 ordinal is), more.of);
+      ((there, ap (λ (m : Named). m.1) here ∙ eqb-true n.1 ordinal is), more.of);
 }
 stand_by names ordinal at n rest false is there here more = record {
   each =

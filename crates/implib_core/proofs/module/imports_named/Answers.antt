@@ -1,15 +1,11 @@
-use Rattle.std.proofs.Common.{◌≡◌, ◌∙◌, ap, sym, subst, ℕ, List, Result, Ok, Err, map}
-use Rattle.std.specs.Prelude.{IfOk}
+use Rattle.std.proofs.Common.{◌≡◌, ◌∙◌, ap, sym, subst, ℕ, List, map}
 use Rattle.std.specs.List.{flat_map}
 use Rattle.lx_types.specs.declared.entry.EntryHead.{EntryHead}
+use Rattle.lx_types.proofs.Options.{ok_weaker}
 use Rattle.implib_model.specs.ModuleImports.{Named, import_named, imports_named}
 use Rattle.implib_core.specs.NamePlaces.{name_at, places_in, places_from, ArePlaces}
 use Rattle.implib_core.proofs.NamePlaces.{Entries, ordered_are, same_order, imports_are}
 use Rattle.implib_core.proofs.module.imports_named.Goals as goal
-
-ok_follows : {A E : Type 0} (P Q : A → Type 0) (r : Result A E) → ((a : A) → P a → Q a) → IfOk r P → IfOk r Q
-ok_follows P Q (Ok a) f h = f a h
-ok_follows P Q (Err e) f h = h
 
 pub imports_at-requires-clause-places : goal.imports_at-requires-clause-places
 imports_at-requires-clause-places c =
@@ -27,7 +23,7 @@ returns-clause-are c =
     let order : c.deref.result.now ≡ flat_map (λ e. places_from e.0 0 m.names) m.entries =
     c.deref.ensures.value ∙ c.in_ok-order.ensures ∙ ap (λ (es : Entries). flat_map (λ e. places_in c.in_ok-places.places e.0) es) c.entries.ensures
     ∙ same_order c.in_ok-places.places m.names m.entries (λ o. c.in_ok-places.ensures o ∙ ap (places_from o 0) c.names-names.ensures) in
-    ok_follows
+    ok_weaker
     (λ imports. imports ≡ map (λ p. import_named c.name.result.now (name_at c.names-names.result.now p)) c.deref.result.now)
     (λ imports. imports ≡ imports_named m)
     c.imports_at.result
