@@ -3,4 +3,4 @@
 
 mod words;
 
-pub use words::{Word, push_leading, push_line};
+pub use words::{Word, push_leading, push_line, push_number, push_ordinal};

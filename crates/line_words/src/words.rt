@@ -27,7 +27,8 @@ pub enum Word<'a> {
     Name(&'a [u8]),
 }
 
-fn push_number(out: &mut Vec<u8>, n: u64) -> Result<(), AllocError>
+/// In decimal digits.
+pub fn push_number(out: &mut Vec<u8>, n: u64) -> Result<(), AllocError>
     ensures { OnOk result (out.new.items ≡ out.old.items ++ decimal n) }
 {
     out.extend_from_slice(Buffer::new().format(n).as_bytes())
@@ -39,7 +40,8 @@ fn push_signed(out: &mut Vec<u8>, n: i32) -> Result<(), AllocError>
     out.extend_from_slice(Buffer::new().format(n).as_bytes())
 }
 
-fn push_ordinal(out: &mut Vec<u8>, n: u32) -> Result<(), AllocError>
+/// In decimal digits, behind `@`.
+pub fn push_ordinal(out: &mut Vec<u8>, n: u32) -> Result<(), AllocError>
     ensures { OnOk result (out.new.items ≡ out.old.items ++ (codes "@" ++ decimal n)) }
 {
     out.push(b'@')?;

@@ -1,11 +1,11 @@
 //! The words of a line.
 
-ghost use Rattle.std.specs.Prelude.{◌≡◌, ◌++◌, ◌∷◌, [], map, decimal, OnOk};
+ghost use Rattle.std.specs.Prelude.{◌≡◌, ◌++◌, ◌∷◌, [], map, OnOk};
 ghost use Rattle.session_model.specs.Text.{bytes_word, bytes_words, words, line_of, inner_line};
 ghost use Rattle.session_text.specs.Spaced.{spaced};
 ghost use Rattle.session_text.specs.Words.{word_text};
 
-use itoa::Buffer;
+use line_words::{push_number, push_ordinal};
 use lx_types::{push_escaped, push_hex_address, push_hex_byte};
 use std::alloc::AllocError;
 
@@ -23,12 +23,6 @@ pub(crate) enum Word<'a> {
     Name(&'a [u8]),
     /// Bytes in one word.
     Bytes(&'a [u8]),
-}
-
-fn push_number(out: &mut Vec<u8>, n: u64) -> Result<(), AllocError>
-    ensures { OnOk result (out.new.items ≡ out.old.items ++ decimal n) }
-{
-    out.extend_from_slice(Buffer::new().format(n).as_bytes())
 }
 
 fn push_hex(out: &mut Vec<u8>, bytes: &[u8]) -> Result<(), AllocError>
@@ -50,10 +44,7 @@ fn push_word(out: &mut Vec<u8>, word: Word<'_>) -> Result<(), AllocError>
             out.push(b'P')?;
             push_number(out, u64::from(pid))
         }
-        Word::Ordinal(n) => {
-            out.push(b'@')?;
-            push_number(out, u64::from(n))
-        }
+        Word::Ordinal(n) => push_ordinal(out, n),
         Word::Address(address) => push_hex_address(out, address),
         Word::Name(name) => push_escaped(out, name),
         Word::Bytes(bytes) => push_hex(out, bytes),
