@@ -10,8 +10,8 @@ use Rattle.obj_types.specs.declared.definition.DefFile.{DefFile}
 use Rattle.omf_model.specs.Object as object_files
 use Rattle.omf_model.specs.Library as libraries
 use Rattle.std.specs.Prelude.{Result, Ok, Err, Option, None}
-use Rattle.def_file.specs.declared.refusal.DefRefusal.{DefRefusal}
-use Rattle.def_file.specs.Reading.{read_of}
+use Rattle.def_model.specs.declared.refusal.DefRefusal.{DefRefusal}
+use Rattle.def_model.specs.Reading.{read_of}
 use Rattle.lx_types.specs.declared.refusal.LxRefusal.{LxRefusal}
 use Rattle.lx_model.specs.Module.{LxFault, parts_of, Lx}
 use Rattle.lx_answer.specs.FileRefusals.{omf_text, lx_text, def_text}

@@ -3,7 +3,8 @@
 ghost use Rattle.std.specs.Prelude.{IfOk};
 ghost use Rattle.obj_types.specs.Definition.{WholeDef};
 
-use def_file::{DefKind, DefRefusal, is_quotable, read_def, write_def};
+use def_file::{is_quotable, read_def, write_def};
+use def_model::{DefKind, DefRefusal};
 use lx_types::{Bytes, EntryKey, Fail as Failure};
 use obj_types::{DefFile, ModKind};
 use std::alloc::Global;

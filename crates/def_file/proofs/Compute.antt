@@ -1,14 +1,14 @@
 -- The reading of whole files, computed.
 use Rattle.std.proofs.Common.{ℕ, List, Result}
 use Rattle.obj_types.specs.declared.definition.DefFile.{DefFile}
-use Rattle.def_tokens.specs.Tokens.{tokens_behind}
-use Rattle.def_file.specs.declared.refusal.DefRefusal.{DefRefusal}
-use Rattle.def_file.specs.Attributes.{with_word}
-use Rattle.def_file.specs.Statements.{keyword_statement, statement, program_name, program, library_words, library, description, sized, size, base, exe_type}
-use Rattle.def_file.specs.Segments.{segments, behind_list, attributes, segment, class}
-use Rattle.def_file.specs.Exports.{exports, behind_nodata, behind_resident, behind_ordinal, behind_internal, behind_name, export, internal, ordinal}
-use Rattle.def_file.specs.Imports.{imports, import_first, import_equals, import_module, import_dot}
-use Rattle.def_file.specs.Reading.{token_at, step, read_of}
+use Rattle.def_model.specs.Tokens.{tokens_behind}
+use Rattle.def_model.specs.declared.refusal.DefRefusal.{DefRefusal}
+use Rattle.def_model.specs.Attributes.{with_word}
+use Rattle.def_model.specs.Statements.{keyword_statement, statement, program_name, program, library_words, library, description, sized, size, base, exe_type}
+use Rattle.def_model.specs.Segments.{segments, behind_list, attributes, segment, class}
+use Rattle.def_model.specs.Exports.{exports, behind_nodata, behind_resident, behind_ordinal, behind_internal, behind_name, export, internal, ordinal}
+use Rattle.def_model.specs.Imports.{imports, import_first, import_equals, import_module, import_dot}
+use Rattle.def_model.specs.Reading.{token_at, step, read_of}
 
 -- Names what a file's reading computes by.
 unfoldable pub computed : List ℕ → Result DefFile DefRefusal

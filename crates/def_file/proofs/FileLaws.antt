@@ -10,10 +10,10 @@ use Rattle.obj_types.specs.declared.definition.ModKind.{ModKind}
 use Rattle.obj_types.specs.declared.definition.ModKind.TheVariants as modules
 use Rattle.obj_types.specs.declared.definition.SegAttrs.{SegAttrs}
 use Rattle.def_tokens.proofs.TokenLaws.{if-second}
-use Rattle.def_file.specs.declared.draft.Draft.{Draft}
-use Rattle.def_file.specs.Attributes.{attrs_with}
+use Rattle.def_model.specs.declared.draft.Draft.{Draft}
+use Rattle.def_model.specs.Attributes.{attrs_with}
 use Rattle.obj_types.specs.Defaults.{code_attrs, data_attrs}
-use Rattle.def_file.specs.Meaning.{is_code_class, is_code, segment_of, file_of}
+use Rattle.def_model.specs.Meaning.{is_code_class, is_code, segment_of, file_of}
 use Rattle.def_file.specs.Stated.{Stated, StatedSegment}
 use Rattle.def_file.proofs.ReadHead.{calls, headed, words_of}
 use Rattle.def_file.proofs.ReadSegments.{drafted}

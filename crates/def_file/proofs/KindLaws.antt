@@ -7,21 +7,21 @@ use Rattle.std.proofs.lemmas.List.Elements.{All-map}
 use Rattle.obj_types.specs.declared.definition.Attrs.{Attrs}
 use Rattle.obj_types.specs.declared.definition.ModKind.{ModKind}
 use Rattle.obj_types.specs.declared.definition.ModKind.TheVariants as modules
-use Rattle.def_tokens.specs.declared.keyword.Keyword.{Keyword}
-use Rattle.def_tokens.specs.declared.keyword.Keyword.TheVariants as kw
-use Rattle.def_file.specs.declared.draft.Draft.{Draft}
-use Rattle.def_file.specs.declared.draft.SegDraft.{SegDraft}
-use Rattle.def_file.specs.declared.draft.Words.{Words}
-use Rattle.def_file.specs.declared.draft.Place.{Place}
-use Rattle.def_file.specs.declared.draft.Place.TheVariants as place
-use Rattle.def_file.specs.declared.draft.Owner.TheVariants as owners
-use Rattle.def_file.specs.declared.draft.Size.TheVariants as sizes
-use Rattle.def_file.specs.declared.refusal.DefKind.TheVariants as kinds
-use Rattle.def_file.specs.Draft.{at, no_words}
-use Rattle.def_file.specs.Attributes.{attrs_with}
-use Rattle.def_file.specs.Statements.{begun_by, is_second, keyword_statement}
+use Rattle.def_model.specs.declared.keyword.Keyword.{Keyword}
+use Rattle.def_model.specs.declared.keyword.Keyword.TheVariants as kw
+use Rattle.def_model.specs.declared.draft.Draft.{Draft}
+use Rattle.def_model.specs.declared.draft.SegDraft.{SegDraft}
+use Rattle.def_model.specs.declared.draft.Words.{Words}
+use Rattle.def_model.specs.declared.draft.Place.{Place}
+use Rattle.def_model.specs.declared.draft.Place.TheVariants as place
+use Rattle.def_model.specs.declared.draft.Owner.TheVariants as owners
+use Rattle.def_model.specs.declared.draft.Size.TheVariants as sizes
+use Rattle.def_model.specs.declared.refusal.DefKind.TheVariants as kinds
+use Rattle.def_model.specs.Draft.{at, no_words}
+use Rattle.def_model.specs.Attributes.{attrs_with}
+use Rattle.def_model.specs.Statements.{begun_by, is_second, keyword_statement}
 use Rattle.obj_types.specs.Defaults.{code_attrs, data_attrs}
-use Rattle.def_file.specs.Meaning.{file_of, segment_of, is_code, is_code_class}
+use Rattle.def_model.specs.Meaning.{file_of, segment_of, is_code, is_code_class}
 use Rattle.def_file.specs.Stated.{Stated, StatedSegment}
 use Rattle.def_file.specs.Whole.{CallsFit, FitsKind, WholeDraft}
 

@@ -14,18 +14,18 @@ use Rattle.obj_types.specs.declared.definition.ModKind.TheVariants as modules
 use Rattle.obj_types.specs.declared.definition.SegAttrs.{SegAttrs}
 use Rattle.obj_types.specs.declared.symbol.Exp.{Exp}
 use Rattle.obj_types.specs.declared.symbol.Imp.{Imp}
-use Rattle.def_tokens.specs.declared.keyword.Keyword.{Keyword}
-use Rattle.def_tokens.specs.declared.keyword.Keyword.TheVariants as kw
-use Rattle.def_tokens.specs.declared.keyword.Pair.TheVariants as pairs
-use Rattle.def_tokens.specs.Lexemes.{Lexeme, at, text, number, equals, keyword, ending}
-use Rattle.def_tokens.specs.Tokens.{tokens_of, tokens_behind}
+use Rattle.def_model.specs.declared.keyword.Keyword.{Keyword}
+use Rattle.def_model.specs.declared.keyword.Keyword.TheVariants as kw
+use Rattle.def_model.specs.declared.keyword.Pair.TheVariants as pairs
+use Rattle.def_model.specs.Lexemes.{Lexeme, at, text, number, equals, keyword, ending}
+use Rattle.def_model.specs.Tokens.{tokens_of, tokens_behind}
 use Rattle.def_tokens.specs.Spelling.{IsQuotable, Spells, line_text}
 use Rattle.def_tokens.proofs.LexemeLaws.{lexemes, lexemes-space}
 use Rattle.def_tokens.proofs.SpellingLaws.{line-read}
-use Rattle.def_file.specs.declared.draft.Draft.{Draft}
-use Rattle.def_file.specs.Draft.{fresh}
+use Rattle.def_model.specs.declared.draft.Draft.{Draft}
+use Rattle.def_model.specs.Draft.{fresh}
 use Rattle.def_file.specs.Names.{EachName, SegmentNames, ExportNames, ImportNames, EntryName}
-use Rattle.def_file.specs.Reading.{read_of}
+use Rattle.def_model.specs.Reading.{read_of}
 use Rattle.def_file.specs.Stated.{Stated}
 use Rattle.def_file.specs.Writing.{kind_tokens, attribute_tokens, class_tokens, segment_tokens, ordinal_tokens, flag_tokens, words_tokens, export_tokens, entry_token, import_tokens, statement_text, base_text, items_text, kind_text, text_of}
 use Rattle.def_file.proofs.SaysLaws.{says, run-says}

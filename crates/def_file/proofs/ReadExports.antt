@@ -7,13 +7,13 @@ use Rattle.std.proofs.lemmas.List.Elements.{All-head, All-tail}
 use Rattle.lx_types.specs.Names.{IsName}
 use Rattle.obj_types.specs.Definition.{WholeExport, IsOrdinal}
 use Rattle.obj_types.specs.declared.symbol.Exp.{Exp}
-use Rattle.def_tokens.specs.declared.keyword.Keyword.TheVariants as kw
-use Rattle.def_tokens.specs.Lexemes.{Lexeme, text, number, equals, keyword}
+use Rattle.def_model.specs.declared.keyword.Keyword.TheVariants as kw
+use Rattle.def_model.specs.Lexemes.{Lexeme, text, number, equals, keyword}
 use Rattle.def_tokens.proofs.TokenLaws.{if-second}
-use Rattle.def_file.specs.declared.draft.Draft.{Draft}
-use Rattle.def_file.specs.declared.draft.Part.{Part}
-use Rattle.def_file.specs.declared.draft.Part.TheVariants as parts
-use Rattle.def_file.specs.declared.draft.Place.TheVariants as place
+use Rattle.def_model.specs.declared.draft.Draft.{Draft}
+use Rattle.def_model.specs.declared.draft.Part.{Part}
+use Rattle.def_model.specs.declared.draft.Part.TheVariants as parts
+use Rattle.def_model.specs.declared.draft.Place.TheVariants as place
 use Rattle.def_file.specs.Names.{ExportNames}
 use Rattle.def_file.specs.Writing.{ordinal_tokens, flag_tokens, words_tokens, export_tokens}
 use Rattle.def_file.proofs.Compute.{computed}

@@ -5,14 +5,14 @@ use Rattle.obj_types.specs.declared.definition.Attrs.{Attrs}
 use Rattle.obj_types.specs.declared.definition.ModKind.{ModKind}
 use Rattle.obj_types.specs.declared.definition.ModKind.TheVariants as modules
 use Rattle.lx_types.specs.Names.{IsName}
-use Rattle.def_tokens.specs.declared.keyword.Keyword.TheVariants as kw
-use Rattle.def_tokens.specs.Lexemes.{Lexeme, text, keyword}
-use Rattle.def_file.specs.declared.draft.Words.{Words}
-use Rattle.def_file.specs.declared.draft.Draft.{Draft}
-use Rattle.def_file.specs.declared.draft.Owner.{Owner}
-use Rattle.def_file.specs.declared.draft.Owner.TheVariants as owners
-use Rattle.def_file.specs.declared.draft.Place.TheVariants as place
-use Rattle.def_file.specs.Draft.{fresh, no_statements, no_words}
+use Rattle.def_model.specs.declared.keyword.Keyword.TheVariants as kw
+use Rattle.def_model.specs.Lexemes.{Lexeme, text, keyword}
+use Rattle.def_model.specs.declared.draft.Words.{Words}
+use Rattle.def_model.specs.declared.draft.Draft.{Draft}
+use Rattle.def_model.specs.declared.draft.Owner.{Owner}
+use Rattle.def_model.specs.declared.draft.Owner.TheVariants as owners
+use Rattle.def_model.specs.declared.draft.Place.TheVariants as place
+use Rattle.def_model.specs.Draft.{fresh, no_statements, no_words}
 use Rattle.def_file.specs.Writing.{kind_tokens, attribute_tokens}
 use Rattle.def_file.proofs.Compute.{computed}
 use Rattle.def_file.proofs.SaysLaws.{says, name-is, text-is, goes-on}

@@ -9,17 +9,17 @@ use Rattle.lx_types.specs.Names.{IsName}
 use Rattle.obj_types.specs.declared.limits.TheConstants.{MAX_DATA}
 use Rattle.obj_types.specs.Definition.{WholeImport, IsEntry, IsBase}
 use Rattle.obj_types.specs.declared.symbol.Imp.{Imp}
-use Rattle.def_tokens.specs.declared.keyword.Keyword.TheVariants as kw
-use Rattle.def_tokens.specs.Lexemes.{Lexeme, number, equals, keyword, ending}
+use Rattle.def_model.specs.declared.keyword.Keyword.TheVariants as kw
+use Rattle.def_model.specs.Lexemes.{Lexeme, number, equals, keyword, ending}
 use Rattle.def_tokens.proofs.TokenLaws.{if-first}
-use Rattle.def_file.specs.declared.refusal.DefKind.{DefKind}
-use Rattle.def_file.specs.declared.refusal.DefKind.TheVariants as kinds
+use Rattle.def_model.specs.declared.refusal.DefKind.{DefKind}
+use Rattle.def_model.specs.declared.refusal.DefKind.TheVariants as kinds
 use Rattle.lx_types.specs.Answers.{◌>>=◌}
-use Rattle.def_file.specs.declared.draft.Draft.{Draft}
-use Rattle.def_file.specs.declared.draft.Place.TheVariants as place
+use Rattle.def_model.specs.declared.draft.Draft.{Draft}
+use Rattle.def_model.specs.declared.draft.Place.TheVariants as place
 use Rattle.def_file.specs.Names.{ImportNames, EntryName}
-use Rattle.def_file.specs.Meaning.{file_of}
-use Rattle.def_file.specs.Tokens.{base_of}
+use Rattle.def_model.specs.Meaning.{file_of}
+use Rattle.def_model.specs.TokenMeaning.{base_of}
 use Rattle.def_file.specs.Writing.{entry_token, import_tokens}
 use Rattle.def_file.proofs.Compute.{computed}
 use Rattle.def_file.proofs.SaysLaws.{says, name-is, within-is, goes-on}

@@ -6,13 +6,13 @@ use Rattle.std.proofs.lemmas.List.Elements.{All-head, All-tail}
 use Rattle.lx_types.specs.Names.{IsName}
 use Rattle.obj_types.specs.declared.definition.Attrs.{Attrs}
 use Rattle.obj_types.specs.declared.definition.SegAttrs.{SegAttrs}
-use Rattle.def_tokens.specs.declared.keyword.Keyword.TheVariants as kw
-use Rattle.def_tokens.specs.Lexemes.{Lexeme, keyword}
-use Rattle.def_file.specs.declared.draft.SegDraft.{SegDraft}
-use Rattle.def_file.specs.declared.draft.Draft.{Draft}
-use Rattle.def_file.specs.declared.draft.Owner.TheVariants as owners
-use Rattle.def_file.specs.declared.draft.Place.TheVariants as place
-use Rattle.def_file.specs.Draft.{no_words}
+use Rattle.def_model.specs.declared.keyword.Keyword.TheVariants as kw
+use Rattle.def_model.specs.Lexemes.{Lexeme, keyword}
+use Rattle.def_model.specs.declared.draft.SegDraft.{SegDraft}
+use Rattle.def_model.specs.declared.draft.Draft.{Draft}
+use Rattle.def_model.specs.declared.draft.Owner.TheVariants as owners
+use Rattle.def_model.specs.declared.draft.Place.TheVariants as place
+use Rattle.def_model.specs.Draft.{no_words}
 use Rattle.def_file.specs.Names.{SegmentNames}
 use Rattle.def_file.specs.Writing.{attribute_tokens, class_tokens, segment_tokens}
 use Rattle.def_file.proofs.Compute.{computed}

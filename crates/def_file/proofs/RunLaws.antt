@@ -1,12 +1,12 @@
 -- One more token of a file.
 use Rattle.std.proofs.Common.{◌≡◌, List, [], Ok, Err, Bool, true, false, cond, refl, ap, ◌∙◌}
-use Rattle.def_tokens.specs.Lexemes.{is_ending}
-use Rattle.def_tokens.specs.Tokens.{Placed, before}
-use Rattle.def_file.specs.declared.refusal.DefKind.{DefKind}
-use Rattle.def_file.specs.declared.draft.Reading.{Reading}
+use Rattle.def_model.specs.Lexemes.{is_ending}
+use Rattle.def_model.specs.Tokens.{Placed, before}
+use Rattle.def_model.specs.declared.refusal.DefKind.{DefKind}
+use Rattle.def_model.specs.declared.draft.Reading.{Reading}
 use Rattle.lx_types.specs.Answers.{◌>>=◌}
-use Rattle.def_file.specs.Meaning.{file_of}
-use Rattle.def_file.specs.Reading.{step, at_line, run}
+use Rattle.def_model.specs.Meaning.{file_of}
+use Rattle.def_model.specs.Reading.{step, at_line, run}
 
 behind : (test : Bool) (others : List Placed) → test ≡ false → cond test [] others ≡ others
 behind true others h = cc

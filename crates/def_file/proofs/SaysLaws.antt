@@ -4,16 +4,16 @@ use Rattle.std.specs.Prelude.{◌==◌}
 use Rattle.std.proofs.lemmas.Bool.{ne_eqb}
 use Rattle.std.proofs.lemmas.Bool.Decides.{nat_tests}
 use Rattle.obj_types.specs.declared.definition.DefFile.{DefFile}
-use Rattle.def_tokens.specs.Lexemes.{Lexeme}
-use Rattle.def_tokens.specs.Tokens.{Placed}
+use Rattle.def_model.specs.Lexemes.{Lexeme}
+use Rattle.def_model.specs.Tokens.{Placed}
 use Rattle.def_tokens.proofs.TokenLaws.{if-first, if-second}
 use Rattle.def_tokens.proofs.LexemeLaws.{bare}
-use Rattle.def_file.specs.declared.refusal.DefKind.{DefKind}
-use Rattle.def_file.specs.declared.draft.Reading.{Reading}
+use Rattle.def_model.specs.declared.refusal.DefKind.{DefKind}
+use Rattle.def_model.specs.declared.draft.Reading.{Reading}
 use Rattle.lx_types.specs.Answers.{◌>>=◌}
-use Rattle.def_file.specs.Meaning.{file_of}
-use Rattle.def_file.specs.Tokens.{name_of, text_of, within}
-use Rattle.def_file.specs.Reading.{step, at_line, run}
+use Rattle.def_model.specs.Meaning.{file_of}
+use Rattle.def_model.specs.TokenMeaning.{name_of, text_of, within}
+use Rattle.def_model.specs.Reading.{step, at_line, run}
 
 -- What tokens say behind those so far.
 abbrev pub says : Reading → List Lexeme → Result DefFile DefKind

@@ -4,8 +4,8 @@ use Rattle.std.specs.List.{All}
 use Rattle.std.proofs.lemmas.List.Elements.{All-append, All-map}
 use Rattle.obj_types.specs.declared.definition.Attrs.{Attrs}
 use Rattle.obj_types.specs.declared.definition.SegAttrs.{SegAttrs}
-use Rattle.def_file.specs.declared.draft.SegDraft.{SegDraft}
-use Rattle.def_file.specs.Meaning.{segment_of}
+use Rattle.def_model.specs.declared.draft.SegDraft.{SegDraft}
+use Rattle.def_model.specs.Meaning.{segment_of}
 
 alone : {X : Type 0} (P : X → Type 0) (x : X) → P x → All P (x ∷ [])
 alone P x here zero d h = here

@@ -2,7 +2,7 @@
 use Rattle.std.proofs.Common.{◌≡◌, ℕ, ◌+◌, ◌<◌, List, [], ◌∷◌, ◌++◌, length, map, take, get_or, ap, sym, subst, ◌∙◌}
 use Rattle.std.specs.List.{All}
 use Rattle.std.proofs.lemmas.List.{take_more, map-append, flat_map_more}
-use Rattle.def_tokens.specs.Lexemes.{Lexeme}
+use Rattle.def_model.specs.Lexemes.{Lexeme}
 use Rattle.def_file.specs.Writing.{item_text, items_text}
 use Rattle.def_file.proofs.WholeLaws.{all_pushed}
 

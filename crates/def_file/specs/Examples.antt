@@ -6,11 +6,11 @@ use Rattle.obj_types.specs.declared.definition.DefFile.{DefFile}
 use Rattle.obj_types.specs.declared.definition.ModKind.TheVariants as modules
 use Rattle.obj_types.specs.declared.definition.SegAttrs.{SegAttrs}
 use Rattle.obj_types.specs.declared.symbol.Exp.{Exp}
-use Rattle.def_file.specs.declared.refusal.DefKind.{DefKind}
-use Rattle.def_file.specs.declared.refusal.DefKind.TheVariants as kinds
-use Rattle.def_file.specs.declared.refusal.DefRefusal.{DefRefusal}
+use Rattle.def_model.specs.declared.refusal.DefKind.{DefKind}
+use Rattle.def_model.specs.declared.refusal.DefKind.TheVariants as kinds
+use Rattle.def_model.specs.declared.refusal.DefRefusal.{DefRefusal}
 use Rattle.obj_types.specs.Defaults.{code_attrs, data_attrs}
-use Rattle.def_file.specs.Reading.{read_of}
+use Rattle.def_model.specs.Reading.{read_of}
 use Rattle.def_file.specs.Writing.{text_of}
 
 abbrev pub lines : List (List ℕ) → List ℕ

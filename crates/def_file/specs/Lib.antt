@@ -1,12 +1,3 @@
-pub mod Draft
-pub mod Tokens
-pub mod Attributes
-pub mod Statements
-pub mod Segments
-pub mod Exports
-pub mod Imports
-pub mod Meaning
-pub mod Reading
 pub mod Whole
 pub mod Examples
 pub mod Names

@@ -5,7 +5,7 @@ use Rattle.obj_types.specs.declared.definition.Attrs.{Attrs}
 use Rattle.obj_types.specs.declared.definition.DefFile.{DefFile}
 use Rattle.obj_types.specs.declared.definition.SegAttrs.{SegAttrs}
 use Rattle.obj_types.specs.declared.definition.ModKind.TheVariants as modules
-use Rattle.def_file.specs.Meaning.{is_code_class}
+use Rattle.def_model.specs.Meaning.{is_code_class}
 
 -- Without a word that makes it executable an item has the attributes of DATA for reading and executing.
 abbrev pub StatedSegment : Attrs → SegAttrs → Type 0

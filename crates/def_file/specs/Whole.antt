@@ -5,13 +5,13 @@ use Rattle.obj_types.specs.declared.limits.TheConstants.{MAX_DATA}
 use Rattle.obj_types.specs.declared.definition.ModKind.{ModKind}
 use Rattle.obj_types.specs.declared.definition.ModKind.TheVariants as modules
 use Rattle.obj_types.specs.Definition.{IsBase, WholeExport, WholeImport}
-use Rattle.def_file.specs.declared.draft.SegDraft.{SegDraft}
-use Rattle.def_file.specs.declared.draft.Draft.{Draft}
-use Rattle.def_file.specs.declared.draft.Owner.{Owner}
-use Rattle.def_file.specs.declared.draft.Owner.TheVariants as owners
-use Rattle.def_file.specs.declared.draft.Place.{Place}
-use Rattle.def_file.specs.declared.draft.Place.TheVariants as place
-use Rattle.def_file.specs.declared.draft.Reading.{Reading}
+use Rattle.def_model.specs.declared.draft.SegDraft.{SegDraft}
+use Rattle.def_model.specs.declared.draft.Draft.{Draft}
+use Rattle.def_model.specs.declared.draft.Owner.{Owner}
+use Rattle.def_model.specs.declared.draft.Owner.TheVariants as owners
+use Rattle.def_model.specs.declared.draft.Place.{Place}
+use Rattle.def_model.specs.declared.draft.Place.TheVariants as place
+use Rattle.def_model.specs.declared.draft.Reading.{Reading}
 
 -- Words on its calls stand behind LIBRARY alone.
 abbrev pub CallsFit : Option ModKind → Option Bool → Option Bool → Type 0

@@ -10,10 +10,10 @@ use Rattle.obj_types.specs.declared.definition.ModKind.TheVariants as modules
 use Rattle.obj_types.specs.declared.definition.SegAttrs.{SegAttrs}
 use Rattle.obj_types.specs.declared.symbol.Exp.{Exp}
 use Rattle.obj_types.specs.declared.symbol.Imp.{Imp}
-use Rattle.def_tokens.specs.declared.keyword.Keyword.{Keyword}
-use Rattle.def_tokens.specs.declared.keyword.Keyword.TheVariants as kw
-use Rattle.def_tokens.specs.declared.keyword.Pair.TheVariants as pairs
-use Rattle.def_tokens.specs.Lexemes.{Lexeme, number, equals, at, dot, text, keyword}
+use Rattle.def_model.specs.declared.keyword.Keyword.{Keyword}
+use Rattle.def_model.specs.declared.keyword.Keyword.TheVariants as kw
+use Rattle.def_model.specs.declared.keyword.Pair.TheVariants as pairs
+use Rattle.def_model.specs.Lexemes.{Lexeme, number, equals, at, dot, text, keyword}
 use Rattle.def_tokens.specs.Spelling.{line_text}
 
 -- ---- statements that give one thing

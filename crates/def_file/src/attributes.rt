@@ -2,11 +2,9 @@
 
 ghost use Rattle.std.specs.Prelude.{◌≡◌};
 ghost use Rattle.lx_types.specs.Answers.{if_said, Gives};
-ghost use Rattle.def_file.specs.Attributes.{agreed, with_word, attrs_with};
+ghost use Rattle.def_model.specs.Attributes.{agreed, with_word, attrs_with};
 
-use crate::DefKind;
-use crate::draft::Words;
-use def_tokens::Pair;
+use def_model::{DefKind, Pair, Words};
 use lx_types::Fail;
 use obj_types::Attrs;
 
@@ -21,7 +19,7 @@ pub fn agreed(before: Option<bool>, on: bool) -> Result<Option<bool>, Fail<DefKi
 }
 
 /// The words with one more.
-#[tactic(auto, unfolding(crate::specs::Attributes::with_word))]
+#[tactic(auto, unfolding(def_model::specs::Attributes::with_word))]
 pub fn with_word(words: Words, pair: Pair, on: bool) -> Result<Words, Fail<DefKind>>
     ensures { Gives (λ x. x) if_said result (with_word words pair on) }
 {

@@ -1,26 +1,25 @@
 //! EXPORTS.
 
 ghost use Rattle.std.specs.Prelude.{◌≡◌, IfOk};
-ghost use Rattle.def_tokens.specs.Lexemes.{lexeme_of};
+ghost use Rattle.def_tokens.specs.Seen.{lexeme_of};
 ghost use Rattle.obj_types.specs.Definition.{WholeExport};
 ghost use Rattle.lx_types.specs.Answers.{if_said, Gives};
-ghost use Rattle.def_file.specs.declared.draft.Draft.{Draft};
-ghost use Rattle.def_file.specs.Draft.{reading};
+ghost use Rattle.def_model.specs.declared.draft.Draft.{Draft};
+ghost use Rattle.def_model.specs.Draft.{reading};
 ghost use Rattle.def_file.specs.Whole.{WholeReading, WholeDraft};
-ghost use Rattle.def_file.specs.Exports.{with_export, exports, behind_nodata, behind_resident, behind_ordinal, behind_internal, behind_name, export, internal, ordinal};
+ghost use Rattle.def_model.specs.Exports.{with_export, exports, behind_nodata, behind_resident, behind_ordinal, behind_internal, behind_name, export, internal, ordinal};
 
-use crate::DefKind;
-use crate::draft::{Draft, Part, Place};
 use crate::names::name_of;
 use crate::numbers::within;
 use crate::statements::statement;
-use def_tokens::{Keyword, Token};
+use def_model::{DefKind, Draft, Keyword, Part, Place};
+use def_tokens::Token;
 use lx_types::{Fail, NoMemory};
 use obj_types::Exp;
 use std::alloc::Global;
 
 /// Another item of EXPORTS, or the next statement.
-#[tactic(auto, unfolding(crate::specs::Exports::exports))]
+#[tactic(auto, unfolding(def_model::specs::Exports::exports))]
 pub fn exports(alloc: Global, draft: &Draft, token: Token<'_>) -> Result<Place, Fail<DefKind>>
     requires { WholeDraft draft.now }
     ensures value { Gives (reading draft.now) if_said result (exports draft.now (lexeme_of token.entry)) }
@@ -58,7 +57,7 @@ fn with_export(draft: &mut Draft, item: Exp) -> Result<(), NoMemory>
 }
 
 // The number of parameter words, or the next item.
-#[tactic(auto, unfolding(crate::specs::Exports::behind_nodata))]
+#[tactic(auto, unfolding(def_model::specs::Exports::behind_nodata))]
 fn behind_nodata(
     alloc: Global,
     draft: &mut Draft,
@@ -83,7 +82,7 @@ fn behind_nodata(
     }
 }
 
-#[tactic(auto, unfolding(crate::specs::Exports::behind_resident))]
+#[tactic(auto, unfolding(def_model::specs::Exports::behind_resident))]
 fn behind_resident(
     alloc: Global,
     draft: &mut Draft,
@@ -105,7 +104,7 @@ fn behind_resident(
     }
 }
 
-#[tactic(auto, unfolding(crate::specs::Exports::behind_ordinal))]
+#[tactic(auto, unfolding(def_model::specs::Exports::behind_ordinal))]
 fn behind_ordinal(
     alloc: Global,
     draft: &mut Draft,
@@ -127,7 +126,7 @@ fn behind_ordinal(
     }
 }
 
-#[tactic(auto, unfolding(crate::specs::Exports::behind_internal))]
+#[tactic(auto, unfolding(def_model::specs::Exports::behind_internal))]
 fn behind_internal(
     alloc: Global,
     draft: &mut Draft,
@@ -146,7 +145,7 @@ fn behind_internal(
     }
 }
 
-#[tactic(auto, unfolding(crate::specs::Exports::behind_name))]
+#[tactic(auto, unfolding(def_model::specs::Exports::behind_name))]
 fn behind_name(
     alloc: Global,
     draft: &mut Draft,
@@ -166,7 +165,7 @@ fn behind_name(
 }
 
 /// Behind a part of an item of EXPORTS: the parts that may follow, then the next item.
-#[tactic(auto, unfolding(crate::specs::Exports::export))]
+#[tactic(auto, unfolding(def_model::specs::Exports::export))]
 pub fn export(
     alloc: Global,
     draft: &mut Draft,
@@ -189,7 +188,7 @@ pub fn export(
 }
 
 /// Behind `=` in an item of EXPORTS.
-#[tactic(auto, unfolding(crate::specs::Exports::internal))]
+#[tactic(auto, unfolding(def_model::specs::Exports::internal))]
 pub fn internal(alloc: Global, mut item: Exp, token: Token<'_>) -> Result<Place, Fail<DefKind>>
     requires item { WholeExport item }
     ensures value { (d : Draft) → Gives (reading d) if_said result (internal d item (lexeme_of token.entry)) }
@@ -206,7 +205,7 @@ pub fn internal(alloc: Global, mut item: Exp, token: Token<'_>) -> Result<Place,
 }
 
 /// Behind `@` in an item of EXPORTS.
-#[tactic(auto, unfolding(crate::specs::Exports::ordinal))]
+#[tactic(auto, unfolding(def_model::specs::Exports::ordinal))]
 pub fn ordinal(mut item: Exp, token: Token<'_>) -> Result<Place, Fail<DefKind>>
     requires item { WholeExport item }
     ensures value { (d : Draft) → Gives (reading d) if_said result (ordinal d item (lexeme_of token.entry)) }

@@ -1,27 +1,26 @@
 //! IMPORTS.
 
 ghost use Rattle.std.specs.Prelude.{IfOk, IfSome, ◌≢◌, []};
-ghost use Rattle.def_tokens.specs.Lexemes.{lexeme_of};
+ghost use Rattle.def_tokens.specs.Seen.{lexeme_of};
 ghost use Rattle.obj_types.specs.Definition.{WholeImport};
-ghost use Rattle.def_file.specs.declared.draft.Place.TheVariants as place;
+ghost use Rattle.def_model.specs.declared.draft.Place.TheVariants as place;
 ghost use Rattle.lx_types.specs.Answers.{if_said, Gives};
-ghost use Rattle.def_file.specs.declared.draft.Draft.{Draft};
-ghost use Rattle.def_file.specs.Draft.{at, reading};
+ghost use Rattle.def_model.specs.declared.draft.Draft.{Draft};
+ghost use Rattle.def_model.specs.Draft.{at, reading};
 ghost use Rattle.def_file.specs.Whole.{WholeReading, WholeDraft};
-ghost use Rattle.def_file.specs.Imports.{imports, import_first, import_equals, import_module, import_by_name, import_ordinal, import_dot, with_import};
+ghost use Rattle.def_model.specs.Imports.{imports, import_first, import_equals, import_module, import_by_name, import_ordinal, import_dot, with_import};
 
-use crate::DefKind;
-use crate::draft::{Draft, Place};
 use crate::names::name_of;
 use crate::numbers::within;
 use crate::statements::statement;
+use def_model::{DefKind, Draft, Place};
 use def_tokens::Token;
 use lx_types::{EntryKey, Fail, Name};
 use obj_types::Imp;
 use std::alloc::Global;
 
 /// Another item of IMPORTS, or the next statement.
-#[tactic(auto, unfolding(crate::specs::Imports::imports))]
+#[tactic(auto, unfolding(def_model::specs::Imports::imports))]
 pub fn imports(alloc: Global, draft: &Draft, token: Token<'_>) -> Result<Place, Fail<DefKind>>
     requires { WholeDraft draft.now }
     ensures value { Gives (reading draft.now) if_said result (imports draft.now (lexeme_of token.entry)) }
@@ -37,7 +36,7 @@ pub fn imports(alloc: Global, draft: &Draft, token: Token<'_>) -> Result<Place, 
 }
 
 /// Behind the first name of an item.
-#[tactic(auto, unfolding(crate::specs::Imports::import_first))]
+#[tactic(auto, unfolding(def_model::specs::Imports::import_first))]
 pub fn import_first(name: Name, token: Token<'_>) -> Result<Place, Fail<DefKind>>
     requires name { name ≢ [] }
     ensures value { (d : Draft) → Gives (reading d) if_said result (import_first d name (lexeme_of token.entry)) }
@@ -57,7 +56,7 @@ pub fn import_first(name: Name, token: Token<'_>) -> Result<Place, Fail<DefKind>
 }
 
 /// Behind `=` in an item.
-#[tactic(auto, unfolding(crate::specs::Imports::import_equals))]
+#[tactic(auto, unfolding(def_model::specs::Imports::import_equals))]
 pub fn import_equals(
     alloc: Global,
     internal: Name,
@@ -77,7 +76,7 @@ pub fn import_equals(
 }
 
 /// Behind the module's name of an item that has an internal name.
-#[tactic(auto, unfolding(crate::specs::Imports::import_module))]
+#[tactic(auto, unfolding(def_model::specs::Imports::import_module))]
 pub fn import_module(internal: Name, from: Name, token: Token<'_>) -> Result<Place, Fail<DefKind>>
     requires internal { internal ≢ [] }
     requires from { from ≢ [] }
@@ -175,7 +174,7 @@ fn import_ordinal(
 }
 
 /// Behind `.` in an item.
-#[tactic(auto, unfolding(crate::specs::Imports::import_dot))]
+#[tactic(auto, unfolding(def_model::specs::Imports::import_dot))]
 pub fn import_dot(
     alloc: Global,
     draft: &mut Draft,

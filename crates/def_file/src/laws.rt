@@ -3,8 +3,8 @@
 
 ghost use Rattle.std.specs.Prelude.{◌≡◌, ◌⊎◌, ℕ, List};
 ghost use Rattle.obj_types.specs.declared.definition.DefFile.{DefFile};
-ghost use Rattle.def_file.specs.declared.refusal.DefRefusal.{DefRefusal};
-ghost use Rattle.def_file.specs.Reading.{Def, FirstFault};
+ghost use Rattle.def_model.specs.declared.refusal.DefRefusal.{DefRefusal};
+ghost use Rattle.def_model.specs.Reading.{Def, FirstFault};
 ghost use Rattle.def_file.specs.Examples.{WorkedFiles, WorkedFaults, WorkedTexts};
 
 /// Files with each statement, and files with each kind of fault.

@@ -4,10 +4,10 @@ ghost use Rattle.std.specs.Prelude.{◌≡◌, IfOk, map};
 ghost use Rattle.obj_types.specs.Definition.{WholeDef};
 ghost use Rattle.def_file.specs.Stated.{Stated};
 ghost use Rattle.def_file.specs.Whole.{WholeDraft};
-ghost use Rattle.def_file.specs.Meaning.{is_code_class, is_code, segment_of, file_of};
+ghost use Rattle.def_model.specs.Meaning.{is_code_class, is_code, segment_of, file_of};
 
 use crate::attributes::attrs_with;
-use crate::draft::{Draft, SegDraft, Words};
+use def_model::{Draft, SegDraft, Words};
 use lx_types::{Name, NoMemory, Seq};
 use obj_types::{Attrs, DefFile, ModKind, SegAttrs, SegRules};
 use std::alloc::Global;

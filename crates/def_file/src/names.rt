@@ -2,9 +2,9 @@
 
 ghost use Rattle.std.specs.Prelude.{◌≢◌, [], IfOk};
 ghost use Rattle.lx_types.specs.Answers.{if_said, Gives};
-ghost use Rattle.def_file.specs.Tokens.{name_of, text_of};
+ghost use Rattle.def_model.specs.TokenMeaning.{name_of, text_of};
 
-use crate::DefKind;
+use def_model::DefKind;
 use lx_types::{Fail, Name};
 use std::alloc::Global;
 

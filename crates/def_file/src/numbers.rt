@@ -3,9 +3,9 @@
 ghost use Rattle.std.specs.Prelude.{◌≤◌, IfOk};
 ghost use Rattle.obj_types.specs.Definition.{IsBase};
 ghost use Rattle.lx_types.specs.Answers.{if_said, Gives};
-ghost use Rattle.def_file.specs.Tokens.{within, base_of};
+ghost use Rattle.def_model.specs.TokenMeaning.{within, base_of};
 
-use crate::DefKind;
+use def_model::DefKind;
 use lx_types::Fail;
 
 /// A number from `low` to `high`. One of 2^32 or more has no value.

@@ -1,17 +1,17 @@
 //! A definition file, token by token.
 
 ghost use Rattle.std.specs.Prelude.{◌≡◌, IfOk};
-ghost use Rattle.def_tokens.specs.Lexemes.{lexeme_of};
-ghost use Rattle.def_tokens.specs.Tokens.{tokens_of};
+ghost use Rattle.def_tokens.specs.Seen.{lexeme_of};
+ghost use Rattle.def_model.specs.Tokens.{tokens_of};
 ghost use Rattle.obj_types.specs.Definition.{WholeDef};
 ghost use Rattle.lx_types.specs.Answers.{if_said, Gives};
 ghost use Rattle.def_file.specs.Stated.{Stated};
 ghost use Rattle.def_file.specs.Whole.{WholeReading, WholeDraft, WholePlace, FitsKind};
-ghost use Rattle.def_file.specs.Draft.{reading};
-ghost use Rattle.def_file.specs.Meaning.{file_of};
-ghost use Rattle.def_file.specs.Reading.{token_at, step, fail_at, run, read_of};
+ghost use Rattle.def_model.specs.Draft.{reading};
+ghost use Rattle.def_model.specs.Meaning.{file_of};
+ghost use Rattle.def_model.specs.Reading.{token_at, step, fail_at, run, read_of};
 
-use crate::draft::{Draft, Place, Reading, fresh};
+use crate::draft::fresh;
 use crate::exports::{export, exports, internal, ordinal};
 use crate::imports::{import_dot, import_equals, import_first, import_module, imports};
 use crate::meaning::file_of;
@@ -19,14 +19,14 @@ use crate::segments::{attributes, class, segment, segments};
 use crate::statements::{
     base, description, exe_type, library, library_words, program, program_name, size, statement,
 };
-use crate::{DefKind, DefRefusal};
+use def_model::{DefKind, DefRefusal, Draft, Place, Reading};
 use def_tokens::{Lexer, Token};
 use lx_types::Fail;
 use obj_types::DefFile;
 use std::alloc::Global;
 
 // What a token says behind each place.
-#[tactic(auto, unfolding(crate::specs::Reading::token_at))]
+#[tactic(auto, unfolding(def_model::specs::Reading::token_at))]
 fn token_at(
     alloc: Global,
     draft: &mut Draft,
@@ -66,7 +66,7 @@ fn token_at(
 }
 
 // The next token. Bytes that are none are refused first.
-#[tactic(auto, unfolding(crate::specs::Reading::step))]
+#[tactic(auto, unfolding(def_model::specs::Reading::step))]
 fn step(
     alloc: Global,
     draft: &mut Draft,

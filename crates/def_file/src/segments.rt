@@ -1,24 +1,23 @@
 //! CODE, DATA and SEGMENTS.
 
 ghost use Rattle.std.specs.Prelude.{IfOk, ◌≢◌, []};
-ghost use Rattle.def_tokens.specs.Lexemes.{lexeme_of};
+ghost use Rattle.def_tokens.specs.Seen.{lexeme_of};
 ghost use Rattle.lx_types.specs.Answers.{if_said, Gives};
-ghost use Rattle.def_file.specs.declared.draft.Draft.{Draft};
-ghost use Rattle.def_file.specs.Draft.{reading};
+ghost use Rattle.def_model.specs.declared.draft.Draft.{Draft};
+ghost use Rattle.def_model.specs.Draft.{reading};
 ghost use Rattle.def_file.specs.Whole.{WholeReading, WholeDraft, WholeOwner};
-ghost use Rattle.def_file.specs.Segments.{segments, behind_list, attributes, segment, class};
+ghost use Rattle.def_model.specs.Segments.{segments, behind_list, attributes, segment, class};
 
-use crate::DefKind;
 use crate::attributes::with_word;
-use crate::draft::{Draft, Owner, Place, SegDraft, Words};
 use crate::names::{name_of, text_of};
 use crate::statements::statement;
-use def_tokens::{Keyword, Token};
+use def_model::{DefKind, Draft, Keyword, Owner, Place, SegDraft, Words};
+use def_tokens::Token;
 use lx_types::{Fail, Name};
 use std::alloc::Global;
 
 /// Another item of SEGMENTS, or the next statement.
-#[tactic(auto, unfolding(crate::specs::Segments::segments))]
+#[tactic(auto, unfolding(def_model::specs::Segments::segments))]
 pub fn segments(alloc: Global, draft: &Draft, token: Token<'_>) -> Result<Place, Fail<DefKind>>
     requires { WholeDraft draft.now }
     ensures value { Gives (reading draft.now) if_said result (segments draft.now (lexeme_of token.entry)) }
@@ -34,7 +33,7 @@ pub fn segments(alloc: Global, draft: &Draft, token: Token<'_>) -> Result<Place,
 }
 
 // Behind the last attribute of a list.
-#[tactic(auto, using(crate::proofs::WholeLaws::all_pushed), unfolding(crate::specs::Segments::behind_list))]
+#[tactic(auto, using(crate::proofs::WholeLaws::all_pushed), unfolding(def_model::specs::Segments::behind_list))]
 fn behind_list(
     alloc: Global,
     draft: &mut Draft,
@@ -64,7 +63,7 @@ fn behind_list(
 }
 
 /// In a list of attributes.
-#[tactic(auto, unfolding(crate::specs::Segments::attributes))]
+#[tactic(auto, unfolding(def_model::specs::Segments::attributes))]
 pub fn attributes(
     alloc: Global,
     draft: &mut Draft,
@@ -88,7 +87,7 @@ pub fn attributes(
 }
 
 /// Behind the name of an item of SEGMENTS.
-#[tactic(auto, unfolding(crate::specs::Segments::segment))]
+#[tactic(auto, unfolding(def_model::specs::Segments::segment))]
 pub fn segment(
     alloc: Global,
     draft: &mut Draft,
@@ -110,7 +109,7 @@ pub fn segment(
 }
 
 /// Behind CLASS.
-#[tactic(auto, unfolding(crate::specs::Segments::class))]
+#[tactic(auto, unfolding(def_model::specs::Segments::class))]
 pub fn class(alloc: Global, name: Name, token: Token<'_>) -> Result<Place, Fail<DefKind>>
     requires name { name ≢ [] }
     ensures value { (d : Draft) → Gives (reading d) if_said result (class d name (lexeme_of token.entry)) }

@@ -2,11 +2,12 @@
 
 ghost use Rattle.std.specs.Prelude.{◌≡◌, ◌++◌, map, IfOk, IfSome};
 ghost use Rattle.lx_types.specs.Names.{IsName};
-ghost use Rattle.def_tokens.specs.Lexemes.{lexeme_of};
+ghost use Rattle.def_tokens.specs.Seen.{lexeme_of};
 ghost use Rattle.def_file.specs.Names.{SegmentNames, ExportNames, EntryName, ImportNames};
 ghost use Rattle.def_file.specs.Writing.{kind_tokens, attribute_tokens, segment_tokens, ordinal_tokens, flag_tokens, words_tokens, export_tokens, entry_token, import_tokens};
 
-use def_tokens::{Keyword, Pair, Token};
+use def_model::{Keyword, Pair};
+use def_tokens::Token;
 use lx_types::{EntryKey, NoMemory};
 use obj_types::{Attrs, DefFile, Exp, Imp, ModKind, SegAttrs};
 

@@ -2,19 +2,18 @@
 
 ghost use Rattle.std.specs.Prelude.{◌≡◌, IfOk, IfSome, None, Some};
 ghost use Rattle.obj_types.specs.declared.definition.ModKind.TheVariants as modules;
-ghost use Rattle.def_tokens.specs.Lexemes.{lexeme_of};
+ghost use Rattle.def_tokens.specs.Seen.{lexeme_of};
 ghost use Rattle.lx_types.specs.Answers.{if_said, Gives};
 ghost use Rattle.def_file.specs.Whole.{WholeReading, WholeDraft, WholePlace};
-ghost use Rattle.def_file.specs.declared.draft.Draft.{Draft};
-ghost use Rattle.def_file.specs.Draft.{reading};
-ghost use Rattle.def_file.specs.Statements.{begun_by, is_second, keyword_statement, statement, program_name, program, library_words, library, description, sized, size, base, exe_type};
+ghost use Rattle.def_model.specs.declared.draft.Draft.{Draft};
+ghost use Rattle.def_model.specs.Draft.{reading};
+ghost use Rattle.def_model.specs.Statements.{begun_by, is_second, keyword_statement, statement, program_name, program, library_words, library, description, sized, size, base, exe_type};
 
-use crate::DefKind;
 use crate::attributes::agreed;
-use crate::draft::{Draft, Owner, Place, Size, Words};
 use crate::names::{name_of, text_of};
 use crate::numbers::{base_of, within};
-use def_tokens::{Keyword, Token};
+use def_model::{DefKind, Draft, Keyword, Owner, Place, Size, Words};
+use def_tokens::Token;
 use lx_types::Fail;
 use obj_types::{MAX_DATA, ModKind};
 use std::alloc::Global;
@@ -65,7 +64,7 @@ fn is_second(draft: &Draft, keyword: Keyword) -> bool
     }
 }
 
-#[tactic(auto, using(crate::proofs::KindLaws::begun_kind, crate::proofs::KindLaws::twice), unfolding(crate::specs::Statements::keyword_statement))]
+#[tactic(auto, using(crate::proofs::KindLaws::begun_kind, crate::proofs::KindLaws::twice), unfolding(def_model::specs::Statements::keyword_statement))]
 fn keyword_statement(draft: &Draft, keyword: Keyword) -> Result<Place, Fail<DefKind>>
     requires { WholeDraft draft.now }
     ensures value { Gives (reading draft.now) if_said result (keyword_statement draft.now keyword) }
@@ -81,7 +80,7 @@ fn keyword_statement(draft: &Draft, keyword: Keyword) -> Result<Place, Fail<DefK
 }
 
 /// A statement, or the file's end.
-#[tactic(auto, unfolding(crate::specs::Statements::statement))]
+#[tactic(auto, unfolding(def_model::specs::Statements::statement))]
 pub fn statement(draft: &Draft, token: Token<'_>) -> Result<Place, Fail<DefKind>>
     requires { WholeDraft draft.now }
     ensures value { Gives (reading draft.now) if_said result (statement draft.now (lexeme_of token.entry)) }
@@ -95,7 +94,7 @@ pub fn statement(draft: &Draft, token: Token<'_>) -> Result<Place, Fail<DefKind>
 }
 
 /// Behind NAME and a name: a window word may stand.
-#[tactic(auto, unfolding(crate::specs::Statements::program_name))]
+#[tactic(auto, unfolding(def_model::specs::Statements::program_name))]
 pub fn program_name(draft: &Draft, token: Token<'_>) -> Result<Place, Fail<DefKind>>
     requires { WholeDraft draft.now }
     ensures value { Gives (reading draft.now) if_said result (program_name draft.now (lexeme_of token.entry)) }
@@ -108,7 +107,7 @@ pub fn program_name(draft: &Draft, token: Token<'_>) -> Result<Place, Fail<DefKi
 }
 
 /// Behind NAME.
-#[tactic(auto, using(crate::proofs::KindLaws::calls_none), unfolding(crate::specs::Statements::program))]
+#[tactic(auto, using(crate::proofs::KindLaws::calls_none), unfolding(def_model::specs::Statements::program))]
 pub fn program(alloc: Global, draft: &mut Draft, token: Token<'_>) -> Result<Place, Fail<DefKind>>
     requires whole { WholeDraft draft.old }
     requires kind { draft.old.kind ≡ None }
@@ -126,7 +125,7 @@ pub fn program(alloc: Global, draft: &mut Draft, token: Token<'_>) -> Result<Pla
 }
 
 /// Behind LIBRARY and its name or words: a word on its calls may stand.
-#[tactic(auto, using(crate::proofs::KindLaws::calls_of_library), unfolding(crate::specs::Statements::library_words))]
+#[tactic(auto, using(crate::proofs::KindLaws::calls_of_library), unfolding(def_model::specs::Statements::library_words))]
 pub fn library_words(draft: &mut Draft, token: Token<'_>) -> Result<Place, Fail<DefKind>>
     requires whole { WholeDraft draft.old }
     requires kind { draft.old.kind ≡ Some modules.Library }
@@ -147,7 +146,7 @@ pub fn library_words(draft: &mut Draft, token: Token<'_>) -> Result<Place, Fail<
 }
 
 /// Behind LIBRARY.
-#[tactic(auto, unfolding(crate::specs::Statements::library))]
+#[tactic(auto, unfolding(def_model::specs::Statements::library))]
 pub fn library(alloc: Global, draft: &mut Draft, token: Token<'_>) -> Result<Place, Fail<DefKind>>
     requires whole { WholeDraft draft.old }
     requires kind { draft.old.kind ≡ None }
@@ -165,7 +164,7 @@ pub fn library(alloc: Global, draft: &mut Draft, token: Token<'_>) -> Result<Pla
 }
 
 /// Behind DESCRIPTION.
-#[tactic(auto, unfolding(crate::specs::Statements::description))]
+#[tactic(auto, unfolding(def_model::specs::Statements::description))]
 pub fn description(
     alloc: Global,
     draft: &mut Draft,
@@ -185,7 +184,7 @@ pub fn description(
 }
 
 // The number of STACKSIZE, HEAPSIZE or BASE.
-#[tactic(auto, unfolding(crate::specs::Statements::sized))]
+#[tactic(auto, unfolding(def_model::specs::Statements::sized))]
 fn sized(draft: &mut Draft, which: Size, value: Option<u32>) -> Result<Place, Fail<DefKind>>
     requires { WholeDraft draft.old }
     ensures value { Gives (reading draft.new) if_said result (sized draft.old which value) }
@@ -200,7 +199,7 @@ fn sized(draft: &mut Draft, which: Size, value: Option<u32>) -> Result<Place, Fa
 }
 
 /// Where the number of STACKSIZE, HEAPSIZE or BASE has to stand.
-#[tactic(auto, unfolding(crate::specs::Statements::size))]
+#[tactic(auto, unfolding(def_model::specs::Statements::size))]
 pub fn size(draft: &mut Draft, which: Size, token: Token<'_>) -> Result<Place, Fail<DefKind>>
     requires { WholeDraft draft.old }
     ensures value { Gives (reading draft.new) if_said result (size draft.old which (lexeme_of token.entry)) }
@@ -213,7 +212,7 @@ pub fn size(draft: &mut Draft, which: Size, token: Token<'_>) -> Result<Place, F
 }
 
 /// Behind BASE.
-#[tactic(auto, unfolding(crate::specs::Statements::base))]
+#[tactic(auto, unfolding(def_model::specs::Statements::base))]
 pub fn base(token: Token<'_>) -> Result<Place, Fail<DefKind>>
     ensures value { (d : Draft) → Gives (reading d) if_said result (base d (lexeme_of token.entry)) }
     ensures whole { (d : Draft) → WholeDraft d → IfOk result (λ p. WholeReading (reading d p)) }
@@ -226,7 +225,7 @@ pub fn base(token: Token<'_>) -> Result<Place, Fail<DefKind>>
 }
 
 /// Behind EXETYPE.
-#[tactic(auto, unfolding(crate::specs::Statements::exe_type))]
+#[tactic(auto, unfolding(def_model::specs::Statements::exe_type))]
 pub fn exe_type(alloc: Global, token: Token<'_>) -> Result<Place, Fail<DefKind>>
     ensures value { (d : Draft) → Gives (reading d) if_said result (exe_type d (lexeme_of token.entry)) }
     ensures whole { (d : Draft) → WholeDraft d → IfOk result (λ p. WholeReading (reading d p)) }

@@ -6,10 +6,10 @@ use Rattle.std.proofs.lemmas.Bool.{both_ways}
 use Rattle.obj_types.specs.Definition.{IsBase}
 use Rattle.def_tokens.proofs.TokenLaws.{if-first}
 use Rattle.lx_types.specs.Answers.{◌>>=◌}
-use Rattle.def_file.specs.declared.refusal.DefKind.{DefKind}
-use Rattle.def_file.specs.declared.refusal.DefKind.TheVariants as kinds
-use Rattle.def_file.specs.declared.draft.Reading.{Reading}
-use Rattle.def_file.specs.Tokens.{name_of, text_of, within, base_of, with_name}
+use Rattle.def_model.specs.declared.refusal.DefKind.{DefKind}
+use Rattle.def_model.specs.declared.refusal.DefKind.TheVariants as kinds
+use Rattle.def_model.specs.declared.draft.Reading.{Reading}
+use Rattle.def_model.specs.TokenMeaning.{name_of, text_of, within, base_of, with_name}
 use Rattle.def_file.proofs.SaysLaws.{name-is, within-is}
 use Rattle.def_grammar.specs.Statements.{Written, identifier, quoted, name_token}
 use Rattle.def_grammar.specs.Rules.{IsName, IsText, bytes_of}

@@ -1,22 +1,22 @@
 -- Readings behind whole statements and whole items: what they answer to a token that may follow.
 use Rattle.std.proofs.Common.{◌≡◌, ℕ, List, ◌∷◌, Result, Err, refl, ap, ◌∙◌, cond, Bool, true, false}
 use Rattle.std.specs.Prelude.{Some, None, is_some}
-use Rattle.def_tokens.specs.declared.keyword.Keyword.{Keyword}
-use Rattle.def_tokens.specs.declared.keyword.Keyword.TheVariants as kw
-use Rattle.def_tokens.specs.Lexemes.{Lexeme, text, word, keyword, ending, is_stray, keyword_of_lexeme}
+use Rattle.def_model.specs.declared.keyword.Keyword.{Keyword}
+use Rattle.def_model.specs.declared.keyword.Keyword.TheVariants as kw
+use Rattle.def_model.specs.Lexemes.{Lexeme, text, word, keyword, ending, is_stray, keyword_of_lexeme}
 use Rattle.lx_types.specs.Answers.{◌>>=◌}
-use Rattle.def_file.specs.declared.refusal.DefKind.{DefKind}
-use Rattle.def_file.specs.declared.refusal.DefKind.TheVariants as kinds
-use Rattle.def_file.specs.declared.draft.Draft.{Draft}
-use Rattle.def_file.specs.declared.draft.Owner.{Owner}
-use Rattle.def_file.specs.declared.draft.Owner.TheVariants as owners
-use Rattle.def_file.specs.declared.draft.Words.{Words}
-use Rattle.def_file.specs.declared.draft.Place.{Place}
-use Rattle.def_file.specs.declared.draft.Reading.{Reading}
-use Rattle.def_file.specs.Draft.{no_words}
-use Rattle.def_file.specs.Reading.{step, token_at}
-use Rattle.def_file.specs.Statements.{begun_by, is_second, statement, keyword_statement, window_word, library_word}
-use Rattle.def_file.specs.Segments.{attribute, attributes, behind_list, class_word}
+use Rattle.def_model.specs.declared.refusal.DefKind.{DefKind}
+use Rattle.def_model.specs.declared.refusal.DefKind.TheVariants as kinds
+use Rattle.def_model.specs.declared.draft.Draft.{Draft}
+use Rattle.def_model.specs.declared.draft.Owner.{Owner}
+use Rattle.def_model.specs.declared.draft.Owner.TheVariants as owners
+use Rattle.def_model.specs.declared.draft.Words.{Words}
+use Rattle.def_model.specs.declared.draft.Place.{Place}
+use Rattle.def_model.specs.declared.draft.Reading.{Reading}
+use Rattle.def_model.specs.Draft.{no_words}
+use Rattle.def_model.specs.Reading.{step, token_at}
+use Rattle.def_model.specs.Statements.{begun_by, is_second, statement, keyword_statement, window_word, library_word}
+use Rattle.def_model.specs.Segments.{attribute, attributes, behind_list, class_word}
 use Rattle.def_file.proofs.SaysLaws.{says}
 use Rattle.def_tokens.proofs.TokenLaws.{if-second}
 use Rattle.def_grammar.specs.Statements.{Statement}

@@ -2,9 +2,9 @@
 use Rattle.std.proofs.Common.{◌≡◌, ◌≢◌, ℕ, List, [], ◌∷◌, refl, arith, false}
 use Rattle.std.specs.Prelude.{Some, None}
 use Rattle.obj_types.specs.declared.definition.DefFile.{DefFile}
-use Rattle.def_tokens.specs.Lexemes.{Lexeme, number, equals, dot, text, word, ending}
-use Rattle.def_file.specs.declared.draft.Size.TheVariants as sizes
-use Rattle.def_file.specs.Meaning.{file_of}
+use Rattle.def_model.specs.Lexemes.{Lexeme, number, equals, dot, text, word, ending}
+use Rattle.def_model.specs.declared.draft.Size.TheVariants as sizes
+use Rattle.def_model.specs.Meaning.{file_of}
 use Rattle.def_grammar.specs.Statements.{Written, identifier, named, Statement, program, library, description, code, plain, segments, exports, imports, stack_size, heap_size, base, exe_type, statements_then}
 use Rattle.def_grammar.specs.Rules.{IsName, AreStatements}
 use Rattle.def_grammar.specs.Sayings.{said}

@@ -4,11 +4,11 @@ use Rattle.std.specs.Prelude.{◌==◌, ◌||◌, ◌&&◌, Option, Some, None, 
 use Rattle.std.specs.List.{prefix_len}
 use Rattle.std.specs.Char.{is_ascii_digit}
 use Rattle.std.specs.Option.{option_map_or}
-use Rattle.def_tokens.specs.declared.keyword.Keyword.{Keyword}
-use Rattle.def_tokens.specs.Keywords.{keyword_of}
-use Rattle.def_tokens.specs.Numbers.{number_of}
-use Rattle.def_tokens.specs.Lexemes.{number, word, keyword, stray, ending, is_ending}
-use Rattle.def_tokens.specs.Tokens.{Placed, Front, front_of, text_len, word_front, is_word_byte, blank_len, line_behind, tokens_behind, tokens_of}
+use Rattle.def_model.specs.declared.keyword.Keyword.{Keyword}
+use Rattle.def_model.specs.Keywords.{keyword_of}
+use Rattle.def_model.specs.Numbers.{number_of}
+use Rattle.def_model.specs.Lexemes.{number, word, keyword, stray, ending, is_ending}
+use Rattle.def_model.specs.Tokens.{Placed, Front, front_of, text_len, word_front, is_word_byte, blank_len, line_behind, tokens_behind, tokens_of}
 
 abbrev pub AreEnded : List Placed → Type 0
 AreEnded [] = ⊥

@@ -1,16 +1,16 @@
 -- Behind whole statements: the keyword of the next one, or the file's end.
 use Rattle.std.proofs.Common.{◌≡◌, List, [], ◌∷◌, Ok, Err, refl, sym, ◌∙◌, cond, Bool, true, false}
-use Rattle.def_tokens.specs.declared.keyword.Keyword.{Keyword}
-use Rattle.def_tokens.specs.declared.keyword.Keyword.TheVariants as kw
-use Rattle.def_tokens.specs.Lexemes.{Lexeme, keyword, ending}
-use Rattle.def_file.specs.declared.refusal.DefKind.TheVariants as kinds
-use Rattle.def_file.specs.declared.draft.Owner.TheVariants as owners
-use Rattle.def_file.specs.declared.draft.Size.TheVariants as sizes
-use Rattle.def_file.specs.declared.draft.Place.{Place}
-use Rattle.def_file.specs.declared.draft.Place.TheVariants as place
-use Rattle.def_file.specs.declared.draft.Reading.{Reading}
-use Rattle.def_file.specs.Draft.{at as at_place, no_words}
-use Rattle.def_file.specs.Statements as reader
+use Rattle.def_model.specs.declared.keyword.Keyword.{Keyword}
+use Rattle.def_model.specs.declared.keyword.Keyword.TheVariants as kw
+use Rattle.def_model.specs.Lexemes.{Lexeme, keyword, ending}
+use Rattle.def_model.specs.declared.refusal.DefKind.TheVariants as kinds
+use Rattle.def_model.specs.declared.draft.Owner.TheVariants as owners
+use Rattle.def_model.specs.declared.draft.Size.TheVariants as sizes
+use Rattle.def_model.specs.declared.draft.Place.{Place}
+use Rattle.def_model.specs.declared.draft.Place.TheVariants as place
+use Rattle.def_model.specs.declared.draft.Reading.{Reading}
+use Rattle.def_model.specs.Draft.{at as at_place, no_words}
+use Rattle.def_model.specs.Statements as reader
 use Rattle.def_grammar.specs.Statements.{Statement, protected, statements_then}
 use Rattle.def_grammar.specs.Rules.{AreStatements, stands}
 use Rattle.def_grammar.specs.Sayings.{said}

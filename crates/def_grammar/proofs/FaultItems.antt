@@ -1,12 +1,12 @@
 -- Why a token is refused among items.
 use Rattle.std.proofs.Common.{◌≡◌, List, [], ◌∷◌, Ok, Err, refl}
 use Rattle.std.specs.Prelude.{Option, Some, None}
-use Rattle.def_tokens.specs.declared.keyword.Keyword.TheVariants as kw
-use Rattle.def_tokens.specs.Lexemes.{Lexeme, number, equals, at, dot, text, word, keyword}
-use Rattle.def_file.specs.declared.refusal.DefKind.{DefKind}
-use Rattle.def_file.specs.declared.draft.Part.TheVariants as parts
-use Rattle.def_file.specs.declared.draft.Reading.{Reading}
-use Rattle.def_file.specs.Draft.{no_words}
+use Rattle.def_model.specs.declared.keyword.Keyword.TheVariants as kw
+use Rattle.def_model.specs.Lexemes.{Lexeme, number, equals, at, dot, text, word, keyword}
+use Rattle.def_model.specs.declared.refusal.DefKind.{DefKind}
+use Rattle.def_model.specs.declared.draft.Part.TheVariants as parts
+use Rattle.def_model.specs.declared.draft.Reading.{Reading}
+use Rattle.def_model.specs.Draft.{no_words}
 use Rattle.def_file.proofs.Compute.{computed}
 use Rattle.def_grammar.specs.Statements.{Written, Segment, Export, Import, Statement, segments, exports, imports}
 use Rattle.def_grammar.specs.Sayings.{words_of}

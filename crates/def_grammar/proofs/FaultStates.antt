@@ -2,17 +2,17 @@
 use Rattle.std.proofs.Common.{List, [], ◌∷◌, refl, ap, sym, ◌∙◌, false}
 use Rattle.std.specs.Prelude.{Option, Some, None, not}
 use Rattle.obj_types.specs.declared.limits.TheConstants.{MAX_DATA}
-use Rattle.def_tokens.specs.declared.keyword.Keyword.TheVariants as kw
-use Rattle.def_tokens.specs.Lexemes.{Lexeme, number, equals, text, word, keyword, ending}
+use Rattle.def_model.specs.declared.keyword.Keyword.TheVariants as kw
+use Rattle.def_model.specs.Lexemes.{Lexeme, number, equals, text, word, keyword, ending}
 use Rattle.lx_types.specs.Answers.{◌>>=◌}
-use Rattle.def_file.specs.declared.refusal.DefKind.{DefKind}
-use Rattle.def_file.specs.declared.draft.Draft.{Draft}
-use Rattle.def_file.specs.declared.draft.Part.TheVariants as parts
-use Rattle.def_file.specs.declared.draft.Size.TheVariants as sizes
-use Rattle.def_file.specs.declared.draft.Place.TheVariants as place
-use Rattle.def_file.specs.Draft.{at as at_place}
-use Rattle.def_file.specs.Attributes.{agreed}
-use Rattle.def_file.specs.Statements as reader
+use Rattle.def_model.specs.declared.refusal.DefKind.{DefKind}
+use Rattle.def_model.specs.declared.draft.Draft.{Draft}
+use Rattle.def_model.specs.declared.draft.Part.TheVariants as parts
+use Rattle.def_model.specs.declared.draft.Size.TheVariants as sizes
+use Rattle.def_model.specs.declared.draft.Place.TheVariants as place
+use Rattle.def_model.specs.Draft.{at as at_place}
+use Rattle.def_model.specs.Attributes.{agreed}
+use Rattle.def_model.specs.Statements as reader
 use Rattle.def_file.proofs.Compute.{computed}
 use Rattle.def_grammar.specs.Statements.{Written, CallWord, initial, terminal, AttributeWord, Statement, program, library, code, plain}
 use Rattle.def_grammar.specs.Rules.{AreStatements}

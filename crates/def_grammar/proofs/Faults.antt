@@ -1,16 +1,16 @@
 -- The fault that is answered is the first fault of the file.
 use Rattle.std.proofs.Common.{◌≡◌, List, [], ◌∷◌, ◌++◌, Result, Ok, Err, refl, ap, sym, subst, ◌∙◌, true, false, inl, inr, append-nil}
 use Rattle.obj_types.specs.declared.definition.DefFile.{DefFile}
-use Rattle.def_tokens.specs.Lexemes.{Lexeme, stray, ending, is_stray, is_ending}
-use Rattle.def_tokens.specs.Tokens.{Placed, tokens_of}
+use Rattle.def_model.specs.Lexemes.{Lexeme, stray, ending, is_stray, is_ending}
+use Rattle.def_model.specs.Tokens.{Placed, tokens_of}
 use Rattle.lx_types.specs.Answers.{◌>>=◌}
-use Rattle.def_file.specs.declared.refusal.DefKind.{DefKind}
-use Rattle.def_file.specs.declared.refusal.DefKind.TheVariants as kinds
-use Rattle.def_file.specs.declared.refusal.DefRefusal.{DefRefusal}
-use Rattle.def_file.specs.declared.draft.Reading.{Reading}
-use Rattle.def_file.specs.Draft.{fresh}
-use Rattle.def_file.specs.Meaning.{file_of}
-use Rattle.def_file.specs.Reading.{step, token_at, at_line, run}
+use Rattle.def_model.specs.declared.refusal.DefKind.{DefKind}
+use Rattle.def_model.specs.declared.refusal.DefKind.TheVariants as kinds
+use Rattle.def_model.specs.declared.refusal.DefRefusal.{DefRefusal}
+use Rattle.def_model.specs.declared.draft.Reading.{Reading}
+use Rattle.def_model.specs.Draft.{fresh}
+use Rattle.def_model.specs.Meaning.{file_of}
+use Rattle.def_model.specs.Reading.{step, token_at, at_line, run}
 use Rattle.def_file.proofs.SaysLaws.{says}
 use Rattle.def_grammar.specs.Statements.{statements_then}
 use Rattle.def_grammar.specs.Sentences.{Sentence, bare}

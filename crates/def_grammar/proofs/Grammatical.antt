@@ -1,10 +1,10 @@
 -- Grammatical files are read.
 use Rattle.std.proofs.Common.{◌≡◌, List, [], ◌∷◌, Ok, refl, ap, sym, ◌∙◌}
 use Rattle.obj_types.specs.declared.definition.DefFile.{DefFile}
-use Rattle.def_tokens.specs.Lexemes.{Lexeme, ending}
-use Rattle.def_tokens.specs.Tokens.{tokens_of}
-use Rattle.def_file.specs.Draft.{fresh}
-use Rattle.def_file.specs.Statements.{statement}
+use Rattle.def_model.specs.Lexemes.{Lexeme, ending}
+use Rattle.def_model.specs.Tokens.{tokens_of}
+use Rattle.def_model.specs.Draft.{fresh}
+use Rattle.def_model.specs.Statements.{statement}
 use Rattle.def_file.proofs.SaysLaws.{says, run-says}
 use Rattle.def_grammar.specs.Laws.{GrammaticalAreRead}
 use Rattle.def_grammar.specs.Sentences.{Sentence, bare}

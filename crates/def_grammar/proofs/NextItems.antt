@@ -4,16 +4,16 @@ use Rattle.std.specs.Prelude.{Option, Some, None, IfSome}
 use Rattle.std.specs.Option.{option_map}
 use Rattle.std.specs.List.{list_any}
 use Rattle.obj_types.specs.Definition.{IsOrdinal}
-use Rattle.def_tokens.specs.declared.keyword.Keyword.TheVariants as kw
-use Rattle.def_tokens.specs.Lexemes.{Lexeme, number, equals, at, dot, text, word, keyword}
-use Rattle.def_file.specs.declared.refusal.DefKind.TheVariants as kinds
-use Rattle.def_file.specs.declared.draft.Owner.TheVariants as owners
-use Rattle.def_file.specs.declared.draft.Part.{Part}
-use Rattle.def_file.specs.declared.draft.Part.TheVariants as parts
-use Rattle.def_file.specs.declared.draft.Reading.{Reading}
-use Rattle.def_file.specs.Segments as segments_reader
-use Rattle.def_file.specs.Exports as exports_reader
-use Rattle.def_file.specs.Imports as imports_reader
+use Rattle.def_model.specs.declared.keyword.Keyword.TheVariants as kw
+use Rattle.def_model.specs.Lexemes.{Lexeme, number, equals, at, dot, text, word, keyword}
+use Rattle.def_model.specs.declared.refusal.DefKind.TheVariants as kinds
+use Rattle.def_model.specs.declared.draft.Owner.TheVariants as owners
+use Rattle.def_model.specs.declared.draft.Part.{Part}
+use Rattle.def_model.specs.declared.draft.Part.TheVariants as parts
+use Rattle.def_model.specs.declared.draft.Reading.{Reading}
+use Rattle.def_model.specs.Segments as segments_reader
+use Rattle.def_model.specs.Exports as exports_reader
+use Rattle.def_model.specs.Imports as imports_reader
 use Rattle.def_grammar.specs.Statements.{Written, identifier, quoted, name_token, AttributeWord, sets, idle, Segment, Export, Import, named, numbered, Statement, segments, exports, imports, statements_then}
 use Rattle.def_grammar.specs.Rules.{IsName, IsText, bytes_of, other_attribute, AreStatements}
 use Rattle.def_grammar.specs.Sayings.{words_of, export_of, said}

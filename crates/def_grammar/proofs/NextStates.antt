@@ -4,25 +4,25 @@ use Rattle.std.specs.Prelude.{Option, Some, None}
 use Rattle.std.specs.List.{list_any}
 use Rattle.obj_types.specs.declared.limits.TheConstants.{MAX_DATA}
 use Rattle.obj_types.specs.declared.definition.ModKind.TheVariants as modules
-use Rattle.def_tokens.specs.declared.keyword.Keyword.TheVariants as kw
-use Rattle.def_tokens.specs.Lexemes.{Lexeme, number, equals, text, word, keyword, stray}
-use Rattle.def_file.specs.declared.refusal.DefKind.TheVariants as kinds
-use Rattle.def_file.specs.declared.draft.Draft.{Draft}
-use Rattle.def_file.specs.declared.draft.Owner.TheVariants as owners
-use Rattle.def_file.specs.declared.draft.Size.{Size}
-use Rattle.def_file.specs.declared.draft.Size.TheVariants as sizes
-use Rattle.def_file.specs.declared.draft.Place.TheVariants as place
-use Rattle.def_file.specs.declared.draft.Reading.{Reading}
-use Rattle.def_file.specs.Statements as reader
-use Rattle.def_file.specs.Segments as segments_reader
+use Rattle.def_model.specs.declared.keyword.Keyword.TheVariants as kw
+use Rattle.def_model.specs.Lexemes.{Lexeme, number, equals, text, word, keyword, stray}
+use Rattle.def_model.specs.declared.refusal.DefKind.TheVariants as kinds
+use Rattle.def_model.specs.declared.draft.Draft.{Draft}
+use Rattle.def_model.specs.declared.draft.Owner.TheVariants as owners
+use Rattle.def_model.specs.declared.draft.Size.{Size}
+use Rattle.def_model.specs.declared.draft.Size.TheVariants as sizes
+use Rattle.def_model.specs.declared.draft.Place.TheVariants as place
+use Rattle.def_model.specs.declared.draft.Reading.{Reading}
+use Rattle.def_model.specs.Statements as reader
+use Rattle.def_model.specs.Segments as segments_reader
 use Rattle.def_grammar.specs.Statements.{Written, identifier, quoted, AttributeWord, sets, idle, CallWord, initial, terminal, Statement, program, library, description, code, plain, stack_size, heap_size, base, exe_type, statements_then}
 use Rattle.def_grammar.specs.Rules.{other_attribute, other_call, AreStatements}
 use Rattle.def_grammar.specs.Sayings.{words_of, said}
 use Rattle.def_grammar.proofs.Answered.{good_is, not_good, taken_unless, text_said, name_said, number_given, base_given}
 use Rattle.def_grammar.proofs.WordLaws.{word_taken, initially_is, finally_is}
 use Rattle.def_grammar.proofs.Standing.{unnamed, begun_program, begun_library, named_library}
-use Rattle.def_file.specs.Reading.{step, token_at}
-use Rattle.def_tokens.specs.Lexemes.{keyword_of_lexeme}
+use Rattle.def_model.specs.Reading.{step, token_at}
+use Rattle.def_model.specs.Lexemes.{keyword_of_lexeme}
 use Rattle.def_grammar.proofs.WordLaws.{none_other}
 use Rattle.def_grammar.proofs.States.{State, closed, in_program, behind_program, in_library, behind_library, in_description, in_code, in_plain, in_segments, at_segment, at_class, in_words, in_exports, at_export, at_internal, at_ordinal, in_imports, at_import, at_equals, at_from, at_dot, in_size, in_base, in_exe_type, tokens_then, reading_of, IsState, IsBegun, size_word, Next, goes}
 use Rattle.def_grammar.proofs.Falls.{falls}

@@ -2,14 +2,14 @@
 use Rattle.std.proofs.Common.{◌≡◌, ℕ, ◌<◌, List, [], ◌∷◌, ◌++◌, length, Result, Ok, Err, refl, ap, sym, subst, ◌∙◌, true, false, inl, inr, append_assoc, append-nil, arith}
 use Rattle.std.specs.Prelude.{Some, None, is_some}
 use Rattle.obj_types.specs.declared.definition.DefFile.{DefFile}
-use Rattle.def_tokens.specs.declared.keyword.Keyword.{Keyword}
-use Rattle.def_tokens.specs.declared.keyword.Keyword.TheVariants as kw
-use Rattle.def_tokens.specs.Lexemes.{Lexeme, number, text, word, keyword, stray, is_stray, name_of_lexeme, number_of_lexeme}
-use Rattle.def_tokens.specs.Tokens.{Placed, tokens_of}
-use Rattle.def_file.specs.declared.refusal.DefKind.{DefKind}
-use Rattle.def_file.specs.declared.refusal.DefKind.TheVariants as kinds
-use Rattle.def_file.specs.declared.refusal.DefRefusal.{DefRefusal}
-use Rattle.def_file.specs.Reading.{read_of}
+use Rattle.def_model.specs.declared.keyword.Keyword.{Keyword}
+use Rattle.def_model.specs.declared.keyword.Keyword.TheVariants as kw
+use Rattle.def_model.specs.Lexemes.{Lexeme, number, text, word, keyword, stray, is_stray, name_of_lexeme, number_of_lexeme}
+use Rattle.def_model.specs.Tokens.{Placed, tokens_of}
+use Rattle.def_model.specs.declared.refusal.DefKind.{DefKind}
+use Rattle.def_model.specs.declared.refusal.DefKind.TheVariants as kinds
+use Rattle.def_model.specs.declared.refusal.DefRefusal.{DefRefusal}
+use Rattle.def_model.specs.Reading.{read_of}
 use Rattle.def_grammar.specs.Rules.{stands, counts_as}
 use Rattle.def_grammar.specs.Statements.{Statement}
 use Rattle.std.specs.List.{list_any}

@@ -4,16 +4,16 @@ use Rattle.std.specs.Prelude.{Option, Some, None, IfSome, ◌≤◌}
 use Rattle.std.specs.List.{AllByRecursion}
 use Rattle.obj_types.specs.Definition.{IsOrdinal}
 use Rattle.obj_types.specs.declared.symbol.Exp.{Exp}
-use Rattle.def_tokens.specs.declared.keyword.Keyword.TheVariants as kw
-use Rattle.def_tokens.specs.Lexemes.{Lexeme, number, equals, at, text, word, keyword}
-use Rattle.def_file.specs.declared.refusal.DefKind.{DefKind}
-use Rattle.def_file.specs.declared.draft.Draft.{Draft}
-use Rattle.def_file.specs.declared.draft.Part.{Part}
-use Rattle.def_file.specs.declared.draft.Part.TheVariants as parts
-use Rattle.def_file.specs.declared.draft.Place.TheVariants as place
-use Rattle.def_file.specs.declared.draft.Reading.{Reading}
-use Rattle.def_file.specs.Reading.{step, token_at}
-use Rattle.def_file.specs.Exports as reader
+use Rattle.def_model.specs.declared.keyword.Keyword.TheVariants as kw
+use Rattle.def_model.specs.Lexemes.{Lexeme, number, equals, at, text, word, keyword}
+use Rattle.def_model.specs.declared.refusal.DefKind.{DefKind}
+use Rattle.def_model.specs.declared.draft.Draft.{Draft}
+use Rattle.def_model.specs.declared.draft.Part.{Part}
+use Rattle.def_model.specs.declared.draft.Part.TheVariants as parts
+use Rattle.def_model.specs.declared.draft.Place.TheVariants as place
+use Rattle.def_model.specs.declared.draft.Reading.{Reading}
+use Rattle.def_model.specs.Reading.{step, token_at}
+use Rattle.def_model.specs.Exports as reader
 use Rattle.def_file.proofs.SaysLaws.{says, name-is, within-is, goes-on}
 use Rattle.def_grammar.specs.Statements.{Written, identifier, quoted, name_token, Export, internal_then, ordinal_then, word_then, number_then, export_then, exports_then}
 use Rattle.def_grammar.specs.Rules.{IsName, bytes_of, IsExport}

@@ -1,14 +1,14 @@
 -- What is read is grammatical.
 use Rattle.std.proofs.Common.{◌≡◌, ℕ, List, [], ◌∷◌, Result, Ok, Err, refl, ap, sym, subst, ◌∙◌, false}
 use Rattle.obj_types.specs.declared.definition.DefFile.{DefFile}
-use Rattle.def_tokens.specs.Lexemes.{Lexeme, ending, is_ending}
-use Rattle.def_tokens.specs.Tokens.{Placed, tokens_of}
+use Rattle.def_model.specs.Lexemes.{Lexeme, ending, is_ending}
+use Rattle.def_model.specs.Tokens.{Placed, tokens_of}
 use Rattle.lx_types.specs.Answers.{◌>>=◌}
-use Rattle.def_file.specs.declared.refusal.DefKind.{DefKind}
-use Rattle.def_file.specs.declared.refusal.DefRefusal.{DefRefusal}
-use Rattle.def_file.specs.declared.draft.Reading.{Reading}
-use Rattle.def_file.specs.Meaning.{file_of}
-use Rattle.def_file.specs.Reading.{step, at_line, run}
+use Rattle.def_model.specs.declared.refusal.DefKind.{DefKind}
+use Rattle.def_model.specs.declared.refusal.DefRefusal.{DefRefusal}
+use Rattle.def_model.specs.declared.draft.Reading.{Reading}
+use Rattle.def_model.specs.Meaning.{file_of}
+use Rattle.def_model.specs.Reading.{step, at_line, run}
 use Rattle.def_grammar.specs.Statements.{statements_then}
 use Rattle.def_grammar.specs.Sentences.{Sentence, bare}
 use Rattle.def_grammar.specs.Laws.{ReadAreGrammatical}

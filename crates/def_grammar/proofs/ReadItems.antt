@@ -2,20 +2,20 @@
 use Rattle.std.proofs.Common.{◌≡◌, ℕ, List, [], ◌∷◌, ◌++◌, refl, ◌∙◌, true}
 use Rattle.std.specs.Prelude.{Option, Some, None}
 use Rattle.std.specs.List.{list_any, AllByRecursion}
-use Rattle.def_tokens.specs.declared.keyword.Keyword.TheVariants as kw
-use Rattle.def_tokens.specs.Lexemes.{Lexeme, number, equals, dot, text, word, keyword}
+use Rattle.def_model.specs.declared.keyword.Keyword.TheVariants as kw
+use Rattle.def_model.specs.Lexemes.{Lexeme, number, equals, dot, text, word, keyword}
 use Rattle.def_tokens.proofs.TokenLaws.{if-second}
 use Rattle.lx_types.specs.Answers.{◌>>=◌}
-use Rattle.def_file.specs.declared.draft.Draft.{Draft}
-use Rattle.def_file.specs.declared.draft.Words.{Words}
-use Rattle.def_file.specs.declared.draft.Owner.{Owner}
-use Rattle.def_file.specs.declared.draft.Owner.TheVariants as owners
-use Rattle.def_file.specs.declared.draft.Place.TheVariants as place
-use Rattle.def_file.specs.declared.draft.Reading.{Reading}
-use Rattle.def_file.specs.Draft.{no_words}
-use Rattle.def_file.specs.Reading.{step, token_at}
-use Rattle.def_file.specs.Segments as reader
-use Rattle.def_file.specs.Imports as imports_reader
+use Rattle.def_model.specs.declared.draft.Draft.{Draft}
+use Rattle.def_model.specs.declared.draft.Words.{Words}
+use Rattle.def_model.specs.declared.draft.Owner.{Owner}
+use Rattle.def_model.specs.declared.draft.Owner.TheVariants as owners
+use Rattle.def_model.specs.declared.draft.Place.TheVariants as place
+use Rattle.def_model.specs.declared.draft.Reading.{Reading}
+use Rattle.def_model.specs.Draft.{no_words}
+use Rattle.def_model.specs.Reading.{step, token_at}
+use Rattle.def_model.specs.Segments as reader
+use Rattle.def_model.specs.Imports as imports_reader
 use Rattle.def_file.proofs.SaysLaws.{says, name-is, text-is, within-is, goes-on}
 use Rattle.def_grammar.specs.Statements.{Written, identifier, quoted, name_token, AttributeWord, sets, idle, attribute_token, attributes_then, Segment, segment_then, segments_then, Import, named, numbered, import_then, imports_then}
 use Rattle.def_grammar.specs.Rules.{IsName, bytes_of, other_attribute, AttributesAgree, IsSegment, IsImport}

@@ -4,22 +4,22 @@ use Rattle.std.specs.Prelude.{Option, Some, None, IfSome}
 use Rattle.std.specs.List.{list_any}
 use Rattle.obj_types.specs.declared.limits.TheConstants.{MAX_DATA}
 use Rattle.obj_types.specs.declared.definition.ModKind.TheVariants as modules
-use Rattle.def_tokens.specs.declared.keyword.Keyword.TheVariants as kw
-use Rattle.def_tokens.specs.Lexemes.{Lexeme, text, word, keyword, keyword_of_lexeme}
+use Rattle.def_model.specs.declared.keyword.Keyword.TheVariants as kw
+use Rattle.def_model.specs.Lexemes.{Lexeme, text, word, keyword, keyword_of_lexeme}
 use Rattle.def_tokens.proofs.TokenLaws.{if-second}
 use Rattle.lx_types.specs.Answers.{◌>>=◌}
-use Rattle.def_file.specs.declared.draft.Draft.{Draft}
-use Rattle.def_file.specs.declared.draft.Owner.TheVariants as owners
-use Rattle.def_file.specs.declared.draft.Size.TheVariants as sizes
-use Rattle.def_file.specs.declared.draft.Place.TheVariants as place
-use Rattle.def_file.specs.declared.draft.Place.{Place}
-use Rattle.def_file.specs.declared.draft.Reading.{Reading}
-use Rattle.def_file.specs.Draft.{fresh, no_words}
-use Rattle.def_file.specs.Reading.{step, token_at}
-use Rattle.def_file.specs.Statements as reader
-use Rattle.def_file.specs.Segments as segments_reader
-use Rattle.def_file.specs.Exports as exports_reader
-use Rattle.def_file.specs.Imports as imports_reader
+use Rattle.def_model.specs.declared.draft.Draft.{Draft}
+use Rattle.def_model.specs.declared.draft.Owner.TheVariants as owners
+use Rattle.def_model.specs.declared.draft.Size.TheVariants as sizes
+use Rattle.def_model.specs.declared.draft.Place.TheVariants as place
+use Rattle.def_model.specs.declared.draft.Place.{Place}
+use Rattle.def_model.specs.declared.draft.Reading.{Reading}
+use Rattle.def_model.specs.Draft.{fresh, no_words}
+use Rattle.def_model.specs.Reading.{step, token_at}
+use Rattle.def_model.specs.Statements as reader
+use Rattle.def_model.specs.Segments as segments_reader
+use Rattle.def_model.specs.Exports as exports_reader
+use Rattle.def_model.specs.Imports as imports_reader
 use Rattle.def_file.proofs.SaysLaws.{says, name-is, text-is, within-is, goes-on}
 use Rattle.def_grammar.specs.Statements.{Written, identifier, quoted, name_token, CallWord, initial, terminal, call_token, calls_then, Statement, program, library, description, code, plain, segments, exports, imports, stack_size, heap_size, base, protected, exe_type, head, body_then, statements_then}
 use Rattle.def_grammar.specs.Rules.{IsName, bytes_of, other_call, CallsAgree, IsStatement, AreStatements, stands}

@@ -2,17 +2,17 @@
 use Rattle.std.proofs.Common.{◌≡◌, ℕ, ◌<◌, List, [], ◌∷◌, length, Result, Ok, Err, refl, arith, sym, subst, cond, Bool, true, false, nat_lt, ◌&&◌, nat_le, ◌⊎◌, inr}
 use Rattle.std.specs.Prelude.{◌==◌, ◌%◌, Option, Some, None, not, is_some}
 use Rattle.std.proofs.lemmas.Bool.Decides.{nat_tests}
-use Rattle.def_tokens.specs.declared.keyword.Keyword.{Keyword}
-use Rattle.def_tokens.specs.declared.keyword.Pair.{Pair}
-use Rattle.def_tokens.specs.declared.keyword.Pair.TheVariants as pairs
-use Rattle.def_tokens.specs.Lexemes.{Lexeme, number, keyword, ending, name_of_lexeme, number_of_lexeme}
+use Rattle.def_model.specs.declared.keyword.Keyword.{Keyword}
+use Rattle.def_model.specs.declared.keyword.Pair.{Pair}
+use Rattle.def_model.specs.declared.keyword.Pair.TheVariants as pairs
+use Rattle.def_model.specs.Lexemes.{Lexeme, number, keyword, ending, name_of_lexeme, number_of_lexeme}
 use Rattle.lx_types.specs.Answers.{◌>>=◌}
-use Rattle.def_file.specs.declared.refusal.DefKind.{DefKind}
-use Rattle.def_file.specs.declared.refusal.DefKind.TheVariants as kinds
-use Rattle.def_file.specs.declared.draft.Words.{Words}
-use Rattle.def_file.specs.declared.draft.Reading.{Reading}
-use Rattle.def_file.specs.Attributes.{agreed, with_word}
-use Rattle.def_file.specs.Tokens.{name_of, text_of, within, base_of}
+use Rattle.def_model.specs.declared.refusal.DefKind.{DefKind}
+use Rattle.def_model.specs.declared.refusal.DefKind.TheVariants as kinds
+use Rattle.def_model.specs.declared.draft.Words.{Words}
+use Rattle.def_model.specs.declared.draft.Reading.{Reading}
+use Rattle.def_model.specs.Attributes.{agreed, with_word}
+use Rattle.def_model.specs.TokenMeaning.{name_of, text_of, within, base_of}
 use Rattle.def_grammar.specs.Statements.{Statement, statements_then}
 use Rattle.def_grammar.specs.Rules.{AreStatements, stands}
 use Rattle.def_grammar.specs.Faults.{Value, alike, begins_statement, is_pair_word, HasBytes}

@@ -2,13 +2,13 @@
 use Rattle.std.proofs.Common.{◌≡◌, List, [], ◌∷◌, Result, Ok, Err, refl, ap, sym, subst, ◌∙◌, cond, Bool, true, false, ◌&&◌, ◌||◌}
 use Rattle.std.specs.Prelude.{Option, Some, not}
 use Rattle.std.specs.List.{list_any}
-use Rattle.def_tokens.specs.declared.keyword.Pair.{Pair}
-use Rattle.def_tokens.specs.declared.keyword.Pair.TheVariants as pairs
+use Rattle.def_model.specs.declared.keyword.Pair.{Pair}
+use Rattle.def_model.specs.declared.keyword.Pair.TheVariants as pairs
 use Rattle.lx_types.specs.Answers.{◌>>=◌}
-use Rattle.def_file.specs.declared.refusal.DefKind.{DefKind}
-use Rattle.def_file.specs.declared.refusal.DefKind.TheVariants as kinds
-use Rattle.def_file.specs.declared.draft.Words.{Words}
-use Rattle.def_file.specs.Attributes.{agreed, with_word}
+use Rattle.def_model.specs.declared.refusal.DefKind.{DefKind}
+use Rattle.def_model.specs.declared.refusal.DefKind.TheVariants as kinds
+use Rattle.def_model.specs.declared.draft.Words.{Words}
+use Rattle.def_model.specs.Attributes.{agreed, with_word}
 use Rattle.def_grammar.specs.Statements.{AttributeWord, sets, idle, CallWord, initial, terminal}
 use Rattle.def_grammar.specs.Rules.{same_pair, other_attribute, other_call, AttributesAgree, CallsAgree}
 use Rattle.def_grammar.specs.Sayings.{setting, words_of, initially, finally}

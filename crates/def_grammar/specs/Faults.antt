@@ -1,13 +1,13 @@
 -- The first fault of a file: the first token with which no grammatical file begins as this one does, and what is wrong with it.
 use Rattle.std.specs.Prelude.{◌≡◌, ◌⊎◌, ℕ, ◌<◌, Bool, true, false, List, [], ◌∷◌, ◌++◌, length, Option, Some, is_some}
 use Rattle.obj_types.specs.declared.definition.DefFile.{DefFile}
-use Rattle.def_tokens.specs.declared.keyword.Keyword.{Keyword}
-use Rattle.def_tokens.specs.declared.keyword.Keyword.TheVariants as kw
-use Rattle.def_tokens.specs.Lexemes.{Lexeme, number, text, word, keyword, stray, ending, is_stray, name_of_lexeme, number_of_lexeme}
-use Rattle.def_tokens.specs.Tokens.{Placed}
-use Rattle.def_file.specs.declared.refusal.DefKind.{DefKind}
-use Rattle.def_file.specs.declared.refusal.DefKind.TheVariants as kinds
-use Rattle.def_file.specs.declared.refusal.DefRefusal.{DefRefusal}
+use Rattle.def_model.specs.declared.keyword.Keyword.{Keyword}
+use Rattle.def_model.specs.declared.keyword.Keyword.TheVariants as kw
+use Rattle.def_model.specs.Lexemes.{Lexeme, number, text, word, keyword, stray, ending, is_stray, name_of_lexeme, number_of_lexeme}
+use Rattle.def_model.specs.Tokens.{Placed}
+use Rattle.def_model.specs.declared.refusal.DefKind.{DefKind}
+use Rattle.def_model.specs.declared.refusal.DefKind.TheVariants as kinds
+use Rattle.def_model.specs.declared.refusal.DefRefusal.{DefRefusal}
 use Rattle.def_grammar.specs.Statements.{Statement, statements_then}
 use Rattle.def_grammar.specs.Rules.{AreStatements, stands}
 use Rattle.def_grammar.specs.Sentences.{Sentence, bare}

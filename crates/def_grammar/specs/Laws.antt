@@ -1,9 +1,9 @@
 -- Reading a file is its grammar.
 use Rattle.std.specs.Prelude.{ℕ, List}
 use Rattle.obj_types.specs.declared.definition.DefFile.{DefFile}
-use Rattle.def_tokens.specs.Tokens.{tokens_of}
-use Rattle.def_file.specs.declared.refusal.DefRefusal.{DefRefusal}
-use Rattle.def_file.specs.Reading.{Def, FirstFault}
+use Rattle.def_model.specs.Tokens.{tokens_of}
+use Rattle.def_model.specs.declared.refusal.DefRefusal.{DefRefusal}
+use Rattle.def_model.specs.Reading.{Def, FirstFault}
 use Rattle.def_grammar.specs.Faults.{IsFirstFault}
 use Rattle.def_grammar.specs.Sentences.{Sentence, bare}
 

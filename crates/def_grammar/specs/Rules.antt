@@ -4,10 +4,10 @@ use Rattle.std.specs.List.{list_any, AllByRecursion}
 use Rattle.std.specs.Option.{option_map_or}
 use Rattle.obj_types.specs.declared.limits.TheConstants.{MAX_DATA}
 use Rattle.obj_types.specs.Definition.{IsBase, IsOrdinal}
-use Rattle.def_tokens.specs.declared.keyword.Keyword.{Keyword}
-use Rattle.def_tokens.specs.declared.keyword.Keyword.TheVariants as kw
-use Rattle.def_tokens.specs.declared.keyword.Pair.{Pair}
-use Rattle.def_tokens.specs.declared.keyword.Pair.TheVariants as pairs
+use Rattle.def_model.specs.declared.keyword.Keyword.{Keyword}
+use Rattle.def_model.specs.declared.keyword.Keyword.TheVariants as kw
+use Rattle.def_model.specs.declared.keyword.Pair.{Pair}
+use Rattle.def_model.specs.declared.keyword.Pair.TheVariants as pairs
 use Rattle.def_grammar.specs.Statements.{Written, identifier, quoted, AttributeWord, sets, CallWord, initial, terminal, Segment, Export, Import, named, numbered, Statement, program, library, description, code, plain, segments, exports, imports, stack_size, heap_size, base, protected, exe_type, head}
 
 -- ---- names and texts

@@ -5,12 +5,12 @@ use Rattle.lx_types.specs.declared.entry.EntryKey.TheVariants.{Ordinal, Named}
 use Rattle.obj_types.specs.declared.symbol.Exp.{Exp}
 use Rattle.obj_types.specs.declared.symbol.Imp.{Imp}
 use Rattle.obj_types.specs.declared.definition.ModKind.TheVariants as modules
-use Rattle.def_tokens.specs.declared.keyword.Pair.{Pair}
-use Rattle.def_tokens.specs.declared.keyword.Pair.TheVariants as pairs
-use Rattle.def_file.specs.declared.draft.Words.{Words}
-use Rattle.def_file.specs.declared.draft.SegDraft.{SegDraft}
-use Rattle.def_file.specs.declared.draft.Draft.{Draft}
-use Rattle.def_file.specs.Draft.{no_statements}
+use Rattle.def_model.specs.declared.keyword.Pair.{Pair}
+use Rattle.def_model.specs.declared.keyword.Pair.TheVariants as pairs
+use Rattle.def_model.specs.declared.draft.Words.{Words}
+use Rattle.def_model.specs.declared.draft.SegDraft.{SegDraft}
+use Rattle.def_model.specs.declared.draft.Draft.{Draft}
+use Rattle.def_model.specs.Draft.{no_statements}
 use Rattle.def_grammar.specs.Statements.{AttributeWord, sets, idle, CallWord, initial, terminal, Segment, Export, Import, named, numbered, Statement, program, library, description, code, plain, segments, exports, imports, stack_size, heap_size, base, protected, exe_type}
 use Rattle.def_grammar.specs.Rules.{bytes_of, same_pair}
 

@@ -1,9 +1,9 @@
 -- The tokens of a definition file, and the value that their statements give.
 use Rattle.std.specs.Prelude.{◌≡◌, List, [], ◌∷◌, map}
 use Rattle.obj_types.specs.declared.definition.DefFile.{DefFile}
-use Rattle.def_tokens.specs.Lexemes.{Lexeme, ending}
-use Rattle.def_tokens.specs.Tokens.{Placed}
-use Rattle.def_file.specs.Meaning.{file_of}
+use Rattle.def_model.specs.Lexemes.{Lexeme, ending}
+use Rattle.def_model.specs.Tokens.{Placed}
+use Rattle.def_model.specs.Meaning.{file_of}
 use Rattle.def_grammar.specs.Statements.{Statement, statements_then}
 use Rattle.def_grammar.specs.Rules.{AreStatements}
 use Rattle.def_grammar.specs.Sayings.{said}

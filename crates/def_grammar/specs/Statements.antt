@@ -1,10 +1,10 @@
 -- The statements of module definition files, their items and words, and the tokens that spell them (Toolkit tools reference,
 -- "Module Definition Files"). A list has its last one first. Each spelling is put before tokens that follow it.
 use Rattle.std.specs.Prelude.{ℕ, Bool, true, false, List, [], ◌∷◌, Option, Some, None}
-use Rattle.def_tokens.specs.declared.keyword.Keyword.{Keyword}
-use Rattle.def_tokens.specs.declared.keyword.Keyword.TheVariants as kw
-use Rattle.def_tokens.specs.declared.keyword.Pair.{Pair}
-use Rattle.def_tokens.specs.Lexemes.{Lexeme, number, equals, at, dot, text, word, keyword}
+use Rattle.def_model.specs.declared.keyword.Keyword.{Keyword}
+use Rattle.def_model.specs.declared.keyword.Keyword.TheVariants as kw
+use Rattle.def_model.specs.declared.keyword.Pair.{Pair}
+use Rattle.def_model.specs.Lexemes.{Lexeme, number, equals, at, dot, text, word, keyword}
 
 -- ---- names, texts and words
 

@@ -1,8 +1,8 @@
 -- Definition files whose fault, or whose want of one, is known from outside: statements that stand twice, and borders between a
 -- statement and an item.
 use Rattle.std.specs.Prelude.{◌≡◌, [], ◌∷◌, Ok, codes}
-use Rattle.def_file.specs.declared.refusal.DefKind.TheVariants as kinds
-use Rattle.def_file.specs.Reading.{read_of}
+use Rattle.def_model.specs.declared.refusal.DefKind.TheVariants as kinds
+use Rattle.def_model.specs.Reading.{read_of}
 use Rattle.def_file.specs.Examples.{fault, lines, plain_program, named_item}
 
 -- A statement that may stand once, twice: the second is refused, wherever it stands.

@@ -5,8 +5,8 @@ use Rattle.std.specs.List.{list_all, prefix_len}
 use Rattle.std.proofs.Math.Seq.{take-append_seam, get_or-append_seam}
 use Rattle.std.proofs.lemmas.List.Elements.{All-head, All-tail}
 use Rattle.std.proofs.lemmas.Bool.{ne_eqb, and_from, lt-ltb}
-use Rattle.def_tokens.specs.Lexemes.{Lexeme, equals, at, dot, text, stray}
-use Rattle.def_tokens.specs.Tokens.{tokens_behind, tokens_of, blank_len, front_of, front, Front, line_behind, Placed, is_word_byte, word_front, word_lexeme, text_front, text_len}
+use Rattle.def_model.specs.Lexemes.{Lexeme, equals, at, dot, text, stray}
+use Rattle.def_model.specs.Tokens.{tokens_behind, tokens_of, blank_len, front_of, front, Front, line_behind, Placed, is_word_byte, word_front, word_lexeme, text_front, text_len}
 use Rattle.def_tokens.specs.Spelling.{IsQuotable}
 use Rattle.def_tokens.proofs.TokenLaws.{tokens-token, if-first, if-second}
 

@@ -8,12 +8,12 @@ use Rattle.std.proofs.lemmas.Bool.Decides.{nat_tests}
 use Rattle.std.proofs.lemmas.Fmt.{decimal_nonempty, digits_decimal, digits_value-decimal}
 use Rattle.std.proofs.lemmas.Str.Parse.{IsNumeralModel, IsDigitsTest, FoldsDigits, numerals_by_fold}
 use Rattle.std.proofs.lemmas.Bool.{and_from, lt-ltb}
-use Rattle.def_tokens.specs.declared.keyword.Keyword.{Keyword}
-use Rattle.def_tokens.specs.declared.keyword.Keyword.TheVariants as kw
-use Rattle.def_tokens.specs.declared.keyword.Pair.TheVariants as pairs
-use Rattle.def_tokens.specs.Lexemes.{Lexeme, number, equals, at, dot, text, word, keyword, stray, ending}
-use Rattle.def_tokens.specs.Numbers.{digit_of, are_digits, value_from, value_of, number_of}
-use Rattle.def_tokens.specs.Tokens.{is_word_byte, word_lexeme}
+use Rattle.def_model.specs.declared.keyword.Keyword.{Keyword}
+use Rattle.def_model.specs.declared.keyword.Keyword.TheVariants as kw
+use Rattle.def_model.specs.declared.keyword.Pair.TheVariants as pairs
+use Rattle.def_model.specs.Lexemes.{Lexeme, number, equals, at, dot, text, word, keyword, stray, ending}
+use Rattle.def_model.specs.Numbers.{digit_of, are_digits, value_from, value_of, number_of}
+use Rattle.def_model.specs.Tokens.{is_word_byte, word_lexeme}
 use Rattle.def_tokens.specs.Spelling.{word_of, spelling, Spells, gap, text_behind, line_text}
 use Rattle.def_tokens.proofs.TokenLaws.{if-first}
 use Rattle.def_tokens.proofs.LexemeLaws.{lexemes, lexemes-space, lexemes-line_end, lexemes-equals, lexemes-at, lexemes-dot, lexemes-text, lexemes-run, first-true, second-true}

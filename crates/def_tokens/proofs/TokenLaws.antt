@@ -4,9 +4,9 @@ use Rattle.std.specs.Prelude.{slice_index}
 use Rattle.std.proofs.lemmas.List.{take_rest}
 use Rattle.std.proofs.Math.Nat.{mul-le-mul_left}
 use Rattle.std.proofs.lemmas.Bool.{le-ltb, lt-ltb}
-use Rattle.def_tokens.specs.Numbers.{value_from, value_of, digit_of}
-use Rattle.def_tokens.specs.Lexemes.{Lexeme, ending, is_ending}
-use Rattle.def_tokens.specs.Tokens.{tokens_behind, blank_len, front_of, front, line_behind, Placed, before}
+use Rattle.def_model.specs.Numbers.{value_from, value_of, digit_of}
+use Rattle.def_model.specs.Lexemes.{Lexeme, ending, is_ending}
+use Rattle.def_model.specs.Tokens.{tokens_behind, blank_len, front_of, front, line_behind, Placed, before}
 
 pub if-first : {A : Type 0} (test : Bool) (x y : A) → test ≡ true → cond test x y ≡ x
 if-first true x y h = refl

@@ -1,5 +1,2 @@
-pub mod Keywords
-pub mod Lexemes
-pub mod Numbers
+pub mod Seen
 pub mod Spelling
-pub mod Tokens

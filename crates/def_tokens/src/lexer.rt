@@ -2,8 +2,10 @@
 
 ghost use Rattle.std.specs.Prelude.{◌≡◌, ◌+◌, ◌<◌, ◌≤◌, ◌∷◌, true, false, Some, None, length, drop, take};
 ghost use Rattle.std.specs.List.{prefix_len};
-ghost use Rattle.def_tokens.specs.Lexemes.{lexeme_of, is_ending};
-ghost use Rattle.def_tokens.specs.Tokens.{front, front_of, text_front, word_front, word_lexeme, placed_of, is_word_byte, blank_len, comment_len, text_len, line_behind, tokens_from, tokens_behind, tokens_of, before};
+ghost use Rattle.def_model.specs.Lexemes.{is_ending};
+ghost use Rattle.def_tokens.specs.Seen.{lexeme_of};
+ghost use Rattle.def_model.specs.Tokens.{front, front_of, text_front, word_front, word_lexeme, is_word_byte, blank_len, comment_len, text_len, line_behind, tokens_from, tokens_behind, tokens_of, before};
+ghost use Rattle.def_tokens.specs.Seen.{placed_of};
 
 use crate::keyword::keyword_of;
 use crate::number::number_of;
@@ -18,7 +20,7 @@ pub struct Lexer<'a> {
 }
 
 impl<'a> Model for Lexer<'a> {
-    ghost use Rattle.def_tokens.specs.Tokens.{Place};
+    ghost use Rattle.def_model.specs.Tokens.{Place};
 
     ghost Value = { Place };
 

@@ -8,7 +8,6 @@ mod number;
 mod spelling;
 mod token;
 
-pub use keyword::{Keyword, Pair};
 pub use lexer::Lexer;
 pub use spelling::write_line;
 pub use token::{Token, TokenAt};

@@ -1,7 +1,7 @@
 //! Numbers.
 
 ghost use Rattle.std.specs.Prelude.{◌≡◌, ◌≤◌, ◌<◌, ◌^◌};
-ghost use Rattle.def_tokens.specs.Numbers.{digit_of, are_digits, value_of, number_of};
+ghost use Rattle.def_model.specs.Numbers.{digit_of, are_digits, value_of, number_of};
 
 // What a digit counts, or 36.
 fn digit_of(byte: u8) -> u8

@@ -1,10 +1,11 @@
 //! Tokens, written.
 
 ghost use Rattle.std.specs.Prelude.{◌≡◌, ◌∷◌, ◌++◌, [], map, IfOk, decimal};
-ghost use Rattle.def_tokens.specs.Lexemes.{lexeme_of};
+ghost use Rattle.def_tokens.specs.Seen.{lexeme_of};
 ghost use Rattle.def_tokens.specs.Spelling.{attribute_word, word_of, spelling, gap, text_behind, line_text};
 
-use crate::{Keyword, Pair, Token};
+use crate::Token;
+use def_model::{Keyword, Pair};
 use itoa::Buffer;
 use std::alloc::AllocError;
 

@@ -2,9 +2,10 @@
 
 ghost use Rattle.std.specs.Prelude.{◌≡◌};
 ghost use Rattle.std.specs.Option.{option_copied};
-ghost use Rattle.def_tokens.specs.Lexemes.{lexeme_of, number_of_lexeme, name_of_lexeme, text_of_lexeme, keyword_of_lexeme, is_equals, is_at, is_dot, is_stray, is_ending};
+ghost use Rattle.def_model.specs.Lexemes.{number_of_lexeme, name_of_lexeme, text_of_lexeme, keyword_of_lexeme, is_equals, is_at, is_dot, is_stray, is_ending};
+ghost use Rattle.def_tokens.specs.Seen.{lexeme_of};
 
-use crate::Keyword;
+use def_model::Keyword;
 
 /// A token. Its bytes lie in the file.
 #[derive(Debug, Clone, Copy)]

@@ -5,11 +5,11 @@ use Rattle.std.proofs.lemmas.Bool.Decides.{nat_tests}
 use Rattle.std.proofs.lemmas.Fmt.{decimal_by_steps, length-decimal-le}
 use Rattle.obj_types.specs.Defaults.{default_def}
 use Rattle.obj_types.specs.declared.definition.ModKind.TheVariants.{Library}
-use Rattle.def_tokens.specs.declared.keyword.Keyword.TheVariants as kw
-use Rattle.def_tokens.specs.Lexemes.{Lexeme, keyword, word, ending}
-use Rattle.def_tokens.specs.Tokens.{is_word_byte, tokens_behind, tokens_of, word_lexeme}
+use Rattle.def_model.specs.declared.keyword.Keyword.TheVariants as kw
+use Rattle.def_model.specs.Lexemes.{Lexeme, keyword, word, ending}
+use Rattle.def_model.specs.Tokens.{is_word_byte, tokens_behind, tokens_of, word_lexeme}
 use Rattle.def_tokens.proofs.LexemeLaws.{both-true, first-true, lexemes, lexemes-line_end, lexemes-run, lexemes-space, second-true}
-use Rattle.def_file.specs.Draft.{fresh}
+use Rattle.def_model.specs.Draft.{fresh}
 use Rattle.def_file.proofs.Compute.{computed}
 use Rattle.def_file.proofs.SaysLaws.{says, run-says, name-is, goes-on}
 use Rattle.gen_model.specs.Modules.{definition_text, gen_definition, module_name}

@@ -1,6 +1,6 @@
 -- What holds of the modules G1 to G64, by rule over their numbers and their 2,048 references.
 use Rattle.std.specs.Prelude.{◌≡◌, ℕ, ◌≤◌, ◌<◌, ◌^◌, List, length, None}
-use Rattle.def_file.specs.Reading.{Def}
+use Rattle.def_model.specs.Reading.{Def}
 use Rattle.load_model.specs.declared.deeds.Fresh.{Fresh}
 use Rattle.obj_types.specs.Input.{WholeInput}
 use Rattle.omf_model.specs.Object.{Obj}

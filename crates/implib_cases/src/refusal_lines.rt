@@ -1,6 +1,6 @@
 //! What is told of refusals.
 
-use def_file::{DefKind, DefRefusal};
+use def_model::{DefKind, DefRefusal};
 use link_model::{EntryRefusal, FixRefusal, LayRefusal, SymRefusal};
 use lx_types::{LxKind, LxRefusal, Name};
 use obj_types::OmfRefusal;

@@ -6,9 +6,9 @@ use Rattle.lx_types.specs.declared.refusal.LxKind.TheVariants as lx
 use Rattle.lx_types.specs.declared.refusal.LxRefusal.{LxRefusal}
 use Rattle.obj_types.specs.declared.refusal.OmfRefusal.{OmfRefusal}
 use Rattle.obj_types.specs.declared.refusal.OmfRefusal.TheVariants.{Short, BadChecksum, UnknownType, BadIndex, BadField, DataRange, Nested, NoThread, BadLocation, NoData, FixOverlap, DataOverFix, TooMany}
-use Rattle.def_file.specs.declared.refusal.DefKind.{DefKind}
-use Rattle.def_file.specs.declared.refusal.DefKind.TheVariants as def
-use Rattle.def_file.specs.declared.refusal.DefRefusal.{DefRefusal}
+use Rattle.def_model.specs.declared.refusal.DefKind.{DefKind}
+use Rattle.def_model.specs.declared.refusal.DefKind.TheVariants as def
+use Rattle.def_model.specs.declared.refusal.DefRefusal.{DefRefusal}
 
 -- `@AT KIND`
 abbrev pub placed : ℕ → List ℕ → List ℕ

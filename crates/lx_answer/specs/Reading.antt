@@ -5,10 +5,10 @@ use Rattle.lx_types.specs.declared.parts.Parts.{Parts}
 use Rattle.obj_types.specs.declared.refusal.OmfRefusal.{OmfRefusal}
 use Rattle.obj_types.specs.declared.object.ObjModule.{ObjModule}
 use Rattle.obj_types.specs.declared.definition.DefFile.{DefFile}
-use Rattle.def_file.specs.declared.refusal.DefRefusal.{DefRefusal}
+use Rattle.def_model.specs.declared.refusal.DefRefusal.{DefRefusal}
 use Rattle.omf_model.specs.Object as object_files
 use Rattle.omf_model.specs.Library as libraries
-use Rattle.def_file.specs.Reading as definitions
+use Rattle.def_model.specs.Reading as definitions
 use Rattle.lx_model.specs.Module as modules
 use Rattle.lx_answer.specs.FileRefusals.{omf_text, lx_text, def_text}
 use Rattle.lx_answer.specs.SessionRefusals.{session_text}

@@ -4,7 +4,7 @@ ghost use Rattle.std.specs.Prelude.{◌≡◌, ◌++◌, IfOk, string_bytes};
 ghost use Rattle.obj_types.specs.declared.refusal.OmfRefusal.TheVariants.{BadIndex};
 ghost use Rattle.lx_answer.specs.FileRefusals.{placed, field, omf_text, lx_kind, lx_text, def_kind, def_text};
 
-use def_file::{DefKind, DefRefusal};
+use def_model::{DefKind, DefRefusal};
 use lx_types::{LxKind, LxRefusal};
 use obj_types::OmfRefusal;
 use std::alloc::{AllocError, Global};

@@ -9,7 +9,8 @@ ghost use Rattle.tool_read.specs.Readings.{ReadsForm, ReadsLoad, SaysOf};
 
 use crate::lines::told;
 use crate::loads::opened;
-use def_file::{DefRefusal, read_def};
+use def_file::read_def;
+use def_model::DefRefusal;
 use lx_answer::Said;
 use lx_ports::LoadFault;
 use lx_types::{Bytes, Fail, Seq};

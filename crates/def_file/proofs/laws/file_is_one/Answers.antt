@@ -1,7 +1,7 @@
 use Rattle.std.proofs.Common.{◌≡◌, ◌⊎◌, Result, Ok, Err, refl, inl, inr}
 use Rattle.obj_types.specs.declared.definition.DefFile.{DefFile}
-use Rattle.def_file.specs.declared.refusal.DefRefusal.{DefRefusal}
-use Rattle.def_file.specs.Reading.{read_of}
+use Rattle.def_model.specs.declared.refusal.DefRefusal.{DefRefusal}
+use Rattle.def_model.specs.Reading.{read_of}
 use Rattle.def_file.proofs.laws.file_is_one.Goals as goal
 
 one-value : (answer : Result DefFile DefRefusal) (d e : DefFile) → answer ≡ Ok d → answer ≡ Ok e → d ≡ e

@@ -1,5 +1,5 @@
 use Rattle.std.proofs.Common.{◌≡◌, map}
-use Rattle.def_file.specs.Meaning.{segment_of}
+use Rattle.def_model.specs.Meaning.{segment_of}
 use Rattle.def_file.proofs.meaning.segments_of.Given as goal
 
 abbrev pub invariant-loop-segment : goal.invariant-loop-segment

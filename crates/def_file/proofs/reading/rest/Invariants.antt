@@ -1,7 +1,7 @@
 use Rattle.std.proofs.Common.{◌≡◌, length}
-use Rattle.def_tokens.specs.Tokens.{tokens_from, tokens_of}
-use Rattle.def_file.specs.Draft.{reading}
-use Rattle.def_file.specs.Reading.{run}
+use Rattle.def_model.specs.Tokens.{tokens_from, tokens_of}
+use Rattle.def_model.specs.Draft.{reading}
+use Rattle.def_model.specs.Reading.{run}
 use Rattle.def_file.specs.Whole.{WholeReading}
 use Rattle.def_file.proofs.reading.rest.Given as goal
 

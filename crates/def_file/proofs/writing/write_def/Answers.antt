@@ -1,5 +1,5 @@
 use Rattle.std.proofs.Common.{◌∙◌, ap}
-use Rattle.def_file.specs.Reading.{read_of}
+use Rattle.def_model.specs.Reading.{read_of}
 use Rattle.def_file.proofs.QuotableLaws.{file-fits}
 use Rattle.def_file.proofs.ReadBack.{read-back}
 use Rattle.def_file.proofs.writing.write_def.Goals as goal

@@ -1,6 +1,6 @@
 use Rattle.std.proofs.Common.{arith, ◌+◌, ◌*◌, ◌<◌, length, ap}
 use Rattle.std.proofs.lemmas.List.Sums.{fold_more}
-use Rattle.def_tokens.specs.Numbers.{digit_of}
+use Rattle.def_model.specs.Numbers.{digit_of}
 use Rattle.def_tokens.proofs.TokenLaws.{value-over}
 use Rattle.def_tokens.proofs.number.value_of.Goals as goal
 

@@ -1,5 +1,5 @@
 use Rattle.std.proofs.Common.{◌≡◌, ◌<◌, ◌^◌, take}
-use Rattle.def_tokens.specs.Numbers.{value_from}
+use Rattle.def_model.specs.Numbers.{value_from}
 use Rattle.def_tokens.proofs.number.value_of.Given as goal
 
 abbrev pub invariant-loop-digit : goal.invariant-loop-digit

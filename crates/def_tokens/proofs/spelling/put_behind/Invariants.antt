@@ -1,5 +1,5 @@
 use Rattle.std.proofs.Common.{◌≡◌, ◌++◌, map, drop}
-use Rattle.def_tokens.specs.Lexemes.{lexeme_of}
+use Rattle.def_tokens.specs.Seen.{lexeme_of}
 use Rattle.def_tokens.specs.Spelling.{text_behind}
 use Rattle.def_tokens.proofs.spelling.put_behind.Given as goal
 

@@ -1,6 +1,6 @@
 use Rattle.std.proofs.Common.{◌∙◌, ap, sym, get_or, take, drop, length, ◌-◌}
-use Rattle.def_tokens.specs.Lexemes.{lexeme_of}
-use Rattle.def_tokens.specs.Tokens.{tokens_from, blank_len}
+use Rattle.def_tokens.specs.Seen.{lexeme_of}
+use Rattle.def_model.specs.Tokens.{tokens_from, blank_len}
 use Rattle.def_tokens.proofs.TokenLaws.{tokens-next, tokens-end, first-behind}
 use Rattle.def_tokens.proofs.lexer.Lexer.next.Goals as goal
 

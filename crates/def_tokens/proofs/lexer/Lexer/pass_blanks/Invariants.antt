@@ -1,5 +1,5 @@
 use Rattle.std.proofs.Common.{◌≡◌, ◌≤◌, length}
-use Rattle.def_tokens.specs.Tokens.{tokens_from, tokens_behind}
+use Rattle.def_model.specs.Tokens.{tokens_from, tokens_behind}
 use Rattle.def_tokens.proofs.lexer.Lexer.pass_blanks.Given as goal
 
 -- The tokens of what is left are those of the beginning.

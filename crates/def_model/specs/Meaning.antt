@@ -6,11 +6,11 @@ use Rattle.obj_types.specs.Defaults.{code_attrs, data_attrs}
 use Rattle.obj_types.specs.declared.definition.SegAttrs.{SegAttrs}
 use Rattle.obj_types.specs.declared.definition.DefFile.{DefFile}
 use Rattle.obj_types.specs.declared.definition.ModKind.TheVariants as modules
-use Rattle.def_tokens.specs.Keywords.{same_letters}
-use Rattle.def_file.specs.declared.draft.SegDraft.{SegDraft}
-use Rattle.def_file.specs.declared.draft.Draft.{Draft}
-use Rattle.def_file.specs.Draft.{no_words}
-use Rattle.def_file.specs.Attributes.{attrs_with}
+use Rattle.def_model.specs.Keywords.{same_letters}
+use Rattle.def_model.specs.declared.draft.SegDraft.{SegDraft}
+use Rattle.def_model.specs.declared.draft.Draft.{Draft}
+use Rattle.def_model.specs.Draft.{no_words}
+use Rattle.def_model.specs.Attributes.{attrs_with}
 
 -- The class of a code segment ends in CODE, in any case.
 abbrev pub is_code_class : List ℕ → Bool

@@ -3,22 +3,22 @@ use Rattle.std.specs.Prelude.{◌≡◌, ℕ, List, [], ◌∷◌, Result, Ok, E
 use Rattle.lx_types.specs.declared.fail.Fail.{Fail}
 use Rattle.lx_types.specs.declared.fail.Fail.TheVariants.{Said, NoMemory}
 use Rattle.obj_types.specs.declared.definition.DefFile.{DefFile}
-use Rattle.def_tokens.specs.Lexemes.{Lexeme, is_stray}
-use Rattle.def_tokens.specs.Tokens.{Placed, tokens_of}
-use Rattle.def_file.specs.declared.refusal.DefKind.{DefKind}
-use Rattle.def_file.specs.declared.refusal.DefKind.TheVariants as kinds
-use Rattle.def_file.specs.declared.refusal.DefRefusal.{DefRefusal}
-use Rattle.def_file.specs.declared.draft.Draft.{Draft}
-use Rattle.def_file.specs.declared.draft.Place.{Place}
-use Rattle.def_file.specs.declared.draft.Place.TheVariants as place
-use Rattle.def_file.specs.declared.draft.Reading.{Reading}
+use Rattle.def_model.specs.Lexemes.{Lexeme, is_stray}
+use Rattle.def_model.specs.Tokens.{Placed, tokens_of}
+use Rattle.def_model.specs.declared.refusal.DefKind.{DefKind}
+use Rattle.def_model.specs.declared.refusal.DefKind.TheVariants as kinds
+use Rattle.def_model.specs.declared.refusal.DefRefusal.{DefRefusal}
+use Rattle.def_model.specs.declared.draft.Draft.{Draft}
+use Rattle.def_model.specs.declared.draft.Place.{Place}
+use Rattle.def_model.specs.declared.draft.Place.TheVariants as place
+use Rattle.def_model.specs.declared.draft.Reading.{Reading}
 use Rattle.lx_types.specs.Answers.{◌>>=◌}
-use Rattle.def_file.specs.Draft.{fresh}
-use Rattle.def_file.specs.Statements.{statement, program, program_name, library, library_words, description, size, base, exe_type}
-use Rattle.def_file.specs.Segments.{attributes, segments, segment, class}
-use Rattle.def_file.specs.Exports.{exports, export, internal, ordinal}
-use Rattle.def_file.specs.Imports.{imports, import_first, import_equals, import_module, import_dot}
-use Rattle.def_file.specs.Meaning.{file_of}
+use Rattle.def_model.specs.Draft.{fresh}
+use Rattle.def_model.specs.Statements.{statement, program, program_name, library, library_words, description, size, base, exe_type}
+use Rattle.def_model.specs.Segments.{attributes, segments, segment, class}
+use Rattle.def_model.specs.Exports.{exports, export, internal, ordinal}
+use Rattle.def_model.specs.Imports.{imports, import_first, import_equals, import_module, import_dot}
+use Rattle.def_model.specs.Meaning.{file_of}
 
 -- What a token says behind each place.
 unfoldable pub token_at : Draft → Place → Lexeme → Result Reading DefKind

@@ -1,20 +1,20 @@
 -- EXPORTS {name [= name] [@ number] [RESIDENTNAME] [NODATA] [number]}.
 use Rattle.std.specs.Prelude.{ℕ, List, [], ◌∷◌, ◌++◌, true, false, Option, Some, None, Result, Err, if◌then◌else◌}
 use Rattle.obj_types.specs.declared.symbol.Exp.{Exp}
-use Rattle.def_tokens.specs.declared.keyword.Keyword.{Keyword}
-use Rattle.def_tokens.specs.declared.keyword.Keyword.TheVariants as kw
-use Rattle.def_tokens.specs.Lexemes.{Lexeme, keyword_of_lexeme, is_equals, is_at}
-use Rattle.def_file.specs.declared.refusal.DefKind.{DefKind}
-use Rattle.def_file.specs.declared.refusal.DefKind.TheVariants as kinds
-use Rattle.def_file.specs.declared.draft.Draft.{Draft}
-use Rattle.def_file.specs.declared.draft.Place.TheVariants as place
-use Rattle.def_file.specs.declared.draft.Part.{Part}
-use Rattle.def_file.specs.declared.draft.Part.TheVariants as parts
-use Rattle.def_file.specs.declared.draft.Reading.{Reading}
+use Rattle.def_model.specs.declared.keyword.Keyword.{Keyword}
+use Rattle.def_model.specs.declared.keyword.Keyword.TheVariants as kw
+use Rattle.def_model.specs.Lexemes.{Lexeme, keyword_of_lexeme, is_equals, is_at}
+use Rattle.def_model.specs.declared.refusal.DefKind.{DefKind}
+use Rattle.def_model.specs.declared.refusal.DefKind.TheVariants as kinds
+use Rattle.def_model.specs.declared.draft.Draft.{Draft}
+use Rattle.def_model.specs.declared.draft.Place.TheVariants as place
+use Rattle.def_model.specs.declared.draft.Part.{Part}
+use Rattle.def_model.specs.declared.draft.Part.TheVariants as parts
+use Rattle.def_model.specs.declared.draft.Reading.{Reading}
 use Rattle.lx_types.specs.Answers.{◌>>=◌}
-use Rattle.def_file.specs.Draft.{at}
-use Rattle.def_file.specs.Tokens.{with_name, with_number, within}
-use Rattle.def_file.specs.Statements.{statement}
+use Rattle.def_model.specs.Draft.{at}
+use Rattle.def_model.specs.TokenMeaning.{with_name, with_number, within}
+use Rattle.def_model.specs.Statements.{statement}
 
 -- An item that has its name alone, by which it is known within the module too.
 abbrev pub export_of : List ℕ → Exp

@@ -1,11 +1,11 @@
 -- The words of attributes.
 use Rattle.std.specs.Prelude.{Bool, true, false, ◌||◌, Option, Some, None, is_some, unwrap_or, Result, Ok, Err}
 use Rattle.obj_types.specs.declared.definition.Attrs.{Attrs}
-use Rattle.def_tokens.specs.declared.keyword.Pair.{Pair}
-use Rattle.def_tokens.specs.declared.keyword.Pair.TheVariants as pairs
-use Rattle.def_file.specs.declared.refusal.DefKind.{DefKind}
-use Rattle.def_file.specs.declared.refusal.DefKind.TheVariants as kinds
-use Rattle.def_file.specs.declared.draft.Words.{Words}
+use Rattle.def_model.specs.declared.keyword.Pair.{Pair}
+use Rattle.def_model.specs.declared.keyword.Pair.TheVariants as pairs
+use Rattle.def_model.specs.declared.refusal.DefKind.{DefKind}
+use Rattle.def_model.specs.declared.refusal.DefKind.TheVariants as kinds
+use Rattle.def_model.specs.declared.draft.Words.{Words}
 use Rattle.lx_types.specs.Answers.{◌>>=◌}
 
 -- A word may be repeated, and the other word of its pair may not stand beside it.

@@ -3,22 +3,22 @@ use Rattle.std.specs.Prelude.{ℕ, Bool, false, Option, Some, None, is_some, Res
 use Rattle.std.specs.Option.{option_map_or}
 use Rattle.obj_types.specs.declared.limits.TheConstants.{MAX_DATA}
 use Rattle.obj_types.specs.declared.definition.ModKind.TheVariants as modules
-use Rattle.def_tokens.specs.declared.keyword.Keyword.{Keyword}
-use Rattle.def_tokens.specs.declared.keyword.Keyword.TheVariants as kw
-use Rattle.def_tokens.specs.Lexemes.{Lexeme, keyword_of_lexeme, is_ending, is_equals}
-use Rattle.def_file.specs.declared.refusal.DefKind.{DefKind}
-use Rattle.def_file.specs.declared.refusal.DefKind.TheVariants as kinds
-use Rattle.def_file.specs.declared.draft.Draft.{Draft}
-use Rattle.def_file.specs.declared.draft.Place.{Place}
-use Rattle.def_file.specs.declared.draft.Place.TheVariants as place
-use Rattle.def_file.specs.declared.draft.Owner.TheVariants as owners
-use Rattle.def_file.specs.declared.draft.Size.{Size}
-use Rattle.def_file.specs.declared.draft.Size.TheVariants as sizes
-use Rattle.def_file.specs.declared.draft.Reading.{Reading}
+use Rattle.def_model.specs.declared.keyword.Keyword.{Keyword}
+use Rattle.def_model.specs.declared.keyword.Keyword.TheVariants as kw
+use Rattle.def_model.specs.Lexemes.{Lexeme, keyword_of_lexeme, is_ending, is_equals}
+use Rattle.def_model.specs.declared.refusal.DefKind.{DefKind}
+use Rattle.def_model.specs.declared.refusal.DefKind.TheVariants as kinds
+use Rattle.def_model.specs.declared.draft.Draft.{Draft}
+use Rattle.def_model.specs.declared.draft.Place.{Place}
+use Rattle.def_model.specs.declared.draft.Place.TheVariants as place
+use Rattle.def_model.specs.declared.draft.Owner.TheVariants as owners
+use Rattle.def_model.specs.declared.draft.Size.{Size}
+use Rattle.def_model.specs.declared.draft.Size.TheVariants as sizes
+use Rattle.def_model.specs.declared.draft.Reading.{Reading}
 use Rattle.lx_types.specs.Answers.{◌>>=◌}
-use Rattle.def_file.specs.Draft.{at, no_words}
-use Rattle.def_file.specs.Tokens.{with_name, with_text, with_number, within, base_of}
-use Rattle.def_file.specs.Attributes.{agreed}
+use Rattle.def_model.specs.Draft.{at, no_words}
+use Rattle.def_model.specs.TokenMeaning.{with_name, with_text, with_number, within, base_of}
+use Rattle.def_model.specs.Attributes.{agreed}
 
 -- ---- where a statement is expected
 

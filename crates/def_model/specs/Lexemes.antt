@@ -1,8 +1,6 @@
 -- A token as its bytes give it.
 use Rattle.std.specs.Prelude.{ℕ, Bool, true, false, List, Option, Some, None}
-use Rattle.def_tokens.specs.declared.keyword.Keyword.{Keyword}
-use Rattle.def_tokens.specs.declared.token.Token.{Token}
-use Rattle.def_tokens.specs.declared.token.Token.TheVariants as tokens
+use Rattle.def_model.specs.declared.keyword.Keyword.{Keyword}
 
 -- A number of 2^32 or more has no value. Bytes that are no token are a stray.
 pub data Lexeme : Type 0 where
@@ -15,18 +13,6 @@ pub data Lexeme : Type 0 where
   keyword : Keyword → Lexeme
   stray : Lexeme
   ending : Lexeme
-
--- A token of the program, without where it lies in memory.
-abbrev pub lexeme_of : Token → Lexeme
-lexeme_of (tokens.Number value) = number value
-lexeme_of tokens.Equals = equals
-lexeme_of tokens.At = at
-lexeme_of tokens.Dot = dot
-lexeme_of (tokens.Text bytes) = text bytes.now
-lexeme_of (tokens.Word bytes) = word bytes.now
-lexeme_of (tokens.Keyword k) = keyword k
-lexeme_of tokens.Stray = stray
-lexeme_of tokens.End = ending
 
 -- ---- what a token is
 

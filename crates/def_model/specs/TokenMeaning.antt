@@ -1,9 +1,9 @@
 -- What a token may stand for: a name, a text, a number in a range.
 use Rattle.std.specs.Prelude.{ℕ, ◌%◌, ◌&&◌, ◌==◌, nat_lt, nat_le, List, length, Option, Some, None, Result, Ok, Err, if◌then◌else◌}
 use Rattle.std.specs.Option.{option_map_or}
-use Rattle.def_tokens.specs.Lexemes.{Lexeme, name_of_lexeme, text_of_lexeme, number_of_lexeme}
-use Rattle.def_file.specs.declared.refusal.DefKind.{DefKind}
-use Rattle.def_file.specs.declared.refusal.DefKind.TheVariants as kinds
+use Rattle.def_model.specs.Lexemes.{Lexeme, name_of_lexeme, text_of_lexeme, number_of_lexeme}
+use Rattle.def_model.specs.declared.refusal.DefKind.{DefKind}
+use Rattle.def_model.specs.declared.refusal.DefKind.TheVariants as kinds
 use Rattle.lx_types.specs.Answers.{◌>>=◌}
 
 -- A text has at most 255 bytes.

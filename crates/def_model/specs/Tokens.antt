@@ -3,18 +3,14 @@ use Rattle.std.specs.Prelude.{ℕ, zero, suc, ◌+◌, ◌-◌, Bool, not, ◌&&
 use Rattle.std.specs.List.{prefix_len}
 use Rattle.std.specs.Char.{is_ascii_alphanumeric, is_ascii_digit}
 use Rattle.std.specs.Option.{option_map_or}
-use Rattle.def_tokens.specs.declared.token.TokenAt.{TokenAt}
-use Rattle.def_tokens.specs.Keywords.{keyword_of}
-use Rattle.def_tokens.specs.Numbers.{number_of}
-use Rattle.def_tokens.specs.Lexemes.{Lexeme, lexeme_of, number, equals, at, dot, text, word, keyword, stray, ending, is_ending}
+use Rattle.def_model.specs.Keywords.{keyword_of}
+use Rattle.def_model.specs.Numbers.{number_of}
+use Rattle.def_model.specs.Lexemes.{Lexeme, number, equals, at, dot, text, word, keyword, stray, ending, is_ending}
 
 -- A token and the line that it begins in.
 pub record Placed : Type 0 where
   pub line : ℕ
   pub lexeme : Lexeme
-
-abbrev pub placed_of : TokenAt → Placed
-placed_of t = record { line = t.line; lexeme = lexeme_of t.token }
 
 -- ---- one token
 

@@ -3,16 +3,16 @@ use Rattle.std.specs.Prelude.{ℕ, List, [], ◌∷◌, ◌++◌, Option, Some, 
 use Rattle.std.specs.Option.{option_map_or}
 use Rattle.lx_types.specs.declared.entry.EntryKey.TheVariants.{Ordinal, Named}
 use Rattle.obj_types.specs.declared.symbol.Imp.{Imp}
-use Rattle.def_tokens.specs.Lexemes.{Lexeme, is_equals, is_dot, name_of_lexeme}
-use Rattle.def_file.specs.declared.refusal.DefKind.{DefKind}
-use Rattle.def_file.specs.declared.refusal.DefKind.TheVariants as kinds
-use Rattle.def_file.specs.declared.draft.Draft.{Draft}
-use Rattle.def_file.specs.declared.draft.Place.TheVariants as place
-use Rattle.def_file.specs.declared.draft.Reading.{Reading}
+use Rattle.def_model.specs.Lexemes.{Lexeme, is_equals, is_dot, name_of_lexeme}
+use Rattle.def_model.specs.declared.refusal.DefKind.{DefKind}
+use Rattle.def_model.specs.declared.refusal.DefKind.TheVariants as kinds
+use Rattle.def_model.specs.declared.draft.Draft.{Draft}
+use Rattle.def_model.specs.declared.draft.Place.TheVariants as place
+use Rattle.def_model.specs.declared.draft.Reading.{Reading}
 use Rattle.lx_types.specs.Answers.{◌>>=◌}
-use Rattle.def_file.specs.Draft.{at}
-use Rattle.def_file.specs.Tokens.{name_of, with_name, with_number, within}
-use Rattle.def_file.specs.Statements.{statement}
+use Rattle.def_model.specs.Draft.{at}
+use Rattle.def_model.specs.TokenMeaning.{name_of, with_name, with_number, within}
+use Rattle.def_model.specs.Statements.{statement}
 
 abbrev pub with_import : Draft → Imp → Draft
 with_import d item = record d { imports = d.imports ++ item ∷ [] }

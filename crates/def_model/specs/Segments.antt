@@ -1,20 +1,20 @@
 -- CODE {attribute}, DATA {attribute}, SEGMENTS {name [CLASS text] {attribute}}.
 use Rattle.std.specs.Prelude.{ℕ, List, [], ◌∷◌, ◌++◌, Option, Some, None, Result}
-use Rattle.def_tokens.specs.declared.keyword.Keyword.{Keyword}
-use Rattle.def_tokens.specs.declared.keyword.Keyword.TheVariants as kw
-use Rattle.def_tokens.specs.Lexemes.{Lexeme, keyword_of_lexeme}
-use Rattle.def_file.specs.declared.refusal.DefKind.{DefKind}
-use Rattle.def_file.specs.declared.draft.Words.{Words}
-use Rattle.def_file.specs.declared.draft.Draft.{Draft}
-use Rattle.def_file.specs.declared.draft.Place.TheVariants as place
-use Rattle.def_file.specs.declared.draft.Owner.{Owner}
-use Rattle.def_file.specs.declared.draft.Owner.TheVariants as owners
-use Rattle.def_file.specs.declared.draft.Reading.{Reading}
+use Rattle.def_model.specs.declared.keyword.Keyword.{Keyword}
+use Rattle.def_model.specs.declared.keyword.Keyword.TheVariants as kw
+use Rattle.def_model.specs.Lexemes.{Lexeme, keyword_of_lexeme}
+use Rattle.def_model.specs.declared.refusal.DefKind.{DefKind}
+use Rattle.def_model.specs.declared.draft.Words.{Words}
+use Rattle.def_model.specs.declared.draft.Draft.{Draft}
+use Rattle.def_model.specs.declared.draft.Place.TheVariants as place
+use Rattle.def_model.specs.declared.draft.Owner.{Owner}
+use Rattle.def_model.specs.declared.draft.Owner.TheVariants as owners
+use Rattle.def_model.specs.declared.draft.Reading.{Reading}
 use Rattle.lx_types.specs.Answers.{◌>>=◌}
-use Rattle.def_file.specs.Draft.{at, no_words}
-use Rattle.def_file.specs.Tokens.{with_name, with_text}
-use Rattle.def_file.specs.Attributes.{with_word}
-use Rattle.def_file.specs.Statements.{statement}
+use Rattle.def_model.specs.Draft.{at, no_words}
+use Rattle.def_model.specs.TokenMeaning.{with_name, with_text}
+use Rattle.def_model.specs.Attributes.{with_word}
+use Rattle.def_model.specs.Statements.{statement}
 
 -- Another item of SEGMENTS, or the next statement.
 unfoldable pub segments : Draft → Lexeme → Result Reading DefKind

@@ -1,0 +1,13 @@
+pub mod Keywords
+pub mod Numbers
+pub mod Lexemes
+pub mod Tokens
+pub mod Draft
+pub mod TokenMeaning
+pub mod Attributes
+pub mod Statements
+pub mod Segments
+pub mod Exports
+pub mod Imports
+pub mod Meaning
+pub mod Reading
