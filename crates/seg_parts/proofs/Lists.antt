@@ -1,16 +1,10 @@
 -- Lists that grow by one item.
-use Rattle.std.specs.Prelude.{◌≡◌, ℕ, zero, suc, drop, ◌+◌, ◌<◌, ◌≤◌, Bool, true, false, cond, not, map, filter, ◌||◌, Option, Some, None, Result, Ok, Err, IfOk, List, [], ◌∷◌, ◌++◌, length, take, refl}
+use Rattle.std.specs.Prelude.{◌≡◌, ℕ, zero, suc, drop, ◌+◌, ◌<◌, ◌≤◌, Bool, true, false, cond, map, filter, ◌||◌, Option, Some, None, Result, Ok, Err, IfOk, List, [], ◌∷◌, ◌++◌, length, take, refl}
 use Rattle.std.specs.List.{enumerate_from, list_any, find, flat_map, filter_map, cons_option}
-use Rattle.std.specs.Borrow.{Bor}
-use Rattle.obj_types.specs.declared.object.ObjModule.{ObjModule}
-use Rattle.obj_types.specs.declared.input.LinkInput.{LinkInput}
-use Rattle.link_model.specs.Link.{of_modules}
-use Rattle.link_model.specs.Appearance.{firsts}
-use Rattle.sym_table.specs.Links.{link_with}
 use Rattle.std.specs.Option.{option_map}
 use Rattle.std.proofs.Common.{ap, sym, ◌∙◌, arith, append_assoc}
 use Rattle.std.proofs.Math.ListN.{get_or}
-use Rattle.std.proofs.lemmas.List.{take_more, map-append, append-nil, take-append-drop, length-map}
+use Rattle.std.proofs.lemmas.List.{take_more, map-append, append-nil, take-append-drop}
 use Rattle.std.proofs.lemmas.List.Elements.{filter-append, filter_map-append}
 use Rattle.std.proofs.lemmas.List.{length-take-le}
 

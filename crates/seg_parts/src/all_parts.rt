@@ -2,7 +2,7 @@
 
 ghost use Rattle.std.specs.Prelude.{◌≡◌, not, map, IfOk};
 ghost use Rattle.std.specs.List.{list_any};
-ghost use Rattle.link_model.specs.Communals.{parts, near_wide, far_wide};
+ghost use Rattle.link_model.specs.Communals.{parts};
 ghost use Rattle.link_model.specs.Groups as groups;
 ghost use Rattle.link_model.specs.Parts as rules;
 ghost use Rattle.link_model.specs.Symbols as symbols;
@@ -14,7 +14,7 @@ ghost use Rattle.seg_parts.specs.FixedNames.{AreFixed};
 ghost use Rattle.seg_parts.specs.Members.{is_member, all_memberships};
 ghost use Rattle.seg_parts.specs.Parts.{shown};
 
-use crate::communals::{Widths, add_communals, widths_of};
+use crate::communals::{add_communals, widths_of};
 use crate::groups::group_names_of;
 use crate::logical_segments::SegmentName;
 use crate::members::{add_near, dgroup_of, members_of};
@@ -49,25 +49,6 @@ fn dgroup_in<'a>(
     dgroup_of(alloc, members.as_slice())
 }
 
-fn widths_in(
-    alloc: Global,
-    input: &LinkInput,
-    modules: &[&ObjModule],
-    fixed: &FixedNames,
-    commons: &[(Name, Common)],
-    contributions: &[Part<'_>],
-) -> Result<Widths, NoMemory>
-    requires fixed { AreFixed fixed.now }
-    requires commons { commons.now ≡ symbols.commons (link_with input.now modules.now) }
-    requires contributions { map shown contributions.now ≡ rules.contributions (link_with input.now modules.now) }
-    ensures near { IfOk result (λ w. w.near ≡ near_wide (link_with input.now modules.now)) }
-    ensures far { IfOk result (λ w. w.far ≡ far_wide (link_with input.now modules.now)) }
-{
-    let near = has_near(commons);
-    let dgroup = dgroup_in(alloc, input, modules, fixed, near)?;
-    Ok(widths_of(contributions, &dgroup, fixed, near))
-}
-
 /// The parts of a link of these modules whose communals are these, in order.
 pub fn parts_of<'a>(
     alloc: Global,
@@ -80,8 +61,11 @@ pub fn parts_of<'a>(
     requires commons { commons.now ≡ symbols.commons (link_with input.now modules.now) }
     ensures { IfOk result (λ found. map shown found.items ≡ parts (link_with input.entry.now modules.entry.now)) }
 {
+    let near = has_near(commons);
+    let dgroup = dgroup_in(alloc, input, modules, fixed, near)?;
     let mut found = contributions_of(alloc, input, modules)?;
-    let widths = widths_in(alloc, input, modules, fixed, commons, found.as_slice())?;
+    let widths = widths_of(found.as_slice(), &dgroup, fixed, near);
+    drop(dgroup);
     add_communals(&mut found, commons, fixed, widths)?;
     Ok(found)
 }
