@@ -5,7 +5,6 @@ pub mod OriginsOfParts
 pub mod AgreeingParts
 pub mod SplitMarks
 pub mod HeadsStand
-pub mod PartOffsets
 pub mod PartsBySegment
 pub mod NumbersOfObjects
 pub mod Gets

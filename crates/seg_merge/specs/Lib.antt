@@ -3,7 +3,6 @@ pub mod Uses
 pub mod Origins
 pub mod Agreeing
 pub mod Splits
-pub mod Offsets
 pub mod ObjectNumbers
 pub mod Places
 pub mod Layout

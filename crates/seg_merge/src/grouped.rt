@@ -4,20 +4,21 @@ ghost use Rattle.std.specs.Prelude.{◌≡◌, None, Some, [], ◌∷◌, map};
 ghost use Rattle.lx_types.specs.Answers.{Answers};
 ghost use Rattle.link_model.specs.LayoutRefusals.{absolute, use_mixed, group_split};
 ghost use Rattle.link_model.specs.Words.{first_of};
-ghost use Rattle.link_model.specs.Communals as rules;
+ghost use Rattle.link_model.specs.Link.{Link};
 ghost use Rattle.link_model.specs.Symbols as symbols;
 ghost use Rattle.sym_table.specs.Links.{link_with};
 ghost use Rattle.seg_parts.specs.FixedNames.{AreFixed};
+ghost use Rattle.seg_parts.specs.Members.{member_shown};
 ghost use Rattle.seg_parts.specs.Parts.{shown};
 ghost use Rattle.seg_merge.specs.Grouped.{AreGrouped};
+ghost use Rattle.seg_merge.specs.Refused.{AreOf};
 
-use crate::memberships::memberships_of;
+use crate::memberships::{LinkGroups, link_groups};
 use crate::refused::check_segments;
 use link_model::{LayRefusal, Name};
-use obj_types::{Common, Fail, LinkInput, ObjModule};
+use obj_types::{Common, DefFile, Fail, LinkInput, ObjModule};
 use seg_parts::{
-    FixedNames, GroupNames, LogicalSegments, Member, Part, check_absolute, group_names_of,
-    parts_of, segments_of,
+    FixedNames, GroupNames, LogicalSegments, Member, Part, check_absolute, parts_of, segments_of,
 };
 use std::alloc::Global;
 
@@ -29,26 +30,21 @@ pub struct Grouped<'a> {
     pub members: Vec<Member<'a>>,
 }
 
-// The logical segments and the groups of a link of these parts.
+// The logical segments and the groups of a link of these parts, where these are its groups.
 fn group_parts<'a>(
     alloc: Global,
-    input: &'a LinkInput,
-    modules: &[&'a ObjModule],
-    fixed: &'a FixedNames,
-    commons: &[(Name, Common)],
+    def: &DefFile,
+    groups: LinkGroups<'a>,
     parts: Vec<Part<'a>>,
 ) -> Result<Grouped<'a>, Fail<LayRefusal>>
-    requires fixed { AreFixed fixed.now }
-    requires commons { commons.now ≡ symbols.commons (link_with input.now modules.now) }
-    requires parts { map shown parts.items ≡ rules.parts (link_with input.now modules.now) }
-    ensures { let l = link_with input.entry.now modules.entry.now in Answers result
+    requires { (l : Link) × AreOf l def.now (map shown parts.items) groups.names (map member_shown groups.members.items) }
+    ensures { (l : Link) → AreOf l def.entry.now (map shown parts.entry.items) groups.entry.names (map member_shown groups.entry.members.items) → Answers result
         (λ g. (use_mixed l ≡ None) × (group_split l ≡ None) × AreGrouped l g)
         (λ refusal. first_of (use_mixed l ∷ group_split l ∷ []) ≡ Some refusal) }
 {
-    let names = group_names_of(alloc, input, modules)?;
-    let members = memberships_of(alloc, input, modules, &names, fixed, commons)?;
+    let LinkGroups { names, members } = groups;
     let segments = segments_of(alloc, parts)?;
-    match check_segments(alloc, &input.def, &segments, &names, members.as_slice()) {
+    match check_segments(alloc, def, &segments, &names, members.as_slice()) {
         Err(fail) => Err(fail),
         Ok(()) => Ok(Grouped {
             segments,
@@ -76,6 +72,9 @@ pub fn grouped_of<'a>(
     let parts = parts_of(alloc, input, modules, fixed, commons)?;
     match check_absolute(alloc, parts.as_slice()) {
         Err(fail) => Err(fail),
-        Ok(()) => group_parts(alloc, input, modules, fixed, commons, parts),
+        Ok(()) => {
+            let groups = link_groups(alloc, input, modules, fixed, commons)?;
+            group_parts(alloc, &input.def, groups, parts)
+        }
     }
 }

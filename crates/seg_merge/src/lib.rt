@@ -11,7 +11,6 @@ mod membership;
 mod memberships;
 mod object_names;
 mod objects;
-mod offsets;
 mod ordered;
 mod own_stack;
 mod places;
@@ -30,7 +29,6 @@ pub use laws::{
 };
 pub use layout::{Layout, lay_out};
 pub use membership::membership_of;
-pub use offsets::offsets_of;
 pub use places::Places;
 pub use placing::places_of;
 pub use segment_parts::parts_of_segments;

@@ -10,10 +10,9 @@ ghost use Rattle.seg_parts.specs.Parts.{shown};
 ghost use Rattle.seg_merge.specs.Placing.{ArePlacesOf};
 ghost use Rattle.seg_merge.specs.Standing.{RowsStand};
 
-use crate::offsets::part_start;
 use link_model::NoMemory;
 use obj_types::COMBINE_COMMON;
-use seg_parts::{LogicalSegments, Part, Placed};
+use seg_parts::{LogicalSegments, Part, Placed, alignment_of, next_multiple};
 use std::alloc::Global;
 
 fn starts_of(alloc: Global, rows: &[Placed<'_>]) -> Result<Vec<u32>, NoMemory>
@@ -30,6 +29,14 @@ fn is_common(part: &Part<'_>) -> bool
     ensures { result ≡ is_common (shown part.now) }
 {
     part.combine == COMBINE_COMMON
+}
+
+// The least offset from `at` on that the part's alignment divides ("98h SEGDEF", alignment).
+fn part_start(at: u32, part: &Part<'_>) -> u32
+    requires { aligned at (shown part.now) ≤ MAX_MEMORY }
+    ensures { result ≡ aligned at (shown part.now) }
+{
+    next_multiple(at, alignment_of(part.align)) as u32
 }
 
 // The offset of the next part of a logical segment whose parts so far end at `end`. Common parts share its start.
