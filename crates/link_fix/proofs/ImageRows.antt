@@ -17,3 +17,14 @@ filled held xs ys len is long kept rest =
       | inl below ↦ kept k h below ∙ ap (λ (zs : List ℕ). get_or zs k 0) is ∙ get_or-take (min (length held) len) held k 0 (omega (arith, n, below))
       | inr past ↦ rest k past h ∙ sym (get_or_past held k 0 (omega (arith, n, past, h)))
     ])
+
+-- The same of a row whose bytes stay where they are.
+pub of_len :
+    (row ys : List ℕ) (len : ℕ) → length ys ≡ len → ((k : ℕ) → k < len → k < length row → get_or ys k 0 ≡ get_or row k 0)
+    → ((k : ℕ) → length row ≤ k → k < len → get_or ys k 0 ≡ 0) → ys ≡ map (slice_index row) (range_with_len 0 len)
+of_len row ys len long kept rest =
+    fill_by_all (slice_index row) ys len 0 long
+    (λ k h. elim (cases_lt k (length row)) as (λ s. get_or ys k 0 ≡ get_or row k 0) [
+      | inl below ↦ kept k h below
+      | inr past ↦ rest k past h ∙ sym (get_or_past row k 0 past)
+    ])

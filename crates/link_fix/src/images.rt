@@ -1,11 +1,12 @@
 //! Numbered rows of bytes that are painted run after run: the segments of a module, or the objects of a link.
 
-ghost use Rattle.std.specs.Prelude.{◌≡◌, ◌+◌, ◌≤◌, ◌<◌, ℕ, OnOk, IfOk, length, slice_index, map};
+ghost use Rattle.std.specs.Prelude.{◌≡◌, ◌+◌, ◌≤◌, ◌<◌, ◌==◌, [], ℕ, OnOk, IfOk, length, slice_index, map, if◌then◌else◌};
 ghost use Rattle.std.specs.List.{range_with_len};
 ghost use Rattle.link_fix.specs.Images.{byte_of, byte_after, painted};
 
 use lx_types::NoMemory;
 use std::alloc::Global;
+use std::mem::replace;
 
 /// Rows of bytes by number. A row is as long as it takes; where nothing was painted there are zeros.
 #[derive(Drop)]
@@ -93,6 +94,15 @@ impl Images {
         }
     }
 
+    /// Makes room for this many bytes more of a row, which take no other memory then. No byte changes.
+    pub fn reserve(&mut self, alloc: Global, number: usize, len: usize) -> Result<(), NoMemory>
+        ensures { OnOk result ((n : ℕ) (x : ℕ) → byte_of self.new n x ≡ byte_of self.old n x) }
+    {
+        self.add_rows(alloc, number)?;
+        self.rows[number].reserve_exact(len)?;
+        Ok(())
+    }
+
     /// The first bytes of a row, as many as `len`.
     pub fn row(&self, alloc: Global, number: usize, len: usize) -> Result<Vec<u8>, NoMemory>
         ensures { IfOk result (λ bytes. bytes.items ≡ map (byte_of self.now number) (range_with_len 0 len)) }
@@ -103,6 +113,30 @@ impl Images {
         };
         first_bytes(alloc, held, len)
     }
+
+    /// Takes the first bytes of a row out, as many as `len`, in the memory that they have. Nothing is left in the row.
+    pub fn take_row(
+        &mut self,
+        alloc: Global,
+        number: usize,
+        len: usize,
+    ) -> Result<Vec<u8>, NoMemory>
+        ensures bytes { IfOk result (λ bytes. bytes.items ≡ map (byte_of self.old number) (range_with_len 0 len)) }
+        ensures left { OnOk result ((n : ℕ) (x : ℕ) → byte_of self.new n x ≡ (if number == n then 0 else byte_of self.old n x)) }
+    {
+        self.add_rows(alloc, number)?;
+        take_bytes(alloc, &mut self.rows[number], len)
+    }
+}
+
+// Takes the first bytes of a row out, with zeros behind its end, and leaves none.
+fn take_bytes(alloc: Global, row: &mut Vec<u8>, len: usize) -> Result<Vec<u8>, NoMemory>
+    ensures bytes { IfOk result (λ bytes. bytes.items ≡ map (slice_index row.old.items) (range_with_len 0 len)) }
+    ensures left { row.new.items ≡ [] }
+{
+    let mut bytes = replace(row, Vec::new(alloc));
+    bytes.resize(len, 0)?;
+    Ok(bytes)
 }
 
 // The first bytes of a list, and zeros behind its end.

@@ -61,9 +61,9 @@ fn bytes_of(
     requires { All IsAccepted live.now }
     ensures { IfOk result (λ bytes. (l : Link) → bytes ≡ bytes_with l (map shown live.now) (map piece_shown pieces.now) objects.now) }
 {
-    let mut rows = placed_data(alloc, pieces)?;
+    let mut rows = placed_data(alloc, pieces, objects)?;
     paint_fields(alloc, &mut rows, live)?;
-    let bytes = object_rows(alloc, &rows, objects)?;
+    let bytes = object_rows(alloc, rows, objects)?;
     Ok(bytes)
 }
 

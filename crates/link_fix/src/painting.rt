@@ -27,11 +27,26 @@ pub struct PlacedPiece<'a> {
     pub bytes: &'a [u8],
 }
 
-/// The data of these pieces, as rows by object; a later piece covers an earlier one.
-pub fn placed_data(alloc: Global, pieces: &[PlacedPiece]) -> Result<Images, NoMemory>
-    ensures { IfOk result (λ rows. (n : ℕ) (x : ℕ) → byte_of rows n x ≡ of_placed (map piece_shown pieces.now) n x) }
+// Rows by object in which no byte stands, each with room for as many as its object's size.
+fn empty_rows(alloc: Global, objects: &[LaidObject]) -> Result<Images, NoMemory>
+    ensures { IfOk result (λ rows. (n : ℕ) (x : ℕ) → byte_of rows n x ≡ 0) }
 {
     let mut rows = Images::new(alloc);
+    for (index, object) in objects.iter().enumerate() {
+        rows.reserve(alloc, index + 1, object.size as usize)?;
+    }
+    Ok(rows)
+}
+
+/// The data of these pieces, as rows by object with room for the objects' sizes; a later piece covers an earlier one.
+pub fn placed_data(
+    alloc: Global,
+    pieces: &[PlacedPiece],
+    objects: &[LaidObject],
+) -> Result<Images, NoMemory>
+    ensures { IfOk result (λ rows. (n : ℕ) (x : ℕ) → byte_of rows n x ≡ of_placed (map piece_shown pieces.now) n x) }
+{
+    let mut rows = empty_rows(alloc, objects)?;
     for piece in pieces {
         rows.paint(alloc, piece.object, piece.offset, piece.bytes)?;
     }
@@ -65,19 +80,20 @@ pub fn paint_fields(alloc: Global, rows: &mut Images, live: &[Fixup]) -> Result<
     Ok(())
 }
 
-/// The bytes of each object, as many as its size.
+/// The bytes of each object, as many as its size, in the memory of their row.
 pub fn object_rows(
     alloc: Global,
-    rows: &Images,
+    rows: Images,
     objects: &[LaidObject],
 ) -> Result<Seq<Bytes>, NoMemory>
-    ensures { IfOk result (λ all. all ≡ map (λ q. map (byte_of rows.now q.0) (range_with_len 0 q.1.size)) (enumerate_from 1 objects.now)) }
+    ensures { IfOk result (λ all. all ≡ map (λ q. map (byte_of rows q.0) (range_with_len 0 q.1.size)) (enumerate_from 1 objects.now)) }
 {
+    let mut left = rows;
     let mut all = Seq::new(alloc);
     let mut number = 0;
     for object in objects {
         number += 1;
-        let bytes = rows.row(alloc, number, object.size as usize)?;
+        let bytes = left.take_row(alloc, number, object.size as usize)?;
         all.push(Seq::from_vec(bytes))?;
     }
     Ok(all)
