@@ -45,28 +45,28 @@ filter_map-same {X} {Y} f g (x ∷ xs) same =
 abbrev pub Accepts : rules.Fixup → Type 0
 Accepts r = (rules.fix_refusal r ≡ None) × (0 < location_len r.fix.loc)
 
-all_unmapped : (P : rules.Fixup → Type 0) (qs : List Fixup) → All P (map shown qs) → All (λ q. P (shown q)) qs
-all_unmapped P [] all = All-nil (λ q. P (shown q))
-all_unmapped P (q ∷ qs) all =
-    All-cons (λ q. P (shown q)) q qs (All-head P (shown q) (map shown qs) all) (all_unmapped P qs (All-tail P (shown q) (map shown qs) all))
+pub all-unmapped : {X Y : Type 0} (f : X → Y) (P : Y → Type 0) (xs : List X) → All P (map f xs) → All (λ x. P (f x)) xs
+all-unmapped f P [] all = All-nil (λ x. P (f x))
+all-unmapped f P (x ∷ xs) all =
+    All-cons (λ x. P (f x)) x xs (All-head P (f x) (map f xs) all) (all-unmapped f P xs (All-tail P (f x) (map f xs) all))
 
-all_live : (P : rules.Fixup → Type 0) (qs : List rules.Fixup) → All P qs → All P (live qs)
-all_live P [] all = All-nil P
-all_live P (q ∷ qs) all = all_live_by P q qs (list_any (overlap q) qs) (All-head P q qs all) (all_live P qs (All-tail P q qs all))
+pub all-live : (P : rules.Fixup → Type 0) (qs : List rules.Fixup) → All P qs → All P (live qs)
+all-live P [] all = All-nil P
+all-live P (q ∷ qs) all = all_live_by P q qs (list_any (overlap q) qs) (All-head P q qs all) (all-live P qs (All-tail P q qs all))
   where
     all_live_by : (P : rules.Fixup → Type 0) (q : rules.Fixup) (qs : List rules.Fixup) (b : Bool) → P q → All P (live qs) → All P (cond b (live qs) (q ∷ live qs))
     all_live_by P q qs true here rest = rest
     all_live_by P q qs false here rest = All-cons P q (live qs) here rest
 
-accepts : (qs : List Fixup) → All IsAccepted qs → All Accepts (map shown qs)
+pub accepts : (qs : List Fixup) → All IsAccepted qs → All Accepts (map shown qs)
 accepts qs all = All-map Accepts shown qs (All-weaker IsAccepted (λ q. Accepts (shown q)) (λ q a. (a.accepted, a.location)) qs all)
 
 pub accepted : (qs : List Fixup) → All Accepts (map shown qs) → All IsAccepted qs
-accepted qs all = All-weaker (λ q. Accepts (shown q)) IsAccepted (λ q a. record { accepted = a.0; location = a.1 }) qs (all_unmapped Accepts qs all)
+accepted qs all = All-weaker (λ q. Accepts (shown q)) IsAccepted (λ q a. record { accepted = a.0; location = a.1 }) qs (all-unmapped shown Accepts qs all)
 
 pub live-accepted : (qs kept : List Fixup) → All IsAccepted qs → map shown kept ≡ live (map shown qs) → All IsAccepted kept
 live-accepted qs kept all is =
-    accepted kept (subst (λ (rs : List rules.Fixup). All Accepts rs) (sym is) (all_live Accepts (map shown qs) (accepts qs all)))
+    accepted kept (subst (λ (rs : List rules.Fixup). All Accepts rs) (sym is) (all-live Accepts (map shown qs) (accepts qs all)))
 
 pub filtered-accepted : (test : rules.Fixup → Bool) (qs kept : List Fixup) → All IsAccepted qs → map shown kept ≡ filter test (map shown qs) → All IsAccepted kept
 filtered-accepted test qs kept all is =

@@ -23,8 +23,8 @@ use Rattle.link_fix.specs.Values.{IsAccepted}
 use Rattle.link_fix.specs.Tables.{ArePairs, pairs_among}
 use Rattle.link_fix.specs.Paging.{records_among, fixes_of}
 use Rattle.link_fix.specs.Placed.{AreOfLink, ArePages, bytes_with}
-use Rattle.link_fix.proofs.LinkPages.{live-accepted, filtered-accepted, accepted-bytes, bytes-are, pairs-are, records-are, recorded-are}
-use Rattle.link_fix.proofs.BareFixups.{live-bare, recorded-bare, bytes-bare, pairs-bare, records-bare}
+use Rattle.link_fix.proofs.LinkPages.{Accepts, accepts, all-unmapped, live-accepted, filtered-accepted, accepted-bytes, bytes-are, pairs-are, records-are, recorded-are}
+use Rattle.link_fix.proofs.BareFixups.{BareAccepts, live-bare, recorded-bare, recorded-selectors, bytes-bare, pairs-bare, records-bare}
 
 -- The slices that the steps lend are those lists.
 pub lent-accepted : (fixups live lent : List Fixup) → All IsAccepted fixups → map shown live ≡ mean.live (map shown fixups) → lent ≡ live → All IsAccepted lent
@@ -36,23 +36,26 @@ lent-bytes live recorded lent all is same =
 
 pub pages-are :
     (l : Link) (pieces : List PlacedPiece) (fixups : List Fixup) (objects : List LaidObject) (imports : List Imp) (live recs : List Fixup) (tables : ImportTables) (pages : PageFixes) (fixes : List (List (List Fix))) (bytes names procs : List (List ℕ))
-    → AreOfLink l pieces fixups objects imports → map shown live ≡ mean.live (map shown fixups) → map shown recs ≡ filter (λ q. not (is_patched q)) (map shown live)
+    → AreOfLink l pieces fixups objects imports → All IsAccepted fixups → map shown live ≡ mean.live (map shown fixups) → map shown recs ≡ filter (λ q. not (is_patched q)) (map shown live)
     → ArePairs tables (pairs_among imports (map shown recs))
     → ((pairs : List Imp) → ArePairs tables pairs → (n : ℕ) (k : ℕ) → fixes_of pages n k ≡ records_among imports pairs (map shown recs) n k)
     → fixes ≡ map (λ q. map (fixes_of pages q.0) (range_with_len 0 (page_count q.1.size))) (enumerate_from 1 objects)
     → ((k : Link) → bytes ≡ bytes_with k (map shown live) (map piece_shown pieces) objects)
     → ((pairs : List Imp) → ArePairs tables pairs → (names ≡ modules_in pairs) × (procs ≡ procs_in pairs))
     → ArePages l (record { bytes = bytes; fixes = fixes; imports = names; procs = procs })
-pages-are l pieces fixups objects imports live recs tables pages fixes bytes names procs of is_live is_recorded are_pairs paged listed painted named =
+pages-are l pieces fixups objects imports live recs tables pages fixes bytes names procs of accepted is_live is_recorded are_pairs paged listed painted named =
     let lives : map shown live ≡ map bare (mean.live (rules.fixups l)) = is_live ∙ ap mean.live of.all_fixups ∙ live-bare (rules.fixups l) in
     let recorded_is : map shown recs ≡ map bare (recorded l) = is_recorded ∙ ap (filter (λ q. not (is_patched q))) lives ∙ recorded-bare (mean.live (rules.fixups l)) ∙ ap (map bare) (sym (recorded-are l)) in
+    let all : All BareAccepts (mean.live (rules.fixups l)) =
+    all-unmapped bare Accepts (mean.live (rules.fixups l))
+    (subst (λ (qs : List rules.Fixup). All Accepts qs) lives (accepts live (live-accepted fixups live accepted is_live))) in
     let pairs : List Imp = pairs_among imports (map shown recs) in
     let paired : pairs_among (symbols.imports l) (map bare (recorded l)) ≡ pairs_among (symbols.imports l) (recorded l) = pairs-bare (symbols.imports l) (recorded l) in
     let same : pairs ≡ used_pairs l = ap (λ (xs : List Imp). pairs_among xs (map shown recs)) of.all_imports ∙ ap (pairs_among (symbols.imports l)) recorded_is ∙ paired ∙ sym (pairs-are l) in
     record {
       bytes = painted l
           ∙ ap (λ (qs : List rules.Fixup). bytes_with l qs (map piece_shown pieces) objects) lives
-          ∙ bytes-bare l (mean.live (rules.fixups l)) (map piece_shown pieces) objects
+          ∙ bytes-bare l (mean.live (rules.fixups l)) (map piece_shown pieces) objects all
           ∙ ap (λ (ps : List mean.PlacedPiece). bytes_with l (mean.live (rules.fixups l)) ps objects) of.all_pieces
           ∙ ap (λ (os : List LaidObject). bytes_with l (mean.live (rules.fixups l)) (mean.pieces l) os) of.all_objects
           ∙ bytes-are l;
@@ -61,7 +64,7 @@ pages-are l pieces fixups objects imports live recs tables pages fixes bytes nam
           ∙ ap (λ (xs : List Imp). records_among xs (pairs_among xs (map shown recs)) (map shown recs) n k) of.all_imports
           ∙ ap (λ (rs : List rules.Fixup). records_among (symbols.imports l) (pairs_among (symbols.imports l) rs) rs n k) recorded_is
           ∙ ap (λ (ps : List Imp). records_among (symbols.imports l) ps (map bare (recorded l)) n k) paired
-          ∙ records-bare (symbols.imports l) (pairs_among (symbols.imports l) (recorded l)) (recorded l) n k)
+          ∙ records-bare (symbols.imports l) (pairs_among (symbols.imports l) (recorded l)) (recorded l) n k (recorded-selectors l))
           (listed ∙ ap (λ (os : List LaidObject). map (λ q. map (fixes_of pages q.0) (range_with_len 0 (page_count q.1.size))) (enumerate_from 1 os)) of.all_objects);
       imports = (named pairs are_pairs).0 ∙ ap modules_in same;
       procs = (named pairs are_pairs).1 ∙ ap procs_in same;

@@ -29,18 +29,18 @@ placed_shown q =
       standing = q.standing;
     }
 
--- One without its module, its segment, its frame and its goal.
+-- One without its module, its segment, its frame and its goal, and with one number for what is added.
 abbrev pub shown : Fixup → rules.Fixup
 shown q =
     record {
       by = 0;
-      fix = record { seg = 0; offset = 0; loc = q.loc; selfrel = q.selfrel; frame = frames.OfTarget; goal = origins.Seg 0; disp = q.disp };
+      fix = record { seg = 0; offset = 0; loc = q.loc; selfrel = q.selfrel; frame = frames.OfTarget; goal = origins.Seg 0; disp = q.added };
       object = q.object;
       offset = q.offset;
       narrow = q.narrow;
       target = target_shown q.target;
       frame = None;
-      standing = q.standing;
+      standing = 0;
     }
 
 abbrev pub piece_shown : PlacedPiece → Placed

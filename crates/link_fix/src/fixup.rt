@@ -37,17 +37,16 @@ pub struct PlacedFixup {
 }
 
 /// What the bytes and the record of a fixup need, once it is not refused: a placed fixup without its module, its segment
-/// and its frame. A link has one for each fixup at once, so it is small: 32 bytes.
+/// and its frame, with one number for its displacement and for what stands in its location. A link has one for each fixup
+/// at once, so it is small: 28 bytes.
 #[derive(Clone, Copy)]
 pub struct Fixup {
     /// The location's object, and the offset there.
     pub object: u32,
     pub offset: u32,
     pub target: Target,
-    /// What is added to the target's address.
-    pub disp: u32,
-    /// The number that stands in the location.
-    pub standing: u32,
+    /// What is added to the target's address: the displacement and the number that stands in the location.
+    pub added: u32,
     /// The location's kind, from 0 to 13.
     pub loc: u8,
     /// Whether the location is self-relative.
@@ -62,12 +61,12 @@ impl PlacedFixup {
         ensures shown { shown result ≡ bare (placed_shown self.now) }
         ensures accepted { fix_refusal (placed_shown self.now) ≡ None → fix_refusal (shown result) ≡ None }
     {
+        let added = self.fix.disp.wrapping_add(self.standing);
         Fixup {
             object: self.object,
             offset: self.offset,
             target: self.target,
-            disp: self.fix.disp,
-            standing: self.standing,
+            added,
             loc: self.fix.loc,
             selfrel: self.fix.selfrel,
             narrow: self.narrow,

@@ -1,10 +1,12 @@
 //! The fixup records that are left to the loader, by object and page.
 
-ghost use Rattle.std.specs.Prelude.{◌≡◌, ◌+◌, ◌*◌, ◌<◌, ◌≤◌, ◌++◌, ◌∷◌, [], ℕ, List, OnOk, IfOk, All, map, length, option_to_list, if◌then◌else◌, ◌==◌};
+ghost use Rattle.std.specs.Prelude.{◌≡◌, ◌+◌, ◌*◌, ◌<◌, ◌≤◌, ◌++◌, ◌∷◌, [], ℕ, List, OnOk, IfOk, All, map, length, option_to_list, if◌then◌else◌, ◌==◌, slice_get};
 ghost use Rattle.std.specs.List.{range_with_len, enumerate_from};
+ghost use Rattle.std.specs.Option.{option_and_then, option_map};
 ghost use Rattle.obj_types.specs.Location.{location_len as len_of_location};
 ghost use Rattle.link_model.specs.Words.{wrapped};
-ghost use Rattle.link_model.specs.Goals.{Internal, Entry};
+ghost use Rattle.link_model.specs.Goals.{Internal};
+ghost use Rattle.link_model.specs.ImportTables.{import_target};
 ghost use Rattle.link_fix.specs.Marks.{HasBytes};
 ghost use Rattle.link_model.specs.Records as records;
 ghost use Rattle.link_fix.specs.Shown.{shown, target_shown};
@@ -60,31 +62,31 @@ fn sum(a: u32, b: u32) -> u32
 fn internal_target(q: &Fixup, object: u32, offset: u32) -> (FixTarget, u32)
     ensures { Some result ≡ target_among [] [] (shown q.now) (Internal object offset) }
 {
-    let at = sum(offset, q.disp);
+    let offset = sum(offset, q.added);
     if q.loc == LOCATION_SELECTOR {
-        let additive = if 0x1_0000 <= at { at } else { 0 };
+        let additive = if 0x1_0000 <= offset { offset } else { 0 };
         (FixTarget::Internal { object, offset: 0 }, additive)
     } else {
-        let offset = sum(at, q.standing);
         (FixTarget::Internal { object, offset }, 0)
     }
 }
 
-// Where the record of an entry point leads, and what is added there.
+// Where the record of an entry point leads, and what is added there: this number, and 0 for what stands in the location.
 fn entry_target(
     alloc: Global,
     imports: &[Imp],
     tables: &ImportTables,
-    q: &Fixup,
     slot: u32,
+    added: u32,
 ) -> Result<Option<(FixTarget, u32)>, NoMemory>
-    ensures { IfOk result (λ target. (pairs : List Imp) → ArePairs tables.now pairs → target ≡ target_among imports.now pairs (shown q.now) (Entry slot)) }
+    ensures { IfOk result (λ target. (pairs : List Imp) → ArePairs tables.now pairs → target
+        ≡ option_map (λ t. (t, wrapped (added + 0))) (option_and_then (import_target pairs) (slice_get imports.now slot))) }
 {
     match imports.get(slot as usize) {
         None => Ok(None),
         Some(pair) => match tables.target_of(alloc, pair)? {
             None => Ok(None),
-            Some(target) => Ok(Some((target, sum(q.disp, q.standing)))),
+            Some(target) => Ok(Some((target, added))),
         },
     }
 }
@@ -104,7 +106,7 @@ pub fn target_of(
         Target::Internal { object, offset } => Ok(Some(internal_target(q, object, offset))),
         Target::Constant { value: _ } => Ok(None),
         Target::Entry { slot } => {
-            let target = entry_target(alloc, imports, tables, q, slot)?;
+            let target = entry_target(alloc, imports, tables, slot, q.added)?;
             Ok(target)
         }
     }

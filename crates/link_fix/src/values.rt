@@ -29,7 +29,7 @@ fn patch(q: &Fixup) -> u32
     requires location { 0 < len_of_location q.now.loc }
     ensures { (l : Link) → value_bytes l (linked_world l) (shown q.now) ≡ little_bytes (len_of_location q.now.loc) result }
 {
-    let added = u64::from(q.disp) + u64::from(q.standing);
+    let added = u64::from(q.added);
     let past = u64::from(q.offset) + u64::from(location_len(q.loc));
     match q.target {
         Target::Internal { object: _, offset } => difference(u64::from(offset) + added, past),

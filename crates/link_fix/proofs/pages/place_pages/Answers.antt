@@ -19,7 +19,7 @@ returns c = λ l of.
     let live : List Fixup = c.in_ok-live.live.items in
     let recs : List Fixup = c.recorded_of-recorded.result.items in
     let imports : List Imp = c.args.imports.now in
-    pages-are l c.args.pieces.now c.args.fixups.items c.args.objects.now imports live recs c.in_ok-pages.tables c.in_ok-pages.pages c.in_ok-fixes.fixes c.in_ok-bytes.bytes c.into_names-imports.result.0 c.into_names-imports.result.1 of c.in_ok-live.ensures c.recorded_of-recorded.ensures
+    pages-are l c.args.pieces.now c.args.fixups.items c.args.objects.now imports live recs c.in_ok-pages.tables c.in_ok-pages.pages c.in_ok-fixes.fixes c.in_ok-bytes.bytes c.into_names-imports.result.0 c.into_names-imports.result.1 of c.requires c.in_ok-live.ensures c.recorded_of-recorded.ensures
     c.in_ok-pages.ensures.0
     c.in_ok-pages.ensures.1
     c.in_ok-fixes.ensures
