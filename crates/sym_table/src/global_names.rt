@@ -69,23 +69,25 @@ fn defined_by(alloc: Global, found: &[Definition<'_>]) -> Result<Defined, NoMemo
     })
 }
 
-// The names by these definitions, the first of each name in a table.
+// The names by these definitions, the first of each name in a table, whose memory is given back before the meanings take
+// theirs.
 fn names_by(
     alloc: Global,
     input: &LinkInput,
     modules: &[&ObjModule],
     found: &[Definition<'_>],
-    first: &NameTable<Definition<'_>>,
+    first: NameTable<Definition<'_>>,
 ) -> Result<GlobalNames, NoMemory>
     ensures imports { IfOk result (λ n. n.imports ≡ imports_among (map shown found.now)) }
     ensures commons { IfOk result (λ n. n.commons
         ≡ (let all = comdefs (link_with input.now modules.now) in
-        map (with_greatest all) (firsts same_name (filter (λ c. is_none (value_named c.0 first.now)) all)))) }
+        map (with_greatest all) (firsts same_name (filter (λ c. is_none (value_named c.0 first.entry)) all)))) }
     ensures defined { IfOk result (λ n. n.globals.defined
         ≡ firsts same_name (map (rules.defined_by (imports_among (map shown found.now))) (map shown found.now))) }
     ensures communal { IfOk result (λ n. n.globals.communal ≡ slotted n.commons) }
 {
-    let communals = communals_beside(alloc, input, modules, first)?;
+    let communals = communals_beside(alloc, input, modules, &first)?;
+    drop(first);
     let defined = defined_by(alloc, found)?;
     Ok(GlobalNames {
         globals: Globals {
@@ -111,7 +113,7 @@ fn names_of(
 {
     match first_definitions(alloc, found) {
         Err(fail) => Err(fail),
-        Ok(first) => Ok(names_by(alloc, input, modules, found, &first)?),
+        Ok(first) => Ok(names_by(alloc, input, modules, found, first)?),
     }
 }
 
