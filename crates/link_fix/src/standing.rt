@@ -86,10 +86,13 @@ fn standings(alloc: Global, data: &Images, fixes: &[FixAt]) -> Result<Vec<u32>, 
 }
 
 /// The numbers that stand in the locations of a module's fixups, in file order: what the module's own data has there,
-/// whatever other modules put at the same place.
+/// whatever other modules put at the same place. The data of a module without fixups is not looked at.
 pub fn standings_of(alloc: Global, object: &ObjModule) -> Result<Vec<u32>, NoMemory>
     ensures { IfOk result (λ numbers. numbers.items ≡ map (standing_in object.now) object.now.fixes) }
 {
+    if object.fixes.as_slice().is_empty() {
+        return Ok(Vec::new(alloc));
+    }
     let data = data_of(alloc, object.pieces.as_slice())?;
     standings(alloc, &data, object.fixes.as_slice())
 }

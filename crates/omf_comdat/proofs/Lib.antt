@@ -5,3 +5,4 @@ pub mod RecordRead
 pub mod Ends
 pub mod Members
 pub mod Behind
+pub mod Indexed

@@ -181,8 +181,19 @@ fn put_behind(
     })
 }
 
+/// The module of the unfinished one, which has no COMDATs: all that it names by number is named by index.
+fn without_comdats(alloc: Global, parts: ObjParts) -> ObjModule
+    requires whole { IsWholeSoFar parts }
+    requires none { parts.comdats ≡ [] }
+    ensures { result ≡ done.finished parts }
+{
+    let mut module = parts.module;
+    module.comdats = Seq::new(alloc);
+    module
+}
+
 /// The module of the unfinished one, with the segments of its COMDATs behind all others.
-pub fn finished(alloc: Global, parts: ObjParts) -> Result<ObjModule, NoMemory>
+fn with_comdats(alloc: Global, parts: ObjParts) -> Result<ObjModule, NoMemory>
     requires { IsWholeSoFar parts }
     ensures { IfOk result (λ m. m ≡ done.finished parts) }
 {
@@ -200,4 +211,16 @@ pub fn finished(alloc: Global, parts: ObjParts) -> Result<ObjModule, NoMemory>
     module.pieces = finish_pieces(module.pieces, segs);
     module.fixes = finish_fixes(module.fixes, segs);
     Ok(module)
+}
+
+/// The module of the unfinished one, with the segments of its COMDATs behind all others. Most modules have none, above all
+/// those of import libraries.
+pub fn finished(alloc: Global, parts: ObjParts) -> Result<ObjModule, NoMemory>
+    requires { IsWholeSoFar parts }
+    ensures { IfOk result (λ m. m ≡ done.finished parts) }
+{
+    if parts.comdats.as_slice().is_empty() {
+        return Ok(without_comdats(alloc, parts));
+    }
+    with_comdats(alloc, parts)
 }

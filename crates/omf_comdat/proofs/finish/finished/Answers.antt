@@ -1,18 +1,9 @@
-use Rattle.std.proofs.Common.{◌≡◌, ℕ, List, length, map, ap, subst, ◌∙◌}
-use Rattle.obj_types.specs.declared.object.Seg.{Seg}
+use Rattle.std.proofs.Common.{List, length, ap, arith}
+use Rattle.std.proofs.lemmas.List.{nil_from_length}
 use Rattle.obj_types.specs.declared.parts.BegunComdat.{BegunComdat}
-use Rattle.omf_model.specs.Finished.{public_for, piece_for, fix_for}
-use Rattle.omf_comdat.specs.Finishing.{ends_for, ArePlaced}
-use Rattle.omf_comdat.proofs.Behind.{finished-is}
 use Rattle.omf_comdat.proofs.finish.finished.Goals as goal
 
-pub returns : goal.returns
-returns c =
-    let n : c.in_ok-segs.segs ≡ length c.args.parts.module.segs = c.in_ok-segs.ensures ∙ ap (λ (ss : List Seg). length ss) c.as_slice.ensures in
-    let pubs = c.finish_pubs.ensures ∙ ap (λ (k : ℕ). map (public_for k) c.args.parts.module.pubs) n in
-    let pieces = c.finish_pieces.ensures ∙ ap (λ (k : ℕ). map (piece_for k) c.args.parts.module.pieces) n in
-    let fixes = c.finish_fixes.ensures ∙ ap (λ (k : ℕ). map (fix_for k) c.args.parts.module.fixes) n in
-    let lens = c.in_ok-lens.ensures ∙ ap (λ (bs : List BegunComdat). ends_for c.args.parts.module.pieces (length bs)) c.as_slice-begun_count.ensures in
-    (λ i. record c.args.parts.module { segs = c.in_ok-own.own.segs; groups = c.in_ok-own.own.groups; pubs = pubs i; pieces = pieces i; fixes = fixes i; comdats = c.in_ok-own.own.comdats })
-    ∙ finished-is c.args.parts c.in_ok-lens.lens.items c.in_ok-own.own lens
-    (subst (λ (ns : List ℕ). ArePlaced c.args.parts.module.segs c.args.parts.module.groups ns c.args.parts.comdats c.in_ok-own.own) c.deref.ensures.value c.in_ok-own.ensures)
+pub without_comdats-requires-clause-none : goal.without_comdats-requires-clause-none
+without_comdats-requires-clause-none c =
+    let same = ap (λ (bs : List BegunComdat). length bs) c.as_slice.ensures in
+    nil_from_length c.args.parts.comdats (grind (arith, same, c.is_empty.ensures, c.if-is_empty.true))
