@@ -1,5 +1,5 @@
 -- What is left of fixups gives the same bytes and the same records.
-use Rattle.std.specs.Prelude.{◌≡◌, ℕ, ◌+◌, ◌-◌, ◌<◌, ◌++◌, Bool, true, false, cond, not, ◌&&◌, ◌||◌, ◌==◌, nat_le, List, [], ◌∷◌, Option, Some, None, map, filter, find, slice_index, refl}
+use Rattle.std.specs.Prelude.{◌≡◌, ℕ, ◌+◌, ◌-◌, ◌<◌, Bool, true, false, cond, not, ◌&&◌, ◌||◌, ◌==◌, nat_le, List, [], ◌∷◌, Option, Some, None, map, filter, find, slice_get, slice_index, refl}
 use Rattle.std.specs.Option.{option_map, option_map_or, option_and_then}
 use Rattle.std.specs.List.{filter_map, flat_map, cons_option, list_any, range_with_len, enumerate_from, All}
 use Rattle.std.proofs.Common.{ap, sym, ◌∙◌, arith, subst, true≢false}
@@ -19,13 +19,12 @@ use Rattle.link_model.specs.Words.{option_any, wrapped, difference}
 use Rattle.link_model.specs.Data.{data_bytes}
 use Rattle.link_model.specs.Link.{Link}
 use Rattle.link_model.specs.Goals.{Target, Internal, Constant, Entry, object_of_target, target_of, location}
-use Rattle.link_model.specs.Fixups.{Fixup, fix_refusal, fixups, fixup_at, fixup_of, is_far_self, is_frame_apart, is_const_selector, is_constant, is_short, offset_width, signed_byte, standing_in, standing_number, stays_in_object, distance, is_past_reach}
+use Rattle.link_model.specs.Fixups.{Fixup, fix_refusal, fixups, fixup_at, fixup_of, is_far_self, is_frame_apart, is_const_selector, is_constant, is_short, offset_width, signed_byte, standing_in, stays_in_object, distance, is_past_reach}
 use Rattle.link_model.specs.Value.{value_bytes}
-use Rattle.link_model.specs.Mean.{PlacedPiece, live, live_fixups, overlap, fixup_covers}
+use Rattle.link_model.specs.Mean.{PlacedPiece, live, overlap, fixup_covers}
 use Rattle.link_model.specs.Patches.{is_patched, linked_world, patch_at, recorded}
 use Rattle.link_model.specs.ImportTables.{import_target}
 use Rattle.link_model.specs.Records.{stands_on}
-use Rattle.std.specs.Prelude.{slice_get}
 use Rattle.link_fix.specs.Bare.{bare}
 use Rattle.link_fix.specs.Pieces.{of_placed}
 use Rattle.link_fix.specs.Values.{with_fields}
