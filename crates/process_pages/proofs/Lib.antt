@@ -5,3 +5,4 @@ pub mod Copies
 pub mod Writes
 pub mod Placing
 pub mod StayFinders
+pub mod Naming

@@ -2,6 +2,7 @@
 #![tactic(auto)]
 
 mod freeing;
+mod name_hints;
 mod own_page;
 mod page_rows;
 mod reading;
@@ -10,9 +11,10 @@ mod stays;
 mod writing;
 
 pub use freeing::{keep_places, keep_reached};
+pub use name_hints::NameHints;
 pub use own_page::OwnPage;
 pub use page_rows::PageRows;
-pub use reading::copy_out;
+pub use reading::{copy_out, run_at};
 pub use stay_finder::StayFinder;
 pub use stays::{Stay, stay_place};
 pub use writing::put_all;

@@ -1,7 +1,8 @@
 //! Bytes that are copied out of mapped pages.
 
-ghost use Rattle.std.specs.Prelude.{◌≡◌, ◌≤◌, ◌+◌, ℕ, length, map, slice_index};
+ghost use Rattle.std.specs.Prelude.{◌≡◌, ◌≤◌, ◌+◌, ℕ, IfSome, None, find, is_none, length, map, slice_index};
 ghost use Rattle.std.specs.List.{range_with_len};
+ghost use Rattle.load_model.specs.Memory.{page, pages_over};
 ghost use Rattle.write_overlay.specs.Laid.{replaced};
 ghost use Rattle.process_pages.specs.PageRows.{place_in};
 ghost use Rattle.process_pages.specs.Reading.{IsThere, AreThere, bytes_at, byte_by};
@@ -9,32 +10,18 @@ ghost use Rattle.process_pages.specs.Reading.{IsThere, AreThere, bytes_at, byte_
 use crate::own_page::OwnPage;
 use crate::page_rows::PageRows;
 use load_model::Place;
-use lx_types::PageId;
+use lx_types::{PAGE_SIZE, PageId};
 
 /// How many bytes a page has.
 const PAGE: usize = 4096;
 
-/// How many bytes of a page are copied first. The C library copies a longer run by one instruction, beside which a processor
-/// does nothing else, and so the look-ups of what is copied next would wait for its end.
-const HALF: usize = 2048;
-
-// Puts a run in the place of other bytes at once.
+// Puts a run in the place of other bytes.
 fn put(into: &mut [u8], place: usize, run: &[u8])
     requires { place + length run.now ≤ length into.old }
     ensures { (k : ℕ) → slice_index into.new k ≡ replaced place run.now into.old k }
 {
     let end = place + run.len();
     into[place..end].copy_from_slice(run);
-}
-
-// Puts a run of a page in the place of other bytes, by halves.
-fn replace(into: &mut [u8], place: usize, run: &[u8])
-    requires { place + length run.now ≤ length into.old }
-    ensures { (k : ℕ) → slice_index into.new k ≡ replaced place run.now into.old k }
-{
-    let half = run.len().min(HALF);
-    put(into, place, &run[..half]);
-    put(into, place + half, &run[half..]);
 }
 
 // The bytes of a page that is mapped.
@@ -66,7 +53,27 @@ pub fn copy_out(pages: &[OwnPage], places: &PageRows, place: &Place, into: &mut 
             page: (at / PAGE) as u32,
         };
         let bytes = bytes_of(pages, places, p);
-        replace(into, done, &bytes[within..within + len]);
+        put(into, done, &bytes[within..within + len]);
         done += len;
     }
+}
+
+/// The bytes of a place where they stand, if they lie in one page that is mapped.
+pub fn run_at<'a>(pages: &'a [OwnPage], places: &PageRows, place: &Place) -> Option<&'a [u8]>
+    ensures length { IfSome result (λ run. length run.now ≡ place.now.len) }
+    ensures mapped { IfSome result (λ run.
+        find (λ n. is_none (place_in places.now (page place.now.object n))) (pages_over place.now.offset place.now.len) ≡ None) }
+    ensures bytes { IfSome result (λ run. run.now ≡ map (byte_by places.now pages.now place.now.object) (range_with_len place.now.offset place.now.len)) }
+{
+    let within = place.offset as usize % PAGE;
+    let len = place.len as usize;
+    if len == 0 || within + len > PAGE {
+        return None;
+    }
+    let p = PageId {
+        object: place.object,
+        page: place.offset / PAGE_SIZE,
+    };
+    let page = pages.get(places.get(p)?)?;
+    Some(&page.bytes()[within..within + len])
 }

@@ -4,7 +4,7 @@ use Rattle.std.specs.Prelude.{position, is_none}
 use Rattle.std.specs.List.{find, range_with_len}
 use Rattle.std.proofs.lemmas.List.Quantifiers.{position-Some}
 use Rattle.load_model.specs.Memory.{page, pages_over}
-use Rattle.load_model.specs.Modules.{Library}
+use Rattle.load_model.specs.Modules.{Library, number_of}
 use Rattle.lx_model.specs.Library.{module_of}
 use Rattle.load_model.specs.Standing.{Mapped, Holding}
 use Rattle.load_model.specs.ViewAnswers.{is_mapped_at, bytes_in, view_byte}
@@ -19,9 +19,10 @@ use Rattle.load_model.specs.declared.commands.Place.{Place}
 use Rattle.load_model.specs.declared.commands.Refusal.{Refusal}
 use Rattle.load_model.specs.declared.commands.Refusal.TheVariants.{Ended, NotTouched}
 use Rattle.load_model.specs.Refusals as uses
-use Rattle.load_model.specs.Refusals.{when, ◌orelse◌}
+use Rattle.load_model.specs.Refusals.{when, ◌orelse◌, span_refusal}
 use Rattle.load_model.specs.ViewAnswers.{view_place_refusal, view_bytes, stay_named}
 use Rattle.process_view.specs.ProcessViews.{ProcessView}
+use Rattle.process_view.specs.Answering.{touch_refusal_by}
 use Rattle.process_pages.specs.Stays.{residence_in}
 use Rattle.process_view.specs.declared.purposes.Purpose.TheVariants as purposes
 use Rattle.process_pages.specs.declared.stays.Stay.{Stay}
@@ -112,3 +113,31 @@ readable_bytes w at k s n into is can long e =
     ∙ map_alike_from (byte_by s.places w.holding.mapped at.object) (view_byte w.holding (residence_in s).serial at.object) at.offset at.len
     (λ x u v. byte_of_view w.library (residence_in s).«module» (residence_in s).serial s.places w.holding at.object at.offset at.len x is.placed.places can.inside u v)
     ∙ sym (ap (view_bytes w.holding at) is.stay)
+
+-- ---- a run in one page
+
+abbrev number_in : Option ℕ → ℕ
+number_in None = 0
+number_in (Some m) = m
+
+-- nothing is refused of the page of a run, in the module that a name means
+pub record IsRun (w : ProcessView) (at : Place) (m : ℕ) (s : Stay) : Type 0 where
+  pub named : number_of w.library at.«module» ≡ Some m
+  pub allowed : span_refusal w.library uses.peek m at.object at.offset at.len ≡ None
+  pub mapped : find (λ n. is_none (place_in s.places (page at.object n))) (pages_over at.offset at.len) ≡ None
+
+run_allowed_there : (w : ProcessView) (at : Place) (m k : ℕ) (s : Stay) → IsStayAt w at.«module» w.library w.holding.mapped k s → IsRun w at m s → span_refusal w.library uses.peek (residence_in s).«module» at.object at.offset at.len ≡ None
+run_allowed_there w at m k s is run =
+    let same : (residence_in s).«module» ≡ m = ap number_in (sym is.named ∙ run.named) in
+    ap (λ (n : ℕ). span_refusal w.library uses.peek n at.object at.offset at.len) same ∙ run.allowed
+
+pub run_allowed : (w : ProcessView) (at : Place) (m k : ℕ) (s : Stay) → w.holding.ended ≡ false → IsStayAt w at.«module» w.library w.holding.mapped k s → IsRun w at m s → view_place_refusal w.library w.holding uses.peek at ≡ None
+run_allowed w at m k s going is run =
+    place_refused w purposes.Peek at k s going is ∙ ap (λ (o : Option Refusal). o orelse touch_refusal_by purposes.Peek s.places at) (run_allowed_there w at m k s is run)
+    ∙ ap (λ (o : Option ℕ). option_map NotTouched o) run.mapped
+
+pub run_bytes : (w : ProcessView) (at : Place) (m k : ℕ) (s : Stay) (bytes : List ℕ) → IsStayAt w at.«module» w.library w.holding.mapped k s → IsRun w at m s →
+    bytes ≡ map (byte_by s.places w.holding.mapped at.object) (range_with_len at.offset at.len) → bytes ≡ view_bytes w.holding at (stay_named w.library w.holding at.«module»)
+run_bytes w at m k s bytes is run e =
+    let inside = span_is_inside w.library uses.peek (residence_in s).«module» at.object at.offset at.len (run_allowed_there w at m k s is run) in
+    readable_bytes w at k s at.len bytes is (record { inside = inside; mapped = run.mapped }) refl e

@@ -1,7 +1,6 @@
 pub mod NewViews
 pub mod Ranges
 pub mod Insides
-pub mod Naming
 pub mod Lookups
 pub mod Copies
 pub mod Asking

@@ -8,7 +8,6 @@ mod entering;
 mod joining;
 mod laws;
 mod leaving;
-mod name_hints;
 mod purposes;
 mod reading;
 mod refusing;

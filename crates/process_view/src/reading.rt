@@ -1,6 +1,6 @@
 //! What a view answers by itself: bytes of its own pages, addresses and resources.
 
-ghost use Rattle.std.specs.Prelude.{◌≡◌, ◌≤◌, ◌<◌, ◌+◌, ◌-◌, ◌==◌, ◌⊎◌, slice_index_or, ℕ, Ok, Some, None, MatchResult, position, length, map, slice_index};
+ghost use Rattle.std.specs.Prelude.{◌≡◌, ◌≤◌, ◌<◌, ◌+◌, ◌-◌, ◌==◌, ◌⊎◌, slice_index_or, ℕ, Ok, Some, None, IfSome, MatchResult, position, length, map, slice_index};
 ghost use Rattle.std.specs.List.{range_with_len};
 ghost use Rattle.lx_model.specs.Fixed.{base_of};
 ghost use Rattle.load_model.specs.declared.commands.Command.TheVariants as commands;
@@ -13,11 +13,12 @@ ghost use Rattle.process_pages.specs.Stays.{residences_in};
 ghost use Rattle.process_view.specs.Answering.{residence_with, base_if, IsStayNamed};
 
 use crate::purposes::Purpose;
+use crate::spans::span_refusal;
 use crate::view::View;
 use load_model::{Place, Refusal};
 use lx_types::{Bases, EntryKey, ModBases, Name, ResSpot};
 use mod_graph::{EntryFault, Library, Spot};
-use process_pages::{Stay, copy_out, stay_place};
+use process_pages::{Stay, copy_out, run_at, stay_place};
 
 // The base of an object among those of its module.
 fn base_in(own: &ModBases, object: u32) -> u32
@@ -113,11 +114,29 @@ impl View {
         copy_out(&self.pages, &stay.places, place, into);
     }
 
-    /// Reads bytes of code or of the process's own data, with its own writes, into a buffer that is as long as the place. A
-    /// refusal leaves the buffer as it was. It takes no memory. Beside the copying it looks up the module by its name, its
-    /// residence and each page.
+    // The bytes of a place that may be peeked, where they stand, if they lie in one page.
+    fn run(&self, place: &Place) -> Option<&[u8]>
+        ensures length { IfSome result (λ run. length run.now ≡ place.now.len) }
+        ensures allowed { IfSome result (λ run. view_place_refusal self.now.library self.now.holding uses.peek place.now ≡ None) }
+        ensures bytes { IfSome result (λ run.
+            run.now ≡ view_bytes self.now.holding place.now (stay_named self.now.library self.now.holding place.now.«module»)) }
+    {
+        if self.ended {
+            return None;
+        }
+        let m = self.hints.find(&self.lib, &place.module)?;
+        let k = self.finder.find(&self.stays, m)?;
+        let stay = &self.stays[k];
+        let bytes = run_at(&self.pages, &stay.places, place)?;
+        match span_refusal(&self.lib, m, Purpose::Peek, place) {
+            Some(_) => None,
+            None => Some(bytes),
+        }
+    }
+
+    // Reads bytes of pages into a buffer that is as long as the place, or says why it cannot.
     #[tactic(auto, unfolding(load_model::specs::ViewAnswers::view_refusal))]
-    pub fn peek(&self, place: &Place, into: &mut [u8]) -> Result<(), Refusal>
+    fn peek_pages(&self, place: &Place, into: &mut [u8]) -> Result<(), Refusal>
         requires { length into.old ≡ place.now.len }
         ensures { MatchResult result
             (λ _. (view_refusal self.now.library self.now.holding (commands.Peek place.now) ≡ None)
@@ -130,6 +149,26 @@ impl View {
                 Ok(())
             }
             Err(refusal) => Err(refusal),
+        }
+    }
+
+    /// Reads bytes of code or of the process's own data, with its own writes, into a buffer that is as long as the place. A
+    /// refusal leaves the buffer as it was. It takes no memory. Beside the copying it looks up the module by its name, its
+    /// residence and each page; of bytes in one page each of these once.
+    #[tactic(auto, unfolding(load_model::specs::ViewAnswers::view_refusal))]
+    pub fn peek(&self, place: &Place, into: &mut [u8]) -> Result<(), Refusal>
+        requires { length into.old ≡ place.now.len }
+        ensures { MatchResult result
+            (λ _. (view_refusal self.now.library self.now.holding (commands.Peek place.now) ≡ None)
+            × (view_reply self.now.library self.now.holding (commands.Peek place.now) ≡ Some (replies.Bytes into.new)))
+            (λ refusal. (view_refusal self.now.library self.now.holding (commands.Peek place.now) ≡ Some refusal) × (into.new ≡ into.old)) }
+    {
+        match self.run(place) {
+            Some(run) => {
+                into.copy_from_slice(run);
+                Ok(())
+            }
+            None => self.peek_pages(place, into),
         }
     }
 

@@ -5,11 +5,10 @@ ghost use Rattle.std.specs.Arc.{arc_value};
 ghost use Rattle.load_model.specs.State.{pids, is_among};
 ghost use Rattle.process_view.specs.ProcessViews.{at_front, new_view};
 
-use crate::name_hints::NameHints;
 use hold_rows::Holder;
 use load_core::Board;
 use mod_graph::Library;
-use process_pages::{OwnPage, Stay, StayFinder};
+use process_pages::{NameHints, OwnPage, Stay, StayFinder};
 use std::alloc::Global;
 use std::marker::Model;
 use std::sync::Arc;

@@ -1,6 +1,5 @@
-use Rattle.std.proofs.Common.{◌≡◌, ◌<◌, ◌≤◌, ◌∙◌, ◌++◌, ◌∷◌, [], ℕ, List, length, get_or, set, sym, ap, subst, arith}
+use Rattle.std.proofs.Common.{◌++◌, ◌∷◌, [], ℕ, List, get_or, set, sym, subst, arith}
 use Rattle.std.proofs.lemmas.List.{get_or_default}
-use Rattle.page_frames.specs.Residences.{ResidenceFor}
 use Rattle.process_pages.specs.StayFinders.{IsRight, AreRight}
 use Rattle.process_pages.specs.declared.stay_finder.Standing.{Standing}
 use Rattle.process_pages.specs.declared.stay_finder.Standing.TheVariants.{Nowhere, Unknown}

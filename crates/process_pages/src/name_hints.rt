@@ -56,18 +56,24 @@ fn is_meant(lib: &Library, m: u32, name: &Name) -> bool
 impl NameHints {
     /// The hints of a library's modules.
     pub fn of(lib: &Library) -> NameHints {
-        let mut modules = [None; HINTS];
+        let mut hints = NameHints {
+            modules: [None; HINTS],
+        };
         for m in 0..lib.len() {
-            let key = key(lib.module(m).name());
-            for back in 0..TRIES {
-                let place = key.wrapping_add(back) % HINTS;
-                if modules[place].is_none() {
-                    modules[place] = Some((m % 256) as u8);
-                    break;
-                }
+            hints.put(key(lib.module(m).name()), m);
+        }
+        hints
+    }
+
+    // Puts a module at the first free one of the hints of a key, if one is free.
+    fn put(&mut self, key: usize, m: u32) {
+        for back in 0..TRIES {
+            let place = key.wrapping_add(back) % HINTS;
+            if self.modules[place].is_none() {
+                self.modules[place] = Some((m % 256) as u8);
+                return;
             }
         }
-        NameHints { modules }
     }
 
     // The module that a name means, where one of its hints finds it.
