@@ -5,7 +5,7 @@ ghost use Rattle.std.specs.List.{flat_map};
 ghost use Rattle.session_spelling.specs.Sessions.{module_line, session_bytes};
 ghost use Rattle.gen_model.specs.Sessions as sessions;
 
-use gen_model::scripts;
+use gen_model::session_scripts;
 use lx_types::{Bytes, NoMemory, Seq};
 use session_model::{FailingLines, ModLines, Session};
 use session_text::write_session;
@@ -45,7 +45,7 @@ pub fn session_text(alloc: Global, count: u32, prefix: &str) -> Result<Bytes, No
     let scripts = Session {
         modules: ModLines::new(alloc),
         failing: FailingLines::new(alloc),
-        scripts: scripts(alloc, count)?,
+        scripts: session_scripts(alloc, count)?,
     };
     let mut text = Vec::new(alloc);
     push_build_lines(alloc, &mut text, prefix, count)?;

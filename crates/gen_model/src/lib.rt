@@ -13,6 +13,6 @@ mod worked;
 pub use modules::{definition_text, link_input};
 pub use names::{MOST, definition_name, object_name, session_name};
 pub use objects::object_module;
-pub use scripts::scripts;
+pub use scripts::session_scripts;
 pub use totals::Totals;
 pub use worked::{lines_are_told, modules_are_made, sessions_are_made};

@@ -60,7 +60,7 @@ fn commands(alloc: Global, count: u32) -> Result<Commands, NoMemory>
 }
 
 /// The scripts, which do the same.
-pub fn scripts(alloc: Global, count: u32) -> Result<Seq<Script>, NoMemory>
+pub fn session_scripts(alloc: Global, count: u32) -> Result<Seq<Script>, NoMemory>
     requires { count ≤ 64 }
     ensures { IfOk result (λ scripts. scripts ≡ sessions.gen_scripts count) }
 {

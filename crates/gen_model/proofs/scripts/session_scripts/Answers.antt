@@ -4,7 +4,7 @@ use Rattle.std.proofs.lemmas.List.FromFn.{map-range_with_len_more}
 use Rattle.load_model.specs.declared.commands.Command.{Command}
 use Rattle.session_model.specs.declared.sessions.Script.{Script}
 use Rattle.gen_model.specs.Sessions.{gen_script}
-use Rattle.gen_model.proofs.scripts.scripts.Goals as goal
+use Rattle.gen_model.proofs.scripts.session_scripts.Goals as goal
 
 pub loop-before-preserved : goal.loop-before-preserved
 loop-before-preserved c =
