@@ -36,35 +36,6 @@ fn is_narrow(segs: &[Seg], index: u32) -> bool
     }
 }
 
-// A fixup of a chosen module, where its goal and its location are there.
-fn fixup_of(
-    places: &Places,
-    syms: &Symbols,
-    module: u32,
-    object: &ObjModule,
-    fix: &FixAt,
-    standing: u32,
-) -> Option<PlacedFixup>
-    ensures { option_map placed_shown result ≡ fixup_at places.now syms.now «module» object.now fix.now standing }
-{
-    match (
-        target_of(places, syms, module, fix.goal),
-        location_of(places, module, fix),
-    ) {
-        (Some(target), Some((number, offset))) => Some(PlacedFixup {
-            by: module,
-            fix: *fix,
-            object: number,
-            offset,
-            narrow: is_narrow(object.segs.as_slice(), fix.seg),
-            target,
-            frame: frame_of(places, syms, module, fix),
-            standing,
-        }),
-        (Some(_) | None, None) | (None, Some(_)) => None,
-    }
-}
-
 // Adds what is left of a fixup, unless it is refused.
 fn add_accepted(found: &mut Vec<Fixup>, q: &PlacedFixup) -> Result<(), Fail<FixRefusal>>
     ensures { Answers result
@@ -80,73 +51,84 @@ fn add_accepted(found: &mut Vec<Fixup>, q: &PlacedFixup) -> Result<(), Fail<FixR
     }
 }
 
-// Adds what is left of a fixup, where its goal and its location are there.
-fn add_fixup(
-    found: &mut Vec<Fixup>,
-    places: &Places,
-    syms: &Symbols,
-    module: u32,
-    object: &ObjModule,
-    fix: &FixAt,
-    standing: u32,
-) -> Result<(), Fail<FixRefusal>>
-    ensures { Answers result
-        (λ _. Adds (option_to_list (fixup_at places.now syms.now «module» object.now fix.now standing)) found.old.items found.new.items)
-        (λ refusal. first_refusal (option_to_list (fixup_at places.now syms.now «module» object.now fix.now standing)) ≡ Some refusal) }
-{
-    match fixup_of(places, syms, module, object, fix, standing) {
-        Some(q) => add_accepted(found, &q),
-        None => Ok(()),
-    }
+/// The fixups of a chosen module, and what their values need.
+#[derive(Clone, Copy)]
+struct ModuleFixups<'a> {
+    places: &'a Places,
+    syms: &'a Symbols,
+    /// The module's number among the chosen ones.
+    number: u32,
+    object: &'a ObjModule,
 }
 
-// Adds what is left of the fixups of a chosen module, in file order, with the numbers that stand in their locations. The
-// first refusal ends it.
-fn add_fixups(
-    found: &mut Vec<Fixup>,
-    places: &Places,
-    syms: &Symbols,
-    module: u32,
-    object: &ObjModule,
-    numbers: &[u32],
-) -> Result<(), Fail<FixRefusal>>
-    requires { numbers.now ≡ map (rules.standing_in object.now) object.now.fixes }
-    ensures { Answers result
-        (λ _. Adds (fixups_in places.now syms.now «module» object.now) found.old.items found.new.items)
-        (λ refusal. first_refusal (fixups_in places.now syms.now «module» object.now) ≡ Some refusal) }
-{
-    let fixes = object.fixes.as_slice();
-    let mut next = 0;
-    'fixes: while next < fixes.len() && next < numbers.len() {
-        add_fixup(
-            found,
-            places,
-            syms,
-            module,
-            object,
-            &fixes[next],
-            numbers[next],
-        )?;
-        next += 1;
+impl ModuleFixups<'_> {
+    // A fixup of the module with the number that stands in its location, where its goal and its location are there.
+    fn placed(&self, fix: &FixAt, standing: u32) -> Option<PlacedFixup>
+        ensures { option_map placed_shown result ≡ fixup_at self.now.places.now self.now.syms.now self.now.number self.now.object.now fix.now standing }
+    {
+        match (
+            target_of(self.places, self.syms, self.number, fix.goal),
+            location_of(self.places, self.number, fix),
+        ) {
+            (Some(target), Some((number, offset))) => Some(PlacedFixup {
+                by: self.number,
+                fix: *fix,
+                object: number,
+                offset,
+                narrow: is_narrow(self.object.segs.as_slice(), fix.seg),
+                target,
+                frame: frame_of(self.places, self.syms, self.number, fix),
+                standing,
+            }),
+            (Some(_) | None, None) | (None, Some(_)) => None,
+        }
     }
-    Ok(())
-}
 
-// Adds what is left of the fixups of a chosen module.
-fn add_module(
-    alloc: Global,
-    found: &mut Vec<Fixup>,
-    places: &Places,
-    syms: &Symbols,
-    module: u32,
-    object: &ObjModule,
-) -> Result<(), Fail<FixRefusal>>
-    ensures { Answers result
-        (λ _. Adds (fixups_in places.now syms.now «module» object.now) found.old.items found.new.items)
-        (λ refusal. first_refusal (fixups_in places.now syms.now «module» object.now) ≡ Some refusal) }
-{
-    let numbers = standings_of(alloc, object)?;
-    add_fixups(found, places, syms, module, object, numbers.as_slice())
+    // Adds what is left of a fixup of the module, where its goal and its location are there.
+    fn add_fixup(
+        &self,
+        found: &mut Vec<Fixup>,
+        fix: &FixAt,
+        standing: u32,
+    ) -> Result<(), Fail<FixRefusal>>
+        ensures { Answers result
+            (λ _. Adds (option_to_list (fixup_at self.now.places.now self.now.syms.now self.now.number self.now.object.now fix.now standing))
+            found.old.items found.new.items)
+            (λ refusal. first_refusal (option_to_list (fixup_at self.now.places.now self.now.syms.now self.now.number self.now.object.now fix.now standing))
+            ≡ Some refusal) }
+    {
+        match self.placed(fix, standing) {
+            Some(q) => add_accepted(found, &q),
+            None => Ok(()),
+        }
+    }
+
+    // Adds what is left of all fixups of the module, in file order, with the numbers that stand in their locations. The
+    // first refusal ends it.
+    fn add_fixups(&self, found: &mut Vec<Fixup>, numbers: &[u32]) -> Result<(), Fail<FixRefusal>>
+        requires { numbers.now ≡ map (rules.standing_in self.now.object.now) self.now.object.now.fixes }
+        ensures { Answers result
+            (λ _. Adds (fixups_in self.now.places.now self.now.syms.now self.now.number self.now.object.now) found.old.items found.new.items)
+            (λ refusal. first_refusal (fixups_in self.now.places.now self.now.syms.now self.now.number self.now.object.now) ≡ Some refusal) }
+    {
+        let fixes = self.object.fixes.as_slice();
+        let mut next = 0;
+        'fixes: while next < fixes.len() && next < numbers.len() {
+            self.add_fixup(found, &fixes[next], numbers[next])?;
+            next += 1;
+        }
+        Ok(())
+    }
+
+    // Adds what is left of all fixups of the module.
+    fn add_to(&self, alloc: Global, found: &mut Vec<Fixup>) -> Result<(), Fail<FixRefusal>>
+        ensures { Answers result
+            (λ _. Adds (fixups_in self.now.places.now self.now.syms.now self.now.number self.now.object.now) found.old.items found.new.items)
+            (λ refusal. first_refusal (fixups_in self.now.places.now self.now.syms.now self.now.number self.now.object.now) ≡ Some refusal) }
+    {
+        let numbers = standings_of(alloc, self.object)?;
+        self.add_fixups(found, numbers.as_slice())
+    }
 }
 
 // How many fixups these modules have.
@@ -176,7 +158,13 @@ fn fixups_among(
 {
     let mut found = Vec::with_capacity(alloc, count_fixes(modules)?)?;
     for (index, object) in modules.iter().enumerate() {
-        add_module(alloc, &mut found, places, syms, number(index + 1)?, object)?;
+        let fixups = ModuleFixups {
+            places,
+            syms,
+            number: number(index + 1)?,
+            object,
+        };
+        fixups.add_to(alloc, &mut found)?;
     }
     Ok(found)
 }

@@ -83,27 +83,28 @@ fn pages_of(
     }
 }
 
-/// What the link of these modules puts into its pages, where these are its symbols, its places and its objects, and
-/// `stack` is the end of its stack. The first refusal of a fixup is answered, in chosen order and in file order, and
-/// `StartOutside` after all of them.
+/// What the link of these modules puts into its pages, where these are its symbols and its layout. The first refusal of a
+/// fixup is answered, in chosen order and in file order, and `StartOutside` after all of them.
 pub fn place_at(
     alloc: Global,
     modules: &[&ObjModule],
     syms: &Symbols,
-    places: &Places,
-    objects: &[LaidObject],
-    stack: Option<(u32, u32)>,
+    layout: &Layout,
 ) -> Result<Placed, Fail<FixRefusal>>
     requires { All HasLocations (map (λ m. m.now) modules.now) }
     ensures { Answers result
-        (λ placed. (l : Link) → AreLaid l (map (λ m. m.now) modules.now) syms.now places.now objects.now → (place_refusal l ≡ None) × ArePlaced l stack placed)
-        (λ refusal. (l : Link) → AreLaid l (map (λ m. m.now) modules.now) syms.now places.now objects.now → place_refusal l ≡ Some refusal) }
+        (λ placed. (l : Link) → AreLaid l (map (λ m. m.now) modules.now) syms.now layout.now.places layout.now.objects
+        → (place_refusal l ≡ None) × ArePlaced l layout.now.stack placed)
+        (λ refusal. (l : Link) → AreLaid l (map (λ m. m.now) modules.now) syms.now layout.now.places layout.now.objects
+        → place_refusal l ≡ Some refusal) }
 {
+    let places = &layout.places;
+    let objects = layout.objects();
     match pages_of(alloc, modules, syms, places, objects) {
         Err(fail) => Err(fail),
         Ok(pages) => match start_of(places, syms, objects, modules)? {
             Err(refusal) => Err(Fail::Said(refusal)),
-            Ok(start) => Ok(with_start(pages, start, stack)),
+            Ok(start) => Ok(with_start(pages, start, layout.stack)),
         },
     }
 }
@@ -125,12 +126,5 @@ pub fn place_fixes(
         (λ refusal. place_refusal (link_of input.now syms.now.chosen) ≡ Some refusal) }
 {
     let modules = modules_at(alloc, input, syms.chosen())?;
-    place_at(
-        alloc,
-        modules.as_slice(),
-        syms,
-        &layout.places,
-        layout.objects(),
-        layout.stack,
-    )
+    place_at(alloc, modules.as_slice(), syms, layout)
 }

@@ -2,14 +2,14 @@ use Rattle.std.proofs.Common.{◌≡◌, ◌<◌, arith, length, map, subst, ℕ
 use Rattle.obj_types.specs.declared.object.FixAt.{FixAt}
 use Rattle.link_fix.specs.Shown.{shown}
 use Rattle.link_place.proofs.Judging.{fix-step}
-use Rattle.link_place.proofs.fixups.add_fixups.Goals as goal
+use Rattle.link_place.proofs.fixups.ModuleFixups.add_fixups.Goals as goal
 
 pub fixes-preserved : goal.fixes-preserved
 fixes-preserved c =
     let i : ℕ = c.fixes.next in
-    let fixes : List FixAt = c.args.object.now.fixes in
+    let fixes : List FixAt = c.args.self.now.object.now.fixes in
     let lent : c.as_slice-fixes.result.now ≡ fixes = c.as_slice-fixes.ensures in
     let below : i < length fixes = subst (λ (fs : List FixAt). i < length fs) lent c.fixes-test.true in
-    let step = fix-step c.args.places.now c.args.syms.now c.args.«module» c.args.object.now c.args.numbers.now c.as_slice-fixes.result.now i _ lent c.requires below
+    let step = fix-step c.args.self.now.places.now c.args.self.now.syms.now c.args.self.now.number c.args.self.now.object.now c.args.numbers.now c.as_slice-fixes.result.now i _ lent c.requires below
     (map shown c.args.found.now.items) (map shown c.fixes.found.items) (map shown c.add_fixup.new.found.items) c.fixes.invariant.found c.fixes.invariant.judged c.in_ok-add_fixup.ensures.0 c.in_ok-add_fixup.ensures.1 in
     record { within = omega (arith, below); found = step.0; judged = step.1 }
