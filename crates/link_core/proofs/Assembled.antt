@@ -25,11 +25,9 @@ use Rattle.link_model.specs.Link.{Link, link_of, kept_link, exports}
 use Rattle.link_model.proofs.Rules.{rules}
 use Rattle.link_model.specs.SymbolRefusals.{sym_refusal}
 use Rattle.link_model.specs.LayoutRefusals.{lay_refusal}
-use Rattle.link_model.specs.Layout.{stack_top}
 use Rattle.link_model.specs.Exports.{entry_refusal}
 use Rattle.link_model.specs.Refusal.{place_refusal, link_refusal}
-use Rattle.link_model.specs.Header.{auto_data}
-use Rattle.link_model.specs.ImportTables.{used_pairs, modules_in, procs_in}
+use Rattle.link_model.specs.ImportTables.{modules_in, procs_in}
 use Rattle.link_model.proofs.ExportsStay.{chosen_are_whole}
 use Rattle.lx_exports.specs.Exports.{export_refusal}
 use Rattle.image_model.specs.File.{file_of}
@@ -42,12 +40,11 @@ use Rattle.sym_table.specs.Binding.{IsBound, IsRefused}
 use Rattle.seg_merge.specs.declared.layout.Layout.{Layout}
 use Rattle.seg_merge.specs.Layout.{IsLaidOut}
 use Rattle.seg_merge.specs.Places.{ArePlaces}
-use Rattle.link_place.specs.declared.placing.Placed.{Placed}
-use Rattle.link_place.specs.Placing.{ArePlaced}
-use Rattle.link_core.specs.declared.image.LinkTables.{LinkTables}
+use Rattle.link_core.specs.declared.image.LinkParts.{LinkParts}
+use Rattle.link_core.specs.declared.image.PlacedImage.{PlacedImage}
 use Rattle.link_core.specs.declared.planning.Plan.{Plan}
-use Rattle.link_core.specs.Parts.{AreTables, HasParts}
-use Rattle.link_core.specs.Planned.{IsPlannedLink, IsPlanOf, IsPlanned}
+use Rattle.link_core.specs.Parts.{AreParts, HasParts}
+use Rattle.link_core.specs.Planned.{IsPlannedLink, IsPlanned, plan_with}
 use Rattle.link_core.specs.declared.linking.Linked.{Linked}
 use Rattle.link_core.specs.Links.{IsLinked, IsLinkedFile, IsLinkedImage, RefusesLink}
 use Rattle.link_core.proofs.ExportsAre.{pairs-are, AreEntries, entries-of-link, exports-named}
@@ -56,36 +53,35 @@ use Rattle.link_core.proofs.PageCounts.{pages-are, sources-are}
 
 -- ---- the plan
 
-pub planned : (input : LinkInput) (s : SymbolTable) (layout : Layout) (placed : Placed) (t : LinkTables) (auto : ℕ) (m : Image) → WholeInput input → IsBound input s → IsLaidOut (link_of input s.chosen) layout → lay_refusal (link_of input s.chosen) ≡ None
-    → ArePlaced (link_of input s.chosen) (stack_top (link_of input s.chosen)) placed → auto ≡ auto_data (link_of input s.chosen) → AreTables layout.places s layout.objects (exports (link_of input s.chosen)) (used_pairs (link_of input s.chosen)) t
-    → HasParts input layout.objects auto placed t m → (place : place_refusal (link_of input s.chosen) ≡ None) → (p : Plan) → p.places ≡ layout.places → p.image ≡ m → IsPlannedLink (link_of input s.chosen) p
-planned input s layout placed t auto m whole bound laid lay fixed is_auto tables parts place p same_places same_image =
+pub planned : (input : LinkInput) (s : SymbolTable) (layout : Layout) (parts : LinkParts) (m : Image) → WholeInput input → IsBound input s → IsLaidOut (link_of input s.chosen) layout → lay_refusal (link_of input s.chosen) ≡ None
+    → AreParts (link_of input s.chosen) s layout parts → HasParts input layout.objects parts m → (p : Plan) → p.places ≡ layout.places → p.image ≡ m → IsPlannedLink (link_of input s.chosen) p
+planned input s layout parts m whole bound laid lay are has p same_places same_image =
     let l : Link = link_of input s.chosen in
     let are_whole = chosen_are_whole input s.chosen whole in
     let pairs = pairs-are l layout.places s (exports l) laid.places bound.symbols refl in
     let named = exports-named l are_whole whole.def in
-    let entries : AreEntries l t.exports = entries-of-link l layout.places s layout.objects (exports l) t.exports laid.places bound.symbols laid.objects refl are_whole lay named tables.exports in
-    let of_image : AreEntries l m.exports = subst (AreEntries l) (sym parts.exports) entries in
+    let entries : AreEntries l parts.tables.exports = entries-of-link l layout.places s layout.objects (exports l) parts.tables.exports laid.places bound.symbols laid.objects refl are_whole lay named are.tables.exports in
+    let of_image : AreEntries l m.exports = subst (AreEntries l) (sym has.exports) entries in
     let image : IsImageOfLink l m = record {
-      kind = parts.kind;
-      name = parts.name;
-      about = parts.about;
-      flags = parts.flags;
-      start = parts.start ∙ fixed.start;
-      stack = parts.stack ∙ fixed.top;
-      heap = parts.heap;
-      auto = parts.auto ∙ is_auto;
-      objects = parts.objects ∙ laid.objects;
-      bytes = parts.bytes ∙ fixed.bytes;
-      fixes = parts.fixes ∙ fixed.fixes;
-      imports = parts.imports ∙ tables.imports ∙ ap modules_in pairs;
-      procs = parts.procs ∙ tables.procs ∙ ap procs_in pairs;
+      kind = has.kind;
+      name = has.name;
+      about = has.about;
+      flags = has.flags;
+      start = has.start ∙ are.placed.start;
+      stack = has.stack ∙ are.placed.top;
+      heap = has.heap;
+      auto = has.auto ∙ are.auto;
+      objects = has.objects ∙ laid.objects;
+      bytes = has.bytes ∙ are.placed.bytes;
+      fixes = has.fixes ∙ are.placed.fixes;
+      imports = has.imports ∙ are.tables.imports ∙ ap modules_in pairs;
+      procs = has.procs ∙ are.tables.procs ∙ ap procs_in pairs;
       exports = of_image.exported;
     } in
-    let written = can-be-written l m image are_whole whole.def whole.stem bound.symbols.accepted lay parts.ranges of_image.fit in
+    let written = can-be-written l m image are_whole whole.def whole.stem bound.symbols.accepted lay has.ranges of_image.fit in
     record {
       lay = lay;
-      place = place;
+      place = are.place;
       places = subst (ArePlaces l) (sym same_places) laid.places;
       image = subst (IsImageOfLink l) (sym same_image) image;
       writable = subst CanBeWritten (sym same_image) written;
@@ -152,14 +148,12 @@ accepted input p h e =
     refusal_is (link_of (Kept input) p.syms.chosen) None None None None None (ap (option_map Sym) h.bound.symbols.accepted) refl (ap (option_map Lay) h.planned.lay) (ap (option_map Fixing) h.planned.place) (ap (option_map Entry) (sym h.planned.entries ∙ e))
 
 -- The plan of the link of what is kept is that of the input.
-pub plan-of-kept : (input kept : LinkInput) (s : SymbolTable) (p : Plan) → kept ≡ Kept input → IsBound kept s → comdat_refusal input s.chosen ≡ None → IsPlanOf kept s p → IsPlanned input p
-plan-of-kept input kept s p is bound joined h =
-    let same = sym h.syms_are in
-    record {
-      bound = subst (IsBound (Kept input)) same (subst (λ (k : LinkInput). IsBound k s) is bound);
-      joined = subst (λ (t : SymbolTable). comdat_refusal input t.chosen ≡ None) same joined;
-      planned = subst (λ (t : SymbolTable). IsPlannedLink (link_of (Kept input) t.chosen) p) same (subst (λ (k : LinkInput). IsPlannedLink (link_of k s.chosen) p) is h.planned);
-    }
+pub plan-of-kept : (input kept : LinkInput) (s : SymbolTable) (made : PlacedImage) → kept ≡ Kept input → IsBound kept s → comdat_refusal input s.chosen ≡ None → IsPlannedLink (link_of kept s.chosen) (plan_with s made) → IsPlanned input (plan_with s made)
+plan-of-kept input kept s made is bound joined h = record {
+  bound = subst (λ (k : LinkInput). IsBound k s) is bound;
+  joined = joined;
+  planned = subst (λ (k : LinkInput). IsPlannedLink (link_of k s.chosen) (plan_with s made)) is h;
+}
 
 pub kept-refused : (input kept : LinkInput) (s : SymbolTable) (r : LinkRefusal) → kept ≡ Kept input → IsBound kept s → comdat_refusal input s.chosen ≡ None → link_refusal (link_of kept s.chosen) ≡ Some r → RefusesLink input r
 kept-refused input kept s r is bound joined e =

@@ -22,6 +22,7 @@ use Rattle.lx_write.specs.Value.{CanBeWritten}
 use Rattle.sym_table.specs.Binding.{IsBound}
 use Rattle.sym_table.specs.Symbols.{SymbolTable}
 use Rattle.seg_merge.specs.Places.{ArePlaces}
+use Rattle.link_core.specs.declared.image.PlacedImage.{PlacedImage}
 use Rattle.link_core.specs.declared.planning.Plan.{Plan}
 
 -- The link is not refused before its exports are tried, and this is its image, which can be written.
@@ -34,10 +35,9 @@ pub record IsPlannedLink (l : Link) (p : Plan) : Type 0 where
   -- what the tables of exports refuse is what the link refuses
   pub entries : export_refusal p.image.exports ≡ entry_refusal l
 
--- The plan is that of the link of these symbols.
-pub record IsPlanOf (input : LinkInput) (syms : SymbolTable) (p : Plan) : Type 0 where
-  pub syms_are : p.syms ≡ syms
-  pub planned : IsPlannedLink (link_of input syms.chosen) p
+-- The plan that these symbols and this image make.
+abbrev pub plan_with : SymbolTable → PlacedImage → Plan
+plan_with s made = record { syms = s; places = made.places; image = made.image }
 
 -- No COMDATs clash, and this is the plan of the link of what is kept.
 pub record IsPlanned (input : LinkInput) (p : Plan) : Type 0 where

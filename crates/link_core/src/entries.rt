@@ -18,7 +18,7 @@ use lx_exports::OutEntry;
 use lx_types::{EntryHead, FixTarget, FwdKey, NoMemory, OBJECT_BIG, Seq};
 use lx_write::name_offsets;
 use obj_types::{Exp, Imp};
-use seg_merge::Places;
+use seg_merge::{Layout, Places};
 use std::alloc::Global;
 use sym_table::Symbols;
 
@@ -53,39 +53,49 @@ fn forwarder(target: FixTarget, offsets: &[u32]) -> Option<EntryHead>
     }
 }
 
+/// What the entries of a link's exports depend on.
+#[derive(Clone, Copy)]
+pub struct EntryContext<'a> {
+    /// Where segments, communals and groups stand.
+    places: &'a Places,
+    /// What names mean.
+    syms: &'a Symbols,
+    objects: &'a [LaidObject],
+    tables: &'a ImportTables,
+    /// The offset of each name of a procedure in its table.
+    offsets: &'a [u32],
+}
+
 // The entry of a forwarder to an import pair.
 fn forward_of(
     alloc: Global,
-    tables: &ImportTables,
-    offsets: &[u32],
+    context: &EntryContext<'_>,
     pair: &Imp,
 ) -> Result<Option<EntryHead>, NoMemory>
-    ensures { IfOk result (λ head. (pairs : List Imp) → ArePairs tables.now pairs → offsets.now ≡ offsets_of (procs_in pairs)
+    ensures { IfOk result (λ head. (pairs : List Imp) → ArePairs context.now.tables.now pairs → context.now.offsets.now ≡ offsets_of (procs_in pairs)
         → head ≡ forward_among pairs pair.now) }
 {
-    match tables.target_of(alloc, pair)? {
+    match context.tables.target_of(alloc, pair)? {
         None => Ok(None),
-        Some(target) => Ok(forwarder(target, offsets)),
+        Some(target) => Ok(forwarder(target, context.offsets)),
     }
 }
 
 // The entry of an export that leads here.
 fn head_of(
     alloc: Global,
-    imports: &[Imp],
-    tables: &ImportTables,
-    offsets: &[u32],
+    context: &EntryContext<'_>,
     target: Target,
 ) -> Result<Option<EntryHead>, NoMemory>
-    ensures { IfOk result (λ head. (pairs : List Imp) → ArePairs tables.now pairs → offsets.now ≡ offsets_of (procs_in pairs)
-        → head ≡ head_among imports.now pairs (target_shown target)) }
+    ensures { IfOk result (λ head. (pairs : List Imp) → ArePairs context.now.tables.now pairs → context.now.offsets.now ≡ offsets_of (procs_in pairs)
+        → head ≡ head_among context.now.syms.now.imports pairs (target_shown target)) }
 {
     match target {
         Target::Internal { object, offset } => Ok(Some(EntryHead::At { object, offset })),
         Target::Constant { value: _ } => Ok(None),
-        Target::Entry { slot } => match imports.get(slot as usize) {
+        Target::Entry { slot } => match context.syms.imports().get(slot as usize) {
             None => Ok(None),
-            Some(pair) => forward_of(alloc, tables, offsets, pair),
+            Some(pair) => forward_of(alloc, context, pair),
         },
     }
 }
@@ -139,18 +149,16 @@ fn entry_of(
 fn add_led(
     alloc: Global,
     entries: &mut Vec<OutEntry>,
-    imports: &[Imp],
-    tables: &ImportTables,
-    offsets: &[u32],
-    objects: &[LaidObject],
+    context: &EntryContext<'_>,
     export: &Exp,
     target: Target,
 ) -> Result<(), NoMemory>
-    ensures { OnOk result ((pairs : List Imp) → ArePairs tables.now pairs → offsets.now ≡ offsets_of (procs_in pairs)
-        → entries.new.items ≡ entries.old.items ++ option_to_list (entry_to imports.now pairs objects.now export.now (target_shown target))) }
+    ensures { OnOk result ((pairs : List Imp) → ArePairs context.now.tables.now pairs → context.now.offsets.now ≡ offsets_of (procs_in pairs)
+        → entries.new.items ≡ entries.old.items
+        ++ option_to_list (entry_to context.now.syms.now.imports pairs context.now.objects.now export.now (target_shown target))) }
 {
-    if let Some(head) = head_of(alloc, imports, tables, offsets, target)? {
-        entries.push(entry_of(alloc, objects, export, target, head)?)?;
+    if let Some(head) = head_of(alloc, context, target)? {
+        entries.push(entry_of(alloc, context.objects, export, target, head)?)?;
     }
     Ok(())
 }
@@ -159,56 +167,53 @@ fn add_led(
 fn add_entry(
     alloc: Global,
     entries: &mut Vec<OutEntry>,
-    places: &Places,
-    syms: &Symbols,
-    tables: &ImportTables,
-    offsets: &[u32],
-    objects: &[LaidObject],
+    context: &EntryContext<'_>,
     export: &Exp,
 ) -> Result<(), NoMemory>
-    ensures { OnOk result ((pairs : List Imp) → ArePairs tables.now pairs → offsets.now ≡ offsets_of (procs_in pairs)
-        → entries.new.items ≡ entries.old.items ++ option_to_list (entry_in places.now syms.now pairs objects.now export.now)) }
+    ensures { OnOk result ((pairs : List Imp) → ArePairs context.now.tables.now pairs → context.now.offsets.now ≡ offsets_of (procs_in pairs)
+        → entries.new.items ≡ entries.old.items
+        ++ option_to_list (entry_in context.now.places.now context.now.syms.now pairs context.now.objects.now export.now)) }
 {
-    if let Some(target) = lead_of(places, syms, export) {
-        add_led(
-            alloc,
-            entries,
-            syms.imports(),
-            tables,
-            offsets,
-            objects,
-            export,
-            target,
-        )?;
+    if let Some(target) = lead_of(context.places, context.syms, export) {
+        add_led(alloc, entries, context, export, target)?;
     }
     Ok(())
 }
 
-/// The entries of these exports, in order, where these are the import tables and the objects of the link.
+// The entries of these exports, in order.
+fn entries_by(
+    alloc: Global,
+    context: &EntryContext<'_>,
+    exports: &[&Exp],
+) -> Result<Vec<OutEntry>, NoMemory>
+    ensures { IfOk result (λ entries. (pairs : List Imp) → ArePairs context.now.tables.now pairs → context.now.offsets.now ≡ offsets_of (procs_in pairs)
+        → entries.items ≡ entries_in context.now.places.now context.now.syms.now pairs context.now.objects.now (map (λ x. x.now) exports.now)) }
+{
+    let mut entries = Vec::new(alloc);
+    for export in exports {
+        add_entry(alloc, &mut entries, context, export)?;
+    }
+    Ok(entries)
+}
+
+/// The entries of these exports, in order, where these are the import tables of a link that has a layout.
 pub fn entries_of(
     alloc: Global,
-    places: &Places,
+    layout: &Layout,
     syms: &Symbols,
     tables: &ImportTables,
-    objects: &[LaidObject],
     exports: &[&Exp],
 ) -> Result<Vec<OutEntry>, NoMemory>
     ensures { IfOk result (λ entries. (pairs : List Imp) → ArePairs tables.now pairs
-        → entries.items ≡ entries_in places.now syms.now pairs objects.now (map (λ x. x.now) exports.now)) }
+        → entries.items ≡ entries_in layout.now.places syms.now pairs layout.now.objects (map (λ x. x.now) exports.now)) }
 {
     let offsets = name_offsets(alloc, tables.procs())?;
-    let mut entries = Vec::new(alloc);
-    for export in exports {
-        add_entry(
-            alloc,
-            &mut entries,
-            places,
-            syms,
-            tables,
-            offsets.as_slice(),
-            objects,
-            export,
-        )?;
-    }
-    Ok(entries)
+    let context = EntryContext {
+        places: &layout.places,
+        syms,
+        objects: layout.objects(),
+        tables,
+        offsets: offsets.as_slice(),
+    };
+    entries_by(alloc, &context, exports)
 }

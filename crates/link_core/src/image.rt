@@ -4,25 +4,26 @@ ghost use Rattle.std.specs.Prelude.{◌≡◌, ◌+◌, IfOk, List, map, unwrap_
 ghost use Rattle.lx_types.specs.declared.parts.TheConstants as flags;
 ghost use Rattle.obj_types.specs.declared.symbol.Imp.{Imp};
 ghost use Rattle.link_model.specs.Flags.{flag};
+ghost use Rattle.link_model.specs.Header.{auto_data};
 ghost use Rattle.link_model.specs.ImportTables.{modules_in, procs_in};
-ghost use Rattle.link_core.specs.Exports.{exports_of as asked_of};
+ghost use Rattle.link_model.specs.Link.{link_of, exports};
+ghost use Rattle.seg_merge.specs.Places.{ArePlaces};
 ghost use Rattle.link_core.specs.Parts.{AreTables, HasParts};
 
+use crate::asked::{Asked, asked_of};
 use crate::entries::entries_of;
-use crate::exports::exports_of;
 use crate::ranges::fix_ranges;
 use crate::tables::link_tables;
-use link_model::LaidObject;
 use link_place::Placed;
 use lx_exports::OutEntry;
 use lx_types::{MODULE_INIT_EACH, MODULE_TERM_EACH, Name, Names, NoMemory, Seq};
 use lx_write::Image;
-use obj_types::{DefFile, LinkInput, ObjModule};
-use seg_merge::Layout;
+use obj_types::{DefFile, LinkInput};
+use seg_merge::{Layout, Places};
 use std::alloc::Global;
 use sym_table::Symbols;
 
-/// What a module imports and exports.
+/// What a module imports and exports, and its automatic data object.
 #[derive(Drop)]
 pub struct LinkTables {
     /// The import modules, in upper case.
@@ -31,39 +32,63 @@ pub struct LinkTables {
     pub procs: Names,
     /// The exports.
     pub exports: Seq<OutEntry>,
+    /// The automatic data object, or 0.
+    pub auto: u32,
 }
 
-/// What a link of these modules imports and exports.
-pub fn tables_of(
+/// What stands in a link's pages, and its tables.
+#[derive(Drop)]
+pub struct LinkParts {
+    pub placed: Placed,
+    pub tables: LinkTables,
+}
+
+/// The image of a link, and where its segments, communals and groups stand.
+#[derive(Drop)]
+pub struct PlacedImage {
+    pub places: Places,
+    pub image: Image,
+}
+
+// The tables of a link that asks for this.
+fn tables_for(
     alloc: Global,
-    input: &LinkInput,
-    modules: &[&ObjModule],
+    asked: &Asked<'_>,
     syms: &Symbols,
     layout: &Layout,
     placed: &Placed,
 ) -> Result<LinkTables, NoMemory>
-    ensures { IfOk result (λ tables. (pairs : List Imp) → placed.now.imports ≡ modules_in pairs → placed.now.procs ≡ procs_in pairs
-        → AreTables layout.now.places syms.now layout.now.objects (asked_of (map (λ m. m.now) modules.now) input.now.def) pairs tables) }
+    ensures tables { IfOk result (λ tables. (pairs : List Imp) → placed.now.imports ≡ modules_in pairs → placed.now.procs ≡ procs_in pairs
+        → AreTables layout.now.places syms.now layout.now.objects (map (λ x. x.now) asked.now.exports.items) pairs tables) }
+    ensures auto { IfOk result (λ tables. tables.auto ≡ asked.now.auto) }
 {
-    let exports = exports_of(alloc, input, modules)?;
-    let imports = placed.imports.as_slice();
-    let procs = placed.procs.as_slice();
-    let places = &layout.places;
-    let tables = link_tables(alloc, imports, procs, places, syms, exports.as_slice())?;
-    let entries = entries_of(
-        alloc,
-        places,
-        syms,
-        &tables,
-        layout.objects(),
-        exports.as_slice(),
-    )?;
+    let exports = asked.exports.as_slice();
+    let tables = link_tables(alloc, &layout.places, syms, placed, exports)?;
+    let entries = entries_of(alloc, layout, syms, &tables, exports)?;
     let (imports, procs) = tables.into_names();
     Ok(LinkTables {
         imports,
         procs,
         exports: Seq::from_vec(entries),
+        auto: asked.auto,
     })
+}
+
+/// What a link imports and exports whose fixups are placed, and its automatic data object.
+pub fn tables_of(
+    alloc: Global,
+    input: &LinkInput,
+    syms: &Symbols,
+    layout: &Layout,
+    placed: &Placed,
+) -> Result<LinkTables, NoMemory>
+    ensures tables { IfOk result (λ tables. (pairs : List Imp) → placed.now.imports ≡ modules_in pairs → placed.now.procs ≡ procs_in pairs
+        → AreTables layout.now.places syms.now layout.now.objects (exports (link_of input.now syms.now.chosen)) pairs tables) }
+    ensures auto { IfOk result (λ tables. ArePlaces (link_of input.now syms.now.chosen) layout.now.places
+        → tables.auto ≡ auto_data (link_of input.now syms.now.chosen)) }
+{
+    let asked = asked_of(alloc, input, syms, &layout.places)?;
+    tables_for(alloc, &asked, syms, layout, placed)
 }
 
 // The module's name: that of NAME or LIBRARY, else the stem.
@@ -85,34 +110,53 @@ fn module_flags(def: &DefFile) -> u32
     init + term
 }
 
-/// The image with these objects, this automatic data object, what is placed in its pages, and these tables.
-pub fn image_of(
-    alloc: Global,
-    input: &LinkInput,
-    objects: Seq<LaidObject>,
-    auto: u32,
-    placed: Placed,
-    tables: LinkTables,
-) -> Result<Image, NoMemory>
-    ensures { IfOk result (λ image. HasParts input.now objects auto placed tables image) }
+// What a module is called, and its description.
+#[derive(Drop)]
+struct Title {
+    name: Name,
+    about: Name,
+}
+
+fn title_of(alloc: Global, input: &LinkInput) -> Result<Title, NoMemory>
+    ensures name { IfOk result (λ title. title.name ≡ unwrap_or input.now.def.name input.now.stem) }
+    ensures about { IfOk result (λ title. title.about ≡ input.now.def.about) }
 {
     let name = name_of(alloc, input)?;
     let about = input.def.about.copied(alloc)?;
+    Ok(Title { name, about })
+}
+
+/// The image of a link with this layout and these parts.
+pub fn image_of(
+    alloc: Global,
+    input: &LinkInput,
+    layout: Layout,
+    parts: LinkParts,
+) -> Result<PlacedImage, NoMemory>
+    ensures image { IfOk result (λ made. HasParts input.now layout.objects parts made.image) }
+    ensures places { IfOk result (λ made. made.places ≡ layout.places) }
+{
+    let title = title_of(alloc, input)?;
+    let LinkParts { placed, tables } = parts;
     fix_ranges(placed.fixes.as_slice());
-    Ok(Image {
+    let image = Image {
         kind: input.def.kind,
-        name,
-        about,
+        name: title.name,
+        about: title.about,
         flags: module_flags(&input.def),
         start: placed.start,
         stack: placed.stack,
         heap: input.def.heap,
-        auto,
-        objects,
+        auto: tables.auto,
+        objects: layout.objects,
         bytes: placed.bytes,
         fixes: placed.fixes,
         imports: tables.imports,
         procs: tables.procs,
         exports: tables.exports,
+    };
+    Ok(PlacedImage {
+        places: layout.places,
+        image,
     })
 }

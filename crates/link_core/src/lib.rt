@@ -2,6 +2,7 @@
 //! Module Format").
 #![tactic(auto)]
 
+mod asked;
 mod auto;
 mod counts;
 mod entries;

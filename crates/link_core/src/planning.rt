@@ -1,26 +1,23 @@
 //! A link before its file is written: symbols, then the layout, then fixups, and with them all parts of the module.
 
-ghost use Rattle.std.specs.Prelude.{◌≡◌, Some, None, IfOk};
+ghost use Rattle.std.specs.Prelude.{◌≡◌, Some, None};
 ghost use Rattle.lx_types.specs.Answers.{Answers};
 ghost use Rattle.obj_types.specs.Input.{WholeInput};
 ghost use Rattle.link_model.specs.Kept.{Kept};
-ghost use Rattle.link_model.specs.Layout.{stack_top};
 ghost use Rattle.link_model.specs.LayoutRefusals.{lay_refusal};
 ghost use Rattle.link_model.specs.Link.{link_of};
-ghost use Rattle.link_model.specs.Refusal.{place_refusal, link_refusal};
+ghost use Rattle.link_model.specs.Refusal.{link_refusal};
 ghost use Rattle.sym_table.specs.Binding.{IsBound};
 ghost use Rattle.seg_merge.specs.Layout.{IsLaidOut};
-ghost use Rattle.link_place.specs.Placing.{ArePlaced};
 ghost use Rattle.link_core.specs.Links.{RefusesLink};
-ghost use Rattle.link_core.specs.Planned.{IsPlanOf, IsPlanned};
+ghost use Rattle.link_core.specs.Parts.{AreParts};
+ghost use Rattle.link_core.specs.Planned.{IsPlanned, IsPlannedLink, plan_with};
 
-use crate::auto::auto_of;
 use crate::failing::{comdat_failed, lay_failed, place_failed, sym_failed};
-use crate::image::{image_of, tables_of};
+use crate::image::{LinkParts, PlacedImage, image_of, tables_of};
 use comdat_core::judge;
-use link_model::{LinkRefusal, modules_at};
-use link_place::{Placed, place_fixes};
-use lx_types::NoMemory;
+use link_model::LinkRefusal;
+use link_place::place_fixes;
 use lx_write::Image;
 use obj_types::{Fail, LinkInput};
 use seg_merge::{Layout, Places, lay_out};
@@ -38,73 +35,66 @@ pub struct Plan {
     pub image: Image,
 }
 
-// The plan of a link whose fixups are placed.
-fn plan_placed(
+// What stands in the pages of a link that has a layout, and its tables.
+fn parts_of(
     alloc: Global,
     input: &LinkInput,
-    syms: Symbols,
-    layout: Layout,
-    placed: Placed,
-) -> Result<Plan, NoMemory>
+    syms: &Symbols,
+    layout: &Layout,
+) -> Result<LinkParts, Fail<LinkRefusal>>
     requires whole { WholeInput input.now }
-    requires bound { IsBound input.now syms }
-    requires laid { IsLaidOut (link_of input.now syms.chosen) layout }
-    requires lay { lay_refusal (link_of input.now syms.chosen) ≡ None }
-    requires place { place_refusal (link_of input.now syms.chosen) ≡ None }
-    requires placed { ArePlaced (link_of input.now syms.chosen) (stack_top (link_of input.now syms.chosen)) placed }
-    ensures { IfOk result (λ plan. IsPlanOf input.now syms plan) }
+    requires bound { IsBound input.now syms.now }
+    requires laid { IsLaidOut (link_of input.now syms.now.chosen) layout.now }
+    requires lay { lay_refusal (link_of input.now syms.now.chosen) ≡ None }
+    ensures { Answers result
+        (λ parts. AreParts (link_of input.now syms.now.chosen) syms.now layout.now parts)
+        (λ refusal. link_refusal (link_of input.now syms.now.chosen) ≡ Some refusal) }
 {
-    let modules = modules_at(alloc, input, syms.chosen())?;
-    let modules = modules.as_slice();
-    let auto = auto_of(&layout.places, modules)?;
-    let tables = tables_of(alloc, input, modules, &syms, &layout, &placed)?;
-    let Layout {
-        objects,
-        places,
-        stack: _stack,
-    } = layout;
-    let image = image_of(alloc, input, objects, auto, placed, tables)?;
-    Ok(Plan {
-        syms,
-        places,
-        image,
-    })
-}
-
-// The plan of a link that has a layout.
-fn plan_laid(
-    alloc: Global,
-    input: &LinkInput,
-    syms: Symbols,
-    layout: Layout,
-) -> Result<Plan, Fail<LinkRefusal>>
-    requires whole { WholeInput input.now }
-    requires bound { IsBound input.now syms }
-    requires laid { IsLaidOut (link_of input.now syms.chosen) layout }
-    requires lay { lay_refusal (link_of input.now syms.chosen) ≡ None }
-    ensures { Answers result (λ plan. IsPlanOf input.now syms plan) (λ refusal. link_refusal (link_of input.now syms.chosen) ≡ Some refusal) }
-{
-    match place_fixes(alloc, input, &syms, &layout) {
+    match place_fixes(alloc, input, syms, layout) {
         Err(fail) => Err(place_failed(fail)),
-        Ok(placed) => Ok(plan_placed(alloc, input, syms, layout, placed)?),
+        Ok(placed) => {
+            let tables = tables_of(alloc, input, syms, layout, &placed)?;
+            Ok(LinkParts { placed, tables })
+        }
     }
 }
 
-// The plan of a link whose names have meanings, of what is kept of an input.
+// The image of a link that has a layout.
+fn plan_laid(
+    alloc: Global,
+    input: &LinkInput,
+    syms: &Symbols,
+    layout: Layout,
+) -> Result<PlacedImage, Fail<LinkRefusal>>
+    requires whole { WholeInput input.now }
+    requires bound { IsBound input.now syms.now }
+    requires laid { IsLaidOut (link_of input.now syms.now.chosen) layout }
+    requires lay { lay_refusal (link_of input.now syms.now.chosen) ≡ None }
+    ensures { Answers result
+        (λ made. IsPlannedLink (link_of input.now syms.now.chosen) (plan_with syms.now made))
+        (λ refusal. link_refusal (link_of input.now syms.now.chosen) ≡ Some refusal) }
+{
+    match parts_of(alloc, input, syms, &layout) {
+        Err(fail) => Err(fail),
+        Ok(parts) => Ok(image_of(alloc, input, layout, parts)?),
+    }
+}
+
+// The image of a link whose names have meanings, of what is kept of an input.
 fn plan_bound(
     alloc: Global,
     input: &LinkInput,
     kept: &LinkInput,
-    syms: Symbols,
-) -> Result<Plan, Fail<LinkRefusal>>
+    syms: &Symbols,
+) -> Result<PlacedImage, Fail<LinkRefusal>>
     requires whole { WholeInput kept.now }
     requires kept { kept.now ≡ Kept input.now }
-    requires bound { IsBound kept.now syms }
-    ensures { Answers result (λ plan. IsPlanned input.now plan) (λ refusal. RefusesLink input.now refusal) }
+    requires bound { IsBound kept.now syms.now }
+    ensures { Answers result (λ made. IsPlanned input.now (plan_with syms.now made)) (λ refusal. RefusesLink input.now refusal) }
 {
-    match judge(alloc, input, &syms) {
+    match judge(alloc, input, syms) {
         Err(fail) => Err(comdat_failed(fail)),
-        Ok(()) => match lay_out(alloc, kept, &syms) {
+        Ok(()) => match lay_out(alloc, kept, syms) {
             Err(fail) => Err(lay_failed(fail)),
             Ok(layout) => plan_laid(alloc, kept, syms, layout),
         },
@@ -124,6 +114,13 @@ pub fn plan_link(
 {
     match bind(alloc, kept) {
         Err(fail) => Err(sym_failed(fail)),
-        Ok(syms) => plan_bound(alloc, input, kept, syms),
+        Ok(syms) => match plan_bound(alloc, input, kept, &syms) {
+            Err(fail) => Err(fail),
+            Ok(made) => Ok(Plan {
+                syms,
+                places: made.places,
+                image: made.image,
+            }),
+        },
     }
 }

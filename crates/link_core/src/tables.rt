@@ -11,6 +11,7 @@ ghost use Rattle.link_core.specs.Exports.{pair_in};
 
 use crate::exports::forwarded;
 use link_fix::{FirstNames, ImportTables};
+use link_place::Placed;
 use lx_types::{Name, NoMemory};
 use obj_types::Exp;
 use seg_merge::Places;
@@ -63,22 +64,28 @@ fn add_forwards(
     Ok(())
 }
 
-/// The import tables of the pairs whose modules and procedures these are, and behind them of the exports that lead to
-/// other modules.
+// The import tables of the pairs that fixups name, where these are their modules and procedures.
+fn first_tables(alloc: Global, placed: &Placed) -> Result<ImportTables, NoMemory>
+    ensures { IfOk result (λ tables. (pairs : List Imp) → placed.now.imports ≡ modules_in pairs → placed.now.procs ≡ procs_in pairs
+        → ArePairs tables pairs) }
+{
+    let modules = first_names(alloc, placed.imports.as_slice())?;
+    let procs = first_names(alloc, placed.procs.as_slice())?;
+    Ok(ImportTables::of(modules, procs))
+}
+
+/// The import tables of the pairs that fixups name, and behind them of the exports that lead to other modules.
 pub fn link_tables(
     alloc: Global,
-    imports: &[Name],
-    procs: &[Name],
     places: &Places,
     syms: &Symbols,
+    placed: &Placed,
     exports: &[&Exp],
 ) -> Result<ImportTables, NoMemory>
-    ensures { IfOk result (λ tables. (pairs : List Imp) → imports.now ≡ modules_in pairs → procs.now ≡ procs_in pairs
+    ensures { IfOk result (λ tables. (pairs : List Imp) → placed.now.imports ≡ modules_in pairs → placed.now.procs ≡ procs_in pairs
         → ArePairs tables (pairs ++ filter_map (pair_in places.now syms.now) (map (λ x. x.now) exports.now))) }
 {
-    let modules = first_names(alloc, imports)?;
-    let procs = first_names(alloc, procs)?;
-    let mut tables = ImportTables::of(modules, procs);
+    let mut tables = first_tables(alloc, placed)?;
     add_forwards(alloc, &mut tables, places, syms, exports)?;
     Ok(tables)
 }

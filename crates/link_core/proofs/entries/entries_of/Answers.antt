@@ -1,15 +1,13 @@
-use Rattle.std.proofs.Common.{◌≡◌, ◌∙◌, ◌++◌, ap, List, []}
-use Rattle.std.specs.Prelude.{option_to_list}
-use Rattle.link_model.specs.ImportTables.{procs_in}
-use Rattle.lx_exports.specs.declared.exports.OutEntry.{OutEntry}
-use Rattle.link_core.specs.Exports.{offsets_of, entry_in}
-use Rattle.link_core.proofs.Steps.{picked-more, offsets-are}
+use Rattle.std.proofs.Common.{◌∙◌, ap, map, List}
+use Rattle.std.proofs.lemmas.Result.{IfOk-weaker}
+use Rattle.link_model.specs.declared.symbols.LaidObject.{LaidObject}
+use Rattle.link_core.specs.Exports.{entries_in}
+use Rattle.link_core.proofs.Steps.{offsets-are}
 use Rattle.link_core.proofs.entries.entries_of.Goals as goal
 
-pub loop-export-preserved : goal.loop-export-preserved
-loop-export-preserved c = λ pairs are.
-    let f = entry_in c.args.places.now c.args.syms.now pairs c.args.objects.now in
-    let offsets : c.as_slice.result.now ≡ offsets_of (procs_in pairs) = c.as_slice.ensures ∙ offsets-are c.args.tables.now c.procs.result.now c.in_ok-offsets.offsets pairs are c.procs.ensures c.in_ok-offsets.ensures in
-    c.in_ok-add_entry.ensures pairs are offsets
-    ∙ ap (λ (es : List OutEntry). es ++ option_to_list (f c.export-item.result.now)) (c.loop-export.invariant pairs are)
-    ∙ picked-more f [] c.args.exports.now c.loop-export.export-index c.export-item.result c.loop-export-test.true c.export-item.is
+pub returns : goal.returns
+returns c = IfOk-weaker c.entries_by.result _ _
+    (λ entries made pairs are.
+    made pairs are (c.as_slice.ensures ∙ offsets-are c.args.tables.now c.procs.result.now c.in_ok-offsets.offsets pairs are c.procs.ensures c.in_ok-offsets.ensures)
+    ∙ ap (λ (os : List LaidObject). entries_in c.args.layout.now.places c.args.syms.now pairs os (map (λ x. x.now) c.args.exports.now)) c.objects.ensures)
+    c.entries_by.ensures

@@ -10,17 +10,17 @@ use Rattle.link_core.proofs.planning.plan_bound.Goals as goal
 pub returns-in-Err : goal.returns-in-Err
 returns-in-Err c =
     failed-by c.judge.result c.in-Err.fail comdat_failed Comdat c.comdat_failed.result _ _ _ _ (λ e. refl) refl c.comdat_failed.ensures c.in-Err.is
-    (λ e h. comdat-refused c.args.input.now c.args.syms e (subst (λ k. IsBound k c.args.syms) c.requires.kept c.requires.bound) h) c.judge.ensures
+    (λ e h. comdat-refused c.args.input.now c.args.syms.now e (subst (λ k. IsBound k c.args.syms.now) c.requires.kept c.requires.bound) h) c.judge.ensures
 
 pub returns-in-Err-lay_out : goal.returns-in-Err-lay_out
 returns-in-Err-lay_out c =
-    let joined : comdat_refusal c.args.input.now c.args.syms.chosen ≡ None = answers-value c.judge.result c.in-Ok.field-0 _ _ c.in-Ok.is c.judge.ensures in
+    let joined : comdat_refusal c.args.input.now c.args.syms.now.chosen ≡ None = answers-value c.judge.result c.in-Ok.field-0 _ _ c.in-Ok.is c.judge.ensures in
     failed-by c.lay_out.result c.in-Err-lay_out.fail lay_failed Lay c.lay_failed.result _ _ _ _ (λ e. refl) refl c.lay_failed.ensures c.in-Err-lay_out.is
-    (λ e h. kept-refused c.args.input.now c.args.kept.now c.args.syms (Lay e) c.requires.kept c.requires.bound joined (lay-refused c.args.kept.now c.args.syms e c.requires.bound h)) c.lay_out.ensures
+    (λ e h. kept-refused c.args.input.now c.args.kept.now c.args.syms.now (Lay e) c.requires.kept c.requires.bound joined (lay-refused c.args.kept.now c.args.syms.now e c.requires.bound h)) c.lay_out.ensures
 
 pub returns-in-Ok-lay_out : goal.returns-in-Ok-lay_out
 returns-in-Ok-lay_out c =
-    let joined : comdat_refusal c.args.input.now c.args.syms.chosen ≡ None = answers-value c.judge.result c.in-Ok.field-0 _ _ c.in-Ok.is c.judge.ensures in
+    let joined : comdat_refusal c.args.input.now c.args.syms.now.chosen ≡ None = answers-value c.judge.result c.in-Ok.field-0 _ _ c.in-Ok.is c.judge.ensures in
     answers-map c.plan_laid.result _ _ _ _
-    (λ p h. plan-of-kept c.args.input.now c.args.kept.now c.args.syms p c.requires.kept c.requires.bound joined h)
-    (λ r h. kept-refused c.args.input.now c.args.kept.now c.args.syms r c.requires.kept c.requires.bound joined h) c.plan_laid.ensures
+    (λ p h. plan-of-kept c.args.input.now c.args.kept.now c.args.syms.now p c.requires.kept c.requires.bound joined h)
+    (λ r h. kept-refused c.args.input.now c.args.kept.now c.args.syms.now r c.requires.kept c.requires.bound joined h) c.plan_laid.ensures

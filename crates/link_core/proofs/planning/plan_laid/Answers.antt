@@ -1,15 +1,9 @@
 use Rattle.std.proofs.Common.{refl}
-use Rattle.link_model.specs.declared.refusals.LinkRefusal.TheVariants.{Fixing}
 use Rattle.link_place.proofs.AnswersMapped.{answers-value}
-use Rattle.link_core.specs.Planned.{place_failed}
-use Rattle.link_core.proofs.Assembled.{failed-by, place-refused}
+use Rattle.link_core.proofs.Assembled.{planned}
 use Rattle.link_core.proofs.planning.plan_laid.Goals as goal
 
-pub plan_placed-requires : goal.plan_placed-requires
-plan_placed-requires c =
-    let told = answers-value c.place_fixes.result c.in-Ok.placed _ _ c.in-Ok.is c.place_fixes.ensures in
-    record { whole = c.requires.whole; bound = c.requires.bound; laid = c.requires.laid; lay = c.requires.lay; place = told.0; placed = told.1 }
-
-pub returns-in-Err : goal.returns-in-Err
-returns-in-Err c =
-    failed-by c.place_fixes.result c.in-Err.fail place_failed Fixing c.place_failed.result _ _ _ _ (λ e. refl) refl c.place_failed.ensures c.in-Err.is (λ e h. place-refused c.args.input.now c.args.syms e c.requires.bound c.requires.lay h) c.place_fixes.ensures
+pub returns-in_ok-image_of-in-Ok : goal.returns-in_ok-image_of-in-Ok
+returns-in_ok-image_of-in-Ok c =
+    planned c.args.input.now c.args.syms.now c.args.layout c.in-Ok.parts c.in_ok-image_of-in-Ok.field-0.image c.requires.whole c.requires.bound c.requires.laid c.requires.lay
+    (answers-value c.parts_of.result c.in-Ok.parts _ _ c.in-Ok.is c.parts_of.ensures) c.in_ok-image_of-in-Ok.ensures.image _ c.in_ok-image_of-in-Ok.ensures.places refl
