@@ -10,3 +10,4 @@ mod RecordsWritten
 mod TablesWritten
 mod Fields
 mod Asked
+mod Zeros

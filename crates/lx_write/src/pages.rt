@@ -1,7 +1,7 @@
 //! The pages of objects: the object page table and the data of pages ("Object Page Table", "Iterated
 //! Data Pages").
 
-ghost use Rattle.std.specs.Prelude.{◌≡◌, ◌++◌, ◌≤◌, [], ◌∷◌, List, IfOk, length, map, drop};
+ghost use Rattle.std.specs.Prelude.{◌≡◌, ◌++◌, ◌≤◌, [], ◌∷◌, List, IfOk, true, length, map, drop};
 ghost use Rattle.std.specs.List.{flat_map};
 ghost use Rattle.lx_types.specs.declared.object.TheConstants.{PAGE_SIZE};
 ghost use Rattle.lx_model.specs.Packed.{data_of, filled};
@@ -21,11 +21,23 @@ pub struct Pages {
     pub contents: Vec<u8>,
 }
 
-// The bytes of a page up to the last one that is not 0.
+const ZEROS: [u8; 4096] = [0; 4096];
+
+// Whether a page has no byte but zeros.
+fn is_zero(page: &[u8]) -> bool
+    ensures { result ≡ true → data_of page.now ≡ [] }
+{
+    page.len() <= ZEROS.len() && page == &ZEROS[..page.len()]
+}
+
+// The bytes of a page up to the last one that is not 0. A page of zeros is not walked byte by byte.
 fn data_of(page: &[u8]) -> &[u8]
     ensures same { result.now ≡ data_of page.now }
     ensures within { length result.now ≤ length page.now }
 {
+    if is_zero(page) {
+        return &page[..0];
+    }
     let mut end = page.len();
     while end > 0 && page[end - 1] == 0 {
         end -= 1;
