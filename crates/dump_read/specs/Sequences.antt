@@ -29,7 +29,8 @@ CountIn InRange n xs = AllIn InRange xs × (length xs ≡ n)
 -- ---- a list that is being read
 
 -- What a reader took so far are some values of a list: whatever values it takes then, all of them were taken.
-abbrev pub StarSoFar : {X : Type 0} → (ℕ × X → List ℕ) → (X → Type 0) → (X → List (List ℕ)) → List ℕ → ℕ → List X → State → State → Type 0
+abbrev pub StarSoFar : {X : Type 0} → (ℕ × X → List ℕ) → (X → Type 0) → (X → List (List ℕ)) → List ℕ → ℕ → List X → State → State
+    → Type 0
 StarSoFar {X} text InRange opens first k items start here =
     (ys : List X) (fin : State) → Reads (list_text text (k + length items)) (AllIn InRange) (list_opens (first ∷ []) opens) ys here fin
     → Reads (list_text text k) (AllIn InRange) (list_opens (first ∷ []) opens) (items ++ ys) start fin

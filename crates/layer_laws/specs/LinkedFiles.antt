@@ -30,4 +30,5 @@ pub record MeansItsLink (input : LinkInput) (file : List ℕ) : Type 0 where
 
 abbrev pub LinkedFilesMeanTheirLinks : Type 0
 LinkedFilesMeanTheirLinks =
-    (input : LinkInput) (file : List ℕ) → WholeInput input → InputInRange input → IsLinkedFile input file → length file < 2 ^ 32 → MeansItsLink input file
+    (input : LinkInput) (file : List ℕ) → WholeInput input → InputInRange input → IsLinkedFile input file → length file < 2 ^ 32
+    → MeansItsLink input file

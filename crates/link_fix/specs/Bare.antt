@@ -12,7 +12,15 @@ abbrev pub bare : Fixup → Fixup
 bare q =
     record {
       by = 0;
-      fix = record { seg = 0; offset = 0; loc = q.fix.loc; selfrel = q.fix.selfrel; frame = frames.OfTarget; goal = goals.Seg 0; disp = wrapped (q.fix.disp + q.standing) };
+      fix = record {
+        seg = 0;
+        offset = 0;
+        loc = q.fix.loc;
+        selfrel = q.fix.selfrel;
+        frame = frames.OfTarget;
+        goal = goals.Seg 0;
+        disp = wrapped (q.fix.disp + q.standing);
+      };
       object = q.object;
       offset = q.offset;
       narrow = q.narrow;

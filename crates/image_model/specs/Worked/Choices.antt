@@ -25,7 +25,8 @@ pub record WorkedForms : Type 0 where
   -- zeros behind the last byte that is not 0 are no data
   pub short : form_of_page (0 ∷ 1 ∷ 0 ∷ 0 ∷ []) ≡ plain (0 ∷ 1 ∷ [])
   pub full : form_of_page (replicate 4096 0x90) ≡ iterated (record { times = 4096; bytes = 0x90 ∷ [] } ∷ [])
-  pub pattern : form_of_page (repeat 1024 (0xDE ∷ 0xAD ∷ 0xBE ∷ 0xEF ∷ [])) ≡ iterated (record { times = 1024; bytes = 0xDE ∷ 0xAD ∷ 0xBE ∷ 0xEF ∷ [] } ∷ [])
+  pub pattern : form_of_page (repeat 1024 (0xDE ∷ 0xAD ∷ 0xBE ∷ 0xEF ∷ [])) ≡
+      iterated (record { times = 1024; bytes = 0xDE ∷ 0xAD ∷ 0xBE ∷ 0xEF ∷ [] } ∷ [])
   -- five bytes of one value take five bytes as a group
   pub no_gain : form_of_page (replicate 5 7) ≡ plain (replicate 5 7)
   -- a run of eight has a group of its own, and one of seven has not
