@@ -3,7 +3,7 @@
 
 Usage: edits.py [--lanes N] [NAME ..]     NAME: a crate; all that have edits where none is named
        edits.py --applies [NAME ..]       only looks whether the text that each edit replaces stands once
-       edits.py --gate FOLDER             all edits, in one run of the gate over what is committed, in a new clone, FOLDER
+       edits.py --gate FOLDER             all edits, in one run of `rt ci` over what is committed, in a new clone, FOLDER
 
 The gate tries the files crates/NAME/must-fail/*.edit alone. Beside them lie edits that are kept as .md; where the lines of one are
 indented, no clause refuses it, as it says, and it is passed over here. This script copies the repository into a temporary folder, with
@@ -12,8 +12,8 @@ by crate, or N crates side by side. Libraries that are not proved yet are proved
 is done, and last how many there were, and how many were refused. The exit status is 0 where all were. A whole run takes
 some two hours on one processor.
 
-With --gate they are tried where the gate proves each crate (`bench/gate.py`, with its table), so that no crate is checked
-for its edits alone: from nothing it takes an hour of processor time more than the gate. The log is FOLDER.log.
+With --gate all are tried side by side by one `rt ci` of the crates that have any (`bench/gate.py`, with its table). What the
+gate has proved and refused on this machine is not done again. The log is FOLDER.log.
 """
 import os
 import re
@@ -50,15 +50,23 @@ def crates_of(root):
     return {name: [it for it in deps if it in found] for name, deps in found.items()}
 
 
-def make_edits(folder):
-    """Renames what is kept to be read, and returns how many edits there are."""
+def edits_of(folder):
+    """Returns the files of a crate that are edits, also those that are kept to be read."""
     place = f"{folder}/must-fail"
+    found = []
     for name in sorted(os.listdir(place)) if os.path.isdir(place) else []:
         with open(f"{place}/{name}", encoding="utf-8") as it:
-            is_edit = re.search(r"(?m)^old: ", it.read())
-        if name.endswith(".md") and is_edit:
-            os.rename(f"{place}/{name}", f"{place}/{name[:-3]}.edit")
-    return len([it for it in os.listdir(place) if it.endswith(".edit")]) if os.path.isdir(place) else 0
+            if name.endswith(".edit") or re.search(r"(?m)^old: ", it.read()):
+                found.append(f"{place}/{name}")
+    return found
+
+
+def make_edits(folder):
+    """Renames what is kept to be read, and returns how many edits there are."""
+    found = edits_of(folder)
+    for edit in found:
+        os.rename(edit, f"{os.path.splitext(edit)[0]}.edit")
+    return len(found)
 
 
 def run(words, folder):
@@ -117,21 +125,21 @@ def look(names):
     count = bad = 0
     for name in names:
         folder = f"{ROOT}/crates/{name}"
-        place = f"{folder}/must-fail"
-        for edit in sorted(os.listdir(place)) if os.path.isdir(place) else []:
-            why = why_not(folder, f"{place}/{edit}")
+        for edit in edits_of(folder):
+            why = why_not(folder, edit)
             count, bad = count + 1, bad + bool(why)
             if why:
-                print(f"{name}/{edit}: {why}")
+                print(f"{name}/{os.path.basename(edit)}: {why}")
     print(f"{count} edits: {bad} can not be applied")
     return not bad
 
 
 def in_the_gate(top):
-    """Runs the gate in a new clone in which each edit is tried, and returns its status, or 1 where an edit was not refused."""
+    """Runs `rt ci` in a new clone in which each edit is tried, and returns its status, or 1 where an edit was not refused."""
     subprocess.run(["git", "clone", "--quiet", ROOT, top], check=True)
-    count = sum(make_edits(f"{top}/crates/{it}") for it in crates_of(top))
-    ran = subprocess.run([sys.executable, f"{ROOT}/bench/gate.py", "--log", f"{top}.log", top], check=False)
+    counts = {it: make_edits(f"{top}/crates/{it}") for it in crates_of(top)}
+    count, names = sum(counts.values()), [it for it in counts if counts[it]]
+    ran = subprocess.run([sys.executable, f"{ROOT}/bench/gate.py", "--log", f"{top}.log", top, *names], check=False)
     with open(f"{top}.log", encoding="utf-8", errors="replace") as it:
         told = {(crate, edit): how.startswith("refused") for crate, edit, how, _ in TOLD.findall(it.read())}
     refused = sum(told.values())

@@ -1,7 +1,9 @@
 #!/usr/bin/env python3
 """Runs the gate, `rt ci`, and tells the processor minutes that each crate took.
 
-Usage: gate.py [--log FILE] [FOLDER]     FOLDER: the top of the repository, the one that this script lies in by default
+Usage: gate.py [--log FILE] [FOLDER [NAME ..]]     FOLDER: the top of the repository, the one that this script lies in by default
+
+With names of crates it runs `rt ci NAME ..`, which does the same for these and those below alone, and is not the gate.
 
 What `rt ci` prints goes to FILE (by default gate.log in a new temporary folder) and to standard output as it comes. Its log
 has no times, so this script looks at the processes of the run twice a second, in /proc, and adds up their processor time.
@@ -186,7 +188,7 @@ def main(words):
     log = None
     if words[:1] == ["--log"] and len(words) > 1:
         log, words = words[1], words[2:]
-    if len(words) > 1 or words[:1] and words[0].startswith("-"):
+    if words[:1] and words[0].startswith("-"):
         print(f"gate.py: not known: {' '.join(words)} (gate.py --help says more)", file=sys.stderr)
         return 2
     root = os.path.realpath(words[0] if words else os.path.join(os.path.dirname(__file__), ".."))
@@ -196,7 +198,7 @@ def main(words):
     log = os.path.abspath(log or os.path.join(tempfile.mkdtemp(prefix="lx-gate-"), "gate.log"))
     begun, ended = time.time(), threading.Event()
     with open(log, "wb") as out:
-        gate = subprocess.Popen(["rt", "ci"], cwd=root, stdin=subprocess.DEVNULL, stdout=out, stderr=subprocess.STDOUT)
+        gate = subprocess.Popen(["rt", "ci", *words[1:]], cwd=root, stdin=subprocess.DEVNULL, stdout=out, stderr=subprocess.STDOUT)
     print(f"gate.py: rt ci in {root}, log {log}", flush=True)
     sampler = Sampler(gate.pid)
     helpers = [
