@@ -5,12 +5,12 @@ Usage: edits.py [--lanes N] [NAME ..]     NAME: a crate; all that have edits whe
        edits.py --applies [NAME ..]       only looks whether the text that each edit replaces stands once
        edits.py --gate FOLDER             all edits, in one run of `rt ci` over what is committed, in a new clone, FOLDER
 
-The gate tries the files crates/NAME/must-fail/*.edit alone. Beside them lie edits that are kept as .md; where the lines of one are
-indented, no clause refuses it, as it says, and it is passed over here. This script copies the repository into a temporary folder, with
-the libraries that were proved here, renames each .md beside them that is an edit to .edit, and runs `rt must-fail NAME` crate
-by crate, or N crates side by side. Libraries that are not proved yet are proved first. It prints a line for each edit, as soon as its crate
-is done, and last how many there were, and how many were refused. The exit status is 0 where all were. A whole run takes
-some two hours on one processor.
+The gate tries the files crates/NAME/must-fail/*.edit alone. Beside them lie edits that are kept as .md; where the lines of one
+are indented, no clause refuses it, as it says, and it is passed over here. This script copies the repository into a temporary
+folder, with the libraries that were proved here, renames each .md beside them that is an edit to .edit, and runs
+`rt must-fail NAME` crate by crate, or N crates side by side. Libraries that are not proved yet are proved first. It prints a
+line for each edit, as soon as its crate is done, and last how many there were, and how many were refused. The exit status is 0
+where all were. A whole run takes some two hours on one processor.
 
 With --gate all are tried side by side by one `rt ci` of the crates that have any (`bench/gate.py`, with its table). What the
 gate has proved and refused on this machine is not done again. The log is FOLDER.log.
