@@ -3,6 +3,7 @@ use Rattle.std.proofs.Common.{◌≡◌, ℕ, List, [], ◌∷◌, ◌++◌, len
 use Rattle.std.specs.List.{AllByRecursion}
 use Rattle.lx_types.specs.declared.fail.Fail.{Fail}
 use Rattle.lx_types.specs.declared.fail.Fail.TheVariants.{Said, NoMemory}
+use Rattle.lx_types.proofs.Lists.{all_joined}
 use Rattle.load_model.specs.declared.commands.Command.{Command}
 use Rattle.load_model.specs.declared.commands.Refusal.{Refusal}
 use Rattle.load_model.specs.declared.deeds.Entry.{Entry}
@@ -16,7 +17,6 @@ use Rattle.load_core.specs.Ledger.{Ledger, entry_of}
 use Rattle.process_view.specs.ProcessViews.{ProcessView, StandsAt, at_front, without_room}
 use Rattle.process_view.specs.Deeds.{Did, IsDone, IsIdle}
 use Rattle.proc_core.proofs.Made.{roomless, fronts_alike}
-use Rattle.proc_core.proofs.Onward.{all_join}
 use Rattle.board_cases.specs.OneThread.{StandsShown, CanGoOn, WentOn, MappedMore}
 
 -- a view that stands for all that was done was shown it
@@ -43,7 +43,7 @@ went_further a b c u v w first second = record {
   failing = second.failing ∙ first.failing;
   more = first.more ++ second.more;
   history = second.history ∙ (ap (λ (h : List Entry). h ++ second.more) first.history ∙ append_assoc a.history first.more second.more);
-  own = all_join (λ (x : Entry). x.pid ≡ u.holding.pid) first.more second.more first.own
+  own = all_joined (λ (x : Entry). x.pid ≡ u.holding.pid) first.more second.more first.own
       (still_own u.holding.pid v.holding.pid second.more first.pid second.own);
   pid = second.pid ∙ first.pid;
   stands = second.stands;

@@ -3,6 +3,7 @@ use Rattle.std.proofs.Common.{◌≡◌, ℕ, ◌*◌, ◌+◌, ◌-◌, ◌<◌
 use Rattle.std.specs.List.{list_any, range_with_len}
 use Rattle.std.proofs.lemmas.List.{get_or_default}
 use Rattle.std.proofs.lemmas.List.Folds.{list_any-append}
+use Rattle.std.proofs.Math.Bool.{or-true}
 use Rattle.lx_types.specs.Object.{class_of}
 use Rattle.lx_types.specs.declared.object.PageId.{PageId}
 use Rattle.lx_model.specs.ModuleBytes.{fixed_page}
@@ -197,17 +198,12 @@ taken_more b c v u w r t shown goes is =
       ended = refl;
     }))
 
--- the page has its fault behind it
-or_true : (z : Bool) → z || true ≡ true
-or_true true = refl
-or_true false = refl
-
 fault_last : (h : List Entry) (v : ProcessView) (r : ResidenceFor) (t : PageId) → has_fault (h ++ fault_of v r t ∷ []) r.serial t ≡ true
 unfolding has_fault
 fault_last h v r t =
     let own : is_fault_of r.serial t (fault_of v r t).deed ≡ true = rw (eq-eqb r.serial r.serial refl, eq-eqb t.object t.object refl, eq-eqb t.page t.page refl) refl in
     list_any-append (λ (e : Entry). is_fault_of r.serial t e.deed) h (fault_of v r t ∷ [])
-    ∙ (ap (λ (z : Bool). list_any (λ (e : Entry). is_fault_of r.serial t e.deed) h || (z || false)) own ∙ or_true (list_any (λ (e : Entry). is_fault_of r.serial t e.deed) h))
+    ∙ (ap (λ (z : Bool). list_any (λ (e : Entry). is_fault_of r.serial t e.deed) h || (z || false)) own ∙ or-true (list_any (λ (e : Entry). is_fault_of r.serial t e.deed) h))
 
 pub right_faulted : (b c : Ledger) (u w : ProcessView) (r : ResidenceFor) (t : PageId) (right : PageRight) → IsClaimedIn b c u w r t (claims.Right right) → has_fault c.history r.serial t ≡ true
 right_faulted b c u w r t right is = ap (λ (l : Ledger). has_fault l.history r.serial t) is.1 ∙ fault_last b.history u r t
@@ -236,13 +232,6 @@ pub own_mapped : PagesStand → (b : Ledger) (v w : ProcessView) (k : ℕ) (t : 
 own_mapped stand b v w k t legal goes is apart own fixed =
     one_mapped stand b v w k t legal goes is.stay (can b v k t nowhere legal goes is (apart nowhere))
     (λ common. absurd (own_is_own (is_own (class_of (object_at v.library (stay_at v k nowhere).«module» t.object))) (own nowhere) common)) fixed
-
--- a page of a view with more room
-pub page_roomy : (v w : ProcessView) (k : ℕ) (t : PageId) → without_room w ≡ without_room v → IsPageOf v k t → IsPageOf w k t
-page_roomy v w k t bare is = page_alike v w k t (ap (λ (u : ProcessView). u.library) bare) (ap (λ (u : ProcessView). u.residences) bare) (ap (λ (u : ProcessView). u.holding.ended) bare) is
-
-pub apart_roomy : (v w : ProcessView) (k : ℕ) (t : PageId) → without_room w ≡ without_room v → ((d : ResidenceFor) → is_there v (stay_at v k d) t ≡ false) → (d : ResidenceFor) → is_there w (stay_at w k d) t ≡ false
-apart_roomy v w k t bare apart d = ap (λ (u : ProcessView). is_there u (stay_at u k d) t) bare ∙ apart d
 
 -- mapped behind more room
 pub roomy_mapped : (b c : Ledger) (v w x : ProcessView) → without_room w ≡ without_room v → CanGoOn b v → MappedMore b c w x → MappedMore b c v x

@@ -1,5 +1,6 @@
 -- The board comes to a process.
 use Rattle.std.proofs.Common.{◌≡◌, ℕ, List, ◌++◌, length, Some, refl, sym, ap, ◌∙◌, subst}
+use Rattle.std.proofs.lemmas.Option.{same_Some}
 use mathlib.Core.List.{IsPrefix}
 use Rattle.load_model.specs.declared.deeds.Entry.{Entry}
 use Rattle.load_model.specs.Modules.{Library, fixed_bytes}
@@ -15,9 +16,6 @@ use Rattle.proc_core.specs.Turns.{HasCome}
 use Rattle.proc_core.proofs.Others.{own_entries, others_behind}
 use Rattle.proc_core.proofs.ShownOn.{Laws, shown_on, stays_reached}
 use Rattle.proc_core.proofs.Made.{ledger}
-
-some_about : (a b : About) → Some a ≡ Some b → a ≡ b
-some_about a b e = cc
 
 stands_later : Laws → StandsOn → (p : Standing) → Holds p → (more : List Entry) → IsLegal (ledger p more) → AreOthers p.known.pid more → StandsAt (ledger p more) (at_front (length (p.known.seen ++ more)) p.view)
 stands_later laws on p holds more legal others =
@@ -37,7 +35,7 @@ pub has_come : Laws → StandsOn → (p : Standing) → Holds p → (b : Ledger)
     p.known.subject ≡ Some (record { library = b.library; failing = b.failing }) → (v : ProcessView) → v ≡ at_front (length b.history) p.view → HasCome p b v
 has_come laws on p holds b legal seen mine about v view =
     let more : List Entry = seen.0 in
-    let same : record { library = b.library; failing = b.failing } ≡ about_of p = some_about _ _ (sym about ∙ holds.about) in
+    let same : record { library = b.library; failing = b.failing } ≡ about_of p = same_Some _ _ (sym about ∙ holds.about) in
     let is : b ≡ ledger p more =
     ap (λ (a : About). record { library = a.library; failing = a.failing; history = b.history }) same
     ∙ ap (λ (h : List Entry). record { library = p.view.library; failing = failing_in p.known.subject; history = h }) (sym seen.1) in

@@ -1,6 +1,7 @@
 -- The history of a loader that closed over its processes.
 use Rattle.std.proofs.Common.{◌≡◌, ◌≢◌, ℕ, zero, suc, ◌+◌, ◌<◌, ◌⊎◌, inl, inr, List, [], ◌∷◌, length, get_or, Some, refl, sym, ap, ◌∙◌, subst, arith, add-one, eq-eqb, ne_eqb}
 use Rattle.std.specs.List.{remove}
+use Rattle.std.proofs.lemmas.Option.{same_Some}
 use mathlib.Core.List.{IsPrefix}
 use Rattle.atomic_table.specs.Seated.{TableId}
 use Rattle.turn_lock.specs.declared.known.Known.{Known}
@@ -34,14 +35,11 @@ own_first v is = rw (eq-eqb v.pid 1 is) refl
 own_other : (v : Known Entry About) (p : ℕ) → v.pid ≡ 1 → p ≢ 1 → own_of v p ≡ ended_of p v.ended
 own_other v p is ne = rw (ne_eqb v.pid p (λ e. ne (sym e ∙ is))) refl
 
-some_about : (a b : About) → Some a ≡ Some b → a ≡ b
-some_about a b e = cc
-
 pub history_of : (lock : TableId) (first : Standing) (rest : List Standing) (v : Known Entry About) (b : Ledger) → Owns lock first rest → AreAll (first ∷ rest) → Holds first → Joined first rest 0 v → IsLegal b → b.history ≡ v.seen →
     ((p : ℕ) → own_entries p b.history ≡ own_of v p) → v.subject ≡ Some (record { library = b.library; failing = b.failing }) → IsHistoryOf (first ∷ rest) b.history
 history_of lock first rest v b owns all holds joined legal seen own about =
     let h : List Entry = b.history in
-    let same : record { library = b.library; failing = b.failing } ≡ about_of first = some_about _ _ (sym about ∙ (joined.about ∙ holds.about)) in
+    let same : record { library = b.library; failing = b.failing } ≡ about_of first = same_Some _ _ (sym about ∙ (joined.about ∙ holds.about)) in
     let goes : (p : Standing) (m : ℕ) → Begins p v → p.known.pid ≡ m → own_of v m ≡ p.known.mine → GoesOn h p =
     λ p m begins pid mine. goes_on h p (subst (λ (xs : List Entry). IsPrefix p.known.seen xs) (sym seen) begins.seen) begins.own (own p.known.pid ∙ (ap (own_of v) pid ∙ mine)) in
     let one : GoesOn h first = goes first 1 joined.first_begins owns.pid (own_first v joined.pid ∙ joined.mine) in

@@ -3,6 +3,7 @@ use Rattle.std.proofs.Common.{◌≡◌, ℕ, ◌+◌, ◌<◌, ◌≤◌, ◌�
 use Rattle.std.specs.List.{AllByRecursion}
 use Rattle.lx_types.specs.Object.{class_of}
 use Rattle.lx_types.specs.declared.object.PageId.{PageId}
+use Rattle.lx_types.proofs.Lists.{all_joined}
 use Rattle.lx_model.specs.ModuleBytes.{fixed_page}
 use Rattle.page_frames.specs.Residences.{ResidenceFor}
 use Rattle.load_model.specs.declared.deeds.Entry.{Entry}
@@ -20,7 +21,6 @@ use Rattle.proc_core.specs.Calls.{AreOthers, Waited}
 use Rattle.proc_core.specs.Touches.{page_in, needs_fault, IsSeenForPage, IsPage}
 use Rattle.proc_core.specs.Claiming.{is_there, IsTurn}
 use Rattle.proc_core.proofs.Made.{roomless}
-use Rattle.proc_core.proofs.Onward.{all_join}
 use Rattle.proc_core.proofs.Claims.{Laws, with_view, view_holds, others_steps, taken_steps, given_steps, all_others, mapped_one, one_fault}
 
 -- ---- what holds of the process
@@ -55,7 +55,7 @@ module _ (laws : Laws) (p q : Standing) (w : ProcessView) (r : ResidenceFor) (t 
         pass = record { lock = turn.pass.lock; known = turn.pass.known };
         shown = turn.more ++ own;
         seen = turn.seen;
-        entries = all_join (IsSeenForPage p.view r.«module» (page_in r t)) turn.more own (others_seen turn.more turn.others) entries;
+        entries = all_joined (IsSeenForPage p.view r.«module» (page_in r t)) turn.more own (others_seen turn.more turn.others) entries;
         library = ap (λ (u : ProcessView). u.library) turn.view ∙ ap (λ (u : ProcessView). u.library) bare;
         residences = ap (λ (u : ProcessView). u.residences) turn.view ∙ ap (λ (u : ProcessView). u.residences) bare;
         holding = ap (λ (k : Holding). record k { mapped = q.view.holding.mapped ++ page_with r t bytes ∷ [] }) holding;

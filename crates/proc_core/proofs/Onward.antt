@@ -1,7 +1,9 @@
 -- A touch goes on by one page.
 use Rattle.std.proofs.Common.{◌≡◌, ℕ, ◌+◌, ◌<◌, ◌≤◌, ◌==◌, inl, inr, Bool, true, false, List, [], ◌∷◌, ◌++◌, take, length, count_by, map, None, refl, sym, ap, ◌∙◌, subst, arith, append_assoc, append-nil, if◌then◌else◌}
-use Rattle.std.specs.List.{AllByRecursion, range_with_len}
+use Rattle.std.specs.List.{range_with_len}
 use Rattle.std.proofs.lemmas.List.Sums.{sum_by-append}
+use Rattle.lx_model.proofs.Each.{each_more}
+use Rattle.lx_types.proofs.Lists.{all_joined}
 use Rattle.turn_lock.specs.declared.known.Known.{Known}
 use Rattle.load_model.specs.declared.commands.Place.{Place}
 use Rattle.load_model.specs.declared.deeds.Entry.{Entry}
@@ -41,14 +43,6 @@ pass_on p q r a b = record {
 
 -- ---- entries
 
-pub all_join : {A : Type 0} (P : A → Type 0) (xs ys : List A) → AllByRecursion P xs → AllByRecursion P ys → AllByRecursion P (xs ++ ys)
-all_join P [] ys a b = b
-all_join P (x ∷ xs) ys a b = (a.0, all_join P xs ys a.1 b)
-
-all_change : {A : Type 0} (P Q : A → Type 0) (xs : List A) → ((x : A) → P x → Q x) → AllByRecursion P xs → AllByRecursion Q xs
-all_change P Q [] f a = tt
-all_change P Q (x ∷ xs) f a = (f x a.0, all_change P Q xs f a.1)
-
 -- what is known of a page of a place
 pub record IsPlaces (v : ProcessView) (at : Place) (t : PageOf) (m : ℕ) : Type 0 where
   pub serial : t.serial ≡ serial_seen v.library v.holding at
@@ -87,8 +81,8 @@ touched_more p q r at n k a b c t m news before step is pages same drawn =
       accepted = before.accepted;
       shown = before.shown ++ step.shown;
       seen = seen;
-      entries = all_join (IsSeenInTouch p.view at) before.shown step.shown before.entries
-          (all_change (IsSeenForPage q.view m t) (IsSeenInTouch p.view at) step.shown (λ x. seen_in p.view q.view at t m x is pid same) step.entries);
+      entries = all_joined (IsSeenInTouch p.view at) before.shown step.shown before.entries
+          (each_more (IsSeenForPage q.view m t) (IsSeenInTouch p.view at) step.shown (λ x. seen_in p.view q.view at t m x is pid same) step.entries);
       library = step.library ∙ before.library;
       residences = step.residences ∙ before.residences;
       holding = step.holding ∙ ap (λ (h : Holding). record h { mapped = r.view.holding.mapped; front = length r.known.seen }) before.holding;

@@ -4,6 +4,7 @@ use Rattle.std.specs.List.{list_any, range_with_len}
 use Rattle.std.specs.Prelude.{unwrap_or}
 use Rattle.std.proofs.lemmas.Bool.Decides.{nat_tests}
 use Rattle.std.proofs.lemmas.List.{get_or_default}
+use Rattle.std.proofs.lemmas.Bool.{or_parts}
 use Rattle.lx_types.specs.Object.{class_of, pages_of}
 use Rattle.lx_types.specs.Parts.{object_of}
 use Rattle.lx_types.specs.Sound.{IsNumberOf}
@@ -26,6 +27,7 @@ use Rattle.load_model.specs.ResidenceBases.{ResidentsFit}
 use Rattle.load_model.specs.Asks.{is_own}
 use Rattle.load_model.specs.Step.{meant}
 use Rattle.load_model.specs.ViewAnswers.{seen_process, view_refusal, view_place_refusal}
+use Rattle.load_model.proofs.Bytes.{left_none}
 use Rattle.merge_laws.specs.ViewAccounts.{serial_seen}
 use Rattle.process_view.specs.Answering.{IsStayNamed}
 use Rattle.process_view.specs.ProcessViews.{ProcessView}
@@ -40,10 +42,6 @@ use Rattle.proc_core.specs.Touches.{IsPageOf, needs_fault, page_in}
 use Rattle.proc_core.proofs.Turning.{fine_view}
 
 -- ---- refusals
-
-first_none : (o p : Option Refusal) → (o orelse p) ≡ None → o ≡ None
-first_none None p is = refl
-first_none (Some x) p is = cc
 
 not_ended : (e : Bool) (o : Option Refusal) → (when e Ended orelse o) ≡ None → e ≡ false
 not_ended false o is = refl
@@ -92,7 +90,7 @@ accepted_place fit p at k d holds accepted named =
     let going : v.holding.ended ≡ false = not_ended v.holding.ended _ seen in
     let rest : (span_refusal v.library touch r.«module» at.object at.offset at.len orelse touch_refusal touch (seen_process v.holding) r.serial at.object at.offset at.len) ≡ None =
     sym (place_by_residence v touch at r going (named.stay d)) ∙ seen in
-    let span : span_refusal v.library touch r.«module» at.object at.offset at.len ≡ None = first_none _ None rest in
+    let span : span_refusal v.library touch r.«module» at.object at.offset at.len ≡ None = left_none _ None rest in
     let inside : IsInside v.library r.«module» at.object at.offset at.len = span_is_inside v.library touch r.«module» at.object at.offset at.len span in
     let own = attached (front_of p) v k r holds.stands named.within (get_or_default v.residences k d r named.within) in
     let size = fit v.library (failing_in p.known.subject) (fixed_bytes v.library) p.known.seen r.«module» at.object own.0 holds.legal
@@ -108,20 +106,12 @@ accepted_place fit p at k d holds accepted named =
 
 -- ---- its pages
 
-or_first : (x y : Bool) → x || y ≡ false → x ≡ false
-or_first false y e = refl
-or_first true y e = cc
-
-or_second : (x y : Bool) → x || y ≡ false → y ≡ false
-or_second false y e = e
-or_second true y e = cc
-
 none_of : (p : ℕ → Bool) (xs : List ℕ) (n : ℕ) → list_any p xs ≡ false → is_among xs n ≡ true → p n ≡ false
 none_of p [] n none among = cc
-none_of p (x ∷ xs) n none among = by_test (x == n) refl (none_of p xs n (or_second (p x) (list_any p xs) none))
+none_of p (x ∷ xs) n none among = by_test (x == n) refl (none_of p xs n (or_parts (p x) (list_any p xs) none).1)
   where
     by_test : (b : Bool) → (x == n) ≡ b → (is_among xs n ≡ true → p n ≡ false) → p n ≡ false
-    by_test true e later = (let same : x ≡ n = grind (arith, nat_tests) in ap p (sym same) ∙ or_first (p x) (list_any p xs) none)
+    by_test true e later = (let same : x ≡ n = grind (arith, nat_tests) in ap p (sym same) ∙ (or_parts (p x) (list_any p xs) none).0)
     by_test false e later = later (sym (ap (λ (b : Bool). b || is_among xs n) e) ∙ among)
 
 common_not_own : (c : Class) → is_common c && not false ≡ not (is_own c)

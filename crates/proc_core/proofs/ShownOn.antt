@@ -8,12 +8,13 @@ use Rattle.load_model.specs.Modules.{Library, Held}
 use Rattle.load_model.specs.State.{Residence, Process, Failing, Eager, pids, is_among, reaches, residence_of, serial_of, attached_residence}
 use Rattle.load_model.specs.Memory.{bases_seen}
 use Rattle.load_model.specs.Histories.{state_after, after_entry, Legal}
-use Rattle.load_model.specs.Laws.{stay_of, PrefixIsLegal, EachFollows, OneMoreIsAfter}
+use Rattle.load_model.specs.Laws.{PrefixIsLegal, EachFollows, OneMoreIsAfter}
 use Rattle.load_model.specs.Alike.{Alike, OthersLeaveAlike, BasesAreAlike}
 use Rattle.load_model.specs.Standing.{Holding, fresh_of, stay_at, IsViewOf}
 use Rattle.page_frames.specs.Residences.{ResidenceFor}
 use Rattle.load_core.specs.Told.{residence_shown}
 use Rattle.process_view.specs.ProcessViews.{fresh_shown, AreShown}
+use Rattle.merge_laws.proofs.Views.{stay_serial}
 
 abbrev pub AreReached : Library → Eager → ℕ → List ResidenceFor → Type 0
 AreReached lib e pid rs = AllByRecursion (λ (r : ResidenceFor). reaches lib (e.processes pid) r.«module» ≡ true) rs
@@ -56,10 +57,6 @@ stays_reached lib contents v e rs view stays =
 
 -- ---- an entry of another
 
-serial_stays : (o : Option Residence) → serial_of (stay_of o) ≡ serial_of o
-serial_stays None = refl
-serial_stays (Some r) = refl
-
 alike_shown : (lib : Library) (e after : Eager) (m : ℕ) → serial_of (residence_of after m) ≡ serial_of (residence_of e m) → bases_seen lib after m ≡ bases_seen lib e m →
     residence_shown lib after m ≡ residence_shown lib e m
 alike_shown lib e after m serial bases =
@@ -70,7 +67,7 @@ one_shown : BasesAreAlike → (lib : Library) (e after : Eager) (pid : ℕ) (r :
     r ≡ residence_shown lib e r.«module» → r ≡ residence_shown lib after r.«module»
 one_shown bases lib e after pid r alike reached shown =
     let m : ℕ = r.«module» in
-    let serial : serial_of (residence_of after m) ≡ serial_of (residence_of e m) = sym (serial_stays (residence_of after m)) ∙ (ap serial_of (alike.stays m reached) ∙ serial_stays (residence_of e m)) in
+    let serial : serial_of (residence_of after m) ≡ serial_of (residence_of e m) = sym (stay_serial (residence_of after m)) ∙ (ap serial_of (alike.stays m reached) ∙ stay_serial (residence_of e m)) in
     shown ∙ sym (alike_shown lib e after m serial (bases lib e after pid m alike reached))
 
 step_reached : (lib : Library) (e after : Eager) (pid : ℕ) (rs : List ResidenceFor) → Alike lib e after pid → AreReached lib e pid rs → AreReached lib after pid rs

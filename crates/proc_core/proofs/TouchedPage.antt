@@ -1,6 +1,7 @@
 -- One page of a residence, from the room for it to the page that is mapped.
-use Rattle.std.proofs.Common.{◌≡◌, ℕ, ◌+◌, ◌<◌, not, Bool, true, false, List, [], ◌∷◌, length, refl, sym, ap, ◌∙◌, subst}
+use Rattle.std.proofs.Common.{◌≡◌, ℕ, ◌+◌, ◌<◌, Bool, true, false, List, [], ◌∷◌, length, sym, ap, ◌∙◌, subst}
 use Rattle.std.proofs.lemmas.List.{get_or_default}
+use Rattle.std.proofs.lemmas.Bool.{not-true, not-false}
 use Rattle.lx_types.specs.Object.{class_of}
 use Rattle.lx_types.specs.declared.object.PageId.{PageId}
 use Rattle.lx_types.specs.declared.parts.Parts.{Parts}
@@ -23,14 +24,6 @@ use Rattle.proc_core.proofs.MappedBehind.{roomy_holds, mapped_holds, given_mappe
 
 abbrev pub nowhere : ResidenceFor
 nowhere = record { library = []; serial = 0; «module» = 0; bases = record { mods = [] } }
-
-is_true : (b : Bool) → not b ≡ false → b ≡ true
-is_true true e = refl
-is_true false e = cc
-
-pub is_false : (b : Bool) → not b ≡ true → b ≡ false
-is_false true e = cc
-is_false false e = refl
 
 -- ---- with more room
 
@@ -64,7 +57,7 @@ module _ (p : Standing) (w : ProcessView) (k : ℕ) (t : PageId) (holds : Holds 
     private_holds stand =
         let q : Standing = with_view p w in
         let r : ResidenceFor = stay_at w k nowhere in
-        let own : is_own (class_of (object_at w.library r.«module» t.object)) ≡ true = is_true _ (roomy_fault p.view w k t false bare fault nowhere) in
+        let own : is_own (class_of (object_at w.library r.«module» t.object)) ≡ true = not-false _ (roomy_fault p.view w k t false bare fault nowhere) in
         subst (λ (x : ProcessView). Holds (with_view p x)) (sym (fixed nowhere))
         (mapped_holds stand q k r t (roomy_holds p w holds bare) within (get_or_default w.residences k nowhere r within) (roomy_can nowhere) (λ common. cc))
 
@@ -76,7 +69,7 @@ module _ (p : Standing) (w : ProcessView) (k : ℕ) (t : PageId) (holds : Holds 
         let steps_here : after ≡ before + source_count p.view.library r.«module» t =
         steps d ∙ (ap (λ (lib : List Parts). before + source_count lib (stay_at w k d).«module» t) library_same ∙ ap (λ (x : ResidenceFor). before + source_count p.view.library x.«module» t) (stay_same d)) in
         subst (λ (x : ProcessView). IsPage p (with_view p x) (page_in r t) r.«module» (page_in r t ∷ []) before after) (sym fixed_here)
-        (private_mapped laws p r t (fixed_page w.library r.«module» r.bases t) w before after bare holds.stands.stands.front (is_true _ (fault d)) steps_here)
+        (private_mapped laws p r t (fixed_page w.library r.«module» r.bases t) w before after bare holds.stands.stands.front (not-false _ (fault d)) steps_here)
 
   -- ---- a page that was claimed
 
@@ -104,7 +97,7 @@ module _ (p : Standing) (w : ProcessView) (k : ℕ) (t : PageId) (holds : Holds 
     library_claimed = ap (λ (x : ProcessView). x.library) turn.view ∙ library_same
 
     common_own : (d : ResidenceFor) → is_own (class_of (object_at p.view.library (stay_at p.view k d).«module» t.object)) ≡ false
-    common_own d = is_false _ (fault d)
+    common_own d = not-true _ (fault d)
 
     module _ (u : ProcessView) (fixed : (d : ResidenceFor) → IsFixedIn q.view u (stay_at q.view k d) t) where
       pub claimed_holds : PagesStand → has_fault q.known.seen (stay_at w k nowhere).serial t ≡ true → Holds (with_view q u)

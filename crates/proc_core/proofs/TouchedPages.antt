@@ -3,6 +3,7 @@ use Rattle.std.proofs.Common.{◌≡◌, ◌≢◌, ℕ, zero, suc, ◌+◌, ◌
 use Rattle.std.specs.List.{list_all, range_with_len}
 use Rattle.std.proofs.lemmas.List.Folds.{list_any-append}
 use Rattle.std.proofs.lemmas.List.Elements.{filter-append}
+use Rattle.std.proofs.lemmas.Bool.{and_from, or_right, or_left, or_parts, or_from}
 use Rattle.lx_types.specs.declared.object.PageId.{PageId}
 use Rattle.load_model.specs.State.{PageOf}
 use Rattle.load_model.specs.Memory.{is_page, page}
@@ -43,33 +44,22 @@ not_among_more others ts t =
 
 -- ---- a page behind them is not among them
 
-or_false : (a b : Bool) → a ≡ false → b ≡ false → a || b ≡ false
-or_false a b x y = rw x y
-
-or_first : (x y : Bool) → x || y ≡ false → x ≡ false
-or_first false y e = refl
-or_first true y e = cc
-
-or_second : (x y : Bool) → x || y ≡ false → y ≡ false
-or_second false y e = e
-or_second true y e = cc
-
 none_step : (others ts : List PageOf) (t : PageOf) (serial : ℕ) (q : PageId) (b : Bool) → has_page others t.serial t.page ≡ b → (t.serial == serial) && is_page t.page q ≡ false → has_page (not_among others ts) serial q ≡ false →
     has_page (not_among others (t ∷ ts)) serial q ≡ false
 none_step others ts t serial q true e here later = rw e later
-none_step others ts t serial q false e here later = rw e (or_false _ _ here later)
+none_step others ts t serial q false e here later = rw e (or_from _ _ here later)
 
 has_none : (others ts : List PageOf) (serial : ℕ) (q : PageId) → has_page ts serial q ≡ false → has_page (not_among others ts) serial q ≡ false
 has_none others [] serial q is = refl
 has_none others (t ∷ ts) serial q is =
-    none_step others ts t serial q (has_page others t.serial t.page) refl (or_first _ (has_page ts serial q) is) (has_none others ts serial q (or_second ((t.serial == serial) && is_page t.page q) _ is))
+    none_step others ts t serial q (has_page others t.serial t.page) refl (or_parts _ (has_page ts serial q) is).0 (has_none others ts serial q (or_parts ((t.serial == serial) && is_page t.page q) _ is).1)
 
 is_not : (serial object a k : ℕ) → a ≢ k → (serial == serial) && is_page (page object a) (page object k) ≡ false
 is_not serial object a k ne = rw (eq-eqb serial serial refl, eq-eqb object object refl, ne_eqb a k ne) refl
 
 pub none_before : (serial object a n k : ℕ) → a + n ≤ k → has_page (pages_from serial object a n) serial (page object k) ≡ false
 none_before serial object a zero k far = refl
-none_before serial object a (suc n) k far = or_false _ _ (is_not serial object a k (λ e. omega arith)) (none_before serial object (a + 1) n k (omega arith))
+none_before serial object a (suc n) k far = or_from _ _ (is_not serial object a k (λ e. omega arith)) (none_before serial object (a + 1) n k (omega arith))
 
 -- so it is mapped by then only where it was
 pub same_page : (mapped : List PageOf) (serial object a n : ℕ) →
@@ -86,16 +76,6 @@ same_page mapped serial object a n =
     right_false false = refl
 
 -- ---- all of them
-
-or_left : (a b : Bool) → a ≡ true → a || b ≡ true
-or_left a b x = rw x refl
-
-or_right : (a b : Bool) → b ≡ true → a || b ≡ true
-or_right true b x = refl
-or_right false b x = x
-
-and_both : (a b : Bool) → a ≡ true → b ≡ true → a && b ≡ true
-and_both a b x y = rw x y
 
 has_more : (xs ys : List PageOf) (s : ℕ) (q : PageId) → has_page xs s q || has_page ys s q ≡ true → has_page (xs ++ ys) s q ≡ true
 has_more xs ys s q is = list_any-append (λ (t : PageOf). (t.serial == s) && is_page t.page q) xs ys ∙ is
@@ -137,7 +117,7 @@ pub all_mapped : (mapped all : List PageOf) (serial object a n : ℕ) → ((q : 
     list_all (λ k. has_page all serial (page object k)) (range_with_len a n) ≡ true
 all_mapped mapped all serial object a zero sub = refl
 all_mapped mapped all serial object a (suc n) sub =
-    and_both _ _ (sub (page object a) (first_among mapped (pages_from serial object (a + 1) n) serial object a (has_page mapped serial (page object a)) refl))
+    and_from _ _ (sub (page object a) (first_among mapped (pages_from serial object (a + 1) n) serial object a (has_page mapped serial (page object a)) refl))
     (all_mapped mapped all serial object (a + 1) n
     (λ q is. sub q (widened mapped (pages_from serial object (a + 1) n) (page_at serial object a) serial q (has_page mapped serial q) refl is)))
 

@@ -1,7 +1,7 @@
 -- What a call in a turn is answered.
-use Rattle.std.proofs.Common.{◌≡◌, ℕ, ◌<◌, nat_le, arith, Bool, true, false, List, [], length, Option, Some, None, Result, Ok, Err, MatchResult, refl, sym, ap, ◌∙◌, subst, inl, inr}
-use Rattle.std.proofs.lemmas.Bool.Decides.{nat_tests}
+use Rattle.std.proofs.Common.{◌≡◌, ℕ, ◌<◌, Bool, true, false, List, [], length, Option, Some, None, Result, Ok, Err, MatchResult, refl, sym, ap, ◌∙◌, subst, inl, inr}
 use Rattle.std.specs.Result.{result_err}
+use Rattle.std.proofs.lemmas.Bool.{leb-false}
 use Rattle.lx_types.specs.declared.fail.Fail.{Fail}
 use Rattle.lx_types.specs.declared.fail.Fail.TheVariants.{Said, NoMemory}
 use Rattle.atomic_table.specs.declared.shared.Seat.{Seat}
@@ -104,11 +104,8 @@ drawn_below true y o is = cc
 drawn_below false true o is = cc
 drawn_below false false o is = refl
 
-below : (m n : ℕ) → nat_le m n ≡ false → n < m
-below m n is = grind (arith, nat_tests)
-
 pub fine_few : (p : Standing) (command : Command) → call_refusal p command ≡ None → p.known.drawn < 4294901760
-fine_few p command is = below 4294901760 p.known.drawn (drawn_below _ _ _ is)
+fine_few p command is = leb-false 4294901760 p.known.drawn (drawn_below _ _ _ is)
 
 pub fine_here : (p : Standing) (b : Ledger) (v : ProcessView) (command : Command) → HasCome p b v → call_refusal p command ≡ None → view_refusal v.library v.holding command ≡ None
 fine_here p b v command come is =

@@ -5,6 +5,7 @@ use Rattle.std.specs.List.{AllByRecursion, range_with_len}
 use Rattle.std.proofs.lemmas.List.{length-map}
 use Rattle.std.proofs.lemmas.List.Sums.{count_by-le-length}
 use Rattle.std.proofs.lemmas.List.FromFn.{length-range_with_len}
+use Rattle.std.proofs.Math.Bool.{or-true}
 use Rattle.load_model.specs.declared.commands.Command.{Command}
 use Rattle.load_model.specs.declared.commands.Command.TheVariants as commands
 use Rattle.load_model.specs.declared.commands.Place.{Place}
@@ -104,15 +105,11 @@ is_page_itself n m = ap (λ b. b && (m == m)) (eq-eqb n n refl) ∙ eq-eqb m m r
 matches_itself : (t : PageOf) → (t.serial == t.serial) && is_page t.page t.page ≡ true
 matches_itself t = ap (λ b. b && is_page t.page t.page) (eq-eqb t.serial t.serial refl) ∙ is_page_itself t.page.object t.page.page
 
-or_true : (b : Bool) → b || true ≡ true
-or_true true = refl
-or_true false = refl
-
 more_among : (t : PageOf) (xs ys : List PageOf) → AllByRecursion (λ (u : PageOf). has_page xs u.serial u.page ≡ true) ys →
     AllByRecursion (λ (u : PageOf). has_page (t ∷ xs) u.serial u.page ≡ true) ys
 more_among t xs [] all = tt
 more_among t xs (u ∷ ys) all =
-    (ap (λ b. (t.serial == u.serial) && is_page t.page u.page || b) all.0 ∙ or_true ((t.serial == u.serial) && is_page t.page u.page), more_among t xs ys all.1)
+    (ap (λ b. (t.serial == u.serial) && is_page t.page u.page || b) all.0 ∙ or-true ((t.serial == u.serial) && is_page t.page u.page), more_among t xs ys all.1)
 
 all_among : (xs : List PageOf) → AllByRecursion (λ (u : PageOf). has_page xs u.serial u.page ≡ true) xs
 all_among [] = tt

@@ -1,6 +1,6 @@
 -- The refusals that a view decides have no entry, and those of a call that draws a turn are the view's.
-use Rattle.std.proofs.Common.{◌≡◌, ℕ, ◌<◌, ◌≤◌, Bool, true, false, not, Option, Some, None, option_map, Result, Ok, Err, is_none, nat_le, refl, sym, ◌∙◌, ap, subst, arith, slice_index}
-use Rattle.std.proofs.lemmas.Bool.{leb-true}
+use Rattle.std.proofs.Common.{◌≡◌, ℕ, ◌<◌, Bool, true, false, not, Option, Some, None, option_map, Result, Ok, Err, is_none, nat_le, refl, sym, ◌∙◌, ap, subst, slice_index}
+use Rattle.std.proofs.lemmas.Bool.{lt-leb}
 use Rattle.lx_types.specs.declared.entry.EntryKey.{EntryKey}
 use Rattle.lx_types.specs.declared.object.Class.{Class}
 use Rattle.lx_types.specs.declared.object.Class.TheVariants as classes
@@ -161,13 +161,6 @@ ended_first lib v (commands.Query name key) is = ap (λ b. when b Ended orelse k
 ended_first lib v (commands.GetRes name ty id) is = ap (λ b. when b Ended orelse found_refusal lib ty id (stay_named lib v name)) is
 ended_first lib v commands.Exit is = ap (λ b. when b Ended) is
 
-below_not : (a b : ℕ) → b < a → nat_le a b ≡ false
-below_not a b h = step (nat_le a b) refl
-  where
-    step : (c : Bool) → nat_le a b ≡ c → nat_le a b ≡ false
-    step false is = is
-    step true is = (let low : a ≤ b = leb-true a b is in absurd (let wrong : ⊥ = omega (arith, low, h) in wrong))
-
 pub call_is_views : (p : Standing) (c : Command) → p.known.drawn < MOST_TICKETS → call_refusal p c ≡ view_refusal p.view.library p.view.holding c
 call_is_views p c few = step p.view.holding.ended refl
   where
@@ -177,4 +170,4 @@ call_is_views p c few = step p.view.holding.ended refl
         ∙ sym (ended_first p.view.library p.view.holding c is)
     step false is =
         ap (λ b. when b Ended orelse when (nat_le MOST_TICKETS p.known.drawn) Worn orelse view_refusal p.view.library p.view.holding c) is
-        ∙ ap (λ b. when b Worn orelse view_refusal p.view.library p.view.holding c) (below_not MOST_TICKETS p.known.drawn few)
+        ∙ ap (λ b. when b Worn orelse view_refusal p.view.library p.view.holding c) (lt-leb MOST_TICKETS p.known.drawn few)

@@ -1,22 +1,23 @@
 use Rattle.std.proofs.Common.{◌≡◌, ap}
 use Rattle.process_view.specs.ProcessViews.{without_room}
-use Rattle.board_cases.proofs.Pages.{page_roomy, roomy_mapped}
+use Rattle.proc_core.proofs.TouchedPage.{roomy_page}
+use Rattle.board_cases.proofs.Pages.{roomy_mapped}
 use Rattle.board_cases.proofs.mapping.touch_page.Goals as goal
 
 pub is_common-requires-clause-object : goal.is_common-requires-clause-object
 is_common-requires-clause-object g c =
     let bare : without_room c.reserve_page.new.self ≡ without_room c.args.view.now = ap without_room c.in_ok-reserve_page.ensures.same in
-    (page_roomy c.args.view.now c.reserve_page.new.self c.args.at.stay c.args.at.page bare c.requires.page).object
+    (roomy_page c.args.view.now c.reserve_page.new.self c.args.at.stay c.args.at.page bare c.requires.page).object
 
 pub map_common-requires-clause-page : goal.map_common-requires-clause-page
 map_common-requires-clause-page g c =
     let bare : without_room c.reserve_page.new.self ≡ without_room c.args.view.now = ap without_room c.in_ok-reserve_page.ensures.same in
-    page_roomy c.args.view.now c.reserve_page.new.self c.args.at.stay c.args.at.page bare c.requires.page
+    roomy_page c.args.view.now c.reserve_page.new.self c.args.at.stay c.args.at.page bare c.requires.page
 
 pub map_own-requires-clause-page : goal.map_own-requires-clause-page
 map_own-requires-clause-page g c =
     let bare : without_room c.reserve_page.new.self ≡ without_room c.args.view.now = ap without_room c.in_ok-reserve_page.ensures.same in
-    page_roomy c.args.view.now c.reserve_page.new.self c.args.at.stay c.args.at.page bare c.requires.page
+    roomy_page c.args.view.now c.reserve_page.new.self c.args.at.stay c.args.at.page bare c.requires.page
 
 pub returns-then-is_common : goal.returns-then-is_common
 returns-then-is_common g c =

@@ -1,5 +1,6 @@
 use Rattle.std.proofs.Common.{◌≡◌, ◌+◌, ℕ, [], ◌∷◌, true, false, sym, ap, ◌∙◌, subst}
 use Rattle.std.proofs.lemmas.Result.{err_from_is_err_and}
+use Rattle.std.proofs.lemmas.Bool.{not-true}
 use Rattle.lx_types.specs.declared.object.PageId.{PageId}
 use Rattle.page_fix.specs.Rights.{PageRight}
 use Rattle.page_frames.specs.Residences.{ResidenceFor}
@@ -13,7 +14,7 @@ use Rattle.proc_core.specs.Touches.{IsPageOf, needs_fault, page_in}
 use Rattle.proc_core.specs.Claiming.{stay_at, is_there, IsTurn, IsClaim}
 use Rattle.proc_core.proofs.Claims.{Laws, nothing_mapped}
 use Rattle.proc_core.proofs.MappedBehind.{waited_none}
-use Rattle.proc_core.proofs.TouchedPage.{nowhere, is_false, roomy_page, claimed_room, claimed_stay, claimed_can, claimed_common, claimed_holds, taken_page, given_page}
+use Rattle.proc_core.proofs.TouchedPage.{nowhere, roomy_page, claimed_room, claimed_stay, claimed_can, claimed_common, claimed_holds, taken_page, given_page}
 use Rattle.proc_core.proofs.proc.Proc.touch_common.Goals as goal
 
 pub returns-in_err-reserve_page-clause-page : goal.returns-in_err-reserve_page-clause-page
@@ -58,7 +59,7 @@ returns-in_err-right-clause-page g c =
     let laws : Laws = record { others = c.steps_are_sources.ensures.others; fault = c.steps_are_sources.ensures.fault; mapped = c.steps_are_sources.ensures.mapped } in
     let none = err_from_is_err_and c.from_residual-in_err-right.result c.from_residual-in_err-right.ensures.1 in
     rw (none.1, ← c.self.view_is)
-    (λ d. waited_none laws p c.claim_page.new.self w (stay_at p.view k d) t c.args.steps.now c.self.invariant.1 bare (is_false _ (fault d)) (c.in_err-right.ensures.claim d))
+    (λ d. waited_none laws p c.claim_page.new.self w (stay_at p.view k d) t c.args.steps.now c.self.invariant.1 bare (not-true _ (fault d)) (c.in_err-right.ensures.claim d))
 
 pub map_by_right-requires-clause-room : goal.map_by_right-requires-clause-room
 map_by_right-requires-clause-room g c =
