@@ -3,6 +3,7 @@
 ghost use Rattle.std.specs.Prelude.{◌≡◌, length, MatchResult};
 ghost use Rattle.load_model.specs.declared.commands.Command.TheVariants as commands;
 ghost use Rattle.load_model.specs.declared.commands.Reply.TheVariants as replies;
+ghost use Rattle.process_pages.specs.Reading.{LiesInPage};
 ghost use Rattle.proc_core.specs.Calls.{IsReplied, IsRefusedAtFront};
 
 use crate::proc::Proc;
@@ -21,6 +22,19 @@ impl Proc {
         views_answer();
         commands_are_told();
         self.view.peek(place, into)
+    }
+
+    /// The bytes of a place of one page where they stand, as `peek` reads them, and refused as there: a place of up to 4,096
+    /// bytes that crosses no multiple of 4,096. Nothing is copied. It waits for nobody and takes no memory.
+    pub fn peek_in_place(&self, place: &Place) -> Result<&[u8], Refusal>
+        requires { LiesInPage place.now }
+        ensures { MatchResult result
+            (λ bytes. IsReplied self.now (commands.Peek place.now) (replies.Bytes bytes.now))
+            (λ refusal. IsRefusedAtFront self.now (commands.Peek place.now) refusal) }
+    {
+        views_answer();
+        commands_are_told();
+        self.view.peek_in_place(place)
     }
 
     /// The address of an entry point (DosQueryProcAddr). It waits for nobody and takes no memory.

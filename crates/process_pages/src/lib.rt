@@ -14,7 +14,7 @@ pub use freeing::{keep_places, keep_reached};
 pub use name_hints::NameHints;
 pub use own_page::OwnPage;
 pub use page_rows::PageRows;
-pub use reading::{copy_out, run_at};
+pub use reading::{bytes_in_place, copy_out, run_at};
 pub use stay_finder::StayFinder;
 pub use stays::{Stay, stay_place};
 pub use writing::put_all;

@@ -5,7 +5,7 @@ ghost use Rattle.std.specs.List.{range_with_len};
 ghost use Rattle.load_model.specs.Memory.{page, pages_over};
 ghost use Rattle.write_overlay.specs.Laid.{replaced};
 ghost use Rattle.process_pages.specs.PageRows.{place_in};
-ghost use Rattle.process_pages.specs.Reading.{IsThere, AreThere, bytes_at, byte_by};
+ghost use Rattle.process_pages.specs.Reading.{IsThere, AreThere, LiesInPage, bytes_at, byte_by};
 
 use crate::own_page::OwnPage;
 use crate::page_rows::PageRows;
@@ -76,4 +76,22 @@ pub fn run_at<'a>(pages: &'a [OwnPage], places: &PageRows, place: &Place) -> Opt
     };
     let page = pages.get(places.get(p)?)?;
     Some(&page.bytes()[within..within + len])
+}
+
+/// The bytes of a place of one page where they stand. The page is mapped, where the place has bytes.
+pub fn bytes_in_place<'a>(pages: &'a [OwnPage], places: &PageRows, place: &Place) -> &'a [u8]
+    requires in_page { LiesInPage place.now }
+    requires there { AreThere places.now pages.now place.now.object place.now.offset place.now.len }
+    ensures { result.now ≡ map (byte_by places.now pages.now place.now.object) (range_with_len place.now.offset place.now.len) }
+{
+    let within = place.offset as usize % PAGE;
+    let len = place.len as usize;
+    if len == 0 {
+        return &[];
+    }
+    let p = PageId {
+        object: place.object,
+        page: place.offset / PAGE_SIZE,
+    };
+    &bytes_of(pages, places, p)[within..within + len]
 }

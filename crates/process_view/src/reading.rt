@@ -9,6 +9,7 @@ ghost use Rattle.load_model.specs.Modules as modules;
 ghost use Rattle.page_frames.specs.Residences.{ResidenceFor};
 ghost use Rattle.load_model.specs.Refusals as uses;
 ghost use Rattle.load_model.specs.ViewAnswers.{view_refusal, view_place_refusal, view_reply, view_address, view_bytes, stay_named};
+ghost use Rattle.process_pages.specs.Reading.{LiesInPage};
 ghost use Rattle.process_pages.specs.Stays.{residences_in};
 ghost use Rattle.process_view.specs.Answering.{residence_with, base_if, IsStayNamed};
 
@@ -18,7 +19,7 @@ use crate::view::View;
 use load_model::{Place, Refusal};
 use lx_types::{Bases, EntryKey, ModBases, Name, ResSpot};
 use mod_graph::{EntryFault, Library, Spot};
-use process_pages::{Stay, copy_out, run_at, stay_place};
+use process_pages::{Stay, bytes_in_place, copy_out, run_at, stay_place};
 
 // The base of an object among those of its module.
 fn base_in(own: &ModBases, object: u32) -> u32
@@ -131,6 +132,36 @@ impl View {
         match span_refusal(&self.lib, m, Purpose::Peek, place) {
             Some(_) => None,
             None => Some(bytes),
+        }
+    }
+
+    // The bytes of a place of one page that may be peeked.
+    fn bytes_here(&self, k: usize, place: &Place) -> &[u8]
+        requires in_page { LiesInPage place.now }
+        requires named { IsStayNamed self.now place.now.«module» k }
+        requires used { view_place_refusal self.now.library self.now.holding uses.peek place.now ≡ None }
+        ensures { result.now ≡ view_bytes self.now.holding place.now (stay_named self.now.library self.now.holding place.now.«module») }
+    {
+        let stay = &self.stays[k];
+        bytes_in_place(&self.pages, &stay.places, place)
+    }
+
+    /// The bytes of a place of one page where they stand, as `peek` reads them, and refused as there. Nothing is copied, and
+    /// it takes no memory.
+    #[tactic(auto, unfolding(load_model::specs::ViewAnswers::view_refusal))]
+    pub fn peek_in_place(&self, place: &Place) -> Result<&[u8], Refusal>
+        requires { LiesInPage place.now }
+        ensures { MatchResult result
+            (λ bytes. (view_refusal self.now.library self.now.holding (commands.Peek place.now) ≡ None)
+            × (view_reply self.now.library self.now.holding (commands.Peek place.now) ≡ Some (replies.Bytes bytes.now)))
+            (λ refusal. view_refusal self.now.library self.now.holding (commands.Peek place.now) ≡ Some refusal) }
+    {
+        match self.run(place) {
+            Some(run) => Ok(run),
+            None => match self.to_use(Purpose::Peek, place) {
+                Ok(k) => Ok(self.bytes_here(k, place)),
+                Err(refusal) => Err(refusal),
+            },
         }
     }
 
