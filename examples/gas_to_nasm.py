@@ -12,6 +12,7 @@ and in FLAT. Names stay as they are; for the names of a C compiler of OS/2 give 
 not known ends the script with its number: thread-local data, weak names, sections of one's own and floats in XMM registers
 are not known.
 """
+import os
 import re
 import sys
 
@@ -168,7 +169,7 @@ class Source:
             self.instruction(line)
 
     def text(self, name):
-        head = ["; Made of %s by gas_to_nasm.py." % name, "        sectalign off", "        group   FLAT"]
+        head = ["; Made of %s by gas_to_nasm.py." % os.path.basename(name), "        sectalign off", "        group   FLAT"]
         externals = [it for it in dict.fromkeys(self.used) if it not in self.defined]
         head += ["        extern  " + it for it in externals]
         for segment, kind in SEGMENTS.values():

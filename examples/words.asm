@@ -1,4 +1,4 @@
-; Made of /tmp/h7/examples/words.s by gas_to_nasm.py.
+; Made of words.s by gas_to_nasm.py.
         sectalign off
         group   FLAT
         segment CODE32 class=CODE use32 align=16 FLAT
