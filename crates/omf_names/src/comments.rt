@@ -1,6 +1,6 @@
 //! "88h COMENT": default libraries, imports and exports.
 
-ghost use Rattle.std.specs.Prelude.{◌≡◌, ◌<◌, IfOk, OnOk, length};
+ghost use Rattle.std.specs.Prelude.{◌≡◌, ◌<◌, ◌∷◌, ◌++◌, [], IfOk, OnOk, length};
 ghost use Rattle.lx_types.specs.Answers.{as_is, if_said, Gives, Reads};
 ghost use Rattle.omf_model.specs.Add.{add};
 ghost use Rattle.omf_model.specs.Begun.{IsBegun};
@@ -9,8 +9,8 @@ ghost use Rattle.omf_model.specs.Items.{entry_of, export_of, import_of, or_else}
 ghost use Rattle.omf_model.specs.ReadComments.{coment_at, entry_at, expdef_at, extension_at, given_name_at, impdef_at, library_at};
 ghost use Rattle.omf_names.specs.Comments.{comment_record, exp_def, exp_record, imp_def, imp_entry, imp_record, IsShort, IsShortEntry, IsShortExport, IsShortImport};
 
-use lx_types::{EntryKey, Fail, Name, NoMemory};
-use obj_types::{Exp, Imp, ObjParts, OmfRefusal};
+use lx_types::{EntryKey, Fail, Name, NoMemory, Seq};
+use obj_types::{Exp, Imp, Imports, ObjParts, OmfRefusal};
 use omf_fields::Fields;
 use omf_frame::Rec;
 use omf_frame::record_type::COMENT;
@@ -225,6 +225,19 @@ fn export(alloc: Global, d: ExpFields) -> Result<Exp, NoMemory>
     })
 }
 
+// Adds an import. Each object file of an import library has one, so the first takes room for no more than itself.
+fn add_import(alloc: Global, import: Imp, into: &mut Imports) -> Result<(), NoMemory>
+    ensures { OnOk result (into.new ≡ into.old ++ import ∷ []) }
+{
+    if into.as_slice().is_empty() {
+        let mut first = Vec::with_capacity(alloc, 1)?;
+        first.push(import)?;
+        *into = Seq::from_vec(first);
+        return Ok(());
+    }
+    into.push(import)
+}
+
 // Adds what the comment says.
 fn add_comment(alloc: Global, said: Comment, into: &mut ObjParts) -> Result<(), NoMemory>
     requires { IsShort said }
@@ -237,7 +250,7 @@ fn add_comment(alloc: Global, said: Comment, into: &mut ObjParts) -> Result<(), 
         }
         Comment::Import(d) => {
             let import = import(alloc, d)?;
-            into.module.imports.push(import)?;
+            add_import(alloc, import, &mut into.module.imports)?;
         }
         Comment::Export(d) => {
             let export = export(alloc, d)?;

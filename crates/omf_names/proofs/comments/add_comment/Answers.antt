@@ -11,12 +11,12 @@ returns-in_ok-push-in-Library c =
     (ap (λ (names : List (List ℕ)). record c.args.into.now { «module» = record c.args.into.now.module { deflibs = names } })
     (c.in_ok-push-in-Library.ensures ∙ ap (λ (name : List ℕ). c.args.into.now.module.deflibs ++ name ∷ []) c.in_ok-name-in-Library.ensures))
 
-pub returns-in_ok-push-in-Import : goal.returns-in_ok-push-in-Import
+pub returns-in_ok-add_import-in-Import : goal.returns-in_ok-add_import-in-Import
 unfolding add
-returns-in_ok-push-in-Import c =
+returns-in_ok-add_import-in-Import c =
     rw c.in-Import.is
     (ap (λ (imports : List Imp). record c.args.into.now { «module» = record c.args.into.now.module { imports = imports } })
-    (c.in_ok-push-in-Import.ensures ∙ ap (λ (i : Imp). c.args.into.now.module.imports ++ i ∷ []) c.in_ok-import-in-Import.ensures))
+    (c.in_ok-add_import-in-Import.ensures ∙ ap (λ (i : Imp). c.args.into.now.module.imports ++ i ∷ []) c.in_ok-import-in-Import.ensures))
 
 pub returns-in_ok-push-in-Export : goal.returns-in_ok-push-in-Export
 unfolding add
