@@ -4,6 +4,7 @@ pub mod Entering
 pub mod Leaving
 pub mod Initialising
 pub mod Memory
+pub mod Places
 pub mod Refusals
 pub mod Asks
 pub mod Step

@@ -1,6 +1,9 @@
 //! What a process can ask for, and what it is answered.
 
-use lx_types::{Bytes, EntryKey, Name, ResSpot};
+ghost use Rattle.std.specs.Prelude.{◌↔◌, IsTrue};
+ghost use Rattle.load_model.specs.Places.{LiesInPage};
+
+use lx_types::{Bytes, EntryKey, Name, PAGE_SIZE, ResSpot};
 
 /// `len` bytes of an object of a module, from `offset` on. Objects count from 1.
 #[derive(Drop)]
@@ -9,6 +12,15 @@ pub struct Place {
     pub object: u32,
     pub offset: u32,
     pub len: u32,
+}
+
+impl Place {
+    /// Whether its bytes lie in one page: it crosses no multiple of 4,096.
+    pub fn lies_in_page(&self) -> bool
+        ensures { IsTrue result ↔ LiesInPage self.now }
+    {
+        self.len <= PAGE_SIZE - self.offset % PAGE_SIZE
+    }
 }
 
 /// A command of a process.

@@ -3,7 +3,7 @@
 ghost use Rattle.std.specs.Prelude.{◌≡◌, length, MatchResult};
 ghost use Rattle.load_model.specs.declared.commands.Command.TheVariants as commands;
 ghost use Rattle.load_model.specs.declared.commands.Reply.TheVariants as replies;
-ghost use Rattle.process_pages.specs.Reading.{LiesInPage};
+ghost use Rattle.load_model.specs.Places.{LiesInPage};
 ghost use Rattle.proc_core.specs.Calls.{IsReplied, IsRefusedAtFront};
 
 use crate::proc::Proc;
@@ -24,8 +24,8 @@ impl Proc {
         self.view.peek(place, into)
     }
 
-    /// The bytes of a place of one page where they stand, as `peek` reads them, and refused as there: a place of up to 4,096
-    /// bytes that crosses no multiple of 4,096. Nothing is copied. It waits for nobody and takes no memory.
+    /// The bytes of a place where they stand, as `peek` reads them, and refused as there. They lie in one page, as
+    /// `Place::lies_in_page` tells. Nothing is copied. It waits for nobody and takes no memory.
     pub fn peek_in_place(&self, place: &Place) -> Result<&[u8], Refusal>
         requires { LiesInPage place.now }
         ensures { MatchResult result

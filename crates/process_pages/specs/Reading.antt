@@ -3,7 +3,6 @@ use Rattle.std.specs.Prelude.{◌≡◌, ◌≤◌, ◌<◌, ℕ, ◌+◌, ◌/�
 use Rattle.load_model.specs.ViewAnswers.{bytes_in}
 use Rattle.lx_types.specs.declared.object.PageId.{PageId}
 use Rattle.lx_types.specs.declared.object.TheConstants.{PAGE_SIZE}
-use Rattle.load_model.specs.declared.commands.Place.{Place}
 use Rattle.load_model.specs.Memory.{page}
 use Rattle.load_model.specs.Standing.{Mapped}
 use Rattle.process_pages.specs.PageRows.{PagePlaces, place_in}
@@ -15,10 +14,6 @@ IsThere rows mapped p = (k : ℕ) × (place_in rows p ≡ Some k) × (k < length
 -- so has the page of each byte, of so many from an offset on
 abbrev pub AreThere : PagePlaces → List Mapped → ℕ → ℕ → ℕ → Type 0
 AreThere rows mapped object offset len = (x : ℕ) → offset ≤ x → x < offset + len → IsThere rows mapped (page object (x / PAGE_SIZE))
-
--- a place crosses no end of a page
-abbrev pub LiesInPage : Place → Type 0
-LiesInPage at = at.offset % PAGE_SIZE + at.len ≤ PAGE_SIZE
 
 -- the bytes of the page at a place
 abbrev pub bytes_at : List Mapped → Option ℕ → List ℕ

@@ -3,9 +3,10 @@
 ghost use Rattle.std.specs.Prelude.{◌≡◌, ◌≤◌, ◌+◌, ℕ, IfSome, None, find, is_none, length, map, slice_index};
 ghost use Rattle.std.specs.List.{range_with_len};
 ghost use Rattle.load_model.specs.Memory.{page, pages_over};
+ghost use Rattle.load_model.specs.Places.{LiesInPage};
 ghost use Rattle.write_overlay.specs.Laid.{replaced};
 ghost use Rattle.process_pages.specs.PageRows.{place_in};
-ghost use Rattle.process_pages.specs.Reading.{IsThere, AreThere, LiesInPage, bytes_at, byte_by};
+ghost use Rattle.process_pages.specs.Reading.{IsThere, AreThere, bytes_at, byte_by};
 
 use crate::own_page::OwnPage;
 use crate::page_rows::PageRows;

@@ -9,7 +9,7 @@ ghost use Rattle.load_model.specs.Modules as modules;
 ghost use Rattle.page_frames.specs.Residences.{ResidenceFor};
 ghost use Rattle.load_model.specs.Refusals as uses;
 ghost use Rattle.load_model.specs.ViewAnswers.{view_refusal, view_place_refusal, view_reply, view_address, view_bytes, stay_named};
-ghost use Rattle.process_pages.specs.Reading.{LiesInPage};
+ghost use Rattle.load_model.specs.Places.{LiesInPage};
 ghost use Rattle.process_pages.specs.Stays.{residences_in};
 ghost use Rattle.process_view.specs.Answering.{residence_with, base_if, IsStayNamed};
 

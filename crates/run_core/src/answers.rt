@@ -8,7 +8,7 @@ ghost use Rattle.proc_core.specs.Procs.{IsOf};
 ghost use Rattle.run_core.specs.Carrying.{IsCarriedOut, IsLineOf, has_entry};
 
 use load_model::{Command, Place, Refusal, Reply};
-use lx_types::{Fail, NoMemory, PAGE_SIZE, Seq};
+use lx_types::{Fail, NoMemory, Seq};
 use page_fix::Steps;
 use proc_core::{Done, Loader, Proc};
 use std::alloc::Global;
@@ -53,7 +53,7 @@ fn room(alloc: Global, len: u32) -> Result<Vec<u8>, NoMemory>
 fn peek(alloc: Global, proc: &Proc, place: &Place) -> Result<Option<Reply>, NoMemory>
     ensures { IfOk result (λ reply. IsCarriedOut proc.now proc.now (commands.Peek place.now) reply) }
 {
-    if place.len <= PAGE_SIZE - place.offset % PAGE_SIZE {
+    if place.lies_in_page() {
         return match proc.peek_in_place(place) {
             Ok(bytes) => Ok(Some(Reply::Bytes(Seq::from_vec(Vec::from_slice(alloc, bytes)?)))),
             Err(refusal) => Ok(Some(Reply::Refused(refusal))),
