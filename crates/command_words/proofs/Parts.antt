@@ -6,6 +6,7 @@ use Rattle.std.proofs.lemmas.List.{take_all, take_min}
 use Rattle.lx_types.specs.Names.{uppercase}
 use Rattle.lx_answer.specs.Stem.{stem_of, stem_part}
 use Rattle.std.proofs.lemmas.List.Sums.{suffix_len_is}
+use Rattle.std.proofs.lemmas.Bool.{ltb-false}
 
 some_is : (b : Bool) (n i : ℕ) → (if b then Some n else None) ≡ Some i → n ≡ i
 some_is true n i same = cc
@@ -15,14 +16,11 @@ none_is : (b : Bool) (n : ℕ) → (if b then Some n else None) ≡ None → b �
 none_is true n same = absurd cc
 none_is false n same = refl
 
-not_less : (a b : ℕ) → nat_lt a b ≡ false → b ≤ a
-not_less a b is = grind (arith, is)
-
 pub before_some : {X : Type 0} (p : X → Bool) (xs : List X) (i : ℕ) → position p xs ≡ Some i → take i xs ≡ before_first p xs
 before_some p xs i is = ap (λ n. take n xs) (sym (some_is (nat_lt (position_or_len p xs) (length xs)) (position_or_len p xs) i is))
 
 pub before_none : {X : Type 0} (p : X → Bool) (xs : List X) → position p xs ≡ None → xs ≡ before_first p xs
-before_none p xs is = sym (take_all _ xs (not_less (position_or_len p xs) (length xs) (none_is (nat_lt (position_or_len p xs) (length xs)) (position_or_len p xs) is)))
+before_none p xs is = sym (take_all _ xs (ltb-false (position_or_len p xs) (length xs) (none_is (nat_lt (position_or_len p xs) (length xs)) (position_or_len p xs) is)))
 
 -- No element from a place on passes.
 abbrev pub NoneFrom : ℕ → ℕ → List ℕ → Type 0
