@@ -1,8 +1,9 @@
 -- What processes hold goes on.
-use Rattle.std.proofs.Common.{◌≡◌, ℕ, ◌==◌, ◌||◌, Bool, true, false, cond, inl, inr, List, [], ◌∷◌, ◌++◌, None, Result, Ok, Err, refl, sym, ◌∙◌, ap}
+use Rattle.std.proofs.Common.{◌≡◌, ℕ, ◌==◌, ◌||◌, true, false, cond, inl, inr, List, [], ◌∷◌, ◌++◌, None, Result, Ok, Err, refl, sym, ◌∙◌, ap}
 use Rattle.std.specs.Prelude.{IfOk, IfErr}
-use Rattle.std.proofs.lemmas.Bool.{cases_eq, eq-eqb, ne_eqb}
+use Rattle.std.proofs.lemmas.Bool.{cases_eq, eq-eqb, ne_eqb, or_parts}
 use Rattle.std.proofs.lemmas.List.Folds.{list_any-append}
+use Rattle.std.proofs.Math.Bool.{or-true}
 use Rattle.load_model.specs.declared.deeds.How.TheVariants.{Start, Load}
 use Rattle.load_model.specs.Modules.{Library}
 use Rattle.load_model.specs.State.{Process, Eager, with_process, nothing_yet, is_among}
@@ -38,20 +39,12 @@ loaded_sound lib rows new started pid m sound are kept = record {
   idle = λ q none. idle_with sound.state pid _ q (λ same. ap (λ k. (sound.state.processes k).started) (sym same) ∙ sound.idle q none) (sound.idle q none);
 }
 
-or_true : (b : Bool) → b || true ≡ true
-or_true true = refl
-or_true false = refl
-
 among_last : (started : List ℕ) (pid : ℕ) → is_among (started ++ pid ∷ []) pid ≡ true
 among_last started pid =
-    list_any-append (λ other. other == pid) started (pid ∷ []) ∙ ap (λ b. is_among started pid || (b || false)) (eq-eqb pid pid refl) ∙ or_true (is_among started pid)
-
-or_left : (a b : Bool) → a || b ≡ false → a ≡ false
-or_left true b e = e
-or_left false b e = refl
+    list_any-append (λ other. other == pid) started (pid ∷ []) ∙ ap (λ b. is_among started pid || (b || false)) (eq-eqb pid pid refl) ∙ or-true (is_among started pid)
 
 among_fewer : (started : List ℕ) (pid q : ℕ) → is_among (started ++ pid ∷ []) q ≡ false → is_among started q ≡ false
-among_fewer started pid q none = or_left (is_among started q) (is_among (pid ∷ []) q) (sym (list_any-append (λ other. other == q) started (pid ∷ [])) ∙ none)
+among_fewer started pid q none = (or_parts (is_among started q) (is_among (pid ∷ []) q) (sym (list_any-append (λ other. other == q) started (pid ∷ [])) ∙ none)).0
 
 pub more_started : (lib : Library) (rows : List Row) (started : List ℕ) (pid : ℕ) → RowsSound lib rows started → RowsSound lib rows (started ++ pid ∷ [])
 more_started lib rows started pid sound = record {

@@ -14,6 +14,7 @@ use Rattle.load_model.specs.State.{Residence, is_among}
 use Rattle.load_model.specs.Entering.{NoRoom, residence_from, ranges_of, with_fresh, placed_from}
 use Rattle.load_model.specs.ResidenceBases.{Stands}
 use Rattle.load_model.specs.Serials.{Rise}
+use Rattle.load_model.proofs.Serials.{rise_higher, rise_filter}
 use Rattle.stay_table.specs.Standing.{residences, unwritten}
 use Rattle.stay_table.specs.Placing.{AreStanding}
 use Rattle.stay_table.proofs.Placed.{module_stands}
@@ -26,26 +27,13 @@ rise_low : (low : ℕ) (ns : List ℕ) (high : ℕ) → Rise low ns high → low
 rise_low low [] high rise = rise
 rise_low low (n ∷ ns) high rise = (let rest = rise_low n ns high rise.1 in omega (arith, rise.0, rest))
 
-rise_from : (lower low : ℕ) (ns : List ℕ) (high : ℕ) → lower ≤ low → Rise low ns high → Rise lower ns high
-rise_from lower low [] high below rise = omega (arith, below, rise)
-rise_from lower low (n ∷ ns) high below rise = (omega (arith, below, rise.0), rise.1)
-
 rise_to : (low : ℕ) (ns : List ℕ) (high higher : ℕ) → high ≤ higher → Rise low ns high → Rise low ns higher
 rise_to low [] high higher above rise = omega (arith, above, rise)
 rise_to low (n ∷ ns) high higher above rise = (rise.0, rise_to n ns high higher above rise.1)
 
 rise_append : (low : ℕ) (ns ms : List ℕ) (mid high : ℕ) → Rise low ns mid → Rise mid ms high → Rise low (ns ++ ms) high
-rise_append low [] ms mid high first second = rise_from low mid ms high first second
+rise_append low [] ms mid high first second = rise_higher low mid ms high first second
 rise_append low (n ∷ ns) ms mid high first second = (first.0, rise_append n ns ms mid high first.1 second)
-
-rise_filter : (p : Residence → Bool) (low : ℕ) (rs : List Residence) (high : ℕ) → Rise low (map (λ (r : Residence). r.serial) rs) high →
-    Rise low (map (λ (r : Residence). r.serial) (filter p rs)) high
-rise_filter p low [] high rise = rise
-rise_filter p low (r ∷ rs) high rise = by_test (p r) (rise_filter p r.serial rs high rise.1)
-  where
-    by_test : (b : Bool) → Rise r.serial (map (λ (r : Residence). r.serial) (filter p rs)) high → Rise low (map (λ (r : Residence). r.serial) (cond b (r ∷ filter p rs) (filter p rs))) high
-    by_test true rest = (rise.0, rest)
-    by_test false rest = rise_from low r.serial (map (λ (r : Residence). r.serial) (filter p rs)) high (omega (arith, rise.0)) rest
 
 -- ---- what stands
 
