@@ -1,31 +1,19 @@
 -- Lists whose items are apart: no item equals one behind it.
-use Rattle.std.specs.Prelude.{◌≡◌, ◌≢◌, ℕ, zero, suc, ◌+◌, ◌≤◌, ◌||◌, Bool, true, false, cond, List, [], ◌∷◌, ◌++◌, Option, Some, None, map, filter, is_some, refl}
+use Rattle.std.specs.Prelude.{◌≡◌, ◌≢◌, ℕ, zero, suc, ◌+◌, ◌≤◌, Bool, true, false, cond, List, [], ◌∷◌, ◌++◌, None, map, filter, refl}
 use Rattle.std.specs.List.{AllByRecursion, list_any, range_with_len}
-use Rattle.std.proofs.Common.{ap, sym, ◌∙◌, arith, true≢false}
+use Rattle.std.proofs.Common.{sym, ◌∙◌, arith}
 use Rattle.std.proofs.lemmas.List.Folds.{list_any-append}
+use Rattle.std.proofs.lemmas.Bool.{or_parts}
+use Rattle.lx_types.proofs.Lists.{all_kept}
 use Rattle.link_model.specs.Words.{first_conflict}
 use Rattle.link_model.proofs.Members.{In, here, there}
+use Rattle.link_model.proofs.ExternalsMean.{not_first_by}
 
 abbrev pub Apart : {X : Type 0} → List X → Type 0
 Apart [] = Unit {0}
 Apart (x ∷ xs) = AllByRecursion (λ y. x ≢ y) xs × Apart xs
 
 -- ---- where no item is in conflict with an earlier one
-
-pub not-first : {X : Type 0} (x : X) (rest : Option X) (b : Bool) → cond b (Some x) rest ≡ None → (b ≡ false) × (rest ≡ None)
-not-first x rest true e = absurd (true≢false (ap is_some e))
-not-first x rest false e = (refl, e)
-
-front_none : (a b : Bool) → (a || b) ≡ false → a ≡ false
-front_none true b e = absurd (true≢false e)
-front_none false b e = refl
-
-back_none : (a b : Bool) → (a || b) ≡ false → b ≡ false
-back_none true b e = absurd (true≢false e)
-back_none false b e = e
-
-pub neither-true : (a b : Bool) → (a || b) ≡ false → (a ≡ false) × (b ≡ false)
-neither-true a b e = (front_none a b e, back_none a b e)
 
 -- No item of xs equals one of these.
 abbrev NoneOf : {X : Type 0} → (X → X → Bool) → List X → List X → Type 0
@@ -34,24 +22,24 @@ NoneOf same earlier xs = AllByRecursion (λ y. list_any (λ z. same z y) earlier
 fewer_earlier : {X : Type 0} (same : X → X → Bool) (x : X) (earlier ys : List X) → NoneOf same (earlier ++ x ∷ []) ys → NoneOf same earlier ys
 fewer_earlier same x earlier [] h = tt
 fewer_earlier same x earlier (y ∷ ys) h =
-    (front_none (list_any (λ z. same z y) earlier) (list_any (λ z. same z y) (x ∷ [])) (sym (list_any-append (λ z. same z y) earlier (x ∷ [])) ∙ h.0), fewer_earlier same x earlier ys h.1)
+    ((or_parts (list_any (λ z. same z y) earlier) (list_any (λ z. same z y) (x ∷ [])) (sym (list_any-append (λ z. same z y) earlier (x ∷ [])) ∙ h.0)).0, fewer_earlier same x earlier ys h.1)
 
 none_earlier : {X : Type 0} (same : X → X → Bool) (earlier xs : List X) → first_conflict same earlier xs ≡ None → NoneOf same earlier xs
 none_earlier same earlier [] e = tt
 none_earlier same earlier (x ∷ xs) e =
-    let both = not-first x (first_conflict same (earlier ++ x ∷ []) xs) (list_any (λ y. same y x) earlier) e in
+    let both = not_first_by x (first_conflict same (earlier ++ x ∷ []) xs) (list_any (λ y. same y x) earlier) e in
     (both.0, fewer_earlier same x earlier xs (none_earlier same (earlier ++ x ∷ []) xs both.1))
 
 last_apart : {X : Type 0} (same : X → X → Bool) → ((x y : X) → same x y ≡ false → x ≢ y) → (x : X) (earlier ys : List X) → NoneOf same (earlier ++ x ∷ []) ys → AllByRecursion (λ y. x ≢ y) ys
 last_apart same differ x earlier [] h = tt
 last_apart same differ x earlier (y ∷ ys) h =
-    let last = back_none (list_any (λ z. same z y) earlier) (list_any (λ z. same z y) (x ∷ [])) (sym (list_any-append (λ z. same z y) earlier (x ∷ [])) ∙ h.0) in
-    (differ x y (front_none (same x y) false last), last_apart same differ x earlier ys h.1)
+    let last = (or_parts (list_any (λ z. same z y) earlier) (list_any (λ z. same z y) (x ∷ [])) (sym (list_any-append (λ z. same z y) earlier (x ∷ [])) ∙ h.0)).1 in
+    (differ x y (or_parts (same x y) false last).0, last_apart same differ x earlier ys h.1)
 
 pub no-conflict-apart : {X : Type 0} (same : X → X → Bool) → ((x y : X) → same x y ≡ false → x ≢ y) → (earlier xs : List X) → first_conflict same earlier xs ≡ None → Apart xs
 no-conflict-apart same differ earlier [] e = tt
 no-conflict-apart same differ earlier (x ∷ xs) e =
-    let rest = (not-first x (first_conflict same (earlier ++ x ∷ []) xs) (list_any (λ y. same y x) earlier) e).1 in
+    let rest = (not_first_by x (first_conflict same (earlier ++ x ∷ []) xs) (list_any (λ y. same y x) earlier) e).1 in
     (last_apart same differ x earlier xs (none_earlier same (earlier ++ x ∷ []) xs rest), no-conflict-apart same differ (earlier ++ x ∷ []) xs rest)
 
 -- ---- items with one key are one item
@@ -70,29 +58,13 @@ one-of-key key (z ∷ xs) apart (there i) (there j) e = one-of-key key xs apart.
 
 -- ---- numbers that are kept of a row of numbers
 
-pub all-kept : {X : Type 0} (P : X → Type 0) (keep : X → Bool) (xs : List X) → AllByRecursion P xs → AllByRecursion P (filter keep xs)
-all-kept P keep [] all = tt
-all-kept P keep (x ∷ xs) all = by (keep x) (all-kept P keep xs all.1)
-  where
-    by : (b : Bool) → AllByRecursion P (filter keep xs) → AllByRecursion P (cond b (x ∷ filter keep xs) (filter keep xs))
-    by true rest = (all.0, rest)
-    by false rest = rest
-
 pub kept-apart : {X : Type 0} (keep : X → Bool) (xs : List X) → Apart xs → Apart (filter keep xs)
 kept-apart keep [] apart = tt
 kept-apart keep (x ∷ xs) apart = by (keep x) (kept-apart keep xs apart.1)
   where
     by : (b : Bool) → Apart (filter keep xs) → Apart (cond b (x ∷ filter keep xs) (filter keep xs))
-    by true rest = (all-kept (λ y. x ≢ y) keep xs apart.0, rest)
+    by true rest = (all_kept (λ y. x ≢ y) keep xs apart.0, rest)
     by false rest = rest
-
-pub each-kept : {X : Type 0} (keep : X → Bool) (xs : List X) → AllByRecursion (λ x. keep x ≡ true) (filter keep xs)
-each-kept keep [] = tt
-each-kept keep (x ∷ xs) = by (keep x) refl (each-kept keep xs)
-  where
-    by : (b : Bool) → keep x ≡ b → AllByRecursion (λ x. keep x ≡ true) (filter keep xs) → AllByRecursion (λ x. keep x ≡ true) (cond b (x ∷ filter keep xs) (filter keep xs))
-    by true is rest = (is, rest)
-    by false is rest = rest
 
 pub range-from : (a b n : ℕ) → a ≤ b → AllByRecursion (λ k. a ≤ k) (range_with_len b n)
 range-from a b zero le = tt

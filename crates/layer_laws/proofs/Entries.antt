@@ -1,11 +1,12 @@
 -- The bundles of a link's exports fit the entry table.
-use Rattle.std.specs.Prelude.{◌≡◌, ℕ, zero, suc, ◌<◌, ◌≤◌, ◌^◌, ◌==◌, Bool, true, false, List, [], ◌∷◌, ◌++◌, Option, Some, None, map, replicate, length, refl}
+use Rattle.std.specs.Prelude.{◌≡◌, ℕ, zero, suc, ◌<◌, ◌≤◌, ◌^◌, ◌==◌, Bool, true, false, List, [], ◌∷◌, Option, Some, None, map, replicate, length, refl}
 use Rattle.std.specs.List.{AllByRecursion, flat_map, range_with_len}
 use Rattle.std.proofs.Common.{ap, sym, ◌∙◌, arith, subst, length-append}
 use Rattle.std.proofs.Math.Nat.{max-le}
 use Rattle.lx_types.specs.declared.entry.EntryHead.{EntryHead}
 use Rattle.lx_types.specs.declared.entry.EntryHead.TheVariants as heads
 use Rattle.lx_types.specs.declared.entry.FwdKey.TheVariants as keys
+use Rattle.lx_types.proofs.Lists.{all_front, all_back}
 use Rattle.link_model.specs.declared.limits.TheConstants.{MAX_NUMBER}
 use Rattle.link_model.specs.Link.{Link}
 use Rattle.link_model.specs.Layout.{objects}
@@ -52,14 +53,6 @@ slots_fit l xs (n ∷ ns) few each = (slot_fits l xs (export_at xs n) n few each
 
 -- ---- bundles
 
-first_part : {X : Type 0} (P : X → Type 0) (xs ys : List X) → AllByRecursion P (xs ++ ys) → AllByRecursion P xs
-first_part P [] ys each = tt
-first_part P (x ∷ xs) ys each = (each.0, first_part P xs ys each.1)
-
-other_part : {X : Type 0} (P : X → Type 0) (xs ys : List X) → AllByRecursion P (xs ++ ys) → AllByRecursion P ys
-other_part P [] ys each = each
-other_part P (x ∷ xs) ys each = other_part P xs ys each.1
-
 narrow_fit : (objects imports object : ℕ) (es : List AtEntry) → AllByRecursion (SlotFits objects imports) (map (narrow_at object) es) → AllByRecursion (AtFits (2 ^ 16)) es
 narrow_fit objects imports object [] each = tt
 narrow_fit objects imports object (e ∷ es) each = (each.0.1, narrow_fit objects imports object es each.1)
@@ -94,9 +87,9 @@ each_fits objects imports (b ∷ bs) some most each =
       record {
         some = some.0;
         few = omega (arith, few);
-        body = body_fits objects imports b some.0 (first_part (SlotFits objects imports) (slots_of b) (flat_map slots_of bs) each);
+        body = body_fits objects imports b some.0 (all_front (SlotFits objects imports) (slots_of b) (flat_map slots_of bs) each);
       },
-      each_fits objects imports bs some.1 most.1 (other_part (SlotFits objects imports) (slots_of b) (flat_map slots_of bs) each),
+      each_fits objects imports bs some.1 most.1 (all_back (SlotFits objects imports) (slots_of b) (flat_map slots_of bs) each),
     )
 
 pub bundles-fit : (l : Link) (xs : List Exported) → length (modules_in (link_pairs l)) ≤ MAX_NUMBER → AllByRecursion (ExportFits l) xs → AllByRecursion (BundleFits (length (objects l)) (length (modules_in (link_pairs l)))) (bundles_for xs)

@@ -1,8 +1,9 @@
 -- The entry points of a module that a link wrote are the exports of the link.
-use Rattle.std.specs.Prelude.{◌≡◌, ◌≢◌, ℕ, zero, suc, ◌==◌, Bool, true, false, List, Option, Some, None, Err, All, unwrap_or, refl}
+use Rattle.std.specs.Prelude.{◌≡◌, ◌≢◌, ℕ, zero, suc, ◌==◌, Bool, false, List, Option, Some, None, Err, All, refl}
 use Rattle.std.specs.Option.{option_map}
 use Rattle.std.proofs.Common.{ap, sym, ◌∙◌, arith}
-use Rattle.std.proofs.lemmas.Bool.Decides.{nat_tests}
+use Rattle.std.proofs.lemmas.Bool.{ne_eqb, eq-eqb, eqb-true}
+use Rattle.std.proofs.lemmas.Option.{same_Some}
 use Rattle.lx_types.specs.declared.entry.EntryHead.{EntryHead}
 use Rattle.lx_types.specs.declared.entry.EntryHead.TheVariants as heads
 use Rattle.lx_types.specs.declared.entry.EntryKey.TheVariants as entry_keys
@@ -51,23 +52,14 @@ record HeadThere (l : Link) (lib : List Parts) (m : ℕ) (x : Export) : Type 0 w
   is : head_of l x.target ≡ Some head
   stands : stands_at lib (m, x.ordinal) ≡ head_at lib m (Some head)
 
-equal_is : (n m : ℕ) → (n == m) ≡ true → n ≡ m
-equal_is n m e = grind (arith, nat_tests)
-
-same_number : (n : ℕ) → (n == n) ≡ true
-same_number n = grind (arith, nat_tests)
-
-other_number : (n m : ℕ) → n ≢ m → (n == m) ≡ false
-other_number n m other = grind (arith, nat_tests)
-
 head_there : (l : Link) (lib : List Parts) (m : ℕ) → Loaded l lib m → (x : Export) → In x (Out l) → HeadThere l lib m x
 head_there l lib m loaded x i =
     let own = listed l x i in
     let test : Exported → Bool = λ y. y.ordinal == x.ordinal in
-    let found = finds-one test (exported_of l) own.inside (same_number x.ordinal) in
+    let found = finds-one test (exported_of l) own.inside (eq-eqb x.ordinal x.ordinal refl) in
     let shown = found_as test (exported_of l) found.item found.is in
     let out = is-out l found.item shown.inside in
-    let same : out.export ≡ x = one-of-ordinal l loaded.known out.export x out.inside i (out.ordinal ∙ equal_is found.item.ordinal x.ordinal shown.passes) in
+    let same : out.export ≡ x = one-of-ordinal l loaded.known out.export x out.inside i (out.ordinal ∙ eqb-true found.item.ordinal x.ordinal shown.passes) in
     record {
       head = found.item.head;
       is = ap (λ (y : Export). head_of l y.target) (sym same) ∙ out.head;
@@ -75,12 +67,9 @@ head_there l lib m loaded x i =
           (ap (λ es. entry_of es x.ordinal) (entries_are l lib m loaded) ∙ entry-is (exported_of l) x.ordinal (some-ordinal l loaded.known x i) ∙ ap (λ (o : Option Exported). option_map (λ y. y.head) o) found.is);
     }
 
-some_head : (h g : EntryHead) → Some h ≡ Some g → h ≡ g
-some_head h g e = ap (λ (o : Option EntryHead). unwrap_or o h) e
-
 head_leads : (l : Link) (lib : List Parts) (m : ℕ) → Loaded l lib m → (t : ExportTarget) (h : EntryHead) (place : OrdinalOf) → head_of l t ≡ Some h → stands_at lib place ≡ head_at lib m (Some h) → Entry lib place ≡ leads_to lib m t
 head_leads l lib m loaded (At object offset) h place e stands =
-    spot-there lib place (record { «module» = m; object = object; offset = offset }) (stands ∙ ap (λ (g : EntryHead). head_at lib m (Some g)) (sym (some_head (heads.At object offset) h e)))
+    spot-there lib place (record { «module» = m; object = object; offset = offset }) (stands ∙ ap (λ (g : EntryHead). head_at lib m (Some g)) (sym (same_Some (heads.At object offset) h e)))
 head_leads l lib m loaded (Forward pair) h place e stands =
     let r = forwarder-named l lib m loaded pair h e in named-place lib place r.next (stands ∙ r.stands) ∙ r.leads
 
@@ -95,7 +84,7 @@ no_such_ordinal l n none =
     finds-none (λ y. y.ordinal == n) (exported_of l) (each-of (λ y. (y.ordinal == n) ≡ false) (exported_of l) (λ y i. differs y i))
   where
     differs : (y : Exported) → In y (exported_of l) → (y.ordinal == n) ≡ false
-    differs y i = let out = is-out l y i in other_number y.ordinal n (λ e. all_in (λ (x : Export). x.ordinal ≢ n) (Out l) none out.inside (out.ordinal ∙ e))
+    differs y i = let out = is-out l y i in ne_eqb y.ordinal n (λ e. all_in (λ (x : Export). x.ordinal ≢ n) (Out l) none out.inside (out.ordinal ∙ e))
 
 other_ordinal : (l : Link) (lib : List Parts) (m : ℕ) → Loaded l lib m → (n : ℕ) → All (λ (x : Export). x.ordinal ≢ n) (Out l) → Entry lib (m, n) ≡ Err faults.NoEntry
 other_ordinal l lib m loaded zero none = no_entry lib m 0 (ap (λ es. entry_of es 0) (entries_are l lib m loaded) ∙ entry-at-zero (exported_of l))

@@ -12,6 +12,7 @@ use Rattle.lx_model.specs.EntryTable.{Numbered}
 use Rattle.lx_model.specs.NameTables.{Named}
 use Rattle.lx_model.specs.ExportTables.{Exported, named, export_at, greatest, entries_by_ordinal}
 use Rattle.link_model.proofs.Members.{In, here, there, found_as, in_left, in_right, in_map, in_filter, in_either, from_map, from_filter}
+use Rattle.seg_parts.proofs.Listed.{apart}
 use Rattle.layer_laws.proofs.Lists.{each-of}
 
 -- ---- find
@@ -39,14 +40,8 @@ finds-none test (x ∷ xs) all = ap (λ (b : Bool). cond b (Some x) (find test x
 abbrev entries_from : List Exported → ℕ → ℕ → List Numbered
 entries_from xs a n = filter_map (λ k. option_map (λ x. (k, x.head)) (export_at xs k)) (range_with_len a n)
 
-equal_is : (n m : ℕ) → n ≡ m → (n == m) ≡ true
-equal_is n m is = grind (arith, nat_tests)
-
 other_is : (n m : ℕ) → n < m → (m == n) ≡ false
 other_is n m is = grind (arith, nat_tests)
-
-before_is : (n m : ℕ) → n < m → (n == m) ≡ false
-before_is n m is = grind (arith, nat_tests)
 
 abbrev listed : ℕ → Option Exported → Option Numbered
 listed k o = option_map (λ x. (k, x.head)) o
@@ -68,7 +63,7 @@ none_below xs a (suc len) n lt = other_entry a n (export_at xs a) (entries_from 
 
 none_above : (xs : List Exported) (a len n : ℕ) → a + len ≤ n → entry_of (entries_from xs a len) n ≡ None
 none_above xs a zero n le = refl
-none_above xs a (suc len) n le = other_entry a n (export_at xs a) (entries_from xs (a + 1) len) (before_is a n (omega (arith, le))) ∙ none_above xs (a + 1) len n (omega (arith, le))
+none_above xs a (suc len) n le = other_entry a n (export_at xs a) (entries_from xs (a + 1) len) (apart a n (omega (arith, le))) ∙ none_above xs (a + 1) len n (omega (arith, le))
 
 entry_there : (xs : List Exported) (a len n : ℕ) → a ≤ n → n < a + len → entry_of (entries_from xs a len) n ≡ head_of_export (export_at xs n)
 entry_there xs a zero n le lt = absurd (omega (arith, le, lt))
@@ -91,7 +86,7 @@ all_most (x ∷ xs) = (omega arith, wider (greatest xs) (max x.ordinal (greatest
 
 none_past : (n : ℕ) (ys : List Exported) (m : ℕ) → m < n → AllByRecursion (λ y. y.ordinal ≤ m) ys → AllByRecursion (λ y. (y.ordinal == n) ≡ false) ys
 none_past n [] m lt all = tt
-none_past n (y ∷ ys) m lt all = (before_is y.ordinal n (omega (arith, lt, all.0)), none_past n ys m lt all.1)
+none_past n (y ∷ ys) m lt all = (apart y.ordinal n (omega (arith, lt, all.0)), none_past n ys m lt all.1)
 
 -- At an ordinal that is not 0 stands the head of the export that has it.
 pub entry-is : (xs : List Exported) (n : ℕ) → n ≢ 0 → entry_of (entries_by_ordinal xs) n ≡ option_map (λ x. x.head) (export_at xs n)

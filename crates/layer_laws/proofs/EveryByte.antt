@@ -1,9 +1,9 @@
 -- Each byte of a module that was linked is, wherever it is loaded, the one that the link means there.
-use Rattle.std.specs.Prelude.{◌≡◌, ℕ, zero, suc, ◌/◌, ◌<◌, ◌≤◌, ◌==◌, ◌&&◌, ◌||◌, Bool, true, false, cond, not, List, [], ◌∷◌, Option, Some, None, filter, length, slice_get, is_some, IsSome, refl}
+use Rattle.std.specs.Prelude.{◌≡◌, ℕ, zero, suc, ◌/◌, ◌<◌, ◌==◌, ◌&&◌, ◌||◌, Bool, true, false, cond, not, List, [], ◌∷◌, Option, Some, None, filter, length, slice_get, is_some, IsSome, refl}
 use Rattle.std.specs.List.{list_any, enumerate_from, filter_map, cons_option}
 use Rattle.std.specs.Option.{option_map}
 use Rattle.std.proofs.Common.{ap, sym, ◌∙◌, arith, subst, true≢false}
-use Rattle.std.proofs.lemmas.Bool.{eqb-true}
+use Rattle.std.proofs.lemmas.Bool.{eqb-true, not-true}
 use Rattle.std.proofs.lemmas.List.{length-map}
 use Rattle.std.proofs.lemmas.List.Sorted.{All-permutation, IsPermutation-sym}
 use Rattle.lx_bytes.specs.LittleEndian.{little}
@@ -12,6 +12,7 @@ use Rattle.lx_types.specs.declared.fix.Fix.{Fix}
 use Rattle.lx_types.specs.declared.fix.FixTarget.{FixTarget}
 use Rattle.lx_types.specs.declared.object.TheConstants.{PAGE_SIZE}
 use Rattle.lx_types.specs.declared.parts.Parts.{Parts}
+use Rattle.lx_types.proofs.Lists.{length-filter_map}
 use Rattle.obj_types.specs.Items.{item}
 use Rattle.obj_types.specs.Whole.{WholeFix}
 use Rattle.obj_types.specs.declared.object.FixAt.{FixAt}
@@ -85,20 +86,11 @@ none_stands m f is = by (eqb-true f.loc 2 is)
 
 -- ---- its record
 
--- Where no item is left out, each has what is made of it.
-fewer : {X Y : Type 0} (h : X → Option Y) (xs : List X) → length (filter_map h xs) ≤ length xs
-fewer h [] = omega arith
-fewer {X} {Y} h (x ∷ xs) = by (h x) (fewer h xs)
-  where
-    by : (o : Option Y) → length (filter_map h xs) ≤ length xs → length (cons_option o (filter_map h xs)) ≤ suc (length xs)
-    by None few = omega (arith, few)
-    by (Some y) few = omega (arith, few)
-
 one_some : {X Y : Type 0} (h : X → Option Y) (x : X) (xs : List X) → length (filter_map h (x ∷ xs)) ≡ length (x ∷ xs) → IsSome (h x) × (length (filter_map h xs) ≡ length xs)
 one_some {X} {Y} h x xs e = by (h x) refl e
   where
     by : (o : Option Y) → h x ≡ o → length (cons_option o (filter_map h xs)) ≡ suc (length xs) → IsSome (h x) × (length (filter_map h xs) ≡ length xs)
-    by None is f = let few = fewer h xs in absurd (omega (arith, f, few))
+    by None is f = let few = length-filter_map h xs in absurd (omega (arith, f, few))
     by (Some y) is f = (ap is_some is, omega (arith, f))
 
 all_some : {X Y : Type 0} (h : X → Option Y) (xs : List X) {x : X} → length (filter_map h xs) ≡ length xs → In x xs → IsSome (h x)
@@ -124,13 +116,9 @@ led_there l n x q g i covers =
 
 -- ---- a place that a fixup left to the loader covers
 
-left_open : (b : Bool) → not b ≡ true → b ≡ false
-left_open true e = absurd (true≢false (sym e))
-left_open false e = refl
-
 not_patched : (l : Link) (q : Fixup) → In q (recorded l) → is_patched q ≡ false
 unfolding recorded
-not_patched l q i = left_open (is_patched q) (passes (λ (t : Fixup). not (is_patched t)) (live_fixups l) i)
+not_patched l q i = not-true (is_patched q) (passes (λ (t : Fixup). not (is_patched t)) (live_fixups l) i)
 
 -- A record of the page has a spot in a library in which the module is fit.
 has_spot : (l : Link) (lib : List Parts) (m : ℕ) → Loaded l lib m → IsLibrary lib → m < length lib → IsFit lib m → (i x : ℕ) (o : LaidObject) → slice_get (objects l) i ≡ Some o → x < o.size → (f : Fix) → In f (page-fixes l (suc i) (x / PAGE_SIZE)) → HasSpot lib m f

@@ -1,9 +1,10 @@
 -- The exports of a link fit the name tables and the entry table.
-use Rattle.std.specs.Prelude.{◌≡◌, ◌≢◌, ℕ, ◌+◌, ◌<◌, ◌≤◌, ◌^◌, Bool, true, false, not, ◌||◌, nat_lt, List, [], ◌∷◌, Option, Some, length, slice_get, is_some, unwrap_or, bytes_eq, refl}
+use Rattle.std.specs.Prelude.{◌≡◌, ◌≢◌, ℕ, ◌+◌, ◌<◌, ◌≤◌, ◌^◌, Bool, true, false, not, ◌||◌, nat_lt, List, [], ◌∷◌, Some, length, slice_get, is_some, bytes_eq, refl}
 use Rattle.std.specs.List.{AllByRecursion, zip, position}
 use Rattle.std.specs.Option.{option_and_then}
 use Rattle.std.proofs.Common.{ap, sym, ◌∙◌, arith, subst, true≢false}
 use Rattle.std.proofs.lemmas.Bool.Decides.{nat_tests}
+use Rattle.std.proofs.lemmas.Option.{same_Some}
 use Rattle.lx_types.specs.Addresses.{UNIT, is_big}
 use Rattle.lx_types.specs.Names.{IsName, uppercase}
 use Rattle.lx_types.specs.Sound.{IsNumberOf}
@@ -47,11 +48,8 @@ OrdinalSmall (leads.Ordinal import n) = n < 2 ^ 32
 OrdinalSmall (leads.Named import k) = Unit {0}
 OrdinalSmall (leads.Own n) = Unit {0}
 
-target_is : (t u : FixTarget) → Some t ≡ Some u → t ≡ u
-target_is t u e = ap (λ (o : Option FixTarget). unwrap_or o t) e
-
 entry_small : (pairs : List Imp) (number : ℕ) (entry : EntryKey) (t : FixTarget) → KeyInRange entry → entry_target pairs number entry ≡ Some t → OrdinalSmall t
-entry_small pairs number (entry_keys.Ordinal n) t small e = subst OrdinalSmall (target_is (leads.Ordinal number n) t e) small
+entry_small pairs number (entry_keys.Ordinal n) t small e = subst OrdinalSmall (same_Some (leads.Ordinal number n) t e) small
 entry_small pairs number (entry_keys.Named name) t small e =
     let r = mapped (λ (k : ℕ). leads.Named number k) (position (λ x. bytes_eq name x) (procs_in pairs)) t e in subst OrdinalSmall r.gives tt
 
@@ -87,26 +85,20 @@ narrow_offset false offset e = by (nat_lt offset UNIT) refl e
     by true is e = grind (arith, nat_tests)
     by false is e = absurd (true≢false e)
 
-head_is : (t u : EntryHead) → Some t ≡ Some u → t ≡ u
-head_is t u e = ap (λ (o : Option EntryHead). unwrap_or o t) e
-
 forward_fits : (l : Link) (wide : Bool) (t : FixTarget) (h : EntryHead) → length (name_table (procs_in (link_pairs l))) < 2 ^ 32 → AmongPairs (link_pairs l) t → OrdinalSmall t
     → forwarder_to (with_offset (procs_in (link_pairs l)) t) ≡ Some h → HeadFits l wide h
 forward_fits l wide (leads.Internal o offset) h short among small e = absurd among
 forward_fits l wide (leads.Ordinal import n) h short among small e =
-    subst (HeadFits l wide) (head_is (heads.Forward import (keys.Ordinal n)) h e) (among, small)
+    subst (HeadFits l wide) (same_Some (heads.Forward import (keys.Ordinal n)) h e) (among, small)
 forward_fits l wide (leads.Named import k) h short among small e =
-    subst (HeadFits l wide) (head_is (heads.Forward import (keys.NameAt (name_offset (procs_in (link_pairs l)) k))) h e) (among.0, offset-small (procs_in (link_pairs l)) k short)
+    subst (HeadFits l wide) (same_Some (heads.Forward import (keys.NameAt (name_offset (procs_in (link_pairs l)) k))) h e) (among.0, offset-small (procs_in (link_pairs l)) k short)
 forward_fits l wide (leads.Own n) h short among small e = absurd among
 
 -- What an export leads to, by the target of its name.
-export_is : (t u : ExportTarget) → Some t ≡ Some u → t ≡ u
-export_is t u e = ap (λ (o : Option ExportTarget). unwrap_or o t) e
-
 head_by : (l : Link) → Given l → length (name_table (procs_in (link_pairs l))) < 2 ^ 32 → (t : Target) (x : ExportTarget) (h : EntryHead) → LeadsThere l t → OffsetSmall t → export_target l t ≡ Some x → head_of l x ≡ Some h → HeadFits l (is_wide l x) h
 head_by l g short (Internal o offset) x h led small e f =
-    let same = export_is (At o offset) x e in
-    let head = head_is (heads.At o offset) h (ap (head_of l) same ∙ f) in
+    let same = same_Some (At o offset) x e in
+    let head = same_Some (heads.At o offset) h (ap (head_of l) same ∙ f) in
     subst (λ (y : ExportTarget). HeadFits l (is_wide l y) h) same (subst (HeadFits l (is_wide l (At o offset))) head (led, small, narrow_offset (is_big (object_flags l o)) offset))
 head_by l g short (Constant value) x h led small e f = absurd (true≢false (sym (ap is_some e)))
 head_by l g short (Entry slot) x h led small e f =

@@ -1,14 +1,14 @@
 -- The byte of a page with its fixups, by what each of its sources puts there.
-use Rattle.std.specs.Prelude.{◌≡◌, ℕ, ℤ, pos, negsuc, suc, ◌+◌, ◌-◌, ◌-ℤ◌, ◌<◌, ◌≤◌, ◌⊎◌, nat_le, Bool, false, cond, List, [], ◌∷◌, Option, Some, None, map, reverse, length, slice_index, is_some, unwrap_or, refl}
+use Rattle.std.specs.Prelude.{◌≡◌, ℕ, ℤ, pos, negsuc, suc, ◌+◌, ◌-◌, ◌-ℤ◌, ◌<◌, ◌≤◌, ◌⊎◌, Bool, cond, List, [], ◌∷◌, Option, Some, None, map, reverse, length, slice_index, is_some, unwrap_or, refl}
 use Rattle.std.specs.List.{All, AllByRecursion}
 use Rattle.std.specs.List.Sorted.{IsPermutation}
 use Rattle.std.proofs.Common.{ap, sym, ◌∙◌, arith, subst, true≢false, inl, inr}
-use Rattle.std.proofs.lemmas.Bool.{cases_lt}
-use Rattle.std.proofs.lemmas.Bool.Decides.{nat_tests}
+use Rattle.std.proofs.lemmas.Bool.{cases_lt, lt-leb, le-leb}
 use Rattle.std.proofs.lemmas.Int.{ints}
 use Rattle.std.proofs.lemmas.List.Elements.{All-map, All-from_recursion, recursion_from_All}
 use Rattle.std.proofs.lemmas.List.Sorted.{All-permutation, IsPermutation-reverse, IsPermutation-sym}
 use Rattle.std.proofs.lemmas.Option.{slice_get-get_or, slice_get_past}
+use Rattle.lx_model.proofs.ReadModules.{each_unmap}
 use Rattle.lx_types.specs.declared.bases.Bases.{Bases}
 use Rattle.lx_types.specs.declared.fix.Fix.{Fix}
 use Rattle.lx_types.specs.declared.object.PageId.{PageId}
@@ -18,7 +18,6 @@ use Rattle.lx_model.specs.Fixed.{Raw, Patch, patch_of, index_in, byte_if, patche
 use Rattle.lx_model.specs.Library.{module_of}
 use Rattle.lx_model.specs.Reading.{first}
 use Rattle.image_model.proofs.Faultless.{none_first}
-use Rattle.layer_laws.proofs.Lists.{le-true}
 
 -- ---- the first of those that put a byte there
 
@@ -41,10 +40,6 @@ none_of {X} h (x ∷ xs) e = by (h x) refl e (λ f. none_of h xs f)
     by : (o : Option ℕ) → h x ≡ o → first (o ∷ map h xs) ≡ None → (first (map h xs) ≡ None → AllByRecursion (λ y. h y ≡ None) xs) → AllByRecursion (λ y. h y ≡ None) (x ∷ xs)
     by None is f rest = (is, rest f)
     by (Some c) is f rest = absurd (true≢false (ap is_some f))
-
-unmapped : {X Y : Type 0} (P : Y → Type 0) (f : X → Y) (xs : List X) → AllByRecursion P (map f xs) → AllByRecursion (λ x. P (f x)) xs
-unmapped P f [] each = tt
-unmapped P f (x ∷ xs) each = (each.0, unmapped P f xs each.1)
 
 -- ---- the sources of a page, in any order
 
@@ -79,7 +74,7 @@ nothing lib m bases p i fs moved none =
     let P : Fix → Type 0 = λ f. put lib m bases p i f ≡ None in
     let reversed = All-from_recursion Q (reverse patches) (none_of (λ (q : Patch). patched q i) (reverse patches) none) in
     let of_patches = All-permutation Q (reverse patches) patches (IsPermutation-sym patches (reverse patches) (IsPermutation-reverse patches)) reversed in
-    let of_sources = unmapped Q (patch_of lib m bases p) sources (recursion_from_All Q patches of_patches) in
+    let of_sources = each_unmap Q (patch_of lib m bases p) sources (recursion_from_All Q patches of_patches) in
     recursion_from_All P fs (All-permutation P sources fs (IsPermutation-sym fs sources moved) (All-from_recursion P sources of_sources))
 
 none_left : (lib : List Parts) (m : ℕ) (bases : Bases) (p : PageId) (i : ℕ) (fs : List Fix) → IsPermutation fs (sources_of (module_of lib m) p) → AllByRecursion (λ f. put lib m bases p i f ≡ None) fs → last_patched lib m bases p i ≡ None
@@ -117,19 +112,16 @@ place_is a b from = omega (arith, ints)
 place_before : (a b : ℕ) → a < b → negsuc (b - a - 1) ≡ pos a -ℤ pos b
 place_before a b below = omega (arith, ints)
 
-le_false : (a b : ℕ) → b < a → nat_le a b ≡ false
-le_false a b h = grind (arith, nat_tests)
-
 index-before : (a b i : ℕ) → b + i < a → index_in (pos a -ℤ pos b) i ≡ None
 index-before a b i before =
-    ap (λ (z : ℤ). index_in z i) (sym (place_is a b (omega (arith, before)))) ∙ ap (λ (t : Bool). cond t (Some (i - (a - b))) None) (le_false (a - b) i (omega (arith, before)))
+    ap (λ (z : ℤ). index_in z i) (sym (place_is a b (omega (arith, before)))) ∙ ap (λ (t : Bool). cond t (Some (i - (a - b))) None) (lt-leb (a - b) i (omega (arith, before)))
 
 index-from : (a b i : ℕ) → a ≤ b + i → index_in (pos a -ℤ pos b) i ≡ Some (b + i - a)
 index-from a b i from =
     elim (cases_lt a b) as (λ s. index_in (pos a -ℤ pos b) i ≡ Some (b + i - a)) [
       | inl below ↦ ap (λ (z : ℤ). index_in z i) (sym (place_before a b below)) ∙ ap (λ (n : ℕ). Some n) (let e : i + suc (b - a - 1) ≡ b + i - a = omega (arith, below) in e)
       | inr past ↦
-          ap (λ (z : ℤ). index_in z i) (sym (place_is a b past)) ∙ ap (λ (t : Bool). cond t (Some (i - (a - b))) None) (le-true (a - b) i (omega (arith, from, past)))
+          ap (λ (z : ℤ). index_in z i) (sym (place_is a b past)) ∙ ap (λ (t : Bool). cond t (Some (i - (a - b))) None) (le-leb (a - b) i (omega (arith, from, past)))
           ∙ ap (λ (n : ℕ). Some n) (let e : i - (a - b) ≡ b + i - a = omega (arith, past, from) in e)
     ]
 

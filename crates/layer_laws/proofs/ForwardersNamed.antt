@@ -1,11 +1,12 @@
 -- A forwarder's entry names the entry point of its pair, in the library of the pair's module name.
-use Rattle.std.specs.Prelude.{◌≡◌, ℕ, ◌+◌, ◌-◌, List, [], ◌∷◌, Option, Some, None, bytes_eq, slice_get, get_or, position, unwrap_or, refl, ◌&&◌}
+use Rattle.std.specs.Prelude.{◌≡◌, ℕ, ◌+◌, ◌-◌, List, [], ◌∷◌, Option, Some, None, bytes_eq, slice_get, get_or, position, refl, ◌&&◌}
 use Rattle.std.specs.Option.{option_and_then}
 use Rattle.std.specs.Char.{to_ascii_uppercase}
 use Rattle.std.proofs.Common.{ap, sym, ◌∙◌, arith}
 use Rattle.std.proofs.lemmas.List.Quantifiers.{position-Some}
-use Rattle.std.proofs.lemmas.Option.{slice_get-get_or}
+use Rattle.std.proofs.lemmas.Option.{slice_get-get_or, same_Some}
 use Rattle.std.proofs.lemmas.Slice.Eq.{bytes_eq-Decides}
+use Rattle.std.proofs.lemmas.Str.Ascii.{uppercase-uppercase}
 use Rattle.lx_types.specs.Names.{uppercase}
 use Rattle.lx_types.specs.Parts.{proc_name_of, is_library_of}
 use Rattle.lx_types.specs.declared.entry.EntryHead.{EntryHead}
@@ -32,7 +33,7 @@ use Rattle.layer_laws.proofs.Targets.{proc-stands}
 
 -- ---- the tables of a loaded module
 
-item_at_place : (names : List (List ℕ)) (name : List ℕ) (k : ℕ) → position (λ n. bytes_eq name n) names ≡ Some k → slice_get names k ≡ Some name
+pub item_at_place : (names : List (List ℕ)) (name : List ℕ) (k : ℕ) → position (λ n. bytes_eq name n) names ≡ Some k → slice_get names k ≡ Some name
 item_at_place names name k e =
     let r = position-Some (λ n. bytes_eq name n) names k name e in
     slice_get-get_or names k name r.0 ∙ ap (λ (n : List ℕ). Some n) (sym ((bytes_eq-Decides name (get_or names k name)).0 r.1))
@@ -47,7 +48,7 @@ module_is l lib m loaded name k e =
     ap (λ (ns : List (List ℕ)). option_and_then (library_named lib) (slice_get ns (k + 1 - 1))) (ap (λ (p : Parts). p.imports) loaded.is ∙ imports_are l)
     ∙ ap (λ (n : ℕ). option_and_then (library_named lib) (slice_get (modules_in (link_pairs l)) n)) place ∙ ap (option_and_then (library_named lib)) (item_at_place (modules_in (link_pairs l)) name k e)
 
-proc_in_parts : (l : Link) (k : ℕ) (name : List ℕ) → slice_get (procs_in (link_pairs l)) k ≡ Some name → proc_name_of (parts_of_image (image_of l)) (name_offset (procs_in (link_pairs l)) k) ≡ Some name
+pub proc_in_parts : (l : Link) (k : ℕ) (name : List ℕ) → slice_get (procs_in (link_pairs l)) k ≡ Some name → proc_name_of (parts_of_image (image_of l)) (name_offset (procs_in (link_pairs l)) k) ≡ Some name
 unfolding parts_of_image
 proc_in_parts l k name e = proc-stands l k name e
 
@@ -67,21 +68,15 @@ by_ordinal : (lib : List Parts) (n : ℕ) (other : Option ℕ) → entry_or_none
 by_ordinal lib n None = refl
 by_ordinal lib n (Some o) = refl
 
-by_name : (lib : List Parts) (m at : ℕ) (name : List ℕ) (other : Option ℕ) → proc_name_of (module_of lib m) at ≡ Some name → entry_or_none lib (option_and_then (key_place lib m (keys.NameAt at)) other) ≡ entry_in lib other (entry_keys.Named name)
+pub by_name : (lib : List Parts) (m at : ℕ) (name : List ℕ) (other : Option ℕ) → proc_name_of (module_of lib m) at ≡ Some name → entry_or_none lib (option_and_then (key_place lib m (keys.NameAt at)) other) ≡ entry_in lib other (entry_keys.Named name)
 by_name lib m at name None is = refl
 by_name lib m at name (Some o) is = ap (λ (x : Option (List ℕ)). entry_or_none lib (option_and_then (place_named lib o) x)) is
-
-some_head : (h g : EntryHead) → Some h ≡ Some g → h ≡ g
-some_head h g e = ap (λ (o : Option EntryHead). unwrap_or o h) e
-
-some_target : (t u : FixTarget) → Some t ≡ Some u → t ≡ u
-some_target t u e = ap (λ (o : Option FixTarget). unwrap_or o t) e
 
 of_key : (l : Link) (lib : List Parts) (m : ℕ) → Loaded l lib m → (name : List ℕ) (k : ℕ) (entry : EntryKey) (t : FixTarget) (h : EntryHead) → position (λ n. bytes_eq name n) (modules_in (link_pairs l)) ≡ Some k
     → entry_target (link_pairs l) (k + 1) entry ≡ Some t → forwarder_to (with_offset (procs_in (link_pairs l)) t) ≡ Some h → Names lib m h name entry
 of_key l lib m loaded name k (entry_keys.Ordinal n) t h at e f =
-    let target = some_target (leads.Ordinal (k + 1) n) t e in
-    let head : heads.Forward (k + 1) (keys.Ordinal n) ≡ h = some_head (heads.Forward (k + 1) (keys.Ordinal n)) h (ap (λ (u : FixTarget). forwarder_to (with_offset (procs_in (link_pairs l)) u)) target ∙ f) in
+    let target = same_Some (leads.Ordinal (k + 1) n) t e in
+    let head : heads.Forward (k + 1) (keys.Ordinal n) ≡ h = same_Some (heads.Forward (k + 1) (keys.Ordinal n)) h (ap (λ (u : FixTarget). forwarder_to (with_offset (procs_in (link_pairs l)) u)) target ∙ f) in
     record {
       next = import_place lib m (k + 1) (keys.Ordinal n);
       stands = ap (λ (g : EntryHead). head_at lib m (Some g)) (sym head);
@@ -90,7 +85,7 @@ of_key l lib m loaded name k (entry_keys.Ordinal n) t h at e f =
 of_key l lib m loaded name k (entry_keys.Named proc) t h at e f =
     let r = mapped (λ (j : ℕ). leads.Named (k + 1) j) (position (λ n. bytes_eq proc n) (procs_in (link_pairs l))) t e in
     let place = name_offset (procs_in (link_pairs l)) r.item in
-    let head : heads.Forward (k + 1) (keys.NameAt place) ≡ h = some_head (heads.Forward (k + 1) (keys.NameAt place)) h (ap (λ (u : FixTarget). forwarder_to (with_offset (procs_in (link_pairs l)) u)) r.gives ∙ f) in
+    let head : heads.Forward (k + 1) (keys.NameAt place) ≡ h = same_Some (heads.Forward (k + 1) (keys.NameAt place)) h (ap (λ (u : FixTarget). forwarder_to (with_offset (procs_in (link_pairs l)) u)) r.gives ∙ f) in
     record {
       next = import_place lib m (k + 1) (keys.NameAt place);
       stands = ap (λ (g : EntryHead). head_at lib m (Some g)) (sym head);
@@ -99,12 +94,9 @@ of_key l lib m loaded name k (entry_keys.Named proc) t h at e f =
 
 -- ---- names in upper case
 
-upper_twice : (c : ℕ) → to_ascii_uppercase (to_ascii_uppercase c) ≡ to_ascii_uppercase c
-upper_twice c = grind arith
-
 pub uppercase-twice : (name : List ℕ) → uppercase (uppercase name) ≡ uppercase name
 uppercase-twice [] = refl
-uppercase-twice (c ∷ cs) = ap (λ (d : ℕ). d ∷ uppercase (uppercase cs)) (upper_twice c) ∙ ap (λ (ds : List ℕ). to_ascii_uppercase c ∷ ds) (uppercase-twice cs)
+uppercase-twice (c ∷ cs) = ap (λ (d : ℕ). d ∷ uppercase (uppercase cs)) (uppercase-uppercase c) ∙ ap (λ (ds : List ℕ). to_ascii_uppercase c ∷ ds) (uppercase-twice cs)
 
 -- A module's name is the same in upper case.
 any_case : (lib : List Parts) (name : List ℕ) → library_named lib (uppercase name) ≡ library_named lib name

@@ -1,12 +1,15 @@
 -- There is a free ordinal for each export that asks for none, and it is no other export's.
 use Rattle.std.specs.Prelude.{◌≡◌, ◌≢◌, ℕ, zero, suc, ◌+◌, ◌<◌, ◌≤◌, ◌==◌, ◌||◌, Bool, true, false, cond, not, List, [], ◌∷◌, Option, filter, length, get_or, refl}
 use Rattle.std.specs.List.{AllByRecursion, list_any, range_with_len}
-use Rattle.std.proofs.Common.{sym, arith, true≢false, subst}
+use Rattle.std.proofs.Common.{arith, subst}
 use Rattle.std.proofs.lemmas.Bool.Decides.{nat_tests}
 use Rattle.std.proofs.lemmas.List.Filters.{length-filter_both}
 use Rattle.std.proofs.lemmas.List.FromFn.{length-range_with_len}
+use Rattle.std.proofs.lemmas.Bool.{or_parts, not-true}
+use Rattle.link_core.proofs.RecordsFit.{passing}
+use Rattle.lx_types.proofs.Lists.{all_kept}
 use Rattle.link_model.specs.Exports.{given, free_ordinals}
-use Rattle.layer_laws.proofs.Apart.{Apart, neither-true, all-kept, kept-apart, each-kept, range-from, range-apart}
+use Rattle.layer_laws.proofs.Apart.{Apart, kept-apart, range-from, range-apart}
 
 pub none-equal : (n m : ℕ) → (n == m) ≡ false → n ≢ m
 none-equal n m e same = absurd (grind (arith, nat_tests, e, same))
@@ -59,23 +62,19 @@ pub free-apart : (os : List (Option ℕ)) → Apart (free_ordinals os)
 free-apart os = kept-apart (λ n. not (list_any (λ g. g == n) (given os))) (range_with_len 1 (length (given os) + length os)) (range-apart 1 (length (given os) + length os))
 
 pub free-some : (os : List (Option ℕ)) → AllByRecursion (λ n. 1 ≤ n) (free_ordinals os)
-free-some os = all-kept (λ n. 1 ≤ n) (λ n. not (list_any (λ g. g == n) (given os))) (range_with_len 1 (length (given os) + length os)) (range-from 1 1 (length (given os) + length os) (omega arith))
+free-some os = all_kept (λ n. 1 ≤ n) (λ n. not (list_any (λ g. g == n) (given os))) (range_with_len 1 (length (given os) + length os)) (range-from 1 1 (length (given os) + length os) (omega arith))
 
 none_same : (n : ℕ) (gs : List ℕ) → list_any (λ g. g == n) gs ≡ false → AllByRecursion (λ g. g ≢ n) gs
 none_same n [] e = tt
-none_same n (g ∷ gs) e = let both = neither-true (g == n) (list_any (λ h. h == n) gs) e in (none-equal g n both.0, none_same n gs both.1)
-
-not_true : (b : Bool) → not b ≡ true → b ≡ false
-not_true true e = absurd (true≢false (sym e))
-not_true false e = refl
+none_same n (g ∷ gs) e = let both = or_parts (g == n) (list_any (λ h. h == n) gs) e in (none-equal g n both.0, none_same n gs both.1)
 
 each_free : (gs ns : List ℕ) → AllByRecursion (λ n. not (list_any (λ g. g == n) gs) ≡ true) ns → AllByRecursion (λ n. AllByRecursion (λ g. g ≢ n) gs) ns
 each_free gs [] all = tt
-each_free gs (n ∷ ns) all = (none_same n gs (not_true (list_any (λ g. g == n) gs) all.0), each_free gs ns all.1)
+each_free gs (n ∷ ns) all = (none_same n gs (not-true (list_any (λ g. g == n) gs) all.0), each_free gs ns all.1)
 
 -- No free ordinal is given.
 pub free-not-given : (os : List (Option ℕ)) → AllByRecursion (λ n. AllByRecursion (λ g. g ≢ n) (given os)) (free_ordinals os)
-free-not-given os = each_free (given os) (free_ordinals os) (each-kept (λ n. not (list_any (λ g. g == n) (given os))) (range_with_len 1 (length (given os) + length os)))
+free-not-given os = each_free (given os) (free_ordinals os) (passing (λ n. not (list_any (λ g. g == n) (given os))) (range_with_len 1 (length (given os) + length os)))
 
 -- ---- at places
 

@@ -1,12 +1,12 @@
 -- A fixup record that leads to an entry point of another module puts there what the fixup means.
-use Rattle.std.specs.Prelude.{◌≡◌, ℕ, suc, ◌+◌, ◌%◌, ◌^◌, ◌==◌, true, List, Option, Some, None, Ok, bytes_eq, slice_get, unwrap_or, refl}
+use Rattle.std.specs.Prelude.{◌≡◌, ℕ, suc, ◌+◌, ◌%◌, ◌^◌, ◌==◌, true, List, Option, Some, None, Ok, bytes_eq, slice_get, refl}
 use Rattle.std.specs.List.{position}
 use Rattle.std.specs.Option.{option_map, option_map_or, option_and_then}
 use Rattle.std.proofs.Common.{ap, sym, ◌∙◌, arith}
 use Rattle.std.proofs.Math.Nat.{add-mod-mod}
+use Rattle.std.proofs.lemmas.Option.{same_Some}
 use Rattle.lx_types.specs.Addresses.{address, tiled_selector}
 use Rattle.lx_types.specs.Names.{uppercase}
-use Rattle.lx_types.specs.Parts.{proc_name_of}
 use Rattle.lx_types.specs.declared.bases.Bases.{Bases}
 use Rattle.lx_types.specs.declared.entry.EntryKey.{EntryKey}
 use Rattle.lx_types.specs.declared.entry.EntryKey.TheVariants as entry_keys
@@ -24,9 +24,9 @@ use Rattle.link_model.specs.Goals.{Entry}
 use Rattle.link_model.specs.ImportTables.{used_pairs, link_pairs, modules_in, procs_in, entry_target, import_target, name_offset, with_offset}
 use Rattle.link_model.specs.Records.{target_and_additive}
 use Rattle.link_model.specs.Value.{Far, entry_point, far_of, target_address, target_flags, target_number, value_bytes}
-use Rattle.lx_model.specs.Entries.{key_place, place_named, entry_or_none, target_spot}
+use Rattle.lx_model.specs.Entries.{key_place, entry_or_none, target_spot}
 use Rattle.lx_model.specs.Fixed.{spot_address, end_address, bytes_if}
-use Rattle.lx_model.specs.Library.{module_of, library_named}
+use Rattle.lx_model.specs.Library.{library_named}
 use Rattle.lx_model.specs.ModuleBytes.{spot_flags}
 use Rattle.lx_model.specs.declared.library.Spot.{Spot}
 use Rattle.image_model.specs.Linked.{fix_in_file}
@@ -37,6 +37,7 @@ use Rattle.layer_laws.proofs.LoadedPages.{Loaded}
 use Rattle.layer_laws.proofs.FieldsAgree.{mod-first}
 use Rattle.layer_laws.proofs.SelfFields.{SelfWide, FieldOf, field-means, self-ends}
 use Rattle.layer_laws.proofs.ImportNames.{import-named, proc-named}
+use Rattle.layer_laws.proofs.ForwardersNamed.{by_name}
 
 -- ---- where the record leads
 
@@ -44,18 +45,11 @@ ordinal_spot : (lib : List Parts) (m n : ℕ) (other : Option ℕ) → entry_or_
 ordinal_spot lib m n None = refl
 ordinal_spot lib m n (Some o) = refl
 
-named_spot : (lib : List Parts) (m at : ℕ) (name : List ℕ) (other : Option ℕ) → proc_name_of (module_of lib m) at ≡ Some name → entry_or_none lib (option_and_then (key_place lib m (keys.NameAt at)) other) ≡ entry_in lib other (entry_keys.Named name)
-named_spot lib m at name None is = refl
-named_spot lib m at name (Some o) is = ap (λ (x : Option (List ℕ)). entry_or_none lib (option_and_then (place_named lib o) x)) is
-
-target_is : (t u : FixTarget) → Some t ≡ Some u → t ≡ u
-target_is t u e = ap (λ (o : Option FixTarget). unwrap_or o t) e
-
 -- The entry point that the record names is that of the pair.
 key_spot : (l : Link) (lib : List Parts) (m : ℕ) → Loaded l lib m → (name : List ℕ) (k : ℕ) (entry : EntryKey) (t : FixTarget) → position (λ n. bytes_eq name n) (modules_in (used_pairs l)) ≡ Some k → entry_target (used_pairs l) (k + 1) entry ≡ Some t
     → target_spot lib m (with_offset (procs_in (link_pairs l)) t) ≡ entry_in lib (library_named lib name) entry
 key_spot l lib m loaded name k (entry_keys.Ordinal n) t at e =
-    ap (λ (u : FixTarget). target_spot lib m (with_offset (procs_in (link_pairs l)) u)) (sym (target_is (leads.Ordinal (k + 1) n) t e))
+    ap (λ (u : FixTarget). target_spot lib m (with_offset (procs_in (link_pairs l)) u)) (sym (same_Some (leads.Ordinal (k + 1) n) t e))
     ∙ ap (λ (o : Option ℕ). entry_or_none lib (option_and_then (key_place lib m (keys.Ordinal n)) o)) (import-named l lib m loaded name k at)
     ∙ ordinal_spot lib m n (library_named lib name)
 key_spot l lib m loaded name k (entry_keys.Named proc) t at e =
@@ -63,7 +57,7 @@ key_spot l lib m loaded name k (entry_keys.Named proc) t at e =
     let place = name_offset (procs_in (link_pairs l)) r.item in
     ap (λ (u : FixTarget). target_spot lib m (with_offset (procs_in (link_pairs l)) u)) (sym r.gives)
     ∙ ap (λ (o : Option ℕ). entry_or_none lib (option_and_then (key_place lib m (keys.NameAt place)) o)) (import-named l lib m loaded name k at)
-    ∙ named_spot lib m place proc (library_named lib name) (proc-named l lib m loaded proc r.item r.is)
+    ∙ by_name lib m place proc (library_named lib name) (proc-named l lib m loaded proc r.item r.is)
 
 pair_spot : (l : Link) (lib : List Parts) (m : ℕ) → Loaded l lib m → (pair : Imp) (t : FixTarget) → import_target (used_pairs l) pair ≡ Some t → target_spot lib m (with_offset (procs_in (link_pairs l)) t) ≡ entry_in lib (library_named lib (uppercase pair.module)) pair.entry
 pair_spot l lib m loaded pair t e =
@@ -110,9 +104,6 @@ import_by l lib m loaded bases i k q slot pair t s same wide alone is at leads_t
       ends = λ self. self-ends lib m bases q i k same (wide self);
     } in
     ap (bytes_if lib m bases p f) spot ∙ field-means l w q (spot_flags lib s) u (end_address bases m p f) of
-
-some_target : (t u : FixTarget × ℕ) → Some t ≡ Some u → t ≡ u
-some_target t u e = ap (λ (o : Option (FixTarget × ℕ)). unwrap_or o t) e
 
 pub import-means : (l : Link) (lib : List Parts) (m : ℕ) → Loaded l lib m → (bases : Bases) (i k : ℕ) (q : Fixup) (slot : ℕ) (t : FixTarget × ℕ) (s : Spot) → q.object ≡ suc i → (q.fix.selfrel ≡ true → SelfWide q) → (q.fix.loc == 2 ≡ true → q.standing ≡ 0) → q.target ≡ Entry slot
     → target_and_additive l q q.target ≡ Some t → target_spot lib m (with_offset (procs_in (link_pairs l)) t.0) ≡ Ok s

@@ -1,13 +1,11 @@
 -- The import modules and procedure names of a link's records stand in the tables of its file.
-use Rattle.std.specs.Prelude.{◌≡◌, ℕ, zero, suc, ◌+◌, ◌-◌, Bool, not, List, [], ◌∷◌, ◌++◌, Some, map, filter, get_or, slice_get, bytes_eq, is_some, refl}
+use Rattle.std.specs.Prelude.{◌≡◌, ℕ, ◌+◌, ◌-◌, Bool, not, List, [], ◌∷◌, ◌++◌, Some, map, filter, slice_get, bytes_eq, refl}
 use Rattle.std.specs.List.{filter_map, position}
 use Rattle.std.specs.Option.{option_and_then}
-use Rattle.std.proofs.Common.{ap, sym, ◌∙◌, arith, true≢false}
+use Rattle.std.proofs.Common.{ap, ◌∙◌, arith}
 use Rattle.std.proofs.lemmas.List.{map-append}
 use Rattle.std.proofs.lemmas.List.Elements.{filter-append, filter_map-append}
-use Rattle.std.proofs.lemmas.List.Quantifiers.{position-Some}
-use Rattle.std.proofs.lemmas.Option.{slice_get-get_or}
-use Rattle.std.proofs.lemmas.Slice.Eq.{bytes_eq-Decides}
+use Rattle.seg_merge.proofs.Gets.{get-left}
 use Rattle.lx_types.specs.Names.{uppercase}
 use Rattle.lx_types.specs.declared.parts.Parts.{Parts}
 use Rattle.obj_types.specs.declared.symbol.Imp.{Imp}
@@ -20,7 +18,7 @@ use Rattle.lx_model.specs.Library.{module_of, library_named, import_of}
 use Rattle.image_model.specs.Linked.{image_of}
 use Rattle.image_model.specs.ReadBack.{parts_of_image}
 use Rattle.layer_laws.proofs.LoadedPages.{Loaded}
-use Rattle.layer_laws.proofs.Targets.{proc-stands}
+use Rattle.layer_laws.proofs.ForwardersNamed.{item_at_place, proc_in_parts}
 
 -- ---- a table by first appearance of more items begins with that of fewer
 
@@ -38,22 +36,11 @@ more_items {X} same (x ∷ xs) ys =
       is = ap (λ (zs : List X). x ∷ filter keep zs) r.is ∙ ap (λ (zs : List X). x ∷ zs) (filter-append keep (firsts same xs) r.others);
     }
 
-item_left : {X : Type 0} (xs ys : List X) (k : ℕ) (x : X) → slice_get xs k ≡ Some x → slice_get (xs ++ ys) k ≡ Some x
-item_left [] ys k x e = absurd (true≢false (sym (ap is_some e)))
-item_left (y ∷ xs) ys zero x e = e
-item_left (y ∷ xs) ys (suc k) x e = item_left xs ys k x e
-
 -- An item keeps its place.
 item_stays : (xs ys : List (List ℕ)) (k : ℕ) (x : List ℕ) → slice_get (firsts bytes_eq xs) k ≡ Some x → slice_get (firsts bytes_eq (xs ++ ys)) k ≡ Some x
 item_stays xs ys k x e =
     let r = more_items bytes_eq xs ys in
-    ap (λ (zs : List (List ℕ)). slice_get zs k) r.is ∙ item_left (firsts bytes_eq xs) r.others k x e
-
--- What is found at a place stands there.
-item_at_place : (names : List (List ℕ)) (name : List ℕ) (k : ℕ) → position (λ n. bytes_eq name n) names ≡ Some k → slice_get names k ≡ Some name
-item_at_place names name k e =
-    let r = position-Some (λ n. bytes_eq name n) names k name e in
-    slice_get-get_or names k name r.0 ∙ ap (λ (n : List ℕ). Some n) (sym ((bytes_eq-Decides name (get_or names k name)).0 r.1))
+    ap (λ (zs : List (List ℕ)). slice_get zs k) r.is ∙ get-left (firsts bytes_eq xs) r.others k x e
 
 -- ---- modules
 
@@ -83,10 +70,6 @@ import-named l lib m loaded name k e =
     ∙ ap (λ (n : ℕ). option_and_then (library_named lib) (slice_get (modules_in (link_pairs l)) n)) place ∙ ap (option_and_then (library_named lib)) at
 
 -- ---- procedure names
-
-proc_in_parts : (l : Link) (k : ℕ) (name : List ℕ) → slice_get (procs_in (link_pairs l)) k ≡ Some name → proc_name_of (parts_of_image (image_of l)) (name_offset (procs_in (link_pairs l)) k) ≡ Some name
-unfolding parts_of_image
-proc_in_parts l k name e = proc-stands l k name e
 
 -- At its offset in the file's table stands the name of a record.
 pub proc-named : (l : Link) (lib : List Parts) (m : ℕ) → Loaded l lib m → (name : List ℕ) (k : ℕ) → position (λ n. bytes_eq name n) (procs_in (used_pairs l)) ≡ Some k → proc_name_of (module_of lib m) (name_offset (procs_in (link_pairs l)) k) ≡ Some name

@@ -3,7 +3,7 @@ use Rattle.std.specs.Prelude.{◌≡◌, ℕ, ◌&&◌, Bool, true, false, not, 
 use Rattle.std.specs.List.{list_any, flat_map, enumerate_from, filter_map}
 use Rattle.std.specs.Option.{option_map, option_and_then, option_or}
 use Rattle.std.proofs.Common.{ap, sym, ◌∙◌, subst, true≢false}
-use Rattle.std.proofs.lemmas.Bool.{and_parts}
+use Rattle.std.proofs.lemmas.Bool.{and_parts, not_from_false}
 use Rattle.std.proofs.lemmas.Bool.{eqb-true}
 use Rattle.std.proofs.lemmas.List.Quantifiers.{position-Some}
 use Rattle.std.proofs.lemmas.Option.{slice_get-get_or}
@@ -41,9 +41,6 @@ use Rattle.layer_laws.proofs.NamesBound.{Definer, link_with, name-defined}
 
 -- ---- an external is wanted
 
-not_local : (b : Bool) → b ≡ false → not b ≡ true
-not_local b e = ap not e
-
 external_wanted : (input : LinkInput) (picks : List Pick) (clash : Option ComdatRefusal) (n : ℕ) (e : Ext) → In (n, e) (externals (link_with input picks clash)) → e.local ≡ false → In e.name (flat_map wanted (modules_of input picks))
 external_wanted input picks clash n e i shared =
     let modules = modules_of input picks in
@@ -52,7 +49,7 @@ external_wanted input picks clash n e i shared =
     let same : own.item ≡ e = ap (λ (q : ℕ × Ext). q.1) own.is in
     let place = from_numbered 1 modules r.inside in
     let inside = in_at modules place.place r.item.1 place.is in
-    let kept : In own.item (filter (λ (e : Ext). not e.local) r.item.1.exts) = in_filter (λ (e : Ext). not e.local) own.inside (ap (λ (e : Ext). not e.local) same ∙ not_local e.local shared) in
+    let kept : In own.item (filter (λ (e : Ext). not e.local) r.item.1.exts) = in_filter (λ (e : Ext). not e.local) own.inside (ap (λ (e : Ext). not e.local) same ∙ not_from_false e.local shared) in
     subst (λ (x : Ext). In x.name (flat_map wanted modules)) same (in_flat_map wanted inside (in_map (λ (e : Ext). e.name) kept))
 
 -- ---- the slot of the pair

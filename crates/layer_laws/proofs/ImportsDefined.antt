@@ -3,7 +3,7 @@ use Rattle.std.specs.Prelude.{◌≡◌, ℕ, suc, ◌+◌, ◌==◌, ◌&&◌, 
 use Rattle.std.specs.List.{list_any, flat_map, enumerate_from}
 use Rattle.std.proofs.Common.{ap, sym, ◌∙◌, arith, true≢false}
 use Rattle.std.proofs.Math.Nat.{add-zero}
-use Rattle.std.proofs.lemmas.Bool.{eqb-true, and_parts}
+use Rattle.std.proofs.lemmas.Bool.{eqb-true, and_parts, or_left}
 use Rattle.std.proofs.lemmas.Slice.Eq.{bytes_eq-Decides}
 use Rattle.obj_types.specs.declared.definition.DefFile.{DefFile}
 use Rattle.obj_types.specs.declared.input.LinkInput.{LinkInput}
@@ -62,10 +62,6 @@ drawn_is_chosen input picks ends m i drawn =
     let index : f.item.index ≡ p.place = eqb-true f.item.index p.number parts.1 ∙ omega (arith, number) in
     in-filter_map (module_of input) f.inside (module_by input f.item p.place m f.item.lib parts.0 index p.is)
 
-either_true : (a b : Bool) → a ≡ true → (a || b) ≡ true
-either_true true b e = refl
-either_true false b e = absurd (true≢false (sym e))
-
 pub wanted-is-defined : (input : LinkInput) (picks : List Pick) → next_pick input picks ≡ None → (m : ObjModule) (name : List ℕ) → In m input.libs → defines m name ≡ true → In name (flat_map wanted (modules_of input picks)) → is_defined (modules_of input picks) input.def name ≡ true
 wanted-is-defined input picks ends m name i defined asked = by (is_defined (modules_of input picks) input.def name) refl
   where
@@ -74,7 +70,7 @@ wanted-is-defined input picks ends m name i defined asked = by (is_defined (modu
     by false is =
         let missing : In name (undefined (modules_of input picks) input.def) = in_filter (λ n. not (is_defined (modules_of input picks) input.def n)) asked (ap not is) in
         let chosen = drawn_is_chosen input picks ends m i (any_in (defines m) missing defined) in
-        either_true (list_any (λ m. defines m name) (modules_of input picks)) (list_any (λ i. bytes_eq i.name name) input.def.imports) (any_in (λ (m : ObjModule). defines m name) chosen defined)
+        or_left (list_any (λ m. defines m name) (modules_of input picks)) (list_any (λ i. bytes_eq i.name name) input.def.imports) (any_in (λ (m : ObjModule). defines m name) chosen defined)
 
 -- ---- only the import library defines the name
 

@@ -1,6 +1,7 @@
 -- A fixup record that leads to a place in the link puts there what the fixup means.
-use Rattle.std.specs.Prelude.{◌≡◌, ℕ, pos, zero, suc, ◌+◌, ◌*◌, ◌%◌, ◌-ℤ◌, ◌≤◌, ◌^◌, ◌==◌, nat_le, Bool, true, false, cond, List, Option, Some, length, unwrap_or, refl}
+use Rattle.std.specs.Prelude.{◌≡◌, ℕ, pos, zero, suc, ◌+◌, ◌*◌, ◌%◌, ◌-ℤ◌, ◌≤◌, ◌^◌, ◌==◌, nat_le, Bool, true, false, cond, List, Some, length, refl}
 use Rattle.std.proofs.Common.{ap, sym, ◌∙◌, arith, true≢false}
+use Rattle.std.proofs.lemmas.Option.{same_Some}
 use Rattle.lx_types.specs.Addresses.{address, UNIT, SHARED_END, tiled_selector}
 use Rattle.lx_types.specs.Parts.{object_of}
 use Rattle.lx_types.specs.declared.bases.Bases.{Bases}
@@ -36,12 +37,9 @@ led_to q o offset b =
     let at = wrapped (offset + q.fix.disp) in
     cond {A = FixTarget × ℕ} b (leads.Internal o 0, cond (nat_le UNIT at) at 0) (leads.Internal o (wrapped (at + q.standing)), 0)
 
-some_target : (t u : FixTarget × ℕ) → Some t ≡ Some u → t ≡ u
-some_target t u e = ap (λ (o : Option (FixTarget × ℕ)). unwrap_or o t) e
-
 target_is : (l : Link) (q : Fixup) (o offset : ℕ) (t : FixTarget × ℕ) → q.target ≡ Internal o offset → target_and_additive l q q.target ≡ Some t → led_to q o offset (q.fix.loc == 2) ≡ t
 target_is l q o offset t is led =
-    some_target (led_to q o offset (q.fix.loc == 2)) t (sym (ap (target_and_additive l q) is) ∙ led)
+    same_Some (led_to q o offset (q.fix.loc == 2)) t (sym (ap (target_and_additive l q) is) ∙ led)
 
 -- The address that it has, where the object stands at a base.
 abbrev address_by : Fixup → ℕ → ℕ → Bool → ℕ

@@ -1,19 +1,19 @@
 -- What is kept of an input has the numbers that it has, and the import library of a definition file is kept whole.
 use Rattle.std.specs.Prelude.{◌≡◌, ℕ, ◌&&◌, ◌||◌, None, Bool, true, false, not, List, [], ◌∷◌, ◌++◌, bytes_eq, filter, Contains, refl}
-use Rattle.std.specs.List.{AllByRecursion, flat_map, list_any}
+use Rattle.std.specs.List.{AllByRecursion, list_any}
 use Rattle.std.proofs.Common.{ap, sym, ◌∙◌, subst, true≢false}
 use Rattle.std.proofs.lemmas.List.Elements.{All-from_recursion, recursion_from_All}
+use Rattle.std.proofs.lemmas.Bool.{false_from_ne_true}
 use Rattle.obj_types.specs.Defaults.{default_def}
 use Rattle.obj_types.specs.declared.definition.DefFile.{DefFile}
 use Rattle.obj_types.specs.declared.definition.ModKind.TheVariants.{Library}
 use Rattle.obj_types.specs.declared.input.LinkInput.{LinkInput}
-use Rattle.obj_types.specs.declared.object.Comdat.{Comdat}
 use Rattle.obj_types.specs.declared.object.ObjModule.{ObjModule}
 use Rattle.obj_types.specs.declared.symbol.Imp.{Imp}
 use Rattle.obj_types.specs.declared.symbol.Pub.{Pub}
 use Rattle.link_model.specs.Choosing.{defines}
-use Rattle.link_model.specs.Kept.{Kept, is_local, is_place_in, is_seg_of, kept_behind, kept_module, repeated, shared, taken, without}
-use Rattle.link_model.proofs.AllKept.{all_is_kept}
+use Rattle.link_model.specs.Kept.{Kept, is_place_in, is_seg_of, kept_behind, kept_module, taken, without}
+use Rattle.link_model.proofs.AllKept.{module_kept}
 use Rattle.link_model.proofs.Members.{In, here, there, all_in, any_in, found, from_filter, from_map, in_contained}
 use Rattle.implib_model.specs.ImportModule.{import_object}
 use Rattle.implib_model.specs.Imports.{imports_in, objects_of}
@@ -40,9 +40,6 @@ kept_in_range input range = record {
 
 -- ---- modules without COMDATs
 
-none_taken : (before : List ObjModule) (m : ObjModule) → m.comdats ≡ [] → taken before m ≡ []
-none_taken before m none = ap (λ (cs : List Comdat). repeated (flat_map shared before) (filter (λ c. not (is_local m c)) cs)) none
-
 abbrev alone_with : ObjModule → LinkInput
 alone_with m = record { objects = m ∷ []; libs = []; def = default_def Library None; stem = [] }
 
@@ -50,22 +47,9 @@ abbrev first_or : ObjModule → List ObjModule → ObjModule
 first_or d [] = d
 first_or d (m ∷ ms) = m
 
-kept_alone : (m : ObjModule) → m.comdats ≡ [] → kept_module [] m ≡ m
-unfolding Kept
-kept_alone m none =
-    ap (λ (input : LinkInput). first_or m input.objects)
-    (all_is_kept (alone_with m) (record {
-      objects = All-from_recursion (λ (m : ObjModule). m.comdats ≡ []) (m ∷ []) (none, tt);
-      libs = All-from_recursion (λ (m : ObjModule). m.comdats ≡ []) [] tt;
-    }))
-
-stays_as_it_is : (before : List ObjModule) (m : ObjModule) → m.comdats ≡ [] → kept_module before m ≡ m
-stays_as_it_is before m none =
-    ap (λ (cs : List Comdat). without (is_seg_of cs) m) (none_taken before m none ∙ sym (none_taken [] m none)) ∙ kept_alone m none
-
 inside_kept : (before ms : List ObjModule) {m : ObjModule} → m.comdats ≡ [] → In m ms → In m (kept_behind before ms)
 inside_kept before [] none i = elim i [ ]
-inside_kept before (m ∷ ms) none here = subst (λ (k : ObjModule). In k (kept_behind before (m ∷ ms))) (stays_as_it_is before m none) here
+inside_kept before (m ∷ ms) none here = subst (λ (k : ObjModule). In k (kept_behind before (m ∷ ms))) (module_kept before m none) here
 inside_kept before (n ∷ ms) none (there i) = there (inside_kept (before ++ n ∷ []) ms none i)
 
 -- ---- what a module was kept of
@@ -107,10 +91,6 @@ import_has_none : (imports : List Imp) {m : ObjModule} → In m (objects_of impo
 import_has_none imports i =
     let r = from_map import_object imports i in ap (λ (m : ObjModule). m.comdats) (sym r.is)
 
-false_where : (b : Bool) → (b ≡ true → ⊥) → b ≡ false
-false_where true none = absurd (none refl)
-false_where false none = refl
-
 -- Where only an import library defines a name, it does so in what is kept.
 pub only-kept : (input : LinkInput) (d : DefFile) (stem name : List ℕ) → OnlyImported input d stem name → OnlyImported (Kept input) d stem name
 unfolding Kept
@@ -122,13 +102,13 @@ only-kept input d stem name only =
       there = All-from_recursion (Contains libs) objects
           (each-of (Contains libs) objects (λ m i. contained libs (inside_kept input.objects input.libs (import_has_none imports i) (in_contained input.libs m (all_in (Contains input.libs) objects only.there i)))));
       objects = All-from_recursion (λ m. defines m name ≡ false) (kept_behind [] input.objects)
-          (each-of (λ m. defines m name ≡ false) (kept_behind [] input.objects) (λ m i. false_where (defines m name) (λ e.
+          (each-of (λ m. defines m name ≡ false) (kept_behind [] input.objects) (λ m i. false_from_ne_true (defines m name) (λ e.
           let r = kept_of [] input.objects i in
           true≢false (sym (kept_defines input.objects m name r e) ∙ all_in (λ (n : ObjModule). defines n name ≡ false) input.objects only.objects r.inside))));
       libs = λ m held e.
           let r = kept_of input.objects input.libs (in_contained libs m held) in
           let listed = only.libs r.origin (contained input.libs r.inside) (kept_defines input.libs m name r e) in
           let none = import_has_none imports (in_contained objects r.origin listed) in
-          subst (Contains objects) (sym (r.is ∙ stays_as_it_is r.before r.origin none)) listed;
+          subst (Contains objects) (sym (r.is ∙ module_kept r.before r.origin none)) listed;
       items = only.items;
     }

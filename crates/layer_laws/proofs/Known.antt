@@ -1,11 +1,12 @@
 -- What the imports, the exports and the places of a link have.
-use Rattle.std.specs.Prelude.{◌≡◌, ◌≢◌, ℕ, zero, suc, ◌+◌, ◌<◌, ◌≤◌, ◌^◌, Bool, true, false, cond, ◌||◌, not, nat_lt, List, [], ◌∷◌, Option, Some, None, map, filter, is_some, unwrap_or, sum_by, refl}
+use Rattle.std.specs.Prelude.{◌≡◌, ◌≢◌, ℕ, ◌+◌, ◌<◌, ◌≤◌, ◌^◌, Bool, true, false, cond, ◌||◌, not, nat_lt, List, [], ◌∷◌, Option, Some, None, map, filter, is_some, unwrap_or, sum_by, refl}
 use Rattle.std.specs.List.{All, AllByRecursion, flat_map, filter_map, enumerate_from, list_any}
 use Rattle.std.specs.Option.{option_map}
 use Rattle.std.proofs.Common.{ap, sym, ◌∙◌, arith, subst, true≢false, inl, inr}
 use Rattle.std.proofs.Math.Nat.{mod-lt}
 use Rattle.std.proofs.lemmas.Bool.{ltb-false}
 use Rattle.std.proofs.lemmas.List.Sums.{sum_by-cons}
+use Rattle.std.proofs.lemmas.Option.{same_Some}
 use Rattle.obj_types.specs.Items.{item}
 use Rattle.obj_types.specs.Whole.{WholeModule, WholeExp}
 use Rattle.obj_types.specs.Definition.{WholeExport, WholeImport}
@@ -32,6 +33,7 @@ use Rattle.link_model.proofs.ExternalsMean.{neither}
 use Rattle.link_model.proofs.FixupsStay.{module_whole, numbered_module, IsThere}
 use Rattle.link_model.proofs.SegmentsStand.{communals_stand}
 use Rattle.link_core.proofs.TargetsThere.{mapped, from_filter_map}
+use Rattle.seg_merge.proofs.PlacedGroups.{in_item}
 use Rattle.layer_laws.specs.Ranges.{ImportInRange, ExportInRange, ModuleInRange}
 use Rattle.layer_laws.proofs.Lists.{from-firsts}
 use Rattle.layer_laws.proofs.Given.{Given}
@@ -140,14 +142,10 @@ size-small (p ∷ os) o here = let all = sum_by-cons (λ (x : LaidObject). x.siz
 size-small (p ∷ os) o (there i) =
     let all = sum_by-cons (λ (x : LaidObject). x.size) p os in let rest = size-small os o i in omega (arith, all, rest)
 
-item_in : {X : Type 0} (xs : List X) (n : ℕ) (x : X) → item xs n ≡ Some x → In x xs
-item_in xs zero x e = absurd (true≢false (sym (ap is_some e)))
-item_in xs (suc n) x e = in_at xs n x e
-
 lies_small : (l : Link) (len : ℕ) (q : ℕ × ℕ) → lay_refusal l ≡ None → LiesInObject l len q → q.1 < 2 ^ 32
 lies_small l len q none lies =
     let o = value_of (item (objects l) q.0) (λ o. q.1 + len ≤ o.size) lies in
-    let size = size-small (objects l) o.item (item_in (objects l) q.0 o.item o.is) in
+    let size = size-small (objects l) o.item (in_item (objects l) q.0 o.item o.is) in
     let most = sizes-within l none in
     let inside = o.holds in
     omega (arith, size, most, inside)
@@ -158,9 +156,6 @@ OffsetSmall (Internal o offset) = offset < 2 ^ 32
 OffsetSmall (Constant value) = Unit {0}
 OffsetSmall (Entry slot) = Unit {0}
 
-some_is : {X : Type 0} (x y : X) → Some x ≡ Some y → x ≡ y
-some_is {X} x y e = ap (λ (o : Option X). unwrap_or o x) e
-
 pub wrapped-small : (n : ℕ) → wrapped n < 2 ^ 32
 wrapped-small n = mod-lt n (omega arith)
 
@@ -169,11 +164,11 @@ symbol-offset l (means.In n seg offset) t none is e =
     let q = mapped (λ (q : ℕ × ℕ). Internal q.0 q.1) (option_map (shifted offset) (spot l n seg)) t e in
     let p = mapped (shifted offset) (spot l n seg) q.item q.is in
     subst OffsetSmall q.gives (subst (λ (r : ℕ × ℕ). r.1 < 2 ^ 32) p.gives (wrapped-small (p.item.1 + offset)))
-symbol-offset l (means.Const value) t none is e = subst OffsetSmall (some_is (Constant value) t e) tt
+symbol-offset l (means.Const value) t none is e = subst OffsetSmall (same_Some (Constant value) t e) tt
 symbol-offset l (means.Common slot) t none is e =
     let q = mapped (λ (q : ℕ × ℕ). Internal q.0 q.1) (common_spot l slot) t e in
     let c = item_at (commons l) slot is in
     let stands = value_of (common_spot l slot) (LiesInObject l c.item.1.len) (communals_stand l slot c.item c.is) in
-    let same : stands.item ≡ q.item = some_is stands.item q.item (sym stands.is ∙ q.is) in
+    let same : stands.item ≡ q.item = same_Some stands.item q.item (sym stands.is ∙ q.is) in
     subst OffsetSmall q.gives (lies_small l c.item.1.len q.item none (subst (LiesInObject l c.item.1.len) same stands.holds))
-symbol-offset l (means.Import slot) t none is e = subst OffsetSmall (some_is (Entry slot) t e) tt
+symbol-offset l (means.Import slot) t none is e = subst OffsetSmall (same_Some (Entry slot) t e) tt

@@ -1,8 +1,6 @@
 -- Lists and tests that the other pages use.
-use Rattle.std.specs.Prelude.{◌≡◌, ℕ, ◌<◌, ◌≤◌, nat_lt, nat_le, Bool, true, not, List, [], ◌∷◌}
+use Rattle.std.specs.Prelude.{Bool, not, List, [], ◌∷◌}
 use Rattle.std.specs.List.{AllByRecursion}
-use Rattle.std.proofs.Common.{arith}
-use Rattle.std.proofs.lemmas.Bool.Decides.{nat_tests}
 use Rattle.link_model.specs.Appearance.{firsts}
 use Rattle.link_model.proofs.Members.{In, here, there, from_filter}
 
@@ -16,9 +14,3 @@ pub from-firsts : {X : Type 0} (same : X → X → Bool) (xs : List X) {x : X} �
 from-firsts same [] i = i
 from-firsts same (y ∷ xs) here = here
 from-firsts same (y ∷ xs) (there i) = there (from-firsts same xs (from_filter (λ z. not (same y z)) (firsts same xs) i))
-
-pub le-true : (a b : ℕ) → a ≤ b → nat_le a b ≡ true
-le-true a b h = grind (arith, nat_tests)
-
-pub lt-true : (a b : ℕ) → a < b → nat_lt a b ≡ true
-lt-true a b h = grind (arith, nat_tests)

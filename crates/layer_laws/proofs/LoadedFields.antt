@@ -1,9 +1,10 @@
 -- Where a fixup record covers a place, and puts there what the fixup means, the loaded byte is the one that the link means.
-use Rattle.std.specs.Prelude.{◌≡◌, ℕ, suc, ◌+◌, ◌-◌, ◌*◌, ◌/◌, ◌%◌, ◌<◌, ◌==◌, ◌&&◌, nat_lt, nat_le, not, Bool, true, false, List, Option, Some, length, slice_get, slice_index, unwrap_or, refl}
+use Rattle.std.specs.Prelude.{◌≡◌, ℕ, suc, ◌+◌, ◌-◌, ◌*◌, ◌/◌, ◌%◌, ◌<◌, ◌==◌, ◌&&◌, nat_lt, nat_le, not, Bool, true, false, List, Some, length, slice_get, slice_index, refl}
 use Rattle.std.specs.Option.{option_map}
 use Rattle.std.proofs.Common.{ap, sym, ◌∙◌, arith, subst, inl, inr}
 use Rattle.std.proofs.Math.Nat.{mod-lt}
 use Rattle.std.proofs.lemmas.Bool.{leb-true, ltb-true, lt-ltb, and_parts, and_from}
+use Rattle.std.proofs.lemmas.Option.{same_Some}
 use Rattle.lx_types.specs.declared.bases.Bases.{Bases}
 use Rattle.lx_types.specs.declared.fix.Fix.{Fix}
 use Rattle.lx_types.specs.declared.fix.FixTarget.{FixTarget}
@@ -34,12 +35,6 @@ use Rattle.layer_laws.proofs.LoadedPages.{Loaded, page-fixes, sources-moved, in-
 pub recorded-live : (l : Link) (q : Fixup) → In q (recorded l) → In q (live_fixups l)
 unfolding recorded
 recorded-live l q i = from_filter (λ (t : Fixup). not (is_patched t)) (live_fixups l) i
-
-some_fixup : (p q : Fixup) → Some p ≡ Some q → p ≡ q
-some_fixup p q e = ap (λ (o : Option Fixup). unwrap_or o p) e
-
-some_target : (t u : FixTarget × ℕ) → Some t ≡ Some u → t ≡ u
-some_target t u e = ap (λ (o : Option (FixTarget × ℕ)). unwrap_or o t) e
 
 -- What covers a place stands on its page.
 pub stands-here : (n x : ℕ) (q : Fixup) → fixup_covers n x q ≡ true → stands_on n (x / PAGE_SIZE) q ≡ true
@@ -99,9 +94,9 @@ other_put l lib m loaded bases w n x q t i covers led same f inside =
     by p u j stands to false is =
         inl (put-outside lib m bases (page_with n x) n x (x / PAGE_SIZE) (x % PAGE_SIZE) l p u (location-some l p loaded.known j) (in-page x) (stands-there n (x / PAGE_SIZE) p stands) is)
     by p u j stands to true is =
-        let one : q ≡ p = some_fixup q p (sym (found-there l n x q (recorded-live l q i) covers) ∙ found-there l n x p (recorded-live l p j) is) in
+        let one : q ≡ p = same_Some q p (sym (found-there l n x q (recorded-live l q i) covers) ∙ found-there l n x p (recorded-live l p j) is) in
         let led_there : target_and_additive l q q.target ≡ Some u = subst (λ (a : Fixup). target_and_additive l a a.target ≡ Some u) (sym one) to in
-        let target : t ≡ u = some_target t u (sym led ∙ led_there) in
+        let target : t ≡ u = same_Some t u (sym led ∙ led_there) in
         let mine = put_here l lib m loaded bases w n x q t i covers same in
         inr (subst (λ (a : Fixup). put lib m bases (page_with n x) (x % PAGE_SIZE) (fix_in_file l (record-with (x / PAGE_SIZE) a u)) ≡ Some (byte_of l w x q)) one
         (subst (λ (v : FixTarget × ℕ). put lib m bases (page_with n x) (x % PAGE_SIZE) (fix_in_file l (record-with (x / PAGE_SIZE) q v)) ≡ Some (byte_of l w x q)) target mine))

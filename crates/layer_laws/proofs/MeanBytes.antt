@@ -5,6 +5,7 @@ use Rattle.std.specs.Option.{option_map, option_map_or, option_and_then}
 use Rattle.std.proofs.Common.{ap, sym, ◌∙◌, arith, true≢false}
 use Rattle.std.proofs.lemmas.Bool.{eqb-true, eq-eqb, ltb-true, lt-ltb, leb-true, and_parts, and_from}
 use Rattle.std.proofs.lemmas.List.Elements.{recursion_from_All}
+use Rattle.std.proofs.lemmas.Option.{same_Some}
 use Rattle.link_model.specs.Words.{first_of}
 use Rattle.link_model.specs.Link.{Link}
 use Rattle.link_model.specs.Fixups.{Fixup, fixups, fix_refusal}
@@ -37,13 +38,10 @@ pub value-is : (l : Link) (w : World) (q : Fixup) → place_refusal l ≡ None �
 unfolding Value
 value-is l w q none i = ap (λ o. cond (is_some o) None (Some (value_bytes l w q))) (accepted l q none i)
 
-some_bytes : (xs ys : List ℕ) → Some xs ≡ Some ys → xs ≡ ys
-some_bytes xs ys e = ap (λ (o : Option (List ℕ)). unwrap_or o xs) e
-
 -- A patch has the same bytes at all bases.
 patch_same : (l : Link) (w : World) (q : Fixup) → place_refusal l ≡ None → In q (live_fixups l) → is_patched q ≡ true → value_bytes l (linked_world l) q ≡ value_bytes l w q
 patch_same l w q none i patched =
-    some_bytes (value_bytes l (linked_world l) q) (value_bytes l w q) (sym (value-is l (linked_world l) q none i) ∙ patches_stand l (linked_world l) w q patched ∙ value-is l w q none i)
+    same_Some (value_bytes l (linked_world l) q) (value_bytes l w q) (sym (value-is l (linked_world l) q none i) ∙ patches_stand l (linked_world l) w q patched ∙ value-is l w q none i)
 
 -- ---- bytes
 

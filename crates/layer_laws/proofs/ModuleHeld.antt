@@ -1,9 +1,9 @@
 -- A library holds the module of a link of kind LIBRARY under the link's name.
-use Rattle.std.specs.Prelude.{◌≡◌, ℕ, ◌+◌, ◌<◌, ◌≤◌, ◌==◌, ◌&&◌, nat_lt, not, Bool, true, false, cond, List, Option, Some, None, length, map, position, bytes_eq, bit_and, get_or, is_some, if◌then◌else◌, unwrap_or, refl}
+use Rattle.std.specs.Prelude.{◌≡◌, ℕ, ◌+◌, ◌<◌, ◌≤◌, ◌==◌, ◌&&◌, nat_lt, not, Bool, true, false, cond, List, Option, Some, None, length, map, position, bit_and, get_or, is_some, if◌then◌else◌, unwrap_or, refl}
 use Rattle.std.specs.List.{position_or_len, range_with_len}
 use Rattle.std.specs.Option.{option_and_then}
 use Rattle.std.proofs.Common.{ap, sym, ◌∙◌, arith, true≢false}
-use Rattle.std.proofs.lemmas.Bool.{lt-ltb, and_from}
+use Rattle.std.proofs.lemmas.Bool.{lt-ltb, and_from, and_right}
 use Rattle.std.proofs.lemmas.Bool.Decides.{nat_tests}
 use Rattle.std.proofs.lemmas.List.Sums.{position_or_len_is, fails_before_first}
 use Rattle.std.proofs.lemmas.Slice.Eq.{bytes_eq-Decides}
@@ -17,6 +17,7 @@ use Rattle.link_model.specs.Flags.{flag}
 use Rattle.link_model.specs.Header.{module_name}
 use Rattle.link_model.specs.Link.{Link}
 use Rattle.link_model.specs.Order.{is_program}
+use Rattle.link_model.proofs.KeyTests.{name_equal}
 use Rattle.lx_model.specs.Gathering.{LibraryFault, IsLibrary, MOST_MODULES, twice_at}
 use Rattle.lx_model.specs.Library.{no_module, module_of, has_name, module_named, library_named}
 use Rattle.lx_model.specs.Reading.{first}
@@ -52,13 +53,10 @@ none_twice lib m is lt =
     let rest = past_none (nat_lt MOST_MODULES (length lib)) (TooManyModules (length lib)) (first (map (twice_at lib) (range_with_len 0 (length lib)))) is.faultless in
     first_none (twice_at lib) 0 (length lib) m rest (omega arith) (omega (arith, lt))
 
-less : (a b : ℕ) → a < b → nat_lt a b ≡ true
-less a b h = grind (arith, nat_tests)
-
 named_twice : (lib : List Parts) (m j : ℕ) → module_named lib (module_of lib m).name ≡ Some j → j < m → twice_at lib m ≡ Some (NameTwice j m)
 named_twice lib m j e lt =
     ap (option_and_then (λ first. if nat_lt first m then Some (NameTwice first m) else None)) e
-    ∙ ap (λ (b : Bool). cond b (Some (NameTwice j m)) None) (less j m lt)
+    ∙ ap (λ (b : Bool). cond b (Some (NameTwice j m)) None) (lt-ltb j m lt)
 
 -- The first place that passes, at one that passes or before it.
 record Earlier {X : Type 0} (test : X → Bool) (xs : List X) (k : ℕ) : Type 0 where
@@ -85,30 +83,23 @@ earlier test xs k d lt here = by (nat_lt k (position_or_len test xs)) refl
           most = most;
         }
 
-same_bytes : (a b : List ℕ) → bytes_eq a b ≡ true → a ≡ b
-same_bytes a b e = (bytes_eq-Decides a b).0 e
-
 -- A module before one of this name has another.
 another_before : (lib : List Parts) (m : ℕ) (name : List ℕ) → IsLibrary lib → m < length lib → has_name name (module_of lib m) ≡ true → (k : ℕ) → k < m → has_name name (module_of lib k) ≡ false
 another_before lib m name is lt own k before = by (has_name name (module_of lib k)) refl
   where
     by : (b : Bool) → has_name name (module_of lib k) ≡ b → has_name name (module_of lib k) ≡ false
     by true e =
-        let same : uppercase (module_of lib k).name ≡ uppercase (module_of lib m).name = same_bytes (uppercase (module_of lib k).name) (uppercase name) e ∙ sym (same_bytes (uppercase (module_of lib m).name) (uppercase name) own) in
+        let same : uppercase (module_of lib k).name ≡ uppercase (module_of lib m).name = name_equal (uppercase (module_of lib k).name) (uppercase name) e ∙ sym (name_equal (uppercase (module_of lib m).name) (uppercase name) own) in
         let named : has_name (module_of lib m).name (module_of lib k) ≡ true = (bytes_eq-Decides (uppercase (module_of lib k).name) (uppercase (module_of lib m).name)).1 same in
         let r = earlier (has_name (module_of lib m).name) lib k no_module (omega (arith, lt, before)) named in
         let most = r.most in
         absurd (true≢false (sym (ap is_some (named_twice lib m r.place r.is (omega (arith, most, before)))) ∙ ap is_some (none_twice lib m is lt)))
     by false e = e
 
-not_both : (a b : Bool) → b ≡ false → (a && b) ≡ false
-not_both true b e = e
-not_both false b e = refl
-
 held : (lib : List Parts) (m : ℕ) (name : List ℕ) → IsLibrary lib → m < length lib → is_library_of (module_of lib m) ≡ true → has_name name (module_of lib m) ≡ true → library_named lib name ≡ Some m
 held lib m name is lt library own =
     first_place (λ p. is_library_of p && has_name name p) lib m no_module lt
-    (λ k before. not_both (is_library_of (module_of lib k)) (has_name name (module_of lib k)) (another_before lib m name is lt own k before))
+    (λ k before. and_right (is_library_of (module_of lib k)) (has_name name (module_of lib k)) (another_before lib m name is lt own k before))
     (and_from (is_library_of (module_of lib m)) (has_name name (module_of lib m)) library own)
 
 -- ---- the module of a link

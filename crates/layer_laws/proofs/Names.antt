@@ -1,9 +1,10 @@
 -- The names of a link fit the name tables: the module's, the description, those of exports and of import modules.
-use Rattle.std.specs.Prelude.{◌≡◌, ◌≢◌, ℕ, ◌<◌, Bool, true, false, cond, not, List, [], ◌∷◌, Option, Some, None, IfSome, map, filter, length, bytes_eq, unwrap_or, refl}
+use Rattle.std.specs.Prelude.{◌≡◌, ◌≢◌, ℕ, Bool, true, false, cond, not, List, [], ◌∷◌, Option, Some, None, IfSome, map, filter, length, bytes_eq, unwrap_or}
 use Rattle.std.specs.List.{AllByRecursion}
 use Rattle.std.proofs.Common.{arith, subst}
 use Rattle.std.proofs.lemmas.List.{length-map}
 use Rattle.std.specs.Char.{to_ascii_uppercase}
+use Rattle.link_core.proofs.ExportsAre.{not_empty}
 use Rattle.lx_types.specs.Names.{IsName, uppercase}
 use Rattle.obj_types.specs.declared.symbol.Imp.{Imp}
 use Rattle.link_model.specs.Link.{Link}
@@ -18,17 +19,13 @@ use Rattle.layer_laws.proofs.Given.{Given}
 use Rattle.layer_laws.proofs.Known.{known-import}
 use Rattle.layer_laws.proofs.Exports.{ExportFits}
 
-some_length : (xs : List ℕ) → xs ≢ [] → 0 < length xs
-some_length [] h = absurd (h refl)
-some_length (x ∷ xs) h = omega arith
-
 upper_long : (name : List ℕ) → length (uppercase name) ≡ length name
 upper_long name = length-map name to_ascii_uppercase
 
 upper_fits : (name : List ℕ) → name ≢ [] → IsName name → NameFits (uppercase name, 0)
 upper_fits name some short =
     let long = upper_long name in
-    let more = some_length name some in
+    let more = not_empty name some in
     record { some = omega (arith, long, more); short = omega (arith, long, short); ordinal = omega arith }
 
 -- ---- the module's name and its description
@@ -53,7 +50,7 @@ described_fits name (b ∷ bs) fits short = record { some = omega arith; short =
 
 export_fits : (l : Link) (x : Exported) → ExportFits l x → NameFits (named x)
 export_fits l x fits =
-    let some = some_length x.name fits.named in
+    let some = not_empty x.name fits.named in
     let short = fits.short in
     let ordinal = fits.ordinal in
     record { some = some; short = omega (arith, short); ordinal = omega (arith, ordinal) }
@@ -81,7 +78,7 @@ module_fits l g name i =
     let pair = from_map (λ (pair : Imp). uppercase pair.module) (link_pairs l) (from-firsts bytes_eq (map (λ (pair : Imp). uppercase pair.module) (link_pairs l)) i) in
     let known = known-import l g pair.item (link-pairs-known l pair.item pair.inside) in
     let long = upper_long pair.item.module in
-    let some = some_length pair.item.module known.named in
+    let some = not_empty pair.item.module known.named in
     let short = known.range.module in
     subst ImportFits pair.is (record { some = omega (arith, long, some); short = omega (arith, long, short) })
 

@@ -3,6 +3,8 @@ use Rattle.std.specs.Prelude.{◌≡◌, ◌≢◌, ℕ, ◌&&◌, ◌||◌, Boo
 use Rattle.std.specs.List.{list_any, flat_map, enumerate_from}
 use Rattle.std.proofs.Common.{ap, sym, ◌∙◌, subst, true≢false, inl, inr}
 use Rattle.std.proofs.lemmas.Slice.Eq.{bytes_eq-Decides}
+use Rattle.std.proofs.lemmas.Bool.{or_right, or_left}
+use Rattle.link_core.proofs.RecordsFit.{passing}
 use Rattle.obj_types.specs.declared.definition.DefFile.{DefFile}
 use Rattle.obj_types.specs.declared.input.LinkInput.{LinkInput}
 use Rattle.obj_types.specs.declared.object.ObjModule.{ObjModule}
@@ -18,7 +20,6 @@ use Rattle.link_model.proofs.Members.{In, here, there, in_left, in_map, in_flat_
 use Rattle.implib_model.specs.ImportModule.{import_meant, import_object}
 use Rattle.implib_model.specs.Imports.{name_or, import_for, imports_in, objects_of}
 use Rattle.layer_laws.specs.ImportLaws.{OnlyImported}
-use Rattle.layer_laws.proofs.Apart.{each-kept}
 use Rattle.layer_laws.proofs.ImportsDefined.{Gives, wanted-is-defined, chosen-gives, placed}
 
 -- The link of these modules, whatever clashes.
@@ -26,14 +27,6 @@ abbrev pub link_with : LinkInput → List Pick → Option ComdatRefusal → Link
 link_with input picks clash = record (link_of input picks) { clash = clash }
 
 -- ---- the definition of the name
-
-either_left : (a b : Bool) → a ≡ true → (a || b) ≡ true
-either_left true b e = refl
-either_left false b e = absurd (true≢false (sym e))
-
-either_right : (a b : Bool) → b ≡ true → (a || b) ≡ true
-either_right true b e = refl
-either_right false b e = e
 
 same_name : (a b : List ℕ) → a ≡ b → bytes_eq a b ≡ true
 same_name a b e = (bytes_eq-Decides a b).1 e
@@ -44,12 +37,12 @@ shows n m d i = elim (in_either (map (of_public n) (filter (λ p. not p.local) m
   | inl j ↦
       let r = from_map (of_public n) (filter (λ p. not p.local) m.pubs) j in
       let named : r.item.name ≡ d.name = ap (λ (x : Definition). x.name) r.is in
-      either_left (list_any (λ p. not p.local && bytes_eq p.name d.name) m.pubs) (list_any (λ i. bytes_eq i.name d.name) m.imports)
-      (any_in (λ (p : Pub). not p.local && bytes_eq p.name d.name) (from_filter (λ p. not p.local) m.pubs r.inside) (both (not r.item.local) (bytes_eq r.item.name d.name) (each_in (λ (p : Pub). not p.local ≡ true) (filter (λ p. not p.local) m.pubs) (each-kept (λ p. not p.local) m.pubs) r.inside) (same_name r.item.name d.name named)))
+      or_left (list_any (λ p. not p.local && bytes_eq p.name d.name) m.pubs) (list_any (λ i. bytes_eq i.name d.name) m.imports)
+      (any_in (λ (p : Pub). not p.local && bytes_eq p.name d.name) (from_filter (λ p. not p.local) m.pubs r.inside) (both (not r.item.local) (bytes_eq r.item.name d.name) (each_in (λ (p : Pub). not p.local ≡ true) (filter (λ p. not p.local) m.pubs) (passing (λ p. not p.local) m.pubs) r.inside) (same_name r.item.name d.name named)))
   | inr j ↦
       let r = from_map (of_import n) m.imports j in
       let named : r.item.name ≡ d.name = ap (λ (x : Definition). x.name) r.is in
-      either_right (list_any (λ p. not p.local && bytes_eq p.name d.name) m.pubs) (list_any (λ i. bytes_eq i.name d.name) m.imports)
+      or_right (list_any (λ p. not p.local && bytes_eq p.name d.name) m.pubs) (list_any (λ i. bytes_eq i.name d.name) m.imports)
       (any_in (λ (i : Imp). bytes_eq i.name d.name) r.inside (same_name r.item.name d.name named))
 ]
   where
@@ -134,7 +127,7 @@ name-defined input picks clash ends d stem x i only asked =
     let item = import_for (name_or d.name stem) x in
     let listed : In (import_object item) (objects_of (imports_in d stem)) = in_map import_object (in_map (import_for (name_or d.name stem)) i) in
     let inside = in_contained input.libs (import_object item) (all_in (Contains input.libs) (objects_of (imports_in d stem)) only.there listed) in
-    let own : defines (import_object item) x.name ≡ true = either_left (bytes_eq x.name x.name) false (same_name x.name x.name refl) in
+    let own : defines (import_object item) x.name ≡ true = or_left (bytes_eq x.name x.name) false (same_name x.name x.name refl) in
     let all = wanted-is-defined input picks ends (import_object item) x.name inside own asked in
     let none = no_items input.def.imports x.name (λ j k. all_in (λ (i : Imp). i.name ≢ x.name) input.def.imports only.items k) in
     let some = first_true (list_any (λ m. defines m x.name) (modules_of input picks)) (list_any (λ i. bytes_eq i.name x.name) input.def.imports) all none in

@@ -1,5 +1,5 @@
 -- The object table of a link fits its fields, and its pages are few.
-use Rattle.std.specs.Prelude.{◌≡◌, ℕ, ◌+◌, ◌-◌, ◌*◌, ◌<◌, ◌≤◌, ◌^◌, ◌==◌, if◌then◌else◌, Bool, true, false, List, [], ◌∷◌, Option, Some, None, IfSome, map, max, length, sum_by, unwrap_or}
+use Rattle.std.specs.Prelude.{◌≡◌, ℕ, ◌+◌, ◌-◌, ◌*◌, ◌<◌, ◌≤◌, ◌^◌, ◌==◌, if◌then◌else◌, Bool, true, false, List, [], ◌∷◌, None, map, max, length, sum_by}
 use Rattle.std.specs.List.{AllByRecursion, enumerate_from, range_with_len}
 use Rattle.std.proofs.Common.{◌∙◌, arith}
 use Rattle.std.proofs.Math.Nat.{mul-div-le, div-mul-le_self, max-le}
@@ -9,23 +9,22 @@ use Rattle.std.proofs.lemmas.List.Sums.{sum_by-cons}
 use Rattle.lx_types.specs.Addresses.{UNIT, room}
 use Rattle.lx_types.specs.declared.fix.Fix.{Fix}
 use Rattle.lx_types.specs.declared.object.TheConstants.{PAGE_SIZE, OBJECT_READABLE, OBJECT_WRITABLE, OBJECT_EXECUTABLE, OBJECT_SHARED, OBJECT_PRELOAD, OBJECT_CONFORMING, OBJECT_IOPL}
-use Rattle.obj_types.specs.Definition.{WholeDef, IsBase}
+use Rattle.obj_types.specs.Definition.{WholeDef}
 use Rattle.obj_types.specs.declared.definition.Attrs.{Attrs}
-use Rattle.obj_types.specs.declared.definition.ModKind.{ModKind}
-use Rattle.obj_types.specs.declared.definition.ModKind.TheVariants.{Program, Library}
 use Rattle.link_model.specs.declared.symbols.LaidObject.{LaidObject}
 use Rattle.link_model.specs.Link.{Link}
 use Rattle.link_model.specs.Parts.{Part}
 use Rattle.link_model.specs.Flags.{attrs_of, flag, flags_with, flags_of}
 use Rattle.link_model.specs.Order.{object_heads}
 use Rattle.link_model.specs.Rows.{end_in, rows}
-use Rattle.link_model.specs.Layout.{placed_from, usual_base, first_base, objects}
+use Rattle.link_model.specs.Layout.{placed_from, first_base, objects}
 use Rattle.link_model.specs.LayoutRefusals.{lay_refusal}
 use Rattle.link_model.specs.Records.{page_count, page_records, object_records}
 use Rattle.lx_model.specs.TableSpelling.{ObjectHeadFits}
 use Rattle.image_model.specs.Linked.{page_forms}
 use Rattle.image_model.specs.ObjectTable.{object_heads_from}
 use Rattle.link_core.proofs.PageCounts.{pages-are}
+use Rattle.seg_merge.proofs.StandingOrder.{base-within}
 use Rattle.layer_laws.proofs.Sizes.{sizes-within, few-objects}
 
 -- ---- sizes
@@ -48,7 +47,7 @@ pages_small n = mul-div-le (n + (PAGE_SIZE - 1)) PAGE_SIZE
 
 -- ---- flags
 
-flag_small : (b : Bool) (n : ℕ) → flag b n ≤ n
+pub flag_small : (b : Bool) (n : ℕ) → flag b n ≤ n
 flag_small true n = omega arith
 flag_small false n = omega arith
 
@@ -96,18 +95,13 @@ heads_fit (q ∷ qs) base first flags bases pages =
       heads_fit qs (base + room q.0) (first + page_count q.0) flags.1 (omega (arith, more, wide, bases)) (omega (arith, more, few, pages)),
     )
 
-base_by : (o : Option ℕ) (kind : ModKind) → IfSome o IsBase → unwrap_or o (usual_base kind) ≤ 0x1FFF0000
-base_by (Some b) kind is = is.2
-base_by None Program is = omega arith
-base_by None Library is = omega arith
-
 pub objects-fit : (l : Link) → lay_refusal l ≡ None → WholeDef l.def → AllByRecursion ObjectHeadFits (object_heads_from 1 (objects l))
 unfolding objects
 objects-fit l none def =
     let qs = map (λ q. (end_in q.0 (rows l), flags_of l q.1)) (enumerate_from 1 (object_heads l)) in
     let most = sizes-within l none in
     let few = few-objects l none in
-    let base = base_by l.def.base l.def.kind def.base in
+    let base = base-within l.def.base l.def.kind def.base in
     heads_fit qs (first_base l) 1 (each_flags (λ o. end_in o (rows l)) l 1 (object_heads l)) (omega (arith, most, few, base)) (omega (arith, most, few))
 
 -- ---- pages

@@ -4,10 +4,11 @@ use Rattle.std.specs.List.{AllByRecursion, list_any, enumerate_from}
 use Rattle.std.proofs.Common.{ap, sym, ◌∙◌, arith, subst, length-append, append_assoc}
 use Rattle.std.proofs.Math.Seq.{take-append_seam}
 use Rattle.std.proofs.lemmas.List.Elements.{filter-append}
+use Rattle.std.proofs.lemmas.Bool.{or_parts}
 use Rattle.link_model.specs.Words.{first_conflict}
 use Rattle.link_model.specs.Exports.{given, free_ordinals, ordinal_at, ordinals, wrong_ordinal}
-use Rattle.link_model.proofs.ExternalsMean.{not_mapped}
-use Rattle.layer_laws.proofs.Apart.{Apart, not-first, neither-true, no-conflict-apart}
+use Rattle.link_model.proofs.ExternalsMean.{not_mapped, not_first_by}
+use Rattle.layer_laws.proofs.Apart.{Apart, no-conflict-apart}
 use Rattle.layer_laws.proofs.FreeOrdinals.{none-equal, enough-free, free-apart, free-some, free-not-given, all-at, apart-at}
 
 -- ---- ordinals that exports give
@@ -22,8 +23,8 @@ record GivenWell (front rest : List ℕ) : Type 0 where
 given_well : (gs front rest : List ℕ) → gs ≡ front ++ rest → find (is_wrong gs) (enumerate_from (length front) rest) ≡ None → GivenWell front rest
 given_well gs front [] is e = record { none = refl; some = tt }
 given_well gs front (x ∷ xs) is e =
-    let both = not-first (length front, x) (find (is_wrong gs) (enumerate_from (length front + 1) xs)) (is_wrong gs (length front, x)) e in
-    let parts = neither-true (x == 0) (list_any (λ g. g == x) (take (length front) gs)) both.0 in
+    let both = not_first_by (length front, x) (find (is_wrong gs) (enumerate_from (length front + 1) xs)) (is_wrong gs (length front, x)) e in
+    let parts = or_parts (x == 0) (list_any (λ g. g == x) (take (length front) gs)) both.0 in
     let before : take (length front) gs ≡ front = ap (take (length front)) is ∙ take-append_seam front (x ∷ xs) in
     let free : list_any (λ g. g == x) front ≡ false = ap (list_any (λ g. g == x)) (sym before) ∙ parts.1 in
     let longer : length front + 1 ≡ length (front ++ x ∷ []) = sym (length-append front (x ∷ [])) in

@@ -1,51 +1,22 @@
 -- Each export of a link is among those that its tables tell, with what its entry says.
-use Rattle.std.specs.Prelude.{◌≡◌, ℕ, ◌+◌, List, Option, Some, None, IsSome, map, bytes_eq, is_some, refl}
-use Rattle.std.specs.List.{filter_map, position}
+use Rattle.std.specs.Prelude.{◌≡◌, List, Option, Some, None, IsSome, refl}
 use Rattle.std.specs.Option.{option_map, option_and_then}
-use Rattle.std.specs.Cmp.Lexicographic.{nat_list_eq_equiv}
 use Rattle.std.proofs.Common.{ap, sym, ◌∙◌, true≢false}
-use Rattle.lx_types.specs.Names.{uppercase}
 use Rattle.lx_types.specs.declared.entry.EntryHead.{EntryHead}
 use Rattle.lx_types.specs.declared.entry.EntryHead.TheVariants as heads
-use Rattle.lx_types.specs.declared.entry.EntryKey.{EntryKey}
-use Rattle.lx_types.specs.declared.entry.EntryKey.TheVariants as entry_keys
 use Rattle.lx_types.specs.declared.fix.FixTarget.{FixTarget}
 use Rattle.lx_types.specs.declared.fix.FixTarget.TheVariants as leads
 use Rattle.obj_types.specs.declared.symbol.Imp.{Imp}
-use Rattle.link_model.specs.Appearance.{firsts}
 use Rattle.link_model.specs.Link.{Link}
 use Rattle.link_model.specs.Exports.{ExportTarget, At, Forward, Export, Out}
-use Rattle.link_model.specs.ImportTables.{used_pairs, link_pairs, forwarded, procs_in, proc_name, entry_target, import_target, with_offset}
-use Rattle.link_model.proofs.Members.{In, in_right, in_map, any_in, position_is}
-use Rattle.link_model.proofs.Tables.{any-firsts}
+use Rattle.link_model.specs.ImportTables.{used_pairs, link_pairs, forwarded, procs_in, import_target, with_offset}
+use Rattle.link_model.proofs.Members.{In, in_right}
+use Rattle.link_model.proofs.RecordsStay.{pair_there}
 use Rattle.lx_model.specs.ExportTables.{Exported}
 use Rattle.image_model.specs.Exported.{forwarder_to, head_of, exported, exported_of}
 use Rattle.link_core.proofs.FewImports.{in-filter_map}
 use Rattle.link_core.proofs.RecordsFit.{AmongPairs, import-among}
 use Rattle.link_core.proofs.TargetsThere.{mapped, from_filter_map}
-
--- ---- a pair that a forwarder names is in the tables
-
-in_table : (names : List (List ℕ)) (name : List ℕ) → In name names → IsSome (position (bytes_eq name) (firsts bytes_eq names))
-in_table names name i =
-    ap is_some (position_is (bytes_eq name) (firsts bytes_eq names) (any-firsts nat_list_eq_equiv name names ∙ any_in (bytes_eq name) i (nat_list_eq_equiv.refl name)))
-
-mapped_there : {X Y : Type 0} (f : X → Y) (o : Option X) → IsSome o → IsSome (option_map f o)
-mapped_there f None h = h
-mapped_there f (Some x) h = refl
-
-then_there : {X Y : Type 0} (f : X → Option Y) (o : Option X) → IsSome o → ((x : X) → IsSome (f x)) → IsSome (option_and_then f o)
-then_there f None h all = h
-then_there f (Some x) h all = all x
-
-entry_there : (pairs : List Imp) (number : ℕ) (pair : Imp) (entry : EntryKey) → In pair pairs → pair.entry ≡ entry → IsSome (entry_target pairs number entry)
-entry_there pairs number pair (entry_keys.Ordinal n) i e = refl
-entry_there pairs number pair (entry_keys.Named name) i e =
-    mapped_there _ _ (in_table (filter_map (λ pair. proc_name pair.entry) pairs) name (in-filter_map (λ (pair : Imp). proc_name pair.entry) i (ap proc_name e)))
-
-pair_there : (pairs : List Imp) (pair : Imp) → In pair pairs → IsSome (import_target pairs pair)
-pair_there pairs pair i =
-    then_there (λ k. entry_target pairs (k + 1) pair.entry) _ (in_table (map (λ p. uppercase p.module) pairs) (uppercase pair.module) (in_map (λ (p : Imp). uppercase p.module) i)) (λ k. entry_there pairs (k + 1) pair pair.entry i refl)
 
 -- ---- heads
 

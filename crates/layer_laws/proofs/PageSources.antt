@@ -3,7 +3,8 @@ use Rattle.std.specs.Prelude.{◌≡◌, ℕ, suc, ◌+◌, ◌-◌, ◌<◌, na
 use Rattle.std.specs.List.{AllByRecursion, flat_map, enumerate_from, range_with_len}
 use Rattle.std.proofs.Common.{ap, sym, ◌∙◌, arith}
 use Rattle.std.proofs.lemmas.List.{length-map, get_or-map}
-use Rattle.std.proofs.lemmas.List.FromFn.{get_or-map-range_with_len}
+use Rattle.std.proofs.lemmas.List.FromFn.{get_or-map-range_with_len, length-range_with_len}
+use Rattle.std.proofs.lemmas.Bool.{lt-ltb}
 use Rattle.lx_types.specs.Parts.{fix_span_at}
 use Rattle.lx_types.specs.declared.fix.Fix.{Fix}
 use Rattle.lx_types.specs.declared.object.ObjHead.{ObjHead}
@@ -22,10 +23,8 @@ use Rattle.image_model.specs.Linked.{fix_in_file, page_fixes, fixup_records, ima
 use Rattle.image_model.specs.PageTables as tables
 use Rattle.image_model.specs.ReadBack.{spans_from, ImageFits, parts_of_image}
 use Rattle.image_model.specs.Sections as s
-use Rattle.image_model.proofs.LinkTables.{mapped, ranged}
 use Rattle.image_model.proofs.RecordsRead.{records_in_span, page_means, regrouped}
 use Rattle.image_model.proofs.Standing.{HasFrom, standing, behind, from_imports}
-use Rattle.layer_laws.proofs.Lists.{lt-true}
 use Rattle.layer_laws.proofs.TablePages.{all-of, Counts, object-found}
 
 -- ---- the records of a page of the table
@@ -58,7 +57,7 @@ abbrev records_of : Link → ℕ × LaidObject → List (List Fix)
 records_of l q = map (page_records l q.0) (range_with_len 0 (page_count q.1.size))
 
 counted : (l : Link) → Counts (records_of l)
-counted l n o = mapped (page_records l n) (range_with_len 0 (page_count o.size)) ∙ ranged 0 (page_count o.size)
+counted l n o = length-map (range_with_len 0 (page_count o.size)) (page_records l n) ∙ length-range_with_len 0 (page_count o.size)
 
 regroup : (l : Link) (b : ℕ) (os : List LaidObject) → flat_map (λ pages. pages) (map (records_of l) (enumerate_from b os)) ≡ all-of (records_of l) b os
 regroup l b [] = refl
@@ -103,7 +102,7 @@ sources-are l fits i k o e below =
     let there : at < length m.fix_spans = omega (arith, longs, inside) in
     let span : fix_span_at m (record { object = suc i; page = k }) ≡ get_or m.fix_spans at (0, 0) =
     ap (λ (h : ObjHead). cond (nat_lt k h.count) (get_or m.fix_spans (h.first - 1 + k) (0, 0)) (0, 0)) f.is
-    ∙ ap (λ (b : Bool). cond b (get_or m.fix_spans at (0, 0)) (0, 0)) (lt-true k f.head.count small) in
+    ∙ ap (λ (b : Bool). cond b (get_or m.fix_spans at (0, 0)) (0, 0)) (lt-ltb k f.head.count small) in
     sources_by l (record { object = suc i; page = k })
     ∙ ap (sources_in file) span
     ∙ sym (get_or-map (sources_in file) m.fix_spans at (0, 0) [] there)

@@ -1,10 +1,9 @@
 -- The start, the stack, the automatic data and the module flags of a link fit their fields.
-use Rattle.std.specs.Prelude.{◌≡◌, ℕ, ◌+◌, ◌<◌, ◌≤◌, ◌^◌, ◌==◌, Bool, true, false, cond, not, List, [], ◌∷◌, Option, Some, None, IfSome, max, length, is_some, unwrap_or, refl}
-use Rattle.std.specs.List.{fold}
+use Rattle.std.specs.Prelude.{◌≡◌, ℕ, ◌+◌, ◌<◌, ◌≤◌, ◌^◌, ◌==◌, Bool, true, false, cond, not, Option, Some, None, IfSome, length, is_some, unwrap_or, refl}
 use Rattle.std.specs.Option.{option_map}
 use Rattle.std.proofs.Common.{ap, sym, arith, subst, true≢false}
-use Rattle.std.proofs.Math.Nat.{le-max_left, le-max_right}
 use Rattle.std.proofs.lemmas.Bool.{eq-eqb}
+use Rattle.std.proofs.lemmas.Option.{same_Some}
 use Rattle.lx_types.specs.Sound.{IsNumberOf}
 use Rattle.lx_types.specs.declared.parts.TheConstants.{MODULE_LIBRARY, MODULE_INIT_EACH, MODULE_TERM_EACH}
 use Rattle.obj_types.specs.declared.definition.DefFile.{DefFile}
@@ -12,7 +11,6 @@ use Rattle.obj_types.specs.declared.object.StartAt.{StartAt}
 use Rattle.link_model.specs.declared.limits.TheConstants.{MAX_MEMORY}
 use Rattle.link_model.specs.Link.{Link}
 use Rattle.link_model.specs.Order.{is_program}
-use Rattle.link_model.specs.Flags.{flag}
 use Rattle.link_model.specs.Groups.{DGROUP}
 use Rattle.link_model.specs.Rows.{Row, end_in, rows, has_stack, stack_row}
 use Rattle.link_model.specs.Layout.{objects, stack_top}
@@ -20,7 +18,8 @@ use Rattle.link_model.specs.LayoutRefusals.{lay_refusal}
 use Rattle.link_model.specs.Goals.{Target, Internal, Constant, Entry, shifted, object_of_group, target_of}
 use Rattle.link_model.specs.Start.{first_start, in_object, start_place, place_of_start, Start}
 use Rattle.link_model.specs.Header.{auto_data}
-use Rattle.link_model.proofs.Members.{In, here, there, in_filter, found_as}
+use Rattle.link_model.proofs.Members.{In, in_filter, found_as}
+use Rattle.link_model.proofs.RowsStand.{max_in}
 use Rattle.image_model.specs.Linked.{module_flags}
 use Rattle.image_model.specs.ReadBack.{PlaceFits}
 use Rattle.seg_parts.proofs.EndSums.{end-in-sum}
@@ -29,14 +28,12 @@ use Rattle.link_core.proofs.ObjectsThere.{row_there}
 use Rattle.link_core.proofs.TargetsThere.{through, group_there, start_there}
 use Rattle.layer_laws.proofs.Known.{wrapped-small}
 use Rattle.layer_laws.proofs.Sizes.{not-too-large}
+use Rattle.layer_laws.proofs.Objects.{flag_small}
 
 -- ---- the start
 
-place_is : (p q : ℕ × ℕ) → Some p ≡ Some q → p ≡ q
-place_is p q e = ap (λ (o : Option (ℕ × ℕ)). unwrap_or o p) e
-
 chosen_small : (b : Bool) (q p : ℕ × ℕ) → q.1 < 2 ^ 32 → cond b (Some q) None ≡ Some p → p.1 < 2 ^ 32
-chosen_small true q p small e = subst (λ (t : ℕ × ℕ). t.1 < 2 ^ 32) (place_is q p e) small
+chosen_small true q p small e = subst (λ (t : ℕ × ℕ). t.1 < 2 ^ 32) (same_Some q p e) small
 chosen_small false q p small e = absurd (true≢false (sym (ap is_some e)))
 
 start_small : (l : Link) (s : StartAt) (t : Target) (p : ℕ × ℕ) → start_place l s t ≡ Some p → p.1 < 2 ^ 32
@@ -63,17 +60,6 @@ pub start-fits : (l : Link) → IfSome (Start l) (StartFits l)
 start-fits l = start_by l (Start l) refl
 
 -- ---- the stack
-
-max_from : (n : ℕ) (rs : List Row) → n ≤ fold (λ end r. max end r.end) n rs
-max_from n [] = omega arith
-max_from n (r ∷ rs) =
-    let here = le-max_left n r.end in let rest = max_from (max n r.end) rs in omega (arith, here, rest)
-
-max_in : {r : Row} (n : ℕ) {rs : List Row} → In r rs → r.end ≤ fold (λ end r. max end r.end) n rs
-max_in {r = r} n {rs = []} i = elim i [ ]
-max_in {r = r} n {rs = q ∷ rs} here =
-    let this = le-max_right n r.end in let rest = max_from (max n r.end) rs in omega (arith, this, rest)
-max_in {r = r} n {rs = q ∷ rs} (there i) = max_in (max n q.end) i
 
 end_small : (l : Link) (r : Row) → lay_refusal l ≡ None → In r (rows l) → r.end ≤ MAX_MEMORY
 end_small l r none i =
@@ -103,10 +89,6 @@ auto_by l (Some o) none e = let small = (group_there l DGROUP o none e).small in
 pub auto-fits : (l : Link) → lay_refusal l ≡ None → auto_data l < 2 ^ 32
 unfolding auto_data
 auto-fits l none = auto_by l (object_of_group l DGROUP) none refl
-
-flag_small : (b : Bool) (n : ℕ) → flag b n ≤ n
-flag_small true n = omega arith
-flag_small false n = omega arith
 
 pub flags-fit : (d : DefFile) → module_flags d < 2 ^ 32
 flags-fit d =

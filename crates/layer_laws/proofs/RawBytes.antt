@@ -6,7 +6,8 @@ use Rattle.std.proofs.Math.Nat.{mul-div-le, div-add-mod, mod-lt}
 use Rattle.std.proofs.Math.ListN.{get_or-append, get_or-eq_default}
 use Rattle.std.proofs.lemmas.Bool.Decides.{nat_tests}
 use Rattle.std.proofs.lemmas.List.{length-map, get_or-map, get_or-take, get_or-drop, get_or-append_right}
-use Rattle.std.proofs.lemmas.List.FromFn.{get_or-map-range_with_len}
+use Rattle.std.proofs.lemmas.List.FromFn.{get_or-map-range_with_len, length-range_with_len}
+use Rattle.std.proofs.lemmas.Bool.{lt-ltb}
 use Rattle.lx_types.specs.Object.{zero_page, page_of}
 use Rattle.lx_types.specs.Parts.{span, object_of}
 use Rattle.lx_types.specs.declared.object.ObjHead.{ObjHead}
@@ -30,10 +31,8 @@ use Rattle.image_model.specs.PageForms.{page_in, pages_in, form_of_data, form_of
 use Rattle.image_model.specs.PageTables.{form_data, page_head, page_heads_from}
 use Rattle.image_model.specs.ReadBack.{FormFits, placed_page, ImageFits, parts_of_image}
 use Rattle.image_model.specs.Sections as s
-use Rattle.image_model.proofs.LinkTables.{mapped, ranged}
 use Rattle.image_model.proofs.RecordsRead.{spanned, regrouped}
 use Rattle.image_model.proofs.Standing.{HasFrom, standing, behind, from_others}
-use Rattle.layer_laws.proofs.Lists.{lt-true}
 use Rattle.lx_iter.proofs.Unpacking.{groups_give, data_filled}
 use Rattle.layer_laws.proofs.TablePages.{all-of, Counts, object-found}
 
@@ -102,12 +101,12 @@ abbrev pages_of : Link → ℕ × LaidObject → List (List ℕ)
 pages_of l q = pages_in (bytes_of l q)
 
 object_long : (l : Link) (n : ℕ) (o : LaidObject) → length (bytes_of l (n, o)) ≡ o.size
-object_long l n o = mapped (page_byte l n) (range_with_len 0 o.size) ∙ ranged 0 o.size
+object_long l n o = length-map (range_with_len 0 o.size) (page_byte l n) ∙ length-range_with_len 0 o.size
 
 counted : (l : Link) → Counts (pages_of l)
 counted l n o =
     let count = page_count (length (bytes_of l (n, o))) in
-    mapped (page_in (bytes_of l (n, o))) (range_with_len 0 count) ∙ ranged 0 count ∙ ap page_count (object_long l n o)
+    length-map (range_with_len 0 count) (page_in (bytes_of l (n, o))) ∙ length-range_with_len 0 count ∙ ap page_count (object_long l n o)
 
 regroup : (l : Link) (b : ℕ) (os : List LaidObject) → flat_map pages_in (map (λ q. map (page_byte l q.0) (range_with_len 0 q.1.size)) (enumerate_from b os)) ≡ all-of (pages_of l) b os
 regroup l b [] = refl
@@ -166,7 +165,7 @@ raw_bytes l fits i k o e below =
     let at = f.head.first - 1 + k in
     let there : at < length m.pages = omega (arith, longs, inside) in
     let entry : page_of m.pages (object_of m (suc i)) k ≡ get_or m.pages at zero_page =
-    ap (λ (h : ObjHead). page_of m.pages h k) f.is ∙ ap (λ (b : Bool). cond b (get_or m.pages at zero_page) zero_page) (lt-true k f.head.count small) in
+    ap (λ (h : ObjHead). page_of m.pages h k) f.is ∙ ap (λ (b : Bool). cond b (get_or m.pages at zero_page) zero_page) (lt-ltb k f.head.count small) in
     let count_here : k < page_count (length (bytes_of l (suc i, o))) = (let size = ap page_count (object_long l (suc i) o) in omega (arith, size, below)) in
     whole_file l (page_of m.pages (object_of m (suc i)) k)
     ∙ ap (bytes_at file) entry

@@ -2,7 +2,7 @@
 use Rattle.std.specs.Prelude.{◌≡◌, ℕ, pos, ◌+◌, ◌*◌, ◌-ℤ◌, ◌<◌, ◌≤◌, ◌⊎◌, ◌==◌, ◌&&◌, ◌||◌, nat_lt, nat_le, Bool, true, false, cond, List, [], ◌∷◌, Some, None, Result, Ok, Err, map, filter, length, refl}
 use Rattle.std.specs.List.{AllByRecursion, filter_map}
 use Rattle.std.proofs.Common.{ap, sym, ◌∙◌, arith, true≢false, inl, inr}
-use Rattle.std.proofs.lemmas.Bool.{agree_below_at, cases_lt, ne_eqb, eq-eqb, eqb-true, or_cases, and_from, le-leb, lt-ltb}
+use Rattle.std.proofs.lemmas.Bool.{agree_below_at, cases_lt, eq-eqb, eqb-true, or_cases, and_from, le-leb, lt-ltb}
 use Rattle.std.proofs.lemmas.List.Elements.{recursion_from_All, filter_passes}
 use Rattle.lx_types.specs.declared.bases.Bases.{Bases}
 use Rattle.lx_types.specs.declared.fix.Fix.{Fix}
@@ -21,6 +21,7 @@ use Rattle.link_model.specs.Mean.{fixup_end, fixup_covers}
 use Rattle.link_model.specs.Patches.{recorded}
 use Rattle.link_model.specs.Records.{source_of, has_alias, target_and_additive, offset_on, record_on, stands_on, page_records}
 use Rattle.link_model.proofs.Members.{In, here, there, from_filter, from_map}
+use Rattle.link_model.proofs.ValueLengths.{no_location}
 use Rattle.lx_model.specs.Entries.{target_spot}
 use Rattle.lx_model.specs.Fixed.{spot_address, end_address, field_bytes, bytes_if, patch_of, index_in, byte_if}
 use Rattle.lx_model.specs.declared.library.EntryFault.{EntryFault}
@@ -43,10 +44,6 @@ is_sized selfrel loc = location_len loc == 0 || source_size (source_by loc selfr
 all_sized : (selfrel : Bool) (loc : ℕ) → loc < 14 → is_sized selfrel loc ≡ true
 all_sized true loc h = agree_below_at (is_sized true) (λ n. true) 14 loc refl h
 all_sized false loc h = agree_below_at (is_sized false) (λ n. true) 14 loc refl h
-
-no_location : (loc : ℕ) → 14 ≤ loc → location_len loc ≡ 0
-no_location loc h =
-    rw (ne_eqb loc 0 (λ e. omega (arith, h, e)), ne_eqb loc 1 (λ e. omega (arith, h, e)), ne_eqb loc 2 (λ e. omega (arith, h, e)), ne_eqb loc 5 (λ e. omega (arith, h, e)), ne_eqb loc 3 (λ e. omega (arith, h, e)), ne_eqb loc 9 (λ e. omega (arith, h, e)), ne_eqb loc 13 (λ e. omega (arith, h, e)), ne_eqb loc 11 (λ e. omega (arith, h, e))) refl
 
 sized_by : (loc : ℕ) (selfrel : Bool) → 0 < location_len loc → is_sized selfrel loc ≡ true → source_size (source_by loc selfrel) ≡ location_len loc
 sized_by loc selfrel h e =

@@ -1,9 +1,10 @@
 -- The fixup records of a link fit the record table, and their targets are there.
-use Rattle.std.specs.Prelude.{◌≡◌, ℕ, ◌+◌, ◌<◌, ◌≤◌, ◌^◌, ◌==◌, nat_le, Bool, true, false, cond, List, [], ◌∷◌, ◌++◌, Option, Some, map, filter, length, slice_get, is_some, unwrap_or, refl}
+use Rattle.std.specs.Prelude.{◌≡◌, ℕ, ◌+◌, ◌<◌, ◌≤◌, ◌^◌, ◌==◌, nat_le, Bool, true, false, cond, List, [], ◌∷◌, ◌++◌, Some, map, filter, length, slice_get, is_some, refl}
 use Rattle.std.specs.List.{AllByRecursion, flat_map, enumerate_from, range_with_len}
 use Rattle.std.specs.Option.{option_and_then}
 use Rattle.std.proofs.Common.{ap, sym, arith, subst, true≢false}
 use Rattle.std.proofs.lemmas.List.Elements.{All-from_recursion}
+use Rattle.std.proofs.lemmas.Option.{same_Some}
 use Rattle.lx_types.specs.Addresses.{UNIT}
 use Rattle.lx_types.specs.declared.fix.Fix.{Fix}
 use Rattle.lx_types.specs.declared.fix.Source.{Source}
@@ -60,9 +61,6 @@ chosen_ranged : (b : Bool) (o at x y : ℕ) → y < 2 ^ 32 → x < 2 ^ 32 → Pa
 chosen_ranged true o at x y small other = (omega arith, small)
 chosen_ranged false o at x y small other = (other, omega arith)
 
-pair_is : (t u : FixTarget × ℕ) → Some t ≡ Some u → t ≡ u
-pair_is t u e = ap (λ (o : Option (FixTarget × ℕ)). unwrap_or o t) e
-
 ordinal_ranged : (pairs : List Imp) (t : FixTarget) → core.AmongPairs pairs t → OrdinalSmall t → OffsetRanged t
 ordinal_ranged pairs (leads.Internal o offset) among small = absurd among
 ordinal_ranged pairs (leads.Ordinal import n) among small = small
@@ -73,7 +71,7 @@ target_ranged : (l : Link) → Given l → (q : Fixup) (t : Target) (f : FixTarg
 target_ranged l g q (Internal o offset) f e =
     let at = wrapped (offset + q.fix.disp) in
     let small = wrapped-small (offset + q.fix.disp) in
-    subst PairRanged (pair_is (cond {A = FixTarget × ℕ} (q.fix.loc == 2) (leads.Internal o 0, cond (nat_le UNIT at) at 0) (leads.Internal o (wrapped (at + q.standing)), 0)) f e)
+    subst PairRanged (same_Some (cond {A = FixTarget × ℕ} (q.fix.loc == 2) (leads.Internal o 0, cond (nat_le UNIT at) at 0) (leads.Internal o (wrapped (at + q.standing)), 0)) f e)
     (chosen_ranged (q.fix.loc == 2) o at (wrapped (at + q.standing)) (cond (nat_le UNIT at) at 0) (additive_by (nat_le UNIT at) at small) (wrapped-small (at + q.standing)))
 target_ranged l g q (Constant value) f e = absurd (true≢false (sym (ap is_some e)))
 target_ranged l g q (Entry slot) f e =

@@ -1,7 +1,7 @@
 -- What a fixup record puts into its field is the value of the fixup, where its address and flags are those of the target.
 use Rattle.std.specs.Prelude.{◌≡◌, ℕ, pos, negsuc, zero, suc, ◌+◌, ◌-◌, ◌*◌, ◌/◌, ◌%◌, ◌-ℤ◌, ◌<◌, ◌^◌, ◌==◌, ◌||◌, ◌&&◌, Bool, true, false, cond, not, List, ◌∷◌, Some, None, is_some, refl}
 use Rattle.std.proofs.Common.{ap, sym, ◌∙◌, arith, true≢false, inl, inr}
-use Rattle.std.proofs.lemmas.Bool.{cases_lt}
+use Rattle.std.proofs.lemmas.Bool.{cases_lt, or_parts}
 use Rattle.std.proofs.lemmas.Int.{ints}
 use Rattle.std.proofs.lemmas.Nat.{mod-pow-add, field_of, mod_low, mod_below}
 use Rattle.lx_bytes.specs.LittleEndian.{little_bytes}
@@ -66,10 +66,6 @@ record Wide (loc : ℕ) : Type 0 where
   far : loc == 3 ≡ false
   wide : loc == 11 ≡ false
 
-or_none : (a b : Bool) → (a || b) ≡ false → (a ≡ false) × (b ≡ false)
-or_none true b e = absurd (true≢false e)
-or_none false b e = (refl, e)
-
 no_selector : (loc : ℕ) (selfrel : Bool) → (has_selector loc ≡ true → selfrel ≡ false) → selfrel ≡ true → has_selector loc ≡ false
 no_selector loc selfrel whole is = by (has_selector loc) refl
   where
@@ -103,11 +99,11 @@ wide_when q whole none left is =
     let loc = q.fix.loc in
     let apart = apart_from (is_constant q.target) q.fix.selfrel (stays_in_object q) is left in
     let short = far_by q.fix.selfrel (is_constant q.target) (is_short loc) (stays_in_object q) (loc == 0 && is_past_reach (distance q q.target)) is apart (unrefused q none) in
-    let one = or_none (loc == 0 || loc == 1) (loc == 5) short in
-    let two = or_none (loc == 0) (loc == 1) one.0 in
+    let one = or_parts (loc == 0 || loc == 1) (loc == 5) short in
+    let two = or_parts (loc == 0) (loc == 1) one.0 in
     let sel = no_selector loc q.fix.selfrel whole is in
-    let three = or_none (loc == 2 || loc == 3) (loc == 11) sel in
-    let four = or_none (loc == 2) (loc == 3) three.0 in
+    let three = or_parts (loc == 2 || loc == 3) (loc == 11) sel in
+    let four = or_parts (loc == 2) (loc == 3) three.0 in
     record {
       low = two.0;
       short = ap (λ (b : Bool). b || loc == 5) two.1 ∙ one.1;

@@ -17,16 +17,17 @@ use Rattle.link_model.specs.Link.{Link}
 use Rattle.link_model.specs.Parts.{Part}
 use Rattle.link_model.specs.Flags.{flags_of}
 use Rattle.link_model.specs.Order.{ordered, object_key, same_object, object_heads, object_number}
-use Rattle.link_model.specs.Rows.{Row, end_in, row_after, rows_after, rows}
+use Rattle.link_model.specs.Rows.{Row, end_in, rows}
 use Rattle.link_model.specs.Layout.{placed_from, first_base, objects}
 use Rattle.link_model.specs.LayoutRefusals.{lay_refusal, absolute, use_mixed, group_split, too_large, size_of_rows}
 use Rattle.link_model.proofs.Tables.{firsts-apart}
 use Rattle.link_model.proofs.Members.{In, any_in, position_is, item_at, in_at, from_map}
 use Rattle.link_model.proofs.KeyTests.{in_one_object}
 use Rattle.link_model.proofs.ExternalsMean.{neither}
+use Rattle.link_model.proofs.RowsStand.{segments_of_rows}
 use Rattle.seg_parts.proofs.EndSums.{end-here, end-other, sum-more}
 use Rattle.seg_merge.proofs.RowLimits.{size-within}
-use Rattle.link_core.proofs.ObjectsThere.{row_stands, row_there}
+use Rattle.link_core.proofs.ObjectsThere.{row_stands, row_there, count-objects}
 use Rattle.layer_laws.proofs.Lists.{from-firsts}
 
 -- ---- sums over numbers that follow each other
@@ -114,16 +115,6 @@ sizes-within l none =
 
 -- ---- how many there are
 
-map_append : {X Y : Type 0} (f : X → Y) (xs : List X) (y : X) (ss : List Y) → map f (xs ++ y ∷ []) ++ ss ≡ map f xs ++ f y ∷ ss
-map_append f [] y ss = refl
-map_append f (x ∷ xs) y ss = ap (λ t. f x ∷ t) (map_append f xs y ss)
-
--- The rows have the logical segments in order.
-segments_of_rows : (l : Link) (earlier : List Row) (ss : List Part) → map (λ r. r.segment) (rows_after l earlier ss) ≡ map (λ r. r.segment) earlier ++ ss
-segments_of_rows l earlier [] = sym (append-nil (map (λ r. r.segment) earlier))
-segments_of_rows l earlier (s ∷ ss) =
-    segments_of_rows l (earlier ++ row_after l earlier s ∷ []) ss ∙ map_append (λ (r : Row). r.segment) earlier (row_after l earlier s) ss
-
 -- A logical segment's object has a number that a row has.
 number_within : (l : Link) (s : Part) → lay_refusal l ≡ None → In s (ordered l) → object_number l s ≤ MAX_OBJECTS
 unfolding rows
@@ -163,21 +154,7 @@ heads_within l (suc k) none count =
     let number = own_place l k last.item last.is (omega (arith, count)) in
     omega (arith, within, number)
 
-placed_long : (base : ℕ) (qs : List (ℕ × ℕ)) → length (placed_from base qs) ≡ length qs
-placed_long base [] = refl
-placed_long base (q ∷ qs) = ap suc (placed_long (base + room q.0) qs)
-
-numbered_long : {X Y : Type 0} (f : ℕ × X → Y) (b : ℕ) (xs : List X) → length (map f (enumerate_from b xs)) ≡ length xs
-numbered_long f b [] = refl
-numbered_long f b (x ∷ xs) = ap suc (numbered_long f (b + 1) xs)
-
-count_objects : (l : Link) → length (objects l) ≡ length (object_heads l)
-unfolding objects
-count_objects l =
-    let f : ℕ × Part → ℕ × ℕ = λ q. (end_in q.0 (rows l), flags_of l q.1) in
-    placed_long (first_base l) (map f (enumerate_from 1 (object_heads l))) ∙ numbered_long f 1 (object_heads l)
-
 -- There are at most 1,024 objects.
 pub few-objects : (l : Link) → lay_refusal l ≡ None → length (objects l) ≤ MAX_OBJECTS
 few-objects l none =
-    let count = count_objects l in let few = heads_within l (length (object_heads l)) none refl in omega (arith, count, few)
+    let count = count-objects l in let few = heads_within l (length (object_heads l)) none refl in omega (arith, count, few)

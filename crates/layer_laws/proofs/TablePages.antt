@@ -1,11 +1,11 @@
 -- Where the pages of each object stand in the page table.
-use Rattle.std.specs.Prelude.{◌≡◌, ℕ, zero, suc, ◌+◌, ◌-◌, ◌<◌, ◌≤◌, ◌==◌, Bool, true, false, if◌then◌else◌, List, [], ◌∷◌, ◌++◌, Option, Some, length, get_or, slice_get, is_some, unwrap_or, refl}
+use Rattle.std.specs.Prelude.{◌≡◌, ℕ, zero, suc, ◌+◌, ◌-◌, ◌<◌, ◌≤◌, ◌==◌, Bool, true, false, if◌then◌else◌, List, [], ◌∷◌, ◌++◌, Some, length, get_or, slice_get, is_some, refl}
 use Rattle.std.specs.List.{flat_map, enumerate_from}
 use Rattle.std.proofs.Common.{ap, sym, ◌∙◌, arith, subst, true≢false, length-append}
 use Rattle.std.proofs.Math.ListN.{get_or-append}
 use Rattle.std.proofs.lemmas.Bool.Decides.{nat_tests}
 use Rattle.std.proofs.lemmas.List.{get_or-append_right}
-use Rattle.std.proofs.lemmas.Option.{get_or_from_slice_get}
+use Rattle.std.proofs.lemmas.Option.{get_or_from_slice_get, same_Some}
 use Rattle.lx_types.specs.Parts.{no_object, object_of}
 use Rattle.lx_types.specs.declared.object.ObjHead.{ObjHead}
 use Rattle.link_model.specs.declared.symbols.LaidObject.{LaidObject}
@@ -42,9 +42,6 @@ first_of false first e = refl
 not_zero : (n k : ℕ) → k < n → n == 0 ≡ false
 not_zero n k h = grind (arith, nat_tests)
 
-some_object : (o p : LaidObject) → Some o ≡ Some p → o ≡ p
-some_object o p e = ap (λ (x : Option LaidObject). unwrap_or x o) e
-
 here_found : {X : Type 0} (pages : ℕ × LaidObject → List X) (d : X) (b first : ℕ) (p : LaidObject) (os : List LaidObject) (k : ℕ) → Counts pages → k < page_count p.size → PageFound pages d b first (p ∷ os) zero k p
 here_found {X} pages d b first p os k counts small =
     let mine = pages (b, p) in
@@ -70,7 +67,7 @@ here_found {X} pages d b first p os k counts small =
 page_found : {X : Type 0} (pages : ℕ × LaidObject → List X) (d : X) (b first : ℕ) (os : List LaidObject) (i k : ℕ) (o : LaidObject) → Counts pages → slice_get os i ≡ Some o → k < page_count o.size → PageFound pages d b first os i k o
 page_found pages d b first [] i k o counts e below = absurd (true≢false (sym (ap is_some e)))
 page_found pages d b first (p ∷ os) zero k o counts e below =
-    let same = some_object p o e in
+    let same = same_Some p o e in
     subst (PageFound pages d b first (p ∷ os) zero k) same (here_found pages d b first p os k counts (subst (λ (x : LaidObject). k < page_count x.size) (sym same) below))
 page_found {X} pages d b first (p ∷ os) (suc i) k o counts e below =
     let mine = pages (b, p) in

@@ -1,14 +1,16 @@
 -- What the targets of a link's fixup records name is there.
-use Rattle.std.specs.Prelude.{◌≡◌, ℕ, zero, suc, ◌+◌, ◌<◌, ◌&&◌, nat_lt, nat_le, Bool, true, false, cond, List, [], ◌∷◌, ◌++◌, Some, None, map, length, take, drop, slice_get, slice_index, is_some, refl}
+use Rattle.std.specs.Prelude.{◌≡◌, ℕ, zero, suc, ◌+◌, ◌<◌, ◌&&◌, nat_lt, nat_le, Bool, true, cond, List, [], ◌∷◌, ◌++◌, Some, None, map, length, take, drop, slice_get, slice_index, is_some, refl}
 use Rattle.std.specs.List.{AllByRecursion, flat_map}
 use Rattle.std.proofs.Common.{ap, ◌∙◌, arith, subst, length-append, append_assoc}
 use Rattle.std.proofs.lemmas.List.Elements.{All-from_recursion, recursion_from_All}
 use Rattle.std.proofs.lemmas.List.Sorted.{All-permutation}
+use Rattle.std.proofs.lemmas.Bool.{lt-ltb, le-leb, and_from}
 use Rattle.lx_types.specs.Parts.{name_at, span}
 use Rattle.lx_types.specs.Sound.{IsNumberOf}
 use Rattle.lx_types.specs.declared.fix.Fix.{Fix}
 use Rattle.lx_types.specs.declared.fix.FixTarget.{FixTarget}
 use Rattle.lx_types.specs.declared.fix.FixTarget.TheVariants as leads
+use Rattle.lx_types.proofs.Lists.{all_joined}
 use Rattle.link_model.specs.declared.symbols.LaidObject.{LaidObject}
 use Rattle.link_model.specs.Link.{Link}
 use Rattle.link_model.specs.Layout.{objects}
@@ -29,15 +31,10 @@ use Rattle.image_model.specs.Sections.{sections, procs_at}
 use Rattle.image_model.proofs.RecordsRead.{spanned}
 use Rattle.image_model.proofs.Standing.{HasFrom, standing, behind}
 use Rattle.link_core.proofs.RecordsFit as core
-use Rattle.layer_laws.proofs.Lists.{le-true, lt-true}
 use Rattle.layer_laws.proofs.Given.{Given}
 use Rattle.layer_laws.proofs.Records.{all-pages, mapped-all}
 
 -- ---- a name at its place in the file
-
-both : (a b : Bool) → a ≡ true → b ≡ true → (a && b) ≡ true
-both true b e f = f
-both false b e f = e
 
 item_behind : (before : List ℕ) (x : ℕ) (rest : List ℕ) (at : ℕ) → length before ≡ at → slice_index (before ++ x ∷ rest) at ≡ x
 item_behind [] x rest zero e = refl
@@ -56,7 +53,7 @@ name_stands file at name rest has =
     ∙ (let inner = length-append name rest in omega (arith, inner)) in
     let n = slice_index file at in
     some_when (nat_lt at (length file) && nat_le (at + 1 + n) (length file)) (span file (at + 1) (at + 1 + n))
-    (both (nat_lt at (length file)) (nat_le (at + 1 + n) (length file)) (lt-true at (length file) (omega (arith, size))) (le-true (at + 1 + n) (length file) (omega (arith, len, size))))
+    (and_from (nat_lt at (length file)) (nat_le (at + 1 + n) (length file)) (lt-ltb at (length file) (omega (arith, size))) (le-leb (at + 1 + n) (length file) (omega (arith, len, size))))
     ∙ ap (λ (k : ℕ). Some (span file (at + 1) (at + 1 + k))) len
     ∙ ap Some (spanned file (at + 1) name rest (behind file at (length name ∷ []) (name ++ rest) has))
 
@@ -88,7 +85,7 @@ proc-stands l k name is =
 -- ---- one target
 
 one_of : (count n : ℕ) → IsNumberOf n count → names_one_of count n ≡ true
-one_of count n is = both (nat_le 1 n) (nat_le n count) (le-true 1 n is.0) (le-true n count is.1)
+one_of count n is = and_from (nat_le 1 n) (nat_le n count) (le-leb 1 n is.0) (le-leb n count is.1)
 
 pub objects-counted : (os : List LaidObject) (first : ℕ) → length (object_heads_from first os) ≡ length os
 objects-counted [] first = refl
@@ -100,7 +97,7 @@ target_there l (leads.Internal o x) names =
     ap (λ (n : ℕ). names_one_of n o) (objects-counted (objects l) 1) ∙ one_of (length (objects l)) o names.number
 target_there l (leads.Ordinal import n) names = one_of (length (modules_in (link_pairs l))) import names
 target_there l (leads.Named import k) names =
-    both (names_one_of (length (modules_in (link_pairs l))) import) _ (one_of (length (modules_in (link_pairs l))) import names.0) (let name = item_at (procs_in (link_pairs l)) k names.1 in ap is_some (proc-stands l k name.item name.is))
+    and_from (names_one_of (length (modules_in (link_pairs l))) import) _ (one_of (length (modules_in (link_pairs l))) import names.0) (let name = item_at (procs_in (link_pairs l)) k names.1 in ap is_some (proc-stands l k name.item name.is))
 target_there l (leads.Own n) names = absurd names
 
 -- ---- all targets
@@ -125,14 +122,10 @@ page_there l g n k =
     let all = All-permutation (λ (f : Fix). IsThere l f.target) file written (records_keep_fixes file) (All-from_recursion (λ f. IsThere l f.target) file each) in
     targets_of_fixes l written (recursion_from_All (λ f. IsThere l f.target) written all)
 
-joined : {X : Type 0} (P : X → Type 0) (xs ys : List X) → AllByRecursion P xs → AllByRecursion P ys → AllByRecursion P (xs ++ ys)
-joined P [] ys one other = other
-joined P (x ∷ xs) ys one other = (one.0, joined P xs ys one.1 other)
-
 pages_there : (l : Link) (pages : List (List Fix)) → AllByRecursion (PageThere l) pages → AllByRecursion (IsThere l) (flat_map (λ page. map (λ f. f.target) (flat_map fixes_written page)) (map records_for (map (map (fix_in_file l)) pages)))
 pages_there l [] each = tt
 pages_there l (fs ∷ pages) each =
-    joined (IsThere l) (map (λ f. f.target) (flat_map fixes_written (records_for (map (fix_in_file l) fs)))) (flat_map (λ page. map (λ f. f.target) (flat_map fixes_written page)) (map records_for (map (map (fix_in_file l)) pages))) each.0 (pages_there l pages each.1)
+    all_joined (IsThere l) (map (λ f. f.target) (flat_map fixes_written (records_for (map (fix_in_file l) fs)))) (flat_map (λ page. map (λ f. f.target) (flat_map fixes_written page)) (map records_for (map (map (fix_in_file l)) pages))) each.0 (pages_there l pages each.1)
 
 by_records : (l : Link) → AllByRecursion (PageThere l) (flat_map (λ pages. pages) (object_records l)) → AllByRecursion (IsThere l) (flat_map (λ page. map (λ f. f.target) (flat_map fixes_written page)) (fixup_records l))
 unfolding fixup_records page_fixes
