@@ -1,4 +1,4 @@
 mod Short
 mod PlainWords
-mod Lines
+pub mod Lines
 mod Sessions

@@ -36,7 +36,7 @@ load_refused a (save name bytes answer) said is = absurd is
 begun_to : (a : Asked) (after : List Asked) (call : Call) → IsLoadWith a call (λ answer. Unit {0}) → AreBegun (a ∷ after) (call ∷ [])
 begun_to a after call is = is
 
-stopped_begun : (f : List Asked) (calls : List Call) (said : Said) → IsStopped f calls said → AreBegun f calls
+pub stopped_begun : (f : List Asked) (calls : List Call) (said : Said) → IsStopped f calls said → AreBegun f calls
 stopped_begun f calls said is =
     let P : List Asked → Type 0 = λ g. AreBegun g calls in
     let Q : List Call → Type 0 = λ xs. AreBegun (is.before ++ is.here ∷ is.after) xs in

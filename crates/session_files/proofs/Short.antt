@@ -1,19 +1,11 @@
 -- Bytes say no more modules than there are bytes.
-use Rattle.std.proofs.Common.{◌≡◌, ℕ, suc, ◌≤◌, Bool, true, false, if◌then◌else◌, List, [], ◌∷◌, length, filter_map, Option, Some, None, refl, arith}
+use Rattle.std.proofs.Common.{ℕ, suc, ◌≤◌, Bool, true, false, if◌then◌else◌, List, [], ◌∷◌, length, arith}
 use Rattle.std.specs.Prelude.{◌==◌}
+use Rattle.lx_types.proofs.Lists.{length-filter_map}
 use Rattle.session_model.specs.Lines.{with_byte, is_cut, lines_in}
 use Rattle.session_model.specs.Statements.{reading_of}
 use Rattle.session_model.specs.Sessions.{module_of, statement_in, statements_of, session_of}
 use Rattle.session_files.specs.ShortSessions.{SessionsAreShort}
-
-fewer_step : {A B : Type 0} (f : A → Option B) (x : A) (xs : List A) (y : Option B) → f x ≡ y → length (filter_map f xs) ≤ length xs →
-    length (filter_map f (x ∷ xs)) ≤ suc (length xs)
-fewer_step f x xs (Some y) h e = rw h (omega (arith, e))
-fewer_step f x xs None h e = rw h (omega (arith, e))
-
-fewer : {A B : Type 0} (f : A → Option B) (xs : List A) → length (filter_map f xs) ≤ length xs
-fewer f [] = omega arith
-fewer f (x ∷ xs) = fewer_step f x xs (f x) refl (fewer f xs)
 
 with_byte_length : (b : ℕ) (lines : List (List ℕ)) → length (with_byte b lines) ≤ suc (length lines)
 with_byte_length b [] = omega arith
@@ -34,8 +26,8 @@ lines_few (b ∷ bytes) =
 modules_few : (lines : List (List ℕ)) → length (session_of (statements_of lines)).modules ≤ length lines
 unfolding session_of
 modules_few lines =
-    let a : _ = fewer module_of (statements_of lines) in
-    let b : _ = fewer (λ line. statement_in (reading_of line)) lines in
+    let a : _ = length-filter_map module_of (statements_of lines) in
+    let b : _ = length-filter_map (λ line. statement_in (reading_of line)) lines in
     omega (arith, a, b)
 
 pub sessions_are_short : SessionsAreShort
