@@ -1,9 +1,10 @@
 -- Where the first modules stand: module m at 10000000h and m times 10000h, each behind those before it.
-use Rattle.std.specs.Prelude.{◌≡◌, ℕ, zero, suc, ◌+◌, ◌-◌, ◌*◌, ◌/◌, ◌<◌, ◌≤◌, ◌==◌, ◌&&◌, Bool, true, false, List, [], ◌∷◌, ◌++◌, Some, Ok, find, if◌then◌else◌, length, map, zip, refl}
+use Rattle.std.specs.Prelude.{◌≡◌, ℕ, zero, suc, ◌+◌, ◌-◌, ◌*◌, ◌/◌, ◌<◌, ◌≤◌, ◌==◌, Bool, true, false, List, [], ◌∷◌, ◌++◌, Some, Ok, find, if◌then◌else◌, length, map, zip, refl}
 use Rattle.std.specs.List.{list_all, range_with_len}
 use Rattle.std.proofs.Common.{ap, sym, ◌∙◌, arith}
 use Rattle.std.proofs.lemmas.Bool.Decides.{nat_tests}
 use Rattle.std.proofs.lemmas.List.FromFn.{map-range_with_len_more}
+use Rattle.std.proofs.lemmas.Bool.{and_right, and_left}
 use Rattle.lx_types.specs.Addresses.{UNIT, SHARED_FROM}
 use Rattle.lx_types.specs.declared.object.ObjHead.{ObjHead}
 use Rattle.lx_types.specs.declared.parts.Parts.{Parts}
@@ -50,13 +51,6 @@ all_apart i a zero h = refl
 all_apart i a (suc n) h =
     rw (apart_from_others i a (omega (arith, h))) (all_apart i (a + 1) n (omega (arith, h)))
 
-and_none : (a b : Bool) → a ≡ false → (a && b) ≡ false
-and_none a b e = rw e refl
-
-or_later : (b c : Bool) → c ≡ false → (b && c) ≡ false
-or_later true c e = e
-or_later false c e = refl
-
 some_not_apart : (i a n : ℕ) → a ≤ i → i < a + n → list_all (are_apart (taken_by i)) (map taken_by (range_with_len a n)) ≡ false
 some_not_apart i a zero low high = absurd (omega (arith, low, high))
 some_not_apart i a (suc n) low high = by (i == a) refl (λ more. some_not_apart i (a + 1) n more (omega (arith, high)))
@@ -64,11 +58,11 @@ some_not_apart i a (suc n) low high = by (i == a) refl (λ more. some_not_apart 
     by : (b : Bool) → (i == a) ≡ b → (a + 1 ≤ i → list_all (are_apart (taken_by i)) (map taken_by (range_with_len (a + 1) n)) ≡ false) → list_all (are_apart (taken_by i)) (map taken_by (range_with_len a (suc n))) ≡ false
     by true same later =
         let is : i ≡ a = grind (arith, nat_tests) in
-        and_none (are_apart (taken_by i) (taken_by a)) (list_all (are_apart (taken_by i)) (map taken_by (range_with_len (a + 1) n)))
+        and_left (are_apart (taken_by i) (taken_by a)) (list_all (are_apart (taken_by i)) (map taken_by (range_with_len (a + 1) n)))
         (ap (λ (j : ℕ). are_apart (taken_by i) (taken_by j)) (sym is) ∙ not_from_itself i)
     by false apart later =
         let more : a + 1 ≤ i = grind (arith, nat_tests) in
-        or_later (are_apart (taken_by i) (taken_by a)) _ (later more)
+        and_right (are_apart (taken_by i) (taken_by a)) _ (later more)
 
 in_arena : (m : ℕ) → m < 64 → is_in_arena shared_arena 8192 (place m) ≡ true
 in_arena m h = grind (arith, nat_tests)
@@ -77,7 +71,7 @@ free : (m : ℕ) → m < 64 → is_place shared_arena (taken m) 8192 (place m) �
 free m h = rw (in_arena m h, all_apart m 0 m (omega arith)) refl
 
 not_free : (m i : ℕ) → i < m → is_place shared_arena (taken m) 8192 (place i) ≡ false
-not_free m i h = or_later (is_in_arena shared_arena 8192 (place i)) _ (some_not_apart i 0 m (omega arith) (omega (arith, h)))
+not_free m i h = and_right (is_in_arena shared_arena 8192 (place i)) _ (some_not_apart i 0 m (omega arith) (omega (arith, h)))
 
 -- ---- the first that is free
 

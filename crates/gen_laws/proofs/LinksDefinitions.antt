@@ -3,12 +3,13 @@ use Rattle.std.proofs.Common.{◌≡◌, ◌≢◌, ℕ, ◌+◌, ◌^◌, ◌<�
 use Rattle.std.specs.List.{list_all}
 use Rattle.std.proofs.lemmas.Bool.Decides.{nat_tests}
 use Rattle.std.proofs.lemmas.Fmt.{decimal_by_steps, length-decimal-le}
+use Rattle.std.proofs.lemmas.Bool.{and_from}
 use Rattle.obj_types.specs.Defaults.{default_def}
 use Rattle.obj_types.specs.declared.definition.ModKind.TheVariants.{Library}
 use Rattle.def_model.specs.declared.keyword.Keyword.TheVariants as kw
 use Rattle.def_model.specs.Lexemes.{Lexeme, keyword, word, ending}
 use Rattle.def_model.specs.Tokens.{is_word_byte, tokens_behind, tokens_of, word_lexeme}
-use Rattle.def_tokens.proofs.LexemeLaws.{both-true, first-true, lexemes, lexemes-line_end, lexemes-run, lexemes-space, second-true}
+use Rattle.def_tokens.proofs.LexemeLaws.{first-true, lexemes, lexemes-line_end, lexemes-run, lexemes-space, second-true}
 use Rattle.def_model.specs.Draft.{fresh}
 use Rattle.def_file.proofs.Compute.{computed}
 use Rattle.def_file.proofs.SaysLaws.{says, run-says, name-is, goes-on}
@@ -25,7 +26,7 @@ digit n small = grind (arith, nat_tests)
 
 behind : (ds : List ℕ) (d : ℕ) → AreWordBytes ds → AreWordBytes (d ∷ []) → AreWordBytes (ds ++ d ∷ [])
 behind [] d h last = last
-behind (c ∷ ds) d h last = both-true _ _ (first-true _ _ h) (behind ds d (second-true _ _ h) last)
+behind (c ∷ ds) d h last = and_from _ _ (first-true _ _ h) (behind ds d (second-true _ _ h) last)
 
 digits : (n : ℕ) → n < 2 ^ 64 → AreWordBytes (decimal n)
 digits = decimal_by_steps (λ n ds. AreWordBytes ds) digit (λ n ds large h. behind ds (48 + n % 10) h (digit (n % 10) (omega arith)))

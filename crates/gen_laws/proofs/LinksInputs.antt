@@ -3,7 +3,7 @@ use Rattle.std.proofs.Common.{◌≡◌, ◌≢◌, ℕ, zero, suc, ◌+◌, ◌
 use Rattle.std.specs.Prelude.{IfSome, bytes_eq}
 use Rattle.std.specs.List.{range_with_len, filter_map, cons_option}
 use Rattle.std.specs.Option.{option_map, option_and_then}
-use Rattle.std.proofs.lemmas.Bool.{ltb-true}
+use Rattle.std.proofs.lemmas.Bool.{ltb-true, false_from_ne_true}
 use Rattle.std.proofs.lemmas.Fmt.{decimal_injective}
 use Rattle.std.proofs.lemmas.List.{append-nil}
 use Rattle.std.proofs.lemmas.Slice.Eq.{bytes_eq-Decides}
@@ -21,6 +21,7 @@ use Rattle.link_model.specs.Exports.{entry_refusal}
 use Rattle.link_model.specs.Start.{start_outside}
 use Rattle.link_model.specs.Refusal.{place_refusal, link_refusal}
 use Rattle.link_model.proofs.Rules.{rules}
+use Rattle.link_model.proofs.KeyTests.{name_itself}
 use Rattle.gen_model.specs.Modules.{public_name, reference, refers, gen_pieces, gen_fixes}
 use Rattle.gen_laws.specs.Laws.{InputsLink, IsOne}
 use Rattle.gen_laws.proofs.FirstShape.{Names, its_shape, link_is, names_of, shape, shape_link}
@@ -59,14 +60,11 @@ its_places b names k n pieces =
 
 -- ---- names, layout and exports, whatever the names are
 
-itself : (name : List ℕ) → bytes_eq name name ≡ true
-itself name = (bytes_eq-Decides name name).1 refl
-
 its_names : (b : Bool) (n : Names) (pieces : List Piece) (fixes : List FixAt) → (b ≡ true → bytes_eq n.own n.other ≡ false)
     → sym_refusal (shape_link b n pieces fixes) ≡ None
 unfolding rules
-its_names true n pieces fixes apart = rw (apart refl, itself n.own, itself n.other, itself (uppercase n.from), itself n.other) refl
-its_names false n pieces fixes apart = rw (itself n.own) refl
+its_names true n pieces fixes apart = rw (apart refl, name_itself n.own, name_itself n.other, name_itself (uppercase n.from), name_itself n.other) refl
+its_names false n pieces fixes apart = rw (name_itself n.own) refl
 
 its_layout : (b : Bool) (n : Names) (pieces : List Piece) (fixes : List FixAt) → lay_refusal (shape_link b n pieces fixes) ≡ None
 unfolding rules
@@ -80,13 +78,9 @@ its_entries false n pieces fixes = refl
 
 -- ---- the links
 
-false_where : (b : Bool) → (b ≡ true → ⊥) → b ≡ false
-false_where true h = absurd (h refl)
-false_where false h = refl
-
 publics_differ : (m n : ℕ) → m ≢ n → m < 2 ^ 64 → n < 2 ^ 64 → bytes_eq (public_name m) (public_name n) ≡ false
 publics_differ m n other hm hn =
-    false_where _ (λ e. let same : public_name m ≡ public_name n = (bytes_eq-Decides (public_name m) (public_name n)).0 e in
+    false_from_ne_true _ (λ e. let same : public_name m ≡ public_name n = (bytes_eq-Decides (public_name m) (public_name n)).0 e in
     let digits : decimal m ≡ decimal n = cc in other (decimal_injective m n hm hn digits))
 
 no_refusal : (k n : ℕ) (pieces : List Piece) (fixes : List FixAt) → IsOne k → fixes ≡ map (reference k) (range_with_len 0 n)

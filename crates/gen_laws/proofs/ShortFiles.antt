@@ -6,6 +6,7 @@ use Rattle.std.proofs.lemmas.List.{length-map}
 use Rattle.std.proofs.lemmas.List.FromFn.{length-map-range_with_len}
 use Rattle.lx_types.specs.declared.entry.EntryHead.TheVariants.{At}
 use Rattle.lx_types.specs.declared.fix.Fix.{Fix}
+use Rattle.lx_types.proofs.Lists.{length-filter_map}
 use Rattle.obj_types.specs.declared.object.ObjModule.{ObjModule}
 use Rattle.obj_types.specs.declared.object.FixAt.{FixAt}
 use Rattle.obj_types.specs.declared.object.Piece.{Piece}
@@ -36,6 +37,8 @@ use Rattle.image_model.specs.Sections.{sections}
 use Rattle.image_model.proofs.PagesRead.{heads_long}
 use Rattle.image_model.proofs.Places.{file_long}
 use Rattle.image_model.proofs.SpansRead.{offsets_long}
+use Rattle.image_model.proofs.TablesFaultless.{doublewords_long}
+use Rattle.image_model.proofs.PagesFaultless.{pages_long}
 use Rattle.link_core.proofs.FewImports.{few-modules}
 use Rattle.link_core.proofs.PageCounts.{pages-are}
 use Rattle.layer_laws.specs.LinkedImages.{Links}
@@ -45,13 +48,14 @@ use Rattle.layer_laws.proofs.Given.{Given, given}
 use Rattle.layer_laws.proofs.Names.{modules-fit, others-fit, residents-fit}
 use Rattle.layer_laws.proofs.Records.{records-fit}
 use Rattle.gen_model.specs.Modules.{gen_input, gen_pieces, public_name, reference, refers}
+use Rattle.load_model.proofs.FewSerials.{fewer}
 use Rattle.gen_laws.specs.Laws.{InputsAreWhole, LinkedFilesAreShort}
 use Rattle.gen_laws.proofs.FirstPairs.{no_procs}
 use Rattle.gen_laws.proofs.FirstRanges.{input_ranged}
 use Rattle.gen_laws.proofs.FirstShape.{Names, gen_link, its_exports, its_objects, its_shape, link_is, names_of, shape, shape_link, the_object}
 use Rattle.gen_laws.proofs.LinksInputs.{inputs_linked}
-use Rattle.gen_laws.proofs.ShortRecords.{few_kept, few_live, few_mapped, few_records, records_short}
-use Rattle.gen_laws.proofs.ShortSections.{doublewords_long, forms_short, imports_short, names_short, pages_long}
+use Rattle.gen_laws.proofs.ShortRecords.{few_live, few_records, records_short}
+use Rattle.gen_laws.proofs.ShortSections.{forms_short, imports_short, names_short}
 
 -- ---- its fixups
 
@@ -61,7 +65,7 @@ few_by b n pieces fixes =
     let l : Link = shape_link b n pieces fixes in
     let m : ObjModule = shape b n pieces fixes in
     let both = length-append (filter_map (fixup_of l 1 m) fixes) [] in
-    let few = few_mapped (fixup_of l 1 m) fixes in
+    let few = length-filter_map (fixup_of l 1 m) fixes in
     omega (arith, both, few)
 
 few_references : (k n : ℕ) (pieces : List Piece) → length (fixups (shape_link (refers k) (names_of k) pieces (map (reference k) (range_with_len 0 n)))) ≤ n
@@ -76,9 +80,9 @@ few_fixups k l is = subst (λ (x : Link). length (fixups x) ≤ 2048) (sym (is �
 few_on_page : (l : Link) (object page : ℕ) → length (page_records l object page) ≤ length (fixups l)
 unfolding page_records recorded live_fixups
 few_on_page l object page =
-    let records = few_mapped (record_on l page) (filter (stands_on object page) (recorded l)) in
-    let standing = few_kept (stands_on object page) (recorded l) in
-    let kept = few_kept (λ (q : Fixup). not (is_patched q)) (live_fixups l) in
+    let records = length-filter_map (record_on l page) (filter (stands_on object page) (recorded l)) in
+    let standing = fewer (stands_on object page) (recorded l) in
+    let kept = fewer (λ (q : Fixup). not (is_patched q)) (live_fixups l) in
     let live = few_live (fixups l) in
     omega (arith, records, standing, kept, live)
 
@@ -132,13 +136,13 @@ entries_long name = refl
 residents_few : (name : List ℕ) (xs : List Exported) → length (resident_table name xs) ≤ 1 + length xs
 residents_few name xs =
     let same = length-map (filter (λ x. x.resident) xs) named in
-    let few = few_kept (λ (x : Exported). x.resident) xs in
+    let few = fewer (λ (x : Exported). x.resident) xs in
     omega (arith, same, few)
 
 others_few : (name about : List ℕ) (xs : List Exported) → length (other_table name about xs) ≤ 1 + length xs
 others_few name about xs =
     let same = length-map (filter (λ x. not x.resident) xs) named in
-    let few = few_kept (λ (x : Exported). not x.resident) xs in
+    let few = fewer (λ (x : Exported). not x.resident) xs in
     omega (arith, same, few)
 
 names_within : (ns : List Named) → AllByRecursion NameFits ns → length ns ≤ 2 → length (names_spelling ns) ≤ 517

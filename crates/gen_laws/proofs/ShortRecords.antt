@@ -1,6 +1,6 @@
 -- How many bytes the fixup records of a page have at most, by how many fixups it has.
-use Rattle.std.specs.Prelude.{◌≡◌, ℕ, suc, ◌*◌, ◌≤◌, Bool, true, false, cond, List, [], ◌∷◌, ◌++◌, Option, Some, None, ℤ, filter, int_le, length, refl}
-use Rattle.std.specs.List.{AllByRecursion, cons_option, filter_map, flat_map, list_any}
+use Rattle.std.specs.Prelude.{◌≡◌, ℕ, suc, ◌*◌, ◌≤◌, Bool, true, false, cond, List, [], ◌∷◌, ◌++◌, ℤ, int_le, length, refl}
+use Rattle.std.specs.List.{AllByRecursion, flat_map, list_any}
 use Rattle.std.proofs.Common.{ap, arith, length-append}
 use Rattle.std.proofs.lemmas.List.{length-map}
 use Rattle.lx_bytes.specs.LittleEndian.{little_bytes}
@@ -137,18 +137,6 @@ few_records fs =
     omega (arith, long, few, same)
 
 -- ---- how many fixups there are
-
-pub few_kept : {X : Type 0} (test : X → Bool) (xs : List X) → length (filter test xs) ≤ length xs
-few_kept test [] = omega arith
-few_kept test (x ∷ xs) = few_either (test x) x (filter test xs) (length xs) (few_kept test xs)
-
-few_more : {Y : Type 0} (o : Option Y) (ys : List Y) (n : ℕ) → length ys ≤ n → length (cons_option o ys) ≤ suc n
-few_more None ys n few = omega (arith, few)
-few_more (Some y) ys n few = omega (arith, few)
-
-pub few_mapped : {X Y : Type 0} (f : X → Option Y) (xs : List X) → length (filter_map f xs) ≤ length xs
-few_mapped f [] = omega arith
-few_mapped f (x ∷ xs) = few_more (f x) (filter_map f xs) (length xs) (few_mapped f xs)
 
 few_left : (b : Bool) (q : Fixup) (qs : List Fixup) (n : ℕ) → length qs ≤ n → length (cond b qs (q ∷ qs)) ≤ suc n
 few_left true q qs n few = omega (arith, few)

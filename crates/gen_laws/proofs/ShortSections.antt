@@ -1,31 +1,12 @@
 -- How many bytes the sections of a file have at most, by how many items they have.
-use Rattle.std.specs.Prelude.{◌≡◌, ℕ, ◌+◌, ◌*◌, ◌≤◌, List, [], ◌∷◌, length, refl}
+use Rattle.std.specs.Prelude.{ℕ, ◌+◌, ◌*◌, ◌≤◌, List, [], ◌∷◌, length}
 use Rattle.std.specs.List.{AllByRecursion, flat_map}
 use Rattle.std.proofs.Common.{arith, length-append}
 use Rattle.lx_bytes.specs.LittleEndian.{little_bytes}
-use Rattle.lx_types.specs.declared.object.PageHead.{PageHead}
 use Rattle.lx_model.specs.NameTables.{ImportFits, NameFits, Named, import_spelling, name_spelling, names_spelling}
-use Rattle.lx_model.specs.TableSpelling.{doublewords, page_spelling, pages_spelling}
 use Rattle.image_model.specs.Image.{PageForm, iterated, plain, zeros}
 use Rattle.image_model.specs.PageTables.{form_data}
 use Rattle.image_model.specs.ReadBack.{FormFits}
-
--- ---- tables of numbers
-
-pub pages_long : (ps : List PageHead) → length (pages_spelling ps) ≡ 8 * length ps
-pages_long [] = refl
-pages_long (p ∷ ps) =
-    let both = length-append (page_spelling p) (pages_spelling ps) in
-    let first : length (page_spelling p) ≡ 8 = refl in
-    let rest = pages_long ps in
-    omega (arith, both, first, rest)
-
-pub doublewords_long : (ns : List ℕ) → length (doublewords ns) ≡ 4 * length ns
-doublewords_long [] = refl
-doublewords_long (n ∷ ns) =
-    let both = length-append (little_bytes 4 n) (doublewords ns) in
-    let rest = doublewords_long ns in
-    omega (arith, both, rest)
 
 -- ---- tables of names
 
