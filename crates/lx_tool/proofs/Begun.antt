@@ -37,45 +37,6 @@ holds_behind [] saves had now are held = held
 holds_behind (load name answer ∷ loads) saves had now are held = holds_behind loads saves had now are.1 held
 holds_behind (save name bytes answer ∷ loads) saves had now are held = absurd are.0
 
--- ---- what was read was begun
-
-load_read : (a : Asked) (call : Call) (item : Item) → IsRead a call item → IsLoadWith a call (λ answer. Unit {0})
-load_read a (load name answer) item is = (is.0, tt)
-load_read a (save name bytes answer) item is = absurd is
-
-load_refused : (a : Asked) (call : Call) (said : Said) → IsRefused a call said → IsLoadWith a call (λ answer. Unit {0})
-load_refused a (load name answer) said is = (is.0, tt)
-load_refused a (save name bytes answer) said is = absurd is
-
-begun_behind : (a : Asked) (call : Call) (item : Item) (asked : List Asked) (calls : List Call) → IsRead a call item → AreBegun asked calls → AreBegun (a ∷ asked) (call ∷ calls)
-begun_behind a call item asked [] is begun = load_read a call item is
-begun_behind a call item asked (next ∷ calls) is begun = ((item, is), begun)
-
-begun_after : (f g : List Asked) (xs ys : List Call) (is : List Item) → AreRead f xs is → AreBegun g ys → AreBegun (f ++ g) (xs ++ ys)
-begun_after [] g [] ys [] one two = two
-begun_after [] g [] ys (i ∷ is) one two = absurd one
-begun_after [] g (x ∷ xs) ys is one two = absurd one
-begun_after (a ∷ f) g [] ys is one two = absurd one
-begun_after (a ∷ f) g (x ∷ xs) ys [] one two = absurd one
-begun_after (a ∷ f) g (x ∷ xs) ys (i ∷ is) one two = begun_behind a x i (f ++ g) (xs ++ ys) one.0 (begun_after f g xs ys is one.1 two)
-
-pub read_begun : (asked : List Asked) (calls : List Call) (items : List Item) → AreRead asked calls items → AreBegun asked calls
-read_begun [] [] [] are = tt
-read_begun [] [] (i ∷ is) are = absurd are
-read_begun [] (x ∷ xs) is are = absurd are
-read_begun (a ∷ f) [] is are = absurd are
-read_begun (a ∷ f) (x ∷ xs) [] are = absurd are
-read_begun (a ∷ f) (x ∷ xs) (i ∷ is) are = begun_behind a x i f xs are.0 (read_begun f xs is are.1)
-
-begun_at : (f after : List Asked) (here : Asked) (xs : List Call) (is : List Item) (call : Call) (said : Said) → AreRead f xs is → IsRefused here call said → AreBegun (f ++ here ∷ after) (xs ++ call ∷ [])
-begun_at f after here xs is call said are refused = begun_after f (here ∷ after) xs (call ∷ []) is are (load_refused here call said refused)
-
-pub stopped_begun : (asked : List Asked) (calls : List Call) (said : Said) → IsStopped asked calls said → AreBegun asked calls
-stopped_begun asked calls said is =
-    let P : List Asked → Type 0 = λ f. AreBegun f calls in
-    let Q : List Call → Type 0 = λ xs. AreBegun (is.before ++ is.here ∷ is.after) xs in
-    subst P (sym is.are) (subst Q (sym is.calls_are) (begun_at is.before is.after is.here is.earlier is.items is.call said is.read is.refused))
-
 -- ---- no load found no memory
 
 abbrev pub IsPlain : Call → Type 0

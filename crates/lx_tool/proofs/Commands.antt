@@ -1,7 +1,8 @@
 -- What each command does, from what its steps answer.
-use Rattle.std.proofs.Common.{◌≡◌, ℕ, ◌<◌, ◌≤◌, Bool, true, false, List, [], ◌∷◌, length, Option, Some, None, Result, Ok, Err, ◌∙◌, ap, sym, subst, refl, arith, codes, nat_le}
+use Rattle.std.proofs.Common.{◌≡◌, ℕ, Bool, true, false, List, [], ◌∷◌, length, Option, Some, None, Result, Ok, Err, ◌∙◌, ap, sym, subst, refl, codes, nat_le}
 use Rattle.std.specs.Prelude.{IfOk, option_map, if◌then◌else◌}
 use Rattle.std.proofs.lemmas.List.{append-nil}
+use Rattle.std.proofs.lemmas.Bool.{lt-leb, le-leb}
 use Rattle.lx_types.specs.Answers.{Answers}
 use Rattle.lx_types.specs.declared.fail.Fail.{Fail}
 use Rattle.lx_types.specs.declared.fail.Fail.TheVariants as fail
@@ -35,11 +36,11 @@ use Rattle.lx_answer.specs.Says.{ComesTo, asked_files}
 use Rattle.lx_answer.specs.Words.{Command, image, link, implib, bind, dump}
 use Rattle.tool_read.specs.Steps.{AreLoads, GivesAll, ReadsAll}
 use Rattle.tool_read.specs.declared.bind_files.Binding.{Binding}
+use Rattle.tool_read.proofs.Walk.{read_begun}
 use Rattle.lx_tool.specs.declared.library.ImportLibrary.{ImportLibrary}
 use Rattle.lx_tool.specs.Doing.{Does, DoesLink, DoesOutcome, Keeps}
 use Rattle.lx_tool.specs.ImportLibraries.{IsLibraryOf, IsTooLong}
 use Rattle.lx_tool.specs.Refusals.{Gives, RefusesBy, RefusesLibrary}
-use Rattle.lx_tool.proofs.Begun.{read_begun}
 use Rattle.lx_tool.proofs.Done.{SavesAs, done_begun, done_kept, done_stopped}
 
 -- ---- files that were not all read
@@ -103,12 +104,6 @@ link_done out definition names input calls before between now (Err none) loads a
 
 -- ---- `implib`
 
-le_true : (a b : ℕ) → a ≤ b → nat_le a b ≡ true
-le_true a b le = grind (arith, le)
-
-le_false : (a b : ℕ) → b < a → nat_le a b ≡ false
-le_false a b lt = grind (arith, lt)
-
 saves_if : (b : Bool) (name bytes text why : List ℕ) → SavesAs (name ∷ []) (if b then kept name bytes text else refused name why).saved
 saves_if true name bytes text why = refl
 saves_if false name bytes text why = tt
@@ -125,7 +120,7 @@ library_kept out imports library line before now r is line_is does =
     let P : Outcome → Type 0 = λ o. DoesOutcome o before now r in
     let same : kept out library.bytes.items line ≡ implib_outcome out imports =
     (λ k. kept out (is.written.bytes_are k) ((line_is ∙ ap (λ n. exports_line n) is.count) k))
-    ∙ sym (ap (λ b. if b then kept out (library_bytes (modules_of imports)) (exports_line (length imports)) else refused out (codes "LibraryLong")) (le_true (library_len (modules_of imports)) file_limit is.written.short)) in
+    ∙ sym (ap (λ b. if b then kept out (library_bytes (modules_of imports)) (exports_line (length imports)) else refused out (codes "LibraryLong")) (le-leb (library_len (modules_of imports)) file_limit is.written.short)) in
     subst P same does
 
 pub library_refused : (out : List ℕ) (imports : List Imp) (why : Fail LibraryLong) (state : FilesState) (r : Result Said NoMemory) → ((refusal : LibraryLong) → why ≡ fail.Said refusal → IsTooLong imports)
@@ -134,7 +129,7 @@ library_refused out imports (fail.Said refusal) state (Ok said) long same =
     let P : Outcome → Type 0 = λ o. Keeps o state state said in
     let at : says_only said ≡ implib_outcome out imports =
     ap (λ s. says_only s) same
-    ∙ sym (ap (λ b. if b then kept out (library_bytes (modules_of imports)) (exports_line (length imports)) else refused out (codes "LibraryLong")) (le_false (library_len (modules_of imports)) file_limit (long refusal refl))) in
+    ∙ sym (ap (λ b. if b then kept out (library_bytes (modules_of imports)) (exports_line (length imports)) else refused out (codes "LibraryLong")) (lt-leb (library_len (modules_of imports)) file_limit (long refusal refl))) in
     subst P at (says_alone said state)
 library_refused out imports (fail.Said refusal) state (Err none) long same = refl
 library_refused out imports fail.NoMemory state (Ok said) long same = absurd same

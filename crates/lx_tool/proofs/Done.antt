@@ -4,6 +4,7 @@ use Rattle.std.proofs.lemmas.List.{append-nil}
 use Rattle.std.specs.Prelude.{IfOk, IfSome, MatchResult}
 use Rattle.std.specs.List.{AllByRecursion}
 use Rattle.lx_types.specs.declared.fail.NoMemory.{NoMemory}
+use Rattle.lx_types.proofs.Lists.{all_joined}
 use Rattle.lx_ports.specs.Calls.{Call, save}
 use Rattle.lx_ports.specs.Files.{Contents, FilesState}
 use Rattle.lx_answer.specs.declared.said.Said.{Said}
@@ -16,8 +17,10 @@ use Rattle.lx_answer.specs.Reading.{Item}
 use Rattle.lx_answer.specs.Says.{ComesTo, Finishes, IsDone, SaysCommand, asked_files}
 use Rattle.lx_answer.specs.Words.{Command, image, link, implib, bind, gen, dump, link_map}
 use Rattle.tool_read.specs.Steps.{AreLoads}
+use Rattle.tool_read.proofs.Walk.{read_begun}
+use Rattle.session_files.proofs.Lines.{stopped_begun}
 use Rattle.lx_tool.specs.Doing.{Does, DoesOutcome, DoesWords, Keeps, Runs}
-use Rattle.lx_tool.proofs.Begun.{begun_loads, holds_behind, no_saves, read_begun, stopped_begun}
+use Rattle.lx_tool.proofs.Begun.{begun_loads, holds_behind, no_saves}
 
 -- ---- what is said, by the files that are read
 
@@ -93,10 +96,6 @@ saves_told c None outcome saves said finished =
 saves_told c (Some saved) outcome saves said finished =
     let P : List Call → Type 0 = λ cs. AllByRecursion (IsTold c) cs in
     subst P (sym finished.calls_are) (tt, tt)
-
-all_joined : {X : Type 0} (P : X → Type 0) (xs ys : List X) → AllByRecursion P xs → AllByRecursion P ys → AllByRecursion P (xs ++ ys)
-all_joined P [] ys one two = two
-all_joined P (x ∷ xs) ys one two = (one.0, all_joined P xs ys one.1 two)
 
 told_behind : (had : Option Contents) (loads saves : List Call) (saved : Option Saved) (outcome : Outcome) (said : Said) → Finishes saved outcome saves said
     → IfSome had (λ c. AllByRecursion (IsTold c) loads) → IfSome had (λ c. AllByRecursion (IsTold c) (loads ++ saves))

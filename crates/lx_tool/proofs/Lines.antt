@@ -1,14 +1,9 @@
 -- The text of an object's bytes, line by line.
-use Rattle.std.proofs.Common.{◌≡◌, ℕ, zero, suc, ◌+◌, ◌-◌, ◌*◌, ◌≤◌, min, List, [], ◌∷◌, ◌++◌, length, take, drop, sym, ◌∙◌, ap, refl, arith, append_assoc, add-zero, add-one, zero-add, length-drop}
+use Rattle.std.proofs.Common.{◌≡◌, ℕ, ◌+◌, ◌-◌, ◌*◌, ◌≤◌, min, List, [], ◌∷◌, ◌++◌, length, take, drop, sym, ◌∙◌, ap, refl, arith, append_assoc, add-one, zero-add, length-drop}
 use Rattle.std.proofs.lemmas.List.{take_min, flat_map_more}
 use Rattle.std.specs.List.{flat_map, range_with_len}
+use Rattle.lx_types.proofs.Lists.{range-push}
 use Rattle.lx_answer.specs.ImageText.{line, line_of}
-
-range_more : (a n : ℕ) → range_with_len a (suc n) ≡ range_with_len a n ++ (a + n) ∷ []
-range_more a zero = ap (λ (k : ℕ). k ∷ []) (sym (add-zero a))
-range_more a (suc n) =
-    let same : (a + 1) + n ≡ a + suc n = omega arith in
-    ap (λ (l : List ℕ). a ∷ l) (range_more (a + 1) n ∙ ap (λ (k : ℕ). range_with_len (a + 1) n ++ k ∷ []) same)
 
 -- a piece that ends with the list at the latest
 pub piece : (bytes : List ℕ) (start end : ℕ) → end ≡ min (start + 16) (length bytes) → start ≤ length bytes → take (end - start) (drop start bytes) ≡ take 16 (drop start bytes)
@@ -21,7 +16,7 @@ lines_more : (f : ℕ → List ℕ) (number : ℕ) (text : List ℕ) → text �
 lines_more f number text so_far =
     ap (λ (l : List ℕ). l ++ f number) so_far
     ∙ flat_map_more f [] (range_with_len 0 number) number
-    ∙ ap (λ (l : List ℕ). flat_map f l) (sym (rw add-one (range_more 0 number ∙ ap (λ (k : ℕ). range_with_len 0 number ++ k ∷ []) (zero-add number))))
+    ∙ ap (λ (l : List ℕ). flat_map f l) (sym (rw add-one (range-push 0 number ∙ ap (λ (k : ℕ). range_with_len 0 number ++ k ∷ []) (zero-add number))))
 
 -- the same behind other text
 pub lines_behind : (f : ℕ → List ℕ) (number : ℕ) (start text : List ℕ) → text ≡ start ++ flat_map f (range_with_len 0 number) → text ++ f number ≡ start ++ flat_map f (range_with_len 0 (number + 1))

@@ -6,6 +6,7 @@ use Rattle.std.specs.Option.{option_map}
 use Rattle.std.proofs.lemmas.List.Folds.{flat_map-map}
 use Rattle.std.proofs.lemmas.List.FromFn.{length-map-range_with_len}
 use Rattle.lx_types.specs.Addresses.{SHARED_END}
+use Rattle.lx_types.proofs.Options.{mapped_none}
 use Rattle.obj_types.specs.declared.object.ObjModule.{ObjModule}
 use Rattle.link_model.specs.declared.refusals.LinkRefusal.{LinkRefusal}
 use Rattle.link_model.specs.declared.symbols.LaidObject.{LaidObject}
@@ -26,6 +27,7 @@ use Rattle.lx_answer.specs.FileLine.{file_line}
 use Rattle.lx_answer.specs.ImageAnswer.{NAME, ShowsObject, image_refusal, memory_of, memory_text}
 use Rattle.lx_answer.specs.LinkAnswer.{link_text}
 use Rattle.lx_answer.specs.Outcome.{refused_or, says_only, shown}
+use Rattle.mod_graph.proofs.Gathered.{never_some}
 use Rattle.lx_tool.specs.Refusals.{image_text_of}
 use Rattle.lx_tool.specs.Rows.{FitsBase, Row, row_text}
 
@@ -46,12 +48,9 @@ row_fits l q within =
     let low : q.1.base + q.1.size ≤ SHARED_END = grind (arith, within) in
     omega (arith, size, low)
 
-none_some : {X : Type 0} (x : X) → Some x ≡ None → ⊥
-none_some x same = cc
-
 rows_fit_by : (l : Link) (q : Numbered) (qs : List Numbered) (b : Bool) → past_end q ≡ b → (if b then Some q else find past_end qs) ≡ None
     → (find past_end qs ≡ None → AllByRecursion FitsBase (map (row_of l) qs)) → AllByRecursion FitsBase (map (row_of l) (q ∷ qs))
-rows_fit_by l q qs true at some rest = absurd (none_some q some)
+rows_fit_by l q qs true at some rest = absurd (never_some q some)
 rows_fit_by l q qs false at none rest = (row_fits l q at, rest none)
 
 rows_fit : (l : Link) (qs : List Numbered) → find past_end qs ≡ None → AllByRecursion FitsBase (map (row_of l) qs)
@@ -67,17 +66,13 @@ all_of P (x ∷ xs) are (suc k) d within = all_of P xs are.1 k d (omega (arith, 
 
 first_none : {X : Type 0} (x : Option X) (xs : List (Option X)) → first_of (x ∷ xs) ≡ None → (x ≡ None) × (first_of xs ≡ None)
 first_none None xs none = (refl, none)
-first_none (Some x) xs none = absurd (none_some x none)
-
-map_none : {X Y : Type 0} (f : X → Y) (o : Option X) → option_map f o ≡ None → o ≡ None
-map_none f None none = refl
-map_none f (Some x) none = absurd (none_some (f x) none)
+first_none (Some x) xs none = absurd (never_some x none)
 
 full_none : (l : Link) → memory.image_refusal l ≡ None → find past_end (enumerate_from 1 (objects l)) ≡ None
 full_none l none =
     let linked = first_none (option_map image.Link (link_refusal l)) (memory.no_module l ∷ memory.arena_full l ∷ []) none in
     let alone_is = first_none (memory.no_module l) (memory.arena_full l ∷ []) linked.1 in
-    map_none (λ (q : Numbered). image.ArenaFull q.0 q.1.size) (find past_end (enumerate_from 1 (objects l))) (first_none (memory.arena_full l) [] alone_is.1).0
+    mapped_none (λ (q : Numbered). image.ArenaFull q.0 q.1.size) (find past_end (enumerate_from 1 (objects l))) (first_none (memory.arena_full l) [] alone_is.1).0
 
 pub memory_fits : (l : Link) (rows : List Row) → memory.image_refusal l ≡ None → rows ≡ memory.memory l → All FitsBase rows
 memory_fits l rows none are =

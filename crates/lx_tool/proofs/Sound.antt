@@ -1,7 +1,8 @@
 -- Calls of which none failed are those that the told files have.
-use Rattle.std.proofs.Common.{◌≡◌, ℕ, ◌<◌, ◌≤◌, true, false, List, [], ◌∷◌, length, Option, Some, None, Ok, Err, ap, sym, subst, refl, arith, nat_le}
+use Rattle.std.proofs.Common.{◌≡◌, ℕ, List, [], ◌∷◌, length, Option, Some, None, Ok, Err, ap, sym, subst, refl}
 use Rattle.std.specs.Prelude.{if◌then◌else◌}
 use Rattle.std.specs.List.{AllByRecursion}
+use Rattle.std.proofs.lemmas.Bool.{lt-leb, le-leb}
 use Rattle.lx_ports.specs.Calls.{Call, load, save, is_failed_load, load_faults}
 use Rattle.lx_ports.specs.Files.{Contents, IsLoadOf}
 use Rattle.lx_ports.specs.declared.files.LoadFault.TheVariants as fault
@@ -11,22 +12,16 @@ use Rattle.lx_answer.specs.Loading.{file_limit}
 use Rattle.lx_tool.proofs.Begun.{IsPlain}
 use Rattle.lx_tool.proofs.Counts.{none_behind, not_first}
 
-le_true : (a b : ℕ) → a ≤ b → nat_le a b ≡ true
-le_true a b le = grind (arith, le)
-
-le_false : (a b : ℕ) → b < a → nat_le a b ≡ false
-le_false a b lt = grind (arith, lt)
-
 -- ---- a load
 
 loaded_bytes : (has : Option (List ℕ)) (bytes : List ℕ) → IsLoadOf has file_limit (Ok bytes) → Ok bytes ≡ loaded has
 loaded_bytes has bytes told =
     let P : Option (List ℕ) → Type 0 = λ o. Ok bytes ≡ loaded o in
-    subst P (sym told.0) (sym (ap (λ b. if b then Ok bytes else Err fault.TooLong) (le_true (length bytes) file_limit told.1)))
+    subst P (sym told.0) (sym (ap (λ b. if b then Ok bytes else Err fault.TooLong) (le-leb (length bytes) file_limit told.1)))
 
 too_long : (has : Option (List ℕ)) → IsLoadOf has file_limit (Err fault.TooLong) → Err fault.TooLong ≡ loaded has
 too_long None told = absurd told
-too_long (Some bytes) told = sym (ap (λ b. if b then Ok bytes else Err fault.TooLong) (le_false (length bytes) file_limit told))
+too_long (Some bytes) told = sym (ap (λ b. if b then Ok bytes else Err fault.TooLong) (lt-leb (length bytes) file_limit told))
 
 absent : (has : Option (List ℕ)) → IsLoadOf has file_limit (Err fault.Absent) → Err fault.Absent ≡ loaded has
 absent has told =

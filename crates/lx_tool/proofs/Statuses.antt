@@ -21,9 +21,11 @@ use Rattle.lx_answer.specs.Outcome.{Outcome, Saved, shown, kept, refused, refuse
 use Rattle.lx_answer.specs.Reading.{Item, object, library, definition, linked, session, resources}
 use Rattle.lx_answer.specs.Says.{ComesTo, Finishes, IsDone, SaysCommand, asked_files, said_after}
 use Rattle.lx_answer.specs.Words.{Command, image, link, implib, bind, gen, dump, link_map}
+use Rattle.session_files.proofs.Lines.{stopped_begun}
+use Rattle.tool_read.proofs.Walk.{read_begun}
 use Rattle.lx_tool.proofs.Counts.{count-append}
 use Rattle.lx_tool.proofs.Generated.{saves_say}
-use Rattle.lx_tool.proofs.Begun.{IsPlain, begun_loads, no_saves, plain_joined, read_begun, read_plain, stopped_begun, stopped_plain}
+use Rattle.lx_tool.proofs.Begun.{IsPlain, begun_loads, no_saves, plain_joined, read_plain, stopped_plain}
 
 -- ---- outcomes
 

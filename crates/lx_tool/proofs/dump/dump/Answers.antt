@@ -3,8 +3,9 @@ use Rattle.lx_types.specs.declared.parts.Parts.{Parts}
 use Rattle.lx_answer.specs.Reading.{Item, linked, module_file}
 use Rattle.lx_answer.specs.Words.{dump}
 use Rattle.tool_read.specs.Readings.{asked}
+use Rattle.tool_read.proofs.Walk.{one_load}
 use Rattle.lx_tool.proofs.Commands.{dump_done, not_read}
-use Rattle.lx_tool.proofs.OneLoad.{one_load, one_read, one_refused}
+use Rattle.lx_tool.proofs.OneLoad.{one_read, one_refused}
 use Rattle.lx_tool.proofs.dump.dump.Goals as goal
 
 pub returns-in-Ok : goal.returns-in-Ok

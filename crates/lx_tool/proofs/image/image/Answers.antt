@@ -3,8 +3,9 @@ use Rattle.obj_types.specs.declared.object.ObjModule.{ObjModule}
 use Rattle.lx_answer.specs.Reading.{Item, object, object_file}
 use Rattle.lx_answer.specs.Words.{image}
 use Rattle.tool_read.specs.Readings.{asked}
+use Rattle.tool_read.proofs.Walk.{one_load}
 use Rattle.lx_tool.proofs.Commands.{image_done, not_read}
-use Rattle.lx_tool.proofs.OneLoad.{one_load, one_read, one_refused}
+use Rattle.lx_tool.proofs.OneLoad.{one_read, one_refused}
 use Rattle.lx_tool.proofs.image.image.Goals as goal
 
 pub returns-in-Ok : goal.returns-in-Ok
