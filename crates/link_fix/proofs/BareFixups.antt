@@ -3,6 +3,7 @@ use Rattle.std.specs.Prelude.{◌≡◌, ℕ, ◌+◌, ◌-◌, ◌<◌, Bool, t
 use Rattle.std.specs.Option.{option_map, option_map_or, option_and_then}
 use Rattle.std.specs.List.{filter_map, flat_map, cons_option, list_any, range_with_len, enumerate_from, All}
 use Rattle.std.proofs.Common.{ap, sym, ◌∙◌, arith, subst, true≢false}
+use Rattle.std.proofs.Math.Bool.{and-false}
 use Rattle.std.proofs.lemmas.Bool.{eqb-true}
 use Rattle.std.proofs.lemmas.List.Elements.{All-nil, All-cons, All-head, All-tail, All-append, All-filter}
 use Rattle.lx_types.specs.Addresses.{UNIT}
@@ -80,14 +81,10 @@ no_frame : (o : Option ℕ) → option_any (λ o. option_any (λ f. not (f == o)
 no_frame None = refl
 no_frame (Some o) = refl
 
-and_false : (a : Bool) → (a && false) ≡ false
-and_false true = refl
-and_false false = refl
-
 apart_bare : (q : Fixup) → is_frame_apart (bare q) ≡ false
 apart_bare q =
     ap (λ (b : Bool). not q.fix.selfrel && not (q.fix.loc == 9 || q.fix.loc == 13) && b) (no_frame (object_of_target q.target))
-    ∙ and_false (not q.fix.selfrel && not (q.fix.loc == 9 || q.fix.loc == 13))
+    ∙ and-false (not q.fix.selfrel && not (q.fix.loc == 9 || q.fix.loc == 13))
 
 still_none : (far far' apart constant none : Bool) (x y z u v w : FixRefusal) → far' ≡ far → none ≡ false
     → cond far (Some x) (cond apart (Some y) (cond constant (Some z) None)) ≡ None → cond far' (Some u) (cond none (Some v) (cond constant (Some w) None)) ≡ None
@@ -117,7 +114,7 @@ constant_accepted : (q : Fixup) (v : ℕ) → fix_refusal (bare (with_target q (
 unfolding fix_refusal
 constant_accepted q v e =
     let r : Fixup = with_target q (Constant v) in
-    still_none (is_far_self (bare r)) (is_far_self r) (is_frame_apart (bare r)) (is_const_selector r) (is_frame_apart r) _ _ _ _ _ _ refl (and_false (not q.fix.selfrel && not (q.fix.loc == 9 || q.fix.loc == 13))) e
+    still_none (is_far_self (bare r)) (is_far_self r) (is_frame_apart (bare r)) (is_const_selector r) (is_frame_apart r) _ _ _ _ _ _ refl (and-false (not q.fix.selfrel && not (q.fix.loc == 9 || q.fix.loc == 13))) e
 
 patched_bare :
     (l : Link) (q : Fixup) (t : Target) → fix_refusal (bare (with_target q t)) ≡ None → 0 < location_len q.fix.loc → is_patched (with_target q t) ≡ true
@@ -130,7 +127,7 @@ patched_bare l q (Constant v) accepted h e =
     constant_value l (bare q) v accepted h
     ∙ ap (little_bytes (location_len q.fix.loc)) (same_sum v q.fix.disp q.standing)
     ∙ sym (constant_value l q v (constant_accepted q v accepted) h)
-patched_bare l q (Entry slot) accepted h e = absurd (true≢false (sym e ∙ and_false q.fix.selfrel))
+patched_bare l q (Entry slot) accepted h e = absurd (true≢false (sym e ∙ and-false q.fix.selfrel))
 
 patch_by : (b : Bool) (v w : ℕ) → (b ≡ true → v ≡ w) → cond b v 0 ≡ cond b w 0
 patch_by true v w e = e refl

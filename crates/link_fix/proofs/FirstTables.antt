@@ -5,6 +5,7 @@ use Rattle.std.specs.Cmp.Lexicographic.{nat_list_eq_equiv}
 use Rattle.std.proofs.Common.{ap, sym, ◌∙◌, arith}
 use Rattle.std.proofs.lemmas.Bool.Decides.{nat_tests}
 use Rattle.std.proofs.lemmas.List.{length-map, map-append}
+use Rattle.lx_types.proofs.Bools.{some_by}
 use Rattle.first_table.specs.Entries.{is_named, with_entry}
 use Rattle.link_model.specs.Appearance.{firsts}
 use Rattle.link_model.proofs.Tables.{firsts-push}
@@ -35,10 +36,6 @@ less_by false c k n e = e ∙ grind (arith, nat_tests)
 any-less : (test : List ℕ → Bool) (names : List (List ℕ)) → list_any test names ≡ nat_lt (position_or_len test names) (length names)
 any-less test [] = refl
 any-less test (n ∷ ns) = less_by (test n) (list_any test ns) (position_or_len test ns) (length ns) (any-less test ns)
-
-some_by : (b : Bool) (k : ℕ) → is_some (cond b (Some k) None) ≡ b
-some_by true k = refl
-some_by false k = refl
 
 pub some-position : (test : List ℕ → Bool) (names : List (List ℕ)) → is_some (position test names) ≡ list_any test names
 some-position test names = some_by (nat_lt (position_or_len test names) (length names)) (position_or_len test names) ∙ sym (any-less test names)

@@ -35,7 +35,7 @@ pub map-same : {X Y : Type 0} (f g : X → Y) (xs : List X) → ((x : X) → f x
 map-same f g [] same = refl
 map-same {X} {Y} f g (x ∷ xs) same = ap (λ (y : Y). y ∷ map f xs) (same x) ∙ ap (λ (ys : List Y). g x ∷ ys) (map-same f g xs same)
 
-filter_map-same : {X Y : Type 0} (f g : X → Option Y) (xs : List X) → ((x : X) → f x ≡ g x) → filter_map f xs ≡ filter_map g xs
+pub filter_map-same : {X Y : Type 0} (f g : X → Option Y) (xs : List X) → ((x : X) → f x ≡ g x) → filter_map f xs ≡ filter_map g xs
 filter_map-same f g [] same = refl
 filter_map-same {X} {Y} f g (x ∷ xs) same =
     ap (λ (o : Option Y). cons_option o (filter_map f xs)) (same x) ∙ ap (λ (ys : List Y). cons_option (g x) ys) (filter_map-same f g xs same)

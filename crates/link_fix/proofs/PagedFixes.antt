@@ -14,7 +14,7 @@ use Rattle.link_fix.specs.Shown.{shown}
 use Rattle.link_fix.specs.Paging.{record_among, records_among}
 use Rattle.link_fix.proofs.NumberedLists.{numbered-more}
 
-one_option : {Y : Type 0} (o : Option Y) → cons_option o [] ≡ option_to_list o
+pub one_option : {Y : Type 0} (o : Option Y) → cons_option o [] ≡ option_to_list o
 one_option (Some y) = refl
 one_option None = refl
 

@@ -1,9 +1,10 @@
 -- One more pair in the import tables.
-use Rattle.std.specs.Prelude.{◌≡◌, ℕ, ◌+◌, ◌<◌, List, [], ◌∷◌, ◌++◌, Option, Some, None, map, take, length, bytes_eq, option_to_list, refl}
-use Rattle.std.specs.List.{filter_map, cons_option}
+use Rattle.std.specs.Prelude.{◌≡◌, ℕ, ◌+◌, ◌<◌, List, [], ◌∷◌, ◌++◌, Option, map, take, length, bytes_eq, option_to_list}
+use Rattle.std.specs.List.{filter_map}
 use Rattle.std.proofs.Common.{ap, sym, ◌∙◌, subst, get_or}
 use Rattle.std.proofs.lemmas.List.{map-append, take_more, get_or_default}
 use Rattle.std.proofs.lemmas.List.Elements.{filter_map-append}
+use Rattle.link_fix.proofs.PagedFixes.{one_option}
 use Rattle.lx_types.specs.Names.{uppercase}
 use Rattle.obj_types.specs.declared.symbol.Imp.{Imp}
 use Rattle.link_model.specs.Appearance.{firsts}
@@ -14,10 +15,6 @@ use Rattle.link_fix.specs.declared.tables.FirstNames.{FirstNames}
 use Rattle.link_fix.specs.declared.tables.ImportTables.{ImportTables}
 use Rattle.link_fix.specs.Shown.{shown, target_shown}
 use Rattle.link_fix.specs.Tables.{AreFirst, ArePairs, pair_among, pairs_among}
-
-one_option : {Y : Type 0} (o : Option Y) → cons_option o [] ≡ option_to_list o
-one_option (Some y) = refl
-one_option None = refl
 
 pub pairs-push :
     (old new : ImportTables) (mid : FirstNames) (pairs : List Imp) (pair : Imp) (name : List ℕ) → name ≡ uppercase pair.module → ArePairs old pairs

@@ -1,7 +1,7 @@
 -- Values that no base changes.
 use Rattle.std.specs.Prelude.{◌≡◌, ℕ, zero, suc, ◌+◌, ◌<◌, ◌≤◌, ◌/◌, Bool, true, false, cond, ◌&&◌, ◌==◌, List, ◌++◌, Some, None, unwrap_or, refl}
-use Rattle.std.proofs.Common.{ap, sym, ◌∙◌, arith, get_or, true≢false}
-use Rattle.std.proofs.lemmas.Bool.{eqb-true}
+use Rattle.std.proofs.Common.{ap, ◌∙◌, arith, get_or, true≢false}
+use Rattle.std.proofs.lemmas.Bool.{eqb-true, and_parts}
 use Rattle.std.proofs.lemmas.Bool.Decides.{nat_tests}
 use Rattle.lx_bytes.specs.LittleEndian.{little_bytes}
 use Rattle.obj_types.specs.Items.{item}
@@ -28,10 +28,6 @@ base_cancels b x d s y n = omega arith
 constant_sum : (v d s : ℕ) → wrapped (wrapped (v + d) + s) ≡ wrapped (v + (d + s))
 constant_sum v d s = omega arith
 
-both : (a b : Bool) → (a && b) ≡ true → (a ≡ true) × (b ≡ true)
-both true b e = (refl, e)
-both false b e = absurd (true≢false (sym e))
-
 -- The fixup with another target.
 abbrev pub with_target : Fixup → Target → Fixup
 with_target q t = record q { target = t }
@@ -46,7 +42,7 @@ internal_value l q o x e =
     let w : World = linked_world l in
     let r : Fixup = with_target q (Internal o x) in
     let n : ℕ = location_len q.fix.loc in
-    let two : (q.fix.selfrel ≡ true) × ((o == q.object) ≡ true) = both q.fix.selfrel (o == q.object) e in
+    let two : (q.fix.selfrel ≡ true) × ((o == q.object) ≡ true) = and_parts q.fix.selfrel (o == q.object) e in
     let same : o ≡ q.object = eqb-true o q.object two.1 in
     let at : ℕ → ℕ = λ k. difference (wrapped (wrapped (wrapped (base_in l k + x) + q.fix.disp) + q.standing)) (wrapped (base_in l q.object + q.offset) + n) in
     ap (λ (s : Bool). cond s (relative_to_self q.fix.loc (place_address w q.object q.offset) (sum_number l w r)) (relative_to_segment q.fix.loc (target_number l w r) (sum_number l w r) (target_flags l w r.target) q.narrow)) two.0
