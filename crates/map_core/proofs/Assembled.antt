@@ -4,22 +4,20 @@ use Rattle.std.specs.Prelude.{filter, not, if◌then◌else◌, cond}
 use Rattle.std.specs.List.{flat_map, filter_map, cons_option, enumerate_from}
 use Rattle.std.specs.Option.{option_map, option_and_then}
 use Rattle.std.proofs.lemmas.List.Elements.{filter_map-append}
+use Rattle.link_place.proofs.Located.{symbol_is}
 use Rattle.lx_types.specs.Names.{uppercase}
 use Rattle.obj_types.specs.declared.object.Seg.{Seg}
 use Rattle.obj_types.specs.declared.object.ObjModule.{ObjModule}
 use Rattle.obj_types.specs.declared.symbol.Pub.{Pub}
 use Rattle.obj_types.specs.declared.symbol.Common.{Common}
 use Rattle.link_model.specs.declared.symbols.LaidObject.{LaidObject}
-use Rattle.link_model.specs.declared.symbols.SymDef.{SymDef}
-use Rattle.link_model.specs.declared.symbols.SymDef.TheVariants as means
 use Rattle.link_model.specs.Link.{Link}
 use Rattle.link_model.specs.Layout.{objects, spot, common_spot}
 use Rattle.link_model.specs.Symbols.{commons, imports, at_place}
-use Rattle.link_model.specs.Goals.{Target, internal, shifted, of_symbol}
+use Rattle.link_model.specs.Goals.{Target}
 use Rattle.sym_table.specs.Symbols.{SymbolTable}
 use Rattle.sym_table.specs.Binding.{AreSymbolsOf}
 use Rattle.seg_merge.specs.declared.layout.Layout.{Layout}
-use Rattle.seg_merge.specs.declared.places.Places.{Places}
 use Rattle.seg_merge.specs.Places.{ArePlaces}
 use Rattle.seg_merge.specs.Layout.{IsLaidOut}
 use Rattle.link_place.specs.Fixed.{symbol_at}
@@ -89,12 +87,6 @@ commons-are l lay h (q ∷ qs) =
 
 -- ---- publics
 
-symbol-is : (l : Link) (p : Places) (d : SymDef) → ArePlaces l p → symbol_at p d ≡ of_symbol l d
-symbol-is l p (means.In n seg offset) h = ap (λ (o : Option (ℕ × ℕ)). internal (option_map (shifted offset) o)) (h.spots n seg)
-symbol-is l p (means.Const value) h = refl
-symbol-is l p (means.Common slot) h = ap internal (h.commons slot)
-symbol-is l p (means.Import slot) h = refl
-
 -- What is picked of publics by what they stand for.
 abbrev picked_in : (List ℕ → Target → Option Listed) → Layout → ℕ → Pub → Option Listed
 picked_in pick lay n p = option_and_then (pick p.name) (meaning_in lay n p)
@@ -116,7 +108,7 @@ pubs-are pick l lay h n (p ∷ ps) = by p.local (pubs-are pick l lay h n ps)
     by true r = r
     by false r =
         ap (λ (xs : List Listed). cons_option (option_and_then (pick p.name) (symbol_at lay.places (at_place n p.place))) xs) r
-        ∙ ap (λ (o : Option Target). cons_option (option_and_then (pick p.name) o) (filter_map (picked_of pick l) (paired n ps))) (symbol-is l lay.places (at_place n p.place) h)
+        ∙ ap (λ (o : Option Target). cons_option (option_and_then (pick p.name) o) (filter_map (picked_of pick l) (paired n ps))) (symbol_is l lay.places (at_place n p.place) h)
 
 publics-are : (pick : List ℕ → Target → Option Listed) (l : Link) (lay : Layout) → ArePlaces l lay.places → (ms : List (ℕ × ObjModule))
     → flat_map (λ q. filter_map (picked_in pick lay q.0) q.1.pubs) ms ≡ filter_map (picked_of pick l) (flat_map (λ q. paired q.0 q.1.pubs) ms)

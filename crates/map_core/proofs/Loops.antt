@@ -1,11 +1,12 @@
 -- Steps of loops over items that are numbered, and over items of which some are taken.
-use Rattle.std.proofs.Common.{◌≡◌, ◌∙◌, ℕ, ◌+◌, ◌<◌, List, [], ◌∷◌, ◌++◌, Option, Some, None, length, map, take, get_or, ap, sym, refl, arith, append_assoc}
+use Rattle.std.proofs.Common.{◌≡◌, ◌∙◌, ℕ, ◌+◌, ◌<◌, List, [], ◌∷◌, ◌++◌, Option, length, map, take, get_or, ap, sym, arith, append_assoc}
 use Rattle.std.specs.Prelude.{option_to_list}
 use Rattle.std.specs.Borrow.{Bor}
-use Rattle.std.specs.List.{flat_map, filter_map, cons_option, enumerate_from}
+use Rattle.std.specs.List.{flat_map, filter_map, enumerate_from}
 use Rattle.std.proofs.Math.Nat.{add-zero}
 use Rattle.std.proofs.lemmas.List.{append-nil, map-append, take_more, length-take-le, length-map}
 use Rattle.std.proofs.lemmas.List.Elements.{filter_map-append}
+use Rattle.link_fix.proofs.PagedFixes.{one_option}
 
 -- What the last of some numbered items gives comes last.
 numbered-last : {X Y : Type 0} (text : ℕ × X → List Y) (b : ℕ) (xs : List X) (x : X)
@@ -44,10 +45,6 @@ lent-pushed {X} {Y} text b n xs i x start old new h is number was made =
     let long = length-map (take i xs) (λ (y : Bor X). y.now) ∙ length-take-le i xs (omega (arith, h)) in
     pushed-behind text b n (map (λ y. y.now) (take i xs)) x.now start old new (omega (arith, number, long, h)) was made
     ∙ ap (λ (ys : List X). start ++ flat_map text (enumerate_from b ys)) (sym (map-append (λ (y : Bor X). y.now) (take i xs) (x ∷ [])) ∙ ap (map (λ (y : Bor X). y.now)) (up-to xs i x h is))
-
-one_option : {Y : Type 0} (o : Option Y) → cons_option o [] ≡ option_to_list o
-one_option (Some y) = refl
-one_option None = refl
 
 -- A loop's step: what is taken of the item at i.
 pub taken-pushed : {X Y : Type 0} (f : X → Option Y) (xs : List X) (i : ℕ) (x : X) (o : Option Y) (start old new : List Y) → i < length xs → x ≡ get_or xs i x
