@@ -1,23 +1,16 @@
 -- The map of an input, from that of its plan.
-use Rattle.std.proofs.Common.{◌≡◌, ℕ, List, Option, None, ap, sym, subst, refl}
+use Rattle.std.proofs.Common.{◌≡◌, ℕ, List, None, sym, subst, refl}
 use Rattle.obj_types.specs.declared.input.LinkInput.{LinkInput}
-use Rattle.link_model.specs.declared.refusals.ComdatRefusal.{ComdatRefusal}
-use Rattle.link_model.specs.declared.symbols.Pick.{Pick}
-use Rattle.link_model.specs.Clash.{comdat_refusal}
 use Rattle.link_model.specs.Kept.{Kept}
 use Rattle.link_model.specs.LayoutRefusals.{lay_refusal}
-use Rattle.link_model.specs.Link.{Link, kept_link, link_of}
+use Rattle.link_model.specs.Link.{Link, link_of}
 use Rattle.lx_exports.specs.Exports.{export_refusal}
 use Rattle.map_model.specs.Maps.{IsMap}
 use Rattle.sym_table.specs.Binding.{IsBound}
 use Rattle.link_core.specs.declared.planning.Plan.{Plan}
 use Rattle.link_core.specs.Planned.{IsPlanned}
-use Rattle.link_core.proofs.Assembled.{accepted}
+use Rattle.link_core.proofs.Assembled.{accepted, joined-is}
 use Rattle.link_map.specs.Mapped.{IsMapped}
-
--- Where no COMDATs clash, an input's link is that of what is kept.
-joined : (input : LinkInput) (picks : List Pick) → comdat_refusal input picks ≡ None → link_of (Kept input) picks ≡ kept_link input picks
-joined input picks none = ap (λ (o : Option ComdatRefusal). let l : Link = record (link_of (Kept input) picks) { clash = o } in l) (sym none)
 
 pub bound_kept : (input kept : LinkInput) (p : Plan) → kept ≡ Kept input → IsPlanned input p → IsBound kept p.syms
 bound_kept input kept p is planned = subst (λ (k : LinkInput). IsBound k p.syms) (sym is) planned.bound
@@ -32,7 +25,7 @@ map_of_plan input kept p text is planned exported map =
     let of_kept : IsMap p.image.name l text = subst (λ (k : LinkInput). IsMap p.image.name (link_of k p.syms.chosen) text) is map in
     record {
       link = l;
-      of_input = record { picks = p.syms.chosen; chosen = planned.bound.chosen; same = joined input p.syms.chosen planned.joined };
+      of_input = record { picks = p.syms.chosen; chosen = planned.bound.chosen; same = joined-is input p.syms.chosen planned.joined };
       accepted = accepted input p planned exported;
       map = subst (λ (name : List ℕ). IsMap name l text) planned.planned.image.name of_kept;
     }
