@@ -56,10 +56,3 @@ pub each_take : {X : Type 0} (P : X → Type 0) (n : ℕ) (xs : List X) → Each
 each_take P zero xs each = tt
 each_take P (suc n) [] each = tt
 each_take P (suc n) (x ∷ xs) each = (each.0, each_take P n xs each.1)
-
-pub each_weaker : {X : Type 0} (P Q : X → Type 0) → ((x : X) → P x → Q x) → (xs : List X) → Each P xs → Each Q xs
-each_weaker P Q f [] each = tt
-each_weaker P Q f (x ∷ xs) each = (f x each.0, each_weaker P Q f xs each.1)
-
-pub filter_same : {X : Type 0} (p q : X → Bool) → ((x : X) → p x ≡ q x) → (xs : List X) → filter p xs ≡ filter q xs
-filter_same {X} p q same xs = ap (λ (t : X → Bool). filter t xs) (λ i x. same x i)

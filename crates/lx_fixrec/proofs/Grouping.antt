@@ -2,6 +2,9 @@
 use Rattle.std.proofs.Common.{◌≡◌, ℕ, zero, suc, Bool, true, false, cond, eqb, ◌&&◌, not, List, [], ◌∷◌, ◌++◌, map, take, refl, sym, ap, ◌∙◌}
 use Rattle.std.proofs.lemmas.List.{length-map}
 use Rattle.std.specs.Prelude.{filter, nat_lt}
+use Rattle.std.proofs.lemmas.List.Elements.{filter_agree}
+use Rattle.std.proofs.Math.Bool.{and-false}
+use Rattle.std.proofs.lemmas.Bool.{and_left}
 use Rattle.lx_types.specs.declared.fix.Fix.{Fix}
 use Rattle.lx_model.specs.Module.{same_target}
 use Rattle.lx_model.specs.Sources.{code_of}
@@ -22,28 +25,18 @@ pub joins_with : (f g : Fix) → crosses f ≡ false → joins f g ≡ is_with (
 joins_with f g within =
     grouped (eqb (code_of f.source) (code_of g.source)) (same_alias f.alias g.alias) (same_target f.target g.target) (eqb f.additive g.additive) (not (crosses f)) (not (crosses g)) (ap not within)
 
-ends_false : (a b : Bool) → a ≡ false → (a && b) ≡ false
-ends_false a b h = rw h refl
-
-pub and_false : (a : Bool) → (a && false) ≡ false
-and_false true = refl
-and_false false = refl
-
 -- one that crosses an end of its page joins none
-joins_none : (f g : Fix) → crosses f ≡ true → joins f g ≡ false
+pub joins_none : (f g : Fix) → crosses f ≡ true → joins f g ≡ false
 joins_none f g crossing =
     let four = eqb (code_of f.source) (code_of g.source) && same_alias f.alias g.alias && same_target f.target g.target && eqb f.additive g.additive in
-    ends_false (four && not (crosses f)) (not (crosses g)) (ap (λ (b : Bool). four && not b) crossing ∙ and_false four)
-
-filter_same : {X : Type 0} (p q : X → Bool) → ((x : X) → p x ≡ q x) → (xs : List X) → filter p xs ≡ filter q xs
-filter_same p q same xs = ap (λ (t : _ → Bool). filter t xs) (λ i x. same x i)
+    and_left (four && not (crosses f)) (not (crosses g)) (ap (λ (b : Bool). four && not b) crossing ∙ and-false four)
 
 filter_none : {X : Type 0} (p : X → Bool) → ((x : X) → p x ≡ false) → (xs : List X) → filter p xs ≡ []
 filter_none p none [] = refl
 filter_none p none (x ∷ xs) = rw (none x) (filter_none p none xs)
 
 pub joined_offsets : (f : Fix) (fs : List Fix) → crosses f ≡ false → map (λ g. g.offset) (filter (joins f) fs) ≡ offsets_with (shared_of f) fs
-joined_offsets f fs within = ap (map (λ g. g.offset)) (filter_same (joins f) (is_with (shared_of f)) (λ g. joins_with f g within) fs)
+joined_offsets f fs within = ap (map (λ g. g.offset)) (filter_agree (joins f) (is_with (shared_of f)) (λ g. joins_with f g within) fs)
 
 pub joined_none : (f : Fix) (fs : List Fix) → crosses f ≡ true → filter (joins f) fs ≡ []
 joined_none f fs crossing = filter_none (joins f) (λ g. joins_none f g crossing) fs

@@ -1,12 +1,14 @@
 -- Sources that join differ in their offsets alone.
-use Rattle.std.proofs.Common.{◌≡◌, ℕ, Bool, true, false, eqb, ◌&&◌, not, refl, sym, ◌∙◌}
+use Rattle.std.proofs.Common.{◌≡◌, ℕ, Bool, true, false, eqb, ◌&&◌, not, sym, ◌∙◌}
+use Rattle.std.proofs.lemmas.Bool.{not-true, and_parts, eqb-true}
+use Rattle.lx_model.proofs.Once.{same_is}
 use Rattle.lx_types.specs.declared.fix.Source.{Source}
 use Rattle.lx_types.specs.declared.fix.FixTarget.{FixTarget}
 use Rattle.lx_types.specs.declared.fix.Fix.{Fix}
 use Rattle.lx_model.specs.Sources.{code_of}
 use Rattle.lx_model.specs.Module.{same_target}
 use Rattle.lx_model.specs.JoinedRecords.{crosses, same_alias, joins}
-use Rattle.lx_fixrec.proofs.Shared.{left, right, equal, alias_is, target_is}
+use Rattle.lx_fixrec.proofs.Shared.{alias_is}
 use Rattle.lx_fixrec.proofs.Others.{source_is}
 
 pub record Joined (f g : Fix) : Type 0 where
@@ -17,27 +19,23 @@ pub record Joined (f g : Fix) : Type 0 where
   pub first_within : crosses f ≡ false
   pub within : crosses g ≡ false
 
-not_false : (b : Bool) → not b ≡ true → b ≡ false
-not_false true h = absurd cc
-not_false false h = refl
-
 pub joined : (f g : Fix) → joins f g ≡ true → Joined f g
 joined f g h =
     let code = eqb (code_of f.source) (code_of g.source) in
     let alias = same_alias f.alias g.alias in
     let target = same_target f.target g.target in
     let additive = eqb f.additive g.additive in
-    let five = left (code && alias && target && additive && not (crosses f)) (not (crosses g)) h in
-    let four = left (code && alias && target && additive) (not (crosses f)) five in
-    let three = left (code && alias && target) additive four in
-    let two = left (code && alias) target three in
+    let five = (and_parts (code && alias && target && additive && not (crosses f)) (not (crosses g)) h).0 in
+    let four = (and_parts (code && alias && target && additive) (not (crosses f)) five).0 in
+    let three = (and_parts (code && alias && target) additive four).0 in
+    let two = (and_parts (code && alias) target three).0 in
     record {
-      source = source_is f.source g.source (equal (code_of f.source) (code_of g.source) (left code alias two));
-      alias = alias_is f.alias g.alias (right code alias two);
-      target = target_is f.target g.target (right (code && alias) target three);
-      additive = equal f.additive g.additive (right (code && alias && target) additive four);
-      first_within = not_false (crosses f) (right (code && alias && target && additive) (not (crosses f)) five);
-      within = not_false (crosses g) (right (code && alias && target && additive && not (crosses f)) (not (crosses g)) h);
+      source = source_is f.source g.source (eqb-true (code_of f.source) (code_of g.source) (and_parts code alias two).0);
+      alias = alias_is f.alias g.alias (and_parts code alias two).1;
+      target = same_is f.target g.target (and_parts (code && alias) target three).1;
+      additive = eqb-true f.additive g.additive (and_parts (code && alias && target) additive four).1;
+      first_within = not-true (crosses f) (and_parts (code && alias && target && additive) (not (crosses f)) five).1;
+      within = not-true (crosses g) (and_parts (code && alias && target && additive && not (crosses f)) (not (crosses g)) h).1;
     }
 
 -- a source is that of its record at its own offset

@@ -3,14 +3,17 @@ use Rattle.std.proofs.Common.{◌≡◌, ℕ, zero, suc, ◌+◌, ◌-◌, ◌<�
 use Rattle.std.specs.Prelude.{filter}
 use Rattle.std.specs.List.{flat_map, AllByRecursion as Each}
 use Rattle.std.proofs.lemmas.Bool.Decides.{nat_tests}
-use Rattle.std.proofs.lemmas.List.Elements.{filter-append}
+use Rattle.std.proofs.lemmas.List.Elements.{filter-append, filter_agree}
+use Rattle.std.proofs.lemmas.Bool.{eq-eqb}
+use Rattle.lx_fixrec.proofs.Grouping.{joined_none}
+use Rattle.lx_types.proofs.Lists.{all_weaker}
 use Rattle.lx_types.specs.declared.fix.Fix.{Fix}
 use Rattle.lx_model.specs.Sources.{code_of}
 use Rattle.lx_model.specs.RecordSpelling.{fixes_written}
 use Rattle.lx_model.specs.JoinedRecords.{crosses, joins, begins, Listed, listed_behind, record_of}
-use Rattle.lx_fixrec.proofs.Filters.{dropped, passed, none_pass, all_pass, filter_passes, each_take, each_weaker, filter_same}
+use Rattle.lx_fixrec.proofs.Filters.{dropped, passed, none_pass, all_pass, filter_passes, each_take}
 use Rattle.lx_fixrec.proofs.Joined.{joined, same_fix, joins_alike, joined_alike}
-use Rattle.lx_fixrec.proofs.Shared.{eqb_self, alias_self, target_self}
+use Rattle.lx_fixrec.proofs.Shared.{alias_self, target_self}
 
 -- ---- a record's sources
 
@@ -73,7 +76,7 @@ all_more earlier f fs = by (begins earlier f)
 -- ---- the sources that join one
 
 pub joins_itself : (f : Fix) → crosses f ≡ false → joins f f ≡ true
-joins_itself f within = rw (eqb_self (code_of f.source), alias_self f.alias, target_self f.target, eqb_self f.additive, within) refl
+joins_itself f within = rw (eq-eqb (code_of f.source) (code_of f.source) refl, alias_self f.alias, target_self f.target, eq-eqb f.additive f.additive refl, within) refl
 
 abbrev count : Fix → List Fix → ℕ
 count f fs = length (filter (joins f) fs)
@@ -111,22 +114,22 @@ next_other f g gs rest false is = refl
 next_other f g gs rest true is =
     let others = take 254 (filter (joins g) gs) in
     let none : filter (joins f) others ≡ [] = none_pass (joins f) others
-    (each_weaker (λ h. joins g h ≡ true) (λ h. joins f h ≡ false) (λ h j. sym (joined_alike g h f (joined g h j)) ∙ is) others (others_join g gs)) in
+    (all_weaker (λ h. joins g h ≡ true) (λ h. joins f h ≡ false) (λ h j. sym (joined_alike g h f (joined g h j)) ∙ is) others (others_join g gs)) in
     dropped (joins f) g (others ++ rest) is ∙ filter-append (joins f) others rest ∙ ap (λ (xs : List Fix). xs ++ filter (joins f) rest) none
 
 next_first : (f g : Fix) (gs rest : List Fix) → joins f g ≡ true → filter (joins f) rest ≡ drop 254 (filter (joins f) gs) → filter (joins f) (next_list f true g gs rest) ≡ g ∷ filter (joins f) gs
 next_first f g gs rest is again =
     let others = take 254 (filter (joins g) gs) in
-    let same : filter (joins g) gs ≡ filter (joins f) gs = filter_same (joins g) (joins f) (λ x. sym (joins_alike f g x (joined f g is))) gs in
+    let same : filter (joins g) gs ≡ filter (joins f) gs = filter_agree (joins g) (joins f) (λ x. sym (joins_alike f g x (joined f g is))) gs in
     let all : filter (joins f) others ≡ others = all_pass (joins f) others
-    (each_weaker (λ h. joins g h ≡ true) (λ h. joins f h ≡ true) (λ h j. joins_alike f g h (joined f g is) ∙ j) others (others_join g gs)) in
+    (all_weaker (λ h. joins g h ≡ true) (λ h. joins f h ≡ true) (λ h j. joins_alike f g h (joined f g is) ∙ j) others (others_join g gs)) in
     passed (joins f) g (others ++ rest) is
     ∙ ap (λ (xs : List Fix). g ∷ xs) (filter-append (joins f) others rest ∙ ap (λ (xs : List Fix). xs ++ filter (joins f) rest) all ∙ ap (λ (xs : List Fix). others ++ xs) again
     ∙ ap (λ (xs : List Fix). take 254 xs ++ drop 254 (filter (joins f) gs)) same ∙ take-append-drop 254 (filter (joins f) gs))
 
 -- the list of g has as many sources before as that of f
 begins_alike : (f g : Fix) (e : List Fix) → joins f g ≡ true → begins e g ≡ (count f e % 255 == 0)
-begins_alike f g e is = ap (λ (xs : List Fix). length xs % 255 == 0) (filter_same (joins g) (joins f) (λ x. sym (joins_alike f g x (joined f g is))) e)
+begins_alike f g e is = ap (λ (xs : List Fix). length xs % 255 == 0) (filter_agree (joins g) (joins f) (λ x. sym (joins_alike f g x (joined f g is))) e)
 
 kept_next : (f g : Fix) (e gs rest : List Fix) (t b : Bool) → joins f g ≡ t → begins e g ≡ b → filter (joins f) rest ≡ drop (owed (count f (e ++ g ∷ []))) (filter (joins f) gs) →
     filter (joins f) (next_list f b g gs rest) ≡ drop (owed (count f e)) (filter (joins f) (g ∷ gs))
@@ -157,13 +160,6 @@ joined_kept f fs = kept f [] fs
 
 -- ---- the sources that cross an end of the page
 
-joins_none : (f g : Fix) → crosses f ≡ true → joins f g ≡ false
-joins_none f g crossing = by (joins f g) refl
-  where
-    by : (b : Bool) → joins f g ≡ b → joins f g ≡ false
-    by false e = e
-    by true e = absurd (let h = (joined f g e).first_within in cc)
-
 pub none_joins : (f g : Fix) → crosses g ≡ true → joins f g ≡ false
 none_joins f g crossing = by (joins f g) refl
   where
@@ -171,21 +167,14 @@ none_joins f g crossing = by (joins f g) refl
     by false e = e
     by true e = absurd (let h = (joined f g e).within in cc)
 
-all_join_none : (f : Fix) (fs : List Fix) → crosses f ≡ true → filter (joins f) fs ≡ []
-all_join_none f fs crossing = none_pass (joins f) fs (all fs)
-  where
-    all : (gs : List Fix) → Each (λ g. joins f g ≡ false) gs
-    all [] = tt
-    all (g ∷ gs) = (joins_none f g crossing, all gs)
-
 crossing_next : (g : Fix) (e gs rest : List Fix) (c b : Bool) → crosses g ≡ c → begins e g ≡ b → filter crosses rest ≡ filter crosses gs → filter crosses (next_list g b g gs rest) ≡ filter crosses (g ∷ gs)
 crossing_next g e gs rest true true is at again =
-    ap (λ (xs : List Fix). filter crosses (g ∷ (take 254 xs ++ rest))) (all_join_none g gs is) ∙ passed crosses g rest is ∙ ap (λ (xs : List Fix). g ∷ xs) again ∙ sym (passed crosses g gs is)
+    ap (λ (xs : List Fix). filter crosses (g ∷ (take 254 xs ++ rest))) (joined_none g gs is) ∙ passed crosses g rest is ∙ ap (λ (xs : List Fix). g ∷ xs) again ∙ sym (passed crosses g gs is)
 crossing_next g e gs rest true false is at again =
-    absurd (let none : begins e g ≡ true = ap (λ (xs : List Fix). length xs % 255 == 0) (all_join_none g e is) in cc)
+    absurd (let none : begins e g ≡ true = ap (λ (xs : List Fix). length xs % 255 == 0) (joined_none g e is) in cc)
 crossing_next g e gs rest false true is at again =
     let others = take 254 (filter (joins g) gs) in
-    let none : filter crosses others ≡ [] = none_pass crosses others (each_weaker (λ h. joins g h ≡ true) (λ h. crosses h ≡ false) (λ h j. (joined g h j).within) others (others_join g gs)) in
+    let none : filter crosses others ≡ [] = none_pass crosses others (all_weaker (λ h. joins g h ≡ true) (λ h. crosses h ≡ false) (λ h j. (joined g h j).within) others (others_join g gs)) in
     dropped crosses g (others ++ rest) is ∙ filter-append crosses others rest ∙ ap (λ (xs : List Fix). xs ++ filter crosses rest) none ∙ again ∙ sym (dropped crosses g gs is)
 crossing_next g e gs rest false false is at again = again ∙ sym (dropped crosses g gs is)
 

@@ -4,6 +4,7 @@ use Rattle.std.specs.Prelude.{filter}
 use Rattle.std.proofs.lemmas.Bool.{cases_eq}
 use Rattle.std.proofs.lemmas.List.{drop_more, drop_all}
 use Rattle.std.proofs.lemmas.Option.{slice_get_within, get_or_from_slice_get}
+use Rattle.std.proofs.Math.Bool.{and-false}
 use Rattle.lx_types.specs.declared.fix.Fix.{Fix}
 use Rattle.lx_model.specs.JoinedRecords.{crosses, joins}
 use Rattle.lx_fixrec.specs.declared.lists.Firsts.{Firsts}
@@ -11,7 +12,7 @@ use Rattle.lx_fixrec.specs.declared.lists.Shared.{Shared}
 use Rattle.lx_fixrec.specs.Lists.{shared_of, same_shared, is_with, first_in, Puts}
 use Rattle.lx_fixrec.specs.Links.{HeadPasses, LeadsTo, IsNext, IsFirst, AreFirsts}
 use Rattle.lx_fixrec.proofs.Filters.{dropped}
-use Rattle.lx_fixrec.proofs.Grouping.{joins_with, joined_none, and_false}
+use Rattle.lx_fixrec.proofs.Grouping.{joins_with, joined_none}
 use Rattle.lx_fixrec.proofs.Shared.{shared_is, shared_turned}
 
 pub front : (s : List Fix) (i : ℕ) (f : Fix) → slice_get s i ≡ Some f → drop i s ≡ f ∷ drop (i + 1) s
@@ -61,7 +62,7 @@ here s p place f stands holds = (omega arith, record { same = refl; head = subst
 
 pub firsts_crossing : (s : List Fix) (place : ℕ) (f : Fix) (firsts : Firsts) → slice_get s place ≡ Some f → crosses f ≡ true → AreFirsts s (place + 1) firsts → AreFirsts s place firsts
 firsts_crossing s place f firsts at crossing h k =
-    skipped s (is_with k) place f (first_in firsts k) (front s place f at) (ap (λ (b : Bool). same_shared k (shared_of f) && not b) crossing ∙ and_false (same_shared k (shared_of f))) (h k)
+    skipped s (is_with k) place f (first_in firsts k) (front s place f at) (ap (λ (b : Bool). same_shared k (shared_of f) && not b) crossing ∙ and-false (same_shared k (shared_of f))) (h k)
 
 pub firsts_put : (s : List Fix) (place : ℕ) (f : Fix) (shared : Shared) (old new : Firsts) (before : Option ℕ) → slice_get s place ≡ Some f → crosses f ≡ false → shared ≡ shared_of f → Puts old shared place before new →
     AreFirsts s (place + 1) old → AreFirsts s place new

@@ -1,14 +1,15 @@
 -- Sources that share no byte, by the numbers of their bytes.
-use Rattle.std.proofs.Common.{◌≡◌, ℕ, suc, ◌+◌, ◌-◌, ◌<◌, ◌≤◌, Bool, true, false, not, ◌||◌, List, ◌∷◌, [], ◌++◌, length, take, drop, replicate, get_or, length-drop, ℤ, pos, negsuc, ◌+ℤ◌, ◌≤ℤ◌, refl, sym, subst, ap, ◌∙◌, inl, inr, ◌⊎◌, arith}
+use Rattle.std.proofs.Common.{◌≡◌, ℕ, suc, ◌+◌, ◌-◌, ◌<◌, ◌≤◌, Bool, true, false, ◌||◌, List, ◌∷◌, [], ◌++◌, length, take, drop, replicate, get_or, length-drop, ℤ, pos, negsuc, ◌+ℤ◌, ◌≤ℤ◌, refl, sym, subst, ap, ◌∙◌, inl, inr, ◌⊎◌, arith}
 use Rattle.std.specs.Prelude.{All, AllPairs, IsTrue, slice_index_or}
 use Rattle.std.specs.List.{list_any}
 use Rattle.std.proofs.lemmas.Int.{ints}
-use Rattle.std.proofs.lemmas.Bool.{cases_lt}
+use Rattle.std.proofs.lemmas.Bool.{cases_lt, both_ways}
 use Rattle.std.proofs.lemmas.Bool.Decides.{nat_tests}
 use Rattle.std.proofs.lemmas.List.{take_more, get_or-replicate, length-replicate, get_or-take, get_or-drop, get_or_default, length-take-le}
 use Rattle.std.proofs.lemmas.List.Elements.{All-take, All-get_or}
 use Rattle.std.proofs.lemmas.List.Folds.{list_any_at, list_any_more, list_any_none, Any-from_list_any}
 use Rattle.std.proofs.lemmas.List.Quantifiers.{all_pairs_push}
+use Rattle.std.proofs.Math.Bool.{or_comm}
 use Rattle.lx_types.specs.declared.fix.Fix.{Fix}
 use Rattle.lx_types.specs.declared.fix.Source.{Source}
 use Rattle.lx_types.specs.declared.fix.Source.TheVariants.{Byte, Sel, Far16, Off16, Far32, Off32, Self32}
@@ -48,10 +49,6 @@ is_in_gives a n k h = (grind (arith, nat_tests), grind (arith, nat_tests))
 is_in_at : (a n k : ℕ) → a ≤ k → k < a + n → is_in a n k ≡ true
 is_in_at a n k low high = grind (arith, nat_tests)
 
-not_both : (b : Bool) → b ≡ true → b ≡ false → ⊥
-not_both true h k = cc
-not_both false h k = cc
-
 -- ---- two sources
 
 before : (a b n : ℕ) (z w : ℤ) → pos a ≡ z +ℤ pos 5 → pos b ≡ w +ℤ pos 5 → a + n ≤ b → (z +ℤ pos n) ≤ℤ w
@@ -64,11 +61,11 @@ over : (a m b n : ℕ) → 0 < m → 0 < n → ((k : ℕ) → b ≤ k → k < b 
 over a m b n some more none = by_order (cases_lt b a)
   where
     by_end : b < a → (a < b + n) ⊎ (b + n ≤ a) → (a + m ≤ b) ⊎ (b + n ≤ a)
-    by_end less (inl within) = absurd (not_both (is_in a m a) (is_in_at a m a (omega arith) (omega arith)) (none a (omega arith) within))
+    by_end less (inl within) = absurd (both_ways (is_in a m a) (none a (omega arith) within) (is_in_at a m a (omega arith) (omega arith)))
     by_end less (inr behind) = inr behind
 
     by_begin : a ≤ b → (b < a + m) ⊎ (a + m ≤ b) → (a + m ≤ b) ⊎ (b + n ≤ a)
-    by_begin up (inl within) = absurd (not_both (is_in a m b) (is_in_at a m b up within) (none b (omega arith) (omega arith)))
+    by_begin up (inl within) = absurd (both_ways (is_in a m b) (none b (omega arith) (omega arith)) (is_in_at a m b up within))
     by_begin up (inr behind) = inl behind
 
     by_order : (b < a) ⊎ (a ≤ b) → (a + m ≤ b) ⊎ (b + n ≤ a)
@@ -114,12 +111,6 @@ one_byte f g here there apart k inf ing = by apart
 abbrev pub Marks : List Bool → List Fix → Type 0
 Marks taken fs = (k : ℕ) → k < length taken → slice_index_or taken k false ≡ list_any (has_byte k) fs
 
-or_swaps : (a b : Bool) → (a || b) ≡ (b || a)
-or_swaps true true = refl
-or_swaps true false = refl
-or_swaps false true = refl
-or_swaps false false = refl
-
 pub marks_none : (n : ℕ) → Marks (replicate n false) []
 marks_none n k there = get_or-replicate n k false false (omega (arith, there, length-replicate n false))
 
@@ -134,7 +125,7 @@ marks_more old new fs i d f a n there is begin size len after marks k within =
     ∙ ap (λ (m : ℕ). is_in m n k || slice_index_or old k false) begin
     ∙ ap (λ (m : ℕ). is_in (first_byte f.offset) m k || slice_index_or old k false) size
     ∙ ap (λ b. has_byte k f || b) (marks k inside)
-    ∙ or_swaps (has_byte k f) (list_any (has_byte k) (take i fs))
+    ∙ or_comm (has_byte k f) (list_any (has_byte k) (take i fs))
     ∙ ap (λ g. list_any (has_byte k) (take i fs) || has_byte k g) is
     ∙ sym (list_any_more (has_byte k) fs i d there)
 
@@ -143,7 +134,7 @@ none_at p fs j d there none = by (p (slice_index_or fs j d)) refl
   where
     by : (b : Bool) → p (slice_index_or fs j d) ≡ b → p (slice_index_or fs j d) ≡ false
     by false e = e
-    by true e = absurd (not_both (list_any p fs) (list_any_at p fs j d there e) none)
+    by true e = absurd (both_ways (list_any p fs) none (list_any_at p fs j d there e))
 
 -- a source of which no byte is taken stands apart from those that took bytes
 pub apart_more : (taken : List Bool) (fs : List Fix) (i : ℕ) (d f : Fix) (a n : ℕ) → i < length fs → f ≡ slice_index_or fs i d → a ≡ first_byte f.offset → n ≡ source_size f.source → All Fits fs
@@ -196,7 +187,7 @@ part_at xs a n k low high =
     ∙ ap (λ (j : ℕ). slice_index_or xs j false) (let e : a + (k - a) ≡ k = omega (arith, low) in e)
 
 only_false : (p : Bool → Bool) → p true ≡ true → (b : Bool) → p b ≡ false → b ≡ false
-only_false p holds true h = absurd (not_both (p true) holds h)
+only_false p holds true h = absurd (both_ways (p true) h holds)
 only_false p holds false h = refl
 
 -- no byte of a part is taken where a search for a taken one finds none
@@ -222,14 +213,4 @@ part_free p holds fails xs a n r is within none =
 -- ---- what a test tells
 
 pub no_by : {P : Type 0} (b : Bool) → b ≡ false → (P → b ≡ true) → (false ≡ true → P) × (P → false ≡ true)
-no_by b is tells = (λ e. absurd (not_both false e refl), λ p. sym is ∙ tells p)
-
-pub not_itself : false ≡ true → ⊥
-not_itself e = not_both false e refl
-
-pub not_true : (b : Bool) → not b ≡ true → b ≡ false
-not_true true h = absurd (not_both false h refl)
-not_true false h = refl
-
-pub not_false : (b : Bool) → b ≡ false → not b ≡ true
-not_false b is = ap not is
+no_by b is tells = (λ e. absurd (both_ways false refl e), λ p. sym is ∙ tells p)

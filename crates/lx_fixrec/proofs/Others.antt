@@ -1,8 +1,8 @@
 -- The offsets of a list's sources have a byte in the page.
-use Rattle.std.proofs.Common.{◌≡◌, ℕ, Bool, true, false, cond, eqb, not, List, [], ◌∷◌, map, Some, refl, sym, subst, ap, ◌∙◌, arith}
+use Rattle.std.proofs.Common.{◌≡◌, Bool, true, false, cond, eqb, not, List, [], ◌∷◌, map, Some, refl, sym, subst, ap, ◌∙◌}
 use Rattle.std.specs.Prelude.{filter, All}
-use Rattle.std.proofs.lemmas.Bool.Decides.{nat_tests}
 use Rattle.std.proofs.lemmas.List.Elements.{All-nil, All-cons, All-head, All-tail}
+use Rattle.std.proofs.lemmas.Bool.{eqb-true, and_parts}
 use Rattle.lx_types.specs.declared.fix.Source.{Source}
 use Rattle.lx_types.specs.declared.fix.Source.TheVariants.{Byte, Sel, Far16, Off16, Far32, Off32, Self32}
 use Rattle.lx_types.specs.declared.fix.Fix.{Fix}
@@ -12,7 +12,6 @@ use Rattle.lx_model.specs.JoinedRecords.{crosses}
 use Rattle.lx_fixrec.specs.declared.lists.Shared.{Shared}
 use Rattle.lx_fixrec.specs.Lists.{shared_of, same_shared, is_with, offsets_with}
 use Rattle.lx_fixrec.specs.Writable.{IsWritable}
-use Rattle.lx_fixrec.proofs.Shared.{left}
 
 source_back : (s : Source) → source_of_code (code_of s) ≡ Some s
 source_back Byte = refl
@@ -26,14 +25,11 @@ source_back Self32 = refl
 pub source_is : (s t : Source) → code_of s ≡ code_of t → s ≡ t
 source_is s t same = let e : Some s ≡ Some t = sym (source_back s) ∙ ap source_of_code same ∙ source_back t in cc
 
-equal : (a b : ℕ) → eqb a b ≡ true → a ≡ b
-equal a b e = grind (arith, nat_tests)
-
 -- sources of one list are of one kind
 same_source : (source : Source) (k : Shared) (g : Fix) → k.code ≡ code_of source → is_with k g ≡ true → g.source ≡ source
 same_source source k g code is =
-    let shares : same_shared k (shared_of g) ≡ true = left (same_shared k (shared_of g)) (not (crosses g)) is in
-    source_is g.source source (sym (equal k.code (code_of g.source) (left (eqb k.code (code_of g.source)) _ shares)) ∙ code)
+    let shares : same_shared k (shared_of g) ≡ true = (and_parts (same_shared k (shared_of g)) (not (crosses g)) is).0 in
+    source_is g.source source (sym (eqb-true k.code (code_of g.source) (and_parts (eqb k.code (code_of g.source)) _ shares).0) ∙ code)
 
 pub offsets_fit : (source : Source) (k : Shared) (gs : List Fix) → k.code ≡ code_of source → All IsWritable gs → All (OffsetFits source) (offsets_with k gs)
 offsets_fit source k [] code all = All-nil (OffsetFits source)

@@ -2,12 +2,12 @@
 use Rattle.std.proofs.Common.{◌≡◌, Bool, true, false, cond, List, [], ◌∷◌, ◌++◌, refl, sym, subst, ap, ◌∙◌}
 use Rattle.std.specs.Prelude.{filter, int_le}
 use Rattle.std.specs.List.Sorted.{IsPermutation}
-use Rattle.std.proofs.lemmas.List.Elements.{filter-append}
+use Rattle.std.proofs.lemmas.List.Elements.{filter-append, filter_agree}
 use Rattle.std.proofs.lemmas.List.Sorted.{IsPermutation-refl, IsPermutation-sym, IsPermutation-cons, IsPermutation-trans, IsPermutation-middle}
 use Rattle.lx_types.specs.declared.fix.Fix.{Fix}
 use Rattle.lx_model.specs.JoinedRecords.{crosses, joins, inserted, by_offset, records_for}
 use Rattle.lx_fixrec.specs.Laws.{RecordsKeepFixes}
-use Rattle.lx_fixrec.proofs.Filters.{dropped, passed, without, Parted, parted, filter_same}
+use Rattle.lx_fixrec.proofs.Filters.{dropped, passed, without, Parted, parted}
 use Rattle.lx_fixrec.proofs.Joined.{joined, joins_alike}
 use Rattle.lx_fixrec.proofs.Kept.{all_listed, written_are, joins_itself, joined_kept, none_joins, crossing_kept}
 
@@ -40,7 +40,7 @@ agree_within f fs gs is agree h = record {
     by g false at = cut (joins g) f fs gs h.before h.after h.parts at (agree.lists g)
     by g true at =
         let same : (x : Fix) → joins g x ≡ joins f x = λ x. joins_alike g f x (joined g f at) in
-        filter_same (joins g) (joins f) same (h.before ++ h.after) ∙ front (joins f) h.before h.after fs h.none h.rest ∙ sym (filter_same (joins g) (joins f) same fs)
+        filter_agree (joins g) (joins f) same (h.before ++ h.after) ∙ front (joins f) h.before h.after fs h.none h.rest ∙ sym (filter_agree (joins g) (joins f) same fs)
 
 nothing_agrees : (gs : List Fix) → Agree [] gs → gs ≡ []
 nothing_agrees [] agree = refl

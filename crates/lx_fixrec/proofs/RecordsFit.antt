@@ -1,9 +1,10 @@
 -- The records of fixups that can be written fit, so that they are read again.
-use Rattle.std.proofs.Common.{◌≡◌, ℕ, zero, suc, ◌<◌, ◌^◌, ◌==◌, Bool, true, false, cond, not, List, [], ◌∷◌, ◌++◌, length, map, take, ℤ, refl, sym, subst, arith, length-take}
+use Rattle.std.proofs.Common.{◌≡◌, ℕ, suc, ◌<◌, ◌^◌, ◌==◌, Bool, true, false, cond, not, List, [], ◌∷◌, ◌++◌, length, map, take, ℤ, refl, sym, subst, arith, length-take}
 use Rattle.std.specs.Prelude.{All, filter, nat_lt}
 use Rattle.std.specs.List.{AllByRecursion as Each}
 use Rattle.std.proofs.lemmas.Bool.Decides.{nat_tests}
 use Rattle.std.proofs.lemmas.List.{length-map}
+use Rattle.lx_fixrec.proofs.Filters.{each_take}
 use Rattle.lx_types.specs.declared.fix.Source.{Source}
 use Rattle.lx_types.specs.declared.fix.FixTarget.{FixTarget}
 use Rattle.lx_types.specs.declared.fix.FixTarget.TheVariants.{Internal, Ordinal, Named, Own}
@@ -21,11 +22,6 @@ pub record IsGood (r : Listed) : Type 0 where
   pub first : IsWritable r.first
   pub others : Each (λ g. OffsetFits r.first.source g.offset) r.others
   pub few : length r.others < 255
-
-each_take : {X : Type 0} (P : X → Type 0) (n : ℕ) (xs : List X) → Each P xs → Each P (take n xs)
-each_take P zero xs each = tt
-each_take P (suc n) [] each = tt
-each_take P (suc n) (x ∷ xs) each = (each.0, each_take P n xs each.1)
 
 -- those that join a source have a byte in the page
 joined_fit : (f : Fix) (gs : List Fix) → Each IsWritable gs → Each (λ g. OffsetFits f.source g.offset) (filter (joins f) gs)

@@ -1,8 +1,9 @@
 use Rattle.std.proofs.Common.{refl, subst, ◌∙◌}
 use Rattle.std.proofs.lemmas.List.{take_all}
 use Rattle.std.specs.Prelude.{AllPairs}
+use Rattle.std.proofs.lemmas.Bool.{false≢true}
 use Rattle.lx_fixrec.specs.Writable.{AreApart}
-use Rattle.lx_fixrec.proofs.Marked.{marks_none, pairs_none, marks_more, apart_more, not_apart, not_itself}
+use Rattle.lx_fixrec.proofs.Marked.{marks_none, pairs_none, marks_more, apart_more, not_apart}
 use Rattle.lx_fixrec.proofs.writable.are_apart.Goals as goal
 
 pub loop-fix-init : goal.loop-fix-init
@@ -10,7 +11,7 @@ loop-fix-init c = record { room = refl; marks = marks_none 4106; apart = pairs_n
 
 pub returns-then-not-is_free : goal.returns-then-not-is_free
 returns-then-not-is_free c = (
-  λ e. absurd (not_itself e),
+  λ e. absurd (false≢true e),
   not_apart c.loop-fix.taken c.args.fixes.now c.loop-fix.fix-index _ _ _ _ c.is_free.result c.loop-fix-test.true refl c.first_byte-first.ensures.value c.source_size-size.ensures c.requires
       c.loop-fix.invariant.room c.loop-fix.invariant.marks c.if-not-is_free.true c.is_free.ensures.1,
 )

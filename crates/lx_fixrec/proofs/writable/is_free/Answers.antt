@@ -1,9 +1,10 @@
 use Rattle.std.proofs.Common.{refl}
-use Rattle.lx_fixrec.proofs.Marked.{free_part, part_free, not_true, not_false}
+use Rattle.std.proofs.lemmas.Bool.{not_from_false, not-true}
+use Rattle.lx_fixrec.proofs.Marked.{free_part, part_free}
 use Rattle.lx_fixrec.proofs.writable.is_free.Goals as goal
 
 pub returns : goal.returns
 returns c = (
-  λ yes. free_part _ refl refl c.args.taken.now c.args.first c.args.size c.contains.result c.contains.ensures.value c.requires (not_true c.contains.result yes),
-  λ none. not_false c.contains.result (part_free _ refl refl c.args.taken.now c.args.first c.args.size c.contains.result c.contains.ensures.value c.requires none),
+  λ yes. free_part _ refl refl c.args.taken.now c.args.first c.args.size c.contains.result c.contains.ensures.value c.requires (not-true c.contains.result yes),
+  λ none. not_from_false c.contains.result (part_free _ refl refl c.args.taken.now c.args.first c.args.size c.contains.result c.contains.ensures.value c.requires none),
 )
