@@ -1,5 +1,5 @@
 -- What is asked of an image, part by part.
-use Rattle.std.proofs.Common.{◌≡◌, ℕ, ◌+◌, ◌<◌, ◌≤◌, Bool, true, false, List, [], ◌∷◌, ◌++◌, length, map, take, get_or, sym, subst, ap, ◌∙◌}
+use Rattle.std.proofs.Common.{◌≡◌, ℕ, ◌+◌, ◌<◌, ◌≤◌, List, [], ◌∷◌, ◌++◌, length, map, take, get_or, sym, subst, ap, ◌∙◌}
 use Rattle.std.specs.Prelude.{All, slice_index_or}
 use Rattle.std.proofs.lemmas.List.{length-map, get_or-map, take_more, take_all}
 use Rattle.std.proofs.lemmas.List.Elements.{All-push, All-get_or}
@@ -78,9 +78,3 @@ pub item : {A : Type 0} (P : A → Type 0) (xs : List A) (i : ℕ) (d x : A) →
 item P xs i d x there is each = subst P (sym is) (All-get_or P xs i d there each)
 
 -- ---- what a test tells
-
-pub not_itself : false ≡ true → ⊥
-not_itself e = cc
-
-pub no_by : {P : Type 0} (b : Bool) → b ≡ false → (P → b ≡ true) → (false ≡ true → P) × (P → false ≡ true)
-no_by b is tells = (λ e. absurd (not_itself e), λ p. sym is ∙ tells p)

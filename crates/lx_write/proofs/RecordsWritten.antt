@@ -2,7 +2,7 @@
 use Rattle.std.proofs.Common.{◌≡◌, ℕ, ◌+◌, ◌^◌, ◌<◌, List, [], ◌∷◌, length, map, refl, sym, subst, ap, ◌∙◌, length-append, arith}
 use Rattle.std.specs.Prelude.{All, sum_by, slice_index_or}
 use Rattle.std.specs.List.{flat_map, AllByRecursion}
-use Rattle.std.proofs.lemmas.List.Elements.{All-map, All-nil, All-append}
+use Rattle.std.proofs.lemmas.List.Elements.{All-map, All-nil, All-append, All-tail, All-head}
 use Rattle.std.proofs.lemmas.List.Concat.{flat_map-cons}
 use Rattle.std.proofs.lemmas.List.Sums.{sum_by-cons, sum_by-take-le}
 use Rattle.lx_types.specs.declared.fix.Fix.{Fix}
@@ -17,7 +17,6 @@ use Rattle.lx_fixrec.proofs.RecordsFit.{records_fit}
 use Rattle.lx_write.specs.declared.image.Image.{Image}
 use Rattle.lx_write.specs.Value.{fix_in_file, page_fixes, image_value}
 use Rattle.lx_write.specs.WrittenLaws.{WrittenRecordsFit}
-use Rattle.lx_write.proofs.SameFixes.{first_of_all, rest_of_all}
 
 -- ---- offsets of names
 
@@ -63,12 +62,12 @@ page_fits m page short may =
 pages_fit : (m : Image) (pages : List (List Fix)) → length (name_table m.procs) < 2 ^ 32 → All MayBeWritten pages → AllByRecursion (AllByRecursion RecordFits) (map records_for (map (map (fix_in_file m)) pages))
 pages_fit m [] short may = tt
 pages_fit m (page ∷ pages) short may =
-    (page_fits m page short (first_of_all MayBeWritten page pages may), pages_fit m pages short (rest_of_all MayBeWritten page pages may))
+    (page_fits m page short (All-head MayBeWritten page pages may), pages_fit m pages short (All-tail MayBeWritten page pages may))
 
 all_joined : {A : Type 0} (P : A → Type 0) (xs : List (List A)) → All (All P) xs → All P (flat_map (λ ys. ys) xs)
 all_joined P [] each = All-nil P
 all_joined P (x ∷ xs) each =
-    subst (All P) (sym (flat_map-cons (λ ys. ys) x xs)) (All-append P x (flat_map (λ ys. ys) xs) (first_of_all (All P) x xs each) (all_joined P xs (rest_of_all (All P) x xs each)))
+    subst (All P) (sym (flat_map-cons (λ ys. ys) x xs)) (All-append P x (flat_map (λ ys. ys) xs) (All-head (All P) x xs each) (all_joined P xs (All-tail (All P) x xs each)))
 
 pub written_records_fit : WrittenRecordsFit
 unfolding image_value page_fixes

@@ -1,10 +1,11 @@
 -- Fixups with the offsets of names are those of the image's module.
-use Rattle.std.proofs.Common.{◌≡◌, ℕ, suc, List, [], ◌∷◌, ◌++◌, length, map, refl, sym, ap, ◌∙◌, subst, arith}
+use Rattle.std.proofs.Common.{◌≡◌, ℕ, List, [], ◌∷◌, ◌++◌, length, map, refl, sym, ap, ◌∙◌, subst}
 use Rattle.std.specs.Prelude.{All, slice_index_or}
 use Rattle.std.specs.List.{flat_map, range_with_len}
 use Rattle.std.proofs.lemmas.List.{map-append}
 use Rattle.std.proofs.lemmas.List.FromFn.{length-map-range_with_len}
 use Rattle.std.proofs.lemmas.List.Concat.{flat_map-cons}
+use Rattle.std.proofs.lemmas.List.Elements.{All-tail, All-head}
 use Rattle.lx_types.specs.declared.fix.FixTarget.{FixTarget}
 use Rattle.lx_types.specs.declared.fix.FixTarget.TheVariants.{Internal, Ordinal, Named, Own}
 use Rattle.link_model.specs.ImportTables.{name_offset, with_offset}
@@ -15,25 +16,19 @@ use Rattle.lx_write.proofs.NameOffsets.{offset_at}
 
 -- ---- lists of which each item has a property
 
-pub first_of_all : {A : Type 0} (P : A → Type 0) (x : A) (xs : List A) → All P (x ∷ xs) → P x
-first_of_all P x xs each = each 0 x (omega arith)
-
-pub rest_of_all : {A : Type 0} (P : A → Type 0) (x : A) (xs : List A) → All P (x ∷ xs) → All P xs
-rest_of_all P x xs each k d there = each (suc k) d (omega (arith, there))
-
 same_map : {A B : Type 0} (P : A → Type 0) (f g : A → B) → ((x : A) → P x → f x ≡ g x) → (xs : List A) → All P xs → map f xs ≡ map g xs
 same_map P f g same [] each = refl
 same_map P f g same (x ∷ xs) each =
-    let here = same x (first_of_all P x xs each) in
-    let behind = same_map P f g same xs (rest_of_all P x xs each) in
+    let here = same x (All-head P x xs each) in
+    let behind = same_map P f g same xs (All-tail P x xs each) in
     rw (here, behind) refl
 
 same_flat : {A B : Type 0} (P : A → Type 0) (f g : A → B) → ((x : A) → P x → f x ≡ g x) → (xs : List (List A)) → All (All P) xs → map f (flat_map (λ ys. ys) xs) ≡ map g (flat_map (λ ys. ys) xs)
 same_flat P f g same [] each = refl
 same_flat P f g same (x ∷ xs) each =
     ap (map f) (flat_map-cons (λ ys. ys) x xs) ∙ map-append f x (flat_map (λ ys. ys) xs)
-    ∙ ap (λ zs. zs ++ map f (flat_map (λ ys. ys) xs)) (same_map P f g same x (first_of_all (All P) x xs each))
-    ∙ ap (λ zs. map g x ++ zs) (same_flat P f g same xs (rest_of_all (All P) x xs each))
+    ∙ ap (λ zs. zs ++ map f (flat_map (λ ys. ys) xs)) (same_map P f g same x (All-head (All P) x xs each))
+    ∙ ap (λ zs. map g x ++ zs) (same_flat P f g same xs (All-tail (All P) x xs each))
     ∙ sym (map-append g x (flat_map (λ ys. ys) xs)) ∙ ap (map g) (sym (flat_map-cons (λ ys. ys) x xs))
 
 -- ---- fixups

@@ -6,22 +6,14 @@ use Rattle.std.proofs.lemmas.List.{map-append}
 use Rattle.std.proofs.lemmas.List.Elements.{All-nil, All-cons}
 use Rattle.std.proofs.lemmas.List.Concat.{flat_map-cons}
 use Rattle.std.proofs.lemmas.Bool.Decides.{nat_tests}
+use Rattle.lx_iter.proofs.Unpacking.{data_few}
 use Rattle.lx_types.specs.declared.object.PageHead.{PageHead}
 use Rattle.link_model.specs.Records.{page_count}
 use Rattle.lx_model.specs.Iterated.{groups_spelling}
-use Rattle.lx_model.specs.Packed.{data_of, before_data, groups_of}
+use Rattle.lx_model.specs.Packed.{data_of, groups_of}
 use Rattle.image_model.specs.Image.{PageForm, plain, iterated}
 use Rattle.image_model.specs.PageForms.{pages_in, page_in, form_of_page, form_of_data}
 use Rattle.image_model.specs.PageTables.{page_head, form_data, page_heads_from}
-
-data_short : (page : List ℕ) → length (data_of page) ≤ length page
-data_short [] = omega arith
-data_short (b ∷ page) = by_byte b (data_of page) (data_short page)
-  where
-    by_byte : (b : ℕ) (d : List ℕ) → length d ≤ length page → length (before_data b d) ≤ suc (length page)
-    by_byte zero [] le = omega arith
-    by_byte zero (c ∷ d) le = omega (arith, le)
-    by_byte (suc b) d le = omega (arith, le)
 
 -- An entry of such a form has a size that fits its word.
 record IsShort (form : PageForm) : Type 0 where
@@ -37,7 +29,7 @@ short_data (b ∷ d) le = by_test (nat_lt (length (groups_spelling (groups_of (b
 
 short_page : (page : List ℕ) → length page ≤ 4096 → IsShort (form_of_page page)
 unfolding form_of_page
-short_page page le = let d = data_short page in short_data (data_of page) (omega (arith, d, le))
+short_page page le = let d = data_few page in short_data (data_of page) (omega (arith, d, le))
 
 -- ---- all pages
 

@@ -1,15 +1,11 @@
-use Rattle.std.proofs.Common.{◌≡◌, ◌<◌, ◌^◌, List, ℕ, Result, Ok, Err, length, ◌++◌, arith}
-use Rattle.std.specs.Prelude.{IfOk}
+use Rattle.std.proofs.Common.{◌≡◌, ◌<◌, ◌^◌, List, ℕ, length, ◌++◌, arith}
+use Rattle.lx_types.proofs.Options.{ok_weaker}
 use Rattle.image_model.specs.File.{file_of, sections_bytes}
 use Rattle.lx_model.specs.TableSpelling.{header_spelling}
 use Rattle.lx_write.specs.Value.{image_value}
 use Rattle.lx_write.specs.Sections.{sections_value}
 use Rattle.lx_write.proofs.Fields.{file_is, file_ends}
 use Rattle.lx_write.proofs.file.file_with.Goals as goal
-
-if_ok : {A E : Type 0} (P Q : A → Type 0) (r : Result A E) → ((a : A) → P a → Q a) → IfOk r P → IfOk r Q
-if_ok P Q (Ok a) f h = f a h
-if_ok P Q (Err e) f h = tt
 
 pub returns : goal.returns
 returns c =
@@ -18,7 +14,7 @@ returns c =
     let same : (file : List ℕ) → file ≡ header_spelling c.in-Some-fields_of.fields ++ sections_bytes s → file ≡ file_of m = λ file. file_is m s c.in-Some-fields_of.fields file c.in-Some-fields_of.ensures c.requires.sections in
     let ends = c.in-Some.ensures in
     record {
-      same = if_ok (λ file. file.items ≡ header_spelling c.in-Some-fields_of.fields ++ sections_bytes s) (λ file. file.items ≡ file_of m) c.join.result (λ file is. same file.items is) c.join.ensures;
-      short = if_ok (λ file. file.items ≡ header_spelling c.in-Some-fields_of.fields ++ sections_bytes s) (λ file. length file.items < 2 ^ 32) c.join.result
+      same = ok_weaker (λ file. file.items ≡ header_spelling c.in-Some-fields_of.fields ++ sections_bytes s) (λ file. file.items ≡ file_of m) c.join.result (λ file is. same file.items is) c.join.ensures;
+      short = ok_weaker (λ file. file.items ≡ header_spelling c.in-Some-fields_of.fields ++ sections_bytes s) (λ file. length file.items < 2 ^ 32) c.join.result
           (λ file is. let long = file_ends m s file.items c.in-Some.places.end c.requires.sections (same file.items is) ends.places.end in let below = ends.short in omega (arith, long, below)) c.join.ensures;
     }

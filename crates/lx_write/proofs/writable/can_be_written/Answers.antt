@@ -1,7 +1,8 @@
 use Rattle.std.proofs.Common.{subst, sym}
 use Rattle.std.specs.Prelude.{All}
+use Rattle.lx_fixrec.proofs.Marked.{no_by}
 use Rattle.lx_write.specs.Named.{PageFits}
-use Rattle.lx_write.proofs.Asked.{by_parts, parts_of, fixes_of, no_by}
+use Rattle.lx_write.proofs.Asked.{by_parts, parts_of, fixes_of}
 use Rattle.lx_write.proofs.writable.can_be_written.Goals as goal
 
 pub returns-then-not-parts_fit : goal.returns-then-not-parts_fit

@@ -1,7 +1,8 @@
 use Rattle.std.proofs.Common.{◌∙◌, refl}
 use Rattle.std.specs.Prelude.{All}
+use Rattle.lx_fixrec.proofs.Marked.{no_by}
 use Rattle.lx_write.specs.Named.{PageFits}
-use Rattle.lx_write.proofs.Asked.{more, ended, item, no_by}
+use Rattle.lx_write.proofs.Asked.{more, ended, item}
 use Rattle.lx_write.proofs.writable.fixes_fit.Goals as goal
 
 pub returns-then-not-pages_fit : goal.returns-then-not-pages_fit

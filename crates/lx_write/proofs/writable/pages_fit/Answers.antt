@@ -1,6 +1,7 @@
 use Rattle.std.proofs.Common.{◌∙◌, refl}
+use Rattle.lx_fixrec.proofs.Marked.{no_by}
 use Rattle.lx_write.specs.Named.{PageFits}
-use Rattle.lx_write.proofs.Asked.{more, ended, item, no_by}
+use Rattle.lx_write.proofs.Asked.{more, ended, item}
 use Rattle.lx_write.proofs.writable.pages_fit.Goals as goal
 
 pub returns-then-not-page_fits : goal.returns-then-not-page_fits

@@ -1,10 +1,11 @@
 use Rattle.std.proofs.Common.{◌∙◌, ap, length, arith}
-use Rattle.lx_write.proofs.Asked.{alike_at, not_itself}
+use Rattle.std.proofs.lemmas.Bool.{false≢true}
+use Rattle.lx_write.proofs.Asked.{alike_at}
 use Rattle.lx_write.proofs.writable.sizes_are.Goals as goal
 
 pub returns-then-as_slice-objects : goal.returns-then-as_slice-objects
 returns-then-as_slice-objects c = (
-  λ e. absurd (not_itself e),
+  λ e. absurd (false≢true e),
   λ same. absurd (c.if-as_slice-objects.true
       (ap length c.as_slice.ensures ∙ ap length c.index-bytes-place.is
       ∙ alike_at length (λ o. o.size) c.args.bytes.now c.args.objects.now c.loop-place.place _ _ c.loop-place-test.true
