@@ -1,5 +1,6 @@
 -- A list of which the first items are changed, one more each turn.
 use Rattle.std.proofs.Common.{◌≡◌, ℕ, zero, suc, ◌+◌, ◌<◌, ◌≤◌, List, [], ◌∷◌, length, map, get_or, set, refl, sym, ap, ◌∙◌, arith}
+use Rattle.std.proofs.lemmas.List.{get_or_default}
 
 abbrev pub mapped : {A : Type 0} → (A → A) → ℕ → List A → List A
 mapped f zero xs = xs
@@ -30,11 +31,6 @@ mapped-all f (suc n) (x ∷ xs) le = ap (λ ys. f x ∷ ys) (mapped-all f n xs (
 
 -- ---- a loop that changes an item each turn
 
-same-item : {A : Type 0} (xs : List A) (n : ℕ) (d e : A) → n < length xs → get_or xs n d ≡ get_or xs n e
-same-item [] n d e lt = absurd (omega (arith, lt))
-same-item (x ∷ xs) zero d e lt = refl
-same-item (x ∷ xs) (suc n) d e lt = same-item xs n d e (omega (arith, lt))
-
 module _ {A : Type 0} (f : A → A) (n : ℕ) (xs ys : List A) (invariant : ys ≡ mapped f n xs) where
   pub there : (len : ℕ) → n < len → len ≡ length ys → n < length xs
   there len lt is = omega (arith, lt, is, ap (λ (zs : List A). length zs) invariant, length-mapped f n xs)
@@ -43,7 +39,7 @@ module _ {A : Type 0} (f : A → A) (n : ℕ) (xs ys : List A) (invariant : ys �
   item-is x is = is ∙ ap (λ (zs : List A). get_or zs n x) invariant ∙ mapped-next f n xs x
 
   pub items-same : (x y : A) → n < length xs → x ≡ get_or ys n x → y ≡ get_or ys n y → x ≡ y
-  items-same x y lt x-is y-is = item-is x x-is ∙ same-item xs n x y lt ∙ sym (item-is y y-is)
+  items-same x y lt x-is y-is = item-is x x-is ∙ get_or_default xs n x y lt ∙ sym (item-is y y-is)
 
   pub turn : (x y : A) → n < length xs → x ≡ get_or ys n x → y ≡ f x → set ys n y ≡ mapped f (n + 1) xs
   turn x y lt x-is y-is =

@@ -1,10 +1,11 @@
 -- Members put into groups, one at a time.
 use Rattle.std.proofs.Common.{◌≡◌, ◌≢◌, ℕ, zero, suc, ◌+◌, ◌<◌, ◌≤◌, Bool, true, false, cond, eqb, List, [], ◌∷◌, ◌++◌, length, map, get_or, set, refl, sym, ap, ◌∙◌, arith, inl, inr, append_assoc}
-use Rattle.std.specs.Prelude.{◌&&◌, bytes_eq, codes}
+use Rattle.std.specs.Prelude.{bytes_eq, codes}
 use Rattle.std.specs.List.{enumerate_from, filter}
 use Rattle.std.proofs.lemmas.Bool.{eq-eqb}
 use Rattle.std.proofs.lemmas.List.{append-nil, map-append}
 use Rattle.std.proofs.lemmas.List.Elements.{filter-append}
+use Rattle.std.proofs.Math.Bool.{and-true, and-false}
 use Rattle.obj_types.specs.declared.object.Group.{Group}
 use Rattle.obj_types.specs.declared.parts.BegunComdat.{BegunComdat}
 use Rattle.omf_model.specs.Finished.{numbered, group_for}
@@ -15,21 +16,7 @@ use Rattle.omf_comdat.specs.Finishing.{with_member}
 abbrev is_flat : Group → Bool
 is_flat g = bytes_eq g.name (codes "FLAT")
 
-and-false : (b : Bool) → (b && false) ≡ false
-and-false true = refl
-and-false false = refl
-
-and-true : (b : Bool) → (b && true) ≡ b
-and-true true = refl
-and-true false = refl
-
 -- ---- one member
-
--- what stands there, whatever would stand there otherwise
-pub one-item : {A : Type 0} (xs : List A) (k : ℕ) (d e : A) → k < length xs → get_or xs k d ≡ get_or xs k e
-one-item [] k d e lt = absurd (omega (arith, lt))
-one-item (x ∷ xs) zero d e lt = refl
-one-item (x ∷ xs) (suc k) d e lt = one-item xs k d e (omega (arith, lt))
 
 other-group : (group seg n : ℕ) (g : Group) → group ≢ n → g ≡ with_member group seg (n, g)
 other-group group seg n g other = rw (not-equal group n other) refl

@@ -1,7 +1,8 @@
 use Rattle.std.proofs.Common.{◌≡◌, ◌-◌, ◌<◌, true, false, List, length, get_or, set, sym, ap, ◌∙◌, arith}
 use Rattle.std.specs.Prelude.{bytes_eq, codes}
+use Rattle.std.proofs.lemmas.List.{get_or_default}
 use Rattle.obj_types.specs.declared.object.Group.{Group}
-use Rattle.omf_comdat.proofs.Members.{one-item, more_of, members-none, members-flat, members-set}
+use Rattle.omf_comdat.proofs.Members.{more_of, members-none, members-flat, members-set}
 use Rattle.omf_comdat.proofs.finish.add_member.Goals.{then-group-eq0-via-then-group-eq0, then-group-eq0-via-else-group-eq0+then-len-group}
 use Rattle.omf_comdat.proofs.finish.add_member.Goals as goal
 
@@ -30,7 +31,7 @@ returns c =
     let item : g ≡ get_or c.args.groups (c.args.group - 1) g = c.index_mut.ensures.value ∙ ap (λ (gs : List Group). get_or gs (c.args.group - 1) g) c.into_vec-all.ensures in
     let lt : c.args.group - 1 < length c.args.groups = omega (arith, c.if-group-eq0.false, c.if-len-group.false, c.len.ensures, c.into_vec-all.result.ok.0, long) in
     let seen : c.index.result.now ≡ get_or c.args.groups (c.args.group - 1) c.index.result.now = c.index.ensures ∙ ap (λ (gs : List Group). get_or gs (c.args.group - 1) c.index.result.now) c.into_vec-all.ensures in
-    let same : c.index.result.now ≡ get_or c.args.groups (c.args.group - 1) g = seen ∙ one-item c.args.groups (c.args.group - 1) c.index.result.now g lt in
+    let same : c.index.result.now ≡ get_or c.args.groups (c.args.group - 1) g = seen ∙ get_or_default c.args.groups (c.args.group - 1) c.index.result.now g lt in
     let named : bytes_eq (get_or c.args.groups (c.args.group - 1) g).name (codes "FLAT") ≡ false =
     ap (λ (x : Group). bytes_eq x.name (codes "FLAT")) (sym same) ∙ sym (c.if-eq.ensures ∙ (λ i. bytes_eq (c.bytes.ensures.same i) (c.as_slice.ensures i))) in
     let more : (let x : Group = record { name = g.name; members = c.push.new.self } in x) ≡ more_of (get_or c.args.groups (c.args.group - 1) g) c.args.seg =
