@@ -1,8 +1,9 @@
 -- A fixup judged for its place, by what its location and its fixes are.
 use Rattle.std.proofs.Common.{◌≡◌, ℕ, ◌+◌, ◌≤◌, ◌<◌, Bool, true, false, leb, List, [], ◌∷◌, ◌++◌, length, Option, Some, None, Ok, Err, refl, sym, ap, subst, ◌∙◌, arith, inl, inr}
-use Rattle.std.specs.Prelude.{◌||◌, not, IsSomeAnd}
+use Rattle.std.specs.Prelude.{not, IsSomeAnd}
 use Rattle.std.specs.List.{list_any}
 use Rattle.std.proofs.lemmas.Bool.{le-leb, lt-leb}
+use Rattle.std.proofs.Math.Bool.{or-false}
 use Rattle.obj_types.specs.declared.limits.TheConstants.{MAX_FIXES}
 use Rattle.obj_types.specs.declared.refusal.OmfRefusal.TheVariants.{NoData, FixOverlap, TooMany}
 use Rattle.obj_types.specs.declared.object.FixAt.{FixAt}
@@ -69,10 +70,6 @@ straight-news p place d seg start len e = ap (λ (last : LastData). fixes_by las
 
 pub straight-on : (p : ObjParts) (place : FixPlace) (seg start len : ℕ) (b : Bool) → p.last ≡ datas.Straight seg start len → leb (offset_of place.high place.low + location_len (location_of place.high)) len ≡ b → OnData p place ≡ b
 straight-on p place seg start len b e fits = ap (λ (last : LastData). has_data last (offset_of place.high place.low) (location_len (location_of place.high))) e ∙ fits
-
-or-false : (b : Bool) → (b || false) ≡ b
-or-false true = refl
-or-false false = refl
 
 pub apart-one : (fixes : List FixAt) (g : FixAt) (b : Bool) → b ≡ list_any (λ f. meets f g) fixes → are_apart fixes (g ∷ []) ≡ not b
 apart-one fixes g b e = ap not (or-false (list_any (λ f. meets f g) fixes) ∙ sym e)

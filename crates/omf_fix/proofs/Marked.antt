@@ -1,9 +1,9 @@
 -- What marks say of new fixes and of a field that was added.
-use Rattle.std.proofs.Common.{◌≡◌, ℕ, ◌<◌, Bool, true, List, [], ◌∷◌, Ok, Err, refl, ap, subst, ◌∙◌}
-use Rattle.std.specs.Prelude.{◌||◌}
+use Rattle.std.proofs.Common.{◌≡◌, ℕ, ◌<◌, true, List, Ok, Err, refl, ap, subst, ◌∙◌}
 use Rattle.std.specs.List.{list_any}
 use Rattle.std.proofs.lemmas.Bool.{ltb-true, lt-ltb}
 use Rattle.std.proofs.Math.Bool.{and-true}
+use Rattle.lx_types.proofs.Lists.{any_agree}
 use Rattle.lx_bytes.specs.Cursor.{Cursor}
 use Rattle.obj_types.specs.declared.object.FixAt.{FixAt}
 use Rattle.obj_types.specs.declared.object.StartAt.{StartAt}
@@ -27,10 +27,6 @@ use Rattle.omf_fix.specs.Placed.{fix_of}
 pub some-bytes : (high : ℕ) → is_location high ≡ true → 0 < location_len (location_of high)
 some-bytes high e = ltb-true _ _ (and_true _ _ e).0
 
-alike : {A : Type 0} (p q : A → Bool) → ((x : A) → p x ≡ q x) → (xs : List A) → list_any p xs ≡ list_any q xs
-alike p q same [] = refl
-alike p q same (x ∷ xs) = λ i. same x i || alike p q same xs i
-
 -- its bytes are touched where it shares a byte
 touch-meets : (g f : FixAt) → 0 < location_len g.loc → touches g.seg g.offset (location_len g.loc) f ≡ meets f g
 touch-meets g f some = rw (lt-ltb 0 (location_len g.loc) some, and-true) refl
@@ -39,11 +35,11 @@ pub touch-any : (fixes : List FixAt) (seg x size high : ℕ) (what : StartAt) �
     → list_any (touches seg x size) fixes ≡ list_any (λ f. meets f (fix_of seg x high what)) fixes
 touch-any fixes seg x size high what is some =
     ap (λ (n : ℕ). list_any (touches seg x n) fixes) is
-    ∙ alike (touches seg x (location_len (location_of high))) (λ f. meets f (fix_of seg x high what)) (λ f. touch-meets (fix_of seg x high what) f some) fixes
+    ∙ any_agree (touches seg x (location_len (location_of high))) (λ f. meets f (fix_of seg x high what)) (λ f. touch-meets (fix_of seg x high what) f some) fixes
 
 pub touch-copies : (fixes : List FixAt) (seg size high : ℕ) (what : StartAt) → size ≡ location_len (location_of high) → 0 < location_len (location_of high) → (copies : List ℕ)
     → list_any (λ x. list_any (touches seg x size) fixes) copies ≡ list_any (λ x. list_any (λ f. meets f (fix_of seg x high what)) fixes) copies
-touch-copies fixes seg size high what is some = alike _ _ (λ x. touch-any fixes seg x size high what is some)
+touch-copies fixes seg size high what is some = any_agree _ _ (λ x. touch-any fixes seg x size high what is some)
 
 -- ---- a field that was added
 

@@ -15,6 +15,7 @@ use Rattle.omf_model.specs.Fixups.{has_data, fixes_by, are_apart, places_of}
 use Rattle.omf_model.specs.ReadBlocks.{blocks_in}
 use Rattle.omf_model.specs.Record.{FixData, fixup, location_of, offset_of}
 use Rattle.std.proofs.lemmas.List.Elements.{All-from_recursion}
+use Rattle.lx_types.proofs.Lists.{all_weaker}
 use Rattle.omf_model.proofs.DataLaws.{bool_cases}
 use Rattle.omf_model.proofs.CopyLaws.{length-origins}
 use Rattle.omf_fix.specs.declared.place.FixPlace.{FixPlace}
@@ -24,10 +25,6 @@ use Rattle.omf_fix.proofs.CopiesFound.{any-map}
 use Rattle.omf_fix.proofs.Judged.{OnData, News}
 
 -- ---- places
-
-mapped : {A : Type 0} (P Q : A → Type 0) → ((x : A) → P x → Q x) → (xs : List A) → AllByRecursion P xs → AllByRecursion Q xs
-mapped P Q h [] each = tt
-mapped P Q h (x ∷ xs) each = (h x each.0, mapped P Q h xs each.1)
 
 range-below : (a n z : ℕ) → a + n ≤ z → AllByRecursion (λ x. x < z) (range_with_len a n)
 range-below a zero z fits = tt
@@ -76,7 +73,7 @@ module _ (p : ObjParts) (place : FixPlace) (seg start : ℕ) (wide : Bool) (body
       fits None h = absurd h
       fits (Some s) h =
           subst (All (λ x. start + x ≤ s.len)) (sym are)
-          (All-from_recursion (λ x. start + x ≤ s.len) (places_of low own) (mapped (λ x. x < length own) (λ x. start + x ≤ s.len) (λ x lt. omega (arith, h.1, long, lt)) (places_of low own) (places-below low own)))
+          (All-from_recursion (λ x. start + x ≤ s.len) (places_of low own) (all_weaker (λ x. x < length own) (λ x. start + x ≤ s.len) (λ x lt. omega (arith, h.1, long, lt)) (places_of low own) (places-below low own)))
 
 pub copies-apart : (fixes : List FixAt) (f : ℕ → FixAt) (copies : List ℕ) (b : Bool) → b ≡ list_any (λ x. list_any (λ g. meets g (f x)) fixes) copies → are_apart fixes (map f copies) ≡ not b
 copies-apart fixes f copies b e = ap not (any-map f copies (λ g. list_any (λ h. meets h g) fixes) copies ∙ sym e)
