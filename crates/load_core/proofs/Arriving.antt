@@ -2,7 +2,7 @@
 use Rattle.std.proofs.Common.{◌≡◌, ◌∷◌, ◌++◌, [], ℕ, ◌+◌, ◌<◌, true, not, List, length, map, filter, find, option_map, Option, Some, None, is_some, is_none, Result, Ok, Err, refl, sym, ◌∙◌, ap, subst}
 use Rattle.std.specs.Prelude.{All}
 use Rattle.std.proofs.lemmas.Bool.{ltb-true}
-use Rattle.std.proofs.lemmas.List.Elements.{All-filter}
+use Rattle.std.proofs.lemmas.List.Elements.{All-filter, filter_agree}
 use Rattle.lx_types.specs.Answers.{Answers}
 use Rattle.lx_types.specs.declared.fail.Fail.{Fail}
 use Rattle.lx_types.specs.declared.fail.Fail.TheVariants.{Said, NoMemory}
@@ -37,7 +37,6 @@ use Rattle.load_core.specs.Told.{IsToldOf, IsLoaded}
 use Rattle.load_core.specs.declared.answers.Loaded.{Loaded}
 use Rattle.load_core.specs.declared.beside.Beside.{Beside}
 use Rattle.load_core.proofs.Asked.{asked_follows}
-use Rattle.load_core.proofs.Current.{filter_same}
 use Rattle.load_core.proofs.Keeping.{FollowsIn, keeps_still}
 
 -- ---- modules
@@ -63,7 +62,7 @@ pub unreached_new : ReachedIsResident → (b : Ledger) (pid m : ℕ) → IsLegal
     filter (λ k. not (is_reached b.library (state_of b) k)) (joined b.library (state_of b) pid m) ≡ newcomers b.library (state_of b) pid m
 unfolding newcomers
 unreached_new resident b pid m legal =
-    filter_same (λ k. not (is_reached b.library (state_of b) k)) (λ k. is_none (residence_of (state_of b) k))
+    filter_agree (λ k. not (is_reached b.library (state_of b) k)) (λ k. is_none (residence_of (state_of b) k))
     (λ k. ap not (sym (resident b.library b.failing (fixed_bytes b.library) b.history legal k)) ∙ none_some (residence_of (state_of b) k)) (joined b.library (state_of b) pid m)
 
 pub new_in : OrderIsInLibrary → (b : Ledger) (pid m : ℕ) → m < length b.library → All (λ k. k < length b.library) (newcomers b.library (state_of b) pid m)

@@ -1,17 +1,14 @@
 -- What a process may ask is followed by its entry.
-use Rattle.std.proofs.Common.{◌≡◌, ℕ, true, false, not, List, length, Option, Some, None, Result, Ok, Err, refl, sym, ◌∙◌, ap}
-use Rattle.std.specs.List.{range_with_len}
-use Rattle.std.proofs.lemmas.List.{length-map}
-use Rattle.std.proofs.lemmas.List.FromFn.{length-range_with_len}
+use Rattle.std.proofs.Common.{◌≡◌, ℕ, true, false, not, List, Option, Some, None, Result, Ok, Err, refl, sym, ◌∙◌, ap}
+use Rattle.load_model.proofs.ToldOutcomes.{bytes_long}
 use Rattle.load_model.specs.declared.deeds.How.{How}
 use Rattle.load_model.specs.declared.deeds.Fresh.{Fresh}
 use Rattle.load_model.specs.declared.deeds.Entry.{Entry}
 use Rattle.load_model.specs.Modules.{Library, Held}
-use Rattle.load_model.specs.State.{Residence, Failing, Eager, pids, is_among, attached_residence}
+use Rattle.load_model.specs.State.{Failing, Eager, pids, is_among, attached_residence}
 use Rattle.load_model.specs.Entering.{NoRoom, placing}
 use Rattle.load_model.specs.Initialising.{failing_module, entered, enter_by, enter_deed}
-use Rattle.load_model.specs.Memory.{Byte, Bytes}
-use Rattle.load_model.specs.Asks.{Ask, enter, free, exit, fault, put, patch, get, ask_in, bytes_at, deed_of, is_serial, may_ask}
+use Rattle.load_model.specs.Asks.{Ask, enter, free, exit, fault, put, patch, get, ask_in, deed_of, may_ask}
 use Rattle.load_model.specs.Histories.{state_after, is_first_fault, has_fault, Follows}
 use Rattle.load_model.proofs.Bools.{and_left, and_right}
 
@@ -24,12 +21,6 @@ asks_to_enter lib e pid how m (Ok fresh) = step (failing_module lib e pid how m 
     step : (o : Option ℕ) → ask_in (entered lib e pid how m fresh o) ≡ enter how m
     step None = refl
     step (Some by) = refl
-
-bytes_long : (lib : Library) (contents : Held) (e : Eager) (pid serial object offset len : ℕ) (o : Option Residence) → is_serial serial o ≡ true →
-    length (bytes_at lib contents e pid object offset len o) ≡ len
-unfolding Bytes
-bytes_long lib contents e pid serial object offset len None at = cc
-bytes_long lib contents e pid serial object offset len (Some r) at = length-map (range_with_len offset len) (Byte lib contents e pid r object) ∙ length-range_with_len offset len
 
 asks_again : (lib : Library) (contents : Held) (e : Eager) (pid : ℕ) (ask : Ask) → may_ask lib e pid ask ≡ true → ask_in (deed_of lib contents e pid ask) ≡ ask
 unfolding deed_of may_ask enter_deed

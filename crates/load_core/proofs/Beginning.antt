@@ -5,6 +5,7 @@ use Rattle.std.specs.List.{AllByRecursion, list_any}
 use Rattle.std.specs.Arc.{arc_value}
 use Rattle.std.proofs.lemmas.Bool.{eq-eqb, eqb-true}
 use Rattle.std.proofs.lemmas.List.Folds.{list_any_at}
+use Rattle.lx_types.proofs.Lists.{all_weaker, any_map, map_agree, all_front, all_joined}
 use Rattle.lx_model.specs.Library.{module_of}
 use Rattle.lx_types.specs.declared.object.PageId.{PageId}
 use Rattle.lx_types.specs.declared.bases.Bases.{Bases}
@@ -36,7 +37,6 @@ use Rattle.mod_refs.specs.AllRows.{AreRows}
 use Rattle.mod_refs.specs.Changes.{with_entered}
 use Rattle.write_overlay.specs.Layered.{Pages, Lays}
 use Rattle.stay_table.specs.Standing.{residences, unwritten, standing_in, is_of_module}
-use Rattle.stay_table.proofs.CallLists.{any_map, map_same}
 use Rattle.stay_table.proofs.Resident.{find_map, standing_with, residence_begun, serial_written, bases_written}
 use Rattle.load_core.specs.Ledger.{Ledger, state_of, IsLegal, MayAsk, with_entry}
 use Rattle.load_core.specs.Kept.{Keeps, IsCurrent, IsCurrentStay, IsLaid, rights_left, shared_as}
@@ -44,7 +44,7 @@ use Rattle.load_core.specs.Told.{residence_shown}
 use Rattle.load_core.specs.Enters.{IsBegun, HaveBegun, shared_of, bases_with}
 use Rattle.load_core.specs.declared.beside.Beside.{Beside}
 use Rattle.load_core.proofs.Arriving.{entry_with, enters_follow, placed_modules}
-use Rattle.load_core.proofs.Current.{Stands, all_more, all_joined, faults_same}
+use Rattle.load_core.proofs.Current.{Stands, faults_same}
 use Rattle.load_core.proofs.Standing.{Rising, found_so}
 use Rattle.load_core.proofs.Keeping.{FollowsIn, NoFaults, after, all_standing, rising_kept, all_current, keeps_more}
 
@@ -87,7 +87,7 @@ placed_above lib (m ∷ ms) serials occupied fresh is = step (bases_for lib occu
         let same : record { serial = suc serials; «module» = m; bases = bases } ∷ xs ≡ fresh = cc in
         let first : serials < suc serials = omega arith in
         subst (AllByRecursion (λ (f : Fresh). serials < f.serial)) same
-        (first, all_more (λ (f : Fresh). suc serials < f.serial) (λ (f : Fresh). serials < f.serial) (λ f h. let more : suc serials < f.serial = h in omega (arith, more)) xs (each xs refl))
+        (first, all_weaker (λ (f : Fresh). suc serials < f.serial) (λ (f : Fresh). serials < f.serial) (λ f h. let more : suc serials < f.serial = h in omega (arith, more)) xs (each xs refl))
 
     step : (r : Result (List ℕ) ArenaFull) →
         elim r as (λ _. Result (List Fresh) NoRoom) [
@@ -172,10 +172,6 @@ new_current b pid how m fresh calls legal (f ∷ fs) (s ∷ ss) begun above =
     in
     (subst C (sym begun.0.residence) now, new_current b pid how m fresh calls legal fs ss begun.1 above.1)
 
-front_all : {X : Type 0} (P : X → Type 0) (xs ys : List X) → AllByRecursion P (xs ++ ys) → AllByRecursion P xs
-front_all P [] ys all = tt
-front_all P (x ∷ xs) ys all = (all.0, front_all P xs ys all.1)
-
 residences_joined : (xs ys : List (Residence × Beside)) → residences (xs ++ ys) ≡ residences xs ++ residences ys
 residences_joined [] ys = refl
 residences_joined (x ∷ xs) ys = ap (λ rs. x.0 ∷ rs) (residences_joined xs ys)
@@ -241,7 +237,7 @@ keeps_entered stay b rows rows' stays new serials serials' pid how m fresh calls
     in
     let above = placing_above b.library e pid m fresh placed in
     let rise = serials_rise b.library b.failing (fixed_bytes b.library) b.history kept.legal in
-    let behind = front_all (λ s. Stands (state_of (with_entry b x)) s.0) stays new (all_standing (state_of (with_entry b x)) (stays ++ new) (still ∙ ap (λ (a : Eager). standing_in a) (sym (after b x)))) in
+    let behind = all_front (λ s. Stands (state_of (with_entry b x)) s.0) stays new (all_standing (state_of (with_entry b x)) (stays ++ new) (still ∙ ap (λ (a : Eager). standing_in a) (sym (after b x)))) in
     keeps_more b x rows' (stays ++ new) serials' kept.legal follows (subst (λ a. AreRows b.library a rows') (sym step) (entering_rows b.library e pid how m fresh rows' are)) still
     (given ∙ sym (entering_serials b.library e pid how m fresh) ∙ ap (λ (a : Eager). a.serials) (sym step))
     (all_joined (IsCurrentStay (with_entry b x)) stays new
@@ -344,7 +340,7 @@ bases_are b stays fresh m same =
     let All_of : List ModBases → Bases = λ mods. record { mods = mods } in
     let begun = with_fresh_residences (state_of b) fresh in
     ap All_of
-    (map_same (bases_with stays fresh) (λ k. Own k (bases_of (residence_of (with_fresh_residences (state_of b) fresh) k)))
+    (map_agree (bases_with stays fresh) (λ k. Own k (bases_of (residence_of (with_fresh_residences (state_of b) fresh) k)))
     (λ k. ap (Own k) (ap bases_of (sym (residence_begun (state_of b) (residences stays) fresh k (sym same))) ∙ bases_written (residence_of (with_fresh_residences (state_of b) fresh) k)))
     (Order b.library m))
 

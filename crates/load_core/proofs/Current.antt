@@ -1,7 +1,9 @@
 -- Residences that stand before an entry and behind it: their rights, and what is shared of them.
-use Rattle.std.proofs.Common.{◌≡◌, ℕ, ◌==◌, ◌||◌, Bool, true, false, not, cond, List, [], ◌∷◌, ◌++◌, filter, refl, sym, ◌∙◌, ap, subst, is_some}
+use Rattle.std.proofs.Common.{◌≡◌, ℕ, ◌==◌, ◌||◌, true, false, not, List, [], ◌∷◌, ◌++◌, refl, sym, ◌∙◌, ap, subst, is_some}
 use Rattle.std.specs.List.{list_any, AllByRecursion}
 use Rattle.std.proofs.lemmas.Bool.{eq-eqb}
+use Rattle.std.proofs.lemmas.List.Elements.{filter_agree}
+use Rattle.lx_types.proofs.Lists.{all_weaker}
 use Rattle.lx_types.specs.declared.bases.Bases.{Bases}
 use Rattle.lx_types.specs.declared.object.PageId.{PageId}
 use Rattle.lx_model.specs.Library.{module_of}
@@ -22,21 +24,9 @@ use Rattle.load_core.specs.Kept.{IsCurrent, rights_left, shared_as}
 
 -- ---- lists
 
-pub filter_same : {X : Type 0} (p q : X → Bool) → ((x : X) → p x ≡ q x) → (xs : List X) → filter p xs ≡ filter q xs
-filter_same p q same [] = refl
-filter_same p q same (x ∷ xs) = ap (λ b. cond b (x ∷ filter p xs) (filter p xs)) (same x) ∙ ap (λ ys. cond (q x) (x ∷ ys) ys) (filter_same p q same xs)
-
-pub all_more : {X : Type 0} (P Q : X → Type 0) → ((x : X) → P x → Q x) → (xs : List X) → AllByRecursion P xs → AllByRecursion Q xs
-all_more P Q more [] all = tt
-all_more P Q more (x ∷ xs) all = (more x all.0, all_more P Q more xs all.1)
-
 pub all_both : {X : Type 0} (P Q : X → Type 0) (xs : List X) → AllByRecursion P xs → AllByRecursion Q xs → AllByRecursion (λ x. P x × Q x) xs
 all_both P Q [] a b = tt
 all_both P Q (x ∷ xs) a b = ((a.0, b.0), all_both P Q xs a.1 b.1)
-
-pub all_joined : {X : Type 0} (P : X → Type 0) (xs ys : List X) → AllByRecursion P xs → AllByRecursion P ys → AllByRecursion P (xs ++ ys)
-all_joined P [] ys a b = b
-all_joined P (x ∷ xs) ys a b = (a.0, all_joined P xs ys a.1 b)
 
 -- ---- faults
 
@@ -54,7 +44,7 @@ faults_same h x serial none p = fault_or h x serial p ∙ ap (λ b. has_fault h 
 pub rights_same : (b : Ledger) (x : Entry) (r : Residence) → IsNoFault x r.serial → rights_left (with_entry b x) r ≡ rights_left b r
 rights_same b x r none =
     let R : List PageId → PageRights = λ left. record { serial = r.serial; left = left } in
-    ap R (filter_same (λ p. not (has_fault (b.history ++ x ∷ []) r.serial p)) (λ p. not (has_fault b.history r.serial p)) (λ p. ap not (faults_same b.history x r.serial none p))
+    ap R (filter_agree (λ p. not (has_fault (b.history ++ x ∷ []) r.serial p)) (λ p. not (has_fault b.history r.serial p)) (λ p. ap not (faults_same b.history x r.serial none p))
     (fixable_pages (module_of b.library r.«module»)))
 
 -- ---- what stands
@@ -72,12 +62,12 @@ among_all [] = tt
 among_all (r ∷ rs) =
     let here : list_any (λ s. s.«module» == r.«module») (r ∷ rs) ≡ true = ap (λ b. b || list_any (λ s. s.«module» == r.«module») rs) (eq-eqb r.«module» r.«module» refl) in (
       here,
-      all_more (λ q. list_any (λ s. s.«module» == q.«module») rs ≡ true) (λ q. list_any (λ s. s.«module» == q.«module») (r ∷ rs) ≡ true)
+      all_weaker (λ q. list_any (λ s. s.«module» == q.«module») rs ≡ true) (λ q. list_any (λ s. s.«module» == q.«module») (r ∷ rs) ≡ true)
           (λ q h. ap (λ b. (r.«module» == q.«module») || b) h ∙ or_true (r.«module» == q.«module»)) rs (among_all rs),
     )
 
 pub all_stand : (e : Eager) → AllByRecursion (Stands e) e.residences
-all_stand e = all_more (λ r. list_any (λ s. s.«module» == r.«module») e.residences ≡ true) (Stands e) (λ r h. stands_in e r h) e.residences (among_all e.residences)
+all_stand e = all_weaker (λ r. list_any (λ s. s.«module» == r.«module») e.residences ≡ true) (Stands e) (λ r h. stands_in e r h) e.residences (among_all e.residences)
 
 -- ---- behind an entry
 

@@ -5,7 +5,8 @@ use Rattle.std.specs.List.{list_any, range_with_len}
 use Rattle.std.specs.Arc.{arc_value}
 use Rattle.std.proofs.Math.Seq.{map-set_same}
 use Rattle.std.proofs.lemmas.Option.{get_or_from_slice_get}
-use Rattle.std.proofs.lemmas.Bool.{eq-eqb, lt-ltb, le-leb, not_from_false}
+use Rattle.std.proofs.lemmas.Bool.{eq-eqb, lt-ltb, le-leb, not_from_false, ne_eqb}
+use Rattle.std.proofs.lemmas.List.Elements.{filter_agree}
 use Rattle.lx_types.specs.Object.{class_of}
 use Rattle.lx_types.specs.Parts.{page_at}
 use Rattle.lx_types.specs.declared.object.Class.{Class}
@@ -40,8 +41,8 @@ use Rattle.load_core.specs.Ledger.{Ledger, state_of, MayAsk, entry_of, with_entr
 use Rattle.load_core.specs.Kept.{Keeps, IsCurrentStay, IsLaid, rights_left, shared_as}
 use Rattle.load_core.specs.Taken.{without_right}
 use Rattle.load_core.specs.declared.beside.Beside.{Beside}
-use Rattle.load_core.proofs.Current.{Stands, IsNoFault, fault_or, filter_same, all_both, current_same, shared_same}
-use Rattle.load_core.proofs.Standing.{IsAsked, asked, asked_there, asked_nowhere, all_set, there_so, unlike}
+use Rattle.load_core.proofs.Current.{Stands, IsNoFault, fault_or, all_both, current_same, shared_same}
+use Rattle.load_core.proofs.Standing.{IsAsked, asked, asked_there, asked_nowhere, all_set, there_so}
 use Rattle.load_core.proofs.Keeping.{FollowsIn, after, all_standing, rising_kept, keeps_more}
 
 -- ---- the page may be fixed
@@ -55,7 +56,7 @@ one_page n = ap (λ k. range_with_len k ((n * PAGE_SIZE + 1 - 1) / PAGE_SIZE + 1
     one : (n : ℕ) → (n * 4096 + 1 - 1) / 4096 + 1 - n ≡ 1
     one n = omega arith
 
-none_is : (x : Option Refusal) → is_none x ≡ true → x ≡ None
+pub none_is : (x : Option Refusal) → is_none x ≡ true → x ≡ None
 none_is None h = refl
 none_is (Some y) h = cc
 
@@ -127,7 +128,7 @@ right_taken b pid m r p =
     let R : List PageId → PageRights = λ left. record { serial = r.serial; left = left } in
     ap R
     (filter_twice (λ q. not (is_page p q)) (λ q. not (has_fault b.history r.serial q)) (fixable_pages (module_of b.library r.«module»))
-    ∙ filter_same _ (λ q. not (has_fault (b.history ++ fault_entry pid r.serial m p ∷ []) r.serial q)) (λ q. step q) (fixable_pages (module_of b.library r.«module»)))
+    ∙ filter_agree _ (λ q. not (has_fault (b.history ++ fault_entry pid r.serial m p ∷ []) r.serial q)) (λ q. step q) (fixable_pages (module_of b.library r.«module»)))
   where
     negated : (a c own : Bool) → own ≡ true → not a && not c ≡ not (a || (own && c))
     negated true c own h = refl
@@ -209,7 +210,7 @@ other_fault : (pid serial m n : ℕ) (p : PageId) → (n == serial) ≡ false �
 other_fault pid serial m n p other q = ap (λ c. c && is_page p q) (turned n serial other)
   where
     turned : (a c : ℕ) → (a == c) ≡ false → (c == a) ≡ false
-    turned a c h = unlike c a (λ same. wrong (a == c) h (eq-eqb a c (sym same)))
+    turned a c h = ne_eqb c a (λ same. wrong (a == c) h (eq-eqb a c (sym same)))
       where
         wrong : (t : Bool) → t ≡ false → t ≡ true → ⊥
         wrong t f g = (let e : true ≡ false = sym g ∙ f in cc)

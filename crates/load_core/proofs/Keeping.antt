@@ -2,12 +2,13 @@
 use Rattle.std.proofs.Common.{◌≡◌, ℕ, ◌==◌, Bool, true, false, List, [], ◌∷◌, ◌++◌, Some, map, slice_get, refl, sym, ◌∙◌, ap, subst, if◌then◌else◌}
 use Rattle.std.specs.Prelude.{◌<◌, length, slice_index}
 use Rattle.std.specs.List.{AllByRecursion}
-use Rattle.std.proofs.lemmas.Bool.{eq-eqb, eqb-true}
+use Rattle.std.proofs.lemmas.Bool.{eq-eqb, eqb-true, both_ways}
 use Rattle.std.proofs.lemmas.List.{append-nil}
 use Rattle.std.proofs.Math.Seq.{map-set_same}
 use Rattle.std.proofs.lemmas.Option.{get_or_from_slice_get}
 use Rattle.lx_types.specs.Object.{class_of}
 use Rattle.std.specs.Arc.{arc_value}
+use Rattle.lx_types.proofs.Lists.{all_weaker}
 use Rattle.lx_types.specs.declared.object.Class.{Class}
 use Rattle.lx_types.specs.declared.object.Class.TheVariants as classes
 use Rattle.load_model.specs.declared.deeds.Deed.TheVariants as deeds
@@ -28,7 +29,7 @@ use Rattle.load_core.specs.Ledger.{Ledger, state_of, IsLegal, with_entry}
 use Rattle.load_core.specs.Kept.{Keeps, IsCurrentStay, IsLaid}
 use Rattle.load_core.specs.Shared.{shared_writes, AreLaid}
 use Rattle.load_core.specs.declared.beside.Beside.{Beside}
-use Rattle.load_core.proofs.Current.{Stands, IsNoFault, all_more, all_both, all_stand, current_same}
+use Rattle.load_core.proofs.Current.{Stands, IsNoFault, all_both, all_stand, current_same}
 use Rattle.load_core.proofs.Standing.{Rising, rising_standing, there_so, all_set}
 
 -- ---- lists of residences
@@ -81,7 +82,7 @@ pub all_current : BasesSeenStay → (b : Ledger) (x : Entry) (stays : List (Resi
     AllByRecursion (λ s. Stands (state_of b) s.0) stays → AllByRecursion (λ s. Stands (state_of (with_entry b x)) s.0) stays →
     AllByRecursion (IsCurrentStay b) stays → AllByRecursion (IsCurrentStay (with_entry b x)) stays
 all_current stay b x stays legal follows none before behind current =
-    all_more (λ s. (Stands (state_of b) s.0 × Stands (state_of (with_entry b x)) s.0) × IsCurrentStay b s) (IsCurrentStay (with_entry b x))
+    all_weaker (λ s. (Stands (state_of b) s.0 × Stands (state_of (with_entry b x)) s.0) × IsCurrentStay b s) (IsCurrentStay (with_entry b x))
     (λ s h. current_same stay b x s.0 s.1.rights (arc_value s.1.shared) legal follows (none s.0.serial) h.0.0 h.0.1 h.1) stays
     (all_both (λ s. Stands (state_of b) s.0 × Stands (state_of (with_entry b x)) s.0) (IsCurrentStay b) stays
     (all_both (λ s. Stands (state_of b) s.0) (λ s. Stands (state_of (with_entry b x)) s.0) stays before behind) current)
@@ -138,9 +139,6 @@ none_written serial (r ∷ rs) = ap (λ q. q ∷ map (with_writes serial []) rs)
     step true = ap (λ ws. record r { writes = ws }) (append-nil r.writes)
     step false = refl
 
-true_false : (b : Bool) → b ≡ true → b ≡ false → ⊥
-true_false b t f = (let wrong : true ≡ false = sym t ∙ f in cc)
-
 -- what is laid beside another residence stays so
 others_laid : (serial : ℕ) (more : List Written) (t : Residence × Beside) (rs : List Residence) → (t.0.serial == serial) ≡ false → IsLaid rs t → IsLaid (map (with_writes serial more) rs) t
 others_laid serial more t [] other laid = tt
@@ -148,7 +146,7 @@ others_laid serial more t (r ∷ rs) other laid = (step (r.serial == serial) ref
   where
     step : (c : Bool) → (r.serial == serial) ≡ c → (r.serial ≡ t.0.serial → Lays t.1.layers r.writes) →
         (if c then record r { writes = r.writes ++ more } else r).serial ≡ t.0.serial → Lays t.1.layers (if c then record r { writes = r.writes ++ more } else r).writes
-    step true is h e = absurd (true_false (t.0.serial == serial) (eq-eqb t.0.serial serial (sym e ∙ eqb-true r.serial serial is)) other)
+    step true is h e = absurd (both_ways (t.0.serial == serial) other (eq-eqb t.0.serial serial (sym e ∙ eqb-true r.serial serial is)))
     step false is h e = h e
 
 -- the writes are laid over those before them
@@ -163,7 +161,7 @@ this_laid serial more s t (r ∷ rs) numbered same over laid = (step (r.serial =
     step : (c : Bool) → (r.serial == serial) ≡ c → (r.serial ≡ s.0.serial → Lays s.1.layers r.writes) →
         (if c then record r { writes = r.writes ++ more } else r).serial ≡ t.0.serial → Lays t.1.layers (if c then record r { writes = r.writes ++ more } else r).writes
     step true is h e = over r.writes (h (e ∙ own))
-    step false is h e = absurd (true_false (r.serial == serial) (eq-eqb r.serial serial (e ∙ own ∙ numbered)) is)
+    step false is h e = absurd (both_ways (r.serial == serial) is (eq-eqb r.serial serial (e ∙ own ∙ numbered)))
 
 -- Residences with these writes over those before them in the one at a place, which has this serial number.
 module _ (stays after : List (Residence × Beside)) (place serial high : ℕ) (s : Residence × Beside) (more : List Written) (rise : Rising 0 (residences stays) high)

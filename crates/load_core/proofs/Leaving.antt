@@ -1,11 +1,12 @@
 -- What a free and an exit leave of what a board keeps.
-use Rattle.std.proofs.Common.{◌≡◌, ◌≢◌, ◌∷◌, [], ℕ, zero, suc, ◌+◌, ◌<◌, ◌==◌, ◌||◌, Bool, true, false, not, List, length, filter, cond, count_by, Option, Some, None, option_to_list, refl, sym, ◌∙◌, ap, subst, arith, map}
-use Rattle.std.specs.Prelude.{All, slice_index, is_none}
+use Rattle.std.proofs.Common.{◌≡◌, ◌≢◌, ◌∷◌, [], ℕ, zero, suc, ◌+◌, ◌<◌, ◌==◌, ◌||◌, Bool, true, false, not, List, length, filter, cond, count_by, Some, None, option_to_list, refl, sym, ◌∙◌, ap, subst, arith, map}
+use Rattle.std.specs.Prelude.{All, slice_index}
 use Rattle.std.specs.List.{list_any, AllByRecursion}
-use Rattle.std.proofs.lemmas.Bool.{eq-eqb, eqb-true, eqb-false}
+use Rattle.std.proofs.lemmas.Bool.{eqb-true, eqb-false}
 use Rattle.std.proofs.lemmas.List.Folds.{list_any-append}
+use Rattle.mod_refs.proofs.LegalRows.{own_order}
+use Rattle.load_core.proofs.Faulting.{none_is}
 use Rattle.lx_model.specs.Laws.{OrderEndsWithItself}
-use Rattle.load_model.specs.declared.commands.Refusal.{Refusal}
 use Rattle.load_model.specs.declared.commands.Refusal.TheVariants.{Ended, NotHeld}
 use Rattle.load_model.specs.declared.deeds.Call.{Call}
 use Rattle.load_model.specs.declared.deeds.Gone.{Gone}
@@ -44,13 +45,6 @@ use Rattle.load_core.proofs.Keeping.{FollowsIn, NoFaults, after, all_standing, a
 
 -- ---- what is held
 
--- a module is of its own order
-own_order : OrderEndsWithItself → (lib : Library) (m : ℕ) → is_among (order_of lib m) m ≡ true
-unfolding order_of
-own_order ends lib m =
-    let last = ends lib m in
-    ap (λ xs. is_among xs m) last.1 ∙ list_any-append (λ other. other == m) last.0 (m ∷ []) ∙ ap (λ b. is_among last.0 m || (b || false)) (eq-eqb m m refl) ∙ or_true (is_among last.0 m)
-
 counted_any : (f : ℕ → Bool) (m : ℕ) (xs : List ℕ) → f m ≡ true → count_by (λ other. other == m) xs ≢ 0 → list_any f xs ≡ true
 counted_any f m [] own some = absurd (some refl)
 counted_any f m (x ∷ xs) own some = step (x == m) refl (counted_any f m xs own) (λ none. some (count_cons (λ other. other == m) x xs ∙ none))
@@ -65,10 +59,6 @@ held_reached ends lib p m some =
     list_any-append (λ root. is_among (order_of lib root) m) (option_to_list p.started) p.loads
     ∙ ap (λ b. list_any (λ root. is_among (order_of lib root) m) (option_to_list p.started) || b) (counted_any (λ root. is_among (order_of lib root) m) m p.loads (own_order ends lib m) some)
     ∙ or_true (list_any (λ root. is_among (order_of lib root) m) (option_to_list p.started))
-
-none_is : (x : Option Refusal) → is_none x ≡ true → x ≡ None
-none_is None h = refl
-none_is (Some y) h = cc
 
 freed_held : (lib : Library) (e : Eager) (pid m : ℕ) → may_ask lib e pid (free m) ≡ true → count_of (e.processes pid) m ≢ 0
 unfolding may_ask

@@ -1,9 +1,9 @@
 -- What may be asked of a load, for the rows, and what is handed out by it.
-use Rattle.std.proofs.Common.{◌≡◌, ◌∷◌, [], ℕ, zero, suc, ◌<◌, true, false, not, List, length, map, Option, Some, None, is_some, is_none, Ok, refl, sym, ◌∙◌, ap, subst, arith}
+use Rattle.std.proofs.Common.{◌≡◌, ◌∷◌, [], ℕ, zero, suc, ◌<◌, true, false, not, List, length, map, Option, Some, None, is_some, Ok, refl, sym, ◌∙◌, ap, subst, arith}
 use Rattle.std.specs.Prelude.{All, nat_le, slice_index}
 use Rattle.std.proofs.lemmas.Bool.{leb-false}
+use Rattle.load_core.proofs.Faulting.{none_is}
 use Rattle.lx_model.specs.Laws.{OrderIsInLibrary}
-use Rattle.load_model.specs.declared.commands.Refusal.{Refusal}
 use Rattle.load_model.specs.declared.commands.Refusal.TheVariants.{Ended, Started, NotLibrary, CountFull}
 use Rattle.load_model.specs.declared.deeds.How.{How}
 use Rattle.load_model.specs.declared.deeds.How.TheVariants as ways
@@ -20,10 +20,6 @@ use Rattle.mod_refs.specs.AllRows.{AreRows, row_at}
 use Rattle.mod_refs.specs.Changes.{IsIdleFor, IsFullFor}
 use Rattle.load_core.specs.Ledger.{Ledger, state_of, MayAsk}
 use Rattle.load_core.proofs.Arriving.{module_asked, not_refused, new_in, placed_modules}
-
-none_is : (x : Option Refusal) → is_none x ≡ true → x ≡ None
-none_is None h = refl
-none_is (Some y) h = cc
 
 started_none : (p : Process) → started_refusal p ways.Start ≡ None → p.started ≡ None
 started_none p h = step p.started (when_none (is_some p.started) Started h)

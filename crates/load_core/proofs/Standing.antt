@@ -2,7 +2,8 @@
 use Rattle.std.proofs.Common.{◌≡◌, ℕ, zero, suc, ◌<◌, ◌==◌, Bool, true, false, cond, List, [], ◌∷◌, map, find, position, set, slice_get, Option, Some, None, option_map, refl, sym, ◌∙◌, ap, subst, arith}
 use Rattle.std.specs.List.{AllByRecursion}
 use Rattle.std.specs.Prelude.{if◌then◌else◌}
-use Rattle.std.proofs.lemmas.Bool.{eq-eqb, eqb-true}
+use Rattle.std.proofs.lemmas.Bool.{eq-eqb, eqb-true, ne_eqb}
+use Rattle.lx_types.proofs.Lists.{all_weaker}
 use Rattle.page_fix.proofs.Places.{find_by_position}
 use Rattle.load_model.specs.declared.deeds.Entry.{Entry}
 use Rattle.load_model.specs.Modules.{Library, Held}
@@ -13,7 +14,6 @@ use Rattle.load_model.specs.Serials.{Rise, SerialsRise}
 use Rattle.load_model.proofs.Bytes.{attached_is}
 use Rattle.stay_table.specs.Standing.{residences, unwritten, standing_in, has_serial}
 use Rattle.stay_table.proofs.Resident.{find_map}
-use Rattle.load_core.proofs.Current.{all_more}
 
 -- ---- rising serial numbers
 
@@ -21,7 +21,7 @@ abbrev pub Rising : ℕ → List Residence → ℕ → Type 0
 Rising low rs high = Rise low (map (λ r. r.serial) rs) high
 
 above_lower : (low mid : ℕ) (rs : List Residence) → low < mid → AllByRecursion (λ r. mid < r.serial) rs → AllByRecursion (λ r. low < r.serial) rs
-above_lower low mid rs less = all_more (λ r. mid < r.serial) (λ r. low < r.serial) (λ r h. let n : mid < r.serial = h in omega (arith, less, n)) rs
+above_lower low mid rs less = all_weaker (λ r. mid < r.serial) (λ r. low < r.serial) (λ r h. let n : mid < r.serial = h in omega (arith, less, n)) rs
 
 pub all_above : (low high : ℕ) (rs : List Residence) → Rising low rs high → AllByRecursion (λ r. low < r.serial) rs
 all_above low high [] rise = tt
@@ -47,15 +47,8 @@ there_so P [] i x all is = cc
 there_so P (y ∷ xs) zero x all is = (let same : y ≡ x = cc in subst P same all.0)
 there_so P (y ∷ xs) (suc i) x all is = there_so P xs i x all.1 is
 
-pub unlike : (a b : ℕ) → (a ≡ b → ⊥) → (a == b) ≡ false
-unlike a b differ = step (a == b) refl
-  where
-    step : (c : Bool) → (a == b) ≡ c → c ≡ false
-    step true is = absurd (differ (eqb-true a b is))
-    step false is = refl
-
 apart : (a b : ℕ) → a < b → (a == b) ≡ false
-apart a b less = unlike a b (λ same. let e : a ≡ b = same in omega (arith, less, e))
+apart a b less = ne_eqb a b (λ same. let e : a ≡ b = same in omega (arith, less, e))
 
 pub found_by_serial : (f : Residence → Bool) (low high serial : ℕ) (rs : List Residence) (r : Residence) → Rising low rs high → find f rs ≡ Some r → r.serial ≡ serial →
     find (λ x. x.serial == serial) rs ≡ Some r
@@ -97,7 +90,7 @@ module _ {T : Type 0} where
       others [] up own all = tt
       others (y ∷ ys) up own all =
           let less : serial < y.0.serial = subst (λ n. n < y.0.serial) own up.0 in
-          (more y (unlike y.0.serial serial (λ e. let same : y.0.serial ≡ serial = e in omega (arith, less, same))) all.0, others ys up.1 own all.1)
+          (more y (ne_eqb y.0.serial serial (λ e. let same : y.0.serial ≡ serial = e in omega (arith, less, same))) all.0, others ys up.1 own all.1)
   all_set P Q serial low high (x ∷ stays) (suc i) s v rise is at more this all =
       let less : x.0.serial < s.0.serial = there_so (λ (t : Residence × T). x.0.serial < t.0.serial) stays i s (lifted stays (all_above x.0.serial high (residences stays) rise.1)) is in
       (more x (subst (λ n. (x.0.serial == n) ≡ false) at (apart x.0.serial s.0.serial less)) all.0, all_set P Q serial x.0.serial high stays i s v rise.1 is at more this all.1)

@@ -1,11 +1,12 @@
 -- Bytes that are written and read, and their entries.
-use Rattle.std.proofs.Common.{◌≡◌, ◌∷◌, ◌++◌, [], ℕ, zero, suc, ◌+◌, ◌-◌, ◌<◌, ◌≤◌, true, List, length, map, Option, Some, None, is_none, position, slice_get, slice_index, refl, sym, ◌∙◌, ap, subst, arith}
+use Rattle.std.proofs.Common.{◌≡◌, ◌∷◌, ◌++◌, [], ℕ, ◌-◌, true, List, length, map, Some, None, position, slice_get, slice_index, refl, sym, ◌∙◌, ap, subst, arith}
 use Rattle.std.specs.List.{range_with_len}
 use Rattle.std.proofs.lemmas.List.FromFn.{get_or-map-range_with_len, length-map-range_with_len}
+use Rattle.load_model.proofs.Holding.{range_same}
+use Rattle.load_core.proofs.Faulting.{none_is}
 use Rattle.lx_types.specs.Object.{class_of}
 use Rattle.lx_types.specs.declared.object.Class.{Class}
 use Rattle.lx_types.specs.declared.object.Class.TheVariants as classes
-use Rattle.load_model.specs.declared.commands.Refusal.{Refusal}
 use Rattle.load_model.specs.declared.commands.Refusal.TheVariants.{Range, Invalid}
 use Rattle.load_model.specs.declared.deeds.Deed.TheVariants as deeds
 use Rattle.load_model.specs.declared.deeds.Entry.{Entry}
@@ -113,23 +114,10 @@ module _ (b : Ledger) (rows : List Row) (stays : List (Residence × Beside)) (se
 
 -- ---- reading what is shared
 
-range_same : (f g : ℕ → ℕ) (n from : ℕ) → ((x : ℕ) → from ≤ x → x < from + n → f x ≡ g x) → map f (range_with_len from n) ≡ map g (range_with_len from n)
-range_same f g zero from h = refl
-range_same f g (suc n) from h =
-    let here : f from ≡ g from = h from (omega arith) (omega arith) in
-    let later : map f (range_with_len (from + 1) n) ≡ map g (range_with_len (from + 1) n) =
-    range_same f g n (from + 1) (λ x low high. h x (omega arith) (omega arith))
-    in
-    ap (λ y. y ∷ map f (range_with_len (from + 1) n)) here ∙ ap (λ ys. g from ∷ ys) later
-
 shared_class : (c : Class) → class_refusal share c ≡ None → c ≡ classes.Shared
 shared_class classes.Code h = cc
 shared_class classes.Private h = cc
 shared_class classes.Shared h = refl
-
-none_is : (x : Option Refusal) → is_none x ≡ true → x ≡ None
-none_is None h = refl
-none_is (Some y) h = cc
 
 get_shared : (b : Ledger) (pid serial m object offset len : ℕ) → MayAsk b pid (get serial m object offset len) → class_of (object_at b.library m object) ≡ classes.Shared
 unfolding may_ask span_refusal

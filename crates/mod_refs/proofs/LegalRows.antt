@@ -21,7 +21,7 @@ among_own : (xs : List ℕ) (i d : ℕ) → i < length xs → is_among xs (get_o
 among_own xs i d h = list_any_at (λ other. other == get_or xs i d) xs i d h (eq-eqb (get_or xs i d) (get_or xs i d) refl)
 
 -- a module is of its own order
-own_order : OrderEndsWithItself → (lib : Library) (m : ℕ) → is_among (order_of lib m) m ≡ true
+pub own_order : OrderEndsWithItself → (lib : Library) (m : ℕ) → is_among (order_of lib m) m ≡ true
 unfolding order_of
 own_order ends lib m =
     let last = ends lib m in

@@ -3,6 +3,7 @@ use Rattle.std.proofs.Common.{◌≡◌, ℕ, ◌<◌, ◌==◌, Bool, true, fal
 use Rattle.std.specs.Prelude.{All, filter_map, option_map, reverse}
 use Rattle.std.proofs.lemmas.List.{append-nil}
 use Rattle.std.proofs.lemmas.List.Elements.{All-nil, All-cons, All-head, All-tail}
+use Rattle.lx_types.proofs.Lists.{map_agree}
 use Rattle.load_model.specs.declared.deeds.Fresh.{Fresh}
 use Rattle.load_model.specs.declared.deeds.How.{How}
 use Rattle.load_model.specs.Modules.{Library}
@@ -12,7 +13,7 @@ use Rattle.load_model.specs.Initialising.{before_number, undoing_calls}
 use Rattle.load_model.specs.Leaving.{left, gone_modules, gone, gone_of, term_of, leaving_calls}
 use Rattle.stay_table.specs.Standing.{unwritten, standing_in}
 use Rattle.stay_table.specs.Placing.{state_with}
-use Rattle.stay_table.proofs.CallLists.{filter_map_same, map_same, term_same, init_same, main_same}
+use Rattle.stay_table.proofs.CallLists.{filter_map_same, term_same, init_same, main_same}
 use Rattle.stay_table.proofs.Resident.{residence_is, standing_with, serial_written}
 
 -- ---- what leaves
@@ -32,7 +33,7 @@ pub gone_is : (lib : Library) (e : Eager) (pid : ℕ) (p : Process) (rs : List R
     gone_now ≡ gone_modules lib e pid p → map (gone_of (state_with (rs ++ map residence_from []))) gone_now ≡ gone lib e pid p
 unfolding gone
 gone_is lib e pid p rs gone_now same is =
-    map_same (gone_of (state_with (rs ++ map residence_from []))) (gone_of e) (λ m. ap (λ n. record { serial = n; «module» = m }) (ap serial_of (stands_alone e rs m same) ∙ serial_written (residence_of e m))) gone_now
+    map_agree (gone_of (state_with (rs ++ map residence_from []))) (gone_of e) (λ m. ap (λ n. record { serial = n; «module» = m }) (ap serial_of (stands_alone e rs m same) ∙ serial_written (residence_of e m))) gone_now
     ∙ ap (map (gone_of e)) is
 
 -- ---- a start or a load

@@ -2,7 +2,7 @@
 use Rattle.std.proofs.Common.{◌≡◌, ℕ, zero, suc, ◌+◌, ◌%◌, ◌<◌, ◌≤◌, ◌&&◌, ◌==◌, Bool, true, false, cond, List, [], ◌∷◌, ◌++◌, length, get_or, map, take, drop, Option, Some, None, Result, Ok, Err, refl, sym, ◌∙◌, ap, subst, arith, append_assoc}
 use Rattle.std.specs.Prelude.{find, flat_map, nat_le, zip}
 use Rattle.std.proofs.Math.Seq.{drop-cons}
-use Rattle.std.proofs.lemmas.Bool.{leb-true}
+use Rattle.std.proofs.lemmas.Bool.{leb-true, and_parts}
 use Rattle.std.proofs.lemmas.List.{take_all, take_more, append-nil, drop_all, get_or-map, length-map, map-append}
 use Rattle.std.proofs.lemmas.Grind.{flat_map-append}
 use Rattle.std.proofs.lemmas.List.Elements.{All-from_recursion}
@@ -28,14 +28,6 @@ use Rattle.stay_table.specs.Placing.{AreStanding, no_room_of}
 
 -- ---- objects that stand
 
-and_left : (a b : Bool) → a && b ≡ true → a ≡ true
-and_left true b e = refl
-and_left false b e = e
-
-and_right : (a b : Bool) → a && b ≡ true → b ≡ true
-and_right true b e = e
-and_right false b e = (let wrong : false ≡ true = e in cc)
-
 -- an object that lies within the shared arena
 pub record IsShared (size base : ℕ) : Type 0 where
   pub from : SHARED_FROM ≤ base
@@ -43,8 +35,8 @@ pub record IsShared (size base : ℕ) : Type 0 where
 
 shared_bounds : (size base : ℕ) → is_in_arena shared_arena size base ≡ true → IsShared size base
 shared_bounds size base is = record {
-  from = leb-true SHARED_FROM base (and_right (base % UNIT == 0) (nat_le SHARED_FROM base) (and_left (base % UNIT == 0 && nat_le SHARED_FROM base) (nat_le (base + room size) SHARED_END) is));
-  to = leb-true (base + room size) SHARED_END (and_right (base % UNIT == 0 && nat_le SHARED_FROM base) (nat_le (base + room size) SHARED_END) is);
+  from = leb-true SHARED_FROM base (and_parts (base % UNIT == 0) (nat_le SHARED_FROM base) (and_parts (base % UNIT == 0 && nat_le SHARED_FROM base) (nat_le (base + room size) SHARED_END) is).0).1;
+  to = leb-true (base + room size) SHARED_END (and_parts (base % UNIT == 0 && nat_le SHARED_FROM base) (nat_le (base + room size) SHARED_END) is).1;
 }
 
 pub stand_each : (arena : AddressRange) (os : List ObjHead) (bases : List ℕ) → StandIn arena os bases → length os ≡ length bases
@@ -124,7 +116,7 @@ placed_in arena (o ∷ os) occupied n bases e = step (place_of arena occupied o)
         ((occ : List AddressRange) (bs : List ℕ) → places_from arena occ (n + 1) os ≡ Ok bs → StandIn arena os bs) → StandIn arena (o ∷ os) bases
     step (Some base) is e each =
         one_base arena o os base (places_from arena (occupied ++ range_at base o.size ∷ []) (n + 1) os) bases
-        (and_left _ _ (found_passes (is_place arena occupied o.size) (o.base ∷ bases_in arena) base is)) (each (occupied ++ range_at base o.size ∷ [])) e
+        (and_parts _ _ (found_passes (is_place arena occupied o.size) (o.base ∷ bases_in arena) base is)).0 (each (occupied ++ range_at base o.size ∷ [])) e
     step None is e each = cc
 
 pub module_stands : (lib : Library) (occupied : List AddressRange) (m : ℕ) (bases : List ℕ) → bases_for lib occupied m ≡ Ok bases → Stands lib m bases

@@ -1,8 +1,8 @@
 use Rattle.std.proofs.Common.{◌==◌, rules, tests, sym, ◌∙◌}
 use Rattle.std.proofs.lemmas.Iterator.{YieldsList-from_slice}
 use Rattle.std.proofs.lemmas.Iterator.Search.{any_from_yields_List}
+use Rattle.lx_types.proofs.Lists.{any_map}
 use Rattle.load_model.specs.declared.deeds.Fresh.{Fresh}
-use Rattle.stay_table.proofs.CallLists.{any_map}
 use Rattle.stay_table.proofs.calls.is_new.Goals as goal
 
 pub returns : goal.returns
