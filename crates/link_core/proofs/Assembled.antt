@@ -105,7 +105,7 @@ unfolding rules
 same-names l clash = refl
 
 -- Where no COMDATs clash, an input's link is that of what is kept.
-joined-is : (input : LinkInput) (picks : List Pick) → comdat_refusal input picks ≡ None → link_of (Kept input) picks ≡ kept_link input picks
+pub joined-is : (input : LinkInput) (picks : List Pick) → comdat_refusal input picks ≡ None → link_of (Kept input) picks ≡ kept_link input picks
 joined-is input picks none = ap (λ (o : Option ComdatRefusal). let l : Link = record (link_of (Kept input) picks) { clash = o } in l) (sym none)
 
 pub sym-refused : (input : LinkInput) (r : SymRefusal) → IsRefused (Kept input) r → RefusesLink input (Sym r)

@@ -1,5 +1,5 @@
 -- The automatic data object, by the groups of modules.
-use Rattle.std.specs.Prelude.{◌≡◌, ℕ, zero, suc, ◌+◌, ◌<◌, Bool, true, false, not, ◌&&◌, ◌||◌, List, [], ◌∷◌, ◌++◌, Option, Some, None, map, filter, length, take, slice_get, bytes_eq, is_some, unwrap_or, cond, refl}
+use Rattle.std.specs.Prelude.{◌≡◌, ℕ, zero, suc, ◌+◌, ◌<◌, Bool, true, false, not, ◌&&◌, ◌||◌, List, [], ◌∷◌, ◌++◌, Option, Some, None, map, filter, length, take, bytes_eq, is_some, unwrap_or, cond, refl}
 use Rattle.std.specs.List.{find, flat_map, list_any, enumerate_from, position, All, AllByRecursion}
 use Rattle.std.specs.Option.{option_map, option_and_then}
 use Rattle.std.specs.Borrow.{Bor}
@@ -9,6 +9,8 @@ use Rattle.std.proofs.lemmas.List.{map-append, take_more}
 use Rattle.std.proofs.lemmas.List.Elements.{All-push, recursion_from_All}
 use Rattle.std.proofs.lemmas.List.Quantifiers.{position-Some}
 use Rattle.std.proofs.lemmas.Slice.Eq.{bytes_eq-Decides}
+use Rattle.std.proofs.lemmas.Bool.{or_parts}
+use Rattle.std.proofs.lemmas.Option.{slice_get-get_or}
 use Rattle.obj_types.specs.Items.{item}
 use Rattle.obj_types.specs.declared.object.Group.{Group}
 use Rattle.obj_types.specs.declared.object.ObjModule.{ObjModule}
@@ -33,15 +35,10 @@ HasNone m = list_any named m.groups ≡ false
 
 -- ---- a module that declares it
 
-get_is : {X : Type 0} (xs : List X) (i : ℕ) (d : X) → i < length xs → slice_get xs i ≡ Some (get_or xs i d)
-get_is [] i d h = absurd (omega (arith, h))
-get_is (x ∷ xs) zero d h = refl
-get_is (x ∷ xs) (suc i) d h = get_is xs i d (omega (arith, h))
-
 item_is : {X : Type 0} (xs : List X) (n i : ℕ) (d : X) → n ≡ i + 1 → i < length xs → item xs n ≡ Some (get_or xs i d)
 item_is {X} xs n i d e h =
     let same : suc i ≡ n = omega (arith, e) in
-    subst (λ (k : ℕ). item xs k ≡ Some (get_or xs i d)) same (get_is xs i d h)
+    subst (λ (k : ℕ). item xs k ≡ Some (get_or xs i d)) same (slice_get-get_or xs i d h)
 
 mapped_at : (ms : List (Bor ObjModule)) (i : ℕ) (d : Bor ObjModule) → i < length ms → get_or (map (λ m. m.now) ms) i d.now ≡ (get_or ms i d).now
 mapped_at [] i d h = absurd (omega (arith, h))
@@ -85,18 +82,10 @@ all-more P ms i x h is all here =
     let more : map (λ m. m.now) (take i ms) ++ x.now ∷ [] ≡ map (λ m. m.now) (take (i + 1) ms) = sym (map-append (λ (m : Bor ObjModule). m.now) (take i ms) (x ∷ [])) ∙ ap (map (λ (m : Bor ObjModule). m.now)) (ap (λ (b : Bor ObjModule). take i ms ++ b ∷ []) is ∙ sym (take_more ms i x h)) in
     subst (λ (xs : List ObjModule). All P xs) more (All-push P (map (λ m. m.now) (take i ms)) x.now all here)
 
-or_first : (a b : Bool) → (a || b) ≡ false → a ≡ false
-or_first false b e = refl
-or_first true b e = absurd (true≢false e)
-
-or_second : (a b : Bool) → (a || b) ≡ false → b ≡ false
-or_second false b e = e
-or_second true b e = absurd (true≢false e)
-
 none_kept : (gs : List Group) → list_any named gs ≡ false → filter named gs ≡ []
 none_kept [] e = refl
 none_kept (g ∷ gs) e =
-    ap (λ (b : Bool). cond b (g ∷ filter named gs) (filter named gs)) (or_first (named g) (list_any named gs) e) ∙ none_kept gs (or_second (named g) (list_any named gs) e)
+    ap (λ (b : Bool). cond b (g ∷ filter named gs) (filter named gs)) (or_parts (named g) (list_any named gs) e).0 ∙ none_kept gs (or_parts (named g) (list_any named gs) e).1
 
 no_members_in : (b : ℕ) (ms : List ObjModule) → AllByRecursion HasNone ms → flat_map (λ q. flat_map (members_in q.0 q.1) (filter named q.1.groups)) (enumerate_from b ms) ≡ []
 no_members_in b [] h = refl
@@ -106,12 +95,12 @@ no_members_in b (m ∷ ms) h =
 no_name : (gs : List Group) → list_any named gs ≡ false → list_any (bytes_eq DGROUP) (map (λ g. g.name) gs) ≡ false
 no_name [] e = refl
 no_name (g ∷ gs) e =
-    ap (λ (b : Bool). b || list_any (bytes_eq DGROUP) (map (λ g. g.name) gs)) (nat_list_eq_equiv.symm DGROUP g.name ∙ or_first (named g) (list_any named gs) e) ∙ no_name gs (or_second (named g) (list_any named gs) e)
+    ap (λ (b : Bool). b || list_any (bytes_eq DGROUP) (map (λ g. g.name) gs)) (nat_list_eq_equiv.symm DGROUP g.name ∙ (or_parts (named g) (list_any named gs) e).0) ∙ no_name gs (or_parts (named g) (list_any named gs) e).1
 
 any_append : (xs ys : List (List ℕ)) → list_any (bytes_eq DGROUP) xs ≡ false → list_any (bytes_eq DGROUP) ys ≡ false → list_any (bytes_eq DGROUP) (xs ++ ys) ≡ false
 any_append [] ys e f = f
 any_append (x ∷ xs) ys e f =
-    ap (λ (b : Bool). b || list_any (bytes_eq DGROUP) (xs ++ ys)) (or_first (bytes_eq DGROUP x) (list_any (bytes_eq DGROUP) xs) e) ∙ any_append xs ys (or_second (bytes_eq DGROUP x) (list_any (bytes_eq DGROUP) xs) e) f
+    ap (λ (b : Bool). b || list_any (bytes_eq DGROUP) (xs ++ ys)) (or_parts (bytes_eq DGROUP x) (list_any (bytes_eq DGROUP) xs) e).0 ∙ any_append xs ys (or_parts (bytes_eq DGROUP x) (list_any (bytes_eq DGROUP) xs) e).1 f
 
 no_names : (ms : List ObjModule) → AllByRecursion HasNone ms → list_any (bytes_eq DGROUP) (flat_map (λ m. map (λ g. g.name) m.groups) ms) ≡ false
 no_names [] h = refl
@@ -119,10 +108,10 @@ no_names (m ∷ ms) h = any_append (map (λ g. g.name) m.groups) (flat_map (λ m
 
 filter_none : (keep : List ℕ → Bool) (xs : List (List ℕ)) → list_any (bytes_eq DGROUP) xs ≡ false → list_any (bytes_eq DGROUP) (filter keep xs) ≡ false
 filter_none keep [] e = refl
-filter_none keep (x ∷ xs) e = kept (keep x) (filter_none keep xs (or_second (bytes_eq DGROUP x) (list_any (bytes_eq DGROUP) xs) e))
+filter_none keep (x ∷ xs) e = kept (keep x) (filter_none keep xs (or_parts (bytes_eq DGROUP x) (list_any (bytes_eq DGROUP) xs) e).1)
   where
     kept : (b : Bool) → list_any (bytes_eq DGROUP) (filter keep xs) ≡ false → list_any (bytes_eq DGROUP) (cond b (x ∷ filter keep xs) (filter keep xs)) ≡ false
-    kept true rest = ap (λ (t : Bool). t || list_any (bytes_eq DGROUP) (filter keep xs)) (or_first (bytes_eq DGROUP x) (list_any (bytes_eq DGROUP) xs) e) ∙ rest
+    kept true rest = ap (λ (t : Bool). t || list_any (bytes_eq DGROUP) (filter keep xs)) (or_parts (bytes_eq DGROUP x) (list_any (bytes_eq DGROUP) xs) e).0 ∙ rest
     kept false rest = rest
 
 no_group : (l : Link) → AllByRecursion HasNone l.modules → list_any (bytes_eq DGROUP) (group_names l) ≡ false

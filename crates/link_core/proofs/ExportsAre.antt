@@ -1,15 +1,17 @@
 -- The entries of a link's exports are those that the rules of linking give.
-use Rattle.std.specs.Prelude.{◌≡◌, ◌≢◌, ℕ, suc, ◌+◌, ◌≤◌, ◌<◌, Bool, true, false, IsTrue, not, ◌||◌, nat_lt, List, [], ◌∷◌, ◌++◌, Option, Some, None, IsSome, map, length, slice_get, is_some, refl}
-use Rattle.std.specs.List.{filter_map, flat_map, cons_option, enumerate_from, zip, AllByRecursion}
+use Rattle.std.specs.Prelude.{◌≡◌, ◌≢◌, ℕ, suc, ◌≤◌, ◌<◌, Bool, true, false, IsTrue, not, ◌||◌, nat_lt, List, [], ◌∷◌, ◌++◌, Option, Some, None, IsSome, map, length, slice_get, is_some, refl}
+use Rattle.std.specs.List.{filter_map, flat_map, cons_option, zip, AllByRecursion}
 use Rattle.std.specs.Option.{option_map, option_and_then, option_map_or}
 use Rattle.std.proofs.Common.{ap, sym, ◌∙◌, arith, true≢false, subst}
-use Rattle.std.proofs.lemmas.Bool.Decides.{nat_tests}
 use Rattle.std.proofs.lemmas.List.Elements.{recursion_from_All}
+use Rattle.std.proofs.lemmas.Bool.{le-ltb}
+use Rattle.std.proofs.lemmas.List.{length-map}
+use Rattle.link_fix.proofs.LinkPages.{filter_map-same}
+use Rattle.lx_types.proofs.Lists.{length-map-enumerate_from, length-filter_map}
+use Rattle.link_place.proofs.Located.{symbols_are}
 use Rattle.lx_types.specs.Addresses.{UNIT, is_big}
 use Rattle.lx_types.specs.declared.entry.EntryHead.{EntryHead}
 use Rattle.lx_types.specs.declared.entry.EntryHead.TheVariants as heads
-use Rattle.lx_types.specs.declared.entry.EntryKey.{EntryKey}
-use Rattle.lx_types.specs.declared.entry.EntryKey.TheVariants as keys
 use Rattle.lx_types.specs.declared.entry.FwdKey.TheVariants as fwd
 use Rattle.lx_types.specs.declared.fix.FixTarget.{FixTarget}
 use Rattle.lx_types.specs.declared.fix.FixTarget.TheVariants as leads
@@ -22,17 +24,15 @@ use Rattle.obj_types.specs.Whole.{WholeModule, WholeExp}
 use Rattle.lx_model.specs.ExportTables.{Exported}
 use Rattle.link_model.specs.declared.limits.TheConstants.{MAX_NUMBER}
 use Rattle.link_model.specs.declared.symbols.LaidObject.{LaidObject}
-use Rattle.link_model.specs.declared.symbols.SymDef.{SymDef}
-use Rattle.link_model.specs.declared.symbols.SymDef.TheVariants as means
 use Rattle.link_model.specs.Words.{first_of}
 use Rattle.link_model.specs.Link.{Link, exports}
 use Rattle.link_model.specs.Symbols.{imports, global}
 use Rattle.link_model.specs.SymbolRefusals.{sym_refusal}
 use Rattle.link_model.specs.Layout.{objects}
 use Rattle.link_model.specs.LayoutRefusals.{lay_refusal}
-use Rattle.link_model.specs.Goals.{Target, Internal, Constant, Entry, internal, shifted, of_symbol}
+use Rattle.link_model.specs.Goals.{Target, Internal, Constant, Entry, internal, of_symbol}
 use Rattle.link_model.specs.Exports.{ExportTarget, Forward, Export, export_target, export_of, ordinals, ordinal_at, asked_ordinals, Out, wrong_ordinal, ordinal_past, name_twice, entry_refusal}
-use Rattle.link_model.specs.ImportTables.{used_pairs, link_pairs, forwarded, modules_in, procs_in, proc_name, entry_target, import_target, name_offset, with_offset}
+use Rattle.link_model.specs.ImportTables.{used_pairs, link_pairs, forwarded, modules_in, procs_in, import_target, name_offset, with_offset}
 use Rattle.link_model.specs.NothingDropped.{WholeLink}
 use Rattle.link_model.proofs.Members.{In, here, there, in_right}
 use Rattle.link_model.proofs.ExportsStay.{exports_stay}
@@ -45,7 +45,6 @@ use Rattle.sym_table.specs.Meanings.{global_in}
 use Rattle.sym_table.specs.Binding.{AreSymbolsOf}
 use Rattle.seg_merge.specs.declared.places.Places.{Places}
 use Rattle.seg_merge.specs.Places.{ArePlaces}
-use Rattle.link_place.specs.Fixed.{symbol_at}
 use Rattle.link_fix.specs.Tables.{pair_among}
 use Rattle.link_core.specs.Exports.{lead_in, pair_in, forward_among, wide_among, entry_with, entry_to, entry_in, entries_in}
 use Rattle.link_core.specs.Parts.{all_pairs}
@@ -53,22 +52,12 @@ use Rattle.link_core.proofs.ObjectsThere.{IsThere}
 use Rattle.link_core.proofs.TargetsThere.{LeadsThere, symbol_there, through, mapped}
 use Rattle.link_core.proofs.FewImports.{export_with, few-modules, in-filter_map}
 use Rattle.link_core.proofs.RecordsFit.{AmongPairs, import-among}
-use Rattle.link_model.proofs.RecordsStay.{in_table, pair_there}
+use Rattle.link_model.proofs.RecordsStay.{pair_there}
 
 -- ---- what an export leads to
 
 abbrev pub lead : Link → Exp → Option Target
 lead l x = option_and_then (of_symbol l) (global l x.internal)
-
-symbol_is : (l : Link) (p : Places) (d : SymDef) → ArePlaces l p → symbol_at p d ≡ of_symbol l d
-symbol_is l p (means.In n seg offset) are = ap (λ (q : Option (ℕ × ℕ)). internal (option_map (shifted offset) q)) (are.spots n seg)
-symbol_is l p (means.Const value) are = refl
-symbol_is l p (means.Common slot) are = ap internal (are.commons slot)
-symbol_is l p (means.Import slot) are = refl
-
-symbols_are : (l : Link) (p : Places) (o : Option SymDef) → ArePlaces l p → option_and_then (symbol_at p) o ≡ option_and_then (of_symbol l) o
-symbols_are l p None are = refl
-symbols_are l p (Some d) are = symbol_is l p d are
 
 lead_is : (l : Link) (p : Places) (s : SymbolTable) (x : Exp) → ArePlaces l p → AreSymbolsOf l s → lead_in p s x ≡ lead l x
 lead_is l p s x are of = symbols_are l p (global_in s.globals x.internal) are ∙ ap (option_and_then (of_symbol l)) (of.global x.internal)
@@ -110,38 +99,16 @@ forwards_by l (n ∷ ns) (x ∷ xs) e =
     ∙ ap (λ (o : Option Imp). cons_option o (filter_map (λ (y : Export). forwarded y.target) (filter_map (λ q. export_of l q.0 q.1) (zip ns xs)))) here
     ∙ ap (λ (ps : List Imp). cons_option (pair_to l x) ps) (forwards_by l ns xs shorter)
 
-length-numbered : {X Y : Type 0} (f : ℕ × X → Y) (b : ℕ) (xs : List X) → length (map f (enumerate_from b xs)) ≡ length xs
-length-numbered f b [] = refl
-length-numbered f b (x ∷ xs) = ap suc (length-numbered f (b + 1) xs)
-
-length-mapped : {X Y : Type 0} (f : X → Y) (xs : List X) → length (map f xs) ≡ length xs
-length-mapped f [] = refl
-length-mapped f (x ∷ xs) = ap suc (length-mapped f xs)
-
 as_many : (l : Link) → length (ordinals (asked_ordinals l)) ≡ length (exports l)
-as_many l = length-numbered (λ q. ordinal_at (asked_ordinals l) q.0 q.1) 0 (asked_ordinals l) ∙ length-mapped (λ (x : Exp). x.ordinal) (exports l)
-
-picked_same : {X Y : Type 0} (f g : X → Option Y) (xs : List X) → ((x : X) → f x ≡ g x) → filter_map f xs ≡ filter_map g xs
-picked_same f g [] same = refl
-picked_same {X} {Y} f g (x ∷ xs) same =
-    ap (λ (o : Option Y). cons_option o (filter_map f xs)) (same x) ∙ ap (λ (ys : List Y). cons_option (g x) ys) (picked_same f g xs same)
+as_many l = length-map-enumerate_from (λ q. ordinal_at (asked_ordinals l) q.0 q.1) 0 (asked_ordinals l) ∙ length-map (exports l) (λ (x : Exp). x.ordinal)
 
 pub pairs-are : (l : Link) (p : Places) (s : SymbolTable) (xs : List Exp) → ArePlaces l p → AreSymbolsOf l s → xs ≡ exports l → all_pairs p s (used_pairs l) xs ≡ link_pairs l
 unfolding link_pairs Out
 pairs-are l p s xs are of is =
     let pair : (x : Exp) → pair_in p s x ≡ pair_to l x = λ x. ap (λ (is : List Imp). option_and_then (pair_among is) (lead_in p s x)) of.imports ∙ ap (option_and_then (pair_among (imports l))) (lead_is l p s x are of) in
-    ap (λ (ps : List Imp). used_pairs l ++ ps) (picked_same (pair_in p s) (pair_to l) xs pair ∙ ap (filter_map (pair_to l)) is ∙ sym (forwards_by l (ordinals (asked_ordinals l)) (exports l) (as_many l)))
+    ap (λ (ps : List Imp). used_pairs l ++ ps) (filter_map-same (pair_in p s) (pair_to l) xs pair ∙ ap (filter_map (pair_to l)) is ∙ sym (forwards_by l (ordinals (asked_ordinals l)) (exports l) (as_many l)))
 
 -- ---- a pair that a forwarder names is in the tables
-
-mapped_there : {X Y : Type 0} (f : X → Y) (o : Option X) → IsSome o → IsSome (option_map f o)
-mapped_there f None h = h
-mapped_there f (Some x) h = refl
-
-entry_there : (pairs : List Imp) (number : ℕ) (pair : Imp) (entry : EntryKey) → In pair pairs → pair.entry ≡ entry → IsSome (entry_target pairs number entry)
-entry_there pairs number pair (keys.Ordinal n) i e = refl
-entry_there pairs number pair (keys.Named name) i e =
-    mapped_there _ _ (in_table (filter_map (λ pair. proc_name pair.entry) pairs) name (in-filter_map (λ (pair : Imp). proc_name pair.entry) i (ap proc_name e)))
 
 -- A forwarder's entry, which names an import module that there is.
 record ForwardsTo (pairs : List Imp) (pair : Imp) : Type 0 where
@@ -187,11 +154,8 @@ pub record Matches (l : Link) (x : Exp) : Type 0 where
   pub words : entry.words ≡ x.words
   pub fits : lay_refusal l ≡ None → sym_refusal l ≡ None → HeadFits entry.wide entry.head
 
-at_least : (a b : ℕ) → b ≤ a → nat_lt a b ≡ false
-at_least a b h = grind (arith, nat_tests)
-
 not_less : (offset : ℕ) (b : Bool) → MAX_NUMBER < offset → IsTrue (b || not (nat_lt offset UNIT))
-not_less offset b h = or_end b (not (nat_lt offset UNIT)) (ap not (at_least offset UNIT (omega (arith, h))))
+not_less offset b h = or_end b (not (nat_lt offset UNIT)) (ap not (le-ltb offset UNIT (omega (arith, h))))
   where
     or_end : (a b : Bool) → b ≡ true → (a || b) ≡ true
     or_end true b e = refl
@@ -236,16 +200,8 @@ abbrev pub AllMatch : Link → List Exp → Type 0
 AllMatch l xs = AllByRecursion (Matches l) xs
 
 -- Where a list loses nothing, each item gives something.
-picked_length : {X Y : Type 0} (f : X → Option Y) (xs : List X) → length (filter_map f xs) ≤ length xs
-picked_length f [] = omega arith
-picked_length {X} {Y} f (x ∷ xs) = grown (f x) (picked_length f xs)
-  where
-    grown : (o : Option Y) → length (filter_map f xs) ≤ length xs → length (cons_option o (filter_map f xs)) ≤ suc (length xs)
-    grown None h = omega (arith, h)
-    grown (Some y) h = omega (arith, h)
-
 first_gives : {X Y : Type 0} (f : X → Option Y) (xs : List X) (o : Option Y) → length (cons_option o (filter_map f xs)) ≡ suc (length xs) → (length (filter_map f xs) ≡ length xs → AllByRecursion (λ x. IsSome (f x)) xs) → IsSome o × AllByRecursion (λ x. IsSome (f x)) xs
-first_gives f xs None h rest = let less = picked_length f xs in absurd (omega (arith, h, less))
+first_gives f xs None h rest = let less = length-filter_map f xs in absurd (omega (arith, h, less))
 first_gives f xs (Some y) h rest = (refl, rest (omega (arith, h)))
 
 each_gives : {X Y : Type 0} (f : X → Option Y) (xs : List X) → length (filter_map f xs) ≡ length xs → AllByRecursion (λ x. IsSome (f x)) xs
@@ -274,7 +230,7 @@ unfolding Out
 all_lead l whole e =
     let ns : List ℕ = ordinals (asked_ordinals l) in
     let stay = exports_stay l whole e in
-    let count : length (Out l) ≡ length (exports l) = sym (length-mapped (λ (x : Export). x.name) (Out l)) ∙ ap length stay.names ∙ length-mapped (λ (x : Exp). x.name) (exports l) in
+    let count : length (Out l) ≡ length (exports l) = sym (length-map (Out l) (λ (x : Export). x.name)) ∙ ap length stay.names ∙ length-map (exports l) (λ (x : Exp). x.name) in
     zipped_gives l ns (exports l) (as_many l) (each_gives (λ (q : ℕ × Exp). export_of l q.0 q.1) (zip ns (exports l)) (count ∙ sym (length-zip ns (exports l) (as_many l))))
 
 matches : (l : Link) (x : Exp) → In x (exports l) → IsSome (option_and_then (export_target l) (lead l x)) → Matches l x
@@ -330,7 +286,7 @@ entries_are l p s os xs are of laid is =
     ∙ ap (λ (ys : List LaidObject). option_and_then (entry_to s.imports (link_pairs l) ys x) (lead_in p s x)) laid
     ∙ ap (λ (ys : List Imp). option_and_then (entry_to ys (link_pairs l) (objects l) x) (lead_in p s x)) of.imports
     ∙ ap (option_and_then (entry_to (imports l) (link_pairs l) (objects l) x)) (lead_is l p s x are of) in
-    picked_same (entry_in p s (all_pairs p s (used_pairs l) xs) os) (entry_for l) xs one ∙ ap (filter_map (entry_for l)) is
+    filter_map-same (entry_in p s (all_pairs p s (used_pairs l) xs) os) (entry_for l) xs one ∙ ap (filter_map (entry_for l)) is
 
 -- The entries that a link tells have the exports of its image, are refused as its exports are, and fit the tables.
 pub record AreEntries (l : Link) (es : List OutEntry) : Type 0 where
@@ -341,7 +297,7 @@ pub record AreEntries (l : Link) (es : List OutEntry) : Type 0 where
 abbrev pub IsNamed : Exp → Type 0
 IsNamed x = (x.name ≢ []) × (x.words ≤ 31)
 
-not_empty : (xs : List ℕ) → xs ≢ [] → 0 < length xs
+pub not_empty : (xs : List ℕ) → xs ≢ [] → 0 < length xs
 not_empty [] h = absurd (h refl)
 not_empty (x ∷ xs) h = omega arith
 

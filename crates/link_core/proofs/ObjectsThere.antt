@@ -3,7 +3,8 @@ use Rattle.std.specs.Prelude.{◌≡◌, ℕ, suc, ◌+◌, ◌≤◌, ◌<◌, 
 use Rattle.std.specs.List.{find, list_any, enumerate_from, position_or_len, AllByRecursion}
 use Rattle.std.specs.Option.{option_map, option_map_or}
 use Rattle.std.proofs.Common.{ap, sym, ◌∙◌, arith, true≢false, subst}
-use Rattle.std.proofs.lemmas.Bool.{ltb-false}
+use Rattle.std.proofs.lemmas.Bool.{ltb-false, or_parts}
+use Rattle.lx_types.proofs.Lists.{length-map-enumerate_from}
 use Rattle.lx_types.specs.Sound.{IsNumberOf}
 use Rattle.link_model.specs.declared.limits.TheConstants.{MAX_MEMORY, MAX_OBJECTS}
 use Rattle.link_model.specs.declared.refusals.LayRefusal.TheVariants.{TooLarge}
@@ -36,19 +37,15 @@ row_stands l r i = rows_stand l [] (ordered l) (none_yet l) (λ t j. j) r i
 
 -- ---- such a number is that of an object
 
-placed_at : (base : ℕ) (qs : List (ℕ × ℕ)) → length (placed_from base qs) ≡ length qs
+pub placed_at : (base : ℕ) (qs : List (ℕ × ℕ)) → length (placed_from base qs) ≡ length qs
 placed_at base [] = refl
 placed_at base (q ∷ qs) = ap suc (placed_at (base + room q.0) qs)
 
-length-numbered : {X Y : Type 0} (f : ℕ × X → Y) (b : ℕ) (xs : List X) → length (map f (enumerate_from b xs)) ≡ length xs
-length-numbered f b [] = refl
-length-numbered f b (x ∷ xs) = ap suc (length-numbered f (b + 1) xs)
-
-count-objects : (l : Link) → length (objects l) ≡ length (object_heads l)
+pub count-objects : (l : Link) → length (objects l) ≡ length (object_heads l)
 unfolding rules
 count-objects l =
     let f : ℕ × Part → ℕ × ℕ = λ q. (end_in q.0 (rows l), flags_of l q.1) in
-    placed_at (first_base l) (map f (enumerate_from 1 (object_heads l))) ∙ length-numbered f 1 (object_heads l)
+    placed_at (first_base l) (map f (enumerate_from 1 (object_heads l))) ∙ length-map-enumerate_from f 1 (object_heads l)
 
 number_there : (l : Link) (s : Part) → In s (ordered l) → IsNumberOf (object_number l s) (length (objects l))
 number_there l s i =
@@ -71,13 +68,9 @@ nothing_large l e =
     let fourth = (neither (too_large l) (first_of []) third).0 in
     not_mapped (λ q. TooLarge q.1.segment.name) (find (λ q. passes_limits (take q.0 (rows l)) q.1) (enumerate_from 1 (rows l))) fourth
 
-or_second : (a b : Bool) → (a || b) ≡ false → b ≡ false
-or_second false b e = e
-or_second true b e = absurd (true≢false e)
-
 small_row : (earlier : List Row) (r : Row) → passes_limits earlier r ≡ false → r.object ≤ MAX_OBJECTS
 small_row earlier r e =
-    ltb-false MAX_OBJECTS r.object (or_second (nat_lt (object_limit r.segment) r.end || nat_lt MAX_MEMORY (size_of_rows earlier)) (nat_lt MAX_OBJECTS r.object) e)
+    ltb-false MAX_OBJECTS r.object (or_parts (nat_lt (object_limit r.segment) r.end || nat_lt MAX_MEMORY (size_of_rows earlier)) (nat_lt MAX_OBJECTS r.object) e).1
 
 small_among : (firsts : ℕ → List Row) (b : ℕ) (rs : List Row) {r : Row} → AllByRecursion (λ q. passes_limits (firsts q.0) q.1 ≡ false) (enumerate_from b rs) → In r rs → r.object ≤ MAX_OBJECTS
 small_among firsts b [] h i = elim i [ ]
@@ -92,9 +85,6 @@ row_there l r e i =
     }
 
 -- ---- the object of the stack
-
-some_is : {X : Type 0} (x y : X) → Some x ≡ Some y → x ≡ y
-some_is {X} x y e = ap (λ (o : Option X). unwrap_or o x) e
 
 stack_by : (l : Link) (o : Option Row) (q : ℕ × ℕ) → stack_row l ≡ o → option_map (λ r. (r.object, r.end)) o ≡ Some q → lay_refusal l ≡ None → IsThere l q.0
 stack_by l None q is e none = absurd (true≢false (sym (ap is_some e)))

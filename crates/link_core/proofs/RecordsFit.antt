@@ -3,11 +3,12 @@ use Rattle.std.specs.Prelude.{◌≡◌, ℕ, suc, pos, negsuc, ◌-ℤ◌, ◌+
 use Rattle.std.specs.List.{filter_map, cons_option, enumerate_from, position, All, AllPairs, AllByRecursion}
 use Rattle.std.specs.Option.{option_map, option_and_then}
 use Rattle.std.proofs.Common.{ap, sym, ◌∙◌, arith, true≢false, subst, inl, inr}
-use Rattle.std.proofs.lemmas.Bool.{agree_below_at, cases_lt, ne_eqb, eq-eqb, eqb-true, or_cases, and_parts, ltb-true, ltb-false}
+use Rattle.std.proofs.lemmas.Bool.{agree_below_at, cases_lt, eq-eqb, eqb-true, or_cases, and_parts, ltb-true, ltb-false, and_cases}
 use Rattle.std.proofs.lemmas.Int.{ints}
 use Rattle.std.proofs.lemmas.List.Elements.{All-from_recursion, recursion_from_All, filter_passes}
 use Rattle.std.proofs.lemmas.List.Kept.{AllPairs-cons, AllPairs-filter}
 use Rattle.std.proofs.lemmas.List.Quantifiers.{position-Some}
+use Rattle.link_model.proofs.ValueLengths.{no_location}
 use Rattle.lx_types.specs.Names.{uppercase}
 use Rattle.lx_types.specs.Sound.{IsNumberOf}
 use Rattle.lx_types.specs.declared.entry.EntryKey.{EntryKey}
@@ -78,10 +79,6 @@ all_right true true loc h = agree_below_at (is_right true true) (λ n. true) 14 
 all_right true false loc h = agree_below_at (is_right true false) (λ n. true) 14 loc refl h
 all_right false true loc h = agree_below_at (is_right false true) (λ n. true) 14 loc refl h
 all_right false false loc h = agree_below_at (is_right false false) (λ n. true) 14 loc refl h
-
-no_location : (loc : ℕ) → 14 ≤ loc → location_len loc ≡ 0
-no_location loc h =
-    rw (ne_eqb loc 0 (λ e. omega (arith, h, e)), ne_eqb loc 1 (λ e. omega (arith, h, e)), ne_eqb loc 2 (λ e. omega (arith, h, e)), ne_eqb loc 5 (λ e. omega (arith, h, e)), ne_eqb loc 3 (λ e. omega (arith, h, e)), ne_eqb loc 9 (λ e. omega (arith, h, e)), ne_eqb loc 13 (λ e. omega (arith, h, e)), ne_eqb loc 11 (λ e. omega (arith, h, e))) refl
 
 record Right (loc : ℕ) (selfrel narrow : Bool) : Type 0 where
   size : source_size (source_by loc selfrel) ≡ location_len loc
@@ -245,7 +242,7 @@ each_fits l object k (q ∷ qs) none whole sub on =
     more_by (Some f) e rest =
         (record_fits l object k q f (fixup_there l q none (sub q here)) (fixup_location l q whole (sub q here)) on.0 e, rest)
 
-passing : {X : Type 0} (p : X → Bool) (xs : List X) → AllByRecursion (λ x. p x ≡ true) (filter p xs)
+pub passing : {X : Type 0} (p : X → Bool) (xs : List X) → AllByRecursion (λ x. p x ≡ true) (filter p xs)
 passing p xs = recursion_from_All (λ x. p x ≡ true) (filter p xs) (filter_passes p xs)
 
 pub page-fits : (l : Link) (object k : ℕ) → lay_refusal l ≡ None → WholeLink l → All (RecordFits l) (page_records l object k)
@@ -263,14 +260,10 @@ apart_numbers : (a b m n p : ℕ) → a + m ≤ b ⊎ b + n ≤ a → (((pos a -
 apart_numbers a b m n p (inl h) = inl (omega (arith, ints, h))
 apart_numbers a b m n p (inr h) = inr (omega (arith, ints, h))
 
-not_both : (a b : Bool) → (a && b) ≡ false → (a ≡ false) ⊎ (b ≡ false)
-not_both true b e = inr e
-not_both false b e = inl refl
-
 -- Two fixups of one object that share no byte.
 either_first : (a b : Fixup) → a.object ≡ b.object → overlap a b ≡ false → (fixup_end a ≤ b.offset) ⊎ (fixup_end b ≤ a.offset)
 either_first a b same e =
-    elim (not_both (a.object == b.object && nat_lt a.offset (fixup_end b)) (nat_lt b.offset (fixup_end a)) e) as (λ s. (fixup_end a ≤ b.offset) ⊎ (fixup_end b ≤ a.offset)) [
+    elim (and_cases (a.object == b.object && nat_lt a.offset (fixup_end b)) (nat_lt b.offset (fixup_end a)) e) as (λ s. (fixup_end a ≤ b.offset) ⊎ (fixup_end b ≤ a.offset)) [
       | inl h ↦ inr (ltb-false a.offset (fixup_end b) (second_false (a.object == b.object) (nat_lt a.offset (fixup_end b)) (eq-eqb a.object b.object same) h))
       | inr h ↦ inl (ltb-false b.offset (fixup_end a) h)
     ]

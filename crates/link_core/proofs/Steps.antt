@@ -1,11 +1,13 @@
 -- Steps of the loops over exports and names, and the tables with which they begin.
-use Rattle.std.specs.Prelude.{◌≡◌, ℕ, zero, suc, ◌+◌, ◌<◌, ◌≤◌, List, [], ◌∷◌, ◌++◌, Option, Some, None, map, take, length, slice_get, bytes_eq, option_to_list, refl}
-use Rattle.std.specs.List.{All, filter_map, flat_map, cons_option, range_with_len}
+use Rattle.std.specs.Prelude.{◌≡◌, ℕ, zero, suc, ◌+◌, ◌<◌, ◌≤◌, List, [], ◌∷◌, ◌++◌, Option, Some, map, take, length, slice_get, bytes_eq, option_to_list, refl}
+use Rattle.std.specs.List.{All, filter_map, flat_map, range_with_len}
 use Rattle.std.specs.Borrow.{Bor}
 use Rattle.std.proofs.Common.{ap, sym, ◌∙◌, subst, get_or, arith}
 use Rattle.std.proofs.lemmas.List.{append-nil, append_assoc, map-append, take_more, length-map}
 use Rattle.std.proofs.lemmas.List.FromFn.{length-range_with_len, get_or-map-range_with_len}
 use Rattle.std.proofs.lemmas.List.Elements.{filter_map-append}
+use Rattle.std.proofs.lemmas.Option.{slice_get-get_or}
+use Rattle.link_fix.proofs.PagedFixes.{one_option}
 use Rattle.obj_types.specs.declared.object.ObjModule.{ObjModule}
 use Rattle.obj_types.specs.declared.symbol.Exp.{Exp}
 use Rattle.obj_types.specs.declared.symbol.Imp.{Imp}
@@ -34,10 +36,6 @@ exports-more ms i x old new h is was made =
     made ∙ ap (λ (ys : List Exp). ys ++ x.now.exports) was ∙ sym (flat_push (λ (m : ObjModule). m.exports) (map (λ b. b.now) (take i ms)) x.now) ∙ ap (flat_map (λ (m : ObjModule). m.exports)) (lent-more ms i x h is)
 
 -- ---- what is picked of lent items
-
-one_option : {Y : Type 0} (o : Option Y) → cons_option o [] ≡ option_to_list o
-one_option (Some y) = refl
-one_option None = refl
 
 pub picked-more : {X Y : Type 0} (f : X → Option Y) (base : List Y) (xs : List (Bor X)) (i : ℕ) (x : Bor X) → i < length xs → x ≡ get_or xs i x
     → (base ++ filter_map f (map (λ b. b.now) (take i xs))) ++ option_to_list (f x.now) ≡ base ++ filter_map f (map (λ b. b.now) (take (i + 1) xs))
@@ -74,13 +72,8 @@ all-taken {X} P xs i h all = subst (λ (ys : List X). All P ys) (take-all xs i h
 
 -- ---- offsets of names
 
-get_is : {X : Type 0} (xs : List X) (i : ℕ) (d : X) → i < length xs → slice_get xs i ≡ Some (get_or xs i d)
-get_is [] i d h = absurd (omega (arith, h))
-get_is (x ∷ xs) zero d h = refl
-get_is (x ∷ xs) (suc i) d h = get_is xs i d (omega (arith, h))
-
 pub offset-at : (names : List (List ℕ)) (offsets : List ℕ) (k : ℕ) → offsets ≡ offsets_of names → k < length names → slice_get offsets k ≡ Some (name_offset names k)
 offset-at names offsets k is h =
     let long = length-map (range_with_len 0 (length names)) (name_offset names) ∙ length-range_with_len 0 (length names) in
     let same : 0 + k ≡ k = omega arith in
-    ap (λ (ns : List ℕ). slice_get ns k) is ∙ get_is (offsets_of names) k 0 (omega (arith, h, long)) ∙ ap (λ (n : ℕ). Some n) (get_or-map-range_with_len (name_offset names) 0 (length names) k k 0 h same)
+    ap (λ (ns : List ℕ). slice_get ns k) is ∙ slice_get-get_or (offsets_of names) k 0 (omega (arith, h, long)) ∙ ap (λ (n : ℕ). Some n) (get_or-map-range_with_len (name_offset names) 0 (length names) k k 0 h same)

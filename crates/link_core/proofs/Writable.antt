@@ -5,6 +5,7 @@ use Rattle.std.proofs.Common.{ap, sym, ◌∙◌, arith, subst, get_or}
 use Rattle.std.proofs.lemmas.List.{length-map}
 use Rattle.std.proofs.lemmas.List.Elements.{All-map}
 use Rattle.std.proofs.lemmas.List.FromFn.{length-range_with_len}
+use Rattle.link_core.proofs.ExportsAre.{not_empty}
 use Rattle.lx_types.specs.Sound.{IsNumberOf}
 use Rattle.lx_types.specs.declared.fix.Fix.{Fix}
 use Rattle.lx_types.specs.declared.fix.Source.{Source}
@@ -131,10 +132,6 @@ stack_by l (Some q) lay e = (stack_there l q lay e).number
 place_in : (o p : Option (ℕ × ℕ)) (os ps : List LaidObject) → o ≡ p → os ≡ ps → IfSome p (λ place. IsNumberOf place.0 (length ps)) → IfSome o (λ place. IsNumberOf place.0 (length os))
 place_in o p os ps e f h =
     subst (λ (t : Option (ℕ × ℕ)). IfSome t (λ place. IsNumberOf place.0 (length os))) (sym e) (subst (λ (xs : List LaidObject). IfSome p (λ place. IsNumberOf place.0 (length xs))) (sym f) h)
-
-not_empty : (xs : List ℕ) → xs ≢ [] → 0 < length xs
-not_empty [] h = absurd (h refl)
-not_empty (x ∷ xs) h = omega arith
 
 name_there : (o : Option (List ℕ)) (stem : List ℕ) → IfSome o (λ n. n ≢ []) → stem ≢ [] → 0 < length (unwrap_or o stem)
 name_there None stem h s = not_empty stem s
