@@ -1,5 +1,5 @@
 -- The pieces of one segment, painted one after another.
-use Rattle.std.specs.Prelude.{◌≡◌, ◌≢◌, ℕ, ◌+◌, ◌-◌, ◌<◌, ◌≤◌, Bool, true, false, cond, ◌&&◌, ◌==◌, nat_le, nat_lt, List, ◌∷◌, Option, Some, map, reverse, take, length, find, slice_index, refl}
+use Rattle.std.specs.Prelude.{◌≡◌, ◌≢◌, ℕ, ◌+◌, ◌-◌, ◌<◌, ◌≤◌, Bool, true, false, cond, ◌&&◌, ◌==◌, nat_le, nat_lt, List, ◌∷◌, map, reverse, take, length, find, slice_index, refl}
 use Rattle.std.specs.List.{range_with_len}
 use Rattle.std.specs.Option.{option_map_or}
 use Rattle.std.proofs.Common.{ap, sym, ◌∙◌, true≢false, ne_eqb}
@@ -11,14 +11,10 @@ use Rattle.obj_types.specs.Data.{covers}
 use Rattle.link_fix.specs.declared.images.Images.{Images}
 use Rattle.link_fix.specs.Images.{byte_of, byte_after}
 use Rattle.link_fix.specs.Pieces.{of_pieces}
-use Rattle.link_fix.proofs.PaintedPieces.{reverse-more}
+use Rattle.link_fix.proofs.PaintedPieces.{reverse-more, covered_by}
 use Rattle.link_model.specs.Clash as rules
 use Rattle.comdat_core.specs.declared.taking.Owned.{Owned}
 use Rattle.comdat_core.specs.Taking.{shown}
-
-covered_by : (b : Bool) (p : Piece) (o : Option Piece) (x : ℕ) → option_map_or (λ p. slice_index p.bytes (x - p.offset)) (cond b (Some p) o) 0 ≡ cond b (slice_index p.bytes (x - p.offset)) (option_map_or (λ p. slice_index p.bytes (x - p.offset)) o 0)
-covered_by true p o x = refl
-covered_by false p o x = refl
 
 one_more : (ps : List Piece) (i : ℕ) (p : Piece) (seg x : ℕ) → i < length ps → p ≡ get_or ps i p → of_pieces (take (i + 1) ps) seg x ≡ cond (covers seg x p) (slice_index p.bytes (x - p.offset)) (of_pieces (take i ps) seg x)
 one_more ps i p seg x below is =
