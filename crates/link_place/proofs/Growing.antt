@@ -1,18 +1,16 @@
 -- One more fixup of a module, and one more module.
-use Rattle.std.specs.Prelude.{◌≡◌, ℕ, ◌+◌, ◌<◌, List, [], ◌∷◌, ◌++◌, Option, Some, None, map, take, length, option_to_list, refl}
-use Rattle.std.specs.List.{filter_map, cons_option, flat_map, enumerate_from}
+use Rattle.std.specs.Prelude.{◌≡◌, ℕ, ◌+◌, ◌<◌, List, [], ◌∷◌, ◌++◌, Option, map, take, length, option_to_list, refl}
+use Rattle.std.specs.List.{filter_map, flat_map, enumerate_from}
 use Rattle.std.specs.Borrow.{Bor}
 use Rattle.std.proofs.Common.{ap, sym, ◌∙◌, arith, get_or, append_assoc}
-use Rattle.std.proofs.lemmas.List.{append-nil, take_more, map-append, length-map, length-take-le}
+use Rattle.std.proofs.lemmas.List.{take_more, map-append, length-map, length-take-le}
 use Rattle.std.proofs.lemmas.List.Elements.{filter_map-append}
+use Rattle.sym_table.proofs.Lists.{numbered-push}
+use Rattle.link_fix.proofs.PagedFixes.{one_option}
 use Rattle.obj_types.specs.declared.object.FixAt.{FixAt}
 use Rattle.obj_types.specs.declared.object.ObjModule.{ObjModule}
 use Rattle.link_model.specs.Fixups.{Fixup}
 use Rattle.link_fix.specs.Bare.{bare}
-
-one_option : {Y : Type 0} (o : Option Y) → cons_option o [] ≡ option_to_list o
-one_option (Some y) = refl
-one_option None = refl
 
 -- What is left of one more fixup of a module.
 pub fix-more :
@@ -27,13 +25,6 @@ fix-more F xs i d start before new h was made =
     ∙ ap (λ (qs : List Fixup). qs ++ map bare (option_to_list (F f))) was
     ∙ append_assoc start (map bare (filter_map F (take i xs))) (map bare (option_to_list (F f)))
     ∙ ap (λ (qs : List Fixup). start ++ qs) (sym (map-append bare (filter_map F (take i xs)) (option_to_list (F f))) ∙ ap (map bare) more)
-
-numbered-push : {X A : Type 0} (f : ℕ → X → List A) (s : ℕ) (xs : List X) (x : X) → flat_map (λ q. f q.0 q.1) (enumerate_from s (xs ++ x ∷ [])) ≡ flat_map (λ q. f q.0 q.1) (enumerate_from s xs) ++ f (s + length xs) x
-numbered-push f s [] x = append-nil (f s x) ∙ ap (λ (n : ℕ). f n x) (omega arith)
-numbered-push {X} {A} f s (y ∷ ys) x =
-    ap (λ (t : List A). f s y ++ t) (numbered-push f (s + 1) ys x)
-    ∙ sym (append_assoc (f s y) (flat_map (λ q. f q.0 q.1) (enumerate_from (s + 1) ys)) (f (s + 1 + length ys) x))
-    ∙ ap (λ (n : ℕ). (f s y ++ flat_map (λ q. f q.0 q.1) (enumerate_from (s + 1) ys)) ++ f n x) (omega arith)
 
 pub module-more :
     {Y : Type 0} (G : ℕ → ObjModule → List Y) (ms : List (Bor ObjModule)) (i k : ℕ) (x : Bor ObjModule) (before new : List Y) → i < length ms → x ≡ get_or ms i x → k ≡ i + 1

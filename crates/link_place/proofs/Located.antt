@@ -23,13 +23,13 @@ use Rattle.seg_merge.specs.Places.{ArePlaces}
 use Rattle.link_place.specs.Meanings.{HasMeanings}
 use Rattle.link_place.specs.Fixed.{symbol_at, external_at, group_target, target_at, location_at, frame_at, fixup_at, fixups_in}
 
-symbol_is : (l : Link) (p : Places) (d : SymDef) → ArePlaces l p → symbol_at p d ≡ of_symbol l d
+pub symbol_is : (l : Link) (p : Places) (d : SymDef) → ArePlaces l p → symbol_at p d ≡ of_symbol l d
 symbol_is l p (means.In n seg offset) are = ap (λ (q : Option (ℕ × ℕ)). internal (option_map (shifted offset) q)) (are.spots n seg)
 symbol_is l p (means.Const value) are = refl
 symbol_is l p (means.Common slot) are = ap internal (are.commons slot)
 symbol_is l p (means.Import slot) are = refl
 
-symbols_are : (l : Link) (p : Places) (o : Option SymDef) → ArePlaces l p → option_and_then (symbol_at p) o ≡ option_and_then (of_symbol l) o
+pub symbols_are : (l : Link) (p : Places) (o : Option SymDef) → ArePlaces l p → option_and_then (symbol_at p) o ≡ option_and_then (of_symbol l) o
 symbols_are l p None are = refl
 symbols_are l p (Some d) are = symbol_is l p d are
 

@@ -10,16 +10,8 @@ use Rattle.link_model.specs.declared.symbols.SymDef.{SymDef}
 use Rattle.link_model.specs.Link.{Link, chosen_module}
 use Rattle.link_model.specs.Symbols.{Sym}
 use Rattle.sym_table.specs.Symbols.{SymbolTable}
+use Rattle.seg_merge.proofs.SpotsFound.{item-mapped}
 use Rattle.link_place.specs.Meanings.{HasMeanings}
-
-get_map : {X Y : Type 0} (f : X → Y) (xs : List X) (i : ℕ) → slice_get (map f xs) i ≡ option_map f (slice_get xs i)
-get_map f [] i = refl
-get_map f (x ∷ xs) zero = refl
-get_map f (x ∷ xs) (suc i) = get_map f xs i
-
-item_map : {X Y : Type 0} (f : X → Y) (xs : List X) (i : ℕ) → item (map f xs) i ≡ option_map f (item xs i)
-item_map f xs zero = refl
-item_map f xs (suc i) = get_map f xs i
 
 get_numbered : {X Y : Type 0} (g : ℕ × X → Y) (b : ℕ) (ms : List X) (i : ℕ) → slice_get (map g (enumerate_from b ms)) i ≡ option_map (λ m. g (b + i, m)) (slice_get ms i)
 get_numbered g b [] i = refl
@@ -48,14 +40,14 @@ flat_map_of f (Some e) = refl
 
 in_rows : (index : ℕ) (o : Option (List SymDef)) → told index (option_map (map Some) o) ≡ option_and_then (λ row. item row index) o
 in_rows index None = refl
-in_rows index (Some row) = ap (option_and_then (λ (x : Option SymDef). x)) (item_map Some row index) ∙ flat_some (item row index)
+in_rows index (Some row) = ap (option_and_then (λ (x : Option SymDef). x)) (item-mapped Some row index) ∙ flat_some (item row index)
 
 in_module : (l : Link) (n index : ℕ) (o : Option ObjModule) → told index (option_map (λ m. map (Sym l n) m.exts) o) ≡ option_and_then (λ m. option_and_then (Sym l n) (item m.exts index)) o
 in_module l n index None = refl
-in_module l n index (Some m) = ap (option_and_then (λ (x : Option SymDef). x)) (item_map (Sym l n) m.exts index) ∙ flat_map_of (Sym l n) (item m.exts index)
+in_module l n index (Some m) = ap (option_and_then (λ (x : Option SymDef). x)) (item-mapped (Sym l n) m.exts index) ∙ flat_map_of (Sym l n) (item m.exts index)
 
 pub has-meanings : (l : Link) (s : SymbolTable) → map (map Some) s.meanings ≡ map (λ q. map (Sym l q.0) q.1.exts) (enumerate_from 1 l.modules) → HasMeanings l s
 has-meanings l s e = λ n index.
     sym (in_rows index (item s.meanings n))
-    ∙ ap (told index) (sym (item_map (map Some) s.meanings n) ∙ ap (λ (rows : List (List (Option SymDef))). item rows n) e ∙ item_numbered (λ (q : ℕ × ObjModule). map (Sym l q.0) q.1.exts) l.modules n)
+    ∙ ap (told index) (sym (item-mapped (map Some) s.meanings n) ∙ ap (λ (rows : List (List (Option SymDef))). item rows n) e ∙ item_numbered (λ (q : ℕ × ObjModule). map (Sym l q.0) q.1.exts) l.modules n)
     ∙ in_module l n index (chosen_module l n)
