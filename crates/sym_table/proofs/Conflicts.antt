@@ -1,12 +1,13 @@
 -- Second definitions: where there is none so far, one more is judged by the first definition of its name alone.
-use Rattle.std.specs.Prelude.{◌≡◌, ℕ, Bool, true, false, cond, not, ◌&&◌, ◌||◌, List, [], ◌∷◌, ◌++◌, Option, Some, None, bytes_eq, find, is_some, refl}
+use Rattle.std.specs.Prelude.{◌≡◌, ℕ, Bool, true, false, cond, not, ◌&&◌, ◌||◌, List, [], ◌∷◌, ◌++◌, Option, Some, None, bytes_eq, find, refl}
 use Rattle.std.specs.List.{list_any, AllByRecursion}
 use Rattle.std.specs.Option.{option_or}
 use Rattle.std.proofs.Common.{ap, sym, ◌∙◌, true≢false}
-use Rattle.std.proofs.lemmas.Bool.{and_parts, and_from, eqb-true, eq-eqb}
+use Rattle.std.proofs.lemmas.Bool.{and_parts, and_from, eqb-true, eq-eqb, or_parts}
 use Rattle.std.proofs.lemmas.List.{append_assoc, append-nil}
 use Rattle.std.proofs.lemmas.List.Folds.{list_any-append}
 use Rattle.std.proofs.lemmas.Slice.Eq.{bytes_eq-Decides}
+use Rattle.link_model.proofs.ExternalsMean.{not_first_by}
 use Rattle.lx_types.specs.declared.entry.EntryKey.{EntryKey}
 use Rattle.lx_types.specs.declared.entry.EntryKey.TheVariants.{Ordinal, Named}
 use Rattle.obj_types.specs.declared.symbol.Imp.{Imp}
@@ -20,7 +21,7 @@ use Rattle.link_model.specs.SymbolRefusals.{counts_once, conflicts}
 bytes_both : (a b c : List ℕ) → bytes_eq a b ≡ true → bytes_eq a c ≡ true → bytes_eq b c ≡ true
 bytes_both a b c e f = (bytes_eq-Decides b c).1 (sym ((bytes_eq-Decides a b).0 e) ∙ (bytes_eq-Decides a c).0 f)
 
-never : {P : Type 0} → false ≡ true → P
+pub never : {P : Type 0} → false ≡ true → P
 never e = absurd (true≢false (sym e))
 
 entries_both : (a b c : EntryKey) → same_entry a b ≡ true → same_entry a c ≡ true → same_entry b c ≡ true
@@ -45,7 +46,7 @@ once_both (Public p) b c e f = never e
 
 -- ---- a conflict at one more item
 
-or_none : {X : Type 0} (o : Option X) → o ≡ option_or o None
+pub or_none : {X : Type 0} (o : Option X) → o ≡ option_or o None
 or_none None = refl
 or_none (Some x) = refl
 
@@ -61,34 +62,22 @@ conflict-append {X} c earlier (x ∷ xs) ys =
     ∙ ap (λ (e : List X). cond (list_any (λ y. c y x) earlier) (Some x) (option_or (first_conflict c (earlier ++ x ∷ []) xs) (first_conflict c e ys))) (append_assoc earlier (x ∷ []) xs)
     ∙ conflict_by (list_any (λ y. c y x) earlier) x (first_conflict c (earlier ++ x ∷ []) xs) (first_conflict c (earlier ++ x ∷ xs) ys)
 
-not_first : {X : Type 0} (x : X) (rest : Option X) (b : Bool) → cond b (Some x) rest ≡ None → (b ≡ false) × (rest ≡ None)
-not_first x rest true e = absurd (true≢false (ap is_some e))
-not_first x rest false e = (refl, e)
-
-front_none : (a b : Bool) → (a || b) ≡ false → a ≡ false
-front_none true b e = absurd (true≢false e)
-front_none false b e = refl
-
-back_none : (a b : Bool) → (a || b) ≡ false → b ≡ false
-back_none true b e = absurd (true≢false e)
-back_none false b e = e
-
 -- Where there is no conflict in xs behind these, none of these is in conflict with one of xs.
 fronts : {X : Type 0} (c : X → X → Bool) (x : X) (earlier ys : List X) → AllByRecursion (λ y. list_any (λ z. c z y) (earlier ++ x ∷ []) ≡ false) ys → AllByRecursion (λ y. list_any (λ z. c z y) earlier ≡ false) ys
 fronts c x earlier [] h = tt
 fronts c x earlier (y ∷ ys) h =
-    (front_none (list_any (λ z. c z y) earlier) (list_any (λ z. c z y) (x ∷ [])) (sym (list_any-append (λ z. c z y) earlier (x ∷ [])) ∙ h.0), fronts c x earlier ys h.1)
+    ((or_parts (list_any (λ z. c z y) earlier) (list_any (λ z. c z y) (x ∷ [])) (sym (list_any-append (λ z. c z y) earlier (x ∷ [])) ∙ h.0)).0, fronts c x earlier ys h.1)
 
 apart : {X : Type 0} (c : X → X → Bool) (earlier xs : List X) → first_conflict c earlier xs ≡ None → AllByRecursion (λ y. list_any (λ z. c z y) earlier ≡ false) xs
 apart c earlier [] e = tt
 apart c earlier (x ∷ xs) e =
-    let both = not_first x (first_conflict c (earlier ++ x ∷ []) xs) (list_any (λ y. c y x) earlier) e in
+    let both = not_first_by x (first_conflict c (earlier ++ x ∷ []) xs) (list_any (λ y. c y x) earlier) e in
     (both.0, fronts c x earlier xs (apart c (earlier ++ x ∷ []) xs both.1))
 
 last_apart : {X : Type 0} (c : X → X → Bool) (x : X) (earlier ys : List X) → AllByRecursion (λ y. list_any (λ z. c z y) (earlier ++ x ∷ []) ≡ false) ys → AllByRecursion (λ y. c x y ≡ false) ys
 last_apart c x earlier [] h = tt
 last_apart c x earlier (y ∷ ys) h =
-    (front_none (c x y) false (back_none (list_any (λ z. c z y) earlier) (list_any (λ z. c z y) (x ∷ [])) (sym (list_any-append (λ z. c z y) earlier (x ∷ [])) ∙ h.0)), last_apart c x earlier ys h.1)
+    ((or_parts (c x y) false (or_parts (list_any (λ z. c z y) earlier) (list_any (λ z. c z y) (x ∷ [])) (sym (list_any-append (λ z. c z y) earlier (x ∷ [])) ∙ h.0)).1).0, last_apart c x earlier ys h.1)
 
 -- ---- by the first definition of the name
 
@@ -122,7 +111,7 @@ late_by y d ys false c of_y once h rest = rest
 pub late-first : (earlier ds : List Definition) (d : Definition) → first_conflict conflicts earlier ds ≡ None → list_any (λ y. conflicts y d) ds ≡ late d (find (λ y. bytes_eq y.name d.name) ds)
 late-first earlier [] d e = refl
 late-first earlier (y ∷ ys) d e =
-    let rest : first_conflict conflicts (earlier ++ y ∷ []) ys ≡ None = (not_first y (first_conflict conflicts (earlier ++ y ∷ []) ys) (list_any (λ z. conflicts z y) earlier) e).1 in
+    let rest : first_conflict conflicts (earlier ++ y ∷ []) ys ≡ None = (not_first_by y (first_conflict conflicts (earlier ++ y ∷ []) ys) (list_any (λ z. conflicts z y) earlier) e).1 in
     late_by y d ys (bytes_eq y.name d.name) (counts_once y.meaning d.meaning) refl refl
     (last_apart conflicts y earlier ys (apart conflicts (earlier ++ y ∷ []) ys rest))
     (late-first (earlier ++ y ∷ []) ys d rest)

@@ -14,6 +14,7 @@ use Rattle.link_model.specs.declared.refusals.SymRefusal.TheVariants.{Missing}
 use Rattle.link_model.specs.SymbolRefusals.{is_exportable}
 use Rattle.sym_table.specs.declared.meanings.Globals.{Globals}
 use Rattle.sym_table.specs.Meanings.{global_in, missing_export_in}
+use Rattle.sym_table.proofs.LeaderTables.{map-or}
 
 -- The exports of these modules.
 abbrev pub exports_of : List (Bor ObjModule) → List Exp
@@ -29,10 +30,6 @@ exports-more mods i m below is =
     ap exports_of (take_more mods i m below ∙ ap (λ (b : Bor ObjModule). take i mods ++ b ∷ []) (sym is))
     ∙ exports-append (take i mods) (m ∷ [])
     ∙ ap (λ (t : List Exp). exports_of (take i mods) ++ t) (append-nil m.now.exports)
-
-map-or : {X Y : Type 0} (f : X → Y) (a b : Option X) → option_map f (option_or a b) ≡ option_or (option_map f a) (option_map f b)
-map-or f None b = refl
-map-or f (Some x) b = refl
 
 -- The first refusal of two lists.
 pub refusal-append : (globals : Globals) (xs ys : List Exp) → missing_export_in globals (xs ++ ys) ≡ option_or (missing_export_in globals xs) (missing_export_in globals ys)

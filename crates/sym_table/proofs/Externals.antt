@@ -1,9 +1,11 @@
 -- The externals of all modules mean what the rules say, and the first that means nothing is the rules'.
-use Rattle.std.specs.Prelude.{◌≡◌, ℕ, suc, ◌&&◌, bytes_eq, Bool, true, false, cond, List, [], ◌∷◌, Option, Some, None, map, find, is_none, refl}
+use Rattle.std.specs.Prelude.{◌≡◌, ℕ, suc, ◌&&◌, bytes_eq, Bool, true, false, cond, List, [], ◌∷◌, Option, Some, map, find, is_none, refl}
 use Rattle.std.specs.List.{enumerate_from, flat_map}
 use Rattle.std.specs.Option.{option_map, option_and_then, option_or}
 use Rattle.std.proofs.Common.{ap, sym, ◌∙◌, arith}
 use Rattle.std.proofs.lemmas.List.Folds.{find-append}
+use Rattle.sym_table.proofs.LeaderTables.{map-or}
+use Rattle.lx_types.proofs.Lists.{map_agree, find_agree}
 use Rattle.obj_types.specs.Items.{item}
 use Rattle.obj_types.specs.declared.object.ObjModule.{ObjModule}
 use Rattle.obj_types.specs.declared.symbol.Ext.{Ext}
@@ -37,16 +39,8 @@ meaning_is : (l : Link) (globals : Globals) (n : ℕ) (m : ObjModule) → Agree 
 unfolding opened
 meaning_is l globals n m agree at e = either l globals n m e e.local agree at
 
-map_alike : {X Y : Type 0} (f g : X → Y) → ((x : X) → f x ≡ g x) → (xs : List X) → map f xs ≡ map g xs
-map_alike f g same [] = refl
-map_alike {X} {Y} f g same (x ∷ xs) = ap (λ (y : Y). y ∷ map f xs) (same x) ∙ ap (λ (t : List Y). g x ∷ t) (map_alike f g same xs)
-
-pub find_alike : {X : Type 0} (p q : X → Bool) → ((x : X) → p x ≡ q x) → (xs : List X) → find p xs ≡ find q xs
-find_alike p q same [] = refl
-find_alike {X} p q same (x ∷ xs) = ap (λ (b : Bool). cond b (Some x) (find p xs)) (same x) ∙ ap (λ (o : Option X). cond (q x) (Some x) o) (find_alike p q same xs)
-
 row_is : (l : Link) (globals : Globals) (q : ℕ × ObjModule) → Agree l globals → IsNumbered l q → row_in globals q.0 q.1 ≡ map (rules.Sym l q.0) q.1.exts
-row_is l globals q agree at = map_alike (meaning_in globals q.0 q.1) (rules.Sym l q.0) (meaning_is l globals q.0 q.1 agree at) q.1.exts
+row_is l globals q agree at = map_agree (meaning_in globals q.0 q.1) (rules.Sym l q.0) (meaning_is l globals q.0 q.1 agree at) q.1.exts
 
 rows_by : (l : Link) (globals : Globals) → Agree l globals → (qs : List (ℕ × ObjModule)) → ((q : ℕ × ObjModule) → In q qs → IsNumbered l q) →
     map (λ q. row_in globals q.0 q.1) qs ≡ map (λ q. map (rules.Sym l q.0) q.1.exts) qs
@@ -83,12 +77,8 @@ of_module l n (e ∷ es) = one (is_none (rules.Sym l n e)) (find (λ e. is_none 
 missing_is : (l : Link) (globals : Globals) (q : ℕ × ObjModule) → Agree l globals → IsNumbered l q → missing_row globals q.0 q.1 ≡ option_map lacking (find (nothing l) (map (λ (e : Ext). (q.0, e)) q.1.exts))
 missing_is l globals q agree at =
     ap (λ (o : Option Ext). option_map (λ (e : Ext). Missing e.name) o)
-    (find_alike (λ e. is_none (meaning_in globals q.0 q.1 e)) (λ e. is_none (rules.Sym l q.0 e)) (λ e. ap is_none (meaning_is l globals q.0 q.1 agree at e)) q.1.exts)
+    (find_agree (λ e. is_none (meaning_in globals q.0 q.1 e)) (λ e. is_none (rules.Sym l q.0 e)) (λ e. ap is_none (meaning_is l globals q.0 q.1 agree at e)) q.1.exts)
     ∙ of_module l q.0 q.1.exts
-
-map-or : {X Y : Type 0} (f : X → Y) (a b : Option X) → option_map f (option_or a b) ≡ option_or (option_map f a) (option_map f b)
-map-or f None b = refl
-map-or f (Some x) b = refl
 
 missing_by : (l : Link) (globals : Globals) → Agree l globals → (qs : List (ℕ × ObjModule)) → ((q : ℕ × ObjModule) → In q qs → IsNumbered l q) →
     first_of (map (λ q. missing_row globals q.0 q.1) qs) ≡ option_map lacking (find (nothing l) (flat_map (λ q. map (λ (e : Ext). (q.0, e)) q.1.exts) qs))

@@ -3,17 +3,13 @@ use Rattle.std.specs.Prelude.{◌≡◌, ℕ, zero, suc, ◌+◌, List, [], ◌�
 use Rattle.std.specs.List.{enumerate_from}
 use Rattle.std.specs.Option.{option_map, option_and_then}
 use Rattle.std.proofs.Common.{ap, sym, ◌∙◌, arith, true≢false}
+use Rattle.std.proofs.lemmas.Option.{slice_get-map}
 use Rattle.obj_types.specs.declared.object.ObjModule.{ObjModule}
 use Rattle.obj_types.specs.declared.symbol.Ext.{Ext}
 use Rattle.link_model.specs.declared.symbols.SymDef.{SymDef}
 use Rattle.link_model.specs.Link.{Link, link_of}
 use Rattle.link_model.specs.Symbols.{Sym}
 use Rattle.sym_table.specs.Finding.{FindsMeanings}
-
-get_map : {X Y : Type 0} (f : X → Y) (xs : List X) (i : ℕ) → slice_get (map f xs) i ≡ option_map f (slice_get xs i)
-get_map f [] i = refl
-get_map f (x ∷ xs) zero = refl
-get_map f (x ∷ xs) (suc i) = get_map f xs i
 
 get_numbered : {X : Type 0} (s : ℕ) (xs : List X) (i : ℕ) → slice_get (enumerate_from s xs) i ≡ option_map (λ (x : X). (s + i, x)) (slice_get xs i)
 get_numbered s [] i = refl
@@ -23,7 +19,7 @@ get_numbered {X} s (x ∷ xs) (suc i) = get_numbered (s + 1) xs i ∙ ap (λ (n 
 -- An external's place in a row of meanings.
 in_row : (f : Ext → Option SymDef) (row : List SymDef) (es : List Ext) (j : ℕ) (x : Ext) (o : Option SymDef) → map Some row ≡ map f es → slice_get es j ≡ Some x → slice_get row j ≡ o → o ≡ f x
 in_row f row es j x o same at is =
-    by o (f x) (ap (option_map (λ (d : SymDef). Some d)) (sym is) ∙ sym (get_map (λ (d : SymDef). Some d) row j) ∙ ap (λ (t : List (Option SymDef)). slice_get t j) same ∙ get_map f es j ∙ ap (option_map f) at)
+    by o (f x) (ap (option_map (λ (d : SymDef). Some d)) (sym is) ∙ sym (slice_get-map (λ (d : SymDef). Some d) row j) ∙ ap (λ (t : List (Option SymDef)). slice_get t j) same ∙ slice_get-map f es j ∙ ap (option_map f) at)
   where
     by : (o m : Option SymDef) → option_map (λ (d : SymDef). Some d) o ≡ Some m → o ≡ m
     by None m e = absurd (true≢false (sym (ap is_some e)))
@@ -38,8 +34,8 @@ in_rows l rows i j m x r same at_m at_x is = by r (ap (option_map (map (λ (d : 
 
     whole : option_map (map (λ (d : SymDef). Some d)) (slice_get rows i) ≡ Some (map (Sym l (suc i)) m.exts)
     whole =
-        sym (get_map (map (λ (d : SymDef). Some d)) rows i) ∙ ap (λ (t : List (List (Option SymDef))). slice_get t i) same
-        ∙ get_map (λ (q : ℕ × ObjModule). map (Sym l q.0) q.1.exts) (enumerate_from 1 l.modules) i
+        sym (slice_get-map (map (λ (d : SymDef). Some d)) rows i) ∙ ap (λ (t : List (List (Option SymDef))). slice_get t i) same
+        ∙ slice_get-map (λ (q : ℕ × ObjModule). map (Sym l q.0) q.1.exts) (enumerate_from 1 l.modules) i
         ∙ ap (option_map (λ (q : ℕ × ObjModule). map (Sym l q.0) q.1.exts)) (get_numbered 1 l.modules i)
         ∙ ap (λ (o : Option ObjModule). option_map (λ (q : ℕ × ObjModule). map (Sym l q.0) q.1.exts) (option_map (λ (y : ObjModule). (1 + i, y)) o)) at_m
         ∙ ap (λ (n : ℕ). let o : Option (List (Option SymDef)) = Some (map (Sym l n) m.exts) in o) next

@@ -1,26 +1,21 @@
 -- The table of import pairs, with one more definition.
-use Rattle.std.specs.Prelude.{◌≡◌, true, false, cond, ◌&&◌, List, [], ◌∷◌, ◌++◌, ℕ, Option, Some, None, bytes_eq, refl}
+use Rattle.std.specs.Prelude.{◌≡◌, true, cond, ◌&&◌, List, [], ◌∷◌, ◌++◌, ℕ, Option, Some, None, bytes_eq, refl}
 use Rattle.std.specs.List.{list_any, filter_map, cons_option}
 use Rattle.std.specs.Cmp.{IsEquivalence}
-use Rattle.std.proofs.Common.{ap, sym, ◌∙◌, true≢false}
+use Rattle.std.proofs.Common.{ap, ◌∙◌}
 use Rattle.std.proofs.lemmas.Bool.{and_parts, and_from, eqb-true, eq-eqb}
 use Rattle.std.proofs.lemmas.List.{append-nil}
 use Rattle.std.proofs.lemmas.List.Elements.{filter_map-append}
 use Rattle.std.proofs.lemmas.Slice.Eq.{bytes_eq-Decides}
+use Rattle.sym_table.proofs.Conflicts.{never}
 use Rattle.lx_types.specs.declared.entry.EntryKey.{EntryKey}
 use Rattle.lx_types.specs.declared.entry.EntryKey.TheVariants.{Ordinal, Named}
 use Rattle.obj_types.specs.declared.symbol.Imp.{Imp}
 use Rattle.link_model.specs.Appearance.{firsts_by}
 use Rattle.link_model.specs.Symbols.{Definition, ImportKey, import_key, same_import, same_entry, pair_of}
-use Rattle.link_model.proofs.KeyTests.{Decided, equivalence}
+use Rattle.link_model.proofs.KeyTests.{Decided, equivalence, name_itself}
 use Rattle.link_model.proofs.Tables.{firsts-push}
 use Rattle.sym_table.specs.Definitions.{imports_among}
-
-never : {P : Type 0} → false ≡ true → P
-never e = absurd (true≢false (sym e))
-
-name_itself : (name : List ℕ) → bytes_eq name name ≡ true
-name_itself name = (bytes_eq-Decides name name).1 refl
 
 entry_itself : (e : EntryKey) → same_entry e e ≡ true
 entry_itself (Ordinal n) = eq-eqb n n refl

@@ -1,7 +1,6 @@
 -- Lists that grow by one item.
-use Rattle.std.specs.Prelude.{◌≡◌, ℕ, ◌+◌, ◌<◌, Bool, true, false, cond, List, [], ◌∷◌, ◌++◌, Option, Some, None, map, length, take, drop, filter, find, is_none, is_some, refl}
-use Rattle.std.specs.Option.{option_or, option_map}
-use Rattle.std.proofs.Common.{true≢false}
+use Rattle.std.specs.Prelude.{◌≡◌, ℕ, ◌+◌, ◌<◌, Bool, true, false, cond, List, [], ◌∷◌, ◌++◌, Option, Some, None, map, length, take, drop, filter, find, is_none, refl}
+use Rattle.std.specs.Option.{option_or}
 use Rattle.std.proofs.lemmas.List.{take-append-drop}
 use Rattle.std.proofs.lemmas.List.Folds.{find-append}
 use Rattle.std.specs.List.{enumerate_from, flat_map}
@@ -56,10 +55,6 @@ find-here {X} p xs i x there is none passes =
     ap (find p) (sym (take-append-drop (i + 1) xs))
     ∙ find-append p (take (i + 1) xs) (drop (i + 1) xs)
     ∙ ap (λ (o : Option X). option_or o (find p (drop (i + 1) xs))) one
-
-pub not_mapped : {X Y : Type 0} (f : X → Y) (o : Option X) → option_map f o ≡ None → o ≡ None
-not_mapped f None e = refl
-not_mapped f (Some x) e = absurd (true≢false (ap is_some e))
 
 -- Where each item has a value, none has none.
 pub none_is_none : {X Y : Type 0} (m : X → Option Y) (ys : List Y) (xs : List X) → map Some ys ≡ map m xs → find (λ x. is_none (m x)) xs ≡ None

@@ -5,6 +5,7 @@ use Rattle.std.proofs.Common.{ap, sym, ◌∙◌}
 use Rattle.std.proofs.Math.ListN.{get_or}
 use Rattle.std.proofs.lemmas.List.{take_more}
 use Rattle.std.proofs.lemmas.List.Folds.{find-append}
+use Rattle.lx_types.proofs.Lists.{map_agree}
 use Rattle.obj_types.specs.declared.object.ObjModule.{ObjModule}
 use Rattle.obj_types.specs.declared.symbol.Ext.{Ext}
 use Rattle.obj_types.specs.declared.symbol.Pub.{Pub}
@@ -30,10 +31,6 @@ place-more name xs i x below is =
     ∙ map-or place (find test (take i xs)) (when (test x) x)
     ∙ ap (λ (o : Option PubPlace). option_or (local_place name (take i xs)) o) (map-when place (test x) x)
 
-pub or_none : {V : Type 0} (o : Option V) → o ≡ option_or o None
-or_none None = refl
-or_none (Some x) = refl
-
 composed : (by : ℕ) (o : Option Pub) → option_map (rules.at_place by) (option_map (λ (p : Pub). p.place) o) ≡ option_map (λ (p : Pub). rules.at_place by p.place) o
 composed by None = refl
 composed by (Some p) = refl
@@ -45,10 +42,6 @@ meaning_is_by globals by m locals e are =
     (ap (option_map (rules.at_place by)) (are e.name) ∙ composed by (find (λ p. p.local && bytes_eq p.name e.name) m.pubs))
 
 -- ---- all externals of a module
-
-map_alike : {X Y : Type 0} (f g : X → Y) → ((x : X) → f x ≡ g x) → (xs : List X) → map f xs ≡ map g xs
-map_alike f g same [] = refl
-map_alike {X} {Y} f g same (x ∷ xs) = ap (λ (y : Y). y ∷ map f xs) (same x) ∙ ap (λ (t : List Y). g x ∷ t) (map_alike f g same xs)
 
 missing_alike : (f g : Ext → Option SymDef) → ((e : Ext) → f e ≡ g e) → (es : List Ext) → missing_by f es ≡ missing_by g es
 missing_alike f g same [] = refl
@@ -68,7 +61,7 @@ located globals by m pubs locals are e = meaning_is_by globals by m locals e (λ
 
 pub row_is : (globals : Globals) (by : ℕ) (m : ObjModule) (pubs : List Pub) (locals : List (List ℕ × PubPlace)) (es : List Ext) → AreLocals m pubs locals → es ≡ m.exts → map (meaning_by globals by locals) es ≡ row_in globals by m
 row_is globals by m pubs locals es are same =
-    map_alike (meaning_by globals by locals) (meaning_in globals by m) (located globals by m pubs locals are) es ∙ ap (map (meaning_in globals by m)) same
+    map_agree (meaning_by globals by locals) (meaning_in globals by m) (located globals by m pubs locals are) es ∙ ap (map (meaning_in globals by m)) same
 
 pub missing_is : (globals : Globals) (by : ℕ) (m : ObjModule) (pubs : List Pub) (locals : List (List ℕ × PubPlace)) (es : List Ext) → AreLocals m pubs locals → es ≡ m.exts → missing_by (meaning_by globals by locals) es ≡ missing_row globals by m
 missing_is globals by m pubs locals es are same =

@@ -5,6 +5,7 @@ use Rattle.std.specs.Option.{option_map, option_and_then, option_or}
 use Rattle.std.specs.Cmp.Lexicographic.{nat_list_eq_equiv}
 use Rattle.std.proofs.Common.{ap, sym, ◌∙◌}
 use Rattle.std.proofs.lemmas.Iterator.Adapters.{position_from-zero}
+use Rattle.std.proofs.lemmas.List.Elements.{filter_agree}
 use Rattle.obj_types.specs.declared.symbol.Common.{Common}
 use Rattle.obj_types.specs.declared.symbol.Imp.{Imp}
 use Rattle.link_model.specs.declared.symbols.SymDef.{SymDef}
@@ -72,11 +73,6 @@ slot_named : (name : List ℕ) (cs : List (List ℕ × Common)) → value_named 
 slot_named name cs =
     slot_from name 0 cs ∙ ap (λ (o : Option ℕ). option_map (λ slot. means.Common slot) o) (sym (position_from-zero (λ c. bytes_eq name c.0) cs))
 
-filter_alike : {X : Type 0} (p q : X → Bool) → ((x : X) → p x ≡ q x) → (xs : List X) → filter p xs ≡ filter q xs
-filter_alike p q same [] = refl
-filter_alike {X} p q same (x ∷ xs) =
-    ap (λ (b : Bool). cond b (x ∷ filter p xs) (filter p xs)) (same x) ∙ ap (λ (t : List X). cond (q x) (x ∷ t) t) (filter_alike p q same xs)
-
 none_mapped : {X Y : Type 0} (f : X → Y) (o : Option X) → is_none o ≡ is_none (option_map f o)
 none_mapped f None = refl
 none_mapped f (Some x) = refl
@@ -87,7 +83,7 @@ pub communals_are : (l : Link) (found : List Definition) → map shown found ≡
 unfolding opened
 communals_are l found e =
     ap (λ (cs : List (List ℕ × Common)). map (with_greatest (rules.comdefs l)) (firsts same_name cs))
-    (filter_alike (λ c. is_none (value_named c.0 (firsts_of found))) (λ c. is_none (rules.definition_of l c.0))
+    (filter_agree (λ c. is_none (value_named c.0 (firsts_of found))) (λ c. is_none (rules.definition_of l c.0))
     (λ c. none_mapped shown (value_named c.0 (firsts_of found)) ∙ ap is_none (first_found c.0 found ∙ ap (find (λ d. bytes_eq d.name c.0)) e)) (rules.comdefs l))
 
 -- ---- both

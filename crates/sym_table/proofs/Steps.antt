@@ -3,10 +3,11 @@ use Rattle.std.specs.Prelude.{◌≡◌, ℕ, suc, ◌+◌, ◌≤◌, Bool, tru
 use Rattle.std.specs.List.{list_any, filter_map, flat_map, cons_option, enumerate_from}
 use Rattle.std.proofs.Common.{ap, sym, ◌∙◌, arith, true≢false, append_assoc}
 use Rattle.std.proofs.Math.Bool.{and-false}
-use Rattle.std.proofs.lemmas.Bool.{and_parts, eqb-true, eq-eqb}
+use Rattle.std.proofs.lemmas.Bool.{and_parts, eqb-true, eq-eqb, false_from_ne_true}
 use Rattle.std.proofs.lemmas.List.{append-nil}
 use Rattle.std.proofs.lemmas.List.Elements.{filter_map-append}
 use Rattle.std.proofs.lemmas.List.Folds.{list_any-append}
+use Rattle.lx_types.proofs.Lists.{any_map, any_filter, any_flat_map}
 use Rattle.obj_types.specs.declared.object.ObjModule.{ObjModule}
 use Rattle.obj_types.specs.declared.definition.DefFile.{DefFile}
 use Rattle.obj_types.specs.declared.input.LinkInput.{LinkInput}
@@ -17,25 +18,9 @@ use Rattle.link_model.specs.Choosing.{wanted, defines, is_defined, undefined, mo
 use Rattle.link_model.proofs.Members.{In, here, there, any_in}
 use Rattle.first_table.specs.Entries.{value_named}
 use Rattle.sym_table.specs.Leading.{leader, waits, awaits}
-use Rattle.sym_table.proofs.Waiting.{leads, led, placed, earlier, none_of}
+use Rattle.sym_table.proofs.Waiting.{leads, led, placed, earlier}
 
 -- ---- tests of lists
-
-any_filter : {X : Type 0} (test keep : X → Bool) (xs : List X) → list_any test (filter keep xs) ≡ list_any (λ x. keep x && test x) xs
-any_filter test keep [] = refl
-any_filter {X} test keep (x ∷ xs) = kept (keep x) (filter keep xs) ∙ ap (λ (b : Bool). (keep x && test x) || b) (any_filter test keep xs)
-  where
-    kept : (b : Bool) (ys : List X) → list_any test (cond b (x ∷ ys) ys) ≡ ((b && test x) || list_any test ys)
-    kept true ys = refl
-    kept false ys = refl
-
-any_map : {X Y : Type 0} (test : Y → Bool) (f : X → Y) (xs : List X) → list_any test (map f xs) ≡ list_any (λ x. test (f x)) xs
-any_map test f [] = refl
-any_map test f (x ∷ xs) = ap (λ (b : Bool). test (f x) || b) (any_map test f xs)
-
-any_flat_map : {X Y : Type 0} (test : Y → Bool) (f : X → List Y) (xs : List X) → list_any test (flat_map f xs) ≡ list_any (λ x. list_any test (f x)) xs
-any_flat_map test f [] = refl
-any_flat_map test f (x ∷ xs) = list_any-append test (f x) (flat_map f xs) ∙ ap (λ (b : Bool). list_any test (f x) || b) (any_flat_map test f xs)
 
 any_alike : {X : Type 0} (f g : X → Bool) (xs : List X) → ((x : X) → In x xs → f x ≡ g x) → list_any f xs ≡ list_any g xs
 any_alike f g [] same = refl
@@ -83,7 +68,7 @@ still : (input : LinkInput) (picks : List Pick) (j : ℕ) (m : ObjModule) (k : �
 still input picks j m k true same at least =
     let defined : List ℕ → Bool = is_defined (modules_of input picks) input.def in
     any_none (open_for input (λ name. defined name || defines m name) k) (flat_map wanted (modules_of input picks))
-    (λ name. none_of (open_for input (λ n. defined n || defines m n) k name) (λ is.
+    (λ name. false_from_ne_true (open_for input (λ n. defined n || defines m n) k name) (λ is.
     let both = and_parts (not (defined name || defines m name)) (leads input k name) is in
     let r = placed (λ (o : ObjModule). defines o name) 0 input.libs k (led (leader input.libs name) k both.1) in
     let n = r.number in
@@ -104,7 +89,7 @@ still input picks j m k false other at least =
     let names : List (List ℕ) = flat_map wanted (modules_of input picks) in
     let whole : waits input picks k ≡ list_any (open_for input defined k) names = any_filter (leads input k) (λ name. not (defined name)) names in
     any_alike (open_for input (λ name. defined name || defines m name) k) (open_for input defined k) names
-    (λ name inside. no_two (defined name) (defines m name) (leads input k name) (λ undef leading. none_of (defines m name) (λ own.
+    (λ name inside. no_two (defined name) (defines m name) (leads input k name) (λ undef leading. false_from_ne_true (defines m name) (λ own.
     let r = earlier (λ (o : ObjModule). defines o name) 0 input.libs j m at own in
     let is : k ≡ r.first = same_value (led (leader input.libs name) k leading) r.is in
     let up = r.below in

@@ -3,7 +3,7 @@ use Rattle.std.specs.Prelude.{◌≡◌, ℕ, zero, suc, ◌+◌, ◌<◌, ◌�
 use Rattle.std.specs.List.{list_any, position_from, enumerate_from, filter_map, flat_map, cons_option}
 use Rattle.std.specs.Option.{option_map}
 use Rattle.std.proofs.Common.{ap, sym, ◌∙◌, arith, true≢false, subst}
-use Rattle.std.proofs.lemmas.Bool.{and_parts, and_from, eqb-true, eq-eqb}
+use Rattle.std.proofs.lemmas.Bool.{and_parts, and_from, eqb-true, eq-eqb, false_from_ne_true}
 use Rattle.obj_types.specs.declared.object.ObjModule.{ObjModule}
 use Rattle.obj_types.specs.declared.input.LinkInput.{LinkInput}
 use Rattle.link_model.specs.declared.symbols.Pick.{Pick}
@@ -14,10 +14,6 @@ use Rattle.link_model.proofs.Searching.{is_next}
 use Rattle.sym_table.specs.Leading.{leader, waits}
 
 -- ---- Booleans
-
-pub none_of : (b : Bool) → (b ≡ true → ⊥) → b ≡ false
-none_of true never = absurd (never refl)
-none_of false never = refl
 
 -- ---- leaders
 
@@ -153,13 +149,13 @@ waiting_drawn input picks j w =
       object = r.item;
       at = at;
       drawn = any_in (defines r.item) f.inside r.passes;
-      new = none_of (is_picked picks j) (λ picked. true≢false (sym unmet ∙ ap not (picked_defines input picks j r.item f.item at r.passes picked)));
+      new = false_from_ne_true (is_picked picks j) (λ picked. true≢false (sym unmet ∙ ap not (picked_defines input picks j r.item f.item at r.passes picked)));
     }
 
 pub next_none : (input : LinkInput) (picks : List Pick) → ((k : ℕ) → waits input picks k ≡ false) → next_pick input picks ≡ None
 next_none input picks never =
     ap (option_map (λ (q : ℕ × ObjModule). let p : Pick = record { lib = true; index = q.0 } in p)) (find_none (is_next input picks) 0 input.libs
-    (λ i m at. none_of (is_next input picks (0 + i, m)) (λ is. let w = drawn_waits input picks i m at (and_parts (not (is_picked picks (0 + i))) (is_drawn input picks m) is).1 in true≢false (sym w.waiting ∙ never w.first))))
+    (λ i m at. false_from_ne_true (is_next input picks (0 + i, m)) (λ is. let w = drawn_waits input picks i m at (and_parts (not (is_picked picks (0 + i))) (is_drawn input picks m) is).1 in true≢false (sym w.waiting ∙ never w.first))))
 
 pub next_some : (input : LinkInput) (picks : List Pick) (j : ℕ) → waits input picks j ≡ true → ((k : ℕ) → waits input picks k ≡ true → j ≤ k) → next_pick input picks ≡ Some (record { lib = true; index = j })
 next_some input picks j w least =
@@ -167,7 +163,7 @@ next_some input picks j w least =
     let zeroth : 0 + j ≡ j = omega arith in
     ap (option_map (λ (q : ℕ × ObjModule). let p : Pick = record { lib = true; index = q.0 } in p)) (find_at (is_next input picks) 0 input.libs j d.object d.at
     (ap (λ (n : ℕ). is_next input picks (n, d.object)) zeroth ∙ and_from (not (is_picked picks j)) (is_drawn input picks d.object) (ap not d.new) d.drawn)
-    (λ i m at below. none_of (is_next input picks (0 + i, m))
+    (λ i m at below. false_from_ne_true (is_next input picks (0 + i, m))
     (λ is. let v = drawn_waits input picks i m at (and_parts (not (is_picked picks (0 + i))) (is_drawn input picks m) is).1 in
     let up = least v.first v.waiting in let down = v.below in absurd (omega (arith, below, up, down)))))
     ∙ ap (λ (n : ℕ). let o : Option Pick = Some (record { lib = true; index = n }) in o) zeroth

@@ -3,6 +3,7 @@ use Rattle.std.specs.Prelude.{◌≡◌, not, List, [], ◌∷◌, Option, Some,
 use Rattle.std.specs.Borrow.{Bor}
 use Rattle.std.specs.Option.{option_map, option_or}
 use Rattle.std.proofs.Common.{ap, sym, ◌∙◌, subst}
+use Rattle.lx_types.proofs.Lists.{find_agree}
 use Rattle.obj_types.specs.declared.object.ObjModule.{ObjModule}
 use Rattle.obj_types.specs.declared.input.LinkInput.{LinkInput}
 use Rattle.obj_types.specs.declared.symbol.Exp.{Exp}
@@ -23,12 +24,12 @@ use Rattle.sym_table.specs.Links.{link_with}
 use Rattle.sym_table.specs.Meanings.{global_in, rows_in, missing_export_in}
 use Rattle.sym_table.specs.Refusing.{later_refusal}
 use Rattle.sym_table.specs.Symbols.{SymbolTable}
-use Rattle.sym_table.proofs.Externals.{find_alike, rows_are, missing_externals_are}
+use Rattle.sym_table.proofs.Externals.{rows_are, missing_externals_are}
 
 missing_exports_are : (l : Link) (names : GlobalNames) → AreNamesOf l names → missing_export_in names.globals (exports l) ≡ missing_export l
 missing_exports_are l names are =
     ap (λ (o : Option Exp). option_map (λ (x : Exp). Missing x.internal) o)
-    (find_alike (λ x. not (is_exportable (global_in names.globals x.internal))) (λ x. not (is_exportable (rules.global l x.internal))) (λ x. ap (λ m. not (is_exportable m)) (are.global x.internal)) (exports l))
+    (find_agree (λ x. not (is_exportable (global_in names.globals x.internal))) (λ x. not (is_exportable (rules.global l x.internal))) (λ x. ap (λ m. not (is_exportable m)) (are.global x.internal)) (exports l))
 
 -- What is refused behind `Twice`.
 later_is : (l : Link) (names : GlobalNames) → AreNamesOf l names → later_refusal names l ≡ first_of (missing_external l ∷ missing_export l ∷ imports_many l ∷ [])
