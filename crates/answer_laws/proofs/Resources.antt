@@ -1,5 +1,5 @@
 -- Bytes are one list of items, or have one first fault, and not both.
-use Rattle.std.proofs.Common.{◌≡◌, ◌⊎◌, inl, inr, ℕ, zero, suc, ◌+◌, ◌-◌, ◌<◌, ◌≤◌, ◌^◌, Bool, true, false, cond, ltb, eqb, ◌&&◌, ◌||◌, nat_le, List, [], ◌∷◌, ◌++◌, length, take, drop, get_or, Option, Some, None, refl, sym, subst, ap, ◌∙◌, append-nil, append_assoc, arith, length-append}
+use Rattle.std.proofs.Common.{◌≡◌, ◌⊎◌, inl, inr, ℕ, zero, suc, ◌+◌, ◌-◌, ◌<◌, ◌≤◌, ◌^◌, Bool, true, false, cond, ltb, eqb, ◌||◌, nat_le, List, [], ◌∷◌, ◌++◌, length, take, drop, get_or, Option, Some, None, refl, sym, subst, ap, ◌∙◌, append-nil, append_assoc, arith, length-append}
 use Rattle.std.specs.Prelude.{Result, Ok, Err}
 use Rattle.std.specs.List.{list_any, AllByRecursion as Each}
 use Rattle.std.proofs.lemmas.Bool.{le-ltb}
@@ -15,7 +15,7 @@ use Rattle.res_file.specs.Seen.{AreRead}
 use Rattle.res_model.specs.declared.item.ResItem.{ResItem}
 use Rattle.res_model.specs.declared.refusal.ResRefusal.{ResRefusal}
 use Rattle.res_model.specs.declared.refusal.ResRefusal.TheVariants.{Short, BadItem, Twice}
-use Rattle.res_file.proofs.Progress.{nothing_read, one_more, all_read, faulty, fault_of_fields, fault_of_key}
+use Rattle.res_file.proofs.Progress.{nothing_read, one_more, all_read, faulty, fault_of_fields, fault_of_key, turned}
 
 -- ---- the fields of an item as it is spelled
 
@@ -81,9 +81,6 @@ fields_good at i rest fits =
     (both_none (there at left 8 4 (omega (arith, size))) (there at left FIELDS (length_at left) whole))))))
 
 -- ---- and another key than those before it
-
-turned : (a b c d : ℕ) → (eqb a b && eqb c d) ≡ false → (eqb b a && eqb d c) ≡ false
-turned a b c d e = grind (arith, nat_tests)
 
 either_false : {a b : Bool} → a ≡ false → b ≡ false → (a || b) ≡ false
 either_false {b = b} p q = ap (λ x. x || b) p ∙ q

@@ -1,10 +1,11 @@
 -- What `image` says of the smallest object files.
 use Rattle.std.proofs.Common.{◌≡◌, ◌⊎◌, ℕ, ◌+◌, ◌≤◌, List, [], ◌∷◌, ◌++◌, map, length, inl, inr, refl, ap, sym, subst, ◌∙◌, cond, Bool, true, false, nat_lt, nat_le, arith, append-nil}
 use Rattle.std.specs.Prelude.{Result, Ok, Err, Option, None, Some, not, filter, find, codes, ◌&&◌, ◌==◌, ◌%◌}
-use Rattle.std.specs.List.{AllByRecursion, filter_map, enumerate_from, range_with_len}
+use Rattle.std.specs.List.{filter_map, enumerate_from, range_with_len}
 use Rattle.std.specs.Int.{w32, from_be_bytes}
 use Rattle.std.specs.Option.{option_map}
 use Rattle.std.proofs.lemmas.Bool.Decides.{nat_tests}
+use Rattle.lx_types.proofs.Lists.{map_agree}
 use Rattle.hex.specs.Hex.{decode_sized}
 use Rattle.hex.specs.declared.error.FromHexError.{FromHexError}
 use Rattle.lx_ports.specs.Files.{Contents}
@@ -30,7 +31,7 @@ use Rattle.link_model.specs.OneSegment.{IsOneSegment, LinksOneSegment, alone, on
 use Rattle.link_model.specs.Patches.{linked_world, recorded, is_patched}
 use Rattle.link_model.specs.Value.{World}
 use Rattle.link_model.proofs.Rules.{rules}
-use Rattle.link_model.proofs.SmallestLink.{InPage, placed, fixups-link, all_live}
+use Rattle.link_model.proofs.SmallestLink.{placed, fixups-link, all_live, in_page}
 use Rattle.link_model.proofs.OneSegmentLaw.{one_segment_law}
 use Rattle.image_model.specs.Linked.{link_modules}
 use Rattle.gen_laws.proofs.OneLink.{plain_link}
@@ -66,10 +67,6 @@ none_used l m (p ∷ ps) = none_used l m ps
 
 abbrev pub small : List ℕ → List ℕ → List ℕ → ℕ → Link
 small name bytes places base = link_of (alone (one_segment name bytes places) NAME base) only_pick
-
-in_page : (bytes places : List ℕ) → length bytes ≤ 4096 → AllByRecursion (λ p. p + 4 ≤ length bytes) places → AllByRecursion InPage places
-in_page bytes [] len h = tt
-in_page bytes (p ∷ ps) len h = let first = h.0 in (omega arith, in_page bytes ps len h.1)
 
 no_imports : (name bytes places : List ℕ) (base : ℕ) → IsOneSegment bytes places → link_pairs (small name bytes places base) ≡ []
 unfolding rules
@@ -118,14 +115,10 @@ no_refusal l o h = rw (not_refused l o h, no_module_refusal l o h, no_arena_refu
 
 -- ---- the text
 
-pub same_map : {A B : Type 0} (f g : A → B) → ((x : A) → f x ≡ g x) → (xs : List A) → map f xs ≡ map g xs
-same_map f g h [] = refl
-same_map f g h (x ∷ xs) = ap (λ y. y ∷ map f xs) (h x) ∙ ap (λ ys. g x ∷ ys) (same_map f g h xs)
-
 text_is : (l : Link) (o : LaidObject) (f : ℕ → ℕ) → objects l ≡ o ∷ [] → ((x : ℕ) → Mean l (linked_world l) 1 x ≡ f x)
     → memory_text l ≡ image_text o.base (map f (range_with_len 0 o.size))
 text_is l o f is means =
-    rw is (append-nil (object_text l (1, o)) ∙ ap (image_text o.base) (same_map (Mean l (linked_world l) 1) f means (range_with_len 0 o.size)))
+    rw is (append-nil (object_text l (1, o)) ∙ ap (image_text o.base) (map_agree (Mean l (linked_world l) 1) f means (range_with_len 0 o.size)))
 
 outcome_is : (l : Link) (o : LaidObject) (f : ℕ → ℕ) → Unrefused l o → ((x : ℕ) → Mean l (linked_world l) 1 x ≡ f x)
     → image_outcome l ≡ shown (image_text o.base (map f (range_with_len 0 o.size)))
