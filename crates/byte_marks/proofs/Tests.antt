@@ -5,8 +5,6 @@ use Rattle.std.proofs.lemmas.Bool.{leb-true, le-leb, ltb-true, lt-ltb, and_from,
 use Rattle.std.proofs.lemmas.Bool.Decides.{nat_tests, leb_tells}
 use Rattle.byte_marks.specs.Bits.{HasBit, is_from}
 
--- ---- tests
-
 -- ---- numbers from one up to another
 
 pub among : (from past i : ℕ) → is_from from past i ≡ true → (from ≤ i) × (i < past)

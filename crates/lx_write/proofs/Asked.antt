@@ -76,5 +76,3 @@ ended P xs i end each = subst (All P) (take_all i xs end) each
 
 pub item : {A : Type 0} (P : A → Type 0) (xs : List A) (i : ℕ) (d x : A) → i < length xs → x ≡ slice_index_or xs i d → All P xs → P x
 item P xs i d x there is each = subst P (sym is) (All-get_or P xs i d there each)
-
--- ---- what a test tells

@@ -96,8 +96,6 @@ pub split-at : {X : Type 0} (xs : List X) (i : ℕ) (x : X) → i < length xs �
 split-at {X} xs i x there is =
     sym (take-append-drop (i + 1) xs) ∙ ap (λ (t : List X). t ++ drop (i + 1) xs) (take-push xs i x there is) ∙ append_assoc (take i xs) (x ∷ []) (drop (i + 1) xs)
 
--- ---- of modules and of tables
-
 -- ---- those that have a value
 
 filter_map-more : {X Y : Type 0} (h : X → Option Y) (xs : List X) (i : ℕ) (x : X) → i < length xs → x ≡ get_or xs i x → filter_map h (take (i + 1) xs) ≡ filter_map h (take i xs) ++ cons_option (h x) []

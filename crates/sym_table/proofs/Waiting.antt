@@ -13,8 +13,6 @@ use Rattle.link_model.proofs.Members.{In, here, there, found, any_in}
 use Rattle.link_model.proofs.Searching.{is_next}
 use Rattle.sym_table.specs.Leading.{leader, waits}
 
--- ---- Booleans
-
 -- ---- leaders
 
 -- Where the first item that passes stands, counted from s.
