@@ -1,12 +1,13 @@
 #!/usr/bin/env python3
 """Times the commands of lx on inputs of n, 2n, 4n and 8n, with their peak memory.
 
-Usage: bench.py [--scale N] [--against FILE] [--save FILE] [--only WORD] LX
+Usage: bench.py [--scale N] [--against FILE] [--turns N] [--save FILE] [--only WORD] LX
 
     LX              the program as built
     --scale N       a factor for all sizes, 1 by default
     --against FILE  prints beside each size its seconds and its memory as parts of those in FILE, a baseline; or of those of FILE, where
-                    that is a program: then each command is run by both in turn, three times, and the least counts
+                    that is a program: then each command is run by both in turn; beside one that the other refuses stands "new"
+    --turns N       how often each command is run, 3 by default; the least counts
     --save FILE     writes what was measured to FILE as a baseline
     --only WORD     only the rows whose name has this word
 
@@ -114,6 +115,10 @@ def module(fixups):
     return bytes(head) + objects + page_table + names + b"\0" + place_table + bodies + b"\0" + names
 
 
+class CommandFailed(Exception):
+    """A command did not end with 0."""
+
+
 def run(command, folder):
     """The seconds and the peak memory in MiB of a command, which has to end with 0."""
     begin = time.monotonic()
@@ -125,7 +130,7 @@ def run(command, folder):
     _, status, usage = os.wait4(child.pid, 0)
     seconds = time.monotonic() - begin
     if status:
-        sys.exit("%s ended with %d: %s" % (" ".join(command[1:4]), os.waitstatus_to_exitcode(status), put))
+        raise CommandFailed("%s ended with %d: %s" % (" ".join(command[1:4]), os.waitstatus_to_exitcode(status), put))
     return seconds, usage.ru_maxrss / 1024
 
 
@@ -144,6 +149,11 @@ def prepared(prepare, folder, size):
         return json.load(file)
 
 
+def least(pairs):
+    """The least seconds and the least MiB of some runs."""
+    return tuple(min(column) for column in zip(*pairs))
+
+
 class Table:
     """What is measured, a line a size, beside a baseline or another program."""
 
@@ -158,14 +168,15 @@ class Table:
 
     def measured(self, command, folder):
         """The seconds and the MiB of a command, and those that it is compared with, where there are any."""
-        if not self.options.other:
-            return run(command, folder), None
-        both = {}
-        for _ in range(3):
-            for lx in (self.options.lx, self.options.other):
-                both.setdefault(lx, []).append(run([lx] + command[1:], folder))
-        least = [tuple(min(column) for column in zip(*both[lx])) for lx in (self.options.lx, self.options.other)]
-        return least[0], least[1]
+        own, others = [], [] if self.options.other else None
+        for _ in range(self.options.turns):
+            own.append(run(command, folder))
+            if others is not None:
+                try:
+                    others.append(run([self.options.other] + command[1:], folder))
+                except CommandFailed:
+                    others = None
+        return least(own), others and least(others)
 
     def against(self, what, size, now, other):
         if self.before:
@@ -204,11 +215,12 @@ class Options:
     """The words of the command line."""
 
     def __init__(self, words):
-        self.scale, self.only, self.against, self.other, self.save, self.lx = 1.0, "", None, None, None, None
+        self.scale, self.turns, self.only = 1.0, 3, ""
+        self.against, self.other, self.save, self.lx = None, None, None, None
         words = list(words)
         while words:
             word = words.pop(0)
-            if word in ("--scale", "--against", "--save", "--only"):
+            if word in ("--scale", "--against", "--turns", "--save", "--only"):
                 if not words:
                     raise ValueError("%s wants a word behind it" % word)
                 self.take(word, words.pop(0))
@@ -227,6 +239,10 @@ class Options:
             self.scale = float(value)
             if not 0 < self.scale <= 1000:
                 raise ValueError("--scale wants a number above 0")
+        elif word == "--turns":
+            self.turns = int(value)
+            if self.turns < 1:
+                raise ValueError("--turns wants a number above 0")
         elif word == "--against" and os.access(value, os.X_OK) and not os.path.isdir(value):
             self.other = os.path.realpath(value)
         elif word == "--against":
@@ -336,7 +352,7 @@ def main(words):
         return 2
     try:
         measure(options)
-    except (OSError, KeyboardInterrupt) as error:
+    except (CommandFailed, OSError, KeyboardInterrupt) as error:
         print("bench.py: ended: %s" % (error or "interrupted"), file=sys.stderr)
         return 1
     return 0
