@@ -8,7 +8,8 @@ Usage: bench.py [--scale N] [--against FILE] [--turns N] [--save FILE] [--only W
     --against FILE  prints beside each size its seconds and its memory as parts of those in FILE, a baseline; or of those of FILE, where
                     that is a program: then each command is run by both in turn; beside one that the other refuses stands "new"
     --turns N       how often each command is run, 3 by default; the least counts
-    --save FILE     writes what was measured to FILE as a baseline
+    --save FILE     writes what was measured to FILE as a baseline: of each size the seconds and the MiB, and behind them, where another
+                    program was measured too, both as parts of the other's
     --only WORD     only the rows whose name has this word
 
 Prints a line a size: seconds, MiB, the seconds of the line before as 1, and with --against the two parts of the baseline. A
@@ -21,6 +22,7 @@ import json
 import os
 import platform
 import random
+import re
 import struct
 import subprocess
 import sys
@@ -149,6 +151,11 @@ def prepared(prepare, folder, size):
         return json.load(file)
 
 
+def text_of(told):
+    """JSON with a line a size."""
+    return re.sub(r"\[\s+([^][]*?)\s+\]", lambda it: "[" + re.sub(r"\s+", " ", it[1]) + "]", json.dumps(told, indent=1))
+
+
 def least(pairs):
     """The least seconds and the least MiB of some runs."""
     return tuple(min(column) for column in zip(*pairs))
@@ -178,12 +185,16 @@ class Table:
                     others = None
         return least(own), others and least(others)
 
-    def against(self, what, size, now, other):
+    def parts(self, what, size, now, other):
+        """The seconds and the MiB as parts of those that they are compared with, or none where there are no such."""
         if self.before:
             other = self.before["rows"].get(what, {}).get(str(size))
-        elif not self.options.other:
+        return () if other is None else (now[0] / other[0], now[1] / other[1])
+
+    def beside(self, parts):
+        if not self.before and not self.options.other:
             return ""
-        return "    new" if other is None else "%6.2f %6.2f" % (now[0] / other[0], now[1] / other[1])
+        return "%6.2f %6.2f" % parts if parts else "    new"
 
     def row(self, what, first, prepare, factors=(1, 2, 4, 8)):
         if self.options.only not in what:
@@ -193,16 +204,18 @@ class Table:
             with tempfile.TemporaryDirectory() as folder:
                 now, other = self.measured(prepared(prepare, folder, size), folder)
             ratio = "" if last is None else "%6.2f" % (now[0] / last)
-            beside = self.against(what, size, now, other)
-            print(("%-44s %9d %9.3f %8.1f %6s%s" % (what, size, *now, ratio, beside)).rstrip(), flush=True)
-            self.rows.setdefault(what, {})[str(size)] = [round(now[0], 4), round(now[1], 1)]
+            parts = self.parts(what, size, now, other)
+            print(("%-44s %9d %9.3f %8.1f %6s%s" % (what, size, *now, ratio, self.beside(parts))).rstrip(), flush=True)
+            told = [round(part, 2) for part in parts] if self.options.other else []
+            self.rows.setdefault(what, {})[str(size)] = [round(now[0], 4), round(now[1], 1)] + told
             last = now[0]
 
     def save(self, path):
         told = {"machine": "%s, %d processors" % (platform.machine(), os.cpu_count() or 0), "date": time.strftime("%Y-%m-%d")}
+        if self.options.other:
+            told["other"] = os.path.basename(self.options.other)
         with open(path, "w", encoding="utf-8") as file:
-            json.dump({**told, "rows": self.rows}, file, indent=1)
-            file.write("\n")
+            file.write(text_of({**told, "rows": self.rows}) + "\n")
 
 
 def put(folder, name, data):
