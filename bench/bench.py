@@ -141,12 +141,17 @@ def prepared(prepare, folder, size):
     path = os.path.join(folder, "command")
     maker = os.fork()
     if maker == 0:
+        status = 1
         try:
             with open(path, "w") as file:
                 json.dump(prepare(folder, size), file)
+            status = 0
+        except (CommandFailed, OSError) as error:
+            print("bench.py: %s" % error, file=sys.stderr, flush=True)
         finally:
-            os._exit(0)
-    os.waitpid(maker, 0)
+            os._exit(status)
+    if os.waitpid(maker, 0)[1]:
+        raise CommandFailed("inputs of size %d were not made" % size)
     with open(path) as file:
         return json.load(file)
 
@@ -192,6 +197,7 @@ class Table:
         return () if other is None else (now[0] / other[0], now[1] / other[1])
 
     def beside(self, parts):
+        """What stands behind a line for them."""
         if not self.before and not self.options.other:
             return ""
         return "%6.2f %6.2f" % parts if parts else "    new"
