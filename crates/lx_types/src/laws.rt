@@ -5,6 +5,9 @@
 
 ghost use Rattle.std.specs.Prelude.{◌≡◌};
 
+use crate::limits::{
+    BASE_UNIT, MAX_FILE, MAX_LOADS, MAX_MODULES, MAX_OBJECTS, MAX_PAGES, MAX_PROCESSES, PAGE_LEN,
+};
 use crate::object::{
     OBJECT_ALIAS, OBJECT_BIG, OBJECT_CONFORMING, OBJECT_EXECUTABLE, OBJECT_IOPL, OBJECT_PRELOAD,
     OBJECT_READABLE, OBJECT_SHARED, OBJECT_WRITABLE, PAGE_SIZE,
@@ -28,4 +31,16 @@ pub fn format_numbers()
     ensures library { MODULE_LIBRARY ≡ 0x0000_8000 }
     ensures kind { MODULE_KIND ≡ 0x0003_8000 }
     ensures term_each { MODULE_TERM_EACH ≡ 0x4000_0000 }
+{}
+
+/// A law: each number that bounds a file, a module or a session.
+pub fn limits_are()
+    ensures page { PAGE_LEN ≡ PAGE_SIZE }
+    ensures file { MAX_FILE ≡ 16777216 }
+    ensures objects { MAX_OBJECTS ≡ 1024 }
+    ensures pages { MAX_PAGES ≡ 65536 }
+    ensures modules { MAX_MODULES ≡ 64 }
+    ensures processes { MAX_PROCESSES ≡ 16 }
+    ensures loads { MAX_LOADS ≡ 65535 }
+    ensures base_unit { BASE_UNIT ≡ 65536 }
 {}

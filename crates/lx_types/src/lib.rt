@@ -9,6 +9,7 @@ mod escaped;
 mod fail;
 mod fix;
 mod laws;
+mod limits;
 mod module;
 mod name;
 mod object;
@@ -26,7 +27,11 @@ pub use entry::{EntryHead, EntryKey, FwdKey};
 pub use escaped::push_escaped;
 pub use fail::{Fail, NoMemory};
 pub use fix::{Fix, FixTarget, Source};
-pub use laws::format_numbers;
+pub use laws::{format_numbers, limits_are};
+pub use limits::{
+    BASE_UNIT, MAX_FILE, MAX_LOADS, MAX_MODULES, MAX_OBJECTS, MAX_PAGES, MAX_PROCESSES, PAGE_LEN,
+    PageBytes,
+};
 pub use module::Module;
 pub use name::{Name, NameLong};
 pub use object::{
