@@ -11,10 +11,10 @@ use Rattle.gen_model.specs.declared.totals.Totals.{Totals}
 use Rattle.gen_model.specs.Modules.{gen_input, gen_object}
 use Rattle.gen_model.specs.Sums.{AreFirstPlaces, AreLinked, AreTotals, bases_of, library_of, totals_line, totals_of}
 use Rattle.gen_laws.proofs.OneLink.{link_once}
-use Rattle.lx_answer.specs.Answer.{saves_in}
-use Rattle.lx_answer.specs.GenAnswer.{AreObjectFiles, GenAnswer, GenWords, IsSavedWith, SavesInTurn, SaysGen, files_with, module_files, session_file}
-use Rattle.lx_answer.specs.Outcome.{Saved}
-use Rattle.lx_answer.specs.declared.said.Said.{Said}
+use Rattle.answer_model.specs.Answer.{saves_in}
+use Rattle.answer_model.specs.GenAnswer.{AreObjectFiles, GenAnswer, GenWords, IsSavedWith, SavesInTurn, SaysGen, files_with, module_files, session_file}
+use Rattle.answer_model.specs.Outcome.{Saved}
+use Rattle.answer_model.specs.declared.said.Said.{Said}
 use Rattle.answer_laws.specs.AnswerLaws.{AreAlike, IsAlike}
 use Rattle.answer_laws.proofs.Loads.{AreSound, ap2}
 

@@ -9,10 +9,10 @@ use Rattle.omf_write.specs.ObjectBytes.{object_bytes}
 use Rattle.gen_model.specs.Modules.{gen_object}
 use Rattle.gen_model.specs.Sums.{totals_line}
 use Rattle.gen_laws.specs.Laws.{FirstHaveTotals, IsOne, ObjectsHaveFiles}
-use Rattle.lx_answer.specs.GenAnswer.{AreObjectFiles, GenWords, SavesInTurn, SaysGen, files_with}
-use Rattle.lx_answer.specs.Outcome.{Saved}
-use Rattle.lx_answer.specs.Words.{Command, MOST, base_of, bind, bind_of, command_of, count_of, dump_of, gen, gen_of, image, image_of, implib_of, link_of, map_of}
-use Rattle.lx_answer.specs.declared.said.Said.{Said}
+use Rattle.answer_model.specs.GenAnswer.{AreObjectFiles, GenWords, SavesInTurn, SaysGen, files_with}
+use Rattle.answer_model.specs.Outcome.{Saved}
+use Rattle.answer_model.specs.Words.{Command, MOST, base_of, bind, bind_of, command_of, count_of, dump_of, gen, gen_of, image, image_of, implib_of, link_of, map_of}
+use Rattle.answer_model.specs.declared.said.Said.{Said}
 use Rattle.answer_laws.proofs.Loads.{AreSound}
 
 -- ---- the number of modules

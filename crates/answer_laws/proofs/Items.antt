@@ -14,15 +14,15 @@ use Rattle.def_model.specs.declared.refusal.DefRefusal.{DefRefusal}
 use Rattle.def_model.specs.Reading.{read_of}
 use Rattle.lx_types.specs.declared.refusal.LxRefusal.{LxRefusal}
 use Rattle.lx_model.specs.Module.{LxFault, parts_of, Lx}
-use Rattle.lx_answer.specs.FileRefusals.{omf_text, lx_text, def_text}
-use Rattle.lx_answer.specs.SessionRefusals.{session_text}
-use Rattle.lx_answer.specs.ResourceRefusals.{res_text}
+use Rattle.answer_model.specs.FileRefusals.{omf_text, lx_text, def_text}
+use Rattle.answer_model.specs.SessionRefusals.{session_text}
+use Rattle.answer_model.specs.ResourceRefusals.{res_text}
 use Rattle.res_model.specs.declared.refusal.ResRefusal.{ResRefusal}
 use Rattle.session_model.specs.declared.sessions.SessionRefusal.{SessionRefusal}
 use Rattle.session_model.specs.Sessions.{SesFault, Ses, session_of, statements_of}
 use Rattle.session_model.specs.Lines.{lines_in}
 use Rattle.answer_laws.proofs.Resources as res
-use Rattle.lx_answer.specs.Reading.{Form, object_form, library_form, definition_form, module_form, session_form, resource_form, Item, object, library, definition, linked, session, resources, IsItem, IsFault}
+use Rattle.answer_model.specs.Reading.{Form, object_form, library_form, definition_form, module_form, session_form, resource_form, Item, object, library, definition, linked, session, resources, IsItem, IsFault}
 
 -- ---- one item
 

@@ -12,19 +12,19 @@ use Rattle.link_model.specs.Refusal.{link_refusal}
 use Rattle.image_model.specs.Linked.{called}
 use Rattle.map_model.specs.MapLaws.{MapsAreOne}
 use Rattle.gen_laws.proofs.OneLink.{link_once}
-use Rattle.lx_answer.specs.Answer.{Answer, IsSound, saves_in}
-use Rattle.lx_answer.specs.BindAnswer.{BindAnswer, bind_outcome}
-use Rattle.lx_answer.specs.ImageAnswer.{NAME, ImageAnswer, image_outcome}
-use Rattle.lx_answer.specs.ImplibAnswer.{all_imports, implib_outcome}
-use Rattle.lx_answer.specs.LinkAnswer.{LinkAnswer, input_of, input_with, link_outcome, link_text}
-use Rattle.lx_answer.specs.MapAnswer.{MapAnswer, MapsInput, ShowsMap, NAME as MAP}
-use Rattle.lx_answer.specs.Outcome.{Outcome, Saved, shown}
-use Rattle.lx_answer.specs.Reading.{Item, object, linked, resources}
-use Rattle.lx_answer.specs.Loading.{IsStopped}
-use Rattle.lx_answer.specs.Says.{ComesTo, Finishes, IsDone, IsSaved, SaysCommand, asked_files, said_after}
-use Rattle.lx_answer.specs.Stem.{stem_of}
-use Rattle.lx_answer.specs.Words.{Command, command_of, image, link, implib, bind, gen, dump, link_map}
-use Rattle.lx_answer.specs.declared.said.Said.{Said}
+use Rattle.answer_model.specs.Answer.{Answer, IsSound, saves_in}
+use Rattle.answer_model.specs.BindAnswer.{BindAnswer, bind_outcome}
+use Rattle.answer_model.specs.ImageAnswer.{NAME, ImageAnswer, image_outcome}
+use Rattle.answer_model.specs.ImplibAnswer.{all_imports, implib_outcome}
+use Rattle.answer_model.specs.LinkAnswer.{LinkAnswer, input_of, input_with, link_outcome, link_text}
+use Rattle.answer_model.specs.MapAnswer.{MapAnswer, MapsInput, ShowsMap, NAME as MAP}
+use Rattle.answer_model.specs.Outcome.{Outcome, Saved, shown}
+use Rattle.answer_model.specs.Reading.{Item, object, linked, resources}
+use Rattle.answer_model.specs.Loading.{IsStopped}
+use Rattle.answer_model.specs.Says.{ComesTo, Finishes, IsDone, IsSaved, SaysCommand, asked_files, said_after}
+use Rattle.answer_model.specs.Stem.{stem_of}
+use Rattle.answer_model.specs.Words.{Command, command_of, image, link, implib, bind, gen, dump, link_map}
+use Rattle.answer_model.specs.declared.said.Said.{Said}
 use Rattle.answer_laws.specs.AnswerLaws.{AreSame, OneAnswer}
 use Rattle.answer_laws.proofs.GeneratedOnce.{gen_files_once, gen_said_once}
 use Rattle.answer_laws.proofs.Loads.{ap2, AreSound, sound_front, sound_back, SameReads, reads_once, SameStop, stops, stops_once, stops_or_reads}

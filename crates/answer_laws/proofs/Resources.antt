@@ -8,7 +8,8 @@ use Rattle.std.proofs.Math.Seq.{take-append_seam, drop-append_seam}
 use Rattle.lx_bytes.specs.LittleEndian.{AreBytes, little, little_bytes}
 use Rattle.lx_bytes.proofs.Numbers.{little-little_bytes}
 use Rattle.lx_model.specs.Reading.{number_at, ◌then◌}
-use Rattle.res_model.specs.ItemFields.{MARK, FIELDS, type_at, id_at, length_at, item_at, short_field, mark_fault, fields_fault}
+use Rattle.res_model.specs.declared.item.TheConstants.{MARK, FIELDS}
+use Rattle.res_model.specs.ItemFields.{type_at, id_at, length_at, item_at, short_field, mark_fault, fields_fault}
 use Rattle.res_model.specs.ResFile.{item_spelling, items_spelling, ItemFits, has_key, same_key, AreApart, IsResFile}
 use Rattle.res_model.specs.Faults.{FirstFault, item_fault, is_second}
 use Rattle.res_file.specs.Seen.{AreRead}
@@ -49,7 +50,7 @@ twelve n = omega arith
 spelled_length : (i : ResItem) → length (item_spelling i) ≡ FIELDS + length i.bytes
 spelled_length i = twelve (length i.bytes)
 
--- what stands behind the item
+-- what stands after the item
 rest_is : (i : ResItem) (rest : List ℕ) → ItemFits i → drop (FIELDS + length_at (item_spelling i ++ rest)) (item_spelling i ++ rest) ≡ rest
 rest_is i rest fits =
     ap (λ (n : ℕ). drop (FIELDS + n) (item_spelling i ++ rest)) (length_is i rest fits)
@@ -104,7 +105,7 @@ item_good before at i items rest fits apart =
     ∙ new_key before i items apart in
     both_none (fields_good at i rest fits) (ap (λ (b : Bool). cond b (Some (Twice at)) None) key)
 
--- ---- what bytes are read as, behind items: items up to their end, or the first fault
+-- ---- what bytes are read as, after items: items up to their end, or the first fault
 
 abbrev pub Reading : Type 0
 Reading = Result (List ResItem) ResRefusal
@@ -195,7 +196,7 @@ fault_read bytes f h =
 abbrev pub IsEither : List ℕ → Type 0
 IsEither bytes = ((items : List ResItem) × IsResFile bytes items) ⊎ ((f : ResRefusal) × FirstFault bytes f)
 
--- What is read behind some items, where what stands behind them has at most n bytes more.
+-- What is read after some items, where what stands after them has at most n bytes more.
 abbrev ReadsOn : ℕ → List ℕ → Type 0
 ReadsOn n bytes = (at : ℕ) (items : List ResItem) → AreRead bytes at items → length bytes ≤ at + n → IsEither bytes
 

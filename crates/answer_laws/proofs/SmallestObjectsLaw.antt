@@ -35,15 +35,15 @@ use Rattle.link_model.proofs.SmallestLink.{placed, fixups-link, all_live, in_pag
 use Rattle.link_model.proofs.OneSegmentLaw.{one_segment_law}
 use Rattle.image_model.specs.Linked.{link_modules}
 use Rattle.gen_laws.proofs.OneLink.{plain_link}
-use Rattle.lx_answer.specs.Answer.{Answer, loaded}
-use Rattle.lx_answer.specs.FileLine.{file_line}
-use Rattle.lx_answer.specs.ImageAnswer.{NAME, arena_full, image_outcome, image_refusal, memory_of, memory_text, no_module, object_text}
-use Rattle.lx_answer.specs.ImageText.{image_text}
-use Rattle.lx_answer.specs.Loading.{file_limit}
-use Rattle.lx_answer.specs.Outcome.{Outcome, shown}
-use Rattle.lx_answer.specs.Reading.{object}
-use Rattle.lx_answer.specs.Says.{SaysCommand}
-use Rattle.lx_answer.specs.Words.{Command, base_of, base_of_bytes, command_of, image, in_arenas}
+use Rattle.answer_model.specs.Answer.{Answer, loaded}
+use Rattle.answer_model.specs.FileLine.{file_line}
+use Rattle.answer_model.specs.ImageAnswer.{NAME, arena_full, image_outcome, image_refusal, memory_of, memory_text, no_module, object_text}
+use Rattle.answer_model.specs.ImageText.{image_text}
+use Rattle.answer_model.specs.Loading.{file_limit}
+use Rattle.answer_model.specs.Outcome.{Outcome, shown}
+use Rattle.answer_model.specs.Reading.{object}
+use Rattle.answer_model.specs.Says.{SaysCommand}
+use Rattle.answer_model.specs.Words.{Command, base_of, base_of_bytes, command_of, image, in_arenas}
 use Rattle.answer_laws.specs.SmallestObjects.{ShowsSmallestObjects, shown_segment}
 
 -- ---- the base
@@ -83,7 +83,7 @@ no_entry_refusal : (name bytes places : List ℕ) (base : ℕ) → entry_refusal
 unfolding rules
 no_entry_refusal name bytes places base = refl
 
--- The refusals of a link, one behind the other.
+-- The refusals of a link, one after the other.
 pub record Unrefused (l : Link) (o : LaidObject) : Type 0 where
   pub names : sym_refusal l ≡ None
   pub comdats : l.clash ≡ None

@@ -9,23 +9,23 @@ use Rattle.link_model.specs.OneSegment.{alone}
 use Rattle.link_model.specs.Refusal.{link_refusal}
 use Rattle.image_model.specs.Linked.{called}
 use Rattle.map_model.specs.MapLaws.{LinksHaveMaps}
-use Rattle.lx_answer.specs.Answer.{saves_in}
-use Rattle.lx_answer.specs.FileLine.{usage_line}
+use Rattle.answer_model.specs.Answer.{saves_in}
+use Rattle.answer_model.specs.FileLine.{usage_line}
 use Rattle.dump_model.specs.Dumps.{Dump}
 use Rattle.dump_model.specs.Listings.{listing_of}
-use Rattle.lx_answer.specs.DumpAnswer.{DumpAnswer}
-use Rattle.lx_answer.specs.BindAnswer.{BindAnswer, bind_outcome}
-use Rattle.lx_answer.specs.ImageAnswer.{NAME, ImageAnswer, image_outcome}
-use Rattle.lx_answer.specs.ImplibAnswer.{all_imports, implib_outcome}
-use Rattle.lx_answer.specs.LinkAnswer.{input_of, input_with, link_outcome, link_text}
-use Rattle.lx_answer.specs.Loading.{AreRead, Asked, IsRead, IsStopped, ReadsAnswer}
-use Rattle.lx_answer.specs.MapAnswer.{MapAnswer, ShowsMap, NAME as MAP}
-use Rattle.lx_answer.specs.Outcome.{Outcome, Saved, shown, refused}
-use Rattle.lx_answer.specs.Reading.{Item, object, object_file, linked, module_file, resources, resource_file}
-use Rattle.lx_answer.specs.Says.{ComesTo, Finishes, IsDone, SaysCommand, asked_files, said_after}
-use Rattle.lx_answer.specs.Stem.{stem_of}
-use Rattle.lx_answer.specs.Words.{Command, command_of, image, link, implib, bind, gen, dump, link_map}
-use Rattle.lx_answer.specs.declared.said.Said.{Said}
+use Rattle.answer_model.specs.DumpAnswer.{DumpAnswer}
+use Rattle.answer_model.specs.BindAnswer.{BindAnswer, bind_outcome}
+use Rattle.answer_model.specs.ImageAnswer.{NAME, ImageAnswer, image_outcome}
+use Rattle.answer_model.specs.ImplibAnswer.{all_imports, implib_outcome}
+use Rattle.answer_model.specs.LinkAnswer.{input_of, input_with, link_outcome, link_text}
+use Rattle.answer_model.specs.Loading.{AreRead, Asked, IsRead, IsStopped, ReadsAnswer}
+use Rattle.answer_model.specs.MapAnswer.{MapAnswer, ShowsMap, NAME as MAP}
+use Rattle.answer_model.specs.Outcome.{Outcome, Saved, shown, refused}
+use Rattle.answer_model.specs.Reading.{Item, object, object_file, linked, module_file, resources, resource_file}
+use Rattle.answer_model.specs.Says.{ComesTo, Finishes, IsDone, SaysCommand, asked_files, said_after}
+use Rattle.answer_model.specs.Stem.{stem_of}
+use Rattle.answer_model.specs.Words.{Command, command_of, image, link, implib, bind, gen, dump, link_map}
+use Rattle.answer_model.specs.declared.said.Said.{Said}
 use Rattle.lx_types.specs.declared.parts.Parts.{Parts}
 use Rattle.obj_types.specs.declared.object.ObjModule.{ObjModule}
 use Rattle.res_model.specs.declared.item.ResItem.{ResItem}

@@ -4,10 +4,10 @@ use Rattle.lx_bytes.specs.LittleEndian.{AreBytes}
 use Rattle.lx_ports.specs.Files.{Contents}
 use Rattle.obj_types.specs.declared.object.ObjModule.{ObjModule}
 use Rattle.omf_model.specs.Object.{Obj}
-use Rattle.lx_answer.specs.Answer.{Answer}
-use Rattle.lx_answer.specs.Outcome.{Saved}
-use Rattle.lx_answer.specs.Words.{Command, command_of, gen}
-use Rattle.lx_answer.specs.declared.said.Said.{Said}
+use Rattle.answer_model.specs.Answer.{Answer}
+use Rattle.answer_model.specs.Outcome.{Saved}
+use Rattle.answer_model.specs.Words.{Command, command_of, gen}
+use Rattle.answer_model.specs.declared.said.Said.{Said}
 
 -- Both are object files that mean one module.
 abbrev pub MeanOne : List ℕ → List ℕ → Type 0

@@ -4,11 +4,11 @@ use Rattle.std.specs.List.{range_with_len}
 use Rattle.lx_ports.specs.Files.{Contents}
 use Rattle.omf_model.specs.Object.{Obj}
 use Rattle.link_model.specs.OneSegment.{IsOneSegment, one_segment, one_segment_mean}
-use Rattle.lx_answer.specs.Answer.{Answer}
-use Rattle.lx_answer.specs.ImageText.{image_text}
-use Rattle.lx_answer.specs.Loading.{file_limit}
-use Rattle.lx_answer.specs.Words.{base_of}
-use Rattle.lx_answer.specs.declared.said.Said.{Said}
+use Rattle.answer_model.specs.Answer.{Answer}
+use Rattle.answer_model.specs.ImageText.{image_text}
+use Rattle.answer_model.specs.Loading.{file_limit}
+use Rattle.answer_model.specs.Words.{base_of}
+use Rattle.answer_model.specs.declared.said.Said.{Said}
 
 -- The bytes of the segment at its base, printed.
 abbrev pub shown_segment : ℕ → List ℕ → List ℕ → Said

@@ -60,7 +60,7 @@ moved-passed arena ranges size base next i e passed in_list begins short b from 
   | inr above ↦ is_place-met arena ranges size b i e in_list (meets (range_at b size) (get_or ranges i e) (omega arith) (short b h above whole))
 ]
 
--- ---- one more range, which begins behind the object there
+-- ---- one more range, which begins after the object there
 
 pub kept-apart : (ranges : List AddressRange) (size base i : ℕ) (e : AddressRange) → AreApartBelow ranges size base i →
     i < length ranges → base + room size ≤ (get_or ranges i e).from → AreApartBelow ranges size base (i + 1)
@@ -198,7 +198,7 @@ least-found arena ranges size base whole after fits =
     (λ j below. after.passed (arena.from + (0 + j) * 65536) (omega arith) (omega (arith, at_base, below)) (omega (arith, whole)))
     ∙ ap Some at_base
 
--- where there is no room behind it, there is none
+-- where there is no room after it, there is none
 pub least-none : (arena : AddressRange) (ranges : List AddressRange) (size base : ℕ) → arena.from % 65536 ≡ 0 → IsAfter arena ranges size (length ranges) base →
     arena.to < base + room size → find (is_place arena ranges size) (bases_in arena) ≡ None
 least-none arena ranges size base whole after full =

@@ -3,7 +3,8 @@ use Rattle.std.proofs.Common.{◌≡◌, ℕ, zero, suc, ◌+◌, ◌*◌, ◌-�
 use Rattle.std.specs.Prelude.{MatchOption, nat_le}
 use Rattle.std.specs.List.{range_with_len}
 use Rattle.std.proofs.lemmas.Bool.{eqb-true, eqb-false, leb-true, and_parts}
-use Rattle.lx_types.specs.Addresses.{UNIT, room}
+use Rattle.lx_types.specs.Addresses.{room}
+use Rattle.lx_types.specs.declared.limits.TheConstants.{BASE_UNIT}
 use Rattle.base_pick.specs.declared.occupied.AddressRange.{AddressRange}
 use Rattle.base_pick.specs.Places.{is_place, bases_in}
 use Rattle.base_pick.specs.LeastPlaces.{IsLeastPlace, LeastIsFound}
@@ -68,10 +69,10 @@ number_below from end place low high = omega arith
 
 free_is : (arena : AddressRange) (spans : List AddressRange) (size place : ℕ) → arena.from % 65536 ≡ 0 → is_place arena spans size place ≡ true → Multiple arena place
 free_is arena spans size place even free =
-    let rest : (((place % UNIT == 0) && nat_le arena.from place) && nat_le (place + room size) arena.to) ≡ true = (and_parts _ _ free).0 in
-    let low : arena.from ≤ place = leb-true _ _ (and_parts (place % UNIT == 0) _ (and_parts _ _ rest).0).1 in
+    let rest : (((place % BASE_UNIT == 0) && nat_le arena.from place) && nat_le (place + room size) arena.to) ≡ true = (and_parts _ _ free).0 in
+    let low : arena.from ≤ place = leb-true _ _ (and_parts (place % BASE_UNIT == 0) _ (and_parts _ _ rest).0).1 in
     let fits : place + room size ≤ arena.to = leb-true _ _ (and_parts _ _ rest).1 in
-    let is : place % 65536 ≡ 0 = eqb-true _ _ (and_parts (place % UNIT == 0) _ (and_parts _ _ rest).0).0 in
+    let is : place % 65536 ≡ 0 = eqb-true _ _ (and_parts (place % BASE_UNIT == 0) _ (and_parts _ _ rest).0).0 in
     let more : 65536 ≤ room size = room-unit size in
     let high : place + 65536 ≤ arena.to = above place (room size) arena.to more fits in
     record {
@@ -83,10 +84,10 @@ free_is arena spans size place even free =
     above : (a b c : ℕ) → 65536 ≤ b → a + b ≤ c → a + 65536 ≤ c
     above a b c h k = omega arith
 
-rises : (from k l : ℕ) → k ≤ l → from + k * UNIT ≤ from + l * UNIT
+rises : (from k l : ℕ) → k ≤ l → from + k * BASE_UNIT ≤ from + l * BASE_UNIT
 rises from k l h = omega arith
 
-found_is : (arena : AddressRange) (spans : List AddressRange) (size : ℕ) → arena.from % UNIT ≡ 0 → (r : Option ℕ) → find (is_place arena spans size) (bases_in arena) ≡ r →
+found_is : (arena : AddressRange) (spans : List AddressRange) (size : ℕ) → arena.from % BASE_UNIT ≡ 0 → (r : Option ℕ) → find (is_place arena spans size) (bases_in arena) ≡ r →
     MatchOption r ((other : ℕ) → is_place arena spans size other ≡ false) (IsLeastPlace arena spans size)
 found_is arena spans size even None is = λ other. step other (is_place arena spans size other) refl
   where
@@ -95,13 +96,13 @@ found_is arena spans size even None is = λ other. step other (is_place arena sp
     step other true h =
         let it : Multiple arena other = free_is arena spans size other even h in
         ap (is_place arena spans size) it.is
-        ∙ none_is (is_place arena spans size) (λ k. arena.from + k * UNIT) ((arena.to - arena.from) / UNIT) 0 is it.number (omega arith) (below_all it.number _ it.below)
+        ∙ none_is (is_place arena spans size) (λ k. arena.from + k * BASE_UNIT) ((arena.to - arena.from) / BASE_UNIT) 0 is it.number (omega arith) (below_all it.number _ it.below)
       where
         below_all : (k n : ℕ) → k < n → k < 0 + n
         below_all k n h = omega arith
 found_is arena spans size even (Some base) is =
-    let r : Least (is_place arena spans size) (λ k. arena.from + k * UNIT) 0 ((arena.to - arena.from) / UNIT) base =
-    first_is (is_place arena spans size) (λ k. arena.from + k * UNIT) (rises arena.from) ((arena.to - arena.from) / UNIT) 0 base is
+    let r : Least (is_place arena spans size) (λ k. arena.from + k * BASE_UNIT) 0 ((arena.to - arena.from) / BASE_UNIT) base =
+    first_is (is_place arena spans size) (λ k. arena.from + k * BASE_UNIT) (rises arena.from) ((arena.to - arena.from) / BASE_UNIT) 0 base is
     in
     record {
       free = r.passes;

@@ -1,6 +1,6 @@
 -- What "least" means.
 use Rattle.std.specs.Prelude.{◌≡◌, ℕ, ◌%◌, ◌≤◌, false, List, find, MatchOption, IsTrue}
-use Rattle.lx_types.specs.Addresses.{UNIT}
+use Rattle.lx_types.specs.declared.limits.TheConstants.{BASE_UNIT}
 use Rattle.base_pick.specs.declared.occupied.AddressRange.{AddressRange}
 use Rattle.base_pick.specs.Places.{is_place, bases_in}
 
@@ -11,6 +11,6 @@ pub record IsLeastPlace (arena : AddressRange) (occupied : List AddressRange) (s
 -- The place that is found is the least free one, and none is found exactly where no place is free.
 abbrev pub LeastIsFound : Type 0
 LeastIsFound =
-    (arena : AddressRange) (occupied : List AddressRange) (size : ℕ) → arena.from % UNIT ≡ 0 →
+    (arena : AddressRange) (occupied : List AddressRange) (size : ℕ) → arena.from % BASE_UNIT ≡ 0 →
     MatchOption (find (is_place arena occupied size) (bases_in arena)) ((other : ℕ) → is_place arena occupied size other ≡ false)
     (IsLeastPlace arena occupied size)

@@ -1,8 +1,10 @@
 -- Where the objects of a module stand: at their linked bases, or at the least places that are free.
--- LX: "Object Table" (relocation base address). The two arenas and the choice of bases are this loader's own.
+-- "32-bit Linear eXecutable Module Format": "Object Table" (relocation base address). The two arenas and the choice of
+-- bases are this loader's own.
 use Rattle.std.specs.Prelude.{ℕ, ◌+◌, ◌-◌, ◌*◌, ◌/◌, ◌%◌, ◌==◌, ◌&&◌, ◌||◌, Bool, nat_le, List, [], ◌∷◌, ◌++◌, map, find, Option, Some, None, Result, Ok, Err, if◌then◌else◌}
 use Rattle.std.specs.List.{range_with_len, list_all}
-use Rattle.lx_types.specs.Addresses.{UNIT, room, PRIVATE_FROM, SHARED_FROM, SHARED_END}
+use Rattle.lx_types.specs.Addresses.{room}
+use Rattle.lx_types.specs.declared.limits.TheConstants.{BASE_UNIT, PRIVATE_FROM, SHARED_FROM, SHARED_END}
 use Rattle.lx_types.specs.Parts.{is_library_of}
 use Rattle.lx_types.specs.declared.object.ObjHead.{ObjHead}
 use Rattle.lx_types.specs.declared.parts.Parts.{Parts}
@@ -19,7 +21,7 @@ are_apart a b = nat_le a.to b.from || nat_le b.to a.from
 
 -- a multiple of 65,536, from which on an object of a size lies within the arena
 abbrev pub is_in_arena : AddressRange → ℕ → ℕ → Bool
-is_in_arena arena size base = base % UNIT == 0 && nat_le arena.from base && nat_le (base + room size) arena.to
+is_in_arena arena size base = base % BASE_UNIT == 0 && nat_le arena.from base && nat_le (base + room size) arena.to
 
 -- such a place at which the object is apart from what is occupied
 abbrev pub is_place : AddressRange → List AddressRange → ℕ → ℕ → Bool
@@ -27,7 +29,7 @@ is_place arena occupied size base = is_in_arena arena size base && list_all (are
 
 -- the multiples of 65,536 in an arena that begins with one, in their order
 abbrev pub bases_in : AddressRange → List ℕ
-bases_in arena = map (λ k. arena.from + k * UNIT) (range_with_len 0 ((arena.to - arena.from) / UNIT))
+bases_in arena = map (λ k. arena.from + k * BASE_UNIT) (range_with_len 0 ((arena.to - arena.from) / BASE_UNIT))
 
 -- an object's place: its linked base where it may stand there, otherwise the least place
 abbrev pub place_of : AddressRange → List AddressRange → ObjHead → Option ℕ

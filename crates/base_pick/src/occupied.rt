@@ -1,7 +1,8 @@
 //! The addresses that resident libraries take.
 
 ghost use Rattle.std.specs.Prelude.{◌≡◌, ◌∷◌, ◌++◌, ◌+◌, ◌≤◌, [], MatchResult};
-ghost use Rattle.lx_types.specs.Addresses.{room, SHARED_FROM, SHARED_END};
+ghost use Rattle.lx_types.specs.Addresses.{room};
+ghost use Rattle.lx_types.specs.declared.limits.TheConstants.{SHARED_FROM, SHARED_END};
 ghost use Rattle.base_pick.specs.Places.{range_at};
 
 use crate::search::range_at;

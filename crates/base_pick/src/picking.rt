@@ -2,14 +2,14 @@
 
 ghost use Rattle.std.specs.Prelude.{◌≡◌, ◌+◌, ◌%◌, ◌^◌, ◌<◌, IfOk, Ok, Err, []};
 ghost use Rattle.std.specs.List.Sorted.{IsPermutation, IsNonDecreasingBy};
-ghost use Rattle.lx_types.specs.Addresses.{UNIT};
+ghost use Rattle.lx_types.specs.declared.limits.TheConstants.{BASE_UNIT};
 ghost use Rattle.lx_types.specs.Answers.{Answers};
 ghost use Rattle.base_pick.specs.declared.occupied.AddressRange.{AddressRange};
 ghost use Rattle.base_pick.specs.Places.{places_from, places_of, private_arena, shared_arena};
 
 use crate::search::{place_for, range_at};
 use crate::{AddressRange, Occupied};
-use lx_types::{Fail, Module, NoMemory, ObjHead};
+use lx_types::{Fail, Module, NoMemory, ObjHead, PRIVATE_FROM, SHARED_END, SHARED_FROM};
 use std::alloc::Global;
 
 /// An object has no place in its arena: its number, from 1, and its size in bytes.
@@ -21,14 +21,14 @@ pub struct ArenaFull {
 
 /// Where the objects of programs stand.
 const PRIVATE_ARENA: AddressRange = AddressRange {
-    from: 0x0001_0000,
-    to: 0x1000_0000,
+    from: PRIVATE_FROM,
+    to: SHARED_FROM,
 };
 
 /// Where the objects of libraries stand.
 const SHARED_ARENA: AddressRange = AddressRange {
-    from: 0x1000_0000,
-    to: 0x2000_0000,
+    from: SHARED_FROM,
+    to: SHARED_END,
 };
 
 /// Puts the ranges in the order in which they begin.
@@ -39,7 +39,7 @@ fn put_in_order(ranges: &mut Vec<AddressRange>)
     ranges.sort_unstable_by_key(|range| range.from);
 }
 
-/// The number of the object behind so many. One past 32 bits is want of memory.
+/// The number of the object after so many. One past 32 bits is want of memory.
 fn number_behind(count: usize) -> Result<u32, NoMemory>
     requires { count < 2 ^ 63 }
     ensures { IfOk result (λ number. number ≡ count + 1) }
@@ -54,7 +54,7 @@ fn place_all(
     occupied: &[AddressRange],
     objects: &[ObjHead],
 ) -> Result<Vec<u32>, Fail<ArenaFull>>
-    requires { arena.from % UNIT ≡ 0 }
+    requires { arena.from % BASE_UNIT ≡ 0 }
     ensures { Answers result
         (λ bases. places_from arena occupied.now 1 objects.now ≡ Ok bases.items)
         (λ full. places_from arena occupied.now 1 objects.now ≡ Err full) }
@@ -83,7 +83,7 @@ fn place_all(
 ///
 /// It takes time that grows as objects times occupied ranges and their logarithm; an arena has room for 4,096
 /// of both.
-/// (LX: "Object Table". The arenas and the choice are this loader's own.)
+/// ("32-bit Linear eXecutable Module Format": "Object Table". The arenas and the choice are this loader's own.)
 pub fn pick(alloc: Global, occupied: &Occupied, m: &Module) -> Result<Vec<u32>, Fail<ArenaFull>>
     ensures { Answers result
         (λ bases. places_of occupied.now m.now ≡ Ok bases.items)

@@ -9,10 +9,7 @@ ghost use Rattle.base_pick.specs.Places as places;
 ghost use Rattle.base_pick.specs.Places.{is_place, bases_in, place_of, are_apart};
 
 use crate::AddressRange;
-use lx_types::ObjHead;
-
-/// What bases are multiples of.
-pub const UNIT: u32 = 65_536;
+use lx_types::{BASE_UNIT, ObjHead};
 
 /// The room that an object of this size takes.
 pub fn room_of(size: u32) -> u64
@@ -26,7 +23,7 @@ fn whole_units(size: u64) -> u64
     requires { size < 2 ^ 63 }
     ensures { result ≡ (size + 65535) / 65536 * 65536 }
 {
-    size.div_ceil(u64::from(UNIT)) * u64::from(UNIT)
+    size.div_ceil(u64::from(BASE_UNIT)) * u64::from(BASE_UNIT)
 }
 
 /// Whether an object may stand at a base beside these ranges.
@@ -34,7 +31,7 @@ fn may_stand(arena: AddressRange, ranges: &[AddressRange], size: u32, base: u32)
     ensures { result ≡ is_place arena ranges.now size base }
 {
     let to = u64::from(base) + room_of(size);
-    base % UNIT == 0
+    base % BASE_UNIT == 0
         && arena.from <= base
         && to <= u64::from(arena.to)
         && is_apart(range_at(base, size), ranges)
@@ -66,7 +63,7 @@ fn base_beside(base: u64, room: u64, range: AddressRange) -> u64
 
 /// The least base of the arena at which an object may stand. The ranges rise by where they begin.
 fn least_place(arena: AddressRange, ranges: &[AddressRange], size: u32) -> Option<u32>
-    requires aligned { arena.from % 65536 ≡ 0 }
+    requires aligned { arena.from % BASE_UNIT ≡ 0 }
     requires rising { IsNonDecreasingBy (λ (range : AddressRange). range.from) ranges.now }
     ensures least { result ≡ find (is_place arena ranges.now size) (bases_in arena) }
     ensures within { IfSome result (λ base. base + room size ≤ arena.to) }
@@ -96,7 +93,7 @@ pub fn range_at(base: u32, size: u32) -> AddressRange
 
 /// The place of an object beside these ranges.
 pub fn place_for(arena: AddressRange, ranges: &[AddressRange], object: &ObjHead) -> Option<u32>
-    requires aligned { arena.from % 65536 ≡ 0 }
+    requires aligned { arena.from % BASE_UNIT ≡ 0 }
     requires rising { IsNonDecreasingBy (λ (range : AddressRange). range.from) ranges.now }
     ensures place { result ≡ place_of arena ranges.now object.now }
     ensures within { IfSome result (λ base. base + room object.now.size ≤ arena.to) }

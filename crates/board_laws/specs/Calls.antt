@@ -4,7 +4,7 @@ use Rattle.lx_types.specs.declared.fail.NoMemory.{NoMemory as Want}
 use Rattle.load_model.specs.State.{pids, is_among}
 use Rattle.load_model.specs.State as state
 use Rattle.load_model.specs.Asks.{Ask, enter, free, exit, fault, put, patch, get}
-use Rattle.load_core.specs.Ledger.{Ledger, state_of, MayAsk, Adds}
+use Rattle.load_core.specs.BoardState.{BoardState, state_of, MayAsk, Adds}
 use Rattle.load_core.specs.Told.{IsLoaded, IsClaimed, read_run}
 use Rattle.load_core.specs.declared.answers.Loaded.{Loaded}
 use Rattle.load_core.specs.declared.answers.Claim.{Claim}
@@ -29,9 +29,9 @@ pub data Call : Type 0 where
   asks : ℕ → (ask : Ask) → Result (Told ask) Want → Call
   looks : ℕ → ℕ → Bool → Call
 
--- ---- what the clauses of a call say of the boards before and behind it
+-- ---- what the clauses of a call say of the boards before and after it
 
-abbrev pub IsDone : Ledger → Ledger → ℕ → (ask : Ask) → Told ask → Type 0
+abbrev pub IsDone : BoardState → BoardState → ℕ → (ask : Ask) → Told ask → Type 0
 IsDone b c pid (enter how m) answer = Adds b c pid (enter how m) × IsLoaded b c pid how m answer
 IsDone b c pid (free m) answer = Adds b c pid (free m)
 IsDone b c pid exit answer = Adds b c pid exit
@@ -41,15 +41,15 @@ IsDone b c pid (patch serial m object offset bytes) answer = Adds b c pid (patch
 IsDone b c pid (get serial m object offset len) bytes = Adds b c pid (get serial m object offset len) × (bytes ≡ read_run b pid m object offset len)
 
 -- want of memory changes nothing
-abbrev pub IsDoneOrNot : Ledger → Ledger → ℕ → (ask : Ask) → Result (Told ask) Want → Type 0
+abbrev pub IsDoneOrNot : BoardState → BoardState → ℕ → (ask : Ask) → Result (Told ask) Want → Type 0
 IsDoneOrNot b c pid ask (Ok answer) = IsDone b c pid ask answer
 IsDoneOrNot b c pid ask (Err want) = c ≡ b
 
-abbrev pub IsCall : Ledger → Ledger → Call → Type 0
+abbrev pub IsCall : BoardState → BoardState → Call → Type 0
 IsCall b c (asks pid ask answer) = (is_among pids pid ≡ true) × MayAsk b pid ask × IsDoneOrNot b c pid ask answer
 IsCall b c (looks pid m answer) = (c ≡ b) × (answer ≡ state.reaches b.library ((state_of b).processes pid) m)
 
--- The calls are made one behind the other.
-abbrev pub AreMade : Ledger → List Call → Ledger → Type 0
+-- The calls are made one after the other.
+abbrev pub AreMade : BoardState → List Call → BoardState → Type 0
 AreMade b [] c = c ≡ b
-AreMade b (call ∷ calls) c = (d : Ledger) × IsCall b d call × AreMade d calls c
+AreMade b (call ∷ calls) c = (d : BoardState) × IsCall b d call × AreMade d calls c

@@ -3,7 +3,7 @@
 ghost use Rattle.std.specs.Prelude.{◌≡◌, ◌<◌, ℕ, true, length};
 ghost use Rattle.load_model.specs.State.{pids, is_among};
 ghost use Rattle.load_model.specs.Asks.{enter, free, exit, fault, put, patch, get};
-ghost use Rattle.load_core.specs.Ledger.{MayAsk};
+ghost use Rattle.load_core.specs.BoardState.{MayAsk};
 ghost use Rattle.load_core.specs.Told.{fixed_run};
 ghost use Rattle.board_laws.specs.Calls.{IsCall, asks, looks, read_answer};
 ghost use Rattle.board_laws.specs.CallLaws.{CallsAreAnswered};
@@ -12,7 +12,7 @@ use load_core::{Board, Claim, Loaded};
 use load_model::How;
 use lx_types::{NoMemory, PageId};
 
-/// Whatever is called on a new board, the history is legal before and behind each call, and each call answers what the
+/// Whatever is called on a new board, the history is legal before and after each call, and each call answers what the
 /// definitions say at its place.
 pub fn calls_are_answered()
     ensures { CallsAreAnswered }

@@ -13,7 +13,7 @@ among from past i e = let h = and_parts _ _ e in (leb-true _ _ h.0, ltb-true _ _
 pub is_among : (from past i : ℕ) → from ≤ i → i < past → is_from from past i ≡ true
 is_among from past i p q = and_from _ _ (le-leb _ _ p) (lt-ltb _ _ q)
 
--- a run and the part behind it that lies in one block
+-- a run and the part after it that lies in one block
 pub run-of_words : (from at end x : ℕ) → from ≤ at → at ≤ end → end ≤ at / 64 * 64 + 64
     → (is_from from at x || (x / 64 == at / 64 && is_from (at - at / 64 * 64) (end - at / 64 * 64) (x % 64))) ≡ is_from from end x
 run-of_words from at end x p q r = grind (arith, nat_tests)

@@ -23,7 +23,7 @@ use Rattle.comdat_core.specs.TakenOut.{IsTakenOut}
 use Rattle.comdat_core.specs.Judging.{clash_by}
 use Rattle.comdat_core.proofs.Lists.{AtPlace, list_of_pick}
 
--- ---- the first that there is, behind others
+-- ---- the first that there is, after others
 
 pub first-append : {X : Type 0} (xs ys : List (Option X)) → first_of (xs ++ ys) ≡ option_or (first_of xs) (first_of ys)
 first-append [] ys = refl

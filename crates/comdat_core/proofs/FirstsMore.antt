@@ -9,7 +9,7 @@ use Rattle.std.proofs.lemmas.Slice.Eq.{bytes_eq-Decides}
 use Rattle.obj_types.specs.declared.object.Comdat.{Comdat}
 use Rattle.link_model.specs.Kept.{is_called}
 use Rattle.link_model.specs.Clash.{Owned}
-use Rattle.first_table.specs.Entries.{value_named}
+use Rattle.name_table.specs.Entries.{value_named}
 use Rattle.sym_table.proofs.LeaderTables.{when, more_entry, map-or, map-when}
 use Rattle.comdat_core.specs.declared.taking.Placed.{Placed}
 use Rattle.comdat_core.specs.Taking.{placed, first_called, AreFirsts, table_with}

@@ -1,4 +1,4 @@
--- What is taken out of several modules, one behind the other.
+-- What is taken out of several modules, one after the other.
 use Rattle.std.specs.Prelude.{◌≡◌, ℕ, zero, suc, ◌+◌, ◌<◌, ◌≤◌, Bool, true, false, List, [], ◌∷◌, ◌++◌, Option, Some, None, length, take, slice_get, is_some, if◌then◌else◌, refl}
 use Rattle.std.specs.Global.{Vec}
 use Rattle.std.specs.List.{flat_map, enumerate_from}
@@ -19,7 +19,7 @@ use Rattle.comdat_core.specs.Taking.{owned_in, AreFirsts, IsListOf, AreListsOf, 
 use Rattle.comdat_core.specs.TakenOut.{IsTakenOut}
 use Rattle.comdat_core.proofs.TakingOut.{owned_last, stays_behind}
 
--- ---- more COMDATs behind those that were seen
+-- ---- more COMDATs after those that were seen
 
 list_behind : (all more : List (ℕ × Owned)) (before : List ObjModule) (m : ObjModule) (out : List Taken) → IsListOf all before m out → IsListOf (all ++ more) before m out
 list_behind all more before m out h = record { comdats = h.comdats; owners = h.owners; firsts = stays_behind all more out h.firsts }
@@ -55,7 +55,7 @@ seen_more before ms i m old new outs out below is seen h =
       lists = subst (λ (ns : List ObjModule). AreListsOf (owned_in ns) before (front ++ m ∷ []) (outs ++ out ∷ [])) joined (lists_last (owned_in ((before ++ front) ++ m ∷ [])) before front m outs out lists h.list);
     })
 
--- Those of object files are still first where library modules are behind them.
+-- Those of object files are still first where library modules are after them.
 abbrev owned_from : ℕ → List ObjModule → List (ℕ × Owned)
 owned_from s ms = flat_map owned_by (enumerate_from s ms)
 

@@ -11,8 +11,8 @@ use Rattle.obj_types.specs.declared.object.Comdat.{Comdat}
 use Rattle.obj_types.specs.declared.object.ObjModule.{ObjModule}
 use Rattle.link_model.specs.Kept.{is_local, is_called, shared, repeated}
 use Rattle.link_model.specs.Clash.{Owned, owned_by}
-use Rattle.first_table.specs.Entries.{value_named}
-use Rattle.sym_table.proofs.Lists.{numbered-push}
+use Rattle.name_table.specs.Entries.{value_named}
+use Rattle.link_types.proofs.Lists.{numbered-push}
 use Rattle.comdat_core.specs.declared.taking.Placed.{Placed}
 use Rattle.comdat_core.specs.declared.taking.Taken.{Taken}
 use Rattle.comdat_core.specs.Taking.{placed, comdat_of, owned_in, first_called, AreFirsts, table_with, taken_with, HasFirst, IsSeen}
@@ -49,7 +49,7 @@ far_same all place m i c below is e =
 rest_more : (m : ObjModule) (i : ℕ) (c : Comdat) → i < length m.comdats → c ≡ get_or m.comdats i c → drop i m.comdats ≡ c ∷ drop (i + 1) m.comdats
 rest_more m i c below is = drop_more m.comdats i c below ∙ ap (λ (d : Comdat). d ∷ drop (i + 1) m.comdats) (sym is)
 
--- ---- what holds behind the first i COMDATs of a module
+-- ---- what holds after the first i COMDATs of a module
 
 pub record Progress (all : List (ℕ × Owned)) (place : ℕ) (m : ObjModule) (i : ℕ) (table : List (List ℕ × Placed)) (out : List Taken) : Type 0 where
   pub firsts : AreFirsts (so_far all place m i) table

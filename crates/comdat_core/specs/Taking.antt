@@ -7,7 +7,7 @@ use Rattle.obj_types.specs.declared.object.Comdat.{Comdat}
 use Rattle.obj_types.specs.declared.object.ObjModule.{ObjModule}
 use Rattle.link_model.specs.Kept as kept
 use Rattle.link_model.specs.Clash as rules
-use Rattle.first_table.specs.Entries.{value_named, with_entry}
+use Rattle.name_table.specs.Entries.{value_named, with_entry}
 use Rattle.comdat_core.specs.declared.taking.Owned.{Owned}
 use Rattle.comdat_core.specs.declared.taking.Placed.{Placed}
 use Rattle.comdat_core.specs.declared.taking.Taken.{Taken}
@@ -52,13 +52,13 @@ taken_with (Some first) out next = out ++ record { own = next.own; first = first
 abbrev pub HasFirst : List (ℕ × rules.Owned) → Taken → Type 0
 HasFirst all t = first_called (comdat_of t).name all ≡ Some (placed t.first)
 
--- These are taken out of a module behind others, and their firsts are among these COMDATs.
+-- These are taken out of a module after others, and their firsts are among these COMDATs.
 pub record IsListOf (all : List (ℕ × rules.Owned)) (before : List ObjModule) (m : ObjModule) (out : List Taken) : Type 0 where
   pub comdats : map comdat_of out ≡ kept.taken before m
   pub owners : AllByRecursion (λ t. t.own.owner.now ≡ m) out
   pub firsts : AllByRecursion (HasFirst all) out
 
--- The same of each of these modules, which are behind others.
+-- The same of each of these modules, which are after others.
 abbrev pub AreListsOf : List (ℕ × rules.Owned) → List ObjModule → List ObjModule → List (Vec Taken) → Type 0
 AreListsOf all before [] [] = Unit {0}
 AreListsOf all before [] (out ∷ outs) = ⊥

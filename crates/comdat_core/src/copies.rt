@@ -8,7 +8,7 @@ use obj_types::{
 };
 use std::alloc::Global;
 
-pub fn names_again(alloc: Global, names: &Names) -> Result<Names, NoMemory>
+pub fn copied_names(alloc: Global, names: &Names) -> Result<Names, NoMemory>
     ensures { IfOk result (λ copy. copy ≡ names.now) }
 {
     let mut copies = Seq::new(alloc);
@@ -18,7 +18,7 @@ pub fn names_again(alloc: Global, names: &Names) -> Result<Names, NoMemory>
     Ok(copies)
 }
 
-fn name_again(alloc: Global, name: &Option<Name>) -> Result<Option<Name>, NoMemory>
+fn copied_name(alloc: Global, name: &Option<Name>) -> Result<Option<Name>, NoMemory>
     ensures { IfOk result (λ copy. copy ≡ name.now) }
 {
     match name {
@@ -27,7 +27,7 @@ fn name_again(alloc: Global, name: &Option<Name>) -> Result<Option<Name>, NoMemo
     }
 }
 
-fn entry_again(alloc: Global, entry: &EntryKey) -> Result<EntryKey, NoMemory>
+fn copied_entry(alloc: Global, entry: &EntryKey) -> Result<EntryKey, NoMemory>
     ensures { IfOk result (λ copy. copy ≡ entry.now) }
 {
     match entry {
@@ -37,7 +37,7 @@ fn entry_again(alloc: Global, entry: &EntryKey) -> Result<EntryKey, NoMemory>
 }
 
 /// A segment, which may become one of debug data.
-pub fn seg_again(alloc: Global, seg: &Seg, taken: bool) -> Result<Seg, NoMemory>
+pub fn copied_seg(alloc: Global, seg: &Seg, taken: bool) -> Result<Seg, NoMemory>
     ensures { IfOk result (λ copy. copy ≡ record seg.now { debug = seg.now.debug || taken }) }
 {
     Ok(Seg {
@@ -51,7 +51,7 @@ pub fn seg_again(alloc: Global, seg: &Seg, taken: bool) -> Result<Seg, NoMemory>
     })
 }
 
-pub fn pub_again(alloc: Global, public: &Pub) -> Result<Pub, NoMemory>
+pub fn copied_pub(alloc: Global, public: &Pub) -> Result<Pub, NoMemory>
     ensures { IfOk result (λ copy. copy ≡ public.now) }
 {
     Ok(Pub {
@@ -61,7 +61,7 @@ pub fn pub_again(alloc: Global, public: &Pub) -> Result<Pub, NoMemory>
     })
 }
 
-pub fn piece_again(alloc: Global, piece: &Piece) -> Result<Piece, NoMemory>
+pub fn copied_piece(alloc: Global, piece: &Piece) -> Result<Piece, NoMemory>
     ensures { IfOk result (λ copy. copy ≡ piece.now) }
 {
     Ok(Piece {
@@ -71,7 +71,7 @@ pub fn piece_again(alloc: Global, piece: &Piece) -> Result<Piece, NoMemory>
     })
 }
 
-pub fn exts_again(alloc: Global, exts: &Exts) -> Result<Exts, NoMemory>
+pub fn copied_exts(alloc: Global, exts: &Exts) -> Result<Exts, NoMemory>
     ensures { IfOk result (λ copy. copy ≡ exts.now) }
 {
     let mut copies = Seq::new(alloc);
@@ -85,7 +85,7 @@ pub fn exts_again(alloc: Global, exts: &Exts) -> Result<Exts, NoMemory>
     Ok(copies)
 }
 
-pub fn imports_again(alloc: Global, imports: &Imports) -> Result<Imports, NoMemory>
+pub fn copied_imports(alloc: Global, imports: &Imports) -> Result<Imports, NoMemory>
     ensures { IfOk result (λ copy. copy ≡ imports.now) }
 {
     let mut copies = Seq::new(alloc);
@@ -93,13 +93,13 @@ pub fn imports_again(alloc: Global, imports: &Imports) -> Result<Imports, NoMemo
         copies.push(Imp {
             name: import.name.copied(alloc)?,
             module: import.module.copied(alloc)?,
-            entry: entry_again(alloc, &import.entry)?,
+            entry: copied_entry(alloc, &import.entry)?,
         })?;
     }
     Ok(copies)
 }
 
-pub fn exports_again(alloc: Global, exports: &Exports) -> Result<Exports, NoMemory>
+pub fn copied_exports(alloc: Global, exports: &Exports) -> Result<Exports, NoMemory>
     ensures { IfOk result (λ copy. copy ≡ exports.now) }
 {
     let mut copies = Seq::new(alloc);
@@ -116,14 +116,14 @@ pub fn exports_again(alloc: Global, exports: &Exports) -> Result<Exports, NoMemo
     Ok(copies)
 }
 
-fn rules_again(alloc: Global, rules: &SegRules) -> Result<SegRules, NoMemory>
+fn copied_rules(alloc: Global, rules: &SegRules) -> Result<SegRules, NoMemory>
     ensures { IfOk result (λ copy. copy ≡ rules.now) }
 {
     let mut copies = Seq::new(alloc);
     for rule in rules.as_slice() {
         copies.push(SegAttrs {
             name: rule.name.copied(alloc)?,
-            class: name_again(alloc, &rule.class)?,
+            class: copied_name(alloc, &rule.class)?,
             attrs: rule.attrs,
         })?;
     }
@@ -131,12 +131,12 @@ fn rules_again(alloc: Global, rules: &SegRules) -> Result<SegRules, NoMemory>
 }
 
 /// A definition file.
-pub fn def_again(alloc: Global, def: &DefFile) -> Result<DefFile, NoMemory>
+pub fn copied_def(alloc: Global, def: &DefFile) -> Result<DefFile, NoMemory>
     ensures { IfOk result (λ copy. copy ≡ def.now) }
 {
     Ok(DefFile {
         kind: def.kind,
-        name: name_again(alloc, &def.name)?,
+        name: copied_name(alloc, &def.name)?,
         init_each: def.init_each,
         term_each: def.term_each,
         about: def.about.copied(alloc)?,
@@ -145,8 +145,8 @@ pub fn def_again(alloc: Global, def: &DefFile) -> Result<DefFile, NoMemory>
         base: def.base,
         code: def.code,
         plain: def.plain,
-        segs: rules_again(alloc, &def.segs)?,
-        exports: exports_again(alloc, &def.exports)?,
-        imports: imports_again(alloc, &def.imports)?,
+        segs: copied_rules(alloc, &def.segs)?,
+        exports: copied_exports(alloc, &def.exports)?,
+        imports: copied_imports(alloc, &def.imports)?,
     })
 }

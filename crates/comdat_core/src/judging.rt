@@ -10,12 +10,12 @@ ghost use Rattle.comdat_core.specs.Judging.{HasNumbers, clash_by};
 
 use crate::compare::refuses;
 use crate::taking::{Taken, TakenOut, has_comdats, place_behind, taken_out};
-use link_model::{ComdatRefusal, Pick, number, without_comdats_all_is_kept};
-use lx_types::{Fail, NoMemory};
+use link_model::{ComdatRefusal, Pick, without_comdats_all_is_kept};
+use link_types::Symbols;
+use lx_types::{Fail, NoMemory, count};
 use obj_types::LinkInput;
 use std::alloc::Global;
 use std::collections::BTreeMap;
-use sym_table::Symbols;
 
 /// The numbers of chosen modules by the places of these among the object files and then the library modules.
 type Numbers = BTreeMap<usize, u32>;
@@ -39,7 +39,7 @@ fn numbers_of(alloc: Global, input: &LinkInput, picks: &[Pick]) -> Result<Number
     for (index, pick) in picks.iter().enumerate() {
         let place = place_of(input, pick)?;
         if !numbers.contains_key(&place) {
-            let _none = numbers.insert(place, number(index + 1)?)?;
+            let _none = numbers.insert(place, count(index + 1)?)?;
         }
     }
     Ok(numbers)
@@ -112,7 +112,7 @@ pub fn judge(alloc: Global, input: &LinkInput, syms: &Symbols) -> Result<(), Fai
     let out = taken_out(alloc, input)?;
     for (index, pick) in picks.iter().enumerate() {
         if let Some(taken) = taken_at(&out, pick) {
-            match judge_taken(alloc, &numbers, number(index + 1)?, taken.as_slice()) {
+            match judge_taken(alloc, &numbers, count(index + 1)?, taken.as_slice()) {
                 Err(fail) => return Err(fail),
                 Ok(()) => {}
             }

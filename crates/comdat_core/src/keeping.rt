@@ -8,12 +8,11 @@ ghost use Rattle.link_model.specs.Kept as what;
 ghost use Rattle.comdat_core.specs.Keeping.{without_lists, without_taken};
 
 use crate::copies::{
-    def_again, exports_again, exts_again, imports_again, names_again, piece_again, pub_again,
-    seg_again,
+    copied_def, copied_exports, copied_exts, copied_imports, copied_names, copied_piece,
+    copied_pub, copied_seg,
 };
 use crate::taking::{Taken, segs_of, taken_out};
-use link_model::number;
-use lx_types::{NoMemory, Seq};
+use lx_types::{NoMemory, Seq, count};
 use obj_types::{
     FixAt, Fixes, Group, Groups, LinkInput, Members, ObjModule, ObjModules, Piece, Pieces, Pub,
     PubPlace, Pubs, Seg, Segs,
@@ -29,8 +28,8 @@ fn kept_segs(alloc: Global, segs: &[Seg], gone: &Gone) -> Result<Segs, NoMemory>
 {
     let mut kept = Seq::new(alloc);
     for (index, seg) in segs.iter().enumerate() {
-        let taken = gone.contains(&number(index + 1)?);
-        kept.push(seg_again(alloc, seg, taken)?)?;
+        let taken = gone.contains(&count(index + 1)?);
+        kept.push(copied_seg(alloc, seg, taken)?)?;
     }
     Ok(kept)
 }
@@ -82,7 +81,7 @@ fn kept_pubs(alloc: Global, publics: &[Pub], gone: &Gone) -> Result<Pubs, NoMemo
     let mut kept = Seq::new(alloc);
     for public in publics {
         if !is_in(gone, public.place) {
-            kept.push(pub_again(alloc, public)?)?;
+            kept.push(copied_pub(alloc, public)?)?;
         }
     }
     Ok(kept)
@@ -94,7 +93,7 @@ fn kept_pieces(alloc: Global, pieces: &[Piece], gone: &Gone) -> Result<Pieces, N
     let mut kept = Seq::new(alloc);
     for piece in pieces {
         if !gone.contains(&piece.seg) {
-            kept.push(piece_again(alloc, piece)?)?;
+            kept.push(copied_piece(alloc, piece)?)?;
         }
     }
     Ok(kept)
@@ -121,12 +120,12 @@ fn module_without(alloc: Global, object: &ObjModule, gone: &Gone) -> Result<ObjM
         segs: kept_segs(alloc, object.segs.as_slice(), gone)?,
         groups: kept_groups(alloc, object.groups.as_slice(), gone)?,
         pubs: kept_pubs(alloc, object.pubs.as_slice(), gone)?,
-        exts: exts_again(alloc, &object.exts)?,
+        exts: copied_exts(alloc, &object.exts)?,
         pieces: kept_pieces(alloc, object.pieces.as_slice(), gone)?,
         fixes: kept_fixes(alloc, object.fixes.as_slice(), gone)?,
-        imports: imports_again(alloc, &object.imports)?,
-        exports: exports_again(alloc, &object.exports)?,
-        deflibs: names_again(alloc, &object.deflibs)?,
+        imports: copied_imports(alloc, &object.imports)?,
+        exports: copied_exports(alloc, &object.exports)?,
+        deflibs: copied_names(alloc, &object.deflibs)?,
         start: object.start,
         comdats: Seq::new(alloc),
     })
@@ -169,7 +168,7 @@ pub fn keep(alloc: Global, input: &LinkInput) -> Result<LinkInput, NoMemory>
     Ok(LinkInput {
         objects: kept_modules(alloc, input.objects.as_slice(), out.objects.as_slice())?,
         libs: kept_modules(alloc, input.libs.as_slice(), out.libs.as_slice())?,
-        def: def_again(alloc, &input.def)?,
+        def: copied_def(alloc, &input.def)?,
         stem: input.stem.copied(alloc)?,
     })
 }

@@ -9,6 +9,4 @@ mod taking;
 
 pub use judging::judge;
 pub use keeping::keep;
-pub use link_model::ComdatRefusal;
-pub use obj_types::{Comdat, Selection};
 pub use taking::has_comdats;

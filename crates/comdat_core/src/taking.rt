@@ -9,12 +9,12 @@ ghost use Rattle.obj_types.specs.Whole.{is_in_seg};
 ghost use Rattle.link_model.specs.Words.{option_any};
 ghost use Rattle.link_model.specs.Kept.{is_seg_of};
 ghost use Rattle.link_model.specs.KeptLaws.{HasNoComdats};
-ghost use Rattle.first_table.specs.Entries.{value_named};
+ghost use Rattle.name_table.specs.Entries.{value_named};
 ghost use Rattle.comdat_core.specs.TakenOut.{IsTakenOut};
 ghost use Rattle.comdat_core.specs.Taking.{comdat_of, owned_in, AreFirsts, AreSeen, IsSeen, table_with, taken_with};
 
-use first_table::NameTable;
 use lx_types::NoMemory;
+use name_table::NameTable;
 use obj_types::{Comdat, LinkInput, ObjModule, Pub, PubPlace};
 use std::alloc::Global;
 use std::collections::BTreeSet;
@@ -150,7 +150,7 @@ pub fn take_out<'a>(
     Ok(taken)
 }
 
-/// The place behind so many modules and then others.
+/// The place after so many modules and then others.
 pub fn place_behind(first: usize, index: usize) -> Result<usize, NoMemory>
     ensures { IfOk result (λ place. place ≡ first + index) }
 {

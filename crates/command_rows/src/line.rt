@@ -31,12 +31,12 @@ pub enum Change<'a> {
     Cut(usize),
 }
 
-/// What a line says. Behind `#`, lines but those of text have a comment.
+/// What a line says. After `#`, lines but those of text have a comment.
 #[derive(Drop)]
 pub enum Line<'a> {
     /// Nothing, or only a comment.
     Blank,
-    /// `file NAME`: a file that the rows behind it have.
+    /// `file NAME`: a file that the rows after it have.
     File(&'a str),
     /// `row TITLE`.
     Row(&'a str),
@@ -81,7 +81,7 @@ fn before_comment(text: &str) -> &str {
     text.split('#').next().unwrap_or("").trim()
 }
 
-// The first word, and what stands behind it.
+// The first word, and what stands after it.
 fn split_word(text: &str) -> (&str, &str) {
     match text.split_once(' ') {
         Some((word, rest)) => (word, rest.trim()),

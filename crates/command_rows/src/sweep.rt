@@ -10,7 +10,7 @@ use std::thread::Threads;
 /// What is wrong with each form of a file.
 #[derive(Clone, Copy)]
 pub enum Damage {
-    /// It ends too early: behind no byte, behind the first, and so on.
+    /// It ends too early: after no byte, after the first, and so on.
     Prefixes,
     /// One bit of one byte is the other one, from the lowest bit of the first byte on.
     Bits,
@@ -84,7 +84,7 @@ fn with_file(
     Ok(others)
 }
 
-// The kind of a refusal in its line: the first word behind the name of the file that begins with a capital letter.
+// The kind of a refusal in its line: the first word after the name of the file that begins with a capital letter.
 fn kind(line: &str) -> &str {
     line.split_whitespace()
         .skip(2)

@@ -37,7 +37,7 @@ not_given : (kind : Option ModKind) → is_some kind ≡ false → kind ≡ None
 not_given None is = refl
 not_given (Some kind) is = absurd cc
 
--- the place behind a keyword that may stand there
+-- the place after a keyword that may stand there
 pub begun_kind : (k : Keyword) (d : Draft) (p : Place) → begun_by k ≡ Some p → is_second d k ≡ false → FitsKind p d.kind
 begun_kind kw.Name d p is first = here place.Program p d.kind (not_given d.kind first) is
 begun_kind kw.Library d p is first = here place.Library p d.kind (not_given d.kind first) is

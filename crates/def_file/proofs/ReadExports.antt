@@ -29,7 +29,7 @@ item name internal ordinal resident nodata =
 
 -- ---- what an item may have
 
--- The part behind `@` and a number, if there is one.
+-- The part after `@` and a number, if there is one.
 abbrev ordinal_part : Option ℕ → Part
 ordinal_part None = parts.Internal
 ordinal_part (Some n) = parts.Ordinal

@@ -26,7 +26,7 @@ joined items = flat_map (λ (ts : List Lexeme). ts) items
 abbrev pub drafted : SegAttrs → SegDraft
 drafted s = record { name = s.name; class = s.class; words = words_of s.attrs }
 
--- A name of a segment, behind which no class stands.
+-- A name of a segment, after which no class stands.
 no-class-at : (exec : Bool) (d : Draft) (name : List ℕ) (read write shared preload conforming iopl : Bool) (rest : List Lexeme)
     → let a : Attrs = record { read = read; write = write; exec = exec; shared = shared; preload = preload; conforming = conforming; iopl = iopl } in
     says (record { draft = d; place = place.Segment name }) (attribute_tokens a ++ rest)

@@ -15,7 +15,7 @@ use Rattle.def_model.specs.Meaning.{file_of}
 use Rattle.def_model.specs.TokenMeaning.{name_of, text_of, within}
 use Rattle.def_model.specs.Reading.{step, at_line, run}
 
--- What tokens say behind those so far.
+-- What tokens say after those so far.
 abbrev pub says : Reading → List Lexeme → Result DefFile DefKind
 says r [] = Ok (file_of r.draft)
 says r (t ∷ ts) = step r t >>= (λ next. says next ts)

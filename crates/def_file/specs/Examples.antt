@@ -78,7 +78,7 @@ pub record WorkedFiles : Type 0 where
             ∷ record { name = codes "g"; «module» = codes "M"; entry = Named (codes "g") }
             ∷ [];
       })
-  -- The words stand in any order, and CODE and DATA behind the items that start from them.
+  -- The words stand in any order, and CODE and DATA after the items that start from them.
   pub segments :
       read_of (lines (codes "SEGMENTS A CLASS 'xcode' B CLASS 'DATA' C EXECUTEONLY D SINGLE" ∷ codes "CODE PRELOAD READWRITE" ∷ codes "DATA NONE" ∷ []))
       ≡ Ok (record plain_program {

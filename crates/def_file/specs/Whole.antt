@@ -13,7 +13,7 @@ use Rattle.def_model.specs.declared.draft.Place.{Place}
 use Rattle.def_model.specs.declared.draft.Place.TheVariants as place
 use Rattle.def_model.specs.declared.draft.Reading.{Reading}
 
--- Words on its calls stand behind LIBRARY alone.
+-- Words on its calls stand after LIBRARY alone.
 abbrev pub CallsFit : Option ModKind → Option Bool → Option Bool → Type 0
 CallsFit None init term = (init ≡ None) × (term ≡ None)
 CallsFit (Some modules.Program) init term = (init ≡ None) × (term ≡ None)

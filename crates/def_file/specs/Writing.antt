@@ -91,7 +91,7 @@ abbrev pub base_text : Option ℕ → List ℕ
 base_text None = []
 base_text (Some base) = statement_text kw.Base (equals ∷ number (Some base) ∷ [])
 
--- An item stands behind a space.
+-- An item stands after a space.
 abbrev pub item_text : List Lexeme → List ℕ
 item_text tokens = 32 ∷ line_text tokens
 

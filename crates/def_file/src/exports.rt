@@ -164,7 +164,7 @@ fn behind_name(
     }
 }
 
-/// Behind a part of an item of EXPORTS: the parts that may follow, then the next item.
+/// After a part of an item of EXPORTS: the parts that may follow, then the next item.
 #[tactic(auto, unfolding(def_model::specs::Exports::export))]
 pub fn export(
     alloc: Global,
@@ -187,7 +187,7 @@ pub fn export(
     }
 }
 
-/// Behind `=` in an item of EXPORTS.
+/// After `=` in an item of EXPORTS.
 #[tactic(auto, unfolding(def_model::specs::Exports::internal))]
 pub fn internal(alloc: Global, mut item: Exp, token: Token<'_>) -> Result<Place, Fail<DefKind>>
     requires item { WholeExport item }
@@ -204,7 +204,7 @@ pub fn internal(alloc: Global, mut item: Exp, token: Token<'_>) -> Result<Place,
     }
 }
 
-/// Behind `@` in an item of EXPORTS.
+/// After `@` in an item of EXPORTS.
 #[tactic(auto, unfolding(def_model::specs::Exports::ordinal))]
 pub fn ordinal(mut item: Exp, token: Token<'_>) -> Result<Place, Fail<DefKind>>
     requires item { WholeExport item }

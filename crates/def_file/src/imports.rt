@@ -35,7 +35,7 @@ pub fn imports(alloc: Global, draft: &Draft, token: Token<'_>) -> Result<Place, 
     }
 }
 
-/// Behind the first name of an item.
+/// After the first name of an item.
 #[tactic(auto, unfolding(def_model::specs::Imports::import_first))]
 pub fn import_first(name: Name, token: Token<'_>) -> Result<Place, Fail<DefKind>>
     requires name { name ≢ [] }
@@ -55,7 +55,7 @@ pub fn import_first(name: Name, token: Token<'_>) -> Result<Place, Fail<DefKind>
     }
 }
 
-/// Behind `=` in an item.
+/// After `=` in an item.
 #[tactic(auto, unfolding(def_model::specs::Imports::import_equals))]
 pub fn import_equals(
     alloc: Global,
@@ -75,7 +75,7 @@ pub fn import_equals(
     }
 }
 
-/// Behind the module's name of an item that has an internal name.
+/// After the module's name of an item that has an internal name.
 #[tactic(auto, unfolding(def_model::specs::Imports::import_module))]
 pub fn import_module(internal: Name, from: Name, token: Token<'_>) -> Result<Place, Fail<DefKind>>
     requires internal { internal ≢ [] }
@@ -173,7 +173,7 @@ fn import_ordinal(
     }
 }
 
-/// Behind `.` in an item.
+/// After `.` in an item.
 #[tactic(auto, unfolding(def_model::specs::Imports::import_dot))]
 pub fn import_dot(
     alloc: Global,

@@ -25,7 +25,7 @@ use lx_types::Fail;
 use obj_types::DefFile;
 use std::alloc::Global;
 
-// What a token says behind each place.
+// What a token says after each place.
 #[tactic(auto, unfolding(def_model::specs::Reading::token_at))]
 fn token_at(
     alloc: Global,

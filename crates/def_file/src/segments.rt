@@ -32,7 +32,7 @@ pub fn segments(alloc: Global, draft: &Draft, token: Token<'_>) -> Result<Place,
     }
 }
 
-// Behind the last attribute of a list.
+// After the last attribute of a list.
 #[tactic(auto, using(crate::proofs::WholeLaws::all_pushed), unfolding(def_model::specs::Segments::behind_list))]
 fn behind_list(
     alloc: Global,
@@ -86,7 +86,7 @@ pub fn attributes(
     }
 }
 
-/// Behind the name of an item of SEGMENTS.
+/// After the name of an item of SEGMENTS.
 #[tactic(auto, unfolding(def_model::specs::Segments::segment))]
 pub fn segment(
     alloc: Global,
@@ -108,7 +108,7 @@ pub fn segment(
     }
 }
 
-/// Behind CLASS.
+/// After CLASS.
 #[tactic(auto, unfolding(def_model::specs::Segments::class))]
 pub fn class(alloc: Global, name: Name, token: Token<'_>) -> Result<Place, Fail<DefKind>>
     requires name { name ≢ [] }

@@ -93,7 +93,7 @@ pub fn statement(draft: &Draft, token: Token<'_>) -> Result<Place, Fail<DefKind>
     }
 }
 
-/// Behind NAME and a name: a window word may stand.
+/// After NAME and a name: a window word may stand.
 #[tactic(auto, unfolding(def_model::specs::Statements::program_name))]
 pub fn program_name(draft: &Draft, token: Token<'_>) -> Result<Place, Fail<DefKind>>
     requires { WholeDraft draft.now }
@@ -106,7 +106,7 @@ pub fn program_name(draft: &Draft, token: Token<'_>) -> Result<Place, Fail<DefKi
     }
 }
 
-/// Behind NAME.
+/// After NAME.
 #[tactic(auto, using(crate::proofs::KindLaws::calls_none), unfolding(def_model::specs::Statements::program))]
 pub fn program(alloc: Global, draft: &mut Draft, token: Token<'_>) -> Result<Place, Fail<DefKind>>
     requires whole { WholeDraft draft.old }
@@ -124,7 +124,7 @@ pub fn program(alloc: Global, draft: &mut Draft, token: Token<'_>) -> Result<Pla
     }
 }
 
-/// Behind LIBRARY and its name or words: a word on its calls may stand.
+/// After LIBRARY and its name or words: a word on its calls may stand.
 #[tactic(auto, using(crate::proofs::KindLaws::calls_of_library), unfolding(def_model::specs::Statements::library_words))]
 pub fn library_words(draft: &mut Draft, token: Token<'_>) -> Result<Place, Fail<DefKind>>
     requires whole { WholeDraft draft.old }
@@ -145,7 +145,7 @@ pub fn library_words(draft: &mut Draft, token: Token<'_>) -> Result<Place, Fail<
     }
 }
 
-/// Behind LIBRARY.
+/// After LIBRARY.
 #[tactic(auto, unfolding(def_model::specs::Statements::library))]
 pub fn library(alloc: Global, draft: &mut Draft, token: Token<'_>) -> Result<Place, Fail<DefKind>>
     requires whole { WholeDraft draft.old }
@@ -163,7 +163,7 @@ pub fn library(alloc: Global, draft: &mut Draft, token: Token<'_>) -> Result<Pla
     }
 }
 
-/// Behind DESCRIPTION.
+/// After DESCRIPTION.
 #[tactic(auto, unfolding(def_model::specs::Statements::description))]
 pub fn description(
     alloc: Global,
@@ -211,7 +211,7 @@ pub fn size(draft: &mut Draft, which: Size, token: Token<'_>) -> Result<Place, F
     }
 }
 
-/// Behind BASE.
+/// After BASE.
 #[tactic(auto, unfolding(def_model::specs::Statements::base))]
 pub fn base(token: Token<'_>) -> Result<Place, Fail<DefKind>>
     ensures value { (d : Draft) → Gives (reading d) if_said result (base d (lexeme_of token.entry)) }
@@ -224,7 +224,7 @@ pub fn base(token: Token<'_>) -> Result<Place, Fail<DefKind>>
     }
 }
 
-/// Behind EXETYPE.
+/// After EXETYPE.
 #[tactic(auto, unfolding(def_model::specs::Statements::exe_type))]
 pub fn exe_type(alloc: Global, token: Token<'_>) -> Result<Place, Fail<DefKind>>
     ensures value { (d : Draft) → Gives (reading d) if_said result (exe_type d (lexeme_of token.entry)) }

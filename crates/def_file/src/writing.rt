@@ -23,7 +23,7 @@ use lx_types::{Bytes, Name, NoMemory, Seq};
 use obj_types::{Attrs, DefFile, Exp, Imp, SegAttrs};
 use std::alloc::Global;
 
-// A line of one item. It stands behind a space.
+// A line of one item. It stands after a space.
 fn put_item(out: &mut Vec<u8>, tokens: &[Token<'_>]) -> Result<(), NoMemory>
     ensures { IfOk result (λ _. out.new.items ≡ out.old.items ++ item_text (map lexeme_of tokens.now)) }
 {
@@ -211,7 +211,7 @@ fn written(alloc: Global, d: &DefFile) -> Result<Vec<u8>, NoMemory>
 }
 
 /// Writes a definition file that says `d`: a statement on a line, and each item of a list on a line
-/// of its own behind a space. Names and texts stand in single quotes, and numbers in decimal. Each
+/// of its own after a space. Names and texts stand in single quotes, and numbers in decimal. Each
 /// statement but BASE is written, also where it says what holds without it. Reading it gives `d`
 /// again, if statements can give `d` at all.
 pub fn write_def(alloc: Global, d: &DefFile) -> Result<Bytes, NoMemory>

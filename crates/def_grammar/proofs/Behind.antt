@@ -1,4 +1,4 @@
--- Readings behind whole statements and whole items: what they answer to a token that may follow.
+-- Readings after whole statements and whole items: what they answer to a token that may follow.
 use Rattle.std.proofs.Common.{◌≡◌, ℕ, List, ◌∷◌, Result, Err, refl, ap, ◌∙◌, cond, Bool, true, false}
 use Rattle.std.specs.Prelude.{Some, None, is_some}
 use Rattle.def_model.specs.declared.keyword.Keyword.{Keyword}
@@ -52,13 +52,13 @@ pub answered_alike : (r q : Reading) (t : Lexeme) (ts : List Lexeme) → answer_
 unfolding step
 answered_alike r q t ts is = ap (λ a. cond (is_stray t) (Err kinds.Token) a >>= (λ next. says next ts)) is
 
--- ---- behind statements
+-- ---- after statements
 
--- Whatever may follow is judged as behind whole statements that say this.
+-- Whatever may follow is judged as after whole statements that say this.
 abbrev pub IsBehind : Draft → Reading → Type 0
 IsBehind d r = (t : Lexeme) → starts t ≡ true → answer_at r t ≡ statement d t
 
--- Behind a keyword that begins a statement.
+-- After a keyword that begins a statement.
 pub begun : (ss : List Statement) (r : Reading) (k : Keyword) (p : Place) (ts : List Lexeme) → IsBehind (said ss) r → begun_by k ≡ Some p → stands k ss ≡ false
     → says r (keyword k ∷ ts) ≡ says (record { draft = said ss; place = p }) ts
 unfolding step statement keyword_statement

@@ -1,4 +1,4 @@
--- Behind whole statements: the keyword of the next one, or the file's end.
+-- After whole statements: the keyword of the next one, or the file's end.
 use Rattle.std.proofs.Common.{◌≡◌, List, [], ◌∷◌, Ok, Err, refl, sym, ◌∙◌, cond, Bool, true, false}
 use Rattle.def_model.specs.declared.keyword.Keyword.{Keyword}
 use Rattle.def_model.specs.declared.keyword.Keyword.TheVariants as kw

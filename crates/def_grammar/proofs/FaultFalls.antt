@@ -1,4 +1,4 @@
--- Behind whole statements, a token that begins none.
+-- After whole statements, a token that begins none.
 use Rattle.std.proofs.Common.{◌≡◌, ℕ, List, [], ◌∷◌, Err, refl, sym, ◌∙◌, cond, Bool, true, false, inl}
 use Rattle.std.specs.Prelude.{Some, None, not}
 use Rattle.def_model.specs.declared.keyword.Keyword.{Keyword}
@@ -39,7 +39,7 @@ unexpected r before t k goes_on none h = caused r before t kinds.Expected k h (i
 
 -- ---- where a statement may begin
 
--- Whatever is of the token's sort is judged as behind these statements, and so is the end.
+-- Whatever is of the token's sort is judged as after these statements, and so is the end.
 pub record Judged (ss : List Statement) (r : Reading) (before : List Lexeme → List Lexeme) (t : Lexeme) : Type 0 where
   pub allowed : AreStatements ss
   pub spelled : before [] ≡ statements_then ss []

@@ -24,7 +24,7 @@ use Rattle.def_grammar.proofs.Completing.{Completed, ended, completed}
 use Rattle.def_grammar.proofs.StepCauses.{Takes, TakesAnother, TakesNone, StepCause, kind_is}
 use Rattle.def_grammar.proofs.FaultStates.{fault_at}
 
--- The tokens so far are those of a state, and a reading behind them stands there.
+-- The tokens so far are those of a state, and a reading after them stands there.
 pub record Reached (s : State) (before : List Placed) : Type 0 where
   pub fine : IsState s
   pub spelled : (rest : List Lexeme) → bare before ++ rest ≡ tokens_then s rest

@@ -217,7 +217,7 @@ pub record SamePlace (p q : List Placed) (t u : Placed) : Type 0 where
   pub before : p ≡ q
   pub here : t ≡ u
 
--- Behind the same tokens c.
+-- After the same tokens c.
 place_once : (c : List Lexeme) (p q : List Placed) (t u : Placed) (ps qs : List Placed) → p ++ t ∷ ps ≡ q ++ u ∷ qs
     → Begins (c ++ bare p) → Begins (c ++ bare q) → (MayStand (c ++ bare p) t.lexeme → ⊥) → (MayStand (c ++ bare q) u.lexeme → ⊥) → SamePlace p q t u
 place_once c [] [] t u ps qs same bp bq sp sq = record { before = refl; here = first_same t u ps qs same }

@@ -21,7 +21,7 @@ use Rattle.def_grammar.specs.Sayings.{export_of, exports_of}
 use Rattle.def_grammar.proofs.Answered.{bound}
 use Rattle.def_grammar.proofs.Behind.{answer_at, answered, follows}
 
--- ---- the tokens that may stand behind each part
+-- ---- the tokens that may stand after each part
 
 abbrev pub behind_fifth : Lexeme → Bool
 behind_fifth (number value) = true

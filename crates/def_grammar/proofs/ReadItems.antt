@@ -46,7 +46,7 @@ words_read d list (w ∷ before) rest h = words_read d list before (attribute_to
 abbrev pub with_segments : Draft → List Segment → Draft
 with_segments d items = record d { segs = segments_of items d.segs }
 
--- Whatever may follow is judged as behind these items.
+-- Whatever may follow is judged as after these items.
 abbrev pub BehindSegments : Draft → Reading → Type 0
 BehindSegments d r = (t : Lexeme) → follows t ≡ true → answer_at r t ≡ reader.segments d t
 
@@ -64,7 +64,7 @@ name_begins d r (identifier bytes) ts behind h =
 name_begins d r (quoted bytes) ts behind h =
     answered r (text bytes) ts _ refl (behind (text bytes) refl ∙ bound _ bytes _ (name-is bytes h.some h.short))
 
--- The first word behind a name.
+-- The first word after a name.
 first_word : (d : Draft) (name : List ℕ) (words : List AttributeWord) (w : AttributeWord) (rest : List Lexeme)
     → says (record { draft = d; place = place.Segment name }) (attributes_then words (attribute_token w ∷ rest))
     ≡ says (in_list d (owners.Segment name None) no_words) (attributes_then words (attribute_token w ∷ rest))
@@ -73,19 +73,19 @@ first_word d name [] idle rest = refl
 first_word d name [] (sets p on) rest = refl
 first_word d name (v ∷ words) w rest = first_word d name words v (attribute_token w ∷ rest)
 
--- Behind a list of an item.
+-- After a list of an item.
 behind_words : (d : Draft) (name : List ℕ) (class : Option (List ℕ)) (words : Words) (t : Lexeme) → follows t ≡ true
     → answer_at (in_list d (owners.Segment name class) words) t ≡ reader.segments (record d { segs = d.segs ++ record { name = name; class = class; words = words } ∷ [] }) t
 unfolding token_at reader.attributes reader.behind_list
 behind_words d name class words t h = no_attribute d (owners.Segment name class) t words h
 
--- Behind a name alone.
+-- After a name alone.
 behind_name : (d : Draft) (name : List ℕ) (t : Lexeme) → follows t ≡ true
     → answer_at (record { draft = d; place = place.Segment name }) t ≡ reader.segments (record d { segs = d.segs ++ record { name = name; class = None; words = no_words } ∷ [] }) t
 unfolding token_at reader.segment reader.attributes reader.behind_list
 behind_name d name t h = no_class d name t h ∙ no_attribute d (owners.Segment name None) t no_words h
 
--- One item more, behind readings of those before it.
+-- One item more, after readings of those before it.
 one_segment : (d : Draft) (r : Reading) (name : Written) (class : Option (List ℕ)) (words : List AttributeWord) → BehindSegments d r
     → IsSegment (record { name = name; class = class; words = words })
     → (q : Reading) × BehindSegments (record d { segs = d.segs ++ segment_of (record { name = name; class = class; words = words }) ∷ [] }) q

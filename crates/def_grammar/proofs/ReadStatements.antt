@@ -31,7 +31,7 @@ use Rattle.def_grammar.proofs.Behind.{IsBehind, begun, starts, starts_follows, n
 use Rattle.def_grammar.proofs.ReadItems.{in_list, words_read, segments_read, imports_read, in_imports}
 use Rattle.def_grammar.proofs.ReadExports.{exports_read}
 
--- Behind the keyword of a statement, the rest of it is read, and what follows is judged as behind it.
+-- After the keyword of a statement, the rest of it is read, and what follows is judged as after it.
 pub record BodyRead (d : Draft) (p : Place) (s : Statement) : Type 0 where
   pub reading : Reading
   pub behind : IsBehind (said_with d s) reading
@@ -52,7 +52,7 @@ unfolding step token_at reader.program
 program_named d (identifier bytes) rest h = goes-on _ bytes _ _ (name-is bytes h.some h.short)
 program_named d (quoted bytes) rest h = goes-on _ bytes _ _ (name-is bytes h.some h.short)
 
--- Behind NAME, what is no name.
+-- After NAME, what is no name.
 program_alone : (d : Draft) (t : Lexeme) → starts t ≡ true
     → answer_at (record { draft = d; place = place.Program }) t ≡ reader.window_word (record d { kind = Some modules.Program }) (keyword_of_lexeme t) t
 unfolding token_at reader.program reader.program_name
@@ -124,7 +124,7 @@ library_alone d (text bytes) h = absurd cc
 library_alone d (word bytes) h = absurd cc
 library_alone d t h = refl
 
--- The first word behind LIBRARY.
+-- The first word after LIBRARY.
 first_call : (d : Draft) (calls : List CallWord) (w : CallWord) (rest : List Lexeme) → Unnamed d
     → says (record { draft = d; place = place.Library }) (calls_then calls (call_token w ∷ rest)) ≡ says (in_library d None []) (calls_then calls (call_token w ∷ rest))
 unfolding step token_at reader.library reader.library_words
@@ -187,7 +187,7 @@ no_import d t h = refl
 
 -- ---- any statement
 
--- Behind which place the body of a statement is read.
+-- After which place the body of a statement is read.
 abbrev pub place_of : Statement → Place
 place_of (program name window) = place.Program
 place_of (library name calls) = place.Library

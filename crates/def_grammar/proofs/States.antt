@@ -158,7 +158,7 @@ IsState (in_exe_type ss) = IsBegun kw.ExeType ss
 
 -- ---- one token more
 
--- Behind `before` and the token stands another state with this reading; or the token is the file's end, and whole statements
+-- After `before` and the token stands another state with this reading; or the token is the file's end, and whole statements
 -- stand before it.
 pub data Next (before : List Lexeme → List Lexeme) (t : Lexeme) (r : Reading) : Type 0 where
   goes : (s : State) → IsState s → ((rest : List Lexeme) → tokens_then s rest ≡ before (t ∷ rest)) → reading_of s ≡ r → is_ending t ≡ false → Next before t r

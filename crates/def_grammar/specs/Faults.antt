@@ -20,7 +20,7 @@ pub record Begins (tokens : List Lexeme) : Type 0 where
   pub value : DefFile
   pub sentence : Sentence (tokens ++ rest) value
 
--- The token may stand behind these.
+-- The token may stand after these.
 abbrev pub MayStand : List Lexeme → Lexeme → Type 0
 MayStand before t = Begins (before ++ t ∷ [])
 
@@ -94,7 +94,7 @@ pub record StandsAlready (before : List Lexeme) (t : Lexeme) : Type 0 where
   pub spelled : before ≡ statements_then statements []
   pub again : stands begun statements ≡ true
 
--- Why a token may not stand behind these:
+-- Why a token may not stand after these:
 abbrev pub IsCause : List Lexeme → Lexeme → DefKind → Type 0
 -- it is none;
 IsCause before t kinds.Token = t ≡ stray

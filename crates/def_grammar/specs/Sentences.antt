@@ -8,7 +8,7 @@ use Rattle.def_grammar.specs.Statements.{Statement, statements_then}
 use Rattle.def_grammar.specs.Rules.{AreStatements}
 use Rattle.def_grammar.specs.Sayings.{said}
 
--- Allowed statements, one behind the other, up to the file's end.
+-- Allowed statements, one after the other, up to the file's end.
 pub record Sentence (tokens : List Lexeme) (d : DefFile) : Type 0 where
   pub statements : List Statement
   pub allowed : AreStatements statements

@@ -143,7 +143,7 @@ pub data Statement : Type 0 where
   protected : Statement
   exe_type : Written → Statement
 
--- The keyword that a statement begins with, and what stands behind it.
+-- The keyword that a statement begins with, and what stands after it.
 abbrev pub head : Statement → Keyword
 head (program name window) = kw.Name
 head (library name calls) = kw.Library

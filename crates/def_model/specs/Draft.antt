@@ -37,6 +37,6 @@ reading d p = record { draft = d; place = p }
 abbrev pub fresh : Reading
 fresh = record { draft = no_statements; place = place.Statement }
 
--- The next token may stand behind a place.
+-- The next token may stand after a place.
 abbrev pub at : Draft → Place → Result Reading DefKind
 at d p = Ok (record { draft = d; place = p })

@@ -27,7 +27,7 @@ with_export d item = record d { exports = d.exports ++ item ∷ [] }
 unfoldable pub exports : Draft → Lexeme → Result Reading DefKind
 exports d t = with_name t (λ name. at d (place.Export (export_of name) parts.Name)) (statement d t)
 
--- Behind each part of an item: the parts that may follow, then the next item.
+-- After each part of an item: the parts that may follow, then the next item.
 unfoldable pub behind_nodata : Draft → Exp → Lexeme → Result Reading DefKind
 behind_nodata d item t =
     with_number t (λ value. within 0 31 value >>= (λ n. at (with_export d (record item { words = n })) place.Exports))
@@ -60,7 +60,7 @@ export d item parts.Ordinal t = behind_ordinal d item t
 export d item parts.Resident t = behind_resident d item t
 export d item parts.NoData t = behind_nodata d item t
 
--- Behind `=` and behind `@`.
+-- After `=` and after `@`.
 unfoldable pub internal : Draft → Exp → Lexeme → Result Reading DefKind
 internal d item t = with_name t (λ name. at d (place.Export (record item { internal = name }) parts.Internal)) (Err kinds.Expected)
 

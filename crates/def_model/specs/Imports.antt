@@ -21,7 +21,7 @@ with_import d item = record d { imports = d.imports ++ item ∷ [] }
 unfoldable pub imports : Draft → Lexeme → Result Reading DefKind
 imports d t = with_name t (λ name. at d (place.Import name)) (statement d t)
 
--- Behind the first name, which is the internal one where `=` follows, else the module's.
+-- After the first name, which is the internal one where `=` follows, else the module's.
 unfoldable pub import_first : Draft → List ℕ → Lexeme → Result Reading DefKind
 import_first d name t =
     if is_equals t then at d (place.ImportEquals name)
@@ -48,7 +48,7 @@ import_ordinal d None module_name value = Err kinds.Expected
 import_ordinal d (Some internal) module_name value =
     within 1 65535 value >>= (λ n. at (with_import d (record { name = internal; «module» = module_name; entry = Ordinal n })) place.Imports)
 
--- Behind `.`.
+-- After `.`.
 unfoldable pub import_dot : Draft → Option (List ℕ) → List ℕ → Lexeme → Result Reading DefKind
 import_dot d internal module_name t =
     option_map_or (import_by_name d internal module_name) (name_of_lexeme t)

@@ -1,4 +1,4 @@
--- Numbers, in decimal digits or in hexadecimal ones behind 0x.
+-- Numbers, in decimal digits or in hexadecimal ones after 0x.
 use Rattle.std.specs.Prelude.{ℕ, ◌+◌, ◌*◌, ◌-◌, Bool, ◌&&◌, nat_lt, nat_le, List, length, drop, codes, nat_eq, Option, Some, None, if◌then◌else◌, fold}
 use Rattle.std.specs.List.{list_all, starts_with}
 

@@ -20,7 +20,7 @@ use Rattle.def_model.specs.Exports.{exports, export, internal, ordinal}
 use Rattle.def_model.specs.Imports.{imports, import_first, import_equals, import_module, import_dot}
 use Rattle.def_model.specs.Meaning.{file_of}
 
--- What a token says behind each place.
+-- What a token says after each place.
 unfoldable pub token_at : Draft → Place → Lexeme → Result Reading DefKind
 token_at d place.Statement t = statement d t
 token_at d place.Program t = program d t

@@ -20,7 +20,7 @@ use Rattle.def_model.specs.Statements.{statement}
 unfoldable pub segments : Draft → Lexeme → Result Reading DefKind
 segments d t = with_name t (λ name. at d (place.Segment name)) (statement d t)
 
--- Behind the last attribute of a list.
+-- After the last attribute of a list.
 unfoldable pub behind_list : Draft → Owner → Words → Lexeme → Result Reading DefKind
 behind_list d owners.Code words t = statement (record d { code = Some words }) t
 behind_list d owners.Data words t = statement (record d { plain = Some words }) t
@@ -36,7 +36,7 @@ attribute d list words _ t = behind_list d list words t
 unfoldable pub attributes : Draft → Owner → Words → Lexeme → Result Reading DefKind
 attributes d list words t = attribute d list words (keyword_of_lexeme t) t
 
--- Behind the name of an item.
+-- After the name of an item.
 abbrev pub class_word : Draft → List ℕ → Option Keyword → Lexeme → Result Reading DefKind
 class_word d name (Some kw.Class) t = at d (place.Class name)
 class_word d name _ t = attributes d (owners.Segment name None) no_words t

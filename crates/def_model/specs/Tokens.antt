@@ -57,7 +57,7 @@ text_front quote bytes =
 abbrev pub word_front : List ℕ → Front
 word_front bytes = let len = prefix_len (λ b. is_word_byte b) bytes in front len (word_lexeme (take len bytes))
 
--- The token of b and the bytes behind it, where b begins no blank.
+-- The token of b and the bytes after it, where b begins no blank.
 abbrev pub front_of : ℕ → List ℕ → Front
 front_of b bytes =
     if b == 39 || b == 34 then text_front b bytes
@@ -76,7 +76,7 @@ next_line line = if nat_lt line 4294967295 then line + 1 else line
 abbrev pub line_behind : ℕ → ℕ → ℕ
 line_behind b line = if b == 10 then next_line line else line
 
--- The tokens from a line on, behind the bytes that belong to the blank or the token before. The end of
+-- The tokens from a line on, after the bytes that belong to the blank or the token before. The end of
 -- the file is the last token.
 unfoldable pub tokens_behind : ℕ → ℕ → List ℕ → List Placed
 tokens_behind behind line [] = record { line = line; lexeme = ending } ∷ []

@@ -78,7 +78,7 @@ pub enum Part {
     NoData,
 }
 
-/// Behind what the next token stands.
+/// What the next token stands after.
 #[derive(Drop)]
 pub enum Place {
     /// A whole statement, or none.
@@ -132,7 +132,7 @@ pub enum Place {
     ImportEquals {
         internal: Name,
     },
-    /// The module's name behind `=`.
+    /// The module's name after `=`.
     ImportModule {
         internal: Name,
         module: Name,

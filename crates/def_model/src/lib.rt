@@ -1,4 +1,4 @@
-//! What a module definition file says (Toolkit tools reference, "Module Definition Files"): its tokens, what each token says behind
+//! What a module definition file says (Toolkit tools reference, "Module Definition Files"): its tokens, what each token says after
 //! those before it, and what whole files mean.
 //!
 //! The definitions stand in specs/; the types of src/ are those that they speak of.

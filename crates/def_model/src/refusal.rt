@@ -29,7 +29,7 @@ pub enum DefKind {
 }
 
 /// The first fault of a definition file, with the line of its token. Lines count from 1; a token
-/// behind 2^32 - 1 lines has that line.
+/// after 2^32 - 1 lines has that line.
 #[derive(Debug, Clone, Copy, PartialEq, Eq, Error)]
 #[error("line {line} {kind}")]
 pub struct DefRefusal {

@@ -123,7 +123,7 @@ number-run n small =
 
 -- ---- tokens of a line
 
--- What stands behind a token ends it.
+-- What stands after a token ends it.
 record Stop (bytes : List ℕ) : Type 0 where
   first : ℕ
   others : List ℕ

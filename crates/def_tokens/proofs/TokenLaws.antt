@@ -83,7 +83,7 @@ tokens-next line len first behind left lexeme is_left none is_front some not_end
     ∙ ap (λ xs. before (record { line = line; lexeme = lexeme }) (tokens_behind 0 line xs)) (sym rest))
     none
 
--- Bytes that are there, as their first and those behind it.
+-- Bytes that are there, as their first and those after it.
 pub first-behind : (bytes : List ℕ) → 1 ≤ length bytes → bytes ≡ get_or bytes 0 0 ∷ take (length bytes - 1) (drop 1 bytes)
 first-behind [] some = absurd (omega arith)
 first-behind (b ∷ bytes) some = ap (λ xs. b ∷ xs) (sym (take_rest (b ∷ bytes) 1))

@@ -78,11 +78,11 @@ Spells _ = ⊥
 
 -- ---- a line
 
--- A space stands between two tokens, but none behind `@` and none beside a dot.
+-- A space stands between two tokens, but none after `@` and none beside a dot.
 abbrev pub gap : Lexeme → Lexeme → List ℕ
 gap before next = if is_at before || is_dot before || is_dot next then [] else 32 ∷ []
 
--- Tokens behind another of their line.
+-- Tokens after another of their line.
 abbrev pub text_behind : Lexeme → List Lexeme → List ℕ
 text_behind before [] = []
 text_behind before (t ∷ ts) = gap before t ++ (spelling t ++ text_behind t ts)

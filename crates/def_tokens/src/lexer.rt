@@ -97,7 +97,7 @@ fn word<'a>(bytes: &'a [u8]) -> Sized<'a>
     }
 }
 
-// The text behind its first quote, with both quotes.
+// The text after its first quote, with both quotes.
 fn text<'a>(quote: u8, bytes: &'a [u8]) -> Sized<'a>
     ensures not_end { is_ending (lexeme_of result.token) ≡ false }
     ensures found { text_front quote bytes.now ≡ front result.len (lexeme_of result.token) }
@@ -116,7 +116,7 @@ fn text<'a>(quote: u8, bytes: &'a [u8]) -> Sized<'a>
     }
 }
 
-// The line behind a byte. There is none past the last number.
+// The line after a byte. There is none past the last number.
 fn line_behind(byte: u8, line: u32) -> u32
     ensures { result ≡ line_behind byte line }
 {
@@ -170,7 +170,7 @@ impl<'a> Lexer<'a> {
         }
     }
 
-    // Moves behind blanks and comments.
+    // Moves past blanks and comments.
     fn pass_blanks(&mut self)
         ensures same { tokens_from self.new ≡ tokens_from self.old }
         ensures shorter { length self.new.left ≤ length self.old.left }
@@ -186,7 +186,7 @@ impl<'a> Lexer<'a> {
         }
     }
 
-    /// The next token, which the place is behind then. At the end of the file it is `End`, and the
+    /// The next token, after which the place is then. At the end of the file it is `End`, and the
     /// place stays there.
     pub fn next(&mut self) -> TokenAt<'a>
         ensures token { tokens_from self.old ≡ before (placed_of result) (tokens_from self.new) }

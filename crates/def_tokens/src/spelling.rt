@@ -100,7 +100,7 @@ fn put_gap(out: &mut Vec<u8>, before: Token<'_>, next: Token<'_>) -> Result<(), 
     }
 }
 
-// Tokens behind another of their line.
+// Tokens after another of their line.
 fn put_behind(out: &mut Vec<u8>, first: Token<'_>, tokens: &[Token<'_>]) -> Result<(), AllocError>
     ensures { IfOk result (λ _. out.new.items
         ≡ out.old.items ++ text_behind (lexeme_of first.entry) (map lexeme_of tokens.now)) }

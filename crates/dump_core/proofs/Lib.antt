@@ -1,2 +1,2 @@
-pub mod PageLaws
+pub mod ObjectCounts
 pub mod ListedLaws

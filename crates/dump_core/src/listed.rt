@@ -8,21 +8,18 @@ ghost use Rattle.lx_model.specs.Module.{IsRead};
 ghost use Rattle.dump_model.specs.Listings.{listed_page, page_id, listed_object, listing_of};
 
 use crate::fixups::fixes_between;
-use crate::pages::{entry_of_page, page_head, records_span};
 use dump_model::{ListedObject, ListedPage, Listing};
 use lx_types::{EntryHead, Module, Name, Names, NoMemory, PageId, Seq};
 use std::alloc::Global;
 
 // A page of an object, which its entry counts.
 fn listed_page(alloc: Global, m: &Module, id: PageId) -> Result<ListedPage, NoMemory>
-    requires read { IsRead m.now }
     requires object { IsNumberOf id.object (length m.now.objects) }
     requires page { id.page < (object_of m.now id.object).count }
     ensures { IfOk result (λ page. page ≡ listed_page m.now id) }
 {
-    let entry = entry_of_page(m, id);
-    let head = page_head(m, entry);
-    let (from, to) = records_span(m, entry);
+    let head = m.counted_page(id);
+    let (from, to) = m.counted_span(id);
     let fixes = fixes_between(alloc, m, from, to)?;
     Ok(ListedPage {
         kind: head.kind,
@@ -34,8 +31,7 @@ fn listed_page(alloc: Global, m: &Module, id: PageId) -> Result<ListedPage, NoMe
 
 // An object by its number, from 1, with its pages.
 fn listed_object(alloc: Global, m: &Module, number: u32) -> Result<ListedObject, NoMemory>
-    requires read { IsRead m.now }
-    requires object { IsNumberOf number (length m.now.objects) }
+    requires { IsNumberOf number (length m.now.objects) }
     ensures { IfOk result (λ object. object ≡ listed_object m.now number) }
 {
     let object = m.objects()[number as usize - 1];
@@ -98,7 +94,7 @@ fn copied_ordinals(alloc: Global, names: &[(Name, u32)]) -> Result<Seq<(Name, u3
 }
 
 /// The lists of a module that was read: its objects with all pages that they count, also those past an object's size, and
-/// behind each page the sources of its fixup records in their order; its import modules, its entries and its names.
+/// after each page the sources of its fixup records in their order; its import modules, its entries and its names.
 ///
 /// It takes time linear in the lists.
 #[tactic(auto, unfolding(dump_model::specs::Listings::listing_of))]

@@ -46,12 +46,12 @@ first_lines zero bytes = []
 first_lines (suc n) [] = []
 first_lines (suc n) (b ∷ bytes) = b ∷ first_lines (if b == 0x0A then n else suc n) bytes
 
--- Line `line`, from 1, is the first with which no dump begins, or the one behind the last where a dump begins with all of
+-- Line `line`, from 1, is the first with which no dump begins, or the one after the last where a dump begins with all of
 -- the bytes, which then lack something.
 pub record RefusesAt (bytes : List ℕ) (line : ℕ) : Type 0 where
   pub none : (l : Listing) → IsDump bytes l → ⊥
   pub from_one : 1 ≤ line
   pub before : BeginsDump (first_lines (line - 1) bytes)
   pub first : (first_lines (line - 1) bytes ≡ bytes) ⊎ (BeginsDump (first_lines line bytes) → ⊥)
-  -- no earlier line is behind the last
+  -- no earlier line is after the last
   pub some : 2 ≤ line → length (first_lines (line - 2) bytes) < length bytes

@@ -17,7 +17,7 @@ listed_page m p = record { kind = (page_at m p).kind; at = (page_at m p).at; len
 abbrev pub page_id : ℕ → ℕ → PageId
 page_id k i = record { object = k; page = i }
 
--- Object k, from 1. Its pages are those that its entry counts: some may lie behind its size, and are never loaded.
+-- Object k, from 1. Its pages are those that its entry counts: some may lie past its size, and are never loaded.
 abbrev pub listed_object : Parts → ℕ → ListedObject
 listed_object m k = record {
   size = (object_of m k).size;

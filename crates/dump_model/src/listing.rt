@@ -12,7 +12,7 @@ pub struct ListedPage {
     pub fixes: Seq<Fix>,
 }
 
-/// An object, with all of the pages that its entry counts, also those behind its size.
+/// An object, with all of the pages that its entry counts, also those past its size.
 #[derive(Drop)]
 pub struct ListedObject {
     pub size: u32,
@@ -43,7 +43,7 @@ pub struct Listing {
 /// Bytes are no dump. Lines count from 1, and the last may lack its end.
 ///
 /// `line` is the first line with which, and with those before it, no dump begins. Where a dump begins with all of the
-/// bytes, it is the line behind the last.
+/// bytes, it is the line after the last.
 #[derive(Clone, Copy, Debug, PartialEq, Eq)]
 pub struct DumpRefusal {
     pub line: u32,

@@ -1,4 +1,4 @@
--- A value that is read behind another one.
+-- A value that is read after another one.
 use Rattle.std.proofs.Common.{◌≡◌, ℕ, Bool, true, false, List, [], ◌∷◌, ◌++◌, refl, sym, subst, ap, ◌∙◌, inl, inr, append_assoc, ◌⊎◌}
 use Rattle.std.specs.Prelude.{◌&&◌, ◌||◌}
 use Rattle.std.specs.List.{AllByRecursion}
@@ -14,7 +14,7 @@ pub record IsForm {A : Type 0} (text : A → List ℕ) (InRange : A → Type 0) 
   pub pieces : (a : A) → InRange a → AllByRecursion IsPiece (opens a)
   pub longer : (a : A) → InRange a → AllByRecursion (λ w. (b : A) × (rest : List ℕ) × InRange b × (text b ≡ text a ++ (w ++ rest))) (opens a)
 
--- The texts of C in which that of a value b stands behind that of a.
+-- The texts of C in which that of a value b stands after that of a.
 pub record IsSequel {A B C : Type 0} (ta : A → List ℕ) (ia : A → Type 0) (oa : A → List (List ℕ)) (tb : B → List ℕ) (ib : B → Type 0) (ob : B → List (List ℕ))
     (tc : C → List ℕ) (ic : C → Type 0) (oc : C → List (List ℕ)) (a : A) (con : B → C) (left : List ℕ) : Type 0 where
   pub into : (b : B) → ia a → ib b → ic (con b)
@@ -206,7 +206,7 @@ module _ {A B C : Type 0} (ta : A → List ℕ) (ia : A → Type 0) (oa : A → 
           by false true = refl
           by false false = refl
 
-  -- b is read behind a, which was read
+  -- b is read after a, which was read
   pub reads-behind : (a : A) (b : B) (con : B → C) (old mid new : State) → IsForm ta ia oa → ((x : B) → ib x → no_break (tb x) ≡ true → tb x ≡ [])
       → IsSequel ta ia oa tb ib ob tc ic oc a con old.left
       → Reads ta ia oa a old mid → Reads tb ib ob b mid new → Reads tc ic oc (con b) old new

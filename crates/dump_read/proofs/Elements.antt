@@ -1,4 +1,4 @@
--- The values of a dump's lists, each with the lines behind its own.
+-- The values of a dump's lists, each with the lines after its own.
 use Rattle.std.proofs.Common.{◌≡◌, ℕ, ◌+◌, Bool, true, false, List, [], ◌∷◌, ◌++◌, length, refl, sym, subst, ap, ◌∙◌, arith, append_assoc}
 use Rattle.std.specs.Prelude.{codes, ◌||◌}
 use Rattle.std.specs.List.{AllByRecursion, flat_map}

@@ -1,4 +1,4 @@
--- Texts behind which nothing goes on, made of smaller ones.
+-- Texts after which nothing goes on, made of smaller ones.
 use Rattle.std.proofs.Common.{◌≡◌, ℕ, zero, suc, ◌<◌, Bool, true, false, List, [], ◌∷◌, ◌++◌, length, refl, sym, subst, ap, ◌∙◌, append_assoc, arith}
 use Rattle.std.specs.Prelude.{◌&&◌, ◌||◌}
 use Rattle.std.specs.List.{AllByRecursion}
@@ -78,7 +78,7 @@ code-word text InRange behind words ends = record {
   ended = λ a ha. piece-broken (text a ++ behind ∷ []) (word-piece text InRange behind words ends a ha);
 }
 
--- ---- a text as it stands, and another one behind it
+-- ---- a text as it stands, and another one after it
 
 pub code-piece : (piece : List ℕ) → no_break piece ≡ false → IsCode {A = Unit {0}} (λ _. piece) (λ _. Unit {0})
 code-piece piece broken = record {
@@ -186,7 +186,7 @@ read-as {B} {C} tb ib tc ic to b old new view reads = by old.stopped new.stopped
           h.other own x.0 r s x.1 tt (is ∙ ap (λ xs. xs ++ s) (ap tc x.2 ∙ view.text x.0 x.1));
     }
 
--- ---- one of some words, and what stands behind it
+-- ---- one of some words, and what stands after it
 
 pub record IsChoice {C : Type 0} (pieces : List (List ℕ)) (tc : C → List ℕ) (ic : C → Type 0) (tag : C → ℕ) (rest : C → List ℕ) : Type 0 where
   pub all : AllByRecursion IsPiece pieces
@@ -283,7 +283,7 @@ view-arm k tb ib ic tag rest con view = record {
   back = λ c h e. view.back c (h, e);
 }
 
--- a value that was read behind the first word
+-- a value that was read after the first word
 pub read-choice : {C : Type 0} (pieces : List (List ℕ)) (tc : C → List ℕ) (ic : C → Type 0) (tag : C → ℕ) (rest : C → List ℕ) (k : ℕ) (c : C) (old mid new : State)
     → IsChoice pieces tc ic tag rest → ((x : C) → no_break (rest x) ≡ true → rest x ≡ []) → 0 < length pieces → TakesOne pieces k old mid
     → Reads rest (λ x. ic x × (tag x ≡ k)) shut c mid new → Reads tc ic shut c old new

@@ -41,7 +41,7 @@ line-word b bytes h =
     let no : (b == 10) ≡ false = grind (arith, nat_tests) in
     ap (λ t. b ∷ cond t [] (line_left bytes)) no
 
--- the line of more bytes begins the bytes and the line behind them
+-- the line of more bytes begins the bytes and the line after them
 pub line-begins : (u x : List ℕ) → (rest : List ℕ) × (u ++ line_left x ≡ line_left (u ++ x) ++ rest)
 line-begins [] x = ([], sym (append-nil (line_left x)))
 line-begins (b ∷ u) x = by (b == 10) (line-begins u x)

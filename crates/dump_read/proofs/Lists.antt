@@ -46,7 +46,7 @@ line-piece piece rest p =
     let more = line-piece-word p.word p.behind rest p.inside in
     (more.0, ap (λ xs. line_left (xs ++ rest)) p.is ∙ ap line_left (append_assoc p.word (p.behind ∷ []) rest) ∙ more.1 ∙ ap (λ xs. xs ++ more.0) (sym p.is))
 
--- a piece that stands in front still does, where a part of the bytes and the line behind it are kept
+-- a piece that stands in front still does, where a part of the bytes and the line after it are kept
 pub next-stays : (piece left rest u x r : List ℕ) → IsPiece piece → left ≡ piece ++ rest → left ≡ u ++ x → (z : List ℕ) × (u ++ (line_left x ++ r) ≡ piece ++ z)
 next-stays piece left rest u x r p next parts =
     let line = line-begins u x in
@@ -165,7 +165,7 @@ read-else {B} {C} piece tb ib tc ic con b old mid new p law next reads =
 
 -- ---- elements
 
--- Texts of values under a number that begin with a piece. No such piece goes on behind one of them.
+-- Texts of values under a number that begin with a piece. No such piece goes on after one of them.
 pub record IsElement {X : Type 0} (text : ℕ × X → List ℕ) (InRange : X → Type 0) (opens : X → List (List ℕ)) (first : List ℕ) : Type 0 where
   pub piece : IsPiece first
   pub some : X
@@ -203,7 +203,7 @@ module _ {X : Type 0} (text : ℕ × X → List ℕ) (InRange : X → Type 0) (o
   differ-apart (p ∷ ps) z pieces differ =
       (λ rest is. differ.0 (sym (same-pieces first p z rest element.piece pieces.0 is).0), differ-apart ps z pieces.1 differ.1)
 
-  -- what stands behind an element of a list does not go on with it
+  -- what stands after an element of a list does not go on with it
   behind-element : (more : List (List ℕ)) (k : ℕ) (x : X) (xs : List X) (s : List ℕ) → InRange x → AllIn InRange xs → AllApart (list_opens more opens (x ∷ xs)) s
       → AllApart (opens x) (list_text text k xs ++ s)
   behind-element more k x [] s hx hxs apart = behind-left (opens x) more (Apart s) apart
@@ -235,7 +235,7 @@ module _ {X : Type 0} (text : ℕ × X → List ℕ) (InRange : X → Type 0) (o
 
   -- ---- a list that goes on while the piece stands next
 
-  -- one element and others behind it begin with the piece
+  -- one element and others after it begin with the piece
   rest-of : (k : ℕ) (y : X) (ys : List X) (s : List ℕ) → InRange y → List ℕ
   rest-of k y ys s h = ((element.front k y h).0 ++ list_text text (k + 1) ys) ++ s
 
@@ -271,7 +271,7 @@ module _ {X : Type 0} (text : ℕ × X → List ℕ) (InRange : X → Type 0) (o
   map-all P Q [] f h = tt
   map-all P Q (p ∷ ps) f h = (f p h.0, map-all P Q ps f h.1)
 
-  -- behind the last element
+  -- after the last element
   longer-last : (k : ℕ) (x : X) (v : List ℕ) → InRange x → (b : X) × (rest : List ℕ) × InRange b × (text (k, b) ≡ text (k, x) ++ (v ++ rest))
       → (b : X) × (rest : List ℕ) × InRange b × (list_text text k (b ∷ []) ≡ list_text text k (x ∷ []) ++ (v ++ rest))
   longer-last k x v h b =
@@ -323,7 +323,7 @@ module _ {X : Type 0} (text : ℕ × X → List ℕ) (InRange : X → Type 0) (o
       by false true = refl
       by false false = refl
 
-  -- one element, and others behind it
+  -- one element, and others after it
   pub star-goes : (k : ℕ) (x : X) (xs : List X) (old mid new : State) → (rest : List ℕ) × (old.left ≡ first ++ rest) → Reads (λ y. text (k, y)) InRange opens x old mid
       → Reads (list_text text (k + 1)) (AllIn InRange) (list_opens (first ∷ []) opens) xs mid new
       → Reads (list_text text k) (AllIn InRange) (list_opens (first ∷ []) opens) (x ∷ xs) old new

@@ -247,7 +247,7 @@ digit-first d lt first = by first.0 first.1 first.2 (digit-value d (first.0 / 16
 pub pair-escape : (b high low : ℕ) → is_plain b ≡ false → high ∷ low ∷ [] ≡ hex_byte b → escaped_byte b ≡ 0x25 ∷ high ∷ low ∷ []
 pair-escape b high low other is = escape-text b other ∙ ap (λ x. 0x25 ∷ x) (sym is)
 
--- two digits behind the sign that are none of an escape
+-- two digits after the sign that are none of an escape
 pub pair-none : (high low b : ℕ) → ((n : ℕ) → high ∷ low ∷ [] ≡ hex_byte n → ⊥) → escaped_byte b ≡ 0x25 ∷ high ∷ low ∷ [] → ⊥
 pair-none high low b none is = by (cases_Bool (is_plain b))
   where
@@ -265,7 +265,7 @@ pair-plain high low b n hb hn plain digits is = by (cases_Bool (is_plain b))
         ∙ sym (append-nil (hex_byte n))) in
         both_ways (is_plain b) p (subst (λ m. is_plain m ≡ true) (sym same.0) plain)
 
--- what stands behind the sign and one digit
+-- what stands after the sign and one digit
 three-parts : (b h l r : ℕ) (s t : List ℕ) → 0x25 ∷ h ∷ l ∷ s ≡ escaped_byte b ++ t → escaped_byte b ≡ 0x25 ∷ h ∷ l ∷ []
 three-parts b h l r s t is = by (cases_Bool (is_plain b))
   where

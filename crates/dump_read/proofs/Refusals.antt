@@ -106,7 +106,7 @@ refuses-here bytes s n not-dump flag count =
         place.none begun b.listing b.rest b.dump.bounds
         (sym (append_assoc place.used (line_left s.left) b.rest) ∙ ap (λ x. x ++ b.rest) (sym lines) ∙ b.dump.text))
 
--- the line behind the last, where a dump begins with all of the bytes, which end within a line
+-- the line after the last, where a dump begins with all of the bytes, which end within a line
 pub refuses-behind : (bytes : List ℕ) (s : State) (n : ℕ) → (not-dump : NotDump bytes s) → s.begun && ends_open bytes ≡ true → n ≡ ends (place-of bytes s not-dump).used
     → RefusesAt bytes (n + 2)
 refuses-behind bytes s n not-dump flag count =

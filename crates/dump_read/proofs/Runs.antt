@@ -111,7 +111,7 @@ module _ {X : Type 0} (text : ℕ × X → List ℕ) (InRange : X → Type 0) (o
       by left begun true halts = refl
       by left begun false halts = absurd cc
 
-  -- ---- a list, and something else behind it
+  -- ---- a list, and something else after it
 
   module _ {B : Type 0} (tb : B → List ℕ) (ib : B → Type 0) (code : IsCode tb ib) (k : ℕ)
       (apart : (xs : List X) (b : B) (s : List ℕ) → AllIn InRange xs → ib b → AllApart (list_opens (first ∷ []) opens xs) (tb b ++ s)) where

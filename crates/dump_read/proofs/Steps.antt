@@ -300,7 +300,7 @@ module _ {A : Type 0} (text : A → List ℕ) (InRange : A → Type 0) (behind :
       by c [] inside is = (c, behind, [], inside, word, ap (λ xs. xs ++ behind ∷ []) (is ∙ append-nil left))
       by c (b ∷ rest) inside is = (c, b, rest ++ behind ∷ [], inside, word, ap (λ xs. xs ++ behind ∷ []) is ∙ append_assoc left (b ∷ rest) (behind ∷ []))
 
-  -- another word, or another byte behind it
+  -- another word, or another byte after it
   other-step : (word rest : List ℕ) (b : ℕ) (begun : Bool) → IsWord word → IsBehind b → ((c : A) → InRange c → word ≡ text c → b ≡ behind → ⊥)
       → let old : State = record { left = word ++ b ∷ rest; begun = begun; stopped = false } in
       Stops (ended_by behind text) InRange shut old (stops begun old)

@@ -37,7 +37,7 @@ apart-of known pieces bytes s ps all b =
     subst (AllApart pieces) (sym (ap (λ x. x ++ s) b.4 ∙ append_assoc b.0 b.1 s)) (other-apart known pieces b.0 (b.1 ++ s) ps all b.2 b.3)
 
 module _ {X : Type 0} (text : ℕ × X → List ℕ) (first : List ℕ) (fronts : (k : ℕ) (x : X) → (rest : List ℕ) × (text (k, x) ≡ first ++ rest)) where
-  -- a list and what is behind it
+  -- a list and what is after it
   begins-list : (known : List (List ℕ)) (k : ℕ) (xs : List X) (bytes : List ℕ) → IsPiece first → is_among first known ≡ false → BeginsOther known bytes
       → BeginsOther known (list_text text k xs ++ bytes)
   begins-list known k [] bytes p other b = b

@@ -1,4 +1,4 @@
--- The lists of a dump: the texts of their values by number, and what goes on behind them.
+-- The lists of a dump: the texts of their values by number, and what goes on after them.
 use Rattle.std.specs.Prelude.{ℕ, List, [], ◌∷◌, codes}
 use Rattle.lx_types.specs.declared.fix.Fix.{Fix}
 use Rattle.lx_types.specs.declared.entry.EntryHead.{EntryHead}

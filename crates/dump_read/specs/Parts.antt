@@ -22,7 +22,7 @@ use Rattle.dump_read.specs.declared.head.ModuleHead.{ModuleHead}
 abbrev pub Any : {A : Type 0} → A → Type 0
 Any a = Unit {0}
 
--- words, each with a blank behind it
+-- words, each with a blank after it
 abbrev pub leading : List (List ℕ) → List ℕ
 leading ws = flat_map (λ w. w ++ 0x20 ∷ []) ws
 
@@ -61,7 +61,7 @@ target_pieces = codes "internal " ∷ codes "ordinal " ∷ codes "name " ∷ cod
 abbrev pub target_text : FixTarget → List ℕ
 target_text t = leading (target_words t)
 
--- behind the first word
+-- after the first word
 abbrev pub target_rest : FixTarget → List ℕ
 target_rest (targets.Internal object offset) = leading (decimal object ∷ decimal offset ∷ [])
 target_rest (targets.Ordinal import ordinal) = leading (decimal import ∷ decimal ordinal ∷ [])

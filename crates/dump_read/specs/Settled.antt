@@ -4,7 +4,7 @@ use Rattle.std.specs.Prelude.{List, [], ◌∷◌, ◌++◌, length, take, drop,
 use Rattle.std.specs.List.{prefix_len, AllByRecursion}
 use Rattle.dump_read.specs.Taken.{is_in_word, is_front, same_bytes, is_begun, State, Reads, shut}
 
--- a word, and what stands behind it
+-- a word, and what stands after it
 abbrev pub ended_by : {A : Type 0} → ℕ → (A → List ℕ) → A → List ℕ
 ended_by behind text a = text a ++ behind ∷ []
 

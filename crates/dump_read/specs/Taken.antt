@@ -15,11 +15,11 @@ no_break bytes = list_all is_in_word bytes
 abbrev pub IsWord : List ℕ → Type 0
 IsWord word = no_break word ≡ true
 
--- what stands behind a word
+-- what stands after a word
 abbrev pub IsBehind : ℕ → Type 0
 IsBehind b = is_in_word b ≡ false
 
--- a word, and what stands behind it
+-- a word, and what stands after it
 pub record IsPiece (piece : List ℕ) : Type 0 where
   pub word : List ℕ
   pub behind : ℕ
@@ -65,7 +65,7 @@ pub record State : Type 0 where
   pub begun : Bool
   pub stopped : Bool
 
--- Values have texts. Behind the text of a value some pieces may follow with which another value's text would go on: they are
+-- Values have texts. After the text of a value some pieces may follow with which another value's text would go on: they are
 -- not there where this value is read.
 pub record Took {A : Type 0} (text : A → List ℕ) (InRange : A → Type 0) (opens : A → List (List ℕ)) (a : A) (old new : State) : Type 0 where
   pub range : InRange a
@@ -93,7 +93,7 @@ Outcome false true text InRange opens a old new = Stops text InRange opens old n
 abbrev pub Reads : {A : Type 0} → (A → List ℕ) → (A → Type 0) → (A → List (List ℕ)) → A → State → State → Type 0
 Reads text InRange opens a old new = Outcome old.stopped new.stopped text InRange opens a old new
 
--- nothing goes on behind a text
+-- nothing goes on after a text
 abbrev pub shut : {A : Type 0} → A → List (List ℕ)
 shut a = []
 

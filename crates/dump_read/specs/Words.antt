@@ -30,11 +30,11 @@ IsFront (Byte b len) left = IsByte b × (0 < len) × (len ≤ length left) × (l
 IsFront Ends left = EndsWithin left
 IsFront Wrong left = NoFront left
 
--- a byte begins what some byte is written as behind the sign of an escape
+-- a byte begins what some byte is written as after the sign of an escape
 abbrev pub IsFirstDigit : ℕ → Type 0
 IsFirstDigit byte = (b : ℕ) × IsByte b × (is_plain b ≡ false) × (byte ≡ hex_digit (b / 16 % 16))
 
--- what two digits behind the sign of an escape stand for, whatever comes then
+-- what two digits after the sign of an escape stand for, whatever comes then
 abbrev pub IsPairFront : Front → ℕ → ℕ → Type 0
 IsPairFront (Byte b len) high low = IsByte b × (len ≡ 3) × (escaped_byte b ≡ 0x25 ∷ high ∷ low ∷ [])
 IsPairFront Ends high low = ⊥

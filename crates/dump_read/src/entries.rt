@@ -34,7 +34,7 @@ fn key(reader: &mut Reader<'_>) -> FwdKey
     }
 }
 
-// What stands behind the first word of what an entry is, which is the k-th of those that there are.
+// What stands after the first word of what an entry is, which is the k-th of those that there are.
 fn head_behind(reader: &mut Reader<'_>, k: usize) -> EntryHead
     requires { k < 3 }
     ensures { Reads head_rest (IsHeadOf k) shut result reader.old reader.new }

@@ -36,7 +36,7 @@ fn source(reader: &mut Reader<'_>) -> Source
     source_of(reader.one_of(&words))
 }
 
-// What stands behind the first word of a target, which is the k-th of those that there are.
+// What stands after the first word of a target, which is the k-th of those that there are.
 fn target(reader: &mut Reader<'_>, k: usize) -> FixTarget
     requires { k < 4 }
     ensures { Reads target_rest (IsTargetOf k) shut result reader.old reader.new }

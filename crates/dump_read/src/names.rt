@@ -58,7 +58,7 @@ fn pair(high: u8, low: u8) -> Front
     }
 }
 
-// What stands behind the sign of an escape.
+// What stands after the sign of an escape.
 fn escape(behind: &[u8]) -> Front
     ensures { IsFront result (0x25 ∷ behind.now) }
 {

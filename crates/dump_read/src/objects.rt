@@ -7,7 +7,7 @@ ghost use Rattle.dump_read.specs.Parts.{HasHeadData, IsDataOf, IsObjectHead, dat
 use crate::reader::{BLANK, END, Reader};
 use lx_types::{PageHead, PageKind};
 
-// What stands behind the first word of where a page's data stands, which is the k-th of those that there are.
+// What stands after the first word of where a page's data stands, which is the k-th of those that there are.
 fn data_behind(reader: &mut Reader<'_>, k: usize) -> PageHead
     requires { k < 4 }
     ensures { Reads data_rest (IsDataOf k) shut result reader.old reader.new }

@@ -16,7 +16,7 @@ use lx_types::{Name, NoMemory};
 use std::alloc::Global;
 use std::marker::Model;
 
-/// What stands behind a word.
+/// What stands after a word.
 pub(crate) const BLANK: u8 = b' ';
 
 pub(crate) const END: u8 = b'\n';
@@ -80,7 +80,7 @@ impl<'a> Reader<'a> {
         &self.left[..word_len(self.left)]
     }
 
-    // Takes the word that stands next and the byte behind it, if the word is what is looked for. If the bytes end within the
+    // Takes the word that stands next and the byte after it, if the word is what is looked for. If the bytes end within the
     // word, what is looked for may begin with it.
     fn settle(&mut self, word: &[u8], behind: u8, is_told: bool, begins: bool)
         requires { length word.now ≤ length self.old.left }
@@ -130,7 +130,7 @@ impl<'a> Reader<'a> {
         }
     }
 
-    /// Takes a word with what stands behind it.
+    /// Takes a word with what stands after it.
     pub(crate) fn word(&mut self, piece: &[u8])
         requires { IsTrue (is_piece piece.now) }
         ensures { Takes piece.now self.old self.new }
@@ -157,7 +157,7 @@ impl<'a> Reader<'a> {
         }
     }
 
-    /// Takes one of some words with what stands behind it, and tells which.
+    /// Takes one of some words with what stands after it, and tells which.
     pub(crate) fn one_of(&mut self, pieces: &[&[u8]]) -> usize
         requires { IsTrue (are_pieces (map (λ p. p.now) pieces.now)) }
         ensures one { TakesOne (map (λ p. p.now) pieces.now) result self.old self.new }

@@ -89,7 +89,7 @@ fn refused_line(bytes: &[u8], reader: &Reader<'_>) -> u32
 /// The listing whose dump the bytes are, in time linear in them.
 ///
 /// It is refused where they are no dump, at the first line with which, and with those before it, no dump begins; where a
-/// dump begins with all of the bytes, at the line behind the last. A dump is that of one listing, and that is read.
+/// dump begins with all of the bytes, at the line after the last. A dump is that of one listing, and that is read.
 pub fn read_dump(alloc: Global, bytes: &[u8]) -> Result<Listing, Fail<DumpRefusal>>
     requires { length bytes.now < 2 ^ 32 }
     ensures answer { Answers result (λ l. IsDump bytes.now l) (λ refusal. RefusesAt bytes.now refusal.line) }

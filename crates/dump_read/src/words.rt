@@ -51,7 +51,7 @@ fn is_signed_text(word: &[u8], n: i32) -> bool
     Buffer::new().format(n).as_bytes() == word
 }
 
-/// The number that a word is in decimal, maybe behind a minus sign.
+/// The number that a word is in decimal, maybe after a minus sign.
 pub(crate) fn signed_of(word: &[u8]) -> Option<i32>
     ensures { Tells signed_decimal HasSigned32 result word.now }
 {

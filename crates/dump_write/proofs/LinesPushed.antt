@@ -74,7 +74,7 @@ pub entry-pushed : (out a new : List ℕ) (e : ℕ × EntryHead) → a ≡ out +
 unfolding entry_line
 entry-pushed out a new e ha some hnew = group-pushed out a new (codes "entry" ∷ decimal e.0 ∷ []) (head_words e.1) some ha hnew
 
--- ---- each has words behind its first ones
+-- ---- each has words after its first ones
 
 pub some-data : (kind : PageKind) (at len : ℕ) → 1 ≤ length (data_words kind at len)
 some-data kinds.Plain at len = omega arith

@@ -48,7 +48,7 @@ fn push_module(out: &mut Vec<u8>, l: &Listing) -> Result<(), AllocError>
 
 /// The dump of a listing, in time linear in the text.
 ///
-/// A line tells the module; then each object has a line, behind it each of its pages, and behind a page each of its
+/// A line tells the module; then each object has a line, after it each of its pages, and after a page each of its
 /// fixups; then come the import modules, the entries and the names, and the line `end`. Flags and bases have eight
 /// hexadecimal digits, all other numbers are decimal, and names have their escapes, the empty one being `%`.
 pub fn dump(alloc: Global, l: &Listing) -> Result<Bytes, NoMemory>

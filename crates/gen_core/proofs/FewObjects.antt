@@ -13,7 +13,7 @@ use Rattle.lx_model.specs.Tables.{object_entry, object_place, objects_of}
 use Rattle.lx_model.proofs.Each.{each_first}
 use Rattle.lx_model.proofs.Firsts.{then_none}
 
--- Nothing behind the header is looked at.
+-- Nothing after the header is looked at.
 header_is_good : (file : List ℕ) → LxFault file ≡ None → header_fault file ≡ None
 unfolding LxFault
 header_is_good file e = (then_none (header_fault file) _ e).0

@@ -1,4 +1,4 @@
--- One module more is linked, behind those before it.
+-- One module more is linked, after those before it.
 use Rattle.std.specs.Prelude.{◌≡◌, ℕ, suc, ◌+◌, ◌^◌, ◌<◌, ◌≤◌, List, [], ◌∷◌, ◌++◌, length, sum_by, None, is_some, refl}
 use Rattle.std.proofs.Common.{ap, sym, ◌∙◌, arith, subst, length-append, true≢false}
 use Rattle.std.proofs.lemmas.List.Sums.{sum_by-append, sum_by-cons}
@@ -56,7 +56,7 @@ pages_more links l = sum_by-append (λ (m : Link). length (page_forms m)) links 
 sources_more : (links : List Link) (l : Link) → sources_of (links ++ l ∷ []) ≡ sources_of links + sum_by length (page_fixes l)
 sources_more links l = sum_by-append (λ (m : Link). sum_by length (page_fixes m)) links (l ∷ []) ∙ ap (λ (n : ℕ). sources_of links + n) (sum_by-one (λ (m : Link). sum_by length (page_fixes m)) l)
 
--- What was linked so far, with one module behind it.
+-- What was linked so far, with one module after it.
 pub record IsMore (before now : Linking) (parts : Parts) (linked : Linked) : Type 0 where
   pub «modules» : now.«modules».items ≡ before.«modules».items ++ parts ∷ []
   pub is : parts ≡ parts_of linked.file

@@ -5,15 +5,15 @@ use Rattle.std.proofs.Common.{ap, sym, ◌∙◌, arith, subst, append_assoc, le
 use Rattle.std.proofs.lemmas.List.{flat_map_more, map-append}
 use Rattle.std.proofs.lemmas.List.Elements.{All-from_recursion}
 use Rattle.omf_model.specs.Object.{Obj}
-use Rattle.session_spelling.specs.Sessions.{session_bytes}
+use Rattle.session_model.specs.Spelling.{session_bytes}
 use Rattle.gen_model.specs.declared.totals.Totals.{Totals}
 use Rattle.gen_model.specs.Modules.{gen_object, definition_text}
 use Rattle.gen_model.specs.Sessions.{gen_session, object_name, definition_name, session_name}
 use Rattle.gen_model.specs.Sums.{AreTotals, totals_line}
 use Rattle.lx_ports.specs.Files.{FilesState}
-use Rattle.lx_answer.specs.declared.said.Said.{Said}
-use Rattle.lx_answer.specs.GenAnswer.{AreObjectFiles, GenWords, module_files}
-use Rattle.lx_answer.specs.Outcome.{Saved}
+use Rattle.answer_model.specs.declared.said.Said.{Said}
+use Rattle.answer_model.specs.GenAnswer.{AreObjectFiles, GenWords, module_files}
+use Rattle.answer_model.specs.Outcome.{Saved}
 use Rattle.gen_core.specs.declared.outputs.Output.{Output}
 use Rattle.gen_core.specs.Doing.{Generates, Saves}
 use Rattle.gen_core.specs.Generated.{AreOutputs, HasLine, IsOutput, saved_of}
@@ -52,7 +52,7 @@ lines_more : (outputs : List Output) (output : Output) → AllByRecursion HasLin
 lines_more [] output each one = (one, tt)
 lines_more (other ∷ outputs) output each one = (each.0, lines_more outputs output each.1 one)
 
--- The two files of a module stand behind the others.
+-- The two files of a module stand after the others.
 files_more : (prefix : List ℕ) (outputs : List Output) (files : List (ℕ × List ℕ)) (object definition : Output) (n : ℕ) (bytes : List ℕ) → map saved_of outputs ≡ flat_map (module_files prefix) files → saved_of object ≡ record { name = object_name prefix n; bytes = bytes }
     → saved_of definition ≡ record { name = definition_name prefix n; bytes = definition_text n } → map saved_of ((outputs ++ object ∷ []) ++ definition ∷ []) ≡ flat_map (module_files prefix) (files ++ (n, bytes) ∷ [])
 files_more prefix outputs files object definition n bytes before one other =

@@ -3,7 +3,7 @@ use Rattle.std.specs.Prelude.{◌≡◌, ℕ, zero, suc, ◌+◌, ◌/◌, ◌%�
 use Rattle.std.specs.List.{enumerate_from, flat_map, range_with_len}
 use Rattle.std.proofs.Common.{ap, sym, ◌∙◌, arith, subst}
 use Rattle.std.proofs.lemmas.Bool.Decides.{nat_tests}
-use Rattle.lx_types.specs.Addresses.{UNIT, SHARED_END}
+use Rattle.lx_types.specs.declared.limits.TheConstants.{BASE_UNIT, SHARED_END}
 use Rattle.lx_types.specs.Object.{pages_of}
 use Rattle.lx_types.specs.Parts.{object_of, no_object}
 use Rattle.lx_types.specs.declared.bases.Bases.{Bases}
@@ -79,7 +79,7 @@ only_item zero o e = cc
 only_item (suc zero) o e = let same : the_object ≡ o = cc in record { number = refl; is = sym same }
 only_item (suc (suc i)) o e = cc
 
-place_is_even : (m : ℕ) → place m % UNIT ≡ 0
+place_is_even : (m : ℕ) → place m % BASE_UNIT ≡ 0
 place_is_even m = omega arith
 
 place_is_low : (m : ℕ) → m < 64 → place m + 8192 ≤ SHARED_END
@@ -90,7 +90,7 @@ stands_well l bases m one few base object o e =
     let only = only_item object o (ap (λ (os : List LaidObject). item os object) (sym one) ∙ e) in
     let at : base_of bases m object ≡ place m = ap (base_of bases m) only.number ∙ base in
     let size : o.size ≡ 8192 = ap (λ (x : LaidObject). x.size) only.is in
-    (ap (λ (n : ℕ). n % UNIT) at ∙ place_is_even m, (let low = place_is_low m few in omega (arith, at, size, low)))
+    (ap (λ (n : ℕ). n % BASE_UNIT) at ∙ place_is_even m, (let low = place_is_low m few in omega (arith, at, size, low)))
 
 -- ---- its words
 

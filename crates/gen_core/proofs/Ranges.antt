@@ -19,7 +19,7 @@ range_alike {X} f g a b (suc n) same =
     next : (n k : ℕ) → n + suc k ≡ n + 1 + k
     next n k = omega arith
 
--- The first numbers of a range, and those behind them.
+-- The first numbers of a range, and those after them.
 pub range_split : {X : Type 0} (f : ℕ → X) (a n m : ℕ) → map f (range_with_len a (n + m)) ≡ map f (range_with_len a n) ++ map f (range_with_len (a + n) m)
 range_split f a zero m = ap (λ (k : ℕ). map f (range_with_len a k)) (from_zero m) ∙ ap (λ (b : ℕ). map f (range_with_len b m)) (at a)
   where

@@ -8,11 +8,11 @@ use Rattle.std.specs.declared.vec.IntoIter.{IntoIter}
 use Rattle.lx_ports.specs.Calls.{Call, save}
 use Rattle.lx_ports.specs.Files.{Contents, FilesState}
 use Rattle.lx_ports.specs.declared.files.SaveFault.{SaveFault}
-use Rattle.lx_answer.specs.declared.said.Said.{Said}
-use Rattle.lx_answer.specs.Ends.{Holds, IsAfterSave}
-use Rattle.lx_answer.specs.FileLine.{file_line}
-use Rattle.lx_answer.specs.GenAnswer.{SavesInTurn}
-use Rattle.lx_answer.specs.Outcome.{Saved}
+use Rattle.answer_model.specs.declared.said.Said.{Said}
+use Rattle.answer_model.specs.Ends.{Holds, IsAfterSave}
+use Rattle.answer_model.specs.FileLine.{file_line}
+use Rattle.answer_model.specs.GenAnswer.{SavesInTurn}
+use Rattle.answer_model.specs.Outcome.{Saved}
 use Rattle.gen_core.specs.declared.outputs.Output.{Output}
 use Rattle.gen_core.specs.Doing.{AsksSave, Saves}
 use Rattle.gen_core.specs.Generated.{HasLine, saved_of}

@@ -12,7 +12,7 @@ use Rattle.lx_model.specs.Fixed.{Fixed}
 use Rattle.lx_model.specs.Library.{module_of}
 use Rattle.lx_model.specs.ModuleBytes.{FixedByte, fixed_page}
 use Rattle.gen_model.specs.Sums.{word_at, words_of}
-use Rattle.gen_model.proofs.Ranges.{flat_map_further}
+use Rattle.gen_core.proofs.Further.{flat_map_further}
 use Rattle.gen_core.specs.Fixing.{first_words, front_words, library_words, module_words, object_words, page_words, total}
 use Rattle.gen_core.proofs.Ranges.{range_alike, range_split, word_alike}
 

@@ -4,10 +4,10 @@ use Rattle.lx_types.specs.declared.fail.NoMemory.{NoMemory}
 use Rattle.lx_ports.specs.Calls.{Call, save}
 use Rattle.lx_ports.specs.Files.{FilesState, IsSaved, KeepsOthers}
 use Rattle.lx_ports.specs.declared.files.SaveFault.{SaveFault}
-use Rattle.lx_answer.specs.declared.said.Said.{Said}
-use Rattle.lx_answer.specs.Ends.{Holds}
-use Rattle.lx_answer.specs.GenAnswer.{GenWords, SavesInTurn, SaysGen}
-use Rattle.lx_answer.specs.Outcome.{Saved}
+use Rattle.answer_model.specs.declared.said.Said.{Said}
+use Rattle.answer_model.specs.Ends.{Holds}
+use Rattle.answer_model.specs.GenAnswer.{GenWords, SavesInTurn, SaysGen}
+use Rattle.answer_model.specs.Outcome.{Saved}
 
 -- A file was asked to be saved, with this answer.
 pub record AsksSave (before now : FilesState) (file : Saved) (answer : Result (Unit {0}) SaveFault) : Type 0 where

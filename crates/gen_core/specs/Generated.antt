@@ -1,8 +1,8 @@
 -- The files that are made before any is saved.
 use Rattle.std.specs.Prelude.{◌≡◌, ℕ, List, codes, length, map, string_bytes, All}
-use Rattle.lx_answer.specs.FileLine.{file_line}
-use Rattle.lx_answer.specs.GenAnswer.{AreObjectFiles, GenWords, files_with}
-use Rattle.lx_answer.specs.Outcome.{Saved}
+use Rattle.answer_model.specs.FileLine.{file_line}
+use Rattle.answer_model.specs.GenAnswer.{AreObjectFiles, GenWords, files_with}
+use Rattle.answer_model.specs.Outcome.{Saved}
 use Rattle.gen_core.specs.declared.outputs.Output.{Output}
 
 abbrev pub saved_of : Output → Saved

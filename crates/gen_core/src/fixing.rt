@@ -9,7 +9,7 @@ ghost use Rattle.lx_model.specs.ModuleBytes.{fixed_page};
 ghost use Rattle.gen_model.specs.Sums.{word_at};
 ghost use Rattle.gen_core.specs.Fixing.{library_words, module_words, object_words, page_words, total};
 
-use lx_types::{Bases, Module, NoMemory, PageId};
+use lx_types::{Bases, Module, NoMemory, PAGE_LEN, PageBytes, PageId};
 use mod_graph::Library;
 use module_pages::ModulePages;
 use page_fix::Steps;
@@ -20,7 +20,7 @@ use std::sync::ledger::Ledger;
 const WORDS: usize = 1_024;
 
 // A 32-bit word of a page.
-fn word_of(bytes: &[u8; 4096], i: usize) -> u32
+fn word_of(bytes: &PageBytes, i: usize) -> u32
     requires { i < 1024 }
     ensures { result ≡ word_at (slice_index bytes.now) (4 * i) }
 {
@@ -29,7 +29,7 @@ fn word_of(bytes: &[u8; 4096], i: usize) -> u32
 }
 
 // The sum of the 32-bit words of a page.
-fn sum_of_page(bytes: &[u8; 4096]) -> u32
+fn sum_of_page(bytes: &PageBytes) -> u32
     ensures { result ≡ total (page_words (slice_index bytes.now)) }
 {
     let mut sum = 0u32;
@@ -51,7 +51,7 @@ fn sum_of<L: Ledger>(
     ensures stay { pages.new ≡ pages.old }
     ensures sum { IfOk result (λ sum. sum ≡ total (page_words (slice_index (fixed_page pages.old.library pages.old.«module» pages.old.bases p)))) }
 {
-    let buffer = Box::new(alloc, [0; 4096])?;
+    let buffer = Box::new(alloc, [0; PAGE_LEN])?;
     let page = pages.page(p, buffer, steps);
     Ok(sum_of_page(&page))
 }

@@ -2,8 +2,8 @@
 
 ghost use Rattle.gen_core.specs.Meant.{WordsAreMeant};
 
-/// The words of the modules' pages, fixed where the modules stand, are those that their links mean ("Fixup Record Table" in
-/// the LX document).
+/// The words of the modules' pages, fixed where the modules stand, are those that their links mean ("32-bit
+/// Linear eXecutable Module Format": "Fixup Record Table").
 pub fn words_are_meant()
     ensures { WordsAreMeant }
 {

@@ -5,9 +5,14 @@
 mod fixing;
 mod laws;
 mod linking;
+mod modules;
+mod names;
+mod objects;
 mod outputs;
 mod placing;
+mod references;
 mod saving;
+mod scripts;
 mod sessions;
 mod telling;
 

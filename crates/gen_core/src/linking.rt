@@ -7,13 +7,13 @@ ghost use Rattle.link_core.specs.Links.{IsLinked};
 ghost use Rattle.gen_model.specs.Modules.{gen_input};
 ghost use Rattle.gen_core.specs.Linking.{HasLinked, IsGathered};
 
+use crate::modules::link_input;
 use gen_laws::{inputs_are_whole, inputs_link, modules_load};
-use gen_model::link_input;
 use layer_laws::linked_files_mean_their_links;
 use link_core::{Linked, link_module};
+use lx_read::read_faultless;
 use lx_types::{Fail, Module, NoMemory};
-use mod_graph::Library;
-use module_pages::{gather_faultless, read_faultless};
+use mod_graph::{Library, gather_faultless};
 use std::alloc::Global;
 
 /// The modules of a library, and how many pages and record sources they have in all.
@@ -50,7 +50,7 @@ fn linked(alloc: Global, k: u32) -> Result<Linked, NoMemory>
 }
 
 impl Linking {
-    // One module more, behind those up to `count`.
+    // One module more, after those up to `count`.
     fn push(&mut self, alloc: Global, count: u32, linked: Linked) -> Result<(), NoMemory>
         requires few { count < 64 }
         requires before { HasLinked count self.old }

@@ -2,15 +2,17 @@
 
 ghost use Rattle.std.specs.Prelude.{ℕ, ◌≤◌, List, IfOk, string_bytes};
 ghost use Rattle.omf_model.specs.Object.{Obj};
-ghost use Rattle.session_spelling.specs.Sessions.{session_bytes};
+ghost use Rattle.session_model.specs.Spelling.{session_bytes};
 ghost use Rattle.gen_model.specs.Modules as modules;
 ghost use Rattle.gen_model.specs.Modules.{gen_object};
 ghost use Rattle.gen_model.specs.Sessions as names;
 ghost use Rattle.gen_core.specs.Generated.{AreOutputs, IsOutput};
 
+use crate::modules::definition_text;
+use crate::names::{definition_name, object_name, session_name};
+use crate::objects::object_module;
 use crate::sessions::session_text;
 use gen_laws::objects_are_writable;
-use gen_model::{definition_name, definition_text, object_module, object_name, session_name};
 use lx_types::{Bytes, NoMemory, Seq};
 use omf_write::object;
 use std::alloc::Global;
@@ -64,7 +66,7 @@ fn session_file(alloc: Global, prefix: &str, count: u32) -> Result<Output, NoMem
 }
 
 /// The files of so many modules, in the order in which they are saved: for each its object file and its definition file, and
-/// behind them the session.
+/// after them the session.
 pub fn outputs(alloc: Global, count: u32, prefix: &str) -> Result<Vec<Output>, NoMemory>
     requires { count ≤ 64 }
     ensures { IfOk result (λ outputs. AreOutputs (record { count = count; prefix = prefix.now }) outputs.items) }

@@ -10,7 +10,7 @@ use gen_laws::modules_load;
 use load_model::Newcomers;
 use lx_types::{Bases, Fail, ModBases, NoMemory, Seq};
 use mod_graph::Library;
-use stay_table::Stays;
+use residence_table::ResidenceTable;
 use std::alloc::Global;
 
 // The numbers of the modules of a library.
@@ -30,7 +30,7 @@ fn placed(alloc: Global, lib: &Library) -> Result<Newcomers, NoMemory>
     ensures { IfOk result (λ fresh. AreFirstPlaces lib.now fresh) }
 {
     modules_load();
-    let nothing: Stays<()> = Stays::new(alloc);
+    let nothing: ResidenceTable<()> = ResidenceTable::new(alloc);
     match nothing.place(alloc, lib, 0, &numbers(alloc, lib)?) {
         Ok(fresh) => Ok(fresh),
         Err(Fail::Said(_)) => unreachable!(),
@@ -42,10 +42,10 @@ fn bases_of(alloc: Global, fresh: Newcomers) -> Result<Bases, NoMemory>
     ensures { IfOk result (λ bases. bases ≡ sums.bases_of fresh) }
 {
     let mut mods = Seq::new(alloc);
-    for newcomer in fresh.into_vec() {
+    for new_residence in fresh.into_vec() {
         mods.push(ModBases {
-            module: newcomer.module,
-            objects: newcomer.bases,
+            module: new_residence.module,
+            objects: new_residence.bases,
         })?;
     }
     Ok(Bases { mods })

@@ -6,7 +6,7 @@ ghost use Rattle.gen_core.specs.Generated.{HasLine, saved_of};
 
 use crate::outputs::{Output, outputs};
 use crate::telling::totals;
-use lx_answer::{DONE, Said, WRITE_FAILED};
+use answer_model::{DONE, Said, WRITE_FAILED};
 use lx_ports::{Files, SaveFault};
 use lx_types::{Bytes, NoMemory};
 use std::alloc::Global;
@@ -18,7 +18,7 @@ fn save_one<F: Files>(files: &mut F, output: &Output) -> Result<(), SaveFault>
     files.save(&output.name, output.bytes.as_slice())
 }
 
-// Saves the files in their order, and says the line; none is saved behind the first that is not, which is said. It takes no
+// Saves the files in their order, and says the line; none is saved after the first that is not, which is said. It takes no
 // memory.
 fn save_all<F: Files>(files: &mut F, outputs: Vec<Output>, line: Bytes) -> Said
     requires { All HasLine outputs.items }

@@ -2,10 +2,10 @@
 
 ghost use Rattle.std.specs.Prelude.{◌≡◌, ◌≤◌, ◌++◌, IfOk, OnOk, map};
 ghost use Rattle.std.specs.List.{flat_map};
-ghost use Rattle.session_spelling.specs.Sessions.{module_line, session_bytes};
+ghost use Rattle.session_model.specs.Spelling.{module_line, session_bytes};
 ghost use Rattle.gen_model.specs.Sessions as sessions;
 
-use gen_model::session_scripts;
+use crate::scripts::session_scripts;
 use lx_types::{Bytes, NoMemory, Seq};
 use session_model::{FailingLines, ModLines, Session};
 use session_text::write_session;
@@ -37,7 +37,7 @@ fn push_build_lines(
 /// The session of so many modules: a line that builds each, and four processes that load the last module, touch both pages of
 /// each module and read its first 16 bytes, and give the last up. Where the prefix has bytes that a session's words can't have,
 /// or is too long for one, the session is none that can be read.
-#[tactic(auto, unfolding(gen_model::specs::Sessions::gen_session, session_spelling::specs::Sessions::session_bytes))]
+#[tactic(auto, unfolding(gen_model::specs::Sessions::gen_session, session_model::specs::Spelling::session_bytes))]
 pub fn session_text(alloc: Global, count: u32, prefix: &str) -> Result<Bytes, NoMemory>
     requires { count ≤ 64 }
     ensures { IfOk result (λ text. text ≡ session_bytes (sessions.gen_session count prefix.now)) }

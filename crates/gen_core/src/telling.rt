@@ -34,7 +34,7 @@ fn sum_over<L: Ledger>(
 
 /// What is told of the modules G1 to G`count`: they are linked from their object modules and definition files, read back from
 /// the linked files and gathered, their objects take their places in turn, each page is fixed there, and the words of all pages
-/// are added ("Object Page Table", "Fixup Record Table" in the LX document).
+/// are added ("32-bit Linear eXecutable Module Format": "Object Page Table", "Fixup Record Table").
 pub fn totals(alloc: Global, count: u32) -> Result<Totals, NoMemory>
     requires first { 1 ≤ count }
     requires last { count ≤ 64 }

@@ -7,7 +7,7 @@ use Rattle.std.proofs.lemmas.Bool.{cases_lt}
 use Rattle.std.proofs.lemmas.List.{get_or_past}
 use Rattle.std.proofs.lemmas.List.Elements.{All-from_recursion}
 use Rattle.std.proofs.lemmas.List.Quantifiers.{position-Some}
-use Rattle.lx_types.specs.Addresses.{UNIT}
+use Rattle.lx_types.specs.declared.limits.TheConstants.{BASE_UNIT}
 use Rattle.lx_types.specs.Names.{uppercase}
 use Rattle.lx_types.specs.declared.entry.EntryKey.TheVariants as keys
 use Rattle.lx_types.specs.declared.entry.FwdKey.TheVariants as fwd_keys
@@ -185,7 +185,7 @@ internal_there lib m l false o x y z t e =
 target_there : (k : ℕ) (l : Link) (lib : List Parts) (m : ℕ) → Known k l → Loaded l lib m → (refers k ≡ true → Before lib k) → (q : Fixup) (goal : Target) (t : FixTarget × ℕ) → target_and_additive l q goal ≡ Some t → HasSpot lib m (with_offset (link_procs l) t.0)
 target_there k l lib m known loaded before q (Internal o offset) t e =
     let at = wrapped (offset + q.fix.disp) in
-    internal_there lib m l (q.fix.loc == 2) o 0 (cond (nat_le UNIT at) at 0) (wrapped (at + q.standing)) t e
+    internal_there lib m l (q.fix.loc == 2) o 0 (cond (nat_le BASE_UNIT at) at 0) (wrapped (at + q.standing)) t e
 target_there k l lib m known loaded before q (Constant value) t e = cc
 target_there k l lib m known loaded before q (Entry slot) t e =
     let r = mapped (λ (u : FixTarget). (u, wrapped (q.fix.disp + q.standing))) (option_and_then (import_target (used_pairs l)) (slice_get (imports l) slot)) t e in

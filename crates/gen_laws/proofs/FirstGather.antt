@@ -13,7 +13,8 @@ use Rattle.lx_types.specs.declared.parts.TheConstants.{MODULE_LIBRARY}
 use Rattle.link_model.specs.Header as header
 use Rattle.link_model.specs.Layout.{objects}
 use Rattle.link_model.specs.Link.{Link}
-use Rattle.lx_model.specs.Gathering.{LibraryFault, MOST_MODULES, twice_at}
+use Rattle.lx_model.specs.Gathering.{LibraryFault, twice_at}
+use Rattle.lx_types.specs.declared.limits.TheConstants.{MAX_MODULES}
 use Rattle.lx_model.specs.Library.{no_module, module_of, has_name, module_named}
 use Rattle.lx_model.specs.Reading.{first}
 use Rattle.lx_model.specs.declared.library.LibraryRefusal.{LibraryRefusal}
@@ -71,9 +72,9 @@ none_before lib second (Some j) only =
     let at_least : second ≤ j = (let same = only j refl in omega (arith, same)) in
     ap (λ (b : Bool). cond b (Some (NameTwice j second)) None) (le-ltb j second at_least)
 
-few_enough : (lib : List Parts) (rest : Option LibraryRefusal) → length lib ≤ 64 → rest ≡ None → cond (nat_lt MOST_MODULES (length lib)) (Some (TooManyModules (length lib))) rest ≡ None
+few_enough : (lib : List Parts) (rest : Option LibraryRefusal) → length lib ≤ 64 → rest ≡ None → cond (nat_lt MAX_MODULES (length lib)) (Some (TooManyModules (length lib))) rest ≡ None
 few_enough lib rest few none =
-    ap (λ (b : Bool). cond b (Some (TooManyModules (length lib))) rest) (le-ltb MOST_MODULES (length lib) few) ∙ none
+    ap (λ (b : Bool). cond b (Some (TooManyModules (length lib))) rest) (le-ltb MAX_MODULES (length lib) few) ∙ none
 
 by_names : (lib : List Parts) → length lib ≤ 64 → ((i : ℕ) → i < length lib → Stands lib i (1 + i)) → LibraryFault lib ≡ None
 unfolding LibraryFault

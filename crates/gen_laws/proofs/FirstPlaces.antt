@@ -1,11 +1,11 @@
--- Where the first modules stand: module m at 10000000h and m times 10000h, each behind those before it.
+-- Where the first modules stand: module m at 10000000h and m times 10000h, each after those before it.
 use Rattle.std.specs.Prelude.{◌≡◌, ℕ, zero, suc, ◌+◌, ◌-◌, ◌*◌, ◌/◌, ◌<◌, ◌≤◌, ◌==◌, Bool, true, false, List, [], ◌∷◌, ◌++◌, Some, Ok, find, if◌then◌else◌, length, map, zip, refl}
 use Rattle.std.specs.List.{list_all, range_with_len}
 use Rattle.std.proofs.Common.{ap, sym, ◌∙◌, arith}
 use Rattle.std.proofs.lemmas.Bool.Decides.{nat_tests}
 use Rattle.std.proofs.lemmas.List.FromFn.{map-range_with_len_more}
 use Rattle.std.proofs.lemmas.Bool.{and_right, and_left}
-use Rattle.lx_types.specs.Addresses.{UNIT, SHARED_FROM}
+use Rattle.lx_types.specs.declared.limits.TheConstants.{BASE_UNIT, SHARED_FROM}
 use Rattle.lx_types.specs.declared.object.ObjHead.{ObjHead}
 use Rattle.lx_types.specs.declared.parts.Parts.{Parts}
 use Rattle.base_pick.specs.declared.occupied.AddressRange.{AddressRange}
@@ -26,7 +26,7 @@ use Rattle.gen_laws.proofs.FirstShape.{the_object}
 -- ---- the places
 
 abbrev pub place : ℕ → ℕ
-place m = SHARED_FROM + m * UNIT
+place m = SHARED_FROM + m * BASE_UNIT
 
 abbrev taken_by : ℕ → AddressRange
 taken_by m = range_at (place m) 8192
@@ -97,7 +97,7 @@ found_place : (m : ℕ) → m < 64 → find (is_place shared_arena (taken m) 819
 found_place zero h = found_here (is_place shared_arena (taken 0) 8192) (place 0) (bases_in shared_arena) (free 0 h)
 found_place (suc m) h =
     found_after (is_place shared_arena (taken (suc m)) 8192) (place 0) (bases_in shared_arena) (not_free (suc m) 0 (omega arith))
-    ∙ found_first (is_place shared_arena (taken (suc m)) 8192) place 0 ((shared_arena.to - shared_arena.from) / UNIT) (suc m) (omega arith) (omega (arith, h)) (λ j before. not_free (suc m) j before) (free (suc m) h)
+    ∙ found_first (is_place shared_arena (taken (suc m)) 8192) place 0 ((shared_arena.to - shared_arena.from) / BASE_UNIT) (suc m) (omega arith) (omega (arith, h)) (λ j before. not_free (suc m) j before) (free (suc m) h)
 
 -- ---- the bases of one module
 

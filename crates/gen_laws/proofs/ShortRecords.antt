@@ -11,7 +11,8 @@ use Rattle.lx_types.specs.declared.fix.FixTarget.TheVariants as targets
 use Rattle.lx_types.specs.declared.fix.Source.{Source}
 use Rattle.lx_types.specs.declared.fix.Source.TheVariants.{Sel}
 use Rattle.lx_model.specs.JoinedRecords.{begins, by_offset, inserted, listed_behind, record_of, records_for}
-use Rattle.lx_model.specs.RecordFields.{ADDITIVE, BYTE_ORDINAL, WIDE_ADDITIVE, WIDE_NUMBER, WIDE_TARGET, additive_width, has, number_width, ordinal_width, target_width}
+use Rattle.lx_model.specs.RecordFields.{additive_width, has, number_width, ordinal_width, target_width}
+use Rattle.lx_model.specs.declared.record_fields.TheConstants.{ADDITIVE, BYTE_ORDINAL, WIDE_ADDITIVE, WIDE_NUMBER, WIDE_TARGET}
 use Rattle.lx_model.specs.RecordSpelling.{CountFits, RecordFits, Written, additive_spelling, fields_spelling, flags_byte, internal_spelling, offset_spelling, offsets_spelling, record_spelling, target_spelling}
 use Rattle.link_model.specs.Fixups.{Fixup}
 use Rattle.link_model.specs.Mean.{live, overlap}

@@ -19,7 +19,7 @@ pairs_of_numbers R f n h i j d less within =
     let second = get_or-map-range_with_len f 0 n j j d below (omega arith) in
     rw (first, second) (h i j less below)
 
--- so many numbers, and those behind them
+-- so many numbers, and those after them
 pub numbers_apart : {X : Type 0} (f : ℕ → X) (a m n both behind : ℕ) → m + n ≡ both → a + m ≡ behind
     → map f (range_with_len a both) ≡ map f (range_with_len a m) ++ map f (range_with_len behind n)
 numbers_apart f a zero n both behind all from =

@@ -16,25 +16,14 @@ use Rattle.obj_types.specs.declared.object.Group.{Group}
 use Rattle.obj_types.specs.declared.object.ObjModule.{ObjModule}
 use Rattle.obj_types.specs.declared.object.Piece.{Piece}
 use Rattle.obj_types.specs.declared.object.Seg.{Seg}
+use Rattle.obj_types.specs.declared.location.TheConstants.{LOCATION_OFFSET_32}
+use Rattle.obj_types.specs.declared.object.TheConstants.{ALIGN_DOUBLEWORD, COMBINE_PUBLIC}
 use Rattle.obj_types.specs.declared.symbol.Exp.{Exp}
 use Rattle.obj_types.specs.declared.symbol.Ext.{Ext}
 use Rattle.obj_types.specs.declared.symbol.Imp.{Imp}
 use Rattle.obj_types.specs.declared.symbol.Pub.{Pub}
 use Rattle.obj_types.specs.declared.symbol.PubPlace.TheVariants.{In}
-
--- ---- sizes, in bytes: of the segment and of each of its pieces of data; and how many references there are
-
-abbrev pub SEGMENT_LEN : ℕ
-SEGMENT_LEN = 8192
-
-abbrev pub PIECE_LEN : ℕ
-PIECE_LEN = 1024
-
-abbrev pub PIECES : ℕ
-PIECES = 8
-
-abbrev pub REFERENCES : ℕ
-REFERENCES = 2048
+use Rattle.gen_model.specs.declared.numbers.TheConstants.{SEGMENT_LEN, PIECE_LEN, PIECES, REFERENCES}
 
 -- ---- names
 
@@ -54,7 +43,16 @@ refers k = nat_lt 1 k
 
 -- 32-bit public code on doublewords
 abbrev pub code_segment : Seg
-code_segment = record { name = codes "CODE32"; class = codes "CODE"; align = 5; combine = 2; wide = true; len = SEGMENT_LEN; debug = false }
+code_segment =
+    record {
+      name = codes "CODE32";
+      class = codes "CODE";
+      align = ALIGN_DOUBLEWORD;
+      combine = COMBINE_PUBLIC;
+      wide = true;
+      len = SEGMENT_LEN;
+      debug = false;
+    }
 
 abbrev pub flat_group : Group
 flat_group = record { name = codes "FLAT"; members = [] }
@@ -79,9 +77,18 @@ zero_piece j = record { seg = 1; offset = PIECE_LEN * j; bytes = replicate PIECE
 abbrev pub goal_of : ℕ → ℕ → Goal
 goal_of k i = if refers k && i == 0 then goals.Ext 1 else goals.Seg 1
 
--- Doubleword i, in the frame FLAT: the 32-bit offset of its own place, or of the external, behind which it stands 0 bytes.
+-- Doubleword i, in the frame FLAT: the 32-bit offset of its own place, or of the place 0 bytes after the external.
 abbrev pub reference : ℕ → ℕ → FixAt
-reference k i = record { seg = 1; offset = 4 * i; loc = 9; selfrel = false; frame = frames.Group 1; goal = goal_of k i; disp = 4 * i }
+reference k i =
+    record {
+      seg = 1;
+      offset = 4 * i;
+      loc = LOCATION_OFFSET_32;
+      selfrel = false;
+      frame = frames.Group 1;
+      goal = goal_of k i;
+      disp = 4 * i;
+    }
 
 abbrev pub externals_of : ℕ → List Ext
 externals_of k = if refers k then external_before k ∷ [] else []

@@ -9,7 +9,9 @@ use Rattle.session_model.specs.declared.sessions.ModLine.{ModLine}
 use Rattle.session_model.specs.declared.sessions.ModLine.TheVariants.{Build}
 use Rattle.session_model.specs.declared.sessions.Script.{Script}
 use Rattle.session_model.specs.declared.sessions.Session.{Session}
-use Rattle.gen_model.specs.Modules.{SEGMENT_LEN, module_name}
+use Rattle.gen_model.specs.declared.numbers.TheConstants.{SEGMENT_LEN}
+use Rattle.gen_model.specs.declared.numbers.TheConstants.{PROCESSES, FRONT_LEN}
+use Rattle.gen_model.specs.Modules.{module_name}
 
 -- ---- names of files
 
@@ -32,13 +34,6 @@ abbrev pub build_line : List ℕ → ℕ → ModLine
 build_line prefix k = Build (module_name k) (definition_name prefix k) (object_name prefix k ∷ [])
 
 -- ---- scripts
-
-abbrev pub PROCESSES : ℕ
-PROCESSES = 4
-
--- how many bytes of a module are read
-abbrev pub FRONT_LEN : ℕ
-FRONT_LEN = 16
 
 -- the first bytes of a module's object
 abbrev pub front_of : ℕ → ℕ → Place

@@ -1,5 +1,5 @@
 -- What the generator tells of its modules: how many pages and record sources they have, and the sum of their 32-bit words in
--- memory, where they stand one behind the other as a process finds them that loads the last.
+-- memory, where they stand one after the other as a process finds them that loads the last.
 use Rattle.std.specs.Prelude.{◌≡◌, ℕ, ◌+◌, ◌*◌, ◌/◌, ◌%◌, ◌^◌, suc, List, [], ◌∷◌, ◌++◌, codes, decimal, length, map, sum, sum_by, None, Ok}
 use Rattle.std.specs.Int.{w32, from_le_bytes}
 use Rattle.std.specs.List.{enumerate_from, flat_map, range_with_len}

@@ -1,6 +1,7 @@
 -- Worked values of the modules: what stands in them by the description, word for word.
 use Rattle.std.specs.Prelude.{◌≡◌, ℕ, false, [], ◌∷◌, ◌++◌, codes, length, None}
 use Rattle.lx_types.specs.declared.entry.EntryKey.TheVariants.{Ordinal}
+use Rattle.obj_types.specs.declared.location.TheConstants.{LOCATION_OFFSET_32}
 use Rattle.obj_types.specs.declared.object.FixAt.{FixAt}
 use Rattle.obj_types.specs.declared.object.Frame.TheVariants as frames
 use Rattle.obj_types.specs.declared.object.Goal.{Goal}
@@ -9,7 +10,7 @@ use Rattle.gen_model.specs.Modules.{reference, gen_pieces, gen_object, definitio
 
 -- a reference of 32 bits at an offset
 abbrev pub offset_32 : ℕ → Goal → FixAt
-offset_32 offset goal = record { seg = 1; offset = offset; loc = 9; selfrel = false; frame = frames.Group 1; goal = goal; disp = offset }
+offset_32 offset goal = record { seg = 1; offset = offset; loc = LOCATION_OFFSET_32; selfrel = false; frame = frames.Group 1; goal = goal; disp = offset }
 
 pub record WorkedModules : Type 0 where
   -- the first doubleword of the first module refers to itself, and that of the second to the module before it

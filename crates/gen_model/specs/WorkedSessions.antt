@@ -1,6 +1,6 @@
 -- Worked values: the text of the session of one module, and how that of two begins and what its first script is.
 use Rattle.std.specs.Prelude.{◌≡◌, ℕ, List, [], ◌∷◌, ◌++◌, codes}
-use Rattle.session_spelling.specs.Sessions.{session_bytes, script_lines}
+use Rattle.session_model.specs.Spelling.{session_bytes, script_lines}
 use Rattle.gen_model.specs.Sessions.{gen_session, gen_script, object_name, definition_name, session_name}
 
 abbrev pub ln : List ℕ → List ℕ

@@ -6,12 +6,14 @@ use Rattle.std.proofs.lemmas.Bool.{cases_lt, le-leb, le-ltb}
 use Rattle.lx_types.specs.declared.refusal.LxRefusal.{LxRefusal}
 use Rattle.lx_types.specs.declared.refusal.LxKind.TheVariants.{Short, Field}
 use Rattle.lx_types.specs.Sound.{IsNumberOf}
+use Rattle.lx_types.specs.declared.limits.TheConstants.{MAX_PAGES, MAX_OBJECTS}
+use Rattle.lx_model.specs.declared.lengths.TheConstants.{HEADER_LEN}
+use Rattle.lx_model.specs.declared.header_fields.TheConstants.{EIP_OBJECT, MODULE_FLAGS, MODULE_PAGES, OBJECT_COUNT}
 use Rattle.lx_model.specs.Reading.{fault, number_at, short_at, first, ◌then◌, fault_of}
-use Rattle.lx_model.specs.Header.{Row, row_fault, rows, header_place, field, place_fault, header_fault, object_count, start_fault, is_module_flags, MOST_PAGES, MOST_OBJECTS}
+use Rattle.lx_model.specs.Header.{Row, row_fault, rows, header_place, field, place_fault, header_fault, object_count, start_fault, is_module_flags}
 use Rattle.lx_model.specs.NameTables.{Named, lacks_name, resident_fault, others_fault, imports_fault}
 use Rattle.lx_model.specs.EntryTable.{entries_fault}
 use Rattle.image_model.specs.Image.{Image}
-use Rattle.image_model.specs.Sections.{HEADER_LEN}
 use Rattle.image_model.specs.File.{file_of, header_fields_of, object_field}
 use Rattle.image_model.specs.ReadBack.{ImageFits}
 use Rattle.image_model.proofs.Fields.{tables, place_read}
@@ -63,7 +65,8 @@ record Good (file : List ℕ) (r : Row) : Type 0 where
 row_good : (file : List ℕ) (r : Row) → HEADER_LEN ≤ length file → Good file r → row_fault file 0 r ≡ None
 row_good file r long good =
     let inside = good.within in
-    otherwise (nat_lt (length file) (0 + r.offset + r.width)) (Some (fault Short (0 + r.offset))) (if r.allows (number_at r.width file (0 + r.offset)) then None else Some (fault r.kind (0 + r.offset))) (le-ltb (length file) (0 + r.offset + r.width) (omega (arith, long, inside)))
+    otherwise (nat_lt (length file) (0 + r.offset + r.width)) (Some (fault Short (0 + r.offset))) (if r.allows (number_at r.width file (0 + r.offset))
+    then None else Some (fault r.kind (0 + r.offset))) (le-ltb (length file) (0 + r.offset + r.width) (omega (arith, long, inside)))
     ∙ then_this (r.allows (number_at r.width file (0 + r.offset))) None (Some (fault r.kind (0 + r.offset))) good.allowed
 
 rows_good : (file : List ℕ) (rs : List Row) → HEADER_LEN ≤ length file → Each (Good file) rs → Each (λ r. row_fault file 0 r ≡ None) rs
@@ -77,14 +80,14 @@ by_place : (m : Image) (offset : ℕ) → number_at 4 (file_of m) (0 + offset) �
 unfolding field
 by_place m offset = ap (λ (n : ℕ). number_at 4 (file_of m) (n + offset)) (sym (place_read m))
 
-flags_allowed : (m : Image) → ImageFits m → is_module_flags (number_at 4 (file_of m) (0 + 0x10)) ≡ true
-flags_allowed m fits = ap is_module_flags (by_place m 0x10 ∙ (tables m fits).flags) ∙ fits.kind
+flags_allowed : (m : Image) → ImageFits m → is_module_flags (number_at 4 (file_of m) (0 + MODULE_FLAGS)) ≡ true
+flags_allowed m fits = ap is_module_flags (by_place m MODULE_FLAGS ∙ (tables m fits).flags) ∙ fits.kind
 
-pages_allowed : (m : Image) → ImageFits m → nat_le (number_at 4 (file_of m) (0 + 0x14)) MOST_PAGES ≡ true
-pages_allowed m fits = ap (λ (n : ℕ). nat_le n MOST_PAGES) (by_place m 0x14 ∙ (tables m fits).page_number) ∙ le-leb (length m.pages) MOST_PAGES fits.few_pages
+pages_allowed : (m : Image) → ImageFits m → nat_le (number_at 4 (file_of m) (0 + MODULE_PAGES)) MAX_PAGES ≡ true
+pages_allowed m fits = ap (λ (n : ℕ). nat_le n MAX_PAGES) (by_place m MODULE_PAGES ∙ (tables m fits).page_number) ∙ le-leb (length m.pages) MAX_PAGES fits.few_pages
 
-objects_allowed : (m : Image) → ImageFits m → nat_le (number_at 4 (file_of m) (0 + 0x44)) MOST_OBJECTS ≡ true
-objects_allowed m fits = ap (λ (n : ℕ). nat_le n MOST_OBJECTS) (by_place m 0x44 ∙ (tables m fits).object_number) ∙ le-leb (length m.objects) MOST_OBJECTS fits.few_objects
+objects_allowed : (m : Image) → ImageFits m → nat_le (number_at 4 (file_of m) (0 + OBJECT_COUNT)) MAX_OBJECTS ≡ true
+objects_allowed m fits = ap (λ (n : ℕ). nat_le n MAX_OBJECTS) (by_place m OBJECT_COUNT ∙ (tables m fits).object_number) ∙ le-leb (length m.objects) MAX_OBJECTS fits.few_objects
 
 all_good : (m : Image) → ImageFits m → Each (Good (file_of m)) rows
 unfolding file_of header_fields_of
@@ -128,5 +131,6 @@ pub start_faultless : (m : Image) → ImageFits m → start_fault (file_of m) �
 start_faultless m fits =
     let file = file_of m in
     let t = tables m fits in
-    then_this (nat_le (field file 0x18) (object_count file)) None (Some (fault Field (header_place file + 0x18)))
-    (ap (λ (n : ℕ). nat_le n (object_count file)) t.start_object ∙ ap (λ (n : ℕ). nat_le (object_field m.start) n) t.object_number ∙ le-leb (object_field m.start) (length m.objects) (start_there (length m.objects) m.start fits.start))
+    then_this (nat_le (field file EIP_OBJECT) (object_count file)) None (Some (fault Field (header_place file + EIP_OBJECT)))
+    (ap (λ (n : ℕ). nat_le n (object_count file)) t.start_object ∙ ap (λ (n : ℕ). nat_le (object_field m.start) n) t.object_number
+    ∙ le-leb (object_field m.start) (length m.objects) (start_there (length m.objects) m.start fits.start))

@@ -10,7 +10,8 @@ use Rattle.link_model.specs.Header.{module_name}
 use Rattle.link_model.specs.Layout.{objects}
 use Rattle.link_model.specs.Records.{page_count}
 use Rattle.lx_model.specs.Reading.{value_or}
-use Rattle.lx_model.specs.EntryTable.{Numbered, LAST_ORDINAL}
+use Rattle.lx_model.specs.EntryTable.{Numbered}
+use Rattle.lx_model.specs.declared.limits.TheConstants.{MAX_ORDINAL}
 use Rattle.lx_model.specs.Bundles.{Bundle, unused, narrow, gates, wide, forwarders, ordinal_count, ordinals_together, entries_after, BundleFits}
 use Rattle.lx_model.specs.ExportTables.{Exported, empty, narrow_at, gate_at, wide_at, forwarder, slots_of, slot_or_empty, export_at, greatest, AreBundlesOf, entries_by_ordinal}
 use Rattle.lx_model.specs.JoinedEntries.{bundles_for}
@@ -50,9 +51,9 @@ greatest_is : (xs : List Exported) (bs : List Bundle) → AreBundlesOf xs bs →
 greatest_is xs bs are = sym (mapped (λ n. slot_or_empty (export_at xs n)) (range_with_len 1 (greatest xs)) ∙ ranged 1 (greatest xs)) ∙ sym (ap length are.each) ∙ slots_together bs
 
 -- the entries of bundles that are those of exports
-entries_are : (objects imports : ℕ) (xs : List Exported) (bs : List Bundle) → AreBundlesOf xs bs → Each (BundleFits objects imports) bs → ordinals_together bs ≤ LAST_ORDINAL → entries_after 0 bs ≡ entries_by_ordinal xs
+entries_are : (objects imports : ℕ) (xs : List Exported) (bs : List Bundle) → AreBundlesOf xs bs → Each (BundleFits objects imports) bs → ordinals_together bs ≤ MAX_ORDINAL → entries_after 0 bs ≡ entries_by_ordinal xs
 entries_are objects imports xs bs are fits few =
-    let most : greatest xs ≤ LAST_ORDINAL = omega (arith, few, greatest_is xs bs are) in
+    let most : greatest xs ≤ MAX_ORDINAL = omega (arith, few, greatest_is xs bs are) in
     ap (λ (r : Result (List Numbered) LxRefusal). value_or [] r) (sym (table_reads objects imports bs [] fits few) ∙ exports_again objects imports xs bs [] are fits most)
 
 -- ---- the link

@@ -8,6 +8,7 @@ use Rattle.lx_types.specs.declared.object.PageHead.{PageHead}
 use Rattle.lx_types.specs.declared.object.TheConstants.{PAGE_SIZE}
 use Rattle.lx_types.specs.declared.refusal.LxRefusal.{LxRefusal}
 use Rattle.lx_types.specs.declared.refusal.LxKind.TheVariants as kinds
+use Rattle.lx_model.specs.declared.lengths.TheConstants.{PAGE_ENTRY_LEN}
 use Rattle.lx_model.specs.Reading.{fault, short_at, ◌then◌, placed, fault_of}
 use Rattle.lx_model.specs.Header.{page_count}
 use Rattle.lx_model.specs.Iterated.{groups_spelling, expansion}
@@ -38,7 +39,8 @@ ends_inside file at some rest has = omega (arith, has.long, ap length has.spelle
 form_good : (file : List ℕ) (from at : ℕ) (form : PageForm) (rest : List ℕ) → FormFits form → HasFrom file (from + at) (form_data form ++ rest) → IsGood file (placed_page from (page_head at form))
 form_good file from at (plain bytes) rest fits has entry =
     then_this (nat_le (from + at + length bytes) (length file) && nat_le (length bytes) PAGE_SIZE) None (Some (fault kinds.PageData entry))
-    (and_from (nat_le (from + at + length bytes) (length file)) (nat_le (length bytes) PAGE_SIZE) (le-leb (from + at + length bytes) (length file) (ends_inside file (from + at) bytes rest has)) (le-leb (length bytes) PAGE_SIZE fits))
+    (and_from (nat_le (from + at + length bytes) (length file)) (nat_le (length bytes) PAGE_SIZE)
+    (le-leb (from + at + length bytes) (length file) (ends_inside file (from + at) bytes rest has)) (le-leb (length bytes) PAGE_SIZE fits))
 form_good file from at (iterated groups) rest fits has entry =
     let bytes = groups_spelling groups in
     then_this (nat_le (from + at + length bytes) (length file)) (fault_of (placed (from + at) (expansion (span file (from + at) (from + at + length bytes))))) (Some (fault kinds.PageData entry))
@@ -71,7 +73,7 @@ entries_good m fits =
 
 -- ---- entries
 
-pub pages_long : (ps : List PageHead) → length (pages_spelling ps) ≡ 8 * length ps
+pub pages_long : (ps : List PageHead) → length (pages_spelling ps) ≡ PAGE_ENTRY_LEN * length ps
 pages_long [] = refl
 pages_long (p ∷ ps) = omega (arith, length-append (page_spelling p) (pages_spelling ps), pages_long ps)
 

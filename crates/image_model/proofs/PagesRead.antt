@@ -6,6 +6,8 @@ use Rattle.lx_types.specs.Object.{zero_page}
 use Rattle.lx_types.specs.declared.object.PageHead.{PageHead}
 use Rattle.lx_types.specs.declared.object.PageKind.{PageKind}
 use Rattle.lx_types.specs.declared.object.PageKind.TheVariants.{Plain, Iterated, Invalid, Zero}
+use Rattle.lx_model.specs.declared.lengths.TheConstants.{PAGE_ENTRY_LEN}
+use Rattle.lx_model.specs.declared.header_fields.TheConstants.{PAGE_OFFSET_SHIFT, ITERATED_PAGES, DATA_PAGES}
 use Rattle.lx_model.specs.Reading.{number_at}
 use Rattle.lx_model.specs.Header.{field, page_count}
 use Rattle.lx_model.specs.Iterated.{groups_spelling}
@@ -50,12 +52,13 @@ placed_by plain_from iterated_from shift page = elim page.kind [
 ]
 
 abbrev entry_by : List ℕ → ℕ → Option PageHead
-entry_by file at = option_map (placed_by (field file 0x80) (field file 0x4C) (field file 0x2C)) (page_fields file at)
+entry_by file at = option_map (placed_by (field file DATA_PAGES) (field file ITERATED_PAGES) (field file PAGE_OFFSET_SHIFT)) (page_fields file at)
 
 entry_is : (file : List ℕ) (at : ℕ) → page_entry file at ≡ entry_by file at
 entry_is file at = by_kind (page_kind (number_at 2 file (at + 6)))
   where
-    by_kind : (kind : Option PageKind) → page_of_kind file at kind ≡ option_map (placed_by (field file 0x80) (field file 0x4C) (field file 0x2C)) (option_map (λ k. record { kind = k; at = number_at 4 file at; len = number_at 2 file (at + 4) }) kind)
+    by_kind : (kind : Option PageKind) → page_of_kind file at kind ≡ option_map (placed_by (field file DATA_PAGES) (field file ITERATED_PAGES)
+        (field file PAGE_OFFSET_SHIFT)) (option_map (λ k. record { kind = k; at = number_at 4 file at; len = number_at 2 file (at + 4) }) kind)
     by_kind None = refl
     by_kind (Some Plain) = refl
     by_kind (Some Iterated) = refl
@@ -63,7 +66,7 @@ entry_is file at = by_kind (page_kind (number_at 2 file (at + 6)))
     by_kind (Some Zero) = refl
 
 abbrev placed_in : List ℕ → PageHead → PageHead
-placed_in file page = placed_by (field file 0x80) (field file 0x4C) (field file 0x2C) page
+placed_in file page = placed_by (field file DATA_PAGES) (field file ITERATED_PAGES) (field file PAGE_OFFSET_SHIFT) page
 
 entries_are : (file : List ℕ) (place : ℕ → ℕ) (ks : List ℕ) → map (λ k. page_entry file (place k)) ks ≡ map (option_map (placed_in file)) (map (λ k. page_fields file (place k)) ks)
 entries_are file place [] = refl
@@ -75,7 +78,7 @@ somes : (file : List ℕ) (ps : List PageHead) → map (option_map (placed_in fi
 somes file [] = refl
 somes file (p ∷ ps) = ap (λ (qs : List (Option PageHead)). Some (placed_in file p) ∷ qs) (somes file ps)
 
--- of an image: all data stands behind one place, and nothing is shifted
+-- of an image: all data stands after one place, and nothing is shifted
 heads_placed : (from : ℕ) (forms : List PageForm) (at : ℕ) → map (placed_by from from 0) (page_heads_from at forms) ≡ map (placed_page from) (page_heads_from at forms)
 heads_placed from [] at = refl
 heads_placed from (form ∷ forms) at =
@@ -107,15 +110,15 @@ page_entries_read m fits =
     let heads = page_heads_from 0 m.pages in
     let t = tables m fits in
     let number : page_count file ≡ length heads = t.page_number ∙ sym (heads_long m.pages 0) in
-    ap (λ (n : ℕ). map (λ k. page_entry file (n + 8 * k)) (range_with_len 0 (page_count file))) t.pages
-    ∙ ap (λ (n : ℕ). map (λ k. page_entry file (pages_at s + 8 * k)) (range_with_len 0 n)) number
-    ∙ entries_are file (λ k. pages_at s + 8 * k) (range_with_len 0 (length heads))
-    ∙ ap (λ (n : ℕ). map (option_map (placed_in file)) (map (λ k. page_fields file (n + 8 * k)) (range_with_len 0 (length heads)))) (sym has.long)
-    ∙ ap (λ (ys : List ℕ). map (option_map (placed_in file)) (map (λ k. page_fields ys (length has.before + 8 * k)) (range_with_len 0 (length heads)))) has.spelled
+    ap (λ (n : ℕ). map (λ k. page_entry file (n + PAGE_ENTRY_LEN * k)) (range_with_len 0 (page_count file))) t.pages
+    ∙ ap (λ (n : ℕ). map (λ k. page_entry file (pages_at s + PAGE_ENTRY_LEN * k)) (range_with_len 0 n)) number
+    ∙ entries_are file (λ k. pages_at s + PAGE_ENTRY_LEN * k) (range_with_len 0 (length heads))
+    ∙ ap (λ (n : ℕ). map (option_map (placed_in file)) (map (λ k. page_fields file (n + PAGE_ENTRY_LEN * k)) (range_with_len 0 (length heads)))) (sym has.long)
+    ∙ ap (λ (ys : List ℕ). map (option_map (placed_in file)) (map (λ k. page_fields ys (length has.before + PAGE_ENTRY_LEN * k)) (range_with_len 0 (length heads)))) has.spelled
     ∙ ap (λ (os : List (Option PageHead)). map (option_map (placed_in file)) os) (pages_again has.before heads (from_residents s) (heads_fit m.pages 0 fits.pages (contents_short m fits)))
     ∙ somes file heads
-    ∙ ap (λ (n : ℕ). map Some (map (placed_by n (field file 0x4C) (field file 0x2C)) heads)) t.contents
-    ∙ ap (λ (n : ℕ). map Some (map (placed_by (data_at s) n (field file 0x2C)) heads)) t.iterated
+    ∙ ap (λ (n : ℕ). map Some (map (placed_by n (field file ITERATED_PAGES) (field file PAGE_OFFSET_SHIFT)) heads)) t.contents
+    ∙ ap (λ (n : ℕ). map Some (map (placed_by (data_at s) n (field file PAGE_OFFSET_SHIFT)) heads)) t.iterated
     ∙ ap (λ (n : ℕ). map Some (map (placed_by (data_at s) (data_at s) n) heads)) t.shift
     ∙ ap (λ (ps : List PageHead). map Some ps) (heads_placed (data_at s) m.pages 0)
 

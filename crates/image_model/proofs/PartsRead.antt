@@ -7,6 +7,7 @@ use Rattle.lx_types.specs.declared.object.PageHead.{PageHead}
 use Rattle.lx_types.specs.declared.parts.Parts.{Parts}
 use Rattle.lx_types.specs.declared.refusal.LxRefusal.{LxRefusal}
 use Rattle.lx_types.specs.Sound.{IsNumberOf}
+use Rattle.lx_model.specs.declared.header_fields.TheConstants.{EIP}
 use Rattle.lx_model.specs.Reading.{value_or}
 use Rattle.lx_model.specs.Header.{field, start_of}
 use Rattle.lx_model.specs.EntryTable.{Numbered}
@@ -32,7 +33,7 @@ start_read : (m : Image) → ImageFits m → start_of (file_of m) ≡ m.start
 unfolding start_by
 start_read m fits =
     let t = tables m fits in
-    ap (λ (n : ℕ). start_by n (field (file_of m) 0x1C)) t.start_object
+    ap (λ (n : ℕ). start_by n (field (file_of m) EIP)) t.start_object
     ∙ ap (λ (n : ℕ). start_by (object_field m.start) n) t.start_offset
     ∙ started (length m.objects) m.start fits.start
 

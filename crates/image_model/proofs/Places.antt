@@ -1,8 +1,9 @@
 -- Sections lie in the file: their places and sizes have 32 bits where the file's length has.
 use Rattle.std.proofs.Common.{◌≡◌, ℕ, ◌+◌, List, ◌++◌, length, refl, ap, ◌∙◌, length-append}
+use Rattle.lx_model.specs.declared.lengths.TheConstants.{HEADER_LEN}
 use Rattle.lx_model.specs.TableSpelling.{header_spelling}
 use Rattle.image_model.specs.Image.{Image}
-use Rattle.image_model.specs.Sections.{Sections, sections, HEADER_LEN}
+use Rattle.image_model.specs.Sections.{Sections, sections}
 use Rattle.image_model.specs.File.{header_fields_of, sections_bytes, file_of}
 
 -- The lengths of all sections.

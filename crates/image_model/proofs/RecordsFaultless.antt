@@ -7,6 +7,7 @@ use Rattle.lx_types.specs.declared.fix.Fix.{Fix}
 use Rattle.lx_types.specs.declared.fix.FixTarget.{FixTarget}
 use Rattle.lx_types.specs.declared.refusal.LxRefusal.{LxRefusal}
 use Rattle.lx_types.specs.declared.refusal.LxKind.TheVariants.{BadTarget}
+use Rattle.lx_model.specs.declared.header_fields.TheConstants.{IMPORT_PROCEDURE_TABLE}
 use Rattle.lx_model.specs.Reading.{fault, first, ◌then◌, first_of, Many, fault_of, value_or}
 use Rattle.lx_model.specs.Header.{table, page_count, import_count}
 use Rattle.lx_model.specs.EntryTable.{Numbered, entries_of}
@@ -48,7 +49,8 @@ items_good within [] there = tt
 items_good within (r ∷ items) there =
     let others = flat_map (λ x. x.fixes) items in
     let parts = subst (λ (ts : List FixTarget). Each (IsThere within) ts) (split r.fixes others) there in (
-      none_first (λ f. if is_target within f.target then None else Some (fault BadTarget r.at)) r.fixes (fixes_good within r.at r.fixes (all_front (IsThere within) (map (λ f. f.target) r.fixes) (map (λ f. f.target) others) parts)),
+      none_first (λ f. if is_target within f.target then None else Some (fault BadTarget r.at)) r.fixes
+          (fixes_good within r.at r.fixes (all_front (IsThere within) (map (λ f. f.target) r.fixes) (map (λ f. f.target) others) parts)),
       items_good within items (all_back (IsThere within) (map (λ f. f.target) r.fixes) (map (λ f. f.target) others) parts),
     )
 
@@ -80,8 +82,8 @@ targets_are : (m : Image) → ImageFits m → targets_in (file_of m) ≡ targets
 targets_are m fits =
     let file = file_of m in
     let t = tables m fits in
-    ap (λ (n : ℕ). targets_by n (import_count file) file (table file 0x78) (value_or [] (entries_of file))) t.object_number
-    ∙ ap (λ (n : ℕ). targets_by (length m.objects) n file (table file 0x78) (value_or [] (entries_of file))) t.import_number
+    ap (λ (n : ℕ). targets_by n (import_count file) file (table file IMPORT_PROCEDURE_TABLE) (value_or [] (entries_of file))) t.object_number
+    ∙ ap (λ (n : ℕ). targets_by (length m.objects) n file (table file IMPORT_PROCEDURE_TABLE) (value_or [] (entries_of file))) t.import_number
     ∙ ap (λ (n : ℕ). targets_by (length m.objects) (length m.imports) file n (value_or [] (entries_of file))) t.procs
     ∙ ap (λ (r : Result (List Numbered) LxRefusal). targets_by (length m.objects) (length m.imports) file (procs_at (sections m)) (value_or [] r)) (sections_read m fits).entries
 

@@ -33,7 +33,8 @@ spanned file at some rest has =
     ∙ take_at some rest (length some) refl
 
 -- The records of a page, where they stand.
-pub page_means : (file : List ℕ) (at : ℕ) (page : List Written) (rest : List ℕ) → HasFrom file at (page_records page ++ rest) → Each RecordFits page → Means (records_in_span file (at, at + length (page_records page))) (flat_map fixes_written page)
+pub page_means : (file : List ℕ) (at : ℕ) (page : List Written) (rest : List ℕ) → HasFrom file at (page_records page ++ rest) →
+    Each RecordFits page → Means (records_in_span file (at, at + length (page_records page))) (flat_map fixes_written page)
 page_means file at page rest has fits = subst (λ (bytes : List ℕ). Means (records_at at bytes) (flat_map fixes_written page)) (sym (spanned file at (page_records page) rest has)) (records_mean page at fits)
 
 abbrev targets_of_records : Many Record → List FixTarget

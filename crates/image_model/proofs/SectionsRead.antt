@@ -4,6 +4,8 @@ use Rattle.std.specs.Prelude.{◌==◌, if◌then◌else◌, Bool}
 use Rattle.std.specs.List.{flat_map, range_with_len}
 use Rattle.std.proofs.lemmas.List.{take_at}
 use Rattle.lx_types.specs.declared.refusal.LxRefusal.{LxRefusal}
+use Rattle.lx_model.specs.declared.lengths.TheConstants.{OBJECT_ENTRY_LEN}
+use Rattle.lx_model.specs.declared.header_fields.TheConstants.{NONRESIDENT_NAME_TABLE, NONRESIDENT_NAME_LENGTH}
 use Rattle.lx_model.specs.Reading.{placed}
 use Rattle.lx_model.specs.Header.{field, object_count, import_count}
 use Rattle.lx_model.specs.Tables.{object_entry, objects_of}
@@ -44,11 +46,11 @@ others_read m fits =
     let s = sections m in
     let file = file_of m in
     let at = others_at s in
-    let n = field file 0x8C in
+    let n = field file NONRESIDENT_NAME_LENGTH in
     let long : 0 < length s.others = omega (arith, length-append (flat_map name_spelling m.others) (0 ∷ [])) in
     let is_some : (n == 0) ≡ false = ap (λ (k : ℕ). k == 0) (tables m fits).others_length ∙ not_zero (length s.others) long in
     let whole : take (length s.others) s.others ≡ s.others = ap (λ (ys : List ℕ). take (length s.others) ys) (sym (append-nil s.others)) ∙ take_at s.others [] (length s.others) refl in
-    otherwise (n == 0) (Ok []) (placed (field file 0x88) (names_in (take n (drop (field file 0x88) file)))) is_some
+    otherwise (n == 0) (Ok []) (placed (field file NONRESIDENT_NAME_TABLE) (names_in (take n (drop (field file NONRESIDENT_NAME_TABLE) file)))) is_some
     ∙ ap (λ (k : ℕ). placed k (names_in (take n (drop k file)))) (tables m fits).others
     ∙ ap (λ (k : ℕ). placed at (names_in (take k (drop at file)))) (tables m fits).others_length
     ∙ ap (λ (ys : List ℕ). placed at (names_in (take (length s.others) ys))) (dropped file at _ (standing m).others)
@@ -88,10 +90,10 @@ objects_read m fits =
     let s = sections m in
     let file = file_of m in
     let has = (standing m).objects in
-    ap (λ (n : ℕ). map (λ k. object_entry file (n + 24 * k)) (range_with_len 0 (object_count file))) (tables m fits).objects
-    ∙ ap (λ (n : ℕ). map (λ k. object_entry file (objects_at s + 24 * k)) (range_with_len 0 n)) (tables m fits).object_number
-    ∙ ap (λ (n : ℕ). map (λ k. object_entry file (n + 24 * k)) (range_with_len 0 (length m.objects))) (sym has.long)
-    ∙ ap (λ (ys : List ℕ). map (λ k. object_entry ys (length has.before + 24 * k)) (range_with_len 0 (length m.objects))) has.spelled
+    ap (λ (n : ℕ). map (λ k. object_entry file (n + OBJECT_ENTRY_LEN * k)) (range_with_len 0 (object_count file))) (tables m fits).objects
+    ∙ ap (λ (n : ℕ). map (λ k. object_entry file (objects_at s + OBJECT_ENTRY_LEN * k)) (range_with_len 0 n)) (tables m fits).object_number
+    ∙ ap (λ (n : ℕ). map (λ k. object_entry file (n + OBJECT_ENTRY_LEN * k)) (range_with_len 0 (length m.objects))) (sym has.long)
+    ∙ ap (λ (ys : List ℕ). map (λ k. object_entry ys (length has.before + OBJECT_ENTRY_LEN * k)) (range_with_len 0 (length m.objects))) has.spelled
     ∙ objects_again has.before m.objects (from_pages s) fits.objects
 
 pub sections_read : SectionsReadBack

@@ -3,6 +3,7 @@ use Rattle.std.proofs.Common.{◌≡◌, ℕ, suc, ◌+◌, ◌*◌, ◌^◌, �
 use Rattle.std.specs.Prelude.{nat_lt, if◌then◌else◌}
 use Rattle.std.specs.List.{flat_map, range_with_len}
 use Rattle.std.proofs.lemmas.Bool.Decides.{nat_tests}
+use Rattle.lx_model.specs.declared.header_fields.TheConstants.{FIXUP_PAGE_TABLE, FIXUP_RECORD_TABLE}
 use Rattle.lx_model.specs.Reading.{number_at}
 use Rattle.lx_model.specs.Header.{field, table, page_count}
 use Rattle.lx_model.specs.FixupPages.{has_records, records_place, records_span, spans_of}
@@ -71,7 +72,7 @@ yes : (n : ℕ) → 0 < n → nat_lt 0 n ≡ true
 yes n lt = grind (arith, nat_tests)
 
 pub has_some : (m : Image) → ImageFits m → has_records (file_of m) ≡ true
-has_some m fits = yes (field (file_of m) 0x68) (omega (arith, (tables m fits).span_offset))
+has_some m fits = yes (field (file_of m) FIXUP_PAGE_TABLE) (omega (arith, (tables m fits).span_offset))
 
 then_this : {A : Type 0} (b : Bool) (x y : A) → b ≡ true → (if b then x else y) ≡ x
 then_this b x y is = ap (λ (c : Bool). if c then x else y) is
@@ -104,8 +105,8 @@ spans_read m fits =
     let t = tables m fits in
     let none : records_at s + 0 ≡ records_at s = omega arith in
     each_span file (has_some m fits) (range_with_len 0 (page_count file))
-    ∙ ap (λ (n : ℕ). spans_with file (table file 0x68) (table file 0x6C) (range_with_len 0 n)) (t.page_number ∙ sym fits.each)
-    ∙ ap (λ (n : ℕ). spans_with file n (table file 0x6C) (range_with_len 0 (length m.records))) t.spans
+    ∙ ap (λ (n : ℕ). spans_with file (table file FIXUP_PAGE_TABLE) (table file FIXUP_RECORD_TABLE) (range_with_len 0 n)) (t.page_number ∙ sym fits.each)
+    ∙ ap (λ (n : ℕ). spans_with file n (table file FIXUP_RECORD_TABLE) (range_with_len 0 (length m.records))) t.spans
     ∙ ap (λ (n : ℕ). spans_with file (spans_at s) n (range_with_len 0 (length m.records))) t.records
     ∙ spans_by (λ k. number_at 4 file (spans_at s + 4 * k)) (records_at s) m.records 0 0 (offsets_read m fits)
     ∙ ap (λ (n : ℕ). spans_from n m.records) none

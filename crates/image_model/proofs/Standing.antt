@@ -12,7 +12,7 @@ pub record HasFrom (file : List ℕ) (at : ℕ) (rest : List ℕ) : Type 0 where
   pub long : length before ≡ at
   pub spelled : file ≡ before ++ rest
 
--- Behind some of them it has the others.
+-- After some of them it has the others.
 pub behind : (file : List ℕ) (at : ℕ) (some rest : List ℕ) → HasFrom file at (some ++ rest) → HasFrom file (at + length some) rest
 behind file at some rest has = record {
   before = has.before ++ some;

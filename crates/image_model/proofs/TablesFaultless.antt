@@ -6,6 +6,8 @@ use Rattle.std.proofs.lemmas.Bool.{cases_lt, le-ltb, or_from, and_left, and_righ
 use Rattle.lx_types.specs.declared.object.ObjHead.{ObjHead}
 use Rattle.lx_types.specs.declared.refusal.LxKind.TheVariants as kinds
 use Rattle.lx_types.specs.Sound.{HasPages}
+use Rattle.lx_model.specs.declared.lengths.TheConstants.{OBJECT_ENTRY_LEN}
+use Rattle.lx_model.specs.declared.header_fields.TheConstants.{FIXUP_PAGE_TABLE}
 use Rattle.lx_model.specs.Reading.{fault, number_at, short_at, first, ◌then◌}
 use Rattle.lx_model.specs.Header.{table, page_count, object_count}
 use Rattle.lx_model.specs.Tables.{object_entry, object_place, lacks_pages, object_fault, objects_of, objects_fault}
@@ -38,7 +40,7 @@ has_pages pages o (inl none) = none_false (o.count == 0) (o.first == 0 || nat_lt
 has_pages pages o (inr some) =
     both_false (not (o.count == 0)) (o.first == 0) (nat_lt (pages + 1) (o.first + o.count)) (not_zero o.first (omega (arith, some.0))) (le-ltb (pages + 1) (o.first + o.count) some.1)
 
-objects_long : (os : List ObjHead) → length (objects_spelling os) ≡ 24 * length os
+objects_long : (os : List ObjHead) → length (objects_spelling os) ≡ OBJECT_ENTRY_LEN * length os
 objects_long [] = refl
 objects_long (o ∷ os) = omega (arith, length-append (object_spelling o) (objects_spelling os), objects_long os)
 
@@ -55,8 +57,9 @@ object_faultless m fits k below =
     let o = object_entry file at in
     let pages : HasPages (length m.pages) o = each_at (HasPages (length m.pages)) (λ i. object_entry file (object_place file i)) 0 (object_count file) k (entries_have_pages m fits) (omega arith) (omega (arith, below)) in
     let lacks : lacks_pages (page_count file) o ≡ false = ap (λ (n : ℕ). lacks_pages n o) t.page_number ∙ has_pages (length m.pages) o pages in
-    let inside : at + 24 ≤ length file = omega (arith, below, t.objects, t.object_number, file_long m, objects_long m.objects) in
-    otherwise (nat_le (at + 20) (length file) && lacks_pages (page_count file) o) (Some (fault kinds.Object at)) (first (map (λ i. short_at 4 file (at + 4 * i)) (range_with_len 0 6))) (and_right (nat_le (at + 20) (length file)) (lacks_pages (page_count file) o) lacks)
+    let inside : at + OBJECT_ENTRY_LEN ≤ length file = omega (arith, below, t.objects, t.object_number, file_long m, objects_long m.objects) in
+    otherwise (nat_le (at + 20) (length file) && lacks_pages (page_count file) o) (Some (fault kinds.Object at))
+    (first (map (λ i. short_at 4 file (at + 4 * i)) (range_with_len 0 6))) (and_right (nat_le (at + 20) (length file)) (lacks_pages (page_count file) o) lacks)
     ∙ all_none (λ i. short_at 4 file (at + 4 * i)) 0 6 (λ i low high. not_short 4 file (at + 4 * i) (omega (arith, inside, high)))
 
 pub objects_faultless : (m : Image) → ImageFits m → objects_fault (file_of m) ≡ None
@@ -78,7 +81,8 @@ rises number (page ∷ pages) k at j is low high =
       | inr ge ↦ let same : k ≡ j = omega (arith, ge, low) in subst (λ (i : ℕ). number i ≤ number (i + 1)) same (omega (arith, here, next))
     ]
 
-bounded : (number : ℕ → ℕ) (pages : List (List Written)) (k at j : ℕ) → map number (range_with_len k (suc (length pages))) ≡ record_offsets_from at pages → k ≤ j → j ≤ k + length pages → number j ≤ at + length (flat_map page_records pages)
+bounded : (number : ℕ → ℕ) (pages : List (List Written)) (k at j : ℕ) → map number (range_with_len k (suc (length pages))) ≡ record_offsets_from at pages →
+    k ≤ j → j ≤ k + length pages → number j ≤ at + length (flat_map page_records pages)
 unfolding head_of tail_of
 bounded number [] k at j is low high =
     let here : number k ≡ at = ap head_of is in
@@ -105,7 +109,8 @@ in_order file k rise =
     ]
 
 -- records of one page begin where those before end
-rise_at : (file : List ℕ) (from : ℕ) (number : ℕ → ℕ) (pages : List (List Written)) (k : ℕ) → ((i : ℕ) → records_place file i ≡ from + number i) → map number (range_with_len 0 (suc (length pages))) ≡ record_offsets_from 0 pages → k ≤ length pages → 0 < k → records_place file (k - 1) ≤ records_place file k
+rise_at : (file : List ℕ) (from : ℕ) (number : ℕ → ℕ) (pages : List (List Written)) (k : ℕ) → ((i : ℕ) → records_place file i ≡ from + number i) →
+    map number (range_with_len 0 (suc (length pages))) ≡ record_offsets_from 0 pages → k ≤ length pages → 0 < k → records_place file (k - 1) ≤ records_place file k
 rise_at file from number pages k place offsets within some =
     let rise = rises number pages 0 0 (k - 1) offsets (omega arith) (omega (arith, within, some)) in
     let next : number (k - 1 + 1) ≡ number k = ap number (omega (arith, some)) in
@@ -122,7 +127,8 @@ span_faultless m fits k within =
     let number : ℕ → ℕ = λ i. number_at 4 file (spans_at s + 4 * i) in
     let offsets = offsets_read m fits in
     let inside : offset_place file k + 4 ≤ length file = omega (arith, within, t.spans, file_long m, doublewords_long (record_offsets_from 0 m.records), offsets_long m.records 0) in
-    let place : (i : ℕ) → records_place file i ≡ records_at s + number i = λ i. ap (λ (n : ℕ). n + number_at 4 file (table file 0x68 + 4 * i)) t.records ∙ ap (λ (n : ℕ). records_at s + number_at 4 file (n + 4 * i)) t.spans in
+    let place : (i : ℕ) → records_place file i ≡ records_at s + number i =
+    λ i. ap (λ (n : ℕ). n + number_at 4 file (table file FIXUP_PAGE_TABLE + 4 * i)) t.records ∙ ap (λ (n : ℕ). records_at s + number_at 4 file (n + 4 * i)) t.spans in
     let most = bounded number m.records 0 0 k offsets (omega arith) (omega (arith, within)) in
     let ends : records_place file k ≤ length file = omega (arith, place k, most, file_long m) in
     let before : 0 < k → records_place file (k - 1) ≤ records_place file k = rise_at file (records_at s) number m.records k place offsets within in

@@ -1,5 +1,5 @@
 -- The exports of a linked module as its tables tell them.
--- LX: "Entry Table".
+-- "32-bit Linear eXecutable Module Format": "Entry Table".
 use Rattle.std.specs.Prelude.{List, Option, Some, None}
 use Rattle.std.specs.List.{filter_map}
 use Rattle.std.specs.Option.{option_map, option_and_then}

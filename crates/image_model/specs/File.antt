@@ -1,7 +1,8 @@
 -- The one file of a written module: its header and its sections.
--- LX: "LX Header".
+-- "32-bit Linear eXecutable Module Format": "LX Header".
 use Rattle.std.specs.Prelude.{ℕ, List, [], ◌∷◌, ◌++◌, length, Option, Some, None}
 use Rattle.lx_types.specs.declared.object.TheConstants.{PAGE_SIZE}
+use Rattle.lx_model.specs.declared.header_fields.TheConstants.{LX_SIGNATURE}
 use Rattle.lx_model.specs.TableSpelling.{header_spelling}
 use Rattle.image_model.specs.Image.{Image}
 use Rattle.image_model.specs.Sections.{Sections, sections, objects_at, pages_at, residents_at, entries_at, spans_at, records_at, imports_at, procs_at, data_at, others_at, loader_size, fixup_size}
@@ -20,7 +21,7 @@ unfoldable pub header_fields_of : Image → Sections → List ℕ
 header_fields_of m s =
     -- 00h: `LX`, little-endian bytes and words; the format level; an 80386 and OS/2; the module's version; module flags;
     -- the number of pages
-    0x584C ∷ 0 ∷ 0x10002 ∷ 0 ∷ m.flags ∷ length m.pages
+    LX_SIGNATURE ∷ 0 ∷ 0x10002 ∷ 0 ∷ m.flags ∷ length m.pages
     -- 18h, 20h: EIP's object and offset, and ESP's
     ∷ object_field m.start ∷ offset_field m.start ∷ object_field m.stack ∷ offset_field m.stack
     -- 28h: the page size; offsets of pages are not shifted; the sizes of the fixup and loader sections, each with a checksum

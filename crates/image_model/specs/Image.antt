@@ -1,5 +1,5 @@
 -- A written module as a value: what a file says, before any byte of it.
--- LX: "LX Header" to "Non-Resident Name Table".
+-- "32-bit Linear eXecutable Module Format": "LX Header" to "Non-Resident Name Table".
 use Rattle.std.specs.Prelude.{ℕ, List, Option}
 use Rattle.lx_types.specs.declared.object.ObjHead.{ObjHead}
 use Rattle.lx_model.specs.Iterated.{Group}

@@ -1,5 +1,5 @@
 -- The object table of a link: the layout's objects, each with the entries of the page table that are its own.
--- LX: "Object Table".
+-- "32-bit Linear eXecutable Module Format": "Object Table".
 use Rattle.std.specs.Prelude.{ℕ, ◌+◌, ◌==◌, List, [], ◌∷◌, if◌then◌else◌}
 use Rattle.lx_types.specs.declared.object.ObjHead.{ObjHead}
 use Rattle.link_model.specs.declared.symbols.LaidObject.{LaidObject}

@@ -1,5 +1,5 @@
 -- When a page is zero-filled, iterated or plain.
--- LX: "Object Page Table", "Iterated Data Pages".
+-- "32-bit Linear eXecutable Module Format": "Object Page Table", "Iterated Data Pages".
 use Rattle.std.specs.Prelude.{ℕ, ◌*◌, List, [], ◌∷◌, length, map, take, drop, nat_lt, if◌then◌else◌}
 use Rattle.std.specs.List.{range_with_len}
 use Rattle.lx_types.specs.declared.object.TheConstants.{PAGE_SIZE}

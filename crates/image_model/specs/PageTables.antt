@@ -1,5 +1,5 @@
 -- The two tables that have an item for each page: where its data begins, and where its fixup records end.
--- LX: "Object Page Table", "Fixup Page Table".
+-- "32-bit Linear eXecutable Module Format": "Object Page Table", "Fixup Page Table".
 use Rattle.std.specs.Prelude.{ℕ, ◌+◌, List, [], ◌∷◌, length}
 use Rattle.std.specs.List.{flat_map}
 use Rattle.lx_types.specs.Object.{zero_page}
@@ -16,7 +16,7 @@ form_data (plain bytes) = bytes
 form_data (iterated groups) = groups_spelling groups
 form_data zeros = []
 
--- A page's entry, where its data begins so many bytes behind the begin of all page data. One of zeros has offset and size 0.
+-- A page's entry, where its data begins so many bytes after the begin of all page data. One of zeros has offset and size 0.
 abbrev pub page_head : ℕ → PageForm → PageHead
 page_head at (plain bytes) = record { kind = Plain; at = at; len = length bytes }
 page_head at (iterated groups) = record { kind = Iterated; at = at; len = length (groups_spelling groups) }

@@ -7,10 +7,12 @@ use Rattle.lx_types.specs.declared.object.PageKind.TheVariants.{Plain, Iterated,
 use Rattle.lx_types.specs.declared.object.TheConstants.{PAGE_SIZE}
 use Rattle.lx_types.specs.declared.parts.Parts.{Parts}
 use Rattle.lx_types.specs.Sound.{IsNumberOf, HasPages}
+use Rattle.lx_types.specs.declared.limits.TheConstants.{MAX_PAGES, MAX_OBJECTS}
 use Rattle.lx_model.specs.Bundles.{entries_after, ordinals_together, BundleFits}
-use Rattle.lx_model.specs.EntryTable.{LAST_ORDINAL, entries_of}
+use Rattle.lx_model.specs.EntryTable.{entries_of}
+use Rattle.lx_model.specs.declared.limits.TheConstants.{MAX_ORDINAL}
 use Rattle.lx_model.specs.FixupPages.{spans_of}
-use Rattle.lx_model.specs.Header.{MOST_OBJECTS, MOST_PAGES, is_module_flags, header_fields}
+use Rattle.lx_model.specs.Header.{is_module_flags, header_fields}
 use Rattle.lx_model.specs.Iterated.{groups_spelling, groups_data, GroupFits}
 use Rattle.lx_model.specs.Module.{once, is_reference, is_target, Lx, Targets}
 use Rattle.lx_model.specs.NameTables.{first_name, names_after_first, NameFits, ImportFits, resident_names, other_names, import_names}
@@ -24,7 +26,7 @@ use Rattle.image_model.specs.File.{file_of, header_fields_of}
 
 -- ---- pages and records, at their places in the file
 
--- Data stands behind the begin of all page data; a page of zeros has none.
+-- Data stands after the begin of all page data; a page of zeros has none.
 abbrev pub placed_page : ℕ → PageHead → PageHead
 placed_page from page = elim page.kind [
   | Plain ↦ record page { at = from + page.at }
@@ -93,10 +95,10 @@ pub record ImageFits (m : Image) : Type 0 where
   pub auto : m.auto < 2 ^ 32
   pub heap : m.heap < 2 ^ 32
   -- objects, and the pages of each
-  pub few_objects : length m.objects ≤ MOST_OBJECTS
+  pub few_objects : length m.objects ≤ MAX_OBJECTS
   pub objects : AllByRecursion ObjectHeadFits m.objects
   pub own_pages : AllByRecursion (HasPages (length m.pages)) m.objects
-  pub few_pages : length m.pages ≤ MOST_PAGES
+  pub few_pages : length m.pages ≤ MAX_PAGES
   pub pages : AllByRecursion FormFits m.pages
   -- records of each page, and what they name
   pub each : length m.records ≡ length m.pages
@@ -107,7 +109,7 @@ pub record ImageFits (m : Image) : Type 0 where
   pub residents : AllByRecursion NameFits m.residents
   pub others : AllByRecursion NameFits m.others
   pub entries : AllByRecursion (BundleFits (length m.objects) (length m.imports)) m.entries
-  pub ordinals : ordinals_together m.entries ≤ LAST_ORDINAL
+  pub ordinals : ordinals_together m.entries ≤ MAX_ORDINAL
   -- a module's number has 16 bits
   pub few_imports : length m.imports < 2 ^ 16
   pub imports : AllByRecursion ImportFits m.imports

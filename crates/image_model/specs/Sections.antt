@@ -1,14 +1,15 @@
--- The sections of a written file, which stand one behind the other without gaps, and where each begins.
+-- The sections of a written file, which stand one after the other without gaps, and where each begins.
 use Rattle.std.specs.Prelude.{ℕ, ◌+◌, List, length}
 use Rattle.std.specs.List.{flat_map}
 use Rattle.link_model.specs.ImportTables.{name_table}
+use Rattle.lx_model.specs.declared.lengths.TheConstants.{HEADER_LEN}
 use Rattle.lx_model.specs.Bundles.{table_spelling}
 use Rattle.lx_model.specs.NameTables.{names_spelling, import_spelling}
 use Rattle.lx_model.specs.TableSpelling.{doublewords, objects_spelling, pages_spelling}
 use Rattle.image_model.specs.Image.{Image}
 use Rattle.image_model.specs.PageTables.{form_data, page_heads_from, page_records, record_offsets_from}
 
--- In the order in which they stand behind the header.
+-- In the order in which they stand after the header.
 pub record Sections : Type 0 where
   pub objects : List ℕ  -- the object table
   pub pages : List ℕ  -- the object page table
@@ -36,9 +37,6 @@ sections m = record {
 }
 
 -- ---- places in the file; the header stands at its begin
-
-abbrev pub HEADER_LEN : ℕ
-HEADER_LEN = 0xC4
 
 abbrev pub objects_at : Sections → ℕ
 objects_at s = HEADER_LEN

@@ -14,7 +14,7 @@ pub fn one_object_file()
     ensures { WorkedOneObject }
 {}
 
-/// The file of a program with its own stack and an entry behind ordinals that nothing uses.
+/// The file of a program with its own stack and an entry after ordinals that nothing uses.
 pub fn program_file()
     ensures { WorkedProgram }
 {}

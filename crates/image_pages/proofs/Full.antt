@@ -1,10 +1,10 @@
--- The first object that ends behind the arenas, found one object after the other.
+-- The first object that ends past the arenas, found one object after the other.
 use Rattle.std.specs.Prelude.{◌≡◌, ℕ, ◌+◌, ◌<◌, Bool, true, false, cond, nat_lt, List, ◌∷◌, Option, Some, map, drop, length, find, refl}
 use Rattle.std.specs.Option.{option_map}
 use Rattle.std.specs.List.{enumerate_from}
 use Rattle.std.proofs.Common.{ap, sym, ◌∙◌, arith, get_or}
 use Rattle.std.proofs.lemmas.List.{drop_more}
-use Rattle.lx_types.specs.Addresses.{SHARED_END}
+use Rattle.lx_types.specs.declared.limits.TheConstants.{SHARED_END}
 use Rattle.lx_types.specs.declared.object.ObjHead.{ObjHead}
 use Rattle.link_model.specs.declared.symbols.LaidObject.{LaidObject}
 use Rattle.image_model.specs.LinkLaws.{laid}

@@ -5,7 +5,8 @@ use Rattle.std.specs.Option.{option_map}
 use Rattle.std.proofs.Common.{ap, sym, ◌∙◌, arith, true≢false}
 use Rattle.std.proofs.Math.Nat.{add-mul-mod_self_right}
 use Rattle.std.proofs.lemmas.Bool.{ltb-false}
-use Rattle.lx_types.specs.Addresses.{UNIT, SHARED_END, room}
+use Rattle.lx_types.specs.Addresses.{room}
+use Rattle.lx_types.specs.declared.limits.TheConstants.{BASE_UNIT, SHARED_END}
 use Rattle.lx_types.specs.declared.object.ObjHead.{ObjHead}
 use Rattle.obj_types.specs.Definition.{IsBase, WholeDef}
 use Rattle.obj_types.specs.Items.{item}
@@ -29,16 +30,16 @@ use Rattle.image_pages.specs.declared.refusals.ImageRefusal.TheVariants.{ArenaFu
 -- ---- bases
 
 abbrev AtUnit : LaidObject → Type 0
-AtUnit o = o.base % UNIT ≡ 0
+AtUnit o = o.base % BASE_UNIT ≡ 0
 
-next_unit : (base size : ℕ) → base % UNIT ≡ 0 → (base + room size) % UNIT ≡ 0
-next_unit base size is = add-mul-mod_self_right base ((max 1 size + (UNIT - 1)) / UNIT) UNIT ∙ is
+next_unit : (base size : ℕ) → base % BASE_UNIT ≡ 0 → (base + room size) % BASE_UNIT ≡ 0
+next_unit base size is = add-mul-mod_self_right base ((max 1 size + (BASE_UNIT - 1)) / BASE_UNIT) BASE_UNIT ∙ is
 
-placed_at_units : (base : ℕ) (qs : List (ℕ × ℕ)) → base % UNIT ≡ 0 → AllByRecursion AtUnit (placed_from base qs)
+placed_at_units : (base : ℕ) (qs : List (ℕ × ℕ)) → base % BASE_UNIT ≡ 0 → AllByRecursion AtUnit (placed_from base qs)
 placed_at_units base [] is = tt
 placed_at_units base (q ∷ qs) is = (is, placed_at_units (base + room q.0) qs (next_unit base q.0 is))
 
-first_by : (o : Option ℕ) (kind : ModKind) → IfSome o IsBase → unwrap_or o (usual_base kind) % UNIT ≡ 0
+first_by : (o : Option ℕ) (kind : ModKind) → IfSome o IsBase → unwrap_or o (usual_base kind) % BASE_UNIT ≡ 0
 first_by (Some b) kind is = is.0
 first_by None Program is = refl
 first_by None Library is = refl
@@ -59,7 +60,7 @@ past q = nat_lt SHARED_END (q.1.base + q.1.size)
 abbrev told : ℕ × LaidObject → ImageRefusal
 told q = ArenaFull q.0 q.1.size
 
--- The first is not past, and none behind it.
+-- The first is not past, and none after it.
 none_first : (b : Bool) (q : ℕ × LaidObject) (rest : Option (ℕ × LaidObject)) → option_map told (if b then Some q else rest) ≡ None → (b ≡ false) × (option_map told rest ≡ None)
 none_first true q rest e = absurd (true≢false (ap is_some e))
 none_first false q rest e = (refl, e)
@@ -90,6 +91,6 @@ pub stands_well : (l : Link) (hs : List ObjHead) → WholeDef l.def → map laid
 stands_well l hs def same none object o is =
     let inside = item_in (objects l) object o is in
     let at = base_is hs object o (ap (λ (os : List LaidObject). item os object) same ∙ is) in (
-      ap (λ (b : ℕ). b % UNIT) at ∙ each_in AtUnit (objects l) (at_units l def) inside,
+      ap (λ (b : ℕ). b % BASE_UNIT) at ∙ each_in AtUnit (objects l) (at_units l def) inside,
       let end = each_in EndsWell (objects l) (none_past 1 (objects l) none) inside in omega (arith, at, end),
     )

@@ -6,7 +6,7 @@ use Rattle.std.specs.Option.{option_and_then}
 use Rattle.std.proofs.Common.{ap, sym, ◌∙◌, subst, true≢false}
 use Rattle.std.proofs.lemmas.List.Elements.{All-from_recursion, recursion_from_All}
 use Rattle.std.proofs.lemmas.List.Sorted.{All-permutation}
-use Rattle.lx_types.specs.Addresses.{UNIT}
+use Rattle.lx_types.specs.declared.limits.TheConstants.{BASE_UNIT}
 use Rattle.lx_types.specs.declared.fix.Fix.{Fix}
 use Rattle.lx_types.specs.declared.fix.FixTarget.{FixTarget}
 use Rattle.lx_types.specs.declared.fix.FixTarget.TheVariants as leads
@@ -69,7 +69,7 @@ own_by false o x y z t e =
 own_target : (l : Link) (q : Fixup) (goal : Target) (t : FixTarget × ℕ) → pair_used l goal ≡ None → target_and_additive l q goal ≡ Some t → IsOwn t.0
 own_target l q (Internal o offset) t none e =
     let at = wrapped (offset + q.fix.disp) in
-    own_by (q.fix.loc == 2) o 0 (cond (nat_le UNIT at) at 0) (wrapped (at + q.standing)) t e
+    own_by (q.fix.loc == 2) o 0 (cond (nat_le BASE_UNIT at) at 0) (wrapped (at + q.standing)) t e
 own_target l q (Constant value) t none e = cc
 own_target l q (Entry slot) t none e =
     let r = mapped (λ (u : FixTarget). (u, wrapped (q.fix.disp + q.standing))) (option_and_then (import_target (used_pairs l)) (slice_get (imports l) slot)) t e in

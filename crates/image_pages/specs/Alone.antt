@@ -38,7 +38,7 @@ rows_alone m = rows_of (m ∷ []) (linked_bases m.objects)
 
 -- ---- answers
 
--- It is not loaded where it imports others, or an object ends behind the arenas.
+-- It is not loaded where it imports others, or an object ends past the arenas.
 abbrev pub loading_refusal : Parts → Option ImageRefusal
 loading_refusal m = first_of ((if length m.imports == 0 then None else Some NoModule) ∷ full_from 1 (map laid m.objects) ∷ [])
 

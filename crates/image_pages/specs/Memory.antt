@@ -2,7 +2,7 @@
 use Rattle.std.specs.Prelude.{◌≡◌, ℕ, ◌+◌, [], ◌∷◌, List, Option, None, Some, if◌then◌else◌, nat_lt, ◌==◌, length, map, find}
 use Rattle.std.specs.List.{range_with_len, enumerate_from}
 use Rattle.std.specs.Option.{option_map}
-use Rattle.lx_types.specs.Addresses.{SHARED_END}
+use Rattle.lx_types.specs.declared.limits.TheConstants.{SHARED_END}
 use Rattle.obj_types.specs.declared.input.LinkInput.{LinkInput}
 use Rattle.link_model.specs.declared.symbols.LaidObject.{LaidObject}
 use Rattle.link_model.specs.Words.{first_of}
@@ -21,7 +21,7 @@ use Rattle.image_pages.specs.declared.refusals.ImageRefusal.TheVariants.{Link as
 abbrev pub no_module : Link → Option ImageRefusal
 no_module l = if length (link_modules l) == 0 then None else Some NoModule
 
--- `ArenaFull`: the first object that ends behind the arenas, by its number and with its size.
+-- `ArenaFull`: the first object that ends past the arenas, by its number and with its size.
 abbrev pub full_from : ℕ → List LaidObject → Option ImageRefusal
 full_from number os =
     option_map (λ q. ArenaFull q.0 q.1.size)

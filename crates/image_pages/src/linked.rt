@@ -13,9 +13,9 @@ use crate::refusals::{ImageRefusal, link_failed};
 use layer_laws::{input_range, linked_bytes_are_loaded, linked_files_are_read};
 use link_core::link;
 use link_model::LaidObject;
-use lx_types::{Bytes, Module, NoMemory};
-use module_pages::read_faultless;
-use obj_types::{Fail, LinkInput};
+use lx_read::read_faultless;
+use lx_types::{Bytes, Fail, Module, NoMemory};
+use obj_types::LinkInput;
 use std::alloc::Global;
 
 // The module of the input's linked file, read back.

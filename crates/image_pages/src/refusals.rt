@@ -1,14 +1,13 @@
 //! Why a linked module has no place in memory.
 
 ghost use Rattle.std.specs.Prelude.{◌≡◌, ◌+◌, IfOk, map, nat_lt};
-ghost use Rattle.lx_types.specs.Addresses.{SHARED_END};
+ghost use Rattle.lx_types.specs.declared.limits.TheConstants.{SHARED_END};
 ghost use Rattle.image_model.specs.LinkLaws.{laid};
 ghost use Rattle.image_pages.specs.Failed as failed;
 ghost use Rattle.image_pages.specs.Memory.{full_from};
 
-use link_model::{LinkRefusal, number};
-use lx_types::{NoMemory, ObjHead};
-use obj_types::Fail;
+use link_model::LinkRefusal;
+use lx_types::{Fail, NoMemory, ObjHead, count};
 use thiserror::Error;
 
 /// Why a linked module has no place in memory. The kinds are tried in this order.
@@ -20,7 +19,7 @@ pub enum ImageRefusal {
     /// The module imports other modules.
     #[error("the module imports other modules")]
     NoModule,
-    /// The first object, by its number, that ends behind address 20000000h at its linked base, and its size in bytes.
+    /// The first object, by its number, that ends past address 20000000h at its linked base, and its size in bytes.
     #[error("object {object} of {size} bytes has no room")]
     ArenaFull { object: u32, size: u32 },
 }
@@ -35,21 +34,21 @@ pub fn link_failed(fail: Fail<LinkRefusal>) -> Fail<ImageRefusal>
     }
 }
 
-// Whether an object ends behind the arenas.
+// Whether an object ends past the arenas.
 fn is_past(object: &ObjHead) -> bool
     ensures { result ≡ nat_lt SHARED_END (object.now.base + object.now.size) }
 {
     0x2000_0000 < u64::from(object.base) + u64::from(object.size)
 }
 
-/// The first object that ends behind the arenas.
+/// The first object that ends past the arenas.
 pub fn full_object(objects: &[ObjHead]) -> Result<Option<ImageRefusal>, NoMemory>
     ensures { IfOk result (λ refusal. refusal ≡ full_from 1 (map laid objects.now)) }
 {
     for (index, object) in objects.iter().enumerate() {
         if is_past(object) {
             return Ok(Some(ImageRefusal::ArenaFull {
-                object: number(index + 1)?,
+                object: count(index + 1)?,
                 size: object.size,
             }));
         }

@@ -9,8 +9,10 @@ ghost use Rattle.lx_model.specs.ModuleBytes.{FixedByte};
 ghost use Rattle.image_model.specs.LinkLaws as links;
 ghost use Rattle.image_pages.specs.Alone.{rows_of};
 
-use link_model::{LaidObject, number};
-use lx_types::{Bases, Bytes, NoMemory, ObjHead, PAGE_SIZE, PageId, Seq};
+use link_model::LaidObject;
+use lx_types::{
+    Bases, Bytes, NoMemory, ObjHead, PAGE_LEN, PAGE_SIZE, PageBytes, PageId, Seq, count,
+};
 use mod_graph::Library;
 use module_pages::ModulePages;
 use page_fix::Steps;
@@ -18,7 +20,7 @@ use std::alloc::Global;
 use std::sync::ledger::{Blank, Ledger};
 
 // Adds the bytes of a page, of which the object has so many from the page's begin on.
-fn push_page(row: &mut Vec<u8>, page: &[u8; 4096], left: u32) -> Result<(), NoMemory>
+fn push_page(row: &mut Vec<u8>, page: &PageBytes, left: u32) -> Result<(), NoMemory>
     ensures { OnOk result (row.new.items ≡ row.old.items ++ take left page.now) }
 {
     let count = (left as usize).min(page.len());
@@ -40,7 +42,7 @@ fn row_of<L: Ledger>(
     ensures stay { pages.new ≡ pages.old }
 {
     let mut row = Vec::with_capacity(alloc, size as usize)?;
-    let mut buffer = Box::new(alloc, [0; 4096])?;
+    let mut buffer = Box::new(alloc, [0; PAGE_LEN])?;
     for page in 0..size.div_ceil(PAGE_SIZE) {
         buffer = pages.page(PageId { object, page }, buffer, steps);
         push_page(&mut row, &buffer, size - page * PAGE_SIZE)?;
@@ -76,7 +78,7 @@ pub fn rows_of<L: Ledger>(
     let mut pages = ModulePages::of(alloc, lib, bases, 0)?;
     let mut rows = Vec::new(alloc);
     for (index, object) in lib.module(0).objects().iter().enumerate() {
-        let place = number(index + 1)?;
+        let place = count(index + 1)?;
         let row = row_of(alloc, &mut pages, place, object.size, &mut steps)?;
         rows.push((laid(object), row))?;
     }

@@ -53,7 +53,7 @@ impl Places {
         Ok(())
     }
 
-    // Adds a place behind the others of its ordinal.
+    // Adds a place after the others of its ordinal.
     fn add(&mut self, alloc: Global, ordinal: u32, place: usize) -> Result<(), NoMemory>
         ensures { IfOk result (λ _. (k : ℕ) → places_in self.new k ≡ places_in self.old k ++ one_place k place ordinal) }
     {

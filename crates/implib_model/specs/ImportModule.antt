@@ -8,6 +8,7 @@ use Rattle.lx_types.specs.declared.entry.EntryKey.TheVariants.{Ordinal, Named}
 use Rattle.obj_types.specs.declared.symbol.Imp.{Imp}
 use Rattle.obj_types.specs.declared.object.ObjModule.{ObjModule}
 use Rattle.obj_types.specs.Fresh.{empty_module}
+use Rattle.omf_frame.specs.declared.comment_class.TheConstants.{EXTENSION, IMPDEF}
 use Rattle.implib_model.specs.Framed.{record_of, name_bytes}
 
 -- ---- what is to be written
@@ -46,7 +47,7 @@ entry_bytes internal (Named name) = if bytes_eq name internal then 0 ∷ [] else
 -- flags, class A0h, subtype 01h; the module's name in upper case
 abbrev pub import_comment : Imp → List ℕ
 import_comment imp =
-    0 ∷ 0xA0 ∷ 1 ∷ flag_of imp.entry ∷ (name_bytes imp.name ++ (name_bytes (uppercase imp.«module») ++ entry_bytes imp.name imp.entry))
+    0 ∷ EXTENSION ∷ IMPDEF ∷ flag_of imp.entry ∷ (name_bytes imp.name ++ (name_bytes (uppercase imp.«module») ++ entry_bytes imp.name imp.entry))
 
 -- a header with the imported name, the comment, and the module's end
 abbrev pub import_bytes : Imp → List ℕ

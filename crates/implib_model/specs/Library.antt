@@ -3,11 +3,9 @@ use Rattle.std.specs.Prelude.{ℕ, ◌+◌, ◌-◌, ◌*◌, ◌%◌, List, [],
 use Rattle.std.specs.List.{flat_map}
 use Rattle.lx_bytes.specs.LittleEndian.{little_bytes}
 use Rattle.obj_types.specs.declared.object.ObjModule.{ObjModule}
+use Rattle.omf_frame.specs.declared.record_type.TheConstants.{LIBRARY_HEADER, LIBRARY_END}
 use Rattle.omf_model.specs.Object.{IsModule}
-
--- pages of so many bytes
-abbrev pub PAGE : ℕ
-PAGE = 16
+use Rattle.implib_model.specs.declared.library.TheConstants.{PAGE}
 
 -- zeros from the end of so many bytes up to the next page
 abbrev pub fill_of : ℕ → List ℕ
@@ -24,14 +22,14 @@ pages_of modules = flat_map page_up modules
 abbrev pub library_len : List (List ℕ) → ℕ
 library_len modules = 2 * PAGE + length (pages_of modules)
 
--- F0h, and a length with which the page size is 16; where the dictionary would stand, which is the file's end, no
+-- the header's type, and a length with which the page size is 16; where the dictionary would stand, which is the file's end, no
 -- blocks of it, and the flag of names in which case counts
 abbrev pub header_bytes : ℕ → List ℕ
-header_bytes len = 0xF0 ∷ 0x0D ∷ 0 ∷ (little_bytes 4 len ++ 0 ∷ 0 ∷ 1 ∷ replicate 6 0)
+header_bytes len = LIBRARY_HEADER ∷ 0x0D ∷ 0 ∷ (little_bytes 4 len ++ 0 ∷ 0 ∷ 1 ∷ replicate 6 0)
 
--- F1h, and a length that fills a page
+-- the end's type, and a length that fills a page
 abbrev pub end_bytes : List ℕ
-end_bytes = 0xF1 ∷ 0x0D ∷ 0 ∷ replicate 13 0
+end_bytes = LIBRARY_END ∷ 0x0D ∷ 0 ∷ replicate 13 0
 
 abbrev pub library_bytes : List (List ℕ) → List ℕ
 library_bytes modules = header_bytes (library_len modules) ++ (pages_of modules ++ end_bytes)

@@ -1,5 +1,5 @@
 -- Which imports a module gives to those that link with it: one for each of its names that has an entry.
--- "IMPLIB"; LX: "Resident or Non-resident Name Table Entry".
+-- "IMPLIB"; "32-bit Linear eXecutable Module Format": "Resident or Non-resident Name Table Entry".
 use Rattle.std.specs.Prelude.{ℕ, ◌==◌, List, filter, map}
 use Rattle.std.specs.List.{flat_map}
 use Rattle.lx_types.specs.declared.entry.EntryKey.TheVariants.{Ordinal}

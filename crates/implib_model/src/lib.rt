@@ -2,6 +2,8 @@
 //! import, and the bytes of a library of such modules.
 #![tactic(auto)]
 
+mod library;
 mod worked;
 
+pub use library::PAGE;
 pub use worked::imports_are_written;

@@ -1,4 +1,4 @@
--- Lists whose items are apart: no item equals one behind it.
+-- Lists whose items are apart: no item equals one after it.
 use Rattle.std.specs.Prelude.{◌≡◌, ◌≢◌, ℕ, zero, suc, ◌+◌, ◌≤◌, Bool, true, false, cond, List, [], ◌∷◌, ◌++◌, None, map, filter, refl}
 use Rattle.std.specs.List.{AllByRecursion, list_any, range_with_len}
 use Rattle.std.proofs.Common.{sym, ◌∙◌, arith}

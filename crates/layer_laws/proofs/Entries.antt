@@ -11,9 +11,9 @@ use Rattle.link_model.specs.declared.limits.TheConstants.{MAX_NUMBER}
 use Rattle.link_model.specs.Link.{Link}
 use Rattle.link_model.specs.Layout.{objects}
 use Rattle.link_model.specs.ImportTables.{link_pairs, modules_in}
-use Rattle.lx_model.specs.EntryTable.{LAST_ORDINAL}
+use Rattle.lx_model.specs.declared.limits.TheConstants.{MAX_ORDINAL, MAX_ENTRIES}
 use Rattle.lx_model.specs.Bundles.{AtEntry, GateEntry, ForwardEntry, Bundle, unused, narrow, gates, wide, forwarders, ordinal_count, ordinals_together, AtFits, GateFits, ForwardFits, ObjectFits, BodyFits, BundleFits}
-use Rattle.lx_model.specs.ExportTables.{Exported, Slot, empty, narrow_at, gate_at, wide_at, forwarder, head_slot, slot_or_empty, export_at, greatest, slots_of, MOST_ENTRIES, AreBundlesOf}
+use Rattle.lx_model.specs.ExportTables.{Exported, Slot, empty, narrow_at, gate_at, wide_at, forwarder, head_slot, slot_or_empty, export_at, greatest, slots_of, AreBundlesOf}
 use Rattle.lx_model.specs.JoinedEntries.{bundles_for}
 use Rattle.lx_model.proofs.JoinedBundles.{bundles_joined}
 use Rattle.link_model.proofs.Members.{each_in, found_as}
@@ -80,7 +80,7 @@ body_fits objects imports (wide object (e ∷ es)) some each = (each.0.0, wide_f
 body_fits objects imports (forwarders reserved []) some each = absurd (omega (arith, some))
 body_fits objects imports (forwarders reserved (e ∷ es)) some each = (each.0.0, forwarders_fit objects imports reserved (e ∷ es) each)
 
-each_fits : (objects imports : ℕ) (bs : List Bundle) → AllByRecursion (λ b. 0 < ordinal_count b) bs → AllByRecursion (λ b. ordinal_count b ≤ MOST_ENTRIES) bs → AllByRecursion (SlotFits objects imports) (flat_map slots_of bs) → AllByRecursion (BundleFits objects imports) bs
+each_fits : (objects imports : ℕ) (bs : List Bundle) → AllByRecursion (λ b. 0 < ordinal_count b) bs → AllByRecursion (λ b. ordinal_count b ≤ MAX_ENTRIES) bs → AllByRecursion (SlotFits objects imports) (flat_map slots_of bs) → AllByRecursion (BundleFits objects imports) bs
 each_fits objects imports [] some most each = tt
 each_fits objects imports (b ∷ bs) some most each =
     let few = most.0 in (
@@ -107,7 +107,7 @@ greatest_small : (l : Link) (xs : List Exported) → AllByRecursion (ExportFits 
 greatest_small l [] each = omega arith
 greatest_small l (x ∷ xs) each = let here = each.0.ordinal in let rest = greatest_small l xs each.1 in max-le here rest
 
-pub ordinals-few : (l : Link) (xs : List Exported) → AllByRecursion (ExportFits l) xs → ordinals_together (bundles_for xs) ≤ LAST_ORDINAL
+pub ordinals-few : (l : Link) (xs : List Exported) → AllByRecursion (ExportFits l) xs → ordinals_together (bundles_for xs) ≤ MAX_ORDINAL
 ordinals-few l xs each =
     let is = greatest-is xs (bundles_for xs) (bundles_joined xs) in
     let small = greatest_small l xs each in

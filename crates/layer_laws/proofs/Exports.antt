@@ -5,7 +5,8 @@ use Rattle.std.specs.Option.{option_and_then}
 use Rattle.std.proofs.Common.{ap, sym, ◌∙◌, arith, subst, true≢false}
 use Rattle.std.proofs.lemmas.Bool.Decides.{nat_tests}
 use Rattle.std.proofs.lemmas.Option.{same_Some}
-use Rattle.lx_types.specs.Addresses.{UNIT, is_big}
+use Rattle.lx_types.specs.Addresses.{is_big}
+use Rattle.lx_types.specs.declared.limits.TheConstants.{BASE_UNIT}
 use Rattle.lx_types.specs.Names.{IsName, uppercase}
 use Rattle.lx_types.specs.Sound.{IsNumberOf}
 use Rattle.lx_types.specs.declared.entry.EntryKey.{EntryKey}
@@ -77,11 +78,11 @@ pub record ExportFits (l : Link) (x : Exported) : Type 0 where
   pub words : x.words ≤ 31
   pub head : HeadFits l x.wide x.head
 
-narrow_offset : (big : Bool) (offset : ℕ) → (big || not (nat_lt offset UNIT)) ≡ false → offset < 2 ^ 16
+narrow_offset : (big : Bool) (offset : ℕ) → (big || not (nat_lt offset BASE_UNIT)) ≡ false → offset < 2 ^ 16
 narrow_offset true offset e = absurd (true≢false e)
-narrow_offset false offset e = by (nat_lt offset UNIT) refl e
+narrow_offset false offset e = by (nat_lt offset BASE_UNIT) refl e
   where
-    by : (b : Bool) → nat_lt offset UNIT ≡ b → not b ≡ false → offset < 2 ^ 16
+    by : (b : Bool) → nat_lt offset BASE_UNIT ≡ b → not b ≡ false → offset < 2 ^ 16
     by true is e = grind (arith, nat_tests)
     by false is e = absurd (true≢false e)
 

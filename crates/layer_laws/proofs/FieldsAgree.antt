@@ -6,7 +6,8 @@ use Rattle.std.proofs.Math.Nat.{add-mod-mod, mod-eq_of_lt}
 use Rattle.std.proofs.lemmas.Bool.{eqb-true, or_cases, leb-false}
 use Rattle.std.proofs.lemmas.Option.{unwrap_or-slice_get}
 use Rattle.lx_bytes.specs.LittleEndian.{little_bytes}
-use Rattle.lx_types.specs.Addresses.{address, UNIT, SHARED_END, is_big, tiled_selector, flat_selector, selector, selected_offset}
+use Rattle.lx_types.specs.Addresses.{address, is_big, tiled_selector, flat_selector, selector, selected_offset}
+use Rattle.lx_types.specs.declared.limits.TheConstants.{BASE_UNIT, SHARED_END}
 use Rattle.lx_types.specs.Parts.{no_object, object_of}
 use Rattle.lx_types.specs.declared.bases.Bases.{Bases}
 use Rattle.lx_types.specs.declared.fix.Source.{Source}
@@ -56,27 +57,27 @@ sums-agree base offset disp standing =
 -- ---- selectors
 
 -- A selector's target and additive lie in one tile: an object begins at the begin of one.
-pub tiles-agree : (base offset disp : ℕ) → base % UNIT ≡ 0 → base ≤ SHARED_END → tiled_selector (address (address base 0) (if nat_le UNIT (wrapped (offset + disp)) then wrapped (offset + disp) else 0)) ≡ tiled_selector (wrapped (address base offset + disp))
+pub tiles-agree : (base offset disp : ℕ) → base % BASE_UNIT ≡ 0 → base ≤ SHARED_END → tiled_selector (address (address base 0) (if nat_le BASE_UNIT (wrapped (offset + disp)) then wrapped (offset + disp) else 0)) ≡ tiled_selector (wrapped (address base offset + disp))
 tiles-agree base offset disp aligned low =
     let at = wrapped (offset + disp) in
     let target : wrapped (address base offset + disp) ≡ (base + at) % 2 ^ 32 =
     mod-first (base + offset) disp (2 ^ 32) ∙ ap (λ (n : ℕ). n % 2 ^ 32) (let e : base + offset + disp ≡ base + (offset + disp) = omega arith in e) ∙ sym (add-mod-mod base (offset + disp) (2 ^ 32)) in
-    by (nat_le UNIT at) refl target
+    by (nat_le BASE_UNIT at) refl target
   where
     small : address base 0 ≡ base
     small = ap (λ (n : ℕ). n % 2 ^ 32) (let e : base + 0 ≡ base = omega arith in e) ∙ mod-eq_of_lt (omega (arith, low))
 
-    tile_of : (at : ℕ) → at < UNIT → (base + at) / UNIT ≡ base / UNIT
+    tile_of : (at : ℕ) → at < BASE_UNIT → (base + at) / BASE_UNIT ≡ base / BASE_UNIT
     tile_of at below = omega (arith, aligned, below)
 
-    by : (b : Bool) → nat_le UNIT (wrapped (offset + disp)) ≡ b → wrapped (address base offset + disp) ≡ (base + wrapped (offset + disp)) % 2 ^ 32 → tiled_selector (address (address base 0) (if b then wrapped (offset + disp) else 0)) ≡ tiled_selector (wrapped (address base offset + disp))
+    by : (b : Bool) → nat_le BASE_UNIT (wrapped (offset + disp)) ≡ b → wrapped (address base offset + disp) ≡ (base + wrapped (offset + disp)) % 2 ^ 32 → tiled_selector (address (address base 0) (if b then wrapped (offset + disp) else 0)) ≡ tiled_selector (wrapped (address base offset + disp))
     by true is target = ap (λ (n : ℕ). tiled_selector (address n (wrapped (offset + disp)))) small ∙ ap tiled_selector (sym target)
     by false is target =
         let at = wrapped (offset + disp) in
-        let below : at < UNIT = leb-false UNIT at is in
+        let below : at < BASE_UNIT = leb-false BASE_UNIT at is in
         let whole : (base + at) % 2 ^ 32 ≡ base + at = mod-eq_of_lt (omega (arith, low, below)) in
         let here : address (address base 0) 0 ≡ base = ap (λ (n : ℕ). address n 0) small ∙ small in
-        ap tiled_selector here ∙ ap (λ (n : ℕ). (n * 8 + 7) % UNIT) (sym (tile_of at below)) ∙ ap tiled_selector (sym whole) ∙ ap tiled_selector (sym target)
+        ap tiled_selector here ∙ ap (λ (n : ℕ). (n * 8 + 7) % BASE_UNIT) (sym (tile_of at below)) ∙ ap tiled_selector (sym whole) ∙ ap tiled_selector (sym target)
 
 selectors_agree : (narrow : Bool) (flags u t : ℕ) → tiled_selector u ≡ tiled_selector t → selector narrow flags u ≡ selector narrow flags t
 selectors_agree narrow flags u t same = by (narrow || not (is_big flags))

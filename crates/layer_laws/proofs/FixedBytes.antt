@@ -125,7 +125,7 @@ index-from a b i from =
           ∙ ap (λ (n : ℕ). Some n) (let e : i - (a - b) ≡ b + i - a = omega (arith, past, from) in e)
     ]
 
--- Behind its field a source puts nothing.
+-- After its field a source puts nothing.
 pub byte-outside : (bytes : List ℕ) (a b i : ℕ) → (b + i < a) ⊎ (a + length bytes ≤ b + i) → byte_if bytes (index_in (pos a -ℤ pos b) i) ≡ None
 byte-outside bytes a b i (inl before) = ap (byte_if bytes) (index-before a b i before)
 byte-outside bytes a b i (inr behind) =

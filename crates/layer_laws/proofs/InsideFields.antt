@@ -2,7 +2,8 @@
 use Rattle.std.specs.Prelude.{◌≡◌, ℕ, pos, zero, suc, ◌+◌, ◌*◌, ◌%◌, ◌-ℤ◌, ◌≤◌, ◌^◌, ◌==◌, nat_le, Bool, true, false, cond, List, Some, length, refl}
 use Rattle.std.proofs.Common.{ap, sym, ◌∙◌, arith, true≢false}
 use Rattle.std.proofs.lemmas.Option.{same_Some}
-use Rattle.lx_types.specs.Addresses.{address, UNIT, SHARED_END, tiled_selector}
+use Rattle.lx_types.specs.Addresses.{address, tiled_selector}
+use Rattle.lx_types.specs.declared.limits.TheConstants.{BASE_UNIT, SHARED_END}
 use Rattle.lx_types.specs.Parts.{object_of}
 use Rattle.lx_types.specs.declared.bases.Bases.{Bases}
 use Rattle.lx_types.specs.declared.fix.FixTarget.{FixTarget}
@@ -35,7 +36,7 @@ use Rattle.layer_laws.proofs.SelfFields.{SelfWide, FieldOf, field-means, self-en
 abbrev led_to : Fixup → ℕ → ℕ → Bool → FixTarget × ℕ
 led_to q o offset b =
     let at = wrapped (offset + q.fix.disp) in
-    cond {A = FixTarget × ℕ} b (leads.Internal o 0, cond (nat_le UNIT at) at 0) (leads.Internal o (wrapped (at + q.standing)), 0)
+    cond {A = FixTarget × ℕ} b (leads.Internal o 0, cond (nat_le BASE_UNIT at) at 0) (leads.Internal o (wrapped (at + q.standing)), 0)
 
 target_is : (l : Link) (q : Fixup) (o offset : ℕ) (t : FixTarget × ℕ) → q.target ≡ Internal o offset → target_and_additive l q q.target ≡ Some t → led_to q o offset (q.fix.loc == 2) ≡ t
 target_is l q o offset t is led =
@@ -45,7 +46,7 @@ target_is l q o offset t is led =
 abbrev address_by : Fixup → ℕ → ℕ → Bool → ℕ
 address_by q base offset b =
     let at = wrapped (offset + q.fix.disp) in
-    cond b (address (address base 0) (cond (nat_le UNIT at) at 0)) (address (address base (wrapped (at + q.standing))) 0)
+    cond b (address (address base 0) (cond (nat_le BASE_UNIT at) at 0)) (address (address base (wrapped (at + q.standing))) 0)
 
 bytes_by : (l : Link) (lib : List Parts) (m : ℕ) (bases : Bases) (p : PageId) (k : ℕ) (q : Fixup) (o offset : ℕ) (b : Bool)
     → bytes-of lib m bases p (fix_in_file l (record-with k q (led_to q o offset b))) ≡ field_bytes (source_of q) (has_alias q) (object_of (module_of lib m) o).flags (address_by q (base_of bases m o) offset b) (end_address bases m p (fix_in_file l (record-with k q (led_to q o offset b))))
@@ -62,7 +63,7 @@ sum_by_kind : (q : Fixup) (base offset : ℕ) (b : Bool) → b ≡ false → add
 sum_by_kind q base offset true is = absurd (true≢false is)
 sum_by_kind q base offset false is = sums-agree base offset q.fix.disp q.standing
 
-tile_by_kind : (q : Fixup) (base offset : ℕ) (b : Bool) → base % UNIT ≡ 0 → base ≤ SHARED_END → b ≡ true → tiled_selector (address_by q base offset b) ≡ tiled_selector (wrapped (address base offset + q.fix.disp))
+tile_by_kind : (q : Fixup) (base offset : ℕ) (b : Bool) → base % BASE_UNIT ≡ 0 → base ≤ SHARED_END → b ≡ true → tiled_selector (address_by q base offset b) ≡ tiled_selector (wrapped (address base offset + q.fix.disp))
 tile_by_kind q base offset true aligned low is = tiles-agree base offset q.fix.disp aligned low
 tile_by_kind q base offset false aligned low is = absurd (true≢false (sym is))
 

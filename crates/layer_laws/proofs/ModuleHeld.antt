@@ -18,7 +18,8 @@ use Rattle.link_model.specs.Header.{module_name}
 use Rattle.link_model.specs.Link.{Link}
 use Rattle.link_model.specs.Order.{is_program}
 use Rattle.link_model.proofs.KeyTests.{name_equal}
-use Rattle.lx_model.specs.Gathering.{LibraryFault, IsLibrary, MOST_MODULES, twice_at}
+use Rattle.lx_model.specs.Gathering.{LibraryFault, IsLibrary, twice_at}
+use Rattle.lx_types.specs.declared.limits.TheConstants.{MAX_MODULES}
 use Rattle.lx_model.specs.Library.{no_module, module_of, has_name, module_named, library_named}
 use Rattle.lx_model.specs.Reading.{first}
 use Rattle.lx_model.specs.declared.library.LibraryRefusal.{LibraryRefusal}
@@ -50,7 +51,7 @@ past_none false r rest e = e
 none_twice : (lib : List Parts) (m : ℕ) → IsLibrary lib → m < length lib → twice_at lib m ≡ None
 unfolding LibraryFault
 none_twice lib m is lt =
-    let rest = past_none (nat_lt MOST_MODULES (length lib)) (TooManyModules (length lib)) (first (map (twice_at lib) (range_with_len 0 (length lib)))) is.faultless in
+    let rest = past_none (nat_lt MAX_MODULES (length lib)) (TooManyModules (length lib)) (first (map (twice_at lib) (range_with_len 0 (length lib)))) is.faultless in
     first_none (twice_at lib) 0 (length lib) m rest (omega arith) (omega (arith, lt))
 
 named_twice : (lib : List Parts) (m j : ℕ) → module_named lib (module_of lib m).name ≡ Some j → j < m → twice_at lib m ≡ Some (NameTwice j m)

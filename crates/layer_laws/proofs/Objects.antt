@@ -6,7 +6,8 @@ use Rattle.std.proofs.Math.Nat.{mul-div-le, div-mul-le_self, max-le}
 use Rattle.std.proofs.lemmas.List.{length-map}
 use Rattle.std.proofs.lemmas.List.FromFn.{length-range_with_len}
 use Rattle.std.proofs.lemmas.List.Sums.{sum_by-cons}
-use Rattle.lx_types.specs.Addresses.{UNIT, room}
+use Rattle.lx_types.specs.Addresses.{room}
+use Rattle.lx_types.specs.declared.limits.TheConstants.{BASE_UNIT}
 use Rattle.lx_types.specs.declared.fix.Fix.{Fix}
 use Rattle.lx_types.specs.declared.object.TheConstants.{PAGE_SIZE, OBJECT_READABLE, OBJECT_WRITABLE, OBJECT_EXECUTABLE, OBJECT_SHARED, OBJECT_PRELOAD, OBJECT_CONFORMING, OBJECT_IOPL}
 use Rattle.obj_types.specs.Definition.{WholeDef}
@@ -39,7 +40,7 @@ small_max n = max-le (omega arith) (omega arith)
 room_small : (n : ℕ) → room n ≤ n + 65536
 room_small n =
     let least = small_max n in
-    let whole = div-mul-le_self (max 1 n + (UNIT - 1)) UNIT in
+    let whole = div-mul-le_self (max 1 n + (BASE_UNIT - 1)) BASE_UNIT in
     omega (arith, least, whole)
 
 pages_small : (n : ℕ) → 4096 * page_count n ≤ n + 4095

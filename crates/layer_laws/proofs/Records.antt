@@ -5,7 +5,7 @@ use Rattle.std.specs.Option.{option_and_then}
 use Rattle.std.proofs.Common.{ap, sym, arith, subst, true≢false}
 use Rattle.std.proofs.lemmas.List.Elements.{All-from_recursion}
 use Rattle.std.proofs.lemmas.Option.{same_Some}
-use Rattle.lx_types.specs.Addresses.{UNIT}
+use Rattle.lx_types.specs.declared.limits.TheConstants.{BASE_UNIT}
 use Rattle.lx_types.specs.declared.fix.Fix.{Fix}
 use Rattle.lx_types.specs.declared.fix.Source.{Source}
 use Rattle.lx_types.specs.declared.fix.Source.TheVariants.{Byte, Sel, Far16, Off16, Far32, Off32, Self32}
@@ -71,8 +71,8 @@ target_ranged : (l : Link) → Given l → (q : Fixup) (t : Target) (f : FixTarg
 target_ranged l g q (Internal o offset) f e =
     let at = wrapped (offset + q.fix.disp) in
     let small = wrapped-small (offset + q.fix.disp) in
-    subst PairRanged (same_Some (cond {A = FixTarget × ℕ} (q.fix.loc == 2) (leads.Internal o 0, cond (nat_le UNIT at) at 0) (leads.Internal o (wrapped (at + q.standing)), 0)) f e)
-    (chosen_ranged (q.fix.loc == 2) o at (wrapped (at + q.standing)) (cond (nat_le UNIT at) at 0) (additive_by (nat_le UNIT at) at small) (wrapped-small (at + q.standing)))
+    subst PairRanged (same_Some (cond {A = FixTarget × ℕ} (q.fix.loc == 2) (leads.Internal o 0, cond (nat_le BASE_UNIT at) at 0) (leads.Internal o (wrapped (at + q.standing)), 0)) f e)
+    (chosen_ranged (q.fix.loc == 2) o at (wrapped (at + q.standing)) (cond (nat_le BASE_UNIT at) at 0) (additive_by (nat_le BASE_UNIT at) at small) (wrapped-small (at + q.standing)))
 target_ranged l g q (Constant value) f e = absurd (true≢false (sym (ap is_some e)))
 target_ranged l g q (Entry slot) f e =
     let r = mapped (λ (t : FixTarget). (t, wrapped (q.fix.disp + q.standing))) (option_and_then (import_target (used_pairs l)) (slice_get (imports l) slot)) f e in

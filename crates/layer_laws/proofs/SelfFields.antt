@@ -42,7 +42,7 @@ low_bytes (suc n) x =
 differences-agree : (v end_at : ℕ) → little_bytes 4 (v + (2 ^ 32 - end_at % 2 ^ 32)) ≡ little_bytes 4 (difference v end_at)
 differences-agree v end_at = sym (low_bytes 4 (v + (2 ^ 32 - end_at % 2 ^ 32)))
 
--- ---- the address behind a field
+-- ---- the address after a field
 
 -- Of a field at offset a of an object, on the page that begins at b, with so many bytes.
 ends_by : (base a b size : ℕ) → behind (2 ^ 32 + base + b + size) (pos a -ℤ pos b) ≡ 2 ^ 32 + (base + a + size)
@@ -169,7 +169,7 @@ field-means l w q flags u end_at of = by q.fix.selfrel refl
         ∙ ap (λ (n : ℕ). relative_to_segment q.fix.loc (target_number l w q) (sum_number l w q) n q.narrow) of.flags_same
         ∙ sym (ap (λ (b : Bool). cond b (relative_to_self q.fix.loc (place_address w q.object q.offset) (sum_number l w q)) (relative_to_segment q.fix.loc (target_number l w q) (sum_number l w q) (target_flags l w q.target) q.narrow)) is)
 
--- The address behind a self-relative field, on page k of the object.
+-- The address after a self-relative field, on page k of the object.
 pub self-ends : (lib : List Parts) (m : ℕ) (bases : Bases) (q : Fixup) (i k : ℕ) → q.object ≡ suc i → SelfWide q → behind (2 ^ 32 + base_of bases m (suc i) + PAGE_SIZE * k + source_size (source_of q)) (pos q.offset -ℤ pos (k * PAGE_SIZE)) % 2 ^ 32 ≡ (place_address (world_of lib m bases) q.object q.offset + 4) % 2 ^ 32
 self-ends lib m bases q i k same wide =
     let base = base_of bases m (suc i) in

@@ -24,7 +24,7 @@ all-of pages b os = flat_map pages (enumerate_from b os)
 abbrev pub Counts : {X : Type 0} → (ℕ × LaidObject → List X) → Type 0
 Counts pages = (n : ℕ) (o : LaidObject) → length (pages (n, o)) ≡ page_count o.size
 
--- Page k of object i stands so many places behind the first one of these.
+-- Page k of object i stands so many places after the first one of these.
 pub record PageFound {X : Type 0} (pages : ℕ × LaidObject → List X) (d : X) (b first : ℕ) (os : List LaidObject) (i k : ℕ) (o : LaidObject) : Type 0 where
   pub head : ObjHead
   pub is : slice_get (object_heads_from first os) i ≡ Some head

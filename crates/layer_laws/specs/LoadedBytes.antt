@@ -1,7 +1,7 @@
 -- A module that a link wrote means the object files' bytes, wherever it is loaded.
 use Rattle.std.specs.Prelude.{◌≡◌, ℕ, ◌+◌, ◌%◌, ◌<◌, ◌≤◌, ◌^◌, false, List, length, Some}
 use Rattle.std.specs.List.{list_any}
-use Rattle.lx_types.specs.Addresses.{UNIT, SHARED_END}
+use Rattle.lx_types.specs.declared.limits.TheConstants.{BASE_UNIT, SHARED_END}
 use Rattle.lx_types.specs.declared.bases.Bases.{Bases}
 use Rattle.lx_types.specs.declared.parts.Parts.{Parts}
 use Rattle.obj_types.specs.Items.{item}
@@ -30,7 +30,7 @@ Holds lib m l = module_of lib m ≡ parts_of (file_of (image_of l))
 abbrev pub StandsWell : Link → Bases → ℕ → Type 0
 StandsWell l bases m =
     (object : ℕ) (o : LaidObject) → item (objects l) object ≡ Some o
-    → (base_of bases m object % UNIT ≡ 0) × (base_of bases m object + o.size ≤ SHARED_END)
+    → (base_of bases m object % BASE_UNIT ≡ 0) × (base_of bases m object + o.size ≤ SHARED_END)
 
 -- The loaded byte is the one that the link means.
 abbrev pub MeansThere : Link → List Parts → ℕ → Bases → ℕ → ℕ → Type 0

@@ -6,8 +6,8 @@ ghost use Rattle.layer_laws.specs.LinkedFiles.{LinkedFilesMeanTheirLinks};
 ghost use Rattle.layer_laws.specs.LinkedImages.{LinkedFilesRead, LinkedImagesFit};
 ghost use Rattle.layer_laws.specs.LoadedBytes.{LinkedBytesLoaded, PlainBytesLoaded};
 
-/// The image of every input that links fits the fields and the limits of the format ("LX Header" to "Non-Resident Name
-/// Table" in the LX document), where its file is shorter than 2^32 bytes.
+/// The image of every input that links fits the fields and the limits of the format ("32-bit Linear eXecutable
+/// Module Format": "LX Header" to "Non-Resident Name Table"), where its file is shorter than 2^32 bytes.
 pub fn linked_images_fit()
     ensures { LinkedImagesFit }
 {}
@@ -40,7 +40,8 @@ pub fn linked_files_mean_their_links()
 
 /// The entry points of a module that was linked are the exports of the link: asked by its ordinal and by its name, each
 /// export leads to its place, or where the pair that it forwards leads in the library of the pair's module name. No other
-/// ordinal and no other name has an entry ("Entry Table", "Resident or Non-resident Name Table Entry" in the LX document).
+/// ordinal and no other name has an entry ("32-bit Linear eXecutable Module Format": "Entry Table",
+/// "Resident or Non-resident Name Table Entry").
 pub fn entries_are_exports()
     ensures { EntriesAreOut }
 {}
@@ -53,7 +54,8 @@ pub fn imports_are_bound()
 {}
 
 /// In every library that holds the module that is linked with a definition file of kind LIBRARY, the pair of an export leads
-/// where the module's export of that name leads: to its place, or through its forwarder ("Entry Table" in the LX document).
+/// where the module's export of that name leads: to its place, or through its forwarder ("32-bit Linear eXecutable
+/// Module Format": "Entry Table").
 pub fn pairs_reach_exports()
     ensures { PairsReach }
 {}

@@ -1,1 +1,2 @@
 pub mod LeadingLaws
+pub mod SpacedLaws

@@ -1,13 +1,13 @@
-//! The words of a line, as dumps and maps print them.
+//! The words of a line, as dumps, maps, sessions and transcripts print them.
 
-ghost use Rattle.std.specs.Prelude.{◌≡◌, ◌++◌, ◌∷◌, [], map, codes, decimal, OnOk};
+ghost use Rattle.std.specs.Prelude.{◌≡◌, ◌++◌, map, codes, decimal, OnOk};
 ghost use Rattle.std.specs.Fmt.{signed_decimal};
-ghost use Rattle.session_model.specs.Text.{line_of};
+ghost use Rattle.session_model.specs.Text.{bytes_word, bytes_words, words, line_of, inner_line};
 ghost use Rattle.dump_model.specs.Lines.{name_word};
-ghost use Rattle.line_words.specs.Words.{word_text, leading};
+ghost use Rattle.line_words.specs.Words.{word_text, leading, spaced};
 
 use itoa::Buffer;
-use lx_types::{push_escaped, push_hex_address};
+use lx_types::{push_escaped, push_hex_address, push_hex_byte};
 use std::alloc::AllocError;
 
 /// A word.
@@ -21,10 +21,16 @@ pub enum Word<'a> {
     Signed(i32),
     /// Eight hexadecimal digits.
     Hex(u32),
-    /// An ordinal, behind `@`.
+    /// An ordinal, after `@`.
     Ordinal(u32),
-    /// A name, with its escapes.
+    /// A process, by its script's number.
+    Process(u32),
+    /// A name, with its escapes. The empty one is `%`.
     Name(&'a [u8]),
+    /// The name of a module, with its escapes. The empty one is no bytes.
+    Module(&'a [u8]),
+    /// Bytes in one word.
+    Bytes(&'a [u8]),
 }
 
 /// In decimal digits.
@@ -40,7 +46,7 @@ fn push_signed(out: &mut Vec<u8>, n: i32) -> Result<(), AllocError>
     out.extend_from_slice(Buffer::new().format(n).as_bytes())
 }
 
-/// In decimal digits, behind `@`.
+/// In decimal digits, after `@`.
 pub fn push_ordinal(out: &mut Vec<u8>, n: u32) -> Result<(), AllocError>
     ensures { OnOk result (out.new.items ≡ out.old.items ++ (codes "@" ++ decimal n)) }
 {
@@ -59,6 +65,22 @@ fn push_name(out: &mut Vec<u8>, name: &[u8]) -> Result<(), AllocError>
     push_escaped(out, name)
 }
 
+fn push_process(out: &mut Vec<u8>, pid: u32) -> Result<(), AllocError>
+    ensures { OnOk result (out.new.items ≡ out.old.items ++ (codes "P" ++ decimal pid)) }
+{
+    out.push(b'P')?;
+    push_number(out, u64::from(pid))
+}
+
+fn push_hex(out: &mut Vec<u8>, bytes: &[u8]) -> Result<(), AllocError>
+    ensures { OnOk result (out.new.items ≡ out.old.items ++ bytes_word bytes.now) }
+{
+    for byte in bytes {
+        push_hex_byte(out, u32::from(*byte))?;
+    }
+    Ok(())
+}
+
 fn push_word(out: &mut Vec<u8>, word: Word<'_>) -> Result<(), AllocError>
     ensures { OnOk result (out.new.items ≡ out.old.items ++ word_text word.entry) }
 {
@@ -69,11 +91,14 @@ fn push_word(out: &mut Vec<u8>, word: Word<'_>) -> Result<(), AllocError>
         Word::Signed(n) => push_signed(out, n),
         Word::Hex(n) => push_hex_address(out, n),
         Word::Ordinal(n) => push_ordinal(out, n),
+        Word::Process(pid) => push_process(out, pid),
         Word::Name(name) => push_name(out, name),
+        Word::Module(name) => push_escaped(out, name),
+        Word::Bytes(bytes) => push_hex(out, bytes),
     }
 }
 
-/// The first words of a line, each with the blank behind it.
+/// The first words of a line, each with the blank after it.
 pub fn push_leading(out: &mut Vec<u8>, words: &[Word<'_>]) -> Result<(), AllocError>
     ensures { OnOk result (out.new.items ≡ out.old.items ++ leading (map word_text words.now)) }
 {
@@ -84,10 +109,38 @@ pub fn push_leading(out: &mut Vec<u8>, words: &[Word<'_>]) -> Result<(), AllocEr
     Ok(())
 }
 
-fn push_end(out: &mut Vec<u8>) -> Result<(), AllocError>
-    ensures { OnOk result (out.new.items ≡ out.old.items ++ 0x0A ∷ []) }
+/// Words, each after a blank.
+pub fn push_spaced(out: &mut Vec<u8>, words: &[Word<'_>]) -> Result<(), AllocError>
+    ensures { OnOk result (out.new.items ≡ out.old.items ++ spaced (map word_text words.now)) }
 {
-    out.push(b'\n')?;
+    for word in words {
+        out.push(b' ')?;
+        push_word(out, *word)?;
+    }
+    Ok(())
+}
+
+/// Words with one blank between each two.
+pub fn push_joined(out: &mut Vec<u8>, all: &[Word<'_>]) -> Result<(), AllocError>
+    ensures { OnOk result (out.new.items ≡ out.old.items ++ words (map word_text all.now)) }
+{
+    match all {
+        [first, others @ ..] => {
+            push_word(out, *first)?;
+            push_spaced(out, others)
+        }
+        [] => Ok(()),
+    }
+}
+
+/// Bytes as words, each after a blank.
+pub fn push_bytes(out: &mut Vec<u8>, bytes: &[u8]) -> Result<(), AllocError>
+    ensures { OnOk result (out.new.items ≡ out.old.items ++ spaced (bytes_words bytes.now)) }
+{
+    for byte in bytes {
+        out.push(b' ')?;
+        push_hex_byte(out, u32::from(*byte))?;
+    }
     Ok(())
 }
 
@@ -95,12 +148,15 @@ fn push_end(out: &mut Vec<u8>) -> Result<(), AllocError>
 pub fn push_line(out: &mut Vec<u8>, words: &[Word<'_>]) -> Result<(), AllocError>
     ensures { OnOk result (out.new.items ≡ out.old.items ++ line_of (map word_text words.now)) }
 {
-    match words {
-        [before @ .., last] => {
-            push_leading(out, before)?;
-            push_word(out, *last)?;
-            push_end(out)
-        }
-        [] => push_end(out),
-    }
+    push_joined(out, words)?;
+    out.push(b'\n')?;
+    Ok(())
+}
+
+/// A line of words that is part of the one above.
+pub fn push_inner(out: &mut Vec<u8>, words: &[Word<'_>]) -> Result<(), AllocError>
+    ensures { OnOk result (out.new.items ≡ out.old.items ++ inner_line (map word_text words.now)) }
+{
+    out.extend_from_slice(b"  ")?;
+    push_line(out, words)
 }

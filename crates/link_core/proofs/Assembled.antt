@@ -35,11 +35,12 @@ use Rattle.image_model.specs.Linked.{image_of}
 use Rattle.lx_write.specs.declared.image.Image.{Image}
 use Rattle.lx_write.specs.LinkImages.{IsImageOfLink, LinkImagesAreWritten}
 use Rattle.lx_write.specs.Value.{CanBeWritten, image_value}
-use Rattle.sym_table.specs.Symbols.{SymbolTable}
-use Rattle.sym_table.specs.Binding.{IsBound, IsRefused}
-use Rattle.seg_merge.specs.declared.layout.Layout.{Layout}
-use Rattle.seg_merge.specs.Layout.{IsLaidOut}
-use Rattle.seg_merge.specs.Places.{ArePlaces}
+use Rattle.link_types.specs.Symbols.{SymbolTable}
+use Rattle.link_types.specs.Binding.{IsBound}
+use Rattle.sym_table.specs.Binding.{IsRefused}
+use Rattle.link_types.specs.declared.layout.Layout.{Layout}
+use Rattle.link_types.specs.Layout.{IsLaidOut}
+use Rattle.link_types.specs.Places.{ArePlaces}
 use Rattle.link_core.specs.declared.image.LinkParts.{LinkParts}
 use Rattle.link_core.specs.declared.image.PlacedImage.{PlacedImage}
 use Rattle.link_core.specs.declared.planning.Plan.{Plan}
@@ -122,7 +123,7 @@ comdat-refused input s r bound e = record {
   refused = refusal_is (kept_link input s.chosen) None (Some (Comdat r)) _ _ _ (ap (option_map Sym) (same-names (link_of (Kept input) s.chosen) (comdat_refusal input s.chosen) ∙ bound.symbols.accepted)) (ap (option_map Comdat) e) refl refl refl;
 }
 
--- What is refused behind COMDATs is what the link of what is kept refuses.
+-- What is refused after COMDATs is what the link of what is kept refuses.
 pub later-refused : (input : LinkInput) (s : SymbolTable) (r : LinkRefusal) → IsBound (Kept input) s → comdat_refusal input s.chosen ≡ None → link_refusal (link_of (Kept input) s.chosen) ≡ Some r → RefusesLink input r
 later-refused input s r bound joined e = record {
   link = link_of (Kept input) s.chosen;

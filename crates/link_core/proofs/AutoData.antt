@@ -23,8 +23,8 @@ use Rattle.link_model.specs.Goals.{group_name, object_of_group}
 use Rattle.link_model.specs.Header.{auto_data}
 use Rattle.link_model.proofs.Tables.{any-firsts}
 use Rattle.link_model.proofs.Members.{position_is}
-use Rattle.seg_merge.specs.declared.places.Places.{Places}
-use Rattle.seg_merge.specs.Places.{ArePlaces, group_in}
+use Rattle.link_types.specs.declared.places.Places.{Places}
+use Rattle.link_types.specs.Places.{ArePlaces, group_in}
 
 abbrev pub named : Group → Bool
 named g = bytes_eq g.name DGROUP

@@ -9,7 +9,8 @@ use Rattle.std.proofs.lemmas.List.{length-map}
 use Rattle.link_fix.proofs.LinkPages.{filter_map-same}
 use Rattle.lx_types.proofs.Lists.{length-map-enumerate_from, length-filter_map}
 use Rattle.link_place.proofs.Located.{symbols_are}
-use Rattle.lx_types.specs.Addresses.{UNIT, is_big}
+use Rattle.lx_types.specs.Addresses.{is_big}
+use Rattle.lx_types.specs.declared.limits.TheConstants.{BASE_UNIT}
 use Rattle.lx_types.specs.declared.entry.EntryHead.{EntryHead}
 use Rattle.lx_types.specs.declared.entry.EntryHead.TheVariants as heads
 use Rattle.lx_types.specs.declared.entry.FwdKey.TheVariants as fwd
@@ -40,11 +41,11 @@ use Rattle.image_model.specs.Exported as links
 use Rattle.image_model.specs.Exported.{forwarder_to, head_of}
 use Rattle.lx_exports.specs.declared.exports.OutEntry.{OutEntry}
 use Rattle.lx_exports.specs.Exports.{asked, names_of, numbered, with_ordinals, exported_of, export_refusal, HeadFits, ExportFits}
-use Rattle.sym_table.specs.Symbols.{SymbolTable}
-use Rattle.sym_table.specs.Meanings.{global_in}
-use Rattle.sym_table.specs.Binding.{AreSymbolsOf}
-use Rattle.seg_merge.specs.declared.places.Places.{Places}
-use Rattle.seg_merge.specs.Places.{ArePlaces}
+use Rattle.link_types.specs.Symbols.{SymbolTable}
+use Rattle.link_types.specs.Globals.{global_in}
+use Rattle.link_types.specs.Binding.{AreSymbolsOf}
+use Rattle.link_types.specs.declared.places.Places.{Places}
+use Rattle.link_types.specs.Places.{ArePlaces}
 use Rattle.link_fix.specs.Tables.{pair_among}
 use Rattle.link_core.specs.Exports.{lead_in, pair_in, forward_among, wide_among, entry_with, entry_to, entry_in, entries_in}
 use Rattle.link_core.specs.Parts.{all_pairs}
@@ -154,8 +155,8 @@ pub record Matches (l : Link) (x : Exp) : Type 0 where
   pub words : entry.words ≡ x.words
   pub fits : lay_refusal l ≡ None → sym_refusal l ≡ None → HeadFits entry.wide entry.head
 
-not_less : (offset : ℕ) (b : Bool) → MAX_NUMBER < offset → IsTrue (b || not (nat_lt offset UNIT))
-not_less offset b h = or_end b (not (nat_lt offset UNIT)) (ap not (le-ltb offset UNIT (omega (arith, h))))
+not_less : (offset : ℕ) (b : Bool) → MAX_NUMBER < offset → IsTrue (b || not (nat_lt offset BASE_UNIT))
+not_less offset b h = or_end b (not (nat_lt offset BASE_UNIT)) (ap not (le-ltb offset BASE_UNIT (omega (arith, h))))
   where
     or_end : (a b : Bool) → b ≡ true → (a || b) ≡ true
     or_end true b e = refl

@@ -6,7 +6,8 @@ use Rattle.std.proofs.Common.{ap, sym, ◌∙◌, arith, true≢false, subst}
 use Rattle.std.proofs.lemmas.Bool.{ltb-false, or_parts}
 use Rattle.lx_types.proofs.Lists.{length-map-enumerate_from}
 use Rattle.lx_types.specs.Sound.{IsNumberOf}
-use Rattle.link_model.specs.declared.limits.TheConstants.{MAX_MEMORY, MAX_OBJECTS}
+use Rattle.lx_types.specs.declared.limits.TheConstants.{MAX_OBJECTS}
+use Rattle.link_model.specs.declared.limits.TheConstants.{MAX_MEMORY}
 use Rattle.link_model.specs.declared.refusals.LayRefusal.TheVariants.{TooLarge}
 use Rattle.link_model.specs.Words.{first_of}
 use Rattle.link_model.specs.Link.{Link}

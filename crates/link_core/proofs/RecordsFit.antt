@@ -286,7 +286,7 @@ records_apart l object k a b f g ha hb on_a on_b apart ea eb =
     let sized : Apart (record_with k a ra.item) (record_with k b rb.item) = subst (λ (n : ℕ). ((offset_on k a +ℤ pos n) ≤ℤ offset_on k b) ⊎ ((offset_on k b +ℤ pos (source_size (source_of b))) ≤ℤ offset_on k a)) (sym za) (subst (λ (n : ℕ). ((offset_on k a +ℤ pos (location_len a.fix.loc)) ≤ℤ offset_on k b) ⊎ ((offset_on k b +ℤ pos n) ≤ℤ offset_on k a)) (sym zb) numbers) in
     subst (λ (x : Fix). Apart x g) ra.gives (subst (λ (x : Fix). Apart (record_with k a ra.item) x) rb.gives sized)
 
--- From one record to those behind it.
+-- From one record to those after it.
 others_apart : (l : Link) (object k : ℕ) (a : Fixup) (f : Fix) (qs : List Fixup) → 0 < location_len a.fix.loc → stands_on object k a ≡ true → record_on l k a ≡ Some f
     → AllByRecursion (λ q. (0 < location_len q.fix.loc) × (stands_on object k q ≡ true) × (overlap a q ≡ false)) qs → AllByRecursion (Apart f) (filter_map (record_on l k) qs)
 others_apart l object k a f [] ha on e all = tt

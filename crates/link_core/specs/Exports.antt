@@ -1,9 +1,10 @@
 -- The exports of a link as the tables of its module tell them, from its places, its symbols and its import tables.
--- LX: "Entry Table".
+-- "32-bit Linear eXecutable Module Format": "Entry Table".
 use Rattle.std.specs.Prelude.{ℕ, Bool, false, not, ◌||◌, List, ◌++◌, Option, Some, None, map, nat_lt, slice_get, length}
 use Rattle.std.specs.List.{filter_map, flat_map, range_with_len}
 use Rattle.std.specs.Option.{option_map, option_and_then, option_map_or}
-use Rattle.lx_types.specs.Addresses.{UNIT, is_big}
+use Rattle.lx_types.specs.Addresses.{is_big}
+use Rattle.lx_types.specs.declared.limits.TheConstants.{BASE_UNIT}
 use Rattle.lx_types.specs.declared.entry.EntryHead.{EntryHead}
 use Rattle.lx_types.specs.declared.entry.EntryHead.TheVariants as heads
 use Rattle.obj_types.specs.Items.{item}
@@ -16,9 +17,9 @@ use Rattle.link_model.specs.Goals.{Target, Internal, Constant, Entry}
 use Rattle.link_model.specs.ImportTables.{import_target, procs_in, name_offset, with_offset}
 use Rattle.image_model.specs.Exported.{forwarder_to}
 use Rattle.lx_exports.specs.declared.exports.OutEntry.{OutEntry}
-use Rattle.sym_table.specs.Symbols.{SymbolTable}
-use Rattle.sym_table.specs.Meanings.{global_in}
-use Rattle.seg_merge.specs.declared.places.Places.{Places}
+use Rattle.link_types.specs.Symbols.{SymbolTable}
+use Rattle.link_types.specs.Globals.{global_in}
+use Rattle.link_types.specs.declared.places.Places.{Places}
 use Rattle.link_place.specs.Fixed.{symbol_at}
 use Rattle.link_fix.specs.Tables.{pair_among}
 
@@ -48,10 +49,10 @@ head_among imports pairs (Internal o offset) = Some (heads.At o offset)
 head_among imports pairs (Constant value) = None
 head_among imports pairs (Entry slot) = option_and_then (forward_among pairs) (slice_get imports slot)
 
--- An entry of a big object, and one at 64 KiB or behind it, has an offset of 32 bits.
+-- An entry of a big object, and one at 64 KiB or past it, has an offset of 32 bits.
 abbrev pub wide_among : List LaidObject → Target → Bool
 wide_among objects (Internal o offset) =
-    is_big (option_map_or (λ x. x.flags) (item objects o) 0) || not (nat_lt offset UNIT)
+    is_big (option_map_or (λ x. x.flags) (item objects o) 0) || not (nat_lt offset BASE_UNIT)
 wide_among objects (Constant value) = false
 wide_among objects (Entry slot) = false
 

@@ -13,16 +13,16 @@ use Rattle.link_model.specs.Layout.{stack_top}
 use Rattle.link_model.specs.Link.{Link, exports}
 use Rattle.link_model.specs.Refusal.{place_refusal}
 use Rattle.lx_write.specs.declared.image.Image.{Image}
-use Rattle.sym_table.specs.Symbols.{SymbolTable}
-use Rattle.seg_merge.specs.declared.places.Places.{Places}
-use Rattle.seg_merge.specs.declared.layout.Layout.{Layout}
+use Rattle.link_types.specs.Symbols.{SymbolTable}
+use Rattle.link_types.specs.declared.places.Places.{Places}
+use Rattle.link_types.specs.declared.layout.Layout.{Layout}
 use Rattle.link_place.specs.Placing.{ArePlaced}
 use Rattle.link_core.specs.Exports.{pair_in, entries_in}
 use Rattle.link_core.specs.Ranges.{HasRange}
 use Rattle.link_core.specs.declared.image.LinkTables.{LinkTables}
 use Rattle.link_core.specs.declared.image.LinkParts.{LinkParts}
 
--- The pairs that are imported: those of fixups, and behind them those of forwarders.
+-- The pairs that are imported: those of fixups, and after them those of forwarders.
 abbrev pub all_pairs : Places → SymbolTable → List Imp → List Exp → List Imp
 all_pairs p s pairs xs = pairs ++ filter_map (pair_in p s) xs
 

@@ -19,9 +19,9 @@ use Rattle.lx_types.specs.declared.fail.Fail.TheVariants.{Said, NoMemory}
 use Rattle.lx_exports.specs.Exports.{export_refusal}
 use Rattle.lx_write.specs.LinkImages.{IsImageOfLink}
 use Rattle.lx_write.specs.Value.{CanBeWritten}
-use Rattle.sym_table.specs.Binding.{IsBound}
-use Rattle.sym_table.specs.Symbols.{SymbolTable}
-use Rattle.seg_merge.specs.Places.{ArePlaces}
+use Rattle.link_types.specs.Binding.{IsBound}
+use Rattle.link_types.specs.Symbols.{SymbolTable}
+use Rattle.link_types.specs.Places.{ArePlaces}
 use Rattle.link_core.specs.declared.image.PlacedImage.{PlacedImage}
 use Rattle.link_core.specs.declared.planning.Plan.{Plan}
 

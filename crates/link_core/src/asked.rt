@@ -3,15 +3,15 @@
 ghost use Rattle.std.specs.Prelude.{◌≡◌, IfOk, map};
 ghost use Rattle.link_model.specs.Header.{auto_data};
 ghost use Rattle.link_model.specs.Link.{link_of, exports};
-ghost use Rattle.seg_merge.specs.Places.{ArePlaces};
+ghost use Rattle.link_types.specs.Places.{ArePlaces};
 
 use crate::auto::auto_of;
 use crate::exports::exports_of;
 use link_model::modules_at;
-use obj_types::{Exp, LinkInput, NoMemory};
-use seg_merge::Places;
+use link_types::{Places, Symbols};
+use lx_types::NoMemory;
+use obj_types::{Exp, LinkInput};
 use std::alloc::Global;
-use sym_table::Symbols;
 
 /// What a link's header and tables are asked to have.
 #[derive(Drop)]

@@ -6,11 +6,11 @@ ghost use Rattle.std.specs.Option.{unwrap_or, option_and_then};
 ghost use Rattle.link_model.specs.Groups.{DGROUP};
 ghost use Rattle.link_model.specs.Header.{auto_data};
 ghost use Rattle.link_model.specs.Link.{Link};
-ghost use Rattle.seg_merge.specs.Places.{ArePlaces};
+ghost use Rattle.link_types.specs.Places.{ArePlaces};
 
-use link_model::number;
-use obj_types::{Group, NoMemory, ObjModule};
-use seg_merge::Places;
+use link_types::Places;
+use lx_types::{NoMemory, count};
+use obj_types::{Group, ObjModule};
 
 // The place of DGROUP among groups, from 0.
 fn dgroup_in(groups: &[Group]) -> Option<usize>
@@ -38,7 +38,7 @@ pub fn auto_of(places: &Places, modules: &[&ObjModule]) -> Result<u32, NoMemory>
 {
     for (index, object) in modules.iter().enumerate() {
         if let Some(group) = dgroup_in(object.groups.as_slice()) {
-            return Ok(object_or_0(places.group(number(index + 1)?, number(group + 1)?)));
+            return Ok(object_or_0(places.group(count(index + 1)?, count(group + 1)?)));
         }
     }
     Ok(0)

@@ -14,13 +14,12 @@ ghost use Rattle.link_core.specs.Exports.{offsets_of, forward_among, head_among,
 use crate::exports::lead_of;
 use link_fix::{ImportTables, Target};
 use link_model::LaidObject;
+use link_types::{Layout, Places, Symbols};
 use lx_exports::OutEntry;
 use lx_types::{EntryHead, FixTarget, FwdKey, NoMemory, OBJECT_BIG, Seq};
 use lx_write::name_offsets;
 use obj_types::{Exp, Imp};
-use seg_merge::{Layout, Places};
 use std::alloc::Global;
-use sym_table::Symbols;
 
 fn offset_at(offsets: &[u32], place: u32) -> Option<u32>
     ensures { result ≡ slice_get offsets.now place }

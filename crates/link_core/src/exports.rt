@@ -6,10 +6,10 @@ ghost use Rattle.link_core.specs.Exports as rules;
 
 use link_fix::{Target, pair_of};
 use link_place::of_symbol;
-use obj_types::{Exp, Imp, LinkInput, NoMemory, ObjModule};
-use seg_merge::Places;
+use link_types::{Places, Symbols};
+use lx_types::NoMemory;
+use obj_types::{Exp, Imp, LinkInput, ObjModule};
 use std::alloc::Global;
-use sym_table::Symbols;
 
 // Adds exports, in order.
 fn add_exports<'a>(found: &mut Vec<&'a Exp>, exports: &'a [Exp]) -> Result<(), NoMemory>

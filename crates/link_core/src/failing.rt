@@ -4,7 +4,7 @@ ghost use Rattle.std.specs.Prelude.{◌≡◌};
 ghost use Rattle.link_core.specs.Planned as failed;
 
 use link_model::{ComdatRefusal, EntryRefusal, FixRefusal, LayRefusal, LinkRefusal, SymRefusal};
-use obj_types::Fail;
+use lx_types::Fail;
 
 /// What names have no meaning.
 pub fn sym_failed(fail: Fail<SymRefusal>) -> Fail<LinkRefusal>

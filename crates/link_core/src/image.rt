@@ -7,7 +7,7 @@ ghost use Rattle.link_model.specs.Flags.{flag};
 ghost use Rattle.link_model.specs.Header.{auto_data};
 ghost use Rattle.link_model.specs.ImportTables.{modules_in, procs_in};
 ghost use Rattle.link_model.specs.Link.{link_of, exports};
-ghost use Rattle.seg_merge.specs.Places.{ArePlaces};
+ghost use Rattle.link_types.specs.Places.{ArePlaces};
 ghost use Rattle.link_core.specs.Parts.{AreTables, HasParts};
 
 use crate::asked::{Asked, asked_of};
@@ -15,13 +15,12 @@ use crate::entries::entries_of;
 use crate::ranges::fix_ranges;
 use crate::tables::link_tables;
 use link_place::Placed;
+use link_types::{Layout, Places, Symbols};
 use lx_exports::OutEntry;
 use lx_types::{MODULE_INIT_EACH, MODULE_TERM_EACH, Name, Names, NoMemory, Seq};
 use lx_write::Image;
 use obj_types::{DefFile, LinkInput};
-use seg_merge::{Layout, Places};
 use std::alloc::Global;
-use sym_table::Symbols;
 
 /// What a module imports and exports, and its automatic data object.
 #[derive(Drop)]

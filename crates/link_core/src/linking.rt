@@ -11,10 +11,10 @@ use crate::counts::{page_count, source_count};
 use crate::failing::entry_failed;
 use crate::planning::{Plan, plan_link};
 use comdat_core::{has_comdats, keep};
-use link_model::{LinkRefusal, number, what_is_kept_is_whole, without_comdats_all_is_kept};
-use lx_types::{Bytes, Name, NoMemory, Seq};
+use link_model::{LinkRefusal, what_is_kept_is_whole, without_comdats_all_is_kept};
+use lx_types::{Bytes, Fail, Name, NoMemory, Seq, count};
 use lx_write::{Image, link_images_are_written, write_module};
-use obj_types::{Fail, LinkInput};
+use obj_types::LinkInput;
 use std::alloc::Global;
 
 /// A linked module.
@@ -39,7 +39,7 @@ fn linked_of(alloc: Global, image: &Image, file: Vec<u8>) -> Result<Linked, NoMe
     Ok(Linked {
         file: Seq::from_vec(file),
         name: image.name.to_uppercase(alloc)?,
-        objects: number(image.objects.as_slice().len())?,
+        objects: count(image.objects.as_slice().len())?,
         pages: page_count(image.fixes.as_slice())?,
         sources: source_count(image.fixes.as_slice())?,
     })

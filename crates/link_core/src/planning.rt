@@ -7,8 +7,8 @@ ghost use Rattle.link_model.specs.Kept.{Kept};
 ghost use Rattle.link_model.specs.LayoutRefusals.{lay_refusal};
 ghost use Rattle.link_model.specs.Link.{link_of};
 ghost use Rattle.link_model.specs.Refusal.{link_refusal};
-ghost use Rattle.sym_table.specs.Binding.{IsBound};
-ghost use Rattle.seg_merge.specs.Layout.{IsLaidOut};
+ghost use Rattle.link_types.specs.Binding.{IsBound};
+ghost use Rattle.link_types.specs.Layout.{IsLaidOut};
 ghost use Rattle.link_core.specs.Links.{RefusesLink};
 ghost use Rattle.link_core.specs.Parts.{AreParts};
 ghost use Rattle.link_core.specs.Planned.{IsPlanned, IsPlannedLink, plan_with};
@@ -18,11 +18,13 @@ use crate::image::{LinkParts, PlacedImage, image_of, tables_of};
 use comdat_core::judge;
 use link_model::LinkRefusal;
 use link_place::place_fixes;
+use link_types::{Layout, Places, Symbols};
+use lx_types::Fail;
 use lx_write::Image;
-use obj_types::{Fail, LinkInput};
-use seg_merge::{Layout, Places, lay_out};
+use obj_types::LinkInput;
+use seg_merge::lay_out;
 use std::alloc::Global;
-use sym_table::{Symbols, bind};
+use sym_table::bind;
 
 /// A link whose names, segments and fixups are not refused.
 #[derive(Drop)]

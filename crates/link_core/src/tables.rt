@@ -1,4 +1,4 @@
-//! The import tables of a module: what its fixups name, and behind it what its forwarders name ("Import Module Name
+//! The import tables of a module: what its fixups name, and after it what its forwarders name ("Import Module Name
 //! Table", "Import Procedure Name Table").
 
 ghost use Rattle.std.specs.Prelude.{◌≡◌, ◌++◌, IfOk, OnOk, List, map, bytes_eq, option_to_list};
@@ -12,11 +12,10 @@ ghost use Rattle.link_core.specs.Exports.{pair_in};
 use crate::exports::forwarded;
 use link_fix::{FirstNames, ImportTables};
 use link_place::Placed;
+use link_types::{Places, Symbols};
 use lx_types::{Name, NoMemory};
 use obj_types::Exp;
-use seg_merge::Places;
 use std::alloc::Global;
-use sym_table::Symbols;
 
 // The names in the order in which each first stands.
 fn first_names(alloc: Global, names: &[Name]) -> Result<FirstNames, NoMemory>
@@ -74,7 +73,7 @@ fn first_tables(alloc: Global, placed: &Placed) -> Result<ImportTables, NoMemory
     Ok(ImportTables::of(modules, procs))
 }
 
-/// The import tables of the pairs that fixups name, and behind them of the exports that lead to other modules.
+/// The import tables of the pairs that fixups name, and after them of the exports that lead to other modules.
 pub fn link_tables(
     alloc: Global,
     places: &Places,

@@ -6,10 +6,11 @@ use Rattle.std.proofs.Common.{ap, sym, ◌∙◌, arith, subst, true≢false}
 use Rattle.std.proofs.Math.Bool.{and-false}
 use Rattle.std.proofs.lemmas.Bool.{eqb-true}
 use Rattle.std.proofs.lemmas.List.Elements.{All-nil, All-cons, All-head, All-tail, All-append, All-filter}
-use Rattle.lx_types.specs.Addresses.{UNIT}
+use Rattle.lx_types.specs.declared.limits.TheConstants.{BASE_UNIT}
 use Rattle.lx_types.specs.declared.fix.FixTarget.{FixTarget}
 use Rattle.lx_types.specs.declared.fix.FixTarget.TheVariants as leads
 use Rattle.lx_bytes.specs.LittleEndian.{little, little_bytes}
+use Rattle.obj_types.specs.declared.location.TheConstants.{LOCATION_BYTE, LOCATION_SELECTOR, LOCATION_OFFSET_32, LOCATION_LOADER_32}
 use Rattle.obj_types.specs.declared.object.ObjModule.{ObjModule}
 use Rattle.obj_types.specs.declared.object.FixAt.{FixAt}
 use Rattle.obj_types.specs.Location.{location_len}
@@ -75,7 +76,7 @@ distance_bare q (Entry slot) = refl
 
 far_bare : (q : Fixup) → is_far_self (bare q) ≡ is_far_self q
 far_bare q =
-    ap (λ (d : ℕ). q.fix.selfrel && (is_constant q.target || is_short q.fix.loc && not (stays_in_object q) || q.fix.loc == 0 && is_past_reach d)) (distance_bare q q.target)
+    ap (λ (d : ℕ). q.fix.selfrel && (is_constant q.target || is_short q.fix.loc && not (stays_in_object q) || q.fix.loc == LOCATION_BYTE && is_past_reach d)) (distance_bare q q.target)
 
 no_frame : (o : Option ℕ) → option_any (λ o. option_any (λ f. not (f == o)) None) o ≡ false
 no_frame None = refl
@@ -83,8 +84,8 @@ no_frame (Some o) = refl
 
 apart_bare : (q : Fixup) → is_frame_apart (bare q) ≡ false
 apart_bare q =
-    ap (λ (b : Bool). not q.fix.selfrel && not (q.fix.loc == 9 || q.fix.loc == 13) && b) (no_frame (object_of_target q.target))
-    ∙ and-false (not q.fix.selfrel && not (q.fix.loc == 9 || q.fix.loc == 13))
+    ap (λ (b : Bool). not q.fix.selfrel && not (q.fix.loc == LOCATION_OFFSET_32 || q.fix.loc == LOCATION_LOADER_32) && b) (no_frame (object_of_target q.target))
+    ∙ and-false (not q.fix.selfrel && not (q.fix.loc == LOCATION_OFFSET_32 || q.fix.loc == LOCATION_LOADER_32))
 
 still_none : (far far' apart constant none : Bool) (x y z u v w : FixRefusal) → far' ≡ far → none ≡ false
     → cond far (Some x) (cond apart (Some y) (cond constant (Some z) None)) ≡ None → cond far' (Some u) (cond none (Some v) (cond constant (Some w) None)) ≡ None
@@ -114,7 +115,7 @@ constant_accepted : (q : Fixup) (v : ℕ) → fix_refusal (bare (with_target q (
 unfolding fix_refusal
 constant_accepted q v e =
     let r : Fixup = with_target q (Constant v) in
-    still_none (is_far_self (bare r)) (is_far_self r) (is_frame_apart (bare r)) (is_const_selector r) (is_frame_apart r) _ _ _ _ _ _ refl (and-false (not q.fix.selfrel && not (q.fix.loc == 9 || q.fix.loc == 13))) e
+    still_none (is_far_self (bare r)) (is_far_self r) (is_frame_apart (bare r)) (is_const_selector r) (is_frame_apart r) _ _ _ _ _ _ refl (and-false (not q.fix.selfrel && not (q.fix.loc == LOCATION_OFFSET_32 || q.fix.loc == LOCATION_LOADER_32))) e
 
 patched_bare :
     (l : Link) (q : Fixup) (t : Target) → fix_refusal (bare (with_target q t)) ≡ None → 0 < location_len q.fix.loc → is_patched (with_target q t) ≡ true
@@ -222,7 +223,7 @@ additive_sum d s = omega arith
 
 -- Where the record of a selector leads, and that of another location.
 abbrev selected : ℕ → ℕ → FixTarget × ℕ
-selected o at = (leads.Internal o 0, cond (nat_le UNIT at) at 0)
+selected o at = (leads.Internal o 0, cond (nat_le BASE_UNIT at) at 0)
 
 abbrev led : ℕ → ℕ → FixTarget × ℕ
 led o at = (leads.Internal o at, 0)
@@ -234,7 +235,7 @@ internal_bare false o x d s none = ap (led o) (offset_sum x d s)
 
 target_bare : (imports pairs : List Imp) (q : Fixup) (t : Target) → HasBareSelector q → target_among imports pairs (bare q) t ≡ target_among imports pairs q t
 target_bare imports pairs q (Internal o x) none =
-    ap (λ (t : FixTarget × ℕ). Some t) (internal_bare (q.fix.loc == 2) o x q.fix.disp q.standing (λ e. none (eqb-true q.fix.loc 2 e)))
+    ap (λ (t : FixTarget × ℕ). Some t) (internal_bare (q.fix.loc == LOCATION_SELECTOR) o x q.fix.disp q.standing (λ e. none (eqb-true q.fix.loc LOCATION_SELECTOR e)))
 target_bare imports pairs q (Constant v) none = refl
 target_bare imports pairs q (Entry slot) none =
     ap (λ (n : ℕ). option_map (λ (target : FixTarget). (target, n)) (option_and_then (import_target pairs) (slice_get imports slot))) (additive_sum q.fix.disp q.standing)

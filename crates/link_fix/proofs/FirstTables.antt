@@ -6,7 +6,7 @@ use Rattle.std.proofs.Common.{ap, sym, ◌∙◌, arith}
 use Rattle.std.proofs.lemmas.Bool.Decides.{nat_tests}
 use Rattle.std.proofs.lemmas.List.{length-map, map-append}
 use Rattle.lx_types.proofs.Bools.{some_by}
-use Rattle.first_table.specs.Entries.{is_named, with_entry}
+use Rattle.name_table.specs.Entries.{is_named, with_entry}
 use Rattle.link_model.specs.Appearance.{firsts}
 use Rattle.link_model.proofs.Tables.{firsts-push}
 

@@ -198,7 +198,7 @@ behind-step marks marked qs now new left first after d some all are is stays sam
     let at : q ≡ get_or now i q = get_or_default now i d q (omega arith) in
     (marked-more marks marked qs now i first q all are_next is_next at painted, behind-more marks marked qs now i first q all are_next is_next at new after _ refl stays same)
 
--- A byte without mark, and those behind it.
+-- A byte without mark, and those after it.
 pub marks-step : (mark : ℕ → ℕ) (x n : ℕ) → 0 < n → mark x ≡ 0 → any_mark mark (x + 1) (n - 1) ≡ any_mark mark x n
 marks-step mark x zero h none = absurd (omega arith)
 marks-step mark x (suc n) h none =

@@ -3,10 +3,11 @@ use Rattle.std.specs.Prelude.{ℕ, ◌+◌, List, [], ◌∷◌, ◌++◌, Optio
 use Rattle.std.specs.List.{filter_map}
 use Rattle.std.specs.Option.{option_map, option_and_then, option_map_or}
 use Rattle.std.specs.Global.{Vec}
-use Rattle.lx_types.specs.Addresses.{UNIT}
+use Rattle.lx_types.specs.declared.limits.TheConstants.{BASE_UNIT}
 use Rattle.lx_types.specs.declared.fix.Fix.{Fix}
 use Rattle.lx_types.specs.declared.fix.FixTarget.{FixTarget}
 use Rattle.lx_types.specs.declared.fix.FixTarget.TheVariants as leads
+use Rattle.obj_types.specs.declared.location.TheConstants.{LOCATION_SELECTOR}
 use Rattle.obj_types.specs.declared.symbol.Imp.{Imp}
 use Rattle.link_model.specs.Words.{wrapped}
 use Rattle.link_model.specs.Goals.{Target, Internal, Constant, Entry}
@@ -19,7 +20,7 @@ use Rattle.link_fix.specs.declared.paging.PageFixes.{PageFixes}
 abbrev pub target_among : List Imp → List Imp → rules.Fixup → Target → Option (FixTarget × ℕ)
 target_among imports pairs q (Internal o offset) =
     let at = wrapped (offset + q.fix.disp) in
-    Some (if q.fix.loc == 2 then (leads.Internal o 0, if nat_le UNIT at then at else 0)
+    Some (if q.fix.loc == LOCATION_SELECTOR then (leads.Internal o 0, if nat_le BASE_UNIT at then at else 0)
     else (leads.Internal o (wrapped (at + q.standing)), 0))
 target_among imports pairs q (Constant value) = None
 target_among imports pairs q (Entry slot) =

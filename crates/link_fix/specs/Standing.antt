@@ -1,6 +1,7 @@
 -- Numbers that stand in locations, from the bytes of a segment.
 use Rattle.std.specs.Prelude.{ℕ, zero, suc, ◌+◌, ◌&&◌, List, [], ◌∷◌, if◌then◌else◌, ◌==◌}
 use Rattle.lx_bytes.specs.LittleEndian.{little}
+use Rattle.obj_types.specs.declared.location.TheConstants.{LOCATION_BYTE}
 use Rattle.obj_types.specs.declared.object.FixAt.{FixAt}
 use Rattle.link_model.specs.Fixups.{offset_width, signed_byte}
 
@@ -14,4 +15,4 @@ number_from byte f = little (bytes_from byte f.offset (offset_width f.loc))
 
 -- The low byte of a self-relative location has a sign.
 abbrev pub standing_from : (ℕ → ℕ) → FixAt → ℕ
-standing_from byte f = if f.selfrel && f.loc == 0 then signed_byte (number_from byte f) else number_from byte f
+standing_from byte f = if f.selfrel && f.loc == LOCATION_BYTE then signed_byte (number_from byte f) else number_from byte f

@@ -129,7 +129,7 @@ impl Images {
     }
 }
 
-// Takes the first bytes of a row out, with zeros behind its end, and leaves none.
+// Takes the first bytes of a row out, with zeros after its end, and leaves none.
 fn take_bytes(alloc: Global, row: &mut Vec<u8>, len: usize) -> Result<Vec<u8>, NoMemory>
     ensures bytes { IfOk result (λ bytes. bytes.items ≡ map (slice_index row.old.items) (range_with_len 0 len)) }
     ensures left { row.new.items ≡ [] }
@@ -139,7 +139,7 @@ fn take_bytes(alloc: Global, row: &mut Vec<u8>, len: usize) -> Result<Vec<u8>, N
     Ok(bytes)
 }
 
-// The first bytes of a list, and zeros behind its end.
+// The first bytes of a list, and zeros after its end.
 fn first_bytes(alloc: Global, held: &[u8], len: usize) -> Result<Vec<u8>, NoMemory>
     ensures { IfOk result (λ bytes. bytes.items ≡ map (slice_index held.now) (range_with_len 0 len)) }
 {

@@ -16,12 +16,9 @@ mod values;
 
 pub use fixup::{Fixup, PlacedFixup, Target};
 pub use images::Images;
-pub use marks::live_of;
 pub use pages::{Pages, place_pages};
-pub use paging::{PageFixes, object_fixes, page_fixes};
-pub use painting::{PlacedPiece, object_rows, paint_fields, placed_data};
+pub use painting::PlacedPiece;
 pub use refusal::refusal_of;
 pub use standing::standings_of;
 pub use start::start_place;
-pub use tables::{FirstNames, ImportTables, pair_of, tables_of};
-pub use values::{field_of, is_patched};
+pub use tables::{FirstNames, ImportTables, pair_of};

@@ -55,7 +55,7 @@ fn keep(fixups: &mut [Fixup], first: usize, marks: &Images, q: Fixup) -> usize
     first - 1
 }
 
-// Puts the live ones of these fixups, in order, behind all others, and answers where they begin.
+// Puts the live ones of these fixups, in order, after all others, and answers where they begin.
 fn live_behind(alloc: Global, fixups: &mut [Fixup]) -> Result<usize, NoMemory>
     requires { All HasBytes fixups.old }
     ensures within { IfOk result (λ first. first ≤ length fixups.new) }
@@ -88,7 +88,7 @@ fn remove_first(fixups: &mut Vec<Fixup>, count: usize)
 
 /// The live ones of these fixups, in order: those with which none that stands after them shares a byte. It goes from
 /// the last to the first and marks the bytes of each. They stay in the memory that all of them have.
-pub fn live_of(alloc: Global, fixups: Vec<Fixup>) -> Result<Vec<Fixup>, NoMemory>
+pub(crate) fn live_of(alloc: Global, fixups: Vec<Fixup>) -> Result<Vec<Fixup>, NoMemory>
     requires { All HasBytes fixups.items }
     ensures { IfOk result (λ kept. map shown kept.items ≡ live (map shown fixups.items)) }
 {

@@ -26,7 +26,7 @@ use std::alloc::Global;
 
 /// Records by the number of an object and the number of a page, which counts from 0.
 #[derive(Drop)]
-pub struct PageFixes {
+pub(crate) struct PageFixes {
     rows: Vec<Vec<Vec<Fix>>>,
 }
 
@@ -237,7 +237,7 @@ fn add_fixup(
 }
 
 /// The records of these fixups, which the loader fixes, by object and page, in order.
-pub fn page_fixes(
+pub(crate) fn page_fixes(
     alloc: Global,
     imports: &[Imp],
     tables: &ImportTables,
@@ -279,7 +279,7 @@ fn page_count(size: u32) -> usize
 }
 
 /// The records of each page of each object, as many pages as its size takes.
-pub fn object_fixes(
+pub(crate) fn object_fixes(
     alloc: Global,
     pages: &PageFixes,
     objects: &[LaidObject],

@@ -39,7 +39,7 @@ fn empty_rows(alloc: Global, objects: &[LaidObject]) -> Result<Images, NoMemory>
 }
 
 /// The data of these pieces, as rows by object with room for the objects' sizes; a later piece covers an earlier one.
-pub fn placed_data(
+pub(crate) fn placed_data(
     alloc: Global,
     pieces: &[PlacedPiece],
     objects: &[LaidObject],
@@ -68,7 +68,7 @@ fn paint_field(alloc: Global, rows: &mut Images, q: &Fixup) -> Result<(), NoMemo
 /// Puts what stands in the fields of live fixups before the loader over the data: values that no base changes, and
 /// zeros where the loader gets a record. Where fields share bytes, which those of live fixups never do, the first
 /// fixup's stand.
-pub fn paint_fields(alloc: Global, rows: &mut Images, live: &[Fixup]) -> Result<(), NoMemory>
+pub(crate) fn paint_fields(alloc: Global, rows: &mut Images, live: &[Fixup]) -> Result<(), NoMemory>
     requires { All IsAccepted live.now }
     ensures { OnOk result ((l : Link) (n : ℕ) (x : ℕ) → byte_of rows.new n x ≡ with_fields l (map shown live.now) (byte_of rows.old) n x) }
 {
@@ -81,7 +81,7 @@ pub fn paint_fields(alloc: Global, rows: &mut Images, live: &[Fixup]) -> Result<
 }
 
 /// The bytes of each object, as many as its size, in the memory of their row.
-pub fn object_rows(
+pub(crate) fn object_rows(
     alloc: Global,
     rows: Images,
     objects: &[LaidObject],

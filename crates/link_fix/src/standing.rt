@@ -10,10 +10,10 @@ ghost use Rattle.link_fix.specs.Pieces.{of_pieces};
 
 use crate::images::Images;
 use crate::location::offset_width;
-use lx_types::NoMemory;
+use lx_types::{NoMemory, Seq};
 use obj_types::{
     FixAt, LOCATION_BYTE, LOCATION_FAR_16, LOCATION_LOADER_16, LOCATION_OFFSET_16,
-    LOCATION_SELECTOR, ObjModule, Piece, Seq,
+    LOCATION_SELECTOR, ObjModule, Piece,
 };
 use std::alloc::Global;
 

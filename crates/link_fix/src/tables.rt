@@ -10,9 +10,8 @@ ghost use Rattle.link_fix.specs.Shown.{shown, target_shown};
 ghost use Rattle.link_fix.specs.Tables.{AreFirst, ArePairs, pair_among, pairs_among};
 
 use crate::fixup::{Fixup, Target};
-use first_table::NameTable;
-use link_model::number;
-use lx_types::{EntryKey, FixTarget, Name, Names, NoMemory, Seq};
+use lx_types::{EntryKey, FixTarget, Name, Names, NoMemory, Seq, count};
+use name_table::NameTable;
 use obj_types::Imp;
 use std::alloc::Global;
 
@@ -141,7 +140,7 @@ impl ImportTables {
                 None => Ok(None),
                 Some(place) => Ok(Some(FixTarget::Named {
                     import,
-                    name_at: number(place)?,
+                    name_at: count(place)?,
                 })),
             },
         }
@@ -155,7 +154,7 @@ impl ImportTables {
         let module = pair.module.to_uppercase(alloc)?;
         match self.modules.place_of(&module) {
             None => Ok(None),
-            Some(place) => match number(place)?.checked_add(1) {
+            Some(place) => match count(place)?.checked_add(1) {
                 None => Err(NoMemory),
                 Some(import) => self.entry_target(import, &pair.entry),
             },
@@ -188,7 +187,7 @@ fn add_pair(
 }
 
 /// The import tables of these recorded fixups, where these are the import pairs of the link.
-pub fn tables_of(
+pub(crate) fn tables_of(
     alloc: Global,
     imports: &[Imp],
     recorded: &[Fixup],

@@ -16,7 +16,7 @@ use crate::refusal::{difference, is_constant, is_in};
 use obj_types::location_len;
 
 /// Whether the value of a fixup is the same at all bases: a constant, or the distance within one object.
-pub fn is_patched(q: &Fixup) -> bool
+pub(crate) fn is_patched(q: &Fixup) -> bool
     ensures { result ≡ patched (shown q.now) }
 {
     is_constant(q.target) || q.selfrel && is_in(q.target, q.object)
@@ -54,7 +54,7 @@ fn bytes_of(n: u32) -> [u8; 6]
 
 /// What stands in a fixup's field before the loader, as many bytes as its location has: the value where no base
 /// changes it, and zeros where the loader gets a record.
-pub fn field_of(q: &Fixup) -> [u8; 6]
+pub(crate) fn field_of(q: &Fixup) -> [u8; 6]
     requires accepted { fix_refusal (shown q.now) ≡ None }
     requires location { 0 < len_of_location q.now.loc }
     ensures { (l : Link) (k : ℕ) → k < len_of_location q.now.loc → slice_index result k ≡ field_byte l (shown q.now) k }

@@ -120,7 +120,7 @@ new_place test ys x true e is = position_is test ys e
 new_place test ys x false e is =
     position_is test (ys ++ x ∷ []) (any_last test ys x is) ∙ ap (λ (n : ℕ). Some n) (place_behind test ys x e is ∙ sym (none_before test ys e))
 
--- One more item stands where its key was, or behind the table.
+-- One more item stands where its key was, or after the table.
 pub place-push : {X : Type 0} {same : X → X → Bool} (eqv : IsEquivalence same) → (xs : List X) (x : X) → position (same x) (firsts same (xs ++ x ∷ [])) ≡ Some (position_or_len (same x) (firsts same xs))
 place-push {X} {same} eqv xs x =
     ap (position (same x)) (firsts-push eqv xs x) ∙ new_place (same x) (firsts same xs) x (list_any (same x) (firsts same xs)) refl (eqv.refl x)

@@ -110,7 +110,7 @@ group name members = record { name = name; members = members }
 abbrev grouped : List Seg → List Group → ObjModule
 grouped segs groups = record empty_module { segs = segs; groups = groups }
 
--- A near communal stands in DGROUP behind its data, and is 16-bit there as the group is.
+-- A near communal stands in DGROUP after its data, and is 16-bit there as the group is.
 abbrev dgroup : Link
 dgroup =
     library
@@ -178,7 +178,7 @@ far_is_mixed = refl
 abbrev with_stack : ℕ → DefFile
 with_stack n = record (default_def Program None) { stack = n }
 
--- A program gets a stack of its own, behind its data, on a paragraph.
+-- A program gets a stack of its own, after its data, on a paragraph.
 abbrev own : Link
 own = linked (with_stack 100) (with_segs (data32 4 ∷ []) ∷ [])
 
@@ -190,7 +190,7 @@ own_top : stack_top own ≡ Some (1, 116)
 unfolding rules
 own_top = refl
 
--- STACKSIZE lengthens a stack segment, and what follows stands behind it.
+-- STACKSIZE lengthens a stack segment, and what follows stands after it.
 abbrev given : Link
 given =
     linked (with_stack 100)

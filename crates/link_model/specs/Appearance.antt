@@ -32,7 +32,7 @@ pub record NameTables (key : ℕ → List ℕ) (xs : List ℕ) : Type 0 where
   -- one more item goes last, unless its key is there
   pub one_more : (x : ℕ) → table key (xs ++ x ∷ [])
       ≡ (if list_any (has_key key (key x)) (table key xs) then table key xs else table key xs ++ x ∷ [])
-  -- it is found where the table had its key, or else behind the table
+  -- it is found where the table had its key, or else after the table
   pub place : (x : ℕ) → place_by bytes_eq key (key x) (table key (xs ++ x ∷ []))
       ≡ Some (position_or_len (has_key key (key x)) (table key xs))
   -- a key that is there keeps its place

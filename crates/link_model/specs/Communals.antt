@@ -3,6 +3,7 @@
 use Rattle.std.specs.Prelude.{ℕ, Bool, true, not, ◌&&◌, List, ◌++◌, map, if◌then◌else◌, codes}
 use Rattle.std.specs.List.{find, list_any, enumerate_from}
 use Rattle.std.specs.Option.{option_map_or}
+use Rattle.obj_types.specs.declared.object.TheConstants.{ALIGN_DOUBLEWORD, COMBINE_PUBLIC}
 use Rattle.obj_types.specs.declared.symbol.Common.{Common}
 use Rattle.link_model.specs.Link.{Link}
 use Rattle.link_model.specs.Symbols.{commons}
@@ -31,8 +32,8 @@ of_common l slot c =
       origin = Communal slot;
       name = if c.far then codes "FAR_BSS" else codes "c_common";
       class = if c.far then codes "FAR_BSS" else codes "BSS";
-      align = 5;
-      combine = 2;
+      align = ALIGN_DOUBLEWORD;
+      combine = COMBINE_PUBLIC;
       wide = if c.far then far_wide l else near_wide l;
       len = c.len;
     }

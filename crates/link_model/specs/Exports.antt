@@ -2,7 +2,8 @@
 use Rattle.std.specs.Prelude.{ℕ, ◌+◌, Bool, true, false, not, ◌||◌, List, [], ◌∷◌, Option, Some, None, map, length, take, if◌then◌else◌, nat_lt, ◌==◌, bytes_eq, filter, find, is_none, unwrap_or, slice_get, slice_index}
 use Rattle.std.specs.List.{list_any, filter_map, zip, enumerate_from, range_with_len}
 use Rattle.std.specs.Option.{option_map, option_and_then, option_map_or}
-use Rattle.lx_types.specs.Addresses.{UNIT, is_big}
+use Rattle.lx_types.specs.Addresses.{is_big}
+use Rattle.lx_types.specs.declared.limits.TheConstants.{BASE_UNIT}
 use Rattle.obj_types.specs.declared.symbol.Exp.{Exp}
 use Rattle.obj_types.specs.declared.symbol.Imp.{Imp}
 use Rattle.link_model.specs.declared.limits.TheConstants.{MAX_NUMBER}
@@ -55,9 +56,9 @@ export_target l (Entry slot) = option_map Forward (slice_get (imports l) slot)
 abbrev pub is_resident : Exp → Bool
 is_resident x = option_map_or (λ n. x.resident) x.ordinal true
 
--- An entry of a big object, and one at 64 KiB or behind it, has an offset of 32 bits.
+-- An entry of a big object, and one at 64 KiB or past it, has an offset of 32 bits.
 abbrev pub is_wide : Link → ExportTarget → Bool
-is_wide l (At o offset) = is_big (object_flags l o) || not (nat_lt offset UNIT)
+is_wide l (At o offset) = is_big (object_flags l o) || not (nat_lt offset BASE_UNIT)
 is_wide l (Forward pair) = false
 
 abbrev pub export_of : Link → ℕ → Exp → Option Export
@@ -87,7 +88,7 @@ wrong_ordinal os =
     option_map (λ q. Ordinal q.1)
     (find (λ q. q.1 == 0 || list_any (λ g. g == q.1) (take q.0 (given os))) (enumerate_from 0 (given os)))
 
--- Else `Ordinal` of the number behind the greatest, where some export would get one past it.
+-- Else `Ordinal` of the number after the greatest, where some export would get one past it.
 abbrev pub ordinal_past : ℕ → List (Option ℕ) → Option EntryRefusal
 ordinal_past most os = if list_any (nat_lt most) (ordinals os) then Some (Ordinal (most + 1)) else None
 

@@ -5,6 +5,7 @@ use Rattle.std.specs.Option.{option_map, option_and_then}
 use Rattle.lx_bytes.specs.LittleEndian.{little}
 use Rattle.obj_types.specs.declared.object.ObjModule.{ObjModule}
 use Rattle.obj_types.specs.declared.object.FixAt.{FixAt}
+use Rattle.obj_types.specs.declared.location.TheConstants.{LOCATION_BYTE, LOCATION_OFFSET_16, LOCATION_SELECTOR, LOCATION_FAR_16, LOCATION_LOADER_16, LOCATION_OFFSET_32, LOCATION_LOADER_32}
 use Rattle.obj_types.specs.Items.{item}
 use Rattle.obj_types.specs.Location.{has_selector}
 use Rattle.link_model.specs.declared.refusals.FixRefusal.{FixRefusal}
@@ -17,7 +18,10 @@ use Rattle.link_model.specs.Goals.{Target, Internal, Constant, Entry, target_of,
 -- The bytes of a location's offset part.
 abbrev pub offset_width : ℕ → ℕ
 offset_width loc =
-    if loc == 0 then 1 else if loc == 2 then 0 else if loc == 1 || loc == 5 || loc == 3 then 2 else 4
+    if loc == LOCATION_BYTE then 1
+    else if loc == LOCATION_SELECTOR then 0
+    else if loc == LOCATION_OFFSET_16 || loc == LOCATION_LOADER_16 || loc == LOCATION_FAR_16 then 2
+    else 4
 
 abbrev pub standing_number : ObjModule → FixAt → ℕ
 standing_number m f = little (data_bytes m f.seg f.offset (offset_width f.loc))
@@ -40,7 +44,7 @@ pub record Fixup : Type 0 where
 -- The low byte of a self-relative location has a sign; every other number has none.
 abbrev pub standing_in : ObjModule → FixAt → ℕ
 standing_in m f =
-    if f.selfrel && f.loc == 0 then signed_byte (standing_number m f) else standing_number m f
+    if f.selfrel && f.loc == LOCATION_BYTE then signed_byte (standing_number m f) else standing_number m f
 
 abbrev pub is_narrow : ObjModule → ℕ → Bool
 is_narrow m seg = option_any (λ s. not s.wide) (item m.segs seg)
@@ -74,7 +78,7 @@ is_constant (Constant value) = true
 is_constant (Entry slot) = false
 
 abbrev pub is_short : ℕ → Bool
-is_short loc = loc == 0 || loc == 1 || loc == 5
+is_short loc = loc == LOCATION_BYTE || loc == LOCATION_OFFSET_16 || loc == LOCATION_LOADER_16
 
 -- The goal is in the location's object.
 abbrev pub stays_in_object : Fixup → Bool
@@ -96,13 +100,13 @@ abbrev pub is_far_self : Fixup → Bool
 is_far_self q =
     q.fix.selfrel && (is_constant q.target
     || is_short q.fix.loc && not (stays_in_object q)
-    || q.fix.loc == 0 && is_past_reach (distance q q.target))
+    || q.fix.loc == LOCATION_BYTE && is_past_reach (distance q q.target))
 
--- `FrameApart`: a segment-relative location other than 9 and 13 to a place in the link, whose frame names another
--- object than the goal's.
+-- `FrameApart`: a segment-relative location other than a 32-bit offset to a place in the link, whose frame names
+-- another object than the goal's.
 abbrev pub is_frame_apart : Fixup → Bool
 is_frame_apart q =
-    not q.fix.selfrel && not (q.fix.loc == 9 || q.fix.loc == 13)
+    not q.fix.selfrel && not (q.fix.loc == LOCATION_OFFSET_32 || q.fix.loc == LOCATION_LOADER_32)
     && option_any (λ o. option_any (λ f. not (f == o)) q.frame) (object_of_target q.target)
 
 -- `ConstSelector`: a location with a selector to a constant.

@@ -1,4 +1,5 @@
--- The attributes of segments, and the flags of objects ("Object table" in the LX document).
+-- The attributes of segments, and the flags of objects ("32-bit Linear eXecutable Module Format": "Object
+-- Table").
 use Rattle.std.specs.Prelude.{ℕ, ◌+◌, ◌-◌, Bool, true, ◌&&◌, List, length, drop, if◌then◌else◌, bytes_eq, codes}
 use Rattle.std.specs.List.{find}
 use Rattle.std.specs.Option.{option_map_or}

@@ -1,5 +1,5 @@
--- The import modules and the names of import procedures ("Import module name table", "Import procedure name table" in
--- the LX document), in order of first use.
+-- The import modules and the names of import procedures ("32-bit Linear eXecutable Module Format": "Import
+-- Module Name Table", "Import Procedure Name Table"), in order of first use.
 use Rattle.std.specs.Prelude.{◌≡◌, ℕ, suc, drop, ◌+◌, List, ◌++◌, ◌∷◌, Option, Some, None, map, length, take, slice_get, bytes_eq, sum_by}
 use Rattle.std.specs.List.{filter_map, flat_map}
 use Rattle.std.specs.Option.{option_map, option_and_then}
@@ -60,7 +60,7 @@ import_target pairs pair =
 
 -- ---- in a file
 
--- The table of procedure names: an empty name, then each name behind its length.
+-- The table of procedure names: an empty name, then each name after its length.
 abbrev pub name_bytes : List ℕ → List ℕ
 name_bytes name = length name ∷ name
 
@@ -78,7 +78,7 @@ with_offset names (leads.Ordinal number ordinal) = leads.Ordinal number ordinal
 with_offset names (leads.Named number k) = leads.Named number (name_offset names k)
 with_offset names (leads.Own ordinal) = leads.Own ordinal
 
--- At its offset a name stands behind its length, and behind it the names that follow.
+-- At its offset a name stands after its length, and after it the names that follow.
 abbrev pub NamesAtOffsets : Type 0
 NamesAtOffsets =
     (names : List (List ℕ)) (k : ℕ) (name : List ℕ) → slice_get names k ≡ Some name

@@ -69,7 +69,7 @@ without gone m = record m {
 abbrev pub kept_module : List ObjModule → ObjModule → ObjModule
 kept_module before m = without (is_seg_of (taken before m)) m
 
--- Modules behind others.
+-- Modules after others.
 abbrev pub kept_behind : List ObjModule → List ObjModule → List ObjModule
 kept_behind before [] = []
 kept_behind before (m ∷ ms) = kept_module before m ∷ kept_behind (before ++ m ∷ []) ms

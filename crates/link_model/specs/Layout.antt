@@ -13,7 +13,8 @@ use Rattle.link_model.specs.Communals.{parts}
 use Rattle.link_model.specs.Flags.{flags_of}
 use Rattle.link_model.specs.Order.{object_heads}
 use Rattle.link_model.specs.Rows.{end_in, rows, row_of, offset_in, stack_row}
-pub use Rattle.lx_types.specs.Addresses.{PRIVATE_FROM, SHARED_FROM, room}
+pub use Rattle.lx_types.specs.Addresses.{room}
+use Rattle.lx_types.specs.declared.limits.TheConstants.{PRIVATE_FROM, SHARED_FROM}
 
 -- The first object's linked base: BASE, or the begin of the arena in which programs or libraries stand.
 abbrev pub usual_base : ModKind → ℕ

@@ -3,7 +3,9 @@ use Rattle.std.specs.Prelude.{ℕ, Bool, not, ◌&&◌, ◌||◌, List, [], ◌�
 use Rattle.std.specs.List.{list_any, enumerate_from}
 use Rattle.std.specs.Option.{option_map}
 use Rattle.std.specs.Bool.{beq}
-use Rattle.link_model.specs.declared.limits.TheConstants.{MAX_NARROW_OBJECT, MAX_MEMORY, MAX_OBJECTS}
+use Rattle.lx_types.specs.declared.limits.TheConstants.{MAX_OBJECTS}
+use Rattle.obj_types.specs.declared.object.TheConstants.{ALIGN_ABSOLUTE}
+use Rattle.link_model.specs.declared.limits.TheConstants.{MAX_NARROW_OBJECT, MAX_MEMORY}
 use Rattle.link_model.specs.declared.refusals.LayRefusal.{LayRefusal}
 use Rattle.link_model.specs.declared.refusals.LayRefusal.TheVariants.{AbsoluteSeg, UseMixed, GroupSplit, TooLarge}
 use Rattle.link_model.specs.Words.{first_conflict, first_of}
@@ -15,9 +17,9 @@ use Rattle.link_model.specs.Communals.{parts}
 use Rattle.link_model.specs.Flags.{flags_of}
 use Rattle.link_model.specs.Rows.{Row, end_in, rows}
 
--- `AbsoluteSeg`: the first contribution of alignment 0.
+-- `AbsoluteSeg`: the first contribution with the alignment of an absolute segment.
 abbrev pub absolute : Link → Option LayRefusal
-absolute l = option_map (λ p. AbsoluteSeg p.name) (find (λ p. p.align == 0) (contributions l))
+absolute l = option_map (λ p. AbsoluteSeg p.name) (find (λ p. p.align == ALIGN_ABSOLUTE) (contributions l))
 
 -- `UseMixed`: the first part whose use32 differs from that of an earlier part of its logical segment or of one of
 -- its groups.

@@ -31,6 +31,5 @@ pub mod Patches
 pub mod ImportTables
 pub mod Records
 pub mod Header
-pub mod PlainChoosing
 pub mod ChosenOnce
 pub mod Fixing

@@ -3,6 +3,10 @@
 use Rattle.std.specs.Prelude.{◌≡◌, ℕ, ◌+◌, ◌-◌, ◌%◌, ◌^◌, ◌≤◌, ◌⊎◌, Bool, true, false, ◌&&◌, List, [], ◌∷◌, Option, Some, None, map, take, drop, length, nat_lt, nat_le, slice_index, find, codes}
 use Rattle.std.specs.List.{AllByRecursion, AllPairs}
 use Rattle.std.specs.Int.{w32, from_le_bytes, to_le_bytes}
+use Rattle.lx_types.specs.declared.object.TheConstants.{PAGE_SIZE, OBJECT_READABLE, OBJECT_EXECUTABLE, OBJECT_BIG}
+use Rattle.obj_types.specs.declared.location.TheConstants.{LOCATION_OFFSET_32}
+use Rattle.obj_types.specs.declared.object.TheConstants.{ALIGN_DOUBLEWORD, COMBINE_PUBLIC}
+use Rattle.obj_types.specs.declared.object.Seg.{Seg}
 use Rattle.obj_types.specs.declared.object.Piece.{Piece}
 use Rattle.obj_types.specs.declared.object.FixAt.{FixAt}
 use Rattle.obj_types.specs.declared.object.Frame.TheVariants as frames
@@ -51,7 +55,7 @@ Apart a b = (a + 4 ≤ b) ⊎ (b + 4 ≤ a)
 
 -- At most a page of data, and fixups that lie in it apart from each other.
 pub record IsOneSegment (bytes places : List ℕ) : Type 0 where
-  pub one_page : length bytes ≤ 4096
+  pub one_page : length bytes ≤ PAGE_SIZE
   pub within : AllByRecursion (λ place. place + 4 ≤ length bytes) places
   pub apart : AllPairs Apart places
 
@@ -62,13 +66,34 @@ pieces_of (b ∷ bytes) = record { seg = 1; offset = 0; bytes = b ∷ bytes } �
 -- A 32-bit offset of the segment itself, in the frame FLAT.
 abbrev pub fix_of : ℕ → FixAt
 fix_of place =
-    record { seg = 1; offset = place; loc = 9; selfrel = false; frame = frames.Group 1; goal = goals.Seg 1; disp = 0 }
+    record {
+      seg = 1;
+      offset = place;
+      loc = LOCATION_OFFSET_32;
+      selfrel = false;
+      frame = frames.Group 1;
+      goal = goals.Seg 1;
+      disp = 0;
+    }
+
+-- A public 32-bit code segment, doubleword-aligned.
+abbrev pub code_segment : ℕ → Seg
+code_segment len =
+    record {
+      name = codes "CODE32";
+      class = codes "CODE";
+      align = ALIGN_DOUBLEWORD;
+      combine = COMBINE_PUBLIC;
+      wide = true;
+      len = len;
+      debug = false;
+    }
 
 abbrev pub one_segment : List ℕ → List ℕ → List ℕ → ObjModule
 one_segment name bytes places =
     record empty_module {
       name = name;
-      segs = record { name = codes "CODE32"; class = codes "CODE"; align = 5; combine = 2; wide = true; len = length bytes; debug = false } ∷ [];
+      segs = code_segment (length bytes) ∷ [];
       groups = record { name = codes "FLAT"; members = [] } ∷ [];
       pieces = pieces_of bytes;
       fixes = map fix_of places;
@@ -90,7 +115,7 @@ pub record LinksOneSegment (input : LinkInput) (bytes places : List ℕ) (base :
   pub names : sym_refusal (link_of input only_pick) ≡ None
   pub layout : lay_refusal (link_of input only_pick) ≡ None
   pub fixups : place_refusal (link_of input only_pick) ≡ None
-  pub object : objects (link_of input only_pick) ≡ record { size = length bytes; base = base; flags = 0x2005 } ∷ []
+  pub object : objects (link_of input only_pick) ≡ record { size = length bytes; base = base; flags = OBJECT_READABLE + OBJECT_EXECUTABLE + OBJECT_BIG } ∷ []
   pub mean : (at : ℕ) (imp : EntryPoints) (x : ℕ)
       → Mean (link_of input only_pick) (record { bases = at ∷ []; imp = imp }) 1 x ≡ one_segment_mean at bytes places x
 

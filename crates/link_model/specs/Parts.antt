@@ -8,6 +8,7 @@ pub use Rattle.link_model.specs.declared.keys.Origin.{Origin}
 pub use Rattle.link_model.specs.declared.keys.Origin.TheVariants.{Segment, Communal, OwnStack}
 pub use Rattle.link_model.specs.declared.keys.SegmentKey.{SegmentKey}
 pub use Rattle.link_model.specs.declared.keys.SegmentKey.TheVariants.{Private, Public, Common}
+use Rattle.obj_types.specs.declared.object.TheConstants.{ALIGN_WORD, ALIGN_PARAGRAPH, ALIGN_PAGE, ALIGN_DOUBLEWORD, COMBINE_PRIVATE, COMBINE_STACK, COMBINE_COMMON}
 use Rattle.obj_types.specs.declared.object.Seg.{Seg}
 use Rattle.obj_types.specs.declared.object.ObjModule.{ObjModule}
 use Rattle.link_model.specs.Link.{Link, of_modules}
@@ -32,23 +33,27 @@ pub record Part : Type 0 where
   pub wide : Bool
   pub len : ℕ
 
--- "98h SEGDEF": the alignment in bytes. 0 is absolute and refused.
+-- "98h SEGDEF": the alignment in bytes. An absolute one is refused.
 abbrev pub alignment : ℕ → ℕ
 alignment align =
-    if align == 2 then 2 else if align == 3 then 16 else if align == 4 then 4096 else if align == 5 then 4 else 1
+    if align == ALIGN_WORD then 2
+    else if align == ALIGN_PARAGRAPH then 16
+    else if align == ALIGN_PAGE then 4096
+    else if align == ALIGN_DOUBLEWORD then 4
+    else 1
 
 -- "98h SEGDEF": the combine type.
 abbrev pub is_private : Part → Bool
-is_private p = p.combine == 0
+is_private p = p.combine == COMBINE_PRIVATE
 
 abbrev pub is_common : Part → Bool
-is_common p = p.combine == 6
+is_common p = p.combine == COMBINE_COMMON
 
 abbrev pub is_joint : Part → Bool
 is_joint p = not (is_private p || is_common p)
 
 abbrev pub is_stack : Part → Bool
-is_stack p = p.combine == 5 || same_origin p.origin OwnStack
+is_stack p = p.combine == COMBINE_STACK || same_origin p.origin OwnStack
 
 -- ---- logical segments
 

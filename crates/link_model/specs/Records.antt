@@ -1,15 +1,16 @@
--- The fixup records that are left to the loader ("Fixup record table" in the LX document). A target by name has the
--- name's place in `procs_in`; `with_offset` gives its offset in a file.
+-- The fixup records that are left to the loader ("32-bit Linear eXecutable Module Format": "Fixup Record Table").
+-- A target by name has the name's place in `procs_in`; `with_offset` gives its offset in a file.
 use Rattle.std.specs.Prelude.{ℕ, ℤ, ◌+◌, ◌-◌, ◌*◌, ◌/◌, Bool, ◌&&◌, ◌||◌, List, Option, Some, None, map, if◌then◌else◌, nat_lt, nat_le, ◌==◌, slice_get, filter, pos, ◌-ℤ◌}
 use Rattle.std.specs.List.{filter_map, range_with_len, enumerate_from}
 use Rattle.std.specs.Option.{option_map, option_and_then}
-use Rattle.lx_types.specs.Addresses.{UNIT}
+use Rattle.lx_types.specs.declared.limits.TheConstants.{BASE_UNIT}
 use Rattle.lx_types.specs.declared.object.TheConstants.{PAGE_SIZE}
 use Rattle.lx_types.specs.declared.fix.Fix.{Fix}
 use Rattle.lx_types.specs.declared.fix.Source.{Source}
 use Rattle.lx_types.specs.declared.fix.Source.TheVariants.{Byte, Sel, Far16, Off16, Far32, Off32, Self32}
 use Rattle.lx_types.specs.declared.fix.FixTarget.{FixTarget}
 use Rattle.lx_types.specs.declared.fix.FixTarget.TheVariants as leads
+use Rattle.obj_types.specs.declared.location.TheConstants.{LOCATION_BYTE, LOCATION_OFFSET_16, LOCATION_SELECTOR, LOCATION_FAR_16, LOCATION_LOADER_16, LOCATION_FAR_32}
 use Rattle.link_model.specs.Words.{wrapped}
 use Rattle.link_model.specs.Link.{Link}
 use Rattle.link_model.specs.Symbols.{imports}
@@ -22,17 +23,17 @@ use Rattle.link_model.specs.ImportTables.{used_pairs, import_target}
 
 abbrev pub source_of : Fixup → Source
 source_of q =
-    if q.fix.loc == 0 then Byte
-    else if q.fix.loc == 1 || q.fix.loc == 5 then Off16
-    else if q.fix.loc == 2 then Sel
-    else if q.fix.loc == 3 then Far16
-    else if q.fix.loc == 11 then Far32
+    if q.fix.loc == LOCATION_BYTE then Byte
+    else if q.fix.loc == LOCATION_OFFSET_16 || q.fix.loc == LOCATION_LOADER_16 then Off16
+    else if q.fix.loc == LOCATION_SELECTOR then Sel
+    else if q.fix.loc == LOCATION_FAR_16 then Far16
+    else if q.fix.loc == LOCATION_FAR_32 then Far32
     else if q.fix.selfrel then Self32
     else Off32
 
 -- The selector of a 16:16 pointer, and one in a 16-bit segment, is the alias's.
 abbrev pub has_alias : Fixup → Bool
-has_alias q = q.fix.loc == 3 || q.fix.loc == 2 && q.narrow
+has_alias q = q.fix.loc == LOCATION_FAR_16 || q.fix.loc == LOCATION_SELECTOR && q.narrow
 
 -- A record's target and additive. For a place in the link the number that stands in the location is in the target's
 -- offset; a selector has no offset, and an additive where the place is 64 KiB or more into its object. For an
@@ -40,7 +41,7 @@ has_alias q = q.fix.loc == 3 || q.fix.loc == 2 && q.narrow
 abbrev pub target_and_additive : Link → Fixup → Target → Option (FixTarget × ℕ)
 target_and_additive l q (Internal o offset) =
     let at = wrapped (offset + q.fix.disp) in
-    Some (if q.fix.loc == 2 then (leads.Internal o 0, if nat_le UNIT at then at else 0)
+    Some (if q.fix.loc == LOCATION_SELECTOR then (leads.Internal o 0, if nat_le BASE_UNIT at then at else 0)
     else (leads.Internal o (wrapped (at + q.standing)), 0))
 target_and_additive l q (Constant value) = None
 target_and_additive l q (Entry slot) =

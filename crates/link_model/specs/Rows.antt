@@ -41,7 +41,7 @@ least_len l s = if option_any (joins s) (stack_segment l) then l.def.stack else 
 
 -- ---- one logical segment
 
--- Its start, behind what ends at `at`.
+-- Its start, after what ends at `at`.
 abbrev pub segment_start : Link → ℕ → Part → ℕ
 segment_start l at s =
     if is_common s then next_multiple_of at (greatest_alignment (parts_of l s)) else aligned at s
@@ -67,7 +67,7 @@ pub record Row : Type 0 where
 abbrev pub end_in : ℕ → List Row → ℕ
 end_in object rows = fold (λ end r. max end r.end) 0 (filter (λ r. r.object == object) rows)
 
--- The row of a logical segment behind earlier rows.
+-- The row of a logical segment after earlier rows.
 abbrev pub row_after : Link → List Row → Part → Row
 row_after l earlier s =
     let object = object_number l s in

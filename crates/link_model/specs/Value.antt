@@ -8,6 +8,7 @@ use Rattle.lx_bytes.specs.LittleEndian.{little_bytes}
 use Rattle.lx_types.specs.Names.{uppercase}
 use Rattle.lx_types.specs.declared.entry.EntryKey.{EntryKey}
 use Rattle.obj_types.specs.declared.symbol.Imp.{Imp}
+use Rattle.obj_types.specs.declared.location.TheConstants.{LOCATION_BYTE, LOCATION_OFFSET_16, LOCATION_SELECTOR, LOCATION_FAR_16, LOCATION_LOADER_16, LOCATION_FAR_32}
 use Rattle.obj_types.specs.Items.{item}
 use Rattle.obj_types.specs.Location.{location_len}
 use Rattle.link_model.specs.Words.{wrapped, difference}
@@ -57,14 +58,14 @@ target_flags l w (Entry slot) = (far_of l w slot).flags
 -- ---- values
 
 -- A segment-relative location, from T, V, the flags of the target's object, and whether the location's segment
--- is 16-bit. A selector is tiled where the object is not big, and in location 2 of a 16-bit segment.
+-- is 16-bit. A selector is tiled where the object is not big, and where it stands alone in a 16-bit segment.
 abbrev pub relative_to_segment : ℕ → ℕ → ℕ → ℕ → Bool → List ℕ
 relative_to_segment loc t v flags narrow =
-    if loc == 0 then little_bytes 1 v
-    else if loc == 1 || loc == 5 then little_bytes 2 v
-    else if loc == 2 then little_bytes 2 (selector narrow flags t)
-    else if loc == 3 then little_bytes 2 v ++ little_bytes 2 (tiled_selector v)
-    else if loc == 11 then little_bytes 4 (selected_offset false flags v) ++ little_bytes 2 (selector false flags v)
+    if loc == LOCATION_BYTE then little_bytes 1 v
+    else if loc == LOCATION_OFFSET_16 || loc == LOCATION_LOADER_16 then little_bytes 2 v
+    else if loc == LOCATION_SELECTOR then little_bytes 2 (selector narrow flags t)
+    else if loc == LOCATION_FAR_16 then little_bytes 2 v ++ little_bytes 2 (tiled_selector v)
+    else if loc == LOCATION_FAR_32 then little_bytes 4 (selected_offset false flags v) ++ little_bytes 2 (selector false flags v)
     else little_bytes 4 v
 
 -- A self-relative location: V less the address after the location.

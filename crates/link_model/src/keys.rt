@@ -1,6 +1,6 @@
 //! What tells logical segments apart, and objects: the keys of a linker's tables.
 
-use obj_types::Name;
+use lx_types::Name;
 
 /// Where a part of a link comes from.
 #[derive(Debug, Clone, Copy, PartialEq, Eq)]

@@ -15,7 +15,7 @@ pub fn one_segment_links_plainly()
     ensures { OneSegmentLaw }
 {}
 
-/// An input has one list of chosen modules at most, whatever way it was found; `choose` finds it.
+/// An input has one list of chosen modules at most, whatever way it was found.
 pub fn modules_are_chosen_once()
     ensures { ChosenOnce }
 {}

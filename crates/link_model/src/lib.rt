@@ -2,10 +2,9 @@
 //! their segments stand, and which byte stands at each place.
 //!
 //! The pages of `specs/` are the rules; `docs/LINKING.md` leads from each rule to its page. The
-//! functions here are plain and slow programs that compute the definitions on small inputs.
+//! functions here are laws over them, and plain programs that compute single numbers.
 #![tactic(auto)]
 
-mod choosing;
 mod comdats;
 mod keys;
 mod laws;
@@ -15,7 +14,6 @@ mod refusals;
 mod symbols;
 mod values;
 
-pub use choosing::choose;
 pub use comdats::{comdats_clash_by_selection, the_first_comdat_stays};
 pub use keys::{ObjectKey, Origin, SegmentKey};
 pub use laws::{
@@ -26,9 +24,8 @@ pub use laws::{
     segments_stand_in_objects, tables_grow_by_new_keys, values_fit_their_locations,
     what_is_kept_is_whole, without_comdats_all_is_kept,
 };
-pub use limits::{MAX_MEMORY, MAX_NARROW_OBJECT, MAX_NUMBER, MAX_OBJECTS};
-pub use modules::{module_at, modules_at, number};
-pub use obj_types::{Bytes, EntryKey, Fail, Name, NoMemory, Seq};
+pub use limits::{MAX_MEMORY, MAX_NARROW_OBJECT, MAX_NUMBER};
+pub use modules::modules_at;
 pub use refusals::{ComdatRefusal, EntryRefusal, FixRefusal, LayRefusal, LinkRefusal, SymRefusal};
 pub use symbols::{LaidObject, Pick, SymDef};
-pub use values::{alignment_len, data_byte, distance, object_flags};
+pub use values::{alignment_len, object_flags};

@@ -6,8 +6,5 @@ pub const MAX_NARROW_OBJECT: u32 = 65_536;
 /// The most bytes of a 32-bit object, and of all objects of a module together.
 pub const MAX_MEMORY: u32 = 16_777_216;
 
-/// The most objects of a module.
-pub const MAX_OBJECTS: u32 = 1024;
-
 /// The most import modules, and the greatest ordinal: their numbers have 16 bits.
 pub const MAX_NUMBER: u32 = 65_535;

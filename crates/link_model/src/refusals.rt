@@ -1,6 +1,6 @@
 //! Why a link is refused.
 
-use obj_types::Name;
+use lx_types::Name;
 use thiserror::Error;
 
 /// Why the names of a link have no meaning. Modules count from 1; 0 is the definition file.

@@ -27,6 +27,6 @@ pub struct LaidObject {
     pub size: u32,
     /// The linked base address.
     pub base: u32,
-    /// The flags of "Object table" in the LX document.
+    /// The flags. ("32-bit Linear eXecutable Module Format": "Object Table".)
     pub flags: u32,
 }

@@ -5,7 +5,7 @@ use Rattle.std.specs.Borrow.{Bor}
 use Rattle.std.proofs.Common.{ap, sym, ◌∙◌, arith, get_or, append_assoc}
 use Rattle.std.proofs.lemmas.List.{take_more, map-append, length-map, length-take-le}
 use Rattle.std.proofs.lemmas.List.Elements.{filter_map-append}
-use Rattle.sym_table.proofs.Lists.{numbered-push}
+use Rattle.link_types.proofs.Lists.{numbered-push}
 use Rattle.link_fix.proofs.PagedFixes.{one_option}
 use Rattle.obj_types.specs.declared.object.FixAt.{FixAt}
 use Rattle.obj_types.specs.declared.object.ObjModule.{ObjModule}

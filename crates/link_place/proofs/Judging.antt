@@ -10,8 +10,8 @@ use Rattle.obj_types.specs.declared.object.ObjModule.{ObjModule}
 use Rattle.link_model.specs.declared.refusals.FixRefusal.{FixRefusal}
 use Rattle.link_model.specs.Words.{first_of}
 use Rattle.link_model.specs.Fixups.{Fixup, fix_refusal, standing_in}
-use Rattle.sym_table.specs.Symbols.{SymbolTable}
-use Rattle.seg_merge.specs.declared.places.Places.{Places}
+use Rattle.link_types.specs.Symbols.{SymbolTable}
+use Rattle.link_types.specs.declared.places.Places.{Places}
 use Rattle.link_fix.specs.Bare.{bare}
 use Rattle.link_place.specs.Fixed.{fixup_at}
 use Rattle.link_place.specs.Judged.{first_refusal}
@@ -33,7 +33,7 @@ one_more : (o : Option Fixup) (qs : List Fixup) → cons_option o qs ≡ option_
 one_more None qs = refl
 one_more (Some q) qs = refl
 
--- The refusals of the fixups from one on: its own, else that of those behind it.
+-- The refusals of the fixups from one on: its own, else that of those after it.
 pub fix-split : (F : FixAt → Option Fixup) (xs : List FixAt) (i : ℕ) (d : FixAt) → i < length xs
     → first_refusal (filter_map F (drop i xs)) ≡ option_or (first_refusal (option_to_list (F (get_or xs i d)))) (first_refusal (filter_map F (drop (i + 1) xs)))
 fix-split F xs i d h =
@@ -57,7 +57,7 @@ module-split G ms i k x h is counted =
     ∙ ap (λ (n : ℕ). option_or (first_refusal (G n x.now)) (first_refusal (flat_map (λ q. G q.0 q.1) (enumerate_from (1 + i + 1) (map now rest))))) number
     ∙ ap (λ (n : ℕ). option_or (first_refusal (G k x.now)) (first_refusal (flat_map (λ q. G q.0 q.1) (enumerate_from n (map now rest))))) next
 
--- Where the one that is judged has none, the first refusal is behind it.
+-- Where the one that is judged has none, the first refusal is that of those after it.
 pub passed : (here rest all whole : Option FixRefusal) → whole ≡ all → whole ≡ option_or here rest → here ≡ None → rest ≡ all
 passed here rest all whole same split none = sym (split ∙ ap (λ (o : Option FixRefusal). option_or o rest) none) ∙ same
 

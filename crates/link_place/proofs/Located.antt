@@ -17,9 +17,9 @@ use Rattle.link_model.specs.Link.{Link, chosen_module}
 use Rattle.link_model.specs.Symbols.{Sym}
 use Rattle.link_model.specs.Goals.{Target, internal, shifted, of_symbol, of_external, object_of_group, group_name, target_of, location, object_of_frame, object_of_target}
 use Rattle.link_model.specs.Fixups as rules
-use Rattle.sym_table.specs.Symbols.{SymbolTable}
-use Rattle.seg_merge.specs.declared.places.Places.{Places}
-use Rattle.seg_merge.specs.Places.{ArePlaces}
+use Rattle.link_types.specs.Symbols.{SymbolTable}
+use Rattle.link_types.specs.declared.places.Places.{Places}
+use Rattle.link_types.specs.Places.{ArePlaces}
 use Rattle.link_place.specs.Meanings.{HasMeanings}
 use Rattle.link_place.specs.Fixed.{symbol_at, external_at, group_target, target_at, location_at, frame_at, fixup_at, fixups_in}
 

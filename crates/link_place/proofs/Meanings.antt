@@ -9,8 +9,8 @@ use Rattle.obj_types.specs.declared.symbol.Ext.{Ext}
 use Rattle.link_model.specs.declared.symbols.SymDef.{SymDef}
 use Rattle.link_model.specs.Link.{Link, chosen_module}
 use Rattle.link_model.specs.Symbols.{Sym}
-use Rattle.sym_table.specs.Symbols.{SymbolTable}
-use Rattle.seg_merge.proofs.SpotsFound.{item-mapped}
+use Rattle.link_types.specs.Symbols.{SymbolTable}
+use Rattle.link_types.proofs.Numbered.{item-mapped}
 use Rattle.link_place.specs.Meanings.{HasMeanings}
 
 get_numbered : {X Y : Type 0} (g : ℕ × X → Y) (b : ℕ) (ms : List X) (i : ℕ) → slice_get (map g (enumerate_from b ms)) i ≡ option_map (λ m. g (b + i, m)) (slice_get ms i)

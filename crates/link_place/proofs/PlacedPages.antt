@@ -13,13 +13,13 @@ use Rattle.link_model.specs.Goals.{Target}
 use Rattle.link_model.specs.Fixups as rules
 use Rattle.link_model.specs.Start.{start_outside}
 use Rattle.link_model.specs.Refusal.{place_refusal}
-use Rattle.sym_table.specs.Symbols.{SymbolTable}
+use Rattle.link_types.specs.Symbols.{SymbolTable}
 use Rattle.link_fix.specs.declared.fixup.Fixup.{Fixup}
 use Rattle.link_fix.specs.Shown.{shown}
 use Rattle.link_fix.specs.Bare.{bare}
 use Rattle.link_fix.specs.Values.{IsAccepted}
 use Rattle.link_fix.proofs.AcceptedFixups.{OnLocation, bare-accepts}
-use Rattle.seg_merge.specs.declared.places.Places.{Places}
+use Rattle.link_types.specs.declared.places.Places.{Places}
 use Rattle.link_place.specs.Fixed.{target_at, location_at, frame_at, fixup_at, fixups_in, fixups_by}
 use Rattle.link_place.specs.Judged.{first_refusal}
 use Rattle.link_place.specs.Placing.{HasLocations, fixup_refusal}

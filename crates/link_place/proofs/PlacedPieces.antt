@@ -7,8 +7,8 @@ use Rattle.obj_types.specs.declared.object.Piece.{Piece}
 use Rattle.obj_types.specs.declared.object.ObjModule.{ObjModule}
 use Rattle.link_model.specs.Link.{Link}
 use Rattle.link_model.specs.Mean.{PlacedPiece, placed_piece, pieces}
-use Rattle.seg_merge.specs.declared.places.Places.{Places}
-use Rattle.seg_merge.specs.Places.{ArePlaces}
+use Rattle.link_types.specs.declared.places.Places.{Places}
+use Rattle.link_types.specs.Places.{ArePlaces}
 use Rattle.link_place.specs.PlacedData.{placed_at, placed_in}
 
 piece_is : (l : Link) (p : Places) (n : ℕ) (x : Piece) → ArePlaces l p → placed_at p n x ≡ placed_piece l n x

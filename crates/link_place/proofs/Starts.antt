@@ -12,9 +12,9 @@ use Rattle.link_model.specs.Words.{first_of}
 use Rattle.link_model.specs.Link.{Link}
 use Rattle.link_model.specs.Goals.{Target}
 use Rattle.link_model.specs.Start as rules
-use Rattle.sym_table.specs.Symbols.{SymbolTable}
-use Rattle.seg_merge.specs.declared.places.Places.{Places}
-use Rattle.seg_merge.specs.Places.{ArePlaces}
+use Rattle.link_types.specs.Symbols.{SymbolTable}
+use Rattle.link_types.specs.declared.places.Places.{Places}
+use Rattle.link_types.specs.Places.{ArePlaces}
 use Rattle.link_place.specs.Meanings.{HasMeanings}
 use Rattle.link_place.specs.Fixed.{target_at}
 use Rattle.link_place.proofs.Located.{target_is}

@@ -14,10 +14,10 @@ use Rattle.link_model.specs.declared.symbols.LaidObject.{LaidObject}
 use Rattle.link_model.specs.Choosing.{modules_of}
 use Rattle.link_model.specs.Link.{link_of}
 use Rattle.link_model.proofs.ExportsStay.{chosen_are_whole}
-use Rattle.sym_table.specs.Symbols.{SymbolTable}
-use Rattle.sym_table.specs.Binding.{IsBound}
-use Rattle.seg_merge.specs.declared.layout.Layout.{Layout}
-use Rattle.seg_merge.specs.Layout.{IsLaidOut}
+use Rattle.link_types.specs.Symbols.{SymbolTable}
+use Rattle.link_types.specs.Binding.{IsBound}
+use Rattle.link_types.specs.declared.layout.Layout.{Layout}
+use Rattle.link_types.specs.Layout.{IsLaidOut}
 use Rattle.link_place.specs.Placing.{HasLocations, AreLaid}
 use Rattle.link_place.proofs.Meanings.{has-meanings}
 

@@ -13,9 +13,9 @@ use Rattle.link_model.specs.declared.symbols.SymDef.{SymDef}
 use Rattle.link_model.specs.declared.symbols.SymDef.TheVariants as means
 use Rattle.link_model.specs.Goals.{Target, Internal, Constant, Entry, internal, shifted, object_of_target}
 use Rattle.link_model.specs.Fixups.{Fixup, is_narrow, standing_in}
-use Rattle.sym_table.specs.Symbols.{SymbolTable}
-use Rattle.seg_merge.specs.declared.places.Places.{Places}
-use Rattle.seg_merge.specs.Places.{spot_in, common_in, group_in}
+use Rattle.link_types.specs.Symbols.{SymbolTable}
+use Rattle.link_types.specs.declared.places.Places.{Places}
+use Rattle.link_types.specs.Places.{spot_in, common_in, group_in}
 
 abbrev pub symbol_at : Places → SymDef → Option Target
 symbol_at p (means.In n seg offset) = internal (option_map (shifted offset) (spot_in p n seg))

@@ -11,6 +11,6 @@ use Rattle.link_fix.specs.Shown.{shown}
 abbrev pub first_refusal : List rules.Fixup → Option FixRefusal
 first_refusal qs = first_of (map rules.fix_refusal qs)
 
--- None of these is refused, and what is left of them stands behind those that were there.
+-- None of these is refused, and what is left of them stands after those that were there.
 abbrev pub Adds : List rules.Fixup → List Fixup → List Fixup → Type 0
 Adds qs old new = (first_refusal qs ≡ None) × (map shown new ≡ map shown old ++ map bare qs)

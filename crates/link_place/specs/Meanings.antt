@@ -4,7 +4,7 @@ use Rattle.std.specs.Option.{option_and_then}
 use Rattle.obj_types.specs.Items.{item}
 use Rattle.link_model.specs.Link.{Link, chosen_module}
 use Rattle.link_model.specs.Symbols.{Sym}
-use Rattle.sym_table.specs.Symbols.{SymbolTable}
+use Rattle.link_types.specs.Symbols.{SymbolTable}
 
 -- The table has the meaning of each external.
 abbrev pub HasMeanings : Link → SymbolTable → Type 0

@@ -5,8 +5,8 @@ use Rattle.std.specs.List.{filter_map}
 use Rattle.obj_types.specs.declared.object.Piece.{Piece}
 use Rattle.obj_types.specs.declared.object.ObjModule.{ObjModule}
 use Rattle.link_model.specs.Mean.{PlacedPiece}
-use Rattle.seg_merge.specs.declared.places.Places.{Places}
-use Rattle.seg_merge.specs.Places.{spot_in}
+use Rattle.link_types.specs.declared.places.Places.{Places}
+use Rattle.link_types.specs.Places.{spot_in}
 
 abbrev pub placed_at : Places → ℕ → Piece → Option PlacedPiece
 placed_at p n piece =

@@ -13,10 +13,10 @@ use Rattle.link_model.specs.Start as start
 use Rattle.link_model.specs.Patches.{object_bytes}
 use Rattle.link_model.specs.Records.{object_records}
 use Rattle.link_model.specs.ImportTables.{used_pairs, modules_in, procs_in}
-use Rattle.sym_table.specs.Symbols.{SymbolTable}
-use Rattle.seg_merge.specs.declared.places.Places.{Places}
+use Rattle.link_types.specs.Symbols.{SymbolTable}
+use Rattle.link_types.specs.declared.places.Places.{Places}
 use Rattle.link_place.specs.declared.placing.Placed.{Placed}
-use Rattle.seg_merge.specs.Places.{ArePlaces}
+use Rattle.link_types.specs.Places.{ArePlaces}
 use Rattle.link_place.specs.Meanings.{HasMeanings}
 
 -- The fixups of a module stand on locations that there are.

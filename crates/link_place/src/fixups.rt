@@ -11,17 +11,17 @@ ghost use Rattle.link_fix.specs.Shown.{shown, placed_shown};
 ghost use Rattle.link_fix.specs.Values.{IsAccepted};
 ghost use Rattle.link_place.specs.Fixed.{fixup_at, fixups_in, fixups_by};
 ghost use Rattle.link_place.specs.Judged.{first_refusal, Adds};
-ghost use Rattle.seg_merge.specs.Places.{ArePlaces};
+ghost use Rattle.link_types.specs.Places.{ArePlaces};
 ghost use Rattle.link_place.specs.Meanings.{HasMeanings};
 ghost use Rattle.link_place.specs.Placing.{HasLocations, fixup_refusal};
 
 use crate::goals::{frame_of, location_of, target_of};
 use link_fix::{Fixup, PlacedFixup, refusal_of, standings_of};
-use link_model::{FixRefusal, number};
-use obj_types::{Fail, FixAt, NoMemory, ObjModule, Seg};
-use seg_merge::Places;
+use link_model::FixRefusal;
+use link_types::{Places, Symbols};
+use lx_types::{Fail, NoMemory, count};
+use obj_types::{FixAt, ObjModule, Seg};
 use std::alloc::Global;
-use sym_table::Symbols;
 
 // Whether a segment is 16-bit.
 fn is_narrow(segs: &[Seg], index: u32) -> bool
@@ -161,7 +161,7 @@ fn fixups_among(
         let fixups = ModuleFixups {
             places,
             syms,
-            number: number(index + 1)?,
+            number: count(index + 1)?,
             object,
         };
         fixups.add_to(alloc, &mut found)?;
@@ -171,7 +171,7 @@ fn fixups_among(
 
 /// What is left of all fixups of a link, in chosen order and in file order, where these are its places and its symbols, or
 /// the first refusal of one.
-pub fn fixups_of(
+pub(crate) fn fixups_of(
     alloc: Global,
     places: &Places,
     syms: &Symbols,

@@ -4,12 +4,12 @@ ghost use Rattle.std.specs.Prelude.{◌≡◌, option_map, option_and_then};
 ghost use Rattle.link_fix.specs.Shown.{target_shown};
 ghost use Rattle.link_model.specs.Goals.{internal as internal_at, shifted as place_after, object_of_target as object_in};
 ghost use Rattle.link_place.specs.Fixed.{group_target, symbol_at, external_at, target_at, location_at, frame_at};
-ghost use Rattle.seg_merge.specs.Places.{spot_in};
+ghost use Rattle.link_types.specs.Places.{spot_in};
 
 use link_fix::Target;
+use link_model::SymDef;
+use link_types::{Places, Symbols};
 use obj_types::{FixAt, Frame, Goal};
-use seg_merge::Places;
-use sym_table::{SymDef, Symbols};
 
 // The place so many bytes on. It may pass its segment, so it is wrapped.
 fn shifted(place: (u32, u32), offset: u32) -> (u32, u32)
@@ -73,7 +73,7 @@ fn of_group(object: Option<u32>) -> Target
 
 /// What a goal of a chosen module is. A segment goal is its contribution's start, and a group goal its object's start;
 /// FLAT and a group without members are the constant 0 ("9Ch FIXUPP", target methods).
-pub fn target_of(places: &Places, syms: &Symbols, module: u32, goal: Goal) -> Option<Target>
+pub(crate) fn target_of(places: &Places, syms: &Symbols, module: u32, goal: Goal) -> Option<Target>
     ensures { option_map target_shown result ≡ target_at places.now syms.now «module» goal }
 {
     match goal {
@@ -87,7 +87,7 @@ pub fn target_of(places: &Places, syms: &Symbols, module: u32, goal: Goal) -> Op
 }
 
 /// Where a fixup's location stands.
-pub fn location_of(places: &Places, module: u32, fix: &FixAt) -> Option<(u32, u32)>
+pub(crate) fn location_of(places: &Places, module: u32, fix: &FixAt) -> Option<(u32, u32)>
     ensures { result ≡ location_at places.now «module» fix.now }
 {
     spot_after(places, module, fix.seg, fix.offset)
@@ -122,7 +122,7 @@ fn object_of_group(object: Option<Option<u32>>) -> Option<u32>
 
 /// The object that a fixup's frame names. FLAT, a group without members, an import, a constant and the target's own
 /// frame name none ("9Ch FIXUPP", frame methods).
-pub fn frame_of(places: &Places, syms: &Symbols, module: u32, fix: &FixAt) -> Option<u32>
+pub(crate) fn frame_of(places: &Places, syms: &Symbols, module: u32, fix: &FixAt) -> Option<u32>
     ensures { result ≡ frame_at places.now syms.now «module» fix.now fix.now.frame }
 {
     match fix.frame {

@@ -1,8 +1,8 @@
 //! A law over the symbols of a link.
 
 ghost use Rattle.link_model.specs.Link.{Link};
-ghost use Rattle.sym_table.specs.Symbols.{SymbolTable};
-ghost use Rattle.sym_table.specs.Binding.{AreSymbolsOf};
+ghost use Rattle.link_types.specs.Symbols.{SymbolTable};
+ghost use Rattle.link_types.specs.Binding.{AreSymbolsOf};
 ghost use Rattle.link_place.specs.Meanings.{HasMeanings};
 
 /// The symbols of a link have the meaning of each external of each chosen module, and of nothing else.

@@ -8,9 +8,6 @@ mod pieces;
 mod placing;
 mod start;
 
-pub use fixups::fixups_of;
-pub use goals::{frame_of, location_of, of_symbol, target_of};
+pub use goals::of_symbol;
 pub use laws::symbols_have_meanings;
-pub use pieces::pieces_of;
-pub use placing::{Placed, place_at, place_fixes};
-pub use start::start_of;
+pub use placing::{Placed, place_fixes};

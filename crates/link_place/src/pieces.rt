@@ -4,14 +4,14 @@ ghost use Rattle.std.specs.Prelude.{◌≡◌, ◌++◌, IfOk, OnOk, map, option
 ghost use Rattle.std.specs.List.{filter_map, flat_map, enumerate_from};
 ghost use Rattle.link_model.specs.Link.{Link};
 ghost use Rattle.link_model.specs.Mean as mean;
-ghost use Rattle.seg_merge.specs.Places.{ArePlaces};
+ghost use Rattle.link_types.specs.Places.{ArePlaces};
 ghost use Rattle.link_fix.specs.Shown.{piece_shown};
 ghost use Rattle.link_place.specs.PlacedData.{placed_at, placed_in};
 
 use link_fix::PlacedPiece;
-use link_model::number;
-use obj_types::{NoMemory, ObjModule, Piece};
-use seg_merge::Places;
+use link_types::Places;
+use lx_types::{NoMemory, count};
+use obj_types::{ObjModule, Piece};
 use std::alloc::Global;
 
 // A piece at its place, where its segment has one.
@@ -74,7 +74,7 @@ fn pieces_among<'a>(
         add_pieces(
             &mut found,
             places,
-            number(index + 1)?,
+            count(index + 1)?,
             object.pieces.as_slice(),
         )?;
     }
@@ -82,7 +82,7 @@ fn pieces_among<'a>(
 }
 
 /// All data of a link, in chosen order and in file order, where these are its places.
-pub fn pieces_of<'a>(
+pub(crate) fn pieces_of<'a>(
     alloc: Global,
     places: &Places,
     modules: &[&'a ObjModule],

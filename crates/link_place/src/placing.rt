@@ -8,19 +8,18 @@ ghost use Rattle.link_model.specs.Layout.{stack_top};
 ghost use Rattle.link_model.specs.Refusal.{place_refusal};
 ghost use Rattle.link_place.specs.Placing.{HasLocations, AreLaid, ArePlaced, fixup_refusal};
 ghost use Rattle.link_fix.specs.Placed.{ArePages};
-ghost use Rattle.sym_table.specs.Binding.{IsBound};
-ghost use Rattle.seg_merge.specs.Layout.{IsLaidOut};
+ghost use Rattle.link_types.specs.Binding.{IsBound};
+ghost use Rattle.link_types.specs.Layout.{IsLaidOut};
 
 use crate::fixups::fixups_of;
 use crate::pieces::pieces_of;
 use crate::start::start_of;
 use link_fix::{Pages, place_pages};
 use link_model::{FixRefusal, LaidObject, modules_at};
-use lx_types::{Bytes, Fix, Names, Seq};
-use obj_types::{Fail, LinkInput, ObjModule};
-use seg_merge::{Layout, Places};
+use link_types::{Layout, Places, Symbols};
+use lx_types::{Bytes, Fail, Fix, Names, Seq};
+use obj_types::{LinkInput, ObjModule};
 use std::alloc::Global;
-use sym_table::Symbols;
 
 /// What a link puts into the pages of its module, and what it leaves to the loader.
 #[derive(Drop)]
@@ -85,7 +84,7 @@ fn pages_of(
 
 /// What the link of these modules puts into its pages, where these are its symbols and its layout. The first refusal of a
 /// fixup is answered, in chosen order and in file order, and `StartOutside` after all of them.
-pub fn place_at(
+fn place_at(
     alloc: Global,
     modules: &[&ObjModule],
     syms: &Symbols,

@@ -6,15 +6,15 @@ ghost use Rattle.link_model.specs.Words.{first_of};
 ghost use Rattle.link_model.specs.Link.{Link};
 ghost use Rattle.link_model.specs.Layout as layout;
 ghost use Rattle.link_model.specs.Start as rules;
-ghost use Rattle.seg_merge.specs.Places.{ArePlaces};
+ghost use Rattle.link_types.specs.Places.{ArePlaces};
 ghost use Rattle.link_place.specs.Meanings.{HasMeanings};
 
 use crate::goals::target_of;
 use link_fix::start_place;
-use link_model::{FixRefusal, LaidObject, number};
-use obj_types::{NoMemory, ObjModule, StartAt};
-use seg_merge::Places;
-use sym_table::Symbols;
+use link_model::{FixRefusal, LaidObject};
+use link_types::{Places, Symbols};
+use lx_types::{NoMemory, count};
+use obj_types::{ObjModule, StartAt};
 
 // The start address of the first chosen module that has one, with the module's number.
 fn first_start(modules: &[&ObjModule]) -> Result<Option<(u32, StartAt)>, NoMemory>
@@ -22,7 +22,7 @@ fn first_start(modules: &[&ObjModule]) -> Result<Option<(u32, StartAt)>, NoMemor
 {
     for (index, object) in modules.iter().enumerate() {
         if let Some(start) = object.start {
-            return Ok(Some((number(index + 1)?, start)));
+            return Ok(Some((count(index + 1)?, start)));
         }
     }
     Ok(None)
@@ -47,7 +47,7 @@ fn place_of(
 
 /// The object and the offset at which the linked module starts. `StartOutside` comes exactly where the first start
 /// address of the chosen modules is in no object, or not below its object's size.
-pub fn start_of(
+pub(crate) fn start_of(
     places: &Places,
     syms: &Symbols,
     objects: &[LaidObject],

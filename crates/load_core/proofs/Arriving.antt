@@ -17,39 +17,39 @@ use Rattle.load_model.specs.declared.deeds.Entry.{Entry}
 use Rattle.load_model.specs.Modules.{Library, fixed_bytes}
 use Rattle.load_model.specs.State.{Residence, Eager, pids, is_among, is_reached, residence_of}
 use Rattle.load_model.specs.Entering.{NoRoom, joined, newcomers, resident_ranges, placed_from, placing, entering_calls}
-use Rattle.stay_table.specs.declared.entry.Entering.{Entering}
-use Rattle.stay_table.specs.Called.{IsWithin, IsEnteringOf}
+use Rattle.residence_table.specs.declared.entry.Entering.{Entering}
+use Rattle.residence_table.specs.Called.{IsWithin, IsEnteringOf}
 use Rattle.load_model.specs.Initialising.{is_failing, failing_module, failed_calls, gone_again, entered, enter_by, enter_deed, after_failing}
 use Rattle.load_model.specs.Refusals.{enter_refusal}
 use Rattle.load_model.specs.Asks.{enter, may_ask, deed_of, after_deed}
 use Rattle.load_model.specs.Alike.{BasesSeenStay}
 use Rattle.load_model.specs.Laws.{ReachedIsResident}
-use Rattle.load_model.specs.Rows.{Row}
+use Rattle.load_model.specs.ProcessCounts.{ProcessCounts}
 use Rattle.load_model.proofs.Bools.{and_left, and_right}
 use Rattle.load_model.proofs.Kept.{fresh_modules}
 use Rattle.mod_refs.specs.declared.changes.Gained.{Gained}
-use Rattle.mod_refs.specs.AllRows.{AreRows}
+use Rattle.mod_refs.specs.AllCounts.{AreCountsOfAll}
 use Rattle.mod_refs.specs.Changes.{IsGained}
-use Rattle.mod_refs.proofs.KeptRows.{joined_within}
-use Rattle.load_core.specs.Ledger.{Ledger, state_of, IsLegal, MayAsk, Adds, entry_of, with_entry}
+use Rattle.mod_refs.proofs.KeptCounts.{joined_within}
+use Rattle.load_core.specs.BoardState.{BoardState, state_of, IsLegal, MayAsk, Adds, entry_of, with_entry}
 use Rattle.load_core.specs.Kept.{Keeps}
 use Rattle.load_core.specs.Told.{IsToldOf, IsLoaded}
 use Rattle.load_core.specs.declared.answers.Loaded.{Loaded}
-use Rattle.load_core.specs.declared.beside.Beside.{Beside}
+use Rattle.load_core.specs.declared.residence_parts.ResidenceParts.{ResidenceParts}
 use Rattle.load_core.proofs.Asked.{asked_follows}
 use Rattle.load_core.proofs.Keeping.{FollowsIn, keeps_still}
 
 -- ---- modules
 
-pub module_asked : (b : Ledger) (pid : ℕ) (how : How) (m : ℕ) → MayAsk b pid (enter how m) → m < length b.library
+pub module_asked : (b : BoardState) (pid : ℕ) (how : How) (m : ℕ) → MayAsk b pid (enter how m) → m < length b.library
 unfolding may_ask
 module_asked b pid how m may = ltb-true m (length b.library) (and_left _ _ may)
 
-pub not_refused : (b : Ledger) (pid : ℕ) (how : How) (m : ℕ) → MayAsk b pid (enter how m) → is_none (enter_refusal b.library ((state_of b).processes pid) how (Some m)) ≡ true
+pub not_refused : (b : BoardState) (pid : ℕ) (how : How) (m : ℕ) → MayAsk b pid (enter how m) → is_none (enter_refusal b.library ((state_of b).processes pid) how (Some m)) ≡ true
 unfolding may_ask
 not_refused b pid how m may = and_right _ _ may
 
-pub joined_in : OrderIsInLibrary → (b : Ledger) (pid m : ℕ) → m < length b.library → All (λ k. k < length b.library) (joined b.library (state_of b) pid m)
+pub joined_in : OrderIsInLibrary → (b : BoardState) (pid m : ℕ) → m < length b.library → All (λ k. k < length b.library) (joined b.library (state_of b) pid m)
 unfolding joined
 joined_in within b pid m below = joined_within within b.library ((state_of b).processes pid) m below
 
@@ -57,15 +57,15 @@ none_some : {X : Type 0} (x : Option X) → not (is_some x) ≡ is_none x
 none_some None = refl
 none_some (Some y) = refl
 
--- the newcomers are what no process reaches
-pub unreached_new : ReachedIsResident → (b : Ledger) (pid m : ℕ) → IsLegal b →
+-- what is new is what no process reaches
+pub unreached_new : ReachedIsResident → (b : BoardState) (pid m : ℕ) → IsLegal b →
     filter (λ k. not (is_reached b.library (state_of b) k)) (joined b.library (state_of b) pid m) ≡ newcomers b.library (state_of b) pid m
 unfolding newcomers
 unreached_new resident b pid m legal =
     filter_agree (λ k. not (is_reached b.library (state_of b) k)) (λ k. is_none (residence_of (state_of b) k))
     (λ k. ap not (sym (resident b.library b.failing (fixed_bytes b.library) b.history legal k)) ∙ none_some (residence_of (state_of b) k)) (joined b.library (state_of b) pid m)
 
-pub new_in : OrderIsInLibrary → (b : Ledger) (pid m : ℕ) → m < length b.library → All (λ k. k < length b.library) (newcomers b.library (state_of b) pid m)
+pub new_in : OrderIsInLibrary → (b : BoardState) (pid m : ℕ) → m < length b.library → All (λ k. k < length b.library) (newcomers b.library (state_of b) pid m)
 unfolding newcomers
 new_in within b pid m below = All-filter (λ k. is_none (residence_of (state_of b) k)) (λ k. k < length b.library) (joined b.library (state_of b) pid m) (joined_in within b pid m below)
 
@@ -89,49 +89,49 @@ entered_deed lib e pid how m fresh o is which = ap (enter_by lib e pid how m) is
 abbrev pub entry_with : ℕ → Deed → Entry
 entry_with pid deed = record { pid = pid; deed = deed }
 
-pub entry_is : (b : Ledger) (pid : ℕ) (how : How) (m : ℕ) (deed : Deed) → enter_deed b.library (state_of b) pid how m ≡ deed → entry_with pid deed ≡ entry_of b pid (enter how m)
+pub entry_is : (b : BoardState) (pid : ℕ) (how : How) (m : ℕ) (deed : Deed) → enter_deed b.library (state_of b) pid how m ≡ deed → entry_with pid deed ≡ entry_of b pid (enter how m)
 unfolding deed_of
 entry_is b pid how m deed is = ap (entry_with pid) (sym is)
 
-pub adds_so : (b : Ledger) (pid : ℕ) (how : How) (m : ℕ) (deed : Deed) (h : List Entry) → enter_deed b.library (state_of b) pid how m ≡ deed → h ≡ b.history ++ entry_with pid deed ∷ [] →
+pub adds_so : (b : BoardState) (pid : ℕ) (how : How) (m : ℕ) (deed : Deed) (h : List Entry) → enter_deed b.library (state_of b) pid how m ≡ deed → h ≡ b.history ++ entry_with pid deed ∷ [] →
     Adds b (record b { history = h }) pid (enter how m)
 adds_so b pid how m deed h is grown =
-    let H : List Entry → Ledger = λ k. record b { history = k } in
+    let H : List Entry → BoardState = λ k. record b { history = k } in
     ap H grown ∙ ap (with_entry b) (entry_is b pid how m deed is)
 
-pub told_so : (b c : Ledger) (pid : ℕ) (how : How) (m : ℕ) (deed : Deed) (answer : Loaded) → enter_deed b.library (state_of b) pid how m ≡ deed → IsToldOf deed b c pid answer → IsLoaded b c pid how m answer
+pub told_so : (b c : BoardState) (pid : ℕ) (how : How) (m : ℕ) (deed : Deed) (answer : Loaded) → enter_deed b.library (state_of b) pid how m ≡ deed → IsToldOf deed b c pid answer → IsLoaded b c pid how m answer
 told_so b c pid how m deed answer is told = subst (λ d. IsToldOf d b c pid answer) (sym is) told
 
-pub enters_follow : (b : Ledger) (pid : ℕ) (how : How) (m : ℕ) (deed : Deed) → is_among pids pid ≡ true → MayAsk b pid (enter how m) → enter_deed b.library (state_of b) pid how m ≡ deed →
+pub enters_follow : (b : BoardState) (pid : ℕ) (how : How) (m : ℕ) (deed : Deed) → is_among pids pid ≡ true → MayAsk b pid (enter how m) → enter_deed b.library (state_of b) pid how m ≡ deed →
     FollowsIn b (entry_with pid deed)
 enters_follow b pid how m deed there may is =
     subst (FollowsIn b) (sym (entry_is b pid how m deed is)) (asked_follows b.library b.failing (fixed_bytes b.library) b.history pid (enter how m) there may tt)
 
 -- ---- what is kept where nothing is loaded
 
-pub keeps_full : BasesSeenStay → (b : Ledger) (rows : List Row) (stays : List (Residence × Beside)) (serials pid : ℕ) (how : How) (m of object size : ℕ) (h : List Entry) → Keeps b rows stays serials →
+pub keeps_full : BasesSeenStay → (b : BoardState) (all_counts : List ProcessCounts) (table : List (Residence × ResidenceParts)) (serials pid : ℕ) (how : How) (m of object size : ℕ) (h : List Entry) → Keeps b all_counts table serials →
     is_among pids pid ≡ true → MayAsk b pid (enter how m) → enter_deed b.library (state_of b) pid how m ≡ deeds.Full how m of object size →
-    h ≡ b.history ++ entry_with pid (deeds.Full how m of object size) ∷ [] → Keeps (record b { history = h }) rows stays serials
+    h ≡ b.history ++ entry_with pid (deeds.Full how m of object size) ∷ [] → Keeps (record b { history = h }) all_counts table serials
 unfolding after_deed
-keeps_full stay b rows stays serials pid how m of object size h kept there may is grown =
-    let H : List Entry → Type 0 = λ k. Keeps (record b { history = k }) rows stays serials in
+keeps_full stay b all_counts table serials pid how m of object size h kept there may is grown =
+    let H : List Entry → Type 0 = λ k. Keeps (record b { history = k }) all_counts table serials in
     subst H (sym grown)
-    (keeps_still stay b (entry_with pid (deeds.Full how m of object size)) rows rows stays serials serials kept (enters_follow b pid how m (deeds.Full how m of object size) there may is) (λ s p. refl)
+    (keeps_still stay b (entry_with pid (deeds.Full how m of object size)) all_counts all_counts table serials serials kept (enters_follow b pid how m (deeds.Full how m of object size) there may is) (λ s p. refl)
     kept.reached refl kept.given)
 
-pub keeps_failed : BasesSeenStay → (b : Ledger) (rows : List Row) (stays : List (Residence × Beside)) (serials serials' pid : ℕ) (how : How) (m by : ℕ) (fresh : List Fresh) (calls : List Call)
-    (gone : List Gone) (h : List Entry) → Keeps b rows stays serials → is_among pids pid ≡ true → MayAsk b pid (enter how m) →
+pub keeps_failed : BasesSeenStay → (b : BoardState) (all_counts : List ProcessCounts) (table : List (Residence × ResidenceParts)) (serials serials' pid : ℕ) (how : How) (m by : ℕ) (fresh : List Fresh) (calls : List Call)
+    (gone : List Gone) (h : List Entry) → Keeps b all_counts table serials → is_among pids pid ≡ true → MayAsk b pid (enter how m) →
     enter_deed b.library (state_of b) pid how m ≡ deeds.Failed how m by fresh calls gone → serials' ≡ (state_of b).serials + length fresh →
-    h ≡ b.history ++ entry_with pid (deeds.Failed how m by fresh calls gone) ∷ [] → Keeps (record b { history = h }) rows stays serials'
+    h ≡ b.history ++ entry_with pid (deeds.Failed how m by fresh calls gone) ∷ [] → Keeps (record b { history = h }) all_counts table serials'
 unfolding after_deed
-keeps_failed stay b rows stays serials serials' pid how m by fresh calls gone h kept there may is given grown =
-    let H : List Entry → Type 0 = λ k. Keeps (record b { history = k }) rows stays serials' in
+keeps_failed stay b all_counts table serials serials' pid how m by fresh calls gone h kept there may is given grown =
+    let H : List Entry → Type 0 = λ k. Keeps (record b { history = k }) all_counts table serials' in
     subst H (sym grown)
-    (keeps_still stay b (entry_with pid (deeds.Failed how m by fresh calls gone)) rows rows stays serials serials' kept
-    (enters_follow b pid how m (deeds.Failed how m by fresh calls gone) there may is) (λ s p. refl) (same b.library (state_of b) fresh rows kept.reached) refl given)
+    (keeps_still stay b (entry_with pid (deeds.Failed how m by fresh calls gone)) all_counts all_counts table serials serials' kept
+    (enters_follow b pid how m (deeds.Failed how m by fresh calls gone) there may is) (λ s p. refl) (same b.library (state_of b) fresh all_counts kept.reached) refl given)
   where
-    same : (lib : Library) (e : Eager) (fresh : List Fresh) (rows : List Row) → AreRows lib e rows → AreRows lib (after_failing e fresh) rows
-    same lib e fresh rows are = record { each = are.each }
+    same : (lib : Library) (e : Eager) (fresh : List Fresh) (all_counts : List ProcessCounts) → AreCountsOfAll lib e all_counts → AreCountsOfAll lib (after_failing e fresh) all_counts
+    same lib e fresh all_counts are = record { each = are.each }
 
 -- ---- an initialisation that fails
 
@@ -147,14 +147,14 @@ failed_deed lib e pid how m by fresh calls gone placed which called ended =
     entered_deed lib e pid how m fresh (Some by) placed which
     ∙ ap (λ cs. deeds.Failed how m by fresh cs (gone_again fresh)) (sym called) ∙ ap (λ gs. deeds.Failed how m by fresh calls gs) (sym ended)
 
-pub is_within : OrderIsInLibrary → (b : Ledger) (pid : ℕ) (entering : Entering) → MayAsk b pid (enter entering.how entering.«module») →
+pub is_within : OrderIsInLibrary → (b : BoardState) (pid : ℕ) (entering : Entering) → MayAsk b pid (enter entering.how entering.«module») →
     entering.joined.now ≡ joined b.library (state_of b) pid entering.«module» → IsWithin b.library entering
 is_within within b pid entering may same =
     let W : List ℕ → Type 0 = λ ms. All (λ k. k < length b.library) ms in
     let below : entering.«module» < length b.library = module_asked b pid entering.how entering.«module» may in
     record { «module» = below; joined = subst W (sym same) (joined_in within b pid entering.«module» below) }
 
-pub is_entering : (b : Ledger) (pid : ℕ) (entering : Entering) (fresh : List Fresh) → entering.joined.now ≡ joined b.library (state_of b) pid entering.«module» → entering.fresh.now ≡ fresh →
+pub is_entering : (b : BoardState) (pid : ℕ) (entering : Entering) (fresh : List Fresh) → entering.joined.now ≡ joined b.library (state_of b) pid entering.«module» → entering.fresh.now ≡ fresh →
     placing b.library (state_of b) pid entering.«module» ≡ Ok fresh → IsEnteringOf b.library (state_of b) pid entering
 is_entering b pid entering fresh same new placed = record {
   joined = same;
@@ -174,9 +174,9 @@ pub handed_on : {A B R : Type 0} (P : A → Type 0) (Q : R → Type 0) (P' : B �
 handed_on P Q P' Q' (Said r) more is = more r is
 handed_on P Q P' Q' NoMemory more is = tt
 
--- what the rows say of a library is said of the same
-pub gained_in : (here lib : Library) (e : Eager) (rows : List Row) (pid m : ℕ) (gained : Gained) → here ≡ lib → ((e : Eager) → AreRows here e rows → IsGained here e pid m gained) → AreRows lib e rows →
+-- what the counts say of a library is said of the same
+pub gained_in : (here lib : Library) (e : Eager) (all_counts : List ProcessCounts) (pid m : ℕ) (gained : Gained) → here ≡ lib → ((e : Eager) → AreCountsOfAll here e all_counts → IsGained here e pid m gained) → AreCountsOfAll lib e all_counts →
     IsGained lib e pid m gained
-gained_in here lib e rows pid m gained same said are =
-    let G : Library → Type 0 = λ l. (e : Eager) → AreRows l e rows → IsGained l e pid m gained in
+gained_in here lib e all_counts pid m gained same said are =
+    let G : Library → Type 0 = λ l. (e : Eager) → AreCountsOfAll l e all_counts → IsGained l e pid m gained in
     subst G same said e are

@@ -3,31 +3,31 @@ use Rattle.std.proofs.Common.{◌≡◌, ◌<◌, ◌==◌, ℕ, length, true, L
 use Rattle.load_model.specs.Modules.{fixed_bytes}
 use Rattle.load_model.specs.State.{Residence}
 use Rattle.load_model.specs.Asks.{is_attached}
-use Rattle.load_model.specs.Rows.{Row}
+use Rattle.load_model.specs.ProcessCounts.{ProcessCounts}
 use Rattle.load_model.specs.Fitness.{ReachedIsFit}
 use Rattle.load_model.proofs.Bytes.{attached_is}
 use Rattle.load_model.proofs.Serials.{serials_rise}
 use Rattle.write_overlay.specs.Layered.{Lays}
-use Rattle.stay_table.specs.Standing.{unwritten, has_serial}
-use Rattle.load_core.specs.Ledger.{Ledger, state_of}
+use Rattle.residence_table.specs.Residences.{unwritten, has_serial}
+use Rattle.load_core.specs.BoardState.{BoardState, state_of}
 use Rattle.load_core.specs.Kept.{Keeps, IsLaid}
-use Rattle.load_core.specs.declared.beside.Beside.{Beside}
-use Rattle.load_core.proofs.Standing.{IsAsked, found_so, there_so, asked, asked_there, asked_nowhere}
+use Rattle.load_core.specs.declared.residence_parts.ResidenceParts.{ResidenceParts}
+use Rattle.load_core.proofs.FoundBySerial.{IsAsked, found_so, there_so, asked, asked_there, asked_nowhere}
 
-module _ (b : Ledger) (rows : List Row) (stays : List (Residence × Beside)) (serials pid serial m : ℕ) (kept : Keeps b rows stays serials) (attached : is_attached b.library (state_of b) pid serial m ≡ true) where
-  pub asked_at : IsAsked b.library (state_of b) stays pid serial m
-  asked_at = asked serials_rise b.library b.failing (fixed_bytes b.library) b.history stays pid serial m kept.legal kept.standing attached
+module _ (b : BoardState) (all_counts : List ProcessCounts) (table : List (Residence × ResidenceParts)) (serials pid serial m : ℕ) (kept : Keeps b all_counts table serials) (attached : is_attached b.library (state_of b) pid serial m ≡ true) where
+  pub asked_at : IsAsked b.library (state_of b) table pid serial m
+  asked_at = asked serials_rise b.library b.failing (fixed_bytes b.library) b.history table pid serial m kept.legal kept.residences_are attached
 
-  pub place_found : is_some (position (has_serial serial) stays) ≡ true
-  place_found = step (position (has_serial serial) stays) refl
+  pub place_found : is_some (position (has_serial serial) table) ≡ true
+  place_found = step (position (has_serial serial) table) refl
     where
-      step : (o : Option ℕ) → position (has_serial serial) stays ≡ o → is_some o ≡ true
+      step : (o : Option ℕ) → position (has_serial serial) table ≡ o → is_some o ≡ true
       step (Some place) is = refl
-      step None is = absurd (asked_nowhere b.library (state_of b) stays pid serial m asked_at is)
+      step None is = absurd (asked_nowhere b.library (state_of b) table pid serial m asked_at is)
 
-  module _ (place : ℕ) (s : Residence × Beside) (at : position (has_serial serial) stays ≡ Some place) (there : slice_get stays place ≡ Some s) where
+  module _ (place : ℕ) (s : Residence × ResidenceParts) (at : position (has_serial serial) table ≡ Some place) (there : slice_get table place ≡ Some s) where
     own : s.0 ≡ unwritten asked_at.residence
-    own = asked_there b.library (state_of b) stays pid serial m asked_at place s at there
+    own = asked_there b.library (state_of b) table pid serial m asked_at place s at there
 
     pub module_there : s.0.«module» ≡ m
     module_there = ap (λ (r : Residence). r.«module») own ∙ asked_at.of_module
@@ -39,7 +39,7 @@ module _ (b : Ledger) (rows : List Row) (stays : List (Residence × Beside)) (se
     pub laid_there : Lays s.1.layers asked_at.residence.writes
     laid_there =
         found_so (λ r. r.serial ≡ s.0.serial → Lays s.1.layers r.writes) (λ r. r.«module» == m) (state_of b).residences asked_at.residence
-        (there_so (IsLaid (state_of b).residences) stays place s kept.laid there) asked_at.resident (asked_at.numbered ∙ sym serial_there)
+        (there_so (IsLaid (state_of b).residences) table place s kept.laid there) asked_at.resident (asked_at.numbered ∙ sym serial_there)
 
     pub module_within : ReachedIsFit → s.0.«module» < length b.library
     module_within fit =

@@ -29,23 +29,23 @@ use Rattle.load_model.specs.Memory.{bases_seen}
 use Rattle.load_model.specs.Asks.{enter, after_deed}
 use Rattle.load_model.specs.Histories.{after_entry, has_fault}
 use Rattle.load_model.specs.Alike.{BasesSeenStay}
-use Rattle.load_model.specs.Rows.{Row}
+use Rattle.load_model.specs.ProcessCounts.{ProcessCounts}
 use Rattle.load_model.proofs.Among.{some_find, any_append, among_filter}
 use Rattle.load_model.proofs.GivenSerials.{faults_are_given}
 use Rattle.load_model.proofs.Serials.{serials_rise}
-use Rattle.mod_refs.specs.AllRows.{AreRows}
+use Rattle.mod_refs.specs.AllCounts.{AreCountsOfAll}
 use Rattle.mod_refs.specs.Changes.{with_entered}
 use Rattle.write_overlay.specs.Layered.{Pages, Lays}
-use Rattle.stay_table.specs.Standing.{residences, unwritten, standing_in, is_of_module}
-use Rattle.stay_table.proofs.Resident.{find_map, standing_with, residence_begun, serial_written, bases_written}
-use Rattle.load_core.specs.Ledger.{Ledger, state_of, IsLegal, MayAsk, with_entry}
-use Rattle.load_core.specs.Kept.{Keeps, IsCurrent, IsCurrentStay, IsLaid, rights_left, shared_as}
+use Rattle.residence_table.specs.Residences.{residences, unwritten, unwritten_residences, is_of_module}
+use Rattle.residence_table.proofs.Resident.{find_map, standing_with, residence_begun, serial_written, bases_written}
+use Rattle.load_core.specs.BoardState.{BoardState, state_of, IsLegal, MayAsk, with_entry}
+use Rattle.load_core.specs.Kept.{Keeps, IsCurrent, IsCurrentRow, IsLaid, rights_left, shared_as}
 use Rattle.load_core.specs.Told.{residence_shown}
 use Rattle.load_core.specs.Enters.{IsBegun, HaveBegun, shared_of, bases_with}
-use Rattle.load_core.specs.declared.beside.Beside.{Beside}
+use Rattle.load_core.specs.declared.residence_parts.ResidenceParts.{ResidenceParts}
 use Rattle.load_core.proofs.Arriving.{entry_with, enters_follow, placed_modules}
 use Rattle.load_core.proofs.Current.{Stands, faults_same}
-use Rattle.load_core.proofs.Standing.{Rising, found_so}
+use Rattle.load_core.proofs.FoundBySerial.{Rising, found_so}
 use Rattle.load_core.proofs.Keeping.{FollowsIn, NoFaults, after, all_standing, rising_kept, all_current, keeps_more}
 
 -- ---- what is found
@@ -68,7 +68,7 @@ find_right f (y ∷ xs) ys is = step (f y) is (find_right f xs ys)
 
 -- ---- residences that begin
 
-begun_residences : (b : Ledger) (all fs : List Fresh) (ss : List (Residence × Beside)) → HaveBegun b all fs ss → residences ss ≡ map residence_from fs
+begun_residences : (b : BoardState) (all fs : List Fresh) (ss : List (Residence × ResidenceParts)) → HaveBegun b all fs ss → residences ss ≡ map residence_from fs
 begun_residences b all [] [] begun = refl
 begun_residences b all [] (s ∷ ss) begun = absurd begun
 begun_residences b all (f ∷ fs) [] begun = absurd begun
@@ -103,12 +103,12 @@ placing_above : (lib : Library) (e : Eager) (pid m : ℕ) (fresh : List Fresh) �
 unfolding placing
 placing_above lib e pid m fresh is = placed_above lib (newcomers lib e pid m) e.serials (resident_ranges lib e) fresh is
 
--- ---- behind the entry
+-- ---- after the entry
 
 abbrev pub entered_entry : ℕ → How → ℕ → List Fresh → List Call → Entry
 entered_entry pid how m fresh calls = entry_with pid (deeds.Enter how m fresh calls)
 
-after_enter : (b : Ledger) (pid : ℕ) (how : How) (m : ℕ) (fresh : List Fresh) (calls : List Call) → after_entry b.library (state_of b) (entered_entry pid how m fresh calls) ≡ after_entering b.library (state_of b) pid how m fresh
+after_enter : (b : BoardState) (pid : ℕ) (how : How) (m : ℕ) (fresh : List Fresh) (calls : List Call) → after_entry b.library (state_of b) (entered_entry pid how m fresh calls) ≡ after_entering b.library (state_of b) pid how m fresh
 unfolding after_deed
 after_enter b pid how m fresh calls = refl
 
@@ -116,8 +116,8 @@ entering_residences : (lib : Library) (e : Eager) (pid : ℕ) (how : How) (m : �
 unfolding after_entering with_process
 entering_residences lib e pid how m fresh = refl
 
--- they stand behind those that stood
-entering_standing : (lib : Library) (e : Eager) (pid : ℕ) (how : How) (m : ℕ) (fresh : List Fresh) → standing_in (after_entering lib e pid how m fresh) ≡ standing_in e ++ map residence_from fresh
+-- they stand after those that stood
+entering_standing : (lib : Library) (e : Eager) (pid : ℕ) (how : How) (m : ℕ) (fresh : List Fresh) → unwritten_residences (after_entering lib e pid how m fresh) ≡ unwritten_residences e ++ map residence_from fresh
 entering_standing lib e pid how m fresh = ap (map unwritten) (entering_residences lib e pid how m fresh) ∙ standing_with e.residences fresh
 
 entering_serials : (lib : Library) (e : Eager) (pid : ℕ) (how : How) (m : ℕ) (fresh : List Fresh) → (after_entering lib e pid how m fresh).serials ≡ e.serials + length fresh
@@ -128,9 +128,9 @@ entering_bases : (lib : Library) (e : Eager) (pid : ℕ) (how : How) (m : ℕ) (
 unfolding after_entering with_process bases_seen residence_of
 entering_bases lib e pid how m fresh k = refl
 
-entering_rows : (lib : Library) (e : Eager) (pid : ℕ) (how : How) (m : ℕ) (fresh : List Fresh) (rows : List Row) → AreRows lib (with_entered lib e pid how m) rows → AreRows lib (after_entering lib e pid how m fresh) rows
+entering_rows : (lib : Library) (e : Eager) (pid : ℕ) (how : How) (m : ℕ) (fresh : List Fresh) (all_counts : List ProcessCounts) → AreCountsOfAll lib (with_entered lib e pid how m) all_counts → AreCountsOfAll lib (after_entering lib e pid how m fresh) all_counts
 unfolding after_entering with_process
-entering_rows lib e pid how m fresh rows are = record { each = are.each }
+entering_rows lib e pid how m fresh all_counts are = record { each = are.each }
 
 no_enter_fault : (pid : ℕ) (how : How) (m : ℕ) (fresh : List Fresh) (calls : List Call) → NoFaults (entered_entry pid how m fresh calls)
 no_enter_fault pid how m fresh calls s p = refl
@@ -140,7 +140,7 @@ all_pass [] f each = refl
 all_pass (p ∷ ps) f each = ap (λ c. cond c (p ∷ filter f ps) (filter f ps)) (each p) ∙ ap (λ qs. p ∷ qs) (all_pass ps f each)
 
 -- a page of a residence that begins had no fault
-new_rights : (b : Ledger) (x : Entry) (f : Fresh) → IsLegal b → NoFaults x → (state_of b).serials < f.serial →
+new_rights : (b : BoardState) (x : Entry) (f : Fresh) → IsLegal b → NoFaults x → (state_of b).serials < f.serial →
     rights_left (with_entry b x) (residence_from f) ≡ record { serial = f.serial; left = fixable_pages (module_of b.library f.«module») }
 new_rights b x f legal none above =
     let R : List PageId → PageRights = λ left. record { serial = f.serial; left = left } in
@@ -152,14 +152,14 @@ new_rights b x f legal none above =
         let below = faults_are_given b.library b.failing (fixed_bytes b.library) b.history f.serial p legal is in
         absurd (omega (arith, above, below))
 
-new_current : (b : Ledger) (pid : ℕ) (how : How) (m : ℕ) (fresh : List Fresh) (calls : List Call) → IsLegal b → (fs : List Fresh) (ss : List (Residence × Beside)) → HaveBegun b fresh fs ss →
-    AllByRecursion (λ (f : Fresh). (state_of b).serials < f.serial) fs → AllByRecursion (IsCurrentStay (with_entry b (entered_entry pid how m fresh calls))) ss
+new_current : (b : BoardState) (pid : ℕ) (how : How) (m : ℕ) (fresh : List Fresh) (calls : List Call) → IsLegal b → (fs : List Fresh) (ss : List (Residence × ResidenceParts)) → HaveBegun b fresh fs ss →
+    AllByRecursion (λ (f : Fresh). (state_of b).serials < f.serial) fs → AllByRecursion (IsCurrentRow (with_entry b (entered_entry pid how m fresh calls))) ss
 new_current b pid how m fresh calls legal [] [] begun above = tt
 new_current b pid how m fresh calls legal [] (s ∷ ss) begun above = absurd begun
 new_current b pid how m fresh calls legal (f ∷ fs) [] begun above = absurd begun
 new_current b pid how m fresh calls legal (f ∷ fs) (s ∷ ss) begun above =
     let x : Entry = entered_entry pid how m fresh calls in
-    let c : Ledger = with_entry b x in
+    let c : BoardState = with_entry b x in
     let C : Residence → Type 0 = λ r. IsCurrent c r s.1.rights (arc_value s.1.shared) in
     let B : ℕ → ResidenceFor = λ k. shared_as c (residence_from f) in
     let bases : bases_seen b.library (state_of c) f.«module» ≡ bases_seen b.library (with_fresh_residences (state_of b) fresh) f.«module» =
@@ -172,7 +172,7 @@ new_current b pid how m fresh calls legal (f ∷ fs) (s ∷ ss) begun above =
     in
     (subst C (sym begun.0.residence) now, new_current b pid how m fresh calls legal fs ss begun.1 above.1)
 
-residences_joined : (xs ys : List (Residence × Beside)) → residences (xs ++ ys) ≡ residences xs ++ residences ys
+residences_joined : (xs ys : List (Residence × ResidenceParts)) → residences (xs ++ ys) ≡ residences xs ++ residences ys
 residences_joined [] ys = refl
 residences_joined (x ∷ xs) ys = ap (λ rs. x.0 ∷ rs) (residences_joined xs ys)
 
@@ -194,11 +194,11 @@ apart_above serials n layers [] low above = tt
 apart_above serials n layers (f ∷ fs) low above =
     (λ e. let high : serials < f.serial = above.0 in let same : f.serial ≡ n = e in absurd (omega (arith, low, high, same)), apart_above serials n layers fs low above.1)
 
-old_laid : (serials : ℕ) (rs : List Residence) (fresh : List Fresh) → AllByRecursion (λ (f : Fresh). serials < f.serial) fresh → (stays : List (Residence × Beside)) →
-    AllByRecursion (λ r. r.serial ≤ serials) (residences stays) → AllByRecursion (IsLaid rs) stays → AllByRecursion (IsLaid (rs ++ map residence_from fresh)) stays
+old_laid : (serials : ℕ) (rs : List Residence) (fresh : List Fresh) → AllByRecursion (λ (f : Fresh). serials < f.serial) fresh → (table : List (Residence × ResidenceParts)) →
+    AllByRecursion (λ r. r.serial ≤ serials) (residences table) → AllByRecursion (IsLaid rs) table → AllByRecursion (IsLaid (rs ++ map residence_from fresh)) table
 old_laid serials rs fresh above [] low laid = tt
-old_laid serials rs fresh above (s ∷ stays) low laid =
-    (all_joined (λ r. r.serial ≡ s.0.serial → Lays s.1.layers r.writes) rs (map residence_from fresh) laid.0 (apart_above serials s.0.serial s.1.layers fresh low.0 above), old_laid serials rs fresh above stays low.1 laid.1)
+old_laid serials rs fresh above (s ∷ table) low laid =
+    (all_joined (λ r. r.serial ≡ s.0.serial → Lays s.1.layers r.writes) rs (map residence_from fresh) laid.0 (apart_above serials s.0.serial s.1.layers fresh low.0 above), old_laid serials rs fresh above table low.1 laid.1)
 
 -- nothing was written to those that begin
 fresh_laid : (layers : Pages) (n : ℕ) (fs : List Fresh) → Lays layers [] → AllByRecursion (λ r. r.serial ≡ n → Lays layers r.writes) (map residence_from fs)
@@ -210,7 +210,7 @@ apart_below serials n layers [] high low = tt
 apart_below serials n layers (r ∷ rs) high low =
     (λ e. let less : r.serial ≤ serials = low.0 in let same : r.serial ≡ n = e in absurd (omega (arith, less, high, same)), apart_below serials n layers rs high low.1)
 
-new_laid : (b : Ledger) (all : List Fresh) (serials : ℕ) (rs : List Residence) (fresh : List Fresh) → AllByRecursion (λ r. r.serial ≤ serials) rs → (fs : List Fresh) (ss : List (Residence × Beside)) → HaveBegun b all fs ss →
+new_laid : (b : BoardState) (all : List Fresh) (serials : ℕ) (rs : List Residence) (fresh : List Fresh) → AllByRecursion (λ r. r.serial ≤ serials) rs → (fs : List Fresh) (ss : List (Residence × ResidenceParts)) → HaveBegun b all fs ss →
     AllByRecursion (λ (f : Fresh). serials < f.serial) fs → AllByRecursion (IsLaid (rs ++ map residence_from fresh)) ss
 new_laid b all serials rs fresh low [] [] begun above = tt
 new_laid b all serials rs fresh low [] (s ∷ ss) begun above = absurd begun
@@ -222,60 +222,60 @@ new_laid b all serials rs fresh low (f ∷ fs) (s ∷ ss) begun above =
       new_laid b all serials rs fresh low fs ss begun.1 above.1,
     )
 
-pub keeps_entered : BasesSeenStay → (b : Ledger) (rows rows' : List Row) (stays new : List (Residence × Beside)) (serials serials' pid : ℕ) (how : How) (m : ℕ) (fresh : List Fresh) (calls : List Call) →
-    Keeps b rows stays serials → is_among pids pid ≡ true → MayAsk b pid (enter how m) → enter_deed b.library (state_of b) pid how m ≡ deeds.Enter how m fresh calls →
-    placing b.library (state_of b) pid m ≡ Ok fresh → HaveBegun b fresh fresh new → AreRows b.library (with_entered b.library (state_of b) pid how m) rows' →
-    serials' ≡ (state_of b).serials + length fresh → Keeps (with_entry b (entered_entry pid how m fresh calls)) rows' (stays ++ new) serials'
-keeps_entered stay b rows rows' stays new serials serials' pid how m fresh calls kept there may is placed begun are given =
+pub keeps_entered : BasesSeenStay → (b : BoardState) (all_counts all_counts' : List ProcessCounts) (table new : List (Residence × ResidenceParts)) (serials serials' pid : ℕ) (how : How) (m : ℕ) (fresh : List Fresh) (calls : List Call) →
+    Keeps b all_counts table serials → is_among pids pid ≡ true → MayAsk b pid (enter how m) → enter_deed b.library (state_of b) pid how m ≡ deeds.Enter how m fresh calls →
+    placing b.library (state_of b) pid m ≡ Ok fresh → HaveBegun b fresh fresh new → AreCountsOfAll b.library (with_entered b.library (state_of b) pid how m) all_counts' →
+    serials' ≡ (state_of b).serials + length fresh → Keeps (with_entry b (entered_entry pid how m fresh calls)) all_counts' (table ++ new) serials'
+keeps_entered stay b all_counts all_counts' table new serials serials' pid how m fresh calls kept there may is placed begun are given =
     let x : Entry = entered_entry pid how m fresh calls in
     let e : Eager = state_of b in
     let follows : FollowsIn b x = enters_follow b pid how m (deeds.Enter how m fresh calls) there may is in
     let step = after_enter b pid how m fresh calls in
-    let still : residences (stays ++ new) ≡ standing_in (after_entry b.library e x) =
-    residences_joined stays new ∙ ap (λ rs. rs ++ residences new) kept.standing ∙ ap (λ rs. standing_in e ++ rs) (begun_residences b fresh fresh new begun)
-    ∙ sym (entering_standing b.library e pid how m fresh) ∙ ap (λ (a : Eager). standing_in a) (sym step)
+    let still : residences (table ++ new) ≡ unwritten_residences (after_entry b.library e x) =
+    residences_joined table new ∙ ap (λ rs. rs ++ residences new) kept.residences_are ∙ ap (λ rs. unwritten_residences e ++ rs) (begun_residences b fresh fresh new begun)
+    ∙ sym (entering_standing b.library e pid how m fresh) ∙ ap (λ (a : Eager). unwritten_residences a) (sym step)
     in
     let above = placing_above b.library e pid m fresh placed in
     let rise = serials_rise b.library b.failing (fixed_bytes b.library) b.history kept.legal in
-    let behind = all_front (λ s. Stands (state_of (with_entry b x)) s.0) stays new (all_standing (state_of (with_entry b x)) (stays ++ new) (still ∙ ap (λ (a : Eager). standing_in a) (sym (after b x)))) in
-    keeps_more b x rows' (stays ++ new) serials' kept.legal follows (subst (λ a. AreRows b.library a rows') (sym step) (entering_rows b.library e pid how m fresh rows' are)) still
+    let behind = all_front (λ s. Stands (state_of (with_entry b x)) s.0) table new (all_standing (state_of (with_entry b x)) (table ++ new) (still ∙ ap (λ (a : Eager). unwritten_residences a) (sym (after b x)))) in
+    keeps_more b x all_counts' (table ++ new) serials' kept.legal follows (subst (λ a. AreCountsOfAll b.library a all_counts') (sym step) (entering_rows b.library e pid how m fresh all_counts' are)) still
     (given ∙ sym (entering_serials b.library e pid how m fresh) ∙ ap (λ (a : Eager). a.serials) (sym step))
-    (all_joined (IsCurrentStay (with_entry b x)) stays new
-    (all_current stay b x stays kept.legal follows (no_enter_fault pid how m fresh calls) (all_standing e stays kept.standing) behind kept.current)
+    (all_joined (IsCurrentRow (with_entry b x)) table new
+    (all_current stay b x table kept.legal follows (no_enter_fault pid how m fresh calls) (all_standing e table kept.residences_are) behind kept.current)
     (new_current b pid how m fresh calls kept.legal fresh new begun above))
-    (subst (λ rs. AllByRecursion (IsLaid rs) (stays ++ new)) (sym (entering_residences b.library e pid how m fresh) ∙ ap (λ (a : Eager). a.residences) (sym step))
-    (all_joined (IsLaid (e.residences ++ map residence_from fresh)) stays new
-    (old_laid e.serials e.residences fresh above stays (all_below 0 e.serials (residences stays) (rising_kept b rows stays serials kept)) kept.laid)
+    (subst (λ rs. AllByRecursion (IsLaid rs) (table ++ new)) (sym (entering_residences b.library e pid how m fresh) ∙ ap (λ (a : Eager). a.residences) (sym step))
+    (all_joined (IsLaid (e.residences ++ map residence_from fresh)) table new
+    (old_laid e.serials e.residences fresh above table (all_below 0 e.serials (residences table) (rising_kept b all_counts table serials kept)) kept.laid)
     (new_laid b fresh e.serials e.residences fresh (all_below 0 e.serials e.residences rise) fresh new begun above)))
 
 -- ---- what is attached
 
-found_own : (k : ℕ) (stays : List (Residence × Beside)) (s : Residence × Beside) → find (is_of_module k) stays ≡ Some s → (find (λ r. r.«module» == k) (residences stays) ≡ Some s.0) × (s.0.«module» ≡ k)
+found_own : (k : ℕ) (table : List (Residence × ResidenceParts)) (s : Residence × ResidenceParts) → find (is_of_module k) table ≡ Some s → (find (λ r. r.«module» == k) (residences table) ≡ Some s.0) × (s.0.«module» ≡ k)
 found_own k [] s is = cc
-found_own k (t ∷ stays) s is = step (t.0.«module» == k) refl is (found_own k stays s)
+found_own k (t ∷ table) s is = step (t.0.«module» == k) refl is (found_own k table s)
   where
-    step : (c : Bool) → (t.0.«module» == k) ≡ c → cond c (Some t) (find (is_of_module k) stays) ≡ Some s →
-        (find (is_of_module k) stays ≡ Some s → (find (λ r. r.«module» == k) (residences stays) ≡ Some s.0) × (s.0.«module» ≡ k)) →
-        (cond c (Some t.0) (find (λ r. r.«module» == k) (residences stays)) ≡ Some s.0) × (s.0.«module» ≡ k)
+    step : (c : Bool) → (t.0.«module» == k) ≡ c → cond c (Some t) (find (is_of_module k) table) ≡ Some s →
+        (find (is_of_module k) table ≡ Some s → (find (λ r. r.«module» == k) (residences table) ≡ Some s.0) × (s.0.«module» ≡ k)) →
+        (cond c (Some t.0) (find (λ r. r.«module» == k) (residences table)) ≡ Some s.0) × (s.0.«module» ≡ k)
     step true at is later =
         let same : t ≡ s = cc in
-        (ap (λ (y : Residence × Beside). Some y.0) same, ap (λ (y : Residence × Beside). y.0.«module») (sym same) ∙ eqb-true t.0.«module» k at)
+        (ap (λ (y : Residence × ResidenceParts). Some y.0) same, ap (λ (y : Residence × ResidenceParts). y.0.«module») (sym same) ∙ eqb-true t.0.«module» k at)
     step false at is later = later is
 
 -- what is shown of the module of a residence that is kept
-pub shown_of : (c : Ledger) (rows : List Row) (stays : List (Residence × Beside)) (serials k : ℕ) → Keeps c rows stays serials → is_some (find (is_of_module k) stays) ≡ true →
-    shared_of stays k ≡ Some (residence_shown c.library (state_of c) k)
+pub shown_of : (c : BoardState) (all_counts : List ProcessCounts) (table : List (Residence × ResidenceParts)) (serials k : ℕ) → Keeps c all_counts table serials → is_some (find (is_of_module k) table) ≡ true →
+    shared_of table k ≡ Some (residence_shown c.library (state_of c) k)
 unfolding residence_of
-shown_of c rows stays serials k kept some = step (find (is_of_module k) stays) refl some
+shown_of c all_counts table serials k kept some = step (find (is_of_module k) table) refl some
   where
-    step : (o : Option (Residence × Beside)) → find (is_of_module k) stays ≡ o → is_some o ≡ true → option_map (λ s. arc_value s.1.shared) o ≡ Some (residence_shown c.library (state_of c) k)
+    step : (o : Option (Residence × ResidenceParts)) → find (is_of_module k) table ≡ o → is_some o ≡ true → option_map (λ s. arc_value s.1.shared) o ≡ Some (residence_shown c.library (state_of c) k)
     step None is some = cc
     step (Some s) is some =
-        let own = found_own k stays s is in
-        let current : IsCurrentStay c s = found_so (IsCurrentStay c) (is_of_module k) stays s kept.current is in
+        let own = found_own k table s is in
+        let current : IsCurrentRow c s = found_so (IsCurrentRow c) (is_of_module k) table s kept.current is in
         let R : ℕ → ℕ → ResidenceFor = λ n m. record { library = c.library; serial = n; «module» = m; bases = bases_seen c.library (state_of c) m } in
         let found : option_map unwritten (residence_of (state_of c) k) ≡ Some s.0 =
-        sym (find_map (λ (r : Residence). r.«module» == k) unwritten (state_of c).residences) ∙ ap (find (λ r. r.«module» == k)) (sym kept.standing) ∙ own.0
+        sym (find_map (λ (r : Residence). r.«module» == k) unwritten (state_of c).residences) ∙ ap (find (λ r. r.«module» == k)) (sym kept.residences_are) ∙ own.0
         in
         ap Some (current.shared ∙ ap (R s.0.serial) own.1 ∙ ap (λ n. R n k) (ap serial_of (sym found) ∙ serial_written (residence_of (state_of c) k)))
 
@@ -285,9 +285,9 @@ fresh_among : (k : ℕ) (fresh : List Fresh) → list_any (λ r. r.«module» ==
 fresh_among k [] = refl
 fresh_among k (f ∷ fs) = ap (λ c. (f.«module» == k) || c) (fresh_among k fs)
 
-stays_any : (k : ℕ) (stays : List (Residence × Beside)) → list_any (is_of_module k) stays ≡ list_any (λ r. r.«module» == k) (residences stays)
+stays_any : (k : ℕ) (table : List (Residence × ResidenceParts)) → list_any (is_of_module k) table ≡ list_any (λ r. r.«module» == k) (residences table)
 stays_any k [] = refl
-stays_any k (s ∷ stays) = ap (λ c. (s.0.«module» == k) || c) (stays_any k stays)
+stays_any k (s ∷ table) = ap (λ c. (s.0.«module» == k) || c) (stays_any k table)
 
 -- a member of what is attached is resident or new
 attached_found : (lib : Library) (e : Eager) (pid m : ℕ) (fresh : List Fresh) (k : ℕ) → map (λ f. f.«module») fresh ≡ newcomers lib e pid m → is_among (joined lib e pid m) k ≡ true →
@@ -306,45 +306,45 @@ attached_found lib e pid m fresh k new member =
 all_members : (xs : List ℕ) (P : ℕ → Type 0) → ((k : ℕ) → is_among xs k ≡ true → P k) → All P xs
 all_members xs P each k d inside = each (get_or xs k d) (list_any_at (λ other. other == get_or xs k d) xs k d inside (eq-eqb (get_or xs k d) (get_or xs k d) refl))
 
-pub all_found : (b : Ledger) (rows : List Row) (stays new : List (Residence × Beside)) (serials pid m : ℕ) (fresh : List Fresh) → Keeps b rows stays serials → placing b.library (state_of b) pid m ≡ Ok fresh →
-    HaveBegun b fresh fresh new → All (λ k. is_some (find (is_of_module k) (stays ++ new)) ≡ true) (joined b.library (state_of b) pid m)
-all_found b rows stays new serials pid m fresh kept placed begun =
-    all_members (joined b.library (state_of b) pid m) (λ k. is_some (find (is_of_module k) (stays ++ new)) ≡ true)
+pub all_found : (b : BoardState) (all_counts : List ProcessCounts) (table new : List (Residence × ResidenceParts)) (serials pid m : ℕ) (fresh : List Fresh) → Keeps b all_counts table serials → placing b.library (state_of b) pid m ≡ Ok fresh →
+    HaveBegun b fresh fresh new → All (λ k. is_some (find (is_of_module k) (table ++ new)) ≡ true) (joined b.library (state_of b) pid m)
+all_found b all_counts table new serials pid m fresh kept placed begun =
+    all_members (joined b.library (state_of b) pid m) (λ k. is_some (find (is_of_module k) (table ++ new)) ≡ true)
     (λ k member.
-    some_find (is_of_module k) (stays ++ new) ∙ stays_any k (stays ++ new)
-    ∙ ap (list_any (λ r. r.«module» == k)) (residences_joined stays new ∙ ap (λ rs. rs ++ residences new) kept.standing ∙ ap (λ rs. standing_in (state_of b) ++ rs) (begun_residences b fresh fresh new begun)
+    some_find (is_of_module k) (table ++ new) ∙ stays_any k (table ++ new)
+    ∙ ap (list_any (λ r. r.«module» == k)) (residences_joined table new ∙ ap (λ rs. rs ++ residences new) kept.residences_are ∙ ap (λ rs. unwritten_residences (state_of b) ++ rs) (begun_residences b fresh fresh new begun)
     ∙ sym (standing_with (state_of b).residences fresh))
     ∙ any_map (λ (r : Residence). r.«module» == k) unwritten ((state_of b).residences ++ map residence_from fresh)
     ∙ attached_found b.library (state_of b) pid m fresh k (placed_modules b.library (state_of b) pid m fresh placed) member)
 
 -- so what is handed out is what is shown of each
-pub all_shown : (c : Ledger) (rows : List Row) (stays : List (Residence × Beside)) (serials : ℕ) (arcs : List ResidenceFor) (ks : List ℕ) → Keeps c rows stays serials →
-    All (λ k. is_some (find (is_of_module k) stays) ≡ true) ks → map Some arcs ≡ map (shared_of stays) ks → arcs ≡ map (residence_shown c.library (state_of c)) ks
-all_shown c rows stays serials [] [] kept each same = refl
-all_shown c rows stays serials [] (k ∷ ks) kept each same = cc
-all_shown c rows stays serials (a ∷ arcs) [] kept each same = cc
-all_shown c rows stays serials (a ∷ arcs) (k ∷ ks) kept each same =
-    let first : Some a ≡ shared_of stays k = cc in
-    let rest : map Some arcs ≡ map (shared_of stays) ks = cc in
-    let own : Some a ≡ Some (residence_shown c.library (state_of c) k) = first ∙ shown_of c rows stays serials k kept (each 0 0 (omega arith)) in
+pub all_shown : (c : BoardState) (all_counts : List ProcessCounts) (table : List (Residence × ResidenceParts)) (serials : ℕ) (arcs : List ResidenceFor) (ks : List ℕ) → Keeps c all_counts table serials →
+    All (λ k. is_some (find (is_of_module k) table) ≡ true) ks → map Some arcs ≡ map (shared_of table) ks → arcs ≡ map (residence_shown c.library (state_of c)) ks
+all_shown c all_counts table serials [] [] kept each same = refl
+all_shown c all_counts table serials [] (k ∷ ks) kept each same = cc
+all_shown c all_counts table serials (a ∷ arcs) [] kept each same = cc
+all_shown c all_counts table serials (a ∷ arcs) (k ∷ ks) kept each same =
+    let first : Some a ≡ shared_of table k = cc in
+    let rest : map Some arcs ≡ map (shared_of table) ks = cc in
+    let own : Some a ≡ Some (residence_shown c.library (state_of c) k) = first ∙ shown_of c all_counts table serials k kept (each 0 0 (omega arith)) in
     let one : a ≡ residence_shown c.library (state_of c) k = cc in
-    ap (λ x. x ∷ arcs) one ∙ ap (λ xs. residence_shown c.library (state_of c) k ∷ xs) (all_shown c rows stays serials arcs ks kept (λ i d inside. each (suc i) d (omega arith)) rest)
+    ap (λ x. x ∷ arcs) one ∙ ap (λ xs. residence_shown c.library (state_of c) k ∷ xs) (all_shown c all_counts table serials arcs ks kept (λ i d inside. each (suc i) d (omega arith)) rest)
 
 -- ---- the loops
 
-pub bases_are : (b : Ledger) (stays : List (Residence × Beside)) (fresh : List Fresh) (m : ℕ) → residences stays ≡ standing_in (state_of b) →
-    record { mods = map (bases_with stays fresh) (Order b.library m) } ≡ bases_seen b.library (with_fresh_residences (state_of b) fresh) m
+pub bases_are : (b : BoardState) (table : List (Residence × ResidenceParts)) (fresh : List Fresh) (m : ℕ) → residences table ≡ unwritten_residences (state_of b) →
+    record { mods = map (bases_with table fresh) (Order b.library m) } ≡ bases_seen b.library (with_fresh_residences (state_of b) fresh) m
 unfolding bases_seen order_of
-bases_are b stays fresh m same =
+bases_are b table fresh m same =
     let Own : ℕ → List ℕ → ModBases = λ k objects. record { «module» = k; objects = objects } in
     let All_of : List ModBases → Bases = λ mods. record { mods = mods } in
     let begun = with_fresh_residences (state_of b) fresh in
     ap All_of
-    (map_agree (bases_with stays fresh) (λ k. Own k (bases_of (residence_of (with_fresh_residences (state_of b) fresh) k)))
-    (λ k. ap (Own k) (ap bases_of (sym (residence_begun (state_of b) (residences stays) fresh k (sym same))) ∙ bases_written (residence_of (with_fresh_residences (state_of b) fresh) k)))
+    (map_agree (bases_with table fresh) (λ k. Own k (bases_of (residence_of (with_fresh_residences (state_of b) fresh) k)))
+    (λ k. ap (Own k) (ap bases_of (sym (residence_begun (state_of b) (residences table) fresh k (sym same))) ∙ bases_written (residence_of (with_fresh_residences (state_of b) fresh) k)))
     (Order b.library m))
 
-pub begun_more : (b : Ledger) (all fs : List Fresh) (ss : List (Residence × Beside)) (f : Fresh) (s : Residence × Beside) → HaveBegun b all fs ss → IsBegun b all f s → HaveBegun b all (fs ++ f ∷ []) (ss ++ s ∷ [])
+pub begun_more : (b : BoardState) (all fs : List Fresh) (ss : List (Residence × ResidenceParts)) (f : Fresh) (s : Residence × ResidenceParts) → HaveBegun b all fs ss → IsBegun b all f s → HaveBegun b all (fs ++ f ∷ []) (ss ++ s ∷ [])
 begun_more b all [] [] f s begun one = (one, tt)
 begun_more b all [] (t ∷ ss) f s begun one = absurd begun
 begun_more b all (g ∷ fs) [] f s begun one = absurd begun

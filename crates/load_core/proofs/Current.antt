@@ -1,4 +1,4 @@
--- Residences that stand before an entry and behind it: their rights, and what is shared of them.
+-- Residences that stand before an entry and after it: their rights, and what is shared of them.
 use Rattle.std.proofs.Common.{◌≡◌, ℕ, ◌==◌, ◌||◌, true, false, not, List, [], ◌∷◌, ◌++◌, refl, sym, ◌∙◌, ap, subst, is_some}
 use Rattle.std.specs.List.{list_any, AllByRecursion}
 use Rattle.std.proofs.lemmas.Bool.{eq-eqb}
@@ -19,7 +19,7 @@ use Rattle.load_model.proofs.Growing.{one_more_is_after}
 use Rattle.page_fix.specs.Rights.{PageRights}
 use Rattle.page_fix.specs.Fixable.{fixable_pages}
 use Rattle.page_frames.specs.Residences.{ResidenceFor}
-use Rattle.load_core.specs.Ledger.{Ledger, state_of, IsLegal, with_entry}
+use Rattle.load_core.specs.BoardState.{BoardState, state_of, IsLegal, with_entry}
 use Rattle.load_core.specs.Kept.{IsCurrent, rights_left, shared_as}
 
 -- ---- lists
@@ -41,7 +41,7 @@ IsNoFault x serial = (p : PageId) → is_fault_of serial p x.deed ≡ false
 pub faults_same : (h : List Entry) (x : Entry) (serial : ℕ) → IsNoFault x serial → (p : PageId) → has_fault (h ++ x ∷ []) serial p ≡ has_fault h serial p
 faults_same h x serial none p = fault_or h x serial p ∙ ap (λ b. has_fault h serial p || b) (none p) ∙ or_false (has_fault h serial p)
 
-pub rights_same : (b : Ledger) (x : Entry) (r : Residence) → IsNoFault x r.serial → rights_left (with_entry b x) r ≡ rights_left b r
+pub rights_same : (b : BoardState) (x : Entry) (r : Residence) → IsNoFault x r.serial → rights_left (with_entry b x) r ≡ rights_left b r
 rights_same b x r none =
     let R : List PageId → PageRights = λ left. record { serial = r.serial; left = left } in
     ap R (filter_agree (λ p. not (has_fault (b.history ++ x ∷ []) r.serial p)) (λ p. not (has_fault b.history r.serial p)) (λ p. ap not (faults_same b.history x r.serial none p))
@@ -69,10 +69,10 @@ among_all (r ∷ rs) =
 pub all_stand : (e : Eager) → AllByRecursion (Stands e) e.residences
 all_stand e = all_weaker (λ r. list_any (λ s. s.«module» == r.«module») e.residences ≡ true) (Stands e) (λ r h. stands_in e r h) e.residences (among_all e.residences)
 
--- ---- behind an entry
+-- ---- after an entry
 
--- what is shared of a residence that stands before an entry and behind it
-pub shared_same : BasesSeenStay → (b : Ledger) (x : Entry) (r : Residence) → IsLegal b → Follows b.library b.failing (fixed_bytes b.library) b.history x →
+-- what is shared of a residence that stands before an entry and after it
+pub shared_same : BasesSeenStay → (b : BoardState) (x : Entry) (r : Residence) → IsLegal b → Follows b.library b.failing (fixed_bytes b.library) b.history x →
     Stands (state_of b) r → Stands (state_of (with_entry b x)) r → shared_as (with_entry b x) r ≡ shared_as b r
 shared_same stay b x r legal follows before after =
     let S : Bases → ResidenceFor = λ bases. record { library = b.library; serial = r.serial; «module» = r.«module»; bases = bases } in
@@ -80,7 +80,7 @@ shared_same stay b x r legal follows before after =
     let there : is_some (residence_of (after_entry b.library (state_of b) x) r.«module») ≡ true = subst (λ e. Stands e r) more after in
     ap S (ap (λ e. bases_seen b.library e r.«module») more ∙ stay b.library b.failing (fixed_bytes b.library) b.history x r.«module» legal follows before there)
 
-pub current_same : BasesSeenStay → (b : Ledger) (x : Entry) (r : Residence) (rights : PageRights) (shown : ResidenceFor) → IsLegal b →
+pub current_same : BasesSeenStay → (b : BoardState) (x : Entry) (r : Residence) (rights : PageRights) (shown : ResidenceFor) → IsLegal b →
     Follows b.library b.failing (fixed_bytes b.library) b.history x → IsNoFault x r.serial → Stands (state_of b) r → Stands (state_of (with_entry b x)) r →
     IsCurrent b r rights shown → IsCurrent (with_entry b x) r rights shown
 current_same stay b x r rights shown legal follows none before after current = record {

@@ -17,7 +17,7 @@ use Rattle.lx_types.specs.declared.parts.Parts.{Parts}
 use Rattle.lx_model.specs.Library.{module_of}
 use Rattle.lx_model.specs.ModuleBytes as bytes
 use Rattle.page_fix.specs.Rights.{PageRights}
-use Rattle.page_fix.specs.Fixable.{is_page, is_common, is_page_of, is_fixable, fixable_pages}
+use Rattle.page_fix.specs.Fixable.{is_page, has_shared_pages, is_page_of, is_fixable, fixable_pages}
 use Rattle.page_fix.proofs.Pages.{same_page, filter_twice}
 use Rattle.load_model.specs.declared.commands.Refusal.{Refusal}
 use Rattle.load_model.specs.declared.commands.Refusal.TheVariants.{Range, Invalid}
@@ -34,15 +34,15 @@ use Rattle.load_model.proofs.Bools.{and_left, and_right, and_true, and_false, or
 use Rattle.load_model.proofs.Bytes.{right_none}
 use Rattle.load_model.proofs.Holding.{when_none, Inside, span_inside}
 use Rattle.load_model.specs.Alike.{BasesSeenStay}
-use Rattle.load_model.specs.Rows.{Row}
+use Rattle.load_model.specs.ProcessCounts.{ProcessCounts}
 use Rattle.load_model.proofs.Serials.{serials_rise}
-use Rattle.stay_table.specs.Standing.{residences, unwritten, standing_in, has_serial}
-use Rattle.load_core.specs.Ledger.{Ledger, state_of, MayAsk, entry_of, with_entry}
-use Rattle.load_core.specs.Kept.{Keeps, IsCurrentStay, IsLaid, rights_left, shared_as}
+use Rattle.residence_table.specs.Residences.{residences, unwritten, unwritten_residences, has_serial}
+use Rattle.load_core.specs.BoardState.{BoardState, state_of, MayAsk, entry_of, with_entry}
+use Rattle.load_core.specs.Kept.{Keeps, IsCurrentRow, IsLaid, rights_left, shared_as}
 use Rattle.load_core.specs.Taken.{without_right}
-use Rattle.load_core.specs.declared.beside.Beside.{Beside}
+use Rattle.load_core.specs.declared.residence_parts.ResidenceParts.{ResidenceParts}
 use Rattle.load_core.proofs.Current.{Stands, IsNoFault, fault_or, all_both, current_same, shared_same}
-use Rattle.load_core.proofs.Standing.{IsAsked, asked, asked_there, asked_nowhere, all_set, there_so}
+use Rattle.load_core.proofs.FoundBySerial.{IsAsked, asked, asked_there, asked_nowhere, all_set, there_so}
 use Rattle.load_core.proofs.Keeping.{FollowsIn, after, all_standing, rising_kept, keeps_more}
 
 -- ---- the page may be fixed
@@ -60,10 +60,10 @@ pub none_is : (x : Option Refusal) → is_none x ≡ true → x ≡ None
 none_is None h = refl
 none_is (Some y) h = cc
 
-common_class : (c : Class) → not (is_own c) ≡ true → is_common c ≡ true
-common_class classes.Code h = refl
-common_class classes.Private h = cc
-common_class classes.Shared h = refl
+shared_class : (c : Class) → not (is_own c) ≡ true → has_shared_pages c ≡ true
+shared_class classes.Code h = refl
+shared_class classes.Private h = cc
+shared_class classes.Shared h = refl
 
 there : (lib : Library) (m : ℕ) (p : PageId) → Inside lib m p.object (p.page * PAGE_SIZE) 1 → is_page_of (module_of lib m) p ≡ true
 unfolding object_at objects_of
@@ -90,8 +90,8 @@ unfolding may_ask is_fixable object_at
 fixable_asked lib e pid serial m p may =
     let used = and_right _ _ (and_left _ _ may) in
     let span : span_refusal lib touch m p.object (p.page * PAGE_SIZE) 1 ≡ None = none_is _ (and_right _ _ used) in
-    let common : is_common (class_of (object_at lib m p.object)) ≡ true = common_class _ (and_right _ _ may) in
-    and_true _ _ (and_true _ _ (there lib m p (span_inside lib touch m p.object (p.page * PAGE_SIZE) 1 span)) common) (valid lib m p span)
+    let shared : has_shared_pages (class_of (object_at lib m p.object)) ≡ true = shared_class _ (and_right _ _ may) in
+    and_true _ _ (and_true _ _ (there lib m p (span_inside lib touch m p.object (p.page * PAGE_SIZE) 1 span)) shared) (valid lib m p span)
 
 pub attached_asked : (lib : Library) (e : Eager) (pid serial m : ℕ) (p : PageId) → may_ask lib e pid (fault serial m p) ≡ true → is_attached lib e pid serial m ≡ true
 unfolding may_ask
@@ -109,7 +109,7 @@ page_and g p q true is = both (g q) (g p) (ap g (sym (same_page p q is)))
     both false b e = e
 
 -- the right of a page is left where the page has no fault
-pub left_or_not : (b : Ledger) (r : Residence) (p : PageId) → list_any (is_page p) (rights_left b r).left ≡ list_any (is_page p) (fixable_pages (module_of b.library r.«module»)) && not (has_fault b.history r.serial p)
+pub left_or_not : (b : BoardState) (r : Residence) (p : PageId) → list_any (is_page p) (rights_left b r).left ≡ list_any (is_page p) (fixable_pages (module_of b.library r.«module»)) && not (has_fault b.history r.serial p)
 left_or_not b r p =
     any_filter (is_page p) (λ q. not (has_fault b.history r.serial q)) (fixable_pages (module_of b.library r.«module»))
     ∙ any_same (λ q. not (has_fault b.history r.serial q) && is_page p q) (λ q. is_page p q && not (has_fault b.history r.serial p))
@@ -122,8 +122,8 @@ rights_without p rights = record rights { left = filter (λ q. not (is_page p q)
 abbrev pub fault_entry : ℕ → ℕ → ℕ → PageId → Entry
 fault_entry pid serial m p = record { pid = pid; deed = Fault serial m p }
 
--- behind the fault of a page all other rights are left
-pub right_taken : (b : Ledger) (pid m : ℕ) (r : Residence) (p : PageId) → rights_without p (rights_left b r) ≡ rights_left (with_entry b (fault_entry pid r.serial m p)) r
+-- after the fault of a page all other rights are left
+pub right_taken : (b : BoardState) (pid m : ℕ) (r : Residence) (p : PageId) → rights_without p (rights_left b r) ≡ rights_left (with_entry b (fault_entry pid r.serial m p)) r
 right_taken b pid m r p =
     let R : List PageId → PageRights = λ left. record { serial = r.serial; left = left } in
     ap R
@@ -141,9 +141,9 @@ right_taken b pid m r p =
         ∙ ap not (sym (fault_or b.history (fault_entry pid r.serial m p) r.serial q))
 
 -- where a right is not left, none is taken
-pub none_taken : (p : PageId) (beside : Beside) → list_any (is_page p) beside.rights.left ≡ false → without_right p beside ≡ beside
+pub none_taken : (p : PageId) (beside : ResidenceParts) → list_any (is_page p) beside.rights.left ≡ false → without_right p beside ≡ beside
 none_taken p beside none =
-    let B : List PageId → Beside = λ left. record beside { rights = record beside.rights { left = left } } in
+    let B : List PageId → ResidenceParts = λ left. record beside { rights = record beside.rights { left = left } } in
     ap B (all_stay beside.rights.left none)
   where
     all_stay : (ps : List PageId) → list_any (is_page p) ps ≡ false → filter (λ q. not (is_page p q)) ps ≡ ps
@@ -163,32 +163,32 @@ AreListed = (m : Parts) (p : PageId) → list_any (is_page p) (fixable_pages m) 
 
 -- A process may claim the page: this residence, which stands at this place, is that of the serial number, and the page's right
 -- is left where the page had no fault.
-pub record IsFaced (b : Ledger) (stays : List (Residence × Beside)) (pid serial : ℕ) (p : PageId) (s : Residence × Beside) : Type 0 where
+pub record IsFaced (b : BoardState) (table : List (Residence × ResidenceParts)) (pid serial : ℕ) (p : PageId) (s : Residence × ResidenceParts) : Type 0 where
   pub numbered : s.0.serial ≡ serial
   pub of_module : (m : ℕ) → MayAsk b pid (fault serial m p) → s.0.«module» ≡ m
   pub right : s.1.rights.serial ≡ serial
   pub left : list_any (is_page p) s.1.rights.left ≡ not (has_fault b.history serial p)
 
-asked_page : (b : Ledger) (rows : List Row) (stays : List (Residence × Beside)) (serials pid serial m : ℕ) (p : PageId) → Keeps b rows stays serials → MayAsk b pid (fault serial m p) →
-    IsAsked b.library (state_of b) stays pid serial m
-asked_page b rows stays serials pid serial m p kept may =
-    asked serials_rise b.library b.failing (fixed_bytes b.library) b.history stays pid serial m kept.legal kept.standing (attached_asked b.library (state_of b) pid serial m p may)
+asked_page : (b : BoardState) (all_counts : List ProcessCounts) (table : List (Residence × ResidenceParts)) (serials pid serial m : ℕ) (p : PageId) → Keeps b all_counts table serials → MayAsk b pid (fault serial m p) →
+    IsAsked b.library (state_of b) table pid serial m
+asked_page b all_counts table serials pid serial m p kept may =
+    asked serials_rise b.library b.failing (fixed_bytes b.library) b.history table pid serial m kept.legal kept.residences_are (attached_asked b.library (state_of b) pid serial m p may)
 
-pub place_found : (b : Ledger) (rows : List Row) (stays : List (Residence × Beside)) (serials pid serial m : ℕ) (p : PageId) → Keeps b rows stays serials → MayAsk b pid (fault serial m p) →
-    is_some (position (has_serial serial) stays) ≡ true
-place_found b rows stays serials pid serial m p kept may = step (position (has_serial serial) stays) refl
+pub place_found : (b : BoardState) (all_counts : List ProcessCounts) (table : List (Residence × ResidenceParts)) (serials pid serial m : ℕ) (p : PageId) → Keeps b all_counts table serials → MayAsk b pid (fault serial m p) →
+    is_some (position (has_serial serial) table) ≡ true
+place_found b all_counts table serials pid serial m p kept may = step (position (has_serial serial) table) refl
   where
-    step : (o : Option ℕ) → position (has_serial serial) stays ≡ o → is_some o ≡ true
+    step : (o : Option ℕ) → position (has_serial serial) table ≡ o → is_some o ≡ true
     step (Some place) is = refl
-    step None is = absurd (asked_nowhere b.library (state_of b) stays pid serial m (asked_page b rows stays serials pid serial m p kept may) is)
+    step None is = absurd (asked_nowhere b.library (state_of b) table pid serial m (asked_page b all_counts table serials pid serial m p kept may) is)
 
-pub faced : AreListed → (b : Ledger) (rows : List Row) (stays : List (Residence × Beside)) (serials pid serial : ℕ) (p : PageId) (place : ℕ) (s : Residence × Beside) → Keeps b rows stays serials →
-    (m : ℕ) × MayAsk b pid (fault serial m p) → position (has_serial serial) stays ≡ Some place → slice_get stays place ≡ Some s → IsFaced b stays pid serial p s
-faced listed b rows stays serials pid serial p place s kept may at there =
-    let one = asked_page b rows stays serials pid serial may.0 p kept may.1 in
-    let same : s.0 ≡ unwritten one.residence = asked_there b.library (state_of b) stays pid serial may.0 one place s at there in
+pub faced : AreListed → (b : BoardState) (all_counts : List ProcessCounts) (table : List (Residence × ResidenceParts)) (serials pid serial : ℕ) (p : PageId) (place : ℕ) (s : Residence × ResidenceParts) → Keeps b all_counts table serials →
+    (m : ℕ) × MayAsk b pid (fault serial m p) → position (has_serial serial) table ≡ Some place → slice_get table place ≡ Some s → IsFaced b table pid serial p s
+faced listed b all_counts table serials pid serial p place s kept may at there =
+    let one = asked_page b all_counts table serials pid serial may.0 p kept may.1 in
+    let same : s.0 ≡ unwritten one.residence = asked_there b.library (state_of b) table pid serial may.0 one place s at there in
     let numbered : s.0.serial ≡ serial = ap (λ (r : Residence). r.serial) same ∙ one.numbered in
-    let current : IsCurrentStay b s = there_so (IsCurrentStay b) stays place s kept.current there in
+    let current : IsCurrentRow b s = there_so (IsCurrentRow b) table place s kept.current there in
     let module_is : s.0.«module» ≡ may.0 = ap (λ (r : Residence). r.«module») same ∙ one.of_module in
     let may_fix : list_any (is_page p) (fixable_pages (module_of b.library s.0.«module»)) ≡ true =
     listed (module_of b.library s.0.«module») p ∙ ap (λ k. is_fixable (module_of b.library k) p) module_is ∙ fixable_asked b.library (state_of b) pid serial may.0 p may.1
@@ -196,8 +196,8 @@ faced listed b rows stays serials pid serial p place s kept may at there =
     record {
       numbered = numbered;
       of_module = λ m asks.
-          let it = asked_page b rows stays serials pid serial m p kept asks in
-          ap (λ (r : Residence). r.«module») (asked_there b.library (state_of b) stays pid serial m it place s at there) ∙ it.of_module;
+          let it = asked_page b all_counts table serials pid serial m p kept asks in
+          ap (λ (r : Residence). r.«module») (asked_there b.library (state_of b) table pid serial m it place s at there) ∙ it.of_module;
       right = ap (λ (r : PageRights). r.serial) current.left ∙ numbered;
       left =
           ap (λ (r : PageRights). list_any (is_page p) r.left) current.left ∙ left_or_not b s.0 p
@@ -215,33 +215,33 @@ other_fault pid serial m n p other q = ap (λ c. c && is_page p q) (turned n ser
         wrong : (t : Bool) → t ≡ false → t ≡ true → ⊥
         wrong t f g = (let e : true ≡ false = sym g ∙ f in cc)
 
-pub keeps_fault : BasesSeenStay → (b : Ledger) (rows : List Row) (stays : List (Residence × Beside)) (serials pid serial m : ℕ) (p : PageId) (place : ℕ) (s : Residence × Beside) →
-    Keeps b rows stays serials → FollowsIn b (fault_entry pid serial m p) → slice_get stays place ≡ Some s → s.0.serial ≡ serial →
-    Keeps (with_entry b (fault_entry pid serial m p)) rows (set stays place (s.0, without_right p s.1)) serials
+pub keeps_fault : BasesSeenStay → (b : BoardState) (all_counts : List ProcessCounts) (table : List (Residence × ResidenceParts)) (serials pid serial m : ℕ) (p : PageId) (place : ℕ) (s : Residence × ResidenceParts) →
+    Keeps b all_counts table serials → FollowsIn b (fault_entry pid serial m p) → slice_get table place ≡ Some s → s.0.serial ≡ serial →
+    Keeps (with_entry b (fault_entry pid serial m p)) all_counts (set table place (s.0, without_right p s.1)) serials
 unfolding after_deed
-keeps_fault stay b rows stays serials pid serial m p place s kept follows there numbered =
+keeps_fault stay b all_counts table serials pid serial m p place s kept follows there numbered =
     let x : Entry = fault_entry pid serial m p in
-    let c : Ledger = with_entry b x in
-    let set_stays : List (Residence × Beside) = set stays place (s.0, without_right p s.1) in
-    let still : residences set_stays ≡ residences stays =
-    map-set_same (λ (t : Residence × Beside). t.0) stays place (s.0, without_right p s.1) s (ap (λ (t : Residence × Beside). t.0) (sym (get_or_from_slice_get stays place s s there)))
+    let c : BoardState = with_entry b x in
+    let set_stays : List (Residence × ResidenceParts) = set table place (s.0, without_right p s.1) in
+    let still : residences set_stays ≡ residences table =
+    map-set_same (λ (t : Residence × ResidenceParts). t.0) table place (s.0, without_right p s.1) s (ap (λ (t : Residence × ResidenceParts). t.0) (sym (get_or_from_slice_get table place s s there)))
     in
-    let before = all_standing (state_of b) stays kept.standing in
-    let behind = all_standing (state_of c) stays (kept.standing ∙ ap (λ (e : Eager). standing_in e) (sym (after b x))) in
-    let both = all_both (λ t. Stands (state_of b) t.0 × Stands (state_of c) t.0) (IsCurrentStay b) stays (all_both (λ t. Stands (state_of b) t.0) (λ t. Stands (state_of c) t.0) stays before behind) kept.current in
-    let this = there_so (λ t. (Stands (state_of b) t.0 × Stands (state_of c) t.0) × IsCurrentStay b t) stays place s both there in
+    let before = all_standing (state_of b) table kept.residences_are in
+    let behind = all_standing (state_of c) table (kept.residences_are ∙ ap (λ (e : Eager). unwritten_residences e) (sym (after b x))) in
+    let both = all_both (λ t. Stands (state_of b) t.0 × Stands (state_of c) t.0) (IsCurrentRow b) table (all_both (λ t. Stands (state_of b) t.0) (λ t. Stands (state_of c) t.0) table before behind) kept.current in
+    let this = there_so (λ t. (Stands (state_of b) t.0 × Stands (state_of c) t.0) × IsCurrentRow b t) table place s both there in
     let taken : record (s.1.rights) { left = filter (λ q. not (is_page p q)) s.1.rights.left } ≡ rights_left c s.0 =
     ap (rights_without p) this.1.left ∙ subst (λ n. rights_without p (rights_left b s.0) ≡ rights_left (with_entry b (fault_entry pid n m p)) s.0) numbered (right_taken b pid m s.0 p)
     in
     let shown : arc_value s.1.shared ≡ shared_as c s.0 = this.1.shared ∙ sym (shared_same stay b x s.0 kept.legal follows this.0.0 this.0.1) in
-    keeps_more b x rows set_stays serials kept.legal follows kept.reached (still ∙ kept.standing) kept.given
-    (all_set (λ t. (Stands (state_of b) t.0 × Stands (state_of c) t.0) × IsCurrentStay b t) (IsCurrentStay c) serial 0 (state_of b).serials stays place s (s.0, without_right p s.1)
-    (rising_kept b rows stays serials kept) there numbered
+    keeps_more b x all_counts set_stays serials kept.legal follows kept.reached (still ∙ kept.residences_are) kept.given
+    (all_set (λ t. (Stands (state_of b) t.0 × Stands (state_of c) t.0) × IsCurrentRow b t) (IsCurrentRow c) serial 0 (state_of b).serials table place s (s.0, without_right p s.1)
+    (rising_kept b all_counts table serials kept) there numbered
     (λ t other h. current_same stay b x t.0 t.1.rights (arc_value t.1.shared) kept.legal follows (other_fault pid serial m t.0.serial p other) h.0.0 h.0.1 h.1)
     (record { left = taken; shared = shown }) both)
-    (all_set (IsLaid (state_of b).residences) (IsLaid (state_of b).residences) serial 0 (state_of b).serials stays place s (s.0, without_right p s.1) (rising_kept b rows stays serials kept) there numbered
-    (λ t other h. h) (there_so (IsLaid (state_of b).residences) stays place s kept.laid there) kept.laid)
+    (all_set (IsLaid (state_of b).residences) (IsLaid (state_of b).residences) serial 0 (state_of b).serials table place s (s.0, without_right p s.1) (rising_kept b all_counts table serials kept) there numbered
+    (λ t other h. h) (there_so (IsLaid (state_of b).residences) table place s kept.laid there) kept.laid)
 
-pub fault_adds : (b : Ledger) (pid serial m : ℕ) (p : PageId) → with_entry b (fault_entry pid serial m p) ≡ with_entry b (entry_of b pid (fault serial m p))
+pub fault_adds : (b : BoardState) (pid serial m : ℕ) (p : PageId) → with_entry b (fault_entry pid serial m p) ≡ with_entry b (entry_of b pid (fault serial m p))
 unfolding deed_of
 fault_adds b pid serial m p = refl

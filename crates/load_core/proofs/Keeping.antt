@@ -19,105 +19,105 @@ use Rattle.load_model.specs.Memory.{writing, with_write}
 use Rattle.load_model.specs.Asks.{after_write, after_deed}
 use Rattle.load_model.specs.Histories.{after_entry, state_after, Follows}
 use Rattle.load_model.specs.Alike.{BasesSeenStay}
-use Rattle.load_model.specs.Rows.{Row, IsRowOf, reach_count}
+use Rattle.load_model.specs.ProcessCounts.{ProcessCounts, AreCountsOf, reach_count}
 use Rattle.load_model.proofs.Serials.{serials_rise}
 use Rattle.load_model.proofs.Growing.{nothing_is_legal, one_more_is_legal, one_more_is_after}
-use Rattle.mod_refs.specs.AllRows.{AreRows, row_at}
+use Rattle.mod_refs.specs.AllCounts.{AreCountsOfAll, counts_at}
 use Rattle.write_overlay.specs.Layered.{Lays}
-use Rattle.stay_table.specs.Standing.{residences, unwritten, standing_in}
-use Rattle.load_core.specs.Ledger.{Ledger, state_of, IsLegal, with_entry}
-use Rattle.load_core.specs.Kept.{Keeps, IsCurrentStay, IsLaid}
+use Rattle.residence_table.specs.Residences.{residences, unwritten, unwritten_residences}
+use Rattle.load_core.specs.BoardState.{BoardState, state_of, IsLegal, with_entry}
+use Rattle.load_core.specs.Kept.{Keeps, IsCurrentRow, IsLaid}
 use Rattle.load_core.specs.Shared.{shared_writes, AreLaid}
-use Rattle.load_core.specs.declared.beside.Beside.{Beside}
+use Rattle.load_core.specs.declared.residence_parts.ResidenceParts.{ResidenceParts}
 use Rattle.load_core.proofs.Current.{Stands, IsNoFault, all_both, all_stand, current_same}
-use Rattle.load_core.proofs.Standing.{Rising, rising_standing, there_so, all_set}
+use Rattle.load_core.proofs.FoundBySerial.{Rising, rising_standing, there_so, all_set}
 
 -- ---- lists of residences
 
-pub lifted : (P : Residence → Type 0) (stays : List (Residence × Beside)) → AllByRecursion P (residences stays) → AllByRecursion (λ s. P s.0) stays
+pub lifted : (P : Residence → Type 0) (table : List (Residence × ResidenceParts)) → AllByRecursion P (residences table) → AllByRecursion (λ s. P s.0) table
 lifted P [] all = tt
-lifted P (s ∷ stays) all = (all.0, lifted P stays all.1)
+lifted P (s ∷ table) all = (all.0, lifted P table all.1)
 
 -- a fact of residences as they stand
 as_standing : (P : Residence → Type 0) → ((r : Residence) → P r → P (unwritten r)) → (rs : List Residence) → AllByRecursion P rs → AllByRecursion P (map unwritten rs)
 as_standing P still [] all = tt
 as_standing P still (r ∷ rs) all = (still r all.0, as_standing P still rs all.1)
 
-pub all_standing : (e : Eager) (stays : List (Residence × Beside)) → residences stays ≡ standing_in e → AllByRecursion (λ s. Stands e s.0) stays
-all_standing e stays same = lifted (Stands e) stays (subst (AllByRecursion (Stands e)) (sym same) (as_standing (Stands e) (λ r h. h) e.residences (all_stand e)))
+pub all_standing : (e : Eager) (table : List (Residence × ResidenceParts)) → residences table ≡ unwritten_residences e → AllByRecursion (λ s. Stands e s.0) table
+all_standing e table same = lifted (Stands e) table (subst (AllByRecursion (Stands e)) (sym same) (as_standing (Stands e) (λ r h. h) e.residences (all_stand e)))
 
 -- the serial numbers of residences that are kept rise
-pub rising_kept : (b : Ledger) (rows : List Row) (stays : List (Residence × Beside)) (serials : ℕ) → Keeps b rows stays serials → Rising 0 (residences stays) (state_of b).serials
-rising_kept b rows stays serials kept =
-    subst (λ rs. Rising 0 rs (state_of b).serials) (sym kept.standing)
+pub rising_kept : (b : BoardState) (all_counts : List ProcessCounts) (table : List (Residence × ResidenceParts)) (serials : ℕ) → Keeps b all_counts table serials → Rising 0 (residences table) (state_of b).serials
+rising_kept b all_counts table serials kept =
+    subst (λ rs. Rising 0 rs (state_of b).serials) (sym kept.residences_are)
     (rising_standing 0 (state_of b).serials (state_of b).residences (serials_rise b.library b.failing (fixed_bytes b.library) b.history kept.legal))
 
 -- ---- an entry
 
-abbrev pub FollowsIn : Ledger → Entry → Type 0
+abbrev pub FollowsIn : BoardState → Entry → Type 0
 FollowsIn b x = Follows b.library b.failing (fixed_bytes b.library) b.history x
 
-pub after : (b : Ledger) (x : Entry) → state_of (with_entry b x) ≡ after_entry b.library (state_of b) x
+pub after : (b : BoardState) (x : Entry) → state_of (with_entry b x) ≡ after_entry b.library (state_of b) x
 after b x = one_more_is_after b.library b.failing b.history x
 
 -- what is kept after an entry, by the state after it
-pub keeps_more : (b : Ledger) (x : Entry) (rows : List Row) (stays : List (Residence × Beside)) (serials : ℕ) → IsLegal b → FollowsIn b x →
-    AreRows b.library (after_entry b.library (state_of b) x) rows → residences stays ≡ standing_in (after_entry b.library (state_of b) x) →
-    serials ≡ (after_entry b.library (state_of b) x).serials → AllByRecursion (IsCurrentStay (with_entry b x)) stays →
-    AllByRecursion (IsLaid (after_entry b.library (state_of b) x).residences) stays → Keeps (with_entry b x) rows stays serials
-keeps_more b x rows stays serials legal follows reached standing given current laid = record {
+pub keeps_more : (b : BoardState) (x : Entry) (all_counts : List ProcessCounts) (table : List (Residence × ResidenceParts)) (serials : ℕ) → IsLegal b → FollowsIn b x →
+    AreCountsOfAll b.library (after_entry b.library (state_of b) x) all_counts → residences table ≡ unwritten_residences (after_entry b.library (state_of b) x) →
+    serials ≡ (after_entry b.library (state_of b) x).serials → AllByRecursion (IsCurrentRow (with_entry b x)) table →
+    AllByRecursion (IsLaid (after_entry b.library (state_of b) x).residences) table → Keeps (with_entry b x) all_counts table serials
+keeps_more b x all_counts table serials legal follows reached residences_are given current laid = record {
   legal = one_more_is_legal b.library b.failing (fixed_bytes b.library) b.history x legal follows;
-  reached = subst (λ e. AreRows b.library e rows) (sym (after b x)) reached;
-  standing = standing ∙ ap (λ (e : Eager). standing_in e) (sym (after b x));
+  reached = subst (λ e. AreCountsOfAll b.library e all_counts) (sym (after b x)) reached;
+  residences_are = residences_are ∙ ap (λ (e : Eager). unwritten_residences e) (sym (after b x));
   given = given ∙ ap (λ (e : Eager). e.serials) (sym (after b x));
   current = current;
-  laid = subst (λ (e : Eager). AllByRecursion (IsLaid e.residences) stays) (sym (after b x)) laid;
+  laid = subst (λ (e : Eager). AllByRecursion (IsLaid e.residences) table) (sym (after b x)) laid;
 }
 
 abbrev pub NoFaults : Entry → Type 0
 NoFaults x = (serial : ℕ) → IsNoFault x serial
 
--- residences that stand before an entry and behind it are kept as they were
-pub all_current : BasesSeenStay → (b : Ledger) (x : Entry) (stays : List (Residence × Beside)) → IsLegal b → FollowsIn b x → NoFaults x →
-    AllByRecursion (λ s. Stands (state_of b) s.0) stays → AllByRecursion (λ s. Stands (state_of (with_entry b x)) s.0) stays →
-    AllByRecursion (IsCurrentStay b) stays → AllByRecursion (IsCurrentStay (with_entry b x)) stays
-all_current stay b x stays legal follows none before behind current =
-    all_weaker (λ s. (Stands (state_of b) s.0 × Stands (state_of (with_entry b x)) s.0) × IsCurrentStay b s) (IsCurrentStay (with_entry b x))
-    (λ s h. current_same stay b x s.0 s.1.rights (arc_value s.1.shared) legal follows (none s.0.serial) h.0.0 h.0.1 h.1) stays
-    (all_both (λ s. Stands (state_of b) s.0 × Stands (state_of (with_entry b x)) s.0) (IsCurrentStay b) stays
-    (all_both (λ s. Stands (state_of b) s.0) (λ s. Stands (state_of (with_entry b x)) s.0) stays before behind) current)
+-- residences that stand before an entry and after it are kept as they were
+pub all_current : BasesSeenStay → (b : BoardState) (x : Entry) (table : List (Residence × ResidenceParts)) → IsLegal b → FollowsIn b x → NoFaults x →
+    AllByRecursion (λ s. Stands (state_of b) s.0) table → AllByRecursion (λ s. Stands (state_of (with_entry b x)) s.0) table →
+    AllByRecursion (IsCurrentRow b) table → AllByRecursion (IsCurrentRow (with_entry b x)) table
+all_current stay b x table legal follows none before behind current =
+    all_weaker (λ s. (Stands (state_of b) s.0 × Stands (state_of (with_entry b x)) s.0) × IsCurrentRow b s) (IsCurrentRow (with_entry b x))
+    (λ s h. current_same stay b x s.0 s.1.rights (arc_value s.1.shared) legal follows (none s.0.serial) h.0.0 h.0.1 h.1) table
+    (all_both (λ s. Stands (state_of b) s.0 × Stands (state_of (with_entry b x)) s.0) (IsCurrentRow b) table
+    (all_both (λ s. Stands (state_of b) s.0) (λ s. Stands (state_of (with_entry b x)) s.0) table before behind) current)
 
--- an entry behind which the same residences stand
-pub keeps_still : BasesSeenStay → (b : Ledger) (x : Entry) (rows rows' : List Row) (stays : List (Residence × Beside)) (serials serials' : ℕ) → Keeps b rows stays serials → FollowsIn b x → NoFaults x →
-    AreRows b.library (after_entry b.library (state_of b) x) rows' → (state_of b).residences ≡ (after_entry b.library (state_of b) x).residences →
-    serials' ≡ (after_entry b.library (state_of b) x).serials → Keeps (with_entry b x) rows' stays serials'
-keeps_still stay b x rows rows' stays serials serials' kept follows none reached same given =
-    let still : residences stays ≡ standing_in (after_entry b.library (state_of b) x) = kept.standing ∙ ap (map unwritten) same in
-    let behind : residences stays ≡ standing_in (state_of (with_entry b x)) = still ∙ ap (λ (e : Eager). standing_in e) (sym (after b x)) in
-    keeps_more b x rows' stays serials' kept.legal follows reached still given
-    (all_current stay b x stays kept.legal follows none (all_standing (state_of b) stays kept.standing) (all_standing (state_of (with_entry b x)) stays behind) kept.current)
-    (subst (λ rs. AllByRecursion (IsLaid rs) stays) same kept.laid)
+-- an entry after which the same residences stand
+pub keeps_still : BasesSeenStay → (b : BoardState) (x : Entry) (all_counts all_counts' : List ProcessCounts) (table : List (Residence × ResidenceParts)) (serials serials' : ℕ) → Keeps b all_counts table serials → FollowsIn b x → NoFaults x →
+    AreCountsOfAll b.library (after_entry b.library (state_of b) x) all_counts' → (state_of b).residences ≡ (after_entry b.library (state_of b) x).residences →
+    serials' ≡ (after_entry b.library (state_of b) x).serials → Keeps (with_entry b x) all_counts' table serials'
+keeps_still stay b x all_counts all_counts' table serials serials' kept follows none reached same given =
+    let still : residences table ≡ unwritten_residences (after_entry b.library (state_of b) x) = kept.residences_are ∙ ap (map unwritten) same in
+    let behind : residences table ≡ unwritten_residences (state_of (with_entry b x)) = still ∙ ap (λ (e : Eager). unwritten_residences e) (sym (after b x)) in
+    keeps_more b x all_counts' table serials' kept.legal follows reached still given
+    (all_current stay b x table kept.legal follows none (all_standing (state_of b) table kept.residences_are) (all_standing (state_of (with_entry b x)) table behind) kept.current)
+    (subst (λ rs. AllByRecursion (IsLaid rs) table) same kept.laid)
 
 -- ---- writes
 
-row_written : (lib : Library) (e : Eager) (pid serial q : ℕ) (w : Written) (row : Row) → IsRowOf lib (e.processes q) row → IsRowOf lib ((with_process e pid (writing serial w (e.processes pid))).processes q) row
+row_written : (lib : Library) (e : Eager) (pid serial q : ℕ) (w : Written) (counts : ProcessCounts) → AreCountsOf lib (e.processes q) counts → AreCountsOf lib ((with_process e pid (writing serial w (e.processes pid))).processes q) counts
 unfolding with_process
-row_written lib e pid serial q w row is = step (q == pid) refl
+row_written lib e pid serial q w counts is = step (q == pid) refl
   where
-    own : q ≡ pid → IsRowOf lib (e.processes pid) row
-    own same = subst (λ k. IsRowOf lib (e.processes k) row) same is
+    own : q ≡ pid → AreCountsOf lib (e.processes pid) counts
+    own same = subst (λ k. AreCountsOf lib (e.processes k) counts) same is
 
-    step : (c : Bool) → (q == pid) ≡ c → IsRowOf lib (if c then writing serial w (e.processes pid) else e.processes q) row
+    step : (c : Bool) → (q == pid) ≡ c → AreCountsOf lib (if c then writing serial w (e.processes pid) else e.processes q) counts
     step true at =
-        let it : IsRowOf lib (e.processes pid) row = own (eqb-true q pid at) in
+        let it : AreCountsOf lib (e.processes pid) counts = own (eqb-true q pid at) in
         record { started = it.started; attached = it.attached; loads_are = it.loads_are; loads = it.loads; reached_are = it.reached_are; reached = reach it }
       where
-        reach : (it : IsRowOf lib (e.processes pid) row) → (m : ℕ) → m < length lib → slice_index row.reached m ≡ reach_count lib (writing serial w (e.processes pid)) m
+        reach : (it : AreCountsOf lib (e.processes pid) counts) → (m : ℕ) → m < length lib → slice_index counts.reached m ≡ reach_count lib (writing serial w (e.processes pid)) m
         reach it = it.reached
     step false at = is
 
-pub rows_written : (lib : Library) (e : Eager) (pid serial : ℕ) (w : Written) (rows : List Row) → AreRows lib e rows → AreRows lib (with_process e pid (writing serial w (e.processes pid))) rows
-rows_written lib e pid serial w rows are = record { each = λ q there. row_written lib e pid serial q w (row_at rows q) (are.each q there) }
+pub rows_written : (lib : Library) (e : Eager) (pid serial : ℕ) (w : Written) (all_counts : List ProcessCounts) → AreCountsOfAll lib e all_counts → AreCountsOfAll lib (with_process e pid (writing serial w (e.processes pid))) all_counts
+rows_written lib e pid serial w all_counts are = record { each = λ q there. row_written lib e pid serial q w (counts_at all_counts q) (are.each q there) }
 
 -- with these writes to the residence of a serial number
 abbrev with_writes : ℕ → List Written → Residence → Residence
@@ -140,7 +140,7 @@ none_written serial (r ∷ rs) = ap (λ q. q ∷ map (with_writes serial []) rs)
     step false = refl
 
 -- what is laid beside another residence stays so
-others_laid : (serial : ℕ) (more : List Written) (t : Residence × Beside) (rs : List Residence) → (t.0.serial == serial) ≡ false → IsLaid rs t → IsLaid (map (with_writes serial more) rs) t
+others_laid : (serial : ℕ) (more : List Written) (t : Residence × ResidenceParts) (rs : List Residence) → (t.0.serial == serial) ≡ false → IsLaid rs t → IsLaid (map (with_writes serial more) rs) t
 others_laid serial more t [] other laid = tt
 others_laid serial more t (r ∷ rs) other laid = (step (r.serial == serial) refl laid.0, others_laid serial more t rs other laid.1)
   where
@@ -150,7 +150,7 @@ others_laid serial more t (r ∷ rs) other laid = (step (r.serial == serial) ref
     step false is h e = h e
 
 -- the writes are laid over those before them
-this_laid : (serial : ℕ) (more : List Written) (s t : Residence × Beside) (rs : List Residence) → s.0.serial ≡ serial → t.0 ≡ s.0 →
+this_laid : (serial : ℕ) (more : List Written) (s t : Residence × ResidenceParts) (rs : List Residence) → s.0.serial ≡ serial → t.0 ≡ s.0 →
     ((writes : List Written) → Lays s.1.layers writes → Lays t.1.layers (writes ++ more)) → IsLaid rs s → IsLaid (map (with_writes serial more) rs) t
 this_laid serial more s t [] numbered same over laid = tt
 this_laid serial more s t (r ∷ rs) numbered same over laid = (step (r.serial == serial) refl laid.0, this_laid serial more s t rs numbered same over laid.1)
@@ -164,41 +164,41 @@ this_laid serial more s t (r ∷ rs) numbered same over laid = (step (r.serial =
     step false is h e = absurd (both_ways (r.serial == serial) is (eq-eqb r.serial serial (e ∙ own ∙ numbered)))
 
 -- Residences with these writes over those before them in the one at a place, which has this serial number.
-module _ (stays after : List (Residence × Beside)) (place serial high : ℕ) (s : Residence × Beside) (more : List Written) (rise : Rising 0 (residences stays) high)
-    (there : slice_get stays place ≡ Some s) (numbered : s.0.serial ≡ serial) (laid : AreLaid stays after place s more) where
-  residences_laid : residences after ≡ residences stays
+module _ (table after : List (Residence × ResidenceParts)) (place serial high : ℕ) (s : Residence × ResidenceParts) (more : List Written) (rise : Rising 0 (residences table) high)
+    (there : slice_get table place ≡ Some s) (numbered : s.0.serial ≡ serial) (laid : AreLaid table after place s more) where
+  residences_laid : residences after ≡ residences table
   residences_laid =
-      ap (λ (ss : List (Residence × Beside)). residences ss) laid.stand
-      ∙ map-set_same (λ (t : Residence × Beside). t.0) stays place (s.0, record s.1 { layers = laid.layers }) s
-      (ap (λ (t : Residence × Beside). t.0) (sym (get_or_from_slice_get stays place s s there)))
+      ap (λ (ss : List (Residence × ResidenceParts)). residences ss) laid.stand
+      ∙ map-set_same (λ (t : Residence × ResidenceParts). t.0) table place (s.0, record s.1 { layers = laid.layers }) s
+      (ap (λ (t : Residence × ResidenceParts). t.0) (sym (get_or_from_slice_get table place s s there)))
 
-  current_laid : (c : Ledger) → AllByRecursion (IsCurrentStay c) stays → AllByRecursion (IsCurrentStay c) after
+  current_laid : (c : BoardState) → AllByRecursion (IsCurrentRow c) table → AllByRecursion (IsCurrentRow c) after
   current_laid c current =
-      subst (AllByRecursion (IsCurrentStay c)) (sym laid.stand)
-      (all_set (IsCurrentStay c) (IsCurrentStay c) serial 0 high stays place s (s.0, record s.1 { layers = laid.layers }) rise there numbered (λ t other h. h)
-      (there_so (IsCurrentStay c) stays place s current there) current)
+      subst (AllByRecursion (IsCurrentRow c)) (sym laid.stand)
+      (all_set (IsCurrentRow c) (IsCurrentRow c) serial 0 high table place s (s.0, record s.1 { layers = laid.layers }) rise there numbered (λ t other h. h)
+      (there_so (IsCurrentRow c) table place s current there) current)
 
-  writes_laid : (rs : List Residence) → AllByRecursion (IsLaid rs) stays → AllByRecursion (IsLaid (map (with_writes serial more) rs)) after
+  writes_laid : (rs : List Residence) → AllByRecursion (IsLaid rs) table → AllByRecursion (IsLaid (map (with_writes serial more) rs)) after
   writes_laid rs all =
       subst (AllByRecursion (IsLaid (map (with_writes serial more) rs))) (sym laid.stand)
-      (all_set (IsLaid rs) (IsLaid (map (with_writes serial more) rs)) serial 0 high stays place s (s.0, record s.1 { layers = laid.layers }) rise there numbered
+      (all_set (IsLaid rs) (IsLaid (map (with_writes serial more) rs)) serial 0 high table place s (s.0, record s.1 { layers = laid.layers }) rise there numbered
       (λ t other h. others_laid serial more t rs other h)
-      (this_laid serial more s (s.0, record s.1 { layers = laid.layers }) rs numbered refl laid.over (there_so (IsLaid rs) stays place s all there)) all)
+      (this_laid serial more s (s.0, record s.1 { layers = laid.layers }) rs numbered refl laid.over (there_so (IsLaid rs) table place s all there)) all)
 
 -- where nothing is written all is kept
-pub keeps_unwritten : (b : Ledger) (rows : List Row) (stays after : List (Residence × Beside)) (serials place : ℕ) (s : Residence × Beside) → Keeps b rows stays serials →
-    slice_get stays place ≡ Some s → AreLaid stays after place s [] → Keeps b rows after serials
-keeps_unwritten b rows stays after serials place s kept there laid =
-    let rise = rising_kept b rows stays serials kept in
+pub keeps_unwritten : (b : BoardState) (all_counts : List ProcessCounts) (table after : List (Residence × ResidenceParts)) (serials place : ℕ) (s : Residence × ResidenceParts) → Keeps b all_counts table serials →
+    slice_get table place ≡ Some s → AreLaid table after place s [] → Keeps b all_counts after serials
+keeps_unwritten b all_counts table after serials place s kept there laid =
+    let rise = rising_kept b all_counts table serials kept in
     record {
       legal = kept.legal;
       reached = kept.reached;
-      standing = residences_laid stays after place s.0.serial (state_of b).serials s [] rise there refl laid ∙ kept.standing;
+      residences_are = residences_laid table after place s.0.serial (state_of b).serials s [] rise there refl laid ∙ kept.residences_are;
       given = kept.given;
-      current = current_laid stays after place s.0.serial (state_of b).serials s [] rise there refl laid b kept.current;
+      current = current_laid table after place s.0.serial (state_of b).serials s [] rise there refl laid b kept.current;
       laid =
           subst (λ rs. AllByRecursion (IsLaid rs) after) (none_written s.0.serial (state_of b).residences)
-          (writes_laid stays after place s.0.serial (state_of b).serials s [] rise there refl laid (state_of b).residences kept.laid);
+          (writes_laid table after place s.0.serial (state_of b).serials s [] rise there refl laid (state_of b).residences kept.laid);
     }
 
 abbrev pub write_entry : ℕ → ℕ → ℕ → Written → Entry
@@ -207,60 +207,60 @@ write_entry pid serial m w = record { pid = pid; deed = deeds.Write serial m w.o
 no_write_fault : (pid serial m : ℕ) (w : Written) → NoFaults (write_entry pid serial m w)
 no_write_fault pid serial m w s p = refl
 
-keeps_class : BasesSeenStay → (b : Ledger) (pid serial m : ℕ) (w : Written) (c : Class) (rows : List Row) (stays behind : List (Residence × Beside)) (serials place : ℕ) (s : Residence × Beside) →
-    Keeps b rows stays serials → FollowsIn b (write_entry pid serial m w) → after_entry b.library (state_of b) (write_entry pid serial m w) ≡ after_write (state_of b) pid serial w c →
-    slice_get stays place ≡ Some s → s.0.serial ≡ serial → AreLaid stays behind place s (shared_writes c w) → Keeps (with_entry b (write_entry pid serial m w)) rows behind serials
+keeps_class : BasesSeenStay → (b : BoardState) (pid serial m : ℕ) (w : Written) (c : Class) (all_counts : List ProcessCounts) (table behind : List (Residence × ResidenceParts)) (serials place : ℕ) (s : Residence × ResidenceParts) →
+    Keeps b all_counts table serials → FollowsIn b (write_entry pid serial m w) → after_entry b.library (state_of b) (write_entry pid serial m w) ≡ after_write (state_of b) pid serial w c →
+    slice_get table place ≡ Some s → s.0.serial ≡ serial → AreLaid table behind place s (shared_writes c w) → Keeps (with_entry b (write_entry pid serial m w)) all_counts behind serials
 unfolding with_process
-keeps_class stay b pid serial m w classes.Code rows stays behind serials place s kept follows same there numbered laid =
-    let still = keeps_unwritten b rows stays behind serials place s kept there laid in
-    keeps_still stay b (write_entry pid serial m w) rows rows behind serials serials still follows (no_write_fault pid serial m w)
-    (subst (λ e. AreRows b.library e rows) (sym same) kept.reached) (ap (λ (e : Eager). e.residences) (sym same)) (kept.given ∙ ap (λ (e : Eager). e.serials) (sym same))
-keeps_class stay b pid serial m w classes.Private rows stays behind serials place s kept follows same there numbered laid =
-    let still = keeps_unwritten b rows stays behind serials place s kept there laid in
-    keeps_still stay b (write_entry pid serial m w) rows rows behind serials serials still follows (no_write_fault pid serial m w)
-    (subst (λ e. AreRows b.library e rows) (sym same) (rows_written b.library (state_of b) pid serial w rows kept.reached))
+keeps_class stay b pid serial m w classes.Code all_counts table behind serials place s kept follows same there numbered laid =
+    let still = keeps_unwritten b all_counts table behind serials place s kept there laid in
+    keeps_still stay b (write_entry pid serial m w) all_counts all_counts behind serials serials still follows (no_write_fault pid serial m w)
+    (subst (λ e. AreCountsOfAll b.library e all_counts) (sym same) kept.reached) (ap (λ (e : Eager). e.residences) (sym same)) (kept.given ∙ ap (λ (e : Eager). e.serials) (sym same))
+keeps_class stay b pid serial m w classes.Private all_counts table behind serials place s kept follows same there numbered laid =
+    let still = keeps_unwritten b all_counts table behind serials place s kept there laid in
+    keeps_still stay b (write_entry pid serial m w) all_counts all_counts behind serials serials still follows (no_write_fault pid serial m w)
+    (subst (λ e. AreCountsOfAll b.library e all_counts) (sym same) (rows_written b.library (state_of b) pid serial w all_counts kept.reached))
     (ap (λ (e : Eager). e.residences) (sym same)) (kept.given ∙ ap (λ (e : Eager). e.serials) (sym same))
-keeps_class stay b pid serial m w classes.Shared rows stays behind serials place s kept follows same there numbered laid =
+keeps_class stay b pid serial m w classes.Shared all_counts table behind serials place s kept follows same there numbered laid =
     let x : Entry = write_entry pid serial m w in
-    let rise = rising_kept b rows stays serials kept in
-    let stood : residences stays ≡ standing_in (after_entry b.library (state_of b) x) =
-    kept.standing ∙ sym (standing_written serial (w ∷ []) (state_of b).residences) ∙ ap (λ (e : Eager). standing_in e) (sym same)
+    let rise = rising_kept b all_counts table serials kept in
+    let stood : residences table ≡ unwritten_residences (after_entry b.library (state_of b) x) =
+    kept.residences_are ∙ sym (standing_written serial (w ∷ []) (state_of b).residences) ∙ ap (λ (e : Eager). unwritten_residences e) (sym same)
     in
-    let now : residences stays ≡ standing_in (state_of (with_entry b x)) = stood ∙ ap (λ (e : Eager). standing_in e) (sym (after b x)) in
-    keeps_more b x rows behind serials kept.legal follows (subst (λ e. AreRows b.library e rows) (sym same) (rows_shared b.library (state_of b) serial w rows kept.reached))
-    (residences_laid stays behind place serial (state_of b).serials s (w ∷ []) rise there numbered laid ∙ stood)
+    let now : residences table ≡ unwritten_residences (state_of (with_entry b x)) = stood ∙ ap (λ (e : Eager). unwritten_residences e) (sym (after b x)) in
+    keeps_more b x all_counts behind serials kept.legal follows (subst (λ e. AreCountsOfAll b.library e all_counts) (sym same) (rows_shared b.library (state_of b) serial w all_counts kept.reached))
+    (residences_laid table behind place serial (state_of b).serials s (w ∷ []) rise there numbered laid ∙ stood)
     (kept.given ∙ ap (λ (e : Eager). e.serials) (sym same))
-    (current_laid stays behind place serial (state_of b).serials s (w ∷ []) rise there numbered laid (with_entry b x)
-    (all_current stay b x stays kept.legal follows (no_write_fault pid serial m w) (all_standing (state_of b) stays kept.standing) (all_standing (state_of (with_entry b x)) stays now) kept.current))
+    (current_laid table behind place serial (state_of b).serials s (w ∷ []) rise there numbered laid (with_entry b x)
+    (all_current stay b x table kept.legal follows (no_write_fault pid serial m w) (all_standing (state_of b) table kept.residences_are) (all_standing (state_of (with_entry b x)) table now) kept.current))
     (subst (λ (e : Eager). AllByRecursion (IsLaid e.residences) behind) (sym same)
-    (writes_laid stays behind place serial (state_of b).serials s (w ∷ []) rise there numbered laid (state_of b).residences kept.laid))
+    (writes_laid table behind place serial (state_of b).serials s (w ∷ []) rise there numbered laid (state_of b).residences kept.laid))
   where
-    rows_shared : (lib : Library) (e : Eager) (serial : ℕ) (w : Written) (rows : List Row) → AreRows lib e rows → AreRows lib (record e { residences = map (with_write serial w) e.residences }) rows
-    rows_shared lib e serial w rows are = record { each = are.each }
+    rows_shared : (lib : Library) (e : Eager) (serial : ℕ) (w : Written) (all_counts : List ProcessCounts) → AreCountsOfAll lib e all_counts → AreCountsOfAll lib (record e { residences = map (with_write serial w) e.residences }) all_counts
+    rows_shared lib e serial w all_counts are = record { each = are.each }
 
-pub keeps_written : BasesSeenStay → (b : Ledger) (pid serial m : ℕ) (w : Written) (rows : List Row) (stays behind : List (Residence × Beside)) (serials place : ℕ) (s : Residence × Beside) →
-    Keeps b rows stays serials → FollowsIn b (write_entry pid serial m w) → slice_get stays place ≡ Some s → s.0.serial ≡ serial →
-    AreLaid stays behind place s (shared_writes (class_of (object_at b.library m w.object)) w) → Keeps (with_entry b (write_entry pid serial m w)) rows behind serials
+pub keeps_written : BasesSeenStay → (b : BoardState) (pid serial m : ℕ) (w : Written) (all_counts : List ProcessCounts) (table behind : List (Residence × ResidenceParts)) (serials place : ℕ) (s : Residence × ResidenceParts) →
+    Keeps b all_counts table serials → FollowsIn b (write_entry pid serial m w) → slice_get table place ≡ Some s → s.0.serial ≡ serial →
+    AreLaid table behind place s (shared_writes (class_of (object_at b.library m w.object)) w) → Keeps (with_entry b (write_entry pid serial m w)) all_counts behind serials
 unfolding after_deed
-keeps_written stay b pid serial m w rows stays behind serials place s kept follows there numbered laid =
-    keeps_class stay b pid serial m w (class_of (object_at b.library m w.object)) rows stays behind serials place s kept follows refl there numbered laid
+keeps_written stay b pid serial m w all_counts table behind serials place s kept follows there numbered laid =
+    keeps_class stay b pid serial m w (class_of (object_at b.library m w.object)) all_counts table behind serials place s kept follows refl there numbered laid
 
 -- ---- a new board
 
-pub nothing_keeps : (lib : Library) (failing : Failing) (rows : List Row) → AreRows lib (nothing_yet failing) rows → Keeps (record { library = lib; failing = failing; history = [] }) rows [] 0
+pub nothing_keeps : (lib : Library) (failing : Failing) (all_counts : List ProcessCounts) → AreCountsOfAll lib (nothing_yet failing) all_counts → Keeps (record { library = lib; failing = failing; history = [] }) all_counts [] 0
 unfolding state_after
-nothing_keeps lib failing rows are = record {
+nothing_keeps lib failing all_counts are = record {
   legal = nothing_is_legal lib failing (fixed_bytes lib);
   reached = are;
-  standing = refl;
+  residences_are = refl;
   given = refl;
   current = tt;
   laid = tt;
 }
 
-pub nothing_keeps_so : (lib : Library) (failing : Failing) (h : List Entry) (rows : List Row) (stays : List (Residence × Beside)) → h ≡ [] → stays ≡ [] → AreRows lib (nothing_yet failing) rows →
-    Keeps (record { library = lib; failing = failing; history = h }) rows stays 0
-nothing_keeps_so lib failing h rows stays empty none are =
-    let H : List Entry → Type 0 = λ k. Keeps (record { library = lib; failing = failing; history = k }) rows stays 0 in
-    let S : List (Residence × Beside) → Type 0 = λ ss. Keeps (record { library = lib; failing = failing; history = [] }) rows ss 0 in
-    subst H (sym empty) (subst S (sym none) (nothing_keeps lib failing rows are))
+pub nothing_keeps_so : (lib : Library) (failing : Failing) (h : List Entry) (all_counts : List ProcessCounts) (table : List (Residence × ResidenceParts)) → h ≡ [] → table ≡ [] → AreCountsOfAll lib (nothing_yet failing) all_counts →
+    Keeps (record { library = lib; failing = failing; history = h }) all_counts table 0
+nothing_keeps_so lib failing h all_counts table empty none are =
+    let H : List Entry → Type 0 = λ k. Keeps (record { library = lib; failing = failing; history = k }) all_counts table 0 in
+    let S : List (Residence × ResidenceParts) → Type 0 = λ ss. Keeps (record { library = lib; failing = failing; history = [] }) all_counts ss 0 in
+    subst H (sym empty) (subst S (sym none) (nothing_keeps lib failing all_counts are))

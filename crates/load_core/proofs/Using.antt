@@ -16,42 +16,42 @@ use Rattle.load_model.specs.Memory.{last_put, writes_seen, writes_of_class, base
 use Rattle.load_model.specs.Refusals.{share, when, class_refusal, span_refusal, is_outside, covers_invalid}
 use Rattle.load_model.specs.Asks.{put, patch, get, may_ask, deed_of, after_deed, bytes_at, is_attached}
 use Rattle.load_model.specs.Alike.{BasesSeenStay}
-use Rattle.load_model.specs.Rows.{Row}
+use Rattle.load_model.specs.ProcessCounts.{ProcessCounts}
 use Rattle.load_model.proofs.Bools.{and_left, and_right}
 use Rattle.load_model.proofs.Bytes.{left_none, right_none}
 use Rattle.write_overlay.specs.Laid.{writes_to, bytes_under}
 use Rattle.write_overlay.specs.Layered.{Lays}
-use Rattle.stay_table.specs.Standing.{has_serial}
-use Rattle.load_core.specs.Ledger.{Ledger, state_of, MayAsk, Adds, with_entry}
+use Rattle.residence_table.specs.Residences.{has_serial}
+use Rattle.load_core.specs.BoardState.{BoardState, state_of, MayAsk, Adds, with_entry}
 use Rattle.load_core.specs.Kept.{Keeps}
 use Rattle.load_core.specs.Shared.{shared_writes, AreLaid}
 use Rattle.load_core.specs.Told.{IsRead, fixed_run, read_run}
-use Rattle.load_core.specs.declared.beside.Beside.{Beside}
+use Rattle.load_core.specs.declared.residence_parts.ResidenceParts.{ResidenceParts}
 use Rattle.load_core.proofs.Asked.{asked_follows}
 use Rattle.load_core.proofs.Attached.{asked_at, module_there, serial_there, laid_there}
 use Rattle.load_core.proofs.Keeping.{FollowsIn, keeps_still, keeps_written, rows_written, write_entry}
 
 -- ---- what is asked reaches its residence
 
-pub put_attached : (b : Ledger) (pid serial m object offset : ℕ) (bytes : List ℕ) → MayAsk b pid (put serial m object offset bytes) → is_attached b.library (state_of b) pid serial m ≡ true
+pub put_attached : (b : BoardState) (pid serial m object offset : ℕ) (bytes : List ℕ) → MayAsk b pid (put serial m object offset bytes) → is_attached b.library (state_of b) pid serial m ≡ true
 unfolding may_ask
 put_attached b pid serial m object offset bytes may = and_left _ _ (and_right _ _ may)
 
-pub patch_attached : (b : Ledger) (pid serial m object offset : ℕ) (bytes : List ℕ) → MayAsk b pid (patch serial m object offset bytes) → is_attached b.library (state_of b) pid serial m ≡ true
+pub patch_attached : (b : BoardState) (pid serial m object offset : ℕ) (bytes : List ℕ) → MayAsk b pid (patch serial m object offset bytes) → is_attached b.library (state_of b) pid serial m ≡ true
 unfolding may_ask
 patch_attached b pid serial m object offset bytes may = and_left _ _ (and_right _ _ may)
 
-pub get_attached : (b : Ledger) (pid serial m object offset len : ℕ) → MayAsk b pid (get serial m object offset len) → is_attached b.library (state_of b) pid serial m ≡ true
+pub get_attached : (b : BoardState) (pid serial m object offset len : ℕ) → MayAsk b pid (get serial m object offset len) → is_attached b.library (state_of b) pid serial m ≡ true
 unfolding may_ask
 get_attached b pid serial m object offset len may = and_left _ _ (and_right _ _ may)
 
 -- ---- a write
 
-module _ (b : Ledger) (rows : List Row) (stays : List (Residence × Beside)) (serials pid serial m : ℕ) (kept : Keeps b rows stays serials) (process : is_among pids pid ≡ true)
-    (place : ℕ) (s : Residence × Beside) (at : position (has_serial serial) stays ≡ Some place) (there : slice_get stays place ≡ Some s) (is : m ≡ s.0.«module») where
+module _ (b : BoardState) (all_counts : List ProcessCounts) (table : List (Residence × ResidenceParts)) (serials pid serial m : ℕ) (kept : Keeps b all_counts table serials) (process : is_among pids pid ≡ true)
+    (place : ℕ) (s : Residence × ResidenceParts) (at : position (has_serial serial) table ≡ Some place) (there : slice_get table place ≡ Some s) (is : m ≡ s.0.«module») where
   module _ (object offset : ℕ) (bytes : List ℕ) where
     of_put : (k : ℕ) → MayAsk b pid (put serial k object offset bytes) → m ≡ k
-    of_put k may = is ∙ module_there b rows stays serials pid serial k kept (put_attached b pid serial k object offset bytes may) place s at there
+    of_put k may = is ∙ module_there b all_counts table serials pid serial k kept (put_attached b pid serial k object offset bytes may) place s at there
 
     pub written : Written
     written = record { object = object; offset = offset; bytes = bytes }
@@ -62,21 +62,21 @@ module _ (b : Ledger) (rows : List Row) (stays : List (Residence × Beside)) (se
         asked_follows b.library b.failing (fixed_bytes b.library) b.history pid (put serial m object offset bytes) process
         (subst (λ k. MayAsk b pid (put serial k object offset bytes)) (sym (of_put may.0 may.1)) may.1) tt
 
-    pub keeps_put : BasesSeenStay → (h : List Entry) (behind : List (Residence × Beside)) → (k : ℕ) × MayAsk b pid (put serial k object offset bytes) →
+    pub keeps_put : BasesSeenStay → (h : List Entry) (behind : List (Residence × ResidenceParts)) → (k : ℕ) × MayAsk b pid (put serial k object offset bytes) →
         h ≡ b.history ++ write_entry pid serial m (record { object = object; offset = offset; bytes = bytes }) ∷ [] →
-        AreLaid stays behind place s (shared_writes (class_of (object_at b.library m object)) (record { object = object; offset = offset; bytes = bytes })) →
-        Keeps (record b { history = h }) rows behind serials
+        AreLaid table behind place s (shared_writes (class_of (object_at b.library m object)) (record { object = object; offset = offset; bytes = bytes })) →
+        Keeps (record b { history = h }) all_counts behind serials
     keeps_put stay h behind may grown laid =
         let w : Written = record { object = object; offset = offset; bytes = bytes } in
-        let H : List Entry → Type 0 = λ k. Keeps (record b { history = k }) rows behind serials in
-        let numbered = serial_there b rows stays serials pid serial may.0 kept (put_attached b pid serial may.0 object offset bytes may.1) place s at there in
-        subst H (sym grown) (keeps_written stay b pid serial m w rows stays behind serials place s kept (put_follows may) there numbered laid)
+        let H : List Entry → Type 0 = λ k. Keeps (record b { history = k }) all_counts behind serials in
+        let numbered = serial_there b all_counts table serials pid serial may.0 kept (put_attached b pid serial may.0 object offset bytes may.1) place s at there in
+        subst H (sym grown) (keeps_written stay b pid serial m w all_counts table behind serials place s kept (put_follows may) there numbered laid)
 
     pub adds_put : (h : List Entry) → h ≡ b.history ++ write_entry pid serial m (record { object = object; offset = offset; bytes = bytes }) ∷ [] →
         (k : ℕ) → MayAsk b pid (put serial k object offset bytes) → Adds b (record b { history = h }) pid (put serial k object offset bytes)
     unfolding deed_of
     adds_put h grown k may =
-        let H : List Entry → Ledger = λ hs. record b { history = hs } in
+        let H : List Entry → BoardState = λ hs. record b { history = hs } in
         ap H grown ∙ ap (λ n. with_entry b (write_entry pid serial n (record { object = object; offset = offset; bytes = bytes }))) (of_put k may)
 
   -- ---- a debugger's write
@@ -86,7 +86,7 @@ module _ (b : Ledger) (rows : List Row) (stays : List (Residence × Beside)) (se
 
   module _ (object offset : ℕ) (bytes : List ℕ) where
     of_patch : (k : ℕ) → MayAsk b pid (patch serial k object offset bytes) → m ≡ k
-    of_patch k may = is ∙ module_there b rows stays serials pid serial k kept (patch_attached b pid serial k object offset bytes may) place s at there
+    of_patch k may = is ∙ module_there b all_counts table serials pid serial k kept (patch_attached b pid serial k object offset bytes may) place s at there
 
     patch_follows : (k : ℕ) × MayAsk b pid (patch serial k object offset bytes) → FollowsIn b (debug_entry object offset bytes)
     unfolding deed_of
@@ -95,20 +95,20 @@ module _ (b : Ledger) (rows : List Row) (stays : List (Residence × Beside)) (se
         (subst (λ k. MayAsk b pid (patch serial k object offset bytes)) (sym (of_patch may.0 may.1)) may.1) tt
 
     pub keeps_patch : BasesSeenStay → (h : List Entry) → (k : ℕ) × MayAsk b pid (patch serial k object offset bytes) → h ≡ b.history ++ debug_entry object offset bytes ∷ [] →
-        Keeps (record b { history = h }) rows stays serials
+        Keeps (record b { history = h }) all_counts table serials
     unfolding after_deed with_process
     keeps_patch stay h may grown =
         let w : Written = record { object = object; offset = offset; bytes = bytes } in
-        let H : List Entry → Type 0 = λ k. Keeps (record b { history = k }) rows stays serials in
+        let H : List Entry → Type 0 = λ k. Keeps (record b { history = k }) all_counts table serials in
         subst H (sym grown)
-        (keeps_still stay b (debug_entry object offset bytes) rows rows stays serials serials kept (patch_follows may) (λ n p. refl)
-        (rows_written b.library (state_of b) pid serial w rows kept.reached) refl kept.given)
+        (keeps_still stay b (debug_entry object offset bytes) all_counts all_counts table serials serials kept (patch_follows may) (λ n p. refl)
+        (rows_written b.library (state_of b) pid serial w all_counts kept.reached) refl kept.given)
 
     pub adds_patch : (h : List Entry) → h ≡ b.history ++ debug_entry object offset bytes ∷ [] →
         (k : ℕ) → MayAsk b pid (patch serial k object offset bytes) → Adds b (record b { history = h }) pid (patch serial k object offset bytes)
     unfolding deed_of
     adds_patch h grown k may =
-        let H : List Entry → Ledger = λ hs. record b { history = hs } in
+        let H : List Entry → BoardState = λ hs. record b { history = hs } in
         let E : ℕ → Entry = λ n. record { pid = pid; deed = deeds.Debug serial n object offset bytes } in
         ap H grown ∙ ap (λ n. with_entry b (E n)) (of_patch k may)
 
@@ -119,7 +119,7 @@ shared_class classes.Code h = cc
 shared_class classes.Private h = cc
 shared_class classes.Shared h = refl
 
-get_shared : (b : Ledger) (pid serial m object offset len : ℕ) → MayAsk b pid (get serial m object offset len) → class_of (object_at b.library m object) ≡ classes.Shared
+get_shared : (b : BoardState) (pid serial m object offset len : ℕ) → MayAsk b pid (get serial m object offset len) → class_of (object_at b.library m object) ≡ classes.Shared
 unfolding may_ask span_refusal
 get_shared b pid serial m object offset len may =
     let span : span_refusal b.library share m object offset len ≡ None = none_is _ (and_right _ _ (and_right _ _ may)) in
@@ -131,7 +131,7 @@ seen_shared : (lib : Library) (p : Process) (r : Residence) (object : ℕ) → c
 unfolding writes_seen
 seen_shared lib p r object is = ap (λ c. writes_to object (writes_of_class c p r)) is
 
-laid_shared : (b : Ledger) (pid m object offset len : ℕ) (r : Residence) → r.«module» ≡ m → class_of (object_at b.library m object) ≡ classes.Shared →
+laid_shared : (b : BoardState) (pid m object offset len : ℕ) (r : Residence) → r.«module» ≡ m → class_of (object_at b.library m object) ≡ classes.Shared →
     bytes_under r.writes object offset (fixed_run b m object offset len) ≡ bytes_at b.library (fixed_bytes b.library) (state_of b) pid object offset len (Some r)
 unfolding Bytes Byte
 laid_shared b pid m object offset len r same is =
@@ -147,18 +147,18 @@ laid_shared b pid m object offset len r same is =
     (get_or-map-range_with_len fixed offset len (x - offset) x 0 (omega arith) (omega arith) ∙ ap (λ k. fixed_bytes b.library k (bases_seen b.library (state_of b) k) object x) (sym same))
     ∙ ap (λ ws. last_put ws x (own x)) (sym seen))
 
-module _ (b : Ledger) (rows : List Row) (stays : List (Residence × Beside)) (serials pid serial m : ℕ) (kept : Keeps b rows stays serials) (process : is_among pids pid ≡ true)
-    (place : ℕ) (s : Residence × Beside) (at : position (has_serial serial) stays ≡ Some place) (there : slice_get stays place ≡ Some s) (is : m ≡ s.0.«module»)
+module _ (b : BoardState) (all_counts : List ProcessCounts) (table : List (Residence × ResidenceParts)) (serials pid serial m : ℕ) (kept : Keeps b all_counts table serials) (process : is_among pids pid ≡ true)
+    (place : ℕ) (s : Residence × ResidenceParts) (at : position (has_serial serial) table ≡ Some place) (there : slice_get table place ≡ Some s) (is : m ≡ s.0.«module»)
     (object offset : ℕ) (before read : List ℕ) (fixed : (k : ℕ) → MayAsk b pid (get serial k object offset (length before)) → before ≡ fixed_run b k object offset (length before))
     (over : (writes : List Written) → Lays s.1.layers writes → read ≡ bytes_under writes object offset before) where
   of_get : (k : ℕ) → MayAsk b pid (get serial k object offset (length before)) → m ≡ k
-  of_get k may = is ∙ module_there b rows stays serials pid serial k kept (get_attached b pid serial k object offset (length before) may) place s at there
+  of_get k may = is ∙ module_there b all_counts table serials pid serial k kept (get_attached b pid serial k object offset (length before) may) place s at there
 
   pub is_read : (k : ℕ) → MayAsk b pid (get serial k object offset (length before)) → read ≡ read_run b pid k object offset (length before)
   is_read k may =
       let attached = get_attached b pid serial k object offset (length before) may in
-      let it = asked_at b rows stays serials pid serial k kept attached in
-      over it.residence.writes (laid_there b rows stays serials pid serial k kept attached place s at there) ∙ ap (bytes_under it.residence.writes object offset) (fixed k may)
+      let it = asked_at b all_counts table serials pid serial k kept attached in
+      over it.residence.writes (laid_there b all_counts table serials pid serial k kept attached place s at there) ∙ ap (bytes_under it.residence.writes object offset) (fixed k may)
       ∙ laid_shared b pid k object offset (length before) it.residence it.of_module (get_shared b pid serial k object offset (length before) may)
       ∙ ap (bytes_at b.library (fixed_bytes b.library) (state_of b) pid object offset (length before)) (sym it.there)
 
@@ -173,17 +173,17 @@ module _ (b : Ledger) (rows : List Row) (stays : List (Residence × Beside)) (se
       (asked_follows b.library b.failing (fixed_bytes b.library) b.history pid (get serial m object offset (length before)) process here tt)
 
   pub keeps_read : BasesSeenStay → (h : List Entry) → (k : ℕ) × MayAsk b pid (get serial k object offset (length before)) → h ≡ b.history ++ shared_entry read ∷ [] →
-      Keeps (record b { history = h }) rows stays serials
+      Keeps (record b { history = h }) all_counts table serials
   unfolding after_deed
   keeps_read stay h may grown =
-      let H : List Entry → Type 0 = λ k. Keeps (record b { history = k }) rows stays serials in
-      subst H (sym grown) (keeps_still stay b (shared_entry read) rows rows stays serials serials kept (get_follows may) (λ n p. refl) kept.reached refl kept.given)
+      let H : List Entry → Type 0 = λ k. Keeps (record b { history = k }) all_counts table serials in
+      subst H (sym grown) (keeps_still stay b (shared_entry read) all_counts all_counts table serials serials kept (get_follows may) (λ n p. refl) kept.reached refl kept.given)
 
   pub reads : (h : List Entry) (now : List ℕ) → h ≡ b.history ++ shared_entry read ∷ [] → now ≡ read → (k : ℕ) → MayAsk b pid (get serial k object offset (length before)) →
       IsRead b (record b { history = h }) pid serial k object offset before now
   unfolding deed_of
   reads h now grown same k may =
-      let H : List Entry → Ledger = λ hs. record b { history = hs } in
+      let H : List Entry → BoardState = λ hs. record b { history = hs } in
       let E : ℕ → List ℕ → Entry = λ n bytes. record { pid = pid; deed = deeds.Shared serial n object offset bytes } in
       record {
         adds = ap H grown ∙ ap (λ n. with_entry b (E n read)) (of_get k may) ∙ ap (λ bytes. with_entry b (E k bytes)) (is_read k may);

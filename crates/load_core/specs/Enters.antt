@@ -11,54 +11,54 @@ use Rattle.load_model.specs.Entering as entering
 use Rattle.load_model.specs.Entering.{residence_from, with_fresh_residences}
 use Rattle.load_model.specs.Initialising as initialising
 use Rattle.load_model.specs.Memory.{bases_seen}
-use Rattle.stay_table.specs.declared.placing.NoRoom.{NoRoom}
-use Rattle.stay_table.specs.Placing.{no_room_of, state_with, residences_with}
-use Rattle.stay_table.specs.Standing.{is_of_module}
+use Rattle.residence_table.specs.declared.placing.NoRoom.{NoRoom}
+use Rattle.residence_table.specs.Placing.{no_room_of, state_with, residences_with}
+use Rattle.residence_table.specs.Residences.{is_of_module}
 use Rattle.write_overlay.specs.Layered.{Lays}
-use Rattle.load_core.specs.Ledger.{Ledger, state_of}
-use Rattle.load_core.specs.declared.beside.Beside.{Beside}
+use Rattle.load_core.specs.BoardState.{BoardState, state_of}
+use Rattle.load_core.specs.declared.residence_parts.ResidenceParts.{ResidenceParts}
 use Rattle.load_core.specs.declared.arrivals.Entrance.{Entrance}
 use Rattle.load_core.specs.declared.arrivals.Arrival.{Arrival}
 
 -- What is attached, what begins, how many serial numbers are given then, and what is called where no initialisation fails.
-pub record IsArrival (b : Ledger) (at : Entrance) (arrival : Arrival) : Type 0 where
+pub record IsArrival (b : BoardState) (at : Entrance) (arrival : Arrival) : Type 0 where
   pub joined : arrival.joined.items ≡ entering.joined b.library (state_of b) at.pid at.«module»
   pub placed : entering.placing b.library (state_of b) at.pid at.«module» ≡ Ok arrival.fresh
   pub serials : arrival.serials ≡ (state_of b).serials + length arrival.fresh
   pub calls : arrival.calls ≡ entering.entering_calls b.library (state_of b) at.pid at.how at.«module» arrival.fresh
 
-abbrev pub IsWithoutRoom : Ledger → Entrance → NoRoom → Type 0
+abbrev pub IsWithoutRoom : BoardState → Entrance → NoRoom → Type 0
 IsWithoutRoom b at none = entering.placing b.library (state_of b) at.pid at.«module» ≡ Err (no_room_of none)
 
 -- which initialisation fails
-abbrev pub failing_of : Ledger → Entrance → Arrival → Option ℕ
+abbrev pub failing_of : BoardState → Entrance → Arrival → Option ℕ
 failing_of b at arrival = initialising.failing_module b.library (state_of b) at.pid at.how at.«module» arrival.fresh
 
 -- A residence that begins with others, with all its rights, and with what is shared of it once they have begun. Nothing was
 -- written to it.
-pub record IsBegun (b : Ledger) (all : List Fresh) (f : Fresh) (stay : Residence × Beside) : Type 0 where
-  pub residence : stay.0 ≡ residence_from f
-  pub rights : stay.1.rights ≡ record { serial = f.serial; left = fixable_pages (module_of b.library f.«module») }
+pub record IsBegun (b : BoardState) (all : List Fresh) (f : Fresh) (row : Residence × ResidenceParts) : Type 0 where
+  pub residence : row.0 ≡ residence_from f
+  pub rights : row.1.rights ≡ record { serial = f.serial; left = fixable_pages (module_of b.library f.«module») }
   pub shared :
-      arc_value stay.1.shared ≡ record {
+      arc_value row.1.shared ≡ record {
         library = b.library;
         serial = f.serial;
         «module» = f.«module»;
         bases = bases_seen b.library (with_fresh_residences (state_of b) all) f.«module»;
       }
-  pub layers : Lays stay.1.layers []
+  pub layers : Lays row.1.layers []
 
 -- residences that begin, in their order
-abbrev pub HaveBegun : Ledger → List Fresh → List Fresh → List (Residence × Beside) → Type 0
+abbrev pub HaveBegun : BoardState → List Fresh → List Fresh → List (Residence × ResidenceParts) → Type 0
 HaveBegun b all [] [] = Unit {0}
-HaveBegun b all (f ∷ fs) (stay ∷ stays) = IsBegun b all f stay × HaveBegun b all fs stays
-HaveBegun b all [] (stay ∷ stays) = ⊥
+HaveBegun b all (f ∷ fs) (row ∷ table) = IsBegun b all f row × HaveBegun b all fs table
+HaveBegun b all [] (row ∷ table) = ⊥
 HaveBegun b all (f ∷ fs) [] = ⊥
 
 -- what is shared of the residence of a module among some
-abbrev pub shared_of : List (Residence × Beside) → ℕ → Option ResidenceFor
-shared_of stays k = option_map (λ s. arc_value s.1.shared) (find (is_of_module k) stays)
+abbrev pub shared_of : List (Residence × ResidenceParts) → ℕ → Option ResidenceFor
+shared_of table k = option_map (λ s. arc_value s.1.shared) (find (is_of_module k) table)
 
 -- the bases of a module among residences, once others have begun
-abbrev pub bases_with : List (Residence × Beside) → List Fresh → ℕ → ModBases
-bases_with stays fresh k = record { «module» = k; objects = bases_of (residence_of (state_with (residences_with stays fresh)) k) }
+abbrev pub bases_with : List (Residence × ResidenceParts) → List Fresh → ℕ → ModBases
+bases_with table fresh k = record { «module» = k; objects = bases_of (residence_of (state_with (residences_with table fresh)) k) }

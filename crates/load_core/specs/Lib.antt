@@ -1,4 +1,4 @@
-pub mod Ledger
+pub mod BoardState
 pub mod Told
 pub mod Kept
 pub mod Inside

@@ -15,7 +15,7 @@ use Rattle.load_model.specs.Initialising.{enter_deed}
 use Rattle.load_model.specs.Memory.{bases_seen}
 use Rattle.load_model.specs.Asks.{fault, get, bytes_at}
 use Rattle.load_model.specs.Histories.{has_fault}
-use Rattle.load_core.specs.Ledger.{Ledger, state_of, MayAsk, Adds}
+use Rattle.load_core.specs.BoardState.{BoardState, state_of, MayAsk, Adds}
 use Rattle.load_core.specs.declared.answers.Loaded.{Loaded}
 use Rattle.load_core.specs.declared.answers.Loaded.TheVariants as loaded
 use Rattle.load_core.specs.declared.answers.Claim.{Claim}
@@ -29,46 +29,46 @@ residence_shown lib e k = record { library = lib; serial = serial_of (residence_
 
 -- The answer is what the entry says: that the module is loaded, with the residences that the process did not reach
 -- before, in their order; that an object has no place; or that an initialisation failed.
-abbrev pub IsToldOf : Deed → Ledger → Ledger → ℕ → Loaded → Type 0
+abbrev pub IsToldOf : Deed → BoardState → BoardState → ℕ → Loaded → Type 0
 IsToldOf (deeds.Enter how m fresh calls) b c pid (loaded.Done residences) =
     map arc_value residences.items ≡ map (residence_shown c.library (state_of c)) (joined b.library (state_of b) pid m)
 IsToldOf (deeds.Full how m of object size) b c pid (loaded.Full other number bytes) = (other ≡ of) × (number ≡ object) × (bytes ≡ size)
 IsToldOf (deeds.Failed how m by fresh calls gone) b c pid (loaded.Failed other) = other ≡ by
 IsToldOf deed b c pid answer = ⊥
 
-abbrev pub IsLoaded : Ledger → Ledger → ℕ → How → ℕ → Loaded → Type 0
+abbrev pub IsLoaded : BoardState → BoardState → ℕ → How → ℕ → Loaded → Type 0
 IsLoaded b c pid how m answer = IsToldOf (enter_deed b.library (state_of b) pid how m) b c pid answer
 
 -- ---- a fault
 
 -- The right to fix a page that had no fault, which it has now.
-pub record IsGiven (b c : Ledger) (pid serial : ℕ) (p : PageId) (right : PageRight) : Type 0 where
+pub record IsGiven (b c : BoardState) (pid serial : ℕ) (p : PageId) (right : PageRight) : Type 0 where
   pub named : (right.serial ≡ serial) × (right.page ≡ p)
   pub first : has_fault b.history serial p ≡ false
   pub adds : (m : ℕ) → MayAsk b pid (fault serial m p) → Adds b c pid (fault serial m p)
 
 -- The page had its fault, and nothing was done.
-pub record IsTaken (b c : Ledger) (serial : ℕ) (p : PageId) : Type 0 where
+pub record IsTaken (b c : BoardState) (serial : ℕ) (p : PageId) : Type 0 where
   pub had : has_fault b.history serial p ≡ true
   pub same : c ≡ b
 
-abbrev pub IsClaimed : Ledger → Ledger → ℕ → ℕ → PageId → Claim → Type 0
+abbrev pub IsClaimed : BoardState → BoardState → ℕ → ℕ → PageId → Claim → Type 0
 IsClaimed b c pid serial p (claims.Right right) = IsGiven b c pid serial p right
 IsClaimed b c pid serial p claims.Taken = IsTaken b c serial p
 
 -- ---- shared bytes
 
 -- the bytes of an object of a module as its fixups leave them, at the bases of its residence
-abbrev pub fixed_run : Ledger → ℕ → ℕ → ℕ → ℕ → List ℕ
+abbrev pub fixed_run : BoardState → ℕ → ℕ → ℕ → ℕ → List ℕ
 fixed_run b m object offset len =
     map (fixed_bytes b.library m (bases_seen b.library (state_of b) m) object) (range_with_len offset len)
 
 -- what a process reads there, under the writes that all share
-abbrev pub read_run : Ledger → ℕ → ℕ → ℕ → ℕ → ℕ → List ℕ
+abbrev pub read_run : BoardState → ℕ → ℕ → ℕ → ℕ → ℕ → List ℕ
 read_run b pid m object offset len =
     bytes_at b.library (fixed_bytes b.library) (state_of b) pid object offset len (attached_residence b.library (state_of b) pid m)
 
 -- The bytes were read, which the entry tells too.
-pub record IsRead (b c : Ledger) (pid serial m object offset : ℕ) (before after : List ℕ) : Type 0 where
+pub record IsRead (b c : BoardState) (pid serial m object offset : ℕ) (before after : List ℕ) : Type 0 where
   pub adds : Adds b c pid (get serial m object offset (length before))
   pub bytes : after ≡ read_run b pid m object offset (length before)

@@ -4,7 +4,7 @@ ghost use Rattle.std.specs.Prelude.{◌≡◌, true, IfOk, OnOk, OnErr, Some};
 ghost use Rattle.lx_types.specs.Answers.{Answers};
 ghost use Rattle.load_model.specs.State.{pids, is_among};
 ghost use Rattle.load_model.specs.Asks as asks;
-ghost use Rattle.load_core.specs.Ledger.{MayAsk, Adds};
+ghost use Rattle.load_core.specs.BoardState.{MayAsk, Adds};
 ghost use Rattle.load_core.specs.Told.{IsLoaded};
 ghost use Rattle.load_core.specs.Enters.{IsArrival, IsWithoutRoom, failing_of};
 
@@ -12,7 +12,7 @@ use crate::answers::Loaded;
 use crate::board::Board;
 use load_model::{Calls, Deed, Entry, How, Newcomers};
 use lx_types::{Fail, NoMemory};
-use stay_table::{Entering, Failure, NoRoom, failing_module, gone_again};
+use residence_table::{Entering, Failure, NoRoom, failing_module, gone_again};
 
 /// A start or a load: by which process, of which module.
 #[derive(Clone, Copy)]
@@ -42,14 +42,14 @@ impl Board {
     {
         lx_model::order_is_reach();
         load_model::residents_are_reached();
-        mod_refs::legal_rows_are_kept();
-        stay_table::legal_residences_stand();
+        mod_refs::legal_counts_are_kept();
+        residence_table::legal_residences_stand();
         let gained = self.refs.gain(self.alloc, &self.lib, at.pid, at.module)?;
         let Some(serials) = self.serials.checked_add(gained.fresh.len() as u64) else {
             return Err(Fail::NoMemory);
         };
         let placed = self
-            .stays
+            .table
             .place(self.alloc, &self.lib, self.serials, &gained.fresh);
         let fresh = match placed {
             Ok(fresh) => fresh,
@@ -61,7 +61,7 @@ impl Board {
             joined: &gained.joined,
             fresh: fresh.as_slice(),
         };
-        let calls = self.stays.entering_calls(self.alloc, &self.lib, &entering)?;
+        let calls = self.table.entering_calls(self.alloc, &self.lib, &entering)?;
         Ok(Arrival {
             joined: gained.joined,
             fresh,
@@ -124,7 +124,7 @@ impl Board {
             calls: arrival.calls.as_slice(),
         };
         let calls = self
-            .stays
+            .table
             .failed_calls(self.alloc, &self.lib, &entering, &failure)?;
         let gone = gone_again(self.alloc, arrival.fresh.as_slice())?;
         self.history.reserve(1)?;

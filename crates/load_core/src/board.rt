@@ -5,15 +5,15 @@ ghost use Rattle.std.specs.Arc.{arc_value};
 ghost use Rattle.load_model.specs.State.{pids, is_among};
 ghost use Rattle.load_model.specs.State as state;
 ghost use Rattle.load_model.specs.Asks as asks;
-ghost use Rattle.load_core.specs.Ledger.{Ledger, state_of, IsLegal, MayAsk, Adds};
+ghost use Rattle.load_core.specs.BoardState.{BoardState, state_of, IsLegal, MayAsk, Adds};
 ghost use Rattle.load_core.specs.Told.{IsLoaded};
 
-use crate::beside::Beside;
+use crate::residence_parts::ResidenceParts;
 use load_model::{Entry, History};
 use lx_types::{NoMemory, Seq};
 use mod_graph::Library;
 use mod_refs::Refs;
-use stay_table::Stays;
+use residence_table::ResidenceTable;
 use std::alloc::Global;
 use std::marker::Model;
 use std::sync::Arc;
@@ -26,18 +26,18 @@ pub struct Board {
     pub(crate) lib: Arc<Library>,
     pub(crate) failing: Vec<(u32, u32)>,
     pub(crate) refs: Refs,
-    pub(crate) stays: Stays<Beside>,
+    pub(crate) table: ResidenceTable<ResidenceParts>,
     pub(crate) serials: u64,
     pub(crate) history: Vec<Entry>,
 }
 
 impl Model for Board {
-    ghost use Rattle.load_core.specs.Ledger.{Ledger};
-    ghost use Rattle.load_core.specs.Inside.{ledger_in, KeepsAll};
+    ghost use Rattle.load_core.specs.BoardState.{BoardState};
+    ghost use Rattle.load_core.specs.Inside.{board_state_in, KeepsAll};
 
-    ghost Value = { Ledger };
+    ghost Value = { BoardState };
 
-    ghost view = { ledger_in };
+    ghost view = { board_state_in };
 
     ghost invariant = { KeepsAll };
 }
@@ -64,7 +64,7 @@ impl Board {
             lib,
             failing,
             refs,
-            stays: Stays::new(alloc),
+            table: ResidenceTable::new(alloc),
             serials: 0,
             history: Vec::new(alloc),
         })

@@ -7,17 +7,17 @@ ghost use Rattle.load_model.specs.State.{Written, Residence, pids, is_among};
 ghost use Rattle.load_model.specs.Asks as asks;
 ghost use Rattle.write_overlay.specs.Laid.{bytes_under};
 ghost use Rattle.write_overlay.specs.Layered.{Lays};
-ghost use Rattle.load_core.specs.Ledger.{MayAsk, Adds};
+ghost use Rattle.load_core.specs.BoardState.{MayAsk, Adds};
 ghost use Rattle.load_core.specs.Shared.{shared_writes, AreLaid};
 ghost use Rattle.load_core.specs.Told.{IsRead, fixed_run};
-ghost use Rattle.load_core.specs.declared.beside.Beside.{Beside};
+ghost use Rattle.load_core.specs.declared.residence_parts.ResidenceParts.{ResidenceParts};
 
-use crate::beside::{Beside, place_with};
 use crate::board::Board;
+use crate::residence_parts::{ResidenceParts, place_with};
 use load_model::{Deed, Entry};
 use lx_types::{Bytes, Class, NoMemory, Seq};
 use mod_graph::Library;
-use stay_table::Stays;
+use residence_table::ResidenceTable;
 use std::alloc::Global;
 use write_overlay::{Layers, Write};
 
@@ -27,8 +27,7 @@ fn class_at(lib: &Library, m: u32, object: u32) -> Class
     requires { m < length lib.now }
     ensures { result ≡ class_of (object_at lib.now m object) }
 {
-    let objects = lib.module(m).objects();
-    match objects.get(object.saturating_sub(1) as usize) {
+    match lib.module(m).object(object) {
         Some(head) => head.class(),
         None => Class::Code,
     }
@@ -43,18 +42,18 @@ fn copied(alloc: Global, bytes: &[u8]) -> Result<Bytes, NoMemory>
 
 // Lays a write to an object of this class over those before it in the residence at a place, as far as all share it.
 fn put_shared(
-    stays: &mut Stays<Beside>,
+    table: &mut ResidenceTable<ResidenceParts>,
     place: usize,
     class: Class,
     write: &Write,
 ) -> Result<(), NoMemory>
-    requires { place < length stays.old }
-    ensures { (s : Residence × Beside) → slice_get stays.old place ≡ Some s → MatchResult result
-        (λ _. AreLaid stays.old stays.new place s (shared_writes class write.now))
-        (λ _. AreLaid stays.old stays.new place s []) }
+    requires { place < length table.old }
+    ensures { (s : Residence × ResidenceParts) → slice_get table.old place ≡ Some s → MatchResult result
+        (λ _. AreLaid table.old table.new place s (shared_writes class write.now))
+        (λ _. AreLaid table.old table.new place s []) }
 {
     match class {
-        Class::Shared => stays.beside_mut(place).layers.put(write),
+        Class::Shared => table.beside_mut(place).layers.put(write),
         Class::Code | Class::Private => Ok(()),
     }
 }
@@ -93,12 +92,12 @@ impl Board {
     {
         load_model::residences_stay();
         load_model::reached_is_fit();
-        let place = place_with(&self.stays, serial);
-        let module = self.stays.at(place).module();
+        let place = place_with(&self.table, serial);
+        let module = self.table.at(place).module();
         let class = class_at(&self.lib, module, object);
         let write = Write::new(object, offset, copied(self.alloc, bytes)?);
         self.history.reserve(1)?;
-        put_shared(&mut self.stays, place, class, &write)?;
+        put_shared(&mut self.table, place, class, &write)?;
         self.history.push_reserved(Entry {
             pid,
             deed: Deed::Write {
@@ -128,8 +127,8 @@ impl Board {
         ensures err { OnErr result (self.new ≡ self.old) }
     {
         load_model::residences_stay();
-        let place = place_with(&self.stays, serial);
-        let module = self.stays.at(place).module();
+        let place = place_with(&self.table, serial);
+        let module = self.table.at(place).module();
         let bytes = copied(self.alloc, bytes)?;
         self.history.reserve(1)?;
         self.history.push_reserved(Entry {
@@ -164,10 +163,10 @@ impl Board {
         ensures err { OnErr result ((self.new ≡ self.old) × (into.new ≡ into.old)) }
     {
         load_model::residences_stay();
-        let place = place_with(&self.stays, serial);
-        let stay = self.stays.at(place);
-        let module = stay.module();
-        let read = read_over(self.alloc, &stay.beside().layers, object, offset, into)?;
+        let place = place_with(&self.table, serial);
+        let row = self.table.at(place);
+        let module = row.module();
+        let read = read_over(self.alloc, &row.beside().layers, object, offset, into)?;
         self.history.reserve(1)?;
         into.copy_from_slice(&read);
         self.history.push_reserved(Entry {

@@ -5,28 +5,32 @@ ghost use Rattle.std.specs.List.{list_any};
 ghost use Rattle.page_fix.specs.Fixable.{is_page};
 ghost use Rattle.load_model.specs.State.{Residence, pids, is_among};
 ghost use Rattle.load_model.specs.Asks as asks;
-ghost use Rattle.load_core.specs.Ledger.{MayAsk};
+ghost use Rattle.load_core.specs.BoardState.{MayAsk};
 ghost use Rattle.load_core.specs.Told.{IsClaimed};
 ghost use Rattle.load_core.specs.Taken.{without_right};
-ghost use Rattle.load_core.specs.declared.beside.Beside.{Beside};
+ghost use Rattle.load_core.specs.declared.residence_parts.ResidenceParts.{ResidenceParts};
 
 use crate::answers::Claim;
-use crate::beside::{Beside, place_with};
 use crate::board::Board;
+use crate::residence_parts::{ResidenceParts, place_with};
 use load_model::{Deed, Entry};
 use lx_types::{NoMemory, PageId};
 use page_fix::FixRight;
-use stay_table::Stays;
+use residence_table::ResidenceTable;
 
 // Takes the right to fix a page of the residence at a place.
-fn take_right(stays: &mut Stays<Beside>, place: usize, p: PageId) -> Option<FixRight>
-    requires { place < length stays.old }
-    ensures given { (s : Residence × Beside) → slice_get stays.old place ≡ Some s → is_some result ≡ list_any (is_page p) s.1.rights.left }
-    ensures right { (s : Residence × Beside) → slice_get stays.old place ≡ Some s
+fn take_right(
+    table: &mut ResidenceTable<ResidenceParts>,
+    place: usize,
+    p: PageId,
+) -> Option<FixRight>
+    requires { place < length table.old }
+    ensures given { (s : Residence × ResidenceParts) → slice_get table.old place ≡ Some s → is_some result ≡ list_any (is_page p) s.1.rights.left }
+    ensures right { (s : Residence × ResidenceParts) → slice_get table.old place ≡ Some s
         → IfSome result (λ f. (f.serial ≡ s.1.rights.serial) × (f.page ≡ p)) }
-    ensures left { (s : Residence × Beside) → slice_get stays.old place ≡ Some s → stays.new ≡ slice_set stays.old place (s.0, without_right p s.1) }
+    ensures left { (s : Residence × ResidenceParts) → slice_get table.old place ≡ Some s → table.new ≡ slice_set table.old place (s.0, without_right p s.1) }
 {
-    stays.beside_mut(place).rights.take(p)
+    table.beside_mut(place).rights.take(p)
 }
 
 impl Board {
@@ -40,10 +44,10 @@ impl Board {
     {
         load_model::residences_stay();
         page_fix::fixable_pages_are_found();
-        let place = place_with(&self.stays, serial);
-        let module = self.stays.at(place).module();
+        let place = place_with(&self.table, serial);
+        let module = self.table.at(place).module();
         self.history.reserve(1)?;
-        match take_right(&mut self.stays, place, p) {
+        match take_right(&mut self.table, place, p) {
             Some(right) => {
                 self.history.push_reserved(Entry {
                     pid,

@@ -3,7 +3,7 @@
 ghost use Rattle.std.specs.Prelude.{◌≡◌, true, IfOk, OnOk, OnErr};
 ghost use Rattle.load_model.specs.State.{pids, is_among};
 ghost use Rattle.load_model.specs.Asks as asks;
-ghost use Rattle.load_core.specs.Ledger.{MayAsk, Adds};
+ghost use Rattle.load_core.specs.BoardState.{MayAsk, Adds};
 ghost use Rattle.load_core.specs.Leaves.{asked_by, leaving_deed, IsDeparture};
 
 use crate::board::Board;
@@ -42,14 +42,14 @@ impl Board {
     {
         lx_model::order_is_reach();
         load_model::reached_is_fit();
-        mod_refs::legal_rows_are_kept();
+        mod_refs::legal_counts_are_kept();
         let lost = self.refs.lose(self.alloc, &self.lib, pid, what)?;
-        let leaving = stay_table::Leaving {
+        let leaving = residence_table::Leaving {
             left: &lost.left,
             gone: &lost.gone,
         };
-        let calls = self.stays.leaving_calls(self.alloc, &self.lib, &leaving)?;
-        let gone = self.stays.gone(self.alloc, &lost.gone)?;
+        let calls = self.table.leaving_calls(self.alloc, &self.lib, &leaving)?;
+        let gone = self.table.gone(self.alloc, &lost.gone)?;
         Ok(Departure {
             calls,
             gone,
@@ -67,11 +67,11 @@ impl Board {
         lx_model::order_is_reach();
         load_model::reached_is_fit();
         load_model::residences_stay();
-        mod_refs::legal_rows_are_kept();
+        mod_refs::legal_counts_are_kept();
         let departure = self.departure(pid, what)?;
         self.history.reserve(1)?;
         self.refs.detach(&self.lib, pid, what);
-        self.stays.end(&departure.modules);
+        self.table.end(&departure.modules);
         let deed = deed_for(what, departure.calls, departure.gone);
         self.history.push_reserved(Entry { pid, deed });
         Ok(())

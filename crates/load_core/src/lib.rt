@@ -4,12 +4,12 @@
 
 mod answers;
 mod arrivals;
-mod beside;
 mod board;
 mod bytes;
 mod faults;
 mod leaves;
-mod newcomers;
+mod new_residences;
+mod residence_parts;
 mod sharing;
 
 pub use answers::{Claim, Loaded};

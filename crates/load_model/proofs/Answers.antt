@@ -28,7 +28,7 @@ spot_alike nest spots lib e after q m key alike reached (Err fault) is = refl
 spot_alike nest spots lib e after q m key alike reached (Ok s) is =
     ap (λ bases. address_in bases s.object s.offset)
     (bases_stay (residence_of after s.«module») (residence_of e s.«module»)
-    (alike.stays s.«module» (reaches_closed nest lib (e.processes q) m s.«module» reached (spots lib m key s is))))
+    (alike.residences s.«module» (reaches_closed nest lib (e.processes q) m s.«module» reached (spots lib m key s is))))
 
 address_alike : OrdersNest → SpotsAreOrdered → (lib : Library) (e after : Eager) (q : ℕ) (name : List ℕ) (key : EntryKey) → Alike lib e after q →
     query_refusal lib e q name key ≡ None → address_of lib after q name key ≡ address_of lib e q name key

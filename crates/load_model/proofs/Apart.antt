@@ -19,7 +19,7 @@ use Rattle.load_model.specs.Refusals.{Purpose, touch, write, share, peek, debug,
 use Rattle.load_model.specs.Asks.{after_write, after_deed}
 use Rattle.load_model.specs.Histories.{state_after}
 use Rattle.load_model.specs.Alike.{Alike, OthersLeaveAlike}
-use Rattle.load_model.specs.Laws.{stay_of, OthersRefuseAlike}
+use Rattle.load_model.specs.Laws.{unwritten_of, OthersRefuseAlike}
 use Rattle.load_model.proofs.Kept.{Kept, process_apart}
 use Rattle.load_model.proofs.Residents.{Done, done_by, legal_kept}
 use Rattle.load_model.proofs.Orders.{one_reaches}
@@ -52,36 +52,36 @@ deed_alike lib contents e pid d q done kept there h =
     let same : (after_deed lib e pid d).processes q ≡ e.processes q = process_stays lib e pid d q h in
     record {
       process = same;
-      stays = λ m reached.
+      residences = λ m reached.
           deed_stays lib contents e pid d m done kept (resident_reached lib e m kept ∙ one_reaches lib e q m there reached)
           (one_reaches lib (after_deed lib e pid d) q m there (ap (λ p. reaches lib p m) same ∙ reached));
     }
 
-pub attached_stays : (lib : Library) (e after : Eager) (q m : ℕ) → Alike lib e after q → stay_of (attached_residence lib after q m) ≡ stay_of (attached_residence lib e q m)
+pub attached_stays : (lib : Library) (e after : Eager) (q m : ℕ) → Alike lib e after q → unwritten_of (attached_residence lib after q m) ≡ unwritten_of (attached_residence lib e q m)
 unfolding attached_residence
 attached_stays lib e after q m alike =
-    ap (λ p. stay_of (if reaches lib p m then residence_of after m else None)) alike.process ∙ step (reaches lib (e.processes q) m) (alike.stays m)
+    ap (λ p. unwritten_of (if reaches lib p m then residence_of after m else None)) alike.process ∙ step (reaches lib (e.processes q) m) (alike.residences m)
   where
-    step : (b : Bool) → (b ≡ true → stay_of (residence_of after m) ≡ stay_of (residence_of e m)) →
-        stay_of (if b then residence_of after m else None) ≡ stay_of (if b then residence_of e m else None)
+    step : (b : Bool) → (b ≡ true → unwritten_of (residence_of after m) ≡ unwritten_of (residence_of e m)) →
+        unwritten_of (if b then residence_of after m else None) ≡ unwritten_of (if b then residence_of e m else None)
     step true h = h refl
     step false h = refl
 
-pub named_stays : (lib : Library) (e after : Eager) (q : ℕ) (name : List ℕ) → Alike lib e after q → stay_of (residence_named lib after q name) ≡ stay_of (residence_named lib e q name)
+pub named_stays : (lib : Library) (e after : Eager) (q : ℕ) (name : List ℕ) → Alike lib e after q → unwritten_of (residence_named lib after q name) ≡ unwritten_of (residence_named lib e q name)
 unfolding residence_named
 named_stays lib e after q name alike = step (number_of lib name)
   where
-    step : (n : Option ℕ) → stay_of (residence_if lib after q n) ≡ stay_of (residence_if lib e q n)
+    step : (n : Option ℕ) → unwritten_of (residence_if lib after q n) ≡ unwritten_of (residence_if lib e q n)
     step None = refl
     step (Some m) = attached_stays lib e after q m alike
 
 -- ---- refusals
 
-pub place_by_stay : (lib : Library) (p : Process) (how : Purpose) (place : Place) (r : Option Residence) → residence_refusal lib p how place r ≡ residence_refusal lib p how place (stay_of r)
+pub place_by_stay : (lib : Library) (p : Process) (how : Purpose) (place : Place) (r : Option Residence) → residence_refusal lib p how place r ≡ residence_refusal lib p how place (unwritten_of r)
 place_by_stay lib p how place None = refl
 place_by_stay lib p how place (Some r) = refl
 
-pub key_by_stay : (lib : Library) (key : EntryKey) (r : Option Residence) → key_refusal lib key r ≡ key_refusal lib key (stay_of r)
+pub key_by_stay : (lib : Library) (key : EntryKey) (r : Option Residence) → key_refusal lib key r ≡ key_refusal lib key (unwritten_of r)
 key_by_stay lib key None = refl
 key_by_stay lib key (Some r) = refl
 
@@ -102,7 +102,7 @@ query_alike lib e after q name key alike =
     (key_by_stay lib key (residence_named lib after q name) ∙ ap (key_refusal lib key) (named_stays lib e after q name alike)
     ∙ sym (key_by_stay lib key (residence_named lib e q name)))
 
-pub found_by_stay : (lib : Library) (ty id : ℕ) (r : Option Residence) → found_refusal lib ty id r ≡ found_refusal lib ty id (stay_of r)
+pub found_by_stay : (lib : Library) (ty id : ℕ) (r : Option Residence) → found_refusal lib ty id r ≡ found_refusal lib ty id (unwritten_of r)
 found_by_stay lib ty id None = refl
 found_by_stay lib ty id (Some r) = refl
 
@@ -133,7 +133,7 @@ pub retouched_alike : (lib : Library) (e after : Eager) (touched : ℕ → List 
 unfolding reaches residence_of
 retouched_alike lib e after touched q alike = record {
   process = ap (λ (p : Process). record p { touched = touched q }) alike.process;
-  stays = λ m reached. alike.stays m reached;
+  residences = λ m reached. alike.residences m reached;
 }
 
 pub others_leave_alike : OthersLeaveAlike

@@ -18,7 +18,8 @@ use Rattle.load_model.specs.Modules.{Library, Held, is_library, unfit, object_at
 use Rattle.load_model.specs.State.{Written, Process, Failing, Eager, with_process, count_of}
 use Rattle.load_model.specs.Entering.{holding, attaching, joined, with_fresh_residences, after_entering}
 use Rattle.load_model.specs.Leaving.{without_one, freeing, exiting, keeping, after_leaving}
-use Rattle.load_model.specs.Refusals.{when, ◌orelse◌, MOST_LOADS, module_refusal, enter_refusal}
+use Rattle.load_model.specs.Refusals.{when, ◌orelse◌, module_refusal, enter_refusal}
+use Rattle.lx_types.specs.declared.limits.TheConstants.{MAX_LOADS}
 use Rattle.load_model.specs.Asks.{ask_in, may_ask, after_write, after_deed}
 use Rattle.load_model.specs.Histories.{state_after, AllFollow, Legal}
 use Rattle.load_model.specs.Bounds.{CountsAreSmall}
@@ -26,7 +27,7 @@ use Rattle.load_model.proofs.Bools.{and_right}
 use Rattle.load_model.proofs.Growing.{one_more_is_after}
 
 abbrev Small : Process → Type 0
-Small p = (m : ℕ) → count_of p m ≤ MOST_LOADS
+Small p = (m : ℕ) → count_of p m ≤ MAX_LOADS
 
 abbrev AllSmall : Eager → Type 0
 AllSmall e = (pid : ℕ) → Small (e.processes pid)
@@ -61,24 +62,24 @@ not_full false true true r e = cc
 not_full false false true None e = cc
 not_full false false true (Some x) e = cc
 
-room_left : (lib : Library) (p : Process) (m : ℕ) → is_none (enter_refusal lib p Load (Some m)) ≡ true → count_of p m < MOST_LOADS
+room_left : (lib : Library) (p : Process) (m : ℕ) → is_none (enter_refusal lib p Load (Some m)) ≡ true → count_of p m < MAX_LOADS
 unfolding enter_refusal module_refusal
 room_left lib p m e =
-    let some : nat_le MOST_LOADS (count_of p m) ≡ false = not_full p.ended (not (is_library lib m)) (nat_le MOST_LOADS (count_of p m)) (unfit lib m) e in
-    leb-false MOST_LOADS (count_of p m) some
+    let some : nat_le MAX_LOADS (count_of p m) ≡ false = not_full p.ended (not (is_library lib m)) (nat_le MAX_LOADS (count_of p m)) (unfit lib m) e in
+    leb-false MAX_LOADS (count_of p m) some
 
 held_small : (lib : Library) (how : How) (m : ℕ) (js : List ℕ) (p : Process) → is_none (enter_refusal lib p how (Some m)) ≡ true → Small p → Small (holding how m (attaching js p))
 held_small lib Start m js p may small k = small k
-held_small lib Load m js p may small k = subst (λ n. n ≤ MOST_LOADS) (sym (count_more k m p.loads)) (step (m == k) refl)
+held_small lib Load m js p may small k = subst (λ n. n ≤ MAX_LOADS) (sym (count_more k m p.loads)) (step (m == k) refl)
   where
-    one : (a : ℕ) → a < MOST_LOADS → 1 + a ≤ MOST_LOADS
+    one : (a : ℕ) → a < MAX_LOADS → 1 + a ≤ MAX_LOADS
     one a h = omega arith
 
-    none : (a : ℕ) → a ≤ MOST_LOADS → 0 + a ≤ MOST_LOADS
+    none : (a : ℕ) → a ≤ MAX_LOADS → 0 + a ≤ MAX_LOADS
     none a h = omega arith
 
-    step : (b : Bool) → (m == k) ≡ b → cond b 1 0 + count_by (λ other. other == k) p.loads ≤ MOST_LOADS
-    step true is = one (count_by (λ other. other == k) p.loads) (subst (λ n. count_of p n < MOST_LOADS) (eqb-true m k is) (room_left lib p m may))
+    step : (b : Bool) → (m == k) ≡ b → cond b 1 0 + count_by (λ other. other == k) p.loads ≤ MAX_LOADS
+    step true is = one (count_by (λ other. other == k) p.loads) (subst (λ n. count_of p n < MAX_LOADS) (eqb-true m k is) (room_left lib p m may))
     step false is = none (count_by (λ other. other == k) p.loads) (small k)
 
 with_small : (e : Eager) (pid : ℕ) (p : Process) → AllSmall e → Small p → AllSmall (with_process e pid p)
@@ -98,7 +99,7 @@ left_small : (lib : Library) (e : Eager) (pid : ℕ) (p : Process) → AllSmall 
 unfolding after_leaving keeping
 left_small lib e pid p all small = with_small e pid (keeping lib e p) all (λ m. small m)
 
-up_to_most : (a b : ℕ) → a ≤ b → b ≤ MOST_LOADS → a ≤ MOST_LOADS
+up_to_most : (a b : ℕ) → a ≤ b → b ≤ MAX_LOADS → a ≤ MAX_LOADS
 up_to_most a b h k = omega arith
 
 deed_small : (lib : Library) (e : Eager) (pid : ℕ) (d : Deed) → may_ask lib e pid (ask_in d) ≡ true → AllSmall e → AllSmall (after_deed lib e pid d)

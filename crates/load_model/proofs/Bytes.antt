@@ -17,7 +17,7 @@ use Rattle.load_model.specs.Memory.{writes_of_class, writes_seen, bases_seen, la
 use Rattle.load_model.specs.Refusals.{peek, ◌orelse◌, when, class_refusal, span_refusal, residence_refusal, residence_if, residence_named, place_refusal}
 use Rattle.load_model.specs.Step.{bytes_of}
 use Rattle.load_model.specs.Histories.{after_entry, state_after}
-use Rattle.load_model.specs.Laws.{stay_of, OthersBytesAlike}
+use Rattle.load_model.specs.Laws.{unwritten_of, OthersBytesAlike}
 use Rattle.load_model.proofs.Orders.{OrdersNest, reaches_closed}
 use Rattle.load_model.specs.Alike.{Alike, BasesAreAlike}
 use Rattle.load_model.proofs.Apart.{attached_stays, named_stays, others_leave_alike}
@@ -27,15 +27,15 @@ use Rattle.load_model.proofs.Apart.{attached_stays, named_stays, others_leave_al
 abbrev pub with_writes : Residence → List Written → Residence
 with_writes r ws = record r { writes = ws }
 
-pub same_stay : (a b : Residence) → stay_of (Some b) ≡ stay_of (Some a) → b ≡ with_writes a b.writes
+pub same_stay : (a b : Residence) → unwritten_of (Some b) ≡ unwritten_of (Some a) → b ≡ with_writes a b.writes
 same_stay a b e =
     let plain : with_writes b [] ≡ with_writes a [] = cc in
     ap (λ r. with_writes r b.writes) plain
 
-none_stay : (b : Residence) → stay_of (Some b) ≡ stay_of None → ⊥
+none_stay : (b : Residence) → unwritten_of (Some b) ≡ unwritten_of None → ⊥
 none_stay b e = cc
 
-pub some_stay : (a : Residence) → stay_of None ≡ stay_of (Some a) → ⊥
+pub some_stay : (a : Residence) → unwritten_of None ≡ unwritten_of (Some a) → ⊥
 some_stay a e = cc
 
 -- ---- what a residence that is named is
@@ -80,11 +80,11 @@ map_member f g (x ∷ xs) h =
     same : (n : ℕ) → (n == n) ≡ true
     same n = eq-eqb n n refl
 
-pub bases_by_stay : (r : Option Residence) → bases_of r ≡ bases_of (stay_of r)
+pub bases_by_stay : (r : Option Residence) → bases_of r ≡ bases_of (unwritten_of r)
 bases_by_stay None = refl
 bases_by_stay (Some r) = refl
 
-pub bases_stay : (r s : Option Residence) → stay_of r ≡ stay_of s → bases_of r ≡ bases_of s
+pub bases_stay : (r s : Option Residence) → unwritten_of r ≡ unwritten_of s → bases_of r ≡ bases_of s
 bases_stay r s e = bases_by_stay r ∙ ap bases_of e ∙ sym (bases_by_stay s)
 
 abbrev pub one_bases : Eager → ℕ → ModBases
@@ -97,7 +97,7 @@ bases_alike nest lib e after q m alike reached =
     let M : ℕ → List ℕ → ModBases = λ k bases. record { «module» = k; objects = bases } in
     ap B (map_member (one_bases after) (one_bases e) (order_of lib m)
     (λ k member.
-    ap (M k) (bases_stay (residence_of after k) (residence_of e k) (alike.stays k (reaches_closed nest lib (e.processes q) m k reached member)))))
+    ap (M k) (bases_stay (residence_of after k) (residence_of e k) (alike.residences k (reaches_closed nest lib (e.processes q) m k reached member)))))
 
 -- ---- bytes of code and of own data
 
@@ -149,7 +149,7 @@ peek_alike nest lib contents e after q place alike fine =
     step (residence_named lib after q place.«module») (residence_named lib e q place.«module») refl (named_stays lib e after q place.«module» alike)
     (right_none (when (e.processes q).ended Ended) _ fine)
   where
-    step : (r s : Option Residence) → residence_named lib e q place.«module» ≡ s → stay_of r ≡ stay_of s → residence_refusal lib (e.processes q) peek place s ≡ None →
+    step : (r s : Option Residence) → residence_named lib e q place.«module» ≡ s → unwritten_of r ≡ unwritten_of s → residence_refusal lib (e.processes q) peek place s ≡ None →
         bytes_of lib contents after q place r ≡ bytes_of lib contents e q place s
     step None None is same h = refl
     step None (Some a) is same h = absurd (some_stay a same)
@@ -171,7 +171,7 @@ own_class classes.Shared apart = absurd (apart refl)
 pub others_bytes_alike : OrdersNest → OthersBytesAlike
 others_bytes_alike nest lib failing contents h entry pid m object x a b legal follows there other own is after =
     let alike : Alike lib (state_after lib failing h) (after_entry lib (state_after lib failing h) entry) pid = others_leave_alike lib failing contents h entry pid legal follows there other in
-    let same : stay_of (Some b) ≡ stay_of (Some a) = ap stay_of (sym after) ∙ attached_stays lib (state_after lib failing h) _ pid m alike ∙ ap stay_of is in
+    let same : unwritten_of (Some b) ≡ unwritten_of (Some a) = ap unwritten_of (sym after) ∙ attached_stays lib (state_after lib failing h) _ pid m alike ∙ ap unwritten_of is in
     let it : (reaches lib ((state_after lib failing h).processes pid) m ≡ true) × (a.«module» ≡ m) = attached_is lib (state_after lib failing h) pid m a is in
     ap (λ r. Byte lib contents (after_entry lib (state_after lib failing h) entry) pid r object x) (same_stay a b same)
     ∙ byte_alike nest lib contents (state_after lib failing h) _ pid a b.writes object x alike (ap (reaches lib ((state_after lib failing h).processes pid)) it.1 ∙ it.0)

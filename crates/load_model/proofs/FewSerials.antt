@@ -9,7 +9,7 @@ use Rattle.std.proofs.lemmas.Map.Made.{IsDistinct-from_AllPairs}
 use Rattle.std.proofs.lemmas.Map.Steps.{length-le_from_distinct_below}
 use Rattle.lx_types.specs.Object.{class_of}
 use Rattle.lx_types.specs.declared.object.Class.TheVariants as classes
-use Rattle.lx_model.specs.Gathering.{MOST_MODULES}
+use Rattle.lx_types.specs.declared.limits.TheConstants.{MAX_MODULES}
 use Rattle.lx_model.specs.Reach.{Order}
 use Rattle.lx_model.specs.Laws.{OrderHasEachOnce, OrderIsInLibrary}
 use Rattle.load_model.specs.declared.deeds.Deed.{Deed}
@@ -92,19 +92,19 @@ deed_gives few lib failing contents h pid (deeds.Shared serial m object offset b
 -- ---- a history
 
 abbrev Few : Library → Failing → List Entry → Type 0
-Few lib failing h = (state_after lib failing h).serials ≤ MOST_MODULES * length h
+Few lib failing h = (state_after lib failing h).serials ≤ MAX_MODULES * length h
 
-few_more : OrdersAreFew → (lib : Library) (failing : Failing) (contents : Held) (h : List Entry) (x : Entry) → length lib ≤ MOST_MODULES → Follows lib failing contents h x →
+few_more : OrdersAreFew → (lib : Library) (failing : Failing) (contents : Held) (h : List Entry) (x : Entry) → length lib ≤ MAX_MODULES → Follows lib failing contents h x →
     Few lib failing h → Few lib failing (h ++ x ∷ [])
 few_more few lib failing contents h x most follows before =
     sums (state_after lib failing h).serials (state_after lib failing (h ++ x ∷ [])).serials (length lib) (length h) (length (h ++ x ∷ [])) before most
     (subst (λ (e : Eager). e.serials ≤ (state_after lib failing h).serials + length lib) (sym (one_more_is_after lib failing h x)) (deed_gives few lib failing contents h x.pid x.deed follows))
     (length-append h (x ∷ []))
   where
-    sums : (a b l n m : ℕ) → a ≤ MOST_MODULES * n → l ≤ MOST_MODULES → b ≤ a + l → m ≡ n + 1 → b ≤ MOST_MODULES * m
+    sums : (a b l n m : ℕ) → a ≤ MAX_MODULES * n → l ≤ MAX_MODULES → b ≤ a + l → m ≡ n + 1 → b ≤ MAX_MODULES * m
     sums a b l n m first most more is = omega (arith, is)
 
-all_few : OrdersAreFew → (lib : Library) (failing : Failing) (contents : Held) (h before : List Entry) → length lib ≤ MOST_MODULES → AllFollow lib failing contents before h →
+all_few : OrdersAreFew → (lib : Library) (failing : Failing) (contents : Held) (h before : List Entry) → length lib ≤ MAX_MODULES → AllFollow lib failing contents before h →
     Few lib failing before → Few lib failing (before ++ h)
 all_few few lib failing contents [] before most all given = (let F : List Entry → Type 0 = Few lib failing in subst F (sym (append-nil before)) given)
 all_few few lib failing contents (x ∷ h) before most all given =

@@ -21,7 +21,7 @@ use Rattle.load_model.specs.declared.commands.Refusal.TheVariants.{Range, Invali
 use Rattle.load_model.specs.Refusals.{Purpose, write, peek, debug, when, ◌orelse◌, is_outside, covers_invalid, class_refusal, span_refusal, enter_refusal}
 use Rattle.load_model.specs.Asks.{may_ask, is_serial, is_attached, after_write, after_deed}
 use Rattle.load_model.specs.Histories.{after_entry, state_after, Follows, AllFollow, Legal}
-use Rattle.load_model.specs.Laws.{stay_of}
+use Rattle.load_model.specs.Laws.{unwritten_of}
 use Rattle.load_model.specs.Alike.{Alike}
 use Rattle.load_model.specs.HeldWrites.{IsHeldBy, OwnWritesAreHeld}
 use Rattle.load_model.proofs.Bools.{and_right}
@@ -51,14 +51,14 @@ one_more P (v ∷ ws) w all one = (all.0, one_more P ws w all.1 one)
 
 alike_one : (lib : Library) (e after : Eager) (q : ℕ) (w : OwnWrite) → Alike lib e after q → IsHeldBy lib e q w → IsHeldBy lib after q w
 alike_one lib e after q w alike it =
-    step (attached_residence lib after q it.residence.«module») refl (attached_stays lib e after q it.residence.«module» alike ∙ ap stay_of it.there)
+    step (attached_residence lib after q it.residence.«module») refl (attached_stays lib e after q it.residence.«module» alike ∙ ap unwritten_of it.there)
   where
-    step : (o : Option Residence) → attached_residence lib after q it.residence.«module» ≡ o → stay_of (attached_residence lib after q it.residence.«module») ≡ stay_of (Some it.residence) →
+    step : (o : Option Residence) → attached_residence lib after q it.residence.«module» ≡ o → unwritten_of (attached_residence lib after q it.residence.«module») ≡ unwritten_of (Some it.residence) →
         IsHeldBy lib after q w
-    step None is same = absurd (some_stay it.residence (ap stay_of (sym is) ∙ same))
+    step None is same = absurd (some_stay it.residence (ap unwritten_of (sym is) ∙ same))
     step (Some b) is same = record {
       residence = with_writes it.residence b.writes;
-      there = is ∙ ap Some (same_stay it.residence b (ap stay_of (sym is) ∙ same));
+      there = is ∙ ap Some (same_stay it.residence b (ap unwritten_of (sym is) ∙ same));
       serial = it.serial;
       span = it.span;
     }
@@ -140,10 +140,10 @@ left_held : (lib : Library) (e : Eager) (q : ℕ) (p : Process) → is_among pid
 left_held lib e q p there kept gives same all =
     subst (AllByRecursion (IsHeldBy lib (after_leaving lib e q p) q)) (sym (writes_behind lib e q p same))
     (all_filter (IsHeldBy lib e q) (IsHeldBy lib (after_leaving lib e q p) q) (λ (w : OwnWrite). not (is_among (left_serials lib e p) w.serial))
-    (λ w stays it. record {
+    (λ w residences it. record {
       residence = it.residence;
       there = residence_behind lib e q p it.residence.«module» it.residence there kept gives it.there
-          (still_reached lib e q p it.residence.«module» it.residence kept gives it.there (ap (λ n. not (is_among (left_serials lib e p) n)) (sym it.serial) ∙ stays));
+          (still_reached lib e q p it.residence.«module» it.residence kept gives it.there (ap (λ n. not (is_among (left_serials lib e p) n)) (sym it.serial) ∙ residences));
       serial = it.serial;
       span = it.span;
     })

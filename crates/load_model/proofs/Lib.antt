@@ -18,7 +18,7 @@ pub mod GivenSerials
 pub mod ResidenceBases
 pub mod ReachedFit
 pub mod Touched
-pub mod Standing
+pub mod Views
 pub mod SerialsOwn
 pub mod ViewSteps
 pub mod ViewReplies

@@ -70,8 +70,8 @@ placed_rise : (lib : Library) (ms : List ℕ) (serials : ℕ) (spans : List Addr
 unfolding placed_from
 placed_rise lib [] serials spans fresh e =
     let same : [] ≡ fresh = cc in
-    let stays : serials ≤ serials + 0 = omega arith in
-    subst (λ ys. Rise serials (map (λ x. x.serial) ys) (serials + length ys)) same stays
+    let residences : serials ≤ serials + 0 = omega arith in
+    subst (λ ys. Rise serials (map (λ x. x.serial) ys) (serials + length ys)) same residences
 placed_rise lib (m ∷ ms) serials spans fresh e = step (bases_for lib spans m) e (λ bases xs h. placed_rise lib ms (suc serials) (spans ++ ranges_of lib m bases) xs h)
   where
     step : (r : Result (List ℕ) ArenaFull) →

@@ -16,7 +16,7 @@ use Rattle.load_model.specs.Leaving.{gone_modules, after_leaving, freeing, exiti
 use Rattle.load_model.specs.Memory.{with_write}
 use Rattle.load_model.specs.Asks.{after_write, after_deed}
 use Rattle.load_model.specs.Histories.{state_after}
-use Rattle.load_model.specs.Laws.{stay_of, ResidenceStays, ReachStays}
+use Rattle.load_model.specs.Laws.{unwritten_of, ResidenceStays, ReachStays}
 use Rattle.load_model.proofs.Bools.{and_false}
 use Rattle.load_model.proofs.Kept.{Kept, is_resident}
 use Rattle.load_model.proofs.KeptLeaving.{GivesUp, gone_among, left_reached, freeing_gives_up, exiting_gives_up}
@@ -77,11 +77,11 @@ left_stays lib e pid p k there kept gives reached =
     find_filter_at (λ r. r.«module») (λ x. not (is_among (gone_modules lib e pid p) x)) k e.residences
     (ap not (gone_among lib e pid p k there kept gives) ∙ not_gone _ _ (sym (left_reached lib e pid p k there) ∙ reached))
 
-write_stays : (serial : ℕ) (w : Written) (r : Option Residence) → stay_of (option_map (with_write serial w) r) ≡ stay_of r
+write_stays : (serial : ℕ) (w : Written) (r : Option Residence) → unwritten_of (option_map (with_write serial w) r) ≡ unwritten_of r
 write_stays serial w None = refl
 write_stays serial w (Some r) = step (r.serial == serial)
   where
-    step : (b : Bool) → stay_of (Some (if b then record r { writes = r.writes ++ w ∷ [] } else r)) ≡ stay_of (Some r)
+    step : (b : Bool) → unwritten_of (Some (if b then record r { writes = r.writes ++ w ∷ [] } else r)) ≡ unwritten_of (Some r)
     step true = refl
     step false = refl
 
@@ -92,27 +92,27 @@ write_module serial w k r = step (r.serial == serial)
     step true = refl
     step false = refl
 
-pub written_stays : (e : Eager) (pid serial : ℕ) (w : Written) (class : Class) (k : ℕ) → stay_of (residence_of (after_write e pid serial w class) k) ≡ stay_of (residence_of e k)
+pub written_stays : (e : Eager) (pid serial : ℕ) (w : Written) (class : Class) (k : ℕ) → unwritten_of (residence_of (after_write e pid serial w class) k) ≡ unwritten_of (residence_of e k)
 unfolding residence_of with_process
 written_stays e pid serial w classes.Code k = refl
 written_stays e pid serial w classes.Private k = refl
 written_stays e pid serial w classes.Shared k =
-    ap stay_of (find_map (λ r. r.«module» == k) (with_write serial w) (write_module serial w k) e.residences) ∙ write_stays serial w (find (λ r. r.«module» == k) e.residences)
+    ap unwritten_of (find_map (λ r. r.«module» == k) (with_write serial w) (write_module serial w k) e.residences) ∙ write_stays serial w (find (λ r. r.«module» == k) e.residences)
 
-failed_stays : (e : Eager) (fresh : List Fresh) (k : ℕ) → stay_of (residence_of (after_failing e fresh) k) ≡ stay_of (residence_of e k)
+failed_stays : (e : Eager) (fresh : List Fresh) (k : ℕ) → unwritten_of (residence_of (after_failing e fresh) k) ≡ unwritten_of (residence_of e k)
 unfolding residence_of
 failed_stays e fresh k = refl
 
 pub deed_stays : (lib : Library) (contents : Held) (e : Eager) (pid : ℕ) (d : Deed) (k : ℕ) → Done lib contents e pid d → Kept lib e → is_some (residence_of e k) ≡ true →
-    is_reached lib (after_deed lib e pid d) k ≡ true → stay_of (residence_of (after_deed lib e pid d) k) ≡ stay_of (residence_of e k)
+    is_reached lib (after_deed lib e pid d) k ≡ true → unwritten_of (residence_of (after_deed lib e pid d) k) ≡ unwritten_of (residence_of e k)
 unfolding after_deed
-deed_stays lib contents e pid (deeds.Enter how m fresh calls) k done kept h reached = ap stay_of (entered_stays lib e pid how m fresh k h)
+deed_stays lib contents e pid (deeds.Enter how m fresh calls) k done kept h reached = ap unwritten_of (entered_stays lib e pid how m fresh k h)
 deed_stays lib contents e pid (deeds.Full how m of object size) k done kept h reached = refl
 deed_stays lib contents e pid (deeds.Failed how m by fresh calls gone) k done kept h reached = failed_stays e fresh k
 deed_stays lib contents e pid (deeds.Free m calls gone) k done kept h reached =
-    ap stay_of (left_stays lib e pid (freeing m (e.processes pid)) k done.there kept (freeing_gives_up lib m (e.processes pid)) reached)
+    ap unwritten_of (left_stays lib e pid (freeing m (e.processes pid)) k done.there kept (freeing_gives_up lib m (e.processes pid)) reached)
 deed_stays lib contents e pid (deeds.Exit calls gone) k done kept h reached =
-    ap stay_of (left_stays lib e pid (exiting (e.processes pid)) k done.there kept (exiting_gives_up lib (e.processes pid)) reached)
+    ap unwritten_of (left_stays lib e pid (exiting (e.processes pid)) k done.there kept (exiting_gives_up lib (e.processes pid)) reached)
 deed_stays lib contents e pid (deeds.Fault serial m p) k done kept h reached = refl
 deed_stays lib contents e pid (deeds.Write serial m object offset bytes) k done kept h reached = written_stays e pid serial _ _ k
 deed_stays lib contents e pid (deeds.Debug serial m object offset bytes) k done kept h reached = written_stays e pid serial _ classes.Private k

@@ -23,7 +23,8 @@ use Rattle.load_model.specs.Refusals.{Purpose, touch, write, share, peek, debug,
 use Rattle.load_model.specs.Asks.{enter, free, exit, put, patch, get, deed_of, after_write, after_deed}
 use Rattle.load_model.specs.Step.{entry, steady, meant, spot_address, address_of, bytes_of, serial_named, fine_answer}
 use Rattle.load_model.specs.Accepted.{retouched}
-use Rattle.load_model.specs.Touched.{has_page, SamePages, AnsweredByPages, pages_kept, EntriesMoveTouched}
+use Rattle.load_model.specs.Touched.{SamePages, AnsweredByPages, EntriesMoveTouched}
+use Rattle.load_model.specs.TouchedPages.{has_page, pages_kept}
 use Rattle.load_model.proofs.Answers.{answer_by, answer_is}
 use Rattle.load_model.proofs.Retouched.{gone_same, bytes_same, touched_is_apart}
 

@@ -1,4 +1,4 @@
--- A view behind a free or an exit of its own.
+-- A view after a free or an exit of its own.
 use Rattle.std.proofs.Common.{◌≡◌, ℕ, ◌==◌, Bool, true, false, cond, if◌then◌else◌, not, ◌&&◌, ◌||◌, List, [], ◌∷◌, ◌++◌, map, filter, find, length, Option, Some, None, option_map, is_some, refl, sym, ◌∙◌, ap, subst}
 use Rattle.std.specs.List.{AllByRecursion, list_all}
 use Rattle.std.proofs.lemmas.Bool.{eqb-true, eq-eqb, not-true}
@@ -15,9 +15,9 @@ use Rattle.load_model.specs.Leaving.{freeing, exiting, left, left_serials, keepi
 use Rattle.load_model.specs.Memory.{is_page, page, pages_over, writes_of_class, bases_seen}
 use Rattle.load_model.specs.Asks.{after_deed}
 use Rattle.load_model.specs.Histories.{state_after, Follows, Legal}
-use Rattle.load_model.specs.Touched.{has_page, pages_kept}
-use Rattle.load_model.specs.Rows.{Row, IsRowOf}
-use Rattle.load_model.specs.Standing.{Mapped, Holding, mapped_pages, fresh_of, IsMapped, is_covered, WasFixed, StandsFor}
+use Rattle.load_model.specs.ProcessCounts.{ProcessCounts, AreCountsOf}
+use Rattle.load_model.specs.Views.{Mapped, Holding, mapped_pages, fresh_of, IsMapped, is_covered, WasFixed, StandsFor}
+use Rattle.load_model.specs.TouchedPages.{has_page, pages_kept}
 use Rattle.load_model.specs.ViewLeaving.{GivesUpTo, mapped_kept, KeptAreReached, KeptAreTouched, StandsLeft}
 use Rattle.load_model.proofs.Bools.{and_left, and_right, or_true}
 use Rattle.load_model.proofs.Among.{any_filter, any_same}
@@ -32,7 +32,7 @@ use Rattle.load_model.proofs.Bytes.{attached_is}
 use Rattle.load_model.proofs.BasesStay.{bases_seen_stay}
 use Rattle.load_model.proofs.ViewReplies.{residence_is, attached_is_resident}
 use Rattle.load_model.proofs.ViewLoads.{page_same, stay_is}
-use Rattle.load_model.proofs.Standing.{fixed_more}
+use Rattle.load_model.proofs.Views.{fixed_more}
 
 -- ---- lists
 
@@ -119,7 +119,7 @@ reaches_behind lib e pid p k = ap (λ (s : Process). reaches lib s k) (leaving_p
 -- a residence that is not left is of a module that is still reached
 pub still_reached : (lib : Library) (e : Eager) (pid : ℕ) (p : Process) (k : ℕ) (r : Residence) → Kept lib e → GivesUp lib (e.processes pid) p → attached_residence lib e pid k ≡ Some r →
     not (is_among (left_serials lib e p) r.serial) ≡ true → reaches lib p k ≡ true
-still_reached lib e pid p k r kept gives is stays = step (reaches lib p k) refl
+still_reached lib e pid p k r kept gives is residences = step (reaches lib p k) refl
   where
     wrong : (b : Bool) → b ≡ true → not b ≡ true → ⊥
     wrong true a b = cc
@@ -134,7 +134,7 @@ still_reached lib e pid p k r kept gives is stays = step (reaches lib p k) refl
         let at : is_among (left_serials lib e p) r.serial ≡ true =
         ap (λ o. is_among (left_serials lib e p) (serial_of o)) (sym (residence_is lib e pid k r is)) ∙ among_map (λ m. serial_of (residence_of e m)) (left lib p) k there
         in
-        absurd (wrong _ at stays)
+        absurd (wrong _ at residences)
 
 reached_behind : (lib : Library) (e : Eager) (pid : ℕ) (p : Process) (k : ℕ) → is_among pids pid ≡ true → reaches lib p k ≡ true → is_reached lib (after_leaving lib e pid p) k ≡ true
 reached_behind lib e pid p k there reached = left_reached lib e pid p k there ∙ ap (λ b. b || others lib e pid k) reached
@@ -186,58 +186,58 @@ covered_kept g ps w h covered =
 
 -- ---- the entry
 
-behind : OrdersNest → (lib : Library) (failing : Failing) (contents : Held) (v : Holding) (h : List Entry) (x : Entry) (p : Process) (row : Row) (stays : List Fresh) →
+behind : OrdersNest → (lib : Library) (failing : Failing) (contents : Held) (v : Holding) (h : List Entry) (x : Entry) (p : Process) (counts : ProcessCounts) (residences : List Fresh) →
     Legal lib failing contents h → Follows lib failing contents h x → is_among pids v.pid ≡ true → GivesUp lib ((state_after lib failing h).processes v.pid) p →
     p.writes ≡ ((state_after lib failing h).processes v.pid).writes → (keeping lib (state_after lib failing h) p).ended ≡ p.ended →
     state_after lib failing (h ++ x ∷ []) ≡ after_leaving lib (state_after lib failing h) v.pid p →
-    IsRowOf lib ((state_after lib failing (h ++ x ∷ [])).processes v.pid) row →
-    ((k : ℕ) → find (λ s. s.«module» == k) stays ≡ option_map fresh_of (attached_residence lib (state_after lib failing (h ++ x ∷ [])) v.pid k)) →
+    AreCountsOf lib ((state_after lib failing (h ++ x ∷ [])).processes v.pid) counts →
+    ((k : ℕ) → find (λ s. s.«module» == k) residences ≡ option_map fresh_of (attached_residence lib (state_after lib failing (h ++ x ∷ [])) v.pid k)) →
     StandsFor lib failing contents v h →
     StandsFor lib failing contents
-    (record v { ended = p.ended; row = row; stays = stays; mapped = mapped_kept lib (state_after lib failing h) p v.mapped; front = length (h ++ x ∷ []) })
+    (record v { ended = p.ended; counts = counts; residences = residences; mapped = mapped_kept lib (state_after lib failing h) p v.mapped; front = length (h ++ x ∷ []) })
     (h ++ x ∷ [])
-behind nest lib failing contents v h x p row stays legal follows there gives wrote ended_is after_is rows now stands =
+behind nest lib failing contents v h x p counts residences legal follows there gives wrote ended_is after_is rows now stands =
     let e : Eager = state_after lib failing h in
     let k : List Entry = h ++ x ∷ [] in
     let kept : Kept lib e = legal_kept lib failing contents h legal in
     let on : (n : ℕ) (r : Residence) → attached_residence lib e v.pid n ≡ Some r → is_kept lib e p r.serial ≡ true → attached_residence lib (state_after lib failing k) v.pid n ≡ Some r =
-    λ n r at stays.
+    λ n r at residences.
     ap (λ f. attached_residence lib f v.pid n) after_is
-    ∙ residence_behind lib e v.pid p n r there kept gives at (still_reached lib e v.pid p n r kept gives at stays)
+    ∙ residence_behind lib e v.pid p n r there kept gives at (still_reached lib e v.pid p n r kept gives at residences)
     in
     let writes : ((state_after lib failing k).processes v.pid).writes ≡ filter (λ (w : OwnWrite). is_kept lib e p w.serial) (e.processes v.pid).writes =
     ap (λ (f : Eager). (f.processes v.pid).writes) after_is ∙ writes_behind lib e v.pid p wrote
     in
     let bases : (n : ℕ) (r : Residence) → attached_residence lib e v.pid n ≡ Some r → is_kept lib e p r.serial ≡ true → bases_seen lib (state_after lib failing k) n ≡ bases_seen lib e n =
-    λ n r at stays.
+    λ n r at residences.
     ap (λ f. bases_seen lib f n) (one_more_is_after lib failing h x)
     ∙ bases_seen_stay nest lib failing contents h x n legal follows (ap is_some (residence_is lib e v.pid n r at))
-    (ap (λ (f : Eager). is_some (residence_of f n)) (sym (one_more_is_after lib failing h x)) ∙ ap is_some (residence_is lib (state_after lib failing k) v.pid n r (on n r at stays)))
+    (ap (λ (f : Eager). is_some (residence_of f n)) (sym (one_more_is_after lib failing h x)) ∙ ap is_some (residence_is lib (state_after lib failing k) v.pid n r (on n r at residences)))
     in
     record {
       front = refl;
       view = record {
         ended = sym (ap (λ (f : Eager). (f.processes v.pid).ended) after_is ∙ ap (λ (s : Process). s.ended) (leaving_process lib e v.pid p) ∙ ended_is);
-        row = rows;
-        stays = now;
+        counts = rows;
+        residences = now;
         mapped = all_filter (IsMapped lib contents e v.pid) (IsMapped lib contents (state_after lib failing k) v.pid) (λ (q : Mapped). is_kept lib e p q.of.serial)
-            (λ q stays it.
-            (let same : is_kept lib e p it.residence.serial ≡ true = ap (is_kept lib e p) (sym it.serial) ∙ stays in
+            (λ q residences it.
+            (let same : is_kept lib e p it.residence.serial ≡ true = ap (is_kept lib e p) (sym it.serial) ∙ residences in
             page_same lib contents e (state_after lib failing k) v.pid q it
             (λ c. class_kept (is_kept lib e p) c ((state_after lib failing k).processes v.pid) (e.processes v.pid) it.residence writes same)
             (on it.residence.«module» it.residence it.there same) (bases it.residence.«module» it.residence it.there same)))
             v.mapped stands.view.mapped;
         writes = subst (AllByRecursion (λ w. is_covered (map (λ (q : Mapped). q.of) (mapped_kept lib e p v.mapped)) w ≡ true)) (sym writes)
             (all_filter (λ w. is_covered (mapped_pages v) w ≡ true) (λ w. is_covered (map (λ (q : Mapped). q.of) (mapped_kept lib e p v.mapped)) w ≡ true)
-            (λ (w : OwnWrite). is_kept lib e p w.serial) (λ w stays covered. covered_kept (is_kept lib e p) v.mapped w stays covered)
+            (λ (w : OwnWrite). is_kept lib e p w.serial) (λ w residences covered. covered_kept (is_kept lib e p) v.mapped w residences covered)
             (e.processes v.pid).writes stands.view.writes);
       };
-      faults = all_filter (WasFixed lib v k) (WasFixed lib (record v { ended = p.ended; row = row; stays = stays; mapped = mapped_kept lib e p v.mapped; front = length k }) k)
+      faults = all_filter (WasFixed lib v k) (WasFixed lib (record v { ended = p.ended; counts = counts; residences = residences; mapped = mapped_kept lib e p v.mapped; front = length k }) k)
           (λ (q : Mapped). is_kept lib e p q.of.serial)
           (λ q keeps fixed m s at same own.
           (let found : (r : Residence) × (attached_residence lib (state_after lib failing k) v.pid m ≡ Some r) × (fresh_of r ≡ s) = stay_is _ s (sym (now m) ∙ at) in
           fixed m s
-          (stands.view.stays m
+          (stands.view.residences m
           ∙ ap (option_map fresh_of) (residence_before lib e v.pid p m found.0 there kept gives (sym (ap (λ f. attached_residence lib f v.pid m) after_is) ∙ found.1)) ∙ ap Some found.2)
           same own))
           v.mapped (fixed_more lib v h x v.mapped stands.faults);
@@ -263,12 +263,12 @@ given_up lib e pid (deeds.Exit calls gone) p is = (
 given_up lib e pid d p is = absurd is
 
 pub stands_left : OrdersNest → StandsLeft
-stands_left nest lib failing contents v h x p row stays legal follows own is rows now stands =
+stands_left nest lib failing contents v h x p counts residences legal follows own is rows now stands =
     let e : Eager = state_after lib failing h in
     let gives : GivesUp lib (e.processes v.pid) p × (p.writes ≡ (e.processes v.pid).writes) × (after_deed lib e v.pid x.deed ≡ after_leaving lib e v.pid p) =
     given_up lib e v.pid x.deed p is
     in
-    behind nest lib failing contents v h x p row stays legal follows (ap (is_among pids) (sym own) ∙ follows.process) gives.0 gives.1 (keeping_ended lib e p)
+    behind nest lib failing contents v h x p counts residences legal follows (ap (is_among pids) (sym own) ∙ follows.process) gives.0 gives.1 (keeping_ended lib e p)
     (one_more_is_after lib failing h x ∙ ap (λ q. after_deed lib e q x.deed) own ∙ gives.2) rows now stands
 
 -- ---- which pages are kept

@@ -1,4 +1,4 @@
--- A view behind a load of its own.
+-- A view after a load of its own.
 use Rattle.std.proofs.Common.{◌≡◌, ℕ, ◌++◌, ◌==◌, ◌||◌, true, if◌then◌else◌, List, [], ◌∷◌, length, filter, find, Option, Some, None, option_map, is_some, refl, sym, ◌∙◌, ap, subst}
 use Rattle.std.specs.Prelude.{is_none, nat_lt}
 use Rattle.std.specs.List.{AllByRecursion}
@@ -20,8 +20,8 @@ use Rattle.load_model.specs.Memory.{last_put, writes_of_class, writes_seen, base
 use Rattle.load_model.specs.Refusals.{enter_refusal}
 use Rattle.load_model.specs.Asks.{ask_in, may_ask, is_own, after_deed}
 use Rattle.load_model.specs.Histories.{state_after, Legal}
-use Rattle.load_model.specs.Rows.{Row}
-use Rattle.load_model.specs.Standing.{Mapped, Holding, mapped_pages, stay_at, fresh_of, lying_byte, IsMapped, is_covered, WasFixed}
+use Rattle.load_model.specs.ProcessCounts.{ProcessCounts}
+use Rattle.load_model.specs.Views.{Mapped, Holding, mapped_pages, reached_of, fresh_of, lying_byte, IsMapped, is_covered, WasFixed}
 use Rattle.load_model.specs.ViewLaws.{StandsEntered}
 use Rattle.load_model.proofs.Bools.{and_right, or_true}
 use Rattle.load_model.proofs.Orders.{OrdersNest}
@@ -31,7 +31,7 @@ use Rattle.load_model.proofs.Bytes.{attached_is}
 use Rattle.load_model.proofs.BasesStay.{bases_seen_stay}
 use Rattle.load_model.proofs.Growing.{one_more_is_after, one_more_is_legal}
 use Rattle.load_model.proofs.SerialsOwn.{serials_are_own}
-use Rattle.load_model.proofs.Standing.{fixed_more}
+use Rattle.load_model.proofs.Views.{fixed_more}
 use Rattle.load_model.proofs.ViewReplies.{residence_is, attached_is_resident}
 
 -- ---- a page in two states that have its residence and its writes alike
@@ -72,7 +72,7 @@ page_same lib contents e after q p it writes there bases = record {
       ∙ lying_same (class_of (object_at lib it.residence.«module» p.of.page.object)) lib contents e after q it.residence p.of.page.object x writes bases;
 }
 
--- ---- the state behind a load
+-- ---- the state after a load
 
 pub held_writes : (how : How) (m : ℕ) (js : List ℕ) (p : Process) → (holding how m (attaching js p)).writes ≡ p.writes
 held_writes Start m js p = refl
@@ -128,14 +128,14 @@ stay_is (Some r) s e = (r, refl, some_same e)
     some_same : Some (fresh_of r) ≡ Some s → fresh_of r ≡ s
     some_same h = cc
 
-fixed_same : (lib : Library) (failing : Failing) (contents : Held) (v : Holding) (h k : List Entry) (row : Row) (stays : List Fresh) (front : ℕ) (ps : List Mapped) → Legal lib failing contents k →
-    ((m : ℕ) → find (λ s. s.«module» == m) stays ≡ option_map fresh_of (attached_residence lib (state_after lib failing k) v.pid m)) →
-    ((m : ℕ) → stay_at v m ≡ option_map fresh_of (attached_residence lib (state_after lib failing h) v.pid m)) →
+fixed_same : (lib : Library) (failing : Failing) (contents : Held) (v : Holding) (h k : List Entry) (counts : ProcessCounts) (residences : List Fresh) (front : ℕ) (ps : List Mapped) → Legal lib failing contents k →
+    ((m : ℕ) → find (λ s. s.«module» == m) residences ≡ option_map fresh_of (attached_residence lib (state_after lib failing k) v.pid m)) →
+    ((m : ℕ) → reached_of v m ≡ option_map fresh_of (attached_residence lib (state_after lib failing h) v.pid m)) →
     ((m : ℕ) (r : Residence) → attached_residence lib (state_after lib failing h) v.pid m ≡ Some r → attached_residence lib (state_after lib failing k) v.pid m ≡ Some r) →
     AllByRecursion (IsMapped lib contents (state_after lib failing h) v.pid) ps → AllByRecursion (WasFixed lib v k) ps →
-    AllByRecursion (WasFixed lib (record v { row = row; stays = stays; front = front }) k) ps
-fixed_same lib failing contents v h k row stays front [] legal now before grows mapped all = tt
-fixed_same lib failing contents v h k row stays front (p ∷ ps) legal now before grows mapped all = (
+    AllByRecursion (WasFixed lib (record v { counts = counts; residences = residences; front = front }) k) ps
+fixed_same lib failing contents v h k counts residences front [] legal now before grows mapped all = tt
+fixed_same lib failing contents v h k counts residences front (p ∷ ps) legal now before grows mapped all = (
   λ m s at same own.
       (let r : Residence = mapped.0.residence in
       let found : (t : Residence) × (attached_residence lib (state_after lib failing k) v.pid m ≡ Some t) × (fresh_of t ≡ s) = stay_is _ s (sym (now m) ∙ at) in
@@ -146,13 +146,13 @@ fixed_same lib failing contents v h k row stays front (p ∷ ps) legal now befor
       let module_is : m ≡ r.«module» = sym (attached_is lib (state_after lib failing k) v.pid m found.0 found.1).1 ∙ ap (λ (t : Residence). t.«module») (sym one) in
       all.0 r.«module» (fresh_of r) (before r.«module» ∙ ap (option_map fresh_of) mapped.0.there) (sym mapped.0.serial)
       (ap (λ n. is_own (class_of (object_at lib n p.of.page.object))) (sym module_is) ∙ own)),
-  fixed_same lib failing contents v h k row stays front ps legal now before grows mapped.1 all.1,
+  fixed_same lib failing contents v h k counts residences front ps legal now before grows mapped.1 all.1,
 )
 
 -- ---- the entry
 
 pub stands_entered : OrdersNest → StandsEntered
-stands_entered nest lib failing contents v h x how m fresh calls row stays legal follows own is rows now stands =
+stands_entered nest lib failing contents v h x how m fresh calls counts residences legal follows own is rows now stands =
     let e : Eager = state_after lib failing h in
     let k : List Entry = h ++ x ∷ [] in
     let after_is : state_after lib failing k ≡ after_entering lib e v.pid how m fresh =
@@ -180,11 +180,11 @@ stands_entered nest lib failing contents v h x how m fresh calls row stays legal
       front = refl;
       view = record {
         ended = stands.view.ended ∙ sym (ap (λ (p : Process). p.ended) process ∙ held_ended how m (joined lib e v.pid m) (e.processes v.pid));
-        row = rows;
-        stays = now;
+        counts = rows;
+        residences = now;
         mapped = pages_same lib contents e (state_after lib failing k) v.pid v.mapped writes grows bases stands.view.mapped;
         writes = subst (AllByRecursion (λ w. is_covered (mapped_pages v) w ≡ true)) (sym writes) stands.view.writes;
       };
-      faults = fixed_same lib failing contents v h k row stays (length k) v.mapped (one_more_is_legal lib failing contents h x legal follows) now stands.view.stays grows stands.view.mapped
+      faults = fixed_same lib failing contents v h k counts residences (length k) v.mapped (one_more_is_legal lib failing contents h x legal follows) now stands.view.residences grows stands.view.mapped
           (fixed_more lib v h x v.mapped stands.faults);
     }

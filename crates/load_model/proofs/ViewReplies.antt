@@ -23,9 +23,9 @@ use Rattle.load_model.specs.Memory.{page, pages_over, Byte, Bytes, first_untouch
 use Rattle.load_model.specs.Refusals.{peek, when, class_refusal, span_refusal, residence_refusal, residence_if, residence_named, key_refusal}
 use Rattle.load_model.specs.Histories.{state_after, Legal}
 use Rattle.load_model.specs.Step.{Answer, steady, meant, spot_address, address_of, bytes_of, fine_answer}
-use Rattle.load_model.specs.Laws.{stay_of}
-use Rattle.load_model.specs.Touched.{has_page}
-use Rattle.load_model.specs.Standing.{Mapped, Holding, mapped_pages, lying_byte, IsMapped, IsViewOf, state_for}
+use Rattle.load_model.specs.Laws.{unwritten_of}
+use Rattle.load_model.specs.Views.{Mapped, Holding, mapped_pages, lying_byte, IsMapped, IsViewOf, state_for}
+use Rattle.load_model.specs.TouchedPages.{has_page}
 use Rattle.load_model.specs.ViewAnswers.{seen_process, view_refusal, is_mapped_at, bytes_in, view_byte, view_bytes, view_address, view_reply}
 use Rattle.load_model.specs.ViewLaws.{AnsweredByView}
 use Rattle.load_model.proofs.Bools.{and_left, and_right}
@@ -36,7 +36,7 @@ use Rattle.load_model.proofs.Bytes.{with_writes, named_is, left_none, right_none
 use Rattle.load_model.proofs.Holding.{Inside, span_inside, range_same}
 use Rattle.load_model.proofs.Touched.{fine_apart}
 use Rattle.load_model.proofs.SerialsOwn.{serials_are_own}
-use Rattle.load_model.proofs.Standing.{seen_stay, named_by_view, refusals_by_view}
+use Rattle.load_model.proofs.Views.{seen_stay, named_by_view, refusals_by_view}
 
 -- ---- a page that is mapped
 
@@ -163,8 +163,8 @@ not_touched (Some n) h = cc
 
 bytes_by_view : (lib : Library) (failing : Failing) (contents : Held) (v : Holding) (h : List Entry) (at : Place) → Legal lib failing contents h →
     IsViewOf lib contents v (state_after lib failing h) → (o : Option Residence) → residence_named lib (state_after lib failing h) v.pid at.«module» ≡ o →
-    residence_refusal lib (seen_process v) peek at (stay_of o) ≡ None →
-    bytes_of lib contents (state_after lib failing h) v.pid at o ≡ view_bytes v at (stay_of o)
+    residence_refusal lib (seen_process v) peek at (unwritten_of o) ≡ None →
+    bytes_of lib contents (state_after lib failing h) v.pid at o ≡ view_bytes v at (unwritten_of o)
 unfolding Bytes
 bytes_by_view lib failing contents v h at legal view None is fine = refl
 bytes_by_view lib failing contents v h at legal view (Some r) is fine =
@@ -182,7 +182,7 @@ bytes_by_view lib failing contents v h at legal view (Some r) is fine =
 -- ---- addresses
 
 address_by_view : OrdersNest → SpotsAreOrdered → (lib : Library) (contents : Held) (v : Holding) (e : Eager) (name : List ℕ) (key : EntryKey) → IsViewOf lib contents v e →
-    (o : Option Residence) → residence_named lib e v.pid name ≡ o → key_refusal lib key (stay_of o) ≡ None →
+    (o : Option Residence) → residence_named lib e v.pid name ≡ o → key_refusal lib key (unwritten_of o) ≡ None →
     spot_address e (entry_spot lib (meant lib name) key) ≡ view_address v (entry_spot lib (meant lib name) key)
 address_by_view nest spots lib contents v e name key view None is fine = cc
 address_by_view nest spots lib contents v e name key view (Some a) is fine =
@@ -196,7 +196,7 @@ address_by_view nest spots lib contents v e name key view (Some a) is fine =
         let reached_too : reaches lib (e.processes v.pid) s.«module» ≡ true = reaches_closed nest lib (e.processes v.pid) (meant lib name) s.«module» reached (spots lib (meant lib name) key s at) in
         ap (λ bases. address_in bases s.object s.offset)
         (ap bases_of (sym (attached_is_resident lib e v.pid s.«module» reached_too)) ∙ bases_by_stay (attached_residence lib e v.pid s.«module»)
-        ∙ ap bases_of (sym (seen_stay (attached_residence lib e v.pid s.«module»)) ∙ ap (option_map residence_from) (sym (view.stays s.«module»))))
+        ∙ ap bases_of (sym (seen_stay (attached_residence lib e v.pid s.«module»)) ∙ ap (option_map residence_from) (sym (view.residences s.«module»))))
 
 -- ---- replies
 
@@ -207,7 +207,7 @@ unfolding fine_answer address_of view_refusal
 fine_by_view nest spots lib failing contents v h (commands.Touch at) reply legal view fine is = some_is (λ r. steady r) is
 fine_by_view nest spots lib failing contents v h (commands.Peek at) reply legal view fine is =
     let e : Eager = state_after lib failing h in
-    let inner : residence_refusal lib (seen_process v) peek at (stay_of (residence_named lib e v.pid at.«module»)) ≡ None =
+    let inner : residence_refusal lib (seen_process v) peek at (unwritten_of (residence_named lib e v.pid at.«module»)) ≡ None =
     ap (residence_refusal lib (seen_process v) peek at) (named_by_view lib contents v e at.«module» view) ∙ right_none (when v.ended Ended) _ fine
     in
     ap (λ bytes. steady (replies.Bytes bytes))
@@ -215,7 +215,7 @@ fine_by_view nest spots lib failing contents v h (commands.Peek at) reply legal 
     ∙ some_is (λ r. steady r) is
 fine_by_view nest spots lib failing contents v h (commands.Query name key) reply legal view fine is =
     let e : Eager = state_after lib failing h in
-    let inner : key_refusal lib key (stay_of (residence_named lib e v.pid name)) ≡ None =
+    let inner : key_refusal lib key (unwritten_of (residence_named lib e v.pid name)) ≡ None =
     ap (key_refusal lib key) (named_by_view lib contents v e name view) ∙ right_none (when v.ended Ended) _ fine
     in
     ap (λ a. steady (replies.Address a)) (address_by_view nest spots lib contents v e name key view (residence_named lib e v.pid name) refl inner) ∙ some_is (λ r. steady r) is

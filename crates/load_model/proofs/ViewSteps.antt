@@ -1,4 +1,4 @@
--- A view behind an entry of its own that changes nothing in it, and with a page more.
+-- A view after an entry of its own that changes nothing in it, and with a page more.
 use Rattle.std.proofs.Common.{◌≡◌, ℕ, ◌==◌, ◌&&◌, Bool, true, false, List, [], ◌∷◌, ◌++◌, map, length, refl, sym, ◌∙◌, ap, subst}
 use Rattle.std.specs.List.{AllByRecursion, list_all}
 use Rattle.std.proofs.lemmas.List.Folds.{list_any-append}
@@ -15,27 +15,27 @@ use Rattle.load_model.specs.Memory.{is_page, page, pages_over}
 use Rattle.load_model.specs.Asks.{after_write, after_deed}
 use Rattle.load_model.specs.Histories.{after_entry, state_after}
 use Rattle.load_model.specs.Alike.{Alike}
-use Rattle.load_model.specs.Touched.{has_page}
-use Rattle.load_model.specs.Standing.{Mapped, mapped_pages, IsMapped, is_covered, IsViewOf, WasFixed}
+use Rattle.load_model.specs.Views.{Mapped, mapped_pages, IsMapped, is_covered, IsViewOf, WasFixed}
+use Rattle.load_model.specs.TouchedPages.{has_page}
 use Rattle.load_model.specs.ViewLaws.{IsQuiet, StandsQuiet, StandsMapped}
 use Rattle.load_model.proofs.Orders.{OrdersNest}
 use Rattle.load_model.proofs.Growing.{one_more_is_after}
 use Rattle.load_model.proofs.Stays.{written_stays}
-use Rattle.load_model.proofs.Standing.{view_alike, fixed_more}
+use Rattle.load_model.proofs.Views.{view_alike, fixed_more}
 
 -- ---- quiet entries
 
 pub shared_alike : (lib : Library) (e : Eager) (pid serial : ℕ) (w : Written) (c : Class) → c ≡ classes.Shared → Alike lib e (after_write e pid serial w c) pid
 shared_alike lib e pid serial w classes.Code is = absurd cc
 shared_alike lib e pid serial w classes.Private is = absurd cc
-shared_alike lib e pid serial w classes.Shared is = record { process = refl; stays = λ m reached. written_stays e pid serial w classes.Shared m }
+shared_alike lib e pid serial w classes.Shared is = record { process = refl; residences = λ m reached. written_stays e pid serial w classes.Shared m }
 
 pub quiet_alike : (lib : Library) (e : Eager) (pid : ℕ) (d : Deed) → IsQuiet lib d → Alike lib e (after_deed lib e pid d) pid
 unfolding after_deed residence_of
-quiet_alike lib e pid (deeds.Full how m of object size) is = record { process = refl; stays = λ m reached. refl }
-quiet_alike lib e pid (deeds.Failed how m by fresh calls gone) is = record { process = refl; stays = λ m reached. refl }
-quiet_alike lib e pid (deeds.Fault serial m p) is = record { process = refl; stays = λ m reached. refl }
-quiet_alike lib e pid (deeds.Shared serial m object offset bytes) is = record { process = refl; stays = λ m reached. refl }
+quiet_alike lib e pid (deeds.Full how m of object size) is = record { process = refl; residences = λ m reached. refl }
+quiet_alike lib e pid (deeds.Failed how m by fresh calls gone) is = record { process = refl; residences = λ m reached. refl }
+quiet_alike lib e pid (deeds.Fault serial m p) is = record { process = refl; residences = λ m reached. refl }
+quiet_alike lib e pid (deeds.Shared serial m object offset bytes) is = record { process = refl; residences = λ m reached. refl }
 quiet_alike lib e pid (deeds.Write serial m object offset bytes) is = shared_alike lib e pid serial _ (class_of (object_at lib m object)) is
 quiet_alike lib e pid (deeds.Enter how m fresh calls) is = absurd is
 quiet_alike lib e pid (deeds.Free m calls gone) is = absurd is
@@ -52,7 +52,7 @@ stands_quiet nest lib failing contents v h x own quiet stands =
     in
     record {
       front = refl;
-      view = record { ended = later.ended; row = later.row; stays = later.stays; mapped = later.mapped; writes = later.writes };
+      view = record { ended = later.ended; counts = later.counts; residences = later.residences; mapped = later.mapped; writes = later.writes };
       faults = fixed_more lib v h x v.mapped stands.faults;
     }
 
@@ -90,8 +90,8 @@ stands_mapped lib failing contents v h p is fixed stands = record {
   front = stands.front;
   view = record {
     ended = stands.view.ended;
-    row = stands.view.row;
-    stays = stands.view.stays;
+    counts = stands.view.counts;
+    residences = stands.view.residences;
     mapped = all_and (IsMapped lib contents (state_after lib failing h) v.pid) v.mapped p stands.view.mapped is;
     writes = subst (λ pages. AllByRecursion (λ w. is_covered pages w ≡ true) ((state_after lib failing h).processes v.pid).writes) (sym (pages_more v.mapped p))
         (covered_more (mapped_pages v) p.of ((state_after lib failing h).processes v.pid).writes stands.view.writes);

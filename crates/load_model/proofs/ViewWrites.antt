@@ -1,4 +1,4 @@
--- A view behind a write of its own.
+-- A view after a write of its own.
 use Rattle.std.proofs.Common.{◌≡◌, ℕ, ◌+◌, ◌*◌, ◌/◌, ◌%◌, ◌<◌, ◌==◌, ◌&&◌, Bool, true, false, cond, if◌then◌else◌, not, List, [], ◌∷◌, ◌++◌, map, filter, filter_map, reverse, length, Option, Some, None, option_map, option_to_list, refl, sym, ◌∙◌, ap, subst, arith}
 use Rattle.std.specs.Prelude.{slice_index}
 use Rattle.std.specs.List.{AllByRecursion, range_with_len}
@@ -18,16 +18,17 @@ use Rattle.load_model.specs.Modules.{Library, Held, object_at}
 use Rattle.load_model.specs.State.{PageOf, Written, OwnWrite, Residence, Process, Failing, Eager, with_process, reaches, residence_of, attached_residence}
 use Rattle.load_model.specs.Memory.{last_put, first_or, put_at, writes_of_class, writes_seen, bases_seen, Byte, writing}
 use Rattle.load_model.specs.Refusals.{peek, class_refusal}
-use Rattle.load_model.specs.Rows.{Row, IsRowOf}
+use Rattle.load_model.specs.ProcessCounts.{ProcessCounts, AreCountsOf}
 use Rattle.load_model.specs.Asks.{ask_in, may_ask, is_attached, is_serial, after_write, after_deed}
 use Rattle.load_model.specs.Histories.{after_entry, state_after, Legal}
-use Rattle.load_model.specs.Standing.{Mapped, Holding, mapped_pages, fresh_of, lying_byte, IsMapped, is_covered, IsViewOf, WasFixed, StandsFor}
-use Rattle.load_model.specs.ViewLaws.{over_page, written_over, WritesOwn, StandsWritten}
+use Rattle.load_model.specs.Views.{Mapped, Holding, mapped_pages, fresh_of, lying_byte, IsMapped, is_covered, IsViewOf, WasFixed, StandsFor}
+use Rattle.load_model.specs.ViewLaws.{WritesOwn, StandsWritten}
+use Rattle.load_model.specs.WrittenPages.{over_page, written_over}
 use Rattle.load_model.proofs.Bools.{and_left, and_right}
 use Rattle.load_model.proofs.Bytes.{attached_is}
 use Rattle.load_model.proofs.Growing.{one_more_is_after}
 use Rattle.load_model.proofs.SerialsOwn.{serials_are_own}
-use Rattle.load_model.proofs.Standing.{fixed_more}
+use Rattle.load_model.proofs.Views.{fixed_more}
 use Rattle.load_model.proofs.ViewReplies.{residence_is, own_byte}
 
 -- ---- the last write
@@ -87,7 +88,7 @@ seen_more lib serial w p r object own =
     one true = refl
     one false = refl
 
--- ---- the state behind the write
+-- ---- the state after the write
 
 abbrev behind_write : Eager → ℕ → ℕ → Written → Eager
 behind_write e q serial w = with_process e q (writing serial w (e.processes q))
@@ -217,8 +218,8 @@ one_more_covered : (pages : List PageOf) (ws : List OwnWrite) (o : OwnWrite) →
 one_more_covered pages [] o all one = (one, tt)
 one_more_covered pages (w ∷ ws) o all one = (all.0, one_more_covered pages ws o all.1 one)
 
-row_written : (lib : Library) (serial : ℕ) (w : Written) (p : Process) (row : Row) → IsRowOf lib p row → IsRowOf lib (writing serial w p) row
-row_written lib serial w p row is = record {
+row_written : (lib : Library) (serial : ℕ) (w : Written) (p : Process) (counts : ProcessCounts) → AreCountsOf lib p counts → AreCountsOf lib (writing serial w p) counts
+row_written lib serial w p counts is = record {
   started = is.started;
   attached = is.attached;
   loads_are = is.loads_are;
@@ -234,8 +235,8 @@ view_written lib contents v e serial front w aims covered view =
     let own : (behind_write e v.pid serial w).processes v.pid ≡ writing serial w (e.processes v.pid) = own_process e v.pid serial w in
     record {
       ended = view.ended ∙ ap (λ (p : Process). p.ended) (sym own);
-      row = subst (λ p. IsRowOf lib p v.row) (sym own) (row_written lib serial w (e.processes v.pid) v.row view.row);
-      stays = λ m. view.stays m ∙ ap (option_map fresh_of) (sym (attached_written lib e v.pid serial m w));
+      counts = subst (λ p. AreCountsOf lib p v.counts) (sym own) (row_written lib serial w (e.processes v.pid) v.counts view.counts);
+      residences = λ m. view.residences m ∙ ap (option_map fresh_of) (sym (attached_written lib e v.pid serial m w));
       mapped = pages_written lib contents e v.pid serial w v.mapped aims view.mapped;
       writes = subst (λ (p : Process). AllByRecursion (λ o. is_covered (map (λ (q : Mapped). q.of) (map (written_over serial w) v.mapped)) o ≡ true) p.writes) (sym own)
           (subst (λ pages. AllByRecursion (λ o. is_covered pages o ≡ true) ((e.processes v.pid).writes ++ record { serial = serial; write = w } ∷ [])) (sym (same_pages serial w v.mapped))

@@ -25,7 +25,7 @@ TouchedIsApart =
     (lib : Library) (contents : Held) (e : Eager) (touched : ℕ → List PageOf) (pid : ℕ) (ask : Ask) →
     (may_ask lib (retouched touched e) pid ask ≡ may_ask lib e pid ask) × (deed_of lib contents (retouched touched e) pid ask ≡ deed_of lib contents e pid ask)
 
--- So, whatever was touched, the entry of such a command follows the history behind which it is asked.
+-- So, whatever was touched, the entry of such a command follows the history after which it is asked.
 abbrev pub AcceptedFollows : Type 0
 AcceptedFollows =
     (lib : Library) (failing : Failing) (contents : Held) (h : List Entry) (touched : ℕ → List PageOf) (pid : ℕ) (command : Command) (ask : Ask) →

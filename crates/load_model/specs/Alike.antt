@@ -5,13 +5,13 @@ use Rattle.load_model.specs.Modules.{Library, Held}
 use Rattle.load_model.specs.State.{Failing, Eager, pids, is_among, reaches, residence_of}
 use Rattle.load_model.specs.Memory.{bases_seen}
 use Rattle.load_model.specs.Histories.{after_entry, state_after, Follows, Legal}
-use Rattle.load_model.specs.Laws.{stay_of}
+use Rattle.load_model.specs.Laws.{unwritten_of}
 
 -- Two states that a process cannot tell apart: it is the same, and so are the residences that it reaches, but
 -- for the writes that are shared.
 pub record Alike (lib : Library) (e after : Eager) (q : ℕ) : Type 0 where
   pub process : after.processes q ≡ e.processes q
-  pub stays : (m : ℕ) → reaches lib (e.processes q) m ≡ true → stay_of (residence_of after m) ≡ stay_of (residence_of e m)
+  pub residences : (m : ℕ) → reaches lib (e.processes q) m ≡ true → unwritten_of (residence_of after m) ≡ unwritten_of (residence_of e m)
 
 -- An entry of another process leaves such a state.
 abbrev pub OthersLeaveAlike : Type 0

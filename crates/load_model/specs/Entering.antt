@@ -1,5 +1,6 @@
 -- What a load attaches, where it places what is new, and what it calls where no initialisation fails.
--- Control Program reference: DosLoadModule; LX: "LX Header" (per-process initialisation).
+-- Control Program reference: DosLoadModule; "32-bit Linear eXecutable Module Format": "LX Header" (per-process
+-- initialisation).
 use Rattle.std.specs.Prelude.{ℕ, suc, ◌+◌, ◌&&◌, ◌||◌, not, List, [], ◌∷◌, ◌++◌, map, filter, filter_map, flat_map, zip, length, Option, Some, None, option_map, option_to_list, is_none, Result, Ok, Err, if◌then◌else◌}
 use Rattle.lx_types.specs.declared.object.ObjHead.{ObjHead}
 use Rattle.load_model.specs.declared.deeds.How.{How}

@@ -57,7 +57,7 @@ pub record Follows (lib : Library) (failing : Failing) (contents : Held) (h : Li
   pub done : entry.deed ≡ deed_of lib contents (state_after lib failing h) entry.pid (ask_in entry.deed)
   pub first : IsTrue (is_first_fault h entry.deed)
 
--- entries follow a history, one behind the other
+-- entries follow a history, one after the other
 abbrev pub AllFollow : Library → Failing → Held → List Entry → List Entry → Type 0
 AllFollow lib failing contents h [] = Unit {0}
 AllFollow lib failing contents h (entry ∷ others) = Follows lib failing contents h entry × AllFollow lib failing contents (h ++ entry ∷ []) others

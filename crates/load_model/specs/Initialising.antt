@@ -46,7 +46,7 @@ before_number n [] = []
 before_number n (x ∷ xs) = if x == n then [] else x ∷ before_number n xs
 
 -- What was attached before the one that failed is terminated, the last first, as where it leaves: each in its
--- residence behind the newcomers, which all leave.
+-- residence after the newcomers, which all leave.
 abbrev pub undoing_calls : Library → Eager → ℕ → How → ℕ → ℕ → List Fresh → List Call
 undoing_calls lib e pid how m by fresh =
     filter_map (term_of lib (after_entering lib e pid how m fresh) (newcomers lib e pid m)) (reverse (before_number by (joined lib e pid m)))

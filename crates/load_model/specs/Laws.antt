@@ -98,9 +98,9 @@ GoneIsUnreached =
     is_some (residence_of (state_after lib failing h) m) && not (is_reached lib (after_entry lib (state_after lib failing h) entry) m)
 
 -- a residence without the writes that are shared
-abbrev pub stay_of : Option Residence → Option Residence
-stay_of None = None
-stay_of (Some r) = Some (record r { writes = [] })
+abbrev pub unwritten_of : Option Residence → Option Residence
+unwritten_of None = None
+unwritten_of (Some r) = Some (record r { writes = [] })
 
 -- A residence whose module is still reached after an entry stands as it was.
 abbrev pub ResidenceStays : Type 0
@@ -108,7 +108,7 @@ ResidenceStays =
     (lib : Library) (failing : Failing) (contents : Held) (h : List Entry) (entry : Entry) (m : ℕ) → Legal lib failing contents h →
     Follows lib failing contents h entry →
     is_some (residence_of (state_after lib failing h) m) ≡ true → is_reached lib (after_entry lib (state_after lib failing h) entry) m ≡ true →
-    stay_of (residence_of (after_entry lib (state_after lib failing h) entry) m) ≡ stay_of (residence_of (state_after lib failing h) m)
+    unwritten_of (residence_of (after_entry lib (state_after lib failing h) entry) m) ≡ unwritten_of (residence_of (state_after lib failing h) m)
 
 -- While a residence stands, each module that its module reaches is resident, and keeps its residence.
 abbrev pub ReachStays : Type 0
@@ -118,7 +118,7 @@ ReachStays =
     is_some (residence_of (state_after lib failing h) m) ≡ true → is_some (residence_of (after_entry lib (state_after lib failing h) entry) m) ≡ true →
     is_among (order_of lib m) k ≡ true →
     (is_some (residence_of (state_after lib failing h) k) ≡ true)
-    × (stay_of (residence_of (after_entry lib (state_after lib failing h) entry) k) ≡ stay_of (residence_of (state_after lib failing h) k))
+    × (unwritten_of (residence_of (after_entry lib (state_after lib failing h) entry) k) ≡ unwritten_of (residence_of (state_after lib failing h) k))
 
 -- ---- other processes
 

@@ -1,5 +1,6 @@
 -- What leaves with a load that is given up, or with a process, and what it calls.
--- Control Program reference: DosFreeModule, DosExit; LX: "LX Header" (per-process termination).
+-- Control Program reference: DosFreeModule, DosExit; "32-bit Linear eXecutable Module Format": "LX Header" (per-process
+-- termination).
 use Rattle.std.specs.Prelude.{ℕ, ◌==◌, ◌&&◌, ◌||◌, not, true, List, [], ◌∷◌, map, filter, filter_map, reverse, Option, None, option_map, if◌then◌else◌}
 use Rattle.load_model.specs.declared.deeds.Call.{Call}
 use Rattle.load_model.specs.declared.deeds.CallKind.TheVariants.{Term}

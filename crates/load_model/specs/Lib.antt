@@ -23,10 +23,12 @@ pub mod WorkedResources
 pub mod Alike
 pub mod ResidenceBases
 pub mod Fitness
+pub mod TouchedPages
 pub mod Touched
-pub mod Rows
-pub mod Standing
+pub mod ProcessCounts
+pub mod Views
 pub mod ViewAnswers
+pub mod WrittenPages
 pub mod ViewLaws
 pub mod ViewLeaving
 pub mod TouchSteps

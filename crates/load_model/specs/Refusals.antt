@@ -16,6 +16,7 @@ use Rattle.load_model.specs.declared.deeds.How.TheVariants.{Start, Load}
 use Rattle.load_model.specs.Modules.{Spot, EntryFault, Library, number_of, is_library, unfit, entry_spot, refusal_of_entry, resource_of, objects_of, object_at, is_invalid}
 use Rattle.load_model.specs.State.{Residence, Process, Eager, count_of, attached_residence}
 use Rattle.load_model.specs.Memory.{page, pages_over, first_untouched}
+use Rattle.lx_types.specs.declared.limits.TheConstants.{MAX_LOADS}
 
 -- a refusal where something holds
 abbrev pub when : Bool → Refusal → Option Refusal
@@ -29,17 +30,13 @@ None orelse other = other
 
 -- ---- start and load
 
--- the most loads of one module by one process
-abbrev pub MOST_LOADS : ℕ
-MOST_LOADS = 65535
-
 -- of a module, once it is known to be there
 unfoldable pub module_refusal : Library → Process → How → ℕ → Option Refusal
 module_refusal lib p Start m = when (is_library lib m) NotProgram orelse unfit lib m
 module_refusal lib p Load m =
     when (not (is_library lib m)) NotLibrary
     orelse unfit lib m
-    orelse when (nat_le MOST_LOADS (count_of p m)) CountFull
+    orelse when (nat_le MAX_LOADS (count_of p m)) CountFull
 
 abbrev pub module_or_none : Library → Process → How → Option ℕ → Option Refusal
 module_or_none lib p how None = Some NoModule

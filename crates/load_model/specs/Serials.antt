@@ -6,7 +6,7 @@ use Rattle.load_model.specs.Modules.{Library, Held}
 use Rattle.load_model.specs.State.{Failing, Residence, residence_of}
 use Rattle.load_model.specs.Histories.{state_after, has_fault, Legal}
 
--- numbers that rise, from behind one up to another
+-- numbers that rise, from above one up to another
 abbrev pub Rise : ℕ → List ℕ → ℕ → Type 0
 Rise low [] high = low ≤ high
 Rise low (n ∷ ns) high = (low < n) × Rise n ns high

@@ -3,6 +3,7 @@
 -- Control Program reference: DosLoadModule, DosFreeModule.
 use Rattle.std.specs.Prelude.{ℕ, ◌==◌, Bool, false, List, [], ◌++◌, find, count_by, Option, Some, None, option_to_list, if◌then◌else◌}
 use Rattle.std.specs.List.{list_any, range_with_len}
+use Rattle.lx_types.specs.declared.limits.TheConstants.{MAX_PROCESSES}
 use Rattle.lx_types.specs.declared.object.PageId.{PageId}
 pub use Rattle.lx_model.specs.Reach.{is_among}
 use Rattle.load_model.specs.Modules.{Library, order_of}
@@ -13,7 +14,7 @@ pub record Written : Type 0 where
   pub offset : ℕ
   pub bytes : List ℕ
 
--- A stay of a module in memory: its serial number, the bases of its objects, and the writes to its shared
+-- A residence of a module in memory: its serial number, the bases of its objects, and the writes to its shared
 -- objects, the oldest first.
 pub record Residence : Type 0 where
   pub serial : ℕ
@@ -67,9 +68,9 @@ with_process e pid p = record e { processes = λ other. if other == pid then p e
 
 -- ---- processes
 
--- there are 16 at most
+-- their numbers, from 1
 abbrev pub pids : List ℕ
-pids = range_with_len 1 16
+pids = range_with_len 1 MAX_PROCESSES
 
 -- ---- what a process reaches
 

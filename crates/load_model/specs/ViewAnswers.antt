@@ -17,21 +17,22 @@ use Rattle.load_model.specs.State.{Residence, Process, new_process, bases_of}
 use Rattle.load_model.specs.Step.{meant, resource_named}
 use Rattle.load_model.specs.Entering.{residence_from}
 use Rattle.load_model.specs.Memory.{is_page, page}
-use Rattle.load_model.specs.Refusals.{Purpose, touch, write, share, peek, debug, when, ◌orelse◌, MOST_LOADS, started_refusal, residence_refusal, key_refusal, found_refusal}
-use Rattle.load_model.specs.Standing.{Mapped, Holding, mapped_pages, stay_at}
+use Rattle.load_model.specs.Refusals.{Purpose, touch, write, share, peek, debug, when, ◌orelse◌, started_refusal, residence_refusal, key_refusal, found_refusal}
+use Rattle.load_model.specs.Views.{Mapped, Holding, mapped_pages, reached_of}
+use Rattle.lx_types.specs.declared.limits.TheConstants.{MAX_LOADS}
 
 -- ---- refusals
 
--- what counts of a process for its refusals, its loads left out: they are counted in the row
+-- what counts of a process for its refusals, its loads left out: they are counted apart
 abbrev pub seen_process : Holding → Process
-seen_process v = record new_process { started = v.row.started; ended = v.ended; touched = mapped_pages v }
+seen_process v = record new_process { started = v.counts.started; ended = v.ended; touched = mapped_pages v }
 
 abbrev pub view_module_refusal : Library → Holding → How → ℕ → Option Refusal
 view_module_refusal lib v Start m = when (is_library lib m) NotProgram orelse unfit lib m
 view_module_refusal lib v Load m =
     when (not (is_library lib m)) NotLibrary
     orelse unfit lib m
-    orelse when (nat_le MOST_LOADS (slice_index v.row.loads m)) CountFull
+    orelse when (nat_le MAX_LOADS (slice_index v.counts.loads m)) CountFull
 
 abbrev pub view_module_or_none : Library → Holding → How → Option ℕ → Option Refusal
 view_module_or_none lib v how None = Some NoModule
@@ -42,21 +43,21 @@ view_enter_refusal lib v how m = when v.ended Ended orelse started_refusal (seen
 
 abbrev pub is_held_in : Holding → Option ℕ → Bool
 is_held_in v None = false
-is_held_in v (Some m) = not (slice_index v.row.loads m == 0)
+is_held_in v (Some m) = not (slice_index v.counts.loads m == 0)
 
 abbrev pub view_free_refusal : Holding → Option ℕ → Option Refusal
 view_free_refusal v m = when v.ended Ended orelse when (not (is_held_in v m)) NotHeld
 
 -- the residence of a module by name, as the view has it
-abbrev pub stay_if : Holding → Option ℕ → Option Residence
-stay_if v None = None
-stay_if v (Some m) = option_map residence_from (stay_at v m)
+abbrev pub reached_if : Holding → Option ℕ → Option Residence
+reached_if v None = None
+reached_if v (Some m) = option_map residence_from (reached_of v m)
 
-abbrev pub stay_named : Library → Holding → List ℕ → Option Residence
-stay_named lib v name = stay_if v (number_of lib name)
+abbrev pub reached_named : Library → Holding → List ℕ → Option Residence
+reached_named lib v name = reached_if v (number_of lib name)
 
 abbrev pub view_place_refusal : Library → Holding → Purpose → Place → Option Refusal
-view_place_refusal lib v purpose at = when v.ended Ended orelse residence_refusal lib (seen_process v) purpose at (stay_named lib v at.«module»)
+view_place_refusal lib v purpose at = when v.ended Ended orelse residence_refusal lib (seen_process v) purpose at (reached_named lib v at.«module»)
 
 -- The refusal of a command that the view decides: every one but want of a place, and an initialisation that fails.
 unfoldable pub view_refusal : Library → Holding → Command → Option Refusal
@@ -68,8 +69,8 @@ view_refusal lib v (commands.Peek at) = view_place_refusal lib v peek at
 view_refusal lib v (commands.Shared at) = view_place_refusal lib v share at
 view_refusal lib v (commands.Write at bytes) = view_place_refusal lib v write at
 view_refusal lib v (commands.Debug at bytes) = view_place_refusal lib v debug at
-view_refusal lib v (commands.Query name key) = when v.ended Ended orelse key_refusal lib key (stay_named lib v name)
-view_refusal lib v (commands.GetRes name ty id) = when v.ended Ended orelse found_refusal lib ty id (stay_named lib v name)
+view_refusal lib v (commands.Query name key) = when v.ended Ended orelse key_refusal lib key (reached_named lib v name)
+view_refusal lib v (commands.GetRes name ty id) = when v.ended Ended orelse found_refusal lib ty id (reached_named lib v name)
 view_refusal lib v commands.Exit = when v.ended Ended
 
 -- ---- replies
@@ -93,13 +94,13 @@ view_bytes v at None = []
 view_bytes v at (Some r) = map (view_byte v r.serial at.object) (range_with_len at.offset at.len)
 
 abbrev pub view_address : Holding → Result Spot EntryFault → ℕ
-view_address v (Ok s) = address_in (bases_of (stay_if v (Some s.«module»))) s.object s.offset
+view_address v (Ok s) = address_in (bases_of (reached_if v (Some s.«module»))) s.object s.offset
 view_address v (Err fault) = 0
 
 -- what a command is answered that is not refused and has no entry
 abbrev pub view_reply : Library → Holding → Command → Option Reply
 view_reply lib v (commands.Touch at) = Some replies.Fine
-view_reply lib v (commands.Peek at) = Some (replies.Bytes (view_bytes v at (stay_named lib v at.«module»)))
+view_reply lib v (commands.Peek at) = Some (replies.Bytes (view_bytes v at (reached_named lib v at.«module»)))
 view_reply lib v (commands.Query name key) = Some (replies.Address (view_address v (entry_spot lib (meant lib name) key)))
 view_reply lib v (commands.GetRes name ty id) = Some (replies.Spot (resource_named lib name ty id))
 view_reply lib v (commands.Start name) = None

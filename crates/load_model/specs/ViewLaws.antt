@@ -1,8 +1,6 @@
 -- The laws of views.
-use Rattle.std.specs.Prelude.{◌≡◌, ℕ, ◌+◌, ◌*◌, ◌==◌, ◌&&◌, if◌then◌else◌, find, option_map, map, slice_index, ◌++◌, ◌∷◌, true, false, List, [], length, Some, None}
-use Rattle.std.specs.List.{AllByRecursion, range_with_len}
-use Rattle.lx_types.specs.declared.object.PageId.{PageId}
-use Rattle.lx_types.specs.declared.object.TheConstants.{PAGE_SIZE}
+use Rattle.std.specs.Prelude.{◌≡◌, ℕ, ◌==◌, find, option_map, map, ◌++◌, ◌∷◌, true, false, List, [], length, Some, None}
+use Rattle.std.specs.List.{AllByRecursion}
 use Rattle.lx_types.specs.Object.{class_of}
 use Rattle.lx_types.specs.declared.object.Class.TheVariants as classes
 use Rattle.load_model.specs.declared.commands.Command.{Command}
@@ -12,16 +10,16 @@ use Rattle.load_model.specs.declared.deeds.Deed.TheVariants as deeds
 use Rattle.load_model.specs.declared.deeds.Entry.{Entry}
 use Rattle.load_model.specs.Modules.{Library, Held, object_at}
 use Rattle.load_model.specs.State.{Written, Failing, pids, is_among, attached_residence}
-use Rattle.load_model.specs.Rows.{Row, IsRowOf}
+use Rattle.load_model.specs.ProcessCounts.{ProcessCounts, AreCountsOf}
 use Rattle.load_model.specs.declared.deeds.How.{How}
 use Rattle.load_model.specs.declared.deeds.Call.{Call}
 use Rattle.load_model.specs.declared.deeds.Fresh.{Fresh}
-use Rattle.load_model.specs.Memory.{last_put}
 use Rattle.load_model.specs.Refusals.{refusal_of}
 use Rattle.load_model.specs.Step.{steady, answer_of}
 use Rattle.load_model.specs.Histories.{state_after, Follows, Legal}
-use Rattle.load_model.specs.Standing.{Mapped, Holding, new_holding, fresh_of, mapped_pages, is_covered, IsMapped, WasFixed, StandsFor, state_for}
+use Rattle.load_model.specs.Views.{Mapped, Holding, new_holding, fresh_of, mapped_pages, is_covered, IsMapped, WasFixed, StandsFor, state_for}
 use Rattle.load_model.specs.ViewAnswers.{view_refusal, view_reply}
+use Rattle.load_model.specs.WrittenPages.{written_over}
 
 -- A new view stands for the history in which nothing was done.
 abbrev pub NewStands : Type 0
@@ -62,7 +60,7 @@ IsQuiet lib (deeds.Free m calls gone) = ⊥
 IsQuiet lib (deeds.Exit calls gone) = ⊥
 IsQuiet lib (deeds.Debug serial m object offset bytes) = ⊥
 
--- Behind such an entry of its own a view stands as it was, and was shown one entry more.
+-- After such an entry of its own a view stands as it was, and was shown one entry more.
 abbrev pub StandsQuiet : Type 0
 StandsQuiet =
     (lib : Library) (failing : Failing) (contents : Held) (v : Holding) (h : List Entry) (x : Entry) → x.pid ≡ v.pid → IsQuiet lib x.deed →
@@ -77,14 +75,6 @@ StandsMapped =
 
 -- ---- what the process writes for itself
 
--- the bytes of a page behind a write to its object
-abbrev pub over_page : Written → PageId → List ℕ → List ℕ
-over_page w q bytes = map (λ i. last_put (w ∷ []) (q.page * PAGE_SIZE + i) (slice_index bytes i)) (range_with_len 0 PAGE_SIZE)
-
--- a write to an object of a residence goes into those of its pages that are mapped
-abbrev pub written_over : ℕ → Written → Mapped → Mapped
-written_over serial w p = if (p.of.serial == serial) && (p.of.page.object == w.object) then record p { bytes = over_page w p.of.page p.bytes } else p
-
 -- an entry writes to a private object, or to code, of a residence of a module
 abbrev pub WritesOwn : Library → Deed → ℕ → ℕ → Written → Type 0
 WritesOwn lib (deeds.Write serial m object offset bytes) s k w =
@@ -93,7 +83,7 @@ WritesOwn lib (deeds.Debug serial m object offset bytes) s k w =
     (class_of (object_at lib m object) ≡ classes.Code) × (s ≡ serial) × (k ≡ m) × (w ≡ record { object = object; offset = offset; bytes = bytes })
 WritesOwn lib deed s k w = ⊥
 
--- Behind such an entry of its own a view stands with the bytes put into its pages, where all of those are mapped.
+-- After such an entry of its own a view stands with the bytes put into its pages, where all of those are mapped.
 abbrev pub StandsWritten : Type 0
 StandsWritten =
     (lib : Library) (failing : Failing) (contents : Held) (v : Holding) (h : List Entry) (x : Entry) (serial m : ℕ) (w : Written) →
@@ -105,14 +95,15 @@ StandsWritten =
 
 -- ---- what the process loads
 
--- Behind a start or a load of its own a view stands with the counts and the residences that the process has then:
+-- After a start or a load of its own a view stands with the counts and the residences that the process has then:
 -- the pages that were mapped stand as they were.
 abbrev pub StandsEntered : Type 0
 StandsEntered =
     (lib : Library) (failing : Failing) (contents : Held) (v : Holding) (h : List Entry) (x : Entry) (how : How) (m : ℕ) (fresh : List Fresh)
     (calls : List Call)
-    (row : Row) (stays : List Fresh) → Legal lib failing contents h → Follows lib failing contents h x → x.pid ≡ v.pid →
+    (counts : ProcessCounts) (residences : List Fresh) → Legal lib failing contents h → Follows lib failing contents h x → x.pid ≡ v.pid →
     x.deed ≡ deeds.Enter how m fresh calls →
-    IsRowOf lib ((state_after lib failing (h ++ x ∷ [])).processes v.pid) row →
-    ((k : ℕ) → find (λ s. s.«module» == k) stays ≡ option_map fresh_of (attached_residence lib (state_after lib failing (h ++ x ∷ [])) v.pid k)) →
-    StandsFor lib failing contents v h → StandsFor lib failing contents (record v { row = row; stays = stays; front = length (h ++ x ∷ []) }) (h ++ x ∷ [])
+    AreCountsOf lib ((state_after lib failing (h ++ x ∷ [])).processes v.pid) counts →
+    ((k : ℕ) → find (λ s. s.«module» == k) residences ≡ option_map fresh_of (attached_residence lib (state_after lib failing (h ++ x ∷ [])) v.pid k)) →
+    StandsFor lib failing contents v h →
+    StandsFor lib failing contents (record v { counts = counts; residences = residences; front = length (h ++ x ∷ []) }) (h ++ x ∷ [])

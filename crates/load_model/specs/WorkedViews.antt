@@ -1,5 +1,5 @@
--- Worked values: what a process's own view answers, before and behind a write of its own, and the pages that it keeps
--- behind a free.
+-- Worked values: what a process's own view answers, before and after a write of its own, and the pages that it keeps
+-- after a free.
 use Rattle.std.specs.Prelude.{◌≡◌, [], ◌∷◌, map, codes, None, Some}
 use Rattle.load_model.specs.declared.commands.Command.TheVariants.{Load, Free, Peek}
 use Rattle.load_model.specs.declared.commands.Reply.TheVariants.{Bytes}
@@ -8,17 +8,17 @@ use Rattle.load_model.specs.Memory.{page}
 use Rattle.load_model.specs.State.{Eager, nothing_yet}
 use Rattle.load_model.specs.Leaving.{freeing}
 use Rattle.load_model.specs.Samples.{Commands, state_from, place, fresh}
-use Rattle.load_model.specs.Standing.{Mapped, Holding, new_holding}
+use Rattle.load_model.specs.Views.{Mapped, Holding, new_holding}
 use Rattle.load_model.specs.ViewAnswers.{view_refusal, view_reply}
-use Rattle.load_model.specs.ViewLaws.{written_over}
+use Rattle.load_model.specs.WrittenPages.{written_over}
 use Rattle.load_model.specs.ViewLeaving.{mapped_kept}
 use Rattle.load_model.specs.WorkedBytes.{store}
 
 -- one load of S, and nothing mapped
 abbrev loaded : Holding
 loaded = record (new_holding store 1) {
-  row = record { started = None; loads = 1 ∷ []; reached = 1 ∷ []; attached = 0 ∷ [] };
-  stays = fresh 1 0 (0x10000000 ∷ 0x10010000 ∷ 0x10020000 ∷ []) ∷ [];
+  counts = record { started = None; loads = 1 ∷ []; reached = 1 ∷ []; attached = 0 ∷ [] };
+  residences = fresh 1 0 (0x10000000 ∷ 0x10010000 ∷ 0x10020000 ∷ []) ∷ [];
   front = 1;
 }
 
@@ -29,11 +29,11 @@ own_page = record { of = record { serial = 1; page = page 3 0 }; bytes = 7 ∷ 8
 abbrev touched : Holding
 touched = record loaded { mapped = own_page ∷ [] }
 
--- behind a write of one byte at the second
+-- after a write of one byte at the second
 abbrev written : Holding
 written = record touched { mapped = map (written_over 1 (record { object = 3; offset = 1; bytes = 0xAA ∷ [] })) touched.mapped; front = 2 }
 
--- behind loads of S
+-- after loads of S
 abbrev behind : Commands → Eager
 behind loads = state_from store (nothing_yet []) loads
 

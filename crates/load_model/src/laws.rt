@@ -132,8 +132,8 @@ pub fn touched_pages_decide()
     ensures entries { EntriesMoveTouched }
 {}
 
-/// What a process's own view stands for: nothing at first; it goes on through entries of other processes, behind
-/// entries of its own that change nothing in it, with a page more that is mapped, and behind a write, a load, a
+/// What a process's own view stands for: nothing at first; it goes on through entries of other processes, after
+/// entries of its own that change nothing in it, with a page more that is mapped, and after a write, a load, a
 /// free and an exit of its own.
 pub fn views_stand()
     ensures new { NewStands }

@@ -66,7 +66,7 @@ pub fn resources_are_asked()
     ensures { WorkedResources }
 {}
 
-/// What a process's own view refuses and replies, before and behind a write of its own.
+/// What a process's own view refuses and replies, before and after a write of its own.
 pub fn views_are_worked()
     ensures { WorkedViews }
 {}

@@ -11,7 +11,7 @@ pub record Cursor : Type 0 where
 abbrev pub advance : ℕ → Cursor → Cursor
 advance n c = record { at = c.at + n; left = drop n c.left }
 
--- A read of n bytes gives a value of the next n bytes and moves on behind them, where as many are left.
+-- A read of n bytes gives a value of the next n bytes and moves on past them, where as many are left.
 -- Where fewer are left, it is Short at the cursor, which stays.
 abbrev pub Reads : {X : Type 0} → ℕ → (List ℕ → X → Type 0) → Cursor → Result X Short → Cursor → Type 0
 Reads n value old (Ok x) new = (n ≤ length old.left) × value (take n old.left) x × (new ≡ advance n old)

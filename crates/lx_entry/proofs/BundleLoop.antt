@@ -1,4 +1,4 @@
--- One bundle after another: what stands before the entries of a bundle, its entries, and the bundles behind it.
+-- One bundle after another: what stands before the entries of a bundle, its entries, and the bundles after it.
 use Rattle.std.proofs.Common.{◌≡◌, ℕ, zero, suc, ◌+◌, ◌<◌, Bool, true, false, cond, not, eqb, ltb, Option, Some, None, List, [], ◌∷◌, ◌++◌, length, Result, Ok, Err, refl, sym, subst, ap, ◌∙◌, append_assoc, append-nil}
 use Rattle.std.specs.Prelude.{IsErrAnd}
 use Rattle.std.specs.List.{flat_map}
@@ -9,7 +9,8 @@ use Rattle.lx_types.specs.declared.refusal.LxKind.TheVariants.{EntryTable}
 use Rattle.lx_types.specs.declared.fail.Fail.{Fail}
 use Rattle.lx_types.specs.declared.fail.Fail.TheVariants.{Said, NoMemory}
 use Rattle.lx_model.specs.Reading.{fault, number, Read, ◌>>=◌, ends, Many, many}
-use Rattle.lx_model.specs.EntryTable.{Numbered, LAST_ORDINAL, names_one_of, at_entry, gate_entry, forward_entry, bundle_entries, object_entries, bundle_of_type, bundle_at}
+use Rattle.lx_model.specs.EntryTable.{Numbered, names_one_of, at_entry, gate_entry, forward_entry, bundle_entries, object_entries, bundle_of_type, bundle_at}
+use Rattle.lx_model.specs.declared.limits.TheConstants.{MAX_ORDINAL}
 use Rattle.lx_model.proofs.Many.{many_ends, many_more, many_fails}
 use Rattle.lx_model.proofs.Shortening.{bundle_shortens}
 use Rattle.lx_model.proofs.Steps.{bind_ok, done}
@@ -23,7 +24,7 @@ use Rattle.lx_entry.proofs.Refusals.{gives_failed, bundle_failed}
 
 -- ---- a bundle is its head and its entries
 
--- the entries that stand behind what was read of a bundle
+-- the entries that stand after what was read of a bundle
 abbrev pub entries_behind : ℕ → ℕ → ℕ → Option Form → Cursor → Read (List Numbered)
 entries_behind imports n ordinal None c = Ok ([], c)
 entries_behind imports n ordinal (Some form) c = bundle_entries n ordinal (entry_at form imports) c
@@ -91,14 +92,14 @@ by_limit objects imports last count at true type = refl
 by_limit objects imports last count at false type = by_type objects imports last count at type
 
 by_zero : (objects imports last count at : ℕ) (d : Cursor) (none : Bool) →
-    cond none (ends d) (cond (ltb LAST_ORDINAL (last + count)) (Err (fault EntryTable at)) (number 1 d >>= λ t. bundle_of_type t.0 objects imports at count (last + 1) t.1 >>= item (last + count)))
-    ≡ (cond none (no_head d) (cond (ltb LAST_ORDINAL (last + count)) (Err (fault EntryTable at)) (number 1 d >>= λ t. form_at t.0 objects at t.1 >>= head_with count)) >>= λ h. with_head imports last h.0 h.1)
+    cond none (ends d) (cond (ltb MAX_ORDINAL (last + count)) (Err (fault EntryTable at)) (number 1 d >>= λ t. bundle_of_type t.0 objects imports at count (last + 1) t.1 >>= item (last + count)))
+    ≡ (cond none (no_head d) (cond (ltb MAX_ORDINAL (last + count)) (Err (fault EntryTable at)) (number 1 d >>= λ t. form_at t.0 objects at t.1 >>= head_with count)) >>= λ h. with_head imports last h.0 h.1)
 by_zero objects imports last count at d true = refl
-by_zero objects imports last count at d false = by_limit objects imports last count at (ltb LAST_ORDINAL (last + count)) (number 1 d)
+by_zero objects imports last count at d false = by_limit objects imports last count at (ltb MAX_ORDINAL (last + count)) (number 1 d)
 
 by_count : (objects imports last at : ℕ) (count : Read ℕ) →
-    (count >>= λ n. cond (eqb n.0 0) (ends n.1) (cond (ltb LAST_ORDINAL (last + n.0)) (Err (fault EntryTable at)) (number 1 n.1 >>= λ t. bundle_of_type t.0 objects imports at n.0 (last + 1) t.1 >>= item (last + n.0))))
-    ≡ ((count >>= λ n. cond (eqb n.0 0) (no_head n.1) (cond (ltb LAST_ORDINAL (last + n.0)) (Err (fault EntryTable at)) (number 1 n.1 >>= λ t. form_at t.0 objects at t.1 >>= head_with n.0))) >>= λ h. with_head imports last h.0 h.1)
+    (count >>= λ n. cond (eqb n.0 0) (ends n.1) (cond (ltb MAX_ORDINAL (last + n.0)) (Err (fault EntryTable at)) (number 1 n.1 >>= λ t. bundle_of_type t.0 objects imports at n.0 (last + 1) t.1 >>= item (last + n.0))))
+    ≡ ((count >>= λ n. cond (eqb n.0 0) (no_head n.1) (cond (ltb MAX_ORDINAL (last + n.0)) (Err (fault EntryTable at)) (number 1 n.1 >>= λ t. form_at t.0 objects at t.1 >>= head_with n.0))) >>= λ h. with_head imports last h.0 h.1)
 by_count objects imports last at (Err e) = refl
 by_count objects imports last at (Ok n) = by_zero objects imports last n.0 at n.1 (eqb n.0 0)
 

@@ -1,4 +1,4 @@
--- What a reader of bundles answers: the entries stand behind those of the bundles before.
+-- What a reader of bundles answers: the entries stand after those of the bundles before.
 use Rattle.std.specs.Prelude.{◌≡◌, ℕ, zero, suc, not, List, ◌++◌, Option, Some, None, Result, Ok, Err, ◌+◌, ◌==◌, nat_lt, if◌then◌else◌}
 use Rattle.std.specs.List.{flat_map}
 use Rattle.lx_bytes.specs.Cursor.{Cursor}
@@ -8,7 +8,8 @@ use Rattle.lx_types.specs.Answers.{Tells, if_said_as}
 use Rattle.lx_types.specs.declared.refusal.LxRefusal.{LxRefusal}
 use Rattle.lx_types.specs.declared.refusal.LxKind.TheVariants.{EntryTable}
 use Rattle.lx_model.specs.Reading.{fault, number, Read, ◌>>=◌, Many, whole}
-use Rattle.lx_model.specs.EntryTable.{Numbered, LAST_ORDINAL, names_one_of, at_entry, gate_entry, forward_entry}
+use Rattle.lx_model.specs.EntryTable.{Numbered, names_one_of, at_entry, gate_entry, forward_entry}
+use Rattle.lx_model.specs.declared.limits.TheConstants.{MAX_ORDINAL}
 use Rattle.lx_entry.specs.declared.bundles.Form.{Form}
 use Rattle.lx_entry.specs.declared.bundles.Form.TheVariants.{Narrow, Gate, Wide, Forwarder}
 use Rattle.lx_entry.specs.declared.bundles.Head.{Head}
@@ -38,16 +39,16 @@ form_at (suc (suc (suc zero))) objects bundle c = object_at objects bundle c >>=
 form_at (suc (suc (suc (suc zero)))) objects bundle c = number 2 c >>= λ reserved. Ok (Some Forwarder, reserved.1)
 form_at (suc (suc (suc (suc (suc k))))) objects bundle c = Err (fault EntryTable bundle)
 
--- what stands before the entries of a bundle, behind the last ordinal of those before it
+-- what stands before the entries of a bundle, after the last ordinal of those before it
 abbrev pub head_at : ℕ → ℕ → Cursor → Read (Option Head)
 head_at objects last c = do
   count ← number 1 c
-  if count.0 == 0 then Ok (None, count.1) else if nat_lt LAST_ORDINAL (last + count.0) then Err (fault EntryTable c.at) else do
+  if count.0 == 0 then Ok (None, count.1) else if nat_lt MAX_ORDINAL (last + count.0) then Err (fault EntryTable c.at) else do
     type ← number 1 count.1
     form ← form_at type.0 objects c.at type.1
     Ok (Some (record { count = count.0; form = form.0 }), form.1)
 
--- entries behind those that stand there already
+-- entries after those that stand there already
 abbrev pub onto : List Numbered → Read (List Numbered) → Read (List Numbered)
 onto before read = read >>= λ es. Ok (before ++ es.0, es.1)
 

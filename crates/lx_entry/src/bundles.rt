@@ -9,11 +9,9 @@ ghost use Rattle.lx_entry.specs.Bundles.{entry_at, object_at, form_at, head_at, 
 
 use crate::refusal::TableRefusal;
 use lx_fields::Fields;
+use lx_model::MAX_ORDINAL;
 use lx_types::{EntryHead, Fail, FwdKey, Seq};
 use std::alloc::Global;
-
-/// The greatest ordinal.
-const LAST_ORDINAL: u32 = 65_535;
 
 /// Entries, each with its ordinal.
 pub type Entries = Seq<(u32, EntryHead)>;
@@ -173,19 +171,19 @@ fn form_of(
     }
 }
 
-// What stands before the entries of the next bundle, behind the ordinal `last`. There is nothing
+// What stands before the entries of the next bundle, after the ordinal `last`. There is nothing
 // at the table's end.
 fn head_of(fields: &mut Fields, objects: u32, last: u32) -> Result<Option<Head>, TableRefusal>
     ensures read { Reads (λ head. head) (told_as (refusal kinds.EntryTable)) result (head_at objects last)
         fields.old fields.new }
-    ensures room { IfOk result (λ head. IfSome head (λ h. last + h.count ≤ 65535)) }
+    ensures room { IfOk result (λ head. IfSome head (λ h. last + h.count ≤ MAX_ORDINAL)) }
 {
     let at = fields.at();
     let count = fields.byte()?;
     if count == 0 {
         return Ok(None);
     }
-    if u32::from(count) > LAST_ORDINAL.saturating_sub(last) {
+    if u32::from(count) > MAX_ORDINAL.saturating_sub(last) {
         return Err(TableRefusal { at, short: false });
     }
     let kind = fields.byte()?;
@@ -193,7 +191,7 @@ fn head_of(fields: &mut Fields, objects: u32, last: u32) -> Result<Option<Head>,
     Ok(Some(Head { count, form }))
 }
 
-// Adds the entries of the next bundle, behind the ordinal `last`, and tells its last ordinal. At
+// Adds the entries of the next bundle, after the ordinal `last`, and tells its last ordinal. At
 // the table's end there is none.
 fn add_bundle(
     fields: &mut Fields,

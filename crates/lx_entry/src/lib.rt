@@ -1,5 +1,5 @@
-//! The readers of the entry table and of the tables of names of an LX module ("LX - Linear
-//! eXecutable Module Format", "Entry Table", "Import Module Name Table").
+//! The readers of the entry table and of the tables of names of an LX module ("32-bit Linear
+//! eXecutable Module Format": "Entry Table", "Import Module Name Table").
 #![tactic(auto)]
 
 mod bundles;

@@ -45,7 +45,7 @@ fn name_entry(alloc: Global, fields: &mut Fields) -> Result<Option<(Name, u32)>,
 
 /// The names of a name table, each with its ordinal, from the bytes at the table's place up to the
 /// end of what it may take: the file's end, or that of the non-resident table's length. A length
-/// of 0 ends the table; what stands behind it is not looked at.
+/// of 0 ends the table; what stands after it is not looked at.
 ///
 /// A refusal is always `short`: a length byte, a text or an ordinal passes the end.
 pub fn read_names(alloc: Global, bytes: &[u8]) -> Result<NameTable, Fail<TableRefusal>>

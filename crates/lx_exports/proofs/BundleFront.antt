@@ -7,7 +7,8 @@ use Rattle.std.proofs.lemmas.Bool.{eqb-true}
 use Rattle.lx_bytes.specs.LittleEndian.{little_bytes}
 use Rattle.lx_model.specs.Bundles.{AtEntry, GateEntry, ForwardEntry, Bundle, bundle_spelling, at_spelling, forward_spelling}
 use Rattle.lx_model.specs.ExportTables as tables
-use Rattle.lx_model.specs.ExportTables.{empty, narrow_at, gate_at, wide_at, forwarder, MOST_ENTRIES}
+use Rattle.lx_model.specs.ExportTables.{empty, narrow_at, gate_at, wide_at, forwarder}
+use Rattle.lx_model.specs.declared.limits.TheConstants.{MAX_ENTRIES}
 use Rattle.lx_model.specs.JoinedEntries.{joins, Run, before_runs, runs_of, parts_from, parts_of, at_in, forwarder_in, bundle_of}
 use Rattle.lx_model.proofs.JoinedBundles.{joins_as}
 use Rattle.lx_exports.specs.declared.slots.Slot.{Slot}
@@ -72,8 +73,8 @@ enough (suc n) m [] a b = sym (no_parts m)
 enough (suc n) zero (s ∷ ss) a b = absurd (omega (arith, b))
 enough (suc n) (suc m) (s ∷ ss) a b =
     let whole = s ∷ ss in
-    ap (λ (ps : List (List tables.Slot)). take MOST_ENTRIES whole ∷ ps)
-    (enough n m (drop MOST_ENTRIES whole) (omega (arith, a, length-drop MOST_ENTRIES whole)) (omega (arith, b, length-drop MOST_ENTRIES whole)))
+    ap (λ (ps : List (List tables.Slot)). take MAX_ENTRIES whole ∷ ps)
+    (enough n m (drop MAX_ENTRIES whole) (omega (arith, a, length-drop MAX_ENTRIES whole)) (omega (arith, b, length-drop MAX_ENTRIES whole)))
 
 cut_off : {A : Type 0} (n : ℕ) (xs ys : List A) → length xs ≡ n → (take n (xs ++ ys) ≡ xs) × (drop n (xs ++ ys) ≡ ys)
 cut_off zero [] ys is = (refl, refl)
@@ -117,7 +118,7 @@ begun_by s front r rs true is short full =
     ap (λ (ps : List (List tables.Slot)). map (bundle_of s) ps ++ bundles_in rs) (parts_full s front r.first r.others (full refl))
     ∙ ap (λ (bs : List Bundle). bundle_of s (s ∷ front) ∷ bs ++ bundles_in rs) (same_bundles s r.first is (parts_of of_r))
 
--- what stands behind a bundle: it does not join, unless the bundle is full
+-- what stands after a bundle: it does not join, unless the bundle is full
 abbrev pub Stops : tables.Slot → ℕ → List tables.Slot → Type 0
 Stops s len [] = Unit {0}
 Stops s len (t ∷ ts) = len < 255 → joins s t ≡ false

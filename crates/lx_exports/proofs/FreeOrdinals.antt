@@ -52,7 +52,7 @@ one_mark marks numbers i n there is fits are =
       each = marked_more marks (take i numbers) n are fits;
     })
 
--- The numbers from a place on: the first of them is wrong, or one behind it.
+-- The numbers from a place on: the first of them is wrong, or one after it.
 pub wrong_from : (numbers : List ℕ) (i n : ℕ) → i < length numbers → n ≡ get_or numbers i 0 →
     wrong_among numbers i (drop i numbers) ≡ cond ((n == 0) || list_any (λ g. g == n) (take i numbers)) (Some (i, n)) (wrong_among numbers (i + 1) (drop (i + 1) numbers))
 wrong_from numbers i n there is =

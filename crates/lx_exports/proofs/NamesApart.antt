@@ -7,7 +7,7 @@ use Rattle.std.specs.Cmp.Lexicographic.{nat_list_eq_equiv}
 use Rattle.std.proofs.lemmas.List.{map-append}
 use Rattle.std.proofs.Math.Seq.{drop-cons}
 use Rattle.std.proofs.Math.ListN.{get_or}
-use Rattle.first_table.specs.Entries.{is_named, value_named, with_entry}
+use Rattle.name_table.specs.Entries.{is_named, value_named, with_entry}
 use Rattle.link_model.specs.Words.{first_conflict}
 use Rattle.lx_exports.specs.declared.exports.OutEntry.{OutEntry}
 use Rattle.lx_exports.specs.Exports.{names_of}

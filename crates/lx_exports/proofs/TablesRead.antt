@@ -14,7 +14,8 @@ use Rattle.lx_types.specs.declared.entry.FwdKey.{FwdKey}
 use Rattle.lx_types.specs.declared.entry.FwdKey.TheVariants.{Ordinal, NameAt}
 use Rattle.lx_model.specs.NameTables.{Named, names_in, names_spelling, NameFits}
 use Rattle.lx_model.specs.Bundles.{Bundle, unused, narrow, gates, wide, forwarders, ordinal_count, AtFits, GateFits, ForwardFits, ObjectFits, BodyFits, BundleFits, table_spelling}
-use Rattle.lx_model.specs.EntryTable.{LAST_ORDINAL, entries_in}
+use Rattle.lx_model.specs.EntryTable.{entries_in}
+use Rattle.lx_model.specs.declared.limits.TheConstants.{MAX_ORDINAL}
 use Rattle.lx_model.specs.ExportTables.{Exported, Slot, empty, narrow_at, gate_at, wide_at, forwarder, named, described, resident_table, other_table, forward_slot, head_slot, slot_of, slot_or_empty, export_at, slots, slots_of, greatest, entries_by_ordinal, AreBundlesOf, entry_flags}
 use Rattle.lx_model.specs.JoinedEntries.{bundles_for}
 use Rattle.lx_model.proofs.NamesRead.{table_reads}
@@ -160,7 +161,7 @@ bundles_fit objects imports (b ∷ bs) some most fit = (
   bundles_fit objects imports bs some.1 most.1 (all_back (SlotFits objects imports) (slots_of b) (flat_map slots_of bs) fit),
 )
 
-greatest_fits : (objects imports : ℕ) (ys : List Exported) → Each (Known objects imports) ys → greatest ys ≤ LAST_ORDINAL
+greatest_fits : (objects imports : ℕ) (ys : List Exported) → Each (Known objects imports) ys → greatest ys ≤ MAX_ORDINAL
 greatest_fits objects imports [] known = omega arith
 greatest_fits objects imports (y ∷ ys) known = omega (arith, known.0.ordinal, greatest_fits objects imports ys known.1)
 

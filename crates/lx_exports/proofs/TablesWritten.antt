@@ -40,7 +40,7 @@ behind_first found last xs is = dropped found ∙ ap (drop 1) (is ∙ ap (λ (n 
 pub sliced : (ss : List Slot) → take (length ss - 1) (drop 1 ss) ≡ drop 1 ss
 sliced ss = take_all (length ss - 1) (drop 1 ss) (omega (arith, length-drop 1 ss))
 
--- The entry table of the slots behind the first, which is no ordinal's.
+-- The entry table of the slots after the first, which is no ordinal's.
 pub entries_are : (xs : List OutEntry) (found : List Slot) → map shown found ≡ slots_to (greatest_of (ordinals (asked xs))) (with_ordinals xs (ordinals (asked xs))) →
     table_spelling (bundles_of (map shown (drop 1 found))) ≡ table_spelling (bundles_for (with_ordinals xs (ordinals (asked xs))))
 unfolding bundles_for

@@ -1,5 +1,5 @@
 -- The exports of a module with their ordinals, and what a linker asks of them.
--- LX: "Entry Table", "Resident or Non-resident Name Table Entry".
+-- "32-bit Linear eXecutable Module Format": "Entry Table", "Resident or Non-resident Name Table Entry".
 use Rattle.std.specs.Prelude.{◌≡◌, ℕ, ◌<◌, ◌≤◌, Bool, true, IsTrue, List, [], ◌∷◌, map, length, Option}
 use Rattle.std.specs.List.{zip, AllByRecursion}
 use Rattle.std.specs.Option.{option_map_or}

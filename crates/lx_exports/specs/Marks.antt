@@ -10,7 +10,7 @@ pub record AreMarksOf (marks : List Bool) (numbers : List ℕ) : Type 0 where
   pub all : length marks ≡ 65536
   pub each : (n : ℕ) → n < 65536 → slice_index_or marks n false ≡ list_any (λ g. g == n) numbers
 
--- The first number, of those behind so many, that is 0 or stands before itself in the whole list.
+-- The first number, of those after so many, that is 0 or stands before itself in the whole list.
 abbrev pub wrong_among : List ℕ → ℕ → List ℕ → Option (ℕ × ℕ)
 wrong_among whole from numbers = find (λ q. q.1 == 0 || list_any (λ g. g == q.1) (take q.0 whole)) (enumerate_from from numbers)
 

@@ -8,11 +8,9 @@ ghost use Rattle.lx_model.specs.JoinedEntries.{joins};
 ghost use Rattle.lx_exports.specs.Slots.{shown, bundles_of, BeginBundle, entry_bytes, head_bytes};
 
 use crate::slots::Slot;
+use lx_model::MAX_ENTRIES;
 use lx_types::NoMemory;
 use std::alloc::{AllocError, Global};
-
-// The most entries of a bundle.
-const MOST_ENTRIES: usize = 255;
 
 // Whether two slots may stand in one bundle.
 fn joins(one: Slot, other: Slot) -> bool
@@ -34,7 +32,7 @@ fn joined_len(slots: &[Slot]) -> usize
 {
     let first = slots[0];
     let mut len = 1;
-    while len < slots.len() && len < MOST_ENTRIES && joins(first, slots[len]) {
+    while len < slots.len() && len < MAX_ENTRIES && joins(first, slots[len]) {
         len += 1;
     }
     len

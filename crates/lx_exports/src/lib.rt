@@ -1,5 +1,5 @@
 //! The exports of an LX module as a linker writes them: their ordinals, the tables of names and the
-//! entry table ("LX - Linear eXecutable Module Format", "Entry Table", "Resident or Non-resident
+//! entry table ("32-bit Linear eXecutable Module Format": "Entry Table", "Resident or Non-resident
 //! Name Table Entry").
 #![tactic(auto)]
 

@@ -12,9 +12,9 @@ ghost use Rattle.std.specs.Bool.{beq};
 ghost use Rattle.lx_exports.specs.Exports.{names_of, is_resident, with_ordinals};
 
 use crate::exports::OutEntry;
-use first_table::NameTable;
 use link_model::EntryRefusal;
 use lx_types::{Fail, Name, NoMemory};
+use name_table::NameTable;
 use std::alloc::{AllocError, Global};
 
 /// That no two exports have one name.

@@ -84,7 +84,7 @@ fn free_from(marks: &[bool], from: usize) -> Option<usize>
 }
 
 // The ordinal of an export that asks for this one or for none. The free numbers below `from` are
-// taken; behind a free one `from` stands after it. None where no free one is left.
+// taken; where a free one is found, `from` stands after it. None where no free one is left.
 fn take_ordinal(marks: &[bool], asked_for: Option<u16>, from: &mut usize) -> Option<u16>
     requires all { length marks.now ≡ 65536 }
     ensures { TakesOrdinal marks.now asked_for from.old from.new result }

@@ -1,5 +1,5 @@
-//! The numbers of an LX module: a cursor over fields that stand one behind the other, numbers at places of a
-//! file, and the header's fields of a file that was read ("LX - Linear eXecutable Module Format").
+//! The numbers of an LX module: a cursor over fields that stand one after the other, numbers at places of a
+//! file, and the header's fields of a file that was read ("32-bit Linear eXecutable Module Format").
 #![tactic(auto)]
 
 mod fields;

@@ -5,6 +5,8 @@ ghost use Rattle.std.specs.Prelude.{◌≡◌, ◌+◌, ◌<◌, ◌^◌, length
 ghost use Rattle.lx_model.specs.Reading.{number_at};
 ghost use Rattle.lx_model.specs.Header.{header_place, field, table};
 
+use lx_model::header_fields::{HEADER_PLACE, LX_SIGNATURE};
+
 // The byte at a place, and 0 past the end.
 fn byte_at(file: &[u8], at: usize) -> u8
     ensures { result ≡ slice_index file.now at }
@@ -36,25 +38,23 @@ pub fn doubleword_at(file: &[u8], at: usize) -> u32
 fn place_of_header(file: &[u8]) -> u32
     ensures { result ≡ header_place file.now }
 {
-    if word_at(file, 0) == 0x584C {
+    if word_at(file, 0) == LX_SIGNATURE {
         0
     } else {
-        doubleword_at(file, 0x3C)
+        doubleword_at(file, HEADER_PLACE)
     }
 }
 
 /// A field of the header, by its offset there.
 #[tactic(auto, unfolding(lx_model::specs::Header::field))]
-pub fn header_field(file: &[u8], offset: usize) -> u32
-    requires { offset < 2 ^ 32 }
+pub fn header_field(file: &[u8], offset: u8) -> u32
     ensures { result ≡ field file.now offset }
 {
-    doubleword_at(file, place_of_header(file) as usize + offset)
+    doubleword_at(file, place_of_header(file) as usize + usize::from(offset))
 }
 
 /// Where a table stands whose offset from the header is in a field.
-pub fn table_place(file: &[u8], offset: usize) -> u64
-    requires { offset < 2 ^ 32 }
+pub fn table_place(file: &[u8], offset: u8) -> u64
     ensures place { result ≡ table file.now offset }
     ensures small { result < 2 ^ 33 }
 {

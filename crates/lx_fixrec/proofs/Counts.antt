@@ -86,14 +86,14 @@ module _ (p : Fix → Bool) (s : List Fix) where
 
 -- ---- one source more
 
--- a place in a list goes on by one, and a new record begins behind 255 sources
+-- a place in a list goes on by one, and a new record begins after 255 sources
 pub goes_on : (a b : ℕ) → b ≡ a % 255 → b + 1 < 255 → b + 1 ≡ (a + 1) % 255
 goes_on a b is lt = let small : (b + 1) % 255 ≡ b + 1 = omega arith in sym small ∙ ap (λ n. (n + 1) % 255) is ∙ mod-add-mod a 255 1
 
 pub begins_anew : (a b : ℕ) → b ≡ a % 255 → 255 ≤ b + 1 → 0 ≡ (a + 1) % 255
 begins_anew a b is le = let full : b + 1 ≡ 255 = omega arith in sym (ap (λ n. n % 255) full) ∙ ap (λ n. (n + 1) % 255) is ∙ mod-add-mod a 255 1
 
--- what a call does to the counts: the next source has the count behind that of this one, and the others stay
+-- what a call does to the counts: the next source has the count after that of this one, and the others stay
 pub record Counts (place next : ℕ) (old new : List ℕ) : Type 0 where
   pub many : length new ≡ length old
   pub others : (i : ℕ) → i ≢ next → slice_index new i ≡ slice_index old i

@@ -31,7 +31,7 @@ module _ {X : Type 0} (p : X → Bool) where
   pub without : (before after : List X) (x : X) → p x ≡ false → filter p (before ++ x ∷ after) ≡ filter p (before ++ after)
   without before after x is = filter-append p before (x ∷ after) ∙ ap (λ (ys : List X). filter p before ++ ys) (dropped x after is) ∙ sym (filter-append p before after)
 
-  -- the first item that passes, those before it, and those behind it
+  -- the first item that passes, those before it, and those after it
   pub record Parted (xs : List X) (x : X) (others : List X) : Type 0 where
     pub before : List X
     pub after : List X

@@ -5,7 +5,8 @@ use Rattle.lx_types.specs.declared.fix.Source.{Source}
 use Rattle.lx_types.specs.declared.fix.Source.TheVariants.{Byte, Sel, Far16, Off16, Far32, Off32, Self32}
 use Rattle.lx_types.specs.declared.fix.FixTarget.{FixTarget}
 use Rattle.lx_types.specs.declared.fix.FixTarget.TheVariants.{Internal, Ordinal, Named, Own}
-use Rattle.lx_model.specs.RecordFields.{ADDITIVE, WIDE_TARGET, WIDE_ADDITIVE, WIDE_NUMBER, BYTE_ORDINAL, has, number_width, target_width, ordinal_width, additive_width}
+use Rattle.lx_model.specs.RecordFields.{has, number_width, target_width, ordinal_width, additive_width}
+use Rattle.lx_model.specs.declared.record_fields.TheConstants.{ADDITIVE, WIDE_TARGET, WIDE_ADDITIVE, WIDE_NUMBER, BYTE_ORDINAL}
 use Rattle.lx_model.specs.RecordSpelling.{Sizes, target_code, flags_of, InternalFits, TargetFits}
 use Rattle.lx_model.specs.JoinedRecords.{passes, shortest}
 use Rattle.lx_model.proofs.RecordsRead.{left_true, right_true, same, same_true}

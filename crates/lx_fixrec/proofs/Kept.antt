@@ -59,7 +59,7 @@ lists_join earlier (f ∷ fs) = by (begins earlier f) (lists_join (earlier ++ f 
 pub written_are : (earlier fs : List Fix) → flat_map fixes_written (map record_of (listed_behind earlier fs)) ≡ all_listed earlier fs
 written_are earlier fs = all_written (listed_behind earlier fs) (lists_join earlier fs)
 
--- the sources of the lists that begin behind others, by the first one
+-- the sources of the lists that begin after others, by the first one
 all_more : (earlier : List Fix) (f : Fix) (fs : List Fix) → all_listed earlier (f ∷ fs) ≡ cond (begins earlier f) (f ∷ (take 254 (filter (joins f) fs) ++ all_listed (earlier ++ f ∷ []) fs)) (all_listed (earlier ++ f ∷ []) fs)
 all_more earlier f fs = by (begins earlier f)
   where

@@ -1,4 +1,4 @@
--- The next source of a list, from the first ones of those behind a source.
+-- The next source of a list, from the first ones of those after a source.
 use Rattle.std.proofs.Common.{◌≡◌, ℕ, ◌+◌, ◌-◌, ◌<◌, ◌≤◌, ◌⊎◌, inl, inr, Bool, true, false, ◌&&◌, not, List, [], ◌∷◌, length, drop, get_or, set, slice_index, get_or-set_same, get_or-set_other, Option, None, Some, slice_get, unwrap_or, refl, sym, subst, ap, ◌∙◌, arith}
 use Rattle.std.specs.Prelude.{filter}
 use Rattle.std.proofs.lemmas.Bool.{cases_eq}
@@ -23,7 +23,7 @@ crossing_at s i d f b at is = ap crosses (sym (get_or_from_slice_get s i f d at)
 
 -- ---- the next source
 
--- behind all sources there is none
+-- after all sources there is none
 at_end : (s : List Fix) (p : Fix → Bool) (all : List Fix) → filter p all ≡ [] → LeadsTo p all (drop (length s) s)
 at_end s p all none = subst (LeadsTo p all) (sym (drop_all (length s) s (omega arith))) (record { same = none; head = tt })
 
@@ -79,7 +79,7 @@ firsts_put s place f shared old new before at within is given h k = by (same_sha
         subst (IsFirst s (is_with k) place) (sym (puts.others k (shared_turned k (shared_of f) false e)))
         (skipped s (is_with k) place f (first_in old k) (front s place f at) (ap (λ (b : Bool). b && not (crosses f)) e) (h k))
 
--- behind all sources there are none
+-- after all sources there are none
 pub no_firsts : (s : List Fix) (firsts : Firsts) → ((k : Shared) → first_in firsts k ≡ None) → AreFirsts s (length s) firsts
 no_firsts s firsts none k = subst (IsFirst s (is_with k) (length s)) (sym (none k)) (ap (filter (is_with k)) (drop_all (length s) s (omega arith)))
 

@@ -62,7 +62,7 @@ abbrev pub Rising : List Fix → Type 0
 Rising [] = Unit {0}
 Rising (f ∷ fs) = Each (Below f) fs × Rising fs
 
--- the members behind the first ones
+-- the members after the first ones
 rest_has : (y : Fix) (ys xs : List Fix) → Each (Below y) xs → Each (Has (y ∷ ys)) xs → Each (Has ys) xs
 rest_has y ys [] below has = tt
 rest_has y ys (x ∷ xs) below has = (by has.0, rest_has y ys xs below.1 has.1)

@@ -1,5 +1,5 @@
 -- The bytes of a source, counted from the sixth byte before the page.
--- LX: "Fixup Record Table", the field SRCOFF.
+-- "32-bit Linear eXecutable Module Format": "Fixup Record Table", the field SRCOFF.
 use Rattle.std.specs.Prelude.{ℕ, ◌+◌, ◌-◌, ◌&&◌, Bool, nat_le, nat_lt, ℤ, pos, negsuc}
 
 -- A source begins up to 5 bytes before its page, and has up to 6 bytes.

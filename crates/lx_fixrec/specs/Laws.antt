@@ -1,5 +1,5 @@
 -- What is read of the records of a page.
--- LX: "Fixup Record Table".
+-- "32-bit Linear eXecutable Module Format": "Fixup Record Table".
 use Rattle.std.specs.Prelude.{◌≡◌, List, map, None}
 use Rattle.std.specs.List.{flat_map}
 use Rattle.std.specs.List.Sorted.{IsPermutation}

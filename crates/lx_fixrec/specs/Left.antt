@@ -21,7 +21,7 @@ abbrev pub sources_of : model.Record → List Placed
 sources_of r = map (λ f. (r.at, f)) r.fixes
 
 -- What is left: the place of the record that gave the last source, the sources that come, and the refusal
--- behind them.
+-- after them.
 pub record Left : Type 0 where
   pub at : ℕ
   pub items : List Placed
@@ -37,17 +37,17 @@ left_in at bytes = left_behind at [] (records_at at bytes)
 abbrev pub sources_left : ℕ → Option Record → List Placed
 sources_left at current = map (λ f. (at, f)) (fixes_left current)
 
--- what a reader has left: of the record that it gives, and of the bytes behind it
+-- what a reader has left: of the record that it gives, and of the bytes after it
 abbrev pub left_of : ℕ → Option Record → Cursor → Left
 left_of at current c = left_behind at (sources_left at current) (many next_record tt c)
 
--- A call that gives the next source, or the refusal behind the last one.
+-- A call that gives the next source, or the refusal after the last one.
 abbrev pub GivesNext : Option (Result Fix RecRefusal) → Left → Left → Type 0
 GivesNext (Some (Ok f)) old new = (old.items ≡ (new.at, f) ∷ new.items) × (new.end ≡ old.end)
 GivesNext (Some (Err r)) old new = (old.items ≡ []) × (old.end ≡ Some (refusal r)) × (new ≡ record { at = old.at; items = []; end = None })
 GivesNext None old new = (old.items ≡ []) × (old.end ≡ None) × (new ≡ old)
 
--- the sources behind a cursor, and their end
+-- the sources after a cursor, and their end
 abbrev pub behind : Cursor → Many model.Record
 behind c = many next_record tt c
 

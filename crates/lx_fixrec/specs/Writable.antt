@@ -1,5 +1,5 @@
 -- Which fixups can be written as the records of a page.
--- LX: "Fixup Record Table".
+-- "32-bit Linear eXecutable Module Format": "Fixup Record Table".
 use Rattle.std.specs.Prelude.{◌≡◌, ℕ, ◌<◌, ◌^◌, ◌⊎◌, List, All, AllPairs, pos, ◌+ℤ◌, ◌≤ℤ◌}
 use Rattle.lx_types.specs.declared.fix.Source.{Source}
 use Rattle.lx_types.specs.declared.fix.Source.TheVariants.{Sel}

@@ -9,17 +9,8 @@ ghost use Rattle.lx_fixrec.specs.Reads.{refusal, ordinal_at, named_at, own_at};
 use crate::refusal::RecRefusal;
 use crate::sources::source_size;
 use lx_fields::Fields;
+use lx_model::{ADDITIVE, BYTE_ORDINAL, WIDE_ADDITIVE, WIDE_NUMBER, WIDE_TARGET};
 use lx_types::{FixTarget, PAGE_SIZE, Source};
-
-pub const ADDITIVE: u8 = 0x04;
-
-pub const WIDE_TARGET: u8 = 0x10;
-
-pub const WIDE_ADDITIVE: u8 = 0x20;
-
-pub const WIDE_NUMBER: u8 = 0x40;
-
-pub const BYTE_ORDINAL: u8 = 0x80;
 
 // ---- numbers
 

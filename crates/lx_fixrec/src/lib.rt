@@ -1,4 +1,4 @@
-//! Fixup records of an LX module ("LX - Linear eXecutable Module Format", "Fixup Record Table").
+//! Fixup records of an LX module ("32-bit Linear eXecutable Module Format": "Fixup Record Table").
 #![tactic(auto)]
 
 mod fields;
@@ -20,5 +20,6 @@ pub use laws::records_keep_fixes;
 pub use page::encode_page;
 pub use reader::Records;
 pub use refusal::RecRefusal;
+pub use sources::source_size;
 pub use start::records;
 pub use writable::may_be_written;

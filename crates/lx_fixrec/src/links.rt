@@ -5,13 +5,11 @@ ghost use Rattle.lx_types.specs.declared.fix.Fix.{Fix};
 ghost use Rattle.lx_fixrec.specs.Links.{IsNext, AreLinks, AreFirsts, AreCounted};
 
 use crate::lists::{Firsts, crosses, shared_of};
+use lx_model::MAX_LISTED;
 use lx_types::{Fix, NoMemory};
 use std::alloc::Global;
 
-/// The most sources of a list.
-pub const MOST_LISTED: usize = 255;
-
-// The place of the next source of a source's list, or the number of sources. The first ones are those behind the source,
+// The place of the next source of a source's list, or the number of sources. The first ones are those after the source,
 // which is put before them.
 fn next_of(sources: &[Fix], place: usize, firsts: &mut Firsts) -> Result<usize, NoMemory>
     requires place { place < length sources.now }
@@ -42,12 +40,12 @@ pub fn links_of(alloc: Global, sources: &[Fix]) -> Result<Vec<usize>, NoMemory>
     Ok(links)
 }
 
-// The place in a record behind a place.
+// The place in a record after a place.
 #[tactic(auto, using(crate::proofs::Counts::goes_on, crate::proofs::Counts::begins_anew))]
 fn place_behind(place: u8) -> u8
     ensures { (a : ℕ) → place ≡ a % 255 → result ≡ (a + 1) % 255 }
 {
-    if usize::from(place) + 1 < MOST_LISTED {
+    if usize::from(place) + 1 < MAX_LISTED {
         place + 1
     } else {
         0

@@ -32,7 +32,7 @@ pub fn shared_of(fix: &Fix) -> Shared
     }
 }
 
-/// Whether a source begins before its page or ends behind it.
+/// Whether a source begins before its page or ends past it.
 pub fn crosses(fix: &Fix) -> bool
     ensures { result ≡ crosses fix.now }
 {

@@ -98,7 +98,7 @@ impl<'a> Iterator for Records<'a> {
                 None
             }
             Err(refusal) => {
-                // Nothing is read behind a refusal.
+                // Nothing is read after a refusal.
                 self.fields = Fields::of(&[]);
                 self.current = None;
                 Some(Err(refusal))

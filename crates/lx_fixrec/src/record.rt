@@ -12,10 +12,8 @@ use crate::fields::{additive, offset, target};
 use crate::refusal::RecRefusal;
 use crate::sources::{Kind, kind_of};
 use lx_fields::Fields;
+use lx_model::CHAIN;
 use lx_types::{Fix, FixTarget, Source};
-
-/// A flag: the record begins a chain of fixups in the page image.
-const CHAIN: u8 = 0x08;
 
 /// A record whose spelling was found good: what its sources share, and the offsets of those that
 /// were not given yet.

@@ -4,11 +4,8 @@ ghost use Rattle.std.specs.Prelude.{◌≡◌, ◌%◌, option_map};
 ghost use Rattle.lx_model.specs.Sources.{source_size, code_of, has_selector, source_of_code, source_of_byte, source_byte};
 ghost use Rattle.lx_fixrec.specs.Reads.{kind_of};
 
+use lx_model::{ALIAS, LISTED};
 use lx_types::Source;
-
-const ALIAS: u8 = 0x10;
-
-const LISTED: u8 = 0x20;
 
 /// What a source byte says: the source, whether its selector is that of the alias, and whether
 /// offsets are listed.

@@ -10,7 +10,7 @@ ghost use Rattle.lx_model.specs.JoinedRecords.{sizes_with};
 ghost use Rattle.lx_fixrec.specs.Reads.{kind_of};
 ghost use Rattle.lx_fixrec.specs.Writes.{shortest_flags};
 
-use crate::fields::{ADDITIVE, BYTE_ORDINAL, WIDE_ADDITIVE, WIDE_NUMBER, WIDE_TARGET};
+use lx_model::{ADDITIVE, BYTE_ORDINAL, WIDE_ADDITIVE, WIDE_NUMBER, WIDE_TARGET};
 use lx_types::{FixTarget, NoMemory, Source};
 
 // ---- numbers
@@ -143,7 +143,7 @@ pub fn push_offset(out: &mut Vec<u8>, source: Source, offset: i32) -> Result<(),
     Ok(())
 }
 
-/// Adds the offsets of sources, one behind the other.
+/// Adds the offsets of sources, one after the other.
 pub fn push_offsets(out: &mut Vec<u8>, source: Source, offsets: &[i32]) -> Result<(), NoMemory>
     requires { All (OffsetFits source) offsets.now }
     ensures { IfOk result (λ _. out.new.items ≡ out.old.items ++ flat_map offset_spelling offsets.now) }

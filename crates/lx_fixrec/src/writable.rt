@@ -10,7 +10,7 @@ use crate::sources::{has_selector, source_size};
 use lx_types::{Fix, FixTarget, PAGE_SIZE, Source};
 
 /// How many bytes the sources of a page may have: they begin up to 5 bytes before it and end up to
-/// 5 bytes behind it.
+/// 5 bytes after it.
 const ROOM: usize = PAGE_SIZE as usize + 10;
 
 // Whether a source at an offset has a byte in the page.

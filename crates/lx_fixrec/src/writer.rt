@@ -7,9 +7,9 @@ ghost use Rattle.lx_fixrec.specs.Writable.{IsWritable};
 ghost use Rattle.lx_fixrec.specs.Writes.{shortest_flags, record_with};
 ghost use Rattle.lx_fixrec.specs.Links.{AreLinks, listed_offsets};
 
-use crate::links::MOST_LISTED;
 use crate::sources::source_byte;
 use crate::spelling::{flags_of, push_additive, push_offset, push_offsets, push_target};
+use lx_model::MAX_LISTED;
 use lx_types::{Fix, NoMemory};
 
 // The target and the additive.
@@ -67,7 +67,7 @@ pub fn push_record(out: &mut Vec<u8>, first: &Fix, others: &[i32]) -> Result<(),
     }
 }
 
-// Gathers the offsets that the record of a source lists behind it.
+// Gathers the offsets that the record of a source lists after it.
 fn gather(
     offsets: &mut Vec<i32>,
     sources: &[Fix],
@@ -80,7 +80,7 @@ fn gather(
 {
     offsets.clear();
     let mut next = links[place];
-    'listed: while next < sources.len() && offsets.len() + 1 < MOST_LISTED {
+    'listed: while next < sources.len() && offsets.len() + 1 < MAX_LISTED {
         offsets.push(sources[next].offset)?;
         next = links[next];
     }

@@ -5,6 +5,7 @@ use Rattle.std.proofs.lemmas.List.{drop_all}
 use borrow.Author.Tests.{ltb-false}
 use Rattle.lx_types.specs.declared.refusal.LxRefusal.{LxRefusal}
 use Rattle.lx_types.specs.declared.refusal.LxKind.TheVariants.{Field as WrongField, Short}
+use Rattle.lx_model.specs.declared.header_fields.TheConstants.{HEAP_SIZE}
 use Rattle.lx_model.specs.Reading.{first, fault}
 use Rattle.lx_model.specs.Header.{Row, row, row_fault, rows}
 use Rattle.lx_head.specs.declared.rows.Field.{Field}
@@ -51,14 +52,14 @@ last_good f [] last none = (none_behind (f last) [] none).0
 last_good f (r ∷ front) last none = last_good f front last (none_behind (f r) (map f (front ++ last ∷ [])) none).1
 
 abbrev heap : Row
-heap = row 0xA8 4 (λ _. true) WrongField
+heap = row HEAP_SIZE 4 (λ _. true) WrongField
 
 room_of : (file : List ℕ) (place : ℕ) → row_fault file place heap ≡ None → place + 172 ≤ length file
-room_of file place none = by_end (ltb (length file) (place + 0xA8 + 4)) refl none
+room_of file place none = by_end (ltb (length file) (place + HEAP_SIZE + 4)) refl none
   where
-    by_end : (b : Bool) → ltb (length file) (place + 0xA8 + 4) ≡ b → cond b (Some (fault Short (place + 0xA8))) None ≡ None → place + 172 ≤ length file
+    by_end : (b : Bool) → ltb (length file) (place + HEAP_SIZE + 4) ≡ b → cond b (Some (fault Short (place + HEAP_SIZE))) None ≡ None → place + 172 ≤ length file
     by_end true e is = absurd cc
-    by_end false e is = let long = ltb-false (length file) (place + 0xA8 + 4) e in omega (arith, long)
+    by_end false e is = let long = ltb-false (length file) (place + HEAP_SIZE + 4) e in omega (arith, long)
 
 pub room : (file : List ℕ) (place : ℕ) → fields_fault file place ≡ None → place + 172 ≤ length file
 unfolding fields_fault

@@ -4,6 +4,7 @@ use Rattle.std.proofs.lemmas.List.{get_or-drop}
 use Rattle.std.proofs.lemmas.Bool.Decides.{nat_tests}
 use Rattle.lx_bytes.specs.LittleEndian.{little}
 use Rattle.lx_types.specs.declared.refusal.LxKind.TheVariants.{Signature}
+use Rattle.lx_model.specs.declared.header_fields.TheConstants.{LX_SIGNATURE, HEADER_PLACE}
 use Rattle.lx_model.specs.Reading.{fault, number_at}
 use Rattle.lx_model.specs.Header.{is_lx_at, header_place, place_fault, header_fault}
 use Rattle.lx_types.specs.declared.refusal.LxRefusal.{LxRefusal}
@@ -16,28 +17,28 @@ pub place_first : (file : List ℕ) → is_lx_at file 0 ≡ true → header_plac
 unfolding header_place
 place_first file is = rw is refl
 
-pub place_told : (file : List ℕ) → is_lx_at file 0 ≡ false → header_place file ≡ number_at 4 file 0x3C
+pub place_told : (file : List ℕ) → is_lx_at file 0 ≡ false → header_place file ≡ number_at 4 file HEADER_PLACE
 unfolding header_place
 place_told file is = rw is refl
 
-pub no_signature : (file : List ℕ) (place : ℕ) → is_lx_at file 0 ≡ false → 0x3C + 4 ≤ length file → place ≡ number_at 4 file 0x3C → is_lx_at file place ≡ false → place_fault file ≡ Some (fault Signature place)
+pub no_signature : (file : List ℕ) (place : ℕ) → is_lx_at file 0 ≡ false → HEADER_PLACE + 4 ≤ length file → place ≡ number_at 4 file HEADER_PLACE → is_lx_at file place ≡ false → place_fault file ≡ Some (fault Signature place)
 no_signature file place is long told other =
     let at : header_place file ≡ place = place_told file is ∙ sym told in
-    let room : ltb (length file) 0x40 ≡ false = grind (arith, nat_tests) in
+    let room : ltb (length file) (HEADER_PLACE + 4) ≡ false = grind (arith, nat_tests) in
     rw (is, room, at, other) refl
 
-pub found : (file : List ℕ) (place : ℕ) → is_lx_at file 0 ≡ false → 0x3C + 4 ≤ length file → place ≡ number_at 4 file 0x3C → is_lx_at file place ≡ true → place_fault file ≡ None
+pub found : (file : List ℕ) (place : ℕ) → is_lx_at file 0 ≡ false → HEADER_PLACE + 4 ≤ length file → place ≡ number_at 4 file HEADER_PLACE → is_lx_at file place ≡ true → place_fault file ≡ None
 found file place is long told other =
     let at : header_place file ≡ place = place_told file is ∙ sym told in
-    let room : ltb (length file) 0x40 ≡ false = grind (arith, nat_tests) in
+    let room : ltb (length file) (HEADER_PLACE + 4) ≡ false = grind (arith, nat_tests) in
     rw (is, room, at, other) refl
 
 -- fewer than two bytes are not `LX`
-small : (left : List ℕ) → length left < 2 → ((i : ℕ) → get_or left i 0 < 256) → eqb (little (take 2 left)) 0x584C ≡ false
+small : (left : List ℕ) → length left < 2 → ((i : ℕ) → get_or left i 0 < 256) → eqb (little (take 2 left)) LX_SIGNATURE ≡ false
 small [] few bytes = refl
 small (b ∷ []) few bytes =
     let byte : b < 256 = bytes 0 in
-    let other : b + 256 * 0 < 0x584C = omega (arith, byte) in
+    let other : b + 256 * 0 < LX_SIGNATURE = omega (arith, byte) in
     grind (arith, nat_tests)
 small (a ∷ b ∷ left) few bytes = absurd (omega (arith, few))
 

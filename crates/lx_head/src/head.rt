@@ -1,11 +1,18 @@
 //! The header as doublewords, and how it is written ("LX Header").
 
-ghost use Rattle.std.specs.Prelude.{◌≡◌, length, None};
+ghost use Rattle.std.specs.Prelude.{◌≡◌, ◌<◌, length, None};
 ghost use Rattle.lx_model.specs.Header.{header_fault, header_fields};
 ghost use Rattle.lx_model.specs.TableSpelling.{header_spelling, AreDoublewords};
 ghost use Rattle.lx_head.specs.Accepted.{Accepted, doubleword};
 
 use byteorder::{ByteOrder, LittleEndian};
+use lx_model::HEADER_LEN;
+use lx_model::header_fields::{
+    DATA_PAGES, EIP, EIP_OBJECT, ENTRY_TABLE, FIXUP_PAGE_TABLE, FIXUP_RECORD_TABLE,
+    IMPORT_MODULE_COUNT, IMPORT_MODULE_TABLE, IMPORT_PROCEDURE_TABLE, ITERATED_PAGES, MODULE_FLAGS,
+    MODULE_PAGES, NONRESIDENT_NAME_LENGTH, NONRESIDENT_NAME_TABLE, OBJECT_COUNT, OBJECT_PAGE_TABLE,
+    OBJECT_TABLE, PAGE_OFFSET_SHIFT, RESIDENT_NAME_TABLE,
+};
 
 /// A header: its place in the file, and its doublewords from 00h to A8h. The first one has `LX`,
 /// the byte order and the word order.
@@ -16,154 +23,162 @@ pub struct Head {
 }
 
 impl Head {
+    // The doubleword at an offset of the header.
+    fn field(&self, offset: u8) -> u32
+        requires { offset < 172 }
+        ensures { result ≡ doubleword self.now.fields offset }
+    {
+        self.fields[usize::from(offset) / 4]
+    }
+
     /// The module flags.
     pub fn module_flags(&self) -> u32
-        ensures { result ≡ doubleword self.now.fields 0x10 }
+        ensures { result ≡ doubleword self.now.fields MODULE_FLAGS }
     {
-        self.fields[0x10 / 4]
+        self.field(MODULE_FLAGS)
     }
 
     /// How many entries the object page table has.
     pub fn page_count(&self) -> u32
-        ensures { result ≡ doubleword self.now.fields 0x14 }
+        ensures { result ≡ doubleword self.now.fields MODULE_PAGES }
     {
-        self.fields[0x14 / 4]
+        self.field(MODULE_PAGES)
     }
 
     /// The object in which the module starts, or 0.
     pub fn start_object(&self) -> u32
-        ensures { result ≡ doubleword self.now.fields 0x18 }
+        ensures { result ≡ doubleword self.now.fields EIP_OBJECT }
     {
-        self.fields[0x18 / 4]
+        self.field(EIP_OBJECT)
     }
 
     /// The offset at which the module starts.
     pub fn start_offset(&self) -> u32
-        ensures { result ≡ doubleword self.now.fields 0x1C }
+        ensures { result ≡ doubleword self.now.fields EIP }
     {
-        self.fields[0x1C / 4]
+        self.field(EIP)
     }
 
     /// By how many bits the offsets of pages are shifted.
     pub fn page_shift(&self) -> u32
-        ensures { result ≡ doubleword self.now.fields 0x2C }
+        ensures { result ≡ doubleword self.now.fields PAGE_OFFSET_SHIFT }
     {
-        self.fields[0x2C / 4]
+        self.field(PAGE_OFFSET_SHIFT)
     }
 
     /// The object table, from the header.
     pub fn object_table(&self) -> u32
-        ensures { result ≡ doubleword self.now.fields 0x40 }
+        ensures { result ≡ doubleword self.now.fields OBJECT_TABLE }
     {
-        self.fields[0x40 / 4]
+        self.field(OBJECT_TABLE)
     }
 
     /// How many entries the object table has.
     pub fn object_count(&self) -> u32
-        ensures { result ≡ doubleword self.now.fields 0x44 }
+        ensures { result ≡ doubleword self.now.fields OBJECT_COUNT }
     {
-        self.fields[0x44 / 4]
+        self.field(OBJECT_COUNT)
     }
 
     /// The object page table, from the header.
     pub fn page_table(&self) -> u32
-        ensures { result ≡ doubleword self.now.fields 0x48 }
+        ensures { result ≡ doubleword self.now.fields OBJECT_PAGE_TABLE }
     {
-        self.fields[0x48 / 4]
+        self.field(OBJECT_PAGE_TABLE)
     }
 
     /// The data of iterated pages, from the file's start.
     pub fn iterated_pages(&self) -> u32
-        ensures { result ≡ doubleword self.now.fields 0x4C }
+        ensures { result ≡ doubleword self.now.fields ITERATED_PAGES }
     {
-        self.fields[0x4C / 4]
+        self.field(ITERATED_PAGES)
     }
 
     /// The resident name table, from the header.
     pub fn resident_names(&self) -> u32
-        ensures { result ≡ doubleword self.now.fields 0x58 }
+        ensures { result ≡ doubleword self.now.fields RESIDENT_NAME_TABLE }
     {
-        self.fields[0x58 / 4]
+        self.field(RESIDENT_NAME_TABLE)
     }
 
     /// The entry table, from the header.
     pub fn entry_table(&self) -> u32
-        ensures { result ≡ doubleword self.now.fields 0x5C }
+        ensures { result ≡ doubleword self.now.fields ENTRY_TABLE }
     {
-        self.fields[0x5C / 4]
+        self.field(ENTRY_TABLE)
     }
 
     /// The fixup page table, from the header, or 0 where no page has fixup records.
     pub fn fixup_page_table(&self) -> u32
-        ensures { result ≡ doubleword self.now.fields 0x68 }
+        ensures { result ≡ doubleword self.now.fields FIXUP_PAGE_TABLE }
     {
-        self.fields[0x68 / 4]
+        self.field(FIXUP_PAGE_TABLE)
     }
 
     /// The fixup record table, from the header.
     pub fn fixup_records(&self) -> u32
-        ensures { result ≡ doubleword self.now.fields 0x6C }
+        ensures { result ≡ doubleword self.now.fields FIXUP_RECORD_TABLE }
     {
-        self.fields[0x6C / 4]
+        self.field(FIXUP_RECORD_TABLE)
     }
 
     /// The import module name table, from the header.
     pub fn import_modules(&self) -> u32
-        ensures { result ≡ doubleword self.now.fields 0x70 }
+        ensures { result ≡ doubleword self.now.fields IMPORT_MODULE_TABLE }
     {
-        self.fields[0x70 / 4]
+        self.field(IMPORT_MODULE_TABLE)
     }
 
     /// How many names the import module name table has.
     pub fn import_count(&self) -> u32
-        ensures { result ≡ doubleword self.now.fields 0x74 }
+        ensures { result ≡ doubleword self.now.fields IMPORT_MODULE_COUNT }
     {
-        self.fields[0x74 / 4]
+        self.field(IMPORT_MODULE_COUNT)
     }
 
     /// The import procedure name table, from the header.
     pub fn import_procedures(&self) -> u32
-        ensures { result ≡ doubleword self.now.fields 0x78 }
+        ensures { result ≡ doubleword self.now.fields IMPORT_PROCEDURE_TABLE }
     {
-        self.fields[0x78 / 4]
+        self.field(IMPORT_PROCEDURE_TABLE)
     }
 
     /// The data of pages that are not iterated, from the file's start.
     pub fn data_pages(&self) -> u32
-        ensures { result ≡ doubleword self.now.fields 0x80 }
+        ensures { result ≡ doubleword self.now.fields DATA_PAGES }
     {
-        self.fields[0x80 / 4]
+        self.field(DATA_PAGES)
     }
 
     /// The non-resident name table, from the file's start.
     pub fn other_names(&self) -> u32
-        ensures { result ≡ doubleword self.now.fields 0x88 }
+        ensures { result ≡ doubleword self.now.fields NONRESIDENT_NAME_TABLE }
     {
-        self.fields[0x88 / 4]
+        self.field(NONRESIDENT_NAME_TABLE)
     }
 
     /// How many bytes the non-resident name table has; there is none where it is 0.
     pub fn other_names_length(&self) -> u32
-        ensures { result ≡ doubleword self.now.fields 0x8C }
+        ensures { result ≡ doubleword self.now.fields NONRESIDENT_NAME_LENGTH }
     {
-        self.fields[0x8C / 4]
+        self.field(NONRESIDENT_NAME_LENGTH)
     }
 }
 
-/// The 196 bytes of a header with these doublewords; those behind A8h's doubleword are 0.
-pub fn header_bytes(fields: &[u32; 43]) -> [u8; 196]
+/// The bytes of a header with these doublewords; those after A8h's doubleword are 0.
+pub fn header_bytes(fields: &[u32; 43]) -> [u8; HEADER_LEN]
     ensures bytes { result ≡ header_spelling fields.now }
     ensures count { length fields.now ≡ 43 }
     ensures fit { AreDoublewords fields.now }
 {
-    let mut bytes = [0; 196];
+    let mut bytes = [0; HEADER_LEN];
     LittleEndian::write_u32_into(fields, &mut bytes[..172]);
     bytes
 }
 
-/// The 196 bytes of a header that stands at the file's start; those behind A8h's doubleword are 0.
+/// The bytes of a header that stands at the file's start; those after A8h's doubleword are 0.
 /// Its fields have to be what a reader accepts.
-pub fn write_head(h: &Head) -> [u8; 196]
+pub fn write_head(h: &Head) -> [u8; HEADER_LEN]
     requires place { h.now.place ≡ 0 }
     requires accepted { Accepted h.now.fields }
     ensures spelled { result ≡ header_spelling h.now.fields }

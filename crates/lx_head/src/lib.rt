@@ -1,5 +1,5 @@
 //! The header of an LX module, and the entries of its object table and its object page table, both
-//! ways ("LX - Linear eXecutable Module Format": "LX Header", "Object Table", "Object Page Table").
+//! ways ("32-bit Linear eXecutable Module Format": "LX Header", "Object Table", "Object Page Table").
 #![tactic(auto)]
 
 mod head;

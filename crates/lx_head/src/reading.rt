@@ -10,13 +10,8 @@ use crate::head::Head;
 use crate::rows::judge_fields;
 use byteorder::{ByteOrder, LittleEndian};
 use lx_fields::{Width, number};
+use lx_model::header_fields::{HEADER_PLACE, LX_SIGNATURE};
 use lx_types::{LxKind, LxRefusal};
-
-/// `LX`, as a word.
-const SIGNATURE: u32 = 0x584C;
-
-/// Where a DOS program says that the header stands.
-const HEADER_PLACE: usize = 0x3C;
 
 // Whether `LX` stands at a place.
 fn is_lx(bytes: &[u8], at: u32) -> bool
@@ -25,7 +20,7 @@ fn is_lx(bytes: &[u8], at: u32) -> bool
     let Some(word) = number(bytes, at as usize, Width::Word) else {
         return false;
     };
-    word == SIGNATURE
+    word == u32::from(LX_SIGNATURE)
 }
 
 // Where the header stands.

@@ -7,7 +7,18 @@ ghost use Rattle.lx_model.specs.Header.{row_fault};
 ghost use Rattle.lx_head.specs.Rows.{allows, row_of, fault_among, fields_fault};
 
 use lx_fields::{Width, number};
-use lx_types::{LxKind, LxRefusal, MODULE_KIND, MODULE_LIBRARY, PAGE_SIZE};
+use lx_model::header_fields::{
+    AUTO_DATA_OBJECT, BYTE_ORDER, CPU_TYPE, DATA_PAGES, DEBUG_INFORMATION, DEBUG_LENGTH,
+    DIRECTIVE_COUNT, EIP, EIP_OBJECT, ENTRY_TABLE, ESP, ESP_OBJECT, FIXUP_PAGE_TABLE,
+    FIXUP_RECORD_TABLE, FIXUP_SECTION_CHECKSUM, FIXUP_SECTION_SIZE, FORMAT_LEVEL, HEAP_SIZE,
+    IMPORT_MODULE_COUNT, IMPORT_MODULE_TABLE, IMPORT_PROCEDURE_TABLE, INSTANCE_DEMAND_PAGES,
+    INSTANCE_PRELOAD_PAGES, ITERATED_PAGES, LOADER_SECTION_CHECKSUM, LOADER_SECTION_SIZE,
+    MODULE_DIRECTIVES, MODULE_FLAGS, MODULE_PAGES, MODULE_VERSION, NONRESIDENT_NAME_CHECKSUM,
+    NONRESIDENT_NAME_LENGTH, NONRESIDENT_NAME_TABLE, OBJECT_COUNT, OBJECT_PAGE_TABLE, OBJECT_TABLE,
+    PAGE_CHECKSUMS, PAGE_OFFSET_SHIFT, PAGE_SIZE_FIELD, PRELOAD_PAGES, RESIDENT_NAME_TABLE,
+    RESOURCE_COUNT, RESOURCE_TABLE, SYSTEM_TYPE, WORD_ORDER,
+};
+use lx_types::{LxKind, LxRefusal, MAX_OBJECTS, MAX_PAGES, MODULE_KIND, MODULE_LIBRARY, PAGE_SIZE};
 
 /// What a field may be.
 #[derive(Clone, Copy)]
@@ -102,118 +113,72 @@ macro_rules! at_most {
     };
 }
 
-/// The most pages, and the most objects, that a module may have.
-const MOST_PAGES: u32 = 65_536;
-
-const MOST_OBJECTS: u32 = 1024;
-
-/// The fields of the header, behind `LX`, by their offsets.
+/// The fields of the header, after `LX`, by their offsets.
 const FIELDS: [Field; 45] = [
-    // byte order: little-endian
-    only!(0x02, Width::Byte, 0),
-    // word order: little-endian
-    only!(0x03, Width::Byte, 0),
-    // format level
-    only!(0x04, Width::Doubleword, 0),
-    // CPU: 80286, 80386 or 80486
+    // little-endian
+    only!(BYTE_ORDER, Width::Byte, 0),
+    // little-endian
+    only!(WORD_ORDER, Width::Byte, 0),
+    only!(FORMAT_LEVEL, Width::Doubleword, 0),
+    // an 80286, 80386 or 80486
     Field {
-        offset: 0x08,
+        offset: CPU_TYPE,
         width: Width::Word,
         allowed: Allowed::Between(1, 3),
         kind: LxKind::Field,
     },
-    // system: OS/2
-    only!(0x0A, Width::Word, 1),
-    // the module's version
-    any!(0x0C),
-    // module flags
+    // OS/2
+    only!(SYSTEM_TYPE, Width::Word, 1),
+    any!(MODULE_VERSION),
     Field {
-        offset: 0x10,
+        offset: MODULE_FLAGS,
         width: Width::Doubleword,
         allowed: Allowed::ModuleFlags,
         kind: LxKind::Field,
     },
-    // pages
-    at_most!(0x14, MOST_PAGES),
-    // EIP object
-    any!(0x18),
-    // EIP
-    any!(0x1C),
-    // ESP object
-    any!(0x20),
-    // ESP
-    any!(0x24),
-    // page size
-    only!(0x28, Width::Doubleword, PAGE_SIZE),
-    // page offset shift
+    at_most!(MODULE_PAGES, MAX_PAGES),
+    any!(EIP_OBJECT),
+    any!(EIP),
+    any!(ESP_OBJECT),
+    any!(ESP),
+    only!(PAGE_SIZE_FIELD, Width::Doubleword, PAGE_SIZE),
     Field {
-        offset: 0x2C,
+        offset: PAGE_OFFSET_SHIFT,
         width: Width::Doubleword,
         allowed: Allowed::AtMost(12),
         kind: LxKind::Field,
     },
-    // fixup section size
-    any!(0x30),
-    // fixup section checksum
-    any!(0x34),
-    // loader section size
-    any!(0x38),
-    // loader section checksum
-    any!(0x3C),
-    // object table
-    any!(0x40),
-    // objects
-    at_most!(0x44, MOST_OBJECTS),
-    // object page table
-    any!(0x48),
-    // object iterated pages
-    any!(0x4C),
-    // resource table
-    any!(0x50),
-    // resource count
-    any!(0x54),
-    // resident name table
-    any!(0x58),
-    // entry table
-    any!(0x5C),
-    // module directives
-    any!(0x60),
-    // module directive count
-    any!(0x64),
-    // fixup page table
-    any!(0x68),
-    // fixup record table
-    any!(0x6C),
-    // import module table
-    any!(0x70),
-    // import module count
-    any!(0x74),
-    // import procedure table
-    any!(0x78),
-    // per-page checksums
-    any!(0x7C),
-    // data pages
-    any!(0x80),
-    // preload pages
-    any!(0x84),
-    // non-resident name table
-    any!(0x88),
-    // non-resident name table length
-    any!(0x8C),
-    // non-resident name table checksum
-    any!(0x90),
-    // auto data segment object
-    any!(0x94),
-    // debug information
-    any!(0x98),
-    // debug information length
-    any!(0x9C),
-    // instance preload pages
-    any!(0xA0),
-    // instance demand pages
-    any!(0xA4),
-    // heap size
-    any!(0xA8),
+    any!(FIXUP_SECTION_SIZE),
+    any!(FIXUP_SECTION_CHECKSUM),
+    any!(LOADER_SECTION_SIZE),
+    any!(LOADER_SECTION_CHECKSUM),
+    any!(OBJECT_TABLE),
+    at_most!(OBJECT_COUNT, MAX_OBJECTS),
+    any!(OBJECT_PAGE_TABLE),
+    any!(ITERATED_PAGES),
+    any!(RESOURCE_TABLE),
+    any!(RESOURCE_COUNT),
+    any!(RESIDENT_NAME_TABLE),
+    any!(ENTRY_TABLE),
+    any!(MODULE_DIRECTIVES),
+    any!(DIRECTIVE_COUNT),
+    any!(FIXUP_PAGE_TABLE),
+    any!(FIXUP_RECORD_TABLE),
+    any!(IMPORT_MODULE_TABLE),
+    any!(IMPORT_MODULE_COUNT),
+    any!(IMPORT_PROCEDURE_TABLE),
+    any!(PAGE_CHECKSUMS),
+    any!(DATA_PAGES),
+    any!(PRELOAD_PAGES),
+    any!(NONRESIDENT_NAME_TABLE),
+    any!(NONRESIDENT_NAME_LENGTH),
+    any!(NONRESIDENT_NAME_CHECKSUM),
+    any!(AUTO_DATA_OBJECT),
+    any!(DEBUG_INFORMATION),
+    any!(DEBUG_LENGTH),
+    any!(INSTANCE_PRELOAD_PAGES),
+    any!(INSTANCE_DEMAND_PAGES),
+    any!(HEAP_SIZE),
 ];
 
 // Whether each of the fields of a header at `place` is there and has a value that is allowed.

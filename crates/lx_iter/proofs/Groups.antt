@@ -39,7 +39,7 @@ pub said : (answer : Result (Unit {0}) IterRefusal) (bytes page : List ℕ) (r :
 said (Ok x) bytes page r is e = absurd is
 said (Err f) bytes page r is e = subst (λ (g : IterRefusal). Expands (Err g) bytes page) (sym is) e
 
--- zeros behind what is given
+-- zeros after what is given
 pub full : (given k : ℕ) (into ys bytes : List ℕ) → length into ≡ PAGE_SIZE → given ≤ PAGE_SIZE → length into - given ≤ k → ys ≡ replicate (PAGE_SIZE - given) 0 → expansion bytes ≡ Ok (take given into) →
     (expansion bytes >>= λ given. Ok (filled given)) ≡ Ok (put_mid given k into ys)
 full given k into ys bytes page room rest zeros e =

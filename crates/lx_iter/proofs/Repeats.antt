@@ -1,11 +1,11 @@
--- Bytes that stand one time behind the other.
+-- Bytes that stand one time after the other.
 use Rattle.std.proofs.Common.{◌≡◌, ℕ, zero, suc, ◌+◌, ◌*◌, ◌≤◌, List, [], ◌++◌, length, take, refl, sym, ap, subst, ◌∙◌, append_assoc, append-nil, arith, length-append}
 use Rattle.std.specs.List.{repeat}
 use Rattle.std.proofs.lemmas.List.{nil_from_length}
 use Rattle.std.proofs.lemmas.Slice.{take-put_mid}
 use borrow.Rule.Slice.PartMut.{put_mid}
 
--- one time more, behind the others
+-- one time more, after the others
 pub repeat_end : {A : Type 0} (n : ℕ) (xs : List A) → repeat (suc n) xs ≡ repeat n xs ++ xs
 repeat_end zero xs = append-nil xs
 repeat_end (suc n) xs = ap (λ ys. xs ++ ys) (repeat_end n xs) ∙ sym (append_assoc xs (repeat n xs) xs)

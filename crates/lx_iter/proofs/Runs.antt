@@ -6,7 +6,8 @@ use Rattle.std.proofs.lemmas.List.{take-append-drop, drop_more, drop_all, drop-d
 use Rattle.std.proofs.lemmas.List.Edits.{between_none, between_more}
 use Rattle.std.proofs.Math.Seq.{take-add}
 use Rattle.lx_model.specs.Iterated.{Group, group_spelling, groups_spelling}
-use Rattle.lx_model.specs.Packed.{Run, before_runs, runs_of, before_groups, before_rest, groups_of_runs, LONG_RUN, once}
+use Rattle.lx_model.specs.Packed.{Run, before_runs, runs_of, before_groups, before_rest, groups_of_runs, once}
+use Rattle.lx_model.specs.declared.limits.TheConstants.{LONG_RUN}
 
 abbrev pub run : ℕ → ℕ → Run
 run b n = record { byte = b; times = n }
@@ -107,7 +108,7 @@ kept_short written bytes all from at n b le short is same kept =
     ∙ ap (λ (hs : List Group). written ++ groups_spelling hs) (before_before (between from at bytes) (replicate n b) gs ∙ ap (before_groups (between from at bytes)) (sym run_first))
     ∙ kept
 
--- a run that has a group of its own, behind what is before it
+-- a run that has a group of its own, after what is before it
 pub kept_long : (written bytes all one : List ℕ) (from at n b : ℕ) → from ≤ at → LONG_RUN ≤ n → runs_of (drop at bytes) ≡ run b n ∷ runs_of (drop n (drop at bytes)) → one ≡ b ∷ [] → Kept written bytes from at all →
     Kept (written ++ groups_spelling (before_groups (between from at bytes) []) ++ group_spelling (record { times = n; bytes = one })) bytes (at + n) (at + n) all
 kept_long written bytes all one from at n b le long is byte kept =

@@ -9,7 +9,8 @@ use Rattle.lx_types.specs.declared.refusal.LxRefusal.{LxRefusal}
 use Rattle.lx_types.specs.declared.object.TheConstants.{PAGE_SIZE}
 use Rattle.lx_model.specs.Reading.{◌>>=◌}
 use Rattle.lx_model.specs.Iterated.{Group, GroupFits, group_data, groups_data, groups_spelling, expansion}
-use Rattle.lx_model.specs.Packed.{before_data, data_of, filled, repeats, periods, Run, before_runs, runs_of, LONG_RUN, once, before_groups, before_rest, groups_of_runs, groups_with, groups_of, shorter_than, packed}
+use Rattle.lx_model.specs.Packed.{before_data, data_of, filled, repeats, periods, Run, before_runs, runs_of, once, before_groups, before_rest, groups_of_runs, groups_with, groups_of, shorter_than, packed}
+use Rattle.lx_model.specs.declared.limits.TheConstants.{LONG_RUN}
 use Rattle.lx_model.proofs.PagesRead.{groups_again}
 use Rattle.lx_iter.proofs.Runs.{run}
 use Rattle.lx_iter.proofs.Repeats.{length-repeat}

@@ -29,7 +29,7 @@ abbrev pub Expands : Result (Unit {0}) IterRefusal → List ℕ → List ℕ →
 Expands (Ok done) bytes page = page_of bytes ≡ Ok page
 Expands (Err r) bytes page = expansion bytes ≡ Err (refusal r)
 
--- what groups give, behind what is given before them
+-- what groups give, after what is given before them
 abbrev pub behind_given : List ℕ → Many iterated.Group → Result (List ℕ) LxRefusal
 behind_given before groups = whole groups >>= λ gs. Ok (before ++ groups_data gs)
 

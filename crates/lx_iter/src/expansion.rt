@@ -9,7 +9,7 @@ ghost use Rattle.lx_iter.specs.Expansion.{refusal, group_of, Expands};
 
 use crate::refusal::IterRefusal;
 use lx_fields::{Fields, Short};
-use lx_types::PAGE_SIZE;
+use lx_types::{PAGE_SIZE, PageBytes};
 
 /// Bytes, and how many times they stand there.
 #[derive(Clone, Copy, Debug)]
@@ -30,7 +30,7 @@ fn group_fields<'a>(fields: &mut Fields<'a>) -> Result<Group<'a>, Short>
     Ok(Group { times, bytes })
 }
 
-// The next group, behind those that give `before` bytes. There is none at the end of the data.
+// The next group, after those that give `before` bytes. There is none at the end of the data.
 #[tactic(auto, unfolding(lx_model::specs::Iterated::group_at))]
 fn next_group<'a>(fields: &mut Fields<'a>, before: usize) -> Result<Option<Group<'a>>, IterRefusal>
     requires { before ≤ PAGE_SIZE }
@@ -52,7 +52,7 @@ fn next_group<'a>(fields: &mut Fields<'a>, before: usize) -> Result<Option<Group
     Ok(Some(group))
 }
 
-// Writes bytes a number of times at a place, one behind the other.
+// Writes bytes a number of times at a place, one after the other.
 fn put_times(into: &mut [u8], at: usize, times: u16, bytes: &[u8])
     requires { at + times * length bytes.now ≤ length into.old }
     ensures { take (at + times * length bytes.now) into.new
@@ -73,7 +73,7 @@ fn put_times(into: &mut [u8], at: usize, times: u16, bytes: &[u8])
 ///
 /// A refusal is of the first group that is wrong: `Short` where it passes the end of the data, or
 /// else `TooLong` where with it there are more than 4,096 bytes. Nothing is told of `into` then.
-pub fn expand(bytes: &[u8], into: &mut [u8; 4096]) -> Result<(), IterRefusal>
+pub fn expand(bytes: &[u8], into: &mut PageBytes) -> Result<(), IterRefusal>
     requires { length bytes.now < 2 ^ 32 }
     ensures { Expands result bytes.now into.new }
 {

@@ -1,4 +1,4 @@
-//! Iterated pages of an LX module ("LX - Linear eXecutable Module Format", "Iterated Data Pages").
+//! Iterated pages of an LX module ("32-bit Linear eXecutable Module Format": "Iterated Data Pages").
 #![tactic(auto)]
 
 mod expansion;

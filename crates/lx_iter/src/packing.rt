@@ -4,14 +4,12 @@ ghost use Rattle.std.specs.Prelude.{◌≡◌, ◌+◌, ◌*◌, ◌/◌, ◌≤
 ghost use Rattle.lx_model.specs.Iterated.{group_spelling, groups_spelling};
 ghost use Rattle.lx_model.specs.Packed.{data_of, repeats, periods, runs_of, before_groups, groups_of, groups_of_runs, packed};
 
-use lx_types::{Bytes, NoMemory};
+use lx_model::LONG_RUN;
+use lx_types::{Bytes, NoMemory, PageBytes};
 use std::alloc::Global;
 
 /// The lengths of the patterns that are looked for.
 const PERIODS: [usize; 5] = [1, 2, 4, 8, 16];
-
-/// The least run of equal bytes that has a group of its own.
-const LONG_RUN: usize = 8;
 
 // The bytes of a page up to the last one that is not 0.
 fn data_of(page: &[u8]) -> &[u8]
@@ -128,7 +126,7 @@ fn push_groups(into: &mut Vec<u8>, bytes: &[u8]) -> Result<(), NoMemory>
 /// Where these repeat their first 1, 2, 4, 8 or 16 bytes, the data is one group of the shortest
 /// such pattern. Otherwise each run of 8 or more equal bytes is a group of one byte, and what is
 /// between two runs is a group that stands once.
-pub fn pack(alloc: Global, page: &[u8; 4096]) -> Result<Option<Bytes>, NoMemory>
+pub fn pack(alloc: Global, page: &PageBytes) -> Result<Option<Bytes>, NoMemory>
     ensures { IfOk result (λ d. d ≡ packed page.now) }
 {
     let bytes = data_of(page);

@@ -11,7 +11,8 @@ use Rattle.lx_types.specs.declared.entry.EntryHead.{EntryHead}
 use Rattle.lx_types.specs.declared.entry.EntryHead.TheVariants.{At, Gate286, Forward}
 use Rattle.lx_types.specs.Sound.{IsNumberOf}
 use Rattle.lx_model.specs.Reading.{fault, cursor, number, Read, ◌>>=◌, ends, many}
-use Rattle.lx_model.specs.EntryTable.{Numbered, LAST_ORDINAL, names_one_of, at_entry, gate_entry, forward_key, forward_entry, bundle_entries, object_entries, bundle_of_type, bundle_at}
+use Rattle.lx_model.specs.EntryTable.{Numbered, names_one_of, at_entry, gate_entry, forward_key, forward_entry, bundle_entries, object_entries, bundle_of_type, bundle_at}
+use Rattle.lx_model.specs.declared.limits.TheConstants.{MAX_ORDINAL}
 use Rattle.lx_model.specs.Bundles.{AtEntry, GateEntry, ForwardEntry, at_spelling, gate_spelling, forward_spelling, Bundle, unused, narrow, gates, wide, forwarders, ordinal_count, ordinals_together, type_of, body_spelling, bundle_spelling, table_spelling, heads_of, entries_after, AtFits, GateFits, ForwardFits, ObjectFits, BodyFits, BundleFits}
 use Rattle.lx_model.specs.TableLaws.{EntriesReadAgain}
 use Rattle.lx_model.proofs.ReadsAs.{ReadsAs, number_reads, byte_reads, bind_reads, done_reads}
@@ -103,7 +104,7 @@ type_small (forwarders reserved es) = omega arith
 abbrev item : ℕ → Bundle → List Numbered → Option (List Numbered × ℕ)
 item last b es = Some (es, last + ordinal_count b)
 
-pub bundle_reads : (objects imports last : ℕ) (b : Bundle) → BundleFits objects imports b → last + ordinal_count b ≤ LAST_ORDINAL →
+pub bundle_reads : (objects imports last : ℕ) (b : Bundle) → BundleFits objects imports b → last + ordinal_count b ≤ MAX_ORDINAL →
     ReadsAs (bundle_at objects imports last) (bundle_spelling b) (item last b (enumerate_from (last + 1) (heads_of b)))
 unfolding bundle_at
 bundle_reads objects imports last b fits room at rest =
@@ -121,8 +122,8 @@ bundle_reads objects imports last b fits room at rest =
     (then_ok (bundle_of_type kind objects imports at count (last + 1) at_body) (λ entries. done (item last b entries.0, entries.1)) (es, at_next) all
     (body_reads objects imports at (last + 1) b fits.body (at + 1 + 1) rest) refl) in
     let by_count : behind_count objects imports last at (count, at_kind) ≡ all
-    = other (eqb count 0) (ends at_kind) (cond (ltb LAST_ORDINAL (last + count)) (Err (fault kinds.EntryTable at)) (further objects imports last at (count, at_kind))) (not_zero count fits.some)
-    ∙ other (ltb LAST_ORDINAL (last + count)) (Err (fault kinds.EntryTable at)) (further objects imports last at (count, at_kind)) (le-ltb LAST_ORDINAL (last + count) room)
+    = other (eqb count 0) (ends at_kind) (cond (ltb MAX_ORDINAL (last + count)) (Err (fault kinds.EntryTable at)) (further objects imports last at (count, at_kind))) (not_zero count fits.some)
+    ∙ other (ltb MAX_ORDINAL (last + count)) (Err (fault kinds.EntryTable at)) (further objects imports last at (count, at_kind)) (le-ltb MAX_ORDINAL (last + count) room)
     ∙ by_kind in
     let read : (number 1 (cursor at (bundle_spelling b ++ rest)) >>= behind_count objects imports last at) ≡ all
     = then_ok (number 1 (cursor at (bundle_spelling b ++ rest))) (behind_count objects imports last at) (count, at_kind) all (byte_reads count fits.few at (kind ∷ body_spelling b ++ rest)) by_count in
@@ -144,7 +145,7 @@ each_joined : (last : ℕ) (bs : List Bundle) → flat_map (λ es. es) (each_aft
 each_joined last [] = refl
 each_joined last (b ∷ bs) = ap (λ (es : List Numbered). enumerate_from (last + 1) (heads_of b) ++ es) (each_joined (last + ordinal_count b) bs)
 
-bundles_read : (objects imports : ℕ) (bs : List Bundle) (last at : ℕ) (rest : List ℕ) → Each (BundleFits objects imports) bs → last + ordinals_together bs ≤ LAST_ORDINAL →
+bundles_read : (objects imports : ℕ) (bs : List Bundle) (last at : ℕ) (rest : List ℕ) → Each (BundleFits objects imports) bs → last + ordinals_together bs ≤ MAX_ORDINAL →
     Whole (many (bundle_at objects imports) last (cursor at (table_spelling bs ++ rest))) (each_after last bs) rest
 bundles_read objects imports [] last at rest fits room = none_whole (bundle_at objects imports) last (cursor at (0 ∷ rest)) (at + 1) rest (end_reads objects imports last at rest)
 bundles_read objects imports (b ∷ bs) last at rest fits room =

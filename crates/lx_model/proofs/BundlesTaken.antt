@@ -8,7 +8,8 @@ use Rattle.lx_types.specs.declared.refusal.LxKind.TheVariants as kinds
 use Rattle.lx_types.specs.declared.entry.EntryHead.{EntryHead}
 use Rattle.lx_types.specs.declared.entry.EntryHead.TheVariants.{At, Gate286, Forward}
 use Rattle.lx_model.specs.Reading.{fault, cursor, number, Read, ◌>>=◌, ends, Many, many}
-use Rattle.lx_model.specs.EntryTable.{Numbered, LAST_ORDINAL, names_one_of, at_entry, gate_entry, forward_key, forward_entry, bundle_entries, object_entries, bundle_of_type, bundle_at, entries_in}
+use Rattle.lx_model.specs.EntryTable.{Numbered, names_one_of, at_entry, gate_entry, forward_key, forward_entry, bundle_entries, object_entries, bundle_of_type, bundle_at, entries_in}
+use Rattle.lx_model.specs.declared.limits.TheConstants.{MAX_ORDINAL}
 use Rattle.lx_model.specs.Bundles.{at_spelling, gate_spelling, forward_spelling, Bundle, unused, narrow, gates, wide, forwarders, ordinal_count, ordinals_together, type_of, body_spelling, bundle_spelling, table_spelling, heads_of, entries_after, AtFits, GateFits, ForwardFits, ObjectFits, BodyFits, BundleFits}
 use Rattle.lx_model.proofs.Entries.{further, behind_count, numbered}
 use Rattle.lx_model.proofs.Many.{whole_ends, Cases, many_holds}
@@ -141,7 +142,7 @@ pub record BodyTaken (objects imports kind n ordinal : ℕ) (c : Cursor) (es : L
   pub means : es ≡ enumerate_from ordinal (heads_of bundle)
   pub taken : Takes c (body_spelling bundle) d
 
--- an object's number, and what stands behind it
+-- an object's number, and what stands after it
 pub record ObjectTaken {E : Type 0} (Fits : E → Type 0) (spell : E → List ℕ) (head : ℕ → E → EntryHead) (objects n ordinal : ℕ) (c : Cursor) (es : List Numbered) (d : Cursor) : Type 0 where
   pub object : ℕ
   pub object_fits : ObjectFits objects object
@@ -220,11 +221,11 @@ body_taken (suc (suc (suc (suc (suc k))))) objects imports bad n ordinal c d es 
 
 -- ---- the table
 
--- a bundle that was read behind the last ordinal of those before it
+-- a bundle that was read after the last ordinal of those before it
 pub record BundleTaken (objects imports last : ℕ) (c : Cursor) (x : List Numbered × ℕ) (d : Cursor) : Type 0 where
   pub bundle : Bundle
   pub fits : BundleFits objects imports bundle
-  pub room : x.1 ≤ LAST_ORDINAL
+  pub room : x.1 ≤ MAX_ORDINAL
   pub last_is : last + ordinal_count bundle ≡ x.1
   pub means : x.0 ≡ enumerate_from (last + 1) (heads_of bundle)
   pub taken : Takes c (bundle_spelling bundle) d
@@ -235,7 +236,7 @@ StepTaken objects imports last c None d = Takes c (0 ∷ []) d
 StepTaken objects imports last c (Some x) d = BundleTaken objects imports last c x d
 
 -- one bundle more
-more : (objects imports last kind count : ℕ) (c f g d : Cursor) (es : List Numbered) → 0 < count → count < 256 → last + count ≤ LAST_ORDINAL →
+more : (objects imports last kind count : ℕ) (c f g d : Cursor) (es : List Numbered) → 0 < count → count < 256 → last + count ≤ MAX_ORDINAL →
     Takes c (count ∷ []) f → Takes f (kind ∷ []) g → BodyTaken objects imports kind count (last + 1) g es d → BundleTaken objects imports last c (es, last + count) d
 more objects imports last kind count c f g d es some few room first second body =
     let b = body.bundle in
@@ -252,14 +253,14 @@ more objects imports last kind count c f g d es some few room first second body 
     }
 
 by_count : (objects imports last at count : ℕ) (none : Bool) (c f d : Cursor) (o : Option (List Numbered × ℕ)) → eqb count 0 ≡ none → count < 256 → Takes c (count ∷ []) f →
-    cond none (ends f) (cond (ltb LAST_ORDINAL (last + count)) (Err (fault kinds.EntryTable at)) (further objects imports last at (count, f))) ≡ Ok (o, d) → StepTaken objects imports last c o d
+    cond none (ends f) (cond (ltb MAX_ORDINAL (last + count)) (Err (fault kinds.EntryTable at)) (further objects imports last at (count, f))) ≡ Ok (o, d) → StepTaken objects imports last c o d
 by_count objects imports last at count true c f d o is few first e =
     let pair : (None, f) ≡ (o, d) = cc in
     let zero_count = eqb-true count 0 is in
     subst (λ (p : Option (List Numbered × ℕ) × Cursor). StepTaken objects imports last c p.0 p.1) pair (subst (λ (x : ℕ). Takes c (x ∷ []) f) zero_count first)
 by_count objects imports last at count false c f d o is few first e =
-    let guard = guard_ok (ltb LAST_ORDINAL (last + count)) (fault kinds.EntryTable at) (further objects imports last at (count, f)) (o, d) e in
-    let room : last + count ≤ LAST_ORDINAL = ltb-false LAST_ORDINAL (last + count) guard.0 in
+    let guard = guard_ok (ltb MAX_ORDINAL (last + count)) (fault kinds.EntryTable at) (further objects imports last at (count, f)) (o, d) e in
+    let room : last + count ≤ MAX_ORDINAL = ltb-false MAX_ORDINAL (last + count) guard.0 in
     let step = bind_ok (number 1 f) (λ kind. bundle_of_type kind.0 objects imports at count (last + 1) kind.1 >>= λ entries. done (Some (entries.0, last + count), entries.1)) (o, d) guard.1 in
     let kind = step.0 in
     let k = number_takes 1 f kind.1 kind.0 first.rest step.1 in
@@ -282,12 +283,12 @@ bundle_taken objects imports last c d o h e =
 pub record BundlesTaken (objects imports last : ℕ) (c : Cursor) (es : List Numbered) (d : Cursor) : Type 0 where
   pub bundles : List Bundle
   pub fits : Each (BundleFits objects imports) bundles
-  pub room : last + ordinals_together bundles ≤ LAST_ORDINAL
+  pub room : last + ordinals_together bundles ≤ MAX_ORDINAL
   pub means : es ≡ entries_after last bundles
   pub taken : Takes c (table_spelling bundles) d
 
 abbrev AreTaken : ℕ → ℕ → ℕ → Cursor → Many (List Numbered) → Type 0
-AreTaken objects imports last c m = AreBytes c.left → last ≤ LAST_ORDINAL → (d : Cursor) → m.end ≡ Ok d → BundlesTaken objects imports last c (flat_map (λ es. es) m.items) d
+AreTaken objects imports last c m = AreBytes c.left → last ≤ MAX_ORDINAL → (d : Cursor) → m.end ≡ Ok d → BundlesTaken objects imports last c (flat_map (λ es. es) m.items) d
 
 regroup : (a b c : List ℕ) → a ++ (b ++ c) ≡ (a ++ b) ++ c
 regroup a b c = sym (append_assoc a b c)

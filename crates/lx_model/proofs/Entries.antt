@@ -11,7 +11,8 @@ use Rattle.lx_types.specs.declared.entry.EntryHead.{EntryHead}
 use Rattle.lx_types.specs.declared.entry.EntryHead.TheVariants.{At, Gate286, Forward}
 use Rattle.lx_types.specs.Sound.{HeadFits, IsNumberOf}
 use Rattle.lx_model.specs.Reading.{fault, cursor, number, Read, ◌>>=◌, ends, Many, many}
-use Rattle.lx_model.specs.EntryTable.{Numbered, LAST_ORDINAL, names_one_of, at_entry, gate_entry, forward_key, forward_entry, bundle_entries, object_entries, bundle_of_type, bundle_at, entries_in}
+use Rattle.lx_model.specs.EntryTable.{Numbered, names_one_of, at_entry, gate_entry, forward_key, forward_entry, bundle_entries, object_entries, bundle_of_type, bundle_at, entries_in}
+use Rattle.lx_model.specs.declared.limits.TheConstants.{MAX_ORDINAL}
 use Rattle.lx_model.proofs.Many.{whole_ends, Cases, many_holds}
 use Rattle.lx_model.proofs.Shortening.{bundle_shortens}
 use Rattle.lx_model.proofs.Steps.{bind_ok, guard_ok, done, never, at_item}
@@ -111,25 +112,25 @@ run_of_type (suc (suc (suc (suc (suc k))))) objects imports bundle n ordinal c x
 
 -- ---- the table
 
--- what stands behind the count of a bundle
+-- what stands after the count of a bundle
 abbrev pub further : ℕ → ℕ → ℕ → ℕ → ℕ × Cursor → Read (Option (List Numbered × ℕ))
 further objects imports last at count = number 1 count.1 >>= λ kind. bundle_of_type kind.0 objects imports at count.0 (last + 1) kind.1 >>= λ entries. done (Some (entries.0, last + count.0), entries.1)
 
 abbrev pub behind_count : ℕ → ℕ → ℕ → ℕ → ℕ × Cursor → Read (Option (List Numbered × ℕ))
-behind_count objects imports last at count = cond (eqb count.0 0) (ends count.1) (cond (ltb LAST_ORDINAL (last + count.0)) (Err (fault kinds.EntryTable at)) (further objects imports last at count))
+behind_count objects imports last at count = cond (eqb count.0 0) (ends count.1) (cond (ltb MAX_ORDINAL (last + count.0)) (Err (fault kinds.EntryTable at)) (further objects imports last at count))
 
 -- the entries of a bundle, and the last ordinal up to its end
 record BundleRun (objects imports last : ℕ) (x : List Numbered × ℕ) : Type 0 where
   higher : last ≤ x.1
-  low : x.1 ≤ LAST_ORDINAL
+  low : x.1 ≤ MAX_ORDINAL
   run : Run objects imports (last + 1) (x.1 + 1) x.0
 
 run_of_count : (objects imports last at : ℕ) (none : Bool) (count : ℕ × Cursor) (x : List Numbered × ℕ) (d : Cursor) →
-    cond none (ends count.1) (cond (ltb LAST_ORDINAL (last + count.0)) (Err (fault kinds.EntryTable at)) (further objects imports last at count)) ≡ Ok (Some x, d) → BundleRun objects imports last x
+    cond none (ends count.1) (cond (ltb MAX_ORDINAL (last + count.0)) (Err (fault kinds.EntryTable at)) (further objects imports last at count)) ≡ Ok (Some x, d) → BundleRun objects imports last x
 run_of_count objects imports last at true count x d e = absurd (never count.1 d x (ends count.1) refl e)
 run_of_count objects imports last at false count x d e =
-    let guard = guard_ok (ltb LAST_ORDINAL (last + count.0)) (fault kinds.EntryTable at) (further objects imports last at count) (Some x, d) e in
-    let below : last + count.0 ≤ LAST_ORDINAL = ltb-false LAST_ORDINAL (last + count.0) guard.0 in
+    let guard = guard_ok (ltb MAX_ORDINAL (last + count.0)) (fault kinds.EntryTable at) (further objects imports last at count) (Some x, d) e in
+    let below : last + count.0 ≤ MAX_ORDINAL = ltb-false MAX_ORDINAL (last + count.0) guard.0 in
     let first = bind_ok (number 1 count.1) (λ kind. bundle_of_type kind.0 objects imports at count.0 (last + 1) kind.1 >>= λ entries. done (Some (entries.0, last + count.0), entries.1)) (Some x, d) guard.1 in
     let kind = first.0 in
     let second = bind_ok (bundle_of_type kind.0 objects imports at count.0 (last + 1) kind.1) (λ entries. done (Some (entries.0, last + count.0), entries.1)) (Some x, d) first.2 in
@@ -145,7 +146,7 @@ run_of_step objects imports last c d x e =
     run_of_count objects imports last c.at (eqb first.0.0 0) first.0 x d first.2
 
 abbrev Runs : ℕ → ℕ → ℕ → Cursor → Many (List Numbered) → Type 0
-Runs objects imports last c m = last ≤ LAST_ORDINAL → (d : Cursor) → m.end ≡ Ok d → Run objects imports (last + 1) (LAST_ORDINAL + 1) (flat_map (λ es. es) m.items)
+Runs objects imports last c m = last ≤ MAX_ORDINAL → (d : Cursor) → m.end ≡ Ok d → Run objects imports (last + 1) (MAX_ORDINAL + 1) (flat_map (λ es. es) m.items)
 
 runs : (objects imports : ℕ) → Cases (bundle_at objects imports) (Runs objects imports)
 runs objects imports = record {
@@ -155,16 +156,16 @@ runs objects imports = record {
       let b = run_of_step objects imports last c d x e in
       let higher = b.higher in
       let below = b.low in
-      Run-append objects imports (last + 1) (x.1 + 1) (LAST_ORDINAL + 1) x.0 (flat_map (λ es. es) m.items) (omega (arith, higher)) (omega (arith, below)) b.run (again below end is);
+      Run-append objects imports (last + 1) (x.1 + 1) (MAX_ORDINAL + 1) x.0 (flat_map (λ es. es) m.items) (omega (arith, higher)) (omega (arith, below)) b.run (again below end is);
 }
 
-pub run_of_table : (objects imports : ℕ) (bytes : List ℕ) (es : List Numbered) → entries_in objects imports bytes ≡ Ok es → Run objects imports 1 (LAST_ORDINAL + 1) es
+pub run_of_table : (objects imports : ℕ) (bytes : List ℕ) (es : List Numbered) → entries_in objects imports bytes ≡ Ok es → Run objects imports 1 (MAX_ORDINAL + 1) es
 run_of_table objects imports bytes es e =
     let m = many (bundle_at objects imports) 0 (cursor 0 bytes) in
     let first = bind_ok (m.end >>= λ _. Ok m.items) (λ bundles. done (flat_map (λ es. es) bundles)) es e in
     let ok = whole_ends m first.0 first.1 in
     let joined : flat_map (λ es. es) m.items ≡ es = (let a = ap (λ (bs : List (List Numbered)). flat_map (λ es. es) bs) ok.2 in let b = first.2 in let c : flat_map (λ es. es) first.0 ≡ es = cc in a ∙ c) in
-    subst (λ (xs : List Numbered). Run objects imports 1 (LAST_ORDINAL + 1) xs) joined
+    subst (λ (xs : List Numbered). Run objects imports 1 (MAX_ORDINAL + 1) xs) joined
     (many_holds (bundle_at objects imports) (Runs objects imports) (bundle_shortens objects imports) (runs objects imports) 0 (cursor 0 bytes) (omega arith) ok.0 ok.1)
 
 -- ---- what the sound parts say of them

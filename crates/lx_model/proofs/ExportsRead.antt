@@ -7,7 +7,8 @@ use Rattle.std.proofs.lemmas.List.{length-map, length-replicate}
 use Rattle.lx_types.specs.declared.entry.EntryHead.{EntryHead}
 use Rattle.lx_types.specs.declared.entry.EntryHead.TheVariants.{At, Gate286, Forward}
 use Rattle.lx_types.specs.declared.entry.FwdKey.TheVariants.{Ordinal, NameAt}
-use Rattle.lx_model.specs.EntryTable.{Numbered, LAST_ORDINAL, forward_key}
+use Rattle.lx_model.specs.EntryTable.{Numbered, forward_key}
+use Rattle.lx_model.specs.declared.limits.TheConstants.{MAX_ORDINAL}
 use Rattle.lx_model.specs.Bundles.{Bundle, unused, narrow, gates, wide, forwarders, ordinal_count, ordinals_together, heads_of, entries_after}
 use Rattle.lx_model.specs.ExportTables.{Exported, Slot, empty, narrow_at, gate_at, wide_at, forwarder, head_slot, slot_or_empty, export_at, greatest, slots_of, AreBundlesOf}
 use Rattle.lx_model.specs.ExportLaws.{ExportsReadAgain}
@@ -33,7 +34,7 @@ used_from n (s ∷ ss) = in_front n (slot_head s) (used_from (n + 1) ss)
 one_on : (n k : ℕ) → n + 1 + k ≡ n + suc k
 one_on n k = omega arith
 
--- entries of one kind stand one behind the other
+-- entries of one kind stand one after the other
 of_kind : {E : Type 0} (slot : E → Slot) (head : E → EntryHead) → ((e : E) → slot_head (slot e) ≡ Some (head e)) → (es : List E) (n : ℕ) (rest : List Slot) →
     used_from n (map slot es ++ rest) ≡ enumerate_from n (map head es) ++ used_from (n + length es) rest
 of_kind slot head same [] n rest = ap (λ (m : ℕ). used_from m rest) (let none : n ≡ n + 0 = omega arith in none)
@@ -106,6 +107,6 @@ ordinals_of xs bs are = sym (together bs) ∙ ap length are.each ∙ length-map-
 
 pub exports_again : ExportsReadAgain
 exports_again objects imports xs bs rest are fits most =
-    let few : ordinals_together bs ≤ LAST_ORDINAL = subst (λ (n : ℕ). n ≤ LAST_ORDINAL) (sym (ordinals_of xs bs are)) most in
+    let few : ordinals_together bs ≤ MAX_ORDINAL = subst (λ (n : ℕ). n ≤ MAX_ORDINAL) (sym (ordinals_of xs bs are)) most in
     table_reads objects imports bs rest fits few
     ∙ ap (λ (es : List Numbered). Ok es) (sym (bundles_used bs 0) ∙ ap (used_from 1) are.each ∙ exports_used xs (greatest xs) 1)

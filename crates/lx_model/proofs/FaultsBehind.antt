@@ -34,7 +34,7 @@ FailsAs spelling Goes next Wrong s c m = AreBytes c.left → (e : LxRefusal) →
 at_once : {S X : Type 0} (spelling : X → List ℕ) (Goes : S → X → Type 0) (next : S → X → S) (Wrong : S → Cursor → LxRefusal → Type 0) (s : S) (c : Cursor) (e : LxRefusal) → Wrong s c e → FailsBehind spelling Goes next Wrong s c e
 at_once spelling Goes next Wrong s c e wrong = record { items = []; left = c.left; go = tt; spelled = refl; wrong = subst (λ (d : Cursor). Wrong s d e) (here c) wrong }
 
--- behind one item more
+-- after one item more
 one_more : {S X : Type 0} (spelling : X → List ℕ) (Goes : S → X → Type 0) (next : S → X → S) (Wrong : S → Cursor → LxRefusal → Type 0) (s : S) (c d : Cursor) (e : LxRefusal) (x : X) →
     Goes s x → c.left ≡ spelling x ++ d.left → d.at ≡ c.at + length (spelling x) → FailsBehind spelling Goes next Wrong (next s x) d e → FailsBehind spelling Goes next Wrong s c e
 one_more spelling Goes next Wrong s c d e x good parts place f =
@@ -74,7 +74,7 @@ cases {S} {A} {X} step spelling Goes next Wrong t = record {
       one_more spelling Goes next Wrong s c d f x.written x.good x.taken.parts so.1 (subst (λ (k : S). FailsBehind spelling Goes next Wrong k d f) so.0 rest);
 }
 
--- ---- what stands behind good items fails
+-- ---- what stands after good items fails
 
 behind : {S A X : Type 0} (step : Step S A) (spelling : X → List ℕ) (Goes : S → X → Type 0) (next : S → X → S) (Wrong : S → Cursor → LxRefusal → Type 0) → Table step spelling Goes next Wrong →
     (s : S) (at : ℕ) (left : List ℕ) (e : LxRefusal) (items : List X) → AllGo Goes next s items → Wrong (known_behind next s items) (cursor (at + length (flat_map spelling items)) left) e →

@@ -8,7 +8,8 @@ use Rattle.lx_types.specs.declared.refusal.LxKind.TheVariants as kinds
 use Rattle.lx_types.specs.declared.entry.EntryHead.{EntryHead}
 use Rattle.lx_types.specs.declared.entry.EntryHead.TheVariants.{At, Gate286, Forward}
 use Rattle.lx_model.specs.Reading.{fault, number, Read, ◌>>=◌, ends}
-use Rattle.lx_model.specs.EntryTable.{Numbered, LAST_ORDINAL, names_one_of, at_entry, gate_entry, forward_key, forward_entry, bundle_entries, object_entries, bundle_of_type, bundle_at}
+use Rattle.lx_model.specs.EntryTable.{Numbered, names_one_of, at_entry, gate_entry, forward_key, forward_entry, bundle_entries, object_entries, bundle_of_type, bundle_at}
+use Rattle.lx_model.specs.declared.limits.TheConstants.{MAX_ORDINAL}
 use Rattle.lx_model.specs.Bundles.{bundle_spelling, heads_of}
 use Rattle.lx_model.specs.Faults.{FieldThen, IsCutAmong, WrongAmong, WrongForward, WrongObjectEntries, WrongOfType, WrongBundle}
 use Rattle.lx_model.specs.FaultLaws.{BundleGoes, last_with}
@@ -138,19 +139,19 @@ body_faults objects imports last at count =
 abbrev BehindCount : ℕ → ℕ → ℕ → ℕ → ℕ → Cursor → LxRefusal → Type 0
 BehindCount objects imports last at count b e =
     (0 < count)
-    × (((LAST_ORDINAL < last + count) × (e ≡ fault kinds.EntryTable at))
-    ⊎ ((last + count ≤ LAST_ORDINAL) × FieldThen 1 b e (λ type d. WrongOfType type objects imports at count d e)))
+    × (((MAX_ORDINAL < last + count) × (e ≡ fault kinds.EntryTable at))
+    ⊎ ((last + count ≤ MAX_ORDINAL) × FieldThen 1 b e (λ type d. WrongOfType type objects imports at count d e)))
 
 abbrev of_count : ℕ → ℕ → ℕ → ℕ → ℕ → Cursor → Read (Option (List Numbered × ℕ))
 of_count objects imports last at count b =
-    cond (eqb count 0) (ends b) (cond (ltb LAST_ORDINAL (last + count)) (Err (fault kinds.EntryTable at)) (number 1 b >>= λ type. behind_type objects imports last at count type.0 type.1))
+    cond (eqb count 0) (ends b) (cond (ltb MAX_ORDINAL (last + count)) (Err (fault kinds.EntryTable at)) (number 1 b >>= λ type. behind_type objects imports last at count type.0 type.1))
 
 count_fails : (objects imports last at count : ℕ) (b : Cursor) (e : LxRefusal) (none : Bool) → eqb count 0 ≡ none →
-    cond none (ends b) (cond (ltb LAST_ORDINAL (last + count)) (Err (fault kinds.EntryTable at)) (number 1 b >>= λ type. behind_type objects imports last at count type.0 type.1)) ≡ Err e → BehindCount objects imports last at count b e
+    cond none (ends b) (cond (ltb MAX_ORDINAL (last + count)) (Err (fault kinds.EntryTable at)) (number 1 b >>= λ type. behind_type objects imports last at count type.0 type.1)) ≡ Err e → BehindCount objects imports last at count b e
 count_fails objects imports last at count b e true is fails = absurd (good_ends (None, b) e fails)
 count_fails objects imports last at count b e false is fails = (
   positive count is,
-  elim (guard_err (ltb LAST_ORDINAL (last + count)) (fault kinds.EntryTable at) e (number 1 b >>= λ type. behind_type objects imports last at count type.0 type.1) fails) [
+  elim (guard_err (ltb MAX_ORDINAL (last + count)) (fault kinds.EntryTable at) e (number 1 b >>= λ type. behind_type objects imports last at count type.0 type.1) fails) [
     | inl over ↦ inl (ltb-true _ _ over.0, over.1)
     | inr room ↦ inr (ltb-false _ _ room.0, (body_faults objects imports last at count).fails b e room.1)
   ],
@@ -159,10 +160,10 @@ count_fails objects imports last at count b e false is fails = (
 count_failed : (objects imports last at count : ℕ) (b : Cursor) (e : LxRefusal) → BehindCount objects imports last at count b e → of_count objects imports last at count b ≡ Err e
 count_failed objects imports last at count b e wrong =
     let body = number 1 b >>= λ type. behind_type objects imports last at count type.0 type.1 in
-    other (eqb count 0) (ends b) (cond (ltb LAST_ORDINAL (last + count)) (Err (fault kinds.EntryTable at)) body) (not_zero count wrong.0)
+    other (eqb count 0) (ends b) (cond (ltb MAX_ORDINAL (last + count)) (Err (fault kinds.EntryTable at)) body) (not_zero count wrong.0)
     ∙ elim wrong.1 [
-      | inl over ↦ chosen (ltb LAST_ORDINAL (last + count)) (Err (fault kinds.EntryTable at)) body (lt-ltb _ _ over.0) ∙ ap (λ (x : LxRefusal). refused x) (sym over.1)
-      | inr room ↦ other (ltb LAST_ORDINAL (last + count)) (Err (fault kinds.EntryTable at)) body (le-ltb _ _ room.0) ∙ (body_faults objects imports last at count).failed b e room.1
+      | inl over ↦ chosen (ltb MAX_ORDINAL (last + count)) (Err (fault kinds.EntryTable at)) body (lt-ltb _ _ over.0) ∙ ap (λ (x : LxRefusal). refused x) (sym over.1)
+      | inr room ↦ other (ltb MAX_ORDINAL (last + count)) (Err (fault kinds.EntryTable at)) body (le-ltb _ _ room.0) ∙ (body_faults objects imports last at count).failed b e room.1
     ]
 
 bundle_faults : (objects imports last : ℕ) → Faults (bundle_at objects imports last) (WrongBundle objects imports last)

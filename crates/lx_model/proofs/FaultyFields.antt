@@ -1,4 +1,4 @@
--- Where fields one behind the other fail.
+-- Where fields one after the other fail.
 use Rattle.std.proofs.Common.{◌≡◌, ℕ, ◌≤◌, ◌⊎◌, Bool, true, false, cond, ltb, List, [], ◌∷◌, length, take, not, Result, Ok, Err, refl, sym, ap, inl, inr}
 use Rattle.std.proofs.lemmas.Bool.{ltb-false, ltb-true, le-ltb, lt-ltb}
 use Rattle.lx_bytes.specs.Cursor.{Cursor, advance}
@@ -41,7 +41,7 @@ text_cut n c f e cut = let there = lt-ltb _ _ cut.0 in let same = cut.1 in rw (t
 pub text_there : {A : Type 0} (n : ℕ) (c : Cursor) (f : List ℕ × Cursor → Result A LxRefusal) (r : Result A LxRefusal) → n ≤ length c.left → f (take n c.left, advance n c) ≡ r → (text n c >>= f) ≡ r
 text_there n c f r le is = let there = le-ltb _ _ le in rw there is
 
--- readings one behind the other, grouped in either way
+-- readings one after the other, grouped in either way
 pub regroup : {A B C : Type 0} (r : Result A LxRefusal) (f : A → Result B LxRefusal) (g : B → Result C LxRefusal) → ((r >>= f) >>= g) ≡ (r >>= λ x. f x >>= g)
 regroup (Ok x) f g = refl
 regroup (Err e) f g = refl

@@ -12,7 +12,8 @@ use Rattle.lx_types.specs.declared.fix.FixTarget.TheVariants as targets
 use Rattle.lx_types.specs.declared.fix.Fix.{Fix}
 use Rattle.lx_model.specs.Reading.{fault, cursor, number, Read, ◌>>=◌, ends}
 use Rattle.lx_model.specs.Sources.{SourceKind, source_of_byte}
-use Rattle.lx_model.specs.RecordFields.{ADDITIVE, CHAIN, has, number_width, target_width, ordinal_width, additive_width, internal_at, target_of_kind, target_at, additive_at, reaches_page, offset_at, offsets_at}
+use Rattle.lx_model.specs.RecordFields.{has, number_width, target_width, ordinal_width, additive_width, internal_at, target_of_kind, target_at, additive_at, reaches_page, offset_at, offsets_at}
+use Rattle.lx_model.specs.declared.record_fields.TheConstants.{ADDITIVE, CHAIN}
 use Rattle.lx_model.specs.Records.{Record, fixes_at_offsets, single_at, list_at, behind_source, record_at, next_record}
 use Rattle.lx_model.specs.RecordSpelling.{Written, record_spelling, fixes_written, RecordFits}
 use Rattle.lx_model.specs.Faults.{FieldThen, FieldsThen, IsCutAmong, internal_widths, target_widths, additive_widths, field_widths, OffsetThen, OffsetsThen, WrongFields, WrongBehindSource, WrongRecord}
@@ -27,9 +28,9 @@ use Rattle.lx_model.proofs.Steps.{bind_ok, done, never, other}
 use Rattle.lx_model.proofs.Takes.{Takes}
 use Rattle.lx_model.proofs.TablesTaken.{positive}
 
--- ---- fields, and what is read behind them
+-- ---- fields, and what is read after them
 
--- what is read behind a value fails exactly where this is wrong
+-- what is read after a value fails exactly where this is wrong
 pub record Behind {A : Type 0} (f : A × Cursor → Read (List Fix)) (W : Cursor → LxRefusal → Type 0) : Type 0 where
   pub to : (x : A) (d : Cursor) (e : LxRefusal) → f (x, d) ≡ Err e → W d e
   pub from : (x : A) (d : Cursor) (e : LxRefusal) → W d e → f (x, d) ≡ Err e
@@ -85,7 +86,7 @@ additive_faults : (flags : ℕ) (f : ℕ × Cursor → Read (List Fix)) (W : Cur
 unfolding additive_at
 additive_faults flags f W b = additive_by (has ADDITIVE flags) flags f W b
 
--- both, one behind the other
+-- both, one after the other
 joined : (ns ms : List ℕ) (c : Cursor) (e : LxRefusal) (W : Cursor → Type 0) → FieldsThen ns c e (λ d. FieldsThen ms d e W) → FieldsThen (ns ++ ms) c e W
 joined [] ms c e W h = h
 joined (n ∷ ns) ms c e W (inl cut) = inl cut
@@ -128,7 +129,7 @@ placed_from : {A : Type 0} (there : Bool) (at word : ℕ) (d : Cursor) (f : ℤ 
 placed_from there at word d f e W h (inl wrong) = let outside = wrong.0 in let same = wrong.1 in rw (outside, same) refl
 placed_from there at word d f e W h (inr right) = let inside = right.0 in rw inside (h right.1)
 
--- an offset, and what is read behind it
+-- an offset, and what is read after it
 offset_faults : {A : Type 0} (source : Source) (f : ℤ × Cursor → Read A) (W : Cursor → LxRefusal → Type 0) → ((x : ℤ) (d : Cursor) (e : LxRefusal) → f (x, d) ≡ Err e → W d e) → ((x : ℤ) (d : Cursor) (e : LxRefusal) → W d e → f (x, d) ≡ Err e) →
     Faults (λ c. offset_at source c >>= f) (λ c e. OffsetThen source c e (λ d. W d e))
 offset_faults {A} source f W to from =

@@ -69,7 +69,7 @@ alone_taken c d name h e =
     let short : length name < 256 = rw size a.below in
     record { fits = record { some = some; short = short }; taken = Takes-then c len.1 d (length name ∷ []) name byte b.taken }
 
--- a name that is there, and as many behind it
+-- a name that is there, and as many after it
 pub record NameTaken (n : ℕ) (c : Cursor) (x : List ℕ × ℕ) (d : Cursor) : Type 0 where
   pub count : n ≡ suc x.1
   pub alone : AloneTaken c x.0 d

@@ -6,7 +6,8 @@ use Rattle.lx_types.specs.declared.entry.EntryHead.{EntryHead}
 use Rattle.lx_types.specs.declared.entry.EntryHead.TheVariants.{At, Gate286, Forward}
 use Rattle.lx_types.specs.declared.entry.FwdKey.TheVariants.{Ordinal, NameAt}
 use Rattle.lx_model.specs.Bundles.{AtEntry, GateEntry, ForwardEntry, Bundle, unused, narrow, gates, wide, forwarders, ordinal_count}
-use Rattle.lx_model.specs.ExportTables.{Exported, Slot, empty, narrow_at, gate_at, wide_at, forwarder, slots, slots_of, head_slot, slot_or_empty, export_at, greatest, same_kind, MOST_ENTRIES, AreJoined}
+use Rattle.lx_model.specs.ExportTables.{Exported, Slot, empty, narrow_at, gate_at, wide_at, forwarder, slots, slots_of, head_slot, slot_or_empty, export_at, greatest, same_kind, AreJoined}
+use Rattle.lx_model.specs.declared.limits.TheConstants.{MAX_ENTRIES}
 use Rattle.lx_model.specs.JoinedEntries.{joins, Run, before_runs, runs_of, parts_from, parts_of, at_in, gate_in, forwarder_in, bundle_of, bundles_for, BundlesAreJoined}
 use Rattle.std.proofs.lemmas.List.{length-map}
 use Rattle.std.proofs.lemmas.Bool.{eq-eqb, eqb-true}
@@ -180,8 +181,8 @@ parts_whole zero (s ∷ ss) short = absurd (omega (arith, short))
 parts_whole (suc n) [] short = refl
 parts_whole (suc n) (s ∷ ss) short =
     let whole = s ∷ ss in
-    let less : length (drop MOST_ENTRIES whole) ≤ n = omega (arith, short, length-drop MOST_ENTRIES whole) in
-    ap (λ (ts : List Slot). take MOST_ENTRIES whole ++ ts) (parts_whole n (drop MOST_ENTRIES whole) less) ∙ take-append-drop MOST_ENTRIES whole
+    let less : length (drop MAX_ENTRIES whole) ≤ n = omega (arith, short, length-drop MAX_ENTRIES whole) in
+    ap (λ (ts : List Slot). take MAX_ENTRIES whole ++ ts) (parts_whole n (drop MAX_ENTRIES whole) less) ∙ take-append-drop MAX_ENTRIES whole
 
 parts_each : (P : Slot → Type 0) (ps : List (List Slot)) → Each P (flat_map (λ p. p) ps) → Each (Each P) ps
 parts_each P [] each = tt
@@ -190,19 +191,19 @@ parts_each P (p ∷ ps) each = (all_front P p (flat_map (λ q. q) ps) each, part
 parts_some : (n : ℕ) (ss : List Slot) → Each (λ p. 0 < length p) (parts_from n ss)
 parts_some zero ss = tt
 parts_some (suc n) [] = tt
-parts_some (suc n) (s ∷ ss) = (omega (arith, length-take MOST_ENTRIES (s ∷ ss)), parts_some n (drop MOST_ENTRIES (s ∷ ss)))
+parts_some (suc n) (s ∷ ss) = (omega (arith, length-take MAX_ENTRIES (s ∷ ss)), parts_some n (drop MAX_ENTRIES (s ∷ ss)))
 
-parts_most : (n : ℕ) (ss : List Slot) → Each (λ p. length p ≤ MOST_ENTRIES) (parts_from n ss)
+parts_most : (n : ℕ) (ss : List Slot) → Each (λ p. length p ≤ MAX_ENTRIES) (parts_from n ss)
 parts_most zero ss = tt
 parts_most (suc n) [] = tt
-parts_most (suc n) (s ∷ ss) = (omega (arith, length-take MOST_ENTRIES (s ∷ ss)), parts_most n (drop MOST_ENTRIES (s ∷ ss)))
+parts_most (suc n) (s ∷ ss) = (omega (arith, length-take MAX_ENTRIES (s ∷ ss)), parts_most n (drop MAX_ENTRIES (s ∷ ss)))
 
 abbrev AreFull : List (List Slot) → Type 0
 AreFull [] = Unit {0}
 AreFull (p ∷ []) = Unit {0}
-AreFull (p ∷ q ∷ ps) = (length p ≡ MOST_ENTRIES) × AreFull (q ∷ ps)
+AreFull (p ∷ q ∷ ps) = (length p ≡ MAX_ENTRIES) × AreFull (q ∷ ps)
 
-full_more : (p : List Slot) (n : ℕ) (rest : List Slot) → (0 < length rest → length p ≡ MOST_ENTRIES) → AreFull (parts_from n rest) → AreFull (p ∷ parts_from n rest)
+full_more : (p : List Slot) (n : ℕ) (rest : List Slot) → (0 < length rest → length p ≡ MAX_ENTRIES) → AreFull (parts_from n rest) → AreFull (p ∷ parts_from n rest)
 full_more p zero rest is full = tt
 full_more p (suc n) [] is full = tt
 full_more p (suc n) (r ∷ rs) is full = (is (omega arith), full)
@@ -212,7 +213,7 @@ parts_full zero ss = tt
 parts_full (suc n) [] = tt
 parts_full (suc n) (s ∷ ss) =
     let whole = s ∷ ss in
-    full_more (take MOST_ENTRIES whole) n (drop MOST_ENTRIES whole) (λ some. omega (arith, some, length-take MOST_ENTRIES whole, length-drop MOST_ENTRIES whole)) (parts_full n (drop MOST_ENTRIES whole))
+    full_more (take MAX_ENTRIES whole) n (drop MAX_ENTRIES whole) (λ some. omega (arith, some, length-take MAX_ENTRIES whole, length-drop MAX_ENTRIES whole)) (parts_full n (drop MAX_ENTRIES whole))
 
 -- ---- the bundles of a run
 
@@ -276,12 +277,12 @@ never false A is so = absurd cc
 joined_more : (s : Slot) (ps : List (List Slot)) (cs : List Bundle) → AreFull ps → Each (Each (λ t. joins s t ≡ true)) ps → AreJoined cs → FirstDiffers s cs → AreJoined (map (bundle_of s) ps ++ cs)
 joined_more s [] cs full all joined first = joined
 joined_more s (p ∷ []) [] full all joined first = tt
-joined_more s (p ∷ []) (c ∷ cs) full all joined first = (never (same_kind (bundle_of s p) c) (ordinal_count (bundle_of s p) ≡ MOST_ENTRIES) (first p), joined)
+joined_more s (p ∷ []) (c ∷ cs) full all joined first = (never (same_kind (bundle_of s p) c) (ordinal_count (bundle_of s p) ≡ MAX_ENTRIES) (first p), joined)
 joined_more s (p ∷ q ∷ ps) cs full all joined first = (λ so. counted s p all.0 ∙ full.0, joined_more s (q ∷ ps) cs full.1 all.1 joined first)
 
 first_differs : (r : Run) (rs : List Run) → Each (λ q. NoReserved q.first) (r ∷ rs) → Apart (r ∷ rs) → FirstDiffers r.first (flat_map bundles_in rs)
 first_differs r [] none apart = tt
-first_differs r (q ∷ rs) none apart = λ p. differ r.first q.first p (take MOST_ENTRIES (slots_in q)) none.0 none.1.0 apart.0
+first_differs r (q ∷ rs) none apart = λ p. differ r.first q.first p (take MAX_ENTRIES (slots_in q)) none.0 none.1.0 apart.0
 
 others_apart : (r : Run) (rs : List Run) → Apart (r ∷ rs) → Apart rs
 others_apart r [] apart = tt
@@ -326,6 +327,6 @@ bundles_joined xs =
     record {
       each = all_slots rs runs.alike_each ∙ runs.whole;
       some = all_counts (λ n. 0 < n) rs parts_some runs.alike_each;
-      most = all_counts (λ n. n ≤ MOST_ENTRIES) rs parts_most runs.alike_each;
+      most = all_counts (λ n. n ≤ MAX_ENTRIES) rs parts_most runs.alike_each;
       joined = all_joined rs none runs.alike_each runs.apart;
     }

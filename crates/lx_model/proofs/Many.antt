@@ -1,4 +1,4 @@
--- Items of a table, one behind the other: what a step that reads one more says of all of them.
+-- Items of a table, one after the other: what a step that reads one more says of all of them.
 use Rattle.std.proofs.Common.{◌≡◌, ℕ, zero, suc, ◌<◌, ◌≤◌, Bool, true, false, cond, ltb, List, [], ◌∷◌, ◌++◌, length, take, Option, Some, None, Ok, Err, refl, sym, subst, ap, ◌∙◌, append_assoc, append-nil, arith}
 use Rattle.std.proofs.lemmas.Bool.{ltb-false}
 use Rattle.std.proofs.lemmas.List.{length-drop}
@@ -53,7 +53,7 @@ many_more step h s c d x e =
 pub one_by_one : {S A : Type 0} (step : Step S A) → Shortens step → OneByOne step
 one_by_one step h = record { shorter = h; none = many_ends step; more = many_more step h; wrong = many_fails step }
 
--- ---- what a loop keeps: the items so far, and what is read behind them, are the whole table
+-- ---- what a loop keeps: the items so far, and what is read after them, are the whole table
 
 pub front_none : {S A : Type 0} (step : Step S A) (s : S) (c d : Cursor) (before : List A) (all : Many A) → step s c ≡ Ok (None, d) → front before (many step s c) ≡ all → whole all ≡ Ok before
 front_none {S} {A} step s c d before all e kept =
@@ -73,7 +73,7 @@ front_more {S} {A} step h s c d x before all e kept =
 
 -- ---- tables that are read whole
 
--- all is read, and these bytes stand behind it
+-- all is read, and these bytes stand after it
 abbrev pub Whole : {A : Type 0} → Many A → List A → List ℕ → Type 0
 Whole m xs rest = (at : ℕ) × (m ≡ record { items = xs; end = Ok (cursor at rest) })
 
@@ -89,7 +89,7 @@ whole_is m xs rest w = ap whole w.1
 
 -- ---- what holds of all that is read
 
--- what holds at the end of a table, at a fault, and behind one more item
+-- what holds at the end of a table, at a fault, and after one more item
 pub record Cases {S A : Type 0} (step : Step S A) (P : S → Cursor → Many A → Type 0) : Type 0 where
   pub none : (s : S) (c d : Cursor) → step s c ≡ Ok (None, d) → P s c (ends_at d)
   pub wrong : (s : S) (c : Cursor) (e : LxRefusal) → step s c ≡ Err e → P s c (faulty e)

@@ -3,11 +3,13 @@ use Rattle.std.proofs.Common.{◌≡◌, ℕ, ◌+◌, ◌<◌, ◌^◌, ◌⊎�
 use Rattle.std.proofs.lemmas.List.FromFn.{length-map-range_with_len}
 use Rattle.lx_types.specs.declared.refusal.LxRefusal.{LxRefusal}
 use Rattle.lx_types.specs.Sound.{Sound}
+use Rattle.lx_model.specs.declared.header_fields.TheConstants.{ENTRY_TABLE, IMPORT_MODULE_TABLE}
 use Rattle.lx_model.specs.Reading.{first_of, ◌then◌, placed, fault_of, value_or}
 use Rattle.lx_model.specs.Header.{table, page_count, object_count, import_count, header_fault, start_fault}
 use Rattle.lx_model.specs.Tables.{object_entry, object_place, objects_of, objects_fault, page_entry, page_place, page_or_zero, page_heads, pages_fault}
 use Rattle.lx_model.specs.NameTables.{import_names, imports_in, resident_fault, others_fault, imports_fault}
-use Rattle.lx_model.specs.EntryTable.{LAST_ORDINAL, entries_in, entries_of, entries_fault}
+use Rattle.lx_model.specs.EntryTable.{entries_in, entries_of, entries_fault}
+use Rattle.lx_model.specs.declared.limits.TheConstants.{MAX_ORDINAL}
 use Rattle.lx_model.specs.FixupPages.{records_span, spans_of, spans_fault}
 use Rattle.lx_model.specs.Module.{parts_of, page_records_fault, Lx, LxFault}
 use Rattle.lx_model.specs.Laws.{MeansOne, MeansOrFails, FaultMeansNone, MeansSound}
@@ -36,16 +38,16 @@ pub read_ok : {A : Type 0} (at : ℕ) (other : A) (r : Result A LxRefusal) → f
 read_ok at other (Ok x) e = refl
 read_ok at other (Err f) e = absurd cc
 
-entries_run : (file : List ℕ) → entries_fault file ≡ None → Run (object_count file) (import_count file) 1 (LAST_ORDINAL + 1) (value_or [] (entries_of file))
+entries_run : (file : List ℕ) → entries_fault file ≡ None → Run (object_count file) (import_count file) 1 (MAX_ORDINAL + 1) (value_or [] (entries_of file))
 entries_run file e =
-    let bytes = drop (table file 0x5C) file in
-    let read = read_ok (table file 0x5C) [] (entries_in (object_count file) (import_count file) bytes) e in
+    let bytes = drop (table file ENTRY_TABLE) file in
+    let read = read_ok (table file ENTRY_TABLE) [] (entries_in (object_count file) (import_count file) bytes) e in
     run_of_table (object_count file) (import_count file) bytes (value_or [] (entries_of file)) read
 
 imports_count : (file : List ℕ) → imports_fault file ≡ None → length (value_or [] (import_names file)) ≡ import_count file
 imports_count file e =
-    let bytes = drop (table file 0x70) file in
-    let read = read_ok (table file 0x70) [] (imports_in (import_count file) bytes) e in
+    let bytes = drop (table file IMPORT_MODULE_TABLE) file in
+    let read = read_ok (table file IMPORT_MODULE_TABLE) [] (imports_in (import_count file) bytes) e in
     names_counted (import_count file) bytes (value_or [] (import_names file)) read
 
 -- ---- the parts
@@ -89,8 +91,8 @@ sound_parts file short j =
       pages = pages_fit file j.pages;
       spans = spans-are ∙ sym pages-are;
       records = spans_fit file j.spans;
-      ordinals = Run-pairs (object_count file) (import_count file) 1 (LAST_ORDINAL + 1) (value_or [] (entries_of file)) run;
-      entries = rw (objects-are, imports-are) (Run-heads (object_count file) (import_count file) 1 (LAST_ORDINAL + 1) (value_or [] (entries_of file)) run);
+      ordinals = Run-pairs (object_count file) (import_count file) 1 (MAX_ORDINAL + 1) (value_or [] (entries_of file)) run;
+      entries = rw (objects-are, imports-are) (Run-heads (object_count file) (import_count file) 1 (MAX_ORDINAL + 1) (value_or [] (entries_of file)) run);
       refs = rw imports-are (refs_fit file j.records);
     }
 

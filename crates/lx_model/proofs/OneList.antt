@@ -5,7 +5,8 @@ use Rattle.std.proofs.lemmas.List.{length-replicate}
 use Rattle.std.proofs.lemmas.Bool.{cases_lt}
 use Rattle.std.specs.List.{flat_map, AllByRecursion}
 use Rattle.lx_model.specs.Bundles.{Bundle, unused, narrow, gates, wide, forwarders, ordinal_count}
-use Rattle.lx_model.specs.ExportTables.{Slot, empty, narrow_at, gate_at, wide_at, forwarder, slots_of, same_kind, AreJoined, MOST_ENTRIES}
+use Rattle.lx_model.specs.ExportTables.{Slot, empty, narrow_at, gate_at, wide_at, forwarder, slots_of, same_kind, AreJoined}
+use Rattle.lx_model.specs.declared.limits.TheConstants.{MAX_ENTRIES}
 use Rattle.lx_model.specs.ExportLaws.{BundlesAreOne}
 use Rattle.lx_model.proofs.ExportsRead.{length-slots_of}
 
@@ -140,7 +141,7 @@ same_length (x ∷ xs) ys (u ∷ us) vs len same =
     let front = rest.0 in
     (let all : x ∷ xs ≡ u ∷ us = cc in all, rest.1)
 
--- what is longer goes on with the first of what stands behind the shorter one
+-- what is longer goes on with the first of what stands after the shorter one
 record Longer (xs ys us : List Slot) : Type 0 where
   next : Slot
   others : List Slot
@@ -169,7 +170,7 @@ first_kind kind other (x ∷ xs) (u ∷ us) ys vs same some more k o =
     sym k.0 ∙ ap kind_at s ∙ o.0
 
 -- A bundle that is shorter than the one of other bundles is full.
-full : (b c : Bundle) (bs : List Bundle) (vs : List Slot) → AllByRecursion (λ b. 0 < ordinal_count b) (b ∷ bs) → 0 < ordinal_count c → AreJoined (b ∷ bs) → slots_of b ++ flat_map slots_of bs ≡ slots_of c ++ vs → ordinal_count b < ordinal_count c → ordinal_count b ≡ MOST_ENTRIES
+full : (b c : Bundle) (bs : List Bundle) (vs : List Slot) → AllByRecursion (λ b. 0 < ordinal_count b) (b ∷ bs) → 0 < ordinal_count c → AreJoined (b ∷ bs) → slots_of b ++ flat_map slots_of bs ≡ slots_of c ++ vs → ordinal_count b < ordinal_count c → ordinal_count b ≡ MAX_ENTRIES
 full b c [] vs some more joined same lt =
     let on = longer (slots_of b) [] (slots_of c) vs (omega (arith, lt, length-slots_of b, length-slots_of c)) same in
     let none = on.first in
@@ -190,7 +191,7 @@ none_left c cs some same =
     let len : 0 ≡ length (slots_of c ++ flat_map slots_of cs) = ap length same in
     omega (arith, len, some, length-slots_of c, length-append (slots_of c) (flat_map slots_of cs))
 
-pub one_list : (bs cs : List Bundle) → flat_map slots_of bs ≡ flat_map slots_of cs → AllByRecursion (λ b. 0 < ordinal_count b) bs → AllByRecursion (λ b. ordinal_count b ≤ MOST_ENTRIES) bs → AreJoined bs → AllByRecursion (λ b. 0 < ordinal_count b) cs → AllByRecursion (λ b. ordinal_count b ≤ MOST_ENTRIES) cs → AreJoined cs → bs ≡ cs
+pub one_list : (bs cs : List Bundle) → flat_map slots_of bs ≡ flat_map slots_of cs → AllByRecursion (λ b. 0 < ordinal_count b) bs → AllByRecursion (λ b. ordinal_count b ≤ MAX_ENTRIES) bs → AreJoined bs → AllByRecursion (λ b. 0 < ordinal_count b) cs → AllByRecursion (λ b. ordinal_count b ≤ MAX_ENTRIES) cs → AreJoined cs → bs ≡ cs
 one_list [] [] same sb mb jb sc mc jc = refl
 one_list [] (c ∷ cs) same sb mb jb sc mc jc = absurd (none_left c cs sc.0 same)
 one_list (b ∷ bs) [] same sb mb jb sc mc jc = absurd (none_left b bs sb.0 (sym same))

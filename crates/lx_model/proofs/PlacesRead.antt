@@ -9,6 +9,8 @@ use Rattle.lx_types.specs.declared.object.ObjHead.{ObjHead}
 use Rattle.lx_types.specs.declared.object.PageHead.{PageHead}
 use Rattle.lx_types.specs.declared.object.PageKind.{PageKind}
 use Rattle.lx_types.specs.declared.object.PageKind.TheVariants.{Plain, Iterated, Invalid, Zero}
+use Rattle.lx_model.specs.declared.lengths.TheConstants.{OBJECT_ENTRY_LEN, PAGE_ENTRY_LEN}
+use Rattle.lx_model.specs.declared.header_fields.TheConstants.{LX_SIGNATURE}
 use Rattle.lx_model.specs.Reading.{number_at}
 use Rattle.lx_model.specs.Header.{is_lx_at, header_place, field, header_fields}
 use Rattle.lx_model.specs.Tables.{object_entry, page_kind}
@@ -17,7 +19,7 @@ use Rattle.lx_model.specs.TableLaws.{DoublewordsReadAgain, ObjectsReadAgain, Pag
 
 -- ---- a number at a place
 
--- the number in n bytes behind others
+-- the number in n bytes after others
 number_read : (n x : ℕ) (before front rest : List ℕ) (skip : ℕ) → length front ≡ skip → x < 256 ^ n → number_at n (before ++ (front ++ (little_bytes n x ++ rest))) (length before + skip) ≡ x
 number_read n x before front rest skip len fits =
     let whole : before ++ (front ++ (little_bytes n x ++ rest)) ≡ (before ++ front) ++ (little_bytes n x ++ rest) = sym (append_assoc before front (little_bytes n x ++ rest)) in
@@ -91,7 +93,7 @@ object_read before o rest fits =
 
 pub objects_again : ObjectsReadAgain
 objects_again before os rest fits =
-    entries_read ObjectHeadFits object_spelling (λ o. o) object_entry (λ k. length before + 24 * k) 24 object_read (λ x. refl) (λ a. omega arith) os 0 before rest (before ++ (objects_spelling os ++ rest)) fits (omega arith) refl
+    entries_read ObjectHeadFits object_spelling (λ o. o) object_entry (λ k. length before + OBJECT_ENTRY_LEN * k) OBJECT_ENTRY_LEN object_read (λ x. refl) (λ a. omega arith) os 0 before rest (before ++ (objects_spelling os ++ rest)) fits (omega arith) refl
     ∙ map_same os
 
 -- ---- pages
@@ -127,7 +129,7 @@ page_read before p rest fits =
 
 pub pages_again : PagesReadAgain
 pages_again before ps rest fits =
-    entries_read PageHeadFits page_spelling Some page_fields (λ k. length before + 8 * k) 8 page_read (λ x. refl) (λ a. omega arith) ps 0 before rest (before ++ (pages_spelling ps ++ rest)) fits (omega arith) refl
+    entries_read PageHeadFits page_spelling Some page_fields (λ k. length before + PAGE_ENTRY_LEN * k) PAGE_ENTRY_LEN page_read (λ x. refl) (λ a. omega arith) ps 0 before rest (before ++ (pages_spelling ps ++ rest)) fits (omega arith) refl
 
 -- ---- the header
 
@@ -135,12 +137,12 @@ at_start : (file : List ℕ) → is_lx_at file 0 ≡ true → header_fields file
 unfolding header_place field
 at_start file is = rw is refl
 
-starts : (others rest : List ℕ) → is_lx_at (header_spelling (0x584C ∷ others) ++ rest) 0 ≡ true
+starts : (others rest : List ℕ) → is_lx_at (header_spelling (LX_SIGNATURE ∷ others) ++ rest) 0 ≡ true
 starts others rest = refl
 
-header_by : (others rest : List ℕ) → length others ≡ 42 → AreDoublewords (0x584C ∷ others) → header_fields (header_spelling (0x584C ∷ others) ++ rest) ≡ 0x584C ∷ others
+header_by : (others rest : List ℕ) → length others ≡ 42 → AreDoublewords (LX_SIGNATURE ∷ others) → header_fields (header_spelling (LX_SIGNATURE ∷ others) ++ rest) ≡ LX_SIGNATURE ∷ others
 header_by others rest count fits =
-    let fields = 0x584C ∷ others in
+    let fields = LX_SIGNATURE ∷ others in
     let behind = replicate 24 0 ++ rest in
     let file = header_spelling fields ++ rest in
     let grouped : file ≡ doublewords fields ++ behind = append_assoc (doublewords fields) (replicate 24 0) rest in

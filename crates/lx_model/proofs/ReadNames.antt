@@ -6,10 +6,12 @@ use Rattle.lx_bytes.specs.Cursor.{Cursor, advance}
 use Rattle.lx_types.specs.declared.refusal.LxRefusal.{LxRefusal}
 use Rattle.lx_types.specs.declared.refusal.LxKind.TheVariants.{Short}
 use Rattle.lx_types.specs.declared.parts.Parts.{Parts}
+use Rattle.lx_model.specs.declared.header_fields.TheConstants.{RESIDENT_NAME_TABLE, ENTRY_TABLE}
 use Rattle.lx_model.specs.Reading.{fault, cursor, text, number, ◌>>=◌, ends, Many, many, placed, fault_of, value_or}
 use Rattle.lx_model.specs.Header.{table, object_count, import_count}
 use Rattle.lx_model.specs.NameTables.{Named, name_entry, names_in, resident_fault, lacks_name, first_name, name_of}
-use Rattle.lx_model.specs.EntryTable.{Numbered, LAST_ORDINAL, entries_in, entries_of, entries_fault}
+use Rattle.lx_model.specs.EntryTable.{Numbered, entries_in, entries_of, entries_fault}
+use Rattle.lx_model.specs.declared.limits.TheConstants.{MAX_ORDINAL}
 use Rattle.lx_model.specs.Module.{LxFault, parts_of}
 use Rattle.lx_model.specs.ModuleLaws.{ReadIsNamed}
 use Rattle.lx_model.proofs.Entries.{Run, run_of_table}
@@ -78,14 +80,14 @@ first_has file at (Ok (n ∷ ns)) each good = (each (n ∷ ns) refl).0
 first_has file at (Err e) each good = absurd cc
 
 name_there : (file : List ℕ) → resident_fault file ≡ None → 0 < length (name_of file)
-name_there file good = first_has file (table file 0x58) (names_in (drop (table file 0x58) file)) (table_has (drop (table file 0x58) file)) good
+name_there file good = first_has file (table file RESIDENT_NAME_TABLE) (names_in (drop (table file RESIDENT_NAME_TABLE) file)) (table_has (drop (table file RESIDENT_NAME_TABLE) file)) good
 
 -- ---- ordinals
 
 abbrev IsOrdinal : Numbered → Type 0
 IsOrdinal e = (0 < e.0) × (e.0 < 2 ^ 16)
 
-of_run : (objects imports low : ℕ) (es : List Numbered) → 0 < low → Run objects imports low (LAST_ORDINAL + 1) es → Each IsOrdinal es
+of_run : (objects imports low : ℕ) (es : List Numbered) → 0 < low → Run objects imports low (MAX_ORDINAL + 1) es → Each IsOrdinal es
 of_run objects imports low [] some run = tt
 of_run objects imports low (e ∷ es) some run = ((omega (arith, some, run.0), omega (arith, run.1)), of_run objects imports (e.0 + 1) es (omega arith) run.3)
 
@@ -95,8 +97,8 @@ of_table at objects imports bytes (Err e) is good = absurd cc
 
 ordinals_there : (file : List ℕ) → entries_fault file ≡ None → Each IsOrdinal (value_or [] (entries_of file))
 ordinals_there file good =
-    of_table (table file 0x5C) (object_count file) (import_count file) (drop (table file 0x5C) file)
-    (entries_in (object_count file) (import_count file) (drop (table file 0x5C) file)) refl good
+    of_table (table file ENTRY_TABLE) (object_count file) (import_count file) (drop (table file ENTRY_TABLE) file)
+    (entries_in (object_count file) (import_count file) (drop (table file ENTRY_TABLE) file)) refl good
 
 parts_named : (file : List ℕ) → LxFault file ≡ None → (0 < length (parts_of file).name) × Each IsOrdinal (parts_of file).entries
 unfolding parts_of

@@ -1,4 +1,4 @@
--- A reading step that gives back what was written, and steps one behind the other.
+-- A reading step that gives back what was written, and steps one after the other.
 use Rattle.std.proofs.Common.{◌≡◌, ℕ, ◌+◌, ◌*◌, ◌<◌, ◌^◌, false, ltb, List, [], ◌∷◌, ◌++◌, length, Ok, refl, append_assoc, arith, length-append}
 use Rattle.std.proofs.lemmas.Bool.{le-ltb}
 use Rattle.std.proofs.lemmas.List.{take_at, drop_at}
@@ -7,7 +7,7 @@ use Rattle.lx_bytes.specs.LittleEndian.{little_bytes}
 use Rattle.lx_bytes.proofs.Numbers.{length-little_bytes, little-little_bytes}
 use Rattle.lx_model.specs.Reading.{cursor, text, number, Read, ◌>>=◌}
 
--- The step reads these bytes as a value, whatever follows them, and goes on behind them.
+-- The step reads these bytes as a value, whatever follows them, and goes on after them.
 abbrev pub ReadsAs : {A : Type 0} → (Cursor → Read A) → List ℕ → A → Type 0
 ReadsAs step bytes value = (at : ℕ) (rest : List ℕ) → step (cursor at (bytes ++ rest)) ≡ Ok (value, cursor (at + length bytes) rest)
 
@@ -35,6 +35,6 @@ bind_reads s f xs ys a b first second at rest =
     let end : at + length xs + length ys ≡ at + length (xs ++ ys) = omega (arith, length-append xs ys) in
     rw (append_assoc xs ys rest, first at (ys ++ rest), second (at + length xs) rest, end) refl
 
--- a step whose value is made of the one before, with nothing read behind it
+-- a step whose value is made of the one before, with nothing read after it
 pub done_reads : {A B : Type 0} (s : Cursor → Read A) (h : A → B) (xs : List ℕ) (a : A) → ReadsAs s xs a → ReadsAs (λ c. s c >>= λ x. Ok (h x.0, x.1)) xs (h a)
 done_reads s h xs a first at rest = rw (first at rest) refl

@@ -16,7 +16,8 @@ use Rattle.lx_types.specs.declared.fix.FixTarget.TheVariants.{Internal, Ordinal,
 use Rattle.lx_types.specs.declared.fix.Fix.{Fix}
 use Rattle.lx_model.specs.Reading.{fault, cursor, number, Read, ◌>>=◌}
 use Rattle.lx_model.specs.Sources.{SourceKind, source_byte, source_of_byte, source_size}
-use Rattle.lx_model.specs.RecordFields.{ADDITIVE, CHAIN, has, number_width, target_width, ordinal_width, additive_width, internal_at, target_of_kind, target_at, additive_at, reaches_page, offset_at, offsets_at}
+use Rattle.lx_model.specs.RecordFields.{has, number_width, target_width, ordinal_width, additive_width, internal_at, target_of_kind, target_at, additive_at, reaches_page, offset_at, offsets_at}
+use Rattle.lx_model.specs.declared.record_fields.TheConstants.{ADDITIVE, CHAIN}
 use Rattle.lx_model.specs.Records.{fixes_at_offsets, single_at, list_at, behind_source, record_at}
 use Rattle.lx_model.specs.RecordSpelling.{Sizes, Written, target_code, flags_of, flags_byte, internal_spelling, target_spelling, additive_spelling, offset_spelling, offsets_spelling, record_spelling, fixes_written, InternalFits, TargetFits, AdditiveFits, OffsetFits, CountFits, AliasFits, RecordFits}
 use Rattle.lx_model.proofs.Steps.{then_ok, chosen, other}

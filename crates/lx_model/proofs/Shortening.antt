@@ -5,13 +5,15 @@ use Rattle.lx_types.specs.declared.refusal.LxKind.TheVariants as kinds
 use Rattle.lx_types.specs.declared.entry.EntryHead.{EntryHead}
 use Rattle.lx_model.specs.Reading.{fault, text, number, Read, ◌>>=◌, ends, Shortens}
 use Rattle.lx_model.specs.NameTables.{name_entry, import_name, import_entry}
-use Rattle.lx_model.specs.EntryTable.{LAST_ORDINAL, names_one_of, at_entry, gate_entry, forward_entry, bundle_entries, object_entries, bundle_of_type, bundle_at}
+use Rattle.lx_model.specs.EntryTable.{names_one_of, at_entry, gate_entry, forward_entry, bundle_entries, object_entries, bundle_of_type, bundle_at}
+use Rattle.lx_model.specs.declared.limits.TheConstants.{MAX_ORDINAL}
 use Rattle.lx_types.specs.declared.object.TheConstants.{PAGE_SIZE}
 use Rattle.lx_types.specs.declared.fix.Source.{Source}
 use Rattle.lx_types.specs.declared.fix.Source.TheVariants.{Byte, Sel, Far16, Off16, Far32, Off32, Self32}
 use Rattle.lx_model.specs.Iterated.{Group, group_fields, fault_at, group_at}
 use Rattle.lx_model.specs.Sources.{SourceKind, source_of_byte}
-use Rattle.lx_model.specs.RecordFields.{ADDITIVE, CHAIN, has, number_width, target_width, ordinal_width, additive_width, internal_at, target_of_kind, target_at, additive_at, reaches_page, offset_at, offsets_at}
+use Rattle.lx_model.specs.RecordFields.{has, number_width, target_width, ordinal_width, additive_width, internal_at, target_of_kind, target_at, additive_at, reaches_page, offset_at, offsets_at}
+use Rattle.lx_model.specs.declared.record_fields.TheConstants.{ADDITIVE, CHAIN}
 use Rattle.lx_model.specs.Records.{Record, single_at, list_at, behind_source, record_at, next_record}
 use Rattle.lx_model.proofs.Steps.{done, never}
 use Rattle.lx_model.proofs.Many.{Leaves, number_leaves, text_leaves, number_takes_some, bind_leaves, done_leaves, err_leaves, cond_leaves}
@@ -92,7 +94,7 @@ bundle_shortens objects imports last c d x e =
     let m = length c.left in
     bind_leaves m (number 1 c) _ (number_takes_some 1 c (omega arith)) (λ count at lt.
     cond_leaves m (eqb count 0) _ _ (done_leaves m _ at lt)
-    (cond_leaves m (ltb LAST_ORDINAL (last + count)) _ _ (err_leaves m _)
+    (cond_leaves m (ltb MAX_ORDINAL (last + count)) _ _ (err_leaves m _)
     (bind_leaves m (number 1 at) _ (number_leaves 1 m at lt) (λ kind at lt.
     bind_leaves m (bundle_of_type kind objects imports c.at count (last + 1) at) _ (bundle_leaves kind objects imports c.at count (last + 1) m at lt) (λ entries at lt. done_leaves m _ at lt))))) (Some x) d e
 

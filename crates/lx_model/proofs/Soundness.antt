@@ -9,6 +9,7 @@ use Rattle.lx_types.specs.declared.object.PageKind.TheVariants.{Plain, Iterated,
 use Rattle.lx_types.specs.declared.refusal.LxKind.TheVariants.{FixTable, Field}
 use Rattle.lx_types.specs.Sound.{HasPages, DataFits, IsNumberOf}
 use Rattle.std.specs.Prelude.{IfSome}
+use Rattle.lx_model.specs.declared.header_fields.TheConstants.{EIP_OBJECT, EIP}
 use Rattle.lx_model.specs.Reading.{fault, number_at, ◌then◌, short_at, first_of}
 use Rattle.lx_model.specs.Header.{header_place, page_count, object_count, start_of, start_fault, field}
 use Rattle.lx_model.specs.Tables.{object_entry, object_place, object_fault, objects_fault, lacks_pages, objects_of, page_place, page_entry, page_fault, data_fault, page_data, page_of_kind, page_kind, page_or_zero, pages_fault, page_heads}
@@ -107,5 +108,5 @@ in_range count object e h = grind (arith, nat_tests)
 
 pub start_fits : (file : List ℕ) → start_fault file ≡ None → IfSome (start_of file) (λ (s : ℕ × ℕ). IsNumberOf s.0 (object_count file))
 start_fits file e =
-    let object = field file 0x18 in
-    start_is (object_count file) object (field file 0x1C) (eqb object 0) refl (in_range (object_count file) object (fault Field (header_place file + 0x18)) e)
+    let object = field file EIP_OBJECT in
+    start_is (object_count file) object (field file EIP) (eqb object 0) refl (in_range (object_count file) object (fault Field (header_place file + EIP_OBJECT)) e)

@@ -1,4 +1,4 @@
--- Readings one behind the other: what succeeds, and what a test decides.
+-- Readings one after the other: what succeeds, and what a test decides.
 use Rattle.std.proofs.Common.{◌≡◌, Bool, true, false, cond, Option, Some, None, Result, Ok, Err, refl, ap, subst}
 use Rattle.lx_bytes.specs.Cursor.{Cursor}
 use Rattle.lx_types.specs.declared.refusal.LxRefusal.{LxRefusal}

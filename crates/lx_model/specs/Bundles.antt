@@ -1,5 +1,5 @@
 -- How the entry table is written: bundles, each with the entries of one type.
--- LX: "Entry Table".
+-- "32-bit Linear eXecutable Module Format": "Entry Table".
 use Rattle.std.specs.Prelude.{ℕ, ◌+◌, ◌<◌, ◌^◌, List, [], ◌∷◌, ◌++◌, length, map}
 use Rattle.std.specs.List.{flat_map, enumerate_from, AllByRecursion}
 use Rattle.lx_bytes.specs.LittleEndian.{little_bytes}

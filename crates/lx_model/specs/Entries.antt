@@ -1,5 +1,5 @@
 -- Entry points: where a key of a module leads, through forwarders.
--- LX: "Entry Table" (forwarder entries).
+-- "32-bit Linear eXecutable Module Format": "Entry Table" (forwarder entries).
 use Rattle.std.specs.Prelude.{◌≡◌, ◌<◌, ℕ, zero, suc, List, length, sum_by, Option, Some, None, option_map, option_and_then, Result, Ok, Err}
 use Rattle.lx_types.specs.declared.parts.Parts.{Parts}
 use Rattle.lx_types.specs.declared.entry.EntryHead.{EntryHead}

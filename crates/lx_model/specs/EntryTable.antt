@@ -1,5 +1,5 @@
 -- The entry table: bundles of entry points with consecutive ordinals.
--- LX: "Entry Table".
+-- "32-bit Linear eXecutable Module Format": "Entry Table".
 use Rattle.std.specs.Prelude.{ℕ, zero, suc, ◌+◌, ◌==◌, ◌&&◌, ◌%◌, not, Bool, List, [], ◌∷◌, drop, Some, Result, Ok, Err, Option, nat_lt, nat_le, if◌then◌else◌}
 use Rattle.std.specs.List.{flat_map}
 use Rattle.lx_bytes.specs.Cursor.{Cursor}
@@ -9,16 +9,14 @@ use Rattle.lx_types.specs.declared.entry.EntryHead.{EntryHead}
 use Rattle.lx_types.specs.declared.entry.EntryHead.TheVariants.{At, Gate286, Forward}
 use Rattle.lx_types.specs.declared.entry.FwdKey.{FwdKey}
 use Rattle.lx_types.specs.declared.entry.FwdKey.TheVariants as keys
+use Rattle.lx_model.specs.declared.header_fields.TheConstants.{ENTRY_TABLE}
 use Rattle.lx_model.specs.Reading.{fault, cursor, number, Read, ◌>>=◌, Step, ends, many, whole, placed, fault_of}
 use Rattle.lx_model.specs.Header.{table, object_count, import_count}
+use Rattle.lx_model.specs.declared.limits.TheConstants.{MAX_ORDINAL}
 
 -- an ordinal and what it stands for
 abbrev pub Numbered : Type 0
 Numbered = ℕ × EntryHead
-
--- the greatest ordinal
-abbrev pub LAST_ORDINAL : ℕ
-LAST_ORDINAL = 65535
 
 -- a number that counts from 1 names one of so many
 abbrev pub names_one_of : ℕ → ℕ → Bool
@@ -70,7 +68,7 @@ object_entries objects bundle n ordinal read c = do
 
 -- ---- bundles
 
--- What stands behind the count and the type of a bundle. Type 0 has nothing: its ordinals are unused.
+-- What stands after the count and the type of a bundle. Type 0 has nothing: its ordinals are unused.
 -- Then there are 16-bit entries, gates of the 80286, 32-bit entries, and forwarders.
 unfoldable pub bundle_of_type : ℕ → ℕ → ℕ → ℕ → ℕ → ℕ → Cursor → Read (List Numbered)
 bundle_of_type zero objects imports bundle n ordinal c = Ok ([], c)
@@ -81,12 +79,12 @@ bundle_of_type (suc (suc (suc (suc zero)))) objects imports bundle n ordinal c =
     number 2 c >>= λ reserved. bundle_entries n ordinal (forward_entry imports) reserved.1
 bundle_of_type (suc (suc (suc (suc (suc k))))) objects imports bundle n ordinal c = Err (fault kinds.EntryTable bundle)
 
--- A bundle, behind the last ordinal of those before it: a count byte, which ends the table where it is 0, a
+-- A bundle, after the last ordinal of those before it: a count byte, which ends the table where it is 0, a
 -- type byte, and the entries. A bundle whose ordinals pass the last one is wrong at its count.
 unfoldable pub bundle_at : ℕ → ℕ → Step ℕ (List Numbered)
 bundle_at objects imports last c = do
   count ← number 1 c
-  if count.0 == 0 then ends count.1 else if nat_lt LAST_ORDINAL (last + count.0) then Err (fault kinds.EntryTable c.at) else do
+  if count.0 == 0 then ends count.1 else if nat_lt MAX_ORDINAL (last + count.0) then Err (fault kinds.EntryTable c.at) else do
     type ← number 1 count.1
     entries ← bundle_of_type type.0 objects imports c.at count.0 (last + 1) type.1
     Ok (Some (entries.0, last + count.0), entries.1)
@@ -98,7 +96,7 @@ entries_in objects imports bytes = whole (many (bundle_at objects imports) 0 (cu
 -- ---- the table of a module
 
 abbrev pub entries_of : List ℕ → Result (List Numbered) LxRefusal
-entries_of file = placed (table file 0x5C) (entries_in (object_count file) (import_count file) (drop (table file 0x5C) file))
+entries_of file = placed (table file ENTRY_TABLE) (entries_in (object_count file) (import_count file) (drop (table file ENTRY_TABLE) file))
 
 abbrev pub entries_fault : List ℕ → Option LxRefusal
 entries_fault file = fault_of (entries_of file)

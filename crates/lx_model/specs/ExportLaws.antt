@@ -1,7 +1,8 @@
 -- What the tables of exports say together.
 use Rattle.std.specs.Prelude.{◌≡◌, ◌≤◌, ℕ, List, ◌++◌, Ok}
 use Rattle.std.specs.List.{AllByRecursion}
-use Rattle.lx_model.specs.EntryTable.{LAST_ORDINAL, entries_in}
+use Rattle.lx_model.specs.EntryTable.{entries_in}
+use Rattle.lx_model.specs.declared.limits.TheConstants.{MAX_ORDINAL}
 use Rattle.lx_model.specs.Bundles.{Bundle, table_spelling, BundleFits}
 use Rattle.lx_model.specs.ExportTables.{Exported, greatest, AreBundlesOf, entries_by_ordinal}
 
@@ -9,7 +10,7 @@ use Rattle.lx_model.specs.ExportTables.{Exported, greatest, AreBundlesOf, entrie
 abbrev pub ExportsReadAgain : Type 0
 ExportsReadAgain =
     (objects imports : ℕ) (xs : List Exported) (bs : List Bundle) (rest : List ℕ) → AreBundlesOf xs bs → AllByRecursion (BundleFits objects imports) bs →
-    greatest xs ≤ LAST_ORDINAL →
+    greatest xs ≤ MAX_ORDINAL →
     entries_in objects imports (table_spelling bs ++ rest) ≡ Ok (entries_by_ordinal xs)
 
 -- No two lists of bundles are those of the same exports.

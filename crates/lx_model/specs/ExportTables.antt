@@ -1,6 +1,6 @@
 -- The tables that tell a module's exports: which names they have, and which bundles of entries. The exports have
 -- their ordinals already; which ordinals a linker gives stands with the linker.
--- LX: "Entry Table", "Resident or Non-resident Name Table Entry".
+-- "32-bit Linear eXecutable Module Format": "Entry Table", "Resident or Non-resident Name Table Entry".
 use Rattle.std.specs.Prelude.{◌≡◌, ℕ, ◌+◌, ◌*◌, ◌<◌, ◌≤◌, ◌==◌, Bool, true, false, not, IsTrue, List, [], ◌∷◌, map, filter, find, max, replicate, Option, Some, None, option_map}
 use Rattle.std.specs.List.{flat_map, filter_map, range_with_len, AllByRecursion}
 use Rattle.lx_types.specs.Names.{uppercase}
@@ -11,6 +11,7 @@ use Rattle.lx_types.specs.declared.entry.FwdKey.TheVariants.{Ordinal, NameAt}
 use Rattle.lx_model.specs.NameTables.{Named}
 use Rattle.lx_model.specs.EntryTable.{Numbered}
 use Rattle.lx_model.specs.Bundles.{AtEntry, GateEntry, ForwardEntry, Bundle, unused, narrow, gates, wide, forwarders, ordinal_count}
+use Rattle.lx_model.specs.declared.limits.TheConstants.{MAX_ENTRIES}
 
 pub record Exported : Type 0 where
   pub name : List ℕ
@@ -97,20 +98,17 @@ same_kind (wide o es) (wide p fs) = o == p
 same_kind (forwarders r es) (forwarders s fs) = true
 same_kind b c = false
 
-abbrev pub MOST_ENTRIES : ℕ
-MOST_ENTRIES = 255
-
 -- Neighbours of one kind are joined: a bundle is followed by another of its kind only where it is full.
 abbrev pub AreJoined : List Bundle → Type 0
 AreJoined [] = Unit {0}
 AreJoined (b ∷ []) = Unit {0}
-AreJoined (b ∷ c ∷ bs) = (IsTrue (same_kind b c) → ordinal_count b ≡ MOST_ENTRIES) × AreJoined (c ∷ bs)
+AreJoined (b ∷ c ∷ bs) = (IsTrue (same_kind b c) → ordinal_count b ≡ MAX_ENTRIES) × AreJoined (c ∷ bs)
 
 -- The bundles of exports: what stands at each ordinal, in bundles that are joined. There is one such list.
 pub record AreBundlesOf (xs : List Exported) (bs : List Bundle) : Type 0 where
   pub each : flat_map slots_of bs ≡ slots xs
   pub some : AllByRecursion (λ b. 0 < ordinal_count b) bs
-  pub most : AllByRecursion (λ b. ordinal_count b ≤ MOST_ENTRIES) bs
+  pub most : AllByRecursion (λ b. ordinal_count b ≤ MAX_ENTRIES) bs
   pub joined : AreJoined bs
 
 -- the exports' entries, by rising ordinals

@@ -10,13 +10,14 @@ use Rattle.lx_model.specs.Reading.{fault, number_at, first, first_of, cursor, St
 use Rattle.lx_model.specs.Header.{Row, row_fault}
 use Rattle.lx_model.specs.NameTables.{name_entry, name_spelling, NameFits, import_entry, import_spelling, ImportFits}
 use Rattle.lx_model.specs.Iterated.{Group, group_at, group_spelling, GroupFits}
-use Rattle.lx_model.specs.EntryTable.{LAST_ORDINAL, bundle_at}
+use Rattle.lx_model.specs.EntryTable.{bundle_at}
+use Rattle.lx_model.specs.declared.limits.TheConstants.{MAX_ORDINAL}
 use Rattle.lx_model.specs.Bundles.{Bundle, bundle_spelling, ordinal_count, BundleFits}
 use Rattle.lx_model.specs.Records.{next_record}
 use Rattle.lx_model.specs.RecordSpelling.{record_spelling, RecordFits}
 use Rattle.lx_model.specs.Faults.{WrongName, WrongImport, WrongGroup, WrongBundle, WrongRecord}
 
--- ---- items, and what is known behind them
+-- ---- items, and what is known after them
 
 -- each item may stand where it stands, by what is known there
 abbrev pub AllGo : {S X : Type 0} → (S → X → Type 0) → (S → X → S) → S → List X → Type 0
@@ -68,7 +69,7 @@ abbrev pub last_with : ℕ → Bundle → ℕ
 last_with last b = last + ordinal_count b
 
 abbrev pub BundleGoes : ℕ → ℕ → ℕ → Bundle → Type 0
-BundleGoes objects imports last b = BundleFits objects imports b × (last_with last b ≤ LAST_ORDINAL)
+BundleGoes objects imports last b = BundleFits objects imports b × (last_with last b ≤ MAX_ORDINAL)
 
 abbrev pub BundleFaults : Type 0
 BundleFaults =

@@ -9,9 +9,11 @@ use Rattle.lx_types.specs.declared.fix.Source.{Source}
 use Rattle.lx_types.specs.declared.fix.Source.TheVariants.{Sel}
 use Rattle.lx_types.specs.declared.object.TheConstants.{PAGE_SIZE}
 use Rattle.lx_model.specs.Reading.{fault, number_at, Read}
-use Rattle.lx_model.specs.EntryTable.{LAST_ORDINAL, names_one_of, at_entry, gate_entry, forward_entry}
+use Rattle.lx_model.specs.EntryTable.{names_one_of, at_entry, gate_entry, forward_entry}
+use Rattle.lx_model.specs.declared.limits.TheConstants.{MAX_ORDINAL}
 use Rattle.lx_model.specs.Sources.{SourceKind, source_of_byte}
-use Rattle.lx_model.specs.RecordFields.{ADDITIVE, CHAIN, has, number_width, target_width, ordinal_width, additive_width, reaches_page}
+use Rattle.lx_model.specs.RecordFields.{has, number_width, target_width, ordinal_width, additive_width, reaches_page}
+use Rattle.lx_model.specs.declared.record_fields.TheConstants.{ADDITIVE, CHAIN}
 
 -- ---- fields
 
@@ -88,8 +90,8 @@ abbrev pub WrongBundle : ℕ → ℕ → ℕ → Cursor → LxRefusal → Type 0
 WrongBundle objects imports last c e =
     FieldThen 1 c e (λ count b.
     (0 < count)
-    × (((LAST_ORDINAL < last + count) × (e ≡ fault kinds.EntryTable c.at))
-    ⊎ ((last + count ≤ LAST_ORDINAL) × FieldThen 1 b e (λ type d. WrongOfType type objects imports c.at count d e))))
+    × (((MAX_ORDINAL < last + count) × (e ≡ fault kinds.EntryTable c.at))
+    ⊎ ((last + count ≤ MAX_ORDINAL) × FieldThen 1 b e (λ type d. WrongOfType type objects imports c.at count d e))))
 
 -- ---- fixup records
 

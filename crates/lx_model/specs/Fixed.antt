@@ -1,8 +1,9 @@
 -- The bytes of a page: as the file has them, and with its fixups at the bases of a load.
--- LX: "Object Page Table", "Fixup Record Table".
+-- "32-bit Linear eXecutable Module Format": "Object Page Table", "Fixup Record Table".
 use Rattle.std.specs.Prelude.{ℕ, suc, ◌+◌, ◌*◌, ◌-◌, ◌^◌, ◌%◌, ◌==◌, Bool, List, [], ◌++◌, map, reverse, find, slice_get, slice_index, Option, Some, None, unwrap_or, Result, Ok, Err, nat_le, if◌then◌else◌, ℤ, pos, negsuc}
 use Rattle.lx_bytes.specs.LittleEndian.{little_bytes}
 use Rattle.lx_types.specs.Addresses.{address, selector, selected_offset}
+pub use Rattle.lx_types.specs.Bases.{bases_of, base_of}
 use Rattle.lx_types.specs.Parts.{object_of, page_at, data_at, fix_span_at, fixes_at}
 use Rattle.lx_types.specs.declared.object.PageId.{PageId}
 use Rattle.lx_types.specs.declared.object.PageKind.{PageKind}
@@ -10,7 +11,6 @@ use Rattle.lx_types.specs.declared.object.PageKind.TheVariants.{Plain, Iterated,
 use Rattle.lx_types.specs.declared.object.TheConstants.{PAGE_SIZE}
 use Rattle.lx_types.specs.declared.parts.Parts.{Parts}
 use Rattle.lx_types.specs.declared.bases.Bases.{Bases}
-use Rattle.lx_types.specs.declared.bases.ModBases.{ModBases}
 use Rattle.lx_types.specs.declared.fix.Source.{Source}
 use Rattle.lx_types.specs.declared.fix.Source.TheVariants.{Byte, Sel, Far16, Off16, Far32, Off32, Self32}
 use Rattle.lx_types.specs.declared.fix.Fix.{Fix}
@@ -42,18 +42,10 @@ Raw m p i = slice_index (page_bytes m p) i
 
 -- ---- addresses under the bases of a load
 
-abbrev pub bases_of : Option ModBases → List ℕ
-bases_of (Some b) = b.objects
-bases_of None = []
-
--- where an object of a module stands
-abbrev pub base_of : Bases → ℕ → ℕ → ℕ
-base_of bases m object = slice_index (bases_of (find (λ b. b.«module» == m) bases.mods)) (object - 1)
-
 abbrev pub spot_address : Bases → Spot → ℕ
 spot_address bases s = address (base_of bases s.«module» s.object) s.offset
 
--- the place that lies an offset, which may be negative, behind another
+-- the place that lies an offset, which may be negative, after another
 abbrev pub behind : ℕ → ℤ → ℕ
 behind at (pos n) = at + n
 behind at (negsuc n) = at - suc n

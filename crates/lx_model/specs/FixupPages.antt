@@ -1,23 +1,24 @@
 -- The fixup page table: where the records of each page stand.
--- LX: "Fixup Page Table".
+-- "32-bit Linear eXecutable Module Format": "Fixup Page Table".
 use Rattle.std.specs.Prelude.{ℕ, ◌+◌, ◌*◌, ◌-◌, ◌&&◌, ◌||◌, Bool, List, length, map, Option, Some, None, nat_lt, if◌then◌else◌}
 use Rattle.std.specs.List.{range_with_len}
 use Rattle.lx_types.specs.declared.refusal.LxRefusal.{LxRefusal}
 use Rattle.lx_types.specs.declared.refusal.LxKind.TheVariants.{FixTable}
+use Rattle.lx_model.specs.declared.header_fields.TheConstants.{FIXUP_PAGE_TABLE, FIXUP_RECORD_TABLE}
 use Rattle.lx_model.specs.Reading.{fault, number_at, short_at, first_of, ◌then◌}
 use Rattle.lx_model.specs.Header.{field, table, page_count}
 
 -- a module whose table has the offset 0 has no records
 abbrev pub has_records : List ℕ → Bool
-has_records file = nat_lt 0 (field file 0x68)
+has_records file = nat_lt 0 (field file FIXUP_PAGE_TABLE)
 
 -- where the doubleword of page k stands, from 0
 abbrev pub offset_place : List ℕ → ℕ → ℕ
-offset_place file k = table file 0x68 + 4 * k
+offset_place file k = table file FIXUP_PAGE_TABLE + 4 * k
 
 -- where the records of page k begin; those of the page before end there
 abbrev pub records_place : List ℕ → ℕ → ℕ
-records_place file k = table file 0x6C + number_at 4 file (offset_place file k)
+records_place file k = table file FIXUP_RECORD_TABLE + number_at 4 file (offset_place file k)
 
 abbrev pub records_span : List ℕ → ℕ → ℕ × ℕ
 records_span file k = if has_records file then (records_place file k, records_place file (k + 1)) else (0, 0)

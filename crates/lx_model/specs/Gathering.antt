@@ -7,10 +7,7 @@ use Rattle.lx_model.specs.declared.library.LibraryRefusal.TheVariants.{TooManyMo
 use Rattle.lx_model.specs.Reading.{first}
 use Rattle.lx_model.specs.Module.{IsRead}
 use Rattle.lx_model.specs.Library.{module_of, module_named}
-
--- the most modules of a library
-abbrev pub MOST_MODULES : ℕ
-MOST_MODULES = 64
+use Rattle.lx_types.specs.declared.limits.TheConstants.{MAX_MODULES}
 
 -- a module has the name of an earlier one
 abbrev pub twice_at : List Parts → ℕ → Option LibraryRefusal
@@ -20,7 +17,7 @@ twice_at mods second =
 -- What is wrong with modules, in this order: there are too many; one has the name of another, the first such one.
 unfoldable pub LibraryFault : List Parts → Option LibraryRefusal
 LibraryFault mods =
-    if nat_lt MOST_MODULES (length mods) then Some (TooManyModules (length mods)) else first (map (twice_at mods) (range_with_len 0 (length mods)))
+    if nat_lt MAX_MODULES (length mods) then Some (TooManyModules (length mods)) else first (map (twice_at mods) (range_with_len 0 (length mods)))
 
 -- A library: nothing is wrong with its modules, and each of them was read.
 pub record IsLibrary (mods : List Parts) : Type 0 where

@@ -1,5 +1,5 @@
 -- The header of an LX module: where it stands, its fields, and what each may be.
--- LX: "LX Header".
+-- "32-bit Linear eXecutable Module Format": "LX Header".
 use Rattle.std.specs.Prelude.{ℕ, ◌+◌, ◌*◌, ◌==◌, ◌&&◌, ◌||◌, Bool, true, List, ◌∷◌, ◌++◌, length, map, Option, Some, None, nat_lt, nat_le, bit_and, if◌then◌else◌}
 use Rattle.std.specs.List.{range_with_len}
 use Rattle.lx_types.specs.declared.refusal.LxRefusal.{LxRefusal}
@@ -7,22 +7,24 @@ use Rattle.lx_types.specs.declared.refusal.LxKind.{LxKind}
 use Rattle.lx_types.specs.declared.refusal.LxKind.TheVariants.{Signature, Short, Field, TooMany}
 use Rattle.lx_types.specs.declared.object.TheConstants.{PAGE_SIZE}
 use Rattle.lx_types.specs.declared.parts.TheConstants.{MODULE_KIND, MODULE_LIBRARY}
+use Rattle.lx_types.specs.declared.limits.TheConstants.{MAX_PAGES, MAX_OBJECTS}
+use Rattle.lx_model.specs.declared.header_fields.TheConstants.{BYTE_ORDER, WORD_ORDER, FORMAT_LEVEL, CPU_TYPE, SYSTEM_TYPE, MODULE_VERSION, MODULE_FLAGS, MODULE_PAGES, EIP_OBJECT, EIP, PAGE_SIZE_FIELD, PAGE_OFFSET_SHIFT, FIXUP_SECTION_SIZE, OBJECT_COUNT, OBJECT_PAGE_TABLE, IMPORT_MODULE_COUNT, LX_SIGNATURE, HEADER_PLACE}
 use Rattle.lx_model.specs.Reading.{fault, number_at, first, ◌then◌}
 
 -- ---- its place
 
 -- `LX` stands at a place
 abbrev pub is_lx_at : List ℕ → ℕ → Bool
-is_lx_at file at = number_at 2 file at == 0x584C
+is_lx_at file at = number_at 2 file at == LX_SIGNATURE
 
 -- where the header stands: at 0, or where the doubleword at 3Ch of a DOS program says
 unfoldable pub header_place : List ℕ → ℕ
-header_place file = if is_lx_at file 0 then 0 else number_at 4 file 0x3C
+header_place file = if is_lx_at file 0 then 0 else number_at 4 file HEADER_PLACE
 
 abbrev pub place_fault : List ℕ → Option LxRefusal
 place_fault file =
     if is_lx_at file 0 then None
-    else if nat_lt (length file) 0x40 then Some (fault Short 0x3C)
+    else if nat_lt (length file) (HEADER_PLACE + 4) then Some (fault Short HEADER_PLACE)
     else if is_lx_at file (header_place file) then None
     else Some (fault Signature (header_place file))
 
@@ -48,38 +50,31 @@ is_module_flags flags =
     let kind = bit_and flags MODULE_KIND in
     (bit_and flags 0x2000 == 0) && (kind == 0 || kind == MODULE_LIBRARY)
 
--- the most pages and the most objects that a module may have
-abbrev pub MOST_PAGES : ℕ
-MOST_PAGES = 65536
-
-abbrev pub MOST_OBJECTS : ℕ
-MOST_OBJECTS = 1024
-
 -- the fields in the order of their offsets
 abbrev pub rows : List Row
 rows =
     -- byte order and word order: little-endian; format level
-    row 0x02 1 (λ v. v == 0) Field
-    ∷ row 0x03 1 (λ v. v == 0) Field
-    ∷ row 0x04 4 (λ v. v == 0) Field
+    row BYTE_ORDER 1 (λ v. v == 0) Field
+    ∷ row WORD_ORDER 1 (λ v. v == 0) Field
+    ∷ row FORMAT_LEVEL 4 (λ v. v == 0) Field
     -- the CPU: 80286, 80386 or 80486; the system: OS/2
-    ∷ row 0x08 2 (λ v. nat_le 1 v && nat_le v 3) Field
-    ∷ row 0x0A 2 (λ v. v == 1) Field
+    ∷ row CPU_TYPE 2 (λ v. nat_le 1 v && nat_le v 3) Field
+    ∷ row SYSTEM_TYPE 2 (λ v. v == 1) Field
     -- the module's version; the module flags; the number of pages
-    ∷ row 0x0C 4 (λ _. true) Field
-    ∷ row 0x10 4 is_module_flags Field
-    ∷ row 0x14 4 (λ v. nat_le v MOST_PAGES) TooMany
+    ∷ row MODULE_VERSION 4 (λ _. true) Field
+    ∷ row MODULE_FLAGS 4 is_module_flags Field
+    ∷ row MODULE_PAGES 4 (λ v. nat_le v MAX_PAGES) TooMany
     -- EIP's and ESP's objects and offsets
-    ∷ any_from 0x18 4
+    ∷ any_from EIP_OBJECT 4
     ++  -- the page size, and by how much the offsets of pages are shifted
-    row 0x28 4 (λ v. v == PAGE_SIZE) Field
-    ∷ row 0x2C 4 (λ v. nat_le v 12) Field
+    row PAGE_SIZE_FIELD 4 (λ v. v == PAGE_SIZE) Field
+    ∷ row PAGE_OFFSET_SHIFT 4 (λ v. nat_le v 12) Field
     -- sizes and checksums of the fixup and loader sections; the object table
-    ∷ any_from 0x30 5
+    ∷ any_from FIXUP_SECTION_SIZE 5
     ++  -- the number of objects
-    row 0x44 4 (λ v. nat_le v MOST_OBJECTS) TooMany
+    row OBJECT_COUNT 4 (λ v. nat_le v MAX_OBJECTS) TooMany
     -- from the object page table to the heap
-    ∷ any_from 0x48 25
+    ∷ any_from OBJECT_PAGE_TABLE 25
 
 -- A field that passes the file's end is short. Of the others each has to be what its row allows.
 abbrev pub row_fault : List ℕ → ℕ → Row → Option LxRefusal
@@ -108,19 +103,19 @@ abbrev pub header_fields : List ℕ → List ℕ
 header_fields file = map (λ k. field file (4 * k)) (range_with_len 0 43)
 
 abbrev pub page_count : List ℕ → ℕ
-page_count file = field file 0x14
+page_count file = field file MODULE_PAGES
 
 abbrev pub object_count : List ℕ → ℕ
-object_count file = field file 0x44
+object_count file = field file OBJECT_COUNT
 
 abbrev pub import_count : List ℕ → ℕ
-import_count file = field file 0x74
+import_count file = field file IMPORT_MODULE_COUNT
 
 -- ---- the start, which is judged after the tables
 
 -- EIP's object is 0 where there is no start
 abbrev pub start_of : List ℕ → Option (ℕ × ℕ)
-start_of file = if field file 0x18 == 0 then None else Some (field file 0x18, field file 0x1C)
+start_of file = if field file EIP_OBJECT == 0 then None else Some (field file EIP_OBJECT, field file EIP)
 
 abbrev pub start_fault : List ℕ → Option LxRefusal
-start_fault file = if nat_le (field file 0x18) (object_count file) then None else Some (fault Field (header_place file + 0x18))
+start_fault file = if nat_le (field file EIP_OBJECT) (object_count file) then None else Some (fault Field (header_place file + EIP_OBJECT))

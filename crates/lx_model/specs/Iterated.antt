@@ -1,5 +1,5 @@
 -- Iterated data: groups of bytes that are repeated, and what they give.
--- LX: "Iterated Data Pages".
+-- "32-bit Linear eXecutable Module Format": "Iterated Data Pages".
 use Rattle.std.specs.Prelude.{ℕ, ◌+◌, ◌*◌, ◌<◌, ◌^◌, ◌==◌, List, ◌++◌, length, Some, Result, Ok, Err, nat_lt, if◌then◌else◌}
 use Rattle.std.specs.List.{repeat, flat_map}
 use Rattle.lx_bytes.specs.Cursor.{Cursor}

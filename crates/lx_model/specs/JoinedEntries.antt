@@ -1,10 +1,11 @@
 -- The bundles of exports: the ordinals in order, joined as far as they can be. `ExportTables.antt` says what bundles of
 -- exports are; these are the ones.
--- LX: "Entry Table".
+-- "32-bit Linear eXecutable Module Format": "Entry Table".
 use Rattle.std.specs.Prelude.{ℕ, zero, suc, ◌==◌, Bool, true, false, List, [], ◌∷◌, length, map, take, drop, Option, Some, None, if◌then◌else◌}
 use Rattle.std.specs.List.{flat_map, filter_map}
 use Rattle.lx_model.specs.Bundles.{AtEntry, GateEntry, ForwardEntry, Bundle, unused, narrow, gates, wide, forwarders}
-use Rattle.lx_model.specs.ExportTables.{Exported, Slot, empty, narrow_at, gate_at, wide_at, forwarder, slots, MOST_ENTRIES, AreBundlesOf}
+use Rattle.lx_model.specs.ExportTables.{Exported, Slot, empty, narrow_at, gate_at, wide_at, forwarder, slots, AreBundlesOf}
+use Rattle.lx_model.specs.declared.limits.TheConstants.{MAX_ENTRIES}
 
 -- ---- neighbours of one type, and of one object where the type has one
 
@@ -16,7 +17,7 @@ joins (wide_at object e) (wide_at other f) = object == other
 joins (forwarder reserved e) (forwarder other f) = reserved == other
 joins s t = false
 
--- A slot, and the neighbours behind it that join.
+-- A slot, and the neighbours after it that join.
 pub record Run : Type 0 where
   pub first : Slot
   pub others : List Slot
@@ -34,7 +35,7 @@ runs_of (s ∷ ss) = before_runs s (runs_of ss)
 abbrev pub parts_from : ℕ → List Slot → List (List Slot)
 parts_from zero ss = []
 parts_from (suc n) [] = []
-parts_from (suc n) (s ∷ ss) = take MOST_ENTRIES (s ∷ ss) ∷ parts_from n (drop MOST_ENTRIES (s ∷ ss))
+parts_from (suc n) (s ∷ ss) = take MAX_ENTRIES (s ∷ ss) ∷ parts_from n (drop MAX_ENTRIES (s ∷ ss))
 
 abbrev pub parts_of : List Slot → List (List Slot)
 parts_of ss = parts_from (length ss) ss

@@ -1,5 +1,5 @@
 -- Which records the fixups of a page get: their order, which sources are one list, and the sizes of fields.
--- LX: "Fixup Record Table".
+-- "32-bit Linear eXecutable Module Format": "Fixup Record Table".
 use Rattle.std.specs.Prelude.{ℕ, ◌-◌, ◌^◌, ◌%◌, ◌==◌, ◌&&◌, ◌||◌, not, Bool, false, List, [], ◌∷◌, ◌++◌, length, map, take, filter, nat_lt, nat_le, int_lt, int_le, if◌then◌else◌, pos, ◌+ℤ◌}
 use Rattle.lx_types.specs.declared.fix.Fix.{Fix}
 use Rattle.lx_types.specs.declared.fix.FixTarget.{FixTarget}
@@ -8,6 +8,7 @@ use Rattle.lx_types.specs.declared.object.TheConstants.{PAGE_SIZE}
 use Rattle.lx_model.specs.Module.{same_target}
 use Rattle.lx_model.specs.Sources.{code_of, source_size}
 use Rattle.lx_model.specs.RecordSpelling.{Sizes, Written}
+use Rattle.lx_model.specs.declared.record_fields.TheConstants.{MAX_LISTED}
 
 -- ---- order: sources stand by their offsets
 
@@ -21,7 +22,7 @@ by_offset (f ∷ fs) = inserted f (by_offset fs)
 
 -- ---- lists
 
--- A source begins before its page or ends behind it.
+-- A source begins before its page or ends past it.
 abbrev pub crosses : Fix → Bool
 crosses f = int_lt f.offset (pos 0) || int_lt (pos PAGE_SIZE) (f.offset +ℤ pos (source_size f.source))
 
@@ -34,15 +35,11 @@ joins f g =
     code_of f.source == code_of g.source && same_alias f.alias g.alias && same_target f.target g.target && f.additive == g.additive
     && not (crosses f) && not (crosses g)
 
--- the most sources of a list
-abbrev pub MOST_LISTED : ℕ
-MOST_LISTED = 255
-
--- Behind earlier sources, one begins a record unless a record that began before has room for it.
+-- After earlier sources, one begins a record unless a record that began before has room for it.
 abbrev pub begins : List Fix → Fix → Bool
-begins earlier f = length (filter (joins f) earlier) % MOST_LISTED == 0
+begins earlier f = length (filter (joins f) earlier) % MAX_LISTED == 0
 
--- A source, and those that its record lists behind it. Records stand by their first sources.
+-- A source, and those that its record lists after it. Records stand by their first sources.
 pub record Listed : Type 0 where
   pub first : Fix
   pub others : List Fix
@@ -51,7 +48,7 @@ abbrev pub listed_behind : List Fix → List Fix → List Listed
 listed_behind earlier [] = []
 listed_behind earlier (f ∷ fs) =
     if begins earlier f
-    then record { first = f; others = take (MOST_LISTED - 1) (filter (joins f) fs) } ∷ listed_behind (earlier ++ f ∷ []) fs
+    then record { first = f; others = take (MAX_LISTED - 1) (filter (joins f) fs) } ∷ listed_behind (earlier ++ f ∷ []) fs
     else listed_behind (earlier ++ f ∷ []) fs
 
 -- ---- sizes: the shortest that the numbers have room in

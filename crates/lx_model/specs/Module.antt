@@ -7,6 +7,7 @@ use Rattle.lx_types.specs.declared.fix.FixTarget.{FixTarget}
 use Rattle.lx_types.specs.declared.fix.FixTarget.TheVariants.{Internal, Ordinal, Named, Own}
 use Rattle.lx_types.specs.declared.parts.Parts.{Parts}
 use Rattle.lx_types.specs.Parts.{span, name_at, entry_of}
+use Rattle.lx_model.specs.declared.header_fields.TheConstants.{MODULE_FLAGS, IMPORT_PROCEDURE_TABLE}
 use Rattle.lx_model.specs.Reading.{fault, first, first_of, ◌then◌, Many, fault_of, value_or}
 use Rattle.lx_model.specs.Header.{field, table, page_count, object_count, import_count, start_of, start_fault, header_fault}
 use Rattle.lx_model.specs.Tables.{objects_of, objects_fault, page_heads, pages_fault}
@@ -53,13 +54,13 @@ unfoldable pub parts_of : List ℕ → Parts
 parts_of file = record {
   file = file;
   name = name_of file;
-  flags = field file 0x10;
+  flags = field file MODULE_FLAGS;
   start = start_of file;
   objects = objects_of file;
   pages = page_heads file;
   fix_spans = spans_of file;
   imports = value_or [] (import_names file);
-  procs_at = table file 0x78;
+  procs_at = table file IMPORT_PROCEDURE_TABLE;
   entries = value_or [] (entries_of file);
   names = names_after_first (value_or [] (resident_names file)) ++ names_after_first (value_or [] (other_names file));
   refs = refs_of file;
@@ -81,7 +82,7 @@ targets_in file = record {
   objects = object_count file;
   imports = import_count file;
   file = file;
-  procs_at = table file 0x78;
+  procs_at = table file IMPORT_PROCEDURE_TABLE;
   entries = value_or [] (entries_of file);
 }
 
@@ -104,7 +105,7 @@ records_fault within records = first (map (target_fault within) records.items) t
 abbrev pub page_records_fault : List ℕ → ℕ → Option LxRefusal
 page_records_fault file k = records_fault (targets_in file) (page_records file k)
 
--- The first fault of a file, in this order. What stands behind a fault is not judged.
+-- The first fault of a file, in this order. What stands after a fault is not judged.
 unfoldable pub LxFault : List ℕ → Option LxRefusal
 LxFault file =
     header_fault file

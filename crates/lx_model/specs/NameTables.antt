@@ -1,12 +1,13 @@
 -- The resident and the non-resident name table, and the import tables.
--- LX: "Resident or Non-resident Name Table Entry", "Import Module Name Table", "Import Procedure Name
--- Table".
+-- "32-bit Linear eXecutable Module Format": "Resident or Non-resident Name Table Entry", "Import Module Name Table",
+-- "Import Procedure Name Table".
 use Rattle.std.specs.Prelude.{ℕ, zero, suc, ◌<◌, ◌^◌, ◌==◌, List, [], ◌∷◌, ◌++◌, length, take, drop, Option, Some, None, Result, Ok, Err, if◌then◌else◌}
 use Rattle.std.specs.List.{flat_map}
 use Rattle.lx_bytes.specs.Cursor.{Cursor}
 use Rattle.lx_bytes.specs.LittleEndian.{little_bytes}
 use Rattle.lx_types.specs.declared.refusal.LxRefusal.{LxRefusal}
 use Rattle.lx_types.specs.declared.refusal.LxKind.TheVariants as kinds
+use Rattle.lx_model.specs.declared.header_fields.TheConstants.{RESIDENT_NAME_TABLE, IMPORT_MODULE_TABLE, NONRESIDENT_NAME_TABLE, NONRESIDENT_NAME_LENGTH}
 use Rattle.lx_model.specs.Reading.{fault, cursor, text, number, Read, ◌>>=◌, Step, ends, many, whole, placed, fault_of, value_or}
 use Rattle.lx_model.specs.Header.{field, table, import_count}
 
@@ -48,16 +49,16 @@ pub record NameFits (n : Named) : Type 0 where
 
 -- The resident table ends somewhere in the file. Its first entry is the module's name.
 abbrev pub resident_names : List ℕ → Result (List Named) LxRefusal
-resident_names file = placed (table file 0x58) (names_in (drop (table file 0x58) file))
+resident_names file = placed (table file RESIDENT_NAME_TABLE) (names_in (drop (table file RESIDENT_NAME_TABLE) file))
 
 -- The non-resident table is read within its length. Without one there are no names.
 abbrev pub other_names : List ℕ → Result (List Named) LxRefusal
 other_names file =
-    if field file 0x8C == 0 then Ok []
-    else placed (field file 0x88) (names_in (take (field file 0x8C) (drop (field file 0x88) file)))
+    if field file NONRESIDENT_NAME_LENGTH == 0 then Ok []
+    else placed (field file NONRESIDENT_NAME_TABLE) (names_in (take (field file NONRESIDENT_NAME_LENGTH) (drop (field file NONRESIDENT_NAME_TABLE) file)))
 
 abbrev pub lacks_name : List ℕ → List Named → Option LxRefusal
-lacks_name file [] = Some (fault kinds.NameTable (table file 0x58))
+lacks_name file [] = Some (fault kinds.NameTable (table file RESIDENT_NAME_TABLE))
 lacks_name file (name ∷ others) = None
 
 abbrev pub resident_fault : List ℕ → Option LxRefusal
@@ -92,7 +93,7 @@ pub record ImportFits (name : List ℕ) : Type 0 where
   pub short : length name < 256
 
 abbrev pub import_names : List ℕ → Result (List (List ℕ)) LxRefusal
-import_names file = placed (table file 0x70) (imports_in (import_count file) (drop (table file 0x70) file))
+import_names file = placed (table file IMPORT_MODULE_TABLE) (imports_in (import_count file) (drop (table file IMPORT_MODULE_TABLE) file))
 
 abbrev pub imports_fault : List ℕ → Option LxRefusal
 imports_fault file = fault_of (import_names file)

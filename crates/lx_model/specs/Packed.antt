@@ -1,9 +1,10 @@
 -- Iterated data as it is written: what of a page is written, and in which groups.
--- LX: "Iterated Data Pages".
+-- "32-bit Linear eXecutable Module Format": "Iterated Data Pages".
 use Rattle.std.specs.Prelude.{ℕ, zero, suc, ◌+◌, ◌-◌, ◌/◌, ◌%◌, ◌==◌, ◌&&◌, Bool, List, [], ◌∷◌, ◌++◌, length, take, replicate, find, Option, Some, None, nat_lt, bytes_eq, if◌then◌else◌}
 use Rattle.std.specs.List.{repeat}
 use Rattle.lx_types.specs.declared.object.TheConstants.{PAGE_SIZE}
 use Rattle.lx_model.specs.Iterated.{Group, groups_spelling}
+use Rattle.lx_model.specs.declared.limits.TheConstants.{LONG_RUN}
 
 -- ---- the data of a page
 
@@ -47,10 +48,6 @@ before_runs b (r ∷ others) = if r.byte == b then record { byte = b; times = r.
 abbrev pub runs_of : List ℕ → List Run
 runs_of [] = []
 runs_of (b ∷ others) = before_runs b (runs_of others)
-
--- the least run that has a group of its own
-abbrev pub LONG_RUN : ℕ
-LONG_RUN = 8
 
 abbrev pub once : List ℕ → Group
 once bytes = record { times = 1; bytes = bytes }

@@ -1,6 +1,7 @@
 -- Bases under which a module can be fixed: each module that it reaches has its place.
 use Rattle.std.specs.Prelude.{◌≡◌, ℕ, ◌+◌, ◌%◌, ◌==◌, ◌≤◌, ◌<◌, List, length, find, slice_index, Some, if◌then◌else◌}
-use Rattle.lx_types.specs.Addresses.{UNIT, room, PRIVATE_FROM, SHARED_FROM, SHARED_END}
+use Rattle.lx_types.specs.Addresses.{room}
+use Rattle.lx_types.specs.declared.limits.TheConstants.{BASE_UNIT, PRIVATE_FROM, SHARED_FROM, SHARED_END}
 use Rattle.lx_types.specs.Parts.{is_library_of, object_of}
 use Rattle.lx_types.specs.declared.bases.Bases.{Bases}
 use Rattle.lx_types.specs.declared.bases.ModBases.{ModBases}
@@ -17,7 +18,7 @@ arena_end m = if is_library_of m then SHARED_END else SHARED_FROM
 
 -- Object k of a module, from 0, stands at a base: on a unit, and with its whole room in the arena.
 pub record StandsAt (m : Parts) (k base : ℕ) : Type 0 where
-  pub unit : base % UNIT ≡ 0
+  pub unit : base % BASE_UNIT ≡ 0
   pub from : arena_from m ≤ base
   pub to : base + room (object_of m (k + 1)).size ≤ arena_end m
 

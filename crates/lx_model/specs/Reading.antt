@@ -38,9 +38,9 @@ None then other = other
 abbrev pub first_of : ℕ → (ℕ → Option LxRefusal) → Option LxRefusal
 first_of n fault_of = first (map fault_of (range_with_len 0 n))
 
--- ---- fields one behind the other
+-- ---- fields one after the other
 
--- What a reading gives: a value and the cursor behind it, or the fault.
+-- What a reading gives: a value and the cursor after it, or the fault.
 abbrev pub Read : Type 0 → Type 0
 Read A = Result (A × Cursor) LxRefusal
 
@@ -55,9 +55,9 @@ text n c = if nat_lt (length c.left) n then Err (fault Short c.at) else Ok (take
 abbrev pub number : ℕ → Cursor → Read ℕ
 number n c = if nat_lt (length c.left) n then Err (fault Short c.at) else Ok (little (take n c.left), advance n c)
 
--- ---- many, one behind the other
+-- ---- many, one after the other
 
--- What a step of a table reads behind a cursor, where something is known: an item and what is known behind
+-- What a step of a table reads after a cursor, where something is known: an item and what is known after
 -- it, or that the table ends.
 abbrev pub Step : Type 0 → Type 0 → Type 0
 Step S A = S → Cursor → Read (Option (A × S))
@@ -65,7 +65,7 @@ Step S A = S → Cursor → Read (Option (A × S))
 abbrev pub ends : {S A : Type 0} → Cursor → Read (Option (A × S))
 ends c = Ok (None, c)
 
--- The items of a table up to its end, and the cursor behind it; or up to the first fault, and that fault.
+-- The items of a table up to its end, and the cursor after it; or up to the first fault, and that fault.
 pub record Many (A : Type 0) : Type 0 where
   pub items : List A
   pub end : Result Cursor LxRefusal
@@ -96,13 +96,13 @@ unfoldable pub many_from : {S A : Type 0} → Step S A → ℕ → S → Cursor 
 many_from step zero known c = ends_at c
 many_from step (suc n) known c = behind_step (many_from step n) (step known c)
 
--- What the steps read, one behind the other, up to the one that ends. Each step takes a byte or more, so
+-- What the steps read, one after the other, up to the one that ends. Each step takes a byte or more, so
 -- that they are never more than the bytes.
 unfoldable pub many : {S A : Type 0} → Step S A → S → Cursor → Many A
 many step known c = many_from step (suc (length c.left)) known c
 
--- What stands behind the first step decides what many give: nothing where the step ends; the item and what
--- is read behind it; the step's fault.
+-- What stands after the first step decides what many give: nothing where the step ends; the item and what
+-- is read after it; the step's fault.
 abbrev pub Shortens : {S A : Type 0} → Step S A → Type 0
 Shortens {S} {A} step = (known : S) (c d : Cursor) (item : A × S) → step known c ≡ Ok (Some item, d) → length d.left < length c.left
 

@@ -1,5 +1,5 @@
 -- The fields of fixup records: flags, targets, additives and offsets.
--- LX: "Fixup Record Table".
+-- "32-bit Linear eXecutable Module Format": "Fixup Record Table".
 use Rattle.std.specs.Prelude.{ℕ, zero, suc, ◌+◌, ◌^◌, ◌%◌, ◌==◌, ◌||◌, not, Bool, List, [], ◌∷◌, Ok, Err, nat_lt, bit_and, if◌then◌else◌, ℤ}
 use Rattle.std.specs.Int.{w16, cast_signed}
 use Rattle.lx_bytes.specs.Cursor.{Cursor}
@@ -11,31 +11,13 @@ use Rattle.lx_types.specs.declared.fix.FixTarget.{FixTarget}
 use Rattle.lx_types.specs.declared.fix.FixTarget.TheVariants as targets
 use Rattle.lx_model.specs.Reading.{fault, number, Read, ◌>>=◌}
 use Rattle.lx_model.specs.Sources.{source_size}
+use Rattle.lx_model.specs.declared.record_fields.TheConstants.{ADDITIVE, WIDE_TARGET, WIDE_ADDITIVE, WIDE_NUMBER, BYTE_ORDINAL}
 
--- ---- the flags byte
+-- ---- the flags byte: the target's kind, in the low two bits, and the flags
 
 -- a flag of the flags byte is set
 abbrev pub has : ℕ → ℕ → Bool
 has flag flags = not (bit_and flags flag == 0)
-
--- the target's kind, in the low two bits, and the flags
-abbrev pub ADDITIVE : ℕ
-ADDITIVE = 0x04
-
-abbrev pub CHAIN : ℕ
-CHAIN = 0x08
-
-abbrev pub WIDE_TARGET : ℕ
-WIDE_TARGET = 0x10
-
-abbrev pub WIDE_ADDITIVE : ℕ
-WIDE_ADDITIVE = 0x20
-
-abbrev pub WIDE_NUMBER : ℕ
-WIDE_NUMBER = 0x40
-
-abbrev pub BYTE_ORDINAL : ℕ
-BYTE_ORDINAL = 0x80
 
 -- how many bytes a field has: an object's or a module's number and an ordinal of the entry table; an
 -- offset in an object or of a name; an import's ordinal; the additive

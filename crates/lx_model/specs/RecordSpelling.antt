@@ -1,6 +1,6 @@
 -- How fixup records are written, in sizes of the writer's choice. The readings give back what was written:
 -- `Laws.antt`.
--- LX: "Fixup Record Table".
+-- "32-bit Linear eXecutable Module Format": "Fixup Record Table".
 use Rattle.std.specs.Prelude.{◌≡◌, ℕ, ◌+◌, ◌<◌, ◌^◌, Bool, true, false, List, [], ◌∷◌, ◌++◌, length, if◌then◌else◌, ℤ, pos, negsuc}
 use Rattle.std.specs.List.{flat_map, AllByRecursion}
 use Rattle.std.specs.Int.{w16, cast_unsigned}
@@ -12,7 +12,8 @@ use Rattle.lx_types.specs.declared.fix.FixTarget.TheVariants as targets
 use Rattle.lx_types.specs.declared.fix.Fix.{Fix}
 use Rattle.lx_types.specs.declared.object.TheConstants.{PAGE_SIZE}
 use Rattle.lx_model.specs.Sources.{SourceKind, source_size, has_selector, source_byte}
-use Rattle.lx_model.specs.RecordFields.{ADDITIVE, WIDE_TARGET, WIDE_ADDITIVE, WIDE_NUMBER, BYTE_ORDINAL, has, number_width, target_width, ordinal_width, additive_width}
+use Rattle.lx_model.specs.RecordFields.{has, number_width, target_width, ordinal_width, additive_width}
+use Rattle.lx_model.specs.declared.record_fields.TheConstants.{ADDITIVE, WIDE_TARGET, WIDE_ADDITIVE, WIDE_NUMBER, BYTE_ORDINAL}
 use Rattle.lx_model.specs.Records.{fixes_at_offsets}
 
 -- ---- records

@@ -1,5 +1,5 @@
 -- Fixup records: how records are read up to the first fault.
--- LX: "Fixup Record Table".
+-- "32-bit Linear eXecutable Module Format": "Fixup Record Table".
 use Rattle.std.specs.Prelude.{ℕ, ◌==◌, List, [], ◌∷◌, length, map, Option, Some, None, Ok, Err, if◌then◌else◌, ℤ}
 use Rattle.std.specs.List.{flat_map}
 use Rattle.lx_bytes.specs.Cursor.{Cursor}
@@ -8,7 +8,8 @@ use Rattle.lx_types.specs.declared.fix.FixTarget.{FixTarget}
 use Rattle.lx_types.specs.declared.fix.Fix.{Fix}
 use Rattle.lx_model.specs.Reading.{fault, cursor, number, Read, ◌>>=◌, Step, ends, Many, many}
 use Rattle.lx_model.specs.Sources.{SourceKind, source_of_byte}
-use Rattle.lx_model.specs.RecordFields.{CHAIN, has, target_at, additive_at, offset_at, offsets_at}
+use Rattle.lx_model.specs.RecordFields.{has, target_at, additive_at, offset_at, offsets_at}
+use Rattle.lx_model.specs.declared.record_fields.TheConstants.{CHAIN}
 
 -- ---- a record
 

@@ -1,10 +1,12 @@
 -- Resources: which bytes of a module's objects are the resource of a type and an identifier.
--- LX: "Resource Table".
+-- "32-bit Linear eXecutable Module Format": "Resource Table".
 use Rattle.std.specs.Prelude.{ℕ, ◌+◌, ◌*◌, ◌==◌, ◌&&◌, not, Bool, List, length, map, find, Option, option_map, nat_le}
 use Rattle.std.specs.List.{range_with_len}
 use Rattle.lx_types.specs.declared.parts.Parts.{Parts}
 use Rattle.lx_types.specs.declared.resource.ResSpot.{ResSpot}
 use Rattle.lx_types.specs.Parts.{object_of}
+use Rattle.lx_model.specs.declared.lengths.TheConstants.{RESOURCE_ENTRY_LEN}
+use Rattle.lx_model.specs.declared.header_fields.TheConstants.{RESOURCE_TABLE, RESOURCE_COUNT}
 use Rattle.lx_model.specs.Reading.{number_at}
 use Rattle.lx_model.specs.Header.{field, table}
 
@@ -17,11 +19,7 @@ pub record Resource : Type 0 where
   pub id : ℕ
   pub spot : ResSpot
 
--- how many bytes an entry has: the type, the identifier, the length, the object and the offset
-abbrev pub RESOURCE_SIZE : ℕ
-RESOURCE_SIZE = 14
-
--- the entry at a place of the file
+-- the entry at a place of the file: the type, the identifier, the length, the object and the offset
 abbrev pub resource_at : List ℕ → ℕ → Resource
 resource_at file at = record {
   at = at;
@@ -32,13 +30,13 @@ resource_at file at = record {
 
 -- where the table stands, and how many entries the header says it has
 abbrev pub resource_table : List ℕ → ℕ
-resource_table file = table file 0x50
+resource_table file = table file RESOURCE_TABLE
 
 abbrev pub resource_count : List ℕ → ℕ
-resource_count file = field file 0x54
+resource_count file = field file RESOURCE_COUNT
 
 unfoldable pub resources_of : List ℕ → List Resource
-resources_of file = map (λ k. resource_at file (resource_table file + RESOURCE_SIZE * k)) (range_with_len 0 (resource_count file))
+resources_of file = map (λ k. resource_at file (resource_table file + RESOURCE_ENTRY_LEN * k)) (range_with_len 0 (resource_count file))
 
 -- ---- what counts of it
 
@@ -49,7 +47,7 @@ is_in_object m spot =
 
 -- an entry counts where it lies whole in the file, and its resource in an object
 abbrev pub is_whole : Parts → Resource → Bool
-is_whole m r = nat_le (r.at + RESOURCE_SIZE) (length m.file) && is_in_object m r.spot
+is_whole m r = nat_le (r.at + RESOURCE_ENTRY_LEN) (length m.file) && is_in_object m r.spot
 
 abbrev pub has_key : ℕ → ℕ → Resource → Bool
 has_key ty id r = (r.ty == ty) && (r.id == id)

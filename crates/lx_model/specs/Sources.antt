@@ -1,8 +1,9 @@
 -- The sources of fixups: how many bytes each has, and the source byte of a record.
--- LX: "Fixup Record Table", the field SRC.
+-- "32-bit Linear eXecutable Module Format": "Fixup Record Table", the field SRC.
 use Rattle.std.specs.Prelude.{ℕ, ◌+◌, ◌%◌, ◌==◌, ◌&&◌, ◌||◌, not, Bool, true, false, Option, Some, None, nat_lt, bit_and, if◌then◌else◌, List, [], ◌∷◌, find}
 use Rattle.lx_types.specs.declared.fix.Source.{Source}
 use Rattle.lx_types.specs.declared.fix.Source.TheVariants.{Byte, Sel, Far16, Off16, Far32, Off32, Self32}
+use Rattle.lx_model.specs.declared.record_fields.TheConstants.{ALIAS, LISTED}
 
 -- how many bytes a source has
 abbrev pub source_size : Source → ℕ
@@ -46,12 +47,6 @@ pub record SourceKind : Type 0 where
   pub source : Source
   pub alias : Bool
   pub listed : Bool
-
-abbrev pub ALIAS : ℕ
-ALIAS = 0x10
-
-abbrev pub LISTED : ℕ
-LISTED = 0x20
 
 abbrev pub source_byte : SourceKind → ℕ
 source_byte kind = code_of kind.source + (if kind.alias then ALIAS else 0) + (if kind.listed then LISTED else 0)

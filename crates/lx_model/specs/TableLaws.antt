@@ -8,6 +8,7 @@ use Rattle.lx_types.specs.declared.fix.Fix.{Fix}
 use Rattle.lx_types.specs.declared.fix.FixTarget.{FixTarget}
 use Rattle.lx_types.specs.declared.object.ObjHead.{ObjHead}
 use Rattle.lx_types.specs.declared.object.PageHead.{PageHead}
+use Rattle.lx_model.specs.declared.lengths.TheConstants.{OBJECT_ENTRY_LEN, PAGE_ENTRY_LEN}
 use Rattle.lx_model.specs.Reading.{fault_of, number_at, OneByOne}
 use Rattle.lx_model.specs.Header.{header_fields}
 use Rattle.lx_model.specs.Tables.{object_entry}
@@ -15,12 +16,13 @@ use Rattle.lx_model.specs.TableSpelling.{doublewords, AreDoublewords, header_spe
 use Rattle.lx_model.specs.Module.{same_target, once}
 use Rattle.lx_model.specs.Iterated.{Group, groups_spelling, groups_data, GroupFits, group_at, expansion}
 use Rattle.lx_model.specs.NameTables.{Named, name_entry, names_in, names_spelling, NameFits, import_entry, imports_in, import_spelling, ImportFits}
-use Rattle.lx_model.specs.EntryTable.{Numbered, LAST_ORDINAL, bundle_at, entries_in}
+use Rattle.lx_model.specs.EntryTable.{Numbered, bundle_at, entries_in}
+use Rattle.lx_model.specs.declared.limits.TheConstants.{MAX_ORDINAL}
 use Rattle.lx_model.specs.Bundles.{Bundle, ordinals_together, table_spelling, entries_after, BundleFits}
 use Rattle.lx_model.specs.Records.{record_at, next_record, records_at, records_in, fixes_of}
 use Rattle.lx_model.specs.RecordSpelling.{Written, record_spelling, fixes_written, RecordFits}
 
--- ---- A table goes on behind its first item, and each item takes a byte or more.
+-- ---- A table goes on after its first item, and each item takes a byte or more.
 
 abbrev pub NamesGoOn : Type 0
 NamesGoOn = OneByOne name_entry
@@ -52,10 +54,10 @@ abbrev pub ImportsReadAgain : Type 0
 ImportsReadAgain =
     (names : List (List ℕ)) (rest : List ℕ) → AllByRecursion ImportFits names → imports_in (length names) (flat_map import_spelling names ++ rest) ≡ Ok names
 
--- an entry table, whatever follows it: the ordinals of its bundles, one behind the other
+-- an entry table, whatever follows it: the ordinals of its bundles, one after the other
 abbrev pub EntriesReadAgain : Type 0
 EntriesReadAgain =
-    (objects imports : ℕ) (bs : List Bundle) (rest : List ℕ) → AllByRecursion (BundleFits objects imports) bs → ordinals_together bs ≤ LAST_ORDINAL →
+    (objects imports : ℕ) (bs : List Bundle) (rest : List ℕ) → AllByRecursion (BundleFits objects imports) bs → ordinals_together bs ≤ MAX_ORDINAL →
     entries_in objects imports (table_spelling bs ++ rest) ≡ Ok (entries_after 0 bs)
 
 -- the records of a page: one fixup for each source, in the order in which they stand
@@ -78,12 +80,12 @@ DoublewordsReadAgain =
 abbrev pub ObjectsReadAgain : Type 0
 ObjectsReadAgain =
     (before : List ℕ) (os : List ObjHead) (rest : List ℕ) → AllByRecursion ObjectHeadFits os →
-    map (λ k. object_entry (before ++ (objects_spelling os ++ rest)) (length before + 24 * k)) (range_with_len 0 (length os)) ≡ os
+    map (λ k. object_entry (before ++ (objects_spelling os ++ rest)) (length before + OBJECT_ENTRY_LEN * k)) (range_with_len 0 (length os)) ≡ os
 
 abbrev pub PagesReadAgain : Type 0
 PagesReadAgain =
     (before : List ℕ) (ps : List PageHead) (rest : List ℕ) → AllByRecursion PageHeadFits ps →
-    map (λ k. page_fields (before ++ (pages_spelling ps ++ rest)) (length before + 8 * k)) (range_with_len 0 (length ps)) ≡ map Some ps
+    map (λ k. page_fields (before ++ (pages_spelling ps ++ rest)) (length before + PAGE_ENTRY_LEN * k)) (range_with_len 0 (length ps)) ≡ map Some ps
 
 -- the fields of a header at the file's start
 abbrev pub HeaderReadAgain : Type 0
@@ -119,7 +121,7 @@ ImportsAreSpelled =
 abbrev pub EntriesAreSpelled : Type 0
 EntriesAreSpelled =
     (objects imports : ℕ) (bytes : List ℕ) (es : List Numbered) → AreBytes bytes → entries_in objects imports bytes ≡ Ok es →
-    (bs : List Bundle) × (rest : List ℕ) × AllByRecursion (BundleFits objects imports) bs × (ordinals_together bs ≤ LAST_ORDINAL) × (es ≡ entries_after 0 bs)
+    (bs : List Bundle) × (rest : List ℕ) × AllByRecursion (BundleFits objects imports) bs × (ordinals_together bs ≤ MAX_ORDINAL) × (es ≡ entries_after 0 bs)
     × (bytes ≡ table_spelling bs ++ rest)
 
 -- iterated data, which gives a page or less

@@ -1,6 +1,6 @@
 -- How the header, the object table, the page table and the fixup page table are written. What they say is read again:
 -- `TableLaws.antt`. What of it a linker chooses stands with the linker.
--- LX: "LX Header", "Object Table", "Object Page Table", "Fixup Page Table".
+-- "32-bit Linear eXecutable Module Format": "LX Header", "Object Table", "Object Page Table", "Fixup Page Table".
 use Rattle.std.specs.Prelude.{◌≡◌, ℕ, ◌+◌, ◌<◌, ◌^◌, List, ◌∷◌, ◌++◌, length, option_map, replicate, Option}
 use Rattle.std.specs.List.{flat_map, AllByRecursion}
 use Rattle.lx_bytes.specs.LittleEndian.{little_bytes}
@@ -8,6 +8,7 @@ use Rattle.lx_types.specs.declared.object.ObjHead.{ObjHead}
 use Rattle.lx_types.specs.declared.object.PageHead.{PageHead}
 use Rattle.lx_types.specs.declared.object.PageKind.{PageKind}
 use Rattle.lx_types.specs.declared.object.PageKind.TheVariants.{Plain, Iterated, Invalid, Zero}
+use Rattle.lx_model.specs.declared.header_fields.TheConstants.{LX_SIGNATURE}
 use Rattle.lx_model.specs.Reading.{number_at}
 use Rattle.lx_model.specs.Tables.{page_kind}
 
@@ -28,7 +29,7 @@ header_spelling fields = doublewords fields ++ replicate 24 0
 -- `LX`, with little-endian bytes and words, and the other 42 doublewords
 pub record HeaderFits (fields : List ℕ) : Type 0 where
   pub others : List ℕ
-  pub signature : fields ≡ 0x584C ∷ others
+  pub signature : fields ≡ LX_SIGNATURE ∷ others
   pub count : length others ≡ 42
   pub fit : AreDoublewords fields
 

@@ -1,5 +1,5 @@
 -- The object table and the object page table: what each entry says, and what may be wrong with it.
--- LX: "Object Table", "Object Page Table".
+-- "32-bit Linear eXecutable Module Format": "Object Table", "Object Page Table".
 use Rattle.std.specs.Prelude.{ℕ, zero, suc, ◌+◌, ◌*◌, ◌^◌, ◌==◌, ◌&&◌, ◌||◌, not, Bool, List, length, map, Option, Some, None, nat_lt, nat_le, if◌then◌else◌}
 use Rattle.std.specs.List.{range_with_len}
 use Rattle.lx_types.specs.declared.refusal.LxRefusal.{LxRefusal}
@@ -11,13 +11,15 @@ use Rattle.lx_types.specs.declared.object.PageKind.TheVariants.{Plain, Iterated,
 use Rattle.lx_types.specs.declared.object.TheConstants.{PAGE_SIZE}
 use Rattle.lx_types.specs.Object.{zero_page}
 use Rattle.lx_types.specs.Parts.{span}
+use Rattle.lx_model.specs.declared.lengths.TheConstants.{OBJECT_ENTRY_LEN, PAGE_ENTRY_LEN}
+use Rattle.lx_model.specs.declared.header_fields.TheConstants.{PAGE_OFFSET_SHIFT, OBJECT_TABLE, OBJECT_PAGE_TABLE, ITERATED_PAGES, DATA_PAGES}
 use Rattle.lx_model.specs.Reading.{fault, number_at, short_at, first, first_of, ◌then◌, placed, fault_of}
 use Rattle.lx_model.specs.Header.{field, table, page_count, object_count}
 use Rattle.lx_model.specs.Iterated.{expansion}
 
 -- ---- objects
 
--- An entry of 24 bytes at a place: size, linked base, flags, first page, page count, and a doubleword
+-- An entry at a place: size, linked base, flags, first page, page count, and a doubleword
 -- that is reserved.
 abbrev pub object_entry : List ℕ → ℕ → ObjHead
 object_entry file at = record {
@@ -30,7 +32,7 @@ object_entry file at = record {
 
 -- where entry k stands, from 0
 abbrev pub object_place : List ℕ → ℕ → ℕ
-object_place file k = table file 0x40 + 24 * k
+object_place file k = table file OBJECT_TABLE + OBJECT_ENTRY_LEN * k
 
 unfoldable pub objects_of : List ℕ → List ObjHead
 objects_of file = map (λ k. object_entry file (object_place file k)) (range_with_len 0 (object_count file))
@@ -62,13 +64,21 @@ page_kind (suc (suc (suc (suc flags)))) = None
 
 -- where entry k of the page table stands, from 0: an offset, a size word and a flags word
 abbrev pub page_place : List ℕ → ℕ → ℕ
-page_place file k = table file 0x48 + 8 * k
+page_place file k = table file OBJECT_PAGE_TABLE + PAGE_ENTRY_LEN * k
 
 -- A page's data: where it begins in the file, and its length. Offsets are shifted, and count from the
 -- data pages or from the iterated pages.
 abbrev pub page_data : List ℕ → ℕ → PageKind → PageHead
-page_data file at Plain = record { kind = Plain; at = field file 0x80 + number_at 4 file at * 2 ^ field file 0x2C; len = number_at 2 file (at + 4) }
-page_data file at Iterated = record { kind = Iterated; at = field file 0x4C + number_at 4 file at * 2 ^ field file 0x2C; len = number_at 2 file (at + 4) }
+page_data file at Plain = record {
+  kind = Plain;
+  at = field file DATA_PAGES + number_at 4 file at * 2 ^ field file PAGE_OFFSET_SHIFT;
+  len = number_at 2 file (at + 4);
+}
+page_data file at Iterated = record {
+  kind = Iterated;
+  at = field file ITERATED_PAGES + number_at 4 file at * 2 ^ field file PAGE_OFFSET_SHIFT;
+  len = number_at 2 file (at + 4);
+}
 page_data file at Invalid = record { kind = Invalid; at = 0; len = 0 }
 page_data file at Zero = zero_page
 

@@ -19,7 +19,7 @@ pub fn parts_are_sound()
     ensures { MeansSound }
 {}
 
-/// What stands behind the first item of a table is read as a table that begins there, and an item
+/// What stands after the first item of a table is read as a table that begins there, and an item
 /// takes a byte or more.
 pub fn tables_go_on()
     ensures names { NamesGoOn }

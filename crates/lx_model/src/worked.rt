@@ -57,7 +57,7 @@ pub fn header_judged()
     ensures order { WorkedOrder }
 {}
 
-/// The module of one page behind a DOS stub: its parts, and the places of its faults.
+/// The module of one page after a DOS stub: its parts, and the places of its faults.
 pub fn stub_passed()
     ensures { WorkedStub }
 {}

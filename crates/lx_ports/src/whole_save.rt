@@ -3,7 +3,7 @@
 use std::io::{ErrorKind, Write};
 use std::{fs, io, rt};
 
-/// How many symbolic links are followed one behind the other.
+/// How many symbolic links are followed one after the other.
 const LINKS: usize = 40;
 
 /// How many names are tried for a new file.

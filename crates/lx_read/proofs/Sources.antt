@@ -1,4 +1,4 @@
--- The sources of a page, one behind the other.
+-- The sources of a page, one after the other.
 use Rattle.std.proofs.Common.{◌≡◌, List}
 use Rattle.lx_types.specs.declared.fix.FixTarget.{FixTarget}
 use Rattle.lx_model.specs.Module.{Targets}

@@ -11,7 +11,7 @@ use Rattle.lx_types.specs.Answers.{as_is, if_said, as_said}
 use Rattle.lx_model.specs.Judging.{Judges}
 use Rattle.lx_read.proofs.TableLoop.{Kept, entry_wrong, entry_read, table_read, gives_said, judged_wrong, judged_right}
 
--- where the records of page k begin and end, and what is wrong with the entry behind its own
+-- where the records of page k begin and end, and what is wrong with the entry after its own
 abbrev pub span_at : List ℕ → ℕ → ℕ × ℕ
 span_at file k = (records_place file k, records_place file (k + 1))
 

@@ -6,11 +6,13 @@ use Rattle.lx_types.specs.declared.fail.Fail.TheVariants.{Said, NoMemory}
 use Rattle.lx_types.specs.declared.refusal.LxRefusal.{LxRefusal}
 use Rattle.lx_types.specs.declared.parts.Parts.{Parts}
 use Rattle.lx_types.specs.Sound.{Sound}
+use Rattle.lx_model.specs.declared.header_fields.TheConstants.{ENTRY_TABLE}
 use Rattle.lx_model.specs.Reading.{◌then◌, value_or}
 use Rattle.lx_model.specs.Header.{table, object_count, import_count, header_fault}
 use Rattle.lx_model.specs.Tables.{objects_fault, pages_fault}
 use Rattle.lx_model.specs.NameTables.{resident_fault, others_fault}
-use Rattle.lx_model.specs.EntryTable.{LAST_ORDINAL, entries_in, entries_of, entries_fault}
+use Rattle.lx_model.specs.EntryTable.{entries_in, entries_of, entries_fault}
+use Rattle.lx_model.specs.declared.limits.TheConstants.{MAX_ORDINAL}
 use Rattle.lx_model.specs.Module.{LxFault, IsRead, parts_of}
 use Rattle.lx_model.proofs.Entries.{Run-pairs, run_of_table}
 use Rattle.lx_model.proofs.Meaning.{sound, read_ok}
@@ -25,9 +27,9 @@ use Rattle.lx_read.specs.declared.reading.Found.{Found}
 
 pub entries_rise : (file : List ℕ) → entries_fault file ≡ None → AllPairs (λ a b. a.0 < b.0) (value_or [] (entries_of file))
 entries_rise file none =
-    let bytes = drop (table file 0x5C) file in
-    let read = read_ok (table file 0x5C) [] (entries_in (object_count file) (import_count file) bytes) none in
-    Run-pairs (object_count file) (import_count file) 1 (LAST_ORDINAL + 1) (value_or [] (entries_of file)) (run_of_table (object_count file) (import_count file) bytes (value_or [] (entries_of file)) read)
+    let bytes = drop (table file ENTRY_TABLE) file in
+    let read = read_ok (table file ENTRY_TABLE) [] (entries_in (object_count file) (import_count file) bytes) none in
+    Run-pairs (object_count file) (import_count file) 1 (MAX_ORDINAL + 1) (value_or [] (entries_of file)) (run_of_table (object_count file) (import_count file) bytes (value_or [] (entries_of file)) read)
 
 -- ---- the first fault
 

@@ -5,6 +5,7 @@ use Rattle.lx_types.specs.declared.refusal.LxKind.TheVariants as kinds
 use Rattle.lx_types.specs.declared.object.PageHead.{PageHead}
 use Rattle.lx_types.specs.declared.object.PageKind.{PageKind}
 use Rattle.lx_types.specs.declared.object.PageKind.TheVariants.{Plain, Iterated, Invalid, Zero}
+use Rattle.lx_model.specs.declared.header_fields.TheConstants.{PAGE_OFFSET_SHIFT, ITERATED_PAGES, DATA_PAGES}
 use Rattle.lx_model.specs.Reading.{fault}
 use Rattle.lx_model.specs.Header.{field}
 use Rattle.lx_types.specs.Object.{zero_page}
@@ -15,7 +16,7 @@ abbrev pub data_fault : List ℕ → ℕ → ℕ → ℕ → Option LxRefusal
 data_fault file entry at len = if nat_le (at + len) (length file) then None else Some (fault kinds.PageData entry)
 
 abbrev pub page_with : List ℕ → Entry → PageKind → PageHead
-page_with file e Plain = record { kind = Plain; at = field file 0x80 + e.offset * 2 ^ field file 0x2C; len = e.len }
-page_with file e Iterated = record { kind = Iterated; at = field file 0x4C + e.offset * 2 ^ field file 0x2C; len = e.len }
+page_with file e Plain = record { kind = Plain; at = field file DATA_PAGES + e.offset * 2 ^ field file PAGE_OFFSET_SHIFT; len = e.len }
+page_with file e Iterated = record { kind = Iterated; at = field file ITERATED_PAGES + e.offset * 2 ^ field file PAGE_OFFSET_SHIFT; len = e.len }
 page_with file e Invalid = record { kind = Invalid; at = 0; len = 0 }
 page_with file e Zero = zero_page

@@ -8,6 +8,7 @@ ghost use Rattle.lx_model.specs.Judging.{Judges};
 
 use crate::fields::fault;
 use lx_head::{Head, read_head};
+use lx_model::header_fields::EIP_OBJECT;
 use lx_types::{LxKind, LxRefusal};
 
 /// What the header says of a file's tables. Places are places in the file.
@@ -97,7 +98,10 @@ pub fn read_start(file: &[u8], header: &Header) -> Result<Option<(u32, u32)>, Lx
 {
     let (object, _) = header.start;
     if object > header.objects {
-        return Err(fault(LxKind::Field, u64::from(header.place) + 0x18));
+        return Err(fault(
+            LxKind::Field,
+            u64::from(header.place) + u64::from(EIP_OBJECT),
+        ));
     }
     Ok(if object == 0 {
         None

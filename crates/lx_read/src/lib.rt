@@ -1,8 +1,9 @@
-//! LX modules read from their files, with the first fault of a file that is none ("LX - Linear
+//! LX modules read from their files, with the first fault of a file that is none ("32-bit Linear
 //! eXecutable Module Format").
 #![tactic(auto)]
 
 mod entries;
+mod faultless;
 mod fields;
 mod fixups;
 mod header;
@@ -15,4 +16,5 @@ mod references;
 mod tables;
 mod targets;
 
+pub use faultless::read_faultless;
 pub use reading::{Unread, read_module};

@@ -8,6 +8,7 @@ ghost use Rattle.lx_model.specs.Judging.{Judges};
 
 use crate::fields::{doubleword, fault, said};
 use crate::header::Header;
+use lx_model::OBJECT_ENTRY_LEN;
 use lx_types::{Fail, LxKind, LxRefusal, ObjHead, Seq};
 use std::alloc::Global;
 
@@ -20,12 +21,12 @@ fn lacks_pages(pages: u32, object: &ObjHead) -> bool
 }
 
 // Entry k of the table, from 0. An object whose pages are not there is told before what is short
-// behind its page count.
+// after its page count.
 fn read_object(file: &[u8], header: &Header, k: u32) -> Result<ObjHead, LxRefusal>
     requires header { IsHeaderOf file.now header.now }
     ensures { Judges as_is result (object_entry file.now (object_place file.now k)) (object_fault file.now k) }
 {
-    let at = header.object_table + 24 * u64::from(k);
+    let at = header.object_table + OBJECT_ENTRY_LEN as u64 * u64::from(k);
     let object = ObjHead {
         size: doubleword(file, at)?,
         base: doubleword(file, at + 4)?,

@@ -13,7 +13,8 @@ ghost use Rattle.lx_read.specs.Pages.{data_fault, page_with};
 use crate::fields::{doubleword, fault, said, word};
 use crate::header::Header;
 use lx_iter::{IterRefusal, expand};
-use lx_types::{Fail, LxKind, LxRefusal, PAGE_SIZE, PageHead, PageKind, Seq};
+use lx_model::PAGE_ENTRY_LEN;
+use lx_types::{Fail, LxKind, LxRefusal, PAGE_LEN, PAGE_SIZE, PageBytes, PageHead, PageKind, Seq};
 use std::alloc::Global;
 
 /// What an entry of the table has beside its flags, and its place.
@@ -24,7 +25,7 @@ struct Entry {
     len: u32,
 }
 
-// Where the data of a page stands that begins so far behind the data of all pages.
+// Where the data of a page stands that begins so far after the data of all pages.
 fn data_place(from: u32, offset: u32, shift: u32) -> u64
     requires { shift ≤ 12 }
     ensures { result ≡ from + offset * 2 ^ shift }
@@ -79,7 +80,7 @@ fn iterated_page(
     file: &[u8],
     header: &Header,
     entry: Entry,
-    scratch: &mut [u8; 4096],
+    scratch: &mut PageBytes,
 ) -> Result<PageHead, LxRefusal>
     requires { IsHeaderOf file.now header.now }
     ensures { Judges as_is result (page_with file.now entry Iterated)
@@ -99,12 +100,12 @@ fn read_page(
     file: &[u8],
     header: &Header,
     k: u32,
-    scratch: &mut [u8; 4096],
+    scratch: &mut PageBytes,
 ) -> Result<PageHead, LxRefusal>
     requires { IsHeaderOf file.now header.now }
     ensures { Judges as_is result (page_or_zero (page_entry file.now (page_place file.now k))) (page_fault file.now k) }
 {
-    let at = header.page_table + 8 * u64::from(k);
+    let at = header.page_table + PAGE_ENTRY_LEN as u64 * u64::from(k);
     let entry = Entry {
         at,
         offset: doubleword(file, at)?,
@@ -141,7 +142,7 @@ pub fn read_pages(
     requires { IsHeaderOf file.now header.now }
     ensures { Judges if_said result (page_heads file.now) (pages_fault file.now) }
 {
-    let mut scratch = [0; 4096];
+    let mut scratch = [0; PAGE_LEN];
     let mut pages = Seq::new(alloc);
     for k in 0..header.pages {
         pages.push(said(read_page(file, header, k, &mut scratch))?)?;

@@ -1,4 +1,4 @@
-//! Tables whose fields stand one behind the other, and that are read by themselves.
+//! Tables whose fields stand one after the other, and that are read by themselves.
 
 ghost use Rattle.std.specs.Prelude.{◌≡◌, ◌<◌, ◌^◌, drop};
 ghost use Rattle.lx_read.specs.Tables.{in_file};

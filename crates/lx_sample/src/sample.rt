@@ -1,5 +1,12 @@
-//! An LX file, from what stands in its tables. (LX: "LX Header".)
+//! An LX file, from what stands in its tables. ("32-bit Linear eXecutable Module Format": "LX Header".)
 
+use lx_model::header_fields::{
+    CPU_TYPE, DATA_PAGES, ENTRY_TABLE, FIXUP_PAGE_TABLE, FIXUP_RECORD_TABLE, IMPORT_MODULE_COUNT,
+    IMPORT_MODULE_TABLE, IMPORT_PROCEDURE_TABLE, ITERATED_PAGES, LX_SIGNATURE, MODULE_FLAGS,
+    MODULE_PAGES, OBJECT_COUNT, OBJECT_PAGE_TABLE, OBJECT_TABLE, PAGE_SIZE_FIELD,
+    RESIDENT_NAME_TABLE, SIGNATURE,
+};
+use lx_model::{HEADER_LEN, OBJECT_ENTRY_LEN, PAGE_ENTRY_LEN};
 use lx_types::{MODULE_LIBRARY, NoMemory, ObjHead, PAGE_SIZE, count};
 use std::alloc::Global;
 
@@ -27,11 +34,11 @@ pub struct Sample<'a> {
 }
 
 /// How many bytes the header has, and an entry of each table.
-const HEADER: u32 = 0xC4;
+const HEADER: u32 = HEADER_LEN as u32;
 
-const OBJECT: u32 = 24;
+const OBJECT: u32 = OBJECT_ENTRY_LEN as u32;
 
-const PAGE: u32 = 8;
+const PAGE: u32 = PAGE_ENTRY_LEN as u32;
 
 const SPAN: u32 = 4;
 
@@ -46,7 +53,8 @@ fn push_word(out: &mut Vec<u8>, n: u16) -> Result<(), NoMemory> {
 }
 
 // Sets a doubleword of a header.
-fn set(header: &mut [u8; 0xC4], at: usize, n: u32) {
+fn set(header: &mut [u8; HEADER_LEN], at: u8, n: u32) {
+    let at = usize::from(at);
     if let Some(field) = header.get_mut(at..at.saturating_add(4)) {
         field.copy_from_slice(&n.to_le_bytes());
     }
@@ -65,7 +73,7 @@ struct Places {
     data: u32,
 }
 
-// The tables stand one behind the other.
+// The tables stand one after the other.
 fn places_of(sample: &Sample, pages: &[SamplePage]) -> Result<Places, NoMemory> {
     let objects = count(sample.objects.len())?;
     let count_of_pages = count(pages.len())?;
@@ -100,25 +108,25 @@ fn places_of(sample: &Sample, pages: &[SamplePage]) -> Result<Places, NoMemory> 
 }
 
 // The header, without a start and without other names.
-fn header_of(sample: &Sample, pages: u32, at: Places) -> Result<[u8; 0xC4], NoMemory> {
-    let mut header = [0; 0xC4];
-    set(&mut header, 0x00, 0x584C);
-    set(&mut header, 0x08, 0x0001_0002);
-    set(&mut header, 0x10, MODULE_LIBRARY);
-    set(&mut header, 0x14, pages);
-    set(&mut header, 0x28, PAGE_SIZE);
-    set(&mut header, 0x40, HEADER);
-    set(&mut header, 0x44, count(sample.objects.len())?);
-    set(&mut header, 0x48, at.page_table);
-    set(&mut header, 0x4C, at.data);
-    set(&mut header, 0x58, at.names);
-    set(&mut header, 0x5C, at.entries);
-    set(&mut header, 0x68, at.spans);
-    set(&mut header, 0x6C, at.records);
-    set(&mut header, 0x70, at.imports);
-    set(&mut header, 0x74, sample.import_count);
-    set(&mut header, 0x78, at.procedures);
-    set(&mut header, 0x80, at.data);
+fn header_of(sample: &Sample, pages: u32, at: Places) -> Result<[u8; HEADER_LEN], NoMemory> {
+    let mut header = [0; HEADER_LEN];
+    set(&mut header, SIGNATURE, u32::from(LX_SIGNATURE));
+    set(&mut header, CPU_TYPE, 0x0001_0002);
+    set(&mut header, MODULE_FLAGS, MODULE_LIBRARY);
+    set(&mut header, MODULE_PAGES, pages);
+    set(&mut header, PAGE_SIZE_FIELD, PAGE_SIZE);
+    set(&mut header, OBJECT_TABLE, HEADER);
+    set(&mut header, OBJECT_COUNT, count(sample.objects.len())?);
+    set(&mut header, OBJECT_PAGE_TABLE, at.page_table);
+    set(&mut header, ITERATED_PAGES, at.data);
+    set(&mut header, RESIDENT_NAME_TABLE, at.names);
+    set(&mut header, ENTRY_TABLE, at.entries);
+    set(&mut header, FIXUP_PAGE_TABLE, at.spans);
+    set(&mut header, FIXUP_RECORD_TABLE, at.records);
+    set(&mut header, IMPORT_MODULE_TABLE, at.imports);
+    set(&mut header, IMPORT_MODULE_COUNT, sample.import_count);
+    set(&mut header, IMPORT_PROCEDURE_TABLE, at.procedures);
+    set(&mut header, DATA_PAGES, at.data);
     Ok(header)
 }
 
@@ -135,7 +143,7 @@ fn push_objects(out: &mut Vec<u8>, objects: &[ObjHead]) -> Result<(), NoMemory> 
     Ok(())
 }
 
-// Appends the object page table; the data of pages stand one behind the other.
+// Appends the object page table; the data of pages stand one after the other.
 fn push_pages(out: &mut Vec<u8>, pages: &[SamplePage]) -> Result<(), NoMemory> {
     let mut at = 0u32;
     for page in pages {

@@ -8,7 +8,7 @@ ghost use Rattle.lx_ports.specs.Counts.{Rose};
 ghost use Rattle.lx_start.specs.Ending.{EndsWith};
 ghost use Rattle.lx_start.specs.Telling.{asks_help, asks_page, help, told_of};
 
-use lx_answer::{DONE, NO_MEMORY, WRITE_FAILED};
+use answer_model::{DONE, NO_MEMORY, WRITE_FAILED};
 use lx_ports::{DiskFiles, Files, MemFiles, NoGate, Sink, StdSink};
 use lx_tool::{lx_main, put_whole};
 use refusal_notes::{Heard, Tell, Watched, page_of, tell_on};
@@ -57,7 +57,7 @@ impl<R: Eprint> Tell for StandardError<'_, R> {
     }
 }
 
-/// Does what the words ask for, over these files and this sink, and ends with the status of the call. Behind the call a
+/// Does what the words ask for, over these files and this sink, and ends with the status of the call. After the call a
 /// reader is told how it ended; what that needs of the files is loaded from `again`.
 fn run<R: Threads + Wait + Sync, F: Files, T: Tell, S: Sink, G: Files>(
     call: (&R, Global, &[String]),

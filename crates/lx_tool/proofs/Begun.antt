@@ -5,11 +5,11 @@ use Rattle.lx_ports.specs.Files.{Contents}
 use Rattle.lx_ports.specs.declared.files.LoadFault.{LoadFault}
 use Rattle.lx_ports.specs.declared.files.LoadFault.TheVariants as fault
 use Rattle.std.specs.List.{AllByRecursion}
-use Rattle.lx_answer.specs.declared.said.Said.{Said}
-use Rattle.lx_answer.specs.Answer.{saves_in}
-use Rattle.lx_answer.specs.Ends.{Holds}
-use Rattle.lx_answer.specs.Loading.{Asked, AreBegun, AreRead, IsLoadWith, IsRead, IsRefused, IsStopped}
-use Rattle.lx_answer.specs.Reading.{Item}
+use Rattle.answer_model.specs.declared.said.Said.{Said}
+use Rattle.answer_model.specs.Answer.{saves_in}
+use Rattle.answer_model.specs.Ends.{Holds}
+use Rattle.answer_model.specs.Loading.{Asked, AreBegun, AreRead, IsLoadWith, IsRead, IsRefused, IsStopped}
+use Rattle.answer_model.specs.Reading.{Item}
 
 -- ---- the calls are loads
 

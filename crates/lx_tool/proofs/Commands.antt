@@ -17,23 +17,23 @@ use Rattle.implib_model.specs.Imports.{modules_of}
 use Rattle.link_model.specs.Link.{IsLinkOf}
 use Rattle.dump_model.specs.Dumps.{Dump}
 use Rattle.dump_model.specs.Listings.{listing_of}
-use Rattle.lx_answer.specs.ResourceRefusals.{bind_text}
+use Rattle.answer_model.specs.ResourceRefusals.{bind_text}
 use Rattle.res_model.specs.declared.item.ResItem.{ResItem}
 use Rattle.res_model.specs.Bound.{bound_file}
 use Rattle.res_model.specs.Refusal.{bind_refusal}
 use Rattle.res_model.specs.declared.refusal.BindRefusal.{BindRefusal}
 use Rattle.lx_ports.specs.Calls.{Call}
 use Rattle.lx_ports.specs.Files.{FilesState}
-use Rattle.lx_answer.specs.declared.said.Said.{Said}
-use Rattle.lx_answer.specs.BindAnswer.{bind_outcome, counts_of}
-use Rattle.lx_answer.specs.ImageAnswer.{ShowsObject}
-use Rattle.lx_answer.specs.ImplibAnswer.{exports_line, implib_outcome}
-use Rattle.lx_answer.specs.LinkAnswer.{input_of, link_outcome}
-use Rattle.lx_answer.specs.Loading.{AreRead, IsStopped, file_limit}
-use Rattle.lx_answer.specs.Outcome.{Outcome, kept, refused, refused_or, says_only, shown}
-use Rattle.lx_answer.specs.Reading.{Item, object, linked, resources}
-use Rattle.lx_answer.specs.Says.{ComesTo, asked_files}
-use Rattle.lx_answer.specs.Words.{Command, image, link, implib, bind, dump}
+use Rattle.answer_model.specs.declared.said.Said.{Said}
+use Rattle.answer_model.specs.BindAnswer.{bind_outcome, counts_of}
+use Rattle.answer_model.specs.ImageAnswer.{ShowsObject}
+use Rattle.answer_model.specs.ImplibAnswer.{exports_line, implib_outcome}
+use Rattle.answer_model.specs.LinkAnswer.{input_of, link_outcome}
+use Rattle.answer_model.specs.Loading.{AreRead, IsStopped, file_limit}
+use Rattle.answer_model.specs.Outcome.{Outcome, kept, refused, refused_or, says_only, shown}
+use Rattle.answer_model.specs.Reading.{Item, object, linked, resources}
+use Rattle.answer_model.specs.Says.{ComesTo, asked_files}
+use Rattle.answer_model.specs.Words.{Command, image, link, implib, bind, dump}
 use Rattle.tool_read.specs.Steps.{AreLoads, GivesAll, ReadsAll}
 use Rattle.tool_read.specs.declared.bind_files.Binding.{Binding}
 use Rattle.tool_read.proofs.Walk.{read_begun}

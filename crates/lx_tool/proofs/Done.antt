@@ -7,15 +7,15 @@ use Rattle.lx_types.specs.declared.fail.NoMemory.{NoMemory}
 use Rattle.lx_types.proofs.Lists.{all_joined}
 use Rattle.lx_ports.specs.Calls.{Call, save}
 use Rattle.lx_ports.specs.Files.{Contents, FilesState}
-use Rattle.lx_answer.specs.declared.said.Said.{Said}
-use Rattle.lx_answer.specs.Answer.{saves_in}
-use Rattle.lx_answer.specs.Ends.{Holds, IsTold, AreSaves, outputs_of}
-use Rattle.lx_answer.specs.FileLine.{usage_line}
-use Rattle.lx_answer.specs.Loading.{AreBegun, AreRead, Asked, IsStopped}
-use Rattle.lx_answer.specs.Outcome.{Outcome, Saved}
-use Rattle.lx_answer.specs.Reading.{Item}
-use Rattle.lx_answer.specs.Says.{ComesTo, Finishes, IsDone, SaysCommand, asked_files}
-use Rattle.lx_answer.specs.Words.{Command, image, link, implib, bind, gen, dump, link_map}
+use Rattle.answer_model.specs.declared.said.Said.{Said}
+use Rattle.answer_model.specs.Answer.{saves_in}
+use Rattle.answer_model.specs.Ends.{Holds, IsTold, AreSaves, outputs_of}
+use Rattle.answer_model.specs.FileLine.{usage_line}
+use Rattle.answer_model.specs.Loading.{AreBegun, AreRead, Asked, IsStopped}
+use Rattle.answer_model.specs.Outcome.{Outcome, Saved}
+use Rattle.answer_model.specs.Reading.{Item}
+use Rattle.answer_model.specs.Says.{ComesTo, Finishes, IsDone, SaysCommand, asked_files}
+use Rattle.answer_model.specs.Words.{Command, image, link, implib, bind, gen, dump, link_map}
 use Rattle.tool_read.specs.Steps.{AreLoads}
 use Rattle.tool_read.proofs.Walk.{read_begun}
 use Rattle.session_files.proofs.Lines.{stopped_begun}
@@ -72,7 +72,7 @@ done_begun command calls before now why loads begun = record {
   says = loads_save_nothing command calls begun;
 }
 
--- ---- loads, and what is saved behind them
+-- ---- loads, and what is saved after them
 
 -- What an outcome saves is the command's one output.
 abbrev pub SavesAs : List (List ℕ) → Option Saved → Type 0

@@ -8,10 +8,10 @@ use Rattle.lx_ports.specs.Calls.{Call, load_faults}
 use Rattle.lx_ports.specs.Counts.{Rose}
 use Rattle.lx_ports.specs.Files.{Contents, FilesState}
 use Rattle.lx_ports.specs.Sinks.{SinkState}
-use Rattle.lx_answer.specs.declared.said.Said.{Said}
-use Rattle.lx_answer.specs.Ends.{AppendsPart, Ends, IsAnswered, IsPut, IsTold, save_faults}
-use Rattle.lx_answer.specs.Says.{Says}
-use Rattle.lx_answer.specs.Words.{command_of}
+use Rattle.answer_model.specs.declared.said.Said.{Said}
+use Rattle.answer_model.specs.Ends.{AppendsPart, Ends, IsAnswered, IsPut, IsTold, save_faults}
+use Rattle.answer_model.specs.Says.{Says}
+use Rattle.answer_model.specs.Words.{command_of}
 use Rattle.lx_tool.specs.Doing.{DoesWords}
 use Rattle.lx_tool.proofs.Sound.{sound_all}
 use Rattle.lx_tool.proofs.Statuses.{StatusSays, status_says}

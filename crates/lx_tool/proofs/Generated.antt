@@ -9,13 +9,13 @@ use Rattle.lx_ports.specs.Files.{Contents, FilesState}
 use Rattle.lx_ports.specs.declared.files.SaveFault.{SaveFault}
 use Rattle.gen_model.specs.Sessions.{object_name, definition_name, session_name}
 use Rattle.gen_core.specs.Doing.{DoesGen, Generates}
-use Rattle.lx_answer.specs.declared.said.Said.{Said}
-use Rattle.lx_answer.specs.Answer.{saves_in}
-use Rattle.lx_answer.specs.Ends.{AreSaves, IsTold, is_failed_save, save_faults}
-use Rattle.lx_answer.specs.FileLine.{file_line}
-use Rattle.lx_answer.specs.GenAnswer.{GenAnswer, GenWords, IsSavedWith, SavesInTurn, files_with, module_files, names_of, session_file}
-use Rattle.lx_answer.specs.Outcome.{Saved}
-use Rattle.lx_answer.specs.Words.{Command, gen}
+use Rattle.answer_model.specs.declared.said.Said.{Said}
+use Rattle.answer_model.specs.Answer.{saves_in}
+use Rattle.answer_model.specs.Ends.{AreSaves, IsTold, is_failed_save, save_faults}
+use Rattle.answer_model.specs.FileLine.{file_line}
+use Rattle.answer_model.specs.GenAnswer.{GenAnswer, GenWords, IsSavedWith, SavesInTurn, files_with, module_files, names_of, session_file}
+use Rattle.answer_model.specs.Outcome.{Saved}
+use Rattle.answer_model.specs.Words.{Command, gen}
 use Rattle.lx_tool.specs.Doing.{Does}
 use Rattle.lx_tool.proofs.Begun.{IsPlain}
 use Rattle.lx_tool.proofs.Counts.{count_behind}

@@ -8,11 +8,11 @@ use Rattle.session_model.specs.declared.sessions.ModLine.{ModLine}
 use Rattle.run_model.specs.Sources.{Source}
 use Rattle.run_core.specs.declared.session.Ran.{Ran}
 use Rattle.run_core.specs.Sessions.{run_in}
-use Rattle.lx_answer.specs.declared.said.Said.{Said}
-use Rattle.lx_answer.specs.Ends.{IsTold}
-use Rattle.lx_answer.specs.Loading.{Asked, AreRead, IsRead}
-use Rattle.lx_answer.specs.Reading.{Item, session}
-use Rattle.lx_answer.specs.RunAnswer.{AreDone, IsThrough, SaysRun, asked_line, asked_session, run_of, together}
+use Rattle.answer_model.specs.declared.said.Said.{Said}
+use Rattle.answer_model.specs.Ends.{IsTold}
+use Rattle.answer_model.specs.Loading.{Asked, AreRead, IsRead}
+use Rattle.answer_model.specs.Reading.{Item, session}
+use Rattle.answer_model.specs.RunAnswer.{AreDone, IsThrough, SaysRun, asked_line, asked_session, run_of, together}
 use Rattle.lx_tool.specs.declared.run.SessionEnd.{SessionEnd}
 use Rattle.lx_tool.specs.declared.run.SessionEnd.TheVariants as end
 use Rattle.lx_tool.specs.Headline.{Headline, MakeAll, MeanAll, Means, RanAsOne}

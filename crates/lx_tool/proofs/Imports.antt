@@ -13,8 +13,8 @@ use Rattle.implib_model.specs.Library.{library_bytes, library_len, page_up, page
 use Rattle.omf_write.specs.Joined.{modules_together}
 use Rattle.omf_write.specs.declared.libraries.LibraryLong.{LibraryLong}
 use Rattle.implib_model.specs.Imports.{modules_of}
-use Rattle.lx_answer.specs.ImplibAnswer.{all_imports, imports_of}
-use Rattle.lx_answer.specs.Loading.{file_limit}
+use Rattle.answer_model.specs.ImplibAnswer.{all_imports, imports_of}
+use Rattle.answer_model.specs.Loading.{file_limit}
 use Rattle.tool_read.specs.Readings.{exporter_item}
 use Rattle.tool_read.specs.declared.exporters.Exporter.{Exporter}
 use Rattle.lx_tool.specs.declared.library.ImportLibrary.{ImportLibrary}

@@ -1,20 +1,44 @@
-mod Begun
+-- ---- calls, counted and found to be sound
+-- How often calls have failed, call by call.
 mod Counts
-mod Done
-mod Putting
-mod Lines
+-- What holds of the loads of a command.
+mod Begun
+-- Calls of which none failed are those that the told files have.
 mod Sound
-mod Generated
+-- What the statuses of a command say of its calls.
 mod Statuses
-mod Endings
-mod Memory
-mod Imports
-mod Commands
-mod Linked
-mod Mapped
-mod OneLoad
-mod Saved
-mod SessionSays
-mod RunEndings
-mod Sessions
+-- From what calls answered to what the files have.
 mod Headline
+-- ---- texts that are put and saved
+-- How a text is put piece by piece.
+mod Putting
+-- The text of an object's bytes, line by line.
+mod Lines
+-- From a link's objects in memory to their text, and from its refusal to the text of that.
+mod Memory
+-- What a save leaves, and what is said after it.
+mod Saved
+-- ---- commands
+-- From what the steps of a command do to what the command does.
+mod Done
+-- What each command does, from what its steps answer.
+mod Commands
+-- What `gen` does, from what the generator does.
+mod Generated
+-- The imports of several files together, and the length of their library.
+mod Imports
+-- From what a link answers to what is done with it.
+mod Linked
+-- From the map of a link, or its refusal, to what `map` does.
+mod Mapped
+-- A command that loads one file.
+mod OneLoad
+-- How a call ends, from what was done, what was said and what was put.
+mod Endings
+-- ---- sessions of `run FILE`
+-- What the statuses of `run FILE` say of its calls.
+mod SessionSays
+-- How a call with `run FILE` ends, from what was done, what was said and what was put.
+mod RunEndings
+-- What is said of scripts that ran, and of modules that are no library.
+mod Sessions

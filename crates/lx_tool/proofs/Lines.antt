@@ -3,7 +3,7 @@ use Rattle.std.proofs.Common.{◌≡◌, ℕ, ◌+◌, ◌-◌, ◌*◌, ◌≤�
 use Rattle.std.proofs.lemmas.List.{take_min, flat_map_more}
 use Rattle.std.specs.List.{flat_map, range_with_len}
 use Rattle.lx_types.proofs.Lists.{range-push}
-use Rattle.lx_answer.specs.ImageText.{line, line_of}
+use Rattle.answer_model.specs.ImageText.{line, line_of}
 
 -- a piece that ends with the list at the latest
 pub piece : (bytes : List ℕ) (start end : ℕ) → end ≡ min (start + 16) (length bytes) → start ≤ length bytes → take (end - start) (drop start bytes) ≡ take 16 (drop start bytes)
@@ -18,7 +18,7 @@ lines_more f number text so_far =
     ∙ flat_map_more f [] (range_with_len 0 number) number
     ∙ ap (λ (l : List ℕ). flat_map f l) (sym (rw add-one (range-push 0 number ∙ ap (λ (k : ℕ). range_with_len 0 number ++ k ∷ []) (zero-add number))))
 
--- the same behind other text
+-- the same after other text
 pub lines_behind : (f : ℕ → List ℕ) (number : ℕ) (start text : List ℕ) → text ≡ start ++ flat_map f (range_with_len 0 number) → text ++ f number ≡ start ++ flat_map f (range_with_len 0 (number + 1))
 lines_behind f number start text so_far =
     let lines : List ℕ = flat_map f (range_with_len 0 number) in

@@ -11,9 +11,9 @@ use Rattle.image_model.specs.Linked.{image_of}
 use Rattle.link_core.specs.declared.linking.Linked.{Linked}
 use Rattle.link_core.specs.Links.{IsLinked, RefusesLink}
 use Rattle.lx_ports.specs.Files.{FilesState}
-use Rattle.lx_answer.specs.declared.said.Said.{Said}
-use Rattle.lx_answer.specs.LinkAnswer.{counts_line, counts_of, link_outcome, link_text}
-use Rattle.lx_answer.specs.Outcome.{Outcome, kept, refused_or, says_only}
+use Rattle.answer_model.specs.declared.said.Said.{Said}
+use Rattle.answer_model.specs.LinkAnswer.{counts_line, counts_of, link_outcome, link_text}
+use Rattle.answer_model.specs.Outcome.{Outcome, kept, refused_or, says_only}
 use Rattle.lx_tool.specs.Doing.{DoesLink, DoesOutcome, Keeps}
 use Rattle.lx_tool.specs.Refusals.{RefusesAs}
 use Rattle.lx_tool.proofs.Commands.{says_alone}

@@ -8,15 +8,15 @@ use Rattle.lx_types.specs.declared.fail.NoMemory.{NoMemory}
 use Rattle.obj_types.specs.declared.input.LinkInput.{LinkInput}
 use Rattle.link_model.specs.declared.refusals.LinkRefusal.{LinkRefusal}
 use Rattle.link_core.specs.Links.{RefusesLink}
-use Rattle.link_map.specs.Mapped.{IsMapped}
+use Rattle.map_core.specs.Mapped.{IsMapped}
 use Rattle.lx_ports.specs.Calls.{Call}
 use Rattle.lx_ports.specs.Files.{FilesState}
-use Rattle.lx_answer.specs.declared.said.Said.{Said}
-use Rattle.lx_answer.specs.LinkAnswer.{input_with, link_text}
-use Rattle.lx_answer.specs.MapAnswer.{NAME, MapsInput, ShowsMap}
-use Rattle.lx_answer.specs.Outcome.{says_only, shown}
-use Rattle.lx_answer.specs.Says.{asked_files}
-use Rattle.lx_answer.specs.Words.{link_map}
+use Rattle.answer_model.specs.declared.said.Said.{Said}
+use Rattle.answer_model.specs.LinkAnswer.{input_with, link_text}
+use Rattle.answer_model.specs.MapAnswer.{NAME, MapsInput, ShowsMap}
+use Rattle.answer_model.specs.Outcome.{says_only, shown}
+use Rattle.answer_model.specs.Says.{asked_files}
+use Rattle.answer_model.specs.Words.{link_map}
 use Rattle.tool_read.specs.Steps.{AreLoads, GivesAll}
 use Rattle.lx_tool.specs.Doing.{Does}
 use Rattle.lx_tool.specs.Refusals.{RefusesAs}

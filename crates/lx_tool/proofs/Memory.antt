@@ -5,7 +5,7 @@ use Rattle.std.specs.List.{All, AllByRecursion, flat_map, enumerate_from}
 use Rattle.std.specs.Option.{option_map}
 use Rattle.std.proofs.lemmas.List.Folds.{flat_map-map}
 use Rattle.std.proofs.lemmas.List.FromFn.{length-map-range_with_len}
-use Rattle.lx_types.specs.Addresses.{SHARED_END}
+use Rattle.lx_types.specs.declared.limits.TheConstants.{SHARED_END}
 use Rattle.lx_types.proofs.Options.{mapped_none}
 use Rattle.obj_types.specs.declared.object.ObjModule.{ObjModule}
 use Rattle.link_model.specs.declared.refusals.LinkRefusal.{LinkRefusal}
@@ -21,12 +21,12 @@ use Rattle.image_model.specs.Linked.{link_modules}
 use Rattle.image_pages.specs.declared.refusals.ImageRefusal.{ImageRefusal}
 use Rattle.image_pages.specs.declared.refusals.ImageRefusal.TheVariants as image
 use Rattle.image_pages.specs.Memory as memory
-use Rattle.lx_answer.specs.FileRefusals.{field}
-use Rattle.lx_answer.specs.declared.said.Said.{Said}
-use Rattle.lx_answer.specs.FileLine.{file_line}
-use Rattle.lx_answer.specs.ImageAnswer.{NAME, ShowsObject, image_refusal, memory_of, memory_text}
-use Rattle.lx_answer.specs.LinkAnswer.{link_text}
-use Rattle.lx_answer.specs.Outcome.{refused_or, says_only, shown}
+use Rattle.answer_model.specs.FileRefusals.{field}
+use Rattle.answer_model.specs.declared.said.Said.{Said}
+use Rattle.answer_model.specs.FileLine.{file_line}
+use Rattle.answer_model.specs.ImageAnswer.{NAME, ShowsObject, image_refusal, memory_of, memory_text}
+use Rattle.answer_model.specs.LinkAnswer.{link_text}
+use Rattle.answer_model.specs.Outcome.{refused_or, says_only, shown}
 use Rattle.mod_graph.proofs.Gathered.{never_some}
 use Rattle.lx_tool.specs.Refusals.{image_text_of}
 use Rattle.lx_tool.specs.Rows.{FitsBase, Row, row_text}

@@ -13,11 +13,11 @@ use Rattle.lx_ports.specs.declared.sink.SinkFailed.{SinkFailed}
 use Rattle.session_model.specs.Runs.{Run}
 use Rattle.run_core.specs.declared.session.Ran.{Ran}
 use Rattle.run_core.specs.Sessions.{run_in}
-use Rattle.lx_answer.specs.declared.said.Said.{Said}
-use Rattle.lx_answer.specs.Answer.{IsSound}
-use Rattle.lx_answer.specs.Ends.{AppendsPart, IsTold, save_faults}
-use Rattle.lx_answer.specs.RunAnswer.{SaysRun, asked_lines, asked_session, run_of}
-use Rattle.lx_answer.specs.RunEnds.{AreCallsOfRun, EndsBy, IsPutByRun, MainEnds, RunEnds}
+use Rattle.answer_model.specs.declared.said.Said.{Said}
+use Rattle.answer_model.specs.Answer.{IsSound}
+use Rattle.answer_model.specs.Ends.{AppendsPart, IsTold, save_faults}
+use Rattle.answer_model.specs.RunAnswer.{SaysRun, asked_lines, asked_session, run_of}
+use Rattle.answer_model.specs.RunEnds.{AreCallsOfRun, EndsBy, IsPutByRun, MainEnds, RunEnds}
 use Rattle.tool_read.specs.Steps.{AreLoads}
 use Rattle.lx_tool.specs.declared.main_call.Ended.{Ended}
 use Rattle.lx_tool.specs.declared.run.SessionEnd.{SessionEnd}

@@ -7,9 +7,9 @@ use Rattle.lx_ports.specs.Calls.{save}
 use Rattle.lx_ports.specs.Files as files
 use Rattle.lx_ports.specs.Files.{FilesState, KeepsOthers}
 use Rattle.lx_ports.specs.declared.files.SaveFault.{SaveFault}
-use Rattle.lx_answer.specs.declared.said.Said.{Said}
-use Rattle.lx_answer.specs.Outcome.{Outcome, kept}
-use Rattle.lx_answer.specs.Says.{said_after}
+use Rattle.answer_model.specs.declared.said.Said.{Said}
+use Rattle.answer_model.specs.Outcome.{Outcome, kept}
+use Rattle.answer_model.specs.Says.{said_after}
 use Rattle.lx_tool.specs.Doing.{DoesLink, DoesOutcome}
 
 pub kept_after : (before now : FilesState) (name bytes text : List ℕ) (r : Result (Unit {0}) SaveFault) (said : Said) → OnOk r (files.IsSaved before.contents now.contents name bytes)

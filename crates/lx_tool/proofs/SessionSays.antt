@@ -6,10 +6,10 @@ use Rattle.run_model.specs.Sources.{Source}
 use Rattle.session_model.specs.declared.sessions.ModLine.{ModLine}
 use Rattle.session_model.specs.declared.sessions.Session.{Session}
 use Rattle.session_model.specs.Runs.{Run}
-use Rattle.lx_answer.specs.declared.said.Said.{Said}
-use Rattle.lx_answer.specs.Loading.{Asked, IsStopped}
-use Rattle.lx_answer.specs.Reading.{session}
-use Rattle.lx_answer.specs.RunAnswer.{AreDone, AreGiven, Fails, IsFailedLine, IsStoppedLine, IsThrough, IsUngathered, SaysRun, SaysSession, asked_line, asked_session, together}
+use Rattle.answer_model.specs.declared.said.Said.{Said}
+use Rattle.answer_model.specs.Loading.{Asked, IsStopped}
+use Rattle.answer_model.specs.Reading.{session}
+use Rattle.answer_model.specs.RunAnswer.{AreDone, AreGiven, Fails, IsFailedLine, IsStoppedLine, IsThrough, IsUngathered, SaysRun, SaysSession, asked_line, asked_session, together}
 use Rattle.session_model.specs.declared.sessions.ModLine.TheVariants.{Take, Build}
 use Rattle.lx_tool.proofs.Counts.{count-append}
 use Rattle.lx_tool.proofs.Begun.{IsPlain, plain_joined, read_plain, stopped_plain, one_plain}

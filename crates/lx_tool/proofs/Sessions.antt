@@ -10,15 +10,15 @@ use Rattle.load_model.specs.Modules.{fixed_bytes}
 use Rattle.lx_ports.specs.Calls.{Call}
 use Rattle.session_model.specs.FailingPairs.{failing_pairs}
 use Rattle.session_model.specs.Runs.{IsRunOf, run_text}
-use Rattle.lx_answer.specs.SessionRefusals.{library_text}
+use Rattle.answer_model.specs.SessionRefusals.{library_text}
 use Rattle.run_model.specs.Sources.{library_of}
 use Rattle.run_laws.specs.Bridge.{RunsByLinks}
 use Rattle.run_core.specs.declared.session.Ran.{Ran}
 use Rattle.run_core.specs.Sessions.{IsRanOf, run_in}
 use Rattle.session_files.specs.declared.reading.SessionFiles.{SessionFiles}
 use Rattle.session_files.specs.SessionFiles.{AnswersSession, AreSessionFiles}
-use Rattle.lx_answer.specs.declared.said.Said.{Said}
-use Rattle.lx_answer.specs.RunAnswer.{SaysRun}
+use Rattle.answer_model.specs.declared.said.Said.{Said}
+use Rattle.answer_model.specs.RunAnswer.{SaysRun}
 use Rattle.lx_tool.specs.declared.run.SessionEnd.TheVariants as end
 use Rattle.lx_tool.specs.Refusals.{Gives, RefusesBy}
 use Rattle.lx_tool.specs.Running.{SaysEnd}

@@ -6,9 +6,9 @@ use Rattle.std.proofs.lemmas.Bool.{lt-leb, le-leb}
 use Rattle.lx_ports.specs.Calls.{Call, load, save, is_failed_load, load_faults}
 use Rattle.lx_ports.specs.Files.{Contents, IsLoadOf}
 use Rattle.lx_ports.specs.declared.files.LoadFault.TheVariants as fault
-use Rattle.lx_answer.specs.Answer.{IsSound, loaded}
-use Rattle.lx_answer.specs.Ends.{IsTold, is_failed_save, save_faults}
-use Rattle.lx_answer.specs.Loading.{file_limit}
+use Rattle.answer_model.specs.Answer.{IsSound, loaded}
+use Rattle.answer_model.specs.Ends.{IsTold, is_failed_save, save_faults}
+use Rattle.answer_model.specs.Loading.{file_limit}
 use Rattle.lx_tool.proofs.Begun.{IsPlain}
 use Rattle.lx_tool.proofs.Counts.{none_behind, not_first}
 

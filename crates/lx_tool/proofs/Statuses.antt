@@ -7,20 +7,20 @@ use Rattle.link_model.specs.Refusal.{link_refusal}
 use Rattle.lx_ports.specs.Calls.{Call, load, save, load_faults, is_failed_load}
 use Rattle.lx_ports.specs.declared.files.LoadFault.TheVariants as fault
 use Rattle.lx_ports.specs.declared.files.SaveFault.{SaveFault}
-use Rattle.lx_answer.specs.declared.said.Said.{Said}
-use Rattle.lx_answer.specs.Answer.{saves_in}
-use Rattle.lx_answer.specs.Ends.{is_failed_save, save_faults}
-use Rattle.lx_answer.specs.BindAnswer.{BindAnswer}
-use Rattle.lx_answer.specs.DumpAnswer.{DumpAnswer}
-use Rattle.lx_answer.specs.GenAnswer.{GenWords, SaysGen}
-use Rattle.lx_answer.specs.ImageAnswer.{ImageAnswer, image_refusal, memory_text, NAME}
-use Rattle.lx_answer.specs.LinkAnswer.{counts_of, link_text}
-use Rattle.lx_answer.specs.MapAnswer.{ShowsMap}
-use Rattle.lx_answer.specs.Loading.{Asked, IsRefused, IsStopped}
-use Rattle.lx_answer.specs.Outcome.{Outcome, Saved, shown, kept, refused, refused_or}
-use Rattle.lx_answer.specs.Reading.{Item, object, library, definition, linked, session, resources}
-use Rattle.lx_answer.specs.Says.{ComesTo, Finishes, IsDone, SaysCommand, asked_files, said_after}
-use Rattle.lx_answer.specs.Words.{Command, image, link, implib, bind, gen, dump, link_map}
+use Rattle.answer_model.specs.declared.said.Said.{Said}
+use Rattle.answer_model.specs.Answer.{saves_in}
+use Rattle.answer_model.specs.Ends.{is_failed_save, save_faults}
+use Rattle.answer_model.specs.BindAnswer.{BindAnswer}
+use Rattle.answer_model.specs.DumpAnswer.{DumpAnswer}
+use Rattle.answer_model.specs.GenAnswer.{GenWords, SaysGen}
+use Rattle.answer_model.specs.ImageAnswer.{ImageAnswer, image_refusal, memory_text, NAME}
+use Rattle.answer_model.specs.LinkAnswer.{counts_of, link_text}
+use Rattle.answer_model.specs.MapAnswer.{ShowsMap}
+use Rattle.answer_model.specs.Loading.{Asked, IsRefused, IsStopped}
+use Rattle.answer_model.specs.Outcome.{Outcome, Saved, shown, kept, refused, refused_or}
+use Rattle.answer_model.specs.Reading.{Item, object, library, definition, linked, session, resources}
+use Rattle.answer_model.specs.Says.{ComesTo, Finishes, IsDone, SaysCommand, asked_files, said_after}
+use Rattle.answer_model.specs.Words.{Command, image, link, implib, bind, gen, dump, link_map}
 use Rattle.session_files.proofs.Lines.{stopped_begun}
 use Rattle.tool_read.proofs.Walk.{read_begun}
 use Rattle.lx_tool.proofs.Counts.{count-append}

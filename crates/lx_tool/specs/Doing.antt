@@ -6,13 +6,13 @@ use Rattle.obj_types.specs.declared.input.LinkInput.{LinkInput}
 use Rattle.link_model.specs.Link.{Link, IsLinkOf}
 use Rattle.lx_ports.specs.Calls.{Call}
 use Rattle.lx_ports.specs.Files.{FilesState}
-use Rattle.lx_answer.specs.declared.said.Said.{Said}
-use Rattle.lx_answer.specs.Answer.{saves_in}
-use Rattle.lx_answer.specs.Ends.{AreCallsOf, Holds, IsTold}
-use Rattle.lx_answer.specs.LinkAnswer.{link_outcome}
-use Rattle.lx_answer.specs.Outcome.{Outcome}
-use Rattle.lx_answer.specs.Says.{Finishes, SaysCommand}
-use Rattle.lx_answer.specs.Words.{Command}
+use Rattle.answer_model.specs.declared.said.Said.{Said}
+use Rattle.answer_model.specs.Answer.{saves_in}
+use Rattle.answer_model.specs.Ends.{AreCallsOf, Holds, IsTold}
+use Rattle.answer_model.specs.LinkAnswer.{link_outcome}
+use Rattle.answer_model.specs.Outcome.{Outcome}
+use Rattle.answer_model.specs.Says.{Finishes, SaysCommand}
+use Rattle.answer_model.specs.Words.{Command}
 
 -- Between two moments the files had these calls, which are those that the command may make.
 pub record Runs (command : Option Command) (calls : List Call) (before now : FilesState) : Type 0 where
@@ -30,7 +30,7 @@ pub record DoesWords (command : Option Command) (before now : FilesState) (resul
 abbrev pub Does : Command → FilesState → FilesState → Result Said NoMemory → Type 0
 Does command before now result = DoesWords (Some command) before now result
 
--- ---- behind the loads
+-- ---- after the loads
 
 -- The outcome's file was saved, and its text is said, or that saving failed.
 pub record Keeps (outcome : Outcome) (before now : FilesState) (said : Said) : Type 0 where

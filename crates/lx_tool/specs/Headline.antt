@@ -11,9 +11,9 @@ use Rattle.session_model.specs.declared.sessions.ModLine.{ModLine}
 use Rattle.session_model.specs.declared.sessions.Session.{Session}
 use Rattle.run_model.specs.Sources.{Source, held, library_of}
 use Rattle.run_core.specs.declared.session.Ran.{Ran}
-use Rattle.lx_answer.specs.Loading.{Asked}
-use Rattle.lx_answer.specs.Reading.{Item, IsItem, form_of}
-use Rattle.lx_answer.specs.RunAnswer.{asked_line, Gives}
+use Rattle.answer_model.specs.Loading.{Asked}
+use Rattle.answer_model.specs.Reading.{Item, IsItem, form_of}
+use Rattle.answer_model.specs.RunAnswer.{asked_line, Gives}
 
 -- ---- what the files mean
 

@@ -3,7 +3,7 @@ use Rattle.std.specs.Prelude.{◌≡◌, ℕ, ◌<◌, ◌≤◌, List, length}
 use Rattle.obj_types.specs.declared.symbol.Imp.{Imp}
 use Rattle.implib_model.specs.Library.{library_bytes, library_len}
 use Rattle.implib_model.specs.Imports.{modules_of}
-use Rattle.lx_answer.specs.Loading.{file_limit}
+use Rattle.answer_model.specs.Loading.{file_limit}
 use Rattle.lx_tool.specs.declared.library.ImportLibrary.{ImportLibrary}
 
 pub record HasBytes (bytes : List ℕ) (imports : List Imp) : Type 0 where

@@ -7,10 +7,10 @@ use Rattle.link_model.specs.declared.refusals.LinkRefusal.{LinkRefusal}
 use Rattle.image_pages.specs.declared.refusals.ImageRefusal.{ImageRefusal}
 use Rattle.image_pages.specs.declared.refusals.ImageRefusal.TheVariants as image
 use Rattle.omf_write.specs.declared.libraries.LibraryLong.{LibraryLong}
-use Rattle.lx_answer.specs.FileRefusals.{field}
-use Rattle.lx_answer.specs.declared.said.Said.{Said}
-use Rattle.lx_answer.specs.FileLine.{file_line}
-use Rattle.lx_answer.specs.LinkAnswer.{link_text}
+use Rattle.answer_model.specs.FileRefusals.{field}
+use Rattle.answer_model.specs.declared.said.Said.{Said}
+use Rattle.answer_model.specs.FileLine.{file_line}
+use Rattle.answer_model.specs.LinkAnswer.{link_text}
 
 -- A refused step says what it says, or finds no memory.
 abbrev pub Gives : Fail Said → Result Said NoMemory → Type 0

@@ -1,7 +1,7 @@
 -- The objects of a linked module in memory, with their bytes.
 use Rattle.std.specs.Prelude.{ℕ, ◌+◌, ◌^◌, ◌≤◌, List, length}
 use Rattle.link_model.specs.declared.symbols.LaidObject.{LaidObject}
-use Rattle.lx_answer.specs.ImageText.{image_text}
+use Rattle.answer_model.specs.ImageText.{image_text}
 
 abbrev pub Row : Type 0
 Row = LaidObject × List ℕ

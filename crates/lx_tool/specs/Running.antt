@@ -8,10 +8,10 @@ use Rattle.lx_ports.specs.Files.{FilesState}
 use Rattle.lx_ports.specs.Sinks.{SinkState}
 use Rattle.run_core.specs.declared.session.Ran.{Ran}
 use Rattle.run_core.specs.Sessions.{run_in}
-use Rattle.lx_answer.specs.declared.said.Said.{Said}
-use Rattle.lx_answer.specs.Ends.{AppendsPart}
-use Rattle.lx_answer.specs.RunAnswer.{SaysRun}
-use Rattle.lx_answer.specs.RunEnds.{AreCallsOfRun}
+use Rattle.answer_model.specs.declared.said.Said.{Said}
+use Rattle.answer_model.specs.Ends.{AppendsPart}
+use Rattle.answer_model.specs.RunAnswer.{SaysRun}
+use Rattle.answer_model.specs.RunEnds.{AreCallsOfRun}
 use Rattle.tool_read.specs.Steps.{AreLoads}
 use Rattle.lx_tool.specs.declared.main_call.Ended.{Ended}
 use Rattle.lx_tool.specs.declared.run.SessionEnd.{SessionEnd}

@@ -2,17 +2,17 @@
 ghost use Rattle.std.specs.Prelude.{◌≡◌, ◌≤◌, IfOk, length};
 ghost use Rattle.std.specs.List.{sum_by};
 ghost use Rattle.lx_model.specs.Module.{IsRead};
-ghost use Rattle.lx_answer.specs.ResourceRefusals.{bind_text};
+ghost use Rattle.answer_model.specs.ResourceRefusals.{bind_text};
 ghost use Rattle.res_model.specs.ResFile.{AreApart};
-ghost use Rattle.lx_answer.specs.BindAnswer.{bind_outcome, counts_of};
-ghost use Rattle.lx_answer.specs.Loading.{file_limit};
-ghost use Rattle.lx_answer.specs.Words as words;
+ghost use Rattle.answer_model.specs.BindAnswer.{bind_outcome, counts_of};
+ghost use Rattle.answer_model.specs.Loading.{file_limit};
+ghost use Rattle.answer_model.specs.Words as words;
 ghost use Rattle.lx_tool.specs.Doing.{Does, DoesOutcome};
 ghost use Rattle.lx_tool.specs.Refusals.{RefusesBy};
 
 use crate::refusals::in_full;
 use crate::saving::keep;
-use lx_answer::{REFUSED, Said};
+use answer_model::{REFUSED, Said};
 use lx_ports::Files;
 use lx_types::{Bytes, Fail, NoMemory, Seq};
 use refusal_text::bind_text;

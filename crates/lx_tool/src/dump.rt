@@ -3,12 +3,12 @@ ghost use Rattle.std.specs.Prelude.{◌≡◌, IfOk};
 ghost use Rattle.dump_model.specs.Dumps.{Dump};
 ghost use Rattle.dump_model.specs.Listings.{listing_of};
 ghost use Rattle.lx_model.specs.Module.{IsRead};
-ghost use Rattle.lx_answer.specs.Words as words;
+ghost use Rattle.answer_model.specs.Words as words;
 ghost use Rattle.lx_tool.specs.Doing.{Does};
 
 use crate::refusals::in_full;
+use answer_model::{DONE, Said};
 use dump_core::listing;
-use lx_answer::{DONE, Said};
 use lx_ports::Files;
 use lx_types::{Module, NoMemory};
 use std::alloc::Global;

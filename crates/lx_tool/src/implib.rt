@@ -1,9 +1,9 @@
 //! The command `implib`: an import library for modules and definition files.
 ghost use Rattle.std.specs.Prelude.{◌≡◌, IfOk, map, string_bytes};
 ghost use Rattle.std.specs.List.{All};
-ghost use Rattle.lx_answer.specs.ImplibAnswer.{all_imports, exports_line, implib_outcome};
-ghost use Rattle.lx_answer.specs.Stem.{stem_of};
-ghost use Rattle.lx_answer.specs.Words as words;
+ghost use Rattle.answer_model.specs.ImplibAnswer.{all_imports, exports_line, implib_outcome};
+ghost use Rattle.answer_model.specs.Stem.{stem_of};
+ghost use Rattle.answer_model.specs.Words as words;
 ghost use Rattle.tool_read.specs.Readings.{WholeExporter, exporter_item};
 ghost use Rattle.lx_tool.specs.Doing.{Does, DoesOutcome};
 ghost use Rattle.lx_tool.specs.Refusals.{RefusesLibrary};
@@ -11,9 +11,9 @@ ghost use Rattle.lx_tool.specs.Refusals.{RefusesLibrary};
 use crate::library::joined;
 use crate::refusals::in_full;
 use crate::saving::keep;
-use command_words::stem_of;
+use answer_model::{REFUSED, Said};
+use command_line::stem_of;
 use implib_core::LibraryLong;
-use lx_answer::{REFUSED, Said};
 use lx_ports::Files;
 use lx_types::{Bytes, Fail, NoMemory, Seq};
 use std::alloc::{AllocError, Global};

@@ -5,7 +5,7 @@ ghost use Rattle.lx_types.specs.Answers.{Answers};
 ghost use Rattle.obj_types.specs.declared.symbol.Imp.{Imp};
 ghost use Rattle.omf_model.specs.Library.{Lib};
 ghost use Rattle.implib_model.specs.Imports.{objects_of};
-ghost use Rattle.lx_answer.specs.ImplibAnswer.{all_imports, imports_of};
+ghost use Rattle.answer_model.specs.ImplibAnswer.{all_imports, imports_of};
 ghost use Rattle.tool_read.specs.Readings.{WholeExporter, exporter_item};
 ghost use Rattle.lx_tool.specs.ImportLibraries.{HasBytes, IsLibraryOf, IsTooLong};
 

@@ -1,17 +1,17 @@
 //! The command `link`: a module from object files and libraries.
 ghost use Rattle.std.specs.Prelude.{◌≡◌, IfOk, map, option_map, string_bytes};
 ghost use Rattle.obj_types.specs.Input.{WholeInput};
-ghost use Rattle.lx_answer.specs.LinkAnswer.{counts_line};
-ghost use Rattle.lx_answer.specs.Words as words;
+ghost use Rattle.answer_model.specs.LinkAnswer.{counts_line};
+ghost use Rattle.answer_model.specs.Words as words;
 ghost use Rattle.link_core.specs.Links.{RefusesLink};
 ghost use Rattle.lx_tool.specs.Doing.{Does, DoesLink};
 ghost use Rattle.lx_tool.specs.Refusals.{RefusesAs};
 
 use crate::refusals::in_full;
 use crate::saving::keep;
+use answer_model::{REFUSED, Said};
 use link_core::{Linked, link_module};
 use link_model::LinkRefusal;
-use lx_answer::{REFUSED, Said};
 use lx_ports::Files;
 use lx_types::{Bytes, Fail, NoMemory, Seq, push_escaped};
 use obj_types::LinkInput;

@@ -1,7 +1,7 @@
 //! The top call of the program: sessions, and all other commands.
 ghost use Rattle.std.specs.Prelude.{◌≡◌, OnErr, OnOk, map, option_map, string_bytes};
-ghost use Rattle.lx_answer.specs.RunAnswer.{run_of};
-ghost use Rattle.lx_answer.specs.RunEnds.{MainEnds};
+ghost use Rattle.answer_model.specs.RunAnswer.{run_of};
+ghost use Rattle.answer_model.specs.RunEnds.{MainEnds};
 ghost use Rattle.run_core.specs.Sessions.{run_in};
 ghost use Rattle.lx_tool.specs.Headline.{Headline};
 ghost use Rattle.lx_tool.specs.Running.{PutsEnd, ShowsRun};
@@ -9,7 +9,8 @@ ghost use Rattle.lx_tool.specs.Running.{PutsEnd, ShowsRun};
 use crate::output::put_whole;
 use crate::run::{SessionEnd, run};
 use crate::tool::lx_build;
-use lx_answer::{DONE, NO_MEMORY, WRITE_FAILED};
+use answer_model::{DONE, NO_MEMORY, WRITE_FAILED};
+use command_line::session_named;
 use lx_ports::{Files, Gate, Sink, SinkFailed};
 use lx_types::NoMemory;
 use run_core::Ran;
@@ -25,17 +26,7 @@ pub struct Ended {
     pub ran: Option<Ran>,
 }
 
-// The session's file, where the words are `run` and its name.
-fn session_named(words: &[String]) -> Option<&str>
-    ensures { option_map (λ file. file.now) result ≡ run_of (map string_bytes words.now) }
-{
-    match words {
-        [word, file] if word.as_str() == "run" => Some(file.as_str()),
-        _ => None,
-    }
-}
-
-// The status behind a put: that of what was said, where all of it was put.
+// The status after a put: that of what was said, where all of it was put.
 fn status_after(put: Result<(), SinkFailed>, status: u8) -> u8
     ensures whole { OnOk put (result ≡ status) }
     ensures part { OnErr put (result ≡ 4) }

@@ -1,20 +1,20 @@
 //! The command `map`: where all that a link places stands.
 ghost use Rattle.std.specs.Prelude.{◌≡◌, ◌++◌, IfOk, map, option_map, string_bytes};
 ghost use Rattle.obj_types.specs.Input.{WholeInput};
-ghost use Rattle.lx_answer.specs.LinkAnswer.{input_with};
-ghost use Rattle.lx_answer.specs.MapAnswer.{NAME, MapsInput};
-ghost use Rattle.lx_answer.specs.Outcome.{says_only};
-ghost use Rattle.lx_answer.specs.Says.{asked_definition, asked_inputs};
-ghost use Rattle.lx_answer.specs.Words as words;
+ghost use Rattle.answer_model.specs.LinkAnswer.{input_with};
+ghost use Rattle.answer_model.specs.MapAnswer.{NAME, MapsInput};
+ghost use Rattle.answer_model.specs.Outcome.{says_only};
+ghost use Rattle.answer_model.specs.AskedFiles.{asked_definition, asked_inputs};
+ghost use Rattle.answer_model.specs.Words as words;
 ghost use Rattle.tool_read.specs.Steps.{ReadsInTurn};
 ghost use Rattle.lx_tool.specs.Doing.{Does};
 
 use crate::link::refused;
 use crate::refusals::in_full;
-use link_map::map_input;
-use lx_answer::{DONE, Said};
+use answer_model::{DONE, Said};
 use lx_ports::Files;
 use lx_types::{Fail, Name, NoMemory, Seq};
+use map_core::map_input;
 use obj_types::LinkInput;
 use std::alloc::Global;
 use tool_read::read_input_with;

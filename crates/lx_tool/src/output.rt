@@ -2,7 +2,7 @@
 ghost use Rattle.std.specs.Prelude.{◌≤◌, OnOk, OnErr};
 ghost use Rattle.std.specs.Io.KnownBytes.{Appends};
 ghost use Rattle.lx_ports.specs.Counts.{Rose};
-ghost use Rattle.lx_answer.specs.Ends.{AppendsPart};
+ghost use Rattle.answer_model.specs.Ends.{AppendsPart};
 
 use lx_ports::{Sink, SinkFailed};
 

@@ -3,8 +3,8 @@ ghost use Rattle.std.specs.Prelude.{◌≡◌, IfOk};
 ghost use Rattle.tool_read.specs.Readings.{SaysOf};
 ghost use Rattle.lx_tool.specs.Refusals.{Gives, image_text_of};
 
+use answer_model::Said;
 use image_pages::ImageRefusal;
-use lx_answer::Said;
 use lx_types::{Fail, NoMemory};
 use std::alloc::{AllocError, Global};
 use tool_read::link_text;

@@ -1,7 +1,7 @@
 //! The command `run`: the scripts of a session, each on a thread of its own.
 ghost use Rattle.std.specs.Prelude.{ℕ, IfOk, List, codes};
 ghost use Rattle.lx_ports.specs.Calls.{Call};
-ghost use Rattle.lx_answer.specs.SessionRefusals.{library_text};
+ghost use Rattle.answer_model.specs.SessionRefusals.{library_text};
 ghost use Rattle.session_model.specs.Bounds.{IsSession};
 ghost use Rattle.session_model.specs.FailingPairs.{failing_pairs};
 ghost use Rattle.session_files.specs.SessionFiles.{AreSessionFiles};
@@ -10,7 +10,7 @@ ghost use Rattle.lx_tool.specs.Refusals.{RefusesBy};
 ghost use Rattle.lx_tool.specs.Running.{DoesRun, SaysEnd};
 
 use crate::refusals::in_full;
-use lx_answer::{REFUSED, Said};
+use answer_model::{REFUSED, Said};
 use lx_model::LibraryRefusal;
 use lx_ports::{Files, Gate};
 use lx_types::{Fail, NoMemory};

@@ -1,15 +1,15 @@
 //! Saving a command's output.
 ghost use Rattle.std.specs.Prelude.{◌≡◌};
-ghost use Rattle.lx_answer.specs.Outcome.{kept};
+ghost use Rattle.answer_model.specs.Outcome.{kept};
 ghost use Rattle.lx_tool.specs.Doing.{DoesOutcome};
 
-use lx_answer::{DONE, Said, WRITE_FAILED};
+use answer_model::{DONE, Said, WRITE_FAILED};
 use lx_ports::Files;
 use lx_types::{Bytes, NoMemory};
 use std::alloc::Global;
 use tool_read::file_line;
 
-/// Saves the output, and says this text, or that writing failed. All that is said is made before the save: behind it no
+/// Saves the output, and says this text, or that writing failed. All that is said is made before the save: after it no
 /// memory is wanted.
 pub fn keep<F: Files>(
     alloc: Global,

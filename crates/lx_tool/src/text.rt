@@ -1,16 +1,14 @@
 //! The bytes of an object as text.
 ghost use Rattle.std.specs.Prelude.{◌≡◌, ◌≤◌, ◌+◌, ◌^◌, ◌++◌, length, IfOk, OnOk, List};
 ghost use Rattle.std.specs.List.{All, flat_map};
-ghost use Rattle.lx_answer.specs.ImageText.{line, image_text, two_digits, spaced};
+ghost use Rattle.answer_model.specs.ImageText.{line, image_text, spaced};
 ghost use Rattle.lx_tool.specs.Rows.{FitsBase, row_text};
 
 use link_model::LaidObject;
-use lx_types::{Bytes, Seq};
+use lx_types::{Bytes, Seq, push_hex_address, push_hex_byte};
 use std::alloc::{AllocError, Global};
 
 const LINE: usize = 16;
-
-const DIGITS: [u8; 16] = *b"0123456789ABCDEF";
 
 /// The text of all objects in memory, in their order.
 pub fn memory_text(alloc: Global, rows: &[(LaidObject, Bytes)]) -> Result<Bytes, AllocError>
@@ -40,27 +38,19 @@ fn push_image(text: &mut Vec<u8>, base: u32, bytes: &[u8]) -> Result<(), AllocEr
 fn push_line(text: &mut Vec<u8>, at: u32, bytes: &[u8]) -> Result<(), AllocError>
     ensures { OnOk result (text.new.items ≡ text.old.items ++ line at bytes.now) }
 {
-    for byte in at.to_be_bytes() {
-        text.extend_from_slice(&digits(byte))?;
-    }
+    push_hex_address(text, at)?;
     text.push(b':')?;
     for byte in bytes {
-        text.extend_from_slice(&spaced(*byte))?;
+        push_spaced(text, *byte)?;
     }
     text.push(b'\n')?;
     Ok(())
 }
 
-// The two digits of a byte.
-fn digits(byte: u8) -> [u8; 2]
-    ensures { result ≡ two_digits byte }
-{
-    [DIGITS[byte as usize / 16], DIGITS[byte as usize % 16]]
-}
-
 // A blank and the two digits of a byte.
-fn spaced(byte: u8) -> [u8; 3]
-    ensures { result ≡ spaced byte }
+fn push_spaced(text: &mut Vec<u8>, byte: u8) -> Result<(), AllocError>
+    ensures { OnOk result (text.new.items ≡ text.old.items ++ spaced byte) }
 {
-    [b' ', DIGITS[byte as usize / 16], DIGITS[byte as usize % 16]]
+    text.push(b' ')?;
+    push_hex_byte(text, u32::from(byte))
 }

@@ -1,8 +1,8 @@
 //! The commands that need no threads: all that the program does but sessions, over the files and the sink that it is handed.
 ghost use Rattle.std.specs.Prelude.{◌≡◌, IfOk, map, string_bytes};
-ghost use Rattle.lx_answer.specs.FileLine.{usage_line};
-ghost use Rattle.lx_answer.specs.Ends.{Ends};
-ghost use Rattle.lx_answer.specs.Words.{command_of};
+ghost use Rattle.answer_model.specs.FileLine.{usage_line};
+ghost use Rattle.answer_model.specs.Ends.{Ends};
+ghost use Rattle.answer_model.specs.Words.{command_of};
 ghost use Rattle.lx_tool.specs.Doing.{DoesWords};
 
 use crate::bind::bind;
@@ -12,9 +12,9 @@ use crate::implib::implib;
 use crate::link::link;
 use crate::map::show_map;
 use crate::output::put_whole;
-use command_words::Command;
+use answer_model::{NO_MEMORY, Said, USAGE, WRITE_FAILED};
+use command_line::Command;
 use gen_core::generate;
-use lx_answer::{NO_MEMORY, Said, USAGE, WRITE_FAILED};
 use lx_ports::{Files, Sink};
 use lx_types::{NoMemory, Seq};
 use std::alloc::Global;
@@ -72,9 +72,9 @@ fn answer<F: Files>(alloc: Global, words: &[String], files: &mut F) -> Result<Sa
 /// The statuses: 0, the whole text was put; 1, a file is absent, too long (over 16,777,216 bytes) or has a fault, or the
 /// link, the library or the binding is refused; 2, the words are no command; 3, reading failed; 4, saving failed, or putting, after
 /// some of the text; 8, there was no memory, and nothing was saved or put. With 1, 2, 3 and a failed save one line was
-/// put. Each file is loaded once for each time that it is named, in the order of the words, and none behind the first
-/// that is refused; OUT is saved behind all loads, once. `image`, `dump` and `map` save nothing. The files of `gen` are saved
-/// one after the other, and none behind the first that is not; nothing is loaded for them.
+/// put. Each file is loaded once for each time that it is named, in the order of the words, and none after the first
+/// that is refused; OUT is saved after all loads, once. `image`, `dump` and `map` save nothing. The files of `gen` are saved
+/// one after the other, and none after the first that is not; nothing is loaded for them.
 pub fn lx_build<F: Files, S: Sink>(
     alloc: Global,
     words: &[String],

@@ -4,3 +4,4 @@ pub mod Answered
 pub mod Bools
 pub mod Options
 pub mod Lists
+pub mod Failing

@@ -1,7 +1,8 @@
 -- Addresses, the room that an object takes, and the selectors that stand for addresses.
--- LX: "Object Table" (flags), "Fixup Record Table" (16:16 pointers).
+-- "32-bit Linear eXecutable Module Format": "Object Table" (flags), "Fixup Record Table" (16:16 pointers).
 use Rattle.std.specs.Prelude.{ℕ, ◌+◌, ◌*◌, ◌/◌, ◌%◌, ◌-◌, ◌^◌, ◌==◌, ◌||◌, max, not, Bool, if◌then◌else◌, bit_and}
 use Rattle.lx_types.specs.declared.object.TheConstants.{OBJECT_BIG, OBJECT_EXECUTABLE}
+use Rattle.lx_types.specs.declared.limits.TheConstants.{BASE_UNIT}
 
 -- An address is a number below 2 ^ 32: this one stands an offset above a base.
 abbrev pub address : ℕ → ℕ → ℕ
@@ -9,24 +10,9 @@ address base offset = (base + offset) % 2 ^ 32
 
 -- ---- where objects stand
 
--- a base is a multiple of this
-abbrev pub UNIT : ℕ
-UNIT = 0x1_0000
-
 -- the room that an object of this size takes: at least one byte, and whole units
 abbrev pub room : ℕ → ℕ
-room size = (max 1 size + (UNIT - 1)) / UNIT * UNIT
-
--- the objects of a program stand from the first place up to before the second, those of libraries from
--- the second up to before the third
-abbrev pub PRIVATE_FROM : ℕ
-PRIVATE_FROM = 0x0001_0000
-
-abbrev pub SHARED_FROM : ℕ
-SHARED_FROM = 0x1000_0000
-
-abbrev pub SHARED_END : ℕ
-SHARED_END = 0x2000_0000
+room size = (max 1 size + (BASE_UNIT - 1)) / BASE_UNIT * BASE_UNIT
 
 -- ---- selectors
 
@@ -40,7 +26,7 @@ is_executable flags = not (bit_and flags OBJECT_EXECUTABLE == 0)
 -- The selector of the tile, of 65,536 bytes, in which an address lies: entry A / 65,536 of the local
 -- descriptor table, with its low three bits set.
 abbrev pub tiled_selector : ℕ → ℕ
-tiled_selector a = (a / UNIT * 8 + 7) % UNIT
+tiled_selector a = (a / BASE_UNIT * 8 + 7) % BASE_UNIT
 
 -- the flat selectors of code and of data
 abbrev pub flat_selector : ℕ → ℕ
@@ -53,4 +39,4 @@ selector tiled flags a = if tiled || not (is_big flags) then tiled_selector a el
 
 -- the 32-bit offset that goes with that selector: within the tile, or the address
 abbrev pub selected_offset : Bool → ℕ → ℕ → ℕ
-selected_offset tiled flags a = if tiled || not (is_big flags) then a % UNIT else a
+selected_offset tiled flags a = if tiled || not (is_big flags) then a % BASE_UNIT else a

@@ -47,7 +47,7 @@ abbrev pub Gives : {A B E F : Type 0} → (A → B) → (E → Option F) → Res
 Gives view told (Ok x) read = read ≡ Ok (view x)
 Gives view told (Err e) read = Tells (told e) read
 
--- A call gives what is read at a cursor, and moves the cursor behind it. After an error the cursor may be
+-- A call gives what is read at a cursor, and moves the cursor past it. After an error the cursor may be
 -- anywhere.
 abbrev pub Reads : {A B C E F : Type 0} → (A → B) → (E → Option F) → Result A E → (C → Result (B × C) F) → C → C → Type 0
 Reads view told (Ok x) read old new = read old ≡ Ok (view x, new)

@@ -1,5 +1,6 @@
 pub mod Addresses
 pub mod Answers
+pub mod Bases
 pub mod Names
 pub mod Object
 pub mod Parts

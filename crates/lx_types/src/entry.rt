@@ -1,6 +1,6 @@
 //! Entry points: how one is asked for, and what the entry table has for it.
 //!
-//! LX: "Entry Table", "Resident or Non-resident Name Table Entry".
+//! "32-bit Linear eXecutable Module Format": "Entry Table", "Resident or Non-resident Name Table Entry".
 
 use crate::Name;
 

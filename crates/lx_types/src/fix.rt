@@ -1,6 +1,6 @@
 //! Fixups: which field of a page gets which address.
 //!
-//! LX: "Fixup Record Table".
+//! "32-bit Linear eXecutable Module Format": "Fixup Record Table".
 
 /// What a field gets. Far fields end with a selector.
 #[derive(Clone, Copy)]

@@ -1,12 +1,13 @@
 //! The numbers of the format, written out. The definitions name them as the code does, so this law alone
 //! refuses a wrong one.
 //!
-//! LX: "LX Header" (module flags, page size), "Object Table" (flags).
+//! "32-bit Linear eXecutable Module Format": "LX Header" (module flags, page size), "Object Table" (flags).
 
 ghost use Rattle.std.specs.Prelude.{◌≡◌};
 
 use crate::limits::{
     BASE_UNIT, MAX_FILE, MAX_LOADS, MAX_MODULES, MAX_OBJECTS, MAX_PAGES, MAX_PROCESSES, PAGE_LEN,
+    PRIVATE_FROM, SHARED_END, SHARED_FROM,
 };
 use crate::object::{
     OBJECT_ALIAS, OBJECT_BIG, OBJECT_CONFORMING, OBJECT_EXECUTABLE, OBJECT_IOPL, OBJECT_PRELOAD,
@@ -33,7 +34,7 @@ pub fn format_numbers()
     ensures term_each { MODULE_TERM_EACH ≡ 0x4000_0000 }
 {}
 
-/// A law: each number that bounds a file, a module or a session.
+/// A law: each number that bounds a file, a module, a session or where objects stand.
 pub fn limits_are()
     ensures page { PAGE_LEN ≡ PAGE_SIZE }
     ensures file { MAX_FILE ≡ 16777216 }
@@ -43,4 +44,7 @@ pub fn limits_are()
     ensures processes { MAX_PROCESSES ≡ 16 }
     ensures loads { MAX_LOADS ≡ 65535 }
     ensures base_unit { BASE_UNIT ≡ 65536 }
+    ensures private_from { PRIVATE_FROM ≡ 0x0001_0000 }
+    ensures shared_from { SHARED_FROM ≡ 0x1000_0000 }
+    ensures shared_end { SHARED_END ≡ 0x2000_0000 }
 {}

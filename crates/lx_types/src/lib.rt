@@ -20,7 +20,7 @@ mod selectors;
 mod seq;
 mod sharing;
 
-pub use bases::{Bases, ModBases};
+pub use bases::{Bases, ModBases, object_base};
 pub use counts::count;
 pub use digits::{push_hex_address, push_hex_byte};
 pub use entry::{EntryHead, EntryKey, FwdKey};
@@ -29,8 +29,8 @@ pub use fail::{Fail, NoMemory};
 pub use fix::{Fix, FixTarget, Source};
 pub use laws::{format_numbers, limits_are};
 pub use limits::{
-    BASE_UNIT, MAX_FILE, MAX_LOADS, MAX_MODULES, MAX_OBJECTS, MAX_PAGES, MAX_PROCESSES, PAGE_LEN,
-    PageBytes,
+    BASE_UNIT, MAX_FILE, MAX_LOADS, MAX_MODULES, MAX_MODULES_LEN, MAX_OBJECTS, MAX_PAGES,
+    MAX_PROCESSES, PAGE_LEN, PRIVATE_FROM, PageBytes, SHARED_END, SHARED_FROM,
 };
 pub use module::Module;
 pub use name::{Name, NameLong};

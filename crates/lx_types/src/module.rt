@@ -1,6 +1,6 @@
 //! A module as it was read from a file.
 
-ghost use Rattle.std.specs.Prelude.{◌≡◌, ◌+◌, ◌<◌, ◌≤◌, length, AllPairs, option_copied};
+ghost use Rattle.std.specs.Prelude.{◌≡◌, ◌+◌, ◌-◌, ◌<◌, ◌≤◌, length, AllPairs, option_copied, slice_get};
 ghost use Rattle.lx_types.specs.Object.{pages_of};
 ghost use Rattle.lx_types.specs.Parts.{is_library_of, object_of, page_at, data_at, fix_span_at, fixes_at, proc_name_of, entry_of, ordinal_named};
 ghost use Rattle.lx_types.specs.Sound.{IsNumberOf, Sound};
@@ -99,6 +99,13 @@ impl Module {
         self.parts.objects.as_slice()
     }
 
+    /// The object with a number, from 1; none where the table has none.
+    pub fn object(&self, number: u32) -> Option<&ObjHead>
+        ensures { option_copied result ≡ slice_get self.now.objects (number - 1) }
+    {
+        self.objects().get(number.saturating_sub(1) as usize)
+    }
+
     /// How many pages an object has, by its size.
     pub fn pages(&self, object: u32) -> u32
         requires { IsNumberOf object (length self.now.objects) }
@@ -106,6 +113,17 @@ impl Module {
     {
         let size = self.objects()[object as usize - 1].size as u64;
         (size.div_ceil(PAGE_SIZE as u64)) as u32
+    }
+
+    /// The entry of a page that its object counts, also of one past the object's size.
+    pub fn counted_page(&self, p: PageId) -> PageHead
+        requires object { IsNumberOf p.object (length self.now.objects) }
+        requires page { p.page < (object_of self.now p.object).count }
+        ensures head { result ≡ page_at self.now p }
+        ensures within { result.at + result.len ≤ length self.now.file }
+    {
+        let object = self.objects()[p.object as usize - 1];
+        self.parts.pages.as_slice()[(object.first - 1) as usize + p.page as usize]
     }
 
     /// A page's entry. A page past its object's page count is a page of zeros.
@@ -117,7 +135,7 @@ impl Module {
     {
         let object = self.objects()[p.object as usize - 1];
         if p.page < object.count {
-            self.parts.pages.as_slice()[(object.first - 1) as usize + p.page as usize]
+            self.counted_page(p)
         } else {
             PageHead {
                 kind: PageKind::Zero,
@@ -139,6 +157,17 @@ impl Module {
         &self.file()[from..from + page.len as usize]
     }
 
+    /// Where the fixup records of a page that its object counts begin and end in the file.
+    pub fn counted_span(&self, p: PageId) -> (u32, u32)
+        requires object { IsNumberOf p.object (length self.now.objects) }
+        requires page { p.page < (object_of self.now p.object).count }
+        ensures span { result ≡ fix_span_at self.now p }
+        ensures within { (result.0 ≤ result.1) × (result.1 ≤ length self.now.file) }
+    {
+        let object = self.objects()[p.object as usize - 1];
+        self.parts.fix_spans.as_slice()[(object.first - 1) as usize + p.page as usize]
+    }
+
     /// Where a page's fixup records begin and end in the file. A page past its object's page count has
     /// none, from 0 up to 0.
     pub fn fix_span(&self, p: PageId) -> (u32, u32)
@@ -149,8 +178,7 @@ impl Module {
     {
         let object = self.objects()[p.object as usize - 1];
         if p.page < object.count {
-            let place = (object.first - 1) as usize + p.page as usize;
-            self.parts.fix_spans.as_slice()[place]
+            self.counted_span(p)
         } else {
             (0, 0)
         }

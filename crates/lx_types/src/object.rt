@@ -1,6 +1,6 @@
 //! Objects and their pages: the entries of the object table and of the object page table.
 //!
-//! LX: "Object Table", "Object Page Table".
+//! "32-bit Linear eXecutable Module Format": "Object Table", "Object Page Table".
 
 ghost use Rattle.std.specs.Prelude.{◌≡◌};
 ghost use Rattle.lx_types.specs.Object.{class_of};

@@ -1,6 +1,6 @@
 //! Resources: data that a program asks for by a type and an identifier.
 //!
-//! LX: "Resource Table".
+//! "32-bit Linear eXecutable Module Format": "Resource Table".
 
 /// Where a resource lies: `len` bytes of an object, from `offset` on. Objects count from 1.
 #[derive(Clone, Copy)]

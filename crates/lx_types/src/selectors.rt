@@ -1,7 +1,7 @@
 //! The selectors that stand for addresses in 16:16 and 16:32 pointers, and the offsets that they
 //! leave.
 //!
-//! LX: "Object Table" (flags), "Fixup Record Table" (16:16 pointers).
+//! "32-bit Linear eXecutable Module Format": "Object Table" (flags), "Fixup Record Table" (16:16 pointers).
 
 ghost use Rattle.std.specs.Prelude.{◌≡◌};
 ghost use Rattle.lx_types.specs.Addresses.{tiled_selector, selector, selected_offset};

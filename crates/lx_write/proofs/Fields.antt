@@ -9,6 +9,8 @@ use Rattle.image_model.proofs.Places.{file_long}
 use Rattle.link_model.specs.Records.{page_count}
 use Rattle.link_model.specs.declared.symbols.LaidObject.{LaidObject}
 use Rattle.lx_types.specs.declared.object.TheConstants.{PAGE_SIZE}
+use Rattle.lx_model.specs.declared.lengths.TheConstants.{HEADER_LEN}
+use Rattle.lx_model.specs.declared.header_fields.TheConstants.{LX_SIGNATURE}
 use Rattle.lx_model.specs.TableSpelling.{header_spelling}
 
 pub object_of : (o : Option (ℕ × ℕ)) → (unwrap_or o (0, 0)).0 ≡ object_field o
@@ -28,7 +30,7 @@ loader_long s = omega arith
 pub others_long : (s : Sections) → others_at s + length s.others - others_at s ≡ length s.others
 others_long s = omega arith
 
--- ---- sections that are joined, one behind the other
+-- ---- sections that are joined, one after the other
 
 pub more : (file after section slice rest whole : List ℕ) → file ++ (section ++ rest) ≡ whole → slice ≡ section → after ≡ file ++ slice → after ++ rest ≡ whole
 more file after section slice rest whole left same added = ap (λ bs. bs ++ rest) (added ∙ ap (λ bs. file ++ bs) same) ∙ append_assoc file section rest ∙ left
@@ -43,8 +45,8 @@ pub fields_are : (m : Image) (s : Sections) (flags pages start_object start stac
     flags ≡ m.flags → pages ≡ length m.pages → start_object ≡ object_field m.start → start ≡ offset_field m.start → stack_object ≡ object_field m.stack → stack ≡ offset_field m.stack →
     fixups ≡ fixup_size s → loader ≡ loader_size s → objects ≡ length m.objects → pages_place ≡ pages_at s → data_place ≡ data_at s → residents_place ≡ residents_at s → entries_place ≡ entries_at s →
     spans_place ≡ spans_at s → records_place ≡ records_at s → imports_place ≡ imports_at s → imports ≡ length m.imports → procs_place ≡ procs_at s → others_place ≡ others_at s → others ≡ length s.others →
-    0x584C ∷ 0 ∷ 0x10002 ∷ 0 ∷ flags ∷ pages ∷ start_object ∷ start ∷ stack_object ∷ stack ∷ PAGE_SIZE ∷ 0 ∷ fixups ∷ 0 ∷ loader ∷ 0
-    ∷ 196 ∷ objects ∷ pages_place ∷ data_place ∷ 0 ∷ 0 ∷ residents_place ∷ entries_place ∷ 0 ∷ 0 ∷ spans_place ∷ records_place ∷ imports_place ∷ imports ∷ procs_place ∷ 0
+    LX_SIGNATURE ∷ 0 ∷ 0x10002 ∷ 0 ∷ flags ∷ pages ∷ start_object ∷ start ∷ stack_object ∷ stack ∷ PAGE_SIZE ∷ 0 ∷ fixups ∷ 0 ∷ loader ∷ 0
+    ∷ HEADER_LEN ∷ objects ∷ pages_place ∷ data_place ∷ 0 ∷ 0 ∷ residents_place ∷ entries_place ∷ 0 ∷ 0 ∷ spans_place ∷ records_place ∷ imports_place ∷ imports ∷ procs_place ∷ 0
     ∷ data_place ∷ 0 ∷ others_place ∷ others ∷ 0 ∷ m.auto ∷ 0 ∷ 0 ∷ 0 ∷ 0 ∷ m.heap ∷ [] ≡ header_fields_of m s
 unfolding header_fields_of
 fields_are m s flags pages start_object start stack_object stack fixups loader objects pages_place data_place residents_place entries_place spans_place records_place imports_place imports procs_place others_place others e1 e2 e3 e4 e5 e6 e7 e8 e9 e10 e11 e12 e13 e14 e15 e16 e17 e18 e19 e20 =

@@ -18,7 +18,7 @@ zeros_behind (b ∷ bytes) n = ap (before_data b) (zeros_behind bytes n)
 data_filled : (page : List ℕ) → data_of (filled page) ≡ data_of page
 data_filled page = zeros_behind page (PAGE_SIZE - length page)
 
--- ---- zeros behind bytes
+-- ---- zeros after bytes
 
 zeros_dropped : (n m : ℕ) → drop {A = ℕ} n (replicate m 0) ≡ replicate (m - n) 0
 zeros_dropped zero m = ap (λ (k : ℕ). replicate k 0) (let e : m ≡ m - 0 = omega arith in e)

@@ -9,10 +9,10 @@ use Rattle.image_model.specs.PageTables.{form_data, page_heads_from, page_record
 use Rattle.lx_write.specs.declared.pages.Pages.{Pages}
 use Rattle.lx_write.specs.declared.records.Records.{Records}
 
--- The entries and the data of these pages and of others behind them.
+-- The entries and the data of these pages and of others after them.
 abbrev pub with_pages : Pages → List PageForm → List PageHead × List ℕ
 with_pages p others = (p.heads.items ++ page_heads_from (length p.contents.items) others, p.contents.items ++ flat_map form_data others)
 
--- The fixup page table and the records of these pages and of others behind them.
+-- The fixup page table and the records of these pages and of others after them.
 abbrev pub with_records : Records → List (List Written) → List ℕ × List ℕ
 with_records r others = (r.spans.items ++ doublewords (record_offsets_from (length r.records.items) others), r.records.items ++ flat_map page_records others)

@@ -1,5 +1,5 @@
 -- Targets by name, as a file has them: with the name's offset in the import procedure table.
--- LX: "Import Procedure Name Table".
+-- "32-bit Linear eXecutable Module Format": "Import Procedure Name Table".
 use Rattle.std.specs.Prelude.{ℕ, ◌<◌, List, slice_index}
 use Rattle.lx_types.specs.declared.fix.Fix.{Fix}
 use Rattle.lx_types.specs.declared.fix.FixTarget.{FixTarget}

@@ -1,5 +1,5 @@
 -- Which module an image in memory is, and which images can be written.
--- LX: "LX Header", "Object Table", "Fixup Record Table".
+-- "32-bit Linear eXecutable Module Format": "LX Header", "Object Table", "Fixup Record Table".
 use Rattle.std.specs.Prelude.{◌≡◌, ℕ, ◌<◌, ◌==◌, not, true, List, length, map, All, IfSome, bit_or}
 use Rattle.std.specs.List.{flat_map, list_any, AllByRecursion}
 use Rattle.lx_types.specs.Sound.{IsNumberOf}

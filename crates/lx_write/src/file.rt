@@ -28,7 +28,7 @@ fn header_in(alloc: Global, fields: &[u32; 43], room: u32) -> Result<Vec<u8>, No
     Ok(file)
 }
 
-// The header and, behind it, the sections; `len` bytes in all.
+// The header and, after it, the sections; `len` bytes in all.
 fn join(alloc: Global, fields: &[u32; 43], s: &Sections, len: u32) -> Result<Vec<u8>, NoMemory>
     ensures { IfOk result (λ file. file.items ≡ header_spelling fields.now ++ sections_bytes (sections_value s.now)) }
 {
@@ -62,7 +62,7 @@ fn file_with(alloc: Global, image: &Image, s: &Sections) -> Result<Vec<u8>, NoMe
     join(alloc, &fields, s, places.end)
 }
 
-/// The one file of an image: the header and its sections, one behind the other without gaps.
+/// The one file of an image: the header and its sections, one after the other without gaps.
 ///
 /// It asks that each object has as many bytes as its size and one list of fixups for each page, that
 /// the fixups of a page can be its records, that what targets, the start and the stack name is

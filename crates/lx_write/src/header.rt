@@ -10,17 +10,22 @@ ghost use Rattle.lx_write.specs.Sections.{sections_value, ArePlaces};
 
 use crate::image::Image;
 use crate::sections::Sections;
+use lx_model::HEADER_LEN;
+use lx_model::header_fields::{
+    AUTO_DATA_OBJECT, CPU_TYPE, DATA_PAGES, EIP, EIP_OBJECT, ENTRY_TABLE, ESP, ESP_OBJECT,
+    FIXUP_PAGE_TABLE, FIXUP_RECORD_TABLE, FIXUP_SECTION_SIZE, HEAP_SIZE, IMPORT_MODULE_COUNT,
+    IMPORT_MODULE_TABLE, IMPORT_PROCEDURE_TABLE, ITERATED_PAGES, LOADER_SECTION_SIZE, LX_SIGNATURE,
+    MODULE_FLAGS, MODULE_PAGES, NONRESIDENT_NAME_LENGTH, NONRESIDENT_NAME_TABLE, OBJECT_COUNT,
+    OBJECT_PAGE_TABLE, OBJECT_TABLE, PAGE_SIZE_FIELD, RESIDENT_NAME_TABLE, SIGNATURE,
+};
 use lx_types::{Bytes, MODULE_LIBRARY, PAGE_SIZE};
 use obj_types::ModKind;
-
-/// `LX`, with little-endian bytes and words.
-const SIGNATURE: u32 = 0x584C;
 
 /// An 80386, and OS/2.
 const CPU_AND_SYSTEM: u32 = 0x1_0002;
 
-/// Where the object table stands: behind the header, which is at the file's start.
-const OBJECTS_AT: u32 = 0xC4;
+/// Where the object table stands: after the header, which is at the file's start.
+const OBJECTS_AT: u32 = HEADER_LEN as u32;
 
 /// Where sections stand in the file, and where the file ends.
 #[derive(Clone, Copy)]
@@ -102,32 +107,33 @@ pub fn fields_of(image: &Image, s: &Sections, at: &Places) -> Option<[u32; 43]>
     let (start_object, start) = image.start.unwrap_or((0, 0));
     let (stack_object, stack) = image.stack.unwrap_or((0, 0));
     let mut fields = [0; 43];
-    fields[0x00 / 4] = SIGNATURE;
-    fields[0x08 / 4] = CPU_AND_SYSTEM;
-    fields[0x10 / 4] = module_flags(image);
-    fields[0x14 / 4] = pages;
-    fields[0x18 / 4] = start_object;
-    fields[0x1C / 4] = start;
-    fields[0x20 / 4] = stack_object;
-    fields[0x24 / 4] = stack;
-    fields[0x28 / 4] = PAGE_SIZE;
-    fields[0x30 / 4] = at.contents - at.spans;
-    fields[0x38 / 4] = at.spans - OBJECTS_AT;
-    fields[0x40 / 4] = OBJECTS_AT;
-    fields[0x44 / 4] = objects;
-    fields[0x48 / 4] = at.pages;
-    fields[0x4C / 4] = at.contents;
-    fields[0x58 / 4] = at.residents;
-    fields[0x5C / 4] = at.entries;
-    fields[0x68 / 4] = at.spans;
-    fields[0x6C / 4] = at.records;
-    fields[0x70 / 4] = at.imports;
-    fields[0x74 / 4] = imports;
-    fields[0x78 / 4] = at.procs;
-    fields[0x80 / 4] = at.contents;
-    fields[0x88 / 4] = at.others;
-    fields[0x8C / 4] = at.end - at.others;
-    fields[0x94 / 4] = image.auto;
-    fields[0xA8 / 4] = image.heap;
+    // with little-endian bytes and words
+    fields[SIGNATURE as usize / 4] = LX_SIGNATURE as u32;
+    fields[CPU_TYPE as usize / 4] = CPU_AND_SYSTEM;
+    fields[MODULE_FLAGS as usize / 4] = module_flags(image);
+    fields[MODULE_PAGES as usize / 4] = pages;
+    fields[EIP_OBJECT as usize / 4] = start_object;
+    fields[EIP as usize / 4] = start;
+    fields[ESP_OBJECT as usize / 4] = stack_object;
+    fields[ESP as usize / 4] = stack;
+    fields[PAGE_SIZE_FIELD as usize / 4] = PAGE_SIZE;
+    fields[FIXUP_SECTION_SIZE as usize / 4] = at.contents - at.spans;
+    fields[LOADER_SECTION_SIZE as usize / 4] = at.spans - OBJECTS_AT;
+    fields[OBJECT_TABLE as usize / 4] = OBJECTS_AT;
+    fields[OBJECT_COUNT as usize / 4] = objects;
+    fields[OBJECT_PAGE_TABLE as usize / 4] = at.pages;
+    fields[ITERATED_PAGES as usize / 4] = at.contents;
+    fields[RESIDENT_NAME_TABLE as usize / 4] = at.residents;
+    fields[ENTRY_TABLE as usize / 4] = at.entries;
+    fields[FIXUP_PAGE_TABLE as usize / 4] = at.spans;
+    fields[FIXUP_RECORD_TABLE as usize / 4] = at.records;
+    fields[IMPORT_MODULE_TABLE as usize / 4] = at.imports;
+    fields[IMPORT_MODULE_COUNT as usize / 4] = imports;
+    fields[IMPORT_PROCEDURE_TABLE as usize / 4] = at.procs;
+    fields[DATA_PAGES as usize / 4] = at.contents;
+    fields[NONRESIDENT_NAME_TABLE as usize / 4] = at.others;
+    fields[NONRESIDENT_NAME_LENGTH as usize / 4] = at.end - at.others;
+    fields[AUTO_DATA_OBJECT as usize / 4] = image.auto;
+    fields[HEAP_SIZE as usize / 4] = image.heap;
     Some(fields)
 }

@@ -1,4 +1,4 @@
-//! Writes a linked module as the one file that it has ("LX - Linear eXecutable Module Format").
+//! Writes a linked module as the one file that it has ("32-bit Linear eXecutable Module Format").
 #![tactic(auto)]
 
 mod file;

@@ -8,7 +8,7 @@ ghost use Rattle.link_model.specs.ImportTables.{name_table, name_offset};
 use lx_types::{Bytes, Name, NoMemory, Numbers, Seq};
 use std::alloc::{AllocError, Global};
 
-// Adds names, each behind its length.
+// Adds names, each after its length.
 fn push_names(out: &mut Vec<u8>, names: &[Name]) -> Result<(), AllocError>
     ensures { OnOk result (out.new.items ≡ out.old.items ++ flat_map import_spelling names.now) }
 {
@@ -29,7 +29,7 @@ pub fn import_table(alloc: Global, names: &[Name]) -> Result<Bytes, NoMemory>
     Ok(Seq::from_vec(out))
 }
 
-/// The import procedure names, behind an empty one.
+/// The import procedure names, after an empty one.
 pub fn proc_table(alloc: Global, names: &[Name]) -> Result<Bytes, NoMemory>
     ensures { IfOk result (λ table. table ≡ name_table names.now) }
 {

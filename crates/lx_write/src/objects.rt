@@ -31,7 +31,7 @@ fn object_head(first: u32, object: &LaidObject) -> ObjHead
     }
 }
 
-// The entries of objects, whose pages stand one behind the other.
+// The entries of objects, whose pages stand one after the other.
 fn object_heads(alloc: Global, objects: &[LaidObject]) -> Result<Vec<ObjHead>, NoMemory>
     ensures { IfOk result (λ heads. heads.items ≡ object_heads_from 1 objects.now) }
 {

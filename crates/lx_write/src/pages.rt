@@ -11,7 +11,7 @@ ghost use Rattle.image_model.specs.PageTables.{page_head, form_data, page_heads_
 ghost use Rattle.lx_write.specs.Growing.{with_pages};
 
 use lx_iter::pack;
-use lx_types::{Bytes, NoMemory, PageHead, PageKind};
+use lx_types::{Bytes, NoMemory, PAGE_LEN, PageBytes, PageHead, PageKind};
 use std::alloc::Global;
 
 /// The entries of pages, with places in the data of all pages, and that data.
@@ -21,7 +21,7 @@ pub struct Pages {
     pub contents: Vec<u8>,
 }
 
-const ZEROS: [u8; 4096] = [0; 4096];
+const ZEROS: PageBytes = [0; PAGE_LEN];
 
 // Whether a page has no byte but zeros.
 fn is_zero(page: &[u8]) -> bool
@@ -54,11 +54,11 @@ fn put_front(into: &mut [u8], bytes: &[u8])
 }
 
 // These bytes, and zeros up to the page's end.
-fn filled(bytes: &[u8]) -> [u8; 4096]
+fn filled(bytes: &[u8]) -> PageBytes
     requires { length bytes.now ≤ PAGE_SIZE }
     ensures { result ≡ filled bytes.now }
 {
-    let mut page = [0; 4096];
+    let mut page = [0; PAGE_LEN];
     put_front(&mut page, bytes);
     page
 }
@@ -119,7 +119,7 @@ impl Pages {
         let mut at = 0;
         while at < bytes.len() {
             let left = &bytes[at..];
-            let len = left.len().min(4096);
+            let len = left.len().min(PAGE_LEN);
             self.add(alloc, &left[..len])?;
             at += len;
         }

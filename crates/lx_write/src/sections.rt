@@ -17,7 +17,7 @@ use lx_head::write_pages;
 use lx_types::{Bytes, Fail, Seq};
 use std::alloc::Global;
 
-/// The sections of a file, in the order in which they stand behind the header.
+/// The sections of a file, in the order in which they stand after the header.
 #[derive(Drop)]
 pub struct Sections {
     /// The object table.

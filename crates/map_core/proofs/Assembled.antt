@@ -15,11 +15,11 @@ use Rattle.link_model.specs.Link.{Link}
 use Rattle.link_model.specs.Layout.{objects, spot, common_spot}
 use Rattle.link_model.specs.Symbols.{commons, imports, at_place}
 use Rattle.link_model.specs.Goals.{Target}
-use Rattle.sym_table.specs.Symbols.{SymbolTable}
-use Rattle.sym_table.specs.Binding.{AreSymbolsOf}
-use Rattle.seg_merge.specs.declared.layout.Layout.{Layout}
-use Rattle.seg_merge.specs.Places.{ArePlaces}
-use Rattle.seg_merge.specs.Layout.{IsLaidOut}
+use Rattle.link_types.specs.Symbols.{SymbolTable}
+use Rattle.link_types.specs.Binding.{AreSymbolsOf}
+use Rattle.link_types.specs.declared.layout.Layout.{Layout}
+use Rattle.link_types.specs.Places.{ArePlaces}
+use Rattle.link_types.specs.Layout.{IsLaidOut}
 use Rattle.link_place.specs.Fixed.{symbol_at}
 use Rattle.map_model.specs.Listed.{address_among, Contribution, contribution, contributions_in, contributions, Listed, placed, valued, meaning, publics, placed_publics, constants}
 use Rattle.map_model.specs.Lines.{map_line, object_line, segment_line, common_line, public_line, constant_line, import_line}

@@ -1,3 +1,4 @@
 pub mod Loops
 pub mod Sorted
 pub mod Assembled
+mod MapOfPlan

@@ -28,7 +28,7 @@ pushed-behind {X} {Y} text b n ys y start old new at was made =
 up-to : {X : Type 0} (xs : List X) (i : ℕ) (x : X) → i < length xs → x ≡ get_or xs i x → take i xs ++ x ∷ [] ≡ take (i + 1) xs
 up-to {X} xs i x h is = ap (λ (y : X). take i xs ++ y ∷ []) is ∙ sym (take_more xs i x h)
 
--- A loop's step: the item at i, by its number, behind those before it.
+-- A loop's step: the item at i, by its number, after those before it.
 pub numbered-pushed : {X Y : Type 0} (text : ℕ × X → List Y) (b n : ℕ) (xs : List X) (i : ℕ) (x : X) (start old new : List Y) → i < length xs → x ≡ get_or xs i x
     → n ≡ i + b → old ≡ start ++ flat_map text (enumerate_from b (take i xs)) → new ≡ old ++ text (n, x)
     → new ≡ start ++ flat_map text (enumerate_from b (take (i + 1) xs))

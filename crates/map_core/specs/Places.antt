@@ -10,8 +10,8 @@ use Rattle.link_model.specs.Symbols.{at_place}
 use Rattle.link_model.specs.Goals.{Target}
 use Rattle.map_model.specs.Listed.{address_among, Contribution, contribution, Listed, placed, valued}
 use Rattle.map_model.specs.Lines.{segment_line, common_line}
-use Rattle.seg_merge.specs.declared.layout.Layout.{Layout}
-use Rattle.seg_merge.specs.Places.{spot_in, common_in}
+use Rattle.link_types.specs.declared.layout.Layout.{Layout}
+use Rattle.link_types.specs.Places.{spot_in, common_in}
 use Rattle.link_place.specs.Fixed.{symbol_at}
 
 -- ---- lines

@@ -6,9 +6,9 @@ ghost use Rattle.map_core.specs.Places.{segment_text, module_text, common_text};
 
 use crate::addresses::address_of;
 use crate::lines::{push_common, push_segment};
-use link_model::number;
-use obj_types::{Common, Name, NoMemory, ObjModule, Seg};
-use seg_merge::Layout;
+use link_types::Layout;
+use lx_types::{Name, NoMemory, count};
+use obj_types::{Common, ObjModule, Seg};
 
 fn push_plain(
     out: &mut Vec<u8>,
@@ -33,7 +33,7 @@ fn push_segs(out: &mut Vec<u8>, lay: &Layout, by: u32, segs: &[Seg]) -> Result<(
     ensures { OnOk result (out.new.items ≡ out.old.items ++ flat_map (segment_text lay.now by) (enumerate_from 1 segs.now)) }
 {
     for (place, seg) in segs.iter().enumerate() {
-        push_plain(out, lay, by, number(place + 1)?, seg)?;
+        push_plain(out, lay, by, count(place + 1)?, seg)?;
     }
     Ok(())
 }
@@ -43,7 +43,7 @@ pub fn push_modules(out: &mut Vec<u8>, lay: &Layout, modules: &[&ObjModule]) -> 
     ensures { OnOk result (out.new.items ≡ out.old.items ++ flat_map (module_text lay.now) (enumerate_from 1 (map (λ m. m.now) modules.now))) }
 {
     for (place, object) in modules.iter().enumerate() {
-        push_segs(out, lay, number(place + 1)?, object.segs.as_slice())?;
+        push_segs(out, lay, count(place + 1)?, object.segs.as_slice())?;
     }
     Ok(())
 }
@@ -71,7 +71,7 @@ pub fn push_commons(
     ensures { OnOk result (out.new.items ≡ out.old.items ++ flat_map (common_text lay.now) (enumerate_from 0 commons.now)) }
 {
     for (place, common) in commons.iter().enumerate() {
-        push_common_at(out, lay, number(place)?, common)?;
+        push_common_at(out, lay, count(place)?, common)?;
     }
     Ok(())
 }

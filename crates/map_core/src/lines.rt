@@ -9,7 +9,8 @@ ghost use Rattle.map_core.specs.Shown.{by_address, by_name};
 
 use line_words::{Word, push_line};
 use link_model::LaidObject;
-use obj_types::{Common, EntryKey, Imp, Name, Seg};
+use lx_types::{EntryKey, Name};
+use obj_types::{Common, Imp, Seg};
 use std::alloc::AllocError;
 
 /// The first line, of a module with this name.

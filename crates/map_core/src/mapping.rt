@@ -1,21 +1,19 @@
 //! The map of a link.
 
 ghost use Rattle.std.specs.Prelude.{◌≡◌, IfOk, map};
-ghost use Rattle.link_model.specs.Kept.{Kept};
 ghost use Rattle.link_model.specs.Link.{Link, link_of};
-ghost use Rattle.sym_table.specs.Binding.{AreSymbolsOf, IsBound};
-ghost use Rattle.seg_merge.specs.Layout.{IsLaidOut};
+ghost use Rattle.link_types.specs.Binding.{AreSymbolsOf, IsBound};
+ghost use Rattle.link_types.specs.Layout.{IsLaidOut};
 ghost use Rattle.map_model.specs.Maps.{IsMap};
 
 use crate::contributions::{push_commons, push_modules};
 use crate::lines::{push_head, push_imports, push_objects, push_places, push_values};
 use crate::publics::{places_of, values_of};
-use comdat_core::{has_comdats, keep};
-use link_model::{modules_at, without_comdats_all_is_kept};
-use obj_types::{LinkInput, Name, NoMemory, ObjModule};
-use seg_merge::Layout;
+use link_model::modules_at;
+use link_types::{Layout, Symbols};
+use lx_types::{Name, NoMemory};
+use obj_types::{LinkInput, ObjModule};
 use std::alloc::Global;
-use sym_table::Symbols;
 
 // The map of a link of these modules.
 fn map_modules(
@@ -51,7 +49,7 @@ fn map_modules(
 /// name, then the constants, by name; and the import pairs. Addresses are those of the linked bases. Bases, addresses, values
 /// and flags have eight hexadecimal digits, all other numbers are decimal, and names have their escapes, the empty one being
 /// `%`.
-pub fn map_kept(
+pub(crate) fn map_kept(
     alloc: Global,
     name: &Name,
     input: &LinkInput,
@@ -64,24 +62,4 @@ pub fn map_kept(
 {
     let modules = modules_at(alloc, input, syms.chosen())?;
     map_modules(alloc, name, modules.as_slice(), syms, lay)
-}
-
-/// The same of an input as it was read, where the symbols and the layout are those of what is kept of it.
-pub fn map(
-    alloc: Global,
-    name: &Name,
-    input: &LinkInput,
-    syms: &Symbols,
-    lay: &Layout,
-) -> Result<Vec<u8>, NoMemory>
-    requires bound { IsBound (Kept input.now) syms.now }
-    requires laid { IsLaidOut (link_of (Kept input.now) syms.now.chosen) lay.now }
-    ensures { IfOk result (λ text. IsMap name.now (link_of (Kept input.now) syms.now.chosen) text.items) }
-{
-    if !has_comdats(input) {
-        without_comdats_all_is_kept();
-        return map_kept(alloc, name, input, syms, lay);
-    }
-    let kept = keep(alloc, input)?;
-    map_kept(alloc, name, &kept, syms, lay)
 }

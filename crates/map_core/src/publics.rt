@@ -9,10 +9,11 @@ ghost use Rattle.map_core.specs.Places.{meaning_in, placed_in, valued_in, placed
 
 use crate::addresses::address_of;
 use link_fix::Target;
-use link_model::{SymDef, number};
+use link_model::SymDef;
 use link_place::of_symbol;
-use obj_types::{NoMemory, ObjModule, Pub, PubPlace};
-use seg_merge::Layout;
+use link_types::Layout;
+use lx_types::{NoMemory, count};
+use obj_types::{ObjModule, Pub, PubPlace};
 use std::alloc::Global;
 
 // What a public of a module stands for, where it is not local.
@@ -119,7 +120,7 @@ fn all_placed<'a>(
 {
     let mut found = Vec::new(alloc);
     for (place, object) in modules.iter().enumerate() {
-        add_placed(&mut found, lay, number(place + 1)?, object.pubs.as_slice())?;
+        add_placed(&mut found, lay, count(place + 1)?, object.pubs.as_slice())?;
     }
     Ok(found)
 }
@@ -133,7 +134,7 @@ fn all_valued<'a>(
 {
     let mut found = Vec::new(alloc);
     for (place, object) in modules.iter().enumerate() {
-        add_valued(&mut found, lay, number(place + 1)?, object.pubs.as_slice())?;
+        add_valued(&mut found, lay, count(place + 1)?, object.pubs.as_slice())?;
     }
     Ok(found)
 }

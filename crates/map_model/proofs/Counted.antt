@@ -97,7 +97,8 @@ counted name l places values =
     let ha = map_once (uppercase name) (length (objects l)) in
     let hb = each_one object_line object_once (enumerate_from 1 (objects l)) ∙ length-enumerate_from 1 (objects l) in
     let hc = each_found (line_of_contribution l) (λ x text is. once_mapped (λ place. segment_line x (address_at l place)) (λ place. segment_once x (address_at l place)) (spot l x.by x.index) text is) (contributions l) in
-    let hd = each_found (line_of_common l) (λ x text is. once_mapped (λ place. common_line x.1 (address_at l place)) (λ place. common_once x.1 (address_at l place)) (common_spot l x.0) text is) (enumerate_from 0 (commons l)) in
+    let hd = each_found (line_of_common l) (λ x text is. once_mapped (λ place. common_line x.1 (address_at l place))
+    (λ place. common_once x.1 (address_at l place)) (common_spot l x.0) text is) (enumerate_from 0 (commons l)) in
     let he = each_one public_line public_once places in
     let hf = each_one constant_line constant_once values in
     let hg = each_one import_line import_once (imports l) in

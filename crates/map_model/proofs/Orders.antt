@@ -16,7 +16,7 @@ by_number-total = then_total (on_total (λ p. p.number) nat_cmp_total) (on_total
 pub by_name-total : IsTotalOrder by_name
 by_name-total = then_total (on_total (λ p. p.name) nat_list_cmp_total) (on_total (λ p. p.number) nat_cmp_total)
 
--- Two that tie one behind the other tie in both.
+-- Two that tie by one order and then the other tie in both.
 both_tie : (r s : Ordering) → ordering_then r s ≡ Equal → (r ≡ Equal) × (s ≡ Equal)
 both_tie Equal s e = (refl, e)
 both_tie Less s e = absurd (true≢false (sym (ap is_eq e)))

@@ -15,12 +15,13 @@ use Rattle.load_model.specs.Refusals.{residence_named}
 use Rattle.load_model.specs.Asks.{after_deed}
 use Rattle.load_model.specs.Step.{serial_named, answer_of, after_touch, after_steady}
 use Rattle.load_model.specs.Accepted.{retouched}
-use Rattle.load_model.specs.Touched.{has_page, SamePages, pages_kept, touched_behind}
+use Rattle.load_model.specs.Touched.{SamePages}
+use Rattle.load_model.specs.TouchedPages.{has_page, pages_kept, touched_behind}
 use Rattle.load_model.proofs.Touched.{named_apart, answered_by_pages, entries_move_touched}
 use Rattle.session_model.specs.declared.sessions.Line.{Line}
 use Rattle.session_model.specs.Merging.{Item, entry, line, after_item, state_behind}
 use Rattle.session_model.specs.MergeLaws.{touched_in}
-use Rattle.merge_laws.specs.OwnStates.{pages_at}
+use Rattle.merge_laws.specs.PageStates.{pages_at}
 
 -- what a process can see of items: the entries, and its own lines
 abbrev pub keeps : ℕ → Item → Bool
@@ -38,7 +39,7 @@ pub record SameFor (pid : ℕ) (e f : Eager) : Type 0 where
 
 -- ---- entries
 
--- what it touched behind an entry follows from what it touched before
+-- what it touched after an entry follows from what it touched before
 behind_by_own : (lib : Library) (e : Eager) (q : ℕ) (d : Deed) (a b : ℕ → List PageOf) (pid : ℕ) → a pid ≡ b pid →
     touched_behind lib e q d a pid ≡ touched_behind lib e q d b pid
 behind_by_own lib e q (deeds.Free m calls gone) a b pid same = ap (λ ts. if pid == q then pages_kept lib e (freeing m (e.processes q)) ts else ts) same
@@ -61,7 +62,7 @@ deed_alike lib pid q d e f s = record {
 
 -- ---- lines
 
--- what is touched behind an accepted touch
+-- what is touched after an accepted touch
 abbrev pub touched_more : ℕ → ℕ → Place → (ℕ → List PageOf) → ℕ → List PageOf
 touched_more pid serial at touched q = if q == pid then touched q ++ pages_at serial at else touched q
 

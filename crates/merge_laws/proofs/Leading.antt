@@ -1,4 +1,4 @@
--- Faults that lead to their touch, or wait for it, with one item more behind them.
+-- Faults that lead to their touch, or wait for it, with one item more after them.
 use Rattle.std.proofs.Common.{◌≡◌, ℕ, Bool, true, false, if◌then◌else◌, List, [], ◌∷◌, ◌++◌, find, Some, None, IsTrue, inl, inr, ⊎_elim, refl, sym, ap, subst, eq-eqb, eqb-true, true≢false}
 use Rattle.load_model.specs.declared.commands.Place.{Place}
 use Rattle.load_model.specs.declared.deeds.Deed.{Deed}
@@ -10,7 +10,7 @@ use Rattle.session_model.specs.Merging.{Item, entry, line, is_command_of, is_fau
 use Rattle.merge_laws.specs.Accounts.{Only}
 use Rattle.merge_laws.specs.MidTouch.{touch_line, IsFaultFor, LeadsOrWaits}
 
--- ---- the first command behind a fault
+-- ---- the first command after a fault
 
 -- the first that is there stays the first
 lead_more : (lib : Library) (e : Eager) (k serial : ℕ) (p : PageId) (z : Item) (behind : List Item) →
@@ -69,7 +69,7 @@ pub leads_or_waits : (lib : Library) (failing : Failing) (k : ℕ) (at : Place) 
 leads_or_waits lib failing k at b (entry y) bh h mine = inl (h mine)
 leads_or_waits lib failing k at b (line q l) bh h mine = tt
 
--- behind an item that is no command of the process it leads, or waits, as before
+-- after an item that is no command of the process it leads, or waits, as before
 pub still_waits : (lib : Library) (failing : Failing) (k : ℕ) (at : Place) (z : Item) → is_command_of k z ≡ false →
     (b : List Item) (i : Item) (bh : List Item) → Only (LeadsOrWaits lib failing at) k b i bh → Only (LeadsOrWaits lib failing at) k b i (bh ++ z ∷ [])
 still_waits lib failing k at z plain b (line q l) bh h mine = tt

@@ -23,7 +23,8 @@ use Rattle.load_model.specs.Asks.{ask_in, deed_of, may_ask, after_deed, is_own}
 use Rattle.load_model.specs.Step.{answer_of, serial_named, after_steady}
 use Rattle.load_model.specs.Histories.{is_fault_of, has_fault, state_after}
 use Rattle.load_model.specs.Accepted.{retouched}
-use Rattle.load_model.specs.Touched.{has_page, SamePages, pages_kept, touched_behind}
+use Rattle.load_model.specs.Touched.{SamePages}
+use Rattle.load_model.specs.TouchedPages.{has_page, pages_kept, touched_behind}
 use Rattle.load_model.proofs.Bools.{and_left}
 use Rattle.load_model.proofs.Retouched.{touched_is_apart}
 use Rattle.load_model.proofs.Touched.{named_apart, answered_by_pages, entries_move_touched}
@@ -33,7 +34,8 @@ use Rattle.session_model.specs.MergeLaws.{entries_in, touched_in}
 use Rattle.session_model.proofs.MergeStates.{entries_append, states_are_the_historys, no_entries}
 use Rattle.session_model.proofs.UsedPages.{uses_by_pages}
 use Rattle.merge_laws.specs.Accounts.{lines_behind, own_items, own_state}
-use Rattle.merge_laws.specs.OwnStates.{HasTouched, OwnItemsHaveHistory, OwnStateIsTheHistorys, FollowingReplies, pages_at, pages_behind_line, NothingTouched, TouchedBehindEntry, TouchedBehindLine, TouchedGoesOn, TouchedDecides, are_fixed, TouchFollowsFaults}
+use Rattle.merge_laws.specs.OwnStates.{HasTouched, OwnItemsHaveHistory, OwnStateIsTheHistorys, FollowingReplies, pages_behind_line, NothingTouched, TouchedBehindEntry, TouchedBehindLine, TouchedGoesOn, TouchedDecides, are_fixed, TouchFollowsFaults}
+use Rattle.merge_laws.specs.PageStates.{pages_at}
 use Rattle.merge_laws.proofs.Alike.{touch_moves}
 use Rattle.merge_laws.proofs.Steps.{higher}
 use Rattle.merge_laws.proofs.Growing.{items_entry, items_line}
@@ -83,14 +85,14 @@ nothing_touched lib failing pid serial q = refl
 -- pages that stay by their serial number stay alike
 kept_alike : (lib : Library) (e : Eager) (p : Process) (a b : List PageOf) → SamePages a b → SamePages (pages_kept lib e p a) (pages_kept lib e p b)
 kept_alike lib e p a b same serial q =
-    one a ∙ (ap (λ c. stays && c) (same serial q) ∙ sym (one b))
+    one a ∙ (ap (λ c. residences && c) (same serial q) ∙ sym (one b))
   where
-    stays : Bool
-    stays = not (is_among (left_serials lib e p) serial)
+    residences : Bool
+    residences = not (is_among (left_serials lib e p) serial)
 
-    one : (ts : List PageOf) → has_page (pages_kept lib e p ts) serial q ≡ stays && has_page ts serial q
+    one : (ts : List PageOf) → has_page (pages_kept lib e p ts) serial q ≡ residences && has_page ts serial q
     one ts =
-        any-filter_same (λ (t : PageOf). (t.serial == serial) && is_page t.page q) (λ (t : PageOf). not (is_among (left_serials lib e p) t.serial)) stays
+        any-filter_same (λ (t : PageOf). (t.serial == serial) && is_page t.page q) (λ (t : PageOf). not (is_among (left_serials lib e p) t.serial)) residences
         (λ t is. ap (λ (s : ℕ). not (is_among (left_serials lib e p) s)) (eqb-true t.serial serial (and_left (t.serial == serial) (is_page t.page q) is))) ts
 
 if_alike : (c : Bool) (a b d f : List PageOf) → SamePages a b → SamePages d f → SamePages (if c then a else d) (if c then b else f)

@@ -17,7 +17,7 @@ use Rattle.load_model.specs.State.{Failing, Eager, Residence, serial_of, is_amon
 use Rattle.load_model.specs.Memory.{page, pages_over}
 use Rattle.load_model.specs.Refusals.{residence_named}
 use Rattle.load_model.specs.Asks.{ask_in, deed_of, may_ask, is_own}
-use Rattle.load_model.specs.Touched.{has_page}
+use Rattle.load_model.specs.TouchedPages.{has_page}
 use Rattle.load_model.proofs.Retouched.{touched_is_apart}
 use Rattle.session_model.specs.declared.sessions.Line.{Line}
 use Rattle.session_model.specs.Merging.{Item, entry, line, state_behind, AllPlaces, is_command_of, FaultLeads, TouchFollows, Replies, EntryReplies, fault_leads, some_touches, touches, is_first_touch, touch_follows, had_faults, is_fault_item, uses_touched}
@@ -56,7 +56,7 @@ module _ (P : Claim) (pid : ℕ)
 
 -- ---- what is said of an item of the process
 
--- the state behind what it can see, and behind all
+-- the state after what it can see, and after all
 module _ (lib : Library) (failing : Failing) (contents : Held) (pid : ℕ) (before : List Item) where
   abbrev e : Eager
   e = state_behind lib failing (seen_by pid before)

@@ -18,22 +18,26 @@ use Rattle.load_model.specs.Asks.{is_own}
 use Rattle.load_model.specs.Step.{steady, fine_answer, answer_of, serial_named}
 use Rattle.load_model.specs.Histories.{state_after, has_fault}
 use Rattle.load_model.specs.Accepted.{retouched}
-use Rattle.load_model.specs.Touched.{has_page, SamePages, touched_behind}
-use Rattle.load_model.specs.Laws.{stay_of}
-use Rattle.load_model.specs.Standing.{Mapped, Holding, fresh_of, mapped_pages, stay_at, WasFixed, StandsFor}
-use Rattle.load_model.specs.ViewAnswers.{stay_named, seen_process, view_refusal}
-use Rattle.load_model.specs.ViewLaws.{over_page, written_over, RefusedByView, AnsweredByView}
+use Rattle.load_model.specs.Touched.{SamePages}
+use Rattle.load_model.specs.TouchedPages.{has_page, touched_behind}
+use Rattle.load_model.specs.Laws.{unwritten_of}
+use Rattle.load_model.specs.Views.{Mapped, Holding, fresh_of, mapped_pages, WasFixed, StandsFor, reached_of}
+use Rattle.load_model.specs.ViewAnswers.{seen_process, view_refusal, reached_named}
+use Rattle.load_model.specs.ViewLaws.{RefusedByView, AnsweredByView}
+use Rattle.load_model.specs.WrittenPages.{over_page, written_over}
 use Rattle.load_model.proofs.Answers.{answer_by, answer_is}
 use Rattle.load_model.proofs.Bools.{and_left, and_right}
-use Rattle.load_model.proofs.Standing.{named_by_view}
+use Rattle.load_model.proofs.Views.{named_by_view}
 use Rattle.load_model.proofs.Touched.{named_apart}
 use Rattle.load_model.proofs.ViewLeaving.{kept_are_touched}
 use Rattle.load_model.proofs.ViewSteps.{each_more}
 use Rattle.load_model.proofs.ViewReplies.{attached_named_is}
 use Rattle.session_model.specs.MergeLaws.{touched_in}
 use Rattle.merge_laws.specs.Accounts.{own_state}
-use Rattle.merge_laws.specs.OwnStates.{HasTouched, pages_at, state_with, is_fixed, are_fixed}
-use Rattle.merge_laws.specs.ViewAccounts.{ViewRefuses, ViewReplies, serial_seen, has_pages, TouchAccepted, TouchFixed, FaultForTouch, TouchMapped, WrittenMapped, LeftMapped}
+use Rattle.merge_laws.specs.OwnStates.{HasTouched, is_fixed, are_fixed}
+use Rattle.merge_laws.specs.PageStates.{pages_at, state_with}
+use Rattle.merge_laws.specs.ViewAccounts.{ViewRefuses, ViewReplies, TouchAccepted, TouchFixed, FaultForTouch, TouchMapped, WrittenMapped, LeftMapped}
+use Rattle.merge_laws.specs.PageStates.{serial_seen, has_pages}
 use Rattle.merge_laws.proofs.OwnStates.{own_state_is_the_historys, touched_behind_entry, touched_behind_line, touched_decides, touch_follows_faults}
 
 -- ---- refusals and replies
@@ -84,7 +88,7 @@ same_page a b is = λ i. record {
 }
 
 -- a mapped page that is no private one had its fault
-had_fault_by : (lib : Library) (v : Holding) (h : List Entry) (m : ℕ) (s : Fresh) (q : PageId) (ps : List Mapped) → stay_at v m ≡ Some s →
+had_fault_by : (lib : Library) (v : Holding) (h : List Entry) (m : ℕ) (s : Fresh) (q : PageId) (ps : List Mapped) → reached_of v m ≡ Some s →
     is_own (class_of (object_at lib m q.object)) ≡ false →
     AllByRecursion (WasFixed lib v h) ps → has_page (map (λ p. p.of) ps) s.serial q ≡ true → has_fault h s.serial q ≡ true
 had_fault_by lib v h m s q [] at apart all has = cc
@@ -99,7 +103,7 @@ had_fault_by lib v h m s q (p ∷ ps) at apart all has = step ((p.of.serial == s
         (subst (λ (n : ℕ). has_fault h n p.of.page ≡ true) serial (all.0 m s at (sym serial) (subst (λ (x : PageId). is_own (class_of (object_at lib m x.object)) ≡ false) (sym there) apart)))
     step false is has later = later has
 
-pub stay_serial : (o : Option Residence) → serial_of (stay_of o) ≡ serial_of o
+pub stay_serial : (o : Option Residence) → serial_of (unwritten_of o) ≡ serial_of o
 stay_serial None = refl
 stay_serial (Some r) = refl
 
@@ -108,7 +112,7 @@ serial_by_view : (lib : Library) (failing : Failing) (contents : Held) (v : Hold
 serial_by_view lib failing contents v h at stands =
     sym (stay_serial (residence_named lib (state_after lib failing h) v.pid at.«module»)) ∙ ap serial_of (named_by_view lib contents v (state_after lib failing h) at.«module» stands.view)
 
-refused_unattached : (lib : Library) (v : Holding) (at : Place) → stay_named lib v at.«module» ≡ None → view_refusal lib v (commands.Touch at) ≡ None → ⊥
+refused_unattached : (lib : Library) (v : Holding) (at : Place) → reached_named lib v at.«module» ≡ None → view_refusal lib v (commands.Touch at) ≡ None → ⊥
 unfolding view_refusal
 refused_unattached lib v at away none = step v.ended (ap (λ r. when v.ended Ended orelse residence_refusal lib (seen_process v) touch at r) (sym away) ∙ none)
   where
@@ -120,13 +124,13 @@ fixed_by : (lib : Library) (failing : Failing) (contents : Held) (v : Holding) (
     residence_named lib (state_after lib failing h) v.pid at.«module» ≡ o → StandsFor lib failing contents v h → view_refusal lib v (commands.Touch at) ≡ None →
     has_pages (mapped_pages v) (serial_of o) at ≡ true → are_fixed lib h at o ≡ true
 fixed_by lib failing contents v h at None is stands none has =
-    absurd (refused_unattached lib v at (sym (named_by_view lib contents v (state_after lib failing h) at.«module» stands.view) ∙ ap stay_of is) none)
+    absurd (refused_unattached lib v at (sym (named_by_view lib contents v (state_after lib failing h) at.«module» stands.view) ∙ ap unwritten_of is) none)
 fixed_by lib failing contents v h at (Some r) is stands none has =
     each_more (λ n. has_page (mapped_pages v) r.serial (page at.object n)) (λ n. is_fixed lib h r.serial r.«module» (page at.object n))
     (λ n there. one n there (is_own (class_of (object_at lib r.«module» at.object))) refl) (pages_over at.offset at.len) has
   where
-    stay : stay_at v r.«module» ≡ Some (fresh_of r)
-    stay = stands.view.stays r.«module» ∙ ap (option_map fresh_of) (attached_named_is lib (state_after lib failing h) v.pid at.«module» r is)
+    stay : reached_of v r.«module» ≡ Some (fresh_of r)
+    stay = stands.view.residences r.«module» ∙ ap (option_map fresh_of) (attached_named_is lib (state_after lib failing h) v.pid at.«module» r is)
 
     one : (n : ℕ) → has_page (mapped_pages v) r.serial (page at.object n) ≡ true → (b : Bool) → is_own (class_of (object_at lib r.«module» at.object)) ≡ b →
         is_fixed lib h r.serial r.«module» (page at.object n) ≡ true
@@ -155,7 +159,7 @@ fault_for_touch lib failing contents v h lines pages at m p stands has same amon
     ∙ all_four (serial_named lib (state_with lib failing h pages) v.pid at == serial) (at.object == p.object) (is_among (pages_over at.offset at.len) p.page) (has_page pages serial p)
     (eq-eqb (serial_named lib (state_with lib failing h pages) v.pid at) serial named) (eq-eqb at.object p.object same) among fresh
 
--- ---- what is mapped behind it
+-- ---- what is mapped after it
 
 -- pages that are all among others have none that those have not
 among_others : (a b : List PageOf) → AllByRecursion (λ (t : PageOf). has_page b t.serial t.page ≡ true) a → (serial : ℕ) (q : PageId) → has_page a serial q ≡ true →

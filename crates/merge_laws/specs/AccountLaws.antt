@@ -35,7 +35,7 @@ AccountsMerge =
 abbrev pub AccountBegins : Type 0
 AccountBegins = (lib : Library) (failing : Failing) (contents : Held) (pid : ℕ) → Account lib failing contents pid [] [] []
 
--- Behind an entry of another process its account stands.
+-- After an entry of another process its account stands.
 abbrev pub OthersEntryStays : Type 0
 OthersEntryStays =
     (lib : Library) (failing : Failing) (contents : Held) (pid : ℕ) (h : List Entry) (lines : List Line) (done : List Command) (x : Entry) →

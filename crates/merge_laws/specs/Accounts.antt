@@ -11,11 +11,11 @@ use Rattle.session_model.specs.Merging.{Item, entry, line, state_behind, AllItem
 
 -- ---- its own items
 
--- the process's lines that stand behind so many entries
+-- the process's lines that stand after so many entries
 abbrev pub lines_behind : ℕ → List Line → ℕ → List Item
 lines_behind pid lines front = map (line pid) (filter (λ l. l.front == front) lines)
 
--- the history with the lines of one process: each entry, and those behind it
+-- the history with the lines of one process: each entry, and those after it
 unfoldable pub own_items : ℕ → List Entry → List Line → List Item
 own_items pid h lines = lines_behind pid lines 0 ++ flat_map (λ e. entry e.1 ∷ lines_behind pid lines e.0) (enumerate_from 1 h)
 
@@ -28,7 +28,7 @@ abbrev pub is_of : ℕ → Item → Bool
 is_of pid (entry x) = x.pid == pid
 is_of pid (line other l) = other == pid
 
--- what is claimed of an item, with what stands before it and what stands behind
+-- what is claimed of an item, with what stands before it and what stands after
 abbrev pub Claim : Type 1
 Claim = List Item → Item → List Item → Type 0
 
@@ -53,6 +53,6 @@ pub record AccountBy (Fault : Claim) (lib : Library) (failing : Failing) (conten
   pub touches : AllOwn (TouchFollows lib failing) pid (own_items pid h lines)
   pub replies : AllOwn (Replies lib failing contents) pid (own_items pid h lines)
 
--- Between commands what it does next behind each of its faults is the touch that made it.
+-- Between commands what it does next after each of its faults is the touch that made it.
 abbrev pub Account : Library → Failing → Held → ℕ → List Entry → List Line → List Command → Type 0
 Account lib failing contents pid h lines done = AccountBy (FaultLeads lib failing) lib failing contents pid h lines done

@@ -1,6 +1,7 @@
 pub mod Accounts
 pub mod MidTouch
 pub mod AccountLaws
+pub mod PageStates
 pub mod OwnStates
 pub mod ViewAccounts
 pub mod WorkedAccounts

@@ -22,7 +22,7 @@ abbrev pub IsFaultFor : Library → Eager → ℕ → Place → Deed → Type 0
 IsFaultFor lib e pid at (deeds.Fault serial m p) = IsTrue (is_first_touch lib e pid serial p (commands.Touch at) replies.Fine)
 IsFaultFor lib e pid at deed = ⊥
 
--- a fault leads to its touch, or is one for the touch of this place, with no command of the process behind it
+-- a fault leads to its touch, or is one for the touch of this place, with no command of the process after it
 abbrev pub LeadsOrWaits : Library → Failing → Place → Claim
 LeadsOrWaits lib failing at before (entry x) behind =
     IsTrue (fault_leads lib (state_behind lib failing before) x.pid x.deed behind)

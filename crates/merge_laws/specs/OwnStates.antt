@@ -1,5 +1,5 @@
 -- The state that a process accounts by: it is the history's but for touched pages, and those are followed page by page.
-use Rattle.std.specs.Prelude.{◌≡◌, ℕ, ◌==◌, ◌||◌, Bool, false, List, [], ◌∷◌, ◌++◌, length, map, Option, Some, None, IsTrue}
+use Rattle.std.specs.Prelude.{◌≡◌, ℕ, ◌==◌, ◌||◌, Bool, false, List, [], ◌∷◌, ◌++◌, length, Option, Some, None, IsTrue}
 use Rattle.std.specs.List.{AllByRecursion, list_all}
 use Rattle.lx_types.specs.declared.object.PageId.{PageId}
 use Rattle.lx_types.specs.Object.{class_of}
@@ -18,12 +18,14 @@ use Rattle.load_model.specs.Asks.{is_own}
 use Rattle.load_model.specs.Step.{answer_of, serial_named}
 use Rattle.load_model.specs.Histories.{state_after, has_fault, Follows}
 use Rattle.load_model.specs.Accepted.{retouched}
-use Rattle.load_model.specs.Touched.{SamePages, touched_behind}
-use Rattle.load_model.specs.Standing.{new_holding, mapped_pages}
+use Rattle.load_model.specs.Touched.{SamePages}
+use Rattle.load_model.specs.Views.{new_holding, mapped_pages}
+use Rattle.load_model.specs.TouchedPages.{touched_behind}
 use Rattle.session_model.specs.declared.sessions.Line.{Line}
 use Rattle.session_model.specs.Merging.{FrontsFrom, is_first_touch, touch_follows, uses_touched, EntryReplies}
 use Rattle.session_model.specs.MergeLaws.{entries_in, touched_in}
 use Rattle.merge_laws.specs.Accounts.{own_items, own_state}
+use Rattle.merge_laws.specs.PageStates.{pages_at, state_with}
 
 -- ---- the state
 
@@ -48,17 +50,13 @@ FollowingReplies =
 abbrev pub HasTouched : Library → Failing → ℕ → List Entry → List Line → List PageOf → Type 0
 HasTouched lib failing pid h lines pages = SamePages (touched_in (own_state lib failing pid h lines) pid) pages
 
--- the pages of a place in a residence
-abbrev pub pages_at : ℕ → Place → List PageOf
-pages_at serial at = map (λ n. record { serial = serial; page = page at.object n }) (pages_over at.offset at.len)
-
--- those behind a line: an accepted touch adds its own
+-- those after a line: an accepted touch adds its own
 abbrev pub pages_behind_line : Library → Eager → ℕ → Command → Reply → List PageOf → List PageOf
 pages_behind_line lib e pid (commands.Touch at) replies.Fine pages = pages ++ pages_at (serial_named lib e pid at) at
 pages_behind_line lib e pid command reply pages = pages
 
--- At first none, as a new view has mapped none. Behind an entry they are those that the process keeps, where it is its
--- own, and the same where it is another's. Behind a line of its own they are those that the touch adds.
+-- At first none, as a new view has mapped none. After an entry they are those that the process keeps, where it is its
+-- own, and the same where it is another's. After a line of its own they are those that the touch adds.
 abbrev pub NothingTouched : Type 0
 NothingTouched = (lib : Library) (failing : Failing) (pid : ℕ) → HasTouched lib failing pid [] [] (mapped_pages (new_holding lib pid))
 
@@ -81,10 +79,6 @@ TouchedGoesOn =
     AllByRecursion (λ (x : Entry). (pid == x.pid) ≡ false) more → HasTouched lib failing pid h lines pages → HasTouched lib failing pid (h ++ more) lines pages
 
 -- ---- what such pages decide
-
--- the history's state, in which these were touched
-abbrev pub state_with : Library → Failing → List Entry → List PageOf → Eager
-state_with lib failing h pages = retouched (λ q. pages) (state_after lib failing h)
 
 -- Refusals, answers, uses of touched pages and first touches in its own state are those in the history's, with such pages.
 pub record SameByPages (lib : Library) (failing : Failing) (contents : Held) (pid : ℕ) (h : List Entry) (lines : List Line) (pages : List PageOf) : Type 0 where

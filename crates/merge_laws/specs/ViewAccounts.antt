@@ -1,7 +1,7 @@
 -- What a view that stands for the history gives its process to account for. A view has mapped pages by its own data
 -- alone; between commands those are what the process has touched.
-use Rattle.std.specs.Prelude.{◌≡◌, ℕ, Bool, true, false, List, [], ◌∷◌, ◌++◌, length, map, Some, None, IsTrue}
-use Rattle.std.specs.List.{AllByRecursion, list_all}
+use Rattle.std.specs.Prelude.{◌≡◌, ℕ, true, false, List, [], ◌∷◌, ◌++◌, length, map, Some, None, IsTrue}
+use Rattle.std.specs.List.{AllByRecursion}
 use Rattle.lx_types.specs.declared.object.PageId.{PageId}
 use Rattle.load_model.specs.declared.commands.Place.{Place}
 use Rattle.load_model.specs.declared.commands.Command.{Command}
@@ -12,20 +12,21 @@ use Rattle.load_model.specs.declared.commands.Reply.TheVariants as replies
 use Rattle.load_model.specs.declared.deeds.Deed.TheVariants as deeds
 use Rattle.load_model.specs.declared.deeds.Entry.{Entry}
 use Rattle.load_model.specs.Modules.{Library, Held}
-use Rattle.load_model.specs.State.{PageOf, Written, Process, Failing, is_among, serial_of}
+use Rattle.load_model.specs.State.{PageOf, Written, Process, Failing, is_among}
 use Rattle.load_model.specs.Memory.{page, pages_over}
 use Rattle.load_model.specs.Step.{steady, answer_of}
 use Rattle.load_model.specs.Histories.{state_after, Legal}
-use Rattle.load_model.specs.Touched.{has_page}
-use Rattle.load_model.specs.Standing.{Holding, mapped_pages, StandsFor}
-use Rattle.load_model.specs.ViewAnswers.{stay_named, view_refusal, view_reply}
-use Rattle.load_model.specs.ViewLaws.{written_over}
+use Rattle.load_model.specs.Views.{Holding, mapped_pages, StandsFor}
+use Rattle.load_model.specs.ViewAnswers.{view_refusal, view_reply, reached_named}
+use Rattle.load_model.specs.TouchedPages.{has_page}
+use Rattle.load_model.specs.WrittenPages.{written_over}
 use Rattle.load_model.specs.ViewLeaving.{GivesUpTo, mapped_kept}
 use Rattle.session_model.specs.declared.sessions.Line.{Line}
 use Rattle.session_model.specs.Merging.{FrontsFrom, touch_follows}
 use Rattle.merge_laws.specs.Accounts.{own_items, own_state}
 use Rattle.merge_laws.specs.MidTouch.{touch_line, IsFaultFor}
-use Rattle.merge_laws.specs.OwnStates.{HasTouched, pages_at}
+use Rattle.merge_laws.specs.OwnStates.{HasTouched}
+use Rattle.merge_laws.specs.PageStates.{pages_at, serial_seen, has_pages}
 
 -- ---- refusals and replies
 
@@ -46,14 +47,6 @@ ViewReplies =
     answer_of lib contents (own_state lib failing v.pid h lines) v.pid command ≡ steady reply
 
 -- ---- a touch
-
--- the serial number of the residence in which a place is, as the view has it
-abbrev pub serial_seen : Library → Holding → Place → ℕ
-serial_seen lib v at = serial_of (stay_named lib v at.«module»)
-
--- all pages of a place in a residence are among these
-abbrev pub has_pages : List PageOf → ℕ → Place → Bool
-has_pages pages serial at = list_all (λ n. has_page pages serial (page at.object n)) (pages_over at.offset at.len)
 
 -- A touch that the view does not refuse is accepted, whatever was mapped for it meanwhile.
 abbrev pub TouchAccepted : Type 0
@@ -77,7 +70,7 @@ FaultForTouch =
     is_among (pages_over at.offset at.len) p.page ≡ true →
     has_page pages (serial_seen lib v at) p ≡ false → IsFaultFor lib (own_state lib failing v.pid h lines) v.pid at (deeds.Fault (serial_seen lib v at) m p)
 
--- Behind its line the process has touched what the view has mapped: what it had touched before, and pages of the place
+-- After its line the process has touched what the view has mapped: what it had touched before, and pages of the place
 -- more, where all of those are mapped.
 abbrev pub TouchMapped : Type 0
 TouchMapped =
@@ -95,7 +88,7 @@ WrittenMapped = (v : Holding) (serial : ℕ) (w : Written) → mapped_pages (rec
 
 -- ---- a free or an exit of its own
 
--- Behind it the process has touched what the view keeps mapped.
+-- After it the process has touched what the view keeps mapped.
 abbrev pub LeftMapped : Type 0
 LeftMapped =
     (lib : Library) (failing : Failing) (v : Holding) (h : List Entry) (lines : List Line) (x : Entry) (after : Process) → FrontsFrom 0 (length h) lines →

@@ -98,7 +98,7 @@ touched_whole = line_at 5 (commands.Touch whole) replies.Fine ∷ []
 abbrev pub touched_commands : List Command
 touched_commands = commands.Load (codes "E") ∷ commands.Touch whole ∷ []
 
--- the second process frees the library behind it
+-- the second process frees the library after it
 abbrev pub and_freed : List Entry
 and_freed = load_new ∷ load_again ∷ fault_by 1 0 ∷ fault_by 2 1 ∷ fault_by 1 2 ∷ entry_of 2 (Free 0 [] []) ∷ []
 
@@ -124,7 +124,7 @@ pub record WorkedTouch : Type 0 where
   pub stays : Account E [] zeros 1 and_freed touched_whole touched_commands
   pub broken : Account E [] zeros 1 and_broken touched_whole broken_commands
   pub touched : HasTouched E [] 1 and_freed touched_whole three_pages
-  -- in its midst it is no account between commands; and behind it a page that it covers is touched no more for the first time
+  -- in its midst it is no account between commands; and after it a page that it covers is touched no more for the first time
   pub midst : Account E [] zeros 1 in_touch [] load_first → ⊥
   pub again : IsFaultFor E (own_state E [] 1 in_touch touched_whole) 1 whole (Fault 1 0 (page 1 0)) → ⊥
   -- nor is a write to code one, of pages that the process has not touched

@@ -1,4 +1,4 @@
--- Worked values: the views of a process behind its load, and at the end of a touch, and what they give it to account for.
+-- Worked values: the views of a process after its load, and at the end of a touch, and what they give it to account for.
 use Rattle.std.specs.Prelude.{◌≡◌, ℕ, false, List, [], ◌∷◌, ◌++◌, None, codes}
 use Rattle.load_model.specs.declared.commands.Command.TheVariants as commands
 use Rattle.load_model.specs.declared.commands.Refusal.TheVariants as why
@@ -8,7 +8,7 @@ use Rattle.load_model.specs.declared.deeds.Entry.{Entry}
 use Rattle.load_model.specs.Memory.{page}
 use Rattle.load_model.specs.Samples.{zeros, fresh}
 use Rattle.load_model.specs.Step.{steady, answer_of}
-use Rattle.load_model.specs.Standing.{Mapped, Holding, mapped_pages, StandsFor}
+use Rattle.load_model.specs.Views.{Mapped, Holding, mapped_pages, StandsFor}
 use Rattle.session_model.specs.declared.sessions.Line.{Line}
 use Rattle.session_model.specs.WorkedRuns.{entry_of, line_at}
 use Rattle.merge_laws.specs.Accounts.{own_state, Account}
@@ -20,8 +20,8 @@ abbrev pub behind_load : Holding
 behind_load = record {
   pid = 1;
   ended = false;
-  row = record { started = None; loads = 1 ∷ []; reached = 1 ∷ []; attached = 0 ∷ [] };
-  stays = fresh 1 0 (0x10000000 ∷ []) ∷ [];
+  counts = record { started = None; loads = 1 ∷ []; reached = 1 ∷ []; attached = 0 ∷ [] };
+  residences = fresh 1 0 (0x10000000 ∷ []) ∷ [];
   mapped = [];
   front = 2;
 }
@@ -38,7 +38,7 @@ at_end = record behind_load { mapped = mapped_at 0 ∷ mapped_at 1 ∷ mapped_at
 abbrev pub and_leaves : List Entry
 and_leaves = load_new ∷ load_again ∷ fault_by 1 0 ∷ fault_by 2 1 ∷ fault_by 1 2 ∷ entry_of 1 (Free 0 [] []) ∷ []
 
--- it peeks behind its touch
+-- it peeks after its touch
 abbrev pub peek_line : Line
 peek_line = line_at 5 (commands.Peek (at_E 0 2)) (replies.Bytes (0 ∷ 0 ∷ []))
 

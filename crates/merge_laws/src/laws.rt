@@ -11,11 +11,11 @@ pub fn accounts_merge()
     ensures { AccountsMerge }
 {}
 
-/// What a process says of itself grows item by item: from nothing; it stands behind an entry of another; an entry of
+/// What a process says of itself grows item by item: from nothing; it stands after an entry of another; an entry of
 /// its own that is no fault adds a command, and so does a line.
 pub fn account_grows()
     ensures begins { AccountBegins }
-    ensures stays { OthersEntryStays }
+    ensures residences { OthersEntryStays }
     ensures entry { OwnEntryAdds }
     ensures line { OwnLineAdds }
 {}
@@ -65,8 +65,8 @@ pub fn views_account()
 }
 
 /// A touch by a view: one that it does not refuse is accepted; where its pages are mapped, they had their faults; each
-/// fault that the process makes of a page that it had not touched is one for the touch; and behind the line it has
-/// touched what the view has mapped. A write maps no page more, and behind a free or an exit it has touched what the
+/// fault that the process makes of a page that it had not touched is one for the touch; and after the line it has
+/// touched what the view has mapped. A write maps no page more, and after a free or an exit it has touched what the
 /// view keeps.
 pub fn views_touch()
     ensures accepted { TouchAccepted }

@@ -14,7 +14,7 @@ pub fn touch_is_told()
     ensures { WorkedTouch }
 {}
 
-/// The views of a process behind its load and at the end of a touch, and what they give it to account for: by the laws,
+/// The views of a process after its load and at the end of a touch, and what they give it to account for: by the laws,
 /// whose premises hold there.
 pub fn views_are_told()
     ensures { WorkedViews }

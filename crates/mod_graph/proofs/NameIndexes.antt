@@ -51,7 +51,7 @@ bytes_eq-sym xs ys =
 abbrev pub HasBytes : {K : Type 0} → (K → K → Bool) → (K → List ℕ) → Type 0
 HasBytes {K} eq bytes = (x y : K) → eq x y ≡ bytes_eq (bytes x) (bytes y)
 
--- the entry behind which the name may stand already
+-- the entry after which the name may stand already
 inserted : {K : Type 0} (eq : K → K → Bool) (bytes : K → List ℕ) → HasBytes eq bytes → (e : K × ℕ) (es : List (K × ℕ)) (k : K) (v : ℕ) (q : List ℕ) →
     ordinal_named (shown bytes (insert_entry eq es k v)) q ≡ cond (bytes_eq (bytes k) q) (Some v) (ordinal_named (shown bytes es) q) → (b : Bool) → eq k e.0 ≡ b →
     ordinal_named (shown bytes (if b then (e.0, v) ∷ es else e ∷ insert_entry eq es k v)) q ≡ cond (bytes_eq (bytes k) q) (Some v) (ordinal_named (shown bytes (e ∷ es)) q)

@@ -4,7 +4,7 @@ use Rattle.lx_types.specs.declared.parts.Parts.{Parts}
 use Rattle.lx_types.specs.Parts.{ordinal_named}
 use Rattle.lx_model.specs.Library.{module_of}
 use Rattle.lx_model.specs.Entries.{entry_count}
-use Rattle.lx_model.specs.Gathering.{MOST_MODULES}
+use Rattle.lx_types.specs.declared.limits.TheConstants.{MAX_MODULES}
 
 -- There is an index for each module, in which each name has the ordinal that it has in the module's name tables.
 pub record AreIndexed (mods : List Parts) (names : List (List (List ℕ × ℕ))) : Type 0 where
@@ -14,6 +14,6 @@ pub record AreIndexed (mods : List Parts) (names : List (List (List ℕ × ℕ))
 -- What finds the entry points of modules, of which there are few: their names are indexed, and it is known how many
 -- places forwarders can come to.
 pub record AreFound (mods : List Parts) (names : List (List (List ℕ × ℕ))) (places : ℕ) : Type 0 where
-  pub few : length mods ≤ MOST_MODULES
+  pub few : length mods ≤ MAX_MODULES
   pub indexed : AreIndexed mods names
   pub counted : places ≡ entry_count mods + 1

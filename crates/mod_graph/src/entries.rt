@@ -3,6 +3,7 @@
 ghost use Rattle.std.specs.Prelude.{◌≡◌, ◌≤◌, ◌<◌, ◌+◌, IfOk, IfSome, length, option_copied};
 ghost use Rattle.std.specs.Option.{ForSome};
 ghost use Rattle.lx_types.specs.Parts.{entry_of, proc_name_of, ordinal_named};
+ghost use Rattle.lx_types.specs.declared.limits.TheConstants.{MAX_MODULES};
 ghost use Rattle.lx_model.specs.Library.{module_of, import_of};
 ghost use Rattle.lx_model.specs.Entries as spots;
 ghost use Rattle.mod_graph.specs.Names.{AreIndexed};
@@ -45,7 +46,7 @@ fn name_place(mods: &[Module], names: &[NameIndex], m: u32, name: &[u8]) -> Opti
 
 /// What number `import` of a module's import modules means.
 fn import_with_number(mods: &[Module], m: u32, import: u32) -> Option<u32>
-    requires few { length mods.now ≤ 64 }
+    requires few { length mods.now ≤ MAX_MODULES }
     requires module { m < length mods.now }
     ensures number { result ≡ import_of mods.now m import }
     ensures within { IfSome result (λ other. other < length mods.now) }
@@ -90,7 +91,7 @@ fn import_place(
     import: u32,
     key: FwdKey,
 ) -> Option<(u32, u32)>
-    requires few { length mods.now ≤ 64 }
+    requires few { length mods.now ≤ MAX_MODULES }
     requires module { m < length mods.now }
     requires names { AreIndexed mods.now names.now }
     ensures place { result ≡ spots.import_place mods.now m import key }
@@ -109,7 +110,7 @@ fn spot_behind(
     places: usize,
     first: (u32, u32),
 ) -> Result<Spot, EntryFault>
-    requires few { length mods.now ≤ 64 }
+    requires few { length mods.now ≤ MAX_MODULES }
     requires module { first.0 < length mods.now }
     requires names { AreIndexed mods.now names.now }
     ensures { result ≡ followed places mods.now first }
@@ -144,7 +145,7 @@ fn spot_or_none(
     places: usize,
     place: Option<(u32, u32)>,
 ) -> Result<Spot, EntryFault>
-    requires few { length mods.now ≤ 64 }
+    requires few { length mods.now ≤ MAX_MODULES }
     requires within { ForSome place (λ p. p.0 < length mods.now) }
     requires places { places ≡ entry_count mods.now + 1 }
     requires names { AreIndexed mods.now names.now }
@@ -164,7 +165,7 @@ fn target_spot(
     m: u32,
     target: &FixTarget,
 ) -> Result<Spot, EntryFault>
-    requires few { length mods.now ≤ 64 }
+    requires few { length mods.now ≤ MAX_MODULES }
     requires module { m < length mods.now }
     requires places { places ≡ entry_count mods.now + 1 }
     requires names { AreIndexed mods.now names.now }
@@ -231,7 +232,7 @@ impl<'a> EntryPoints<'a> {
     /// The modules, at most 64.
     pub fn modules(&self) -> &'a [Module]
         ensures modules { result.now ≡ self.now }
-        ensures few { length self.now ≤ 64 }
+        ensures few { length self.now ≤ MAX_MODULES }
     {
         self.mods
     }

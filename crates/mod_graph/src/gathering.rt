@@ -1,6 +1,7 @@
 //! From modules to a library.
 
 ghost use Rattle.std.specs.Prelude.{◌≡◌, ◌≤◌, ◌<◌, ◌^◌, IfOk, length};
+ghost use Rattle.lx_types.specs.declared.limits.TheConstants.{MAX_MODULES};
 ghost use Rattle.lx_model.specs.Library.{module_of};
 ghost use Rattle.lx_model.specs.Gathering as gathering;
 ghost use Rattle.lx_model.specs.Gathering.{LibraryFault, IsLibrary};
@@ -13,11 +14,8 @@ use crate::imports::{graph_of, module_with_name};
 use crate::names::{NameIndex, indexes_of};
 use crate::order::orders_of;
 use lx_model::Health;
-use lx_types::{Module, Name, NoMemory, Numbers};
+use lx_types::{MAX_MODULES_LEN, Module, Name, NoMemory, Numbers};
 use std::alloc::Global;
-
-/// The most modules that a library has.
-const MOST_MODULES: usize = 64;
 
 /// What a library knows of its modules.
 #[derive(Drop)]
@@ -38,7 +36,7 @@ fn name_of(mods: &[Module], m: usize) -> &Name
 
 /// What is wrong with the name of module `second`: an earlier one has it.
 fn twice_at(mods: &[Module], second: u32) -> Option<LibraryRefusal>
-    requires few { length mods.now ≤ 64 }
+    requires few { length mods.now ≤ MAX_MODULES }
     requires module { second < length mods.now }
     ensures { result ≡ gathering.twice_at mods.now second }
 {
@@ -50,7 +48,7 @@ fn twice_at(mods: &[Module], second: u32) -> Option<LibraryRefusal>
 
 /// The least module whose name an earlier one has.
 fn name_twice(mods: &[Module]) -> Option<LibraryRefusal>
-    requires { length mods.now ≤ 64 }
+    requires { length mods.now ≤ MAX_MODULES }
     ensures { result ≡ name_fault mods.now }
 {
     for second in 0..mods.len() {
@@ -66,7 +64,7 @@ pub fn refusal(mods: &[Module]) -> Option<LibraryRefusal>
     requires { length mods.now < 2 ^ 32 }
     ensures { result ≡ LibraryFault mods.now }
 {
-    if mods.len() > MOST_MODULES {
+    if mods.len() > MAX_MODULES_LEN {
         Some(LibraryRefusal::TooManyModules {
             count: mods.len() as u32,
         })
@@ -77,7 +75,7 @@ pub fn refusal(mods: &[Module]) -> Option<LibraryRefusal>
 
 /// What a library of these modules knows of them.
 pub fn tables_of(alloc: Global, mods: &[Module]) -> Result<Tables, NoMemory>
-    requires few { length mods.now ≤ 64 }
+    requires few { length mods.now ≤ MAX_MODULES }
     requires library { IsLibrary mods.now }
     ensures { IfOk result (λ tables. Knows mods.now tables.names.items tables.orders.items tables.healths.items tables.places) }
 {

@@ -2,6 +2,7 @@
 
 ghost use Rattle.std.specs.Prelude.{◌≡◌, ◌≤◌, ◌<◌, ◌+◌, ◌^◌, IfOk, IfSome, Some, None, [], length, map, All, is_none, position, slice_index_or, if◌then◌else◌};
 ghost use Rattle.std.specs.List.{range_with_len};
+ghost use Rattle.lx_types.specs.declared.limits.TheConstants.{MAX_MODULES};
 ghost use Rattle.lx_model.specs.Library.{module_of, library_named};
 ghost use Rattle.lx_model.specs.Reach.{Order, HealthOf};
 ghost use Rattle.lx_model.specs.Reach as faults;
@@ -124,7 +125,7 @@ fn import_names(mods: &[Module], m: u32) -> &[Name]
 
 /// Whether a name means no library.
 fn is_lost(mods: &[Module], name: &Name) -> bool
-    requires { length mods.now ≤ 64 }
+    requires { length mods.now ≤ MAX_MODULES }
     ensures { result ≡ is_none (library_named mods.now name.now) }
 {
     library_with_name(mods, name).is_none()
@@ -132,7 +133,7 @@ fn is_lost(mods: &[Module], name: &Name) -> bool
 
 /// The place of the first of these names that means no library.
 fn lost_place(mods: &[Module], names: &[Name]) -> Option<usize>
-    requires { length mods.now ≤ 64 }
+    requires { length mods.now ≤ MAX_MODULES }
     ensures place { result ≡ position (λ name. is_none (library_named mods.now name)) names.now }
     ensures within { IfSome result (λ k. k < length names.now) }
 {
@@ -141,7 +142,7 @@ fn lost_place(mods: &[Module], names: &[Name]) -> Option<usize>
 
 /// The first name of module `m`'s import table that means no library. A number past 32 bits is want of memory.
 fn lost_import(mods: &[Module], m: u32) -> Result<Option<Health>, NoMemory>
-    requires few { length mods.now ≤ 64 }
+    requires few { length mods.now ≤ MAX_MODULES }
     requires module { m < length mods.now }
     ensures { IfOk result (λ lost. lost ≡ faults.lost_import mods.now m) }
 {

@@ -6,6 +6,7 @@ ghost use Rattle.std.specs.List.{range_with_len};
 ghost use Rattle.lx_model.specs.Reach.{imports_of};
 ghost use Rattle.mod_graph.specs.Visiting.{AreWithin};
 ghost use Rattle.lx_types.specs.Parts.{is_library_of};
+ghost use Rattle.lx_types.specs.declared.limits.TheConstants.{MAX_MODULES};
 
 use lx_types::{Module, Name, NoMemory, Numbers};
 use std::alloc::Global;
@@ -42,7 +43,7 @@ fn library_place_of(mods: &[Module], name: &Name) -> Option<usize>
 
 /// The module of this name.
 pub fn module_with_name(mods: &[Module], name: &Name) -> Option<u32>
-    requires { length mods.now ≤ 64 }
+    requires { length mods.now ≤ MAX_MODULES }
     ensures number { result ≡ module_named mods.now name.now }
     ensures within { IfSome result (λ m. m < length mods.now) }
 {
@@ -54,7 +55,7 @@ pub fn module_with_name(mods: &[Module], name: &Name) -> Option<u32>
 
 /// The library of this name: what an import means.
 pub fn library_with_name(mods: &[Module], name: &Name) -> Option<u32>
-    requires { length mods.now ≤ 64 }
+    requires { length mods.now ≤ MAX_MODULES }
     ensures number { result ≡ library_named mods.now name.now }
     ensures within { IfSome result (λ m. m < length mods.now) }
 {
@@ -66,7 +67,7 @@ pub fn library_with_name(mods: &[Module], name: &Name) -> Option<u32>
 
 /// The libraries that a module's import table names, in its order.
 pub fn imports_among(alloc: Global, mods: &[Module], m: &Module) -> Result<Numbers, NoMemory>
-    requires { length mods.now ≤ 64 }
+    requires { length mods.now ≤ MAX_MODULES }
     ensures list { IfOk result (λ imports. imports ≡ filter_map (library_named mods.now) m.now.imports) }
     ensures within { IfOk result (λ imports. All (λ import. import < length mods.now) imports) }
 {
@@ -81,7 +82,7 @@ pub fn imports_among(alloc: Global, mods: &[Module], m: &Module) -> Result<Numbe
 
 /// The imports of each module.
 pub fn graph_of(alloc: Global, mods: &[Module]) -> Result<Vec<Numbers>, NoMemory>
-    requires { length mods.now ≤ 64 }
+    requires { length mods.now ≤ MAX_MODULES }
     ensures list { IfOk result (λ graph. graph.items ≡ map (imports_of mods.now) (range_with_len 0 (length mods.now))) }
     ensures length { IfOk result (λ graph. length graph.items ≡ length mods.now) }
     ensures within { IfOk result (λ graph. AreWithin (length mods.now) graph.items) }

@@ -3,6 +3,7 @@
 #![tactic(auto)]
 
 mod entries;
+mod faultless;
 mod gathering;
 mod health;
 mod imports;
@@ -10,6 +11,7 @@ mod library;
 mod names;
 mod order;
 
+pub use faultless::gather_faultless;
 pub use library::{Library, Ungathered};
 pub use lx_model::{EntryFault, Health, LibraryRefusal, Spot};
 pub use order::is_among;

@@ -77,14 +77,15 @@ impl Library {
         }
     }
 
-    ghost use Rattle.lx_model.specs.Gathering.{LibraryFault, IsLibrary, MOST_MODULES};
+    ghost use Rattle.lx_model.specs.Gathering.{LibraryFault, IsLibrary};
+    ghost use Rattle.lx_types.specs.declared.limits.TheConstants.{MAX_MODULES};
     ghost use Rattle.lx_model.specs.Module.{IsRead};
     ghost use Rattle.mod_graph.specs.Gathering.{IsRefused};
 
     /// How many modules there are, at most 64. They make a library: no two have one name, and each was read.
     pub fn len(&self) -> u32
         ensures count { result ≡ length self.now }
-        ensures few { result ≤ MOST_MODULES }
+        ensures few { result ≤ MAX_MODULES }
         ensures library { IsLibrary self.now }
     {
         self.mods.len() as u32
@@ -132,7 +133,8 @@ impl Library {
         list_at(&self.orders, m)
     }
 
-    /// Where an ordinal of module `m` leads, through forwarders. (LX: "Entry Table".)
+    /// Where an ordinal of module `m` leads, through forwarders. ("32-bit Linear eXecutable Module Format": "Entry
+    /// Table".)
     ///
     /// It takes no memory, and time that grows as the forwarders that it follows.
     pub fn entry(&self, m: u32, ordinal: u32) -> Result<Spot, EntryFault>
@@ -142,7 +144,8 @@ impl Library {
         self.points().by_ordinal(m, ordinal)
     }
 
-    /// Where a name of module `m` leads, through forwarders. (LX: "Resident or Non-resident Name Table Entry".)
+    /// Where a name of module `m` leads, through forwarders. ("32-bit Linear eXecutable Module Format": "Resident or
+    /// Non-resident Name Table Entry".)
     pub fn entry_named(&self, m: u32, name: &[u8]) -> Result<Spot, EntryFault>
         requires { m < length self.now }
         ensures { result ≡ EntryNamed self.now m name.now }
@@ -150,7 +153,8 @@ impl Library {
         self.points().by_name(m, name)
     }
 
-    /// Where a target of module `m`'s fixups is, through forwarders. (LX: "Fixup Record Table".)
+    /// Where a target of module `m`'s fixups is, through forwarders. ("32-bit Linear eXecutable Module Format":
+    /// "Fixup Record Table".)
     pub fn target(&self, m: u32, target: &FixTarget) -> Result<Spot, EntryFault>
         requires { m < length self.now }
         ensures { result ≡ target_spot self.now m target.now }

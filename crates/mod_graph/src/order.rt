@@ -4,6 +4,7 @@ ghost use Rattle.std.specs.Prelude.{◌≡◌, ◌≤◌, ◌<◌, ◌^◌, IfOk
 ghost use Rattle.lx_model.specs.Reach.{is_among, imports_of, Order};
 ghost use Rattle.mod_graph.specs.Visiting.{visit_in, order_in, AreWithin};
 ghost use Rattle.std.specs.List.{range_with_len};
+ghost use Rattle.lx_types.specs.declared.limits.TheConstants.{MAX_MODULES};
 
 use lx_types::{Module, NoMemory, Numbers};
 use std::alloc::Global;
@@ -76,7 +77,7 @@ pub fn orders_of(
     mods: &[Module],
     graph: &[Numbers],
 ) -> Result<Vec<Numbers>, NoMemory>
-    requires few { length mods.now ≤ 64 }
+    requires few { length mods.now ≤ MAX_MODULES }
     requires graph { graph.now ≡ map (imports_of mods.now) (range_with_len 0 (length mods.now)) }
     requires graph_length { length graph.now ≡ length mods.now }
     requires within { AreWithin (length mods.now) graph.now }

@@ -1,3 +1,6 @@
-pub mod KeptRows
-pub mod RowsOfAll
-pub mod LegalRows
+pub mod Counts
+pub mod CountLaws
+pub mod Bounded
+pub mod KeptCounts
+pub mod CountsOfAll
+pub mod LegalCounts

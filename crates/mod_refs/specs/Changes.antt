@@ -1,4 +1,4 @@
--- What a load and a free change in the rows, in the words of the loader's state.
+-- What a load and a free change in the counts, in the words of the loader's state.
 use Rattle.std.specs.Prelude.{◌≡◌, ℕ, ◌<◌, filter, not, None, slice_index}
 use Rattle.load_model.specs.declared.deeds.How.{How}
 use Rattle.load_model.specs.declared.deeds.How.TheVariants.{Start, Load}
@@ -8,8 +8,8 @@ use Rattle.load_model.specs.Entering.{joined, holding, attaching}
 use Rattle.load_model.specs.Entering as entering
 use Rattle.load_model.specs.Leaving.{freeing, exiting, keeping}
 use Rattle.load_model.specs.Leaving as leaving
-use Rattle.load_model.specs.Refusals.{MOST_LOADS}
-use Rattle.load_model.specs.Rows.{Row, unreached}
+use Rattle.load_model.specs.ProcessCounts.{ProcessCounts, unreached}
+use Rattle.lx_types.specs.declared.limits.TheConstants.{MAX_LOADS}
 use Rattle.mod_refs.specs.declared.changes.Leaving.{Leaving}
 use Rattle.mod_refs.specs.declared.changes.Leaving.TheVariants.{One, All}
 use Rattle.mod_refs.specs.declared.changes.Gained.{Gained}
@@ -18,14 +18,14 @@ use Rattle.mod_refs.specs.declared.changes.Lost.{Lost}
 -- ---- a start or a load
 
 -- The process has started no program, where it is to start one.
-abbrev pub IsIdleFor : How → Row → Type 0
-IsIdleFor Start row = row.started ≡ None
-IsIdleFor Load row = Unit {0}
+abbrev pub IsIdleFor : How → ProcessCounts → Type 0
+IsIdleFor Start counts = counts.started ≡ None
+IsIdleFor Load counts = Unit {0}
 
 -- The process holds as many loads of the module as it may, and is to load it once more.
-abbrev pub IsFullFor : How → ℕ → Row → Type 0
-IsFullFor Start m row = ⊥
-IsFullFor Load m row = slice_index row.loads m ≡ MOST_LOADS
+abbrev pub IsFullFor : How → ℕ → ProcessCounts → Type 0
+IsFullFor Start m counts = ⊥
+IsFullFor Load m counts = slice_index counts.loads m ≡ MAX_LOADS
 
 -- the process that has attached what the module reaches, and holds it
 abbrev pub entered : Library → How → ℕ → Process → Process
@@ -48,9 +48,9 @@ given_up (One m) p = freeing m p
 given_up All p = exiting p
 
 -- The process holds what it gives up.
-abbrev pub IsHeldBy : Leaving → Row → Type 0
-IsHeldBy (One m) row = 0 < slice_index row.loads m
-IsHeldBy All row = Unit {0}
+abbrev pub IsHeldBy : Leaving → ProcessCounts → Type 0
+IsHeldBy (One m) counts = 0 < slice_index counts.loads m
+IsHeldBy All counts = Unit {0}
 
 -- What the process no longer reaches, and what of it no process reaches, the last that it attached first.
 pub record IsLost (lib : Library) (e : Eager) (pid : ℕ) (what : Leaving) (lost : Lost) : Type 0 where

@@ -1,3 +1,6 @@
-pub mod AllRows
+pub mod Counts
+pub mod LoadCounts
+pub mod CountLaws
+pub mod AllCounts
 pub mod Changes
 pub mod Laws

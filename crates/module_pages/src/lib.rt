@@ -1,10 +1,7 @@
-//! The pages of a module with their fixups, one after the other, and the modules and libraries that are known to be such: a
-//! file without a fault is read, and modules that nothing is wrong with are gathered ("LX Header" to "Fixup Record Table" in
-//! the LX document).
+//! The pages of a module with their fixups, one after the other ("32-bit Linear eXecutable Module Format": "Object Page
+//! Table" and "Fixup Record Table").
 #![tactic(auto)]
 
-mod known;
 mod pages;
 
-pub use known::{gather_faultless, read_faultless};
 pub use pages::ModulePages;

@@ -8,7 +8,7 @@ ghost use Rattle.lx_model.specs.Fixed.{sources_of};
 ghost use Rattle.lx_model.specs.Library.{module_of};
 ghost use Rattle.lx_model.specs.ModuleBytes.{fixed_page};
 
-use lx_types::{Bases, NoMemory, PageId};
+use lx_types::{Bases, NoMemory, PageBytes, PageId};
 use mod_graph::Library;
 use page_fix::{Rights, Steps, fix_page, fix_private};
 use std::alloc::Global;
@@ -61,9 +61,9 @@ impl<'a> ModulePages<'a> {
     pub fn page<L: Ledger>(
         &mut self,
         p: PageId,
-        buffer: Box<[u8; 4096]>,
+        buffer: Box<PageBytes>,
         steps: &mut Steps<L>,
-    ) -> Box<[u8; 4096]>
+    ) -> Box<PageBytes>
         requires object { IsNumberOf p.object (length (module_of self.old.library self.old.«module»).objects) }
         requires page { p.page < pages_of (object_of (module_of self.old.library self.old.«module») p.object) }
         ensures bytes { box_value result ≡ fixed_page self.old.library self.old.«module» self.old.bases p }

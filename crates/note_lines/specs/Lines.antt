@@ -1,4 +1,4 @@
--- Lines for a reader, each behind a mark.
+-- Lines for a reader, each after a mark.
 use Rattle.std.specs.Prelude.{◌≡◌, ℕ, List, [], ◌∷◌, ◌++◌, ◌==◌, false, codes}
 use Rattle.std.specs.List.{list_any}
 use Rattle.note_lines.specs.declared.lines.Mark.{Mark}
@@ -8,7 +8,7 @@ use Rattle.note_lines.specs.declared.lines.Mark.TheVariants as mark
 abbrev pub IsOneLine : List ℕ → Type 0
 IsOneLine text = list_any (λ byte. byte == 10) text ≡ false
 
--- A text as a line behind a mark.
+-- A text as a line after a mark.
 abbrev pub marked_line : List ℕ → List ℕ → List ℕ
 marked_line mark text = mark ++ text ++ 10 ∷ []
 

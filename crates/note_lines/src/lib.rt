@@ -1,5 +1,5 @@
 //! Lines for a reader: what the parts of a refusal's line are, what each kind of refusal means, and texts of one line each,
-//! behind a mark.
+//! after a mark.
 #![tactic(auto)]
 
 mod kinds;

@@ -8,7 +8,7 @@ pub struct Told<'a> {
     pub fault: Fault<'a>,
 }
 
-/// What stands behind the name.
+/// What stands after the name.
 #[derive(Clone, Copy)]
 pub enum Fault<'a> {
     Absent,
@@ -31,7 +31,7 @@ pub enum Fault<'a> {
     },
 }
 
-// The first word, and what stands behind the blank.
+// The first word, and what stands after the blank.
 fn split_word(text: &str) -> (&str, &str) {
     text.split_once(' ').unwrap_or((text, ""))
 }
@@ -59,7 +59,7 @@ fn fault_of(text: &str) -> Option<Fault<'_>> {
     })
 }
 
-// What stands behind `FILE: `.
+// What stands after `FILE: `.
 fn behind<'a>(line: &'a str, file: &str) -> Option<&'a str> {
     line.strip_prefix(file)?.strip_prefix(": ")
 }

@@ -60,7 +60,7 @@ impl Lines {
         self.texts.is_empty()
     }
 
-    /// All lines behind their mark, each with its end.
+    /// All lines after their mark, each with its end.
     pub fn text(&self, alloc: Global, mark: Mark) -> Result<String, AllocError>
         ensures { IfOk result (λ text. string_bytes text
             ≡ flat_map (λ line. marked_line (mark_text mark) (string_bytes line)) self.now.texts.items) }
@@ -73,7 +73,7 @@ impl Lines {
     }
 }
 
-// Adds a line behind its mark.
+// Adds a line after its mark.
 fn push_line(text: &mut String, mark: Mark, line: &str) -> Result<(), AllocError>
     ensures { OnOk result (string_bytes text.new ≡ string_bytes text.old ++ marked_line (mark_text mark) line.now) }
 {

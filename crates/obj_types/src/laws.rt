@@ -5,7 +5,7 @@
 
 ghost use Rattle.std.specs.Prelude.{◌≡◌};
 
-use crate::limits::{MAX_DATA, MAX_DEPTH, MAX_FIXES};
+use crate::limits::{MAX_BASE, MAX_DATA, MAX_DEPTH, MAX_FIXES, MIN_BASE};
 use crate::location::{
     LOCATION_BYTE, LOCATION_FAR_16, LOCATION_FAR_32, LOCATION_LOADER_16, LOCATION_LOADER_32,
     LOCATION_OFFSET_16, LOCATION_OFFSET_32, LOCATION_SELECTOR,
@@ -16,11 +16,13 @@ use crate::object::{
 };
 use crate::parts::COMDAT_BASE;
 
-/// A law: the limits in bytes of data, in fixups and in nested blocks.
+/// A law: the limits in bytes of data, in fixups and in nested blocks, and the bounds of bases.
 pub fn limit_numbers()
     ensures data { MAX_DATA ≡ 16777216 }
     ensures fixups { MAX_FIXES ≡ 1048576 }
     ensures depth { MAX_DEPTH ≡ 16 }
+    ensures least_base { MIN_BASE ≡ 0x10000 }
+    ensures greatest_base { MAX_BASE ≡ 0x1FFF0000 }
 {}
 
 /// A law: the kinds of location.

@@ -18,12 +18,11 @@ mod symbol;
 pub use definition::{Attrs, DefFile, ModKind, SegAttrs, SegRules};
 pub use input::{LinkInput, ObjModules};
 pub use laws::{comdat_numbers, limit_numbers, location_numbers, segment_numbers};
-pub use limits::{MAX_DATA, MAX_DEPTH, MAX_FIXES};
+pub use limits::{MAX_BASE, MAX_DATA, MAX_DEPTH, MAX_FIXES, MIN_BASE};
 pub use location::{
     LOCATION_BYTE, LOCATION_FAR_16, LOCATION_FAR_32, LOCATION_LOADER_16, LOCATION_LOADER_32,
     LOCATION_OFFSET_16, LOCATION_OFFSET_32, LOCATION_SELECTOR, has_selector, location_len,
 };
-pub use lx_types::{Bytes, EntryKey, Fail, Name, Names, NoMemory, Seq};
 pub use object::{
     ALIGN_ABSOLUTE, ALIGN_BYTE, ALIGN_DOUBLEWORD, ALIGN_PAGE, ALIGN_PARAGRAPH, ALIGN_WORD,
     COMBINE_COMMON, COMBINE_PRIVATE, COMBINE_PUBLIC, COMBINE_STACK, Comdat, Comdats, FixAt, Fixes,

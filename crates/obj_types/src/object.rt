@@ -20,7 +20,7 @@ pub const ALIGN_DOUBLEWORD: u8 = 5;
 /// Segments are not joined.
 pub const COMBINE_PRIVATE: u8 = 0;
 
-/// Segments are joined one behind the other. The combine types 4 and 7 mean the same.
+/// Segments are joined one after the other. The combine types 4 and 7 mean the same.
 pub const COMBINE_PUBLIC: u8 = 2;
 
 /// As public segments, and the stack is there.

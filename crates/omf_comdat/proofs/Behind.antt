@@ -1,4 +1,4 @@
--- The segments of COMDATs put behind the others, one at a time, and what a module is with them.
+-- The segments of COMDATs put after the others, one at a time, and what a module is with them.
 use Rattle.std.proofs.Common.{◌≡◌, ℕ, ◌+◌, ◌<◌, List, [], ◌∷◌, ◌++◌, length, map, get_or, refl, sym, ap, ◌∙◌, arith, append_assoc, length-append}
 use Rattle.std.specs.List.{enumerate_from}
 use Rattle.std.proofs.lemmas.List.{append-nil, length-map, map-append}

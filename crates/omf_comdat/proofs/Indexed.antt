@@ -49,7 +49,7 @@ map-kept f P same (x ∷ xs) h = λ i. sym (same x h.0) i ∷ map-kept f P same 
 all-kept : {A : Type 0} (f : A → A) (P : A → Type 0) → ((x : A) → P x → f x ≡ x) → (xs : List A) → All P xs → xs ≡ map f xs
 all-kept f P same xs h = map-kept f P same xs (recursion_from_All P xs h)
 
--- No segment is put behind the others, and no number becomes an index.
+-- No segment is put after the others, and no number becomes an index.
 pub without-comdats : (p : ObjParts) → p.comdats ≡ [] → IsWholeSoFar p → record p.module { comdats = [] } ≡ finished p
 without-comdats p none h =
     let n : ℕ = length p.module.segs in

@@ -11,7 +11,7 @@ use Rattle.obj_types.specs.declared.parts.TheConstants.{COMDAT_BASE}
 use Rattle.omf_model.specs.Finished.{greatest_end, numbered, comdat_for, group_for}
 use Rattle.omf_comdat.specs.declared.finish.Placed.{Placed}
 
--- Behind so many segments the number has an index of 32 bits.
+-- After so many segments the number has an index of 32 bits.
 abbrev pub HasIndex : ℕ → ℕ → Type 0
 HasIndex segs number = segs + (number - COMDAT_BASE) < 2 ^ 32
 
@@ -32,7 +32,7 @@ ends_for pieces count = map (greatest_end pieces) (range_with_len (COMDAT_BASE +
 abbrev pub long_seg : List ℕ → ℕ × BegunComdat → Seg
 long_seg lens q = record q.1.seg { len = get_or lens q.0 q.1.seg.len }
 
--- The segments of COMDATs, with their lengths, are behind the old ones and in their groups.
+-- The segments of COMDATs, with their lengths, are after the old ones and in their groups.
 pub record ArePlaced (old : List Seg) (old_groups : List Group) (lens : List ℕ) (begun : List BegunComdat) (p : Placed) : Type 0 where
   pub segs : p.segs ≡ old ++ map (long_seg lens) (enumerate_from 0 begun)
   pub groups : p.groups ≡ map (group_for (length old) begun) (enumerate_from 1 old_groups)

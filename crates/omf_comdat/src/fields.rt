@@ -128,7 +128,7 @@ fn explicit_base(
     Ok(Some(Base { group, segment }))
 }
 
-/// The fields of the record behind those before it. The type's index is 0.
+/// The fields of the record after those before it. The type's index is 0.
 #[tactic(auto, unfolding(omf_model::specs::ReadComdat::comdat_fields_at))]
 pub fn fields_of<'a>(
     rec: &Rec<'a>,

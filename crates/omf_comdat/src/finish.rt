@@ -14,7 +14,7 @@ use obj_types::{
 };
 use std::alloc::Global;
 
-/// The index behind `segs` segments for the number of a segment.
+/// The index after `segs` segments for the number of a segment.
 fn index_for(segs: u32, number: u32) -> u32
     requires { HasIndex segs number }
     ensures { result ≡ done.index_for segs number }
@@ -144,7 +144,7 @@ fn with_len(seg: Seg, lens: &[u32], place: usize) -> Seg
     seg
 }
 
-/// Puts the segments of COMDATs, with their lengths, behind the others and into their groups.
+/// Puts the segments of COMDATs, with their lengths, after the others and into their groups.
 fn put_behind(
     alloc: Global,
     begun: BegunComdats,
@@ -192,7 +192,7 @@ fn without_comdats(alloc: Global, parts: ObjParts) -> ObjModule
     module
 }
 
-/// The module of the unfinished one, with the segments of its COMDATs behind all others.
+/// The module of the unfinished one, with the segments of its COMDATs after all others.
 fn with_comdats(alloc: Global, parts: ObjParts) -> Result<ObjModule, NoMemory>
     requires { IsWholeSoFar parts }
     ensures { IfOk result (λ m. m ≡ done.finished parts) }
@@ -213,7 +213,7 @@ fn with_comdats(alloc: Global, parts: ObjParts) -> Result<ObjModule, NoMemory>
     Ok(module)
 }
 
-/// The module of the unfinished one, with the segments of its COMDATs behind all others. Most modules have none, above all
+/// The module of the unfinished one, with the segments of its COMDATs after all others. Most modules have none, above all
 /// those of import libraries.
 pub fn finished(alloc: Global, parts: ObjParts) -> Result<ObjModule, NoMemory>
     requires { IsWholeSoFar parts }

@@ -27,7 +27,7 @@ use omf_frame::record_type::{COMDAT, COMDAT_32};
 use omf_names::text;
 use std::alloc::Global;
 
-/// The place of the COMDAT of a name, from 0: where it has begun, else behind all. It looks at each one before it, of
+/// The place of the COMDAT of a name, from 0: where it has begun, else after all. It looks at each one before it, of
 /// which there are 32,767 at most, since the index of a name has 15 bits.
 fn place_of(begun: &[BegunComdat], name: &[u8]) -> usize
     ensures { result ≡ position_or_len (bytes_eq name.now) (begun_names begun.now) }

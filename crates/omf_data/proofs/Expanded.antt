@@ -94,7 +94,7 @@ copied_all {A} old now start times done so some low high =
 
 -- ---- blocks in a block
 
--- the data of so many blocks, behind other data
+-- the data of so many blocks, after other data
 abbrev pub data_at : ℕ → Bool → ℕ → List ℕ → Cursor → Reading (List ℕ)
 data_at left wide count front c = seen (data_behind front) (items_at (block_at left wide) count c)
 
@@ -150,7 +150,7 @@ module _ (left : ℕ) (wide : Bool) (times count : ℕ) (c c1 c2 : Cursor) (deep
 pub left_over : (b : Bool) (xs : List ℕ) → (xs ≡ [] → IsTrue b) → b ≡ false → xs ≢ []
 left_over b xs full is none = let set : IsTrue b = full none in absurd cc
 
--- the data of all blocks, behind other data
+-- the data of all blocks, after other data
 abbrev pub all_at : Bool → List ℕ → Cursor → Result (List ℕ) OmfRefusal
 all_at wide front c = through (data_behind front) (list_at (block_at MAX_DEPTH wide) c)
 

@@ -12,7 +12,7 @@ use Rattle.omf_model.specs.ReadBlocks.{Block, joined, block_at, blocks_at}
 use Rattle.omf_data.specs.Expanding.{seen, block_len, measured_at, counted_at}
 use Rattle.omf_data.proofs.Onto.{through, items-next, items-refused, items-done, seen-ok, seen-err, len_behind, longer, len-law, cap-product, outer-is, block-takes, list-more, list-refused, list-done}
 
--- the length of so many blocks, behind that of the blocks before
+-- the length of so many blocks, after that of the blocks before
 abbrev pub lens_at : ℕ → Bool → ℕ → ℕ → Cursor → Reading ℕ
 lens_at left wide count len c = seen (len_behind len) (items_at (block_at left wide) count c)
 
@@ -41,7 +41,7 @@ module _ (left : ℕ) (wide : Bool) (times count : ℕ) (c c1 c2 : Cursor) (deep
 
 -- ---- up to the end
 
--- the length of all blocks, behind that of the blocks before
+-- the length of all blocks, after that of the blocks before
 abbrev pub total_at : Bool → ℕ → Cursor → Result ℕ OmfRefusal
 total_at wide len c = through (len_behind len) (list_at (block_at MAX_DEPTH wide) c)
 

@@ -1,4 +1,4 @@
--- Blocks that are read one after another: what they come to, behind what came before.
+-- Blocks that are read one after another: what they come to, after what came before.
 use Rattle.std.proofs.Common.{◌≡◌, ◌≢◌, ℕ, zero, suc, ltb, ◌+◌, ◌-◌, ◌*◌, ◌<◌, ◌≤◌, Bool, true, false, List, [], ◌∷◌, ◌++◌, length, take, Result, Ok, Err, refl, sym, ap, ◌∙◌, arith, append_assoc, length-append, inl, inr}
 use Rattle.std.specs.List.{repeat}
 use Rattle.std.proofs.Math.Nat.{suc-mul}

@@ -22,7 +22,7 @@ use Rattle.omf_fields.proofs.SpanLaws.{ok_is}
 use Rattle.omf_data.specs.declared.marks.Marks.{Marks}
 use Rattle.omf_data.specs.Marks.{HavePieces, HaveFixes, AreMarks, has_byte, touches_bare}
 
--- more behind them
+-- more after them
 pub pieces-more : (m : Marks) (xs ys : List Piece) → HavePieces m xs → HavePieces m (xs ++ ys)
 pieces-more m xs ys have = record {
   seen = omega (arith, have.seen, length-append xs ys);

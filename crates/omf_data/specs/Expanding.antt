@@ -29,7 +29,7 @@ seen view read = read >>= λ x. Ok (view x.0, x.1)
 abbrev pub measured_at : ℕ → Bool → Cursor → Reading ℕ
 measured_at left wide c = seen (λ b. capped (block_len b)) (block_at left wide c)
 
--- Some data, with that of a block behind it.
+-- Some data, with that of a block after it.
 abbrev pub expanded_at : ℕ → Bool → List ℕ → Cursor → Reading (List ℕ)
 expanded_at left wide front c = seen (λ b. front ++ block_data b) (block_at left wide c)
 

@@ -33,7 +33,7 @@ pub struct Iterated<'a> {
     len: u32,
 }
 
-// The fields of the record, which are good behind those of `have` segments.
+// The fields of the record, which are good after those of `have` segments.
 #[tactic(auto, unfolding(omf_model::specs::ReadData::lidata_at))]
 fn fields_of<'a>(
     rec: &Rec<'a>,

@@ -1,4 +1,4 @@
-//! The data records, each read behind the records before it ("Relocatable Object Module Format", "A0h LEDATA",
+//! The data records, each read after the records before it ("Relocatable Object Module Format", "A0h LEDATA",
 //! "A2h LIDATA"), and what a reader of an object file keeps beside the unfinished module, so that a record is judged in
 //! the time that it takes itself.
 #![tactic(auto)]

@@ -15,7 +15,7 @@ fn capped(len: u64) -> u32
     len.min(u64::from(MAX_DATA) + 1) as u32
 }
 
-/// The length of data behind other data.
+/// The length of data after other data.
 fn sum(first: u32, second: u32) -> u32
     ensures { result ≡ capped_at_limit (first + second) }
 {

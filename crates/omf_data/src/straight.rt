@@ -28,7 +28,7 @@ pub struct Straight<'a> {
     bytes: &'a [u8],
 }
 
-// The fields of the record, which are good behind those of `have` segments.
+// The fields of the record, which are good after those of `have` segments.
 #[tactic(auto, unfolding(omf_model::specs::ReadData::ledata_at))]
 fn fields_of<'a>(
     rec: &Rec<'a>,

@@ -34,7 +34,7 @@ use Rattle.omf_faults.proofs.NameTold.{is_not, is_at_most}
 is_some_index : (i : ℕ) → (not (eqb i 0) ≡ true) ↔ (i ≢ 0)
 is_some_index i = (λ h. eqb-false i 0 ((is_not (eqb i 0)).0 h), λ h. (is_not (eqb i 0)).1 (ne_eqb i 0 h))
 
--- segment 0 is refused before or behind the test of the others
+-- segment 0 is refused before or after the test of the others
 not_none : ObjParts → ℕ → ℕ × Cursor → Reading ℕ
 not_none p at i = check (not (eqb i.0 0)) (BadField at) >>= λ ok. done i
 
@@ -91,7 +91,7 @@ judge_tells p at offset_at d e =
     condition_tells (leb (data_so_far p + length d.content) MAX_DATA) _ (is_at_most (data_so_far p + length d.content) MAX_DATA) (TooMany at) _ e _ λ limit.
     breaks_tells (not (list_any (touches (number_so_far p d) d.offset (length d.content)) p.module.fixes)) _ (is_not (list_any (touches (number_so_far p d) d.offset (length d.content)) p.module.fixes)) (DataOverFix offset_at) e
 
--- ---- the fields, and what is behind them
+-- ---- the fields, and what is after them
 
 and_then : {A B C : Type 0} (r : Result A OmfRefusal) (f : A → Result B OmfRefusal) (g : B → Result C OmfRefusal) → ((r >>= f) >>= g) ≡ (r >>= λ x. f x >>= g)
 and_then (Ok x) f g = refl
@@ -116,7 +116,7 @@ condition_before b Holds h refusal f g e Behind k =
     let t = condition_tells b Holds h refusal (λ x. f x >>= g) e Behind k in
     (λ is. t.0 (sym (and_then (check b refusal) f g) ∙ is), λ w. and_then (check b refusal) f g ∙ t.1 w)
 
--- the cursor behind a byte
+-- the cursor after a byte
 behind_byte : (b : ℕ) (c d : Cursor) → Spans (byte b) c d → d.at ≡ c.at + 1
 behind_byte b c d t = let one : length t.front ≡ 1 = ap (λ (xs : List ℕ). length xs) t.so.1 in omega (arith, t.moved, one)
 

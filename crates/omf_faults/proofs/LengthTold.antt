@@ -44,7 +44,7 @@ says b =
 
 -- ---- what fails
 
--- the bytes behind the first one are too few
+-- the bytes after the first one are too few
 cut : (at b n : ℕ) (rest : List ℕ) (e : OmfRefusal) → sized at b (Some n) rest ≡ Err e → (length rest < n) × (e ≡ Short at)
 cut at b n rest e is = by (ltb (length rest) n) refl is
   where
@@ -56,7 +56,7 @@ cut at b n rest e is = by (ltb (length rest) n) refl is
 cut_short : (at b n : ℕ) (rest : List ℕ) (e : OmfRefusal) → length rest < n → e ≡ Short at → sized at b (Some n) rest ≡ Err e
 cut_short at b n rest e few is = rw (lt-ltb _ _ few) (short_is {A = ℕ × Cursor} at e is)
 
--- what is missing of a number behind the first byte
+-- what is missing of a number after the first byte
 missing_number : (at n : ℕ) (rest : List ℕ) → AreBytes rest → length rest < n → PassesEnd (number n) (record { at = at; left = rest }) (Short at)
 missing_number at n rest bytes few = number-short n (record { at = at; left = rest }) (Short at) bytes (rw (lt-ltb _ _ few) refl)
 

@@ -34,7 +34,7 @@ pub err_bind : {A B : Type 0} (r : Result A OmfRefusal) (f : A → Result B OmfR
 err_bind (Ok x) f e is = absurd cc
 err_bind {A} {B} (Err d) f e is = err_is {A = A} {B = B} d e is
 
--- ---- a part, and what is behind it
+-- ---- a part, and what is after it
 
 good_spanned_tells : {A B : Type 0} (read : Cursor → Reading A) (part : Part A) → Judges read part → (c : Cursor) (f : A × Cursor → Result B OmfRefusal) (e : OmfRefusal) (Behind : A → Cursor → Type 0) → AreBytes c.left
     → ((x : A) (d : Cursor) → Spans (part.form x) c d → part.good x → AreBytes d.left → (f (x, d) ≡ Err e) ↔ Behind x d) → ((read c >>= f) ≡ Err e) ↔ PartThen part c e Behind
@@ -78,7 +78,7 @@ done_tells r g e W k = (
 pub last_tells : {A B : Type 0} (read : Cursor → Reading A) (part : Part A) → Judges read part → (c : Cursor) (g : A × Cursor → B) (e : OmfRefusal) → AreBytes c.left → ((read c >>= λ x. done (g x)) ≡ Err e) ↔ part.wrong c e
 last_tells read part j c g e bytes = done_tells (read c) g e (part.wrong c e) (j.tells c e bytes)
 
--- ---- a condition, and what is behind it
+-- ---- a condition, and what is after it
 
 pub no_truth : {X : Type 0} → false ≡ true → X
 no_truth e = absurd cc

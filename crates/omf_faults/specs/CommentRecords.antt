@@ -1,6 +1,7 @@
 -- What is wrong in a comment: a line a field or a condition, in their order. "88h COMENT".
 use Rattle.std.specs.Prelude.{◌≡◌, ◌≢◌, ℕ, ◌≤◌, ◌⊎◌, List, [], length, nat_le}
 use Rattle.obj_types.specs.declared.refusal.OmfRefusal.TheVariants.{BadField}
+use Rattle.omf_frame.specs.declared.comment_class.TheConstants.{DEFAULT_LIBRARY, EXTENSION, IMPDEF, EXPDEF}
 use Rattle.omf_fields.specs.Forms.{name}
 use Rattle.omf_faults.specs.Parts.{Part, Wrong, PartThen, Breaks, only}
 use Rattle.omf_faults.specs.FieldParts.{a_byte, a_number, a_name}
@@ -33,17 +34,17 @@ WrongExpdef c e =
     PartThen a_name c2 e λ internal c3.
     (only (nat_le 128 flag) (a_number 2)).wrong c3 e
 
--- The text of class 9Fh is a name without a length byte.
+-- The text of the class of default libraries is a name without a length byte.
 abbrev pub WrongLibrary : Wrong
 WrongLibrary c e = Breaks (length c.left ≤ 255) (BadField c.at) e
 
 abbrev pub WrongExtension : Wrong
 WrongExtension c e =
     PartThen a_byte c e λ subtype d.
-    ((subtype ≡ 1) × WrongImpdef d e) ⊎ ((subtype ≡ 2) × WrongExpdef d e)
+    ((subtype ≡ IMPDEF) × WrongImpdef d e) ⊎ ((subtype ≡ EXPDEF) × WrongExpdef d e)
 
 abbrev pub WrongComent : Wrong
 WrongComent c e =
     PartThen a_byte c e λ flags c1.
     PartThen a_byte c1 e λ class c2.
-    ((class ≡ 0x9F) × WrongLibrary c2 e) ⊎ ((class ≡ 0xA0) × WrongExtension c2 e)
+    ((class ≡ DEFAULT_LIBRARY) × WrongLibrary c2 e) ⊎ ((class ≡ EXTENSION) × WrongExtension c2 e)

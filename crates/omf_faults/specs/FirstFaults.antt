@@ -50,7 +50,7 @@ WrongHeader c e =
     ConditionThen ((ty ≡ 0x80) ⊎ (ty ≡ 0x82)) (BadField c.at) e (
     a_name.wrong d e)
 
--- A module's records stand there without fault, none of which ends it, and what stands behind them is wrong.
+-- A module's records stand there without fault, none of which ends it, and what stands after them is wrong.
 pub record WrongBehindRecords (at : ℕ) (bytes : List ℕ) (e : OmfRefusal) : Type 0 where
   pub records : List Record
   pub front : List ℕ

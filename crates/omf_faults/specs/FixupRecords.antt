@@ -24,7 +24,7 @@ use Rattle.omf_faults.specs.Parts.{Part, Wrong, PartThen, ConditionThen, Breaks,
 use Rattle.omf_faults.specs.FieldParts.{a_byte, a_number, field, index_with, index_from_one, second_byte}
 use Rattle.omf_fields.specs.Forms.{index}
 
--- ---- a fix byte and what stands behind it. On data of a debug segment indices and what threads name are not judged.
+-- ---- a fix byte and what stands after it. On data of a debug segment indices and what threads name are not judged.
 
 -- The index that a method calls for is of what came before, and no debug segment's.
 abbrev pub IsOfMethod : ObjParts → ℕ → ℕ → Type 0
@@ -57,7 +57,7 @@ TargetIsDebug judged p fix i =
     (judged ≡ true) × (by_target_thread fix ≡ true)
     × (target_thread p (target_bits fix) ≡ Some (goals.Seg i)) × (is_debug_seg p.module.segs i ≡ true)
 
--- A segment of this kind is told at the fix byte; or there is none, and what is behind it is wrong.
+-- A segment of this kind is told at the fix byte; or there is none, and what is after it is wrong.
 abbrev pub NoneThen : ObjParts → (ℕ → Type 0) → ℕ → OmfRefusal → Type 0 → Type 0
 NoneThen p IsDebug at e Behind = ((i : ℕ) × IsDebug i × (e ≡ BadIndex at i (length p.module.segs))) ⊎ (((i : ℕ) → IsDebug i → ⊥) × Behind)
 

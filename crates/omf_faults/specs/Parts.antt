@@ -1,4 +1,4 @@
--- What may be wrong where a part of a record's contents is due: a fault stands behind good parts only.
+-- What may be wrong where a part of a record's contents is due: a fault stands after good parts only.
 -- "Record Format".
 use Rattle.std.specs.Prelude.{◌≡◌, ◌≢◌, ℕ, ◌<◌, ◌⊎◌, Bool, true, List, [], ◌∷◌, length, Option, IfSome}
 use Rattle.lx_bytes.specs.Cursor.{Cursor}
@@ -17,11 +17,11 @@ pub record Part (A : Type 0) : Type 1 where
   pub good : A → Type 0
   pub wrong : Wrong
 
--- The part is wrong; or a good value of it is spelled, and what is behind it is wrong.
+-- The part is wrong; or a good value of it is spelled, and what is after it is wrong.
 abbrev pub PartThen : {A : Type 0} → Part A → Cursor → OmfRefusal → (A → Cursor → Type 0) → Type 0
 PartThen {A} part c e Behind = part.wrong c e ⊎ ((x : A) × (d : Cursor) × Spans (part.form x) c d × part.good x × Behind x d)
 
--- A condition does not hold, and this is its refusal; or it holds, and what is behind it is wrong.
+-- A condition does not hold, and this is its refusal; or it holds, and what is after it is wrong.
 abbrev pub ConditionThen : Type 0 → OmfRefusal → OmfRefusal → Type 0 → Type 0
 ConditionThen Holds refusal e Behind = ((Holds → ⊥) × (e ≡ refusal)) ⊎ (Holds × Behind)
 
@@ -39,7 +39,7 @@ only there part = record {
 
 -- ---- lists, by what is known at each item
 
--- The items of a list: their form, which are good by what is known where one begins, what is known behind one, and what is
+-- The items of a list: their form, which are good by what is known where one begins, what is known after one, and what is
 -- wrong where the next one is due.
 pub record Items (S A : Type 0) : Type 1 where
   pub form : A → Form
@@ -47,17 +47,17 @@ pub record Items (S A : Type 0) : Type 1 where
   pub next : S → A → S
   pub wrong : S → Wrong
 
--- Items are spelled one behind another from a cursor to another, each good by what is known where it begins.
+-- Items are spelled one after another from a cursor to another, each good by what is known where it begins.
 abbrev pub Stand : {S A : Type 0} → Items S A → S → List A → Cursor → Cursor → Type 0
 Stand items s [] c d = c ≡ d
 Stand items s (x ∷ xs) c d = (m : Cursor) × Spans (items.form x) c m × items.good s x × Stand items (items.next s x) xs m d
 
--- what is known behind items
+-- what is known after items
 abbrev pub known_behind : {S A : Type 0} → Items S A → S → List A → S
 known_behind items s [] = s
 known_behind items s (x ∷ xs) = known_behind items (items.next s x) xs
 
--- Items go on to the record's end: some stand there, bytes are left behind them, and there it is wrong.
+-- Items go on to the record's end: some stand there, bytes are left after them, and there it is wrong.
 pub record WrongBehind {S A : Type 0} (items : Items S A) (s : S) (c : Cursor) (e : OmfRefusal) : Type 0 where
   pub those : List A
   pub there : Cursor

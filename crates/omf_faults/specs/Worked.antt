@@ -25,7 +25,7 @@ some_parts = record fresh_parts {
 -- A type, contents, and what is told.
 abbrev pub two_faults : List (ℕ × List ℕ × OmfRefusal)
 two_faults =
-    -- SEGDEF: alignment 6, and nothing behind it; a big length that is cut off; a big length of 0, and the name 9 of 4
+    -- SEGDEF: alignment 6, and nothing after it; a big length that is cut off; a big length of 0, and the name 9 of 4
     (0x98, 0xC0 ∷ [], BadField 3)
     ∷ (0x99, 0x2B ∷ 0x00 ∷ 0x00 ∷ [], Short 4)
     ∷ (0x99, 0x2B ∷ 0x00 ∷ 0x00 ∷ 0x00 ∷ 0x00 ∷ 0x09 ∷ [], BadField 3)
@@ -41,14 +41,14 @@ two_faults =
     -- name that is cut off
     ∷ (0xB0, 0x01 ∷ 0x78 ∷ 0x00 ∷ 0x61 ∷ 0x88 ∷ 0x00 ∷ 0x00 ∷ 0x00 ∷ 0xFF ∷ 0x90 ∷ [], BadField 12)
     ∷ (0xB0, 0x01 ∷ 0x78 ∷ 0x00 ∷ 0x62 ∷ 0x88 ∷ 0x01 ∷ 0x00 ∷ 0x00 ∷ 0x01 ∷ 0x09 ∷ [], BadField 7)
-    -- IMPDEF: an empty module name, and no entry behind it. EXPDEF: an empty name, and an internal one that is cut off
+    -- IMPDEF: an empty module name, and no entry after it. EXPDEF: an empty name, and an internal one that is cut off
     ∷ (0x88, 0x00 ∷ 0xA0 ∷ 0x01 ∷ 0x00 ∷ 0x00 ∷ 0x00 ∷ [], BadField 8)
     ∷ (0x88, 0x00 ∷ 0xA0 ∷ 0x02 ∷ 0x00 ∷ 0x00 ∷ 0x05 ∷ [], BadField 7)
     -- LEDATA: past the segment, and on the fixup
     ∷ (0xA0, 0x01 ∷ 0x04 ∷ 0x00 ∷ 0x01 ∷ 0x02 ∷ 0x03 ∷ 0x04 ∷ 0x05 ∷ [], DataRange 4)
     -- LIDATA: nine times two bytes, past the segment, of which the second is cut off
     ∷ (0xA2, 0x01 ∷ 0x00 ∷ 0x00 ∷ 0x09 ∷ 0x00 ∷ 0x00 ∷ 0x00 ∷ 0x02 ∷ 0xAA ∷ [], Short 11)
-    -- COMDAT: iterated, and nothing behind it; selection 4, allocation 5 and alignment 6, and nothing behind each; a type, and no
+    -- COMDAT: iterated, and nothing after it; selection 4, allocation 5 and alignment 6, and nothing after each; a type, and no
     -- base; group 5 of none, and segment 9 of 2; segment 0, segment 9 of 2 and the debug segment, and no name
     ∷ (0xC2, 0x02 ∷ [], BadField 3)
     ∷ (0xC2, 0x00 ∷ 0x40 ∷ [], BadField 4)

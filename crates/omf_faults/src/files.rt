@@ -19,7 +19,7 @@ pub fn contents_are_good_or_wrong()
         AreBytes c.left → WrongContents ty p record_at c e → WrongContents ty p record_at c f → e ≡ f }
 {}
 
-/// The first fault of a module, in an object file or a library, is that of what stands behind its good records: of the
+/// The first fault of a module, in an object file or a library, is that of what stands after its good records: of the
 /// frame there, or of the contents in it.
 pub fn first_faults_follow_good_records()
     ensures told { (at : ℕ) (bytes : List ℕ) (e : OmfRefusal) →

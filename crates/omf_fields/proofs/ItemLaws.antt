@@ -1,4 +1,4 @@
--- A list is its first item, and then the list of what is behind it.
+-- A list is its first item, and then the list of what is after it.
 use Rattle.std.proofs.Common.{◌≡◌, ◌≢◌, ℕ, suc, ◌+◌, ◌≤◌, Bool, true, false, cond, eqb, List, [], ◌∷◌, ◌++◌, length, Result, Ok, Err, refl, sym, ap, ◌∙◌, arith, append_assoc, length-append}
 use Rattle.std.proofs.lemmas.Bool.{ne_eqb}
 use Rattle.std.proofs.lemmas.List.{nil_from_length, append-nil}
@@ -23,7 +23,7 @@ HasBytes c = AreBytes c.left
 abbrev left_at : Cursor → ℕ
 left_at c = length c.left
 
--- what follows a step that may have failed is the same where it is the same behind each value
+-- what follows a step that may have failed is the same where it is the same after each value
 pub bind-same : {A B : Type 0} (r : Result A OmfRefusal) (f g : A → Result B OmfRefusal) → ((x : A) → r ≡ Ok x → f x ≡ g x) → (r >>= f) ≡ (r >>= g)
 bind-same (Ok x) f g same = same x refl
 bind-same (Err e) f g same = refl

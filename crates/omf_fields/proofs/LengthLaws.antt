@@ -36,7 +36,7 @@ sized_spans at b n rest x d s so =
     subst (λ (p : ℕ × Cursor). Spans (length_form p.0) (record { at = at; left = b ∷ rest }) p.1) (ok_is (value b n rest, record { at = at + 1 + n; left = drop n rest }) (x, d) s.is)
     (record { front = b ∷ take n rest; joined = ap (λ (xs : List ℕ). b ∷ xs) (sym (take-append-drop n rest)); moved = omega (arith, len); so = so })
 
--- a number of n bytes behind b
+-- a number of n bytes after b
 behind : (b n : ℕ) (rest : List ℕ) → AreBytes rest → n ≤ length rest → (little (take n rest) < 256 ^ n) × (b ∷ take n rest ≡ b ∷ little_bytes n (little (take n rest)))
 behind b n rest bytes long =
     let len : length (take n rest) ≡ n = omega (arith, long, length-take n rest) in

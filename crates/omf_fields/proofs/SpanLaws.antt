@@ -65,7 +65,7 @@ Complete {A} read form P = (c : Cursor) (x : A) (d : Cursor) → Spans (form x) 
 abbrev pub done : {A : Type 0} → A → Result A OmfRefusal
 done x = Ok x
 
--- a value and the cursor behind it
+-- a value and the cursor after it
 abbrev pub given : {A : Type 0} → A → Cursor → Reading A
 given x d = Ok (x, d)
 

@@ -6,7 +6,7 @@ use Rattle.obj_types.specs.declared.refusal.OmfRefusal.TheVariants.{Short, BadIn
 use Rattle.omf_fields.specs.Forms.{Form, index}
 use Rattle.omf_fields.specs.Spans.{Spans}
 
--- The field that begins at the cursor passes the end: with more bytes behind it, what is left would spell one.
+-- The field that begins at the cursor passes the end: with more bytes after it, what is left would spell one.
 pub record PassesEnd {A : Type 0} (form : A → Form) (c : Cursor) (refusal : OmfRefusal) : Type 0 where
   pub is : refusal ≡ Short c.at
   pub value : A

@@ -8,7 +8,7 @@ use Rattle.omf_fields.specs.Within.{within}
 use Rattle.obj_types.specs.declared.refusal.OmfRefusal.{OmfRefusal}
 use Rattle.obj_types.specs.declared.refusal.OmfRefusal.TheVariants.{Short, BadField, BadIndex}
 
--- What stands at a cursor and the cursor behind it, or the first fault.
+-- What stands at a cursor and the cursor after it, or the first fault.
 abbrev pub Reading : Type 0 → Type 0
 Reading A = Result (A × Cursor) OmfRefusal
 

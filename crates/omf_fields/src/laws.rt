@@ -35,7 +35,7 @@ pub fn field_is_refused()
         ⊎ IsNoIndex (λ i. i ≤ have) have c f }
 {}
 
-/// A list up to the end is its first item and then the list of what is behind it: `more` turns than bytes change
+/// A list up to the end is its first item and then the list of what is after it: `more` turns than bytes change
 /// nothing.
 pub fn list_of_items<A>()
     ensures none { (one : Cursor → Reading A) (c : Cursor) → c.left ≡ [] → list_at one c ≡ Ok [] }

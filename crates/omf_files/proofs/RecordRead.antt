@@ -162,7 +162,7 @@ frame-refused c refusal shape h e = raw_refused c refusal h ∙ ap (λ (r : Fram
 abbrev started_at : ObjParts → Option StartAt → ObjParts
 started_at p start = record p { «module» = record p.module { start = start } }
 
--- It adds a start address and nothing else, so what was whole before it is so behind it.
+-- It adds a start address and nothing else, so what was whole before it is so after it.
 module _ (p : ObjParts) (start : Option StartAt) where
   lies-behind : (number offset len : ℕ) → LiesAt p number offset len → LiesAt (started_at p start) number offset len
   lies-behind number offset len (inl lies) = inl lies
@@ -227,7 +227,7 @@ lines-passed p rec (inr e) = rw e refl
 
 -- ---- the module from its first record on
 
--- Records that are read behind those before them shorten what is left.
+-- Records that are read after those before them shorten what is left.
 header-shorter : (c : Cursor) (first : Record × Cursor) → AreBytes c.left → header_at c ≡ Ok first → (length first.1.left ≤ length c.left) × AreBytes first.1.left
 header-shorter c first bytes e =
     let t = (header_sound c first.0 first.1 bytes e).0 in
@@ -257,7 +257,7 @@ pub module-split : (c : Cursor) → AreBytes c.left → module_at c ≡ ended (b
 unfolding module_at begun_at
 module-split c bytes = by_first c (header_at c) bytes refl
 
--- ---- the records behind the first one
+-- ---- the records after the first one
 
 pub finished-refused : (p : ObjParts) (c : Cursor) (refusal : OmfRefusal) → rest_at p c ≡ Err refusal → finished_at p c ≡ Err refusal
 unfolding finished_at

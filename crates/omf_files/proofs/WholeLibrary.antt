@@ -1,4 +1,4 @@
--- A library is its header and the modules behind it.
+-- A library is its header and the modules after it.
 use Rattle.std.proofs.Common.{◌≡◌, ℕ, ◌+◌, Bool, true, false, List, length, take, drop, Ok, Err, Result, refl, sym, ap, subst, ◌∙◌, arith, take-append-drop, length-drop}
 use Rattle.std.specs.Prelude.{◌==◌}
 use Rattle.lx_types.specs.Answers.{◌>>=◌, if_said, Gives, Answers}
@@ -23,7 +23,7 @@ use Rattle.omf_files.specs.Modules.{page_size_of}
 abbrev start : List ℕ → Cursor
 start bytes = record { at = 0; left = bytes }
 
--- what is behind a whole record
+-- what is after a whole record
 behind : (bytes : List ℕ) (f : RawRecord) → whole_at (start bytes) ≡ Ok f → f.after ≡ advance f.after.at (start bytes)
 unfolding whole_at
 behind bytes f e =

@@ -6,6 +6,7 @@ use Rattle.obj_types.specs.declared.object.StartAt.{StartAt}
 use Rattle.obj_types.specs.declared.parts.ObjParts.{ObjParts}
 use Rattle.obj_types.specs.Fresh.{fresh_parts}
 use Rattle.lx_types.specs.Answers.{◌>>=◌}
+use Rattle.omf_frame.specs.declared.record_type.TheConstants.{LIBRARY_HEADER}
 use Rattle.omf_fields.specs.Fields.{Reading, check}
 use Rattle.omf_frame.specs.declared.omf_record.Rec.{Rec}
 use Rattle.omf_model.specs.Add.{add}
@@ -19,7 +20,7 @@ use Rattle.obj_types.specs.declared.refusal.OmfRefusal.TheVariants.{BadField}
 abbrev pub started : ObjParts → Option StartAt → ObjParts
 started p start = record p { «module» = record p.module { start = start } }
 
--- The record stands at the cursor, and the second cursor behind it.
+-- The record stands at the cursor, and the second cursor after it.
 pub record StandsAt (rec : Rec) (old new : Cursor) : Type 0 where
   pub checksum : ℕ
   pub raw : raw_at old ≡ Ok (record { at = rec.at; ty = rec.ty; contents = rec.body.now; checksum = checksum; after = new })
@@ -40,6 +41,6 @@ finished_at p c = rest_at p c >>= λ q. Ok (finished q.0, q.1)
 unfoldable pub page_size_of : List ℕ → Result ℕ OmfRefusal
 page_size_of bytes = do
   f ← whole_at (record { at = 0; left = bytes })
-  _ ← check (f.ty == 0xF0) (BadField 0)
+  _ ← check (f.ty == LIBRARY_HEADER) (BadField 0)
   _ ← check (is_page_size f.after.at) (BadField 1)
   Ok f.after.at

@@ -7,3 +7,4 @@ mod start;
 
 pub use libraries::read_library;
 pub use objects::read_object;
+pub use omf_frame::record_type::LIBRARY_HEADER;

@@ -11,10 +11,8 @@ use crate::objects::module;
 use lx_bytes::Cur;
 use lx_types::{Fail, NoMemory, Seq};
 use obj_types::{ObjModule, OmfRefusal};
+use omf_frame::record_type::{LIBRARY_END, LIBRARY_HEADER};
 use std::alloc::Global;
-
-// The type byte in a module's place that ends a library.
-const LIBRARY_END: u8 = 0xF1;
 
 /// Whether the library ends at the cursor.
 fn ends(cur: &Cur) -> bool
@@ -59,9 +57,6 @@ fn modules(alloc: Global, cur: &mut Cur, size: usize) -> Result<Seq<ObjModule>, 
     Ok(modules)
 }
 
-// The type byte of a library's header.
-const LIBRARY_HEADER: u8 = 0xF0;
-
 /// Whether a library may have pages of this size.
 fn may_be_page(size: usize) -> bool
     ensures { result ≡ is_page_size size }
@@ -95,7 +90,7 @@ fn page_size(bytes: &[u8]) -> Result<usize, OmfRefusal>
 }
 
 /// The modules of a library ("Microsoft LIB Library Format"). The first fault in file order is the one that is
-/// refused. What stands behind the type byte that ends it is not read.
+/// refused. What stands after the type byte that ends it is not read.
 pub fn read_library(alloc: Global, bytes: &[u8]) -> Result<Seq<ObjModule>, Fail<OmfRefusal>>
     ensures read { Gives (λ ms. ms) if_said result (library_of bytes.now) }
     ensures meant { Answers result (Lib bytes.now) (LibraryFault bytes.now) }

@@ -28,7 +28,7 @@ use omf_frame::{FrameRefusal, Rec, next_record};
 use omf_names::{comdef, coment, extdef, grpdef, names, pubdef, segdef};
 use std::alloc::Global;
 
-/// The next record, and the cursor behind it.
+/// The next record, and the cursor after it.
 fn record<'a>(cur: &mut Cur<'a>) -> Result<Rec<'a>, OmfRefusal>
     ensures read { MatchResult result (λ rec. StandsAt rec cur.old cur.new) (λ refusal. raw_at cur.old ≡ Err refusal) }
     ensures shorter { OnOk result (length cur.new.left < length cur.old.left) }
@@ -110,7 +110,7 @@ fn begin(alloc: Global, cur: &mut Cur) -> Result<ObjParts, Fail<OmfRefusal>>
     Ok(parts)
 }
 
-/// The module, from the records behind its first one up to its MODEND.
+/// The module, from the records after its first one up to its MODEND.
 fn finish(alloc: Global, cur: &mut Cur, begun: ObjParts) -> Result<ObjModule, Fail<OmfRefusal>>
     requires { IsBegun begun }
     ensures read { Gives (λ m. (m, cur.new)) if_said result (finished_at begun cur.old) }
@@ -131,7 +131,7 @@ fn finish(alloc: Global, cur: &mut Cur, begun: ObjParts) -> Result<ObjModule, Fa
     Err(Fail::Said(OmfRefusal::Short { at: cur.at() }))
 }
 
-/// The module at the cursor, and the cursor behind it.
+/// The module at the cursor, and the cursor after it.
 pub fn module(alloc: Global, cur: &mut Cur) -> Result<ObjModule, Fail<OmfRefusal>>
     ensures read { Gives (λ m. (m, cur.new)) if_said result (module_at cur.old) }
     ensures shorter { OnOk result (length cur.new.left < length cur.old.left) }
@@ -142,7 +142,7 @@ pub fn module(alloc: Global, cur: &mut Cur) -> Result<ObjModule, Fail<OmfRefusal
 }
 
 /// The module that an object file means ("Relocatable Object Module Format", "Object Record Order"). What stands
-/// behind its MODEND is not read. The first fault in file order is the one that is refused.
+/// after its MODEND is not read. The first fault in file order is the one that is refused.
 pub fn read_object(alloc: Global, bytes: &[u8]) -> Result<ObjModule, Fail<OmfRefusal>>
     ensures read { Gives (λ m. m) if_said result (object_of bytes.now) }
     ensures meant { Answers result (Obj bytes.now) (FirstFault bytes.now) }

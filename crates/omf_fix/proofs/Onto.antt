@@ -1,4 +1,4 @@
--- Blocks that are read one after another: what is found in them, behind what came before.
+-- Blocks that are read one after another: what is found in them, after what came before.
 use Rattle.std.proofs.Common.{◌≡◌, ℕ, ◌+◌, ◌-◌, ◌*◌, Bool, true, false, cond, List, [], ◌∷◌, ◌++◌, length, Ok, sym, ap, ◌∙◌, arith, append_assoc, length-append}
 use Rattle.std.proofs.lemmas.List.{append-nil, map-append}
 use Rattle.std.proofs.Math.Nat.{add_assoc}

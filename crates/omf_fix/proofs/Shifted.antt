@@ -121,7 +121,7 @@ still-there old now start unit done so some =
     let e = ap (λ (ys : List ℕ). length ys) (sym (take-append-drop start old)) ∙ length-append (take start old) own in
     omega (arith, a, b, e)
 
--- what stands behind the old
+-- what stands after the old
 pub behind-old : (old added own : List ℕ) (start times unit base : ℕ) → start ≡ length old → added ≡ old ++ moved base own → take start added ++ repeated times unit (drop start added) ≡ old ++ moved base (repeated times unit own)
 behind-old old added own start times unit base at_end so =
     let low : take start added ≡ old = (λ i. take (at_end i) (so i)) ∙ take-append_seam old (moved base own) in

@@ -16,11 +16,11 @@ use Rattle.omf_fix.specs.FixData.{data_of}
 abbrev pub first_at : FieldStart → FirstByte
 first_at start = record { of_record = start.fixupp.at; at = start.at; byte = start.byte }
 
--- The parts with what a field adds, and the cursor behind it.
+-- The parts with what a field adds, and the cursor after it.
 abbrev pub then_field : ObjParts → Reading FixField → Reading ObjParts
 then_field p read = read >>= λ f. Ok (add_field p f.0, f.1)
 
--- The fields of a fixup behind its first byte, before its place is judged.
+-- The fields of a fixup after its first byte, before its place is judged.
 abbrev pub unplaced_at : Bool → ObjParts → FirstByte → Cursor → Reading (ℕ × FixData)
 unplaced_at wide p first c = do
   _ ← check (is_dropped p.last || is_location first.byte) (BadLocation first.at (location_of first.byte))

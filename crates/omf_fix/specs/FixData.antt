@@ -1,4 +1,4 @@
--- A fix byte and what stands behind it, and what that means.
+-- A fix byte and what stands after it, and what that means.
 use Rattle.std.specs.Prelude.{Bool, true, Ok, unwrap_or}
 use Rattle.lx_bytes.specs.Cursor.{Cursor}
 use Rattle.obj_types.specs.declared.object.Frame.TheVariants as frames

@@ -41,7 +41,7 @@ abbrev pub block_contents : Bool → ℕ → Block → List (ℕ × ℕ)
 block_contents wide at (innermost times content) = (at + width wide + 3, at + width wide + 3 + length content) ∷ []
 block_contents wide at (outer times inner) = contents wide (at + width wide + 2) inner
 
--- A block behind others.
+-- A block after others.
 abbrev pub with_block : ℕ → Bool → Bool → ℕ → Found → Block → Found
 with_block number wide live at f b = (
   f.0 + live_times live (times_of b) * unit_len b,

@@ -1,4 +1,4 @@
--- What indices may be, and the fields behind a fix byte as the definitions see them.
+-- What indices may be, and the fields after a fix byte as the definitions see them.
 use Rattle.std.specs.Prelude.{◌≡◌, ℕ, length, ◌==◌, if◌then◌else◌}
 use Rattle.obj_types.specs.declared.parts.ObjParts.{ObjParts}
 use Rattle.omf_fix.specs.declared.have.Have.{Have}

@@ -19,7 +19,7 @@ use omf_data::Marks;
 use omf_fields::{Fields, said};
 use std::alloc::Global;
 
-/// The fields of a fixup behind its first byte.
+/// The fields of a fixup after its first byte.
 #[derive(Clone, Copy, Debug)]
 pub struct FixupFields {
     low: u8,
@@ -36,7 +36,7 @@ fn is_dropped(last: &LastData) -> bool
     }
 }
 
-/// The fields of a fixup behind its first byte. Of a fixup on a debugger's data the thread and the methods alone are
+/// The fields of a fixup after its first byte. Of a fixup on a debugger's data the thread and the methods alone are
 /// judged.
 fn fixup_fields(
     fields: &mut Fields,
@@ -61,7 +61,7 @@ fn fixup_fields(
     Ok(FixupFields { low, data })
 }
 
-/// Reads a FIXUP behind its first byte, and adds its fixes.
+/// Reads a FIXUP after its first byte, and adds its fixes.
 fn fixup(
     alloc: Global,
     fields: &mut Fields,
@@ -92,7 +92,7 @@ fn fixup(
     place_fixup(alloc, into, marks, place, data)
 }
 
-/// Reads a THREAD behind its byte, and sets the thread.
+/// Reads a THREAD after its byte, and sets the thread.
 fn thread(
     fields: &mut Fields,
     start: FieldStart,

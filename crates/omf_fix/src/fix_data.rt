@@ -1,4 +1,4 @@
-//! A fix byte and the fields behind it.
+//! A fix byte and the fields after it.
 
 ghost use Rattle.std.specs.Prelude.{◌≡◌, ◌&&◌, not};
 ghost use Rattle.omf_fix.specs.Methods.{Counts};
@@ -17,9 +17,9 @@ use crate::methods::{
 use obj_types::{Frame, Goal, ObjParts, OmfRefusal, StartAt};
 use omf_fields::Fields;
 
-/// A fix byte, and what stands behind it.
+/// A fix byte, and what stands after it.
 #[derive(Clone, Copy, Debug)]
-pub struct FixFields {
+pub(crate) struct FixFields {
     fix: u8,
     frame: Option<u32>,
     target: Option<u32>,
@@ -73,10 +73,10 @@ fn displacement(fields: &mut Fields, wide: bool, fix: u8) -> Result<Option<u32>,
     Ok(Some(fields.number(wide)?))
 }
 
-/// The fix byte and the fields behind it. Of a fixup on a debugger's data, which is not `judged`, the thread and the
+/// The fix byte and the fields after it. Of a fixup on a debugger's data, which is not `judged`, the thread and the
 /// methods alone are judged.
 #[tactic(auto, unfolding(omf_model::specs::ReadFixups::fix_data_at))]
-pub fn fix_fields(
+pub(crate) fn fix_fields(
     fields: &mut Fields,
     wide: bool,
     judged: bool,
@@ -128,7 +128,7 @@ pub fn meaning(d: FixFields, before: &ObjParts) -> StartAt
     }
 }
 
-/// The start address of a MODEND record ("8Ah MODEND"), from its fix byte on, behind the records before it. Its
+/// The start address of a MODEND record ("8Ah MODEND"), from its fix byte on, after the records before it. Its
 /// displacement has 4 bytes where the record is `wide`.
 pub fn start_at(
     fields: &mut Fields,

@@ -100,7 +100,7 @@ pub struct Copies {
     pub contents: Vec<(usize, usize)>,
 }
 
-/// Repeats what was found behind a length and a number of places.
+/// Repeats what was found after a length and a number of places.
 fn repeat_found(found: &mut Copies, start: usize, before: usize, times: u32) -> Result<(), NoMemory>
     requires some { 1 ≤ times }
     requires there { start ≤ vec_len found.old.places }

@@ -1,4 +1,4 @@
-//! The fixup records, read field after field behind the records before them
+//! The fixup records, read field by field after the records before them
 //! ("Relocatable Object Module Format", "9Ch FIXUPP").
 #![tactic(auto)]
 
@@ -14,6 +14,6 @@ mod place;
 mod starts;
 mod threads;
 
-pub use fix_data::{FixFields, fix_fields, start_at};
+pub use fix_data::start_at;
 pub use fixupp::{fixups, fixups_marked};
 pub use have::Have;

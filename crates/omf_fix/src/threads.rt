@@ -44,7 +44,7 @@ fn is_thread_method(byte: u8) -> bool
     }
 }
 
-/// The index behind a THREAD's byte, where there is one. It may be that of a debug segment.
+/// The index after a THREAD's byte, where there is one. It may be that of a debug segment.
 #[tactic(auto, unfolding(omf_model::specs::ReadFixups::thread_at))]
 pub fn thread_index(
     fields: &mut Fields,

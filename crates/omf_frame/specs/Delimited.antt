@@ -2,7 +2,7 @@
 use Rattle.std.specs.Prelude.{◌≡◌, ℕ, ◌+◌, List, length, take, drop}
 use Rattle.lx_bytes.specs.LittleEndian.{little}
 
--- the length word behind the type byte
+-- the length word after the type byte
 abbrev pub length_word : List ℕ → ℕ
 length_word bytes = little (take 2 (drop 1 bytes))
 

@@ -45,7 +45,7 @@ struct Whole<'a> {
     sum: u8,
 }
 
-// Moves behind the record, if it is whole.
+// Moves past the record, if it is whole.
 fn whole_record<'a>(cur: &mut Cur<'a>) -> Option<Whole<'a>>
     ensures whole { IfSome result (λ w. BeginsWhole cur.old.left w.ty w.body.now w.checksum cur.new.left) }
     ensures sum { IfSome result (λ w. w.sum ≡ record_sum w.ty w.body.now w.checksum) }
@@ -67,7 +67,7 @@ fn whole_record<'a>(cur: &mut Cur<'a>) -> Option<Whole<'a>>
     })
 }
 
-/// The next record. The cursor is behind it then, and stays where no record is read. A record that is cut off
+/// The next record. The cursor is after it then, and stays where no record is read. A record that is cut off
 /// is refused before its type is looked at, and its type before its checksum.
 pub fn next_record<'a>(cur: &mut Cur<'a>) -> Result<Rec<'a>, FrameRefusal>
     // A record's spelling stood at the cursor.

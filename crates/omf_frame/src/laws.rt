@@ -5,10 +5,11 @@ ghost use Rattle.lx_bytes.specs.LittleEndian.{AreBytes};
 ghost use Rattle.omf_frame.specs.Frame.{BeginsWhole};
 ghost use Rattle.omf_frame.specs.Refusal.{IsCutOff};
 
+use crate::comment_class::{DEFAULT_LIBRARY, EXPDEF, EXTENSION, IMPDEF};
 use crate::record_type::{
     COMDAT, COMDAT_32, COMDEF, COMENT, EXTDEF, FIXUPP, FIXUPP_32, GRPDEF, LEDATA, LEDATA_32,
-    LEXTDEF, LEXTDEF_32, LHEADR, LIDATA, LIDATA_32, LINNUM, LINNUM_32, LNAMES, LPUBDEF, LPUBDEF_32,
-    MODEND, MODEND_32, PUBDEF, PUBDEF_32, SEGDEF, SEGDEF_32, THEADR,
+    LEXTDEF, LEXTDEF_32, LHEADR, LIBRARY_END, LIBRARY_HEADER, LIDATA, LIDATA_32, LINNUM, LINNUM_32,
+    LNAMES, LPUBDEF, LPUBDEF_32, MODEND, MODEND_32, PUBDEF, PUBDEF_32, SEGDEF, SEGDEF_32, THEADR,
 };
 
 /// Bytes begin with one record at most: no record's bytes are the front of another's.
@@ -49,6 +50,16 @@ pub fn type_numbers()
     ensures lpubdef_32 { LPUBDEF_32 ≡ 0xB7 }
     ensures comdat { COMDAT ≡ 0xC2 }
     ensures comdat_32 { COMDAT_32 ≡ 0xC3 }
+    ensures library_header { LIBRARY_HEADER ≡ 0xF0 }
+    ensures library_end { LIBRARY_END ≡ 0xF1 }
+{}
+
+/// A law: the classes of comments, and the subtypes of the class of extensions ("88h COMENT").
+pub fn comment_numbers()
+    ensures default_library { DEFAULT_LIBRARY ≡ 0x9F }
+    ensures extension { EXTENSION ≡ 0xA0 }
+    ensures impdef { IMPDEF ≡ 1 }
+    ensures expdef { EXPDEF ≡ 2 }
 {}
 
 /// A record is cut off exactly where no whole record begins.

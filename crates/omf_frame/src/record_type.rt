@@ -58,6 +58,12 @@ pub const COMDAT: u8 = 0xC2;
 
 pub const COMDAT_32: u8 = 0xC3;
 
+/// The header of a library, which is no record of an object module ("Microsoft LIB Library Format").
+pub const LIBRARY_HEADER: u8 = 0xF0;
+
+/// The end of a library's modules.
+pub const LIBRARY_END: u8 = 0xF1;
+
 /// Whether a record of an object module may have this type.
 pub fn is_known(ty: u8) -> bool
     ensures { result ≡ is_record_type ty }

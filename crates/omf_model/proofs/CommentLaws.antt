@@ -66,7 +66,7 @@ entry_complete flag c (by_ordinal n) d t ok =
     let plain : Spans (number 2 n) c d = record { front = t.front; joined = t.joined; moved = t.moved; so = t.so.1 } in
     rw (ne_eqb flag 0 t.so.0, number_complete 2 c n d plain tt) refl
 
--- behind the class and the subtype
+-- after the class and the subtype
 abbrev impdef_rest : ImpDef → Form
 impdef_rest d = byte d.flag then name d.internal then name d.from then entry_form d.flag d.entry then anything
 

@@ -38,7 +38,7 @@ use Rattle.omf_model.proofs.EndLaws.{in-bounds}
 
 -- ---- lists
 
--- what stands behind the items of a list
+-- what stands after the items of a list
 get-behind : {A : Type 0} (P : A → Type 0) (xs ys : List A) (k j : ℕ) → j ≡ length xs + k → IsSomeAnd (slice_get ys k) P → IsSomeAnd (slice_get (xs ++ ys) j) P
 get-behind P [] ys k j e h = subst (λ (i : ℕ). IsSomeAnd (slice_get ys i) P) (let same : k ≡ j = omega (arith, e) in same) h
 get-behind P (x ∷ xs) ys k zero e h = absurd (omega (arith, e))

@@ -1,4 +1,4 @@
--- A fix byte and what stands behind it: what is read is spelled so and good, and what is so is read.
+-- A fix byte and what stands after it: what is read is spelled so and good, and what is so is read.
 use Rattle.std.proofs.Common.{◌≡◌, ℕ, ◌%◌, ◌≤◌, Bool, true, false, cond, eqb, List, length, get_or, Option, Some, None, Ok, refl, ap, subst, ◌∙◌, inl, inr}
 use Rattle.std.specs.Prelude.{◌&&◌, ◌||◌, IfSome, not, is_some, unwrap_or}
 use Rattle.std.proofs.lemmas.Bool.{eqb-true, and_from}

@@ -17,7 +17,7 @@ use Rattle.obj_types.specs.declared.symbol.PubPlace.TheVariants.{In, Const}
 use Rattle.obj_types.specs.Items.{item}
 use Rattle.obj_types.specs.Whole.{IsPlainSeg, LiesIn, WholeGroup, WholePlace, WholeFrame, WholeGoal, WholeFix, WholeStart}
 
--- m has what old has, and maybe more behind it
+-- m has what old has, and maybe more after it
 pub record Grows (old m : ObjModule) : Type 0 where
   pub more_segs : List Seg
   pub segs : m.segs ≡ old.segs ++ more_segs

@@ -232,7 +232,7 @@ pub nothing_left : (p : ObjParts) (c : Cursor) → c.left ≡ [] → record_at p
 unfolding record_at raw_at whole_at
 nothing_left p c none = rw none refl
 
--- behind records that are good and open the next one is at fault
+-- after records that are good and open the next one is at fault
 record Faults (before : List Record) (c : Cursor) (refusal : OmfRefusal) : Type 0 where
   records : List Record
   behind : Cursor

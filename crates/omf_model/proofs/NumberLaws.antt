@@ -70,9 +70,9 @@ end-reached xs q =
     let last : fold with_end (greatest_end xs q.seg) (filter (of_number q.seg) (q ∷ [])) ≡ with_end (greatest_end xs q.seg) q = rw (eq-eqb q.seg q.seg refl) refl in
     omega (arith, end-append xs (q ∷ []) q.seg, last)
 
--- ---- more behind what there is
+-- ---- more after what there is
 
--- q has what p has, and maybe more behind it
+-- q has what p has, and maybe more after it
 pub record PartsGrow (p q : ObjParts) : Type 0 where
   pub «module» : Grows p.module q.module
   pub more_pieces : List Piece

@@ -57,6 +57,6 @@ up_one size n f k a b small little =
 pub multiple_sum : (size m n : ℕ) → IsMultiple size m → IsMultiple size n → IsMultiple size (m + n)
 multiple_sum size m n a b = record { times = a.times + b.times; is = (λ i. a.is i + b.is i) ∙ sym (add-mul a.times b.times size) }
 
--- behind a multiple as much is left as behind 0
+-- after a multiple as much is left as after 0
 pub up_behind : (size m n : ℕ) → IsMultiple size m → up_from size (m + n) ≡ up_from size n
 up_behind size m n a = ap (λ (x : ℕ). (size - x) % size) (ap (λ (y : ℕ). (y + n) % size) a.is ∙ mul-add-mod_self_right a.times size n)

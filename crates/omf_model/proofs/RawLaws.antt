@@ -29,7 +29,7 @@ raw at ty body checksum rest = record { at = at; ty = ty; contents = body; check
 raw_is : (f : RawRecord) (at ty : ℕ) (body : List ℕ) (checksum : ℕ) (rest : List ℕ) → f.at ≡ at → f.ty ≡ ty → f.contents ≡ body → f.checksum ≡ checksum → f.after.at ≡ at + 4 + length body → f.after.left ≡ rest → f ≡ raw at ty body checksum rest
 raw_is f at ty body checksum rest a b c d e g = λ i. record { at = a i; ty = b i; contents = c i; checksum = d i; after = record { at = e i; left = g i } }
 
--- the bytes after the length word, up to the checksum and behind it
+-- the bytes after the length word, up to the checksum and after it
 tail_parts : (k : ℕ) (xs : List ℕ) → suc k ≤ length xs → take k xs ++ get_or xs k 0 ∷ [] ++ drop (suc k) xs ≡ xs
 tail_parts k xs long = ap (λ (ys : List ℕ). ys ++ drop (suc k) xs) (sym (take-suc xs k 0 (omega (arith, long)))) ∙ take-append-drop (suc k) xs
 

@@ -349,7 +349,7 @@ module _ (low high : ℕ) where
       then-stays Behind Behind (index_or_zero (length p.module.groups) c) _ (or_zero-in (length p.module.groups) c h) λ g k1.
       then-stays Behind Behind (base_segment_at p g.1) _ (base_segment-in p g.1 k1) λ s k2. k2
 
-  -- the cursor behind a byte
+  -- the cursor after a byte
   abbrev Next : ℕ → {A : Type 0} → A × Cursor → Type 0
   Next at x = IsIn x.1 × (x.1.at ≡ at + 1)
 
@@ -360,7 +360,7 @@ module _ (low high : ℕ) where
       of at [] lo hi = (lo, omega (arith, hi))
       of at (b ∷ rest) lo hi = ((omega (arith, lo), omega (arith, hi)), refl)
 
-  -- the offset stands behind three bytes, which were read
+  -- the offset stands after three bytes, which were read
   abbrev HasPlace : ℕ → ComDat → Type 0
   HasPlace at d = at + 3 ≤ high
 

@@ -13,7 +13,7 @@ use Rattle.omf_model.specs.Items.{names_in, segs_in, groups_in, pubs_in, exts_in
 abbrev pub begun_so_far : ObjParts → List (List ℕ)
 begun_so_far p = begun_names p.comdats
 
--- The module with the record's items behind its own.
+-- The module with the record's items after its own.
 unfoldable pub module_with : ObjParts → Record → ObjModule
 module_with p r = record {
   name = latest p.module.name (header_in r);

@@ -1,4 +1,4 @@
--- The module that an unfinished one is at its end: the segments of its COMDATs stand behind all others, and what named
+-- The module that an unfinished one is at its end: the segments of its COMDATs stand after all others, and what named
 -- them by the numbers of an unfinished module names them by their indices.
 use Rattle.std.specs.Prelude.{ℕ, ◌+◌, ◌-◌, List, ◌++◌, length, map, max, filter, nat_le, ◌==◌, if◌then◌else◌, bytes_eq, codes}
 use Rattle.std.specs.List.{fold, enumerate_from}
@@ -15,7 +15,7 @@ use Rattle.obj_types.specs.declared.parts.BegunComdat.{BegunComdat}
 use Rattle.obj_types.specs.declared.parts.ObjParts.{ObjParts}
 use Rattle.obj_types.specs.declared.parts.TheConstants.{COMDAT_BASE}
 
--- The index behind so many segments for the number of a segment.
+-- The index after so many segments for the number of a segment.
 abbrev pub index_for : ℕ → ℕ → ℕ
 index_for segs number = if nat_le number COMDAT_BASE then number else segs + (number - COMDAT_BASE)
 

@@ -9,6 +9,7 @@ use Rattle.obj_types.specs.declared.refusal.OmfRefusal.TheVariants.{Short, BadFi
 use Rattle.obj_types.specs.declared.object.ObjModule.{ObjModule}
 use Rattle.omf_fields.specs.Forms.{Form, ◌then◌}
 use Rattle.omf_model.specs.Object.{IsModule, FaultAt}
+use Rattle.omf_frame.specs.declared.record_type.TheConstants.{LIBRARY_HEADER, LIBRARY_END}
 use Rattle.omf_model.specs.ReadModule.{is_page_size, up_to_page, ends_library}
 
 -- A module, and zeros or other bytes up to a multiple of the page size, the file's place of the first
@@ -24,13 +25,13 @@ pub record IsPaged (size : ℕ) (bytes : List ℕ) (m : ObjModule) : Type 0 wher
 
 -- Modules, each up to a page's end, and then F1h and anything.
 abbrev pub ArePaged : ℕ → List ObjModule → Form
-ArePaged size [] bytes = slice_index bytes 0 ≡ 0xF1
+ArePaged size [] bytes = slice_index bytes 0 ≡ LIBRARY_END
 ArePaged size (m ∷ ms) bytes = ((λ front. IsPaged size front m) then ArePaged size ms) bytes
 
 -- The header: F0h, a length that is the page size less 3, and so many bytes.
 pub record IsHeader (size : ℕ) (bytes : List ℕ) : Type 0 where
   pub contents : List ℕ
-  pub joined : bytes ≡ 0xF0 ∷ little_bytes 2 (size - 3) ++ contents
+  pub joined : bytes ≡ LIBRARY_HEADER ∷ little_bytes 2 (size - 3) ++ contents
   pub whole : length bytes ≡ size
   pub page : is_page_size size ≡ true
 
@@ -40,11 +41,11 @@ pub record Lib (bytes : List ℕ) (ms : List ObjModule) : Type 0 where
 
 -- ---- faults
 
--- A cursor behind a module.
+-- A cursor after a module.
 abbrev pub behind : ℕ → List ℕ → List ℕ → Cursor
 behind at body rest = record { at = at + length body; left = rest }
 
--- The first fault in a module's place: that of the module, or behind a module one in the next place, which
+-- The first fault in a module's place: that of the module, or after a module one in the next place, which
 -- is the next multiple of the page size, also where it is past the end.
 pub data PageFault (size : ℕ) : ℕ → List ℕ → OmfRefusal → Type 0 where
   in_module : {at : ℕ} {bytes : List ℕ} {refusal : OmfRefusal} → ends_library bytes ≡ false → FaultAt at bytes refusal → PageFault size at bytes refusal
@@ -55,9 +56,9 @@ pub data PageFault (size : ℕ) : ℕ → List ℕ → OmfRefusal → Type 0 whe
 -- gives no page size, or its modules have one.
 pub data LibraryFault : List ℕ → OmfRefusal → Type 0 where
   no_record : {bytes : List ℕ} → IsCutOff bytes → LibraryFault bytes (Short 0)
-  other_type : {bytes : List ℕ} (ty : ℕ) (body : List ℕ) (checksum : ℕ) (rest : List ℕ) → BeginsWhole bytes ty body checksum rest → ty ≢ 0xF0 →
+  other_type : {bytes : List ℕ} (ty : ℕ) (body : List ℕ) (checksum : ℕ) (rest : List ℕ) → BeginsWhole bytes ty body checksum rest → ty ≢ LIBRARY_HEADER →
       LibraryFault bytes (BadField 0)
-  no_page : {bytes : List ℕ} (body : List ℕ) (checksum : ℕ) (rest : List ℕ) → BeginsWhole bytes 0xF0 body checksum rest →
+  no_page : {bytes : List ℕ} (body : List ℕ) (checksum : ℕ) (rest : List ℕ) → BeginsWhole bytes LIBRARY_HEADER body checksum rest →
       is_page_size (4 + length body) ≡ false → LibraryFault bytes (BadField 1)
   in_modules : {bytes : List ℕ} {refusal : OmfRefusal} (size : ℕ) (front back : List ℕ) → bytes ≡ front ++ back → IsHeader size front →
       PageFault size size back refusal → LibraryFault bytes refusal

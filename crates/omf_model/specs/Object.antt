@@ -27,13 +27,13 @@ pub record IsModule (bytes : List ℕ) (m : ObjModule) : Type 0 where
   pub spelled : SpellsAll records bytes
   pub meant : m ≡ finished (parts_of records)
 
--- An object file means m: it begins with the records of such a module. Bytes behind them are not read.
+-- An object file means m: it begins with the records of such a module. Bytes after them are not read.
 abbrev pub Obj : List ℕ → ObjModule → Type 0
 Obj bytes m = ((λ front. IsModule front m) then anything) bytes
 
 -- ---- faults
 
--- Records of a module without fault, none of which ends it, and behind them the fault of what should be
+-- Records of a module without fault, none of which ends it, and after them the fault of what should be
 -- the next record. The fault of one record is the first of its fields' conditions that does not hold.
 pub record FaultsAfter (at : ℕ) (bytes : List ℕ) (refusal : OmfRefusal) : Type 0 where
   pub records : List Record

@@ -11,7 +11,7 @@ use Rattle.obj_types.specs.declared.refusal.OmfRefusal.TheVariants.{Short, BadCh
 use Rattle.lx_types.specs.Answers.{◌>>=◌}
 use Rattle.omf_fields.specs.Fields.{check}
 
--- A record's bytes: its first place, its type, its contents, its checksum byte, and what is behind it.
+-- A record's bytes: its first place, its type, its contents, its checksum byte, and what is after it.
 pub record RawRecord : Type 0 where
   pub at : ℕ
   pub ty : ℕ

@@ -13,7 +13,7 @@ use Rattle.omf_model.specs.ReadModule.{reader_of}
 abbrev pub contents_at : ℕ → List ℕ → Cursor
 contents_at at contents = record { at = at + 3; left = contents }
 
--- The unfinished module after a record that was read behind it.
+-- The unfinished module with the record that was read after it.
 abbrev pub then_add : ObjParts → Result Record OmfRefusal → Result ObjParts OmfRefusal
 then_add p read = read >>= λ r. Ok (add p r)
 

@@ -61,7 +61,7 @@ is_in_turn p d =
 abbrev pub number_so_far : ObjParts → ComDat → ℕ
 number_so_far p d = number_of (begun_names p.comdats) (name_with p.names d.name)
 
--- The place of the offset, behind three bytes.
+-- The place of the offset, after three bytes.
 abbrev pub offset_place : Cursor → ℕ
 offset_place c = c.at + 3
 

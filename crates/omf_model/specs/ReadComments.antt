@@ -4,6 +4,7 @@ use Rattle.lx_bytes.specs.Cursor.{Cursor}
 use Rattle.obj_types.specs.declared.refusal.OmfRefusal.{OmfRefusal}
 use Rattle.obj_types.specs.declared.refusal.OmfRefusal.TheVariants.{BadField}
 use Rattle.lx_types.specs.Answers.{◌>>=◌}
+use Rattle.omf_frame.specs.declared.comment_class.TheConstants.{DEFAULT_LIBRARY, EXTENSION, IMPDEF, EXPDEF}
 use Rattle.omf_fields.specs.Fields.{Reading, check, byte_at, number_at, name_at, where_so}
 use Rattle.omf_model.specs.Record.{Record, comment, default_library, impdef, expdef, ImpEntry, by_ordinal, by_name}
 
@@ -35,13 +36,13 @@ expdef_at c = do
   ordinal ← where_so (nat_le 128 flag.0) (number_at 2) internal.1
   Ok (expdef (record { flag = flag.0; exported = exported.0; internal = internal.0; ordinal = ordinal.0 }))
 
--- The subtypes of class A0h.
+-- The subtypes of the class of extensions.
 unfoldable pub extension_at : Cursor → Result Record OmfRefusal
 extension_at c = do
   subtype ← byte_at c
-  if subtype.0 == 1 then impdef_at subtype.1 else if subtype.0 == 2 then expdef_at subtype.1 else Ok comment
+  if subtype.0 == IMPDEF then impdef_at subtype.1 else if subtype.0 == EXPDEF then expdef_at subtype.1 else Ok comment
 
--- The text of class 9Fh is a name without a length byte.
+-- The text of the class of default libraries is a name without a length byte.
 abbrev pub library_at : Cursor → Result Record OmfRefusal
 library_at c = if nat_lt 255 (length c.left) then Err (BadField c.at) else Ok (default_library c.left)
 
@@ -49,4 +50,4 @@ unfoldable pub coment_at : Cursor → Result Record OmfRefusal
 coment_at c = do
   flags ← byte_at c
   class ← byte_at flags.1
-  if class.0 == 0x9F then library_at class.1 else if class.0 == 0xA0 then extension_at class.1 else Ok comment
+  if class.0 == DEFAULT_LIBRARY then library_at class.1 else if class.0 == EXTENSION then extension_at class.1 else Ok comment

@@ -22,7 +22,7 @@ use Rattle.omf_model.specs.Fixups.{has_index, frame_meant, goal_meant, has_data,
 use Rattle.omf_model.specs.Items.{is_debug_seg}
 use Rattle.omf_model.specs.Add.{add_field}
 
--- ---- what stands behind a fix byte
+-- ---- what stands after a fix byte
 
 -- An index of a method's kind; of a fixup on data of a debug segment it may be any.
 abbrev pub method_index_at : Bool → ObjParts → ℕ → Cursor → Reading ℕ

@@ -9,6 +9,7 @@ use Rattle.obj_types.specs.declared.refusal.OmfRefusal.TheVariants.{Short, BadFi
 use Rattle.obj_types.specs.declared.object.ObjModule.{ObjModule}
 use Rattle.obj_types.specs.declared.parts.ObjParts.{ObjParts}
 use Rattle.obj_types.specs.Fresh.{fresh_parts}
+use Rattle.omf_frame.specs.declared.record_type.TheConstants.{LIBRARY_HEADER, LIBRARY_END}
 use Rattle.omf_fields.specs.Within.{within}
 use Rattle.lx_types.specs.Answers.{◌>>=◌}
 use Rattle.omf_fields.specs.Fields.{Reading, check, name_at}
@@ -104,7 +105,7 @@ up_to_page size c = advance ((size - c.at % size) % size) c
 -- F1h in a module's place ends a library, and nothing after its type byte is read.
 abbrev pub ends_library : List ℕ → Bool
 ends_library [] = false
-ends_library (b ∷ rest) = b == 0xF1
+ends_library (b ∷ rest) = b == LIBRARY_END
 
 abbrev pub modules_turn : ℕ → (Cursor → Result (List ObjModule) OmfRefusal) → Cursor → Result (List ObjModule) OmfRefusal
 modules_turn size others_at c = if ends_library c.left then Ok [] else do
@@ -125,6 +126,6 @@ modules_at size c = modules_within (length c.left) size c
 unfoldable pub library_of : List ℕ → Result (List ObjModule) OmfRefusal
 library_of bytes = do
   f ← whole_at (record { at = 0; left = bytes })
-  _ ← check (f.ty == 0xF0) (BadField 0)
+  _ ← check (f.ty == LIBRARY_HEADER) (BadField 0)
   _ ← check (is_page_size f.after.at) (BadField 1)
   modules_within (length bytes) f.after.at f.after

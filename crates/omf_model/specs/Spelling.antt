@@ -1,6 +1,7 @@
 -- What bytes spell a record: its type, its contents, and the record around them.
 -- "Relocatable Object Module Format", the sections of the record types.
 use Rattle.std.specs.Prelude.{◌≡◌, ◌≢◌, ℕ, ◌+◌, ◌≤◌, ◌<◌, ◌⊎◌, Bool, true, false, ◌&&◌, not, List, [], ◌∷◌, Contains, nat_le, ◌==◌, if◌then◌else◌}
+use Rattle.omf_frame.specs.declared.comment_class.TheConstants.{DEFAULT_LIBRARY, EXTENSION, IMPDEF, EXPDEF}
 use Rattle.omf_frame.specs.Frame.{BeginsRecord}
 use Rattle.omf_model.specs.Blocks.{block_bytes}
 use Rattle.omf_fields.specs.Fields.{width}
@@ -39,22 +40,24 @@ types_of (modend kind start) = pair 0x8A
 abbrev pub class_form : ℕ → Form
 class_form class = Then (λ bytes. (flags : ℕ) × byte flags bytes) (byte class)
 
--- Another class than 9Fh and A0h, or another subtype of A0h than 01h and 02h.
+-- Another class than these two, or another subtype of extensions than these two.
 abbrev pub other_comment : Form
 other_comment bytes =
-    ((class : ℕ) × (class ≢ 0x9F) × (class ≢ 0xA0) × (class_form class then anything) bytes)
-    ⊎ ((subtype : ℕ) × (subtype ≢ 1) × (subtype ≢ 2) × (class_form 0xA0 then byte subtype then anything) bytes)
+    ((class : ℕ) × (class ≢ DEFAULT_LIBRARY) × (class ≢ EXTENSION) × (class_form class then anything) bytes)
+    ⊎ ((subtype : ℕ) × (subtype ≢ IMPDEF) × (subtype ≢ EXPDEF) × (class_form EXTENSION then byte subtype then anything) bytes)
 
 abbrev pub entry_form : ℕ → ImpEntry → Form
 entry_form flag (by_ordinal n) bytes = (flag ≢ 0) × number 2 n bytes
 entry_form flag (by_name text) bytes = (flag ≡ 0) × name text bytes
 
 abbrev pub impdef_form : ImpDef → Form
-impdef_form d = class_form 0xA0 then byte 1 then byte d.flag then name d.internal then name d.from then entry_form d.flag d.entry then anything
+impdef_form d =
+    class_form EXTENSION then byte IMPDEF then byte d.flag then name d.internal then name d.from then entry_form d.flag d.entry then anything
 
 abbrev pub expdef_form : ExpDef → Form
 expdef_form d =
-    class_form 0xA0 then byte 2 then byte d.flag then name d.exported then name d.internal then present (nat_le 128 d.flag) (number 2) d.ordinal then anything
+    class_form EXTENSION then byte EXPDEF then byte d.flag then name d.exported then name d.internal
+    then present (nat_le 128 d.flag) (number 2) d.ordinal then anything
 
 abbrev pub segdef_form : Bool → SegDef → Form
 segdef_form wide d bytes = (is_too_long wide d.attributes d.len ≡ false) × (
@@ -110,7 +113,7 @@ abbrev pub contents_form : Bool → Record → Form
 contents_form wide (header text) = name text then anything
 contents_form wide passed = anything
 contents_form wide comment = other_comment
-contents_form wide (default_library text) = class_form 0x9F then λ bytes. bytes ≡ text
+contents_form wide (default_library text) = class_form DEFAULT_LIBRARY then λ bytes. bytes ≡ text
 contents_form wide (impdef d) = impdef_form d
 contents_form wide (expdef d) = expdef_form d
 contents_form wide (lnames texts) = each name texts

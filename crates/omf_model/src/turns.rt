@@ -35,7 +35,7 @@ pub fn records_turn_by_turn()
     ensures more { (most : ℕ) (p : ObjParts) (c : Cursor) → AreBytes c.left → length c.left ≤ most → rest_within most p c ≡ rest_at p c }
 {}
 
-/// The modules of a library, behind those that were read.
+/// The modules of a library, after those that were read.
 pub fn modules_turn_by_turn()
     ensures next { (size : ℕ) (ms : List ObjModule) (c : Cursor) (m : ObjModule) (d : Cursor) → AreBytes c.left → ends_library c.left ≡ false →
         module_at c ≡ Ok (m, d) → onto ms (modules_at size c) ≡ onto (ms ++ m ∷ []) (modules_at size (up_to_page size d)) }

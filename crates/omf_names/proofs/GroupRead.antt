@@ -27,7 +27,7 @@ with_groups p xs = record p { «module» = record p.module { groups = xs } }
 abbrev pub flat : ObjParts → ℕ → Bool
 flat p n = bytes_eq (name_with p.names n) (codes "FLAT")
 
--- the members behind the name
+-- the members after the name
 abbrev pub behind : ObjParts → Reading ℕ → Result ObjParts OmfRefusal
 behind p name = name >>= λ n. list_at (member_at (flat p n.0) p) n.1 >>= λ members. Ok (with_groups p (p.module.groups ++ group_of (name_with p.names n.0) members ∷ []))
 

@@ -10,7 +10,7 @@ use Rattle.omf_fields.specs.Fields.{Reading, list_at}
 use Rattle.omf_fields.specs.Taking.{TakesBytes}
 use Rattle.omf_fields.proofs.ItemLaws.{list-none, list-next}
 
--- what is read, each item by what it means, behind the items that are there
+-- what is read, each item by what it means, after the items that are there
 abbrev pub mapped : {A B : Type 0} → (A → B) → List B → Result (List A) OmfRefusal → Result (List B) OmfRefusal
 mapped f items r = r >>= λ xs. Ok (items ++ map f xs)
 
@@ -38,7 +38,7 @@ pub record ListIn {B : Type 0} (get : ObjParts → List B) (set : ObjParts → L
   pub got : (p : ObjParts) (xs : List B) → get (set p xs) ≡ xs
   pub twice : (p : ObjParts) (xs ys : List B) → set (set p xs) ys ≡ set p ys
 
--- The parts so far are the old ones with more items, and what is still to be read goes behind these.
+-- The parts so far are the old ones with more items, and what is still to be read goes after these.
 pub record SoFar {A B : Type 0} (one : Cursor → Reading A) (f : A → B) (get : ObjParts → List B) (set : ObjParts → List B → ObjParts) (start : Cursor) (old now : ObjParts) (c : Cursor) : Type 0 where
   pub others : now ≡ set old (get now)
   pub read : mapped f (get now) (list_at one c) ≡ mapped f (get old) (list_at one start)

@@ -14,7 +14,7 @@ use Rattle.omf_model.specs.Add.{add}
 use Rattle.omf_model.specs.ReadNames.{lnames_at}
 use Rattle.omf_model.specs.ReadAfter.{then_add, read_after, contents_at}
 
--- The parts so far are the old ones with more names, and the names that are still to be read go behind these.
+-- The parts so far are the old ones with more names, and the names that are still to be read go after these.
 pub record NamesSoFar (start : Cursor) (old now : ObjParts) (c : Cursor) : Type 0 where
   pub others : now ≡ record old { names = now.names }
   pub read : onto now.names (list_at name_at c) ≡ onto old.names (list_at name_at start)

@@ -25,7 +25,7 @@ with_pubs p xs = record p { «module» = record p.module { pubs = xs } }
 pub pubs-in : ListIn pubs with_pubs
 pubs-in = record { got = λ p xs. refl; twice = λ p xs ys. refl }
 
--- the names behind the fields that they share
+-- the names after the fields that they share
 abbrev pub behind : Bool → Bool → ObjParts → Reading ℕ → Result ObjParts OmfRefusal
 behind local wide p base = base >>= λ b. parts_or with_pubs p (mapped (pub_of local b.0) p.module.pubs (list_at (pub_at wide) b.1))
 

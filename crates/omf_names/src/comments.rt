@@ -13,18 +13,9 @@ use lx_types::{EntryKey, Fail, Name, NoMemory, Seq};
 use obj_types::{Exp, Imp, Imports, ObjParts, OmfRefusal};
 use omf_fields::Fields;
 use omf_frame::Rec;
+use omf_frame::comment_class::{DEFAULT_LIBRARY, EXPDEF, EXTENSION, IMPDEF};
 use omf_frame::record_type::COMENT;
 use std::alloc::Global;
-
-// The classes that say something to a linker.
-const DEFAULT_LIBRARY: u8 = 0x9F;
-
-const EXTENSION: u8 = 0xA0;
-
-// The subtypes of class A0h.
-const IMPDEF: u8 = 1;
-
-const EXPDEF: u8 = 2;
 
 // In an EXPDEF's flag byte, whether an ordinal stands there.
 const HAS_ORDINAL: u8 = 0x80;
@@ -128,7 +119,7 @@ fn export_fields<'a>(fields: &mut Fields<'a>) -> Result<ExpFields<'a>, OmfRefusa
     })
 }
 
-/// The comment of class A0h.
+/// The comment of the class of extensions.
 #[tactic(auto, unfolding(omf_model::specs::ReadComments::extension_at))]
 fn extension<'a>(fields: &mut Fields<'a>) -> Result<Comment<'a>, OmfRefusal>
     ensures read { Gives comment_record as_is result (extension_at fields.old) }
@@ -144,7 +135,7 @@ fn extension<'a>(fields: &mut Fields<'a>) -> Result<Comment<'a>, OmfRefusal>
     }
 }
 
-/// The comment of class 9Fh: all bytes that are left are the name.
+/// The comment of the class of default libraries: all bytes that are left are the name.
 fn library<'a>(fields: &Fields<'a>) -> Result<Comment<'a>, OmfRefusal>
     ensures read { Gives comment_record as_is result (library_at fields.now) }
     ensures short { IfOk result IsShort }

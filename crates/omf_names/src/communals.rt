@@ -64,7 +64,7 @@ fn near(fields: &mut Fields) -> Result<Storage, OmfRefusal>
     Ok(Storage::Near { size })
 }
 
-/// The storage's type byte, and what it says stands behind it.
+/// The storage's type byte, and what it says stands after it.
 #[tactic(auto, unfolding(omf_model::specs::ReadNames::communal_at))]
 fn asked_storage(fields: &mut Fields) -> Result<Storage, OmfRefusal>
     ensures read { Reads communal as_is result communal_at fields.old fields.new }

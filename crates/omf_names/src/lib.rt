@@ -1,4 +1,4 @@
-//! The records of names, segments, groups and symbols, each read behind the records before it
+//! The records of names, segments, groups and symbols, each read after the records before it
 //! ("Relocatable Object Module Format").
 #![tactic(auto)]
 

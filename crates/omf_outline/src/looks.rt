@@ -7,7 +7,7 @@ fn new_header(bytes: &[u8]) -> Option<&[u8]> {
     bytes.get(place..)?.get(..2)
 }
 
-// What stands behind a DOS header.
+// What stands after a DOS header.
 fn behind_stub(bytes: &[u8]) -> &'static str {
     let header = new_header(bytes).unwrap_or(&[]);
     if header == b"LX".as_slice() {

@@ -1,4 +1,4 @@
-//! The records of an object file, as they stand one behind the other.
+//! The records of an object file, as they stand one after the other.
 
 /// A record: its place in the file, its type, and its contents without the checksum.
 #[derive(Clone, Copy)]
@@ -19,7 +19,7 @@ pub fn record_at(bytes: &[u8], at: usize) -> Option<Record<'_>> {
 }
 
 impl<'a> Record<'a> {
-    /// The place behind the record.
+    /// The place after the record.
     pub fn end(&self) -> usize {
         self.at.saturating_add(self.body.len()).saturating_add(4)
     }
@@ -44,7 +44,7 @@ pub fn page_size(bytes: &[u8]) -> Option<usize> {
     Some(usize::from(length) + 3)
 }
 
-/// The place of the record that follows one: behind it, or at the library's next page where it ends a module.
+/// The place of the record that follows one: after it, or at the library's next page where it ends a module.
 pub fn next_place(record: &Record<'_>, page: Option<usize>) -> usize {
     match page {
         Some(size) if record.is_last() => match record.end().checked_next_multiple_of(size) {

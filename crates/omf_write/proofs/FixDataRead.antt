@@ -1,4 +1,4 @@
--- A written fix byte and what stands behind it are read as their frame, goal and displacement.
+-- A written fix byte and what stands after it are read as their frame, goal and displacement.
 use Rattle.std.proofs.Common.{◌≡◌, ℕ, ◌+◌, ◌*◌, ◌/◌, ◌%◌, ◌<◌, ◌≤◌, Bool, true, false, cond, List, [], ◌∷◌, ◌++◌, length, get_or, Option, Some, None, refl, sym, ap, subst, ◌∙◌, arith, length-append}
 use Rattle.std.proofs.lemmas.Bool.Decides.{nat_tests}
 use Rattle.std.specs.Prelude.{◌==◌, ◌&&◌, ◌||◌, not, nat_le, IfSome, IsSome, IsSomeAnd, is_some, unwrap_or, option_map}

@@ -5,7 +5,8 @@ use Rattle.std.proofs.lemmas.Bool.Decides.{nat_tests}
 use Rattle.std.specs.Prelude.{nat_le}
 use Rattle.std.specs.List.{flat_map}
 use Rattle.obj_types.specs.declared.object.FixAt.{FixAt}
-use Rattle.omf_write.specs.ObjectBytes.{fixup_bytes, fixupp_record, fixupp_records, PER_RECORD}
+use Rattle.omf_write.specs.declared.fixups.TheConstants.{PER_RECORD}
+use Rattle.omf_write.specs.ObjectBytes.{fixup_bytes, fixupp_record, fixupp_records}
 use Rattle.omf_write.proofs.FixDataRead.{fix_data_len}
 
 pub bytes_len : (from : ℕ) (fixes : List FixAt) → length (flat_map (fixup_bytes from) fixes) ≤ 11 * length fixes

@@ -1,4 +1,4 @@
--- Written fixups are read as what they were, behind the data on which they lie.
+-- Written fixups are read as what they were, after the data on which they lie.
 use Rattle.std.proofs.Common.{◌≡◌, ℕ, zero, suc, ◌+◌, ◌-◌, ◌*◌, ◌/◌, ◌%◌, ◌<◌, ◌≤◌, Bool, true, false, List, [], ◌∷◌, ◌++◌, length, map, take, drop, refl, sym, ap, subst, ◌∙◌, append_assoc, arith, length-append}
 use Rattle.std.proofs.lemmas.List.{append-nil, take-append-drop, length-take, length-drop}
 use Rattle.std.proofs.lemmas.Bool.Decides.{nat_tests}
@@ -25,7 +25,8 @@ use Rattle.omf_model.specs.Spelling.{field_form, fix_data_form}
 use Rattle.omf_model.specs.Good.{GoodField, GoodFields}
 use Rattle.omf_model.proofs.FixLaws.{and_true}
 use Rattle.omf_model.proofs.PairLaws.{Pairs}
-use Rattle.omf_write.specs.ObjectBytes.{bit, location_high, fixup_bytes, fix_data_bytes, fixupp_record, fixupp_records, PER_RECORD, records_needed}
+use Rattle.omf_write.specs.declared.fixups.TheConstants.{PER_RECORD}
+use Rattle.omf_write.specs.ObjectBytes.{bit, location_high, fixup_bytes, fix_data_bytes, fixupp_record, fixupp_records, records_needed}
 use Rattle.omf_write.specs.Writable.{LiesOn}
 use Rattle.omf_write.proofs.FieldBytes.{spells_as}
 use Rattle.omf_write.proofs.FixupBytes.{bytes_len}

@@ -1,4 +1,4 @@
--- Bytes that can stand behind an unfinished module, and what they make of it: the parts of an object file, put
+-- Bytes that can stand after an unfinished module, and what they make of it: the parts of an object file, put
 -- together from the front.
 use Rattle.std.proofs.Common.{◌≡◌, ℕ, false, List, [], ◌∷◌, ◌++◌, Option, refl, sym, ap, subst, ◌∙◌, append_assoc}
 use Rattle.std.proofs.lemmas.List.{append-nil}
@@ -77,7 +77,7 @@ goes_on p q r a b first second = record {
 
 -- ---- items of one kind
 
--- Where each item's bytes put it behind those before, the bytes of a list put its items there.
+-- Where each item's bytes put it after those before, the bytes of a list put its items there.
 pub items : {A : Type 0} (state : List A → ObjParts) (bytes : A → List ℕ) (P : A → Type 0) → ((before : List A) (x : A) → P x → Goes (state before) (bytes x) (state (before ++ x ∷ [])))
     → (before xs : List A) → AllByRecursion P xs → Goes (state before) (flat_map bytes xs) (state (before ++ xs))
 items {A = A} state bytes P step before [] all = subst (λ (ys : List A). Goes (state before) [] (state ys)) (sym (append-nil before)) (stays (state before))

@@ -43,11 +43,11 @@ framed ty body short known = record {
 spells : (r : Record) (ty : ℕ) (body : List ℕ) → Contains (types_of r) (ty, false) → length body < 65535 → IsRecordType ty → contents_form false r body → Spells (record_of ty body) r
 spells r ty body is short known content = record { ty = ty; wide = false; contents = body; is_type = is; framed = framed ty body short known; content = content }
 
--- one form behind another
+-- one form after another
 pub both : (first second : Form) (front back : List ℕ) → first front → second back → (first then second) (front ++ back)
 both first second front back a b = record { front = front; back = back; joined = refl; first_so = a; second_so = b }
 
--- nothing more is behind
+-- nothing more follows
 pub last : (first : Form) (front : List ℕ) → first front → (first then nothing) front
 last first front a = record { front = front; back = []; joined = sym (append-nil front); first_so = a; second_so = refl }
 

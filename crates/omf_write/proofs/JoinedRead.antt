@@ -7,7 +7,8 @@ use Rattle.lx_bytes.proofs.Numbers.{length-little_bytes}
 use Rattle.lx_types.specs.Answers.{Answers}
 use Rattle.lx_types.specs.declared.fail.Fail.{Fail}
 use Rattle.omf_write.specs.declared.libraries.TheConstants.{LIBRARY_LIMIT}
-use Rattle.implib_model.specs.Library.{PAGE, page_up, pages_of, library_len, header_bytes, end_bytes, library_bytes}
+use Rattle.implib_model.specs.declared.library.TheConstants.{PAGE}
+use Rattle.implib_model.specs.Library.{page_up, pages_of, library_len, header_bytes, end_bytes, library_bytes}
 use Rattle.omf_write.specs.Joined.{pages_in, joined_pages, joined_len, joined_bytes, HasEnds, modules_together}
 use Rattle.omf_write.proofs.LibraryRead.{prefix_len}
 

@@ -6,7 +6,8 @@ use Rattle.lx_bytes.proofs.Numbers.{length-little_bytes}
 use Rattle.obj_types.specs.declared.object.ObjModule.{ObjModule}
 use Rattle.omf_model.specs.Object.{IsModule}
 use Rattle.omf_model.specs.Library.{Lib, IsPaged, ArePaged}
-use Rattle.implib_model.specs.Library.{PAGE, fill_of, page_up, pages_of, library_len, header_bytes, end_bytes, library_bytes, AreModules}
+use Rattle.implib_model.specs.declared.library.TheConstants.{PAGE}
+use Rattle.implib_model.specs.Library.{fill_of, page_up, pages_of, library_len, header_bytes, end_bytes, library_bytes, AreModules}
 
 -- what some items before one give and what that one gives are no longer together than what all give
 pub prefix_len : {A : Type 0} (f : A → List ℕ) (k : ℕ) (xs : List A) (d : A) → k < length xs → length (flat_map f (take k xs)) + length (f (slice_index_or xs k d)) ≤ length (flat_map f xs)

@@ -11,7 +11,7 @@ use Rattle.std.specs.Prelude.{bytes_eq, unwrap_or, nat_lt, not, is_some}
 use Rattle.std.specs.List.{list_any, position, position_or_len}
 use Rattle.lx_types.proofs.Bools.{some_by}
 use Rattle.obj_types.specs.Items.{item}
-use Rattle.first_table.specs.Entries.{is_named, with_entry}
+use Rattle.name_table.specs.Entries.{is_named, with_entry}
 use Rattle.omf_model.specs.Items.{name_with}
 use Rattle.implib_model.specs.Framed.{record_of, name_bytes}
 use Rattle.omf_write.specs.ObjectBytes.{lnames_record, name_records}

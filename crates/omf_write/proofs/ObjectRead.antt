@@ -189,6 +189,6 @@ object_is_read m can fits =
     subst (λ (x : ObjModule). IsModule (object_bytes m) x) (sym same)
     (ended m ns k.then_last (body_records m) m.start (few_items m can) fits.name (subst WholeModule same can.whole) fits.start k.goes)
 
--- nothing stands behind the module
+-- nothing stands after the module
 pub module_is_file : (m : ObjModule) {bytes : List ℕ} → IsModule bytes m → Obj bytes m
 module_is_file m {bytes} is = passed_over (λ front. IsModule front m) bytes is

@@ -13,7 +13,7 @@ use Rattle.obj_types.specs.declared.symbol.Ext.{Ext}
 use Rattle.obj_types.specs.declared.symbol.Imp.{Imp}
 use Rattle.obj_types.specs.declared.symbol.Exp.{Exp}
 use Rattle.obj_types.specs.Whole.{WholeModule, WholeSeg, WholeGroup, WholePlace, WholeFix, WholeExp, IsPlainSeg, LiesIn}
-use Rattle.first_table.specs.Entries.{is_named, with_entry}
+use Rattle.name_table.specs.Entries.{is_named, with_entry}
 use Rattle.omf_model.proofs.PairLaws.{Pairs}
 use Rattle.implib_model.specs.ImportModule.{ImportFits, NamesFit}
 use Rattle.omf_write.specs.ObjectNames.{NameList, with_names, seg_names, group_names, names_of, texts}

@@ -1,7 +1,8 @@
 -- Libraries joined into one.
 use Rattle.std.specs.Prelude.{ℕ, ◌+◌, ◌-◌, ◌*◌, List, ◌++◌, ◌≤◌, length, take, drop}
 use Rattle.std.specs.List.{flat_map}
-use Rattle.implib_model.specs.Library.{PAGE, header_bytes, end_bytes}
+use Rattle.implib_model.specs.declared.library.TheConstants.{PAGE}
+use Rattle.implib_model.specs.Library.{header_bytes, end_bytes}
 
 -- what stands between a library's header and its end
 abbrev pub pages_in : List ℕ → List ℕ

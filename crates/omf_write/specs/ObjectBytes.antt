@@ -4,6 +4,7 @@
 use Rattle.std.specs.Prelude.{ℕ, zero, suc, ◌+◌, ◌-◌, ◌*◌, ◌/◌, ◌%◌, Bool, ◌&&◌, not, List, [], ◌∷◌, ◌++◌, length, take, drop, Option, Some, None, nat_lt, nat_le, ◌==◌, if◌then◌else◌}
 use Rattle.std.specs.List.{flat_map, prefix_len}
 use Rattle.lx_bytes.specs.LittleEndian.{little_bytes}
+use Rattle.obj_types.specs.declared.object.TheConstants.{ALIGN_ABSOLUTE}
 use Rattle.obj_types.specs.declared.object.Seg.{Seg}
 use Rattle.obj_types.specs.declared.object.Group.{Group}
 use Rattle.obj_types.specs.declared.object.Piece.{Piece}
@@ -21,8 +22,10 @@ use Rattle.obj_types.specs.declared.symbol.Ext.{Ext}
 use Rattle.obj_types.specs.declared.symbol.Imp.{Imp}
 use Rattle.obj_types.specs.declared.symbol.Exp.{Exp}
 use Rattle.obj_types.specs.Location.{end_of}
+use Rattle.omf_frame.specs.declared.comment_class.TheConstants.{DEFAULT_LIBRARY, EXTENSION, IMPDEF, EXPDEF}
 use Rattle.implib_model.specs.Framed.{record_of, name_bytes}
 use Rattle.implib_model.specs.ImportModule.{flag_of, entry_bytes}
+use Rattle.omf_write.specs.declared.fixups.TheConstants.{PER_RECORD}
 use Rattle.omf_write.specs.ObjectNames.{NameList, names_of, texts, name_index}
 
 -- ---- fields
@@ -48,7 +51,7 @@ attributes_of s = s.align % 8 * 32 + s.combine % 8 * 4 + bit s.wide
 
 -- An absolute segment's frame and offset are 0.
 abbrev pub place_bytes : ℕ → List ℕ
-place_bytes align = if align == 0 then 0 ∷ 0 ∷ 0 ∷ [] else []
+place_bytes align = if align == ALIGN_ABSOLUTE then 0 ∷ 0 ∷ 0 ∷ [] else []
 
 abbrev pub segdef_bytes : NameList → Seg → List ℕ
 segdef_bytes names s =
@@ -86,7 +89,7 @@ pubdef_record p = record_of 0x91 (pubdef_bytes p.name p.place)
 
 abbrev pub impdef_bytes : Imp → List ℕ
 impdef_bytes i =
-    0 ∷ 0xA0 ∷ 1 ∷ flag_of i.entry ∷ (name_bytes i.name ++ (name_bytes i.«module» ++ entry_bytes i.name i.entry))
+    0 ∷ EXTENSION ∷ IMPDEF ∷ flag_of i.entry ∷ (name_bytes i.name ++ (name_bytes i.«module» ++ entry_bytes i.name i.entry))
 
 abbrev pub impdef_record : Imp → List ℕ
 impdef_record i = record_of 0x88 (impdef_bytes i)
@@ -105,13 +108,13 @@ export_flag e = ordinal_bit e.ordinal + bit e.resident * 64 + bit e.nodata * 32 
 
 abbrev pub expdef_bytes : Exp → List ℕ
 expdef_bytes e =
-    0 ∷ 0xA0 ∷ 2 ∷ export_flag e ∷ (name_bytes e.name ++ (name_bytes e.internal ++ ordinal_bytes e.ordinal))
+    0 ∷ EXTENSION ∷ EXPDEF ∷ export_flag e ∷ (name_bytes e.name ++ (name_bytes e.internal ++ ordinal_bytes e.ordinal))
 
 abbrev pub expdef_record : Exp → List ℕ
 expdef_record e = record_of 0x88 (expdef_bytes e)
 
 abbrev pub deflib_bytes : List ℕ → List ℕ
-deflib_bytes name = 0 ∷ 0x9F ∷ name
+deflib_bytes name = 0 ∷ DEFAULT_LIBRARY ∷ name
 
 abbrev pub deflib_record : List ℕ → List ℕ
 deflib_record name = record_of 0x88 (deflib_bytes name)
@@ -148,7 +151,7 @@ goal_index (goals.Seg i) = i
 goal_index (goals.Group i) = i
 goal_index (goals.Ext i) = i
 
--- The fix byte without threads, and what it says stands behind it: indices, and a displacement of 4 bytes.
+-- The fix byte without threads, and what it says stands after it: indices, and a displacement of 4 bytes.
 abbrev pub fix_data_bytes : Frame → Goal → ℕ → List ℕ
 fix_data_bytes frame goal disp =
     (frame_method frame * 16 + goal_method goal) ∷ (frame_bytes frame ++ (index_bytes (goal_index goal) ++ little_bytes 4 disp))
@@ -161,10 +164,6 @@ abbrev pub fixup_bytes : ℕ → FixAt → List ℕ
 fixup_bytes from f =
     location_high f (f.offset - from) ∷ ((f.offset - from) % 256) ∷ fix_data_bytes f.frame f.goal f.disp
 
--- how many fixups a record has
-abbrev pub PER_RECORD : ℕ
-PER_RECORD = 64
-
 abbrev pub fixupp_record : ℕ → List FixAt → List ℕ
 fixupp_record from fixes = record_of 0x9D (flat_map (fixup_bytes from) fixes)
 
@@ -174,7 +173,7 @@ fixupp_records zero from fixes = []
 fixupp_records (suc n) from fixes = fixupp_record from (take PER_RECORD fixes) ++ fixupp_records n from (drop PER_RECORD fixes)
 
 abbrev pub records_needed : List FixAt → ℕ
-records_needed fixes = (length fixes + 63) / PER_RECORD
+records_needed fixes = (length fixes + (PER_RECORD - 1)) / PER_RECORD
 
 -- A fixup's location lies within a piece.
 abbrev pub lies_on : Piece → FixAt → Bool

@@ -1,7 +1,7 @@
 -- The names of an object file that is written, each once. "96h LNAMES".
 use Rattle.std.specs.Prelude.{ℕ, ◌+◌, List, [], ◌∷◌, ◌++◌, map}
 use Rattle.std.specs.List.{flat_map, position_or_len}
-use Rattle.first_table.specs.Entries.{is_named, with_entry}
+use Rattle.name_table.specs.Entries.{is_named, with_entry}
 use Rattle.obj_types.specs.declared.object.Seg.{Seg}
 use Rattle.obj_types.specs.declared.object.Group.{Group}
 use Rattle.obj_types.specs.declared.object.ObjModule.{ObjModule}

@@ -9,17 +9,18 @@ ghost use Rattle.omf_write.specs.ObjectFits.{ExpFits};
 
 use crate::fields::push_name;
 use crate::framed::push_record;
-use crate::imports::{IMPDEF, names_fit, push_entry};
+use crate::imports::{IMPORT, names_fit, push_entry};
 use lx_types::{EntryKey, Name, NoMemory};
 use obj_types::{Exp, Imp};
+use omf_frame::comment_class::{DEFAULT_LIBRARY, EXPDEF, EXTENSION};
 use omf_frame::record_type::COMENT;
 use std::alloc::{AllocError, Global};
 
 // The flags of a COMENT, the class of extensions, and the subtype of EXPDEF.
-const EXPDEF: [u8; 3] = [0, 0xA0, 2];
+const EXPORT: [u8; 3] = [0, EXTENSION, EXPDEF];
 
 // The flags of a COMENT, and the class of default libraries.
-const DEFAULT_LIBRARY: [u8; 2] = [0, 0x9F];
+const LIBRARY: [u8; 2] = [0, DEFAULT_LIBRARY];
 
 // The contents of a COMENT record for an import.
 fn impdef_contents(alloc: Global, imp: &Imp) -> Result<Vec<u8>, NoMemory>
@@ -29,7 +30,7 @@ fn impdef_contents(alloc: Global, imp: &Imp) -> Result<Vec<u8>, NoMemory>
     ensures fits { NamesFit imp.now }
 {
     names_fit(imp);
-    let mut contents = Vec::from_slice(alloc, &IMPDEF)?;
+    let mut contents = Vec::from_slice(alloc, &IMPORT)?;
     contents.push(u8::from(matches!(imp.entry, EntryKey::Ordinal(_))))?;
     push_name(&mut contents, imp.name.bytes())?;
     push_name(&mut contents, imp.module.bytes())?;
@@ -76,7 +77,7 @@ fn expdef_contents(alloc: Global, export: &Exp) -> Result<Vec<u8>, NoMemory>
     ensures short { IfOk result (λ contents. length contents.items ≤ 518) }
     ensures fits { IfOk result (λ _. ExpFits export.now) }
 {
-    let mut contents = Vec::from_slice(alloc, &EXPDEF)?;
+    let mut contents = Vec::from_slice(alloc, &EXPORT)?;
     contents.push(export_flag(export))?;
     push_name(&mut contents, export.name.bytes())?;
     push_name(&mut contents, export.internal.bytes())?;
@@ -102,7 +103,7 @@ fn deflib_contents(alloc: Global, name: &Name) -> Result<Vec<u8>, NoMemory>
     ensures short { IfOk result (λ contents. length contents.items ≤ 257) }
     ensures fits { IfOk result (λ _. IsName name.now) }
 {
-    let mut contents = Vec::from_slice(alloc, &DEFAULT_LIBRARY)?;
+    let mut contents = Vec::from_slice(alloc, &LIBRARY)?;
     contents.extend_from_slice(name.bytes())?;
     Ok(contents)
 }

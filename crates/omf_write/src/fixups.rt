@@ -63,7 +63,7 @@ fn goal_index(goal: Goal) -> u32
     }
 }
 
-/// Writes a fix byte and what it says stands behind it: the indices of frame and target, and a displacement of 4
+/// Writes a fix byte and what it says stands after it: the indices of frame and target, and a displacement of 4
 /// bytes.
 pub fn push_fix_data(
     out: &mut Vec<u8>,

@@ -16,7 +16,7 @@ fn checksum_of(bytes: &[u8]) -> u8
     left
 }
 
-/// Writes a record behind the bytes that are there.
+/// Writes a record after the bytes that are there.
 pub fn push_record(out: &mut Vec<u8>, ty: u8, contents: &[u8]) -> Result<(), AllocError>
     requires { length contents.now < 65535 }
     ensures { OnOk result (out.new.items ≡ out.old.items ++ record_of ty contents.now) }

@@ -8,11 +8,12 @@ use crate::fields::push_name;
 use crate::framed::push_record;
 use lx_types::{EntryKey, NoMemory};
 use obj_types::Imp;
+use omf_frame::comment_class::{EXTENSION, IMPDEF};
 use omf_frame::record_type::{COMENT, MODEND, THEADR};
 use std::alloc::{AllocError, Global};
 
 /// The flags of a COMENT, the class of extensions, and the subtype of IMPDEF.
-pub const IMPDEF: [u8; 3] = [0, 0xA0, 1];
+pub const IMPORT: [u8; 3] = [0, EXTENSION, IMPDEF];
 
 /// Writes the entry that is imported under an internal name.
 pub fn push_entry(out: &mut Vec<u8>, internal: &[u8], entry: &EntryKey) -> Result<(), AllocError>
@@ -40,7 +41,7 @@ fn comment_of(alloc: Global, imp: &Imp) -> Result<Vec<u8>, NoMemory>
     ensures short { IfOk result (λ contents. length contents.items ≤ 772) }
 {
     let module = imp.module.to_uppercase(alloc)?;
-    let mut contents = Vec::from_slice(alloc, &IMPDEF)?;
+    let mut contents = Vec::from_slice(alloc, &IMPORT)?;
     contents.push(u8::from(matches!(imp.entry, EntryKey::Ordinal(_))))?;
     push_name(&mut contents, imp.name.bytes())?;
     push_name(&mut contents, module.bytes())?;

@@ -7,7 +7,8 @@ ghost use Rattle.implib_model.specs.Library.{library_bytes, library_len};
 ghost use Rattle.omf_write.specs.Joined.{HasEnds, pages_in, joined_pages, joined_len, joined_bytes, modules_together};
 ghost use Rattle.omf_write.specs.declared.libraries.TheConstants.{LIBRARY_LIMIT as limit};
 
-use crate::libraries::{END, LIBRARY_LIMIT, LibraryLong, PAGE, push_header};
+use crate::libraries::{END, LIBRARY_LIMIT, LibraryLong, push_header};
+use implib_model::PAGE;
 use lx_types::{Bytes, Fail};
 use std::alloc::{AllocError, Global};
 
@@ -38,7 +39,7 @@ fn len_together(libraries: &[Bytes]) -> Option<u32>
     Some(len as u32)
 }
 
-// Writes the pages of the libraries, one behind the other.
+// Writes the pages of the libraries, one after the other.
 fn push_all(out: &mut Vec<u8>, libraries: &[Bytes]) -> Result<(), AllocError>
     requires { AllByRecursion HasEnds libraries.now }
     ensures { OnOk result (out.new.items ≡ out.old.items ++ joined_pages libraries.now) }

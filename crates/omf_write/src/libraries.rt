@@ -6,18 +6,17 @@ ghost use Rattle.obj_types.specs.declared.object.ObjModule.{ObjModule};
 ghost use Rattle.omf_model.specs.Library.{Lib};
 ghost use Rattle.implib_model.specs.Library.{page_up, pages_of, library_len, header_bytes, end_bytes, library_bytes, AreModules};
 
-use lx_types::{Bytes, Fail};
+use implib_model::PAGE;
+use lx_types::{Bytes, Fail, MAX_FILE};
+use omf_frame::record_type::{LIBRARY_END, LIBRARY_HEADER};
 use std::alloc::{AllocError, Global};
 use thiserror::Error;
 
 /// The most bytes that a library may have.
-pub const LIBRARY_LIMIT: u32 = 16_777_216;
+pub const LIBRARY_LIMIT: u32 = MAX_FILE;
 
-// The bytes of a page. The header is one page, and so is the end.
-pub const PAGE: usize = 16;
-
-// F1h, and a length that fills the page.
-pub const END: [u8; PAGE] = [0xF1, 0x0D, 0, 0, 0, 0, 0, 0, 0, 0, 0, 0, 0, 0, 0, 0];
+// The end, which is a page: its type, and a length that fills the page.
+pub const END: [u8; PAGE] = [LIBRARY_END, 0x0D, 0, 0, 0, 0, 0, 0, 0, 0, 0, 0, 0, 0, 0, 0];
 
 /// The library would have more than 16,777,216 bytes.
 #[derive(Clone, Copy, Debug, PartialEq, Eq, Drop, Error)]
@@ -63,11 +62,28 @@ pub fn push_header(out: &mut Vec<u8>, len: u32) -> Result<(), AllocError>
     ensures { OnOk result (out.new.items ≡ out.old.items ++ header_bytes len) }
 {
     let [a, b, c, d] = len.to_le_bytes();
-    out.extend_from_slice(&[0xF0, 0x0D, 0, a, b, c, d, 0, 0, 1, 0, 0, 0, 0, 0, 0])?;
+    out.extend_from_slice(&[
+        LIBRARY_HEADER,
+        0x0D,
+        0,
+        a,
+        b,
+        c,
+        d,
+        0,
+        0,
+        1,
+        0,
+        0,
+        0,
+        0,
+        0,
+        0,
+    ])?;
     Ok(())
 }
 
-// Writes the modules, one behind the other.
+// Writes the modules, one after the other.
 fn push_pages(out: &mut Vec<u8>, modules: &[Bytes]) -> Result<(), AllocError>
     ensures { OnOk result (out.new.items ≡ out.old.items ++ pages_of modules.now) }
 {

@@ -105,7 +105,7 @@ fn written(alloc: Global, m: &ObjModule) -> Result<Vec<u8>, NoMemory>
 }
 
 /// The bytes of an object file that is read as this module ("Object Record Order"): a record for each name, segment,
-/// group, external, public, import, export and default library, and for each piece its data record and behind it the
+/// group, external, public, import, export and default library, and for each piece its data record and after it the
 /// records of its fixups, 64 to a record. Checksums are written. It refuses nothing: `NoMemory` is want of memory.
 ///
 /// The module is whole. It has at most 32,767 segments, groups, externals, and different names of segments, classes

@@ -14,7 +14,7 @@ use obj_types::{FixAt, Piece, location_len};
 use omf_frame::record_type::LEDATA_32;
 use std::alloc::Global;
 
-// Whether so many bytes from an offset on lie in the room behind a start.
+// Whether so many bytes from an offset on lie in the room after a start.
 fn is_within(offset: u32, len: u8, start: u32, room: u32) -> bool
     ensures { result ≡ (nat_le start offset && nat_le (offset + len) (start + room)) }
 {
@@ -61,7 +61,7 @@ fn ledata_contents(alloc: Global, piece: &Piece) -> Result<Vec<u8>, NoMemory>
     Ok(contents)
 }
 
-/// Writes a record for each piece, of at most 1,024 bytes, and behind it those of the fixups on it, which stand in the
+/// Writes a record for each piece, of at most 1,024 bytes, and after it those of the fixups on it, which stand in the
 /// order of their pieces.
 pub fn push_data(
     alloc: Global,

@@ -1,14 +1,14 @@
 //! The names of a module, each once ("96h LNAMES").
 
 ghost use Rattle.std.specs.Prelude.{◌≡◌, ◌≤◌, IfOk, OnOk, length};
-ghost use Rattle.first_table.specs.Entries.{with_entry};
+ghost use Rattle.name_table.specs.Entries.{with_entry};
 ghost use Rattle.omf_write.specs.ObjectBytes.{name_records};
 ghost use Rattle.omf_write.specs.ObjectNames.{with_names, seg_names, group_names, names_of, name_index};
 
 use crate::fields::push_name;
 use crate::framed::push_record;
-use first_table::NameTable;
 use lx_types::NoMemory;
+use name_table::NameTable;
 use obj_types::{Group, ObjModule, Seg};
 use omf_frame::record_type::LNAMES;
 use std::alloc::Global;

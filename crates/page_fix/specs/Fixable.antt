@@ -1,5 +1,5 @@
 -- Which pages of a module are fixed once for all processes: those of Code and Shared objects that are not invalid.
--- LX: "Object Table" (flags), "Object Page Table" (flags).
+-- "32-bit Linear eXecutable Module Format": "Object Table" (flags), "Object Page Table" (flags).
 use Rattle.std.specs.Prelude.{◌≡◌, ◌<◌, ℕ, ◌==◌, ◌&&◌, nat_lt, nat_le, not, Bool, true, false, List, length, map}
 use Rattle.std.specs.List.{filter, flat_map, range_with_len}
 use Rattle.lx_types.specs.Object.{class_of, pages_of}
@@ -19,19 +19,19 @@ abbrev pub is_page_of : Parts → PageId → Bool
 is_page_of m p = nat_lt 0 p.object && nat_le p.object (length m.objects) && nat_lt p.page (pages_of (object_of m p.object))
 
 -- all processes have one copy of the object's pages
-abbrev pub is_common : Class → Bool
-is_common Code = true
-is_common Private = false
-is_common Shared = true
+abbrev pub has_shared_pages : Class → Bool
+has_shared_pages Code = true
+has_shared_pages Private = false
+has_shared_pages Shared = true
 
 unfoldable pub is_fixable : Parts → PageId → Bool
-is_fixable m p = is_page_of m p && is_common (class_of (object_of m p.object)) && not (is_invalid (page_at m p).kind)
+is_fixable m p = is_page_of m p && has_shared_pages (class_of (object_of m p.object)) && not (is_invalid (page_at m p).kind)
 
 -- the same, part by part
 pub record IsFixable (m : Parts) (p : PageId) : Type 0 where
   pub object : IsNumberOf p.object (length m.objects)
   pub page : p.page < pages_of (object_of m p.object)
-  pub common : is_common (class_of (object_of m p.object)) ≡ true
+  pub shared : has_shared_pages (class_of (object_of m p.object)) ≡ true
   pub valid : is_invalid (page_at m p).kind ≡ false
 
 -- the pages of an object, ascending

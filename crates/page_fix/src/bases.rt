@@ -4,17 +4,14 @@ ghost use Rattle.std.specs.Prelude.{◌≡◌, ◌<◌, ◌==◌, ℕ, find, pos
 ghost use Rattle.lx_model.specs.Fixed.{base_of};
 ghost use Rattle.page_fix.specs.Found.{AreFound};
 
-use lx_types::{Bases, ModBases};
-
-/// How many modules a library has at most.
-const MODULES: usize = 64;
+use lx_types::{Bases, MAX_MODULES, MAX_MODULES_LEN, ModBases, object_base};
 
 /// The bases of a load with the place of each module's in their list, so that a target's base is found at once.
 #[derive(Clone, Copy)]
 pub struct BaseIndex<'a> {
     bases: &'a Bases,
     /// By module: the place at which its bases stand first.
-    places: [Option<usize>; MODULES],
+    places: [Option<usize>; MAX_MODULES_LEN],
     ghost found: { AreFound bases.now.mods places },
 }
 
@@ -31,8 +28,8 @@ impl<'a> BaseIndex<'a> {
         ensures { result.bases.now ≡ bases.now }
     {
         let mods = bases.mods.as_slice();
-        let mut places = [None; MODULES];
-        for m in 0..64u32 {
+        let mut places = [None; MAX_MODULES_LEN];
+        for m in 0..MAX_MODULES {
             places[m as usize] = place_of(mods, m);
         }
         BaseIndex { bases, places }
@@ -42,7 +39,7 @@ impl<'a> BaseIndex<'a> {
     fn place(&self, m: u32) -> Option<usize>
         ensures { result ≡ position (λ b. b.«module» == m) self.now.bases.now.mods }
     {
-        if (m as usize) < MODULES {
+        if (m as usize) < MAX_MODULES_LEN {
             self.places[m as usize]
         } else {
             place_of(self.bases.mods.as_slice(), m)
@@ -65,10 +62,6 @@ impl<'a> BaseIndex<'a> {
         let Some(own) = self.of_module(m) else {
             return 0;
         };
-        let objects = own.objects.as_slice();
-        objects
-            .get(object.saturating_sub(1) as usize)
-            .copied()
-            .unwrap_or(0)
+        object_base(own.objects.as_slice(), object)
     }
 }

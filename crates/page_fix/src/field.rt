@@ -42,8 +42,8 @@ fn doubleword(n: u32) -> [u8; 4]
     ]
 }
 
-/// What a source's field gets for an address in an object with these flags; the field ends at `end`. (LX: "Fixup
-/// Record Table", source types.)
+/// What a source's field gets for an address in an object with these flags; the field ends at `end`. ("32-bit Linear
+/// eXecutable Module Format": "Fixup Record Table", source types.)
 pub fn field_for(source: Source, alias: bool, flags: u32, address: u32, end: u32) -> Field
     ensures { take result.len result.bytes ≡ field_bytes source alias flags address end }
 {

@@ -2,7 +2,7 @@
 
 ghost use Rattle.std.specs.Prelude.{◌≡◌};
 ghost use Rattle.lx_model.specs.ModuleBytes.{is_invalid};
-ghost use Rattle.page_fix.specs.Fixable.{is_common, is_fixable, is_page_of};
+ghost use Rattle.page_fix.specs.Fixable.{has_shared_pages, is_fixable, is_page_of};
 
 use lx_types::{Class, Module, PageId, PageKind};
 
@@ -14,8 +14,8 @@ fn has_page(m: &Module, p: PageId) -> bool
 }
 
 // Whether all processes have one copy of an object's pages.
-fn is_common(class: Class) -> bool
-    ensures { result ≡ is_common class }
+fn has_shared_pages(class: Class) -> bool
+    ensures { result ≡ has_shared_pages class }
 {
     match class {
         Class::Code | Class::Shared => true,
@@ -31,7 +31,7 @@ fn is_invalid(kind: PageKind) -> bool
 }
 
 /// Whether a page is fixed once for all processes: it is a page of a Code or Shared object of the module, and it is not
-/// invalid. (LX: "Object Table", "Object Page Table".)
+/// invalid. ("32-bit Linear eXecutable Module Format": "Object Table", "Object Page Table".)
 #[tactic(auto, using(crate::proofs::Fixables::outside, crate::proofs::Fixables::page_so, crate::proofs::Fixables::fixable_by_parts))]
 pub fn is_fixable(m: &Module, p: PageId) -> bool
     ensures { result ≡ is_fixable m.now p }
@@ -40,7 +40,7 @@ pub fn is_fixable(m: &Module, p: PageId) -> bool
         return false;
     }
     let object = m.objects()[p.object as usize - 1];
-    let common = is_common(object.class());
+    let shared = has_shared_pages(object.class());
     let invalid = is_invalid(m.page(p).kind);
-    common && !invalid
+    shared && !invalid
 }

@@ -2,14 +2,14 @@
 
 ghost use Rattle.std.specs.Prelude.{◌≡◌, box_value};
 
-use lx_types::PageId;
+use lx_types::{PageBytes, PageId};
 use std::marker::Model;
 
 /// A page of a residence with its fixups. It cannot be let go: whoever has it publishes it, or takes its bytes.
 pub struct FixedPage {
     pub(crate) serial: u64,
     pub(crate) page: PageId,
-    pub(crate) bytes: Box<[u8; 4096]>,
+    pub(crate) bytes: Box<PageBytes>,
 }
 
 impl Model for FixedPage {
@@ -37,14 +37,14 @@ impl FixedPage {
     }
 
     /// Its bytes.
-    pub fn bytes(&self) -> &[u8; 4096]
+    pub fn bytes(&self) -> &PageBytes
         ensures { result.now ≡ self.now.bytes }
     {
         &self.bytes
     }
 
     /// The buffer with its bytes. It takes no memory.
-    pub fn into_bytes(self) -> Box<[u8; 4096]>
+    pub fn into_bytes(self) -> Box<PageBytes>
         ensures { box_value result ≡ self.bytes }
     {
         let FixedPage {

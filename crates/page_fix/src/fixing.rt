@@ -19,9 +19,9 @@ use crate::putting::put;
 use crate::raw::write_raw;
 use crate::rights::FixRight;
 use crate::steps::Steps;
-use lx_fixrec::records;
+use lx_fixrec::{records, source_size};
 use lx_model::Spot;
-use lx_types::{Bases, Fix, PAGE_SIZE, PageId, Source};
+use lx_types::{Bases, Fix, PAGE_SIZE, PageBytes, PageId};
 use mod_graph::Library;
 use std::sync::ledger::Ledger;
 
@@ -35,20 +35,6 @@ struct Site<'a> {
     ghost there: { «module» < length lib.now },
 }
 
-// How many bytes a source's field has.
-fn size_of(source: Source) -> u32
-    ensures { result ≡ source_size source }
-{
-    match source {
-        Source::Byte => 1,
-        Source::Sel | Source::Off16 => 2,
-        Source::Far16 | Source::Off32 | Source::Self32 => 4,
-        Source::Far32 => 6,
-    }
-}
-
-ghost use Rattle.lx_model.specs.Sources.{source_size};
-
 impl<'a> Site<'a> {
     // The flags of the object in which a spot lies, and 0 where there is none.
     fn flags(&self, spot: Spot) -> u32
@@ -57,8 +43,7 @@ impl<'a> Site<'a> {
         if spot.module >= self.lib.len() {
             return 0;
         }
-        let objects = self.lib.module(spot.module).objects();
-        match objects.get(spot.object.saturating_sub(1) as usize) {
+        match self.lib.module(spot.module).object(spot.object) {
             Some(object) => object.flags,
             None => 0,
         }
@@ -71,7 +56,7 @@ impl<'a> Site<'a> {
         let base = self.bases.base(self.module, self.page.object);
         let field = base
             .wrapping_add(self.page.page.wrapping_mul(PAGE_SIZE))
-            .wrapping_add(size_of(fix.source));
+            .wrapping_add(source_size(fix.source));
         let by = fix.offset.unsigned_abs();
         if fix.offset < 0 {
             field.wrapping_sub(by)
@@ -122,7 +107,7 @@ impl<'a> Site<'a> {
     }
 
     // Writes the page with its fixups.
-    fn fix_into<L: Ledger>(&self, page: &mut [u8; 4096], steps: &mut Steps<L>)
+    fn fix_into<L: Ledger>(&self, page: &mut PageBytes, steps: &mut Steps<L>)
         requires object { IsNumberOf self.now.page.object (length (module_of self.now.lib.now self.now.«module»).objects) }
         requires page { self.now.page.page < pages_of (object_of (module_of self.now.lib.now self.now.«module») self.now.page.object) }
         ensures bytes { page.new ≡ fixed_page self.now.lib.now self.now.«module» self.now.bases.bases.now self.now.page }
@@ -143,9 +128,9 @@ pub fn fix_private<L: Ledger>(
     m: u32,
     bases: &Bases,
     p: PageId,
-    mut buffer: Box<[u8; 4096]>,
+    mut buffer: Box<PageBytes>,
     steps: &mut Steps<L>,
-) -> Box<[u8; 4096]>
+) -> Box<PageBytes>
     requires module { m < length lib.now }
     requires object { IsNumberOf p.object (length (module_of lib.now m).objects) }
     requires page { p.page < pages_of (object_of (module_of lib.now m) p.object) }
@@ -170,7 +155,7 @@ pub fn fix_page<L: Ledger>(
     lib: &Library,
     m: u32,
     bases: &Bases,
-    mut buffer: Box<[u8; 4096]>,
+    mut buffer: Box<PageBytes>,
     steps: &mut Steps<L>,
 ) -> FixedPage
     requires module { m < length lib.now }

@@ -1,5 +1,5 @@
-//! Pages with their fixups: the bytes that a page of a module has at the bases of a load ("LX - Linear eXecutable
-//! Module Format", "Object Page Table", "Fixup Record Table").
+//! Pages with their fixups: the bytes that a page of a module has at the bases of a load ("32-bit Linear eXecutable
+//! Module Format": "Object Page Table", "Fixup Record Table").
 #![tactic(auto)]
 
 mod bases;

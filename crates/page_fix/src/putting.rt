@@ -3,7 +3,7 @@
 ghost use Rattle.std.specs.Prelude.{◌≡◌, ◌≤◌, ◌<◌, ◌+◌, ◌-◌, ℕ, length, unwrap_or, slice_index};
 ghost use Rattle.lx_model.specs.Fixed.{patched};
 
-use lx_types::Fix;
+use lx_types::{Fix, PAGE_LEN};
 
 // Puts bytes at a place of a page, as many as there is room for.
 fn put_at(page: &mut [u8], at: usize, bytes: &[u8])
@@ -13,7 +13,7 @@ fn put_at(page: &mut [u8], at: usize, bytes: &[u8])
     ensures there { (i : ℕ) → at ≤ i → i < 4096 → i < at + length bytes.now → slice_index page.new i ≡ slice_index bytes.now (i - at) }
     ensures behind { (i : ℕ) → at + length bytes.now ≤ i → slice_index page.new i ≡ slice_index page.old i }
 {
-    let len = bytes.len().min(4096 - at);
+    let len = bytes.len().min(PAGE_LEN - at);
     page[at..at + len].copy_from_slice(&bytes[..len]);
 }
 
@@ -28,6 +28,6 @@ pub fn put(page: &mut [u8], fix: &Fix, bytes: &[u8])
     if fix.offset < 0 {
         put_at(page, 0, &bytes[away.min(bytes.len())..]);
     } else {
-        put_at(page, away.min(4096), bytes);
+        put_at(page, away.min(PAGE_LEN), bytes);
     }
 }

@@ -10,10 +10,10 @@ ghost use Rattle.lx_model.specs.Packed.{filled};
 ghost use Rattle.lx_model.specs.Reading.{value_or};
 
 use lx_iter::expand;
-use lx_types::{Module, PageId, PageKind};
+use lx_types::{Module, PAGE_LEN, PageBytes, PageId, PageKind};
 
 // The bytes, and zeros up to the page's end.
-fn fill_from(bytes: &[u8], into: &mut [u8; 4096])
+fn fill_from(bytes: &[u8], into: &mut PageBytes)
     requires { length bytes.now ≤ 4096 }
     ensures { into.new ≡ filled bytes.now }
 {
@@ -24,7 +24,7 @@ fn fill_from(bytes: &[u8], into: &mut [u8; 4096])
 
 // The bytes that groups give, and zeros up to the page's end; zeros alone where a group has a fault, which the pages of a
 // module that was read have not.
-fn fill_expanded(bytes: &[u8], into: &mut [u8; 4096])
+fn fill_expanded(bytes: &[u8], into: &mut PageBytes)
     requires { length bytes.now < 2 ^ 32 }
     ensures { into.new ≡ filled (value_or [] (expansion bytes.now)) }
 {
@@ -33,16 +33,16 @@ fn fill_expanded(bytes: &[u8], into: &mut [u8; 4096])
     }
 }
 
-/// Writes a page as the file has it: its data and zeros behind it, the bytes that its groups give, or zeros.
-/// (LX: "Object Page Table".)
-pub fn write_raw(module: &Module, p: PageId, into: &mut [u8; 4096])
+/// Writes a page as the file has it: its data and zeros after it, the bytes that its groups give, or zeros.
+/// ("32-bit Linear eXecutable Module Format": "Object Page Table".)
+pub fn write_raw(module: &Module, p: PageId, into: &mut PageBytes)
     requires object { IsNumberOf p.object (length module.now.objects) }
     requires page { p.page < pages_of (object_of module.now p.object) }
     ensures { (i : ℕ) → i < 4096 → slice_index into.new i ≡ Raw module.now p i }
 {
     let data = module.page_bytes(p);
     match module.page(p).kind {
-        PageKind::Plain => fill_from(&data[..data.len().min(4096)], into),
+        PageKind::Plain => fill_from(&data[..data.len().min(PAGE_LEN)], into),
         PageKind::Iterated => fill_expanded(data, into),
         PageKind::Invalid | PageKind::Zero => fill_from(&[], into),
     }

@@ -9,7 +9,7 @@ use Rattle.lx_types.specs.declared.bases.Bases.{Bases}
 use Rattle.lx_types.specs.declared.object.PageId.{PageId}
 use Rattle.lx_types.specs.declared.parts.Parts.{Parts}
 use Rattle.lx_model.specs.Library.{module_of}
-use Rattle.page_fix.specs.Fixable.{is_common, is_fixable, IsFixable}
+use Rattle.page_fix.specs.Fixable.{has_shared_pages, is_fixable, IsFixable}
 use Rattle.page_fix.proofs.Fixables.{fixable_so}
 use Rattle.page_frames.specs.Frames.{FramePage, frame_count, frame_row, frame_rows}
 
@@ -29,7 +29,7 @@ module _ (lib : List Parts) (m : ℕ) (bases : Bases) (p : PageId) (may : is_fix
       (let low = is.object.0 in let high = is.object.1 in omega (arith, low, high)) (let low = is.object.0 in omega (arith, low))
 
   count_is : frame_count (module_of lib m) p.object ≡ pages_of (object_of (module_of lib m) p.object)
-  count_is = cond-true (is_common (class_of (object_of (module_of lib m) p.object))) (pages_of (object_of (module_of lib m) p.object)) 0 is.common
+  count_is = cond-true (has_shared_pages (class_of (object_of (module_of lib m) p.object))) (pages_of (object_of (module_of lib m) p.object)) 0 is.shared
 
   below : p.page < frame_count (module_of lib m) p.object
   below = let page = is.page in omega (arith, count_is, page)

@@ -8,7 +8,7 @@ use Rattle.lx_types.specs.declared.object.PageId.{PageId}
 use Rattle.lx_types.specs.declared.parts.Parts.{Parts}
 use Rattle.lx_model.specs.Library.{module_of}
 use Rattle.lx_model.specs.ModuleBytes.{fixed_page}
-use Rattle.page_fix.specs.Fixable.{is_common}
+use Rattle.page_fix.specs.Fixable.{has_shared_pages}
 
 -- the page that a frame is for
 pub record FramePage : Type 0 where
@@ -23,7 +23,7 @@ frame_bytes f = fixed_page f.library f.«module» f.bases f.page
 
 -- how many frames an object has: one for each page that all processes share
 abbrev pub frame_count : Parts → ℕ → ℕ
-frame_count m object = if is_common (class_of (object_of m object)) then pages_of (object_of m object) else 0
+frame_count m object = if has_shared_pages (class_of (object_of m object)) then pages_of (object_of m object) else 0
 
 -- the frames of an object, by page
 unfoldable pub frame_row : List Parts → ℕ → Bases → ℕ → List FramePage

@@ -1,4 +1,4 @@
--- A stay of a module in memory, as those who share its pages see it.
+-- A residence of a module in memory, as those who share its pages see it.
 use Rattle.std.specs.Prelude.{ℕ, List}
 use Rattle.lx_types.specs.declared.bases.Bases.{Bases}
 use Rattle.lx_types.specs.declared.parts.Parts.{Parts}

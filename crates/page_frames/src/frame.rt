@@ -6,7 +6,7 @@ ghost use Rattle.page_frames.specs.Frames.{frame_bytes};
 ghost use Rattle.page_frames.specs.Looks.{HasLooked};
 
 use counted_slot::{Counted, FREE, Fits, MOST_READERS, ONE_READER, PRESENT, TAKEN};
-use lx_types::{Bases, PageId};
+use lx_types::{Bases, PageBytes, PageId};
 use mod_graph::Library;
 use std::marker::Model;
 use std::snapshot::Snapshot;
@@ -14,7 +14,7 @@ use std::snapshot::Snapshot;
 /// The bytes of a page that was published.
 #[derive(Drop)]
 struct Published {
-    bytes: Box<[u8; 4096]>,
+    bytes: Box<PageBytes>,
 }
 
 /// The page that a frame is for: fixed when the frame is made, and never stored.
@@ -74,7 +74,7 @@ impl Frame {
     }
 
     /// Puts the page's bytes into the frame, unless another thread did. It returns whatever others do, and takes no memory.
-    pub fn put(&self, bytes: Box<[u8; 4096]>)
+    pub fn put(&self, bytes: Box<PageBytes>)
         requires { box_value bytes ≡ frame_bytes self.now }
     {
         let (found, claim) = self.slot.turn(FREE, TAKEN);
@@ -86,7 +86,7 @@ impl Frame {
     }
 
     /// Copies the page, where it is there.
-    pub fn copy(&self, into: &mut [u8; 4096]) -> Look
+    pub fn copy(&self, into: &mut PageBytes) -> Look
         ensures { HasLooked result (frame_bytes self.now) into.old into.new }
     {
         let word = self.slot.load();

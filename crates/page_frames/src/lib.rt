@@ -2,7 +2,6 @@
 //! copies which maps it.
 #![tactic(auto)]
 
-mod bell;
 mod frame;
 mod residence;
 mod rows;

@@ -1,4 +1,4 @@
-//! A residence: a stay of a module in memory, with a frame for each page that all processes share.
+//! A residence of a module in memory, with a frame for each page that all processes share.
 
 ghost use Rattle.std.specs.Prelude.{◌≡◌, ◌<◌, true, IfOk, length};
 ghost use Rattle.std.specs.Arc.{arc_value};
@@ -7,17 +7,17 @@ ghost use Rattle.lx_model.specs.ModuleBytes.{fixed_page};
 ghost use Rattle.page_fix.specs.Fixable.{is_fixable};
 ghost use Rattle.page_frames.specs.Frames.{frame_rows};
 
-use crate::bell::Bell;
 use crate::frame::{Frame, Look};
-use crate::rows::{FrameRow, Stay, frame_at};
-use lx_types::{Bases, NoMemory, PageId};
+use crate::rows::{FrameRow, PlacedModule, frame_at};
+use bell::Bell;
+use lx_types::{Bases, NoMemory, PageBytes, PageId};
 use mod_graph::Library;
 use page_fix::FixedPage;
 use std::alloc::Global;
 use std::marker::Model;
 use std::sync::{Arc, Wait};
 
-/// A stay of a module of a library in memory: its serial number, the bases of what the module reaches, and a frame for each
+/// A residence of a module of a library in memory: its serial number, the bases of what the module reaches, and a frame for each
 /// page of its Code and Shared objects.
 #[derive(Drop)]
 pub struct Residence {
@@ -55,12 +55,12 @@ impl Residence {
         requires { m < length (arc_value lib) }
         ensures { IfOk result (λ r. r ≡ record { library = arc_value lib; serial = serial; «module» = m; bases = bases }) }
     {
-        let stay = Stay {
+        let placed = PlacedModule {
             library: &lib,
             module: m,
             bases: &bases,
         };
-        let rows = stay.rows(alloc)?;
+        let rows = placed.rows(alloc)?;
         Ok(Residence {
             serial,
             module: m,
@@ -121,7 +121,7 @@ impl Residence {
     }
 
     /// Copies a page into a buffer once it is published; until then the thread sleeps. It takes no memory.
-    pub fn wait<R: Wait>(&self, rt: &R, p: PageId, into: &mut [u8; 4096])
+    pub fn wait<R: Wait>(&self, rt: &R, p: PageId, into: &mut PageBytes)
         requires { is_fixable (module_of self.now.library self.now.«module») p ≡ true }
         ensures { into.new ≡ fixed_page self.now.library self.now.«module» self.now.bases p }
     {

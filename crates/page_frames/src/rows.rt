@@ -30,14 +30,14 @@ impl Model for FrameRow {
 
 /// A module of a library, at the bases of a load.
 #[derive(Clone, Copy)]
-pub struct Stay<'a> {
+pub struct PlacedModule<'a> {
     pub library: &'a Library,
     pub module: u32,
     pub bases: &'a Bases,
     ghost there: { «module» < length library.now },
 }
 
-impl<'a> Stay<'a> {
+impl<'a> PlacedModule<'a> {
     // How many frames an object has.
     fn frame_count(&self, object: u32) -> u32
         requires { IsNumberOf object (length (module_of self.now.library.now self.now.«module»).objects) }

@@ -16,7 +16,7 @@ use Rattle.load_model.specs.ViewLaws.{NewStands}
 use Rattle.process_view.specs.ProcessViews.{ProcessView, new_view}
 use Rattle.proc_core.specs.declared.kept.About.{About}
 use Rattle.proc_core.specs.declared.kept.Kept.{Kept}
-use Rattle.proc_core.specs.Procs.{standing, Holds}
+use Rattle.proc_core.specs.Procs.{proc_state, Holds}
 use Rattle.proc_core.specs.Closing.{IsNew}
 
 among_range : (len a n : ℕ) → a ≤ n → n < a + len → is_among (range_with_len a len) n ≡ true
@@ -36,7 +36,7 @@ new_holds legal stands lock about pid live low high = record {
   about = refl;
   legal = legal about.library about.failing (fixed_bytes about.library);
   own = refl;
-  stands = record { library = refl; stays = refl; stands = stands about.library about.failing (fixed_bytes about.library) pid; shown = tt };
+  stands = record { library = refl; residences = refl; stands = stands about.library about.failing (fixed_bytes about.library) pid; shown = tt };
   apart = refl;
 }
 
@@ -47,7 +47,7 @@ pub dealt_at : (lock : TableId) (about : About) (n : ℕ) (passes : List (Seat (
 dealt_at lock about n passes k pass all inside is = subst (IsDealt lock (Some about) n k) (sym is) (all.each k pass inside)
 
 pub dealt_holds : NothingIsLegal → NewStands → (lock : TableId) (about : About) (n k : ℕ) (pass : Seat (Option Kept) (Known Entry About)) (v : ProcessView) → IsDealt lock (Some about) n k pass → k < 16 →
-    v ≡ new_view about.library pass.me.0.pid → Idle pass.me × Holds (standing pass v)
+    v ≡ new_view about.library pass.me.0.pid → Idle pass.me × Holds (proc_state pass v)
 dealt_holds legal stands lock about n k pass v is small view =
     let known : pass.me.0 ≡ (at_start {X = Kept} (Some about) (k + 1) (live_of k n)).0 = ap (λ m. m.0) is.1 in
     let shown : v ≡ new_view about.library (k + 1) = view ∙ ap (λ (w : Known Entry About). new_view about.library w.pid) known in
@@ -60,7 +60,7 @@ dealt_holds legal stands lock about n k pass v is small view =
     )
 
 pub dealt_new : (lock : TableId) (about : About) (n k : ℕ) (pass : Seat (Option Kept) (Known Entry About)) (v : ProcessView) → IsDealt lock (Some about) n k pass → v ≡ new_view about.library pass.me.0.pid →
-    IsNew lock about n k (standing pass v)
+    IsNew lock about n k (proc_state pass v)
 dealt_new lock about n k pass v is view = (is.0, ap (λ m. m.0) is.1, view ∙ ap (λ m. new_view about.library m.0.pid) is.1)
 
 pub each_more : {A : Type 0} (P : ℕ → A → Type 0) (xs : List A) (x : A) (n : ℕ) → length xs ≡ n → ((k : ℕ) (d : A) → k < n → P k (get_or xs k d)) → P n x → (k : ℕ) (d : A) → k < n + 1 → P k (get_or (xs ++ x ∷ []) k d)

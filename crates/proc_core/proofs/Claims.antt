@@ -1,4 +1,4 @@
--- A page that is claimed in a turn, and mapped behind it.
+-- A page that is claimed in a turn, and mapped after it.
 use Rattle.std.proofs.Common.{◌≡◌, ℕ, ◌+◌, ◌==◌, true, false, List, [], ◌∷◌, ◌++◌, length, count_by, Some, refl, sym, ap, ◌∙◌, subst, inl, arith, append-nil}
 use Rattle.std.proofs.lemmas.Bool.Decides.{nat_tests}
 use Rattle.std.specs.List.{AllByRecursion}
@@ -12,13 +12,13 @@ use Rattle.load_model.specs.declared.deeds.Entry.{Entry}
 use Rattle.load_model.specs.Modules.{Library, object_at, source_count}
 use Rattle.load_model.specs.State.{PageOf, pids, is_among}
 use Rattle.load_model.specs.Asks.{is_own}
-use Rattle.load_model.specs.Standing.{Holding, Mapped, mapped_pages}
+use Rattle.load_model.specs.Views.{Holding, Mapped, mapped_pages}
 use Rattle.load_model.specs.TouchSteps.{touch_steps, mapped_steps, OthersCountNothing, FaultCounts, MappedCounts}
-use Rattle.load_core.specs.Ledger.{Ledger, IsLegal}
+use Rattle.load_core.specs.BoardState.{BoardState, IsLegal}
 use Rattle.process_view.specs.ProcessViews.{ProcessView, StandsAt, without_room}
-use Rattle.process_pages.specs.Stays.{page_with}
+use Rattle.process_pages.specs.ReachedResidences.{page_with}
 use Rattle.process_view.specs.Deeds.{with_page}
-use Rattle.proc_core.specs.Procs.{Standing, Holds, front_of, failing_in}
+use Rattle.proc_core.specs.Procs.{ProcState, Holds, front_of, failing_in}
 use Rattle.proc_core.specs.Calls.{AreOthers}
 use Rattle.proc_core.specs.Touches.{needs_fault, page_in, IsSeenForPage, IsPage}
 
@@ -45,16 +45,16 @@ others_steps laws lib pid m more others = laws.others lib pid m [] more [] (flip
 
 -- a page that all share counts nothing, where it was taken
 pub taken_steps : Laws → (lib : Library) (pid m : ℕ) (more : List Entry) (t : PageOf) → AreOthers pid more → is_own (class_of (object_at lib m t.page.object)) ≡ false → touch_steps lib pid m more (t ∷ []) ≡ 0
-taken_steps laws lib pid m more t others common =
-    let none : mapped_steps lib m t.page ≡ 0 = rw common refl in
+taken_steps laws lib pid m more t others shared =
+    let none : mapped_steps lib m t.page ≡ 0 = rw shared refl in
     let base = others_steps laws lib pid m more others in
     laws.mapped lib pid m t more [] ∙ (let sum : touch_steps lib pid m more [] + mapped_steps lib m t.page ≡ 0 = omega arith in sum)
 
 -- and its sources where it was given
 pub given_steps : Laws → (lib : Library) (pid m : ℕ) (more : List Entry) (t : PageOf) → AreOthers pid more → is_own (class_of (object_at lib m t.page.object)) ≡ false →
     touch_steps lib pid m (more ++ record { pid = pid; deed = deeds.Fault t.serial m t.page } ∷ []) (t ∷ []) ≡ source_count lib m t.page
-given_steps laws lib pid m more t others common =
-    let base = taken_steps laws lib pid m more t others common in
+given_steps laws lib pid m more t others shared =
+    let base = taken_steps laws lib pid m more t others shared in
     laws.fault lib pid m t.serial t.page more (t ∷ []) ∙ (let sum : touch_steps lib pid m more (t ∷ []) + source_count lib m t.page ≡ source_count lib m t.page = omega arith in sum)
 
 pub private_steps : Laws → (lib : Library) (pid m : ℕ) (t : PageOf) → is_own (class_of (object_at lib m t.page.object)) ≡ true → touch_steps lib pid m [] (t ∷ []) ≡ source_count lib m t.page
@@ -79,15 +79,15 @@ pub mapped_one : (r : ResidenceFor) (q : PageId) (bytes : List ℕ) (v : Process
 mapped_one r q bytes v = map-append (λ (x : Mapped). x.of) v.holding.mapped (page_with r q bytes ∷ [])
 
 pub one_fault : (lib : Library) (m : ℕ) (t : PageOf) → is_own (class_of (object_at lib m t.page.object)) ≡ false → count_by (needs_fault lib m) (t ∷ []) ≡ 1
-one_fault lib m t common = rw common refl
+one_fault lib m t shared = rw shared refl
 
 -- ---- a page of the process's own
 
 -- the process with another view
-abbrev pub with_view : Standing → ProcessView → Standing
+abbrev pub with_view : ProcState → ProcessView → ProcState
 with_view p w = record { lock = p.lock; known = p.known; view = w }
 
-pub private_mapped : Laws → (p : Standing) (r : ResidenceFor) (q : PageId) (bytes : List ℕ) (w : ProcessView) (before after : ℕ) → without_room w ≡ without_room p.view → p.view.holding.front ≡ length p.known.seen →
+pub private_mapped : Laws → (p : ProcState) (r : ResidenceFor) (q : PageId) (bytes : List ℕ) (w : ProcessView) (before after : ℕ) → without_room w ≡ without_room p.view → p.view.holding.front ≡ length p.known.seen →
     is_own (class_of (object_at p.view.library r.«module» q.object)) ≡ true → after ≡ before + source_count p.view.library r.«module» q →
     IsPage p (with_view p (with_page r q bytes w)) (page_in r q) r.«module» (page_in r q ∷ []) before after
 private_mapped laws p r q bytes w before after bare front own steps =
@@ -107,7 +107,7 @@ private_mapped laws p r q bytes w before after bare front own steps =
     }
 
 -- where there is no memory nothing is mapped
-pub nothing_mapped : (p : Standing) (t : PageOf) (m : ℕ) (w : ProcessView) (a : ℕ) → without_room w ≡ without_room p.view → p.view.holding.front ≡ length p.known.seen → IsPage p (with_view p w) t m [] a a
+pub nothing_mapped : (p : ProcState) (t : PageOf) (m : ℕ) (w : ProcessView) (a : ℕ) → without_room w ≡ without_room p.view → p.view.holding.front ≡ length p.known.seen → IsPage p (with_view p w) t m [] a a
 nothing_mapped p t m w a bare front =
     let holding : w.holding ≡ p.view.holding = ap (λ (u : ProcessView). u.holding) bare in
     let shown : p.view.holding ≡ record p.view.holding { front = length p.known.seen } = ap (λ (n : ℕ). record p.view.holding { front = n }) front in
@@ -124,7 +124,7 @@ nothing_mapped p t m w a bare front =
       steps = (let none = no_steps p.view.library p.known.pid m in omega arith);
     }
 
-pub view_holds : (p : Standing) (w : ProcessView) → Holds p → w.library ≡ p.view.library → w.holding.pid ≡ p.view.holding.pid → StandsAt (front_of p) w → Holds (with_view p w)
+pub view_holds : (p : ProcState) (w : ProcessView) → Holds p → w.library ≡ p.view.library → w.holding.pid ≡ p.view.holding.pid → StandsAt (front_of p) w → Holds (with_view p w)
 view_holds p w holds library pid stands =
     let front : front_of (with_view p w) ≡ front_of p = ap (λ (l : List Parts). record { library = l; failing = failing_in p.known.subject; history = p.known.seen }) library in
     record {
@@ -133,6 +133,6 @@ view_holds p w holds library pid stands =
       about = holds.about ∙ ap (λ (l : List Parts). Some (record { library = l; failing = failing_in p.known.subject })) (sym library);
       legal = subst IsLegal (sym front) holds.legal;
       own = holds.own;
-      stands = subst (λ (l : Ledger). StandsAt l w) (sym front) stands;
+      stands = subst (λ (l : BoardState). StandsAt l w) (sym front) stands;
       apart = holds.apart;
     }

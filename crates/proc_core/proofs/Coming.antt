@@ -7,17 +7,17 @@ use Rattle.load_model.specs.Modules.{Library, fixed_bytes}
 use Rattle.load_model.specs.State.{Failing}
 use Rattle.load_model.specs.Histories.{state_after}
 use Rattle.load_model.specs.ViewLaws.{StandsOn}
-use Rattle.load_core.specs.Ledger.{Ledger, IsLegal}
+use Rattle.load_core.specs.BoardState.{BoardState, IsLegal}
 use Rattle.process_view.specs.ProcessViews.{ProcessView, StandsAt, at_front}
 use Rattle.proc_core.specs.declared.kept.About.{About}
-use Rattle.proc_core.specs.Procs.{Standing, Holds, about_of, failing_in}
+use Rattle.proc_core.specs.Procs.{ProcState, Holds, about_of, failing_in}
 use Rattle.proc_core.specs.Calls.{AreOthers}
 use Rattle.proc_core.specs.Turns.{HasCome}
 use Rattle.proc_core.proofs.Others.{own_entries, others_behind}
 use Rattle.proc_core.proofs.ShownOn.{Laws, shown_on, stays_reached}
-use Rattle.proc_core.proofs.Made.{ledger}
+use Rattle.proc_core.proofs.Made.{board_state}
 
-stands_later : Laws → StandsOn → (p : Standing) → Holds p → (more : List Entry) → IsLegal (ledger p more) → AreOthers p.known.pid more → StandsAt (ledger p more) (at_front (length (p.known.seen ++ more)) p.view)
+stands_later : Laws → StandsOn → (p : ProcState) → Holds p → (more : List Entry) → IsLegal (board_state p more) → AreOthers p.known.pid more → StandsAt (board_state p more) (at_front (length (p.known.seen ++ more)) p.view)
 stands_later laws on p holds more legal others =
     let lib : Library = p.view.library in
     let failing : Failing = failing_in p.known.subject in
@@ -25,18 +25,18 @@ stands_later laws on p holds more legal others =
     let at : StandsAt (record { library = lib; failing = failing; history = p.known.seen }) p.view = holds.stands in
     record {
       library = refl;
-      stays = at.stays;
+      residences = at.residences;
       stands = on lib failing (fixed_bytes lib) p.view.holding p.known.seen more holds.process at.stands legal apart;
       shown = shown_on laws lib failing (fixed_bytes lib) p.view.holding.pid p.view.residences more p.known.seen holds.process legal apart
-          (stays_reached lib (fixed_bytes lib) p.view.holding (state_after lib failing p.known.seen) p.view.residences at.stands.view at.stays) at.shown;
+          (stays_reached lib (fixed_bytes lib) p.view.holding (state_after lib failing p.known.seen) p.view.residences at.stands.view at.residences) at.shown;
     }
 
-pub has_come : Laws → StandsOn → (p : Standing) → Holds p → (b : Ledger) → IsLegal b → IsPrefix p.known.seen b.history → own_entries p.known.pid b.history ≡ p.known.mine →
+pub has_come : Laws → StandsOn → (p : ProcState) → Holds p → (b : BoardState) → IsLegal b → IsPrefix p.known.seen b.history → own_entries p.known.pid b.history ≡ p.known.mine →
     p.known.subject ≡ Some (record { library = b.library; failing = b.failing }) → (v : ProcessView) → v ≡ at_front (length b.history) p.view → HasCome p b v
 has_come laws on p holds b legal seen mine about v view =
     let more : List Entry = seen.0 in
     let same : record { library = b.library; failing = b.failing } ≡ about_of p = same_Some _ _ (sym about ∙ holds.about) in
-    let is : b ≡ ledger p more =
+    let is : b ≡ board_state p more =
     ap (λ (a : About). record { library = a.library; failing = a.failing; history = b.history }) same
     ∙ ap (λ (h : List Entry). record { library = p.view.library; failing = failing_in p.known.subject; history = h }) (sym seen.1) in
     let others : AreOthers p.known.pid more = others_behind p.known.pid p.known.seen more p.known.mine holds.own (ap (own_entries p.known.pid) seen.1 ∙ mine) in
@@ -47,6 +47,6 @@ has_come laws on p holds b legal seen mine about v view =
       mine = mine;
       is = is;
       view = view;
-      stands = subst (StandsAt b) (sym view) (subst (λ (l : Ledger). StandsAt l (at_front (length l.history) p.view)) (sym is) later);
+      stands = subst (StandsAt b) (sym view) (subst (λ (l : BoardState). StandsAt l (at_front (length l.history) p.view)) (sym is) later);
       legal = legal;
     }

@@ -7,19 +7,19 @@ use Rattle.turn_lock.specs.declared.known.Known.{Known}
 use Rattle.turn_lock.specs.Turns.{joining, ended_of}
 use Rattle.load_model.specs.declared.deeds.Entry.{Entry}
 use Rattle.proc_core.specs.declared.kept.About.{About}
-use Rattle.proc_core.specs.Procs.{Standing, Holds}
+use Rattle.proc_core.specs.Procs.{ProcState, Holds}
 use Rattle.proc_core.specs.Joining.{Begins, Joined, Owns}
 
 trans : {A : Type 0} (xs ys zs : List A) → IsPrefix xs ys → IsPrefix ys zs → IsPrefix xs zs
 trans xs ys zs p q = (p.0 ++ q.0, sym (append_assoc xs p.0 q.0) ∙ (ap (λ w. w ++ q.0) p.1 ∙ q.1))
 
-begins_on : (p : Standing) (v w : Known Entry About) → Begins p v → IsPrefix v.seen w.seen → Begins p w
+begins_on : (p : ProcState) (v w : Known Entry About) → Begins p v → IsPrefix v.seen w.seen → Begins p w
 begins_on p v w b on = record { seen = trans p.known.seen v.seen w.seen b.seen on; own = b.own }
 
-pub begins_own : (p : Standing) → Holds p → Begins p p.known
+pub begins_own : (p : ProcState) → Holds p → Begins p p.known
 begins_own p h = record { seen = ([], append-nil p.known.seen); own = h.own }
 
-pub joined_start : (lock : _) (first : Standing) (rest : List Standing) → Owns lock first rest → Holds first → Joined first rest (length rest) first.known
+pub joined_start : (lock : _) (first : ProcState) (rest : List ProcState) → Owns lock first rest → Holds first → Joined first rest (length rest) first.known
 joined_start lock first rest owns holds = record {
   pid = owns.pid;
   live = owns.live;
@@ -31,10 +31,10 @@ joined_start lock first rest owns holds = record {
   none = λ p out. ap (ended_of p) holds.apart;
 }
 
-not_here : (rest : List Standing) (n p : ℕ) → n < length rest → (p < 2) ⊎ (length rest + 1 < p) → n + 2 ≡ p → ⊥
+not_here : (rest : List ProcState) (n p : ℕ) → n < length rest → (p < 2) ⊎ (length rest + 1 < p) → n + 2 ≡ p → ⊥
 not_here rest n p inside out is = elim out [ inl low ↦ omega arith | inr high ↦ omega arith ]
 
-pub joined_more : (first : Standing) (rest : List Standing) (n m : ℕ) (v : Known Entry About) (last : Standing) → m ≡ n + 1 → n < length rest → Joined first rest m v → Holds last → ((d : Standing) → get_or rest n d ≡ last)
+pub joined_more : (first : ProcState) (rest : List ProcState) (n m : ℕ) (v : Known Entry About) (last : ProcState) → m ≡ n + 1 → n < length rest → Joined first rest m v → Holds last → ((d : ProcState) → get_or rest n d ≡ last)
     → last.known.pid ≡ n + 2 → IsPrefix v.seen (joining v last.known).seen → IsPrefix last.known.seen (joining v last.known).seen → Joined first rest n (joining v last.known)
 joined_more first rest n m v last up inside old holds here pid_is begin_left begin_right =
     let w : Known Entry About = last.known in
@@ -46,7 +46,7 @@ joined_more first rest n m v last up inside old holds here pid_is begin_left beg
       mine = old.mine;
       first_begins = begins_on first v after old.first_begins begin_left;
       ended = λ k d from to. dite (ℕ_discrete k n)
-          (λ is. rw (eq-eqb w.pid (k + 2) (pid_is ∙ ap (λ (j : ℕ). j + 2) (sym is))) (sym (ap (λ (s : Standing). s.known.mine) (ap (λ (j : ℕ). get_or rest j d) is ∙ here d))))
+          (λ is. rw (eq-eqb w.pid (k + 2) (pid_is ∙ ap (λ (j : ℕ). j + 2) (sym is))) (sym (ap (λ (s : ProcState). s.known.mine) (ap (λ (j : ℕ). get_or rest j d) is ∙ here d))))
           (λ ne. rw (ne_eqb w.pid (k + 2) (λ e. ne (omega arith))) (old.ended k d (omega arith) to));
       begins = λ k d from to. dite (ℕ_discrete k n)
           (λ is. subst (λ s. Begins s after) (sym (ap (λ (j : ℕ). get_or rest j d) is ∙ here d)) (record { seen = begin_right; own = holds.own }))

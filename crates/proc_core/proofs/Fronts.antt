@@ -6,11 +6,11 @@ use Rattle.load_model.specs.declared.commands.Reply.{Reply}
 use Rattle.load_model.specs.declared.commands.Reply.TheVariants.{Refused}
 use Rattle.load_model.specs.Modules.{fixed_bytes}
 use Rattle.load_model.specs.Step.{steady, answer_of}
-use Rattle.load_model.specs.Standing.{state_for}
+use Rattle.load_model.specs.Views.{state_for}
 use Rattle.load_model.specs.ViewAnswers.{view_refusal, view_reply}
 use Rattle.load_model.specs.ViewLaws.{RefusedByView, AnsweredByView}
 use Rattle.load_model.specs.Outcomes.{RefusedIsTold}
-use Rattle.proc_core.specs.Procs.{Standing, front_of, Holds}
+use Rattle.proc_core.specs.Procs.{ProcState, front_of, Holds}
 use Rattle.proc_core.specs.Calls.{IsReplied, IsRefusedAtFront}
 
 pub record Laws : Type 0 where
@@ -18,7 +18,7 @@ pub record Laws : Type 0 where
   pub replies : AnsweredByView
   pub told : RefusedIsTold
 
-pub replied : Laws → (p : Standing) → Holds p → (command : Command) (reply : Reply) → view_refusal p.view.library p.view.holding command ≡ None →
+pub replied : Laws → (p : ProcState) → Holds p → (command : Command) (reply : Reply) → view_refusal p.view.library p.view.holding command ≡ None →
     view_reply p.view.library p.view.holding command ≡ Some reply → IsReplied p command reply
 replied laws p holds command reply accepted is = record {
   accepted = accepted;
@@ -27,7 +27,7 @@ replied laws p holds command reply accepted is = record {
       (laws.replies p.view.library (front_of p).failing (fixed_bytes p.view.library) p.view.holding p.known.seen command reply holds.legal holds.stands.stands accepted is);
 }
 
-pub refused : Laws → (p : Standing) → Holds p → (command : Command) (refusal : Refusal) → view_refusal p.view.library p.view.holding command ≡ Some refusal → IsRefusedAtFront p command refusal
+pub refused : Laws → (p : ProcState) → Holds p → (command : Command) (refusal : Refusal) → view_refusal p.view.library p.view.holding command ≡ Some refusal → IsRefusedAtFront p command refusal
 refused laws p holds command refusal is = record {
   refused = is;
   step = subst (λ (pid : ℕ). answer_of p.view.library (fixed_bytes p.view.library) (state_for p.view.library (front_of p).failing p.view.holding p.known.seen) pid command ≡ steady (Refused refusal)) holds.number
@@ -36,18 +36,18 @@ refused laws p holds command refusal is = record {
 }
 
 -- what a view answers
-abbrev pub Answered : {A : Type 0} → Standing → Command → (A → Reply) → Result A Refusal → Type 0
+abbrev pub Answered : {A : Type 0} → ProcState → Command → (A → Reply) → Result A Refusal → Type 0
 Answered p command reply r = MatchResult r
     (λ a. (view_refusal p.view.library p.view.holding command ≡ None) × (view_reply p.view.library p.view.holding command ≡ Some (reply a)))
     (λ refusal. view_refusal p.view.library p.view.holding command ≡ Some refusal)
 
-pub answered : {A : Type 0} → Laws → (p : Standing) → Holds p → (command : Command) (reply : A → Reply) (r : Result A Refusal) → Answered p command reply r →
+pub answered : {A : Type 0} → Laws → (p : ProcState) → Holds p → (command : Command) (reply : A → Reply) (r : Result A Refusal) → Answered p command reply r →
     MatchResult r (λ a. IsReplied p command (reply a)) (λ refusal. IsRefusedAtFront p command refusal)
 answered laws p holds command reply (Ok a) is = replied laws p holds command (reply a) is.0 is.1
 answered laws p holds command reply (Err refusal) is = refused laws p holds command refusal is
 
 -- the same, with a fact more beside a refusal
-pub answered_with : {A : Type 0} (K : Type 0) → Laws → (p : Standing) → Holds p → (command : Command) (reply : A → Reply) (r : Result A Refusal) →
+pub answered_with : {A : Type 0} (K : Type 0) → Laws → (p : ProcState) → Holds p → (command : Command) (reply : A → Reply) (r : Result A Refusal) →
     MatchResult r
     (λ a. (view_refusal p.view.library p.view.holding command ≡ None) × (view_reply p.view.library p.view.holding command ≡ Some (reply a)))
     (λ refusal. (view_refusal p.view.library p.view.holding command ≡ Some refusal) × K) →

@@ -1,20 +1,43 @@
+-- ---- histories and their processes
+-- A process that has done nothing.
 pub mod Beginnings
+-- One more pass is joined into the first.
 pub mod Endings
+-- Entries of others, told by filters.
 pub mod Others
-pub mod ShownOn
-pub mod Fronts
-pub mod Asked
-pub mod Made
-pub mod Coming
-pub mod Turning
+-- The history of a loader that closed over its processes.
 pub mod Histories
+-- The residences of a process stand as they were shown while others go on.
+pub mod ShownOn
+-- What a process is answered by its view is what the loader answers at its front.
+pub mod Fronts
+-- ---- turns of a process
+-- The board comes to a process.
+pub mod Coming
+-- What a command asks that is not refused, and what its entry says.
+pub mod Asked
+-- What a turn comes to.
+pub mod Made
+-- What a call in a turn is answered.
+pub mod Turning
+-- The bytes that a shared read gives are those of the process's last entry.
 pub mod ReadLast
-pub mod TouchedPages
-pub mod Onward
-pub mod Claims
+-- ---- touches, page by page
+-- The pages of a place whose touch is accepted.
 pub mod Places
+-- The pages of a place, one after the other.
+pub mod TouchedPages
+-- A touch goes on by one page.
+pub mod Onward
+-- A page that is claimed in a turn, and mapped after it.
+pub mod Claims
+-- A page that is claimed in a turn.
 pub mod PageTurns
+-- A page that is mapped after its claim.
 pub mod MappedBehind
+-- How far a touch has come, with the turns that it took.
 pub mod TouchedTo
+-- One page of a residence, from the room for it to the page that is mapped.
 pub mod TouchedPage
+-- One round of a touch: the next page of the place.
 pub mod TouchLoop

@@ -14,29 +14,29 @@ use Rattle.load_model.specs.Laws.{OneMoreIsLegal}
 use Rattle.load_model.specs.Accepted.{AcceptedMayAsk, TouchedIsApart}
 use Rattle.load_model.specs.Refusals.{refusal_of}
 use Rattle.load_model.specs.declared.commands.Command.TheVariants as commands
-use Rattle.load_model.specs.Standing.{Holding, mapped_pages, state_for}
-use Rattle.load_model.specs.Touched.{touched_behind}
+use Rattle.load_model.specs.Views.{Holding, mapped_pages, state_for}
+use Rattle.load_model.specs.TouchedPages.{touched_behind}
 use Rattle.load_model.specs.ViewAnswers.{view_refusal}
 use Rattle.load_model.specs.ViewLaws.{RefusedByView}
 use Rattle.load_model.specs.Outcomes.{Outcome, NamesAreKnown}
 use Rattle.session_model.specs.Merging.{AsksFor, uses_touched}
-use Rattle.merge_laws.specs.OwnStates.{state_with}
-use Rattle.load_core.specs.Ledger.{Ledger, IsLegal, entry_of, with_entry}
+use Rattle.load_core.specs.BoardState.{BoardState, IsLegal, entry_of, with_entry}
+use Rattle.merge_laws.specs.PageStates.{state_with}
 use Rattle.process_view.specs.ProcessViews.{ProcessView, StandsAt, at_front, without_room}
 use Rattle.process_view.specs.Deeds.{Did, IsIdle}
 use Rattle.proc_core.specs.declared.kept.About.{About}
-use Rattle.proc_core.specs.Procs.{Standing, Holds, front_of, failing_in}
+use Rattle.proc_core.specs.Procs.{ProcState, Holds, front_of, failing_in}
 use Rattle.proc_core.specs.Calls.{Made, Waited, call_refusal}
 use Rattle.proc_core.specs.Turns.{HasCome}
 use Rattle.proc_core.proofs.Others.{own_entries, own_one}
 use Rattle.proc_core.proofs.Asked.{Entered, asks_for, entered_by}
 
 -- the board in the turn of a process
-abbrev pub ledger : Standing → List Entry → Ledger
-ledger p more = record (front_of p) { history = p.known.seen ++ more }
+abbrev pub board_state : ProcState → List Entry → BoardState
+board_state p more = record (front_of p) { history = p.known.seen ++ more }
 
--- the process behind a turn
-abbrev pub turned : Standing → List Entry → ProcessView → Standing
+-- the process after a turn
+abbrev pub turned : ProcState → List Entry → ProcessView → ProcState
 turned p h w = record { lock = p.lock; known = record p.known { seen = h; mine = own_entries p.known.pid h; drawn = p.known.drawn + 1 }; view = w }
 
 -- the pass is idle again
@@ -48,16 +48,16 @@ idle_again k t h g ticket turn =
 
 -- ---- a view with more room
 
-pub roomless : (b : Ledger) (v w : ProcessView) → without_room w ≡ without_room v → StandsAt b v → StandsAt b w
+pub roomless : (b : BoardState) (v w : ProcessView) → without_room w ≡ without_room v → StandsAt b v → StandsAt b w
 roomless b v w same stands =
-    let bare : StandsAt b (without_room v) = record { library = stands.library; stays = stands.stays; stands = stands.stands; shown = stands.shown } in
+    let bare : StandsAt b (without_room v) = record { library = stands.library; residences = stands.residences; stands = stands.stands; shown = stands.shown } in
     let moved : StandsAt b (without_room w) = subst (StandsAt b) (sym same) bare in
-    record { library = moved.library; stays = moved.stays; stands = moved.stands; shown = moved.shown }
+    record { library = moved.library; residences = moved.residences; stands = moved.stands; shown = moved.shown }
 
--- ---- behind the turn
+-- ---- after the turn
 
--- the process behind a turn, where its view stands for what it has seen
-pub turned_holds : (p : Standing) (c : Ledger) (w : ProcessView) → Holds p → w.library ≡ p.view.library → w.holding.pid ≡ p.view.holding.pid → c.library ≡ p.view.library → c.failing ≡ failing_in p.known.subject →
+-- the process after a turn, where its view stands for what it has seen
+pub turned_holds : (p : ProcState) (c : BoardState) (w : ProcessView) → Holds p → w.library ≡ p.view.library → w.holding.pid ≡ p.view.holding.pid → c.library ≡ p.view.library → c.failing ≡ failing_in p.known.subject →
     IsLegal c → StandsAt c w → Holds (turned p c.history w)
 turned_holds p c w holds library pid same_library same_failing legal stands =
     let front : front_of (turned p c.history w) ≡ c =
@@ -70,30 +70,30 @@ turned_holds p c w holds library pid same_library same_failing legal stands =
       about = holds.about ∙ ap (λ (l : List Parts). Some (record { library = l; failing = failing_in p.known.subject })) (sym library);
       legal = subst IsLegal (sym front) legal;
       own = refl;
-      stands = subst (λ (l : Ledger). StandsAt l w) (sym front) stands;
+      stands = subst (λ (l : BoardState). StandsAt l w) (sym front) stands;
       apart = holds.apart;
     }
 
 -- ---- nothing was done
 
-pub idle_holds : (p : Standing) (b c : Ledger) (v w : ProcessView) → Holds p → HasCome p b v → IsIdle b c v w → Holds (turned p c.history w)
+pub idle_holds : (p : ProcState) (b c : BoardState) (v w : ProcessView) → Holds p → HasCome p b v → IsIdle b c v w → Holds (turned p c.history w)
 idle_holds p b c v w holds come idle =
     let bare : without_room w ≡ without_room (at_front (length b.history) p.view) = idle.1 ∙ ap without_room come.view in
-    let at : StandsAt c w = subst (λ (l : Ledger). StandsAt l w) (sym idle.0) (roomless b v w idle.1 come.stands) in
-    turned_holds p c w holds (ap (λ (u : ProcessView). u.library) bare) (ap (λ (u : ProcessView). u.holding.pid) bare) (ap (λ (l : Ledger). l.library) (idle.0 ∙ come.is)) (ap (λ (l : Ledger). l.failing) (idle.0 ∙ come.is))
+    let at : StandsAt c w = subst (λ (l : BoardState). StandsAt l w) (sym idle.0) (roomless b v w idle.1 come.stands) in
+    turned_holds p c w holds (ap (λ (u : ProcessView). u.library) bare) (ap (λ (u : ProcessView). u.holding.pid) bare) (ap (λ (l : BoardState). l.library) (idle.0 ∙ come.is)) (ap (λ (l : BoardState). l.failing) (idle.0 ∙ come.is))
     (subst IsLegal (sym idle.0) come.legal) at
 
-pub idle_waited : (p : Standing) (b c : Ledger) (v w : ProcessView) → HasCome p b v → IsIdle b c v w → Waited p (turned p c.history w)
+pub idle_waited : (p : ProcState) (b c : BoardState) (v w : ProcessView) → HasCome p b v → IsIdle b c v w → Waited p (turned p c.history w)
 idle_waited p b c v w come idle =
-    let history : c.history ≡ p.known.seen ++ come.more = ap (λ (l : Ledger). l.history) (idle.0 ∙ come.is) in
+    let history : c.history ≡ p.known.seen ++ come.more = ap (λ (l : BoardState). l.history) (idle.0 ∙ come.is) in
     record {
       pass = record { lock = refl; known = refl };
       more = come.more;
       others = come.others;
       seen = history;
-      mine = ap (λ (l : Ledger). own_entries p.known.pid l.history) idle.0 ∙ come.mine;
+      mine = ap (λ (l : BoardState). own_entries p.known.pid l.history) idle.0 ∙ come.mine;
       drawn = inr refl;
-      view = idle.1 ∙ (ap without_room come.view ∙ ap (λ (l : Ledger). without_room (at_front (length l.history) p.view)) (sym idle.0));
+      view = idle.1 ∙ (ap without_room come.view ∙ ap (λ (l : BoardState). without_room (at_front (length l.history) p.view)) (sym idle.0));
     }
 
 -- ---- the command was carried out
@@ -105,19 +105,19 @@ pub record Laws : Type 0 where
   pub apart : TouchedIsApart
   pub grows : OneMoreIsLegal
 
-did_here : (p : Standing) (b c : Ledger) (v w : ProcessView) (command : Command) (outcome : Outcome) → (come : HasCome p b v) → Did b c v w command outcome →
-    Did (ledger p come.more) c (at_front (length (p.known.seen ++ come.more)) p.view) w command outcome
+did_here : (p : ProcState) (b c : BoardState) (v w : ProcessView) (command : Command) (outcome : Outcome) → (come : HasCome p b v) → Did b c v w command outcome →
+    Did (board_state p come.more) c (at_front (length (p.known.seen ++ come.more)) p.view) w command outcome
 did_here p b c v w command outcome come did =
-    subst (λ (l : Ledger). Did l c (at_front (length l.history) p.view) w command outcome) come.is (subst (λ (u : ProcessView). Did b c u w command outcome) come.view did)
+    subst (λ (l : BoardState). Did l c (at_front (length l.history) p.view) w command outcome) come.is (subst (λ (u : ProcessView). Did b c u w command outcome) come.view did)
 
-stands_here : (p : Standing) (b : Ledger) (v : ProcessView) → (come : HasCome p b v) → StandsAt (ledger p come.more) (at_front (length (p.known.seen ++ come.more)) p.view)
-stands_here p b v come = subst (λ (l : Ledger). StandsAt l (at_front (length l.history) p.view)) come.is (subst (StandsAt b) come.view come.stands)
+stands_here : (p : ProcState) (b : BoardState) (v : ProcessView) → (come : HasCome p b v) → StandsAt (board_state p come.more) (at_front (length (p.known.seen ++ come.more)) p.view)
+stands_here p b v come = subst (λ (l : BoardState). StandsAt l (at_front (length l.history) p.view)) come.is (subst (StandsAt b) come.view come.stands)
 
 -- the entry of what was asked
-abbrev entry_here : (p : Standing) (more : List Entry) (ask : Ask) → Entry
-entry_here p more ask = entry_of (ledger p more) p.view.holding.pid ask
+abbrev entry_here : (p : ProcState) (more : List Entry) (ask : Ask) → Entry
+entry_here p more ask = entry_of (board_state p more) p.view.holding.pid ask
 
-view_accepts : RefusedByView → (v : ProcessView) (b : Ledger) (command : Command) → view_refusal v.library v.holding command ≡ None → StandsAt b v → v.library ≡ b.library →
+view_accepts : RefusedByView → (v : ProcessView) (b : BoardState) (command : Command) → view_refusal v.library v.holding command ≡ None → StandsAt b v → v.library ≡ b.library →
     refusal_of b.library (state_for b.library b.failing v.holding b.history) v.holding.pid command ≡ None
 view_accepts refusals v b command accepted stands library =
     refusals b.library b.failing (fixed_bytes b.library) v.holding b.history command stands.stands ∙ (ap (λ (l : List Parts). view_refusal l v.holding command) (sym library) ∙ accepted)
@@ -137,7 +137,7 @@ fronts_alike lib v n (commands.Query name key) = refl
 fronts_alike lib v n (commands.GetRes name ty id) = refl
 fronts_alike lib v n commands.Exit = refl
 
-pub did_made : Laws → (p : Standing) (b c : Ledger) (v w : ProcessView) (command : Command) (outcome : Outcome) → Holds p → (come : HasCome p b v) → FitsPlace command → call_refusal p command ≡ None →
+pub did_made : Laws → (p : ProcState) (b c : BoardState) (v w : ProcessView) (command : Command) (outcome : Outcome) → Holds p → (come : HasCome p b v) → FitsPlace command → call_refusal p command ≡ None →
     view_refusal p.view.library p.view.holding command ≡ None → Did b c v w command outcome → Made p (turned p c.history w) command outcome
 did_made laws p b c v w command outcome holds come fits accepted seen_fine first =
     let did = did_here p b c v w command outcome come first in
@@ -149,13 +149,13 @@ did_made laws p b c v w command outcome holds come fits accepted seen_fine first
     let f : Eager = state_after lib (failing_in p.known.subject) h in
     let e : Eager = state_with lib (failing_in p.known.subject) h (mapped_pages p.view.holding) in
     let front_fine : view_refusal lib now.holding command ≡ None = fronts_alike lib p.view.holding (length h) command ∙ seen_fine in
-    let fine : refusal_of lib e pid command ≡ None = view_accepts laws.refusals now (ledger p come.more) command front_fine stands refl in
+    let fine : refusal_of lib e pid command ≡ None = view_accepts laws.refusals now (board_state p come.more) command front_fine stands refl in
     let may : may_ask lib f pid did.ask ≡ true =
     sym (laws.apart lib (fixed_bytes lib) f (λ q. mapped_pages p.view.holding) pid did.ask).0 ∙ (laws.may lib (fixed_bytes lib) e pid command did.ask fits fine did.asked).0 in
     let x : Entry = entry_here p come.more did.ask in
     let said : Entered e pid did.ask x.deed = entered_by lib (fixed_bytes lib) e f pid command did.ask fits fine did.asked may in
-    let history : c.history ≡ h ++ x ∷ [] = ap (λ (l : Ledger). l.history) did.adds in
-    let before : own_entries p.known.pid h ≡ p.known.mine = sym (ap (λ (l : Ledger). own_entries p.known.pid l.history) come.is) ∙ come.mine in
+    let history : c.history ≡ h ++ x ∷ [] = ap (λ (l : BoardState). l.history) did.adds in
+    let before : own_entries p.known.pid h ≡ p.known.mine = sym (ap (λ (l : BoardState). own_entries p.known.pid l.history) come.is) ∙ come.mine in
     record {
       pass = record { lock = refl; known = refl };
       accepted = accepted;
@@ -175,10 +175,10 @@ did_made laws p b c v w command outcome holds come fits accepted seen_fine first
       mapped = subst (λ (n : ℕ). mapped_pages w.holding ≡ touched_behind lib f n x.deed (λ _. mapped_pages p.view.holding) n) holds.number did.mapped;
     }
 
-pub did_holds : Laws → (p : Standing) (b c : Ledger) (v w : ProcessView) (command : Command) (outcome : Outcome) → Holds p → (come : HasCome p b v) → Did b c v w command outcome → Holds (turned p c.history w)
+pub did_holds : Laws → (p : ProcState) (b c : BoardState) (v w : ProcessView) (command : Command) (outcome : Outcome) → Holds p → (come : HasCome p b v) → Did b c v w command outcome → Holds (turned p c.history w)
 did_holds laws p b c v w command outcome holds come did =
     let same : c ≡ with_entry b (entry_of b v.holding.pid did.ask) = did.adds in
     let legal : IsLegal c =
     subst IsLegal (sym same) (laws.grows b.library b.failing (fixed_bytes b.library) b.history (entry_of b v.holding.pid did.ask) come.legal did.follows) in
     turned_holds p c w holds (did.library ∙ ap (λ (u : ProcessView). u.library) come.view) (did.pid ∙ ap (λ (u : ProcessView). u.holding.pid) come.view)
-    (ap (λ (l : Ledger). l.library) same ∙ ap (λ (l : Ledger). l.library) come.is) (ap (λ (l : Ledger). l.failing) same ∙ ap (λ (l : Ledger). l.failing) come.is) legal did.stands
+    (ap (λ (l : BoardState). l.library) same ∙ ap (λ (l : BoardState). l.library) come.is) (ap (λ (l : BoardState). l.failing) same ∙ ap (λ (l : BoardState). l.failing) come.is) legal did.stands

@@ -1,4 +1,4 @@
--- A page that is mapped behind its claim.
+-- A page that is mapped after its claim.
 use Rattle.std.proofs.Common.{◌≡◌, ℕ, ◌+◌, ◌<◌, ◌≤◌, ◌⊎◌, true, false, List, [], ◌∷◌, ◌++◌, length, count_by, get_or, refl, sym, ap, ◌∙◌, inl, inr, arith, append-nil}
 use Rattle.std.specs.List.{AllByRecursion}
 use Rattle.lx_types.specs.Object.{class_of}
@@ -10,13 +10,13 @@ use Rattle.load_model.specs.declared.deeds.Entry.{Entry}
 use Rattle.load_model.specs.Modules.{object_at, source_count}
 use Rattle.load_model.specs.Asks.{is_own}
 use Rattle.load_model.specs.Histories.{has_fault}
-use Rattle.load_model.specs.Standing.{Holding, mapped_pages}
+use Rattle.load_model.specs.Views.{Holding, mapped_pages}
 use Rattle.load_model.specs.TouchSteps.{touch_steps}
 use Rattle.process_view.specs.ProcessViews.{ProcessView, at_front, without_room}
 use Rattle.process_view.specs.Deeds.{CanMap, with_page, fault_of}
-use Rattle.process_pages.specs.Stays.{page_with}
+use Rattle.process_pages.specs.ReachedResidences.{page_with}
 use Rattle.process_view.specs.PageLaws.{PagesStand}
-use Rattle.proc_core.specs.Procs.{Standing, Holds, front_of}
+use Rattle.proc_core.specs.Procs.{ProcState, Holds, front_of}
 use Rattle.proc_core.specs.Calls.{AreOthers, Waited}
 use Rattle.proc_core.specs.Touches.{page_in, needs_fault, IsSeenForPage, IsPage}
 use Rattle.proc_core.specs.Claiming.{is_there, IsTurn}
@@ -25,22 +25,22 @@ use Rattle.proc_core.proofs.Claims.{Laws, with_view, view_holds, others_steps, t
 
 -- ---- what holds of the process
 
-pub roomy_holds : (p : Standing) (w : ProcessView) → Holds p → without_room w ≡ without_room p.view → Holds (with_view p w)
+pub roomy_holds : (p : ProcState) (w : ProcessView) → Holds p → without_room w ≡ without_room p.view → Holds (with_view p w)
 roomy_holds p w holds bare = view_holds p w holds (ap (λ (u : ProcessView). u.library) bare) (ap (λ (u : ProcessView). u.holding.pid) bare) (roomless (front_of p) p.view w bare holds.stands)
 
-pub mapped_holds : PagesStand → (q : Standing) (k : ℕ) (r : ResidenceFor) (t : PageId) → Holds q → k < length q.view.residences → r ≡ get_or q.view.residences k r → CanMap q.view r t →
+pub mapped_holds : PagesStand → (q : ProcState) (k : ℕ) (r : ResidenceFor) (t : PageId) → Holds q → k < length q.view.residences → r ≡ get_or q.view.residences k r → CanMap q.view r t →
     (is_own (class_of (object_at q.view.library r.«module» t.object)) ≡ false → has_fault q.known.seen r.serial t ≡ true) → Holds (with_view q (with_page r t (fixed_page q.view.library r.«module» r.bases t) q.view))
 mapped_holds stand q k r t holds within is can fault =
     view_holds q (with_page r t (fixed_page q.view.library r.«module» r.bases t) q.view) holds refl refl (stand (front_of q) q.view k r t holds.legal holds.stands within is can fault)
 
 -- ---- what was mapped, of a process that found room first
 
-module _ (laws : Laws) (p q : Standing) (w : ProcessView) (r : ResidenceFor) (t : PageId) (before : ℕ) (holds : Holds p) (bare : without_room w ≡ without_room p.view) (common : is_own (class_of (object_at p.view.library r.«module» t.object)) ≡ false) where
+module _ (laws : Laws) (p q : ProcState) (w : ProcessView) (r : ResidenceFor) (t : PageId) (before : ℕ) (holds : Holds p) (bare : without_room w ≡ without_room p.view) (shared : is_own (class_of (object_at p.view.library r.«module» t.object)) ≡ false) where
   shown_holding : (u : ProcessView) (n : ℕ) → without_room u ≡ without_room (at_front n w) → u.holding ≡ record p.view.holding { front = n }
   shown_holding u n is = ap (λ (x : ProcessView). x.holding) is ∙ ap (λ (x : ProcessView). record x.holding { front = n }) bare
 
   own_one : count_by (needs_fault p.view.library r.«module») (page_in r t ∷ []) ≡ 1
-  own_one = one_fault p.view.library r.«module» (page_in r t) common
+  own_one = one_fault p.view.library r.«module» (page_in r t) shared
 
   others_seen : (more : List Entry) → AreOthers p.known.pid more → AllByRecursion (IsSeenForPage p.view r.«module» (page_in r t)) more
   others_seen more others = all_others p.view r.«module» (page_in r t) p.known.pid more (sym holds.number) others
@@ -66,7 +66,7 @@ module _ (laws : Laws) (p q : Standing) (w : ProcessView) (r : ResidenceFor) (t 
 
   pub taken_mapped : (bytes : List ℕ) → IsTurn (with_view p w) q [] → IsPage p (with_view q (with_page r t bytes q.view)) (page_in r t) r.«module» (page_in r t ∷ []) before before
   taken_mapped bytes turn =
-      let none : touch_steps p.view.library p.known.pid r.«module» turn.more (page_in r t ∷ []) ≡ 0 = taken_steps laws p.view.library p.known.pid r.«module» turn.more (page_in r t) turn.others common in
+      let none : touch_steps p.view.library p.known.pid r.«module» turn.more (page_in r t ∷ []) ≡ 0 = taken_steps laws p.view.library p.known.pid r.«module» turn.more (page_in r t) turn.others shared in
       let all : touch_steps p.view.library p.known.pid r.«module» (turn.more ++ []) (page_in r t ∷ []) ≡ 0 =
       ap (λ (h : List Entry). touch_steps p.view.library p.known.pid r.«module» h (page_in r t ∷ [])) (append-nil turn.more) ∙ none in
       behind bytes [] before turn tt (omega arith)
@@ -79,7 +79,7 @@ module _ (laws : Laws) (p q : Standing) (w : ProcessView) (r : ResidenceFor) (t 
       let own : fault_of w r t ≡ record (fault_of w r t) { pid = p.known.pid } = ap (λ (n : ℕ). record (fault_of w r t) { pid = n }) (pid ∙ holds.number) in
       let counts : touch_steps p.view.library p.known.pid r.«module» (turn.more ++ fault_of w r t ∷ []) (page_in r t ∷ []) ≡ source_count p.view.library r.«module» t =
       ap (λ (x : Entry). touch_steps p.view.library p.known.pid r.«module» (turn.more ++ x ∷ []) (page_in r t ∷ [])) own
-      ∙ given_steps laws p.view.library p.known.pid r.«module» turn.more (page_in r t) turn.others common in
+      ∙ given_steps laws p.view.library p.known.pid r.«module» turn.more (page_in r t) turn.others shared in
       behind bytes (fault_of w r t ∷ []) after turn (inr (pid, refl, apart), tt) (steps ∙ ap (λ (n : ℕ). before + n) (sym counts))
 
   -- without memory for the claim nothing is mapped

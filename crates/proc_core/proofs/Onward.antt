@@ -11,13 +11,13 @@ use Rattle.load_model.specs.Modules.{Library}
 use Rattle.load_model.specs.State.{PageOf, is_among}
 use Rattle.load_model.specs.Memory.{pages_over, page}
 use Rattle.load_model.specs.Step.{meant}
-use Rattle.load_model.specs.Touched.{has_page}
-use Rattle.load_model.specs.Standing.{Holding, mapped_pages}
+use Rattle.load_model.specs.Views.{Holding, mapped_pages}
+use Rattle.load_model.specs.TouchedPages.{has_page}
 use Rattle.load_model.specs.TouchSteps.{touch_steps, entry_steps, mapped_steps}
-use Rattle.merge_laws.specs.ViewAccounts.{serial_seen}
+use Rattle.merge_laws.specs.PageStates.{serial_seen}
 use Rattle.process_view.specs.ProcessViews.{ProcessView}
 use Rattle.proc_core.specs.declared.kept.About.{About}
-use Rattle.proc_core.specs.Procs.{Standing}
+use Rattle.proc_core.specs.Procs.{ProcState}
 use Rattle.load_model.specs.declared.commands.Command.TheVariants.{Touch}
 use Rattle.load_model.specs.declared.deeds.Deed.{Deed}
 use Rattle.proc_core.specs.Calls.{IsSamePass, call_refusal}
@@ -35,7 +35,7 @@ steps_more lib pid m a b s t =
 
 -- ---- passes
 
-pub pass_on : (p q r : Standing) → IsSamePass p q → IsSamePass q r → IsSamePass p r
+pub pass_on : (p q r : ProcState) → IsSamePass p q → IsSamePass q r → IsSamePass p r
 pass_on p q r a b = record {
   lock = b.lock ∙ a.lock;
   known = b.known ∙ ap (λ (k : Known Entry About). record k { seen = r.known.seen; mine = r.known.mine; drawn = r.known.drawn }) a.known;
@@ -62,7 +62,7 @@ seen_in v w at t m x is pid same (inr own) =
 
 -- ---- one more page
 
-pub touched_more : (p q r : Standing) (at : Place) (n k a b c : ℕ) (t : PageOf) (m : ℕ) (news : List PageOf) → IsTouched p q at n a b → IsPage q r t m news b c → IsPlaces p.view at t m →
+pub touched_more : (p q r : ProcState) (at : Place) (n k a b c : ℕ) (t : PageOf) (m : ℕ) (news : List PageOf) → IsTouched p q at n a b → IsPage q r t m news b c → IsPlaces p.view at t m →
     newly_mapped p.view at k ≡ newly_mapped p.view at n ++ news →
     (has_page (mapped_pages q.view.holding) t.serial t.page ≡ false → has_page (mapped_pages p.view.holding) t.serial t.page ≡ false) →
     r.known.drawn ≤ p.known.drawn + count_by (needs_fault p.view.library m) (newly_mapped p.view at (length (touched_pages p.view at))) → IsTouched p r at k a c
@@ -93,7 +93,7 @@ touched_more p q r at n k a b c t m news before step is pages same drawn =
 
 -- ---- no page yet
 
-pub touched_none : (p : Standing) (at : Place) (a : ℕ) → call_refusal p (Touch at) ≡ None → p.view.holding.front ≡ length p.known.seen → IsTouched p p at 0 a a
+pub touched_none : (p : ProcState) (at : Place) (a : ℕ) → call_refusal p (Touch at) ≡ None → p.view.holding.front ≡ length p.known.seen → IsTouched p p at 0 a a
 unfolding touch_steps
 touched_none p at a accepted front = record {
   pass = record { lock = refl; known = refl };
@@ -125,7 +125,7 @@ newly_from v at first l n from fits =
 if_same : (b c : Bool) (t : PageOf) → b ≡ c → (if b then [] else t ∷ []) ≡ (if c then [] else t ∷ [])
 if_same b c t e = ap (λ (x : Bool). if x then [] else t ∷ []) e
 
-pub mapped_alike : (p q : Standing) (at : Place) (first l n a b : ℕ) → AreFrom at first l → n ≤ l → IsTouched p q at n a b → (serial : ℕ) → serial ≡ serial_seen p.view.library p.view.holding at →
+pub mapped_alike : (p q : ProcState) (at : Place) (first l n a b : ℕ) → AreFrom at first l → n ≤ l → IsTouched p q at n a b → (serial : ℕ) → serial ≡ serial_seen p.view.library p.view.holding at →
     has_page (mapped_pages q.view.holding) serial (page at.object (first + n)) ≡ has_page (mapped_pages p.view.holding) serial (page at.object (first + n))
 mapped_alike p q at first l n a b from fits before serial is =
     let own : ℕ = serial_seen p.view.library p.view.holding at in
@@ -145,14 +145,14 @@ newly_step v at first l n from inside =
     ∙ (not_among_more (mapped_pages v.holding) (pages_from own at.object first n) t
     ∙ ap (λ xs. xs ++ (if has_page (mapped_pages v.holding) own (page at.object (first + n)) then [] else t ∷ [])) (sym (newly_from v at first l n from (omega arith)))))
 
-pub newly_next : (p q : Standing) (at : Place) (first l n a b : ℕ) → AreFrom at first l → n < l → IsTouched p q at n a b →
+pub newly_next : (p q : ProcState) (at : Place) (first l n a b : ℕ) → AreFrom at first l → n < l → IsTouched p q at n a b →
     newly_mapped p.view at (n + 1) ≡ newly_mapped p.view at n ++ news_of q.view (page_at (serial_seen p.view.library p.view.holding at) at.object (first + n))
 newly_next p q at first l n a b from inside before =
     let own : ℕ = serial_seen p.view.library p.view.holding at in
     let t : PageOf = page_at own at.object (first + n) in
     newly_step p.view at first l n from inside ∙ ap (λ xs. newly_mapped p.view at n ++ xs) (if_same _ _ t (sym (mapped_alike p q at first l n a b from (omega arith) before own refl)))
 
-pub touched_next : (p q r : Standing) (at : Place) (first l n a b c m : ℕ) → AreFrom at first l → n < l → IsTouched p q at n a b →
+pub touched_next : (p q r : ProcState) (at : Place) (first l n a b c m : ℕ) → AreFrom at first l → n < l → IsTouched p q at n a b →
     IsPage q r (page_at (serial_seen p.view.library p.view.holding at) at.object (first + n)) m (news_of q.view (page_at (serial_seen p.view.library p.view.holding at) at.object (first + n))) b c →
     m ≡ meant p.view.library at.«module» → is_among (pages_over at.offset at.len) (first + n) ≡ true →
     r.known.drawn ≤ p.known.drawn + count_by (needs_fault p.view.library m) (newly_mapped p.view at (length (touched_pages p.view at))) → IsTouched p r at (n + 1) a c
@@ -163,7 +163,7 @@ touched_next p q r at first l n a b c m from inside before step is among drawn =
     (λ none. sym (mapped_alike p q at first l n a b from (omega arith) before own refl) ∙ none) drawn
 
 -- where there is no memory for the next page, none more is mapped
-pub touched_stop : (p q r : Standing) (at : Place) (first l n a b c m : ℕ) → AreFrom at first l → n < l → IsTouched p q at n a b →
+pub touched_stop : (p q r : ProcState) (at : Place) (first l n a b c m : ℕ) → AreFrom at first l → n < l → IsTouched p q at n a b →
     IsPage q r (page_at (serial_seen p.view.library p.view.holding at) at.object (first + n)) m [] b c → m ≡ meant p.view.library at.«module» → is_among (pages_over at.offset at.len) (first + n) ≡ true →
     r.known.drawn ≤ p.known.drawn + count_by (needs_fault p.view.library m) (newly_mapped p.view at (length (touched_pages p.view at))) → IsTouched p r at n a c
 touched_stop p q r at first l n a b c m from inside before step is among drawn =

@@ -8,7 +8,7 @@ use mathlib.Core.List.{IsPrefix}
 use native.Mathlib.Decide.{ℕ_discrete}
 use Rattle.turn_lock.specs.Turns.{by_pid}
 use Rattle.load_model.specs.declared.deeds.Entry.{Entry}
-use Rattle.proc_core.specs.Procs.{Standing}
+use Rattle.proc_core.specs.Procs.{ProcState}
 use Rattle.proc_core.specs.Calls.{AreOthers}
 use Rattle.proc_core.specs.Closing.{GoesOn}
 
@@ -45,7 +45,7 @@ others_behind pid seen more mine own all =
     (append_cancel_left (own_entries pid seen) (own_entries pid more) []
     (sym (filter-append (λ (x : Entry). x.pid == pid) seen more) ∙ (all ∙ (sym own ∙ sym (append-nil (own_entries pid seen))))))
 
-pub goes_on : (h : List Entry) (p : Standing) → IsPrefix p.known.seen h → own_entries p.known.pid p.known.seen ≡ p.known.mine → own_entries p.known.pid h ≡ p.known.mine → GoesOn h p
+pub goes_on : (h : List Entry) (p : ProcState) → IsPrefix p.known.seen h → own_entries p.known.pid p.known.seen ≡ p.known.mine → own_entries p.known.pid h ≡ p.known.mine → GoesOn h p
 goes_on h p seen own all = record {
   more = seen.0;
   seen = sym seen.1;

@@ -13,18 +13,18 @@ use Rattle.load_model.specs.declared.deeds.Entry.{Entry}
 use Rattle.load_model.specs.Modules.{fixed_bytes}
 use Rattle.load_model.specs.Histories.{has_fault, is_fault_of}
 use Rattle.load_model.specs.Laws.{OneMoreIsLegal}
-use Rattle.load_core.specs.Ledger.{Ledger, IsLegal}
+use Rattle.load_core.specs.BoardState.{BoardState, IsLegal}
 use Rattle.load_core.specs.declared.answers.Claim.{Claim}
 use Rattle.load_core.specs.declared.answers.Claim.TheVariants as claims
 use Rattle.process_view.specs.ProcessViews.{ProcessView, at_front, without_room}
-use Rattle.process_view.specs.Deeds.{CanMap, IsCommonPage, IsClaimedIn, IsIdle, fault_of}
+use Rattle.process_view.specs.Deeds.{CanMap, IsSharedPage, IsClaimedIn, IsIdle, fault_of}
 use Rattle.process_view.proofs.PagesStanding.{shown_at}
 use Rattle.proc_core.specs.declared.kept.About.{About}
 use Rattle.proc_core.specs.declared.kept.Kept.{Kept}
-use Rattle.proc_core.specs.Procs.{Standing, standing, Holds, failing_in}
+use Rattle.proc_core.specs.Procs.{ProcState, proc_state, Holds, failing_in}
 use Rattle.proc_core.specs.Calls.{Waited}
 use Rattle.proc_core.specs.Touches.{IsPageOf, needs_fault, page_in}
-use Rattle.proc_core.specs.Claiming.{stay_at, is_there, IsTurn, IsClaim}
+use Rattle.proc_core.specs.Claiming.{residence_at, is_there, IsTurn, IsClaim}
 use Rattle.proc_core.specs.Turns.{HasCome, in_turn}
 use Rattle.proc_core.proofs.Made.{turned, turned_holds, idle_holds, idle_waited}
 use Rattle.proc_core.proofs.Places.{page_alike}
@@ -32,46 +32,46 @@ use Rattle.proc_core.proofs.Turning.{is_turned}
 
 -- ---- the page may be claimed
 
-library_is : (p : Standing) (k : ℕ) (d : ResidenceFor) → Holds p → k < length p.view.residences → (get_or p.view.residences k d).library ≡ p.view.library
+library_is : (p : ProcState) (k : ℕ) (d : ResidenceFor) → Holds p → k < length p.view.residences → (get_or p.view.residences k d).library ≡ p.view.library
 library_is p k d holds within =
     let r : ResidenceFor = get_or p.view.residences k d in
     ap (λ (q : ResidenceFor). q.library) (shown_at p.view.library _ p.view.residences k r holds.stands.shown within (get_or_default p.view.residences k d r within))
 
-pub can_map : (p : Standing) (k : ℕ) (t : PageId) (d : ResidenceFor) → Holds p → IsPageOf p.view k t → is_there p.view (stay_at p.view k d) t ≡ false → CanMap p.view (stay_at p.view k d) t
-can_map p k t d holds is apart = record { object = is.object d; page = is.page d; small = is.small; apart = apart; library = library_is p k d holds is.stay }
+pub can_map : (p : ProcState) (k : ℕ) (t : PageId) (d : ResidenceFor) → Holds p → IsPageOf p.view k t → is_there p.view (residence_at p.view k d) t ≡ false → CanMap p.view (residence_at p.view k d) t
+can_map p k t d holds is apart = record { object = is.object d; page = is.page d; small = is.small; apart = apart; library = library_is p k d holds is.residence }
 
 pub can_map_on : (v w : ProcessView) (n : ℕ) (r : ResidenceFor) (t : PageId) → w ≡ at_front n v → CanMap v r t → CanMap w r t
 can_map_on v w n r t is can = subst (λ (u : ProcessView). CanMap u r t) (sym is) (record { object = can.object; page = can.page; small = can.small; apart = can.apart; library = can.library })
 
 -- ---- the board goes back
 
-module _ (p : Standing) (b c : Ledger) (v w : ProcessView) (r : ResidenceFor) (t : PageId) (holds : Holds p) (come : HasCome p b v) where
+module _ (p : ProcState) (b c : BoardState) (v w : ProcessView) (r : ResidenceFor) (t : PageId) (holds : Holds p) (come : HasCome p b v) where
   abbrev IsClaimedHere : Result Claim Want → Type 0
   IsClaimedHere x = MatchResult x (IsClaimedIn b c v w r t) (λ none. IsIdle b c v w)
 
   board_same : (x : Result Claim Want) → IsClaimedHere x → (c.library ≡ b.library) × (c.failing ≡ b.failing)
-  board_same (Ok (claims.Right right)) is = (ap (λ (l : Ledger). l.library) is.1, ap (λ (l : Ledger). l.failing) is.1)
-  board_same (Ok claims.Taken) is = (ap (λ (l : Ledger). l.library) is.0, ap (λ (l : Ledger). l.failing) is.0)
-  board_same (Err none) is = (ap (λ (l : Ledger). l.library) is.0, ap (λ (l : Ledger). l.failing) is.0)
+  board_same (Ok (claims.Right right)) is = (ap (λ (l : BoardState). l.library) is.1, ap (λ (l : BoardState). l.failing) is.1)
+  board_same (Ok claims.Taken) is = (ap (λ (l : BoardState). l.library) is.0, ap (λ (l : BoardState). l.failing) is.0)
+  board_same (Err none) is = (ap (λ (l : BoardState). l.library) is.0, ap (λ (l : BoardState). l.failing) is.0)
 
   pub claimed_about : (x : Result Claim Want) → IsClaimedHere x → p.known.subject ≡ Some (record { library = c.library; failing = c.failing })
   claimed_about x is =
       let back : (c.library ≡ b.library) × (c.failing ≡ b.failing) = board_same x is in
       let first : About = record { library = p.view.library; failing = failing_in p.known.subject } in
       let at : record { library = c.library; failing = c.failing } ≡ first =
-      ap (λ l. record { library = l; failing = c.failing }) (back.0 ∙ ap (λ (l : Ledger). l.library) come.is)
-      ∙ ap (λ f. record { library = p.view.library; failing = f }) (back.1 ∙ ap (λ (l : Ledger). l.failing) come.is) in
+      ap (λ l. record { library = l; failing = c.failing }) (back.0 ∙ ap (λ (l : BoardState). l.library) come.is)
+      ∙ ap (λ f. record { library = p.view.library; failing = f }) (back.1 ∙ ap (λ (l : BoardState). l.failing) come.is) in
       holds.about ∙ ap Some (sym at)
 
   own_pid : v.holding.pid ≡ p.known.pid
   own_pid = ap (λ (u : ProcessView). u.holding.pid) come.view ∙ holds.number
 
   pub claimed_adds : (x : Result Claim Want) → IsClaimedHere x → Adds (λ (e : Entry). e.pid) p.known.pid b.history c.history
-  claimed_adds (Ok (claims.Right right)) is = inr (fault_of v r t, ap (λ (l : Ledger). l.history) is.1, own_pid)
-  claimed_adds (Ok claims.Taken) is = inl (ap (λ (l : Ledger). l.history) is.0)
-  claimed_adds (Err none) is = inl (ap (λ (l : Ledger). l.history) is.0)
+  claimed_adds (Ok (claims.Right right)) is = inr (fault_of v r t, ap (λ (l : BoardState). l.history) is.1, own_pid)
+  claimed_adds (Ok claims.Taken) is = inl (ap (λ (l : BoardState). l.history) is.0)
+  claimed_adds (Err none) is = inl (ap (λ (l : BoardState). l.history) is.0)
 
-  -- ---- behind the turn
+  -- ---- after the turn
 
   same_library : w.library ≡ v.library → w.library ≡ p.view.library
   same_library is = is ∙ ap (λ (u : ProcessView). u.library) come.view
@@ -80,7 +80,7 @@ module _ (p : Standing) (b c : Ledger) (v w : ProcessView) (r : ResidenceFor) (t
   claimed_holds grows (Ok (claims.Right right)) is =
       let legal : IsLegal c = subst IsLegal (sym is.1) (grows b.library b.failing (fixed_bytes b.library) b.history (fault_of v r t) come.legal is.2) in
       turned_holds p c w holds (same_library (ap (λ (u : ProcessView). u.library) is.3)) (ap (λ (u : ProcessView). u.holding.pid) (is.3 ∙ ap (at_front (length c.history)) come.view))
-      ((board_same (Ok (claims.Right right)) is).0 ∙ ap (λ (l : Ledger). l.library) come.is) ((board_same (Ok (claims.Right right)) is).1 ∙ ap (λ (l : Ledger). l.failing) come.is) legal is.4
+      ((board_same (Ok (claims.Right right)) is).0 ∙ ap (λ (l : BoardState). l.library) come.is) ((board_same (Ok (claims.Right right)) is).1 ∙ ap (λ (l : BoardState). l.failing) come.is) legal is.4
   claimed_holds grows (Ok claims.Taken) is = idle_holds p b c v w holds come (is.0, ap without_room is.1)
   claimed_holds grows (Err none) is = idle_holds p b c v w holds come is
 
@@ -99,8 +99,8 @@ module _ (p : Standing) (b c : Ledger) (v w : ProcessView) (r : ResidenceFor) (t
 
   pub claimed : (x : Result Claim Want) → IsClaimedHere x → MatchResult x (IsClaim p (turned p c.history w) r t) (λ none. Waited p (turned p c.history w))
   claimed (Ok (claims.Right right)) is =
-      let history : c.history ≡ b.history ++ fault_of v r t ∷ [] = ap (λ (l : Ledger). l.history) is.1 in
-      let seen : b.history ≡ p.known.seen ++ come.more = ap (λ (l : Ledger). l.history) come.is in
+      let history : c.history ≡ b.history ++ fault_of v r t ∷ [] = ap (λ (l : BoardState). l.history) is.1 in
+      let seen : b.history ≡ p.known.seen ++ come.more = ap (λ (l : BoardState). l.history) come.is in
       let entry : fault_of v r t ≡ fault_of p.view r t = ap (λ (u : ProcessView). fault_of u r t) come.view in
       let all : c.history ≡ p.known.seen ++ (come.more ++ fault_of p.view r t ∷ []) =
       history ∙ (ap (λ (h : List Entry). h ++ fault_of v r t ∷ []) seen ∙ (append_assoc p.known.seen come.more (fault_of v r t ∷ []) ∙ ap (λ (e : Entry). p.known.seen ++ (come.more ++ e ∷ [])) entry)) in
@@ -114,42 +114,42 @@ module _ (p : Standing) (b c : Ledger) (v w : ProcessView) (r : ResidenceFor) (t
       } in
       (is.0, turn, ap (λ (h : List Entry). has_fault h r.serial t) history ∙ self_fault b.history (fault_of v r t) own_fault)
   claimed (Ok claims.Taken) is =
-      let history : c.history ≡ p.known.seen ++ come.more = ap (λ (l : Ledger). l.history) (is.0 ∙ come.is) in
+      let history : c.history ≡ p.known.seen ++ come.more = ap (λ (l : BoardState). l.history) (is.0 ∙ come.is) in
       let turn : IsTurn p (turned p c.history w) [] = record {
         pass = record { lock = refl; known = refl };
         more = come.more;
         others = come.others;
         seen = history ∙ ap (λ (h : List Entry). p.known.seen ++ h) (sym (append-nil come.more));
         drawn = refl;
-        view = is.1 ∙ (come.view ∙ ap (λ (l : Ledger). at_front (length l.history) p.view) (sym is.0));
+        view = is.1 ∙ (come.view ∙ ap (λ (l : BoardState). at_front (length l.history) p.view) (sym is.0));
       } in
-      (turn, ap (λ (l : Ledger). has_fault l.history r.serial t) is.0 ∙ is.2)
+      (turn, ap (λ (l : BoardState). has_fault l.history r.serial t) is.0 ∙ is.2)
   claimed (Err none) is = idle_waited p b c v w come is
 
 -- ---- what the claim requires
 
-pub turn_page : (p : Standing) (b : Ledger) (v : ProcessView) (k : ℕ) (t : PageId) → HasCome p b v → IsPageOf p.view k t → IsPageOf v k t
+pub turn_page : (p : ProcState) (b : BoardState) (v : ProcessView) (k : ℕ) (t : PageId) → HasCome p b v → IsPageOf p.view k t → IsPageOf v k t
 turn_page p b v k t come is = page_alike p.view v k t (ap (λ (u : ProcessView). u.library) come.view) (ap (λ (u : ProcessView). u.residences) come.view) (ap (λ (u : ProcessView). u.holding.ended) come.view) is
 
-pub turn_can : (p : Standing) (b : Ledger) (v : ProcessView) (k : ℕ) (t : PageId) → Holds p → HasCome p b v → IsPageOf p.view k t → ((d : ResidenceFor) → is_there p.view (stay_at p.view k d) t ≡ false) →
-    (d : ResidenceFor) → CanMap v (stay_at v k d) t
+pub turn_can : (p : ProcState) (b : BoardState) (v : ProcessView) (k : ℕ) (t : PageId) → Holds p → HasCome p b v → IsPageOf p.view k t → ((d : ResidenceFor) → is_there p.view (residence_at p.view k d) t ≡ false) →
+    (d : ResidenceFor) → CanMap v (residence_at v k d) t
 turn_can p b v k t holds come is apart d =
-    can_map_on p.view v (length b.history) (stay_at v k d) t come.view
+    can_map_on p.view v (length b.history) (residence_at v k d) t come.view
     (subst (λ (rs : List ResidenceFor). CanMap p.view (get_or rs k d) t) (sym (ap (λ (u : ProcessView). u.residences) come.view)) (can_map p k t d holds is (apart d)))
 
-pub turn_common : (p : Standing) (b : Ledger) (v : ProcessView) (k : ℕ) (t : PageId) → HasCome p b v → IsPageOf p.view k t →
-    ((d : ResidenceFor) → needs_fault p.view.library (stay_at p.view k d).«module» (page_in (stay_at p.view k d) t) ≡ true) → (d : ResidenceFor) → IsCommonPage v (stay_at v k d) t
-turn_common p b v k t come is fault d = subst (λ (u : ProcessView). IsCommonPage u (stay_at u k d) t) (sym come.view) (is.common d ∙ fault d)
+pub turn_shared : (p : ProcState) (b : BoardState) (v : ProcessView) (k : ℕ) (t : PageId) → HasCome p b v → IsPageOf p.view k t →
+    ((d : ResidenceFor) → needs_fault p.view.library (residence_at p.view k d).«module» (page_in (residence_at p.view k d) t) ≡ true) → (d : ResidenceFor) → IsSharedPage v (residence_at v k d) t
+turn_shared p b v k t come is fault d = subst (λ (u : ProcessView). IsSharedPage u (residence_at u k d) t) (sym come.view) (is.shared d ∙ fault d)
 
 -- ---- the claim, of the residence as the process had it before the turn
 
-pub claim_here : (p : Standing) (b c : Ledger) (v w : ProcessView) (k : ℕ) (t : PageId) (x : Result Claim Want) → HasCome p b v →
-    ((d : ResidenceFor) → MatchResult x (IsClaimedIn b c v w (get_or v.residences k d) t) (λ none. IsIdle b c v w)) → (d : ResidenceFor) → MatchResult x (IsClaimedIn b c v w (stay_at p.view k d) t) (λ none. IsIdle b c v w)
+pub claim_here : (p : ProcState) (b c : BoardState) (v w : ProcessView) (k : ℕ) (t : PageId) (x : Result Claim Want) → HasCome p b v →
+    ((d : ResidenceFor) → MatchResult x (IsClaimedIn b c v w (get_or v.residences k d) t) (λ none. IsIdle b c v w)) → (d : ResidenceFor) → MatchResult x (IsClaimedIn b c v w (residence_at p.view k d) t) (λ none. IsIdle b c v w)
 claim_here p b c v w k t x come is d =
     subst (λ (rs : List ResidenceFor). MatchResult x (IsClaimedIn b c v w (get_or rs k d) t) (λ none. IsIdle b c v w)) (ap (λ (u : ProcessView). u.residences) come.view) (is d)
 
 -- all of the turn
-pub record ClaimTaken (p : Standing) (b c : Ledger) (v w : ProcessView) (k : ℕ) (t : PageId) (before after : Seat (Option Kept) (Known Entry About)) (x : Result Claim Want) : Type 0 where
+pub record ClaimTaken (p : ProcState) (b c : BoardState) (v w : ProcessView) (k : ℕ) (t : PageId) (before after : Seat (Option Kept) (Known Entry About)) (x : Result Claim Want) : Type 0 where
   pub idle : (p.known.ticket ≡ None) × (p.known.turn ≡ false)
   pub holds : Holds p
   pub come : HasCome p b v
@@ -158,16 +158,16 @@ pub record ClaimTaken (p : Standing) (b c : Ledger) (v w : ProcessView) (k : ℕ
   pub lock : after.table_id ≡ p.lock
   pub gave : after.me ≡ (giving (λ (e : Entry). e.pid) c.history before.me.0, [])
 
-module _ (p : Standing) (b c : Ledger) (v w : ProcessView) (k : ℕ) (t : PageId) (before after : Seat (Option Kept) (Known Entry About)) (x : Result Claim Want) (turn : ClaimTaken p b c v w k t before after x) where
-  behind_turn : standing after w ≡ turned p c.history w
+module _ (p : ProcState) (b c : BoardState) (v w : ProcessView) (k : ℕ) (t : PageId) (before after : Seat (Option Kept) (Known Entry About)) (x : Result Claim Want) (turn : ClaimTaken p b c v w k t before after x) where
+  behind_turn : proc_state after w ≡ turned p c.history w
   behind_turn = is_turned p after before.me.0 b.history c.history w turn.idle.0 turn.idle.1 turn.lock turn.knows turn.gave
 
-  pub claim_holds : OneMoreIsLegal → Holds (standing after w)
+  pub claim_holds : OneMoreIsLegal → Holds (proc_state after w)
   claim_holds grows =
       let nowhere : ResidenceFor = record { library = []; serial = 0; «module» = 0; bases = record { mods = [] } } in
-      subst Holds (sym behind_turn) (claimed_holds p b c v w (stay_at p.view k nowhere) t turn.holds turn.come grows x (claim_here p b c v w k t x turn.come turn.is nowhere))
+      subst Holds (sym behind_turn) (claimed_holds p b c v w (residence_at p.view k nowhere) t turn.holds turn.come grows x (claim_here p b c v w k t x turn.come turn.is nowhere))
 
-  pub claim_is : (d : ResidenceFor) → MatchResult x (IsClaim p (standing after w) (stay_at p.view k d) t) (λ none. Waited p (standing after w))
+  pub claim_is : (d : ResidenceFor) → MatchResult x (IsClaim p (proc_state after w) (residence_at p.view k d) t) (λ none. Waited p (proc_state after w))
   claim_is d =
-      subst (λ (q : Standing). MatchResult x (IsClaim p q (stay_at p.view k d) t) (λ none. Waited p q)) (sym behind_turn)
-      (claimed p b c v w (stay_at p.view k d) t turn.holds turn.come x (claim_here p b c v w k t x turn.come turn.is d))
+      subst (λ (q : ProcState). MatchResult x (IsClaim p q (residence_at p.view k d) t) (λ none. Waited p q)) (sym behind_turn)
+      (claimed p b c v w (residence_at p.view k d) t turn.holds turn.come x (claim_here p b c v w k t x turn.come turn.is d))

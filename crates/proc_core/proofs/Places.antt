@@ -13,7 +13,7 @@ use Rattle.lx_types.specs.declared.object.Class.TheVariants as classes
 use Rattle.lx_types.specs.declared.object.PageId.{PageId}
 use Rattle.lx_types.specs.declared.parts.Parts.{Parts}
 use Rattle.lx_model.specs.Library.{module_of}
-use Rattle.page_fix.specs.Fixable.{is_common, is_fixable}
+use Rattle.page_fix.specs.Fixable.{has_shared_pages, is_fixable}
 use Rattle.page_frames.specs.Residences.{ResidenceFor}
 use Rattle.load_model.specs.declared.commands.Command.TheVariants.{Touch}
 use Rattle.load_model.specs.declared.commands.Place.{Place}
@@ -28,15 +28,15 @@ use Rattle.load_model.specs.Asks.{is_own}
 use Rattle.load_model.specs.Step.{meant}
 use Rattle.load_model.specs.ViewAnswers.{seen_process, view_refusal, view_place_refusal}
 use Rattle.load_model.proofs.Bytes.{left_none}
-use Rattle.merge_laws.specs.ViewAccounts.{serial_seen}
-use Rattle.process_view.specs.Answering.{IsStayNamed}
+use Rattle.merge_laws.specs.PageStates.{serial_seen}
+use Rattle.process_view.specs.Answering.{IsReachedNamed}
 use Rattle.process_view.specs.ProcessViews.{ProcessView}
-use Rattle.process_view.proofs.Claims.{common_by}
+use Rattle.process_view.proofs.Claims.{shared_by}
 use Rattle.process_view.proofs.Insides.{IsInside, page_inside}
 use Rattle.process_view.proofs.Lookups.{place_by_residence, span_is_inside}
 use Rattle.process_view.proofs.PagesStanding.{attached, attached_there}
 use Rattle.process_view.proofs.Ranges.{any_some_between}
-use Rattle.proc_core.specs.Procs.{Standing, Holds, front_of, failing_in}
+use Rattle.proc_core.specs.Procs.{ProcState, Holds, front_of, failing_in}
 use Rattle.proc_core.specs.Calls.{call_refusal}
 use Rattle.proc_core.specs.Touches.{IsPageOf, needs_fault, page_in}
 use Rattle.proc_core.proofs.Turning.{fine_view}
@@ -56,7 +56,7 @@ none_invalid lib m object offset len is = by_tests (is_outside lib m object offs
     by_tests false true e = cc
     by_tests false false e = refl
 
-place_accepted : (p : Standing) (at : Place) → call_refusal p (Touch at) ≡ None → view_place_refusal p.view.library p.view.holding touch at ≡ None
+place_accepted : (p : ProcState) (at : Place) → call_refusal p (Touch at) ≡ None → view_place_refusal p.view.library p.view.holding touch at ≡ None
 unfolding view_refusal
 place_accepted p at is = fine_view p (Touch at) is
 
@@ -82,14 +82,14 @@ there_of : (lib : Library) (m object offset len : ℕ) → IsInside lib m object
 unfolding objects_of
 there_of lib m object offset len inside = inside.there
 
-pub accepted_place : ResidentsFit → (p : Standing) (at : Place) (k : ℕ) (d : ResidenceFor) → Holds p → call_refusal p (Touch at) ≡ None → IsStayNamed p.view at.«module» k → IsAcceptedPlace p.view at (get_or p.view.residences k d)
+pub accepted_place : ResidentsFit → (p : ProcState) (at : Place) (k : ℕ) (d : ResidenceFor) → Holds p → call_refusal p (Touch at) ≡ None → IsReachedNamed p.view at.«module» k → IsAcceptedPlace p.view at (get_or p.view.residences k d)
 accepted_place fit p at k d holds accepted named =
     let v : ProcessView = p.view in
     let r : ResidenceFor = get_or v.residences k d in
     let seen : view_place_refusal v.library v.holding touch at ≡ None = place_accepted p at accepted in
     let going : v.holding.ended ≡ false = not_ended v.holding.ended _ seen in
     let rest : (span_refusal v.library touch r.«module» at.object at.offset at.len orelse touch_refusal touch (seen_process v.holding) r.serial at.object at.offset at.len) ≡ None =
-    sym (place_by_residence v touch at r going (named.stay d)) ∙ seen in
+    sym (place_by_residence v touch at r going (named.residence d)) ∙ seen in
     let span : span_refusal v.library touch r.«module» at.object at.offset at.len ≡ None = left_none _ None rest in
     let inside : IsInside v.library r.«module» at.object at.offset at.len = span_is_inside v.library touch r.«module» at.object at.offset at.len span in
     let own = attached (front_of p) v k r holds.stands named.within (get_or_default v.residences k d r named.within) in
@@ -100,7 +100,7 @@ accepted_place fit p at k d holds accepted named =
       inside = inside;
       short = end_short v.library r.«module» at.object at.offset at.len inside size.1;
       valid = none_invalid v.library r.«module» at.object at.offset at.len span;
-      serial = sym (ap serial_of (named.stay d));
+      serial = sym (ap serial_of (named.residence d));
       «module» = sym (ap (λ (o : Option ℕ). unwrap_or o (length v.library)) (named.named d));
     }
 
@@ -114,15 +114,15 @@ none_of p (x ∷ xs) n none among = by_test (x == n) refl (none_of p xs n (or_pa
     by_test true e later = (let same : x ≡ n = grind (arith, nat_tests) in ap p (sym same) ∙ (or_parts (p x) (list_any p xs) none).0)
     by_test false e later = later (sym (ap (λ (b : Bool). b || is_among xs n) e) ∙ among)
 
-common_not_own : (c : Class) → is_common c && not false ≡ not (is_own c)
-common_not_own classes.Code = refl
-common_not_own classes.Private = refl
-common_not_own classes.Shared = refl
+shared_not_own : (c : Class) → has_shared_pages c && not false ≡ not (is_own c)
+shared_not_own classes.Code = refl
+shared_not_own classes.Private = refl
+shared_not_own classes.Shared = refl
 
 fixable_is : (lib : Library) (r : ResidenceFor) (t : PageId) → IsNumberOf t.object (length (module_of lib r.«module»).objects) → t.page < pages_of (object_of (module_of lib r.«module») t.object) →
     is_invalid lib r.«module» t ≡ false → is_fixable (module_of lib r.«module») t ≡ needs_fault lib r.«module» (page_in r t)
 fixable_is lib r t there inside valid =
-    common_by lib r.«module» t there inside ∙ (ap (λ (b : Bool). is_common (class_of (object_at lib r.«module» t.object)) && not b) valid ∙ common_not_own (class_of (object_at lib r.«module» t.object)))
+    shared_by lib r.«module» t there inside ∙ (ap (λ (b : Bool). has_shared_pages (class_of (object_at lib r.«module» t.object)) && not b) valid ∙ shared_not_own (class_of (object_at lib r.«module» t.object)))
 
 -- the first page and all up to the end are among those that the bytes cover
 pub among_pages : (at : Place) (first end n : ℕ) → range_with_len first (end - first) ≡ pages_over at.offset at.len → first ≤ n → n < end → is_among (pages_over at.offset at.len) n ≡ true
@@ -137,12 +137,12 @@ page_there v at k n within fine among before =
     λ d. page_inside v.library (get_or v.residences k d).«module» at.object at.offset at.len n (fine d).inside before in
     let short = (fine none).short in
     record {
-      stay = within;
+      residence = within;
       going = (fine none).going;
       object = λ d. (fine d).inside.there;
       page = inside;
       small = omega arith;
-      common = λ d. fixable_is v.library (get_or v.residences k d) (page at.object n) (fine d).inside.there (inside d)
+      shared = λ d. fixable_is v.library (get_or v.residences k d) (page at.object n) (fine d).inside.there (inside d)
           (none_of (λ (i : ℕ). is_invalid v.library (get_or v.residences k d).«module» (page at.object i)) (pages_over at.offset at.len) n (fine d).valid among);
     }
 
@@ -154,20 +154,20 @@ page_alike v w k t library residences ended is =
     let R : List Parts → List ResidenceFor → Type 0 =
     λ lib rs. (d : ResidenceFor) → is_fixable (module_of lib (get_or rs k d).«module») t ≡ needs_fault lib (get_or rs k d).«module» (page_in (get_or rs k d) t) in
     record {
-      stay = subst (λ (rs : List ResidenceFor). k < length rs) (sym residences) is.stay;
+      residence = subst (λ (rs : List ResidenceFor). k < length rs) (sym residences) is.residence;
       going = ended ∙ is.going;
       object = subst (λ (lib : List Parts). P lib w.residences) (sym library) (subst (P v.library) (sym residences) is.object);
       page = subst (λ (lib : List Parts). Q lib w.residences) (sym library) (subst (Q v.library) (sym residences) is.page);
       small = is.small;
-      common = subst (λ (lib : List Parts). R lib w.residences) (sym library) (subst (R v.library) (sym residences) is.common);
+      shared = subst (λ (lib : List Parts). R lib w.residences) (sym library) (subst (R v.library) (sym residences) is.shared);
     }
 
 -- ---- the view's answer
 
 -- where a call is not refused, the view has found the residence
-pub used_in : (p : Standing) (at : Place) (o : Option Refusal) (used : Result ℕ Refusal) → MatchResult used (λ k. (view_place_refusal p.view.library p.view.holding touch at ≡ None) × IsStayNamed p.view at.«module» k)
+pub used_in : (p : ProcState) (at : Place) (o : Option Refusal) (used : Result ℕ Refusal) → MatchResult used (λ k. (view_place_refusal p.view.library p.view.holding touch at ≡ None) × IsReachedNamed p.view at.«module» k)
     (λ refusal. view_place_refusal p.view.library p.view.holding touch at ≡ Some refusal) → o ≡ call_refusal p (Touch at) → o ≡ None →
-    MatchResult used (λ k. (call_refusal p (Touch at) ≡ None) × IsStayNamed p.view at.«module» k) (λ refusal. call_refusal p (Touch at) ≡ Some refusal)
+    MatchResult used (λ k. (call_refusal p (Touch at) ≡ None) × IsReachedNamed p.view at.«module» k) (λ refusal. call_refusal p (Touch at) ≡ Some refusal)
 used_in p at o (Ok k) is told none = (sym told ∙ none, is.1)
 used_in p at o (Err refusal) is told none =
     let fine : view_place_refusal p.view.library p.view.holding touch at ≡ None = place_accepted p at (sym told ∙ none) in

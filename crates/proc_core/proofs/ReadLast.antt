@@ -6,13 +6,13 @@ use Rattle.turn_lock.specs.declared.known.Known.{Known}
 use Rattle.load_model.specs.declared.commands.Command.{Command}
 use Rattle.load_model.specs.declared.commands.Refusal.{Refusal}
 use Rattle.load_model.specs.declared.deeds.Entry.{Entry}
-use Rattle.load_core.specs.Ledger.{Ledger, entry_of}
+use Rattle.load_core.specs.BoardState.{BoardState, entry_of}
 use Rattle.process_view.specs.ProcessViews.{ProcessView}
 use Rattle.process_view.specs.Deeds.{bytes_read}
 use Rattle.proc_core.specs.declared.answers.Done.{Done}
 use Rattle.proc_core.specs.declared.kept.About.{About}
 use Rattle.proc_core.specs.declared.kept.Kept.{Kept}
-use Rattle.proc_core.specs.Procs.{Standing, standing}
+use Rattle.proc_core.specs.Procs.{ProcState, proc_state}
 use Rattle.proc_core.specs.Calls.{IsReadLast}
 use Rattle.proc_core.proofs.Others.{own_entries, own_one}
 use Rattle.proc_core.proofs.Turning.{Taken}
@@ -33,13 +33,13 @@ last_same [] (b ∷ ys) x y is = absurd (no_end ys y (tails x b [] (ys ++ y ∷ 
 last_same (a ∷ xs) [] x y is = absurd (no_end xs x (sym (tails a y (xs ++ x ∷ []) [] is)))
 last_same (a ∷ xs) (b ∷ ys) x y is = last_same xs ys x y (tails a b (xs ++ x ∷ []) (ys ++ y ∷ []) is)
 
-pub read_last : (p : Standing) (command : Command) (b c : Ledger) (v w : ProcessView) (before after : Seat (Option Kept) (Known Entry About)) (r : Result Unit (Fail Refusal)) (a : Result Done (Fail Refusal)) (bytes : List ℕ) →
-    Taken p command b c v w before after r a → IfOk r (λ _. (x : Entry) → c.history ≡ b.history ++ x ∷ [] → bytes ≡ bytes_read x.deed) → IfOk a (λ _. IsReadLast (standing after w) bytes)
+pub read_last : (p : ProcState) (command : Command) (b c : BoardState) (v w : ProcessView) (before after : Seat (Option Kept) (Known Entry About)) (r : Result Unit (Fail Refusal)) (a : Result Done (Fail Refusal)) (bytes : List ℕ) →
+    Taken p command b c v w before after r a → IfOk r (λ _. (x : Entry) → c.history ≡ b.history ++ x ∷ [] → bytes ≡ bytes_read x.deed) → IfOk a (λ _. IsReadLast (proc_state after w) bytes)
 read_last p command b c v w before after r (Err other) bytes t is = tt
 read_last p command b c v w before after (Err fail) (Ok it) bytes t is = absurd t.say
 read_last p command b c v w before after (Ok u) (Ok it) bytes t is =
     let x : Entry = entry_of b v.holding.pid t.is.ask in
-    let history : c.history ≡ b.history ++ x ∷ [] = ap (λ (l : Ledger). l.history) t.is.adds in
+    let history : c.history ≡ b.history ++ x ∷ [] = ap (λ (l : BoardState). l.history) t.is.adds in
     let number : x.pid ≡ p.known.pid = ap (λ (u : ProcessView). u.holding.pid) t.come.view ∙ t.holds.number in
     let same : before.me.0.pid ≡ p.known.pid = ap (λ (k : Known Entry About). k.pid) t.knows.1 in
     let mine : after.me.0.mine ≡ own_entries p.known.pid b.history ++ x ∷ [] =

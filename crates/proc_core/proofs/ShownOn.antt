@@ -10,7 +10,7 @@ use Rattle.load_model.specs.Memory.{bases_seen}
 use Rattle.load_model.specs.Histories.{state_after, after_entry, Legal}
 use Rattle.load_model.specs.Laws.{PrefixIsLegal, EachFollows, OneMoreIsAfter}
 use Rattle.load_model.specs.Alike.{Alike, OthersLeaveAlike, BasesAreAlike}
-use Rattle.load_model.specs.Standing.{Holding, fresh_of, stay_at, IsViewOf}
+use Rattle.load_model.specs.Views.{Holding, fresh_of, reached_of, IsViewOf}
 use Rattle.page_frames.specs.Residences.{ResidenceFor}
 use Rattle.load_core.specs.Told.{residence_shown}
 use Rattle.process_view.specs.ProcessViews.{fresh_shown, AreShown}
@@ -41,19 +41,19 @@ reached_if : (b : Bool) (o : Option Residence) (s : Option Fresh) → s ≡ opti
 reached_if true o s is some = refl
 reached_if false o s is some = sym (ap is_some is) ∙ some
 
-reached_at : (lib : Library) (contents : Held) (v : Holding) (e : Eager) (m : ℕ) → IsViewOf lib contents v e → is_some (stay_at v m) ≡ true → reaches lib (e.processes v.pid) m ≡ true
+reached_at : (lib : Library) (contents : Held) (v : Holding) (e : Eager) (m : ℕ) → IsViewOf lib contents v e → is_some (reached_of v m) ≡ true → reaches lib (e.processes v.pid) m ≡ true
 unfolding attached_residence
-reached_at lib contents v e m view some = reached_if (reaches lib (e.processes v.pid) m) (residence_of e m) (stay_at v m) (view.stays m) some
+reached_at lib contents v e m view some = reached_if (reaches lib (e.processes v.pid) m) (residence_of e m) (reached_of v m) (view.residences m) some
 
 all_reached : (lib : Library) (contents : Held) (v : Holding) (e : Eager) (rs : List ResidenceFor) → IsViewOf lib contents v e →
-    AllByRecursion (λ (r : ResidenceFor). is_some (find (λ s. s.«module» == r.«module») v.stays) ≡ true) rs → AreReached lib e v.pid rs
+    AllByRecursion (λ (r : ResidenceFor). is_some (find (λ s. s.«module» == r.«module») v.residences) ≡ true) rs → AreReached lib e v.pid rs
 all_reached lib contents v e [] view all = tt
 all_reached lib contents v e (r ∷ rs) view all = (reached_at lib contents v e r.«module» view all.0, all_reached lib contents v e rs view all.1)
 
-pub stays_reached : (lib : Library) (contents : Held) (v : Holding) (e : Eager) (rs : List ResidenceFor) → IsViewOf lib contents v e → v.stays ≡ map fresh_shown rs → AreReached lib e v.pid rs
-stays_reached lib contents v e rs view stays =
+pub stays_reached : (lib : Library) (contents : Held) (v : Holding) (e : Eager) (rs : List ResidenceFor) → IsViewOf lib contents v e → v.residences ≡ map fresh_shown rs → AreReached lib e v.pid rs
+stays_reached lib contents v e rs view residences =
     all_reached lib contents v e rs view
-    (subst (λ all. AllByRecursion (λ (r : ResidenceFor). is_some (find (λ (s : Fresh). s.«module» == r.«module») all) ≡ true) rs) (sym stays) (in_stays [] rs))
+    (subst (λ all. AllByRecursion (λ (r : ResidenceFor). is_some (find (λ (s : Fresh). s.«module» == r.«module») all) ≡ true) rs) (sym residences) (in_stays [] rs))
 
 -- ---- an entry of another
 
@@ -67,7 +67,7 @@ one_shown : BasesAreAlike → (lib : Library) (e after : Eager) (pid : ℕ) (r :
     r ≡ residence_shown lib e r.«module» → r ≡ residence_shown lib after r.«module»
 one_shown bases lib e after pid r alike reached shown =
     let m : ℕ = r.«module» in
-    let serial : serial_of (residence_of after m) ≡ serial_of (residence_of e m) = sym (stay_serial (residence_of after m)) ∙ (ap serial_of (alike.stays m reached) ∙ stay_serial (residence_of e m)) in
+    let serial : serial_of (residence_of after m) ≡ serial_of (residence_of e m) = sym (stay_serial (residence_of after m)) ∙ (ap serial_of (alike.residences m reached) ∙ stay_serial (residence_of e m)) in
     shown ∙ sym (alike_shown lib e after m serial (bases lib e after pid m alike reached))
 
 step_reached : (lib : Library) (e after : Eager) (pid : ℕ) (rs : List ResidenceFor) → Alike lib e after pid → AreReached lib e pid rs → AreReached lib after pid rs

@@ -1,4 +1,4 @@
--- The pages of a place, one behind the other.
+-- The pages of a place, one after the other.
 use Rattle.std.proofs.Common.{◌≡◌, ◌≢◌, ℕ, zero, suc, ◌+◌, ◌<◌, ◌≤◌, ◌==◌, ◌&&◌, ◌||◌, not, Bool, true, false, List, [], ◌∷◌, ◌++◌, take, filter, map, refl, sym, ap, ◌∙◌, subst, arith, add-one, eq-eqb, ne_eqb, if◌then◌else◌}
 use Rattle.std.specs.List.{list_all, range_with_len}
 use Rattle.std.proofs.lemmas.List.Folds.{list_any-append}
@@ -7,7 +7,7 @@ use Rattle.std.proofs.lemmas.Bool.{and_from, or_right, or_left, or_parts, or_fro
 use Rattle.lx_types.specs.declared.object.PageId.{PageId}
 use Rattle.load_model.specs.State.{PageOf}
 use Rattle.load_model.specs.Memory.{is_page, page}
-use Rattle.load_model.specs.Touched.{has_page}
+use Rattle.load_model.specs.TouchedPages.{has_page}
 
 abbrev pub page_at : ℕ → ℕ → ℕ → PageOf
 page_at serial object n = record { serial = serial; page = page object n }
@@ -42,7 +42,7 @@ pub not_among_more : (others ts : List PageOf) (t : PageOf) → not_among others
 not_among_more others ts t =
     filter-append (λ (u : PageOf). not (has_page others u.serial u.page)) ts (t ∷ []) ∙ ap (λ us. not_among others ts ++ us) (single others t (has_page others t.serial t.page) refl)
 
--- ---- a page behind them is not among them
+-- ---- a page after them is not among them
 
 none_step : (others ts : List PageOf) (t : PageOf) (serial : ℕ) (q : PageId) (b : Bool) → has_page others t.serial t.page ≡ b → (t.serial == serial) && is_page t.page q ≡ false → has_page (not_among others ts) serial q ≡ false →
     has_page (not_among others (t ∷ ts)) serial q ≡ false

@@ -12,11 +12,11 @@ use Rattle.load_model.specs.Modules.{Library}
 use Rattle.load_model.specs.State.{PageOf, is_among}
 use Rattle.load_model.specs.Memory.{pages_over, page}
 use Rattle.load_model.specs.Step.{meant}
-use Rattle.load_model.specs.Touched.{has_page}
-use Rattle.load_model.specs.Standing.{mapped_pages}
-use Rattle.merge_laws.specs.ViewAccounts.{serial_seen, has_pages}
+use Rattle.load_model.specs.Views.{mapped_pages}
+use Rattle.load_model.specs.TouchedPages.{has_page}
+use Rattle.merge_laws.specs.PageStates.{serial_seen, has_pages}
 use Rattle.process_view.specs.ProcessViews.{ProcessView}
-use Rattle.proc_core.specs.Procs.{Standing}
+use Rattle.proc_core.specs.Procs.{ProcState}
 use Rattle.proc_core.specs.Calls.{call_refusal}
 use Rattle.proc_core.specs.Touches.{touched_pages, newly_mapped, needs_fault, news_of, AreMapped, IsTouched, IsTouchAnswered, IsPage}
 use Rattle.proc_core.proofs.TouchedPages.{page_at, pages_from, not_among, all_mapped, not_all}
@@ -26,12 +26,12 @@ abbrev has_turn : ProcessView → Place → PageOf → Bool
 has_turn v at = needs_fault v.library (meant v.library at.«module»)
 
 -- The first n pages are mapped, and each that was not took a turn at most.
-pub record TouchedTo (p q : Standing) (at : Place) (n before after : ℕ) : Type 0 where
+pub record TouchedTo (p q : ProcState) (at : Place) (n before after : ℕ) : Type 0 where
   pub touched : IsTouched p q at n before after
   pub turns : q.known.drawn ≤ p.known.drawn + count_by (needs_fault p.view.library (meant p.view.library at.«module»)) (newly_mapped p.view at n)
   pub few : q.known.drawn ≤ p.known.drawn + n
 
-pub to_none : (p : Standing) (at : Place) (a : ℕ) → call_refusal p (Touch at) ≡ None → p.view.holding.front ≡ length p.known.seen → TouchedTo p p at 0 a a
+pub to_none : (p : ProcState) (at : Place) (a : ℕ) → call_refusal p (Touch at) ≡ None → p.view.holding.front ≡ length p.known.seen → TouchedTo p p at 0 a a
 to_none p at a accepted front = record { touched = touched_none p at a accepted front; turns = omega arith; few = omega arith }
 
 -- ---- turns
@@ -51,7 +51,7 @@ at_most_one v t = by_test (has_page (mapped_pages v.holding) t.serial t.page)
     by_test true = omega arith
     by_test false = omega arith
 
-module _ (p q r : Standing) (at : Place) (first l n a b c m : ℕ) (from : AreFrom at first l) (inside : n < l) (to : TouchedTo p q at n a b) (is : m ≡ meant p.view.library at.«module») (among : is_among (pages_over at.offset at.len) (first + n) ≡ true) where
+module _ (p q r : ProcState) (at : Place) (first l n a b c m : ℕ) (from : AreFrom at first l) (inside : n < l) (to : TouchedTo p q at n a b) (is : m ≡ meant p.view.library at.«module») (among : is_among (pages_over at.offset at.len) (first + n) ≡ true) where
   abbrev next_page : PageOf
   next_page = page_at (serial_seen p.view.library p.view.holding at) at.object (first + n)
 
@@ -105,7 +105,7 @@ module _ (p q r : Standing) (at : Place) (first l n a b c m : ℕ) (from : AreFr
 
 -- ---- all pages
 
-pub to_end : (p q : Standing) (at : Place) (first l a b : ℕ) → AreFrom at first l → TouchedTo p q at l a b → IsTouched p q at (length (touched_pages p.view at)) a b × AreMapped p.view q.view at
+pub to_end : (p q : ProcState) (at : Place) (first l a b : ℕ) → AreFrom at first l → TouchedTo p q at l a b → IsTouched p q at (length (touched_pages p.view at)) a b × AreMapped p.view q.view at
 to_end p q at first l a b from to =
     let own : ℕ = serial_seen p.view.library p.view.holding at in
     let count : length (touched_pages p.view at) ≡ l = ap (λ (ns : List ℕ). length (map (page_at own at.object) ns)) from ∙ length-map-range_with_len (page_at own at.object) first l in

@@ -20,14 +20,14 @@ use Rattle.load_model.specs.Refusals.{when, ◌orelse◌}
 use Rattle.load_model.specs.Step.{FitsPlace}
 use Rattle.load_model.specs.ViewAnswers.{view_refusal}
 use Rattle.load_model.specs.Outcomes.{done, told}
-use Rattle.load_core.specs.Ledger.{Ledger, entry_of}
+use Rattle.load_core.specs.BoardState.{BoardState, entry_of}
 use Rattle.process_view.specs.ProcessViews.{ProcessView}
 use Rattle.process_view.specs.Answering.{enter_command}
 use Rattle.process_view.specs.Deeds.{IsDone}
 use Rattle.proc_core.specs.declared.answers.Done.{Done}
 use Rattle.proc_core.specs.declared.kept.About.{About}
 use Rattle.proc_core.specs.declared.kept.Kept.{Kept}
-use Rattle.proc_core.specs.Procs.{Standing, standing, Holds, failing_in}
+use Rattle.proc_core.specs.Procs.{ProcState, proc_state, Holds, failing_in}
 use Rattle.proc_core.specs.Calls.{IsAnswered, call_refusal, Made}
 use Rattle.proc_core.specs.Turns.{HasCome, IsToldBy, in_turn}
 use Rattle.proc_core.proofs.Made.{Laws, turned, idle_again, idle_holds, idle_waited, did_made, did_holds, fronts_alike}
@@ -43,36 +43,36 @@ view_fine true y o is = cc
 view_fine false true o is = cc
 view_fine false false o is = is
 
-pub fine_view : (p : Standing) (command : Command) → call_refusal p command ≡ None → view_refusal p.view.library p.view.holding command ≡ None
+pub fine_view : (p : ProcState) (command : Command) → call_refusal p command ≡ None → view_refusal p.view.library p.view.holding command ≡ None
 fine_view p command is = view_fine _ _ _ is
 
 -- ---- the board goes back
 
-pub done_about : (p : Standing) (b c : Ledger) (v w : ProcessView) (command : Command) (r : Result Unit (Fail Refusal)) → Holds p → HasCome p b v → IsDone b c v w command r →
+pub done_about : (p : ProcState) (b c : BoardState) (v w : ProcessView) (command : Command) (r : Result Unit (Fail Refusal)) → Holds p → HasCome p b v → IsDone b c v w command r →
     p.known.subject ≡ Some (record { library = c.library; failing = c.failing })
 done_about p b c v w command r holds come is =
     let back : (c.library ≡ b.library) × (c.failing ≡ b.failing) = same r is in
     let first : About = record { library = p.view.library; failing = failing_in p.known.subject } in
     let at : record { library = c.library; failing = c.failing } ≡ first =
-    ap (λ l. record { library = l; failing = c.failing }) (back.0 ∙ ap (λ (l : Ledger). l.library) come.is)
-    ∙ ap (λ f. record { library = p.view.library; failing = f }) (back.1 ∙ ap (λ (l : Ledger). l.failing) come.is) in
+    ap (λ l. record { library = l; failing = c.failing }) (back.0 ∙ ap (λ (l : BoardState). l.library) come.is)
+    ∙ ap (λ f. record { library = p.view.library; failing = f }) (back.1 ∙ ap (λ (l : BoardState). l.failing) come.is) in
     holds.about ∙ ap Some (sym at)
   where
     same : (r : Result Unit (Fail Refusal)) → IsDone b c v w command r → (c.library ≡ b.library) × (c.failing ≡ b.failing)
-    same (Ok u) did = (ap (λ (l : Ledger). l.library) did.adds, ap (λ (l : Ledger). l.failing) did.adds)
-    same (Err (Said refusal)) did = (ap (λ (l : Ledger). l.library) did.adds, ap (λ (l : Ledger). l.failing) did.adds)
-    same (Err NoMemory) idle = (ap (λ (l : Ledger). l.library) idle.0, ap (λ (l : Ledger). l.failing) idle.0)
+    same (Ok u) did = (ap (λ (l : BoardState). l.library) did.adds, ap (λ (l : BoardState). l.failing) did.adds)
+    same (Err (Said refusal)) did = (ap (λ (l : BoardState). l.library) did.adds, ap (λ (l : BoardState). l.failing) did.adds)
+    same (Err NoMemory) idle = (ap (λ (l : BoardState). l.library) idle.0, ap (λ (l : BoardState). l.failing) idle.0)
 
-pub done_adds : (p : Standing) (b c : Ledger) (v w : ProcessView) (command : Command) (r : Result Unit (Fail Refusal)) → Holds p → HasCome p b v → IsDone b c v w command r →
+pub done_adds : (p : ProcState) (b c : BoardState) (v w : ProcessView) (command : Command) (r : Result Unit (Fail Refusal)) → Holds p → HasCome p b v → IsDone b c v w command r →
     Adds (λ (x : Entry). x.pid) p.known.pid b.history c.history
 done_adds p b c v w command (Ok u) holds come did =
-    inr (entry_of b v.holding.pid did.ask, ap (λ (l : Ledger). l.history) did.adds, ap (λ (u : ProcessView). u.holding.pid) come.view ∙ holds.number)
+    inr (entry_of b v.holding.pid did.ask, ap (λ (l : BoardState). l.history) did.adds, ap (λ (u : ProcessView). u.holding.pid) come.view ∙ holds.number)
 done_adds p b c v w command (Err (Said refusal)) holds come did =
-    inr (entry_of b v.holding.pid did.ask, ap (λ (l : Ledger). l.history) did.adds, ap (λ (u : ProcessView). u.holding.pid) come.view ∙ holds.number)
-done_adds p b c v w command (Err NoMemory) holds come idle = inl (ap (λ (l : Ledger). l.history) idle.0)
+    inr (entry_of b v.holding.pid did.ask, ap (λ (l : BoardState). l.history) did.adds, ap (λ (u : ProcessView). u.holding.pid) come.view ∙ holds.number)
+done_adds p b c v w command (Err NoMemory) holds come idle = inl (ap (λ (l : BoardState). l.history) idle.0)
 
-pub is_turned : (p : Standing) (pass : Seat (Option Kept) (Known Entry About)) (m : Known Entry About) (h g : List Entry) (w : ProcessView) → p.known.ticket ≡ None → p.known.turn ≡ false → pass.table_id ≡ p.lock →
-    in_turn p h m → pass.me ≡ (giving (λ (x : Entry). x.pid) g m, []) → standing pass w ≡ turned p g w
+pub is_turned : (p : ProcState) (pass : Seat (Option Kept) (Known Entry About)) (m : Known Entry About) (h g : List Entry) (w : ProcessView) → p.known.ticket ≡ None → p.known.turn ≡ false → pass.table_id ≡ p.lock →
+    in_turn p h m → pass.me ≡ (giving (λ (x : Entry). x.pid) g m, []) → proc_state pass w ≡ turned p g w
 is_turned p pass m h g w ticket turn lock knows gave =
     let known : pass.me.0 ≡ record p.known { seen = g; mine = (turned p g w).known.mine; drawn = (turned p g w).known.drawn } =
     ap (λ k. k.0) gave ∙ (ap (giving (λ (x : Entry). x.pid) g) knows.1 ∙ idle_again p.known knows.0 h g ticket turn) in
@@ -80,7 +80,7 @@ is_turned p pass m h g w ticket turn lock knows gave =
 
 -- ---- the answer
 
-pub answered : Laws → (p : Standing) (b c : Ledger) (v w : ProcessView) (command : Command) (r : Result Unit (Fail Refusal)) (a : Result Done (Fail Refusal)) → Holds p → HasCome p b v → FitsPlace command → call_refusal p command ≡ None →
+pub answered : Laws → (p : ProcState) (b c : BoardState) (v w : ProcessView) (command : Command) (r : Result Unit (Fail Refusal)) (a : Result Done (Fail Refusal)) → Holds p → HasCome p b v → FitsPlace command → call_refusal p command ≡ None →
     IsDone b c v w command r → IsToldBy (length c.history) r a → Holds (turned p c.history w) × IsAnswered p (turned p c.history w) command a
 answered laws p b c v w command (Ok u) (Ok it) holds come fits fine is say = (
   did_holds laws p b c v w command (done (length c.history)) holds come is,
@@ -104,10 +104,10 @@ drawn_below true y o is = cc
 drawn_below false true o is = cc
 drawn_below false false o is = refl
 
-pub fine_few : (p : Standing) (command : Command) → call_refusal p command ≡ None → p.known.drawn < 4294901760
+pub fine_few : (p : ProcState) (command : Command) → call_refusal p command ≡ None → p.known.drawn < 4294901760
 fine_few p command is = leb-false 4294901760 p.known.drawn (drawn_below _ _ _ is)
 
-pub fine_here : (p : Standing) (b : Ledger) (v : ProcessView) (command : Command) → HasCome p b v → call_refusal p command ≡ None → view_refusal v.library v.holding command ≡ None
+pub fine_here : (p : ProcState) (b : BoardState) (v : ProcessView) (command : Command) → HasCome p b v → call_refusal p command ≡ None → view_refusal v.library v.holding command ≡ None
 fine_here p b v command come is =
     subst (λ (u : ProcessView). view_refusal u.library u.holding command ≡ None) (sym come.view)
     (fronts_alike p.view.library p.view.holding (length b.history) command ∙ fine_view p command is)
@@ -117,17 +117,17 @@ none_at None not = refl
 none_at (Some r) not = absurd (not r refl)
 
 -- a call that is refused changes nothing
-pub refused_call : (p : Standing) (command : Command) (refusal : Refusal) (o : Option Refusal) → o ≡ call_refusal p command → o ≡ Some refusal → IsAnswered p p command (Err (Said refusal))
+pub refused_call : (p : ProcState) (command : Command) (refusal : Refusal) (o : Option Refusal) → o ≡ call_refusal p command → o ≡ Some refusal → IsAnswered p p command (Err (Said refusal))
 refused_call p command refusal o is some = inl (sym is ∙ some, refl)
 
 -- the view of a process that has ended refuses an exit, and no other does
-pub exit_seen : (p : Standing) → p.view.holding.ended ≡ false → None ≡ view_refusal p.view.library p.view.holding commands.Exit
+pub exit_seen : (p : ProcState) → p.view.holding.ended ≡ false → None ≡ view_refusal p.view.library p.view.holding commands.Exit
 unfolding view_refusal
 exit_seen p going = sym (ap (λ (e : Bool). when e Ended) going)
 
 -- ---- all of a turn
 
-pub record Taken (p : Standing) (command : Command) (b c : Ledger) (v w : ProcessView) (before after : Seat (Option Kept) (Known Entry About)) (r : Result Unit (Fail Refusal)) (a : Result Done (Fail Refusal)) : Type 0 where
+pub record Taken (p : ProcState) (command : Command) (b c : BoardState) (v w : ProcessView) (before after : Seat (Option Kept) (Known Entry About)) (r : Result Unit (Fail Refusal)) (a : Result Done (Fail Refusal)) : Type 0 where
   pub idle : (p.known.ticket ≡ None) × (p.known.turn ≡ false)
   pub holds : Holds p
   pub fits : FitsPlace command
@@ -139,13 +139,13 @@ pub record Taken (p : Standing) (command : Command) (b c : Ledger) (v w : Proces
   pub gave : after.me ≡ (giving (λ (x : Entry). x.pid) c.history before.me.0, [])
   pub say : IsToldBy (length after.me.0.seen) r a
 
-pub taken : Laws → (p : Standing) (command : Command) (b c : Ledger) (v w : ProcessView) (before after : Seat (Option Kept) (Known Entry About)) (r : Result Unit (Fail Refusal)) (a : Result Done (Fail Refusal)) →
-    Taken p command b c v w before after r a → Holds (standing after w) × IsAnswered p (standing after w) command a
+pub taken : Laws → (p : ProcState) (command : Command) (b c : BoardState) (v w : ProcessView) (before after : Seat (Option Kept) (Known Entry About)) (r : Result Unit (Fail Refusal)) (a : Result Done (Fail Refusal)) →
+    Taken p command b c v w before after r a → Holds (proc_state after w) × IsAnswered p (proc_state after w) command a
 taken laws p command b c v w before after r a t =
-    let same : standing after w ≡ turned p c.history w = is_turned p after before.me.0 b.history c.history w t.idle.0 t.idle.1 t.lock t.knows t.gave in
+    let same : proc_state after w ≡ turned p c.history w = is_turned p after before.me.0 b.history c.history w t.idle.0 t.idle.1 t.lock t.knows t.gave in
     let say : IsToldBy (length c.history) r a = subst (λ (n : ℕ). IsToldBy n r a) (ap (λ k. length k.0.seen) t.gave) t.say in
     let both = answered laws p b c v w command r a t.holds t.come t.fits t.fine t.is say in
-    (subst Holds (sym same) both.0, subst (λ (q : Standing). IsAnswered p q command a) (sym same) both.1)
+    (subst Holds (sym same) both.0, subst (λ (q : ProcState). IsAnswered p q command a) (sym same) both.1)
 
 pub taken_idle : (c : List Entry) (m : Known Entry About) (after : Seat (Option Kept) (Known Entry About)) → after.me ≡ (giving (λ (x : Entry). x.pid) c m, []) → Idle after.me
 taken_idle c m after gave = (ap (λ k. k.0.ticket) gave, ap (λ k. k.0.turn) gave, ap (λ k. k.1) gave)

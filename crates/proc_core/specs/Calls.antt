@@ -14,32 +14,29 @@ use Rattle.load_model.specs.Refusals.{when, ◌orelse◌}
 use Rattle.load_model.specs.Asks.{ask_in}
 use Rattle.load_model.specs.Step.{steady, answer_of}
 use Rattle.load_model.specs.Histories.{state_after, Follows}
-use Rattle.load_model.specs.Touched.{touched_behind}
-use Rattle.load_model.specs.Standing.{mapped_pages, state_for}
+use Rattle.load_model.specs.Views.{mapped_pages, state_for}
+use Rattle.load_model.specs.TouchedPages.{touched_behind}
 use Rattle.load_model.specs.ViewAnswers.{view_refusal, view_reply}
 use Rattle.load_model.specs.Outcomes.{Outcome, done, told, IsTold}
 use Rattle.session_model.specs.Merging.{AsksFor, is_fault, uses_touched}
-use Rattle.merge_laws.specs.OwnStates.{state_with}
+use Rattle.merge_laws.specs.PageStates.{state_with}
 use Rattle.process_view.specs.ProcessViews.{at_front, without_room}
 use Rattle.process_view.specs.Deeds.{bytes_read}
 use Rattle.proc_core.specs.declared.answers.Done.{Done}
-use Rattle.proc_core.specs.Procs.{Standing, front_of}
+use Rattle.proc_core.specs.Procs.{ProcState, front_of}
+use Rattle.proc_core.specs.declared.deeds.TheConstants.{MAX_TICKETS}
 
 -- ---- refusals
 
--- who has drawn so many tickets draws no more
-abbrev pub MOST_TICKETS : ℕ
-MOST_TICKETS = 4294901760
-
--- The refusal of a call that may take a turn: the view's, but for this one, which comes right behind `Ended`.
-abbrev pub call_refusal : Standing → Command → Option Refusal
+-- The refusal of a call that may take a turn: the view's, but for this one, which comes right after `Ended`.
+abbrev pub call_refusal : ProcState → Command → Option Refusal
 call_refusal p command =
-    when p.view.holding.ended Ended orelse when (nat_le MOST_TICKETS p.known.drawn) Worn orelse view_refusal p.view.library p.view.holding command
+    when p.view.holding.ended Ended orelse when (nat_le MAX_TICKETS p.known.drawn) Worn orelse view_refusal p.view.library p.view.holding command
 
 -- ---- what stays, and what was seen meanwhile
 
 -- the pass is the same, but for what it has seen and made, and the tickets that it drew
-pub record IsSamePass (p q : Standing) : Type 0 where
+pub record IsSamePass (p q : ProcState) : Type 0 where
   pub lock : q.lock ≡ p.lock
   pub known : q.known ≡ record p.known { seen = q.known.seen; mine = q.known.mine; drawn = q.known.drawn }
 
@@ -48,7 +45,7 @@ abbrev pub AreOthers : ℕ → List Entry → Type 0
 AreOthers pid entries = AllByRecursion (λ (x : Entry). (pid == x.pid) ≡ false) entries
 
 -- Nothing was done: at most a turn was taken, and what others did was seen. There may be more room.
-pub record Waited (p q : Standing) : Type 0 where
+pub record Waited (p q : ProcState) : Type 0 where
   pub pass : IsSamePass p q
   pub more : List Entry
   pub others : AreOthers p.known.pid more
@@ -60,7 +57,7 @@ pub record Waited (p q : Standing) : Type 0 where
 -- The command was carried out, in one turn: what others did was seen, and then stands its entry, which follows the
 -- history there; it uses pages alone that the process had mapped. The caller was told of the entry by its number. What
 -- is mapped is what the process has then touched, and its view stands for all of it.
-pub record Made (p q : Standing) (command : Command) (outcome : Outcome) : Type 0 where
+pub record Made (p q : ProcState) (command : Command) (outcome : Outcome) : Type 0 where
   pub pass : IsSamePass p q
   pub accepted : call_refusal p command ≡ None
   pub more : List Entry
@@ -85,29 +82,29 @@ pub record Made (p q : Standing) (command : Command) (outcome : Outcome) : Type 
 
 -- A refusal that the view decides draws no ticket and changes nothing. Want of a place and an initialisation that fails are
 -- told by their entries.
-abbrev pub IsRefused : Standing → Standing → Command → Refusal → Type 0
+abbrev pub IsRefused : ProcState → ProcState → Command → Refusal → Type 0
 IsRefused p q command refusal = ((call_refusal p command ≡ Some refusal) × (q ≡ p)) ⊎ Made p q command (told (Refused refusal))
 
-abbrev pub IsAnswered : Standing → Standing → Command → Result Done (Fail Refusal) → Type 0
+abbrev pub IsAnswered : ProcState → ProcState → Command → Result Done (Fail Refusal) → Type 0
 IsAnswered p q command (Ok it) = Made p q command (done it.number)
 IsAnswered p q command (Err (Said refusal)) = IsRefused p q command refusal
 IsAnswered p q command (Err NoMemory) = Waited p q
 
 -- the bytes are those of the process's last entry
-abbrev pub IsReadLast : Standing → List ℕ → Type 0
+abbrev pub IsReadLast : ProcState → List ℕ → Type 0
 IsReadLast q bytes = (before : List Entry) (x : Entry) → q.known.mine ≡ before ++ x ∷ [] → bytes ≡ bytes_read x.deed
 
 -- ---- calls without an entry
 
 -- What a call without an entry is answered: the view's reply, or its refusal. So the loader with one thread answers at the
 -- process's own front, where the pages are touched that the process has mapped.
-pub record IsReplied (p : Standing) (command : Command) (reply : Reply) : Type 0 where
+pub record IsReplied (p : ProcState) (command : Command) (reply : Reply) : Type 0 where
   pub accepted : view_refusal p.view.library p.view.holding command ≡ None
   pub replied : view_reply p.view.library p.view.holding command ≡ Some reply
   pub step : answer_of p.view.library (fixed_bytes p.view.library)
       (state_for p.view.library (front_of p).failing p.view.holding p.known.seen) p.known.pid command ≡ steady reply
 
-pub record IsRefusedAtFront (p : Standing) (command : Command) (refusal : Refusal) : Type 0 where
+pub record IsRefusedAtFront (p : ProcState) (command : Command) (refusal : Refusal) : Type 0 where
   pub refused : view_refusal p.view.library p.view.holding command ≡ Some refusal
   pub step : answer_of p.view.library (fixed_bytes p.view.library)
       (state_for p.view.library (front_of p).failing p.view.holding p.known.seen) p.known.pid command ≡ steady (Refused refusal)

@@ -21,14 +21,14 @@ use Rattle.load_model.specs.State.{PageOf, is_among}
 use Rattle.load_model.specs.Memory.{pages_over}
 use Rattle.load_model.specs.Asks.{is_own}
 use Rattle.load_model.specs.Step.{meant}
-use Rattle.load_model.specs.Touched.{has_page}
-use Rattle.load_model.specs.Standing.{mapped_pages}
+use Rattle.load_model.specs.Views.{mapped_pages}
+use Rattle.load_model.specs.TouchedPages.{has_page}
 use Rattle.load_model.specs.TouchSteps.{touch_steps}
-use Rattle.merge_laws.specs.OwnStates.{pages_at}
-use Rattle.merge_laws.specs.ViewAccounts.{serial_seen, has_pages}
+use Rattle.merge_laws.specs.PageStates.{pages_at}
+use Rattle.merge_laws.specs.PageStates.{serial_seen, has_pages}
 use Rattle.page_frames.specs.Residences.{ResidenceFor}
 use Rattle.process_view.specs.ProcessViews.{ProcessView}
-use Rattle.proc_core.specs.Procs.{Standing}
+use Rattle.proc_core.specs.Procs.{ProcState}
 use Rattle.proc_core.specs.Calls.{IsSamePass, call_refusal}
 
 -- ---- pages
@@ -68,7 +68,7 @@ IsSeenInTouch v at x = ((v.holding.pid == x.pid) ≡ false) ⊎ ((x.pid ≡ v.ho
 -- The first n pages of the place are mapped, and nothing else was: of its own the process made faults alone, of pages of
 -- the place that were not mapped. The count has risen by the sources of the pages whose faults it made, and of the
 -- private pages that it mapped.
-pub record IsTouched (p q : Standing) (at : Place) (n before after : ℕ) : Type 0 where
+pub record IsTouched (p q : ProcState) (at : Place) (n before after : ℕ) : Type 0 where
   pub pass : IsSamePass p q
   pub accepted : call_refusal p (Touch at) ≡ None
   pub shown : List Entry
@@ -85,7 +85,7 @@ pub record IsTouched (p q : Standing) (at : Place) (n before after : ℕ) : Type
 abbrev pub AreMapped : ProcessView → ProcessView → Place → Type 0
 AreMapped v w at = has_pages (mapped_pages w.holding) (serial_seen v.library v.holding at) at ≡ true
 
-abbrev pub IsTouchAnswered : Standing → Standing → Place → ℕ → ℕ → Result Unit (Fail Refusal) → Type 0
+abbrev pub IsTouchAnswered : ProcState → ProcState → Place → ℕ → ℕ → Result Unit (Fail Refusal) → Type 0
 IsTouchAnswered p q at before after (Ok _) = IsTouched p q at (length (touched_pages p.view at)) before after × AreMapped p.view q.view at
 IsTouchAnswered p q at before after (Err (Said refusal)) = (call_refusal p (Touch at) ≡ Some refusal) × (q ≡ p) × (after ≡ before)
 IsTouchAnswered p q at before after (Err NoMemory) =
@@ -104,7 +104,7 @@ IsSeenForPage v m t x =
     × (has_page (mapped_pages v.holding) t.serial t.page ≡ false))
 
 -- Of a page t of a residence of a module these pages were newly mapped, the page itself or none, and nothing else was.
-pub record IsPage (p q : Standing) (t : PageOf) (m : ℕ) (news : List PageOf) (before after : ℕ) : Type 0 where
+pub record IsPage (p q : ProcState) (t : PageOf) (m : ℕ) (news : List PageOf) (before after : ℕ) : Type 0 where
   pub pass : IsSamePass p q
   pub shown : List Entry
   pub seen : q.known.seen ≡ p.known.seen ++ shown
@@ -120,18 +120,18 @@ pub record IsPage (p q : Standing) (t : PageOf) (m : ℕ) (news : List PageOf) (
 abbrev pub news_of : ProcessView → PageOf → List PageOf
 news_of v t = if has_page (mapped_pages v.holding) t.serial t.page then [] else t ∷ []
 
--- It is mapped behind the call; without memory it is not, and was not.
-abbrev pub IsPageAnswered : Standing → Standing → PageOf → ℕ → ℕ → ℕ → Result Unit Want → Type 0
+-- It is mapped after the call; without memory it is not, and was not.
+abbrev pub IsPageAnswered : ProcState → ProcState → PageOf → ℕ → ℕ → ℕ → Result Unit Want → Type 0
 IsPageAnswered p q t m before after (Ok _) = IsPage p q t m (news_of p.view t) before after
 IsPageAnswered p q t m before after (Err none) = IsPage p q t m [] before after × (has_page (mapped_pages p.view.holding) t.serial t.page ≡ false)
 
 -- A page of a residence that the process reaches, which may be touched: the module has it; and it is fixed by a right where
 -- it is no private one.
 pub record IsPageOf (v : ProcessView) (k : ℕ) (p : PageId) : Type 0 where
-  pub stay : k < length v.residences
+  pub residence : k < length v.residences
   pub going : v.holding.ended ≡ false
   pub object : (d : ResidenceFor) → IsNumberOf p.object (length (module_of v.library (slice_index_or v.residences k d).«module»).objects)
   pub page : (d : ResidenceFor) → p.page < pages_of (object_of (module_of v.library (slice_index_or v.residences k d).«module») p.object)
   pub small : p.page < 2 ^ 20
-  pub common : (d : ResidenceFor) → is_fixable (module_of v.library (slice_index_or v.residences k d).«module») p
+  pub shared : (d : ResidenceFor) → is_fixable (module_of v.library (slice_index_or v.residences k d).«module») p
       ≡ needs_fault v.library (slice_index_or v.residences k d).«module» (page_in (slice_index_or v.residences k d) p)

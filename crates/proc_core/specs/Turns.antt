@@ -5,19 +5,19 @@ use Rattle.load_model.specs.declared.commands.Refusal.{Refusal}
 use Rattle.turn_lock.specs.declared.known.Known.{Known}
 use Rattle.turn_lock.specs.Turns.{by_pid, drawing, seeing}
 use Rattle.load_model.specs.declared.deeds.Entry.{Entry}
-use Rattle.load_core.specs.Ledger.{Ledger, IsLegal}
+use Rattle.load_core.specs.BoardState.{BoardState, IsLegal}
 use Rattle.process_view.specs.ProcessViews.{ProcessView, StandsAt, at_front}
 use Rattle.proc_core.specs.declared.kept.About.{About}
 use Rattle.proc_core.specs.declared.answers.Done.{Done}
-use Rattle.proc_core.specs.Procs.{Standing, front_of}
+use Rattle.proc_core.specs.Procs.{ProcState, front_of}
 use Rattle.proc_core.specs.Calls.{AreOthers}
 
 -- what a pass knows in its turn, at a board that has this history
-abbrev pub in_turn : Standing → List Entry → Known Entry About → Type 0
+abbrev pub in_turn : ProcState → List Entry → Known Entry About → Type 0
 in_turn p h w = (t : ℕ) × (w ≡ seeing h (drawing t p.known))
 
 -- The board has come to a process with what others did meanwhile, and its view stands for all of it.
-pub record HasCome (p : Standing) (b : Ledger) (v : ProcessView) : Type 0 where
+pub record HasCome (p : ProcState) (b : BoardState) (v : ProcessView) : Type 0 where
   pub more : List Entry
   pub others : AreOthers p.known.pid more
   pub mine : by_pid (λ (x : Entry). x.pid) p.known.pid b.history ≡ p.known.mine

@@ -21,7 +21,7 @@ use std::alloc::Global;
 use std::sync::Wait;
 
 /// Who has drawn so many tickets draws no more.
-const MOST_TICKETS: u64 = 4_294_901_760;
+pub const MAX_TICKETS: u64 = 4_294_901_760;
 
 impl Proc {
     // The first refusal of a call that may take a turn, where the view of a process that has not ended refuses so.
@@ -32,7 +32,7 @@ impl Proc {
         if self.view.is_ended() {
             return Some(Refusal::Ended);
         }
-        if self.pass.tickets() >= MOST_TICKETS {
+        if self.pass.tickets() >= MAX_TICKETS {
             return Some(Refusal::Worn);
         }
         seen
@@ -51,7 +51,7 @@ impl Proc {
         ensures loader { IsOf loader.now self.new }
         ensures answer { IsAnswered self.old self.new (enter_command how name.now) result }
     {
-        if let Some(refusal) = self.first_refusal(self.view.to_enter(how, name).err()) {
+        if let Some(refusal) = self.first_refusal(self.view.check_enter(how, name).err()) {
             return Err(Fail::Said(refusal));
         }
         entries_are_known();
@@ -102,7 +102,7 @@ impl Proc {
         ensures loader { IsOf loader.now self.new }
         ensures answer { IsAnswered self.old self.new (commands.Free name.now) result }
     {
-        if let Some(refusal) = self.first_refusal(self.view.to_free(name).err()) {
+        if let Some(refusal) = self.first_refusal(self.view.check_free(name).err()) {
             return Err(Fail::Said(refusal));
         }
         entries_are_known();
@@ -142,7 +142,9 @@ impl Proc {
         ensures loader { IsOf loader.now self.new }
         ensures answer { IsAnswered self.old self.new (commands.Write place.now bytes.now) result }
     {
-        if let Some(refusal) = self.first_refusal(self.view.to_use(Purpose::Write, place).err()) {
+        if let Some(refusal) = self.first_refusal(
+            self.view.check_use(Purpose::Write, place).err(),
+        ) {
             return Err(Fail::Said(refusal));
         }
         entries_are_known();
@@ -166,7 +168,9 @@ impl Proc {
         ensures loader { IsOf loader.now self.new }
         ensures answer { IsAnswered self.old self.new (commands.Debug place.now bytes.now) result }
     {
-        if let Some(refusal) = self.first_refusal(self.view.to_use(Purpose::Debug, place).err()) {
+        if let Some(refusal) = self.first_refusal(
+            self.view.check_use(Purpose::Debug, place).err(),
+        ) {
             return Err(Fail::Said(refusal));
         }
         entries_are_known();
@@ -191,7 +195,9 @@ impl Proc {
         ensures answer { IsAnswered self.old self.new (commands.Shared place.now) result }
         ensures read { IfOk result (λ _. IsReadLast self.new into.new) }
     {
-        if let Some(refusal) = self.first_refusal(self.view.to_use(Purpose::Share, place).err()) {
+        if let Some(refusal) = self.first_refusal(
+            self.view.check_use(Purpose::Share, place).err(),
+        ) {
             return Err(Fail::Said(refusal));
         }
         entries_are_known();

@@ -15,5 +15,6 @@ mod turns;
 
 pub use answers::{Closed, Done};
 pub use kept::About;
+pub use laws::ticket_limit;
 pub use loader::Loader;
 pub use proc::Proc;

@@ -2,6 +2,7 @@
 
 ghost use Rattle.std.specs.Prelude.{◌≡◌, ◌≤◌, ◌<◌, ◌+◌, ◌↔◌, [], ℕ, Some, length, slice_index_or, IfOk, IsTrue};
 ghost use Rattle.std.specs.Arc.{arc_value};
+ghost use Rattle.lx_types.specs.declared.limits.TheConstants.{MAX_PROCESSES};
 ghost use Rattle.turn_lock.specs.Passes.{AllDealt};
 ghost use Rattle.proc_core.specs.declared.kept.About.{About};
 ghost use Rattle.proc_core.specs.Closing.{AreMade, AreAll, AreOf};
@@ -52,7 +53,7 @@ impl Loader {
         lib: &Arc<Library>,
         passes: Vec<Pass<Kept>>,
     ) -> Result<Vec<Proc>, NoMemory>
-        requires few { length passes.items ≤ 16 }
+        requires few { length passes.items ≤ MAX_PROCESSES }
         requires dealt { (about : About) × (about.library ≡ arc_value lib.now) × AllDealt self.now (Some about) (length passes.items) passes.items }
         ensures { IfOk result (λ procs. (about : About) → about.library ≡ arc_value lib.now →
             AllDealt self.now (Some about) (length passes.items) passes.items →
@@ -74,7 +75,7 @@ impl Loader {
         lib: Arc<Library>,
         count: u32,
     ) -> Result<(Loader, Vec<Proc>), NoMemory>
-        requires { (1 ≤ count) × (count ≤ 16) }
+        requires { (1 ≤ count) × (count ≤ MAX_PROCESSES) }
         ensures { IfOk result (λ r. AreMade r.0 (record { library = arc_value lib; failing = [] }) count r.1.items) }
     {
         Loader::make_with(alloc, lib, count, Vec::new(alloc))
@@ -87,7 +88,7 @@ impl Loader {
         count: u32,
         failing: Vec<(u32, u32)>,
     ) -> Result<(Loader, Vec<Proc>), NoMemory>
-        requires { (1 ≤ count) × (count ≤ 16) }
+        requires { (1 ≤ count) × (count ≤ MAX_PROCESSES) }
         ensures { IfOk result (λ r. AreMade r.0 (record { library = arc_value lib; failing = failing.items }) count r.1.items) }
     {
         let board = Board::make_with(alloc, Arc::try_clone(&lib)?, failing)?;

@@ -17,13 +17,13 @@ pub struct Proc {
 
 impl Model for Proc {
     ghost use Rattle.turn_lock.specs.Passes.{Idle};
-    ghost use Rattle.proc_core.specs.Procs.{Standing, Holds, standing};
+    ghost use Rattle.proc_core.specs.Procs.{ProcState, Holds, proc_state};
 
-    ghost Value = { Standing };
+    ghost Value = { ProcState };
 
-    ghost view = { λ p. standing p.pass p.view };
+    ghost view = { λ p. proc_state p.pass p.view };
 
-    ghost invariant = { λ p. Idle p.pass.me × Holds (standing p.pass p.view) };
+    ghost invariant = { λ p. Idle p.pass.me × Holds (proc_state p.pass p.view) };
 }
 
 impl Proc {

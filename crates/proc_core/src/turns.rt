@@ -4,7 +4,7 @@ ghost use Rattle.std.specs.Prelude.{◌≡◌, ◌<◌, ◌^◌, [], Some, lengt
 ghost use Rattle.turn_lock.specs.Passes.{Idle, HasTurn};
 ghost use Rattle.turn_lock.specs.Turns.{Adds, giving};
 ghost use Rattle.load_model.specs.declared.deeds.Entry.{Entry};
-ghost use Rattle.proc_core.specs.Procs.{Holds, standing};
+ghost use Rattle.proc_core.specs.Procs.{Holds, proc_state};
 ghost use Rattle.proc_core.specs.Turns.{in_turn, HasCome, IsToldBy};
 
 use crate::answers::Done;
@@ -27,11 +27,11 @@ pub(crate) fn take_turn<R: Wait>(
     requires of { pass.old.table_id ≡ loader.now }
     requires idle { Idle pass.old.me }
     requires few { pass.old.me.0.drawn < 2 ^ 32 }
-    requires holds { Holds (standing pass.old view.old) }
+    requires holds { Holds (proc_state pass.old view.old) }
     ensures of { pass.new.table_id ≡ loader.now }
     ensures turn { HasTurn pass.new.me }
-    ensures knows { in_turn (standing pass.old view.old) result.history pass.new.me.0 }
-    ensures come { HasCome (standing pass.old view.old) result view.new }
+    ensures knows { in_turn (proc_state pass.old view.old) result.history pass.new.me.0 }
+    ensures come { HasCome (proc_state pass.old view.old) result view.new }
 {
     histories_grow();
     others_leave_alike();

@@ -6,7 +6,7 @@ use Rattle.std.proofs.lemmas.Bool.{cases_lt}
 use Rattle.std.proofs.lemmas.List.{length-take, length-drop, get_or-take, get_or-drop}
 use Rattle.std.proofs.lemmas.Bool.Decides.{nat_tests}
 use Rattle.load_model.specs.Memory.{page, pages_over}
-use Rattle.load_model.specs.Standing.{Mapped}
+use Rattle.load_model.specs.Views.{Mapped}
 use Rattle.write_overlay.specs.Laid.{replaced}
 use Rattle.process_pages.specs.PageRows.{PagePlaces, place_in}
 use Rattle.process_pages.specs.Reading.{bytes_at, byte_by}

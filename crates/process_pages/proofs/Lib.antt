@@ -4,5 +4,5 @@ pub mod Mapping
 pub mod Copies
 pub mod Writes
 pub mod Placing
-pub mod StayFinders
+pub mod ResidenceFinders
 pub mod Naming

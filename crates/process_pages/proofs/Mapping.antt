@@ -15,13 +15,12 @@ use Rattle.lx_model.specs.Library.{module_of}
 use Rattle.page_frames.specs.Residences.{ResidenceFor}
 use Rattle.load_model.specs.State.{PageOf}
 use Rattle.load_model.specs.Memory.{page, is_page}
-use Rattle.load_model.specs.Standing.{Mapped}
+use Rattle.load_model.specs.Views.{Mapped}
 use Rattle.load_model.specs.ViewAnswers.{is_mapped_at}
 use Rattle.process_pages.specs.PageRows.{PagePlaces, place_in, with_place, Cover, ArePlaces}
-use Rattle.process_pages.specs.Stays.{IsPlaced, AreApart, residence_in, residences_in}
-use Rattle.load_model.specs.Touched.{has_page}
-use Rattle.process_pages.specs.Stays.{page_with}
-use Rattle.process_pages.specs.declared.stays.Stay.{Stay}
+use Rattle.process_pages.specs.ReachedResidences.{IsPlaced, AreApart, residence_in, residences_in, page_with}
+use Rattle.process_pages.specs.declared.reached_residences.ReachedResidence.{ReachedResidence}
+use Rattle.load_model.specs.TouchedPages.{has_page}
 use Rattle.process_pages.proofs.Positions.{position_new, position_other, any_is_position, any_map}
 
 -- ---- rows
@@ -104,47 +103,47 @@ serials_differ rs i k d apart u v differ e = elim (cases_order i k) as (λ _. �
   | inr other ↦ elim other as (λ _. ⊥) [ inl before ↦ apart i k d before v (sym e) | inr behind ↦ apart k i d behind u e ]
 ]
 
-pub residences_set : (stays : List Stay) (k : ℕ) (s : Stay) → residence_in s ≡ residence_in (get_or stays k s) → residences_in (set stays k s) ≡ residences_in stays
+pub residences_set : (residences : List ReachedResidence) (k : ℕ) (s : ReachedResidence) → residence_in s ≡ residence_in (get_or residences k s) → residences_in (set residences k s) ≡ residences_in residences
 residences_set [] k s e = refl
 residences_set (x ∷ xs) zero s e = ap (λ (r : ResidenceFor). r ∷ residences_in xs) e
 residences_set (x ∷ xs) (suc k) s e = ap (λ (rs : List ResidenceFor). residence_in x ∷ rs) (residences_set xs k s e)
 
-pub placed_with : (lib : List Parts) (mapped : List Mapped) (stays : List Stay) (k : ℕ) (s t : Stay) (p : PageId) (bytes : List ℕ) → All (IsPlaced lib mapped) stays → AreApart (residences_in stays) → k < length stays →
-    s ≡ get_or stays k s → residence_in t ≡ residence_in s → t.places ≡ with_place s.places p (length mapped) → IsNumberOf p.object (length (module_of lib (residence_in s).«module»).objects) →
+pub placed_with : (lib : List Parts) (mapped : List Mapped) (residences : List ReachedResidence) (k : ℕ) (s t : ReachedResidence) (p : PageId) (bytes : List ℕ) → All (IsPlaced lib mapped) residences → AreApart (residences_in residences) → k < length residences →
+    s ≡ get_or residences k s → residence_in t ≡ residence_in s → t.places ≡ with_place s.places p (length mapped) → IsNumberOf p.object (length (module_of lib (residence_in s).«module»).objects) →
     p.page < pages_of (object_of (module_of lib (residence_in s).«module») p.object) → position (is_mapped_at (residence_in s).serial p) mapped ≡ None →
-    All (IsPlaced lib (mapped ++ page_with (residence_in s) p bytes ∷ [])) (set stays k t)
-placed_with lib mapped stays k s t p bytes all apart u at same put object within none =
-    All-from_get_or (IsPlaced lib (mapped ++ page_with (residence_in s) p bytes ∷ [])) (set stays k t) s
-    (λ i v. by_index i (omega (arith, length-set stays k t)) (cases_eq i k))
+    All (IsPlaced lib (mapped ++ page_with (residence_in s) p bytes ∷ [])) (set residences k t)
+placed_with lib mapped residences k s t p bytes all apart u at same put object within none =
+    All-from_get_or (IsPlaced lib (mapped ++ page_with (residence_in s) p bytes ∷ [])) (set residences k t) s
+    (λ i v. by_index i (omega (arith, length-set residences k t)) (cases_eq i k))
   where
-    P : Stay → Type 0
+    P : ReachedResidence → Type 0
     P = IsPlaced lib (mapped ++ page_with (residence_in s) p bytes ∷ [])
 
     here : IsPlaced lib mapped s
-    here = let Q : Stay → Type 0 = IsPlaced lib mapped in subst Q (sym at) (All-get_or (IsPlaced lib mapped) stays k s u all)
+    here = let Q : ReachedResidence → Type 0 = IsPlaced lib mapped in subst Q (sym at) (All-get_or (IsPlaced lib mapped) residences k s u all)
 
-    by_index : (i : ℕ) → i < length stays → (i ≡ k) ⊎ (i ≢ k) → P (get_or (set stays k t) i s)
+    by_index : (i : ℕ) → i < length residences → (i ≡ k) ⊎ (i ≢ k) → P (get_or (set residences k t) i s)
     by_index i v (inl e) =
         let own = own_places (module_of lib (residence_in s).«module») (residence_in s) s.places mapped p bytes here.cover here.places object within none in
         let T : ResidenceFor → Type 0 = λ r. (r.«module» < length lib) × Cover (module_of lib r.«module») t.places × ArePlaces (module_of lib r.«module») r.serial t.places (mapped ++ page_with (residence_in s) p bytes ∷ []) in
         let R : PagePlaces → Type 0 = λ rows. Cover (module_of lib (residence_in s).«module») rows × ArePlaces (module_of lib (residence_in s).«module») (residence_in s).serial rows (mapped ++ page_with (residence_in s) p bytes ∷ []) in
         let rows : R t.places = subst R (sym put) (cover_put (module_of lib (residence_in s).«module») s.places p (length mapped) here.cover, own) in
         let it : T (residence_in t) = subst T (sym same) (here.within, rows.0, rows.1) in
-        let is : get_or (set stays k t) i s ≡ t = ap (λ (j : ℕ). get_or (set stays k t) j s) e ∙ get_or-set_same stays k t s u in
+        let is : get_or (set residences k t) i s ≡ t = ap (λ (j : ℕ). get_or (set residences k t) j s) e ∙ get_or-set_same residences k t s u in
         subst P (sym is) (record { within = it.0; cover = it.1; places = it.2 })
     by_index i v (inr e) =
-        let is : get_or (set stays k t) i s ≡ get_or stays i s = get_or-set_other stays k i t s e in
-        let old = All-get_or (IsPlaced lib mapped) stays i s v all in
-        let long = length-map stays residence_in in
-        let differ : (residence_in s).serial ≡ (residence_in (get_or stays i s)).serial → ⊥ = λ d.
-        serials_differ (residences_in stays) i k (residence_in s) apart (omega (arith, long)) (omega (arith, long)) e
-        (ap (λ (r : ResidenceFor). r.serial) (get_or-map residence_in stays k s (residence_in s) u) ∙ ap (λ (x : Stay). (residence_in x).serial) (sym at) ∙ d
-        ∙ sym (ap (λ (r : ResidenceFor). r.serial) (get_or-map residence_in stays i s (residence_in s) v)))
+        let is : get_or (set residences k t) i s ≡ get_or residences i s = get_or-set_other residences k i t s e in
+        let old = All-get_or (IsPlaced lib mapped) residences i s v all in
+        let long = length-map residences residence_in in
+        let differ : (residence_in s).serial ≡ (residence_in (get_or residences i s)).serial → ⊥ = λ d.
+        serials_differ (residences_in residences) i k (residence_in s) apart (omega (arith, long)) (omega (arith, long)) e
+        (ap (λ (r : ResidenceFor). r.serial) (get_or-map residence_in residences k s (residence_in s) u) ∙ ap (λ (x : ReachedResidence). (residence_in x).serial) (sym at) ∙ d
+        ∙ sym (ap (λ (r : ResidenceFor). r.serial) (get_or-map residence_in residences i s (residence_in s) v)))
         in
         subst P (sym is) (record {
           within = old.within;
           cover = old.cover;
-          places = other_places (module_of lib (residence_in (get_or stays i s)).«module») (residence_in (get_or stays i s)).serial (residence_in s) (get_or stays i s).places mapped p bytes old.places differ;
+          places = other_places (module_of lib (residence_in (get_or residences i s)).«module») (residence_in (get_or residences i s)).serial (residence_in s) (get_or residences i s).places mapped p bytes old.places differ;
         })
 
 -- ---- what is mapped has a place
@@ -157,7 +156,7 @@ mapped_by_place m serial rows mapped object n are there within =
     ∙ any_is_position (is_mapped_at serial (page object n)) mapped ∙ ap (λ (o : Option ℕ). is_some o) (sym (are object n there within))
 
 -- whether a page is mapped, by its place
-pub mapped_as_placed : (lib : List Parts) (mapped : List Mapped) (s : Stay) (p : PageId) → IsPlaced lib mapped s → IsNumberOf p.object (length (module_of lib (residence_in s).«module»).objects) →
+pub mapped_as_placed : (lib : List Parts) (mapped : List Mapped) (s : ReachedResidence) (p : PageId) → IsPlaced lib mapped s → IsNumberOf p.object (length (module_of lib (residence_in s).«module»).objects) →
     p.page < pages_of (object_of (module_of lib (residence_in s).«module») p.object) → has_page (map (λ (x : Mapped). x.of) mapped) (residence_in s).serial p ≡ is_some (place_in s.places p)
 mapped_as_placed lib mapped s p is object inside = mapped_by_place (module_of lib (residence_in s).«module») (residence_in s).serial s.places mapped p.object p.page is.places object inside
 

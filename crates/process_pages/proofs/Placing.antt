@@ -16,14 +16,14 @@ use Rattle.lx_types.specs.Sound.{IsNumberOf}
 use Rattle.lx_model.specs.Library.{module_of}
 use Rattle.page_frames.specs.Residences.{ResidenceFor}
 use Rattle.load_model.specs.Memory.{page, is_page}
-use Rattle.load_model.specs.Standing.{Mapped}
+use Rattle.load_model.specs.Views.{Mapped}
 use Rattle.load_model.specs.ViewAnswers.{is_mapped_at}
 use Rattle.process_pages.specs.PageRows.{PagePlaces, place_in, with_place, Cover, ArePlaces, has_number, with_first_place}
-use Rattle.process_pages.specs.Stays.{IsPlaced, AreApart, residence_in, residences_in, without_places}
+use Rattle.process_pages.specs.ReachedResidences.{IsPlaced, AreApart, residence_in, residences_in, without_places}
 use Rattle.std.specs.List.{AllByRecursion, list_any}
-use Rattle.process_pages.specs.Stays.{pages_with}
+use Rattle.process_pages.specs.ReachedResidences.{pages_with}
 use Rattle.process_pages.proofs.RowLists.{none_of, length_none}
-use Rattle.process_pages.specs.declared.stays.Stay.{Stay}
+use Rattle.process_pages.specs.declared.reached_residences.ReachedResidence.{ReachedResidence}
 use Rattle.process_pages.proofs.Positions.{any_map, position_cons, position_new, position_other, position_stays}
 use Rattle.process_pages.proofs.Mapping.{same_page, other_page, is_not, not_at, place_put, place_other, cover_put, serials_differ}
 
@@ -108,44 +108,44 @@ first_places m serial rows mapped x cover are own false is = (cover, λ o n ther
     by_page o n there inside false e = position_other (is_mapped_at serial (page o n)) mapped x (is_not (x.of.serial == serial) (is_page p (page o n)) e)
 
 -- the rows of another residence
-pub other_placed : (lib : List Parts) (mapped : List Mapped) (s : Stay) (x : Mapped) → IsPlaced lib mapped s → (x.of.serial ≡ (residence_in s).serial → ⊥) → IsPlaced lib (mapped ++ x ∷ []) s
+pub other_placed : (lib : List Parts) (mapped : List Mapped) (s : ReachedResidence) (x : Mapped) → IsPlaced lib mapped s → (x.of.serial ≡ (residence_in s).serial → ⊥) → IsPlaced lib (mapped ++ x ∷ []) s
 other_placed lib mapped s x is differ = record {
   within = is.within;
   cover = is.cover;
   places = λ o n there inside. is.places o n there inside ∙ sym (position_other (is_mapped_at (residence_in s).serial (page o n)) mapped x (not_at (residence_in s).serial (page o n) x differ));
 }
 
-pub placed_first : (lib : List Parts) (mapped : List Mapped) (stays : List Stay) (k : ℕ) (s t : Stay) (x : Mapped) → All (IsPlaced lib mapped) stays → AreApart (residences_in stays) → k < length stays → s ≡ get_or stays k s →
-    (residence_in s).serial ≡ x.of.serial → residence_in t ≡ residence_in s → t.places ≡ with_first_place s.places x.of.page (length mapped) → All (IsPlaced lib (mapped ++ x ∷ [])) (set stays k t)
-placed_first lib mapped stays k s t x all apart u at own same put = All-from_get_or P (set stays k t) s (λ i v. by_index i (omega (arith, length-set stays k t)) (cases_eq i k))
+pub placed_first : (lib : List Parts) (mapped : List Mapped) (residences : List ReachedResidence) (k : ℕ) (s t : ReachedResidence) (x : Mapped) → All (IsPlaced lib mapped) residences → AreApart (residences_in residences) → k < length residences → s ≡ get_or residences k s →
+    (residence_in s).serial ≡ x.of.serial → residence_in t ≡ residence_in s → t.places ≡ with_first_place s.places x.of.page (length mapped) → All (IsPlaced lib (mapped ++ x ∷ [])) (set residences k t)
+placed_first lib mapped residences k s t x all apart u at own same put = All-from_get_or P (set residences k t) s (λ i v. by_index i (omega (arith, length-set residences k t)) (cases_eq i k))
   where
-    P : Stay → Type 0
+    P : ReachedResidence → Type 0
     P = IsPlaced lib (mapped ++ x ∷ [])
 
     m : Parts
     m = module_of lib (residence_in s).«module»
 
     here : IsPlaced lib mapped s
-    here = let Q : Stay → Type 0 = IsPlaced lib mapped in subst Q (sym at) (All-get_or (IsPlaced lib mapped) stays k s u all)
+    here = let Q : ReachedResidence → Type 0 = IsPlaced lib mapped in subst Q (sym at) (All-get_or (IsPlaced lib mapped) residences k s u all)
 
-    by_index : (i : ℕ) → i < length stays → (i ≡ k) ⊎ (i ≢ k) → P (get_or (set stays k t) i s)
+    by_index : (i : ℕ) → i < length residences → (i ≡ k) ⊎ (i ≢ k) → P (get_or (set residences k t) i s)
     by_index i v (inl e) =
         let first = first_places m (residence_in s).serial s.places mapped x here.cover here.places own (has_number s.places x.of.page && is_none (place_in s.places x.of.page)) refl in
         let T : ResidenceFor → Type 0 = λ r. (r.«module» < length lib) × Cover (module_of lib r.«module») t.places × ArePlaces (module_of lib r.«module») r.serial t.places (mapped ++ x ∷ []) in
         let R : PagePlaces → Type 0 = λ rows. Cover m rows × ArePlaces m (residence_in s).serial rows (mapped ++ x ∷ []) in
         let rows : R t.places = subst R (sym put) first in
         let it : T (residence_in t) = subst T (sym same) (here.within, rows.0, rows.1) in
-        let is : get_or (set stays k t) i s ≡ t = ap (λ (j : ℕ). get_or (set stays k t) j s) e ∙ get_or-set_same stays k t s u in
+        let is : get_or (set residences k t) i s ≡ t = ap (λ (j : ℕ). get_or (set residences k t) j s) e ∙ get_or-set_same residences k t s u in
         subst P (sym is) (record { within = it.0; cover = it.1; places = it.2 })
     by_index i v (inr e) =
-        let is : get_or (set stays k t) i s ≡ get_or stays i s = get_or-set_other stays k i t s e in
-        let long = length-map stays residence_in in
-        let differ : x.of.serial ≡ (residence_in (get_or stays i s)).serial → ⊥ = λ d.
-        serials_differ (residences_in stays) i k (residence_in s) apart (omega (arith, long)) (omega (arith, long)) e
-        (ap (λ (r : ResidenceFor). r.serial) (get_or-map residence_in stays k s (residence_in s) u) ∙ ap (λ (y : Stay). (residence_in y).serial) (sym at) ∙ own ∙ d
-        ∙ sym (ap (λ (r : ResidenceFor). r.serial) (get_or-map residence_in stays i s (residence_in s) v)))
+        let is : get_or (set residences k t) i s ≡ get_or residences i s = get_or-set_other residences k i t s e in
+        let long = length-map residences residence_in in
+        let differ : x.of.serial ≡ (residence_in (get_or residences i s)).serial → ⊥ = λ d.
+        serials_differ (residences_in residences) i k (residence_in s) apart (omega (arith, long)) (omega (arith, long)) e
+        (ap (λ (r : ResidenceFor). r.serial) (get_or-map residence_in residences k s (residence_in s) u) ∙ ap (λ (y : ReachedResidence). (residence_in y).serial) (sym at) ∙ own ∙ d
+        ∙ sym (ap (λ (r : ResidenceFor). r.serial) (get_or-map residence_in residences i s (residence_in s) v)))
         in
-        subst P (sym is) (other_placed lib mapped (get_or stays i s) x (All-get_or (IsPlaced lib mapped) stays i s v all) differ)
+        subst P (sym is) (other_placed lib mapped (get_or residences i s) x (All-get_or (IsPlaced lib mapped) residences i s v all) differ)
 
 pub same_number : (a b : ℕ) → (a == b) ≡ true → a ≡ b
 same_number a b e = grind (arith, nat_tests)
@@ -169,21 +169,21 @@ none_passes p (x ∷ xs) k d e u = by_first (p x) refl (position p xs) refl k u 
 
 -- ---- places that are taken away
 
-pub cleared_residences : (stays : List Stay) → residences_in (map without_places stays) ≡ residences_in stays
+pub cleared_residences : (residences : List ReachedResidence) → residences_in (map without_places residences) ≡ residences_in residences
 cleared_residences [] = refl
-cleared_residences (s ∷ stays) = ap (λ (rs : List ResidenceFor). residence_in s ∷ rs) (cleared_residences stays)
+cleared_residences (s ∷ residences) = ap (λ (rs : List ResidenceFor). residence_in s ∷ rs) (cleared_residences residences)
 
 abbrev no_places : List (Option ℕ) → List (Option ℕ)
 no_places row = replicate (length row) None
 
-pub cleared_placed : (lib : List Parts) (mapped : List Mapped) (stays : List Stay) → All (IsPlaced lib mapped) stays → All (IsPlaced lib []) (map without_places stays)
-cleared_placed lib mapped stays all = λ k d u.
-    let within : k < length stays = omega (arith, u, length-map stays without_places) in
-    let s = get_or stays k d in
+pub cleared_placed : (lib : List Parts) (mapped : List Mapped) (residences : List ReachedResidence) → All (IsPlaced lib mapped) residences → All (IsPlaced lib []) (map without_places residences)
+cleared_placed lib mapped residences all = λ k d u.
+    let within : k < length residences = omega (arith, u, length-map residences without_places) in
+    let s = get_or residences k d in
     let m = module_of lib (residence_in s).«module» in
     let is = all k d within in
-    let P : Stay → Type 0 = IsPlaced lib [] in
-    subst P (sym (get_or-map without_places stays k d d within)) (record {
+    let P : ReachedResidence → Type 0 = IsPlaced lib [] in
+    subst P (sym (get_or-map without_places residences k d d within)) (record {
       within = is.within;
       cover = record {
         objects = length-map s.places no_places ∙ is.cover.objects;
@@ -198,17 +198,17 @@ cleared_placed lib mapped stays all = λ k d u.
 
 -- ---- what is kept
 
-pub kept_residences : (lib : List Parts) (mapped : List Mapped) (passes : ℕ → Bool) (stays : List Stay) → AllByRecursion (IsPlaced lib mapped) stays →
-    residences_in (filter (λ (s : Stay). nat_lt (residence_in s).«module» (length lib) && passes (residence_in s).«module») stays) ≡ filter (λ (r : ResidenceFor). passes r.«module») (residences_in stays)
+pub kept_residences : (lib : List Parts) (mapped : List Mapped) (passes : ℕ → Bool) (residences : List ReachedResidence) → AllByRecursion (IsPlaced lib mapped) residences →
+    residences_in (filter (λ (s : ReachedResidence). nat_lt (residence_in s).«module» (length lib) && passes (residence_in s).«module») residences) ≡ filter (λ (r : ResidenceFor). passes r.«module») (residences_in residences)
 kept_residences lib mapped passes [] all = refl
-kept_residences lib mapped passes (s ∷ stays) all =
-    ap (λ b. residences_in (cond (b && passes (residence_in s).«module») (s ∷ kept) kept)) (is_below (residence_in s).«module» (length lib) all.0.within) ∙ by_test (passes (residence_in s).«module») (kept_residences lib mapped passes stays all.1)
+kept_residences lib mapped passes (s ∷ residences) all =
+    ap (λ b. residences_in (cond (b && passes (residence_in s).«module») (s ∷ kept) kept)) (is_below (residence_in s).«module» (length lib) all.0.within) ∙ by_test (passes (residence_in s).«module») (kept_residences lib mapped passes residences all.1)
   where
-    kept : List Stay
-    kept = filter (λ (y : Stay). nat_lt (residence_in y).«module» (length lib) && passes (residence_in y).«module») stays
+    kept : List ReachedResidence
+    kept = filter (λ (y : ReachedResidence). nat_lt (residence_in y).«module» (length lib) && passes (residence_in y).«module») residences
 
     rest : List ResidenceFor
-    rest = filter (λ (r : ResidenceFor). passes r.«module») (residences_in stays)
+    rest = filter (λ (r : ResidenceFor). passes r.«module») (residences_in residences)
 
     is_below : (a b : ℕ) → a < b → nat_lt a b ≡ true
     is_below a b u = grind (arith, nat_tests)
@@ -217,12 +217,12 @@ kept_residences lib mapped passes (s ∷ stays) all =
     by_test true e = ap (λ (rs : List ResidenceFor). residence_in s ∷ rs) e
     by_test false e = e
 
-pub kept_pages : (stays : List Stay) (ps : List Mapped) → filter (λ (p : Mapped). list_any (λ (s : Stay). (residence_in s).serial == p.of.serial) stays) ps ≡ pages_with (residences_in stays) ps
-kept_pages stays [] = refl
-kept_pages stays (p ∷ ps) =
-    ap (λ b. cond b (p ∷ filter (λ (q : Mapped). list_any (λ (s : Stay). (residence_in s).serial == q.of.serial) stays) ps) (filter (λ (q : Mapped). list_any (λ (s : Stay). (residence_in s).serial == q.of.serial) stays) ps))
-    (sym (any_map (λ (r : ResidenceFor). r.serial == p.of.serial) residence_in stays))
-    ∙ ap (λ (xs : List Mapped). cond (list_any (λ (r : ResidenceFor). r.serial == p.of.serial) (residences_in stays)) (p ∷ xs) xs) (kept_pages stays ps)
+pub kept_pages : (residences : List ReachedResidence) (ps : List Mapped) → filter (λ (p : Mapped). list_any (λ (s : ReachedResidence). (residence_in s).serial == p.of.serial) residences) ps ≡ pages_with (residences_in residences) ps
+kept_pages residences [] = refl
+kept_pages residences (p ∷ ps) =
+    ap (λ b. cond b (p ∷ filter (λ (q : Mapped). list_any (λ (s : ReachedResidence). (residence_in s).serial == q.of.serial) residences) ps) (filter (λ (q : Mapped). list_any (λ (s : ReachedResidence). (residence_in s).serial == q.of.serial) residences) ps))
+    (sym (any_map (λ (r : ResidenceFor). r.serial == p.of.serial) residence_in residences))
+    ∙ ap (λ (xs : List Mapped). cond (list_any (λ (r : ResidenceFor). r.serial == p.of.serial) (residences_in residences)) (p ∷ xs) xs) (kept_pages residences ps)
 
 pub reach_kept : (lib : Library) (e : Eager) (p : Process) → ◌≡◌ {A = ℕ → Bool} (reaches lib (keeping lib e p)) (reaches lib p)
 unfolding reaches keeping

@@ -8,12 +8,12 @@ use Rattle.lx_types.specs.declared.object.PageId.{PageId}
 use Rattle.lx_types.specs.declared.parts.Parts.{Parts}
 use Rattle.load_model.specs.State.{Written, PageOf}
 use Rattle.load_model.specs.Memory.{page, last_put}
-use Rattle.load_model.specs.Standing.{Mapped}
+use Rattle.load_model.specs.Views.{Mapped}
 use Rattle.load_model.specs.ViewAnswers.{is_mapped_at}
-use Rattle.load_model.specs.ViewLaws.{over_page, written_over}
+use Rattle.load_model.specs.WrittenPages.{over_page, written_over}
 use Rattle.write_overlay.specs.Laid.{writes_to, bytes_under}
-use Rattle.process_pages.specs.Stays.{IsPlaced, residence_in}
-use Rattle.process_pages.specs.declared.stays.Stay.{Stay}
+use Rattle.process_pages.specs.ReachedResidences.{IsPlaced, residence_in}
+use Rattle.process_pages.specs.declared.reached_residences.ReachedResidence.{ReachedResidence}
 use Rattle.process_pages.proofs.Positions.{position_kept}
 
 -- ---- one page
@@ -66,8 +66,8 @@ pub pages_stay : (serial : ℕ) (w : Written) (ps : List Mapped) → map (λ (p 
 pages_stay serial w [] = refl
 pages_stay serial w (p ∷ ps) = ap (λ (t : PageOf). t ∷ map (λ (p : Mapped). p.of) (map (written_over serial w) ps)) (of_stays serial w p) ∙ ap (λ (ts : List PageOf). p.of ∷ ts) (pages_stay serial w ps)
 
-pub placed_written : (lib : List Parts) (mapped : List Mapped) (serial : ℕ) (w : Written) (stays : List Stay) → All (IsPlaced lib mapped) stays → All (IsPlaced lib (map (written_over serial w) mapped)) stays
-placed_written lib mapped serial w stays all =
+pub placed_written : (lib : List Parts) (mapped : List Mapped) (serial : ℕ) (w : Written) (residences : List ReachedResidence) → All (IsPlaced lib mapped) residences → All (IsPlaced lib (map (written_over serial w) mapped)) residences
+placed_written lib mapped serial w residences all =
     All-weaker (IsPlaced lib mapped) (IsPlaced lib (map (written_over serial w) mapped))
     (λ s is. record {
       within = is.within;
@@ -75,4 +75,4 @@ placed_written lib mapped serial w stays all =
       places = λ o n there inside.
           is.places o n there inside
           ∙ sym (position_kept (is_mapped_at (residence_in s).serial (page o n)) (written_over serial w) (λ p. ap (λ (t : PageOf). is_mapped_at (residence_in s).serial (page o n) (record p { of = t })) (of_stays serial w p)) mapped);
-    }) stays all
+    }) residences all

@@ -1,4 +1,4 @@
 pub mod PageRows
-pub mod Stays
+pub mod ReachedResidences
 pub mod Reading
-pub mod StayFinders
+pub mod ResidenceFinders

@@ -6,7 +6,7 @@ use Rattle.lx_types.specs.Object.{pages_of}
 use Rattle.lx_types.specs.Parts.{object_of}
 use Rattle.lx_types.specs.Sound.{IsNumberOf}
 use Rattle.load_model.specs.Memory.{page}
-use Rattle.load_model.specs.Standing.{Mapped}
+use Rattle.load_model.specs.Views.{Mapped}
 use Rattle.load_model.specs.ViewAnswers.{is_mapped_at}
 
 abbrev pub PagePlaces : Type 0

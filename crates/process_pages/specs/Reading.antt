@@ -4,7 +4,7 @@ use Rattle.load_model.specs.ViewAnswers.{bytes_in}
 use Rattle.lx_types.specs.declared.object.PageId.{PageId}
 use Rattle.lx_types.specs.declared.object.TheConstants.{PAGE_SIZE}
 use Rattle.load_model.specs.Memory.{page}
-use Rattle.load_model.specs.Standing.{Mapped}
+use Rattle.load_model.specs.Views.{Mapped}
 use Rattle.process_pages.specs.PageRows.{PagePlaces, place_in}
 
 -- the page has a place, at which one stands

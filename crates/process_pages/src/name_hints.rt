@@ -9,7 +9,7 @@ use mod_graph::Library;
 /// How many hints there are.
 const HINTS: usize = 256;
 
-/// How many hints a name has: the one of its key, and those behind it.
+/// How many hints a name has: the one of its key, and those after it.
 const TRIES: usize = 4;
 
 /// The number of a module at the key of its name, or at the next place that was free: where to look first. Nothing rests on

@@ -2,7 +2,7 @@
 
 ghost use Rattle.std.specs.Prelude.{◌≡◌, ◌<◌, ◌^◌, box_value};
 
-use lx_types::{PAGE_SIZE, PageId};
+use lx_types::{PAGE_LEN, PAGE_SIZE, PageBytes, PageId};
 use std::marker::Model;
 use std::slice;
 use write_overlay::{Write, lay};
@@ -12,25 +12,26 @@ use write_overlay::{Write, lay};
 pub struct OwnPage {
     serial: u64,
     page: PageId,
-    bytes: Box<[u8; 4096]>,
+    bytes: Box<PageBytes>,
 }
 
 impl Model for OwnPage {
+    ghost use Rattle.lx_types.specs.declared.limits.TheConstants.{PAGE_LEN};
     ghost use Rattle.std.specs.Prelude.{box_value, ◌≡◌, ◌<◌, ◌^◌, length};
-    ghost use Rattle.load_model.specs.Standing.{Mapped};
+    ghost use Rattle.load_model.specs.Views.{Mapped};
 
     ghost Value = { Mapped };
 
     ghost view = { λ p. record { of = record { serial = p.serial; page = p.page }; bytes = box_value p.bytes } };
 
-    ghost invariant = { λ p. (p.page.page < 2 ^ 20) × (length (box_value p.bytes) ≡ 4096) };
+    ghost invariant = { λ p. (p.page.page < 2 ^ 20) × (length (box_value p.bytes) ≡ PAGE_LEN) };
 }
 
 impl OwnPage {
     /// The page of a residence with these bytes.
-    pub fn new(serial: u64, page: PageId, bytes: Box<[u8; 4096]>) -> OwnPage
+    pub fn new(serial: u64, page: PageId, bytes: Box<PageBytes>) -> OwnPage
         requires small { page.page < 2 ^ 20 }
-        requires whole { length (box_value bytes) ≡ 4096 }
+        requires whole { length (box_value bytes) ≡ PAGE_LEN }
         ensures { result ≡ record { of = record { serial = serial; page = page }; bytes = box_value bytes } }
     {
         OwnPage {
@@ -56,9 +57,9 @@ impl OwnPage {
     }
 
     /// Its bytes.
-    pub fn bytes(&self) -> &[u8; 4096]
+    pub fn bytes(&self) -> &PageBytes
         ensures bytes { result.now ≡ self.now.bytes }
-        ensures length { length result.now ≡ 4096 }
+        ensures length { length result.now ≡ PAGE_LEN }
     {
         &self.bytes
     }
@@ -82,4 +83,4 @@ impl OwnPage {
     }
 }
 
-ghost use Rattle.load_model.specs.ViewLaws.{over_page};
+ghost use Rattle.load_model.specs.WrittenPages.{over_page};

@@ -11,10 +11,7 @@ ghost use Rattle.process_pages.specs.Reading.{IsThere, AreThere, bytes_at, byte_
 use crate::own_page::OwnPage;
 use crate::page_rows::PageRows;
 use load_model::Place;
-use lx_types::{PAGE_SIZE, PageId};
-
-/// How many bytes a page has.
-const PAGE: usize = 4096;
+use lx_types::{PAGE_LEN, PAGE_SIZE, PageBytes, PageId};
 
 // Puts a run in the place of other bytes.
 fn put(into: &mut [u8], place: usize, run: &[u8])
@@ -26,10 +23,10 @@ fn put(into: &mut [u8], place: usize, run: &[u8])
 }
 
 // The bytes of a page that is mapped.
-fn bytes_of<'a>(pages: &'a [OwnPage], places: &PageRows, p: PageId) -> &'a [u8; 4096]
+fn bytes_of<'a>(pages: &'a [OwnPage], places: &PageRows, p: PageId) -> &'a PageBytes
     requires { IsThere places.now pages.now p }
     ensures bytes { result.now ≡ bytes_at pages.now (place_in places.now p) }
-    ensures length { length result.now ≡ 4096 }
+    ensures length { length result.now ≡ PAGE_LEN }
 {
     let Some(place) = places.get(p) else {
         unreachable!()
@@ -47,11 +44,11 @@ pub fn copy_out(pages: &[OwnPage], places: &PageRows, place: &Place, into: &mut 
     let mut done = 0;
     while done < end {
         let at = place.offset as usize + done;
-        let within = at % PAGE;
-        let len = (PAGE - within).min(end - done);
+        let within = at % PAGE_LEN;
+        let len = (PAGE_LEN - within).min(end - done);
         let p = PageId {
             object: place.object,
-            page: (at / PAGE) as u32,
+            page: (at / PAGE_LEN) as u32,
         };
         let bytes = bytes_of(pages, places, p);
         put(into, done, &bytes[within..within + len]);
@@ -66,9 +63,9 @@ pub fn run_at<'a>(pages: &'a [OwnPage], places: &PageRows, place: &Place) -> Opt
         find (λ n. is_none (place_in places.now (page place.now.object n))) (pages_over place.now.offset place.now.len) ≡ None) }
     ensures bytes { IfSome result (λ run. run.now ≡ map (byte_by places.now pages.now place.now.object) (range_with_len place.now.offset place.now.len)) }
 {
-    let within = place.offset as usize % PAGE;
+    let within = place.offset as usize % PAGE_LEN;
     let len = place.len as usize;
-    if len == 0 || within + len > PAGE {
+    if len == 0 || within + len > PAGE_LEN {
         return None;
     }
     let p = PageId {
@@ -85,7 +82,7 @@ pub fn bytes_in_place<'a>(pages: &'a [OwnPage], places: &PageRows, place: &Place
     requires there { AreThere places.now pages.now place.now.object place.now.offset place.now.len }
     ensures { result.now ≡ map (byte_by places.now pages.now place.now.object) (range_with_len place.now.offset place.now.len) }
 {
-    let within = place.offset as usize % PAGE;
+    let within = place.offset as usize % PAGE_LEN;
     let len = place.len as usize;
     if len == 0 {
         return &[];

@@ -1,7 +1,7 @@
 //! Writes that are put into mapped pages.
 
 ghost use Rattle.std.specs.Prelude.{◌≡◌, map};
-ghost use Rattle.load_model.specs.ViewLaws.{written_over};
+ghost use Rattle.load_model.specs.WrittenPages.{written_over};
 
 use crate::own_page::OwnPage;
 use write_overlay::Write;

@@ -17,29 +17,29 @@ use Rattle.load_model.specs.Asks.{Ask}
 use Rattle.load_model.specs.Step.{ask_by, serial_named, meant, FitsPlace}
 use Rattle.load_model.specs.Histories.{after_entry, state_after, Follows}
 use Rattle.load_model.specs.Accepted.{retouched}
-use Rattle.load_model.specs.Laws.{ResidenceStays, stay_of}
+use Rattle.load_model.specs.Laws.{ResidenceStays, unwritten_of}
 use Rattle.load_model.specs.Alike.{BasesSeenStay}
-use Rattle.load_model.specs.Standing.{Holding, mapped_pages, fresh_of, StandsFor, state_for}
-use Rattle.load_model.specs.ViewAnswers.{view_refusal, stay_named}
+use Rattle.load_model.specs.Views.{Holding, mapped_pages, fresh_of, StandsFor, state_for}
+use Rattle.load_model.specs.ViewAnswers.{view_refusal, reached_named}
 use Rattle.load_model.specs.ViewLaws.{StandsQuiet, IsQuiet}
 use Rattle.load_model.proofs.Accepted.{accepted_may_ask}
 use Rattle.load_model.proofs.Retouched.{touched_is_apart}
 use Rattle.load_model.proofs.ToldOutcomes.{accepted_follows}
-use Rattle.load_model.proofs.Standing.{refused_by_view, named_by_view}
+use Rattle.load_model.proofs.Views.{refused_by_view, named_by_view}
 use Rattle.load_model.proofs.Growing.{one_more_is_legal, one_more_is_after}
 use Rattle.load_model.proofs.Residents.{reached_is_resident}
-use Rattle.load_core.specs.Ledger.{Ledger, IsLegal, MayAsk, state_of, entry_of, with_entry}
+use Rattle.load_core.specs.BoardState.{BoardState, IsLegal, MayAsk, state_of, entry_of, with_entry}
 use Rattle.load_core.specs.Told.{residence_shown}
 use Rattle.process_view.specs.ProcessViews.{ProcessView, StandsAt, AreShown, fresh_shown, at_front}
-use Rattle.process_view.specs.Answering.{IsStayNamed}
+use Rattle.process_view.specs.Answering.{IsReachedNamed}
 
 -- ---- what is asked
 
-pub record IsAccepted (b : Ledger) (v : ProcessView) (ask : Ask) : Type 0 where
+pub record IsAccepted (b : BoardState) (v : ProcessView) (ask : Ask) : Type 0 where
   pub may : MayAsk b v.holding.pid ask
   pub follows : Follows b.library b.failing (fixed_bytes b.library) b.history (entry_of b v.holding.pid ask)
 
-pub accepted : (b : Ledger) (v : ProcessView) (command : Command) (ask : Ask) → is_among pids v.holding.pid ≡ true → StandsAt b v → view_refusal v.library v.holding command ≡ None → FitsPlace command →
+pub accepted : (b : BoardState) (v : ProcessView) (command : Command) (ask : Ask) → is_among pids v.holding.pid ≡ true → StandsAt b v → view_refusal v.library v.holding command ≡ None → FitsPlace command →
     ask_by b.library (state_for b.library b.failing v.holding b.history) v.holding.pid command ≡ Some ask → IsAccepted b v ask
 accepted b v command ask process at none fits asked =
     let lib = b.library in
@@ -59,27 +59,27 @@ unfolding attached_residence reaches residence_of
 retouched_named lib touched e pid None = refl
 retouched_named lib touched e pid (Some m) = refl
 
-serial_stays : (o : Option Residence) → serial_of (stay_of o) ≡ serial_of o
+serial_stays : (o : Option Residence) → serial_of (unwritten_of o) ≡ serial_of o
 serial_stays None = refl
 serial_stays (Some r) = refl
 
 -- a serial number and a module that a name means, as the definitions have them
-pub record IsMeant (b : Ledger) (v : ProcessView) (at : Place) (r : ResidenceFor) : Type 0 where
+pub record IsMeant (b : BoardState) (v : ProcessView) (at : Place) (r : ResidenceFor) : Type 0 where
   pub serial : serial_named b.library (state_for b.library b.failing v.holding b.history) v.holding.pid at ≡ r.serial
   pub «module» : meant b.library at.«module» ≡ r.«module»
 
-pub place_meant : (b : Ledger) (v : ProcessView) (at : Place) (k : ℕ) (d : ResidenceFor) → StandsAt b v → IsStayNamed v at.«module» k → IsMeant b v at (get_or v.residences k d)
+pub place_meant : (b : BoardState) (v : ProcessView) (at : Place) (k : ℕ) (d : ResidenceFor) → StandsAt b v → IsReachedNamed v at.«module» k → IsMeant b v at (get_or v.residences k d)
 unfolding residence_named
 place_meant b v at k d stands is = record {
   serial =
       ap serial_of (retouched_named b.library (λ q. mapped_pages v.holding) (state_of b) v.holding.pid (number_of b.library at.«module»))
       ∙ sym (serial_stays (residence_named b.library (state_of b) v.holding.pid at.«module»))
       ∙ ap serial_of (named_by_view b.library (fixed_bytes b.library) v.holding (state_of b) at.«module» stands.stands.view)
-      ∙ ap (λ (l : Library). serial_of (stay_named l v.holding at.«module»)) (sym stands.library) ∙ ap serial_of (is.stay d);
+      ∙ ap (λ (l : Library). serial_of (reached_named l v.holding at.«module»)) (sym stands.library) ∙ ap serial_of (is.residence d);
   «module» = ap (λ (l : Library). unwrap_or (number_of l at.«module») (length l)) (sym stands.library) ∙ ap (λ (o : Option ℕ). unwrap_or o (length v.library)) (is.named d);
 }
 
--- ---- behind an entry
+-- ---- after an entry
 
 self : (n : ℕ) → (n == n) ≡ true
 self n = grind (arith, nat_tests)
@@ -108,15 +108,15 @@ resident lib e pid m is = by_reach (reaches lib (e.processes pid) m) is
     by_reach false h = absurd cc
 
 -- what a view has is resident where it stands
-pub stay_resident : (lib : Library) (failing : Failing) (v : Holding) (rs : List ResidenceFor) (h : List Entry) (k : ℕ) (r : ResidenceFor) → v.stays ≡ map fresh_shown rs → StandsFor lib failing (fixed_bytes lib) v h → k < length rs →
+pub stay_resident : (lib : Library) (failing : Failing) (v : Holding) (rs : List ResidenceFor) (h : List Entry) (k : ℕ) (r : ResidenceFor) → v.residences ≡ map fresh_shown rs → StandsFor lib failing (fixed_bytes lib) v h → k < length rs →
     r ≡ get_or rs k r → is_some (residence_of (state_after lib failing h) r.«module») ≡ true
 stay_resident lib failing v rs h k r e stands u at =
     resident lib (state_after lib failing h) v.pid r.«module»
-    (sym (some_mapped (attached_residence lib (state_after lib failing h) v.pid r.«module»)) ∙ ap (λ (o : Option Fresh). is_some o) (sym (stands.view.stays r.«module»))
+    (sym (some_mapped (attached_residence lib (state_after lib failing h) v.pid r.«module»)) ∙ ap (λ (o : Option Fresh). is_some o) (sym (stands.view.residences r.«module»))
     ∙ ap (λ (ss : List Fresh). is_some (find (λ (s : Fresh). s.«module» == r.«module») ss)) e ∙ some_found rs k r u at)
 
--- a residence that stands before and behind an entry is shown alike
-pub shown_alike : ResidenceStays → BasesSeenStay → (b : Ledger) (x : Entry) (m : ℕ) → IsLegal b → Follows b.library b.failing (fixed_bytes b.library) b.history x →
+-- a residence that stands before and after an entry is shown alike
+pub shown_alike : ResidenceStays → BasesSeenStay → (b : BoardState) (x : Entry) (m : ℕ) → IsLegal b → Follows b.library b.failing (fixed_bytes b.library) b.history x →
     is_some (residence_of (state_of b) m) ≡ true → is_some (residence_of (state_after b.library b.failing (b.history ++ x ∷ [])) m) ≡ true →
     residence_shown b.library (state_after b.library b.failing (b.history ++ x ∷ [])) m ≡ residence_shown b.library (state_of b) m
 shown_alike still bases b x m legal follows before behind =
@@ -127,8 +127,8 @@ shown_alike still bases b x m legal follows before behind =
     let more = one_more_is_legal lib b.failing contents b.history x legal follows in
     let reached : is_reached lib next m ≡ true = ap (λ (e : Eager). is_reached lib e m) (sym after) ∙ sym (reached_is_resident lib b.failing contents (b.history ++ x ∷ []) more m) ∙ behind in
     let there : is_some (residence_of next m) ≡ true = ap (λ (e : Eager). is_some (residence_of e m)) (sym after) ∙ behind in
-    let stays = still lib b.failing contents b.history x m legal follows before reached in
-    let serial : serial_of (residence_of next m) ≡ serial_of (residence_of (state_of b) m) = sym (serial_stays (residence_of next m)) ∙ ap serial_of stays ∙ serial_stays (residence_of (state_of b) m) in
+    let residences = still lib b.failing contents b.history x m legal follows before reached in
+    let serial : serial_of (residence_of next m) ≡ serial_of (residence_of (state_of b) m) = sym (serial_stays (residence_of next m)) ∙ ap serial_of residences ∙ serial_stays (residence_of (state_of b) m) in
     let seen = bases lib b.failing contents b.history x m legal follows before there in
     ap (λ (e : Eager). residence_shown lib e m) after
     ∙ ap (λ (n : ℕ). record (residence_shown lib next m) { serial = n }) serial ∙ ap (λ bs. record (residence_shown lib next m) { serial = serial_of (residence_of (state_of b) m); bases = bs }) seen
@@ -138,9 +138,9 @@ shown_of lib e [] k r s u at = absurd (omega arith)
 shown_of lib e (y ∷ ys) zero r s u at = let P : ResidenceFor → Type 0 = λ q. q ≡ residence_shown lib e q.«module» in subst P (sym at) s.0
 shown_of lib e (y ∷ ys) (suc k) r s u at = shown_of lib e ys k r s.1 (omega arith) at
 
--- a view with the same residences behind an entry
-pub shown_behind : ResidenceStays → BasesSeenStay → (b : Ledger) (x : Entry) (v : ProcessView) (w : Holding) → IsLegal b → Follows b.library b.failing (fixed_bytes b.library) b.history x → StandsAt b v →
-    w.stays ≡ map fresh_shown v.residences → StandsFor b.library b.failing (fixed_bytes b.library) w (b.history ++ x ∷ []) → AreShown b.library (state_after b.library b.failing (b.history ++ x ∷ [])) v.residences
+-- a view with the same residences after an entry
+pub shown_behind : ResidenceStays → BasesSeenStay → (b : BoardState) (x : Entry) (v : ProcessView) (w : Holding) → IsLegal b → Follows b.library b.failing (fixed_bytes b.library) b.history x → StandsAt b v →
+    w.residences ≡ map fresh_shown v.residences → StandsFor b.library b.failing (fixed_bytes b.library) w (b.history ++ x ∷ []) → AreShown b.library (state_after b.library b.failing (b.history ++ x ∷ [])) v.residences
 shown_behind still bases b x v w legal follows at e stands =
     recursion_from_All (λ (r : ResidenceFor). r ≡ residence_shown b.library (state_after b.library b.failing (b.history ++ x ∷ [])) r.«module») v.residences
     (All-from_get_or (λ (r : ResidenceFor). r ≡ residence_shown b.library (state_after b.library b.failing (b.history ++ x ∷ [])) r.«module») v.residences
@@ -150,12 +150,12 @@ shown_behind still bases b x v w legal follows at e stands =
     let here : r ≡ get_or v.residences i r = get_or_default v.residences i _ r u in
     shown_of b.library (state_of b) v.residences i r at.shown u here
     ∙ sym
-    (shown_alike still bases b x r.«module» legal follows (stay_resident b.library b.failing v.holding v.residences b.history i r at.stays at.stands u here)
+    (shown_alike still bases b x r.«module» legal follows (stay_resident b.library b.failing v.holding v.residences b.history i r at.residences at.stands u here)
     (stay_resident b.library b.failing w v.residences (b.history ++ x ∷ []) i r e stands u here))))
 
--- behind an entry that changes nothing in it
-pub quiet_behind : ResidenceStays → BasesSeenStay → StandsQuiet → (b : Ledger) (x : Entry) (v : ProcessView) → IsLegal b → Follows b.library b.failing (fixed_bytes b.library) b.history x → x.pid ≡ v.holding.pid → IsQuiet b.library x.deed → StandsAt b v →
+-- after an entry that changes nothing in it
+pub quiet_behind : ResidenceStays → BasesSeenStay → StandsQuiet → (b : BoardState) (x : Entry) (v : ProcessView) → IsLegal b → Follows b.library b.failing (fixed_bytes b.library) b.history x → x.pid ≡ v.holding.pid → IsQuiet b.library x.deed → StandsAt b v →
     StandsAt (with_entry b x) (at_front (length (b.history ++ x ∷ [])) v)
 quiet_behind still bases quiet b x v legal follows own is at =
     let stands = quiet b.library b.failing (fixed_bytes b.library) v.holding b.history x own is at.stands in
-    record { library = at.library; stays = at.stays; stands = stands; shown = shown_behind still bases b x v (record v.holding { front = length (b.history ++ x ∷ []) }) legal follows at at.stays stands }
+    record { library = at.library; residences = at.residences; stands = stands; shown = shown_behind still bases b x v (record v.holding { front = length (b.history ++ x ∷ []) }) legal follows at at.residences stands }

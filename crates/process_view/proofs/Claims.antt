@@ -14,7 +14,7 @@ use Rattle.lx_types.specs.Sound.{IsNumberOf}
 use Rattle.lx_types.specs.declared.parts.Parts.{Parts}
 use Rattle.lx_model.specs.Library.{module_of}
 use Rattle.lx_model.specs.ModuleBytes as bytes
-use Rattle.page_fix.specs.Fixable.{is_common, is_page_of, is_fixable}
+use Rattle.page_fix.specs.Fixable.{has_shared_pages, is_page_of, is_fixable}
 use Rattle.page_frames.specs.Residences.{ResidenceFor}
 use Rattle.load_model.specs.declared.commands.Refusal.{Refusal}
 use Rattle.load_model.specs.declared.commands.Refusal.TheVariants.{Range, Invalid}
@@ -29,9 +29,9 @@ use Rattle.load_model.specs.Laws.{ResidenceStays}
 use Rattle.load_model.specs.Alike.{BasesSeenStay}
 use Rattle.load_model.specs.ViewLaws.{StandsQuiet}
 use Rattle.load_model.proofs.Bools.{and_left, and_right}
-use Rattle.load_core.specs.Ledger.{Ledger, IsLegal, MayAsk, state_of, entry_of, with_entry}
+use Rattle.load_core.specs.BoardState.{BoardState, IsLegal, MayAsk, state_of, entry_of, with_entry}
 use Rattle.process_view.specs.ProcessViews.{ProcessView, StandsAt, at_front}
-use Rattle.process_view.specs.Deeds.{CanMap, IsCommonPage, fault_of}
+use Rattle.process_view.specs.Deeds.{CanMap, IsSharedPage, fault_of}
 use Rattle.process_view.proofs.Accepting.{quiet_behind}
 use Rattle.process_view.proofs.PagesStanding.{IsAttached}
 
@@ -67,16 +67,16 @@ none_outside lib m p there inside = tests_pass p.object (length (module_of lib m
 
 is_valid : (lib : Library) (m : ℕ) (p : PageId) → is_fixable (module_of lib m) p ≡ true → is_invalid lib m p ≡ false
 unfolding is_fixable is_invalid
-is_valid lib m p e = not-true (bytes.is_invalid (page_at (module_of lib m) p).kind) (and_right (is_page_of (module_of lib m) p && is_common (class_of (object_of (module_of lib m) p.object))) _ e)
+is_valid lib m p e = not-true (bytes.is_invalid (page_at (module_of lib m) p).kind) (and_right (is_page_of (module_of lib m) p && has_shared_pages (class_of (object_of (module_of lib m) p.object))) _ e)
 
-not_own : (c : Class) → is_common c ≡ true → not (is_own c) ≡ true
+not_own : (c : Class) → has_shared_pages c ≡ true → not (is_own c) ≡ true
 not_own classes.Code h = refl
 not_own classes.Private h = absurd cc
 not_own classes.Shared h = refl
 
-common_class : (lib : Library) (m : ℕ) (p : PageId) → is_fixable (module_of lib m) p ≡ true → may_fault lib m p ≡ true
+shared_class : (lib : Library) (m : ℕ) (p : PageId) → is_fixable (module_of lib m) p ≡ true → may_fault lib m p ≡ true
 unfolding is_fixable object_at
-common_class lib m p e =
+shared_class lib m p e =
     not_own (class_of (object_of (module_of lib m) p.object)) (and_right (is_page_of (module_of lib m) p) _ (and_left _ (not (bytes.is_invalid (page_at (module_of lib m) p).kind)) e))
 
 no_refusal : (lib : Library) (m : ℕ) (p : PageId) → IsNumberOf p.object (length (module_of lib m).objects) → p.page < pages_of (object_of (module_of lib m) p.object) → is_fixable (module_of lib m) p ≡ true →
@@ -89,32 +89,32 @@ no_refusal lib m p there inside fixable =
     ap (λ b. when b Range orelse class_refusal uses.touch (class_of (object_at lib m p.object)) orelse when (covers_invalid lib m p.object (p.page * PAGE_SIZE) 1) Invalid) (none_outside lib m p there inside)
     ∙ ap (λ b. class_refusal uses.touch (class_of (object_at lib m p.object)) orelse when b Invalid) invalid
 
-pub may_claim : (b : Ledger) (v : ProcessView) (r : ResidenceFor) (a : Residence) (p : PageId) → StandsAt b v → v.holding.ended ≡ false → IsAttached b v r a → CanMap v r p → IsCommonPage v r p →
+pub may_claim : (b : BoardState) (v : ProcessView) (r : ResidenceFor) (a : Residence) (p : PageId) → StandsAt b v → v.holding.ended ≡ false → IsAttached b v r a → CanMap v r p → IsSharedPage v r p →
     MayAsk b v.holding.pid (fault r.serial r.«module» p)
 unfolding may_ask
-may_claim b v r a p at going own can common =
+may_claim b v r a p at going own can shared =
     let O : List Parts → Type 0 = λ l. IsNumberOf p.object (length (module_of l r.«module»).objects) in
     let I : List Parts → Type 0 = λ l. p.page < pages_of (object_of (module_of l r.«module») p.object) in
     let F : List Parts → Type 0 = λ l. is_fixable (module_of l r.«module») p ≡ true in
-    let fixable : F b.library = subst F at.library common in
+    let fixable : F b.library = subst F at.library shared in
     let attached : is_attached b.library (state_of b) v.holding.pid r.serial r.«module» ≡ true = ap (is_serial r.serial) own.there ∙ ap (λ n. n == r.serial) own.serial ∙ self r.serial in
     let span : is_none (span_refusal b.library uses.touch r.«module» p.object (p.page * PAGE_SIZE) 1) ≡ true =
     ap (λ (o : Option Refusal). is_none o) (no_refusal b.library r.«module» p (subst O at.library can.object) (subst I at.library can.page) fixable)
     in
-    and_true _ _ (and_true (not ((state_of b).processes v.holding.pid).ended) _ (ap not (sym at.stands.view.ended) ∙ ap not going) (and_true _ _ attached span)) (common_class b.library r.«module» p fixable)
+    and_true _ _ (and_true (not ((state_of b).processes v.holding.pid).ended) _ (ap not (sym at.stands.view.ended) ∙ ap not going) (and_true _ _ attached span)) (shared_class b.library r.«module» p fixable)
 
 -- ---- its entry
 
-pub fault_is : (b : Ledger) (v : ProcessView) (r : ResidenceFor) (p : PageId) → entry_of b v.holding.pid (fault r.serial r.«module» p) ≡ fault_of v r p
+pub fault_is : (b : BoardState) (v : ProcessView) (r : ResidenceFor) (p : PageId) → entry_of b v.holding.pid (fault r.serial r.«module» p) ≡ fault_of v r p
 unfolding deed_of
 fault_is b v r p = refl
 
-pub fault_follows : (b : Ledger) (v : ProcessView) (r : ResidenceFor) (p : PageId) → is_among pids v.holding.pid ≡ true → MayAsk b v.holding.pid (fault r.serial r.«module» p) → has_fault b.history r.serial p ≡ false →
+pub fault_follows : (b : BoardState) (v : ProcessView) (r : ResidenceFor) (p : PageId) → is_among pids v.holding.pid ≡ true → MayAsk b v.holding.pid (fault r.serial r.«module» p) → has_fault b.history r.serial p ≡ false →
     Follows b.library b.failing (fixed_bytes b.library) b.history (fault_of v r p)
 unfolding deed_of
 fault_follows b v r p process may first = record { process = process; may = may; done = refl; first = ap not first }
 
-pub claim_stands : ResidenceStays → BasesSeenStay → StandsQuiet → (b : Ledger) (v : ProcessView) (r : ResidenceFor) (p : PageId) → IsLegal b → StandsAt b v →
+pub claim_stands : ResidenceStays → BasesSeenStay → StandsQuiet → (b : BoardState) (v : ProcessView) (r : ResidenceFor) (p : PageId) → IsLegal b → StandsAt b v →
     Follows b.library b.failing (fixed_bytes b.library) b.history (fault_of v r p) → StandsAt (with_entry b (fault_of v r p)) (at_front (length (b.history ++ fault_of v r p ∷ [])) v)
 claim_stands still bases quiet b v r p legal at follows = quiet_behind still bases quiet b (fault_of v r p) v legal follows refl tt at
 
@@ -124,9 +124,9 @@ page_of : (count object size n : ℕ) → 1 ≤ object → object ≤ count → 
 page_of count object size n low high in_it = grind (arith, nat_tests)
 
 -- by the class of its object, and whether it can be reached
-pub common_by : (lib : Library) (m : ℕ) (p : PageId) → IsNumberOf p.object (length (module_of lib m).objects) → p.page < pages_of (object_of (module_of lib m) p.object) →
-    is_fixable (module_of lib m) p ≡ is_common (class_of (object_at lib m p.object)) && not (is_invalid lib m p)
+pub shared_by : (lib : Library) (m : ℕ) (p : PageId) → IsNumberOf p.object (length (module_of lib m).objects) → p.page < pages_of (object_of (module_of lib m) p.object) →
+    is_fixable (module_of lib m) p ≡ has_shared_pages (class_of (object_at lib m p.object)) && not (is_invalid lib m p)
 unfolding is_fixable is_invalid object_at
-common_by lib m p there inside =
-    ap (λ b. (b && is_common (class_of (object_of (module_of lib m) p.object))) && not (bytes.is_invalid (page_at (module_of lib m) p).kind))
+shared_by lib m p there inside =
+    ap (λ b. (b && has_shared_pages (class_of (object_of (module_of lib m) p.object))) && not (bytes.is_invalid (page_at (module_of lib m) p).kind))
     (page_of (length (module_of lib m).objects) p.object (pages_of (object_of (module_of lib m) p.object)) p.page there.0 there.1 inside)

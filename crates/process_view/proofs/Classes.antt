@@ -11,7 +11,7 @@ use Rattle.load_model.specs.Refusals as uses
 use Rattle.load_model.specs.Refusals.{span_refusal, class_refusal}
 use Rattle.load_model.specs.ViewAnswers.{view_place_refusal}
 use Rattle.process_view.specs.ProcessViews.{ProcessView}
-use Rattle.process_view.specs.Answering.{IsStayNamed}
+use Rattle.process_view.specs.Answering.{IsReachedNamed}
 use Rattle.process_view.proofs.Did.{nothing, still_going}
 use Rattle.process_view.proofs.Insides.{IsInside}
 use Rattle.process_view.proofs.Lookups.{place_by_residence, span_is_inside}
@@ -19,19 +19,19 @@ use Rattle.process_view.proofs.Lookups.{place_by_residence, span_is_inside}
 pub never : (o : Option Refusal) (x : Refusal) → o ≡ None → o ≡ Some x → ⊥
 never o x e f = let it : None ≡ Some x = sym e ∙ f in absurd cc
 
-pub span_used : (v : ProcessView) (purpose : uses.Purpose) (at : Place) (k : ℕ) (d : ResidenceFor) → view_place_refusal v.library v.holding purpose at ≡ None → IsStayNamed v at.«module» k →
+pub span_used : (v : ProcessView) (purpose : uses.Purpose) (at : Place) (k : ℕ) (d : ResidenceFor) → view_place_refusal v.library v.holding purpose at ≡ None → IsReachedNamed v at.«module» k →
     span_refusal v.library purpose (get_or v.residences k d).«module» at.object at.offset at.len ≡ None
-span_used v purpose at k d e is = (nothing _ _ (sym (place_by_residence v purpose at (get_or v.residences k d) (still_going v.holding.ended _ e) (is.stay d)) ∙ e)).0
+span_used v purpose at k d e is = (nothing _ _ (sym (place_by_residence v purpose at (get_or v.residences k d) (still_going v.holding.ended _ e) (is.residence d)) ∙ e)).0
 
 class_let : (lib : Library) (purpose : uses.Purpose) (m object offset len : ℕ) → span_refusal lib purpose m object offset len ≡ None → class_refusal purpose (class_of (object_at lib m object)) ≡ None
 unfolding span_refusal
 class_let lib purpose m object offset len e = (nothing _ _ (nothing _ _ e).1).0
 
-pub class_used : (v : ProcessView) (purpose : uses.Purpose) (at : Place) (k : ℕ) (d : ResidenceFor) → view_place_refusal v.library v.holding purpose at ≡ None → IsStayNamed v at.«module» k →
+pub class_used : (v : ProcessView) (purpose : uses.Purpose) (at : Place) (k : ℕ) (d : ResidenceFor) → view_place_refusal v.library v.holding purpose at ≡ None → IsReachedNamed v at.«module» k →
     class_refusal purpose (class_of (object_at v.library (get_or v.residences k d).«module» at.object)) ≡ None
 class_used v purpose at k d e is = class_let v.library purpose (get_or v.residences k d).«module» at.object at.offset at.len (span_used v purpose at k d e is)
 
-pub inside_used : (v : ProcessView) (purpose : uses.Purpose) (at : Place) (k : ℕ) (d : ResidenceFor) → view_place_refusal v.library v.holding purpose at ≡ None → IsStayNamed v at.«module» k →
+pub inside_used : (v : ProcessView) (purpose : uses.Purpose) (at : Place) (k : ℕ) (d : ResidenceFor) → view_place_refusal v.library v.holding purpose at ≡ None → IsReachedNamed v at.«module» k →
     IsInside v.library (get_or v.residences k d).«module» at.object at.offset at.len
 inside_used v purpose at k d e is = span_is_inside v.library purpose (get_or v.residences k d).«module» at.object at.offset at.len (span_used v purpose at k d e is)
 

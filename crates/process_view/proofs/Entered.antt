@@ -1,4 +1,4 @@
--- A view behind a start or a load.
+-- A view after a start or a load.
 use Rattle.std.proofs.Common.{◌≡◌, ℕ, ◌==◌, ◌&&◌, ◌||◌, Bool, true, false, cond, not, List, [], ◌∷◌, ◌++◌, map, filter, length, Option, Some, None, option_map, unwrap_or, get_or, refl, sym, ap, subst, ◌∙◌, arith}
 use Rattle.std.specs.Prelude.{is_some, is_none, All}
 use Rattle.std.specs.List.{AllByRecursion, find}
@@ -27,9 +27,9 @@ use Rattle.load_model.specs.Initialising.{enter_deed}
 use Rattle.load_model.specs.Histories.{state_after}
 use Rattle.load_model.specs.Laws.{ResidenceStays}
 use Rattle.load_model.specs.Alike.{BasesSeenStay}
-use Rattle.load_model.specs.Rows.{Row, IsRowOf}
-use Rattle.load_model.specs.Standing.{Mapped, IsMapped, mapped_pages, fresh_of, state_for}
-use Rattle.load_model.specs.Touched.{has_page, touched_behind}
+use Rattle.load_model.specs.ProcessCounts.{ProcessCounts, AreCountsOf}
+use Rattle.load_model.specs.Views.{Mapped, IsMapped, mapped_pages, fresh_of, state_for}
+use Rattle.load_model.specs.TouchedPages.{has_page, touched_behind}
 use Rattle.load_model.specs.ViewAnswers.{view_refusal}
 use Rattle.load_model.specs.ViewLaws.{StandsQuiet, StandsEntered, IsQuiet}
 use Rattle.load_model.specs.Outcomes.{done, told, IsTold, is_done, arena_full, init_failed}
@@ -44,7 +44,7 @@ use Rattle.load_model.proofs.Orders.{one_reaches}
 use Rattle.load_model.proofs.Residents.{reached_is_resident}
 use Rattle.load_model.proofs.ViewLoads.{entering_process, attached_grows}
 use Rattle.load_model.proofs.ViewReplies.{residence_is, attached_is_resident}
-use Rattle.load_core.specs.Ledger.{Ledger, IsLegal, MayAsk, state_of, entry_of, with_entry}
+use Rattle.load_core.specs.BoardState.{BoardState, IsLegal, MayAsk, state_of, entry_of, with_entry}
 use Rattle.load_core.specs.Told.{residence_shown}
 use Rattle.process_pages.proofs.Placing.{same_number}
 use Rattle.process_view.specs.ProcessViews.{ProcessView, StandsAt, AreShown, fresh_shown, at_front}
@@ -59,7 +59,7 @@ self n = grind (arith, nat_tests)
 
 -- ---- what is asked
 
-pub asked_enter : (b : Ledger) (v : ProcessView) (how : How) (name : List ℕ) (m : ℕ) → number_of b.library name ≡ Some m →
+pub asked_enter : (b : BoardState) (v : ProcessView) (how : How) (name : List ℕ) (m : ℕ) → number_of b.library name ≡ Some m →
     ask_by b.library (state_for b.library b.failing v.holding b.history) v.holding.pid (enter_command how name) ≡ Some (enter how m)
 asked_enter b v ways.Start name m e = ap (λ (o : Option ℕ). Some (enter ways.Start (unwrap_or o (length b.library)))) e
 asked_enter b v ways.Load name m e = ap (λ (o : Option ℕ). Some (enter ways.Load (unwrap_or o (length b.library)))) e
@@ -68,22 +68,22 @@ fits_enter : (how : How) (name : List ℕ) → FitsPlace (enter_command how name
 fits_enter ways.Start name = tt
 fits_enter ways.Load name = tt
 
-pub accepted_enter : (b : Ledger) (v : ProcessView) (how : How) (name : List ℕ) (m : ℕ) → is_among pids v.holding.pid ≡ true → StandsAt b v → view_refusal v.library v.holding (enter_command how name) ≡ None →
+pub accepted_enter : (b : BoardState) (v : ProcessView) (how : How) (name : List ℕ) (m : ℕ) → is_among pids v.holding.pid ≡ true → StandsAt b v → view_refusal v.library v.holding (enter_command how name) ≡ None →
     number_of b.library name ≡ Some m → IsAccepted b v (enter how m)
 accepted_enter b v how name m process at none e = accepted b v (enter_command how name) (enter how m) process at none (fits_enter how name) (asked_enter b v how name m e)
 
-may_enter : (b : Ledger) (pid : ℕ) (how : How) (m : ℕ) → MayAsk b pid (enter how m) → is_none (enter_refusal b.library ((state_of b).processes pid) how (Some m)) ≡ true
+may_enter : (b : BoardState) (pid : ℕ) (how : How) (m : ℕ) → MayAsk b pid (enter how m) → is_none (enter_refusal b.library ((state_of b).processes pid) how (Some m)) ≡ true
 unfolding may_ask
 may_enter b pid how m may = and_right _ _ may
 
 -- ---- what the entry says
 
-pub entry_is : (b : Ledger) (pid : ℕ) (how : How) (m : ℕ) → (entry_of b pid (enter how m)).deed ≡ enter_deed b.library (state_of b) pid how m
+pub entry_is : (b : BoardState) (pid : ℕ) (how : How) (m : ℕ) → (entry_of b pid (enter how m)).deed ≡ enter_deed b.library (state_of b) pid how m
 unfolding deed_of
 entry_is b pid how m = refl
 
 -- it entered
-pub record IsEntering (b : Ledger) (pid : ℕ) (how : How) (m : ℕ) (rs : List ResidenceFor) (lib : Library) (e : Eager) : Type 0 where
+pub record IsEntering (b : BoardState) (pid : ℕ) (how : How) (m : ℕ) (rs : List ResidenceFor) (lib : Library) (e : Eager) : Type 0 where
   pub fresh : List Fresh
   pub calls : List Call
   pub deed : enter_deed b.library (state_of b) pid how m ≡ deeds.Enter how m fresh calls
@@ -176,7 +176,7 @@ shown_is ends lib e k r is own =
 -- ---- the state
 
 -- the entry is a start or a load that was done
-pub record IsDoneAs (b : Ledger) (v : ProcessView) (how : How) (m : ℕ) (fresh : List Fresh) (calls : List Call) : Type 0 where
+pub record IsDoneAs (b : BoardState) (v : ProcessView) (how : How) (m : ℕ) (fresh : List Fresh) (calls : List Call) : Type 0 where
   pub legal : IsLegal b
   pub stands : StandsAt b v
   pub accepted : IsAccepted b v (enter how m)
@@ -186,26 +186,26 @@ deed_enters : (lib : Library) (e : Eager) (pid : ℕ) (how : How) (m : ℕ) (fre
 unfolding after_deed
 deed_enters lib e pid how m fresh calls = refl
 
-pub state_entered : (b : Ledger) (v : ProcessView) (how : How) (m : ℕ) (fresh : List Fresh) (calls : List Call) → IsDoneAs b v how m fresh calls →
+pub state_entered : (b : BoardState) (v : ProcessView) (how : How) (m : ℕ) (fresh : List Fresh) (calls : List Call) → IsDoneAs b v how m fresh calls →
     state_after b.library b.failing (b.history ++ entry_of b v.holding.pid (enter how m) ∷ []) ≡ after_entering b.library (state_of b) v.holding.pid how m fresh
 state_entered b v how m fresh calls is =
     one_more_is_after b.library b.failing b.history (entry_of b v.holding.pid (enter how m)) ∙ ap (after_deed b.library (state_of b) v.holding.pid) is.deed
     ∙ deed_enters b.library (state_of b) v.holding.pid how m fresh calls
 
-pub process_entered : (b : Ledger) (v : ProcessView) (how : How) (m : ℕ) (fresh : List Fresh) (calls : List Call) → IsDoneAs b v how m fresh calls →
+pub process_entered : (b : BoardState) (v : ProcessView) (how : How) (m : ℕ) (fresh : List Fresh) (calls : List Call) → IsDoneAs b v how m fresh calls →
     (state_after b.library b.failing (b.history ++ entry_of b v.holding.pid (enter how m) ∷ [])).processes v.holding.pid
     ≡ holding how m (attaching (joined b.library (state_of b) v.holding.pid m) ((state_of b).processes v.holding.pid))
 process_entered b v how m fresh calls is =
     ap (λ (e : Eager). e.processes v.holding.pid) (state_entered b v how m fresh calls is) ∙ entering_process b.library (state_of b) v.holding.pid how m fresh
 
-attached_on : (b : Ledger) (v : ProcessView) (how : How) (m : ℕ) (fresh : List Fresh) (calls : List Call) (k : ℕ) (r : Residence) → IsDoneAs b v how m fresh calls →
+attached_on : (b : BoardState) (v : ProcessView) (how : How) (m : ℕ) (fresh : List Fresh) (calls : List Call) (k : ℕ) (r : Residence) → IsDoneAs b v how m fresh calls →
     attached_residence b.library (state_of b) v.holding.pid k ≡ Some r →
     attached_residence b.library (state_after b.library b.failing (b.history ++ entry_of b v.holding.pid (enter how m) ∷ [])) v.holding.pid k ≡ Some r
 attached_on b v how m fresh calls k r is e =
     ap (λ (s : Eager). attached_residence b.library s v.holding.pid k) (state_entered b v how m fresh calls is)
     ∙ attached_grows b.library (state_of b) v.holding.pid how m fresh k r (may_enter b v.holding.pid how m is.accepted.may) e
 
-pub reaches_on : (b : Ledger) (v : ProcessView) (how : How) (m : ℕ) (fresh : List Fresh) (calls : List Call) (k : ℕ) → IsDoneAs b v how m fresh calls →
+pub reaches_on : (b : BoardState) (v : ProcessView) (how : How) (m : ℕ) (fresh : List Fresh) (calls : List Call) (k : ℕ) → IsDoneAs b v how m fresh calls →
     reaches b.library ((state_after b.library b.failing (b.history ++ entry_of b v.holding.pid (enter how m) ∷ [])).processes v.holding.pid) k
     ≡ is_among (order_of b.library m) k || reaches b.library ((state_of b).processes v.holding.pid) k
 reaches_on b v how m fresh calls k is =
@@ -259,7 +259,7 @@ no_stay (Some r) e = absurd cc
 pub resident_by : (lib : Library) (e : Eager) (pid k : ℕ) → is_some (residence_of e k) ≡ is_reached lib e k → is_among pids pid ≡ true → reaches lib (e.processes pid) k ≡ true → is_some (residence_of e k) ≡ true
 resident_by lib e pid k law process reached = law ∙ one_reaches lib e pid k process reached
 
-pub stays_entered : OrderEndsWithItself → (b : Ledger) (v : ProcessView) (how : How) (m : ℕ) (fresh : List Fresh) (calls : List Call) (news : List ResidenceFor) → is_among pids v.holding.pid ≡ true → IsDoneAs b v how m fresh calls →
+pub stays_entered : OrderEndsWithItself → (b : BoardState) (v : ProcessView) (how : How) (m : ℕ) (fresh : List Fresh) (calls : List Call) (news : List ResidenceFor) → is_among pids v.holding.pid ≡ true → IsDoneAs b v how m fresh calls →
     news ≡ map (residence_shown b.library (state_after b.library b.failing (b.history ++ entry_of b v.holding.pid (enter how m) ∷ []))) (joined b.library (state_of b) v.holding.pid m) → (k : ℕ) →
     find (λ (s : Fresh). s.«module» == k) (map fresh_shown (v.residences ++ news))
     ≡ option_map fresh_of (attached_residence b.library (state_after b.library b.failing (b.history ++ entry_of b v.holding.pid (enter how m) ∷ [])) v.holding.pid k)
@@ -280,11 +280,11 @@ stays_entered ends b v how m fresh calls news process is as_shown k = all ∙ by
     at : Fresh → Bool
     at s = s.«module» == k
 
-    all : find at (map fresh_shown (v.residences ++ news)) ≡ find at (v.holding.stays ++ map fresh_shown news)
-    all = ap (find at) (shown_more v.residences news) ∙ ap (λ ss. find at (ss ++ map fresh_shown news)) (sym is.stands.stays)
+    all : find at (map fresh_shown (v.residences ++ news)) ≡ find at (v.holding.residences ++ map fresh_shown news)
+    all = ap (find at) (shown_more v.residences news) ∙ ap (λ ss. find at (ss ++ map fresh_shown news)) (sym is.stands.residences)
 
-    old : (o : Option Residence) → attached_residence lib e pid k ≡ o → find at v.holding.stays ≡ option_map fresh_of o
-    old o h = is.stands.stands.view.stays k ∙ ap (option_map fresh_of) h
+    old : (o : Option Residence) → attached_residence lib e pid k ≡ o → find at v.holding.residences ≡ option_map fresh_of o
+    old o h = is.stands.stands.view.residences k ∙ ap (option_map fresh_of) h
 
     by_new : (c : Bool) → is_among (order_of lib m) k ≡ c → reaches lib (e.processes pid) k ≡ false → find at (map fresh_shown news) ≡ option_map fresh_of (attached_residence lib after pid k)
     by_new true h un =
@@ -306,13 +306,13 @@ stays_entered ends b v how m fresh calls news process is as_shown k = all ∙ by
         let resident = found (residence_of e k) (resident_by lib e pid k (reached_is_resident lib b.failing (fixed_bytes lib) b.history is.legal k) process h) in
         absurd (let wrong : Some resident.0 ≡ None = sym (attached_is_resident lib e pid k h ∙ resident.1) ∙ none in cc)
 
-    by_old : (o : Option Residence) → attached_residence lib e pid k ≡ o → find at (v.holding.stays ++ map fresh_shown news) ≡ option_map fresh_of (attached_residence lib after pid k)
-    by_old (Some r) h = find_first at v.holding.stays (map fresh_shown news) (fresh_of r) (old (Some r) h) ∙ sym (ap (option_map fresh_of) (attached_on b v how m fresh calls k r is h))
-    by_old None h = find_second at v.holding.stays (map fresh_shown news) (old None h) ∙ by_new (is_among (order_of lib m) k) refl (by_reach (reaches lib (e.processes pid) k) refl h)
+    by_old : (o : Option Residence) → attached_residence lib e pid k ≡ o → find at (v.holding.residences ++ map fresh_shown news) ≡ option_map fresh_of (attached_residence lib after pid k)
+    by_old (Some r) h = find_first at v.holding.residences (map fresh_shown news) (fresh_of r) (old (Some r) h) ∙ sym (ap (option_map fresh_of) (attached_on b v how m fresh calls k r is h))
+    by_old None h = find_second at v.holding.residences (map fresh_shown news) (old None h) ∙ by_new (is_among (order_of lib m) k) refl (by_reach (reaches lib (e.processes pid) k) refl h)
 
 -- ---- how they are shown
 
-old_shown : ResidenceStays → BasesSeenStay → (b : Ledger) (v : ProcessView) (how : How) (m : ℕ) (fresh : List Fresh) (calls : List Call) → IsDoneAs b v how m fresh calls →
+old_shown : ResidenceStays → BasesSeenStay → (b : BoardState) (v : ProcessView) (how : How) (m : ℕ) (fresh : List Fresh) (calls : List Call) → IsDoneAs b v how m fresh calls →
     AreShown b.library (state_after b.library b.failing (b.history ++ entry_of b v.holding.pid (enter how m) ∷ [])) v.residences
 old_shown still bases b v how m fresh calls is =
     let x = entry_of b v.holding.pid (enter how m) in
@@ -328,7 +328,7 @@ old_shown still bases b v how m fresh calls is =
     let own = attached b v i r is.stands u here in
     shown_of lib (state_of b) v.residences i r is.stands.shown u here
     ∙ sym
-    (shown_alike still bases b x r.«module» is.legal is.accepted.follows (stay_resident lib b.failing v.holding v.residences b.history i r is.stands.stays is.stands.stands u here)
+    (shown_alike still bases b x r.«module» is.legal is.accepted.follows (stay_resident lib b.failing v.holding v.residences b.history i r is.stands.residences is.stands.stands u here)
     (ap (λ o. is_some o) (residence_is lib after v.holding.pid r.«module» own.0 (attached_on b v how m fresh calls r.«module» own.0 is own.1.there))))))
 
 new_shown : (lib : Library) (e : Eager) (js : List ℕ) → AreShown lib e (map (residence_shown lib e) js)
@@ -342,27 +342,27 @@ all_more P (x ∷ xs) ys a b = (a.0, all_more P xs ys a.1 b)
 -- ---- the deed
 
 -- the view with the residences that it did not have
-abbrev pub entered_view : ProcessView → Row → List ResidenceFor → ℕ → ℕ → ℕ → ProcessView
-entered_view v row news n room more = record {
+abbrev pub entered_view : ProcessView → ProcessCounts → List ResidenceFor → ℕ → ℕ → ℕ → ProcessView
+entered_view v counts news n room more = record {
   library = v.library;
-  holding = record v.holding { row = row; stays = map fresh_shown (v.residences ++ news); front = n };
+  holding = record v.holding { counts = counts; residences = map fresh_shown (v.residences ++ news); front = n };
   residences = v.residences ++ news;
   page_room = room;
-  stay_room = more;
+  residence_room = more;
 }
 
-pub did_entered : OrderEndsWithItself → ResidenceStays → BasesSeenStay → StandsEntered → (b : Ledger) (v : ProcessView) (how : How) (name : List ℕ) (m : ℕ) (fresh : List Fresh) (calls : List Call) (row : Row) (news : List ResidenceFor)
+pub did_entered : OrderEndsWithItself → ResidenceStays → BasesSeenStay → StandsEntered → (b : BoardState) (v : ProcessView) (how : How) (name : List ℕ) (m : ℕ) (fresh : List Fresh) (calls : List Call) (counts : ProcessCounts) (news : List ResidenceFor)
     (room more : ℕ) → is_among pids v.holding.pid ≡ true → number_of b.library name ≡ Some m → IsDoneAs b v how m fresh calls →
     news ≡ map (residence_shown b.library (state_after b.library b.failing (b.history ++ entry_of b v.holding.pid (enter how m) ∷ []))) (joined b.library (state_of b) v.holding.pid m) →
-    IsRowOf b.library (holding how m (attaching (joined b.library (state_of b) v.holding.pid m) ((state_of b).processes v.holding.pid))) row →
-    Did b (with_entry b (entry_of b v.holding.pid (enter how m))) v (entered_view v row news (length (b.history ++ entry_of b v.holding.pid (enter how m) ∷ [])) room more) (enter_command how name)
+    AreCountsOf b.library (holding how m (attaching (joined b.library (state_of b) v.holding.pid m) ((state_of b).processes v.holding.pid))) counts →
+    Did b (with_entry b (entry_of b v.holding.pid (enter how m))) v (entered_view v counts news (length (b.history ++ entry_of b v.holding.pid (enter how m) ∷ [])) room more) (enter_command how name)
     (done (length (b.history ++ entry_of b v.holding.pid (enter how m) ∷ [])))
-did_entered ends still bases stands_entered b v how name m fresh calls row news room more process number is as_shown rows =
+did_entered ends still bases stands_entered b v how name m fresh calls counts news room more process number is as_shown rows =
     let x = entry_of b v.holding.pid (enter how m) in
     let lib = b.library in
     let after = state_after lib b.failing (b.history ++ x ∷ []) in
     let n = length (b.history ++ x ∷ []) in
-    let R : Process → Type 0 = λ p. IsRowOf lib p row in
+    let R : Process → Type 0 = λ p. AreCountsOf lib p counts in
     let T : Deed → Type 0 = λ d. IsTold n d (done n) in
     let S : List ResidenceFor → Type 0 = AllByRecursion (λ (r : ResidenceFor). r ≡ residence_shown lib after r.«module») in
     record {
@@ -373,9 +373,9 @@ did_entered ends still bases stands_entered b v how name m fresh calls row news 
       told = subst T (sym is.deed) (is_done tt);
       stands = record {
         library = is.stands.library;
-        stays = refl;
+        residences = refl;
         stands =
-            stands_entered lib b.failing (fixed_bytes lib) v.holding b.history x how m fresh calls row (map fresh_shown (v.residences ++ news)) is.legal is.accepted.follows refl is.deed
+            stands_entered lib b.failing (fixed_bytes lib) v.holding b.history x how m fresh calls counts (map fresh_shown (v.residences ++ news)) is.legal is.accepted.follows refl is.deed
             (subst R (sym (process_entered b v how m fresh calls is)) rows) (stays_entered ends b v how m fresh calls news process is as_shown) is.stands.stands;
         shown =
             all_more (λ (r : ResidenceFor). r ≡ residence_shown lib after r.«module») v.residences news (old_shown still bases b v how m fresh calls is)
@@ -388,7 +388,7 @@ did_entered ends still bases stands_entered b v how name m fresh calls row news 
 
 -- ---- where it is refused with an entry
 
-pub did_full : ResidenceStays → BasesSeenStay → StandsQuiet → (b : Ledger) (v : ProcessView) (how : How) (name : List ℕ) (m of object size : ℕ) → number_of b.library name ≡ Some m → IsLegal b → StandsAt b v → IsAccepted b v (enter how m) →
+pub did_full : ResidenceStays → BasesSeenStay → StandsQuiet → (b : BoardState) (v : ProcessView) (how : How) (name : List ℕ) (m of object size : ℕ) → number_of b.library name ≡ Some m → IsLegal b → StandsAt b v → IsAccepted b v (enter how m) →
     (entry_of b v.holding.pid (enter how m)).deed ≡ deeds.Full how m of object size →
     Did b (with_entry b (entry_of b v.holding.pid (enter how m))) v (at_front (length (b.history ++ entry_of b v.holding.pid (enter how m) ∷ [])) v) (enter_command how name)
     (told (Refused (ArenaFull (length (b.history ++ entry_of b v.holding.pid (enter how m) ∷ [])) of object size)))
@@ -399,7 +399,7 @@ did_full still bases quiet b v how name m of object size number legal at acc dee
     did_quiet still bases quiet b v (enter_command how name) (enter how m) _ legal at acc (asked_enter b v how name m number) (subst Q (sym deed) tt) (subst T (sym deed) arena_full)
     (sym (ap (λ (d : Deed). touched_behind b.library (state_of b) v.holding.pid d (λ _. mapped_pages v.holding) v.holding.pid) deed))
 
-pub did_failed : ResidenceStays → BasesSeenStay → StandsQuiet → (b : Ledger) (v : ProcessView) (how : How) (name : List ℕ) (m by : ℕ) (fresh : List Fresh) (calls : List Call) (gone : List Gone) → number_of b.library name ≡ Some m → IsLegal b →
+pub did_failed : ResidenceStays → BasesSeenStay → StandsQuiet → (b : BoardState) (v : ProcessView) (how : How) (name : List ℕ) (m by : ℕ) (fresh : List Fresh) (calls : List Call) (gone : List Gone) → number_of b.library name ≡ Some m → IsLegal b →
     StandsAt b v → IsAccepted b v (enter how m) → (entry_of b v.holding.pid (enter how m)).deed ≡ deeds.Failed how m by fresh calls gone →
     Did b (with_entry b (entry_of b v.holding.pid (enter how m))) v (at_front (length (b.history ++ entry_of b v.holding.pid (enter how m) ∷ [])) v) (enter_command how name)
     (told (Refused (InitFailed (length (b.history ++ entry_of b v.holding.pid (enter how m) ∷ [])) by)))
@@ -413,7 +413,7 @@ did_failed still bases quiet b v how name m by fresh calls gone number legal at 
 -- ---- new residences are of their own
 
 -- the serial number of what is new is that of nothing that the process reached before
-unlike : (b : Ledger) (v : ProcessView) (how : How) (m : ℕ) (fresh : List Fresh) (calls : List Call) (j k : ℕ) (a : Residence) → is_among pids v.holding.pid ≡ true → IsDoneAs b v how m fresh calls →
+unlike : (b : BoardState) (v : ProcessView) (how : How) (m : ℕ) (fresh : List Fresh) (calls : List Call) (j k : ℕ) (a : Residence) → is_among pids v.holding.pid ≡ true → IsDoneAs b v how m fresh calls →
     is_among (joined b.library (state_of b) v.holding.pid m) k ≡ true → attached_residence b.library (state_of b) v.holding.pid j ≡ Some a →
     a.serial ≡ serial_of (residence_of (state_after b.library b.failing (b.history ++ entry_of b v.holding.pid (enter how m) ∷ [])) k) → ⊥
 unlike b v how m fresh calls j k a process is new there same =
@@ -438,7 +438,7 @@ unlike b v how m fresh calls j k a process is new there same =
     let wrong : not true ≡ true = sym (ap not before) ∙ and_right (is_among (order_of lib m) k) (not (reaches lib (e.processes pid) k)) both in
     cc
 
-pub new_stay_apart : (b : Ledger) (v : ProcessView) (how : How) (m : ℕ) (fresh : List Fresh) (calls : List Call) (k : ℕ) → is_among pids v.holding.pid ≡ true → IsDoneAs b v how m fresh calls →
+pub new_stay_apart : (b : BoardState) (v : ProcessView) (how : How) (m : ℕ) (fresh : List Fresh) (calls : List Call) (k : ℕ) → is_among pids v.holding.pid ≡ true → IsDoneAs b v how m fresh calls →
     is_among (joined b.library (state_of b) v.holding.pid m) k ≡ true →
     All (λ (r : ResidenceFor). r.serial ≡ serial_of (residence_of (state_after b.library b.failing (b.history ++ entry_of b v.holding.pid (enter how m) ∷ [])) k) → ⊥) v.residences
 new_stay_apart b v how m fresh calls k process is new =
@@ -459,7 +459,7 @@ none_has lib contents e pid n q none (p ∷ ps) all =
     by_test false is = is
     by_test true is = absurd (none all.0.residence.«module» all.0.residence all.0.there (sym all.0.serial ∙ same_number p.of.serial n is))
 
-pub new_page_unmapped : (b : Ledger) (v : ProcessView) (how : How) (m : ℕ) (fresh : List Fresh) (calls : List Call) (k : ℕ) → is_among pids v.holding.pid ≡ true → IsDoneAs b v how m fresh calls →
+pub new_page_unmapped : (b : BoardState) (v : ProcessView) (how : How) (m : ℕ) (fresh : List Fresh) (calls : List Call) (k : ℕ) → is_among pids v.holding.pid ≡ true → IsDoneAs b v how m fresh calls →
     is_among (joined b.library (state_of b) v.holding.pid m) k ≡ true → (q : PageId) →
     has_page (mapped_pages v.holding) (serial_of (residence_of (state_after b.library b.failing (b.history ++ entry_of b v.holding.pid (enter how m) ∷ [])) k)) q ≡ false
 new_page_unmapped b v how m fresh calls k process is new q =

@@ -1,4 +1,4 @@
--- A view behind a free.
+-- A view after a free.
 use Rattle.std.proofs.Common.{◌≡◌, ℕ, zero, suc, ◌<◌, arith, ◌==◌, ◌||◌, Bool, true, false, cond, not, List, [], ◌∷◌, ◌++◌, map, filter, length, Option, Some, None, option_map, unwrap_or, get_or, refl, sym, ap, ◌∙◌}
 use Rattle.std.specs.Prelude.{is_some, slice_index}
 use Rattle.std.specs.List.{AllByRecursion, find, list_any}
@@ -15,8 +15,8 @@ use Rattle.load_model.specs.Histories.{state_after}
 use Rattle.load_model.specs.Leaving.{freeing, keeping, left_serials}
 use Rattle.load_model.specs.Laws.{ResidenceStays}
 use Rattle.load_model.specs.Alike.{BasesSeenStay}
-use Rattle.load_model.specs.Rows.{Row, IsRowOf}
-use Rattle.load_model.specs.Standing.{Holding, Mapped, IsMapped, fresh_of, state_for}
+use Rattle.load_model.specs.ProcessCounts.{ProcessCounts, AreCountsOf}
+use Rattle.load_model.specs.Views.{Holding, Mapped, IsMapped, fresh_of, state_for}
 use Rattle.load_model.specs.ViewAnswers.{view_refusal, view_free_refusal}
 use Rattle.load_model.specs.ViewLeaving.{GivesUpTo, mapped_kept, KeptAreReached, KeptAreTouched, StandsLeft}
 use Rattle.load_model.specs.Outcomes.{done, is_done, IsTold}
@@ -26,7 +26,7 @@ use Rattle.load_model.proofs.KeptLeaving.{freeing_gives_up}
 use Rattle.load_model.proofs.Residents.{legal_kept, reached_is_resident}
 use Rattle.load_model.proofs.ViewLeaving.{residence_behind, all_filter}
 use Rattle.load_model.proofs.ViewReplies.{residence_is, attached_is_resident}
-use Rattle.load_core.specs.Ledger.{Ledger, IsLegal, state_of, entry_of, with_entry}
+use Rattle.load_core.specs.BoardState.{BoardState, IsLegal, state_of, entry_of, with_entry}
 use Rattle.load_core.specs.Told.{residence_shown}
 use Rattle.process_view.specs.ProcessViews.{ProcessView, StandsAt, AreShown, fresh_shown, at_front, freed_view}
 use Rattle.process_view.specs.Deeds.{Did}
@@ -38,19 +38,19 @@ use Rattle.process_view.proofs.PagesStanding.{IsAttached, attached, attached_the
 
 -- ---- what is asked
 
-asked_free : (b : Ledger) (v : ProcessView) (name : List ℕ) (m : ℕ) → number_of b.library name ≡ Some m →
+asked_free : (b : BoardState) (v : ProcessView) (name : List ℕ) (m : ℕ) → number_of b.library name ≡ Some m →
     ask_by b.library (state_for b.library b.failing v.holding b.history) v.holding.pid (commands.Free name) ≡ Some (free m)
 asked_free b v name m e = ap (λ (o : Option ℕ). Some (free (unwrap_or o (length b.library)))) e
 
-pub accepted_free : (b : Ledger) (v : ProcessView) (name : List ℕ) (m : ℕ) → is_among pids v.holding.pid ≡ true → StandsAt b v → view_refusal v.library v.holding (commands.Free name) ≡ None →
+pub accepted_free : (b : BoardState) (v : ProcessView) (name : List ℕ) (m : ℕ) → is_among pids v.holding.pid ≡ true → StandsAt b v → view_refusal v.library v.holding (commands.Free name) ≡ None →
     number_of b.library name ≡ Some m → IsAccepted b v (free m)
 accepted_free b v name m process at none e = accepted b v (commands.Free name) (free m) process at none tt (asked_free b v name m e)
 
-gives_one : (b : Ledger) (pid m : ℕ) → GivesUpTo (entry_of b pid (free m)).deed ((state_of b).processes pid) (freeing m ((state_of b).processes pid))
+gives_one : (b : BoardState) (pid m : ℕ) → GivesUpTo (entry_of b pid (free m)).deed ((state_of b).processes pid) (freeing m ((state_of b).processes pid))
 unfolding deed_of
 gives_one b pid m = refl
 
-told_free : (b : Ledger) (pid m n : ℕ) → IsTold n (entry_of b pid (free m)).deed (done n)
+told_free : (b : BoardState) (pid m n : ℕ) → IsTold n (entry_of b pid (free m)).deed (done n)
 unfolding deed_of
 told_free b pid m n = is_done tt
 
@@ -97,18 +97,18 @@ find_left g k (r ∷ rs) h = by_test (g r.«module») refl (r.«module» == k) r
     by_test true is false same later = ap (λ t. find at (map fresh_shown (cond t (r ∷ kept) kept))) is ∙ ap (λ t. cond t (Some (fresh_shown r)) (find at (map fresh_shown kept))) same ∙ later
     by_test false is c same later = ap (λ t. find at (map fresh_shown (cond t (r ∷ kept) kept))) is ∙ later
 
--- ---- behind the free
+-- ---- after the free
 
-abbrev freed : Ledger → ProcessView → ℕ → Process
+abbrev freed : BoardState → ProcessView → ℕ → Process
 freed b v m = freeing m ((state_of b).processes v.holding.pid)
 
-attached_behind : (b : Ledger) (v : ProcessView) (m k : ℕ) (r : Residence) → is_among pids v.holding.pid ≡ true → IsLegal b → attached_residence b.library (state_of b) v.holding.pid k ≡ Some r → reaches b.library (freed b v m) k ≡ true →
+attached_behind : (b : BoardState) (v : ProcessView) (m k : ℕ) (r : Residence) → is_among pids v.holding.pid ≡ true → IsLegal b → attached_residence b.library (state_of b) v.holding.pid k ≡ Some r → reaches b.library (freed b v m) k ≡ true →
     attached_residence b.library (state_after b.library b.failing (b.history ++ entry_of b v.holding.pid (free m) ∷ [])) v.holding.pid k ≡ Some r
 attached_behind b v m k r process legal is reached =
     ap (λ (e : Eager). attached_residence b.library e v.holding.pid k) (state_left b (entry_of b v.holding.pid (free m)) (freed b v m) (gives_one b v.holding.pid m))
     ∙ residence_behind b.library (state_of b) v.holding.pid (freed b v m) k r process (legal_kept b.library b.failing (fixed_bytes b.library) b.history legal) (freeing_gives_up b.library m ((state_of b).processes v.holding.pid)) is reached
 
-stays_behind : (b : Ledger) (v : ProcessView) (m k : ℕ) → is_among pids v.holding.pid ≡ true → IsLegal b → StandsAt b v →
+stays_behind : (b : BoardState) (v : ProcessView) (m k : ℕ) → is_among pids v.holding.pid ≡ true → IsLegal b → StandsAt b v →
     find (λ (s : Fresh). s.«module» == k) (map fresh_shown (stays_kept b.library (freed b v m) v.residences))
     ≡ option_map fresh_of (attached_residence b.library (state_after b.library b.failing (b.history ++ entry_of b v.holding.pid (free m) ∷ [])) v.holding.pid k)
 stays_behind b v m k process legal stands = by_reach (reaches lib (freed b v m) k) refl
@@ -129,7 +129,7 @@ stays_behind b v m k process legal stands = by_reach (reaches lib (freed b v m) 
     g n = reaches lib (freed b v m) n
 
     old : find at (map fresh_shown v.residences) ≡ option_map fresh_of (attached_residence lib (state_of b) pid k)
-    old = ap (find at) (sym stands.stays) ∙ stands.stands.view.stays k
+    old = ap (find at) (sym stands.residences) ∙ stands.stands.view.residences k
 
     by_reach : (c : Bool) → g k ≡ c → find at (map fresh_shown (filter (λ (r : ResidenceFor). g r.«module») v.residences)) ≡ option_map fresh_of (attached_residence lib after pid k)
     by_reach true h =
@@ -143,7 +143,7 @@ stays_behind b v m k process legal stands = by_reach (reaches lib (freed b v m) 
         (ap (option_map fresh_of)
         (unattached lib after pid k (ap (λ (p : Process). reaches lib p k) (process_left b (entry_of b pid (free m)) (freed b v m) (gives_one b pid m)) ∙ keeps_reach lib (state_of b) (freed b v m) k ∙ h)))
 
-shown_kept : ResidenceStays → BasesSeenStay → (b : Ledger) (v : ProcessView) (m : ℕ) → is_among pids v.holding.pid ≡ true → IsLegal b → StandsAt b v → IsAccepted b v (free m) →
+shown_kept : ResidenceStays → BasesSeenStay → (b : BoardState) (v : ProcessView) (m : ℕ) → is_among pids v.holding.pid ≡ true → IsLegal b → StandsAt b v → IsAccepted b v (free m) →
     AreShown b.library (state_after b.library b.failing (b.history ++ entry_of b v.holding.pid (free m) ∷ [])) (stays_kept b.library (freed b v m) v.residences)
 shown_kept still bases b v m process legal at acc =
     let x = entry_of b v.holding.pid (free m) in
@@ -161,17 +161,17 @@ shown_kept still bases b v m process legal at acc =
     let own = attached b v i r at u here in
     shown_of lib (state_of b) v.residences i r at.shown u here
     ∙ sym
-    (shown_alike still bases b x r.«module» legal acc.follows (stay_resident lib b.failing v.holding v.residences b.history i r at.stays at.stands u here)
+    (shown_alike still bases b x r.«module» legal acc.follows (stay_resident lib b.failing v.holding v.residences b.history i r at.residences at.stands u here)
     (ap (λ o. is_some o) (residence_is lib after v.holding.pid r.«module» own.0 (attached_behind b v m r.«module» own.0 process legal own.1.there reached)))))))
 
-pub did_free : StandsLeft → KeptAreTouched → ResidenceStays → BasesSeenStay → (b : Ledger) (v : ProcessView) (name : List ℕ) (m : ℕ) (row : Row) (room more : ℕ) → is_among pids v.holding.pid ≡ true → number_of b.library name ≡ Some m →
-    IsLegal b → StandsAt b v → view_refusal v.library v.holding (commands.Free name) ≡ None → IsRowOf b.library (keeping b.library (state_of b) (freed b v m)) row →
+pub did_free : StandsLeft → KeptAreTouched → ResidenceStays → BasesSeenStay → (b : BoardState) (v : ProcessView) (name : List ℕ) (m : ℕ) (counts : ProcessCounts) (room more : ℕ) → is_among pids v.holding.pid ≡ true → number_of b.library name ≡ Some m →
+    IsLegal b → StandsAt b v → view_refusal v.library v.holding (commands.Free name) ≡ None → AreCountsOf b.library (keeping b.library (state_of b) (freed b v m)) counts →
     Did b (with_entry b (entry_of b v.holding.pid (free m))) v
-    (left_view b v (freed b v m) row (stays_kept b.library (freed b v m) v.residences) (mapped_kept b.library (state_of b) (freed b v m) v.holding.mapped) (length (b.history ++ entry_of b v.holding.pid (free m) ∷ [])) room more)
+    (left_view b v (freed b v m) counts (stays_kept b.library (freed b v m) v.residences) (mapped_kept b.library (state_of b) (freed b v m) v.holding.mapped) (length (b.history ++ entry_of b v.holding.pid (free m) ∷ [])) room more)
     (commands.Free name) (done (length (b.history ++ entry_of b v.holding.pid (free m) ∷ [])))
-did_free left touched still bases b v name m row room more process number legal at none rows =
+did_free left touched still bases b v name m counts room more process number legal at none rows =
     let acc = accepted_free b v name m process at none number in
-    did_left left touched b v (commands.Free name) (free m) (freed b v m) row (stays_kept b.library (freed b v m) v.residences) room more legal at acc (asked_free b v name m number) (gives_one b v.holding.pid m) rows
+    did_left left touched b v (commands.Free name) (free m) (freed b v m) counts (stays_kept b.library (freed b v m) v.residences) room more legal at acc (asked_free b v name m number) (gives_one b v.holding.pid m) rows
     (λ k. stays_behind b v m k process legal at) (shown_kept still bases b v m process legal at acc) (told_free b v.holding.pid m _)
 
 -- ---- the pages that are kept
@@ -219,7 +219,7 @@ none_there g n (r ∷ rs) all = by_test (g r.«module») refl (none_there g n rs
     by_test false is later = ap (λ c. list_any (λ (q : ResidenceFor). q.serial == n) (cond c (r ∷ kept) kept)) is ∙ later
 
 -- a page lies in one of them exactly where the process still reaches its residence's module
-page_kept : (b : Ledger) (v : ProcessView) (m : ℕ) (p : Mapped) → IsLegal b → StandsAt b v → (it : IsMapped b.library (fixed_bytes b.library) (state_of b) v.holding.pid p) →
+page_kept : (b : BoardState) (v : ProcessView) (m : ℕ) (p : Mapped) → IsLegal b → StandsAt b v → (it : IsMapped b.library (fixed_bytes b.library) (state_of b) v.holding.pid p) →
     list_any (λ (r : ResidenceFor). r.serial == p.of.serial) (stays_kept b.library (freed b v m) v.residences) ≡ reaches b.library (freed b v m) it.residence.«module»
 page_kept b v m p legal at it = by_reach (g it.residence.«module») refl
   where
@@ -233,7 +233,7 @@ page_kept b v m p legal at it = by_reach (g it.residence.«module») refl
     g n = reaches lib (freed b v m) n
 
     there : find (λ (t : Fresh). t.«module» == it.residence.«module») (map fresh_shown v.residences) ≡ Some (fresh_of it.residence)
-    there = ap (find (λ (t : Fresh). t.«module» == it.residence.«module»)) (sym at.stays) ∙ at.stands.view.stays it.residence.«module» ∙ ap (option_map fresh_of) it.there
+    there = ap (find (λ (t : Fresh). t.«module» == it.residence.«module»)) (sym at.residences) ∙ at.stands.view.residences it.residence.«module» ∙ ap (option_map fresh_of) it.there
 
     other : (r : ResidenceFor) (a : Residence) → IsAttached b v r a → g it.residence.«module» ≡ false → g r.«module» ≡ true → (c : Bool) → (r.serial == p.of.serial) ≡ c → c ≡ false
     other r a own left reached false is = refl
@@ -262,7 +262,7 @@ page_kept b v m p legal at it = by_reach (g it.residence.«module») refl
         other r own.0 own.1 h reached (r.serial == p.of.serial) refl)))
         ∙ sym h
 
-pages_are : (b : Ledger) (v : ProcessView) (m : ℕ) → KeptAreReached → IsLegal b → StandsAt b v → IsAccepted b v (free m) → (ps : List Mapped) →
+pages_are : (b : BoardState) (v : ProcessView) (m : ℕ) → KeptAreReached → IsLegal b → StandsAt b v → IsAccepted b v (free m) → (ps : List Mapped) →
     AllByRecursion (IsMapped b.library (fixed_bytes b.library) (state_of b) v.holding.pid) ps →
     pages_of_kept (stays_kept b.library (freed b v m) v.residences) ps ≡ mapped_kept b.library (state_of b) (freed b v m) ps
 pages_are b v m kept legal at acc [] all = refl
@@ -275,35 +275,35 @@ pages_are b v m kept legal at acc (p ∷ ps) all =
     ap (λ c. cond c (p ∷ pages_of_kept rs ps) (pages_of_kept rs ps)) one
     ∙ ap (λ xs. cond (not (is_among (left_serials b.library (state_of b) (freed b v m)) p.of.serial)) (p ∷ xs) xs) (pages_are b v m kept legal at acc ps all.1)
 
--- the pages that a view keeps behind a free are those of the residences that it keeps
-pub pages_freed : (b : Ledger) (v : ProcessView) (m : ℕ) → KeptAreReached → IsLegal b → StandsAt b v → IsAccepted b v (free m) →
+-- the pages that a view keeps after a free are those of the residences that it keeps
+pub pages_freed : (b : BoardState) (v : ProcessView) (m : ℕ) → KeptAreReached → IsLegal b → StandsAt b v → IsAccepted b v (free m) →
     pages_of_kept (stays_kept b.library (freed b v m) v.residences) v.holding.mapped ≡ mapped_kept b.library (state_of b) (freed b v m) v.holding.mapped
 pages_freed b v m kept legal at acc = pages_are b v m kept legal at acc v.holding.mapped at.stands.view.mapped
 
 -- ---- what is held
 
-pub held_by : (v : Holding) (a : Bool) (n : ℕ) → view_free_refusal (record v { ended = a; row = record v.row { loads = n ∷ [] } }) (Some 0) ≡ None → 0 < n
+pub held_by : (v : Holding) (a : Bool) (n : ℕ) → view_free_refusal (record v { ended = a; counts = record v.counts { loads = n ∷ [] } }) (Some 0) ≡ None → 0 < n
 held_by v true zero e = absurd cc
 held_by v false zero e = absurd cc
 held_by v a (suc n) e = omega arith
 
-pub held_free : (v : Holding) (o : Option ℕ) (m : ℕ) → view_free_refusal v o ≡ None → o ≡ Some m → 0 < slice_index v.row.loads m
-held_free v o m e is = held_by v v.ended (slice_index v.row.loads m) (ap (view_free_refusal v) (sym is) ∙ e)
+pub held_free : (v : Holding) (o : Option ℕ) (m : ℕ) → view_free_refusal v o ≡ None → o ≡ Some m → 0 < slice_index v.counts.loads m
+held_free v o m e is = held_by v v.ended (slice_index v.counts.loads m) (ap (view_free_refusal v) (sym is) ∙ e)
 
--- the view behind a free
-pub freed_is : KeptAreReached → (b : Ledger) (v : ProcessView) (m : ℕ) (row : Row) (n room more : ℕ) → IsLegal b → StandsAt b v → IsAccepted b v (free m) →
-    at_front n (freed_view v (reaches v.library (freeing m ((state_of b).processes v.holding.pid))) row room more)
-    ≡ left_view b v (freeing m ((state_of b).processes v.holding.pid)) row (stays_kept b.library (freeing m ((state_of b).processes v.holding.pid)) v.residences)
+-- the view after a free
+pub freed_is : KeptAreReached → (b : BoardState) (v : ProcessView) (m : ℕ) (counts : ProcessCounts) (n room more : ℕ) → IsLegal b → StandsAt b v → IsAccepted b v (free m) →
+    at_front n (freed_view v (reaches v.library (freeing m ((state_of b).processes v.holding.pid))) counts room more)
+    ≡ left_view b v (freeing m ((state_of b).processes v.holding.pid)) counts (stays_kept b.library (freeing m ((state_of b).processes v.holding.pid)) v.residences)
     (mapped_kept b.library (state_of b) (freeing m ((state_of b).processes v.holding.pid)) v.holding.mapped) n room more
-freed_is kept b v m row n room more legal at acc =
+freed_is kept b v m counts n room more legal at acc =
     let after : Process = freeing m ((state_of b).processes v.holding.pid) in
     let rs = stays_kept b.library after v.residences in
     let made : Bool → List Mapped → ProcessView = λ en ms. record {
       library = v.library;
-      holding = record v.holding { ended = en; row = row; stays = map fresh_shown rs; mapped = ms; front = n };
+      holding = record v.holding { ended = en; counts = counts; residences = map fresh_shown rs; mapped = ms; front = n };
       residences = rs;
       page_room = room;
-      stay_room = more;
+      residence_room = more;
     } in
-    ap (λ (l : Library). at_front n (freed_view v (reaches l after) row room more)) at.library ∙ ap (λ (en : Bool). made en (pages_of_kept rs v.holding.mapped)) at.stands.view.ended
+    ap (λ (l : Library). at_front n (freed_view v (reaches l after) counts room more)) at.library ∙ ap (λ (en : Bool). made en (pages_of_kept rs v.holding.mapped)) at.stands.view.ended
     ∙ ap (λ (ms : List Mapped). made after.ended ms) (pages_freed b v m kept legal at acc)

@@ -17,17 +17,17 @@ use Rattle.load_model.specs.State.{Eager, Process, Residence, pids, is_among, re
 use Rattle.load_model.specs.Asks.{enter}
 use Rattle.load_model.specs.Entering.{joined}
 use Rattle.load_model.specs.Histories.{state_after}
-use Rattle.load_model.specs.Rows.{IsRowOf, unreached}
+use Rattle.load_model.specs.ProcessCounts.{AreCountsOf, unreached}
 use Rattle.load_model.proofs.Bools.{and_left}
 use Rattle.load_model.proofs.Growing.{one_more_is_legal}
 use Rattle.load_model.proofs.Residents.{reached_is_resident}
 use Rattle.load_model.proofs.SerialsOwn.{serials_are_own}
 use Rattle.load_model.proofs.Bytes.{attached_is}
 use Rattle.load_model.proofs.ViewReplies.{attached_is_resident}
-use Rattle.load_core.specs.Ledger.{Ledger, state_of, entry_of}
+use Rattle.load_core.specs.BoardState.{BoardState, state_of, entry_of}
 use Rattle.load_core.specs.Told.{residence_shown}
 use Rattle.process_view.specs.ProcessViews.{ProcessView, StandsAt}
-use Rattle.process_pages.specs.Stays.{AreApart}
+use Rattle.process_pages.specs.ReachedResidences.{AreApart}
 use Rattle.process_pages.specs.PageRows.{PagePlaces}
 use Rattle.process_view.specs.Joining.{AreEmpty, CanJoin, IsNewTo, modules_of}
 use Rattle.process_view.proofs.Entered.{IsDoneAs, joined_is, reaches_on, found, resident_by, new_stay_apart, new_page_unmapped, self}
@@ -46,7 +46,7 @@ among_at (x ∷ xs) (suc i) d u = ap (λ c. (x == get_or xs i d) || c) (among_at
     or_true false = refl
 
 -- the module of a residence that is shown is in the state
-shown_there : (b : Ledger) (v : ProcessView) (how : How) (m : ℕ) (fresh : List Fresh) (calls : List Call) (k : ℕ) → is_among pids v.holding.pid ≡ true → IsDoneAs b v how m fresh calls →
+shown_there : (b : BoardState) (v : ProcessView) (how : How) (m : ℕ) (fresh : List Fresh) (calls : List Call) (k : ℕ) → is_among pids v.holding.pid ≡ true → IsDoneAs b v how m fresh calls →
     is_among (joined b.library (state_of b) v.holding.pid m) k ≡ true →
     (r : Residence) × (residence_of (state_after b.library b.failing (b.history ++ entry_of b v.holding.pid (enter how m) ∷ [])) k ≡ Some r) × (r.«module» ≡ k)
 shown_there b v how m fresh calls k process is new =
@@ -64,7 +64,7 @@ shown_there b v how m fresh calls k process is new =
     (resident.0, resident.1, (attached_is lib after pid k resident.0 (attached_is_resident lib after pid k reached ∙ resident.1)).1)
 
 -- residences of different modules have serial numbers of their own
-serials_differ : (b : Ledger) (v : ProcessView) (how : How) (m : ℕ) (fresh : List Fresh) (calls : List Call) (j k : ℕ) → is_among pids v.holding.pid ≡ true → IsDoneAs b v how m fresh calls →
+serials_differ : (b : BoardState) (v : ProcessView) (how : How) (m : ℕ) (fresh : List Fresh) (calls : List Call) (j k : ℕ) → is_among pids v.holding.pid ≡ true → IsDoneAs b v how m fresh calls →
     is_among (joined b.library (state_of b) v.holding.pid m) j ≡ true → is_among (joined b.library (state_of b) v.holding.pid m) k ≡ true →
     serial_of (residence_of (state_after b.library b.failing (b.history ++ entry_of b v.holding.pid (enter how m) ∷ [])) j)
     ≡ serial_of (residence_of (state_after b.library b.failing (b.history ++ entry_of b v.holding.pid (enter how m) ∷ [])) k) → j ≡ k
@@ -88,15 +88,15 @@ among_order : (lib : Library) (m k : ℕ) → is_among (order_of lib m) k ≡ tr
 unfolding order_of
 among_order lib m k h = among_contains (Order lib m) k h
 
-pub joining_is : (b : Ledger) (v w : ProcessView) (m : ℕ) (order joining : List ℕ) → w ≡ v → StandsAt b v → order ≡ order_of w.library m →
-    ((lib : Library) (p : Process) → IsRowOf lib p w.holding.row → joining ≡ unreached lib p order) → joining ≡ joined b.library (state_of b) v.holding.pid m
+pub joining_is : (b : BoardState) (v w : ProcessView) (m : ℕ) (order joining : List ℕ) → w ≡ v → StandsAt b v → order ≡ order_of w.library m →
+    ((lib : Library) (p : Process) → AreCountsOf lib p w.holding.counts → joining ≡ unreached lib p order) → joining ≡ joined b.library (state_of b) v.holding.pid m
 joining_is b v w m order joining same at order_is law =
     let p = (state_of b).processes v.holding.pid in
-    let R : ProcessView → Type 0 = λ x. IsRowOf b.library p x.holding.row in
+    let R : ProcessView → Type 0 = λ x. AreCountsOf b.library p x.holding.counts in
     joined_by b.library (state_of b) v.holding.pid m joining
-    (law b.library p (subst R (sym same) at.stands.view.row) ∙ ap (unreached b.library p) (order_is ∙ ap (λ (x : ProcessView). order_of x.library m) same ∙ ap (λ (l : Library). order_of l m) at.library))
+    (law b.library p (subst R (sym same) at.stands.view.counts) ∙ ap (unreached b.library p) (order_is ∙ ap (λ (x : ProcessView). order_of x.library m) same ∙ ap (λ (l : Library). order_of l m) at.library))
 
-pub joined_inside : OrderIsInLibrary → (b : Ledger) (v : ProcessView) (m : ℕ) (joining : List ℕ) → v.library ≡ b.library → m < length v.library → joining ≡ joined b.library (state_of b) v.holding.pid m → All (λ k. k < length v.library) joining
+pub joined_inside : OrderIsInLibrary → (b : BoardState) (v : ProcessView) (m : ℕ) (joining : List ℕ) → v.library ≡ b.library → m < length v.library → joining ≡ joined b.library (state_of b) v.holding.pid m → All (λ k. k < length v.library) joining
 joined_inside inside b v m joining same within is = λ i d u.
     let lib = b.library in
     let J : List ℕ → Type 0 = λ xs. is_among xs (get_or joining i d) ≡ true in
@@ -107,10 +107,10 @@ joined_inside inside b v m joining same within is = λ i d u.
     subst L (sym same)
     (inside lib m (get_or joining i d) (subst M same within) (among_order lib m (get_or joining i d) (and_left (is_among (order_of lib m) (get_or joining i d)) (not (reaches lib ((state_of b).processes v.holding.pid) (get_or joining i d))) both)))
 
-pub can_join : OrderIsInLibrary → OrderHasEachOnce → (b : Ledger) (v w : ProcessView) (how : How) (m : ℕ) (fresh : List Fresh) (calls : List Call) (news : List ResidenceFor) (n : ℕ) → is_among pids v.holding.pid ≡ true →
+pub can_join : OrderIsInLibrary → OrderHasEachOnce → (b : BoardState) (v w : ProcessView) (how : How) (m : ℕ) (fresh : List Fresh) (calls : List Call) (news : List ResidenceFor) (n : ℕ) → is_among pids v.holding.pid ≡ true →
     IsDoneAs b v how m fresh calls → m < length b.library →
     news ≡ map (residence_shown b.library (state_after b.library b.failing (b.history ++ entry_of b v.holding.pid (enter how m) ∷ []))) (joined b.library (state_of b) v.holding.pid m) →
-    n ≡ length (joined b.library (state_of b) v.holding.pid m) → n ≤ w.stay_room → w ≡ record v { stay_room = w.stay_room } → CanJoin w news
+    n ≡ length (joined b.library (state_of b) v.holding.pid m) → n ≤ w.residence_room → w ≡ record v { residence_room = w.residence_room } → CanJoin w news
 can_join inside once b v w how m fresh calls news n process is within as_shown count room same =
     let lib = b.library in
     let js = joined lib (state_of b) v.holding.pid m in
@@ -128,7 +128,7 @@ can_join inside once b v w how m fresh calls news n process is within as_shown c
       room = omega (arith, length-map js shown, count, room);
       new =
           subst N (sym same)
-          (All-map (IsNewTo (record v { stay_room = w.stay_room })) shown js
+          (All-map (IsNewTo (record v { residence_room = w.residence_room })) shown js
           (λ i d u.
           let new = among_at js i d u in
           record {
@@ -139,7 +139,7 @@ can_join inside once b v w how m fresh calls news n process is within as_shown c
       apart = shown_apart b v how m fresh calls js process is (λ i d u. among_at js i d u) (joined_apart once lib (state_of b) v.holding.pid m);
     })
   where
-    shown_apart : (b : Ledger) (v : ProcessView) (how : How) (m : ℕ) (fresh : List Fresh) (calls : List Call) (js : List ℕ) → is_among pids v.holding.pid ≡ true → IsDoneAs b v how m fresh calls →
+    shown_apart : (b : BoardState) (v : ProcessView) (how : How) (m : ℕ) (fresh : List Fresh) (calls : List Call) (js : List ℕ) → is_among pids v.holding.pid ≡ true → IsDoneAs b v how m fresh calls →
         All (λ k. is_among (joined b.library (state_of b) v.holding.pid m) k ≡ true) js → AllPairs (λ a c. a ≡ c → ⊥) js →
         AreApart (map (residence_shown b.library (state_after b.library b.failing (b.history ++ entry_of b v.holding.pid (enter how m) ∷ []))) js)
     shown_apart b v how m fresh calls js process is all apart i j d low high same =
@@ -156,7 +156,7 @@ pub modules_shown : (lib : Library) (e : Eager) (js : List ℕ) → modules_of (
 modules_shown lib e [] = refl
 modules_shown lib e (j ∷ js) = ap (λ ks. j ∷ ks) (modules_shown lib e js)
 
-pub rows_joined : (v w : ProcessView) (news : List ResidenceFor) (modules : List ℕ) (rows : List PagePlaces) → modules ≡ modules_of news → w ≡ record v { stay_room = w.stay_room } → AreEmpty v.library modules rows → AreEmpty w.library (modules_of news) rows
+pub rows_joined : (v w : ProcessView) (news : List ResidenceFor) (modules : List ℕ) (rows : List PagePlaces) → modules ≡ modules_of news → w ≡ record v { residence_room = w.residence_room } → AreEmpty v.library modules rows → AreEmpty w.library (modules_of news) rows
 rows_joined v w news modules rows e same is =
     let M : List ℕ → Type 0 = λ ms. AreEmpty v.library ms rows in
     let V : ProcessView → Type 0 = λ x. AreEmpty x.library (modules_of news) rows in

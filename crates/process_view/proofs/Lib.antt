@@ -1,22 +1,49 @@
-pub mod NewViews
+-- ---- numbers, bytes and places
+-- Numbers from one up to before another.
 pub mod Ranges
+-- Bytes inside an object, and the pages that they cover.
 pub mod Insides
+-- What a view finds by place is what it has by name.
 pub mod Lookups
-pub mod Copies
-pub mod Asking
-pub mod Mapping
-pub mod PagesStanding
-pub mod Accepting
-pub mod Did
-pub mod SharedReads
+-- What a place that a view does not refuse lies in.
 pub mod Classes
-pub mod Left
-pub mod Entered
-pub mod Freed
-pub mod Keeping
-pub mod KeepingJoined
+-- ---- what a view answers
+-- The view of a process that has done nothing.
+pub mod NewViews
+-- Bytes that a view reads are those of its pages.
+pub mod Copies
+-- Shared bytes that a process reads: what its own pages hold lies under the writes that all share.
+pub mod SharedReads
+-- What a view answers to a query and to the search for a resource, by the residence of the module.
+pub mod Asking
+-- What a view does not refuse may be asked of a board, and its entry follows.
+pub mod Accepting
+-- Deeds of a view with a board.
+pub mod Did
+-- ---- pages that a view maps
+-- The view with one page more.
+pub mod Mapping
+-- A view with one page more stands for the same history.
+pub mod PagesStanding
+-- The claim of a page by a view.
 pub mod Claims
+-- ---- starts and loads
+-- A residence more that a view keeps.
+pub mod Keeping
+-- Residences that join a view, one at a time.
+pub mod KeepingJoined
+-- What an answer of the board tells of the entry of a start or a load.
 pub mod Loads
+-- A start or a load that a view counts.
 pub mod Counted
+-- What the board answers to a start or a load that was done can join the view.
 pub mod Joins
+-- A view after a start or a load.
+pub mod Entered
+-- What a start or a load comes to.
 pub mod Enters
+-- ---- frees and exits
+-- A view after a free or an exit.
+pub mod Left
+-- A view after a free.
+pub mod Freed

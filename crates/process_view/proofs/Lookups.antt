@@ -17,18 +17,18 @@ use Rattle.load_model.specs.State.{PageOf}
 use Rattle.load_model.specs.Entering.{residence_from}
 use Rattle.load_model.specs.Memory.{is_page, page, pages_over}
 use Rattle.load_model.specs.Refusals.{Purpose, when, ◌orelse◌, is_outside, span_refusal, touch_refusal}
-use Rattle.load_model.specs.Standing.{Mapped, Holding}
-use Rattle.load_model.specs.ViewAnswers.{seen_process, stay_named, stay_if, view_place_refusal}
+use Rattle.load_model.specs.Views.{Mapped, Holding}
+use Rattle.load_model.specs.ViewAnswers.{seen_process, reached_named, reached_if, view_place_refusal}
 use Rattle.process_pages.proofs.Placing.{same_number}
 use Rattle.process_view.specs.ProcessViews.{ProcessView, fresh_shown}
 use Rattle.process_pages.specs.PageRows.{PagePlaces, place_in, ArePlaces}
 use Rattle.process_view.specs.Purposes.{purpose_of}
 use Rattle.process_view.specs.declared.purposes.Purpose.TheVariants as purposes
 use Rattle.process_view.specs.declared.purposes.Purpose as declared
-use Rattle.process_view.specs.Answering.{IsStayNamed, touch_refusal_by}
+use Rattle.process_view.specs.Answering.{IsReachedNamed, touch_refusal_by}
 use Rattle.std.proofs.lemmas.List.Elements.{All-get_or}
-use Rattle.process_pages.specs.Stays.{IsPlaced, residence_in, residences_in}
-use Rattle.process_pages.specs.declared.stays.Stay.{Stay}
+use Rattle.process_pages.specs.ReachedResidences.{IsPlaced, residence_in, residences_in}
+use Rattle.process_pages.specs.declared.reached_residences.ReachedResidence.{ReachedResidence}
 use Rattle.std.proofs.lemmas.List.{length-map, get_or-map}
 use Rattle.process_pages.proofs.Positions.{found_at_place, at_place, position_map}
 use Rattle.process_pages.proofs.Mapping.{mapped_by_place}
@@ -51,17 +51,17 @@ stay_by_place rs m =
 
 -- the view whose residences these are
 pub record HasResidences (v : ProcessView) : Type 0 where
-  pub stays : v.holding.stays ≡ map fresh_shown v.residences
+  pub residences : v.holding.residences ≡ map fresh_shown v.residences
 
 named_is : (v : ProcessView) (name : List ℕ) (m : ℕ) (place : Option ℕ) → HasResidences v → number_of v.library name ≡ Some m → place ≡ position (λ (r : ResidenceFor). r.«module» == m) v.residences →
-    stay_named v.library v.holding name ≡ option_map residence_from (option_map fresh_shown (at_place (λ (r : ResidenceFor). r.«module» == m) v.residences place))
+    reached_named v.library v.holding name ≡ option_map residence_from (option_map fresh_shown (at_place (λ (r : ResidenceFor). r.«module» == m) v.residences place))
 named_is v name m place has e p =
-    ap (stay_if v.holding) e ∙ ap (λ (ss : List Fresh). option_map residence_from (find (λ (s : Fresh). s.«module» == m) ss)) has.stays
+    ap (reached_if v.holding) e ∙ ap (λ (ss : List Fresh). option_map residence_from (find (λ (s : Fresh). s.«module» == m) ss)) has.residences
     ∙ ap (option_map residence_from) (stay_by_place v.residences m)
     ∙ ap (λ (o : Option ℕ). option_map residence_from (option_map fresh_shown (at_place (λ (r : ResidenceFor). r.«module» == m) v.residences o))) (sym p)
 
 pub named_by_place : (v : ProcessView) (name : List ℕ) (m : ℕ) (place : Option ℕ) → HasResidences v → number_of v.library name ≡ Some m → place ≡ position (λ (r : ResidenceFor). r.«module» == m) v.residences →
-    MatchOption place (stay_named v.library v.holding name ≡ None) (IsStayNamed v name)
+    MatchOption place (reached_named v.library v.holding name ≡ None) (IsReachedNamed v name)
 named_by_place v name m None has e p = named_is v name m None has e p
 named_by_place v name m (Some k) has e p =
     let within : (d : ResidenceFor) → k < length v.residences = λ d. (position-Some (λ (r : ResidenceFor). r.«module» == m) v.residences k d (sym p)).0 in
@@ -69,13 +69,13 @@ named_by_place v name m (Some k) has e p =
     record {
       within = within (record { library = []; serial = 0; «module» = 0; bases = record { mods = [] } });
       named = λ d. e ∙ ap (λ (n : ℕ). Some n) (sym (is d));
-      stay = λ d.
+      residence = λ d.
           named_is v name m (Some k) has e p
           ∙ ap (λ (o : Option ResidenceFor). option_map residence_from (option_map fresh_shown o)) (slice_get-get_or v.residences k d (within d));
     }
 
-pub no_name : (v : ProcessView) (name : List ℕ) → number_of v.library name ≡ None → stay_named v.library v.holding name ≡ None
-no_name v name e = ap (stay_if v.holding) e
+pub no_name : (v : ProcessView) (name : List ℕ) → number_of v.library name ≡ None → reached_named v.library v.holding name ≡ None
+no_name v name e = ap (reached_if v.holding) e
 
 -- ---- pages
 
@@ -121,40 +121,40 @@ unfolding span_refusal
 span_is_inside lib purpose m object offset len e = bytes_inside lib m object offset len (no_range (is_outside lib m object offset len) _ e)
 
 -- by what is refused of the residence that a name means
-pub place_by_residence : (v : ProcessView) (purpose : Purpose) (at : Place) (r : ResidenceFor) → v.holding.ended ≡ false → stay_named v.library v.holding at.«module» ≡ Some (residence_from (fresh_shown r)) →
+pub place_by_residence : (v : ProcessView) (purpose : Purpose) (at : Place) (r : ResidenceFor) → v.holding.ended ≡ false → reached_named v.library v.holding at.«module» ≡ Some (residence_from (fresh_shown r)) →
     view_place_refusal v.library v.holding purpose at ≡
     (span_refusal v.library purpose r.«module» at.object at.offset at.len orelse touch_refusal purpose (seen_process v.holding) r.serial at.object at.offset at.len)
-place_by_residence v purpose at r going stay = rw (going, stay) refl
+place_by_residence v purpose at r going residence = rw (going, residence) refl
 
 -- ---- one of the residences, as it is kept
 
 -- the k-th of those that the process reaches, which is that of a module by name
-pub record IsStayAt (w : ProcessView) (name : List ℕ) (lib : List Parts) (mapped : List Mapped) (k : ℕ) (s : Stay) : Type 0 where
+pub record IsReachedAt (w : ProcessView) (name : List ℕ) (lib : List Parts) (mapped : List Mapped) (k : ℕ) (s : ReachedResidence) : Type 0 where
   pub placed : IsPlaced lib mapped s
   pub named : number_of w.library name ≡ Some (residence_in s).«module»
-  pub stay : stay_named w.library w.holding name ≡ Some (residence_from (fresh_shown (residence_in s)))
+  pub residence : reached_named w.library w.holding name ≡ Some (residence_from (fresh_shown (residence_in s)))
 
-pub stay_there : (w : ProcessView) (name : List ℕ) (lib : List Parts) (mapped : List Mapped) (stays : List Stay) (k : ℕ) (s : Stay) → w.residences ≡ residences_in stays → All (IsPlaced lib mapped) stays →
-    s ≡ get_or stays k s → IsStayNamed w name k → IsStayAt w name lib mapped k s
-stay_there w name lib mapped stays k s e all at is =
-    let long : length w.residences ≡ length stays = ap (λ (rs : List ResidenceFor). length rs) e ∙ length-map stays residence_in in
-    let within : k < length stays = omega (arith, is.within, long) in
+pub residence_there : (w : ProcessView) (name : List ℕ) (lib : List Parts) (mapped : List Mapped) (residences : List ReachedResidence) (k : ℕ) (s : ReachedResidence) → w.residences ≡ residences_in residences → All (IsPlaced lib mapped) residences →
+    s ≡ get_or residences k s → IsReachedNamed w name k → IsReachedAt w name lib mapped k s
+residence_there w name lib mapped residences k s e all at is =
+    let long : length w.residences ≡ length residences = ap (λ (rs : List ResidenceFor). length rs) e ∙ length-map residences residence_in in
+    let within : k < length residences = omega (arith, is.within, long) in
     let there : get_or w.residences k (residence_in s) ≡ residence_in s =
-    ap (λ (rs : List ResidenceFor). get_or rs k (residence_in s)) e ∙ get_or-map residence_in stays k s (residence_in s) within ∙ ap residence_in (sym at)
+    ap (λ (rs : List ResidenceFor). get_or rs k (residence_in s)) e ∙ get_or-map residence_in residences k s (residence_in s) within ∙ ap residence_in (sym at)
     in
-    let P : Stay → Type 0 = IsPlaced lib mapped in
+    let P : ReachedResidence → Type 0 = IsPlaced lib mapped in
     record {
-      placed = subst P (sym at) (All-get_or (IsPlaced lib mapped) stays k s within all);
+      placed = subst P (sym at) (All-get_or (IsPlaced lib mapped) residences k s within all);
       named = is.named (residence_in s) ∙ ap (λ (r : ResidenceFor). Some r.«module») there;
-      stay = is.stay (residence_in s) ∙ ap (λ (r : ResidenceFor). Some (residence_from (fresh_shown r))) there;
+      residence = is.residence (residence_in s) ∙ ap (λ (r : ResidenceFor). Some (residence_from (fresh_shown r))) there;
     }
 
 -- what is refused of a place there, by the places of its pages
-pub place_refused : (w : ProcessView) (purpose : declared.Purpose) (at : Place) (k : ℕ) (s : Stay) → w.holding.ended ≡ false → IsStayAt w at.«module» w.library w.holding.mapped k s →
+pub place_refused : (w : ProcessView) (purpose : declared.Purpose) (at : Place) (k : ℕ) (s : ReachedResidence) → w.holding.ended ≡ false → IsReachedAt w at.«module» w.library w.holding.mapped k s →
     view_place_refusal w.library w.holding (purpose_of purpose) at ≡
     (span_refusal w.library (purpose_of purpose) (residence_in s).«module» at.object at.offset at.len orelse touch_refusal_by purpose s.places at)
 place_refused w purpose at k s going is =
-    place_by_residence w (purpose_of purpose) at (residence_in s) going is.stay
+    place_by_residence w (purpose_of purpose) at (residence_in s) going is.residence
     ∙ by_span (span_refusal w.library (purpose_of purpose) (residence_in s).«module» at.object at.offset at.len) refl
   where
     by_span : (o : Option Refusal) → span_refusal w.library (purpose_of purpose) (residence_in s).«module» at.object at.offset at.len ≡ o →

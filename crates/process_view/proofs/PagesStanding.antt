@@ -18,8 +18,8 @@ use Rattle.load_model.specs.Modules.{Library, Held, fixed_bytes, object_at}
 use Rattle.load_model.specs.State.{Written, OwnWrite, PageOf, Residence, Eager, reaches, residence_of, attached_residence}
 use Rattle.load_model.specs.Memory.{page, pages_over, bases_seen, put_at, writes_of_class, writes_seen, first_or, Byte}
 use Rattle.load_model.specs.Asks.{is_own}
-use Rattle.load_model.specs.Touched.{has_page}
-use Rattle.load_model.specs.Standing.{mapped_pages, stay_at, fresh_of, lying_byte, is_covered, IsMapped, WasFixed}
+use Rattle.load_model.specs.Views.{mapped_pages, fresh_of, lying_byte, is_covered, IsMapped, WasFixed, reached_of}
+use Rattle.load_model.specs.TouchedPages.{has_page}
 use Rattle.std.proofs.lemmas.Option.{slice_get_past}
 use Rattle.std.proofs.lemmas.List.{reverse-append}
 use Rattle.std.proofs.lemmas.List.Elements.{filter_map-append}
@@ -28,10 +28,10 @@ use Rattle.load_model.proofs.SerialsOwn.{serials_are_own}
 use Rattle.load_model.proofs.ViewSteps.{stands_mapped}
 use Rattle.process_view.specs.PageLaws.{PagesStand}
 use Rattle.process_view.proofs.Lookups.{not_zero}
-use Rattle.load_core.specs.Ledger.{Ledger, state_of}
+use Rattle.load_core.specs.BoardState.{BoardState, state_of}
 use Rattle.load_core.specs.Told.{residence_shown}
 use Rattle.process_view.specs.ProcessViews.{ProcessView, StandsAt, AreShown, fresh_shown}
-use Rattle.process_pages.specs.Stays.{page_with}
+use Rattle.process_pages.specs.ReachedResidences.{page_with}
 
 -- ---- residences
 
@@ -181,18 +181,18 @@ some_of None f e = absurd cc
 some_of (Some a) f e = (a, refl, (let it : fresh_of a ≡ f = cc in it))
 
 -- the residence of the process, as the history has it
-pub record IsAttached (b : Ledger) (v : ProcessView) (r : ResidenceFor) (a : Residence) : Type 0 where
+pub record IsAttached (b : BoardState) (v : ProcessView) (r : ResidenceFor) (a : Residence) : Type 0 where
   pub there : attached_residence b.library (state_of b) v.holding.pid r.«module» ≡ Some a
   pub serial : a.serial ≡ r.serial
   pub «module» : a.«module» ≡ r.«module»
   pub bases : r.bases ≡ bases_seen b.library (state_of b) r.«module»
 
-pub attached : (b : Ledger) (v : ProcessView) (k : ℕ) (r : ResidenceFor) → StandsAt b v → k < length v.residences → r ≡ get_or v.residences k r → (a : Residence) × IsAttached b v r a
+pub attached : (b : BoardState) (v : ProcessView) (k : ℕ) (r : ResidenceFor) → StandsAt b v → k < length v.residences → r ≡ get_or v.residences k r → (a : Residence) × IsAttached b v r a
 attached b v k r at u is =
-    let found : stay_at v.holding r.«module» ≡ Some (fresh_shown r) =
-    ap (λ (ss : List Fresh). find (λ (s : Fresh). s.«module» == r.«module») ss) at.stays ∙ shown_first b.library (state_of b) v.residences k r at.shown u is
+    let found : reached_of v.holding r.«module» ≡ Some (fresh_shown r) =
+    ap (λ (ss : List Fresh). find (λ (s : Fresh). s.«module» == r.«module») ss) at.residences ∙ shown_first b.library (state_of b) v.residences k r at.shown u is
     in
-    let it = some_of (attached_residence b.library (state_of b) v.holding.pid r.«module») (fresh_shown r) (sym (at.stands.view.stays r.«module») ∙ found) in (
+    let it = some_of (attached_residence b.library (state_of b) v.holding.pid r.«module») (fresh_shown r) (sym (at.stands.view.residences r.«module») ∙ found) in (
       it.0,
       record {
         there = it.1;
@@ -232,7 +232,7 @@ pages_stand b v k r p legal at u is can fault =
           ∙ sym (lies_fixed (class_of (object_at lib a.«module» p.object)) lib contents e v.holding.pid a p.object x (mapped_pages v.holding) refl apart at.stands.view.writes);
     } in
     let was : WasFixed lib v.holding b.history (page_with r p (fixed_page v.library r.«module» r.bases p)) = λ m s st ser own-of.
-    let other = some_of (attached_residence lib e v.holding.pid m) s (sym (at.stands.view.stays m) ∙ st) in
+    let other = some_of (attached_residence lib e v.holding.pid m) s (sym (at.stands.view.residences m) ∙ st) in
     let same : other.0 ≡ a =
     serials_are_own lib b.failing contents b.history m r.«module» other.0 a legal (attached_there lib e v.holding.pid m other.0 other.1) (attached_there lib e v.holding.pid r.«module» a own.there)
     (ap (λ (f : Fresh). f.serial) other.2 ∙ ser ∙ sym own.serial)
@@ -242,7 +242,7 @@ pages_stand b v k r p legal at u is can fault =
     in
     record {
       library = at.library;
-      stays = at.stays;
+      residences = at.residences;
       stands = stands_mapped lib b.failing contents v.holding b.history (page_with r p (fixed_page v.library r.«module» r.bases p)) mapped was at.stands;
       shown = at.shown;
     }

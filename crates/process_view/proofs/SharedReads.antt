@@ -22,18 +22,18 @@ use Rattle.load_model.specs.Asks.{get, deed_of, may_ask, is_attached, is_serial}
 use Rattle.load_model.specs.Step.{ask_by, meant}
 use Rattle.load_model.specs.Laws.{ResidenceStays}
 use Rattle.load_model.specs.Alike.{BasesSeenStay}
-use Rattle.load_model.specs.Touched.{has_page}
-use Rattle.load_model.specs.Standing.{Mapped, mapped_pages, lying_byte, IsMapped, state_for}
-use Rattle.load_model.specs.ViewAnswers.{view_refusal, view_place_refusal, is_mapped_at, bytes_in, view_byte, view_bytes, stay_named}
+use Rattle.load_model.specs.Views.{Mapped, mapped_pages, lying_byte, IsMapped, state_for}
+use Rattle.load_model.specs.TouchedPages.{has_page}
+use Rattle.load_model.specs.ViewAnswers.{view_refusal, view_place_refusal, is_mapped_at, bytes_in, view_byte, view_bytes, reached_named}
 use Rattle.load_model.specs.ViewLaws.{StandsQuiet}
 use Rattle.load_model.specs.Outcomes.{done, is_done}
 use Rattle.load_model.proofs.Bools.{and_left, and_right}
 use Rattle.load_model.proofs.SerialsOwn.{serials_are_own}
-use Rattle.load_core.specs.Ledger.{Ledger, IsLegal, MayAsk, state_of, entry_of, with_entry}
+use Rattle.load_core.specs.BoardState.{BoardState, IsLegal, MayAsk, state_of, entry_of, with_entry}
 use Rattle.load_core.specs.Told.{fixed_run, read_run}
 use Rattle.process_pages.proofs.Placing.{same_number}
 use Rattle.process_view.specs.ProcessViews.{ProcessView, StandsAt, at_front}
-use Rattle.process_view.specs.Answering.{IsStayNamed}
+use Rattle.process_view.specs.Answering.{IsReachedNamed}
 use Rattle.process_view.specs.Deeds.{Did, IsAskedAt, bytes_read}
 use Rattle.process_view.proofs.Accepting.{IsAccepted, IsMeant, accepted, place_meant}
 use Rattle.process_view.proofs.Copies.{map_alike_from}
@@ -58,7 +58,7 @@ same_page : (a b : PageId) → is_page a b ≡ true → (a.object ≡ b.object) 
 same_page a b e = grind (arith, nat_tests)
 
 -- a byte of a shared page that is mapped
-shared_byte : (b : Ledger) (v : ProcessView) (r : ResidenceFor) (a : Residence) (object x : ℕ) → IsLegal b → StandsAt b v → IsAttached b v r a → has_page (mapped_pages v.holding) r.serial (page object (x / 4096)) ≡ true →
+shared_byte : (b : BoardState) (v : ProcessView) (r : ResidenceFor) (a : Residence) (object x : ℕ) → IsLegal b → StandsAt b v → IsAttached b v r a → has_page (mapped_pages v.holding) r.serial (page object (x / 4096)) ≡ true →
     x < (object_at b.library r.«module» object).size → class_of (object_at b.library r.«module» object) ≡ classes.Shared →
     view_byte v.holding r.serial object x ≡ fixed_bytes b.library r.«module» (bases_seen b.library (state_of b) r.«module») object x
 shared_byte b v r a object x legal at own there inside class =
@@ -104,14 +104,14 @@ only_shared classes.Code e = absurd cc
 only_shared classes.Private e = absurd cc
 only_shared classes.Shared e = refl
 
-span_share : (v : ProcessView) (at : Place) (k : ℕ) (d : ResidenceFor) → view_place_refusal v.library v.holding uses.share at ≡ None → IsStayNamed v at.«module» k → span_refusal v.library uses.share (get_or v.residences k d).«module» at.object at.offset at.len ≡ None
-span_share v at k d e is = (nothing _ _ (sym (place_by_residence v uses.share at (get_or v.residences k d) (still_going v.holding.ended _ e) (is.stay d)) ∙ e)).0
+span_share : (v : ProcessView) (at : Place) (k : ℕ) (d : ResidenceFor) → view_place_refusal v.library v.holding uses.share at ≡ None → IsReachedNamed v at.«module» k → span_refusal v.library uses.share (get_or v.residences k d).«module» at.object at.offset at.len ≡ None
+span_share v at k d e is = (nothing _ _ (sym (place_by_residence v uses.share at (get_or v.residences k d) (still_going v.holding.ended _ e) (is.residence d)) ∙ e)).0
 
 class_share : (lib : Library) (m object offset len : ℕ) → span_refusal lib uses.share m object offset len ≡ None → class_of (object_at lib m object) ≡ classes.Shared
 unfolding span_refusal
 class_share lib m object offset len e = only_shared _ (nothing _ _ (nothing _ _ e).1).0
 
-module_asked : (b : Ledger) (v : ProcessView) (r : ResidenceFor) (a : Residence) (q s m object offset len : ℕ) → IsLegal b → IsAttached b v r a → q ≡ v.holding.pid → s ≡ r.serial → MayAsk b q (get s m object offset len) → m ≡ r.«module»
+module_asked : (b : BoardState) (v : ProcessView) (r : ResidenceFor) (a : Residence) (q s m object offset len : ℕ) → IsLegal b → IsAttached b v r a → q ≡ v.holding.pid → s ≡ r.serial → MayAsk b q (get s m object offset len) → m ≡ r.«module»
 unfolding may_ask
 module_asked b v r a q s m object offset len legal own pid serial may =
     let P : ℕ → Type 0 = λ n. is_serial s (attached_residence b.library (state_of b) n m) ≡ true in
@@ -131,21 +131,21 @@ inside_size : (lib : Library) (m object x : ℕ) → x < (object_of (module_of l
 unfolding object_at
 inside_size lib m object x u = u
 
-pub shared_fixed : (b : Ledger) (v : ProcessView) (at : Place) (k : ℕ) (d : ResidenceFor) (q s m n : ℕ) (into : List ℕ) → IsAskedAt b v (commands.Shared at) at k → q ≡ v.holding.pid → s ≡ (get_or v.residences k d).serial → n ≡ at.len →
-    into ≡ view_bytes v.holding at (stay_named v.library v.holding at.«module») → MayAsk b q (get s m at.object at.offset n) → into ≡ fixed_run b m at.object at.offset n
+pub shared_fixed : (b : BoardState) (v : ProcessView) (at : Place) (k : ℕ) (d : ResidenceFor) (q s m n : ℕ) (into : List ℕ) → IsAskedAt b v (commands.Shared at) at k → q ≡ v.holding.pid → s ≡ (get_or v.residences k d).serial → n ≡ at.len →
+    into ≡ view_bytes v.holding at (reached_named v.library v.holding at.«module») → MayAsk b q (get s m at.object at.offset n) → into ≡ fixed_run b m at.object at.offset n
 shared_fixed b v at k d q s m n into is pid serial long copied may =
     let r = get_or v.residences k d in
-    let here : r ≡ get_or v.residences k r = get_or_default v.residences k d r is.stay.within in
-    let own = attached b v k r is.stands is.stay.within here in
+    let here : r ≡ get_or v.residences k r = get_or_default v.residences k d r is.residence.within in
+    let own = attached b v k r is.stands is.residence.within here in
     let number = module_asked b v r own.0 q s m at.object at.offset n is.legal own.1 pid serial may in
     let e = refused_share v at is.accepted in
-    let span = span_share v at k d e is.stay in
+    let span = span_share v at k d e is.residence in
     let inside = span_is_inside v.library uses.share r.«module» at.object at.offset at.len span in
     let class : class_of (object_at b.library r.«module» at.object) ≡ classes.Shared = ap (λ (l : Library). class_of (object_at l r.«module» at.object)) (sym is.stands.library) ∙ class_share v.library r.«module» at.object at.offset at.len span in
     let size : (x : ℕ) → x < at.offset + at.len → x < (object_at b.library r.«module» at.object).size = λ x u.
     let S : Library → Type 0 = λ l. x < (object_at l r.«module» at.object).size in subst S is.stands.library (inside_size v.library r.«module» at.object x (omega (arith, u, inside.within))) in
-    let all = found_none (λ i. has_page (mapped_pages v.holding) r.serial (page at.object i)) (pages_over at.offset at.len) (no_page _ (by_stay v uses.share at k d e is.stay)) in
-    copied ∙ ap (view_bytes v.holding at) (is.stay.stay d)
+    let all = found_none (λ i. has_page (mapped_pages v.holding) r.serial (page at.object i)) (pages_over at.offset at.len) (no_page _ (by_stay v uses.share at k d e is.residence)) in
+    copied ∙ ap (view_bytes v.holding at) (is.residence.residence d)
     ∙ map_alike_from (view_byte v.holding r.serial at.object) (fixed_bytes b.library r.«module» (bases_seen b.library (state_of b) r.«module») at.object) at.offset at.len
     (λ x u w. shared_byte b v r own.0 at.object x is.legal is.stands own.1 (over_at (λ i. has_page (mapped_pages v.holding) r.serial (page at.object i)) at.offset at.len x all u w) (size x w) class)
     ∙ ap (λ (l : ℕ). map (fixed_bytes b.library r.«module» (bases_seen b.library (state_of b) r.«module») at.object) (range_with_len at.offset l)) (sym long)
@@ -153,16 +153,16 @@ shared_fixed b v at k d q s m n into is pid serial long copied may =
 
 -- ---- the deed
 
-asked_shared : (b : Ledger) (v : ProcessView) (at : Place) (r : ResidenceFor) → IsMeant b v at r →
+asked_shared : (b : BoardState) (v : ProcessView) (at : Place) (r : ResidenceFor) → IsMeant b v at r →
     ask_by b.library (state_for b.library b.failing v.holding b.history) v.holding.pid (commands.Shared at) ≡ Some (get r.serial r.«module» at.object at.offset at.len)
 asked_shared b v at r is =
     ap (λ (n : ℕ). Some (get n (meant b.library at.«module») at.object at.offset at.len)) is.serial ∙ ap (λ (m : ℕ). Some (get r.serial m at.object at.offset at.len)) is.«module»
 
-pub accepted_shared : (b : Ledger) (v : ProcessView) (at : Place) (k : ℕ) (d : ResidenceFor) → is_among pids v.holding.pid ≡ true → IsAskedAt b v (commands.Shared at) at k →
+pub accepted_shared : (b : BoardState) (v : ProcessView) (at : Place) (k : ℕ) (d : ResidenceFor) → is_among pids v.holding.pid ≡ true → IsAskedAt b v (commands.Shared at) at k →
     IsAccepted b v (get (get_or v.residences k d).serial (get_or v.residences k d).«module» at.object at.offset at.len)
-accepted_shared b v at k d process is = accepted b v (commands.Shared at) _ process is.stands is.accepted tt (asked_shared b v at (get_or v.residences k d) (place_meant b v at k d is.stands is.stay))
+accepted_shared b v at k d process is = accepted b v (commands.Shared at) _ process is.stands is.accepted tt (asked_shared b v at (get_or v.residences k d) (place_meant b v at k d is.stands is.residence))
 
-pub did_shared : ResidenceStays → BasesSeenStay → StandsQuiet → (b : Ledger) (v : ProcessView) (at : Place) (k : ℕ) (d : ResidenceFor) → is_among pids v.holding.pid ≡ true → IsAskedAt b v (commands.Shared at) at k →
+pub did_shared : ResidenceStays → BasesSeenStay → StandsQuiet → (b : BoardState) (v : ProcessView) (at : Place) (k : ℕ) (d : ResidenceFor) → is_among pids v.holding.pid ≡ true → IsAskedAt b v (commands.Shared at) at k →
     Did b (with_entry b (entry_of b v.holding.pid (get (get_or v.residences k d).serial (get_or v.residences k d).«module» at.object at.offset at.len))) v
     (at_front (length (b.history ++ entry_of b v.holding.pid (get (get_or v.residences k d).serial (get_or v.residences k d).«module» at.object at.offset at.len) ∷ [])) v)
     (commands.Shared at) (done (length (b.history ++ entry_of b v.holding.pid (get (get_or v.residences k d).serial (get_or v.residences k d).«module» at.object at.offset at.len) ∷ [])))
@@ -170,9 +170,9 @@ unfolding deed_of
 did_shared still bases quiet b v at k d process is =
     let r = get_or v.residences k d in
     did_quiet still bases quiet b v (commands.Shared at) (get r.serial r.«module» at.object at.offset at.len) _ is.legal is.stands (accepted_shared b v at k d process is)
-    (asked_shared b v at r (place_meant b v at k d is.stands is.stay)) tt (is_done tt) refl
+    (asked_shared b v at r (place_meant b v at k d is.stands is.residence)) tt (is_done tt) refl
 
-pub may_get : (b : Ledger) (pid q serial s m object offset len n : ℕ) → MayAsk b pid (get serial m object offset len) → q ≡ pid → s ≡ serial → n ≡ len → MayAsk b q (get s m object offset n)
+pub may_get : (b : BoardState) (pid q serial s m object offset len n : ℕ) → MayAsk b pid (get serial m object offset len) → q ≡ pid → s ≡ serial → n ≡ len → MayAsk b q (get s m object offset n)
 may_get b pid q serial s m object offset len n may e f g =
     let P : ℕ → Type 0 = λ i. MayAsk b i (get s m object offset n) in
     let S : ℕ → Type 0 = λ i. MayAsk b pid (get i m object offset n) in
@@ -180,7 +180,7 @@ may_get b pid q serial s m object offset len n may e f g =
     subst P (sym e) (subst S (sym f) (subst L (sym g) may))
 
 -- the entry tells what was read
-pub read_in : (b : Ledger) (pid serial m object offset len : ℕ) → read_run b pid m object offset len ≡ bytes_read (entry_of b pid (get serial m object offset len)).deed
+pub read_in : (b : BoardState) (pid serial m object offset len : ℕ) → read_run b pid m object offset len ≡ bytes_read (entry_of b pid (get serial m object offset len)).deed
 unfolding deed_of
 read_in b pid serial m object offset len = refl
 

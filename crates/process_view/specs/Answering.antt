@@ -12,7 +12,7 @@ use Rattle.lx_model.specs.Fixed.{base_of}
 use Rattle.load_model.specs.Modules.{Spot, number_of}
 use Rattle.load_model.specs.Memory.{page, pages_over}
 use Rattle.load_model.specs.Entering.{residence_from}
-use Rattle.load_model.specs.ViewAnswers.{stay_named}
+use Rattle.load_model.specs.ViewAnswers.{reached_named}
 use Rattle.process_view.specs.declared.purposes.Purpose.{Purpose}
 use Rattle.process_view.specs.declared.purposes.Purpose.TheVariants as purposes
 use Rattle.process_pages.specs.PageRows.{PagePlaces, place_in}
@@ -24,10 +24,10 @@ enter_command ways.Start name = commands.Start name
 enter_command ways.Load name = commands.Load name
 
 -- The k-th residence that the process reaches is that of the module which a name means.
-pub record IsStayNamed (v : ProcessView) (name : List ℕ) (k : ℕ) : Type 0 where
+pub record IsReachedNamed (v : ProcessView) (name : List ℕ) (k : ℕ) : Type 0 where
   pub within : k < length v.residences
   pub named : (d : ResidenceFor) → number_of v.library name ≡ Some (slice_index_or v.residences k d).«module»
-  pub stay : (d : ResidenceFor) → stay_named v.library v.holding name ≡ Some (residence_from (fresh_shown (slice_index_or v.residences k d)))
+  pub residence : (d : ResidenceFor) → reached_named v.library v.holding name ≡ Some (residence_from (fresh_shown (slice_index_or v.residences k d)))
 
 -- the residence of a module, among those of a process
 abbrev pub residence_with : List ResidenceFor → ℕ → Option ResidenceFor

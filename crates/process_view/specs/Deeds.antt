@@ -7,9 +7,9 @@ use Rattle.lx_types.specs.Sound.{IsNumberOf}
 use Rattle.lx_model.specs.Library.{module_of}
 use Rattle.lx_model.specs.ModuleBytes.{fixed_page}
 use Rattle.page_fix.specs.Fixable.{is_fixable}
-use Rattle.load_model.specs.Touched.{has_page}
+use Rattle.load_model.specs.TouchedPages.{has_page}
 use Rattle.page_frames.specs.Residences.{ResidenceFor}
-use Rattle.process_pages.specs.Stays.{page_with}
+use Rattle.process_pages.specs.ReachedResidences.{page_with}
 use Rattle.load_model.specs.declared.commands.Command.{Command}
 use Rattle.load_model.specs.Modules.{fixed_bytes}
 use Rattle.load_model.specs.Asks.{Ask}
@@ -17,11 +17,11 @@ use Rattle.load_model.specs.declared.deeds.Deed.{Deed}
 use Rattle.load_model.specs.declared.deeds.Deed.TheVariants as deeds
 use Rattle.load_model.specs.declared.deeds.Entry.{Entry}
 use Rattle.load_model.specs.State.{Written}
-use Rattle.load_model.specs.ViewLaws.{written_over}
+use Rattle.load_model.specs.WrittenPages.{written_over}
 use Rattle.load_model.specs.Step.{ask_by}
 use Rattle.load_model.specs.Histories.{Follows, has_fault}
-use Rattle.load_model.specs.Touched.{touched_behind}
-use Rattle.load_model.specs.Standing.{mapped_pages, state_for}
+use Rattle.load_model.specs.Views.{mapped_pages, state_for}
+use Rattle.load_model.specs.TouchedPages.{touched_behind}
 use Rattle.load_model.specs.Outcomes.{Outcome, done, told, IsTold}
 use Rattle.lx_types.specs.declared.fail.Fail.{Fail}
 use Rattle.lx_types.specs.declared.fail.Fail.TheVariants.{Said, NoMemory}
@@ -32,8 +32,8 @@ use Rattle.lx_types.specs.Object.{class_of}
 use Rattle.load_model.specs.declared.commands.Place.{Place}
 use Rattle.load_model.specs.Modules.{object_at}
 use Rattle.load_model.specs.ViewAnswers.{view_refusal}
-use Rattle.process_view.specs.Answering.{IsStayNamed}
-use Rattle.load_core.specs.Ledger.{Ledger, IsLegal, state_of, entry_of, with_entry, Adds}
+use Rattle.process_view.specs.Answering.{IsReachedNamed}
+use Rattle.load_core.specs.BoardState.{BoardState, IsLegal, state_of, entry_of, with_entry, Adds}
 use Rattle.load_core.specs.declared.answers.Claim.{Claim}
 use Rattle.load_core.specs.declared.answers.Claim.TheVariants as claims
 use Rattle.process_view.specs.ProcessViews.{ProcessView, StandsAt, without_room, fresh_shown, at_front}
@@ -44,7 +44,7 @@ with_page r p bytes v = record v { holding = record v.holding { mapped = v.holdi
 
 -- The command has its entry, which follows the history, and which the caller is told of by its number; the view stands for
 -- all of it, and has mapped what its process has then touched.
-pub record Did (b c : Ledger) (v w : ProcessView) (command : Command) (outcome : Outcome) : Type 0 where
+pub record Did (b c : BoardState) (v w : ProcessView) (command : Command) (outcome : Outcome) : Type 0 where
   pub ask : Ask
   pub asked : ask_by b.library (state_for b.library b.failing v.holding b.history) v.holding.pid command ≡ Some ask
   pub adds : Adds b c v.holding.pid ask
@@ -57,20 +57,20 @@ pub record Did (b c : Ledger) (v w : ProcessView) (command : Command) (outcome :
       (λ _. mapped_pages v.holding) v.holding.pid
 
 -- nothing was done, but that there may be more room
-abbrev pub IsIdle : Ledger → Ledger → ProcessView → ProcessView → Type 0
+abbrev pub IsIdle : BoardState → BoardState → ProcessView → ProcessView → Type 0
 IsIdle b c v w = (c ≡ b) × (without_room w ≡ without_room v)
 
 -- the view with a residence more, in its room
-abbrev pub with_stay : ResidenceFor → ProcessView → ProcessView
-with_stay r v =
+abbrev pub with_residence : ResidenceFor → ProcessView → ProcessView
+with_residence r v =
     record v {
-      holding = record v.holding { stays = map fresh_shown (v.residences ++ r ∷ []) };
+      holding = record v.holding { residences = map fresh_shown (v.residences ++ r ∷ []) };
       residences = v.residences ++ r ∷ [];
-      stay_room = v.stay_room - 1;
+      residence_room = v.residence_room - 1;
     }
 
 -- What a deed comes to: it is done; or its entry says why it is not; or no memory was found.
-abbrev pub IsDone : Ledger → Ledger → ProcessView → ProcessView → Command → Result Unit (Fail Refusal) → Type 0
+abbrev pub IsDone : BoardState → BoardState → ProcessView → ProcessView → Command → Result Unit (Fail Refusal) → Type 0
 IsDone b c v w command (Ok _) = Did b c v w command (done (length c.history))
 IsDone b c v w command (Err (Said refusal)) = Did b c v w command (told (Refused refusal))
 IsDone b c v w command (Err NoMemory) = IsIdle b c v w
@@ -86,8 +86,8 @@ pub record CanMap (v : ProcessView) (r : ResidenceFor) (p : PageId) : Type 0 whe
   pub library : r.library ≡ v.library
 
 -- all processes share it
-abbrev pub IsCommonPage : ProcessView → ResidenceFor → PageId → Type 0
-IsCommonPage v r p = is_fixable (module_of v.library r.«module») p ≡ true
+abbrev pub IsSharedPage : ProcessView → ResidenceFor → PageId → Type 0
+IsSharedPage v r p = is_fixable (module_of v.library r.«module») p ≡ true
 
 -- It is mapped now as its fixups leave it, and nothing else has changed.
 abbrev pub IsFixedIn : ProcessView → ProcessView → ResidenceFor → PageId → Type 0
@@ -98,7 +98,7 @@ abbrev pub fault_of : ProcessView → ResidenceFor → PageId → Entry
 fault_of v r p = record { pid = v.holding.pid; deed = deeds.Fault r.serial r.«module» p }
 
 -- What a claim comes to: the right to fix the page, whose fault has its entry now; or it had its fault, and nothing was done.
-abbrev pub IsClaimedIn : Ledger → Ledger → ProcessView → ProcessView → ResidenceFor → PageId → Claim → Type 0
+abbrev pub IsClaimedIn : BoardState → BoardState → ProcessView → ProcessView → ResidenceFor → PageId → Claim → Type 0
 IsClaimedIn b c v w r p (claims.Right right) =
     (right ≡ record { serial = r.serial; page = p }) × (c ≡ with_entry b (fault_of v r p))
     × Follows b.library b.failing (fixed_bytes b.library) b.history (fault_of v r p) × (w ≡ at_front (length c.history) v) × StandsAt c w
@@ -114,11 +114,11 @@ with_write serial w v = record v { holding = record v.holding { mapped = map (wr
 
 -- The view stands for all that was done on the board, and does not refuse the command of a place, which lies in the k-th
 -- residence.
-pub record IsAskedAt (b : Ledger) (v : ProcessView) (command : Command) (at : Place) (k : ℕ) : Type 0 where
+pub record IsAskedAt (b : BoardState) (v : ProcessView) (command : Command) (at : Place) (k : ℕ) : Type 0 where
   pub legal : IsLegal b
   pub stands : StandsAt b v
   pub accepted : view_refusal v.library v.holding command ≡ None
-  pub stay : IsStayNamed v at.«module» k
+  pub residence : IsReachedNamed v at.«module» k
 
 -- the write is to the place
 pub record IsWriteTo (at : Place) (w : Written) : Type 0 where
@@ -145,5 +145,5 @@ bytes_read (deeds.Write serial m object offset bytes) = []
 bytes_read (deeds.Debug serial m object offset bytes) = []
 
 -- they are those of the entry that a board has more than before
-abbrev pub IsLastRead : Ledger → Ledger → List ℕ → Type 0
+abbrev pub IsLastRead : BoardState → BoardState → List ℕ → Type 0
 IsLastRead b c bytes = (x : Entry) → c.history ≡ b.history ++ x ∷ [] → bytes ≡ bytes_read x.deed

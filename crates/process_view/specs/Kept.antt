@@ -3,25 +3,32 @@ use Rattle.std.specs.Prelude.{◌≡◌, ◌-◌, map, length, true, All, vec_ca
 use Rattle.std.specs.Arc.{arc_value}
 use Rattle.load_model.specs.State.{pids, is_among}
 use Rattle.process_view.specs.ProcessViews.{ProcessView, fresh_shown}
-use Rattle.process_pages.specs.Stays.{residences_in, IsPlaced, AreApart}
-use Rattle.process_pages.specs.StayFinders.{AreRight}
+use Rattle.process_pages.specs.ReachedResidences.{residences_in, IsPlaced, AreApart}
+use Rattle.process_pages.specs.ResidenceFinders.{AreRight}
 use Rattle.process_view.specs.declared.view.View.TheInside.{Inside}
 
 abbrev pub view_of : Inside → ProcessView
 view_of v = record {
   library = arc_value v.lib;
   holding =
-      record { pid = v.pid; ended = v.ended; row = v.holder; stays = map fresh_shown (residences_in v.stays.items); mapped = v.pages.items; front = v.front };
-  residences = residences_in v.stays.items;
+      record {
+        pid = v.pid;
+        ended = v.ended;
+        counts = v.counts;
+        residences = map fresh_shown (residences_in v.residences.items);
+        mapped = v.pages.items;
+        front = v.front;
+      };
+  residences = residences_in v.residences.items;
   page_room = vec_capacity v.pages - vec_len v.pages;
-  stay_room = vec_capacity v.stays - vec_len v.stays;
+  residence_room = vec_capacity v.residences - vec_len v.residences;
 }
 
 -- The process is one of 16, both counts are by module, all its residences are placed, and they are found where they stand.
 pub record Keeps (v : Inside) : Type 0 where
   pub process : is_among pids v.pid ≡ true
-  pub loads : length v.holder.loads ≡ length (arc_value v.lib)
-  pub reached : length v.holder.reached ≡ length (arc_value v.lib)
-  pub placed : All (IsPlaced (arc_value v.lib) v.pages.items) v.stays.items
-  pub apart : AreApart (residences_in v.stays.items)
-  pub found : AreRight v.finder (residences_in v.stays.items)
+  pub loads : length v.counts.loads ≡ length (arc_value v.lib)
+  pub reached : length v.counts.reached ≡ length (arc_value v.lib)
+  pub placed : All (IsPlaced (arc_value v.lib) v.pages.items) v.residences.items
+  pub apart : AreApart (residences_in v.residences.items)
+  pub found : AreRight v.finder (residences_in v.residences.items)

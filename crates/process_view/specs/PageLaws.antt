@@ -7,7 +7,7 @@ use Rattle.page_frames.specs.Residences.{ResidenceFor}
 use Rattle.load_model.specs.Modules.{object_at}
 use Rattle.load_model.specs.Asks.{is_own}
 use Rattle.load_model.specs.Histories.{has_fault}
-use Rattle.load_core.specs.Ledger.{Ledger, IsLegal}
+use Rattle.load_core.specs.BoardState.{BoardState, IsLegal}
 use Rattle.process_view.specs.ProcessViews.{ProcessView, StandsAt}
 use Rattle.process_view.specs.Deeds.{CanMap, with_page}
 
@@ -15,7 +15,7 @@ use Rattle.process_view.specs.Deeds.{CanMap, with_page}
 -- or had its fault: the view stands for the same history with it.
 abbrev pub PagesStand : Type 0
 PagesStand =
-    (b : Ledger) (v : ProcessView) (k : ℕ) (r : ResidenceFor) (p : PageId) → IsLegal b → StandsAt b v → k < length v.residences →
+    (b : BoardState) (v : ProcessView) (k : ℕ) (r : ResidenceFor) (p : PageId) → IsLegal b → StandsAt b v → k < length v.residences →
     r ≡ slice_index_or v.residences k r → CanMap v r p →
     (is_own (class_of (object_at v.library r.«module» p.object)) ≡ false → has_fault b.history r.serial p ≡ true) →
     StandsAt b (with_page r p (fixed_page v.library r.«module» r.bases p) v)

@@ -8,9 +8,9 @@ ghost use Rattle.lx_model.specs.Library.{module_of};
 ghost use Rattle.page_fix.specs.Fixable.{is_fixable};
 ghost use Rattle.page_frames.specs.Residences.{ResidenceFor};
 ghost use Rattle.process_view.specs.ProcessViews.{StandsAt};
-ghost use Rattle.process_view.specs.Deeds.{CanMap, IsCommonPage, IsClaimedIn, IsIdle};
+ghost use Rattle.process_view.specs.Deeds.{CanMap, IsSharedPage, IsClaimedIn, IsIdle};
 
-use crate::spans::is_common;
+use crate::spans::is_shared_page;
 use crate::view::View;
 use load_core::{Board, Claim};
 use load_model::{residences_stay, views_stand};
@@ -18,24 +18,24 @@ use lx_types::{NoMemory, PageId};
 
 impl View {
     /// Whether all processes share a page of a residence.
-    pub fn is_common(&self, k: usize, p: PageId) -> bool
-        requires stay { k < length self.now.residences }
+    pub fn is_shared_page(&self, k: usize, p: PageId) -> bool
+        requires residence { k < length self.now.residences }
         requires object { (d : ResidenceFor) → IsNumberOf p.object
             (length (module_of self.now.library (slice_index_or self.now.residences k d).«module»).objects) }
         requires page { (d : ResidenceFor) → p.page < pages_of
             (object_of (module_of self.now.library (slice_index_or self.now.residences k d).«module») p.object) }
         ensures { (d : ResidenceFor) → result ≡ is_fixable (module_of self.now.library (slice_index_or self.now.residences k d).«module») p }
     {
-        is_common(self.library(), self.stay_module(k), p)
+        is_shared_page(self.library(), self.residence_module(k), p)
     }
 
     /// Claims a page that all processes share. Who claims it first has the right to fix it, and its fault has its entry.
     pub fn claim(&mut self, board: &mut Board, k: usize, p: PageId) -> Result<Claim, NoMemory>
         requires stands { StandsAt board.old self.old }
         requires going { self.old.holding.ended ≡ false }
-        requires stay { k < length self.old.residences }
+        requires residence { k < length self.old.residences }
         requires page { (d : ResidenceFor) → CanMap self.old (slice_index_or self.old.residences k d) p }
-        requires common { (d : ResidenceFor) → IsCommonPage self.old (slice_index_or self.old.residences k d) p }
+        requires shared { (d : ResidenceFor) → IsSharedPage self.old (slice_index_or self.old.residences k d) p }
         ensures { (d : ResidenceFor) → MatchResult result (IsClaimedIn board.old board.new self.old self.new (slice_index_or self.old.residences k d) p)
             (λ _. IsIdle board.old board.new self.old self.new) }
     {

@@ -5,19 +5,19 @@ ghost use Rattle.load_model.specs.declared.commands.Command.TheVariants as comma
 ghost use Rattle.load_model.specs.Refusals as uses;
 ghost use Rattle.load_model.specs.ViewAnswers.{view_refusal, view_place_refusal};
 ghost use Rattle.process_view.specs.ProcessViews.{StandsAt};
-ghost use Rattle.process_view.specs.Answering.{enter_command, IsStayNamed};
+ghost use Rattle.process_view.specs.Answering.{enter_command, IsReachedNamed};
 ghost use Rattle.process_view.specs.Deeds.{IsDone, IsLastRead, IsInClass};
 
 use crate::purposes::Purpose;
 use crate::spans::class_of;
 use crate::view::View;
-use hold_rows::rows_are_counted;
 use load_core::{Board, Loaded};
 use load_model::{
     How, Place, Refusal, counts_are_small, reached_is_fit, residences_stay, views_stand,
 };
 use lx_model::order_is_reach;
 use lx_types::{Bytes, Class, Fail, Name, NoMemory};
+use mod_refs::loads_are_counted;
 use std::alloc::Global;
 use write_overlay::Write;
 
@@ -32,11 +32,11 @@ fn write_to(alloc: Global, place: &Place, bytes: &[u8]) -> Result<Write, NoMemor
 impl View {
     // Who sees a write to the place.
     fn class_at(&self, k: usize, place: &Place) -> Class
-        requires named { IsStayNamed self.now place.now.«module» k }
+        requires named { IsReachedNamed self.now place.now.«module» k }
         requires used { (purpose : uses.Purpose) × (view_place_refusal self.now.library self.now.holding purpose place.now ≡ None) }
         ensures { IsInClass self.now k place.now result }
     {
-        class_of(self.library(), self.stay_module(k), place.object)
+        class_of(self.library(), self.residence_module(k), place.object)
     }
 
     /// Starts a program, or loads a library. Where an object has no place, or an initialisation fails, the entry tells it,
@@ -55,7 +55,7 @@ impl View {
         views_stand();
         residences_stay();
         order_is_reach();
-        rows_are_counted();
+        loads_are_counted();
         counts_are_small();
         reached_is_fit();
         board.history();
@@ -64,9 +64,9 @@ impl View {
         let Some(m) = self.library().find(name) else {
             unreachable!()
         };
-        let joining = self.holder.unreached(alloc, self.lib.order(m))?;
+        let joining = self.counts.unreached(alloc, self.lib.order(m))?;
         let rows = self.rows_for(alloc, &joining)?;
-        self.reserve_stays(joining.len())?;
+        self.reserve_residences(joining.len())?;
         match board.load(pid, m, how)? {
             Loaded::Done { joined } => {
                 self.keep_joined(joined, rows);
@@ -101,10 +101,10 @@ impl View {
     {
         views_stand();
         residences_stay();
-        rows_are_counted();
+        loads_are_counted();
         order_is_reach();
         board.history();
-        let Ok(m) = self.to_free(name) else {
+        let Ok(m) = self.check_free(name) else {
             unreachable!()
         };
         let pid = self.pid();
@@ -142,7 +142,7 @@ impl View {
         requires accepted { view_refusal self.old.library self.old.holding (commands.Write place.now bytes.now) ≡ None }
         ensures { IsDone board.old board.new self.old self.new (commands.Write place.now bytes.now) result }
     {
-        let Ok(k) = self.to_use(Purpose::Write, place) else {
+        let Ok(k) = self.check_use(Purpose::Write, place) else {
             unreachable!()
         };
         board.history();
@@ -151,7 +151,7 @@ impl View {
                 let write = write_to(alloc, place, bytes)?;
                 self.write_own(board, k, place, &write)?;
             }
-            Class::Shared => self.write_common(board, k, place, bytes)?,
+            Class::Shared => self.write_shared(board, k, place, bytes)?,
             Class::Code => unreachable!(),
         }
         Ok(())
@@ -170,7 +170,7 @@ impl View {
         requires accepted { view_refusal self.old.library self.old.holding (commands.Debug place.now bytes.now) ≡ None }
         ensures { IsDone board.old board.new self.old self.new (commands.Debug place.now bytes.now) result }
     {
-        let Ok(k) = self.to_use(Purpose::Debug, place) else {
+        let Ok(k) = self.check_use(Purpose::Debug, place) else {
             unreachable!()
         };
         board.history();
@@ -193,7 +193,7 @@ impl View {
         ensures done { IsDone board.old board.new self.old self.new (commands.Shared place.now) result }
         ensures read { IfOk result (λ _. IsLastRead board.old board.new into.new) }
     {
-        let Ok(k) = self.to_use(Purpose::Share, place) else {
+        let Ok(k) = self.check_use(Purpose::Share, place) else {
             unreachable!()
         };
         board.history();

@@ -1,9 +1,9 @@
-//! The residences that join a process's own behind a start or a load. What takes memory is done before.
+//! The residences that join a process's own after a start or a load. What takes memory is done before.
 
 ghost use Rattle.std.specs.Prelude.{◌≡◌, ◌<◌, ◌≤◌, All, IfOk, OnOk, length, map};
 ghost use Rattle.std.specs.Arc.{arc_value};
 ghost use Rattle.process_view.specs.ProcessViews.{fresh_shown};
-ghost use Rattle.process_view.specs.Joining.{AreEmpty, CanJoin, modules_of, with_stays};
+ghost use Rattle.process_view.specs.Joining.{AreEmpty, CanJoin, modules_of, with_residences};
 
 use crate::view::View;
 use lx_types::NoMemory;
@@ -26,30 +26,30 @@ impl View {
     }
 
     // Finds room for so many residences more.
-    pub(crate) fn reserve_stays(&mut self, count: usize) -> Result<(), NoMemory>
-        ensures room { OnOk result (count ≤ self.new.stay_room) }
-        ensures same { self.new ≡ record self.old { stay_room = self.new.stay_room } }
+    pub(crate) fn reserve_residences(&mut self, count: usize) -> Result<(), NoMemory>
+        ensures room { OnOk result (count ≤ self.new.residence_room) }
+        ensures same { self.new ≡ record self.old { residence_room = self.new.residence_room } }
     {
-        self.stays.reserve(count)?;
+        self.residences.reserve(count)?;
         Ok(())
     }
 
     // What it shows of its residences.
-    fn show_stays(&self)
-        ensures { self.now.holding.stays ≡ map fresh_shown self.now.residences }
+    fn show_residences(&self)
+        ensures { self.now.holding.residences ≡ map fresh_shown self.now.residences }
     {
-        let _ = &self.stays;
+        let _ = &self.residences;
     }
 
     // Keeps residences with their rows, in its room.
     pub(crate) fn keep_joined(&mut self, joined: Vec<Arc<Residence>>, rows: Vec<PageRows>)
         requires new { CanJoin self.old (map arc_value joined.items) }
         requires rows { AreEmpty self.old.library (modules_of (map arc_value joined.items)) rows.items }
-        ensures { self.new ≡ with_stays (map arc_value joined.items) self.old }
+        ensures { self.new ≡ with_residences (map arc_value joined.items) self.old }
     {
         for (residence, places) in joined.into_iter().zip(rows) {
-            self.keep_stay(residence, places);
+            self.keep_residence(residence, places);
         }
-        self.show_stays();
+        self.show_residences();
     }
 }

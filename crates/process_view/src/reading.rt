@@ -1,54 +1,24 @@
 //! What a view answers by itself: bytes of its own pages, addresses and resources.
 
-ghost use Rattle.std.specs.Prelude.{◌≡◌, ◌≤◌, ◌<◌, ◌+◌, ◌-◌, ◌==◌, ◌⊎◌, slice_index_or, ℕ, Ok, Some, None, IfSome, MatchResult, position, length, map, slice_index};
+ghost use Rattle.std.specs.Prelude.{◌≡◌, ◌≤◌, ◌<◌, ◌+◌, ◌⊎◌, slice_index_or, ℕ, Ok, Some, None, IfSome, MatchResult, length, map};
 ghost use Rattle.std.specs.List.{range_with_len};
-ghost use Rattle.lx_model.specs.Fixed.{base_of};
 ghost use Rattle.load_model.specs.declared.commands.Command.TheVariants as commands;
 ghost use Rattle.load_model.specs.declared.commands.Reply.TheVariants as replies;
 ghost use Rattle.load_model.specs.Modules as modules;
 ghost use Rattle.page_frames.specs.Residences.{ResidenceFor};
 ghost use Rattle.load_model.specs.Refusals as uses;
-ghost use Rattle.load_model.specs.ViewAnswers.{view_refusal, view_place_refusal, view_reply, view_address, view_bytes, stay_named};
+ghost use Rattle.load_model.specs.ViewAnswers.{view_refusal, view_place_refusal, view_reply, view_address, view_bytes, reached_named};
 ghost use Rattle.load_model.specs.Places.{LiesInPage};
-ghost use Rattle.process_pages.specs.Stays.{residences_in};
-ghost use Rattle.process_view.specs.Answering.{residence_with, base_if, IsStayNamed};
+ghost use Rattle.process_pages.specs.ReachedResidences.{residences_in};
+ghost use Rattle.process_view.specs.Answering.{residence_with, base_if, IsReachedNamed};
 
 use crate::purposes::Purpose;
 use crate::spans::span_refusal;
 use crate::view::View;
 use load_model::{Place, Refusal};
-use lx_types::{Bases, EntryKey, ModBases, Name, ResSpot};
+use lx_types::{EntryKey, Name, ResSpot};
 use mod_graph::{EntryFault, Library, Spot};
-use process_pages::{Stay, bytes_in_place, copy_out, run_at, stay_place};
-
-// The base of an object among those of its module.
-fn base_in(own: &ModBases, object: u32) -> u32
-    ensures { result ≡ slice_index own.now.objects (object - 1) }
-{
-    let objects = own.objects.as_slice();
-    match objects.get(object.saturating_sub(1) as usize) {
-        Some(base) => *base,
-        None => 0,
-    }
-}
-
-// The place of a module's bases.
-fn bases_place(mods: &[ModBases], m: u32) -> Option<usize>
-    ensures { result ≡ position (λ b. b.«module» == m) mods.now }
-{
-    mods.iter().position(|b| b.module == m)
-}
-
-// The base of an object of module `m`, and 0 where these bases have none.
-fn own_base(bases: &Bases, m: u32, object: u32) -> u32
-    ensures { result ≡ base_of bases.now m object }
-{
-    let mods = bases.mods.as_slice();
-    match bases_place(mods, m) {
-        Some(k) => base_in(&mods[k], object),
-        None => 0,
-    }
-}
+use process_pages::{ReachedResidence, bytes_in_place, copy_out, residence_place, run_at};
 
 // The spot that a key of module `m` means.
 #[tactic(auto, unfolding(load_model::specs::Modules::entry_spot))]
@@ -74,13 +44,13 @@ fn refusal_of(fault: EntryFault) -> Refusal
 }
 
 // The base of the object of a spot, where its module's residence stands.
-fn spot_base(stays: &[Stay], spot: Spot) -> u32
-    ensures { result ≡ base_if spot (residence_with (residences_in stays.now) spot.«module») }
+fn spot_base(residences: &[ReachedResidence], spot: Spot) -> u32
+    ensures { result ≡ base_if spot (residence_with (residences_in residences.now) spot.«module») }
 {
-    match stay_place(stays, spot.module) {
+    match residence_place(residences, spot.module) {
         Some(k) => {
-            let residence = &stays[k].residence;
-            own_base(residence.bases(), residence.module(), spot.object)
+            let residence = &residences[k].residence;
+            residence.bases().base(residence.module(), spot.object)
         }
         None => 0,
     }
@@ -91,28 +61,28 @@ impl View {
     fn address(&self, spot: Spot) -> u32
         ensures { result ≡ view_address self.now.holding (Ok spot) }
     {
-        spot_base(&self.stays, spot).wrapping_add(spot.offset)
+        spot_base(&self.residences, spot).wrapping_add(spot.offset)
     }
 
     // The module of a residence that the process reaches.
-    pub(crate) fn stay_module(&self, k: usize) -> u32
+    pub(crate) fn residence_module(&self, k: usize) -> u32
         requires { k < length self.now.residences }
         ensures number { (d : ResidenceFor) → result ≡ (slice_index_or self.now.residences k d).«module» }
         ensures within { result < length self.now.library }
     {
-        self.stays[k].residence.module()
+        self.residences[k].residence.module()
     }
 
     // Copies the bytes of a place that is mapped.
     pub(crate) fn copy_place(&self, k: usize, place: &Place, into: &mut [u8])
         requires fits { length into.old ≡ place.now.len }
-        requires named { IsStayNamed self.now place.now.«module» k }
+        requires named { IsReachedNamed self.now place.now.«module» k }
         requires used { (view_place_refusal self.now.library self.now.holding uses.peek place.now ≡ None)
             ⊎ (view_place_refusal self.now.library self.now.holding uses.share place.now ≡ None) }
-        ensures { into.new ≡ view_bytes self.now.holding place.now (stay_named self.now.library self.now.holding place.now.«module») }
+        ensures { into.new ≡ view_bytes self.now.holding place.now (reached_named self.now.library self.now.holding place.now.«module») }
     {
-        let stay = &self.stays[k];
-        copy_out(&self.pages, &stay.places, place, into);
+        let reached = &self.residences[k];
+        copy_out(&self.pages, &reached.places, place, into);
     }
 
     // The bytes of a place that may be peeked, where they stand, if they lie in one page.
@@ -120,15 +90,15 @@ impl View {
         ensures length { IfSome result (λ run. length run.now ≡ place.now.len) }
         ensures allowed { IfSome result (λ run. view_place_refusal self.now.library self.now.holding uses.peek place.now ≡ None) }
         ensures bytes { IfSome result (λ run.
-            run.now ≡ view_bytes self.now.holding place.now (stay_named self.now.library self.now.holding place.now.«module»)) }
+            run.now ≡ view_bytes self.now.holding place.now (reached_named self.now.library self.now.holding place.now.«module»)) }
     {
         if self.ended {
             return None;
         }
         let m = self.hints.find(&self.lib, &place.module)?;
-        let k = self.finder.find(&self.stays, m)?;
-        let stay = &self.stays[k];
-        let bytes = run_at(&self.pages, &stay.places, place)?;
+        let k = self.finder.find(&self.residences, m)?;
+        let reached = &self.residences[k];
+        let bytes = run_at(&self.pages, &reached.places, place)?;
         match span_refusal(&self.lib, m, Purpose::Peek, place) {
             Some(_) => None,
             None => Some(bytes),
@@ -138,12 +108,12 @@ impl View {
     // The bytes of a place of one page that may be peeked.
     fn bytes_here(&self, k: usize, place: &Place) -> &[u8]
         requires in_page { LiesInPage place.now }
-        requires named { IsStayNamed self.now place.now.«module» k }
+        requires named { IsReachedNamed self.now place.now.«module» k }
         requires used { view_place_refusal self.now.library self.now.holding uses.peek place.now ≡ None }
-        ensures { result.now ≡ view_bytes self.now.holding place.now (stay_named self.now.library self.now.holding place.now.«module») }
+        ensures { result.now ≡ view_bytes self.now.holding place.now (reached_named self.now.library self.now.holding place.now.«module») }
     {
-        let stay = &self.stays[k];
-        bytes_in_place(&self.pages, &stay.places, place)
+        let reached = &self.residences[k];
+        bytes_in_place(&self.pages, &reached.places, place)
     }
 
     /// The bytes of a place of one page where they stand, as `peek` reads them, and refused as there. Nothing is copied, and
@@ -158,7 +128,7 @@ impl View {
     {
         match self.run(place) {
             Some(run) => Ok(run),
-            None => match self.to_use(Purpose::Peek, place) {
+            None => match self.check_use(Purpose::Peek, place) {
                 Ok(k) => Ok(self.bytes_here(k, place)),
                 Err(refusal) => Err(refusal),
             },
@@ -174,7 +144,7 @@ impl View {
             × (view_reply self.now.library self.now.holding (commands.Peek place.now) ≡ Some (replies.Bytes into.new)))
             (λ refusal. (view_refusal self.now.library self.now.holding (commands.Peek place.now) ≡ Some refusal) × (into.new ≡ into.old)) }
     {
-        match self.to_use(Purpose::Peek, place) {
+        match self.check_use(Purpose::Peek, place) {
             Ok(k) => {
                 self.copy_place(k, place, into);
                 Ok(())
@@ -213,10 +183,10 @@ impl View {
         if self.is_ended() {
             return Err(Refusal::Ended);
         }
-        let Some(k) = self.stay_named(module) else {
+        let Some(k) = self.reached_named(module) else {
             return Err(Refusal::NotAttached);
         };
-        match entry_spot(self.library(), self.stay_module(k), key) {
+        match entry_spot(self.library(), self.residence_module(k), key) {
             Ok(spot) => Ok(self.address(spot)),
             Err(fault) => Err(refusal_of(fault)),
         }
@@ -232,10 +202,10 @@ impl View {
         if self.is_ended() {
             return Err(Refusal::Ended);
         }
-        let Some(k) = self.stay_named(module) else {
+        let Some(k) = self.reached_named(module) else {
             return Err(Refusal::NotAttached);
         };
-        match resource_of(self.library(), self.stay_module(k), ty, id) {
+        match resource_of(self.library(), self.residence_module(k), ty, id) {
             Some(spot) => Ok(spot),
             None => Err(Refusal::NoResource),
         }

@@ -6,22 +6,19 @@ ghost use Rattle.load_model.specs.declared.commands.Command.TheVariants as comma
 ghost use Rattle.load_model.specs.Modules.{number_of};
 ghost use Rattle.load_model.specs.Modules as modules;
 ghost use Rattle.load_model.specs.Memory.{page};
-ghost use Rattle.load_model.specs.ViewAnswers.{view_refusal, view_place_refusal, view_module_refusal, stay_named};
+ghost use Rattle.load_model.specs.ViewAnswers.{view_refusal, view_place_refusal, view_module_refusal, reached_named};
 ghost use Rattle.process_view.specs.Purposes.{purpose_of};
 ghost use Rattle.process_pages.specs.PageRows.{place_in};
-ghost use Rattle.process_view.specs.Answering.{enter_command, touch_refusal_by, IsStayNamed};
+ghost use Rattle.process_view.specs.Answering.{enter_command, touch_refusal_by, IsReachedNamed};
 
 use crate::purposes::Purpose;
 use crate::spans::{Span, span_of, span_refusal};
 use crate::view::View;
-use hold_rows::Holder;
 use load_model::{How, Place, Refusal};
-use lx_types::{Name, PageId};
+use lx_types::{MAX_LOADS, Name, PageId};
 use mod_graph::{Health, Library};
+use mod_refs::LoadCounts;
 use process_pages::PageRows;
-
-/// How many loads of one module a process may hold.
-const MOST_LOADS: u32 = 65535;
 
 // Why a module cannot be loaded, by what it reaches.
 #[tactic(auto, unfolding(load_model::specs::Modules::unfit))]
@@ -64,7 +61,7 @@ ghost use Rattle.load_model.specs.Refusals.{when, ◌orelse◌};
 fn library_refusal(lib: &Library, m: u32, held: u32) -> Option<Refusal>
     requires { m < length lib.now }
     ensures { result ≡ (when (not (modules.is_library lib.now m)) Refusal.NotLibrary orelse modules.unfit lib.now m
-        orelse when (nat_le 65535 held) Refusal.CountFull) }
+        orelse when (nat_le MAX_LOADS held) Refusal.CountFull) }
 {
     if !is_library(lib, m) {
         return Some(Refusal::NotLibrary);
@@ -72,7 +69,7 @@ fn library_refusal(lib: &Library, m: u32, held: u32) -> Option<Refusal>
     if let Some(refusal) = unfit(lib, m) {
         return Some(refusal);
     }
-    if held >= MOST_LOADS {
+    if held >= MAX_LOADS {
         return Some(Refusal::CountFull);
     }
     None
@@ -110,16 +107,16 @@ fn touch_refusal(places: &PageRows, purpose: Purpose, place: &Place) -> Option<R
 
 impl View {
     // The residence that the process reaches of the module that a name means, by its number among them.
-    pub(crate) fn stay_named(&self, name: &Name) -> Option<usize>
-        ensures { MatchOption result (stay_named self.now.library self.now.holding name.now ≡ None) (IsStayNamed self.now name.now) }
+    pub(crate) fn reached_named(&self, name: &Name) -> Option<usize>
+        ensures { MatchOption result (reached_named self.now.library self.now.holding name.now ≡ None) (IsReachedNamed self.now name.now) }
     {
         let m = self.hints.find(&self.lib, name)?;
-        self.finder.find(&self.stays, m)
+        self.finder.find(&self.residences, m)
     }
 
     /// The module that a start or a load asks for by name, or why the view refuses it.
     #[tactic(auto, unfolding(load_model::specs::ViewAnswers::view_refusal, load_model::specs::Modules::number_of))]
-    pub fn to_enter(&self, how: How, name: &Name) -> Result<u32, Refusal>
+    pub fn check_enter(&self, how: How, name: &Name) -> Result<u32, Refusal>
         ensures { MatchResult result
             (λ m. (view_refusal self.now.library self.now.holding (enter_command how name.now) ≡ None) × (number_of self.now.library name.now ≡ Some m)
             × (m < length self.now.library))
@@ -128,7 +125,7 @@ impl View {
         if self.ended {
             return Err(Refusal::Ended);
         }
-        if matches!(how, How::Start) && self.holder.started().is_some() {
+        if matches!(how, How::Start) && self.counts.started().is_some() {
             return Err(Refusal::Started);
         }
         let Some(m) = self.lib.find(name) else {
@@ -136,7 +133,7 @@ impl View {
         };
         let refusal = match how {
             How::Start => program_refusal(&self.lib, m),
-            How::Load => library_refusal(&self.lib, m, self.holder.held(m)),
+            How::Load => library_refusal(&self.lib, m, self.counts.held(m)),
         };
         match refusal {
             Some(refusal) => Err(refusal),
@@ -146,7 +143,7 @@ impl View {
 
     /// The module of which a free gives up a load, or why the view refuses it.
     #[tactic(auto, unfolding(load_model::specs::ViewAnswers::view_refusal, load_model::specs::Modules::number_of))]
-    pub fn to_free(&self, name: &Name) -> Result<u32, Refusal>
+    pub fn check_free(&self, name: &Name) -> Result<u32, Refusal>
         ensures { MatchResult result
             (λ m. (view_refusal self.now.library self.now.holding (commands.Free name.now) ≡ None) × (number_of self.now.library name.now ≡ Some m)
             × (m < length self.now.library))
@@ -156,29 +153,29 @@ impl View {
             return Err(Refusal::Ended);
         }
         match self.lib.find(name) {
-            Some(m) if self.holder.held(m) > 0 => Ok(m),
+            Some(m) if self.counts.held(m) > 0 => Ok(m),
             _ => Err(Refusal::NotHeld),
         }
     }
 
     /// The residence in which a place may be used so, by its number among those that the process reaches, or why the view
     /// refuses it.
-    pub fn to_use(&self, purpose: Purpose, place: &Place) -> Result<usize, Refusal>
+    pub fn check_use(&self, purpose: Purpose, place: &Place) -> Result<usize, Refusal>
         ensures { MatchResult result
-            (λ k. (view_place_refusal self.now.library self.now.holding (purpose_of purpose) place.now ≡ None) × IsStayNamed self.now place.now.«module» k)
+            (λ k. (view_place_refusal self.now.library self.now.holding (purpose_of purpose) place.now ≡ None) × IsReachedNamed self.now place.now.«module» k)
             (λ refusal. view_place_refusal self.now.library self.now.holding (purpose_of purpose) place.now ≡ Some refusal) }
     {
         if self.ended {
             return Err(Refusal::Ended);
         }
-        let Some(k) = self.stay_named(&place.module) else {
+        let Some(k) = self.reached_named(&place.module) else {
             return Err(Refusal::NotAttached);
         };
-        let stay = &self.stays[k];
-        if let Some(refusal) = span_refusal(&self.lib, stay.residence.module(), purpose, place) {
+        let reached = &self.residences[k];
+        if let Some(refusal) = span_refusal(&self.lib, reached.residence.module(), purpose, place) {
             return Err(refusal);
         }
-        if let Some(refusal) = touch_refusal(&stay.places, purpose, place) {
+        if let Some(refusal) = touch_refusal(&reached.places, purpose, place) {
             return Err(refusal);
         }
         Ok(k)

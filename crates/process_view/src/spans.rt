@@ -16,7 +16,7 @@ use load_model::{Place, Refusal};
 use lx_types::{Class, PAGE_SIZE, PageId, PageKind};
 use mod_graph::Library;
 
-/// The pages that bytes cover: the first, and the one behind the last.
+/// The pages that bytes cover: the first, and the one after the last.
 #[derive(Clone, Copy)]
 pub struct Span {
     pub first: u32,
@@ -27,7 +27,7 @@ pub struct Span {
 pub fn span_of(offset: u32, len: u32) -> Span
     ensures pages { range_with_len result.first (result.end - result.first) ≡ pages_over offset len }
     ensures order { result.first ≤ result.end }
-    ensures within { (n : ℕ) → n < result.end → n * 4096 < offset + len }
+    ensures within { (n : ℕ) → n < result.end → n * PAGE_SIZE < offset + len }
 {
     if len == 0 {
         return Span { first: 0, end: 0 };
@@ -80,7 +80,7 @@ pub fn class_of(lib: &Library, m: u32, object: u32) -> Class
 ghost use Rattle.lx_types.specs.Object as objects;
 
 /// Whether all processes share a page: it is no private one, and can be reached.
-pub fn is_common(lib: &Library, m: u32, p: PageId) -> bool
+pub fn is_shared_page(lib: &Library, m: u32, p: PageId) -> bool
     requires module { m < length lib.now }
     requires object { IsNumberOf p.object (length (module_of lib.now m).objects) }
     requires page { p.page < pages_of (object_of (module_of lib.now m) p.object) }

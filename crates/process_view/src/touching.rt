@@ -9,13 +9,13 @@ ghost use Rattle.lx_model.specs.Fixed.{sources_of};
 ghost use Rattle.lx_model.specs.ModuleBytes.{fixed_page};
 ghost use Rattle.page_fix.specs.Fixable.{is_fixable};
 ghost use Rattle.page_frames.specs.Residences.{ResidenceFor};
-ghost use Rattle.load_model.specs.Touched.{has_page};
-ghost use Rattle.load_model.specs.Standing.{mapped_pages};
+ghost use Rattle.load_model.specs.Views.{mapped_pages};
+ghost use Rattle.load_model.specs.TouchedPages.{has_page};
 ghost use Rattle.process_view.specs.Deeds.{with_page};
 
 use crate::spans::class_of;
 use crate::view::View;
-use lx_types::{Class, NoMemory, PageId};
+use lx_types::{Class, NoMemory, PAGE_LEN, PageBytes, PageId};
 use page_fix::{FixRight, Steps, fix_page, fix_private};
 use page_frames::Residence;
 use process_pages::OwnPage;
@@ -34,14 +34,14 @@ impl View {
 
     /// Whether a page of a residence is mapped.
     pub fn is_mapped(&self, k: usize, p: PageId) -> bool
-        requires stay { k < length self.now.residences }
+        requires residence { k < length self.now.residences }
         requires object { (d : ResidenceFor) → IsNumberOf p.object
             (length (module_of self.now.library (slice_index_or self.now.residences k d).«module»).objects) }
         requires page { (d : ResidenceFor) → p.page < pages_of
             (object_of (module_of self.now.library (slice_index_or self.now.residences k d).«module») p.object) }
         ensures { (d : ResidenceFor) → result ≡ has_page (mapped_pages self.now.holding) (slice_index_or self.now.residences k d).serial p }
     {
-        self.stays[k].places.get(p).is_some()
+        self.residences[k].places.get(p).is_some()
     }
 
     // A residence that the process reaches.
@@ -49,20 +49,20 @@ impl View {
         requires { k < length self.now.residences }
         ensures { (d : ResidenceFor) → result.now ≡ slice_index_or self.now.residences k d }
     {
-        &self.stays[k].residence
+        &self.residences[k].residence
     }
 
     // Keeps a page, in its room.
-    pub(crate) fn keep_page(&mut self, k: usize, p: PageId, bytes: Box<[u8; 4096]>)
+    pub(crate) fn keep_page(&mut self, k: usize, p: PageId, bytes: Box<PageBytes>)
         requires room { 0 < self.old.page_room }
-        requires stay { k < length self.old.residences }
+        requires residence { k < length self.old.residences }
         requires page { (d : ResidenceFor) → CanMap self.old (slice_index_or self.old.residences k d) p }
-        requires whole { length (box_value bytes) ≡ 4096 }
+        requires whole { length (box_value bytes) ≡ PAGE_LEN }
         ensures { (d : ResidenceFor) → self.new ≡ with_page (slice_index_or self.old.residences k d) p (box_value bytes) self.old }
     {
-        let stay = &mut self.stays[k];
-        let page = OwnPage::new(stay.residence.serial(), p, bytes);
-        stay.places.put(p, self.pages.len());
+        let reached = &mut self.residences[k];
+        let page = OwnPage::new(reached.residence.serial(), p, bytes);
+        reached.places.put(p, self.pages.len());
         self.pages.push_reserved(page);
     }
 }
@@ -73,11 +73,11 @@ impl View {
         &mut self,
         k: usize,
         p: PageId,
-        buffer: Box<[u8; 4096]>,
+        buffer: Box<PageBytes>,
         steps: &mut Steps<L>,
     )
         requires room { 0 < self.old.page_room }
-        requires stay { k < length self.old.residences }
+        requires residence { k < length self.old.residences }
         requires page { (d : ResidenceFor) → CanMap self.old (slice_index_or self.old.residences k d) p }
         ensures mapped { (d : ResidenceFor) → IsFixedIn self.old self.new (slice_index_or self.old.residences k d) p }
         ensures steps { (d : ResidenceFor) → steps.new ≡ steps.old + source_count self.old.library (slice_index_or self.old.residences k d).«module» p }
@@ -101,14 +101,14 @@ impl View {
         rt: &R,
         k: usize,
         right: FixRight,
-        buffers: (Box<[u8; 4096]>, Box<[u8; 4096]>),
+        buffers: (Box<PageBytes>, Box<PageBytes>),
         steps: &mut Steps<L>,
     )
         requires room { 0 < self.old.page_room }
-        requires stay { k < length self.old.residences }
+        requires residence { k < length self.old.residences }
         requires page { (d : ResidenceFor) → CanMap self.old (slice_index_or self.old.residences k d) right.page }
         requires own { (d : ResidenceFor) → right.serial ≡ (slice_index_or self.old.residences k d).serial }
-        requires common { (d : ResidenceFor) → IsCommonPage self.old (slice_index_or self.old.residences k d) right.page }
+        requires shared { (d : ResidenceFor) → IsSharedPage self.old (slice_index_or self.old.residences k d) right.page }
         ensures mapped { (d : ResidenceFor) → IsFixedIn self.old self.new (slice_index_or self.old.residences k d) right.page }
         ensures steps { (d : ResidenceFor) → steps.new
             ≡ steps.old + source_count self.old.library (slice_index_or self.old.residences k d).«module» right.page }
@@ -130,11 +130,11 @@ impl View {
     }
 
     /// Waits until a page is published that another process fixes, and maps a copy of it. It takes no memory.
-    pub fn map_taken<R: Wait>(&mut self, rt: &R, k: usize, p: PageId, copy: Box<[u8; 4096]>)
+    pub fn map_taken<R: Wait>(&mut self, rt: &R, k: usize, p: PageId, copy: Box<PageBytes>)
         requires room { 0 < self.old.page_room }
-        requires stay { k < length self.old.residences }
+        requires residence { k < length self.old.residences }
         requires page { (d : ResidenceFor) → CanMap self.old (slice_index_or self.old.residences k d) p }
-        requires common { (d : ResidenceFor) → IsCommonPage self.old (slice_index_or self.old.residences k d) p }
+        requires shared { (d : ResidenceFor) → IsSharedPage self.old (slice_index_or self.old.residences k d) p }
         ensures { (d : ResidenceFor) → IsFixedIn self.old self.new (slice_index_or self.old.residences k d) p }
     {
         let mut copy = copy;
@@ -144,4 +144,4 @@ impl View {
 }
 
 ghost use Rattle.load_model.specs.Modules.{source_count};
-ghost use Rattle.process_view.specs.Deeds.{CanMap, IsCommonPage, IsFixedIn};
+ghost use Rattle.process_view.specs.Deeds.{CanMap, IsSharedPage, IsFixedIn};

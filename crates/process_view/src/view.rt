@@ -5,10 +5,10 @@ ghost use Rattle.std.specs.Arc.{arc_value};
 ghost use Rattle.load_model.specs.State.{pids, is_among};
 ghost use Rattle.process_view.specs.ProcessViews.{at_front, new_view};
 
-use hold_rows::Holder;
 use load_core::Board;
 use mod_graph::Library;
-use process_pages::{NameHints, OwnPage, Stay, StayFinder};
+use mod_refs::LoadCounts;
+use process_pages::{NameHints, OwnPage, ReachedResidence, ResidenceFinder};
 use std::alloc::Global;
 use std::marker::Model;
 use std::sync::Arc;
@@ -21,9 +21,9 @@ pub struct View {
     pub(crate) hints: NameHints,
     pub(crate) pid: u32,
     pub(crate) ended: bool,
-    pub(crate) holder: Holder,
-    pub(crate) stays: Vec<Stay>,
-    pub(crate) finder: StayFinder,
+    pub(crate) counts: LoadCounts,
+    pub(crate) residences: Vec<ReachedResidence>,
+    pub(crate) finder: ResidenceFinder,
     pub(crate) pages: Vec<OwnPage>,
     pub(crate) front: u64,
 }
@@ -45,16 +45,16 @@ impl View {
         requires { is_among pids pid ≡ true }
         ensures { result ≡ new_view (arc_value lib) pid }
     {
-        let holder = Holder::new(lib.len());
+        let counts = LoadCounts::new(lib.len());
         let hints = NameHints::of(&lib);
         View {
             lib,
             hints,
             pid,
             ended: false,
-            holder,
-            stays: Vec::new(alloc),
-            finder: StayFinder::none(),
+            counts,
+            residences: Vec::new(alloc),
+            finder: ResidenceFinder::none(),
             pages: Vec::new(alloc),
             front: 0,
         }

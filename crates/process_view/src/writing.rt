@@ -45,7 +45,7 @@ impl View {
     }
 
     /// Writes bytes to an object that all processes share. Nothing is done without memory.
-    pub fn write_common(
+    pub fn write_shared(
         &mut self,
         board: &mut Board,
         k: usize,

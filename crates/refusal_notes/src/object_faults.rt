@@ -68,7 +68,7 @@ fn place(alloc: Global, bytes: &[u8], at: usize) -> Result<String, AllocError> {
     }
 }
 
-// What the kind means, behind the file's name.
+// What the kind means, after the file's name.
 fn add_meaning(
     alloc: Global,
     lines: &mut Lines,

@@ -77,7 +77,7 @@ fn statement(line: &str) -> &str {
     line.split(';').next().unwrap_or("")
 }
 
-// The word behind NAME that says nothing.
+// The word after NAME that says nothing.
 fn window_word(text: &str) -> Option<&'static str> {
     for line in text.split('\n') {
         let line = statement(line);
@@ -112,7 +112,7 @@ fn is_startless(bytes: &[u8]) -> bool {
     bytes.starts_with(b"LX") && flags[1] & 0x80 == 0 && start == [0, 0, 0, 0].as_slice()
 }
 
-// The last part of a path, without what stands behind its last dot.
+// The last part of a path, without what stands after its last dot.
 fn stem(path: &str) -> &str {
     let file = match path.rsplit_once('/') {
         Some((_, file)) => file,

@@ -8,10 +8,10 @@ use crate::object_faults::{Placed, module_notes, object_notes};
 use crate::resources::{bind_meaning, resource_notes};
 use crate::sessions::{named_note, session_notes};
 use crate::watched::{Tell, Watched};
+use answer_model::{DONE, NO_MEMORY, READ_FAILED, REFUSED, USAGE, WRITE_FAILED};
 use def_file::read_def;
-use lx_answer::{DONE, NO_MEMORY, READ_FAILED, REFUSED, USAGE, WRITE_FAILED};
 use lx_ports::{Files, Sink};
-use lx_types::Seq;
+use lx_types::{MAX_FILE, Seq};
 use note_lines::{Fault, Lines, Mark, Told, module_kind, refusal_of};
 use obj_types::{Imp, Imports};
 use omf_outline::{Inputs, read_inputs};
@@ -28,9 +28,6 @@ pub struct Ended<'a> {
     /// Whether a save was tried, and whether it went well.
     pub saved: Option<bool>,
 }
-
-/// The longest file.
-const LONGEST: u32 = 16_777_216;
 
 impl<'a> Ended<'a> {
     fn word(&self, index: usize) -> &'a str {
@@ -119,7 +116,7 @@ fn no_memory(alloc: Global, lines: &mut Lines) -> Result<(), AllocError> {
 
 // The file's bytes, where it can be loaded.
 fn load<F: Files>(alloc: Global, files: &mut F, name: &str) -> Option<Vec<u8>> {
-    files.load(alloc, name, LONGEST).ok()
+    files.load(alloc, name, MAX_FILE).ok()
 }
 
 // The place of the first IN among the words of a link, of which `map` names no OUT. DEF stands before it.

@@ -2,7 +2,7 @@
 
 ghost use Rattle.std.specs.Prelude.{◌≡◌, ◌++◌, IfOk, string_bytes};
 ghost use Rattle.obj_types.specs.declared.refusal.OmfRefusal.TheVariants.{BadIndex};
-ghost use Rattle.lx_answer.specs.FileRefusals.{placed, field, omf_text, lx_kind, lx_text, def_kind, def_text};
+ghost use Rattle.answer_model.specs.FileRefusals.{placed, field, omf_text, lx_kind, lx_text, def_kind, def_text};
 
 use def_model::{DefKind, DefRefusal};
 use lx_types::{LxKind, LxRefusal};

@@ -1,4 +1,4 @@
-//! What is told of a refusal behind the name of its file: where it is, its kind, and its fields.
+//! What is told of a refusal after the name of its file: where it is, its kind, and its fields.
 #![tactic(auto)]
 
 mod files;

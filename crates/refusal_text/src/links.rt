@@ -1,8 +1,8 @@
 //! The refusal of a link.
 
 ghost use Rattle.std.specs.Prelude.{◌≡◌, ◌++◌, IfOk, OnOk, codes};
-ghost use Rattle.lx_answer.specs.FileRefusals.{field};
-ghost use Rattle.lx_answer.specs.LinkRefusals.{named, fixup, sym_text, comdat_text, lay_text, fix_text, entry_text};
+ghost use Rattle.answer_model.specs.FileRefusals.{field};
+ghost use Rattle.answer_model.specs.LinkRefusals.{named, fixup, sym_text, comdat_text, lay_text, fix_text, entry_text};
 
 use link_model::{ComdatRefusal, EntryRefusal, FixRefusal, LayRefusal, SymRefusal};
 use lx_types::{Name, push_escaped};

@@ -1,7 +1,7 @@
 //! What is told of resource files and of modules to which resources are not bound.
 
 ghost use Rattle.std.specs.Prelude.{◌≡◌, IfOk, string_bytes};
-ghost use Rattle.lx_answer.specs.ResourceRefusals.{bind_text, res_text};
+ghost use Rattle.answer_model.specs.ResourceRefusals.{bind_text, res_text};
 
 use res_model::{BindRefusal, ResRefusal};
 use std::alloc::{AllocError, Global};

@@ -1,7 +1,7 @@
 //! The first fault of a session, and why modules are no library.
 
 ghost use Rattle.std.specs.Prelude.{◌≡◌, IfOk, string_bytes};
-ghost use Rattle.lx_answer.specs.SessionRefusals.{library_text, session_kind, session_text};
+ghost use Rattle.answer_model.specs.SessionRefusals.{library_text, session_kind, session_text};
 
 use lx_model::LibraryRefusal;
 use session_model::{SessionKind, SessionRefusal};

@@ -1,5 +1,7 @@
 -- What a layout says of its own numbers: its places rise, from the file's end on, up to the most bytes of a file.
 use Rattle.std.proofs.Common.{◌≡◌, ℕ, ◌+◌, ◌-◌, ◌*◌, ◌<◌, ◌≤◌, Bool, true, false, cond, eqb, List, length, refl, subst, ap, arith}
+use Rattle.lx_model.specs.declared.lengths.TheConstants.{RESOURCE_ENTRY_LEN}
+use Rattle.lx_model.specs.declared.header_fields.TheConstants.{DATA_PAGES}
 use Rattle.lx_model.specs.Header.{field}
 use Rattle.lx_model.specs.FixupPages.{has_records}
 use Rattle.lx_types.specs.declared.object.ObjHead.{ObjHead}
@@ -16,12 +18,12 @@ use Rattle.res_bind.proofs.Multiples.{unit_above}
 
 -- ---- the places one by one
 
-end_above : (file : List ℕ) → (length file ≤ end_of file) × (field file 0x80 ≤ end_of file)
+end_above : (file : List ℕ) → (length file ≤ end_of file) × (field file DATA_PAGES ≤ end_of file)
 end_above file = (omega arith, omega arith)
 
 paged_above : (file : List ℕ) → 1 ≤ page_unit file → end_of file ≤ paged_place file
 paged_above file some =
-    let above = unit_above (end_of file - field file 0x80) (page_unit file) some in
+    let above = unit_above (end_of file - field file DATA_PAGES) (page_unit file) some in
     let ends = end_above file in
     let low = ends.1 in
     omega (arith, above, low)
@@ -49,7 +51,7 @@ resources_above : (file : List ℕ) (items : List ResItem) → fixups_place file
 unfolding resources_place
 resources_above file items = by_pages (has_records file) _ _ (fixups_place file items) (omega arith) (omega arith)
 
-end_is : (file : List ℕ) (items : List ResItem) → end_place file items ≡ resources_place file items + 14 * length items
+end_is : (file : List ℕ) (items : List ResItem) → end_place file items ≡ resources_place file items + RESOURCE_ENTRY_LEN * length items
 unfolding end_place
 end_is file items = refl
 
@@ -62,7 +64,7 @@ pub record LayoutFacts (file : List ℕ) (tables : OldTables) (items : List ResI
   pub page_table : layout.objects ≤ layout.page_table
   pub fixups : layout.page_table ≤ layout.fixups
   pub resources : layout.fixups ≤ layout.resources
-  pub most : layout.resources + 14 * length items ≤ 16777216
+  pub most : layout.resources + RESOURCE_ENTRY_LEN * length items ≤ 16777216
   pub size : object_size items ≤ 16777216
 
 pub facts : {file : List ℕ} {tables : OldTables} {objects : List ObjHead} {items : List ResItem} {layout : Layout} → IsPlanOf file tables objects items layout → LayoutFacts file tables items layout

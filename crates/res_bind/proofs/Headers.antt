@@ -3,8 +3,10 @@ use Rattle.std.proofs.Common.{◌≡◌, ℕ, ◌+◌, ◌≤◌, ◌<◌, ◌^�
 use Rattle.std.proofs.lemmas.Bool.{ltb-false, leb-true}
 use Rattle.lx_types.specs.declared.refusal.LxRefusal.{LxRefusal}
 use Rattle.lx_types.specs.declared.refusal.LxKind.TheVariants.{Short, Field, TooMany}
+use Rattle.lx_types.specs.declared.limits.TheConstants.{MAX_PAGES, MAX_OBJECTS}
+use Rattle.lx_model.specs.declared.header_fields.TheConstants.{MODULE_PAGES, PAGE_OFFSET_SHIFT, OBJECT_COUNT, HEAP_SIZE}
 use Rattle.lx_model.specs.Reading.{fault, number_at, first}
-use Rattle.lx_model.specs.Header.{row, rows, row_fault, place_fault, header_place, header_fault, header_fields, field, MOST_PAGES, MOST_OBJECTS}
+use Rattle.lx_model.specs.Header.{row, rows, row_fault, place_fault, header_place, header_fault, header_fields, field}
 use Rattle.lx_model.specs.Module.{IsRead, LxFault}
 use Rattle.lx_model.proofs.Firsts.{then_none}
 use Rattle.lx_model.proofs.Each.{each_first}
@@ -30,25 +32,25 @@ unfolding header_fault field
 head_is file h short none place fields =
     let at = header_place file in
     let good = each_first (row_fault file at) rows (then_none (place_fault file) (first (map (row_fault file at) rows)) none).1 in
-    let pages : row_fault file at (row 0x14 4 (λ v. leb v MOST_PAGES) TooMany) ≡ None = good.1.1.1.1.1.1.1.0 in
-    let shift : row_fault file at (row 0x2C 4 (λ v. leb v 12) Field) ≡ None = good.1.1.1.1.1.1.1.1.1.1.1.1.1.0 in
-    let objects : row_fault file at (row 0x44 4 (λ v. leb v MOST_OBJECTS) TooMany) ≡ None = good.1.1.1.1.1.1.1.1.1.1.1.1.1.1.1.1.1.1.1.0 in
-    let last : row_fault file at (row 0xA8 4 (λ _. true) Field) ≡ None = good.1.1.1.1.1.1.1.1.1.1.1.1.1.1.1.1.1.1.1.1.1.1.1.1.1.1.1.1.1.1.1.1.1.1.1.1.1.1.1.1.1.1.1.1.0 in
+    let pages : row_fault file at (row MODULE_PAGES 4 (λ v. leb v MAX_PAGES) TooMany) ≡ None = good.1.1.1.1.1.1.1.0 in
+    let shift : row_fault file at (row PAGE_OFFSET_SHIFT 4 (λ v. leb v 12) Field) ≡ None = good.1.1.1.1.1.1.1.1.1.1.1.1.1.0 in
+    let objects : row_fault file at (row OBJECT_COUNT 4 (λ v. leb v MAX_OBJECTS) TooMany) ≡ None = good.1.1.1.1.1.1.1.1.1.1.1.1.1.1.1.1.1.1.1.0 in
+    let last : row_fault file at (row HEAP_SIZE 4 (λ _. true) Field) ≡ None = good.1.1.1.1.1.1.1.1.1.1.1.1.1.1.1.1.1.1.1.1.1.1.1.1.1.1.1.1.1.1.1.1.1.1.1.1.1.1.1.1.1.1.1.1.0 in
     record {
       short = short;
       place = place;
       fields = fields;
-      long = let le = ltb-false (length file) (at + 0xA8 + 4) (there (ltb (length file) (at + 0xA8 + 4)) true (fault Short (at + 0xA8)) (fault Field (at + 0xA8)) last) in omega (arith, le);
-      shift = leb-true (number_at 4 file (at + 0x2C)) 12 (allowed (ltb (length file) (at + 0x2C + 4)) (leb (number_at 4 file (at + 0x2C)) 12) (fault Short (at + 0x2C)) (fault Field (at + 0x2C)) shift);
-      few_pages = leb-true (number_at 4 file (at + 0x14)) MOST_PAGES (allowed (ltb (length file) (at + 0x14 + 4)) (leb (number_at 4 file (at + 0x14)) MOST_PAGES) (fault Short (at + 0x14)) (fault TooMany (at + 0x14)) pages);
-      few_objects = leb-true (number_at 4 file (at + 0x44)) MOST_OBJECTS (allowed (ltb (length file) (at + 0x44 + 4)) (leb (number_at 4 file (at + 0x44)) MOST_OBJECTS) (fault Short (at + 0x44)) (fault TooMany (at + 0x44)) objects);
+      long = let le = ltb-false (length file) (at + HEAP_SIZE + 4) (there (ltb (length file) (at + HEAP_SIZE + 4)) true (fault Short (at + HEAP_SIZE)) (fault Field (at + HEAP_SIZE)) last) in omega (arith, le);
+      shift = leb-true (number_at 4 file (at + PAGE_OFFSET_SHIFT)) 12 (allowed (ltb (length file) (at + PAGE_OFFSET_SHIFT + 4)) (leb (number_at 4 file (at + PAGE_OFFSET_SHIFT)) 12) (fault Short (at + PAGE_OFFSET_SHIFT)) (fault Field (at + PAGE_OFFSET_SHIFT)) shift);
+      few_pages = leb-true (number_at 4 file (at + MODULE_PAGES)) MAX_PAGES (allowed (ltb (length file) (at + MODULE_PAGES + 4)) (leb (number_at 4 file (at + MODULE_PAGES)) MAX_PAGES) (fault Short (at + MODULE_PAGES)) (fault TooMany (at + MODULE_PAGES)) pages);
+      few_objects = leb-true (number_at 4 file (at + OBJECT_COUNT)) MAX_OBJECTS (allowed (ltb (length file) (at + OBJECT_COUNT + 4)) (leb (number_at 4 file (at + OBJECT_COUNT)) MAX_OBJECTS) (fault Short (at + OBJECT_COUNT)) (fault TooMany (at + OBJECT_COUNT)) objects);
     }
 
 -- the shift as the header has it
 pub shift_of : (file : List ℕ) (h : Head) → IsHeadOf file h → get_or h.fields 11 0 ≤ 12
 unfolding field
 shift_of file h is =
-    let same : get_or h.fields 11 0 ≡ number_at 4 file (header_place file + 0x2C) = ap (λ (xs : List ℕ). get_or xs 11 0) is.fields in
+    let same : get_or h.fields 11 0 ≡ number_at 4 file (header_place file + PAGE_OFFSET_SHIFT) = ap (λ (xs : List ℕ). get_or xs 11 0) is.fields in
     omega (arith, same, is.shift)
 
 pub header_long : (file : List ℕ) → HasHeader file → header_place file + 0xAC ≤ length file

@@ -1,4 +1,4 @@
--- Numbers in a file, and tables behind what was written before.
+-- Numbers in a file, and tables after what was written before.
 use Rattle.std.proofs.Common.{◌≡◌, ℕ, ◌+◌, ◌-◌, List, [], ◌∷◌, ◌++◌, length, take, drop, sym, ap, ◌∙◌, append_assoc, append-nil, arith}
 use Rattle.std.proofs.lemmas.List.{take_rest, drop-drop, length-drop}
 use Rattle.byteorder.specs.Endian as order
@@ -34,7 +34,7 @@ old_part file place at len m p q =
     let n : len ≡ at + m - at = omega (arith, q) in
     ap (λ (t : ℕ). take len (drop t file)) p ∙ ap (λ (k : ℕ). take k (drop at file)) n
 
--- old entries and new ones behind what was written
+-- old entries and new ones after what was written
 pub joined : (out part entry middle after old new : List ℕ) → middle ≡ out ++ part → after ≡ middle ++ entry → part ≡ old → entry ≡ new → after ≡ out ++ (old ++ new)
 joined out part entry middle after old new p q r s =
     q ∙ ap (λ (xs : List ℕ). xs ++ entry) (p ∙ ap (λ (b : List ℕ). out ++ b) r) ∙ ap (λ (e : List ℕ). (out ++ old) ++ e) s ∙ append_assoc out old new

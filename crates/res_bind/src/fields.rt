@@ -1,17 +1,22 @@
 //! The fields of the header that name the new tables.
 
 ghost use Rattle.std.specs.Prelude.{◌≡◌, ◌+◌, ◌≤◌, length};
-ghost use Rattle.res_model.specs.Bound.{with_number, with_fields};
+ghost use Rattle.res_model.specs.Bound.{with_field, with_fields};
 ghost use Rattle.res_bind.specs.Numbers.{IsPlanOf};
 
 use crate::plan::Plan;
 use byteorder::{ByteOrder, LittleEndian};
+use lx_model::header_fields::{
+    FIXUP_PAGE_TABLE, MODULE_PAGES, OBJECT_COUNT, OBJECT_PAGE_TABLE, OBJECT_TABLE, RESOURCE_COUNT,
+    RESOURCE_TABLE,
+};
 
-// Puts a number into the four bytes at a place.
-fn set(file: &mut [u8], at: usize, value: u32)
-    requires { at + 4 ≤ length file.old }
-    ensures { file.new ≡ with_number at value file.old }
+// Puts a number into a field of the header at a place.
+fn set(file: &mut [u8], header: u32, offset: u8, value: u32)
+    requires { header + offset + 4 ≤ length file.old }
+    ensures { file.new ≡ with_field header offset value file.old }
 {
+    let at = header as usize + offset as usize;
     LittleEndian::write_u32(&mut file[at..], value);
 }
 
@@ -24,14 +29,14 @@ pub fn set_fields(file: &mut [u8], plan: &Plan<'_>)
 {
     let tables = plan.tables;
     let layout = plan.layout;
-    let header = tables.header as usize;
-    set(file, header + 0x14, tables.pages + layout.pages);
-    set(file, header + 0x40, layout.objects - tables.header);
-    set(file, header + 0x44, tables.objects + 1);
-    set(file, header + 0x48, layout.page_table - tables.header);
-    set(file, header + 0x50, layout.resources - tables.header);
-    set(file, header + 0x54, plan.items.len() as u32);
+    let header = tables.header;
+    set(file, header, MODULE_PAGES, tables.pages + layout.pages);
+    set(file, header, OBJECT_TABLE, layout.objects - header);
+    set(file, header, OBJECT_COUNT, tables.objects + 1);
+    set(file, header, OBJECT_PAGE_TABLE, layout.page_table - header);
+    set(file, header, RESOURCE_TABLE, layout.resources - header);
+    set(file, header, RESOURCE_COUNT, plan.items.len() as u32);
     if tables.has_records {
-        set(file, header + 0x68, layout.fixups - tables.header);
+        set(file, header, FIXUP_PAGE_TABLE, layout.fixups - header);
     }
 }

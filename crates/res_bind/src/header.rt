@@ -4,6 +4,7 @@ ghost use Rattle.std.specs.Prelude.{◌≡◌, ◌+◌, ◌<◌, ◌≤◌, ◌^
 ghost use Rattle.res_bind.specs.Numbers.{AreTablesOf, HasHeader, IsHeadOf};
 
 use lx_head::{Head, read_head};
+use lx_model::header_fields::RESOURCE_COUNT;
 
 /// The numbers of a file's tables, and their places in the file.
 #[derive(Clone, Copy)]
@@ -53,7 +54,7 @@ fn tables_of(head: &Head) -> OldTables
         page_table: place_of(head, head.page_table()),
         fixup_pages: place_of(head, head.fixup_page_table()),
         has_records: head.fixup_page_table() != 0,
-        resources: head.fields[0x54 / 4],
+        resources: head.fields[RESOURCE_COUNT as usize / 4],
     }
 }
 

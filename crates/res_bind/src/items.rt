@@ -5,6 +5,7 @@ ghost use Rattle.res_model.specs.Placed.{data_from, entries_from, entry_spelling
 
 use crate::units::aligned;
 use byteorder::{ByteOrder, LittleEndian};
+use lx_model::RESOURCE_ENTRY_LEN;
 use lx_types::NoMemory;
 use res_model::ResItem;
 
@@ -18,7 +19,7 @@ fn push_zeros(out: &mut Vec<u8>, count: u64) -> Result<(), NoMemory>
     Ok(out.resize(end, 0)?)
 }
 
-/// Appends the items, each at the least multiple of 4 behind the one before it.
+/// Appends the items, each at the least multiple of 4 after the one before it.
 #[tactic(auto, using(crate::proofs::Sizes::data_turn, crate::proofs::Sizes::data_end, crate::proofs::Sizes::size_turn, crate::proofs::Sizes::end_above))]
 pub fn push_items(out: &mut Vec<u8>, items: &[ResItem]) -> Result<(), NoMemory>
     requires { object_size items.now < 2 ^ 32 }
@@ -36,11 +37,11 @@ pub fn push_items(out: &mut Vec<u8>, items: &[ResItem]) -> Result<(), NoMemory>
 }
 
 // An entry of the resource table.
-fn entry_bytes(item: &ResItem, object: u16, offset: u32) -> [u8; 14]
+fn entry_bytes(item: &ResItem, object: u16, offset: u32) -> [u8; RESOURCE_ENTRY_LEN]
     requires { length item.now.bytes < 2 ^ 32 }
     ensures { result ≡ entry_spelling object (record { item = item.now; offset = offset }) }
 {
-    let mut bytes = [0; 14];
+    let mut bytes = [0; RESOURCE_ENTRY_LEN];
     LittleEndian::write_u16(&mut bytes[..2], item.ty);
     LittleEndian::write_u16(&mut bytes[2..4], item.id);
     LittleEndian::write_u32(&mut bytes[4..8], item.bytes.as_slice().len() as u32);

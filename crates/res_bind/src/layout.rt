@@ -5,21 +5,12 @@ ghost use Rattle.res_model.specs.Placed.{aligned};
 ghost use Rattle.res_bind.specs.Numbers.{AreTablesOf};
 ghost use Rattle.res_model.specs.Layout.{data_place};
 ghost use Rattle.res_bind.specs.Layouts.{IsSizeOf, GivesLayout};
-ghost use Rattle.res_model.specs.Refusal.{MOST_BYTES};
 
 use crate::header::OldTables;
 use crate::units::{aligned, up_to_unit};
-use lx_types::PAGE_SIZE;
+use lx_model::{OBJECT_ENTRY_LEN, PAGE_ENTRY_LEN, RESOURCE_ENTRY_LEN};
+use lx_types::{MAX_FILE, MAX_OBJECTS, MAX_PAGES, PAGE_SIZE};
 use res_model::{BindRefusal, ResItem};
-
-/// The longest file that is written, in bytes.
-const LONGEST_FILE: u64 = 16_777_216;
-
-/// The most objects that a module may have.
-const MOST_OBJECTS: u32 = 1024;
-
-/// The most pages that a module may have.
-const MOST_PAGES: u32 = 65_536;
 
 /// The new object's size and pages, and the places in the file where its bytes and the new tables begin.
 #[derive(Clone, Copy)]
@@ -33,7 +24,7 @@ pub struct Layout {
     pub resources: u32,
 }
 
-// Where an item ends behind so many bytes of the object, where that has 32 bits.
+// Where an item that stands after so many bytes of the object ends, where that has 32 bits.
 fn end_behind(end: u32, item: &ResItem) -> Option<u32>
     ensures { MatchOption result
         (2 ^ 32 ≤ aligned end + length item.now.bytes) (λ n. n ≡ aligned end + length item.now.bytes) }
@@ -73,9 +64,9 @@ fn data_place(file: &[u8], old: &OldTables, pages: u32) -> u64
 
 // Whether a file of so many bytes is too large.
 pub fn is_too_large(bytes: u64) -> bool
-    ensures { result ≡ nat_lt MOST_BYTES bytes }
+    ensures { result ≡ nat_lt MAX_FILE bytes }
 {
-    bytes > LONGEST_FILE
+    bytes > u64::from(MAX_FILE)
 }
 
 /// The layout of a file with these items, or what is refused.
@@ -88,20 +79,20 @@ pub fn layout_of(file: &[u8], old: &OldTables, items: &[ResItem]) -> Result<Layo
         return Err(BindRefusal::TooMany);
     };
     let pages = size.div_ceil(PAGE_SIZE);
-    if old.objects >= MOST_OBJECTS || old.pages + pages > MOST_PAGES {
+    if old.objects >= MAX_OBJECTS || old.pages + pages > MAX_PAGES {
         return Err(BindRefusal::TooMany);
     }
     let contents = data_place(file, old, pages);
     let objects = contents + u64::from(size);
-    let page_table = objects + 24 * u64::from(old.objects + 1);
-    let fixups = page_table + 8 * u64::from(old.pages + pages);
+    let page_table = objects + OBJECT_ENTRY_LEN as u64 * u64::from(old.objects + 1);
+    let fixups = page_table + PAGE_ENTRY_LEN as u64 * u64::from(old.pages + pages);
     let resources = if old.has_records {
         fixups + 4 * u64::from(old.pages + pages + 1)
     } else {
         fixups
     };
     let count = items.len() as u64;
-    if is_too_large(count) || is_too_large(resources + 14 * count) {
+    if is_too_large(count) || is_too_large(resources + RESOURCE_ENTRY_LEN as u64 * count) {
         return Err(BindRefusal::TooLarge);
     }
     Ok(Layout {

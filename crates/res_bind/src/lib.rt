@@ -1,5 +1,5 @@
 //! Resources bound to a module: the items of a resource file become one object more of its file, which the resource table
-//! then names ("LX - Linear eXecutable Module Format": "Resource Table").
+//! then names ("32-bit Linear eXecutable Module Format": "Resource Table").
 #![tactic(auto)]
 
 mod binding;

@@ -9,14 +9,10 @@ ghost use Rattle.res_bind.specs.Numbers.{IsPlanOf};
 use crate::plan::Plan;
 use crate::units::up_to_unit;
 use lx_head::{write_objects, write_pages};
-use lx_types::{Bytes, NoMemory, ObjHead, PAGE_SIZE, PageHead, PageKind};
+use lx_model::{OBJECT_ENTRY_LEN, PAGE_ENTRY_LEN};
+use lx_types::{BASE_UNIT, Bytes, NoMemory, ObjHead, PAGE_SIZE, PageHead, PageKind};
+use res_model::RESOURCE_OBJECT_FLAGS;
 use std::alloc::Global;
-
-/// The flags of the new object: readable, a resource, and 32-bit.
-const OBJECT_FLAGS: u32 = 0x2009;
-
-/// Bases are multiples of this.
-const UNIT: u64 = 0x1_0000;
 
 /// The last base.
 const LAST_BASE: u64 = 0xFFFF_0000;
@@ -30,7 +26,7 @@ fn base_above(objects: &[ObjHead]) -> u32
     for object in objects {
         end = end.max(u64::from(object.base) + u64::from(object.size));
     }
-    let base = up_to_unit(end, UNIT);
+    let base = up_to_unit(end, u64::from(BASE_UNIT));
     if base > LAST_BASE { 0 } else { base as u32 }
 }
 
@@ -43,7 +39,7 @@ fn new_object(plan: &Plan<'_>) -> ObjHead
     ObjHead {
         size: layout.size,
         base: base_above(plan.objects),
-        flags: OBJECT_FLAGS,
+        flags: RESOURCE_OBJECT_FLAGS,
         first: if layout.pages == 0 {
             0
         } else {
@@ -85,7 +81,11 @@ pub fn push_objects(alloc: Global, out: &mut Vec<u8>, plan: &Plan<'_>) -> Result
     ensures { OnOk result (out.new.items ≡ out.old.items ++ object_table plan.now.file.now plan.now.items.now) }
 {
     let count = plan.tables.objects as usize;
-    out.extend_from_slice(part(plan.file, plan.tables.object_table, 24 * count))?;
+    out.extend_from_slice(part(
+        plan.file,
+        plan.tables.object_table,
+        OBJECT_ENTRY_LEN * count,
+    ))?;
     let entry = object_entry(alloc, plan)?;
     Ok(out.extend_from_slice(entry.as_slice())?)
 }
@@ -134,7 +134,7 @@ pub fn push_pages(alloc: Global, out: &mut Vec<u8>, plan: &Plan<'_>) -> Result<(
     ensures { OnOk result (out.new.items ≡ out.old.items ++ page_table plan.now.file.now plan.now.items.now) }
 {
     let count = plan.tables.pages as usize;
-    out.extend_from_slice(part(plan.file, plan.tables.page_table, 8 * count))?;
+    out.extend_from_slice(part(plan.file, plan.tables.page_table, PAGE_ENTRY_LEN * count))?;
     let entry = page_entries(alloc, plan)?;
     Ok(out.extend_from_slice(entry.as_slice())?)
 }

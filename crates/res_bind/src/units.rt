@@ -13,7 +13,7 @@ pub fn up_to_unit(n: u64, unit: u64) -> u64
     (n + (unit - 1)) / unit * unit
 }
 
-/// Where the next item stands behind so many bytes of the object.
+/// Where the next item stands after so many bytes of the object.
 pub fn aligned(end: u64) -> u64
     requires { end < 2 ^ 63 }
     ensures is { result ≡ aligned end }

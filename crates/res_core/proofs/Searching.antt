@@ -5,6 +5,7 @@ use Rattle.std.proofs.Common.{◌≤◌, ◌&&◌, length, nat_le}
 use Rattle.std.proofs.lemmas.Bool.Decides.{nat_tests}
 use Rattle.lx_types.specs.declared.parts.Parts.{Parts}
 use Rattle.lx_types.specs.declared.resource.ResSpot.{ResSpot}
+use Rattle.lx_model.specs.declared.lengths.TheConstants.{RESOURCE_ENTRY_LEN}
 use Rattle.lx_model.specs.Resources.{Resource, Res, resources_of, resource_at, resource_table, resource_count, has_key, is_in_object, is_whole}
 use Rattle.res_core.specs.Found.{found_at}
 
@@ -65,7 +66,7 @@ past_end m ty id r e = grind (arith, nat_tests)
 
 -- entry k of a table
 abbrev pub entry_at : Parts → ℕ → ℕ → Resource
-entry_at m table k = resource_at m.file (table + 14 * k)
+entry_at m table k = resource_at m.file (table + RESOURCE_ENTRY_LEN * k)
 
 pub no_resource : (m : Parts) (ty id table count : ℕ) → table ≡ resource_table m.file → count ≡ resource_count m.file → ((j : ℕ) → j < count → counts m ty id (entry_at m table j) ≡ false) →
     None ≡ Res m ty id
@@ -77,7 +78,7 @@ no_resource m ty id table count e f h =
     ∙ ap (option_map (λ r. r.spot)) (none_from_start (counts m ty id) (entry_at m table) count h))
 
 pub a_resource :
-    (m : Parts) (ty id table count k : ℕ) (spot : ResSpot) → table ≡ resource_table m.file → count ≡ resource_count m.file → k < count → table + 14 * k + 14 ≤ length m.file →
+    (m : Parts) (ty id table count k : ℕ) (spot : ResSpot) → table ≡ resource_table m.file → count ≡ resource_count m.file → k < count → table + RESOURCE_ENTRY_LEN * k + 14 ≤ length m.file →
     ((j : ℕ) → j < k → counts m ty id (entry_at m table j) ≡ false) → found_at m ty id (entry_at m table k) ≡ Some spot → Some spot ≡ Res m ty id
 unfolding Res resources_of
 a_resource m ty id table count k spot e f u v h found =

@@ -4,10 +4,12 @@ ghost use Rattle.std.specs.Prelude.{◌≡◌, ◌+◌, ◌*◌, ◌<◌, ◌≤
 ghost use Rattle.lx_model.specs.Resources.{Res, has_key, is_in_object, is_whole, resource_at};
 
 use lx_fields::{doubleword_at, header_field, table_place, word_at};
+use lx_model::RESOURCE_ENTRY_LEN;
+use lx_model::header_fields::{RESOURCE_COUNT, RESOURCE_TABLE};
 use lx_types::{Module, ResSpot};
 
 /// How many bytes an entry of the resource table has.
-const ENTRY_SIZE: u64 = 14;
+const ENTRY_SIZE: u64 = RESOURCE_ENTRY_LEN as u64;
 
 // Whether the bytes lie in an object of the module.
 fn is_in_object(m: &Module, spot: ResSpot) -> bool
@@ -23,7 +25,7 @@ fn is_in_object(m: &Module, spot: ResSpot) -> bool
 
 // The entry at a place of the file, where it is of this type and identifier and its bytes lie in an object.
 fn spot_at(m: &Module, at: usize, ty: u16, id: u16) -> Option<ResSpot>
-    requires { at + 14 ≤ length m.now.file }
+    requires { at + RESOURCE_ENTRY_LEN ≤ length m.now.file }
     ensures { result ≡ found_at m.now ty id (resource_at m.now.file at) }
 {
     let file = m.file();
@@ -52,8 +54,8 @@ pub fn find(m: &Module, ty: u16, id: u16) -> Option<ResSpot>
     ensures { result ≡ Res m.now ty id }
 {
     let file = m.file();
-    let table = table_place(file, 0x50);
-    for k in 0..header_field(file, 0x54) {
+    let table = table_place(file, RESOURCE_TABLE);
+    for k in 0..header_field(file, RESOURCE_COUNT) {
         let at = table + ENTRY_SIZE * u64::from(k);
         if at + ENTRY_SIZE > file.len() as u64 {
             return None;

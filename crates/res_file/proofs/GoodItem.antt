@@ -6,7 +6,8 @@ use Rattle.lx_bytes.specs.LittleEndian.{AreBytes, little, little_bytes}
 use Rattle.lx_bytes.proofs.Numbers.{little_bytes-little}
 use Rattle.lx_model.specs.Reading.{number_at, ◌then◌}
 use Rattle.lx_model.proofs.Firsts.{then_none}
-use Rattle.res_model.specs.ItemFields.{MARK, FIELDS, type_at, id_at, length_at, item_at, short_field, mark_fault, fields_fault}
+use Rattle.res_model.specs.declared.item.TheConstants.{MARK, FIELDS}
+use Rattle.res_model.specs.ItemFields.{type_at, id_at, length_at, item_at, short_field, mark_fault, fields_fault}
 use Rattle.res_model.specs.ResFile.{item_spelling, ItemFits}
 use Rattle.res_model.specs.declared.refusal.ResRefusal.{ResRefusal}
 use Rattle.res_model.specs.declared.refusal.ResRefusal.TheVariants.{Short, BadItem}

@@ -11,7 +11,8 @@ use Rattle.lx_types.proofs.Lists.{all_joined}
 use Rattle.lx_bytes.specs.LittleEndian.{AreBytes}
 use Rattle.lx_model.specs.Reading.{◌then◌}
 use Rattle.lx_model.proofs.Takes.{AreBytes-drop}
-use Rattle.res_model.specs.ItemFields.{FIELDS, type_at, id_at, length_at, item_at, fields_fault}
+use Rattle.res_model.specs.declared.item.TheConstants.{FIELDS}
+use Rattle.res_model.specs.ItemFields.{type_at, id_at, length_at, item_at, fields_fault}
 use Rattle.res_model.specs.ResFile.{item_spelling, items_spelling, ItemFits, has_key, same_key, AreApart, IsResFile}
 use Rattle.res_model.specs.Faults.{FirstFault, item_fault, is_second}
 use Rattle.res_file.specs.Seen.{AreRead, AreKeysOf, Key, same}

@@ -4,16 +4,10 @@ ghost use Rattle.std.specs.Prelude.{◌≡◌, ◌+◌, ◌<◌, ◌^◌, ◌≤
 ghost use Rattle.lx_types.specs.Answers.{as_is};
 ghost use Rattle.lx_model.specs.Judging.{Judged, Judges};
 ghost use Rattle.lx_model.specs.Reading.{number_at};
-ghost use Rattle.res_model.specs.ItemFields.{FIELDS, fields_fault, item_at, length_at, mark_fault, short_field};
+ghost use Rattle.res_model.specs.ItemFields.{fields_fault, item_at, length_at, mark_fault, short_field};
 
 use byteorder::{ByteOrder, LittleEndian};
-use res_model::ResRefusal;
-
-/// What stands before the type and before the identifier.
-const MARK: u8 = 0xFF;
-
-/// How many bytes stand before the bytes of a resource.
-pub const FIELDS: usize = 12;
+use res_model::{FIELDS, MARK, ResRefusal};
 
 /// An item whose bytes lie in the file.
 #[derive(Clone, Copy)]
@@ -61,7 +55,7 @@ fn word(left: &[u8], at: usize, offset: usize) -> Result<u16, ResRefusal>
     Ok(LittleEndian::read_u16(&left[offset..]))
 }
 
-// How many bytes of data there are, behind the other fields.
+// How many bytes of data there are, after the other fields.
 fn data_length(left: &[u8], at: usize) -> Result<usize, ResRefusal>
     requires { at + 8 < 2 ^ 64 }
     ensures read { Judges as_is result (length_at left.now) (short_field at left.now 8 4) }

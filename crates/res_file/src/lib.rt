@@ -1,4 +1,4 @@
-//! Resource files of this profile: items with a type and an identifier, one behind the other (docs/FORMATS.md, "Resource files").
+//! Resource files of this profile: items with a type and an identifier, one after the other (docs/FORMATS.md, "Resource files").
 #![tactic(auto)]
 
 mod fields;

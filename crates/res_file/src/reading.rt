@@ -5,9 +5,9 @@ ghost use Rattle.lx_types.specs.Answers.{Answers};
 ghost use Rattle.res_model.specs.ResFile.{IsResFile};
 ghost use Rattle.res_model.specs.Faults.{FirstFault};
 
-use crate::fields::{FIELDS, Spelled, next_item};
+use crate::fields::{Spelled, next_item};
 use lx_types::{Fail, NoMemory, Seq};
-use res_model::{ResItem, ResRefusal};
+use res_model::{FIELDS, ResItem, ResRefusal};
 use std::alloc::Global;
 use std::collections::HashSet;
 

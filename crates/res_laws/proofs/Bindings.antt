@@ -5,11 +5,13 @@ use Rattle.std.specs.List.{range_with_len}
 use Rattle.std.proofs.lemmas.List.Elements.{All-nil}
 use Rattle.std.proofs.lemmas.Bool.{eqb-true}
 use Rattle.lx_types.specs.declared.parts.Parts.{Parts}
+use Rattle.lx_model.specs.declared.lengths.TheConstants.{RESOURCE_ENTRY_LEN}
+use Rattle.lx_model.specs.declared.header_fields.TheConstants.{RESOURCE_COUNT}
 use Rattle.lx_model.specs.Header.{field}
 use Rattle.lx_model.specs.Module.{IsRead, parts_of}
 use Rattle.lx_model.specs.Library.{module_of}
 use Rattle.lx_model.specs.Fixed.{Fixed}
-use Rattle.lx_model.specs.Resources.{Resource, RESOURCE_SIZE, resource_at, resource_table, is_whole, Res, resources_of}
+use Rattle.lx_model.specs.Resources.{Resource, resource_at, resource_table, is_whole, Res, resources_of}
 use Rattle.lx_model.specs.Resources as resources
 use Rattle.res_model.specs.ResFile.{AreApart}
 use Rattle.res_model.specs.declared.item.ResItem.{ResItem}
@@ -35,18 +37,18 @@ same_library lib k m is =
     by_test j true e = sym is ∙ ap (module_of lib) (sym (eqb-true j k e))
     by_test j false e = refl
 
-no_resources : (file : List ℕ) (items : List ResItem) → bind_refusal file items ≡ None → (field file 0x54 ≡ 0) × (items_refusal file items ≡ None)
+no_resources : (file : List ℕ) (items : List ResItem) → bind_refusal file items ≡ None → (field file RESOURCE_COUNT ≡ 0) × (items_refusal file items ≡ None)
 unfolding bind_refusal
-no_resources file items e = by_test (eqb (field file 0x54) 0) refl e
+no_resources file items e = by_test (eqb (field file RESOURCE_COUNT) 0) refl e
   where
-    by_test : (b : Bool) → eqb (field file 0x54) 0 ≡ b → cond (not b) (Some HasResources) (items_refusal file items) ≡ None → (field file 0x54 ≡ 0) × (items_refusal file items ≡ None)
-    by_test true is h = (eqb-true (field file 0x54) 0 is, h)
+    by_test : (b : Bool) → eqb (field file RESOURCE_COUNT) 0 ≡ b → cond (not b) (Some HasResources) (items_refusal file items) ≡ None → (field file RESOURCE_COUNT ≡ 0) × (items_refusal file items ≡ None)
+    by_test true is h = (eqb-true (field file RESOURCE_COUNT) 0 is, h)
     by_test false is h = absurd cc
 
-none_found : (m : Parts) (ty id : ℕ) → field m.file 0x54 ≡ 0 → Res m ty id ≡ None
+none_found : (m : Parts) (ty id : ℕ) → field m.file RESOURCE_COUNT ≡ 0 → Res m ty id ≡ None
 unfolding Res resources_of
 none_found m ty id none =
-    ap (λ (n : ℕ). option_map (λ (r : Resource). r.spot) (find (λ r. resources.has_key ty id r && is_whole m r) (map (λ k. resource_at m.file (resource_table m.file + RESOURCE_SIZE * k)) (range_with_len 0 n)))) none
+    ap (λ (n : ℕ). option_map (λ (r : Resource). r.spot) (find (λ r. resources.has_key ty id r && is_whole m r) (map (λ k. resource_at m.file (resource_table m.file + RESOURCE_ENTRY_LEN * k)) (range_with_len 0 n)))) none
 
 unchanged : (m : Parts) → CanBind m [] → Binds m [] m
 unchanged m can = record {

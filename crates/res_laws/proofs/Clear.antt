@@ -3,6 +3,8 @@ use Rattle.std.proofs.Common.{◌≡◌, ℕ, ◌*◌, Bool, true, List, [], ◌
 use Rattle.std.specs.List.{list_all}
 use Rattle.std.proofs.lemmas.List.Folds.{list_all-append}
 use Rattle.std.proofs.lemmas.Bool.{and_parts}
+use Rattle.lx_model.specs.declared.lengths.TheConstants.{OBJECT_ENTRY_LEN, PAGE_ENTRY_LEN}
+use Rattle.lx_model.specs.declared.header_fields.TheConstants.{OBJECT_TABLE, OBJECT_PAGE_TABLE}
 use Rattle.lx_model.specs.Header.{table, page_count, object_count}
 use Rattle.lx_model.specs.Tables.{page_heads}
 use Rattle.res_model.specs.Clear.{Part, part, are_apart, set_parts, place_parts, resident_part, import_part, entry_part, other_parts, fixup_parts, data_part, procedure_parts, read_parts, is_clear}
@@ -16,8 +18,8 @@ is_free file p = list_all (are_apart p) (set_parts file)
 
 pub record Frees (file : List ℕ) : Type 0 where
   pub place : list_all (is_free file) (place_parts file) ≡ true
-  pub objects : is_free file (part (table file 0x40) (24 * object_count file)) ≡ true
-  pub heads : is_free file (part (table file 0x48) (8 * page_count file)) ≡ true
+  pub objects : is_free file (part (table file OBJECT_TABLE) (OBJECT_ENTRY_LEN * object_count file)) ≡ true
+  pub heads : is_free file (part (table file OBJECT_PAGE_TABLE) (PAGE_ENTRY_LEN * page_count file)) ≡ true
   pub residents : is_free file (resident_part file) ≡ true
   pub imports : is_free file (import_part file) ≡ true
   pub entries : is_free file (entry_part file) ≡ true
@@ -30,8 +32,8 @@ pub frees : (file : List ℕ) → is_clear file ≡ true → Frees file
 unfolding is_clear read_parts
 frees file e =
     let q = is_free file in
-    let objects = part (table file 0x40) (24 * object_count file) in
-    let heads = part (table file 0x48) (8 * page_count file) in
+    let objects = part (table file OBJECT_TABLE) (OBJECT_ENTRY_LEN * object_count file) in
+    let heads = part (table file OBJECT_PAGE_TABLE) (PAGE_ENTRY_LEN * page_count file) in
     let two = objects ∷ heads ∷ [] in
     let three = resident_part file ∷ import_part file ∷ entry_part file ∷ [] in
     let contents = map data_part (page_heads file) in

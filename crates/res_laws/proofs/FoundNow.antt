@@ -16,13 +16,14 @@ use Rattle.lx_types.specs.declared.object.PageHead.{PageHead}
 use Rattle.lx_types.specs.declared.object.TheConstants.{PAGE_SIZE}
 use Rattle.lx_types.specs.declared.parts.Parts.{Parts}
 use Rattle.lx_types.specs.declared.resource.ResSpot.{ResSpot}
+use Rattle.lx_model.specs.declared.lengths.TheConstants.{RESOURCE_ENTRY_LEN}
 use Rattle.lx_model.specs.Reading.{number_at}
 use Rattle.lx_model.specs.Header.{page_count, object_count}
 use Rattle.lx_model.specs.Tables.{objects_of, page_heads}
 use Rattle.lx_model.specs.Module.{parts_of}
 use Rattle.lx_model.specs.ModuleBytes.{page_with}
 use Rattle.lx_model.specs.Fixed.{kind_bytes, page_bytes, Raw}
-use Rattle.lx_model.specs.Resources.{Resource, RESOURCE_SIZE, resource_at, resource_table, resource_count, resources_of, is_in_object, is_whole, Res}
+use Rattle.lx_model.specs.Resources.{Resource, resource_at, resource_table, resource_count, resources_of, is_in_object, is_whole, Res}
 use Rattle.lx_model.specs.Resources as found
 use Rattle.res_model.specs.ResFile.{ItemFits, AreApart, same_key, has_key}
 use Rattle.res_model.specs.declared.item.ResItem.{ResItem}
@@ -47,7 +48,7 @@ number_here n v at file ys here fits = ap (λ (zs : List ℕ). little (take n zs
 regroup : (a b c d e t : List ℕ) → a ++ b ++ c ++ d ++ e ++ t ≡ a ++ (b ++ (c ++ (d ++ (e ++ t))))
 regroup a b c d e t = simp append_assoc refl
 
--- where an item lies behind so many bytes of an object
+-- where an item lies after so many bytes of an object
 abbrev spot_of : ℕ → ℕ → ResItem → ResSpot
 spot_of object end i = record { object = object; offset = aligned end; len = length i.bytes }
 
@@ -103,13 +104,13 @@ lies_whole file items r can there object le =
     let now = parts_of (extended file items) in
     let number = new_number file items can in
     let size : (object_of now r.spot.object).size ≡ object_size items = ap (λ (o : ℕ). (object_of now o).size) object ∙ ap (λ (o : ObjHead). o.size) (new_is file items can) ∙ size_is file items in
-    and_from (leb (r.at + RESOURCE_SIZE) (length (extended file items))) (is_in_object now r.spot) (le-leb (r.at + 14) (length (extended file items)) there)
+    and_from (leb (r.at + RESOURCE_ENTRY_LEN) (length (extended file items))) (is_in_object now r.spot) (le-leb (r.at + 14) (length (extended file items)) there)
     (all_three (not (eqb r.spot.object 0)) (leb r.spot.object (length now.objects)) (leb (r.spot.offset + r.spot.len) (object_of now r.spot.object).size)
     (ap (λ (o : ℕ). not (eqb o 0)) object ∙ not_zero (object_count file)) (le-leb r.spot.object (length now.objects) (omega (arith, object, number))) (le-leb (r.spot.offset + r.spot.len) (object_of now r.spot.object).size (omega (arith, size, le))))
 
 -- ---- the search
 
--- where the first item of this type and identifier lies, of items behind so many bytes
+-- where the first item of this type and identifier lies, of items after so many bytes
 abbrev spot_from : ℕ → ℕ → ℕ → ℕ → List ResItem → Option ResSpot
 spot_from object ty id end [] = None
 spot_from object ty id end (i ∷ items) = cond (has_key ty id i) (Some (spot_of object end i)) (spot_from object ty id (aligned end + length i.bytes) items)
@@ -130,14 +131,14 @@ one_more m ty id object end i r rs at is whole o rest =
     by_key true false e = absurd cc
     by_key false true e = absurd cc
 
-search_is : (file : List ℕ) (all items : List ResItem) (ty id end a : ℕ) → CanExtend file all → At (extended file all) (resources_place file all + 14 * a) (entries_from (object_count file + 1) end items) → Each ItemFits items → end_from end items ≡ object_size all → object_size all < 2 ^ 32 →
-    spot_found (parts_of (extended file all)) ty id (map (λ k. resource_at (extended file all) (resources_place file all + 14 * k)) (range_with_len a (length items))) ≡ spot_from (object_count file + 1) ty id end items
+search_is : (file : List ℕ) (all items : List ResItem) (ty id end a : ℕ) → CanExtend file all → At (extended file all) (resources_place file all + RESOURCE_ENTRY_LEN * a) (entries_from (object_count file + 1) end items) → Each ItemFits items → end_from end items ≡ object_size all → object_size all < 2 ^ 32 →
+    spot_found (parts_of (extended file all)) ty id (map (λ k. resource_at (extended file all) (resources_place file all + RESOURCE_ENTRY_LEN * k)) (range_with_len a (length items))) ≡ spot_from (object_count file + 1) ty id end items
 search_is file all [] ty id end a can here fits size small' = refl
 search_is file all (i ∷ items) ty id end a can here fits size small' =
     let now = extended file all in
     let m = parts_of now in
     let object = object_count file + 1 in
-    let at = resources_place file all + 14 * a in
+    let at = resources_place file all + RESOURCE_ENTRY_LEN * a in
     let next = aligned end + length i.bytes in
     let entry = entry_spelling object (record { item = i; offset = aligned end }) in
     let rest = entries_from object next items in
@@ -151,8 +152,8 @@ search_is file all (i ∷ items) ty id end a can here fits size small' =
     let spot_is : r.spot ≡ spot_of object end i = ap (λ (x : Resource). x.spot) is in
     let whole = lies_whole file all r can (omega (arith, long, parts)) (ap (λ (s : ResSpot). s.object) spot_is)
     (let o : r.spot.offset ≡ aligned end = ap (λ (s : ResSpot). s.offset) spot_is in let l : r.spot.len ≡ length i.bytes = ap (λ (s : ResSpot). s.len) spot_is in omega (arith, size, above, o, l)) in
-    let behind = at_place now rest _ (resources_place file all + 14 * (a + 1)) (omega arith) (at_more now entry rest at 14 here refl) in
-    one_more m ty id object end i r (map (λ k. resource_at now (resources_place file all + 14 * k)) (range_with_len (a + 1) (length items))) at is whole (spot_from object ty id next items)
+    let behind = at_place now rest _ (resources_place file all + RESOURCE_ENTRY_LEN * (a + 1)) (omega arith) (at_more now entry rest at 14 here refl) in
+    one_more m ty id object end i r (map (λ k. resource_at now (resources_place file all + RESOURCE_ENTRY_LEN * k)) (range_with_len (a + 1) (length items))) at is whole (spot_from object ty id next items)
     (search_is file all items ty id next (a + 1) can behind fits.1 size small')
 
 res_is : (file : List ℕ) (items : List ResItem) (ty id : ℕ) → CanExtend file items → Res (parts_of (extended file items)) ty id ≡ spot_from (object_count file + 1) ty id 0 items
@@ -161,9 +162,9 @@ res_is file items ty id can =
     let now = extended file items in
     let h = header_now file items can in
     let few = size_small file items can in
-    let here = at_place now (from_resources file items) (resources_place file items) (resources_place file items + 14 * 0) (omega arith) (stands file items can).resources in
-    ap (λ (t : ℕ). spot_found (parts_of now) ty id (map (λ k. resource_at now (t + 14 * k)) (range_with_len 0 (resource_count now)))) h.resources
-    ∙ ap (λ (n : ℕ). spot_found (parts_of now) ty id (map (λ k. resource_at now (resources_place file items + 14 * k)) (range_with_len 0 n))) h.number
+    let here = at_place now (from_resources file items) (resources_place file items) (resources_place file items + RESOURCE_ENTRY_LEN * 0) (omega arith) (stands file items can).resources in
+    ap (λ (t : ℕ). spot_found (parts_of now) ty id (map (λ k. resource_at now (t + RESOURCE_ENTRY_LEN * k)) (range_with_len 0 (resource_count now)))) h.resources
+    ∙ ap (λ (n : ℕ). spot_found (parts_of now) ty id (map (λ k. resource_at now (resources_place file items + RESOURCE_ENTRY_LEN * k)) (range_with_len 0 n))) h.number
     ∙ search_is file items items ty id 0 0 can here can.fit refl (omega (arith, few))
 
 -- ---- what is not found

@@ -6,8 +6,10 @@ use Rattle.std.proofs.lemmas.Bool.Decides.{nat_tests}
 use Rattle.lx_types.specs.declared.object.TheConstants.{PAGE_SIZE}
 use Rattle.lx_types.specs.declared.refusal.LxRefusal.{LxRefusal}
 use Rattle.lx_types.specs.declared.refusal.LxKind.TheVariants.{Short, Field, TooMany, Signature}
+use Rattle.lx_types.specs.declared.limits.TheConstants.{MAX_PAGES, MAX_OBJECTS}
+use Rattle.lx_model.specs.declared.header_fields.TheConstants.{BYTE_ORDER, WORD_ORDER, FORMAT_LEVEL, CPU_TYPE, SYSTEM_TYPE, MODULE_VERSION, MODULE_FLAGS, MODULE_PAGES, EIP_OBJECT, EIP, ESP_OBJECT, ESP, PAGE_SIZE_FIELD, PAGE_OFFSET_SHIFT, FIXUP_SECTION_SIZE, FIXUP_SECTION_CHECKSUM, LOADER_SECTION_SIZE, LOADER_SECTION_CHECKSUM, OBJECT_TABLE, OBJECT_COUNT, OBJECT_PAGE_TABLE, ITERATED_PAGES, RESOURCE_TABLE, RESOURCE_COUNT, RESIDENT_NAME_TABLE, ENTRY_TABLE, MODULE_DIRECTIVES, DIRECTIVE_COUNT, FIXUP_PAGE_TABLE, FIXUP_RECORD_TABLE, IMPORT_MODULE_TABLE, IMPORT_MODULE_COUNT, IMPORT_PROCEDURE_TABLE, PAGE_CHECKSUMS, DATA_PAGES, PRELOAD_PAGES, NONRESIDENT_NAME_TABLE, NONRESIDENT_NAME_LENGTH, NONRESIDENT_NAME_CHECKSUM, AUTO_DATA_OBJECT, DEBUG_INFORMATION, DEBUG_LENGTH, INSTANCE_PRELOAD_PAGES, INSTANCE_DEMAND_PAGES, HEAP_SIZE, LX_SIGNATURE, HEADER_PLACE}
 use Rattle.lx_model.specs.Reading.{fault, number_at, short_at, first, ◌then◌}
-use Rattle.lx_model.specs.Header.{Row, row, rows, row_fault, is_lx_at, place_fault, header_place, header_fault, field, page_count, object_count, is_module_flags, MOST_PAGES, MOST_OBJECTS}
+use Rattle.lx_model.specs.Header.{Row, row, rows, row_fault, is_lx_at, place_fault, header_place, header_fault, field, page_count, object_count, is_module_flags}
 use Rattle.lx_model.specs.Module.{LxFault}
 use Rattle.lx_model.proofs.Firsts.{then_none}
 use Rattle.lx_model.proofs.Each.{each_first, each_in_range}
@@ -77,97 +79,97 @@ rows_now : (file : List ℕ) (items : List ResItem) → CanExtend file items →
 rows_now file items can =
     let good = (header_parts file can.faultless).1 in
     let now = header_now file items can in
-    let pages = number_of file items 0x14 (page_count file + new_page_count items) can now.pages in
-    let count = number_of file items 0x44 (object_count file + 1) can now.count in
+    let pages = number_of file items MODULE_PAGES (page_count file + new_page_count items) can now.pages in
+    let count = number_of file items OBJECT_COUNT (object_count file + 1) can now.count in
     let small = small file items can in (
-      same_row file items (row 0x02 1 (λ v. eqb v 0) Field) can refl refl refl good.0,
+      same_row file items (row BYTE_ORDER 1 (λ v. eqb v 0) Field) can refl refl refl good.0,
       (
-        same_row file items (row 0x03 1 (λ v. eqb v 0) Field) can refl refl refl good.1.0,
+        same_row file items (row WORD_ORDER 1 (λ v. eqb v 0) Field) can refl refl refl good.1.0,
         (
-          same_row file items (row 0x04 4 (λ v. eqb v 0) Field) can refl refl refl good.1.1.0,
+          same_row file items (row FORMAT_LEVEL 4 (λ v. eqb v 0) Field) can refl refl refl good.1.1.0,
           (
-            same_row file items (row 0x08 2 (λ v. leb 1 v && leb v 3) Field) can refl refl refl good.1.1.1.0,
+            same_row file items (row CPU_TYPE 2 (λ v. leb 1 v && leb v 3) Field) can refl refl refl good.1.1.1.0,
             (
-              same_row file items (row 0x0A 2 (λ v. eqb v 1) Field) can refl refl refl good.1.1.1.1.0,
+              same_row file items (row SYSTEM_TYPE 2 (λ v. eqb v 1) Field) can refl refl refl good.1.1.1.1.0,
               (
-                any_row file items 0x0C can refl,
+                any_row file items MODULE_VERSION can refl,
                 (
-                  same_row file items (row 0x10 4 is_module_flags Field) can refl refl refl good.1.1.1.1.1.1.0,
+                  same_row file items (row MODULE_FLAGS 4 is_module_flags Field) can refl refl refl good.1.1.1.1.1.1.0,
                   (
-                    few_row file items 0x14 MOST_PAGES (page_count file + new_page_count items) can pages small.pages refl,
+                    few_row file items MODULE_PAGES MAX_PAGES (page_count file + new_page_count items) can pages small.pages refl,
                     (
-                      any_row file items 0x18 can refl,
+                      any_row file items EIP_OBJECT can refl,
                       (
-                        any_row file items 0x1C can refl,
+                        any_row file items EIP can refl,
                         (
-                          any_row file items 0x20 can refl,
+                          any_row file items ESP_OBJECT can refl,
                           (
-                            any_row file items 0x24 can refl,
+                            any_row file items ESP can refl,
                             (
-                              same_row file items (row 0x28 4 (λ v. eqb v PAGE_SIZE) Field) can refl refl refl good.1.1.1.1.1.1.1.1.1.1.1.1.0,
+                              same_row file items (row PAGE_SIZE_FIELD 4 (λ v. eqb v PAGE_SIZE) Field) can refl refl refl good.1.1.1.1.1.1.1.1.1.1.1.1.0,
                               (
-                                same_row file items (row 0x2C 4 (λ v. leb v 12) Field) can refl refl refl good.1.1.1.1.1.1.1.1.1.1.1.1.1.0,
+                                same_row file items (row PAGE_OFFSET_SHIFT 4 (λ v. leb v 12) Field) can refl refl refl good.1.1.1.1.1.1.1.1.1.1.1.1.1.0,
                                 (
-                                  any_row file items 0x30 can refl,
+                                  any_row file items FIXUP_SECTION_SIZE can refl,
                                   (
-                                    any_row file items 0x34 can refl,
+                                    any_row file items FIXUP_SECTION_CHECKSUM can refl,
                                     (
-                                      any_row file items 0x38 can refl,
+                                      any_row file items LOADER_SECTION_SIZE can refl,
                                       (
-                                        any_row file items 0x3C can refl,
+                                        any_row file items LOADER_SECTION_CHECKSUM can refl,
                                         (
-                                          any_row file items 0x40 can refl,
+                                          any_row file items OBJECT_TABLE can refl,
                                           (
-                                            few_row file items 0x44 MOST_OBJECTS (object_count file + 1) can count small.objects refl,
+                                            few_row file items OBJECT_COUNT MAX_OBJECTS (object_count file + 1) can count small.objects refl,
                                             (
-                                              any_row file items 0x48 can refl,
+                                              any_row file items OBJECT_PAGE_TABLE can refl,
                                               (
-                                                any_row file items 0x4C can refl,
+                                                any_row file items ITERATED_PAGES can refl,
                                                 (
-                                                  any_row file items 0x50 can refl,
+                                                  any_row file items RESOURCE_TABLE can refl,
                                                   (
-                                                    any_row file items 0x54 can refl,
+                                                    any_row file items RESOURCE_COUNT can refl,
                                                     (
-                                                      any_row file items 0x58 can refl,
+                                                      any_row file items RESIDENT_NAME_TABLE can refl,
                                                       (
-                                                        any_row file items 0x5C can refl,
+                                                        any_row file items ENTRY_TABLE can refl,
                                                         (
-                                                          any_row file items 0x60 can refl,
+                                                          any_row file items MODULE_DIRECTIVES can refl,
                                                           (
-                                                            any_row file items 0x64 can refl,
+                                                            any_row file items DIRECTIVE_COUNT can refl,
                                                             (
-                                                              any_row file items 0x68 can refl,
+                                                              any_row file items FIXUP_PAGE_TABLE can refl,
                                                               (
-                                                                any_row file items 0x6C can refl,
+                                                                any_row file items FIXUP_RECORD_TABLE can refl,
                                                                 (
-                                                                  any_row file items 0x70 can refl,
+                                                                  any_row file items IMPORT_MODULE_TABLE can refl,
                                                                   (
-                                                                    any_row file items 0x74 can refl,
+                                                                    any_row file items IMPORT_MODULE_COUNT can refl,
                                                                     (
-                                                                      any_row file items 0x78 can refl,
+                                                                      any_row file items IMPORT_PROCEDURE_TABLE can refl,
                                                                       (
-                                                                        any_row file items 0x7C can refl,
+                                                                        any_row file items PAGE_CHECKSUMS can refl,
                                                                         (
-                                                                          any_row file items 0x80 can refl,
+                                                                          any_row file items DATA_PAGES can refl,
                                                                           (
-                                                                            any_row file items 0x84 can refl,
+                                                                            any_row file items PRELOAD_PAGES can refl,
                                                                             (
-                                                                              any_row file items 0x88 can refl,
+                                                                              any_row file items NONRESIDENT_NAME_TABLE can refl,
                                                                               (
-                                                                                any_row file items 0x8C can refl,
+                                                                                any_row file items NONRESIDENT_NAME_LENGTH can refl,
                                                                                 (
-                                                                                  any_row file items 0x90 can refl,
+                                                                                  any_row file items NONRESIDENT_NAME_CHECKSUM can refl,
                                                                                   (
-                                                                                    any_row file items 0x94 can refl,
+                                                                                    any_row file items AUTO_DATA_OBJECT can refl,
                                                                                     (
-                                                                                      any_row file items 0x98 can refl,
+                                                                                      any_row file items DEBUG_INFORMATION can refl,
                                                                                       (
-                                                                                        any_row file items 0x9C can refl,
+                                                                                        any_row file items DEBUG_LENGTH can refl,
                                                                                         (
-                                                                                          any_row file items 0xA0 can refl,
+                                                                                          any_row file items INSTANCE_PRELOAD_PAGES can refl,
                                                                                           (
-                                                                                            any_row file items 0xA4 can refl,
-                                                                                            (any_row file items 0xA8 can refl, tt),
+                                                                                            any_row file items INSTANCE_DEMAND_PAGES can refl,
+                                                                                            (any_row file items HEAP_SIZE can refl, tt),
                                                                                           ),
                                                                                         ),
                                                                                       ),
@@ -224,17 +226,17 @@ place_by file now false p q long same e = rw q (behind_it (rw p at e))
     short_then false s' true good' a b b' h g e = rw (h refl, g) refl
     short_then false s' false good' a b b' h g e = absurd cc
 
-    behind_it : cond (ltb (length file) 0x40) (Some (fault Short 0x3C)) (cond (is_lx_at file (header_place file)) None (Some (fault Signature (header_place file)))) ≡ None →
-        cond (ltb (length now) 0x40) (Some (fault Short 0x3C)) (cond (is_lx_at now (header_place now)) None (Some (fault Signature (header_place now)))) ≡ None
-    behind_it e = short_then (ltb (length file) 0x40) (ltb (length now) 0x40) (is_lx_at file (header_place file)) (is_lx_at now (header_place now)) (fault Short 0x3C) (fault Signature (header_place file)) (fault Signature (header_place now))
-        (λ s. let le = ltb-false (length file) 0x40 s in le-ltb (length now) 0x40 (omega (arith, le, long))) same e
+    behind_it : cond (ltb (length file) (HEADER_PLACE + 4)) (Some (fault Short HEADER_PLACE)) (cond (is_lx_at file (header_place file)) None (Some (fault Signature (header_place file)))) ≡ None →
+        cond (ltb (length now) (HEADER_PLACE + 4)) (Some (fault Short HEADER_PLACE)) (cond (is_lx_at now (header_place now)) None (Some (fault Signature (header_place now)))) ≡ None
+    behind_it e = short_then (ltb (length file) (HEADER_PLACE + 4)) (ltb (length now) (HEADER_PLACE + 4)) (is_lx_at file (header_place file)) (is_lx_at now (header_place now)) (fault Short HEADER_PLACE) (fault Signature (header_place file)) (fault Signature (header_place now))
+        (λ s. let le = ltb-false (length file) (HEADER_PLACE + 4) s in le-ltb (length now) (HEADER_PLACE + 4) (omega (arith, le, long))) same e
 
 signature_same : (file : List ℕ) (items : List ResItem) → CanExtend file items → is_lx_at (extended file items) (header_place (extended file items)) ≡ is_lx_at file (header_place file)
 signature_same file items can =
     let p = header_place file in
     let none : p + 0 ≡ p = omega arith in
     let same : number_at 2 (extended file items) p ≡ number_at 2 file p = subst (λ (k : ℕ). number_at 2 (extended file items) k ≡ number_at 2 file k) none (width_same file items 2 0 can refl refl refl) in
-    ap (λ (k : ℕ). is_lx_at (extended file items) k) (place_same file items can) ∙ ap (λ (n : ℕ). eqb n 0x584C) same
+    ap (λ (k : ℕ). is_lx_at (extended file items) k) (place_same file items can) ∙ ap (λ (n : ℕ). eqb n LX_SIGNATURE) same
 
 pub header_faultless : (file : List ℕ) (items : List ResItem) → CanExtend file items → header_fault (extended file items) ≡ None
 unfolding header_fault

@@ -3,6 +3,7 @@ use Rattle.std.proofs.Common.{◌≡◌, ℕ, ◌+◌, ◌-◌, ◌<◌, ◌≤�
 use Rattle.std.specs.List.{list_all, list_any}
 use Rattle.std.proofs.lemmas.Bool.Decides.{nat_tests}
 use Rattle.std.proofs.lemmas.Bool.{and_parts, or_from}
+use Rattle.lx_model.specs.declared.header_fields.TheConstants.{MODULE_PAGES, OBJECT_TABLE, OBJECT_COUNT, OBJECT_PAGE_TABLE, RESOURCE_TABLE, RESOURCE_COUNT, FIXUP_PAGE_TABLE, LX_SIGNATURE, HEADER_PLACE}
 use Rattle.lx_model.specs.Reading.{number_at}
 use Rattle.lx_model.specs.Header.{is_lx_at, header_place, field, table, page_count, object_count}
 use Rattle.lx_model.specs.FixupPages.{has_records}
@@ -30,16 +31,16 @@ longer file items can =
 
 -- ---- where it stands
 
-low_none : (offsets : List ℕ) (p x : ℕ) → list_all (λ s. leb 0x14 s) offsets ≡ true → x < 0x14 → list_any (λ q. leb q.at x && ltb x (q.at + q.len)) (map (λ offset. part (p + offset) 4) offsets) ≡ false
+low_none : (offsets : List ℕ) (p x : ℕ) → list_all (λ s. leb MODULE_PAGES s) offsets ≡ true → x < MODULE_PAGES → list_any (λ q. leb q.at x && ltb x (q.at + q.len)) (map (λ offset. part (p + offset) 4) offsets) ≡ false
 low_none [] p x e lt = refl
 low_none (s ∷ offsets) p x e lt =
-    let test = and_parts (leb 0x14 s) (list_all (λ s. leb 0x14 s) offsets) e in
+    let test = and_parts (leb MODULE_PAGES s) (list_all (λ s. leb MODULE_PAGES s) offsets) e in
     or_from (leb (p + s) x && ltb x (p + s + 4)) _ (not_here p s x test.0 lt) (low_none offsets p x test.1 lt)
   where
-    not_here : (p s x : ℕ) → leb 0x14 s ≡ true → x < 0x14 → (leb (p + s) x && ltb x (p + s + 4)) ≡ false
+    not_here : (p s x : ℕ) → leb MODULE_PAGES s ≡ true → x < MODULE_PAGES → (leb (p + s) x && ltb x (p + s + 4)) ≡ false
     not_here p s x e lt = grind (arith, nat_tests)
 
-low_offsets : (records : Bool) → list_all (λ s. leb 0x14 s) (set_offsets records) ≡ true
+low_offsets : (records : Bool) → list_all (λ s. leb MODULE_PAGES s) (set_offsets records) ≡ true
 low_offsets true = refl
 low_offsets false = refl
 
@@ -49,24 +50,24 @@ start_stands file items can x low high =
     byte_stands file items x long (omega (arith, long, high)) (low_none (set_offsets (has_records file)) (header_place file) x (low_offsets (has_records file)) (omega (arith, high)))
 
 pub lx_same : (file : List ℕ) (items : List ResItem) → CanExtend file items → is_lx_at (extended file items) 0 ≡ is_lx_at file 0
-lx_same file items can = ap (λ (n : ℕ). eqb n 0x584C) (number_same 2 file (extended file items) 0 (let long = long_of file items can in omega (arith, long)) (longer file items can) (start_stands file items can))
+lx_same file items can = ap (λ (n : ℕ). eqb n LX_SIGNATURE) (number_same 2 file (extended file items) 0 (let long = long_of file items can in omega (arith, long)) (longer file items can) (start_stands file items can))
 
-place_by : (file now : List ℕ) (is : Bool) → is_lx_at file 0 ≡ is → (is ≡ false → number_at 4 now 0x3C ≡ number_at 4 file 0x3C) → cond is 0 (number_at 4 now 0x3C) ≡ cond is 0 (number_at 4 file 0x3C)
+place_by : (file now : List ℕ) (is : Bool) → is_lx_at file 0 ≡ is → (is ≡ false → number_at 4 now HEADER_PLACE ≡ number_at 4 file HEADER_PLACE) → cond is 0 (number_at 4 now HEADER_PLACE) ≡ cond is 0 (number_at 4 file HEADER_PLACE)
 place_by file now true is h = refl
 place_by file now false is h = h refl
 
-place_number : (file : List ℕ) (items : List ResItem) → CanExtend file items → is_lx_at file 0 ≡ false → number_at 4 (extended file items) 0x3C ≡ number_at 4 file 0x3C
+place_number : (file : List ℕ) (items : List ResItem) → CanExtend file items → is_lx_at file 0 ≡ false → number_at 4 (extended file items) HEADER_PLACE ≡ number_at 4 file HEADER_PLACE
 place_number file items can none =
     let long = long_of file items can in
-    let free : list_all (is_free file) (part 0x3C 4 ∷ []) ≡ true = subst (λ (b : Bool). list_all (is_free file) (cond b [] (part 0x3C 4 ∷ [])) ≡ true) none (frees file can.clear).place in
-    let here = and_parts (is_free file (part 0x3C 4)) true free in
-    let there : 0x3C + 4 ≤ length file = omega (arith, long) in
-    number_same 4 file (extended file items) 0x3C there (longer file items can) (part_stands file items 0x3C 4 long there here.0)
+    let free : list_all (is_free file) (part HEADER_PLACE 4 ∷ []) ≡ true = subst (λ (b : Bool). list_all (is_free file) (cond b [] (part HEADER_PLACE 4 ∷ [])) ≡ true) none (frees file can.clear).place in
+    let here = and_parts (is_free file (part HEADER_PLACE 4)) true free in
+    let there : HEADER_PLACE + 4 ≤ length file = omega (arith, long) in
+    number_same 4 file (extended file items) HEADER_PLACE there (longer file items can) (part_stands file items HEADER_PLACE 4 long there here.0)
 
 pub place_same : (file : List ℕ) (items : List ResItem) → CanExtend file items → header_place (extended file items) ≡ header_place file
 unfolding header_place
 place_same file items can =
-    ap (λ (b : Bool). cond b 0 (number_at 4 (extended file items) 0x3C)) (lx_same file items can)
+    ap (λ (b : Bool). cond b 0 (number_at 4 (extended file items) HEADER_PLACE)) (lx_same file items can)
     ∙ place_by file (extended file items) (is_lx_at file 0) refl (place_number file items can)
 
 -- ---- fields that stand
@@ -116,7 +117,7 @@ record Values : Type 0 where
   fixups : ℕ
 
 abbrev sets : Bool → Values → List (ℕ × ℕ)
-sets records v = (0x14, v.pages) ∷ (0x40, v.objects) ∷ (0x44, v.count) ∷ (0x48, v.heads) ∷ (0x50, v.resources) ∷ (0x54, v.items) ∷ cond records ((0x68, v.fixups) ∷ []) []
+sets records v = (MODULE_PAGES, v.pages) ∷ (OBJECT_TABLE, v.objects) ∷ (OBJECT_COUNT, v.count) ∷ (OBJECT_PAGE_TABLE, v.heads) ∷ (RESOURCE_TABLE, v.resources) ∷ (RESOURCE_COUNT, v.items) ∷ cond records ((FIXUP_PAGE_TABLE, v.fixups) ∷ []) []
 
 record Fit (v : Values) : Type 0 where
   pages : v.pages < 2 ^ 32
@@ -128,33 +129,33 @@ record Fit (v : Values) : Type 0 where
   fixups : v.fixups < 2 ^ 32
 
 record AreSet (p : ℕ) (file : List ℕ) (v : Values) : Type 0 where
-  pages : number_at 4 file (p + 0x14) ≡ v.pages
-  objects : number_at 4 file (p + 0x40) ≡ v.objects
-  count : number_at 4 file (p + 0x44) ≡ v.count
-  heads : number_at 4 file (p + 0x48) ≡ v.heads
-  resources : number_at 4 file (p + 0x50) ≡ v.resources
-  items : number_at 4 file (p + 0x54) ≡ v.items
+  pages : number_at 4 file (p + MODULE_PAGES) ≡ v.pages
+  objects : number_at 4 file (p + OBJECT_TABLE) ≡ v.objects
+  count : number_at 4 file (p + OBJECT_COUNT) ≡ v.count
+  heads : number_at 4 file (p + OBJECT_PAGE_TABLE) ≡ v.heads
+  resources : number_at 4 file (p + RESOURCE_TABLE) ≡ v.resources
+  items : number_at 4 file (p + RESOURCE_COUNT) ≡ v.items
 
 are_set : (records : Bool) (p : ℕ) (v : Values) (file : List ℕ) → Fit v → p + 0xAC ≤ length file → AreSet p (set_all (sets records v) p file) v
 are_set true p v file fit long = record {
-  pages = all_set ([]) 0x14 v.pages ((0x40, v.objects) ∷ (0x44, v.count) ∷ (0x48, v.heads) ∷ (0x50, v.resources) ∷ (0x54, v.items) ∷ (0x68, v.fixups) ∷ []) p file refl refl refl fit.pages long;
-  objects = all_set ((0x14, v.pages) ∷ []) 0x40 v.objects ((0x44, v.count) ∷ (0x48, v.heads) ∷ (0x50, v.resources) ∷ (0x54, v.items) ∷ (0x68, v.fixups) ∷ []) p file refl refl refl fit.objects long;
-  count = all_set ((0x14, v.pages) ∷ (0x40, v.objects) ∷ []) 0x44 v.count ((0x48, v.heads) ∷ (0x50, v.resources) ∷ (0x54, v.items) ∷ (0x68, v.fixups) ∷ []) p file refl refl refl fit.count long;
-  heads = all_set ((0x14, v.pages) ∷ (0x40, v.objects) ∷ (0x44, v.count) ∷ []) 0x48 v.heads ((0x50, v.resources) ∷ (0x54, v.items) ∷ (0x68, v.fixups) ∷ []) p file refl refl refl fit.heads long;
-  resources = all_set ((0x14, v.pages) ∷ (0x40, v.objects) ∷ (0x44, v.count) ∷ (0x48, v.heads) ∷ []) 0x50 v.resources ((0x54, v.items) ∷ (0x68, v.fixups) ∷ []) p file refl refl refl fit.resources long;
-  items = all_set ((0x14, v.pages) ∷ (0x40, v.objects) ∷ (0x44, v.count) ∷ (0x48, v.heads) ∷ (0x50, v.resources) ∷ []) 0x54 v.items ((0x68, v.fixups) ∷ []) p file refl refl refl fit.items long;
+  pages = all_set ([]) MODULE_PAGES v.pages ((OBJECT_TABLE, v.objects) ∷ (OBJECT_COUNT, v.count) ∷ (OBJECT_PAGE_TABLE, v.heads) ∷ (RESOURCE_TABLE, v.resources) ∷ (RESOURCE_COUNT, v.items) ∷ (FIXUP_PAGE_TABLE, v.fixups) ∷ []) p file refl refl refl fit.pages long;
+  objects = all_set ((MODULE_PAGES, v.pages) ∷ []) OBJECT_TABLE v.objects ((OBJECT_COUNT, v.count) ∷ (OBJECT_PAGE_TABLE, v.heads) ∷ (RESOURCE_TABLE, v.resources) ∷ (RESOURCE_COUNT, v.items) ∷ (FIXUP_PAGE_TABLE, v.fixups) ∷ []) p file refl refl refl fit.objects long;
+  count = all_set ((MODULE_PAGES, v.pages) ∷ (OBJECT_TABLE, v.objects) ∷ []) OBJECT_COUNT v.count ((OBJECT_PAGE_TABLE, v.heads) ∷ (RESOURCE_TABLE, v.resources) ∷ (RESOURCE_COUNT, v.items) ∷ (FIXUP_PAGE_TABLE, v.fixups) ∷ []) p file refl refl refl fit.count long;
+  heads = all_set ((MODULE_PAGES, v.pages) ∷ (OBJECT_TABLE, v.objects) ∷ (OBJECT_COUNT, v.count) ∷ []) OBJECT_PAGE_TABLE v.heads ((RESOURCE_TABLE, v.resources) ∷ (RESOURCE_COUNT, v.items) ∷ (FIXUP_PAGE_TABLE, v.fixups) ∷ []) p file refl refl refl fit.heads long;
+  resources = all_set ((MODULE_PAGES, v.pages) ∷ (OBJECT_TABLE, v.objects) ∷ (OBJECT_COUNT, v.count) ∷ (OBJECT_PAGE_TABLE, v.heads) ∷ []) RESOURCE_TABLE v.resources ((RESOURCE_COUNT, v.items) ∷ (FIXUP_PAGE_TABLE, v.fixups) ∷ []) p file refl refl refl fit.resources long;
+  items = all_set ((MODULE_PAGES, v.pages) ∷ (OBJECT_TABLE, v.objects) ∷ (OBJECT_COUNT, v.count) ∷ (OBJECT_PAGE_TABLE, v.heads) ∷ (RESOURCE_TABLE, v.resources) ∷ []) RESOURCE_COUNT v.items ((FIXUP_PAGE_TABLE, v.fixups) ∷ []) p file refl refl refl fit.items long;
 }
 are_set false p v file fit long = record {
-  pages = all_set ([]) 0x14 v.pages ((0x40, v.objects) ∷ (0x44, v.count) ∷ (0x48, v.heads) ∷ (0x50, v.resources) ∷ (0x54, v.items) ∷ []) p file refl refl refl fit.pages long;
-  objects = all_set ((0x14, v.pages) ∷ []) 0x40 v.objects ((0x44, v.count) ∷ (0x48, v.heads) ∷ (0x50, v.resources) ∷ (0x54, v.items) ∷ []) p file refl refl refl fit.objects long;
-  count = all_set ((0x14, v.pages) ∷ (0x40, v.objects) ∷ []) 0x44 v.count ((0x48, v.heads) ∷ (0x50, v.resources) ∷ (0x54, v.items) ∷ []) p file refl refl refl fit.count long;
-  heads = all_set ((0x14, v.pages) ∷ (0x40, v.objects) ∷ (0x44, v.count) ∷ []) 0x48 v.heads ((0x50, v.resources) ∷ (0x54, v.items) ∷ []) p file refl refl refl fit.heads long;
-  resources = all_set ((0x14, v.pages) ∷ (0x40, v.objects) ∷ (0x44, v.count) ∷ (0x48, v.heads) ∷ []) 0x50 v.resources ((0x54, v.items) ∷ []) p file refl refl refl fit.resources long;
-  items = all_set ((0x14, v.pages) ∷ (0x40, v.objects) ∷ (0x44, v.count) ∷ (0x48, v.heads) ∷ (0x50, v.resources) ∷ []) 0x54 v.items ([]) p file refl refl refl fit.items long;
+  pages = all_set ([]) MODULE_PAGES v.pages ((OBJECT_TABLE, v.objects) ∷ (OBJECT_COUNT, v.count) ∷ (OBJECT_PAGE_TABLE, v.heads) ∷ (RESOURCE_TABLE, v.resources) ∷ (RESOURCE_COUNT, v.items) ∷ []) p file refl refl refl fit.pages long;
+  objects = all_set ((MODULE_PAGES, v.pages) ∷ []) OBJECT_TABLE v.objects ((OBJECT_COUNT, v.count) ∷ (OBJECT_PAGE_TABLE, v.heads) ∷ (RESOURCE_TABLE, v.resources) ∷ (RESOURCE_COUNT, v.items) ∷ []) p file refl refl refl fit.objects long;
+  count = all_set ((MODULE_PAGES, v.pages) ∷ (OBJECT_TABLE, v.objects) ∷ []) OBJECT_COUNT v.count ((OBJECT_PAGE_TABLE, v.heads) ∷ (RESOURCE_TABLE, v.resources) ∷ (RESOURCE_COUNT, v.items) ∷ []) p file refl refl refl fit.count long;
+  heads = all_set ((MODULE_PAGES, v.pages) ∷ (OBJECT_TABLE, v.objects) ∷ (OBJECT_COUNT, v.count) ∷ []) OBJECT_PAGE_TABLE v.heads ((RESOURCE_TABLE, v.resources) ∷ (RESOURCE_COUNT, v.items) ∷ []) p file refl refl refl fit.heads long;
+  resources = all_set ((MODULE_PAGES, v.pages) ∷ (OBJECT_TABLE, v.objects) ∷ (OBJECT_COUNT, v.count) ∷ (OBJECT_PAGE_TABLE, v.heads) ∷ []) RESOURCE_TABLE v.resources ((RESOURCE_COUNT, v.items) ∷ []) p file refl refl refl fit.resources long;
+  items = all_set ((MODULE_PAGES, v.pages) ∷ (OBJECT_TABLE, v.objects) ∷ (OBJECT_COUNT, v.count) ∷ (OBJECT_PAGE_TABLE, v.heads) ∷ (RESOURCE_TABLE, v.resources) ∷ []) RESOURCE_COUNT v.items ([]) p file refl refl refl fit.items long;
 }
 
-last_set : (p : ℕ) (v : Values) (file : List ℕ) → Fit v → p + 0xAC ≤ length file → number_at 4 (set_all (sets true v) p file) (p + 0x68) ≡ v.fixups
-last_set p v file fit long = all_set ((0x14, v.pages) ∷ (0x40, v.objects) ∷ (0x44, v.count) ∷ (0x48, v.heads) ∷ (0x50, v.resources) ∷ (0x54, v.items) ∷ []) 0x68 v.fixups [] p file refl refl refl fit.fixups long
+last_set : (p : ℕ) (v : Values) (file : List ℕ) → Fit v → p + 0xAC ≤ length file → number_at 4 (set_all (sets true v) p file) (p + FIXUP_PAGE_TABLE) ≡ v.fixups
+last_set p v file fit long = all_set ((MODULE_PAGES, v.pages) ∷ (OBJECT_TABLE, v.objects) ∷ (OBJECT_COUNT, v.count) ∷ (OBJECT_PAGE_TABLE, v.heads) ∷ (RESOURCE_TABLE, v.resources) ∷ (RESOURCE_COUNT, v.items) ∷ []) FIXUP_PAGE_TABLE v.fixups [] p file refl refl refl fit.fixups long
 
 abbrev values : List ℕ → List ResItem → Values
 values file items = record {
@@ -192,7 +193,7 @@ values_fit file items can =
       fixups = omega (arith, third);
     }
 
-sets_by : (records : Bool) (p v : ℕ) (file : List ℕ) → cond records (with_number (p + 0x68) v file) file ≡ set_all (cond records ((0x68, v) ∷ []) []) p file
+sets_by : (records : Bool) (p v : ℕ) (file : List ℕ) → cond records (with_number (p + FIXUP_PAGE_TABLE) v file) file ≡ set_all (cond records ((FIXUP_PAGE_TABLE, v) ∷ []) []) p file
 sets_by true p v file = refl
 sets_by false p v file = refl
 
@@ -212,13 +213,13 @@ in_sets file items o can le = in_front file items o can le ∙ ap (λ (f : List 
 
 -- the fields of the bound file that are set
 pub record HeaderNow (file : List ℕ) (items : List ResItem) : Type 0 where
-  pub pages : field (extended file items) 0x14 ≡ page_count file + new_page_count items
-  pub objects : table (extended file items) 0x40 ≡ objects_place file items
-  pub count : field (extended file items) 0x44 ≡ object_count file + 1
-  pub heads : table (extended file items) 0x48 ≡ pages_place file items
-  pub resources : table (extended file items) 0x50 ≡ resources_place file items
-  pub number : field (extended file items) 0x54 ≡ length items
-  pub fixups : has_records file ≡ true → table (extended file items) 0x68 ≡ fixups_place file items
+  pub pages : field (extended file items) MODULE_PAGES ≡ page_count file + new_page_count items
+  pub objects : table (extended file items) OBJECT_TABLE ≡ objects_place file items
+  pub count : field (extended file items) OBJECT_COUNT ≡ object_count file + 1
+  pub heads : table (extended file items) OBJECT_PAGE_TABLE ≡ pages_place file items
+  pub resources : table (extended file items) RESOURCE_TABLE ≡ resources_place file items
+  pub number : field (extended file items) RESOURCE_COUNT ≡ length items
+  pub fixups : has_records file ≡ true → table (extended file items) FIXUP_PAGE_TABLE ≡ fixups_place file items
   pub records : has_records (extended file items) ≡ has_records file
 
 field_at : (file : List ℕ) (items : List ResItem) (o v : ℕ) → CanExtend file items → o + 4 ≤ 0xAC → number_at 4 (set_all (sets (has_records file) (values file items)) (header_place file) file) (header_place file + o) ≡ v → field (extended file items) o ≡ v
@@ -229,9 +230,9 @@ field_at file items o v can le is =
 table_at : (place h f v : ℕ) → place ≡ h → f ≡ v - h → h ≤ v → place + f ≡ v
 table_at place h f v a b le = omega (arith, a, b, le)
 
-last_field : (file : List ℕ) (items : List ResItem) (records : Bool) → CanExtend file items → has_records file ≡ records → records ≡ true → field (extended file items) 0x68 ≡ fixups_place file items - header_place file
+last_field : (file : List ℕ) (items : List ResItem) (records : Bool) → CanExtend file items → has_records file ≡ records → records ≡ true → field (extended file items) FIXUP_PAGE_TABLE ≡ fixups_place file items - header_place file
 last_field file items true can is _ =
-    field_at file items 0x68 _ can (lit≤ tt) (subst (λ (b : Bool). number_at 4 (set_all (sets b (values file items)) (header_place file) file) (header_place file + 0x68) ≡ fixups_place file items - header_place file) (sym is)
+    field_at file items FIXUP_PAGE_TABLE _ can (lit≤ tt) (subst (λ (b : Bool). number_at 4 (set_all (sets b (values file items)) (header_place file) file) (header_place file + FIXUP_PAGE_TABLE) ≡ fixups_place file items - header_place file) (sym is)
     (last_set (header_place file) (values file items) file (values_fit file items can) (long_of file items can)))
 last_field file items false can is h = absurd cc
 
@@ -244,14 +245,14 @@ records_by file items true can is =
     let c = r.pages in
     let d = r.fixups in
     let long = long_of file items can in
-    positive (field (extended file items) 0x68) (omega (arith, f, a, b, c, d, long))
+    positive (field (extended file items) FIXUP_PAGE_TABLE) (omega (arith, f, a, b, c, d, long))
   where
     positive : (n : ℕ) → 0 < n → ltb 0 n ≡ true
     positive n lt = grind (arith, nat_tests)
 records_by file items false can is = ap (ltb 0) (none file items can is) ∙ is
   where
-    none : (file : List ℕ) (items : List ResItem) → CanExtend file items → has_records file ≡ false → field (extended file items) 0x68 ≡ field file 0x68
-    none file items can is = free_same file items 0x68 can (rw is refl) refl
+    none : (file : List ℕ) (items : List ResItem) → CanExtend file items → has_records file ≡ false → field (extended file items) FIXUP_PAGE_TABLE ≡ field file FIXUP_PAGE_TABLE
+    none file items can is = free_same file items FIXUP_PAGE_TABLE can (rw is refl) refl
 
 pub header_now : (file : List ℕ) (items : List ResItem) → CanExtend file items → HeaderNow file items
 header_now file items can =
@@ -271,12 +272,12 @@ header_now file items can =
     let fixups_le : p ≤ fixups_place file items = omega (arith, d, pages_le) in
     let resources_le : p ≤ resources_place file items = omega (arith, e, fixups_le) in
     record {
-      pages = field_at file items 0x14 _ can (lit≤ tt) set.pages;
-      objects = table_at _ p _ (objects_place file items) place (field_at file items 0x40 _ can (lit≤ tt) set.objects) objects_le;
-      count = field_at file items 0x44 _ can (lit≤ tt) set.count;
-      heads = table_at _ p _ (pages_place file items) place (field_at file items 0x48 _ can (lit≤ tt) set.heads) pages_le;
-      resources = table_at _ p _ (resources_place file items) place (field_at file items 0x50 _ can (lit≤ tt) set.resources) resources_le;
-      number = field_at file items 0x54 _ can (lit≤ tt) set.items;
+      pages = field_at file items MODULE_PAGES _ can (lit≤ tt) set.pages;
+      objects = table_at _ p _ (objects_place file items) place (field_at file items OBJECT_TABLE _ can (lit≤ tt) set.objects) objects_le;
+      count = field_at file items OBJECT_COUNT _ can (lit≤ tt) set.count;
+      heads = table_at _ p _ (pages_place file items) place (field_at file items OBJECT_PAGE_TABLE _ can (lit≤ tt) set.heads) pages_le;
+      resources = table_at _ p _ (resources_place file items) place (field_at file items RESOURCE_TABLE _ can (lit≤ tt) set.resources) resources_le;
+      number = field_at file items RESOURCE_COUNT _ can (lit≤ tt) set.items;
       fixups = λ is. table_at _ p _ (fixups_place file items) place (last_field file items (has_records file) can refl is) fixups_le;
       records = records_by file items (has_records file) can refl;
     }

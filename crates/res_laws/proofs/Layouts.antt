@@ -9,8 +9,11 @@ use Rattle.std.proofs.lemmas.List.FromFn.{length-map-range_with_len}
 use Rattle.lx_bytes.specs.LittleEndian.{AreBytes}
 use Rattle.lx_types.specs.declared.object.PageHead.{PageHead}
 use Rattle.lx_types.specs.declared.refusal.LxRefusal.{LxRefusal}
+use Rattle.lx_types.specs.declared.limits.TheConstants.{MAX_PAGES, MAX_OBJECTS, MAX_FILE}
+use Rattle.lx_model.specs.declared.lengths.TheConstants.{OBJECT_ENTRY_LEN, PAGE_ENTRY_LEN, RESOURCE_ENTRY_LEN}
+use Rattle.lx_model.specs.declared.header_fields.TheConstants.{PAGE_OFFSET_SHIFT, OBJECT_TABLE, OBJECT_PAGE_TABLE, FIXUP_PAGE_TABLE, DATA_PAGES}
 use Rattle.lx_model.specs.Reading.{short_at, first_of, ◌then◌}
-use Rattle.lx_model.specs.Header.{header_place, header_fault, header_fields, field, table, page_count, object_count, MOST_PAGES, MOST_OBJECTS}
+use Rattle.lx_model.specs.Header.{header_place, header_fault, header_fields, field, table, page_count, object_count}
 use Rattle.lx_model.specs.Tables.{object_entry, object_place, object_fault, objects_fault, lacks_pages, page_place, page_entry, page_fault, pages_fault, data_fault}
 use Rattle.lx_model.specs.FixupPages.{has_records, offset_place, span_fault, spans_fault}
 use Rattle.lx_model.specs.Module.{LxFault}
@@ -26,7 +29,7 @@ use Rattle.res_model.specs.Clear.{is_clear}
 use Rattle.res_model.specs.Layout.{end_of, page_unit, paged_place, data_place, objects_place, pages_place, fixups_place, resources_place, end_place}
 use Rattle.res_bind.specs.Numbers.{IsHeadOf}
 use Rattle.res_model.specs.Placed.{Placed, aligned, placed_from, end_from, data_from, entry_spelling, entries_from, object_size, new_page_count}
-use Rattle.res_model.specs.Refusal.{MOST_BYTES, are_too_many, layout_refusal}
+use Rattle.res_model.specs.Refusal.{are_too_many, layout_refusal}
 use Rattle.res_model.specs.declared.refusal.BindRefusal.{BindRefusal}
 use Rattle.res_model.specs.declared.refusal.BindRefusal.TheVariants.{TooMany, TooLarge}
 use Rattle.res_bind.proofs.Headers.{head_is}
@@ -59,11 +62,11 @@ pub record Small (file : List ℕ) (items : List ResItem) : Type 0 where
   pub pages : page_count file + new_page_count items ≤ 65536
   pub whole : end_place file items ≤ 16777216
 
-allowed_by : (many : Bool) (bytes : ℕ) (a b : BindRefusal) → cond many (Some a) (cond (ltb MOST_BYTES bytes) (Some b) None) ≡ None → (many ≡ false) × (bytes ≤ 16777216)
+allowed_by : (many : Bool) (bytes : ℕ) (a b : BindRefusal) → cond many (Some a) (cond (ltb MAX_FILE bytes) (Some b) None) ≡ None → (many ≡ false) × (bytes ≤ 16777216)
 allowed_by true bytes a b e = absurd cc
 allowed_by false bytes a b e = (refl, grind (arith, nat_tests))
 
-few : (o p : ℕ) → (ltb MOST_OBJECTS o || ltb MOST_PAGES p) ≡ false → (o ≤ 1024) × (p ≤ 65536)
+few : (o p : ℕ) → (ltb MAX_OBJECTS o || ltb MAX_PAGES p) ≡ false → (o ≤ 1024) × (p ≤ 65536)
 few o p e = (grind (arith, nat_tests), grind (arith, nat_tests))
 
 pub small : (file : List ℕ) (items : List ResItem) → CanExtend file items → Small file items
@@ -80,12 +83,12 @@ pow_some zero = omega arith
 pow_some (suc n) = let more = pow-suc 2 n in let some = pow_some n in omega (arith, more, some)
 
 pub unit_some : (file : List ℕ) → 1 ≤ page_unit file
-unit_some file = pow_some (field file 0x2C)
+unit_some file = pow_some (field file PAGE_OFFSET_SHIFT)
 
-pub data_above : (file : List ℕ) (pages : ℕ) → (length file ≤ data_place file pages) × (field file 0x80 ≤ data_place file pages)
+pub data_above : (file : List ℕ) (pages : ℕ) → (length file ≤ data_place file pages) × (field file DATA_PAGES ≤ data_place file pages)
 data_above file pages =
-    let above = unit_above (end_of file - field file 0x80) (page_unit file) (unit_some file) in
-    let ends : (length file ≤ end_of file) × (field file 0x80 ≤ end_of file) = (omega arith, omega arith) in
+    let above = unit_above (end_of file - field file DATA_PAGES) (page_unit file) (unit_some file) in
+    let ends : (length file ≤ end_of file) × (field file DATA_PAGES ≤ end_of file) = (omega arith, omega arith) in
     let low = ends.0 in
     let low' = ends.1 in
     let paged : end_of file ≤ paged_place file = omega (arith, above, low') in
@@ -98,12 +101,12 @@ fixups_size file items = cond (has_records file) (4 * (page_count file + new_pag
 
 pub record Rise (file : List ℕ) (items : List ResItem) : Type 0 where
   pub contents : length file ≤ data_place file (new_page_count items)
-  pub first : field file 0x80 ≤ data_place file (new_page_count items)
+  pub first : field file DATA_PAGES ≤ data_place file (new_page_count items)
   pub objects : objects_place file items ≡ data_place file (new_page_count items) + object_size items
-  pub pages : pages_place file items ≡ objects_place file items + 24 * (object_count file + 1)
-  pub fixups : fixups_place file items ≡ pages_place file items + 8 * (page_count file + new_page_count items)
+  pub pages : pages_place file items ≡ objects_place file items + OBJECT_ENTRY_LEN * (object_count file + 1)
+  pub fixups : fixups_place file items ≡ pages_place file items + PAGE_ENTRY_LEN * (page_count file + new_page_count items)
   pub resources : resources_place file items ≡ fixups_place file items + fixups_size file items
-  pub whole : end_place file items ≡ resources_place file items + 14 * length items
+  pub whole : end_place file items ≡ resources_place file items + RESOURCE_ENTRY_LEN * length items
 
 added : (b : Bool) (m n : ℕ) → cond b (m + n) m ≡ m + cond b n 0
 added true m n = refl
@@ -149,11 +152,11 @@ table_there : (file : List ℕ) (a size n : ℕ) → ((k : ℕ) → k < n → a 
 table_there file a size zero h = inl (omega arith)
 table_there file a size (suc n) h = let last = h n (omega arith) in let product : size * suc n ≡ size * n + size = omega arith in inr (omega (arith, last, product))
 
-pub objects_there : (file : List ℕ) → LxFault file ≡ None → IsThere file (table file 0x40) (24 * object_count file)
+pub objects_there : (file : List ℕ) → LxFault file ≡ None → IsThere file (table file OBJECT_TABLE) (OBJECT_ENTRY_LEN * object_count file)
 unfolding objects_fault
 objects_there file e =
     let j = judged file e in
-    table_there file (table file 0x40) 24 (object_count file) (λ k lt. object_there file k (each_none (object_count file) (object_fault file) k j.objects lt))
+    table_there file (table file OBJECT_TABLE) 24 (object_count file) (λ k lt. object_there file k (each_none (object_count file) (object_fault file) k j.objects lt))
 
 page_there : (file : List ℕ) (k : ℕ) → page_fault file k ≡ None → page_place file k + 8 ≤ length file
 page_there file k e =
@@ -164,20 +167,20 @@ page_there file k e =
     let last = not_short 2 file (at + 6) (then_none (short_at 2 file (at + 6)) judged behind_size.1).0 in
     omega (arith, last)
 
-pub pages_there : (file : List ℕ) → LxFault file ≡ None → IsThere file (table file 0x48) (8 * page_count file)
+pub pages_there : (file : List ℕ) → LxFault file ≡ None → IsThere file (table file OBJECT_PAGE_TABLE) (PAGE_ENTRY_LEN * page_count file)
 unfolding pages_fault
 pages_there file e =
     let j = judged file e in
-    table_there file (table file 0x48) 8 (page_count file) (λ k lt. page_there file k (each_none (page_count file) (page_fault file) k j.pages lt))
+    table_there file (table file OBJECT_PAGE_TABLE) 8 (page_count file) (λ k lt. page_there file k (each_none (page_count file) (page_fault file) k j.pages lt))
 
-offsets_by : (file : List ℕ) (records : Bool) → cond records (first_of (page_count file + 1) (span_fault file)) None ≡ None → records ≡ true → table file 0x68 + 4 * (page_count file + 1) ≤ length file
+offsets_by : (file : List ℕ) (records : Bool) → cond records (first_of (page_count file + 1) (span_fault file)) None ≡ None → records ≡ true → table file FIXUP_PAGE_TABLE + 4 * (page_count file + 1) ≤ length file
 offsets_by file true e is =
     let last = each_none (page_count file + 1) (span_fault file) (page_count file) e (omega arith) in
     let there = not_short 4 file (offset_place file (page_count file)) (then_none (short_at 4 file (offset_place file (page_count file))) _ last).0 in
     omega (arith, there)
 offsets_by file false e is = absurd cc
 
-pub offsets_there : (file : List ℕ) → LxFault file ≡ None → has_records file ≡ true → table file 0x68 + 4 * (page_count file + 1) ≤ length file
+pub offsets_there : (file : List ℕ) → LxFault file ≡ None → has_records file ≡ true → table file FIXUP_PAGE_TABLE + 4 * (page_count file + 1) ≤ length file
 unfolding spans_fault
 offsets_there file e is = let j = judged file e in offsets_by file (has_records file) j.spans is
 
@@ -195,16 +198,16 @@ data_length end (i ∷ items) =
     let others = data_length (aligned end + length i.bytes) items in
     omega (arith, up, a, b, c, others)
 
-pub objects_length : (file : List ℕ) (items : List ResItem) → LxFault file ≡ None → length (object_table file items) ≡ 24 * (object_count file + 1)
+pub objects_length : (file : List ℕ) (items : List ResItem) → LxFault file ≡ None → length (object_table file items) ≡ OBJECT_ENTRY_LEN * (object_count file + 1)
 unfolding object_table
 objects_length file items e =
-    let old = old_entries file 0x40 24 (object_count file) in
-    let size = length_table file (table file 0x40) (24 * object_count file) (objects_there file e) in
+    let old = old_entries file OBJECT_TABLE OBJECT_ENTRY_LEN (object_count file) in
+    let size = length_table file (table file OBJECT_TABLE) (OBJECT_ENTRY_LEN * object_count file) (objects_there file e) in
     let whole = length-append old (object_spelling (new_object file items)) in
     let new : length (object_spelling (new_object file items)) ≡ 24 = refl in
     omega (arith, size, whole, new)
 
-spelled_length : (ps : List PageHead) → length (pages_spelling ps) ≡ 8 * length ps
+spelled_length : (ps : List PageHead) → length (pages_spelling ps) ≡ PAGE_ENTRY_LEN * length ps
 spelled_length [] = omega arith
 spelled_length (p ∷ ps) =
     let rest = spelled_length ps in
@@ -216,27 +219,27 @@ pub pages_number : (file : List ℕ) (items : List ResItem) → length (new_page
 unfolding new_pages
 pages_number file items = length-map-range_with_len (new_page file items) 0 (new_page_count items)
 
-pub pages_length : (file : List ℕ) (items : List ResItem) → LxFault file ≡ None → length (page_table file items) ≡ 8 * (page_count file + new_page_count items)
+pub pages_length : (file : List ℕ) (items : List ResItem) → LxFault file ≡ None → length (page_table file items) ≡ PAGE_ENTRY_LEN * (page_count file + new_page_count items)
 unfolding page_table
 pages_length file items e =
-    let old = old_entries file 0x48 8 (page_count file) in
-    let size = length_table file (table file 0x48) (8 * page_count file) (pages_there file e) in
+    let old = old_entries file OBJECT_PAGE_TABLE PAGE_ENTRY_LEN (page_count file) in
+    let size = length_table file (table file OBJECT_PAGE_TABLE) (PAGE_ENTRY_LEN * page_count file) (pages_there file e) in
     let whole = length-append old (pages_spelling (new_pages file items)) in
     let new = spelled_length (new_pages file items) in
     let number = pages_number file items in
     omega (arith, size, whole, new, number)
 
 pub last_length : (file : List ℕ) → LxFault file ≡ None → has_records file ≡ true → length (last_offset file) ≡ 4
-last_length file e is = let there = offsets_there file e is in length_span file (table file 0x68 + 4 * page_count file) 4 (omega (arith, there))
+last_length file e is = let there = offsets_there file e is in length_span file (table file FIXUP_PAGE_TABLE + 4 * page_count file) 4 (omega (arith, there))
 
 fixups_by : (file : List ℕ) (items : List ResItem) (records : Bool) → LxFault file ≡ None → (records ≡ true → has_records file ≡ true) →
-    length (cond records (old_entries file 0x68 4 (page_count file + 1) ++ repeat (new_page_count items) (last_offset file)) []) ≡ cond records (4 * (page_count file + new_page_count items + 1)) 0
+    length (cond records (old_entries file FIXUP_PAGE_TABLE 4 (page_count file + 1) ++ repeat (new_page_count items) (last_offset file)) []) ≡ cond records (4 * (page_count file + new_page_count items + 1)) 0
 fixups_by file items true e is =
     let there = offsets_there file e (is refl) in
-    let size = length_span file (table file 0x68) (4 * (page_count file + 1)) there in
+    let size = length_span file (table file FIXUP_PAGE_TABLE) (4 * (page_count file + 1)) there in
     let last = last_length file e (is refl) in
     let again = length-repeat (new_page_count items) (last_offset file) in
-    let whole = length-append (old_entries file 0x68 4 (page_count file + 1)) (repeat (new_page_count items) (last_offset file)) in
+    let whole = length-append (old_entries file FIXUP_PAGE_TABLE 4 (page_count file + 1)) (repeat (new_page_count items) (last_offset file)) in
     let product : new_page_count items * length (last_offset file) ≡ new_page_count items * 4 = ap (λ (n : ℕ). new_page_count items * n) last in
     omega (arith, size, again, whole, product)
 fixups_by file items false e is = refl
@@ -248,7 +251,7 @@ fixups_length file items e = fixups_by file items (has_records file) e (λ is. i
 entry_length : (object : ℕ) (p : Placed) → length (entry_spelling object p) ≡ 14
 entry_length object p = refl
 
-placed_length : (object : ℕ) (ps : List Placed) → length (flat_map (entry_spelling object) ps) ≡ 14 * length ps
+placed_length : (object : ℕ) (ps : List Placed) → length (flat_map (entry_spelling object) ps) ≡ RESOURCE_ENTRY_LEN * length ps
 placed_length object [] = omega arith
 placed_length object (p ∷ ps) =
     let rest = placed_length object ps in
@@ -260,7 +263,7 @@ pub placed_number : (end : ℕ) (items : List ResItem) → length (placed_from e
 placed_number end [] = refl
 placed_number end (i ∷ items) = let rest = placed_number (aligned end + length i.bytes) items in omega (arith, rest)
 
-pub entries_length : (object end : ℕ) (items : List ResItem) → length (entries_from object end items) ≡ 14 * length items
+pub entries_length : (object end : ℕ) (items : List ResItem) → length (entries_from object end items) ≡ RESOURCE_ENTRY_LEN * length items
 entries_length object end items = let a = placed_length object (placed_from end items) in let b = placed_number end items in omega (arith, a, b)
 
 -- ---- what stands where

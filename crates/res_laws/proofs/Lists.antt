@@ -31,7 +31,7 @@ map_split {X} f n k =
     ap (map f) (range_split 0 n k) ∙ map-append f (range_with_len 0 n) (range_with_len (0 + n) k)
     ∙ ap (λ (j : ℕ). map f (range_with_len 0 n) ++ map f (range_with_len j k)) (omega arith)
 
--- what holds of the entries of a table and of those behind them
+-- what holds of the entries of a table and of those after them
 pub each_two : (P : ℕ → Type 0) (n m : ℕ) → ((k : ℕ) → k < n → P k) → ((j : ℕ) → j < m → P (n + j)) → (k : ℕ) → k < n + m → P k
 each_two P n m old new k lt = elim (cases_lt k n) [
   | inl less ↦ old k less
@@ -107,7 +107,7 @@ moved n at j a len now file ys here there le =
     let size = length_span file a len there in
     number_front n at j now (span file a (a + len)) ys here (omega (arith, size, le)) ∙ number_span n a len j file le
 
--- a number that is spelled behind some bytes
+-- a number that is spelled after some bytes
 pub number_spelled : (n v at j : ℕ) (file xs ys : List ℕ) → At file at (xs ++ (little_bytes n v ++ ys)) → length xs ≡ j → v < 256 ^ n → number_at n file (at + j) ≡ v
 number_spelled n v at j file xs ys here len fits =
     let place = at_more file xs (little_bytes n v ++ ys) at j here len in

@@ -7,11 +7,13 @@ use Rattle.std.proofs.lemmas.Bool.{and_parts}
 use Rattle.lx_types.specs.declared.refusal.LxKind.TheVariants.{Field}
 use Rattle.lx_bytes.specs.LittleEndian.{AreBytes}
 use Rattle.lx_types.specs.declared.refusal.LxRefusal.{LxRefusal}
+use Rattle.lx_model.specs.declared.header_fields.TheConstants.{EIP_OBJECT, EIP, RESIDENT_NAME_TABLE, ENTRY_TABLE, IMPORT_MODULE_TABLE, IMPORT_MODULE_COUNT, NONRESIDENT_NAME_TABLE, NONRESIDENT_NAME_LENGTH}
 use Rattle.lx_model.specs.Reading.{cursor, Many, many, placed, fault_of, value_or, fault}
 use Rattle.lx_model.specs.Header.{field, table, object_count, import_count, start_of, start_fault, header_fault, header_place}
 use Rattle.lx_model.specs.Tables.{objects_fault, pages_fault}
 use Rattle.lx_model.specs.NameTables.{Named, name_entry, names_in, names_spelling, NameFits, resident_names, other_names, lacks_name, resident_fault, others_fault, import_entry, imports_in, import_spelling, import_names, imports_fault}
-use Rattle.lx_model.specs.EntryTable.{Numbered, LAST_ORDINAL, bundle_at, entries_in, entries_of, entries_fault}
+use Rattle.lx_model.specs.EntryTable.{Numbered, bundle_at, entries_in, entries_of, entries_fault}
+use Rattle.lx_model.specs.declared.limits.TheConstants.{MAX_ORDINAL}
 use Rattle.lx_model.specs.Bundles.{Bundle, unused, narrow, gates, wide, forwarders, ordinals_together, ordinal_count, bundle_spelling, table_spelling, BundleFits, BodyFits}
 use Rattle.lx_model.specs.Module.{LxFault}
 use Rattle.lx_model.proofs.BundlesRead as bundles_read
@@ -82,11 +84,11 @@ lacks_none file now (Err f) e = absurd cc
 pub residents_same : (file : List ℕ) (items : List ResItem) → CanExtend file items → resident_names (extended file items) ≡ resident_names file
 residents_same file items can =
     let now = extended file items in
-    let at = table file 0x58 in
+    let at = table file RESIDENT_NAME_TABLE in
     let e = some_names file (resident_names file) (judged file can.faultless).residents in
     let read = read_ok at [] (names_in (drop at file)) e in
     let still = names_still file items at (value_or [] (resident_names file)) can read (frees file can.clear).residents in
-    ap (λ (a : ℕ). placed a (names_in (drop a now))) (table_same file items 0x58 can refl refl refl) ∙ ap (placed at) (still ∙ sym read)
+    ap (λ (a : ℕ). placed a (names_in (drop a now))) (table_same file items RESIDENT_NAME_TABLE can refl refl refl) ∙ ap (placed at) (still ∙ sym read)
 
 pub residents_faultless : (file : List ℕ) (items : List ResItem) → CanExtend file items → resident_fault (extended file items) ≡ None
 residents_faultless file items can =
@@ -114,13 +116,13 @@ others_still file items at n ns can e free =
     let again = begins_take n (drop at now) p there.0 low there.1 in
     ap names_in again.1 ∙ names_read.table_reads ns again.0 t.fits
 
-others_by : (file : List ℕ) (items : List ResItem) (none : Bool) → CanExtend file items → fault_of (cond none (Ok []) (placed (field file 0x88) (names_in (take (field file 0x8C) (drop (field file 0x88) file))))) ≡ None →
-    list_all (is_free file) (let bytes = take (field file 0x8C) (drop (field file 0x88) file) in cond none [] (taken (field file 0x88) bytes (many name_entry tt (cursor 0 bytes)) ∷ [])) ≡ true →
-    cond none (Ok []) (placed (field file 0x88) (names_in (take (field file 0x8C) (drop (field file 0x88) (extended file items))))) ≡ cond none (Ok []) (placed (field file 0x88) (names_in (take (field file 0x8C) (drop (field file 0x88) file))))
+others_by : (file : List ℕ) (items : List ResItem) (none : Bool) → CanExtend file items → fault_of (cond none (Ok []) (placed (field file NONRESIDENT_NAME_TABLE) (names_in (take (field file NONRESIDENT_NAME_LENGTH) (drop (field file NONRESIDENT_NAME_TABLE) file))))) ≡ None →
+    list_all (is_free file) (let bytes = take (field file NONRESIDENT_NAME_LENGTH) (drop (field file NONRESIDENT_NAME_TABLE) file) in cond none [] (taken (field file NONRESIDENT_NAME_TABLE) bytes (many name_entry tt (cursor 0 bytes)) ∷ [])) ≡ true →
+    cond none (Ok []) (placed (field file NONRESIDENT_NAME_TABLE) (names_in (take (field file NONRESIDENT_NAME_LENGTH) (drop (field file NONRESIDENT_NAME_TABLE) (extended file items))))) ≡ cond none (Ok []) (placed (field file NONRESIDENT_NAME_TABLE) (names_in (take (field file NONRESIDENT_NAME_LENGTH) (drop (field file NONRESIDENT_NAME_TABLE) file))))
 others_by file items true can e free = refl
 others_by file items false can e free =
-    let at = field file 0x88 in
-    let n = field file 0x8C in
+    let at = field file NONRESIDENT_NAME_TABLE in
+    let n = field file NONRESIDENT_NAME_LENGTH in
     let bytes = take n (drop at file) in
     let read = read_ok at [] (names_in bytes) e in
     let here = and_parts (is_free file (taken at bytes (many name_entry tt (cursor 0 bytes)))) true free in
@@ -129,11 +131,11 @@ others_by file items false can e free =
 pub others_same : (file : List ℕ) (items : List ResItem) → CanExtend file items → other_names (extended file items) ≡ other_names file
 others_same file items can =
     let now = extended file items in
-    let n = field_same file items 0x8C can refl refl refl in
-    let at = field_same file items 0x88 can refl refl refl in
-    ap (λ (k : ℕ). cond (eqb k 0) (Ok []) (placed (field now 0x88) (names_in (take k (drop (field now 0x88) now))))) n
-    ∙ ap (λ (a : ℕ). cond (eqb (field file 0x8C) 0) (Ok []) (placed a (names_in (take (field file 0x8C) (drop a now))))) at
-    ∙ others_by file items (eqb (field file 0x8C) 0) can (others_good file can.faultless) (frees file can.clear).others
+    let n = field_same file items NONRESIDENT_NAME_LENGTH can refl refl refl in
+    let at = field_same file items NONRESIDENT_NAME_TABLE can refl refl refl in
+    ap (λ (k : ℕ). cond (eqb k 0) (Ok []) (placed (field now NONRESIDENT_NAME_TABLE) (names_in (take k (drop (field now NONRESIDENT_NAME_TABLE) now))))) n
+    ∙ ap (λ (a : ℕ). cond (eqb (field file NONRESIDENT_NAME_LENGTH) 0) (Ok []) (placed a (names_in (take (field file NONRESIDENT_NAME_LENGTH) (drop a now))))) at
+    ∙ others_by file items (eqb (field file NONRESIDENT_NAME_LENGTH) 0) can (others_good file can.faultless) (frees file can.clear).others
 
 pub others_faultless : (file : List ℕ) (items : List ResItem) → CanExtend file items → others_fault (extended file items) ≡ None
 others_faultless file items can = ap fault_of (others_same file items can) ∙ others_good file can.faultless
@@ -158,12 +160,12 @@ imports_still file items at n names can e free =
 pub imports_same : (file : List ℕ) (items : List ResItem) → CanExtend file items → import_names (extended file items) ≡ import_names file
 imports_same file items can =
     let now = extended file items in
-    let at = table file 0x70 in
+    let at = table file IMPORT_MODULE_TABLE in
     let n = import_count file in
     let read = read_ok at [] (imports_in n (drop at file)) (judged file can.faultless).imports in
     let still = imports_still file items at n (value_or [] (import_names file)) can read (frees file can.clear).imports in
-    ap (λ (a : ℕ). placed a (imports_in (import_count now) (drop a now))) (table_same file items 0x70 can refl refl refl)
-    ∙ ap (λ (k : ℕ). placed at (imports_in k (drop at now))) (field_same file items 0x74 can refl refl refl) ∙ ap (placed at) (still ∙ sym read)
+    ap (λ (a : ℕ). placed a (imports_in (import_count now) (drop a now))) (table_same file items IMPORT_MODULE_TABLE can refl refl refl)
+    ∙ ap (λ (k : ℕ). placed at (imports_in k (drop at now))) (field_same file items IMPORT_MODULE_COUNT can refl refl refl) ∙ ap (placed at) (still ∙ sym read)
 
 pub imports_faultless : (file : List ℕ) (items : List ResItem) → CanExtend file items → imports_fault (extended file items) ≡ None
 imports_faultless file items can = ap fault_of (imports_same file items can) ∙ (judged file can.faultless).imports
@@ -175,7 +177,7 @@ unfolding bundle_at
 end_reads objects imports last at rest = rw (byte_reads 0 (omega arith) at rest) refl
 
 -- a table of bundles ends where it is spelled to
-bundles_end : (objects imports : ℕ) (bs : List Bundle) (last at : ℕ) (rest : List ℕ) → Each (BundleFits objects imports) bs → last + ordinals_together bs ≤ LAST_ORDINAL →
+bundles_end : (objects imports : ℕ) (bs : List Bundle) (last at : ℕ) (rest : List ℕ) → Each (BundleFits objects imports) bs → last + ordinals_together bs ≤ MAX_ORDINAL →
     (a : ℕ) × ((many (bundle_at objects imports) last (cursor at (table_spelling bs ++ rest))).end ≡ Ok (cursor a rest))
 bundles_end objects imports [] last at rest fits room =
     (at + 1, ap (λ (m : Many (List Numbered)). m.end) (many_ends (bundle_at objects imports) last (cursor at (0 ∷ rest)) (cursor (at + 1) rest) (end_reads objects imports last at rest)))
@@ -214,14 +216,14 @@ entries_still file items at objects imports es can e free =
 pub entries_same : (file : List ℕ) (items : List ResItem) → CanExtend file items → entries_of (extended file items) ≡ entries_of file
 entries_same file items can =
     let now = extended file items in
-    let at = table file 0x5C in
+    let at = table file ENTRY_TABLE in
     let o = object_count file in
     let i = import_count file in
     let read = read_ok at [] (entries_in o i (drop at file)) (judged file can.faultless).entries in
     let still = entries_still file items at o i (value_or [] (entries_of file)) can read (frees file can.clear).entries in
-    ap (λ (a : ℕ). placed a (entries_in (object_count now) (import_count now) (drop a now))) (table_same file items 0x5C can refl refl refl)
+    ap (λ (a : ℕ). placed a (entries_in (object_count now) (import_count now) (drop a now))) (table_same file items ENTRY_TABLE can refl refl refl)
     ∙ ap (λ (k : ℕ). placed at (entries_in k (import_count now) (drop at now))) (header_now file items can).count
-    ∙ ap (λ (k : ℕ). placed at (entries_in (o + 1) k (drop at now))) (field_same file items 0x74 can refl refl refl) ∙ ap (placed at) (still ∙ sym read)
+    ∙ ap (λ (k : ℕ). placed at (entries_in (o + 1) k (drop at now))) (field_same file items IMPORT_MODULE_COUNT can refl refl refl) ∙ ap (placed at) (still ∙ sym read)
 
 pub entries_faultless : (file : List ℕ) (items : List ResItem) → CanExtend file items → entries_fault (extended file items) ≡ None
 entries_faultless file items can = ap fault_of (entries_same file items can) ∙ (judged file can.faultless).entries
@@ -230,8 +232,8 @@ entries_faultless file items can = ap fault_of (entries_same file items can) ∙
 
 pub start_same : (file : List ℕ) (items : List ResItem) → CanExtend file items → start_of (extended file items) ≡ start_of file
 start_same file items can =
-    ap (λ (o : ℕ). cond (eqb o 0) None (Some (o, field (extended file items) 0x1C))) (field_same file items 0x18 can refl refl refl)
-    ∙ ap (λ (x : ℕ). cond (eqb (field file 0x18) 0) None (Some (field file 0x18, x))) (field_same file items 0x1C can refl refl refl)
+    ap (λ (o : ℕ). cond (eqb o 0) None (Some (o, field (extended file items) EIP))) (field_same file items EIP_OBJECT can refl refl refl)
+    ∙ ap (λ (x : ℕ). cond (eqb (field file EIP_OBJECT) 0) None (Some (field file EIP_OBJECT, x))) (field_same file items EIP can refl refl refl)
 
 start_still : (s o n : ℕ) (e f : LxRefusal) → n ≡ o + 1 → cond (leb s o) None (Some e) ≡ None → cond (leb s n) None (Some f) ≡ None
 start_still s o n e f more h = by_test (leb s o) refl h
@@ -246,5 +248,5 @@ start_still s o n e f more h = by_test (leb s o) refl h
 pub start_faultless : (file : List ℕ) (items : List ResItem) → CanExtend file items → start_fault (extended file items) ≡ None
 start_faultless file items can =
     let now = extended file items in
-    subst (λ (s : ℕ). cond (leb s (object_count now)) None (Some (fault Field (header_place now + 0x18))) ≡ None) (sym (field_same file items 0x18 can refl refl refl))
-    (start_still (field file 0x18) (object_count file) (object_count now) (fault Field (header_place file + 0x18)) (fault Field (header_place now + 0x18)) (header_now file items can).count (judged file can.faultless).start)
+    subst (λ (s : ℕ). cond (leb s (object_count now)) None (Some (fault Field (header_place now + EIP_OBJECT))) ≡ None) (sym (field_same file items EIP_OBJECT can refl refl refl))
+    (start_still (field file EIP_OBJECT) (object_count file) (object_count now) (fault Field (header_place file + EIP_OBJECT)) (fault Field (header_place now + EIP_OBJECT)) (header_now file items can).count (judged file can.faultless).start)

@@ -7,6 +7,9 @@ use Rattle.std.proofs.lemmas.List.FromFn.{map-range_with_len_more, length-map-ra
 use Rattle.lx_types.specs.Parts.{span}
 use Rattle.lx_types.specs.declared.object.ObjHead.{ObjHead}
 use Rattle.lx_types.specs.declared.refusal.LxKind.TheVariants as kinds
+use Rattle.lx_types.specs.declared.limits.TheConstants.{BASE_UNIT}
+use Rattle.lx_model.specs.declared.lengths.TheConstants.{OBJECT_ENTRY_LEN}
+use Rattle.lx_model.specs.declared.header_fields.TheConstants.{OBJECT_TABLE}
 use Rattle.lx_model.specs.Reading.{fault, number_at, short_at, first, first_of}
 use Rattle.lx_model.specs.Header.{table, page_count, object_count}
 use Rattle.lx_model.specs.Tables.{object_entry, object_place, objects_of, object_fault, objects_fault, lacks_pages}
@@ -36,9 +39,9 @@ object_at file at o rest here fits =
     ap (λ (xs : List ℕ). before ++ (xs ++ rest)) (append-nil (object_spelling o)) ∙ ap (λ (xs : List ℕ). before ++ xs) (sym here.is) ∙ take-append-drop at file in
     let size = length-take at file in
     let long = here.long in
-    let place : length before + 24 * 0 ≡ at = omega (arith, size, long) in
+    let place : length before + OBJECT_ENTRY_LEN * 0 ≡ at = omega (arith, size, long) in
     let again = ap (λ (os : List ObjHead). get_or os 0 o) (objects_again before (o ∷ []) rest (fits, tt)) in
-    subst (λ (k : ℕ). object_entry file k ≡ o) place (subst (λ (xs : List ℕ). object_entry xs (length before + 24 * 0) ≡ o) whole again)
+    subst (λ (k : ℕ). object_entry file k ≡ o) place (subst (λ (xs : List ℕ). object_entry xs (length before + OBJECT_ENTRY_LEN * 0) ≡ o) whole again)
 
 -- ---- the table
 
@@ -48,23 +51,23 @@ entry_of a b c d e = record { size = a; base = b; flags = c; first = d; count = 
 same_entry : {a b c d e a' b' c' d' e' : ℕ} → a ≡ a' → b ≡ b' → c ≡ c' → d ≡ d' → e ≡ e' → entry_of a b c d e ≡ entry_of a' b' c' d' e'
 same_entry p q r s t = cc
 
-old_there : (file : List ℕ) (items : List ResItem) → CanExtend file items → At (extended file items) (objects_place file items) (span file (table file 0x40) (table file 0x40 + 24 * object_count file) ++ (object_spelling (new_object file items) ++ from_pages file items))
+old_there : (file : List ℕ) (items : List ResItem) → CanExtend file items → At (extended file items) (objects_place file items) (span file (table file OBJECT_TABLE) (table file OBJECT_TABLE + OBJECT_ENTRY_LEN * object_count file) ++ (object_spelling (new_object file items) ++ from_pages file items))
 unfolding object_table
-old_there file items can = at_same (extended file items) _ _ (objects_place file items) (append_assoc (old_entries file 0x40 24 (object_count file)) (object_spelling (new_object file items)) (from_pages file items)) (stands file items can).objects
+old_there file items can = at_same (extended file items) _ _ (objects_place file items) (append_assoc (old_entries file OBJECT_TABLE OBJECT_ENTRY_LEN (object_count file)) (object_spelling (new_object file items)) (from_pages file items)) (stands file items can).objects
 
-number_moved : (file : List ℕ) (items : List ResItem) (k j : ℕ) → CanExtend file items → k < object_count file → j + 4 ≤ 24 → number_at 4 (extended file items) (objects_place file items + 24 * k + j) ≡ number_at 4 file (table file 0x40 + 24 * k + j)
+number_moved : (file : List ℕ) (items : List ResItem) (k j : ℕ) → CanExtend file items → k < object_count file → j + 4 ≤ 24 → number_at 4 (extended file items) (objects_place file items + OBJECT_ENTRY_LEN * k + j) ≡ number_at 4 file (table file OBJECT_TABLE + OBJECT_ENTRY_LEN * k + j)
 number_moved file items k j can lt le =
-    let a = table file 0x40 in
-    let len = 24 * object_count file in
+    let a = table file OBJECT_TABLE in
+    let len = OBJECT_ENTRY_LEN * object_count file in
     ap (number_at 4 (extended file items)) (omega arith)
-    ∙ copied 4 (objects_place file items) (24 * k + j) a len (extended file items) file (object_spelling (new_object file items) ++ from_pages file items) (old_there file items can) (objects_there file can.faultless) (omega arith) (omega (arith, lt, le))
+    ∙ copied 4 (objects_place file items) (OBJECT_ENTRY_LEN * k + j) a len (extended file items) file (object_spelling (new_object file items) ++ from_pages file items) (old_there file items can) (objects_there file can.faultless) (omega arith) (omega (arith, lt, le))
     ∙ ap (number_at 4 file) (omega arith)
 
-pub entry_moved : (file : List ℕ) (items : List ResItem) (k : ℕ) → CanExtend file items → k < object_count file → object_entry (extended file items) (objects_place file items + 24 * k) ≡ object_entry file (table file 0x40 + 24 * k)
+pub entry_moved : (file : List ℕ) (items : List ResItem) (k : ℕ) → CanExtend file items → k < object_count file → object_entry (extended file items) (objects_place file items + OBJECT_ENTRY_LEN * k) ≡ object_entry file (table file OBJECT_TABLE + OBJECT_ENTRY_LEN * k)
 entry_moved file items k can lt =
     let none : (x : ℕ) → x + 0 ≡ x = (λ x. omega arith) in
-    let size : number_at 4 (extended file items) (objects_place file items + 24 * k) ≡ number_at 4 file (table file 0x40 + 24 * k) =
-    ap (number_at 4 (extended file items)) (sym (none (objects_place file items + 24 * k))) ∙ number_moved file items k 0 can lt (omega arith) ∙ ap (number_at 4 file) (none (table file 0x40 + 24 * k)) in
+    let size : number_at 4 (extended file items) (objects_place file items + OBJECT_ENTRY_LEN * k) ≡ number_at 4 file (table file OBJECT_TABLE + OBJECT_ENTRY_LEN * k) =
+    ap (number_at 4 (extended file items)) (sym (none (objects_place file items + OBJECT_ENTRY_LEN * k))) ∙ number_moved file items k 0 can lt (omega arith) ∙ ap (number_at 4 file) (none (table file OBJECT_TABLE + OBJECT_ENTRY_LEN * k)) in
     same_entry size (number_moved file items k 4 can lt (omega arith)) (number_moved file items k 8 can lt (omega arith)) (number_moved file items k 12 can lt (omega arith)) (number_moved file items k 16 can lt (omega arith))
 
 base_small : (n : ℕ) → base_or_zero n < 2 ^ 32
@@ -90,17 +93,17 @@ new_fits file items can =
     let size = size_small file items can in
     record {
       size = omega (arith, size);
-      base = base_small (up_to_unit (ends_above 0 (objects_of file)) 0x10000);
+      base = base_small (up_to_unit (ends_above 0 (objects_of file)) BASE_UNIT);
       flags = omega arith;
       first = first_small (eqb (new_page_count items) 0) (page_count file + 1) (omega (arith, pages));
       count = omega (arith, pages);
     }
 
-new_there : (file : List ℕ) (items : List ResItem) → CanExtend file items → object_entry (extended file items) (objects_place file items + 24 * object_count file) ≡ new_object file items
+new_there : (file : List ℕ) (items : List ResItem) → CanExtend file items → object_entry (extended file items) (objects_place file items + OBJECT_ENTRY_LEN * object_count file) ≡ new_object file items
 new_there file items can =
-    object_at (extended file items) (objects_place file items + 24 * object_count file) (new_object file items) (from_pages file items)
-    (at_more (extended file items) (span file (table file 0x40) (table file 0x40 + 24 * object_count file)) _ (objects_place file items) (24 * object_count file) (old_there file items can)
-    (length_table file (table file 0x40) (24 * object_count file) (objects_there file can.faultless))) (new_fits file items can)
+    object_at (extended file items) (objects_place file items + OBJECT_ENTRY_LEN * object_count file) (new_object file items) (from_pages file items)
+    (at_more (extended file items) (span file (table file OBJECT_TABLE) (table file OBJECT_TABLE + OBJECT_ENTRY_LEN * object_count file)) _ (objects_place file items) (OBJECT_ENTRY_LEN * object_count file) (old_there file items can)
+    (length_table file (table file OBJECT_TABLE) (OBJECT_ENTRY_LEN * object_count file) (objects_there file can.faultless))) (new_fits file items can)
 
 pub objects_now : (file : List ℕ) (items : List ResItem) → CanExtend file items → objects_of (extended file items) ≡ objects_of file ++ new_object file items ∷ []
 unfolding objects_of
@@ -109,8 +112,8 @@ objects_now file items can =
     let h = header_now file items can in
     let n = object_count file in
     let p = objects_place file items in
-    let f = (λ (k : ℕ). object_entry now (p + 24 * k)) in
-    ap (λ (t : ℕ). map (λ k. object_entry now (t + 24 * k)) (range_with_len 0 (object_count now))) h.objects
+    let f = (λ (k : ℕ). object_entry now (p + OBJECT_ENTRY_LEN * k)) in
+    ap (λ (t : ℕ). map (λ k. object_entry now (t + OBJECT_ENTRY_LEN * k)) (range_with_len 0 (object_count now))) h.objects
     ∙ ap (λ (c : ℕ). map f (range_with_len 0 c)) h.count
     ∙ map-range_with_len_more f 0 n n (omega arith)
     ∙ ap (λ (os : List ObjHead). os ++ f n ∷ []) (map_range f (λ k. object_entry file (object_place file k)) 0 0 n (λ k lt. entry_moved file items (0 + k) can (omega (arith, lt))))
@@ -155,20 +158,20 @@ objects_faultless file items can =
     let h = header_now file items can in
     let n = object_count file in
     let p = objects_place file items in
-    let place : (k : ℕ) → object_place now k ≡ p + 24 * k = (λ k. ap (λ (t : ℕ). t + 24 * k) h.objects) in
+    let place : (k : ℕ) → object_place now k ≡ p + OBJECT_ENTRY_LEN * k = (λ k. ap (λ (t : ℕ). t + OBJECT_ENTRY_LEN * k) h.objects) in
     let r = rise file items in
     let a = r.pages in
     let b = r.fixups in
     let c = r.resources in
     let d = r.whole in
     let long = (stands file items can).long in
-    let room : (k : ℕ) → k < n + 1 → p + 24 * k + 24 ≤ length now = (λ k lt. omega (arith, a, b, c, d, long, lt)) in
+    let room : (k : ℕ) → k < n + 1 → p + OBJECT_ENTRY_LEN * k + 24 ≤ length now = (λ k lt. omega (arith, a, b, c, d, long, lt)) in
     let pages : page_count file ≤ page_count now = (let q = h.pages in omega (arith, q)) in
     subst (λ (m : ℕ). first_of m (object_fault now) ≡ None) (sym h.count) (none_range (object_fault now) (n + 1) (each_two (λ k. object_fault now k ≡ None) n 1
-    (λ k lt. object_good now k (p + 24 * k) (place k)
+    (λ k lt. object_good now k (p + OBJECT_ENTRY_LEN * k) (place k)
     (subst (λ (o : ObjHead). lacks_pages (page_count now) o ≡ false) (sym (entry_moved file items k can lt)) (still_has (page_count file) (page_count now) (object_entry file (object_place file k)) (old_has file k can.faultless lt) pages))
     (room k (omega (arith, lt))))
     (λ j lt. let last : n ≡ n + j = omega (arith, lt) in
-    subst (λ (k : ℕ). object_fault now k ≡ None) last (object_good now n (p + 24 * n) (place n)
+    subst (λ (k : ℕ). object_fault now k ≡ None) last (object_good now n (p + OBJECT_ENTRY_LEN * n) (place n)
     (subst (λ (o : ObjHead). lacks_pages (page_count now) o ≡ false) (sym (new_there file items can)) (still_has (page_count now) (page_count now) (new_object file items) (new_has file items (page_count now) (sym h.pages)) (omega arith)))
     (room n (omega arith))))))

@@ -13,6 +13,7 @@ use Rattle.lx_types.specs.declared.object.PageKind.TheVariants.{Plain, Iterated,
 use Rattle.lx_types.specs.declared.object.TheConstants.{PAGE_SIZE}
 use Rattle.lx_types.specs.declared.refusal.LxRefusal.{LxRefusal}
 use Rattle.lx_types.specs.declared.refusal.LxKind.TheVariants as kinds
+use Rattle.lx_model.specs.declared.lengths.TheConstants.{PAGE_ENTRY_LEN}
 use Rattle.lx_model.specs.Reading.{fault, short_at, first_of, ◌then◌, placed, fault_of}
 use Rattle.lx_model.specs.Header.{page_count}
 use Rattle.lx_model.specs.Iterated.{expansion}
@@ -88,11 +89,11 @@ entry_good now k a is le good =
     (none_then (short_at 2 now (a + 4)) (short_at 2 now (a + 6) then data_fault now a (page_entry now a)) (long_enough 2 now (a + 4) (omega (arith, le)))
     (none_then (short_at 2 now (a + 6)) (data_fault now a (page_entry now a)) (long_enough 2 now (a + 6) (omega (arith, le))) good)))
 
-old_good : (file : List ℕ) (items : List ResItem) (k : ℕ) → CanExtend file items → k < page_count file → data_fault (extended file items) (pages_place file items + 8 * k) (page_entry (extended file items) (pages_place file items + 8 * k)) ≡ None
+old_good : (file : List ℕ) (items : List ResItem) (k : ℕ) → CanExtend file items → k < page_count file → data_fault (extended file items) (pages_place file items + PAGE_ENTRY_LEN * k) (page_entry (extended file items) (pages_place file items + PAGE_ENTRY_LEN * k)) ≡ None
 unfolding pages_fault
 old_good file items k can lt =
     let now = extended file items in
-    let a = pages_place file items + 8 * k in
+    let a = pages_place file items + PAGE_ENTRY_LEN * k in
     let b = page_place file k in
     let old = page_is_whole file k (each_none (page_count file) (page_fault file) k (judged file can.faultless).pages lt) in
     let head = head_at file k lt in
@@ -103,10 +104,10 @@ old_good file items k can lt =
 -- ---- new entries
 
 new_good : (file : List ℕ) (items : List ResItem) (k : ℕ) → CanExtend file items → k < new_page_count items →
-    data_fault (extended file items) (pages_place file items + 8 * page_count file + 8 * k) (page_entry (extended file items) (pages_place file items + 8 * page_count file + 8 * k)) ≡ None
+    data_fault (extended file items) (pages_place file items + PAGE_ENTRY_LEN * page_count file + PAGE_ENTRY_LEN * k) (page_entry (extended file items) (pages_place file items + PAGE_ENTRY_LEN * page_count file + PAGE_ENTRY_LEN * k)) ≡ None
 new_good file items k can lt =
     let now = extended file items in
-    let a = pages_place file items + 8 * page_count file + 8 * k in
+    let a = pages_place file items + PAGE_ENTRY_LEN * page_count file + PAGE_ENTRY_LEN * k in
     let page = placed_page file items k in
     let begins = page_begins (object_size items) k lt in
     let r = rise file items in
@@ -131,15 +132,15 @@ pages_faultless file items can =
     let n = page_count file in
     let m = new_page_count items in
     let p = pages_place file items in
-    let place : (k : ℕ) → page_place now k ≡ p + 8 * k = (λ k. ap (λ (t : ℕ). t + 8 * k) h.heads) in
+    let place : (k : ℕ) → page_place now k ≡ p + PAGE_ENTRY_LEN * k = (λ k. ap (λ (t : ℕ). t + PAGE_ENTRY_LEN * k) h.heads) in
     let r = rise file items in
     let b = r.fixups in
     let c = r.resources in
     let d = r.whole in
     let long = (stands file items can).long in
-    let room : (k : ℕ) → k < n + m → p + 8 * k + 8 ≤ length now = (λ k lt. omega (arith, b, c, d, long, lt)) in
+    let room : (k : ℕ) → k < n + m → p + PAGE_ENTRY_LEN * k + 8 ≤ length now = (λ k lt. omega (arith, b, c, d, long, lt)) in
     subst (λ (c : ℕ). first_of c (page_fault now) ≡ None) (sym h.pages) (none_range (page_fault now) (n + m) (each_two (λ k. page_fault now k ≡ None) n m
-    (λ k lt. entry_good now k (p + 8 * k) (place k) (room k (omega (arith, lt))) (old_good file items k can lt))
+    (λ k lt. entry_good now k (p + PAGE_ENTRY_LEN * k) (place k) (room k (omega (arith, lt))) (old_good file items k can lt))
     (λ j lt.
-    let at : p + 8 * n + 8 * j ≡ p + 8 * (n + j) = omega arith in
-    entry_good now (n + j) (p + 8 * (n + j)) (place (n + j)) (room (n + j) (omega (arith, lt))) (subst (λ (a : ℕ). data_fault now a (page_entry now a) ≡ None) at (new_good file items j can lt)))))
+    let at : p + PAGE_ENTRY_LEN * n + PAGE_ENTRY_LEN * j ≡ p + PAGE_ENTRY_LEN * (n + j) = omega arith in
+    entry_good now (n + j) (p + PAGE_ENTRY_LEN * (n + j)) (place (n + j)) (room (n + j) (omega (arith, lt))) (subst (λ (a : ℕ). data_fault now a (page_entry now a) ≡ None) at (new_good file items j can lt)))))

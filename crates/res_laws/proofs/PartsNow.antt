@@ -10,6 +10,7 @@ use Rattle.lx_types.specs.Sound.{HasPages, IsNumberOf}
 use Rattle.lx_types.specs.declared.object.ObjHead.{ObjHead}
 use Rattle.lx_types.specs.declared.object.PageHead.{PageHead}
 use Rattle.lx_types.specs.declared.object.PageId.{PageId}
+use Rattle.lx_model.specs.declared.header_fields.TheConstants.{MODULE_FLAGS}
 use Rattle.lx_model.specs.Reading.{value_or}
 use Rattle.lx_model.specs.Header.{page_count}
 use Rattle.lx_model.specs.Tables.{objects_of, page_heads}
@@ -42,7 +43,7 @@ name_now file items can = ap (λ (r : Result (List Named) _). first_name (value_
 
 pub flags_now : (file : List ℕ) (items : List ResItem) → CanExtend file items → (parts_of (extended file items)).flags ≡ (parts_of file).flags
 unfolding parts_of
-flags_now file items can = field_same file items 0x10 can refl refl refl
+flags_now file items can = field_same file items MODULE_FLAGS can refl refl refl
 
 pub start_now : (file : List ℕ) (items : List ResItem) → CanExtend file items → (parts_of (extended file items)).start ≡ (parts_of file).start
 unfolding parts_of

@@ -11,6 +11,7 @@ use Rattle.lx_types.specs.declared.fix.FixTarget.{FixTarget}
 use Rattle.lx_types.specs.declared.fix.FixTarget.TheVariants.{Internal, Ordinal, Named, Own}
 use Rattle.lx_types.specs.declared.refusal.LxRefusal.{LxRefusal}
 use Rattle.lx_types.specs.declared.refusal.LxKind.TheVariants.{BadTarget}
+use Rattle.lx_model.specs.declared.header_fields.TheConstants.{FIXUP_PAGE_TABLE, IMPORT_MODULE_COUNT, IMPORT_PROCEDURE_TABLE}
 use Rattle.lx_model.specs.Reading.{fault, cursor, first, first_of, fault_of, Many, ends_at, value_or}
 use Rattle.lx_model.specs.Header.{table, page_count, object_count, import_count}
 use Rattle.lx_model.specs.EntryTable.{Numbered, names_one_of, entries_of}
@@ -74,13 +75,13 @@ name_stands file items at can some free =
     let text = span_same file now (at + 1) len there long (same_part file now at (1 + len) (at + 1) len all (omega arith) (omega arith)) in
     name_is now at len size (omega (arith, there, long)) ∙ ap (λ (x : List ℕ). Some x) text ∙ sym (name_is file at len refl there)
 
-pub names_stand : (file : List ℕ) (items : List ResItem) (offset : ℕ) → CanExtend file items → is_some (name_at file (table file 0x78 + offset)) ≡ true → list_all (is_free file) (name_parts file offset) ≡ true →
-    name_at (extended file items) (table (extended file items) 0x78 + offset) ≡ name_at file (table file 0x78 + offset)
+pub names_stand : (file : List ℕ) (items : List ResItem) (offset : ℕ) → CanExtend file items → is_some (name_at file (table file IMPORT_PROCEDURE_TABLE + offset)) ≡ true → list_all (is_free file) (name_parts file offset) ≡ true →
+    name_at (extended file items) (table (extended file items) IMPORT_PROCEDURE_TABLE + offset) ≡ name_at file (table file IMPORT_PROCEDURE_TABLE + offset)
 names_stand file items offset can some free =
-    let at = table file 0x78 + offset in
+    let at = table file IMPORT_PROCEDURE_TABLE + offset in
     let q = part at (1 + get_or file at 0) in
     let parts : list_all (is_free file) (q ∷ []) ≡ true = subst (λ (b : Bool). list_all (is_free file) (cond b (q ∷ []) []) ≡ true) some free in
-    ap (λ (t : ℕ). name_at (extended file items) (t + offset)) (table_same file items 0x78 can refl refl refl) ∙ name_stands file items at can some (and_parts (is_free file q) true parts).0
+    ap (λ (t : ℕ). name_at (extended file items) (t + offset)) (table_same file items IMPORT_PROCEDURE_TABLE can refl refl refl) ∙ name_stands file items at can some (and_parts (is_free file q) true parts).0
 
 -- ---- records
 
@@ -92,10 +93,10 @@ span_at file k e lt =
     let here = get_or-map-range_with_len (records_span file) 0 (page_count file) k k (0, 0) lt (omega arith) in
     subst (λ (s : ℕ × ℕ). (s.0 ≤ s.1) × (s.1 ≤ length file)) here (all k (0, 0) (omega (arith, lt, size)))
 
-part_by : (file : List ℕ) (k : ℕ) (records : Bool) → has_records file ≡ records → k < page_count file → list_all (is_free file) (cond records (part (table file 0x68) (4 * (page_count file + 1)) ∷ map (records_part file) (range_with_len 0 (page_count file))) []) ≡ true →
+part_by : (file : List ℕ) (k : ℕ) (records : Bool) → has_records file ≡ records → k < page_count file → list_all (is_free file) (cond records (part (table file FIXUP_PAGE_TABLE) (4 * (page_count file + 1)) ∷ map (records_part file) (range_with_len 0 (page_count file))) []) ≡ true →
     (is_free file (records_part file k) ≡ true) ⊎ ((records_span file k).1 ≡ 0)
 part_by file k true is lt e =
-    let here = and_parts (is_free file (part (table file 0x68) (4 * (page_count file + 1)))) (list_all (is_free file) (map (records_part file) (range_with_len 0 (page_count file)))) e in
+    let here = and_parts (is_free file (part (table file FIXUP_PAGE_TABLE) (4 * (page_count file + 1)))) (list_all (is_free file) (map (records_part file) (range_with_len 0 (page_count file)))) e in
     let size = length-map-range_with_len (records_part file) 0 (page_count file) in
     inl (subst (λ (q : Part). is_free file q ≡ true) (get_or-map-range_with_len (records_part file) 0 (page_count file) k k (part 0 0) lt (omega arith))
     (all_at (is_free file) (map (records_part file) (range_with_len 0 (page_count file))) k (part 0 0) here.1 (omega (arith, lt, size))))
@@ -144,10 +145,10 @@ IsStillThere file items t = is_target (targets_in (extended file items)) t ≡ t
 
 target_still : (file : List ℕ) (items : List ResItem) (t : FixTarget) → CanExtend file items → is_target (targets_in file) t ≡ true → list_all (is_free file) (names_of_target file t) ≡ true → IsStillThere file items t
 target_still file items (Internal o x) can e free = still_one (object_count file) o (object_count (extended file items)) (header_now file items can).count e
-target_still file items (Ordinal i x) can e free = ap (λ (n : ℕ). names_one_of n i) (field_same file items 0x74 can refl refl refl) ∙ e
+target_still file items (Ordinal i x) can e free = ap (λ (n : ℕ). names_one_of n i) (field_same file items IMPORT_MODULE_COUNT can refl refl refl) ∙ e
 target_still file items (Named i x) can e free =
-    let parts = and_parts (names_one_of (import_count file) i) (is_some (name_at file (table file 0x78 + x))) e in
-    ap (λ (n : ℕ). names_one_of n i && is_some (name_at (extended file items) (table (extended file items) 0x78 + x))) (field_same file items 0x74 can refl refl refl)
+    let parts = and_parts (names_one_of (import_count file) i) (is_some (name_at file (table file IMPORT_PROCEDURE_TABLE + x))) e in
+    ap (λ (n : ℕ). names_one_of n i && is_some (name_at (extended file items) (table (extended file items) IMPORT_PROCEDURE_TABLE + x))) (field_same file items IMPORT_MODULE_COUNT can refl refl refl)
     ∙ ap (λ (o : Option (List ℕ)). names_one_of (import_count file) i && is_some o) (names_stand file items x can parts.1 free) ∙ e
 target_still file items (Own x) can e free = ap (λ (r : Result (List Numbered) LxRefusal). is_some (entry_of (value_or [] r) x)) (entries_same file items can) ∙ e
 

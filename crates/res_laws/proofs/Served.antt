@@ -17,7 +17,8 @@ use Rattle.lx_model.specs.Records.{Record, fixes_of}
 use Rattle.lx_model.specs.Reading.{Many}
 use Rattle.lx_model.specs.Module.{IsRead, parts_of, page_records, targets_of, is_reference, once, refs_of, is_target, targets_in}
 use Rattle.lx_model.specs.Library.{no_module, module_of, has_name, module_named}
-use Rattle.lx_model.specs.Gathering.{MOST_MODULES, twice_at, LibraryFault, IsLibrary}
+use Rattle.lx_model.specs.Gathering.{twice_at, LibraryFault, IsLibrary}
+use Rattle.lx_types.specs.declared.limits.TheConstants.{MAX_MODULES}
 use Rattle.lx_model.proofs.Each.{each_more, each_filter}
 use Rattle.lx_model.proofs.Firsts.{each_entry}
 use Rattle.lx_model.proofs.Meaning.{judged}
@@ -127,8 +128,8 @@ twice_same lib k now j lt same =
 still_library : (lib : List Parts) (k : ℕ) (now : Parts) → k < length lib → now.name ≡ (module_of lib k).name → IsRead now → IsLibrary lib → IsLibrary (with_module lib k now)
 unfolding LibraryFault
 still_library lib k now lt same read library = record {
-  faultless = ap (λ (n : ℕ). cond (ltb MOST_MODULES n) (Some (TooManyModules n)) (first (map (twice_at (with_module lib k now)) (range_with_len 0 n)))) (length_same lib k now)
-      ∙ ap (λ (os : List (Option LibraryRefusal)). cond (ltb MOST_MODULES (length lib)) (Some (TooManyModules (length lib))) (first os)) (map_range (twice_at (with_module lib k now)) (twice_at lib) 0 0 (length lib) (λ j below. twice_same lib k now (0 + j) lt same))
+  faultless = ap (λ (n : ℕ). cond (ltb MAX_MODULES n) (Some (TooManyModules n)) (first (map (twice_at (with_module lib k now)) (range_with_len 0 n)))) (length_same lib k now)
+      ∙ ap (λ (os : List (Option LibraryRefusal)). cond (ltb MAX_MODULES (length lib)) (Some (TooManyModules (length lib))) (first os)) (map_range (twice_at (with_module lib k now)) (twice_at lib) 0 0 (length lib) (λ j below. twice_same lib k now (0 + j) lt same))
       ∙ library.faultless;
   read = each_entry IsRead (λ j. cond (eqb j k) now (module_of lib j)) (length lib) (λ j below. by_test j (eqb j k) below);
 }

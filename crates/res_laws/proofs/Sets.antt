@@ -6,6 +6,7 @@ use Rattle.std.proofs.lemmas.List.{length-take, take_at, drop_at}
 use Rattle.std.proofs.lemmas.Bool.{and_parts}
 use Rattle.lx_bytes.specs.LittleEndian.{little, little_bytes}
 use Rattle.lx_bytes.proofs.Numbers.{length-little_bytes, little-little_bytes}
+use Rattle.lx_model.specs.declared.header_fields.TheConstants.{HEAP_SIZE}
 use Rattle.lx_model.specs.Reading.{number_at}
 use Rattle.res_model.specs.Bound.{with_number}
 use Rattle.res_bind.proofs.Kept.{number_length, number_stands, Outside}
@@ -51,29 +52,29 @@ set_all (s ∷ sets) place file = set_all sets place (with_number (place + s.0) 
 
 -- they lie in the header's first ACh bytes, and apart from one
 abbrev pub lie_apart : ℕ → List (ℕ × ℕ) → Bool
-lie_apart o sets = list_all (λ s. leb s.0 0xA8 && are_two s.0 o) sets
+lie_apart o sets = list_all (λ s. leb s.0 HEAP_SIZE && are_two s.0 o) sets
 
-fits_in : (o place len : ℕ) → leb o 0xA8 ≡ true → place + 0xAC ≤ len → place + o + 4 ≤ len
+fits_in : (o place len : ℕ) → leb o HEAP_SIZE ≡ true → place + 0xAC ≤ len → place + o + 4 ≤ len
 fits_in o place len e le = grind (arith, nat_tests)
 
-pub all_others : (sets : List (ℕ × ℕ)) (place o : ℕ) (file : List ℕ) → lie_apart o sets ≡ true → leb o 0xA8 ≡ true → place + 0xAC ≤ length file → number_at 4 (set_all sets place file) (place + o) ≡ number_at 4 file (place + o)
+pub all_others : (sets : List (ℕ × ℕ)) (place o : ℕ) (file : List ℕ) → lie_apart o sets ≡ true → leb o HEAP_SIZE ≡ true → place + 0xAC ≤ length file → number_at 4 (set_all sets place file) (place + o) ≡ number_at 4 file (place + o)
 all_others [] place o file e there long = refl
 all_others (s ∷ sets) place o file e there long =
-    let test = and_parts (leb s.0 0xA8 && are_two s.0 o) (lie_apart o sets) e in
-    let parts = and_parts (leb s.0 0xA8) (are_two s.0 o) test.0 in
+    let test = and_parts (leb s.0 HEAP_SIZE && are_two s.0 o) (lie_apart o sets) e in
+    let parts = and_parts (leb s.0 HEAP_SIZE) (are_two s.0 o) test.0 in
     let le = fits_in s.0 place (length file) parts.0 long in
     let size = number_length (place + s.0) s.1 file le in
     all_others sets place o (with_number (place + s.0) s.1 file) test.1 there (omega (arith, size, long))
     ∙ other_is (place + s.0) s.1 (place + o) file le (fits_in o place (length file) there long) (two_apart s.0 o place parts.1)
 
-pub all_set : (before : List (ℕ × ℕ)) (o v : ℕ) (after : List (ℕ × ℕ)) (place : ℕ) (file : List ℕ) → list_all (λ s. leb s.0 0xA8) before ≡ true → lie_apart o after ≡ true → leb o 0xA8 ≡ true → v < 2 ^ 32 → place + 0xAC ≤ length file →
+pub all_set : (before : List (ℕ × ℕ)) (o v : ℕ) (after : List (ℕ × ℕ)) (place : ℕ) (file : List ℕ) → list_all (λ s. leb s.0 HEAP_SIZE) before ≡ true → lie_apart o after ≡ true → leb o HEAP_SIZE ≡ true → v < 2 ^ 32 → place + 0xAC ≤ length file →
     number_at 4 (set_all (before ++ (o, v) ∷ after) place file) (place + o) ≡ v
 all_set [] o v after place file b e there fits long =
     let le = fits_in o place (length file) there long in
     let size = number_length (place + o) v file le in
     all_others after place o (with_number (place + o) v file) e there (omega (arith, size, long)) ∙ set_is (place + o) v file le fits
 all_set (s ∷ before) o v after place file b e there fits long =
-    let test = and_parts (leb s.0 0xA8) (list_all (λ t. leb t.0 0xA8) before) b in
+    let test = and_parts (leb s.0 HEAP_SIZE) (list_all (λ t. leb t.0 HEAP_SIZE) before) b in
     let le = fits_in s.0 place (length file) test.0 long in
     let size = number_length (place + s.0) s.1 file le in
     all_set before o v after place (with_number (place + s.0) s.1 file) test.1 e there fits (omega (arith, size, long))

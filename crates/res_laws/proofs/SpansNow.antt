@@ -8,6 +8,7 @@ use Rattle.lx_bytes.specs.LittleEndian.{little}
 use Rattle.lx_types.specs.Parts.{span}
 use Rattle.lx_types.specs.declared.refusal.LxRefusal.{LxRefusal}
 use Rattle.lx_types.specs.declared.refusal.LxKind.TheVariants.{FixTable}
+use Rattle.lx_model.specs.declared.header_fields.TheConstants.{FIXUP_PAGE_TABLE, FIXUP_RECORD_TABLE}
 use Rattle.lx_model.specs.Reading.{fault, number_at, short_at, first_of}
 use Rattle.lx_model.specs.Header.{table, page_count}
 use Rattle.lx_model.specs.FixupPages.{has_records, offset_place, records_place, records_span, spans_of, is_out_of_order, span_fault, spans_fault}
@@ -25,19 +26,19 @@ use Rattle.res_laws.proofs.HeaderFaults.{none_then, none_range, long_enough}
 
 -- ---- the table, where there is one
 
-table_is : (file : List ℕ) (items : List ResItem) → has_records file ≡ true → from_fixups file items ≡ old_entries file 0x68 4 (page_count file + 1) ++ (repeat (new_page_count items) (last_offset file) ++ from_resources file items)
+table_is : (file : List ℕ) (items : List ResItem) → has_records file ≡ true → from_fixups file items ≡ old_entries file FIXUP_PAGE_TABLE 4 (page_count file + 1) ++ (repeat (new_page_count items) (last_offset file) ++ from_resources file items)
 unfolding fixup_table
 table_is file items is =
-    ap (λ (b : Bool). cond b (old_entries file 0x68 4 (page_count file + 1) ++ repeat (new_page_count items) (last_offset file)) [] ++ from_resources file items) is
-    ∙ append_assoc (old_entries file 0x68 4 (page_count file + 1)) (repeat (new_page_count items) (last_offset file)) (from_resources file items)
+    ap (λ (b : Bool). cond b (old_entries file FIXUP_PAGE_TABLE 4 (page_count file + 1) ++ repeat (new_page_count items) (last_offset file)) [] ++ from_resources file items) is
+    ∙ append_assoc (old_entries file FIXUP_PAGE_TABLE 4 (page_count file + 1)) (repeat (new_page_count items) (last_offset file)) (from_resources file items)
 
 there : (file : List ℕ) (items : List ResItem) → CanExtend file items → has_records file ≡ true →
-    At (extended file items) (fixups_place file items) (span file (table file 0x68) (table file 0x68 + 4 * (page_count file + 1)) ++ (repeat (new_page_count items) (last_offset file) ++ from_resources file items))
+    At (extended file items) (fixups_place file items) (span file (table file FIXUP_PAGE_TABLE) (table file FIXUP_PAGE_TABLE + 4 * (page_count file + 1)) ++ (repeat (new_page_count items) (last_offset file) ++ from_resources file items))
 there file items can is = at_same (extended file items) _ _ (fixups_place file items) (table_is file items is) (stands file items can).fixups
 
 old_offset : (file : List ℕ) (items : List ResItem) (k : ℕ) → CanExtend file items → has_records file ≡ true → k < page_count file + 1 → number_at 4 (extended file items) (fixups_place file items + 4 * k) ≡ number_at 4 file (offset_place file k)
 old_offset file items k can is lt =
-    moved 4 (fixups_place file items) (4 * k) (table file 0x68) (4 * (page_count file + 1)) (extended file items) file (repeat (new_page_count items) (last_offset file) ++ from_resources file items)
+    moved 4 (fixups_place file items) (4 * k) (table file FIXUP_PAGE_TABLE) (4 * (page_count file + 1)) (extended file items) file (repeat (new_page_count items) (last_offset file) ++ from_resources file items)
     (there file items can is) (offsets_there file can.faultless is) (omega (arith, lt))
 
 -- one of several copies
@@ -56,9 +57,9 @@ last_is file = let at = offset_place file (page_count file) in let four : at + 4
 new_offset : (file : List ℕ) (items : List ResItem) (k : ℕ) → CanExtend file items → has_records file ≡ true → k < new_page_count items →
     number_at 4 (extended file items) (fixups_place file items + 4 * (page_count file + 1) + 4 * k) ≡ number_at 4 file (offset_place file (page_count file))
 new_offset file items k can is lt =
-    let len = length_span file (table file 0x68) (4 * (page_count file + 1)) (offsets_there file can.faultless is) in
+    let len = length_span file (table file FIXUP_PAGE_TABLE) (4 * (page_count file + 1)) (offsets_there file can.faultless is) in
     repeated (new_page_count items) k (last_offset file) (from_resources file items) (extended file items) (fixups_place file items + 4 * (page_count file + 1))
-    (at_more (extended file items) (span file (table file 0x68) (table file 0x68 + 4 * (page_count file + 1))) _ (fixups_place file items) (4 * (page_count file + 1)) (there file items can is) len)
+    (at_more (extended file items) (span file (table file FIXUP_PAGE_TABLE) (table file FIXUP_PAGE_TABLE + 4 * (page_count file + 1))) _ (fixups_place file items) (4 * (page_count file + 1)) (there file items can is) len)
     (last_length file can.faultless is) lt
     ∙ last_is file
 
@@ -69,15 +70,15 @@ offset_now file items k can is = ap (λ (t : ℕ). t + 4 * k) ((header_now file 
 
 pub old_place : (file : List ℕ) (items : List ResItem) (k : ℕ) → CanExtend file items → has_records file ≡ true → k < page_count file + 1 → records_place (extended file items) k ≡ records_place file k
 old_place file items k can is lt =
-    let base = table_same file items 0x6C can refl refl refl in
+    let base = table_same file items FIXUP_RECORD_TABLE can refl refl refl in
     let n : number_at 4 (extended file items) (offset_place (extended file items) k) ≡ number_at 4 file (offset_place file k) = ap (number_at 4 (extended file items)) (offset_now file items k can is) ∙ old_offset file items k can is lt in
     omega (arith, base, n)
 
--- behind the old pages
+-- after the old pages
 pub new_place : (file : List ℕ) (items : List ResItem) (k : ℕ) → CanExtend file items → has_records file ≡ true → k < new_page_count items + 1 → records_place (extended file items) (page_count file + k) ≡ records_place file (page_count file)
 new_place file items zero can is lt = ap (records_place (extended file items)) (omega arith) ∙ old_place file items (page_count file) can is (omega arith)
 new_place file items (suc k) can is lt =
-    let base = table_same file items 0x6C can refl refl refl in
+    let base = table_same file items FIXUP_RECORD_TABLE can refl refl refl in
     let at : fixups_place file items + 4 * (page_count file + suc k) ≡ fixups_place file items + 4 * (page_count file + 1) + 4 * k = omega arith in
     let n : number_at 4 (extended file items) (offset_place (extended file items) (page_count file + suc k)) ≡ number_at 4 file (offset_place file (page_count file)) =
     ap (number_at 4 (extended file items)) (offset_now file items (page_count file + suc k) can is ∙ at) ∙ new_offset file items k can is (omega (arith, lt)) in

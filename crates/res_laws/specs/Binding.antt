@@ -1,5 +1,5 @@
 -- What a bound file means: the old module with one object more, whose bytes are those of the items.
--- LX: "Resource Table".
+-- "32-bit Linear eXecutable Module Format": "Resource Table".
 use Rattle.std.specs.Prelude.{◌≡◌, ℕ, ◌<◌, ◌%◌, ◌==◌, true, false, if◌then◌else◌, List, [], ◌∷◌, ◌++◌, length, map, Some, None, All}
 use Rattle.std.specs.List.{range_with_len, list_any, AllByRecursion}
 use Rattle.lx_bytes.specs.LittleEndian.{AreBytes}
@@ -46,7 +46,7 @@ pub record CanBind (m : Parts) (items : List ResItem) : Type 0 where
 abbrev pub IsOldPage : Parts → PageId → Type 0
 IsOldPage m p = IsNumberOf p.object (length m.objects)
 
--- a list goes on behind another
+-- a list goes on after another
 abbrev pub GoesOn : {X : Type 0} → List X → List X → Type 0
 GoesOn {X} old now = (more : List X) × (now ≡ old ++ more)
 

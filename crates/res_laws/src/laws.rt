@@ -6,7 +6,7 @@ ghost use Rattle.res_laws.specs.Serving.{BoundModulesServe};
 /// The file that `res_bind::bind_res` answers is read back as the old module, with one object more where there are items:
 /// its parts, the bytes and the records of its pages and what fixups make of them stand, wherever no byte of the header's
 /// fields that are set is read as something else too. `res_core::find` answers where each item lies, with the item's bytes,
-/// and nothing else ("Resource Table" in the LX document).
+/// and nothing else ("32-bit Linear eXecutable Module Format": "Resource Table").
 pub fn bound_files_mean()
     ensures { BoundFilesMean }
 {}

@@ -10,6 +10,8 @@ use Rattle.lx_types.specs.declared.fix.FixTarget.{FixTarget}
 use Rattle.lx_types.specs.declared.fix.FixTarget.TheVariants as targets
 use Rattle.lx_types.specs.declared.object.PageHead.{PageHead}
 use Rattle.lx_types.specs.Parts.{name_at}
+use Rattle.lx_model.specs.declared.lengths.TheConstants.{OBJECT_ENTRY_LEN, PAGE_ENTRY_LEN}
+use Rattle.lx_model.specs.declared.header_fields.TheConstants.{MODULE_PAGES, OBJECT_TABLE, OBJECT_COUNT, OBJECT_PAGE_TABLE, RESOURCE_TABLE, RESOURCE_COUNT, RESIDENT_NAME_TABLE, ENTRY_TABLE, FIXUP_PAGE_TABLE, IMPORT_MODULE_TABLE, IMPORT_PROCEDURE_TABLE, NONRESIDENT_NAME_TABLE, NONRESIDENT_NAME_LENGTH, HEADER_PLACE}
 use Rattle.lx_model.specs.Reading.{Many, many, cursor, value_or}
 use Rattle.lx_model.specs.Header.{field, table, header_place, is_lx_at, page_count, object_count, import_count}
 use Rattle.lx_model.specs.Tables.{page_heads}
@@ -32,38 +34,45 @@ are_apart p q = nat_le (min (p.at + p.len) (q.at + q.len)) (max p.at q.at)
 
 -- ---- the fields that are set
 
--- a module without records has no fixup page table before and behind
+-- a module without records has no fixup page table before and after
 abbrev pub set_offsets : Bool → List ℕ
-set_offsets records = 0x14 ∷ 0x40 ∷ 0x44 ∷ 0x48 ∷ 0x50 ∷ 0x54 ∷ (if records then 0x68 ∷ [] else [])
+set_offsets records =
+    MODULE_PAGES ∷ OBJECT_TABLE ∷ OBJECT_COUNT ∷ OBJECT_PAGE_TABLE ∷ RESOURCE_TABLE ∷ RESOURCE_COUNT
+    ∷ (if records then FIXUP_PAGE_TABLE ∷ [] else [])
 
 abbrev pub set_parts : List ℕ → List Part
 set_parts file = map (λ offset. part (header_place file + offset) 4) (set_offsets (has_records file))
 
 -- ---- what else is read
 
--- where the header stands, behind a program for DOS
+-- where the header stands, after a program for DOS
 abbrev pub place_parts : List ℕ → List Part
-place_parts file = if is_lx_at file 0 then [] else part 0x3C 4 ∷ []
+place_parts file = if is_lx_at file 0 then [] else part HEADER_PLACE 4 ∷ []
 
 -- a table that is read up to its own end, of these bytes, which stand at a place
 abbrev pub taken : {A : Type 0} → ℕ → List ℕ → Many A → Part
 taken at bytes read = elim (read.end) [ Ok end ↦ part at (length bytes - length end.left) | Err e ↦ part at (length bytes) ]
 
 abbrev pub resident_part : List ℕ → Part
-resident_part file = let bytes = drop (table file 0x58) file in taken (table file 0x58) bytes (many name_entry tt (cursor 0 bytes))
+resident_part file =
+    let bytes = drop (table file RESIDENT_NAME_TABLE) file in
+    taken (table file RESIDENT_NAME_TABLE) bytes (many name_entry tt (cursor 0 bytes))
 
 abbrev pub other_parts : List ℕ → List Part
 other_parts file =
-    if field file 0x8C == 0 then []
-    else let bytes = take (field file 0x8C) (drop (field file 0x88) file) in taken (field file 0x88) bytes (many name_entry tt (cursor 0 bytes)) ∷ []
+    if field file NONRESIDENT_NAME_LENGTH == 0 then []
+    else let bytes = take (field file NONRESIDENT_NAME_LENGTH) (drop (field file NONRESIDENT_NAME_TABLE) file) in
+    taken (field file NONRESIDENT_NAME_TABLE) bytes (many name_entry tt (cursor 0 bytes)) ∷ []
 
 abbrev pub import_part : List ℕ → Part
-import_part file = let bytes = drop (table file 0x70) file in taken (table file 0x70) bytes (many import_entry (import_count file) (cursor 0 bytes))
+import_part file =
+    let bytes = drop (table file IMPORT_MODULE_TABLE) file in
+    taken (table file IMPORT_MODULE_TABLE) bytes (many import_entry (import_count file) (cursor 0 bytes))
 
 abbrev pub entry_part : List ℕ → Part
 entry_part file =
-    let bytes = drop (table file 0x5C) file in
-    taken (table file 0x5C) bytes (many (bundle_at (object_count file) (import_count file)) 0 (cursor 0 bytes))
+    let bytes = drop (table file ENTRY_TABLE) file in
+    taken (table file ENTRY_TABLE) bytes (many (bundle_at (object_count file) (import_count file)) 0 (cursor 0 bytes))
 
 -- the fixup page table, and the records of each page
 abbrev pub records_part : List ℕ → ℕ → Part
@@ -71,7 +80,8 @@ records_part file k = let s = records_span file k in part s.0 (s.1 - s.0)
 
 abbrev pub fixup_parts : List ℕ → List Part
 fixup_parts file =
-    if has_records file then part (table file 0x68) (4 * (page_count file + 1)) ∷ map (records_part file) (range_with_len 0 (page_count file))
+    if has_records file
+    then part (table file FIXUP_PAGE_TABLE) (4 * (page_count file + 1)) ∷ map (records_part file) (range_with_len 0 (page_count file))
     else []
 
 -- the data of each page; of one without data it is empty
@@ -80,7 +90,9 @@ data_part page = part page.at page.len
 
 -- a name of the import procedures, with its length byte; what passes the file's end is no name
 abbrev pub name_parts : List ℕ → ℕ → List Part
-name_parts file offset = let at = table file 0x78 + offset in if is_some (name_at file at) then part at (1 + slice_index file at) ∷ [] else []
+name_parts file offset =
+    let at = table file IMPORT_PROCEDURE_TABLE + offset in
+    if is_some (name_at file at) then part at (1 + slice_index file at) ∷ [] else []
 
 abbrev pub names_of_target : List ℕ → FixTarget → List Part
 names_of_target file (targets.Internal object offset) = []
@@ -106,7 +118,7 @@ procedure_parts file = flat_map (names_of_target file) (targets_of file) ++ flat
 unfoldable pub read_parts : List ℕ → List Part
 read_parts file =
     place_parts file
-    ++ part (table file 0x40) (24 * object_count file) ∷ part (table file 0x48) (8 * page_count file) ∷ []
+    ++ part (table file OBJECT_TABLE) (OBJECT_ENTRY_LEN * object_count file) ∷ part (table file OBJECT_PAGE_TABLE) (PAGE_ENTRY_LEN * page_count file) ∷ []
     ++ resident_part file ∷ import_part file ∷ entry_part file ∷ []
     ++ other_parts file
     ++ fixup_parts file

@@ -12,12 +12,12 @@ use Rattle.res_model.specs.declared.refusal.ResRefusal.TheVariants.{Twice}
 abbrev pub is_second : List ResItem → List ℕ → ℕ → Option ResRefusal
 is_second before left at = if list_any (has_key (type_at left) (id_at left)) before then Some (Twice at) else None
 
--- What is wrong with the item whose first byte is the first of these, behind others: its fields, and then that one of the
+-- What is wrong with the item whose first byte is the first of these, after others: its fields, and then that one of the
 -- others has its type and identifier.
 abbrev pub item_fault : List ResItem → ℕ → List ℕ → Option ResRefusal
 item_fault before at left = fields_fault at left then is_second before left at
 
--- Good items stand at the front of the bytes, and what stands behind them is none.
+-- Good items stand at the front of the bytes, and what stands after them is none.
 pub record FirstFault (bytes : List ℕ) (refusal : ResRefusal) : Type 0 where
   pub before : List ResItem
   pub left : List ℕ

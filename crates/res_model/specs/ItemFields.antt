@@ -1,17 +1,10 @@
 -- The fields of an item, by their offsets from its first byte, and what may be wrong with them.
 use Rattle.std.specs.Prelude.{ℕ, ◌+◌, ◌==◌, List, length, take, drop, Option, Some, None, nat_lt, slice_index, if◌then◌else◌}
 use Rattle.lx_model.specs.Reading.{number_at, ◌then◌}
+use Rattle.res_model.specs.declared.item.TheConstants.{MARK, FIELDS}
 use Rattle.res_model.specs.declared.item.ResItem.{ResItem}
 use Rattle.res_model.specs.declared.refusal.ResRefusal.{ResRefusal}
 use Rattle.res_model.specs.declared.refusal.ResRefusal.TheVariants.{Short, BadItem}
-
--- what stands before the type, and before the identifier
-abbrev pub MARK : ℕ
-MARK = 0xFF
-
--- how many bytes stand before the bytes of the resource
-abbrev pub FIELDS : ℕ
-FIELDS = 12
 
 -- ---- an item whose first byte is the first of these bytes
 

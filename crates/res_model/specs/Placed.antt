@@ -9,7 +9,7 @@ use Rattle.res_model.specs.declared.item.ResItem.{ResItem}
 abbrev pub up_to_unit : ℕ → ℕ → ℕ
 up_to_unit n unit = (n + (unit - 1)) / unit * unit
 
--- the least place for an item behind so many bytes
+-- the least place for an item after so many bytes
 abbrev pub aligned : ℕ → ℕ
 aligned n = up_to_unit n 4
 
@@ -18,7 +18,7 @@ pub record Placed : Type 0 where
   pub item : ResItem
   pub offset : ℕ
 
--- the items behind so many bytes of the object
+-- the items after so many bytes of the object
 abbrev pub placed_from : ℕ → List ResItem → List Placed
 placed_from end [] = []
 placed_from end (i ∷ items) = record { item = i; offset = aligned end } ∷ placed_from (aligned end + length i.bytes) items
@@ -28,7 +28,7 @@ abbrev pub end_from : ℕ → List ResItem → ℕ
 end_from end [] = end
 end_from end (i ∷ items) = end_from (aligned end + length i.bytes) items
 
--- the bytes of the object behind the first ones: zeros up to an item, and the item's
+-- the bytes of the object after the first ones: zeros up to an item, and the item's
 abbrev pub data_from : ℕ → List ResItem → List ℕ
 data_from end [] = []
 data_from end (i ∷ items) = replicate (aligned end - end) 0 ++ i.bytes ++ data_from (aligned end + length i.bytes) items

@@ -1,8 +1,8 @@
--- Resource files: items with a type and an identifier, one behind the other.
+-- Resource files: items with a type and an identifier, one after the other.
 use Rattle.std.specs.Prelude.{◌≡◌, ℕ, ◌<◌, ◌^◌, ◌==◌, ◌&&◌, Bool, false, List, [], ◌∷◌, ◌++◌, length}
 use Rattle.std.specs.List.{flat_map, AllByRecursion}
 use Rattle.lx_bytes.specs.LittleEndian.{little_bytes}
-use Rattle.res_model.specs.ItemFields.{MARK}
+use Rattle.res_model.specs.declared.item.TheConstants.{MARK}
 use Rattle.res_model.specs.declared.item.ResItem.{ResItem}
 
 -- ---- how items are spelled

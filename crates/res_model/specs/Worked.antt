@@ -24,12 +24,12 @@ pub record WorkedPlaces : Type 0 where
   -- three bytes, none, and one: at 0, 4 and 4
   pub size : object_size (abc ∷ item 1 3 [] ∷ item 1 4 (9 ∷ []) ∷ []) ≡ 5
   pub bytes : data_from 0 (abc ∷ item 1 3 [] ∷ item 1 4 (9 ∷ []) ∷ []) ≡ codes "ABC" ++ 0 ∷ 9 ∷ []
-  -- an empty item behind others moves the end, and alone it does not
+  -- an empty item after others moves the end, and alone it does not
   pub padded : data_from 0 (abc ∷ item 1 3 [] ∷ []) ≡ codes "ABC" ++ 0 ∷ []
   pub empty : object_size (item 1 3 [] ∷ item 1 4 [] ∷ []) ≡ 0
   pub no_page : new_page_count (item 1 3 [] ∷ []) ≡ 0
   pub entry : entries_from 2 0 (abc ∷ []) ≡ 1 ∷ 0 ∷ 2 ∷ 0 ∷ 3 ∷ 0 ∷ 0 ∷ 0 ∷ 2 ∷ 0 ∷ 0 ∷ 0 ∷ 0 ∷ 0 ∷ []
-  -- bases behind all objects, in any order; none; and one past the last
+  -- bases after all objects, in any order; none; and one past the last
   pub base : base_above (object 0x10000000 0x10001 ∷ object 0x10000000 8 ∷ []) ≡ 0x10020000
   pub even_base : base_above (object 0x10000000 0x10000 ∷ []) ≡ 0x10010000
   pub first_base : base_above [] ≡ 0

@@ -23,7 +23,7 @@ pub record WorkedFile : Type 0 where
   pub gone : item_fault [] 0 [] ≡ Some (Short 0)
   pub mark_alone : item_fault [] 7 (take 1 abc) ≡ Some (Short 8)
   pub flags_cut : item_fault [] 0 (take 7 abc) ≡ Some (Short 6)
-  -- another byte for a mark, which is seen before what is cut off behind it
+  -- another byte for a mark, which is seen before what is cut off after it
   pub second_mark : item_fault [] 0 (slice_set abc 3 0) ≡ Some (BadItem 3)
   pub first_mark : item_fault [] 0 (slice_set (take 2 abc) 0 0xFE) ≡ Some (BadItem 0)
   -- the same type and identifier again; another of the two; a fault of its fields comes first

@@ -14,8 +14,9 @@ use Rattle.load_model.specs.declared.deeds.Deed.{Deed}
 use Rattle.load_model.specs.Outcomes.{Outcome, done, told, IsTold}
 use Rattle.load_model.specs.Outcomes.IsTold.{arena_full, init_failed, is_done}
 use Rattle.proc_core.specs.declared.answers.Done.{Done}
-use Rattle.proc_core.specs.Procs.{Standing}
-use Rattle.proc_core.specs.Calls.{MOST_TICKETS, call_refusal, IsRefused, IsAnswered}
+use Rattle.proc_core.specs.Procs.{ProcState}
+use Rattle.proc_core.specs.Calls.{call_refusal, IsRefused, IsAnswered}
+use Rattle.proc_core.specs.declared.deeds.TheConstants.{MAX_TICKETS}
 use Rattle.proc_core.specs.Touches.{IsTouchAnswered}
 use Rattle.run_core.specs.Carrying.{has_entry, IsLineOf, IsRefusedLine, IsCarriedOut}
 use Rattle.run_core.proofs.Refusals.{view_is_plain, call_is_views}
@@ -30,10 +31,10 @@ tells_entry number d o arena_full = refl
 tells_entry number d o init_failed = refl
 tells_entry number d o (is_done it) = tt
 
-pub refused_line : (p q : Standing) (c : Command) (r : Refusal) → p.known.drawn < MOST_TICKETS → call_refusal p c ≡ Some r → q ≡ p → IsRefusedLine p q c (Refused r)
+pub refused_line : (p q : ProcState) (c : Command) (r : Refusal) → p.known.drawn < MAX_TICKETS → call_refusal p c ≡ Some r → q ≡ p → IsRefusedLine p q c (Refused r)
 refused_line p q c r few refused same = record { refusal = r; told = refl; refused = sym (call_is_views p c few) ∙ refused; same = same }
 
-refused_or_made : (p q : Standing) (c : Command) (r : Refusal) → p.known.drawn < MOST_TICKETS → IsRefused p q c r → (b : Bool) → has_entry r ≡ b →
+refused_or_made : (p q : ProcState) (c : Command) (r : Refusal) → p.known.drawn < MAX_TICKETS → IsRefused p q c r → (b : Bool) → has_entry r ≡ b →
     IsCarriedOut p q c (if b then None else Some (Refused r))
 refused_or_made p q c r few (inl it) true is = (let wrong : true ≡ false = sym is ∙ view_is_plain p.view.library p.view.holding c r (sym (call_is_views p c few) ∙ it.0) in cc)
 refused_or_made p q c r few (inl it) false is = inl (refused_line p q c r few it.0 it.1)
@@ -41,24 +42,24 @@ refused_or_made p q c r few (inr made) true is = (told (Refused r), made)
 refused_or_made p q c r few (inr made) false is =
     (let wrong : false ≡ true = sym is ∙ tells_entry _ made.entry.deed (told (Refused r)) made.answered in cc)
 
-pub answer_carried : (p q : Standing) (c : Command) (a : Result Done (Fail Refusal)) (reply : Option Reply) → p.known.drawn < MOST_TICKETS → IsAnswered p q c a → IsLineOf a reply →
+pub answer_carried : (p q : ProcState) (c : Command) (a : Result Done (Fail Refusal)) (reply : Option Reply) → p.known.drawn < MAX_TICKETS → IsAnswered p q c a → IsLineOf a reply →
     IsCarriedOut p q c reply
 answer_carried p q c (Ok it) reply few made line = subst (IsCarriedOut p q c) (sym line) (done it.number, made)
 answer_carried p q c (Err (fail.Said r)) reply few refused line = subst (IsCarriedOut p q c) (sym line) (refused_or_made p q c r few refused (has_entry r) refl)
 answer_carried p q c (Err fail.NoMemory) reply few waited line = absurd line
 
-pub carried_if : (p q : Standing) (c : Command) (a : Result Done (Fail Refusal)) (r : Result (Option Reply) NoMemory) → p.known.drawn < MOST_TICKETS → IsAnswered p q c a →
+pub carried_if : (p q : ProcState) (c : Command) (a : Result Done (Fail Refusal)) (r : Result (Option Reply) NoMemory) → p.known.drawn < MAX_TICKETS → IsAnswered p q c a →
     IfOk r (λ reply. IsLineOf a reply) → IfOk r (λ reply. IsCarriedOut p q c reply)
 carried_if p q c a (Ok reply) few answered line = answer_carried p q c a reply few answered line
 carried_if p q c a (Err why) few answered line = tt
 
 -- the same of a command under another name
-pub carried_as : (p q : Standing) (d c : Command) (a : Result Done (Fail Refusal)) (r : Result (Option Reply) NoMemory) → d ≡ c → p.known.drawn < MOST_TICKETS → IsAnswered p q c a →
+pub carried_as : (p q : ProcState) (d c : Command) (a : Result Done (Fail Refusal)) (r : Result (Option Reply) NoMemory) → d ≡ c → p.known.drawn < MAX_TICKETS → IsAnswered p q c a →
     IfOk r (λ reply. IsLineOf a reply) → IfOk r (λ reply. IsCarriedOut p q d reply)
 carried_as p q d c a (Ok reply) same few answered line = subst (λ x. IsCarriedOut p q x reply) (sym same) (answer_carried p q c a reply few answered line)
 carried_as p q d c a (Err why) same few answered line = tt
 
-pub touch_refused : (p q : Standing) (at : Place) (before after : ℕ) (why : Fail Refusal) (r : Refusal) → why ≡ fail.Said r → p.known.drawn < MOST_TICKETS →
+pub touch_refused : (p q : ProcState) (at : Place) (before after : ℕ) (why : Fail Refusal) (r : Refusal) → why ≡ fail.Said r → p.known.drawn < MAX_TICKETS →
     IsTouchAnswered p q at before after (Err why) → IsRefusedLine p q (Touch at) (Refused r)
 touch_refused p q at before after why r is few answered =
     let it : IsTouchAnswered p q at before after (Err (fail.Said r)) = subst (λ w. IsTouchAnswered p q at before after (Err w)) is answered in

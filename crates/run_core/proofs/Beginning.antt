@@ -10,7 +10,7 @@ use Rattle.load_model.specs.declared.deeds.Entry.{Entry}
 use Rattle.load_model.specs.Modules.{Library, fixed_bytes}
 use Rattle.load_model.specs.State.{Failing, is_among, pids}
 use Rattle.load_model.specs.Histories.{Legal}
-use Rattle.load_model.specs.Standing.{Holding, new_holding}
+use Rattle.load_model.specs.Views.{Holding, new_holding}
 use Rattle.session_model.specs.declared.sessions.Script.{Script}
 use Rattle.session_model.specs.declared.sessions.ScriptLines.{ScriptLines}
 use Rattle.session_model.specs.Bounds.{IsScript}
@@ -20,7 +20,7 @@ use Rattle.script_laws.specs.Commands.{ProgressBegins}
 use Rattle.script_laws.specs.Ends.{ScriptsAreRun}
 use Rattle.process_view.specs.ProcessViews.{ProcessView}
 use Rattle.proc_core.specs.declared.kept.About.{About}
-use Rattle.proc_core.specs.Procs.{Standing, failing_in}
+use Rattle.proc_core.specs.Procs.{ProcState, failing_in}
 use Rattle.proc_core.specs.Closing.{IsNew, AreMade, GoesOn, IsHistoryOf}
 use Rattle.run_core.specs.declared.tasks.Task.{Task}
 use Rattle.run_core.specs.Carrying.{Reached}
@@ -59,7 +59,7 @@ all_at P (x ∷ xs) (suc k) d all low = all_at P xs k d all.1 (omega (arith, low
 
 -- ---- a new process
 
-new_reached : ProgressBegins → (loader : TableId) (about : About) (n k : ℕ) (p : Standing) → IsNew loader about n k p → k < 16 → Reached p.view.library (failing_in p.known.subject) p [] []
+new_reached : ProgressBegins → (loader : TableId) (about : About) (n k : ℕ) (p : ProcState) → IsNew loader about n k p → k < 16 → Reached p.view.library (failing_in p.known.subject) p [] []
 new_reached begins loader about n k p new low =
     let pid : p.known.pid ≡ k + 1 = ap (λ (a : Known Entry About). a.pid) new.1 in
     let seen : p.known.seen ≡ [] = ap (λ (a : Known Entry About). a.seen) new.1 in
@@ -80,7 +80,7 @@ new_reached begins loader about n k p new low =
       progress = subst (λ l. Progress l failing (fixed_bytes l) p.view.holding p.known.seen [] []) (sym library) second;
     }
 
-new_ready : ProgressBegins → (loader : TableId) (about : About) (n k : ℕ) (p : Standing) (s : Script) → IsNew loader about n k p → IsScript s → k < 16 → IsReady loader (task_with (p, s))
+new_ready : ProgressBegins → (loader : TableId) (about : About) (n k : ℕ) (p : ProcState) (s : Script) → IsNew loader about n k p → IsScript s → k < 16 → IsReady loader (task_with (p, s))
 new_ready begins loader about n k p s new script low = record {
   of = new.0;
   drawn = ap (λ (a : Known Entry About). a.drawn) new.1;
@@ -92,7 +92,7 @@ new_ready begins loader about n k p s new script low = record {
 
 -- ---- all tasks
 
-module _ (loader : TableId) (lib : Library) (failing : Failing) (procs : List Standing) (scripts : List Script)
+module _ (loader : TableId) (lib : Library) (failing : Failing) (procs : List ProcState) (scripts : List Script)
     (made : AreMade loader (record { library = lib; failing = failing }) (length scripts) procs) where
   task_count : length (map task_with (zip procs scripts)) ≡ length scripts
   task_count = length-map (zip procs scripts) task_with ∙ (length-zip procs scripts ∙ (ap (λ n. min n (length scripts)) made.count ∙ same (length scripts)))
@@ -140,7 +140,7 @@ nobody_else pid (x ∷ h) one others nobody =
     only : (n : ℕ) → 1 ≤ n → n ≤ 1 → 1 ≡ n
     only n low high = omega (arith, low, high)
 
-pub nothing_run : ScriptsAreRun → (loader : TableId) (lib : Library) (failing : Failing) (procs : List Standing) (h : List Entry) (steady : List ScriptLines) →
+pub nothing_run : ScriptsAreRun → (loader : TableId) (lib : Library) (failing : Failing) (procs : List ProcState) (h : List Entry) (steady : List ScriptLines) →
     AreMade loader (record { library = lib; failing = failing }) 1 procs → IsHistoryOf procs h → steady ≡ [] → IsRunOf lib failing (fixed_bytes lib) [] (record { history = h; steady = steady })
 nothing_run law loader lib failing [] h steady made hist is = (let none : 0 ≡ 1 = made.count in absurd (let wrong : ⊥ = omega (arith, none) in wrong))
 nothing_run law loader lib failing (p ∷ ps) h steady made hist is =
@@ -161,7 +161,7 @@ nothing_run law loader lib failing (p ∷ ps) h steady made hist is =
 
 -- ---- under other names
 
-pub made_as : (loader : TableId) (about : About) (n m : ℕ) (ps : List Standing) → n ≡ m → AreMade loader about n ps → AreMade loader about m ps
+pub made_as : (loader : TableId) (about : About) (n m : ℕ) (ps : List ProcState) → n ≡ m → AreMade loader about n ps → AreMade loader about m ps
 made_as loader about n m ps same made = subst (λ k. AreMade loader about k ps) same made
 
 pub not_empty : (n : ℕ) (b : Bool) → b ≡ (n == 0) → b ≡ false → 0 < n

@@ -23,45 +23,47 @@ use Rattle.load_model.specs.declared.commands.Refusal.TheVariants.{Ended, Worn}
 use Rattle.load_model.specs.Outcomes.{Outcome}
 use Rattle.load_model.specs.Step.{meant}
 use Rattle.load_model.proofs.Bytes.{right_none}
-use Rattle.load_model.specs.Standing.{mapped_pages, StandsFor}
-use Rattle.load_model.specs.Touched.{has_page, touched_behind}
+use Rattle.load_model.specs.Views.{mapped_pages, StandsFor}
+use Rattle.load_model.specs.TouchedPages.{has_page, touched_behind}
 use Rattle.session_model.specs.declared.sessions.Line.{Line}
 use Rattle.session_model.specs.Bounds.{IsCommand, IsPlace}
 use Rattle.session_model.specs.Merging.{uses_touched}
-use Rattle.merge_laws.specs.OwnStates.{pages_at, state_with}
-use Rattle.merge_laws.specs.ViewAccounts.{serial_seen}
+use Rattle.merge_laws.specs.PageStates.{pages_at, state_with}
+use Rattle.merge_laws.specs.PageStates.{serial_seen}
 use Rattle.script_laws.specs.Progress.{line_at, Enters, IsFaultOfPlace, Touches}
 use Rattle.script_laws.specs.Commands.{RefusedGoesOn, ReadGoesOn, EntryGoesOn, TouchGoesOn}
 use Rattle.turn_lock.specs.declared.known.Known.{Known}
 use Rattle.proc_core.specs.declared.kept.About.{About}
 use Rattle.process_view.specs.ProcessViews.{ProcessView}
-use Rattle.proc_core.specs.Procs.{Standing, failing_in, Holds}
-use Rattle.proc_core.specs.Calls.{MOST_TICKETS, IsSamePass, Made}
+use Rattle.proc_core.specs.Procs.{ProcState, failing_in, Holds}
+use Rattle.proc_core.specs.Calls.{IsSamePass, Made}
+use Rattle.proc_core.specs.declared.deeds.TheConstants.{MAX_TICKETS}
 use Rattle.proc_core.specs.Touches.{touched_pages, newly_mapped, IsNewFault, IsSeenInTouch, IsTouched, AreMapped, needs_fault, most_turns}
 use Rattle.run_core.specs.Carrying.{IsRefusedLine, IsReadLine, IsTouchLine, IsCarriedOut, line_if, Reached}
-use Rattle.run_core.specs.Tasks.{IsSameProcess, MOST_TURNS}
+use Rattle.run_core.specs.Tasks.{IsSameProcess}
+use Rattle.run_core.specs.declared.tasks.TheConstants.{MAX_TURNS}
 
 -- ---- what holds of a process, over the library and the failing pairs of its script
 
-stands_over : (q : Standing) (lib : Library) (failing : Failing) → q.view.library ≡ lib → failing_in q.known.subject ≡ failing → Holds q →
+stands_over : (q : ProcState) (lib : Library) (failing : Failing) → q.view.library ≡ lib → failing_in q.known.subject ≡ failing → Holds q →
     StandsFor lib failing (fixed_bytes lib) q.view.holding q.known.seen
 stands_over q lib failing library fails holds =
     subst (λ f. StandsFor lib f (fixed_bytes lib) q.view.holding q.known.seen) fails
     (subst (λ l. StandsFor l (failing_in q.known.subject) (fixed_bytes l) q.view.holding q.known.seen) library holds.stands.stands)
 
-legal_over : (q : Standing) (lib : Library) (failing : Failing) → q.view.library ≡ lib → failing_in q.known.subject ≡ failing → Holds q → Legal lib failing (fixed_bytes lib) q.known.seen
+legal_over : (q : ProcState) (lib : Library) (failing : Failing) → q.view.library ≡ lib → failing_in q.known.subject ≡ failing → Holds q → Legal lib failing (fixed_bytes lib) q.known.seen
 legal_over q lib failing library fails holds =
     subst (λ f. Legal lib f (fixed_bytes lib) q.known.seen) fails (subst (λ l. Legal l (failing_in q.known.subject) (fixed_bytes l) q.known.seen) library holds.legal)
 
-subject_of : (p q : Standing) → IsSamePass p q → q.known.subject ≡ p.known.subject
+subject_of : (p q : ProcState) → IsSamePass p q → q.known.subject ≡ p.known.subject
 subject_of p q same = ap (λ (k : Known Entry About). k.subject) same.known
 
-number_of_pass : (p q : Standing) → IsSamePass p q → q.known.pid ≡ p.known.pid
+number_of_pass : (p q : ProcState) → IsSamePass p q → q.known.pid ≡ p.known.pid
 number_of_pass p q same = ap (λ (k : Known Entry About). k.pid) same.known
 
 -- ---- a command with an entry
 
-enters_of : (p q : Standing) (c : Command) (outcome : Outcome) → Holds p → Holds q → (made : Made p q c outcome) →
+enters_of : (p q : ProcState) (c : Command) (outcome : Outcome) → Holds p → Holds q → (made : Made p q c outcome) →
     Enters p.view.library (failing_in p.known.subject) (fixed_bytes p.view.library) p.view.holding q.view.holding p.known.seen q.known.seen c
 enters_of p q c outcome before after made =
     let lib : Library = p.view.library in
@@ -82,7 +84,7 @@ enters_of p q c outcome before after made =
       mapped = subst (λ n. mapped_pages q.view.holding ≡ touched_behind lib (state_after lib failing at) n made.entry.deed (λ r. mapped_pages p.view.holding) n) number made.mapped;
     }
 
-made_goes_on : EntryGoesOn → (p q : Standing) (c : Command) (outcome : Outcome) (lines : List Line) (done : List Command) → Holds p → Holds q → Made p q c outcome →
+made_goes_on : EntryGoesOn → (p q : ProcState) (c : Command) (outcome : Outcome) (lines : List Line) (done : List Command) → Holds p → Holds q → Made p q c outcome →
     Reached p.view.library (failing_in p.known.subject) p lines done → Reached p.view.library (failing_in p.known.subject) q lines (done ++ c ∷ [])
 made_goes_on goes p q c outcome lines done before after made r =
     let lib : Library = p.view.library in
@@ -162,7 +164,7 @@ own_faults v at (x ∷ xs) all = (one all.0, own_faults v at xs all.1)
     one (inl other) is = (let wrong : false ≡ true = sym other ∙ is in cc)
     one (inr own) is = fault_of_place v at x.deed own.1
 
-touch_goes_on : TouchGoesOn → (p q : Standing) (at : Place) (n before_steps after_steps : ℕ) (lines : List Line) (done : List Command) →
+touch_goes_on : TouchGoesOn → (p q : ProcState) (at : Place) (n before_steps after_steps : ℕ) (lines : List Line) (done : List Command) →
     Holds p → Holds q → IsTouched p q at n before_steps after_steps → AreMapped p.view q.view at → Reached p.view.library (failing_in p.known.subject) p lines done →
     Reached p.view.library (failing_in p.known.subject) q (lines ++ line_at q.known.seen (commands.Touch at) Fine ∷ []) (done ++ commands.Touch at ∷ [])
 touch_goes_on goes p q at n before_steps after_steps lines done before after it mapped r =
@@ -173,7 +175,7 @@ touch_goes_on goes p q at n before_steps after_steps lines done before after it 
       more = it.shown;
       shown = it.seen;
       faults = own_faults p.view at it.shown it.entries;
-      accepted = right_none (when (nat_le MOST_TICKETS p.known.drawn) Worn) _ (right_none (when p.view.holding.ended Ended) _ it.accepted);
+      accepted = right_none (when (nat_le MAX_TICKETS p.known.drawn) Worn) _ (right_none (when p.view.holding.ended Ended) _ it.accepted);
       view = it.holding;
       news = newly_mapped p.view at n;
       mapped = it.mapped;
@@ -192,7 +194,7 @@ touch_goes_on goes p q at n before_steps after_steps lines done before after it 
 
 -- ---- a line without an entry
 
-steady_goes_on : RefusedGoesOn → ReadGoesOn → TouchGoesOn → (p q : Standing) (c : Command) (reply : Reply) (lines : List Line) (done : List Command) → Holds p → Holds q →
+steady_goes_on : RefusedGoesOn → ReadGoesOn → TouchGoesOn → (p q : ProcState) (c : Command) (reply : Reply) (lines : List Line) (done : List Command) → Holds p → Holds q →
     (IsRefusedLine p q c reply ⊎ IsReadLine p q c reply ⊎ IsTouchLine p q c reply) → Reached p.view.library (failing_in p.known.subject) p lines done →
     Reached p.view.library (failing_in p.known.subject) q (lines ++ line_at q.known.seen c reply ∷ []) (done ++ c ∷ [])
 steady_goes_on refused read touched p q c reply lines done before after (inl it) r =
@@ -220,14 +222,14 @@ steady_goes_on refused read touched p q c reply lines done before after (inr (in
 
 -- ---- all commands
 
-own_goes_on : RefusedGoesOn → ReadGoesOn → EntryGoesOn → TouchGoesOn → (p q : Standing) (c : Command) (reply : Option Reply) (lines : List Line) (done : List Command) → Holds p → Holds q →
+own_goes_on : RefusedGoesOn → ReadGoesOn → EntryGoesOn → TouchGoesOn → (p q : ProcState) (c : Command) (reply : Option Reply) (lines : List Line) (done : List Command) → Holds p → Holds q →
     IsCarriedOut p q c reply → Reached p.view.library (failing_in p.known.subject) p lines done →
     Reached p.view.library (failing_in p.known.subject) q (lines ++ line_if q c reply) (done ++ c ∷ [])
 own_goes_on refused read entry touched p q c None lines done before after it r =
     subst (λ ls. Reached p.view.library (failing_in p.known.subject) q ls (done ++ c ∷ [])) (sym (append-nil lines)) (made_goes_on entry p q c it.0 lines done before after it.1 r)
 own_goes_on refused read entry touched p q c (Some reply) lines done before after it r = steady_goes_on refused read touched p q c reply lines done before after it r
 
-pub carried_on : RefusedGoesOn → ReadGoesOn → EntryGoesOn → TouchGoesOn → (lib : Library) (failing : Failing) (p q : Standing) (c : Command) (reply : Option Reply) (lines : List Line)
+pub carried_on : RefusedGoesOn → ReadGoesOn → EntryGoesOn → TouchGoesOn → (lib : Library) (failing : Failing) (p q : ProcState) (c : Command) (reply : Option Reply) (lines : List Line)
     (done : List Command) → Holds p → Holds q → IsCarriedOut p q c reply → Reached lib failing p lines done → Reached lib failing q (lines ++ line_if q c reply) (done ++ c ∷ [])
 carried_on refused read entry touched lib failing p q c reply lines done before after it r =
     let F : Library → Failing → Type 0 = λ l f. Reached l f p lines done → Reached l f q (lines ++ line_if q c reply) (done ++ c ∷ []) in
@@ -236,7 +238,7 @@ carried_on refused read entry touched lib failing p q c reply lines done before 
 
 -- ---- what stays
 
-pass_same : (p q : Standing) → IsSamePass p q → q.view.library ≡ p.view.library → IsSameProcess p q
+pass_same : (p q : ProcState) → IsSamePass p q → q.view.library ≡ p.view.library → IsSameProcess p q
 pass_same p q pass library = record {
   lock = pass.lock;
   number = number_of_pass p q pass;
@@ -245,16 +247,16 @@ pass_same p q pass library = record {
   library = library;
 }
 
-itself_same : (p q : Standing) → q ≡ p → IsSameProcess p q
+itself_same : (p q : ProcState) → q ≡ p → IsSameProcess p q
 itself_same p q same = subst (IsSameProcess p) (sym same) (record { lock = refl; number = refl; live = refl; subject = refl; library = refl })
 
-pub carried_same : (p q : Standing) (c : Command) (reply : Option Reply) → IsCarriedOut p q c reply → IsSameProcess p q
+pub carried_same : (p q : ProcState) (c : Command) (reply : Option Reply) → IsCarriedOut p q c reply → IsSameProcess p q
 carried_same p q c None it = pass_same p q it.1.pass it.1.library
 carried_same p q c (Some reply) (inl it) = itself_same p q it.same
 carried_same p q c (Some reply) (inr (inl it)) = itself_same p q it.same
 carried_same p q c (Some reply) (inr (inr it)) = pass_same p q it.touched.pass it.touched.library
 
-pub same_through : (p q r : Standing) → IsSameProcess p q → IsSameProcess q r → IsSameProcess p r
+pub same_through : (p q r : ProcState) → IsSameProcess p q → IsSameProcess q r → IsSameProcess p r
 same_through p q r one two = record {
   lock = two.lock ∙ one.lock;
   number = two.number ∙ one.number;
@@ -288,7 +290,7 @@ span_pages offset len small = step (len == 0) refl
     step true is = omega arith
     step false is = subst (λ n. n ≤ 1048578) (sym (length-range_with_len (offset / 4096) ((offset + len - 1) / 4096 + 1 - offset / 4096))) (few offset len small)
 
-few_turns : (v : ProcessView) (at : Place) → at.len < 2 ^ 32 → most_turns v at ≤ MOST_TURNS
+few_turns : (v : ProcessView) (at : Place) → at.len < 2 ^ 32 → most_turns v at ≤ MAX_TURNS
 few_turns v at small =
     let pages : List PageOf = touched_pages v at in
     let n : ℕ = length pages in
@@ -301,10 +303,10 @@ few_turns v at small =
     let fifth = span_pages at.offset at.len small in
     omega (arith, first, second, third, fourth, fifth)
 
-pub carried_turns : (p q : Standing) (c : Command) (reply : Option Reply) → IsCommand c → IsCarriedOut p q c reply → q.known.drawn ≤ p.known.drawn + MOST_TURNS
+pub carried_turns : (p q : ProcState) (c : Command) (reply : Option Reply) → IsCommand c → IsCarriedOut p q c reply → q.known.drawn ≤ p.known.drawn + MAX_TURNS
 carried_turns p q c None is it = (let one = it.1.drawn in omega (arith, one))
-carried_turns p q c (Some reply) is (inl it) = (let same : q.known.drawn ≡ p.known.drawn = ap (λ (s : Standing). s.known.drawn) it.same in omega (arith, same))
-carried_turns p q c (Some reply) is (inr (inl it)) = (let same : q.known.drawn ≡ p.known.drawn = ap (λ (s : Standing). s.known.drawn) it.same in omega (arith, same))
+carried_turns p q c (Some reply) is (inl it) = (let same : q.known.drawn ≡ p.known.drawn = ap (λ (s : ProcState). s.known.drawn) it.same in omega (arith, same))
+carried_turns p q c (Some reply) is (inr (inl it)) = (let same : q.known.drawn ≡ p.known.drawn = ap (λ (s : ProcState). s.known.drawn) it.same in omega (arith, same))
 carried_turns p q c (Some reply) is (inr (inr it)) =
     let at_is : IsPlace it.at = subst IsCommand it.is is in
     let turns = few_turns p.view it.at at_is.length in

@@ -19,7 +19,7 @@ use Rattle.session_model.specs.Transcript.{Transcript}
 use Rattle.script_laws.specs.Ends.{HasCarriedOut, ScriptsAreRun}
 use Rattle.process_view.specs.ProcessViews.{ProcessView}
 use Rattle.proc_core.specs.declared.kept.About.{About}
-use Rattle.proc_core.specs.Procs.{Standing, failing_in, IsOf}
+use Rattle.proc_core.specs.Procs.{ProcState, failing_in, IsOf}
 use Rattle.proc_core.specs.Closing.{IsNew, AreAll, AreOf, GoesOn, IsHistoryOf}
 use Rattle.run_core.specs.declared.tasks.Task.{Task}
 use Rattle.run_core.specs.Carrying.{Reached}
@@ -52,7 +52,7 @@ record AtEnd (loader : TableId) (lib : Library) (failing : Failing) (n k : ℕ) 
   number : t.number ≡ s.pid
   reached : Reached lib failing t.proc t.lines s.commands
 
-at_end : (loader : TableId) (lib : Library) (failing : Failing) (n k : ℕ) (p : Standing) (s : Script) (t : Task) → IsNew loader (record { library = lib; failing = failing }) n k p →
+at_end : (loader : TableId) (lib : Library) (failing : Failing) (n k : ℕ) (p : ProcState) (s : Script) (t : Task) → IsNew loader (record { library = lib; failing = failing }) n k p →
     IsRunOut loader (task_with (p, s)) t → t.starved ≡ false → AtEnd loader lib failing n k s t
 at_end loader lib failing n k p s t new out fed =
     let whole : IsRunWhole loader (task_with (p, s)) t = out.whole fed in
@@ -67,13 +67,13 @@ at_end loader lib failing n k p s t new out fed =
           subst (λ f. Reached lib f t.proc t.lines s.commands) fails (subst (λ l. Reached l (failing_in p.known.subject) t.proc t.lines s.commands) library whole.reached);
     }
 
-pub began_as : (procs : List Standing) (scripts : List Script) (k : ℕ) (d : Task) → k < length procs → k < length scripts →
+pub began_as : (procs : List ProcState) (scripts : List Script) (k : ℕ) (d : Task) → k < length procs → k < length scripts →
     get_or (map task_with (zip procs scripts)) k d ≡ task_with (get_or procs k d.proc, get_or scripts k (record { pid = d.number; commands = d.commands }))
 began_as procs scripts k d low high =
     get_or-map task_with (zip procs scripts) k (d.proc, record { pid = d.number; commands = d.commands }) d (within procs scripts k low high)
     ∙ ap task_with (get_or-zip procs scripts k (d.proc, record { pid = d.number; commands = d.commands }) low high)
   where
-    within : (ps : List Standing) (ss : List Script) (k : ℕ) → k < length ps → k < length ss → k < length (zip ps ss)
+    within : (ps : List ProcState) (ss : List Script) (k : ℕ) → k < length ps → k < length ss → k < length (zip ps ss)
     within [] ss k low high = low
     within (p ∷ ps) [] k low high = high
     within (p ∷ ps) (s ∷ ss) zero low high = omega arith
@@ -89,13 +89,13 @@ all_at_end loader lib failing scripts ts run none k d low =
 
 -- ---- all processes
 
-proc_at : (ts : List Task) (k : ℕ) (p : Standing) → k < length (map proc_of ts) →
+proc_at : (ts : List Task) (k : ℕ) (p : ProcState) → k < length (map proc_of ts) →
     get_or (map proc_of ts) k p ≡ (get_or ts k (record { number = 0; proc = p; commands = []; lines = []; starved = false })).proc
 proc_at ts k p low = get_or-map proc_of ts k (record { number = 0; proc = p; commands = []; lines = []; starved = false }) p (subst (λ n. k < n) (length-map ts proc_of) low)
 
 module _ (loader : TableId) (lib : Library) (failing : Failing) (scripts : List Script) (ts : List Task) (run : HaveRun loader lib failing scripts ts)
     (none : list_any (λ (t : Task). t.starved) ts ≡ false) where
-  end_of : (k : ℕ) (p : Standing) → k < length (map proc_of ts) →
+  end_of : (k : ℕ) (p : ProcState) → k < length (map proc_of ts) →
       AtEnd loader lib failing (length scripts) k (get_or scripts k (record { pid = 0; commands = [] })) (get_or ts k (record { number = 0; proc = p; commands = []; lines = []; starved = false }))
   end_of k p low =
       all_at_end loader lib failing scripts ts run none k (record { number = 0; proc = p; commands = []; lines = []; starved = false }) (subst (λ n. k < n) (length-map ts proc_of) low)
@@ -109,21 +109,21 @@ module _ (loader : TableId) (lib : Library) (failing : Failing) (scripts : List 
   pub are_all : AreAll (map proc_of ts)
   are_all = record {
     some = subst (λ n. 0 < n) (sym many) run.some;
-    numbers = λ k p low. ap (λ (s : Standing). s.known.pid) (proc_at ts k p low) ∙ (end_of k p low).pid;
+    numbers = λ k p low. ap (λ (s : ProcState). s.known.pid) (proc_at ts k p low) ∙ (end_of k p low).pid;
     live = λ p.
         (let low : 0 < length (map proc_of ts) = subst (λ n. 0 < n) (sym many) run.some in
-        ap (λ (s : Standing). s.known.live) (proc_at ts 0 p low) ∙ ((end_of 0 p low).live ∙ sym many));
+        ap (λ (s : ProcState). s.known.live) (proc_at ts 0 p low) ∙ ((end_of 0 p low).live ∙ sym many));
   }
 
   -- ---- the history
 
-  legal_of : (h : List Entry) → IsHistoryOf (map proc_of ts) h → (p : Standing) → Legal lib failing (fixed_bytes lib) h
+  legal_of : (h : List Entry) → IsHistoryOf (map proc_of ts) h → (p : ProcState) → Legal lib failing (fixed_bytes lib) h
   legal_of h hist p =
       let low : 0 < length (map proc_of ts) = subst (λ n. 0 < n) (sym many) run.some in
-      let q : Standing = get_or (map proc_of ts) 0 p in
+      let q : ProcState = get_or (map proc_of ts) 0 p in
       let reached = (end_of 0 p low).reached in
-      let library : q.view.library ≡ lib = ap (λ (s : Standing). s.view.library) (proc_at ts 0 p low) ∙ reached.library in
-      let fails : failing_in q.known.subject ≡ failing = ap (λ (s : Standing). failing_in s.known.subject) (proc_at ts 0 p low) ∙ reached.fails in
+      let library : q.view.library ≡ lib = ap (λ (s : ProcState). s.view.library) (proc_at ts 0 p low) ∙ reached.library in
+      let fails : failing_in q.known.subject ≡ failing = ap (λ (s : ProcState). failing_in s.known.subject) (proc_at ts 0 p low) ∙ reached.fails in
       subst (λ f. Legal lib f (fixed_bytes lib) h) fails (subst (λ l. Legal l (failing_in q.known.subject) (fixed_bytes l) h) library (hist.legal p))
 
   numbers_are : numbers_of (map lines_of ts) ≡ map (λ (s : Script). s.pid) scripts
@@ -139,11 +139,11 @@ module _ (loader : TableId) (lib : Library) (failing : Failing) (scripts : List 
       one : (k : ℕ) → k < length ts → get_or (numbers_of (map lines_of ts)) k 0 ≡ get_or (map (λ (s : Script). s.pid) scripts) k 0
       one k there = one_with k there (get_or run.procs 0 (first_of run.procs (subst (λ n. 0 < n) (sym run.made.count) run.some)))
         where
-          first_of : (ps : List Standing) → 0 < length ps → Standing
+          first_of : (ps : List ProcState) → 0 < length ps → ProcState
           first_of [] low = absurd (let wrong : ⊥ = omega (arith, low) in wrong)
           first_of (p ∷ ps) low = p
 
-          one_with : (k : ℕ) → k < length ts → Standing → get_or (numbers_of (map lines_of ts)) k 0 ≡ get_or (map (λ (s : Script). s.pid) scripts) k 0
+          one_with : (k : ℕ) → k < length ts → ProcState → get_or (numbers_of (map lines_of ts)) k 0 ≡ get_or (map (λ (s : Script). s.pid) scripts) k 0
           one_with k there p =
               let d : Task = record { number = 0; proc = p; commands = []; lines = []; starved = false } in
               let s : Script = record { pid = 0; commands = [] } in
@@ -152,7 +152,7 @@ module _ (loader : TableId) (lib : Library) (failing : Failing) (scripts : List 
               ∙ (ap (λ (l : ScriptLines). l.pid) (get_or-map lines_of ts k d (lines_of d) there)
               ∙ (end.number ∙ sym (get_or-map (λ (z : Script). z.pid) scripts k s 0 (subst (λ n. k < n) run.out.count there))))
 
-  carried : (h : List Entry) → IsHistoryOf (map proc_of ts) h → Standing → (i : ℕ) (lines : ScriptLines) (script : Script) → slice_get (map lines_of ts) i ≡ Some lines →
+  carried : (h : List Entry) → IsHistoryOf (map proc_of ts) h → ProcState → (i : ℕ) (lines : ScriptLines) (script : Script) → slice_get (map lines_of ts) i ≡ Some lines →
       slice_get scripts i ≡ Some script → HasCarriedOut lib failing (fixed_bytes lib) (1 + i) h lines.lines script.commands
   carried h hist p i lines script at_lines at_script =
       let d : Task = record { number = 0; proc = p; commands = []; lines = []; starved = false } in
@@ -180,18 +180,18 @@ module _ (loader : TableId) (lib : Library) (failing : Failing) (scripts : List 
       turned : (i : ℕ) → i + 1 ≡ 1 + i
       turned i = omega arith
 
-  pub are_run : ScriptsAreRun → (h : List Entry) → IsHistoryOf (map proc_of ts) h → Standing → IsRunOf lib failing (fixed_bytes lib) scripts (record { history = h; steady = map lines_of ts })
+  pub are_run : ScriptsAreRun → (h : List Entry) → IsHistoryOf (map proc_of ts) h → ProcState → IsRunOf lib failing (fixed_bytes lib) scripts (record { history = h; steady = map lines_of ts })
   are_run law h hist p =
       law lib failing (fixed_bytes lib) h (map lines_of ts) scripts (legal_of h hist p) numbers_are
       (subst (λ n. AllByRecursion (λ (x : Entry). (1 ≤ x.pid) × (x.pid ≤ n)) h) many hist.nobody) (carried h hist p)
 
-  pub finished : ScriptsAreRun → (h : List Entry) (ps : List Standing) (steady : List ScriptLines) → ps ≡ map proc_of ts → steady ≡ map lines_of ts → IsHistoryOf ps h →
+  pub finished : ScriptsAreRun → (h : List Entry) (ps : List ProcState) (steady : List ScriptLines) → ps ≡ map proc_of ts → steady ≡ map lines_of ts → IsHistoryOf ps h →
       IsRunOf lib failing (fixed_bytes lib) scripts (record { history = h; steady = steady })
   finished law h ps steady procs_are lines_are hist =
       subst (λ l. IsRunOf lib failing (fixed_bytes lib) scripts (record { history = h; steady = l })) (sym lines_are)
       (are_run law h (subst (λ l. IsHistoryOf l h) procs_are hist) (first_of run.procs (subst (λ n. 0 < n) (sym run.made.count) run.some)))
     where
-      first_of : (qs : List Standing) → 0 < length qs → Standing
+      first_of : (qs : List ProcState) → 0 < length qs → ProcState
       first_of [] low = absurd (let wrong : ⊥ = omega (arith, low) in wrong)
       first_of (p ∷ qs) low = p
 

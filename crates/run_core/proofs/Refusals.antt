@@ -18,12 +18,14 @@ use Rattle.load_model.specs.Modules.{Library, Spot, EntryFault, HealthOf, number
 use Rattle.lx_model.specs.declared.library.EntryFault.TheVariants as faults
 use Rattle.load_model.specs.State.{Residence, Process}
 use Rattle.load_model.specs.Memory.{first_untouched}
-use Rattle.load_model.specs.Refusals.{Purpose, touch, write, share, peek, debug, when, ◌orelse◌, MOST_LOADS, started_refusal, class_refusal, is_outside, covers_invalid, span_refusal}
+use Rattle.load_model.specs.Refusals.{Purpose, touch, write, share, peek, debug, when, ◌orelse◌, started_refusal, class_refusal, is_outside, covers_invalid, span_refusal}
+use Rattle.lx_types.specs.declared.limits.TheConstants.{MAX_LOADS}
 use Rattle.load_model.specs.Refusals.{touch_refusal, residence_refusal, key_refusal, spot_refusal, found_refusal}
-use Rattle.load_model.specs.Standing.{Holding}
-use Rattle.load_model.specs.ViewAnswers.{seen_process, is_held_in, stay_named, view_module_or_none, view_enter_refusal, view_place_refusal, view_refusal}
-use Rattle.proc_core.specs.Procs.{Standing}
-use Rattle.proc_core.specs.Calls.{MOST_TICKETS, call_refusal}
+use Rattle.load_model.specs.Views.{Holding}
+use Rattle.load_model.specs.ViewAnswers.{seen_process, is_held_in, reached_named, view_module_or_none, view_enter_refusal, view_place_refusal, view_refusal}
+use Rattle.proc_core.specs.Procs.{ProcState}
+use Rattle.proc_core.specs.Calls.{call_refusal}
+use Rattle.proc_core.specs.declared.deeds.TheConstants.{MAX_TICKETS}
 use Rattle.run_core.specs.Carrying.{has_entry}
 
 -- ---- no entry
@@ -57,7 +59,7 @@ module_plain lib v ways.Load None = refl
 module_plain lib v ways.Start (Some m) = orelse_plain (when (is_library lib m) NotProgram) (unfit lib m) (when_plain (is_library lib m) NotProgram refl) (unfit_plain lib m)
 module_plain lib v ways.Load (Some m) =
     orelse_plain (when (not (is_library lib m)) NotLibrary) _ (when_plain (not (is_library lib m)) NotLibrary refl)
-    (orelse_plain (unfit lib m) _ (unfit_plain lib m) (when_plain (nat_le MOST_LOADS (slice_index v.row.loads m)) CountFull refl))
+    (orelse_plain (unfit lib m) _ (unfit_plain lib m) (when_plain (nat_le MAX_LOADS (slice_index v.counts.loads m)) CountFull refl))
 
 started_plain : (p : Process) (how : How) → Plain (started_refusal p how)
 started_plain p ways.Start = step p.started
@@ -111,7 +113,7 @@ residence_plain lib p how at (Some r) =
 
 place_plain : (lib : Library) (v : Holding) (how : Purpose) (at : Place) → Plain (view_place_refusal lib v how at)
 place_plain lib v how at =
-    orelse_plain (when v.ended Ended) _ (when_plain v.ended Ended refl) (residence_plain lib (seen_process v) how at (stay_named lib v at.«module»))
+    orelse_plain (when v.ended Ended) _ (when_plain v.ended Ended refl) (residence_plain lib (seen_process v) how at (reached_named lib v at.«module»))
 
 spot_plain : (r : Result Spot EntryFault) → Plain (spot_refusal r)
 spot_plain (Ok s) = tt
@@ -138,8 +140,8 @@ all_plain lib v (commands.Peek at) = place_plain lib v peek at
 all_plain lib v (commands.Shared at) = place_plain lib v share at
 all_plain lib v (commands.Write at bytes) = place_plain lib v write at
 all_plain lib v (commands.Debug at bytes) = place_plain lib v debug at
-all_plain lib v (commands.Query name key) = orelse_plain (when v.ended Ended) _ (when_plain v.ended Ended refl) (key_plain lib key (stay_named lib v name))
-all_plain lib v (commands.GetRes name ty id) = orelse_plain (when v.ended Ended) _ (when_plain v.ended Ended refl) (found_plain lib ty id (stay_named lib v name))
+all_plain lib v (commands.Query name key) = orelse_plain (when v.ended Ended) _ (when_plain v.ended Ended refl) (key_plain lib key (reached_named lib v name))
+all_plain lib v (commands.GetRes name ty id) = orelse_plain (when v.ended Ended) _ (when_plain v.ended Ended refl) (found_plain lib ty id (reached_named lib v name))
 all_plain lib v commands.Exit = when_plain v.ended Ended refl
 
 pub view_is_plain : (lib : Library) (v : Holding) (c : Command) (r : Refusal) → view_refusal lib v c ≡ Some r → has_entry r ≡ false
@@ -152,22 +154,22 @@ unfolding view_refusal
 ended_first lib v (commands.Start name) is = ap (λ b. when b Ended orelse started_refusal (seen_process v) ways.Start orelse view_module_or_none lib v ways.Start (number_of lib name)) is
 ended_first lib v (commands.Load name) is = ap (λ b. when b Ended orelse started_refusal (seen_process v) ways.Load orelse view_module_or_none lib v ways.Load (number_of lib name)) is
 ended_first lib v (commands.Free name) is = ap (λ b. when b Ended orelse when (not (is_held_in v (number_of lib name))) NotHeld) is
-ended_first lib v (commands.Touch at) is = ap (λ b. when b Ended orelse residence_refusal lib (seen_process v) touch at (stay_named lib v at.«module»)) is
-ended_first lib v (commands.Peek at) is = ap (λ b. when b Ended orelse residence_refusal lib (seen_process v) peek at (stay_named lib v at.«module»)) is
-ended_first lib v (commands.Shared at) is = ap (λ b. when b Ended orelse residence_refusal lib (seen_process v) share at (stay_named lib v at.«module»)) is
-ended_first lib v (commands.Write at bytes) is = ap (λ b. when b Ended orelse residence_refusal lib (seen_process v) write at (stay_named lib v at.«module»)) is
-ended_first lib v (commands.Debug at bytes) is = ap (λ b. when b Ended orelse residence_refusal lib (seen_process v) debug at (stay_named lib v at.«module»)) is
-ended_first lib v (commands.Query name key) is = ap (λ b. when b Ended orelse key_refusal lib key (stay_named lib v name)) is
-ended_first lib v (commands.GetRes name ty id) is = ap (λ b. when b Ended orelse found_refusal lib ty id (stay_named lib v name)) is
+ended_first lib v (commands.Touch at) is = ap (λ b. when b Ended orelse residence_refusal lib (seen_process v) touch at (reached_named lib v at.«module»)) is
+ended_first lib v (commands.Peek at) is = ap (λ b. when b Ended orelse residence_refusal lib (seen_process v) peek at (reached_named lib v at.«module»)) is
+ended_first lib v (commands.Shared at) is = ap (λ b. when b Ended orelse residence_refusal lib (seen_process v) share at (reached_named lib v at.«module»)) is
+ended_first lib v (commands.Write at bytes) is = ap (λ b. when b Ended orelse residence_refusal lib (seen_process v) write at (reached_named lib v at.«module»)) is
+ended_first lib v (commands.Debug at bytes) is = ap (λ b. when b Ended orelse residence_refusal lib (seen_process v) debug at (reached_named lib v at.«module»)) is
+ended_first lib v (commands.Query name key) is = ap (λ b. when b Ended orelse key_refusal lib key (reached_named lib v name)) is
+ended_first lib v (commands.GetRes name ty id) is = ap (λ b. when b Ended orelse found_refusal lib ty id (reached_named lib v name)) is
 ended_first lib v commands.Exit is = ap (λ b. when b Ended) is
 
-pub call_is_views : (p : Standing) (c : Command) → p.known.drawn < MOST_TICKETS → call_refusal p c ≡ view_refusal p.view.library p.view.holding c
+pub call_is_views : (p : ProcState) (c : Command) → p.known.drawn < MAX_TICKETS → call_refusal p c ≡ view_refusal p.view.library p.view.holding c
 call_is_views p c few = step p.view.holding.ended refl
   where
     step : (e : Bool) → p.view.holding.ended ≡ e → call_refusal p c ≡ view_refusal p.view.library p.view.holding c
     step true is =
-        ap (λ b. when b Ended orelse when (nat_le MOST_TICKETS p.known.drawn) Worn orelse view_refusal p.view.library p.view.holding c) is
+        ap (λ b. when b Ended orelse when (nat_le MAX_TICKETS p.known.drawn) Worn orelse view_refusal p.view.library p.view.holding c) is
         ∙ sym (ended_first p.view.library p.view.holding c is)
     step false is =
-        ap (λ b. when b Ended orelse when (nat_le MOST_TICKETS p.known.drawn) Worn orelse view_refusal p.view.library p.view.holding c) is
-        ∙ ap (λ b. when b Worn orelse view_refusal p.view.library p.view.holding c) (lt-leb MOST_TICKETS p.known.drawn few)
+        ap (λ b. when b Ended orelse when (nat_le MAX_TICKETS p.known.drawn) Worn orelse view_refusal p.view.library p.view.holding c) is
+        ∙ ap (λ b. when b Worn orelse view_refusal p.view.library p.view.holding c) (lt-leb MAX_TICKETS p.known.drawn few)

@@ -19,7 +19,7 @@ use Rattle.session_model.specs.declared.sessions.Line.{Line}
 use Rattle.script_laws.specs.Progress.{Progress}
 use Rattle.script_laws.specs.Commands.{IsReading}
 use Rattle.proc_core.specs.declared.answers.Done.{Done}
-use Rattle.proc_core.specs.Procs.{Standing, failing_in}
+use Rattle.proc_core.specs.Procs.{ProcState, failing_in}
 use Rattle.proc_core.specs.Calls.{Made, IsReplied}
 use Rattle.proc_core.specs.Touches.{touched_pages, IsTouched, AreMapped}
 
@@ -58,18 +58,18 @@ IsLineOf (Err fail.NoMemory) reply = ⊥
 
 -- ---- one command
 
-pub record IsRefusedLine (p q : Standing) (command : Command) (reply : Reply) : Type 0 where
+pub record IsRefusedLine (p q : ProcState) (command : Command) (reply : Reply) : Type 0 where
   pub refusal : Refusal
   pub told : reply ≡ Refused refusal
   pub refused : view_refusal p.view.library p.view.holding command ≡ Some refusal
   pub same : q ≡ p
 
-pub record IsReadLine (p q : Standing) (command : Command) (reply : Reply) : Type 0 where
+pub record IsReadLine (p q : ProcState) (command : Command) (reply : Reply) : Type 0 where
   pub reads : IsReading command
   pub replied : IsReplied p command reply
   pub same : q ≡ p
 
-pub record IsTouchLine (p q : Standing) (command : Command) (reply : Reply) : Type 0 where
+pub record IsTouchLine (p q : ProcState) (command : Command) (reply : Reply) : Type 0 where
   pub at : Place
   pub is : command ≡ commands.Touch at
   pub fine : reply ≡ Fine
@@ -79,7 +79,7 @@ pub record IsTouchLine (p q : Standing) (command : Command) (reply : Reply) : Ty
   pub mapped : AreMapped p.view q.view at
 
 -- The command was carried out: by an entry, or with a line of this reply.
-abbrev pub IsCarriedOut : Standing → Standing → Command → Option Reply → Type 0
+abbrev pub IsCarriedOut : ProcState → ProcState → Command → Option Reply → Type 0
 IsCarriedOut p q command None = (outcome : Outcome) × Made p q command outcome
 IsCarriedOut p q command (Some reply) = IsRefusedLine p q command reply ⊎ IsReadLine p q command reply ⊎ IsTouchLine p q command reply
 
@@ -89,13 +89,13 @@ line_with front command None = []
 line_with front command (Some reply) = record { front = front; command = command; reply = reply } ∷ []
 
 -- at the end of what the process was shown
-abbrev pub line_if : Standing → Command → Option Reply → List Line
+abbrev pub line_if : ProcState → Command → Option Reply → List Line
 line_if q command reply = line_with (length q.known.seen) command reply
 
 -- ---- how far it has come
 
 -- Over this library, where these initialisations fail, the process has carried out these commands, and answered these lines.
-pub record Reached (lib : Library) (failing : Failing) (p : Standing) (lines : List Line) (done : List Command) : Type 0 where
+pub record Reached (lib : Library) (failing : Failing) (p : ProcState) (lines : List Line) (done : List Command) : Type 0 where
   pub library : p.view.library ≡ lib
   pub fails : failing_in p.known.subject ≡ failing
   pub number : p.view.holding.pid ≡ p.known.pid

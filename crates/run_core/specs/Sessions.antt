@@ -6,7 +6,7 @@ use Rattle.load_model.specs.State.{Failing}
 use Rattle.session_model.specs.declared.sessions.Script.{Script}
 use Rattle.session_model.specs.Runs.{Run, IsRunOf, run_text}
 use Rattle.proc_core.specs.Closing.{AreMade}
-use Rattle.proc_core.specs.Procs.{Standing}
+use Rattle.proc_core.specs.Procs.{ProcState}
 use Rattle.run_core.specs.declared.session.Ran.{Ran}
 use Rattle.run_core.specs.declared.tasks.Task.{Task}
 use Rattle.run_core.specs.Tasks.{AreRunOut}
@@ -22,7 +22,7 @@ pub record IsRanOf (lib : Library) (failing : Failing) (scripts : List Script) (
 
 -- These scripts, of which there are some, were run out over a new loader of a library, where these initialisations fail.
 pub record HaveRun (loader : TableId) (lib : Library) (failing : Failing) (scripts : List Script) (tasks : List Task) : Type 0 where
-  pub procs : List Standing
+  pub procs : List ProcState
   pub made : AreMade loader (record { library = lib; failing = failing }) (length scripts) procs
   pub some : 0 < length scripts
   pub out : AreRunOut loader procs scripts tasks

@@ -5,17 +5,13 @@ use Rattle.atomic_table.specs.Seated.{TableId}
 use Rattle.session_model.specs.declared.sessions.Script.{Script}
 use Rattle.session_model.specs.declared.sessions.ScriptLines.{ScriptLines}
 use Rattle.session_model.specs.Bounds.{IsCommand}
-use Rattle.session_model.specs.Sessions.{MOST_COMMANDS}
-use Rattle.proc_core.specs.Procs.{Standing, failing_in, IsOf}
+use Rattle.proc_core.specs.Procs.{ProcState, failing_in, IsOf}
+use Rattle.session_model.specs.declared.limits.TheConstants.{MAX_COMMANDS}
 use Rattle.run_core.specs.declared.tasks.Task.{Task}
 use Rattle.run_core.specs.Carrying.{Reached}
 
--- the most turns that one command takes: one, or one for each page of a touch
-abbrev pub MOST_TURNS : ℕ
-MOST_TURNS = 1048578
-
 -- the process is as it was but for what it has seen and done
-pub record IsSameProcess (p q : Standing) : Type 0 where
+pub record IsSameProcess (p q : ProcState) : Type 0 where
   pub lock : q.lock ≡ p.lock
   pub number : q.known.pid ≡ p.known.pid
   pub live : q.known.live ≡ p.known.live
@@ -28,7 +24,7 @@ pub record IsReady (loader : TableId) (t : Task) : Type 0 where
   pub drawn : t.proc.known.drawn ≡ 0
   pub reached : Reached t.proc.view.library (failing_in t.proc.known.subject) t.proc [] []
   pub lines : t.lines ≡ []
-  pub few : length t.commands ≤ MOST_COMMANDS
+  pub few : length t.commands ≤ MAX_COMMANDS
   pub commands : AllByRecursion IsCommand t.commands
 
 -- It was run to its end.
@@ -45,16 +41,16 @@ pub record IsRunOut (loader : TableId) (before after : Task) : Type 0 where
 -- ---- all of them
 
 -- the task of a process that has done nothing, and of its script
-abbrev pub task_with : Standing × Script → Task
+abbrev pub task_with : ProcState × Script → Task
 task_with pair = record { number = pair.1.pid; proc = pair.0; commands = pair.1.commands; lines = []; starved = false }
 
 -- They began as tasks of these processes and scripts, and each was run out.
-pub record AreRunOut (loader : TableId) (procs : List Standing) (scripts : List Script) (tasks : List Task) : Type 0 where
+pub record AreRunOut (loader : TableId) (procs : List ProcState) (scripts : List Script) (tasks : List Task) : Type 0 where
   pub count : length tasks ≡ length scripts
   pub each : (k : ℕ) (d : Task) → k < length tasks → IsRunOut loader (slice_index_or (map task_with (zip procs scripts)) k d) (slice_index_or tasks k d)
 
 -- what is left of one
-abbrev pub proc_of : Task → Standing
+abbrev pub proc_of : Task → ProcState
 proc_of t = t.proc
 
 abbrev pub lines_of : Task → ScriptLines

@@ -3,7 +3,7 @@
 ghost use Rattle.std.specs.Prelude.{◌≡◌, ◌<◌, IfOk, length};
 ghost use Rattle.load_model.specs.declared.commands.Command.TheVariants as commands;
 ghost use Rattle.session_model.specs.Bounds.{IsCommand, IsReadable};
-ghost use Rattle.proc_core.specs.Calls.{MOST_TICKETS};
+ghost use Rattle.proc_core.specs.declared.deeds.TheConstants.{MAX_TICKETS};
 ghost use Rattle.proc_core.specs.Procs.{IsOf};
 ghost use Rattle.run_core.specs.Carrying.{IsCarriedOut, IsLineOf, has_entry};
 
@@ -74,7 +74,7 @@ fn shared<R: Wait>(
     place: &Place,
 ) -> Result<Option<Reply>, NoMemory>
     requires loader { IsOf loader.now proc.old }
-    requires few { proc.old.known.drawn < MOST_TICKETS }
+    requires few { proc.old.known.drawn < MAX_TICKETS }
     ensures loader { IsOf loader.now proc.new }
     ensures carried { IfOk result (λ reply. IsCarriedOut proc.old proc.new (commands.Shared place.now) reply) }
 {
@@ -95,7 +95,7 @@ fn touch<R: Wait, L: Ledger>(
     requires parts { blank.parts ≡ L.parts }
     requires some { 0 < blank.parts }
     requires loader { IsOf loader.now proc.old }
-    requires few { proc.old.known.drawn < MOST_TICKETS }
+    requires few { proc.old.known.drawn < MAX_TICKETS }
     ensures loader { IsOf loader.now proc.new }
     ensures carried { IfOk result (λ reply. IsCarriedOut proc.old proc.new (commands.Touch place.now) reply) }
 {
@@ -118,7 +118,7 @@ pub fn answer<R: Wait>(
 ) -> Result<Option<Reply>, NoMemory>
     requires loader { IsOf loader.now proc.old }
     requires command { IsCommand command.now }
-    requires few { proc.old.known.drawn < MOST_TICKETS }
+    requires few { proc.old.known.drawn < MAX_TICKETS }
     ensures loader { IsOf loader.now proc.new }
     ensures carried { IfOk result (λ reply. IsCarriedOut proc.old proc.new command.now reply) }
 {

@@ -1,13 +1,14 @@
 //! Which initialisations fail in the run of a session.
 
 ghost use Rattle.std.specs.Prelude.{◌≡◌, ◌≤◌, ◌<◌, ◌==◌, IfOk, IfSome, filter_map, length, position};
+ghost use Rattle.lx_types.specs.declared.limits.TheConstants.{MAX_PROCESSES};
 ghost use Rattle.session_model.specs.FailingPairs as pairs;
 ghost use Rattle.session_model.specs.Bounds.{IsSession};
 
 use lx_types::NoMemory;
 use mod_graph::Library;
-use session_lines::first_kept;
 use session_model::{FailingLine, FailingLines, Script, Session};
+use session_read::first_kept;
 use std::alloc::Global;
 
 // The place of the script of a number.
@@ -20,7 +21,7 @@ fn place_of(scripts: &[Script], number: u32) -> Option<usize>
 
 // The process of the script of a number: processes count from 1 in the order of the scripts.
 fn process_of(scripts: &[Script], number: u32) -> Option<u32>
-    requires { length scripts.now ≤ 16 }
+    requires { length scripts.now ≤ MAX_PROCESSES }
     ensures { result ≡ pairs.process_of scripts.now number }
 {
     match place_of(scripts, number) {
@@ -31,7 +32,7 @@ fn process_of(scripts: &[Script], number: u32) -> Option<u32>
 
 // The process and the module of a line, where there are both.
 fn pair_of(lib: &Library, scripts: &[Script], line: &FailingLine) -> Option<(u32, u32)>
-    requires { length scripts.now ≤ 16 }
+    requires { length scripts.now ≤ MAX_PROCESSES }
     ensures { result ≡ pairs.pair_of lib.now scripts.now line.now }
 {
     match lib.find(&line.module) {
@@ -49,7 +50,7 @@ fn pairs_in(
     scripts: &[Script],
     lines: &FailingLines,
 ) -> Result<Vec<(u32, u32)>, NoMemory>
-    requires { length scripts.now ≤ 16 }
+    requires { length scripts.now ≤ MAX_PROCESSES }
     ensures { IfOk result (λ found. found.items ≡ filter_map (pairs.pair_of lib.now scripts.now) lines.now) }
 {
     let mut found = Vec::new(alloc);

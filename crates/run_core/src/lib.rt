@@ -3,8 +3,10 @@
 
 mod answers;
 mod failing;
+mod laws;
 mod session;
 mod tasks;
 
 pub use failing::failing_pairs;
+pub use laws::turn_limit;
 pub use session::{Ran, run_session};

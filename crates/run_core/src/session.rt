@@ -3,6 +3,7 @@
 ghost use Rattle.std.specs.Prelude.{◌≡◌, ◌<◌, ◌≤◌, [], ℕ, List, IfOk, length, map, slice_index_or, zip};
 ghost use Rattle.std.specs.Arc.{arc_value};
 ghost use Rattle.std.specs.List.{All, list_any};
+ghost use Rattle.lx_types.specs.declared.limits.TheConstants.{MAX_PROCESSES};
 ghost use Rattle.session_model.specs.Bounds.{IsSession};
 ghost use Rattle.session_model.specs.Runs.{run_text};
 ghost use Rattle.load_model.specs.State.{Failing};
@@ -156,7 +157,7 @@ fn new_loader(
     count: usize,
     failing: Vec<(u32, u32)>,
 ) -> Result<(Loader, Vec<Proc>), NoMemory>
-    requires { (1 ≤ count) × (count ≤ 16) }
+    requires { (1 ≤ count) × (count ≤ MAX_PROCESSES) }
     ensures { IfOk result (λ r. AreMade r.0 (record { library = arc_value lib.now; failing = failing.items }) count r.1.items) }
 {
     Loader::make_with(alloc, lib.clone()?, count as u32, failing)

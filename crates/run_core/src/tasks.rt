@@ -5,10 +5,10 @@ ghost use Rattle.load_model.specs.declared.commands.Command.{Command};
 ghost use Rattle.load_model.specs.Modules.{Library};
 ghost use Rattle.load_model.specs.State.{Failing};
 ghost use Rattle.session_model.specs.Bounds.{IsCommand};
-ghost use Rattle.proc_core.specs.Calls.{MOST_TICKETS};
+ghost use Rattle.proc_core.specs.declared.deeds.TheConstants.{MAX_TICKETS};
 ghost use Rattle.proc_core.specs.Procs.{IsOf};
 ghost use Rattle.run_core.specs.Carrying.{Reached, line_with};
-ghost use Rattle.run_core.specs.Tasks.{IsReady, IsRunOut, IsSameProcess, MOST_TURNS};
+ghost use Rattle.run_core.specs.Tasks.{IsReady, IsRunOut, IsSameProcess};
 
 use crate::answers::answer;
 use load_model::{Command, Reply};
@@ -19,6 +19,9 @@ use session_model::{Commands, Line};
 use std::alloc::Global;
 use std::mem;
 use std::sync::Wait;
+
+/// The most turns that one command takes: one, or one for each page of a touch.
+pub const MAX_TURNS: u32 = 1_048_578;
 
 /// A script in work: its number, its process, the commands that it has still to carry out, and its lines so far. It is
 /// starved where it ended for want of memory.
@@ -61,11 +64,11 @@ impl Task {
     ) -> Result<(), NoMemory>
         requires loader { IsOf loader.now self.old.proc }
         requires command { IsCommand command }
-        requires few { self.old.proc.known.drawn < MOST_TICKETS }
+        requires few { self.old.proc.known.drawn < MAX_TICKETS }
         ensures number { self.new.number ≡ self.old.number }
         ensures loader { IsOf loader.now self.new.proc }
         ensures same { OnOk result (IsSameProcess self.old.proc self.new.proc) }
-        ensures turns { OnOk result (self.new.proc.known.drawn ≤ self.old.proc.known.drawn + MOST_TURNS) }
+        ensures turns { OnOk result (self.new.proc.known.drawn ≤ self.old.proc.known.drawn + MAX_TURNS) }
         ensures reached { OnOk result ((lib : Library) (failing : Failing) (done : List Command)
             → Reached lib failing self.old.proc self.old.lines done → Reached lib failing self.new.proc self.new.lines (done ++ command ∷ [])) }
     {

@@ -16,7 +16,8 @@ pub fn runs_by_links()
     session_model::agreement_is_enough();
 }
 
-/// A module that the session builds has no resources: the header of its file counts none ("LX Header" in the LX document).
+/// A module that the session builds has no resources: the header of its file counts none ("32-bit Linear
+/// eXecutable Module Format": "LX Header").
 pub fn built_modules_have_no_resources()
     ensures { BuiltHasNoResources }
 {

@@ -2,7 +2,8 @@
 use Rattle.std.proofs.Common.{◌≡◌, ℕ, ◌+◌, ◌-◌, ◌%◌, ◌<◌, ◌≤◌, ◌==◌, Bool, true, false, cond, ◌&&◌, ◌||◌, List, [], ◌∷◌, ◌++◌, length, map, find, Option, Some, None, is_some, slice_index, refl, sym, ◌∙◌, ap, subst, arith, nat_le}
 use Rattle.std.specs.List.{list_any}
 use Rattle.std.proofs.lemmas.Bool.{eqb-true, leb-true}
-use Rattle.lx_types.specs.Addresses.{UNIT, SHARED_END, room}
+use Rattle.lx_types.specs.Addresses.{room}
+use Rattle.lx_types.specs.declared.limits.TheConstants.{BASE_UNIT, SHARED_END}
 use Rattle.lx_types.specs.declared.bases.ModBases.{ModBases}
 use Rattle.lx_model.specs.Fixed.{base_of, bases_of}
 use Rattle.lx_model.specs.Reach.{IsFit}
@@ -24,12 +25,14 @@ use Rattle.run_model.specs.Standing.{ObjectsStand, ReachedStand}
 
 -- ---- a place of an arena
 
-at_unit : (arena : AddressRange) (size base : ℕ) → is_in_arena arena size base ≡ true → base % UNIT ≡ 0
-at_unit arena size base is = eqb-true (base % UNIT) 0 (and_left (base % UNIT == 0) (nat_le arena.from base) (and_left ((base % UNIT == 0) && nat_le arena.from base) (nat_le (base + room size) arena.to) is))
+at_unit : (arena : AddressRange) (size base : ℕ) → is_in_arena arena size base ≡ true → base % BASE_UNIT ≡ 0
+at_unit arena size base is =
+    eqb-true (base % BASE_UNIT) 0 (and_left
+    (base % BASE_UNIT == 0) (nat_le arena.from base) (and_left ((base % BASE_UNIT == 0) && nat_le arena.from base) (nat_le (base + room size) arena.to) is))
 
 ends_by : (arena : AddressRange) (size base : ℕ) → arena.to ≤ SHARED_END → is_in_arena arena size base ≡ true → base + size ≤ SHARED_END
 ends_by arena size base high is =
-    let fits : base + room size ≤ arena.to = leb-true (base + room size) arena.to (and_right ((base % UNIT == 0) && nat_le arena.from base) (nat_le (base + room size) arena.to) is) in
+    let fits : base + room size ≤ arena.to = leb-true (base + room size) arena.to (and_right ((base % BASE_UNIT == 0) && nat_le arena.from base) (nat_le (base + room size) arena.to) is) in
     sum_below base size (room size) arena.to SHARED_END (room_holds size) fits high
   where
     sum_below : (b s r t e : ℕ) → s ≤ r → b + r ≤ t → t ≤ e → b + s ≤ e
@@ -48,7 +51,8 @@ one_bases : Eager → ℕ → ModBases
 one_bases e k = record { «module» = k; objects = state.bases_of (residence_of e k) }
 
 -- the bases of a module that is among them
-found : (e : Eager) (m : ℕ) (before : List ℕ) → bases_of (find (λ b. b.«module» == m) (map (λ k. record { «module» = k; objects = state.bases_of (residence_of e k) }) (before ++ m ∷ []))) ≡ state.bases_of (residence_of e m)
+found : (e : Eager) (m : ℕ) (before : List ℕ) → bases_of (find (λ b. b.«module» == m)
+    (map (λ k. record { «module» = k; objects = state.bases_of (residence_of e k) }) (before ++ m ∷ []))) ≡ state.bases_of (residence_of e m)
 found e m [] = last (m == m) (same m)
   where
     same : (n : ℕ) → (n == n) ≡ true
@@ -61,7 +65,8 @@ found e m (k ∷ before) = step (k == m) refl (found e m before)
   where
     step : (b : Bool) → (k == m) ≡ b →
         bases_of (find (λ b. b.«module» == m) (map (λ k. record { «module» = k; objects = state.bases_of (residence_of e k) }) (before ++ m ∷ []))) ≡ state.bases_of (residence_of e m) →
-        bases_of (cond b (Some (record { «module» = k; objects = state.bases_of (residence_of e k) })) (find (λ b. b.«module» == m) (map (λ k. record { «module» = k; objects = state.bases_of (residence_of e k) }) (before ++ m ∷ []))))
+        bases_of (cond b (Some (record { «module» = k; objects = state.bases_of (residence_of e k) }))
+        (find (λ b. b.«module» == m) (map (λ k. record { «module» = k; objects = state.bases_of (residence_of e k) }) (before ++ m ∷ []))))
         ≡ state.bases_of (residence_of e m)
     step true is later = ap (λ n. state.bases_of (residence_of e n)) (eqb-true k m is)
     step false is later = later
@@ -99,7 +104,7 @@ objects_stand ends fit lib failing contents h m r legal there object number =
     let base : ℕ = slice_index r.bases (object - 1) in
     let at : base_of (bases_seen lib e m) m object ≡ base = seen_is ends lib e m object ∙ ap (λ o. slice_index (state.bases_of o) (object - 1)) there in
     let inside : is_in_arena (arena_of lib m) (object_at lib m object).size base ≡ true = (fit lib failing contents h m object r legal there number).0 in (
-      ap (λ x. x % UNIT) at ∙ at_unit (arena_of lib m) (object_at lib m object).size base inside,
+      ap (λ x. x % BASE_UNIT) at ∙ at_unit (arena_of lib m) (object_at lib m object).size base inside,
       subst (λ x. x + (object_at lib m object).size ≤ SHARED_END) (sym at) (ends_by (arena_of lib m) (object_at lib m object).size base (arena_ends lib m) inside),
     )
 

@@ -1,6 +1,6 @@
 -- How modules stand that processes reach: what has to hold of them where a link's bytes and the loader's are one.
 use Rattle.std.specs.Prelude.{◌≡◌, ℕ, ◌+◌, ◌%◌, ◌<◌, ◌≤◌, List, length, true}
-use Rattle.lx_types.specs.Addresses.{UNIT, SHARED_END}
+use Rattle.lx_types.specs.declared.limits.TheConstants.{BASE_UNIT, SHARED_END}
 use Rattle.lx_types.specs.Sound.{IsNumberOf}
 use Rattle.lx_types.specs.declared.bases.Bases.{Bases}
 use Rattle.lx_model.specs.Fixed.{base_of}
@@ -15,7 +15,7 @@ use Rattle.load_model.specs.Histories.{state_after, Legal}
 abbrev pub ObjectsStand : Library → Bases → ℕ → Type 0
 ObjectsStand lib bases m =
     (object : ℕ) → IsNumberOf object (length (objects_of lib m)) →
-    (base_of bases m object % UNIT ≡ 0) × (base_of bases m object + (object_at lib m object).size ≤ SHARED_END)
+    (base_of bases m object % BASE_UNIT ≡ 0) × (base_of bases m object + (object_at lib m object).size ≤ SHARED_END)
 
 -- A module of the library, that can be loaded, and whose objects stand so.
 pub record StandsIn (lib : Library) (bases : Bases) (m : ℕ) : Type 0 where

@@ -14,7 +14,8 @@ pub fn reached_modules_stand()
     lx_model::order_is_reach();
 }
 
-/// A file that is written has no resources: its header counts none ("LX Header", "Resource Table" in the LX document).
+/// A file that is written has no resources: its header counts none ("32-bit Linear eXecutable Module
+/// Format": "LX Header", "Resource Table").
 pub fn written_files_have_no_resources()
     ensures { WrittenHasNoResources }
 {

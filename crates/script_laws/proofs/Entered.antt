@@ -3,8 +3,8 @@ use Rattle.std.proofs.Common.{◌≡◌, true, List, [], ◌∷◌, ◌++◌, Is
 use Rattle.load_model.specs.declared.deeds.Entry.{Entry}
 use Rattle.load_model.specs.State.{PageOf, Eager, is_among, pids}
 use Rattle.load_model.specs.Histories.{state_after}
-use Rattle.load_model.specs.Touched.{touched_behind}
-use Rattle.load_model.specs.Standing.{mapped_pages}
+use Rattle.load_model.specs.Views.{mapped_pages}
+use Rattle.load_model.specs.TouchedPages.{touched_behind}
 use Rattle.session_model.specs.Merging.{uses_touched}
 use Rattle.merge_laws.specs.Accounts.{Account, own_state}
 use Rattle.merge_laws.specs.AccountLaws.{OwnEntryAdds, AccountGoesOn}

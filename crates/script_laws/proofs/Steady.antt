@@ -11,7 +11,7 @@ use Rattle.load_model.specs.State.{PageOf, Failing, Eager}
 use Rattle.load_model.specs.Step.{steady, answer_of}
 use Rattle.load_model.specs.Histories.{state_after}
 use Rattle.load_model.specs.Laws.{NothingIsLegal}
-use Rattle.load_model.specs.Standing.{Holding, mapped_pages}
+use Rattle.load_model.specs.Views.{Holding, mapped_pages}
 use Rattle.load_model.specs.ViewLaws.{NewStands}
 use Rattle.session_model.specs.declared.sessions.Line.{Line}
 use Rattle.session_model.specs.Merging.{Item, touch_follows}

@@ -14,17 +14,19 @@ use Rattle.load_model.specs.State.{PageOf, Residence, Failing, is_among, pids}
 use Rattle.load_model.specs.Refusals.{touch, when, ◌orelse◌, residence_refusal}
 use Rattle.load_model.specs.Histories.{state_after, Follows, Legal}
 use Rattle.load_model.specs.Laws.{PrefixIsLegal, EachFollows}
-use Rattle.load_model.specs.Touched.{has_page, touched_behind}
-use Rattle.load_model.specs.Standing.{Mapped, Holding, mapped_pages, StandsFor}
-use Rattle.load_model.specs.ViewAnswers.{stay_named, seen_process, view_refusal}
+use Rattle.load_model.specs.Views.{Mapped, Holding, mapped_pages, StandsFor}
+use Rattle.load_model.specs.TouchedPages.{has_page, touched_behind}
+use Rattle.load_model.specs.ViewAnswers.{seen_process, view_refusal, reached_named}
 use Rattle.load_model.specs.ViewLaws.{IsQuiet, StandsOn, StandsQuiet}
 use Rattle.session_model.specs.declared.sessions.Line.{Line}
 use Rattle.session_model.specs.Merging.{uses_touched}
 use Rattle.merge_laws.specs.Accounts.{own_state}
 use Rattle.merge_laws.specs.AccountLaws.{TouchBegins, TouchWaits, TouchFaults, TouchEnds}
 use Rattle.merge_laws.specs.MidTouch.{IsFaultFor, AccountInTouch}
-use Rattle.merge_laws.specs.OwnStates.{HasTouched, FollowingReplies, TouchedBehindEntry, TouchedGoesOn, pages_at}
-use Rattle.merge_laws.specs.ViewAccounts.{serial_seen, has_pages, TouchAccepted, TouchFixed, FaultForTouch, TouchMapped}
+use Rattle.merge_laws.specs.OwnStates.{HasTouched, FollowingReplies, TouchedBehindEntry, TouchedGoesOn}
+use Rattle.merge_laws.specs.PageStates.{pages_at}
+use Rattle.merge_laws.specs.ViewAccounts.{TouchAccepted, TouchFixed, FaultForTouch, TouchMapped}
+use Rattle.merge_laws.specs.PageStates.{serial_seen, has_pages}
 use Rattle.script_laws.specs.Progress.{Progress, line_at, IsFaultOfPlace}
 use Rattle.script_laws.specs.Commands.{TouchGoesOn}
 
@@ -85,7 +87,7 @@ all_entries shrinks each on quiet waits faults for_touch replies goes behind lib
 touch_refused_alike : (lib : Library) (v : Holding) (ms : List Mapped) (n : ℕ) (at : Place) →
     view_refusal lib (record v { mapped = ms; front = n }) (commands.Touch at) ≡ view_refusal lib v (commands.Touch at)
 unfolding view_refusal
-touch_refused_alike lib v ms n at = ap (λ r. when v.ended Ended orelse r) (alike (stay_named lib v at.«module»))
+touch_refused_alike lib v ms n at = ap (λ r. when v.ended Ended orelse r) (alike (reached_named lib v at.«module»))
   where
     alike : (r : Option Residence) → residence_refusal lib (seen_process (record v { mapped = ms; front = n })) touch at r ≡ residence_refusal lib (seen_process v) touch at r
     alike None = refl

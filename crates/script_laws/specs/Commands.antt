@@ -10,7 +10,7 @@ use Rattle.load_model.specs.declared.deeds.Entry.{Entry}
 use Rattle.load_model.specs.Modules.{Library, Held}
 use Rattle.load_model.specs.State.{Failing, is_among, pids}
 use Rattle.load_model.specs.Histories.{Legal}
-use Rattle.load_model.specs.Standing.{Holding, new_holding, StandsFor}
+use Rattle.load_model.specs.Views.{Holding, new_holding, StandsFor}
 use Rattle.load_model.specs.ViewAnswers.{view_refusal, view_reply}
 use Rattle.session_model.specs.declared.sessions.Line.{Line}
 use Rattle.script_laws.specs.Progress.{Progress, line_at, Enters, Touches}

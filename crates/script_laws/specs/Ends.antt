@@ -6,7 +6,7 @@ use Rattle.load_model.specs.declared.deeds.Entry.{Entry}
 use Rattle.load_model.specs.Modules.{Library, Held}
 use Rattle.load_model.specs.State.{Failing}
 use Rattle.load_model.specs.Histories.{Legal}
-use Rattle.load_model.specs.Standing.{Holding}
+use Rattle.load_model.specs.Views.{Holding}
 use Rattle.session_model.specs.declared.sessions.Line.{Line}
 use Rattle.session_model.specs.declared.sessions.Script.{Script}
 use Rattle.session_model.specs.declared.sessions.ScriptLines.{ScriptLines}

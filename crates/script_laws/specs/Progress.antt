@@ -14,14 +14,15 @@ use Rattle.load_model.specs.State.{PageOf, Failing, is_among, pids}
 use Rattle.load_model.specs.Memory.{pages_over}
 use Rattle.load_model.specs.Asks.{ask_in}
 use Rattle.load_model.specs.Histories.{state_after, Follows, Legal}
-use Rattle.load_model.specs.Touched.{has_page, touched_behind}
-use Rattle.load_model.specs.Standing.{Holding, mapped_pages, StandsFor}
+use Rattle.load_model.specs.Views.{Holding, mapped_pages, StandsFor}
+use Rattle.load_model.specs.TouchedPages.{has_page, touched_behind}
 use Rattle.load_model.specs.ViewAnswers.{view_refusal}
 use Rattle.session_model.specs.declared.sessions.Line.{Line}
 use Rattle.session_model.specs.Merging.{AsksFor, is_fault, uses_touched}
 use Rattle.merge_laws.specs.Accounts.{Account}
-use Rattle.merge_laws.specs.OwnStates.{HasTouched, pages_at, state_with}
-use Rattle.merge_laws.specs.ViewAccounts.{serial_seen, has_pages}
+use Rattle.merge_laws.specs.OwnStates.{HasTouched}
+use Rattle.merge_laws.specs.PageStates.{pages_at, state_with}
+use Rattle.merge_laws.specs.PageStates.{serial_seen, has_pages}
 
 -- The process of this view was shown this history, has carried out these commands, and answered these lines: of that it has
 -- an account, and what it touched is what the view has mapped.
@@ -44,7 +45,7 @@ AreOthers pid more = AllByRecursion (λ (x : Entry). (pid == x.pid) ≡ false) m
 -- ---- by an entry
 
 -- The process was shown entries of others, and then made the one of a command, no fault, which follows the history there and
--- uses pages alone that its view had mapped. The view has mapped what the process has touched behind it.
+-- uses pages alone that its view had mapped. The view has mapped what the process has touched after it.
 pub record Enters (lib : Library) (failing : Failing) (contents : Held) (v w : Holding) (h k : List Entry) (command : Command) : Type 0 where
   pub more : List Entry
   pub others : AreOthers v.pid more

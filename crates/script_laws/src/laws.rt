@@ -24,7 +24,7 @@ pub fn steady_lines_go_on()
     merge_laws::views_account();
 }
 
-/// A command whose entry the process made, behind entries of others, is carried out.
+/// A command whose entry the process made, after entries of others, is carried out.
 pub fn entries_go_on()
     ensures { EntryGoesOn }
 {

@@ -9,7 +9,7 @@ use Rattle.std.proofs.lemmas.List.Elements.{All-nil, All-push}
 use Rattle.std.proofs.lemmas.List.Folds.{list_any-append}
 use Rattle.std.proofs.lemmas.List.FromFn.{get_or-map-range_with_len, length-map-range_with_len}
 use Rattle.std.proofs.Math.Bool.{and-true, and-false, or-false}
-use Rattle.first_table.proofs.Shown.{any-place}
+use Rattle.name_table.proofs.Shown.{any-place}
 use Rattle.link_model.specs.declared.keys.SegmentKey.{SegmentKey}
 use Rattle.link_model.specs.Parts.{Part, segment_key, same_segment}
 use Rattle.link_model.proofs.Tables.{firsts-apart}
@@ -17,7 +17,7 @@ use Rattle.seg_parts.specs.declared.members.Member.{Member}
 use Rattle.seg_parts.specs.LogicalSegments.{name_shown, heads_of, segment_keys_of}
 use Rattle.seg_parts.specs.Members.{member_shown, is_member}
 use Rattle.seg_parts.proofs.ClassOrder.{place-is}
-use Rattle.sym_table.proofs.Lists.{firsts-keys, map-more}
+use Rattle.link_types.proofs.Lists.{firsts-keys, map-more}
 use Rattle.seg_parts.proofs.Tables.{segments_equal}
 use Rattle.seg_parts.proofs.EndSums.{differs}
 use Rattle.seg_merge.specs.Membership.{both, AreGroupsOf}

@@ -14,7 +14,7 @@ use Rattle.link_model.specs.LayoutRefusals.{too_large}
 use Rattle.link_model.proofs.Members.{In}
 use Rattle.seg_parts.specs.LogicalSegments.{heads_of}
 use Rattle.seg_parts.specs.Rows.{rows_behind, too_large_in}
-use Rattle.sym_table.proofs.Lists.{firsts-keys}
+use Rattle.link_types.proofs.Lists.{firsts-keys}
 use Rattle.seg_parts.proofs.StepsAreRules.{rows-are, steps_of_links}
 use Rattle.seg_merge.specs.Ordered.{Ordered, all_parts, ordered_in}
 use Rattle.seg_merge.specs.Laid as laid

@@ -5,7 +5,8 @@ use Rattle.std.proofs.Common.{ap, sym, subst, ◌∙◌, arith}
 use Rattle.std.proofs.lemmas.List.{length-map, get_or-map}
 use Rattle.std.proofs.lemmas.List.FromFn.{length-map-range_with_len}
 use Rattle.std.proofs.lemmas.Slice.Zip.{length-zip}
-use Rattle.link_model.specs.declared.limits.TheConstants.{MAX_MEMORY, MAX_OBJECTS}
+use Rattle.lx_types.specs.declared.limits.TheConstants.{MAX_OBJECTS}
+use Rattle.link_model.specs.declared.limits.TheConstants.{MAX_MEMORY}
 use Rattle.link_model.specs.Order.{same_object}
 use Rattle.link_model.specs.Rows.{Row, end_in}
 use Rattle.seg_parts.specs.declared.rows.Placed.{Placed}

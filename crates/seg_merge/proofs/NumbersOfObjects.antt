@@ -11,7 +11,7 @@ use Rattle.link_model.specs.Order.{ordered, object_key, same_object}
 use Rattle.link_model.proofs.KeyTests.{equivalence, object_keys}
 use Rattle.link_model.proofs.Members.{position_is}
 use Rattle.link_model.proofs.Tables.{any-firsts}
-use Rattle.sym_table.proofs.Lists.{firsts-keys}
+use Rattle.link_types.proofs.Lists.{firsts-keys}
 use Rattle.seg_parts.proofs.Tables.{any-shown, place-shown}
 use Rattle.seg_merge.specs.ObjectNumbers.{ObjectNumbers}
 

@@ -11,7 +11,8 @@ use Rattle.link_model.specs.Appearance.{firsts}
 use Rattle.link_model.specs.Order.{same_object}
 use Rattle.link_model.specs.Rows.{Row, end_in}
 use Rattle.link_model.specs.LayoutRefusals.{size_of_rows}
-use Rattle.link_model.specs.declared.limits.TheConstants.{MAX_MEMORY, MAX_OBJECTS}
+use Rattle.lx_types.specs.declared.limits.TheConstants.{MAX_OBJECTS}
+use Rattle.link_model.specs.declared.limits.TheConstants.{MAX_MEMORY}
 use Rattle.seg_parts.specs.declared.rows.Unplaced as lent
 use Rattle.seg_parts.specs.LogicalSegments.{places}
 use Rattle.seg_parts.specs.Placing.{unplaced_shown}

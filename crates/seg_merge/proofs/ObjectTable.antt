@@ -15,7 +15,7 @@ use Rattle.link_model.proofs.KeyTests.{equivalence, object_keys}
 use Rattle.link_model.proofs.Members.{placed}
 use Rattle.link_model.proofs.Tables.{firsts-push, none_before}
 use Rattle.seg_parts.specs.LogicalSegments.{places}
-use Rattle.sym_table.proofs.Lists.{firsts-keys}
+use Rattle.link_types.proofs.Lists.{firsts-keys}
 use Rattle.seg_parts.proofs.Lists.{take-push, split-at}
 use Rattle.seg_parts.proofs.Tables.{places-push, place-push, place-stays}
 use Rattle.seg_parts.proofs.ObjectNames.{objects_equal}

@@ -6,7 +6,8 @@ use Rattle.std.proofs.lemmas.Bool.{eq-eqb, ltb-false}
 use Rattle.std.proofs.lemmas.List.{length-map, get_or-map}
 use Rattle.lx_types.proofs.Lists.{none_found}
 use Rattle.lx_types.proofs.Options.{mapped_none}
-use Rattle.link_model.specs.declared.limits.TheConstants.{MAX_MEMORY, MAX_NARROW_OBJECT, MAX_OBJECTS}
+use Rattle.lx_types.specs.declared.limits.TheConstants.{MAX_OBJECTS}
+use Rattle.link_model.specs.declared.limits.TheConstants.{MAX_MEMORY, MAX_NARROW_OBJECT}
 use Rattle.link_model.specs.declared.keys.SegmentKey.{SegmentKey}
 use Rattle.link_model.specs.declared.refusals.LayRefusal.TheVariants.{TooLarge}
 use Rattle.link_model.specs.Link.{Link}

@@ -82,7 +82,7 @@ is_shared r = is_common (shown r.head)
 abbrev pub end_of : Placed → List Part → ℕ
 end_of r qs = end_of_parts r.start (filter (joins (shown r.head)) qs)
 
--- Where its next part may stand, behind these parts of the link.
+-- Where its next part may stand, after these parts of the link.
 abbrev pub ended : Placed → List Part → ℕ
 ended r qs = cond (is_shared r) r.start (end_of r qs)
 

@@ -26,7 +26,7 @@ use Rattle.link_model.specs.Goals.{object_of_group, group_name}
 use Rattle.link_model.proofs.KeyTests.{origin_equal}
 use Rattle.link_model.proofs.Members.{In, here, there, in_map, in_filter, in_flat_map, any_in, found_as, in_at, placed, position_is}
 use Rattle.link_model.proofs.Tables.{any-firsts, firsts-apart}
-use Rattle.first_table.proofs.Shown.{any-place}
+use Rattle.name_table.proofs.Shown.{any-place}
 use Rattle.seg_parts.specs.declared.rows.Placed.{Placed}
 use Rattle.seg_parts.specs.LogicalSegments.{heads_of}
 use Rattle.seg_parts.specs.Placing.{placed_shown}
@@ -38,7 +38,8 @@ use Rattle.seg_merge.specs.Splits.{has, with_flags, HaveFlags}
 use Rattle.seg_merge.specs.Standing.{RowsStand}
 use Rattle.seg_merge.proofs.HeadsStand.{find-heads, find-range}
 use Rattle.seg_merge.proofs.UseWalk.{in_group-alike}
-use Rattle.seg_merge.proofs.SpotsFound.{item-mapped, then-mapped}
+use Rattle.link_types.proofs.Numbered.{item-mapped}
+use Rattle.seg_merge.proofs.SpotsFound.{then-mapped}
 
 -- ---- the linker's own stack is in no group
 

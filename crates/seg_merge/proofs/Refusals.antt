@@ -5,6 +5,7 @@ use Rattle.std.specs.Option.{option_map, option_or}
 use Rattle.std.proofs.Common.{ap, ◌∙◌}
 use Rattle.std.proofs.lemmas.List.Folds.{find-append}
 use Rattle.lx_types.proofs.Options.{or_none}
+use Rattle.obj_types.specs.declared.object.TheConstants.{ALIGN_ABSOLUTE}
 use Rattle.obj_types.specs.declared.symbol.Common.{Common}
 use Rattle.link_model.specs.declared.refusals.LayRefusal.{LayRefusal}
 use Rattle.link_model.specs.declared.refusals.LayRefusal.TheVariants.{AbsoluteSeg}
@@ -18,7 +19,7 @@ use Rattle.seg_parts.specs.Refusals.{absolute_in}
 
 -- ---- communals are not absolute
 
-no_communal : (l : Link) (s : ℕ) (cs : List (List ℕ × Common)) → find (λ p. p.align == 0) (map (λ q. of_common l q.0 q.1.1) (enumerate_from s cs)) ≡ None
+no_communal : (l : Link) (s : ℕ) (cs : List (List ℕ × Common)) → find (λ p. p.align == ALIGN_ABSOLUTE) (map (λ q. of_common l q.0 q.1.1) (enumerate_from s cs)) ≡ None
 no_communal l s [] = refl
 no_communal l s (c ∷ cs) = no_communal l (s + 1) cs
 
@@ -26,8 +27,8 @@ pub absolute-is : (l : Link) → absolute_in (parts l) ≡ absolute l
 unfolding parts
 absolute-is l =
     ap (option_map (λ (p : Part). AbsoluteSeg p.name))
-    (find-append (λ p. p.align == 0) (contributions l) (communals l)
-    ∙ ap (option_or (find (λ p. p.align == 0) (contributions l))) (no_communal l 0 (commons l)) ∙ or_none (find (λ p. p.align == 0) (contributions l)))
+    (find-append (λ p. p.align == ALIGN_ABSOLUTE) (contributions l) (communals l)
+    ∙ ap (option_or (find (λ p. p.align == ALIGN_ABSOLUTE) (contributions l))) (no_communal l 0 (commons l)) ∙ or_none (find (λ p. p.align == ALIGN_ABSOLUTE) (contributions l)))
 
 -- ---- the first of several
 

@@ -5,7 +5,8 @@ use Rattle.std.specs.Option.{option_map}
 use Rattle.std.proofs.Common.{sym, subst, ◌∙◌, arith, append_assoc, true≢false}
 use Rattle.std.proofs.lemmas.List.{append-nil}
 use Rattle.std.proofs.lemmas.Bool.{ltb-false}
-use Rattle.link_model.specs.declared.limits.TheConstants.{MAX_MEMORY, MAX_OBJECTS}
+use Rattle.lx_types.specs.declared.limits.TheConstants.{MAX_OBJECTS}
+use Rattle.link_model.specs.declared.limits.TheConstants.{MAX_MEMORY}
 use Rattle.link_model.specs.declared.refusals.LayRefusal.TheVariants.{TooLarge}
 use Rattle.link_model.specs.Rows.{Row}
 use Rattle.link_model.specs.LayoutRefusals.{passes_limits, object_limit, size_of_rows}
@@ -52,6 +53,6 @@ object_from earlier (r ∷ rs) e zero d lt =
 object_from earlier (r ∷ rs) e (suc i) d lt =
     object_from (earlier ++ r ∷ []) rs (first_by (passes_limits (earlier ++ r ∷ []) r) r (past_limits (earlier ++ r ∷ []) rs) e).1 i d (omega (arith, lt))
 
--- No row is of an object behind the last that there may be.
+-- No row is of an object past the last that there may be.
 pub objects-within : (rs : List Row) → too_large_in rs ≡ None → All (λ r. r.object ≤ MAX_OBJECTS) rs
 objects-within rs e = λ i d lt. object_from [] rs (none_past rs e) i d lt

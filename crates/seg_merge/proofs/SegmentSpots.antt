@@ -35,7 +35,7 @@ drop-head {X} (x ∷ xs) (suc n) y ys e =
 abbrev from : ℕ → ℕ → List Seg → List Part
 from n k segs = map (λ (q : ℕ × Seg). of_seg n q.0 q.1) (filter (λ (q : ℕ × Seg). not q.1.debug) (enumerate_from k segs))
 
--- Behind so many segments.
+-- After so many segments.
 abbrev pub SegsTaken : List Seg → List (ℕ × ℕ) → ℕ → ℕ → ℕ → List (Option (ℕ × ℕ)) → Type 0
 SegsTaken segs places old next i row =
     (place : Part → Option (ℕ × ℕ)) (n : ℕ) (rest : List Part) → ArePlacesOf place (from n 1 segs ++ rest) (drop old places)
@@ -107,7 +107,7 @@ segs-end segs places old next i row all taken = λ place n rest are.
 abbrev of_all : ℕ → List ObjModule → List Part
 of_all k ms = flat_map (λ (q : ℕ × ObjModule). contributions_in q.0 q.1) (enumerate_from k ms)
 
--- Behind so many modules.
+-- After so many modules.
 abbrev pub ModulesTaken : List ObjModule → List (ℕ × ℕ) → ℕ → ℕ → List (List (Option (ℕ × ℕ))) → Type 0
 ModulesTaken ms places next i spots =
     (place : Part → Option (ℕ × ℕ)) (rest : List Part) → ArePlacesOf place (flat_map (λ (q : ℕ × ObjModule). contributions_in q.0 q.1) (enumerate_from 1 ms) ++ rest) places
@@ -142,7 +142,7 @@ modules-end ms places next i spots all taken place rest are =
 abbrev communal : Part → Bool
 communal p = comes_of_communal p.origin
 
--- Behind so many parts.
+-- After so many parts.
 abbrev pub CommonsTaken : List Part → List (ℕ × ℕ) → ℕ → List (ℕ × ℕ) → Type 0
 CommonsTaken ps places i commons =
     (place : Part → Option (ℕ × ℕ)) → ArePlacesOf place ps places → ArePlacesOf place (filter (λ p. comes_of_communal p.origin) (take i ps)) commons

@@ -16,7 +16,7 @@ use Rattle.lx_types.specs.declared.name.Name.{Name}
 use Rattle.lx_types.specs.Answers.{Answers}
 use Rattle.lx_types.specs.declared.fail.Fail.{Fail}
 use Rattle.lx_types.specs.declared.fail.Fail.TheVariants.{Said, NoMemory}
-use Rattle.sym_table.proofs.Lists.{map-more}
+use Rattle.link_types.proofs.Lists.{map-more}
 use Rattle.seg_parts.proofs.Lists.{split-at}
 use Rattle.seg_parts.proofs.Ranges.{range-more}
 use Rattle.seg_merge.specs.Splits.{has, differ, first_with_flags, splits, is_split, split_group, marked_group, AreFlagged, AreMarked, HaveFlags, AreSplit}

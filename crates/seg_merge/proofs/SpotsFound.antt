@@ -24,6 +24,7 @@ use Rattle.link_model.specs.Communals.{of_common, communals, parts}
 use Rattle.link_model.specs.Order.{own_stack, own_stacks, is_program}
 use Rattle.link_model.specs.Layout.{place_of_part, spot, common_spot}
 use Rattle.link_model.proofs.KeyTests.{origin_itself, origin_equal}
+use Rattle.link_types.proofs.Numbered.{item-mapped}
 use Rattle.seg_parts.proofs.Listed.{plain_part, no-zero, found-part}
 use Rattle.seg_merge.specs.Placing.{ArePlacesOf, seg_place, seg_places, comes_of_communal}
 
@@ -172,10 +173,6 @@ communals-kept l =
     ∙ all_kept l 0 (commons l)
 
 -- ---- look-ups
-
-pub item-mapped : {X Y : Type 0} (f : X → Y) (xs : List X) (n : ℕ) → item (map f xs) n ≡ option_map f (item xs n)
-item-mapped f xs zero = refl
-item-mapped f xs (suc n) = slice_get-map f xs n
 
 numbered_at : {X Y : Type 0} (f : ℕ × X → Y) (s : ℕ) (xs : List X) (k n : ℕ) → n ≡ s + k → slice_get (map f (enumerate_from s xs)) k ≡ option_map (λ x. f (n, x)) (slice_get xs k)
 numbered_at f s [] k n at = refl

@@ -50,7 +50,7 @@ base-within None Program e = omega arith
 base-within None Library e = omega arith
 base-within (Some b) kind e = e.2
 
--- The numbers by class, and behind them the others.
+-- The numbers by class, and after them the others.
 pub order-by : (plain all hs : List Part) (first order : List ℕ) (from to : ℕ) → hs ≡ heads_of plain → first ≡ concat (gathered (class_numbers hs) (class_count hs)) → order ≡ first ++ range_with_len from (to - from) →
     from ≡ length (heads_of plain) → to ≡ length (heads_of all) →
     order ≡ concat (gathered (class_numbers (heads_of plain)) (class_count (heads_of plain))) ++ range_with_len (length (heads_of plain)) (length (heads_of all) - length (heads_of plain))

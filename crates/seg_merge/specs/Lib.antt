@@ -4,8 +4,6 @@ pub mod Origins
 pub mod Agreeing
 pub mod Splits
 pub mod ObjectNumbers
-pub mod Places
-pub mod Layout
 pub mod Standing
 pub mod Placing
 pub mod Ordered

@@ -10,7 +10,7 @@ use Rattle.link_model.specs.Rows.{Row, aligned, end_of_parts, offset_in}
 abbrev pub OriginsApart : Type 0
 OriginsApart = (l : Link) → AllPairs (λ a b. same_origin a.origin b.origin ≡ false) (parts l)
 
--- Each part of a logical segment that is not common stands behind those before it.
+-- Each part of a logical segment that is not common stands after those before it.
 abbrev pub OffsetsAre : Type 0
 OffsetsAre =
     (l : Link) (r : Row) (i : ℕ) (d : Part) → i < length (parts_of l r.segment) → is_common r.segment ≡ false

@@ -6,7 +6,7 @@ ghost use Rattle.seg_parts.specs.Order.{gathered};
 ghost use Rattle.seg_parts.specs.Placing.{placed_shown};
 ghost use Rattle.seg_merge.specs.ByNumber.{row_at};
 
-use link_model::NoMemory;
+use lx_types::NoMemory;
 use seg_parts::{Placed, gathered};
 use std::alloc::Global;
 

@@ -6,7 +6,7 @@ ghost use Rattle.link_model.specs.LayoutRefusals.{absolute, use_mixed, group_spl
 ghost use Rattle.link_model.specs.Words.{first_of};
 ghost use Rattle.link_model.specs.Link.{Link};
 ghost use Rattle.link_model.specs.Symbols as symbols;
-ghost use Rattle.sym_table.specs.Links.{link_with};
+ghost use Rattle.link_types.specs.Links.{link_with};
 ghost use Rattle.seg_parts.specs.FixedNames.{AreFixed};
 ghost use Rattle.seg_parts.specs.Members.{member_shown};
 ghost use Rattle.seg_parts.specs.Parts.{shown};
@@ -15,8 +15,9 @@ ghost use Rattle.seg_merge.specs.Refused.{AreOf};
 
 use crate::memberships::{LinkGroups, link_groups};
 use crate::refused::check_segments;
-use link_model::{LayRefusal, Name};
-use obj_types::{Common, DefFile, Fail, LinkInput, ObjModule};
+use link_model::LayRefusal;
+use lx_types::{Fail, Name};
+use obj_types::{Common, DefFile, LinkInput, ObjModule};
 use seg_parts::{
     FixedNames, GroupNames, LogicalSegments, Member, Part, check_absolute, parts_of, segments_of,
 };

@@ -9,7 +9,7 @@ use crate::membership::membership_of;
 use crate::object_names::object_names_of;
 use crate::ordered::Tables;
 use crate::segment_parts::parts_of_segments;
-use link_model::NoMemory;
+use lx_types::NoMemory;
 use obj_types::DefFile;
 use seg_parts::{GroupNames, LogicalSegments, Member, flags_of};
 use std::alloc::Global;

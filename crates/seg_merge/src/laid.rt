@@ -14,9 +14,9 @@ ghost use Rattle.seg_merge.specs.Laid.{first_base_of, stack_row_in, rows_in, Are
 use crate::objects::{flags_of_objects, objects_of};
 use crate::ordered::OrderedSegment;
 use crate::units::units_of;
-use link_model::{LaidObject, LayRefusal, NoMemory};
-use lx_types::Seq;
-use obj_types::{DefFile, Fail, ModKind};
+use link_model::{LaidObject, LayRefusal};
+use lx_types::{Fail, NoMemory, Seq};
+use obj_types::{DefFile, ModKind};
 use seg_parts::{Placed, any_stack, laid_objects, rows_of};
 use std::alloc::Global;
 

@@ -14,7 +14,7 @@ pub fn segments_have_flags()
     ensures { FlagsAgree }
 {}
 
-/// A law: each part of a logical segment that is not common stands behind those before it.
+/// A law: each part of a logical segment that is not common stands after those before it.
 pub fn parts_stand_in_order()
     ensures { OffsetsAre }
 {}

@@ -6,15 +6,14 @@ ghost use Rattle.obj_types.specs.Input.{WholeInput};
 ghost use Rattle.link_model.specs.Link.{Link, link_of};
 ghost use Rattle.link_model.specs.LayoutRefusals.{too_large, lay_refusal};
 ghost use Rattle.link_model.specs.Symbols as symbols;
-ghost use Rattle.sym_table.specs.Links.{link_with};
+ghost use Rattle.link_types.specs.Links.{link_with};
 ghost use Rattle.seg_parts.specs.FixedNames.{AreFixed};
 ghost use Rattle.seg_parts.specs.Members.{member_shown};
 ghost use Rattle.seg_merge.specs.Grouped.{AreGrouped};
 ghost use Rattle.seg_merge.specs.InOrder.{InOrder, TablesStand};
 ghost use Rattle.seg_merge.specs.Laid.{first_base_of};
-ghost use Rattle.sym_table.specs.Binding.{IsBound};
-ghost use Rattle.seg_merge.specs.Places.{spot_in, common_in};
-ghost use Rattle.seg_merge.specs.Layout.{IsLaidOut};
+ghost use Rattle.link_types.specs.Binding.{IsBound};
+ghost use Rattle.link_types.specs.Layout.{IsLaidOut};
 
 use crate::by_number::rows_by_number;
 use crate::grouped::{Grouped, grouped_of};
@@ -22,48 +21,13 @@ use crate::in_order::{StandingSegments, add_numbers, tables_of};
 use crate::laid::lay_ordered;
 use crate::ordered::{Tables, ordered_of};
 use crate::own_stack::with_own_stack;
-use crate::places::Places;
 use crate::placing::places_of;
-use link_model::{LaidObject, LayRefusal, Name, modules_at};
-use lx_types::Seq;
-use obj_types::{Common, DefFile, Fail, LinkInput, ObjModule};
+use link_model::{LayRefusal, modules_at};
+use link_types::{Layout, Symbols};
+use lx_types::{Fail, Name, Seq};
+use obj_types::{Common, DefFile, LinkInput, ObjModule};
 use seg_parts::{FixedNames, Member, by_class, fixed_names};
 use std::alloc::Global;
-use sym_table::Symbols;
-
-/// The objects of a link, and where its segments, its communals, its groups and its stack stand in them.
-#[derive(Drop)]
-pub struct Layout {
-    /// The objects, which are numbered from 1: sizes and linked bases in bytes, and object flags.
-    pub objects: Seq<LaidObject>,
-    /// Where the segments, the communals and the groups stand.
-    pub places: Places,
-    /// The object and the offset of the stack's end.
-    pub stack: Option<(u32, u32)>,
-}
-
-impl Layout {
-    /// The objects, in order.
-    pub fn objects(&self) -> &[LaidObject]
-        ensures { result.now ≡ self.now.objects }
-    {
-        self.objects.as_slice()
-    }
-
-    /// The object and the offset at which a segment of a chosen module stands: none for a debug segment.
-    pub fn spot(&self, module: u32, seg: u32) -> Option<(u32, u32)>
-        ensures { result ≡ spot_in self.now.places «module» seg }
-    {
-        self.places.spot(module, seg)
-    }
-
-    /// The object and the offset at which a communal stands.
-    pub fn common(&self, slot: u32) -> Option<(u32, u32)>
-        ensures { result ≡ common_in self.now.places slot }
-    {
-        self.places.common(slot)
-    }
-}
 
 // The layout of a link whose logical segments stand in this order.
 fn lay_tables(

@@ -13,7 +13,6 @@ mod object_names;
 mod objects;
 mod ordered;
 mod own_stack;
-mod places;
 mod placing;
 mod placing_groups;
 mod placing_parts;
@@ -27,10 +26,5 @@ mod uses;
 pub use laws::{
     objects_are_numbered, origins_are_apart, parts_stand_in_order, segments_have_flags,
 };
-pub use layout::{Layout, lay_out};
-pub use membership::membership_of;
-pub use places::Places;
-pub use placing::places_of;
-pub use segment_parts::parts_of_segments;
-pub use splits::check_groups;
-pub use uses::check_use;
+pub use layout::lay_out;
+pub use link_types::Layout;

@@ -1,25 +1,14 @@
 //! Which groups the logical segments are in.
 
-ghost use Rattle.std.specs.Prelude.{◌≡◌, ℕ, [], map, position, bytes_eq, AllPairs, false, IfOk};
-ghost use Rattle.std.specs.List.{range_with_len};
+ghost use Rattle.std.specs.Prelude.{◌≡◌, map, position, bytes_eq, AllPairs, false, IfOk};
 ghost use Rattle.link_model.specs.Parts.{same_segment};
 ghost use Rattle.seg_parts.specs.LogicalSegments.{name_shown, heads_of, segment_keys_of};
 ghost use Rattle.seg_parts.specs.Members.{member_shown, is_member};
 ghost use Rattle.seg_merge.specs.Membership.{both, AreGroupsOf};
 
-use link_model::NoMemory;
-use seg_parts::{GroupNames, LogicalSegments, Member};
+use lx_types::NoMemory;
+use seg_parts::{GroupNames, LogicalSegments, Member, empty_lists};
 use std::alloc::Global;
-
-fn empty_lists(alloc: Global, count: usize) -> Result<Vec<Vec<usize>>, NoMemory>
-    ensures { IfOk result (λ lists. map (λ v. v.items) lists.items ≡ map (λ _. []) (range_with_len 0 count)) }
-{
-    let mut lists = Vec::new(alloc);
-    for _place in 0..count {
-        lists.push(Vec::new(alloc))?;
-    }
-    Ok(lists)
-}
 
 // The places of a member's group and of its logical segment.
 fn places_of(
@@ -40,7 +29,7 @@ fn places_of(
 }
 
 /// For each logical segment the places of the groups that it is in. A place may stand there several times.
-pub fn membership_of(
+pub(crate) fn membership_of(
     alloc: Global,
     segments: &LogicalSegments<'_>,
     names: &GroupNames<'_>,

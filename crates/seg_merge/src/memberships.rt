@@ -4,11 +4,11 @@ ghost use Rattle.std.specs.Prelude.{◌≡◌, not, map, IfOk};
 ghost use Rattle.std.specs.List.{list_any};
 ghost use Rattle.link_model.specs.Groups.{group_names};
 ghost use Rattle.link_model.specs.Symbols as symbols;
-ghost use Rattle.sym_table.specs.Links.{link_with};
+ghost use Rattle.link_types.specs.Links.{link_with};
 ghost use Rattle.seg_parts.specs.FixedNames.{AreFixed};
 ghost use Rattle.seg_parts.specs.Members.{member_shown, all_memberships};
 
-use link_model::{Name, NoMemory};
+use lx_types::{Name, NoMemory};
 use obj_types::{Common, LinkInput, ObjModule};
 use seg_parts::{FixedNames, GroupNames, Member, add_near, group_names_of, members_of};
 use std::alloc::Global;

@@ -7,7 +7,7 @@ ghost use Rattle.seg_parts.specs.Parts.{shown};
 ghost use Rattle.seg_merge.specs.Ordered.{key_at};
 
 use crate::splits::least;
-use link_model::{Name, NoMemory};
+use lx_types::{Name, NoMemory};
 use seg_parts::{GroupNames, ObjectName, Part, object_name};
 use std::alloc::Global;
 

@@ -8,7 +8,7 @@ ghost use Rattle.seg_merge.specs.Ordered.{ordered_shown};
 ghost use Rattle.seg_merge.specs.Laid.{keys_of, flags_of_objects};
 
 use crate::ordered::OrderedSegment;
-use link_model::NoMemory;
+use lx_types::NoMemory;
 use seg_parts::{ObjectName, object_places};
 use std::alloc::Global;
 

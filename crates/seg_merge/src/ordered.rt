@@ -5,7 +5,7 @@ ghost use Rattle.std.specs.List.{All};
 ghost use Rattle.seg_parts.specs.Parts.{shown};
 ghost use Rattle.seg_merge.specs.Ordered.{ordered_shown, table_at};
 
-use link_model::NoMemory;
+use lx_types::NoMemory;
 use seg_parts::{ObjectName, Part};
 use std::alloc::Global;
 

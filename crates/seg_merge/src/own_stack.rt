@@ -5,12 +5,12 @@ ghost use Rattle.link_model.specs.Order.{own_stack};
 ghost use Rattle.seg_parts.specs.Communals.{wants_stack};
 ghost use Rattle.seg_parts.specs.FixedNames.{AreFixed};
 
-use link_model::NoMemory;
+use lx_types::NoMemory;
 use obj_types::ModKind;
 use seg_parts::{FixedNames, LogicalSegments, add_own_stack, segments_of, wants_stack};
 use std::alloc::Global;
 
-/// These logical segments, and behind them the stack segment of a program that has none.
+/// These logical segments, and after them the stack segment of a program that has none.
 pub fn with_own_stack<'a>(
     alloc: Global,
     segments: LogicalSegments<'a>,

@@ -2,23 +2,23 @@
 
 ghost use Rattle.std.specs.Prelude.{map, IfOk};
 ghost use Rattle.link_model.specs.Link.{Link};
-ghost use Rattle.seg_merge.specs.Places.{ArePlaces};
+ghost use Rattle.link_types.specs.Places.{ArePlaces};
 ghost use Rattle.seg_merge.specs.Standing.{StandsSo};
 
 use crate::in_order::StandingSegments;
-use crate::places::Places;
 use crate::placing_groups::{groups_of, objects_of};
 use crate::placing_parts::part_places;
 use crate::placing_spots::{commons_of, spots_of};
 use crate::splits::flags_of_groups;
-use link_model::NoMemory;
+use link_types::Places;
+use lx_types::NoMemory;
 use obj_types::ObjModule;
 use seg_parts::Placed;
 use std::alloc::Global;
 
 /// The places of a link of these modules and parts. `rows` are its logical segments in their objects and `groups` the
 /// places of their groups among the names, both by the numbers of the logical segments.
-pub fn places_of(
+pub(crate) fn places_of(
     alloc: Global,
     modules: &[&ObjModule],
     standing: &StandingSegments<'_, '_>,

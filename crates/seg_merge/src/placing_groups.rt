@@ -1,11 +1,11 @@
 //! The objects of groups.
 
 ghost use Rattle.std.specs.Prelude.{◌≡◌, ◌<◌, ◌+◌, All, map, length, IfOk};
-ghost use Rattle.link_model.specs.declared.limits.TheConstants.{MAX_OBJECTS};
+ghost use Rattle.lx_types.specs.declared.limits.TheConstants.{MAX_OBJECTS};
 ghost use Rattle.seg_merge.specs.Placing.{object_named};
 
 use crate::placing_parts::object_of;
-use link_model::NoMemory;
+use lx_types::NoMemory;
 use obj_types::{Group, ObjModule};
 use seg_parts::{GroupNames, Placed};
 use std::alloc::Global;

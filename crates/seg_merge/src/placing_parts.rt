@@ -1,7 +1,8 @@
 //! The places of all parts of a link, in order.
 
 ghost use Rattle.std.specs.Prelude.{◌≡◌, ◌<◌, ◌≤◌, ◌+◌, Some, map, length, slice_get, if◌then◌else◌, IfOk};
-ghost use Rattle.link_model.specs.declared.limits.TheConstants.{MAX_MEMORY, MAX_OBJECTS};
+ghost use Rattle.lx_types.specs.declared.limits.TheConstants.{MAX_OBJECTS};
+ghost use Rattle.link_model.specs.declared.limits.TheConstants.{MAX_MEMORY};
 ghost use Rattle.link_model.specs.Layout.{place_of_part};
 ghost use Rattle.link_model.specs.Link.{Link};
 ghost use Rattle.link_model.specs.Parts.{is_common};
@@ -10,7 +11,7 @@ ghost use Rattle.seg_parts.specs.Parts.{shown};
 ghost use Rattle.seg_merge.specs.Placing.{ArePlacesOf};
 ghost use Rattle.seg_merge.specs.Standing.{RowsStand};
 
-use link_model::NoMemory;
+use lx_types::NoMemory;
 use obj_types::COMBINE_COMMON;
 use seg_parts::{LogicalSegments, Part, Placed, alignment_of, next_multiple};
 use std::alloc::Global;
@@ -51,7 +52,7 @@ fn next_offset(head: &Part<'_>, end: u32, part: &Part<'_>) -> u32
     }
 }
 
-// Where the part behind one at this offset may stand.
+// Where the part after one at this offset may stand.
 fn end_behind(head: &Part<'_>, offset: u32, part: &Part<'_>) -> u32
     requires { (if is_common (shown head.now) then offset else offset + part.now.len) ≤ MAX_MEMORY }
     ensures { result ≡ (if is_common (shown head.now) then offset else offset + part.now.len) }

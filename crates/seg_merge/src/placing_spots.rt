@@ -5,12 +5,13 @@ ghost use Rattle.link_model.specs.Parts as rules;
 ghost use Rattle.seg_parts.specs.Parts.{shown};
 ghost use Rattle.seg_merge.specs.Placing.{ArePlacesOf, TakesPlaces, AreSpotsOf, comes_of_communal};
 
-use link_model::{NoMemory, Origin};
+use link_model::Origin;
+use lx_types::NoMemory;
 use obj_types::{ObjModule, Seg};
 use seg_parts::Part;
 use std::alloc::Global;
 
-// The place that stands at `next`, which goes on to the one behind it.
+// The place that stands at `next`, which goes on to the one after it.
 fn next_place(places: &[(u32, u32)], next: &mut usize) -> Option<(u32, u32)>
     ensures place { result ≡ slice_get places.now next.old }
     ensures next { next.new ≡ (if nat_lt next.old (length places.now) then next.old + 1 else next.old) }

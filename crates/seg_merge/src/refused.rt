@@ -12,7 +12,8 @@ use crate::membership::membership_of;
 use crate::splits::check_groups;
 use crate::uses::check_use;
 use link_model::LayRefusal;
-use obj_types::{DefFile, Fail};
+use lx_types::Fail;
+use obj_types::DefFile;
 use seg_parts::{GroupNames, LogicalSegments, Member, flags_of};
 use std::alloc::Global;
 

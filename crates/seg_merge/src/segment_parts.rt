@@ -6,7 +6,7 @@ ghost use Rattle.link_model.specs.Parts.{joins};
 ghost use Rattle.seg_parts.specs.LogicalSegments.{heads_of};
 ghost use Rattle.seg_parts.specs.Parts.{shown};
 
-use link_model::NoMemory;
+use lx_types::NoMemory;
 use seg_parts::{LogicalSegments, Part};
 use std::alloc::Global;
 
@@ -21,7 +21,7 @@ fn no_parts<'a>(alloc: Global, count: usize) -> Result<Vec<Vec<Part<'a>>>, NoMem
 }
 
 /// The parts of each logical segment, in order.
-pub fn parts_of_segments<'a>(
+pub(crate) fn parts_of_segments<'a>(
     alloc: Global,
     segments: &LogicalSegments<'a>,
 ) -> Result<Vec<Vec<Part<'a>>>, NoMemory>

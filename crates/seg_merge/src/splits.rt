@@ -6,8 +6,8 @@ ghost use Rattle.lx_types.specs.Answers.{Answers};
 ghost use Rattle.link_model.specs.declared.refusals.LayRefusal.TheVariants.{GroupSplit};
 ghost use Rattle.seg_merge.specs.Splits.{differ, with_flags, split_group, marked_group, AreFlagged, AreMarked, HaveFlags, AreSplit, ChecksGroups};
 
-use link_model::{LayRefusal, Name, NoMemory};
-use obj_types::Fail;
+use link_model::LayRefusal;
+use lx_types::{Fail, Name, NoMemory};
 use seg_parts::GroupNames;
 use std::alloc::Global;
 
@@ -158,7 +158,7 @@ fn check_marked(
 
 /// The first group that has a logical segment of an earlier one, or logical segments of different flags, is refused.
 /// `lists` are the places of each logical segment's groups, and `flags` are its flags.
-pub fn check_groups(
+pub(crate) fn check_groups(
     alloc: Global,
     names: &GroupNames<'_>,
     lists: &[Vec<usize>],

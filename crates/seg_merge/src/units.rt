@@ -9,7 +9,7 @@ ghost use Rattle.seg_merge.specs.Ordered.{ordered_shown};
 ghost use Rattle.seg_merge.specs.Laid.{least_of, unit_at, stack_number};
 
 use crate::ordered::OrderedSegment;
-use link_model::NoMemory;
+use lx_types::NoMemory;
 use seg_parts::{Unplaced, any_stack};
 use std::alloc::Global;
 

@@ -6,8 +6,8 @@ ghost use Rattle.link_model.specs.declared.refusals.LayRefusal.TheVariants.{UseM
 ghost use Rattle.seg_parts.specs.LogicalSegments.{heads_of};
 ghost use Rattle.seg_merge.specs.Uses.{conflicts, mixed_by, AreSet, AddsBehind, ChecksUse};
 
-use link_model::{LayRefusal, Name, NoMemory};
-use obj_types::Fail;
+use link_model::LayRefusal;
+use lx_types::{Fail, Name, NoMemory};
 use seg_parts::LogicalSegments;
 use std::alloc::Global;
 
@@ -104,7 +104,7 @@ fn groups_at<'a>(groups: &'a [Vec<usize>], segment: usize) -> &'a [usize]
 
 /// The first part whose use32 differs from that of an earlier part of its logical segment or of one of its groups is
 /// refused. `groups` are the places of each logical segment's groups, of which there are `count`.
-pub fn check_use(
+pub(crate) fn check_use(
     alloc: Global,
     segments: &LogicalSegments<'_>,
     groups: &[Vec<usize>],

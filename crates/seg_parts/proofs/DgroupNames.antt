@@ -10,7 +10,7 @@ use Rattle.link_model.specs.declared.keys.SegmentKey.{SegmentKey}
 use Rattle.link_model.specs.Groups.{DGROUP}
 use Rattle.link_model.specs.Parts.{Part, segment_key, same_segment}
 use Rattle.link_model.proofs.KeyTests.{equivalence, segment_keys}
-use Rattle.first_table.proofs.Shown.{any-place}
+use Rattle.name_table.proofs.Shown.{any-place}
 use Rattle.seg_parts.specs.declared.logical_segments.SegmentName.{SegmentName}
 use Rattle.seg_parts.specs.contracts.logical_segments.SegmentNamePartialEq.TheImpl.{eq-value}
 use Rattle.seg_parts.specs.LogicalSegments.{name_shown}
@@ -19,7 +19,7 @@ use Rattle.seg_parts.specs.Members.{member_shown, is_member}
 use Rattle.seg_parts.specs.declared.members.Member.{Member}
 use Rattle.std.proofs.Math.ListN.{get_or}
 use Rattle.std.proofs.Math.Bool.{or-false}
-use Rattle.sym_table.proofs.Lists.{map-more}
+use Rattle.link_types.proofs.Lists.{map-more}
 use Rattle.seg_parts.proofs.Names.{names-shown}
 use Rattle.seg_parts.proofs.Tables.{any-shown}
 

@@ -13,7 +13,8 @@ use Rattle.std.proofs.lemmas.List.FromFn.{get_or-map-range_with_len, length-map-
 use Rattle.link_model.specs.Appearance.{firsts}
 use Rattle.link_model.specs.Rows.{Row, end_in}
 use Rattle.link_model.specs.LayoutRefusals.{size_of_rows, passes_limits, object_limit}
-use Rattle.link_model.specs.declared.limits.TheConstants.{MAX_MEMORY, MAX_OBJECTS}
+use Rattle.lx_types.specs.declared.limits.TheConstants.{MAX_OBJECTS}
+use Rattle.link_model.specs.declared.limits.TheConstants.{MAX_MEMORY}
 use Rattle.seg_parts.specs.declared.rows.Unplaced as lent
 use Rattle.seg_parts.specs.declared.rows.Ends.{Ends}
 use Rattle.seg_parts.specs.Rows.{row_at, row_behind}

@@ -91,7 +91,7 @@ take_all [] (suc n) h = refl
 take_all (x ∷ xs) zero h = absurd (omega arith)
 take_all {X} (x ∷ xs) (suc n) h = ap (λ (t : List X). x ∷ t) (take_all xs n (omega arith))
 
--- An item with those before it and those behind it.
+-- An item with those before it and those after it.
 pub split-at : {X : Type 0} (xs : List X) (i : ℕ) (x : X) → i < length xs → x ≡ get_or xs i x → xs ≡ take i xs ++ x ∷ drop (i + 1) xs
 split-at {X} xs i x there is =
     sym (take-append-drop (i + 1) xs) ∙ ap (λ (t : List X). t ++ drop (i + 1) xs) (take-push xs i x there is) ∙ append_assoc (take i xs) (x ∷ []) (drop (i + 1) xs)

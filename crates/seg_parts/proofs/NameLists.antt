@@ -7,8 +7,8 @@ use Rattle.std.proofs.lemmas.Bool.Decides.{nat_tests}
 use Rattle.std.proofs.lemmas.List.{length-map, map-append}
 use Rattle.link_model.specs.Appearance.{firsts}
 use Rattle.link_model.proofs.Tables.{firsts-push}
-use Rattle.first_table.specs.Entries.{is_named, with_entry}
-use Rattle.first_table.proofs.Shown.{any-place, behind}
+use Rattle.name_table.specs.Entries.{is_named, with_entry}
+use Rattle.name_table.proofs.Shown.{any-place, behind}
 use Rattle.seg_parts.specs.Groups.{name_entries}
 
 pub any-entries : (name : List ℕ) (ns : List (List ℕ)) → list_any (is_named {V = Unit {0}} name) (name_entries ns) ≡ list_any (bytes_eq name) ns

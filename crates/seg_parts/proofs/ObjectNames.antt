@@ -5,7 +5,7 @@ use Rattle.std.specs.Cmp.{IsEquivalence}
 use Rattle.std.proofs.Common.{ap, sym, ◌∙◌}
 use Rattle.std.proofs.Math.ListN.{get_or}
 use Rattle.std.proofs.lemmas.List.{get_or_default}
-use Rattle.sym_table.proofs.Lists.{map-more}
+use Rattle.link_types.proofs.Lists.{map-more}
 use Rattle.link_model.specs.Appearance.{firsts}
 use Rattle.link_model.specs.declared.keys.ObjectKey.{ObjectKey}
 use Rattle.link_model.proofs.KeyTests.{equivalence, object_keys}

@@ -2,13 +2,13 @@
 use Rattle.std.specs.Prelude.{◌≡◌, ℕ, ◌+◌, ◌<◌, Bool, true, false, cond, not, ◌||◌, List, [], ◌∷◌, ◌++◌, Some, None, nat_lt, map, length, position, refl}
 use Rattle.std.specs.List.{list_any, position_or_len, All}
 use Rattle.std.proofs.lemmas.List.Elements.{All-cons}
-use Rattle.first_table.proofs.Shown.{any-place}
+use Rattle.name_table.proofs.Shown.{any-place}
 use Rattle.std.specs.Cmp.{IsEquivalence}
 use Rattle.std.proofs.Common.{ap, sym, ◌∙◌, arith}
 use Rattle.std.proofs.lemmas.List.{map-append, length-map}
 use Rattle.link_model.specs.Appearance.{firsts, firsts_by}
 use Rattle.link_model.proofs.Tables.{firsts-push, any-firsts, place_kept}
-use Rattle.sym_table.proofs.Lists.{firsts-keys}
+use Rattle.link_types.proofs.Lists.{firsts-keys}
 use Rattle.std.proofs.lemmas.Bool.{or_right, ltb-true}
 use Rattle.link_model.specs.declared.keys.SegmentKey.{SegmentKey}
 use Rattle.link_model.specs.Parts as rules
@@ -84,7 +84,7 @@ new_by : {X : Type 0} (test : X → Bool) (ys : List X) (x : X) (b : Bool) → l
 new_by test ys x true e is = refl
 new_by test ys x false e is = place-last test ys x e is
 
--- One more key stands where it was, or behind the table.
+-- One more key stands where it was, or after the table.
 pub place-push : {K : Type 0} (same : K → K → Bool) → IsEquivalence same → (ks : List K) (k : K) → position_or_len (same k) (firsts same (ks ++ k ∷ [])) ≡ position_or_len (same k) (firsts same ks)
 place-push {K} same eqv ks k =
     ap (position_or_len (same k)) (firsts-push eqv ks k) ∙ new_by (same k) (firsts same ks) k (list_any (same k) (firsts same ks)) refl (eqv.refl k)

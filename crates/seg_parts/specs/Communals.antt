@@ -2,6 +2,7 @@
 use Rattle.std.specs.Prelude.{ℕ, Bool, true, not, ◌&&◌, List, map, if◌then◌else◌, bytes_eq, find, codes}
 use Rattle.std.specs.List.{list_any}
 use Rattle.std.specs.Option.{option_map_or}
+use Rattle.obj_types.specs.declared.object.TheConstants.{ALIGN_DOUBLEWORD, COMBINE_PUBLIC}
 use Rattle.obj_types.specs.declared.definition.ModKind.{ModKind}
 use Rattle.obj_types.specs.declared.symbol.Common.{Common}
 use Rattle.link_model.specs.declared.keys.Origin.TheVariants as origins
@@ -37,8 +38,8 @@ communal_of near far slot c =
       origin = origins.Communal slot;
       name = if c.far then codes "FAR_BSS" else codes "c_common";
       class = if c.far then codes "FAR_BSS" else codes "BSS";
-      align = 5;
-      combine = 2;
+      align = ALIGN_DOUBLEWORD;
+      combine = COMBINE_PUBLIC;
       wide = if c.far then far else near;
       len = c.len;
     }

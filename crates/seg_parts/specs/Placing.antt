@@ -30,7 +30,7 @@ pub record AreEnds (count : ℕ) (rows : List Row) (ends : Ends) : Type 0 where
   pub each : ends.ends.items ≡ map (λ o. end_in o rows) (range_with_len 1 count)
   pub total : ends.sum ≡ size_of_rows rows
 
--- What placing a logical segment gives, behind any rows with these ends.
+-- What placing a logical segment gives, after any rows with these ends.
 abbrev pub PlacesBehind : ℕ → List Row → lent.Unplaced → Ends → Option Placed → Type 0
 PlacesBehind count rows u new None =
     let r = row_behind rows (unplaced_shown u) in passes_limits (rows ++ r ∷ []) r ≡ true

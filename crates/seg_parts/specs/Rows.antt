@@ -16,7 +16,7 @@ pub record Unplaced : Type 0 where
   pub parts : List Part
   pub least : ℕ
 
--- Its row behind what ends at `at`, and behind earlier rows.
+-- Its row after what ends at `at`, and after earlier rows.
 abbrev pub row_at : ℕ → Unplaced → Row
 row_at at u =
     let start = start_of at u.head u.parts in
@@ -25,12 +25,12 @@ row_at at u =
 abbrev pub row_behind : List Row → Unplaced → Row
 row_behind earlier u = row_at (end_in u.object earlier) u
 
--- The rows of these logical segments, behind earlier ones.
+-- The rows of these logical segments, after earlier ones.
 abbrev pub rows_behind : List Row → List Unplaced → List Row
 rows_behind earlier [] = []
 rows_behind earlier (u ∷ us) = row_behind earlier u ∷ rows_behind (earlier ++ row_behind earlier u ∷ []) us
 
--- The first of these rows, behind earlier ones, that passes a limit.
+-- The first of these rows, after earlier ones, that passes a limit.
 abbrev pub past_limits : List Row → List Row → Option Row
 past_limits earlier [] = None
 past_limits earlier (r ∷ rs) =

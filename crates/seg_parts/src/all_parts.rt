@@ -1,4 +1,4 @@
-//! All parts of a link: its contributions and, behind them, its communals.
+//! All parts of a link: its contributions and, after them, its communals.
 
 ghost use Rattle.std.specs.Prelude.{◌≡◌, not, map, IfOk};
 ghost use Rattle.std.specs.List.{list_any};
@@ -7,8 +7,8 @@ ghost use Rattle.link_model.specs.Groups as groups;
 ghost use Rattle.link_model.specs.Parts as rules;
 ghost use Rattle.link_model.specs.Symbols as symbols;
 ghost use Rattle.link_model.specs.Link.{link_of};
-ghost use Rattle.sym_table.specs.Binding.{IsBound};
-ghost use Rattle.sym_table.specs.Links.{link_with};
+ghost use Rattle.link_types.specs.Binding.{IsBound};
+ghost use Rattle.link_types.specs.Links.{link_with};
 ghost use Rattle.seg_parts.specs.Communals.{is_in};
 ghost use Rattle.seg_parts.specs.FixedNames.{AreFixed};
 ghost use Rattle.seg_parts.specs.Members.{is_member, all_memberships};
@@ -20,10 +20,11 @@ use crate::logical_segments::SegmentName;
 use crate::members::{add_near, dgroup_of, members_of};
 use crate::parts::{FixedNames, Part, contributions_of};
 use indexmap::IndexSet;
-use link_model::{Name, NoMemory, modules_at};
+use link_model::modules_at;
+use link_types::Symbols;
+use lx_types::{Name, NoMemory};
 use obj_types::{Common, LinkInput, ObjModule};
 use std::alloc::Global;
-use sym_table::Symbols;
 
 fn has_near(commons: &[(Name, Common)]) -> bool
     ensures { result ≡ list_any (λ c. not c.1.far) commons.now }

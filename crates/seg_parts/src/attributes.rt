@@ -1,4 +1,5 @@
-//! The attributes of segments, and the flags of their objects ("Object table" in the LX document).
+//! The attributes of segments, and the flags of their objects ("32-bit Linear eXecutable Module Format": "Object
+//! Table").
 
 ghost use Rattle.std.specs.Prelude.{◌≡◌, ◌-◌, map, find, drop, length, bytes_eq, codes, option_copied, IfOk};
 ghost use Rattle.link_model.specs.Flags as rules;
@@ -6,7 +7,8 @@ ghost use Rattle.seg_parts.specs.Parts.{shown};
 ghost use Rattle.seg_parts.specs.Attributes.{flags_in, attributes_in};
 
 use crate::parts::Part;
-use link_model::{Name, NoMemory, object_flags};
+use link_model::object_flags;
+use lx_types::{Name, NoMemory};
 use obj_types::{Attrs, DefFile, SegAttrs};
 use std::alloc::Global;
 
@@ -18,7 +20,7 @@ fn ends_in_code(upper: &Name) -> bool
 }
 
 /// Whether a class is one of code: it ends in CODE, in any case of letters.
-pub fn is_code_class(alloc: Global, class: &Name) -> Result<bool, NoMemory>
+fn is_code_class(alloc: Global, class: &Name) -> Result<bool, NoMemory>
     ensures { IfOk result (λ is. is ≡ rules.is_code_class class.now) }
 {
     let upper = class.to_uppercase(alloc)?;

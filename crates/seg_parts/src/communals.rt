@@ -12,7 +12,8 @@ ghost use Rattle.seg_parts.specs.FixedNames.{AreFixed};
 use crate::logical_segments::{SegmentName, name_of};
 use crate::parts::{FixedNames, Part, is_stack};
 use indexmap::IndexSet;
-use link_model::{Name, NoMemory, Origin, number};
+use link_model::Origin;
+use lx_types::{Name, NoMemory, count};
 use obj_types::{
     ALIGN_DOUBLEWORD, ALIGN_PARAGRAPH, COMBINE_COMMON, COMBINE_PRIVATE, COMBINE_PUBLIC, Common,
     ModKind,
@@ -70,7 +71,7 @@ fn follows(
 
 /// Whether the near communals are use32, and whether the far ones are.
 #[derive(Clone, Copy)]
-pub struct Widths {
+pub(crate) struct Widths {
     pub near: bool,
     pub far: bool,
 }
@@ -116,7 +117,7 @@ fn far_is_grouped(
 }
 
 /// Communals are use32, but in DGROUP their segment follows the group's first other member.
-pub fn widths_of(
+pub(crate) fn widths_of(
     contributions: &[Part<'_>],
     dgroup: &IndexSet<SegmentName<'_>>,
     fixed: &FixedNames,
@@ -157,7 +158,7 @@ fn communal_part<'a>(slot: u32, common: Common, fixed: &'a FixedNames, widths: W
 }
 
 /// Adds the communals, doubleword-aligned.
-pub fn add_communals<'a>(
+pub(crate) fn add_communals<'a>(
     parts: &mut Vec<Part<'a>>,
     commons: &[(Name, Common)],
     fixed: &'a FixedNames,
@@ -168,7 +169,7 @@ pub fn add_communals<'a>(
         ≡ map shown parts.old.items ++ map (λ q. communal_of widths.near widths.far q.0 q.1.1) (enumerate_from 0 commons.now)) }
 {
     for (slot, common) in commons.iter().enumerate() {
-        parts.push(communal_part(number(slot)?, common.1, fixed, widths))?;
+        parts.push(communal_part(count(slot)?, common.1, fixed, widths))?;
     }
     Ok(())
 }

@@ -4,11 +4,11 @@ ghost use Rattle.std.specs.Prelude.{◌≡◌, ◌++◌, map, position, bytes_eq
 ghost use Rattle.std.specs.List.{flat_map};
 ghost use Rattle.link_model.specs.Appearance.{firsts};
 ghost use Rattle.link_model.specs.Groups as rules;
-ghost use Rattle.sym_table.specs.Links.{link_with};
+ghost use Rattle.link_types.specs.Links.{link_with};
 ghost use Rattle.seg_parts.specs.Groups.{named_by};
 
-use first_table::NameTable;
-use link_model::{Name, NoMemory};
+use lx_types::{Name, NoMemory};
+use name_table::NameTable;
 use obj_types::{Group, LinkInput, ObjModule};
 use std::alloc::Global;
 use std::marker::Model;

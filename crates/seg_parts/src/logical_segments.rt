@@ -8,7 +8,8 @@ ghost use Rattle.seg_parts.specs.LogicalSegments.{name_shown, heads_of, numbers_
 
 use crate::parts::Part;
 use indexmap::IndexSet;
-use link_model::{NoMemory, Origin};
+use link_model::Origin;
+use lx_types::NoMemory;
 use obj_types::{COMBINE_COMMON, COMBINE_PRIVATE};
 use std::alloc::Global;
 use std::marker::Model;
@@ -37,7 +38,7 @@ fn own_name<'a>(origin: Origin) -> SegmentName<'a>
 }
 
 /// The logical segment of a part.
-pub fn name_of<'a>(part: &Part<'a>) -> SegmentName<'a>
+pub(crate) fn name_of<'a>(part: &Part<'a>) -> SegmentName<'a>
     ensures { name_shown result ≡ rules.segment_key (shown part.now) }
 {
     match part.combine {

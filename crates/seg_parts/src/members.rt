@@ -2,7 +2,7 @@
 
 ghost use Rattle.std.specs.Prelude.{◌≡◌, ◌++◌, ◌<◌, ◌-◌, map, bytes_eq, slice_get, option_map, option_copied, IfOk, OnOk};
 ghost use Rattle.std.specs.List.{list_any};
-ghost use Rattle.sym_table.specs.Links.{link_with};
+ghost use Rattle.link_types.specs.Links.{link_with};
 ghost use Rattle.seg_parts.specs.LogicalSegments.{name_shown};
 ghost use Rattle.seg_parts.specs.Members.{member_shown, segment_at, listed_at, listed_by, listed_in, memberships, near_members, is_member};
 ghost use Rattle.seg_parts.specs.Communals.{is_in};
@@ -14,7 +14,7 @@ use crate::groups::GroupNames;
 use crate::logical_segments::{SegmentName, name_of};
 use crate::parts::{FixedNames, part_of};
 use indexmap::IndexSet;
-use link_model::{NoMemory, number};
+use lx_types::{NoMemory, count};
 use obj_types::{Group, LinkInput, ObjModule, Seg};
 use std::alloc::Global;
 
@@ -109,7 +109,7 @@ pub fn members_of<'a>(
 {
     let mut found = Vec::new(alloc);
     for (place, object) in modules.iter().enumerate() {
-        add_groups(&mut found, number(place + 1)?, object)?;
+        add_groups(&mut found, count(place + 1)?, object)?;
     }
     Ok(found)
 }
@@ -150,7 +150,7 @@ fn is_of_dgroup(member: &Member<'_>) -> bool
 }
 
 /// The logical segments of DGROUP.
-pub fn dgroup_of<'a>(
+pub(crate) fn dgroup_of<'a>(
     alloc: Global,
     members: &[Member<'a>],
 ) -> Result<IndexSet<SegmentName<'a>>, NoMemory>

@@ -15,8 +15,8 @@ ghost use Rattle.seg_parts.specs.Objects.{object_shown, key_of};
 use crate::logical_segments::{SegmentName, name_of};
 use crate::parts::Part;
 use indexmap::IndexSet;
-use link_model::{LaidObject, Name, NoMemory};
-use obj_types::Seq;
+use link_model::LaidObject;
+use lx_types::{Name, NoMemory, Seq};
 use std::alloc::Global;
 
 /// What tells objects apart.
@@ -68,7 +68,7 @@ fn room(size: u32) -> u32
     (u32::max(1, size) + 0xFFFF) / 0x1_0000 * 0x1_0000
 }
 
-/// Objects of these sizes and flags from a linked base on, each behind the room of the one before, which is at least
+/// Objects of these sizes and flags from a linked base on, each after the room of the one before, which is at least
 /// one byte, rounded up to 65,536.
 pub fn laid_objects(
     alloc: Global,

@@ -92,8 +92,8 @@ fn is_common(part: &Part<'_>) -> bool
     part.combine == COMBINE_COMMON
 }
 
-/// The start of a logical segment of these parts, behind what ends at `at`. Common parts share it.
-pub fn segment_start(at: u32, head: &Part<'_>, parts: &[Part<'_>]) -> u64
+/// The start of a logical segment of these parts, after what ends at `at`. Common parts share it.
+pub(crate) fn segment_start(at: u32, head: &Part<'_>, parts: &[Part<'_>]) -> u64
     ensures value { result ≡ start_of at (shown head.now) (map shown parts.now) }
     ensures below { result < at + 4096 }
 {
@@ -104,8 +104,13 @@ pub fn segment_start(at: u32, head: &Part<'_>, parts: &[Part<'_>]) -> u64
     }
 }
 
-/// The end of a logical segment from its start, at least so many bytes behind it, unless it passes 16 MiB.
-pub fn segment_end(start: u32, head: &Part<'_>, parts: &[Part<'_>], least: u32) -> Option<u32>
+/// The end of a logical segment from its start, at least so many bytes after it, unless it passes 16 MiB.
+pub(crate) fn segment_end(
+    start: u32,
+    head: &Part<'_>,
+    parts: &[Part<'_>],
+    least: u32,
+) -> Option<u32>
     requires { start ≤ MAX_MEMORY }
     ensures { result ≡ limited (end_of start (shown head.now) (map shown parts.now) least) }
 {

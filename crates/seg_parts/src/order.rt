@@ -6,11 +6,12 @@ ghost use Rattle.seg_parts.specs.Parts.{shown};
 ghost use Rattle.seg_parts.specs.Order.{gathered, class_numbers, class_count};
 
 use crate::parts::Part;
-use first_table::NameTable;
-use link_model::NoMemory;
+use lx_types::NoMemory;
+use name_table::NameTable;
 use std::alloc::Global;
 
-fn empty_lists(alloc: Global, count: usize) -> Result<Vec<Vec<usize>>, NoMemory>
+/// As many empty lists.
+pub fn empty_lists(alloc: Global, count: usize) -> Result<Vec<Vec<usize>>, NoMemory>
     ensures { IfOk result (λ lists. map (λ v. v.items) lists.items ≡ map (λ _. []) (range_with_len 0 count)) }
 {
     let mut lists = Vec::new(alloc);
@@ -34,7 +35,7 @@ pub fn gathered(alloc: Global, numbers: &[usize], count: usize) -> Result<Vec<Ve
 
 /// The number of each logical segment's class, and how many classes there are.
 #[derive(Drop)]
-pub struct Classes {
+struct Classes {
     numbers: Vec<usize>,
     count: usize,
 }

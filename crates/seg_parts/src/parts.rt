@@ -3,11 +3,12 @@
 ghost use Rattle.std.specs.Prelude.{◌≡◌, ◌++◌, map, filter, not, IfOk, OnOk};
 ghost use Rattle.std.specs.List.{enumerate_from};
 ghost use Rattle.link_model.specs.Parts as rules;
-ghost use Rattle.sym_table.specs.Links.{link_with};
+ghost use Rattle.link_types.specs.Links.{link_with};
 ghost use Rattle.seg_parts.specs.Parts.{shown};
 ghost use Rattle.seg_parts.specs.FixedNames.{AreFixed};
 
-use link_model::{Name, NoMemory, Origin, number};
+use link_model::Origin;
+use lx_types::{Name, NoMemory, count};
 use obj_types::{COMBINE_STACK, LinkInput, ObjModule, Seg};
 use std::alloc::Global;
 
@@ -51,7 +52,7 @@ fn add_contributions<'a>(
 {
     for (place, seg) in segs.iter().enumerate() {
         if !seg.debug {
-            found.push(part_of(module, number(place + 1)?, seg))?;
+            found.push(part_of(module, count(place + 1)?, seg))?;
         }
     }
     Ok(())
@@ -69,7 +70,7 @@ fn add_module<'a>(
 }
 
 /// The contributions of these modules, in order; debug segments are dropped.
-pub fn contributions_of<'a>(
+pub(crate) fn contributions_of<'a>(
     alloc: Global,
     input: &'a LinkInput,
     modules: &[&'a ObjModule],
@@ -78,7 +79,7 @@ pub fn contributions_of<'a>(
 {
     let mut found = Vec::new(alloc);
     for (place, object) in modules.iter().enumerate() {
-        add_module(&mut found, number(place + 1)?, object)?;
+        add_module(&mut found, count(place + 1)?, object)?;
     }
     Ok(found)
 }
@@ -108,7 +109,7 @@ pub fn fixed_names(alloc: Global) -> Result<FixedNames, NoMemory>
 }
 
 /// Whether a part is of combine type stack.
-pub fn is_stack(part: &Part<'_>) -> bool
+pub(crate) fn is_stack(part: &Part<'_>) -> bool
     ensures { result ≡ rules.is_stack (shown part.now) }
 {
     match part.origin {

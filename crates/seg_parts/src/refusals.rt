@@ -8,11 +8,12 @@ ghost use Rattle.seg_parts.specs.Refusals.{absolute_in};
 
 use crate::parts::Part;
 use link_model::LayRefusal;
-use obj_types::{ALIGN_ABSOLUTE, Fail};
+use lx_types::Fail;
+use obj_types::ALIGN_ABSOLUTE;
 use std::alloc::Global;
 
 fn first_absolute<'a>(contributions: &'a [Part<'a>]) -> Option<&'a Part<'a>>
-    ensures { option_copied result ≡ find (λ p. (shown p).align == 0) contributions.entry.now }
+    ensures { option_copied result ≡ find (λ p. (shown p).align == ALIGN_ABSOLUTE) contributions.entry.now }
 {
     contributions
         .iter()

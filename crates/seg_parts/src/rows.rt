@@ -14,8 +14,8 @@ ghost use Rattle.seg_parts.specs.Placing.{unplaced_shown, span_shown, Adds, AreE
 
 use crate::offsets::{segment_end, segment_start};
 use crate::parts::Part;
-use link_model::{LayRefusal, MAX_MEMORY, MAX_NARROW_OBJECT, MAX_OBJECTS, Name, NoMemory};
-use obj_types::Fail;
+use link_model::{LayRefusal, MAX_MEMORY, MAX_NARROW_OBJECT};
+use lx_types::{Fail, MAX_OBJECTS, Name, NoMemory};
 use std::alloc::Global;
 
 /// A logical segment that has no place yet.
@@ -41,7 +41,7 @@ pub struct Placed<'a> {
 
 /// The ends of all objects, and their sum.
 #[derive(Drop)]
-pub struct Ends {
+struct Ends {
     ends: Vec<u32>,
     sum: u64,
 }
@@ -57,7 +57,7 @@ fn limit_of(head: &Part<'_>) -> u32
     }
 }
 
-// The start and the end of a logical segment behind what ends at `at`, unless it passes its object's limit.
+// The start and the end of a logical segment after what ends at `at`, unless it passes its object's limit.
 fn span_of(at: u32, unit: &Unplaced<'_>) -> Option<(u32, u32)>
     requires { at ≤ MAX_MEMORY }
     ensures stands { IfSome result (λ s. (span_shown unit.now s ≡ row_at at (unplaced_shown unit.now))

@@ -15,13 +15,13 @@ use Rattle.run_laws.specs.Bridge.{IsSound}
 use Rattle.run_model.specs.Sources.{Source, taken, built, library_of, module_from}
 use Rattle.session_model.specs.declared.sessions.ModLine.{ModLine}
 use Rattle.session_model.specs.declared.sessions.ModLine.TheVariants.{Take, Build}
-use Rattle.lx_answer.specs.declared.said.Said.{Said}
-use Rattle.lx_answer.specs.LinkAnswer.{input_with}
-use Rattle.lx_answer.specs.Loading.{Asked, AreBegun, AreRead, IsLoadWith, IsRefused, IsStopped}
-use Rattle.lx_answer.specs.Reading.{Item, linked, module_file}
-use Rattle.lx_answer.specs.RunAnswer.{AreDone, IsDoneLine, asked_line, asked_lines, together}
-use Rattle.lx_answer.specs.Says.{asked_definition, asked_inputs}
-use Rattle.lx_answer.specs.Words.{definition_of}
+use Rattle.answer_model.specs.declared.said.Said.{Said}
+use Rattle.answer_model.specs.LinkAnswer.{input_with}
+use Rattle.answer_model.specs.Loading.{Asked, AreBegun, AreRead, IsLoadWith, IsRefused, IsStopped}
+use Rattle.answer_model.specs.Reading.{Item, linked, module_file}
+use Rattle.answer_model.specs.RunAnswer.{AreDone, IsDoneLine, asked_line, asked_lines, together}
+use Rattle.answer_model.specs.AskedFiles.{asked_definition, asked_inputs}
+use Rattle.answer_model.specs.Words.{definition_of}
 use Rattle.tool_read.specs.Readings.{ReadsLoad, asked}
 use Rattle.tool_read.specs.Steps.{AreLoads, IsOneLoad, ReadsInTurn}
 use Rattle.tool_read.proofs.Walk.{begun_joined, begun_one, begun_wider, loads_joined, no_loads, one_load, read_begun, read_joined, read_one, stopped_one}
@@ -237,7 +237,7 @@ line_stops lines after line before between now modules why so_far one =
     }
     by_reason fail.NoMemory own = tt
 
--- Behind the first lines there is no memory.
+-- After the first lines there is no memory.
 pub lines_end : (lines after : List ModLine) (before now : FilesState) (modules : List Parts) → DoneSoFar lines before now modules → DoesLines (lines ++ after) before now (Err fail.NoMemory)
 lines_end lines after before now modules so_far =
     let files : HasItems (asked_lines lines) so_far.calls = all_done_read lines so_far.calls modules so_far.all in
@@ -255,7 +255,7 @@ lines_done lines before now modules so_far =
 
 -- ---- lines that are read one by one
 
--- The first lines were done, and these stand behind them.
+-- The first lines were done, and these stand after them.
 pub record Reached (lines behind : List ModLine) (before now : FilesState) (modules : List Parts) : Type 0 where
   pub front : List ModLine
   pub are : lines ≡ front ++ behind

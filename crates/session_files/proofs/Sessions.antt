@@ -1,4 +1,4 @@
--- A session's file, and what is done behind it.
+-- A session's file, and what is done after it.
 use Rattle.std.proofs.Common.{◌≡◌, ℕ, ◌<◌, ◌^◌, List, [], ◌∷◌, length, Result, Ok, Err, sym, subst, refl, inl, inr}
 use Rattle.std.specs.Prelude.{All}
 use Rattle.lx_types.specs.declared.fail.Fail.{Fail}
@@ -8,11 +8,11 @@ use Rattle.lx_ports.specs.Calls.{Call, load}
 use Rattle.lx_ports.specs.Files.{FilesState}
 use Rattle.lx_ports.specs.declared.files.LoadFault.{LoadFault}
 use Rattle.session_model.specs.declared.sessions.Session.{Session}
-use Rattle.lx_answer.specs.declared.said.Said.{Said}
-use Rattle.lx_answer.specs.Loading.{AreBegun, ReadsAnswer, RefusesAnswer}
-use Rattle.lx_answer.specs.Reading.{session, session_file}
-use Rattle.lx_answer.specs.RunAnswer.{asked_lines, asked_session}
-use Rattle.lx_answer.specs.RunEnds.{AreCallsOfRun}
+use Rattle.answer_model.specs.declared.said.Said.{Said}
+use Rattle.answer_model.specs.Loading.{AreBegun, ReadsAnswer, RefusesAnswer}
+use Rattle.answer_model.specs.Reading.{session, session_file}
+use Rattle.answer_model.specs.RunAnswer.{asked_lines, asked_session}
+use Rattle.answer_model.specs.RunEnds.{AreCallsOfRun}
 use Rattle.tool_read.specs.Readings.{SaysOf, asked}
 use Rattle.tool_read.specs.Steps.{IsOneLoad}
 use Rattle.tool_read.proofs.Walk.{loads_joined, one_load, stopped_one}

@@ -19,11 +19,11 @@ use Rattle.run_model.specs.Sources.{Source, library_of, module_from}
 use Rattle.session_model.specs.declared.sessions.ModLine.{ModLine}
 use Rattle.session_model.specs.declared.sessions.Session.{Session}
 use Rattle.session_text.specs.Writable.{IsWritable}
-use Rattle.lx_answer.specs.declared.said.Said.{Said}
-use Rattle.lx_answer.specs.FileLine.{file_line}
-use Rattle.lx_answer.specs.LinkAnswer.{link_text}
-use Rattle.lx_answer.specs.Loading.{AreBegun, IsStopped}
-use Rattle.lx_answer.specs.RunAnswer.{AreGiven, IsDoneLine, IsFailedLine, IsStoppedLine, asked_line, asked_lines}
+use Rattle.answer_model.specs.declared.said.Said.{Said}
+use Rattle.answer_model.specs.FileLine.{file_line}
+use Rattle.answer_model.specs.LinkAnswer.{link_text}
+use Rattle.answer_model.specs.Loading.{AreBegun, IsStopped}
+use Rattle.answer_model.specs.RunAnswer.{AreGiven, IsDoneLine, IsFailedLine, IsStoppedLine, asked_line, asked_lines}
 use Rattle.tool_read.specs.Steps.{AreLoads}
 
 -- ---- the session

@@ -9,11 +9,11 @@ use Rattle.lx_ports.specs.Files.{FilesState}
 use Rattle.run_laws.specs.Bridge.{IsSound}
 use Rattle.run_model.specs.Sources.{Source, library_of}
 use Rattle.session_model.specs.Bounds.{IsSession}
-use Rattle.lx_answer.specs.declared.said.Said.{Said}
-use Rattle.lx_answer.specs.Loading.{IsRead}
-use Rattle.lx_answer.specs.Reading.{session}
-use Rattle.lx_answer.specs.RunAnswer.{AreGiven, SaysRun, asked_session}
-use Rattle.lx_answer.specs.RunEnds.{AreCallsOfRun}
+use Rattle.answer_model.specs.declared.said.Said.{Said}
+use Rattle.answer_model.specs.Loading.{IsRead}
+use Rattle.answer_model.specs.Reading.{session}
+use Rattle.answer_model.specs.RunAnswer.{AreGiven, SaysRun, asked_session}
+use Rattle.answer_model.specs.RunEnds.{AreCallsOfRun}
 use Rattle.tool_read.specs.Steps.{AreLoads}
 use Rattle.session_files.specs.declared.reading.SessionFiles.{SessionFiles}
 

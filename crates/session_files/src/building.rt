@@ -1,34 +1,27 @@
 //! A module that a session builds: its files are loaded, read and linked, and the linked file is read back.
-ghost use Rattle.std.specs.Prelude.{◌≡◌, ◌≢◌, [], IfOk, option_map};
+ghost use Rattle.std.specs.Prelude.{◌≡◌, ◌≢◌, [], IfOk};
 ghost use Rattle.link_core.specs.Links.{RefusesLink};
 ghost use Rattle.lx_model.specs.Module.{IsRead};
 ghost use Rattle.obj_types.specs.Input.{WholeInput};
 ghost use Rattle.session_model.specs.declared.sessions.ModLine.TheVariants as mod_line;
 ghost use Rattle.session_text.specs.Writable.{IsPlainModule};
-ghost use Rattle.lx_answer.specs.FileLine.{file_line};
-ghost use Rattle.lx_answer.specs.LinkAnswer.{link_text};
-ghost use Rattle.lx_answer.specs.Words.{definition_of};
+ghost use Rattle.answer_model.specs.FileLine.{file_line};
+ghost use Rattle.answer_model.specs.LinkAnswer.{link_text};
 ghost use Rattle.session_files.specs.ModuleLines.{DoesLine, LinksInput};
 
 use crate::texts::{text_of, texts_of};
+use answer_model::{REFUSED, Said};
+use command_line::definition_of;
 use layer_laws::{input_range, linked_files_mean_their_links};
 use link_core::link;
 use link_model::LinkRefusal;
-use lx_answer::{REFUSED, Said};
 use lx_ports::Files;
+use lx_read::read_faultless;
 use lx_types::{Fail, Module, Name, NoMemory};
-use module_pages::read_faultless;
 use obj_types::LinkInput;
 use session_model::Words;
 use std::alloc::Global;
 use tool_read::{link_text, read_input_with, said};
-
-// The definition file that a word names. `-` names none.
-fn definition_named(word: &str) -> Option<&str>
-    ensures { option_map (λ name. name.now) result ≡ definition_of word.now }
-{
-    if word == "-" { None } else { Some(word) }
-}
 
 // What is said of a link that is refused.
 fn refused(alloc: Global, stem: &str, refusal: &LinkRefusal) -> Result<Said, NoMemory>
@@ -67,7 +60,7 @@ pub fn build<F: Files>(
 {
     let name = stem.copied(alloc)?;
     let inputs = texts_of(alloc, inputs)?;
-    let definition = definition_named(text_of(def));
+    let definition = definition_of(text_of(def));
     match read_input_with(alloc, files, name, definition, &inputs) {
         Ok(input) => linked(alloc, text_of(stem), &input),
         Err(why) => Err(why),

@@ -7,11 +7,11 @@ ghost use Rattle.session_files.specs.ModuleLines.{DoesLine, DoesLines, listed};
 
 use crate::building::build;
 use crate::texts::text_of;
-use lx_answer::Said;
+use answer_model::Said;
 use lx_ports::Files;
 use lx_types::{Fail, Module};
-use session_lines::first_kept;
 use session_model::{ModLine, ModLines};
+use session_read::first_kept;
 use std::alloc::Global;
 use tool_read::read_module;
 
@@ -35,7 +35,7 @@ fn module_given<F: Files>(
     }
 }
 
-/// The modules that the lines give, in their order. Behind a line that is stopped none is done.
+/// The modules that the lines give, in their order. After a line that is stopped none is done.
 pub fn modules_given<F: Files>(
     alloc: Global,
     files: &mut F,

@@ -1,7 +1,7 @@
-//! A session's file, and behind it the files of its module lines.
+//! A session's file, and after it the files of its module lines.
 ghost use Rattle.std.specs.Prelude.{ℕ, List, Result, IfOk};
 ghost use Rattle.lx_ports.specs.declared.files.LoadFault.{LoadFault};
-ghost use Rattle.lx_answer.specs.Reading.{session, session_file};
+ghost use Rattle.answer_model.specs.Reading.{session, session_file};
 ghost use Rattle.tool_read.specs.Readings.{ReadsLoad};
 ghost use Rattle.tool_read.specs.Steps.{IsOneLoad};
 ghost use Rattle.session_files.specs.ModuleLines.{IsKnown};
@@ -9,7 +9,7 @@ ghost use Rattle.session_files.specs.SessionFiles.{ReadsSession};
 
 use crate::laws::sessions_are_short;
 use crate::module_lines::modules_given;
-use lx_answer::Said;
+use answer_model::Said;
 use lx_ports::Files;
 use lx_types::{Fail, Module};
 use session_model::Session;
@@ -38,9 +38,9 @@ fn session_in<F: Files>(alloc: Global, files: &mut F, file: &str) -> Result<Sess
 
 /// Loads and reads a session's file, and then does its module lines in turn, each whole before the next: a module that is
 /// taken is loaded and read; one that is built is linked from its files, which are loaded and read in turn, and the linked
-/// file is read back ("LX Header" in the LX document).
+/// file is read back ("32-bit Linear eXecutable Module Format": "LX Header").
 ///
-/// Nothing is loaded behind the first file that is absent, too long, not read or at fault, or behind the first line whose
+/// Nothing is loaded after the first file that is absent, too long, not read or at fault, or after the first line whose
 /// files do not link; that is what is said.
 pub fn read_session_files<F: Files>(
     alloc: Global,

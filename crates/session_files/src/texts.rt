@@ -4,8 +4,8 @@ ghost use Rattle.std.specs.List.{All};
 ghost use Rattle.session_text.specs.Writable.{IsPlain};
 
 use lx_types::{Name, NoMemory};
-use session_lines::first_word;
 use session_model::Words;
+use session_read::first_word;
 use std::alloc::Global;
 use std::str::from_utf8;
 

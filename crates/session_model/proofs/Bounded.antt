@@ -12,12 +12,14 @@ use Rattle.session_model.specs.declared.sessions.SessionKind.{SessionKind}
 use Rattle.session_model.specs.declared.sessions.SessionKind.TheVariants as kinds
 use Rattle.session_model.specs.declared.sessions.SessionRefusal.{SessionRefusal}
 use Rattle.session_model.specs.Lines.{lines_in}
-use Rattle.session_model.specs.Statements.{Statement, gives, fails, process, command, MOST_PROCESSES, Reading, nothing, says, wrong, reading_of}
-use Rattle.session_model.specs.Sessions.{module_of, failing_in, commands_of, scripts_of, session_of, statement_in, statements_of, number_or, count_or, last_number, commands_so_far, MOST_COMMANDS, rises, fault_among, fault_behind, line_fault, or_next, fault_from, SesFault}
+use Rattle.session_model.specs.Statements.{Statement, gives, fails, process, command, Reading, nothing, says, wrong, reading_of}
+use Rattle.lx_types.specs.declared.limits.TheConstants.{MAX_PROCESSES}
+use Rattle.session_model.specs.Sessions.{module_of, failing_in, commands_of, scripts_of, session_of, statement_in, statements_of, number_or, count_or, last_number, commands_so_far, rises, fault_among, fault_behind, line_fault, or_next, fault_from, SesFault}
+use Rattle.session_model.specs.declared.limits.TheConstants.{MAX_COMMANDS}
 use Rattle.session_model.specs.Bounds.{IsCommand, IsModLine, IsFailingLine, IsScript, IsSession, SessionsAreBounded}
 use Rattle.session_model.proofs.Readings.{IsStatement, read_good}
 
--- statements that may stand behind a script's number and so many of its commands
+-- statements that may stand after a script's number and so many of its commands
 abbrev Fine : Option ℕ → ℕ → List Statement → Type 0
 Fine last n [] = Unit {0}
 Fine last n (st ∷ others) = (fault_among last n st ≡ None) × IsStatement st × Fine (number_or last st) (count_or n st) others
@@ -96,15 +98,15 @@ if_none : (b : Bool) (kind : SessionKind) → (if b then None else Some kind) �
 if_none true kind h = refl
 if_none false kind h = absurd (none_some kind h)
 
-commands_few : (k n : ℕ) (sts : List Statement) → n ≤ MOST_COMMANDS → Fine (Some k) n sts → n + length (commands_of sts) ≤ MOST_COMMANDS
+commands_few : (k n : ℕ) (sts : List Statement) → n ≤ MAX_COMMANDS → Fine (Some k) n sts → n + length (commands_of sts) ≤ MAX_COMMANDS
 commands_few k n [] few fine = omega arith
 commands_few k n (gives m ∷ sts) few fine = omega arith
 commands_few k n (fails f ∷ sts) few fine = omega arith
 commands_few k n (process q ∷ sts) few fine = omega arith
 commands_few k n (command c ∷ sts) few fine =
-    let below : n < MOST_COMMANDS = ltb-true n MOST_COMMANDS (if_none (nat_lt n MOST_COMMANDS) kinds.TooMany fine.0) in
-    let more : n + 1 ≤ MOST_COMMANDS = omega arith in
-    let rest : (n + 1) + length (commands_of sts) ≤ MOST_COMMANDS = commands_few k (n + 1) sts more fine.2 in
+    let below : n < MAX_COMMANDS = ltb-true n MAX_COMMANDS (if_none (nat_lt n MAX_COMMANDS) kinds.TooMany fine.0) in
+    let more : n + 1 ≤ MAX_COMMANDS = omega arith in
+    let rest : (n + 1) + length (commands_of sts) ≤ MAX_COMMANDS = commands_few k (n + 1) sts more fine.2 in
     omega arith
 
 scripts_good : (last : Option ℕ) (n : ℕ) (sts : List Statement) → Fine last n sts → AllByRecursion IsScript (scripts_of sts)
@@ -115,21 +117,21 @@ scripts_good last n (command c ∷ sts) fine = scripts_good last (n + 1) sts fin
 scripts_good last n (process k ∷ sts) fine =
     (record { few = from_zero (length (commands_of sts)) (commands_few k 0 sts (omega arith) fine.2); commands = commands_good (Some k) 0 sts fine.2 }, scripts_good (Some k) 0 sts fine.2)
   where
-    from_zero : (n : ℕ) → 0 + n ≤ MOST_COMMANDS → n ≤ MOST_COMMANDS
+    from_zero : (n : ℕ) → 0 + n ≤ MAX_COMMANDS → n ≤ MAX_COMMANDS
     from_zero n h = omega arith
 
 -- ---- numbers
 
-rises_above : (last : Option ℕ) (n k : ℕ) → fault_among last n (process k) ≡ None → (unwrap_or last 0 < k) × (k ≤ MOST_PROCESSES)
+rises_above : (last : Option ℕ) (n k : ℕ) → fault_among last n (process k) ≡ None → (unwrap_or last 0 < k) × (k ≤ MAX_PROCESSES)
 rises_above None n k h =
     let it = if_none (rises None k) kinds.Order h in
     let one : 1 ≤ k = leb-true 1 k (and_parts _ _ it).0 in
-    (omega arith, leb-true k MOST_PROCESSES (and_parts _ _ it).1)
+    (omega arith, leb-true k MAX_PROCESSES (and_parts _ _ it).1)
 rises_above (Some l) n k h =
     let it = if_none (rises (Some l) k) kinds.Order h in
-    (ltb-true l k (and_parts _ _ it).0, leb-true k MOST_PROCESSES (and_parts _ _ it).1)
+    (ltb-true l k (and_parts _ _ it).0, leb-true k MAX_PROCESSES (and_parts _ _ it).1)
 
-numbers_rise : (last : Option ℕ) (n : ℕ) (sts : List Statement) → unwrap_or last 0 ≤ MOST_PROCESSES → Fine last n sts → Rise (unwrap_or last 0) (map (λ s. s.pid) (scripts_of sts)) MOST_PROCESSES
+numbers_rise : (last : Option ℕ) (n : ℕ) (sts : List Statement) → unwrap_or last 0 ≤ MAX_PROCESSES → Fine last n sts → Rise (unwrap_or last 0) (map (λ s. s.pid) (scripts_of sts)) MAX_PROCESSES
 numbers_rise last n [] low fine = low
 numbers_rise last n (gives m ∷ sts) low fine = numbers_rise last n sts low fine.2
 numbers_rise last n (fails f ∷ sts) low fine = numbers_rise last n sts low fine.2
@@ -151,8 +153,8 @@ map_count (s ∷ scripts) = ap suc (map_count scripts)
 session_good : (sts : List Statement) → Fine None 0 sts → IsSession (session_of sts)
 unfolding session_of
 session_good sts fine =
-    let rising : Rise 0 (map (λ s. s.pid) (scripts_of sts)) MOST_PROCESSES = numbers_rise None 0 sts (omega arith) fine in
-    let count : 0 + length (map (λ s. s.pid) (scripts_of sts)) ≤ MOST_PROCESSES = rise_count 0 (map (λ s. s.pid) (scripts_of sts)) MOST_PROCESSES rising in
+    let rising : Rise 0 (map (λ s. s.pid) (scripts_of sts)) MAX_PROCESSES = numbers_rise None 0 sts (omega arith) fine in
+    let count : 0 + length (map (λ s. s.pid) (scripts_of sts)) ≤ MAX_PROCESSES = rise_count 0 (map (λ s. s.pid) (scripts_of sts)) MAX_PROCESSES rising in
     let same : length (map (λ s. s.pid) (scripts_of sts)) ≡ length (scripts_of sts) = map_count (scripts_of sts) in
     record {
       modules = modules_good None 0 sts fine;

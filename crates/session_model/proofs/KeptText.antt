@@ -1,4 +1,4 @@
--- Lines behind lines.
+-- Lines after lines.
 use Rattle.std.proofs.Common.{◌≡◌, ℕ, ◌<◌, Bool, true, false, List, [], ◌∷◌, ◌++◌, length, refl, ap, ◌∙◌, arith}
 use Rattle.std.specs.Prelude.{◌==◌, if◌then◌else◌, option_to_list, Option, Some, None}
 use Rattle.std.specs.List.{cons_option, filter_map, list_all}
@@ -8,7 +8,7 @@ use Rattle.std.proofs.lemmas.Bool.{and_parts}
 use Rattle.session_model.specs.Lines.{is_allowed, is_cut, with_byte, lines_in}
 use Rattle.session_model.specs.Kept.{AreLines, IsOneLine}
 
--- ---- whole lines, and others behind them
+-- ---- whole lines, and others after them
 
 choose : {A : Type 0} (b : Bool) (x y z : A) → (x ≡ z) → (y ≡ z) → (if b then x else y) ≡ z
 choose true x y z h k = h

@@ -14,7 +14,7 @@ use Rattle.load_model.specs.Step.{serial_named, after_touch, after_steady}
 use Rattle.load_model.specs.Asks.{after_deed}
 use Rattle.load_model.specs.Histories.{after_entry, state_after}
 use Rattle.load_model.specs.Accepted.{retouched}
-use Rattle.load_model.specs.Touched.{touched_behind}
+use Rattle.load_model.specs.TouchedPages.{touched_behind}
 use Rattle.load_model.proofs.Touched.{entries_move_touched}
 use Rattle.session_model.specs.declared.sessions.Line.{Line}
 use Rattle.session_model.specs.declared.sessions.ScriptLines.{ScriptLines}

@@ -14,7 +14,9 @@ use Rattle.session_model.specs.declared.sessions.ModLine.TheVariants.{Take, Buil
 use Rattle.session_model.specs.declared.sessions.SessionKind.{SessionKind}
 use Rattle.session_model.specs.declared.sessions.SessionKind.TheVariants as kinds
 use Rattle.session_model.specs.Lines.{is_allowed, words_in, any_number, below, number_in, hex_bytes}
-use Rattle.session_model.specs.Statements.{Statement, gives, fails, process, command, Reading, nothing, says, wrong, or_wrong, MOST_BYTES, MOST_WORD, MOST_PROCESSES, place_of, length_in, place_in, begins_with_at, key_in, process_in, word_in, hex_in, write_of, is_word, has_bytes, word_count, is_long, has_long, is_within, two_words, failing_of, three_words, four_words, five_words, statement_of, by_count, is_comment, of_words, reading_of}
+use Rattle.session_model.specs.Statements.{Statement, gives, fails, process, command, Reading, nothing, says, wrong, or_wrong, place_of, length_in, place_in, begins_with_at, key_in, process_in, word_in, hex_in, write_of, is_word, has_bytes, word_count, is_long, has_long, is_within, two_words, failing_of, three_words, four_words, five_words, statement_of, by_count, is_comment, of_words, reading_of}
+use Rattle.session_model.specs.declared.limits.TheConstants.{MAX_BYTES, MAX_WORD}
+use Rattle.lx_types.specs.declared.limits.TheConstants.{MAX_PROCESSES}
 use Rattle.session_model.specs.Bounds.{IsWord, IsNumber, IsPlace, IsReadable, IsWritten, IsKey, IsCommand, IsModLine, IsFailingLine}
 
 -- a statement within bounds
@@ -123,10 +125,10 @@ any_place name object offset len p word h =
       length = l.1;
     })
 
-short_place : (name object offset len : List ℕ) (p : Place) → IsWord name → place_in (Some MOST_BYTES) name object offset len ≡ Some p → IsReadable p
+short_place : (name object offset len : List ℕ) (p : Place) → IsWord name → place_in (Some MAX_BYTES) name object offset len ≡ Some p → IsReadable p
 short_place name object offset len p word h =
-    let q = parts_of_place (Some MOST_BYTES) name object offset len p h in
-    let l = short_length MOST_BYTES len q.n q.length_is in
+    let q = parts_of_place (Some MAX_BYTES) name object offset len p h in
+    let l = short_length MAX_BYTES len q.n q.length_is in
     subst IsReadable q.is (record {
       place = record {
         name = word;
@@ -138,13 +140,13 @@ short_place name object offset len p word h =
       few = l.few;
     })
 
-bytes_fit : (word bytes : List ℕ) → hex_in word ≡ Some bytes → (1 ≤ length bytes) × (length bytes ≤ MOST_BYTES)
+bytes_fit : (word bytes : List ℕ) → hex_in word ≡ Some bytes → (1 ≤ length bytes) × (length bytes ≤ MAX_BYTES)
 bytes_fit word bytes h =
-    let f = bind_some (λ bs. if (length bs == 0) || nat_lt MOST_BYTES (length bs) then None else Some bs) (hex_bytes word) bytes h in
-    let it : ((length f.it == 0) || nat_lt MOST_BYTES (length f.it) ≡ false) × (f.it ≡ bytes) =
-    unless_some ((length f.it == 0) || nat_lt MOST_BYTES (length f.it)) f.it bytes f.gives in (
+    let f = bind_some (λ bs. if (length bs == 0) || nat_lt MAX_BYTES (length bs) then None else Some bs) (hex_bytes word) bytes h in
+    let it : ((length f.it == 0) || nat_lt MAX_BYTES (length f.it) ≡ false) × (f.it ≡ bytes) =
+    unless_some ((length f.it == 0) || nat_lt MAX_BYTES (length f.it)) f.it bytes f.gives in (
       subst (λ bs. 1 ≤ length bs) it.1 (one_at_least (length f.it) (or_parts _ _ it.0).0),
-      subst (λ bs. length bs ≤ MOST_BYTES) it.1 (ltb-false MOST_BYTES (length f.it) (or_parts _ _ it.0).1),
+      subst (λ bs. length bs ≤ MAX_BYTES) it.1 (ltb-false MAX_BYTES (length f.it) (or_parts _ _ it.0).1),
     )
 
 number_16 : (word : List ℕ) (n : ℕ) → word_in word ≡ Some n → n < 2 ^ 16
@@ -153,11 +155,11 @@ number_16 word n h =
     let it : (nat_lt f.it 0x1_0000 ≡ true) × (f.it ≡ n) = where_some (nat_lt f.it 0x1_0000) f.it n f.gives in
     subst (λ k. k < 2 ^ 16) it.1 (ltb-true f.it 0x1_0000 it.0)
 
-process_fits : (word : List ℕ) (n : ℕ) → process_in word ≡ Some n → (1 ≤ n) × (n ≤ MOST_PROCESSES)
+process_fits : (word : List ℕ) (n : ℕ) → process_in word ≡ Some n → (1 ≤ n) × (n ≤ MAX_PROCESSES)
 process_fits word n h =
-    let f = bind_some (λ k. if nat_le 1 k && nat_le k MOST_PROCESSES then Some k else None) (number_in word) n h in
-    let it : (nat_le 1 f.it && nat_le f.it MOST_PROCESSES ≡ true) × (f.it ≡ n) = where_some (nat_le 1 f.it && nat_le f.it MOST_PROCESSES) f.it n f.gives in
-    (subst (λ k. 1 ≤ k) it.1 (leb-true 1 f.it (and_parts _ _ it.0).0), subst (λ k. k ≤ MOST_PROCESSES) it.1 (leb-true f.it MOST_PROCESSES (and_parts _ _ it.0).1))
+    let f = bind_some (λ k. if nat_le 1 k && nat_le k MAX_PROCESSES then Some k else None) (number_in word) n h in
+    let it : (nat_le 1 f.it && nat_le f.it MAX_PROCESSES ≡ true) × (f.it ≡ n) = where_some (nat_le 1 f.it && nat_le f.it MAX_PROCESSES) f.it n f.gives in
+    (subst (λ k. 1 ≤ k) it.1 (leb-true 1 f.it (and_parts _ _ it.0).0), subst (λ k. k ≤ MAX_PROCESSES) it.1 (leb-true f.it MAX_PROCESSES (and_parts _ _ it.0).1))
 
 key_fits : (word : List ℕ) (key : EntryKey) → IsWord word → key_in word ≡ Some key → IsKey key
 key_fits word key short h = step (begins_with_at word) h
@@ -171,7 +173,7 @@ key_fits word key short h = step (begins_with_at word) h
 -- ---- words
 
 word_short : (w : List ℕ) → is_long w ≡ false → IsWord w
-word_short w h = ltb-false MOST_WORD (length w) h
+word_short w h = ltb-false MAX_WORD (length w) h
 
 all_short : (ws : List (List ℕ)) → list_any is_long ws ≡ false → AllByRecursion IsWord ws
 all_short [] h = tt
@@ -237,9 +239,9 @@ written_good kind name object offset hex st short good h = step (number_in objec
     step (Some o) o_is None x_is bs bs_is h = cc
     step (Some o) o_is (Some x) x_is None bs_is h = cc
     step (Some o) o_is (Some x) x_is (Some bytes) bs_is h =
-        let fits : (1 ≤ length bytes) × (length bytes ≤ MOST_BYTES) = bytes_fit hex bytes bs_is in
+        let fits : (1 ≤ length bytes) × (length bytes ≤ MAX_BYTES) = bytes_fit hex bytes bs_is in
         let some : 1 ≤ length bytes = fits.0 in
-        let few : length bytes ≤ MOST_BYTES = fits.1 in
+        let few : length bytes ≤ MAX_BYTES = fits.1 in
         let small : IsNumber (length bytes) = omega arith in
         is_said (command (kind (place_of name o x (length bytes)) bytes)) st
         (good (place_of name o x (length bytes)) bytes (record {
@@ -255,18 +257,18 @@ five_good w a b c d st short h = one (is_word w (codes "touch")) (is_word w (cod
   where
     one : (t p s g : Bool) →
         (if t then or_wrong kinds.Number (option_map (λ q. command (Touch q)) (place_in None a b c d))
-        else if p then or_wrong kinds.Number (option_map (λ q. command (Peek q)) (place_in (Some MOST_BYTES) a b c d))
-        else if s then or_wrong kinds.Number (option_map (λ q. command (Shared q)) (place_in (Some MOST_BYTES) a b c d))
+        else if p then or_wrong kinds.Number (option_map (λ q. command (Peek q)) (place_in (Some MAX_BYTES) a b c d))
+        else if s then or_wrong kinds.Number (option_map (λ q. command (Shared q)) (place_in (Some MAX_BYTES) a b c d))
         else if g then write_of Debug a (number_in b) (number_in c) (hex_in d)
         else write_of Write a (number_in b) (number_in c) (hex_in d)) ≡ says st → IsStatement st
     one true p s g h =
         let f = map_some (λ q. command (Touch q)) (place_in None a b c d) st (said kinds.Number (option_map (λ q. command (Touch q)) (place_in None a b c d)) st h) in
         subst IsStatement (same_Some (command (Touch f.it)) st f.gives) (any_place a b c d f.it short f.there)
     one false true s g h =
-        let f = map_some (λ q. command (Peek q)) (place_in (Some MOST_BYTES) a b c d) st (said kinds.Number (option_map (λ q. command (Peek q)) (place_in (Some MOST_BYTES) a b c d)) st h) in
+        let f = map_some (λ q. command (Peek q)) (place_in (Some MAX_BYTES) a b c d) st (said kinds.Number (option_map (λ q. command (Peek q)) (place_in (Some MAX_BYTES) a b c d)) st h) in
         subst IsStatement (same_Some (command (Peek f.it)) st f.gives) (short_place a b c d f.it short f.there)
     one false false true g h =
-        let f = map_some (λ q. command (Shared q)) (place_in (Some MOST_BYTES) a b c d) st (said kinds.Number (option_map (λ q. command (Shared q)) (place_in (Some MOST_BYTES) a b c d)) st h) in
+        let f = map_some (λ q. command (Shared q)) (place_in (Some MAX_BYTES) a b c d) st (said kinds.Number (option_map (λ q. command (Shared q)) (place_in (Some MAX_BYTES) a b c d)) st h) in
         subst IsStatement (same_Some (command (Shared f.it)) st f.gives) (short_place a b c d f.it short f.there)
     one false false false true h = written_good Debug a b c d st short (λ p bytes good. good) h
     one false false false false h = written_good Write a b c d st short (λ p bytes good. good) h

@@ -12,12 +12,13 @@ use Rattle.session_model.specs.declared.sessions.ModLine.{ModLine}
 use Rattle.session_model.specs.declared.sessions.ModLine.TheVariants.{Take, Build}
 use Rattle.session_model.specs.declared.sessions.Script.{Script}
 use Rattle.session_model.specs.declared.sessions.Session.{Session}
-use Rattle.session_model.specs.Statements.{MOST_BYTES, MOST_WORD, MOST_PROCESSES}
-use Rattle.session_model.specs.Sessions.{MOST_COMMANDS, Ses}
+use Rattle.session_model.specs.declared.limits.TheConstants.{MAX_BYTES, MAX_WORD, MAX_COMMANDS}
+use Rattle.lx_types.specs.declared.limits.TheConstants.{MAX_PROCESSES}
+use Rattle.session_model.specs.Sessions.{Ses}
 
 -- names are words of a line
 abbrev pub IsWord : List ℕ → Type 0
-IsWord w = length w ≤ MOST_WORD
+IsWord w = length w ≤ MAX_WORD
 
 abbrev pub IsNumber : ℕ → Type 0
 IsNumber n = n < 2 ^ 32
@@ -33,7 +34,7 @@ pub record IsPlace (p : Place) : Type 0 where
 -- one of which so many bytes are asked at most
 pub record IsReadable (p : Place) : Type 0 where
   pub place : IsPlace p
-  pub few : p.len ≤ MOST_BYTES
+  pub few : p.len ≤ MAX_BYTES
 
 -- one to which bytes are written, as many as it is long
 pub record IsWritten (p : Place) (bytes : List ℕ) : Type 0 where
@@ -64,10 +65,10 @@ IsModLine (Build stem def files) = IsWord stem × IsWord def × (1 ≤ length fi
 pub record IsFailingLine (f : FailingLine) : Type 0 where
   pub name : IsWord f.«module»
   pub least : 1 ≤ f.pid
-  pub most : f.pid ≤ MOST_PROCESSES
+  pub most : f.pid ≤ MAX_PROCESSES
 
 pub record IsScript (s : Script) : Type 0 where
-  pub few : length s.commands ≤ MOST_COMMANDS
+  pub few : length s.commands ≤ MAX_COMMANDS
   pub commands : AllByRecursion IsCommand s.commands
 
 -- The numbers of scripts rise from 1 to 16 at most.
@@ -75,8 +76,8 @@ pub record IsSession (s : Session) : Type 0 where
   pub modules : AllByRecursion IsModLine s.modules
   pub failing : AllByRecursion IsFailingLine s.failing
   pub scripts : AllByRecursion IsScript s.scripts
-  pub rising : Rise 0 (map (λ script. script.pid) s.scripts) MOST_PROCESSES
-  pub few : length s.scripts ≤ MOST_PROCESSES
+  pub rising : Rise 0 (map (λ script. script.pid) s.scripts) MAX_PROCESSES
+  pub few : length s.scripts ≤ MAX_PROCESSES
 
 -- What bytes say is such a session.
 abbrev pub SessionsAreBounded : Type 0

@@ -16,7 +16,7 @@ MeansOrFails = (bytes : List ℕ) → Ses bytes (session_of (statements_of (line
 abbrev pub FaultMeansNone : Type 0
 FaultMeansNone = (bytes : List ℕ) (s : Session) (e : SessionRefusal) → SesFault bytes ≡ Some e → Ses bytes s → ⊥
 
--- no line of some is wrong, behind others
+-- no line of some is wrong, after others
 abbrev pub NoneWrong : List (List ℕ) → List (List ℕ) → Type 0
 NoneWrong before [] = Unit {0}
 NoneWrong before (line ∷ behind) = (line_fault before line ≡ None) × NoneWrong (before ++ line ∷ []) behind

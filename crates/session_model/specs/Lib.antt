@@ -1,6 +1,7 @@
 pub mod Merging
 pub mod Text
 pub mod Transcript
+pub mod Spelling
 pub mod Runs
 pub mod Lines
 pub mod Statements

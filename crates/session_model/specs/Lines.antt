@@ -39,7 +39,7 @@ unfoldable pub words_in : List ℕ → List (List ℕ)
 words_in [] = []
 words_in (b ∷ bytes) = if is_blank b then words_in bytes else onto_word b bytes (words_in bytes)
 
--- ---- numbers: decimal, or hexadecimal behind `0x`
+-- ---- numbers: decimal, or hexadecimal after `0x`
 
 abbrev pub is_digit : ℕ → Bool
 is_digit b = nat_le 0x30 b && nat_le b 0x39
@@ -55,7 +55,7 @@ hex_value b =
 abbrev pub decimal_value : ℕ → Option ℕ
 decimal_value b = if is_digit b then Some (b - 0x30) else None
 
--- digits to a base behind a number; each has to be one
+-- digits to a base after a number; each has to be one
 abbrev pub digits_onto : ℕ → (ℕ → Option ℕ) → Option ℕ → List ℕ → Option ℕ
 digits_onto base value so_far ds = fold (λ n d. option_and_then (λ v. option_map (λ digit. v * base + digit) (value d)) n) so_far ds
 

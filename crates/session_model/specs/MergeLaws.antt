@@ -1,5 +1,6 @@
 -- What a merge has to do with its history.
 use Rattle.std.specs.Prelude.{◌≡◌, ℕ, ◌≤◌, List, ◌++◌, length, filter_map, Option, Some, None}
+use Rattle.lx_types.specs.declared.limits.TheConstants.{MAX_PROCESSES}
 use Rattle.load_model.specs.declared.deeds.Deed.{Deed}
 use Rattle.load_model.specs.declared.deeds.Entry.{Entry}
 use Rattle.load_model.specs.Modules.{Library, Held}
@@ -28,17 +29,17 @@ MergeHasHistory = (h : List Entry) (s : List ScriptLines) → entries_in (merge_
 abbrev pub touched_in : Eager → ℕ → List PageOf
 touched_in e pid = (e.processes pid).touched
 
--- The state behind some items is the state after their entries, but for touched pages.
+-- The state after some items is the state after their entries, but for touched pages.
 abbrev pub StatesAreTheHistorys : Type 0
 StatesAreTheHistorys =
     (lib : Library) (failing : Failing) (items : List Item) →
     state_behind lib failing items ≡ retouched (touched_in (state_behind lib failing items)) (state_after lib failing (entries_in items))
 
 -- Where two ways to say what objects hold agree along a history, the same lines merge with it by both. There
--- are at most 16 scripts.
+-- are no more scripts than processes.
 abbrev pub HeldMergesAlike : Type 0
 HeldMergesAlike =
-    (lib : Library) (failing : Failing) (a b : Held) (h : List Entry) (s : List ScriptLines) (scripts : List Script) → length scripts ≤ 16 →
+    (lib : Library) (failing : Failing) (a b : Held) (h : List Entry) (s : List ScriptLines) (scripts : List Script) → length scripts ≤ MAX_PROCESSES →
     ((before behind : List Entry) → h ≡ before ++ behind → AgreeAt lib a b (state_after lib failing before)) → Merge lib failing a h s scripts →
     Merge lib failing b h s scripts
 

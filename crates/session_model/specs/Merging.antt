@@ -33,11 +33,11 @@ pub data Item : Type 0 where
 abbrev pub lines_of : ℕ → ℕ × ScriptLines → List Item
 lines_of front s = map (line s.0) (filter (λ l. l.front == front) s.1.lines)
 
--- the lines that stand behind so many entries, by process
+-- the lines that stand after so many entries, by process
 abbrev pub lines_at : List ScriptLines → ℕ → List Item
 lines_at s front = flat_map (lines_of front) (enumerate_from 1 s)
 
--- each entry, and the lines behind it
+-- each entry, and the lines after it
 unfoldable pub merge_of : List Entry → List ScriptLines → List Item
 merge_of h s = lines_at s 0 ++ flat_map (λ e. entry e.1 ∷ lines_at s e.0) (enumerate_from 1 h)
 
@@ -50,7 +50,7 @@ after_item lib e (line pid l) = after_steady lib e pid l.command l.reply
 unfoldable pub state_behind : Library → Failing → List Item → Eager
 state_behind lib failing items = fold (after_item lib) (nothing_yet failing) items
 
--- P holds of each item, with what stands before it and what stands behind
+-- P holds of each item, with what stands before it and what stands after
 abbrev pub AllPlaces : (List Item → Item → List Item → Type 0) → List Item → List Item → Type 0
 AllPlaces P before [] = Unit {0}
 AllPlaces P before (item ∷ behind) = P before item behind × AllPlaces P (before ++ item ∷ []) behind

@@ -9,7 +9,9 @@ use Rattle.session_model.specs.declared.sessions.SessionKind.{SessionKind}
 use Rattle.session_model.specs.declared.sessions.SessionKind.TheVariants as kinds
 use Rattle.session_model.specs.declared.sessions.SessionRefusal.{SessionRefusal}
 use Rattle.session_model.specs.Lines.{lines_in}
-use Rattle.session_model.specs.Statements.{Statement, gives, fails, process, command, MOST_PROCESSES, Reading, nothing, says, wrong, reading_of}
+use Rattle.session_model.specs.Statements.{Statement, gives, fails, process, command, Reading, nothing, says, wrong, reading_of}
+use Rattle.lx_types.specs.declared.limits.TheConstants.{MAX_PROCESSES}
+use Rattle.session_model.specs.declared.limits.TheConstants.{MAX_COMMANDS}
 
 -- ---- what statements say together
 
@@ -74,14 +76,10 @@ last_number before = fold number_or None before
 abbrev pub commands_so_far : List Statement → ℕ
 commands_so_far before = fold count_or 0 before
 
--- the most commands of one script
-abbrev pub MOST_COMMANDS : ℕ
-MOST_COMMANDS = 1024
-
 -- a process number is from 1 to 16 and above the last one
 abbrev pub rises : Option ℕ → ℕ → Bool
-rises None n = nat_le 1 n && nat_le n MOST_PROCESSES
-rises (Some last) n = nat_lt last n && nat_le n MOST_PROCESSES
+rises None n = nat_le 1 n && nat_le n MAX_PROCESSES
+rises (Some last) n = nat_lt last n && nat_le n MAX_PROCESSES
 
 -- Modules, and what fails, come before all scripts, and commands belong to a script. A script may be full.
 abbrev pub fault_among : Option ℕ → ℕ → Statement → Option SessionKind
@@ -91,14 +89,14 @@ fault_among None n (fails f) = None
 fault_among (Some last) n (fails f) = Some kinds.Order
 fault_among last n (process number) = if rises last number then None else Some kinds.Order
 fault_among None n (command c) = Some kinds.Order
-fault_among (Some last) n (command c) = if nat_lt n MOST_COMMANDS then None else Some kinds.TooMany
+fault_among (Some last) n (command c) = if nat_lt n MAX_COMMANDS then None else Some kinds.TooMany
 
 abbrev pub fault_behind : List Statement → Reading → Option SessionKind
 fault_behind before nothing = None
 fault_behind before (wrong kind) = Some kind
 fault_behind before (says s) = fault_among (last_number before) (commands_so_far before) s
 
--- what is wrong with a line behind others
+-- what is wrong with a line after others
 unfoldable pub line_fault : List (List ℕ) → List ℕ → Option SessionKind
 line_fault before line = fault_behind (statements_of before) (reading_of line)
 
@@ -108,7 +106,7 @@ abbrev pub or_next : List (List ℕ) → Option SessionKind → Option SessionRe
 or_next before (Some kind) later = Some (record { line = length before + 1; kind = kind })
 or_next before None later = later
 
--- the first line that is wrong, of those behind others
+-- the first line that is wrong, of those after others
 abbrev pub fault_from : List (List ℕ) → List (List ℕ) → Option SessionRefusal
 fault_from before [] = None
 fault_from before (line ∷ behind) = or_next before (line_fault before line) (fault_from (before ++ line ∷ []) behind)

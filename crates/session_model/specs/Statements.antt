@@ -12,6 +12,8 @@ use Rattle.session_model.specs.declared.sessions.ModLine.TheVariants.{Take, Buil
 use Rattle.session_model.specs.declared.sessions.SessionKind.{SessionKind}
 use Rattle.session_model.specs.declared.sessions.SessionKind.TheVariants as kinds
 use Rattle.session_model.specs.Lines.{is_allowed, words_in, number_in, hex_bytes}
+use Rattle.lx_types.specs.declared.limits.TheConstants.{MAX_PROCESSES}
+use Rattle.session_model.specs.declared.limits.TheConstants.{MAX_BYTES, MAX_WORD}
 
 -- what a line says: a module, an initialisation that fails, the number of a script, or a command of the script above
 pub data Statement : Type 0 where
@@ -31,10 +33,6 @@ or_wrong kind (Some statement) = says statement
 or_wrong kind None = wrong kind
 
 -- ---- numbers and places
-
--- the most bytes of one peek, shared or write
-abbrev pub MOST_BYTES : ℕ
-MOST_BYTES = 4096
 
 abbrev pub place_of : List ℕ → ℕ → ℕ → ℕ → Place
 place_of name object offset len = record { «module» = name; object = object; offset = offset; len = len }
@@ -57,11 +55,8 @@ abbrev pub key_in : List ℕ → Option EntryKey
 key_in word = if begins_with_at word then option_map Ordinal (number_in (drop 1 word)) else Some (Named word)
 
 -- the number of a process
-abbrev pub MOST_PROCESSES : ℕ
-MOST_PROCESSES = 16
-
 abbrev pub process_in : List ℕ → Option ℕ
-process_in word = option_and_then (λ n. if nat_le 1 n && nat_le n MOST_PROCESSES then Some n else None) (number_in word)
+process_in word = option_and_then (λ n. if nat_le 1 n && nat_le n MAX_PROCESSES then Some n else None) (number_in word)
 
 -- a number of 16 bits: the type or the identifier of a resource
 abbrev pub word_in : List ℕ → Option ℕ
@@ -69,7 +64,7 @@ word_in word = option_and_then (λ n. if nat_lt n 0x1_0000 then Some n else None
 
 -- the bytes of a write: one at least
 abbrev pub hex_in : List ℕ → Option (List ℕ)
-hex_in word = option_and_then (λ bytes. if (length bytes == 0) || nat_lt MOST_BYTES (length bytes) then None else Some bytes) (hex_bytes word)
+hex_in word = option_and_then (λ bytes. if (length bytes == 0) || nat_lt MAX_BYTES (length bytes) then None else Some bytes) (hex_bytes word)
 
 -- a number that is wrong comes before bytes that are
 abbrev pub write_of : (Place → List ℕ → Command) → List ℕ → Option ℕ → Option ℕ → Option (List ℕ) → Reading
@@ -99,12 +94,9 @@ word_count w =
     else if is_word w (codes "build") then Some (4, None)
     else None
 
--- the longest a word may be; bytes to write are a word that may be longer
-abbrev pub MOST_WORD : ℕ
-MOST_WORD = 255
-
+-- longer than a word may be; bytes to write are a word that may be longer
 abbrev pub is_long : List ℕ → Bool
-is_long w = nat_lt MOST_WORD (length w)
+is_long w = nat_lt MAX_WORD (length w)
 
 abbrev pub has_long : List (List ℕ) → Bool
 has_long (w ∷ m ∷ o ∷ x ∷ hex ∷ ws) = list_any is_long (w ∷ m ∷ o ∷ x ∷ ws) || (is_long hex && not (has_bytes w))
@@ -142,8 +134,8 @@ four_words w a b c =
 abbrev pub five_words : List ℕ → List ℕ → List ℕ → List ℕ → List ℕ → Reading
 five_words w name object offset last =
     if is_word w (codes "touch") then or_wrong kinds.Number (option_map (λ p. command (Touch p)) (place_in None name object offset last))
-    else if is_word w (codes "peek") then or_wrong kinds.Number (option_map (λ p. command (Peek p)) (place_in (Some MOST_BYTES) name object offset last))
-    else if is_word w (codes "shared") then or_wrong kinds.Number (option_map (λ p. command (Shared p)) (place_in (Some MOST_BYTES) name object offset last))
+    else if is_word w (codes "peek") then or_wrong kinds.Number (option_map (λ p. command (Peek p)) (place_in (Some MAX_BYTES) name object offset last))
+    else if is_word w (codes "shared") then or_wrong kinds.Number (option_map (λ p. command (Shared p)) (place_in (Some MAX_BYTES) name object offset last))
     else if is_word w (codes "debug") then write_of Debug name (number_in object) (number_in offset) (hex_in last)
     else write_of Write name (number_in object) (number_in offset) (hex_in last)
 

@@ -42,7 +42,7 @@ kind_text kinds.Init = codes "init"
 kind_text kinds.Term = codes "term"
 kind_text kinds.Main = codes "main"
 
--- the bases stand behind the name; a module without objects has none
+-- the bases stand after the name; a module without objects has none
 abbrev pub new_line : Library → Fresh → List ℕ
 new_line lib f = inner_line (codes "new" ∷ decimal f.serial ∷ module_text lib f.«module» ∷ map hex_address f.bases)
 
@@ -55,7 +55,7 @@ gone_line lib g = inner_line (codes "gone" ∷ decimal g.serial ∷ module_text 
 abbrev pub place_words : Library → ℕ → ℕ → ℕ → ℕ → List (List ℕ)
 place_words lib serial m object offset = decimal serial ∷ module_text lib m ∷ decimal object ∷ decimal offset ∷ []
 
--- the words of an entry behind its process, and the lines below it
+-- the words of an entry after its process, and the lines below it
 abbrev pub deed_words : Library → Deed → List (List ℕ)
 deed_words lib (deeds.Enter how m fresh calls) = how_text how ∷ module_text lib m ∷ []
 deed_words lib (deeds.Full how m of object size) = how_text how ∷ module_text lib m ∷ codes "full" ∷ module_text lib of ∷ decimal object ∷ decimal size ∷ []

@@ -25,7 +25,7 @@ use Rattle.session_model.specs.WorkedDeeds.{B_fails, failed_load, load_new, as_l
 
 -- ---- what may not follow
 
--- an entry of a process behind a history of D
+-- an entry of a process after a history of D
 abbrev wrong_in_D : List Entry → ℕ → Deed → Type 0
 wrong_in_D before pid deed = Legal D [] bytes_of_D (before ++ entry_of pid deed ∷ []) → ⊥
 

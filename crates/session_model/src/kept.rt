@@ -69,7 +69,7 @@ impl<T: LineKind> KeptLines<T> {
         }
     }
 
-    /// The lines, and behind them what a line says.
+    /// The lines, and after them what a line says.
     #[tactic(auto, using(crate::proofs::KeptText::lines_longer))]
     pub fn with_line(self, line: &[u8]) -> Result<KeptLines<T>, NoMemory>
         requires { IsOneLine line.now }

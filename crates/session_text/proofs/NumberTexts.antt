@@ -8,7 +8,8 @@ use Rattle.std.proofs.lemmas.Str.Parse.{IsNumeralModel, IsDigitsTest, FoldsDigit
 use Rattle.std.proofs.lemmas.Bool.{and_parts, and_from, le-ltb, lt-ltb, ne_eqb, cond-false, cond-true, or_from, and_right}
 use Rattle.lx_types.specs.Escaped.{hex_digit}
 use Rattle.session_model.specs.Lines.{is_digit, hex_value, decimal_value, digits_onto, is_hex, below, number_in, hex_bytes}
-use Rattle.session_model.specs.Statements.{MOST_BYTES, MOST_WORD, is_long, hex_in}
+use Rattle.session_model.specs.Statements.{is_long, hex_in}
+use Rattle.session_model.specs.declared.limits.TheConstants.{MAX_BYTES, MAX_WORD}
 use Rattle.session_model.specs.Text.{bytes_word}
 use Rattle.session_text.specs.Writable.{IsVisible, IsPlain, IsByte}
 
@@ -62,7 +63,7 @@ number-read n small =
     number-of (decimal n) n (decimal_nonempty n wide) (digits_decimal our-numerals n wide) (digits_value-decimal our-numerals n wide) small
 
 pub number-short : (n : ℕ) → n < 2 ^ 32 → is_long (decimal n) ≡ false
-number-short n small = let few = length-decimal-le 10 n (omega arith) (omega arith) (omega arith) in le-ltb MOST_WORD (length (decimal n)) (omega (arith, few))
+number-short n small = let few = length-decimal-le 10 n (omega arith) (omega arith) (omega arith) in le-ltb MAX_WORD (length (decimal n)) (omega (arith, few))
 
 digits-visible : (ds : List ℕ) → list_all is_digit ds ≡ true → AllByRecursion IsVisible ds
 digits-visible [] h = tt
@@ -79,7 +80,7 @@ pub ordinal-plain : (n : ℕ) → n < 2 ^ 32 → IsPlain (0x40 ∷ decimal n)
 ordinal-plain n small = record { some = omega arith; visible = ((omega arith, omega arith), (number-plain n small).visible) }
 
 pub ordinal-short : (n : ℕ) → n < 2 ^ 32 → is_long (0x40 ∷ decimal n) ≡ false
-ordinal-short n small = let few = length-decimal-le 10 n (omega arith) (omega arith) (omega arith) in le-ltb MOST_WORD (length (0x40 ∷ decimal n)) (omega (arith, few))
+ordinal-short n small = let few = length-decimal-le 10 n (omega arith) (omega arith) (omega arith) in le-ltb MAX_WORD (length (0x40 ∷ decimal n)) (omega (arith, few))
 
 -- ---- bytes
 
@@ -105,10 +106,10 @@ bytes-read (b ∷ bytes) h =
     ∙ ap (λ o. joined (Some (b / 16 % 16)) o (Some bytes)) (hex-digit_read (b % 16) low)
     ∙ ap (λ b. Some (b ∷ bytes)) whole
 
-pub hex-read : (bytes : List ℕ) → AllByRecursion IsByte bytes → 1 ≤ length bytes → length bytes ≤ MOST_BYTES → hex_in (bytes_word bytes) ≡ Some bytes
+pub hex-read : (bytes : List ℕ) → AllByRecursion IsByte bytes → 1 ≤ length bytes → length bytes ≤ MAX_BYTES → hex_in (bytes_word bytes) ≡ Some bytes
 hex-read bytes h some few =
-    ap (λ o. option_and_then (λ bs. cond ((length bs == 0) || nat_lt MOST_BYTES (length bs)) None (Some bs)) o) (bytes-read bytes h)
-    ∙ cond-false _ _ _ (or_from (length bytes == 0) (nat_lt MOST_BYTES (length bytes)) (ne_eqb (length bytes) 0 (λ z. omega (arith, some, z))) (le-ltb MOST_BYTES (length bytes) few))
+    ap (λ o. option_and_then (λ bs. cond ((length bs == 0) || nat_lt MAX_BYTES (length bs)) None (Some bs)) o) (bytes-read bytes h)
+    ∙ cond-false _ _ _ (or_from (length bytes == 0) (nat_lt MAX_BYTES (length bytes)) (ne_eqb (length bytes) 0 (λ z. omega (arith, some, z))) (le-ltb MAX_BYTES (length bytes) few))
 
 pub hex-plain : (bytes : List ℕ) → 1 ≤ length bytes → IsPlain (bytes_word bytes)
 hex-plain [] some = absurd (omega arith)

@@ -9,8 +9,8 @@ use Rattle.std.proofs.lemmas.Bool.{not_from_false, and_parts, and_from, ne_eqb, 
 use Rattle.session_model.specs.Lines.{is_blank, is_allowed, with_byte, lines_in, words_in}
 use Rattle.session_model.specs.Text.{words}
 use Rattle.session_model.proofs.KeptText.{uncut}
-use Rattle.session_lines.proofs.WordLaws.{word_len, words-first}
-use Rattle.session_lines.proofs.LineLaws.{line_end, line_byte}
+use Rattle.session_read.proofs.WordLaws.{word_len, words-first}
+use Rattle.session_read.proofs.LineLaws.{line_end, line_byte}
 use Rattle.session_text.specs.Writable.{IsVisible, IsPlain}
 
 visible-not_blank : (b : ℕ) → IsVisible b → is_blank b ≡ false

@@ -14,7 +14,8 @@ use Rattle.session_model.specs.declared.sessions.ModLine.TheVariants.{Take, Buil
 use Rattle.session_model.specs.declared.sessions.Session.{Session}
 use Rattle.session_model.specs.declared.sessions.SessionKind.TheVariants as kinds
 use Rattle.session_model.specs.Lines.{is_allowed, is_blank, onto_word, lines_in, words_in, number_in, hex_value, hex_bytes}
-use Rattle.session_model.specs.Statements.{Statement, gives, fails, process, command, Reading, nothing, says, wrong, or_wrong, MOST_BYTES, place_of, length_in, place_in, begins_with_at, key_in, process_in, word_in, hex_in, write_of, is_word, word_count, has_long, is_within, two_words, failing_of, three_words, four_words, five_words, statement_of, by_count, is_comment, of_words, reading_of}
+use Rattle.session_model.specs.Statements.{Statement, gives, fails, process, command, Reading, nothing, says, wrong, or_wrong, place_of, length_in, place_in, begins_with_at, key_in, process_in, word_in, hex_in, write_of, is_word, word_count, has_long, is_within, two_words, failing_of, three_words, four_words, five_words, statement_of, by_count, is_comment, of_words, reading_of}
+use Rattle.session_model.specs.declared.limits.TheConstants.{MAX_BYTES}
 use Rattle.session_model.specs.Sessions.{module_of, failing_in, commands_of, scripts_of, session_of, statement_in, statements_of, Ses}
 use Rattle.session_model.specs.Bounds.{IsSession}
 use Rattle.session_model.proofs.Readings.{said, said_is, not_wrong, not_nothing}
@@ -195,8 +196,8 @@ written-plain kind name object offset hex st plain h = step (number_in object) (
   where
     fit : (bytes : List ℕ) → hex_in hex ≡ Some bytes → AllByRecursion IsByte bytes
     fit bytes e =
-        let f = bind-some (λ bs. if (length bs == 0) || nat_lt MOST_BYTES (length bs) then None else Some bs) (hex_bytes hex) bytes e in
-        subst (λ bs. AllByRecursion IsByte bs) (unless-some ((length f.it == 0) || nat_lt MOST_BYTES (length f.it)) f.it bytes f.gives) (hex-bytes_fit hex f.it f.there)
+        let f = bind-some (λ bs. if (length bs == 0) || nat_lt MAX_BYTES (length bs) then None else Some bs) (hex_bytes hex) bytes e in
+        subst (λ bs. AllByRecursion IsByte bs) (unless-some ((length f.it == 0) || nat_lt MAX_BYTES (length f.it)) f.it bytes f.gives) (hex-bytes_fit hex f.it f.there)
 
     step : (o x : Option ℕ) (bs : Option (List ℕ)) → hex_in hex ≡ bs → write_of kind name o x bs ≡ says st → IsPlainStatement st
     step None x bs bs_is h = cc
@@ -213,13 +214,13 @@ five-plain w a b c d st p h = one (is_word w (codes "touch")) (is_word w (codes 
 
     one : (t k s g : Bool) →
         (if t then or_wrong kinds.Number (option_map (λ q. command (Touch q)) (place_in None a b c d))
-        else if k then or_wrong kinds.Number (option_map (λ q. command (Peek q)) (place_in (Some MOST_BYTES) a b c d))
-        else if s then or_wrong kinds.Number (option_map (λ q. command (Shared q)) (place_in (Some MOST_BYTES) a b c d))
+        else if k then or_wrong kinds.Number (option_map (λ q. command (Peek q)) (place_in (Some MAX_BYTES) a b c d))
+        else if s then or_wrong kinds.Number (option_map (λ q. command (Shared q)) (place_in (Some MAX_BYTES) a b c d))
         else if g then write_of Debug a (number_in b) (number_in c) (hex_in d)
         else write_of Write a (number_in b) (number_in c) (hex_in d)) ≡ says st → IsPlainStatement st
     one true k s g h = of-number (λ q. command (Touch q)) (place_in None a b c d) st (named None) h
-    one false true s g h = of-number (λ q. command (Peek q)) (place_in (Some MOST_BYTES) a b c d) st (named (Some MOST_BYTES)) h
-    one false false true g h = of-number (λ q. command (Shared q)) (place_in (Some MOST_BYTES) a b c d) st (named (Some MOST_BYTES)) h
+    one false true s g h = of-number (λ q. command (Peek q)) (place_in (Some MAX_BYTES) a b c d) st (named (Some MAX_BYTES)) h
+    one false false true g h = of-number (λ q. command (Shared q)) (place_in (Some MAX_BYTES) a b c d) st (named (Some MAX_BYTES)) h
     one false false false true h = written-plain Debug a b c d st (λ q bytes e fit. (subst IsPlain (sym e) p, fit)) h
     one false false false false h = written-plain Write a b c d st (λ q bytes e fit. (subst IsPlain (sym e) p, fit)) h
 

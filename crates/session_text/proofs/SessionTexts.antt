@@ -14,12 +14,14 @@ use Rattle.session_model.specs.declared.sessions.ModLine.{ModLine}
 use Rattle.session_model.specs.declared.sessions.Script.{Script}
 use Rattle.session_model.specs.declared.sessions.Session.{Session}
 use Rattle.session_model.specs.Lines.{lines_in}
-use Rattle.session_model.specs.Statements.{Statement, gives, fails, process, command, MOST_PROCESSES, reading_of}
-use Rattle.session_model.specs.Sessions.{module_of, failing_in, commands_of, scripts_of, session_of, statement_in, statements_of, number_or, count_or, last_number, commands_so_far, MOST_COMMANDS, rises, fault_among, fault_behind, line_fault, or_next, fault_from, SesFault, Ses}
+use Rattle.session_model.specs.Statements.{Statement, gives, fails, process, command, reading_of}
+use Rattle.lx_types.specs.declared.limits.TheConstants.{MAX_PROCESSES}
+use Rattle.session_model.specs.Sessions.{module_of, failing_in, commands_of, scripts_of, session_of, statement_in, statements_of, number_or, count_or, last_number, commands_so_far, rises, fault_among, fault_behind, line_fault, or_next, fault_from, SesFault, Ses}
+use Rattle.session_model.specs.declared.limits.TheConstants.{MAX_COMMANDS}
 use Rattle.session_model.specs.Bounds.{IsCommand, IsModLine, IsFailingLine, IsScript}
 use Rattle.session_model.specs.Text.{words, line_of}
-use Rattle.session_lines.proofs.DraftLaws.{numbers-more, counts-more, session-same}
-use Rattle.session_spelling.specs.Sessions.{module_line, failing_line, command_line, process_words, script_lines, session_bytes}
+use Rattle.session_read.proofs.DraftLaws.{numbers-more, counts-more, session-same}
+use Rattle.session_model.specs.Spelling.{module_line, failing_line, command_line, process_words, script_lines, session_bytes}
 use Rattle.session_text.specs.Writable.{IsPlainCommand, IsPlainModule, IsPlainFailing, IsPlainScript, IsWritable}
 use Rattle.session_text.proofs.PlainWords.{words-allowed, line-written}
 use Rattle.session_text.proofs.StatementTexts.{statement_words, IsSayable, statement-plain, statement-read}
@@ -76,11 +78,11 @@ commands-sayable : (cs : List Command) → AllByRecursion IsCommand cs → AllBy
 commands-sayable [] h p = tt
 commands-sayable (c ∷ cs) h p = ((h.0, p.0), commands-sayable cs h.1 p.1)
 
-rise-most : (low : ℕ) (ns : List ℕ) → Rise low ns MOST_PROCESSES → low ≤ MOST_PROCESSES
+rise-most : (low : ℕ) (ns : List ℕ) → Rise low ns MAX_PROCESSES → low ≤ MAX_PROCESSES
 rise-most low [] h = h
 rise-most low (n ∷ ns) h = (let more = rise-most n ns h.1 in omega (arith, h.0, more))
 
-scripts-sayable : (low : ℕ) (scs : List Script) → Rise low (map (λ s. s.pid) scs) MOST_PROCESSES → AllByRecursion IsScript scs → AllByRecursion IsPlainScript scs
+scripts-sayable : (low : ℕ) (scs : List Script) → Rise low (map (λ s. s.pid) scs) MAX_PROCESSES → AllByRecursion IsScript scs → AllByRecursion IsPlainScript scs
     → AllByRecursion IsSayable (scripts_said scs)
 scripts-sayable low [] rise h p = tt
 scripts-sayable low (s ∷ scs) rise h p =
@@ -110,7 +112,7 @@ statements-said (st ∷ sts) h =
 
 -- ---- none is wrong among the others
 
--- nothing is wrong with statements behind a script's number and so many commands
+-- nothing is wrong with statements after a script's number and so many commands
 Good : Option ℕ → ℕ → List Statement → Type 0
 Good last n [] = Unit {0}
 Good last n (st ∷ sts) = (fault_among last n st ≡ None) × Good (number_or last st) (count_or n st) sts
@@ -143,28 +145,28 @@ unfolding Good
 good-failing [] sts h = h
 good-failing (f ∷ fs) sts h = (refl, good-failing fs sts h)
 
-good-commands : (pid n : ℕ) (cs : List Command) (sts : List Statement) → n + length cs ≤ MOST_COMMANDS → ((n : ℕ) → Good (Some pid) n sts) → Good (Some pid) n (map command cs ++ sts)
+good-commands : (pid n : ℕ) (cs : List Command) (sts : List Statement) → n + length cs ≤ MAX_COMMANDS → ((n : ℕ) → Good (Some pid) n sts) → Good (Some pid) n (map command cs ++ sts)
 unfolding Good
 good-commands pid n [] sts few h = h n
 good-commands pid n (c ∷ cs) sts few h =
-    (cond-true (nat_lt n MOST_COMMANDS) _ _ (lt-ltb n MOST_COMMANDS (omega (arith, few))), good-commands pid (n + 1) cs sts (omega (arith, few)) h)
+    (cond-true (nat_lt n MAX_COMMANDS) _ _ (lt-ltb n MAX_COMMANDS (omega (arith, few))), good-commands pid (n + 1) cs sts (omega (arith, few)) h)
 
 -- the last number is this one, or none where it is 0
 abbrev IsLast : Option ℕ → ℕ → Type 0
 IsLast None low = low ≡ 0
 IsLast (Some last) low = last ≡ low
 
-rises-so : (last : Option ℕ) (low n : ℕ) → IsLast last low → low < n → n ≤ MOST_PROCESSES → rises last n ≡ true
+rises-so : (last : Option ℕ) (low n : ℕ) → IsLast last low → low < n → n ≤ MAX_PROCESSES → rises last n ≡ true
 rises-so None low n is above most = both n (omega (arith, is, above)) most
   where
-    both : (n : ℕ) → 1 ≤ n → n ≤ MOST_PROCESSES → nat_le 1 n && nat_le n MOST_PROCESSES ≡ true
+    both : (n : ℕ) → 1 ≤ n → n ≤ MAX_PROCESSES → nat_le 1 n && nat_le n MAX_PROCESSES ≡ true
     both n some few = grind (arith, nat_tests)
 rises-so (Some last) low n is above most = both last n (omega (arith, is, above)) most
   where
-    both : (last n : ℕ) → last < n → n ≤ MOST_PROCESSES → nat_lt last n && nat_le n MOST_PROCESSES ≡ true
+    both : (last n : ℕ) → last < n → n ≤ MAX_PROCESSES → nat_lt last n && nat_le n MAX_PROCESSES ≡ true
     both last n some few = grind (arith, nat_tests)
 
-good-scripts : (last : Option ℕ) (low n : ℕ) (scs : List Script) → IsLast last low → Rise low (map (λ s. s.pid) scs) MOST_PROCESSES → AllByRecursion IsScript scs
+good-scripts : (last : Option ℕ) (low n : ℕ) (scs : List Script) → IsLast last low → Rise low (map (λ s. s.pid) scs) MAX_PROCESSES → AllByRecursion IsScript scs
     → Good last n (scripts_said scs)
 unfolding Good
 good-scripts last low n [] is rise h = tt

@@ -1,9 +1,5 @@
--- Words with one blank between each two, and words each behind a blank.
-use Rattle.std.proofs.Common.{◌≡◌, ℕ, ◌-◌, ◌≤◌, List, [], ◌∷◌, ◌++◌, length, map, take, drop, get_or, arith, refl, sym, ap, ◌∙◌, append_assoc, append-nil}
-use Rattle.std.proofs.lemmas.List.Concat.{flat_map-append}
-use Rattle.std.proofs.lemmas.List.{take_rest}
-use Rattle.session_text.specs.declared.words.Word.{Word}
-use Rattle.session_text.specs.Words.{word_text}
+-- The words of steady lines and of entries.
+use Rattle.std.proofs.Common.{◌≡◌, ℕ, List, [], ◌∷◌, ◌++◌, refl, sym, ap, ◌∙◌, append_assoc}
 use Rattle.load_model.specs.declared.commands.Command.{Command}
 use Rattle.load_model.specs.declared.commands.Command.TheVariants as commands
 use Rattle.std.specs.Prelude.{codes, decimal}
@@ -14,36 +10,8 @@ use Rattle.session_model.specs.declared.sessions.ScriptLines.{ScriptLines}
 use Rattle.session_model.specs.Merging.{numbers_of}
 use Rattle.session_model.specs.Transcript.{command_words, reply_words, line_text, process_text, deed_words, deed_lines, entry_text}
 use Rattle.session_model.specs.Text.{words, line_of, inner_line}
-use Rattle.session_text.specs.Spaced.{behind_blank, spaced}
-
--- those behind the first stand behind blanks
-pub words-spaced : (w : List ℕ) (ws : List (List ℕ)) → words (w ∷ ws) ≡ w ++ spaced ws
-words-spaced w [] = sym (append-nil w)
-words-spaced w (v ∷ ws) = ap (λ bytes. w ++ 0x20 ∷ bytes) (words-spaced v ws)
-
-pub spaced-words : (w : List ℕ) (ws : List (List ℕ)) → spaced (w ∷ ws) ≡ 0x20 ∷ words (w ∷ ws)
-spaced-words w ws = ap (λ bytes. 0x20 ∷ bytes) (sym (words-spaced w ws))
-
--- words behind others
-pub words-behind : (w : List ℕ) (ws vs : List (List ℕ)) → words (w ∷ ws ++ vs) ≡ words (w ∷ ws) ++ spaced vs
-words-behind w ws vs =
-    words-spaced w (ws ++ vs) ∙ ap (λ bytes. w ++ bytes) (flat_map-append behind_blank ws vs)
-    ∙ sym (append_assoc w (spaced ws) (spaced vs)) ∙ ap (λ bytes. bytes ++ spaced vs) (sym (words-spaced w ws))
-
-pub joined-parts : (all : List Word) (d : Word) → 1 ≤ length all
-    → words (map word_text all) ≡ word_text (get_or all 0 d) ++ spaced (map word_text (take (length all - 1) (drop 1 all)))
-joined-parts [] d some = absurd (omega arith)
-joined-parts (w ∷ ws) d some =
-    words-spaced (word_text w) (map word_text ws)
-    ∙ ap (λ others. word_text w ++ spaced (map word_text others)) (sym (take_rest (w ∷ ws) 1))
-
--- the first of some words, and the others behind it
-pub joined-pushed : (out mid new : List ℕ) (all : List Word) (d : Word) → 1 ≤ length all → mid ≡ out ++ word_text (get_or all 0 d)
-    → new ≡ mid ++ spaced (map word_text (take (length all - 1) (drop 1 all))) → new ≡ out ++ words (map word_text all)
-joined-pushed out mid new all d some first others =
-    let rest : List ℕ = spaced (map word_text (take (length all - 1) (drop 1 all))) in
-    others ∙ ap (λ bytes. bytes ++ rest) first ∙ append_assoc out (word_text (get_or all 0 d)) rest
-    ∙ ap (λ bytes. out ++ bytes) (sym (joined-parts all d some))
+use Rattle.line_words.specs.Words.{spaced}
+use Rattle.line_words.proofs.SpacedLaws.{words-behind, tail-pushed}
 
 -- ---- steady lines
 
@@ -66,7 +34,7 @@ command-begins (commands.Query name key) = record { verb = _; args = _; is = ref
 command-begins (commands.GetRes name ty id) = record { verb = _; args = _; is = refl }
 command-begins commands.Exit = record { verb = _; args = _; is = refl }
 
--- what stands behind two words
+-- what stands after two words
 two-behind : (a b : List ℕ) (ws : List (List ℕ)) → Begins ws → words (a ∷ b ∷ ws) ≡ words (a ∷ b ∷ []) ++ 0x20 ∷ words ws
 two-behind a b ws h =
     ap (λ ws. words (a ∷ b ∷ ws)) h.is ∙ sym (append_assoc a (0x20 ∷ b) (0x20 ∷ words (h.verb ∷ h.args)))
@@ -90,14 +58,6 @@ steady-pushed out a b c d e f l ha hb hc hd he hf =
     regroup out x y z a b c d e f ha hb hc hd he hf = rw (hf, he, hd, hc, hb, ha) (simp append_assoc)
 
 -- ---- lines that end with a list
-
-pub tail-pushed : (out b c d : List ℕ) (w : List ℕ) (ws vs : List (List ℕ)) → b ≡ out ++ words (w ∷ ws) → c ≡ b ++ spaced vs → d ≡ c ++ 0x0A ∷ []
-    → d ≡ out ++ line_of (w ∷ ws ++ vs)
-tail-pushed out b c d w ws vs hb hc hd =
-    regroup out (words (w ∷ ws)) (spaced vs) b c d hb hc hd ∙ ap (λ bytes. out ++ (bytes ++ 0x0A ∷ [])) (sym (words-behind w ws vs))
-  where
-    regroup : (out x y b c d : List ℕ) → b ≡ out ++ x → c ≡ b ++ y → d ≡ c ++ 0x0A ∷ [] → d ≡ out ++ ((x ++ y) ++ 0x0A ∷ [])
-    regroup out x y b c d hb hc hd = rw (hd, hc, hb) (simp append_assoc)
 
 pub inner-pushed : (out a b c d : List ℕ) (w : List ℕ) (ws vs : List (List ℕ)) → a ≡ out ++ 0x20 ∷ 0x20 ∷ [] → b ≡ a ++ words (w ∷ ws) → c ≡ b ++ spaced vs
     → d ≡ c ++ 0x0A ∷ [] → d ≡ out ++ inner_line (w ∷ ws ++ vs)

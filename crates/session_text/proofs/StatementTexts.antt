@@ -13,12 +13,14 @@ use Rattle.load_model.specs.declared.commands.Command.TheVariants.{Start, Load, 
 use Rattle.session_model.specs.declared.sessions.ModLine.TheVariants.{Take, Build}
 use Rattle.session_model.specs.declared.sessions.SessionKind.TheVariants as kinds
 use Rattle.session_model.specs.Lines.{number_in}
-use Rattle.session_model.specs.Statements.{Statement, gives, fails, process, command, says, or_wrong, MOST_BYTES, MOST_WORD, MOST_PROCESSES, place_of, length_in, place_in, begins_with_at, key_in, process_in, word_in, hex_in, write_of, word_count, is_long, failing_of, by_count, of_words, reading_of}
+use Rattle.session_model.specs.Statements.{Statement, gives, fails, process, command, says, or_wrong, place_of, length_in, place_in, begins_with_at, key_in, process_in, word_in, hex_in, write_of, word_count, is_long, failing_of, by_count, of_words, reading_of}
+use Rattle.session_model.specs.declared.limits.TheConstants.{MAX_BYTES, MAX_WORD}
+use Rattle.lx_types.specs.declared.limits.TheConstants.{MAX_PROCESSES}
 use Rattle.session_model.specs.Bounds.{IsWord, IsPlace, IsReadable, IsWritten, IsKey, IsCommand, IsModLine, IsFailingLine}
 use Rattle.session_model.specs.Text.{words, bytes_word}
 use Rattle.session_model.specs.Transcript.{key_text, command_words}
-use Rattle.session_lines.proofs.ArgumentLaws.{counted, three-short}
-use Rattle.session_spelling.specs.Sessions.{module_words, failing_words, process_words}
+use Rattle.session_read.proofs.ArgumentLaws.{counted, three-short}
+use Rattle.session_model.specs.Spelling.{module_words, failing_words, process_words}
 use Rattle.session_text.specs.Writable.{IsVisible, IsPlain, HasPlainKey, IsByte, IsPlainCommand, IsPlainModule, IsPlainFailing}
 use Rattle.session_text.proofs.PlainWords.{words-read, words-allowed}
 use Rattle.session_text.proofs.NumberTexts.{number-read, number-short, number-plain, ordinal-plain, ordinal-short, hex-read, hex-plain}
@@ -87,7 +89,7 @@ statement-plain (command c) h = command-plain c h.0 h.1
 -- ---- what they say
 
 short : (w : List ℕ) → IsWord w → is_long w ≡ false
-short w h = le-ltb MOST_WORD (length w) h
+short w h = le-ltb MAX_WORD (length w) h
 
 one-short : (a : List ℕ) → is_long a ≡ false → list_any is_long (a ∷ []) ≡ false
 one-short a h = or_from (is_long a) false h refl
@@ -105,10 +107,10 @@ length-any : (n : ℕ) → n < 2 ^ 32 → 1 ≤ n → length_in None (decimal n)
 length-any n small some =
     ap (λ o. option_and_then (λ n. cond (n == 0) None (Some n)) o) (number-read n small) ∙ cond-false (n == 0) _ _ (ne_eqb n 0 (λ z. omega (arith, some, z)))
 
-length-few : (n : ℕ) → n < 2 ^ 32 → 1 ≤ n → n ≤ MOST_BYTES → length_in (Some MOST_BYTES) (decimal n) ≡ Some n
+length-few : (n : ℕ) → n < 2 ^ 32 → 1 ≤ n → n ≤ MAX_BYTES → length_in (Some MAX_BYTES) (decimal n) ≡ Some n
 length-few n small some few =
-    ap (λ o. option_and_then (λ n. cond ((n == 0) || nat_lt MOST_BYTES n) None (Some n)) o) (number-read n small)
-    ∙ cond-false _ _ _ (or_from (n == 0) (nat_lt MOST_BYTES n) (ne_eqb n 0 (λ z. omega (arith, some, z))) (le-ltb MOST_BYTES n few))
+    ap (λ o. option_and_then (λ n. cond ((n == 0) || nat_lt MAX_BYTES n) None (Some n)) o) (number-read n small)
+    ∙ cond-false _ _ _ (or_from (n == 0) (nat_lt MAX_BYTES n) (ne_eqb n 0 (λ z. omega (arith, some, z))) (le-ltb MAX_BYTES n few))
 
 place-said : (most : Option ℕ) (p : Place) → IsPlace p → length_in most (decimal p.len) ≡ Some p.len
     → place_in most p.«module» (decimal p.object) (decimal p.offset) (decimal p.len) ≡ Some p
@@ -120,14 +122,14 @@ place-said most p h len =
 any-said : (p : Place) → IsPlace p → place_in None p.«module» (decimal p.object) (decimal p.offset) (decimal p.len) ≡ Some p
 any-said p h = place-said None p h (length-any p.len h.length h.some)
 
-few-said : (p : Place) → IsReadable p → place_in (Some MOST_BYTES) p.«module» (decimal p.object) (decimal p.offset) (decimal p.len) ≡ Some p
-few-said p h = place-said (Some MOST_BYTES) p h.place (length-few p.len h.place.length h.place.some h.few)
+few-said : (p : Place) → IsReadable p → place_in (Some MAX_BYTES) p.«module» (decimal p.object) (decimal p.offset) (decimal p.len) ≡ Some p
+few-said p h = place-said (Some MAX_BYTES) p h.place (length-few p.len h.place.length h.place.some h.few)
 
 write-said : (kind : Place → List ℕ → Command) (p : Place) (bs : List ℕ) → IsWritten p bs → AllByRecursion IsByte bs
     → write_of kind p.«module» (number_in (decimal p.object)) (number_in (decimal p.offset)) (hex_in (bytes_word bs)) ≡ says (command (kind p bs))
 write-said kind p bs h all =
     let some : 1 ≤ length bs = omega (arith, h.fit, h.place.place.some) in
-    let few : length bs ≤ MOST_BYTES = omega (arith, h.fit, h.place.few) in
+    let few : length bs ≤ MAX_BYTES = omega (arith, h.fit, h.place.few) in
     ap (λ o. write_of kind p.«module» o (number_in (decimal p.offset)) (hex_in (bytes_word bs))) (number-read p.object h.place.place.object)
     ∙ ap (λ o. write_of kind p.«module» (Some p.object) o (hex_in (bytes_word bs))) (number-read p.offset h.place.place.offset)
     ∙ ap (λ o. write_of kind p.«module» (Some p.object) (Some p.offset) o) (hex-read bs all some few)
@@ -153,12 +155,12 @@ getres-said name ty id s h k =
     ∙ ap (λ o. or_wrong kinds.Number (option_and_then (λ ty. option_map (λ id. command (GetRes name ty id)) (word_in (decimal id))) o)) (word-said ty h)
     ∙ ap (λ o. or_wrong kinds.Number (option_map (λ id. command (GetRes name ty id)) o)) (word-said id k)
 
-process-said : (n : ℕ) → 1 ≤ n → n ≤ MOST_PROCESSES → process_in (decimal n) ≡ Some n
+process-said : (n : ℕ) → 1 ≤ n → n ≤ MAX_PROCESSES → process_in (decimal n) ≡ Some n
 process-said n some few =
-    ap (λ o. option_and_then (λ n. cond (nat_le 1 n && nat_le n MOST_PROCESSES) (Some n) None) o) (number-read n (omega (arith, few)))
+    ap (λ o. option_and_then (λ n. cond (nat_le 1 n && nat_le n MAX_PROCESSES) (Some n) None) o) (number-read n (omega (arith, few)))
     ∙ cond-true _ _ _ (both n some few)
   where
-    both : (n : ℕ) → 1 ≤ n → n ≤ MOST_PROCESSES → nat_le 1 n && nat_le n MOST_PROCESSES ≡ true
+    both : (n : ℕ) → 1 ≤ n → n ≤ MAX_PROCESSES → nat_le 1 n && nat_le n MAX_PROCESSES ≡ true
     both n some few = grind (arith, nat_tests)
 
 all-short : (ws : List (List ℕ)) → AllByRecursion IsWord ws → list_any is_long ws ≡ false

@@ -1,10 +1,10 @@
--- The words of a deed that has bytes, each behind a blank.
+-- The words of a deed that has bytes, each after a blank.
 use Rattle.std.specs.Prelude.{ℕ, List, []}
 use Rattle.load_model.specs.declared.deeds.Deed.{Deed}
 use Rattle.load_model.specs.declared.deeds.Deed.TheVariants as deeds
 use Rattle.load_model.specs.Modules.{Library}
 use Rattle.session_model.specs.Transcript.{deed_words}
-use Rattle.session_text.specs.Spaced.{spaced}
+use Rattle.line_words.specs.Words.{spaced}
 
 -- nothing, where it has none
 abbrev pub bytes_deed_text : Library → Deed → List ℕ

@@ -1,4 +1,2 @@
-pub mod Spaced
-pub mod Words
 pub mod Deeds
 pub mod Writable

@@ -13,7 +13,7 @@ use Rattle.session_model.specs.declared.sessions.Session.{Session}
 use Rattle.session_model.specs.Bounds.{IsSession}
 use Rattle.session_model.specs.Statements.{begins_with_at}
 use Rattle.session_model.specs.Sessions.{Ses}
-use Rattle.session_spelling.specs.Sessions.{session_bytes}
+use Rattle.session_model.specs.Spelling.{session_bytes}
 
 -- from `!` to `~`
 abbrev pub IsVisible : ℕ → Type 0

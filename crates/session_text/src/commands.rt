@@ -3,9 +3,9 @@
 ghost use Rattle.std.specs.Prelude.{◌≡◌, ◌++◌, ◌∷◌, [], codes, decimal, OnOk};
 ghost use Rattle.session_model.specs.Text.{words};
 ghost use Rattle.session_model.specs.Transcript.{span_words, written_words, key_text, command_words};
-ghost use Rattle.session_text.specs.Words.{word_text};
+ghost use Rattle.line_words.specs.Words.{word_text};
 
-use crate::words::{Word, push_joined};
+use line_words::{Word, push_joined};
 use load_model::{Command, Place};
 use lx_types::{EntryKey, Name};
 use std::alloc::AllocError;
@@ -29,9 +29,9 @@ fn push_span<'a>(out: &mut Vec<u8>, verb: &'a [u8], place: &'a Place) -> Result<
     ensures { OnOk result (out.new.items ≡ out.old.items ++ words (verb.now ∷ span_words place.now)) }
 {
     let name = Word::Text(place.module.bytes());
-    let object = Word::Number(u64::from(place.object));
-    let offset = Word::Number(u64::from(place.offset));
-    let len = Word::Number(u64::from(place.len));
+    let object = Word::Count(u64::from(place.object));
+    let offset = Word::Count(u64::from(place.offset));
+    let len = Word::Count(u64::from(place.len));
     push_joined(out, &[Word::Text(verb), name, object, offset, len])
 }
 
@@ -44,8 +44,8 @@ fn push_written<'a>(
     ensures { OnOk result (out.new.items ≡ out.old.items ++ words (verb.now ∷ written_words place.now bytes.now)) }
 {
     let name = Word::Text(place.module.bytes());
-    let object = Word::Number(u64::from(place.object));
-    let offset = Word::Number(u64::from(place.offset));
+    let object = Word::Count(u64::from(place.object));
+    let offset = Word::Count(u64::from(place.offset));
     push_joined(
         out,
         &[Word::Text(verb), name, object, offset, Word::Bytes(bytes)],
@@ -62,8 +62,8 @@ fn push_query<'a>(out: &mut Vec<u8>, name: &'a Name, key: &'a EntryKey) -> Resul
 fn push_getres(out: &mut Vec<u8>, name: &Name, ty: u16, id: u16) -> Result<(), AllocError>
     ensures { OnOk result (out.new.items ≡ out.old.items ++ words (codes "getres" ∷ name.now ∷ decimal ty ∷ decimal id ∷ [])) }
 {
-    let ty = Word::Number(u64::from(ty));
-    let id = Word::Number(u64::from(id));
+    let ty = Word::Count(u64::from(ty));
+    let id = Word::Count(u64::from(id));
     push_joined(
         out,
         &[Word::Text(b"getres"), Word::Text(name.bytes()), ty, id],

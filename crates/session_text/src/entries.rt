@@ -6,11 +6,10 @@ ghost use Rattle.session_model.specs.Merging.{numbers_of};
 ghost use Rattle.lx_types.specs.Escaped.{hex_address};
 ghost use Rattle.session_model.specs.Text.{bytes_words};
 ghost use Rattle.session_model.specs.Transcript.{module_text, how_text, kind_text, new_line, call_line, gone_line, place_words, deed_words, deed_lines, process_text, entry_text};
+ghost use Rattle.line_words.specs.Words.{spaced, word_text};
 ghost use Rattle.session_text.specs.Deeds.{bytes_deed_text};
-ghost use Rattle.session_text.specs.Spaced.{spaced};
-ghost use Rattle.session_text.specs.Words.{word_text};
 
-use crate::words::{Word, push_bytes, push_inner, push_joined, push_spaced};
+use line_words::{Word, push_bytes, push_inner, push_joined, push_spaced};
 use load_model::{Call, CallKind, Deed, Entry, Fresh, Gone, How};
 use lx_types::PageId;
 use mod_graph::Library;
@@ -22,9 +21,9 @@ fn module_word(lib: &Library, module: u32) -> Word<'_>
     ensures { word_text result ≡ module_text lib.now «module» }
 {
     if module < lib.len() {
-        Word::Name(lib.module(module).name().bytes())
+        Word::Module(lib.module(module).name().bytes())
     } else {
-        Word::Name(&[])
+        Word::Module(&[])
     }
 }
 
@@ -51,7 +50,7 @@ fn push_addresses(out: &mut Vec<u8>, addresses: &[u32]) -> Result<(), AllocError
     ensures { OnOk result (out.new.items ≡ out.old.items ++ spaced (map hex_address addresses.now)) }
 {
     for address in addresses {
-        push_spaced(out, &[Word::Address(*address)])?;
+        push_spaced(out, &[Word::Hex(*address)])?;
     }
     Ok(())
 }
@@ -63,7 +62,7 @@ fn push_new(out: &mut Vec<u8>, lib: &Library, fresh: &Fresh) -> Result<(), Alloc
     out.extend_from_slice(b"  ")?;
     push_joined(
         out,
-        &[Word::Text(b"new"), Word::Number(fresh.serial), module],
+        &[Word::Text(b"new"), Word::Count(fresh.serial), module],
     )?;
     push_addresses(out, fresh.bases.as_slice())?;
     out.push(b'\n')?;
@@ -74,9 +73,9 @@ fn push_call(out: &mut Vec<u8>, lib: &Library, call: Call) -> Result<(), AllocEr
     ensures { OnOk result (out.new.items ≡ out.old.items ++ call_line lib.now call) }
 {
     let kind = kind_word(call.kind);
-    let serial = Word::Number(call.serial);
+    let serial = Word::Count(call.serial);
     let module = module_word(lib, call.module);
-    let address = Word::Address(call.address);
+    let address = Word::Hex(call.address);
     push_inner(out, &[Word::Text(b"call"), kind, serial, module, address])
 }
 
@@ -86,7 +85,7 @@ fn push_gone(out: &mut Vec<u8>, lib: &Library, gone: Gone) -> Result<(), AllocEr
     let module = module_word(lib, gone.module);
     push_inner(
         out,
-        &[Word::Text(b"gone"), Word::Number(gone.serial), module],
+        &[Word::Text(b"gone"), Word::Count(gone.serial), module],
     )
 }
 
@@ -149,10 +148,10 @@ fn push_bytes_at<'a>(
     ensures { OnOk result (out.new.items ≡ out.old.items
         ++ spaced (verb.now ∷ place_words lib.now spot.serial spot.«module» spot.object spot.offset ++ codes "=" ∷ bytes_words bytes.now)) }
 {
-    let serial = Word::Number(spot.serial);
+    let serial = Word::Count(spot.serial);
     let module = module_word(lib, spot.module);
-    let object = Word::Number(u64::from(spot.object));
-    let offset = Word::Number(u64::from(spot.offset));
+    let object = Word::Count(u64::from(spot.object));
+    let offset = Word::Count(u64::from(spot.offset));
     push_spaced(
         out,
         &[
@@ -183,10 +182,10 @@ fn push_fault(
     ensures { OnOk result (out.new.items
         ≡ out.old.items ++ spaced (codes "fault" ∷ place_words lib.now serial «module» page.object page.page)) }
 {
-    let serial = Word::Number(serial);
+    let serial = Word::Count(serial);
     let module = module_word(lib, module);
-    let object = Word::Number(u64::from(page.object));
-    let page = Word::Number(u64::from(page.page));
+    let object = Word::Count(u64::from(page.object));
+    let page = Word::Count(u64::from(page.page));
     push_spaced(out, &[Word::Text(b"fault"), serial, module, object, page])
 }
 
@@ -229,7 +228,7 @@ fn push_bytes_deed(out: &mut Vec<u8>, lib: &Library, deed: &Deed) -> Result<(), 
     }
 }
 
-// The words of an entry behind its process.
+// The words of an entry after its process.
 fn push_deed_words(out: &mut Vec<u8>, lib: &Library, deed: &Deed) -> Result<(), AllocError>
     ensures { OnOk result (out.new.items ≡ out.old.items ++ spaced (deed_words lib.now deed.now)) }
 {
@@ -244,8 +243,8 @@ fn push_deed_words(out: &mut Vec<u8>, lib: &Library, deed: &Deed) -> Result<(), 
         } => {
             push_entering(out, lib, *how, *module)?;
             let of = module_word(lib, *of);
-            let object = Word::Number(u64::from(*object));
-            let size = Word::Number(u64::from(*size));
+            let object = Word::Count(u64::from(*object));
+            let size = Word::Count(u64::from(*size));
             push_spaced(out, &[Word::Text(b"full"), of, object, size])
         }
         Deed::Failed {
@@ -328,7 +327,7 @@ pub(crate) fn push_entry(
         ≡ out.old.items ++ entry_text lib.now (numbers_of steady.now) (number, entry.now)) }
 {
     let pid = script_number(steady, entry.pid);
-    push_joined(out, &[Word::Number(number), Word::Process(pid)])?;
+    push_joined(out, &[Word::Count(number), Word::Process(pid)])?;
     push_deed_words(out, lib, &entry.deed)?;
     out.push(b'\n')?;
     push_deed_lines(out, lib, &entry.deed)

@@ -7,9 +7,8 @@ mod laws;
 mod lines;
 mod printing;
 mod sessions;
-mod words;
 
 pub use laws::{sessions_are_writable, written_is_read};
 pub use printing::{Text, print};
-pub use session_lines::read_session;
+pub use session_read::read_session;
 pub use sessions::write_session;

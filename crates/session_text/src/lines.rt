@@ -5,10 +5,10 @@ ghost use Rattle.std.specs.List.{flat_map};
 ghost use Rattle.load_model.specs.declared.commands.Refusal.TheVariants.{ArenaFull, InitFailed};
 ghost use Rattle.load_model.specs.declared.commands.Reply.TheVariants.{Spot};
 ghost use Rattle.session_model.specs.Transcript.{refusal_words, reply_words, line_text, script_text};
-ghost use Rattle.session_text.specs.Spaced.{spaced};
+ghost use Rattle.line_words.specs.Words.{spaced};
 
 use crate::commands::push_command;
-use crate::words::{Word, push_bytes, push_joined, push_line, push_spaced};
+use line_words::{Word, push_bytes, push_joined, push_line, push_spaced};
 use load_model::{Refusal, Reply};
 use lx_types::ResSpot;
 use session_model::{Line, ScriptLines};
@@ -23,14 +23,14 @@ fn push_arena_full(
 ) -> Result<(), AllocError>
     ensures { OnOk result (out.new.items ≡ out.old.items ++ spaced (refusal_words (ArenaFull number of object size))) }
 {
-    let of = Word::Number(u64::from(of));
-    let object = Word::Number(u64::from(object));
-    let size = Word::Number(u64::from(size));
+    let of = Word::Count(u64::from(of));
+    let object = Word::Count(u64::from(object));
+    let size = Word::Count(u64::from(size));
     push_spaced(
         out,
         &[
             Word::Text(b"ArenaFull"),
-            Word::Number(number),
+            Word::Count(number),
             of,
             object,
             size,
@@ -41,8 +41,8 @@ fn push_arena_full(
 fn push_init_failed(out: &mut Vec<u8>, number: u64, by: u32) -> Result<(), AllocError>
     ensures { OnOk result (out.new.items ≡ out.old.items ++ spaced (refusal_words (InitFailed number by))) }
 {
-    let by = Word::Number(u64::from(by));
-    push_spaced(out, &[Word::Text(b"InitFailed"), Word::Number(number), by])
+    let by = Word::Count(u64::from(by));
+    push_spaced(out, &[Word::Text(b"InitFailed"), Word::Count(number), by])
 }
 
 fn push_text(out: &mut Vec<u8>, text: &[u8]) -> Result<(), AllocError>
@@ -82,7 +82,7 @@ fn push_refusal(out: &mut Vec<u8>, refusal: Refusal) -> Result<(), AllocError>
         Refusal::NotCode => push_text(out, b"NotCode"),
         Refusal::Invalid => push_text(out, b"Invalid"),
         Refusal::NotTouched { page } => {
-            let page = Word::Number(u64::from(page));
+            let page = Word::Count(u64::from(page));
             push_spaced(out, &[Word::Text(b"NotTouched"), page])
         }
         Refusal::NoResource => push_text(out, b"NoResource"),
@@ -92,9 +92,9 @@ fn push_refusal(out: &mut Vec<u8>, refusal: Refusal) -> Result<(), AllocError>
 fn push_spot(out: &mut Vec<u8>, spot: ResSpot) -> Result<(), AllocError>
     ensures { OnOk result (out.new.items ≡ out.old.items ++ spaced (reply_words (Spot spot))) }
 {
-    let object = Word::Number(u64::from(spot.object));
-    let offset = Word::Number(u64::from(spot.offset));
-    let len = Word::Number(u64::from(spot.len));
+    let object = Word::Count(u64::from(spot.object));
+    let offset = Word::Count(u64::from(spot.offset));
+    let len = Word::Count(u64::from(spot.len));
     push_spaced(out, &[Word::Text(b"="), object, offset, len])
 }
 
@@ -108,9 +108,7 @@ fn push_reply(out: &mut Vec<u8>, reply: &Reply) -> Result<(), AllocError>
             push_text(out, b"=")?;
             push_bytes(out, bytes.as_slice())
         }
-        Reply::Address(address) => {
-            push_spaced(out, &[Word::Text(b"="), Word::Address(*address)])
-        }
+        Reply::Address(address) => { push_spaced(out, &[Word::Text(b"="), Word::Hex(*address)]) }
         Reply::Spot(spot) => push_spot(out, *spot),
         Reply::Refused(refusal) => {
             push_text(out, b"refused")?;
@@ -123,7 +121,7 @@ fn push_steady(out: &mut Vec<u8>, line: &Line) -> Result<(), AllocError>
     ensures { OnOk result (out.new.items ≡ out.old.items ++ line_text line.now) }
 {
     out.extend_from_slice(b"  ")?;
-    push_joined(out, &[Word::Text(b"at"), Word::Number(line.front)])?;
+    push_joined(out, &[Word::Text(b"at"), Word::Count(line.front)])?;
     out.push(b' ')?;
     push_command(out, &line.command)?;
     push_reply(out, &line.reply)?;
@@ -143,7 +141,7 @@ fn push_steadies(out: &mut Vec<u8>, lines: &[Line]) -> Result<(), AllocError>
 fn push_script(out: &mut Vec<u8>, script: &ScriptLines) -> Result<(), AllocError>
     ensures { OnOk result (out.new.items ≡ out.old.items ++ script_text script.now) }
 {
-    let pid = Word::Number(u64::from(script.pid));
+    let pid = Word::Count(u64::from(script.pid));
     push_line(out, &[Word::Text(b"process"), pid])?;
     push_steadies(out, script.lines.as_slice())
 }

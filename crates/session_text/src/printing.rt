@@ -8,7 +8,7 @@ ghost use Rattle.session_model.specs.Transcript.{entry_text, summary_words, Tran
 
 use crate::entries::push_entry;
 use crate::lines::push_scripts;
-use crate::words::{Word, push_line};
+use line_words::{Word, push_line};
 use load_model::{Deed, Entry};
 use lx_types::{NoMemory, Seq};
 use mod_graph::Library;
@@ -61,15 +61,15 @@ fn push_summary(
 ) -> Result<(), AllocError>
     ensures { OnOk result (out.new.items ≡ out.old.items ++ line_of (summary_words history.now steady.now)) }
 {
-    let faults = Word::Number(fault_count(history) as u64);
+    let faults = Word::Count(fault_count(history) as u64);
     push_line(
         out,
         &[
             Word::Text(b"summary"),
             Word::Text(b"processes"),
-            Word::Number(steady.len() as u64),
+            Word::Count(steady.len() as u64),
             Word::Text(b"entries"),
-            Word::Number(history.len() as u64),
+            Word::Count(history.len() as u64),
             Word::Text(b"faults"),
             faults,
         ],

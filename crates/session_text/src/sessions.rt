@@ -3,16 +3,16 @@
 ghost use Rattle.std.specs.Prelude.{◌≡◌, ◌++◌, OnOk, IfOk};
 ghost use Rattle.std.specs.List.{flat_map};
 ghost use Rattle.session_model.specs.Sessions.{Ses};
-ghost use Rattle.session_text.specs.Spaced.{spaced};
-ghost use Rattle.session_spelling.specs.Sessions.{module_line, failing_line, command_line, script_lines, session_bytes};
+ghost use Rattle.line_words.specs.Words.{spaced};
+ghost use Rattle.session_model.specs.Spelling.{module_line, failing_line, command_line, script_lines, session_bytes};
 ghost use Rattle.session_text.specs.Writable.{IsWritable};
 
 use crate::commands::push_command;
-use crate::words::{Word, push_joined, push_line, push_spaced};
+use line_words::{Word, push_joined, push_line, push_spaced};
 use load_model::Command;
 use lx_types::{Bytes, NoMemory, Seq};
-use session_lines::{first_kept, first_word};
 use session_model::{FailingLine, FailingLines, ModLine, ModLines, Script, Session, Words};
+use session_read::{first_kept, first_word};
 use std::alloc::{AllocError, Global};
 
 fn push_names(out: &mut Vec<u8>, names: &Words) -> Result<(), AllocError>
@@ -58,7 +58,7 @@ fn push_modules(alloc: Global, out: &mut Vec<u8>, modules: &ModLines) -> Result<
 fn push_failure(out: &mut Vec<u8>, line: &FailingLine) -> Result<(), AllocError>
     ensures { OnOk result (out.new.items ≡ out.old.items ++ failing_line line.now) }
 {
-    let pid = Word::Number(u64::from(line.pid));
+    let pid = Word::Count(u64::from(line.pid));
     let module = Word::Text(line.module.bytes());
     push_line(out, &[Word::Text(b"failing"), module, pid])
 }
@@ -88,7 +88,7 @@ fn push_scripts(out: &mut Vec<u8>, scripts: &[Script]) -> Result<(), AllocError>
     ensures { OnOk result (out.new.items ≡ out.old.items ++ flat_map script_lines scripts.now) }
 {
     for script in scripts {
-        let pid = Word::Number(u64::from(script.pid));
+        let pid = Word::Count(u64::from(script.pid));
         push_line(out, &[Word::Text(b"process"), pid])?;
         push_commands(out, script.commands.as_slice())?;
     }

@@ -14,7 +14,7 @@ use Rattle.obj_types.specs.declared.input.LinkInput.{LinkInput}
 use Rattle.link_model.specs.declared.symbols.Pick.{Pick}
 use Rattle.link_model.specs.Choosing.{Chosen, defines, is_defined, modules_of, next_pick, object_picks}
 use Rattle.link_model.proofs.Growing.{IsBegun, unpicked, grown, fewer}
-use Rattle.first_table.specs.Entries.{value_named}
+use Rattle.name_table.specs.Entries.{value_named}
 use Rattle.sym_table.specs.declared.choosing.Choice.{Choice}
 use Rattle.sym_table.specs.Choices.{AreLeaders, IsChoice}
 use Rattle.sym_table.specs.Leading.{leader, waits, awaits, given}

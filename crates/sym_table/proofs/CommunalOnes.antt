@@ -17,14 +17,14 @@ use Rattle.link_model.specs.declared.symbols.SymDef.TheVariants as means
 use Rattle.link_model.specs.Appearance.{firsts}
 use Rattle.link_model.specs.Link.{externals}
 use Rattle.link_model.specs.Symbols.{comdefs, comdef_of}
-use Rattle.first_table.specs.Entries.{is_named, with_entry}
-use Rattle.first_table.proofs.Shown.{any-place, behind}
-use Rattle.sym_table.specs.Links.{link_with}
+use Rattle.name_table.specs.Entries.{is_named, with_entry}
+use Rattle.name_table.proofs.Shown.{any-place, behind}
+use Rattle.link_types.specs.Links.{link_with}
 use Rattle.sym_table.specs.Firsts.{same_name}
 use Rattle.sym_table.specs.declared.communals.Comdef.{Comdef}
 use Rattle.sym_table.specs.Communals.{comdef_shown, long_as, AreGreatest, with_greatest, slotted}
 use Rattle.sym_table.proofs.FirstOnes.{entry-push}
-use Rattle.sym_table.proofs.Lists.{map-more, modules-push}
+use Rattle.link_types.proofs.Lists.{map-more, modules-push}
 
 without_number : (n : ℕ) (es : List Ext) → filter_map (λ (q : ℕ × Ext). comdef_of q.1) (map (λ (e : Ext). (n, e)) es) ≡ filter_map comdef_of es
 without_number n [] = refl

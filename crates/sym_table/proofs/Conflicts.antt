@@ -62,7 +62,7 @@ conflict-append {X} c earlier (x ∷ xs) ys =
     ∙ ap (λ (e : List X). cond (list_any (λ y. c y x) earlier) (Some x) (option_or (first_conflict c (earlier ++ x ∷ []) xs) (first_conflict c e ys))) (append_assoc earlier (x ∷ []) xs)
     ∙ conflict_by (list_any (λ y. c y x) earlier) x (first_conflict c (earlier ++ x ∷ []) xs) (first_conflict c (earlier ++ x ∷ xs) ys)
 
--- Where there is no conflict in xs behind these, none of these is in conflict with one of xs.
+-- Where there is no conflict in xs after these, none of these is in conflict with one of xs.
 fronts : {X : Type 0} (c : X → X → Bool) (x : X) (earlier ys : List X) → AllByRecursion (λ y. list_any (λ z. c z y) (earlier ++ x ∷ []) ≡ false) ys → AllByRecursion (λ y. list_any (λ z. c z y) earlier ≡ false) ys
 fronts c x earlier [] h = tt
 fronts c x earlier (y ∷ ys) h =

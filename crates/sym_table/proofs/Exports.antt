@@ -12,8 +12,9 @@ use Rattle.obj_types.specs.declared.symbol.Exp.{Exp}
 use Rattle.link_model.specs.declared.refusals.SymRefusal.{SymRefusal}
 use Rattle.link_model.specs.declared.refusals.SymRefusal.TheVariants.{Missing}
 use Rattle.link_model.specs.SymbolRefusals.{is_exportable}
-use Rattle.sym_table.specs.declared.meanings.Globals.{Globals}
-use Rattle.sym_table.specs.Meanings.{global_in, missing_export_in}
+use Rattle.link_types.specs.declared.symbols.Globals.{Globals}
+use Rattle.link_types.specs.Globals.{global_in}
+use Rattle.sym_table.specs.Meanings.{missing_export_in}
 use Rattle.sym_table.proofs.LeaderTables.{map-or}
 
 -- The exports of these modules.

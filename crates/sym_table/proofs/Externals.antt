@@ -18,8 +18,9 @@ use Rattle.link_model.specs.Symbols as rules
 use Rattle.link_model.specs.SymbolRefusals.{missing_external}
 use Rattle.link_model.proofs.Members.{In, here, there, from_numbered}
 use Rattle.link_model.proofs.Rules.{rules as opened}
-use Rattle.sym_table.specs.declared.meanings.Globals.{Globals}
-use Rattle.sym_table.specs.Meanings.{global_in, meaning_in, row_in, rows_in, missing_row, missing_external_in}
+use Rattle.link_types.specs.declared.symbols.Globals.{Globals}
+use Rattle.link_types.specs.Globals.{global_in}
+use Rattle.sym_table.specs.Meanings.{meaning_in, row_in, rows_in, missing_row, missing_external_in}
 
 -- ---- the externals of all modules
 

@@ -16,7 +16,7 @@ use Rattle.link_model.specs.Words.{first_conflict}
 use Rattle.link_model.specs.SymbolRefusals.{counts_once, conflicts}
 use Rattle.sym_table.specs.Definitions.{meaning_shown, twice_among}
 use Rattle.sym_table.proofs.Conflicts.{late, conflict-push, conflict-front}
-use Rattle.first_table.specs.Entries.{is_named, value_named, with_entry}
+use Rattle.name_table.specs.Entries.{is_named, value_named, with_entry}
 use Rattle.link_model.specs.Appearance.{firsts}
 use Rattle.link_model.specs.Symbols as rules
 use Rattle.link_model.proofs.Tables.{firsts-push, find-firsts, OfKey}

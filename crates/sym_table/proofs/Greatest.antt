@@ -7,11 +7,11 @@ use Rattle.std.proofs.lemmas.List.{append-nil}
 use Rattle.std.proofs.lemmas.List.Elements.{filter-append}
 use Rattle.std.proofs.lemmas.Slice.Eq.{bytes_eq-Decides}
 use Rattle.obj_types.specs.declared.symbol.Common.{Common}
-use Rattle.first_table.specs.Entries.{value_named, with_value}
-use Rattle.first_table.proofs.Shown.{value-set}
+use Rattle.name_table.specs.Entries.{value_named, with_value}
+use Rattle.name_table.proofs.Shown.{value-set}
 use Rattle.sym_table.specs.declared.communals.Comdef.{Comdef}
 use Rattle.sym_table.specs.Communals.{comdef_shown, greatest_of}
-use Rattle.sym_table.proofs.Lists.{map-more}
+use Rattle.link_types.proofs.Lists.{map-more}
 
 fold-more : (a : ℕ) (xs : List (List ℕ × Common)) (x : List ℕ × Common) → fold (λ len c. max len c.1.len) a (xs ++ x ∷ []) ≡ max (fold (λ len c. max len c.1.len) a xs) x.1.len
 fold-more a [] x = refl

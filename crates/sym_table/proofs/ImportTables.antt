@@ -4,7 +4,7 @@ use Rattle.std.specs.List.{list_any, position_or_len}
 use Rattle.std.specs.Map.{keys_of}
 use Rattle.std.proofs.Common.{ap, sym, ◌∙◌, true≢false}
 use Rattle.std.proofs.lemmas.List.{length-map}
-use Rattle.first_table.proofs.Shown.{any-place}
+use Rattle.name_table.proofs.Shown.{any-place}
 use Rattle.indexmap.specs.IndexMap.{insert_entry}
 
 abbrev pub viewed : {K V W : Type 0} → (K → W) → List (K × V) → List W

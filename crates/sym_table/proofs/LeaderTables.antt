@@ -9,7 +9,7 @@ use Rattle.std.proofs.Math.Bool.{or-false}
 use Rattle.std.proofs.lemmas.List.{take_more, length-take-le}
 use Rattle.std.proofs.lemmas.List.Folds.{find-append, list_any-append}
 use Rattle.std.proofs.lemmas.Slice.Eq.{bytes_eq-Decides}
-use Rattle.first_table.specs.Entries.{is_named, value_named, with_entry}
+use Rattle.name_table.specs.Entries.{is_named, value_named, with_entry}
 use Rattle.sym_table.specs.Leading.{given}
 
 -- ---- one more name

@@ -13,9 +13,10 @@ use Rattle.obj_types.specs.declared.symbol.PubPlace.{PubPlace}
 use Rattle.link_model.specs.declared.symbols.SymDef.{SymDef}
 use Rattle.link_model.specs.declared.refusals.SymRefusal.TheVariants.{Missing}
 use Rattle.link_model.specs.Symbols as rules
-use Rattle.first_table.specs.Entries.{value_named}
-use Rattle.sym_table.specs.declared.meanings.Globals.{Globals}
-use Rattle.sym_table.specs.Meanings.{global_in, meaning_in, meaning_by, missing_by, row_in, missing_row}
+use Rattle.name_table.specs.Entries.{value_named}
+use Rattle.link_types.specs.declared.symbols.Globals.{Globals}
+use Rattle.link_types.specs.Globals.{global_in}
+use Rattle.sym_table.specs.Meanings.{meaning_in, meaning_by, missing_by, row_in, missing_row}
 use Rattle.sym_table.proofs.LeaderTables.{when, map-or, map-when}
 
 -- The place of the first local public of a name.

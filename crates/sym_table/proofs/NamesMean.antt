@@ -14,16 +14,17 @@ use Rattle.link_model.specs.Appearance.{firsts, place_by}
 use Rattle.link_model.specs.Link.{Link}
 use Rattle.link_model.specs.Symbols as rules
 use Rattle.link_model.proofs.Rules.{rules as opened}
-use Rattle.first_table.specs.Entries.{is_named, value_named}
+use Rattle.name_table.specs.Entries.{is_named, value_named}
 use Rattle.sym_table.specs.declared.definitions.Definition.{Definition}
-use Rattle.sym_table.specs.declared.meanings.Globals.{Globals}
+use Rattle.link_types.specs.declared.symbols.Globals.{Globals}
 use Rattle.sym_table.specs.Communals.{with_greatest, slotted}
 use Rattle.link_model.specs.SymbolRefusals.{twice}
-use Rattle.sym_table.specs.declared.global_names.GlobalNames.{GlobalNames}
+use Rattle.link_types.specs.declared.symbols.GlobalNames.{GlobalNames}
 use Rattle.sym_table.specs.Binding.{AreNamesOf}
 use Rattle.sym_table.specs.Definitions.{shown, meaning_among, imports_among, twice_among}
 use Rattle.sym_table.specs.Firsts.{same_name, firsts_of}
-use Rattle.sym_table.specs.Meanings.{defined_by, global_in}
+use Rattle.sym_table.specs.Meanings.{defined_by}
+use Rattle.link_types.specs.Globals.{global_in}
 use Rattle.sym_table.proofs.FirstOnes.{first_found, value-firsts}
 
 -- ---- by definitions

@@ -16,7 +16,7 @@ use Rattle.link_model.specs.declared.symbols.Pick.{Pick}
 use Rattle.link_model.specs.Words.{option_any}
 use Rattle.link_model.specs.Choosing.{wanted, defines, is_defined, undefined, module_of, modules_of, object_picks}
 use Rattle.link_model.proofs.Members.{In, here, there, any_in}
-use Rattle.first_table.specs.Entries.{value_named}
+use Rattle.name_table.specs.Entries.{value_named}
 use Rattle.sym_table.specs.Leading.{leader, waits, awaits}
 use Rattle.sym_table.proofs.Waiting.{leads, led, placed, earlier}
 

@@ -17,13 +17,15 @@ use Rattle.link_model.specs.Link.{Link, link_of, exports}
 use Rattle.link_model.specs.Symbols as rules
 use Rattle.link_model.specs.SymbolRefusals.{twice, missing_external, missing_export, imports_many, is_exportable, sym_refusal}
 use Rattle.link_model.proofs.Rules.{rules as opened}
-use Rattle.sym_table.specs.declared.global_names.GlobalNames.{GlobalNames}
-use Rattle.sym_table.specs.Binding.{AreNamesOf, AreSymbolsOf, IsBound, IsRefused}
+use Rattle.link_types.specs.declared.symbols.GlobalNames.{GlobalNames}
+use Rattle.sym_table.specs.Binding.{AreNamesOf, IsRefused}
+use Rattle.link_types.specs.Binding.{AreSymbolsOf, IsBound}
 use Rattle.sym_table.specs.Counting.{imports_many_of}
-use Rattle.sym_table.specs.Links.{link_with}
-use Rattle.sym_table.specs.Meanings.{global_in, rows_in, missing_export_in}
+use Rattle.link_types.specs.Links.{link_with}
+use Rattle.link_types.specs.Globals.{global_in}
+use Rattle.sym_table.specs.Meanings.{rows_in, missing_export_in}
 use Rattle.sym_table.specs.Refusing.{later_refusal}
-use Rattle.sym_table.specs.Symbols.{SymbolTable}
+use Rattle.link_types.specs.Symbols.{SymbolTable}
 use Rattle.sym_table.proofs.Externals.{rows_are, missing_externals_are}
 
 missing_exports_are : (l : Link) (names : GlobalNames) → AreNamesOf l names → missing_export_in names.globals (exports l) ≡ missing_export l
@@ -31,7 +33,7 @@ missing_exports_are l names are =
     ap (λ (o : Option Exp). option_map (λ (x : Exp). Missing x.internal) o)
     (find_agree (λ x. not (is_exportable (global_in names.globals x.internal))) (λ x. not (is_exportable (rules.global l x.internal))) (λ x. ap (λ m. not (is_exportable m)) (are.global x.internal)) (exports l))
 
--- What is refused behind `Twice`.
+-- What is refused after `Twice`.
 later_is : (l : Link) (names : GlobalNames) → AreNamesOf l names → later_refusal names l ≡ first_of (missing_external l ∷ missing_export l ∷ imports_many l ∷ [])
 later_is l names are =
     ap (λ (a : Option SymRefusal). first_of (a ∷ missing_export_in names.globals (exports l) ∷ imports_many_of names.imports ∷ [])) (missing_externals_are l names.globals are.global)

@@ -1,6 +1,5 @@
--- What `bind` answers.
-use Rattle.std.specs.Prelude.{◌≡◌, ℕ, List, Some, None, map}
-use Rattle.std.specs.List.{enumerate_from}
+-- The names of a link that are not local, and what `bind` refuses.
+use Rattle.std.specs.Prelude.{◌≡◌, ℕ, List, Some}
 use Rattle.obj_types.specs.declared.input.LinkInput.{LinkInput}
 use Rattle.link_model.specs.declared.symbols.Pick.{Pick}
 use Rattle.link_model.specs.declared.refusals.SymRefusal.{SymRefusal}
@@ -8,29 +7,14 @@ use Rattle.link_model.specs.Choosing.{Chosen}
 use Rattle.link_model.specs.Link.{Link, link_of}
 use Rattle.link_model.specs.Symbols as rules
 use Rattle.link_model.specs.SymbolRefusals.{sym_refusal}
-use Rattle.sym_table.specs.declared.global_names.GlobalNames.{GlobalNames}
-use Rattle.sym_table.specs.Meanings.{global_in}
-use Rattle.sym_table.specs.Symbols.{SymbolTable}
+use Rattle.link_types.specs.declared.symbols.GlobalNames.{GlobalNames}
+use Rattle.link_types.specs.Globals.{global_in}
 
 -- These are the names of a link that are not local.
 pub record AreNamesOf (l : Link) (names : GlobalNames) : Type 0 where
   pub global : (name : List ℕ) → global_in names.globals name ≡ rules.global l name
   pub commons : names.commons ≡ rules.commons l
   pub imports : names.imports ≡ rules.imports l
-
--- These are the symbols of a link that has no symbol refusal.
-pub record AreSymbolsOf (l : Link) (s : SymbolTable) : Type 0 where
-  pub accepted : sym_refusal l ≡ None
-  pub global : (name : List ℕ) → global_in s.globals name ≡ rules.global l name
-  pub commons : s.commons ≡ rules.commons l
-  pub imports : s.imports ≡ rules.imports l
-  -- each external of each chosen module has its meaning
-  pub meanings : map (map Some) s.meanings ≡ map (λ q. map (rules.Sym l q.0) q.1.exts) (enumerate_from 1 l.modules)
-
--- These are the symbols of an input.
-pub record IsBound (input : LinkInput) (s : SymbolTable) : Type 0 where
-  pub chosen : Chosen input s.chosen
-  pub symbols : AreSymbolsOf (link_of input s.chosen) s
 
 -- The input's link has this refusal.
 pub record IsRefused (input : LinkInput) (refusal : SymRefusal) : Type 0 where

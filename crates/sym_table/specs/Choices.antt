@@ -4,7 +4,7 @@ use Rattle.std.specs.Ordering.{nat_cmp}
 use Rattle.std.specs.BTreeSet.{contains}
 use Rattle.obj_types.specs.declared.input.LinkInput.{LinkInput}
 use Rattle.link_model.specs.Choosing.{is_defined, modules_of}
-use Rattle.first_table.specs.Entries.{value_named}
+use Rattle.name_table.specs.Entries.{value_named}
 use Rattle.sym_table.specs.declared.choosing.Choice.{Choice}
 use Rattle.sym_table.specs.Leading.{leader, waits}
 

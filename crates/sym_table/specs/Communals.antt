@@ -4,7 +4,7 @@ use Rattle.std.specs.List.{fold, enumerate_from}
 use Rattle.obj_types.specs.declared.symbol.Common.{Common}
 use Rattle.link_model.specs.declared.symbols.SymDef.{SymDef}
 use Rattle.link_model.specs.declared.symbols.SymDef.TheVariants as means
-use Rattle.first_table.specs.Entries.{value_named}
+use Rattle.name_table.specs.Entries.{value_named}
 use Rattle.sym_table.specs.declared.communals.Comdef.{Comdef}
 
 abbrev pub comdef_shown : Comdef → List ℕ × Common

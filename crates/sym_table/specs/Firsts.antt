@@ -1,7 +1,7 @@
 -- The table of first definitions.
 use Rattle.std.specs.Prelude.{ℕ, Bool, List, Option, Some, None, if◌then◌else◌, map, bytes_eq}
 use Rattle.std.specs.Option.{option_and_then}
-use Rattle.first_table.specs.Entries.{value_named}
+use Rattle.name_table.specs.Entries.{value_named}
 use Rattle.link_model.specs.declared.refusals.SymRefusal.{SymRefusal}
 use Rattle.link_model.specs.declared.refusals.SymRefusal.TheVariants.{Twice}
 use Rattle.link_model.specs.SymbolRefusals.{counts_once}

@@ -9,7 +9,7 @@ use Rattle.obj_types.specs.declared.symbol.Pub.{Pub}
 use Rattle.link_model.specs.declared.symbols.Pick.{Pick}
 use Rattle.link_model.specs.Words.{option_any}
 use Rattle.link_model.specs.Choosing.{defines, undefined, modules_of}
-use Rattle.first_table.specs.Entries.{value_named}
+use Rattle.name_table.specs.Entries.{value_named}
 
 -- The first of these library modules that defines a name, by its place.
 abbrev pub leader : List ObjModule → List ℕ → Option ℕ

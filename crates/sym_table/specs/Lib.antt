@@ -1,14 +1,11 @@
-pub mod Links
 pub mod Definitions
 pub mod Firsts
 pub mod Counting
 pub mod Communals
 pub mod Meanings
-pub mod Symbols
 pub mod Binding
 pub mod Refusing
 pub mod Leading
 pub mod Choices
-pub mod Finding
 pub mod ImportKeys
 pub mod ImportLists

@@ -1,7 +1,7 @@
 -- What names mean, by tables of names.
 use Rattle.std.specs.Prelude.{ℕ, ◌&&◌, not, List, Option, map, find, bytes_eq, is_none, if◌then◌else◌}
 use Rattle.std.specs.List.{enumerate_from}
-use Rattle.std.specs.Option.{option_map, option_or, option_and_then}
+use Rattle.std.specs.Option.{option_map}
 use Rattle.obj_types.specs.declared.object.ObjModule.{ObjModule}
 use Rattle.obj_types.specs.declared.symbol.Ext.{Ext}
 use Rattle.obj_types.specs.declared.symbol.Imp.{Imp}
@@ -13,16 +13,14 @@ use Rattle.link_model.specs.declared.refusals.SymRefusal.TheVariants.{Missing}
 use Rattle.link_model.specs.Words.{first_of}
 use Rattle.link_model.specs.SymbolRefusals.{is_exportable}
 use Rattle.link_model.specs.Symbols as rules
-use Rattle.first_table.specs.Entries.{value_named}
+use Rattle.name_table.specs.Entries.{value_named}
+use Rattle.link_types.specs.Globals.{global_in}
 use Rattle.sym_table.specs.Definitions.{meaning_among}
-use Rattle.sym_table.specs.declared.meanings.Globals.{Globals}
+use Rattle.link_types.specs.declared.symbols.Globals.{Globals}
 
 -- A definition's name with its meaning, where these are the import pairs.
 abbrev pub defined_by : List Imp → rules.Definition → List ℕ × Option SymDef
 defined_by imports d = (d.name, meaning_among imports d d.meaning)
-
-abbrev pub global_in : Globals → List ℕ → Option SymDef
-global_in globals name = option_or (option_and_then (λ m. m) (value_named name globals.defined)) (value_named name globals.communal)
 
 abbrev pub local_in : ℕ → ObjModule → List ℕ → Option SymDef
 local_in by m name = option_map (λ p. rules.at_place by p.place) (find (λ p. p.local && bytes_eq p.name name) m.pubs)

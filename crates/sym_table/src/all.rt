@@ -4,12 +4,14 @@ ghost use Rattle.std.specs.Prelude.{◌≡◌, Some, None, map};
 ghost use Rattle.std.specs.List.{flat_map};
 ghost use Rattle.lx_types.specs.Answers.{Answers};
 ghost use Rattle.link_model.specs.Link.{exports};
-ghost use Rattle.sym_table.specs.Links.{link_with};
+ghost use Rattle.link_types.specs.Links.{link_with};
 ghost use Rattle.sym_table.specs.Meanings.{rows_in, missing_external_in, missing_export_in};
 
-use crate::meanings::{Globals, check_exports, externals_of};
-use link_model::{SymDef, SymRefusal, number};
-use obj_types::{Fail, LinkInput, ObjModule, Seq};
+use crate::meanings::{check_exports, externals_of};
+use link_model::{SymDef, SymRefusal};
+use link_types::Globals;
+use lx_types::{Fail, Seq, count};
+use obj_types::{LinkInput, ObjModule};
 use std::alloc::Global;
 
 /// The meanings of all externals, module by module; the first that means nothing is `Missing`.
@@ -25,7 +27,7 @@ pub fn meanings_of(
 {
     let mut rows = Seq::new(alloc);
     for (index, object) in modules.iter().enumerate() {
-        match externals_of(alloc, globals, number(index + 1)?, object) {
+        match externals_of(alloc, globals, count(index + 1)?, object) {
             Ok(row) => rows.push(row)?,
             Err(fail) => return Err(fail),
         }

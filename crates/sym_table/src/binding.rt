@@ -2,18 +2,20 @@
 
 ghost use Rattle.std.specs.Prelude.{◌≡◌, Some, None, map};
 ghost use Rattle.lx_types.specs.Answers.{Answers};
-ghost use Rattle.sym_table.specs.Links.{link_with};
+ghost use Rattle.link_types.specs.Links.{link_with};
 ghost use Rattle.sym_table.specs.Meanings.{rows_in};
 ghost use Rattle.sym_table.specs.Refusing.{last_refusal, later_refusal};
-ghost use Rattle.sym_table.specs.Binding.{IsBound, IsRefused};
+ghost use Rattle.link_types.specs.Binding.{IsBound};
+ghost use Rattle.sym_table.specs.Binding.{IsRefused};
 
-use crate::Symbols;
 use crate::all::{check_all_exports, meanings_of};
 use crate::choosing::choose_by_names;
-use crate::global_names::{GlobalNames, global_names_of};
+use crate::global_names::global_names_of;
 use crate::names::check_imports;
 use link_model::{SymDef, SymRefusal, modules_at};
-use obj_types::{Fail, LinkInput, ObjModule, Seq};
+use link_types::{GlobalNames, Symbols};
+use lx_types::{Fail, Seq};
+use obj_types::{LinkInput, ObjModule};
 use std::alloc::Global;
 
 // Whether each export leads somewhere and the import modules can be counted.
@@ -33,7 +35,7 @@ fn check_last(
     }
 }
 
-// What each external means, where nothing behind `Twice` is to be refused.
+// What each external means, where nothing after `Twice` is to be refused.
 fn external_meanings(
     alloc: Global,
     input: &LinkInput,

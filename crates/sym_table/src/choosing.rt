@@ -5,14 +5,15 @@ ghost use Rattle.std.specs.Ordering.{nat_cmp};
 ghost use Rattle.std.specs.List.{list_any};
 ghost use Rattle.std.specs.Option.{option_or};
 ghost use Rattle.std.specs.BTreeSet.{contains};
-ghost use Rattle.first_table.specs.Entries.{value_named};
+ghost use Rattle.name_table.specs.Entries.{value_named};
 ghost use Rattle.link_model.specs.Choosing.{Chosen, defines, is_defined, next_pick, object_picks};
 ghost use Rattle.sym_table.specs.Choices.{AreLeaders, IsChoice};
 ghost use Rattle.sym_table.specs.Leading.{leader, has_public, has_import, given, awaited, awaits};
 
-use first_table::NameTable;
-use link_model::{Pick, number};
-use obj_types::{Ext, Imp, LinkInput, NoMemory, ObjModule, Pub, Seq};
+use link_model::Pick;
+use lx_types::{NoMemory, Seq, count};
+use name_table::NameTable;
+use obj_types::{Ext, Imp, LinkInput, ObjModule, Pub};
 use std::alloc::Global;
 use std::collections::BTreeSet;
 
@@ -68,7 +69,7 @@ fn leaders_of(alloc: Global, libraries: &[ObjModule]) -> Result<NameTable<u32>, 
 {
     let mut table = NameTable::new(alloc);
     for (index, object) in libraries.iter().enumerate() {
-        add_module(alloc, &mut table, number(index)?, object)?;
+        add_module(alloc, &mut table, count(index)?, object)?;
     }
     Ok(table)
 }
@@ -137,7 +138,7 @@ fn object_files(alloc: Global, input: &LinkInput) -> Result<Seq<Pick>, NoMemory>
     for (index, _object) in input.objects.as_slice().iter().enumerate() {
         picks.push(Pick {
             lib: false,
-            index: number(index)?,
+            index: count(index)?,
         })?;
     }
     Ok(picks)
@@ -220,7 +221,7 @@ fn choose_next(
     }
 }
 
-// Chooses all library modules that are to be chosen behind the object files.
+// Chooses all library modules that are to be chosen after the object files.
 fn choose_all(
     alloc: Global,
     input: &LinkInput,

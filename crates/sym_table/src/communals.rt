@@ -2,17 +2,18 @@
 
 ghost use Rattle.std.specs.Prelude.{◌≡◌, ◌++◌, ℕ, List, map, filter, is_none, option_map, unwrap_or, IfOk, OnOk};
 ghost use Rattle.std.specs.List.{filter_map};
-ghost use Rattle.first_table.specs.Entries.{value_named, with_entry};
+ghost use Rattle.name_table.specs.Entries.{value_named, with_entry};
 ghost use Rattle.link_model.specs.Appearance.{firsts};
 ghost use Rattle.link_model.specs.Symbols.{comdef_of, comdefs};
-ghost use Rattle.sym_table.specs.Links.{link_with};
+ghost use Rattle.link_types.specs.Links.{link_with};
 ghost use Rattle.sym_table.specs.Firsts.{same_name};
 ghost use Rattle.sym_table.specs.Communals.{comdef_shown, long_as, with_greatest, AreGreatest, slotted};
 
 use crate::definitions::Definition;
-use first_table::NameTable;
-use link_model::{SymDef, number};
-use obj_types::{Common, Ext, LinkInput, Name, NoMemory, ObjModule, Seq};
+use link_model::SymDef;
+use lx_types::{Name, NoMemory, Seq, count};
+use name_table::NameTable;
+use obj_types::{Common, Ext, LinkInput, ObjModule};
 use std::alloc::Global;
 
 /// A COMDEF: a name and its storage.
@@ -123,9 +124,7 @@ fn add_communal(
     ensures slots { OnOk result (communals.new.slots ≡ slotted communals.new.list) }
 {
     let slot = communals.slots.len();
-    let meaning = SymDef::Common {
-        slot: number(slot)?,
-    };
+    let meaning = SymDef::Common { slot: count(slot)? };
     let place = communals.slots.push(alloc, comdef.name.bytes(), meaning)?;
     if place == slot {
         let common = Common {

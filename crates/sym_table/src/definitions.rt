@@ -3,11 +3,11 @@
 
 ghost use Rattle.std.specs.Prelude.{◌≡◌, ◌++◌, not, map, filter, IfOk, OnOk};
 ghost use Rattle.link_model.specs.Symbols.{of_public, of_import, definitions_in, definitions};
-ghost use Rattle.sym_table.specs.Links.{link_with};
+ghost use Rattle.link_types.specs.Links.{link_with};
 ghost use Rattle.sym_table.specs.Definitions.{shown};
 
-use link_model::number;
-use obj_types::{Imp, LinkInput, Name, NoMemory, ObjModule, Pub, PubPlace};
+use lx_types::{Name, NoMemory, count};
+use obj_types::{Imp, LinkInput, ObjModule, Pub, PubPlace};
 use std::alloc::Global;
 
 /// What a definition says: where a public is, or the pair of an import.
@@ -83,7 +83,7 @@ pub fn definitions_of<'a>(
 {
     let mut found = Vec::new(alloc);
     for (index, object) in modules.iter().enumerate() {
-        add_module(&mut found, number(index + 1)?, object)?;
+        add_module(&mut found, count(index + 1)?, object)?;
     }
     add_imports(&mut found, 0, input.def.imports.as_slice())?;
     Ok(found)

@@ -6,13 +6,14 @@ ghost use Rattle.link_model.specs.Symbols.{same_pair, same_entry};
 ghost use Rattle.link_model.specs.SymbolRefusals.{counts_once};
 ghost use Rattle.link_model.specs.declared.refusals.SymRefusal.TheVariants.{Twice};
 ghost use Rattle.sym_table.specs.Definitions.{meaning_shown, shown, twice_among};
-ghost use Rattle.first_table.specs.Entries.{with_entry};
+ghost use Rattle.name_table.specs.Entries.{with_entry};
 ghost use Rattle.sym_table.specs.Firsts.{firsts_of, second_in};
 
 use crate::definitions::{Definition, Meaning};
-use first_table::NameTable;
 use link_model::SymRefusal;
-use obj_types::{EntryKey, Fail, Imp, NoMemory};
+use lx_types::{EntryKey, Fail, NoMemory};
+use name_table::NameTable;
+use obj_types::Imp;
 use std::alloc::Global;
 
 pub fn same_entry(one: &EntryKey, other: &EntryKey) -> bool

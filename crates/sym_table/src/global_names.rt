@@ -2,11 +2,11 @@
 
 ghost use Rattle.std.specs.Prelude.{◌≡◌, Some, None, map, filter, is_none, IfOk};
 ghost use Rattle.lx_types.specs.Answers.{Answers};
-ghost use Rattle.first_table.specs.Entries.{value_named};
+ghost use Rattle.name_table.specs.Entries.{value_named};
 ghost use Rattle.link_model.specs.Appearance.{firsts};
 ghost use Rattle.link_model.specs.Symbols.{comdefs, definitions};
 ghost use Rattle.link_model.specs.SymbolRefusals.{twice};
-ghost use Rattle.sym_table.specs.Links.{link_with};
+ghost use Rattle.link_types.specs.Links.{link_with};
 ghost use Rattle.sym_table.specs.Firsts.{same_name};
 ghost use Rattle.sym_table.specs.Definitions.{shown, imports_among};
 ghost use Rattle.sym_table.specs.Communals.{with_greatest, slotted};
@@ -17,19 +17,13 @@ use crate::communals::{Communals, comdefs_of, communals_of, undefined_of};
 use crate::definitions::{Definition, definitions_of};
 use crate::firsts::first_definitions;
 use crate::imports::imports_of;
-use crate::meanings::{Globals, defined_of};
-use first_table::NameTable;
+use crate::meanings::defined_of;
 use link_model::{SymDef, SymRefusal};
-use obj_types::{Common, Fail, Imp, LinkInput, Name, NoMemory, ObjModule, Seq};
+use link_types::{GlobalNames, Globals};
+use lx_types::{Fail, Name, NoMemory, Seq};
+use name_table::NameTable;
+use obj_types::{Common, Imp, LinkInput, ObjModule};
 use std::alloc::Global;
-
-/// The names of a link that are not local: what each means, the communals and the import pairs.
-#[derive(Drop)]
-pub struct GlobalNames {
-    pub globals: Globals,
-    pub commons: Seq<(Name, Common)>,
-    pub imports: Seq<Imp>,
-}
 
 // The communals of a link of these modules, where this table has the names that are defined.
 fn communals_beside(

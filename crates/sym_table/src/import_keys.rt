@@ -6,7 +6,8 @@ ghost use Rattle.link_model.specs.Symbols.{import_key, same_import};
 ghost use Rattle.sym_table.specs.ImportKeys.{key_shown};
 
 use indexmap::IndexMap;
-use obj_types::{EntryKey, Imp, NoMemory};
+use lx_types::{EntryKey, NoMemory};
+use obj_types::Imp;
 use std::alloc::Global;
 
 /// How a key tells the entry.

@@ -9,7 +9,8 @@ ghost use Rattle.sym_table.specs.ImportLists.{AreListed, with_import};
 use crate::definitions::{Definition, Meaning};
 use crate::import_keys::{ImportPart, key_of, place_in};
 use indexmap::IndexMap;
-use obj_types::{EntryKey, Imp, NoMemory, Seq};
+use lx_types::{EntryKey, NoMemory, Seq};
+use obj_types::Imp;
 use std::alloc::Global;
 
 fn copied_entry(alloc: Global, entry: &EntryKey) -> Result<EntryKey, NoMemory>

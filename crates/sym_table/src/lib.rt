@@ -3,7 +3,6 @@
 
 mod all;
 mod binding;
-mod bound;
 mod choosing;
 mod communals;
 mod definitions;
@@ -11,13 +10,9 @@ mod firsts;
 mod global_names;
 mod import_keys;
 mod imports;
-mod laws;
 mod locals;
 mod meanings;
 mod names;
 
 pub use binding::bind;
-pub use bound::Symbols;
-pub use laws::find_gives_meanings;
-pub use link_model::{Pick, SymDef, SymRefusal};
-pub use meanings::Globals;
+pub use link_types::Symbols;

@@ -1,10 +1,11 @@
 //! A module's local publics by their names.
 
 ghost use Rattle.std.specs.Prelude.{◌≡◌, ◌&&◌, ℕ, List, find, bytes_eq, option_map, IfOk};
-ghost use Rattle.first_table.specs.Entries.{value_named};
+ghost use Rattle.name_table.specs.Entries.{value_named};
 
-use first_table::NameTable;
-use obj_types::{NoMemory, Pub, PubPlace};
+use lx_types::NoMemory;
+use name_table::NameTable;
+use obj_types::{Pub, PubPlace};
 use std::alloc::Global;
 
 /// The places of the local publics; of one name the first counts.

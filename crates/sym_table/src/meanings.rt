@@ -2,7 +2,7 @@
 
 ghost use Rattle.std.specs.Prelude.{◌≡◌, Some, None, map, option_map, IfOk};
 ghost use Rattle.lx_types.specs.Answers.{Answers};
-ghost use Rattle.first_table.specs.Entries.{value_named};
+ghost use Rattle.name_table.specs.Entries.{value_named};
 ghost use Rattle.link_model.specs.Appearance.{firsts};
 ghost use Rattle.link_model.specs.Symbols.{at_place, same_import, import_key};
 ghost use Rattle.link_model.specs.Appearance.{place_by};
@@ -12,24 +12,18 @@ ghost use Rattle.sym_table.specs.Firsts.{same_name};
 ghost use Rattle.sym_table.specs.ImportLists.{AreListed};
 ghost use Rattle.sym_table.specs.Definitions.{meaning_shown, shown, meaning_among};
 ghost use Rattle.link_model.specs.SymbolRefusals.{is_exportable};
-ghost use Rattle.sym_table.specs.Meanings.{defined_by, global_in, meaning_by, missing_by, row_in, missing_row, missing_export_in};
+ghost use Rattle.sym_table.specs.Meanings.{defined_by, meaning_by, missing_by, row_in, missing_row, missing_export_in};
+ghost use Rattle.link_types.specs.Globals.{global_in};
 
 use crate::definitions::{Definition, Meaning};
 use crate::imports::{Imports, slot_of};
 use crate::locals::locals_of;
-use first_table::NameTable;
-use link_model::{SymDef, SymRefusal, number};
-use obj_types::{Exp, Ext, Fail, Imp, Name, NoMemory, ObjModule, PubPlace, Seq};
+use link_model::{SymDef, SymRefusal};
+use link_types::Globals;
+use lx_types::{Fail, Name, NoMemory, Seq, count};
+use name_table::NameTable;
+use obj_types::{Exp, Ext, Imp, ObjModule, PubPlace};
 use std::alloc::Global;
-
-/// What each name means that is not local.
-#[derive(Drop)]
-pub struct Globals {
-    /// By its definition.
-    pub defined: NameTable<Option<SymDef>>,
-    /// As a communal, where it has no definition.
-    pub communal: NameTable<SymDef>,
-}
 
 fn at_place(by: u32, place: PubPlace) -> SymDef
     ensures { result ≡ at_place by place }
@@ -54,9 +48,7 @@ fn import_meaning(
 {
     match slot_of(alloc, imports, import)? {
         None => Ok(None),
-        Some(slot) => Ok(Some(SymDef::Import {
-            slot: number(slot)?,
-        })),
+        Some(slot) => Ok(Some(SymDef::Import { slot: count(slot)? })),
     }
 }
 
@@ -89,18 +81,6 @@ pub fn defined_of(
         table.push(alloc, definition.name.bytes(), meaning)?;
     }
     Ok(table)
-}
-
-impl Globals {
-    /// The meaning of a name that is not local.
-    pub fn meaning(&self, name: &[u8]) -> Option<SymDef>
-        ensures { result ≡ global_in self.now name.now }
-    {
-        match self.defined.get(name) {
-            Some(Some(meaning)) => Some(*meaning),
-            _ => self.communal.get(name).copied(),
-        }
-    }
 }
 
 fn local_meaning(by: u32, locals: &NameTable<PubPlace>, name: &Name) -> Option<SymDef>

@@ -6,9 +6,10 @@ ghost use Rattle.lx_types.specs.Names.{uppercase};
 ghost use Rattle.link_model.specs.Appearance.{firsts};
 ghost use Rattle.sym_table.specs.Counting.{imports_many_of};
 
-use first_table::NameTable;
-use link_model::{MAX_NUMBER, SymRefusal, number};
-use obj_types::{Fail, Imp, NoMemory};
+use link_model::{MAX_NUMBER, SymRefusal};
+use lx_types::{Fail, NoMemory, count};
+use name_table::NameTable;
+use obj_types::Imp;
 use std::alloc::Global;
 
 /// How many different modules these import pairs name, in any case of letters.
@@ -27,7 +28,7 @@ fn module_count(alloc: Global, imports: &[Imp]) -> Result<usize, NoMemory>
 pub fn check_imports(alloc: Global, imports: &[Imp]) -> Result<(), Fail<SymRefusal>>
     ensures { Answers result (λ _. imports_many_of imports.now ≡ None) (λ refusal. imports_many_of imports.now ≡ Some refusal) }
 {
-    let count = number(module_count(alloc, imports)?)?;
+    let count = count(module_count(alloc, imports)?)?;
     if count > MAX_NUMBER {
         return Err(Fail::Said(SymRefusal::ImportsMany { count }));
     }

@@ -2,7 +2,7 @@
 use Rattle.std.proofs.Common.{◌≡◌, ℕ, suc, ◌+◌, ◌≤◌, List, [], ◌∷◌, length, ap, arith, length-append}
 use Rattle.std.specs.List.{sum_by}
 use Rattle.std.proofs.lemmas.List.Sums.{sum_by-cons}
-use Rattle.res_model.specs.ItemFields.{FIELDS}
+use Rattle.res_model.specs.declared.item.TheConstants.{FIELDS}
 use Rattle.res_model.specs.ResFile.{item_spelling, items_spelling, IsResFile}
 use Rattle.res_model.specs.declared.item.ResItem.{ResItem}
 

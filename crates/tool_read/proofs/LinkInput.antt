@@ -8,10 +8,10 @@ use Rattle.obj_types.specs.declared.definition.DefFile.{DefFile}
 use Rattle.obj_types.specs.declared.definition.ModKind.TheVariants.{Program}
 use Rattle.obj_types.specs.declared.input.LinkInput.{LinkInput}
 use Rattle.lx_ports.specs.Calls.{Call, load, save}
-use Rattle.lx_answer.specs.LinkAnswer.{definition_in, input_with, libraries_in, objects_in}
-use Rattle.lx_answer.specs.Loading.{AreRead, IsRead}
-use Rattle.lx_answer.specs.Reading.{IsItem, Item, definition, is_library, library, library_form, linked, object, object_form, object_or_library, resources, session}
-use Rattle.lx_answer.specs.Says.{asked_inputs}
+use Rattle.answer_model.specs.LinkAnswer.{definition_in, input_with, libraries_in, objects_in}
+use Rattle.answer_model.specs.Loading.{AreRead, IsRead}
+use Rattle.answer_model.specs.Reading.{IsItem, Item, definition, is_library, library, library_form, linked, object, object_form, object_or_library, resources, session}
+use Rattle.answer_model.specs.AskedFiles.{asked_inputs}
 use Rattle.tool_read.specs.declared.modules.Modules.{Modules}
 use Rattle.tool_read.specs.Readings.{asked}
 use Rattle.tool_read.specs.Steps.{AreModulesOf, Gains, GivesDefinition, IsInputWith}

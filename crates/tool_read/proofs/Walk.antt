@@ -8,10 +8,10 @@ use Rattle.lx_types.proofs.Lists.{all_joined}
 use Rattle.lx_ports.specs.Calls.{Call, load, save}
 use Rattle.lx_ports.specs.Files.{Contents, FilesState, IsLoadOf}
 use Rattle.lx_ports.specs.declared.files.LoadFault.{LoadFault}
-use Rattle.lx_answer.specs.declared.said.Said.{Said}
-use Rattle.lx_answer.specs.Ends.{IsTold}
-use Rattle.lx_answer.specs.Loading.{Asked, AreBegun, AreRead, IsLoadWith, IsRead, IsStopped, ReadsAnswer, RefusesAnswer, file_limit}
-use Rattle.lx_answer.specs.Reading.{Item, Kind}
+use Rattle.answer_model.specs.declared.said.Said.{Said}
+use Rattle.answer_model.specs.Ends.{IsTold}
+use Rattle.answer_model.specs.Loading.{Asked, AreBegun, AreRead, IsLoadWith, IsRead, IsStopped, ReadsAnswer, RefusesAnswer, file_limit}
+use Rattle.answer_model.specs.Reading.{Item, Kind}
 use Rattle.tool_read.specs.Readings.{ReadsLoad, SaysOf, asked}
 use Rattle.tool_read.specs.Steps.{AreLoads, GivesAll, IsOneLoad, ReadsAll, ReadsInTurn}
 
@@ -128,7 +128,7 @@ pub in_turn : {T : Type 0} (of : T → Item) (kind : Kind) (name : List ℕ) (an
     → ReadsInTurn (λ v items. items ≡ of v ∷ []) (asked kind name ∷ []) before now r
 in_turn of kind name answer before now r load_is is = record { calls = load name answer ∷ []; loads = one_load name answer before now load_is; reads = reads_one of kind name answer r is }
 
--- Others, behind files that were read.
+-- Others, after files that were read.
 pub reads_joined : {T : Type 0} (P Q : T → List Item → Type 0) (f g : List Asked) (xs ys : List Call) (is : List Item) (r : Result T (Fail Said)) → AreRead f xs is
     → ReadsAll P g ys r → ((v : T) (js : List Item) → AreRead g ys js → P v js → Q v (is ++ js)) → ReadsAll Q (f ++ g) (xs ++ ys) r
 reads_joined P Q f g xs ys is (Ok v) one two more = record {
@@ -184,7 +184,7 @@ stops_here P Q f after kind name answer before between now value why so_far load
     by_reason fail.NoMemory is =
         begun_joined f (asked kind name ∷ after) so_far.calls (load name answer ∷ []) so_far.all.items so_far.all.read (begun_one (asked kind name) after answer)
 
--- There is no memory behind some files.
+-- There is no memory after some files.
 pub ends_here : {T U : Type 0} (P : T → List Item → Type 0) (Q : U → List Item → Type 0) (f after : List Asked) (before now : FilesState) (value : T) → ReadSoFar P f before now value
     → ReadsInTurn Q (f ++ after) before now (Err fail.NoMemory)
 ends_here P Q f after before now value so_far = record {
@@ -250,7 +250,7 @@ read_begun (a ∷ f) [] is are = absurd are
 read_begun (a ∷ f) (x ∷ xs) [] are = absurd are
 read_begun (a ∷ f) (x ∷ xs) (i ∷ is) are = begun_behind a x i f xs are.0 (read_begun f xs is are.1)
 
--- Behind both there was no memory.
+-- After both there was no memory.
 pub both_end : {S T U : Type 0} (O : S → List Item → Type 0) (P : T → List Item → Type 0) (Q : U → List Item → Type 0) (f g : List Asked) (before between now : FilesState) (first : S) (second : T)
     → ReadsInTurn O f before between (Ok first) → ReadsInTurn P g between now (Ok second) → ReadsInTurn Q (f ++ g) before now (Err fail.NoMemory)
 both_end O P Q f g before between now first second one two = record {

@@ -4,10 +4,10 @@ use Rattle.std.specs.declared.alloc.Global.{Global}
 use Rattle.lx_types.specs.declared.fail.Fail.{Fail}
 use Rattle.lx_types.specs.declared.fail.Fail.TheVariants as fail
 use Rattle.lx_ports.specs.declared.files.LoadFault.{LoadFault}
-use Rattle.lx_answer.specs.declared.said.Said.{Said}
-use Rattle.lx_answer.specs.FileLine.{file_line}
-use Rattle.lx_answer.specs.Loading.{Asked, ReadsAnswer, RefusesAnswer}
-use Rattle.lx_answer.specs.Reading.{Kind, Form, Item, IsItem, IsFault, object, library, definition, linked}
+use Rattle.answer_model.specs.declared.said.Said.{Said}
+use Rattle.answer_model.specs.FileLine.{file_line}
+use Rattle.answer_model.specs.Loading.{Asked, ReadsAnswer, RefusesAnswer}
+use Rattle.answer_model.specs.Reading.{Kind, Form, Item, IsItem, IsFault, object, library, definition, linked}
 use Rattle.std.specs.List.{All}
 use Rattle.obj_types.specs.Whole.{WholeModule}
 use Rattle.obj_types.specs.Definition.{WholeDef}

@@ -7,15 +7,15 @@ use Rattle.obj_types.specs.Whole.{WholeModule}
 use Rattle.lx_ports.specs.Calls.{Call, load}
 use Rattle.lx_ports.specs.Files.{FilesState, IsLoadOf, after_call}
 use Rattle.lx_ports.specs.declared.files.LoadFault.{LoadFault}
-use Rattle.lx_answer.specs.declared.said.Said.{Said}
-use Rattle.lx_answer.specs.Ends.{IsTold}
+use Rattle.answer_model.specs.declared.said.Said.{Said}
+use Rattle.answer_model.specs.Ends.{IsTold}
 use Rattle.obj_types.specs.declared.definition.DefFile.{DefFile}
 use Rattle.obj_types.specs.declared.input.LinkInput.{LinkInput}
 use Rattle.obj_types.specs.declared.definition.ModKind.TheVariants.{Program}
 use Rattle.obj_types.specs.Defaults.{default_def}
-use Rattle.lx_answer.specs.LinkAnswer.{objects_in, libraries_in}
-use Rattle.lx_answer.specs.Loading.{Asked, AreBegun, AreRead, IsStopped, ReadsAnswer, RefusesAnswer, file_limit}
-use Rattle.lx_answer.specs.Reading.{Item, definition}
+use Rattle.answer_model.specs.LinkAnswer.{objects_in, libraries_in}
+use Rattle.answer_model.specs.Loading.{Asked, AreBegun, AreRead, IsStopped, ReadsAnswer, RefusesAnswer, file_limit}
+use Rattle.answer_model.specs.Reading.{Item, definition}
 use Rattle.tool_read.specs.Readings.{SaysOf}
 use Rattle.tool_read.specs.declared.modules.Modules.{Modules}
 

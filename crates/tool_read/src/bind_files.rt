@@ -2,14 +2,14 @@
 ghost use Rattle.std.specs.Prelude.{◌≡◌, ◌≤◌, ◌∷◌, [], IfOk, length, sum_by};
 ghost use Rattle.lx_model.specs.Module.{IsRead};
 ghost use Rattle.res_model.specs.ResFile.{AreApart};
-ghost use Rattle.lx_answer.specs.Loading.{file_limit};
-ghost use Rattle.lx_answer.specs.Reading.{linked, module_file, resource_file, resources};
+ghost use Rattle.answer_model.specs.Loading.{file_limit};
+ghost use Rattle.answer_model.specs.Reading.{linked, module_file, resource_file, resources};
 ghost use Rattle.tool_read.specs.Readings.{asked};
 ghost use Rattle.tool_read.specs.Steps.{ReadsInTurn};
 
 use crate::resources::read_resources;
 use crate::sessions::read_module;
-use lx_answer::Said;
+use answer_model::Said;
 use lx_ports::Files;
 use lx_types::{Fail, Module, Seq};
 use res_model::ResItem;

@@ -2,16 +2,16 @@
 ghost use Rattle.std.specs.Prelude.{◌≡◌, ◌≤◌, IfOk, length};
 ghost use Rattle.obj_types.specs.Definition.{WholeDef};
 ghost use Rattle.lx_ports.specs.Calls.{load_answer};
-ghost use Rattle.lx_answer.specs.FileRefusals.{def_text};
-ghost use Rattle.lx_answer.specs.Loading.{file_limit};
-ghost use Rattle.lx_answer.specs.Reading.{definition, definition_file, definition_form};
+ghost use Rattle.answer_model.specs.FileRefusals.{def_text};
+ghost use Rattle.answer_model.specs.Loading.{file_limit};
+ghost use Rattle.answer_model.specs.Reading.{definition, definition_file, definition_form};
 ghost use Rattle.tool_read.specs.Readings.{ReadsForm, ReadsLoad, SaysOf};
 
 use crate::lines::told;
 use crate::loads::opened;
+use answer_model::Said;
 use def_file::read_def;
 use def_model::DefRefusal;
-use lx_answer::Said;
 use lx_ports::LoadFault;
 use lx_types::{Bytes, Fail, Seq};
 use obj_types::DefFile;

@@ -2,16 +2,15 @@
 ghost use Rattle.std.specs.Prelude.{◌≡◌, ℕ, List, Result, IfOk, map, string_bytes};
 ghost use Rattle.std.specs.List.{All};
 ghost use Rattle.lx_ports.specs.declared.files.LoadFault.{LoadFault};
-ghost use Rattle.lx_answer.specs.Reading.{module_or_definition};
-ghost use Rattle.lx_answer.specs.Says.{asked_exporters};
+ghost use Rattle.answer_model.specs.Reading.{module_or_definition};
+ghost use Rattle.answer_model.specs.Says.{asked_exporters};
 ghost use Rattle.tool_read.specs.Readings.{ReadsLoad, WholeExporter, exporter_item};
 ghost use Rattle.tool_read.specs.Steps.{IsOneLoad, ReadsInTurn};
 
 use crate::exporters::{Exporter, read_exporter};
-use crate::loads::FILE_LIMIT;
-use lx_answer::Said;
+use answer_model::Said;
 use lx_ports::Files;
-use lx_types::Fail;
+use lx_types::{Fail, MAX_FILE};
 use std::alloc::Global;
 
 fn read_next<F: Files>(alloc: Global, files: &mut F, name: &str) -> Result<Exporter, Fail<Said>>
@@ -20,7 +19,7 @@ fn read_next<F: Files>(alloc: Global, files: &mut F, name: &str) -> Result<Expor
         × ReadsLoad exporter_item module_or_definition name.now answer result }
     ensures whole { IfOk result WholeExporter }
 {
-    let loaded = files.load(alloc, name, FILE_LIMIT);
+    let loaded = files.load(alloc, name, MAX_FILE);
     read_exporter(alloc, name, loaded)
 }
 

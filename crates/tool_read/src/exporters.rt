@@ -2,15 +2,15 @@
 ghost use Rattle.std.specs.Prelude.{◌≡◌, ◌≤◌, ◌<◌, ◌^◌, IfOk, length};
 ghost use Rattle.lx_model.specs.Module.{IsRead};
 ghost use Rattle.lx_ports.specs.Calls.{load_answer};
-ghost use Rattle.lx_answer.specs.FileRefusals.{lx_text};
-ghost use Rattle.lx_answer.specs.Loading.{file_limit};
-ghost use Rattle.lx_answer.specs.Reading.{form_of, is_module, linked, module_file, module_form, module_or_definition};
+ghost use Rattle.answer_model.specs.FileRefusals.{lx_text};
+ghost use Rattle.answer_model.specs.Loading.{file_limit};
+ghost use Rattle.answer_model.specs.Reading.{form_of, is_module, linked, module_file, module_form, module_or_definition};
 ghost use Rattle.tool_read.specs.Readings.{ReadsForm, ReadsLoad, SaysOf, WholeExporter, exporter_item};
 
 use crate::definitions::definition;
 use crate::lines::told;
 use crate::loads::opened;
-use lx_answer::Said;
+use answer_model::Said;
 use lx_ports::LoadFault;
 use lx_read::read_module;
 use lx_types::{Bytes, Fail, LxRefusal, Module, Seq};

@@ -3,18 +3,18 @@ ghost use Rattle.std.specs.Prelude.{◌≡◌, ◌≤◌, IfOk, length};
 ghost use Rattle.std.specs.List.{All};
 ghost use Rattle.obj_types.specs.Whole.{WholeModule};
 ghost use Rattle.lx_ports.specs.Calls.{load_answer};
-ghost use Rattle.lx_answer.specs.FileRefusals.{omf_text};
-ghost use Rattle.lx_answer.specs.Loading.{file_limit};
-ghost use Rattle.lx_answer.specs.Reading.{form_of, is_library, library, library_form, object, object_file, object_form, object_or_library};
+ghost use Rattle.answer_model.specs.FileRefusals.{omf_text};
+ghost use Rattle.answer_model.specs.Loading.{file_limit};
+ghost use Rattle.answer_model.specs.Reading.{form_of, is_library, library, library_form, object, object_file, object_form, object_or_library};
 ghost use Rattle.tool_read.specs.Readings.{ReadsForm, ReadsLoad, SaysOf, WholeInputFile, input_item};
 
 use crate::lines::told;
 use crate::loads::opened;
-use lx_answer::Said;
+use answer_model::Said;
 use lx_ports::LoadFault;
 use lx_types::{Bytes, Fail, Seq};
 use obj_types::{ObjModule, OmfRefusal};
-use omf_files::{read_library, read_object};
+use omf_files::{LIBRARY_HEADER, read_library, read_object};
 use omf_model::meaning_is_whole;
 use refusal_text::omf_text;
 use std::alloc::Global;
@@ -25,9 +25,6 @@ pub enum Input {
     Object(ObjModule),
     Library(Seq<ObjModule>),
 }
-
-/// The type byte of a library's header.
-const LIBRARY: u8 = 0xF0;
 
 fn fault(alloc: Global, refusal: &OmfRefusal) -> Fail<Bytes>
     ensures { SaysOf (λ text. text ≡ omf_text refusal.now) result }
@@ -66,7 +63,7 @@ fn is_library(bytes: &[u8]) -> bool
     ensures { result ≡ is_library bytes.now }
 {
     match bytes {
-        [first, ..] => *first == LIBRARY,
+        [first, ..] => *first == LIBRARY_HEADER,
         [] => false,
     }
 }

@@ -1,9 +1,9 @@
 //! Lines by which something is told of a file.
 ghost use Rattle.std.specs.Prelude.{◌≡◌, IfOk};
-ghost use Rattle.lx_answer.specs.FileLine.{file_line};
+ghost use Rattle.answer_model.specs.FileLine.{file_line};
 ghost use Rattle.tool_read.specs.Readings.{SaysOf, Tells};
 
-use lx_answer::{REFUSED, Said};
+use answer_model::{REFUSED, Said};
 use lx_types::{Bytes, Fail, NoMemory, Seq};
 use std::alloc::Global;
 

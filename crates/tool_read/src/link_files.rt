@@ -4,21 +4,20 @@ ghost use Rattle.lx_ports.specs.declared.files.LoadFault.{LoadFault};
 ghost use Rattle.obj_types.specs.Definition.{WholeDef};
 ghost use Rattle.obj_types.specs.Input.{WholeInput};
 ghost use Rattle.obj_types.specs.Whole.{WholeModule};
-ghost use Rattle.lx_answer.specs.LinkAnswer.{input_of, input_with};
-ghost use Rattle.lx_answer.specs.Reading.{object, object_file, object_or_library};
-ghost use Rattle.lx_answer.specs.Says.{asked_definition, asked_inputs};
+ghost use Rattle.answer_model.specs.LinkAnswer.{input_of, input_with};
+ghost use Rattle.answer_model.specs.Reading.{object, object_file, object_or_library};
+ghost use Rattle.answer_model.specs.AskedFiles.{asked_definition, asked_inputs};
 ghost use Rattle.tool_read.specs.Readings.{ReadsLoad, asked};
 ghost use Rattle.tool_read.specs.Steps.{AddsInput, AreModulesOf, AreWhole, GivesDefinition, IsInputWith, IsOneLoad, ReadsInTurn};
 
 use crate::counts::total;
 use crate::definitions::read_definition_file;
 use crate::inputs::{read_input, read_object_file};
-use crate::loads::FILE_LIMIT;
 use crate::modules::Modules;
-use command_words::stem_of;
-use lx_answer::Said;
+use answer_model::Said;
+use command_line::stem_of;
 use lx_ports::Files;
-use lx_types::{Fail, Name, NoMemory, Seq};
+use lx_types::{Fail, MAX_FILE, Name, NoMemory, Seq};
 use obj_types::{DefFile, LinkInput, ModKind, ObjModule};
 use std::alloc::Global;
 
@@ -33,7 +32,7 @@ pub fn read_object<F: Files>(
         × ReadsLoad object object_file name.now answer result }
     ensures whole { IfOk result WholeModule }
 {
-    let loaded = files.load(alloc, name, FILE_LIMIT);
+    let loaded = files.load(alloc, name, MAX_FILE);
     read_object_file(alloc, name, loaded)
 }
 
@@ -49,7 +48,7 @@ fn read_definition<F: Files>(
 {
     match name {
         Some(name) => {
-            let loaded = files.load(alloc, name, FILE_LIMIT);
+            let loaded = files.load(alloc, name, MAX_FILE);
             read_definition_file(alloc, name, loaded)
         }
         None => Ok(DefFile::empty(alloc, ModKind::Program, None)),
@@ -69,7 +68,7 @@ fn read_next<F: Files>(
         × AddsInput (asked object_or_library name.now) answer modules.old modules.new result }
     ensures whole { OnOk result (AreWhole modules.new) }
 {
-    let loaded = files.load(alloc, name, FILE_LIMIT);
+    let loaded = files.load(alloc, name, MAX_FILE);
     match read_input(alloc, name, loaded) {
         Ok(input) => Ok(modules.add(input)?),
         Err(why) => Err(why),

@@ -1,18 +1,15 @@
 //! The answer to a load: the bytes of the file, or what is said where there are none.
 ghost use Rattle.std.specs.Prelude.{◌≡◌, ◌≤◌, IfOk, length};
 ghost use Rattle.lx_ports.specs.Calls.{load_answer};
-ghost use Rattle.lx_answer.specs.Loading.{file_limit};
-ghost use Rattle.lx_answer.specs.Reading.{Kind};
+ghost use Rattle.answer_model.specs.Loading.{file_limit};
+ghost use Rattle.answer_model.specs.Reading.{Kind};
 ghost use Rattle.tool_read.specs.Readings.{Opens};
 
 use crate::lines::refusal;
-use lx_answer::{READ_FAILED, REFUSED, Said};
+use answer_model::{READ_FAILED, REFUSED, Said};
 use lx_ports::LoadFault;
 use lx_types::Fail;
 use std::alloc::Global;
-
-/// The longest file that is loaded, in bytes.
-pub const FILE_LIMIT: u32 = 16_777_216;
 
 /// The bytes that a load gave.
 pub fn opened(

@@ -26,7 +26,7 @@ impl Modules {
         }
     }
 
-    /// Adds the modules of a file behind the others.
+    /// Adds the modules of a file after the others.
     pub fn add(&mut self, input: Input) -> Result<(), NoMemory>
         requires whole { AreWhole self.old }
         requires input { WholeInputFile input }

@@ -1,6 +1,6 @@
 //! The text of a link's refusal.
 ghost use Rattle.std.specs.Prelude.{◌≡◌, IfOk};
-ghost use Rattle.lx_answer.specs.LinkAnswer.{link_text};
+ghost use Rattle.answer_model.specs.LinkAnswer.{link_text};
 
 use link_model::LinkRefusal;
 use refusal_text::{comdat_text, entry_text, fix_text, lay_text, sym_text};

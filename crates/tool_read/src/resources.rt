@@ -2,18 +2,18 @@
 ghost use Rattle.std.specs.Prelude.{◌≡◌, ◌≤◌, ℕ, List, Result, IfOk, length, sum_by};
 ghost use Rattle.lx_ports.specs.Calls.{load_answer};
 ghost use Rattle.lx_ports.specs.declared.files.LoadFault.{LoadFault};
-ghost use Rattle.lx_answer.specs.ResourceRefusals.{res_text};
+ghost use Rattle.answer_model.specs.ResourceRefusals.{res_text};
 ghost use Rattle.res_model.specs.ResFile.{AreApart};
-ghost use Rattle.lx_answer.specs.Loading.{file_limit};
-ghost use Rattle.lx_answer.specs.Reading.{resources, resource_file, resource_form};
+ghost use Rattle.answer_model.specs.Loading.{file_limit};
+ghost use Rattle.answer_model.specs.Reading.{resources, resource_file, resource_form};
 ghost use Rattle.tool_read.specs.Readings.{ReadsForm, ReadsLoad, SaysOf};
 ghost use Rattle.tool_read.specs.Steps.{IsOneLoad};
 
 use crate::lines::told;
-use crate::loads::{FILE_LIMIT, opened};
-use lx_answer::Said;
+use crate::loads::opened;
+use answer_model::Said;
 use lx_ports::{Files, LoadFault};
-use lx_types::{Bytes, Fail, Seq};
+use lx_types::{Bytes, Fail, MAX_FILE, Seq};
 use refusal_text::res_text;
 use res_file::read_res;
 use res_model::{ResItem, ResRefusal};
@@ -72,6 +72,6 @@ pub fn read_resources<F: Files>(
     ensures apart { IfOk result AreApart }
     ensures small { IfOk result (λ items. sum_by (λ i. length i.bytes) items ≤ file_limit) }
 {
-    let loaded = files.load(alloc, name, FILE_LIMIT);
+    let loaded = files.load(alloc, name, MAX_FILE);
     read_resource_file(alloc, name, loaded)
 }

@@ -3,18 +3,18 @@ ghost use Rattle.std.specs.Prelude.{◌≡◌, ◌≤◌, ℕ, List, Result, IfO
 ghost use Rattle.lx_model.specs.Module.{IsRead};
 ghost use Rattle.lx_ports.specs.Calls.{load_answer};
 ghost use Rattle.lx_ports.specs.declared.files.LoadFault.{LoadFault};
-ghost use Rattle.lx_answer.specs.SessionRefusals.{session_text};
-ghost use Rattle.lx_answer.specs.Loading.{file_limit};
-ghost use Rattle.lx_answer.specs.Reading.{linked, module_file, session, session_file, session_form};
+ghost use Rattle.answer_model.specs.SessionRefusals.{session_text};
+ghost use Rattle.answer_model.specs.Loading.{file_limit};
+ghost use Rattle.answer_model.specs.Reading.{linked, module_file, session, session_file, session_form};
 ghost use Rattle.tool_read.specs.Readings.{ReadsForm, ReadsLoad, SaysOf};
 ghost use Rattle.tool_read.specs.Steps.{IsOneLoad};
 
 use crate::exporters::read_module_file;
 use crate::lines::told;
-use crate::loads::{FILE_LIMIT, opened};
-use lx_answer::Said;
+use crate::loads::opened;
+use answer_model::Said;
 use lx_ports::{Files, LoadFault};
-use lx_types::{Bytes, Fail, Module, Seq};
+use lx_types::{Bytes, Fail, MAX_FILE, Module, Seq};
 use refusal_text::session_text;
 use session_model::{Session, SessionRefusal};
 use std::alloc::Global;
@@ -32,7 +32,7 @@ fn session(alloc: Global, bytes: &[u8]) -> Result<Session, Fail<Bytes>>
     requires { length bytes.now ≤ file_limit }
     ensures { ReadsForm session session_form bytes.now result }
 {
-    match session_lines::read_session(alloc, bytes) {
+    match session_read::read_session(alloc, bytes) {
         Ok(session) => Ok(session),
         Err(Fail::Said(refusal)) => Err(fault(alloc, refusal)),
         Err(Fail::NoMemory) => Err(Fail::NoMemory),
@@ -66,7 +66,7 @@ pub fn read_session<F: Files>(
         × IsOneLoad name.now answer (F.state files.old) (F.state files.new)
         × ReadsLoad session session_file name.now answer result }
 {
-    let loaded = files.load(alloc, name, FILE_LIMIT);
+    let loaded = files.load(alloc, name, MAX_FILE);
     read_session_file(alloc, name, loaded)
 }
 
@@ -77,6 +77,6 @@ pub fn read_module<F: Files>(alloc: Global, files: &mut F, name: &str) -> Result
         × ReadsLoad linked module_file name.now answer result }
     ensures whole { IfOk result IsRead }
 {
-    let loaded = files.load(alloc, name, FILE_LIMIT);
+    let loaded = files.load(alloc, name, MAX_FILE);
     read_module_file(alloc, name, loaded)
 }

@@ -2,6 +2,7 @@
 
 ghost use Rattle.std.specs.Prelude.{◌≡◌, ℕ, ◌+◌, ◌^◌, ◌<◌, ◌∷◌, [], length, Some, false, IfSome, IsSome, IfOk, ◌≤◌};
 ghost use mathlib.Core.List.{IsPrefix};
+ghost use Rattle.lx_types.specs.declared.limits.TheConstants.{MAX_PROCESSES};
 ghost use Rattle.turn_lock.specs.Turns.{by_pid, Adds, giving, dealing, dealt, joining};
 ghost use Rattle.turn_lock.specs.Passes.{Waits, Took, Shown, Idle, HasTurn, Closing, AllDealt, at_start};
 
@@ -170,7 +171,7 @@ impl<V: Chronicle> TurnLock<V> {
     ) -> Result<(TurnLock<V>, Vec<Pass<V>>), NoMemory>
     where
         V: Drop,
-        requires count { (1 ≤ count) × (count ≤ 16) }
+        requires count { (1 ≤ count) × (count ≤ MAX_PROCESSES) }
         requires empty { V.history value ≡ [] }
         ensures { IfOk result (λ r. AllDealt r.0 (Some (V.subject value)) count r.1.items) }
     {
@@ -182,7 +183,7 @@ impl<V: Chronicle> TurnLock<V> {
 
     // The first pass, and as many others as make `count`.
     fn deal_out(&self, alloc: Global, first: Pass<V>, count: u32) -> Result<Vec<Pass<V>>, NoMemory>
-        requires count { (1 ≤ count) × (count ≤ 16) }
+        requires count { (1 ≤ count) × (count ≤ MAX_PROCESSES) }
         requires first { (first.table_id ≡ self.now) × (first.me ≡ at_start first.me.0.subject 1 1) }
         ensures { IfOk result (λ ps. AllDealt self.now first.me.0.subject count ps.items) }
     {
@@ -199,7 +200,7 @@ impl<V: Chronicle> TurnLock<V> {
     fn deal(&self, first: &mut Pass<V>) -> Pass<V>
         requires lock { first.old.table_id ≡ self.now }
         requires idle { Idle first.old.me }
-        requires room { (first.old.me.0.pid ≡ 1) × (first.old.me.0.live < 16) × (first.old.me.0.ended ≡ []) }
+        requires room { (first.old.me.0.pid ≡ 1) × (first.old.me.0.live < MAX_PROCESSES) × (first.old.me.0.ended ≡ []) }
         ensures first { (first.new.table_id ≡ first.old.table_id) × (first.new.me ≡ (dealing first.old.me.0, [])) }
         ensures next { (result.table_id ≡ first.old.table_id) × (result.me ≡ (dealt first.old.me.0, [])) }
     {

@@ -3,12 +3,9 @@
 ghost use Rattle.std.specs.Prelude.{◌≡◌, ◌≤◌, ◌<◌, ◌+◌, ◌-◌, ℕ, None, IfOk, length, replicate, slice_index, slice_index_or};
 ghost use Rattle.write_overlay.specs.Layered.{laid_under, put_under};
 
-use lx_types::NoMemory;
+use lx_types::{NoMemory, PAGE_LEN};
 use std::alloc::Global;
 use std::marker::Model;
-
-/// How many bytes a page has.
-pub const PAGE: usize = 4096;
 
 /// The bytes of a page that were written, each as it was written last; none where nothing was.
 #[derive(Drop)]
@@ -17,13 +14,14 @@ pub struct Layer {
 }
 
 impl Model for Layer {
+    ghost use Rattle.lx_types.specs.declared.limits.TheConstants.{PAGE_LEN};
     ghost use Rattle.std.specs.Prelude.{◌≡◌, List, Option, ℕ, length};
 
     ghost Value = { List (Option ℕ) };
 
     ghost view = { λ l. l.bytes.items };
 
-    ghost invariant = { λ l. length l.bytes.items ≡ 4096 };
+    ghost invariant = { λ l. length l.bytes.items ≡ PAGE_LEN };
 }
 
 /// Puts a run at a place of a page.
@@ -50,15 +48,15 @@ fn lay_run(bytes: &[Option<u8>], from: usize, place: usize, len: usize, into: &m
 impl Layer {
     /// Nothing was written.
     pub fn new(alloc: Global) -> Result<Layer, NoMemory>
-        ensures { IfOk result (λ layer. layer ≡ replicate 4096 None) }
+        ensures { IfOk result (λ layer. layer ≡ replicate PAGE_LEN None) }
     {
-        let bytes = vec![in alloc; None; PAGE]?;
+        let bytes = vec![in alloc; None; PAGE_LEN]?;
         Ok(Layer { bytes })
     }
 
     /// Puts a run at a place of the page.
     pub fn put(&mut self, place: usize, run: &[u8])
-        requires { place + length run.now ≤ 4096 }
+        requires { place + length run.now ≤ PAGE_LEN }
         ensures { (k : ℕ) → slice_index_or self.new k None ≡ put_under place run.now k (slice_index_or self.old k None) }
     {
         put_run(self.bytes.as_mut_slice(), place, run);
@@ -66,7 +64,7 @@ impl Layer {
 
     /// Lays what was written to the page, from `from` on, over `len` bytes from a place on.
     pub fn lay(&self, from: usize, place: usize, len: usize, into: &mut [u8])
-        requires written { from + len ≤ 4096 }
+        requires written { from + len ≤ PAGE_LEN }
         requires fits { place + len ≤ length into.old }
         ensures { (k : ℕ) → slice_index into.new k ≡ laid_under self.now from place len k (slice_index into.old k) }
     {

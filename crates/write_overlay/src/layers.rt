@@ -6,9 +6,9 @@ ghost use Rattle.load_model.specs.State.{Written};
 ghost use Rattle.write_overlay.specs.Laid.{bytes_under};
 ghost use Rattle.write_overlay.specs.Layered.{Lays, IsMade, AreMade, is_page_at, byte_laid, byte_over, run_under};
 
-use crate::layer::{Layer, PAGE};
+use crate::layer::Layer;
 use crate::write::Write;
-use lx_types::NoMemory;
+use lx_types::{NoMemory, PAGE_LEN};
 use std::alloc::Global;
 use std::collections::HashMap;
 use std::marker::Model;
@@ -67,23 +67,23 @@ impl Layers {
         let mut done = 0;
         while done < bytes.len() {
             let at = offset as usize + done;
-            self.make_page(object, at / PAGE)?;
-            done += (PAGE - at % PAGE).min(bytes.len() - done);
+            self.make_page(object, at / PAGE_LEN)?;
+            done += (PAGE_LEN - at % PAGE_LEN).min(bytes.len() - done);
         }
         Ok(())
     }
 
     /// Puts a run that lies in one page.
     fn put_run(&mut self, object: u32, at: usize, run: &[u8])
-        requires made { IsMade self.old object (at / 4096) }
-        requires fits { at % 4096 + length run.now ≤ 4096 }
+        requires made { IsMade self.old object (at / PAGE_LEN) }
+        requires fits { at % PAGE_LEN + length run.now ≤ PAGE_LEN }
         ensures stay { (q p : ℕ) → IsMade self.old q p → IsMade self.new q p }
         ensures laid { (q x : ℕ) → byte_laid self.new q x ≡ run_under object at run.now q x (byte_laid self.old q x) }
     {
-        let Some(layer) = self.pages.get_mut(&(object, at / PAGE)) else {
+        let Some(layer) = self.pages.get_mut(&(object, at / PAGE_LEN)) else {
             unreachable!()
         };
-        layer.put(at % PAGE, run);
+        layer.put(at % PAGE_LEN, run);
     }
 
     /// Puts bytes into pages that were made.
@@ -94,7 +94,7 @@ impl Layers {
         let mut done = 0;
         while done < bytes.len() {
             let at = offset as usize + done;
-            let len = (PAGE - at % PAGE).min(bytes.len() - done);
+            let len = (PAGE_LEN - at % PAGE_LEN).min(bytes.len() - done);
             self.put_run(object, at, &bytes[done..done + len]);
             done += len;
         }
@@ -126,9 +126,9 @@ impl Layers {
         let mut done = 0;
         while done < into.len() {
             let at = offset as usize + done;
-            let len = (PAGE - at % PAGE).min(into.len() - done);
-            if let Some(layer) = self.page(object, at / PAGE) {
-                layer.lay(at % PAGE, done, len, into);
+            let len = (PAGE_LEN - at % PAGE_LEN).min(into.len() - done);
+            if let Some(layer) = self.page(object, at / PAGE_LEN) {
+                layer.lay(at % PAGE_LEN, done, len, into);
             }
             done += len;
         }

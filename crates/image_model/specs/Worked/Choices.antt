@@ -22,7 +22,7 @@ use Rattle.image_model.specs.PageForms.{form_of_page}
 
 pub record WorkedForms : Type 0 where
   pub empty : form_of_page (replicate 4096 0) ≡ zeros
-  -- zeros behind the last byte that is not 0 are no data
+  -- zeros after the last byte that is not 0 are no data
   pub short : form_of_page (0 ∷ 1 ∷ 0 ∷ 0 ∷ []) ≡ plain (0 ∷ 1 ∷ [])
   pub full : form_of_page (replicate 4096 0x90) ≡ iterated (record { times = 4096; bytes = 0x90 ∷ [] } ∷ [])
   pub pattern : form_of_page (repeat 1024 (0xDE ∷ 0xAD ∷ 0xBE ∷ 0xEF ∷ [])) ≡
@@ -62,7 +62,7 @@ pub record WorkedRecords : Type 0 where
       0x07 ∷ 0x76 ∷ 0x00 ∷ 0x00 ∷ 0x02 ∷ 0x01 ∷ 0x45 ∷ 0x23 ∷ 0x01 ∷ 0x00 ∷ 0x00 ∷ 0x00 ∷ 0x01 ∷ 0x00 ∷ []
   pub word_ordinal : record_bytes (fix Off32 (pos 0) (Ordinal 1 256) 0 ∷ []) ≡ 0x07 ∷ 0x01 ∷ 0x00 ∷ 0x00 ∷ 0x01 ∷ 0x00 ∷ 0x01 ∷ []
   pub selector : record_bytes (fix Sel (pos 0) (Internal 3 0) 0 ∷ []) ≡ 0x02 ∷ 0x00 ∷ 0x00 ∷ 0x00 ∷ 0x03 ∷ []
-  -- behind a list of 255 sources the next one begins a record
+  -- after a list of 255 sources the next one begins a record
   pub most : begins (replicate 255 (to_start (pos 0))) (to_start (pos 4)) ≡ true
   pub one_less : begins (replicate 254 (to_start (pos 0))) (to_start (pos 4)) ≡ false
 

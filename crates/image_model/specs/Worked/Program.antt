@@ -1,4 +1,4 @@
--- A worked program: its own stack behind an object of zeros, and an entry behind eight ordinals that nothing uses.
+-- A worked program: its own stack after an object of zeros, and an entry after eight ordinals that nothing uses.
 use Rattle.std.specs.Prelude.{◌≡◌, ℕ, List, [], ◌∷◌, Some, None, true, false, codes}
 use Rattle.obj_types.specs.declared.object.ObjModule.{ObjModule}
 use Rattle.obj_types.specs.declared.definition.ModKind.TheVariants.{Program}

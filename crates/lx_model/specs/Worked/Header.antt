@@ -1,4 +1,4 @@
--- Worked values: what the fields of the header may be, which of two faults comes first, and the same module behind
+-- Worked values: what the fields of the header may be, which of two faults comes first, and the same module after
 -- a DOS stub.
 use Rattle.std.specs.Prelude.{◌≡◌, ℕ, List, [], ◌∷◌, ◌++◌, None, take, replicate}
 use Rattle.lx_bytes.specs.LittleEndian.{little_bytes}
@@ -62,7 +62,7 @@ pub record WorkedOrder : Type 0 where
   pub cut_object : Refuses (take 0xDA worked_file) (fault kinds.Short 0xD8)
   pub bad_object : Refuses (take 0xDA (changed 0xD4 (2 ∷ []))) (fault kinds.Object 0xC4)
 
--- ---- behind a stub
+-- ---- after a stub
 
 -- a DOS program of 40h bytes, whose doubleword at 3Ch tells the header's place
 abbrev stub : List ℕ

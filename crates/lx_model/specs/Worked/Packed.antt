@@ -8,7 +8,7 @@ pub record WorkedPacking : Type 0 where
   pub pattern : packed (repeat 1024 (0xDE ∷ 0xAD ∷ 0xBE ∷ 0xEF ∷ [])) ≡ Some (0x00 ∷ 0x04 ∷ 0x04 ∷ 0x00 ∷ 0xDE ∷ 0xAD ∷ 0xBE ∷ 0xEF ∷ [])
   pub same : packed (replicate 4096 0x90) ≡ Some (0x00 ∷ 0x10 ∷ 0x01 ∷ 0x00 ∷ 0x90 ∷ [])
   pub zeros : packed (replicate 4096 0) ≡ None
-  -- the shortest pattern is taken, and zeros behind the last other byte are none of it
+  -- the shortest pattern is taken, and zeros after the last other byte are none of it
   pub shortest : packed (replicate 12 0x41 ++ replicate 4 0) ≡ Some (0x0C ∷ 0x00 ∷ 0x01 ∷ 0x00 ∷ 0x41 ∷ [])
   -- a run of 16 between bytes that stand once, among them a run of 7
   pub runs : packed (0x41 ∷ replicate 7 0x42 ++ replicate 16 0x43 ++ 0x44 ∷ 0 ∷ [])

@@ -42,7 +42,7 @@ pub record WorkedResources : Type 0 where
   pub object_3 : Res (with_resources 1 (item 1 2 0 3 0)) 1 2 ≡ None
   pub long : Res (with_resources 1 (item 1 2 4 2 0)) 1 2 ≡ None
   pub late : Res (with_resources 1 (item 1 2 3 2 1)) 1 2 ≡ None
-  -- a good entry is found behind a bad one of its key
+  -- a good entry is found after a bad one of its key
   pub behind_bad : Res (with_resources 2 (item 1 2 4 2 0 ++ item 1 2 1 2 2)) 1 2 ≡ Some (spot 2 2 1)
   -- an entry that the file's end cuts off does not count, though the bytes that are left have the key
   pub cut : Res (with_resources 1 (take 13 (item 1 2 3 2 0))) 1 2 ≡ None

@@ -1,7 +1,7 @@
 use Rattle.std.proofs.Common.{List, [], ℕ, ap, sym, subst, refl, length}
 use Rattle.std.specs.Option.{option_map}
 use Rattle.obj_types.specs.declared.object.ObjModule.{ObjModule}
-use Rattle.first_table.specs.Entries.{value_named}
+use Rattle.name_table.specs.Entries.{value_named}
 use Rattle.comdat_core.specs.declared.taking.Placed.{Placed}
 use Rattle.comdat_core.specs.Taking.{placed, owned_in, AreFirsts, AreSeen}
 use Rattle.comdat_core.proofs.Lists.{objects_behind}

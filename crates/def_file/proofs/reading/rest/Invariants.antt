@@ -5,7 +5,7 @@ use Rattle.def_model.specs.Reading.{run}
 use Rattle.def_file.specs.Whole.{WholeReading}
 use Rattle.def_file.proofs.reading.rest.Given as goal
 
--- What the tokens that are left say behind those so far is what the file says.
+-- What the tokens that are left say after those so far is what the file says.
 abbrev pub invariant-loop-next : goal.invariant-loop-next
 invariant-loop-next l = (run (reading l.draft l.place) (tokens_from l.lexer) ≡ run (reading l.fn.draft l.fn.start) (tokens_of l.bytes)) × WholeReading (reading l.draft l.place)
 

@@ -3,7 +3,7 @@ use Rattle.std.specs.List.{range_with_len}
 use Rattle.std.proofs.lemmas.List.FromFn.{map-range_with_len_more}
 use Rattle.dump_model.specs.declared.listing.ListedObject.{ListedObject}
 use Rattle.dump_model.specs.Listings.{listed_object}
-use Rattle.dump_core.proofs.PageLaws.{few-objects}
+use Rattle.dump_core.proofs.ObjectCounts.{few-objects}
 use Rattle.dump_core.proofs.listed.listed_objects.Goals as goal
 
 pub overflow_add-number : goal.overflow_add-number

@@ -3,5 +3,5 @@ use Rattle.dump_core.proofs.listed.listed_page.Goals as goal
 
 pub returns : goal.returns
 returns c =
-    page-listed c.args.m.now c.args.id c.entry_of_page-entry.result c.page_head-head.result c.records_span-from.result _ c.entry_of_page-entry.ensures
-    c.page_head-head.ensures c.records_span-from.ensures c.in_ok-fixes.ensures
+    page-listed c.args.m.now c.args.id c.counted_page-head.result c.counted_span-from.result _ c.counted_page-head.ensures.head
+    c.counted_span-from.ensures.span c.in_ok-fixes.ensures

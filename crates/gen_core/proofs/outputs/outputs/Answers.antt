@@ -1,5 +1,5 @@
 use Rattle.std.proofs.Common.{◌≡◌, ◌+◌, ◌++◌, ◌∷◌, ◌∙◌, [], ℕ, List, ap, rules, subst, sym}
-use Rattle.lx_answer.specs.GenAnswer.{GenWords}
+use Rattle.answer_model.specs.GenAnswer.{GenWords}
 use Rattle.gen_core.specs.declared.outputs.Output.{Output}
 use Rattle.gen_core.specs.Generated.{AreOutputs}
 use Rattle.gen_core.proofs.Made.{HasMade, all_made, made_more}

@@ -1,7 +1,7 @@
 use Rattle.std.proofs.Common.{◌≡◌, ◌∙◌, ap, sym, length, Ok, Err}
 use Rattle.load_model.specs.Entering.{placed_from, resident_ranges}
-use Rattle.stay_table.specs.Placing.{no_room_of}
-use Rattle.stay_table.specs.Standing.{residences}
+use Rattle.residence_table.specs.Placing.{no_room_of}
+use Rattle.residence_table.specs.Residences.{residences}
 use Rattle.gen_core.proofs.Answered.{refused_with}
 use Rattle.gen_core.proofs.Placed.{are_placed, empty, numbers_below, room_for_all}
 use Rattle.gen_core.proofs.placing.placed.Goals as goal

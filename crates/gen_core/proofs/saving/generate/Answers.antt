@@ -1,4 +1,4 @@
-use Rattle.lx_answer.specs.GenAnswer.{GenWords}
+use Rattle.answer_model.specs.GenAnswer.{GenWords}
 use Rattle.gen_core.proofs.Made.{generated}
 use Rattle.gen_core.proofs.saving.generate.Goals as goal
 

@@ -1,7 +1,7 @@
 use Rattle.std.proofs.Common.{◌≡◌, ◌+◌, ◌∙◌, arith}
-use Rattle.session_spelling.specs.Sessions.{module_line}
+use Rattle.session_model.specs.Spelling.{module_line}
 use Rattle.gen_model.specs.Sessions.{build_line}
-use Rattle.gen_model.proofs.Ranges.{lines_further}
+use Rattle.gen_core.proofs.Further.{lines_further}
 use Rattle.gen_core.proofs.sessions.push_build_lines.Goals as goal
 
 pub loop-before-preserved : goal.loop-before-preserved

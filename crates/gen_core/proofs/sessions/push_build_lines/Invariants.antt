@@ -1,6 +1,6 @@
 use Rattle.std.proofs.Common.{◌≡◌, ◌++◌, map}
 use Rattle.std.specs.List.{flat_map, range_with_len}
-use Rattle.session_spelling.specs.Sessions.{module_line}
+use Rattle.session_model.specs.Spelling.{module_line}
 use Rattle.gen_model.specs.Sessions.{build_line}
 use Rattle.gen_core.proofs.sessions.push_build_lines.Given as goal
 

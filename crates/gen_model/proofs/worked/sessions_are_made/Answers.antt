@@ -1,6 +1,6 @@
 use Rattle.std.proofs.Common.{refl}
 use Rattle.std.specs.Fmt.{digits}
-use Rattle.session_spelling.specs.Sessions.{session_bytes}
+use Rattle.session_model.specs.Spelling.{session_bytes}
 use Rattle.gen_model.specs.Sessions.{gen_session}
 use Rattle.gen_model.proofs.worked.sessions_are_made.Goals as goal
 

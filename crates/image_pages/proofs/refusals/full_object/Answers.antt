@@ -19,4 +19,4 @@ returns c =
 pub returns-then-is_past : goal.returns-then-is_past
 returns-then-is_past c =
     full_here c.args.objects.now c.loop-index.index _ _ _ c.loop-index-test.true (get_or_default c.args.objects.now c.loop-index.index _ _ c.loop-index-test.true)
-    (sym c.is_past.ensures ∙ c.if-is_past.true) c.in_ok-number.ensures c.loop-index.invariant
+    (sym c.is_past.ensures ∙ c.if-is_past.true) c.in_ok-count.ensures c.loop-index.invariant

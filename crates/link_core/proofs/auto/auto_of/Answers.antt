@@ -12,8 +12,8 @@ pub returns-in-Some : goal.returns-in-Some
 returns-in-Some c = λ l of are.
     c.object_or_0.ensures
     ∙ ap (λ (o : Option (Option ℕ)). unwrap_or (option_and_then (λ (x : Option ℕ). x) o) 0) c.group.ensures
-    ∙ auto-found l c.args.places.now c.args.modules.now c.index-modules-index.result c.loop-index.index c.in_ok-number.field-0 c.in_ok-number-2.field-0 c.in-Some.group of are c.loop-index-test.true c.index-modules-index.is
-    c.in_ok-number.ensures c.in_ok-number-2.ensures (sym (c.dgroup_in.ensures ∙ ap (λ (gs : List Group). position named gs) c.as_slice.ensures) ∙ c.in-Some.is)
+    ∙ auto-found l c.args.places.now c.args.modules.now c.index-modules-index.result c.loop-index.index c.in_ok-count.field-0 c.in_ok-count-2.field-0 c.in-Some.group of are c.loop-index-test.true c.index-modules-index.is
+    c.in_ok-count.ensures c.in_ok-count-2.ensures (sym (c.dgroup_in.ensures ∙ ap (λ (gs : List Group). position named gs) c.as_slice.ensures) ∙ c.in-Some.is)
 
 pub loop-index-preserved : goal.loop-index-preserved
 loop-index-preserved c =

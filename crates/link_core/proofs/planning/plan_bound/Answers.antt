@@ -2,7 +2,7 @@ use Rattle.std.proofs.Common.{◌≡◌, None, refl, subst}
 use Rattle.link_model.specs.declared.refusals.LinkRefusal.TheVariants.{Comdat, Lay}
 use Rattle.link_model.specs.Clash.{comdat_refusal}
 use Rattle.link_place.proofs.AnswersMapped.{answers-value, answers-map}
-use Rattle.sym_table.specs.Binding.{IsBound}
+use Rattle.link_types.specs.Binding.{IsBound}
 use Rattle.link_core.specs.Planned.{comdat_failed, lay_failed}
 use Rattle.link_core.proofs.Assembled.{failed-by, comdat-refused, lay-refused, kept-refused, plan-of-kept}
 use Rattle.link_core.proofs.planning.plan_bound.Goals as goal

@@ -17,10 +17,10 @@ pub loop-index-preserved : goal.loop-index-preserved
 loop-index-preserved c =
     let in_module = fixups_in c.args.places.now c.args.syms.now in
     record {
-      found = module-more (λ n m. map bare (in_module n m)) c.args.modules.now c.loop-index.index c.in_ok-number.field-0 c.index-modules-index.result (map shown c.loop-index.found.items) (map shown c.add_to.new.found.items) c.loop-index-test.true
-          c.index-modules-index.is c.in_ok-number.ensures c.loop-index.invariant.found c.in_ok-add_to.ensures.1;
+      found = module-more (λ n m. map bare (in_module n m)) c.args.modules.now c.loop-index.index c.in_ok-count.field-0 c.index-modules-index.result (map shown c.loop-index.found.items) (map shown c.add_to.new.found.items) c.loop-index-test.true
+          c.index-modules-index.is c.in_ok-count.ensures c.loop-index.invariant.found c.in_ok-add_to.ensures.1;
       judged = passed _ _ _ _ c.loop-index.invariant.judged
-          (module-split in_module c.args.modules.now c.loop-index.index c.in_ok-number.field-0 c.index-modules-index.result c.loop-index-test.true c.index-modules-index.is c.in_ok-number.ensures)
+          (module-split in_module c.args.modules.now c.loop-index.index c.in_ok-count.field-0 c.index-modules-index.result c.loop-index-test.true c.index-modules-index.is c.in_ok-count.ensures)
           c.in_ok-add_to.ensures.0;
     }
 
@@ -31,7 +31,7 @@ returns-in_err-add_to c =
     rw (e.1, e.2)
     (failed_by c.in_err-add_to.field-0.0 _ _ _ _
     (λ refusal told. refused _ _ _ _ refusal c.loop-index.invariant.judged
-    (module-split in_module c.args.modules.now c.loop-index.index c.in_ok-number.field-0 c.index-modules-index.result c.loop-index-test.true c.index-modules-index.is c.in_ok-number.ensures) told) c.in_err-add_to.ensures)
+    (module-split in_module c.args.modules.now c.loop-index.index c.in_ok-count.field-0 c.index-modules-index.result c.loop-index-test.true c.index-modules-index.is c.in_ok-count.ensures) told) c.in_err-add_to.ensures)
 
 pub returns : goal.returns
 returns c =

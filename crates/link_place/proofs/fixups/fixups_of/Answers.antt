@@ -6,7 +6,7 @@ use Rattle.link_fix.specs.Bare.{bare}
 use Rattle.link_place.specs.Fixed.{fixups_by}
 use Rattle.link_place.specs.Judged.{first_refusal}
 use Rattle.link_place.specs.Meanings.{HasMeanings}
-use Rattle.seg_merge.specs.Places.{ArePlaces}
+use Rattle.link_types.specs.Places.{ArePlaces}
 use Rattle.link_place.proofs.AnswersMapped.{answers-map, answers-ok}
 use Rattle.link_place.proofs.Located.{fixups-are}
 use Rattle.link_place.proofs.PlacedPages.{all-accepted}

@@ -2,8 +2,8 @@ use Rattle.std.proofs.Common.{◌≡◌, ◌∙◌, ap, map, subst, sym, None, S
 use Rattle.link_model.specs.declared.symbols.LaidObject.{LaidObject}
 use Rattle.link_model.specs.Link.{Link}
 use Rattle.obj_types.specs.declared.object.ObjModule.{ObjModule}
-use Rattle.sym_table.specs.Symbols.{SymbolTable}
-use Rattle.seg_merge.specs.declared.layout.Layout.{Layout}
+use Rattle.link_types.specs.Symbols.{SymbolTable}
+use Rattle.link_types.specs.declared.layout.Layout.{Layout}
 use Rattle.link_place.specs.declared.placing.Placed.{Placed}
 use Rattle.link_place.specs.Placing.{AreLaid}
 use Rattle.link_place.proofs.PlacedPages.{refused-fixup, start-decides}

@@ -1,6 +1,6 @@
 use Rattle.load_model.proofs.Orders.{orders_nest}
 use Rattle.load_model.proofs.EntryReach.{spots_are_ordered}
-use Rattle.load_model.proofs.Standing.{refused_by_view}
+use Rattle.load_model.proofs.Views.{refused_by_view}
 use Rattle.load_model.proofs.ViewReplies.{answered_by_view}
 use Rattle.load_model.proofs.laws.views_answer.Goals as goal
 

@@ -1,5 +1,5 @@
 use Rattle.load_model.proofs.Orders.{orders_nest}
-use Rattle.load_model.proofs.Standing.{new_stands, stands_on}
+use Rattle.load_model.proofs.Views.{new_stands, stands_on}
 use Rattle.load_model.proofs.ViewSteps.{stands_quiet, stands_mapped}
 use Rattle.load_model.proofs.ViewWrites.{stands_written}
 use Rattle.load_model.proofs.ViewLoads.{stands_entered}

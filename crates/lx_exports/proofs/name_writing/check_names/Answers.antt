@@ -1,7 +1,7 @@
 use Rattle.std.proofs.Common.{◌≡◌, ◌∙◌, ap, sym, map, drop, true, false, Bool, List, ℕ, Option, Some, None, refl, Bor, ◌+◌}
 use Rattle.std.specs.Prelude.{is_some, option_copied, bytes_eq}
 use Rattle.std.specs.Option.{option_map}
-use Rattle.first_table.specs.Entries.{value_named, with_entry}
+use Rattle.name_table.specs.Entries.{value_named, with_entry}
 use Rattle.link_model.specs.Words.{first_conflict}
 use Rattle.link_model.specs.declared.refusals.EntryRefusal.TheVariants.{NameTwice}
 use Rattle.lx_exports.specs.Exports.{names_of}

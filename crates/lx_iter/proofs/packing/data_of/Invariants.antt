@@ -2,7 +2,7 @@ use Rattle.std.proofs.Common.{◌≡◌, ◌≤◌, length, take}
 use Rattle.lx_model.specs.Packed.{data_of}
 use Rattle.lx_iter.proofs.packing.data_of.Given as goal
 
--- zeros alone stand behind the end
+-- zeros alone stand after the end
 abbrev pub invariant-loop-end : goal.invariant-loop-end
 invariant-loop-end l = record {
   within : l.end ≤ length l.page;

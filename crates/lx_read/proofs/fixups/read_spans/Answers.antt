@@ -1,5 +1,6 @@
 use Rattle.std.proofs.Common.{◌<◌, ◌≤◌, ℕ, map, sym, ap, ◌∙◌, arith}
 use Rattle.std.specs.List.{range_with_len}
+use Rattle.lx_model.specs.declared.header_fields.TheConstants.{FIXUP_PAGE_TABLE}
 use Rattle.lx_model.specs.Header.{page_count, table}
 use Rattle.lx_model.specs.FixupPages.{has_records}
 use Rattle.lx_read.proofs.Spans.{has_table, has_none, no_records, start_wrong, span_wrong, span_read, spans_read}
@@ -8,13 +9,13 @@ use Rattle.lx_read.proofs.fixups.read_spans.Goals as goal
 pub returns-in_default : goal.returns-in_default
 returns-in_default c =
     let file = c.args.file.now in
-    let none = no_records file (has_none file (has_records file) (table file 0x68) (sym c.requires.fixup_pages.0 ∙ c.in_default.is)) in
+    let none = no_records file (has_none file (has_records file) (table file FIXUP_PAGE_TABLE) (sym c.requires.fixup_pages.0 ∙ c.in_default.is)) in
     (none.0, c.in_ok-no_spans.ensures ∙ ap (λ (n : ℕ). map (λ _. (0, 0)) (range_with_len 0 n)) c.requires.pages ∙ sym none.1)
 
 pub returns-in_err-from : goal.returns-in_err-from
 returns-in_err-from c =
     let file = c.args.file.now in
-    let has = has_table file (has_records file) (table file 0x68) c.in-Some.table (sym c.requires.fixup_pages.0 ∙ c.in-Some.is) in
+    let has = has_table file (has_records file) (table file FIXUP_PAGE_TABLE) c.in-Some.table (sym c.requires.fixup_pages.0 ∙ c.in-Some.is) in
     start_wrong file c.records_place.result c.in_err-from.field-0.0 c.from_residual-in_err-from.result has c.records_place.ensures c.in_err-from.ensures c.from_residual-in_err-from.ensures.1
 
 pub returns-in_err-to : goal.returns-in_err-to

@@ -1,7 +1,7 @@
 use Rattle.std.proofs.Common.{ℕ, List, subst}
 use Rattle.res_model.specs.declared.item.ResItem.{ResItem}
-use Rattle.lx_answer.specs.BindAnswer.{bind_outcome}
-use Rattle.lx_answer.specs.Outcome.{kept}
+use Rattle.answer_model.specs.BindAnswer.{bind_outcome}
+use Rattle.answer_model.specs.Outcome.{kept}
 use Rattle.lx_tool.specs.Doing.{DoesOutcome}
 use Rattle.lx_tool.proofs.Commands.{bound_kept, not_bound}
 use Rattle.lx_tool.proofs.bind.bind_items.Goals as goal

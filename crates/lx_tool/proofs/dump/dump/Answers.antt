@@ -1,7 +1,7 @@
 use Rattle.std.proofs.Common.{◌≡◌, List, ◌∷◌, []}
 use Rattle.lx_types.specs.declared.parts.Parts.{Parts}
-use Rattle.lx_answer.specs.Reading.{Item, linked, module_file}
-use Rattle.lx_answer.specs.Words.{dump}
+use Rattle.answer_model.specs.Reading.{Item, linked, module_file}
+use Rattle.answer_model.specs.Words.{dump}
 use Rattle.tool_read.specs.Readings.{asked}
 use Rattle.tool_read.proofs.Walk.{one_load}
 use Rattle.lx_tool.proofs.Commands.{dump_done, not_read}

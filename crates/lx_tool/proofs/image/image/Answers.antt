@@ -1,7 +1,7 @@
 use Rattle.std.proofs.Common.{◌≡◌, List, ◌∷◌, []}
 use Rattle.obj_types.specs.declared.object.ObjModule.{ObjModule}
-use Rattle.lx_answer.specs.Reading.{Item, object, object_file}
-use Rattle.lx_answer.specs.Words.{image}
+use Rattle.answer_model.specs.Reading.{Item, object, object_file}
+use Rattle.answer_model.specs.Words.{image}
 use Rattle.tool_read.specs.Readings.{asked}
 use Rattle.tool_read.proofs.Walk.{one_load}
 use Rattle.lx_tool.proofs.Commands.{image_done, not_read}

@@ -1,9 +1,9 @@
 use Rattle.std.proofs.Common.{◌≡◌, List, Vec, map, ap, sym, ◌∙◌}
 use Rattle.std.specs.Global.{Global}
 use Rattle.std.specs.Prelude.{string_bytes}
-use Rattle.lx_answer.specs.ImplibAnswer.{all_imports, implib_outcome}
-use Rattle.lx_answer.specs.Reading.{Item}
-use Rattle.lx_answer.specs.Stem.{stem_of}
+use Rattle.answer_model.specs.ImplibAnswer.{all_imports, implib_outcome}
+use Rattle.answer_model.specs.Reading.{Item}
+use Rattle.answer_model.specs.Stem.{stem_of}
 use Rattle.tool_read.specs.Readings.{exporter_item}
 use Rattle.tool_read.specs.declared.exporters.Exporter.{Exporter}
 use Rattle.lx_tool.proofs.Commands.{implib_done, not_read}

@@ -1,7 +1,7 @@
 use Rattle.std.proofs.Common.{ℕ, List, map, subst}
-use Rattle.lx_answer.specs.ImplibAnswer.{all_imports}
-use Rattle.lx_answer.specs.Outcome.{kept}
-use Rattle.lx_answer.specs.Stem.{stem_of}
+use Rattle.answer_model.specs.ImplibAnswer.{all_imports}
+use Rattle.answer_model.specs.Outcome.{kept}
+use Rattle.answer_model.specs.Stem.{stem_of}
 use Rattle.tool_read.specs.Readings.{exporter_item}
 use Rattle.lx_tool.specs.Doing.{DoesOutcome}
 use Rattle.lx_tool.specs.ImportLibraries.{IsLibraryOf, IsTooLong}

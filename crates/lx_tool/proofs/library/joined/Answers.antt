@@ -3,8 +3,8 @@ use Rattle.std.proofs.lemmas.List.{take_all}
 use Rattle.std.specs.List.{flat_map}
 use Rattle.implib_model.specs.Library.{library_bytes, library_len}
 use Rattle.omf_write.specs.Joined.{modules_together}
-use Rattle.lx_answer.specs.ImplibAnswer.{all_imports}
-use Rattle.lx_answer.specs.Loading.{file_limit}
+use Rattle.answer_model.specs.ImplibAnswer.{all_imports}
+use Rattle.answer_model.specs.Loading.{file_limit}
 use Rattle.std.specs.Prelude.{◌<◌}
 use Rattle.tool_read.specs.Readings.{exporter_item}
 use Rattle.tool_read.specs.declared.exporters.Exporter.{Exporter}

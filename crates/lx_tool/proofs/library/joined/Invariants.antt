@@ -2,7 +2,7 @@ use Rattle.std.proofs.Common.{◌≡◌, length, map, take}
 use Rattle.std.specs.List.{flat_map}
 use Rattle.implib_model.specs.Library.{library_bytes}
 use Rattle.implib_model.specs.Imports.{modules_of}
-use Rattle.lx_answer.specs.ImplibAnswer.{imports_of}
+use Rattle.answer_model.specs.ImplibAnswer.{imports_of}
 use Rattle.tool_read.specs.Readings.{exporter_item}
 use Rattle.lx_tool.proofs.library.joined.Given as goal
 

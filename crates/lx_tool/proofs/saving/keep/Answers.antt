@@ -1,6 +1,6 @@
 use Rattle.std.proofs.Common.{ap, sym}
-use Rattle.lx_answer.specs.Outcome.{kept}
-use Rattle.lx_answer.specs.Says.{said_after}
+use Rattle.answer_model.specs.Outcome.{kept}
+use Rattle.answer_model.specs.Says.{said_after}
 use Rattle.lx_tool.proofs.Saved.{kept_after, unkept}
 use Rattle.lx_tool.proofs.saving.keep.Goals as goal
 

@@ -1,5 +1,5 @@
 use Rattle.std.proofs.Common.{◌≤◌, ◌*◌, length, ◌++◌, List, ℕ, ◌∙◌, ap, rules}
-use Rattle.lx_answer.specs.ImageText.{line_of}
+use Rattle.answer_model.specs.ImageText.{line_of}
 use Rattle.lx_tool.proofs.Lines.{lines_behind, line_piece}
 use Rattle.lx_tool.proofs.text.push_image.Goals as goal
 

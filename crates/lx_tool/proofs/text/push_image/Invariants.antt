@@ -1,6 +1,6 @@
 use Rattle.std.proofs.Common.{◌≡◌, ◌++◌}
 use Rattle.std.specs.List.{flat_map, range_with_len}
-use Rattle.lx_answer.specs.ImageText.{line_of}
+use Rattle.answer_model.specs.ImageText.{line_of}
 use Rattle.lx_tool.proofs.text.push_image.Given as goal
 
 abbrev pub invariant-loop-number : goal.invariant-loop-number

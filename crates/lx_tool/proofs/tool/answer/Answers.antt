@@ -1,6 +1,6 @@
 use Rattle.std.proofs.Common.{Some, ap, subst, sym, ◌∙◌}
-use Rattle.command_words.specs.Commands.{HasBase, meant}
-use Rattle.command_words.specs.declared.words.Command.{Command}
+use Rattle.command_line.specs.Commands.{HasBase, meant}
+use Rattle.command_line.specs.declared.words.Command.{Command}
 use Rattle.lx_tool.proofs.Done.{done_usage, done_words}
 use Rattle.lx_tool.proofs.Generated.{gen_done}
 use Rattle.lx_tool.proofs.tool.answer.Goals as goal

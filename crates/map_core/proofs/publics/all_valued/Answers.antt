@@ -8,8 +8,8 @@ use Rattle.map_core.proofs.publics.all_valued.Goals as goal
 
 pub loop-place-preserved : goal.loop-place-preserved
 loop-place-preserved c =
-    lent-pushed (valued_in_module c.args.lay.now) 1 c.in_ok-number.field-0 c.args.modules.now c.loop-place.place c.index-modules-place.result []
-    (map by_name c.loop-place.found.items) (map by_name c.add_valued.new.found.items) c.loop-place-test.true c.index-modules-place.is c.in_ok-number.ensures
+    lent-pushed (valued_in_module c.args.lay.now) 1 c.in_ok-count.field-0 c.args.modules.now c.loop-place.place c.index-modules-place.result []
+    (map by_name c.loop-place.found.items) (map by_name c.add_valued.new.found.items) c.loop-place-test.true c.index-modules-place.is c.in_ok-count.ensures
     c.loop-place.invariant
     (c.in_ok-add_valued.ensures
-    ∙ ap (λ (pubs : List Pub). map by_name c.loop-place.found.items ++ filter_map (valued_in c.args.lay.now c.in_ok-number.field-0) pubs) c.as_slice.ensures)
+    ∙ ap (λ (pubs : List Pub). map by_name c.loop-place.found.items ++ filter_map (valued_in c.args.lay.now c.in_ok-count.field-0) pubs) c.as_slice.ensures)

@@ -2,4 +2,4 @@ use Rattle.merge_laws.proofs.Steps.{account_begins, others_entry_stays, own_entr
 use Rattle.merge_laws.proofs.laws.account_grows.Goals as goal
 
 pub returns : goal.returns
-returns c = record { begins = account_begins; stays = others_entry_stays; entry = own_entry_adds; line = own_line_adds }
+returns c = record { begins = account_begins; residences = others_entry_stays; entry = own_entry_adds; line = own_line_adds }

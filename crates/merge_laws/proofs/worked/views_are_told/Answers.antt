@@ -1,7 +1,7 @@
 use Rattle.std.proofs.Common.{◌≡◌, ◌<◌, ℕ, zero, suc, ◌==◌, ◌||◌, Bool, if◌then◌else◌, codes, List, Some, None, slice_index, option_map, [], ◌∷◌, true, false, refl, arith}
 use Rattle.load_model.specs.Modules.{bases_for, Order, visit, HealthOf, Entry, followed, Res, number_of, is_library, start_of, inits_each, terms_each, order_of, unfit, entry_spot, resource_of, objects_of, object_at, is_invalid}
 use Rattle.base_pick.specs.Places.{places_from}
-use Rattle.load_model.specs.Rows.{reach_count}
+use Rattle.load_model.specs.ProcessCounts.{reach_count}
 use Rattle.load_model.specs.State.{Residence, count_of, with_process, reaches, is_reached, residence_of, attached_residence}
 use Rattle.load_model.specs.Entering.{joined, newcomers, resident_ranges, placed_from, placing, after_entering, entering_calls}
 use Rattle.load_model.specs.Initialising.{failing_module, failed_calls, enter_deed}
@@ -18,7 +18,7 @@ use Rattle.load_model.specs.declared.deeds.Deed.TheVariants.{Free}
 use Rattle.load_model.specs.declared.deeds.Entry.{Entry as HistoryEntry}
 use Rattle.session_model.specs.WorkedRuns.{entry_of}
 use Rattle.load_model.specs.Samples.{zeros, fresh}
-use Rattle.load_model.specs.Standing.{mapped_pages, fresh_of, IsMapped, StandsFor}
+use Rattle.load_model.specs.Views.{mapped_pages, fresh_of, IsMapped, StandsFor}
 use Rattle.load_model.specs.ViewAnswers.{view_refusal}
 use Rattle.session_model.specs.Merging.{merge_of, state_behind}
 use Rattle.merge_laws.specs.Accounts.{own_items, own_state, Account}
@@ -45,7 +45,7 @@ mapped : (n : ℕ) → IsMapped E zeros (state_after E [] in_touch) 1 (mapped_at
 unfolding view_refusal number_of is_library start_of inits_each terms_each order_of unfit entry_spot resource_of objects_of object_at is_invalid Order visit HealthOf Entry followed Res places_from with_process reaches is_reached residence_of attached_residence joined newcomers resident_ranges bases_for placed_from placing after_entering entering_calls failing_module failed_calls enter_deed left gone_modules gone leaving_calls keeping after_leaving bases_seen writes_seen Byte Bytes module_refusal enter_refusal span_refusal residence_named place_refusal query_refusal resource_refusal refusal_of deed_of may_ask after_deed address_of fine_answer answer_of after_steady Step state_after has_fault Legal merge_of state_behind own_items
 mapped n = record { residence = stay; there = refl; serial = refl; bytes = λ x here below. refl }
 
--- the history of the touch behind its first fault, and behind that of the other process
+-- the history of the touch after its first fault, and after that of the other process
 abbrev one : List HistoryEntry
 one = load_new ∷ load_again ∷ fault_by 1 0 ∷ []
 
@@ -65,15 +65,15 @@ returns c =
       front = refl;
       view = record {
         ended = refl;
-        row = record {
+        counts = record {
           started = refl;
           attached = refl;
           loads_are = refl;
-          loads = one_module (λ m. slice_index behind_load.row.loads m ≡ count_of ((state_after E [] loads).processes 1) m) refl;
+          loads = one_module (λ m. slice_index behind_load.counts.loads m ≡ count_of ((state_after E [] loads).processes 1) m) refl;
           reached_are = refl;
-          reached = one_module (λ m. slice_index behind_load.row.reached m ≡ reach_count E ((state_after E [] loads).processes 1) m) refl;
+          reached = one_module (λ m. slice_index behind_load.counts.reached m ≡ reach_count E ((state_after E [] loads).processes 1) m) refl;
         };
-        stays = λ m. by_number (0 == m);
+        residences = λ m. by_number (0 == m);
         mapped = tt;
         writes = tt;
       };
@@ -83,15 +83,15 @@ returns c =
       front = refl;
       view = record {
         ended = refl;
-        row = record {
+        counts = record {
           started = refl;
           attached = refl;
           loads_are = refl;
-          loads = one_module (λ m. slice_index at_end.row.loads m ≡ count_of ((state_after E [] in_touch).processes 1) m) refl;
+          loads = one_module (λ m. slice_index at_end.counts.loads m ≡ count_of ((state_after E [] in_touch).processes 1) m) refl;
           reached_are = refl;
-          reached = one_module (λ m. slice_index at_end.row.reached m ≡ reach_count E ((state_after E [] in_touch).processes 1) m) refl;
+          reached = one_module (λ m. slice_index at_end.counts.reached m ≡ reach_count E ((state_after E [] in_touch).processes 1) m) refl;
         };
-        stays = λ m. by_number (0 == m);
+        residences = λ m. by_number (0 == m);
         mapped = (mapped 0, (mapped 1, (mapped 2, tt)));
         writes = tt;
       };
@@ -100,7 +100,7 @@ returns c =
     let untouched : HasTouched E [] 1 loads [] (mapped_pages behind_load) = λ serial q. refl in
     let legal : Legal E [] zeros in_touch = (record { process = refl; may = refl; done = refl; first = refl }, (record { process = refl; may = refl; done = refl; first = refl }, (record { process = refl; may = refl; done = refl; first = refl }, (record { process = refl; may = refl; done = refl; first = refl }, (record { process = refl; may = refl; done = refl; first = refl }, tt))))) in
     let before : Account E [] zeros 1 loads [] load_first =
-    grows.stays E [] zeros 1 (load_new ∷ []) [] load_first load_again refl
+    grows.residences E [] zeros 1 (load_new ∷ []) [] load_first load_again refl
     (grows.entry E [] zeros 1 [] [] [] load_new (commands.Load _) refl refl (0, refl, refl) (record { may = refl; done = refl; touched = refl }) (grows.begins E [] zeros 1))
     in
     let follows_first : Follows E [] zeros loads (fault_by 1 0) = record { process = refl; may = refl; done = refl; first = refl } in

@@ -1,6 +1,6 @@
 use Rattle.std.proofs.Common.{◌≡◌, ◌<◌, ◌+◌, ℕ, slice_index_or}
-use Rattle.proc_core.specs.Procs.{Standing}
+use Rattle.proc_core.specs.Procs.{ProcState}
 use Rattle.proc_core.proofs.loader.are_in_order.Given as goal
 
 abbrev pub invariant-loop-k : goal.invariant-loop-k
-invariant-loop-k l = (j : ℕ) (d : Standing) → j < l.k → (slice_index_or l.procs j d).known.pid ≡ j + 1
+invariant-loop-k l = (j : ℕ) (d : ProcState) → j < l.k → (slice_index_or l.procs j d).known.pid ≡ j + 1

@@ -1,4 +1,4 @@
-use Rattle.proc_core.specs.Procs.{standing}
+use Rattle.proc_core.specs.Procs.{proc_state}
 use Rattle.proc_core.proofs.Coming.{has_come}
 use Rattle.proc_core.proofs.ShownOn.{Laws}
 use Rattle.proc_core.proofs.turns.take_turn.Goals as goal
@@ -12,5 +12,5 @@ returns-clause-come g c =
       alike = c.others_leave_alike.ensures.alike;
       bases = c.others_leave_alike.ensures.bases;
     } in
-    has_come laws c.views_stand.ensures.on (standing c.args.pass.now c.args.view.now) c.requires.holds c.turn-board.result.board c.history.ensures.legal c.turn-board.ensures.took.2.seen c.turn-board.ensures.took.2.mine
+    has_come laws c.views_stand.ensures.on (proc_state c.args.pass.now c.args.view.now) c.requires.holds c.turn-board.result.board c.history.ensures.legal c.turn-board.ensures.took.2.seen c.turn-board.ensures.took.2.mine
     c.turn-board.ensures.took.2.about c.follow.new.self c.follow.ensures

@@ -2,15 +2,15 @@ use Rattle.std.proofs.Common.{◌≡◌, ◌+◌, ◌∙◌, ◌++◌, ◌∷◌
 use Rattle.std.specs.Prelude.{All}
 use Rattle.std.proofs.lemmas.List.{take_more, take_all, length-take-le}
 use Rattle.page_frames.specs.Residences.{ResidenceFor}
-use Rattle.load_model.specs.Standing.{Mapped}
-use Rattle.process_pages.specs.Stays.{IsPlaced, AreApart}
+use Rattle.load_model.specs.Views.{Mapped}
+use Rattle.process_pages.specs.ReachedResidences.{IsPlaced, AreApart}
 use Rattle.process_pages.proofs.freeing.place_pages.Goals as goal
 
 pub loop-place-preserved : goal.loop-place-preserved
 loop-place-preserved c =
     let n = c.loop-place.place in
     let pages = c.args.pages.now in
-    let before = c.loop-place.stays in
+    let before = c.loop-place.residences in
     let x = c.index-pages-place.result in
     let same = c.loop-place.invariant.0 in
     let more : take n pages ++ x ∷ [] ≡ take (n + 1) pages =
@@ -19,7 +19,7 @@ loop-place-preserved c =
       c.place_page.ensures.residences ∙ same,
       λ lib apart all.
           let A : List ResidenceFor → Type 0 = λ rs. AreApart rs in
-          let P : List Mapped → Type 0 = λ ms. All (IsPlaced lib ms) c.place_page.new.stays in
+          let P : List Mapped → Type 0 = λ ms. All (IsPlaced lib ms) c.place_page.new.residences in
           subst P more (c.place_page.ensures.placed lib (take n pages) (length-take-le n pages (omega (arith, c.loop-place-test.true))) (subst A (sym same) apart) (c.loop-place.invariant.1 lib apart all)),
     )
 
@@ -27,6 +27,6 @@ pub returns : goal.returns
 returns c = record {
   residences = c.loop-place.invariant.0;
   placed = λ lib apart all.
-      let P : List Mapped → Type 0 = λ ms. All (IsPlaced lib ms) c.loop-place.stays in
+      let P : List Mapped → Type 0 = λ ms. All (IsPlaced lib ms) c.loop-place.residences in
       subst P (take_all c.loop-place.place c.args.pages.now c.loop-place-test.false) (c.loop-place.invariant.1 lib apart all);
 }

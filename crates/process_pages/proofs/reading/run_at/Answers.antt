@@ -4,7 +4,7 @@ use Rattle.std.specs.Prelude.{slice_get}
 use Rattle.std.proofs.lemmas.Bool.{ltb-true}
 use Rattle.std.proofs.lemmas.Option.{slice_get-get_or}
 use Rattle.load_model.specs.Memory.{page}
-use Rattle.load_model.specs.Standing.{Mapped}
+use Rattle.load_model.specs.Views.{Mapped}
 use Rattle.load_model.specs.ViewAnswers.{bytes_in}
 use Rattle.process_pages.specs.PageRows.{place_in}
 use Rattle.process_pages.specs.Reading.{bytes_at}
@@ -24,6 +24,6 @@ returns-clause-bytes c =
     let bytes : c.bytes.result.now ≡ bytes_at pages (place_in rows (page at.object (at.offset / 4096))) =
     c.bytes.ensures.bytes ∙ ap (λ (o : Option Mapped). bytes_in o) (sym there) ∙ ap (λ (o : Option ℕ). bytes_at pages o) (sym place)
     in
-    let fits : at.offset % 4096 + at.len ≤ 4096 = omega (arith, c.if-within-len-gt-PAGE.false) in
+    let fits : at.offset % 4096 + at.len ≤ 4096 = omega (arith, c.if-within-len-gt-PAGE_LEN.false) in
     run_in_page rows pages at.object at.offset (at.offset % 4096) at.len c.bytes.result.now (mid_of (at.offset % 4096) (at.offset % 4096 + at.len - at.offset % 4096) c.bytes.result.now) refl fits bytes
     (cut_length (at.offset % 4096) at.len c.bytes.result.now c.bytes.ensures.length fits) (cut_of (at.offset % 4096) at.len c.bytes.result.now)

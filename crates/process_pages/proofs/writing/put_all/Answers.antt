@@ -1,7 +1,7 @@
 use Rattle.std.proofs.Common.{◌≡◌, ◌≢◌, ◌<◌, ◌∙◌, ℕ, inl, inr, sym, ap, get_or, set, length, arith, get_or-set_same, get_or-set_other}
 use Rattle.std.proofs.lemmas.Bool.{cases_eq}
 use Rattle.std.proofs.lemmas.List.{get_or_default}
-use Rattle.load_model.specs.ViewLaws.{written_over}
+use Rattle.load_model.specs.WrittenPages.{written_over}
 use Rattle.process_pages.proofs.Writes.{mapped_by_index}
 use Rattle.process_pages.proofs.writing.put_all.Goals as goal
 

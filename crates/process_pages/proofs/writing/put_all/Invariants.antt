@@ -1,6 +1,6 @@
 use Rattle.std.proofs.Common.{◌≡◌, ◌<◌, ◌≤◌, ℕ, length, get_or}
-use Rattle.load_model.specs.Standing.{Mapped}
-use Rattle.load_model.specs.ViewLaws.{written_over}
+use Rattle.load_model.specs.Views.{Mapped}
+use Rattle.load_model.specs.WrittenPages.{written_over}
 use Rattle.process_pages.proofs.writing.put_all.Given as goal
 
 abbrev pub invariant-loop-k : goal.invariant-loop-k

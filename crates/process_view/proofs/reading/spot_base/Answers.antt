@@ -2,8 +2,8 @@ use Rattle.std.proofs.Common.{◌≡◌, ◌∙◌, ℕ, sym, ap}
 use Rattle.lx_types.specs.declared.bases.Bases.{Bases}
 use Rattle.lx_model.specs.Fixed.{base_of}
 use Rattle.page_frames.specs.Residences.{ResidenceFor}
-use Rattle.process_pages.specs.Stays.{residence_in}
-use Rattle.process_pages.specs.declared.stays.Stay.{Stay}
+use Rattle.process_pages.specs.ReachedResidences.{residence_in}
+use Rattle.process_pages.specs.declared.reached_residences.ReachedResidence.{ReachedResidence}
 use Rattle.process_view.specs.Answering.{base_if}
 use Rattle.process_view.proofs.Asking.{residence_at, no_residence}
 use Rattle.process_view.proofs.reading.spot_base.Goals as goal
@@ -11,12 +11,12 @@ use Rattle.process_view.proofs.reading.spot_base.Goals as goal
 pub returns-in-Some : goal.returns-in-Some
 returns-in-Some c =
     let spot = c.args.spot in
-    let s = c.index-stays-k.result in
-    let at = c.index-stays-k.is in
-    let bases : c.bases.result.now ≡ (residence_in s).bases = c.bases.ensures ∙ ap (λ (r : ResidenceFor). r.bases) c.deref.ensures ∙ ap (λ (t : Stay). (residence_in t).bases) (sym at) in
-    let number : c.module.result ≡ (residence_in s).«module» = c.module.ensures.number ∙ ap (λ (r : ResidenceFor). r.«module») c.deref-in-Some.ensures ∙ ap (λ (t : Stay). (residence_in t).«module») (sym at) in
-    c.own_base.ensures ∙ ap (λ (b : Bases). base_of b c.module.result spot.object) bases ∙ ap (λ (m : ℕ). base_of (residence_in s).bases m spot.object) number
-    ∙ ap (base_if spot) (sym (residence_at c.args.stays.now spot.«module» c.in-Some.k s (sym c.stay_place.ensures ∙ c.in-Some.is) at))
+    let s = c.index-residences-k.result in
+    let at = c.index-residences-k.is in
+    let bases : c.bases.result.now ≡ (residence_in s).bases = c.bases.ensures ∙ ap (λ (r : ResidenceFor). r.bases) c.deref.ensures ∙ ap (λ (t : ReachedResidence). (residence_in t).bases) (sym at) in
+    let number : c.module.result ≡ (residence_in s).«module» = c.module.ensures.number ∙ ap (λ (r : ResidenceFor). r.«module») c.deref-in-Some.ensures ∙ ap (λ (t : ReachedResidence). (residence_in t).«module») (sym at) in
+    c.base.ensures ∙ ap (λ (b : Bases). base_of b c.module.result spot.object) bases ∙ ap (λ (m : ℕ). base_of (residence_in s).bases m spot.object) number
+    ∙ ap (base_if spot) (sym (residence_at c.args.residences.now spot.«module» c.in-Some.k s (sym c.residence_place.ensures ∙ c.in-Some.is) at))
 
 pub returns-in-None : goal.returns-in-None
-returns-in-None c = ap (base_if c.args.spot) (sym (no_residence c.args.stays.now c.args.spot.«module» (sym c.stay_place.ensures ∙ c.in-None.is)))
+returns-in-None c = ap (base_if c.args.spot) (sym (no_residence c.args.residences.now c.args.spot.«module» (sym c.residence_place.ensures ∙ c.in-None.is)))

@@ -1,7 +1,7 @@
 use Rattle.std.proofs.Common.{◌≡◌, sym, subst, ℕ}
 use Rattle.std.specs.Prelude.{IfOk, string_bytes, codes, ◌++◌}
 use Rattle.obj_types.specs.declared.refusal.OmfRefusal.{OmfRefusal}
-use Rattle.lx_answer.specs.FileRefusals.{placed, field, omf_text}
+use Rattle.answer_model.specs.FileRefusals.{placed, field, omf_text}
 use Rattle.refusal_text.proofs.files.omf_text.Goals as goal
 
 pub returns-in-FixOverlap : goal.returns-in-FixOverlap

@@ -4,7 +4,8 @@ use Rattle.std.specs.HashSet as bag
 use Rattle.std.proofs.lemmas.List.{length-take, length-drop, take_rest}
 use Rattle.std.proofs.lemmas.Bool.{not-false, not-true}
 use Rattle.lx_bytes.specs.LittleEndian.{AreBytes}
-use Rattle.res_model.specs.ItemFields.{FIELDS, type_at, id_at, length_at, item_at, fields_fault}
+use Rattle.res_model.specs.declared.item.TheConstants.{FIELDS}
+use Rattle.res_model.specs.ItemFields.{type_at, id_at, length_at, item_at, fields_fault}
 use Rattle.res_model.specs.ResFile.{has_key}
 use Rattle.res_file.specs.Seen.{AreRead, same}
 use Rattle.res_model.specs.declared.item.ResItem.{ResItem}

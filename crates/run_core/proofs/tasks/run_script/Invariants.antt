@@ -1,7 +1,8 @@
 use Rattle.std.proofs.Common.{◌≡◌, ◌*◌, ◌≤◌, length}
 use Rattle.proc_core.specs.Procs.{failing_in, IsOf}
 use Rattle.run_core.specs.Carrying.{Reached}
-use Rattle.run_core.specs.Tasks.{IsSameProcess, MOST_TURNS}
+use Rattle.run_core.specs.Tasks.{IsSameProcess}
+use Rattle.run_core.specs.declared.tasks.TheConstants.{MAX_TURNS}
 use Rattle.run_core.proofs.tasks.run_script.Given as goal
 
 abbrev pub invariant-loop-command : goal.invariant-loop-command
@@ -12,5 +13,5 @@ invariant-loop-command g l =
     (l.task.number ≡ l.fn.task.number) ×
     IsOf l.loader l.task.proc ×
     IsSameProcess l.fn.task.proc l.task.proc ×
-    (l.task.proc.known.drawn ≤ MOST_TURNS * length l.yielded) ×
+    (l.task.proc.known.drawn ≤ MAX_TURNS * length l.yielded) ×
     Reached l.fn.task.proc.view.library (failing_in l.fn.task.proc.known.subject) l.task.proc l.task.lines l.yielded

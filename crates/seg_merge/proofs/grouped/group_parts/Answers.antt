@@ -6,7 +6,7 @@ use Rattle.link_model.specs.Link.{Link}
 use Rattle.link_model.specs.Parts.{Part}
 use Rattle.link_model.specs.Words.{first_of}
 use Rattle.seg_parts.specs.Members.{member_shown}
-use Rattle.sym_table.proofs.Failing.{handed_on}
+use Rattle.lx_types.proofs.Failing.{handed_on}
 use Rattle.seg_merge.specs.declared.grouped.Grouped.{Grouped}
 use Rattle.seg_merge.specs.Grouped.{AreGrouped}
 use Rattle.seg_merge.specs.Refused.{AreOf}

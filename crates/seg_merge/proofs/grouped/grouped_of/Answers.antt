@@ -5,8 +5,8 @@ use Rattle.link_model.specs.Words.{first_of}
 use Rattle.seg_parts.specs.Members.{member_shown}
 use Rattle.seg_parts.specs.Parts.{shown}
 use Rattle.seg_parts.specs.Refusals.{absolute_in}
-use Rattle.sym_table.proofs.Failing.{handed_on, answered}
-use Rattle.sym_table.specs.Links.{link_with}
+use Rattle.lx_types.proofs.Failing.{handed_on, answered}
+use Rattle.link_types.specs.Links.{link_with}
 use Rattle.seg_merge.specs.declared.grouped.Grouped.{Grouped}
 use Rattle.seg_merge.specs.Grouped.{AreGrouped}
 use Rattle.seg_merge.specs.Refused.{AreOf}

@@ -5,7 +5,7 @@ use Rattle.link_model.specs.Parts.{Part}
 use Rattle.seg_parts.specs.LogicalSegments.{heads_of}
 use Rattle.seg_parts.specs.Members.{member_shown}
 use Rattle.seg_parts.specs.Parts.{shown}
-use Rattle.sym_table.specs.Links.{link_with}
+use Rattle.link_types.specs.Links.{link_with}
 use Rattle.seg_merge.proofs.StandingOrder.{all-are, no-fewer, standing-order, order-by, base-within}
 use Rattle.seg_merge.proofs.layout.lay_grouped.Goals as goal
 

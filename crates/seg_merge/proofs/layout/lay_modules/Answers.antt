@@ -1,12 +1,12 @@
 use Rattle.std.proofs.Common.{◌≡◌, ◌∙◌, Some, None}
 use Rattle.link_model.specs.LayoutRefusals.{too_large, lay_refusal}
 use Rattle.link_model.specs.Link.{Link}
-use Rattle.sym_table.proofs.Failing.{handed_on, answered}
-use Rattle.sym_table.specs.Links.{link_with}
+use Rattle.lx_types.proofs.Failing.{handed_on, answered}
+use Rattle.link_types.specs.Links.{link_with}
 use Rattle.seg_merge.specs.declared.grouped.Grouped.{Grouped}
-use Rattle.seg_merge.specs.declared.layout.Layout.{Layout}
+use Rattle.link_types.specs.declared.layout.Layout.{Layout}
 use Rattle.seg_merge.specs.Grouped.{AreGrouped}
-use Rattle.seg_merge.specs.Layout.{IsLaidOut}
+use Rattle.link_types.specs.Layout.{IsLaidOut}
 use Rattle.seg_merge.proofs.Refusals.{earlier, only-large, refused-before}
 use Rattle.seg_merge.proofs.layout.lay_modules.Goals as goal
 

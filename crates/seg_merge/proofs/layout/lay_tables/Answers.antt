@@ -6,10 +6,10 @@ use Rattle.link_model.specs.Order.{ordered}
 use Rattle.seg_parts.specs.LogicalSegments.{heads_of}
 use Rattle.seg_parts.specs.Parts.{shown}
 use Rattle.seg_parts.specs.Rows.{too_large_in}
-use Rattle.sym_table.proofs.Failing.{handed_on}
-use Rattle.seg_merge.specs.declared.layout.Layout.{Layout}
+use Rattle.lx_types.proofs.Failing.{handed_on}
+use Rattle.link_types.specs.declared.layout.Layout.{Layout}
 use Rattle.seg_merge.specs.Laid.{AreLaid, rows_in}
-use Rattle.seg_merge.specs.Layout.{IsLaidOut}
+use Rattle.link_types.specs.Layout.{IsLaidOut}
 use Rattle.seg_merge.specs.Ordered.{Ordered, ordered_shown}
 use Rattle.seg_merge.proofs.Gets.{each-below}
 use Rattle.seg_merge.proofs.LaidLinks.{all_in}

@@ -9,7 +9,7 @@ use Rattle.seg_parts.specs.Attributes.{flags_in}
 use Rattle.seg_parts.specs.LogicalSegments.{heads_of}
 use Rattle.seg_parts.specs.Members.{member_shown, is_member}
 use Rattle.seg_parts.specs.Parts.{shown}
-use Rattle.sym_table.proofs.Failing.{handed_on, answered}
+use Rattle.lx_types.proofs.Failing.{handed_on, answered}
 use Rattle.seg_merge.proofs.CheckedSegments.{lists-long, slice-below, groups-are, split-groups, flags-are}
 use Rattle.seg_merge.proofs.LinkGroups.{names-apart}
 use Rattle.seg_merge.proofs.Refusals.{second-is}

@@ -5,7 +5,7 @@ use Rattle.link_model.specs.Link.{Link}
 use Rattle.link_model.specs.Communals.{parts, near_wide, far_wide}
 use Rattle.link_model.specs.Groups.{has_near, is_near_bss}
 use Rattle.link_model.specs.Parts.{Part, contributions}
-use Rattle.sym_table.specs.Links.{link_with}
+use Rattle.link_types.specs.Links.{link_with}
 use Rattle.seg_parts.specs.declared.logical_segments.SegmentName.{SegmentName}
 use Rattle.seg_parts.specs.Communals.{communal_of, followed, far_followed}
 use Rattle.seg_parts.specs.Parts.{shown}

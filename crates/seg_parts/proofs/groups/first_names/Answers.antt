@@ -1,8 +1,8 @@
 use Rattle.std.proofs.Common.{◌≡◌, ◌∙◌, ◌∷◌, [], ap, sym, map, take, length, arith}
 use Rattle.std.specs.List.{position_or_len}
 use Rattle.std.proofs.lemmas.List.{length-map, map-append}
-use Rattle.first_table.specs.Entries.{is_named, with_entry}
-use Rattle.sym_table.proofs.Lists.{map-more}
+use Rattle.name_table.specs.Entries.{is_named, with_entry}
+use Rattle.link_types.proofs.Lists.{map-more}
 use Rattle.seg_parts.proofs.NameLists.{new_name, old_name, same_names}
 use Rattle.seg_parts.proofs.groups.first_names.Goals as goal
 use Rattle.seg_parts.proofs.groups.first_names.Goals.{then-place-len+in_ok-push, else-place-len}

@@ -1,5 +1,5 @@
 use Rattle.std.proofs.Common.{◌≡◌, map, take}
-use Rattle.sym_table.specs.Links.{link_with}
+use Rattle.link_types.specs.Links.{link_with}
 use Rattle.seg_parts.specs.Members.{member_shown, memberships}
 use Rattle.seg_parts.proofs.members.members_of.Given as goal
 

@@ -3,8 +3,8 @@ use Rattle.std.specs.List.{position_or_len}
 use Rattle.std.specs.Cmp.Lexicographic.{nat_list_eq_equiv}
 use Rattle.std.proofs.lemmas.List.{map-append}
 use Rattle.link_model.specs.Appearance.{firsts}
-use Rattle.first_table.specs.Entries.{is_named, with_entry}
-use Rattle.sym_table.proofs.Lists.{map-more}
+use Rattle.name_table.specs.Entries.{is_named, with_entry}
+use Rattle.link_types.proofs.Lists.{map-more}
 use Rattle.seg_parts.specs.Groups.{name_entries}
 use Rattle.seg_parts.specs.Parts.{shown}
 use Rattle.seg_parts.specs.LogicalSegments.{places}

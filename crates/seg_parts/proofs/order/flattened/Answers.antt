@@ -2,7 +2,7 @@ use Rattle.std.proofs.Common.{◌∙◌, ◌++◌, ◌∷◌, [], ap, sym, map, 
 use Rattle.std.specs.List.{concat}
 use Rattle.std.proofs.lemmas.List.{append-nil}
 use Rattle.std.proofs.lemmas.List.Folds.{concat-append}
-use Rattle.sym_table.proofs.Lists.{map-more}
+use Rattle.link_types.proofs.Lists.{map-more}
 use Rattle.seg_parts.proofs.order.flattened.Goals as goal
 
 pub loop-list-preserved : goal.loop-list-preserved

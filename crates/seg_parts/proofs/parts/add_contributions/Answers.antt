@@ -5,7 +5,7 @@ use Rattle.obj_types.specs.declared.object.Seg.{Seg}
 use Rattle.seg_parts.specs.Parts.{shown}
 use Rattle.seg_parts.proofs.Lists.{picked-in, picked-out}
 use Rattle.seg_parts.proofs.parts.add_contributions.Goals as goal
-use Rattle.seg_parts.proofs.parts.add_contributions.Goals.{then-not-seg+in_ok-number+in_ok-push, else-not-seg}
+use Rattle.seg_parts.proofs.parts.add_contributions.Goals.{then-not-seg+in_ok-count+in_ok-push, else-not-seg}
 
 pub loop-place-preserved : goal.loop-place-preserved
 loop-place-preserved c =
@@ -13,8 +13,8 @@ loop-place-preserved c =
     let x = c.index-segs-place.result in
     let i : ℕ = c.loop-place.place in
     elim c.if-not-seg.branch [
-      | then-not-seg+in_ok-number+in_ok-push w ↦
-          let count : w.in_ok-number.field-0 ≡ 1 + i = omega (arith, w.in_ok-number.ensures) in
+      | then-not-seg+in_ok-count+in_ok-push w ↦
+          let count : w.in_ok-count.field-0 ≡ 1 + i = omega (arith, w.in_ok-count.ensures) in
           picked-in f (λ q. not q.1.debug) 1 (map shown c.args.found.now.items) (map shown c.loop-place.found.items) (map shown c.if-not-seg.found.items)
           c.args.segs.now i x (shown w.part_of.result) c.loop-place-test.true c.index-segs-place.is (ap not w.if-not-seg.true)
           (w.part_of.ensures ∙ ap (λ n. rules.of_seg c.args.module n x) count) c.loop-place.invariant

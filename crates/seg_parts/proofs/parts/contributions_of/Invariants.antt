@@ -1,6 +1,6 @@
 use Rattle.std.proofs.Common.{◌≡◌, map, take}
 use Rattle.link_model.specs.Parts as rules
-use Rattle.sym_table.specs.Links.{link_with}
+use Rattle.link_types.specs.Links.{link_with}
 use Rattle.seg_parts.specs.Parts.{shown}
 use Rattle.seg_parts.proofs.parts.contributions_of.Given as goal
 

@@ -2,7 +2,7 @@ use Rattle.std.proofs.Common.{◌≡◌, ◌∙◌, ◌<◌, ◌+◌, ◌∷◌,
 use Rattle.std.proofs.Math.ListN.{get_or}
 use Rattle.std.proofs.lemmas.List.{map-append}
 use Rattle.link_model.specs.declared.refusals.LayRefusal.{LayRefusal}
-use Rattle.sym_table.proofs.Lists.{map-more}
+use Rattle.link_types.proofs.Lists.{map-more}
 use Rattle.seg_parts.specs.declared.rows.Placed.{Placed}
 use Rattle.seg_parts.specs.declared.rows.Unplaced as lent
 use Rattle.seg_parts.specs.Rows.{Unplaced, rows_behind, too_large_in}

@@ -10,9 +10,9 @@ use Rattle.lx_model.specs.Module.{IsRead}
 use Rattle.lx_ports.specs.Files.{FilesState}
 use Rattle.session_model.specs.declared.sessions.ModLine.{ModLine}
 use Rattle.session_model.specs.Kept.{modules_in}
-use Rattle.session_lines.specs.declared.kept.KeptCut.{KeptCut}
+use Rattle.session_read.specs.declared.kept.KeptCut.{KeptCut}
 use Rattle.session_text.specs.Writable.{IsPlainModule}
-use Rattle.lx_answer.specs.declared.said.Said.{Said}
+use Rattle.answer_model.specs.declared.said.Said.{Said}
 use Rattle.tool_read.proofs.Walk.{err_is}
 use Rattle.session_files.specs.ModuleLines.{DoesLine, DoesLines, listed}
 use Rattle.session_files.proofs.Lines.{Reached, reached_none, reached_more, reached_stop, reached_end, reached_done, reached_count}

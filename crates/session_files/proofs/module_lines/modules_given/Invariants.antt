@@ -6,7 +6,7 @@ use Rattle.session_text.specs.Writable.{IsPlainModule}
 use Rattle.session_files.proofs.Lines.{Reached}
 use Rattle.session_files.proofs.module_lines.modules_given.Given as goal
 
--- The lines so far were done, and those that are left stand behind them.
+-- The lines so far were done, and those that are left stand after them.
 abbrev pub invariant-loop-modules : goal.invariant-loop-modules
 invariant-loop-modules g l = record {
   done : Reached l.lines (modules_in l.left) (g.F.Files.state l.initial.files) (g.F.Files.state l.files) l.modules.items;

@@ -1,6 +1,6 @@
 use Rattle.std.proofs.Common.{◌≡◌, ◌++◌, map, drop}
 use Rattle.lx_types.specs.Escaped.{hex_address}
-use Rattle.session_text.specs.Spaced.{spaced}
+use Rattle.line_words.specs.Words.{spaced}
 use Rattle.session_text.proofs.entries.push_addresses.Given as goal
 
 abbrev pub invariant-loop-address : goal.invariant-loop-address

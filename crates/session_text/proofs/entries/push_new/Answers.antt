@@ -3,7 +3,7 @@ use Rattle.std.specs.Prelude.{codes, decimal}
 use Rattle.lx_types.specs.Escaped.{hex_address}
 use Rattle.session_model.specs.Text.{words}
 use Rattle.session_model.specs.Transcript.{module_text}
-use Rattle.session_text.specs.Spaced.{spaced}
+use Rattle.line_words.specs.Words.{spaced}
 use Rattle.session_text.proofs.SpacedLaws.{inner-pushed}
 use Rattle.session_text.proofs.entries.push_new.Goals as goal
 

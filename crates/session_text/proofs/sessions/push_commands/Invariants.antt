@@ -1,6 +1,6 @@
 use Rattle.std.proofs.Common.{◌≡◌, ◌++◌, drop}
 use Rattle.std.specs.List.{flat_map}
-use Rattle.session_spelling.specs.Sessions.{command_line}
+use Rattle.session_model.specs.Spelling.{command_line}
 use Rattle.session_text.proofs.sessions.push_commands.Given as goal
 
 abbrev pub invariant-loop-command : goal.invariant-loop-command

@@ -1,7 +1,7 @@
 use Rattle.std.proofs.Common.{◌≡◌, ◌++◌, length}
 use Rattle.std.specs.List.{flat_map}
 use Rattle.session_model.specs.Kept.{failures_in}
-use Rattle.session_spelling.specs.Sessions.{failing_line}
+use Rattle.session_model.specs.Spelling.{failing_line}
 use Rattle.session_text.proofs.sessions.push_failing.Given as goal
 
 abbrev pub invariant-loop-cut : goal.invariant-loop-cut

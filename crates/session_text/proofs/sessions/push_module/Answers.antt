@@ -1,8 +1,8 @@
 use Rattle.std.proofs.Common.{[], ◌∷◌, ◌++◌, sym, ap, ◌∙◌}
 use Rattle.std.specs.Prelude.{codes}
 use Rattle.session_model.specs.Text.{words}
-use Rattle.session_spelling.specs.Sessions.{module_line}
-use Rattle.session_text.proofs.SpacedLaws.{tail-pushed}
+use Rattle.session_model.specs.Spelling.{module_line}
+use Rattle.line_words.proofs.SpacedLaws.{tail-pushed}
 use Rattle.session_text.proofs.sessions.push_module.Goals as goal
 
 pub returns-in_ok-push-in-Build : goal.returns-in_ok-push-in-Build

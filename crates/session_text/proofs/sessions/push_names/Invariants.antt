@@ -1,6 +1,6 @@
 use Rattle.std.proofs.Common.{◌≡◌, ◌++◌, length}
 use Rattle.session_model.specs.Lines.{words_in}
-use Rattle.session_text.specs.Spaced.{spaced}
+use Rattle.line_words.specs.Words.{spaced}
 use Rattle.session_text.proofs.sessions.push_names.Given as goal
 
 abbrev pub invariant-loop-cut : goal.invariant-loop-cut

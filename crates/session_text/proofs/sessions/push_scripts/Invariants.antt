@@ -1,6 +1,6 @@
 use Rattle.std.proofs.Common.{◌≡◌, ◌++◌, drop}
 use Rattle.std.specs.List.{flat_map}
-use Rattle.session_spelling.specs.Sessions.{script_lines}
+use Rattle.session_model.specs.Spelling.{script_lines}
 use Rattle.session_text.proofs.sessions.push_scripts.Given as goal
 
 abbrev pub invariant-loop-script : goal.invariant-loop-script

@@ -1,7 +1,7 @@
 use Rattle.std.proofs.Common.{◌≡◌, List, ℕ, ◌++◌, sym, ap, subst, ◌∙◌, append_assoc}
 use Rattle.std.specs.List.{flat_map}
 use Rattle.session_model.specs.Sessions.{Ses}
-use Rattle.session_spelling.specs.Sessions.{module_line, failing_line, script_lines, session_bytes}
+use Rattle.session_model.specs.Spelling.{module_line, failing_line, script_lines, session_bytes}
 use Rattle.session_text.proofs.SessionTexts.{written-read}
 use Rattle.session_text.proofs.sessions.write_session.Goals.{After-from_vec}
 use Rattle.session_text.proofs.sessions.write_session.Goals as goal

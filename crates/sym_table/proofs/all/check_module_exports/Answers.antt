@@ -1,7 +1,7 @@
 use Rattle.std.proofs.Common.{◌≡◌, ◌∙◌, ap, sym, Some, None}
 use Rattle.sym_table.specs.Meanings.{missing_export_in}
 use Rattle.sym_table.proofs.Exports.{exports_of, exports-past, exports-here}
-use Rattle.sym_table.proofs.Failing.{handed_on}
+use Rattle.lx_types.proofs.Failing.{handed_on}
 use Rattle.sym_table.proofs.all.check_module_exports.Goals as goal
 
 -- src/all.rt:48:27

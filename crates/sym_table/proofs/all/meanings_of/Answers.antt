@@ -7,7 +7,7 @@ use Rattle.link_model.specs.declared.symbols.SymDef.{SymDef}
 use Rattle.link_model.specs.declared.refusals.SymRefusal.TheVariants.{Missing}
 use Rattle.sym_table.specs.Meanings.{row_in, rows_in, meaning_in, missing_row, missing_external_in}
 use Rattle.sym_table.proofs.AllModules.{asked-more, none-more, first-here}
-use Rattle.sym_table.proofs.Failing.{handed_on}
+use Rattle.lx_types.proofs.Failing.{handed_on}
 use Rattle.sym_table.proofs.Lists.{none_is_none}
 use Rattle.sym_table.proofs.all.meanings_of.Goals as goal
 
@@ -18,14 +18,14 @@ returns-in-Err c =
     let mods = c.args.modules.now in
     let i = c.loop-index.index in
     let m = c.index-modules-index.result in
-    let by = c.in_ok-number.field-0 in
+    let by = c.in_ok-count.field-0 in
     handed_on c.in-Err.fail
     (λ (row : List SymDef). map Some row ≡ row_in globals by m.now)
     (λ (rows : List (List SymDef)). (map (map Some) rows ≡ rows_in globals (map (λ b. b.now) mods)) × (missing_external_in globals (map (λ b. b.now) mods) ≡ None))
     (λ refusal. missing_row globals by m.now ≡ Some refusal)
     (λ refusal. missing_external_in globals (map (λ b. b.now) mods) ≡ Some refusal)
     (λ refusal h. first-here (λ (q : ℕ × ObjModule). missing_row globals q.0 q.1) mods i m refusal c.loop-index-test.true c.index-modules-index.is c.loop-index.invariant.1
-    (ap (λ (n : ℕ). missing_row globals n m.now) (sym c.in_ok-number.ensures) ∙ h))
+    (ap (λ (n : ℕ). missing_row globals n m.now) (sym c.in_ok-count.ensures) ∙ h))
     c.in-Err.ensures
 
 -- src/all.rt:27:5
@@ -36,7 +36,7 @@ loop-index-preserved c =
     let i = c.loop-index.index in
     let m = c.index-modules-index.result in
     let row = c.in-Ok.row in
-    let numbered : map Some row ≡ row_in globals (i + 1) m.now = c.in-Ok.ensures ∙ ap (λ (n : ℕ). row_in globals n m.now) c.in_ok-number.ensures in
+    let numbered : map Some row ≡ row_in globals (i + 1) m.now = c.in-Ok.ensures ∙ ap (λ (n : ℕ). row_in globals n m.now) c.in_ok-count.ensures in
     let nothing : missing_row globals (i + 1) m.now ≡ None =
     ap (λ (o : Option Ext). option_map (λ (e : Ext). Missing e.name) o) (none_is_none (meaning_in globals (i + 1) m.now) row m.now.exts numbered) in (
       ap (map (map Some)) c.in_ok-push-in-Ok.ensures

@@ -4,13 +4,14 @@ use Rattle.obj_types.specs.declared.object.ObjModule.{ObjModule}
 use Rattle.link_model.specs.declared.symbols.SymDef.{SymDef}
 use Rattle.link_model.specs.Choosing.{modules_of}
 use Rattle.link_model.specs.SymbolRefusals.{twice}
-use Rattle.sym_table.specs.declared.global_names.GlobalNames.{GlobalNames}
-use Rattle.sym_table.specs.Binding.{AreNamesOf, IsBound, IsRefused}
-use Rattle.sym_table.specs.Links.{link_with}
+use Rattle.link_types.specs.declared.symbols.GlobalNames.{GlobalNames}
+use Rattle.sym_table.specs.Binding.{AreNamesOf, IsRefused}
+use Rattle.link_types.specs.Binding.{IsBound}
+use Rattle.link_types.specs.Links.{link_with}
 use Rattle.sym_table.specs.Meanings.{rows_in}
 use Rattle.sym_table.specs.Refusing.{later_refusal}
-use Rattle.sym_table.specs.Symbols.{SymbolTable}
-use Rattle.sym_table.proofs.Failing.{handed_on}
+use Rattle.link_types.specs.Symbols.{SymbolTable}
+use Rattle.lx_types.proofs.Failing.{handed_on}
 use Rattle.sym_table.proofs.WholeLink.{is_bound, is_twice, is_later}
 use Rattle.sym_table.proofs.binding.bind.Goals as goal
 

@@ -1,5 +1,5 @@
 use Rattle.std.proofs.Common.{◌∙◌, ap, ℕ, List, bytes_eq, refl}
-use Rattle.first_table.specs.Entries.{value_named, with_entry}
+use Rattle.name_table.specs.Entries.{value_named, with_entry}
 use Rattle.sym_table.proofs.LeaderTables.{more_entry, item_given}
 use Rattle.sym_table.proofs.choosing.add_imports.Goals as goal
 

@@ -1,6 +1,6 @@
 use Rattle.std.proofs.Common.{◌≡◌, take, ℕ, List}
 use Rattle.std.specs.Option.{option_or}
-use Rattle.first_table.specs.Entries.{value_named}
+use Rattle.name_table.specs.Entries.{value_named}
 use Rattle.sym_table.specs.Leading.{has_import, given}
 use Rattle.sym_table.proofs.choosing.add_imports.Given as goal
 

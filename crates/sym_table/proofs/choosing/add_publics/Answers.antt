@@ -1,6 +1,6 @@
 use Rattle.std.proofs.Common.{◌∙◌, ap, ℕ, List, Bool, false, not, bytes_eq}
 use Rattle.std.specs.Prelude.{◌&&◌}
-use Rattle.first_table.specs.Entries.{value_named, with_entry}
+use Rattle.name_table.specs.Entries.{value_named, with_entry}
 use Rattle.sym_table.proofs.LeaderTables.{more_entry, item_given, not_given}
 use Rattle.sym_table.proofs.choosing.add_publics.Goals as goal
 use Rattle.sym_table.proofs.choosing.add_publics.Goals.{then-not-public+in_ok-push, else-not-public}

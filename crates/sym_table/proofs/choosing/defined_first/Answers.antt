@@ -4,7 +4,7 @@ use Rattle.std.specs.List.{list_any}
 use Rattle.obj_types.specs.declared.object.ObjModule.{ObjModule}
 use Rattle.obj_types.specs.declared.symbol.Imp.{Imp}
 use Rattle.link_model.specs.Choosing.{defines}
-use Rattle.first_table.specs.Entries.{value_named}
+use Rattle.name_table.specs.Entries.{value_named}
 use Rattle.sym_table.specs.Leading.{has_import}
 use Rattle.sym_table.proofs.LeaderTables.{some_given, some_place}
 use Rattle.sym_table.proofs.choosing.defined_first.Goals as goal

@@ -12,6 +12,6 @@ loop-index-preserved c = λ name.
     let libraries = c.args.libraries.now in
     let i = c.loop-index.index in
     c.in_ok-add_module.ensures name
-    ∙ ap (λ (o : Option ℕ). option_or o (given (defines m name) c.in_ok-number.field-0)) (c.loop-index.invariant name)
-    ∙ ap (λ (n : ℕ). option_or (leader (take i libraries) name) (given (defines m name) n)) c.in_ok-number.ensures
+    ∙ ap (λ (o : Option ℕ). option_or o (given (defines m name) c.in_ok-count.field-0)) (c.loop-index.invariant name)
+    ∙ ap (λ (n : ℕ). option_or (leader (take i libraries) name) (given (defines m name) n)) c.in_ok-count.ensures
     ∙ sym (position-more (λ o. defines o name) libraries i m c.loop-index-test.true c.index-libraries-index.is)

@@ -1,5 +1,5 @@
 use Rattle.std.proofs.Common.{◌≡◌, take, ℕ, List}
-use Rattle.first_table.specs.Entries.{value_named}
+use Rattle.name_table.specs.Entries.{value_named}
 use Rattle.sym_table.specs.Leading.{leader}
 use Rattle.sym_table.proofs.choosing.leaders_of.Given as goal
 

@@ -1,5 +1,5 @@
 use Rattle.std.proofs.Common.{◌∙◌, ◌++◌, ap, sym, filter_map, take}
-use Rattle.sym_table.specs.Links.{link_with}
+use Rattle.link_types.specs.Links.{link_with}
 use Rattle.link_model.specs.Symbols.{comdef_of, comdefs}
 use Rattle.sym_table.proofs.CommunalOnes.{comdefs-push}
 use Rattle.sym_table.proofs.communals.comdefs_of.Goals as goal

@@ -1,6 +1,6 @@
 use Rattle.std.proofs.Common.{◌≡◌, map, take}
 use Rattle.link_model.specs.Symbols.{comdefs}
-use Rattle.sym_table.specs.Links.{link_with}
+use Rattle.link_types.specs.Links.{link_with}
 use Rattle.sym_table.specs.Communals.{comdef_shown}
 use Rattle.sym_table.proofs.communals.comdefs_of.Given as goal
 

@@ -1,5 +1,5 @@
 use Rattle.std.proofs.Common.{◌∙◌, ap, ℕ, List, max}
-use Rattle.first_table.specs.Entries.{with_value}
+use Rattle.name_table.specs.Entries.{with_value}
 use Rattle.sym_table.proofs.Greatest.{len-more}
 use Rattle.sym_table.proofs.communals.lens_of.Goals as goal
 

@@ -1,5 +1,5 @@
 use Rattle.std.proofs.Common.{◌≡◌, map, take, ℕ, List, unwrap_or}
-use Rattle.first_table.specs.Entries.{value_named}
+use Rattle.name_table.specs.Entries.{value_named}
 use Rattle.sym_table.specs.Communals.{comdef_shown, greatest_of}
 use Rattle.sym_table.proofs.communals.lens_of.Given as goal
 

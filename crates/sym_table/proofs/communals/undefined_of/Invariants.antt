@@ -1,5 +1,5 @@
 use Rattle.std.proofs.Common.{◌≡◌, map, take, filter, is_none}
-use Rattle.first_table.specs.Entries.{value_named}
+use Rattle.name_table.specs.Entries.{value_named}
 use Rattle.sym_table.specs.Communals.{comdef_shown}
 use Rattle.sym_table.proofs.communals.undefined_of.Given as goal
 

@@ -1,7 +1,7 @@
 use Rattle.std.proofs.Common.{◌≡◌, map, take}
 use Rattle.link_model.specs.Link.{of_modules}
 use Rattle.link_model.specs.Symbols.{definitions_in}
-use Rattle.sym_table.specs.Links.{link_with}
+use Rattle.link_types.specs.Links.{link_with}
 use Rattle.sym_table.specs.Definitions.{shown}
 use Rattle.sym_table.proofs.definitions.definitions_of.Given as goal
 

@@ -3,7 +3,7 @@ use Rattle.std.specs.Option.{option_and_then}
 use Rattle.link_model.specs.declared.refusals.SymRefusal.{SymRefusal}
 use Rattle.link_model.specs.declared.refusals.SymRefusal.TheVariants.{Twice}
 use Rattle.link_model.specs.SymbolRefusals.{counts_once}
-use Rattle.first_table.specs.Entries.{value_named, with_entry}
+use Rattle.name_table.specs.Entries.{value_named, with_entry}
 use Rattle.sym_table.specs.declared.definitions.Definition.{Definition}
 use Rattle.sym_table.specs.Definitions.{meaning_shown}
 use Rattle.sym_table.proofs.firsts.add_definition.Goals as goal

@@ -1,9 +1,9 @@
 use Rattle.std.proofs.Common.{◌≡◌, ◌∙◌, ap, sym, Some, None, map, take, List, ℕ}
-use Rattle.first_table.specs.Entries.{value_named, with_entry}
+use Rattle.name_table.specs.Entries.{value_named, with_entry}
 use Rattle.sym_table.specs.declared.definitions.Definition.{Definition}
 use Rattle.sym_table.specs.Definitions.{shown, twice_among}
 use Rattle.sym_table.specs.Firsts.{firsts_of, second_in}
-use Rattle.sym_table.proofs.Failing.{handed_on}
+use Rattle.lx_types.proofs.Failing.{handed_on}
 use Rattle.sym_table.proofs.FirstOnes.{first_more, no_second, not_late, first_second}
 use Rattle.sym_table.proofs.firsts.first_definitions.Goals as goal
 

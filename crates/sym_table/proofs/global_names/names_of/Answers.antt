@@ -1,12 +1,12 @@
 use Rattle.std.proofs.Common.{◌≡◌, ◌∙◌, sym, Some, None, map, List, ℕ}
 use Rattle.link_model.specs.SymbolRefusals.{twice}
 use Rattle.sym_table.specs.declared.definitions.Definition.{Definition}
-use Rattle.sym_table.specs.declared.global_names.GlobalNames.{GlobalNames}
+use Rattle.link_types.specs.declared.symbols.GlobalNames.{GlobalNames}
 use Rattle.sym_table.specs.Binding.{AreNamesOf}
 use Rattle.sym_table.specs.Definitions.{shown, twice_among}
 use Rattle.sym_table.specs.Firsts.{firsts_of}
-use Rattle.sym_table.specs.Links.{link_with}
-use Rattle.sym_table.proofs.Failing.{handed_on}
+use Rattle.link_types.specs.Links.{link_with}
+use Rattle.lx_types.proofs.Failing.{handed_on}
 use Rattle.sym_table.proofs.NamesMean.{names_are, twice_is}
 use Rattle.sym_table.proofs.global_names.names_of.Goals as goal
 

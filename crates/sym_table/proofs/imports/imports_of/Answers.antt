@@ -4,7 +4,7 @@ use Rattle.sym_table.specs.Definitions.{shown, meaning_shown, imports_among}
 use Rattle.sym_table.specs.declared.imports.Imports.{Imports}
 use Rattle.sym_table.specs.ImportLists.{AreListed, with_import}
 use Rattle.sym_table.proofs.ImportPairs.{public-push, import-push}
-use Rattle.sym_table.proofs.Lists.{map-more}
+use Rattle.link_types.proofs.Lists.{map-more}
 use Rattle.std.specs.Borrow.{Bor}
 use Rattle.obj_types.specs.declared.symbol.Imp.{Imp}
 use Rattle.sym_table.specs.declared.definitions.Meaning.{Meaning}

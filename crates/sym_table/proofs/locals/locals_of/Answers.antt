@@ -3,7 +3,7 @@ use Rattle.std.specs.Prelude.{◌&&◌}
 use Rattle.std.specs.Option.{option_or}
 use Rattle.sym_table.proofs.Conflicts.{or_none}
 use Rattle.obj_types.specs.declared.symbol.PubPlace.{PubPlace}
-use Rattle.first_table.specs.Entries.{value_named, with_entry}
+use Rattle.name_table.specs.Entries.{value_named, with_entry}
 use Rattle.sym_table.proofs.LeaderTables.{when, more_entry}
 use Rattle.sym_table.proofs.LocalTables.{local_place, place-more}
 use Rattle.sym_table.proofs.locals.locals_of.Goals as goal

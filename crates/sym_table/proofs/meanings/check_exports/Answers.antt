@@ -4,7 +4,7 @@ use Rattle.lx_types.proofs.Options.{mapped_none}
 use Rattle.obj_types.specs.declared.symbol.Exp.{Exp}
 use Rattle.link_model.specs.declared.refusals.SymRefusal.TheVariants.{Missing}
 use Rattle.link_model.specs.SymbolRefusals.{is_exportable}
-use Rattle.sym_table.specs.Meanings.{global_in}
+use Rattle.link_types.specs.Globals.{global_in}
 use Rattle.sym_table.proofs.Lists.{find-here, find-past}
 use Rattle.sym_table.proofs.meanings.check_exports.Goals as goal
 

@@ -1,13 +1,13 @@
 use Rattle.std.proofs.Common.{◌∙◌, ◌++◌, ◌∷◌, [], ap, sym, map, take, List, Option, ℕ}
 use Rattle.std.proofs.lemmas.List.{map-append}
 use Rattle.link_model.specs.declared.symbols.SymDef.{SymDef}
-use Rattle.first_table.specs.Entries.{with_entry}
+use Rattle.name_table.specs.Entries.{with_entry}
 use Rattle.link_model.specs.Appearance.{firsts}
 use Rattle.sym_table.specs.Definitions.{shown}
 use Rattle.sym_table.specs.Firsts.{same_name}
 use Rattle.sym_table.specs.Meanings.{defined_by}
 use Rattle.sym_table.proofs.FirstOnes.{entry-push}
-use Rattle.sym_table.proofs.Lists.{map-more}
+use Rattle.link_types.proofs.Lists.{map-more}
 use Rattle.sym_table.proofs.meanings.defined_of.Goals as goal
 
 pub loop-definition-preserved : goal.loop-definition-preserved

@@ -1,7 +1,7 @@
 use Rattle.std.proofs.Common.{◌≡◌, ◌∙◌, sym, map, List, Some}
 use Rattle.link_model.specs.declared.symbols.SymDef.{SymDef}
 use Rattle.sym_table.specs.Meanings.{meaning_by, missing_by, row_in, missing_row}
-use Rattle.sym_table.proofs.Failing.{answered}
+use Rattle.lx_types.proofs.Failing.{answered}
 use Rattle.sym_table.proofs.LocalTables.{AreLocals, row_is, missing_is}
 use Rattle.sym_table.proofs.meanings.externals_of.Goals as goal
 

@@ -5,7 +5,8 @@ use Rattle.obj_types.specs.declared.symbol.Ext.{Ext}
 use Rattle.link_model.specs.declared.symbols.SymDef.{SymDef}
 use Rattle.link_model.specs.declared.refusals.SymRefusal.TheVariants.{Missing}
 use Rattle.sym_table.specs.Meanings.{meaning_by}
-use Rattle.sym_table.proofs.Lists.{find-here, none_is_none, map-more}
+use Rattle.sym_table.proofs.Lists.{find-here, none_is_none}
+use Rattle.link_types.proofs.Lists.{map-more}
 use Rattle.sym_table.proofs.meanings.row_by.Goals as goal
 
 pub returns-in-None : goal.returns-in-None

@@ -2,11 +2,12 @@ use Rattle.std.proofs.Common.{◌≡◌, ◌∙◌, ap, sym, take, map, length, 
 use Rattle.std.proofs.Math.Seq.{take-length}
 use Rattle.lx_types.specs.Names.{uppercase}
 use Rattle.obj_types.specs.declared.symbol.Imp.{Imp}
-use Rattle.first_table.specs.Entries.{with_entry}
+use Rattle.name_table.specs.Entries.{with_entry}
 use Rattle.link_model.specs.Appearance.{firsts}
 use Rattle.sym_table.specs.Firsts.{same_name}
 use Rattle.sym_table.proofs.FirstOnes.{entry-push}
-use Rattle.sym_table.proofs.Lists.{map-more, count-keys}
+use Rattle.link_types.proofs.Lists.{map-more}
+use Rattle.sym_table.proofs.Lists.{count-keys}
 use Rattle.sym_table.proofs.names.module_count.Goals as goal
 
 pub loop-import-preserved : goal.loop-import-preserved

@@ -6,10 +6,10 @@ use Rattle.std.proofs.lemmas.List.{map-append}
 use Rattle.std.proofs.lemmas.List.Elements.{All-push}
 use Rattle.lx_types.specs.declared.fail.Fail.{Fail}
 use Rattle.lx_types.specs.declared.fail.Fail.TheVariants as fail
-use Rattle.lx_answer.specs.declared.said.Said.{Said}
-use Rattle.lx_answer.specs.Loading.{Asked}
-use Rattle.lx_answer.specs.Reading.{Item, module_or_definition}
-use Rattle.lx_answer.specs.Says.{asked_exporters}
+use Rattle.answer_model.specs.declared.said.Said.{Said}
+use Rattle.answer_model.specs.Loading.{Asked}
+use Rattle.answer_model.specs.Reading.{Item, module_or_definition}
+use Rattle.answer_model.specs.Says.{asked_exporters}
 use Rattle.tool_read.specs.declared.exporters.Exporter.{Exporter}
 use Rattle.tool_read.specs.Readings.{WholeExporter, asked, exporter_item}
 use Rattle.tool_read.specs.Steps.{ReadsInTurn}

@@ -1,7 +1,7 @@
 use Rattle.std.proofs.Common.{◌≡◌, take, map}
 use Rattle.std.specs.Prelude.{string_bytes}
 use Rattle.std.specs.List.{All}
-use Rattle.lx_answer.specs.Says.{asked_exporters}
+use Rattle.answer_model.specs.Says.{asked_exporters}
 use Rattle.tool_read.specs.Readings.{WholeExporter, exporter_item}
 use Rattle.tool_read.proofs.Walk.{ReadSoFar}
 use Rattle.tool_read.proofs.export_files.read_exporters.Given as goal

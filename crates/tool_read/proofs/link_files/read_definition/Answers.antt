@@ -1,8 +1,8 @@
 use Rattle.std.proofs.Common.{◌≡◌, sym, subst, refl, Option, List, Bor, [], ◌∷◌, ℕ}
 use Rattle.std.specs.Prelude.{option_map}
 use Rattle.obj_types.specs.declared.definition.DefFile.{DefFile}
-use Rattle.lx_answer.specs.Reading.{Item, definition, definition_file}
-use Rattle.lx_answer.specs.Says.{asked_definition}
+use Rattle.answer_model.specs.Reading.{Item, definition, definition_file}
+use Rattle.answer_model.specs.AskedFiles.{asked_definition}
 use Rattle.tool_read.specs.Readings.{asked}
 use Rattle.tool_read.specs.Steps.{GivesDefinition, ReadsInTurn}
 use Rattle.tool_read.proofs.Walk.{one_load, reads_as, reads_one}

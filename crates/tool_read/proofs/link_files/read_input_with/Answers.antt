@@ -1,10 +1,10 @@
 use Rattle.std.specs.Prelude.{option_map, string_bytes}
-use Rattle.lx_answer.specs.Says.{asked_definition, asked_inputs}
+use Rattle.answer_model.specs.AskedFiles.{asked_definition, asked_inputs}
 use Rattle.std.proofs.Common.{◌≡◌, ◌++◌, map, sym, subst, Result}
 use Rattle.lx_types.specs.declared.fail.Fail.{Fail}
 use Rattle.obj_types.specs.declared.input.LinkInput.{LinkInput}
-use Rattle.lx_answer.specs.declared.said.Said.{Said}
-use Rattle.lx_answer.specs.LinkAnswer.{input_with}
+use Rattle.answer_model.specs.declared.said.Said.{Said}
+use Rattle.answer_model.specs.LinkAnswer.{input_with}
 use Rattle.tool_read.specs.Steps.{AreModulesOf, GivesDefinition, ReadsInTurn}
 use Rattle.tool_read.proofs.LinkInput.{input_is}
 use Rattle.tool_read.proofs.Walk.{both_end, both_read, err_is, stopped_first, stopped_second}

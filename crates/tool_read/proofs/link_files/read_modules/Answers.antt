@@ -1,8 +1,8 @@
 use Rattle.std.proofs.Common.{Err, ℕ, List, sym, subst, map, take, drop, suc, ◌++◌, ◌∷◌, []}
 use Rattle.std.specs.Prelude.{string_bytes}
-use Rattle.lx_answer.specs.Loading.{Asked}
-use Rattle.lx_answer.specs.Reading.{object_or_library}
-use Rattle.lx_answer.specs.Says.{asked_inputs}
+use Rattle.answer_model.specs.Loading.{Asked}
+use Rattle.answer_model.specs.Reading.{object_or_library}
+use Rattle.answer_model.specs.AskedFiles.{asked_inputs}
 use Rattle.tool_read.specs.Readings.{asked}
 use Rattle.tool_read.specs.Steps.{AreModulesOf, ReadsInTurn}
 use Rattle.tool_read.proofs.LinkInput.{gains_more}

@@ -1,6 +1,6 @@
 use Rattle.std.proofs.Common.{take, map}
 use Rattle.std.specs.Prelude.{string_bytes}
-use Rattle.lx_answer.specs.Says.{asked_inputs}
+use Rattle.answer_model.specs.AskedFiles.{asked_inputs}
 use Rattle.tool_read.specs.Steps.{AreModulesOf, AreWhole}
 use Rattle.tool_read.proofs.Walk.{ReadSoFar}
 use Rattle.tool_read.proofs.link_files.read_modules.Given as goal

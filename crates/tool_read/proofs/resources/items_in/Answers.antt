@@ -1,7 +1,7 @@
 use Rattle.std.proofs.Common.{ℕ, List, ◌≤◌, length, subst, sym}
 use Rattle.std.specs.List.{sum_by}
 use Rattle.res_model.specs.declared.item.ResItem.{ResItem}
-use Rattle.lx_answer.specs.Loading.{file_limit}
+use Rattle.answer_model.specs.Loading.{file_limit}
 use Rattle.tool_read.proofs.Items.{small}
 use Rattle.tool_read.proofs.resources.items_in.Goals as goal
 

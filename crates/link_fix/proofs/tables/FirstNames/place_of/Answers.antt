@@ -1,6 +1,6 @@
 use Rattle.std.proofs.Common.{◌∙◌, ap, List, ℕ}
 use Rattle.std.specs.List.{position}
-use Rattle.first_table.specs.Entries.{is_named}
+use Rattle.name_table.specs.Entries.{is_named}
 use Rattle.link_fix.proofs.FirstTables.{Named, position-named}
 use Rattle.link_fix.proofs.tables.FirstNames.place_of.Goals as goal
 

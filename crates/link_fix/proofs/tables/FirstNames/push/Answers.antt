@@ -1,6 +1,6 @@
 use Rattle.std.proofs.Common.{◌≡◌, ◌∙◌, sym, ap, rules, List, ℕ, true, false, bytes_eq, map, [], ◌∷◌, ◌++◌}
 use Rattle.std.specs.List.{list_any}
-use Rattle.first_table.specs.Entries.{with_entry}
+use Rattle.name_table.specs.Entries.{with_entry}
 use Rattle.link_model.specs.Appearance.{firsts}
 use Rattle.link_fix.proofs.FirstTables.{Named, named, names-new, names-old, places-new}
 use Rattle.link_fix.proofs.tables.FirstNames.push.Goals as goal

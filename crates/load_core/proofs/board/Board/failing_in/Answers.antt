@@ -3,18 +3,18 @@ use Rattle.std.proofs.Common.{◌≡◌, List, find, option_map, sym, ◌∙◌,
 use Rattle.std.specs.Arc.{arc_value}
 use Rattle.load_model.specs.declared.deeds.Call.{Call}
 use Rattle.load_model.specs.Initialising.{is_failing}
-use Rattle.load_core.specs.Ledger.{Ledger, state_of}
+use Rattle.load_core.specs.BoardState.{BoardState, state_of}
 use Rattle.load_core.specs.Enters.{IsArrival, failing_of}
-use Rattle.load_core.specs.Inside.{ledger_in}
+use Rattle.load_core.specs.Inside.{board_state_in}
 use Rattle.load_core.proofs.Arriving.{failing_by}
 use Rattle.load_core.proofs.board.Board.failing_in.Goals as goal
 
 pub returns : goal.returns
 returns c =
-    let b = ledger_in c.self.inside in
+    let b = board_state_in c.self.inside in
     let e = state_of b in
-    let A : Ledger → Type 0 = λ a. IsArrival a c.args.at c.args.arrival.now in
-    let F : Ledger → Type 0 = λ a. c.failing_module.result ≡ failing_of a c.args.at c.args.arrival.now in
+    let A : BoardState → Type 0 = λ a. IsArrival a c.args.at c.args.arrival.now in
+    let F : BoardState → Type 0 = λ a. c.failing_module.result ≡ failing_of a c.args.at c.args.arrival.now in
     let it = subst A (sym c.self.view_is) c.requires in
     let pairs = c.failed_loads_leave_nothing.ensures.fixed (arc_value c.self.inside.lib) c.self.inside.failing.items c.self.inside.history.items ∙ sym c.deref.ensures.value in
     subst F c.self.view_is

@@ -2,8 +2,8 @@
 use Rattle.std.proofs.Common.{◌∷◌, ◌++◌, [], List, true, false, is_some, sym, ◌∙◌, ap, subst}
 use Rattle.load_model.specs.declared.deeds.Entry.{Entry}
 use Rattle.load_model.specs.Asks.{fault}
-use Rattle.load_core.specs.Ledger.{Ledger, MayAsk}
-use Rattle.load_core.specs.Inside.{ledger_in}
+use Rattle.load_core.specs.BoardState.{BoardState, MayAsk}
+use Rattle.load_core.specs.Inside.{board_state_in}
 use Rattle.load_core.specs.Told.{IsGiven, IsTaken}
 use Rattle.load_core.proofs.Faulting.{place_found, fault_entry}
 use Rattle.load_core.proofs.Claiming.{Claims, keeps_given, is_given, keeps_taken, is_taken}
@@ -11,15 +11,15 @@ use Rattle.load_core.proofs.board.Board.fault.Goals as goal
 
 pub place_with-place-requires : goal.place_with-place-requires
 place_with-place-requires c =
-    let M : Ledger → Type 0 = λ b. MayAsk b c.args.pid (fault c.args.serial c.requires.may.0 c.args.p) in
-    place_found (ledger_in c.self.inside) c.self.inside.refs c.self.inside.stays c.self.inside.serials c.args.pid c.args.serial c.requires.may.0 c.args.p c.self.invariant
+    let M : BoardState → Type 0 = λ b. MayAsk b c.args.pid (fault c.args.serial c.requires.may.0 c.args.p) in
+    place_found (board_state_in c.self.inside) c.self.inside.refs c.self.inside.table c.self.inside.serials c.args.pid c.args.serial c.requires.may.0 c.args.p c.self.invariant
     (subst M (sym c.self.view_is) c.requires.may.1)
 
 given : (c : goal.After-push_reserved) →
-    Claims (ledger_in c.self.inside) c.self.inside.refs c.self.inside.stays c.take_right.new.stays c.self.inside.serials c.args.pid c.args.serial c.module-module.result c.args.p
+    Claims (board_state_in c.self.inside) c.self.inside.refs c.self.inside.table c.take_right.new.table c.self.inside.serials c.args.pid c.args.serial c.module-module.result c.args.p
     c.place_with-place.result c.at.result.now true
 given c =
-    let M : Ledger → Type 0 = λ b. MayAsk b c.args.pid (fault c.args.serial c.requires.may.0 c.args.p) in
+    let M : BoardState → Type 0 = λ b. MayAsk b c.args.pid (fault c.args.serial c.requires.may.0 c.args.p) in
     record {
       kept = c.self.invariant;
       process = c.requires.process;
@@ -32,10 +32,10 @@ given c =
     }
 
 taken : (c : goal.In-None) →
-    Claims (ledger_in c.self.inside) c.self.inside.refs c.self.inside.stays c.take_right.new.stays c.self.inside.serials c.args.pid c.args.serial c.module-module.result c.args.p
+    Claims (board_state_in c.self.inside) c.self.inside.refs c.self.inside.table c.take_right.new.table c.self.inside.serials c.args.pid c.args.serial c.module-module.result c.args.p
     c.place_with-place.result c.at.result.now false
 taken c =
-    let M : Ledger → Type 0 = λ b. MayAsk b c.args.pid (fault c.args.serial c.requires.may.0 c.args.p) in
+    let M : BoardState → Type 0 = λ b. MayAsk b c.args.pid (fault c.args.serial c.requires.may.0 c.args.p) in
     record {
       kept = c.self.invariant;
       process = c.requires.process;
@@ -49,27 +49,27 @@ taken c =
 
 pub invariant_of-self-in-Some : goal.invariant_of-self-in-Some
 invariant_of-self-in-Some c =
-    keeps_given c.fixable_pages_are_found.ensures.listed (ledger_in c.self.inside) c.self.inside.refs c.self.inside.stays c.take_right.new.stays c.self.inside.serials c.args.pid c.args.serial
+    keeps_given c.fixable_pages_are_found.ensures.listed (board_state_in c.self.inside) c.self.inside.refs c.self.inside.table c.take_right.new.table c.self.inside.serials c.args.pid c.args.serial
     c.module-module.result c.args.p c.place_with-place.result c.at.result.now c.residences_stay.ensures.bases c.push_reserved.new.self.items (given c)
     (c.push_reserved.ensures.items ∙ ap (λ (h : List Entry). h ++ fault_entry c.args.pid c.args.serial c.module-module.result c.args.p ∷ []) c.reserve.ensures.items)
 
 pub invariant_of-self-in-None : goal.invariant_of-self-in-None
 invariant_of-self-in-None c =
-    keeps_taken c.fixable_pages_are_found.ensures.listed (ledger_in c.self.inside) c.self.inside.refs c.self.inside.stays c.take_right.new.stays c.self.inside.serials c.args.pid c.args.serial
+    keeps_taken c.fixable_pages_are_found.ensures.listed (board_state_in c.self.inside) c.self.inside.refs c.self.inside.table c.take_right.new.table c.self.inside.serials c.args.pid c.args.serial
     c.module-module.result c.args.p c.place_with-place.result c.at.result.now c.reserve.new.self.items (taken c) c.reserve.ensures.items
 
 pub returns-in-Some-clause-claim : goal.returns-in-Some-clause-claim
 returns-in-Some-clause-claim c =
-    let G : Ledger → Type 0 = λ b. IsGiven b (record (ledger_in c.self.inside) { history = c.push_reserved.new.self.items }) c.args.pid c.args.serial c.args.p c.in-Some.right in
+    let G : BoardState → Type 0 = λ b. IsGiven b (record (board_state_in c.self.inside) { history = c.push_reserved.new.self.items }) c.args.pid c.args.serial c.args.p c.in-Some.right in
     subst G c.self.view_is
-    (is_given c.fixable_pages_are_found.ensures.listed (ledger_in c.self.inside) c.self.inside.refs c.self.inside.stays c.take_right.new.stays c.self.inside.serials c.args.pid c.args.serial
+    (is_given c.fixable_pages_are_found.ensures.listed (board_state_in c.self.inside) c.self.inside.refs c.self.inside.table c.take_right.new.table c.self.inside.serials c.args.pid c.args.serial
     c.module-module.result c.args.p c.place_with-place.result c.at.result.now c.push_reserved.new.self.items c.in-Some.right (given c)
     (c.push_reserved.ensures.items ∙ ap (λ (h : List Entry). h ++ fault_entry c.args.pid c.args.serial c.module-module.result c.args.p ∷ []) c.reserve.ensures.items)
     (c.in-Some.ensures.right c.at.result.now (sym c.at.ensures)))
 
 pub returns-in-None-clause-claim : goal.returns-in-None-clause-claim
 returns-in-None-clause-claim c =
-    let T : Ledger → Type 0 = λ b. IsTaken b (record (ledger_in c.self.inside) { history = c.reserve.new.self.items }) c.args.serial c.args.p in
+    let T : BoardState → Type 0 = λ b. IsTaken b (record (board_state_in c.self.inside) { history = c.reserve.new.self.items }) c.args.serial c.args.p in
     subst T c.self.view_is
-    (is_taken c.fixable_pages_are_found.ensures.listed (ledger_in c.self.inside) c.self.inside.refs c.self.inside.stays c.take_right.new.stays c.self.inside.serials c.args.pid c.args.serial
+    (is_taken c.fixable_pages_are_found.ensures.listed (board_state_in c.self.inside) c.self.inside.refs c.self.inside.table c.take_right.new.table c.self.inside.serials c.args.pid c.args.serial
     c.module-module.result c.args.p c.place_with-place.result c.at.result.now c.reserve.new.self.items (taken c) c.reserve.ensures.items)

@@ -4,24 +4,24 @@ use Rattle.load_model.specs.declared.deeds.Deed.{Deed}
 use Rattle.load_model.specs.declared.deeds.Entry.{Entry}
 use Rattle.load_model.specs.Modules.{Library}
 use Rattle.load_model.specs.State.{Residence, Eager, is_among}
-use Rattle.mod_refs.specs.AllRows.{AreRows}
+use Rattle.mod_refs.specs.AllCounts.{AreCountsOfAll}
 use Rattle.mod_refs.specs.Changes.{with_given_up}
-use Rattle.load_core.specs.Ledger.{Ledger, state_of, MayAsk, Adds}
+use Rattle.load_core.specs.BoardState.{BoardState, state_of, MayAsk, Adds}
 use Rattle.load_core.specs.Kept.{Keeps}
 use Rattle.load_core.specs.Leaves.{asked_by, IsDeparture}
-use Rattle.load_core.specs.Inside.{ledger_in}
-use Rattle.load_core.specs.declared.beside.Beside.{Beside}
+use Rattle.load_core.specs.Inside.{board_state_in}
+use Rattle.load_core.specs.declared.residence_parts.ResidenceParts.{ResidenceParts}
 use Rattle.load_core.proofs.Leaving.{is_held, leaving_entry, departed, keeps_left}
 use Rattle.load_core.proofs.board.Board.leave.Goals as goal
 
 pub detach-requires-clause-held : goal.detach-requires-clause-held
 detach-requires-clause-held c =
-    let M : Ledger → Type 0 = λ b. MayAsk b c.args.pid (asked_by c.args.what) in
-    is_held c.order_is_reach.ensures.last c.reached_is_fit.ensures.reached (ledger_in c.self.inside) c.self.inside.refs c.args.pid c.args.what c.self.invariant.legal c.self.invariant.reached
+    let M : BoardState → Type 0 = λ b. MayAsk b c.args.pid (asked_by c.args.what) in
+    is_held c.order_is_reach.ensures.last c.reached_is_fit.ensures.reached (board_state_in c.self.inside) c.self.inside.refs c.args.pid c.args.what c.self.invariant.legal c.self.invariant.reached
     c.requires.process (subst M (sym c.self.view_is) c.requires.may)
 
-left_by : (c : goal.After-drop-departure-2) → IsDeparture (ledger_in c.self.inside) c.args.pid c.args.what c.in_ok-departure.departure
-left_by c = (let D : Ledger → Type 0 = λ b. IsDeparture b c.args.pid c.args.what c.in_ok-departure.departure in subst D (sym c.self.view_is) c.in_ok-departure.ensures)
+left_by : (c : goal.After-drop-departure-2) → IsDeparture (board_state_in c.self.inside) c.args.pid c.args.what c.in_ok-departure.departure
+left_by c = (let D : BoardState → Type 0 = λ b. IsDeparture b c.args.pid c.args.what c.in_ok-departure.departure in subst D (sym c.self.view_is) c.in_ok-departure.ensures)
 
 grown : (c : goal.After-drop-departure-2) →
     c.push_reserved.new.self.items ≡ c.self.inside.history.items ++ leaving_entry c.args.pid c.args.what c.in_ok-departure.departure.calls c.in_ok-departure.departure.gone ∷ []
@@ -32,25 +32,25 @@ grown c =
 
 pub invariant_of-self-2 : goal.invariant_of-self-2
 invariant_of-self-2 c =
-    let b = ledger_in c.self.inside in
-    let M : Ledger → Type 0 = λ b. MayAsk b c.args.pid (asked_by c.args.what) in
-    let R : Library → Type 0 = λ lib. (e : Eager) → AreRows lib e c.self.inside.refs → AreRows lib (with_given_up lib e c.args.pid c.args.what) c.detach.new.self in
+    let b = board_state_in c.self.inside in
+    let M : BoardState → Type 0 = λ b. MayAsk b c.args.pid (asked_by c.args.what) in
+    let R : Library → Type 0 = λ lib. (e : Eager) → AreCountsOfAll lib e c.self.inside.refs → AreCountsOfAll lib (with_given_up lib e c.args.pid c.args.what) c.detach.new.self in
     let H : List Entry → Type 0 = λ h. Keeps (record b { history = h }) c.detach.new.self c.end.new.self c.self.inside.serials in
-    let S : List (Residence × Beside) → Type 0 = λ ss. Keeps (record b {
+    let S : List (Residence × ResidenceParts) → Type 0 = λ ss. Keeps (record b {
       history = c.self.inside.history.items ++ leaving_entry c.args.pid c.args.what c.in_ok-departure.departure.calls c.in_ok-departure.departure.gone ∷ [];
     }) c.detach.new.self ss c.self.inside.serials
     in
-    let F : List ℕ → List (Residence × Beside) = λ ms. filter (λ s. not (is_among ms s.0.«module»)) c.self.inside.stays in
+    let F : List ℕ → List (Residence × ResidenceParts) = λ ms. filter (λ s. not (is_among ms s.0.«module»)) c.self.inside.table in
     subst H (sym (grown c))
     (subst S (sym (c.end.ensures ∙ ap F c.deref-2.ensures.value))
-    (keeps_left c.residences_stay.ensures.bases b c.self.inside.refs c.detach.new.self c.self.inside.stays c.self.inside.serials c.args.pid c.args.what c.in_ok-departure.departure.calls
+    (keeps_left c.residences_stay.ensures.bases b c.self.inside.refs c.detach.new.self c.self.inside.table c.self.inside.serials c.args.pid c.args.what c.in_ok-departure.departure.calls
     c.in_ok-departure.departure.gone c.in_ok-departure.departure.modules.items c.self.invariant c.requires.process (subst M (sym c.self.view_is) c.requires.may)
     (departed b c.args.pid c.args.what c.in_ok-departure.departure (left_by c)) (subst R c.deref.ensures c.detach.ensures.left (state_of b) c.self.invariant.reached) (left_by c).modules))
 
 pub returns-clause-entry : goal.returns-clause-entry
 returns-clause-entry c =
-    let b = ledger_in c.self.inside in
-    let H : List Entry → Ledger = λ h. record b { history = h } in
-    let N : Entry → Ledger = λ x. record b { history = c.self.inside.history.items ++ x ∷ [] } in
-    let A : Ledger → Type 0 = λ a. Adds a (record b { history = c.push_reserved.new.self.items }) c.args.pid (asked_by c.args.what) in
+    let b = board_state_in c.self.inside in
+    let H : List Entry → BoardState = λ h. record b { history = h } in
+    let N : Entry → BoardState = λ x. record b { history = c.self.inside.history.items ++ x ∷ [] } in
+    let A : BoardState → Type 0 = λ a. Adds a (record b { history = c.push_reserved.new.self.items }) c.args.pid (asked_by c.args.what) in
     subst A c.self.view_is (ap H (grown c) ∙ ap N (departed b c.args.pid c.args.what c.in_ok-departure.departure (left_by c)))

@@ -3,12 +3,12 @@ use Rattle.std.specs.Arc.{arc_value}
 use Rattle.std.proofs.Common.{subst}
 use Rattle.load_model.specs.Modules.{Library}
 use Rattle.load_model.specs.State.{nothing_yet}
-use Rattle.mod_refs.specs.AllRows.{AreRows}
+use Rattle.mod_refs.specs.AllCounts.{AreCountsOfAll}
 use Rattle.load_core.proofs.Keeping.{nothing_keeps_so}
 use Rattle.load_core.proofs.board.Board.make_with.Goals as goal
 
 pub invariant_of-result : goal.invariant_of-result
 invariant_of-result c =
-    let A : Library → Type 0 = λ lib. AreRows lib (nothing_yet c.args.failing.items) c.in_ok-refs.refs in
+    let A : Library → Type 0 = λ lib. AreCountsOfAll lib (nothing_yet c.args.failing.items) c.in_ok-refs.refs in
     nothing_keeps_so (arc_value c.args.lib) c.args.failing.items c.new-2.result.items c.in_ok-refs.refs c.new.result c.new-2.ensures.items c.new.ensures
-    (subst A c.deref.ensures (c.in_ok-refs.ensures.rows c.args.failing.items))
+    (subst A c.deref.ensures (c.in_ok-refs.ensures.all_counts c.args.failing.items))

@@ -7,9 +7,9 @@ use Rattle.load_model.specs.declared.deeds.Entry.{Entry}
 use Rattle.load_model.specs.Modules.{Library, object_at}
 use Rattle.load_model.specs.State.{Written}
 use Rattle.load_model.specs.Asks.{put}
-use Rattle.load_core.specs.Ledger.{Ledger, MayAsk, Adds}
+use Rattle.load_core.specs.BoardState.{BoardState, MayAsk, Adds}
 use Rattle.load_core.specs.Kept.{Keeps}
-use Rattle.load_core.specs.Inside.{ledger_in}
+use Rattle.load_core.specs.Inside.{board_state_in}
 use Rattle.load_core.specs.Shared.{shared_writes, AreLaid}
 use Rattle.load_core.proofs.Attached.{place_found, module_within}
 use Rattle.load_core.proofs.Keeping.{write_entry, keeps_unwritten}
@@ -18,19 +18,19 @@ use Rattle.load_core.proofs.board.Board.write.Goals as goal
 
 pub place_with-place-requires : goal.place_with-place-requires
 place_with-place-requires c =
-    let M : Ledger → Type 0 = λ b. MayAsk b c.args.pid (put c.args.serial c.requires.may.0 c.args.object c.args.offset c.args.bytes.now) in
-    place_found (ledger_in c.self.inside) c.self.inside.refs c.self.inside.stays c.self.inside.serials c.args.pid c.args.serial c.requires.may.0 c.self.invariant
-    (put_attached (ledger_in c.self.inside) c.args.pid c.args.serial c.requires.may.0 c.args.object c.args.offset c.args.bytes.now (subst M (sym c.self.view_is) c.requires.may.1))
+    let M : BoardState → Type 0 = λ b. MayAsk b c.args.pid (put c.args.serial c.requires.may.0 c.args.object c.args.offset c.args.bytes.now) in
+    place_found (board_state_in c.self.inside) c.self.inside.refs c.self.inside.table c.self.inside.serials c.args.pid c.args.serial c.requires.may.0 c.self.invariant
+    (put_attached (board_state_in c.self.inside) c.args.pid c.args.serial c.requires.may.0 c.args.object c.args.offset c.args.bytes.now (subst M (sym c.self.view_is) c.requires.may.1))
 
 pub class_at-class-requires : goal.class_at-class-requires
 class_at-class-requires c =
-    let M : Ledger → Type 0 = λ b. MayAsk b c.args.pid (put c.args.serial c.requires.may.0 c.args.object c.args.offset c.args.bytes.now) in
+    let M : BoardState → Type 0 = λ b. MayAsk b c.args.pid (put c.args.serial c.requires.may.0 c.args.object c.args.offset c.args.bytes.now) in
     let N : ℕ → Type 0 = λ k. k < length (arc_value c.self.inside.lib) in
     let L : Library → Type 0 = λ lib. c.module-module.result < length lib in
     subst L (sym c.deref.ensures)
     (subst N (sym c.module-module.ensures)
-    (module_within (ledger_in c.self.inside) c.self.inside.refs c.self.inside.stays c.self.inside.serials c.args.pid c.args.serial c.requires.may.0 c.self.invariant
-    (put_attached (ledger_in c.self.inside) c.args.pid c.args.serial c.requires.may.0 c.args.object c.args.offset c.args.bytes.now (subst M (sym c.self.view_is) c.requires.may.1))
+    (module_within (board_state_in c.self.inside) c.self.inside.refs c.self.inside.table c.self.inside.serials c.args.pid c.args.serial c.requires.may.0 c.self.invariant
+    (put_attached (board_state_in c.self.inside) c.args.pid c.args.serial c.requires.may.0 c.args.object c.args.offset c.args.bytes.now (subst M (sym c.self.view_is) c.requires.may.1))
     c.place_with-place.result c.at.result.now c.place_with-place.ensures (sym c.at.ensures) c.reached_is_fit.ensures.reached))
 
 grown : (c : goal.After-push_reserved) →
@@ -42,10 +42,10 @@ grown c =
     ∙ ap (λ (bytes : List ℕ). c.self.inside.history.items ++ E bytes ∷ []) (c.into_bytes.ensures ∙ ap (λ (w : Written). w.bytes) c.new-write.ensures ∙ c.in_ok-copied.ensures)
 
 laid : (c : goal.After-push_reserved) →
-    AreLaid c.self.inside.stays c.put_shared.new.stays c.place_with-place.result c.at.result.now
+    AreLaid c.self.inside.table c.put_shared.new.table c.place_with-place.result c.at.result.now
     (shared_writes (class_of (object_at (arc_value c.self.inside.lib) c.module-module.result c.args.object)) (record { object = c.args.object; offset = c.args.offset; bytes = c.args.bytes.now }))
 laid c =
-    let L : List Written → Type 0 = λ more. AreLaid c.self.inside.stays c.put_shared.new.stays c.place_with-place.result c.at.result.now more in
+    let L : List Written → Type 0 = λ more. AreLaid c.self.inside.table c.put_shared.new.table c.place_with-place.result c.at.result.now more in
     let C : Library → Class = λ lib. class_of (object_at lib c.module-module.result c.args.object) in
     let W : List ℕ → Written = λ bytes. record { object = c.args.object; offset = c.args.offset; bytes = bytes } in
     subst L (ap (λ k. shared_writes k c.new-write.result) (c.class_at-class.ensures ∙ ap C c.deref.ensures) ∙ ap (shared_writes (C (arc_value c.self.inside.lib))) (c.new-write.ensures ∙ ap W c.in_ok-copied.ensures))
@@ -54,23 +54,23 @@ laid c =
 -- where there is no memory all is kept
 pub invariant_of-self-in_err-put_shared : goal.invariant_of-self-in_err-put_shared
 invariant_of-self-in_err-put_shared c =
-    let H : List Entry → Type 0 = λ h. Keeps (record (ledger_in c.self.inside) { history = h }) c.self.inside.refs c.put_shared.new.stays c.self.inside.serials in
+    let H : List Entry → Type 0 = λ h. Keeps (record (board_state_in c.self.inside) { history = h }) c.self.inside.refs c.put_shared.new.table c.self.inside.serials in
     subst H (sym c.reserve.ensures.items)
-    (keeps_unwritten (ledger_in c.self.inside) c.self.inside.refs c.self.inside.stays c.put_shared.new.stays c.self.inside.serials c.place_with-place.result c.at.result.now c.self.invariant
+    (keeps_unwritten (board_state_in c.self.inside) c.self.inside.refs c.self.inside.table c.put_shared.new.table c.self.inside.serials c.place_with-place.result c.at.result.now c.self.invariant
     (sym c.at.ensures) (c.in_err-put_shared.ensures c.at.result.now (sym c.at.ensures)))
 
 pub invariant_of-self-2 : goal.invariant_of-self-2
 invariant_of-self-2 c =
-    let M : Ledger → Type 0 = λ b. MayAsk b c.args.pid (put c.args.serial c.requires.may.0 c.args.object c.args.offset c.args.bytes.now) in
-    keeps_put (ledger_in c.self.inside) c.self.inside.refs c.self.inside.stays c.self.inside.serials c.args.pid c.args.serial c.module-module.result c.self.invariant c.requires.process
+    let M : BoardState → Type 0 = λ b. MayAsk b c.args.pid (put c.args.serial c.requires.may.0 c.args.object c.args.offset c.args.bytes.now) in
+    keeps_put (board_state_in c.self.inside) c.self.inside.refs c.self.inside.table c.self.inside.serials c.args.pid c.args.serial c.module-module.result c.self.invariant c.requires.process
     c.place_with-place.result c.at.result.now c.place_with-place.ensures (sym c.at.ensures) c.module-module.ensures c.args.object c.args.offset c.args.bytes.now c.residences_stay.ensures.bases
-    c.push_reserved.new.self.items c.put_shared.new.stays (c.requires.may.0, subst M (sym c.self.view_is) c.requires.may.1) (grown c) (laid c)
+    c.push_reserved.new.self.items c.put_shared.new.table (c.requires.may.0, subst M (sym c.self.view_is) c.requires.may.1) (grown c) (laid c)
 
 pub returns-clause-entry : goal.returns-clause-entry
 returns-clause-entry c k may =
-    let M : Ledger → Type 0 = λ b. MayAsk b c.args.pid (put c.args.serial k c.args.object c.args.offset c.args.bytes.now) in
-    let A : Ledger → Type 0 = λ b. Adds b (record (ledger_in c.self.inside) { history = c.push_reserved.new.self.items }) c.args.pid (put c.args.serial k c.args.object c.args.offset c.args.bytes.now) in
+    let M : BoardState → Type 0 = λ b. MayAsk b c.args.pid (put c.args.serial k c.args.object c.args.offset c.args.bytes.now) in
+    let A : BoardState → Type 0 = λ b. Adds b (record (board_state_in c.self.inside) { history = c.push_reserved.new.self.items }) c.args.pid (put c.args.serial k c.args.object c.args.offset c.args.bytes.now) in
     subst A c.self.view_is
-    (adds_put (ledger_in c.self.inside) c.self.inside.refs c.self.inside.stays c.self.inside.serials c.args.pid c.args.serial c.module-module.result c.self.invariant c.requires.process
+    (adds_put (board_state_in c.self.inside) c.self.inside.refs c.self.inside.table c.self.inside.serials c.args.pid c.args.serial c.module-module.result c.self.invariant c.requires.process
     c.place_with-place.result c.at.result.now c.place_with-place.ensures (sym c.at.ensures) c.module-module.ensures c.args.object c.args.offset c.args.bytes.now
     c.push_reserved.new.self.items (grown c) k (subst M (sym c.self.view_is) may))

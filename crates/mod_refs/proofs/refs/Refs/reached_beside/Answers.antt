@@ -2,7 +2,7 @@
 use Rattle.std.proofs.Common.{◌≡◌, inl, inr, sym, ◌∙◌, arith, subst, false}
 use Rattle.std.proofs.lemmas.Bool.{cases_eq}
 use Rattle.load_model.specs.State.{with_process, reaches}
-use Rattle.mod_refs.proofs.RowsOfAll.{none_reaches, some_reaches, reaches_beside, reaches_instead}
+use Rattle.mod_refs.proofs.CountsOfAll.{none_reaches, some_reaches, reaches_beside, reaches_instead}
 use Rattle.mod_refs.proofs.refs.Refs.reached_beside.Goals as goal
 use Rattle.mod_refs.proofs.refs.Refs.reached_beside.Goals.{else-other-pid-via-then-other-pid+else-reaches, else-other-pid-via-else-other-pid}
 

@@ -1,6 +1,6 @@
 -- One process that reaches it is enough, and where none of the sixteen does, none does.
 use Rattle.std.proofs.Common.{sym, arith}
-use Rattle.mod_refs.proofs.RowsOfAll.{none_reaches, some_reaches}
+use Rattle.mod_refs.proofs.CountsOfAll.{none_reaches, some_reaches}
 use Rattle.mod_refs.proofs.refs.Refs.resident.Goals as goal
 
 pub returns-then-reaches : goal.returns-then-reaches

@@ -6,7 +6,7 @@ use Rattle.std.proofs.lemmas.Iterator.Consumers.{YieldsList-turn}
 use Rattle.lx_types.specs.declared.parts.Parts.{Parts}
 use Rattle.process_view.specs.ProcessViews.{new_view}
 use Rattle.proc_core.specs.declared.kept.About.{About}
-use Rattle.proc_core.specs.Procs.{Standing, standing}
+use Rattle.proc_core.specs.Procs.{ProcState, proc_state}
 use Rattle.proc_core.specs.Closing.{IsNew}
 use Rattle.proc_core.proofs.Beginnings.{dealt_at, dealt_holds, dealt_new, each_more}
 use Rattle.proc_core.proofs.loader.Loader.deal.Goals as goal
@@ -28,7 +28,7 @@ loop-pass-preserved c =
     let turn = YieldsList-turn (YieldsList-from_vec {s = c.into_iter-pass-iterator.result} c.args.passes.items c.into_iter-pass-iterator.ensures.into_iter_gives.0 (c.into_iter-pass-iterator.ensures.into_iter_gives.1 ∙ c.args.passes.ok.0)) c.loop-pass.yielded c.loop-pass.pass-iterator c.loop-pass.yielded_by c.next.result c.next.new.self c.in-Some.pass c.in-Some.is c.next.ensures.steps in
     let n : ℕ = length c.loop-pass.yielded in
     let all : ℕ = length c.args.passes.items in
-    let last : Standing = standing c.in-Some.pass c.make-view.result in
+    let last : ProcState = proc_state c.in-Some.pass c.make-view.result in
     let more : length (c.loop-pass.yielded ++ c.in-Some.pass ∷ []) ≡ n + 1 = length_push c.loop-pass.yielded c.in-Some.pass in
     let items : c.push.new.self.items ≡ c.loop-pass.procs.items ++ last ∷ [] = search rules in
     let count : length c.loop-pass.procs.items ≡ n = c.loop-pass.invariant.2 in (

@@ -2,7 +2,7 @@ use Rattle.std.proofs.Common.{◌≡◌, ◌<◌, ℕ, Some, length, slice_index
 use Rattle.std.specs.Arc.{arc_value}
 use Rattle.turn_lock.specs.Passes.{AllDealt}
 use Rattle.proc_core.specs.declared.kept.About.{About}
-use Rattle.proc_core.specs.Procs.{Standing}
+use Rattle.proc_core.specs.Procs.{ProcState}
 use Rattle.proc_core.specs.Closing.{IsNew}
 use Rattle.proc_core.proofs.loader.Loader.deal.Given as goal
 
@@ -10,4 +10,4 @@ abbrev pub invariant-loop-pass : goal.invariant-loop-pass
 invariant-loop-pass l =
     goal.iterator-loop-pass.can_next l.pass-iterator × goal.iterator-loop-pass.is_finite l.pass-iterator × (length l.procs.items ≡ length l.yielded)
     × ((about : About) → about.library ≡ arc_value l.fn.lib → AllDealt l.fn.self (Some about) (length l.fn.passes.items) l.fn.passes.items →
-    (k : ℕ) (d : Standing) → k < length l.yielded → IsNew l.fn.self about (length l.fn.passes.items) k (slice_index_or l.procs.items k d))
+    (k : ℕ) (d : ProcState) → k < length l.yielded → IsNew l.fn.self about (length l.fn.passes.items) k (slice_index_or l.procs.items k d))

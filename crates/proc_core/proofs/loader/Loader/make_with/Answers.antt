@@ -1,7 +1,7 @@
 use Rattle.std.proofs.Common.{rules, ◌≡◌, [], ℕ, List, refl, sym, ap, ◌∙◌, subst, Some}
 use Rattle.std.specs.Arc.{arc_value}
 use Rattle.lx_types.specs.declared.parts.Parts.{Parts}
-use Rattle.load_core.specs.Ledger.{Ledger}
+use Rattle.load_core.specs.BoardState.{BoardState}
 use Rattle.turn_lock.specs.Passes.{AllDealt}
 use Rattle.proc_core.specs.declared.kept.About.{About}
 use Rattle.proc_core.specs.Closing.{AreMade}
@@ -14,6 +14,6 @@ returns c =
     let board : c.in_ok-board.board ≡ record { library = arc_value c.args.lib; failing = c.args.failing.items; history = [] } =
     c.in_ok-board.ensures ∙ ap (λ (l : List Parts). record { library = l; failing = c.args.failing.items; history = [] }) shared in
     let dealt : AllDealt c.in_ok-lock.lock (Some about) c.args.count c.in_ok-lock.passes.items =
-    subst (λ (b : Ledger). AllDealt c.in_ok-lock.lock (Some (record { library = b.library; failing = b.failing })) c.args.count c.in_ok-lock.passes.items) board c.in_ok-lock.ensures in
+    subst (λ (b : BoardState). AllDealt c.in_ok-lock.lock (Some (record { library = b.library; failing = b.failing })) c.args.count c.in_ok-lock.passes.items) board c.in_ok-lock.ensures in
     subst (λ (n : ℕ). AreMade c.in_ok-lock.lock about n c.in_ok-procs.procs.items) dealt.count
     (c.in_ok-procs.ensures about refl (subst (λ (n : ℕ). AllDealt c.in_ok-lock.lock (Some about) n c.in_ok-lock.passes.items) (sym dealt.count) dealt))

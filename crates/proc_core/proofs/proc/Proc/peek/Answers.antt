@@ -1,12 +1,12 @@
 use Rattle.std.proofs.Common.{◌≡◌}
 use Rattle.load_model.specs.declared.commands.Command.TheVariants as commands
 use Rattle.load_model.specs.declared.commands.Reply.TheVariants as replies
-use Rattle.proc_core.specs.Procs.{standing}
+use Rattle.proc_core.specs.Procs.{proc_state}
 use Rattle.proc_core.proofs.Fronts.{answered_with}
 use Rattle.proc_core.proofs.proc.Proc.peek.Goals as goal
 
 pub returns : goal.returns
 returns c =
     rw (← c.self.view_is)
-    (answered_with (c.peek.new.into ≡ c.args.into.now) (record { refusals = c.views_answer.ensures.refusals; replies = c.views_answer.ensures.replies; told = c.commands_are_told.ensures.refused }) (standing c.self.inside.pass c.self.inside.view)
+    (answered_with (c.peek.new.into ≡ c.args.into.now) (record { refusals = c.views_answer.ensures.refusals; replies = c.views_answer.ensures.replies; told = c.commands_are_told.ensures.refused }) (proc_state c.self.inside.pass c.self.inside.view)
     c.self.invariant.1 (commands.Peek c.args.place.now) (λ _. replies.Bytes c.peek.new.into) c.peek.result c.peek.ensures)

@@ -6,7 +6,7 @@ use Rattle.turn_lock.specs.declared.known.Known.{Known}
 use Rattle.turn_lock.specs.Turns.{Adds}
 use Rattle.load_model.specs.declared.deeds.Entry.{Entry}
 use Rattle.proc_core.specs.declared.kept.About.{About}
-use Rattle.proc_core.specs.Procs.{Standing, standing}
+use Rattle.proc_core.specs.Procs.{ProcState, proc_state}
 use Rattle.proc_core.specs.Calls.{call_refusal}
 use Rattle.proc_core.proofs.ReadLast.{read_last}
 use Rattle.proc_core.proofs.Made.{Laws}
@@ -16,21 +16,21 @@ use Rattle.proc_core.proofs.proc.Proc.read_shared.Goals as goal
 pub returns-in-Some-clause-answer : goal.returns-in-Some-clause-answer
 unfolding view_refusal
 returns-in-Some-clause-answer g c =
-    let p : Standing = standing c.self.inside.pass c.self.inside.view in
+    let p : ProcState = proc_state c.self.inside.pass c.self.inside.view in
     let command : Command = commands.Shared c.args.place.now in
     let told : c.first_refusal.result ≡ call_refusal p command =
-    subst (λ (s : Standing). (s.view.holding.ended ≡ false → c.err.result ≡ view_refusal s.view.library s.view.holding command) → c.first_refusal.result ≡ call_refusal s command) (sym c.self.view_is)
-    (c.first_refusal.ensures command) (λ going. seen_refusal (view_refusal p.view.library p.view.holding command) c.err.result c.to_use.result (λ a h. h.0) c.to_use.ensures c.err.ensures.value) in
+    subst (λ (s : ProcState). (s.view.holding.ended ≡ false → c.err.result ≡ view_refusal s.view.library s.view.holding command) → c.first_refusal.result ≡ call_refusal s command) (sym c.self.view_is)
+    (c.first_refusal.ensures command) (λ going. seen_refusal (view_refusal p.view.library p.view.holding command) c.err.result c.check_use.result (λ a h. h.0) c.check_use.ensures c.err.ensures.value) in
     rw (← c.self.view_is) (refused_call p command c.in-Some.refusal c.first_refusal.result told c.in-Some.is)
 
 pub take_turn-board-requires-clause-few : goal.take_turn-board-requires-clause-few
 unfolding view_refusal
 take_turn-board-requires-clause-few g c =
-    let p : Standing = standing c.self.inside.pass c.self.inside.view in
+    let p : ProcState = proc_state c.self.inside.pass c.self.inside.view in
     let command : Command = commands.Shared c.args.place.now in
     let told : c.first_refusal.result ≡ call_refusal p command =
-    subst (λ (s : Standing). (s.view.holding.ended ≡ false → c.err.result ≡ view_refusal s.view.library s.view.holding command) → c.first_refusal.result ≡ call_refusal s command) (sym c.self.view_is)
-    (c.first_refusal.ensures command) (λ going. seen_refusal (view_refusal p.view.library p.view.holding command) c.err.result c.to_use.result (λ a h. h.0) c.to_use.ensures c.err.ensures.value) in
+    subst (λ (s : ProcState). (s.view.holding.ended ≡ false → c.err.result ≡ view_refusal s.view.library s.view.holding command) → c.first_refusal.result ≡ call_refusal s command) (sym c.self.view_is)
+    (c.first_refusal.ensures command) (λ going. seen_refusal (view_refusal p.view.library p.view.holding command) c.err.result c.check_use.result (λ a h. h.0) c.check_use.ensures c.err.ensures.value) in
     let fine : call_refusal p command ≡ None = sym told ∙ none_at c.first_refusal.result (λ r is. c.in_default.not-Some r is) in
     let few = fine_few p command fine in
     omega arith
@@ -38,22 +38,22 @@ take_turn-board-requires-clause-few g c =
 pub do_read_shared-done-requires-clause-accepted : goal.do_read_shared-done-requires-clause-accepted
 unfolding view_refusal
 do_read_shared-done-requires-clause-accepted g c =
-    let p : Standing = standing c.self.inside.pass c.self.inside.view in
+    let p : ProcState = proc_state c.self.inside.pass c.self.inside.view in
     let command : Command = commands.Shared c.args.place.now in
     let told : c.first_refusal.result ≡ call_refusal p command =
-    subst (λ (s : Standing). (s.view.holding.ended ≡ false → c.err.result ≡ view_refusal s.view.library s.view.holding command) → c.first_refusal.result ≡ call_refusal s command) (sym c.self.view_is)
-    (c.first_refusal.ensures command) (λ going. seen_refusal (view_refusal p.view.library p.view.holding command) c.err.result c.to_use.result (λ a h. h.0) c.to_use.ensures c.err.ensures.value) in
+    subst (λ (s : ProcState). (s.view.holding.ended ≡ false → c.err.result ≡ view_refusal s.view.library s.view.holding command) → c.first_refusal.result ≡ call_refusal s command) (sym c.self.view_is)
+    (c.first_refusal.ensures command) (λ going. seen_refusal (view_refusal p.view.library p.view.holding command) c.err.result c.check_use.result (λ a h. h.0) c.check_use.ensures c.err.ensures.value) in
     let fine : call_refusal p command ≡ None = sym told ∙ none_at c.first_refusal.result (λ r is. c.in_default.not-Some r is) in
     fine_here p c.take_turn-board.result c.take_turn-board.new.view command c.take_turn-board.ensures.come fine
 
 pub returns-clause-answer : goal.returns-clause-answer
 unfolding view_refusal
 returns-clause-answer g c =
-    let p : Standing = standing c.self.inside.pass c.self.inside.view in
+    let p : ProcState = proc_state c.self.inside.pass c.self.inside.view in
     let command : Command = commands.Shared c.args.place.now in
     let told : c.first_refusal.result ≡ call_refusal p command =
-    subst (λ (s : Standing). (s.view.holding.ended ≡ false → c.err.result ≡ view_refusal s.view.library s.view.holding command) → c.first_refusal.result ≡ call_refusal s command) (sym c.self.view_is)
-    (c.first_refusal.ensures command) (λ going. seen_refusal (view_refusal p.view.library p.view.holding command) c.err.result c.to_use.result (λ a h. h.0) c.to_use.ensures c.err.ensures.value) in
+    subst (λ (s : ProcState). (s.view.holding.ended ≡ false → c.err.result ≡ view_refusal s.view.library s.view.holding command) → c.first_refusal.result ≡ call_refusal s command) (sym c.self.view_is)
+    (c.first_refusal.ensures command) (λ going. seen_refusal (view_refusal p.view.library p.view.holding command) c.err.result c.check_use.result (λ a h. h.0) c.check_use.ensures c.err.ensures.value) in
     let fine : call_refusal p command ≡ None = sym told ∙ none_at c.first_refusal.result (λ r is. c.in_default.not-Some r is) in
     let turn : Taken p command c.take_turn-board.result c.do_read_shared-done.new.board c.take_turn-board.new.view c.do_read_shared-done.new.self c.take_turn-board.new.pass c.give_back.new.pass c.do_read_shared-done.result c.told_by.result =
     record {
@@ -80,11 +80,11 @@ returns-clause-answer g c =
 pub returns-clause-read : goal.returns-clause-read
 unfolding view_refusal
 returns-clause-read g c =
-    let p : Standing = standing c.self.inside.pass c.self.inside.view in
+    let p : ProcState = proc_state c.self.inside.pass c.self.inside.view in
     let command : Command = commands.Shared c.args.place.now in
     let told : c.first_refusal.result ≡ call_refusal p command =
-    subst (λ (s : Standing). (s.view.holding.ended ≡ false → c.err.result ≡ view_refusal s.view.library s.view.holding command) → c.first_refusal.result ≡ call_refusal s command) (sym c.self.view_is)
-    (c.first_refusal.ensures command) (λ going. seen_refusal (view_refusal p.view.library p.view.holding command) c.err.result c.to_use.result (λ a h. h.0) c.to_use.ensures c.err.ensures.value) in
+    subst (λ (s : ProcState). (s.view.holding.ended ≡ false → c.err.result ≡ view_refusal s.view.library s.view.holding command) → c.first_refusal.result ≡ call_refusal s command) (sym c.self.view_is)
+    (c.first_refusal.ensures command) (λ going. seen_refusal (view_refusal p.view.library p.view.holding command) c.err.result c.check_use.result (λ a h. h.0) c.check_use.ensures c.err.ensures.value) in
     let fine : call_refusal p command ≡ None = sym told ∙ none_at c.first_refusal.result (λ r is. c.in_default.not-Some r is) in
     let turn : Taken p command c.take_turn-board.result c.do_read_shared-done.new.board c.take_turn-board.new.view c.do_read_shared-done.new.self c.take_turn-board.new.pass c.give_back.new.pass c.do_read_shared-done.result c.told_by.result =
     record {
@@ -103,21 +103,21 @@ returns-clause-read g c =
 
 pub give_back-requires-clause-about : goal.give_back-requires-clause-about
 give_back-requires-clause-about g c =
-    ap (λ (k : Known Entry About). k.subject) c.take_turn-board.ensures.knows.1 ∙ done_about (standing c.self.inside.pass c.self.inside.view) c.take_turn-board.result c.do_read_shared-done.new.board c.take_turn-board.new.view c.do_read_shared-done.new.self (commands.Shared c.args.place.now) c.do_read_shared-done.result c.self.invariant.1 c.take_turn-board.ensures.come c.do_read_shared-done.ensures.done
+    ap (λ (k : Known Entry About). k.subject) c.take_turn-board.ensures.knows.1 ∙ done_about (proc_state c.self.inside.pass c.self.inside.view) c.take_turn-board.result c.do_read_shared-done.new.board c.take_turn-board.new.view c.do_read_shared-done.new.self (commands.Shared c.args.place.now) c.do_read_shared-done.result c.self.invariant.1 c.take_turn-board.ensures.come c.do_read_shared-done.ensures.done
 
 pub give_back-requires-clause-adds : goal.give_back-requires-clause-adds
 give_back-requires-clause-adds g c =
     subst (λ (k : Known Entry About). Adds (λ (x : Entry). x.pid) k.pid k.seen c.do_read_shared-done.new.board.history) (sym c.take_turn-board.ensures.knows.1)
-    (done_adds (standing c.self.inside.pass c.self.inside.view) c.take_turn-board.result c.do_read_shared-done.new.board c.take_turn-board.new.view c.do_read_shared-done.new.self (commands.Shared c.args.place.now) c.do_read_shared-done.result c.self.invariant.1 c.take_turn-board.ensures.come c.do_read_shared-done.ensures.done)
+    (done_adds (proc_state c.self.inside.pass c.self.inside.view) c.take_turn-board.result c.do_read_shared-done.new.board c.take_turn-board.new.view c.do_read_shared-done.new.self (commands.Shared c.args.place.now) c.do_read_shared-done.result c.self.invariant.1 c.take_turn-board.ensures.come c.do_read_shared-done.ensures.done)
 
 pub invariant_of-self : goal.invariant_of-self
 unfolding view_refusal
 invariant_of-self g c =
-    let p : Standing = standing c.self.inside.pass c.self.inside.view in
+    let p : ProcState = proc_state c.self.inside.pass c.self.inside.view in
     let command : Command = commands.Shared c.args.place.now in
     let told : c.first_refusal.result ≡ call_refusal p command =
-    subst (λ (s : Standing). (s.view.holding.ended ≡ false → c.err.result ≡ view_refusal s.view.library s.view.holding command) → c.first_refusal.result ≡ call_refusal s command) (sym c.self.view_is)
-    (c.first_refusal.ensures command) (λ going. seen_refusal (view_refusal p.view.library p.view.holding command) c.err.result c.to_use.result (λ a h. h.0) c.to_use.ensures c.err.ensures.value) in
+    subst (λ (s : ProcState). (s.view.holding.ended ≡ false → c.err.result ≡ view_refusal s.view.library s.view.holding command) → c.first_refusal.result ≡ call_refusal s command) (sym c.self.view_is)
+    (c.first_refusal.ensures command) (λ going. seen_refusal (view_refusal p.view.library p.view.holding command) c.err.result c.check_use.result (λ a h. h.0) c.check_use.ensures c.err.ensures.value) in
     let fine : call_refusal p command ≡ None = sym told ∙ none_at c.first_refusal.result (λ r is. c.in_default.not-Some r is) in
     let turn : Taken p command c.take_turn-board.result c.do_read_shared-done.new.board c.take_turn-board.new.view c.do_read_shared-done.new.self c.take_turn-board.new.pass c.give_back.new.pass c.do_read_shared-done.result c.told_by.result =
     record {

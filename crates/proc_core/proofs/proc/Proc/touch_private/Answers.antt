@@ -2,9 +2,9 @@ use Rattle.std.proofs.Common.{◌≡◌, false, sym, ap, subst}
 use Rattle.std.proofs.lemmas.Result.{err_from_is_err_and}
 use Rattle.page_frames.specs.Residences.{ResidenceFor}
 use Rattle.process_view.specs.ProcessViews.{without_room}
-use Rattle.proc_core.specs.Procs.{Standing, standing}
+use Rattle.proc_core.specs.Procs.{ProcState, proc_state}
 use Rattle.proc_core.specs.Touches.{IsPageOf, needs_fault, page_in}
-use Rattle.proc_core.specs.Claiming.{stay_at, is_there}
+use Rattle.proc_core.specs.Claiming.{residence_at, is_there}
 use Rattle.proc_core.proofs.Claims.{Laws, nothing_mapped}
 use Rattle.proc_core.proofs.MappedBehind.{roomy_holds}
 use Rattle.proc_core.proofs.TouchedPage.{roomy_page, roomy_can, private_holds, private_page}
@@ -12,60 +12,60 @@ use Rattle.proc_core.proofs.proc.Proc.touch_private.Goals as goal
 
 pub invariant_of-self : goal.invariant_of-self
 invariant_of-self g c =
-    let p : Standing = standing c.self.inside.pass c.self.inside.view in
+    let p : ProcState = proc_state c.self.inside.pass c.self.inside.view in
     (c.self.invariant.0, roomy_holds p c.reserve_page.new.self c.self.invariant.1 (ap without_room c.reserve_page.ensures.same))
 
 pub invariant_of-self-in_err-buffer : goal.invariant_of-self-in_err-buffer
 invariant_of-self-in_err-buffer g c =
-    let p : Standing = standing c.self.inside.pass c.self.inside.view in
+    let p : ProcState = proc_state c.self.inside.pass c.self.inside.view in
     (c.self.invariant.0, roomy_holds p c.reserve_page.new.self c.self.invariant.1 (ap without_room c.reserve_page.ensures.same))
 
 pub returns-in_err-reserve_page-clause-page : goal.returns-in_err-reserve_page-clause-page
 returns-in_err-reserve_page-clause-page g c =
-    let p : Standing = standing c.self.inside.pass c.self.inside.view in
+    let p : ProcState = proc_state c.self.inside.pass c.self.inside.view in
     let none = err_from_is_err_and c.from_residual.result c.from_residual.ensures.1 in
     rw (none.1, ← c.self.view_is)
-    (λ d. nothing_mapped p (page_in (stay_at p.view c.args.at.stay d) c.args.at.page) (stay_at p.view c.args.at.stay d).«module» c.reserve_page.new.self c.args.steps.now (ap without_room c.reserve_page.ensures.same) c.self.invariant.1.stands.stands.front)
+    (λ d. nothing_mapped p (page_in (residence_at p.view c.args.at.residence d) c.args.at.page) (residence_at p.view c.args.at.residence d).«module» c.reserve_page.new.self c.args.steps.now (ap without_room c.reserve_page.ensures.same) c.self.invariant.1.stands.stands.front)
 
 pub returns-in_err-buffer-clause-page : goal.returns-in_err-buffer-clause-page
 returns-in_err-buffer-clause-page g c =
-    let p : Standing = standing c.self.inside.pass c.self.inside.view in
+    let p : ProcState = proc_state c.self.inside.pass c.self.inside.view in
     let none = err_from_is_err_and c.from_residual-in_err-buffer.result c.from_residual-in_err-buffer.ensures.1 in
     rw (none.1, ← c.self.view_is)
-    (λ d. nothing_mapped p (page_in (stay_at p.view c.args.at.stay d) c.args.at.page) (stay_at p.view c.args.at.stay d).«module» c.reserve_page.new.self c.args.steps.now (ap without_room c.reserve_page.ensures.same) c.self.invariant.1.stands.stands.front)
+    (λ d. nothing_mapped p (page_in (residence_at p.view c.args.at.residence d) c.args.at.page) (residence_at p.view c.args.at.residence d).«module» c.reserve_page.new.self c.args.steps.now (ap without_room c.reserve_page.ensures.same) c.self.invariant.1.stands.stands.front)
 
-pub map_private-requires-clause-stay : goal.map_private-requires-clause-stay
-map_private-requires-clause-stay g c =
-    let p : Standing = standing c.self.inside.pass c.self.inside.view in
-    let is : IsPageOf p.view c.args.at.stay c.args.at.page = subst (λ (s : Standing). IsPageOf s.view c.args.at.stay c.args.at.page) (sym c.self.view_is) c.requires.page in
-    (roomy_page p.view c.reserve_page.new.self c.args.at.stay c.args.at.page (ap without_room c.in_ok-reserve_page.ensures.same) is).stay
+pub map_private-requires-clause-residence : goal.map_private-requires-clause-residence
+map_private-requires-clause-residence g c =
+    let p : ProcState = proc_state c.self.inside.pass c.self.inside.view in
+    let is : IsPageOf p.view c.args.at.residence c.args.at.page = subst (λ (s : ProcState). IsPageOf s.view c.args.at.residence c.args.at.page) (sym c.self.view_is) c.requires.page in
+    (roomy_page p.view c.reserve_page.new.self c.args.at.residence c.args.at.page (ap without_room c.in_ok-reserve_page.ensures.same) is).residence
 
 pub map_private-requires-clause-page : goal.map_private-requires-clause-page
 map_private-requires-clause-page g c =
-    let p : Standing = standing c.self.inside.pass c.self.inside.view in
-    let is : IsPageOf p.view c.args.at.stay c.args.at.page = subst (λ (s : Standing). IsPageOf s.view c.args.at.stay c.args.at.page) (sym c.self.view_is) c.requires.page in
-    let apart : (d : ResidenceFor) → is_there p.view (stay_at p.view c.args.at.stay d) c.args.at.page ≡ false =
-    subst (λ (s : Standing). (d : ResidenceFor) → is_there s.view (stay_at s.view c.args.at.stay d) c.args.at.page ≡ false) (sym c.self.view_is) c.requires.apart in
-    roomy_can p c.reserve_page.new.self c.args.at.stay c.args.at.page c.self.invariant.1 (ap without_room c.in_ok-reserve_page.ensures.same) is apart
+    let p : ProcState = proc_state c.self.inside.pass c.self.inside.view in
+    let is : IsPageOf p.view c.args.at.residence c.args.at.page = subst (λ (s : ProcState). IsPageOf s.view c.args.at.residence c.args.at.page) (sym c.self.view_is) c.requires.page in
+    let apart : (d : ResidenceFor) → is_there p.view (residence_at p.view c.args.at.residence d) c.args.at.page ≡ false =
+    subst (λ (s : ProcState). (d : ResidenceFor) → is_there s.view (residence_at s.view c.args.at.residence d) c.args.at.page ≡ false) (sym c.self.view_is) c.requires.apart in
+    roomy_can p c.reserve_page.new.self c.args.at.residence c.args.at.page c.self.invariant.1 (ap without_room c.in_ok-reserve_page.ensures.same) is apart
 
 pub invariant_of-self-2 : goal.invariant_of-self-2
 invariant_of-self-2 g c =
-    let p : Standing = standing c.self.inside.pass c.self.inside.view in
-    let is : IsPageOf p.view c.args.at.stay c.args.at.page = subst (λ (s : Standing). IsPageOf s.view c.args.at.stay c.args.at.page) (sym c.self.view_is) c.requires.page in
-    let apart : (d : ResidenceFor) → is_there p.view (stay_at p.view c.args.at.stay d) c.args.at.page ≡ false =
-    subst (λ (s : Standing). (d : ResidenceFor) → is_there s.view (stay_at s.view c.args.at.stay d) c.args.at.page ≡ false) (sym c.self.view_is) c.requires.apart in
-    let fault : (d : ResidenceFor) → needs_fault p.view.library (stay_at p.view c.args.at.stay d).«module» (page_in (stay_at p.view c.args.at.stay d) c.args.at.page) ≡ false =
-    subst (λ (s : Standing). (d : ResidenceFor) → needs_fault s.view.library (stay_at s.view c.args.at.stay d).«module» (page_in (stay_at s.view c.args.at.stay d) c.args.at.page) ≡ false) (sym c.self.view_is) c.requires.fault in
-    (c.self.invariant.0, private_holds p c.reserve_page.new.self c.args.at.stay c.args.at.page c.self.invariant.1 (ap without_room c.in_ok-reserve_page.ensures.same) is apart c.map_private.new.self fault c.map_private.ensures.mapped c.pages_stand.ensures)
+    let p : ProcState = proc_state c.self.inside.pass c.self.inside.view in
+    let is : IsPageOf p.view c.args.at.residence c.args.at.page = subst (λ (s : ProcState). IsPageOf s.view c.args.at.residence c.args.at.page) (sym c.self.view_is) c.requires.page in
+    let apart : (d : ResidenceFor) → is_there p.view (residence_at p.view c.args.at.residence d) c.args.at.page ≡ false =
+    subst (λ (s : ProcState). (d : ResidenceFor) → is_there s.view (residence_at s.view c.args.at.residence d) c.args.at.page ≡ false) (sym c.self.view_is) c.requires.apart in
+    let fault : (d : ResidenceFor) → needs_fault p.view.library (residence_at p.view c.args.at.residence d).«module» (page_in (residence_at p.view c.args.at.residence d) c.args.at.page) ≡ false =
+    subst (λ (s : ProcState). (d : ResidenceFor) → needs_fault s.view.library (residence_at s.view c.args.at.residence d).«module» (page_in (residence_at s.view c.args.at.residence d) c.args.at.page) ≡ false) (sym c.self.view_is) c.requires.fault in
+    (c.self.invariant.0, private_holds p c.reserve_page.new.self c.args.at.residence c.args.at.page c.self.invariant.1 (ap without_room c.in_ok-reserve_page.ensures.same) is apart c.map_private.new.self fault c.map_private.ensures.mapped c.pages_stand.ensures)
 
 pub returns-clause-page : goal.returns-clause-page
 returns-clause-page g c =
-    let p : Standing = standing c.self.inside.pass c.self.inside.view in
-    let is : IsPageOf p.view c.args.at.stay c.args.at.page = subst (λ (s : Standing). IsPageOf s.view c.args.at.stay c.args.at.page) (sym c.self.view_is) c.requires.page in
-    let apart : (d : ResidenceFor) → is_there p.view (stay_at p.view c.args.at.stay d) c.args.at.page ≡ false =
-    subst (λ (s : Standing). (d : ResidenceFor) → is_there s.view (stay_at s.view c.args.at.stay d) c.args.at.page ≡ false) (sym c.self.view_is) c.requires.apart in
-    let fault : (d : ResidenceFor) → needs_fault p.view.library (stay_at p.view c.args.at.stay d).«module» (page_in (stay_at p.view c.args.at.stay d) c.args.at.page) ≡ false =
-    subst (λ (s : Standing). (d : ResidenceFor) → needs_fault s.view.library (stay_at s.view c.args.at.stay d).«module» (page_in (stay_at s.view c.args.at.stay d) c.args.at.page) ≡ false) (sym c.self.view_is) c.requires.fault in
+    let p : ProcState = proc_state c.self.inside.pass c.self.inside.view in
+    let is : IsPageOf p.view c.args.at.residence c.args.at.page = subst (λ (s : ProcState). IsPageOf s.view c.args.at.residence c.args.at.page) (sym c.self.view_is) c.requires.page in
+    let apart : (d : ResidenceFor) → is_there p.view (residence_at p.view c.args.at.residence d) c.args.at.page ≡ false =
+    subst (λ (s : ProcState). (d : ResidenceFor) → is_there s.view (residence_at s.view c.args.at.residence d) c.args.at.page ≡ false) (sym c.self.view_is) c.requires.apart in
+    let fault : (d : ResidenceFor) → needs_fault p.view.library (residence_at p.view c.args.at.residence d).«module» (page_in (residence_at p.view c.args.at.residence d) c.args.at.page) ≡ false =
+    subst (λ (s : ProcState). (d : ResidenceFor) → needs_fault s.view.library (residence_at s.view c.args.at.residence d).«module» (page_in (residence_at s.view c.args.at.residence d) c.args.at.page) ≡ false) (sym c.self.view_is) c.requires.fault in
     let laws : Laws = record { others = c.steps_are_sources.ensures.others; fault = c.steps_are_sources.ensures.fault; mapped = c.steps_are_sources.ensures.mapped } in
     rw (← c.self.view_is)
-    (private_page p c.reserve_page.new.self c.args.at.stay c.args.at.page c.self.invariant.1 (ap without_room c.in_ok-reserve_page.ensures.same) is apart c.map_private.new.self fault c.map_private.ensures.mapped laws c.args.steps.now c.map_private.new.steps c.map_private.ensures.steps)
+    (private_page p c.reserve_page.new.self c.args.at.residence c.args.at.page c.self.invariant.1 (ap without_room c.in_ok-reserve_page.ensures.same) is apart c.map_private.new.self fault c.map_private.ensures.mapped laws c.args.steps.now c.map_private.new.steps c.map_private.ensures.steps)

@@ -4,7 +4,7 @@ use Rattle.page_frames.specs.Residences.{ResidenceFor}
 use Rattle.load_model.specs.Asks.{fault}
 use Rattle.load_model.specs.State.{pids, is_among}
 use Rattle.load_model.specs.Histories.{has_fault}
-use Rattle.load_core.specs.Ledger.{Ledger, MayAsk, entry_of, with_entry}
+use Rattle.load_core.specs.BoardState.{BoardState, MayAsk, entry_of, with_entry}
 use Rattle.load_core.specs.Told.{IsClaimed, IsGiven}
 use Rattle.load_core.specs.declared.answers.Claim.{Claim}
 use Rattle.process_view.specs.ProcessViews.{ProcessView, StandsAt, at_front}
@@ -23,11 +23,11 @@ fault-requires-clause-may c =
     let b = c.args.board.now in
     let p = c.args.p in
     let r = get_or v.residences c.args.k d in
-    let own = attached b v c.args.k r c.requires.stands c.requires.stay (get_or_default v.residences c.args.k d r c.requires.stay) in
+    let own = attached b v c.args.k r c.requires.stands c.requires.residence (get_or_default v.residences c.args.k d r c.requires.residence) in
     let serial : c.serial-serial.result ≡ r.serial = c.serial-serial.ensures ∙ ap (λ (q : ResidenceFor). q.serial) (c.residence.ensures d) in
     let P : ℕ → Type 0 = λ n. MayAsk b n (fault c.serial-serial.result r.«module» p) in
     let S : ℕ → Type 0 = λ n. MayAsk b v.holding.pid (fault n r.«module» p) in
-    (r.«module», subst P (sym c.pid-pid.ensures.number) (subst S (sym serial) (may_claim b v r own.0 p c.requires.stands c.requires.going own.1 (c.requires.page d) (c.requires.common d))))
+    (r.«module», subst P (sym c.pid-pid.ensures.number) (subst S (sym serial) (may_claim b v r own.0 p c.requires.stands c.requires.going own.1 (c.requires.page d) (c.requires.shared d))))
 
 pub returns-in-Right : goal.returns-in-Right
 returns-in-Right c = λ d.
@@ -35,12 +35,12 @@ returns-in-Right c = λ d.
     let b = c.args.board.now in
     let p = c.args.p in
     let r = get_or v.residences c.args.k d in
-    let own = attached b v c.args.k r c.requires.stands c.requires.stay (get_or_default v.residences c.args.k d r c.requires.stay) in
+    let own = attached b v c.args.k r c.requires.stands c.requires.residence (get_or_default v.residences c.args.k d r c.requires.residence) in
     let number = c.pid-pid.ensures.number in
     let serial : c.serial-serial.result ≡ r.serial = c.serial-serial.ensures ∙ ap (λ (q : ResidenceFor). q.serial) (c.residence.ensures d) in
     let P : ℕ → Type 0 = λ n. MayAsk b n (fault c.serial-serial.result r.«module» p) in
     let S : ℕ → Type 0 = λ n. MayAsk b v.holding.pid (fault n r.«module» p) in
-    let may = may_claim b v r own.0 p c.requires.stands c.requires.going own.1 (c.requires.page d) (c.requires.common d) in
+    let may = may_claim b v r own.0 p c.requires.stands c.requires.going own.1 (c.requires.page d) (c.requires.shared d) in
     let K : Claim → Type 0 = λ q. IsClaimed b c.fault.new.self c.pid-pid.result c.serial-serial.result p q in
     let given : IsGiven b c.fault.new.self c.pid-pid.result c.serial-serial.result p c.in-Right.right = subst K c.in-Right.is c.in_ok-right.ensures.claim in
     let x = fault_of v r p in
@@ -51,8 +51,8 @@ returns-in-Right c = λ d.
     in
     let first : has_fault b.history r.serial p ≡ false = ap (λ (n : ℕ). has_fault b.history n p) (sym serial) ∙ given.first in
     let follows = fault_follows b v r p c.pid-pid.ensures.process may first in
-    let next : c.follow.new.self ≡ at_front (length (b.history ++ x ∷ [])) v = c.follow.ensures ∙ ap (λ (l : Ledger). at_front (length l.history) v) adds in
-    let C : Ledger → Type 0 = λ q. StandsAt q c.follow.new.self in
+    let next : c.follow.new.self ≡ at_front (length (b.history ++ x ∷ [])) v = c.follow.ensures ∙ ap (λ (l : BoardState). at_front (length l.history) v) adds in
+    let C : BoardState → Type 0 = λ q. StandsAt q c.follow.new.self in
     let W : ProcessView → Type 0 = λ w. StandsAt (with_entry b x) w in
     let stands = claim_stands c.residences_stay.ensures.still c.residences_stay.ensures.bases c.views_stand.ensures.quiet b v r p c.history.ensures.legal c.requires.stands follows in
     let right : c.in-Right.right ≡ record { serial = r.serial; page = p } =

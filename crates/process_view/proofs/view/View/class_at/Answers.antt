@@ -12,4 +12,4 @@ class_of-requires-clause-object c =
     let v = c.args.self.now in
     let P : ℕ → Type 0 = λ m. IsNumberOf c.args.place.now.object (length (module_of c.library.result.now m).objects) in
     let L : List Parts → Type 0 = λ l. IsNumberOf c.args.place.now.object (length (module_of l (get_or v.residences c.args.k d).«module»).objects) in
-    subst P (sym (c.stay_module.ensures.number d)) (subst L (sym c.library.ensures) (inside_used v c.requires.used.0 c.args.place.now c.args.k d c.requires.used.1 c.requires.named).there)
+    subst P (sym (c.residence_module.ensures.number d)) (subst L (sym c.library.ensures) (inside_used v c.requires.used.0 c.args.place.now c.args.k d c.requires.used.1 c.requires.named).there)

@@ -18,9 +18,9 @@ returns-in-Some-resource_of c =
     let r = get_or v.residences c.in-Some.k none in
     let spot : resource_of v.library r.«module» c.args.ty c.args.id ≡ Some c.in-Some-resource_of.spot =
     sym (ap (λ (l : List Parts). resource_of l r.«module» c.args.ty c.args.id) c.library.ensures)
-    ∙ sym (ap (λ (m : ℕ). resource_of c.library.result.now m c.args.ty c.args.id) (c.stay_module.ensures.number none)) ∙ sym c.resource_of.ensures ∙ c.in-Some-resource_of.is
+    ∙ sym (ap (λ (m : ℕ). resource_of c.library.result.now m c.args.ty c.args.id) (c.residence_module.ensures.number none)) ∙ sym c.resource_of.ensures ∙ c.in-Some-resource_of.is
     in (
-      getres_found v c.args.«module».now c.args.ty c.args.id r (Some c.in-Some-resource_of.spot) (sym c.is_ended.ensures ∙ c.if-is_ended.false) (c.in-Some.ensures.stay none) spot,
+      getres_found v c.args.«module».now c.args.ty c.args.id r (Some c.in-Some-resource_of.spot) (sym c.is_ended.ensures ∙ c.if-is_ended.false) (c.in-Some.ensures.residence none) spot,
       getres_reply v c.args.«module».now c.args.ty c.args.id r c.in-Some-resource_of.spot (c.in-Some.ensures.named none) spot,
     )
 
@@ -31,6 +31,6 @@ returns-in-None c =
     let r = get_or v.residences c.in-Some.k none in
     let spot : resource_of v.library r.«module» c.args.ty c.args.id ≡ None =
     sym (ap (λ (l : List Parts). resource_of l r.«module» c.args.ty c.args.id) c.library.ensures)
-    ∙ sym (ap (λ (m : ℕ). resource_of c.library.result.now m c.args.ty c.args.id) (c.stay_module.ensures.number none)) ∙ sym c.resource_of.ensures ∙ c.in-None.is
+    ∙ sym (ap (λ (m : ℕ). resource_of c.library.result.now m c.args.ty c.args.id) (c.residence_module.ensures.number none)) ∙ sym c.resource_of.ensures ∙ c.in-None.is
     in
-    getres_found v c.args.«module».now c.args.ty c.args.id r None (sym c.is_ended.ensures ∙ c.if-is_ended.false) (c.in-Some.ensures.stay none) spot
+    getres_found v c.args.«module».now c.args.ty c.args.id r None (sym c.is_ended.ensures ∙ c.if-is_ended.false) (c.in-Some.ensures.residence none) spot

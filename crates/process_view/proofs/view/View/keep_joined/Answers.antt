@@ -5,20 +5,20 @@ use Rattle.process_view.specs.Joining.{modules_of}
 use Rattle.process_view.proofs.KeepingJoined.{first_empty, left_as, left_behind}
 use Rattle.process_view.proofs.view.View.keep_joined.Goals as goal
 
-pub keep_stay-requires-clause-none : goal.keep_stay-requires-clause-none
-keep_stay-requires-clause-none c =
+pub keep_residence-requires-clause-none : goal.keep_residence-requires-clause-none
+keep_residence-requires-clause-none c =
     let i = c.loop-residence.invariant in
     let s = c.loop-residence.residence-iterator in
     let t = c.next.new.self in
     let v = c.loop-residence.self in
     let r = c.in-Some.residence in
     let rs = (zip_first t).rest.items in
-    let row = c.in-Some.places in
+    let counts = c.in-Some.places in
     let rows = (zip_second t).rest.items in
     let steps = c.in-Some.ensures.steps in
     let all = map arc_value c.args.joined.items in
-    let left = left_as arc_value all c.args.self.now v (zip_first s).rest.items (r ∷ rs) (zip_second s).rest.items (row ∷ rows) steps.0.0 steps.1.0 (i.4, i.5, i.6) in
-    first_empty v.library (arc_value r).«module» (modules_of (map arc_value rs)) row rows left.1
+    let left = left_as arc_value all c.args.self.now v (zip_first s).rest.items (r ∷ rs) (zip_second s).rest.items (counts ∷ rows) steps.0.0 steps.1.0 (i.4, i.5, i.6) in
+    first_empty v.library (arc_value r).«module» (modules_of (map arc_value rs)) counts rows left.1
 
 pub loop-residence-preserved : goal.loop-residence-preserved
 loop-residence-preserved c =
@@ -28,12 +28,12 @@ loop-residence-preserved c =
     let v = c.loop-residence.self in
     let r = c.in-Some.residence in
     let rs = (zip_first t).rest.items in
-    let row = c.in-Some.places in
+    let counts = c.in-Some.places in
     let rows = (zip_second t).rest.items in
     let steps = c.in-Some.ensures.steps in
     let all = map arc_value c.args.joined.items in
-    let left = left_as arc_value all c.args.self.now v (zip_first s).rest.items (r ∷ rs) (zip_second s).rest.items (row ∷ rows) steps.0.0 steps.1.0 (i.4, i.5, i.6) in
+    let left = left_as arc_value all c.args.self.now v (zip_first s).rest.items (r ∷ rs) (zip_second s).rest.items (counts ∷ rows) steps.0.0 steps.1.0 (i.4, i.5, i.6) in
     let firsts = ap length steps.0.0 in
     let seconds = ap length steps.1.0 in
-    let behind = left_behind all c.args.self.now v c.keep_stay.new.self (arc_value r) (map arc_value rs) row rows c.keep_stay.ensures left in
+    let behind = left_behind all c.args.self.now v c.keep_residence.new.self (arc_value r) (map arc_value rs) counts rows c.keep_residence.ensures left in
     ((tt, tt), tt, omega (arith, firsts, steps.0.1, i.2), omega (arith, seconds, steps.1.1, i.3), behind.0, behind.1, behind.2)

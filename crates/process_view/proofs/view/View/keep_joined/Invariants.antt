@@ -1,7 +1,7 @@
 use Rattle.std.proofs.Common.{◌≡◌, length, map}
 use Rattle.std.specs.Arc.{arc_value}
 use Rattle.std.specs.Iterator.Adapters.{zip_first, zip_second}
-use Rattle.process_view.specs.Joining.{AreEmpty, CanJoin, modules_of, with_stays}
+use Rattle.process_view.specs.Joining.{AreEmpty, CanJoin, modules_of, with_residences}
 use Rattle.process_view.proofs.view.View.keep_joined.Given as goal
 
 abbrev pub invariant-loop-residence : goal.invariant-loop-residence
@@ -14,4 +14,4 @@ invariant-loop-residence l =
     (length rows.items ≡ rows.len) ×
     CanJoin l.self (map arc_value rs.items) ×
     AreEmpty l.self.library (modules_of (map arc_value rs.items)) rows.items ×
-    (with_stays (map arc_value rs.items) l.self ≡ with_stays (map arc_value l.fn.joined.items) l.initial.self)
+    (with_residences (map arc_value rs.items) l.self ≡ with_residences (map arc_value l.fn.joined.items) l.initial.self)

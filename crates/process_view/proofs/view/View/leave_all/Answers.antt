@@ -1,21 +1,21 @@
 use Rattle.std.proofs.Common.{[], List, sym, subst}
 use Rattle.std.specs.Arc.{arc_value}
 use Rattle.load_model.specs.State.{nothing_yet}
-use Rattle.load_model.specs.Rows.{IsRowOf}
+use Rattle.load_model.specs.ProcessCounts.{AreCountsOf}
 use Rattle.process_view.specs.ProcessViews.{ProcessView}
-use Rattle.process_pages.specs.Stays.{residences_in, IsPlaced}
-use Rattle.process_pages.specs.StayFinders.{AreRight}
-use Rattle.process_pages.specs.declared.stays.Stay.{Stay}
+use Rattle.process_pages.specs.ReachedResidences.{residences_in, IsPlaced}
+use Rattle.process_pages.specs.ResidenceFinders.{AreRight}
+use Rattle.process_pages.specs.declared.reached_residences.ReachedResidence.{ReachedResidence}
 use Rattle.process_view.proofs.Left.{all_nothing, apart_nothing}
 use Rattle.process_view.proofs.view.View.leave_all.Goals as goal
 
 pub invariant_of-self : goal.invariant_of-self
 invariant_of-self c =
     let p = c.requires.0 in
-    let R : ProcessView → Type 0 = λ v. IsRowOf v.library p v.holding.row in
-    let row = subst R (sym c.self.view_is) c.requires.1 in
-    let next = c.exit.ensures (arc_value c.self.inside.lib) p (nothing_yet []) row in
-    let F : List Stay → Type 0 = λ xs. AreRight c.none-self-inside.result (residences_in xs) in
+    let R : ProcessView → Type 0 = λ v. AreCountsOf v.library p v.holding.counts in
+    let counts = subst R (sym c.self.view_is) c.requires.1 in
+    let next = c.exit.ensures (arc_value c.self.inside.lib) p (nothing_yet []) counts in
+    let F : List ReachedResidence → Type 0 = λ xs. AreRight c.none-self-inside.result (residences_in xs) in
     record {
       process = c.self.invariant.process;
       loads = next.loads_are;

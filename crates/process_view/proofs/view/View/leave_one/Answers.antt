@@ -8,14 +8,14 @@ use Rattle.page_frames.specs.Residences.{ResidenceFor}
 use Rattle.load_model.specs.Modules.{Library, order_of}
 use Rattle.load_model.specs.State.{nothing_yet, reaches}
 use Rattle.load_model.specs.Leaving.{freeing, keeping}
-use Rattle.load_model.specs.Rows.{IsRowOf}
-use Rattle.load_model.specs.Standing.{Mapped}
+use Rattle.load_model.specs.ProcessCounts.{AreCountsOf}
+use Rattle.load_model.specs.Views.{Mapped}
 use Rattle.process_view.specs.ProcessViews.{ProcessView, freed_view}
-use Rattle.process_pages.specs.Stays.{pages_with}
+use Rattle.process_pages.specs.ReachedResidences.{pages_with}
 use Rattle.process_view.specs.Kept.{view_of}
-use Rattle.process_pages.specs.Stays.{residence_in, residences_in, IsPlaced, AreApart}
-use Rattle.process_pages.specs.StayFinders.{AreRight}
-use Rattle.process_pages.specs.declared.stays.Stay.{Stay}
+use Rattle.process_pages.specs.ReachedResidences.{residence_in, residences_in, IsPlaced, AreApart}
+use Rattle.process_pages.specs.ResidenceFinders.{AreRight}
+use Rattle.process_pages.specs.declared.reached_residences.ReachedResidence.{ReachedResidence}
 use Rattle.process_view.proofs.Mapping.{view_made}
 use Rattle.process_pages.proofs.Placing.{kept_residences, kept_pages, reach_kept}
 use Rattle.process_view.proofs.view.View.leave_one.Goals as goal
@@ -25,8 +25,8 @@ unfolding order_of
 free-requires-clause-counted c =
     let lib = arc_value c.self.inside.lib in
     let order : c.order.result.now ≡ order_of lib c.args.m = c.order.ensures ∙ ap (λ (l : Library). order_of l c.args.m) c.deref.ensures in
-    let C : ProcessView → Type 0 = λ v. All (λ k. 0 < slice_index v.holding.row.reached k) (order_of v.library c.args.m) in
-    let O : List ℕ → Type 0 = λ ks. All (λ k. 0 < slice_index c.self.inside.holder.reached k) ks in
+    let C : ProcessView → Type 0 = λ v. All (λ k. 0 < slice_index v.holding.counts.reached k) (order_of v.library c.args.m) in
+    let O : List ℕ → Type 0 = λ ks. All (λ k. 0 < slice_index c.self.inside.counts.reached k) ks in
     subst O (sym order) (subst C (sym c.self.view_is) c.requires.counted)
 
 pub free-requires-clause-once : goal.free-requires-clause-once
@@ -43,9 +43,9 @@ unfolding order_of
 keep_reached-requires c =
     let lib = arc_value c.self.inside.lib in
     let order : c.order.result.now ≡ order_of lib c.args.m = c.order.ensures ∙ ap (λ (l : Library). order_of l c.args.m) c.deref.ensures in
-    let p = c.requires.row.0 in
-    let R : ProcessView → Type 0 = λ v. IsRowOf v.library p v.holding.row in
-    let next = c.free.ensures lib p (nothing_yet []) (subst R (sym c.self.view_is) c.requires.row.1) order in
+    let p = c.requires.counts.0 in
+    let R : ProcessView → Type 0 = λ v. AreCountsOf v.library p v.holding.counts in
+    let next = c.free.ensures lib p (nothing_yet []) (subst R (sym c.self.view_is) c.requires.counts.1) order in
     let long : c.len.result ≡ length lib = c.len.ensures.count ∙ ap (λ (l : Library). length l) c.deref-2.ensures in
     omega (arith, next.reached_are, long)
 
@@ -53,80 +53,80 @@ pub invariant_of-self : goal.invariant_of-self
 unfolding order_of
 invariant_of-self c =
     let lib = arc_value c.self.inside.lib in
-    let stays = c.self.inside.stays.items in
+    let residences = c.self.inside.residences.items in
     let pages = c.self.inside.pages.items in
     let order : c.order.result.now ≡ order_of lib c.args.m = c.order.ensures ∙ ap (λ (l : Library). order_of l c.args.m) c.deref.ensures in
-    let p = c.requires.row.0 in
-    let R : ProcessView → Type 0 = λ v. IsRowOf v.library p v.holding.row in
-    let next = c.free.ensures lib p (nothing_yet []) (subst R (sym c.self.view_is) c.requires.row.1) order in
-    let test : Stay → Bool = λ s. nat_lt (residence_in s).«module» c.len.result && reaches lib (keeping lib (nothing_yet []) (freeing c.args.m p)) (residence_in s).«module» in
-    let kept : c.as_mut_slice.result.now ≡ filter test stays = c.as_mut_slice.ensures.value ∙ c.keep_reached.ensures lib (keeping lib (nothing_yet []) (freeing c.args.m p)) next in
-    let P : List Stay → Type 0 = λ ss. All (IsPlaced lib pages) ss in
-    let A : List Stay → Type 0 = λ ss. AreApart (residences_in ss) in
+    let p = c.requires.counts.0 in
+    let R : ProcessView → Type 0 = λ v. AreCountsOf v.library p v.holding.counts in
+    let next = c.free.ensures lib p (nothing_yet []) (subst R (sym c.self.view_is) c.requires.counts.1) order in
+    let test : ReachedResidence → Bool = λ s. nat_lt (residence_in s).«module» c.len.result && reaches lib (keeping lib (nothing_yet []) (freeing c.args.m p)) (residence_in s).«module» in
+    let kept : c.as_mut_slice.result.now ≡ filter test residences = c.as_mut_slice.ensures.value ∙ c.keep_reached.ensures lib (keeping lib (nothing_yet []) (freeing c.args.m p)) next in
+    let P : List ReachedResidence → Type 0 = λ ss. All (IsPlaced lib pages) ss in
+    let A : List ReachedResidence → Type 0 = λ ss. AreApart (residences_in ss) in
     let B : List ResidenceFor → Type 0 = λ rs. AreApart rs in
     let long : c.len.result ≡ length lib = c.len.ensures.count ∙ ap (λ (l : Library). length l) c.deref-2.ensures in
     let passes : ℕ → Bool = λ k. reaches lib (keeping lib (nothing_yet []) (freeing c.args.m p)) k in
-    let F : List Stay → Type 0 = λ ss. AreRight c.of-self-inside.result (residences_in ss) in
-    let same : residences_in (filter test stays) ≡ filter (λ (r : ResidenceFor). passes r.«module») (residences_in stays) =
-    ap (λ (n : ℕ). residences_in (filter (λ (s : Stay). nat_lt (residence_in s).«module» n && passes (residence_in s).«module») stays)) long
-    ∙ kept_residences lib pages passes stays (recursion_from_All (IsPlaced lib pages) stays c.self.invariant.placed)
+    let F : List ReachedResidence → Type 0 = λ ss. AreRight c.of-self-inside.result (residences_in ss) in
+    let same : residences_in (filter test residences) ≡ filter (λ (r : ResidenceFor). passes r.«module») (residences_in residences) =
+    ap (λ (n : ℕ). residences_in (filter (λ (s : ReachedResidence). nat_lt (residence_in s).«module» n && passes (residence_in s).«module») residences)) long
+    ∙ kept_residences lib pages passes residences (recursion_from_All (IsPlaced lib pages) residences c.self.invariant.placed)
     in
-    let apart : AreApart (residences_in (filter test stays)) =
-    subst B (sym same) (AllPairs-filter (λ (a b : ResidenceFor). a.serial ≡ b.serial → ⊥) (λ (r : ResidenceFor). passes r.«module») (residences_in stays) c.self.invariant.apart)
+    let apart : AreApart (residences_in (filter test residences)) =
+    subst B (sym same) (AllPairs-filter (λ (a b : ResidenceFor). a.serial ≡ b.serial → ⊥) (λ (r : ResidenceFor). passes r.«module») (residences_in residences) c.self.invariant.apart)
     in
     let old = subst A (sym kept) apart in
-    let v = c.keep_reached.new.stays in
-    let ws = c.keep_places.new.stays in
-    let size : length ws ≡ v.len = c.keep_places.auto.stays ∙ ap (λ (ss : List Stay). length ss) c.as_mut_slice.ensures.value ∙ sym v.ok.0 in
+    let v = c.keep_reached.new.residences in
+    let ws = c.keep_places.new.residences in
+    let size : length ws ≡ v.len = c.keep_places.auto.residences ∙ ap (λ (ss : List ReachedResidence). length ss) c.as_mut_slice.ensures.value ∙ sym v.ok.0 in
     let whole : take v.len (ws ++ drop (length ws) v.items) ≡ ws = take_at ws (drop (length ws) v.items) v.len size in
-    let W : List Stay → Type 0 = λ ss. All (IsPlaced lib c.keep_places.new.pages.items) ss in
+    let W : List ReachedResidence → Type 0 = λ ss. All (IsPlaced lib c.keep_places.new.pages.items) ss in
     record {
       process = c.self.invariant.process;
       loads = next.loads_are;
       reached = next.reached_are;
-      placed = subst W (sym whole) (c.keep_places.ensures.placed lib old (subst P (sym kept) (All-filter test (IsPlaced lib pages) stays c.self.invariant.placed)));
+      placed = subst W (sym whole) (c.keep_places.ensures.placed lib old (subst P (sym kept) (All-filter test (IsPlaced lib pages) residences c.self.invariant.placed)));
       apart = subst A (sym whole) (subst B (sym c.keep_places.ensures.residences) old);
       found = subst F c.as_slice.ensures.value c.of-self-inside.ensures;
     }
 
-pub returns-clause-row : goal.returns-clause-row
+pub returns-clause-counts : goal.returns-clause-counts
 unfolding order_of
-returns-clause-row c = λ p e row.
+returns-clause-counts c = λ p e counts.
     let lib = arc_value c.self.inside.lib in
     let order : c.order.result.now ≡ order_of lib c.args.m = c.order.ensures ∙ ap (λ (l : Library). order_of l c.args.m) c.deref.ensures in
-    let R : ProcessView → Type 0 = λ v. IsRowOf v.library p v.holding.row in
-    let N : ProcessView → Type 0 = λ v. IsRowOf v.library (keeping v.library e (freeing c.args.m p)) c.free.new.self in
-    subst N c.self.view_is (c.free.ensures lib p e (subst R (sym c.self.view_is) row) order)
+    let R : ProcessView → Type 0 = λ v. AreCountsOf v.library p v.holding.counts in
+    let N : ProcessView → Type 0 = λ v. AreCountsOf v.library (keeping v.library e (freeing c.args.m p)) c.free.new.self in
+    subst N c.self.view_is (c.free.ensures lib p e (subst R (sym c.self.view_is) counts) order)
 
 pub returns-clause-rest : goal.returns-clause-rest
 unfolding order_of
-returns-clause-rest c = λ p row.
+returns-clause-rest c = λ p counts.
     let lib = arc_value c.self.inside.lib in
-    let stays = c.self.inside.stays.items in
+    let residences = c.self.inside.residences.items in
     let pages = c.self.inside.pages.items in
     let order : c.order.result.now ≡ order_of lib c.args.m = c.order.ensures ∙ ap (λ (l : Library). order_of l c.args.m) c.deref.ensures in
-    let R : ProcessView → Type 0 = λ v. IsRowOf v.library p v.holding.row in
-    let next = c.free.ensures lib p (nothing_yet []) (subst R (sym c.self.view_is) row) order in
+    let R : ProcessView → Type 0 = λ v. AreCountsOf v.library p v.holding.counts in
+    let next = c.free.ensures lib p (nothing_yet []) (subst R (sym c.self.view_is) counts) order in
     let after = keeping lib (nothing_yet []) (freeing c.args.m p) in
     let passes : ℕ → Bool = λ k. reaches lib after k in
     let kept = c.as_mut_slice.ensures.value ∙ c.keep_reached.ensures lib after next in
     let long : c.len.result ≡ length lib = c.len.ensures.count ∙ ap (λ (l : Library). length l) c.deref-2.ensures in
-    let rs = filter (λ (r : ResidenceFor). passes r.«module») (residences_in stays) in
+    let rs = filter (λ (r : ResidenceFor). passes r.«module») (residences_in residences) in
     let old : residences_in c.as_mut_slice.result.now ≡ rs =
     ap residences_in kept
-    ∙ ap (λ (n : ℕ). residences_in (filter (λ (s : Stay). nat_lt (residence_in s).«module» n && passes (residence_in s).«module») stays)) long
-    ∙ kept_residences lib pages passes stays (recursion_from_All (IsPlaced lib pages) stays c.self.invariant.placed)
+    ∙ ap (λ (n : ℕ). residences_in (filter (λ (s : ReachedResidence). nat_lt (residence_in s).«module» n && passes (residence_in s).«module») residences)) long
+    ∙ kept_residences lib pages passes residences (recursion_from_All (IsPlaced lib pages) residences c.self.invariant.placed)
     in
-    let same : residences_in c.keep_places.new.stays ≡ rs = c.keep_places.ensures.residences ∙ old in
+    let same : residences_in c.keep_places.new.residences ≡ rs = c.keep_places.ensures.residences ∙ old in
     let mapped : c.keep_places.new.pages.items ≡ pages_with rs pages = c.keep_places.ensures.pages ∙ kept_pages c.as_mut_slice.result.now pages ∙ ap (λ (qs : List ResidenceFor). pages_with qs pages) old in
-    let v = c.keep_reached.new.stays in
-    let ws = c.keep_places.new.stays in
-    let size : length ws ≡ v.len = c.keep_places.auto.stays ∙ ap (λ (ss : List Stay). length ss) c.as_mut_slice.ensures.value ∙ sym v.ok.0 in
+    let v = c.keep_reached.new.residences in
+    let ws = c.keep_places.new.residences in
+    let size : length ws ≡ v.len = c.keep_places.auto.residences ∙ ap (λ (ss : List ReachedResidence). length ss) c.as_mut_slice.ensures.value ∙ sym v.ok.0 in
     let whole : take v.len (ws ++ drop (length ws) v.items) ≡ ws = take_at ws (drop (length ws) v.items) v.len size in
     let room = vec_capacity c.keep_places.new.pages - vec_len c.keep_places.new.pages in
     let more = vec_capacity v - vec_len v in
     let made : List ResidenceFor → List Mapped → ProcessView = λ qs ms. view_made lib c.self.inside.pid c.self.inside.ended c.free.new.self qs ms c.self.inside.front room more in
     let F : ProcessView → Type 0 = λ q. made (residences_in (take v.len (ws ++ drop (length ws) v.items))) c.keep_places.new.pages.items ≡ freed_view q (reaches q.library (freeing c.args.m p)) c.free.new.self room more in
     subst F c.self.view_is
-    (ap (λ (ss : List Stay). made (residences_in ss) c.keep_places.new.pages.items) whole ∙ ap (λ (qs : List ResidenceFor). made qs c.keep_places.new.pages.items) same ∙ ap (λ (ms : List Mapped). made rs ms) mapped
+    (ap (λ (ss : List ReachedResidence). made (residences_in ss) c.keep_places.new.pages.items) whole ∙ ap (λ (qs : List ResidenceFor). made qs c.keep_places.new.pages.items) same ∙ ap (λ (ms : List Mapped). made rs ms) mapped
     ∙ ap (λ (g : ℕ → Bool). freed_view (view_of c.self.inside) g c.free.new.self room more) (reach_kept lib (nothing_yet []) (freeing c.args.m p)))

@@ -48,7 +48,7 @@ publish-requires-clause-there g c =
     let page_is : c.page-p.result ≡ c.args.right.page = c.page-p.ensures ∙ c.fix_page-fixed.ensures.named.1 in
     ap (λ (q : ResidenceFor). is_fixable (module_of q.library q.«module») c.page-p.result) (c.residence-residence.ensures none)
     ∙ ap (λ (lib : List Parts). is_fixable (module_of lib r.«module») c.page-p.result) (c.requires.page none).library
-    ∙ ap (λ (p : PageId). is_fixable (module_of v.library r.«module») p) page_is ∙ c.requires.common none
+    ∙ ap (λ (p : PageId). is_fixable (module_of v.library r.«module») p) page_is ∙ c.requires.shared none
 
 pub publish-requires-clause-own : goal.publish-requires-clause-own
 publish-requires-clause-own g c =

@@ -20,7 +20,7 @@ wait-requires g c =
     let none : ResidenceFor = record { library = []; serial = 0; «module» = 0; bases = record { mods = [] } } in
     let r = get_or v.residences c.args.k none in
     ap (λ (q : ResidenceFor). is_fixable (module_of q.library q.«module») c.args.p) (c.residence.ensures none)
-    ∙ ap (λ (lib : List Parts). is_fixable (module_of lib r.«module») c.args.p) (c.requires.page none).library ∙ c.requires.common none
+    ∙ ap (λ (lib : List Parts). is_fixable (module_of lib r.«module») c.args.p) (c.requires.page none).library ∙ c.requires.shared none
 
 pub returns : goal.returns
 returns g c = λ d.

@@ -18,9 +18,9 @@ returns-in-Ok c =
     let none : ResidenceFor = record { library = []; serial = 0; «module» = 0; bases = record { mods = [] } } in
     let r = get_or v.residences c.in-Some.k none in
     let spot : entry_spot v.library r.«module» key ≡ Ok c.in-Ok.spot =
-    sym (ap (λ (l : List Parts). entry_spot l r.«module» key) c.library.ensures) ∙ sym (ap (λ (m : ℕ). entry_spot c.library.result.now m key) (c.stay_module.ensures.number none)) ∙ sym c.entry_spot.ensures ∙ c.in-Ok.is
+    sym (ap (λ (l : List Parts). entry_spot l r.«module» key) c.library.ensures) ∙ sym (ap (λ (m : ℕ). entry_spot c.library.result.now m key) (c.residence_module.ensures.number none)) ∙ sym c.entry_spot.ensures ∙ c.in-Ok.is
     in (
-      query_spot v c.args.«module».now key r (Ok c.in-Ok.spot) (sym c.is_ended.ensures ∙ c.if-is_ended.false) (c.in-Some.ensures.stay none) spot,
+      query_spot v c.args.«module».now key r (Ok c.in-Ok.spot) (sym c.is_ended.ensures ∙ c.if-is_ended.false) (c.in-Some.ensures.residence none) spot,
       query_reply v c.args.«module».now key r c.in-Ok.spot c.address.result (c.in-Some.ensures.named none) spot c.address.ensures,
     )
 
@@ -31,6 +31,6 @@ returns-in-Err c =
     let none : ResidenceFor = record { library = []; serial = 0; «module» = 0; bases = record { mods = [] } } in
     let r = get_or v.residences c.in-Some.k none in
     let spot : entry_spot v.library r.«module» key ≡ Err c.in-Err.fault =
-    sym (ap (λ (l : List Parts). entry_spot l r.«module» key) c.library.ensures) ∙ sym (ap (λ (m : ℕ). entry_spot c.library.result.now m key) (c.stay_module.ensures.number none)) ∙ sym c.entry_spot.ensures ∙ c.in-Err.is
+    sym (ap (λ (l : List Parts). entry_spot l r.«module» key) c.library.ensures) ∙ sym (ap (λ (m : ℕ). entry_spot c.library.result.now m key) (c.residence_module.ensures.number none)) ∙ sym c.entry_spot.ensures ∙ c.in-Err.is
     in
-    query_spot v c.args.«module».now key r (Err c.in-Err.fault) (sym c.is_ended.ensures ∙ c.if-is_ended.false) (c.in-Some.ensures.stay none) spot ∙ ap (λ x. Some x) (sym c.refusal_of.ensures)
+    query_spot v c.args.«module».now key r (Err c.in-Err.fault) (sym c.is_ended.ensures ∙ c.if-is_ended.false) (c.in-Some.ensures.residence none) spot ∙ ap (λ x. Some x) (sym c.refusal_of.ensures)

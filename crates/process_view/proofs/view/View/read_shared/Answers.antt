@@ -4,7 +4,7 @@ use Rattle.load_model.specs.State.{pids, is_among}
 use Rattle.load_model.specs.Asks.{get}
 use Rattle.load_model.specs.Outcomes.{done}
 use Rattle.load_core.specs.Told.{read_run}
-use Rattle.load_core.specs.Ledger.{Ledger, entry_of, with_entry}
+use Rattle.load_core.specs.BoardState.{BoardState, entry_of, with_entry}
 use Rattle.process_view.specs.ProcessViews.{at_front}
 use Rattle.load_model.specs.declared.deeds.Entry.{Entry}
 use Rattle.process_view.specs.Deeds.{bytes_read}
@@ -71,11 +71,11 @@ returns c =
     ∙ ap (λ (n : ℕ). read_run b n r.«module» at.object at.offset (length c.copy_place.new.into)) number
     ∙ ap (λ (n : ℕ). read_run b v.holding.pid r.«module» at.object at.offset n) long
     in
-    let next : c.follow.new.self ≡ at_front (length (b.history ++ x ∷ [])) v = c.follow.ensures ∙ ap (λ (l : Ledger). at_front (length l.history) v) adds in
+    let next : c.follow.new.self ≡ at_front (length (b.history ++ x ∷ [])) v = c.follow.ensures ∙ ap (λ (l : BoardState). at_front (length l.history) v) adds in
     record {
       done =
           did_same b (with_entry b x) c.read_shared.new.self v (at_front (length (b.history ++ x ∷ [])) v) c.follow.new.self _ (done (length (b.history ++ x ∷ []))) (done (length c.read_shared.new.self.history))
-          (did_shared c.residences_stay.ensures.still c.residences_stay.ensures.bases c.views_stand.ensures.quiet b v at c.args.k d c.pid-pid.ensures.process c.requires.asked) adds next (ap (λ (l : Ledger). done (length l.history)) adds);
-      read = λ y e. bytes ∙ read_in b v.holding.pid r.serial r.«module» at.object at.offset at.len ∙ ap (λ (z : Entry). bytes_read z.deed) (same_last b.history x y (sym (ap (λ (l : Ledger). l.history) adds) ∙ e));
+          (did_shared c.residences_stay.ensures.still c.residences_stay.ensures.bases c.views_stand.ensures.quiet b v at c.args.k d c.pid-pid.ensures.process c.requires.asked) adds next (ap (λ (l : BoardState). done (length l.history)) adds);
+      read = λ y e. bytes ∙ read_in b v.holding.pid r.serial r.«module» at.object at.offset at.len ∙ ap (λ (z : Entry). bytes_read z.deed) (same_last b.history x y (sym (ap (λ (l : BoardState). l.history) adds) ∙ e));
       err = tt;
     }

@@ -3,7 +3,7 @@ use Rattle.page_frames.specs.Residences.{ResidenceFor}
 use Rattle.load_model.specs.Outcomes.{done}
 use Rattle.load_model.specs.Asks.{put}
 use Rattle.load_model.specs.State.{pids, is_among}
-use Rattle.load_core.specs.Ledger.{Ledger, entry_of, with_entry}
+use Rattle.load_core.specs.BoardState.{BoardState, entry_of, with_entry}
 use Rattle.process_view.specs.ProcessViews.{at_front}
 use Rattle.process_view.specs.Deeds.{with_write}
 use Rattle.process_view.proofs.Did.{accepted_write, did_write_own, may_put, did_same}
@@ -41,10 +41,10 @@ returns c =
     ∙ ap (λ (bs : List ℕ). with_entry b (entry_of b v.holding.pid (put r.serial r.«module» at.object at.offset bs))) c.bytes.ensures
     in
     let x = entry_of b v.holding.pid (put r.serial r.«module» at.object at.offset c.args.write.now.bytes) in
-    let next : c.follow.new.self ≡ at_front (length (b.history ++ x ∷ [])) (with_write r.serial c.args.write.now v) = c.follow.ensures ∙ ap (λ (l : Ledger). at_front (length l.history) c.put_own.new.self) adds ∙ ap (at_front (length (b.history ++ x ∷ []))) (c.put_own.ensures ∙ ap (λ (n : ℕ). with_write n c.args.write.now v) serial) in
+    let next : c.follow.new.self ≡ at_front (length (b.history ++ x ∷ [])) (with_write r.serial c.args.write.now v) = c.follow.ensures ∙ ap (λ (l : BoardState). at_front (length l.history) c.put_own.new.self) adds ∙ ap (at_front (length (b.history ++ x ∷ []))) (c.put_own.ensures ∙ ap (λ (n : ℕ). with_write n c.args.write.now v) serial) in
     record {
       done =
           did_same b (with_entry b x) c.write.new.self v (at_front (length (b.history ++ x ∷ [])) (with_write r.serial c.args.write.now v)) c.follow.new.self _ (done (length (b.history ++ x ∷ []))) (done (length c.write.new.self.history))
-          (did_write_own c.residences_stay.ensures.still c.residences_stay.ensures.bases b v at c.args.write.now c.args.k d c.pid-pid.ensures.process c.requires.asked c.requires.write c.requires.class) adds next (ap (λ (l : Ledger). done (length l.history)) adds);
+          (did_write_own c.residences_stay.ensures.still c.residences_stay.ensures.bases b v at c.args.write.now c.args.k d c.pid-pid.ensures.process c.requires.asked c.requires.write c.requires.class) adds next (ap (λ (l : BoardState). done (length l.history)) adds);
       err = tt;
     }

@@ -1,6 +1,6 @@
 use Rattle.std.proofs.Common.{◌∙◌, ap, position, bytes_eq}
 use Rattle.std.proofs.Common.{map}
-use Rattle.first_table.specs.Entries.{is_named}
+use Rattle.name_table.specs.Entries.{is_named}
 use Rattle.seg_parts.proofs.NameLists.{position-entries}
 use Rattle.seg_parts.proofs.groups.GroupNames.place_of.Goals as goal
 

@@ -1,0 +1,11 @@
+-- The files that a link asks for: its definition file, and its object files and libraries.
+use Rattle.std.specs.Prelude.{ℕ, List, [], ◌∷◌, map, Option, Some, None}
+use Rattle.answer_model.specs.Loading.{Asked}
+use Rattle.answer_model.specs.Reading.{object_or_library, definition_file}
+
+abbrev pub asked_definition : Option (List ℕ) → List Asked
+asked_definition None = []
+asked_definition (Some name) = record { kind = definition_file; name = name } ∷ []
+
+abbrev pub asked_inputs : List (List ℕ) → List Asked
+asked_inputs names = map (λ name. record { kind = object_or_library; name = name }) names

@@ -1,4 +1,0 @@
-use Rattle.board_cases.proofs.going.carry_out.Given as goal
-
-abbrev pub ghosts-touch : goal.ghosts-touch
-ghosts-touch g a = record { name = a.blank.name; parts = a.blank.parts }

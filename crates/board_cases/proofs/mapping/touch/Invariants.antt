@@ -1,5 +1,0 @@
-use Rattle.board_cases.specs.OneThread.{MappedMore}
-use Rattle.board_cases.proofs.mapping.touch.Given as goal
-
-abbrev pub invariant-loop-number : goal.invariant-loop-number
-invariant-loop-number g l = MappedMore l.fn.board l.board l.fn.view l.view

@@ -1,5 +1,0 @@
-use Rattle.std.proofs.Common.{◌≡◌, take}
-use Rattle.comdat_core.proofs.copies.exts_again.Given as goal
-
-abbrev pub invariant-loop-ext : goal.invariant-loop-ext
-invariant-loop-ext l = l.copies ≡ take l.ext-index l.exts

@@ -1,9 +1,0 @@
--- A module without a count leaves room for one more.
-use Rattle.std.proofs.Common.{arith}
-use Rattle.hold_rows.proofs.Counts.{room_for_one}
-use Rattle.hold_rows.proofs.counting.attach.Goals as goal
-
-pub push-requires : goal.push-requires
-push-requires c =
-    let less = room_for_one c.args.reached.now c.args.attached.now.items c.args.k c.requires.within c.requires.uncounted c.requires.attached in
-    omega (arith, less, c.requires.few)

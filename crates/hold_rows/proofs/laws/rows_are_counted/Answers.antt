@@ -1,5 +1,0 @@
-use Rattle.hold_rows.proofs.Bounded.{counts_have_room, held_is_counted}
-use Rattle.hold_rows.proofs.laws.rows_are_counted.Goals as goal
-
-pub returns : goal.returns
-returns c = record { counted = held_is_counted; room = counts_have_room }

@@ -1,2 +1,0 @@
-pub mod SoundRows
-pub mod SoundTable

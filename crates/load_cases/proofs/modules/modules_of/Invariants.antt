@@ -1,6 +1,0 @@
-use Rattle.std.specs.Prelude.{All}
-use Rattle.lx_model.specs.Module.{IsRead}
-use Rattle.load_cases.proofs.modules.modules_of.Given as goal
-
-abbrev pub invariant-loop-shape : goal.invariant-loop-shape
-invariant-loop-shape l = All IsRead l.modules.items

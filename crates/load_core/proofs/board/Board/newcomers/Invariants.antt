@@ -1,6 +1,0 @@
-use Rattle.std.proofs.Common.{take}
-use Rattle.load_core.specs.Enters.{HaveBegun}
-use Rattle.load_core.proofs.board.Board.newcomers.Given as goal
-
-abbrev pub invariant-loop-one : goal.invariant-loop-one
-invariant-loop-one l = HaveBegun l.self l.fresh (take l.one-index l.fresh) l.stays.items

@@ -1,0 +1,206 @@
+//! Residences that begin.
+
+ghost use Rattle.std.specs.Prelude.{◌≡◌, ◌<◌, ◌++◌, true, None, Some, All, is_some, length, map, find, option_copied, IfOk, OnOk, OnErr};
+ghost use Rattle.std.specs.Arc.{arc_value};
+ghost use Rattle.load_model.specs.Entering.{with_fresh_residences};
+ghost use Rattle.load_model.specs.Memory.{bases_seen};
+ghost use Rattle.load_model.specs.State.{Eager, pids, is_among};
+ghost use Rattle.load_model.specs.Asks as asks;
+ghost use Rattle.mod_refs.specs.AllCounts.{AreCountsOfAll, AreKept, counts_at};
+ghost use Rattle.mod_refs.specs.Changes.{IsIdleFor, IsFullFor, with_entered};
+ghost use Rattle.residence_table.specs.Residences.{is_of_module};
+ghost use Rattle.load_core.specs.BoardState.{state_of, MayAsk, Adds};
+ghost use Rattle.load_core.specs.Told.{IsLoaded};
+ghost use Rattle.load_core.specs.Enters as begins;
+ghost use Rattle.load_core.specs.Enters.{IsArrival, IsBegun, HaveBegun, failing_of};
+
+use crate::answers::Loaded;
+use crate::arrivals::{Arrival, Entrance};
+use crate::board::Board;
+use crate::residence_parts::ResidenceParts;
+use load_model::{Deed, Entry, Fresh};
+use lx_types::{Bases, ModBases, NoMemory, Seq};
+use mod_graph::Library;
+use mod_refs::Refs;
+use page_fix::Rights;
+use page_frames::Residence;
+use residence_table::{ResidenceRow, ResidenceTable};
+use std::alloc::Global;
+use std::sync::Arc;
+use write_overlay::Layers;
+
+// The residence of a module that begins.
+fn new_residence(
+    new_residences: &[ResidenceRow<ResidenceParts>],
+    k: u32,
+) -> Option<&ResidenceRow<ResidenceParts>>
+    ensures { option_copied result ≡ find (is_of_module k) new_residences.now }
+{
+    new_residences.iter().find(|row| row.module() == k)
+}
+
+// What is shared of the residence of a module that begins.
+fn new_residence_shared(
+    new_residences: &[ResidenceRow<ResidenceParts>],
+    k: u32,
+) -> Result<Arc<Residence>, NoMemory>
+    requires { is_some (find (is_of_module k) new_residences.now) ≡ true }
+    ensures { IfOk result (λ shared. Some (arc_value shared) ≡ begins.shared_of new_residences.now k) }
+{
+    match new_residence(new_residences, k) {
+        Some(row) => Ok(Arc::try_clone(&row.beside().shared)?),
+        None => unreachable!(),
+    }
+}
+
+// What is shared of the residence of a module, which stands or begins.
+fn shared_with(
+    table: &ResidenceTable<ResidenceParts>,
+    new_residences: &[ResidenceRow<ResidenceParts>],
+    k: u32,
+) -> Result<Arc<Residence>, NoMemory>
+    requires { is_some (find (is_of_module k) (table.now ++ new_residences.now)) ≡ true }
+    ensures { IfOk result (λ shared. Some (arc_value shared) ≡ begins.shared_of (table.now ++ new_residences.now) k) }
+{
+    match table.find(k) {
+        Some(row) => Ok(Arc::try_clone(&row.beside().shared)?),
+        None => new_residence_shared(new_residences, k),
+    }
+}
+
+// What is shared of the residences of modules, in their order.
+fn all_shared(
+    alloc: Global,
+    table: &ResidenceTable<ResidenceParts>,
+    new_residences: &[ResidenceRow<ResidenceParts>],
+    joined: &[u32],
+) -> Result<Vec<Arc<Residence>>, NoMemory>
+    requires { All (λ k. is_some (find (is_of_module k) (table.now ++ new_residences.now)) ≡ true) joined.now }
+    ensures { IfOk result (λ all. map (λ a. Some (arc_value a)) all.items ≡ map (begins.shared_of (table.now ++ new_residences.now)) joined.now) }
+{
+    let mut all = Vec::new(alloc);
+    for k in joined {
+        all.push(shared_with(table, new_residences, *k)?)?;
+    }
+    Ok(all)
+}
+
+// Attaches what a start or a load attaches, where the process may hold the module once more.
+fn attach(refs: &mut Refs, lib: &Library, at: Entrance)
+    requires kept { AreKept lib.now refs.old }
+    requires process { is_among pids at.pid ≡ true }
+    requires module { at.«module» < length lib.now }
+    requires idle { IsIdleFor at.how (counts_at refs.old at.pid) }
+    requires few { IsFullFor at.how at.«module» (counts_at refs.old at.pid) → ⊥ }
+    ensures { (e : Eager) → AreCountsOfAll lib.now e refs.old → AreCountsOfAll lib.now (with_entered lib.now e at.pid at.how at.«module») refs.new }
+{
+    match refs.attach(lib, at.pid, at.module, at.how) {
+        Ok(()) => {}
+        Err(_) => unreachable!(),
+    }
+}
+
+// The bases of module `k` once these have begun.
+fn bases_of(
+    alloc: Global,
+    table: &ResidenceTable<ResidenceParts>,
+    fresh: &[Fresh],
+    k: u32,
+) -> Result<ModBases, NoMemory>
+    ensures { IfOk result (λ own. own ≡ begins.bases_with table.now fresh.now k) }
+{
+    let objects = table.placement(fresh, k).bases.to_vec(alloc)?;
+    Ok(ModBases {
+        module: k,
+        objects: Seq::from_vec(objects),
+    })
+}
+
+// The bases of modules, in their order.
+fn all_bases(
+    alloc: Global,
+    table: &ResidenceTable<ResidenceParts>,
+    fresh: &[Fresh],
+    modules: &[u32],
+) -> Result<Vec<ModBases>, NoMemory>
+    ensures { IfOk result (λ mods. mods.items ≡ map (begins.bases_with table.now fresh.now) modules.now) }
+{
+    let mut mods = Vec::new(alloc);
+    for k in modules {
+        mods.push(bases_of(alloc, table, fresh, *k)?)?;
+    }
+    Ok(mods)
+}
+
+impl Board {
+    // The bases behind module `m` once these have begun.
+    fn bases_behind(&self, fresh: &[Fresh], m: u32) -> Result<Bases, NoMemory>
+        requires { m < length self.now.library }
+        ensures { IfOk result (λ bases. bases ≡ bases_seen self.now.library (with_fresh_residences (state_of self.now) fresh.now) m) }
+    {
+        let mods = all_bases(self.alloc, &self.table, fresh, self.lib.order(m))?;
+        Ok(Bases {
+            mods: Seq::from_vec(mods),
+        })
+    }
+
+    // A residence that begins with others.
+    fn begun(&self, fresh: &[Fresh], one: &Fresh) -> Result<ResidenceRow<ResidenceParts>, NoMemory>
+        requires { one.now.«module» < length self.now.library }
+        ensures { IfOk result (IsBegun self.now fresh.now one.now) }
+    {
+        let bases = self.bases_behind(fresh, one.module)?;
+        let lib = Arc::try_clone(&self.lib)?;
+        let shared = Residence::make(self.alloc, one.serial, lib, one.module, bases)?;
+        let rights = Rights::make(self.alloc, one.serial, self.lib.module(one.module))?;
+        let beside = ResidenceParts {
+            rights,
+            shared: Arc::new(self.alloc, shared)?,
+            layers: Layers::new(self.alloc),
+        };
+        ResidenceRow::begun(self.alloc, one, beside)
+    }
+
+    // The residences that begin.
+    fn new_residences(&self, fresh: &[Fresh]) -> Result<Vec<ResidenceRow<ResidenceParts>>, NoMemory>
+        requires { All (λ f. f.«module» < length self.now.library) fresh.now }
+        ensures { IfOk result (λ rows. HaveBegun self.now fresh.now fresh.now rows.items) }
+    {
+        let mut rows = Vec::new(self.alloc);
+        for one in fresh {
+            rows.push(self.begun(fresh, one)?)?;
+        }
+        Ok(rows)
+    }
+
+    // The module is loaded.
+    pub(crate) fn enter(&mut self, at: Entrance, arrival: Arrival) -> Result<Loaded, NoMemory>
+        requires process { is_among pids at.pid ≡ true }
+        requires may { MayAsk self.old at.pid (asks.enter at.how at.«module») }
+        requires arrival { IsArrival self.old at arrival }
+        requires fine { failing_of self.old at arrival ≡ None }
+        ensures entry { OnOk result (Adds self.old self.new at.pid (asks.enter at.how at.«module»)) }
+        ensures answer { IfOk result (IsLoaded self.old self.new at.pid at.how at.«module») }
+        ensures err { OnErr result (self.new ≡ self.old) }
+    {
+        lx_model::order_is_reach();
+        load_model::residences_stay();
+        mod_refs::legal_counts_are_kept();
+        let new_residences = self.new_residences(arrival.fresh.as_slice())?;
+        let joined = all_shared(self.alloc, &self.table, &new_residences, &arrival.joined)?;
+        self.history.reserve(1)?;
+        self.table.begin(new_residences)?;
+        attach(&mut self.refs, &self.lib, at);
+        self.serials = arrival.serials;
+        self.history.push_reserved(Entry {
+            pid: at.pid,
+            deed: Deed::Enter {
+                how: at.how,
+                module: at.module,
+                fresh: arrival.fresh,
+                calls: arrival.calls,
+            },
+        });
+        Ok(Loaded::Done { joined })
+    }
+}

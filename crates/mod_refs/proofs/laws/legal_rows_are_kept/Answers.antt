@@ -1,5 +1,0 @@
-use Rattle.mod_refs.proofs.LegalRows.{legal_rows}
-use Rattle.mod_refs.proofs.laws.legal_rows_are_kept.Goals as goal
-
-pub returns : goal.returns
-returns c = legal_rows c.order_is_reach.ensures.last c.reached_is_fit.ensures.reached c.residents_are_reached.ensures.attached c.counts_are_small.ensures

@@ -1,0 +1,29 @@
+//! The residences that a process reaches.
+
+ghost use Rattle.std.specs.Prelude.{◌≡◌, ◌==◌, position};
+ghost use Rattle.process_pages.specs.ReachedResidences.{residence_in};
+
+use crate::page_rows::PageRows;
+use page_frames::Residence;
+use std::sync::Arc;
+
+/// A residence that the process reaches, and where those of its pages stand that it has mapped.
+#[derive(Drop)]
+pub struct ReachedResidence {
+    pub residence: Arc<Residence>,
+    pub places: PageRows,
+}
+
+// Whether a residence is of module `m`.
+fn is_of(reached: &ReachedResidence, m: u32) -> bool
+    ensures { result ≡ ((residence_in reached.now).«module» == m) }
+{
+    reached.residence.module() == m
+}
+
+/// The place of the residence of module `m` among those that the process reaches.
+pub fn residence_place(residences: &[ReachedResidence], m: u32) -> Option<usize>
+    ensures { result ≡ position (λ s. (residence_in s).«module» == m) residences.now }
+{
+    residences.iter().position(|reached| is_of(reached, m))
+}

@@ -1,0 +1,2 @@
+pub mod SoundCounts
+pub mod SoundTable

@@ -1,9 +1,0 @@
-use Rattle.session_lines.specs.Told.{told}
-use Rattle.session_lines.proofs.ReadingLaws.{said-allowed}
-use Rattle.session_lines.proofs.draft.Draft.with.Goals as goal
-
-pub with_module-requires : goal.with_module-requires
-with_module-requires c = said-allowed c.args.line.now (told c.args.said) c.requires
-
-pub with_failing-requires : goal.with_failing-requires
-with_failing-requires c = said-allowed c.args.line.now (told c.args.said) c.requires

@@ -1,7 +1,0 @@
-use Rattle.std.proofs.Common.{◌≡◌, ◌++◌, drop}
-use Rattle.session_model.specs.Text.{bytes_words}
-use Rattle.session_text.specs.Spaced.{spaced}
-use Rattle.session_text.proofs.words.push_bytes.Given as goal
-
-abbrev pub invariant-loop-byte : goal.invariant-loop-byte
-invariant-loop-byte l = l.out.items ++ spaced (bytes_words (drop l.byte-index l.bytes)) ≡ l.initial.out.items ++ spaced (bytes_words l.bytes)

@@ -1,7 +1,0 @@
-use Rattle.std.proofs.Common.{◌≡◌, [], map, take}
-use Rattle.load_model.specs.Leaving.{gone_of}
-use Rattle.stay_table.specs.Placing.{residences_with, state_with}
-use Rattle.stay_table.proofs.table.Stays.gone.Given as goal
-
-abbrev pub invariant-loop-m : goal.invariant-loop-m
-invariant-loop-m g l = l.gone.items ≡ map (gone_of (state_with (residences_with l.self []))) (take l.m-index l.modules)

@@ -1,9 +1,0 @@
--- What a table ends as, where what is kept beside a residence is lent.
-use Rattle.std.specs.Borrow.{Lends, Fml, RattleType, MutBor}
-use Rattle.stay_table.specs.declared.stay.Stay.{Stay}
-use Rattle.stay_table.specs.contracts.stay.Stay.{the_row}
-
-module _ (T : RattleType) (s : MutBor (Stay T.Denot)) where
-  -- the residence is as it was, and beside it is what was left behind r
-  abbrev pub lends_beside : MutBor T.Denot → Fml
-  lends_beside r = Lends (the_row T) T s r (λ w. (s.now.0, w))

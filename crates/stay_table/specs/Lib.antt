@@ -1,6 +1,0 @@
-pub mod Standing
-pub mod Lending
-pub mod TableLending
-pub mod Placing
-pub mod Called
-pub mod Laws

@@ -1,9 +1,0 @@
-//! A law of symbols.
-
-ghost use Rattle.sym_table.specs.Finding.{FindsMeanings};
-
-/// `find` of the symbols of a link gives each external the meaning that the rules of linking give it.
-#[tactic(auto, using(crate::proofs::FindMeans::finds_meanings))]
-pub fn find_gives_meanings()
-    ensures { FindsMeanings }
-{}
