@@ -8,7 +8,7 @@ Usage: bench.py [--scale N] [--against FILE] [--turns N] [--save FILE] [--only W
     --against FILE  prints beside each size its seconds and its memory as parts of those in FILE, a baseline; or of those of FILE, where
                     that is a program: then each command is run by both in turn; beside one that the other refuses stands "new"
     --turns N       how often each command is run, 3 by default; the least counts
-    --save FILE     writes what was measured to FILE as a baseline: of each size the seconds and the MiB, and behind them, where another
+    --save FILE     writes what was measured to FILE as a baseline: of each size the seconds and the MiB, and after them, where another
                     program was measured too, both as parts of the other's
     --only WORD     only the rows whose name has this word
 
@@ -197,7 +197,7 @@ class Table:
         return () if other is None else (now[0] / other[0], now[1] / other[1])
 
     def beside(self, parts):
-        """What stands behind a line for them."""
+        """What stands after a line for them."""
         if not self.before and not self.options.other:
             return ""
         return "%6.2f %6.2f" % parts if parts else "    new"

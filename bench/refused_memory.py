@@ -14,22 +14,10 @@ import subprocess
 import sys
 import tempfile
 
+import any_order
+from rows_with import file_of_rows
+
 HERE = os.path.dirname(os.path.abspath(__file__))
-
-ROWS = os.path.join(HERE, "..", "crates", "command_rows", "data")
-
-
-def file_of_rows(rows, name):
-    """The bytes of a file that the rows of the gate have."""
-    data, inside = b"", False
-    with open(os.path.join(ROWS, rows), encoding="utf-8") as lines:
-        for line in lines:
-            if not line.startswith(" "):
-                inside = line.split() == ["file", name]
-            elif inside:
-                data += bytes.fromhex(line.partition("#")[0])
-    return data
-
 
 FILES = {
     "a.obj": file_of_rows("link.rows", "a.obj"),
@@ -44,6 +32,12 @@ FILES = {
     ),
     "e.def": b"LIBRARY E\n",
 }
+for name in ("mathu.obj", "store.obj", "app.obj", "mathu.def", "store.def", "app.def", "ordinary.ses", "three.ses"):
+    FILES[name] = file_of_rows("ordinary_session.rows", name)
+# (its import library is made of IMPORTS here, so that no file of another run is wanted)
+FILES["app.def"] += b"IMPORTS\n Add = MATHU.1\n Mul = MATHU.2\n"
+for name in ("ordinary.ses", "three.ses"):
+    FILES[name] = FILES[name].replace(b" mathu.lib", b"")
 
 RUNS = [
     ("image", ["image", "a.obj", "10000000"]),
@@ -54,7 +48,9 @@ RUNS = [
     ("dump", ["dump", "good.dll"]),
     ("map", ["map", "d.def", "a.obj"]),
     ("a session of one script", ["run", "s.ses"]),
+    ("an ordinary session of one script", ["run", "ordinary.ses"]),
     ("a session of three scripts", ["run", "many.ses"]),
+    ("an ordinary session of three scripts", ["run", "three.ses"]),
 ]
 
 
@@ -82,12 +78,14 @@ def run(lx, words, library, refused):
         return done.returncode, done.stdout, files, requests
 
 
-def is_same(whole, text, threads):
-    """Whether a text is that of a whole run. Scripts on threads may take their steps in another order, so of their
-    transcript the first line and the beginning of the last one are compared."""
-    if not threads:
-        return text == whole
-    return text.startswith(b"history\n") and text.splitlines()[-1].startswith(b"summary processes 3 ")
+def is_same(whole, text, session):
+    """Whether a text is that of a whole run. Scripts on threads may take their steps in another order, so of their transcripts
+    what is the same in every order is compared (any_order.py), or the first line and the beginning of the last one."""
+    if session == "three.ses":
+        return any_order.same_of(text.decode()) == any_order.SAME
+    if session == "many.ses":
+        return text.startswith(b"history\n") and text.splitlines()[-1].startswith(b"summary processes 3 ")
+    return text == whole
 
 
 def are_kept(files, whole_files):
@@ -108,7 +106,6 @@ def main():
         library = built(folder)
         for title, words in RUNS:
             whole_status, whole, whole_files, requests = run(lx, words, library, 0)
-            threads = words[-1] == "many.ses"
             if whole_status or not requests:
                 sys.exit(f"{title}: status {whole_status}, {requests} requests seen")
             eights = same = unsaved = others = 0
@@ -118,7 +115,7 @@ def main():
                     eights += 1
                 elif status == 4 and text.endswith(b": write failed\n") and are_kept(files, whole_files):
                     unsaved += 1
-                elif status == whole_status and is_same(whole, text, threads) and files == whole_files:
+                elif status == whole_status and is_same(whole, text, words[-1]) and files == whole_files:
                     same += 1
                 else:
                     others += 1

@@ -7,7 +7,7 @@ Usage: uncompiled.py [WORD]     only the changes whose title has this word; all 
 says of a signature or of a private field what no clause says. This script copies the repository into a temporary folder, with
 the libraries that were proved here, puts each change as an edit into its crate there, and runs `rt must-fail`, which has to
 answer BAD EDIT, with the error that is looked for. Libraries that are not proved yet are proved first. It prints a line for
-each change and last how many there were, and is no part of the gate. The exit status is 0 where the compiler refuses all, 1
+each change and last how many there were; `.ci/run` runs it after the gate. The exit status is 0 where the compiler refuses all, 1
 where it does not, 2 where the words are wrong.
 """
 import os
@@ -40,7 +40,7 @@ CHANGES = [
     ),
     (
         "a_closed_history_that_is_written_down",
-        "board_cases",
+        "stepped_runs",
         "src/cast.rt",
         "let closed = loader.close(procs);",
         "let closed = proc_core::Closed { history: Seq::new(alloc) };",
@@ -48,11 +48,37 @@ CHANGES = [
     ),
     (
         "a_closed_history_of_a_list",
-        "board_cases",
+        "stepped_runs",
         "src/cast.rt",
         "let closed = loader.close(procs);",
         "let closed = proc_core::Closed::of(Seq::new(alloc));",
         r"error\[[\w-]+\].*(private|no function)",
+    ),
+    (
+        "a_pass_that_is_joined_twice",
+        "turn_trial",
+        "src/main.rt",
+        "Ok(take_turns(rt, &lock, passes.as_mut_slice(), asked.turns))",
+        "let mut first = passes.remove(0); let last = passes.remove(0); lock.join(&mut first, last); lock.join(&mut first, last); "
+        "Ok(take_turns(rt, &lock, passes.as_mut_slice(), asked.turns))",
+        r"error\[[\w-]+\].*(moved|last)",
+    ),
+    (
+        "a_pass_that_two_calls_use",
+        "turn_trial",
+        "src/rounds.rt",
+        "thread::for_each_mut(rt, passes, threads, &each);",
+        "let again = &mut passes[0]; thread::for_each_mut(rt, passes, threads, &each); let _ = again.pid();",
+        r"error\[[\w-]+\].*(borrow|passes)",
+    ),
+    (
+        "a_pass_that_is_made_outside",
+        "turn_trial",
+        "src/main.rt",
+        "Ok(take_turns(rt, &lock, passes.as_mut_slice(), asked.turns))",
+        "let first = passes.remove(0); let _ = turn_lock::Pass { seat: first.seat, pid: 1, live: 1, tickets: 0, front: 0 }; "
+        "Ok(take_turns(rt, &lock, passes.as_mut_slice(), asked.turns))",
+        r"error\[[\w-]+\].*private",
     ),
 ]
 

@@ -3,7 +3,7 @@
 
 Usage: make_resources.py OUT.res TYPE ID FILE [TYPE ID FILE ..]
 
-Each resource has a type and an identifier, numbers from 0 to 65535 (decimal, or hexadecimal behind 0x), and the bytes of
+Each resource has a type and an identifier, numbers from 0 to 65535 (decimal, or hexadecimal after 0x), and the bytes of
 FILE; no two have both of them alike. As: make_resources.py d.res 1 2 icon.bin 10 1 help.txt
 """
 import struct

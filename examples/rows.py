@@ -1,5 +1,6 @@
 #!/usr/bin/env python3
-"""Writes the examples as rows of the crate command_rows, so that the gate runs them: commands.txt over what stored/ has.
+"""Writes the examples as rows of the crate command_rows, so that the gate runs them: commands.txt over what stored/ has, and
+the session of README, add.ses.
 
 Usage: rows.py > ../crates/command_rows/data/examples.rows
 """
@@ -51,6 +52,39 @@ def told():
         yield words.split(), comment, lines[1:-1], int(lines[-1].removeprefix("status "))
 
 
+# What add.ses shows up to its second process: the program reaches ADD, whose data is each process's own.
+FIRST = """\
+history
+1 P1 start MAIN
+  new 1 ADD 10000000 10010000
+  new 2 MAIN 00010000 00020000
+  call main 2 MAIN 00010000
+2 P1 fault 1 ADD 1 0
+3 P1 write 1 ADD 2 0 = 2A 00 00 00
+4 P1 exit
+  gone 2 MAIN
+  gone 1 ADD
+process 1
+  at 2 touch ADD 1 0 16 ok
+  at 2 touch ADD 2 0 8 ok
+  at 3 peek ADD 2 0 8 = 2A 00 00 00 00 00 00 10
+summary processes 1 entries 4 faults 1
+"""
+
+
+def session():
+    """The rows of the session that README has: up to its second process, and whole, of which one line is the same in every order."""
+    text = content("add.ses")
+    with open(os.path.join(HERE, "..", "README.md"), encoding="utf-8") as file:
+        assert "".join(f"    {line}\n" for line in text.decode().split("\n")[:-1]) in file.read(), "README has another session"
+    yield "# A session of two processes, whose order is not settled: alone, the first one has one transcript.\n"
+    yield "file add.ses\n" + as_text(text)
+    yield f"file first.ses\n  like add.ses\n  cut {text.index(b'process 2')}\n"
+    yield "row the first process of the session\n  words run first.ses\n" + as_text(FIRST.encode())
+    yield "# The sink has room for the first line; the status would be 8 where a process found no memory.\n"
+    yield "row the session of both\n  words run add.ses\n  room 8\n  status 4\n  |history\n"
+
+
 def main(words):
     if words:
         print(__doc__, file=sys.stdout if words in (["-h"], ["--help"]) else sys.stderr)
@@ -74,6 +108,7 @@ def main(words):
             row += "  saves %s\n" % saves + as_hex(content(saves)).replace("  ", "    ")
         out.append(row)
         last, before = saves, comment
+    out.extend(session())
     sys.stdout.write("\n".join(out))
     return 0
 
