@@ -1,5 +1,6 @@
 -- A command of the code, in the words of the definitions.
 use Rattle.std.specs.Prelude.{ℕ, ◌≤◌, List, map, option_map, string_bytes}
+use Rattle.lx_types.specs.declared.limits.TheConstants.{MAX_MODULES}
 use Rattle.obj_types.specs.Definition.{IsBase}
 use Rattle.answer_model.specs.Words as words
 use Rattle.command_line.specs.declared.words.Command.{Command}
@@ -26,7 +27,7 @@ HasBase (Map definition inputs) = Unit {0}
 
 -- As many modules as a library has can be made.
 abbrev pub IsCount : ℕ → Type 0
-IsCount count = (1 ≤ count) × (count ≤ words.MOST)
+IsCount count = (1 ≤ count) × (count ≤ MAX_MODULES)
 
 abbrev pub HasCount : Command → Type 0
 HasCount (Gen count prefix) = IsCount count

@@ -6,11 +6,8 @@ ghost use Rattle.command_line.specs.Commands.{HasBase, HasCount, IsCount, meant}
 ghost use Rattle.answer_model.specs.RunAnswer.{run_of};
 
 use hex::FromHex;
-use lx_types::BASE_UNIT;
+use lx_types::{BASE_UNIT, MAX_MODULES};
 use obj_types::{MAX_BASE, MIN_BASE};
-
-/// The most modules that `gen` makes.
-const MOST: u32 = 64;
 
 /// What the words ask for.
 #[derive(Clone, Copy)]
@@ -210,7 +207,7 @@ fn mapped<'a>(words: &'a [String]) -> Option<Command<'a>>
     })
 }
 
-// The number from 1 to 64 that a word is, in decimal digits without a sign, and without zeros in front.
+// The number of modules that a word is, from 1 to 64, in decimal digits without a sign, and without zeros in front.
 fn count_of(word: &str) -> Option<u32>
     ensures named { result ≡ count_of word.now }
     ensures few { IfSome result IsCount }
@@ -220,5 +217,9 @@ fn count_of(word: &str) -> Option<u32>
         return None;
     }
     let count = word.parse::<u32>().ok()?;
-    if count <= MOST { Some(count) } else { None }
+    if count <= MAX_MODULES {
+        Some(count)
+    } else {
+        None
+    }
 }

@@ -5,6 +5,8 @@ use Rattle.def_model.specs.Lexemes.{Lexeme, name_of_lexeme, text_of_lexeme, numb
 use Rattle.def_model.specs.declared.refusal.DefKind.{DefKind}
 use Rattle.def_model.specs.declared.refusal.DefKind.TheVariants as kinds
 use Rattle.lx_types.specs.Answers.{◌>>=◌}
+use Rattle.lx_types.specs.declared.limits.TheConstants.{BASE_UNIT}
+use Rattle.obj_types.specs.declared.limits.TheConstants.{MAX_BASE, MIN_BASE}
 
 -- A text has at most 255 bytes.
 abbrev pub text_of : List ℕ → Result (List ℕ) DefKind
@@ -33,4 +35,4 @@ with_number t go_on otherwise = option_map_or go_on (number_of_lexeme t) otherwi
 
 -- A base is a multiple of 64 KiB in the two arenas.
 abbrev pub base_of : Option ℕ → Result ℕ DefKind
-base_of value = within 0x10000 0x1FFF0000 value >>= (λ n. if n % 65536 == 0 then Ok n else Err kinds.Number)
+base_of value = within MIN_BASE MAX_BASE value >>= (λ n. if n % BASE_UNIT == 0 then Ok n else Err kinds.Number)

@@ -1,6 +1,7 @@
 -- The object module that gives one import: what an import library has for each export.
 -- "80h THEADR"; "88h COMENT", IMPDEF; "8Ah MODEND".
 use Rattle.std.specs.Prelude.{◌≢◌, ℕ, ◌<◌, ◌^◌, List, [], ◌∷◌, ◌++◌, bytes_eq, if◌then◌else◌}
+use Rattle.omf_frame.specs.declared.record_type.TheConstants.{THEADR, COMENT, MODEND}
 use Rattle.lx_bytes.specs.LittleEndian.{little_bytes}
 use Rattle.lx_types.specs.Names.{IsName, uppercase}
 use Rattle.lx_types.specs.declared.entry.EntryKey.{EntryKey}
@@ -51,7 +52,7 @@ import_comment imp =
 
 -- a header with the imported name, the comment, and the module's end
 abbrev pub import_bytes : Imp → List ℕ
-import_bytes imp = record_of 0x80 (name_bytes imp.name) ++ (record_of 0x88 (import_comment imp) ++ record_of 0x8A (0 ∷ []))
+import_bytes imp = record_of THEADR (name_bytes imp.name) ++ (record_of COMENT (import_comment imp) ++ record_of MODEND (0 ∷ []))
 
 -- ---- what it means
 

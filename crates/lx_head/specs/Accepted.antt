@@ -1,6 +1,6 @@
 -- Which header fields the format accepts, as doublewords.
 -- "32-bit Linear eXecutable Module Format": "LX Header".
-use Rattle.std.specs.Prelude.{◌≡◌, ℕ, ◌/◌, ◌%◌, ◌≤◌, List, IsTrue, slice_index}
+use Rattle.std.specs.Prelude.{◌≡◌, ℕ, ◌/◌, ◌%◌, ◌^◌, ◌≤◌, List, IsTrue, slice_index}
 use Rattle.lx_types.specs.declared.object.TheConstants.{PAGE_SIZE}
 use Rattle.lx_types.specs.declared.limits.TheConstants.{MAX_PAGES, MAX_OBJECTS}
 use Rattle.lx_model.specs.declared.header_fields.TheConstants.{SIGNATURE, FORMAT_LEVEL, CPU_TYPE, MODULE_FLAGS, MODULE_PAGES, PAGE_SIZE_FIELD, PAGE_OFFSET_SHIFT, OBJECT_COUNT, LX_SIGNATURE}
@@ -12,10 +12,10 @@ doubleword fields offset = slice_index fields (offset / 4)
 
 -- the two words of a doubleword
 abbrev pub low_word : ℕ → ℕ
-low_word n = n % 65536
+low_word n = n % 2 ^ 16
 
 abbrev pub high_word : ℕ → ℕ
-high_word n = n / 65536
+high_word n = n / 2 ^ 16
 
 pub record Accepted (fields : List ℕ) : Type 0 where
   -- `LX`, with little-endian bytes and words

@@ -11,7 +11,7 @@ use lx_model::header_fields::{
     DATA_PAGES, EIP, EIP_OBJECT, ENTRY_TABLE, FIXUP_PAGE_TABLE, FIXUP_RECORD_TABLE,
     IMPORT_MODULE_COUNT, IMPORT_MODULE_TABLE, IMPORT_PROCEDURE_TABLE, ITERATED_PAGES, MODULE_FLAGS,
     MODULE_PAGES, NONRESIDENT_NAME_LENGTH, NONRESIDENT_NAME_TABLE, OBJECT_COUNT, OBJECT_PAGE_TABLE,
-    OBJECT_TABLE, PAGE_OFFSET_SHIFT, RESIDENT_NAME_TABLE,
+    OBJECT_TABLE, PAGE_OFFSET_SHIFT, RESIDENT_NAME_TABLE, RESOURCE_COUNT,
 };
 
 /// A header: its place in the file, and its doublewords from 00h to A8h. The first one has `LX`,
@@ -92,6 +92,13 @@ impl Head {
         ensures { result ≡ doubleword self.now.fields ITERATED_PAGES }
     {
         self.field(ITERATED_PAGES)
+    }
+
+    /// How many entries the resource table has.
+    pub fn resource_count(&self) -> u32
+        ensures { result ≡ doubleword self.now.fields RESOURCE_COUNT }
+    {
+        self.field(RESOURCE_COUNT)
     }
 
     /// The resident name table, from the header.

@@ -9,4 +9,4 @@ mod tables;
 
 pub use head::{Head, header_bytes, write_head};
 pub use reading::read_head;
-pub use tables::{object_head, page_entry, write_objects, write_pages};
+pub use tables::{object_at, object_head, page_at, page_entry, write_objects, write_pages};

@@ -6,30 +6,41 @@ ghost use Rattle.lx_model.specs.Tables.{object_entry};
 ghost use Rattle.lx_model.specs.TableSpelling.{object_spelling, objects_spelling, page_fields, page_spelling, pages_spelling};
 
 use byteorder::{ByteOrder, LittleEndian};
+use lx_fields::{doubleword_at, word_at};
 use lx_model::{OBJECT_ENTRY_LEN, PAGE_ENTRY_LEN};
 use lx_types::{Bytes, NoMemory, ObjHead, PageHead, PageKind, Seq};
 use std::alloc::Global;
 
-/// The object that an entry of the object table describes. Its last doubleword is reserved.
-pub fn object_head(bytes: &[u8; OBJECT_ENTRY_LEN]) -> ObjHead
-    ensures { result ≡ object_entry bytes.now 0 }
+/// The object that the entry at a place of a file describes. Its last doubleword is reserved. What is past the
+/// file's end counts as zeros.
+pub fn object_at(file: &[u8], at: usize) -> ObjHead
+    requires { at < 2 ^ 62 }
+    ensures { result ≡ object_entry file.now at }
 {
     ObjHead {
-        size: LittleEndian::read_u32(&bytes[..4]),
-        base: LittleEndian::read_u32(&bytes[4..8]),
-        flags: LittleEndian::read_u32(&bytes[8..12]),
-        first: LittleEndian::read_u32(&bytes[12..16]),
-        count: LittleEndian::read_u32(&bytes[16..20]),
+        size: doubleword_at(file, at),
+        base: doubleword_at(file, at + 4),
+        flags: doubleword_at(file, at + 8),
+        first: doubleword_at(file, at + 12),
+        count: doubleword_at(file, at + 16),
     }
 }
 
-/// The page that an entry of the object page table describes: `at` is the table's own offset, which
-/// is not shifted. `None` comes exactly where the entry's flags are over 3, so that they name no
-/// kind of page.
-pub fn page_entry(bytes: &[u8; PAGE_ENTRY_LEN]) -> Option<PageHead>
-    ensures { result ≡ page_fields bytes.now 0 }
+/// The object that an entry of the object table describes.
+pub fn object_head(bytes: &[u8; OBJECT_ENTRY_LEN]) -> ObjHead
+    ensures { result ≡ object_entry bytes.now 0 }
 {
-    let kind = match LittleEndian::read_u16(&bytes[6..8]) {
+    object_at(bytes, 0)
+}
+
+/// The page that the entry at a place of a file describes: its own `at` is the offset in the table, which is not
+/// shifted. `None` comes exactly where the entry's flags are over 3, so that they name no kind of page. What is
+/// past the file's end counts as zeros.
+pub fn page_at(file: &[u8], at: usize) -> Option<PageHead>
+    requires { at < 2 ^ 62 }
+    ensures { result ≡ page_fields file.now at }
+{
+    let kind = match word_at(file, at + 6) {
         0 => PageKind::Plain,
         1 => PageKind::Iterated,
         2 => PageKind::Invalid,
@@ -38,9 +49,16 @@ pub fn page_entry(bytes: &[u8; PAGE_ENTRY_LEN]) -> Option<PageHead>
     };
     Some(PageHead {
         kind,
-        at: LittleEndian::read_u32(&bytes[..4]),
-        len: u32::from(LittleEndian::read_u16(&bytes[4..6])),
+        at: doubleword_at(file, at),
+        len: u32::from(word_at(file, at + 4)),
     })
+}
+
+/// The page that an entry of the object page table describes, as `page_at` does.
+pub fn page_entry(bytes: &[u8; PAGE_ENTRY_LEN]) -> Option<PageHead>
+    ensures { result ≡ page_fields bytes.now 0 }
+{
+    page_at(bytes, 0)
 }
 
 // An entry of the object table; its last doubleword is reserved.

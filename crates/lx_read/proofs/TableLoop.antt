@@ -1,50 +1,78 @@
 -- A table that is read entry by entry: the entries so far, and what is left.
-use Rattle.std.proofs.Common.{◌≡◌, ℕ, ◌+◌, ◌-◌, ◌<◌, ◌≤◌, List, [], ◌∷◌, ◌++◌, map, Option, Some, None, Result, Ok, Err, refl, sym, subst, ap, ◌∙◌, append_assoc, append-nil, arith}
+use Rattle.std.proofs.Common.{◌≡◌, ℕ, ◌+◌, ◌*◌, ◌-◌, ◌<◌, ◌≤◌, List, [], ◌∷◌, ◌++◌, map, Option, Some, None, Result, Ok, Err, refl, sym, subst, ap, ◌∙◌, append_assoc, append-nil, arith}
 use Rattle.std.specs.Prelude.{IsErrAnd}
 use Rattle.std.specs.List.{range_with_len}
 use Rattle.lx_types.specs.declared.fail.Fail.{Fail}
 use Rattle.lx_types.specs.declared.fail.Fail.TheVariants.{Said}
 use Rattle.lx_types.specs.declared.refusal.LxRefusal.{LxRefusal}
-use Rattle.lx_model.specs.Reading.{first, first_of}
+use Rattle.lx_model.specs.Reading.{first, first_of, short_at}
 use Rattle.lx_model.specs.Header.{page_count, object_count}
 use Rattle.lx_model.specs.Tables.{object_entry, object_place, object_fault, objects_of, objects_fault, page_entry, page_place, page_or_zero, page_fault, page_heads, pages_fault}
 use Rattle.lx_types.specs.Answers.{as_is, if_said, as_said}
-use Rattle.lx_model.specs.Judging.{Judges}
+use Rattle.lx_model.specs.Judging.{Judged, Judges}
 use Rattle.lx_entry.proofs.EntryLoop.{left_more}
+
+-- ---- faults
+
+-- what is wrong with all entries is wrong with those that are left
+abbrev pub IsLeft : (ℕ → Option LxRefusal) → ℕ → ℕ → Type 0
+IsLeft f n k = first (map f (range_with_len k (n - k))) ≡ first_of n f
+
+pub left_start : (f : ℕ → Option LxRefusal) (n : ℕ) → IsLeft f n 0
+left_start f n =
+    let all : n - 0 ≡ n = omega arith in
+    ap (λ (m : ℕ). first (map f (range_with_len 0 m))) all
+
+pub left_good : (f : ℕ → Option LxRefusal) (n k : ℕ) → k < n → f k ≡ None → IsLeft f n k → IsLeft f n (k + 1)
+left_good f n k lt none kept =
+    let m = n - (k + 1) in
+    let here : first (map f (range_with_len k (n - k))) ≡ first (None ∷ map f (range_with_len (k + 1) m)) =
+    ap (λ (i : ℕ). first (map f (range_with_len k i))) (left_more n k lt) ∙ ap (λ (x : Option LxRefusal). first (x ∷ map f (range_with_len (k + 1) m))) none in
+    sym here ∙ kept
+
+pub left_wrong : (f : ℕ → Option LxRefusal) (n k : ℕ) (e : LxRefusal) → k < n → f k ≡ Some e → IsLeft f n k → first_of n f ≡ Some e
+left_wrong f n k e lt some kept =
+    let m = n - (k + 1) in
+    sym kept ∙ ap (λ (i : ℕ). first (map f (range_with_len k i))) (left_more n k lt) ∙ ap (λ (x : Option LxRefusal). first (x ∷ map f (range_with_len (k + 1) m))) some
+
+pub left_none : (f : ℕ → Option LxRefusal) (n k : ℕ) → n ≤ k → IsLeft f n k → first_of n f ≡ None
+left_none f n k ended kept =
+    let none : n - k ≡ 0 = omega arith in
+    sym kept ∙ ap (λ (i : ℕ). first (map f (range_with_len k i))) none
+
+-- ---- faults and values
 
 -- the entries so far with those that are left are all of them, and what is wrong is wrong with those that are left
 pub record Kept {X : Type 0} (f : ℕ → Option LxRefusal) (g : ℕ → X) (n k : ℕ) (before : List X) : Type 0 where
   pub items : before ++ map g (range_with_len k (n - k)) ≡ map g (range_with_len 0 n)
-  pub faults : first (map f (range_with_len k (n - k))) ≡ first_of n f
+  pub faults : IsLeft f n k
 
 pub kept_start : {X : Type 0} (f : ℕ → Option LxRefusal) (g : ℕ → X) (n : ℕ) → Kept f g n 0 []
 kept_start f g n =
     let all : n - 0 ≡ n = omega arith in
-    record { items = ap (λ (m : ℕ). map g (range_with_len 0 m)) all; faults = ap (λ (m : ℕ). first (map f (range_with_len 0 m))) all }
+    record { items = ap (λ (m : ℕ). map g (range_with_len 0 m)) all; faults = left_start f n }
 
 pub kept_more : {X : Type 0} (f : ℕ → Option LxRefusal) (g : ℕ → X) (n k : ℕ) (before : List X) → k < n → f k ≡ None → Kept f g n k before → Kept f g n (k + 1) (before ++ g k ∷ [])
 kept_more {X} f g n k before lt none kept =
-    let m = n - (k + 1) in
-    let left = left_more n k lt in
-    let items : map g (range_with_len k (n - k)) ≡ g k ∷ map g (range_with_len (k + 1) m) = ap (λ (i : ℕ). map g (range_with_len k i)) left in
-    let faults : first (map f (range_with_len k (n - k))) ≡ first (None ∷ map f (range_with_len (k + 1) m)) =
-    ap (λ (i : ℕ). first (map f (range_with_len k i))) left ∙ ap (λ (x : Option LxRefusal). first (x ∷ map f (range_with_len (k + 1) m))) none in
+    let items : map g (range_with_len k (n - k)) ≡ g k ∷ map g (range_with_len (k + 1) (n - (k + 1))) = ap (λ (i : ℕ). map g (range_with_len k i)) (left_more n k lt) in
     record {
-      items = append_assoc before (g k ∷ []) (map g (range_with_len (k + 1) m)) ∙ ap (λ (xs : List X). before ++ xs) (sym items) ∙ kept.items;
-      faults = sym faults ∙ kept.faults;
+      items = append_assoc before (g k ∷ []) (map g (range_with_len (k + 1) (n - (k + 1)))) ∙ ap (λ (xs : List X). before ++ xs) (sym items) ∙ kept.items;
+      faults = left_good f n k lt none kept.faults;
     }
 
 pub kept_wrong : {X : Type 0} (f : ℕ → Option LxRefusal) (g : ℕ → X) (n k : ℕ) (before : List X) (e : LxRefusal) → k < n → f k ≡ Some e → Kept f g n k before → first_of n f ≡ Some e
-kept_wrong f g n k before e lt some kept =
-    let m = n - (k + 1) in
-    sym kept.faults ∙ ap (λ (i : ℕ). first (map f (range_with_len k i))) (left_more n k lt) ∙ ap (λ (x : Option LxRefusal). first (x ∷ map f (range_with_len (k + 1) m))) some
+kept_wrong f g n k before e lt some kept = left_wrong f n k e lt some kept.faults
 
 pub kept_end : {X : Type 0} (f : ℕ → Option LxRefusal) (g : ℕ → X) (n k : ℕ) (before : List X) → n ≤ k → Kept f g n k before → (first_of n f ≡ None) × (before ≡ map g (range_with_len 0 n))
 kept_end {X} f g n k before ended kept =
-    let none : n - k ≡ 0 = omega arith in (
-      sym kept.faults ∙ ap (λ (i : ℕ). first (map f (range_with_len k i))) none,
-      sym (append-nil before) ∙ ap (λ (i : ℕ). before ++ map g (range_with_len k i)) (sym none) ∙ kept.items,
-    )
+    let none : n - k ≡ 0 = omega arith in
+    (left_none f n k ended kept.faults, sym (append-nil before) ∙ ap (λ (i : ℕ). before ++ map g (range_with_len k i)) (sym none) ∙ kept.items)
+
+-- so many doublewords at a place, none of which is cut off so far, or one is
+pub doubleword_wrong : (answer : Result (Unit {0}) LxRefusal) (file : List ℕ) (at n k : ℕ) (e : LxRefusal) → k < n → IsErrAnd answer (λ x. x ≡ e) → short_at 4 file (at + 4 * k) ≡ Some e
+    → IsLeft (λ i. short_at 4 file (at + 4 * i)) n k → Judged as_is answer (first_of n (λ i. short_at 4 file (at + 4 * i)))
+doubleword_wrong (Ok x) file at n k e lt is wrong kept = absurd is
+doubleword_wrong (Err x) file at n k e lt is wrong kept = left_wrong (λ i. short_at 4 file (at + 4 * i)) n k e lt wrong kept ∙ ap Some (sym is)
 
 -- ---- what a reader of a table answers
 

@@ -6,11 +6,18 @@ ghost use Rattle.lx_read.specs.Headers.{IsHeaderOf};
 ghost use Rattle.lx_types.specs.Answers.{as_is, if_said};
 ghost use Rattle.lx_model.specs.Judging.{Judges};
 
-use crate::fields::{doubleword, fault, said};
+use crate::fields::{fault, said, whole_doublewords};
 use crate::header::Header;
+use lx_head::object_at;
 use lx_model::OBJECT_ENTRY_LEN;
 use lx_types::{Fail, LxKind, LxRefusal, ObjHead, Seq};
 use std::alloc::Global;
+
+/// How many doublewords an entry has.
+const DOUBLEWORDS: u64 = 6;
+
+/// How many bytes of an entry stand up to the end of its page count.
+const COUNTED_LEN: u64 = 20;
 
 // Whether an object has pages that are not in a page table of so many entries.
 fn lacks_pages(pages: u32, object: &ObjHead) -> bool
@@ -27,17 +34,12 @@ fn read_object(file: &[u8], header: &Header, k: u32) -> Result<ObjHead, LxRefusa
     ensures { Judges as_is result (object_entry file.now (object_place file.now k)) (object_fault file.now k) }
 {
     let at = header.object_table + OBJECT_ENTRY_LEN as u64 * u64::from(k);
-    let object = ObjHead {
-        size: doubleword(file, at)?,
-        base: doubleword(file, at + 4)?,
-        flags: doubleword(file, at + 8)?,
-        first: doubleword(file, at + 12)?,
-        count: doubleword(file, at + 16)?,
-    };
-    if lacks_pages(header.pages, &object) {
+    let object = object_at(file, at as usize);
+    let has_count = at + COUNTED_LEN <= file.len() as u64;
+    if has_count && lacks_pages(header.pages, &object) {
         return Err(fault(LxKind::Object, at));
     }
-    let _reserved = doubleword(file, at + 20)?;
+    whole_doublewords(file, at, DOUBLEWORDS)?;
     Ok(object)
 }
 

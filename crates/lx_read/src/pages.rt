@@ -2,16 +2,17 @@
 
 ghost use Rattle.std.specs.Prelude.{◌≡◌, ◌+◌, ◌*◌, ◌<◌, ◌≤◌, ◌^◌, length};
 ghost use Rattle.lx_types.specs.declared.object.PageKind.TheVariants.{Plain, Iterated};
-ghost use Rattle.lx_model.specs.Reading.{fault};
+ghost use Rattle.lx_model.specs.Reading.{fault, short_at, ◌then◌};
 ghost use Rattle.lx_iter.specs.Expansion.{refusal};
 ghost use Rattle.lx_model.specs.Tables.{page_entry, page_place, page_or_zero, kind_fault, page_fault, page_heads, pages_fault};
 ghost use Rattle.lx_read.specs.Headers.{IsHeaderOf};
 ghost use Rattle.lx_types.specs.Answers.{as_is, if_said};
-ghost use Rattle.lx_model.specs.Judging.{Judges};
+ghost use Rattle.lx_model.specs.Judging.{Judged, Judges};
 ghost use Rattle.lx_read.specs.Pages.{data_fault, page_with};
 
-use crate::fields::{doubleword, fault, said, word};
+use crate::fields::{fault, said, whole};
 use crate::header::Header;
+use lx_head::page_at;
 use lx_iter::{IterRefusal, expand};
 use lx_model::PAGE_ENTRY_LEN;
 use lx_types::{Fail, LxKind, LxRefusal, PAGE_LEN, PAGE_SIZE, PageBytes, PageHead, PageKind, Seq};
@@ -95,6 +96,16 @@ fn iterated_page(
     }
 }
 
+// The fields of an entry, an offset, a size and flags, have to be in the file.
+fn whole_entry(file: &[u8], at: u64) -> Result<(), LxRefusal>
+    requires { at < 2 ^ 61 }
+    ensures { Judged as_is result (short_at 4 file.now at then short_at 2 file.now (at + 4) then short_at 2 file.now (at + 6)) }
+{
+    whole(file, at, 4)?;
+    whole(file, at + 4, 2)?;
+    whole(file, at + 6, 2)
+}
+
 // Entry k of the table, from 0, with its data.
 fn read_page(
     file: &[u8],
@@ -106,25 +117,23 @@ fn read_page(
     ensures { Judges as_is result (page_or_zero (page_entry file.now (page_place file.now k))) (page_fault file.now k) }
 {
     let at = header.page_table + PAGE_ENTRY_LEN as u64 * u64::from(k);
+    whole_entry(file, at)?;
+    let Some(page) = page_at(file, at as usize) else {
+        return Err(fault(LxKind::PageKind, at));
+    };
     let entry = Entry {
         at,
-        offset: doubleword(file, at)?,
-        len: word(file, at + 4)?,
+        offset: page.at,
+        len: page.len,
     };
-    match word(file, at + 6)? {
-        0 => plain_page(file, header, entry),
-        1 => iterated_page(file, header, entry, scratch),
-        2 => Ok(PageHead {
-            kind: PageKind::Invalid,
+    match page.kind {
+        PageKind::Plain => plain_page(file, header, entry),
+        PageKind::Iterated => iterated_page(file, header, entry, scratch),
+        PageKind::Invalid | PageKind::Zero => Ok(PageHead {
+            kind: page.kind,
             at: 0,
             len: 0,
         }),
-        3 => Ok(PageHead {
-            kind: PageKind::Zero,
-            at: 0,
-            len: 0,
-        }),
-        _ => Err(fault(LxKind::PageKind, at)),
     }
 }
 

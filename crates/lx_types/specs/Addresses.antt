@@ -3,6 +3,7 @@
 use Rattle.std.specs.Prelude.{ℕ, ◌+◌, ◌*◌, ◌/◌, ◌%◌, ◌-◌, ◌^◌, ◌==◌, ◌||◌, max, not, Bool, if◌then◌else◌, bit_and}
 use Rattle.lx_types.specs.declared.object.TheConstants.{OBJECT_BIG, OBJECT_EXECUTABLE}
 use Rattle.lx_types.specs.declared.limits.TheConstants.{BASE_UNIT}
+use Rattle.lx_types.specs.declared.selectors.TheConstants.{FLAT_CODE, FLAT_DATA}
 
 -- An address is a number below 2 ^ 32: this one stands an offset above a base.
 abbrev pub address : ℕ → ℕ → ℕ
@@ -23,14 +24,14 @@ is_big flags = not (bit_and flags OBJECT_BIG == 0)
 abbrev pub is_executable : ℕ → Bool
 is_executable flags = not (bit_and flags OBJECT_EXECUTABLE == 0)
 
--- The selector of the tile, of 65,536 bytes, in which an address lies: entry A / 65,536 of the local
--- descriptor table, with its low three bits set.
+-- The selector of the tile in which an address lies: entry A / 65,536 of the local descriptor table, with its low three bits
+-- set. A tile has as many bytes as bases are multiples of.
 abbrev pub tiled_selector : ℕ → ℕ
 tiled_selector a = (a / BASE_UNIT * 8 + 7) % BASE_UNIT
 
 -- the flat selectors of code and of data
 abbrev pub flat_selector : ℕ → ℕ
-flat_selector flags = if is_executable flags then 0x5B else 0x53
+flat_selector flags = if is_executable flags then FLAT_CODE else FLAT_DATA
 
 -- The selector for an address in an object with these flags. It is tiled where that is asked for, and
 -- where the object is 16-bit.

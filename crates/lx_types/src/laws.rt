@@ -1,7 +1,8 @@
 //! The numbers of the format, written out. The definitions name them as the code does, so this law alone
 //! refuses a wrong one.
 //!
-//! "32-bit Linear eXecutable Module Format": "LX Header" (module flags, page size), "Object Table" (flags).
+//! "32-bit Linear eXecutable Module Format": "LX Header" (module flags, page size), "Object Table" (flags),
+//! "Fixup Record Table" (16:16 pointers).
 
 ghost use Rattle.std.specs.Prelude.{◌≡◌};
 
@@ -14,8 +15,9 @@ use crate::object::{
     OBJECT_READABLE, OBJECT_SHARED, OBJECT_WRITABLE, PAGE_SIZE,
 };
 use crate::parts::{MODULE_INIT_EACH, MODULE_KIND, MODULE_LIBRARY, MODULE_TERM_EACH};
+use crate::selectors::{FLAT_CODE, FLAT_DATA};
 
-/// A law: each flag of objects and of modules, and the size of a page.
+/// A law: each flag of objects and of modules, the size of a page, and the flat selectors.
 pub fn format_numbers()
     ensures readable { OBJECT_READABLE ≡ 0x0001 }
     ensures writable { OBJECT_WRITABLE ≡ 0x0002 }
@@ -32,6 +34,9 @@ pub fn format_numbers()
     ensures library { MODULE_LIBRARY ≡ 0x0000_8000 }
     ensures kind { MODULE_KIND ≡ 0x0003_8000 }
     ensures term_each { MODULE_TERM_EACH ≡ 0x4000_0000 }
+
+    ensures flat_code { FLAT_CODE ≡ 0x5B }
+    ensures flat_data { FLAT_DATA ≡ 0x53 }
 {}
 
 /// A law: each number that bounds a file, a module, a session or where objects stand.

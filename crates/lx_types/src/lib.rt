@@ -42,5 +42,5 @@ pub use object::{
 pub use parts::{MODULE_INIT_EACH, MODULE_KIND, MODULE_LIBRARY, MODULE_TERM_EACH, Parts};
 pub use refusal::{LxKind, LxRefusal};
 pub use resource::ResSpot;
-pub use selectors::{selected_offset, selector, tiled_selector};
+pub use selectors::{FLAT_CODE, FLAT_DATA, selected_offset, selector, tiled_selector};
 pub use seq::{Bytes, Names, Numbers, Seq};

@@ -6,23 +6,20 @@
 ghost use Rattle.std.specs.Prelude.{◌≡◌};
 ghost use Rattle.lx_types.specs.Addresses.{tiled_selector, selector, selected_offset};
 
-use crate::{OBJECT_BIG, OBJECT_EXECUTABLE};
-
-/// How many bytes the tile of a selector has.
-const TILE: u32 = 0x1_0000;
+use crate::{BASE_UNIT, OBJECT_BIG, OBJECT_EXECUTABLE};
 
 /// The flat selector of code.
-const FLAT_CODE: u16 = 0x5B;
+pub const FLAT_CODE: u16 = 0x5B;
 
 /// The flat selector of data.
-const FLAT_DATA: u16 = 0x53;
+pub const FLAT_DATA: u16 = 0x53;
 
-/// The selector of the tile, of 65,536 bytes, in which an address lies: its entry of the local
-/// descriptor table, with the low three bits set.
+/// The selector of the tile in which an address lies: its entry of the local descriptor table, with the
+/// low three bits set. A tile has as many bytes as bases are multiples of.
 pub fn tiled_selector(address: u32) -> u16
     ensures { result ≡ tiled_selector address }
 {
-    ((address / TILE * 8 + 7) % TILE) as u16
+    ((address / BASE_UNIT * 8 + 7) % BASE_UNIT) as u16
 }
 
 /// The selector for an address in an object with these flags. It is tiled where that is asked for,
@@ -45,7 +42,7 @@ pub fn selected_offset(tiled: bool, flags: u32, address: u32) -> u32
     ensures { result ≡ selected_offset tiled flags address }
 {
     if tiled || flags & OBJECT_BIG == 0 {
-        address % TILE
+        address % BASE_UNIT
     } else {
         address
     }

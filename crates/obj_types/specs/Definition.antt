@@ -1,7 +1,8 @@
 -- When a module definition file's value is whole.
 use Rattle.std.specs.Prelude.{◌≡◌, ◌≢◌, ℕ, ◌%◌, ◌≤◌, [], IfSome}
 use Rattle.std.specs.List.{All}
-use Rattle.obj_types.specs.declared.limits.TheConstants.{MAX_DATA}
+use Rattle.obj_types.specs.declared.limits.TheConstants.{MAX_BASE, MAX_DATA, MIN_BASE}
+use Rattle.lx_types.specs.declared.limits.TheConstants.{BASE_UNIT}
 use Rattle.lx_types.specs.declared.entry.EntryKey.{EntryKey}
 use Rattle.lx_types.specs.declared.entry.EntryKey.TheVariants.{Ordinal, Named}
 use Rattle.obj_types.specs.declared.definition.DefFile.{DefFile}
@@ -15,7 +16,7 @@ IsOrdinal n = (1 ≤ n) × (n ≤ 65535)
 
 -- A base that BASE may give: a multiple of 64 KiB in the two arenas.
 abbrev pub IsBase : ℕ → Type 0
-IsBase b = (b % 65536 ≡ 0) × (0x10000 ≤ b) × (b ≤ 0x1FFF0000)
+IsBase b = (b % BASE_UNIT ≡ 0) × (MIN_BASE ≤ b) × (b ≤ MAX_BASE)
 
 -- An entry that IMPORTS may name.
 abbrev pub IsEntry : EntryKey → Type 0

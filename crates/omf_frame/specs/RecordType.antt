@@ -2,26 +2,27 @@
 -- pair of types the second has 32-bit fields. A library's F0h and F1h are not among them.
 use Rattle.std.specs.Prelude.{ℕ, Bool, ◌==◌, List, [], ◌∷◌, IsTrue}
 use Rattle.std.specs.List.{list_any}
+use Rattle.omf_frame.specs.declared.record_type.TheConstants.{THEADR, LHEADR, COMENT, MODEND, MODEND_32, EXTDEF, PUBDEF, PUBDEF_32, LINNUM, LINNUM_32, LNAMES, SEGDEF, SEGDEF_32, GRPDEF, FIXUPP, FIXUPP_32, LEDATA, LEDATA_32, LIDATA, LIDATA_32, COMDEF, LEXTDEF, LEXTDEF_32, LPUBDEF, LPUBDEF_32, COMDAT, COMDAT_32}
 
 abbrev pub record_types : List ℕ
 record_types =
-    0x80 ∷  -- THEADR
-    0x82 ∷  -- LHEADR
-    0x88 ∷  -- COMENT
-    0x8A ∷ 0x8B ∷  -- MODEND
-    0x8C ∷  -- EXTDEF
-    0x90 ∷ 0x91 ∷  -- PUBDEF
-    0x94 ∷ 0x95 ∷  -- LINNUM
-    0x96 ∷  -- LNAMES
-    0x98 ∷ 0x99 ∷  -- SEGDEF
-    0x9A ∷  -- GRPDEF
-    0x9C ∷ 0x9D ∷  -- FIXUPP
-    0xA0 ∷ 0xA1 ∷  -- LEDATA
-    0xA2 ∷ 0xA3 ∷  -- LIDATA
-    0xB0 ∷  -- COMDEF
-    0xB4 ∷ 0xB5 ∷  -- LEXTDEF
-    0xB6 ∷ 0xB7 ∷  -- LPUBDEF
-    0xC2 ∷ 0xC3 ∷  -- COMDAT
+    THEADR ∷
+    LHEADR ∷
+    COMENT ∷
+    MODEND ∷ MODEND_32 ∷
+    EXTDEF ∷
+    PUBDEF ∷ PUBDEF_32 ∷
+    LINNUM ∷ LINNUM_32 ∷
+    LNAMES ∷
+    SEGDEF ∷ SEGDEF_32 ∷
+    GRPDEF ∷
+    FIXUPP ∷ FIXUPP_32 ∷
+    LEDATA ∷ LEDATA_32 ∷
+    LIDATA ∷ LIDATA_32 ∷
+    COMDEF ∷
+    LEXTDEF ∷ LEXTDEF_32 ∷
+    LPUBDEF ∷ LPUBDEF_32 ∷
+    COMDAT ∷ COMDAT_32 ∷
     []
 
 abbrev pub is_record_type : ℕ → Bool

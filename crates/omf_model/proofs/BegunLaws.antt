@@ -101,7 +101,8 @@ all-made : {A B : Type 0} (P : A → Type 0) (Q : B → Type 0) (f : A → B) �
 all-made P Q f h [] a = tt
 all-made P Q f h (x ∷ xs) a = (h x a.0, all-made P Q f h xs a.1)
 
-on-last : (last : LastData) (p : ObjParts) (high low : ℕ) (d : FixData) → has_data last (offset_of high low) (location_len (location_of high)) ≡ true → AllByRecursion (IsOnLast last) (fixes_by last p.threads (fixup high low d))
+on-last : (last : LastData) (p : ObjParts) (high low : ℕ) (d : FixData) →
+    has_data last (offset_of high low) (location_len (location_of high)) ≡ true → AllByRecursion (IsOnLast last) (fixes_by last p.threads (fixup high low d))
 unfolding fixes_by
 on-last last p high low d on =
     all-made (Contains (copies_of last (offset_of high low))) (IsOnLast last) _
@@ -148,7 +149,8 @@ splits-fields (f ∷ fs) p s g = splits-fields fs (add_field p f) (splits-field 
 fresh-data : (last : LastData) (fixes : List FixAt) → AllByRecursion (Untouched last) fixes → SplitsAtLast last fixes
 fresh-data last fixes out = record { earlier = fixes; own = []; joined = sym (append-nil fixes); outside = out; inside = tt }
 
-ledata-splits : (p : ObjParts) (segment offset : ℕ) (content : List ℕ) → GoodData p segment offset (length content) → SplitsAtLast (add p (ledata segment offset content)).last (add p (ledata segment offset content)).module.fixes
+ledata-splits : (p : ObjParts) (segment offset : ℕ) (content : List ℕ) →
+    GoodData p segment offset (length content) → SplitsAtLast (add p (ledata segment offset content)).last (add p (ledata segment offset content)).module.fixes
 unfolding add
 ledata-splits p segment offset content g =
     elim (bool_cases (is_debug_seg p.module.segs segment)) [
@@ -156,14 +158,16 @@ ledata-splits p segment offset content g =
       | inr h ↦ rw h (fresh-data (datas.Straight segment offset (length content)) p.module.fixes (none-any (touches segment offset (length content)) p.module.fixes (g.place h).on_no_fix))
     ]
 
-lidata-splits : (p : ObjParts) (wide : Bool) (segment offset : ℕ) (blocks : Blocks) → GoodAfter p (lidata wide segment offset blocks) → SplitsAtLast (add p (lidata wide segment offset blocks)).last (add p (lidata wide segment offset blocks)).module.fixes
+lidata-splits : (p : ObjParts) (wide : Bool) (segment offset : ℕ) (blocks : Blocks) → GoodAfter p (lidata wide segment offset blocks) →
+    SplitsAtLast (add p (lidata wide segment offset blocks)).last (add p (lidata wide segment offset blocks)).module.fixes
 unfolding add
 lidata-splits p wide segment offset blocks g =
     elim (bool_cases (is_debug_seg p.module.segs segment)) [
       | inl h ↦ rw h (fresh-data datas.Dropped p.module.fixes (no-place p.module.fixes))
       | inr h ↦
           let same = blocks_in-bytes wide blocks g.0 in
-          let out : AllByRecursion (λ (f : FixAt). touches segment offset (expanded_len blocks) f ≡ false) p.module.fixes = none-any (touches segment offset (expanded_len blocks)) p.module.fixes (g.1.place h).on_no_fix in
+          let out : AllByRecursion (λ (f : FixAt). touches segment offset (expanded_len blocks) f ≡ false) p.module.fixes =
+          none-any (touches segment offset (expanded_len blocks)) p.module.fixes (g.1.place h).on_no_fix in
           rw h (fresh-data (datas.Blocks segment offset wide (block_bytes wide blocks)) p.module.fixes
           (subst (λ (b : Blocks). AllByRecursion (λ (f : FixAt). touches segment offset (expanded_len b) f ≡ false) p.module.fixes) (sym same) out))
     ]
@@ -203,7 +207,8 @@ begun-whole p b =
       whole = sane-whole p s;
       pubs = all-at (PubIn p) p.module.pubs s.pubs;
       pieces = all-at (PieceIn p) p.module.pieces s.pieces;
-      fixes = all-at (λ (f : FixAt). LiesAt p f.seg f.offset (location_len f.loc)) p.module.fixes (all_weaker (WholeFixAt p) (λ (f : FixAt). LiesAt p f.seg f.offset (location_len f.loc)) (λ f w. w.place) p.module.fixes s.fixes);
+      fixes = all-at (λ (f : FixAt). LiesAt p f.seg f.offset (location_len f.loc)) p.module.fixes
+          (all_weaker (WholeFixAt p) (λ (f : FixAt). LiesAt p f.seg f.offset (location_len f.loc)) (λ f w. w.place) p.module.fixes s.fixes);
       data_limit = s.data_limit;
       last = s.last;
       frames_set = all-at (FrameSet p.module) p.threads.frame s.frames;

@@ -19,7 +19,8 @@ use Rattle.omf_fields.proofs.ListLaws.{OneByte, list_sound, list_complete}
 
 -- ---- a list of so many items
 
-pub items_sound : {A : Type 0} (read : Cursor → Reading A) (form : A → Form) (P : A → Type 0) → Sound read form P → (n : ℕ) (c : Cursor) (xs : List A) (d : Cursor) → AreBytes c.left → items_at read n c ≡ Ok (xs, d) → Spans (each form xs) c d × AllByRecursion P xs × (length xs ≡ n)
+pub items_sound : {A : Type 0} (read : Cursor → Reading A) (form : A → Form) (P : A → Type 0) → Sound read form P → (n : ℕ) (c : Cursor) (xs : List A) (d : Cursor) →
+    AreBytes c.left → items_at read n c ≡ Ok (xs, d) → Spans (each form xs) c d × AllByRecursion P xs × (length xs ≡ n)
 unfolding items_at
 items_sound {A} read form P sound zero c xs d bs e =
     subst (λ (q : List A × Cursor). Spans (each form q.0) c q.1 × AllByRecursion P q.0 × (length q.0 ≡ 0)) (ok_is ([], c) (xs, d) e) (spans_nothing c, tt, refl)
@@ -30,7 +31,8 @@ items_sound {A} read form P sound (suc n) c xs d bs e =
     subst (λ (q : List A × Cursor). Spans (each form q.0) c q.1 × AllByRecursion P q.0 × (length q.0 ≡ suc n)) (ok_is (x ∷ a.0.0, a.0.1) (xs, d) a.2)
     (then_spans (form x) (each form a.0.0) c c1 a.0.1 t1 rest.0, (g1, rest.1), ap suc rest.2)
 
-pub items_complete : {A : Type 0} (read : Cursor → Reading A) (form : A → Form) (P : A → Type 0) → Complete read form P → (xs : List A) (c d : Cursor) → Spans (each form xs) c d → AllByRecursion P xs → items_at read (length xs) c ≡ Ok (xs, d)
+pub items_complete : {A : Type 0} (read : Cursor → Reading A) (form : A → Form) (P : A → Type 0) →
+    Complete read form P → (xs : List A) (c d : Cursor) → Spans (each form xs) c d → AllByRecursion P xs → items_at read (length xs) c ≡ Ok (xs, d)
 unfolding items_at
 items_complete {A} read form P complete [] c d t ok = ap (λ (k : Cursor). given {A = List A} [] k) (nothing_spans c d t)
 items_complete {A} read form P complete (x ∷ xs) c d t ok =
@@ -134,7 +136,8 @@ depth-joined wide (suc left) (outer times inner ∷ bs) ok = omega (arith, ok.0.
 
 -- ---- what is read
 
-rest_sound : (wide : Bool) (left : ℕ) (read : Cursor → Reading Block) → Sound read (block_form wide) (GoodBlock wide left) → (times count : ℕ) (c : Cursor) (b : Block) (d : Cursor) → AreBytes c.left → block_rest read times count c ≡ Ok (b, d)
+rest_sound : (wide : Bool) (left : ℕ) (read : Cursor → Reading Block) → Sound read (block_form wide) (GoodBlock wide left) →
+    (times count : ℕ) (c : Cursor) (b : Block) (d : Cursor) → AreBytes c.left → block_rest read times count c ≡ Ok (b, d)
     → Spans (exactly (rest_bytes wide b)) c d × GoodBlock wide (suc left) b × (times ≡ times_of b) × (count ≡ blocks_of b)
 rest_sound wide left read sound times zero c b d bs e =
     step _ _ _ byte_sound c _ (b, d) bs e λ len c1 t1 f1 b1 e1.
@@ -149,7 +152,8 @@ rest_sound wide left read sound times (suc more) c b d bs e =
     let s = items_sound read (block_form wide) (GoodBlock wide left) sound (suc more) c a.0.0 a.0.1 bs a.1 in
     let count : suc more ≡ count_of (joined a.0.0) = sym s.2 ∙ sym (count-joined a.0.0) in
     let fits = fit-joined wide left a.0.0 (each_fits wide left a.0.0 s.0.front s.0.so s.1) in
-    subst (λ (q : Block × Cursor). Spans (exactly (rest_bytes wide q.0)) c q.1 × GoodBlock wide (suc left) q.0 × (times ≡ times_of q.0) × (suc more ≡ blocks_of q.0)) (ok_is (outer times (joined a.0.0), a.0.1) (b, d) a.2) (
+    subst (λ (q : Block × Cursor). Spans (exactly (rest_bytes wide q.0)) c q.1 × GoodBlock wide (suc left) q.0 × (times ≡ times_of q.0) × (suc more ≡ blocks_of q.0))
+    (ok_is (outer times (joined a.0.0), a.0.1) (b, d) a.2) (
       record { front = s.0.front; joined = s.0.joined; moved = s.0.moved; so = bytes-joined wide a.0.0 s.0.front s.0.so },
       (omega (arith, count), fits, depth-joined wide left a.0.0 s.1),
       refl,
@@ -233,13 +237,16 @@ good-split wide (suc left) (bytes times content rest) fit deep = (fit.1, good-sp
 good-split wide zero (nested times inner rest) fit deep = absurd (omega (arith, deep))
 good-split wide (suc left) (nested times inner rest) fit deep = ((fit.1, fit.3, omega (arith, deep)), good-split wide (suc left) rest fit.4 (omega (arith, deep)))
 
-rest_complete : (wide : Bool) (left : ℕ) (read : Cursor → Reading Block) → Complete read (block_form wide) (GoodBlock wide left) → (b : Block) (c d : Cursor) → Spans (exactly (rest_bytes wide b)) c d → GoodBlock wide (suc left) b → block_rest read (times_of b) (blocks_of b) c ≡ Ok (b, d)
+rest_complete : (wide : Bool) (left : ℕ) (read : Cursor → Reading Block) → Complete read (block_form wide) (GoodBlock wide left) → (b : Block) (c d : Cursor) →
+    Spans (exactly (rest_bytes wide b)) c d → GoodBlock wide (suc left) b → block_rest read (times_of b) (blocks_of b) c ≡ Ok (b, d)
 rest_complete wide left read complete (innermost times content) c d t ok =
-    let cut : Spans (byte (length content) then exactly content) c d = record { front = t.front; joined = t.joined; moved = t.moved; so = record { front = length content ∷ []; back = content; joined = t.so; first_so = (ok, refl); second_so = refl } } in
+    let cut : Spans (byte (length content) then exactly content) c d =
+    record { front = t.front; joined = t.joined; moved = t.moved; so = record { front = length content ∷ []; back = content; joined = t.so; first_so = (ok, refl); second_so = refl } } in
     let s = then_splits (byte (length content)) (exactly content) c d cut in
     rw (byte_complete c (length content) s.0 s.1 tt, bytes_complete (length content) s.0 content d s.2 refl) refl
 rest_complete wide left read complete (outer times inner) c d t ok =
-    let cut : Spans (each (block_form wide) (split inner)) c d = record { front = t.front; joined = t.joined; moved = t.moved; so = subst (λ (xs : List ℕ). each (block_form wide) (split inner) xs) (sym t.so) (spelled-split wide inner ok.1) } in
+    let cut : Spans (each (block_form wide) (split inner)) c d =
+    record { front = t.front; joined = t.joined; moved = t.moved; so = subst (λ (xs : List ℕ). each (block_form wide) (split inner) xs) (sym t.so) (spelled-split wide inner ok.1) } in
     let items = items_complete read (block_form wide) (GoodBlock wide left) complete (split inner) c d cut (good-split wide left inner ok.1 ok.2) in
     some (count_of inner) ok.0 (subst (λ (n : ℕ). items_at read n c ≡ given (split inner) d) (length-split inner) items)
   where

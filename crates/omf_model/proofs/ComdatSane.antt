@@ -161,7 +161,8 @@ module _ (p : ObjParts) (d : ComDat) (s : Sane p) (good : GoodComdat p d) where
         there = (g.there.0, omega (arith, g.there.1, length-append p.comdats new_begun));
         pubs = subst (AllByRecursion (PubIn after)) (sym g.pubs-are) tt;
         begun = subst (AllByRecursion WholeBegun) (sym g.begun-are) tt;
-        publics = subst (λ (xs : List Pub). AllByRecursion (HasPublic xs) (counted (p.comdats ++ new_begun))) (sym pubs) (subst (λ (bs : List BegunComdat). AllByRecursion (HasPublic p.module.pubs) (counted bs)) (sym begun) s.publics);
+        publics = subst (λ (xs : List Pub). AllByRecursion (HasPublic xs) (counted (p.comdats ++ new_begun)))
+            (sym pubs) (subst (λ (bs : List BegunComdat). AllByRecursion (HasPublic p.module.pubs) (counted bs)) (sym begun) s.publics);
       }
 
   abbrev own_pub : Pub
@@ -239,7 +240,8 @@ module _ (p : ObjParts) (d : ComDat) (s : Sane p) (good : GoodComdat p d) where
         segs = s.segs;
         groups = all_weaker (WholeGroup p.module) (WholeGroup m) (group-grows p.module m g) p.module.groups s.groups;
         pubs = all_joined (PubIn after) p.module.pubs new_pubs (all_weaker (PubIn p) (PubIn after) (λ x h. numbered-grows p after after-grows x.place h) p.module.pubs s.pubs) new.pubs;
-        pieces = all_joined (PieceIn after) p.module.pieces (piece_with number d ∷ []) (all_weaker (PieceIn p) (PieceIn after) (λ x h. lies_at-grows p after after-grows x.seg x.offset _ h) p.module.pieces s.pieces) (own-lies, tt);
+        pieces = all_joined (PieceIn after) p.module.pieces (piece_with number d ∷ [])
+            (all_weaker (PieceIn p) (PieceIn after) (λ x h. lies_at-grows p after after-grows x.seg x.offset _ h) p.module.pieces s.pieces) (own-lies, tt);
         fixes = all_weaker (WholeFixAt p) (WholeFixAt after) (fix_at-grows p after after-grows) p.module.fixes s.fixes;
         apart = s.apart;
         imports = s.imports;

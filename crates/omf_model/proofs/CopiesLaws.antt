@@ -54,14 +54,16 @@ copies-counted wide at (bytes times content rest) o =
     let own : List ℕ = place_in first (length content) o in
     let later : List ℕ = block_copies wide (first + length content) rest o in
     length-append (repeated times (length content) own) (map (λ x. times * length content + x) later)
-    ∙ (λ i. (length-repeated times (length content) own ∙ ap (λ (n : ℕ). times * n) (length-place_in first (length content) o)) i + (length-map later (λ x. times * length content + x) ∙ copies-counted wide (first + length content) rest o) i)
+    ∙ (λ i. (length-repeated times (length content) own ∙ ap (λ (n : ℕ). times * n) (length-place_in first (length content) o)) i
+    + (length-map later (λ x. times * length content + x) ∙ copies-counted wide (first + length content) rest o) i)
 copies-counted wide at (nested times inner rest) o =
     let first : ℕ = at + width wide + 2 in
     let past : ℕ = first + length (block_bytes wide inner) in
     let own : List ℕ = block_copies wide first inner o in
     let later : List ℕ = block_copies wide past rest o in
     length-append (repeated times (expanded_len inner) own) (map (λ x. times * expanded_len inner + x) later)
-    ∙ (λ i. (length-repeated times (expanded_len inner) own ∙ ap (λ (n : ℕ). times * n) (copies-counted wide first inner o)) i + (length-map later (λ x. times * expanded_len inner + x) ∙ copies-counted wide past rest o) i)
+    ∙ (λ i. (length-repeated times (expanded_len inner) own ∙ ap (λ (n : ℕ). times * n) (copies-counted wide first inner o)) i
+    + (length-map later (λ x. times * expanded_len inner + x) ∙ copies-counted wide past rest o) i)
 
 -- blocks that hold nothing expand to nothing, however often they repeat
 pub nothing-expands : (b : Blocks) → expanded_len b ≡ 0 → expanded b ≡ []

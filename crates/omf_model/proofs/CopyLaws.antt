@@ -89,7 +89,9 @@ runs-above xs lo hi a z h apart x j lt low high = absurd (omega (arith, (h x lt)
 -- ---- blocks
 
 length-head : (wide : Bool) (times count : ℕ) → length (head_bytes wide times count) ≡ width wide + 2
-length-head wide times count = length-append (little_bytes (width wide) times) (little_bytes 2 count) ∙ (let e : length (little_bytes (width wide) times) + 2 ≡ width wide + 2 = omega (arith, length-little_bytes (width wide) times) in e)
+length-head wide times count =
+    length-append (little_bytes (width wide) times) (little_bytes 2 count)
+    ∙ (let e : length (little_bytes (width wide) times) + 2 ≡ width wide + 2 = omega (arith, length-little_bytes (width wide) times) in e)
 
 bytes_long : (wide : Bool) (times : ℕ) (content : List ℕ) (rest : Blocks) → length (block_bytes wide (bytes times content rest)) ≡ width wide + 3 + length content + length (block_bytes wide rest)
 bytes_long wide times content rest =
@@ -109,7 +111,8 @@ origins-between wide at (bytes times content rest) =
     let first : ℕ = at + width wide + 3 in
     let long = bytes_long wide times content rest in
     between-append (repeat times (range_with_len first (length content))) (origins wide (first + length content) rest) at (at + length (block_bytes wide (bytes times content rest)))
-    (between-wider _ first (first + length content) at _ (omega arith) (omega (arith, long)) (between-repeat times (range_with_len first (length content)) first (first + length content) (range-between first (length content))))
+    (between-wider _ first (first + length content) at _ (omega arith)
+    (omega (arith, long)) (between-repeat times (range_with_len first (length content)) first (first + length content) (range-between first (length content))))
     (between-wider _ (first + length content) (first + length content + length (block_bytes wide rest)) at _ (omega arith) (omega (arith, long)) (origins-between wide (first + length content) rest))
 origins-between wide at (nested times inner rest) =
     let first : ℕ = at + width wide + 2 in
@@ -142,8 +145,10 @@ contents-inside wide at (nested times inner rest) =
     let past : ℕ = first + length (block_bytes wide inner) in
     let long = nested_long wide times inner rest in
     all_joined (Inside at (at + length (block_bytes wide (nested times inner rest)))) (contents wide first inner) (contents wide past rest)
-    (all-map (Inside first past) (Inside at (at + length (block_bytes wide (nested times inner rest)))) (contents wide first inner) (λ c h. (omega (arith, h.0), omega (arith, long, h.1))) (contents-inside wide first inner))
-    (all-map (Inside past (past + length (block_bytes wide rest))) (Inside at (at + length (block_bytes wide (nested times inner rest)))) (contents wide past rest) (λ c h. (omega (arith, h.0), omega (arith, long, h.1))) (contents-inside wide past rest))
+    (all-map (Inside first past) (Inside at (at + length (block_bytes wide (nested times inner rest))))
+    (contents wide first inner) (λ c h. (omega (arith, h.0), omega (arith, long, h.1))) (contents-inside wide first inner))
+    (all-map (Inside past (past + length (block_bytes wide rest))) (Inside at (at + length (block_bytes wide (nested times inner rest))))
+    (contents wide past rest) (λ c h. (omega (arith, h.0), omega (arith, long, h.1))) (contents-inside wide past rest))
 
 all-both : {A : Type 0} (P Q : A → Type 0) (xs : List A) → AllByRecursion P xs → AllByRecursion Q xs → AllByRecursion (λ x. P x × Q x) xs
 all-both P Q [] a b = tt
@@ -162,7 +167,8 @@ origins-run wide at (bytes times content rest) =
     let later : List ℕ = origins wide past rest in
     let own_between = between-repeat times (range_with_len first (length content)) first past (range-between first (length content)) in
     let later_between = origins-between wide past rest in (
-      runs-append own later first past (runs-repeat times (range_with_len first (length content)) first past (range-runs first (length content))) (runs-above later past (past + length (block_bytes wide rest)) first past later_between (omega arith)),
+      runs-append own later first past (runs-repeat times (range_with_len first (length content)) first past (range-runs first (length content)))
+          (runs-above later past (past + length (block_bytes wide rest)) first past later_between (omega arith)),
       all-map (λ c. RunsOf later c × Inside past (past + length (block_bytes wide rest)) c) (RunsOf (own ++ later)) (contents wide past rest)
           (λ c h. runs-append own later c.0 c.1 (runs-below own first past c.0 c.1 own_between h.1.0) h.0)
           (all-both (RunsOf later) (Inside past (past + length (block_bytes wide rest))) (contents wide past rest) (origins-run wide past rest) (contents-inside wide past rest)),
@@ -191,13 +197,17 @@ length-repeat (suc n) xs = length-append xs (repeat n xs) ∙ (let e : length xs
 pub length-expanded : (b : Blocks) → length (expanded b) ≡ expanded_len b
 length-expanded none = refl
 length-expanded (bytes times content rest) = length-append (repeat times content) (expanded rest) ∙ (λ i. length-repeat times content i + length-expanded rest i)
-length-expanded (nested times inner rest) = length-append (repeat times (expanded inner)) (expanded rest) ∙ (λ i. (length-repeat times (expanded inner) ∙ ap (λ (n : ℕ). times * n) (length-expanded inner)) i + length-expanded rest i)
+length-expanded (nested times inner rest) =
+    length-append (repeat times (expanded inner)) (expanded rest)
+    ∙ (λ i. (length-repeat times (expanded inner) ∙ ap (λ (n : ℕ). times * n) (length-expanded inner)) i + length-expanded rest i)
 
 pub length-origins : (wide : Bool) (at : ℕ) (b : Blocks) → length (origins wide at b) ≡ expanded_len b
 length-origins wide at none = refl
 length-origins wide at (bytes times content rest) =
     length-append (repeat times (range_with_len (at + width wide + 3) (length content))) (origins wide (at + width wide + 3 + length content) rest)
-    ∙ (λ i. (length-repeat times (range_with_len (at + width wide + 3) (length content)) ∙ ap (λ (n : ℕ). times * n) (length-range_with_len (at + width wide + 3) (length content))) i + length-origins wide (at + width wide + 3 + length content) rest i)
+    ∙ (λ i. (length-repeat times (range_with_len (at + width wide + 3) (length content)) ∙ ap (λ (n : ℕ). times * n)
+    (length-range_with_len (at + width wide + 3) (length content))) i + length-origins wide (at + width wide + 3 + length content) rest i)
 length-origins wide at (nested times inner rest) =
     length-append (repeat times (origins wide (at + width wide + 2) inner)) (origins wide (at + width wide + 2 + length (block_bytes wide inner)) rest)
-    ∙ (λ i. (length-repeat times (origins wide (at + width wide + 2) inner) ∙ ap (λ (n : ℕ). times * n) (length-origins wide (at + width wide + 2) inner)) i + length-origins wide (at + width wide + 2 + length (block_bytes wide inner)) rest i)
+    ∙ (λ i. (length-repeat times (origins wide (at + width wide + 2) inner) ∙ ap (λ (n : ℕ). times * n) (length-origins wide (at + width wide + 2) inner)) i
+    + length-origins wide (at + width wide + 2 + length (block_bytes wide inner)) rest i)

@@ -61,10 +61,12 @@ pub check_so : (b : Bool) (refusal : OmfRefusal) (u : Unit {0}) → check b refu
 check_so true refusal u e = refl
 check_so false refusal u e = absurd cc
 
-pub judge_sound : (p : ObjParts) (at offset_at seg offset len : ℕ) (u : Unit {0}) → FromOne (length p.module.segs) seg → judge_data p at offset_at seg offset len ≡ Ok u → is_debug_seg p.module.segs seg ≡ false → GoodPlace p seg offset len
+pub judge_sound : (p : ObjParts) (at offset_at seg offset len : ℕ) (u : Unit {0}) →
+    FromOne (length p.module.segs) seg → judge_data p at offset_at seg offset len ≡ Ok u → is_debug_seg p.module.segs seg ≡ false → GoodPlace p seg offset len
 unfolding judge_data
 judge_sound p at offset_at seg offset len u range e plain =
-    elim (chosen (is_debug_seg p.module.segs seg) (Ok tt) (check (leb (offset + len) (seg_len p.module.segs seg)) (DataRange offset_at) >>= λ ok. check (leb (data_so_far p + len) MAX_DATA) (TooMany at) >>= λ ok'. check (not (list_any (touches seg offset len) p.module.fixes)) (DataOverFix offset_at)) (Ok u) e) [
+    elim (chosen (is_debug_seg p.module.segs seg) (Ok tt) (check (leb (offset + len) (seg_len p.module.segs seg)) (DataRange offset_at) >>= λ ok. check
+    (leb (data_so_far p + len) MAX_DATA) (TooMany at) >>= λ ok'. check (not (list_any (touches seg offset len) p.module.fixes)) (DataOverFix offset_at)) (Ok u) e) [
       | inl h ↦ absurd cc
       | inr h ↦
           let a = checked_step (leb (offset + len) (seg_len p.module.segs seg)) _ _ u h.1 in
@@ -99,7 +101,8 @@ ledata_sound p wide at c r bytes e =
       refl,
     )
 
-pub ledata_complete : (p : ObjParts) (wide : Bool) (at : ℕ) (c : Cursor) (seg offset : ℕ) (content : List ℕ) → contents_form wide (ledata seg offset content) c.left → GoodData p seg offset (length content) → ledata_at wide p at c ≡ Ok (ledata seg offset content)
+pub ledata_complete : (p : ObjParts) (wide : Bool) (at : ℕ) (c : Cursor) (seg offset : ℕ) (content : List ℕ) →
+    contents_form wide (ledata seg offset content) c.left → GoodData p seg offset (length content) → ledata_at wide p at c ≡ Ok (ledata seg offset content)
 unfolding ledata_at
 ledata_complete p wide at c seg offset content so good =
     let s1 = left_splits _ _ c so in
@@ -133,7 +136,8 @@ lidata_sound p wide at c r bytes e =
       refl,
     )
 
-pub lidata_complete : (p : ObjParts) (wide : Bool) (at : ℕ) (c : Cursor) (seg offset : ℕ) (blocks : Blocks) → contents_form wide (lidata wide seg offset blocks) c.left → GoodAfter p (lidata wide seg offset blocks) → lidata_at wide p at c ≡ Ok (lidata wide seg offset blocks)
+pub lidata_complete : (p : ObjParts) (wide : Bool) (at : ℕ) (c : Cursor) (seg offset : ℕ) (blocks : Blocks) →
+    contents_form wide (lidata wide seg offset blocks) c.left → GoodAfter p (lidata wide seg offset blocks) → lidata_at wide p at c ≡ Ok (lidata wide seg offset blocks)
 unfolding lidata_at
 lidata_complete p wide at c seg offset blocks so good =
     let s1 = left_splits _ _ c so in

@@ -78,7 +78,8 @@ pairs-both {A = A} P R (x ∷ xs) h p = (each xs h.1 p.0, pairs-both P R xs h.1 
 abbrev IsLong : List Piece → ℕ → Seg → Type 0
 IsLong pieces number s = (s.debug ≡ false) × (s.len ≡ greatest_end pieces number)
 
-segs-at : (pieces : List Piece) (bs : List BegunComdat) (n k number : ℕ) → number ≡ n + k → k < length bs → AllByRecursion WholeBegun bs → IsSomeAnd (slice_get (map (seg_for pieces) (enumerate_from n bs)) k) (IsLong pieces number)
+segs-at : (pieces : List Piece) (bs : List BegunComdat) (n k number : ℕ) →
+    number ≡ n + k → k < length bs → AllByRecursion WholeBegun bs → IsSomeAnd (slice_get (map (seg_for pieces) (enumerate_from n bs)) k) (IsLong pieces number)
 segs-at pieces [] n k number e lt h = absurd (omega (arith, lt))
 segs-at pieces (b ∷ bs) n zero number e lt h = (h.0.plain, ap (greatest_end pieces) (let same : n ≡ number = omega (arith, e) in same))
 segs-at pieces (b ∷ bs) n (suc k) number e lt h = segs-at pieces bs (n + 1) k number (omega (arith, e)) (omega (arith, lt)) h.1
@@ -204,8 +205,10 @@ module _ (p : ObjParts) (s : Sane p) where
         | inr not_flat ↦
             let named : ℕ × BegunComdat → Bool = λ b. eqb b.1.group q.0 in
             let new : List ℕ = map (λ (b : ℕ × BegunComdat). b.0) (filter named (numbered n p.comdats)) in
-            let old : AllByRecursion (IsPlainSeg end) q.1.members = all_weaker (IsPlainSeg p.module) (IsPlainSeg end) (plain-grows p.module end end-grows) q.1.members (all-back (IsPlainSeg p.module) q.1.members h.members) in
-            let own : AllByRecursion (IsPlainSeg end) new = all-mapped (λ (b : ℕ × BegunComdat). IsPlainSeg end b.0) (IsPlainSeg end) (λ b. b.0) (λ b k. k) (filter named (numbered n p.comdats)) (all_kept (λ (b : ℕ × BegunComdat). IsPlainSeg end b.0) named (numbered n p.comdats) numbers-plain) in
+            let old : AllByRecursion (IsPlainSeg end) q.1.members =
+            all_weaker (IsPlainSeg p.module) (IsPlainSeg end) (plain-grows p.module end end-grows) q.1.members (all-back (IsPlainSeg p.module) q.1.members h.members) in
+            let own : AllByRecursion (IsPlainSeg end) new = all-mapped (λ (b : ℕ × BegunComdat). IsPlainSeg end b.0) (IsPlainSeg end) (λ b. b.0) (λ b k. k)
+            (filter named (numbered n p.comdats)) (all_kept (λ (b : ℕ × BegunComdat). IsPlainSeg end b.0) named (numbered n p.comdats) numbers-plain) in
             let whole : WholeGroup end (record q.1 { members = q.1.members ++ new }) = record {
               members = all-at (IsPlainSeg end) (q.1.members ++ new) (all_joined (IsPlainSeg end) q.1.members new old own);
               flat = λ e. let yes' : bytes_eq q.1.name (codes "FLAT") ≡ true = ap (λ (xs : List ℕ). bytes_eq xs (codes "FLAT")) e in absurd cc;
@@ -281,13 +284,15 @@ module _ (p : ObjParts) (s : Sane p) where
             begin = ap (place_for n) h.begin ∙ ap (λ (i : ℕ). In i 0) (sym same);
           },
         );
-        frames = all-at (λ (f : FixAt). IsApartFrame c f.frame) end.fixes (all-mapped (WholeFixAt p) (λ (f : FixAt). IsApartFrame c f.frame) (fix_for n) (λ f w. frame-apart c behind f.frame w.frame) p.module.fixes s.fixes);
+        frames = all-at (λ (f : FixAt). IsApartFrame c f.frame) end.fixes
+            (all-mapped (WholeFixAt p) (λ (f : FixAt). IsApartFrame c f.frame) (fix_for n) (λ f w. frame-apart c behind f.frame w.frame) p.module.fixes s.fixes);
         goals = all-at (λ (f : FixAt). IsApartGoal c f.goal) end.fixes (all-mapped (WholeFixAt p) (λ (f : FixAt). IsApartGoal c f.goal) (fix_for n) (λ f w. goal-apart c behind f.goal w.goal) p.module.fixes s.fixes);
         start_frame = option-grows (WholeStart p.module) (λ (x : StartAt). IsApartFrame c x.frame) (λ x w. frame-apart c behind x.frame w.0) p.module.start s.start;
         start_goal = option-grows (WholeStart p.module) (λ (x : StartAt). IsApartGoal c x.goal) (λ x w. goal-apart c behind x.goal w.1) p.module.start s.start;
       }
 
-  comdats-end : (bs : List BegunComdat) (k a c : ℕ) → a ≡ COMDAT_BASE + 1 + k → c ≡ n + 1 + k → k + length bs ≤ length p.comdats → AllByRecursion (HasPublic p.module.pubs) (enumerate_from a bs) → AllByRecursion (WholeComdat end) (map comdat_for (enumerate_from c bs))
+  comdats-end : (bs : List BegunComdat) (k a c : ℕ) → a ≡ COMDAT_BASE + 1 + k → c ≡ n + 1 + k → k + length bs ≤ length p.comdats →
+      AllByRecursion (HasPublic p.module.pubs) (enumerate_from a bs) → AllByRecursion (WholeComdat end) (map comdat_for (enumerate_from c bs))
   comdats-end [] k a c ea ec few h = tt
   comdats-end (b ∷ bs) k a c ea ec few h = (
     comdat-end k a c b ea ec (omega (arith, few)) h.0,
@@ -308,7 +313,8 @@ module _ (p : ObjParts) (s : Sane p) where
     segs = all-at WholeSeg end.segs (all_joined WholeSeg p.module.segs new_segs s.segs (segs-whole p.module.pieces p.comdats (COMDAT_BASE + 1) s.comdats));
     groups = all-at (WholeGroup end) end.groups (groups-end 1 p.module.groups s.groups);
     pubs = all-at (λ (x : Pub). WholePlace end x.place) end.pubs (all-mapped (PubIn p) (λ (x : Pub). WholePlace end x.place) (public_for n) (λ x h. place-end x.place h) p.module.pubs s.pubs);
-    pieces = all-at (λ (x : Piece). LiesIn end x.seg x.offset (length x.bytes)) end.pieces (all-mapped (PieceIn p) (λ (x : Piece). LiesIn end x.seg x.offset (length x.bytes)) (piece_for n) (λ x h. lies-at x.seg x.offset (length x.bytes) h) p.module.pieces s.pieces);
+    pieces = all-at (λ (x : Piece). LiesIn end x.seg x.offset (length x.bytes)) end.pieces (all-mapped (PieceIn p)
+        (λ (x : Piece). LiesIn end x.seg x.offset (length x.bytes)) (piece_for n) (λ x h. lies-at x.seg x.offset (length x.bytes) h) p.module.pieces s.pieces);
     fixes = all-at (WholeFix end) end.fixes (all-mapped (WholeFixAt p) (WholeFix end) (fix_for n) fix-end p.module.fixes s.fixes);
     apart = pairs-at Apart end.fixes (pairs-map (λ f g. WholeFixAt p f × WholeFixAt p g × Apart f g) Apart (fix_for n) meets-end p.module.fixes (pairs-both (WholeFixAt p) Apart p.module.fixes s.fixes s.apart));
     imports = all-at HasModule end.imports s.imports;
@@ -317,7 +323,8 @@ module _ (p : ObjParts) (s : Sane p) where
     data_limit = omega (arith, s.data_limit, sum-mapped (λ (x : Piece). length x.bytes) (piece_for n) (λ x. refl) p.module.pieces);
     fix_limit = omega (arith, s.fix_limit, length-map p.module.fixes (fix_for n));
     comdats = all-at (WholeComdat end) end.comdats (comdats-end p.comdats 0 (COMDAT_BASE + 1) (n + 1) (omega arith) (omega arith) (omega arith) s.publics);
-    comdats_apart = pairs-at (λ (x y : Comdat). x.seg ≢ y.seg) end.comdats (pairs-map (λ (q r : ℕ × BegunComdat). q.0 ≢ r.0) (λ (x y : Comdat). x.seg ≢ y.seg) comdat_for (λ q r h. h) (numbered n p.comdats) (numbers-apart p.comdats (n + 1)));
+    comdats_apart = pairs-at (λ (x y : Comdat). x.seg ≢ y.seg) end.comdats
+        (pairs-map (λ (q r : ℕ × BegunComdat). q.0 ≢ r.0) (λ (x y : Comdat). x.seg ≢ y.seg) comdat_for (λ q r h. h) (numbered n p.comdats) (numbers-apart p.comdats (n + 1)));
   }
 
   pub sane-whole : WholeModule (finished p)

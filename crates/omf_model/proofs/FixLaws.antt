@@ -197,11 +197,14 @@ judged_good p wide at d u v f t meant ef eg so_f ok_f so_t ok_t =
       meant = meant;
       frame_index = ranges p (frame_bits d.fix) d.frame mf;
       target_index = ranges p (target_bits d.fix) d.target mt;
-      frame = frame_plain p at u (by_frame_thread d.fix) (get_or p.threads.frame (frame_bits d.fix % 4) None) (frame_by (frame_bits d.fix) (unwrap_or d.frame 0)) ef (own_frame p (frame_bits d.fix) (by_frame_thread d.fix) d.frame f so_f mf);
-      goal = goal_plain p at v (by_target_thread d.fix) (get_or p.threads.goal (target_bits d.fix) None) (goal_by (target_bits d.fix) (unwrap_or d.target 0)) eg (own_goal p (target_bits d.fix) (by_target_thread d.fix) d.target t so_t mt);
+      frame = frame_plain p at u (by_frame_thread d.fix) (get_or p.threads.frame (frame_bits d.fix % 4) None)
+          (frame_by (frame_bits d.fix) (unwrap_or d.frame 0)) ef (own_frame p (frame_bits d.fix) (by_frame_thread d.fix) d.frame f so_f mf);
+      goal = goal_plain p at v (by_target_thread d.fix) (get_or p.threads.goal (target_bits d.fix) None)
+          (goal_by (target_bits d.fix) (unwrap_or d.target 0)) eg (own_goal p (target_bits d.fix) (by_target_thread d.fix) d.target t so_t mt);
     }
 
-methods_good : (p : ObjParts) (d : FixData) (f t : List ℕ) → has_threads p d.fix ≡ true → are_methods d.fix ≡ true → present (not (by_frame_thread d.fix) && has_index (frame_bits d.fix)) index d.frame f → present (not (by_target_thread d.fix)) index d.target t → GoodMethods p d
+methods_good : (p : ObjParts) (d : FixData) (f t : List ℕ) → has_threads p d.fix ≡ true → are_methods d.fix ≡ true →
+    present (not (by_frame_thread d.fix) && has_index (frame_bits d.fix)) index d.frame f → present (not (by_target_thread d.fix)) index d.target t → GoodMethods p d
 methods_good p d f t threads methods so_f so_t =
     let both = and_true _ _ threads in
     record {
@@ -238,12 +241,14 @@ threads_again p d g =
     and_from _ _ (set_back (by_frame_thread d.fix) (get_or p.threads.frame (frame_bits d.fix % 4) None) (frame_by (frame_bits d.fix) (unwrap_or d.frame 0)) g.frame_set)
     (set_back (by_target_thread d.fix) (get_or p.threads.goal (target_bits d.fix) None) (goal_by (target_bits d.fix) (unwrap_or d.target 0)) g.goal_set)
 
-frame_index_again : (p : ObjParts) (m : ℕ) (b : Bool) (t : Option Frame) (o : Option ℕ) (front : List ℕ) → present (not b && has_index m) index o front → IfSome o (HasMethod p m) → IfSome (cond b t (Some (frame_by m (unwrap_or o 0)))) (IsPlainFrame p) → IfSome o (MethodIndex p m)
+frame_index_again : (p : ObjParts) (m : ℕ) (b : Bool) (t : Option Frame) (o : Option ℕ) (front : List ℕ) → present (not b && has_index m) index o front →
+    IfSome o (HasMethod p m) → IfSome (cond b t (Some (frame_by m (unwrap_or o 0)))) (IsPlainFrame p) → IfSome o (MethodIndex p m)
 frame_index_again p m b t None front so h plain = tt
 frame_index_again p m true t (Some i) front so h plain = absurd so
 frame_index_again p m false t (Some i) front so h plain = (h, λ z. subst (λ (k : ℕ). IsPlainFrame p (frame_by k i)) z plain)
 
-goal_index_again : (p : ObjParts) (m : ℕ) (b : Bool) (t : Option Goal) (o : Option ℕ) (front : List ℕ) → present (not b) index o front → IfSome o (HasMethod p m) → IfSome (cond b t (Some (goal_by m (unwrap_or o 0)))) (IsPlainGoal p) → IfSome o (MethodIndex p m)
+goal_index_again : (p : ObjParts) (m : ℕ) (b : Bool) (t : Option Goal) (o : Option ℕ) (front : List ℕ) →
+    present (not b) index o front → IfSome o (HasMethod p m) → IfSome (cond b t (Some (goal_by m (unwrap_or o 0)))) (IsPlainGoal p) → IfSome o (MethodIndex p m)
 goal_index_again p m b t None front so h plain = tt
 goal_index_again p m true t (Some i) front so h plain = absurd so
 goal_index_again p m false t (Some i) front so h plain = (h, λ z. subst (λ (k : ℕ). IsPlainGoal p (goal_by k i)) z plain)
@@ -266,8 +271,10 @@ fix_complete p wide judged c x d t ok =
     let s1 = then_splits (byte x.fix) _ c d t in
     let s2 = then_splits (present (not (by_frame_thread x.fix) && has_index (frame_bits x.fix)) index x.frame) _ s1.0 d s1.2 in
     let s3 = then_splits (present (not (by_target_thread x.fix)) index x.target) _ s2.0 d s2.2 in
-    let frame_ok = judge_all p judged (frame_bits x.fix) x.frame (λ yes. frame_index_again p (frame_bits x.fix) (by_frame_thread x.fix) (get_or p.threads.frame (frame_bits x.fix % 4) None) x.frame s2.1.front s2.1.so (ok.1 yes).frame_index (ok.1 yes).frame) in
-    let target_ok = judge_all p judged (target_bits x.fix) x.target (λ yes. goal_index_again p (target_bits x.fix) (by_target_thread x.fix) (get_or p.threads.goal (target_bits x.fix) None) x.target s3.1.front s3.1.so (ok.1 yes).target_index (ok.1 yes).goal) in
+    let frame_ok = judge_all p judged (frame_bits x.fix) x.frame (λ yes. frame_index_again p (frame_bits x.fix)
+    (by_frame_thread x.fix) (get_or p.threads.frame (frame_bits x.fix % 4) None) x.frame s2.1.front s2.1.so (ok.1 yes).frame_index (ok.1 yes).frame) in
+    let target_ok = judge_all p judged (target_bits x.fix) x.target (λ yes. goal_index_again p (target_bits x.fix)
+    (by_target_thread x.fix) (get_or p.threads.goal (target_bits x.fix) None) x.target s3.1.front s3.1.so (ok.1 yes).target_index (ok.1 yes).goal) in
     let frame = present_complete (not (by_frame_thread x.fix) && has_index (frame_bits x.fix)) _ _ _ (method_complete p judged (frame_bits x.fix)) s1.0 x.frame s2.0 s2.1 frame_ok in
     let target = present_complete (not (by_target_thread x.fix)) _ _ _ (method_complete p judged (target_bits x.fix)) s2.0 x.target s3.0 s3.1 target_ok in
     let disp = present_complete (has_displacement x.fix) (number_at (width wide)) (number (width wide)) Free (number_complete (width wide)) s3.0 x.displacement d s3.2 (free_option x.displacement) in

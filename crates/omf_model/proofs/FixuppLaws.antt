@@ -33,7 +33,8 @@ use Rattle.omf_model.proofs.NameLaws.{IsRead, then_one}
 abbrev first_byte : ℕ → ℕ → ℕ → FirstByte
 first_byte of_record at b = record { of_record = of_record; at = at; byte = b }
 
-thread_sound : (p : ObjParts) (wide : Bool) (record_at b : ℕ) (c0 c : Cursor) (x : FixField) (d : Cursor) → AreBytes c.left → b < 128 → Spans (byte b) c0 c → thread_at p (first_byte record_at c0.at b) c ≡ Ok (x, d) → Spans (field_form wide x) c0 d × GoodField p x
+thread_sound : (p : ObjParts) (wide : Bool) (record_at b : ℕ) (c0 c : Cursor) (x : FixField) (d : Cursor) →
+    AreBytes c.left → b < 128 → Spans (byte b) c0 c → thread_at p (first_byte record_at c0.at b) c ≡ Ok (x, d) → Spans (field_form wide x) c0 d × GoodField p x
 unfolding thread_at
 thread_sound p wide record_at b c0 c x d bytes small front e =
     let k = checked_step (is_thread_method b) _ _ (x, d) e in
@@ -94,7 +95,8 @@ or_right : (a b : Bool) → (a || b) ≡ true → a ≡ false → b ≡ true
 or_right true b e n = absurd cc
 or_right false b e n = e
 
-fixup_sound : (p : ObjParts) (wide : Bool) (record_at high : ℕ) (c0 c : Cursor) (x : FixField) (d : Cursor) → AreBytes c.left → 128 ≤ high → Spans (byte high) c0 c → fixup_at wide p (first_byte record_at c0.at high) c ≡ Ok (x, d) → Spans (field_form wide x) c0 d × GoodField p x
+fixup_sound : (p : ObjParts) (wide : Bool) (record_at high : ℕ) (c0 c : Cursor) (x : FixField) (d : Cursor) → AreBytes c.left →
+    128 ≤ high → Spans (byte high) c0 c → fixup_at wide p (first_byte record_at c0.at high) c ≡ Ok (x, d) → Spans (field_form wide x) c0 d × GoodField p x
 unfolding fixup_at
 fixup_sound p wide record_at high c0 c x d bytes large front e =
     let k = checked_step (is_dropped p.last || is_location high) _ _ (x, d) e in
@@ -103,7 +105,8 @@ fixup_sound p wide record_at high c0 c x d bytes large front e =
     let j = bind_ok (cond (is_dropped p.last) (Ok tt) (judge_fixup p (first_byte record_at c0.at high) low what)) _ (x, d) e2 in
     let t = then_spans (byte high) (byte low then fix_data_form wide what) c0 c c2 front (then_spans (byte low) (fix_data_form wide what) c c1 c2 t1 t2) in
     let kept : is_dropped p.last ≡ false → GoodFixup p high low what = λ n.
-    judge_so p record_at c0.at high low what j.0 (subst (λ (b : Bool). cond b (Ok tt) (judge_fixup p (first_byte record_at c0.at high) low what) ≡ done j.0) n j.1) (or_right _ _ k.0 n) (g2.1 (ap (λ (b : Bool). not b) n)) in
+    judge_so p record_at c0.at high low what j.0 (subst (λ (b : Bool). cond b (Ok tt) (judge_fixup p (first_byte record_at c0.at high) low what) ≡ done j.0) n j.1)
+    (or_right _ _ k.0 n) (g2.1 (ap (λ (b : Bool). not b) n)) in
     subst (λ (q : FixField × Cursor). Spans (field_form wide q.0) c0 q.1 × GoodField p q.0) (ok_is (fixup high low what, c2) (x, d) j.2)
     (record { front = t.front; joined = t.joined; moved = t.moved; so = (large, t.so) }, good_by p.last p high low what (λ y. g2.0) kept)
 
@@ -150,7 +153,8 @@ pub field_one : (wide : Bool) → OneByte (field_form wide)
 field_one wide (thread b i) bytes h = then_one (byte b) _ bytes h.1 (λ front f. let len : length front ≡ 1 = ap (λ (xs : List ℕ). length xs) f.1 in omega (arith, len))
 field_one wide (fixup high low what) bytes h = then_one (byte high) _ bytes h.1 (λ front f. let len : length front ≡ 1 = ap (λ (xs : List ℕ). length xs) f.1 in omega (arith, len))
 
-fields_sound : (wide : Bool) (record_at most : ℕ) (p : ObjParts) (c : Cursor) (xs : List FixField) → AreBytes c.left → length c.left ≤ most → fields_within wide record_at most p c ≡ Ok xs → each (field_form wide) xs c.left × GoodFields p xs
+fields_sound : (wide : Bool) (record_at most : ℕ) (p : ObjParts) (c : Cursor) (xs : List FixField) →
+    AreBytes c.left → length c.left ≤ most → fields_within wide record_at most p c ≡ Ok xs → each (field_form wide) xs c.left × GoodFields p xs
 unfolding fields_within within
 fields_sound wide record_at zero p c xs bytes few e =
     subst (λ (ys : List FixField). each (field_form wide) ys c.left × GoodFields p ys) (ok_is [] xs e) (nil_from_length c.left (omega (arith, few)), tt)
@@ -165,7 +169,8 @@ fields_sound wide record_at (suc most) p c xs bytes few e =
           subst (λ (ys : List FixField). each (field_form wide) ys c.left × GoodFields p ys) (ok_is (x ∷ a.0) xs a.2) (then_left (field_form wide x) (each (field_form wide) a.0) c c1 t1 rest.0, (g1, rest.1))
     ]
 
-fields_complete : (wide : Bool) (record_at : ℕ) (xs : List FixField) (most : ℕ) (p : ObjParts) (c : Cursor) → length c.left ≤ most → each (field_form wide) xs c.left → GoodFields p xs → fields_within wide record_at most p c ≡ Ok xs
+fields_complete : (wide : Bool) (record_at : ℕ) (xs : List FixField) (most : ℕ) (p : ObjParts) (c : Cursor) →
+    length c.left ≤ most → each (field_form wide) xs c.left → GoodFields p xs → fields_within wide record_at most p c ≡ Ok xs
 unfolding fields_within within
 fields_complete wide record_at [] zero p c few so ok = refl
 fields_complete wide record_at [] (suc most) p c few so ok = rw so refl
@@ -210,7 +215,8 @@ modend_sound p wide c r bytes e =
     subst (λ (q : Record). IsRead (pair 0x8A) p wide c q) (ok_is (modend kind start) r e2)
     (then_left (byte kind) _ c c1 t1 (then_left _ anything c1 c2 t2 tt), judged_start p start g2, refl)
 
-pub modend_complete : (p : ObjParts) (wide : Bool) (c : Cursor) (kind : ℕ) (start : Option FixData) → contents_form wide (modend kind start) c.left → GoodAfter p (modend kind start) → modend_at wide p c ≡ Ok (modend kind start)
+pub modend_complete : (p : ObjParts) (wide : Bool) (c : Cursor) (kind : ℕ) (start : Option FixData) →
+    contents_form wide (modend kind start) c.left → GoodAfter p (modend kind start) → modend_at wide p c ≡ Ok (modend kind start)
 unfolding modend_at
 modend_complete p wide c kind start so good =
     let s1 = left_splits (byte kind) _ c so in

@@ -52,7 +52,9 @@ pages_sound (suc most) size c f bytes few e =
                   let cut : length (drop (up_from size d.at) d.left) ≤ length d.left =
                   let parts : length (take (up_from size d.at) d.left ++ drop (up_from size d.at) d.left) ≡ length d.left = ap (λ (xs : List ℕ). length xs) (take-append-drop (up_from size d.at) d.left) in
                   omega (arith, parts, length-append (take (up_from size d.at) d.left) (drop (up_from size d.at) d.left)) in
-                  let rest = pages_sound most size (up_to_page size d) f (AreBytes-back (take (up_from size d.at) d.left) (drop (up_from size d.at) d.left) 0 d.left (sym (take-append-drop (up_from size d.at) d.left)) (bytes_behind (ModuleForm m) c d t bytes)) (omega (arith, few, shorter, cut, module_long m t.front t.so)) l in
+                  let rest = pages_sound most size (up_to_page size d) f (AreBytes-back (take (up_from size d.at) d.left)
+                  (drop (up_from size d.at) d.left) 0 d.left (sym (take-append-drop (up_from size d.at) d.left)) (bytes_behind (ModuleForm m) c d t bytes))
+                  (omega (arith, few, shorter, cut, module_long m t.front t.so)) l in
                   let place : (let x : Cursor = record { at = d.at; left = d.left } in x) ≡ behind c.at t.front d.left = λ i. record { at = t.moved i; left = d.left } in
                   behind_module m t.front d.left t.joined t.so (subst (λ (x : Cursor). PageFault size (up_to_page size x).at (up_to_page size x).left f) place rest)
               | inr l ↦ absurd cc
@@ -111,7 +113,8 @@ library_faults bytes f are e =
                   | inr l ↦
                       let header = whole_header bytes x.contents x.checksum x.after.left is (subst (λ (n : ℕ). is_page_size n ≡ true) place l.0) in
                       let few : length x.after.left ≤ length bytes =
-                      let all : length bytes ≡ length (record_bytes 0xF0 x.contents x.checksum) + length x.after.left = ap (λ (xs : List ℕ). length xs) is.joined ∙ length-append (record_bytes 0xF0 x.contents x.checksum) x.after.left in
+                      let all : length bytes ≡ length (record_bytes 0xF0 x.contents x.checksum) + length x.after.left =
+                      ap (λ (xs : List ℕ). length xs) is.joined ∙ length-append (record_bytes 0xF0 x.contents x.checksum) x.after.left in
                       omega (arith, all) in
                       let rest = pages_sound (length bytes) x.after.at x.after f (AreBytes-back (record_bytes 0xF0 x.contents x.checksum) x.after.left 0 bytes is.joined are) few l.1 in
                       in_modules (4 + length x.contents) (record_bytes 0xF0 x.contents x.checksum) x.after.left is.joined header

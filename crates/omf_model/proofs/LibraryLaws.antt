@@ -82,7 +82,8 @@ modules_sound (suc most) size c ms some at_page bytes e =
           step _ _ _ module_sound c _ ms bytes h.1 λ m d t f b e1.
           let a = bind_ok (modules_within most size (up_to_page size d)) _ ms e1 in
           let p = paged size c d m some at_page t (fill_fits most size d a.0 a.1) in
-          let rest = modules_sound most size (up_to_page size d) a.0 some p.3 (AreBytes-back (take (up_from size d.at) d.left) (drop (up_from size d.at) d.left) 0 d.left (sym (take-append-drop (up_from size d.at) d.left)) b) a.1 in
+          let rest = modules_sound most size (up_to_page size d) a.0 some p.3
+          (AreBytes-back (take (up_from size d.at) d.left) (drop (up_from size d.at) d.left) 0 d.left (sym (take-append-drop (up_from size d.at) d.left)) b) a.1 in
           subst (λ (qs : List ObjModule). ArePaged size qs c.left) (ok_is (m ∷ a.0) ms a.2)
           (record { front = p.0; back = drop (up_from size d.at) d.left; joined = p.1; first_so = p.2; second_so = rest })
     ]
@@ -122,7 +123,8 @@ library_sound bytes ms are e =
     let k2 = checked_step (is_page_size f.after.at) _ _ ms k1.1 in
     let size : ℕ = f.after.at in
     let bounds = size_bounds size k2.0 in
-    let rest = modules_sound (length bytes) size f.after ms (omega (arith, bounds.0)) (record { times = 1; is = omega arith }) (AreBytes-back (record_bytes f.ty f.contents f.checksum) f.after.left 0 bytes w.whole.joined are) k2.1 in
+    let rest = modules_sound (length bytes) size f.after ms (omega (arith, bounds.0))
+    (record { times = 1; is = omega arith }) (AreBytes-back (record_bytes f.ty f.contents f.checksum) f.after.left 0 bytes w.whole.joined are) k2.1 in
     let word : length f.contents + 1 ≡ size - 3 = omega (arith, w.behind) in
     let header_is : record_bytes f.ty f.contents f.checksum ≡ 0xF0 ∷ little_bytes 2 (size - 3) ++ (f.contents ++ f.checksum ∷ []) =
     append_assoc (f.ty ∷ little_bytes 2 (length f.contents + 1)) f.contents (f.checksum ∷ []) ∙ (λ i. eqb-true f.ty 0xF0 k1.0 i ∷ little_bytes 2 (word i) ++ (f.contents ++ f.checksum ∷ [])) in
@@ -179,9 +181,12 @@ modules_complete (m ∷ ms) (suc most) size c some at_page so few =
     let filled : IsMultiple size (n + length p.fill) = record { times = p.pages; is = sym part ∙ p.whole } in
     let k : length p.fill ≡ up_from size n = up_one size n (length p.fill) (up_from size n) filled (up_multiple size n some) p.fewer (up_below size n some) in
     let same : up_from size (c.at + n) ≡ length p.fill = up_behind size c.at n at_page ∙ sym k in
-    let next : IsMultiple size (c.at + n + up_from size (c.at + n)) = subst (λ (x : ℕ). IsMultiple size x) (let e : c.at + (n + length p.fill) ≡ c.at + n + up_from size (c.at + n) = omega (arith, same) in e) (multiple_sum size c.at (n + length p.fill) at_page filled) in
+    let next : IsMultiple size (c.at + n + up_from size (c.at + n)) =
+    subst (λ (x : ℕ). IsMultiple size x) (let e : c.at + (n + length p.fill) ≡ c.at + n + up_from size (c.at + n) = omega (arith, same) in e)
+    (multiple_sum size c.at (n + length p.fill) at_page filled) in
     let behind : drop (up_from size (c.at + n)) (p.fill ++ so.back) ≡ so.back = drop_at p.fill so.back (up_from size (c.at + n)) (sym same) in
-    let others : modules_within most size (up_to_page size d) ≡ Ok ms = modules_complete ms most size (up_to_page size d) some next (subst (λ (xs : List ℕ). ArePaged size ms xs) (sym behind) so.second_so) (omega (arith, few)) in
+    let others : modules_within most size (up_to_page size d) ≡ Ok ms =
+    modules_complete ms most size (up_to_page size d) some next (subst (λ (xs : List ℕ). ArePaged size ms xs) (sym behind) so.second_so) (omega (arith, few)) in
     let opens : ends_library c.left ≡ false = subst (λ (xs : List ℕ). ends_library xs ≡ false) (sym all) (header_first m p.body (p.fill ++ so.back) p.is_module) in
     rw (opens, module_complete c m d t tt, others) refl
 
@@ -190,7 +195,8 @@ header_begins bytes size front back joined h =
     let bounds = size_bounds size h.page in
     let long : length front ≡ length (0xF0 ∷ little_bytes 2 (size - 3)) + length h.contents = ap (λ (xs : List ℕ). length xs) h.joined ∙ length-append (0xF0 ∷ little_bytes 2 (size - 3)) h.contents in
     let count : length h.contents ≡ suc (size - 4) = omega (arith, long, h.whole, length-little_bytes 2 (size - 3), bounds.0) in
-    let parts : take (size - 4) h.contents ++ get_or h.contents (size - 4) 0 ∷ [] ≡ h.contents = sym (take-suc h.contents (size - 4) 0 (omega (arith, count))) ∙ ap (λ (n : ℕ). take n h.contents) (sym count) ∙ take-length h.contents in
+    let parts : take (size - 4) h.contents ++ get_or h.contents (size - 4) 0 ∷ [] ≡ h.contents =
+    sym (take-suc h.contents (size - 4) 0 (omega (arith, count))) ∙ ap (λ (n : ℕ). take n h.contents) (sym count) ∙ take-length h.contents in
     let body : length (take (size - 4) h.contents) ≡ size - 4 = omega (arith, count, length-take (size - 4) h.contents) in
     let word : size - 3 ≡ length (take (size - 4) h.contents) + 1 = omega (arith, body, bounds.0) in
     record {
@@ -226,7 +232,8 @@ library_complete bytes ms l =
     let place : 0 + 4 + length (take (l.size - 4) h.contents) ≡ l.size = omega (arith, body, bounds.0) in
     let all : length bytes ≡ length l.paged.front + length l.paged.back = ap (λ (xs : List ℕ). length xs) l.paged.joined ∙ length-append l.paged.front l.paged.back in
     let modules : modules_within (length bytes) l.size (record { at = l.size; left = l.paged.back }) ≡ Ok ms =
-    modules_complete ms (length bytes) l.size (record { at = l.size; left = l.paged.back }) (omega (arith, bounds.0)) (record { times = 1; is = omega arith }) l.paged.second_so (omega (arith, all, paged_long l.size ms l.paged.back l.paged.second_so)) in
+    modules_complete ms (length bytes) l.size (record { at = l.size; left = l.paged.back }) (omega (arith, bounds.0))
+    (record { times = 1; is = omega arith }) l.paged.second_so (omega (arith, all, paged_long l.size ms l.paged.back l.paged.second_so)) in
     rw (whole_complete (record { at = 0; left = bytes }) 0xF0 (take (l.size - 4) h.contents) (get_or h.contents (l.size - 4) 0) l.paged.back whole, place, h.page, modules) refl
 
 pub library_one : (bytes : List ℕ) (ms ns : List ObjModule) → Lib bytes ms → Lib bytes ns → ms ≡ ns

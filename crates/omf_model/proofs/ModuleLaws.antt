@@ -125,7 +125,8 @@ module_sound c m d bytes e =
     step _ _ _ header_sound c _ (m, d) bytes e λ r c1 t1 f1 b1 e1.
     let a = bind_ok (rest_within (length c.left) (add fresh_parts r) c1) _ (m, d) e1 in
     let text = t1.so.0 in
-    let there : rest_within (length c.left) (parts_of (header text ∷ [])) c1 ≡ Ok a.0 = subst (λ (p : ObjParts). rest_within (length c.left) p c1 ≡ done a.0) (ap (λ (q : Record). add fresh_parts q) t1.so.1 ∙ sym (parts_header text)) a.1 in
+    let there : rest_within (length c.left) (parts_of (header text ∷ [])) c1 ≡ Ok a.0 =
+    subst (λ (p : ObjParts). rest_within (length c.left) p c1 ≡ done a.0) (ap (λ (q : Record). add fresh_parts q) t1.so.1 ∙ sym (parts_header text)) a.1 in
     let k = rest_sound (length c.left) (header text ∷ []) c1 a.0.0 a.0.1 b1 there in
     let first : Spans (SpellForm (header text)) c c1 = record { front = t1.front; joined = t1.joined; moved = t1.moved; so = subst (λ (q : Record). Spells t1.front q) t1.so.1 t1.so.2 } in
     let whole = then_spans (SpellForm (header text)) (SpellsAll k.records) c c1 a.0.1 first k.spans in
@@ -170,7 +171,8 @@ rest_complete (r ∷ []) before (suc most) c d ends good t few =
 rest_complete (r ∷ x ∷ rs) before (suc most) c d ends good t few =
     let s = then_splits (SpellForm r) (SpellsAll (x ∷ rs)) c d t in
     let rest = rest_complete (x ∷ rs) (before ++ r ∷ []) most s.0 d ends.1 good.1 s.2 (omega (arith, few)) in
-    let there : rest_within most (add (parts_of before) r) s.0 ≡ Ok (parts_of (before ++ r ∷ x ∷ rs), d) = subst (λ (p : ObjParts). rest_within most p s.0 ≡ given (parts_of (before ++ r ∷ x ∷ rs)) d) (parts_of-snoc before r)
+    let there : rest_within most (add (parts_of before) r) s.0 ≡ Ok (parts_of (before ++ r ∷ x ∷ rs), d) =
+    subst (λ (p : ObjParts). rest_within most p s.0 ≡ given (parts_of (before ++ r ∷ x ∷ rs)) d) (parts_of-snoc before r)
     (rest ∙ ap (λ (qs : List Record). given (parts_of qs) d) (append_assoc before (r ∷ []) (x ∷ rs))) in
     rw (record_complete (parts_of before) c r s.0 s.1 good.0, ends.0) there
 
@@ -193,7 +195,8 @@ module_complete c m d t free =
     let rest : length s.0.left ≡ length s.2.front + length d.left = ap (λ (xs : List ℕ). length xs) s.2.joined ∙ length-append s.2.front d.left in
     omega (arith, long, rest, long_enough others s.2.front s.2.so) in
     let rest = rest_complete others (header name ∷ []) (length c.left) s.0 d ends w.are.begun.good s.2 enough in
-    let there : rest_within (length c.left) (add fresh_parts (header name)) s.0 ≡ Ok (parts_of (header name ∷ others), d) = subst (λ (p : ObjParts). rest_within (length c.left) p s.0 ≡ given (parts_of (header name ∷ others)) d) (parts_header name) rest in
+    let there : rest_within (length c.left) (add fresh_parts (header name)) s.0 ≡ Ok (parts_of (header name ∷ others), d) =
+    subst (λ (p : ObjParts). rest_within (length c.left) p s.0 ≡ given (parts_of (header name ∷ others)) d) (parts_header name) rest in
     let value : finished (parts_of (header name ∷ others)) ≡ m = ap (λ (rs : List Record). finished (parts_of rs)) (sym w.are.begun.headed) ∙ sym w.meant in
     rw (header_complete c name s.0 s.1, there, value) refl
 
@@ -302,7 +305,8 @@ module_faults at bytes refusal are e =
           let text = t1.so.0 in
           elim (bind_err (rest_within (length bytes) (add fresh_parts r) c1) _ refusal h.2) [
             | inl k ↦
-                let there : rest_within (length bytes) (parts_of (header text ∷ [])) c1 ≡ Err refusal = subst (λ (p : ObjParts). rest_within (length bytes) p c1 ≡ failed refusal) (ap (λ (q : Record). add fresh_parts q) t1.so.1 ∙ sym (parts_header text)) k in
+                let there : rest_within (length bytes) (parts_of (header text ∷ [])) c1 ≡ Err refusal =
+                subst (λ (p : ObjParts). rest_within (length bytes) p c1 ≡ failed refusal) (ap (λ (q : Record). add fresh_parts q) t1.so.1 ∙ sym (parts_header text)) k in
                 let long : length bytes ≡ length t1.front + length c1.left = ap (λ (ys : List ℕ). length ys) t1.joined ∙ length-append t1.front c1.left in
                 let rest = rest_faults (length bytes) (header text ∷ []) c1 refusal (bytes_behind (HeaderForm r) c c1 t1 are) (omega (arith, long)) there in
                 let first : Spans (SpellForm (header text)) c c1 = record { front = t1.front; joined = t1.joined; moved = t1.moved; so = subst (λ (q : Record). Spells t1.front q) t1.so.1 t1.so.2 } in
@@ -325,11 +329,13 @@ module_faults at bytes refusal are e =
     failed q = Err q
 
 -- a fault that is the first is found
-rest_meets : (rs before : List Record) (most : ℕ) (c d : Cursor) (refusal : OmfRefusal) → IsOpen rs → EachGood before rs → Spans (SpellsAll rs) c d → length rs < most → record_at (parts_of (before ++ rs)) d ≡ Err refusal → rest_within most (parts_of before) c ≡ Err refusal
+rest_meets : (rs before : List Record) (most : ℕ) (c d : Cursor) (refusal : OmfRefusal) → IsOpen rs → EachGood before rs →
+    Spans (SpellsAll rs) c d → length rs < most → record_at (parts_of (before ++ rs)) d ≡ Err refusal → rest_within most (parts_of before) c ≡ Err refusal
 unfolding rest_within within
 rest_meets rs before zero c d refusal still good t few e = absurd (omega (arith, few))
 rest_meets [] before (suc most) c d refusal still good t few e =
-    let here : record_at (parts_of before) c ≡ Err refusal = ap (λ (rs : List Record). record_at (parts_of rs) c) (sym (append-nil before)) ∙ ap (λ (k : Cursor). record_at (parts_of (before ++ [])) k) (nothing_spans c d t) ∙ e in
+    let here : record_at (parts_of before) c ≡ Err refusal = ap (λ (rs : List Record). record_at (parts_of rs) c) (sym (append-nil before))
+    ∙ ap (λ (k : Cursor). record_at (parts_of (before ++ [])) k) (nothing_spans c d t) ∙ e in
     rw here refl
 rest_meets (r ∷ rs) before (suc most) c d refusal still good t few e =
     let s = then_splits (SpellForm r) (SpellsAll rs) c d t in

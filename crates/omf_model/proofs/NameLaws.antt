@@ -176,7 +176,8 @@ pubdef_sound p wide local c r bytes e =
     subst (λ (q : Record). IsRead (pub_types local) p wide c q) (ok_is (pubdef local group segment frame a.0) r a.2)
     (then_left _ _ c c1 t1 (then_left _ _ c1 c2 t2 (then_left _ _ c2 c3 t3 l.0)), record { in_group = g1; in_segment = g2; index = index_small segment t2.front t2.so; types = l.1 }, refl)
 
-pub pubdef_complete : (p : ObjParts) (wide local : Bool) (c : Cursor) (group segment : ℕ) (frame : Option ℕ) (defs : List PubDef) → contents_form wide (pubdef local group segment frame defs) c.left → GoodPubDef p group segment defs → pubdef_at local wide p c ≡ Ok (pubdef local group segment frame defs)
+pub pubdef_complete : (p : ObjParts) (wide local : Bool) (c : Cursor) (group segment : ℕ) (frame : Option ℕ) (defs : List PubDef) →
+    contents_form wide (pubdef local group segment frame defs) c.left → GoodPubDef p group segment defs → pubdef_at local wide p c ≡ Ok (pubdef local group segment frame defs)
 unfolding pubdef_at
 pubdef_complete p wide local c group segment frame defs so good =
     let s1 = left_splits _ _ c so in
@@ -239,7 +240,8 @@ grpdef_complete p wide c n members so good =
 abbrev pub GoodCommunal : Communal → Type 0
 GoodCommunal k = (communal_of k).len ≤ MAX_DATA
 
-far_sound : (c : Cursor) (k : Communal) (d : Cursor) → AreBytes c.left → far_at c ≡ Ok (k, d) → (count : ℕ) × (size : ℕ) × (far count size ≡ k) × Spans (length_form count then length_form size) c d × (count * size ≤ MAX_DATA)
+far_sound : (c : Cursor) (k : Communal) (d : Cursor) → AreBytes c.left →
+    far_at c ≡ Ok (k, d) → (count : ℕ) × (size : ℕ) × (far count size ≡ k) × Spans (length_form count then length_form size) c d × (count * size ≤ MAX_DATA)
 unfolding far_at
 far_sound c k d bytes e =
     step _ _ _ length_sound c _ (k, d) bytes e λ count c1 t1 f1 b1 e1.

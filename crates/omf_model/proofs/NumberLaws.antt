@@ -107,7 +107,8 @@ module _ (p q : ObjParts) (g : PartsGrow p q) where
       elim h [
         | inl lies ↦ inl (lies.0, lies-grows p.module q.module g.module i offset len lies.1)
         | inr lies ↦
-            let longer : greatest_end p.module.pieces i ≤ greatest_end q.module.pieces i = subst (λ (xs : List Piece). greatest_end p.module.pieces i ≤ greatest_end xs i) (sym g.pieces) (end-grows p.module.pieces g.more_pieces i) in
+            let longer : greatest_end p.module.pieces i ≤ greatest_end q.module.pieces i =
+            subst (λ (xs : List Piece). greatest_end p.module.pieces i ≤ greatest_end xs i) (sym g.pieces) (end-grows p.module.pieces g.more_pieces i) in
             inr (record { comdat = comdat-grows i lies.comdat; within = omega (arith, lies.within, longer); limit = lies.limit })
       ]
 
@@ -160,7 +161,8 @@ pub record HasPublic (pubs : List Pub) (q : ℕ × BegunComdat) : Type 0 where
   pub name : public.name ≡ q.1.name
   pub begin : public.place ≡ In q.0 0
 
-pub publics-more : (pubs more : List Pub) (qs : List (ℕ × BegunComdat)) → AllByRecursion (λ (q : ℕ × BegunComdat). filter (in_number q.0) more ≡ []) qs → AllByRecursion (HasPublic pubs) qs → AllByRecursion (HasPublic (pubs ++ more)) qs
+pub publics-more : (pubs more : List Pub) (qs : List (ℕ × BegunComdat)) → AllByRecursion (λ (q : ℕ × BegunComdat). filter (in_number q.0) more ≡ []) qs →
+    AllByRecursion (HasPublic pubs) qs → AllByRecursion (HasPublic (pubs ++ more)) qs
 publics-more pubs more [] none h = tt
 publics-more pubs more (q ∷ qs) none h = (
   record {

@@ -53,7 +53,8 @@ set-append : {A : Type 0} (g : FixField → Option A) (o : Option A) (a b : List
 set-append g o [] b = refl
 set-append {A = A} g o (f ∷ a) b = by (g f) (λ p. set-append g p a b)
   where
-    by : (x : Option A) → ((p : Option A) → latest p (map some (filter_map g (a ++ b))) ≡ latest (latest p (map some (filter_map g a))) (map some (filter_map g b))) → latest o (map some (cons_option x (filter_map g (a ++ b)))) ≡ latest (latest o (map some (cons_option x (filter_map g a)))) (map some (filter_map g b))
+    by : (x : Option A) → ((p : Option A) → latest p (map some (filter_map g (a ++ b))) ≡ latest (latest p (map some (filter_map g a))) (map some (filter_map g b))) →
+        latest o (map some (cons_option x (filter_map g (a ++ b)))) ≡ latest (latest o (map some (cons_option x (filter_map g a)))) (map some (filter_map g b))
     by None rest = rest o
     by (Some y) rest = rest (Some y)
 
@@ -64,7 +65,8 @@ set_threads-append ts a b = λ i. record {
   goal = goal_at 0 i ∷ goal_at 1 i ∷ goal_at 2 i ∷ goal_at 3 i ∷ [];
 }
   where
-    frame_at : (n : ℕ) → latest (get_or ts.frame n None) (map some (filter_map (frame_set n) (a ++ b))) ≡ latest (latest (get_or ts.frame n None) (map some (filter_map (frame_set n) a))) (map some (filter_map (frame_set n) b))
+    frame_at : (n : ℕ) → latest (get_or ts.frame n None) (map some (filter_map (frame_set n) (a ++ b)))
+        ≡ latest (latest (get_or ts.frame n None) (map some (filter_map (frame_set n) a))) (map some (filter_map (frame_set n) b))
     frame_at n = set-append (frame_set n) (get_or ts.frame n None) a b
 
     goal_at : (n : ℕ) → latest (get_or ts.goal n None) (map some (filter_map (goal_set n) (a ++ b))) ≡ latest (latest (get_or ts.goal n None) (map some (filter_map (goal_set n) a))) (map some (filter_map (goal_set n) b))
@@ -105,7 +107,8 @@ module_of-snoc rs r = λ i. record {
   imports = flat_map-snoc imports_in rs r i;
   exports = flat_map-snoc exports_in rs r i;
   deflibs = flat_map-snoc deflibs_in rs r i;
-  start = (ap (λ (ss : List (Option StartAt)). latest None ss) (collect-snoc (λ before r. starts_in (threads_of (fields_of before)) r) rs r) ∙ latest-append None (collect (λ before r. starts_in (threads_of (fields_of before)) r) rs) (starts_in (threads_of (fields_of rs)) r)) i;
+  start = (ap (λ (ss : List (Option StartAt)). latest None ss) (collect-snoc (λ before r. starts_in (threads_of (fields_of before)) r) rs r)
+      ∙ latest-append None (collect (λ before r. starts_in (threads_of (fields_of before)) r) rs) (starts_in (threads_of (fields_of rs)) r)) i;
   comdats = [];
 }
 
@@ -299,7 +302,9 @@ add-lists p (pubdef local group segment frame defs) four = ap (λ (q : ObjParts)
 add-lists p (extdef local defs) four = ap (λ (q : ObjParts). record q { «module» = record q.module { exts = p.module.exts ++ map (ext_of local) defs } }) (unpadded p four)
 add-lists p (comdef defs) four = ap (λ (q : ObjParts). record q { «module» = record q.module { exts = p.module.exts ++ map com_of defs } }) (unpadded p four)
 add-lists p (ledata seg offset content) four = data-lists p four (record { seg = seg; offset = offset; bytes = content }) (datas.Straight seg offset (length content)) (is_debug_seg p.module.segs seg) refl
-add-lists p (lidata wide seg offset blocks) four = data-lists p four (record { seg = seg; offset = offset; bytes = expanded blocks }) (datas.Blocks seg offset wide (block_bytes wide blocks)) (is_debug_seg p.module.segs seg) refl
+add-lists p (lidata wide seg offset blocks) four =
+    data-lists p four (record { seg = seg; offset = offset; bytes = expanded blocks })
+    (datas.Blocks seg offset wide (block_bytes wide blocks)) (is_debug_seg p.module.segs seg) refl
 add-lists p (comdat d) four = comdat-lists p d four
 add-lists p (fixupp fields) four = fields-lists fields p four
 add-lists p (modend kind start) four = ap (λ (q : ObjParts). record q { «module» = record q.module { start = start_of p.threads start } }) (unpadded p four)

@@ -130,5 +130,6 @@ unfolding repeated
 length-repeated zero unit places = omega arith
 length-repeated (suc times) unit places =
     length-append places (map (λ x. unit + x) (repeated times unit places))
-    ∙ (let e : length places + length (map (λ x. unit + x) (repeated times unit places)) ≡ times * length places + length places = omega (arith, length-map (repeated times unit places) (λ x. unit + x), length-repeated times unit places) in e)
+    ∙ (let e : length places + length (map (λ x. unit + x) (repeated times unit places))
+    ≡ times * length places + length places = omega (arith, length-map (repeated times unit places) (λ x. unit + x), length-repeated times unit places) in e)
     ∙ sym (suc-mul times (length places))

@@ -1,4 +1,4 @@
--- The records of names, segments and symbols: what is read is spelled so and good, and what is so is read.
+-- Indices of segments that are no debug segments: what is read is spelled so and good, and what is so is read.
 use Rattle.std.specs.Prelude.{IsSomeAnd, slice_get, not, unwrap_or, option_map}
 use Rattle.obj_types.specs.declared.object.Seg.{Seg}
 use Rattle.obj_types.specs.declared.refusal.OmfRefusal.TheVariants.{BadIndex}

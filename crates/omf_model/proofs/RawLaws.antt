@@ -26,7 +26,8 @@ use Rattle.omf_model.proofs.DataLaws.{bool_cases}
 abbrev pub raw : ℕ → ℕ → List ℕ → ℕ → List ℕ → RawRecord
 raw at ty body checksum rest = record { at = at; ty = ty; contents = body; checksum = checksum; after = record { at = at + 4 + length body; left = rest } }
 
-raw_is : (f : RawRecord) (at ty : ℕ) (body : List ℕ) (checksum : ℕ) (rest : List ℕ) → f.at ≡ at → f.ty ≡ ty → f.contents ≡ body → f.checksum ≡ checksum → f.after.at ≡ at + 4 + length body → f.after.left ≡ rest → f ≡ raw at ty body checksum rest
+raw_is : (f : RawRecord) (at ty : ℕ) (body : List ℕ) (checksum : ℕ) (rest : List ℕ) → f.at ≡ at →
+    f.ty ≡ ty → f.contents ≡ body → f.checksum ≡ checksum → f.after.at ≡ at + 4 + length body → f.after.left ≡ rest → f ≡ raw at ty body checksum rest
 raw_is f at ty body checksum rest a b c d e g = λ i. record { at = a i; ty = b i; contents = c i; checksum = d i; after = record { at = e i; left = g i } }
 
 -- the bytes after the length word, up to the checksum and after it
@@ -36,7 +37,9 @@ tail_parts k xs long = ap (λ (ys : List ℕ). ys ++ drop (suc k) xs) (sym (take
 whole_begins : (t l h k : ℕ) (xs : List ℕ) → l < 256 → h < 256 → little (l ∷ h ∷ []) ≡ suc k → suc k ≤ length xs → BeginsWhole (t ∷ l ∷ h ∷ xs) t (take k xs) (get_or xs k 0) (drop (suc k) xs)
 whole_begins t l h k xs low high word long =
     let body : length (take k xs) ≡ k = omega (arith, long, length-take k xs) in
-    let spelled : little_bytes 2 (length (take k xs) + 1) ≡ l ∷ h ∷ [] = ap (λ (n : ℕ). little_bytes 2 n) (let e : length (take k xs) + 1 ≡ little (l ∷ h ∷ []) = omega (arith, body, word) in e) ∙ little_bytes-little (l ∷ h ∷ []) (pair_of_bytes l h low high) in
+    let spelled : little_bytes 2 (length (take k xs) + 1) ≡ l ∷ h ∷ [] =
+    ap (λ (n : ℕ). little_bytes 2 n) (let e : length (take k xs) + 1 ≡ little (l ∷ h ∷ []) = omega (arith, body, word) in e)
+    ∙ little_bytes-little (l ∷ h ∷ []) (pair_of_bytes l h low high) in
     record {
       joined = ap (λ (ys : List ℕ). t ∷ l ∷ h ∷ ys) (sym (tail_parts k xs long)) ∙ ap (λ (ws : List ℕ). t ∷ ws ++ take k xs ++ get_or xs k 0 ∷ [] ++ drop (suc k) xs) (sym spelled);
       counted = omega (arith, body, word, low, high);
@@ -48,7 +51,8 @@ pub record IsRaw (c : Cursor) (f : RawRecord) : Type 0 where
   pub place : f.at ≡ c.at
   pub behind : f.after.at ≡ c.at + 4 + length f.contents
 
-raw_found : (at t l h k : ℕ) (xs : List ℕ) → l < 256 → h < 256 → little (l ∷ h ∷ []) ≡ suc k → suc k ≤ length xs → (f : RawRecord) → raw_of (little (l ∷ h ∷ [])) (record { at = at; left = t ∷ l ∷ h ∷ xs }) ≡ f → IsRaw (record { at = at; left = t ∷ l ∷ h ∷ xs }) f
+raw_found : (at t l h k : ℕ) (xs : List ℕ) → l < 256 → h < 256 → little (l ∷ h ∷ []) ≡ suc k → suc k ≤ length xs →
+    (f : RawRecord) → raw_of (little (l ∷ h ∷ [])) (record { at = at; left = t ∷ l ∷ h ∷ xs }) ≡ f → IsRaw (record { at = at; left = t ∷ l ∷ h ∷ xs }) f
 raw_found at t l h k xs low high word long f e =
     let len : ℕ = little (l ∷ h ∷ []) in
     let place : len + 2 ≡ suc (suc (suc k)) = omega (arith, word) in
@@ -102,9 +106,11 @@ whole_complete c ty body checksum rest w =
     let all : c.left ≡ ty ∷ lo ∷ hi ∷ tail = w.joined ∙ ap (λ (ys : List ℕ). ty ∷ lo ∷ hi ∷ ys) (tail_of body checksum rest) in
     let word : little (lo ∷ hi ∷ []) ≡ n = little-little_bytes 2 n w.counted in
     let count : length tail ≡ length body + suc (length rest) = length-append body (checksum ∷ rest) in
-    let is : is_whole n (ty ∷ lo ∷ hi ∷ tail) ≡ true = rw (le-leb 3 (length (ty ∷ lo ∷ hi ∷ tail)) (omega arith), ne_eqb n 0 (λ z. omega (arith, z)), le-leb (3 + n) (length (ty ∷ lo ∷ hi ∷ tail)) (omega (arith, count))) refl in
+    let is : is_whole n (ty ∷ lo ∷ hi ∷ tail) ≡ true =
+    rw (le-leb 3 (length (ty ∷ lo ∷ hi ∷ tail)) (omega arith), ne_eqb n 0 (λ z. omega (arith, z)), le-leb (3 + n) (length (ty ∷ lo ∷ hi ∷ tail)) (omega (arith, count))) refl in
     let behind : 3 + n ≡ suc (suc (suc (length body + 1))) = omega arith in
-    let rest_is : drop (length body + 1) tail ≡ rest = ap (λ (ys : List ℕ). drop (length body + 1) ys) (sym (tail_of body checksum rest)) ∙ drop_at (body ++ checksum ∷ []) rest (length body + 1) (length-append body (checksum ∷ [])) in
+    let rest_is : drop (length body + 1) tail ≡ rest = ap (λ (ys : List ℕ). drop (length body + 1) ys) (sym (tail_of body checksum rest))
+    ∙ drop_at (body ++ checksum ∷ []) rest (length body + 1) (length-append body (checksum ∷ [])) in
     let found : raw_of n (record { at = c.at; left = ty ∷ lo ∷ hi ∷ tail }) ≡ raw c.at ty body checksum rest =
     raw_is (raw_of n (record { at = c.at; left = ty ∷ lo ∷ hi ∷ tail })) c.at ty body checksum rest refl refl
     (ap (λ (k : ℕ). take k tail) (let e : n - 1 ≡ length body = omega arith in e) ∙ take_at body (checksum ∷ rest) (length body) refl)
@@ -144,7 +150,8 @@ raw_sound c f bytes e =
     subst (λ (g : RawRecord). IsGoodRaw c g) (ok_is a.0 f k2.1)
     (record { is = whole_sound c a.0 bytes a.1; known = k1.0; right = right_from a.0.checksum (sum_of a.0) k2.0 })
 
-pub raw_complete : (c : Cursor) (ty : ℕ) (body : List ℕ) (checksum : ℕ) (rest : List ℕ) → BeginsWhole c.left ty body checksum rest → is_record_type ty ≡ true → IsChecksum ty body checksum → raw_at c ≡ Ok (raw c.at ty body checksum rest)
+pub raw_complete : (c : Cursor) (ty : ℕ) (body : List ℕ) (checksum : ℕ) (rest : List ℕ) →
+    BeginsWhole c.left ty body checksum rest → is_record_type ty ≡ true → IsChecksum ty body checksum → raw_at c ≡ Ok (raw c.at ty body checksum rest)
 unfolding raw_at
 raw_complete c ty body checksum rest whole known right =
     rw (whole_complete c ty body checksum rest whole, known, right_again checksum (record_sum ty body checksum) right) refl

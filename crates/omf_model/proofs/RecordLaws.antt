@@ -175,17 +175,29 @@ reader_complete p at c (expdef d) ty wide is good = by_one 0x88 false ty wide is
 reader_complete p at c (lnames texts) ty wide is good = by_one 0x96 false ty wide is (Read p at c (lnames texts)) (λ so. (lnames_complete c texts so, refl))
 reader_complete p at c (segdef d) ty wide is good = by_two 0x98 0x99 false true ty wide is (Read p at c (segdef d)) (λ so. (segdef_complete p false c d so good, refl)) (λ so. (segdef_complete p true c d so good, refl))
 reader_complete p at c (grpdef n members) ty wide is good = by_one 0x9A false ty wide is (Read p at c (grpdef n members)) (λ so. (grpdef_complete p false c n members so good, refl))
-reader_complete p at c (pubdef true group segment frame defs) ty wide is good = by_two 0xB6 0xB7 false true ty wide is (Read p at c (pubdef true group segment frame defs)) (λ so. (pubdef_complete p false true c group segment frame defs so good, refl)) (λ so. (pubdef_complete p true true c group segment frame defs so good, refl))
-reader_complete p at c (pubdef false group segment frame defs) ty wide is good = by_two 0x90 0x91 false true ty wide is (Read p at c (pubdef false group segment frame defs)) (λ so. (pubdef_complete p false false c group segment frame defs so good, refl)) (λ so. (pubdef_complete p true false c group segment frame defs so good, refl))
-reader_complete p at c (extdef true defs) ty wide is good = by_two 0xB4 0xB5 false true ty wide is (Read p at c (extdef true defs)) (λ so. (extdef_complete true c defs so good, refl)) (λ so. (extdef_complete true c defs so good, refl))
+reader_complete p at c (pubdef true group segment frame defs) ty wide is good =
+    by_two 0xB6 0xB7 false true ty wide is (Read p at c (pubdef true group segment frame defs))
+    (λ so. (pubdef_complete p false true c group segment frame defs so good, refl)) (λ so. (pubdef_complete p true true c group segment frame defs so good, refl))
+reader_complete p at c (pubdef false group segment frame defs) ty wide is good =
+    by_two 0x90 0x91 false true ty wide is (Read p at c (pubdef false group segment frame defs))
+    (λ so. (pubdef_complete p false false c group segment frame defs so good, refl)) (λ so. (pubdef_complete p true false c group segment frame defs so good, refl))
+reader_complete p at c (extdef true defs) ty wide is good =
+    by_two 0xB4 0xB5 false true ty wide is (Read p at c (extdef true defs)) (λ so. (extdef_complete true c defs so good, refl)) (λ so. (extdef_complete true c defs so good, refl))
 reader_complete p at c (extdef false defs) ty wide is good = by_one 0x8C false ty wide is (Read p at c (extdef false defs)) (λ so. (extdef_complete false c defs so good, refl))
 reader_complete p at c (comdef defs) ty wide is good = by_one 0xB0 false ty wide is (Read p at c (comdef defs)) (λ so. (comdef_complete c defs so good, refl))
-reader_complete p at c (ledata seg offset content) ty wide is good = by_two 0xA0 0xA1 false true ty wide is (Read p at c (ledata seg offset content)) (λ so. (ledata_complete p false at c seg offset content so good, refl)) (λ so. (ledata_complete p true at c seg offset content so good, refl))
+reader_complete p at c (ledata seg offset content) ty wide is good =
+    by_two 0xA0 0xA1 false true ty wide is (Read p at c (ledata seg offset content))
+    (λ so. (ledata_complete p false at c seg offset content so good, refl)) (λ so. (ledata_complete p true at c seg offset content so good, refl))
 reader_complete p at c (lidata true seg offset blocks) ty wide is good = by_one 0xA3 true ty wide is (Read p at c (lidata true seg offset blocks)) (λ so. (lidata_complete p true at c seg offset blocks so good, refl))
 reader_complete p at c (lidata false seg offset blocks) ty wide is good = by_one 0xA2 false ty wide is (Read p at c (lidata false seg offset blocks)) (λ so. (lidata_complete p false at c seg offset blocks so good, refl))
-reader_complete p at c (comdat d) ty wide is good = by_two 0xC2 0xC3 false true ty wide is (Read p at c (comdat d)) (λ so. (comdat_complete p false at c d so good, refl)) (λ so. (comdat_complete p true at c d so good, refl))
-reader_complete p at c (fixupp fields) ty wide is good = by_two 0x9C 0x9D false true ty wide is (Read p at c (fixupp fields)) (λ so. (fixupp_complete p false at c fields so good, refl)) (λ so. (fixupp_complete p true at c fields so good, refl))
-reader_complete p at c (modend kind start) ty wide is good = by_two 0x8A 0x8B false true ty wide is (Read p at c (modend kind start)) (λ so. (modend_complete p false c kind start so good, refl)) (λ so. (modend_complete p true c kind start so good, refl))
+reader_complete p at c (comdat d) ty wide is good =
+    by_two 0xC2 0xC3 false true ty wide is (Read p at c (comdat d)) (λ so. (comdat_complete p false at c d so good, refl)) (λ so. (comdat_complete p true at c d so good, refl))
+reader_complete p at c (fixupp fields) ty wide is good =
+    by_two 0x9C 0x9D false true ty wide is
+    (Read p at c (fixupp fields)) (λ so. (fixupp_complete p false at c fields so good, refl)) (λ so. (fixupp_complete p true at c fields so good, refl))
+reader_complete p at c (modend kind start) ty wide is good =
+    by_two 0x8A 0x8B false true ty wide is
+    (Read p at c (modend kind start)) (λ so. (modend_complete p false c kind start so good, refl)) (λ so. (modend_complete p true c kind start so good, refl))
 
 -- ---- a record at a cursor
 
@@ -196,7 +208,8 @@ length-record : (ty : ℕ) (body : List ℕ) (checksum : ℕ) → length (record
 length-record ty body checksum = omega (arith, length-append body (checksum ∷ []))
 
 -- the bytes at a cursor begin with a frame's
-raw_spans : (c : Cursor) (f : RawRecord) → IsRaw c f → (r : Record) (wide : Bool) → HasType (types_of r) f.ty wide → is_record_type f.ty ≡ true → IsChecksum f.ty f.contents f.checksum → contents_form wide r f.contents → Spans (SpellForm r) c f.after
+raw_spans : (c : Cursor) (f : RawRecord) → IsRaw c f → (r : Record) (wide : Bool) → HasType (types_of r) f.ty wide →
+    is_record_type f.ty ≡ true → IsChecksum f.ty f.contents f.checksum → contents_form wide r f.contents → Spans (SpellForm r) c f.after
 raw_spans c f is r wide ty known right content = record {
   front = record_bytes f.ty f.contents f.checksum;
   joined = is.whole.joined;
@@ -245,7 +258,9 @@ spelled_begins c d r t = record {
 
 behind_is : (c d : Cursor) (r : Record) (t : Spans (SpellForm r) c d) → (raw c.at t.so.ty t.so.contents t.so.framed.checksum d.left).after ≡ d
 behind_is c d r t =
-    let long : length t.front ≡ 4 + length t.so.contents = ap (λ (xs : List ℕ). length xs) (t.so.framed.whole.joined ∙ append-nil (record_bytes t.so.ty t.so.contents t.so.framed.checksum)) ∙ length-record t.so.ty t.so.contents t.so.framed.checksum in
+    let long : length t.front ≡ 4 + length t.so.contents =
+    ap (λ (xs : List ℕ). length xs) (t.so.framed.whole.joined ∙ append-nil (record_bytes t.so.ty t.so.contents t.so.framed.checksum))
+    ∙ length-record t.so.ty t.so.contents t.so.framed.checksum in
     cursor_is d (c.at + 4 + length t.so.contents) d.left (omega (arith, t.moved, long)) refl
 
 pub record_complete : (p : ObjParts) → Complete (record_at p) SpellForm (GoodAfter p)
@@ -283,9 +298,11 @@ unfolding header_at
 header_complete c text d t =
     let s = left_splits (name text) anything (record { at = c.at + 3; left = t.so.contents }) t.so.content in
     let known = by_two 0x80 0x82 false false t.so.ty t.so.wide t.so.is_type (λ ty wide. ((eqb ty 0x80 || eqb ty 0x82) ≡ true) × (is_record_type ty ≡ true)) (refl, refl) (refl, refl) in
-    rw (raw_complete c t.so.ty t.so.contents t.so.framed.checksum d.left (spelled_begins c d (header text) t) known.1 t.so.framed.right, known.0, name_complete (record { at = c.at + 3; left = t.so.contents }) text s.0 s.1 tt) (ap (λ (k : Cursor). given (header text) k) (behind_is c d (header text) t))
+    rw (raw_complete c t.so.ty t.so.contents t.so.framed.checksum d.left (spelled_begins c d (header text) t) known.1 t.so.framed.right, known.0, name_complete (record { at = c.at + 3; left = t.so.contents }) text s.0 s.1 tt)
+    (ap (λ (k : Cursor). given (header text) k) (behind_is c d (header text) t))
 
 pub spelled_long : (r : Record) (bytes : List ℕ) → Spells bytes r → 1 ≤ length bytes
 spelled_long r bytes s =
-    let long : length bytes ≡ 4 + length s.contents = ap (λ (xs : List ℕ). length xs) (s.framed.whole.joined ∙ append-nil (record_bytes s.ty s.contents s.framed.checksum)) ∙ length-record s.ty s.contents s.framed.checksum in
+    let long : length bytes ≡ 4 + length s.contents =
+    ap (λ (xs : List ℕ). length xs) (s.framed.whole.joined ∙ append-nil (record_bytes s.ty s.contents s.framed.checksum)) ∙ length-record s.ty s.contents s.framed.checksum in
     omega (arith, long)

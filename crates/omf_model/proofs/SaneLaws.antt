@@ -145,7 +145,8 @@ lidata-whole p wide segment offset blocks g =
           let long = length-expanded blocks in
           let range : LiesIn p.module segment offset (length (expanded blocks)) = subst (λ (n : ℕ). LiesIn p.module segment offset n) (sym long) w.range in
           let lies : LiesAt p segment offset (length (expanded blocks)) = inl (g.1.index, range) in
-          let last : LiesIn p.module segment offset (expanded_len (blocks_in wide (block_bytes wide blocks))) = subst (λ (b : Blocks). LiesIn p.module segment offset (expanded_len b)) (sym (blocks_in-bytes wide blocks g.0)) w.range in
+          let last : LiesIn p.module segment offset (expanded_len (blocks_in wide (block_bytes wide blocks))) =
+          subst (λ (b : Blocks). LiesIn p.module segment offset (expanded_len b)) (sym (blocks_in-bytes wide blocks g.0)) w.range in
           record { pieces = rw h (lies, tt); limit = λ k. rw h (omega (arith, w.limit, long)); last = rw h ((g.1.index, last), tt) }
     ]
 

@@ -127,11 +127,14 @@ both_goal p (Some f) h k = whole_goal p f h k
 pub frame_by-in : (p : ObjParts) (m : ℕ) (o : Option ℕ) → is_some o ≡ has_index m → IfSome o (HasMethod p m) → InFrame p.module (frame_by m (unwrap_or o 0))
 frame_by-in p m o there h =
     elim (bool_cases (eqb m 0)) [
-      | inl z ↦ let e = eqb-true m 0 z in subst (λ (k : ℕ). InFrame p.module (frame_by k (unwrap_or o 0))) (sym e) (at p o 0 (subst (λ (k : ℕ). is_some o ≡ has_index k) e there) (subst (λ (k : ℕ). IfSome o (HasMethod p k)) e h))
+      | inl z ↦ let e = eqb-true m 0 z in subst (λ (k : ℕ). InFrame p.module (frame_by k (unwrap_or o 0)))
+          (sym e) (at p o 0 (subst (λ (k : ℕ). is_some o ≡ has_index k) e there) (subst (λ (k : ℕ). IfSome o (HasMethod p k)) e h))
       | inr n0 ↦ elim (bool_cases (eqb m 1)) [
-        | inl z ↦ let e = eqb-true m 1 z in subst (λ (k : ℕ). InFrame p.module (frame_by k (unwrap_or o 0))) (sym e) (at p o 1 (subst (λ (k : ℕ). is_some o ≡ has_index k) e there) (subst (λ (k : ℕ). IfSome o (HasMethod p k)) e h))
+        | inl z ↦ let e = eqb-true m 1 z in subst (λ (k : ℕ). InFrame p.module (frame_by k (unwrap_or o 0)))
+            (sym e) (at p o 1 (subst (λ (k : ℕ). is_some o ≡ has_index k) e there) (subst (λ (k : ℕ). IfSome o (HasMethod p k)) e h))
         | inr n1 ↦ elim (bool_cases (eqb m 2)) [
-          | inl z ↦ let e = eqb-true m 2 z in subst (λ (k : ℕ). InFrame p.module (frame_by k (unwrap_or o 0))) (sym e) (at p o 2 (subst (λ (k : ℕ). is_some o ≡ has_index k) e there) (subst (λ (k : ℕ). IfSome o (HasMethod p k)) e h))
+          | inl z ↦ let e = eqb-true m 2 z in subst (λ (k : ℕ). InFrame p.module (frame_by k (unwrap_or o 0)))
+              (sym e) (at p o 2 (subst (λ (k : ℕ). is_some o ≡ has_index k) e there) (subst (λ (k : ℕ). IfSome o (HasMethod p k)) e h))
           | inr n2 ↦ elim (bool_cases (eqb m 4)) [
             | inl z ↦ rw (n0, n1, n2, z) tt
             | inr z ↦ rw (n0, n1, n2, z) tt
@@ -152,12 +155,14 @@ goal_by-in p m (Some i) there h =
       | inr n0 ↦ elim (bool_cases (eqb m 1)) [
         | inl z ↦ let e = eqb-true m 1 z in subst (λ (k : ℕ). InGoal p.module (goal_by k i)) (sym e) (subst (λ (k : ℕ). HasMethod p k i) e h)
         | inr n1 ↦
-            let high : i ≤ length p.module.exts = subst (λ (b : Bool). i ≤ cond b (length p.module.groups) (length p.module.exts)) n1 (subst (λ (b : Bool). i ≤ cond b (length p.module.segs) (cond (eqb m 1) (length p.module.groups) (length p.module.exts))) n0 h.1) in
+            let high : i ≤ length p.module.exts = subst (λ (b : Bool). i ≤ cond b (length p.module.groups) (length p.module.exts)) n1
+            (subst (λ (b : Bool). i ≤ cond b (length p.module.segs) (cond (eqb m 1) (length p.module.groups) (length p.module.exts))) n0 h.1) in
             rw (n0, n1) (h.0, high)
       ]
     ]
 
-meant_frame : (p : ObjParts) (b : Bool) (t : Option Frame) (m : ℕ) (o : Option ℕ) → FrameSet p.module t → is_some o ≡ (not b && has_index m) → IfSome o (HasMethod p m) → IfSome (cond b t (Some (frame_by m (unwrap_or o 0)))) (InFrame p.module)
+meant_frame : (p : ObjParts) (b : Bool) (t : Option Frame) (m : ℕ) (o : Option ℕ) → FrameSet p.module t →
+    is_some o ≡ (not b && has_index m) → IfSome o (HasMethod p m) → IfSome (cond b t (Some (frame_by m (unwrap_or o 0)))) (InFrame p.module)
 meant_frame p true t m o set there h = set
 meant_frame p false t m o set there h = frame_by-in p m o there h
 
@@ -168,13 +173,15 @@ meant_goal p false t m o set there h = goal_by-in p m o there h
 pub frame_whole : (p : ObjParts) (d : FixData) → Sane p → GoodFixData p d → IfSome (frame_meant p.threads d) (WholeFrame p.module)
 frame_whole p d s g =
     both_frame p (frame_meant p.threads d)
-    (meant_frame p (by_frame_thread d.fix) (get_or p.threads.frame (frame_bits d.fix % 4) None) (frame_bits d.fix) d.frame (get-all (FrameSet p.module) p.threads.frame (frame_bits d.fix % 4) None tt s.frames) g.meant.frame_there g.frame_index)
+    (meant_frame p (by_frame_thread d.fix) (get_or p.threads.frame (frame_bits d.fix % 4) None)
+    (frame_bits d.fix) d.frame (get-all (FrameSet p.module) p.threads.frame (frame_bits d.fix % 4) None tt s.frames) g.meant.frame_there g.frame_index)
     g.frame
 
 pub goal_whole : (p : ObjParts) (d : FixData) → Sane p → GoodFixData p d → IfSome (goal_meant p.threads d) (WholeGoal p.module)
 goal_whole p d s g =
     both_goal p (goal_meant p.threads d)
-    (meant_goal p (by_target_thread d.fix) (get_or p.threads.goal (target_bits d.fix) None) (target_bits d.fix) d.target (get-all (GoalSet p.module) p.threads.goal (target_bits d.fix) None tt s.goals) g.meant.target_there g.target_index)
+    (meant_goal p (by_target_thread d.fix) (get_or p.threads.goal (target_bits d.fix) None)
+    (target_bits d.fix) d.target (get-all (GoalSet p.module) p.threads.goal (target_bits d.fix) None tt s.goals) g.meant.target_there g.target_index)
     g.goal
 
 or_default : {A : Type 0} (P : A → Type 0) (o : Option A) (x : A) → IfSome o P → is_some o ≡ true → P (unwrap_or o x)
@@ -256,7 +263,8 @@ indexed-apart : (p : ObjParts) (number : ℕ) → COMDAT_BASE < number → (x : 
 indexed-apart p number past (In seg offset) h = not-equal seg number (λ e. omega (arith, e, h.0, past))
 indexed-apart p number past (Const value) h = refl
 
-none-indexed : (p : ObjParts) (xs : List Pub) → AllByRecursion (PubIndexed p) xs → (qs : List (ℕ × BegunComdat)) (n : ℕ) → AllByRecursion (λ (q : ℕ × BegunComdat). (COMDAT_BASE + 1 ≤ q.0) × (q.0 < n)) qs → AllByRecursion (λ (q : ℕ × BegunComdat). filter (in_number q.0) xs ≡ []) qs
+none-indexed : (p : ObjParts) (xs : List Pub) → AllByRecursion (PubIndexed p) xs → (qs : List (ℕ × BegunComdat)) (n : ℕ) →
+    AllByRecursion (λ (q : ℕ × BegunComdat). (COMDAT_BASE + 1 ≤ q.0) × (q.0 < n)) qs → AllByRecursion (λ (q : ℕ × BegunComdat). filter (in_number q.0) xs ≡ []) qs
 none-indexed p xs h qs n past =
     all_weaker (λ (q : ℕ × BegunComdat). (COMDAT_BASE + 1 ≤ q.0) × (q.0 < n)) (λ (q : ℕ × BegunComdat). filter (in_number q.0) xs ≡ [])
     (λ q k. none-of xs q.0 (all_weaker (PubIndexed p) (λ (x : Pub). in_number q.0 x ≡ false) (λ x i. indexed-apart p q.0 (omega (arith, k.0)) x.place i) xs h)) qs past
@@ -276,21 +284,31 @@ lists-sane p r none other s good =
     let indexed : AllByRecursion (PubIndexed p) new = pubs-whole p r good other in
     record {
       segs = all_joined WholeSeg p.module.segs (segs_in p.names r) s.segs (segs-whole p r good);
-      groups = all_joined (WholeGroup m) p.module.groups (groups_in p.names r) (all_weaker (WholeGroup p.module) (WholeGroup m) (group-grows p.module m g) p.module.groups s.groups) (all_weaker (WholeGroup p.module) (WholeGroup m) (group-grows p.module m g) (groups_in p.names r) (groups-whole p r good));
-      pubs = all_joined (PubIn q) p.module.pubs new (all_weaker (PubIn p) (PubIn q) (λ x h. numbered-grows p q more x.place h) p.module.pubs s.pubs) (all_weaker (PubIndexed p) (PubIn q) (λ x h. numbered-grows p q more x.place (indexed-numbered p x.place h)) new indexed);
-      pieces = all_joined (PieceIn q) p.module.pieces (pieces_by p r) (all_weaker (PieceIn p) (PieceIn q) (λ x h. lies_at-grows p q more x.seg x.offset _ h) p.module.pieces s.pieces) (all_weaker (PieceIn p) (PieceIn q) (λ x h. lies_at-grows p q more x.seg x.offset _ h) (pieces_by p r) d.pieces);
+      groups =
+          all_joined (WholeGroup m) p.module.groups (groups_in p.names r) (all_weaker (WholeGroup p.module) (WholeGroup m) (group-grows p.module m g) p.module.groups s.groups)
+          (all_weaker (WholeGroup p.module) (WholeGroup m) (group-grows p.module m g) (groups_in p.names r) (groups-whole p r good));
+      pubs = all_joined (PubIn q) p.module.pubs new (all_weaker (PubIn p) (PubIn q) (λ x h. numbered-grows p q more x.place h) p.module.pubs s.pubs)
+          (all_weaker (PubIndexed p) (PubIn q) (λ x h. numbered-grows p q more x.place (indexed-numbered p x.place h)) new indexed);
+      pieces =
+          all_joined (PieceIn q) p.module.pieces (pieces_by p r) (all_weaker (PieceIn p) (PieceIn q) (λ x h. lies_at-grows p q more x.seg x.offset _ h) p.module.pieces s.pieces)
+          (all_weaker (PieceIn p) (PieceIn q) (λ x h. lies_at-grows p q more x.seg x.offset _ h) (pieces_by p r) d.pieces);
       fixes = subst (AllByRecursion (WholeFixAt q)) (sym fixes) (all_weaker (WholeFixAt p) (WholeFixAt q) (fix_at-grows p q more) p.module.fixes s.fixes);
       apart = subst (Pairs Apart) (sym fixes) s.apart;
       imports = all_joined HasModule p.module.imports (imports_in r) s.imports (imports-whole p r good);
       exports = all_joined WholeExp p.module.exports (exports_in r) s.exports (exports-whole p r good);
-      start = latest-all (StartSet m) p.module.start (starts_in p.threads r) (option-grows (WholeStart p.module) (WholeStart m) (start-grows p.module m g) p.module.start s.start) (all_weaker (StartSet p.module) (StartSet m) (option-grows (WholeStart p.module) (WholeStart m) (start-grows p.module m g)) (starts_in p.threads r) (starts-whole p r s good));
+      start = latest-all (StartSet m) p.module.start (starts_in p.threads r)
+          (option-grows (WholeStart p.module) (WholeStart m) (start-grows p.module m g) p.module.start s.start) (all_weaker (StartSet p.module)
+          (StartSet m) (option-grows (WholeStart p.module) (WholeStart m) (start-grows p.module m g)) (starts_in p.threads r) (starts-whole p r s good));
       data_limit = omega (arith, d.limit s.data_limit, sum_by-append (λ (x : Piece). length x.bytes) p.module.pieces (pieces_by p r));
       fix_limit = subst (λ (fs : List FixAt). length fs ≤ MAX_FIXES) (sym fixes) s.fix_limit;
       comdats = subst (AllByRecursion WholeBegun) (sym comdats) s.comdats;
-      publics = subst (λ (bs : List BegunComdat). AllByRecursion (HasPublic (p.module.pubs ++ new)) (counted bs)) (sym comdats) (publics-more p.module.pubs new (counted p.comdats) (none-indexed p new indexed (counted p.comdats) _ (numbers-from (COMDAT_BASE + 1) p.comdats)) s.publics);
+      publics = subst (λ (bs : List BegunComdat). AllByRecursion (HasPublic (p.module.pubs ++ new)) (counted bs)) (sym comdats)
+          (publics-more p.module.pubs new (counted p.comdats) (none-indexed p new indexed (counted p.comdats) _ (numbers-from (COMDAT_BASE + 1) p.comdats)) s.publics);
       last = latest-all (LastFits q) p.last (datas_by p r) (last-grows p q more p.last s.last) (all_weaker (LastFits p) (LastFits q) (last-grows p q more) (datas_by p r) d.last);
-      frames = subst (λ (ts : Threads). AllByRecursion (FrameSet m) ts.frame) (sym threads) (all_weaker (FrameSet p.module) (FrameSet m) (option-grows (InFrame p.module) (InFrame m) (in_frame-grows p.module m g)) p.threads.frame s.frames);
-      goals = subst (λ (ts : Threads). AllByRecursion (GoalSet m) ts.goal) (sym threads) (all_weaker (GoalSet p.module) (GoalSet m) (option-grows (InGoal p.module) (InGoal m) (in_goal-grows p.module m g)) p.threads.goal s.goals);
+      frames = subst (λ (ts : Threads). AllByRecursion (FrameSet m) ts.frame) (sym threads)
+          (all_weaker (FrameSet p.module) (FrameSet m) (option-grows (InFrame p.module) (InFrame m) (in_frame-grows p.module m g)) p.threads.frame s.frames);
+      goals = subst (λ (ts : Threads). AllByRecursion (GoalSet m) ts.goal)
+          (sym threads) (all_weaker (GoalSet p.module) (GoalSet m) (option-grows (InGoal p.module) (InGoal m) (in_goal-grows p.module m g)) p.threads.goal s.goals);
       four_frames = subst (λ (ts : Threads). length ts.frame ≡ 4) (sym threads) s.four_frames;
       four_goals = subst (λ (ts : Threads). length ts.goal ≡ 4) (sym threads) s.four_goals;
     }

@@ -420,7 +420,8 @@ module _ (low high : ℕ) where
       then-stays Any Behind (check (are_methods f.0) (BadField c.at)) _ (check-stays (are_methods f.0) (BadField c.at) (here c h)) λ u2 z2.
       then-stays Any Behind (check_frame judged p c.at (thread_frame p f.0)) _ (check_frame-in judged p c.at (thread_frame p f.0) (here c h)) λ u3 z3.
       then-stays Any Behind (check_goal judged p c.at (thread_goal p f.0)) _ (check_goal-in judged p c.at (thread_goal p f.0) (here c h)) λ u4 z4.
-      then-stays Behind Behind (where_so (not (by_frame_thread f.0) && has_index (frame_bits f.0)) (method_index_at judged p (frame_bits f.0)) f.1) _ (where-in (not (by_frame_thread f.0) && has_index (frame_bits f.0)) (method_index_at judged p (frame_bits f.0)) (method_index-in judged p (frame_bits f.0)) f.1 k1) λ r k2.
+      then-stays Behind Behind (where_so (not (by_frame_thread f.0) && has_index (frame_bits f.0)) (method_index_at judged p (frame_bits f.0)) f.1) _
+      (where-in (not (by_frame_thread f.0) && has_index (frame_bits f.0)) (method_index_at judged p (frame_bits f.0)) (method_index-in judged p (frame_bits f.0)) f.1 k1) λ r k2.
       then-stays Behind Behind (where_so (not (by_target_thread f.0)) (method_index_at judged p (target_bits f.0)) r.1) _ (where-in (not (by_target_thread f.0)) (method_index_at judged p (target_bits f.0)) (method_index-in judged p (target_bits f.0)) r.1 k2) λ t k3.
       then-stays Behind Behind (where_so (has_displacement f.0) (number_at (width wide)) t.1) _ (where-in (has_displacement f.0) (number_at (width wide)) (number-in (width wide)) t.1 k3) λ d k4. k4
 
@@ -428,7 +429,8 @@ module _ (low high : ℕ) where
   unfolding thread_at
   thread-in p first in_field c h =
       then-stays Any Behind (check (is_thread_method first.byte) (BadField first.at)) _ (check-stays (is_thread_method first.byte) (BadField first.at) in_field) λ u z.
-      then-stays Behind Behind (where_so (has_index (thread_method first.byte)) (index_below (have_of p (thread_method first.byte))) c) _ (where-in (has_index (thread_method first.byte)) (index_below (have_of p (thread_method first.byte))) (below-in (have_of p (thread_method first.byte))) c h) λ i k. k
+      then-stays Behind Behind (where_so (has_index (thread_method first.byte)) (index_below (have_of p (thread_method first.byte))) c) _
+      (where-in (has_index (thread_method first.byte)) (index_below (have_of p (thread_method first.byte))) (below-in (have_of p (thread_method first.byte))) c h) λ i k. k
 
   judge_fixup-in : (p : ObjParts) (first : FirstByte) (second : ℕ) (d : FixData) → (low ≤ first.at) × (first.at ≤ high) → (low ≤ first.of_record) × (first.of_record ≤ high) → Stays Any (judge_fixup p first second d)
   unfolding judge_fixup

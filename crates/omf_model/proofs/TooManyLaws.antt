@@ -40,7 +40,8 @@ use Rattle.omf_model.proofs.TurnLaws.{fields-next, rest-more, rest-next, rest-re
 use Rattle.omf_model.proofs.CopiesLaws.{copies-found, copies-counted}
 
 -- how many fixes a fixup on blocks has
-fixes-counted : (ts : Threads) (seg start : ℕ) (wide : Bool) (body : List ℕ) (high low : ℕ) (d : FixData) → length (fixes_by (datas.Blocks seg start wide body) ts (fixup high low d)) ≡ copy_count wide 0 (blocks_in wide body) (offset_of high low)
+fixes-counted : (ts : Threads) (seg start : ℕ) (wide : Bool) (body : List ℕ) (high low : ℕ) (d : FixData) →
+    length (fixes_by (datas.Blocks seg start wide body) ts (fixup high low d)) ≡ copy_count wide 0 (blocks_in wide body) (offset_of high low)
 unfolding fixes_by
 fixes-counted ts seg start wide body high low d =
     length-map (copies_of (datas.Blocks seg start wide body) (offset_of high low)) _
@@ -100,7 +101,8 @@ field-too_many : (p : ObjParts) (body : List ℕ) → p.last ≡ datas.Blocks 1 
     → field_at true p 62 (from 65 fixup_bytes) ≡ Err (TooMany 62)
 unfolding field_at fixup_at fix_data_at plain_seg_at index_below
 field-too_many p body last unfixed groups segs plain on many =
-    let judged = judge-too_many (record p { last = datas.Blocks 1 0 true body }) (record { of_record = 62; at = 65; byte = 0xC0 }) 7 (record { fix = 0x14; frame = Some 1; target = Some 1; displacement = None }) 1 0 true body refl unfixed on many in
+    let judged = judge-too_many (record p { last = datas.Blocks 1 0 true body }) (record { of_record = 62; at = 65; byte = 0xC0 }) 7
+    (record { fix = 0x14; frame = Some 1; target = Some 1; displacement = None }) 1 0 true body refl unfixed on many in
     rw (last, groups, segs, plain, judged) refl
 
 record-too_many : (p : ObjParts) (body : List ℕ) → p.last ≡ datas.Blocks 1 0 true body → p.module.fixes ≡ [] → length p.module.groups ≡ 1 → length p.module.segs ≡ 1 → is_debug_seg p.module.segs 1 ≡ false

@@ -182,7 +182,8 @@ record Own (p : ObjParts) (fs : List FixAt) : Type 0 where
 shifted : (start : ℕ) (n : ℕ) (xs : List ℕ) → Pairs (λ x y. x + n ≤ y) xs → Pairs (λ x y. x + n ≤ y) (map (λ x. start + x) xs)
 shifted start n xs h = pairs-map (λ x y. x + n ≤ y) (λ x y. x + n ≤ y) (λ x. start + x) (λ x y le. omega (arith, le)) xs h
 
-own : (p : ObjParts) (high low : ℕ) (d : FixData) → Sane p → GoodFixup p high low d → (last : LastData) → LastFits p last → has_data last (offset_of high low) (len_of high) ≡ true → Own p (map (fix_of p (data_segment last) high d) (copies_of last (offset_of high low)))
+own : (p : ObjParts) (high low : ℕ) (d : FixData) → Sane p → GoodFixup p high low d → (last : LastData) → LastFits p last →
+    has_data last (offset_of high low) (len_of high) ≡ true → Own p (map (fix_of p (data_segment last) high d) (copies_of last (offset_of high low)))
 own p high low d s g datas.None fits on = record { whole = tt; apart = tt }
 own p high low d s g datas.Dropped fits on = record { whole = tt; apart = tt }
 own p high low d s g (datas.Straight seg start have) fits on =
@@ -215,7 +216,8 @@ none-any test (x ∷ xs) e =
 
 swap : (R : FixAt → FixAt → Type 0) (xs ys : List FixAt) → AllByRecursion (λ y. AllByRecursion (λ x. R x y) xs) ys → AllByRecursion (λ x. AllByRecursion (R x) ys) xs
 swap R [] ys h = tt
-swap R (x ∷ xs) ys h = (all_weaker (λ y. AllByRecursion (λ z. R z y) (x ∷ xs)) (R x) (λ y k. k.0) ys h, swap R xs ys (all_weaker (λ y. AllByRecursion (λ z. R z y) (x ∷ xs)) (λ y. AllByRecursion (λ z. R z y) xs) (λ y k. k.1) ys h))
+swap R (x ∷ xs) ys h =
+    (all_weaker (λ y. AllByRecursion (λ z. R z y) (x ∷ xs)) (R x) (λ y k. k.0) ys h, swap R xs ys (all_weaker (λ y. AllByRecursion (λ z. R z y) (x ∷ xs)) (λ y. AllByRecursion (λ z. R z y) xs) (λ y k. k.1) ys h))
 
 apart-all : (earlier new : List FixAt) → are_apart earlier new ≡ true → AllByRecursion (λ f. AllByRecursion (Apart f) new) earlier
 apart-all earlier new e =

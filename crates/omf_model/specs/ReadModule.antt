@@ -9,7 +9,7 @@ use Rattle.obj_types.specs.declared.refusal.OmfRefusal.TheVariants.{Short, BadFi
 use Rattle.obj_types.specs.declared.object.ObjModule.{ObjModule}
 use Rattle.obj_types.specs.declared.parts.ObjParts.{ObjParts}
 use Rattle.obj_types.specs.Fresh.{fresh_parts}
-use Rattle.omf_frame.specs.declared.record_type.TheConstants.{LIBRARY_HEADER, LIBRARY_END}
+use Rattle.omf_frame.specs.declared.record_type.TheConstants.{THEADR, LHEADR, COMENT, MODEND, MODEND_32, EXTDEF, PUBDEF, PUBDEF_32, LINNUM, LINNUM_32, LNAMES, SEGDEF, SEGDEF_32, GRPDEF, FIXUPP, FIXUPP_32, LEDATA, LEDATA_32, LIDATA, LIDATA_32, COMDEF, LEXTDEF, LEXTDEF_32, LPUBDEF, LPUBDEF_32, COMDAT, COMDAT_32, LIBRARY_HEADER, LIBRARY_END}
 use Rattle.omf_fields.specs.Within.{within}
 use Rattle.lx_types.specs.Answers.{◌>>=◌}
 use Rattle.omf_fields.specs.Fields.{Reading, check, name_at}
@@ -34,21 +34,21 @@ is_wide ty = ty % 2 == 1
 -- How the contents of a record of a type are read after the records before it.
 abbrev pub reader_of : ℕ → ObjParts → ℕ → Cursor → Result Record OmfRefusal
 reader_of ty =
-    if ty == 0x88 then (λ p at c. coment_at c)
-    else if ty == 0x8A || ty == 0x8B then (λ p at c. modend_at (is_wide ty) p c)
-    else if ty == 0x8C then (λ p at c. extdef_at false c)
-    else if ty == 0x90 || ty == 0x91 then (λ p at c. pubdef_at false (is_wide ty) p c)
-    else if ty == 0x96 then (λ p at c. lnames_at c)
-    else if ty == 0x98 || ty == 0x99 then (λ p at c. segdef_at (is_wide ty) p c)
-    else if ty == 0x9A then (λ p at c. grpdef_at p c)
-    else if ty == 0x9C || ty == 0x9D then (λ p at c. fixupp_at (is_wide ty) p at c)
-    else if ty == 0xA0 || ty == 0xA1 then (λ p at c. ledata_at (is_wide ty) p at c)
-    else if ty == 0xA2 || ty == 0xA3 then (λ p at c. lidata_at (is_wide ty) p at c)
-    else if ty == 0xB0 then (λ p at c. comdef_at c)
-    else if ty == 0xB4 || ty == 0xB5 then (λ p at c. extdef_at true c)
-    else if ty == 0xB6 || ty == 0xB7 then (λ p at c. pubdef_at true (is_wide ty) p c)
-    else if ty == 0xC2 || ty == 0xC3 then (λ p at c. comdat_at (is_wide ty) p at c)
-    else if ty == 0x80 || ty == 0x82 || ty == 0x94 || ty == 0x95 then (λ p at c. Ok passed)
+    if ty == COMENT then (λ p at c. coment_at c)
+    else if ty == MODEND || ty == MODEND_32 then (λ p at c. modend_at (is_wide ty) p c)
+    else if ty == EXTDEF then (λ p at c. extdef_at false c)
+    else if ty == PUBDEF || ty == PUBDEF_32 then (λ p at c. pubdef_at false (is_wide ty) p c)
+    else if ty == LNAMES then (λ p at c. lnames_at c)
+    else if ty == SEGDEF || ty == SEGDEF_32 then (λ p at c. segdef_at (is_wide ty) p c)
+    else if ty == GRPDEF then (λ p at c. grpdef_at p c)
+    else if ty == FIXUPP || ty == FIXUPP_32 then (λ p at c. fixupp_at (is_wide ty) p at c)
+    else if ty == LEDATA || ty == LEDATA_32 then (λ p at c. ledata_at (is_wide ty) p at c)
+    else if ty == LIDATA || ty == LIDATA_32 then (λ p at c. lidata_at (is_wide ty) p at c)
+    else if ty == COMDEF then (λ p at c. comdef_at c)
+    else if ty == LEXTDEF || ty == LEXTDEF_32 then (λ p at c. extdef_at true c)
+    else if ty == LPUBDEF || ty == LPUBDEF_32 then (λ p at c. pubdef_at true (is_wide ty) p c)
+    else if ty == COMDAT || ty == COMDAT_32 then (λ p at c. comdat_at (is_wide ty) p at c)
+    else if ty == THEADR || ty == LHEADR || ty == LINNUM || ty == LINNUM_32 then (λ p at c. Ok passed)
     else (λ p at c. Err (UnknownType at ty))
 
 -- The next record.
@@ -62,7 +62,7 @@ record_at p c = do
 unfoldable pub header_at : Cursor → Reading Record
 header_at c = do
   f ← raw_at c
-  _ ← check (f.ty == 0x80 || f.ty == 0x82) (BadField c.at)
+  _ ← check (f.ty == THEADR || f.ty == LHEADR) (BadField c.at)
   name ← name_at (contents_of f)
   Ok (header name.0, f.after)
 

@@ -1,6 +1,7 @@
 -- What bytes spell a record: its type, its contents, and the record around them.
 -- "Relocatable Object Module Format", the sections of the record types.
 use Rattle.std.specs.Prelude.{◌≡◌, ◌≢◌, ℕ, ◌+◌, ◌≤◌, ◌<◌, ◌⊎◌, Bool, true, false, ◌&&◌, not, List, [], ◌∷◌, Contains, nat_le, ◌==◌, if◌then◌else◌}
+use Rattle.omf_frame.specs.declared.record_type.TheConstants.{THEADR, LHEADR, COMENT, MODEND, EXTDEF, PUBDEF, LINNUM, LNAMES, SEGDEF, GRPDEF, FIXUPP, LEDATA, LIDATA, LIDATA_32, COMDEF, LEXTDEF, LPUBDEF, COMDAT}
 use Rattle.omf_frame.specs.declared.comment_class.TheConstants.{DEFAULT_LIBRARY, EXTENSION, IMPDEF, EXPDEF}
 use Rattle.omf_frame.specs.Frame.{BeginsRecord}
 use Rattle.omf_model.specs.Blocks.{block_bytes}
@@ -16,23 +17,23 @@ abbrev pub pair : ℕ → List (ℕ × Bool)
 pair ty = (ty, false) ∷ (ty + 1, true) ∷ []
 
 abbrev pub types_of : Record → List (ℕ × Bool)
-types_of (header text) = (0x80, false) ∷ (0x82, false) ∷ []
-types_of passed = (0x80, false) ∷ (0x82, false) ∷ pair 0x94
-types_of comment = (0x88, false) ∷ []
-types_of (default_library text) = (0x88, false) ∷ []
-types_of (impdef d) = (0x88, false) ∷ []
-types_of (expdef d) = (0x88, false) ∷ []
-types_of (lnames texts) = (0x96, false) ∷ []
-types_of (segdef d) = pair 0x98
-types_of (grpdef i members) = (0x9A, false) ∷ []
-types_of (pubdef local group segment frame defs) = if local then pair 0xB6 else pair 0x90
-types_of (extdef local defs) = if local then pair 0xB4 else (0x8C, false) ∷ []
-types_of (comdef defs) = (0xB0, false) ∷ []
-types_of (ledata segment offset content) = pair 0xA0
-types_of (lidata wide segment offset blocks) = (if wide then 0xA3 else 0xA2, wide) ∷ []
-types_of (comdat d) = pair 0xC2
-types_of (fixupp fields) = pair 0x9C
-types_of (modend kind start) = pair 0x8A
+types_of (header text) = (THEADR, false) ∷ (LHEADR, false) ∷ []
+types_of passed = (THEADR, false) ∷ (LHEADR, false) ∷ pair LINNUM
+types_of comment = (COMENT, false) ∷ []
+types_of (default_library text) = (COMENT, false) ∷ []
+types_of (impdef d) = (COMENT, false) ∷ []
+types_of (expdef d) = (COMENT, false) ∷ []
+types_of (lnames texts) = (LNAMES, false) ∷ []
+types_of (segdef d) = pair SEGDEF
+types_of (grpdef i members) = (GRPDEF, false) ∷ []
+types_of (pubdef local group segment frame defs) = if local then pair LPUBDEF else pair PUBDEF
+types_of (extdef local defs) = if local then pair LEXTDEF else (EXTDEF, false) ∷ []
+types_of (comdef defs) = (COMDEF, false) ∷ []
+types_of (ledata segment offset content) = pair LEDATA
+types_of (lidata wide segment offset blocks) = (if wide then LIDATA_32 else LIDATA, wide) ∷ []
+types_of (comdat d) = pair COMDAT
+types_of (fixupp fields) = pair FIXUPP
+types_of (modend kind start) = pair MODEND
 
 -- ---- the contents
 

@@ -1,6 +1,7 @@
 -- The numbers that the code has of a file and of its layout, against the definitions.
 use Rattle.std.specs.Prelude.{◌≡◌, ℕ, ◌+◌, ◌<◌, ◌≤◌, ◌^◌, List, length, None}
 use Rattle.lx_types.specs.declared.limits.TheConstants.{MAX_PAGES, MAX_OBJECTS, MAX_FILE}
+use Rattle.lx_types.specs.declared.object.TheConstants.{PAGE_SIZE}
 use Rattle.lx_model.specs.declared.header_fields.TheConstants.{PAGE_OFFSET_SHIFT, OBJECT_TABLE, OBJECT_PAGE_TABLE, RESOURCE_COUNT, FIXUP_PAGE_TABLE, DATA_PAGES}
 use Rattle.lx_model.specs.Header.{field, table, header_place, header_fault, header_fields, page_count, object_count}
 use Rattle.lx_model.specs.FixupPages.{has_records}
@@ -39,7 +40,7 @@ pub record AreTablesOf (file : List ℕ) (old : OldTables) : Type 0 where
   pub objects : old.objects ≡ object_count file
   pub few_objects : old.objects ≤ MAX_OBJECTS
   pub page_unit : old.page_unit ≡ page_unit file
-  pub small_unit : (1 ≤ old.page_unit) × (old.page_unit ≤ 4096)
+  pub small_unit : (1 ≤ old.page_unit) × (old.page_unit ≤ PAGE_SIZE)
   pub data_pages : old.data_pages ≡ field file DATA_PAGES
   pub object_table : (old.object_table ≡ table file OBJECT_TABLE) × (old.object_table < 2 ^ 33)
   pub page_table : (old.page_table ≡ table file OBJECT_PAGE_TABLE) × (old.page_table < 2 ^ 33)

@@ -1,10 +1,12 @@
 //! What the header of a module says of its file.
 
-ghost use Rattle.std.specs.Prelude.{◌≡◌, ◌+◌, ◌<◌, ◌≤◌, ◌^◌, List, ℕ, slice_index};
+ghost use Rattle.std.specs.Prelude.{◌≡◌, ◌+◌, ◌<◌, ◌≤◌, ◌^◌, List, ℕ};
+ghost use Rattle.lx_head.specs.Accepted.{doubleword};
+ghost use Rattle.lx_model.specs.declared.header_fields.TheConstants.{PAGE_OFFSET_SHIFT};
+ghost use Rattle.lx_types.specs.declared.object.TheConstants.{PAGE_SIZE};
 ghost use Rattle.res_bind.specs.Numbers.{AreTablesOf, HasHeader, IsHeadOf};
 
 use lx_head::{Head, read_head};
-use lx_model::header_fields::RESOURCE_COUNT;
 
 /// The numbers of a file's tables, and their places in the file.
 #[derive(Clone, Copy)]
@@ -28,7 +30,7 @@ fn page_unit(shift: u32) -> u32
     requires { shift ≤ 12 }
     ensures is { result ≡ 2 ^ shift }
     ensures some { 1 ≤ result }
-    ensures most { result ≤ 4096 }
+    ensures most { result ≤ PAGE_SIZE }
 {
     2u32.pow(shift)
 }
@@ -41,7 +43,7 @@ fn place_of(head: &Head, offset: u32) -> u64
 }
 
 fn tables_of(head: &Head) -> OldTables
-    requires { slice_index head.now.fields 11 ≤ 12 }
+    requires { doubleword head.now.fields PAGE_OFFSET_SHIFT ≤ 12 }
     ensures { (file : List ℕ) → IsHeadOf file head.now → AreTablesOf file result }
 {
     OldTables {
@@ -54,7 +56,7 @@ fn tables_of(head: &Head) -> OldTables
         page_table: place_of(head, head.page_table()),
         fixup_pages: place_of(head, head.fixup_page_table()),
         has_records: head.fixup_page_table() != 0,
-        resources: head.fields[RESOURCE_COUNT as usize / 4],
+        resources: head.resource_count(),
     }
 }
 

@@ -22,19 +22,19 @@ returns-in_err-count-clause-named c =
     ∙ not_parsed c.args.word.now c.parse.result c.parse.ensures.value.0 (begun c.args.word.now _ c.as_bytes-digits.ensures.value c.if-digits-le48.false)
     (sym c.ok.ensures.value ∙ c.in_err-count.was)
 
-pub returns-then-count-le-MOST-clause-named : goal.returns-then-count-le-MOST-clause-named
-returns-then-count-le-MOST-clause-named c =
+pub returns-then-count-le-MAX_MODULES-clause-named : goal.returns-then-count-le-MAX_MODULES-clause-named
+returns-then-count-le-MAX_MODULES-clause-named c =
     count_parsed c.args.word.now c.parse.result c.parse.ensures.value.0 (begun c.args.word.now _ c.as_bytes-digits.ensures.value c.if-digits-le48.false) c.in_ok-count.count
-    (sym c.ok.ensures.value ∙ c.in_ok-count.was) c.if-count-le-MOST.true
+    (sym c.ok.ensures.value ∙ c.in_ok-count.was) c.if-count-le-MAX_MODULES.true
 
-pub returns-then-count-le-MOST-clause-few : goal.returns-then-count-le-MOST-clause-few
-returns-then-count-le-MOST-clause-few c = (
+pub returns-then-count-le-MAX_MODULES-clause-few : goal.returns-then-count-le-MAX_MODULES-clause-few
+returns-then-count-le-MAX_MODULES-clause-few c = (
   count_is_one c.args.word.now c.parse.result c.parse.ensures.value.0 (begun c.args.word.now _ c.as_bytes-digits.ensures.value c.if-digits-le48.false) c.in_ok-count.count
       (sym c.ok.ensures.value ∙ c.in_ok-count.was),
-  c.if-count-le-MOST.true,
+  c.if-count-le-MAX_MODULES.true,
 )
 
-pub returns-else-count-le-MOST-clause-named : goal.returns-else-count-le-MOST-clause-named
-returns-else-count-le-MOST-clause-named c =
+pub returns-else-count-le-MAX_MODULES-clause-named : goal.returns-else-count-le-MAX_MODULES-clause-named
+returns-else-count-le-MAX_MODULES-clause-named c =
     count_too_large c.args.word.now c.parse.result c.parse.ensures.value.0 (begun c.args.word.now _ c.as_bytes-digits.ensures.value c.if-digits-le48.false) c.in_ok-count.count
-    (sym c.ok.ensures.value ∙ c.in_ok-count.was) c.if-count-le-MOST.false
+    (sym c.ok.ensures.value ∙ c.in_ok-count.was) c.if-count-le-MAX_MODULES.false
