@@ -38,7 +38,7 @@ use Rattle.lx_model.specs.Reach.{Order, lost_import, ends_in, target_of_fault, H
 use Rattle.lx_model.specs.Reading.{first}
 use Rattle.image_model.specs.Linked.{fix_in_file, image_of, link_modules, link_procs}
 use Rattle.image_model.specs.ReadBack.{parts_of_image}
-use Rattle.link_core.proofs.TargetsThere.{from_filter_map, mapped, through}
+use Rattle.image_model.proofs.TargetsThere.{from_filter_map, mapped, through}
 use Rattle.implib_model.specs.Imports.{name_or}
 use Rattle.layer_laws.specs.LoadedBytes.{Holds}
 use Rattle.layer_laws.proofs.EntriesAreOut.{entries_out}

@@ -14,7 +14,7 @@ use Rattle.link_model.specs.Link.{Link}
 use Rattle.link_model.specs.Patches.{recorded}
 use Rattle.link_model.specs.Symbols.{imports}
 use Rattle.link_model.proofs.Members.{In, here, there, in_at, in_either}
-use Rattle.link_core.proofs.TargetsThere.{from_filter_map}
+use Rattle.image_model.proofs.TargetsThere.{from_filter_map}
 use Rattle.gen_model.specs.Modules.{module_name, refers}
 use Rattle.gen_laws.proofs.FirstShape.{gen_link, imports_if, its_exports, its_imports, names_of}
 

@@ -39,8 +39,8 @@ use Rattle.image_model.proofs.Places.{file_long}
 use Rattle.image_model.proofs.SpansRead.{offsets_long}
 use Rattle.image_model.proofs.TablesFaultless.{doublewords_long}
 use Rattle.image_model.proofs.PagesFaultless.{pages_long}
-use Rattle.link_core.proofs.FewImports.{few-modules}
-use Rattle.link_core.proofs.PageCounts.{pages-are}
+use Rattle.image_model.proofs.FewImports.{few-modules}
+use Rattle.image_model.proofs.PageCounts.{pages-are}
 use Rattle.layer_laws.specs.LinkedImages.{Links}
 use Rattle.layer_laws.proofs.Exports.{exports-fit}
 use Rattle.layer_laws.proofs.Forms.{forms-fit}

@@ -32,3 +32,13 @@ pub mod FilesRead
 pub mod LinksRead
 -- The tables of a link's image fit each other.
 pub mod LinkTables
+-- The object of each row of a link is there, and its number fits the entry table.
+pub mod ObjectsThere
+-- The objects that fixups, exports and the start lead to are there.
+pub mod TargetsThere
+-- A link's import tables are no longer than the list of modules that it knows, which the format's numbers count.
+pub mod FewImports
+-- The fixup records of a link can be written, and what they name is there.
+pub mod RecordsFit
+-- How many pages and fixups a link's module has, by its fixups of each page of each object.
+pub mod PageCounts

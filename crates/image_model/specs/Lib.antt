@@ -6,6 +6,7 @@ pub mod ObjectTable
 pub mod PageForms
 pub mod Exported
 pub mod Linked
+pub mod LinkedFile
 pub mod ReadBack
 pub mod LinkLaws
 pub mod LinkTables

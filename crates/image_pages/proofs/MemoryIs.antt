@@ -28,7 +28,8 @@ use Rattle.image_model.specs.File.{file_of}
 use Rattle.image_model.specs.LinkLaws.{laid}
 use Rattle.image_model.specs.Linked.{image_of, link_modules}
 use Rattle.image_model.specs.World.{world_of}
-use Rattle.link_core.specs.Links.{IsLinkedFile, RefusesLink}
+use Rattle.image_model.specs.LinkedFile.{IsLinkedFile}
+use Rattle.link_core.specs.Links.{RefusesLink}
 use Rattle.layer_laws.specs.LinkedImages.{Links, LinkedFilesRead}
 use Rattle.layer_laws.specs.LoadedBytes.{LinkedBytesLoaded}
 use Rattle.layer_laws.specs.Ranges.{InputInRange}

@@ -18,7 +18,7 @@ use Rattle.link_model.specs.Layout.{placed_from, usual_base, first_base, objects
 use Rattle.link_model.specs.Link.{Link}
 use Rattle.link_model.specs.Order.{object_heads}
 use Rattle.link_model.specs.Rows.{end_in, rows}
-use Rattle.link_model.proofs.Members.{In, each_in, in_at}
+use Rattle.link_model.proofs.Members.{each_in, in_item}
 use Rattle.lx_model.specs.Fixed.{base_of}
 use Rattle.image_model.specs.LinkLaws.{laid}
 use Rattle.layer_laws.specs.LoadedBytes.{StandsWell}
@@ -73,10 +73,6 @@ none_past n (o ∷ os) e =
 
 -- ---- each object at its base
 
-item_in : {X : Type 0} (xs : List X) (n : ℕ) (x : X) → item xs n ≡ Some x → In x xs
-item_in xs zero x e = absurd (true≢false (sym (ap is_some e)))
-item_in xs (suc n) x e = in_at xs n x e
-
 base_at : (hs : List ObjHead) (k : ℕ) (o : LaidObject) → slice_get (map laid hs) k ≡ Some o → slice_index (map (λ h. h.base) hs) k ≡ o.base
 base_at [] k o e = absurd (true≢false (sym (ap is_some e)))
 base_at (h ∷ hs) zero o e = ap (λ (x : Option LaidObject). (unwrap_or x o).base) e
@@ -89,7 +85,7 @@ base_is hs (suc k) o e =
 
 pub stands_well : (l : Link) (hs : List ObjHead) → WholeDef l.def → map laid hs ≡ objects l → arena_full l ≡ None → StandsWell l (linked_bases hs) 0
 stands_well l hs def same none object o is =
-    let inside = item_in (objects l) object o is in
+    let inside = in_item (objects l) object o is in
     let at = base_is hs object o (ap (λ (os : List LaidObject). item os object) same ∙ is) in (
       ap (λ (b : ℕ). b % BASE_UNIT) at ∙ each_in AtUnit (objects l) (at_units l def) inside,
       let end = each_in EndsWell (objects l) (none_past 1 (objects l) none) inside in omega (arith, at, end),

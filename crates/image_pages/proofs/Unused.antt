@@ -28,7 +28,7 @@ use Rattle.lx_model.specs.RecordSpelling.{fixes_written}
 use Rattle.lx_model.proofs.Each.{each_flat_map, each_map}
 use Rattle.image_model.specs.Linked.{fix_in_file, fixup_records, image_of, link_modules, link_procs, page_fixes}
 use Rattle.image_model.specs.ReadBack.{parts_of_image, targets_of}
-use Rattle.link_core.proofs.TargetsThere.{from_filter_map, mapped}
+use Rattle.image_model.proofs.TargetsThere.{from_filter_map, mapped}
 use Rattle.layer_laws.proofs.Records.{all-pages, mapped-all}
 
 -- ---- fixups

@@ -3,7 +3,7 @@
 ghost use Rattle.std.specs.Prelude.{◌≡◌, ◌<◌, ◌^◌, IfOk, length};
 ghost use Rattle.lx_types.specs.Answers.{Answers};
 ghost use Rattle.obj_types.specs.Input.{WholeInput};
-ghost use Rattle.link_core.specs.Links.{IsLinkedFile};
+ghost use Rattle.image_model.specs.LinkedFile.{IsLinkedFile};
 ghost use Rattle.lx_model.specs.Module.{IsRead, parts_of};
 ghost use Rattle.image_pages.specs.Memory.{IsMemory, RefusesMemory};
 

@@ -7,7 +7,7 @@ ghost use Rattle.image_pages.specs.Failed as failed;
 ghost use Rattle.image_pages.specs.Memory.{full_from};
 
 use link_model::LinkRefusal;
-use lx_types::{Fail, NoMemory, ObjHead, count};
+use lx_types::{Fail, NoMemory, ObjHead, SHARED_END, count};
 use thiserror::Error;
 
 /// Why a linked module has no place in memory. The kinds are tried in this order.
@@ -19,7 +19,7 @@ pub enum ImageRefusal {
     /// The module imports other modules.
     #[error("the module imports other modules")]
     NoModule,
-    /// The first object, by its number, that ends past address 20000000h at its linked base, and its size in bytes.
+    /// The first object, by its number, that ends past the arenas at its linked base, and its size in bytes.
     #[error("object {object} of {size} bytes has no room")]
     ArenaFull { object: u32, size: u32 },
 }
@@ -38,7 +38,7 @@ pub fn link_failed(fail: Fail<LinkRefusal>) -> Fail<ImageRefusal>
 fn is_past(object: &ObjHead) -> bool
     ensures { result ≡ nat_lt SHARED_END (object.now.base + object.now.size) }
 {
-    0x2000_0000 < u64::from(object.base) + u64::from(object.size)
+    u64::from(SHARED_END) < u64::from(object.base) + u64::from(object.size)
 }
 
 /// The first object that ends past the arenas.

@@ -3,7 +3,7 @@ use Rattle.std.specs.Prelude.{◌≡◌, ◌≢◌, ℕ, zero, suc, ◌+◌, ◌
 use Rattle.std.specs.List.{AllByRecursion, filter_map, cons_option, range_with_len}
 use Rattle.std.specs.Option.{option_map}
 use Rattle.std.proofs.Common.{ap, sym, ◌∙◌, arith, inl, inr}
-use Rattle.std.proofs.lemmas.Bool.{cases_Bool}
+use Rattle.std.proofs.lemmas.Bool.{cases_Bool, ne_eqb}
 use Rattle.std.proofs.lemmas.Bool.Decides.{nat_tests}
 use Rattle.std.proofs.lemmas.Slice.Eq.{bytes_eq-Decides}
 use Rattle.lx_types.specs.declared.entry.EntryHead.{EntryHead}
@@ -12,7 +12,6 @@ use Rattle.lx_model.specs.EntryTable.{Numbered}
 use Rattle.lx_model.specs.NameTables.{Named}
 use Rattle.lx_model.specs.ExportTables.{Exported, named, export_at, greatest, entries_by_ordinal}
 use Rattle.link_model.proofs.Members.{In, here, there, found_as, in_left, in_right, in_map, in_filter, in_either, from_map, from_filter}
-use Rattle.seg_parts.proofs.Listed.{apart}
 use Rattle.layer_laws.proofs.Lists.{each-of}
 
 -- ---- find
@@ -63,7 +62,7 @@ none_below xs a (suc len) n lt = other_entry a n (export_at xs a) (entries_from 
 
 none_above : (xs : List Exported) (a len n : ℕ) → a + len ≤ n → entry_of (entries_from xs a len) n ≡ None
 none_above xs a zero n le = refl
-none_above xs a (suc len) n le = other_entry a n (export_at xs a) (entries_from xs (a + 1) len) (apart a n (omega (arith, le))) ∙ none_above xs (a + 1) len n (omega (arith, le))
+none_above xs a (suc len) n le = other_entry a n (export_at xs a) (entries_from xs (a + 1) len) (ne_eqb a n (λ e. omega (arith, e, le))) ∙ none_above xs (a + 1) len n (omega (arith, le))
 
 entry_there : (xs : List Exported) (a len n : ℕ) → a ≤ n → n < a + len → entry_of (entries_from xs a len) n ≡ head_of_export (export_at xs n)
 entry_there xs a zero n le lt = absurd (omega (arith, le, lt))
@@ -86,7 +85,7 @@ all_most (x ∷ xs) = (omega arith, wider (greatest xs) (max x.ordinal (greatest
 
 none_past : (n : ℕ) (ys : List Exported) (m : ℕ) → m < n → AllByRecursion (λ y. y.ordinal ≤ m) ys → AllByRecursion (λ y. (y.ordinal == n) ≡ false) ys
 none_past n [] m lt all = tt
-none_past n (y ∷ ys) m lt all = (apart y.ordinal n (omega (arith, lt, all.0)), none_past n ys m lt all.1)
+none_past n (y ∷ ys) m lt all = (ne_eqb y.ordinal n (λ e. omega (arith, e, lt, all.0)), none_past n ys m lt all.1)
 
 -- At an ordinal that is not 0 stands the head of the export that has it.
 pub entry-is : (xs : List Exported) (n : ℕ) → n ≢ 0 → entry_of (entries_by_ordinal xs) n ≡ option_map (λ x. x.head) (export_at xs n)

@@ -41,8 +41,8 @@ use Rattle.lx_model.proofs.FitModules.{fit_has_spots}
 use Rattle.image_model.specs.Linked.{fix_in_file, image_of}
 use Rattle.image_model.specs.World.{world_of}
 use Rattle.image_model.proofs.PartsRead.{parts_read}
-use Rattle.link_core.proofs.RecordsFit as core
-use Rattle.link_core.proofs.TargetsThere.{LeadsThere, fixup_there, through, mapped, from_filter_map}
+use Rattle.image_model.proofs.RecordsFit as core
+use Rattle.image_model.proofs.TargetsThere.{LeadsThere, fixup_there, through, mapped, from_filter_map}
 use Rattle.layer_laws.specs.LoadedBytes.{StandsWell, LinkedBytesLoaded}
 use Rattle.layer_laws.proofs.Given.{Given, given}
 use Rattle.layer_laws.proofs.ImagesFit.{images_fit}

@@ -30,10 +30,10 @@ use Rattle.link_model.proofs.Members.{In, here, there, in_at}
 use Rattle.link_model.proofs.FixupsStay.{global_there}
 use Rattle.lx_model.specs.ExportTables.{Exported}
 use Rattle.image_model.specs.Exported.{forwarder_to, head_of, exported, exported_of}
-use Rattle.link_core.proofs.ObjectsThere.{IsThere}
-use Rattle.link_core.proofs.TargetsThere.{LeadsThere, through, mapped, from_filter_map, symbol_there}
-use Rattle.link_core.proofs.FewImports.{export_with}
-use Rattle.link_core.proofs.RecordsFit.{AmongPairs, import-among}
+use Rattle.image_model.proofs.ObjectsThere.{IsThere}
+use Rattle.image_model.proofs.TargetsThere.{LeadsThere, through, mapped, from_filter_map, symbol_there}
+use Rattle.image_model.proofs.FewImports.{export_with}
+use Rattle.image_model.proofs.RecordsFit.{AmongPairs, import-among}
 use Rattle.layer_laws.specs.Ranges.{KeyInRange}
 use Rattle.layer_laws.proofs.Lists.{each-of}
 use Rattle.layer_laws.proofs.Given.{Given}

@@ -27,7 +27,7 @@ use Rattle.image_model.specs.Exported.{forwarder_to, head_of}
 use Rattle.image_model.specs.Linked.{image_of}
 use Rattle.image_model.specs.ReadBack.{parts_of_image}
 use Rattle.image_model.specs.World.{entry_in}
-use Rattle.link_core.proofs.TargetsThere.{through, mapped}
+use Rattle.image_model.proofs.TargetsThere.{through, mapped}
 use Rattle.layer_laws.proofs.LoadedPages.{Loaded}
 use Rattle.layer_laws.proofs.Targets.{proc-stands}
 

@@ -6,7 +6,7 @@ use Rattle.std.proofs.lemmas.Bool.Decides.{nat_tests}
 use Rattle.std.proofs.lemmas.List.Filters.{length-filter_both}
 use Rattle.std.proofs.lemmas.List.FromFn.{length-range_with_len}
 use Rattle.std.proofs.lemmas.Bool.{or_parts, not-true}
-use Rattle.link_core.proofs.RecordsFit.{passing}
+use Rattle.image_model.proofs.RecordsFit.{passing}
 use Rattle.lx_types.proofs.Lists.{all_kept}
 use Rattle.link_model.specs.Exports.{given, free_ordinals}
 use Rattle.layer_laws.proofs.Apart.{Apart, kept-apart, range-from, range-apart}

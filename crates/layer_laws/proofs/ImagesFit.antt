@@ -21,7 +21,7 @@ use Rattle.image_model.proofs.FilesRead.{files_read}
 use Rattle.image_model.proofs.LinksRead.{links_read}
 use Rattle.image_model.proofs.LinkTables.{tables_fit}
 use Rattle.image_model.proofs.Places.{file_long}
-use Rattle.link_core.proofs.FewImports.{few-modules}
+use Rattle.image_model.proofs.FewImports.{few-modules}
 use Rattle.layer_laws.specs.LinkedImages.{LinkedImagesFit, LinkedFilesRead}
 use Rattle.layer_laws.proofs.Given.{Given, given}
 use Rattle.layer_laws.proofs.Sizes.{few-objects}

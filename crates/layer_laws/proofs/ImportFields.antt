@@ -31,7 +31,7 @@ use Rattle.lx_model.specs.ModuleBytes.{spot_flags}
 use Rattle.lx_model.specs.declared.library.Spot.{Spot}
 use Rattle.image_model.specs.Linked.{fix_in_file}
 use Rattle.image_model.specs.World.{far_at, entry_in, world_of}
-use Rattle.link_core.proofs.TargetsThere.{through, mapped}
+use Rattle.image_model.proofs.TargetsThere.{through, mapped}
 use Rattle.layer_laws.proofs.RecordBytes.{record-with, bytes-of}
 use Rattle.layer_laws.proofs.LoadedPages.{Loaded}
 use Rattle.layer_laws.proofs.FieldsAgree.{mod-first}

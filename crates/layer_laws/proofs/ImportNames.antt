@@ -5,7 +5,7 @@ use Rattle.std.specs.Option.{option_and_then}
 use Rattle.std.proofs.Common.{ap, ◌∙◌, arith}
 use Rattle.std.proofs.lemmas.List.{map-append}
 use Rattle.std.proofs.lemmas.List.Elements.{filter-append, filter_map-append}
-use Rattle.seg_merge.proofs.Gets.{get-left}
+use Rattle.link_model.proofs.Members.{at_left}
 use Rattle.lx_types.specs.Names.{uppercase}
 use Rattle.lx_types.specs.declared.parts.Parts.{Parts}
 use Rattle.obj_types.specs.declared.symbol.Imp.{Imp}
@@ -40,7 +40,7 @@ more_items {X} same (x ∷ xs) ys =
 item_stays : (xs ys : List (List ℕ)) (k : ℕ) (x : List ℕ) → slice_get (firsts bytes_eq xs) k ≡ Some x → slice_get (firsts bytes_eq (xs ++ ys)) k ≡ Some x
 item_stays xs ys k x e =
     let r = more_items bytes_eq xs ys in
-    ap (λ (zs : List (List ℕ)). slice_get zs k) r.is ∙ get-left (firsts bytes_eq xs) r.others k x e
+    ap (λ (zs : List (List ℕ)). slice_get zs k) r.is ∙ at_left (firsts bytes_eq xs) r.others k x e
 
 -- ---- modules
 

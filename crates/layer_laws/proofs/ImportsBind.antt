@@ -29,10 +29,10 @@ use Rattle.link_model.specs.Link.{Link, externals}
 use Rattle.link_model.specs.Symbols.{Imported, Definition, definitions, definition_of, import_key, same_import, same_entry, pair_of, imports, commons, by_definition, global, local_meaning, Sym}
 use Rattle.link_model.proofs.Members.{In, in_map, in_filter, in_flat_map, in_contained, any_in, position_is, from_map, from_flat_map, from_numbered, in_at, found_as}
 use Rattle.link_model.proofs.Tables.{any-firsts}
-use Rattle.sym_table.proofs.ImportPairs.{import_tests}
+use Rattle.link_model.proofs.KeyTests.{import_tests}
 use Rattle.implib_model.specs.ImportModule.{import_meant}
 use Rattle.implib_model.specs.Imports.{name_or, import_for}
-use Rattle.link_core.proofs.FewImports.{in-filter_map}
+use Rattle.image_model.proofs.FewImports.{in-filter_map}
 use Rattle.layer_laws.specs.ImportLaws.{OnlyImported, Binds, ImportsBind}
 use Rattle.layer_laws.proofs.ForwardersNamed.{uppercase-twice}
 use Rattle.layer_laws.proofs.ImportsDefined.{contained}

@@ -15,8 +15,8 @@ use Rattle.link_model.proofs.ExternalsMean.{not_mapped, none_passes}
 use Rattle.link_model.proofs.Members.{In, here, there, in_filter, in_at, in_contained, any_in, found, each_in, all_in, from_map}
 use Rattle.implib_model.specs.ImportModule.{import_object}
 use Rattle.implib_model.specs.Imports.{name_or, import_for, imports_in, objects_of}
-use Rattle.link_core.proofs.FewImports.{in-filter_map}
-use Rattle.link_core.proofs.TargetsThere.{from_filter_map}
+use Rattle.image_model.proofs.FewImports.{in-filter_map}
+use Rattle.image_model.proofs.TargetsThere.{from_filter_map}
 use Rattle.layer_laws.specs.ImportLaws.{OnlyImported}
 
 pub contained : {X : Type 0} (xs : List X) {x : X} → In x xs → Contains xs x

@@ -24,7 +24,7 @@ use Rattle.lx_model.specs.Sources.{source_size}
 use Rattle.lx_model.specs.Library.{module_of}
 use Rattle.image_model.specs.Linked.{fix_in_file}
 use Rattle.image_model.specs.World.{world_of}
-use Rattle.link_core.proofs.ObjectsThere.{IsThere}
+use Rattle.image_model.proofs.ObjectsThere.{IsThere}
 use Rattle.layer_laws.specs.LoadedBytes.{StandsWell}
 use Rattle.layer_laws.proofs.RecordBytes.{record-with, bytes-of}
 use Rattle.layer_laws.proofs.LoadedPages.{Loaded}

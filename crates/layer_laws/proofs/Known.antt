@@ -28,12 +28,11 @@ use Rattle.link_model.specs.LayoutRefusals.{lay_refusal}
 use Rattle.link_model.specs.Goals.{Target, Internal, Constant, Entry, shifted, of_symbol}
 use Rattle.link_model.specs.Exports.{ordinals, asked_ordinals, wrong_ordinal, ordinal_past, name_twice, entry_refusal}
 use Rattle.link_model.specs.NothingDropped.{LiesInObject}
-use Rattle.link_model.proofs.Members.{In, here, there, all_in, each_in, in_at, in_either, item_at, from_map, from_flat_map, from_numbered, value_of}
+use Rattle.link_model.proofs.Members.{In, here, there, all_in, each_in, in_at, in_item, in_either, item_at, from_map, from_flat_map, from_numbered, value_of}
 use Rattle.link_model.proofs.ExternalsMean.{neither}
 use Rattle.link_model.proofs.FixupsStay.{module_whole, numbered_module, IsThere}
 use Rattle.link_model.proofs.SegmentsStand.{communals_stand}
-use Rattle.link_core.proofs.TargetsThere.{mapped, from_filter_map}
-use Rattle.seg_merge.proofs.PlacedGroups.{in_item}
+use Rattle.image_model.proofs.TargetsThere.{mapped, from_filter_map}
 use Rattle.layer_laws.specs.Ranges.{ImportInRange, ExportInRange, ModuleInRange}
 use Rattle.layer_laws.proofs.Lists.{from-firsts}
 use Rattle.layer_laws.proofs.Given.{Given}

@@ -23,7 +23,7 @@ use Rattle.link_model.proofs.Members.{In, from_filter, in_filter, in_map}
 use Rattle.link_model.proofs.ValueLengths.{values_fit}
 use Rattle.lx_model.specs.ModuleBytes.{page_with, FixedByte}
 use Rattle.image_model.specs.Linked.{fix_in_file}
-use Rattle.link_core.proofs.FewImports.{in-filter_map}
+use Rattle.image_model.proofs.FewImports.{in-filter_map}
 use Rattle.layer_laws.proofs.Lists.{each-of}
 use Rattle.layer_laws.proofs.MeanBytes.{found-there, value-is, mean-of}
 use Rattle.layer_laws.proofs.FixedBytes.{Outcome, put, fixed-put, byte-inside}

@@ -28,7 +28,7 @@ use Rattle.image_model.specs.Linked.{fix_in_file, image_of}
 use Rattle.image_model.specs.ReadBack.{ImageFits, parts_of_image}
 use Rattle.image_model.specs.World.{world_of}
 use Rattle.image_model.proofs.PartsRead.{parts_read}
-use Rattle.link_core.proofs.RecordsFit as core
+use Rattle.image_model.proofs.RecordsFit as core
 use Rattle.layer_laws.specs.LoadedBytes.{PlainBytesLoaded}
 use Rattle.layer_laws.proofs.Lists.{each-of}
 use Rattle.layer_laws.proofs.Given.{Given, given}

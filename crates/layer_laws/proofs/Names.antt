@@ -4,7 +4,7 @@ use Rattle.std.specs.List.{AllByRecursion}
 use Rattle.std.proofs.Common.{arith, subst}
 use Rattle.std.proofs.lemmas.List.{length-map}
 use Rattle.std.specs.Char.{to_ascii_uppercase}
-use Rattle.link_core.proofs.ExportsAre.{not_empty}
+use Rattle.link_model.proofs.Members.{not_empty}
 use Rattle.lx_types.specs.Names.{IsName, uppercase}
 use Rattle.obj_types.specs.declared.symbol.Imp.{Imp}
 use Rattle.link_model.specs.Link.{Link}
@@ -13,7 +13,7 @@ use Rattle.link_model.proofs.Members.{In, from_map}
 use Rattle.lx_model.specs.NameTables.{NameFits, ImportFits}
 use Rattle.lx_model.specs.ExportTables.{Exported, named, described, resident_table, other_table}
 use Rattle.image_model.specs.Linked.{called}
-use Rattle.link_core.proofs.FewImports.{link-pairs-known}
+use Rattle.image_model.proofs.FewImports.{link-pairs-known}
 use Rattle.layer_laws.proofs.Lists.{each-of, from-firsts}
 use Rattle.layer_laws.proofs.Given.{Given}
 use Rattle.layer_laws.proofs.Known.{known-import}

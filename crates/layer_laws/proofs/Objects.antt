@@ -24,8 +24,8 @@ use Rattle.link_model.specs.Records.{page_count, page_records, object_records}
 use Rattle.lx_model.specs.TableSpelling.{ObjectHeadFits}
 use Rattle.image_model.specs.Linked.{page_forms}
 use Rattle.image_model.specs.ObjectTable.{object_heads_from}
-use Rattle.link_core.proofs.PageCounts.{pages-are}
-use Rattle.seg_merge.proofs.StandingOrder.{base-within}
+use Rattle.image_model.proofs.PageCounts.{pages-are}
+use Rattle.link_model.proofs.RowLimits.{base-within}
 use Rattle.layer_laws.proofs.Sizes.{sizes-within, few-objects}
 
 -- ---- sizes

@@ -14,9 +14,9 @@ use Rattle.link_model.proofs.Members.{In, in_right}
 use Rattle.link_model.proofs.RecordsStay.{pair_there}
 use Rattle.lx_model.specs.ExportTables.{Exported}
 use Rattle.image_model.specs.Exported.{forwarder_to, head_of, exported, exported_of}
-use Rattle.link_core.proofs.FewImports.{in-filter_map}
-use Rattle.link_core.proofs.RecordsFit.{AmongPairs, import-among}
-use Rattle.link_core.proofs.TargetsThere.{mapped, from_filter_map}
+use Rattle.image_model.proofs.FewImports.{in-filter_map}
+use Rattle.image_model.proofs.RecordsFit.{AmongPairs, import-among}
+use Rattle.image_model.proofs.TargetsThere.{mapped, from_filter_map}
 
 -- ---- heads
 

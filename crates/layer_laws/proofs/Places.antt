@@ -22,12 +22,11 @@ use Rattle.link_model.proofs.Members.{In, in_filter, found_as}
 use Rattle.link_model.proofs.RowsStand.{max_in}
 use Rattle.image_model.specs.Linked.{module_flags}
 use Rattle.image_model.specs.ReadBack.{PlaceFits}
-use Rattle.seg_parts.proofs.EndSums.{end-in-sum}
-use Rattle.seg_merge.proofs.RowLimits.{size-within}
-use Rattle.link_core.proofs.ObjectsThere.{row_there}
-use Rattle.link_core.proofs.TargetsThere.{through, group_there, start_there}
+use Rattle.link_model.proofs.RowEnds.{end-in-sum}
+use Rattle.link_model.proofs.RowLimits.{size-within, not-too-large}
+use Rattle.image_model.proofs.ObjectsThere.{row_there}
+use Rattle.image_model.proofs.TargetsThere.{through, group_there, start_there}
 use Rattle.layer_laws.proofs.Known.{wrapped-small}
-use Rattle.layer_laws.proofs.Sizes.{not-too-large}
 use Rattle.layer_laws.proofs.Objects.{flag_small}
 
 -- ---- the start

@@ -29,7 +29,7 @@ use Rattle.lx_model.specs.declared.library.Spot.{Spot}
 use Rattle.lx_model.specs.Library.{module_of}
 use Rattle.lx_model.specs.Sources.{source_size}
 use Rattle.image_model.specs.Linked.{fix_in_file}
-use Rattle.link_core.proofs.TargetsThere.{mapped, from_filter_map}
+use Rattle.image_model.proofs.TargetsThere.{mapped, from_filter_map}
 use Rattle.layer_laws.proofs.FixedBytes.{put, byte-outside}
 
 -- ---- sizes

@@ -29,9 +29,9 @@ use Rattle.lx_model.specs.JoinedRecords.{records_for}
 use Rattle.lx_fixrec.specs.Writable.{SelectorFits, NumbersFit, IsWritable}
 use Rattle.lx_fixrec.proofs.RecordsFit.{records_fit}
 use Rattle.image_model.specs.Linked.{fix_in_file, page_fixes, fixup_records}
-use Rattle.link_core.proofs.TargetsThere.{through, mapped, from_filter_map}
-use Rattle.link_core.proofs.FewImports.{few-modules}
-use Rattle.link_core.proofs.RecordsFit as core
+use Rattle.image_model.proofs.TargetsThere.{through, mapped, from_filter_map}
+use Rattle.image_model.proofs.FewImports.{few-modules}
+use Rattle.image_model.proofs.RecordsFit as core
 use Rattle.layer_laws.proofs.Given.{Given}
 use Rattle.layer_laws.proofs.Known.{known-import, wrapped-small}
 use Rattle.layer_laws.proofs.Exports.{OrdinalSmall, import-small}

@@ -13,22 +13,20 @@ use Rattle.lx_types.specs.Addresses.{room}
 use Rattle.lx_types.specs.declared.limits.TheConstants.{MAX_OBJECTS}
 use Rattle.link_model.specs.declared.limits.TheConstants.{MAX_MEMORY}
 use Rattle.link_model.specs.declared.symbols.LaidObject.{LaidObject}
-use Rattle.link_model.specs.Words.{first_of}
 use Rattle.link_model.specs.Link.{Link}
 use Rattle.link_model.specs.Parts.{Part}
 use Rattle.link_model.specs.Flags.{flags_of}
 use Rattle.link_model.specs.Order.{ordered, object_key, same_object, object_heads, object_number}
 use Rattle.link_model.specs.Rows.{Row, end_in, rows}
 use Rattle.link_model.specs.Layout.{placed_from, first_base, objects}
-use Rattle.link_model.specs.LayoutRefusals.{lay_refusal, absolute, use_mixed, group_split, too_large, size_of_rows}
+use Rattle.link_model.specs.LayoutRefusals.{lay_refusal, size_of_rows}
 use Rattle.link_model.proofs.Tables.{firsts-apart}
 use Rattle.link_model.proofs.Members.{In, any_in, position_is, item_at, in_at, from_map}
 use Rattle.link_model.proofs.KeyTests.{in_one_object}
-use Rattle.link_model.proofs.ExternalsMean.{neither}
 use Rattle.link_model.proofs.RowsStand.{segments_of_rows}
-use Rattle.seg_parts.proofs.EndSums.{end-here, end-other, sum-more}
-use Rattle.seg_merge.proofs.RowLimits.{size-within}
-use Rattle.link_core.proofs.ObjectsThere.{row_stands, row_there, count-objects}
+use Rattle.link_model.proofs.RowEnds.{end-here, end-other, sum-more}
+use Rattle.link_model.proofs.RowLimits.{size-within, not-too-large}
+use Rattle.image_model.proofs.ObjectsThere.{row_stands, row_there, count-objects}
 use Rattle.layer_laws.proofs.Lists.{from-firsts}
 
 -- ---- sums over numbers that follow each other
@@ -96,14 +94,6 @@ sizes_are size flags base b (h ∷ hs) =
     let one = sum_by-cons (λ (o : LaidObject). o.size) first (placed_from (base + room (size b)) (map (λ q. (size q.0, flags q.1)) (enumerate_from (b + 1) hs))) in
     let other = sum_by-cons size b (range_with_len (b + 1) (length hs)) in
     omega (arith, rest, one, other)
-
-pub not-too-large : (l : Link) → lay_refusal l ≡ None → too_large l ≡ None
-unfolding lay_refusal
-not-too-large l e =
-    let first = (neither (absolute l) (first_of (use_mixed l ∷ group_split l ∷ too_large l ∷ [])) e).1 in
-    let second = (neither (use_mixed l) (first_of (group_split l ∷ too_large l ∷ [])) first).1 in
-    let third = (neither (group_split l) (first_of (too_large l ∷ [])) second).1 in
-    (neither (too_large l) (first_of []) third).0
 
 -- All objects are at most 16 MiB long together.
 pub sizes-within : (l : Link) → lay_refusal l ≡ None → sum_by (λ o. o.size) (objects l) ≤ MAX_MEMORY

@@ -30,7 +30,7 @@ use Rattle.image_model.specs.ReadBack.{targets_of, targets_there}
 use Rattle.image_model.specs.Sections.{sections, procs_at}
 use Rattle.image_model.proofs.RecordsRead.{spanned}
 use Rattle.image_model.proofs.Standing.{HasFrom, standing, behind}
-use Rattle.link_core.proofs.RecordsFit as core
+use Rattle.image_model.proofs.RecordsFit as core
 use Rattle.layer_laws.proofs.Given.{Given}
 use Rattle.layer_laws.proofs.Records.{all-pages, mapped-all}
 

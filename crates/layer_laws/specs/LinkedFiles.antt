@@ -13,7 +13,7 @@ use Rattle.lx_model.specs.Library.{module_of}
 use Rattle.lx_model.specs.Module.{parts_of, Lx}
 use Rattle.lx_model.specs.Reach.{IsFit}
 use Rattle.image_model.specs.LinkLaws.{ReadAsLinked}
-use Rattle.link_core.specs.Links.{IsLinkedFile}
+use Rattle.image_model.specs.LinkedFile.{IsLinkedFile}
 use Rattle.layer_laws.specs.LoadedBytes.{StandsWell, MeansThere}
 use Rattle.layer_laws.specs.Ranges.{InputInRange}
 

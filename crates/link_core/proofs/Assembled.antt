@@ -40,23 +40,23 @@ use Rattle.link_types.specs.Binding.{IsBound}
 use Rattle.sym_table.specs.Binding.{IsRefused}
 use Rattle.link_types.specs.declared.layout.Layout.{Layout}
 use Rattle.link_types.specs.Layout.{IsLaidOut}
-use Rattle.link_types.specs.Places.{ArePlaces}
 use Rattle.link_core.specs.declared.image.LinkParts.{LinkParts}
 use Rattle.link_core.specs.declared.image.PlacedImage.{PlacedImage}
 use Rattle.link_core.specs.declared.planning.Plan.{Plan}
 use Rattle.link_core.specs.Parts.{AreParts, HasParts}
 use Rattle.link_core.specs.Planned.{IsPlannedLink, IsPlanned, plan_with}
 use Rattle.link_core.specs.declared.linking.Linked.{Linked}
-use Rattle.link_core.specs.Links.{IsLinked, IsLinkedFile, IsLinkedImage, RefusesLink}
+use Rattle.image_model.specs.LinkedFile.{IsLinkedFile}
+use Rattle.link_core.specs.Links.{IsLinked, IsLinkedImage, RefusesLink}
 use Rattle.link_core.proofs.ExportsAre.{pairs-are, AreEntries, entries-of-link, exports-named}
 use Rattle.link_core.proofs.Writable.{can-be-written}
-use Rattle.link_core.proofs.PageCounts.{pages-are, sources-are}
+use Rattle.image_model.proofs.PageCounts.{pages-are, sources-are}
 
 -- ---- the plan
 
 pub planned : (input : LinkInput) (s : SymbolTable) (layout : Layout) (parts : LinkParts) (m : Image) → WholeInput input → IsBound input s → IsLaidOut (link_of input s.chosen) layout → lay_refusal (link_of input s.chosen) ≡ None
-    → AreParts (link_of input s.chosen) s layout parts → HasParts input layout.objects parts m → (p : Plan) → p.places ≡ layout.places → p.image ≡ m → IsPlannedLink (link_of input s.chosen) p
-planned input s layout parts m whole bound laid lay are has p same_places same_image =
+    → AreParts (link_of input s.chosen) s layout parts → HasParts input layout.objects parts m → (p : Plan) → p.layout ≡ layout → p.image ≡ m → IsPlannedLink (link_of input s.chosen) p
+planned input s layout parts m whole bound laid lay are has p same_layout same_image =
     let l : Link = link_of input s.chosen in
     let are_whole = chosen_are_whole input s.chosen whole in
     let pairs = pairs-are l layout.places s (exports l) laid.places bound.symbols refl in
@@ -83,7 +83,7 @@ planned input s layout parts m whole bound laid lay are has p same_places same_i
     record {
       lay = lay;
       place = are.place;
-      places = subst (ArePlaces l) (sym same_places) laid.places;
+      laid = subst (IsLaidOut l) (sym same_layout) laid;
       image = subst (IsImageOfLink l) (sym same_image) image;
       writable = subst CanBeWritten (sym same_image) written;
       entries = ap (λ (x : Image). export_refusal x.exports) same_image ∙ of_image.refused;

@@ -35,10 +35,10 @@ use Rattle.link_model.specs.Goals.{Target, Internal, Constant, Entry, internal, 
 use Rattle.link_model.specs.Exports.{ExportTarget, Forward, Export, export_target, export_of, ordinals, ordinal_at, asked_ordinals, Out, wrong_ordinal, ordinal_past, name_twice, entry_refusal}
 use Rattle.link_model.specs.ImportTables.{used_pairs, link_pairs, forwarded, modules_in, procs_in, import_target, name_offset, with_offset}
 use Rattle.link_model.specs.NothingDropped.{WholeLink}
-use Rattle.link_model.proofs.Members.{In, here, there, in_right}
+use Rattle.link_model.proofs.Members.{In, here, there, in_right, not_empty}
 use Rattle.link_model.proofs.ExportsStay.{exports_stay}
 use Rattle.image_model.specs.Exported as links
-use Rattle.image_model.specs.Exported.{forwarder_to, head_of}
+use Rattle.image_model.specs.Exported.{forwarder_to}
 use Rattle.lx_exports.specs.declared.exports.OutEntry.{OutEntry}
 use Rattle.lx_exports.specs.Exports.{asked, names_of, numbered, with_ordinals, exported_of, export_refusal, HeadFits, ExportFits}
 use Rattle.link_types.specs.Symbols.{SymbolTable}
@@ -49,10 +49,10 @@ use Rattle.link_types.specs.Places.{ArePlaces}
 use Rattle.link_fix.specs.Tables.{pair_among}
 use Rattle.link_core.specs.Exports.{lead_in, pair_in, forward_among, wide_among, entry_with, entry_to, entry_in, entries_in}
 use Rattle.link_core.specs.Parts.{all_pairs}
-use Rattle.link_core.proofs.ObjectsThere.{IsThere}
-use Rattle.link_core.proofs.TargetsThere.{LeadsThere, symbol_there, through, mapped}
-use Rattle.link_core.proofs.FewImports.{export_with, few-modules, in-filter_map}
-use Rattle.link_core.proofs.RecordsFit.{AmongPairs, import-among}
+use Rattle.image_model.proofs.ObjectsThere.{IsThere}
+use Rattle.image_model.proofs.TargetsThere.{LeadsThere, symbol_there, through, mapped}
+use Rattle.image_model.proofs.FewImports.{export_with, few-modules, in-filter_map}
+use Rattle.image_model.proofs.RecordsFit.{AmongPairs, import-among}
 use Rattle.link_model.proofs.RecordsStay.{pair_there}
 
 -- ---- what an export leads to
@@ -297,10 +297,6 @@ pub record AreEntries (l : Link) (es : List OutEntry) : Type 0 where
 
 abbrev pub IsNamed : Exp → Type 0
 IsNamed x = (x.name ≢ []) × (x.words ≤ 31)
-
-pub not_empty : (xs : List ℕ) → xs ≢ [] → 0 < length xs
-not_empty [] h = absurd (h refl)
-not_empty (x ∷ xs) h = omega arith
 
 all_fit : (l : Link) (xs : List Exp) → lay_refusal l ≡ None → sym_refusal l ≡ None → AllMatch l xs → AllByRecursion IsNamed xs → AllByRecursion ExportFits (entries_for l xs)
 all_fit l [] lay e h named = tt

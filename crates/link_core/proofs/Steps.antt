@@ -1,6 +1,6 @@
 -- Steps of the loops over exports and names, and the tables with which they begin.
-use Rattle.std.specs.Prelude.{◌≡◌, ℕ, zero, suc, ◌+◌, ◌<◌, ◌≤◌, List, [], ◌∷◌, ◌++◌, Option, Some, map, take, length, slice_get, bytes_eq, option_to_list, refl}
-use Rattle.std.specs.List.{All, filter_map, flat_map, range_with_len}
+use Rattle.std.specs.Prelude.{◌≡◌, ℕ, ◌+◌, ◌<◌, List, [], ◌∷◌, ◌++◌, Option, Some, map, take, length, slice_get, bytes_eq, option_to_list}
+use Rattle.std.specs.List.{filter_map, flat_map, range_with_len}
 use Rattle.std.specs.Borrow.{Bor}
 use Rattle.std.proofs.Common.{ap, sym, ◌∙◌, subst, get_or, arith}
 use Rattle.std.proofs.lemmas.List.{append-nil, append_assoc, map-append, take_more, length-map}
@@ -18,7 +18,7 @@ use Rattle.link_fix.specs.declared.tables.FirstNames.{FirstNames}
 use Rattle.link_fix.specs.declared.tables.ImportTables.{ImportTables}
 use Rattle.link_fix.specs.Tables.{AreFirst, ArePairs}
 use Rattle.link_core.specs.Exports.{offsets_of}
-use Rattle.link_core.proofs.FewImports.{firsts-again}
+use Rattle.image_model.proofs.FewImports.{firsts-again}
 
 -- ---- lent items
 
@@ -58,17 +58,6 @@ pairs-begin m p imports procs pairs hm hp em ep = record {
 
 pub offsets-are : (t : ImportTables) (lent : List (List ℕ)) (offsets : List ℕ) (pairs : List Imp) → ArePairs t pairs → lent ≡ t.procs.names → offsets ≡ offsets_of lent → offsets ≡ offsets_of (procs_in pairs)
 offsets-are t lent offsets pairs are is made = made ∙ ap offsets_of (is ∙ are.procs.0)
-
--- ---- at the end of a list
-
-pub take-all : {X : Type 0} (xs : List X) (i : ℕ) → length xs ≤ i → take i xs ≡ xs
-take-all [] zero h = refl
-take-all [] (suc i) h = refl
-take-all (x ∷ xs) zero h = absurd (omega (arith, h))
-take-all {X} (x ∷ xs) (suc i) h = ap (λ (ys : List X). x ∷ ys) (take-all xs i (omega (arith, h)))
-
-pub all-taken : {X : Type 0} (P : X → Type 0) (xs : List X) (i : ℕ) → length xs ≤ i → All P (take i xs) → All P xs
-all-taken {X} P xs i h all = subst (λ (ys : List X). All P ys) (take-all xs i h) all
 
 -- ---- offsets of names
 

@@ -5,7 +5,6 @@ use Rattle.std.proofs.Common.{ap, sym, ◌∙◌, arith, subst, get_or}
 use Rattle.std.proofs.lemmas.List.{length-map}
 use Rattle.std.proofs.lemmas.List.Elements.{All-map}
 use Rattle.std.proofs.lemmas.List.FromFn.{length-range_with_len}
-use Rattle.link_core.proofs.ExportsAre.{not_empty}
 use Rattle.lx_types.specs.Sound.{IsNumberOf}
 use Rattle.lx_types.specs.declared.fix.Fix.{Fix}
 use Rattle.lx_types.specs.declared.fix.Source.{Source}
@@ -24,16 +23,17 @@ use Rattle.link_model.specs.Patches.{page_byte, object_bytes}
 use Rattle.link_model.specs.Records.{page_count, page_records, object_records}
 use Rattle.link_model.specs.ImportTables.{link_pairs, modules_in}
 use Rattle.link_model.specs.NothingDropped.{WholeLink}
+use Rattle.link_model.proofs.Members.{not_empty}
 use Rattle.lx_fixrec.specs.Writable.{SelectorFits, NumbersFit, IsWritable, MayBeWritten}
 use Rattle.lx_exports.specs.Exports.{ExportFits}
 use Rattle.lx_write.specs.declared.image.Image.{Image}
 use Rattle.lx_write.specs.LinkImages.{IsImageOfLink}
 use Rattle.lx_write.specs.Value.{TargetIsThere, CanBeWritten}
 use Rattle.link_core.specs.Ranges.{TargetHasRange, HasRange}
-use Rattle.link_core.proofs.ObjectsThere.{stack_there}
-use Rattle.link_core.proofs.TargetsThere.{start_there}
-use Rattle.link_core.proofs.FewImports.{few-modules}
-use Rattle.link_core.proofs.RecordsFit.{is_sel, NamesThere, offset_in_target, RecordFits, Apart, page-fits, page-apart}
+use Rattle.image_model.proofs.ObjectsThere.{stack_there}
+use Rattle.image_model.proofs.TargetsThere.{start_there}
+use Rattle.image_model.proofs.FewImports.{few-modules}
+use Rattle.image_model.proofs.RecordsFit.{is_sel, NamesThere, offset_in_target, RecordFits, Apart, page-fits, page-apart}
 
 -- ---- one record
 

@@ -7,20 +7,10 @@ use Rattle.link_model.specs.Link.{Link, IsLinkOf}
 use Rattle.link_model.specs.Layout as layout
 use Rattle.link_model.specs.Refusal.{link_refusal}
 use Rattle.image_model.specs.File.{file_of}
-use Rattle.image_model.specs.Linked.{image_of, called, page_forms, page_fixes}
+use Rattle.image_model.specs.Linked.{image_of, called, page_forms}
+use Rattle.image_model.specs.LinkedFile.{source_count}
 use Rattle.lx_write.specs.declared.image.Image.{Image}
 use Rattle.link_core.specs.declared.linking.Linked.{Linked}
-
--- The input's link is accepted, and this is the one file of its module.
-pub record IsLinkedFile (input : LinkInput) (written : List ℕ) : Type 0 where
-  pub link : Link
-  pub of_input : IsLinkOf input link
-  pub accepted : link_refusal link ≡ None
-  pub file : written ≡ file_of (image_of link)
-
--- The fixups of all pages. One whose field stands on two pages counts on each.
-abbrev pub source_count : Link → ℕ
-source_count l = sum_by length (page_fixes l)
 
 -- The input's link is accepted; this is the file of its module, with the module's name, which is in upper case, and the
 -- numbers of its objects, its pages and the fixups of these.

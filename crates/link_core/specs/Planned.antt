@@ -21,7 +21,7 @@ use Rattle.lx_write.specs.LinkImages.{IsImageOfLink}
 use Rattle.lx_write.specs.Value.{CanBeWritten}
 use Rattle.link_types.specs.Binding.{IsBound}
 use Rattle.link_types.specs.Symbols.{SymbolTable}
-use Rattle.link_types.specs.Places.{ArePlaces}
+use Rattle.link_types.specs.Layout.{IsLaidOut}
 use Rattle.link_core.specs.declared.image.PlacedImage.{PlacedImage}
 use Rattle.link_core.specs.declared.planning.Plan.{Plan}
 
@@ -29,7 +29,7 @@ use Rattle.link_core.specs.declared.planning.Plan.{Plan}
 pub record IsPlannedLink (l : Link) (p : Plan) : Type 0 where
   pub lay : lay_refusal l ≡ None
   pub place : place_refusal l ≡ None
-  pub places : ArePlaces l p.places
+  pub laid : IsLaidOut l p.layout
   pub image : IsImageOfLink l p.image
   pub writable : CanBeWritten p.image
   -- what the tables of exports refuse is what the link refuses
@@ -37,7 +37,7 @@ pub record IsPlannedLink (l : Link) (p : Plan) : Type 0 where
 
 -- The plan that these symbols and this image make.
 abbrev pub plan_with : SymbolTable → PlacedImage → Plan
-plan_with s made = record { syms = s; places = made.places; image = made.image }
+plan_with s made = record { syms = s; layout = made.layout; image = made.image }
 
 -- No COMDATs clash, and this is the plan of the link of what is kept.
 pub record IsPlanned (input : LinkInput) (p : Plan) : Type 0 where

@@ -15,7 +15,7 @@ use crate::entries::entries_of;
 use crate::ranges::fix_ranges;
 use crate::tables::link_tables;
 use link_place::Placed;
-use link_types::{Layout, Places, Symbols};
+use link_types::{Layout, Symbols};
 use lx_exports::OutEntry;
 use lx_types::{MODULE_INIT_EACH, MODULE_TERM_EACH, Name, Names, NoMemory, Seq};
 use lx_write::Image;
@@ -42,10 +42,10 @@ pub struct LinkParts {
     pub tables: LinkTables,
 }
 
-/// The image of a link, and where its segments, communals and groups stand.
+/// The image of a link, and its layout.
 #[derive(Drop)]
 pub struct PlacedImage {
-    pub places: Places,
+    pub layout: Layout,
     pub image: Image,
 }
 
@@ -133,9 +133,10 @@ pub fn image_of(
     parts: LinkParts,
 ) -> Result<PlacedImage, NoMemory>
     ensures image { IfOk result (λ made. HasParts input.now layout.objects parts made.image) }
-    ensures places { IfOk result (λ made. made.places ≡ layout.places) }
+    ensures layout { IfOk result (λ made. made.layout ≡ layout) }
 {
     let title = title_of(alloc, input)?;
+    let objects = Seq::from_vec(Vec::from_slice(alloc, layout.objects())?);
     let LinkParts { placed, tables } = parts;
     fix_ranges(placed.fixes.as_slice());
     let image = Image {
@@ -147,15 +148,12 @@ pub fn image_of(
         stack: placed.stack,
         heap: input.def.heap,
         auto: tables.auto,
-        objects: layout.objects,
+        objects,
         bytes: placed.bytes,
         fixes: placed.fixes,
         imports: tables.imports,
         procs: tables.procs,
         exports: tables.exports,
     };
-    Ok(PlacedImage {
-        places: layout.places,
-        image,
-    })
+    Ok(PlacedImage { layout, image })
 }

@@ -18,7 +18,7 @@ use crate::image::{LinkParts, PlacedImage, image_of, tables_of};
 use comdat_core::judge;
 use link_model::LinkRefusal;
 use link_place::place_fixes;
-use link_types::{Layout, Places, Symbols};
+use link_types::{Layout, Symbols};
 use lx_types::Fail;
 use lx_write::Image;
 use obj_types::LinkInput;
@@ -31,8 +31,8 @@ use sym_table::bind;
 pub struct Plan {
     /// Which modules are chosen, and what names mean.
     pub syms: Symbols,
-    /// Where segments, communals and groups stand.
-    pub places: Places,
+    /// The objects, and where segments, communals and groups stand in them.
+    pub layout: Layout,
     /// What the module's file says.
     pub image: Image,
 }
@@ -120,7 +120,7 @@ pub fn plan_link(
             Err(fail) => Err(fail),
             Ok(made) => Ok(Plan {
                 syms,
-                places: made.places,
+                layout: made.layout,
                 image: made.image,
             }),
         },

@@ -62,7 +62,8 @@ name_leads l name whole e = leads_by l name (global l name) whole refl e
 abbrev IsAs : ℕ → Exp → Export → Type 0
 IsAs n x e = (e.ordinal ≡ n) × (e.name ≡ x.name)
 
-export_by : (l : Link) (n : ℕ) (x : Exp) (o : Option ExportTarget) → IsSome o → IsSomeAnd (option_map (λ target. record { ordinal = n; name = x.name; resident = is_resident x; words = x.words; wide = is_wide l target; target = target }) o) (IsAs n x)
+export_by : (l : Link) (n : ℕ) (x : Exp) (o : Option ExportTarget) → IsSome o →
+    IsSomeAnd (option_map (λ target. record { ordinal = n; name = x.name; resident = is_resident x; words = x.words; wide = is_wide l target; target = target }) o) (IsAs n x)
 export_by l n x None h = absurd (true≢false (sym h))
 export_by l n x (Some t) h = (refl, refl)
 

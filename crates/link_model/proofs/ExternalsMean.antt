@@ -65,4 +65,5 @@ exports_lead l e =
     let rest = (neither (twice l) (first_of (missing_external l ∷ missing_export l ∷ imports_many l ∷ [])) e).1 in
     let later = (neither (missing_external l) (first_of (missing_export l ∷ imports_many l ∷ [])) rest).1 in
     let none = (neither (missing_export l) (first_of (imports_many l ∷ [])) later).0 in
-    each_passes (λ x. is_exportable (global l x.internal)) (exports l) (none_passes (λ x. not (is_exportable (global l x.internal))) (exports l) (not_mapped (λ x. Missing x.internal) (find (λ x. not (is_exportable (global l x.internal))) (exports l)) none))
+    each_passes (λ x. is_exportable (global l x.internal)) (exports l) (none_passes (λ x. not (is_exportable (global l x.internal)))
+    (exports l) (not_mapped (λ x. Missing x.internal) (find (λ x. not (is_exportable (global l x.internal))) (exports l)) none))

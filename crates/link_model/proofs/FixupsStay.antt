@@ -72,7 +72,8 @@ place_there l n m (places.Const value) e whole = tt
 
 -- ---- local names
 
-local_by : (l : Link) (n : ℕ) (m : ObjModule) (name : List ℕ) (d : SymDef) → WholeModule m → chosen_module l n ≡ Some m → (o : Option Pub) → find (λ p. p.local && bytes_eq p.name name) m.pubs ≡ o → option_map (λ p. at_place n p.place) o ≡ Some d → IsThere l d
+local_by : (l : Link) (n : ℕ) (m : ObjModule) (name : List ℕ) (d : SymDef) → WholeModule m → chosen_module l n ≡ Some m →
+    (o : Option Pub) → find (λ p. p.local && bytes_eq p.name name) m.pubs ≡ o → option_map (λ p. at_place n p.place) o ≡ Some d → IsThere l d
 local_by l n m name d whole em None is e = absurd (true≢false (sym (ap is_some e)))
 local_by l n m name d whole em (Some p) is e =
     let inside = found_as (λ (p : Pub). p.local && bytes_eq p.name name) m.pubs p is in
@@ -81,7 +82,8 @@ local_by l n m name d whole em (Some p) is e =
 
 local_there : (l : Link) (n : ℕ) (m : ObjModule) (name : List ℕ) (d : SymDef) → WholeLink l → chosen_module l n ≡ Some m → local_meaning l n name ≡ Some d → IsThere l d
 local_there l n m name d whole em e =
-    let opened : option_map (λ p. at_place n p.place) (find (λ p. p.local && bytes_eq p.name name) m.pubs) ≡ Some d = sym (ap (option_and_then (λ m. option_map (λ p. at_place n p.place) (find (λ p. p.local && bytes_eq p.name name) m.pubs))) em) ∙ e in
+    let opened : option_map (λ p. at_place n p.place) (find (λ p. p.local && bytes_eq p.name name) m.pubs) ≡ Some d =
+    sym (ap (option_and_then (λ m. option_map (λ p. at_place n p.place) (find (λ p. p.local && bytes_eq p.name name) m.pubs))) em) ∙ e in
     local_by l n m name d (module_whole l n m whole em) em (find (λ p. p.local && bytes_eq p.name name) m.pubs) refl opened
 
 -- ---- global names
@@ -96,7 +98,8 @@ pub record Defined (l : Link) (d : Definition) (place : PubPlace) : Type 0 where
   pub chosen : chosen_module l d.by ≡ Some owner
   pub whole : WholePlace owner place
 
-public_from : (l : Link) (n : ℕ) (m : ObjModule) (d : Definition) (place : PubPlace) → WholeModule m → chosen_module l n ≡ Some m → Mapped (of_public n) (filter (λ p. not p.local) m.pubs) d → place_in d.meaning ≡ Some place → Defined l d place
+public_from : (l : Link) (n : ℕ) (m : ObjModule) (d : Definition) (place : PubPlace) →
+    WholeModule m → chosen_module l n ≡ Some m → Mapped (of_public n) (filter (λ p. not p.local) m.pubs) d → place_in d.meaning ≡ Some place → Defined l d place
 public_from l n m d place whole em r e =
     let p = r.item in
     let inside = from_filter (λ (p : Pub). not p.local) m.pubs r.inside in
@@ -134,13 +137,15 @@ communal_there : (l : Link) (name : List ℕ) (d : SymDef) → option_map (λ sl
 unfolding rules
 communal_there l name d e = communal_by l name d (place_by bytes_eq (λ c. c.0) name (commons l)) refl e
 
-import_by : (l : Link) (name : List ℕ) (pair : Imp) (d : SymDef) (o : Option ℕ) → place_by same_import import_key (import_key pair) (imports l) ≡ o → option_or (option_map (λ slot. means.Import slot) o) (option_map (λ slot. means.Common slot) (place_by bytes_eq (λ c. c.0) name (commons l))) ≡ Some d → IsThere l d
+import_by : (l : Link) (name : List ℕ) (pair : Imp) (d : SymDef) (o : Option ℕ) → place_by same_import import_key (import_key pair) (imports l) ≡ o →
+    option_or (option_map (λ slot. means.Import slot) o) (option_map (λ slot. means.Common slot) (place_by bytes_eq (λ c. c.0) name (commons l))) ≡ Some d → IsThere l d
 unfolding rules
 import_by l name pair d None is e = communal_there l name d e
 import_by l name pair d (Some slot) is e =
     subst (IsThere l) (same_Some (means.Import slot) d e) (below (λ i. same_import (import_key pair) (import_key i)) (imports l) slot is)
 
-meaning_by : (l : Link) (name : List ℕ) (d : SymDef) (df : Definition) (m : Meaning) → WholeLink l → In df (definitions l) → df.meaning ≡ m → option_or (by_definition l df m) (option_map (λ slot. means.Common slot) (place_by bytes_eq (λ c. c.0) name (commons l))) ≡ Some d → IsThere l d
+meaning_by : (l : Link) (name : List ℕ) (d : SymDef) (df : Definition) (m : Meaning) → WholeLink l → In df (definitions l) → df.meaning ≡ m →
+    option_or (by_definition l df m) (option_map (λ slot. means.Common slot) (place_by bytes_eq (λ c. c.0) name (commons l))) ≡ Some d → IsThere l d
 unfolding rules
 meaning_by l name d df (Public place) whole i is e =
     let r = public_defined l df place whole i (ap place_in is) in
@@ -148,7 +153,8 @@ meaning_by l name d df (Public place) whole i is e =
 meaning_by l name d df (Imported pair) whole i is e =
     import_by l name pair d (place_by same_import import_key (import_key pair) (imports l)) refl e
 
-global_by : (l : Link) (name : List ℕ) (d : SymDef) (o : Option Definition) → WholeLink l → definition_of l name ≡ o → option_or (option_and_then (λ d. by_definition l d d.meaning) o) (option_map (λ slot. means.Common slot) (place_by bytes_eq (λ c. c.0) name (commons l))) ≡ Some d → IsThere l d
+global_by : (l : Link) (name : List ℕ) (d : SymDef) (o : Option Definition) → WholeLink l → definition_of l name ≡ o → option_or (option_and_then
+    (λ d. by_definition l d d.meaning) o) (option_map (λ slot. means.Common slot) (place_by bytes_eq (λ c. c.0) name (commons l))) ≡ Some d → IsThere l d
 unfolding rules
 global_by l name d None whole is e = communal_there l name d e
 global_by l name d (Some df) whole is e =
@@ -212,7 +218,9 @@ external_target l n i m whole e em index =
     let listed : In (n, x.value) (externals l) = in_flat_map (λ (q : ℕ × ObjModule). map (λ e. (q.0, e)) q.1.exts) (chosen_in l n m em) (in_map (λ (e : Ext). (n, e)) x.inside) in
     let meant = value_is (Sym l n x.value) (each_in (λ q. IsSome (Sym l q.0 q.1)) (externals l) (externals_by_recursion l e) listed) in
     let there = sym_by l n m x.value.name x.value.local meant.item whole em meant.is in
-    let opened : of_external l n i ≡ of_symbol l meant.item = ap (option_and_then (λ m. option_and_then (λ e. option_and_then (of_symbol l) (Sym l n e)) (item m.exts i))) em ∙ (ap (option_and_then (λ e. option_and_then (of_symbol l) (Sym l n e))) x.is ∙ ap (option_and_then (of_symbol l)) meant.is) in
+    let opened : of_external l n i ≡ of_symbol l meant.item =
+    ap (option_and_then (λ m. option_and_then (λ e. option_and_then (of_symbol l) (Sym l n e)) (item m.exts i))) em
+    ∙ (ap (option_and_then (λ e. option_and_then (of_symbol l) (Sym l n e))) x.is ∙ ap (option_and_then (of_symbol l)) meant.is) in
     subst (λ (o : Option Target). is_some o ≡ true) (sym opened) (symbol_target l meant.item there)
 
 goal_target : (l : Link) (n : ℕ) (m : ObjModule) (goal : Goal) → WholeLink l → sym_refusal l ≡ None → chosen_module l n ≡ Some m → WholeGoal m goal → IsSome (target_of l n goal)
@@ -225,7 +233,8 @@ goal_target l n m (goals.Group i) whole e em h =
 
 -- ---- fixups
 
-fixup_by : (l : Link) (n : ℕ) (m : ObjModule) (f : FixAt) (t : Option Target) (o : Option (ℕ × ℕ)) → IsSome t → IsSome o → IsSomeAnd (option_and_then (λ target. option_map (fixup_at l n m f target) (option_map (shifted f.offset) o)) t) (λ x. x.fix ≡ f)
+fixup_by : (l : Link) (n : ℕ) (m : ObjModule) (f : FixAt) (t : Option Target) (o : Option (ℕ × ℕ)) →
+    IsSome t → IsSome o → IsSomeAnd (option_and_then (λ target. option_map (fixup_at l n m f target) (option_map (shifted f.offset) o)) t) (λ x. x.fix ≡ f)
 fixup_by l n m f None o ht ho = absurd (true≢false (sym ht))
 fixup_by l n m f (Some t) None ht ho = absurd (true≢false (sym ho))
 fixup_by l n m f (Some t) (Some q) ht ho = refl
@@ -251,7 +260,9 @@ stay : (h : FixAt → Option Fixup) (fs : List FixAt) → ((f : FixAt) → In f 
 stay h [] all = refl
 stay h (f ∷ fs) all = stays_by f (h f) (filter_map h fs) fs (all f here) (stay h fs (λ g i. all g (there i)))
 
-stay_in_modules : (l : Link) (b : ℕ) (ms : List ObjModule) → WholeLink l → sym_refusal l ≡ None → ((q : ℕ × ObjModule) → In q (enumerate_from b ms) → chosen_module l q.0 ≡ Some q.1) → map (λ x. x.fix) (flat_map (λ q. filter_map (fixup_of l q.0 q.1) q.1.fixes) (enumerate_from b ms)) ≡ flat_map (λ m. m.fixes) ms
+stay_in_modules : (l : Link) (b : ℕ) (ms : List ObjModule) →
+    WholeLink l → sym_refusal l ≡ None → ((q : ℕ × ObjModule) → In q (enumerate_from b ms) → chosen_module l q.0 ≡ Some q.1) →
+    map (λ x. x.fix) (flat_map (λ q. filter_map (fixup_of l q.0 q.1) q.1.fixes) (enumerate_from b ms)) ≡ flat_map (λ m. m.fixes) ms
 unfolding rules
 stay_in_modules l b [] whole e chosen = refl
 stay_in_modules l b (m ∷ ms) whole e chosen =
@@ -259,7 +270,8 @@ stay_in_modules l b (m ∷ ms) whole e chosen =
     let w = module_whole l b m whole em in
     let first = stay (fixup_of l b m) m.fixes (λ f i. fixup_there l b m f whole e em (all_in (WholeFix m) m.fixes w.fixes i)) in
     let rest = flat_map (λ (q : ℕ × ObjModule). filter_map (fixup_of l q.0 q.1) q.1.fixes) (enumerate_from (b + 1) ms) in
-    map-append (λ (x : Fixup). x.fix) (filter_map (fixup_of l b m) m.fixes) rest ∙ (ap (λ (t : List FixAt). t ++ map (λ x. x.fix) rest) first ∙ ap (λ (t : List FixAt). m.fixes ++ t) (stay_in_modules l (b + 1) ms whole e (λ q i. chosen q (there i))))
+    map-append (λ (x : Fixup). x.fix) (filter_map (fixup_of l b m) m.fixes) rest ∙ (ap (λ (t : List FixAt). t ++ map (λ x. x.fix) rest) first
+    ∙ ap (λ (t : List FixAt). m.fixes ++ t) (stay_in_modules l (b + 1) ms whole e (λ q i. chosen q (there i))))
 
 pub fixups_stay : FixupsStay
 unfolding rules

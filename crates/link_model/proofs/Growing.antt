@@ -55,7 +55,8 @@ slice_get-front (y ∷ ys) x zero h = refl
 slice_get-front (y ∷ ys) x (suc k) h = slice_get-front ys x k (omega arith)
 
 grown_at :
-    (input : LinkInput) (picks : List Pick) (pick : Pick) (k : ℕ) → IsBegun input picks → next_pick input picks ≡ Some pick → length input.objects ≤ k → (k < length picks) ⊎ (k ≡ length picks) → next_pick input (take k (picks ++ pick ∷ [])) ≡ slice_get (picks ++ pick ∷ []) k
+    (input : LinkInput) (picks : List Pick) (pick : Pick) (k : ℕ) → IsBegun input picks → next_pick input picks ≡ Some pick →
+    length input.objects ≤ k → (k < length picks) ⊎ (k ≡ length picks) → next_pick input (take k (picks ++ pick ∷ [])) ≡ slice_get (picks ++ pick ∷ []) k
 grown_at input picks pick k h e from (inl below) =
     ap (next_pick input) (take-append-le k picks (pick ∷ []) (omega arith)) ∙ (h.grows k from below ∙ sym (slice_get-front picks pick k below))
 grown_at input picks pick k h e from (inr last) =
@@ -89,7 +90,9 @@ not_and false b e = refl
 not_and true b e = absurd (true≢false (sym e))
 
 new_by :
-    (input : LinkInput) (picks : List Pick) (k : ℕ) (m : ObjModule) (ms : List ObjModule) (pick : Pick) (b : Bool) → is_next input picks (k, m) ≡ b → option_map (λ (q : ℕ × ObjModule). record { lib = true; index = q.0 }) (cond b (Some (k, m)) (find (is_next input picks) (enumerate_from (k + 1) ms))) ≡ Some pick → ((next_from input picks (k + 1) ms ≡ Some pick) → IsNew picks (k + 1) (length ms) pick) → IsNew picks k (suc (length ms)) pick
+    (input : LinkInput) (picks : List Pick) (k : ℕ) (m : ObjModule) (ms : List ObjModule) (pick : Pick) (b : Bool) → is_next input picks (k, m) ≡ b →
+    option_map (λ (q : ℕ × ObjModule). record { lib = true; index = q.0 }) (cond b (Some (k, m)) (find (is_next input picks) (enumerate_from (k + 1) ms)))
+    ≡ Some pick → ((next_from input picks (k + 1) ms ≡ Some pick) → IsNew picks (k + 1) (length ms) pick) → IsNew picks k (suc (length ms)) pick
 new_by input picks k m ms pick true is found rest =
     let same : record { lib = true; index = k } ≡ pick = cc in
     let new : is_picked picks k ≡ false = not_and (is_picked picks k) (is_drawn input picks m) is in
@@ -129,7 +132,8 @@ lost_one true fb gs fs g f e = absurd (true≢false g)
 lost_one false false gs fs g f e = absurd (true≢false (sym f))
 
 fewer_by :
-    (f g : ℕ → Bool) (j : ℕ) → Loses f g j → (a n : ℕ) → (a < j) ⊎ (j ≡ a) → (a < j → passing g (range_with_len (a + 1) n) < passing f (range_with_len (a + 1) n)) → cond (g a) 1 0 + passing g (range_with_len (a + 1) n) < cond (f a) 1 0 + passing f (range_with_len (a + 1) n)
+    (f g : ℕ → Bool) (j : ℕ) → Loses f g j → (a n : ℕ) → (a < j) ⊎ (j ≡ a) → (a < j → passing g (range_with_len (a + 1) n) < passing f (range_with_len (a + 1) n)) →
+    cond (g a) 1 0 + passing g (range_with_len (a + 1) n) < cond (f a) 1 0 + passing f (range_with_len (a + 1) n)
 fewer_by f g j h a n (inl lt) rest =
     let fs : ℕ = passing f (range_with_len (a + 1) n) in
     let gs : ℕ = passing g (range_with_len (a + 1) n) in
@@ -153,7 +157,8 @@ others picks pick k e =
 
 itself : (picks : List Pick) (pick : Pick) → pick.lib ≡ true → is_picked (picks ++ pick ∷ []) pick.index ≡ true
 itself picks pick e =
-    picked_more picks pick pick.index ∙ (ap (λ (b : Bool). is_picked picks pick.index || (b && pick.index == pick.index || false)) e ∙ (ap (λ (b : Bool). is_picked picks pick.index || (b || false)) (eq-eqb pick.index pick.index refl) ∙ or-true (is_picked picks pick.index)))
+    picked_more picks pick pick.index ∙ (ap (λ (b : Bool). is_picked picks pick.index || (b && pick.index == pick.index || false)) e
+    ∙ (ap (λ (b : Bool). is_picked picks pick.index || (b || false)) (eq-eqb pick.index pick.index refl) ∙ or-true (is_picked picks pick.index)))
 
 loses : (picks : List Pick) (pick : Pick) (n : ℕ) → IsNew picks 0 n pick → Loses (λ k. not (is_picked picks k)) (λ k. not (is_picked (picks ++ pick ∷ []) k)) pick.index
 loses picks pick n h =

@@ -52,7 +52,8 @@ all_numbered P Q f g s (x ∷ xs) h = (g s x h.0, all_numbered P Q f g (s + 1) x
 
 -- ---- the segments that stay
 
-seg_at : (gone : ℕ → Bool) (segs : List Seg) (s k : ℕ) (P : Seg → Type 0) → ((x : Seg) → P x → P (seg_without gone (s + k) x)) → IsSomeAnd (slice_get segs k) P → IsSomeAnd (slice_get (map (λ q. seg_without gone q.0 q.1) (enumerate_from s segs)) k) P
+seg_at : (gone : ℕ → Bool) (segs : List Seg) (s k : ℕ) (P : Seg → Type 0) → ((x : Seg) → P x → P (seg_without gone (s + k) x)) →
+    IsSomeAnd (slice_get segs k) P → IsSomeAnd (slice_get (map (λ q. seg_without gone q.0 q.1) (enumerate_from s segs)) k) P
 seg_at gone [] s k P f h = h
 seg_at gone (x ∷ xs) s zero P f h = subst (λ (n : ℕ). P (seg_without gone n x)) (let e : s + 0 ≡ s = omega arith in e) (f x h)
 seg_at gone (x ∷ xs) s (suc k) P f h =
@@ -152,12 +153,14 @@ fixes_named m cs w h = λ k d below.
     }
 
 -- The start names nothing that is taken out.
-apart_frames : (cs : List Comdat) (o : Option StartAt) (m : ObjModule) → m.start ≡ o → AllByRecursion (WholeComdat m) cs → AllByRecursion (λ (c : Comdat). IfSome o (λ (s : StartAt). IsApartFrame c.seg s.frame) × IfSome o (λ (s : StartAt). IsApartGoal c.seg s.goal)) cs
+apart_frames : (cs : List Comdat) (o : Option StartAt) (m : ObjModule) → m.start ≡ o → AllByRecursion (WholeComdat m) cs →
+    AllByRecursion (λ (c : Comdat). IfSome o (λ (s : StartAt). IsApartFrame c.seg s.frame) × IfSome o (λ (s : StartAt). IsApartGoal c.seg s.goal)) cs
 apart_frames cs o m is h =
     all_weaker (WholeComdat m) (λ (c : Comdat). IfSome o (λ (s : StartAt). IsApartFrame c.seg s.frame) × IfSome o (λ (s : StartAt). IsApartGoal c.seg s.goal))
     (λ c v. subst (λ (o : Option StartAt). IfSome o (λ (s : StartAt). IsApartFrame c.seg s.frame) × IfSome o (λ (s : StartAt). IsApartGoal c.seg s.goal)) is (v.start_frame, v.start_goal)) cs h
 
-start_by : (m : ObjModule) (cs : List Comdat) (o : Option StartAt) → IfSome o (WholeStart m) → AllByRecursion (λ (c : Comdat). IfSome o (λ (s : StartAt). IsApartFrame c.seg s.frame) × IfSome o (λ (s : StartAt). IsApartGoal c.seg s.goal)) cs → IfSome o (WholeStart (without (is_seg_of cs) m))
+start_by : (m : ObjModule) (cs : List Comdat) (o : Option StartAt) → IfSome o (WholeStart m) → AllByRecursion (λ (c : Comdat). IfSome o
+    (λ (s : StartAt). IsApartFrame c.seg s.frame) × IfSome o (λ (s : StartAt). IsApartGoal c.seg s.goal)) cs → IfSome o (WholeStart (without (is_seg_of cs) m))
 start_by m cs None h apart = tt
 start_by m cs (Some s) h apart = (
   frame_whole (is_seg_of cs) m s.frame h.0 (frame_stays cs s.frame (all_weaker _ (λ (c : Comdat). IsApartFrame c.seg s.frame) (λ c v. v.0) cs apart)),
@@ -189,7 +192,8 @@ without_whole m cs w h =
       groups = All-from_recursion (WholeGroup n) n.groups
           (all_map (WholeGroup m) (WholeGroup n) (group_without gone) (group_whole gone m) m.groups (recursion_from_All (WholeGroup m) m.groups w.groups));
       pubs = All-from_recursion (λ (p : Pub). WholePlace n p.place) n.pubs
-          (all_filter (λ (p : Pub). WholePlace m p.place) (λ (p : Pub). WholePlace n p.place) (λ p. not (is_place_in gone p.place)) (λ p v e. place_whole gone m p.place v e) m.pubs (recursion_from_All (λ (p : Pub). WholePlace m p.place) m.pubs w.pubs));
+          (all_filter (λ (p : Pub). WholePlace m p.place) (λ (p : Pub). WholePlace n p.place) (λ p. not (is_place_in gone p.place))
+          (λ p v e. place_whole gone m p.place v e) m.pubs (recursion_from_All (λ (p : Pub). WholePlace m p.place) m.pubs w.pubs));
       pieces = All-from_recursion (PieceIn n) n.pieces
           (all_filter (PieceIn m) (PieceIn n) (λ p. not (gone p.seg)) (λ p v e. lies_stays gone m p.seg p.offset (length p.bytes) (not-true (gone p.seg) e) v) m.pieces (recursion_from_All (PieceIn m) m.pieces w.pieces));
       fixes = All-from_recursion (WholeFix n) n.fixes
@@ -216,7 +220,8 @@ repeated_whole P earlier (c ∷ cs) h = by (list_any (is_called c.name) earlier)
 
 kept_whole : (before : List ObjModule) (m : ObjModule) → WholeModule m → WholeModule (kept_module before m)
 kept_whole before m w =
-    without_whole m (taken before m) w (repeated_whole (WholeComdat m) _ _ (all_filter (WholeComdat m) (WholeComdat m) (λ c. not (is_local m c)) (λ c v e. v) m.comdats (recursion_from_All (WholeComdat m) m.comdats w.comdats)))
+    without_whole m (taken before m) w (repeated_whole (WholeComdat m) _ _
+    (all_filter (WholeComdat m) (WholeComdat m) (λ c. not (is_local m c)) (λ c v e. v) m.comdats (recursion_from_All (WholeComdat m) m.comdats w.comdats)))
 
 behind_whole : (before ms : List ObjModule) → AllByRecursion WholeModule ms → AllByRecursion WholeModule (kept_behind before ms)
 behind_whole before [] w = tt

@@ -1,12 +1,16 @@
--- Keys of logical segments and of objects are equal where their tests say so.
-use Rattle.std.specs.Prelude.{◌≡◌, ℕ, Bool, true, false, ◌==◌, List, bytes_eq, refl}
+-- Keys of logical segments, of objects and of imports are equal where their tests say so.
+use Rattle.std.specs.Prelude.{◌≡◌, ℕ, Bool, true, false, ◌&&◌, ◌==◌, List, bytes_eq, refl}
 use Rattle.std.specs.Cmp.{IsEquivalence}
 use Rattle.std.proofs.Common.{ap, sym, ◌∙◌, true≢false, subst}
 use Rattle.std.proofs.lemmas.Bool.{eqb-true, eq-eqb, and_parts, and_from}
 use Rattle.std.proofs.lemmas.Slice.Eq.{bytes_eq-Decides}
 use Rattle.lx_types.proofs.Bools.{same_test}
+use Rattle.lx_types.specs.declared.entry.EntryKey.{EntryKey}
+use Rattle.lx_types.specs.declared.entry.EntryKey.TheVariants.{Ordinal, Named}
+use Rattle.obj_types.specs.declared.symbol.Imp.{Imp}
 use Rattle.link_model.specs.Parts.{Origin, Segment, Communal, OwnStack, same_origin, SegmentKey, Private, Public, Common, segment_key, same_segment, joins}
 use Rattle.link_model.specs.Order.{ObjectKey, Group, Wide, Narrow, same_object, object_key}
+use Rattle.link_model.specs.Symbols.{ImportKey, import_key, same_import, same_entry}
 use Rattle.link_model.specs.Link.{Link}
 
 -- ---- a test that says no more and no less than equality
@@ -104,3 +108,37 @@ joining = equivalence segment_keys segment_key
 
 pub in_one_object : (l : Link) → IsEquivalence (λ a b. same_object (object_key l a) (object_key l b))
 in_one_object l = equivalence object_keys (object_key l)
+
+-- ---- imports
+
+entry_itself : (e : EntryKey) → same_entry e e ≡ true
+entry_itself (Ordinal n) = eq-eqb n n refl
+entry_itself (Named name) = name_itself name
+
+entry_equal : (a b : EntryKey) → same_entry a b ≡ true → a ≡ b
+entry_equal (Ordinal n) (Ordinal m) e = ap Ordinal (eqb-true n m e)
+entry_equal (Named n) (Named m) e = ap Named (name_equal n m e)
+entry_equal (Ordinal n) (Named m) e = never e
+entry_equal (Named n) (Ordinal m) e = never e
+
+import_itself : (k : ImportKey) → same_import k k ≡ true
+import_itself k =
+    and_from (bytes_eq k.name k.name && bytes_eq k.from k.from) (same_entry k.entry k.entry)
+    (and_from (bytes_eq k.name k.name) (bytes_eq k.from k.from) (name_itself k.name) (name_itself k.from)) (entry_itself k.entry)
+
+import_equal : (a b : ImportKey) → same_import a b ≡ true → a ≡ b
+import_equal a b e =
+    let outer = and_parts (bytes_eq a.name b.name && bytes_eq a.from b.from) (same_entry a.entry b.entry) e in
+    let inner = and_parts (bytes_eq a.name b.name) (bytes_eq a.from b.from) outer.0 in
+    let names : a.name ≡ b.name = (bytes_eq-Decides a.name b.name).0 inner.0 in
+    let froms : a.from ≡ b.from = (bytes_eq-Decides a.from b.from).0 inner.1 in
+    let entries : a.entry ≡ b.entry = entry_equal a.entry b.entry outer.1 in
+    ap (λ (n : List ℕ). let k : ImportKey = record { name = n; from = a.from; entry = a.entry } in k) names
+    ∙ ap (λ (f : List ℕ). let k : ImportKey = record { name = b.name; from = f; entry = a.entry } in k) froms
+    ∙ ap (λ (x : EntryKey). let k : ImportKey = record { name = b.name; from = b.from; entry = x } in k) entries
+
+import_keys : Decided same_import
+import_keys = record { itself = import_itself; equal = import_equal }
+
+pub import_tests : IsEquivalence (λ (a b : Imp). same_import (import_key a) (import_key b))
+import_tests = equivalence import_keys import_key

@@ -68,16 +68,23 @@ made by seg place loc selfrel f goal disp object offset narrow target frame stan
 abbrev base_of : World → ℕ → ℕ
 base_of w o = unwrap_or (item w.bases o) 0
 
-stands_within : (w v : World) (o loc x d s y : ℕ) → relative_to_self loc (place_address w o y) (wrapped (wrapped (place_address w o x + d) + s)) ≡ relative_to_self loc (place_address v o y) (wrapped (wrapped (place_address v o x + d) + s))
+stands_within : (w v : World) (o loc x d s y : ℕ) → relative_to_self loc (place_address w o y) (wrapped (wrapped (place_address w o x + d) + s))
+    ≡ relative_to_self loc (place_address v o y) (wrapped (wrapped (place_address v o x + d) + s))
 stands_within w v o loc x d s y =
     ap (little_bytes (location_len loc)) (cancels (base_of w o) x d s y (location_len loc) ∙ sym (cancels (base_of v o) x d s y (location_len loc)))
 
 stands :
-    (l : Link) (w v : World) (by seg place loc : ℕ) (selfrel : Bool) (f : Frame) (goal : Goal) (disp object offset : ℕ) (narrow : Bool) (target : Target) (frame : Option ℕ) (standing : ℕ) → is_patched (made by seg place loc selfrel f goal disp object offset narrow target frame standing) ≡ true → Value l w (made by seg place loc selfrel f goal disp object offset narrow target frame standing) ≡ Value l v (made by seg place loc selfrel f goal disp object offset narrow target frame standing)
+    (l : Link) (w v : World) (by seg place loc : ℕ) (selfrel : Bool) (f : Frame) (goal : Goal) (disp object offset : ℕ) (narrow : Bool) (target : Target)
+    (frame : Option ℕ) (standing : ℕ) → is_patched (made by seg place loc selfrel f goal disp object offset narrow target frame standing) ≡ true →
+    Value l w (made by seg place loc selfrel f goal disp object offset narrow target frame standing)
+    ≡ Value l v (made by seg place loc selfrel f goal disp object offset narrow target frame standing)
 unfolding rules
 stands l w v by seg place loc true f goal disp object offset narrow (Internal o x) frame standing e =
     let same : o ≡ object = eqb-true o object e in
-    let bytes : value_bytes l w (made by seg place loc true f goal disp object offset narrow (Internal o x) frame standing) ≡ value_bytes l v (made by seg place loc true f goal disp object offset narrow (Internal o x) frame standing) = subst (λ (k : ℕ). relative_to_self loc (place_address w k offset) (wrapped (wrapped (place_address w o x + disp) + standing)) ≡ relative_to_self loc (place_address v k offset) (wrapped (wrapped (place_address v o x + disp) + standing))) same (stands_within w v o loc x disp standing offset) in
+    let bytes : value_bytes l w (made by seg place loc true f goal disp object offset narrow (Internal o x) frame standing)
+    ≡ value_bytes l v (made by seg place loc true f goal disp object offset narrow (Internal o x) frame standing) =
+    subst (λ (k : ℕ). relative_to_self loc (place_address w k offset) (wrapped (wrapped (place_address w o x + disp) + standing)) ≡ relative_to_self loc
+    (place_address v k offset) (wrapped (wrapped (place_address v o x + disp) + standing))) same (stands_within w v o loc x disp standing offset) in
     ap (λ (t : List ℕ). cond (is_some (fix_refusal (made by seg place loc true f goal disp object offset narrow (Internal o x) frame standing))) None (Some t)) bytes
 stands l w v by seg place loc true f goal disp object offset narrow (Constant n) frame standing e = refl
 stands l w v by seg place loc true f goal disp object offset narrow (Entry slot) frame standing e = absurd (true≢false (sym e))

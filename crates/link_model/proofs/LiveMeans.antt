@@ -29,7 +29,8 @@ meet o x a b ea eb =
     let fb = leb-true b.offset x b2.1 in
     let lb = ltb-true x (fixup_end b) b1.1 in
     let same : a.object ≡ b.object = eqb-true a.object o a2.0 ∙ sym (eqb-true b.object o b2.0) in
-    and_from (a.object == b.object && nat_lt a.offset (fixup_end b)) (nat_lt b.offset (fixup_end a)) (and_from (a.object == b.object) (nat_lt a.offset (fixup_end b)) (eq-eqb a.object b.object same) (lt-ltb a.offset (fixup_end b) (omega (arith, fa, lb)))) (lt-ltb b.offset (fixup_end a) (omega (arith, fb, la)))
+    and_from (a.object == b.object && nat_lt a.offset (fixup_end b)) (nat_lt b.offset (fixup_end a)) (and_from (a.object == b.object) (nat_lt a.offset (fixup_end b))
+    (eq-eqb a.object b.object same) (lt-ltb a.offset (fixup_end b) (omega (arith, fa, lb)))) (lt-ltb b.offset (fixup_end a) (omega (arith, fb, la)))
 
 abbrev AllApart : List Fixup → Type 0
 AllApart qs = AllPairs (λ a b. overlap a b ≡ false) qs
@@ -41,7 +42,8 @@ from_first q qs h =
 rest_apart : (q : Fixup) (qs : List Fixup) → AllApart (q ∷ qs) → AllApart qs
 rest_apart q qs h = λ i j d lt len. h (suc i) (suc j) d (omega (arith, lt)) (omega (arith, len))
 
-only_by : (o x : ℕ) (y : Fixup) (q : Fixup) (qs : List Fixup) (b : Bool) → fixup_covers o x y ≡ b → fixup_covers o x q ≡ true → overlap y q ≡ false → find (fixup_covers o x) qs ≡ Some q → cond b (Some y) (find (fixup_covers o x) qs) ≡ Some q
+only_by : (o x : ℕ) (y : Fixup) (q : Fixup) (qs : List Fixup) (b : Bool) → fixup_covers o x y ≡ b →
+    fixup_covers o x q ≡ true → overlap y q ≡ false → find (fixup_covers o x) qs ≡ Some q → cond b (Some y) (find (fixup_covers o x) qs) ≡ Some q
 only_by o x y q qs true is covers apart rest = absurd (true≢false (sym (meet o x y q is covers) ∙ apart))
 only_by o x y q qs false is covers apart rest = rest
 
@@ -73,8 +75,10 @@ pub live_fixups_mean : LiveFixupsMean
 unfolding rules
 live_fixups_mean l w q x e inside from below =
     let i = in_contained (live_fixups l) q inside in
-    let covers : fixup_covers q.object x q ≡ true = and_from (q.object == q.object && nat_le q.offset x) (nat_lt x (fixup_end q)) (and_from (q.object == q.object) (nat_le q.offset x) (eq-eqb q.object q.object refl) (le-leb q.offset x from)) (lt-ltb x (fixup_end q) below) in
+    let covers : fixup_covers q.object x q ≡ true = and_from (q.object == q.object && nat_le q.offset x) (nat_lt x (fixup_end q))
+    (and_from (q.object == q.object) (nat_le q.offset x) (eq-eqb q.object q.object refl) (le-leb q.offset x from)) (lt-ltb x (fixup_end q) below) in
     let at : live_at l q.object x ≡ Some q = only q.object x (live_fixups l) i covers (live_apart (fixups l)) in
     let accepted : fix_refusal q ≡ None = each_in (λ t. fix_refusal t ≡ None) (fixups l) (none_refused fix_refusal (fixups l) (start_outside l ∷ []) e) (is_live (fixups l) i) in
     let value : Value l w q ≡ Some (value_bytes l w q) = ap (λ o. cond (is_some o) None (Some (value_bytes l w q))) accepted in
-    ap (λ (o : Option Fixup). unwrap_or (option_and_then (value_at l w x) o) (data_at l q.object x)) at ∙ ap (λ (o : Option (List ℕ)). unwrap_or (option_map (λ bytes. slice_index bytes (x - q.offset)) o) (data_at l q.object x)) value
+    ap (λ (o : Option Fixup). unwrap_or (option_and_then (value_at l w x) o) (data_at l q.object x)) at
+    ∙ ap (λ (o : Option (List ℕ)). unwrap_or (option_map (λ bytes. slice_index bytes (x - q.offset)) o) (data_at l q.object x)) value

@@ -1,5 +1,5 @@
 -- What is in a list: by tests, and through `map`, `filter`, `flat_map` and `++`.
-use Rattle.std.specs.Prelude.{◌≡◌, ℕ, zero, suc, ◌+◌, ◌<◌, Bool, true, false, cond, not, ◌||◌, List, [], ◌∷◌, ◌++◌, Option, Some, None, map, length, filter, slice_get, is_some, IsSome, refl}
+use Rattle.std.specs.Prelude.{◌≡◌, ◌≢◌, ℕ, zero, suc, ◌+◌, ◌<◌, Bool, true, false, cond, not, ◌||◌, List, [], ◌∷◌, ◌++◌, Option, Some, None, map, length, filter, slice_get, is_some, IsSome, refl}
 use Rattle.std.specs.List.{find, list_any, flat_map, enumerate_from, position, position_or_len, All, AllByRecursion, Contains}
 use Rattle.std.specs.Option.{IsSomeAnd}
 use Rattle.std.proofs.Common.{ap, sym, ◌∙◌, arith, true≢false, subst}
@@ -9,6 +9,7 @@ use Rattle.std.proofs.Math.ListN.{get_or}
 use Rattle.std.proofs.lemmas.Bool.{lt-ltb, or_right}
 use Rattle.std.proofs.lemmas.List.Elements.{recursion_from_All}
 use Rattle.std.proofs.lemmas.Option.{same_Some}
+use Rattle.obj_types.specs.Items.{item}
 
 pub data In {X : Type 0} (x : X) : List X → Type 0 where
   here : {xs : List X} → In x (x ∷ xs)
@@ -99,7 +100,8 @@ finds test (x ∷ xs) e = finds_by test x xs (test x) refl e (finds test xs)
 
 -- ---- places
 
-placed_by : {X : Type 0} (test : X → Bool) (xs : List X) (b : Bool) → (b || list_any test xs) ≡ true → (list_any test xs ≡ true → position_or_len test xs < length xs) → cond (not b) (1 + position_or_len test xs) 0 < suc (length xs)
+placed_by : {X : Type 0} (test : X → Bool) (xs : List X) (b : Bool) → (b || list_any test xs) ≡ true →
+    (list_any test xs ≡ true → position_or_len test xs < length xs) → cond (not b) (1 + position_or_len test xs) 0 < suc (length xs)
 placed_by test xs true e rest = omega arith
 placed_by test xs false e rest = let h = rest e in omega (arith, h)
 
@@ -131,6 +133,20 @@ in_contained_by : {X : Type 0} (xs : List X) (k : ℕ) (x : X) → k < length xs
 in_contained_by [] k x h e = absurd (omega (arith, h))
 in_contained_by (y ∷ xs) zero x h e = subst (λ z. In z (y ∷ xs)) e here
 in_contained_by (y ∷ xs) (suc k) x h e = there (in_contained_by xs k x (omega (arith, h)) e)
+
+pub not_empty : {X : Type 0} (xs : List X) → xs ≢ [] → 0 < length xs
+not_empty [] some = absurd (some refl)
+not_empty (x ∷ xs) some = omega arith
+
+-- An item of a list is at its place in a longer one.
+pub at_left : {X : Type 0} (xs ys : List X) (k : ℕ) (x : X) → slice_get xs k ≡ Some x → slice_get (xs ++ ys) k ≡ Some x
+at_left [] ys k x e = absurd (cc)
+at_left (z ∷ xs) ys zero x e = e
+at_left (z ∷ xs) ys (suc k) x e = at_left xs ys k x e
+
+pub in_item : {X : Type 0} (xs : List X) (n : ℕ) (x : X) → item xs n ≡ Some x → In x xs
+in_item xs zero x e = cc
+in_item xs (suc n) x e = in_at xs n x e
 
 pub in_contained : {X : Type 0} (xs : List X) (x : X) → Contains xs x → In x xs
 in_contained xs x c = in_contained_by xs c.0 x c.1 c.2

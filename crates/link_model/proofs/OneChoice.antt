@@ -38,7 +38,8 @@ objects_in : (input : LinkInput) (picks : List Pick) → Chosen input picks → 
 objects_in input picks h =
     omega (arith, ap length h.begins, length-take (length input.objects) picks, object_picks-length input)
 
-agree_by : (input : LinkInput) (picks others : List Pick) (n : ℕ) → Chosen input picks → Chosen input others → length input.objects ≤ n → n < length picks → AgreesFor picks others n → (n < length others) ⊎ (length others ≤ n) → AgreesFor picks others (suc n)
+agree_by : (input : LinkInput) (picks others : List Pick) (n : ℕ) → Chosen input picks → Chosen input others →
+    length input.objects ≤ n → n < length picks → AgreesFor picks others n → (n < length others) ⊎ (length others ≤ n) → AgreesFor picks others (suc n)
 agree_by input picks others n p q from below h (inl more) =
     record {
       enough = omega arith;

@@ -48,7 +48,8 @@ pub at_place :
 at_place bytes place i h = get_or-take 4 (drop place bytes) i 0 h ∙ get_or-drop place bytes i 0
 
 pub number_at :
-    (bytes : List ℕ) (place : ℕ) → little (slice_index bytes place ∷ slice_index bytes (place + 1) ∷ slice_index bytes (place + 1 + 1) ∷ slice_index bytes (place + 1 + 1 + 1) ∷ []) ≡ from_le_bytes w32 (take 4 (drop place bytes))
+    (bytes : List ℕ) (place : ℕ) → little (slice_index bytes place ∷ slice_index bytes
+    (place + 1) ∷ slice_index bytes (place + 1 + 1) ∷ slice_index bytes (place + 1 + 1 + 1) ∷ []) ≡ from_le_bytes w32 (take 4 (drop place bytes))
 number_at bytes place =
     let zeroth : place + 0 ≡ place = add-zero place in
     let second : place + 1 + 1 ≡ place + 2 = omega arith in

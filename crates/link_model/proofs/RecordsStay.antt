@@ -154,7 +154,8 @@ then_there f (Some x) h all = all x
 
 pub pair_there : (pairs : List Imp) (pair : Imp) → In pair pairs → IsSome (import_target pairs pair)
 pair_there pairs pair i =
-    then_there (λ k. entry_target pairs (k + 1) pair.entry) _ (in_table (map (λ p. uppercase p.module) pairs) (uppercase pair.module) (in_map (λ (p : Imp). uppercase p.module) i)) (λ k. entry_there pairs (k + 1) pair pair.entry i refl)
+    then_there (λ k. entry_target pairs (k + 1) pair.entry) _ (in_table (map (λ p. uppercase p.module) pairs)
+    (uppercase pair.module) (in_map (λ (p : Imp). uppercase p.module) i)) (λ k. entry_there pairs (k + 1) pair pair.entry i refl)
 
 -- ---- records
 
@@ -187,7 +188,9 @@ record_there l q whole i =
     let alive = from_filter (λ q. not (is_patched q)) (live_fixups l) i in
     target_record l q q.target i refl (not_patched (live_fixups l) i) (fixup_target l q whole (is_live (fixups l) alive))
 
-record_by : (l : Link) (k : ℕ) (q : Fixup) (o : Option (FixTarget × ℕ)) (rest : List Fix) (offsets : List ℤ) → IsSome o → map (λ r. r.offset) rest ≡ offsets → map (λ r. r.offset) (cons_option (option_map (λ t. record { source = source_of q; alias = has_alias q; offset = offset_on k q; target = t.0; additive = t.1 }) o) rest) ≡ offset_on k q ∷ offsets
+record_by : (l : Link) (k : ℕ) (q : Fixup) (o : Option (FixTarget × ℕ)) (rest : List Fix) (offsets : List ℤ) →
+    IsSome o → map (λ r. r.offset) rest ≡ offsets → map (λ r. r.offset) (cons_option
+    (option_map (λ t. record { source = source_of q; alias = has_alias q; offset = offset_on k q; target = t.0; additive = t.1 }) o) rest) ≡ offset_on k q ∷ offsets
 record_by l k q None rest offsets h e = absurd (true≢false (sym h))
 record_by l k q (Some t) rest offsets h e = ap (λ (z : List ℤ). offset_on k q ∷ z) e
 

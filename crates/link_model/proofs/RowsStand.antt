@@ -153,7 +153,9 @@ end_from : (at : ℕ) (ps : List Part) → at ≤ end_of_parts at ps
 end_from at [] = omega arith
 end_from at (p ∷ ps) = let rest = end_from (aligned at p + p.len) ps in omega (arith, rest)
 
-part_fits_by : (o : Origin) (p q : Part) (qs : List Part) (at : ℕ) (b : Bool) → same_origin q.origin o ≡ b → cond b (Some q) (find (λ t. same_origin t.origin o) qs) ≡ Some p → ((n : ℕ) → find (λ t. same_origin t.origin o) qs ≡ Some p → aligned (end_of_parts n (before o qs)) p + p.len ≤ end_of_parts n qs) → aligned (end_of_parts at (cond b [] (q ∷ before o qs))) p + p.len ≤ end_of_parts (aligned at q + q.len) qs
+part_fits_by : (o : Origin) (p q : Part) (qs : List Part) (at : ℕ) (b : Bool) → same_origin q.origin o ≡ b → cond b (Some q) (find (λ t. same_origin t.origin o) qs)
+    ≡ Some p → ((n : ℕ) → find (λ t. same_origin t.origin o) qs ≡ Some p → aligned (end_of_parts n (before o qs)) p + p.len ≤ end_of_parts n qs) →
+    aligned (end_of_parts at (cond b [] (q ∷ before o qs))) p + p.len ≤ end_of_parts (aligned at q + q.len) qs
 part_fits_by o p q qs at true is e rest =
     let same : q ≡ p = ap (λ (t : Option Part). unwrap_or t p) e in
     subst (λ (t : Part). aligned at p + p.len ≤ end_of_parts (aligned at t + t.len) qs) (sym same) (end_from (aligned at p + p.len) qs)
@@ -175,7 +177,8 @@ longest_in {p = p} n {ps = q ∷ ps} here =
     let this = le-max_right n p.len in let rest = longest_from (max n p.len) ps in omega (arith, this, rest)
 longest_in {p = p} n {ps = q ∷ ps} (there i) = longest_in (max n q.len) i
 
-find_kept_by : (test keep : Part → Bool) (q : Part) (qs : List Part) (p : Part) (b c : Bool) → test q ≡ b → keep q ≡ c → keep p ≡ true → cond b (Some q) (find test qs) ≡ Some p → (find test qs ≡ Some p → find test (filter keep qs) ≡ Some p) → find test (cond c (q ∷ filter keep qs) (filter keep qs)) ≡ Some p
+find_kept_by : (test keep : Part → Bool) (q : Part) (qs : List Part) (p : Part) (b c : Bool) → test q ≡ b → keep q ≡ c → keep p ≡ true → cond b (Some q) (find test qs)
+    ≡ Some p → (find test qs ≡ Some p → find test (filter keep qs) ≡ Some p) → find test (cond c (q ∷ filter keep qs) (filter keep qs)) ≡ Some p
 find_kept_by test keep q qs p true true is kept ok e rest = ap (λ (t : Bool). cond t (Some q) (find test (filter keep qs))) is ∙ e
 find_kept_by test keep q qs p false true is kept ok e rest = ap (λ (t : Bool). cond t (Some q) (find test (filter keep qs))) is ∙ rest e
 find_kept_by test keep q qs p false false is kept ok e rest = rest e
@@ -196,12 +199,15 @@ part_in_row : (l : Link) (r : Row) (o : Origin) (p : Part) → find (λ t. same_
 unfolding rules
 part_in_row l r o p e joined same =
     let ps : List Part = parts_of l r.segment in
-    let found : find (λ t. same_origin t.origin o) ps ≡ Some p = find_kept (λ t. same_origin t.origin o) (joins r.segment) (parts l ++ own_stacks l) p joined (find-append (λ t. same_origin t.origin o) (parts l) (own_stacks l) ∙ ap (λ (t : Option Part). option_or t (find (λ t. same_origin t.origin o) (own_stacks l))) e) in
+    let found : find (λ t. same_origin t.origin o) ps ≡ Some p = find_kept (λ t. same_origin t.origin o) (joins r.segment) (parts l ++ own_stacks l) p joined
+    (find-append (λ t. same_origin t.origin o) (parts l) (own_stacks l) ∙ ap (λ (t : Option Part). option_or t (find (λ t. same_origin t.origin o) (own_stacks l))) e) in
     let inside = found_as (λ t. same_origin t.origin o) ps p found in
     let long = longest_in 0 inside.inside in
     let near = part_fits o p ps r.start found in
-    let fits : cond (is_common r.segment) r.start (aligned (end_of_parts r.start (before o ps)) p) + p.len ≤ parts_end l r.start r.segment = row_fits_by (is_common r.segment) r.start (end_of_parts r.start ps) (aligned (end_of_parts r.start (before o ps)) p) p.len (longest ps) (omega (arith, long)) near in
-    let stated : offset_in l r p + p.len ≤ parts_end l r.start r.segment = subst (λ (t : Origin). cond (is_common r.segment) r.start (aligned (end_of_parts r.start (before t ps)) p) + p.len ≤ parts_end l r.start r.segment) (sym same) fits in
+    let fits : cond (is_common r.segment) r.start (aligned (end_of_parts r.start (before o ps)) p) + p.len ≤ parts_end l r.start r.segment =
+    row_fits_by (is_common r.segment) r.start (end_of_parts r.start ps) (aligned (end_of_parts r.start (before o ps)) p) p.len (longest ps) (omega (arith, long)) near in
+    let stated : offset_in l r p + p.len ≤ parts_end l r.start r.segment =
+    subst (λ (t : Origin). cond (is_common r.segment) r.start (aligned (end_of_parts r.start (before t ps)) p) + p.len ≤ parts_end l r.start r.segment) (sym same) fits in
     let more = le-max_left (parts_end l r.start r.segment) (r.start + least_len l r.segment) in
     omega (arith, stated, more)
 

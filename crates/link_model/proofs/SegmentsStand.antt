@@ -35,7 +35,8 @@ seg_later n b i x rest true other = refl
 seg_later n b i x rest false other =
     ap (λ (t : Bool). cond t (Some (of_seg n b x)) (find (of (Segment n i)) (map (as_part n) rest))) (and_right (n == n) (b == i) (ne_eqb b i other))
 
-seg_found : (n b i k : ℕ) (segs : List Seg) (s : Seg) → i ≡ b + k → slice_get segs k ≡ Some s → s.debug ≡ false → find (of (Segment n i)) (map (as_part n) (filter (λ q. not q.1.debug) (enumerate_from b segs))) ≡ Some (of_seg n i s)
+seg_found : (n b i k : ℕ) (segs : List Seg) (s : Seg) → i ≡ b + k → slice_get segs k ≡ Some s →
+    s.debug ≡ false → find (of (Segment n i)) (map (as_part n) (filter (λ q. not q.1.debug) (enumerate_from b segs))) ≡ Some (of_seg n i s)
 seg_found n b i k [] s at e plain = absurd (true≢false (sym (ap is_some e)))
 seg_found n b i zero (x ∷ segs) s at e plain =
     let same : x ≡ s = ap (λ (o : Option Seg). unwrap_or o s) e in
@@ -52,13 +53,15 @@ other_module b n i [] other = refl
 other_module b n i (q ∷ qs) other =
     ap (λ (t : Bool). cond t (Some (as_part b q)) (find (of (Segment n i)) (map (as_part b) qs))) (and_left (b == n) (q.0 == i) (ne_eqb b n other)) ∙ other_module b n i qs other
 
-among_modules : (b n i k : ℕ) (ms : List ObjModule) (m : ObjModule) (p : Part) → n ≡ b + k → slice_get ms k ≡ Some m → find (of (Segment n i)) (contributions_in n m) ≡ Some p → find (of (Segment n i)) (flat_map (λ q. contributions_in q.0 q.1) (enumerate_from b ms)) ≡ Some p
+among_modules : (b n i k : ℕ) (ms : List ObjModule) (m : ObjModule) (p : Part) → n ≡ b + k → slice_get ms k ≡ Some m →
+    find (of (Segment n i)) (contributions_in n m) ≡ Some p → find (of (Segment n i)) (flat_map (λ q. contributions_in q.0 q.1) (enumerate_from b ms)) ≡ Some p
 among_modules b n i k [] m p at e h = absurd (true≢false (sym (ap is_some e)))
 among_modules b n i zero (x ∷ ms) m p at e h =
     let same : x ≡ m = ap (λ (o : Option ObjModule). unwrap_or o m) e in
     let here : b ≡ n = omega (arith, at) in
     let rest = flat_map (λ (q : ℕ × ObjModule). contributions_in q.0 q.1) (enumerate_from (b + 1) ms) in
-    let first : find (of (Segment n i)) (contributions_in b x) ≡ Some p = ap (λ (t : ObjModule). find (of (Segment n i)) (contributions_in b t)) same ∙ (ap (λ (t : ℕ). find (of (Segment n i)) (contributions_in t m)) here ∙ h) in
+    let first : find (of (Segment n i)) (contributions_in b x) ≡ Some p =
+    ap (λ (t : ObjModule). find (of (Segment n i)) (contributions_in b t)) same ∙ (ap (λ (t : ℕ). find (of (Segment n i)) (contributions_in t m)) here ∙ h) in
     find-append (of (Segment n i)) (contributions_in b x) rest ∙ ap (λ (t : Option Part). option_or t (find (of (Segment n i)) rest)) first
 among_modules b n i (suc k) (x ∷ ms) m p at e h =
     let rest = flat_map (λ (q : ℕ × ObjModule). contributions_in q.0 q.1) (enumerate_from (b + 1) ms) in
@@ -92,24 +95,29 @@ no_contributions : (slot b : ℕ) (ms : List ObjModule) → find (of (Communal s
 no_contributions slot b [] = refl
 no_contributions slot b (x ∷ ms) =
     let rest = flat_map (λ (q : ℕ × ObjModule). contributions_in q.0 q.1) (enumerate_from (b + 1) ms) in
-    find-append (of (Communal slot)) (contributions_in b x) rest ∙ (ap (λ (t : Option Part). option_or t (find (of (Communal slot)) rest)) (no_contribution b slot (filter (λ q. not q.1.debug) (enumerate_from 1 x.segs))) ∙ no_contributions slot (b + 1) ms)
+    find-append (of (Communal slot)) (contributions_in b x) rest ∙ (ap (λ (t : Option Part). option_or t (find (of (Communal slot)) rest))
+    (no_contribution b slot (filter (λ q. not q.1.debug) (enumerate_from 1 x.segs))) ∙ no_contributions slot (b + 1) ms)
 
 abbrev communal : Link → ℕ × (List ℕ × Common) → Part
 communal l q = of_common l q.0 q.1.1
 
-communal_found : (l : Link) (b slot k : ℕ) (cs : List (List ℕ × Common)) (c : List ℕ × Common) → slot ≡ b + k → slice_get cs k ≡ Some c → find (of (Communal slot)) (map (communal l) (enumerate_from b cs)) ≡ Some (of_common l slot c.1)
+communal_found : (l : Link) (b slot k : ℕ) (cs : List (List ℕ × Common)) (c : List ℕ × Common) →
+    slot ≡ b + k → slice_get cs k ≡ Some c → find (of (Communal slot)) (map (communal l) (enumerate_from b cs)) ≡ Some (of_common l slot c.1)
 communal_found l b slot k [] c at e = absurd (true≢false (sym (ap is_some e)))
 communal_found l b slot zero (x ∷ cs) c at e =
     let here : slot ≡ b = omega (arith, at) in
-    ap (λ (t : Bool). cond t (Some (of_common l b x.1)) (find (of (Communal slot)) (map (communal l) (enumerate_from (b + 1) cs)))) (eq-eqb b slot (sym here)) ∙ (ap (λ (o : Option (List ℕ × Common)). Some (of_common l b (unwrap_or o c).1)) e ∙ ap (λ (k : ℕ). Some (of_common l k c.1)) (sym here))
+    ap (λ (t : Bool). cond t (Some (of_common l b x.1)) (find (of (Communal slot)) (map (communal l) (enumerate_from (b + 1) cs)))) (eq-eqb b slot (sym here))
+    ∙ (ap (λ (o : Option (List ℕ × Common)). Some (of_common l b (unwrap_or o c).1)) e ∙ ap (λ (k : ℕ). Some (of_common l k c.1)) (sym here))
 communal_found l b slot (suc k) (x ∷ cs) c at e =
     let later : slot ≡ b + 1 + k = omega (arith, at) in
-    ap (λ (t : Bool). cond t (Some (of_common l b x.1)) (find (of (Communal slot)) (map (communal l) (enumerate_from (b + 1) cs)))) (ne_eqb b slot (λ same. omega (arith, at, same))) ∙ communal_found l (b + 1) slot k cs c later e
+    ap (λ (t : Bool). cond t (Some (of_common l b x.1)) (find (of (Communal slot)) (map (communal l) (enumerate_from (b + 1) cs))))
+    (ne_eqb b slot (λ same. omega (arith, at, same))) ∙ communal_found l (b + 1) slot k cs c later e
 
 pub communals_stand : CommunalsStand
 unfolding rules
 communals_stand l slot c e =
     let from_0 : slot ≡ 0 + slot = omega arith in
     let found = communal_found l 0 slot slot (commons l) c from_0 e in
-    let all : find (of (Communal slot)) (parts l) ≡ Some (of_common l slot c.1) = find-append (of (Communal slot)) (contributions l) (communals l) ∙ (ap (λ (t : Option Part). option_or t (find (of (Communal slot)) (communals l))) (no_contributions slot 1 l.modules) ∙ found) in
+    let all : find (of (Communal slot)) (parts l) ≡ Some (of_common l slot c.1) = find-append (of (Communal slot)) (contributions l) (communals l)
+    ∙ (ap (λ (t : Option Part). option_or t (find (of (Communal slot)) (communals l))) (no_contributions slot 1 l.modules) ∙ found) in
     part_stands l (Communal slot) (of_common l slot c.1) all

@@ -42,7 +42,8 @@ placed m place =
     }
 
 all_placed :
-    (name bytes places stem : List ℕ) (base : ℕ) (ps : List ℕ) → filter_map (fixup_of (link name bytes places stem base) 1 (one_segment name bytes places)) (map fix_of ps) ≡ map (placed (one_segment name bytes places)) ps
+    (name bytes places stem : List ℕ) (base : ℕ) (ps : List ℕ) →
+    filter_map (fixup_of (link name bytes places stem base) 1 (one_segment name bytes places)) (map fix_of ps) ≡ map (placed (one_segment name bytes places)) ps
 unfolding rules
 all_placed name bytes places stem base [] = refl
 all_placed name bytes places stem base (p ∷ ps) =
@@ -99,7 +100,8 @@ find-placed m x (p ∷ ps) hs =
     let h : p + 4 ≤ 4096 = hs.0 in
     let e : (0 + p) % 4294967296 ≡ p = wrapped_small p (omega arith) in
     let rest = find-placed m x ps hs.1 in
-    ap (λ (n : ℕ). cond (nat_le n x && nat_lt x (n + 4)) (Some (placed m p)) (find (fixup_covers 1 x) (map (placed m) ps))) e ∙ choose_placed m p (covers x p) (find (fixup_covers 1 x) (map (placed m) ps)) (find (covers x) ps) rest
+    ap (λ (n : ℕ). cond (nat_le n x && nat_lt x (n + 4)) (Some (placed m p)) (find (fixup_covers 1 x) (map (placed m) ps))) e
+    ∙ choose_placed m p (covers x p) (find (fixup_covers 1 x) (map (placed m) ps)) (find (covers x) ps) rest
 
 -- ---- values
 
@@ -114,7 +116,8 @@ standing-placed name bytes places p =
     rw (Data-module name bytes places p, Data-module name bytes places (p + 1), Data-module name bytes places (p + 1 + 1), Data-module name bytes places (p + 1 + 1 + 1)) (number_at bytes p)
 
 pub Value-placed :
-    (name bytes places stem : List ℕ) (base at : ℕ) (imp : EntryPoints) (p : ℕ) → Value (link name bytes places stem base) (record { bases = at ∷ []; imp = imp }) (placed (one_segment name bytes places) p) ≡ Some (value at bytes p)
+    (name bytes places stem : List ℕ) (base at : ℕ) (imp : EntryPoints) (p : ℕ) →
+    Value (link name bytes places stem base) (record { bases = at ∷ []; imp = imp }) (placed (one_segment name bytes places) p) ≡ Some (value at bytes p)
 unfolding rules
 Value-placed name bytes places stem base at imp p =
     let v : ℕ = wrapped (wrapped (wrapped (at + 0) + 0) + standing_in (one_segment name bytes places) (fix_of p)) in
@@ -154,15 +157,19 @@ found_in_page x (p ∷ ps) hs =
 
 -- The byte of a value where a fixup was found, else of the data.
 byte_found :
-    (name bytes places stem : List ℕ) (base at : ℕ) (imp : EntryPoints) (x : ℕ) (found : Option ℕ) → IfSome found InPage → unwrap_or (option_and_then (value_at (link name bytes places stem base) (record { bases = at ∷ []; imp = imp }) x) (option_map (placed (one_segment name bytes places)) found)) (slice_index bytes x) ≡ mean_by at bytes x found
+    (name bytes places stem : List ℕ) (base at : ℕ) (imp : EntryPoints) (x : ℕ) (found : Option ℕ) →
+    IfSome found InPage → unwrap_or (option_and_then (value_at (link name bytes places stem base) (record { bases = at ∷ []; imp = imp }) x)
+    (option_map (placed (one_segment name bytes places)) found)) (slice_index bytes x) ≡ mean_by at bytes x found
 unfolding rules
 byte_found name bytes places stem base at imp x None h = refl
 byte_found name bytes places stem base at imp x (Some p) h =
     let e : wrapped (0 + p) ≡ p = wrapped_small p (omega (arith, h)) in
-    ap (λ (o : Option (List ℕ)). unwrap_or (option_map (λ (b : List ℕ). slice_index b (x - wrapped (0 + p))) o) (slice_index bytes x)) (Value-placed name bytes places stem base at imp p) ∙ ap (λ (n : ℕ). slice_index (value at bytes p) (x - n)) e
+    ap (λ (o : Option (List ℕ)). unwrap_or (option_map (λ (b : List ℕ). slice_index b (x - wrapped (0 + p))) o) (slice_index bytes x))
+    (Value-placed name bytes places stem base at imp p) ∙ ap (λ (n : ℕ). slice_index (value at bytes p) (x - n)) e
 
 pub Mean-link :
-    (name bytes places stem : List ℕ) (base at : ℕ) (imp : EntryPoints) (x : ℕ) → IsOneSegment bytes places → Mean (link name bytes places stem base) (record { bases = at ∷ []; imp = imp }) 1 x ≡ one_segment_mean at bytes places x
+    (name bytes places stem : List ℕ) (base at : ℕ) (imp : EntryPoints) (x : ℕ) →
+    IsOneSegment bytes places → Mean (link name bytes places stem base) (record { bases = at ∷ []; imp = imp }) 1 x ≡ one_segment_mean at bytes places x
 unfolding rules
 Mean-link name bytes places stem base at imp x one =
     let l = link name bytes places stem base in
@@ -170,4 +177,6 @@ Mean-link name bytes places stem base at imp x one =
     let inside = in_page bytes places one.one_page one.within in
     let found = live_at-link name bytes places stem base x one in
     let there = data_at-link name bytes places stem base x in
-    ap (λ (o : Option Fixup). unwrap_or (option_and_then (value_at l w x) o) (data_at l 1 x)) found ∙ (ap (λ (n : ℕ). unwrap_or (option_and_then (value_at l w x) (option_map (placed (one_segment name bytes places)) (find (covers x) places))) n) there ∙ byte_found name bytes places stem base at imp x (find (covers x) places) (found_in_page x places inside))
+    ap (λ (o : Option Fixup). unwrap_or (option_and_then (value_at l w x) o) (data_at l 1 x)) found
+    ∙ (ap (λ (n : ℕ). unwrap_or (option_and_then (value_at l w x) (option_map (placed (one_segment name bytes places)) (find (covers x) places))) n) there
+    ∙ byte_found name bytes places stem base at imp x (find (covers x) places) (found_in_page x places inside))

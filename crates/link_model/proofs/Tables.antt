@@ -18,7 +18,8 @@ use Rattle.link_model.proofs.Members.{position_is}
 kept : {X : Type 0} {same : X → X → Bool} (eqv : IsEquivalence same) → (k x y : X) → same k x ≡ false → same k y ≡ true → not (same x y) ≡ true
 kept eqv k x y apart is = ap not (eqv.symm x y ∙ (sym (eqv.congr k y x is) ∙ apart))
 
-found_by : {X : Type 0} {same : X → X → Bool} (eqv : IsEquivalence same) → (k x : X) (xs ys : List X) (b : Bool) → same k x ≡ b → list_any (same k) ys ≡ list_any (same k) xs → (b || list_any (same k) (filter (λ y. not (same x y)) ys)) ≡ (b || list_any (same k) xs)
+found_by : {X : Type 0} {same : X → X → Bool} (eqv : IsEquivalence same) → (k x : X) (xs ys : List X) (b : Bool) →
+    same k x ≡ b → list_any (same k) ys ≡ list_any (same k) xs → (b || list_any (same k) (filter (λ y. not (same x y)) ys)) ≡ (b || list_any (same k) xs)
 found_by eqv k x xs ys true e h = refl
 found_by {X} {same} eqv k x xs ys false e h =
     any-filter_same (same k) (λ y. not (same x y)) true (λ y is. kept eqv k x y e is) ys ∙ h
@@ -29,7 +30,9 @@ any-firsts eqv k [] = refl
 any-firsts {X} {same} eqv k (x ∷ xs) = found_by eqv k x xs (firsts same xs) (same k x) refl (any-firsts eqv k xs)
 
 -- One more item.
-more_by : {X : Type 0} {same : X → X → Bool} (eqv : IsEquivalence same) → (a x : X) (ys : List X) (b c : Bool) → same x a ≡ b → list_any (same x) ys ≡ c → (a ∷ filter (λ y. not (same a y)) (cond c ys (ys ++ x ∷ []))) ≡ cond (b || list_any (same x) (filter (λ y. not (same a y)) ys)) (a ∷ filter (λ y. not (same a y)) ys) ((a ∷ filter (λ y. not (same a y)) ys) ++ x ∷ [])
+more_by : {X : Type 0} {same : X → X → Bool} (eqv : IsEquivalence same) →
+    (a x : X) (ys : List X) (b c : Bool) → same x a ≡ b → list_any (same x) ys ≡ c → (a ∷ filter (λ y. not (same a y)) (cond c ys (ys ++ x ∷ [])))
+    ≡ cond (b || list_any (same x) (filter (λ y. not (same a y)) ys)) (a ∷ filter (λ y. not (same a y)) ys) ((a ∷ filter (λ y. not (same a y)) ys) ++ x ∷ [])
 more_by eqv a x ys true true e f = refl
 more_by {X} {same} eqv a x ys true false e f =
     let p : X → Bool = λ y. not (same a y) in
@@ -57,12 +60,14 @@ pub firsts-apart : {X : Type 0} (same : X → X → Bool) (xs : List X) → AllP
 firsts-apart same [] = λ i j d lt below. absurd (omega arith)
 firsts-apart {X} same (x ∷ xs) =
     let p : X → Bool = λ y. not (same x y) in
-    AllPairs-cons (λ a b. same a b ≡ false) x (filter p (firsts same xs)) (All-weaker (λ y. p y ≡ true) (λ y. same x y ≡ false) (λ y e. not-true (same x y) e) (filter p (firsts same xs)) (filter_passes p (firsts same xs))) (AllPairs-filter (λ a b. same a b ≡ false) p (firsts same xs) (firsts-apart same xs))
+    AllPairs-cons (λ a b. same a b ≡ false) x (filter p (firsts same xs)) (All-weaker (λ y. p y ≡ true) (λ y. same x y ≡ false) (λ y e. not-true (same x y) e)
+    (filter p (firsts same xs)) (filter_passes p (firsts same xs))) (AllPairs-filter (λ a b. same a b ≡ false) p (firsts same xs) (firsts-apart same xs))
 
 -- ---- look-ups
 
 -- The first item of a key is the one in the table.
-find_kept : {X : Type 0} (test keep : X → Bool) (x : X) (ys : List X) (b c : Bool) → test x ≡ b → keep x ≡ c → (test x ≡ true → keep x ≡ true) → find test (filter keep ys) ≡ find test ys → find test (cond c (x ∷ filter keep ys) (filter keep ys)) ≡ cond b (Some x) (find test ys)
+find_kept : {X : Type 0} (test keep : X → Bool) (x : X) (ys : List X) (b c : Bool) → test x ≡ b → keep x ≡ c → (test x ≡ true → keep x ≡ true) →
+    find test (filter keep ys) ≡ find test ys → find test (cond c (x ∷ filter keep ys) (filter keep ys)) ≡ cond b (Some x) (find test ys)
 find_kept test keep x ys true true is kept ok rest = ap (λ (t : Bool). cond t (Some x) (find test (filter keep ys))) is
 find_kept test keep x ys true false is kept ok rest = absurd (true≢false (sym (ok is) ∙ kept))
 find_kept test keep x ys false true is kept ok rest = ap (λ (t : Bool). cond t (Some x) (find test (filter keep ys))) is ∙ rest
@@ -76,7 +81,8 @@ find-filter test keep ok (x ∷ ys) = find_kept test keep x ys (test x) (keep x)
 abbrev pub OfKey : {X : Type 0} → (X → X → Bool) → (X → Bool) → Type 0
 OfKey {X} same test = (x y : X) → test y ≡ true → same x y ≡ test x
 
-find_by : {X : Type 0} (same : X → X → Bool) (test : X → Bool) → OfKey same test → (x : X) (xs ys : List X) (b : Bool) → test x ≡ b → find test ys ≡ find test xs → cond b (Some x) (find test (filter (λ y. not (same x y)) ys)) ≡ cond b (Some x) (find test xs)
+find_by : {X : Type 0} (same : X → X → Bool) (test : X → Bool) → OfKey same test → (x : X) (xs ys : List X) (b : Bool) →
+    test x ≡ b → find test ys ≡ find test xs → cond b (Some x) (find test (filter (λ y. not (same x y)) ys)) ≡ cond b (Some x) (find test xs)
 find_by same test key x xs ys true e h = refl
 find_by same test key x xs ys false e h =
     find-filter test (λ y. not (same x y)) (λ y is. ap not (key x y is ∙ e)) ys ∙ h
@@ -87,7 +93,9 @@ find-firsts same test key (x ∷ xs) = find_by same test key x xs (firsts same x
 
 -- ---- places
 
-pub place_kept_by : {X : Type 0} (test : X → Bool) (ys zs : List X) (b : Bool) → (b || list_any test ys) ≡ true → (list_any test ys ≡ true → position_or_len test (ys ++ zs) ≡ position_or_len test ys) → cond (not b) (1 + position_or_len test (ys ++ zs)) 0 ≡ cond (not b) (1 + position_or_len test ys) 0
+pub place_kept_by : {X : Type 0} (test : X → Bool) (ys zs : List X) (b : Bool) →
+    (b || list_any test ys) ≡ true → (list_any test ys ≡ true → position_or_len test (ys ++ zs) ≡ position_or_len test ys) →
+    cond (not b) (1 + position_or_len test (ys ++ zs)) 0 ≡ cond (not b) (1 + position_or_len test ys) 0
 place_kept_by test ys zs true e rest = refl
 place_kept_by test ys zs false e rest = ap (λ (n : ℕ). 1 + n) (rest e)
 
@@ -131,7 +139,8 @@ old_place test ys x false e =
     position_is test (ys ++ x ∷ []) (any_kept test ys (x ∷ []) e) ∙ (ap (λ (n : ℕ). Some n) (place_kept test ys (x ∷ []) e) ∙ sym (position_is test ys e))
 
 -- A key that is there keeps its place.
-pub place-stays : {X : Type 0} {same : X → X → Bool} (eqv : IsEquivalence same) → (test : X → Bool) (xs : List X) (x : X) → list_any test (firsts same xs) ≡ true → position test (firsts same (xs ++ x ∷ [])) ≡ position test (firsts same xs)
+pub place-stays : {X : Type 0} {same : X → X → Bool} (eqv : IsEquivalence same) → (test : X → Bool) (xs : List X) (x : X) →
+    list_any test (firsts same xs) ≡ true → position test (firsts same (xs ++ x ∷ [])) ≡ position test (firsts same xs)
 place-stays {X} {same} eqv test xs x e =
     ap (position test) (firsts-push eqv xs x) ∙ old_place test (firsts same xs) x (list_any (same x) (firsts same xs)) e
 

@@ -39,7 +39,9 @@ exporting =
     } ∷ [])
 
 three_exports :
-    Out exporting ≡ record { ordinal = 2; name = codes "F"; resident = false; words = 0; wide = true; target = At 1 0 } ∷ record { ordinal = 3; name = codes "G"; resident = true; words = 0; wide = true; target = At 1 4 } ∷ record { ordinal = 1; name = codes "H"; resident = false; words = 0; wide = false; target = Forward (import (codes "H") (codes "LIB") (keys.Ordinal 9)) } ∷ []
+    Out exporting ≡ record { ordinal = 2; name = codes "F"; resident = false; words = 0; wide = true; target = At 1 0 }
+    ∷ record { ordinal = 3; name = codes "G"; resident = true; words = 0; wide = true; target = At 1 4 }
+    ∷ record { ordinal = 1; name = codes "H"; resident = false; words = 0; wide = false; target = Forward (import (codes "H") (codes "LIB") (keys.Ordinal 9)) } ∷ []
 unfolding rules
 three_exports = refl
 

@@ -26,7 +26,8 @@ debug_segment = record empty_module { segs = record (seg (codes "$$TYPES") (code
 
 abbrev fixes : List FixAt
 fixes =
-    fix 1 0 9 false frames.OfTarget (goals.Ext 1) 0 ∷ fix 1 4 9 false frames.OfTarget (goals.Ext 2) 0 ∷ fix 1 8 9 false frames.OfTarget (goals.Ext 3) 0 ∷ fix 1 12 9 false frames.OfTarget (goals.Ext 4) 0 ∷ fix 1 16 1 false frames.OfTarget (goals.Group 1) 0 ∷ fix 1 18 3 false frames.OfTarget (goals.Seg 1) 0 ∷ []
+    fix 1 0 9 false frames.OfTarget (goals.Ext 1) 0 ∷ fix 1 4 9 false frames.OfTarget (goals.Ext 2) 0 ∷ fix 1 8 9 false frames.OfTarget (goals.Ext 3) 0
+    ∷ fix 1 12 9 false frames.OfTarget (goals.Ext 4) 0 ∷ fix 1 16 1 false frames.OfTarget (goals.Group 1) 0 ∷ fix 1 18 3 false frames.OfTarget (goals.Seg 1) 0 ∷ []
 
 abbrev of_all_kinds : Link
 of_all_kinds =

@@ -28,7 +28,8 @@ fit_by n len e h =
 
 segment_fits : (t v flags loc : ℕ) (narrow : Bool) → 0 < location_len loc → length (relative_to_segment loc t v flags narrow) ≡ location_len loc
 segment_fits t v flags loc narrow h =
-    elim (cases_lt loc 14) as (λ s. length (relative_to_segment loc t v flags narrow) ≡ location_len loc) [ inl below ↦ fit_by (location_len loc) (length (relative_to_segment loc t v flags narrow)) (all_fit t v flags loc narrow below) h | inr past ↦ absurd (omega (arith, no_location loc past, h)) ]
+    elim (cases_lt loc 14) as (λ s. length (relative_to_segment loc t v flags narrow) ≡ location_len loc)
+    [ inl below ↦ fit_by (location_len loc) (length (relative_to_segment loc t v flags narrow)) (all_fit t v flags loc narrow below) h | inr past ↦ absurd (omega (arith, no_location loc past, h)) ]
 
 bytes_fit_by : (selfrel : Bool) (a b : List ℕ) (n : ℕ) → length a ≡ n → length b ≡ n → length (cond selfrel a b) ≡ n
 bytes_fit_by true a b n ea eb = ea
@@ -37,7 +38,9 @@ bytes_fit_by false a b n ea eb = eb
 pub bytes_fit : (l : Link) (w : World) (q : Fixup) → 0 < location_len q.fix.loc → length (value_bytes l w q) ≡ location_len q.fix.loc
 unfolding rules
 bytes_fit l w q h =
-    bytes_fit_by q.fix.selfrel (relative_to_self q.fix.loc (place_address w q.object q.offset) (sum_number l w q)) (relative_to_segment q.fix.loc (target_number l w q) (sum_number l w q) (target_flags l w q.target) q.narrow) (location_len q.fix.loc) (length-little_bytes (location_len q.fix.loc) _) (segment_fits (target_number l w q) (sum_number l w q) (target_flags l w q.target) q.fix.loc q.narrow h)
+    bytes_fit_by q.fix.selfrel (relative_to_self q.fix.loc (place_address w q.object q.offset) (sum_number l w q))
+    (relative_to_segment q.fix.loc (target_number l w q) (sum_number l w q) (target_flags l w q.target) q.narrow) (location_len q.fix.loc)
+    (length-little_bytes (location_len q.fix.loc) _) (segment_fits (target_number l w q) (sum_number l w q) (target_flags l w q.target) q.fix.loc q.narrow h)
 
 is_bytes : (b : Bool) (bytes all : List ℕ) → cond b None (Some all) ≡ Some bytes → all ≡ bytes
 is_bytes true bytes all e = absurd (true≢false (sym (ap is_some e)))

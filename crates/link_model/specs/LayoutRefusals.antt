@@ -54,10 +54,12 @@ abbrev pub passes_limits : List Row → Row → Bool
 passes_limits earlier r =
     nat_lt (object_limit r.segment) r.end || nat_lt MAX_MEMORY (size_of_rows earlier) || nat_lt MAX_OBJECTS r.object
 
+abbrev pub too_large_in : List Row → Option LayRefusal
+too_large_in rs =
+    option_map (λ q. TooLarge q.1.segment.name) (find (λ q. passes_limits (take q.0 rs) q.1) (enumerate_from 1 rs))
+
 abbrev pub too_large : Link → Option LayRefusal
-too_large l =
-    option_map (λ q. TooLarge q.1.segment.name)
-    (find (λ q. passes_limits (take q.0 (rows l)) q.1) (enumerate_from 1 (rows l)))
+too_large l = too_large_in (rows l)
 
 -- The refusal, in this order.
 unfoldable pub lay_refusal : Link → Option LayRefusal

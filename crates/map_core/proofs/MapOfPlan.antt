@@ -1,12 +1,12 @@
 -- The map of an input, from that of its plan.
-use Rattle.std.proofs.Common.{◌≡◌, ℕ, List, None, sym, subst, refl}
+use Rattle.std.proofs.Common.{◌≡◌, ℕ, List, None, sym, subst}
 use Rattle.obj_types.specs.declared.input.LinkInput.{LinkInput}
 use Rattle.link_model.specs.Kept.{Kept}
-use Rattle.link_model.specs.LayoutRefusals.{lay_refusal}
 use Rattle.link_model.specs.Link.{Link, link_of}
 use Rattle.lx_exports.specs.Exports.{export_refusal}
 use Rattle.map_model.specs.Maps.{IsMap}
 use Rattle.link_types.specs.Binding.{IsBound}
+use Rattle.link_types.specs.Layout.{IsLaidOut}
 use Rattle.link_core.specs.declared.planning.Plan.{Plan}
 use Rattle.link_core.specs.Planned.{IsPlanned}
 use Rattle.link_core.proofs.Assembled.{accepted, joined-is}
@@ -15,8 +15,8 @@ use Rattle.map_core.specs.Mapped.{IsMapped}
 pub bound_kept : (input kept : LinkInput) (p : Plan) → kept ≡ Kept input → IsPlanned input p → IsBound kept p.syms
 bound_kept input kept p is planned = subst (λ (k : LinkInput). IsBound k p.syms) (sym is) planned.bound
 
-pub laid_kept : (input kept : LinkInput) (p : Plan) → kept ≡ Kept input → IsPlanned input p → lay_refusal (link_of kept p.syms.chosen) ≡ None
-laid_kept input kept p is planned = subst (λ (k : LinkInput). lay_refusal (link_of k p.syms.chosen) ≡ None) (sym is) planned.planned.lay
+pub laid_kept : (input kept : LinkInput) (p : Plan) → kept ≡ Kept input → IsPlanned input p → IsLaidOut (link_of kept p.syms.chosen) p.layout
+laid_kept input kept p is planned = subst (λ (k : LinkInput). IsLaidOut (link_of k p.syms.chosen) p.layout) (sym is) planned.planned.laid
 
 pub map_of_plan : (input kept : LinkInput) (p : Plan) (text : List ℕ) → kept ≡ Kept input → IsPlanned input p → export_refusal p.image.exports ≡ None
     → IsMap p.image.name (link_of kept p.syms.chosen) text → IsMapped input text

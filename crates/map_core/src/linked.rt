@@ -1,14 +1,9 @@
 //! From a link's input to its map.
 
-ghost use Rattle.std.specs.Prelude.{◌≡◌, None, IfOk};
+ghost use Rattle.std.specs.Prelude.{◌≡◌};
 ghost use Rattle.lx_types.specs.Answers.{Answers};
 ghost use Rattle.obj_types.specs.Input.{WholeInput};
 ghost use Rattle.link_model.specs.Kept.{Kept};
-ghost use Rattle.link_model.specs.LayoutRefusals.{lay_refusal};
-ghost use Rattle.link_model.specs.Link.{link_of};
-ghost use Rattle.map_model.specs.Maps.{IsMap};
-ghost use Rattle.link_types.specs.Binding.{IsBound};
-ghost use Rattle.link_types.specs.Layout.{IsLaidOut};
 ghost use Rattle.link_core.specs.Links.{RefusesLink};
 ghost use Rattle.link_core.specs.Planned.{IsPlanned};
 ghost use Rattle.map_core.specs.Mapped.{IsMapped};
@@ -17,38 +12,12 @@ use crate::mapping::map_kept;
 use comdat_core::{has_comdats, keep};
 use link_core::{Plan, entry_failed, plan_link};
 use link_model::{LinkRefusal, what_is_kept_is_whole, without_comdats_all_is_kept};
-use lx_types::{Fail, NoMemory};
-use lx_write::write_module;
+use lx_exports::write_tables;
+use lx_types::Fail;
 use obj_types::LinkInput;
-use seg_merge::{Layout, lay_out};
 use std::alloc::Global;
 
-// The layout of a plan, which is made once more: a plan has kept its places alone.
-fn layout_again(alloc: Global, kept: &LinkInput, plan: &Plan) -> Result<Layout, NoMemory>
-    requires whole { WholeInput kept.now }
-    requires bound { IsBound kept.now plan.now.syms }
-    requires lay { lay_refusal (link_of kept.now plan.now.syms.chosen) ≡ None }
-    ensures { IfOk result (λ layout. IsLaidOut (link_of kept.now plan.now.syms.chosen) layout) }
-{
-    match lay_out(alloc, kept, &plan.syms) {
-        Ok(layout) => Ok(layout),
-        Err(Fail::Said(_)) => unreachable!(),
-        Err(Fail::NoMemory) => Err(NoMemory),
-    }
-}
-
-// The map of a plan.
-fn plan_text(alloc: Global, kept: &LinkInput, plan: &Plan) -> Result<Vec<u8>, NoMemory>
-    requires whole { WholeInput kept.now }
-    requires bound { IsBound kept.now plan.now.syms }
-    requires lay { lay_refusal (link_of kept.now plan.now.syms.chosen) ≡ None }
-    ensures { IfOk result (λ text. IsMap plan.now.image.name (link_of kept.now plan.now.syms.chosen) text.items) }
-{
-    let layout = layout_again(alloc, kept, plan)?;
-    map_kept(alloc, &plan.image.name, kept, &plan.syms, &layout)
-}
-
-// The map of a plan, or what is refused of its exports, which are tried by writing the file.
+// The map of a plan, or what is refused of its exports, which are tried by writing their tables.
 fn map_plan(
     alloc: Global,
     input: &LinkInput,
@@ -60,9 +29,14 @@ fn map_plan(
     requires planned { IsPlanned input.now plan.now }
     ensures { Answers result (λ text. IsMapped input.now text.items) (λ refusal. RefusesLink input.now refusal) }
 {
-    match write_module(alloc, &plan.image) {
+    match write_tables(
+        alloc,
+        &plan.image.name,
+        &plan.image.about,
+        plan.image.exports.as_slice(),
+    ) {
         Err(fail) => Err(entry_failed(fail)),
-        Ok(_file) => Ok(plan_text(alloc, kept, plan)?),
+        Ok(_tables) => Ok(map_kept(alloc, &plan.image.name, kept, &plan.syms, &plan.layout)?),
     }
 }
 

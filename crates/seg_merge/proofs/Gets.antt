@@ -10,11 +10,6 @@ mapped-get f (y ∷ ys) zero x d e =
     let same : y ≡ x = cc in ap f same
 mapped-get f (y ∷ ys) (suc k) x d e = mapped-get f ys k x d e
 
-pub get-left : {X : Type 0} (xs ys : List X) (k : ℕ) (x : X) → slice_get xs k ≡ Some x → slice_get (xs ++ ys) k ≡ Some x
-get-left [] ys k x e = absurd (cc)
-get-left (z ∷ xs) ys zero x e = e
-get-left (z ∷ xs) ys (suc k) x e = get-left xs ys k x e
-
 pub get-behind : {X : Type 0} (xs ys : List X) (x : X) → slice_get (xs ++ x ∷ ys) (length xs) ≡ Some x
 get-behind [] ys x = refl
 get-behind (z ∷ xs) ys x = get-behind xs ys x

@@ -19,7 +19,7 @@ use Rattle.seg_parts.specs.Members.{member_shown, is_member}
 use Rattle.seg_parts.proofs.ClassOrder.{place-is}
 use Rattle.link_types.proofs.Lists.{firsts-keys, map-more}
 use Rattle.seg_parts.proofs.Tables.{segments_equal}
-use Rattle.seg_parts.proofs.EndSums.{differs}
+use Rattle.link_model.proofs.RowEnds.{differs}
 use Rattle.seg_merge.specs.Membership.{both, AreGroupsOf}
 
 -- ---- small steps

@@ -10,10 +10,10 @@ use Rattle.link_model.specs.Flags.{flags_of}
 use Rattle.link_model.specs.Order.{ordered, object_heads, same_object}
 use Rattle.link_model.specs.Rows.{Row, rows, end_in, has_stack}
 use Rattle.link_model.specs.Layout as rules
-use Rattle.link_model.specs.LayoutRefusals.{too_large}
+use Rattle.link_model.specs.LayoutRefusals.{too_large, too_large_in}
 use Rattle.link_model.proofs.Members.{In}
 use Rattle.seg_parts.specs.LogicalSegments.{heads_of}
-use Rattle.seg_parts.specs.Rows.{rows_behind, too_large_in}
+use Rattle.seg_parts.specs.Rows.{rows_behind}
 use Rattle.link_types.proofs.Lists.{firsts-keys}
 use Rattle.seg_parts.proofs.StepsAreRules.{rows-are, steps_of_links}
 use Rattle.seg_merge.specs.Ordered.{Ordered, all_parts, ordered_in}

@@ -14,7 +14,8 @@ use Rattle.seg_parts.specs.declared.rows.Rows.{Rows}
 use Rattle.seg_parts.specs.declared.rows.Unplaced as lent
 use Rattle.seg_parts.specs.LogicalSegments.{places}
 use Rattle.seg_parts.specs.Placing.{unplaced_shown, placed_shown, StandIn}
-use Rattle.seg_parts.specs.Rows.{Unplaced, rows_behind, too_large_in}
+use Rattle.seg_parts.specs.Rows.{Unplaced, rows_behind}
+use Rattle.link_model.specs.LayoutRefusals.{too_large_in}
 use Rattle.seg_parts.proofs.Tables.{places-below}
 use Rattle.seg_parts.proofs.ObjectNames.{objects_equal}
 use Rattle.seg_merge.specs.ByNumber.{no_row}
@@ -22,7 +23,7 @@ use Rattle.seg_merge.specs.Laid.{keys_of, object_heads_of, flags_of_objects, sta
 use Rattle.seg_merge.specs.Ordered.{Ordered}
 use Rattle.seg_merge.proofs.ObjectSizes.{sizes-are, sizes-within, count-within}
 use Rattle.seg_merge.proofs.ObjectTable.{heads-length}
-use Rattle.seg_merge.proofs.RowLimits.{objects-within}
+use Rattle.link_model.proofs.RowLimits.{objects-within}
 
 -- What the units of logical segments in these objects are.
 pub record AreUnits (os : List Ordered) (size : ℕ) (units : List lent.Unplaced) : Type 0 where

@@ -16,7 +16,7 @@ use Rattle.link_model.specs.Flags.{flags_of}
 use Rattle.link_model.specs.Order.{ordered}
 use Rattle.link_model.specs.Rows.{Row, rows, row_of}
 use Rattle.link_model.specs.Layout as rules
-use Rattle.link_model.specs.LayoutRefusals.{too_large}
+use Rattle.link_model.specs.LayoutRefusals.{too_large, too_large_in}
 use Rattle.seg_parts.specs.declared.rows.Placed.{Placed}
 use Rattle.seg_parts.specs.Attributes.{flags_in}
 use Rattle.seg_parts.specs.LogicalSegments.{heads_of}
@@ -24,7 +24,6 @@ use Rattle.seg_parts.specs.Objects.{object_shown}
 use Rattle.seg_parts.specs.Order.{gathered}
 use Rattle.seg_parts.specs.Parts.{shown}
 use Rattle.seg_parts.specs.Placing.{placed_shown}
-use Rattle.seg_parts.specs.Rows.{too_large_in}
 use Rattle.seg_merge.specs.declared.in_order.StandingSegments.{StandingSegments}
 use Rattle.seg_merge.specs.declared.laid.Laid.{Laid}
 use Rattle.seg_merge.specs.declared.ordered.OrderedSegment.{OrderedSegment}

@@ -53,8 +53,6 @@ pub mod ObjectTable
 -- The sizes and the flags of objects.
 pub mod ObjectSizes
 -- ---- rows and places
--- What rows that pass no limit have.
-pub mod RowLimits
 -- The rows of a link, by the numbers of its logical segments.
 pub mod RowsOfLinks
 -- The row of each part of a link, and what it says.

@@ -10,18 +10,18 @@ use Rattle.std.proofs.lemmas.Simd.{map-map}
 use Rattle.link_model.specs.Appearance.{firsts}
 use Rattle.link_model.specs.Order.{same_object}
 use Rattle.link_model.specs.Rows.{Row, end_in}
-use Rattle.link_model.specs.LayoutRefusals.{size_of_rows}
+use Rattle.link_model.specs.LayoutRefusals.{size_of_rows, too_large_in}
 use Rattle.lx_types.specs.declared.limits.TheConstants.{MAX_OBJECTS}
 use Rattle.link_model.specs.declared.limits.TheConstants.{MAX_MEMORY}
 use Rattle.seg_parts.specs.declared.rows.Unplaced as lent
 use Rattle.seg_parts.specs.LogicalSegments.{places}
 use Rattle.seg_parts.specs.Placing.{unplaced_shown}
-use Rattle.seg_parts.specs.Rows.{Unplaced, row_behind, rows_behind, too_large_in}
+use Rattle.seg_parts.specs.Rows.{Unplaced, row_behind, rows_behind}
 use Rattle.seg_parts.proofs.ObjectNames.{objects_equal}
 use Rattle.seg_merge.specs.Ordered.{Ordered}
 use Rattle.seg_merge.specs.Laid.{keys_of, object_heads_of, flags_of_objects}
 use Rattle.seg_merge.proofs.ObjectTable.{numbers-are, heads-length}
-use Rattle.seg_merge.proofs.RowLimits.{size-within, objects-within}
+use Rattle.link_model.proofs.RowLimits.{size-within, objects-within}
 
 -- ---- one size with one flag
 

@@ -19,7 +19,7 @@ use Rattle.link_types.proofs.Lists.{firsts-keys}
 use Rattle.seg_parts.proofs.Lists.{take-push, split-at}
 use Rattle.seg_parts.proofs.Tables.{places-push, place-push, place-stays}
 use Rattle.seg_parts.proofs.ObjectNames.{objects_equal}
-use Rattle.seg_parts.proofs.EndSums.{nat_equal}
+use Rattle.std.proofs.lemmas.Cmp.{nat_eq_equiv}
 use Rattle.seg_merge.specs.Ordered.{Ordered}
 use Rattle.seg_merge.specs.Laid.{keys_of, object_heads_of, flags_of_objects}
 
@@ -69,7 +69,7 @@ one_more {K} same eqv ks k before =
     let range : List ℕ = range_with_len 1 (length fs) in
     ap (λ (t : List ℕ). firsts (λ a b. a == b) (map (λ m. m + 1) t)) (places-push same eqv ks k)
     ∙ ap (firsts (λ a b. a == b)) (map-append (λ (m : ℕ). m + 1) (places same ks) (n ∷ []))
-    ∙ firsts-push nat_equal ns (n + 1)
+    ∙ firsts-push nat_eq_equiv ns (n + 1)
     ∙ ap (λ (t : List ℕ). cond (list_any (λ m. n + 1 == m) t) t (t ++ (n + 1) ∷ [])) before
     ∙ pushed (length fs) n (list_any (same k) fs) (λ e. placed (same k) fs e) (λ e. none_before (same k) fs e)
     ∙ ap (range_with_len 1) (sym (counted fs k (list_any (same k) fs)))

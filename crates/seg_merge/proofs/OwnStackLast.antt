@@ -17,7 +17,8 @@ use Rattle.link_model.specs.Order.{own_stack, own_stacks, is_program, segments, 
 use Rattle.link_model.proofs.KeyTests.{joining}
 use Rattle.link_model.proofs.Tables.{firsts-push, any-firsts}
 use Rattle.seg_parts.specs.LogicalSegments.{heads_of}
-use Rattle.seg_merge.proofs.Gets.{get-left, get-behind}
+use Rattle.seg_merge.proofs.Gets.{get-behind}
+use Rattle.link_model.proofs.Members.{at_left}
 
 other_by : (p : Part) (b c : Bool) → same_origin OwnStack p.origin ≡ false →
     same_segment (keys.Private OwnStack) (cond b (keys.Private p.origin) (cond c (keys.Common p.name p.class) (keys.Public p.name p.class))) ≡ false
@@ -70,7 +71,7 @@ kept ss ys (k ∷ order) [] e = absurd (cc)
 kept ss ys (k ∷ order) (q ∷ qs) e =
     let first : slice_get ss k ≡ Some q = cc in
     let rest : map (slice_get ss) order ≡ map (λ (p : Part). Some p) qs = cc in
-    ap (λ (o : Option Part). o ∷ map (slice_get (ss ++ ys)) order) (get-left ss ys k q first) ∙ ap (λ (t : List (Option Part)). Some q ∷ t) (kept ss ys order qs rest)
+    ap (λ (o : Option Part). o ∷ map (slice_get (ss ++ ys)) order) (at_left ss ys k q first) ∙ ap (λ (t : List (Option Part)). Some q ∷ t) (kept ss ys order qs rest)
 
 behind : (ss : List Part) (b : Bool) → map (slice_get (ss ++ cond b (own_stack ∷ []) [])) (range_with_len (length ss) (length (cond b (own_stack ∷ []) []))) ≡ map (λ (q : Part). Some q) (cond b (own_stack ∷ []) [])
 behind ss true = ap (λ (o : Option Part). o ∷ []) (get-behind ss [] own_stack)

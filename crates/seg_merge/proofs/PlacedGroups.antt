@@ -1,5 +1,5 @@
 -- The object of each group, from those of its logical segments.
-use Rattle.std.specs.Prelude.{◌≡◌, ℕ, zero, suc, ◌+◌, ◌<◌, Bool, true, false, cond, not, ◌&&◌, ◌||◌, List, [], ◌∷◌, Option, Some, None, map, filter, find, position, length, get_or, is_some, bytes_eq, AllPairs, refl}
+use Rattle.std.specs.Prelude.{◌≡◌, ℕ, ◌+◌, ◌<◌, Bool, true, false, cond, not, ◌&&◌, ◌||◌, List, [], ◌∷◌, Option, Some, None, map, filter, find, position, length, get_or, is_some, bytes_eq, AllPairs, refl}
 use Rattle.std.specs.List.{enumerate_from, flat_map, filter_map, cons_option, list_any, position_or_len, range_with_len}
 use Rattle.std.specs.Option.{option_map, option_and_then, option_map_or, option_or}
 use Rattle.std.specs.Cmp.Lexicographic.{nat_list_eq_equiv}
@@ -24,7 +24,7 @@ use Rattle.link_model.specs.Rows.{Row, row_of}
 use Rattle.link_model.specs.Layout.{object_of}
 use Rattle.link_model.specs.Goals.{object_of_group, group_name}
 use Rattle.link_model.proofs.KeyTests.{origin_equal}
-use Rattle.link_model.proofs.Members.{In, here, there, in_map, in_filter, in_flat_map, any_in, found_as, in_at, placed, position_is}
+use Rattle.link_model.proofs.Members.{In, here, there, in_map, in_filter, in_flat_map, any_in, found_as, in_item, placed, position_is}
 use Rattle.link_model.proofs.Tables.{any-firsts, firsts-apart}
 use Rattle.name_table.proofs.Shown.{any-place}
 use Rattle.seg_parts.specs.declared.rows.Placed.{Placed}
@@ -202,10 +202,6 @@ group-named l m h i j other =
     let names : List (List ℕ) = flat_map (λ m. map (λ g. g.name) m.groups) l.modules in
     any-firsts nat_list_eq_equiv h.name (filter (λ g. not (bytes_eq g FLAT)) names)
     ∙ any_in (bytes_eq h.name) (in_filter (λ g. not (bytes_eq g FLAT)) (in_flat_map (λ (t : ObjModule). map (λ g. g.name) t.groups) i (in_map (λ (g : Group). g.name) j)) (ap not other)) (nat_list_eq_equiv.refl h.name)
-
-pub in_item : {X : Type 0} (xs : List X) (n : ℕ) (x : X) → item xs n ≡ Some x → In x xs
-in_item xs zero x e = cc
-in_item xs (suc n) x e = in_at xs n x e
 
 pub groups-are : {V : Type 0} (items : V → List (Option ℕ)) (l : Link) (name : List ℕ → Option ℕ) (vs : List V) → ((g : List ℕ) → (bytes_eq g FLAT ≡ false → list_any (bytes_eq g) (group_names l) ≡ true) → name g ≡ object_of_group l g) →
     map items vs ≡ map (λ m. map (λ g. name g.name) m.groups) l.modules → (n i : ℕ) → option_and_then (λ row. item (items row) i) (item vs n) ≡ option_map (object_of_group l) (group_name l n i)

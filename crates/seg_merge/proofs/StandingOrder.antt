@@ -1,12 +1,8 @@
 -- The order in which the logical segments of a link stand, by their numbers.
-use Rattle.std.specs.Prelude.{◌≡◌, ℕ, ◌-◌, ◌≤◌, List, [], ◌∷◌, ◌++◌, Option, Some, None, map, length, slice_get, IfSome, unwrap_or, if◌then◌else◌}
+use Rattle.std.specs.Prelude.{◌≡◌, ℕ, ◌-◌, ◌≤◌, List, [], ◌∷◌, ◌++◌, Some, map, length, slice_get, if◌then◌else◌}
 use Rattle.std.specs.List.{concat, range_with_len}
 use Rattle.std.proofs.Common.{ap, sym, ◌∙◌, arith}
 use Rattle.std.proofs.lemmas.List.{length-append}
-use Rattle.obj_types.specs.declared.definition.ModKind.{ModKind}
-use Rattle.obj_types.specs.declared.definition.ModKind.TheVariants.{Program, Library}
-use Rattle.obj_types.specs.Definition.{IsBase}
-use Rattle.link_model.specs.Layout.{usual_base}
 use Rattle.link_model.specs.Link.{Link}
 use Rattle.link_model.specs.Parts.{Part}
 use Rattle.link_model.specs.Communals.{parts}
@@ -44,11 +40,6 @@ module _ (l : Link) (plain all : List Part) (plain_is : plain ≡ parts l) (all_
       ∙ ap (λ (n : ℕ). map (slice_get (segments l ++ own_stacks l)) (classes (segments l) ++ range_with_len n (length (heads_of all) - length (heads_of plain)))) before
       ∙ ap (λ (n : ℕ). map (slice_get (segments l ++ own_stacks l)) (classes (segments l) ++ range_with_len (length (segments l)) n)) behind
       ∙ order-is l (classes (segments l)) (classes_in_order (segments l) ∙ ap (map (λ (s : Part). Some s)) (sym (steps_of_links l).by_class_is))
-
-pub base-within : (base : Option ℕ) (kind : ModKind) → IfSome base IsBase → unwrap_or base (usual_base kind) ≤ 0x1FFF0000
-base-within None Program e = omega arith
-base-within None Library e = omega arith
-base-within (Some b) kind e = e.2
 
 -- The numbers by class, and after them the others.
 pub order-by : (plain all hs : List Part) (first order : List ℕ) (from to : ℕ) → hs ≡ heads_of plain → first ≡ concat (gathered (class_numbers hs) (class_count hs)) → order ≡ first ++ range_with_len from (to - from) →

@@ -12,7 +12,8 @@ use Rattle.link_model.specs.Rows.{Row, end_in}
 use Rattle.link_model.specs.Words.{option_any}
 use Rattle.seg_parts.specs.LogicalSegments.{places}
 use Rattle.seg_parts.specs.Placing.{placed_shown}
-use Rattle.seg_parts.specs.Rows.{Unplaced, rows_behind, too_large_in}
+use Rattle.seg_parts.specs.Rows.{Unplaced, rows_behind}
+use Rattle.link_model.specs.LayoutRefusals.{too_large_in}
 use Rattle.seg_merge.specs.Ordered.{Ordered}
 use Rattle.seg_merge.specs.declared.laid.Laid.{Laid}
 

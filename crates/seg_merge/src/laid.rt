@@ -7,7 +7,7 @@ ghost use Rattle.lx_types.specs.Answers.{Answers};
 ghost use Rattle.link_model.specs.Parts as rules;
 ghost use Rattle.seg_parts.specs.Parts.{shown};
 ghost use Rattle.seg_parts.specs.Placing.{placed_shown};
-ghost use Rattle.seg_parts.specs.Rows.{too_large_in};
+ghost use Rattle.link_model.specs.LayoutRefusals.{too_large_in};
 ghost use Rattle.seg_merge.specs.Ordered.{ordered_shown};
 ghost use Rattle.seg_merge.specs.Laid.{first_base_of, stack_row_in, rows_in, AreLaid};
 

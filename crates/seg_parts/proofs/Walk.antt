@@ -7,10 +7,10 @@ use Rattle.std.proofs.lemmas.List.{map-append, append-nil, length-append}
 use Rattle.link_model.specs.declared.limits.TheConstants.{MAX_MEMORY}
 use Rattle.link_model.specs.declared.refusals.LayRefusal.TheVariants.{TooLarge}
 use Rattle.link_model.specs.Rows.{Row}
-use Rattle.link_model.specs.LayoutRefusals.{passes_limits}
+use Rattle.link_model.specs.LayoutRefusals.{passes_limits, too_large_in}
 use Rattle.seg_parts.specs.declared.rows.Placed.{Placed}
 use Rattle.seg_parts.specs.declared.rows.Ends.{Ends}
-use Rattle.seg_parts.specs.Rows.{Unplaced, row_behind, rows_behind, past_limits, too_large_in}
+use Rattle.seg_parts.specs.Rows.{Unplaced, row_behind, rows_behind, past_limits}
 use Rattle.seg_parts.specs.Placing.{placed_shown, AreEnds, StandIn}
 
 -- What stands after some of the logical segments.

@@ -3,13 +3,13 @@ use Rattle.std.specs.Prelude.{◌≡◌, ℕ, ◌+◌, ◌≤◌, true, false, L
 use Rattle.std.specs.List.{range_with_len}
 use Rattle.link_model.specs.declared.limits.TheConstants.{MAX_MEMORY}
 use Rattle.link_model.specs.Rows.{Row, end_in}
-use Rattle.link_model.specs.LayoutRefusals.{passes_limits, size_of_rows}
+use Rattle.link_model.specs.LayoutRefusals.{passes_limits, size_of_rows, too_large_in}
 use Rattle.seg_parts.specs.declared.rows.Unplaced as lent
 use Rattle.seg_parts.specs.declared.rows.Placed.{Placed}
 use Rattle.seg_parts.specs.declared.rows.Ends.{Ends}
 use Rattle.seg_parts.specs.declared.rows.Rows.{Rows}
 use Rattle.seg_parts.specs.Parts.{shown}
-use Rattle.seg_parts.specs.Rows.{Unplaced, row_behind, rows_behind, too_large_in}
+use Rattle.seg_parts.specs.Rows.{Unplaced, row_behind, rows_behind}
 
 abbrev pub unplaced_shown : lent.Unplaced → Unplaced
 unplaced_shown u = record { head = shown u.head; object = u.object + 1; parts = map shown u.parts.now; least = u.least }

@@ -1,9 +1,5 @@
 -- The rows of logical segments whose objects, parts and least lengths are known, and the limits on them.
-use Rattle.std.specs.Prelude.{ℕ, List, [], ◌∷◌, ◌++◌, Option, find, take, if◌then◌else◌, Some, None}
-use Rattle.std.specs.List.{enumerate_from}
-use Rattle.std.specs.Option.{option_map}
-use Rattle.link_model.specs.declared.refusals.LayRefusal.{LayRefusal}
-use Rattle.link_model.specs.declared.refusals.LayRefusal.TheVariants.{TooLarge}
+use Rattle.std.specs.Prelude.{ℕ, List, [], ◌∷◌, ◌++◌, Option, if◌then◌else◌, Some, None}
 use Rattle.link_model.specs.Parts.{Part}
 use Rattle.link_model.specs.Rows.{Row, end_in}
 use Rattle.link_model.specs.LayoutRefusals.{passes_limits}
@@ -35,8 +31,3 @@ abbrev pub past_limits : List Row → List Row → Option Row
 past_limits earlier [] = None
 past_limits earlier (r ∷ rs) =
     if passes_limits (earlier ++ r ∷ []) r then Some r else past_limits (earlier ++ r ∷ []) rs
-
--- `TooLarge` of these rows.
-abbrev pub too_large_in : List Row → Option LayRefusal
-too_large_in rs =
-    option_map (λ q. TooLarge q.1.segment.name) (find (λ q. passes_limits (take q.0 rs) q.1) (enumerate_from 1 rs))

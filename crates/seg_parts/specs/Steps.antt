@@ -8,7 +8,7 @@ use Rattle.link_model.specs.Symbols.{commons}
 use Rattle.link_model.specs.Flags.{flags_of}
 use Rattle.link_model.specs.Order as order
 use Rattle.link_model.specs.Rows.{rows, least_len}
-use Rattle.link_model.specs.LayoutRefusals.{absolute, too_large}
+use Rattle.link_model.specs.LayoutRefusals.{absolute, too_large, too_large_in}
 use Rattle.seg_parts.specs.LogicalSegments.{heads_of}
 use Rattle.seg_parts.specs.Communals.{communal_of, followed, far_followed, is_in}
 use Rattle.seg_parts.specs.Members.{is_member, all_memberships}
@@ -17,7 +17,7 @@ use Rattle.link_model.specs.Groups.{DGROUP, in_group, has_near, is_near_bss}
 use Rattle.seg_parts.specs.Attributes.{flags_in}
 use Rattle.seg_parts.specs.Order.{by_class_of, gathered, class_numbers, class_count}
 use Rattle.seg_parts.specs.Refusals.{absolute_in}
-use Rattle.seg_parts.specs.Rows.{Unplaced, rows_behind, too_large_in}
+use Rattle.seg_parts.specs.Rows.{Unplaced, rows_behind}
 
 -- A logical segment of a link before it has a place.
 abbrev pub unplaced_in : Link → Part → Unplaced

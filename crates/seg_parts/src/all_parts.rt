@@ -6,8 +6,6 @@ ghost use Rattle.link_model.specs.Communals.{parts};
 ghost use Rattle.link_model.specs.Groups as groups;
 ghost use Rattle.link_model.specs.Parts as rules;
 ghost use Rattle.link_model.specs.Symbols as symbols;
-ghost use Rattle.link_model.specs.Link.{link_of};
-ghost use Rattle.link_types.specs.Binding.{IsBound};
 ghost use Rattle.link_types.specs.Links.{link_with};
 ghost use Rattle.seg_parts.specs.Communals.{is_in};
 ghost use Rattle.seg_parts.specs.FixedNames.{AreFixed};
@@ -20,8 +18,6 @@ use crate::logical_segments::SegmentName;
 use crate::members::{add_near, dgroup_of, members_of};
 use crate::parts::{FixedNames, Part, contributions_of};
 use indexmap::IndexSet;
-use link_model::modules_at;
-use link_types::Symbols;
 use lx_types::{Name, NoMemory};
 use obj_types::{Common, LinkInput, ObjModule};
 use std::alloc::Global;
@@ -69,19 +65,4 @@ pub fn parts_of<'a>(
     drop(dgroup);
     add_communals(&mut found, commons, fixed, widths)?;
     Ok(found)
-}
-
-/// The parts of a link whose symbols these are, in order.
-pub fn link_parts<'a>(
-    alloc: Global,
-    input: &'a LinkInput,
-    syms: &Symbols,
-    fixed: &'a FixedNames,
-) -> Result<Vec<Part<'a>>, NoMemory>
-    requires bound { IsBound input.now syms.now }
-    requires fixed { AreFixed fixed.now }
-    ensures { IfOk result (λ found. map shown found.items ≡ parts (link_of input.entry.now syms.now.chosen)) }
-{
-    let modules = modules_at(alloc, input, syms.chosen())?;
-    parts_of(alloc, input, modules.as_slice(), fixed, syms.commons())
 }

@@ -15,7 +15,7 @@ mod parts;
 mod refusals;
 mod rows;
 
-pub use all_parts::{link_parts, parts_of};
+pub use all_parts::parts_of;
 pub use attributes::flags_of;
 pub use communals::{add_own_stack, any_stack, wants_stack};
 pub use groups::{GroupNames, group_names_of};

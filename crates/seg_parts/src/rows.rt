@@ -6,10 +6,10 @@ ghost use Rattle.std.specs.Option.{IfNone};
 ghost use Rattle.lx_types.specs.Answers.{Answers};
 ghost use Rattle.link_model.specs.declared.limits.TheConstants.{MAX_MEMORY};
 ghost use Rattle.link_model.specs.declared.refusals.LayRefusal.TheVariants.{TooLarge};
-ghost use Rattle.link_model.specs.LayoutRefusals.{object_limit};
+ghost use Rattle.link_model.specs.LayoutRefusals.{object_limit, too_large_in};
 ghost use Rattle.link_model.specs.Rows.{end_in};
 ghost use Rattle.seg_parts.specs.Parts.{shown};
-ghost use Rattle.seg_parts.specs.Rows.{row_at, rows_behind, too_large_in};
+ghost use Rattle.seg_parts.specs.Rows.{row_at, rows_behind};
 ghost use Rattle.seg_parts.specs.Placing.{unplaced_shown, span_shown, Adds, AreEnds, Places, StandIn};
 
 use crate::offsets::{segment_end, segment_start};

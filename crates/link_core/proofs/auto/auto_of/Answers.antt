@@ -5,7 +5,7 @@ use Rattle.std.specs.Option.{unwrap_or, option_and_then}
 use Rattle.obj_types.specs.declared.object.Group.{Group}
 use Rattle.obj_types.specs.declared.object.ObjModule.{ObjModule}
 use Rattle.link_core.proofs.AutoData.{named, HasNone, auto-found, auto-none, has-none, all-more}
-use Rattle.link_core.proofs.Steps.{take-all}
+use Rattle.std.proofs.lemmas.List.{take_all}
 use Rattle.link_core.proofs.auto.auto_of.Goals as goal
 
 pub returns-in-Some : goal.returns-in-Some
@@ -21,4 +21,4 @@ loop-index-preserved c =
     (has-none c.index-modules-index.result.now (sym (c.dgroup_in.ensures ∙ ap (λ (gs : List Group). position named gs) c.as_slice.ensures) ∙ c.in_default.is))
 
 pub returns : goal.returns
-returns c = λ l of are. auto-none l (map (λ m. m.now) c.args.modules.now) of (subst (λ (ms : List (Bor ObjModule)). All HasNone (map (λ m. m.now) ms)) (take-all c.args.modules.now c.loop-index.index c.loop-index-test.false) c.loop-index.invariant)
+returns c = λ l of are. auto-none l (map (λ m. m.now) c.args.modules.now) of (subst (λ (ms : List (Bor ObjModule)). All HasNone (map (λ m. m.now) ms)) (take_all c.loop-index.index c.args.modules.now c.loop-index-test.false) c.loop-index.invariant)

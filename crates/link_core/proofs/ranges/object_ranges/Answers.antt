@@ -3,7 +3,7 @@ use Rattle.std.specs.List.{All}
 use Rattle.std.proofs.lemmas.List.Elements.{All-more}
 use Rattle.lx_types.specs.declared.fix.Fix.{Fix}
 use Rattle.link_core.specs.Ranges.{HasRange}
-use Rattle.link_core.proofs.Steps.{all-taken}
+use Rattle.std.proofs.lemmas.List.{take_all}
 use Rattle.link_core.proofs.ranges.object_ranges.Goals as goal
 
 pub loop-page-preserved : goal.loop-page-preserved
@@ -12,4 +12,4 @@ loop-page-preserved c =
     (subst (λ (page : List Fix). All HasRange page) (c.as_slice.ensures ∙ c.page-item.is) c.page_ranges.ensures)
 
 pub returns : goal.returns
-returns c = all-taken (λ (page : List Fix). All HasRange page) c.args.pages.now c.loop-page.page-index c.loop-page-test.false c.loop-page.invariant
+returns c = subst (All (All HasRange)) (take_all c.loop-page.page-index c.args.pages.now c.loop-page-test.false) c.loop-page.invariant

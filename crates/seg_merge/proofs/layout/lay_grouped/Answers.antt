@@ -6,7 +6,8 @@ use Rattle.seg_parts.specs.LogicalSegments.{heads_of}
 use Rattle.seg_parts.specs.Members.{member_shown}
 use Rattle.seg_parts.specs.Parts.{shown}
 use Rattle.link_types.specs.Links.{link_with}
-use Rattle.seg_merge.proofs.StandingOrder.{all-are, no-fewer, standing-order, order-by, base-within}
+use Rattle.seg_merge.proofs.StandingOrder.{all-are, no-fewer, standing-order, order-by}
+use Rattle.link_model.proofs.RowLimits.{base-within}
 use Rattle.seg_merge.proofs.layout.lay_grouped.Goals as goal
 
 pub add_numbers-requires : goal.add_numbers-requires

@@ -1,11 +1,10 @@
 use Rattle.std.proofs.Common.{◌≡◌, ◌∙◌, ap, sym, map, length, arith, List, Some, None}
 use Rattle.std.proofs.lemmas.List.{length-map}
 use Rattle.obj_types.specs.declared.object.ObjModule.{ObjModule}
-use Rattle.link_model.specs.LayoutRefusals.{too_large}
+use Rattle.link_model.specs.LayoutRefusals.{too_large, too_large_in}
 use Rattle.link_model.specs.Order.{ordered}
 use Rattle.seg_parts.specs.LogicalSegments.{heads_of}
 use Rattle.seg_parts.specs.Parts.{shown}
-use Rattle.seg_parts.specs.Rows.{too_large_in}
 use Rattle.lx_types.proofs.Failing.{handed_on}
 use Rattle.link_types.specs.declared.layout.Layout.{Layout}
 use Rattle.seg_merge.specs.Laid.{AreLaid, rows_in}

@@ -5,7 +5,8 @@ use Rattle.link_model.specs.declared.refusals.LayRefusal.{LayRefusal}
 use Rattle.link_types.proofs.Lists.{map-more}
 use Rattle.seg_parts.specs.declared.rows.Placed.{Placed}
 use Rattle.seg_parts.specs.declared.rows.Unplaced as lent
-use Rattle.seg_parts.specs.Rows.{Unplaced, rows_behind, too_large_in}
+use Rattle.seg_parts.specs.Rows.{Unplaced, rows_behind}
+use Rattle.link_model.specs.LayoutRefusals.{too_large_in}
 use Rattle.seg_parts.specs.Placing.{unplaced_shown}
 use Rattle.seg_parts.proofs.EndSums.{end-within, ends-length}
 use Rattle.seg_parts.proofs.Lists.{take_all, split-at}

@@ -26,7 +26,7 @@ use Rattle.link_model.specs.Goals.{Target, Internal, Constant, Entry, internal, 
 use Rattle.link_model.specs.Fixups.{Fixup, fixup_at, fixup_of, fixups}
 use Rattle.link_model.specs.Start.{first_start, in_object, start_place, place_of_start, Start}
 use Rattle.link_model.proofs.Members.{In, here, there, found_as, from_flat_map}
-use Rattle.link_core.proofs.ObjectsThere.{IsThere, row_there}
+use Rattle.image_model.proofs.ObjectsThere.{IsThere, row_there}
 
 -- ---- through options and filtered maps
 

@@ -1,28 +1,24 @@
 -- The object of each row of a link is there, and its number fits the entry table.
-use Rattle.std.specs.Prelude.{◌≡◌, ℕ, suc, ◌+◌, ◌≤◌, ◌<◌, Bool, true, false, ◌||◌, nat_lt, List, [], ◌∷◌, Option, Some, None, map, length, take, is_some, unwrap_or, refl}
-use Rattle.std.specs.List.{find, list_any, enumerate_from, position_or_len, AllByRecursion}
+use Rattle.std.specs.Prelude.{◌≡◌, ℕ, suc, ◌+◌, ◌≤◌, ◌<◌, Bool, true, false, List, [], ◌∷◌, Option, Some, None, map, length, is_some, unwrap_or, refl}
+use Rattle.std.specs.List.{list_any, enumerate_from, position_or_len}
 use Rattle.std.specs.Option.{option_map, option_map_or}
 use Rattle.std.proofs.Common.{ap, sym, ◌∙◌, arith, true≢false, subst}
-use Rattle.std.proofs.lemmas.Bool.{ltb-false, or_parts}
 use Rattle.lx_types.proofs.Lists.{length-map-enumerate_from}
 use Rattle.lx_types.specs.Sound.{IsNumberOf}
 use Rattle.lx_types.specs.declared.limits.TheConstants.{MAX_OBJECTS}
-use Rattle.link_model.specs.declared.limits.TheConstants.{MAX_MEMORY}
-use Rattle.link_model.specs.declared.refusals.LayRefusal.TheVariants.{TooLarge}
-use Rattle.link_model.specs.Words.{first_of}
 use Rattle.link_model.specs.Link.{Link}
 use Rattle.link_model.specs.Parts.{Part}
 use Rattle.link_model.specs.Flags.{flags_of}
 use Rattle.link_model.specs.Order.{ordered, object_key, same_object, object_heads, object_number}
 use Rattle.link_model.specs.Rows.{end_in, Row, rows, stack_row, has_stack}
 use Rattle.link_model.specs.Layout.{room, placed_from, first_base, objects, stack_top}
-use Rattle.link_model.specs.LayoutRefusals.{lay_refusal, absolute, use_mixed, group_split, too_large, passes_limits, object_limit, size_of_rows}
+use Rattle.link_model.specs.LayoutRefusals.{lay_refusal}
 use Rattle.link_model.proofs.Rules.{rules}
 use Rattle.link_model.proofs.Tables.{any-firsts}
-use Rattle.link_model.proofs.Members.{In, here, there, any_in, placed, position_is, found_as}
+use Rattle.link_model.proofs.Members.{In, any_in, placed, position_is, all_in, found_as}
 use Rattle.link_model.proofs.KeyTests.{in_one_object}
 use Rattle.link_model.proofs.RowsStand.{Stands}
-use Rattle.link_model.proofs.ExternalsMean.{neither, not_mapped, none_passes}
+use Rattle.link_model.proofs.RowLimits.{objects-within, not-too-large}
 use Rattle.link_model.proofs.RowsStand.{rows_stand, none_yet}
 
 -- An object of the link, whose number fits the entry table.
@@ -60,29 +56,11 @@ number_there l s i =
 
 -- ---- and it fits, where the layout is not refused
 
-nothing_large : (l : Link) → lay_refusal l ≡ None → find (λ q. passes_limits (take q.0 (rows l)) q.1) (enumerate_from 1 (rows l)) ≡ None
-unfolding lay_refusal
-nothing_large l e =
-    let first = (neither (absolute l) (first_of (use_mixed l ∷ group_split l ∷ too_large l ∷ [])) e).1 in
-    let second = (neither (use_mixed l) (first_of (group_split l ∷ too_large l ∷ [])) first).1 in
-    let third = (neither (group_split l) (first_of (too_large l ∷ [])) second).1 in
-    let fourth = (neither (too_large l) (first_of []) third).0 in
-    not_mapped (λ q. TooLarge q.1.segment.name) (find (λ q. passes_limits (take q.0 (rows l)) q.1) (enumerate_from 1 (rows l))) fourth
-
-small_row : (earlier : List Row) (r : Row) → passes_limits earlier r ≡ false → r.object ≤ MAX_OBJECTS
-small_row earlier r e =
-    ltb-false MAX_OBJECTS r.object (or_parts (nat_lt (object_limit r.segment) r.end || nat_lt MAX_MEMORY (size_of_rows earlier)) (nat_lt MAX_OBJECTS r.object) e).1
-
-small_among : (firsts : ℕ → List Row) (b : ℕ) (rs : List Row) {r : Row} → AllByRecursion (λ q. passes_limits (firsts q.0) q.1 ≡ false) (enumerate_from b rs) → In r rs → r.object ≤ MAX_OBJECTS
-small_among firsts b [] h i = elim i [ ]
-small_among firsts b (r ∷ rs) h here = small_row (firsts b) r h.0
-small_among firsts b (r ∷ rs) h (there i) = small_among firsts (b + 1) rs h.1 i
-
 pub row_there : (l : Link) (r : Row) → lay_refusal l ≡ None → In r (rows l) → IsThere l r.object
 row_there l r e i =
     let stands = row_stands l r i in record {
       number = subst (λ (n : ℕ). IsNumberOf n (length (objects l))) (sym stands.object) (number_there l r.segment stands.inside);
-      small = small_among (λ n. take n (rows l)) 1 (rows l) (none_passes (λ q. passes_limits (take q.0 (rows l)) q.1) (enumerate_from 1 (rows l)) (nothing_large l e)) i;
+      small = all_in (λ r. r.object ≤ MAX_OBJECTS) (rows l) (objects-within (rows l) (not-too-large l e)) i;
     }
 
 -- ---- the object of the stack

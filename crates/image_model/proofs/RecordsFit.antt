@@ -42,9 +42,9 @@ use Rattle.link_model.proofs.Members.{In, here, there, all_in, from_filter, from
 use Rattle.link_model.proofs.LiveFixups.{live_apart}
 use Rattle.link_model.proofs.LiveMeans.{is_live}
 use Rattle.link_model.proofs.FixupsStay.{module_whole, numbered_module}
-use Rattle.link_core.proofs.ObjectsThere.{IsThere}
-use Rattle.link_core.proofs.TargetsThere.{LeadsThere, fixup_there, through, mapped, from_filter_map}
-use Rattle.link_core.proofs.FewImports.{more-modules, more-procs}
+use Rattle.image_model.proofs.ObjectsThere.{IsThere}
+use Rattle.image_model.proofs.TargetsThere.{LeadsThere, fixup_there, through, mapped, from_filter_map}
+use Rattle.image_model.proofs.FewImports.{more-modules, more-procs}
 
 -- ---- sources by locations
 

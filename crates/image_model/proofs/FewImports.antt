@@ -27,7 +27,7 @@ use Rattle.link_model.specs.Patches.{recorded}
 use Rattle.link_model.proofs.Tables.{any-firsts, firsts-apart}
 use Rattle.link_model.proofs.Members.{In, here, there, in_map, in_left, in_at, in_either, any_in, all_in, from_map, from_filter}
 use Rattle.link_model.proofs.ExternalsMean.{neither}
-use Rattle.link_core.proofs.TargetsThere.{through, mapped, from_filter_map}
+use Rattle.image_model.proofs.TargetsThere.{through, mapped, from_filter_map}
 
 -- ---- a list of different items that another list has is no longer
 
