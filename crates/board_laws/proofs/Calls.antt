@@ -3,7 +3,8 @@ use Rattle.std.proofs.Common.{◌≡◌, ℕ, List, [], ◌∷◌, Bool, true, f
 use Rattle.lx_types.specs.declared.object.PageId.{PageId}
 use Rattle.load_model.specs.Modules.{fixed_bytes}
 use Rattle.load_model.specs.State.{pids, is_among}
-use Rattle.load_model.specs.Asks.{Ask, enter, free, exit, fault, put, patch, get}
+use Rattle.load_model.specs.declared.commands.Ask.{Ask}
+use Rattle.load_model.specs.declared.commands.Ask.TheVariants.{Enter as enter, Free as free, Exit as exit, Fault as fault, Write as put, Debug as patch, Shared as get}
 use Rattle.load_model.specs.Histories.{has_fault}
 use Rattle.load_model.proofs.Growing.{nothing_is_legal, one_more_is_legal}
 use Rattle.load_core.specs.BoardState.{BoardState, IsLegal, MayAsk, entry_of, with_entry}

@@ -4,7 +4,8 @@ use Rattle.lx_types.specs.declared.object.PageId.{PageId}
 use Rattle.load_model.specs.Modules.{Library}
 use Rattle.load_model.specs.State.{Failing}
 use Rattle.load_model.specs.State as state
-use Rattle.load_model.specs.Asks.{Ask, enter, free, exit, fault, put, patch, get}
+use Rattle.load_model.specs.declared.commands.Ask.{Ask}
+use Rattle.load_model.specs.declared.commands.Ask.TheVariants.{Enter as enter, Free as free, Exit as exit, Fault as fault, Write as put, Debug as patch, Shared as get}
 use Rattle.load_model.specs.Histories.{has_fault}
 use Rattle.load_core.specs.BoardState.{BoardState, state_of, IsLegal, entry_of, with_entry}
 use Rattle.load_core.specs.Told.{IsLoaded, read_run}

@@ -3,7 +3,8 @@ use Rattle.std.specs.Prelude.{◌≡◌, ℕ, List, [], ◌∷◌, Bool, true, R
 use Rattle.lx_types.specs.declared.fail.NoMemory.{NoMemory as Want}
 use Rattle.load_model.specs.State.{pids, is_among}
 use Rattle.load_model.specs.State as state
-use Rattle.load_model.specs.Asks.{Ask, enter, free, exit, fault, put, patch, get}
+use Rattle.load_model.specs.declared.commands.Ask.{Ask}
+use Rattle.load_model.specs.declared.commands.Ask.TheVariants.{Enter as enter, Free as free, Exit as exit, Fault as fault, Write as put, Debug as patch, Shared as get}
 use Rattle.load_core.specs.BoardState.{BoardState, state_of, MayAsk, Adds}
 use Rattle.load_core.specs.Told.{IsLoaded, IsClaimed, read_run}
 use Rattle.load_core.specs.declared.answers.Loaded.{Loaded}

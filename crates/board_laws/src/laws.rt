@@ -2,7 +2,7 @@
 
 ghost use Rattle.std.specs.Prelude.{◌≡◌, ◌<◌, ℕ, true, length};
 ghost use Rattle.load_model.specs.State.{pids, is_among};
-ghost use Rattle.load_model.specs.Asks.{enter, free, exit, fault, put, patch, get};
+ghost use Rattle.load_model.specs.declared.commands.Ask.TheVariants.{Enter as enter, Free as free, Exit as exit, Fault as fault, Write as put, Debug as patch, Shared as get};
 ghost use Rattle.load_core.specs.BoardState.{MayAsk};
 ghost use Rattle.load_core.specs.Told.{fixed_run};
 ghost use Rattle.board_laws.specs.Calls.{IsCall, asks, looks, read_answer};

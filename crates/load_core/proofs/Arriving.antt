@@ -21,7 +21,8 @@ use Rattle.residence_table.specs.declared.entry.Entering.{Entering}
 use Rattle.residence_table.specs.Called.{IsWithin, IsEnteringOf}
 use Rattle.load_model.specs.Initialising.{is_failing, failing_module, failed_calls, gone_again, entered, enter_by, enter_deed, after_failing}
 use Rattle.load_model.specs.Refusals.{enter_refusal}
-use Rattle.load_model.specs.Asks.{enter, may_ask, deed_of, after_deed}
+use Rattle.load_model.specs.declared.commands.Ask.TheVariants.{Enter as enter}
+use Rattle.load_model.specs.Asks.{may_ask, deed_of, after_deed}
 use Rattle.load_model.specs.Alike.{BasesSeenStay}
 use Rattle.load_model.specs.Laws.{ReachedIsResident}
 use Rattle.load_model.specs.ProcessCounts.{ProcessCounts}

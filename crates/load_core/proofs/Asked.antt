@@ -8,7 +8,9 @@ use Rattle.load_model.specs.Modules.{Library, Held}
 use Rattle.load_model.specs.State.{Failing, Eager, pids, is_among, attached_residence}
 use Rattle.load_model.specs.Entering.{NoRoom, placing}
 use Rattle.load_model.specs.Initialising.{failing_module, entered, enter_by, enter_deed}
-use Rattle.load_model.specs.Asks.{Ask, enter, free, exit, fault, put, patch, get, ask_in, deed_of, may_ask}
+use Rattle.load_model.specs.declared.commands.Ask.{Ask}
+use Rattle.load_model.specs.declared.commands.Ask.TheVariants.{Enter as enter, Free as free, Exit as exit, Fault as fault, Write as put, Debug as patch, Shared as get}
+use Rattle.load_model.specs.Asks.{ask_in, deed_of, may_ask}
 use Rattle.load_model.specs.Histories.{state_after, is_first_fault, has_fault, Follows}
 use Rattle.load_model.proofs.Bools.{and_left, and_right}
 

@@ -26,7 +26,8 @@ use Rattle.load_model.specs.State.{Residence, Eager, with_process, pids, is_amon
 use Rattle.load_model.specs.Entering.{NoRoom, with_fresh, placed_from, placing, ranges_of, resident_ranges, joined, newcomers, residence_from, with_fresh_residences, after_entering}
 use Rattle.load_model.specs.Initialising.{enter_deed}
 use Rattle.load_model.specs.Memory.{bases_seen}
-use Rattle.load_model.specs.Asks.{enter, after_deed}
+use Rattle.load_model.specs.declared.commands.Ask.TheVariants.{Enter as enter}
+use Rattle.load_model.specs.Asks.{after_deed}
 use Rattle.load_model.specs.Histories.{after_entry, has_fault}
 use Rattle.load_model.specs.Alike.{BasesSeenStay}
 use Rattle.load_model.specs.ProcessCounts.{ProcessCounts}

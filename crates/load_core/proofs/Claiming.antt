@@ -7,7 +7,8 @@ use Rattle.page_fix.specs.Rights.{PageRight}
 use Rattle.load_model.specs.declared.deeds.Entry.{Entry}
 use Rattle.load_model.specs.Modules.{fixed_bytes}
 use Rattle.load_model.specs.State.{Residence, pids, is_among}
-use Rattle.load_model.specs.Asks.{fault, deed_of}
+use Rattle.load_model.specs.declared.commands.Ask.TheVariants.{Fault as fault}
+use Rattle.load_model.specs.Asks.{deed_of}
 use Rattle.load_model.specs.Histories.{has_fault}
 use Rattle.load_model.specs.Alike.{BasesSeenStay}
 use Rattle.load_model.specs.ProcessCounts.{ProcessCounts}

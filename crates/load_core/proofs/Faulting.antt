@@ -27,7 +27,8 @@ use Rattle.load_model.specs.Modules.{Library, fixed_bytes, is_invalid, objects_o
 use Rattle.load_model.specs.State.{Residence, Eager}
 use Rattle.load_model.specs.Memory.{page, pages_over}
 use Rattle.load_model.specs.Refusals.{touch, when, class_refusal, span_refusal, is_outside, covers_invalid}
-use Rattle.load_model.specs.Asks.{fault, is_own, may_ask, deed_of, after_deed, is_attached}
+use Rattle.load_model.specs.declared.commands.Ask.TheVariants.{Fault as fault}
+use Rattle.load_model.specs.Asks.{is_own, may_ask, deed_of, after_deed, is_attached}
 use Rattle.load_model.specs.Histories.{has_fault}
 use Rattle.load_model.proofs.Among.{any_filter, any_same, any_and}
 use Rattle.load_model.proofs.Bools.{and_left, and_right, and_true, and_false, or_false}

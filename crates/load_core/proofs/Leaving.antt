@@ -16,7 +16,8 @@ use Rattle.load_model.specs.State.{Residence, Process, Eager, with_process, pids
 use Rattle.load_model.specs.Leaving as leaving
 use Rattle.load_model.specs.Leaving.{gone_modules, keeping, after_leaving}
 use Rattle.load_model.specs.Refusals.{when, free_refusal}
-use Rattle.load_model.specs.Asks.{free, may_ask, deed_of, after_deed}
+use Rattle.load_model.specs.declared.commands.Ask.TheVariants.{Free as free}
+use Rattle.load_model.specs.Asks.{may_ask, deed_of, after_deed}
 use Rattle.load_model.specs.Histories.{after_entry}
 use Rattle.load_model.specs.Alike.{BasesSeenStay}
 use Rattle.load_model.specs.Fitness.{ReachedIsFit}

@@ -12,7 +12,7 @@ use Rattle.load_model.specs.Modules.{Library, is_library, unfit}
 use Rattle.load_model.specs.State.{Process, count_of, pids, is_among}
 use Rattle.load_model.specs.Entering.{placing}
 use Rattle.load_model.specs.Refusals.{when, ◌orelse◌, started_refusal, module_or_none, module_refusal, enter_refusal}
-use Rattle.load_model.specs.Asks.{enter}
+use Rattle.load_model.specs.declared.commands.Ask.TheVariants.{Enter as enter}
 use Rattle.load_model.specs.ProcessCounts.{ProcessCounts, AreCountsOf}
 use Rattle.load_model.proofs.Bytes.{left_none, right_none}
 use Rattle.load_model.proofs.Holding.{when_none}

@@ -14,7 +14,8 @@ use Rattle.load_model.specs.Modules.{Library, fixed_bytes, object_at}
 use Rattle.load_model.specs.State.{Written, Residence, Process, with_process, pids, is_among}
 use Rattle.load_model.specs.Memory.{last_put, writes_seen, writes_of_class, bases_seen, Byte, Bytes}
 use Rattle.load_model.specs.Refusals.{share, when, class_refusal, span_refusal, is_outside, covers_invalid}
-use Rattle.load_model.specs.Asks.{put, patch, get, may_ask, deed_of, after_deed, bytes_at, is_attached}
+use Rattle.load_model.specs.declared.commands.Ask.TheVariants.{Write as put, Debug as patch, Shared as get}
+use Rattle.load_model.specs.Asks.{may_ask, deed_of, after_deed, bytes_at, is_attached}
 use Rattle.load_model.specs.Alike.{BasesSeenStay}
 use Rattle.load_model.specs.ProcessCounts.{ProcessCounts}
 use Rattle.load_model.proofs.Bools.{and_left, and_right}

@@ -5,7 +5,8 @@ use Rattle.lx_types.specs.declared.parts.Parts.{Parts}
 use Rattle.load_model.specs.declared.deeds.Entry.{Entry}
 use Rattle.load_model.specs.Modules.{fixed_bytes}
 use Rattle.load_model.specs.State.{Failing, Eager}
-use Rattle.load_model.specs.Asks.{Ask, may_ask, deed_of}
+use Rattle.load_model.specs.declared.commands.Ask.{Ask}
+use Rattle.load_model.specs.Asks.{may_ask, deed_of}
 use Rattle.load_model.specs.Histories.{state_after, Legal}
 
 pub record BoardState : Type 0 where

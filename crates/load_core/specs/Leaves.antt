@@ -6,7 +6,8 @@ use Rattle.load_model.specs.declared.deeds.Deed.{Deed}
 use Rattle.load_model.specs.declared.deeds.Deed.TheVariants.{Free, Exit}
 use Rattle.load_model.specs.State.{Process}
 use Rattle.load_model.specs.Leaving as leaving
-use Rattle.load_model.specs.Asks.{Ask, free, exit}
+use Rattle.load_model.specs.declared.commands.Ask.{Ask}
+use Rattle.load_model.specs.declared.commands.Ask.TheVariants.{Free as free, Exit as exit}
 use Rattle.mod_refs.specs.declared.changes.Leaving.{Leaving}
 use Rattle.mod_refs.specs.declared.changes.Leaving.TheVariants.{One, All}
 use Rattle.mod_refs.specs.Changes.{given_up}

@@ -13,7 +13,8 @@ use Rattle.load_model.specs.State.{Eager, residence_of, serial_of, attached_resi
 use Rattle.load_model.specs.Entering.{joined}
 use Rattle.load_model.specs.Initialising.{enter_deed}
 use Rattle.load_model.specs.Memory.{bases_seen}
-use Rattle.load_model.specs.Asks.{fault, get, bytes_at}
+use Rattle.load_model.specs.declared.commands.Ask.TheVariants.{Fault as fault, Shared as get}
+use Rattle.load_model.specs.Asks.{bytes_at}
 use Rattle.load_model.specs.Histories.{has_fault}
 use Rattle.load_core.specs.BoardState.{BoardState, state_of, MayAsk, Adds}
 use Rattle.load_core.specs.declared.answers.Loaded.{Loaded}

@@ -3,7 +3,7 @@
 ghost use Rattle.std.specs.Prelude.{◌≡◌, true, IfOk, OnOk, OnErr, Some};
 ghost use Rattle.lx_types.specs.Answers.{Answers};
 ghost use Rattle.load_model.specs.State.{pids, is_among};
-ghost use Rattle.load_model.specs.Asks as asks;
+ghost use Rattle.load_model.specs.declared.commands.Ask.TheVariants as asks;
 ghost use Rattle.load_core.specs.BoardState.{MayAsk, Adds};
 ghost use Rattle.load_core.specs.Told.{IsLoaded};
 ghost use Rattle.load_core.specs.Enters.{IsArrival, IsWithoutRoom, failing_of};
@@ -37,7 +37,7 @@ impl Board {
     // entry gives 64 of them at most, so no history that has a place in memory comes to them.
     fn arrival(&self, at: Entrance) -> Result<Arrival, Fail<NoRoom>>
         requires process { is_among pids at.pid ≡ true }
-        requires may { MayAsk self.now at.pid (asks.enter at.how at.«module») }
+        requires may { MayAsk self.now at.pid (asks.Enter at.how at.«module») }
         ensures { Answers result (IsArrival self.now at) (IsWithoutRoom self.now at) }
     {
         lx_model::order_is_reach();
@@ -73,9 +73,9 @@ impl Board {
     // Nothing is loaded, since an object has no place.
     fn refuse(&mut self, at: Entrance, none: NoRoom) -> Result<Loaded, NoMemory>
         requires process { is_among pids at.pid ≡ true }
-        requires may { MayAsk self.old at.pid (asks.enter at.how at.«module») }
+        requires may { MayAsk self.old at.pid (asks.Enter at.how at.«module») }
         requires none { IsWithoutRoom self.old at none }
-        ensures entry { OnOk result (Adds self.old self.new at.pid (asks.enter at.how at.«module»)) }
+        ensures entry { OnOk result (Adds self.old self.new at.pid (asks.Enter at.how at.«module»)) }
         ensures answer { IfOk result (IsLoaded self.old self.new at.pid at.how at.«module») }
         ensures err { OnErr result (self.new ≡ self.old) }
     {
@@ -101,10 +101,10 @@ impl Board {
     // Nothing is loaded, since the initialisation of module `by` fails: what began with it ends with it.
     fn fail(&mut self, at: Entrance, by: u32, arrival: Arrival) -> Result<Loaded, NoMemory>
         requires process { is_among pids at.pid ≡ true }
-        requires may { MayAsk self.old at.pid (asks.enter at.how at.«module») }
+        requires may { MayAsk self.old at.pid (asks.Enter at.how at.«module») }
         requires arrival { IsArrival self.old at arrival }
         requires by { failing_of self.old at arrival ≡ Some by }
-        ensures entry { OnOk result (Adds self.old self.new at.pid (asks.enter at.how at.«module»)) }
+        ensures entry { OnOk result (Adds self.old self.new at.pid (asks.Enter at.how at.«module»)) }
         ensures answer { IfOk result (IsLoaded self.old self.new at.pid at.how at.«module») }
         ensures err { OnErr result (self.new ≡ self.old) }
     {
@@ -155,8 +155,8 @@ impl Board {
     /// Process `pid` starts the program `m` (DosExecPgm) or loads the library `m` (DosLoadModule).
     pub fn load(&mut self, pid: u32, m: u32, how: How) -> Result<Loaded, NoMemory>
         requires process { is_among pids pid ≡ true }
-        requires may { MayAsk self.old pid (asks.enter how m) }
-        ensures entry { OnOk result (Adds self.old self.new pid (asks.enter how m)) }
+        requires may { MayAsk self.old pid (asks.Enter how m) }
+        ensures entry { OnOk result (Adds self.old self.new pid (asks.Enter how m)) }
         ensures answer { IfOk result (IsLoaded self.old self.new pid how m) }
         ensures err { OnErr result (self.new ≡ self.old) }
     {

@@ -4,7 +4,7 @@ ghost use Rattle.std.specs.Prelude.{◌≡◌, ◌<◌, ℕ, [], true, length, m
 ghost use Rattle.std.specs.Arc.{arc_value};
 ghost use Rattle.load_model.specs.State.{pids, is_among};
 ghost use Rattle.load_model.specs.State as state;
-ghost use Rattle.load_model.specs.Asks as asks;
+ghost use Rattle.load_model.specs.declared.commands.Ask.TheVariants as asks;
 ghost use Rattle.load_core.specs.BoardState.{BoardState, state_of, IsLegal, MayAsk, Adds};
 ghost use Rattle.load_core.specs.Told.{IsLoaded};
 

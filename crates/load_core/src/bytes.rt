@@ -4,7 +4,7 @@ ghost use Rattle.std.specs.Prelude.{◌≡◌, ◌<◌, ℕ, [], List, true, len
 ghost use Rattle.lx_types.specs.Object.{class_of};
 ghost use Rattle.load_model.specs.Modules.{object_at};
 ghost use Rattle.load_model.specs.State.{Written, Residence, pids, is_among};
-ghost use Rattle.load_model.specs.Asks as asks;
+ghost use Rattle.load_model.specs.declared.commands.Ask.TheVariants as asks;
 ghost use Rattle.write_overlay.specs.Laid.{bytes_under};
 ghost use Rattle.write_overlay.specs.Layered.{Lays};
 ghost use Rattle.load_core.specs.BoardState.{MayAsk, Adds};
@@ -85,9 +85,9 @@ impl Board {
         bytes: &[u8],
     ) -> Result<(), NoMemory>
         requires process { is_among pids pid ≡ true }
-        requires may { (m : ℕ) × MayAsk self.old pid (asks.put serial m object offset bytes.now) }
-        ensures entry { OnOk result ((m : ℕ) → MayAsk self.old pid (asks.put serial m object offset bytes.now)
-            → Adds self.old self.new pid (asks.put serial m object offset bytes.now)) }
+        requires may { (m : ℕ) × MayAsk self.old pid (asks.Write serial m object offset bytes.now) }
+        ensures entry { OnOk result ((m : ℕ) → MayAsk self.old pid (asks.Write serial m object offset bytes.now)
+            → Adds self.old self.new pid (asks.Write serial m object offset bytes.now)) }
         ensures err { OnErr result (self.new ≡ self.old) }
     {
         load_model::residences_stay();
@@ -121,9 +121,9 @@ impl Board {
         bytes: &[u8],
     ) -> Result<(), NoMemory>
         requires process { is_among pids pid ≡ true }
-        requires may { (m : ℕ) × MayAsk self.old pid (asks.patch serial m object offset bytes.now) }
-        ensures entry { OnOk result ((m : ℕ) → MayAsk self.old pid (asks.patch serial m object offset bytes.now)
-            → Adds self.old self.new pid (asks.patch serial m object offset bytes.now)) }
+        requires may { (m : ℕ) × MayAsk self.old pid (asks.Debug serial m object offset bytes.now) }
+        ensures entry { OnOk result ((m : ℕ) → MayAsk self.old pid (asks.Debug serial m object offset bytes.now)
+            → Adds self.old self.new pid (asks.Debug serial m object offset bytes.now)) }
         ensures err { OnErr result (self.new ≡ self.old) }
     {
         load_model::residences_stay();
@@ -155,10 +155,10 @@ impl Board {
         into: &mut [u8],
     ) -> Result<(), NoMemory>
         requires process { is_among pids pid ≡ true }
-        requires may { (m : ℕ) × MayAsk self.old pid (asks.get serial m object offset (length into.old)) }
-        requires fixed { (m : ℕ) → MayAsk self.old pid (asks.get serial m object offset (length into.old))
+        requires may { (m : ℕ) × MayAsk self.old pid (asks.Shared serial m object offset (length into.old)) }
+        requires fixed { (m : ℕ) → MayAsk self.old pid (asks.Shared serial m object offset (length into.old))
             → into.old ≡ fixed_run self.old m object offset (length into.old) }
-        ensures read { OnOk result ((m : ℕ) → MayAsk self.old pid (asks.get serial m object offset (length into.old))
+        ensures read { OnOk result ((m : ℕ) → MayAsk self.old pid (asks.Shared serial m object offset (length into.old))
             → IsRead self.old self.new pid serial m object offset into.old into.new) }
         ensures err { OnErr result ((self.new ≡ self.old) × (into.new ≡ into.old)) }
     {

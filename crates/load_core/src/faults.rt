@@ -4,7 +4,7 @@ ghost use Rattle.std.specs.Prelude.{◌≡◌, ◌<◌, ℕ, true, length, is_so
 ghost use Rattle.std.specs.List.{list_any};
 ghost use Rattle.page_fix.specs.Fixable.{is_page};
 ghost use Rattle.load_model.specs.State.{Residence, pids, is_among};
-ghost use Rattle.load_model.specs.Asks as asks;
+ghost use Rattle.load_model.specs.declared.commands.Ask.TheVariants as asks;
 ghost use Rattle.load_core.specs.BoardState.{MayAsk};
 ghost use Rattle.load_core.specs.Told.{IsClaimed};
 ghost use Rattle.load_core.specs.Taken.{without_right};
@@ -38,7 +38,7 @@ impl Board {
     /// a page is its fault, and gives the right to fix it.
     pub fn fault(&mut self, pid: u32, serial: u64, p: PageId) -> Result<Claim, NoMemory>
         requires process { is_among pids pid ≡ true }
-        requires may { (m : ℕ) × MayAsk self.old pid (asks.fault serial m p) }
+        requires may { (m : ℕ) × MayAsk self.old pid (asks.Fault serial m p) }
         ensures claim { IfOk result (IsClaimed self.old self.new pid serial p) }
         ensures err { OnErr result (self.new ≡ self.old) }
     {

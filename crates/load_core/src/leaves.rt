@@ -2,7 +2,7 @@
 
 ghost use Rattle.std.specs.Prelude.{◌≡◌, true, IfOk, OnOk, OnErr};
 ghost use Rattle.load_model.specs.State.{pids, is_among};
-ghost use Rattle.load_model.specs.Asks as asks;
+ghost use Rattle.load_model.specs.declared.commands.Ask.TheVariants as asks;
 ghost use Rattle.load_core.specs.BoardState.{MayAsk, Adds};
 ghost use Rattle.load_core.specs.Leaves.{asked_by, leaving_deed, IsDeparture};
 
@@ -80,8 +80,8 @@ impl Board {
     /// Process `pid` gives up one load of module `m` (DosFreeModule).
     pub fn free(&mut self, pid: u32, m: u32) -> Result<(), NoMemory>
         requires process { is_among pids pid ≡ true }
-        requires may { MayAsk self.old pid (asks.free m) }
-        ensures entry { OnOk result (Adds self.old self.new pid (asks.free m)) }
+        requires may { MayAsk self.old pid (asks.Free m) }
+        ensures entry { OnOk result (Adds self.old self.new pid (asks.Free m)) }
         ensures err { OnErr result (self.new ≡ self.old) }
     {
         self.leave(pid, Leaving::One(m))
@@ -90,8 +90,8 @@ impl Board {
     /// Process `pid` ends (DosExit).
     pub fn exit(&mut self, pid: u32) -> Result<(), NoMemory>
         requires process { is_among pids pid ≡ true }
-        requires may { MayAsk self.old pid asks.exit }
-        ensures entry { OnOk result (Adds self.old self.new pid asks.exit) }
+        requires may { MayAsk self.old pid asks.Exit }
+        ensures entry { OnOk result (Adds self.old self.new pid asks.Exit) }
         ensures err { OnErr result (self.new ≡ self.old) }
     {
         self.leave(pid, Leaving::All)

@@ -5,7 +5,7 @@ ghost use Rattle.std.specs.Arc.{arc_value};
 ghost use Rattle.load_model.specs.Entering.{with_fresh_residences};
 ghost use Rattle.load_model.specs.Memory.{bases_seen};
 ghost use Rattle.load_model.specs.State.{Eager, pids, is_among};
-ghost use Rattle.load_model.specs.Asks as asks;
+ghost use Rattle.load_model.specs.declared.commands.Ask.TheVariants as asks;
 ghost use Rattle.mod_refs.specs.AllCounts.{AreCountsOfAll, AreKept, counts_at};
 ghost use Rattle.mod_refs.specs.Changes.{IsIdleFor, IsFullFor, with_entered};
 ghost use Rattle.residence_table.specs.Residences.{is_of_module};
@@ -176,10 +176,10 @@ impl Board {
     // The module is loaded.
     pub(crate) fn enter(&mut self, at: Entrance, arrival: Arrival) -> Result<Loaded, NoMemory>
         requires process { is_among pids at.pid ≡ true }
-        requires may { MayAsk self.old at.pid (asks.enter at.how at.«module») }
+        requires may { MayAsk self.old at.pid (asks.Enter at.how at.«module») }
         requires arrival { IsArrival self.old at arrival }
         requires fine { failing_of self.old at arrival ≡ None }
-        ensures entry { OnOk result (Adds self.old self.new at.pid (asks.enter at.how at.«module»)) }
+        ensures entry { OnOk result (Adds self.old self.new at.pid (asks.Enter at.how at.«module»)) }
         ensures answer { IfOk result (IsLoaded self.old self.new at.pid at.how at.«module») }
         ensures err { OnErr result (self.new ≡ self.old) }
     {

@@ -14,7 +14,9 @@ use Rattle.load_model.specs.declared.deeds.How.TheVariants as ways
 use Rattle.load_model.specs.Modules.{no_parts, Library, Held, module_count, number_of}
 use Rattle.load_model.specs.State.{serial_of, Residence, Process, Eager}
 use Rattle.load_model.specs.Refusals.{Purpose, write, share, debug, when, started_refusal, enter_refusal, free_refusal, span_refusal, residence_refusal, residence_named, place_refusal, refusal_of}
-use Rattle.load_model.specs.Asks.{Ask, enter, free, exit, put, patch, get, deed_of, may_ask, is_attached, is_serial}
+use Rattle.load_model.specs.declared.commands.Ask.{Ask}
+use Rattle.load_model.specs.declared.commands.Ask.TheVariants.{Enter as enter, Free as free, Exit as exit, Write as put, Debug as patch, Shared as get}
+use Rattle.load_model.specs.Asks.{deed_of, may_ask, is_attached, is_serial}
 use Rattle.load_model.specs.Step.{Answer, entry, steady, meant, serial_named, fine_answer, answer_of, ask_by, FitsPlace}
 use Rattle.load_model.specs.Accepted.{AcceptedMayAsk}
 use Rattle.load_model.proofs.Bools.{and_true}

@@ -1,4 +1,4 @@
--- While a residence stands, the bases behind it stay.
+-- While a residence stands, the bases of all that it reaches stay.
 use Rattle.std.proofs.Common.{ℕ, List, ap}
 use Rattle.lx_types.specs.declared.bases.Bases.{Bases}
 use Rattle.lx_types.specs.declared.bases.ModBases.{ModBases}

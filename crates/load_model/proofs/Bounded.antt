@@ -116,7 +116,8 @@ deed_small lib e pid (deeds.Write serial m object offset bytes) may all = writte
 deed_small lib e pid (deeds.Debug serial m object offset bytes) may all = written_small e pid serial _ classes.Private all
 deed_small lib e pid (deeds.Shared serial m object offset bytes) may all = all
 
-all_small : (lib : Library) (failing : Failing) (contents : Held) (h before : List Entry) → AllFollow lib failing contents before h → AllSmall (state_after lib failing before) → AllSmall (state_after lib failing (before ++ h))
+all_small : (lib : Library) (failing : Failing) (contents : Held) (h before : List Entry) →
+    AllFollow lib failing contents before h → AllSmall (state_after lib failing before) → AllSmall (state_after lib failing (before ++ h))
 all_small lib failing contents [] before all small = (let S : List Entry → Type 0 = λ b. AllSmall (state_after lib failing b) in subst S (sym (append-nil before)) small)
 all_small lib failing contents (x ∷ h) before all small =
     let S : List Entry → Type 0 = λ b. AllSmall (state_after lib failing b) in

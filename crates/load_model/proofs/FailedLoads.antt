@@ -13,7 +13,7 @@ use Rattle.load_model.specs.declared.deeds.Entry.{Entry}
 use Rattle.load_model.specs.Modules.{Library, object_at}
 use Rattle.load_model.specs.State.{Written, Eager, nothing_yet, with_process}
 use Rattle.load_model.specs.Entering.{NoRoom, newcomers, placing, after_entering, entering_calls}
-use Rattle.load_model.specs.Initialising.{fails_in, is_init, is_failing, failing_module, gone_again, entered, enter_by, enter_deed}
+use Rattle.load_model.specs.Initialising.{fails_in, is_init, is_failing, failing_module, failed_calls, gone_again, entered, enter_by, enter_deed}
 use Rattle.load_model.specs.Leaving.{after_leaving}
 use Rattle.load_model.specs.Asks.{deed_of, after_write, after_deed}
 use Rattle.load_model.specs.Histories.{after_entry, state_after}
@@ -69,26 +69,29 @@ module_fails e pid by cs h = step (find (is_failing e pid) cs) refl h
         ap (fails_in e.failing pid) (sym same) ∙ and_right (is_init c.kind) (fails_in e.failing pid c.«module») (found (is_failing e pid) cs c is)
 
 -- it was placed, and this module failed
-pub record WasPlaced (lib : Library) (e : Eager) (pid : ℕ) (how : How) (m by : ℕ) (r : Result (List Fresh) NoRoom) (fresh : List Fresh) (gone : List Gone) : Type 0 where
+pub record WasPlaced (lib : Library) (e : Eager) (pid : ℕ) (how : How) (m by : ℕ) (r : Result (List Fresh) NoRoom) (fresh : List Fresh) (calls : List Call) (gone : List Gone) : Type 0 where
   pub placed : r ≡ Ok fresh
   pub failed : failing_module lib e pid how m fresh ≡ Some by
+  pub called : calls ≡ failed_calls lib e pid how m by fresh
   pub ended : gone ≡ gone_again fresh
 
-failed_step : (lib : Library) (e : Eager) (pid : ℕ) (how : How) (m by : ℕ) (r : Result (List Fresh) NoRoom) (fresh : List Fresh) (calls : List Call) (gone : List Gone) →
-    deeds.Failed how m by fresh calls gone ≡ enter_by lib e pid how m r → WasPlaced lib e pid how m by r fresh gone
+pub failed_step : (lib : Library) (e : Eager) (pid : ℕ) (how : How) (m by : ℕ) (r : Result (List Fresh) NoRoom) (fresh : List Fresh) (calls : List Call) (gone : List Gone) →
+    deeds.Failed how m by fresh calls gone ≡ enter_by lib e pid how m r → WasPlaced lib e pid how m by r fresh calls gone
 failed_step lib e pid how m by (Err none) fresh calls gone h = cc
 failed_step lib e pid how m by (Ok xs) fresh calls gone h = step (failing_module lib e pid how m xs) refl h
   where
     step : (o : Option ℕ) → failing_module lib e pid how m xs ≡ o → deeds.Failed how m by fresh calls gone ≡ entered lib e pid how m xs o →
-        WasPlaced lib e pid how m by (Ok xs) fresh gone
+        WasPlaced lib e pid how m by (Ok xs) fresh calls gone
     step None is h = cc
     step (Some b) is h =
         let same : xs ≡ fresh = cc in
         let one : b ≡ by = cc in
+        let made : calls ≡ failed_calls lib e pid how m b xs = cc in
         let last : gone ≡ gone_again xs = cc in
         record {
           placed = ap Ok same;
           failed = ap (failing_module lib e pid how m) (sym same) ∙ is ∙ ap Some one;
+          called = made ∙ ap (failed_calls lib e pid how m b) same ∙ ap (λ n. failed_calls lib e pid how m n fresh) one;
           ended = last ∙ ap gone_again same;
         }
 
@@ -96,11 +99,13 @@ pub failed_leaves_nothing : FailedLeavesNothing
 unfolding after_deed deed_of enter_deed placing failing_module
 failed_leaves_nothing lib failing contents h pid how m by fresh calls gone follows =
     let e : Eager = state_after lib failing h in
-    let was : WasPlaced lib e pid how m by (placing lib e pid m) fresh gone = failed_step lib e pid how m by (placing lib e pid m) fresh calls gone follows.done in
+    let was : WasPlaced lib e pid how m by (placing lib e pid m) fresh calls gone = failed_step lib e pid how m by (placing lib e pid m) fresh calls gone follows.done in
     record {
       failed = ap (λ f. fails_in f pid by) (sym (failing_stays lib failing h)) ∙ module_fails e pid by (entering_calls lib e pid how m fresh) was.failed;
       began = fresh_modules lib (newcomers lib e pid m) e.serials _ fresh was.placed;
       ended = was.ended;
       residences = refl;
       processes = refl;
+      numbers = refl;
+      pairs = refl;
     }

@@ -38,7 +38,8 @@ serials_grow lib e pid (deeds.Failed how m by fresh calls gone) = omega arith
 serials_grow lib e pid (deeds.Free m calls gone) = omega arith
 serials_grow lib e pid (deeds.Exit calls gone) = omega arith
 serials_grow lib e pid (deeds.Fault serial m p) = omega arith
-serials_grow lib e pid (deeds.Write serial m object offset bytes) = (let same = written_serials e pid serial (record { object = object; offset = offset; bytes = bytes }) (class_of (object_at lib m object)) in omega (arith, same))
+serials_grow lib e pid (deeds.Write serial m object offset bytes) =
+    (let same = written_serials e pid serial (record { object = object; offset = offset; bytes = bytes }) (class_of (object_at lib m object)) in omega (arith, same))
 serials_grow lib e pid (deeds.Debug serial m object offset bytes) = (let same = written_serials e pid serial (record { object = object; offset = offset; bytes = bytes }) classes.Private in omega (arith, same))
 serials_grow lib e pid (deeds.Shared serial m object offset bytes) = omega arith
 
@@ -77,7 +78,8 @@ attached_below lib e pid serial m high h at = step (reaches lib (e.processes pid
 
 -- ---- one entry
 
-fault_below : (lib : Library) (e : Eager) (pid serial high : ℕ) (p : PageId) (d : Deed) → Rise 0 (map (λ x. x.serial) e.residences) high → may_ask lib e pid (ask_in d) ≡ true → is_fault_of serial p d ≡ true → serial ≤ high
+fault_below : (lib : Library) (e : Eager) (pid serial high : ℕ) (p : PageId) (d : Deed) →
+    Rise 0 (map (λ x. x.serial) e.residences) high → may_ask lib e pid (ask_in d) ≡ true → is_fault_of serial p d ≡ true → serial ≤ high
 unfolding may_ask
 fault_below lib e pid serial high p (deeds.Fault other m q) h may is =
     let same : other ≡ serial = eqb-true other serial (and_left _ _ is) in
@@ -112,7 +114,8 @@ given_more lib failing contents h x legal follows given serial p is =
     in
     omega arith
 
-all_given : (lib : Library) (failing : Failing) (contents : Held) (h before : List Entry) → AllFollow lib failing contents before h → Legal lib failing contents before → Given lib failing before → Given lib failing (before ++ h)
+all_given : (lib : Library) (failing : Failing) (contents : Held) (h before : List Entry) →
+    AllFollow lib failing contents before h → Legal lib failing contents before → Given lib failing before → Given lib failing (before ++ h)
 all_given lib failing contents [] before all legal given = (let G : List Entry → Type 0 = Given lib failing in subst G (sym (append-nil before)) given)
 all_given lib failing contents (x ∷ h) before all legal given =
     let G : List Entry → Type 0 = Given lib failing in

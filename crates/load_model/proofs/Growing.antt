@@ -9,7 +9,8 @@ use Rattle.load_model.specs.declared.deeds.Deed.{Deed}
 use Rattle.load_model.specs.declared.deeds.Deed.TheVariants as deeds
 use Rattle.load_model.specs.declared.deeds.Entry.{Entry}
 use Rattle.load_model.specs.Modules.{Library, Held}
-use Rattle.load_model.specs.Asks.{Ask, deed_of}
+use Rattle.load_model.specs.declared.commands.Ask.{Ask}
+use Rattle.load_model.specs.Asks.{deed_of}
 use Rattle.load_model.specs.Memory.{is_page}
 use Rattle.load_model.specs.Histories.{state_after, is_fault_of, is_first_fault, has_fault, Follows, AllFollow, Legal}
 use Rattle.load_model.proofs.Bools.{and_left, and_right}
@@ -32,7 +33,8 @@ pub each_follows : EachFollows
 unfolding Legal
 each_follows lib failing contents before entry behind all = (rest_follow lib failing contents [] before (entry ∷ behind) all).0
 
-joined_follow : (lib : Library) (failing : Failing) (contents : Held) (before h more : List Entry) → AllFollow lib failing contents before h → AllFollow lib failing contents (before ++ h) more → AllFollow lib failing contents before (h ++ more)
+joined_follow : (lib : Library) (failing : Failing) (contents : Held) (before h more : List Entry) →
+    AllFollow lib failing contents before h → AllFollow lib failing contents (before ++ h) more → AllFollow lib failing contents before (h ++ more)
 joined_follow lib failing contents before [] more all others = subst (λ b. AllFollow lib failing contents b more) (append-nil before) others
 joined_follow lib failing contents before (x ∷ h) more all others =
     (all.0, joined_follow lib failing contents (before ++ x ∷ []) h more all.1 (subst (λ b. AllFollow lib failing contents b more) (sym (append_assoc before (x ∷ []) h)) others))

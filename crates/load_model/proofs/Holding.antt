@@ -17,7 +17,9 @@ use Rattle.load_model.specs.Modules.{Library, Held, number_of, objects_of, objec
 use Rattle.load_model.specs.State.{Failing, Residence, Eager, is_among, pids, reaches, is_reached, attached_residence}
 use Rattle.load_model.specs.Memory.{writes_seen, last_put, Byte, Bytes}
 use Rattle.load_model.specs.Refusals.{Purpose, peek, share, when, is_outside, span_refusal, residence_refusal, residence_if, residence_named, place_refusal, refusal_of}
-use Rattle.load_model.specs.Asks.{Ask, enter, free, exit, fault, put, patch, get, ask_in, bytes_at, deed_of, may_ask, may_use}
+use Rattle.load_model.specs.declared.commands.Ask.{Ask}
+use Rattle.load_model.specs.declared.commands.Ask.TheVariants.{Enter as enter, Free as free, Exit as exit, Fault as fault, Write as put, Debug as patch, Shared as get}
+use Rattle.load_model.specs.Asks.{ask_in, bytes_at, deed_of, may_ask, may_use}
 use Rattle.load_model.specs.Step.{Answer, entry, steady, meant, bytes_of, serial_named, fine_answer, answer_of}
 use Rattle.load_model.specs.Histories.{state_after, Follows, AllFollow, Legal}
 use Rattle.load_model.specs.Laws.{AgreeAt, HeldAnswersAlike, HeldHistoriesAlike}

@@ -181,7 +181,8 @@ deed_good lib e pid (deeds.Write serial m object offset bytes) may all = written
 deed_good lib e pid (deeds.Debug serial m object offset bytes) may all = written_good lib e pid serial _ classes.Private all
 deed_good lib e pid (deeds.Shared serial m object offset bytes) may all = all
 
-all_good : (lib : Library) (failing : Failing) (contents : Held) (h before : List Entry) → AllFollow lib failing contents before h → AllGood lib (state_after lib failing before) → AllGood lib (state_after lib failing (before ++ h))
+all_good : (lib : Library) (failing : Failing) (contents : Held) (h before : List Entry) →
+    AllFollow lib failing contents before h → AllGood lib (state_after lib failing before) → AllGood lib (state_after lib failing (before ++ h))
 all_good lib failing contents [] before all good = (let S : List Entry → Type 0 = λ b. AllGood lib (state_after lib failing b) in subst S (sym (append-nil before)) good)
 all_good lib failing contents (x ∷ h) before all good =
     let S : List Entry → Type 0 = λ b. AllGood lib (state_after lib failing b) in

@@ -162,7 +162,8 @@ deed_stands lib contents e pid (deeds.Shared serial m object offset bytes) is h 
 
 -- ---- all of them
 
-all_stand : (lib : Library) (failing : Failing) (contents : Held) (h before : List Entry) → AllFollow lib failing contents before h → AllStand lib (state_after lib failing before).residences → AllStand lib (state_after lib failing (before ++ h)).residences
+all_stand : (lib : Library) (failing : Failing) (contents : Held) (h before : List Entry) → AllFollow lib failing contents before h →
+    AllStand lib (state_after lib failing before).residences → AllStand lib (state_after lib failing (before ++ h)).residences
 all_stand lib failing contents [] before all stand = (let S : List Entry → Type 0 = λ b. AllStand lib (state_after lib failing b).residences in subst S (sym (append-nil before)) stand)
 all_stand lib failing contents (x ∷ h) before all stand =
     let S : List Entry → Type 0 = λ b. AllStand lib (state_after lib failing b).residences in

@@ -57,7 +57,8 @@ done_by lib failing contents h x f = record { there = f.process; may = f.may; is
 
 -- ---- along a history
 
-all_kept : (lib : Library) (failing : Failing) (contents : Held) (before h : List Entry) → AllFollow lib failing contents before h → Kept lib (state_after lib failing before) → Kept lib (state_after lib failing (before ++ h))
+all_kept : (lib : Library) (failing : Failing) (contents : Held) (before h : List Entry) →
+    AllFollow lib failing contents before h → Kept lib (state_after lib failing before) → Kept lib (state_after lib failing (before ++ h))
 all_kept lib failing contents before [] all kept = subst (λ b. Kept lib (state_after lib failing b)) (sym (append-nil before)) kept
 all_kept lib failing contents before (x ∷ h) all kept =
     let next : Kept lib (state_after lib failing (before ++ x ∷ [])) =

@@ -15,7 +15,9 @@ use Rattle.load_model.specs.Initialising.{failing_module, failed_calls, enter_de
 use Rattle.load_model.specs.Leaving.{left, gone_modules, gone, gone_of, term_of, leaving_calls, freeing, exiting}
 use Rattle.load_model.specs.Memory.{writes_of_class, last_put, bases_seen, writes_seen, Byte, Bytes}
 use Rattle.load_model.specs.Refusals.{enter_refusal, module_refusal}
-use Rattle.load_model.specs.Asks.{bytes_at, Ask, enter, free, exit, fault, put, patch, get, deed_of, may_ask}
+use Rattle.load_model.specs.declared.commands.Ask.{Ask}
+use Rattle.load_model.specs.declared.commands.Ask.TheVariants.{Enter as enter, Free as free, Exit as exit, Fault as fault, Write as put, Debug as patch, Shared as get}
+use Rattle.load_model.specs.Asks.{bytes_at, deed_of, may_ask}
 use Rattle.load_model.specs.Accepted.{retouched, TouchedIsApart}
 use Rattle.load_model.proofs.Among.{any_same}
 

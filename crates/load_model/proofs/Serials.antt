@@ -136,7 +136,8 @@ deed_rises lib contents e pid (deeds.Write serial m object offset bytes) is h = 
 deed_rises lib contents e pid (deeds.Debug serial m object offset bytes) is h = written_rises e pid serial _ classes.Private h
 deed_rises lib contents e pid (deeds.Shared serial m object offset bytes) is h = h
 
-all_rise : (lib : Library) (failing : Failing) (contents : Held) (before h : List Entry) → AllFollow lib failing contents before h → Rising (state_after lib failing before) → Rising (state_after lib failing (before ++ h))
+all_rise : (lib : Library) (failing : Failing) (contents : Held) (before h : List Entry) →
+    AllFollow lib failing contents before h → Rising (state_after lib failing before) → Rising (state_after lib failing (before ++ h))
 all_rise lib failing contents before [] all r = subst (λ b. Rising (state_after lib failing b)) (sym (append-nil before)) r
 all_rise lib failing contents before (x ∷ h) all r =
     let next : Rising (state_after lib failing (before ++ x ∷ [])) =

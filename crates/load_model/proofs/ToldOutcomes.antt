@@ -17,7 +17,9 @@ use Rattle.load_model.specs.State.{Residence, Eager, attached_residence}
 use Rattle.load_model.specs.Entering.{NoRoom, placing}
 use Rattle.load_model.specs.Initialising.{failing_module, entered, enter_by, enter_deed}
 use Rattle.load_model.specs.Memory.{Byte, Bytes}
-use Rattle.load_model.specs.Asks.{Ask, enter, free, exit, fault, put, patch, get, ask_in, bytes_at, deed_of, is_serial, may_ask}
+use Rattle.load_model.specs.declared.commands.Ask.{Ask}
+use Rattle.load_model.specs.declared.commands.Ask.TheVariants.{Enter as enter, Free as free, Exit as exit, Fault as fault, Write as put, Debug as patch, Shared as get}
+use Rattle.load_model.specs.Asks.{ask_in, bytes_at, deed_of, is_serial, may_ask}
 use Rattle.load_model.specs.Step.{Answer, steady, fine_answer, answer_of, ask_by}
 use Rattle.load_model.specs.Histories.{state_after, is_first_fault}
 use Rattle.load_model.specs.Accepted.{retouched, AcceptedFollows}

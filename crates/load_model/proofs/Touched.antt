@@ -20,7 +20,8 @@ use Rattle.load_model.specs.Entering.{joined, holding, attaching, with_fresh_res
 use Rattle.load_model.specs.Leaving.{freeing, exiting, left, keeping, after_leaving}
 use Rattle.load_model.specs.Memory.{page, pages_over, first_untouched, writing}
 use Rattle.load_model.specs.Refusals.{Purpose, touch, write, share, peek, debug, ◌orelse◌, when, module_refusal, enter_refusal, free_refusal, span_refusal, touch_refusal, residence_refusal, residence_if, residence_named, place_refusal, key_refusal, query_refusal, found_refusal, resource_refusal, refusal_of}
-use Rattle.load_model.specs.Asks.{enter, free, exit, put, patch, get, deed_of, after_write, after_deed}
+use Rattle.load_model.specs.declared.commands.Ask.TheVariants.{Enter as enter, Free as free, Exit as exit, Write as put, Debug as patch, Shared as get}
+use Rattle.load_model.specs.Asks.{deed_of, after_write, after_deed}
 use Rattle.load_model.specs.Step.{entry, steady, meant, spot_address, address_of, bytes_of, serial_named, fine_answer}
 use Rattle.load_model.specs.Accepted.{retouched}
 use Rattle.load_model.specs.Touched.{SamePages, AnsweredByPages, EntriesMoveTouched}

@@ -45,7 +45,8 @@ abbrev filter_object : ℕ → List Written → List Written
 filter_object object ws = filter (λ w. w.object == object) ws
 
 byte_same : (lib : Library) (contents : Held) (e after : Eager) (q : ℕ) (r : Residence) (object x : ℕ) →
-    ((c : Class) → writes_of_class c (after.processes q) r ≡ writes_of_class c (e.processes q) r) → bases_seen lib after r.«module» ≡ bases_seen lib e r.«module» → Byte lib contents e q r object x ≡ Byte lib contents after q r object x
+    ((c : Class) → writes_of_class c (after.processes q) r ≡ writes_of_class c (e.processes q) r) →
+    bases_seen lib after r.«module» ≡ bases_seen lib e r.«module» → Byte lib contents e q r object x ≡ Byte lib contents after q r object x
 unfolding Byte writes_seen
 byte_same lib contents e after q r object x writes bases =
     let F : List Written → Bases → ℕ = λ ws bs. last_put ws x (contents r.«module» bs object x) in
@@ -54,7 +55,8 @@ byte_same lib contents e after q r object x writes bases =
     ∙ ap (F (filter_object object (writes_of_class (class_of (object_at lib r.«module» object)) (e.processes q) r))) bases)
 
 lying_same : (c : Class) (lib : Library) (contents : Held) (e after : Eager) (q : ℕ) (r : Residence) (object x : ℕ) →
-    ((c : Class) → writes_of_class c (after.processes q) r ≡ writes_of_class c (e.processes q) r) → bases_seen lib after r.«module» ≡ bases_seen lib e r.«module» → lying_byte c lib contents e q r object x ≡ lying_byte c lib contents after q r object x
+    ((c : Class) → writes_of_class c (after.processes q) r ≡ writes_of_class c (e.processes q) r) →
+    bases_seen lib after r.«module» ≡ bases_seen lib e r.«module» → lying_byte c lib contents e q r object x ≡ lying_byte c lib contents after q r object x
 lying_same classes.Code lib contents e after q r object x writes bases = byte_same lib contents e after q r object x writes bases
 lying_same classes.Private lib contents e after q r object x writes bases = byte_same lib contents e after q r object x writes bases
 lying_same classes.Shared lib contents e after q r object x writes bases = ap (λ bs. contents r.«module» bs object x) (sym bases)
@@ -114,7 +116,8 @@ pages_same : (lib : Library) (contents : Held) (e after : Eager) (q : ℕ) (ps :
     AllByRecursion (IsMapped lib contents e q) ps → AllByRecursion (IsMapped lib contents after q) ps
 pages_same lib contents e after q [] writes grows bases all = tt
 pages_same lib contents e after q (p ∷ ps) writes grows bases all = (
-  page_same lib contents e after q p all.0 (λ c. class_same c (after.processes q) (e.processes q) all.0.residence writes) (grows all.0.residence.«module» all.0.residence all.0.there) (bases all.0.residence.«module» all.0.residence all.0.there),
+  page_same lib contents e after q p all.0 (λ c. class_same c (after.processes q) (e.processes q) all.0.residence writes)
+      (grows all.0.residence.«module» all.0.residence all.0.there) (bases all.0.residence.«module» all.0.residence all.0.there),
   pages_same lib contents e after q ps writes grows bases all.1,
 )
 

@@ -5,7 +5,8 @@ use Rattle.load_model.specs.declared.deeds.Entry.{Entry}
 use Rattle.load_model.specs.Modules.{Library, Held}
 use Rattle.load_model.specs.State.{PageOf, Failing, Eager, pids, is_among}
 use Rattle.load_model.specs.Refusals.{refusal_of}
-use Rattle.load_model.specs.Asks.{Ask, deed_of, may_ask}
+use Rattle.load_model.specs.declared.commands.Ask.{Ask}
+use Rattle.load_model.specs.Asks.{deed_of, may_ask}
 use Rattle.load_model.specs.Histories.{state_after, Follows}
 use Rattle.load_model.specs.Step.{entry, answer_of, ask_by, FitsPlace}
 

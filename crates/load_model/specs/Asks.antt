@@ -1,11 +1,13 @@
--- What an entry asks of the loader, and what the loader does then.
+-- What an entry asks of the loader, and what the loader does then. Asks have names of their own here: a write and a
+-- debugger's write are `put` and `patch`, a read of shared bytes is `get`; their deeds are Write, Debug and Shared.
 use Rattle.std.specs.Prelude.{ℕ, ◌*◌, ◌==◌, ◌&&◌, not, Bool, true, false, List, [], map, length, Option, Some, None, is_none, nat_lt}
 use Rattle.lx_types.specs.Object.{class_of}
 use Rattle.lx_types.specs.declared.object.Class.{Class}
 use Rattle.lx_types.specs.declared.object.Class.TheVariants as classes
 use Rattle.lx_types.specs.declared.object.PageId.{PageId}
 use Rattle.lx_types.specs.declared.object.TheConstants.{PAGE_SIZE}
-use Rattle.load_model.specs.declared.deeds.How.{How}
+use Rattle.load_model.specs.declared.commands.Ask.{Ask}
+use Rattle.load_model.specs.declared.commands.Ask.TheVariants.{Enter as enter, Free as free, Exit as exit, Fault as fault, Write as put, Debug as patch, Shared as get}
 use Rattle.load_model.specs.declared.deeds.Deed.{Deed}
 use Rattle.load_model.specs.declared.deeds.Deed.TheVariants.{Enter, Full, Failed, Free, Exit, Fault, Write, Debug, Shared}
 use Rattle.load_model.specs.Modules.{Library, Held, module_count, object_at}
@@ -15,17 +17,6 @@ use Rattle.load_model.specs.Initialising.{enter_deed, after_failing}
 use Rattle.load_model.specs.Leaving.{freeing, exiting, leaving_calls, gone, after_leaving}
 use Rattle.load_model.specs.Memory.{Bytes, writing, with_write}
 use Rattle.load_model.specs.Refusals.{Purpose, write, share, touch, debug, enter_refusal, free_refusal, span_refusal}
-
--- A start or a load of a module; a free of one; an exit; a page's first touch; bytes to write; bytes to write
--- to code; a length of bytes to read. Residences are asked for by serial number.
-pub data Ask : Type 0 where
-  enter : How → ℕ → Ask
-  free : ℕ → Ask
-  exit : Ask
-  fault : ℕ → ℕ → PageId → Ask
-  put : ℕ → ℕ → ℕ → ℕ → List ℕ → Ask
-  patch : ℕ → ℕ → ℕ → ℕ → List ℕ → Ask
-  get : ℕ → ℕ → ℕ → ℕ → ℕ → Ask
 
 abbrev pub ask_in : Deed → Ask
 ask_in (Enter how m fresh calls) = enter how m

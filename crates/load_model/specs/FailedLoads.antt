@@ -1,5 +1,5 @@
 -- What is left of a load whose initialisation fails.
-use Rattle.std.specs.Prelude.{◌≡◌, ℕ, true, List, map}
+use Rattle.std.specs.Prelude.{◌≡◌, ◌+◌, ℕ, true, List, length, map}
 use Rattle.load_model.specs.declared.deeds.How.{How}
 use Rattle.load_model.specs.declared.deeds.Call.{Call}
 use Rattle.load_model.specs.declared.deeds.Fresh.{Fresh}
@@ -29,6 +29,9 @@ pub record LeavesNothing (lib : Library) (failing : Failing) (e after : Eager) (
   -- residences and processes are as they were
   pub residences : after.residences ≡ e.residences
   pub processes : after.processes ≡ e.processes
+  -- what is left is that numbers were given, and nothing else
+  pub numbers : after.serials ≡ e.serials + length fresh
+  pub pairs : after.failing ≡ e.failing
 
 abbrev pub FailedLeavesNothing : Type 0
 FailedLeavesNothing =

@@ -16,7 +16,8 @@ use Rattle.load_model.specs.State.{PageOf, Failing, Eager, Residence, pids, is_a
 use Rattle.load_model.specs.Refusals.{refusal_of}
 use Rattle.load_model.specs.Step.{answer_of}
 use Rattle.load_model.specs.Accepted.{retouched}
-use Rattle.load_model.specs.Asks.{Ask, ask_in}
+use Rattle.load_model.specs.declared.commands.Ask.{Ask}
+use Rattle.load_model.specs.Asks.{ask_in}
 use Rattle.load_model.specs.Histories.{after_entry, state_after, is_fault_of, has_fault, Follows, Legal}
 
 -- ---- histories

@@ -18,6 +18,8 @@ pub mod WorkedBytes
 pub mod WorkedRefusals
 pub mod WorkedCycles
 pub mod WorkedFailures
+pub mod WorkedChains
+pub mod WorkedOrder
 pub mod WorkedDebug
 pub mod WorkedResources
 pub mod Alike
@@ -37,4 +39,6 @@ pub mod HeldWrites
 pub mod Outcomes
 pub mod Bounds
 pub mod FailedLoads
+pub mod FailedCalls
+pub mod Causes
 pub mod WorkedViews

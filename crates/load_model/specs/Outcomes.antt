@@ -15,7 +15,8 @@ use Rattle.load_model.specs.declared.deeds.Deed.TheVariants as deeds
 use Rattle.load_model.specs.Modules.{Library, Held, number_of}
 use Rattle.load_model.specs.State.{Eager}
 use Rattle.load_model.specs.Refusals.{refusal_of}
-use Rattle.load_model.specs.Asks.{Ask, deed_of}
+use Rattle.load_model.specs.declared.commands.Ask.{Ask}
+use Rattle.load_model.specs.Asks.{deed_of}
 use Rattle.load_model.specs.Step.{Answer, entry, steady, meant, answer_of, ask_by, FitsPlace}
 
 -- That it is done, with the number of its entry in the history, from 1; or a reply.

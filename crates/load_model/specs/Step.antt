@@ -13,7 +13,9 @@ use Rattle.load_model.specs.Modules.{Spot, EntryFault, Library, Held, number_of,
 use Rattle.load_model.specs.State.{Residence, Eager, with_process, residence_of, serial_of, bases_of}
 use Rattle.load_model.specs.Memory.{Bytes, touching}
 use Rattle.load_model.specs.Refusals.{refusal_of, residence_named}
-use Rattle.load_model.specs.Asks.{Ask, enter, free, exit, put, patch, get, deed_of, after_deed}
+use Rattle.load_model.specs.declared.commands.Ask.{Ask}
+use Rattle.load_model.specs.declared.commands.Ask.TheVariants.{Enter as enter, Free as free, Exit as exit, Write as put, Debug as patch, Shared as get}
+use Rattle.load_model.specs.Asks.{deed_of, after_deed}
 
 -- A command gives an entry of the history, or is answered without one: touches, peeks, queries, searches for
 -- resources and what is refused are steady, since nothing that others do can change the answer.

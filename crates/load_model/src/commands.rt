@@ -3,7 +3,8 @@
 ghost use Rattle.std.specs.Prelude.{◌↔◌, IsTrue};
 ghost use Rattle.load_model.specs.Places.{LiesInPage};
 
-use lx_types::{Bytes, EntryKey, Name, PAGE_SIZE, ResSpot};
+use crate::deeds::How;
+use lx_types::{Bytes, EntryKey, Name, PAGE_SIZE, PageId, ResSpot};
 
 /// `len` bytes of an object of a module, from `offset` on. Objects count from 1.
 #[derive(Drop)]
@@ -48,6 +49,52 @@ pub enum Command {
     GetRes(Name, u16, u16),
     /// Ends the process (DosExit).
     Exit,
+}
+
+/// What a command that has an entry asks of the loader. A residence is asked for by its serial number and its module.
+#[derive(Drop)]
+pub enum Ask {
+    /// Starts a program or loads a library.
+    Enter {
+        how: How,
+        module: u32,
+    },
+    /// Gives up one load of a module.
+    Free {
+        module: u32,
+    },
+    /// Ends the process.
+    Exit,
+    /// Claims a page, which has its fault then.
+    Fault {
+        serial: u64,
+        module: u32,
+        page: PageId,
+    },
+    /// Writes bytes to private or shared data.
+    Write {
+        serial: u64,
+        module: u32,
+        object: u32,
+        offset: u32,
+        bytes: Bytes,
+    },
+    /// Writes bytes to code, for the process alone.
+    Debug {
+        serial: u64,
+        module: u32,
+        object: u32,
+        offset: u32,
+        bytes: Bytes,
+    },
+    /// Reads bytes that all processes share.
+    Shared {
+        serial: u64,
+        module: u32,
+        object: u32,
+        offset: u32,
+        len: u32,
+    },
 }
 
 /// Why a command was refused.

@@ -4,6 +4,8 @@
 ghost use Rattle.load_model.specs.Laws.{AsksDecide, PrefixIsLegal, EachFollows, OneMoreIsLegal, NothingIsLegal, OneMoreIsAfter, FaultOnce, ReachedIsResident, AttachedIsReached, GoneIsUnreached, ResidenceStays, ReachStays, OthersRefuseAlike, OthersAnswerAlike, OthersBytesAlike, HeldAnswersAlike, HeldHistoriesAlike, CountsAreResidence};
 ghost use Rattle.load_model.specs.Accepted.{AcceptedMayAsk, TouchedIsApart, AcceptedFollows};
 ghost use Rattle.load_model.specs.FailedLoads.{FailingStays, FailedLeavesNothing};
+ghost use Rattle.load_model.specs.FailedCalls.{FailedCallsTold};
+ghost use Rattle.load_model.specs.Causes.{FirstCauseCounts};
 ghost use Rattle.load_model.specs.Serials.{SerialsRise, SerialsAreOwn, FaultsAreGiven};
 ghost use Rattle.load_model.specs.Fitness.{ReachedIsFit, FitnessIsClosed};
 ghost use Rattle.load_model.specs.ResidenceBases.{BasesStand, ResidentsFit};
@@ -48,11 +50,18 @@ pub fn gone_is_unreached()
     ensures { GoneIsUnreached }
 {}
 
+/// Each command has a list of causes for which it is refused, and the first that holds is its refusal.
+pub fn first_causes_count()
+    ensures { FirstCauseCounts }
+{}
+
 /// Which initialisations fail is fixed from the start; and what begins with a load that fails ends with it, while
-/// residences and processes stay as they were.
+/// residences and processes stay as they were. It calls what it would have called up to the first that fails, and
+/// then terminates what it had attached before that, the last first.
 pub fn failed_loads_leave_nothing()
     ensures fixed { FailingStays }
     ensures nothing { FailedLeavesNothing }
+    ensures called { FailedCallsTold }
 {}
 
 /// A residence whose module is still reached stands as it was; and while one stands, so do those of all

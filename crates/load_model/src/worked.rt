@@ -5,6 +5,8 @@ ghost use Rattle.load_model.specs.WorkedLoads.{WorkedDiamond, WorkedPlaces, Work
 ghost use Rattle.load_model.specs.WorkedBytes.{WorkedWrites};
 ghost use Rattle.load_model.specs.WorkedCycles.{WorkedCycles};
 ghost use Rattle.load_model.specs.WorkedFailures.{WorkedFailures};
+ghost use Rattle.load_model.specs.WorkedChains.{WorkedChains, WorkedTwoFail};
+ghost use Rattle.load_model.specs.WorkedOrder.{WorkedEnterOrder, WorkedEnded, WorkedPlaceOrder};
 ghost use Rattle.load_model.specs.WorkedDebug.{WorkedDebug};
 ghost use Rattle.load_model.specs.WorkedResources.{WorkedResources};
 ghost use Rattle.load_model.specs.WorkedSteps.{WorkedSteps};
@@ -54,6 +56,19 @@ pub fn cycles_load()
 /// Initialisations that fail: what is called then, and what is left.
 pub fn initialisations_fail()
     ensures { WorkedFailures }
+{}
+
+/// A chain of four one of whose members fails, with what stood before, and two that fail in one load.
+pub fn chains_are_undone()
+    ensures chains { WorkedChains }
+    ensures two { WorkedTwoFail }
+{}
+
+/// Of two causes to refuse a command, which one it is told.
+pub fn refusals_are_ordered()
+    ensures enter { WorkedEnterOrder }
+    ensures ended { WorkedEnded }
+    ensures places { WorkedPlaceOrder }
 {}
 
 /// Who sees a write to code, and when it ends.

@@ -34,7 +34,8 @@ at_reads width bound object e is h =
 gate_reads : (object : ℕ) (e : GateEntry) → GateFits e → ReadsAs (gate_entry object) (gate_spelling e) (Gate286 object e.offset)
 unfolding gate_entry
 gate_reads object e h =
-    bind_reads (number 1) (λ flags. number 2 flags.1 >>= λ offset. number 2 offset.1 >>= λ gate. Ok (Gate286 object offset.0, gate.1)) (e.flags ∷ []) (little_bytes 2 e.offset ++ little_bytes 2 e.gate) e.flags (Gate286 object e.offset)
+    bind_reads (number 1) (λ flags. number 2 flags.1 >>= λ offset. number 2 offset.1 >>= λ gate. Ok (Gate286 object offset.0, gate.1))
+    (e.flags ∷ []) (little_bytes 2 e.offset ++ little_bytes 2 e.gate) e.flags (Gate286 object e.offset)
     (byte_reads e.flags h.flags)
     (bind_reads (number 2) (λ offset. number 2 offset.1 >>= λ gate. Ok (Gate286 object offset.0, gate.1)) (little_bytes 2 e.offset) (little_bytes 2 e.gate) e.offset (Gate286 object e.offset)
     (number_reads 2 e.offset h.offset)
@@ -52,7 +53,8 @@ forward_reads imports e h at rest =
     (e.flags ∷ []) (little_bytes 2 e.import ++ little_bytes 4 e.key) e.flags head (byte_reads e.flags h.flags)
     (bind_reads (number 2) (λ import. cond (not (names_one_of imports import.0)) (Err wrong) (number 4 import.1 >>= λ key. Ok (Forward import.0 (forward_key e.flags key.0), key.1)))
     (little_bytes 2 e.import) (little_bytes 4 e.key) e.import head (number_reads 2 e.import h.import)
-    (λ at' rest'. other (not (names_one_of imports e.import)) (Err wrong) (number 4 (cursor at' (little_bytes 4 e.key ++ rest')) >>= λ key. Ok (Forward e.import (forward_key e.flags key.0), key.1)) (names imports e.import h.there)
+    (λ at' rest'. other (not (names_one_of imports e.import)) (Err wrong)
+    (number 4 (cursor at' (little_bytes 4 e.key ++ rest')) >>= λ key. Ok (Forward e.import (forward_key e.flags key.0), key.1)) (names imports e.import h.there)
     ∙ done_reads (number 4) (λ key. Forward e.import (forward_key e.flags key)) (little_bytes 4 e.key) e.key (number_reads 4 e.key h.key) at' rest')) at rest
 
 -- ---- the entries of a bundle
@@ -75,7 +77,8 @@ object_read objects bad n ordinal object read bytes es fits behind =
     (number_reads 2 object fits.1)
     (λ at rest. other (not (names_one_of objects object)) (Err (fault kinds.EntryTable bad)) (bundle_entries n ordinal (read object) (cursor at (bytes ++ rest))) (names objects object fits.0) ∙ behind at rest)
 
-body_reads : (objects imports bad ordinal : ℕ) (b : Bundle) → BodyFits objects imports b → ReadsAs (bundle_of_type (type_of b) objects imports bad (ordinal_count b) ordinal) (body_spelling b) (enumerate_from ordinal (heads_of b))
+body_reads : (objects imports bad ordinal : ℕ) (b : Bundle) → BodyFits objects imports b →
+    ReadsAs (bundle_of_type (type_of b) objects imports bad (ordinal_count b) ordinal) (body_spelling b) (enumerate_from ordinal (heads_of b))
 unfolding bundle_of_type
 body_reads objects imports bad ordinal (unused n) h at rest = let end : at + 0 ≡ at = omega arith in rw end refl
 body_reads objects imports bad ordinal (narrow object es) h at rest =
@@ -88,7 +91,8 @@ body_reads objects imports bad ordinal (wide object es) h at rest =
     object_read objects bad (length es) ordinal object (at_entry 4) (flat_map (at_spelling 4) es) (enumerate_from ordinal (map (λ e. At object e.offset) es)) h.0
     (entries_read (AtFits (2 ^ 32)) (at_spelling 4) (λ e. At object e.offset) (at_entry 4 object) es ordinal (λ e fits. at_reads 4 (2 ^ 32) object e refl fits) h.1) at rest
 body_reads objects imports bad ordinal (forwarders reserved es) h at rest =
-    bind_reads (number 2) (λ word. bundle_entries (length es) ordinal (forward_entry imports) word.1) (little_bytes 2 reserved) (flat_map forward_spelling es) reserved (enumerate_from ordinal (map (λ e. Forward e.import (forward_key e.flags e.key)) es))
+    bind_reads (number 2) (λ word. bundle_entries (length es) ordinal (forward_entry imports) word.1)
+    (little_bytes 2 reserved) (flat_map forward_spelling es) reserved (enumerate_from ordinal (map (λ e. Forward e.import (forward_key e.flags e.key)) es))
     (number_reads 2 reserved h.0)
     (entries_read (ForwardFits imports) forward_spelling (λ e. Forward e.import (forward_key e.flags e.key)) (forward_entry imports) es ordinal (λ e fits. forward_reads imports e fits) h.1) at rest
 
@@ -131,7 +135,9 @@ bundle_reads objects imports last b fits room at rest =
 
 end_reads : (objects imports last : ℕ) → ReadsAs (bundle_at objects imports last) (0 ∷ []) None
 unfolding bundle_at
-end_reads objects imports last at rest = then_ok (number 1 (cursor at (0 ∷ rest))) (behind_count objects imports last at) (0, cursor (at + 1) rest) (Ok (None, cursor (at + 1) rest)) (byte_reads 0 (omega arith) at rest) refl
+end_reads objects imports last at rest =
+    then_ok (number 1 (cursor at (0 ∷ rest)))
+    (behind_count objects imports last at) (0, cursor (at + 1) rest) (Ok (None, cursor (at + 1) rest)) (byte_reads 0 (omega arith) at rest) refl
 
 pub regroup : (a b c d : List ℕ) → ((a ++ b) ++ c) ++ d ≡ a ++ ((b ++ c) ++ d)
 regroup a b c d = simp append_assoc
@@ -152,7 +158,8 @@ bundles_read objects imports (b ∷ bs) last at rest fits room =
     let bytes = bundle_spelling b in
     let tail = table_spelling bs ++ rest in
     let es = enumerate_from (last + 1) (heads_of b) in
-    let together = more_whole (bundle_at objects imports) (bundle_shortens objects imports) last (cursor at (bytes ++ tail)) (cursor (at + length bytes) tail) (es, last + ordinal_count b) (each_after (last + ordinal_count b) bs) rest
+    let together = more_whole (bundle_at objects imports) (bundle_shortens objects imports) last
+    (cursor at (bytes ++ tail)) (cursor (at + length bytes) tail) (es, last + ordinal_count b) (each_after (last + ordinal_count b) bs) rest
     (bundle_reads objects imports last b fits.0 (omega arith) at tail)
     (bundles_read objects imports bs (last + ordinal_count b) (at + length bytes) rest fits.1 (omega arith)) in
     subst (λ (x : List ℕ). Whole (many (bundle_at objects imports) last (cursor at x)) (es ∷ each_after (last + ordinal_count b) bs) rest) (sym (regroup bytes (flat_map bundle_spelling bs) (0 ∷ []) rest)) together

@@ -31,7 +31,8 @@ pub record EntryTaken {E : Type 0} (Fits : E → Type 0) (spell : E → List ℕ
 abbrev head_read : EntryHead → Cursor → Read EntryHead
 head_read h c = Ok (h, c)
 
-at_taken : (width bound object : ℕ) → 256 ^ width ≡ bound → (c d : Cursor) (h : EntryHead) → AreBytes c.left → at_entry width object c ≡ Ok (h, d) → EntryTaken (AtFits bound) (at_spelling width) (λ e. At object e.offset) c h d
+at_taken : (width bound object : ℕ) → 256 ^ width ≡ bound → (c d : Cursor) (h : EntryHead) →
+    AreBytes c.left → at_entry width object c ≡ Ok (h, d) → EntryTaken (AtFits bound) (at_spelling width) (λ e. At object e.offset) c h d
 unfolding at_entry
 at_taken width bound object is c d h bytes e =
     let first = bind_ok (number 1 c) (λ flags. number width flags.1 >>= λ offset. head_read (At object offset.0) offset.1) (h, d) e in
@@ -72,14 +73,17 @@ gate_taken object c d h bytes e =
     } in
     subst (λ (p : EntryHead × Cursor). EntryTaken GateFits gate_spelling (λ e. Gate286 object e.offset) c p.0 p.1) pair here
 
-forward_taken : (imports : ℕ) (c d : Cursor) (h : EntryHead) → AreBytes c.left → forward_entry imports c ≡ Ok (h, d) → EntryTaken (ForwardFits imports) forward_spelling (λ e. Forward e.import (forward_key e.flags e.key)) c h d
+forward_taken : (imports : ℕ) (c d : Cursor) (h : EntryHead) → AreBytes c.left →
+    forward_entry imports c ≡ Ok (h, d) → EntryTaken (ForwardFits imports) forward_spelling (λ e. Forward e.import (forward_key e.flags e.key)) c h d
 unfolding forward_entry
 forward_taken imports c d h bytes e =
     let wrong = fault kinds.EntryTable c.at in
-    let first = bind_ok (number 1 c) (λ flags. number 2 flags.1 >>= λ import. cond (not (names_one_of imports import.0)) (Err wrong) (number 4 import.1 >>= λ key. head_read (Forward import.0 (forward_key flags.0 key.0)) key.1)) (h, d) e in
+    let first = bind_ok (number 1 c) (λ flags. number 2 flags.1 >>= λ import. cond
+    (not (names_one_of imports import.0)) (Err wrong) (number 4 import.1 >>= λ key. head_read (Forward import.0 (forward_key flags.0 key.0)) key.1)) (h, d) e in
     let flags = first.0 in
     let a = number_takes 1 c flags.1 flags.0 bytes first.1 in
-    let second = bind_ok (number 2 flags.1) (λ import. cond (not (names_one_of imports import.0)) (Err wrong) (number 4 import.1 >>= λ key. head_read (Forward import.0 (forward_key flags.0 key.0)) key.1)) (h, d) first.2 in
+    let second = bind_ok (number 2 flags.1) (λ import. cond (not (names_one_of imports import.0))
+    (Err wrong) (number 4 import.1 >>= λ key. head_read (Forward import.0 (forward_key flags.0 key.0)) key.1)) (h, d) first.2 in
     let import = second.0 in
     let b = number_takes 2 flags.1 import.1 import.0 a.taken.rest second.1 in
     let guard = guard_ok (not (names_one_of imports import.0)) wrong (number 4 import.1 >>= λ key. head_read (Forward import.0 (forward_key flags.0 key.0)) key.1) (h, d) second.2 in
@@ -168,7 +172,8 @@ object_taken Fits spell head read one objects bad n ordinal c d es bytes e =
       entries = entries_taken Fits spell (head o.0) (read o.0) (one o.0) n ordinal o.1 d es a.taken.rest guard.1;
     }
 
-body_taken : (kind objects imports bad n ordinal : ℕ) (c d : Cursor) (es : List Numbered) → AreBytes c.left → bundle_of_type kind objects imports bad n ordinal c ≡ Ok (es, d) → BodyTaken objects imports kind n ordinal c es d
+body_taken : (kind objects imports bad n ordinal : ℕ) (c d : Cursor) (es : List Numbered) →
+    AreBytes c.left → bundle_of_type kind objects imports bad n ordinal c ≡ Ok (es, d) → BodyTaken objects imports kind n ordinal c es d
 unfolding bundle_of_type
 body_taken zero objects imports bad n ordinal c d es bytes e =
     let pair : ([], c) ≡ (es, d) = cc in
@@ -293,7 +298,8 @@ AreTaken objects imports last c m = AreBytes c.left → last ≤ MAX_ORDINAL →
 regroup : (a b c : List ℕ) → a ++ (b ++ c) ≡ (a ++ b) ++ c
 regroup a b c = sym (append_assoc a b c)
 
-together : (objects imports last : ℕ) (c d end : Cursor) (x : List Numbered × ℕ) (others : List Numbered) → BundleTaken objects imports last c x d → BundlesTaken objects imports x.1 d others end → BundlesTaken objects imports last c (x.0 ++ others) end
+together : (objects imports last : ℕ) (c d end : Cursor) (x : List Numbered × ℕ) (others : List Numbered) →
+    BundleTaken objects imports last c x d → BundlesTaken objects imports x.1 d others end → BundlesTaken objects imports last c (x.0 ++ others) end
 together objects imports last c d end x others b rest =
     let all = Takes-then c d end (bundle_spelling b.bundle) (table_spelling rest.bundles) b.taken rest.taken in
     let at = b.last_is in

@@ -78,7 +78,8 @@ forward_fits : (objects imports : ℕ) (c : Cursor) (y : EntryHead × Cursor) �
 unfolding forward_entry
 forward_fits objects imports c y e =
     let wrong = fault kinds.EntryTable c.at in
-    let first = bind_ok (number 1 c) (λ flags. number 2 flags.1 >>= λ import. cond (not (names_one_of imports import.0)) (Err wrong) (number 4 import.1 >>= λ key. done (Forward import.0 (forward_key flags.0 key.0), key.1))) y e in
+    let first = bind_ok (number 1 c) (λ flags. number 2 flags.1 >>= λ import.
+    cond (not (names_one_of imports import.0)) (Err wrong) (number 4 import.1 >>= λ key. done (Forward import.0 (forward_key flags.0 key.0), key.1))) y e in
     let flags = first.0 in
     let second = bind_ok (number 2 flags.1) (λ import. cond (not (names_one_of imports import.0)) (Err wrong) (number 4 import.1 >>= λ key. done (Forward import.0 (forward_key flags.0 key.0), key.1))) y first.2 in
     let import = second.0 in

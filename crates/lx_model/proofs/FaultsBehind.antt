@@ -31,7 +31,8 @@ here c = let same : c.at + 0 ≡ c.at = omega arith in rw same refl
 abbrev FailsAs : {S A X : Type 0} → (X → List ℕ) → (S → X → Type 0) → (S → X → S) → (S → Cursor → LxRefusal → Type 0) → S → Cursor → Many A → Type 0
 FailsAs spelling Goes next Wrong s c m = AreBytes c.left → (e : LxRefusal) → m.end ≡ Err e → FailsBehind spelling Goes next Wrong s c e
 
-at_once : {S X : Type 0} (spelling : X → List ℕ) (Goes : S → X → Type 0) (next : S → X → S) (Wrong : S → Cursor → LxRefusal → Type 0) (s : S) (c : Cursor) (e : LxRefusal) → Wrong s c e → FailsBehind spelling Goes next Wrong s c e
+at_once : {S X : Type 0} (spelling : X → List ℕ) (Goes : S → X → Type 0) (next : S → X → S) (Wrong : S → Cursor → LxRefusal → Type 0) (s : S) (c : Cursor) (e : LxRefusal) →
+    Wrong s c e → FailsBehind spelling Goes next Wrong s c e
 at_once spelling Goes next Wrong s c e wrong = record { items = []; left = c.left; go = tt; spelled = refl; wrong = subst (λ (d : Cursor). Wrong s d e) (here c) wrong }
 
 -- after one item more
@@ -49,7 +50,8 @@ one_more spelling Goes next Wrong s c d e x good parts place f =
     }
 
 -- a reading by its spelling leaves this behind
-pub read_so : {S A : Type 0} (step : Step S A) (s : S) (c d : Cursor) (o : A × S) (bytes : List ℕ) (a : A) (t : S) → step s (cursor c.at (bytes ++ d.left)) ≡ Ok (Some (a, t), cursor (c.at + length bytes) d.left) → c.left ≡ bytes ++ d.left → step s c ≡ Ok (Some o, d) →
+pub read_so : {S A : Type 0} (step : Step S A) (s : S) (c d : Cursor) (o : A × S) (bytes : List ℕ) (a : A) (t : S) →
+    step s (cursor c.at (bytes ++ d.left)) ≡ Ok (Some (a, t), cursor (c.at + length bytes) d.left) → c.left ≡ bytes ++ d.left → step s c ≡ Ok (Some o, d) →
     (o.1 ≡ t) × (d.at ≡ c.at + length bytes)
 read_so {S} {A} step s c d o bytes a t reads parts e =
     let at_bytes : step s c ≡ Ok (Some (a, t), cursor (c.at + length bytes) d.left) = ap (λ (l : List ℕ). step s (cursor c.at l)) parts ∙ reads in
@@ -60,7 +62,8 @@ read_so {S} {A} step s c d o bytes a t reads parts e =
     let item : o ≡ (a, t) = cc in
     (ap (λ (p : A × S). p.1) item, ap (λ (x : Cursor). x.at) end)
 
-cases : {S A X : Type 0} (step : Step S A) (spelling : X → List ℕ) (Goes : S → X → Type 0) (next : S → X → S) (Wrong : S → Cursor → LxRefusal → Type 0) → Table step spelling Goes next Wrong → Cases step (FailsAs spelling Goes next Wrong)
+cases : {S A X : Type 0} (step : Step S A) (spelling : X → List ℕ) (Goes : S → X → Type 0) (next : S → X → S) (Wrong : S → Cursor → LxRefusal → Type 0) →
+    Table step spelling Goes next Wrong → Cases step (FailsAs spelling Goes next Wrong)
 cases {S} {A} {X} step spelling Goes next Wrong t = record {
   none = λ s c d e h f is. absurd cc;
   wrong = λ s c e is h f same.
@@ -91,7 +94,8 @@ behind {S} {A} step spelling Goes next Wrong t s at left e (x ∷ items) go wron
     let first = many_more step t.shorter s (cursor at (bytes ++ (rest ++ left))) (cursor (at + length bytes) (rest ++ left)) (reads.0, next s x) reads.1 in
     ap (λ (l : List ℕ). (many step s (cursor at l)).end) (append_assoc bytes rest left) ∙ ap (λ (m : Many A). m.end) first ∙ again
 
-pub faults_are : {S A X : Type 0} (step : Step S A) (spelling : X → List ℕ) (Goes : S → X → Type 0) (next : S → X → S) (Wrong : S → Cursor → LxRefusal → Type 0) → Table step spelling Goes next Wrong → FaultsAre step spelling Goes next Wrong
+pub faults_are : {S A X : Type 0} (step : Step S A) (spelling : X → List ℕ) (Goes : S → X → Type 0) (next : S → X → S) (Wrong : S → Cursor → LxRefusal → Type 0) →
+    Table step spelling Goes next Wrong → FaultsAre step spelling Goes next Wrong
 faults_are {S} {A} step spelling Goes next Wrong t s c e h = (
   λ is. many_holds step (FailsAs spelling Goes next Wrong) t.shorter (cases step spelling Goes next Wrong t) s c h e is,
   λ f. ap (λ (l : List ℕ). (many step s (cursor c.at l)).end) f.spelled ∙ behind step spelling Goes next Wrong t s c.at f.left e f.items f.go f.wrong,

@@ -66,17 +66,20 @@ front_fails : (r : Read (List Numbered)) (ordinal : ℕ) (head : EntryHead) (e :
 front_fails (Ok others) ordinal head e is = absurd (good_ends ((ordinal, head) ∷ others.0, others.1) e is)
 front_fails (Err x) ordinal head e is = fails_as (put_front ordinal head) x e is
 
-first_fails : (n ordinal : ℕ) (read : Cursor → Read EntryHead) (Wrong : Cursor → LxRefusal → Type 0) → Faults read Wrong → ((d : Cursor) (e : LxRefusal) → bundle_entries n (ordinal + 1) read d ≡ Err e → WrongAmong n read Wrong d e) →
+first_fails : (n ordinal : ℕ) (read : Cursor → Read EntryHead) (Wrong : Cursor → LxRefusal → Type 0) →
+    Faults read Wrong → ((d : Cursor) (e : LxRefusal) → bundle_entries n (ordinal + 1) read d ≡ Err e → WrongAmong n read Wrong d e) →
     (c : Cursor) (e : LxRefusal) (r : Read EntryHead) → read c ≡ r → (r >>= λ head. bundle_entries n (ordinal + 1) read head.1 >>= put_front ordinal head.0) ≡ Err e → WrongAmong (suc n) read Wrong c e
 first_fails n ordinal read Wrong f again c e (Err x) is fails = inl (f.fails c e (is ∙ fails_as (λ head. bundle_entries n (ordinal + 1) read head.1 >>= put_front ordinal head.0) x e fails))
 first_fails n ordinal read Wrong f again c e (Ok head) is fails = inr (head.0, head.1, is, again head.1 e (front_fails (bundle_entries n (ordinal + 1) read head.1) ordinal head.0 e fails))
 
-among_fails : (n ordinal : ℕ) (read : Cursor → Read EntryHead) (Wrong : Cursor → LxRefusal → Type 0) → Faults read Wrong → (c : Cursor) (e : LxRefusal) → bundle_entries n ordinal read c ≡ Err e → WrongAmong n read Wrong c e
+among_fails : (n ordinal : ℕ) (read : Cursor → Read EntryHead) (Wrong : Cursor → LxRefusal → Type 0) →
+    Faults read Wrong → (c : Cursor) (e : LxRefusal) → bundle_entries n ordinal read c ≡ Err e → WrongAmong n read Wrong c e
 unfolding bundle_entries
 among_fails zero ordinal read Wrong f c e is = absurd (good_ends ([], c) e is)
 among_fails (suc n) ordinal read Wrong f c e is = first_fails n ordinal read Wrong f (λ d e. among_fails n (ordinal + 1) read Wrong f d e) c e (read c) refl is
 
-among_failed : (n ordinal : ℕ) (read : Cursor → Read EntryHead) (Wrong : Cursor → LxRefusal → Type 0) → Faults read Wrong → (c : Cursor) (e : LxRefusal) → WrongAmong n read Wrong c e → bundle_entries n ordinal read c ≡ Err e
+among_failed : (n ordinal : ℕ) (read : Cursor → Read EntryHead) (Wrong : Cursor → LxRefusal → Type 0) →
+    Faults read Wrong → (c : Cursor) (e : LxRefusal) → WrongAmong n read Wrong c e → bundle_entries n ordinal read c ≡ Err e
 unfolding bundle_entries
 among_failed zero ordinal read Wrong f c e wrong = absurd wrong
 among_failed (suc n) ordinal read Wrong f c e (inl wrong) = ap (λ (r : Read EntryHead). r >>= λ head. bundle_entries n (ordinal + 1) read head.1 >>= put_front ordinal head.0) (f.failed c e wrong)
@@ -130,7 +133,8 @@ bundled_fails (Err x) last count e is = fails_as (bundled last count) x e is
 abbrev behind_type : ℕ → ℕ → ℕ → ℕ → ℕ → ℕ → Cursor → Read (Option (List Numbered × ℕ))
 behind_type objects imports last at count type d = bundle_of_type type objects imports at count (last + 1) d >>= bundled last count
 
-body_faults : (objects imports last at count : ℕ) → Faults (λ b. number 1 b >>= λ type. behind_type objects imports last at count type.0 type.1) (λ b e. FieldThen 1 b e (λ type d. WrongOfType type objects imports at count d e))
+body_faults : (objects imports last at count : ℕ) → Faults (λ b. number 1 b >>= λ type.
+    behind_type objects imports last at count type.0 type.1) (λ b e. FieldThen 1 b e (λ type d. WrongOfType type objects imports at count d e))
 body_faults objects imports last at count =
     field_faults 1 (λ c type d. behind_type objects imports last at count type d) (λ c e type d. WrongOfType type objects imports at count d e)
     (λ c type e d is. (type_faults type objects imports at count (last + 1)).fails d e (bundled_fails (bundle_of_type type objects imports at count (last + 1) d) last count e is))
@@ -147,7 +151,8 @@ of_count objects imports last at count b =
     cond (eqb count 0) (ends b) (cond (ltb MAX_ORDINAL (last + count)) (Err (fault kinds.EntryTable at)) (number 1 b >>= λ type. behind_type objects imports last at count type.0 type.1))
 
 count_fails : (objects imports last at count : ℕ) (b : Cursor) (e : LxRefusal) (none : Bool) → eqb count 0 ≡ none →
-    cond none (ends b) (cond (ltb MAX_ORDINAL (last + count)) (Err (fault kinds.EntryTable at)) (number 1 b >>= λ type. behind_type objects imports last at count type.0 type.1)) ≡ Err e → BehindCount objects imports last at count b e
+    cond none (ends b) (cond (ltb MAX_ORDINAL (last + count)) (Err (fault kinds.EntryTable at))
+    (number 1 b >>= λ type. behind_type objects imports last at count type.0 type.1)) ≡ Err e → BehindCount objects imports last at count b e
 count_fails objects imports last at count b e true is fails = absurd (good_ends (None, b) e fails)
 count_fails objects imports last at count b e false is fails = (
   positive count is,

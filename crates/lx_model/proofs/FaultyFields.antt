@@ -22,7 +22,8 @@ by_left : {X A : Type 0} (n : ℕ) (c : Cursor) (value : X) (f : X × Cursor →
 by_left n c value f e true is fails = inl (ltb-true _ _ is, (let same : fault Short c.at ≡ e = cc in sym same))
 by_left n c value f e false is fails = inr (ltb-false _ _ is, fails)
 
-pub number_err : {A : Type 0} (n : ℕ) (c : Cursor) (f : ℕ × Cursor → Result A LxRefusal) (e : LxRefusal) → (number n c >>= f) ≡ Err e → IsCut n c e ⊎ ((n ≤ length c.left) × (f (little (take n c.left), advance n c) ≡ Err e))
+pub number_err : {A : Type 0} (n : ℕ) (c : Cursor) (f : ℕ × Cursor → Result A LxRefusal) (e : LxRefusal) →
+    (number n c >>= f) ≡ Err e → IsCut n c e ⊎ ((n ≤ length c.left) × (f (little (take n c.left), advance n c) ≡ Err e))
 number_err n c f e fails = by_left n c (little (take n c.left)) f e (ltb (length c.left) n) refl fails
 
 pub text_err : {A : Type 0} (n : ℕ) (c : Cursor) (f : List ℕ × Cursor → Result A LxRefusal) (e : LxRefusal) → (text n c >>= f) ≡ Err e → IsCut n c e ⊎ ((n ≤ length c.left) × (f (take n c.left, advance n c) ≡ Err e))

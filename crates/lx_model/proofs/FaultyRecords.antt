@@ -42,7 +42,8 @@ Same r s = (c : Cursor) → r c ≡ s c
 same_faults : {A : Type 0} (r s : Cursor → Read A) (W : Cursor → LxRefusal → Type 0) → Same r s → Faults s W → Faults r W
 same_faults r s W same f = record { fails = λ c e is. f.fails c e (sym (same c) ∙ is); failed = λ c e wrong. same c ∙ f.failed c e wrong }
 
-one_through : {A : Type 0} (n : ℕ) (g : ℕ → A) (f : A × Cursor → Read (List Fix)) (W : Cursor → LxRefusal → Type 0) → Behind f W → Faults (λ c. (number n c >>= λ x. done (g x.0, x.1)) >>= f) (λ c e. FieldsThen (n ∷ []) c e (λ d. W d e))
+one_through : {A : Type 0} (n : ℕ) (g : ℕ → A) (f : A × Cursor → Read (List Fix)) (W : Cursor → LxRefusal → Type 0) →
+    Behind f W → Faults (λ c. (number n c >>= λ x. done (g x.0, x.1)) >>= f) (λ c e. FieldsThen (n ∷ []) c e (λ d. W d e))
 one_through n g f W b =
     same_faults (λ c. (number n c >>= λ x. done (g x.0, x.1)) >>= f) (λ c. number n c >>= λ x. f (g x.0, x.1)) (λ c e. FieldsThen (n ∷ []) c e (λ d. W d e)) (λ c. regroup (number n c) (λ x. done (g x.0, x.1)) f)
     (field_faults n (λ c x d. f (g x, d)) (λ c e x d. W d e) (λ c x e d is. b.to (g x) d e is) (λ c x e d wrong. b.from (g x) d e wrong))
@@ -50,7 +51,8 @@ one_through n g f W b =
 two_through : {A : Type 0} (m n : ℕ) (g : ℕ → ℕ → A) (f : A × Cursor → Read (List Fix)) (W : Cursor → LxRefusal → Type 0) → Behind f W →
     Faults (λ c. (number m c >>= λ x. number n x.1 >>= λ y. done (g x.0 y.0, y.1)) >>= f) (λ c e. FieldsThen (m ∷ n ∷ []) c e (λ d. W d e))
 two_through m n g f W b =
-    same_faults (λ c. (number m c >>= λ x. number n x.1 >>= λ y. done (g x.0 y.0, y.1)) >>= f) (λ c. number m c >>= λ x. (number n x.1 >>= λ y. done (g x.0 y.0, y.1)) >>= f) (λ c e. FieldsThen (m ∷ n ∷ []) c e (λ d. W d e))
+    same_faults (λ c. (number m c >>= λ x. number n x.1 >>= λ y. done (g x.0 y.0, y.1)) >>= f)
+    (λ c. number m c >>= λ x. (number n x.1 >>= λ y. done (g x.0 y.0, y.1)) >>= f) (λ c e. FieldsThen (m ∷ n ∷ []) c e (λ d. W d e))
     (λ c. regroup (number m c) (λ x. number n x.1 >>= λ y. done (g x.0 y.0, y.1)) f)
     (field_faults m (λ c x d. (number n d >>= λ y. done (g x y.0, y.1)) >>= f) (λ c e x d. FieldsThen (n ∷ []) d e (λ d. W d e))
     (λ c x e d is. (one_through n (g x) f W b).fails d e is) (λ c x e d wrong. (one_through n (g x) f W b).failed d e wrong))
@@ -60,7 +62,8 @@ two_through m n g f W b =
 abbrev TargetThen : ℕ → Source → ℕ → (Cursor → LxRefusal → Type 0) → Cursor → LxRefusal → Type 0
 TargetThen kind source flags W c e = FieldsThen (target_widths kind source flags) c e (λ d. W d e)
 
-internal_faults : (source : Source) (flags : ℕ) (f : FixTarget × Cursor → Read (List Fix)) (W : Cursor → LxRefusal → Type 0) → Behind f W → Faults (λ c. internal_at source flags c >>= f) (λ c e. FieldsThen (internal_widths source flags) c e (λ d. W d e))
+internal_faults : (source : Source) (flags : ℕ) (f : FixTarget × Cursor → Read (List Fix)) (W : Cursor → LxRefusal → Type 0) →
+    Behind f W → Faults (λ c. internal_at source flags c >>= f) (λ c e. FieldsThen (internal_widths source flags) c e (λ d. W d e))
 unfolding internal_at
 internal_faults Sel flags f W b = one_through (number_width flags) (λ object. targets.Internal object 0) f W b
 internal_faults Byte flags f W b = two_through (number_width flags) (target_width flags) (λ object offset. targets.Internal object offset) f W b
@@ -70,7 +73,8 @@ internal_faults Far32 flags f W b = two_through (number_width flags) (target_wid
 internal_faults Off32 flags f W b = two_through (number_width flags) (target_width flags) (λ object offset. targets.Internal object offset) f W b
 internal_faults Self32 flags f W b = two_through (number_width flags) (target_width flags) (λ object offset. targets.Internal object offset) f W b
 
-target_faults : (kind : ℕ) (source : Source) (flags : ℕ) (f : FixTarget × Cursor → Read (List Fix)) (W : Cursor → LxRefusal → Type 0) → Behind f W → Faults (λ c. target_of_kind kind source flags c >>= f) (TargetThen kind source flags W)
+target_faults : (kind : ℕ) (source : Source) (flags : ℕ) (f : FixTarget × Cursor → Read (List Fix)) (W : Cursor → LxRefusal → Type 0) →
+    Behind f W → Faults (λ c. target_of_kind kind source flags c >>= f) (TargetThen kind source flags W)
 unfolding target_of_kind
 target_faults zero source flags f W b = internal_faults source flags f W b
 target_faults (suc zero) source flags f W b = two_through (number_width flags) (ordinal_width flags) (λ import ordinal. targets.Ordinal import ordinal) f W b
@@ -124,13 +128,15 @@ placed_to : {A : Type 0} (there : Bool) (at word : ℕ) (d : Cursor) (f : ℤ ×
 placed_to true at word d f e W h is = inr (refl, h is)
 placed_to false at word d f e W h is = inl (refl, (let same : fault kinds.Straddle at ≡ e = cc in sym same))
 
-placed_from : {A : Type 0} (there : Bool) (at word : ℕ) (d : Cursor) (f : ℤ × Cursor → Read A) (e : LxRefusal) (W : Type 0) → (W → f (cast_signed w16 word, d) ≡ Err e) → ((there ≡ false) × (e ≡ fault kinds.Straddle at)) ⊎ ((there ≡ true) × W) →
+placed_from : {A : Type 0} (there : Bool) (at word : ℕ) (d : Cursor) (f : ℤ × Cursor → Read A) (e : LxRefusal) (W : Type 0) →
+    (W → f (cast_signed w16 word, d) ≡ Err e) → ((there ≡ false) × (e ≡ fault kinds.Straddle at)) ⊎ ((there ≡ true) × W) →
     (placed there at word d >>= f) ≡ Err e
 placed_from there at word d f e W h (inl wrong) = let outside = wrong.0 in let same = wrong.1 in rw (outside, same) refl
 placed_from there at word d f e W h (inr right) = let inside = right.0 in rw inside (h right.1)
 
 -- an offset, and what is read after it
-offset_faults : {A : Type 0} (source : Source) (f : ℤ × Cursor → Read A) (W : Cursor → LxRefusal → Type 0) → ((x : ℤ) (d : Cursor) (e : LxRefusal) → f (x, d) ≡ Err e → W d e) → ((x : ℤ) (d : Cursor) (e : LxRefusal) → W d e → f (x, d) ≡ Err e) →
+offset_faults : {A : Type 0} (source : Source) (f : ℤ × Cursor → Read A) (W : Cursor → LxRefusal → Type 0) →
+    ((x : ℤ) (d : Cursor) (e : LxRefusal) → f (x, d) ≡ Err e → W d e) → ((x : ℤ) (d : Cursor) (e : LxRefusal) → W d e → f (x, d) ≡ Err e) →
     Faults (λ c. offset_at source c >>= f) (λ c e. OffsetThen source c e (λ d. W d e))
 offset_faults {A} source f W to from =
     let word_faults : Faults (λ c. number 2 c >>= λ word. placed (reaches_page source word.0) c.at word.0 word.1 >>= f) (λ c e. OffsetThen source c e (λ d. W d e)) =
@@ -190,7 +196,8 @@ list_faults kind flags =
       to = λ x d e is. (offsets_fault count kind.source).fails d e (offsets_fails (offsets_at count kind.source d) kind target x e is);
       from = λ x d e wrong. ap (λ (r : Read (List ℤ)). r >>= of_offsets kind target x) ((offsets_fault count kind.source).failed d e wrong);
     } in
-    let rest : (count : ℕ) → Faults (λ d. target_at kind.source flags d >>= λ target. additive_at flags target.1 >>= listed kind count target.0) (λ d e. FieldsThen (field_widths kind.source flags) d e (λ o. OffsetsThen count kind.source o e))
+    let rest : (count : ℕ) → Faults (λ d. target_at kind.source flags d >>= λ target. additive_at flags target.1 >>= listed kind count target.0)
+    (λ d e. FieldsThen (field_widths kind.source flags) d e (λ o. OffsetsThen count kind.source o e))
     = λ count. fields_faults kind.source flags (listed kind count) (λ d e. OffsetsThen count kind.source d e) (ends count) in
     field_faults 1 (λ c count d. target_at kind.source flags d >>= λ target. additive_at flags target.1 >>= listed kind count target.0)
     (λ c e count d. FieldsThen (field_widths kind.source flags) d e (λ o. OffsetsThen count kind.source o e))
@@ -201,11 +208,13 @@ by_listed : (is_list : Bool) (kind : SourceKind) (flags : ℕ) → Faults (λ d.
 by_listed true kind flags = list_faults kind flags
 by_listed false kind flags = single_faults kind flags
 
-chain_to : (chain : Bool) (at : ℕ) (rest : Read (List Fix)) (e : LxRefusal) (W : Type 0) → (rest ≡ Err e → W) → cond chain (Err (fault kinds.BadSource at)) rest ≡ Err e → ((chain ≡ true) × (e ≡ fault kinds.BadSource at)) ⊎ ((chain ≡ false) × W)
+chain_to : (chain : Bool) (at : ℕ) (rest : Read (List Fix)) (e : LxRefusal) (W : Type 0) →
+    (rest ≡ Err e → W) → cond chain (Err (fault kinds.BadSource at)) rest ≡ Err e → ((chain ≡ true) × (e ≡ fault kinds.BadSource at)) ⊎ ((chain ≡ false) × W)
 chain_to true at rest e W h is = inl (refl, (let same : fault kinds.BadSource at ≡ e = cc in sym same))
 chain_to false at rest e W h is = inr (refl, h is)
 
-chain_from : (chain : Bool) (at : ℕ) (rest : Read (List Fix)) (e : LxRefusal) (W : Type 0) → (W → rest ≡ Err e) → ((chain ≡ true) × (e ≡ fault kinds.BadSource at)) ⊎ ((chain ≡ false) × W) → cond chain (Err (fault kinds.BadSource at)) rest ≡ Err e
+chain_from : (chain : Bool) (at : ℕ) (rest : Read (List Fix)) (e : LxRefusal) (W : Type 0) →
+    (W → rest ≡ Err e) → ((chain ≡ true) × (e ≡ fault kinds.BadSource at)) ⊎ ((chain ≡ false) × W) → cond chain (Err (fault kinds.BadSource at)) rest ≡ Err e
 chain_from chain at rest e W h (inl begins) = let some = begins.0 in let same = begins.1 in rw (some, same) refl
 chain_from chain at rest e W h (inr alone) = let none = alone.0 in rw none (h alone.1)
 
@@ -272,7 +281,8 @@ pub record_table : Table next_record record_spelling (λ _ w. RecordFits w) (λ 
 record_table = record {
   shorter = record_shortens;
   taken = λ s c d o h e. let t = next_taken s c d o h e in record { written = t.written; good = t.fits; taken = t.taken };
-  reads = λ s w fits at rest. (record { at = at; fixes = fixes_written w }, next_reads (cursor at (record_spelling w ++ rest)) (cursor (at + length (record_spelling w)) rest) (fixes_written w) (omega arith) (record_reads w fits at rest));
+  reads = λ s w fits at rest.
+      (record { at = at; fixes = fixes_written w }, next_reads (cursor at (record_spelling w ++ rest)) (cursor (at + length (record_spelling w)) rest) (fixes_written w) (omega arith) (record_reads w fits at rest));
   fails = next_fails;
   failed = next_failed;
 }

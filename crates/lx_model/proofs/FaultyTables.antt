@@ -131,7 +131,8 @@ import_failed (suc n) c e wrong = regrouped c n ∙ elim wrong.1 [
   | inr there ↦ number_there 1 c (λ len. by_len c.at len >>= numbered n) (Err e) there.0 (import_wrong c.at n (little (take 1 c.left)) (advance 1 c) e there.1)
 ]
 
-import_reads : (due : ℕ) (name : List ℕ) → ImportGoes due name → (at : ℕ) (rest : List ℕ) → import_entry due (cursor at (import_spelling name ++ rest)) ≡ Ok (Some (name, due - 1), cursor (at + length (import_spelling name)) rest)
+import_reads : (due : ℕ) (name : List ℕ) → ImportGoes due name → (at : ℕ) (rest : List ℕ) →
+    import_entry due (cursor at (import_spelling name ++ rest)) ≡ Ok (Some (name, due - 1), cursor (at + length (import_spelling name)) rest)
 import_reads zero name goes at rest = absurd (omega (arith, goes.0))
 import_reads (suc n) name goes at rest =
     let fewer : n ≡ suc n - 1 = omega arith in

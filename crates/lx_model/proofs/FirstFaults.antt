@@ -36,7 +36,8 @@ here a n f e some = record { entry = a; low = omega arith; high = omega arith; w
 abbrev first_with : Option LxRefusal → List (Option LxRefusal) → Option LxRefusal
 first_with x xs = first (x ∷ xs)
 
-by_first : (a n : ℕ) (f : ℕ → Option LxRefusal) (e : LxRefusal) (x : Option LxRefusal) → f a ≡ x → (first (map f (range_with_len (a + 1) n)) ≡ Some e → FirstFrom (a + 1) n f e) → first_with x (map f (range_with_len (a + 1) n)) ≡ Some e →
+by_first : (a n : ℕ) (f : ℕ → Option LxRefusal) (e : LxRefusal) (x : Option LxRefusal) →
+    f a ≡ x → (first (map f (range_with_len (a + 1) n)) ≡ Some e → FirstFrom (a + 1) n f e) → first_with x (map f (range_with_len (a + 1) n)) ≡ Some e →
     FirstFrom a (suc n) f e
 by_first a n f e (Some y) is again some = here a n f e (is ∙ some)
 by_first a n f e None is again some = later a n f e is (again some)
@@ -96,7 +97,8 @@ pub row_found : (file : List ℕ) (place : ℕ) (rows : List Row) (e : LxRefusal
 row_found file place [] e some = absurd cc
 row_found file place (r ∷ rows) e some = row_by file place r rows e (row_fault file place r) refl (row_found file place rows e) some
 
-shown_behind : (file : List ℕ) (place : ℕ) (before : List Row) (r : Row) (behind : List Row) (e : LxRefusal) → AllGood file place before → row_fault file place r ≡ Some e → first (map (row_fault file place) (before ++ r ∷ behind)) ≡ Some e
+shown_behind : (file : List ℕ) (place : ℕ) (before : List Row) (r : Row) (behind : List Row) (e : LxRefusal) →
+    AllGood file place before → row_fault file place r ≡ Some e → first (map (row_fault file place) (before ++ r ∷ behind)) ≡ Some e
 shown_behind file place [] r behind e good some = ap (λ (x : Option LxRefusal). first_with x (map (row_fault file place) behind)) some
 shown_behind file place (b ∷ before) r behind e good some =
     ap (λ (x : Option LxRefusal). first_with x (map (row_fault file place) (before ++ r ∷ behind))) good.0 ∙ shown_behind file place before r behind e good.1 some

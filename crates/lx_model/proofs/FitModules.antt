@@ -99,21 +99,26 @@ fit_is_sure lib m e =
     let g = first (map (λ by. target_of_fault faults.Gate286 (Gate286 by) lib by) members) in
     let two = not_first (first (map (lost_import lib) members)) (c then d then g) (unfit_first (lost_import lib) (unfit_lost lib) members) e in
     let three = not_first c (d then g)
-    (unfit_first (λ by. target_of_fault faults.NoEntry (NoEntry by) lib by) (λ by. unfit_if (list_any (λ t. ends_in faults.NoEntry (target_spot lib by t)) (module_of lib by).refs) (NoEntry by) (λ (x : NoEntry by ≡ Fit). absurd cc)) members) two.1 in
+    (unfit_first (λ by. target_of_fault faults.NoEntry (NoEntry by) lib by) (λ by. unfit_if
+    (list_any (λ t. ends_in faults.NoEntry (target_spot lib by t)) (module_of lib by).refs) (NoEntry by) (λ (x : NoEntry by ≡ Fit). absurd cc)) members) two.1 in
     let four = not_first d g
-    (unfit_first (λ by. target_of_fault faults.ForwardLoop (ForwardLoop by) lib by) (λ by. unfit_if (list_any (λ t. ends_in faults.ForwardLoop (target_spot lib by t)) (module_of lib by).refs) (ForwardLoop by) (λ (x : ForwardLoop by ≡ Fit). absurd cc)) members) three.1 in
+    (unfit_first (λ by. target_of_fault faults.ForwardLoop (ForwardLoop by) lib by) (λ by. unfit_if
+    (list_any (λ t. ends_in faults.ForwardLoop (target_spot lib by t)) (module_of lib by).refs) (ForwardLoop by) (λ (x : ForwardLoop by ≡ Fit). absurd cc)) members) three.1 in
     let five = not_last g
-    (unfit_first (λ by. target_of_fault faults.Gate286 (Gate286 by) lib by) (λ by. unfit_if (list_any (λ t. ends_in faults.Gate286 (target_spot lib by t)) (module_of lib by).refs) (Gate286 by) (λ (x : Gate286 by ≡ Fit). absurd cc)) members) four.1 in
+    (unfit_first (λ by. target_of_fault faults.Gate286 (Gate286 by) lib by) (λ by. unfit_if
+    (list_any (λ t. ends_in faults.Gate286 (target_spot lib by t)) (module_of lib by).refs) (Gate286 by) (λ (x : Gate286 by ≡ Fit). absurd cc)) members) four.1 in
     let here = reached_is_ordered lib m m itself in
     record {
       no_entry = if_none _ (NoEntry m) (each_at (λ by. target_of_fault faults.NoEntry (NoEntry by) lib by ≡ None) members m (each_first (λ by. target_of_fault faults.NoEntry (NoEntry by) lib by) members three.0) here);
-      no_loop = if_none _ (ForwardLoop m) (each_at (λ by. target_of_fault faults.ForwardLoop (ForwardLoop by) lib by ≡ None) members m (each_first (λ by. target_of_fault faults.ForwardLoop (ForwardLoop by) lib by) members four.0) here);
+      no_loop = if_none _ (ForwardLoop m) (each_at (λ by. target_of_fault faults.ForwardLoop (ForwardLoop by) lib by ≡ None) members m
+          (each_first (λ by. target_of_fault faults.ForwardLoop (ForwardLoop by) lib by) members four.0) here);
       no_gate = if_none _ (Gate286 m) (each_at (λ by. target_of_fault faults.Gate286 (Gate286 by) lib by ≡ None) members m (each_first (λ by. target_of_fault faults.Gate286 (Gate286 by) lib by) members five) here);
     }
 
 -- ---- spots
 
-any_by : (p : FixTarget → Bool) (u t : FixTarget) (ts : List FixTarget) → (list_any p ts ≡ false → among t ts ≡ true → p t ≡ false) → (b : Bool) → same_target u t ≡ b → (p u || list_any p ts) ≡ false → (same_target u t || among t ts) ≡ true → p t ≡ false
+any_by : (p : FixTarget → Bool) (u t : FixTarget) (ts : List FixTarget) → (list_any p ts ≡ false → among t ts ≡ true → p t ≡ false) →
+    (b : Bool) → same_target u t ≡ b → (p u || list_any p ts) ≡ false → (same_target u t || among t ts) ≡ true → p t ≡ false
 any_by p u t ts again true is none h = subst (λ (x : FixTarget). p x ≡ false) (same_is u t is) (or_parts (p u) (list_any p ts) none).0
 any_by p u t ts again false is none h = again (or_parts (p u) (list_any p ts) none).1 (rw is at h)
 

@@ -41,7 +41,8 @@ names_read [] at rest fits = none_whole import_entry 0 (cursor at rest) at rest 
 names_read (name ∷ names) at rest fits =
     let bytes = import_spelling name in
     let tail = flat_map import_spelling names ++ rest in
-    let together = more_whole import_entry import_shortens (suc (length names)) (cursor at (bytes ++ tail)) (cursor (at + length bytes) tail) (name, length names) names rest (name_reads (length names) name fits.0 at tail)
+    let together = more_whole import_entry import_shortens (suc (length names))
+    (cursor at (bytes ++ tail)) (cursor (at + length bytes) tail) (name, length names) names rest (name_reads (length names) name fits.0 at tail)
     (names_read names (at + length bytes) rest fits.1) in
     let same : bytes ++ tail ≡ flat_map import_spelling (name ∷ names) ++ rest = sym (append_assoc bytes (flat_map import_spelling names) rest) in
     subst (λ (x : List ℕ). Whole (many import_entry (suc (length names)) (cursor at x)) (name ∷ names) rest) same together

@@ -221,7 +221,9 @@ abbrev bundles_in : Run → List Bundle
 bundles_in r = map (bundle_of r.first) (parts_of (slots_in r))
 
 run_alike : (r : Run) → Alike r → Each (Each (λ t. joins r.first t ≡ true)) (parts_of (slots_in r))
-run_alike r all = parts_each (λ t. joins r.first t ≡ true) (parts_of (slots_in r)) (subst (λ (ts : List Slot). Each (λ t. joins r.first t ≡ true) ts) (sym (parts_whole (length (slots_in r)) (slots_in r) (omega arith))) (joins_self r.first, all))
+run_alike r all =
+    parts_each (λ t. joins r.first t ≡ true) (parts_of (slots_in r))
+    (subst (λ (ts : List Slot). Each (λ t. joins r.first t ≡ true) ts) (sym (parts_whole (length (slots_in r)) (slots_in r) (omega arith))) (joins_self r.first, all))
 
 each_is : (s : Slot) (ps : List (List Slot)) → Each (Each (λ t. joins s t ≡ true)) ps → flat_map slots_of (map (bundle_of s) ps) ≡ flat_map (λ p. p) ps
 each_is s [] all = refl
@@ -247,7 +249,8 @@ all_slots (r ∷ rs) alike_each =
 all_counts : (P : ℕ → Type 0) (rs : List Run) → ((n : ℕ) (ss : List Slot) → Each (λ p. P (length p)) (parts_from n ss)) → Each Alike rs → Each (λ b. P (ordinal_count b)) (flat_map bundles_in rs)
 all_counts P [] are alike_each = tt
 all_counts P (r ∷ rs) are alike_each =
-    each_append (λ b. P (ordinal_count b)) (bundles_in r) (flat_map bundles_in rs) (counts P r.first (parts_of (slots_in r)) (run_alike r alike_each.0) (are (length (slots_in r)) (slots_in r))) (all_counts P rs are alike_each.1)
+    each_append (λ b. P (ordinal_count b)) (bundles_in r) (flat_map bundles_in rs)
+    (counts P r.first (parts_of (slots_in r)) (run_alike r alike_each.0) (are (length (slots_in r)) (slots_in r))) (all_counts P rs are alike_each.1)
 
 -- ---- bundles of neighbouring runs differ
 

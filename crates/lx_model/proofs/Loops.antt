@@ -96,7 +96,8 @@ unfolding forwarded followed followed_if
 loop_goes_on zero lib p e = (p, refl)
 loop_goes_on (suc n) lib p e = by_stands (λ r h. loop_goes_on n lib r h) (stands_at lib p) refl e
   where
-    by_stands : ((r : OrdinalOf) → followed n lib r ≡ Err faults.ForwardLoop → (q : OrdinalOf) × (forwarded n lib r ≡ Some q)) → (s : Stands) → stands_at lib p ≡ s → followed_if s n lib ≡ Err faults.ForwardLoop → (q : OrdinalOf) × (forwarded (suc n) lib p ≡ Some q)
+    by_stands : ((r : OrdinalOf) → followed n lib r ≡ Err faults.ForwardLoop → (q : OrdinalOf) × (forwarded n lib r ≡ Some q)) →
+        (s : Stands) → stands_at lib p ≡ s → followed_if s n lib ≡ Err faults.ForwardLoop → (q : OrdinalOf) × (forwarded (suc n) lib p ≡ Some q)
     by_stands again (spot a) is h = absurd cc
     by_stands again (fails f) is h = let loop : f ≡ faults.ForwardLoop = cc in absurd (head_is_no_loop lib p.0 (entry_of (module_of lib p.0).entries p.1) (is ∙ ap (λ (x : EntryFault). fails x) loop))
     by_stands again (forwards r) is h = let rest = again r h in (rest.0, step_is n lib p r is ∙ rest.1)
@@ -228,7 +229,8 @@ seek : (x : ℕ) (xs : List ℕ) → Each (λ y. eqb x y ≡ false) xs ⊎ ((k :
 seek x [] = inl tt
 seek x (y ∷ ys) = by_test (eqb x y) refl (seek x ys)
   where
-    by_test : (b : Bool) → eqb x y ≡ b → Each (λ z. eqb x z ≡ false) ys ⊎ ((k : ℕ) × (k < length ys) × (x ≡ get_or ys k 0)) → Each (λ z. eqb x z ≡ false) (y ∷ ys) ⊎ ((k : ℕ) × (k < length (y ∷ ys)) × (x ≡ get_or (y ∷ ys) k 0))
+    by_test : (b : Bool) → eqb x y ≡ b → Each (λ z. eqb x z ≡ false) ys ⊎ ((k : ℕ) × (k < length ys) × (x ≡ get_or ys k 0)) →
+        Each (λ z. eqb x z ≡ false) (y ∷ ys) ⊎ ((k : ℕ) × (k < length (y ∷ ys)) × (x ≡ get_or (y ∷ ys) k 0))
     by_test true e rest = inr (0, omega arith, eqb-true x y e)
     by_test false e (inl apart) = inl (e, apart)
     by_test false e (inr found) = inr (suc found.0, omega arith, found.2)
@@ -283,7 +285,8 @@ loop_comes_back lib place e =
     let first = stood lib place far.0 n i (omega (arith, len, r.order, r.within)) far.1 in
     let second = stood lib place far.0 n j (omega (arith, len, r.within)) far.1 in
     let numbers_same : number_of lib place i ≡ number_of lib place j
-    = sym (get_or-map-range_with_len (number_of lib place) 0 n i i 0 (omega (arith, len, r.order, r.within)) (omega arith)) ∙ r.same ∙ get_or-map-range_with_len (number_of lib place) 0 n j j 0 (omega (arith, len, r.within)) (omega arith) in
+    = sym (get_or-map-range_with_len (number_of lib place) 0 n i i 0 (omega (arith, len, r.order, r.within)) (omega arith))
+    ∙ r.same ∙ get_or-map-range_with_len (number_of lib place) 0 n j j 0 (omega (arith, len, r.within)) (omega arith) in
     let p = place_at lib place i in
     let q = place_at lib place j in
     let parts = number_same lib p.0 p.1 q.0 q.1 first.has second.has numbers_same in

@@ -65,9 +65,12 @@ pub record Judged (file : List ℕ) : Type 0 where
 pub judged : (file : List ℕ) → LxFault file ≡ None → Judged file
 unfolding LxFault
 judged file e =
-    let a = then_none (header_fault file) (objects_fault file then pages_fault file then resident_fault file then others_fault file then imports_fault file then entries_fault file then start_fault file then spans_fault file then first_of (page_count file) (page_records_fault file)) e in
-    let b = then_none (objects_fault file) (pages_fault file then resident_fault file then others_fault file then imports_fault file then entries_fault file then start_fault file then spans_fault file then first_of (page_count file) (page_records_fault file)) a.1 in
-    let c = then_none (pages_fault file) (resident_fault file then others_fault file then imports_fault file then entries_fault file then start_fault file then spans_fault file then first_of (page_count file) (page_records_fault file)) b.1 in
+    let a = then_none (header_fault file) (objects_fault file then pages_fault file then resident_fault file then others_fault file
+    then imports_fault file then entries_fault file then start_fault file then spans_fault file then first_of (page_count file) (page_records_fault file)) e in
+    let b = then_none (objects_fault file) (pages_fault file then resident_fault file then others_fault file then imports_fault file
+    then entries_fault file then start_fault file then spans_fault file then first_of (page_count file) (page_records_fault file)) a.1 in
+    let c = then_none (pages_fault file) (resident_fault file then others_fault file then imports_fault file
+    then entries_fault file then start_fault file then spans_fault file then first_of (page_count file) (page_records_fault file)) b.1 in
     let d = then_none (resident_fault file) (others_fault file then imports_fault file then entries_fault file then start_fault file then spans_fault file then first_of (page_count file) (page_records_fault file)) c.1 in
     let f = then_none (others_fault file) (imports_fault file then entries_fault file then start_fault file then spans_fault file then first_of (page_count file) (page_records_fault file)) d.1 in
     let g = then_none (imports_fault file) (entries_fault file then start_fault file then spans_fault file then first_of (page_count file) (page_records_fault file)) f.1 in

@@ -34,7 +34,8 @@ filter_more : (p : FixTarget → Bool) (ts : List FixTarget) (t : FixTarget) →
 filter_more p [] t = refl
 filter_more p (u ∷ ts) t = by_test (p u) (filter_more p ts t)
   where
-    by_test : (b : Bool) → filter p (ts ++ t ∷ []) ≡ filter p ts ++ cond (p t) (t ∷ []) [] → cond b (u ∷ filter p (ts ++ t ∷ [])) (filter p (ts ++ t ∷ [])) ≡ cond b (u ∷ filter p ts) (filter p ts) ++ cond (p t) (t ∷ []) []
+    by_test : (b : Bool) → filter p (ts ++ t ∷ []) ≡ filter p ts ++ cond (p t) (t ∷ []) [] →
+        cond b (u ∷ filter p (ts ++ t ∷ [])) (filter p (ts ++ t ∷ [])) ≡ cond b (u ∷ filter p ts) (filter p ts) ++ cond (p t) (t ∷ []) []
     by_test true e = ap (λ (xs : List FixTarget). u ∷ xs) e
     by_test false e = e
 

@@ -170,16 +170,19 @@ first_kind kind other (x ∷ xs) (u ∷ us) ys vs same some more k o =
     sym k.0 ∙ ap kind_at s ∙ o.0
 
 -- A bundle that is shorter than the one of other bundles is full.
-full : (b c : Bundle) (bs : List Bundle) (vs : List Slot) → AllByRecursion (λ b. 0 < ordinal_count b) (b ∷ bs) → 0 < ordinal_count c → AreJoined (b ∷ bs) → slots_of b ++ flat_map slots_of bs ≡ slots_of c ++ vs → ordinal_count b < ordinal_count c → ordinal_count b ≡ MAX_ENTRIES
+full : (b c : Bundle) (bs : List Bundle) (vs : List Slot) → AllByRecursion (λ b. 0 < ordinal_count b) (b ∷ bs) → 0 < ordinal_count c →
+    AreJoined (b ∷ bs) → slots_of b ++ flat_map slots_of bs ≡ slots_of c ++ vs → ordinal_count b < ordinal_count c → ordinal_count b ≡ MAX_ENTRIES
 full b c [] vs some more joined same lt =
     let on = longer (slots_of b) [] (slots_of c) vs (omega (arith, lt, length-slots_of b, length-slots_of c)) same in
     let none = on.first in
     absurd cc
 full b c (d ∷ bs) vs some more joined same lt =
     let on = longer (slots_of b) (slots_of d ++ flat_map slots_of bs) (slots_of c) vs (omega (arith, lt, length-slots_of b, length-slots_of c)) same in
-    let bk : kind_of b ≡ kind_of c = first_kind (kind_of b) (kind_of c) (slots_of b) (slots_of c) (slots_of d ++ flat_map slots_of bs) vs same (omega (arith, some.0, length-slots_of b)) (omega (arith, more, length-slots_of c)) (each_kind b) (each_kind c) in
+    let bk : kind_of b ≡ kind_of c = first_kind (kind_of b) (kind_of c) (slots_of b) (slots_of c) (slots_of d ++ flat_map slots_of bs) vs same
+    (omega (arith, some.0, length-slots_of b)) (omega (arith, more, length-slots_of c)) (each_kind b) (each_kind c) in
     let nk : kind_at on.next ≡ kind_of c = kind_behind (kind_of c) (slots_of b) on.next on.others (subst (λ (ss : List Slot). AllByRecursion (λ s. kind_at s ≡ kind_of c) ss) on.goes_on (each_kind c)) in
-    let dk : kind_of d ≡ kind_of c = first_kind (kind_of d) (kind_of c) (slots_of d) (on.next ∷ []) (flat_map slots_of bs) on.behind on.first (omega (arith, some.1.0, length-slots_of d)) (lit< tt) (each_kind d) (nk, tt) in
+    let dk : kind_of d ≡ kind_of c = first_kind (kind_of d) (kind_of c)
+    (slots_of d) (on.next ∷ []) (flat_map slots_of bs) on.behind on.first (omega (arith, some.1.0, length-slots_of d)) (lit< tt) (each_kind d) (nk, tt) in
     joined.0 (one_kind b d (bk ∙ sym dk))
 
 behind_joined : (b : Bundle) (bs : List Bundle) → AreJoined (b ∷ bs) → AreJoined bs
@@ -191,7 +194,9 @@ none_left c cs some same =
     let len : 0 ≡ length (slots_of c ++ flat_map slots_of cs) = ap length same in
     omega (arith, len, some, length-slots_of c, length-append (slots_of c) (flat_map slots_of cs))
 
-pub one_list : (bs cs : List Bundle) → flat_map slots_of bs ≡ flat_map slots_of cs → AllByRecursion (λ b. 0 < ordinal_count b) bs → AllByRecursion (λ b. ordinal_count b ≤ MAX_ENTRIES) bs → AreJoined bs → AllByRecursion (λ b. 0 < ordinal_count b) cs → AllByRecursion (λ b. ordinal_count b ≤ MAX_ENTRIES) cs → AreJoined cs → bs ≡ cs
+pub one_list : (bs cs : List Bundle) →
+    flat_map slots_of bs ≡ flat_map slots_of cs → AllByRecursion (λ b. 0 < ordinal_count b) bs → AllByRecursion (λ b. ordinal_count b ≤ MAX_ENTRIES) bs →
+    AreJoined bs → AllByRecursion (λ b. 0 < ordinal_count b) cs → AllByRecursion (λ b. ordinal_count b ≤ MAX_ENTRIES) cs → AreJoined cs → bs ≡ cs
 one_list [] [] same sb mb jb sc mc jc = refl
 one_list [] (c ∷ cs) same sb mb jb sc mc jc = absurd (none_left c cs sc.0 same)
 one_list (b ∷ bs) [] same sb mb jb sc mc jc = absurd (none_left b bs sb.0 (sym same))
@@ -204,7 +209,8 @@ one_list (b ∷ bs) (c ∷ cs) same sb mb jb sc mc jc =
       ]
     ] in
     let parts = same_length (slots_of b) (flat_map slots_of bs) (slots_of c) (flat_map slots_of cs) (length-slots_of b ∙ counts ∙ sym (length-slots_of c)) same in
-    let kinds = first_kind (kind_of b) (kind_of c) (slots_of b) (slots_of c) (flat_map slots_of bs) (flat_map slots_of cs) same (omega (arith, sb.0, length-slots_of b)) (omega (arith, sc.0, length-slots_of c)) (each_kind b) (each_kind c) in
+    let kinds = first_kind (kind_of b) (kind_of c) (slots_of b) (slots_of c) (flat_map slots_of bs)
+    (flat_map slots_of cs) same (omega (arith, sb.0, length-slots_of b)) (omega (arith, sc.0, length-slots_of c)) (each_kind b) (each_kind c) in
     let first = rebuilt b c kinds (omega (arith, sb.0, length-slots_of b)) parts.0 in
     let others = one_list bs cs parts.1 sb.1 mb.1 (behind_joined b bs jb) sc.1 mc.1 (behind_joined c cs jc) in
     ap (λ (x : Bundle). x ∷ bs) first ∙ ap (λ (xs : List Bundle). c ∷ xs) others

@@ -98,7 +98,8 @@ order_has_each_once lib m =
 library_below : (lib : List Parts) (name : List ℕ) (k : ℕ) → library_named lib name ≡ Some k → k < length lib
 library_below lib name k e = (position-Some (λ m. is_library_of m && has_name name m) lib k no_module e).0
 
-named_by : (lib : List Parts) (name : List ℕ) (names : List (List ℕ)) (x : ℕ) (o : Option ℕ) → library_named lib name ≡ o → (In x (filter_map (library_named lib) names) → x < length lib) → In x (filter_map (library_named lib) (name ∷ names)) → x < length lib
+named_by : (lib : List Parts) (name : List ℕ) (names : List (List ℕ)) (x : ℕ) (o : Option ℕ) → library_named lib name ≡ o →
+    (In x (filter_map (library_named lib) names) → x < length lib) → In x (filter_map (library_named lib) (name ∷ names)) → x < length lib
 named_by lib name names x None is again h = again (rw is at h)
 named_by lib name names x (Some k) is again h =
     let split : (x ≡ k) ⊎ In x (filter_map (library_named lib) names) = rw is at h in

@@ -73,7 +73,9 @@ fields_read g fits at rest =
 
 -- what is made of the fields of a group that stands at a place
 abbrev after : ℕ → ℕ → Read Group → Read (Option (Group × ℕ))
-after before at fields = fault_at at fields >>= λ group. cond (ltb PAGE_SIZE (before + group.0.times * length group.0.bytes)) (Err (fault TooLong at)) (done (Some (group.0, before + group.0.times * length group.0.bytes), group.1))
+after before at fields =
+    fault_at at fields >>= λ group. cond (ltb PAGE_SIZE (before + group.0.times * length group.0.bytes))
+    (Err (fault TooLong at)) (done (Some (group.0, before + group.0.times * length group.0.bytes), group.1))
 
 pub group_read : (before at : ℕ) (g : Group) (rest : List ℕ) → GroupFits g → before + g.times * length g.bytes ≤ PAGE_SIZE →
     group_at before (cursor at (group_spelling g ++ rest)) ≡ Ok (Some (g, before + g.times * length g.bytes), cursor (at + length (group_spelling g)) rest)
@@ -83,7 +85,8 @@ group_read before at g rest fits small =
     let end = cursor (at + length (group_spelling g)) rest in
     let here = fields_read g fits at rest in
     let limit = le-ltb PAGE_SIZE given small in
-    other (eqb (length (group_spelling g ++ rest)) 0) (ends (cursor at (group_spelling g ++ rest))) (after before at (group_fields (cursor at (group_spelling g ++ rest)))) (not_zero (length (group_spelling g ++ rest)) (omega arith))
+    other (eqb (length (group_spelling g ++ rest)) 0) (ends (cursor at (group_spelling g ++ rest)))
+    (after before at (group_fields (cursor at (group_spelling g ++ rest)))) (not_zero (length (group_spelling g ++ rest)) (omega arith))
     ∙ ap (after before at) here
     ∙ other (ltb PAGE_SIZE given) (Err (fault TooLong at)) (done (Some (g, given), end)) limit
 

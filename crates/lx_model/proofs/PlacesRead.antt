@@ -35,8 +35,10 @@ number_read n x before front rest skip len fits =
 abbrev IsRead : {X Y : Type 0} → (X → Type 0) → (X → List ℕ) → (X → Y) → (List ℕ → ℕ → Y) → Type 0
 IsRead {X} {Y} Fits spell value entry = (before : List ℕ) (x : X) (rest : List ℕ) → Fits x → entry (before ++ (spell x ++ rest)) (length before) ≡ value x
 
-entries_read : {X Y : Type 0} (Fits : X → Type 0) (spell : X → List ℕ) (value : X → Y) (entry : List ℕ → ℕ → Y) (place : ℕ → ℕ) (size : ℕ) → IsRead Fits spell value entry → ((x : X) → length (spell x) ≡ size) → ((a : ℕ) → place (a + 1) ≡ place a + size) →
-    (xs : List X) (a : ℕ) (before rest file : List ℕ) → Each Fits xs → length before ≡ place a → file ≡ before ++ (flat_map spell xs ++ rest) → map (λ k. entry file (place k)) (range_with_len a (length xs)) ≡ map value xs
+entries_read : {X Y : Type 0} (Fits : X → Type 0) (spell : X → List ℕ) (value : X → Y) (entry : List ℕ → ℕ → Y) (place : ℕ → ℕ) (size : ℕ) →
+    IsRead Fits spell value entry → ((x : X) → length (spell x) ≡ size) → ((a : ℕ) → place (a + 1) ≡ place a + size) →
+    (xs : List X) (a : ℕ) (before rest file : List ℕ) → Each Fits xs →
+    length before ≡ place a → file ≡ before ++ (flat_map spell xs ++ rest) → map (λ k. entry file (place k)) (range_with_len a (length xs)) ≡ map value xs
 entries_read Fits spell value entry place size read sized next [] a before rest file fits at is = refl
 entries_read {X} {Y} Fits spell value entry place size read sized next (x ∷ xs) a before rest file fits at is =
     let tail = flat_map spell xs ++ rest in
@@ -62,7 +64,8 @@ doubleword_read before n rest fits =
 
 pub doublewords_again : DoublewordsReadAgain
 doublewords_again before ns rest fits =
-    entries_read (λ n. n < 2 ^ 32) (little_bytes 4) (λ n. n) (λ file at. number_at 4 file at) (λ k. length before + 4 * k) 4 doubleword_read (λ x. refl) (λ a. omega arith) ns 0 before rest (before ++ (doublewords ns ++ rest)) fits (omega arith) refl
+    entries_read (λ n. n < 2 ^ 32) (little_bytes 4) (λ n. n) (λ file at. number_at 4 file at)
+    (λ k. length before + 4 * k) 4 doubleword_read (λ x. refl) (λ a. omega arith) ns 0 before rest (before ++ (doublewords ns ++ rest)) fits (omega arith) refl
     ∙ map_same ns
 
 -- ---- objects
@@ -93,7 +96,8 @@ object_read before o rest fits =
 
 pub objects_again : ObjectsReadAgain
 objects_again before os rest fits =
-    entries_read ObjectHeadFits object_spelling (λ o. o) object_entry (λ k. length before + OBJECT_ENTRY_LEN * k) OBJECT_ENTRY_LEN object_read (λ x. refl) (λ a. omega arith) os 0 before rest (before ++ (objects_spelling os ++ rest)) fits (omega arith) refl
+    entries_read ObjectHeadFits object_spelling (λ o. o) object_entry (λ k. length before + OBJECT_ENTRY_LEN * k) OBJECT_ENTRY_LEN object_read
+    (λ x. refl) (λ a. omega arith) os 0 before rest (before ++ (objects_spelling os ++ rest)) fits (omega arith) refl
     ∙ map_same os
 
 -- ---- pages
@@ -129,7 +133,8 @@ page_read before p rest fits =
 
 pub pages_again : PagesReadAgain
 pages_again before ps rest fits =
-    entries_read PageHeadFits page_spelling Some page_fields (λ k. length before + PAGE_ENTRY_LEN * k) PAGE_ENTRY_LEN page_read (λ x. refl) (λ a. omega arith) ps 0 before rest (before ++ (pages_spelling ps ++ rest)) fits (omega arith) refl
+    entries_read PageHeadFits page_spelling Some page_fields (λ k. length before + PAGE_ENTRY_LEN * k) PAGE_ENTRY_LEN page_read
+    (λ x. refl) (λ a. omega arith) ps 0 before rest (before ++ (pages_spelling ps ++ rest)) fits (omega arith) refl
 
 -- ---- the header
 

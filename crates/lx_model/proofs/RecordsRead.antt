@@ -25,7 +25,8 @@ use Rattle.lx_model.proofs.ReadsAs.{ReadsAs, number_reads, byte_reads, bind_read
 
 -- ---- the source byte
 
-source_again : (source : Source) (alias listed : Bool) → AliasFits alias source → source_of_byte (source_byte (record { source = source; alias = alias; listed = listed })) ≡ Some (record { source = source; alias = alias; listed = listed })
+source_again : (source : Source) (alias listed : Bool) → AliasFits alias source →
+    source_of_byte (source_byte (record { source = source; alias = alias; listed = listed })) ≡ Some (record { source = source; alias = alias; listed = listed })
 source_again Byte true true h = absurd cc
 source_again Byte true false h = absurd cc
 source_again Byte false true h = refl
@@ -164,9 +165,11 @@ flags_good s code lt =
 -- ---- target and additive
 
 plain_reads : (flags object offset : ℕ) → object < 256 ^ number_width flags → offset < 256 ^ target_width flags →
-    ReadsAs (λ c. number (number_width flags) c >>= λ o. number (target_width flags) o.1 >>= λ x. Ok (Internal o.0 x.0, x.1)) (little_bytes (number_width flags) object ++ little_bytes (target_width flags) offset) (Internal object offset)
+    ReadsAs (λ c. number (number_width flags) c >>= λ o. number (target_width flags) o.1 >>= λ x. Ok (Internal o.0 x.0, x.1))
+    (little_bytes (number_width flags) object ++ little_bytes (target_width flags) offset) (Internal object offset)
 plain_reads flags object offset small low =
-    bind_reads (number (number_width flags)) (λ o. number (target_width flags) o.1 >>= λ x. Ok (Internal o.0 x.0, x.1)) (little_bytes (number_width flags) object) (little_bytes (target_width flags) offset) object (Internal object offset)
+    bind_reads (number (number_width flags)) (λ o. number (target_width flags) o.1 >>= λ x. Ok (Internal o.0 x.0, x.1))
+    (little_bytes (number_width flags) object) (little_bytes (target_width flags) offset) object (Internal object offset)
     (number_reads (number_width flags) object small)
     (done_reads (number (target_width flags)) (λ x. Internal object x) (little_bytes (target_width flags) offset) offset (number_reads (target_width flags) offset low))
 
@@ -186,11 +189,13 @@ target_reads : (source : Source) (flags : ℕ) (target : FixTarget) → flags % 
 unfolding target_of_kind
 target_reads source flags (Internal object offset) kind h at rest = rw kind (internal_reads source flags object offset h at rest)
 target_reads source flags (Ordinal import ordinal) kind h at rest =
-    rw kind (bind_reads (number (number_width flags)) (λ i. number (ordinal_width flags) i.1 >>= λ x. Ok (Ordinal i.0 x.0, x.1)) (little_bytes (number_width flags) import) (little_bytes (ordinal_width flags) ordinal) import (Ordinal import ordinal)
+    rw kind (bind_reads (number (number_width flags)) (λ i. number (ordinal_width flags) i.1 >>= λ x. Ok (Ordinal i.0 x.0, x.1))
+    (little_bytes (number_width flags) import) (little_bytes (ordinal_width flags) ordinal) import (Ordinal import ordinal)
     (number_reads (number_width flags) import h.0)
     (done_reads (number (ordinal_width flags)) (λ x. Ordinal import x) (little_bytes (ordinal_width flags) ordinal) ordinal (number_reads (ordinal_width flags) ordinal h.1)) at rest)
 target_reads source flags (Named import name_at) kind h at rest =
-    rw kind (bind_reads (number (number_width flags)) (λ i. number (target_width flags) i.1 >>= λ x. Ok (Named i.0 x.0, x.1)) (little_bytes (number_width flags) import) (little_bytes (target_width flags) name_at) import (Named import name_at)
+    rw kind (bind_reads (number (number_width flags)) (λ i. number (target_width flags) i.1 >>= λ x. Ok (Named i.0 x.0, x.1))
+    (little_bytes (number_width flags) import) (little_bytes (target_width flags) name_at) import (Named import name_at)
     (number_reads (number_width flags) import h.0)
     (done_reads (number (target_width flags)) (λ x. Named import x) (little_bytes (target_width flags) name_at) name_at (number_reads (target_width flags) name_at h.1)) at rest)
 target_reads source flags (Own ordinal) kind h at rest =
@@ -262,22 +267,27 @@ single_reads : (kind : SourceKind) (flags : ℕ) (target : FixTarget) (additive 
 unfolding single_at
 single_reads kind flags target additive o h low =
     let fixes = fixes_at_offsets kind target additive (o ∷ []) in
-    bind_reads (offset_at kind.source) (λ x. target_at kind.source flags x.1 >>= λ t. additive_at flags t.1 >>= λ a. Ok (fixes_at_offsets kind t.0 a.0 (x.0 ∷ []), a.1)) (offset_spelling o) (target_spelling kind.source flags target ++ additive_spelling flags additive) o fixes
+    bind_reads (offset_at kind.source) (λ x. target_at kind.source flags x.1 >>= λ t. additive_at flags t.1 >>= λ a. Ok (fixes_at_offsets kind t.0 a.0 (x.0 ∷ []), a.1))
+    (offset_spelling o) (target_spelling kind.source flags target ++ additive_spelling flags additive) o fixes
     (offset_reads kind.source o low)
-    (bind_reads (target_at kind.source flags) (λ t. additive_at flags t.1 >>= λ a. Ok (fixes_at_offsets kind t.0 a.0 (o ∷ []), a.1)) (target_spelling kind.source flags target) (additive_spelling flags additive) target fixes
+    (bind_reads (target_at kind.source flags) (λ t. additive_at flags t.1 >>= λ a. Ok (fixes_at_offsets kind t.0 a.0 (o ∷ []), a.1))
+    (target_spelling kind.source flags target) (additive_spelling flags additive) target fixes
     (target_reads kind.source flags target h.code h.target_fits)
     (done_reads (additive_at flags) (λ a. fixes_at_offsets kind target a (o ∷ [])) (additive_spelling flags additive) additive (additive_reads h.there flags additive h.is_there h.additive_fits)))
 
 list_reads : (kind : SourceKind) (flags : ℕ) (target : FixTarget) (additive : ℕ) (offsets : List ℤ) → FieldsFit kind.source flags target additive → length offsets < 256 → Each (OffsetFits kind.source) offsets →
-    ReadsAs (list_at kind flags) ((length offsets ∷ []) ++ (target_spelling kind.source flags target ++ (additive_spelling flags additive ++ flat_map offset_spelling offsets))) (fixes_at_offsets kind target additive offsets)
+    ReadsAs (list_at kind flags) ((length offsets ∷ []) ++ (target_spelling kind.source flags target ++ (additive_spelling flags additive ++ flat_map offset_spelling offsets)))
+    (fixes_at_offsets kind target additive offsets)
 unfolding list_at
 list_reads kind flags target additive offsets h few low =
     let fixes = fixes_at_offsets kind target additive offsets in
     let tail = flat_map offset_spelling offsets in
     let count = length offsets in
-    bind_reads (number 1) (λ n. target_at kind.source flags n.1 >>= λ t. additive_at flags t.1 >>= λ a. offsets_at n.0 kind.source a.1 >>= λ o. Ok (fixes_at_offsets kind t.0 a.0 o.0, o.1)) (count ∷ []) (target_spelling kind.source flags target ++ (additive_spelling flags additive ++ tail)) count fixes
+    bind_reads (number 1) (λ n. target_at kind.source flags n.1 >>= λ t. additive_at flags t.1 >>= λ a. offsets_at n.0 kind.source a.1 >>= λ o. Ok
+    (fixes_at_offsets kind t.0 a.0 o.0, o.1)) (count ∷ []) (target_spelling kind.source flags target ++ (additive_spelling flags additive ++ tail)) count fixes
     (byte_reads count few)
-    (bind_reads (target_at kind.source flags) (λ t. additive_at flags t.1 >>= λ a. offsets_at count kind.source a.1 >>= λ o. Ok (fixes_at_offsets kind t.0 a.0 o.0, o.1)) (target_spelling kind.source flags target) (additive_spelling flags additive ++ tail) target fixes
+    (bind_reads (target_at kind.source flags) (λ t. additive_at flags t.1 >>= λ a. offsets_at count kind.source a.1 >>= λ o. Ok (fixes_at_offsets kind t.0 a.0 o.0, o.1))
+    (target_spelling kind.source flags target) (additive_spelling flags additive ++ tail) target fixes
     (target_reads kind.source flags target h.code h.target_fits)
     (bind_reads (additive_at flags) (λ a. offsets_at count kind.source a.1 >>= λ o. Ok (fixes_at_offsets kind target a.0 o.0, o.1)) (additive_spelling flags additive) tail additive fixes
     (additive_reads h.there flags additive h.is_there h.additive_fits)
@@ -304,12 +314,14 @@ body_reads true w flags h count low =
     (list_reads w.kind flags w.target w.additive w.offsets h count low)
 body_reads false w flags h count low = one_reads w.kind flags w.target w.additive w.offsets h count low
 
-behind_reads : (bad : ℕ) (w : Written) (flags : ℕ) → flags < 256 → has CHAIN flags ≡ false → FieldsFit w.kind.source flags w.target w.additive → CountFits w.kind.listed w.offsets → Each (OffsetFits w.kind.source) w.offsets →
+behind_reads : (bad : ℕ) (w : Written) (flags : ℕ) → flags < 256 → has CHAIN flags ≡ false →
+    FieldsFit w.kind.source flags w.target w.additive → CountFits w.kind.listed w.offsets → Each (OffsetFits w.kind.source) w.offsets →
     ReadsAs (behind_source bad (Some w.kind)) (flags ∷ offsets_spelling w.kind.listed w flags) (fixes_written w)
 behind_reads bad w flags small chain h count low =
     bind_reads (number 1) (λ x. cond (has CHAIN x.0) (Err (fault kinds.BadSource bad)) (body w.kind.listed w.kind x.0 x.1)) (flags ∷ []) (offsets_spelling w.kind.listed w flags) flags (fixes_written w)
     (byte_reads flags small)
-    (λ at rest. other (has CHAIN flags) (Err (fault kinds.BadSource bad)) (body w.kind.listed w.kind flags (cursor at (offsets_spelling w.kind.listed w flags ++ rest))) chain ∙ body_reads w.kind.listed w flags h count low at rest)
+    (λ at rest. other (has CHAIN flags) (Err (fault kinds.BadSource bad))
+    (body w.kind.listed w.kind flags (cursor at (offsets_spelling w.kind.listed w flags ++ rest))) chain ∙ body_reads w.kind.listed w flags h count low at rest)
 
 code_small : (t : FixTarget) → target_code t < 4
 code_small (Internal object offset) = omega arith

@@ -117,13 +117,25 @@ one_taken source flags n make c d t h build e =
 
 internal_taken : (source : Source) (flags : ℕ) (c d : Cursor) (t : FixTarget) → flags % 4 ≡ 0 → AreBytes c.left → internal_at source flags c ≡ Ok (t, d) → TargetTaken source flags c t d
 unfolding internal_at
-internal_taken Byte flags c d t kind h e = two_taken Byte flags (number_width flags) (target_width flags) (λ o x. Internal o x) c d t h (λ x y end lt less taken. record { taken = taken; fits = (lt, less); code = kind }) e
+internal_taken Byte flags c d t kind h e =
+    two_taken Byte flags (number_width flags)
+    (target_width flags) (λ o x. Internal o x) c d t h (λ x y end lt less taken. record { taken = taken; fits = (lt, less); code = kind }) e
 internal_taken Sel flags c d t kind h e = one_taken Sel flags (number_width flags) (λ o. Internal o 0) c d t h (λ x end lt taken. record { taken = taken; fits = (lt, refl); code = kind }) e
-internal_taken Far16 flags c d t kind h e = two_taken Far16 flags (number_width flags) (target_width flags) (λ o x. Internal o x) c d t h (λ x y end lt less taken. record { taken = taken; fits = (lt, less); code = kind }) e
-internal_taken Off16 flags c d t kind h e = two_taken Off16 flags (number_width flags) (target_width flags) (λ o x. Internal o x) c d t h (λ x y end lt less taken. record { taken = taken; fits = (lt, less); code = kind }) e
-internal_taken Far32 flags c d t kind h e = two_taken Far32 flags (number_width flags) (target_width flags) (λ o x. Internal o x) c d t h (λ x y end lt less taken. record { taken = taken; fits = (lt, less); code = kind }) e
-internal_taken Off32 flags c d t kind h e = two_taken Off32 flags (number_width flags) (target_width flags) (λ o x. Internal o x) c d t h (λ x y end lt less taken. record { taken = taken; fits = (lt, less); code = kind }) e
-internal_taken Self32 flags c d t kind h e = two_taken Self32 flags (number_width flags) (target_width flags) (λ o x. Internal o x) c d t h (λ x y end lt less taken. record { taken = taken; fits = (lt, less); code = kind }) e
+internal_taken Far16 flags c d t kind h e =
+    two_taken Far16 flags (number_width flags)
+    (target_width flags) (λ o x. Internal o x) c d t h (λ x y end lt less taken. record { taken = taken; fits = (lt, less); code = kind }) e
+internal_taken Off16 flags c d t kind h e =
+    two_taken Off16 flags (number_width flags)
+    (target_width flags) (λ o x. Internal o x) c d t h (λ x y end lt less taken. record { taken = taken; fits = (lt, less); code = kind }) e
+internal_taken Far32 flags c d t kind h e =
+    two_taken Far32 flags (number_width flags)
+    (target_width flags) (λ o x. Internal o x) c d t h (λ x y end lt less taken. record { taken = taken; fits = (lt, less); code = kind }) e
+internal_taken Off32 flags c d t kind h e =
+    two_taken Off32 flags (number_width flags)
+    (target_width flags) (λ o x. Internal o x) c d t h (λ x y end lt less taken. record { taken = taken; fits = (lt, less); code = kind }) e
+internal_taken Self32 flags c d t kind h e =
+    two_taken Self32 flags (number_width flags)
+    (target_width flags) (λ o x. Internal o x) c d t h (λ x y end lt less taken. record { taken = taken; fits = (lt, less); code = kind }) e
 
 target_taken : (code : ℕ) (source : Source) (flags : ℕ) (c d : Cursor) (t : FixTarget) → flags % 4 ≡ code → code < 4 → AreBytes c.left → target_of_kind code source flags c ≡ Ok (t, d) → TargetTaken source flags c t d
 unfolding target_of_kind
@@ -304,7 +316,8 @@ list_taken kind flags c d fixes h e =
     } in
     subst (λ (p : List Fix × Cursor). BodyTaken true kind flags c p.0 p.1) pair here
 
-body_taken : (listed : Bool) (kind : SourceKind) (flags : ℕ) (c d : Cursor) (fixes : List Fix) → AreBytes c.left → cond listed (list_at kind flags c) (single_at kind flags c) ≡ Ok (fixes, d) → BodyTaken listed kind flags c fixes d
+body_taken : (listed : Bool) (kind : SourceKind) (flags : ℕ) (c d : Cursor) (fixes : List Fix) →
+    AreBytes c.left → cond listed (list_at kind flags c) (single_at kind flags c) ≡ Ok (fixes, d) → BodyTaken listed kind flags c fixes d
 body_taken true kind flags c d fixes h e = list_taken kind flags c d fixes h e
 body_taken false kind flags c d fixes h e = single_taken kind flags c d fixes h e
 

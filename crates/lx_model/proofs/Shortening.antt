@@ -72,7 +72,8 @@ entries_leave (suc n) ordinal m read each c lt =
     bind_leaves m (read c) _ (each c lt) (λ head at lt.
     bind_leaves m (bundle_entries n (ordinal + 1) read at) _ (entries_leave n (ordinal + 1) m read each at lt) (λ others at lt. done_leaves m _ at lt))
 
-object_leaves : (objects bundle n ordinal m : ℕ) (read : ℕ → Cursor → Read EntryHead) → ((object : ℕ) → EachLeaves m (read object)) → (c : Cursor) → length c.left < m → Leaves m (object_entries objects bundle n ordinal read c)
+object_leaves : (objects bundle n ordinal m : ℕ) (read : ℕ → Cursor → Read EntryHead) →
+    ((object : ℕ) → EachLeaves m (read object)) → (c : Cursor) → length c.left < m → Leaves m (object_entries objects bundle n ordinal read c)
 unfolding object_entries
 object_leaves objects bundle n ordinal m read each c lt =
     bind_leaves m (number 2 c) _ (number_leaves 2 m c lt) (λ object at lt.
@@ -113,7 +114,8 @@ group_fields_leave c =
     bind_leaves m (text len at) _ (text_leaves len m at lt) (λ bytes at lt. done_leaves m _ at lt)))
 
 group_behind : (before at : ℕ) (c : Cursor) (none : Bool) (x : Group × ℕ) (d : Cursor) →
-    cond none (ends c) (fault_at at (group_fields c) >>= λ group. cond (ltb PAGE_SIZE (before + group.0.times * length group.0.bytes)) (Err (fault kinds.TooLong at)) (done (Some (group.0, before + group.0.times * length group.0.bytes), group.1))) ≡ Ok (Some x, d) →
+    cond none (ends c) (fault_at at (group_fields c) >>= λ group. cond (ltb PAGE_SIZE (before + group.0.times * length group.0.bytes))
+    (Err (fault kinds.TooLong at)) (done (Some (group.0, before + group.0.times * length group.0.bytes), group.1))) ≡ Ok (Some x, d) →
     length d.left < length c.left
 group_behind before at c true x d e = absurd (never c d x (ends c) refl e)
 group_behind before at c false x d e =

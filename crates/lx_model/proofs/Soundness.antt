@@ -89,7 +89,8 @@ in_order file k e =
     subst (λ (j : ℕ). SpanFits (length file) (records_place file j, records_place file (k + 1))) same
     (in_order_numbers k (records_place file (k + 1)) (records_place file (k + 1 - 1)) (length file) right.0)
 
-span_fits : (file : List ℕ) (has : Bool) → cond has (first_of (page_count file + 1) (span_fault file)) None ≡ None → (k : ℕ) → k < page_count file → SpanFits (length file) (cond has (records_place file k, records_place file (k + 1)) (0, 0))
+span_fits : (file : List ℕ) (has : Bool) → cond has (first_of (page_count file + 1) (span_fault file)) None ≡ None →
+    (k : ℕ) → k < page_count file → SpanFits (length file) (cond has (records_place file k, records_place file (k + 1)) (0, 0))
 span_fits file true e k lt = in_order file k (each_none (page_count file + 1) (span_fault file) (k + 1) e (omega arith))
 span_fits file false e k lt = (omega arith, omega arith)
 

@@ -119,7 +119,8 @@ fields_taken c d g h e =
     let length-taken : Takes times.1 (little_bytes 2 (length bytes.0)) len.1 = subst (λ (n : ℕ). Takes times.1 (little_bytes 2 n) len.1) (sym size) b.taken in
     let here : GroupTaken c (record { times = times.0; bytes = bytes.0 }) bytes.1 = record {
       fits = record { times = a.below; bytes = rw size b.below };
-      taken = Takes-then c len.1 bytes.1 (little_bytes 2 times.0 ++ little_bytes 2 (length bytes.0)) bytes.0 (Takes-then c times.1 len.1 (little_bytes 2 times.0) (little_bytes 2 (length bytes.0)) a.taken length-taken) t.taken;
+      taken = Takes-then c len.1 bytes.1 (little_bytes 2 times.0 ++ little_bytes 2 (length bytes.0)) bytes.0
+          (Takes-then c times.1 len.1 (little_bytes 2 times.0) (little_bytes 2 (length bytes.0)) a.taken length-taken) t.taken;
     } in
     subst (λ (p : Group × Cursor). GroupTaken c p.0 p.1) pair here
 
@@ -133,13 +134,15 @@ StepTaken before c None d = (c ≡ d) × (length c.left ≡ 0)
 StepTaken before c (Some x) d = GroupTaken c x.0 d × (x.1 ≡ before + x.0.times * length x.0.bytes) × (x.1 ≤ PAGE_SIZE)
 
 by_left : (before : ℕ) (c d : Cursor) (o : Option (Group × ℕ)) (none : Bool) → AreBytes c.left → eqb (length c.left) 0 ≡ none →
-    cond none (ends c) (fault_at c.at (group_fields c) >>= λ group. cond (ltb PAGE_SIZE (before + group.0.times * length group.0.bytes)) (Err (fault TooLong c.at)) (done (Some (group.0, before + group.0.times * length group.0.bytes), group.1))) ≡ Ok (o, d) →
+    cond none (ends c) (fault_at c.at (group_fields c) >>= λ group. cond (ltb PAGE_SIZE (before + group.0.times * length group.0.bytes))
+    (Err (fault TooLong c.at)) (done (Some (group.0, before + group.0.times * length group.0.bytes), group.1))) ≡ Ok (o, d) →
     StepTaken before c o d
 by_left before c d o true h is e =
     let pair : (None, c) ≡ (o, d) = cc in
     subst (λ (p : Option (Group × ℕ) × Cursor). StepTaken before c p.0 p.1) pair (refl, eqb-true (length c.left) 0 is)
 by_left before c d o false h is e =
-    let first = bind_ok (fault_at c.at (group_fields c)) (λ group. cond (ltb PAGE_SIZE (before + group.0.times * length group.0.bytes)) (Err (fault TooLong c.at)) (done (Some (group.0, before + group.0.times * length group.0.bytes), group.1))) (o, d) e in
+    let first = bind_ok (fault_at c.at (group_fields c)) (λ group. cond (ltb PAGE_SIZE (before + group.0.times * length group.0.bytes))
+    (Err (fault TooLong c.at)) (done (Some (group.0, before + group.0.times * length group.0.bytes), group.1))) (o, d) e in
     let group = first.0 in
     let given = before + group.0.times * length group.0.bytes in
     let guard = guard_ok (ltb PAGE_SIZE given) (fault TooLong c.at) (done (Some (group.0, given), group.1)) (o, d) first.2 in

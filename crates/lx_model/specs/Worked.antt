@@ -9,5 +9,6 @@ pub mod Header
 pub mod Pages
 pub mod Library
 pub mod Cycles
+pub mod Health
 pub mod Resources
 pub mod Words

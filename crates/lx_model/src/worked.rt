@@ -10,6 +10,7 @@ ghost use Rattle.lx_model.specs.Worked.Header.{WorkedHeader, WorkedOrder, Worked
 ghost use Rattle.lx_model.specs.Worked.Pages.{WorkedPages, WorkedTargets, WorkedClasses};
 ghost use Rattle.lx_model.specs.Worked.Words.{WorkedGathering, WorkedBytes};
 ghost use Rattle.lx_model.specs.Worked.Library.{WorkedFields, WorkedLibrary};
+ghost use Rattle.lx_model.specs.Worked.Health.{WorkedHealth};
 ghost use Rattle.lx_model.specs.Worked.Cycles.{WorkedCycles};
 ghost use Rattle.lx_model.specs.Worked.Resources.{WorkedResources};
 
@@ -77,6 +78,11 @@ pub fn fields_put()
 /// Where entries lead through forwarders, and which modules can be loaded.
 pub fn library_means()
     ensures { WorkedLibrary }
+{}
+
+/// Modules with two causes not to be loaded, and which of them counts.
+pub fn healths_are_ordered()
+    ensures { WorkedHealth }
 {}
 
 /// Modules that import each other, and one that imports itself.

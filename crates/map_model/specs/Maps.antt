@@ -41,8 +41,9 @@ pub record AreInOrder (cmp : Listed → Listed → Ordering) (items sorted : Lis
 
 -- ---- the text
 
--- The module by its name in upper case, its objects, the contributions by chosen module and segment, the communals by slot, the publics that have a
--- place and the others, in these orders, and the import pairs by slot.
+-- The module, its objects, the contributions by chosen module and segment, the communals by slot, the publics that have a
+-- place and the others, in these orders, and the import pairs by slot. The module's own name stands in upper case, as it does
+-- in the file that a link writes, so that two names that mean one module have one map; all other names stand as they are.
 unfoldable pub map_text : List ℕ → Link → List Listed → List Listed → List ℕ
 map_text name l places values =
     map_line (uppercase name) (length (objects l))

@@ -69,6 +69,9 @@ pub record WorkedLink : Type 0 where
   pub placed : placed_publics two_modules
       ≡ listed 0x10000001 (codes "z") ∷ listed 0x10000003 (codes "b c") ∷ listed 0x10000006 (codes "aa") ∷ listed 0x10000006 (codes "B") ∷ []
   pub valued : constants two_modules ≡ listed 7 (codes "b") ∷ listed 0xFFFFFFFF (codes "a") ∷ []
+  -- names that differ in case alone
+  pub capital : map_text (codes "TWO") two_modules (placed_publics two_modules) (constants two_modules)
+      ≡ map_text (codes "two") two_modules (placed_publics two_modules) (constants two_modules)
   pub text : map_text (codes "two") two_modules (placed_publics two_modules) (constants two_modules)
       ≡ ln (codes "map TWO objects 1")
       ++ ln (codes "object 1 10000000 size 13 flags 00002003")

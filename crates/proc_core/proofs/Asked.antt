@@ -16,7 +16,9 @@ use Rattle.load_model.specs.Entering.{NoRoom, placing}
 use Rattle.load_model.specs.Initialising.{enter_by, entered, enter_deed, failing_module}
 use Rattle.load_model.specs.Memory.{first_untouched}
 use Rattle.load_model.specs.Refusals.{write, share, debug, when, span_refusal, residence_refusal, residence_named, place_refusal, refusal_of}
-use Rattle.load_model.specs.Asks.{Ask, enter, get, ask_in, bytes_at, deed_of, may_ask}
+use Rattle.load_model.specs.declared.commands.Ask.{Ask}
+use Rattle.load_model.specs.declared.commands.Ask.TheVariants.{Enter as enter, Shared as get}
+use Rattle.load_model.specs.Asks.{ask_in, bytes_at, deed_of, may_ask}
 use Rattle.load_model.specs.Step.{meant, ask_by, FitsPlace}
 use Rattle.load_model.specs.Outcomes.{NamesAreKnown}
 use Rattle.load_model.proofs.Bytes.{right_none}

@@ -7,7 +7,8 @@ use Rattle.load_model.specs.declared.commands.Command.{Command}
 use Rattle.load_model.specs.declared.deeds.Entry.{Entry}
 use Rattle.load_model.specs.Modules.{Library, fixed_bytes}
 use Rattle.load_model.specs.State.{Failing, Eager, pids, is_among}
-use Rattle.load_model.specs.Asks.{Ask, may_ask}
+use Rattle.load_model.specs.declared.commands.Ask.{Ask}
+use Rattle.load_model.specs.Asks.{may_ask}
 use Rattle.load_model.specs.Histories.{state_after}
 use Rattle.load_model.specs.Step.{FitsPlace}
 use Rattle.load_model.specs.Laws.{OneMoreIsLegal}

@@ -13,7 +13,7 @@ use Rattle.load_model.specs.declared.deeds.Entry.{Entry}
 use Rattle.load_model.specs.Modules.{Library, fixed_bytes, number_of}
 use Rattle.load_model.specs.State.{PageOf, Residence, Eager, Failing, pids, is_among, reaches, is_reached, residence_of, serial_of, attached_residence}
 use Rattle.load_model.specs.Refusals.{residence_if, residence_named}
-use Rattle.load_model.specs.Asks.{Ask}
+use Rattle.load_model.specs.declared.commands.Ask.{Ask}
 use Rattle.load_model.specs.Step.{ask_by, serial_named, meant, FitsPlace}
 use Rattle.load_model.specs.Histories.{after_entry, state_after, Follows}
 use Rattle.load_model.specs.Accepted.{retouched}

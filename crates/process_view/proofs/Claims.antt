@@ -23,7 +23,8 @@ use Rattle.load_model.specs.State.{Residence, pids, is_among}
 use Rattle.load_model.specs.Memory.{page, pages_over}
 use Rattle.load_model.specs.Refusals as uses
 use Rattle.load_model.specs.Refusals.{when, ◌orelse◌, span_refusal, class_refusal, is_outside, covers_invalid}
-use Rattle.load_model.specs.Asks.{fault, deed_of, may_ask, is_attached, is_serial, is_own, may_fault}
+use Rattle.load_model.specs.declared.commands.Ask.TheVariants.{Fault as fault}
+use Rattle.load_model.specs.Asks.{deed_of, may_ask, is_attached, is_serial, is_own, may_fault}
 use Rattle.load_model.specs.Histories.{Follows, has_fault}
 use Rattle.load_model.specs.Laws.{ResidenceStays}
 use Rattle.load_model.specs.Alike.{BasesSeenStay}

@@ -14,7 +14,9 @@ use Rattle.load_model.specs.State.{Written, pids, is_among}
 use Rattle.load_model.specs.Memory.{page, pages_over}
 use Rattle.load_model.specs.Refusals as uses
 use Rattle.load_model.specs.Refusals.{when, ◌orelse◌, span_refusal, touch_refusal}
-use Rattle.load_model.specs.Asks.{Ask, put, patch, deed_of}
+use Rattle.load_model.specs.declared.commands.Ask.{Ask}
+use Rattle.load_model.specs.declared.commands.Ask.TheVariants.{Write as put, Debug as patch}
+use Rattle.load_model.specs.Asks.{deed_of}
 use Rattle.load_model.specs.Step.{ask_by, meant}
 use Rattle.load_model.specs.Laws.{ResidenceStays}
 use Rattle.load_model.specs.Alike.{BasesSeenStay}

@@ -20,7 +20,8 @@ use Rattle.load_model.specs.Modules.{Library, Held, fixed_bytes, number_of, orde
 use Rattle.load_model.specs.State.{Process, Residence, Eager, pids, is_among, reaches, is_reached, residence_of, serial_of, bases_of, attached_residence}
 use Rattle.load_model.specs.Memory.{bases_seen, is_page}
 use Rattle.load_model.specs.Refusals.{enter_refusal}
-use Rattle.load_model.specs.Asks.{enter, deed_of, after_deed, may_ask}
+use Rattle.load_model.specs.declared.commands.Ask.TheVariants.{Enter as enter}
+use Rattle.load_model.specs.Asks.{deed_of, after_deed, may_ask}
 use Rattle.load_model.specs.Step.{ask_by, FitsPlace}
 use Rattle.load_model.specs.Entering.{joined, holding, attaching, after_entering}
 use Rattle.load_model.specs.Initialising.{enter_deed}

@@ -18,7 +18,7 @@ use Rattle.load_model.specs.declared.deeds.Deed.{Deed}
 use Rattle.load_model.specs.Modules.{number_of, order_of}
 use Rattle.load_model.specs.State.{Process, pids, is_among}
 use Rattle.load_model.specs.Refusals.{when, started_refusal}
-use Rattle.load_model.specs.Asks.{enter}
+use Rattle.load_model.specs.declared.commands.Ask.TheVariants.{Enter as enter}
 use Rattle.load_model.specs.Laws.{ResidenceStays}
 use Rattle.load_model.specs.Alike.{BasesSeenStay}
 use Rattle.load_model.specs.ViewLaws.{StandsQuiet, StandsEntered}

@@ -9,7 +9,8 @@ use Rattle.load_model.specs.declared.commands.Command.TheVariants as commands
 use Rattle.load_model.specs.declared.deeds.Fresh.{Fresh}
 use Rattle.load_model.specs.Modules.{Library, fixed_bytes, number_of}
 use Rattle.load_model.specs.State.{Process, Residence, Eager, pids, is_among, reaches, residence_of, attached_residence}
-use Rattle.load_model.specs.Asks.{free, deed_of}
+use Rattle.load_model.specs.declared.commands.Ask.TheVariants.{Free as free}
+use Rattle.load_model.specs.Asks.{deed_of}
 use Rattle.load_model.specs.Step.{ask_by}
 use Rattle.load_model.specs.Histories.{state_after}
 use Rattle.load_model.specs.Leaving.{freeing, keeping, left_serials}

@@ -14,7 +14,7 @@ use Rattle.load_model.specs.declared.deeds.Call.{Call}
 use Rattle.load_model.specs.declared.deeds.Fresh.{Fresh}
 use Rattle.load_model.specs.Modules.{Library, fixed_bytes, order_of}
 use Rattle.load_model.specs.State.{Eager, Process, Residence, pids, is_among, reaches, residence_of, serial_of}
-use Rattle.load_model.specs.Asks.{enter}
+use Rattle.load_model.specs.declared.commands.Ask.TheVariants.{Enter as enter}
 use Rattle.load_model.specs.Entering.{joined}
 use Rattle.load_model.specs.Histories.{state_after}
 use Rattle.load_model.specs.ProcessCounts.{AreCountsOf, unreached}

@@ -9,7 +9,9 @@ use Rattle.load_model.specs.declared.commands.Command.TheVariants as commands
 use Rattle.load_model.specs.declared.deeds.Entry.{Entry}
 use Rattle.load_model.specs.Modules.{Library, Held, fixed_bytes}
 use Rattle.load_model.specs.State.{Failing, Process, Eager, pids, is_among, reaches, residence_of, attached_residence, with_process}
-use Rattle.load_model.specs.Asks.{Ask, exit, deed_of}
+use Rattle.load_model.specs.declared.commands.Ask.{Ask}
+use Rattle.load_model.specs.declared.commands.Ask.TheVariants.{Exit as exit}
+use Rattle.load_model.specs.Asks.{deed_of}
 use Rattle.load_model.specs.Step.{ask_by}
 use Rattle.load_model.specs.Histories.{state_after, Follows, Legal}
 use Rattle.load_model.specs.Leaving.{exiting, keeping, after_leaving}

@@ -18,7 +18,8 @@ use Rattle.load_model.specs.State.{PageOf, Residence, pids, is_among, attached_r
 use Rattle.load_model.specs.Memory.{page, is_page, pages_over, bases_seen}
 use Rattle.load_model.specs.Refusals as uses
 use Rattle.load_model.specs.Refusals.{span_refusal, class_refusal}
-use Rattle.load_model.specs.Asks.{get, deed_of, may_ask, is_attached, is_serial}
+use Rattle.load_model.specs.declared.commands.Ask.TheVariants.{Shared as get}
+use Rattle.load_model.specs.Asks.{deed_of, may_ask, is_attached, is_serial}
 use Rattle.load_model.specs.Step.{ask_by, meant}
 use Rattle.load_model.specs.Laws.{ResidenceStays}
 use Rattle.load_model.specs.Alike.{BasesSeenStay}

@@ -12,7 +12,7 @@ use Rattle.page_frames.specs.Residences.{ResidenceFor}
 use Rattle.process_pages.specs.ReachedResidences.{page_with}
 use Rattle.load_model.specs.declared.commands.Command.{Command}
 use Rattle.load_model.specs.Modules.{fixed_bytes}
-use Rattle.load_model.specs.Asks.{Ask}
+use Rattle.load_model.specs.declared.commands.Ask.{Ask}
 use Rattle.load_model.specs.declared.deeds.Deed.{Deed}
 use Rattle.load_model.specs.declared.deeds.Deed.TheVariants as deeds
 use Rattle.load_model.specs.declared.deeds.Entry.{Entry}

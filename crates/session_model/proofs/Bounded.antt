@@ -14,7 +14,8 @@ use Rattle.session_model.specs.declared.sessions.SessionRefusal.{SessionRefusal}
 use Rattle.session_model.specs.Lines.{lines_in}
 use Rattle.session_model.specs.Statements.{Statement, gives, fails, process, command, Reading, nothing, says, wrong, reading_of}
 use Rattle.lx_types.specs.declared.limits.TheConstants.{MAX_PROCESSES}
-use Rattle.session_model.specs.Sessions.{module_of, failing_in, commands_of, scripts_of, session_of, statement_in, statements_of, number_or, count_or, last_number, commands_so_far, rises, fault_among, fault_behind, line_fault, or_next, fault_from, SesFault}
+use Rattle.session_model.specs.Sessions.{module_of, failing_in, commands_of, scripts_of, session_of, statement_in, statements_of, number_or, count_or, last_number, commands_so_far, rises, fault_among, fault_behind, line_fault}
+use Rattle.session_model.proofs.LinesAbove.{or_next, fault_from, ses_fault_is}
 use Rattle.session_model.specs.declared.limits.TheConstants.{MAX_COMMANDS}
 use Rattle.session_model.specs.Bounds.{IsCommand, IsModLine, IsFailingLine, IsScript, IsSession, SessionsAreBounded}
 use Rattle.session_model.proofs.Readings.{IsStatement, read_good}
@@ -165,6 +166,5 @@ session_good sts fine =
     }
 
 pub sessions_are_bounded : SessionsAreBounded
-unfolding SesFault
 sessions_are_bounded bytes s ses =
-    subst IsSession (sym ses.says) (session_good (statements_of (lines_in bytes)) (fine_lines [] (lines_in bytes) ses.good))
+    subst IsSession (sym ses.says) (session_good (statements_of (lines_in bytes)) (fine_lines [] (lines_in bytes) (sym (ses_fault_is bytes) ∙ ses.good)))

@@ -4,7 +4,8 @@ use Rattle.std.proofs.lemmas.List.{append-nil}
 use Rattle.session_model.specs.declared.sessions.SessionKind.{SessionKind}
 use Rattle.session_model.specs.declared.sessions.SessionRefusal.{SessionRefusal}
 use Rattle.session_model.specs.Lines.{lines_in}
-use Rattle.session_model.specs.Sessions.{session_of, statements_of, line_fault, or_next, fault_from, SesFault, Ses}
+use Rattle.session_model.specs.Sessions.{session_of, statements_of, line_fault, SesFault, Ses}
+use Rattle.session_model.proofs.LinesAbove.{or_next, fault_from, ses_fault_is}
 use Rattle.session_model.specs.Laws.{MeansOne, MeansOrFails, FaultMeansNone, NoneWrong, FirstWrong, FaultIsFirst}
 
 pub means_one : MeansOne
@@ -54,5 +55,4 @@ first_from before (line ∷ lines) e good h =
     step None is h later = subst (λ xs. FirstWrong xs e) (append_assoc before (line ∷ []) lines) (later is h)
 
 pub fault_is_first : FaultIsFirst
-unfolding SesFault
-fault_is_first bytes e h = first_from [] (lines_in bytes) e tt h
+fault_is_first bytes e h = first_from [] (lines_in bytes) e tt (sym (ses_fault_is bytes) ∙ h)

@@ -1,3 +1,4 @@
+pub mod LinesAbove
 pub mod Firsts
 pub mod MergeStates
 pub mod HeldMerges

@@ -15,3 +15,4 @@ pub mod WorkedRuns
 pub mod MergeLaws
 pub mod WorkedDeeds
 pub mod WorkedWrong
+pub mod WorkedMergers

@@ -16,7 +16,9 @@ use Rattle.load_model.specs.Modules.{Library, Held, number_of, object_at}
 use Rattle.load_model.specs.State.{Failing, Residence, Eager, nothing_yet, is_among}
 use Rattle.load_model.specs.Memory.{page, pages_over, is_touched, first_untouched}
 use Rattle.load_model.specs.Refusals.{residence_named}
-use Rattle.load_model.specs.Asks.{Ask, enter, free, exit, put, patch, get, ask_in, deed_of, may_ask, after_deed, is_own}
+use Rattle.load_model.specs.declared.commands.Ask.{Ask}
+use Rattle.load_model.specs.declared.commands.Ask.TheVariants.{Enter as enter, Free as free, Exit as exit, Write as put, Debug as patch, Shared as get}
+use Rattle.load_model.specs.Asks.{ask_in, deed_of, may_ask, after_deed, is_own}
 use Rattle.load_model.specs.Step.{steady, answer_of, after_steady, serial_named}
 use Rattle.load_model.specs.Histories.{is_fault_of}
 use Rattle.session_model.specs.declared.sessions.Line.{Line}

@@ -1,5 +1,5 @@
 -- Sessions: which bytes are one, what it says, and otherwise the first line that is wrong.
-use Rattle.std.specs.Prelude.{◌≡◌, ℕ, ◌+◌, ◌&&◌, Bool, List, [], ◌∷◌, ◌++◌, length, filter_map, fold, Option, Some, None, nat_lt, nat_le, if◌then◌else◌}
+use Rattle.std.specs.Prelude.{◌≡◌, ℕ, ◌+◌, ◌&&◌, Bool, List, [], ◌∷◌, filter_map, fold, Option, Some, None, nat_lt, nat_le, if◌then◌else◌}
 use Rattle.load_model.specs.declared.commands.Command.{Command}
 use Rattle.session_model.specs.declared.sessions.FailingLine.{FailingLine}
 use Rattle.session_model.specs.declared.sessions.ModLine.{ModLine}
@@ -91,10 +91,13 @@ fault_among last n (process number) = if rises last number then None else Some k
 fault_among None n (command c) = Some kinds.Order
 fault_among (Some last) n (command c) = if nat_lt n MAX_COMMANDS then None else Some kinds.TooMany
 
+abbrev pub fault_after : Option ℕ → ℕ → Reading → Option SessionKind
+fault_after last n nothing = None
+fault_after last n (wrong kind) = Some kind
+fault_after last n (says s) = fault_among last n s
+
 abbrev pub fault_behind : List Statement → Reading → Option SessionKind
-fault_behind before nothing = None
-fault_behind before (wrong kind) = Some kind
-fault_behind before (says s) = fault_among (last_number before) (commands_so_far before) s
+fault_behind before r = fault_after (last_number before) (commands_so_far before) r
 
 -- what is wrong with a line after others
 unfoldable pub line_fault : List (List ℕ) → List ℕ → Option SessionKind
@@ -102,18 +105,34 @@ line_fault before line = fault_behind (statements_of before) (reading_of line)
 
 -- ---- sessions
 
-abbrev pub or_next : List (List ℕ) → Option SessionKind → Option SessionRefusal → Option SessionRefusal
-or_next before (Some kind) later = Some (record { line = length before + 1; kind = kind })
-or_next before None later = later
+-- Where a line stands: how many lines are above it, the number of the script above, and how many commands it has so far.
+pub record Above : Type 0 where
+  pub lines : ℕ
+  pub last : Option ℕ
+  pub commands : ℕ
 
--- the first line that is wrong, of those after others
-abbrev pub fault_from : List (List ℕ) → List (List ℕ) → Option SessionRefusal
-fault_from before [] = None
-fault_from before (line ∷ behind) = or_next before (line_fault before line) (fault_from (before ++ line ∷ []) behind)
+abbrev pub nothing_above : Above
+nothing_above = record { lines = 0; last = None; commands = 0 }
+
+-- where the next line stands
+abbrev pub past : Above → Reading → Above
+past a nothing = record a { lines = a.lines + 1 }
+past a (wrong kind) = record a { lines = a.lines + 1 }
+past a (says s) = record { lines = a.lines + 1; last = number_or a.last s; commands = count_or a.commands s }
+
+abbrev pub or_later : Above → Option SessionKind → Option SessionRefusal → Option SessionRefusal
+or_later a (Some kind) later = Some (record { line = a.lines + 1; kind = kind })
+or_later a None later = later
+
+-- the first line that is wrong, of those that stand there
+abbrev pub fault_below : Above → List (List ℕ) → Option SessionRefusal
+fault_below a [] = None
+fault_below a (line ∷ below) =
+    or_later a (fault_after a.last a.commands (reading_of line)) (fault_below (past a (reading_of line)) below)
 
 -- the first fault of bytes that are no session; lines count from 1
 unfoldable pub SesFault : List ℕ → Option SessionRefusal
-SesFault bytes = fault_from [] (lines_in bytes)
+SesFault bytes = fault_below nothing_above (lines_in bytes)
 
 -- The bytes are this session: no line is wrong, and the statements say it.
 pub record Ses (bytes : List ℕ) (s : Session) : Type 0 where

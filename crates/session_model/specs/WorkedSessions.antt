@@ -1,5 +1,6 @@
 -- Worked values: sessions, and one of each fault.
-use Rattle.std.specs.Prelude.{◌≡◌, ℕ, List, [], ◌∷◌, ◌++◌, codes, replicate, Option, Some, None}
+use Rattle.std.specs.Prelude.{◌≡◌, ℕ, List, [], ◌∷◌, ◌++◌, codes, replicate, flat_map, Option, Some, None}
+use Rattle.std.specs.List.{range_with_len}
 use Rattle.lx_types.specs.declared.entry.EntryKey.TheVariants.{Ordinal, Named}
 use Rattle.load_model.specs.declared.commands.Command.{Command}
 use Rattle.load_model.specs.declared.commands.Command.TheVariants.{Start, Load, Free, Touch, Peek, Shared, Write, Debug, Query, GetRes, Exit}
@@ -70,6 +71,10 @@ at line kind = Some (record { line = line; kind = kind })
 abbrev in_script : List ℕ → Option SessionRefusal
 in_script line = SesFault (ln (codes "process 1") ++ ln line)
 
+-- the script of process 1 with so many exits
+abbrev exits : ℕ → List ℕ
+exits n = ln (codes "process 1") ++ flat_map (λ k. ln (codes "exit")) (range_with_len 0 n)
+
 pub record WorkedFaults : Type 0 where
   pub byte : SesFault (ln (codes "# a comment" ++ 0x80 ∷ [])) ≡ at 1 kinds.Byte
   pub lone_cr : SesFault (codes "take" ++ 0x0D ∷ codes " m") ≡ at 1 kinds.Byte
@@ -111,5 +116,9 @@ pub record WorkedFaults : Type 0 where
   -- command 1,024 of a script is its last
   pub last_command : fault_among (Some 1) 1023 (command Exit) ≡ None
   pub too_many : fault_among (Some 1) 1024 (command Exit) ≡ Some kinds.TooMany
+  pub all_commands : SesFault (exits 1024) ≡ None
+  pub one_more : SesFault (exits 1025) ≡ at 1026 kinds.TooMany
+  -- a script more begins to count again
+  pub next_script : SesFault (exits 1024 ++ ln (codes "process 2") ++ ln (codes "exit")) ≡ None
   -- the first line counts, and in it the first kind
   pub first : SesFault (ln (codes "load M") ++ ln (codes "what")) ≡ at 1 kinds.Order

@@ -4,6 +4,7 @@
 ghost use Rattle.session_model.specs.WorkedSessions.{WorkedSessions, WorkedFaults};
 ghost use Rattle.session_model.specs.WorkedDeeds.{WorkedFailure, WorkedBreak};
 ghost use Rattle.session_model.specs.WorkedWrong.{WorkedNotAsked, WorkedNotDone, WorkedNotMerged};
+ghost use Rattle.session_model.specs.WorkedMergers.{WorkedMerges, WorkedNoMerges, WorkedProcesses};
 ghost use Rattle.session_model.specs.WorkedRuns.{WorkedRun, WorkedIllegal, WorkedLines};
 
 /// Sessions, with what they say.
@@ -49,6 +50,13 @@ pub fn entries_are_not_done()
 /// Runs that are no merge of a history and a script.
 pub fn runs_are_not_merged()
     ensures { WorkedNotMerged }
+{}
+
+/// What must be so of touches, of faults and of processes for a run to be a merge.
+pub fn runs_are_merged()
+    ensures merges { WorkedMerges }
+    ensures none { WorkedNoMerges }
+    ensures processes { WorkedProcesses }
 {}
 
 /// Each kind of line of a transcript.

@@ -13,7 +13,8 @@ use Rattle.session_model.specs.declared.sessions.SessionKind.{SessionKind}
 use Rattle.session_model.specs.declared.sessions.SessionRefusal.{SessionRefusal}
 use Rattle.session_model.specs.Lines.{lines_in}
 use Rattle.session_model.specs.Statements.{Statement, gives, fails, process, command, Reading, nothing, says, wrong, reading_of}
-use Rattle.session_model.specs.Sessions.{module_of, failing_in, commands_of, scripts_of, session_of, statement_in, statements_of, number_or, count_or, last_number, commands_so_far, fault_among, fault_behind, line_fault, or_next, fault_from, SesFault, Ses}
+use Rattle.session_model.specs.Sessions.{module_of, failing_in, commands_of, scripts_of, session_of, statement_in, statements_of, number_or, count_or, last_number, commands_so_far, fault_among, fault_behind, line_fault, SesFault, Ses}
+use Rattle.session_model.proofs.LinesAbove.{or_next, fault_from, ses_fault_is}
 use Rattle.session_read.specs.declared.draft.Draft.{Draft}
 use Rattle.session_read.specs.Drafts.{nothing_said, open_with, session_in, fault_behind_draft, with_statement, fault_of_reading, with_reading, fail_at}
 
@@ -126,13 +127,12 @@ pub record Reached (bytes left : List ℕ) (number : ℕ) (d : Draft) : Type 0 w
   pub holds : Holds (statements_of done) d
 
 pub reached-none : (bytes : List ℕ) (d : Draft) → d ≡ nothing_said → Reached bytes bytes 0 d
-unfolding SesFault
 reached-none bytes d none = record {
   done = [];
   lines = refl;
   count = refl;
   few = omega arith;
-  fault = refl;
+  fault = ses_fault_is bytes;
   holds = subst (λ d. Holds [] d) (sym none) holds-none;
 }
 

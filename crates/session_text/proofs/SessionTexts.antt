@@ -16,7 +16,8 @@ use Rattle.session_model.specs.declared.sessions.Session.{Session}
 use Rattle.session_model.specs.Lines.{lines_in}
 use Rattle.session_model.specs.Statements.{Statement, gives, fails, process, command, reading_of}
 use Rattle.lx_types.specs.declared.limits.TheConstants.{MAX_PROCESSES}
-use Rattle.session_model.specs.Sessions.{module_of, failing_in, commands_of, scripts_of, session_of, statement_in, statements_of, number_or, count_or, last_number, commands_so_far, rises, fault_among, fault_behind, line_fault, or_next, fault_from, SesFault, Ses}
+use Rattle.session_model.specs.Sessions.{module_of, failing_in, commands_of, scripts_of, session_of, statement_in, statements_of, number_or, count_or, last_number, commands_so_far, rises, fault_among, fault_behind, line_fault, Ses}
+use Rattle.session_model.proofs.LinesAbove.{or_next, fault_from, ses_fault_is}
 use Rattle.session_model.specs.declared.limits.TheConstants.{MAX_COMMANDS}
 use Rattle.session_model.specs.Bounds.{IsCommand, IsModLine, IsFailingLine, IsScript}
 use Rattle.session_model.specs.Text.{words, line_of}
@@ -249,13 +250,12 @@ session-said s =
 
 -- What is written of a session that can be written says it.
 pub written-read : (s : Session) → IsWritable s → Ses (session_bytes s) s
-unfolding SesFault
 written-read s w =
     let sayable = said-sayable s w in
     let lines : lines_in (session_bytes s) ≡ map text_of (said s) = ap lines_in (session-written s) ∙ lines-said (said s) sayable in
     record {
       good =
-          ap (fault_from []) lines
+          ses_fault_is (session_bytes s) ∙ ap (fault_from []) lines
           ∙ fault-none [] (said s) sayable
           (good-modules s.modules (map fails s.failing ++ scripts_said s.scripts)
           (good-failing s.failing (scripts_said s.scripts) (good-scripts None 0 0 s.scripts refl w.bounds.rising w.bounds.scripts)));

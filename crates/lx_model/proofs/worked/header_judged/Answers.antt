@@ -17,4 +17,5 @@ returns-clause-fields c = record { word_order = refl; level = refl; cpu_none = r
 
 pub returns-clause-order : goal.returns-clause-order
 unfolding header_place field LxFault parts_of header_fault objects_of objects_fault page_heads pages_fault name_entry import_name import_entry at_entry gate_entry forward_entry bundle_entries object_entries bundle_of_type bundle_at spans_of spans_fault refs_of group_at group_fields many many_from next_record record_at single_at list_at target_of_kind internal_at additive_at offsets_at
-returns-clause-order c = record { fields = refl; header = refl; objects = refl; pages = refl; names = refl; others = refl; imports = refl; entries = refl; start = refl; fix_table = refl; records = refl; cut_object = refl; bad_object = refl }
+returns-clause-order c =
+    record { fields = refl; header = refl; objects = refl; pages = refl; names = refl; others = refl; imports = refl; entries = refl; start = refl; fix_table = refl; records = refl; cut_object = refl; bad_object = refl }

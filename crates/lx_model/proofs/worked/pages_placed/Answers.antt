@@ -17,7 +17,8 @@ returns-clause-pages c = record { plain = refl; iterated = refl; shifted = refl;
 
 pub returns-clause-targets : goal.returns-clause-targets
 unfolding header_place field LxFault parts_of header_fault objects_of objects_fault page_heads pages_fault name_entry import_name import_entry at_entry gate_entry forward_entry bundle_entries object_entries bundle_of_type bundle_at spans_of spans_fault refs_of group_at group_fields many many_from next_record record_at single_at list_at target_of_kind internal_at additive_at offsets_at
-returns-clause-targets c = record { object = refl; object_none = refl; object_past = refl; ordinal = refl; import_past = refl; name = refl; name_past = refl; name_import = refl; own = refl; own_none = refl; in_file = refl }
+returns-clause-targets c =
+    record { object = refl; object_none = refl; object_past = refl; ordinal = refl; import_past = refl; name = refl; name_past = refl; name_import = refl; own = refl; own_none = refl; in_file = refl }
 
 pub returns-clause-classes : goal.returns-clause-classes
 unfolding header_place field LxFault parts_of header_fault objects_of objects_fault page_heads pages_fault name_entry import_name import_entry at_entry gate_entry forward_entry bundle_entries object_entries bundle_of_type bundle_at spans_of spans_fault refs_of group_at group_fields many many_from next_record record_at single_at list_at target_of_kind internal_at additive_at offsets_at

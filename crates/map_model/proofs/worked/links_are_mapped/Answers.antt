@@ -24,6 +24,7 @@ unfolding rules map_text map_line object_line segment_line common_line public_li
 returns-clause-two_modules c = record {
   placed = refl;
   valued = refl;
+  capital = refl;
   text = refl;
 }
 

@@ -8,7 +8,7 @@ use Rattle.load_model.specs.declared.deeds.Fresh.{Fresh}
 use Rattle.load_model.specs.Modules.{Library}
 use Rattle.load_model.specs.State.{Eager}
 use Rattle.load_model.specs.Entering.{resident_ranges, placed_from, entering_calls}
-use Rattle.load_model.specs.Asks.{enter}
+use Rattle.load_model.specs.declared.commands.Ask.TheVariants.{Enter as enter}
 use Rattle.residence_table.specs.declared.entry.Entering.{Entering}
 use Rattle.residence_table.specs.Residences.{residences, unwritten_residences}
 use Rattle.residence_table.specs.Placing.{no_room_of}

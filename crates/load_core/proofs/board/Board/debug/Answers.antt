@@ -2,7 +2,7 @@
 use Rattle.std.proofs.Common.{◌≡◌, ◌∷◌, ◌++◌, [], ℕ, List, sym, ◌∙◌, ap, subst}
 use Rattle.load_model.specs.declared.deeds.Deed.TheVariants as deeds
 use Rattle.load_model.specs.declared.deeds.Entry.{Entry}
-use Rattle.load_model.specs.Asks.{patch}
+use Rattle.load_model.specs.declared.commands.Ask.TheVariants.{Debug as patch}
 use Rattle.load_core.specs.BoardState.{BoardState, MayAsk, Adds}
 use Rattle.load_core.specs.Inside.{board_state_in}
 use Rattle.load_core.proofs.Attached.{place_found}

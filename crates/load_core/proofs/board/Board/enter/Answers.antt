@@ -7,7 +7,7 @@ use Rattle.load_model.specs.declared.deeds.Entry.{Entry}
 use Rattle.load_model.specs.Modules.{Library}
 use Rattle.load_model.specs.State.{Residence, Eager}
 use Rattle.load_model.specs.Initialising.{enter_deed}
-use Rattle.load_model.specs.Asks.{enter}
+use Rattle.load_model.specs.declared.commands.Ask.TheVariants.{Enter as enter}
 use Rattle.mod_refs.specs.AllCounts.{AreCountsOfAll}
 use Rattle.mod_refs.specs.Changes.{with_entered}
 use Rattle.load_core.specs.BoardState.{BoardState, state_of, MayAsk, Adds}

@@ -7,7 +7,7 @@ use Rattle.load_model.specs.Modules.{Library}
 use Rattle.load_model.specs.State.{Eager}
 use Rattle.load_model.specs.Entering.{entering_calls}
 use Rattle.load_model.specs.Initialising.{enter_deed, failed_calls, gone_again}
-use Rattle.load_model.specs.Asks.{enter}
+use Rattle.load_model.specs.declared.commands.Ask.TheVariants.{Enter as enter}
 use Rattle.residence_table.specs.declared.entry.Entering.{Entering}
 use Rattle.residence_table.specs.declared.entry.Failure.{Failure}
 use Rattle.residence_table.specs.Residences.{residences, unwritten_residences}

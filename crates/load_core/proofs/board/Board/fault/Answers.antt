@@ -1,7 +1,7 @@
 -- The first claim of a page is its fault.
 use Rattle.std.proofs.Common.{◌∷◌, ◌++◌, [], List, true, false, is_some, sym, ◌∙◌, ap, subst}
 use Rattle.load_model.specs.declared.deeds.Entry.{Entry}
-use Rattle.load_model.specs.Asks.{fault}
+use Rattle.load_model.specs.declared.commands.Ask.TheVariants.{Fault as fault}
 use Rattle.load_core.specs.BoardState.{BoardState, MayAsk}
 use Rattle.load_core.specs.Inside.{board_state_in}
 use Rattle.load_core.specs.Told.{IsGiven, IsTaken}

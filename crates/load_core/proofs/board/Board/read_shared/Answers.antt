@@ -2,7 +2,7 @@
 use Rattle.std.proofs.Common.{◌≡◌, ◌∷◌, ◌++◌, [], ℕ, List, length, sym, ◌∙◌, ap, subst}
 use Rattle.load_model.specs.declared.deeds.Deed.TheVariants as deeds
 use Rattle.load_model.specs.declared.deeds.Entry.{Entry}
-use Rattle.load_model.specs.Asks.{get}
+use Rattle.load_model.specs.declared.commands.Ask.TheVariants.{Shared as get}
 use Rattle.load_model.specs.State.{Written}
 use Rattle.write_overlay.specs.Laid.{bytes_under}
 use Rattle.write_overlay.specs.Layered.{Lays}

@@ -3,7 +3,7 @@ use Rattle.std.proofs.Common.{◌≡◌, ◌∷◌, ◌++◌, [], List, refl, sy
 use Rattle.load_model.specs.declared.deeds.Deed.TheVariants as deeds
 use Rattle.load_model.specs.declared.deeds.Entry.{Entry}
 use Rattle.load_model.specs.Initialising.{enter_deed}
-use Rattle.load_model.specs.Asks.{enter}
+use Rattle.load_model.specs.declared.commands.Ask.TheVariants.{Enter as enter}
 use Rattle.residence_table.specs.Placing.{no_room_of}
 use Rattle.load_core.specs.BoardState.{BoardState, state_of, MayAsk, Adds}
 use Rattle.load_core.specs.Enters.{IsWithoutRoom}

@@ -6,7 +6,7 @@ use Rattle.lx_types.specs.Object.{class_of}
 use Rattle.load_model.specs.declared.deeds.Entry.{Entry}
 use Rattle.load_model.specs.Modules.{Library, object_at}
 use Rattle.load_model.specs.State.{Written}
-use Rattle.load_model.specs.Asks.{put}
+use Rattle.load_model.specs.declared.commands.Ask.TheVariants.{Write as put}
 use Rattle.load_core.specs.BoardState.{BoardState, MayAsk, Adds}
 use Rattle.load_core.specs.Kept.{Keeps}
 use Rattle.load_core.specs.Inside.{board_state_in}

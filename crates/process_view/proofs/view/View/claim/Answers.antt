@@ -1,7 +1,7 @@
 use Rattle.std.proofs.Common.{◌≡◌, ◌∙◌, ◌++◌, ◌∷◌, [], ℕ, true, false, length, get_or, sym, ap, subst}
 use Rattle.std.proofs.lemmas.List.{get_or_default}
 use Rattle.page_frames.specs.Residences.{ResidenceFor}
-use Rattle.load_model.specs.Asks.{fault}
+use Rattle.load_model.specs.declared.commands.Ask.TheVariants.{Fault as fault}
 use Rattle.load_model.specs.State.{pids, is_among}
 use Rattle.load_model.specs.Histories.{has_fault}
 use Rattle.load_core.specs.BoardState.{BoardState, MayAsk, entry_of, with_entry}

@@ -5,7 +5,7 @@ use Rattle.process_view.specs.Kept.{view_of}
 use Rattle.lx_model.specs.Library.{module_named}
 use Rattle.lx_model.specs.Reach.{Order}
 use Rattle.load_model.specs.Modules.{number_of}
-use Rattle.load_model.specs.Asks.{enter}
+use Rattle.load_model.specs.declared.commands.Ask.TheVariants.{Enter as enter}
 use Rattle.load_core.specs.BoardState.{MayAsk, state_of, entry_of, with_entry}
 use Rattle.load_model.specs.Entering.{joined}
 use Rattle.process_view.specs.Joining.{modules_of}

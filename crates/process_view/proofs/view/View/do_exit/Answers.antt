@@ -2,7 +2,7 @@ use Rattle.std.proofs.Common.{◌≡◌, ◌∙◌, ◌++◌, ◌∷◌, [], ℕ
 use Rattle.lx_types.specs.declared.parts.Parts.{Parts}
 use Rattle.load_model.specs.declared.commands.Command.TheVariants as commands
 use Rattle.load_model.specs.Outcomes.{done}
-use Rattle.load_model.specs.Asks.{exit}
+use Rattle.load_model.specs.declared.commands.Ask.TheVariants.{Exit as exit}
 use Rattle.load_model.specs.Leaving.{exiting}
 use Rattle.load_model.specs.ProcessCounts.{AreCountsOf}
 use Rattle.load_core.specs.BoardState.{BoardState, MayAsk, state_of, entry_of, with_entry}

@@ -3,7 +3,7 @@ use Rattle.std.proofs.lemmas.List.Elements.{All-contains_itself}
 use Rattle.lx_types.specs.declared.parts.Parts.{Parts}
 use Rattle.load_model.specs.declared.commands.Command.TheVariants as commands
 use Rattle.load_model.specs.Outcomes.{done}
-use Rattle.load_model.specs.Asks.{free}
+use Rattle.load_model.specs.declared.commands.Ask.TheVariants.{Free as free}
 use Rattle.load_model.specs.Leaving.{freeing, keeping}
 use Rattle.load_model.specs.Modules.{Library, number_of, order_of}
 use Rattle.load_model.specs.ProcessCounts.{AreCountsOf}

@@ -1,7 +1,7 @@
 use Rattle.std.proofs.Common.{◌≡◌, ◌∙◌, ◌++◌, ◌∷◌, [], ℕ, length, get_or, true, inr, sym, ap, subst}
 use Rattle.page_frames.specs.Residences.{ResidenceFor}
 use Rattle.load_model.specs.State.{pids, is_among}
-use Rattle.load_model.specs.Asks.{get}
+use Rattle.load_model.specs.declared.commands.Ask.TheVariants.{Shared as get}
 use Rattle.load_model.specs.Outcomes.{done}
 use Rattle.load_core.specs.Told.{read_run}
 use Rattle.load_core.specs.BoardState.{BoardState, entry_of, with_entry}

@@ -1,7 +1,7 @@
 use Rattle.std.proofs.Common.{◌≡◌, ◌∙◌, ◌++◌, ◌∷◌, [], ℕ, List, length, get_or, true, sym, ap, subst}
 use Rattle.page_frames.specs.Residences.{ResidenceFor}
 use Rattle.load_model.specs.Outcomes.{done}
-use Rattle.load_model.specs.Asks.{put}
+use Rattle.load_model.specs.declared.commands.Ask.TheVariants.{Write as put}
 use Rattle.load_model.specs.State.{pids, is_among}
 use Rattle.load_core.specs.BoardState.{BoardState, entry_of, with_entry}
 use Rattle.process_view.specs.ProcessViews.{at_front}
