@@ -3,6 +3,7 @@ use Rattle.std.proofs.Common.{◌≡◌, ℕ, zero, suc, ◌+◌, ◌<◌, ◌�
 use Rattle.std.specs.Prelude.{Ok, bytes_eq, codes, decimal, unwrap_or}
 use Rattle.std.specs.List.{find, range_with_len}
 use Rattle.std.specs.Option.{option_map}
+use Rattle.lx_types.specs.declared.limits.TheConstants.{MAX_MODULES}
 use Rattle.lx_ports.specs.Calls.{Call, save}
 use Rattle.lx_ports.specs.Files.{Contents}
 use Rattle.omf_write.specs.ObjectBytes.{object_bytes}
@@ -11,7 +12,7 @@ use Rattle.gen_model.specs.Sums.{totals_line}
 use Rattle.gen_laws.specs.Laws.{FirstHaveTotals, IsOne, ObjectsHaveFiles}
 use Rattle.answer_model.specs.GenAnswer.{AreObjectFiles, GenWords, SavesInTurn, SaysGen, files_with}
 use Rattle.answer_model.specs.Outcome.{Saved}
-use Rattle.answer_model.specs.Words.{Command, MOST, base_of, bind, bind_of, command_of, count_of, dump_of, gen, gen_of, image, image_of, implib_of, link_of, map_of}
+use Rattle.answer_model.specs.Words.{Command, base_of, bind, bind_of, command_of, count_of, dump_of, gen, gen_of, image, image_of, implib_of, link_of, map_of}
 use Rattle.answer_model.specs.declared.said.Said.{Said}
 use Rattle.answer_laws.proofs.Loads.{AreSound}
 
@@ -42,7 +43,7 @@ gen_counted : (word prefix : List ℕ) (o : Option ℕ) → count_of word ≡ o 
 unfolding count_of
 gen_counted word prefix None is = tt
 gen_counted word prefix (Some n) is =
-    let within = found_within (λ n. bytes_eq word (decimal n)) 1 MOST n is in
+    let within = found_within (λ n. bytes_eq word (decimal n)) 1 MAX_MODULES n is in
     let from = within.from in
     let to = within.to in
     (from, omega (arith, to))

@@ -22,7 +22,8 @@ use Rattle.session_model.specs.declared.sessions.SessionRefusal.{SessionRefusal}
 use Rattle.session_model.specs.Sessions.{SesFault, Ses, session_of, statements_of}
 use Rattle.session_model.specs.Lines.{lines_in}
 use Rattle.answer_laws.proofs.Resources as res
-use Rattle.answer_model.specs.Reading.{Form, object_form, library_form, definition_form, module_form, session_form, resource_form, Item, object, library, definition, linked, session, resources, IsItem, IsFault}
+use Rattle.answer_model.specs.Reading.{IsItem, IsFault}
+use Rattle.answer_model.specs.Items.{Form, object_form, library_form, definition_form, module_form, session_form, resource_form, Item, object, library, definition, linked, session, resources}
 
 -- ---- one item
 

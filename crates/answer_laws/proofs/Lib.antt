@@ -7,3 +7,4 @@ pub mod OneAnswerLaw
 pub mod GeneratedSome
 pub mod SomeAnswerLaw
 pub mod SmallestObjectsLaw
+pub mod RunOnce

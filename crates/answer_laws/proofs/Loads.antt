@@ -10,8 +10,9 @@ use Rattle.lx_ports.specs.declared.files.LoadFault.{LoadFault}
 use Rattle.lx_ports.specs.declared.files.LoadFault.TheVariants as fault
 use Rattle.answer_model.specs.Answer.{loaded, IsSound}
 use Rattle.answer_model.specs.FileLine.{file_line}
-use Rattle.answer_model.specs.Loading.{Asked, AreRead, FaultIsSaid, IsLoadWith, IsRead, IsRefused, IsStopped, ReadsAnswer, RefusesAnswer, file_limit}
-use Rattle.answer_model.specs.Reading.{Item, form_of}
+use Rattle.answer_model.specs.Loading.{AreRead, FaultIsSaid, IsLoadWith, IsRead, IsRefused, IsStopped, ReadsAnswer, RefusesAnswer, file_limit}
+use Rattle.answer_model.specs.AskedFiles.{Asked}
+use Rattle.answer_model.specs.Items.{Item, form_of}
 use Rattle.answer_model.specs.declared.said.Said.{Said}
 use Rattle.answer_laws.specs.AnswerLaws.{HasBytes}
 use Rattle.answer_laws.proofs.Items.{item_one, fault_one, item_not_fault, item_or_fault, IsEither}

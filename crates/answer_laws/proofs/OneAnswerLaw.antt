@@ -19,7 +19,7 @@ use Rattle.answer_model.specs.ImplibAnswer.{all_imports, implib_outcome}
 use Rattle.answer_model.specs.LinkAnswer.{LinkAnswer, input_of, input_with, link_outcome, link_text}
 use Rattle.answer_model.specs.MapAnswer.{MapAnswer, MapsInput, ShowsMap, NAME as MAP}
 use Rattle.answer_model.specs.Outcome.{Outcome, Saved, shown}
-use Rattle.answer_model.specs.Reading.{Item, object, linked, resources}
+use Rattle.answer_model.specs.Items.{Item, object, linked, resources}
 use Rattle.answer_model.specs.Loading.{IsStopped}
 use Rattle.answer_model.specs.Says.{ComesTo, Finishes, IsDone, IsSaved, SaysCommand, asked_files, said_after}
 use Rattle.answer_model.specs.Stem.{stem_of}

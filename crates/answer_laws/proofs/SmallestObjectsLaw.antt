@@ -41,7 +41,7 @@ use Rattle.answer_model.specs.ImageAnswer.{NAME, arena_full, image_outcome, imag
 use Rattle.answer_model.specs.ImageText.{image_text}
 use Rattle.answer_model.specs.Loading.{file_limit}
 use Rattle.answer_model.specs.Outcome.{Outcome, shown}
-use Rattle.answer_model.specs.Reading.{object}
+use Rattle.answer_model.specs.Items.{object}
 use Rattle.answer_model.specs.Says.{SaysCommand}
 use Rattle.answer_model.specs.Words.{Command, base_of, base_of_bytes, command_of, image, in_arenas}
 use Rattle.answer_laws.specs.SmallestObjects.{ShowsSmallestObjects, shown_segment}

@@ -18,10 +18,11 @@ use Rattle.answer_model.specs.BindAnswer.{BindAnswer, bind_outcome}
 use Rattle.answer_model.specs.ImageAnswer.{NAME, ImageAnswer, image_outcome}
 use Rattle.answer_model.specs.ImplibAnswer.{all_imports, implib_outcome}
 use Rattle.answer_model.specs.LinkAnswer.{input_of, input_with, link_outcome, link_text}
-use Rattle.answer_model.specs.Loading.{AreRead, Asked, IsRead, IsStopped, ReadsAnswer}
+use Rattle.answer_model.specs.Loading.{AreRead, IsRead, IsStopped, ReadsAnswer}
+use Rattle.answer_model.specs.AskedFiles.{Asked}
 use Rattle.answer_model.specs.MapAnswer.{MapAnswer, ShowsMap, NAME as MAP}
 use Rattle.answer_model.specs.Outcome.{Outcome, Saved, shown, refused}
-use Rattle.answer_model.specs.Reading.{Item, object, object_file, linked, module_file, resources, resource_file}
+use Rattle.answer_model.specs.Items.{Item, object, object_file, linked, module_file, resources, resource_file}
 use Rattle.answer_model.specs.Says.{ComesTo, Finishes, IsDone, SaysCommand, asked_files, said_after}
 use Rattle.answer_model.specs.Stem.{stem_of}
 use Rattle.answer_model.specs.Words.{Command, command_of, image, link, implib, bind, gen, dump, link_map}

@@ -1,6 +1,7 @@
 //! Laws over the definitions, each the contract of a function that does nothing.
 
 ghost use Rattle.answer_laws.specs.AnswerLaws.{OneAnswer, SomeAnswer};
+ghost use Rattle.answer_laws.specs.RunLaws.{RunHasOneAnswer};
 ghost use Rattle.answer_laws.specs.SmallestObjects.{ShowsSmallestObjects};
 
 use gen_laws::{modules_have_totals, objects_have_files};
@@ -27,4 +28,10 @@ pub fn words_have_an_answer()
 /// status 0 whose text is the bytes of one plain equation, and nothing is saved.
 pub fn smallest_objects_are_shown()
     ensures { ShowsSmallestObjects }
+{}
+
+/// The words `run FILE`, with what each name has, have one status at most; where it is 1, or no script ran, they have one line;
+/// and the files were loaded in one order. What differs is in which order the scripts' steps went.
+pub fn runs_have_one_answer()
+    ensures { RunHasOneAnswer }
 {}

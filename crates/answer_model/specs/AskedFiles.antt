@@ -1,7 +1,11 @@
--- The files that a link asks for: its definition file, and its object files and libraries.
+-- Files that commands ask for, and those of a link: its definition file, and its object files and libraries.
 use Rattle.std.specs.Prelude.{ℕ, List, [], ◌∷◌, map, Option, Some, None}
-use Rattle.answer_model.specs.Loading.{Asked}
-use Rattle.answer_model.specs.Reading.{object_or_library, definition_file}
+use Rattle.answer_model.specs.Items.{Kind, object_or_library, definition_file}
+
+-- A file that a command reads, and how it takes it.
+pub record Asked : Type 0 where
+  pub kind : Kind
+  pub name : List ℕ
 
 abbrev pub asked_definition : Option (List ℕ) → List Asked
 asked_definition None = []

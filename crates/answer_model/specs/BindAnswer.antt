@@ -7,7 +7,7 @@ use Rattle.res_model.specs.declared.item.ResItem.{ResItem}
 use Rattle.res_model.specs.Bound.{bound_file}
 use Rattle.res_model.specs.Refusal.{bind_refusal}
 use Rattle.answer_model.specs.Outcome.{Outcome, kept, refused_or}
-use Rattle.answer_model.specs.Reading.{Item, linked, resources}
+use Rattle.answer_model.specs.Items.{Item, linked, resources}
 
 -- `resources N bytes B`: the bytes of all items together
 abbrev pub resources_line : ℕ → ℕ → List ℕ

@@ -18,7 +18,7 @@ use Rattle.answer_model.specs.FileRefusals.{field}
 use Rattle.answer_model.specs.ImageText.{image_text}
 use Rattle.answer_model.specs.LinkAnswer.{link_text}
 use Rattle.answer_model.specs.Outcome.{Outcome, shown, refused_or}
-use Rattle.answer_model.specs.Reading.{Item, object}
+use Rattle.answer_model.specs.Items.{Item, object}
 
 -- The name of the module, and of its refusals.
 abbrev pub NAME : List ℕ

@@ -8,7 +8,7 @@ use Rattle.implib_model.specs.Imports.{imports_in, modules_of}
 use Rattle.implib_model.specs.ModuleImports.{imports_named}
 use Rattle.answer_model.specs.Loading.{file_limit}
 use Rattle.answer_model.specs.Outcome.{Outcome, kept, refused}
-use Rattle.answer_model.specs.Reading.{Item, definition, linked}
+use Rattle.answer_model.specs.Items.{Item, definition, linked}
 
 -- The imports that a file gives. A definition file without a name stands for a module with the stem's name.
 abbrev pub imports_of : List ℕ → Item → List Imp

@@ -6,9 +6,10 @@ pub mod LinkRefusals
 pub mod SessionRefusals
 pub mod ResourceRefusals
 pub mod ImageText
+pub mod Items
+pub mod AskedFiles
 pub mod Reading
 pub mod Loading
-pub mod AskedFiles
 pub mod Outcome
 pub mod LinkAnswer
 pub mod ImageAnswer
@@ -19,6 +20,7 @@ pub mod MapAnswer
 pub mod Says
 pub mod Answer
 pub mod Ends
+pub mod RunLines
 pub mod RunAnswer
 pub mod RunEnds
 pub mod WorkedRuns

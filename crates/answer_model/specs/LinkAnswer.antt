@@ -19,7 +19,7 @@ use Rattle.image_model.specs.Linked.{image_of, called, page_forms, page_fixes}
 use Rattle.lx_types.specs.Escaped.{escaped}
 use Rattle.answer_model.specs.LinkRefusals.{sym_text, comdat_text, lay_text, fix_text, entry_text}
 use Rattle.answer_model.specs.Outcome.{Outcome, kept, refused_or}
-use Rattle.answer_model.specs.Reading.{Item, object, library, definition}
+use Rattle.answer_model.specs.Items.{Item, object, library, definition}
 use Rattle.answer_model.specs.Stem.{stem_of}
 
 -- ---- the input: what the files mean, in their order

@@ -3,18 +3,16 @@ use Rattle.std.specs.Prelude.{◌≡◌, ℕ, ◌≤◌, List, [], ◌∷◌, �
 use Rattle.lx_ports.specs.Calls.{Call, load, save}
 use Rattle.lx_ports.specs.declared.files.LoadFault.{LoadFault}
 use Rattle.lx_ports.specs.declared.files.LoadFault.TheVariants as fault
+use Rattle.lx_types.specs.declared.limits.TheConstants.{MAX_FILE}
 use Rattle.answer_model.specs.declared.said.Said.{Said}
 use Rattle.answer_model.specs.FileLine.{file_line}
-use Rattle.answer_model.specs.Reading.{Kind, form_of, Item, IsItem, IsFault}
+use Rattle.answer_model.specs.Items.{form_of, Item}
+use Rattle.answer_model.specs.AskedFiles.{Asked}
+use Rattle.answer_model.specs.Reading.{IsItem, IsFault}
 
 -- A file that is loaded has at most so many bytes.
 abbrev pub file_limit : ℕ
-file_limit = 16777216
-
--- A file that a command reads, and how it takes it.
-pub record Asked : Type 0 where
-  pub kind : Kind
-  pub name : List ℕ
+file_limit = MAX_FILE
 
 -- ---- one file
 

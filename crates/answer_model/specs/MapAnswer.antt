@@ -7,7 +7,7 @@ use Rattle.image_model.specs.Linked.{called}
 use Rattle.map_model.specs.Maps.{IsMap}
 use Rattle.answer_model.specs.LinkAnswer.{input_with, link_text}
 use Rattle.answer_model.specs.Outcome.{Outcome, shown, refused}
-use Rattle.answer_model.specs.Reading.{Item}
+use Rattle.answer_model.specs.Items.{Item}
 
 -- The stem of the module's name, and the name of its refusals.
 abbrev pub NAME : List ℕ

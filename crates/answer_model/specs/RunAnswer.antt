@@ -15,15 +15,15 @@ use Rattle.session_model.specs.declared.sessions.ModLine.TheVariants.{Take, Buil
 use Rattle.session_model.specs.declared.sessions.Session.{Session}
 use Rattle.session_model.specs.FailingPairs.{failing_pairs}
 use Rattle.session_model.specs.Runs.{Run, IsRunOf, run_text}
-use Rattle.run_model.specs.Sources.{Source, taken, built, held, library_of}
+use Rattle.run_model.specs.Sources.{Source, held, library_of}
 use Rattle.answer_model.specs.SessionRefusals.{library_text}
 use Rattle.answer_model.specs.declared.said.Said.{Said}
 use Rattle.answer_model.specs.FileLine.{file_line}
 use Rattle.answer_model.specs.LinkAnswer.{input_with, link_text}
-use Rattle.answer_model.specs.Loading.{Asked, AreRead, IsRead, IsStopped}
-use Rattle.answer_model.specs.Reading.{Item, linked, session, module_file, session_file}
-use Rattle.answer_model.specs.AskedFiles.{asked_definition, asked_inputs}
-use Rattle.answer_model.specs.Words.{definition_of}
+use Rattle.answer_model.specs.AskedFiles.{Asked}
+use Rattle.answer_model.specs.RunLines.{asked_line, Gives}
+use Rattle.answer_model.specs.Loading.{AreRead, IsRead, IsStopped}
+use Rattle.answer_model.specs.Items.{Item, session, session_file}
 
 -- ---- the words
 
@@ -37,22 +37,10 @@ run_of _ = None
 abbrev pub asked_session : List ℕ → Asked
 asked_session file = record { kind = session_file; name = file }
 
--- A file that is taken is read as a module. A module is built as `link` does it.
-abbrev pub asked_line : ModLine → List Asked
-asked_line (Take file) = record { kind = module_file; name = file } ∷ []
-asked_line (Build stem def files) = asked_definition (definition_of def) ++ asked_inputs files
-
 abbrev pub asked_lines : List ModLine → List Asked
 asked_lines lines = flat_map asked_line lines
 
 -- ---- one module line
-
--- By what its files mean it gives a module: that of its file, or what its files link to. STEM is the module's name where
--- the definition file gives none.
-abbrev pub Gives : ModLine → List Item → Source → Type 0
-Gives (Take file) (linked m ∷ []) (taken parts) = parts ≡ m
-Gives (Build stem def files) items (built l) = IsLinkOf (input_with stem items) l × (link_refusal l ≡ None)
-Gives _ items source = ⊥
 
 -- Its files do not link, which is told under STEM.
 pub record LinkFails (stem : List ℕ) (items : List Item) (said : Said) : Type 0 where

@@ -12,7 +12,7 @@ use Rattle.answer_model.specs.declared.said.Said.{Said}
 use Rattle.answer_model.specs.Answer.{IsSound}
 use Rattle.answer_model.specs.Ends.{AppendsPart, Ends, IsStatus, IsTold}
 use Rattle.answer_model.specs.Loading.{AreBegun, IsLoadWith, IsRead}
-use Rattle.answer_model.specs.Reading.{session}
+use Rattle.answer_model.specs.Items.{session}
 use Rattle.answer_model.specs.RunAnswer.{SaysRun, asked_lines, asked_session, run_of}
 
 -- ---- the calls
@@ -58,7 +58,7 @@ pub record RunEnds (file : List ℕ) (files files_now : FilesState) (out out_now
   pub read_failed : status ≡ 3 → 0 < load_faults calls
   -- 4 comes where the sink has failed, and what was put is the front of what was to be said
   pub write_failed : status ≡ 4 → IsCutOffByRun file calls out out_now ran
-  -- with 8 there was no memory, nothing was put, and nothing ran
+  -- with 8 there was no memory, and nothing was put; scripts may have run, of which nothing is handed back
   pub nothing : status ≡ 8 → (out_now.contents ≡ out.contents) × (ran ≡ None)
   -- over told files, where nothing failed, the answer is that of what they have, unless memory ran out
   pub complete : load_faults calls ≡ 0 → (Rose out.faults out_now.faults → ⊥)

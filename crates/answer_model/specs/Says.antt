@@ -11,9 +11,10 @@ use Rattle.answer_model.specs.ImplibAnswer.{all_imports, implib_outcome}
 use Rattle.answer_model.specs.LinkAnswer.{LinkAnswer}
 use Rattle.answer_model.specs.MapAnswer.{MapAnswer}
 use Rattle.answer_model.specs.AskedFiles.{asked_definition, asked_inputs}
-use Rattle.answer_model.specs.Loading.{Asked, AreRead, IsStopped}
+use Rattle.answer_model.specs.Loading.{AreRead, IsStopped}
+use Rattle.answer_model.specs.AskedFiles.{Asked}
 use Rattle.answer_model.specs.Outcome.{Outcome, Saved}
-use Rattle.answer_model.specs.Reading.{Item, object_file, module_or_definition, module_file, resource_file}
+use Rattle.answer_model.specs.Items.{Item, object_file, module_or_definition, module_file, resource_file}
 use Rattle.answer_model.specs.Stem.{stem_of}
 use Rattle.answer_model.specs.Words.{Command, command_of, image, link, implib, bind, gen, dump, link_map}
 use Rattle.answer_model.specs.declared.said.Said.{Said}

@@ -5,6 +5,8 @@ use Rattle.std.specs.List.{range_with_len}
 use Rattle.std.specs.Str.{bytes_eq}
 use Rattle.hex.specs.Hex.{decode_sized}
 use Rattle.hex.specs.declared.error.FromHexError.{FromHexError}
+use Rattle.lx_types.specs.declared.limits.TheConstants.{BASE_UNIT, MAX_MODULES}
+use Rattle.obj_types.specs.declared.limits.TheConstants.{MAX_BASE, MIN_BASE}
 
 -- A command with the names of its files. A link may have no definition file.
 pub data Command : Type 0 where
@@ -18,9 +20,9 @@ pub data Command : Type 0 where
 
 -- ---- `image OBJ BASE`
 
--- A base is a multiple of 65,536 in the private or the shared arena.
+-- A base is a multiple of 64 KiB in the private or the shared arena.
 abbrev pub in_arenas : ℕ → Option ℕ
-in_arenas n = if n % 65536 == 0 && nat_le 0x00010000 n && nat_le n 0x1FFF0000 then Some n else None
+in_arenas n = if n % BASE_UNIT == 0 && nat_le MIN_BASE n && nat_le n MAX_BASE then Some n else None
 
 abbrev pub base_of_bytes : Result (List ℕ) FromHexError → Option ℕ
 base_of_bytes (Ok bytes) = in_arenas (from_be_bytes w32 bytes)
@@ -58,13 +60,9 @@ bind_of _ = None
 
 -- ---- `gen N PREFIX`
 
--- as many modules as a library has
-abbrev pub MOST : ℕ
-MOST = 64
-
--- N is a number from 1 to 64 in decimal digits, without zeros in front of it.
+-- N is a number of modules that a library may have, from 1, in decimal digits, without zeros in front of it.
 unfoldable pub count_of : List ℕ → Option ℕ
-count_of word = find (λ n. bytes_eq word (decimal n)) (range_with_len 1 MOST)
+count_of word = find (λ n. bytes_eq word (decimal n)) (range_with_len 1 MAX_MODULES)
 
 -- PREFIX is any word.
 abbrev pub gen_of : List (List ℕ) → Option Command

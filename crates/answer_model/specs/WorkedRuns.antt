@@ -7,7 +7,7 @@ use Rattle.session_model.specs.declared.sessions.ModLine.TheVariants.{Take, Buil
 use Rattle.session_model.specs.Runs.{Run}
 use Rattle.answer_model.specs.SessionRefusals.{library_text}
 use Rattle.answer_model.specs.declared.said.Said.{Said}
-use Rattle.answer_model.specs.Reading.{definition_file, module_file, object_or_library}
+use Rattle.answer_model.specs.Items.{definition_file, module_file, object_or_library}
 use Rattle.answer_model.specs.RunAnswer.{asked_lines, run_of, SaysRun}
 use Rattle.answer_model.specs.RunEnds.{AreCallsOfRun}
 use Rattle.answer_model.specs.Words.{command_of}

@@ -8,8 +8,9 @@ use Rattle.std.specs.List.{AllByRecursion}
 use Rattle.answer_model.specs.declared.said.Said.{Said}
 use Rattle.answer_model.specs.Answer.{saves_in}
 use Rattle.answer_model.specs.Ends.{Holds}
-use Rattle.answer_model.specs.Loading.{Asked, AreBegun, AreRead, IsLoadWith, IsRead, IsRefused, IsStopped}
-use Rattle.answer_model.specs.Reading.{Item}
+use Rattle.answer_model.specs.Loading.{AreBegun, AreRead, IsLoadWith, IsRead, IsRefused, IsStopped}
+use Rattle.answer_model.specs.AskedFiles.{Asked}
+use Rattle.answer_model.specs.Items.{Item}
 
 -- ---- the calls are loads
 

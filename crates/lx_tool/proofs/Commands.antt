@@ -31,7 +31,7 @@ use Rattle.answer_model.specs.ImplibAnswer.{exports_line, implib_outcome}
 use Rattle.answer_model.specs.LinkAnswer.{input_of, link_outcome}
 use Rattle.answer_model.specs.Loading.{AreRead, IsStopped, file_limit}
 use Rattle.answer_model.specs.Outcome.{Outcome, kept, refused, refused_or, says_only, shown}
-use Rattle.answer_model.specs.Reading.{Item, object, linked, resources}
+use Rattle.answer_model.specs.Items.{Item, object, linked, resources}
 use Rattle.answer_model.specs.Says.{ComesTo, asked_files}
 use Rattle.answer_model.specs.Words.{Command, image, link, implib, bind, dump}
 use Rattle.tool_read.specs.Steps.{AreLoads, GivesAll, ReadsAll}

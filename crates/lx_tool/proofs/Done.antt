@@ -11,9 +11,10 @@ use Rattle.answer_model.specs.declared.said.Said.{Said}
 use Rattle.answer_model.specs.Answer.{saves_in}
 use Rattle.answer_model.specs.Ends.{Holds, IsTold, AreSaves, outputs_of}
 use Rattle.answer_model.specs.FileLine.{usage_line}
-use Rattle.answer_model.specs.Loading.{AreBegun, AreRead, Asked, IsStopped}
+use Rattle.answer_model.specs.Loading.{AreBegun, AreRead, IsStopped}
+use Rattle.answer_model.specs.AskedFiles.{Asked}
 use Rattle.answer_model.specs.Outcome.{Outcome, Saved}
-use Rattle.answer_model.specs.Reading.{Item}
+use Rattle.answer_model.specs.Items.{Item}
 use Rattle.answer_model.specs.Says.{ComesTo, Finishes, IsDone, SaysCommand, asked_files}
 use Rattle.answer_model.specs.Words.{Command, image, link, implib, bind, gen, dump, link_map}
 use Rattle.tool_read.specs.Steps.{AreLoads}

@@ -1,18 +1,23 @@
 -- From what calls answered to what the files have.
-use Rattle.std.proofs.Common.{◌≡◌, ℕ, List, [], ◌∷◌, ◌++◌, Option, Some, None, Ok, Err, ◌∙◌, ap, sym, subst, inl, inr}
-use Rattle.std.specs.Prelude.{IfSome}
+use Rattle.std.proofs.Common.{◌≡◌, ℕ, List, [], ◌∷◌, ◌++◌, Bool, true, false, Option, Some, None, Ok, Err, ◌∙◌, ap, sym, subst, inl, inr}
+use Rattle.std.specs.Prelude.{IfSome, if◌then◌else◌}
 use Rattle.std.specs.List.{AllByRecursion}
 use Rattle.lx_ports.specs.Calls.{Call, load, save}
 use Rattle.lx_ports.specs.Files.{Contents, FilesState}
 use Rattle.session_model.specs.declared.sessions.ModLine.{ModLine}
+use Rattle.session_model.specs.declared.sessions.ModLine.TheVariants.{Take, Build}
 use Rattle.run_model.specs.Sources.{Source}
 use Rattle.run_core.specs.declared.session.Ran.{Ran}
 use Rattle.run_core.specs.Sessions.{run_in}
 use Rattle.answer_model.specs.declared.said.Said.{Said}
 use Rattle.answer_model.specs.Ends.{IsTold}
-use Rattle.answer_model.specs.Loading.{Asked, AreRead, IsRead}
-use Rattle.answer_model.specs.Reading.{Item, session}
-use Rattle.answer_model.specs.RunAnswer.{AreDone, IsThrough, SaysRun, asked_line, asked_session, run_of, together}
+use Rattle.answer_model.specs.Loading.{AreRead, IsRead}
+use Rattle.answer_model.specs.AskedFiles.{Asked, asked_definition, asked_inputs}
+use Rattle.answer_model.specs.Items.{Form, object_form, library_form, definition_form, module_form, session_form, resource_form, Item, session, IsLinkItem, form_of, is_library}
+use Rattle.answer_model.specs.Reading.{IsItem}
+use Rattle.answer_model.specs.Words.{definition_of}
+use Rattle.answer_model.specs.RunAnswer.{AreDone, IsThrough, SaysRun, asked_session, run_of, together}
+use Rattle.answer_model.specs.RunLines.{asked_line}
 use Rattle.lx_tool.specs.declared.run.SessionEnd.{SessionEnd}
 use Rattle.lx_tool.specs.declared.run.SessionEnd.TheVariants as end
 use Rattle.lx_tool.specs.Headline.{Headline, MakeAll, MeanAll, Means, RanAsOne}
@@ -30,22 +35,60 @@ told_rest P (x ∷ xs) ys all = told_rest P xs ys all.1
 
 -- ---- files
 
-one_means : (contents : Contents) (a : Asked) (call : Call) (item : Item) → IsTold contents call → IsRead a call item → Means contents a item
-one_means contents a (load name (Ok bytes)) item told read = record {
+-- a file that a session asks for is no resource file
+abbrev IsLinkForm : Form → Type 0
+IsLinkForm resource_form = ⊥
+IsLinkForm form = Unit {0}
+
+abbrev IsLinkFile : Asked → Type 0
+IsLinkFile a = (bytes : List ℕ) → IsLinkForm (form_of a.kind bytes)
+
+either_form : (b : Bool) (one other : Form) → IsLinkForm one → IsLinkForm other → IsLinkForm (if b then one else other)
+either_form true one other h k = h
+either_form false one other h k = k
+
+link_item : (form : Form) (bytes : List ℕ) (item : Item) → IsLinkForm form → IsItem form bytes item → IsLinkItem form bytes item
+link_item object_form bytes item fine means = means
+link_item library_form bytes item fine means = means
+link_item definition_form bytes item fine means = means
+link_item module_form bytes item fine means = means
+link_item session_form bytes item fine means = means
+link_item resource_form bytes item fine means = absurd fine
+
+both_link : (xs ys : List Asked) → AllByRecursion IsLinkFile xs → AllByRecursion IsLinkFile ys → AllByRecursion IsLinkFile (xs ++ ys)
+both_link [] ys h k = k
+both_link (x ∷ xs) ys h k = (h.0, both_link xs ys h.1 k)
+
+definition_links : (name : Option (List ℕ)) → AllByRecursion IsLinkFile (asked_definition name)
+definition_links None = tt
+definition_links (Some name) = ((λ bytes. tt), tt)
+
+inputs_link : (names : List (List ℕ)) → AllByRecursion IsLinkFile (asked_inputs names)
+inputs_link [] = tt
+inputs_link (name ∷ names) = ((λ bytes. either_form (is_library bytes) library_form object_form tt tt), inputs_link names)
+
+line_links : (line : ModLine) → AllByRecursion IsLinkFile (asked_line line)
+line_links (Take file) = ((λ bytes. tt), tt)
+line_links (Build stem def files) =
+    both_link (asked_definition (definition_of def)) (asked_inputs files) (definition_links (definition_of def)) (inputs_link files)
+
+one_means : (contents : Contents) (a : Asked) (call : Call) (item : Item) → IsLinkFile a → IsTold contents call → IsRead a call item → Means contents a item
+one_means contents a (load name (Ok bytes)) item links told read = record {
   bytes = bytes;
   has = ap (λ (n : List ℕ). contents n) (sym read.0) ∙ told.0;
-  means = read.1.1;
+  means = link_item (form_of a.kind bytes) bytes item (links bytes) read.1.1;
 }
-one_means contents a (load name (Err why)) item told read = absurd read.1
-one_means contents a (save name bytes answer) item told read = absurd read
+one_means contents a (load name (Err why)) item links told read = absurd read.1
+one_means contents a (save name bytes answer) item links told read = absurd read
 
-all_mean : (contents : Contents) (asked : List Asked) (calls : List Call) (items : List Item) → AllByRecursion (IsTold contents) calls → AreRead asked calls items → MeanAll contents asked items
-all_mean contents [] [] [] told are = tt
-all_mean contents [] [] (i ∷ is) told are = absurd are
-all_mean contents [] (c ∷ cs) is told are = absurd are
-all_mean contents (a ∷ more) [] is told are = absurd are
-all_mean contents (a ∷ more) (c ∷ cs) [] told are = absurd are
-all_mean contents (a ∷ more) (c ∷ cs) (i ∷ is) told are = (one_means contents a c i told.0 are.0, all_mean contents more cs is told.1 are.1)
+all_mean : (contents : Contents) (asked : List Asked) (calls : List Call) (items : List Item) → AllByRecursion IsLinkFile asked → AllByRecursion (IsTold contents) calls → AreRead asked calls items
+    → MeanAll contents asked items
+all_mean contents [] [] [] links told are = tt
+all_mean contents [] [] (i ∷ is) links told are = absurd are
+all_mean contents [] (c ∷ cs) is links told are = absurd are
+all_mean contents (a ∷ more) [] is links told are = absurd are
+all_mean contents (a ∷ more) (c ∷ cs) [] links told are = absurd are
+all_mean contents (a ∷ more) (c ∷ cs) (i ∷ is) links told are = (one_means contents a c i links.0 told.0 are.0, all_mean contents more cs is links.1 told.1 are.1)
 
 all_made : (contents : Contents) (lines : List ModLine) (each : List (List Call)) (sources : List Source) → AllByRecursion (IsTold contents) (together each) → AreDone lines each sources
     → MakeAll contents lines sources
@@ -55,7 +98,7 @@ all_made contents [] (c ∷ cs) ss told are = absurd are
 all_made contents (l ∷ ls) [] ss told are = absurd are
 all_made contents (l ∷ ls) (c ∷ cs) [] told are = absurd are
 all_made contents (l ∷ ls) (c ∷ cs) (s ∷ ss) told are = (
-  record { items = are.0.items; mean = all_mean contents (asked_line l) c are.0.items (told_front (IsTold contents) c (together cs) told) are.0.read; gives = are.0.gives },
+  record { items = are.0.items; mean = all_mean contents (asked_line l) c are.0.items (line_links l) (told_front (IsTold contents) c (together cs) told) are.0.read; gives = are.0.gives },
   all_made contents ls cs ss (told_rest (IsTold contents) c (together cs) told) are.1,
 )
 
@@ -68,7 +111,7 @@ through_one contents file calls ran told is =
     let all = subst P is.calls_are told in
     let run = is.says in
     let given = run.given in
-    let means = one_means contents (asked_session file) is.first (session is.session_is) all.0 is.read in
+    let means = one_means contents (asked_session file) is.first (session is.session_is) (λ bytes. tt) all.0 is.read in
     record {
       session_bytes = means.bytes;
       has = means.has;

@@ -5,8 +5,9 @@ use Rattle.lx_types.specs.declared.fail.Fail.TheVariants as fail
 use Rattle.lx_ports.specs.Calls.{load}
 use Rattle.lx_ports.specs.declared.files.LoadFault.{LoadFault}
 use Rattle.answer_model.specs.declared.said.Said.{Said}
-use Rattle.answer_model.specs.Loading.{Asked, ReadsAnswer, RefusesAnswer}
-use Rattle.answer_model.specs.Reading.{Item}
+use Rattle.answer_model.specs.Loading.{ReadsAnswer, RefusesAnswer}
+use Rattle.answer_model.specs.AskedFiles.{Asked}
+use Rattle.answer_model.specs.Items.{Item}
 use Rattle.tool_read.specs.Readings.{SaysOf}
 use Rattle.tool_read.specs.Steps.{GivesAll, ReadsAll}
 

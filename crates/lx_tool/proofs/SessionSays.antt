@@ -7,9 +7,11 @@ use Rattle.session_model.specs.declared.sessions.ModLine.{ModLine}
 use Rattle.session_model.specs.declared.sessions.Session.{Session}
 use Rattle.session_model.specs.Runs.{Run}
 use Rattle.answer_model.specs.declared.said.Said.{Said}
-use Rattle.answer_model.specs.Loading.{Asked, IsStopped}
-use Rattle.answer_model.specs.Reading.{session}
-use Rattle.answer_model.specs.RunAnswer.{AreDone, AreGiven, Fails, IsFailedLine, IsStoppedLine, IsThrough, IsUngathered, SaysRun, SaysSession, asked_line, asked_session, together}
+use Rattle.answer_model.specs.Loading.{IsStopped}
+use Rattle.answer_model.specs.AskedFiles.{Asked}
+use Rattle.answer_model.specs.Items.{session}
+use Rattle.answer_model.specs.RunAnswer.{AreDone, AreGiven, Fails, IsFailedLine, IsStoppedLine, IsThrough, IsUngathered, SaysRun, SaysSession, asked_session, together}
+use Rattle.answer_model.specs.RunLines.{asked_line}
 use Rattle.session_model.specs.declared.sessions.ModLine.TheVariants.{Take, Build}
 use Rattle.lx_tool.proofs.Counts.{count-append}
 use Rattle.lx_tool.proofs.Begun.{IsPlain, plain_joined, read_plain, stopped_plain, one_plain}

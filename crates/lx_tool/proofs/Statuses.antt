@@ -16,9 +16,10 @@ use Rattle.answer_model.specs.GenAnswer.{GenWords, SaysGen}
 use Rattle.answer_model.specs.ImageAnswer.{ImageAnswer, image_refusal, memory_text, NAME}
 use Rattle.answer_model.specs.LinkAnswer.{counts_of, link_text}
 use Rattle.answer_model.specs.MapAnswer.{ShowsMap}
-use Rattle.answer_model.specs.Loading.{Asked, IsRefused, IsStopped}
+use Rattle.answer_model.specs.Loading.{IsRefused, IsStopped}
+use Rattle.answer_model.specs.AskedFiles.{Asked}
 use Rattle.answer_model.specs.Outcome.{Outcome, Saved, shown, kept, refused, refused_or}
-use Rattle.answer_model.specs.Reading.{Item, object, library, definition, linked, session, resources}
+use Rattle.answer_model.specs.Items.{Item, object, library, definition, linked, session, resources}
 use Rattle.answer_model.specs.Says.{ComesTo, Finishes, IsDone, SaysCommand, asked_files, said_after}
 use Rattle.answer_model.specs.Words.{Command, image, link, implib, bind, gen, dump, link_map}
 use Rattle.session_files.proofs.Lines.{stopped_begun}

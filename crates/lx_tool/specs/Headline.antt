@@ -11,9 +11,9 @@ use Rattle.session_model.specs.declared.sessions.ModLine.{ModLine}
 use Rattle.session_model.specs.declared.sessions.Session.{Session}
 use Rattle.run_model.specs.Sources.{Source, held, library_of}
 use Rattle.run_core.specs.declared.session.Ran.{Ran}
-use Rattle.answer_model.specs.Loading.{Asked}
-use Rattle.answer_model.specs.Reading.{Item, IsItem, form_of}
-use Rattle.answer_model.specs.RunAnswer.{asked_line, Gives}
+use Rattle.answer_model.specs.AskedFiles.{Asked}
+use Rattle.answer_model.specs.Items.{Item, IsLinkItem, form_of}
+use Rattle.answer_model.specs.RunLines.{asked_line, Gives}
 
 -- ---- what the files mean
 
@@ -21,7 +21,7 @@ use Rattle.answer_model.specs.RunAnswer.{asked_line, Gives}
 pub record Means (contents : Contents) (asked : Asked) (item : Item) : Type 0 where
   pub bytes : List ℕ
   pub has : contents asked.name ≡ Some bytes
-  pub means : IsItem (form_of asked.kind bytes) bytes item
+  pub means : IsLinkItem (form_of asked.kind bytes) bytes item
 
 abbrev pub MeanAll : Contents → List Asked → List Item → Type 0
 MeanAll contents [] [] = Unit {0}

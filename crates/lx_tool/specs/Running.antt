@@ -65,7 +65,7 @@ IsShown out out_now (Some ran) = Appends out.contents out_now.contents ran.text
 IsShown out out_now None = ⊥
 
 -- With 0 there is what ran, whose text was put whole. With 4 a part of its text was put, where there is what ran. With all
--- other statuses nothing ran.
+-- other statuses nothing that ran is handed back: with 8 memory may have run out after scripts ran.
 pub record ShowsSession (out out_now : SinkState) (ended : Ended) : Type 0 where
   pub whole : ended.status ≡ 0 → IsShown out out_now ended.ran
   pub part : ended.status ≡ 4 → IfSome ended.ran (λ ran. AppendsPart out.contents out_now.contents ran.text)

@@ -107,7 +107,7 @@ pub fn link_kind(kind: &str) -> Option<&'static str> {
         "NameTwice" => "two exports have one name",
         "LibraryLong" => "a library has at most 16,777,216 bytes",
         "NoModule" => "the object file imports, and image links it alone",
-        "ArenaFull" => "an object ends behind 1FFFFFFFh: take a lower BASE",
+        "ArenaFull" => "an object ends after 1FFFFFFFh: take a lower BASE",
         _ => return None,
     })
 }

@@ -8,10 +8,10 @@ fn new_header(bytes: &[u8]) -> Option<&[u8]> {
 }
 
 // What stands after a DOS header.
-fn behind_stub(bytes: &[u8]) -> &'static str {
+fn after_stub(bytes: &[u8]) -> &'static str {
     let header = new_header(bytes).unwrap_or(&[]);
     if header == b"LX".as_slice() {
-        "an LX module behind a DOS program"
+        "an LX module after a DOS program"
     } else if header == b"LE".as_slice() {
         "an LE module"
     } else if header == b"NE".as_slice() {
@@ -57,7 +57,7 @@ pub fn looks_like(bytes: &[u8]) -> Option<&'static str> {
         return Some("an empty file");
     }
     if matches!(bytes, [b'M', b'Z', ..]) {
-        return Some(behind_stub(bytes));
+        return Some(after_stub(bytes));
     }
     match by_magic(bytes) {
         Some(name) => Some(name),

@@ -59,9 +59,9 @@ const GEN: &str = "\
 lx gen N PREFIX
 
 Makes N modules to try link and run on, each with 2,048 references to itself and to the module before it: writes for each an
-object file and a definition file, and behind them a session that builds all and in which four processes load them, touch each
+object file and a definition file, and after them a session that builds all and in which four processes load them, touch each
 page and read the front of each. Prints how many pages and references they have, and the sum of their 32-bit words where they are
-loaded one behind the other. No file is read; files of these names are written over.
+loaded one after the other. No file is read; files of these names are written over.
 
   N       how many, from 1 to 64
   PREFIX  what the names of the files begin with, a folder too: g gives g1.obj, g1.def, g2.obj .. and g.ses

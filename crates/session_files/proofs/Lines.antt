@@ -17,9 +17,11 @@ use Rattle.session_model.specs.declared.sessions.ModLine.{ModLine}
 use Rattle.session_model.specs.declared.sessions.ModLine.TheVariants.{Take, Build}
 use Rattle.answer_model.specs.declared.said.Said.{Said}
 use Rattle.answer_model.specs.LinkAnswer.{input_with}
-use Rattle.answer_model.specs.Loading.{Asked, AreBegun, AreRead, IsLoadWith, IsRefused, IsStopped}
-use Rattle.answer_model.specs.Reading.{Item, linked, module_file}
-use Rattle.answer_model.specs.RunAnswer.{AreDone, IsDoneLine, asked_line, asked_lines, together}
+use Rattle.answer_model.specs.Loading.{AreBegun, AreRead, IsLoadWith, IsRefused, IsStopped}
+use Rattle.answer_model.specs.AskedFiles.{Asked}
+use Rattle.answer_model.specs.Items.{Item, linked, module_file}
+use Rattle.answer_model.specs.RunAnswer.{AreDone, IsDoneLine, asked_lines, together}
+use Rattle.answer_model.specs.RunLines.{asked_line}
 use Rattle.answer_model.specs.AskedFiles.{asked_definition, asked_inputs}
 use Rattle.answer_model.specs.Words.{definition_of}
 use Rattle.tool_read.specs.Readings.{ReadsLoad, asked}

@@ -10,7 +10,7 @@ use Rattle.lx_ports.specs.declared.files.LoadFault.{LoadFault}
 use Rattle.session_model.specs.declared.sessions.Session.{Session}
 use Rattle.answer_model.specs.declared.said.Said.{Said}
 use Rattle.answer_model.specs.Loading.{AreBegun, ReadsAnswer, RefusesAnswer}
-use Rattle.answer_model.specs.Reading.{session, session_file}
+use Rattle.answer_model.specs.Items.{session, session_file}
 use Rattle.answer_model.specs.RunAnswer.{asked_lines, asked_session}
 use Rattle.answer_model.specs.RunEnds.{AreCallsOfRun}
 use Rattle.tool_read.specs.Readings.{SaysOf, asked}

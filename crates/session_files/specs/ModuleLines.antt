@@ -23,7 +23,8 @@ use Rattle.answer_model.specs.declared.said.Said.{Said}
 use Rattle.answer_model.specs.FileLine.{file_line}
 use Rattle.answer_model.specs.LinkAnswer.{link_text}
 use Rattle.answer_model.specs.Loading.{AreBegun, IsStopped}
-use Rattle.answer_model.specs.RunAnswer.{AreGiven, IsDoneLine, IsFailedLine, IsStoppedLine, asked_line, asked_lines}
+use Rattle.answer_model.specs.RunAnswer.{AreGiven, IsDoneLine, IsFailedLine, IsStoppedLine, asked_lines}
+use Rattle.answer_model.specs.RunLines.{asked_line}
 use Rattle.tool_read.specs.Steps.{AreLoads}
 
 -- ---- the session

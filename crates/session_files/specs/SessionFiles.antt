@@ -11,7 +11,7 @@ use Rattle.run_model.specs.Sources.{Source, library_of}
 use Rattle.session_model.specs.Bounds.{IsSession}
 use Rattle.answer_model.specs.declared.said.Said.{Said}
 use Rattle.answer_model.specs.Loading.{IsRead}
-use Rattle.answer_model.specs.Reading.{session}
+use Rattle.answer_model.specs.Items.{session}
 use Rattle.answer_model.specs.RunAnswer.{AreGiven, SaysRun, asked_session}
 use Rattle.answer_model.specs.RunEnds.{AreCallsOfRun}
 use Rattle.tool_read.specs.Steps.{AreLoads}

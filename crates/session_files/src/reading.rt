@@ -1,7 +1,7 @@
 //! A session's file, and after it the files of its module lines.
 ghost use Rattle.std.specs.Prelude.{ℕ, List, Result, IfOk};
 ghost use Rattle.lx_ports.specs.declared.files.LoadFault.{LoadFault};
-ghost use Rattle.answer_model.specs.Reading.{session, session_file};
+ghost use Rattle.answer_model.specs.Items.{session, session_file};
 ghost use Rattle.tool_read.specs.Readings.{ReadsLoad};
 ghost use Rattle.tool_read.specs.Steps.{IsOneLoad};
 ghost use Rattle.session_files.specs.ModuleLines.{IsKnown};

@@ -10,7 +10,8 @@ use Rattle.obj_types.specs.declared.input.LinkInput.{LinkInput}
 use Rattle.lx_ports.specs.Calls.{Call, load, save}
 use Rattle.answer_model.specs.LinkAnswer.{definition_in, input_with, libraries_in, objects_in}
 use Rattle.answer_model.specs.Loading.{AreRead, IsRead}
-use Rattle.answer_model.specs.Reading.{IsItem, Item, definition, is_library, library, library_form, linked, object, object_form, object_or_library, resources, session}
+use Rattle.answer_model.specs.Reading.{IsItem}
+use Rattle.answer_model.specs.Items.{Item, definition, is_library, library, library_form, linked, object, object_form, object_or_library, resources, session}
 use Rattle.answer_model.specs.AskedFiles.{asked_inputs}
 use Rattle.tool_read.specs.declared.modules.Modules.{Modules}
 use Rattle.tool_read.specs.Readings.{asked}

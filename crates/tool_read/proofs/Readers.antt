@@ -5,7 +5,8 @@ use Rattle.lx_types.specs.declared.fail.Fail.TheVariants as fail
 use Rattle.lx_ports.specs.declared.files.LoadFault.{LoadFault}
 use Rattle.answer_model.specs.declared.said.Said.{Said}
 use Rattle.answer_model.specs.Loading.{ReadsAnswer, RefusesAnswer, file_limit}
-use Rattle.answer_model.specs.Reading.{IsFault, IsItem, Item, Kind, form_of}
+use Rattle.answer_model.specs.Reading.{IsFault, IsItem}
+use Rattle.answer_model.specs.Items.{Item, Kind, form_of}
 use Rattle.tool_read.specs.Readings.{SaysOf, Tells, asked}
 
 module _ (kind : Kind) (name : List ℕ) (answer : Result (List ℕ) LoadFault) (bytes lent : List ℕ) (is : answer ≡ Ok bytes) (short : length bytes ≤ file_limit) (same : lent ≡ bytes) where

@@ -10,8 +10,9 @@ use Rattle.lx_ports.specs.Files.{Contents, FilesState, IsLoadOf}
 use Rattle.lx_ports.specs.declared.files.LoadFault.{LoadFault}
 use Rattle.answer_model.specs.declared.said.Said.{Said}
 use Rattle.answer_model.specs.Ends.{IsTold}
-use Rattle.answer_model.specs.Loading.{Asked, AreBegun, AreRead, IsLoadWith, IsRead, IsStopped, ReadsAnswer, RefusesAnswer, file_limit}
-use Rattle.answer_model.specs.Reading.{Item, Kind}
+use Rattle.answer_model.specs.Loading.{AreBegun, AreRead, IsLoadWith, IsRead, IsStopped, ReadsAnswer, RefusesAnswer, file_limit}
+use Rattle.answer_model.specs.AskedFiles.{Asked}
+use Rattle.answer_model.specs.Items.{Item, Kind}
 use Rattle.tool_read.specs.Readings.{ReadsLoad, SaysOf, asked}
 use Rattle.tool_read.specs.Steps.{AreLoads, GivesAll, IsOneLoad, ReadsAll, ReadsInTurn}
 

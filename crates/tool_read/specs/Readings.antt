@@ -6,8 +6,10 @@ use Rattle.lx_types.specs.declared.fail.Fail.TheVariants as fail
 use Rattle.lx_ports.specs.declared.files.LoadFault.{LoadFault}
 use Rattle.answer_model.specs.declared.said.Said.{Said}
 use Rattle.answer_model.specs.FileLine.{file_line}
-use Rattle.answer_model.specs.Loading.{Asked, ReadsAnswer, RefusesAnswer}
-use Rattle.answer_model.specs.Reading.{Kind, Form, Item, IsItem, IsFault, object, library, definition, linked}
+use Rattle.answer_model.specs.Loading.{ReadsAnswer, RefusesAnswer}
+use Rattle.answer_model.specs.AskedFiles.{Asked}
+use Rattle.answer_model.specs.Reading.{IsItem, IsFault}
+use Rattle.answer_model.specs.Items.{Kind, Form, Item, object, library, definition, linked}
 use Rattle.std.specs.List.{All}
 use Rattle.obj_types.specs.Whole.{WholeModule}
 use Rattle.obj_types.specs.Definition.{WholeDef}

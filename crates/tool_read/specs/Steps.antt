@@ -14,8 +14,9 @@ use Rattle.obj_types.specs.declared.input.LinkInput.{LinkInput}
 use Rattle.obj_types.specs.declared.definition.ModKind.TheVariants.{Program}
 use Rattle.obj_types.specs.Defaults.{default_def}
 use Rattle.answer_model.specs.LinkAnswer.{objects_in, libraries_in}
-use Rattle.answer_model.specs.Loading.{Asked, AreBegun, AreRead, IsStopped, ReadsAnswer, RefusesAnswer, file_limit}
-use Rattle.answer_model.specs.Reading.{Item, definition}
+use Rattle.answer_model.specs.Loading.{AreBegun, AreRead, IsStopped, ReadsAnswer, RefusesAnswer, file_limit}
+use Rattle.answer_model.specs.AskedFiles.{Asked}
+use Rattle.answer_model.specs.Items.{Item, definition}
 use Rattle.tool_read.specs.Readings.{SaysOf}
 use Rattle.tool_read.specs.declared.modules.Modules.{Modules}
 

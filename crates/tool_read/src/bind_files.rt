@@ -3,7 +3,7 @@ ghost use Rattle.std.specs.Prelude.{◌≡◌, ◌≤◌, ◌∷◌, [], IfOk, l
 ghost use Rattle.lx_model.specs.Module.{IsRead};
 ghost use Rattle.res_model.specs.ResFile.{AreApart};
 ghost use Rattle.answer_model.specs.Loading.{file_limit};
-ghost use Rattle.answer_model.specs.Reading.{linked, module_file, resource_file, resources};
+ghost use Rattle.answer_model.specs.Items.{linked, module_file, resource_file, resources};
 ghost use Rattle.tool_read.specs.Readings.{asked};
 ghost use Rattle.tool_read.specs.Steps.{ReadsInTurn};
 

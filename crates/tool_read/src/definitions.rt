@@ -4,7 +4,7 @@ ghost use Rattle.obj_types.specs.Definition.{WholeDef};
 ghost use Rattle.lx_ports.specs.Calls.{load_answer};
 ghost use Rattle.answer_model.specs.FileRefusals.{def_text};
 ghost use Rattle.answer_model.specs.Loading.{file_limit};
-ghost use Rattle.answer_model.specs.Reading.{definition, definition_file, definition_form};
+ghost use Rattle.answer_model.specs.Items.{definition, definition_file, definition_form};
 ghost use Rattle.tool_read.specs.Readings.{ReadsForm, ReadsLoad, SaysOf};
 
 use crate::lines::told;

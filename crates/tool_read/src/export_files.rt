@@ -2,7 +2,7 @@
 ghost use Rattle.std.specs.Prelude.{◌≡◌, ℕ, List, Result, IfOk, map, string_bytes};
 ghost use Rattle.std.specs.List.{All};
 ghost use Rattle.lx_ports.specs.declared.files.LoadFault.{LoadFault};
-ghost use Rattle.answer_model.specs.Reading.{module_or_definition};
+ghost use Rattle.answer_model.specs.Items.{module_or_definition};
 ghost use Rattle.answer_model.specs.Says.{asked_exporters};
 ghost use Rattle.tool_read.specs.Readings.{ReadsLoad, WholeExporter, exporter_item};
 ghost use Rattle.tool_read.specs.Steps.{IsOneLoad, ReadsInTurn};

@@ -4,7 +4,7 @@ ghost use Rattle.lx_model.specs.Module.{IsRead};
 ghost use Rattle.lx_ports.specs.Calls.{load_answer};
 ghost use Rattle.answer_model.specs.FileRefusals.{lx_text};
 ghost use Rattle.answer_model.specs.Loading.{file_limit};
-ghost use Rattle.answer_model.specs.Reading.{form_of, is_module, linked, module_file, module_form, module_or_definition};
+ghost use Rattle.answer_model.specs.Items.{form_of, is_module, linked, module_file, module_form, module_or_definition};
 ghost use Rattle.tool_read.specs.Readings.{ReadsForm, ReadsLoad, SaysOf, WholeExporter, exporter_item};
 
 use crate::definitions::definition;

@@ -5,7 +5,7 @@ ghost use Rattle.obj_types.specs.Whole.{WholeModule};
 ghost use Rattle.lx_ports.specs.Calls.{load_answer};
 ghost use Rattle.answer_model.specs.FileRefusals.{omf_text};
 ghost use Rattle.answer_model.specs.Loading.{file_limit};
-ghost use Rattle.answer_model.specs.Reading.{form_of, is_library, library, library_form, object, object_file, object_form, object_or_library};
+ghost use Rattle.answer_model.specs.Items.{form_of, is_library, library, library_form, object, object_file, object_form, object_or_library};
 ghost use Rattle.tool_read.specs.Readings.{ReadsForm, ReadsLoad, SaysOf, WholeInputFile, input_item};
 
 use crate::lines::told;

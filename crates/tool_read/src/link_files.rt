@@ -5,7 +5,7 @@ ghost use Rattle.obj_types.specs.Definition.{WholeDef};
 ghost use Rattle.obj_types.specs.Input.{WholeInput};
 ghost use Rattle.obj_types.specs.Whole.{WholeModule};
 ghost use Rattle.answer_model.specs.LinkAnswer.{input_of, input_with};
-ghost use Rattle.answer_model.specs.Reading.{object, object_file, object_or_library};
+ghost use Rattle.answer_model.specs.Items.{object, object_file, object_or_library};
 ghost use Rattle.answer_model.specs.AskedFiles.{asked_definition, asked_inputs};
 ghost use Rattle.tool_read.specs.Readings.{ReadsLoad, asked};
 ghost use Rattle.tool_read.specs.Steps.{AddsInput, AreModulesOf, AreWhole, GivesDefinition, IsInputWith, IsOneLoad, ReadsInTurn};

@@ -2,7 +2,7 @@
 ghost use Rattle.std.specs.Prelude.{◌≡◌, ◌≤◌, IfOk, length};
 ghost use Rattle.lx_ports.specs.Calls.{load_answer};
 ghost use Rattle.answer_model.specs.Loading.{file_limit};
-ghost use Rattle.answer_model.specs.Reading.{Kind};
+ghost use Rattle.answer_model.specs.Items.{Kind};
 ghost use Rattle.tool_read.specs.Readings.{Opens};
 
 use crate::lines::refusal;

@@ -5,7 +5,7 @@ ghost use Rattle.lx_ports.specs.declared.files.LoadFault.{LoadFault};
 ghost use Rattle.answer_model.specs.ResourceRefusals.{res_text};
 ghost use Rattle.res_model.specs.ResFile.{AreApart};
 ghost use Rattle.answer_model.specs.Loading.{file_limit};
-ghost use Rattle.answer_model.specs.Reading.{resources, resource_file, resource_form};
+ghost use Rattle.answer_model.specs.Items.{resources, resource_file, resource_form};
 ghost use Rattle.tool_read.specs.Readings.{ReadsForm, ReadsLoad, SaysOf};
 ghost use Rattle.tool_read.specs.Steps.{IsOneLoad};
 

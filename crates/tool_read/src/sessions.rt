@@ -5,7 +5,7 @@ ghost use Rattle.lx_ports.specs.Calls.{load_answer};
 ghost use Rattle.lx_ports.specs.declared.files.LoadFault.{LoadFault};
 ghost use Rattle.answer_model.specs.SessionRefusals.{session_text};
 ghost use Rattle.answer_model.specs.Loading.{file_limit};
-ghost use Rattle.answer_model.specs.Reading.{linked, module_file, session, session_file, session_form};
+ghost use Rattle.answer_model.specs.Items.{linked, module_file, session, session_file, session_form};
 ghost use Rattle.tool_read.specs.Readings.{ReadsForm, ReadsLoad, SaysOf};
 ghost use Rattle.tool_read.specs.Steps.{IsOneLoad};
 

@@ -13,7 +13,7 @@ use Rattle.session_model.specs.Merging.{merge_of, state_behind}
 use Rattle.session_model.specs.Transcript.{Transcript}
 use Rattle.std.specs.Fmt.{digits}
 use Rattle.answer_model.specs.RunAnswer.{asked_session}
-use Rattle.answer_model.specs.Reading.{module_file}
+use Rattle.answer_model.specs.Items.{module_file}
 use Rattle.answer_model.specs.WorkedRuns.{S, loaded, two_modules}
 use Rattle.answer_model.proofs.worked.runs_are_said.Goals as goal
 

@@ -1,6 +1,6 @@
 use Rattle.std.proofs.Common.{◌≡◌, List, ◌∷◌, []}
 use Rattle.lx_types.specs.declared.parts.Parts.{Parts}
-use Rattle.answer_model.specs.Reading.{Item, linked, module_file}
+use Rattle.answer_model.specs.Items.{Item, linked, module_file}
 use Rattle.answer_model.specs.Words.{dump}
 use Rattle.tool_read.specs.Readings.{asked}
 use Rattle.tool_read.proofs.Walk.{one_load}

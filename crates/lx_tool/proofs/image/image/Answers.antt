@@ -1,6 +1,6 @@
 use Rattle.std.proofs.Common.{◌≡◌, List, ◌∷◌, []}
 use Rattle.obj_types.specs.declared.object.ObjModule.{ObjModule}
-use Rattle.answer_model.specs.Reading.{Item, object, object_file}
+use Rattle.answer_model.specs.Items.{Item, object, object_file}
 use Rattle.answer_model.specs.Words.{image}
 use Rattle.tool_read.specs.Readings.{asked}
 use Rattle.tool_read.proofs.Walk.{one_load}

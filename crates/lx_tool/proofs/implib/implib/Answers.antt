@@ -2,7 +2,7 @@ use Rattle.std.proofs.Common.{◌≡◌, List, Vec, map, ap, sym, ◌∙◌}
 use Rattle.std.specs.Global.{Global}
 use Rattle.std.specs.Prelude.{string_bytes}
 use Rattle.answer_model.specs.ImplibAnswer.{all_imports, implib_outcome}
-use Rattle.answer_model.specs.Reading.{Item}
+use Rattle.answer_model.specs.Items.{Item}
 use Rattle.answer_model.specs.Stem.{stem_of}
 use Rattle.tool_read.specs.Readings.{exporter_item}
 use Rattle.tool_read.specs.declared.exporters.Exporter.{Exporter}

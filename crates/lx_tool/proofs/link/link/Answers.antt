@@ -1,7 +1,7 @@
 use Rattle.std.proofs.Common.{◌≡◌, List}
 use Rattle.obj_types.specs.declared.input.LinkInput.{LinkInput}
 use Rattle.answer_model.specs.LinkAnswer.{input_of}
-use Rattle.answer_model.specs.Reading.{Item}
+use Rattle.answer_model.specs.Items.{Item}
 use Rattle.lx_tool.proofs.Commands.{link_done, not_read}
 use Rattle.lx_tool.proofs.link.link.Goals as goal
 

@@ -2,7 +2,7 @@ use Rattle.std.proofs.Common.{◌≡◌, List}
 use Rattle.obj_types.specs.declared.input.LinkInput.{LinkInput}
 use Rattle.answer_model.specs.LinkAnswer.{input_with}
 use Rattle.answer_model.specs.MapAnswer.{NAME}
-use Rattle.answer_model.specs.Reading.{Item}
+use Rattle.answer_model.specs.Items.{Item}
 use Rattle.lx_tool.proofs.Commands.{not_read}
 use Rattle.lx_tool.proofs.Mapped.{map_done}
 use Rattle.lx_tool.proofs.map.show_map.Goals as goal

@@ -1,7 +1,7 @@
 use Rattle.std.proofs.Common.{◌≡◌, ℕ, List, [], ◌∷◌, ◌++◌, Result, Ok, Err}
 use Rattle.lx_types.specs.declared.parts.Parts.{Parts}
 use Rattle.res_model.specs.declared.item.ResItem.{ResItem}
-use Rattle.answer_model.specs.Reading.{Item, linked, module_file, resources, resource_file}
+use Rattle.answer_model.specs.Items.{Item, linked, module_file, resources, resource_file}
 use Rattle.tool_read.specs.Readings.{asked}
 use Rattle.tool_read.specs.declared.bind_files.Binding.{Binding}
 use Rattle.tool_read.proofs.Walk.{both_read, in_turn, stopped_first, stopped_second}

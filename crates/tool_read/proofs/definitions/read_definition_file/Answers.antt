@@ -1,4 +1,4 @@
-use Rattle.answer_model.specs.Reading.{definition, definition_file}
+use Rattle.answer_model.specs.Items.{definition, definition_file}
 use Rattle.tool_read.proofs.Readers.{err_read, ok_read}
 use Rattle.tool_read.proofs.definitions.read_definition_file.Goals as goal
 

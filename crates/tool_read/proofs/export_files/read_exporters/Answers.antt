@@ -7,8 +7,8 @@ use Rattle.std.proofs.lemmas.List.Elements.{All-push}
 use Rattle.lx_types.specs.declared.fail.Fail.{Fail}
 use Rattle.lx_types.specs.declared.fail.Fail.TheVariants as fail
 use Rattle.answer_model.specs.declared.said.Said.{Said}
-use Rattle.answer_model.specs.Loading.{Asked}
-use Rattle.answer_model.specs.Reading.{Item, module_or_definition}
+use Rattle.answer_model.specs.AskedFiles.{Asked}
+use Rattle.answer_model.specs.Items.{Item, module_or_definition}
 use Rattle.answer_model.specs.Says.{asked_exporters}
 use Rattle.tool_read.specs.declared.exporters.Exporter.{Exporter}
 use Rattle.tool_read.specs.Readings.{WholeExporter, asked, exporter_item}

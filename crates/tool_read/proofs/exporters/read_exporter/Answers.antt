@@ -1,5 +1,5 @@
 use Rattle.std.proofs.Common.{refl}
-use Rattle.answer_model.specs.Reading.{module_or_definition}
+use Rattle.answer_model.specs.Items.{module_or_definition}
 use Rattle.tool_read.specs.Readings.{exporter_item}
 use Rattle.tool_read.proofs.Readers.{err_read, ok_read}
 use Rattle.tool_read.proofs.exporters.read_exporter.Goals as goal

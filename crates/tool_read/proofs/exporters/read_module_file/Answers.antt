@@ -1,5 +1,5 @@
 use Rattle.std.proofs.Common.{refl}
-use Rattle.answer_model.specs.Reading.{linked, module_file}
+use Rattle.answer_model.specs.Items.{linked, module_file}
 use Rattle.tool_read.proofs.Readers.{err_read, ok_read}
 use Rattle.tool_read.proofs.exporters.read_module_file.Goals as goal
 

@@ -1,4 +1,4 @@
-use Rattle.answer_model.specs.Reading.{object_or_library}
+use Rattle.answer_model.specs.Items.{object_or_library}
 use Rattle.tool_read.specs.Readings.{input_item}
 use Rattle.tool_read.proofs.Readers.{err_read, ok_read}
 use Rattle.tool_read.proofs.inputs.read_input.Goals as goal

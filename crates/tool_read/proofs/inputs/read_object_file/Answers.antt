@@ -1,4 +1,4 @@
-use Rattle.answer_model.specs.Reading.{object, object_file}
+use Rattle.answer_model.specs.Items.{object, object_file}
 use Rattle.tool_read.proofs.Readers.{err_read, ok_read}
 use Rattle.tool_read.proofs.inputs.read_object_file.Goals as goal
 

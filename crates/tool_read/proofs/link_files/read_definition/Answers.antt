@@ -1,7 +1,7 @@
 use Rattle.std.proofs.Common.{◌≡◌, sym, subst, refl, Option, List, Bor, [], ◌∷◌, ℕ}
 use Rattle.std.specs.Prelude.{option_map}
 use Rattle.obj_types.specs.declared.definition.DefFile.{DefFile}
-use Rattle.answer_model.specs.Reading.{Item, definition, definition_file}
+use Rattle.answer_model.specs.Items.{Item, definition, definition_file}
 use Rattle.answer_model.specs.AskedFiles.{asked_definition}
 use Rattle.tool_read.specs.Readings.{asked}
 use Rattle.tool_read.specs.Steps.{GivesDefinition, ReadsInTurn}

@@ -1,7 +1,7 @@
 use Rattle.std.proofs.Common.{Err, ℕ, List, sym, subst, map, take, drop, suc, ◌++◌, ◌∷◌, []}
 use Rattle.std.specs.Prelude.{string_bytes}
-use Rattle.answer_model.specs.Loading.{Asked}
-use Rattle.answer_model.specs.Reading.{object_or_library}
+use Rattle.answer_model.specs.AskedFiles.{Asked}
+use Rattle.answer_model.specs.Items.{object_or_library}
 use Rattle.answer_model.specs.AskedFiles.{asked_inputs}
 use Rattle.tool_read.specs.Readings.{asked}
 use Rattle.tool_read.specs.Steps.{AreModulesOf, ReadsInTurn}

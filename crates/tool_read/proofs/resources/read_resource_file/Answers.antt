@@ -1,4 +1,4 @@
-use Rattle.answer_model.specs.Reading.{resources, resource_file}
+use Rattle.answer_model.specs.Items.{resources, resource_file}
 use Rattle.tool_read.proofs.Readers.{err_read, ok_read}
 use Rattle.tool_read.proofs.resources.read_resource_file.Goals as goal
 

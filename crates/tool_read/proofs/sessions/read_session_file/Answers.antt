@@ -1,4 +1,4 @@
-use Rattle.answer_model.specs.Reading.{session, session_file}
+use Rattle.answer_model.specs.Items.{session, session_file}
 use Rattle.tool_read.proofs.Readers.{err_read, ok_read}
 use Rattle.tool_read.proofs.sessions.read_session_file.Goals as goal
 
