@@ -39,6 +39,24 @@ def copy_of(root, to):
     shutil.copytree(root, to, ignore=left_out, symlinks=True)
 
 
+def code_of(root, to):
+    """Copies what a compiler reads."""
+    shutil.copytree(f"{root}/crates", f"{to}/crates", ignore=shutil.ignore_patterns("out", "data", "must-fail"), symlinks=True)
+    for name in ("crates.txt", "HANDLES"):
+        shutil.copy(f"{root}/{name}", to)
+
+
+def put_in(path, old, new):
+    """Puts a text in the place of one that stands once in a file; returns the line it stands on, or none where it does not."""
+    with open(path, encoding="utf-8") as it:
+        text = it.read()
+    if text.count(old) != 1:
+        return None
+    with open(path, "w", encoding="utf-8") as it:
+        it.write(text.replace(old, new))
+    return text[: text.index(old)].count("\n") + 1
+
+
 def crates_of(root):
     """Returns the libraries of the repository that each crate is listed with."""
     found = {}

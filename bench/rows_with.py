@@ -1,14 +1,14 @@
 #!/usr/bin/env python3
 """Runs the rows of crates/command_rows with a built lx, each over its files in a temporary folder, and tells those that differ.
 
-Usage: rows_with.py [--judge JUDGE] [--show] LX [ROWS ..]     ROWS: files of rows; those of command_rows where none is named
+Usage: rows_with.py [--judge JUDGE] [--show] LX [ROWS ..]     ROWS: files of rows
 
-The gate's program runs the same rows over files and a sink in memory. A row in which a call of a port fails is passed over, since a
-folder fails none, and so is a row of a file that is damaged in each way. Where the sink has room for a part of the text, the program
-writes all of it, and only that part is compared, and nothing of standard error. `crates/command_rows/data/words.rows` says how a row
-is written. With --show what differs is shown whole. With --judge each transcript of status 0 is given to `JUDGE SESSION TRANSCRIPT`
-in the folder of its row.
-The last line counts; the status is 1 where a row differs.
+Where none is named they are those of command_rows but wrong.rows, which want what is wrong, and bench/program.rows, which want what
+the program alone does. The gate's program runs the same rows over files and a sink in memory. A row in which a call of a port fails
+is passed over, since a folder fails none, and so is a row of a file that is damaged in each way. Where the sink has room for a part
+of the text, the program writes all of it, and only that part is compared, and nothing of standard error.
+`crates/command_rows/data/words.rows` says how a row is written. With --show what differs is shown whole. With --judge each transcript
+of status 0 is given to `JUDGE SESSION TRANSCRIPT` in the folder of its row. The last line counts; the status is 1 where a row differs.
 """
 import os
 import subprocess
@@ -17,6 +17,9 @@ import tempfile
 
 HERE = os.path.dirname(os.path.realpath(__file__))
 CRATE = os.path.join(HERE, "..", "crates", "command_rows")
+
+# Rows that want what is wrong.
+WRONG = "wrong.rows"
 
 CALLS = ("load", "save", "put")
 
@@ -246,7 +249,8 @@ def main(words):
     lx, paths = os.path.realpath(words[0]), words[1:]
     if not paths:
         with open(os.path.join(CRATE, "args"), encoding="utf-8") as it:
-            paths = [os.path.join(CRATE, "data", name) for name in it.read().split()]
+            paths = [os.path.join(CRATE, "data", name) for name in it.read().split() if name != WRONG]
+        paths.append(os.path.join(HERE, "program.rows"))
     rows = passed = differ = judged = 0
     for path in paths:
         runner = Runner(lx, judge, os.path.basename(path), shows)

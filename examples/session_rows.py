@@ -201,6 +201,22 @@ def refused():
                 module_file("UNWELL", [(8, 0x10000, READ | EXECUTE | BIG, 0)], imports=["SICK"], kind=PROGRAM, start=(1, 0)))
     yield block("lost.exe", "A program that refers to an entry that there is not.", module_file("LOST", [(8, 0x10000, READ | EXECUTE | BIG, 1)],
                 [(ZERO, b"", at_ordinal(7, 0, 1, 99))], imports=["K"], kind=PROGRAM, start=(1, 0)))
+    yield from two_causes()
+
+
+def two_causes():
+    """H, whose objects all have an invalid page, and modules with two causes not to be loaded."""
+    objects = [(8192, 0x10000000 + 0x10000 * k, flags | BIG, 2) for k, flags in enumerate((READ | EXECUTE, READ | WRITE, READ | WRITE | IS_SHARED))]
+    yield block("h.dll", "Code, data and shared data: in each the second of two pages is invalid.",
+                module_file("H", objects, [(ZERO, b"", b""), (INVALID, b"", b"")] * 3))
+    code = [(16, 0x10000000, READ | EXECUTE | BIG, 1)]
+    for name, first, second, imports, why in (
+            ("NOMODULE", 99, 2, ["K", "NOWHERE"], "A module is imported that there is not, and an entry is referred to that there is not."),
+            ("NOENTRY", 3, 99, ["K"], "The forwarder that comes back is referred to, and then an entry that there is not."),
+            ("LOOP", 2, 3, ["K"], "The gate is referred to, and then the forwarder that comes back.")):
+        yield block(name.lower() + ".dll", why, module_file(name, code, [(ZERO, b"", at_ordinal(7, 0, 1, first) + at_ordinal(7, 4, 1, second))], imports=imports))
+    yield block("lostprog.exe", "A program that imports a module that there is not.",
+                module_file("LOSTPROG", [(8, 0x10000, READ | EXECUTE | BIG, 0)], imports=["NOWHERE"], kind=PROGRAM, start=(1, 0)))
 
 
 def graphs():

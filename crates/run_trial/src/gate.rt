@@ -5,14 +5,11 @@ use lx_types::NoMemory;
 use std::alloc::Global;
 use std::sync::atomic::{AtomicU32, Ordering};
 use std::thread;
-use std::time::{Clock, Duration, Instant};
 
-/// How many seconds the program has for its runs. A script that is still held back then goes on, and its gate is open from there on: so a
-/// run that is wrong ends, and is told from a right one. Right runs take a small part of it, also where the machine has other work.
-const PATIENCE: u64 = 40;
-
-/// How often a script that is held back looks whether it may go on. The time is up long before.
-const LOOKS: u32 = u32::MAX;
+/// How often a script that is held back looks whether it may go on. Then it goes on, and the gate of its run is open from there
+/// on: so a run that is wrong ends, and is told from a right one. Looks are counted and not seconds, since a script whose machine
+/// has other work looks less often too; a right run takes a small part of them.
+const LOOKS: u32 = 1 << 24;
 
 /// The most scripts, by whose numbers steps are noted.
 const SCRIPTS: u32 = 16;
@@ -40,35 +37,9 @@ pub struct Asked {
     pub given_up: u32,
 }
 
-/// The runtime of the runs, and when they are to be over.
-#[derive(Drop)]
-pub struct Bench<'a, R> {
-    pub rt: &'a R,
-    end: Instant,
-}
-
-impl<'a, R: Clock> Bench<'a, R> {
-    /// From now on, for as long as the patience lasts. Nothing where the clock is not read.
-    pub fn new(rt: &'a R) -> Option<Bench<'a, R>> {
-        let end = Instant::now(rt)
-            .ok()?
-            .checked_add(Duration::from_secs(PATIENCE))?;
-        Some(Bench { rt, end })
-    }
-
-    // Whether the time is up. Where the clock is not read, it is.
-    fn is_late(&self) -> bool {
-        match Instant::now(self.rt) {
-            Ok(now) => now >= self.end,
-            Err(_) => true,
-        }
-    }
-}
-
 /// A gate with these holds. It notes how far each script has come.
 #[derive(Drop)]
-pub struct HoldingGate<'a, R> {
-    bench: &'a Bench<'a, R>,
+pub struct HoldingGate<'a> {
     holds: &'a [Hold],
     reached: Vec<AtomicU32>,
     commands: AtomicU32,
@@ -76,19 +47,14 @@ pub struct HoldingGate<'a, R> {
     given_up: AtomicU32,
 }
 
-impl<'a, R: Clock> HoldingGate<'a, R> {
+impl<'a> HoldingGate<'a> {
     /// A gate that was not asked yet.
-    pub fn new(
-        bench: &'a Bench<'a, R>,
-        alloc: Global,
-        holds: &'a [Hold],
-    ) -> Result<HoldingGate<'a, R>, NoMemory> {
+    pub fn new(alloc: Global, holds: &'a [Hold]) -> Result<HoldingGate<'a>, NoMemory> {
         let mut reached = Vec::new(alloc);
         for _ in 0..SCRIPTS + 1 {
             reached.push(AtomicU32::new(0))?;
         }
         Ok(HoldingGate {
-            bench,
             holds,
             reached,
             commands: AtomicU32::new(0),
@@ -126,14 +92,11 @@ impl<'a, R: Clock> HoldingGate<'a, R> {
         }
     }
 
-    // Looks until a script has come to a command, but not when the time is up.
+    // Looks until a script has come to a command, or the gate is open.
     fn wait_for(&self, step: Step) {
         for _ in 0..LOOKS {
             if self.has_come(step) || self.given_up.load(Ordering::SeqCst) > 0 {
                 return;
-            }
-            if self.bench.is_late() {
-                break;
             }
             thread::yield_now();
         }
@@ -141,7 +104,7 @@ impl<'a, R: Clock> HoldingGate<'a, R> {
     }
 }
 
-impl<R: Clock + Sync> Gate for HoldingGate<'_, R> {
+impl Gate for HoldingGate<'_> {
     fn before(&self, pid: u32, index: u32) {
         self.note(Step { pid, index });
         for hold in self.holds {

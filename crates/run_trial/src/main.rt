@@ -10,7 +10,6 @@ mod running;
 mod telling;
 
 use failure::Failure;
-use gate::Bench;
 use std::io::Write;
 use std::rt::Runtime;
 use std::{env, io};
@@ -31,10 +30,7 @@ fn read_words<R: Runtime + AllocGlobal>(rt: &R) -> u32 {
 }
 
 fn main(rt: HostRuntime) -> io::Result<()> {
-    let Some(bench) = Bench::new(&rt) else {
-        return println!(rt; "no clock");
-    };
-    match tell_all(&bench, rt.alloc(), read_words(&rt)) {
+    match tell_all(&rt, rt.alloc(), read_words(&rt)) {
         Ok(text) => io::writer(&rt).write_all(text.as_slice()),
         Err(Failure::Library) => println!(rt; "no library"),
         Err(Failure::Session) => println!(rt; "no session"),

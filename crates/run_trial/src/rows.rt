@@ -14,6 +14,10 @@ pub const IN_TURN: &[u8] = b"failing E 9\n\
     process 3\nload A\ntouch A 1 0 4097\npeek A 1 0 8\nexit\nquery A @1\n\
     process 9\nload E\nload A\ntouch A 1 4096 4097\nexit\n";
 
+/// Two scripts that load one module, touch one page of it and read there.
+pub const TOUCHES: &[u8] = b"process 1\nload A\ntouch A 1 0 4\npeek A 1 4 4\nexit\nquery A @1\n\
+    process 2\nload A\ntouch A 1 0 4\npeek A 1 4 4\nexit\nquery A @1\n";
+
 /// How many scripts share the modules.
 pub const SCRIPTS: u32 = 16;
 
@@ -66,6 +70,25 @@ pub fn in_turn() -> [Hold; 6] {
         hold((9, 3), (3, 3)),
         hold((3, 3), (9, 4)),
         hold((9, 4), (3, 5)),
+    ]
+}
+
+/// The first script touches the page once both have loaded the module, and the second one after it. That one ends first.
+pub fn first_touches_first() -> [Hold; 4] {
+    [
+        hold((2, 1), (1, 2)),
+        hold((1, 2), (2, 2)),
+        hold((2, 2), (1, 3)),
+        hold((1, 4), (2, 5)),
+    ]
+}
+
+/// The second script touches the page before the first one, which loaded the module first, and ends after it.
+pub fn second_touches_first() -> [Hold; 3] {
+    [
+        hold((2, 1), (1, 2)),
+        hold((1, 2), (2, 3)),
+        hold((2, 4), (1, 5)),
     ]
 }
 

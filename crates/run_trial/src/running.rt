@@ -4,7 +4,7 @@ ghost use Rattle.std.specs.Prelude.{IfOk};
 ghost use Rattle.session_model.specs.Bounds.{IsSession};
 
 use crate::failure::Failure;
-use crate::gate::{Asked, Bench, Hold, HoldingGate};
+use crate::gate::{Asked, Hold, HoldingGate};
 use crate::modules::library;
 use load_model::{Deed, Entry};
 use lx_types::{Fail, PageId};
@@ -14,7 +14,6 @@ use session_text::read_session;
 use std::alloc::Global;
 use std::sync::{Arc, Wait};
 use std::thread::Threads;
-use std::time::Clock;
 
 /// A run, and what its gate was asked.
 #[derive(Drop)]
@@ -39,8 +38,8 @@ fn session_of(alloc: Global, text: &[u8]) -> Result<Session, Failure>
 }
 
 /// Runs the session that a text says, with a gate of these holds.
-pub fn run_text<R: Threads + Wait + Clock + Sync>(
-    bench: &Bench<R>,
+pub fn run_text<R: Threads + Wait + Sync>(
+    rt: &R,
     alloc: Global,
     text: &[u8],
     holds: &[Hold],
@@ -49,8 +48,8 @@ pub fn run_text<R: Threads + Wait + Clock + Sync>(
     let library = library(alloc)?;
     let failing = failing_pairs(alloc, &library, &session)?;
     let library = Arc::new(alloc, library)?;
-    let gate = HoldingGate::new(bench, alloc, holds)?;
-    let ran = run_session(bench.rt, alloc, session, library, failing, &gate)?;
+    let gate = HoldingGate::new(alloc, holds)?;
+    let ran = run_session(rt, alloc, session, library, failing, &gate)?;
     let asked = gate.asked();
     Ok(Outcome { ran, asked })
 }

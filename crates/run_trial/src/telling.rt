@@ -1,15 +1,15 @@
 //! What is told of the runs: transcripts where the gate leaves one order, and counts where it does not.
 
 use crate::failure::Failure;
-use crate::gate::{Asked, Bench, Hold};
+use crate::gate::{Asked, Hold};
 use crate::rows::{
-    IN_TURN, TWO, all_begin, first_first, in_turn, none_leaves, second_first, sharing,
+    IN_TURN, TOUCHES, TWO, all_begin, first_first, first_touches_first, in_turn, none_leaves,
+    second_first, second_touches_first, sharing,
 };
 use crate::running::{Outcome, run_text};
 use std::alloc::Global;
 use std::sync::Wait;
 use std::thread::Threads;
-use std::time::Clock;
 
 /// How many faults the scripts that share modules make at least, which is one a page that they share; and at most, where the
 /// modules are loaded anew for each of them.
@@ -68,13 +68,13 @@ fn told(alloc: Global, asked: Asked) -> Result<String, Failure> {
 }
 
 // The run of a session in one order, and its transcript.
-fn tell_ordered<R: Threads + Wait + Clock + Sync>(
-    bench: &Bench<R>,
+fn tell_ordered<R: Threads + Wait + Sync>(
+    rt: &R,
     alloc: Global,
     row: Ordered,
     text: &mut Vec<u8>,
 ) -> Result<(), Failure> {
-    let outcome = run_text(bench, alloc, row.session, row.holds)?;
+    let outcome = run_text(rt, alloc, row.session, row.holds)?;
     let name = row.name;
     let asked = told(alloc, outcome.asked)?;
     let head = format!(in alloc; "{name}: {asked}\n")?;
@@ -83,9 +83,9 @@ fn tell_ordered<R: Threads + Wait + Clock + Sync>(
     Ok(())
 }
 
-// How many of the further runs have the same counts.
-fn count_alike<R: Threads + Wait + Clock + Sync>(
-    bench: &Bench<R>,
+// How many of the further runs have the same counts. A run that gave up a hold is the last: each of them would take its time.
+fn count_alike<R: Threads + Wait + Sync>(
+    rt: &R,
     alloc: Global,
     session: &[u8],
     row: Shared,
@@ -93,24 +93,27 @@ fn count_alike<R: Threads + Wait + Clock + Sync>(
 ) -> Result<u32, Failure> {
     let mut alike = 0u32;
     for _ in 1..row.runs {
-        let outcome = run_text(bench, alloc, session, row.holds)?;
-        if Counts::of(&outcome, row.most) == first {
+        let counts = Counts::of(&run_text(rt, alloc, session, row.holds)?, row.most);
+        if counts == first {
             alike = alike.saturating_add(1);
+        }
+        if counts.asked.given_up > 0 {
+            break;
         }
     }
     Ok(alike)
 }
 
 // The runs of the scripts that share modules, with a gate.
-fn tell_shared<R: Threads + Wait + Clock + Sync>(
-    bench: &Bench<R>,
+fn tell_shared<R: Threads + Wait + Sync>(
+    rt: &R,
     alloc: Global,
     session: &[u8],
     row: Shared,
     text: &mut Vec<u8>,
 ) -> Result<(), Failure> {
-    let first = Counts::of(&run_text(bench, alloc, session, row.holds)?, row.most);
-    let alike = count_alike(bench, alloc, session, row, first)?.saturating_add(1);
+    let first = Counts::of(&run_text(rt, alloc, session, row.holds)?, row.most);
+    let alike = count_alike(rt, alloc, session, row, first)?.saturating_add(1);
     let Counts {
         commands,
         lines,
@@ -135,8 +138,8 @@ fn tell_shared<R: Threads + Wait + Clock + Sync>(
 }
 
 // All runs of the scripts that share modules.
-fn tell_all_shared<R: Threads + Wait + Clock + Sync>(
-    bench: &Bench<R>,
+fn tell_all_shared<R: Threads + Wait + Sync>(
+    rt: &R,
     alloc: Global,
     runs: u32,
     text: &mut Vec<u8>,
@@ -163,14 +166,14 @@ fn tell_all_shared<R: Threads + Wait + Clock + Sync>(
         most: FEWEST,
     };
     for row in [open, together, loaded_once] {
-        tell_shared(bench, alloc, session.as_slice(), row, text)?;
+        tell_shared(rt, alloc, session.as_slice(), row, text)?;
     }
     Ok(())
 }
 
 // The sessions that run in one order.
-fn tell_all_ordered<R: Threads + Wait + Clock + Sync>(
-    bench: &Bench<R>,
+fn tell_all_ordered<R: Threads + Wait + Sync>(
+    rt: &R,
     alloc: Global,
     text: &mut Vec<u8>,
 ) -> Result<(), Failure> {
@@ -194,20 +197,37 @@ fn tell_all_ordered<R: Threads + Wait + Clock + Sync>(
         session: IN_TURN,
         holds: &in_turn(),
     };
-    for row in [no_scripts, second_first, first_first, in_turn] {
-        tell_ordered(bench, alloc, row, text)?;
+    let first_touches = Ordered {
+        name: "first touches first",
+        session: TOUCHES,
+        holds: &first_touches_first(),
+    };
+    let second_touches = Ordered {
+        name: "second touches first",
+        session: TOUCHES,
+        holds: &second_touches_first(),
+    };
+    for row in [
+        no_scripts,
+        second_first,
+        first_first,
+        in_turn,
+        first_touches,
+        second_touches,
+    ] {
+        tell_ordered(rt, alloc, row, text)?;
     }
     Ok(())
 }
 
 /// All that is told; the scripts that share modules are run so often with each gate.
-pub fn tell_all<R: Threads + Wait + Clock + Sync>(
-    bench: &Bench<R>,
+pub fn tell_all<R: Threads + Wait + Sync>(
+    rt: &R,
     alloc: Global,
     runs: u32,
 ) -> Result<Vec<u8>, Failure> {
     let mut text = Vec::new(alloc);
-    tell_all_ordered(bench, alloc, &mut text)?;
-    tell_all_shared(bench, alloc, runs, &mut text)?;
+    tell_all_ordered(rt, alloc, &mut text)?;
+    tell_all_shared(rt, alloc, runs, &mut text)?;
     Ok(text)
 }
