@@ -8,7 +8,7 @@ ghost use Rattle.link_fix.specs.Bare.{bare};
 use obj_types::FixAt;
 
 /// What a fixup refers to.
-#[derive(Debug, Clone, Copy, PartialEq, Eq)]
+#[derive(Clone, Copy)]
 pub enum Target {
     /// A place in an object; objects count from 1.
     Internal { object: u32, offset: u32 },

@@ -3,7 +3,7 @@
 use lx_types::Name;
 
 /// Where a part of a link comes from.
-#[derive(Debug, Clone, Copy, PartialEq, Eq)]
+#[derive(Clone, Copy)]
 pub enum Origin {
     /// A segment of a chosen module; both count from 1.
     Segment { module: u32, index: u32 },
@@ -14,7 +14,7 @@ pub enum Origin {
 }
 
 /// A logical segment: parts of one key are one ("98h SEGDEF", combine types).
-#[derive(Debug, PartialEq, Drop)]
+#[derive(Drop)]
 pub enum SegmentKey {
     /// A private part stands alone.
     Private { origin: Origin },
@@ -25,7 +25,7 @@ pub enum SegmentKey {
 }
 
 /// An object: logical segments of one key are one.
-#[derive(Debug, PartialEq, Drop)]
+#[derive(Drop)]
 pub enum ObjectKey {
     /// The segments of a group.
     Group { name: Name },

@@ -18,7 +18,7 @@ use omf_frame::Rec;
 use omf_names::is_debug_segment;
 
 /// How many names, segments and groups came before.
-#[derive(Clone, Copy, Debug)]
+#[derive(Clone, Copy)]
 pub struct Have {
     names: u32,
     segs: u32,
@@ -39,14 +39,14 @@ impl Have {
 }
 
 /// The group and the segment of an explicit allocation.
-#[derive(Clone, Copy, Debug)]
+#[derive(Clone, Copy)]
 pub struct Base {
     pub group: u32,
     pub segment: u32,
 }
 
 /// The fields of a COMDAT record, and the place of its offset.
-#[derive(Clone, Copy, Debug)]
+#[derive(Clone, Copy)]
 pub struct ComdatFields<'a> {
     pub flags: u8,
     pub attributes: u8,

@@ -53,7 +53,7 @@ fn number_at(place: usize) -> Result<u32, NoMemory>
 }
 
 /// Where a record's data goes: the number of its segment, and whether the COMDAT has begun.
-#[derive(Clone, Copy, Debug)]
+#[derive(Clone, Copy)]
 struct Turn {
     number: u32,
     has_begun: bool,

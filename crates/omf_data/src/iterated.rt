@@ -25,7 +25,7 @@ use omf_frame::record_type::{LIDATA, LIDATA_32};
 use std::alloc::Global;
 
 /// The fields of an LIDATA record: its blocks are not expanded, and `len` is the length of their data.
-#[derive(Clone, Copy, Debug)]
+#[derive(Clone, Copy)]
 pub struct Iterated<'a> {
     place: Place,
     wide: bool,

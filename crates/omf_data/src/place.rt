@@ -10,7 +10,7 @@ use crate::marks::Marks;
 use obj_types::{MAX_DATA, ObjParts, OmfRefusal, Seg};
 
 /// A segment, an offset in it, and the place of the field that says the offset.
-#[derive(Clone, Copy, Debug)]
+#[derive(Clone, Copy)]
 pub struct Place {
     pub seg: u32,
     pub offset: u32,

@@ -22,7 +22,7 @@ use omf_frame::record_type::{LEDATA, LEDATA_32};
 use std::alloc::Global;
 
 /// The fields of an LEDATA record.
-#[derive(Clone, Copy, Debug)]
+#[derive(Clone, Copy)]
 pub struct Straight<'a> {
     place: Place,
     bytes: &'a [u8],

@@ -13,7 +13,7 @@ use std::marker::Model;
 
 /// The fields that are left of a record. A field that passes the record's end is `Short` at its first byte. Where
 /// a field is refused, the cursor stays before it.
-#[derive(Debug, Drop)]
+#[derive(Drop)]
 pub struct Fields<'a> {
     cur: Cur<'a>,
 }

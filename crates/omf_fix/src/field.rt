@@ -20,7 +20,7 @@ use omf_fields::{Fields, said};
 use std::alloc::Global;
 
 /// The fields of a fixup after its first byte.
-#[derive(Clone, Copy, Debug)]
+#[derive(Clone, Copy)]
 pub struct FixupFields {
     low: u8,
     data: FixFields,

@@ -18,7 +18,7 @@ use obj_types::{Frame, Goal, ObjParts, OmfRefusal, StartAt};
 use omf_fields::Fields;
 
 /// A fix byte, and what stands after it.
-#[derive(Clone, Copy, Debug)]
+#[derive(Clone, Copy)]
 pub(crate) struct FixFields {
     fix: u8,
     frame: Option<u32>,

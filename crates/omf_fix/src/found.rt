@@ -93,7 +93,7 @@ fn repeat_places(
 
 /// What a walk over blocks has found: the length of the data, the places in it that an offset of the record is copied
 /// to, and the places in the record of each innermost block's bytes.
-#[derive(Debug, Drop)]
+#[derive(Drop)]
 pub struct Copies {
     len: usize,
     pub places: Vec<u32>,

@@ -7,7 +7,7 @@ use lx_types::{NoMemory, count};
 use obj_types::ObjParts;
 
 /// The numbers of segments, groups and externals of an unfinished module.
-#[derive(Clone, Copy, Debug)]
+#[derive(Clone, Copy)]
 pub struct Have {
     segs: u32,
     groups: u32,

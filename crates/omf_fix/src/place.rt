@@ -21,7 +21,7 @@ use omf_data::Marks;
 use std::alloc::Global;
 
 /// The first two bytes of a fixup, its place and the place of its record.
-#[derive(Clone, Copy, Debug)]
+#[derive(Clone, Copy)]
 pub struct FixPlace {
     pub of_record: usize,
     pub at: usize,

@@ -3,7 +3,7 @@
 use crate::have::Have;
 
 /// What is the same for each field of a FIXUPP record.
-#[derive(Clone, Copy, Debug)]
+#[derive(Clone, Copy)]
 pub struct Fixupp {
     /// The place of the record.
     pub at: usize,
@@ -14,7 +14,7 @@ pub struct Fixupp {
 }
 
 /// The first byte of a field, which has been read.
-#[derive(Clone, Copy, Debug)]
+#[derive(Clone, Copy)]
 pub struct FieldStart {
     pub fixupp: Fixupp,
     /// The place of the byte.

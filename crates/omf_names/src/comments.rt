@@ -21,14 +21,14 @@ use std::alloc::Global;
 const HAS_ORDINAL: u8 = 0x80;
 
 /// The entry of an IMPDEF.
-#[derive(Clone, Copy, Debug)]
+#[derive(Clone, Copy)]
 pub enum EntryFields<'a> {
     ByOrdinal(u16),
     ByName(&'a [u8]),
 }
 
 /// An IMPDEF.
-#[derive(Clone, Copy, Debug)]
+#[derive(Clone, Copy)]
 pub struct ImpFields<'a> {
     flag: u8,
     internal: &'a [u8],
@@ -37,7 +37,7 @@ pub struct ImpFields<'a> {
 }
 
 /// An EXPDEF.
-#[derive(Clone, Copy, Debug)]
+#[derive(Clone, Copy)]
 pub struct ExpFields<'a> {
     flag: u8,
     exported: &'a [u8],
@@ -46,7 +46,7 @@ pub struct ExpFields<'a> {
 }
 
 /// What a comment says.
-#[derive(Clone, Copy, Debug)]
+#[derive(Clone, Copy)]
 pub enum Comment<'a> {
     /// The name of a default library.
     Library(&'a [u8]),

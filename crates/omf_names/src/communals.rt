@@ -22,14 +22,14 @@ const FAR: u8 = 0x61;
 const NEAR: u8 = 0x62;
 
 /// The storage that a communal name asks for, in bytes or in elements of some bytes each.
-#[derive(Clone, Copy, Debug)]
+#[derive(Clone, Copy)]
 pub enum Storage {
     Far { count: u32, size: u32 },
     Near { size: u32 },
 }
 
 /// A communal name. Its type index is 0.
-#[derive(Clone, Copy, Debug)]
+#[derive(Clone, Copy)]
 pub struct ComFields<'a> {
     name: &'a [u8],
     storage: Storage,

@@ -18,7 +18,7 @@ use omf_frame::record_type::{LPUBDEF, LPUBDEF_32, PUBDEF, PUBDEF_32};
 use std::alloc::Global;
 
 /// A public name and its offset. Its type index is 0.
-#[derive(Clone, Copy, Debug)]
+#[derive(Clone, Copy)]
 pub struct PubFields<'a> {
     name: &'a [u8],
     offset: u32,

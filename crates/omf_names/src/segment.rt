@@ -19,7 +19,7 @@ use omf_frame::record_type::{SEGDEF, SEGDEF_32};
 use std::alloc::Global;
 
 /// The fields of a SEGDEF record. The frame and the offset stand there for the alignment 0.
-#[derive(Clone, Copy, Debug)]
+#[derive(Clone, Copy)]
 pub struct SegFields {
     attributes: u8,
     frame: Option<u16>,
