@@ -31,8 +31,8 @@ fn run<R: Threads + Wait + Sync>(rt: &R, alloc: Global) -> Result<Option<Seen>, 
     if library.is_empty() {
         return Ok(None);
     }
-    let rights = Rights::make(alloc, SERIAL, library.module(0))?;
     let library = Arc::new(alloc, library)?;
+    let rights = Rights::make(alloc, SERIAL, &library, 0)?;
     let residence = Residence::make(alloc, SERIAL, library, 0, bases(alloc)?)?;
     let shared = Shared::of(residence, rights);
     Ok(Some(map_by_all(rt, alloc, &shared, PAGES, THREADS)?))

@@ -10,6 +10,7 @@ use crate::rows::rows_of;
 use link_model::LaidObject;
 use lx_types::{Bases, Bytes, Fail, ModBases, Module, NoMemory, ObjHead, Seq};
 use mod_graph::gather_faultless;
+use page_fix::OwnLibrary;
 use std::alloc::Global;
 use std::marker::Brand;
 use std::sync::ledger::Blank;
@@ -35,7 +36,7 @@ fn rows_alone(alloc: Global, module: Module) -> Result<Vec<(LaidObject, Bytes)>,
     let bases = linked_bases(alloc, module.objects())?;
     let mut modules = Vec::new(alloc);
     modules.push(module)?;
-    let lib = gather_faultless(alloc, modules)?;
+    let lib = OwnLibrary::of(gather_faultless(alloc, modules)?);
     rows_of::<Brand>(alloc, &lib, &bases, Blank::new(1))
 }
 

@@ -13,9 +13,8 @@ use link_model::LaidObject;
 use lx_types::{
     Bases, Bytes, NoMemory, ObjHead, PAGE_LEN, PAGE_SIZE, PageBytes, PageId, Seq, count,
 };
-use mod_graph::Library;
 use module_pages::ModulePages;
-use page_fix::Steps;
+use page_fix::{OwnLibrary, Steps};
 use std::alloc::Global;
 use std::sync::ledger::{Blank, Ledger};
 
@@ -31,15 +30,14 @@ fn push_page(row: &mut Vec<u8>, page: &PageBytes, left: u32) -> Result<(), NoMem
 // The bytes of an object, with its fixups. One buffer serves all its pages.
 fn row_of<L: Ledger>(
     alloc: Global,
-    pages: &mut ModulePages<'_>,
+    pages: &ModulePages<'_>,
     object: u32,
     size: u32,
     steps: &mut Steps<L>,
 ) -> Result<Bytes, NoMemory>
-    requires object { IsNumberOf object (length (module_of pages.old.library pages.old.«module»).objects) }
-    requires size { size ≡ (object_of (module_of pages.old.library pages.old.«module») object).size }
-    ensures row { IfOk result (λ row. row ≡ map (FixedByte pages.old.library pages.old.«module» pages.old.bases object) (range_with_len 0 size)) }
-    ensures stay { pages.new ≡ pages.old }
+    requires object { IsNumberOf object (length (module_of pages.now.library pages.now.«module»).objects) }
+    requires size { size ≡ (object_of (module_of pages.now.library pages.now.«module») object).size }
+    ensures { IfOk result (λ row. row ≡ map (FixedByte pages.now.library pages.now.«module» pages.now.bases object) (range_with_len 0 size)) }
 {
     let mut row = Vec::with_capacity(alloc, size as usize)?;
     let mut buffer = Box::new(alloc, [0; PAGE_LEN])?;
@@ -61,10 +59,11 @@ fn laid(object: &ObjHead) -> LaidObject
     }
 }
 
-/// The objects of a library's first module, each with its bytes at these bases. Nobody counts the record sources.
+/// The objects of the first module of a library that nobody shares, each with its bytes at these bases. Nobody counts the
+/// record sources.
 pub fn rows_of<L: Ledger>(
     alloc: Global,
-    lib: &Library,
+    lib: &OwnLibrary,
     bases: &Bases,
     blank: Blank,
 ) -> Result<Vec<(LaidObject, Bytes)>, NoMemory>
@@ -75,11 +74,11 @@ pub fn rows_of<L: Ledger>(
     ensures { IfOk result (λ rows. rows.items ≡ rows_of lib.now bases.now) }
 {
     let mut steps = Steps::<L>::of(blank);
-    let mut pages = ModulePages::of(alloc, lib, bases, 0)?;
+    let pages = ModulePages::of(lib, bases, 0);
     let mut rows = Vec::new(alloc);
-    for (index, object) in lib.module(0).objects().iter().enumerate() {
+    for (index, object) in lib.library().module(0).objects().iter().enumerate() {
         let place = count(index + 1)?;
-        let row = row_of(alloc, &mut pages, place, object.size, &mut steps)?;
+        let row = row_of(alloc, &pages, place, object.size, &mut steps)?;
         rows.push((laid(object), row))?;
     }
     Ok(rows)

@@ -3,9 +3,11 @@
 ghost use Rattle.std.specs.Prelude.{◌≡◌, box_value};
 
 use lx_types::{PageBytes, PageId};
+use mod_graph::Library;
 use std::marker::Model;
+use std::sync::Arc;
 
-/// A page of a residence with its fixups. It cannot be let go: whoever has it publishes it, or takes its bytes.
+/// A page of a residence with its fixups. It cannot be let go: whoever has it publishes it.
 pub struct FixedPage {
     pub(crate) serial: u64,
     pub(crate) page: PageId,
@@ -43,10 +45,12 @@ impl FixedPage {
         &self.bytes
     }
 
-    /// The buffer with its bytes. It takes no memory.
-    pub fn into_bytes(self) -> Box<PageBytes>
+    /// The buffer with its bytes, for the frames that are made of a library. It takes no memory. Who has the library as its
+    /// processes have it (`LentLibrary`) has no `Arc` of it, and cannot take a page so.
+    pub fn into_bytes(self, lib: &Arc<Library>) -> Box<PageBytes>
         ensures { box_value result ≡ self.bytes }
     {
+        let _ = lib;
         let FixedPage {
             serial: _,
             page: _,

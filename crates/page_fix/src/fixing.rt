@@ -1,10 +1,12 @@
 //! A page with its fixups.
 
 ghost use Rattle.std.specs.Prelude.{◌≡◌, ◌+◌, ◌<◌, ◌^◌, ℕ, box_value, length, slice_index, unwrap_or, take};
+ghost use Rattle.lx_types.specs.declared.object.TheConstants.{PAGE_SIZE};
 ghost use Rattle.lx_types.specs.Addresses.{address};
-ghost use Rattle.lx_types.specs.Object.{pages_of};
+ghost use Rattle.lx_types.specs.Object.{class_of, pages_of};
 ghost use Rattle.lx_types.specs.Parts.{object_of, fix_span_at, fixes_at};
 ghost use Rattle.lx_types.specs.Sound.{IsNumberOf};
+ghost use Rattle.lx_types.specs.declared.object.Class.TheVariants.{Private};
 ghost use Rattle.lx_fixrec.specs.Left.{left_in};
 ghost use Rattle.lx_model.specs.Entries.{target_spot};
 ghost use Rattle.lx_model.specs.Fixed.{patch_of, patched, sources_of, end_address, spot_address, bytes_for};
@@ -15,6 +17,7 @@ ghost use Rattle.page_fix.specs.Laid.{laid, patches_left};
 use crate::bases::BaseIndex;
 use crate::field::{Field, field_for};
 use crate::fixed::FixedPage;
+use crate::owned::OwnLibrary;
 use crate::putting::put;
 use crate::raw::write_raw;
 use crate::rights::FixRight;
@@ -67,8 +70,8 @@ impl<'a> Site<'a> {
 
     // Puts a source into the page. One whose target has no spot, which no fit module has, puts nothing.
     fn put_source(&self, page: &mut [u8], fix: &Fix)
-        requires { length page.old ≡ 4096 }
-        ensures { (i : ℕ) → i < 4096 → slice_index page.new i
+        requires { length page.old ≡ PAGE_SIZE }
+        ensures { (i : ℕ) → i < PAGE_SIZE → slice_index page.new i
             ≡ unwrap_or (patched (patch_of self.now.lib.now self.now.«module» self.now.bases.bases.now self.now.page fix.now) i) (slice_index page.old i) }
     {
         let Ok(spot) = self.lib.target(self.module, &fix.target) else {
@@ -91,9 +94,9 @@ impl<'a> Site<'a> {
 
     // Puts the sources of records into the page, one after the other, and counts them.
     fn put_sources<L: Ledger>(&self, page: &mut [u8], bytes: &[u8], at: u32, steps: &mut Steps<L>)
-        requires page { length page.old ≡ 4096 }
+        requires page { length page.old ≡ PAGE_SIZE }
         requires short { at + length bytes.now < 2 ^ 32 }
-        ensures bytes { (i : ℕ) → i < 4096 → slice_index page.new i
+        ensures bytes { (i : ℕ) → i < PAGE_SIZE → slice_index page.new i
             ≡ laid (patches_left self.now.lib.now self.now.«module» self.now.bases.bases.now self.now.page (left_in at bytes.now)) i (slice_index page.old i) }
         ensures steps { steps.new ≡ steps.old + length (left_in at bytes.now).items }
     {
@@ -120,10 +123,8 @@ impl<'a> Site<'a> {
     }
 }
 
-/// Writes a page of module `m` of a library into the buffer, with its fixups at these bases, and gives the buffer back. The
-/// count rises by the record sources of the page. It takes no memory, and time that grows with the page's records and with
-/// the modules that the bases are of.
-pub fn fix_private<L: Ledger>(
+// Writes a page of module `m` of a library into the buffer, with its fixups at these bases, and gives the buffer back.
+fn fix_any<L: Ledger>(
     lib: &Library,
     m: u32,
     bases: &Bases,
@@ -145,6 +146,46 @@ pub fn fix_private<L: Ledger>(
     };
     site.fix_into(&mut buffer, steps);
     buffer
+}
+
+/// Writes a page of a Private object of module `m` of a library into the buffer, with its fixups at these bases, and gives the
+/// buffer back: each process fixes such a page for itself. The count rises by the record sources of the page. It takes no
+/// memory, and time that grows with the page's records and with the modules that the bases are of.
+pub fn fix_private<L: Ledger>(
+    lib: &Library,
+    m: u32,
+    bases: &Bases,
+    p: PageId,
+    buffer: Box<PageBytes>,
+    steps: &mut Steps<L>,
+) -> Box<PageBytes>
+    requires module { m < length lib.now }
+    requires object { IsNumberOf p.object (length (module_of lib.now m).objects) }
+    requires page { p.page < pages_of (object_of (module_of lib.now m) p.object) }
+    requires own { class_of (object_of (module_of lib.now m) p.object) ≡ Private }
+    ensures bytes { box_value result ≡ fixed_page lib.now m bases.now p }
+    ensures steps { steps.new ≡ steps.old + length (sources_of (module_of lib.now m) p) }
+{
+    fix_any(lib, m, bases, p, buffer, steps)
+}
+
+/// Writes a page of module `m` of a library that nobody shares into the buffer, whatever its object is, and gives the buffer
+/// back. Its owner may do so as often as it likes. Count, memory and time are those of `fix_private`.
+pub fn fix_owned<L: Ledger>(
+    lib: &OwnLibrary,
+    m: u32,
+    bases: &Bases,
+    p: PageId,
+    buffer: Box<PageBytes>,
+    steps: &mut Steps<L>,
+) -> Box<PageBytes>
+    requires module { m < length lib.now }
+    requires object { IsNumberOf p.object (length (module_of lib.now m).objects) }
+    requires page { p.page < pages_of (object_of (module_of lib.now m) p.object) }
+    ensures bytes { box_value result ≡ fixed_page lib.now m bases.now p }
+    ensures steps { steps.new ≡ steps.old + length (sources_of (module_of lib.now m) p) }
+{
+    fix_any(lib.library(), m, bases, p, buffer, steps)
 }
 
 /// Spends a right: writes its page, a page of module `m` of a library, into the buffer, with its fixups at these bases. The

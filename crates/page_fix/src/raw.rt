@@ -1,6 +1,7 @@
 //! A page as its module's file has it.
 
 ghost use Rattle.std.specs.Prelude.{◌≡◌, ◌<◌, ◌≤◌, ◌^◌, [], ℕ, length, slice_index};
+ghost use Rattle.lx_types.specs.declared.object.TheConstants.{PAGE_SIZE};
 ghost use Rattle.lx_types.specs.Object.{pages_of};
 ghost use Rattle.lx_types.specs.Parts.{object_of};
 ghost use Rattle.lx_types.specs.Sound.{IsNumberOf};
@@ -14,7 +15,7 @@ use lx_types::{Module, PAGE_LEN, PageBytes, PageId, PageKind};
 
 // The bytes, and zeros up to the page's end.
 fn fill_from(bytes: &[u8], into: &mut PageBytes)
-    requires { length bytes.now ≤ 4096 }
+    requires { length bytes.now ≤ PAGE_SIZE }
     ensures { into.new ≡ filled bytes.now }
 {
     let (front, behind) = into.split_at_mut(bytes.len());
@@ -38,7 +39,7 @@ fn fill_expanded(bytes: &[u8], into: &mut PageBytes)
 pub fn write_raw(module: &Module, p: PageId, into: &mut PageBytes)
     requires object { IsNumberOf p.object (length module.now.objects) }
     requires page { p.page < pages_of (object_of module.now p.object) }
-    ensures { (i : ℕ) → i < 4096 → slice_index into.new i ≡ Raw module.now p i }
+    ensures { (i : ℕ) → i < PAGE_SIZE → slice_index into.new i ≡ Raw module.now p i }
 {
     let data = module.page_bytes(p);
     match module.page(p).kind {

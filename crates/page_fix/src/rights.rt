@@ -1,14 +1,18 @@
 //! Rights to fix the pages of a residence: one for each page that is fixed once for all processes.
 
-ghost use Rattle.std.specs.Prelude.{◌≡◌, length, map, not, is_some, IfOk, IfSome};
+ghost use Rattle.std.specs.Prelude.{◌≡◌, ◌<◌, length, map, not, is_some, IfOk, IfSome};
 ghost use Rattle.std.specs.List.{filter, list_any, range_with_len};
+ghost use Rattle.std.specs.Arc.{arc_value};
+ghost use Rattle.lx_model.specs.Library.{module_of};
 ghost use Rattle.page_fix.specs.Fixable.{is_page, fixable_pages};
 ghost use Rattle.page_fix.specs.Rights.{fixable_row};
 
 use crate::marks::{Marks, take_mark};
 use lx_types::{Module, NoMemory, PageId, count};
+use mod_graph::Library;
 use std::alloc::Global;
 use std::marker::Model;
+use std::sync::Arc;
 
 /// The right to fix a page of a residence. It can be neither copied nor let go: `fix_page` alone takes it.
 pub struct FixRight {
@@ -61,11 +65,13 @@ fn rows_of(alloc: Global, m: &Module) -> Result<Vec<Marks>, NoMemory>
 }
 
 impl Rights {
-    /// A right for each page of a Code or Shared object that is not invalid. It looks at each page of the module once.
-    pub fn make(alloc: Global, serial: u64, m: &Module) -> Result<Rights, NoMemory>
-        ensures { IfOk result (λ r. (r.serial ≡ serial) × (r.left ≡ fixable_pages m.now)) }
+    /// A right for each page of module `m` that is of a Code or Shared object and not invalid. It looks at each page of the
+    /// module once. Who has the library as its processes have it (`LentLibrary`) has no `Arc` of it, and makes no rights.
+    pub fn make(alloc: Global, serial: u64, lib: &Arc<Library>, m: u32) -> Result<Rights, NoMemory>
+        requires { m < length (arc_value lib.now) }
+        ensures { IfOk result (λ r. (r.serial ≡ serial) × (r.left ≡ fixable_pages (module_of (arc_value lib.now) m))) }
     {
-        let rows = rows_of(alloc, m)?;
+        let rows = rows_of(alloc, lib.module(m))?;
         Ok(Rights { serial, rows })
     }
 

@@ -116,7 +116,7 @@ impl Residence {
         requires bytes { page.bytes ≡ fixed_page self.now.library self.now.«module» self.now.bases p }
     {
         let _ = rt;
-        self.frame(p).put(page.into_bytes());
+        self.frame(p).put(page.into_bytes(&self.library));
         self.bell.ring();
     }
 

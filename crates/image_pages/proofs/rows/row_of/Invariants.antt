@@ -3,7 +3,4 @@ use Rattle.image_pages.proofs.PageRows.{row_till}
 use Rattle.image_pages.proofs.rows.row_of.Given as goal
 
 abbrev pub invariant-loop-page : goal.invariant-loop-page
-invariant-loop-page g l = record {
-  stay : l.pages ≡ l.fn.pages;
-  row : l.row.items ≡ row_till l.fn.pages.library l.fn.pages.«module» l.fn.pages.bases l.object l.size l.page;
-}
+invariant-loop-page g l = l.row.items ≡ row_till l.pages.library l.pages.«module» l.pages.bases l.object l.size l.page
