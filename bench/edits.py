@@ -12,6 +12,10 @@ folder, with the libraries that were proved here, renames each .md beside them t
 line for each edit, as soon as its crate is done, and last how many there were, and how many were refused. The exit status is 0
 where all were. A whole run takes some two hours on one processor.
 
+An edit that is refused only because a hand-written proof names what it takes away says nothing of a contract. So the crate is
+checked twice more without the answers of that function, as it is and with the edit: where more is open with the edit, a contract
+refuses it as well; where nothing is, the line says so, and the edit counts as not refused.
+
 With --gate all are tried side by side by one `rt ci` of the crates that have any (`bench/gate.py`, with its table). What the
 gate has proved and refused on this machine is not done again. The log is FOLDER.log.
 """
@@ -25,6 +29,7 @@ import time
 from concurrent.futures import ThreadPoolExecutor
 
 ROOT = os.path.realpath(os.path.join(os.path.dirname(__file__), ".."))
+NAMED = re.compile(r"only because a proof file names .*?\): (?:note: )?(?:\./)?(proofs/\S+)/\w+\.antt:")
 TOLD = re.compile(r"rt: must-fail (\w+)/(\S+)\.edit: (refused, as it must be|NOT REFUSED|BAD EDIT)(.*)")
 
 
@@ -101,11 +106,43 @@ def prove_below(top, names, crates):
             sys.exit(f"edits.py: {dep} is not proved")
 
 
+def left_open(folder):
+    """Returns what a check of a crate finds wrong, without the places."""
+    return {it.partition(": error")[2] for it in run(["check"], folder).stdout.split("\n") if ": error" in it}
+
+
+def by_a_contract(folder, edit, place):
+    """Returns whether more is open with an edit than without it, where the answers that stand in a place of proofs are gone."""
+    texts, why = applied(folder, edit)
+    files = [f"{folder}/{place}/{it}" for it in os.listdir(f"{folder}/{place}")]
+    if why or not files:
+        return False
+    kept = {it: read(it) for it in [*files, *(f"{folder}/{it}" for it in texts)]}
+    try:
+        for it in files:
+            os.remove(it)
+        before = left_open(folder)
+        for path, text in texts.items():
+            write(f"{folder}/{path}", text)
+        return bool(left_open(folder) - before)
+    finally:
+        for path, text in kept.items():
+            write(path, text)
+
+
 def try_crate(top, name, count):
     """Tries a crate's edits, prints a line for each, and returns how many were refused."""
     begun = time.time()
+    folder = f"{top}/crates/{name}"
     ran = run(["must-fail", name], top)
-    told = TOLD.findall(ran.stdout)
+    told = []
+    for crate, edit, how, why in TOLD.findall(ran.stdout):
+        named = NAMED.search(why)
+        if named and by_a_contract(folder, f"{folder}/must-fail/{edit}.edit", named[1]):
+            why = ": by a contract too, where no proof names what it takes away"
+        elif named:
+            how, why = "NOT REFUSED", f": nothing but a name in {named[1]} refuses it"
+        told.append((crate, edit, how, why))
     lines = [f"{crate}/{edit}: {how.replace(', as it must be', '')}{why}" for crate, edit, how, why in told]
     if len(told) != count:
         lines += [f"{name}: {count} edits, and {len(told)} were tried:", ran.stdout[-2000:].rstrip("\n")]
@@ -115,12 +152,20 @@ def try_crate(top, name, count):
     return refused
 
 
-def why_not(folder, edit):
-    """Returns why an edit cannot be applied, if it cannot."""
-    with open(edit, encoding="utf-8") as it:
-        lines = it.read().split("\n")
+def read(path):
+    with open(path, encoding="utf-8") as it:
+        return it.read()
+
+
+def write(path, text):
+    with open(path, "w", encoding="utf-8") as it:
+        it.write(text)
+
+
+def applied(folder, edit):
+    """Returns the texts of the files that an edit changes, and why it cannot be applied, if it cannot."""
     path, old, texts = "", "", {}
-    for line in lines:
+    for line in read(edit).split("\n"):
         if line.startswith("file: "):
             path = line[len("file: ") :].strip()
         elif line.startswith("old: "):
@@ -128,14 +173,13 @@ def why_not(folder, edit):
         elif line.startswith("new:"):
             if path not in texts:
                 if not os.path.isfile(f"{folder}/{path}"):
-                    return f"there is no file {path}"
-                with open(f"{folder}/{path}", encoding="utf-8") as it:
-                    texts[path] = it.read()
+                    return texts, f"there is no file {path}"
+                texts[path] = read(f"{folder}/{path}")
             found = texts[path].count(old)
             if found != 1:
-                return f"its text stands {found} times in {path}"
+                return texts, f"its text stands {found} times in {path}"
             texts[path] = texts[path].replace(old, line[len("new:") :].removeprefix(" "))
-    return None if texts else "it replaces nothing"
+    return texts, None if texts else "it replaces nothing"
 
 
 def look(names):
@@ -144,7 +188,7 @@ def look(names):
     for name in names:
         folder = f"{ROOT}/crates/{name}"
         for edit in edits_of(folder):
-            why = why_not(folder, edit)
+            _, why = applied(folder, edit)
             count, bad = count + 1, bad + bool(why)
             if why:
                 print(f"{name}/{os.path.basename(edit)}: {why}")

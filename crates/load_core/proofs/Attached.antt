@@ -1,5 +1,5 @@
 -- The residence of a serial number that a process reaches, in the table.
-use Rattle.std.proofs.Common.{◌≡◌, ◌<◌, ◌==◌, ℕ, length, true, List, Option, Some, None, is_some, position, slice_get, refl, sym, ◌∙◌, ap, subst}
+use Rattle.std.proofs.Common.{◌≡◌, ◌<◌, ◌==◌, ℕ, length, map, true, List, [], ◌∷◌, Option, Some, None, is_some, position, slice_get, refl, sym, ◌∙◌, ap, subst}
 use Rattle.load_model.specs.Modules.{fixed_bytes}
 use Rattle.load_model.specs.State.{Residence}
 use Rattle.load_model.specs.Asks.{is_attached}
@@ -8,8 +8,8 @@ use Rattle.load_model.specs.Fitness.{ReachedIsFit}
 use Rattle.load_model.proofs.Bytes.{attached_is}
 use Rattle.load_model.proofs.Serials.{serials_rise}
 use Rattle.write_overlay.specs.Layered.{Lays}
-use Rattle.residence_table.specs.Residences.{unwritten, has_serial}
-use Rattle.load_core.specs.BoardState.{BoardState, state_of}
+use Rattle.residence_table.specs.Residences.{residences, unwritten, unwritten_residences, has_serial}
+use Rattle.load_core.specs.BoardState.{BoardState, state_of, IsLegal}
 use Rattle.load_core.specs.Kept.{Keeps, IsLaid}
 use Rattle.load_core.specs.declared.residence_parts.ResidenceParts.{ResidenceParts}
 use Rattle.load_core.proofs.FoundBySerial.{IsAsked, found_so, there_so, asked, asked_there, asked_nowhere}
@@ -45,3 +45,19 @@ module _ (b : BoardState) (all_counts : List ProcessCounts) (table : List (Resid
     module_within fit =
         let reached = (attached_is b.library (state_of b) pid m asked_at.residence asked_at.there).0 in
         subst (λ k. k < length b.library) (sym module_there) (fit b.library b.failing (fixed_bytes b.library) b.history kept.legal pid m reached).0
+
+-- ---- a serial number is of one module
+
+alone_are : (rs : List Residence) → residences (map (λ r. (r, tt {0})) rs) ≡ rs
+alone_are [] = refl
+alone_are (r ∷ rs) = ap (λ ys. r ∷ ys) (alone_are rs)
+
+pub one_module : (b : BoardState) (pid serial m k : ℕ) → IsLegal b → is_attached b.library (state_of b) pid serial m ≡ true → is_attached b.library (state_of b) pid serial k ≡ true → m ≡ k
+one_module b pid serial m k legal first second =
+    let table : List (Residence × Unit {0}) = map (λ r. (r, tt {0})) (unwritten_residences (state_of b)) in
+    let found : (n : ℕ) → is_attached b.library (state_of b) pid serial n ≡ true → IsAsked b.library (state_of b) table pid serial n =
+    λ n at. asked serials_rise b.library b.failing (fixed_bytes b.library) b.history table pid serial n legal (alone_are (unwritten_residences (state_of b))) at
+    in
+    let same : Some (unwritten (found m first).residence) ≡ Some (unwritten (found k second).residence) = sym (found m first).found ∙ (found k second).found in
+    let own : unwritten (found m first).residence ≡ unwritten (found k second).residence = cc in
+    sym (found m first).of_module ∙ ap (λ (r : Residence). r.«module») own ∙ (found k second).of_module

@@ -24,3 +24,5 @@ pub mod Arriving
 pub mod Beginning
 -- What may be asked of a load, for the counts, and what is handed out by it.
 pub mod Loading
+-- A read of shared bytes that is asked with its module.
+pub mod Answering

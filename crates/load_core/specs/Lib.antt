@@ -1,5 +1,6 @@
 pub mod BoardState
 pub mod Told
+pub mod Answered
 pub mod Kept
 pub mod Inside
 pub mod Taken

@@ -23,3 +23,13 @@ pub enum Claim {
     /// The page had its fault: another holds or held the right, and the page is or will be published.
     Taken,
 }
+
+/// What is told to a process that asked something.
+pub enum Answer {
+    /// It was done. What was read stands in the buffer.
+    Done,
+    /// A start or a load was asked.
+    Loaded(Loaded),
+    /// A page was asked for.
+    Claimed(Claim),
+}

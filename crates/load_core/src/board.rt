@@ -1,12 +1,10 @@
 //! The board: what stands behind the turns of a session's processes, and how one is made.
 
-ghost use Rattle.std.specs.Prelude.{◌≡◌, ◌<◌, ℕ, [], true, length, map, IfOk, OnOk, OnErr};
+ghost use Rattle.std.specs.Prelude.{◌≡◌, ◌<◌, [], true, length, IfOk};
 ghost use Rattle.std.specs.Arc.{arc_value};
 ghost use Rattle.load_model.specs.State.{pids, is_among};
 ghost use Rattle.load_model.specs.State as state;
-ghost use Rattle.load_model.specs.declared.commands.Ask.TheVariants as asks;
-ghost use Rattle.load_core.specs.BoardState.{BoardState, state_of, IsLegal, MayAsk, Adds};
-ghost use Rattle.load_core.specs.Told.{IsLoaded};
+ghost use Rattle.load_core.specs.BoardState.{state_of, IsLegal};
 
 use crate::residence_parts::ResidenceParts;
 use load_model::{Entry, History};
@@ -71,8 +69,8 @@ impl Board {
     }
 
     /// The library.
-    pub fn library(&self) -> &Arc<Library>
-        ensures { arc_value result.now ≡ self.now.library }
+    pub fn library(&self) -> &Library
+        ensures { result.now ≡ self.now.library }
     {
         &self.lib
     }

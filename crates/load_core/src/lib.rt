@@ -2,6 +2,7 @@
 //! residences that stand.
 #![tactic(auto)]
 
+mod acts;
 mod answers;
 mod arrivals;
 mod board;
@@ -12,5 +13,5 @@ mod new_residences;
 mod residence_parts;
 mod sharing;
 
-pub use answers::{Claim, Loaded};
+pub use answers::{Answer, Claim, Loaded};
 pub use board::Board;

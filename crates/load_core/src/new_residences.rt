@@ -152,7 +152,7 @@ impl Board {
         let bases = self.bases_behind(fresh, one.module)?;
         let lib = Arc::try_clone(&self.lib)?;
         let shared = Residence::make(self.alloc, one.serial, lib, one.module, bases)?;
-        let rights = Rights::make(self.alloc, one.serial, self.lib.module(one.module))?;
+        let rights = Rights::make(self.alloc, one.serial, &self.lib, one.module)?;
         let beside = ResidenceParts {
             rights,
             shared: Arc::new(self.alloc, shared)?,
