@@ -1,11 +1,9 @@
--- One page more that is mapped, and where it stands.
-use Rattle.std.proofs.Common.{◌≡◌, ◌≢◌, ℕ, zero, suc, ◌-◌, ◌<◌, ◌≤◌, ◌==◌, ◌&&◌, ◌⊎◌, Bool, true, false, List, [], ◌∷◌, ◌++◌, map, length, Option, Some, None, get_or, set, inl, inr, refl, sym, ap, subst, ◌∙◌, arith, length-set, get_or-set_same, get_or-set_other}
-use Rattle.std.specs.Prelude.{position, is_some, All}
+-- Where a page that is mapped stands.
+use Rattle.std.proofs.Common.{◌≡◌, ◌≢◌, ℕ, zero, suc, ◌-◌, ◌<◌, ◌≤◌, ◌==◌, ◌&&◌, Bool, true, false, List, [], ◌∷◌, map, length, Option, Some, None, get_or, set, inl, inr, refl, sym, ap, ◌∙◌, arith, length-set, get_or-set_same, get_or-set_other}
+use Rattle.std.specs.Prelude.{position, is_some}
 use Rattle.std.specs.List.{list_any}
 use Rattle.std.proofs.lemmas.Bool.{cases_eq, cases_order}
 use Rattle.std.proofs.lemmas.Bool.Decides.{nat_tests}
-use Rattle.std.proofs.lemmas.List.{length-map, get_or-map}
-use Rattle.std.proofs.lemmas.List.Elements.{All-get_or, All-from_get_or}
 use Rattle.lx_types.specs.declared.object.PageId.{PageId}
 use Rattle.lx_types.specs.declared.parts.Parts.{Parts}
 use Rattle.lx_types.specs.Object.{pages_of}
@@ -18,10 +16,10 @@ use Rattle.load_model.specs.Memory.{page, is_page}
 use Rattle.load_model.specs.Views.{Mapped}
 use Rattle.load_model.specs.ViewAnswers.{is_mapped_at}
 use Rattle.process_pages.specs.PageRows.{PagePlaces, place_in, with_place, Cover, ArePlaces}
-use Rattle.process_pages.specs.ReachedResidences.{IsPlaced, AreApart, residence_in, residences_in, page_with}
+use Rattle.process_pages.specs.ReachedResidences.{IsPlaced, AreApart, residence_in, residences_in}
 use Rattle.process_pages.specs.declared.reached_residences.ReachedResidence.{ReachedResidence}
 use Rattle.load_model.specs.TouchedPages.{has_page}
-use Rattle.process_pages.proofs.Positions.{position_new, position_other, any_is_position, any_map}
+use Rattle.process_pages.proofs.Positions.{any_is_position, any_map}
 
 -- ---- rows
 
@@ -69,32 +67,6 @@ is_not false c e = refl
 pub not_at : (serial : ℕ) (q : PageId) (x : Mapped) → (x.of.serial ≡ serial → ⊥) → is_mapped_at serial q x ≡ false
 not_at serial q x h = let other : (x.of.serial == serial) ≡ false = grind (arith, nat_tests) in ap (λ b. b && is_page x.of.page q) other
 
-is_at : (r : ResidenceFor) (p : PageId) (bytes : List ℕ) → is_mapped_at r.serial p (page_with r p bytes) ≡ true
-is_at r p bytes = grind (arith, nat_tests)
-
--- the rows of the residence whose page it is
-own_places : (m : Parts) (r : ResidenceFor) (rows : PagePlaces) (mapped : List Mapped) (p : PageId) (bytes : List ℕ) → Cover m rows → ArePlaces m r.serial rows mapped → IsNumberOf p.object (length m.objects) → p.page < pages_of (object_of m p.object) →
-    position (is_mapped_at r.serial p) mapped ≡ None → ArePlaces m r.serial (with_place rows p (length mapped)) (mapped ++ page_with r p bytes ∷ [])
-own_places m r rows mapped p bytes cover are object within none o n there inside = by_page (is_page p (page o n)) refl
-  where
-    by_page : (b : Bool) → is_page p (page o n) ≡ b → place_in (with_place rows p (length mapped)) (page o n) ≡ position (is_mapped_at r.serial (page o n)) (mapped ++ page_with r p bytes ∷ [])
-    by_page true e =
-        let is = same_page p (page o n) e in
-        let row : p.page < length (get_or rows (p.object - 1) []) = omega (arith, cover.pages p.object object) in
-        let same : page o n ≡ p = ap (λ (i : ℕ). page i n) (sym is.0) ∙ ap (λ (i : ℕ). page p.object i) (sym is.1) in
-        ap (place_in (with_place rows p (length mapped))) same ∙ place_put rows p (length mapped) (omega (arith, cover.objects, object.0, object.1)) row
-        ∙ sym (position_new (is_mapped_at r.serial p) mapped (page_with r p bytes) none (is_at r p bytes))
-        ∙ ap (λ (q : PageId). position (is_mapped_at r.serial q) (mapped ++ page_with r p bytes ∷ [])) (sym same)
-    by_page false e =
-        place_other rows p (page o n) (length mapped) (omega (arith, cover.objects, object.0, object.1)) object.0 there.0 (λ u v. other_page p (page o n) e (sym u) (sym v)) ∙ are o n there inside
-        ∙ sym (position_other (is_mapped_at r.serial (page o n)) mapped (page_with r p bytes) (is_not (r.serial == r.serial) (is_page p (page o n)) e))
-
--- the rows of another residence
-other_places : (m : Parts) (serial : ℕ) (r : ResidenceFor) (rows : PagePlaces) (mapped : List Mapped) (p : PageId) (bytes : List ℕ) → ArePlaces m serial rows mapped → (r.serial ≡ serial → ⊥) →
-    ArePlaces m serial rows (mapped ++ page_with r p bytes ∷ [])
-other_places m serial r rows mapped p bytes are differ o n there inside =
-    are o n there inside ∙ sym (position_other (is_mapped_at serial (page o n)) mapped (page_with r p bytes) (not_at serial (page o n) (page_with r p bytes) differ))
-
 -- ---- all residences
 
 pub serials_differ : (rs : List ResidenceFor) (i k : ℕ) (d : ResidenceFor) → AreApart rs → i < length rs → k < length rs → i ≢ k → (get_or rs k d).serial ≡ (get_or rs i d).serial → ⊥
@@ -107,44 +79,6 @@ pub residences_set : (residences : List ReachedResidence) (k : ℕ) (s : Reached
 residences_set [] k s e = refl
 residences_set (x ∷ xs) zero s e = ap (λ (r : ResidenceFor). r ∷ residences_in xs) e
 residences_set (x ∷ xs) (suc k) s e = ap (λ (rs : List ResidenceFor). residence_in x ∷ rs) (residences_set xs k s e)
-
-pub placed_with : (lib : List Parts) (mapped : List Mapped) (residences : List ReachedResidence) (k : ℕ) (s t : ReachedResidence) (p : PageId) (bytes : List ℕ) → All (IsPlaced lib mapped) residences → AreApart (residences_in residences) → k < length residences →
-    s ≡ get_or residences k s → residence_in t ≡ residence_in s → t.places ≡ with_place s.places p (length mapped) → IsNumberOf p.object (length (module_of lib (residence_in s).«module»).objects) →
-    p.page < pages_of (object_of (module_of lib (residence_in s).«module») p.object) → position (is_mapped_at (residence_in s).serial p) mapped ≡ None →
-    All (IsPlaced lib (mapped ++ page_with (residence_in s) p bytes ∷ [])) (set residences k t)
-placed_with lib mapped residences k s t p bytes all apart u at same put object within none =
-    All-from_get_or (IsPlaced lib (mapped ++ page_with (residence_in s) p bytes ∷ [])) (set residences k t) s
-    (λ i v. by_index i (omega (arith, length-set residences k t)) (cases_eq i k))
-  where
-    P : ReachedResidence → Type 0
-    P = IsPlaced lib (mapped ++ page_with (residence_in s) p bytes ∷ [])
-
-    here : IsPlaced lib mapped s
-    here = let Q : ReachedResidence → Type 0 = IsPlaced lib mapped in subst Q (sym at) (All-get_or (IsPlaced lib mapped) residences k s u all)
-
-    by_index : (i : ℕ) → i < length residences → (i ≡ k) ⊎ (i ≢ k) → P (get_or (set residences k t) i s)
-    by_index i v (inl e) =
-        let own = own_places (module_of lib (residence_in s).«module») (residence_in s) s.places mapped p bytes here.cover here.places object within none in
-        let T : ResidenceFor → Type 0 = λ r. (r.«module» < length lib) × Cover (module_of lib r.«module») t.places × ArePlaces (module_of lib r.«module») r.serial t.places (mapped ++ page_with (residence_in s) p bytes ∷ []) in
-        let R : PagePlaces → Type 0 = λ rows. Cover (module_of lib (residence_in s).«module») rows × ArePlaces (module_of lib (residence_in s).«module») (residence_in s).serial rows (mapped ++ page_with (residence_in s) p bytes ∷ []) in
-        let rows : R t.places = subst R (sym put) (cover_put (module_of lib (residence_in s).«module») s.places p (length mapped) here.cover, own) in
-        let it : T (residence_in t) = subst T (sym same) (here.within, rows.0, rows.1) in
-        let is : get_or (set residences k t) i s ≡ t = ap (λ (j : ℕ). get_or (set residences k t) j s) e ∙ get_or-set_same residences k t s u in
-        subst P (sym is) (record { within = it.0; cover = it.1; places = it.2 })
-    by_index i v (inr e) =
-        let is : get_or (set residences k t) i s ≡ get_or residences i s = get_or-set_other residences k i t s e in
-        let old = All-get_or (IsPlaced lib mapped) residences i s v all in
-        let long = length-map residences residence_in in
-        let differ : (residence_in s).serial ≡ (residence_in (get_or residences i s)).serial → ⊥ = λ d.
-        serials_differ (residences_in residences) i k (residence_in s) apart (omega (arith, long)) (omega (arith, long)) e
-        (ap (λ (r : ResidenceFor). r.serial) (get_or-map residence_in residences k s (residence_in s) u) ∙ ap (λ (x : ReachedResidence). (residence_in x).serial) (sym at) ∙ d
-        ∙ sym (ap (λ (r : ResidenceFor). r.serial) (get_or-map residence_in residences i s (residence_in s) v)))
-        in
-        subst P (sym is) (record {
-          within = old.within;
-          cover = old.cover;
-          places = other_places (module_of lib (residence_in (get_or residences i s)).«module») (residence_in (get_or residences i s)).serial (residence_in s) (get_or residences i s).places mapped p bytes old.places differ;
-        })
 
 -- ---- what is mapped has a place
 

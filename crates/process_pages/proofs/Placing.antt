@@ -19,7 +19,7 @@ use Rattle.load_model.specs.Memory.{page, is_page}
 use Rattle.load_model.specs.Views.{Mapped}
 use Rattle.load_model.specs.ViewAnswers.{is_mapped_at}
 use Rattle.process_pages.specs.PageRows.{PagePlaces, place_in, with_place, Cover, ArePlaces, has_number, with_first_place}
-use Rattle.process_pages.specs.ReachedResidences.{IsPlaced, AreApart, residence_in, residences_in, without_places}
+use Rattle.process_pages.specs.ReachedResidences.{IsPlaced, AreApart, residence_in, residences_in, page_with, without_places}
 use Rattle.std.specs.List.{AllByRecursion, list_any}
 use Rattle.process_pages.specs.ReachedResidences.{pages_with}
 use Rattle.process_pages.proofs.RowLists.{none_of, length_none}
@@ -146,6 +146,18 @@ placed_first lib mapped residences k s t x all apart u at own same put = All-fro
         ∙ sym (ap (λ (r : ResidenceFor). r.serial) (get_or-map residence_in residences i s (residence_in s) v)))
         in
         subst P (sym is) (other_placed lib mapped (get_or residences i s) x (All-get_or (IsPlaced lib mapped) residences i s v all) differ)
+
+-- a page that was not mapped
+pub placed_with : (lib : List Parts) (mapped : List Mapped) (residences : List ReachedResidence) (k : ℕ) (s t : ReachedResidence) (p : PageId) (bytes : List ℕ) → All (IsPlaced lib mapped) residences → AreApart (residences_in residences) → k < length residences →
+    s ≡ get_or residences k s → residence_in t ≡ residence_in s → t.places ≡ with_place s.places p (length mapped) → IsNumberOf p.object (length (module_of lib (residence_in s).«module»).objects) →
+    p.page < pages_of (object_of (module_of lib (residence_in s).«module») p.object) → position (is_mapped_at (residence_in s).serial p) mapped ≡ None →
+    All (IsPlaced lib (mapped ++ page_with (residence_in s) p bytes ∷ [])) (set residences k t)
+placed_with lib mapped residences k s t p bytes all apart u at same put object within none =
+    let Q : ReachedResidence → Type 0 = IsPlaced lib mapped in
+    let here : Q s = subst Q (sym at) (All-get_or Q residences k s u all) in
+    let has = is_numbered (module_of lib (residence_in s).«module») s.places p here.cover object within in
+    let empty : place_in s.places p ≡ None = here.places p.object p.page object within ∙ none in
+    placed_first lib mapped residences k s t (page_with (residence_in s) p bytes) all apart u at refl same (rw (has, empty) put)
 
 pub same_number : (a b : ℕ) → (a == b) ≡ true → a ≡ b
 same_number a b e = grind (arith, nat_tests)

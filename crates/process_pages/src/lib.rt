@@ -15,6 +15,6 @@ pub use name_hints::NameHints;
 pub use own_page::OwnPage;
 pub use page_rows::PageRows;
 pub use reached_residences::{ReachedResidence, residence_place};
-pub use reading::{bytes_in_place, copy_out, run_at};
+pub use reading::{copy_out, run_at};
 pub use residence_finder::ResidenceFinder;
 pub use writing::put_all;

@@ -1,6 +1,6 @@
 //! Bytes that are copied out of mapped pages.
 
-ghost use Rattle.std.specs.Prelude.{◌≡◌, ◌≤◌, ◌+◌, ℕ, IfSome, None, find, is_none, length, map, slice_index};
+ghost use Rattle.std.specs.Prelude.{◌≡◌, ◌≤◌, ◌+◌, ℕ, IfSome, MatchOption, None, find, is_none, length, map, slice_index};
 ghost use Rattle.std.specs.List.{range_with_len};
 ghost use Rattle.load_model.specs.Memory.{page, pages_over};
 ghost use Rattle.load_model.specs.Places.{LiesInPage};
@@ -56,8 +56,10 @@ pub fn copy_out(pages: &[OwnPage], places: &PageRows, place: &Place, into: &mut 
     }
 }
 
-/// The bytes of a place where they stand, if they lie in one page that is mapped.
+/// The bytes of a place where they stand, if there are some and they lie in one page that is mapped.
 pub fn run_at<'a>(pages: &'a [OwnPage], places: &PageRows, place: &Place) -> Option<&'a [u8]>
+    ensures none { MatchOption result
+        (LiesInPage place.now → AreThere places.now pages.now place.now.object place.now.offset place.now.len → place.now.len ≡ 0) (λ _. Unit {0}) }
     ensures length { IfSome result (λ run. length run.now ≡ place.now.len) }
     ensures mapped { IfSome result (λ run.
         find (λ n. is_none (place_in places.now (page place.now.object n))) (pages_over place.now.offset place.now.len) ≡ None) }
@@ -74,22 +76,4 @@ pub fn run_at<'a>(pages: &'a [OwnPage], places: &PageRows, place: &Place) -> Opt
     };
     let page = pages.get(places.get(p)?)?;
     Some(&page.bytes()[within..within + len])
-}
-
-/// The bytes of a place of one page where they stand. The page is mapped, where the place has bytes.
-pub fn bytes_in_place<'a>(pages: &'a [OwnPage], places: &PageRows, place: &Place) -> &'a [u8]
-    requires in_page { LiesInPage place.now }
-    requires there { AreThere places.now pages.now place.now.object place.now.offset place.now.len }
-    ensures { result.now ≡ map (byte_by places.now pages.now place.now.object) (range_with_len place.now.offset place.now.len) }
-{
-    let within = place.offset as usize % PAGE_LEN;
-    let len = place.len as usize;
-    if len == 0 {
-        return &[];
-    }
-    let p = PageId {
-        object: place.object,
-        page: place.offset / PAGE_SIZE,
-    };
-    &bytes_of(pages, places, p)[within..within + len]
 }

@@ -33,11 +33,7 @@ use Rattle.load_model.proofs.Bools.{and_left, and_right}
 use Rattle.load_core.specs.BoardState.{BoardState, IsLegal, MayAsk, state_of, entry_of, with_entry}
 use Rattle.process_view.specs.ProcessViews.{ProcessView, StandsAt, at_front}
 use Rattle.process_view.specs.Deeds.{CanMap, IsSharedPage, fault_of}
-use Rattle.process_view.proofs.Accepting.{quiet_behind}
-use Rattle.process_view.proofs.PagesStanding.{IsAttached}
-
-self : (n : ℕ) → (n == n) ≡ true
-self n = grind (arith, nat_tests)
+use Rattle.process_view.proofs.Shown.{IsAttached, self, quiet_behind}
 
 and_true : (a b : Bool) → a ≡ true → b ≡ true → (a && b) ≡ true
 and_true a b e f = ap (λ c. c && b) e ∙ f

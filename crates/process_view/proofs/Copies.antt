@@ -1,10 +1,10 @@
 -- Bytes that a view reads are those of its pages.
-use Rattle.std.proofs.Common.{◌≡◌, ℕ, zero, suc, ◌+◌, ◌-◌, ◌*◌, ◌/◌, ◌%◌, ◌<◌, ◌≤◌, Bool, true, false, cond, List, [], ◌∷◌, map, Option, Some, None, inl, inr, refl, sym, ap, ◌∙◌, arith, slice_index}
+use Rattle.std.proofs.Common.{◌≡◌, ℕ, zero, suc, ◌+◌, ◌-◌, ◌*◌, ◌/◌, ◌%◌, ◌<◌, ◌≤◌, Bool, false, cond, List, [], ◌∷◌, map, Option, Some, None, inl, inr, refl, sym, ap, ◌∙◌, arith, slice_index}
 use Rattle.std.specs.Prelude.{position, is_none}
 use Rattle.std.specs.List.{find, range_with_len}
 use Rattle.std.proofs.lemmas.List.Quantifiers.{position-Some}
 use Rattle.load_model.specs.Memory.{page, pages_over}
-use Rattle.load_model.specs.Modules.{Library, number_of}
+use Rattle.load_model.specs.Modules.{Library}
 use Rattle.lx_model.specs.Library.{module_of}
 use Rattle.load_model.specs.Views.{Mapped, Holding}
 use Rattle.load_model.specs.ViewAnswers.{is_mapped_at, bytes_in, view_byte}
@@ -14,19 +14,20 @@ use Rattle.process_pages.specs.Reading.{AreThere}
 use Rattle.process_pages.proofs.Positions.{found_at_place, at_place}
 use Rattle.process_view.proofs.Ranges.{none_found}
 use Rattle.process_view.proofs.Insides.{IsInside, page_inside}
-use Rattle.std.proofs.Common.{◌⊎◌, option_map}
+use Rattle.std.proofs.Common.{◌⊎◌}
 use Rattle.load_model.specs.declared.commands.Place.{Place}
-use Rattle.load_model.specs.declared.commands.Refusal.{Refusal}
-use Rattle.load_model.specs.declared.commands.Refusal.TheVariants.{Ended, NotTouched}
 use Rattle.load_model.specs.Refusals as uses
-use Rattle.load_model.specs.Refusals.{when, ◌orelse◌, span_refusal}
+use Rattle.load_model.specs.Refusals.{span_refusal}
 use Rattle.load_model.specs.ViewAnswers.{view_place_refusal, view_bytes, reached_named}
-use Rattle.process_view.specs.ProcessViews.{ProcessView}
-use Rattle.process_view.specs.Answering.{touch_refusal_by}
+use Rattle.load_model.specs.Entering.{residence_from}
+use Rattle.page_frames.specs.Residences.{ResidenceFor}
+use Rattle.process_view.specs.ProcessViews.{ProcessView, fresh_shown}
+use Rattle.process_view.specs.Answering.{IsReachedNamed, IsReachedAt}
 use Rattle.process_pages.specs.ReachedResidences.{residence_in}
 use Rattle.process_view.specs.declared.purposes.Purpose.TheVariants as purposes
 use Rattle.process_pages.specs.declared.reached_residences.ReachedResidence.{ReachedResidence}
-use Rattle.process_view.proofs.Lookups.{not_zero, IsReachedAt, place_refused, span_is_inside}
+use Rattle.process_view.proofs.Used.{nothing, no_page, still_going}
+use Rattle.process_view.proofs.Lookups.{not_zero, place_refused, span_is_inside}
 
 -- ---- lists by their numbers
 
@@ -74,70 +75,29 @@ pub record IsReadable (w : ProcessView) (at : Place) (s : ReachedResidence) : Ty
   pub inside : IsInside w.library (residence_in s).«module» at.object at.offset at.len
   pub mapped : find (λ n. is_none (place_in s.places (page at.object n))) (pages_over at.offset at.len) ≡ None
 
-nothing : (o p : Option Refusal) → (o orelse p) ≡ None → (o ≡ None) × (p ≡ None)
-nothing None p e = (refl, e)
-nothing (Some x) p e = absurd cc
-
-no_page : (o : Option ℕ) → option_map NotTouched o ≡ None → o ≡ None
-no_page None e = refl
-no_page (Some n) e = absurd cc
-
-pub readable_by_peek : (w : ProcessView) (at : Place) (k : ℕ) (s : ReachedResidence) → w.holding.ended ≡ false → IsReachedAt w at.«module» w.library w.holding.mapped k s → view_place_refusal w.library w.holding uses.peek at ≡ None → IsReadable w at s
-readable_by_peek w at k s going is e =
-    let both = nothing _ _ (sym (place_refused w purposes.Peek at k s going is) ∙ e) in
+pub is_readable : (w : ProcessView) (at : Place) (k : ℕ) (s : ReachedResidence) → IsReachedNamed w at.«module» k → IsReachedAt w k s →
+    (view_place_refusal w.library w.holding uses.peek at ≡ None) ⊎ (view_place_refusal w.library w.holding uses.share at ≡ None) → IsReadable w at s
+is_readable w at k s named is (inl e) =
+    let both = nothing _ _ (sym (place_refused w purposes.Peek at k s (still_going w.holding.ended _ e) named is) ∙ e) in
     record { inside = span_is_inside w.library uses.peek (residence_in s).«module» at.object at.offset at.len both.0; mapped = no_page _ both.1 }
-
-pub readable_by_share : (w : ProcessView) (at : Place) (k : ℕ) (s : ReachedResidence) → w.holding.ended ≡ false → IsReachedAt w at.«module» w.library w.holding.mapped k s → view_place_refusal w.library w.holding uses.share at ≡ None →
-    IsReadable w at s
-readable_by_share w at k s going is e =
-    let both = nothing _ _ (sym (place_refused w purposes.Share at k s going is) ∙ e) in
+is_readable w at k s named is (inr e) =
+    let both = nothing _ _ (sym (place_refused w purposes.Share at k s (still_going w.holding.ended _ e) named is) ∙ e) in
     record { inside = span_is_inside w.library uses.share (residence_in s).«module» at.object at.offset at.len both.0; mapped = no_page _ both.1 }
 
-still_going : (b : Bool) (p : Option Refusal) → (when b Ended orelse p) ≡ None → b ≡ false
-still_going true p e = absurd cc
-still_going false p e = refl
-
-pub is_readable : (w : ProcessView) (at : Place) (k : ℕ) (s : ReachedResidence) → IsReachedAt w at.«module» w.library w.holding.mapped k s →
-    (view_place_refusal w.library w.holding uses.peek at ≡ None) ⊎ (view_place_refusal w.library w.holding uses.share at ≡ None) → IsReadable w at s
-is_readable w at k s is (inl e) = readable_by_peek w at k s (still_going w.holding.ended _ e) is e
-is_readable w at k s is (inr e) = readable_by_share w at k s (still_going w.holding.ended _ e) is e
-
-pub readable_there : (w : ProcessView) (at : Place) (k : ℕ) (s : ReachedResidence) → IsReachedAt w at.«module» w.library w.holding.mapped k s → IsReadable w at s → AreThere s.places w.holding.mapped at.object at.offset at.len
+pub readable_there : (w : ProcessView) (at : Place) (k : ℕ) (s : ReachedResidence) → IsReachedAt w k s → IsReadable w at s → AreThere s.places w.holding.mapped at.object at.offset at.len
 readable_there w at k s is can =
     all_there w.library (residence_in s).«module» (residence_in s).serial s.places w.holding.mapped at.object at.offset at.len is.placed.places can.inside can.mapped
 
-pub readable_bytes : (w : ProcessView) (at : Place) (k : ℕ) (s : ReachedResidence) (n : ℕ) (into : List ℕ) → IsReachedAt w at.«module» w.library w.holding.mapped k s → IsReadable w at s → n ≡ at.len →
-    into ≡ map (byte_by s.places w.holding.mapped at.object) (range_with_len at.offset n) → into ≡ view_bytes w.holding at (reached_named w.library w.holding at.«module»)
-readable_bytes w at k s n into is can long e =
-    e ∙ ap (λ (l : ℕ). map (byte_by s.places w.holding.mapped at.object) (range_with_len at.offset l)) long
-    ∙ map_alike_from (byte_by s.places w.holding.mapped at.object) (view_byte w.holding (residence_in s).serial at.object) at.offset at.len
+pub readable_bytes : (w : ProcessView) (at : Place) (k : ℕ) (s : ReachedResidence) → IsReachedNamed w at.«module» k → IsReachedAt w k s → IsReadable w at s →
+    map (byte_by s.places w.holding.mapped at.object) (range_with_len at.offset at.len) ≡ view_bytes w.holding at (reached_named w.library w.holding at.«module»)
+readable_bytes w at k s named is can =
+    map_alike_from (byte_by s.places w.holding.mapped at.object) (view_byte w.holding (residence_in s).serial at.object) at.offset at.len
     (λ x u v. byte_of_view w.library (residence_in s).«module» (residence_in s).serial s.places w.holding at.object at.offset at.len x is.placed.places can.inside u v)
-    ∙ sym (ap (view_bytes w.holding at) is.residence)
+    ∙ sym (ap (view_bytes w.holding at) (named.residence (residence_in s) ∙ ap (λ (r : ResidenceFor). Some (residence_from (fresh_shown r))) (is.is (residence_in s))))
 
 -- ---- a run in one page
 
-abbrev number_in : Option ℕ → ℕ
-number_in None = 0
-number_in (Some m) = m
-
--- nothing is refused of the page of a run, in the module that a name means
-pub record IsRun (w : ProcessView) (at : Place) (m : ℕ) (s : ReachedResidence) : Type 0 where
-  pub named : number_of w.library at.«module» ≡ Some m
-  pub allowed : span_refusal w.library uses.peek m at.object at.offset at.len ≡ None
-  pub mapped : find (λ n. is_none (place_in s.places (page at.object n))) (pages_over at.offset at.len) ≡ None
-
-run_allowed_there : (w : ProcessView) (at : Place) (m k : ℕ) (s : ReachedResidence) → IsReachedAt w at.«module» w.library w.holding.mapped k s → IsRun w at m s → span_refusal w.library uses.peek (residence_in s).«module» at.object at.offset at.len ≡ None
-run_allowed_there w at m k s is run =
-    let same : (residence_in s).«module» ≡ m = ap number_in (sym is.named ∙ run.named) in
-    ap (λ (n : ℕ). span_refusal w.library uses.peek n at.object at.offset at.len) same ∙ run.allowed
-
-pub run_allowed : (w : ProcessView) (at : Place) (m k : ℕ) (s : ReachedResidence) → w.holding.ended ≡ false → IsReachedAt w at.«module» w.library w.holding.mapped k s → IsRun w at m s → view_place_refusal w.library w.holding uses.peek at ≡ None
-run_allowed w at m k s going is run =
-    place_refused w purposes.Peek at k s going is ∙ ap (λ (o : Option Refusal). o orelse touch_refusal_by purposes.Peek s.places at) (run_allowed_there w at m k s is run)
-    ∙ ap (λ (o : Option ℕ). option_map NotTouched o) run.mapped
-
-pub run_bytes : (w : ProcessView) (at : Place) (m k : ℕ) (s : ReachedResidence) (bytes : List ℕ) → IsReachedAt w at.«module» w.library w.holding.mapped k s → IsRun w at m s →
-    bytes ≡ map (byte_by s.places w.holding.mapped at.object) (range_with_len at.offset at.len) → bytes ≡ view_bytes w.holding at (reached_named w.library w.holding at.«module»)
-run_bytes w at m k s bytes is run e =
-    let inside = span_is_inside w.library uses.peek (residence_in s).«module» at.object at.offset at.len (run_allowed_there w at m k s is run) in
-    readable_bytes w at k s at.len bytes is (record { inside = inside; mapped = run.mapped }) refl e
+pub run_allowed : (w : ProcessView) (at : Place) (k : ℕ) (s : ReachedResidence) → w.holding.ended ≡ false → IsReachedNamed w at.«module» k → IsReachedAt w k s →
+    span_refusal w.library uses.peek (residence_in s).«module» at.object at.offset at.len ≡ None → find (λ n. is_none (place_in s.places (page at.object n))) (pages_over at.offset at.len) ≡ None →
+    view_place_refusal w.library w.holding uses.peek at ≡ None
+run_allowed w at k s going named is allowed mapped = place_refused w purposes.Peek at k s going named is ∙ rw (allowed, mapped) refl

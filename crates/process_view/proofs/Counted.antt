@@ -1,13 +1,16 @@
 -- A start or a load that a view counts.
-use Rattle.std.proofs.Common.{◌≡◌, ℕ, zero, suc, ◌<◌, ◌≤◌, ◌||◌, Bool, true, false, not, List, [], ◌∷◌, ◌++◌, length, Option, Some, None, option_to_list, get_or, refl, sym, ap, subst, ◌∙◌, arith}
+use Rattle.std.proofs.Common.{◌≡◌, ℕ, ◌<◌, ◌≤◌, ◌||◌, Bool, true, false, not, List, ◌++◌, length, Option, Some, None, option_to_list, get_or, refl, sym, ap, subst, ◌∙◌, arith}
 use Rattle.std.specs.Prelude.{All, Contains, is_some, slice_index, nat_le}
 use Rattle.std.specs.List.{list_any}
 use Rattle.std.proofs.lemmas.Bool.Decides.{nat_tests}
 use Rattle.std.proofs.lemmas.List.{get_or_default}
 use Rattle.std.proofs.lemmas.List.Elements.{Contains-get_or}
+use Rattle.std.proofs.lemmas.List.Folds.{list_any_at}
+use Rattle.load_model.proofs.Bools.{or_true}
 use Rattle.lx_types.specs.declared.parts.Parts.{Parts}
 use Rattle.lx_model.specs.Laws.{OrderIsInLibrary, OrderEndsWithItself}
 use Rattle.lx_model.specs.Reach.{Order}
+use Rattle.load_model.specs.declared.commands.Command.{Command}
 use Rattle.load_model.specs.declared.deeds.How.{How}
 use Rattle.load_model.specs.declared.deeds.How.TheVariants as ways
 use Rattle.load_model.specs.declared.commands.Refusal.TheVariants.{Ended, Started, NotLibrary, CountFull}
@@ -23,9 +26,11 @@ use Rattle.mod_refs.specs.CountLaws.{CountsHaveRoom}
 use Rattle.load_model.specs.Entering.{holding, attaching}
 use Rattle.load_model.specs.ProcessCounts.{ProcessCounts, AreCountsOf, unreached}
 use Rattle.process_view.specs.ProcessViews.{ProcessView, StandsAt}
+use Rattle.process_view.specs.declared.plans.Plan.TheVariants as plans
 use Rattle.process_view.specs.Answering.{enter_command}
+use Rattle.process_view.specs.Plans.{IsPlan}
 use Rattle.process_view.specs.Counting.{IsFree, CanCount}
-use Rattle.process_view.proofs.Did.{nothing}
+use Rattle.process_view.proofs.Used.{nothing}
 use Rattle.process_view.proofs.Entered.{among_own}
 
 pub order_named : (lib : List Parts) (m : ℕ) (order : List ℕ) → order ≡ Order lib m → order ≡ order_of lib m
@@ -49,28 +54,15 @@ row_counted v w m p counts how other order e f g is =
 
 -- ---- it can be counted
 
-any_at : (f : ℕ → Bool) (xs : List ℕ) (i d : ℕ) → i < length xs → f (get_or xs i d) ≡ true → list_any f xs ≡ true
-any_at f [] i d inside e = absurd (omega (arith, inside))
-any_at f (x ∷ xs) zero d inside e = ap (λ c. c || list_any f xs) e
-any_at f (x ∷ xs) (suc i) d inside e = ap (λ c. f x || c) (any_at f xs i d (omega (arith, inside)) e) ∙ or_true (f x)
-  where
-    or_true : (b : Bool) → (b || true) ≡ true
-    or_true true = refl
-    or_true false = refl
-
 any_more : (f : ℕ → Bool) (o : Option ℕ) (xs : List ℕ) → list_any f xs ≡ true → list_any f (option_to_list o ++ xs) ≡ true
 any_more f None xs e = e
 any_more f (Some x) xs e = ap (λ c. f x || c) e ∙ or_true (f x)
-  where
-    or_true : (b : Bool) → (b || true) ≡ true
-    or_true true = refl
-    or_true false = refl
 
 load_reached : OrderEndsWithItself → (lib : List Parts) (p : Process) (i d : ℕ) → i < length p.loads → reaches lib p (get_or p.loads i d) ≡ true
 unfolding reaches
 load_reached ends lib p i d inside =
     let k = get_or p.loads i d in
-    any_more (λ root. is_among (order_of lib root) k) p.started p.loads (any_at (λ root. is_among (order_of lib root) k) p.loads i d inside (among_own ends lib k))
+    any_more (λ root. is_among (order_of lib root) k) p.started p.loads (list_any_at (λ root. is_among (order_of lib root) k) p.loads i d inside (among_own ends lib k))
 
 none_started : (o : Option ℕ) → when (is_some o) Started ≡ None → o ≡ None
 none_started None e = refl
@@ -92,9 +84,9 @@ free_is v ways.Load name m none number =
     let fit = nothing (unfit v.library m) (when (nat_le MAX_LOADS (slice_index v.holding.counts.loads m)) CountFull) (nothing (when (not (is_library v.library m)) NotLibrary) _ all).1 in
     fewer (slice_index v.holding.counts.loads m) fit.1
 
-pub can_count : OrderEndsWithItself → CountsHaveRoom → CountsAreSmall → ReachedIsFit → (b : BoardState) (v : ProcessView) (how : How) (name : List ℕ) (m : ℕ) → IsLegal b → StandsAt b v →
-    view_refusal v.library v.holding (enter_command how name) ≡ None → number_of v.library name ≡ Some m → length v.library ≤ 64 → m < length v.library → CanCount how m v
-can_count ends room small fit b v how name m legal at none number few within =
+pub can_count : OrderEndsWithItself → CountsHaveRoom → CountsAreSmall → ReachedIsFit → (b : BoardState) (v : ProcessView) (command : Command) (how : How) (m : ℕ) → IsLegal b → StandsAt b v →
+    IsPlan v command (plans.Enter how m) → length v.library ≤ 64 → CanCount how m v
+can_count ends room small fit b v command how m legal at plan few =
     let pid = v.holding.pid in
     let p = (state_of b).processes pid in
     let counts = at.stands.view.counts in
@@ -103,8 +95,8 @@ can_count ends room small fit b v how name m legal at none number few within =
     record {
       process = p;
       counts = subst R (sym at.library) counts;
-      within = within;
-      free = free_is v how name m none number;
+      within = plan.means.2.1;
+      free = free_is v how plan.means.0 m (rw plan.means.1 at plan.accepted) plan.means.2.0;
       small =
           room b.library p v.holding.counts counts (subst L at.library few)
           (λ i d inside. (fit b.library b.failing (fixed_bytes b.library) b.history legal pid (get_or p.loads i d) (load_reached ends b.library p i d inside)).0)

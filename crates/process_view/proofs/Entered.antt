@@ -1,42 +1,42 @@
 -- A view after a start or a load.
-use Rattle.std.proofs.Common.{◌≡◌, ℕ, ◌==◌, ◌&&◌, ◌||◌, Bool, true, false, cond, not, List, [], ◌∷◌, ◌++◌, map, filter, length, Option, Some, None, option_map, unwrap_or, get_or, refl, sym, ap, subst, ◌∙◌, arith}
+use Rattle.std.proofs.Common.{◌≡◌, ℕ, ◌==◌, ◌&&◌, ◌||◌, Bool, true, false, cond, not, List, [], ◌∷◌, ◌++◌, map, filter, length, Option, Some, None, option_map, get_or, refl, sym, ap, subst, ◌∙◌}
 use Rattle.std.specs.Prelude.{is_some, is_none, All}
 use Rattle.std.specs.List.{AllByRecursion, find}
-use Rattle.std.proofs.lemmas.Bool.Decides.{nat_tests}
-use Rattle.std.proofs.lemmas.List.Elements.{All-from_get_or, recursion_from_All}
-use Rattle.std.proofs.lemmas.List.{get_or_default}
+use Rattle.std.proofs.lemmas.Map.Views.{any-filter_same}
+use Rattle.std.proofs.lemmas.List.Folds.{find-append}
+use Rattle.std.proofs.lemmas.Simd.{map-map}
+use Rattle.std.proofs.lemmas.List.Elements.{All-from_get_or}
+use Rattle.std.specs.Option.{option_or}
+use Rattle.std.proofs.lemmas.List.{get_or_default, map-append}
 use Rattle.lx_types.specs.declared.object.PageId.{PageId}
 use Rattle.lx_model.specs.Laws.{OrderEndsWithItself}
 use Rattle.lx_model.specs.Fixed as fixed
 use Rattle.page_frames.specs.Residences.{ResidenceFor}
+use Rattle.load_model.specs.declared.commands.Command.{Command}
 use Rattle.load_model.specs.declared.deeds.How.{How}
-use Rattle.load_model.specs.declared.deeds.How.TheVariants as ways
 use Rattle.load_model.specs.declared.deeds.Call.{Call}
 use Rattle.load_model.specs.declared.deeds.Fresh.{Fresh}
 use Rattle.load_model.specs.declared.deeds.Gone.{Gone}
 use Rattle.load_model.specs.declared.deeds.Deed.{Deed}
 use Rattle.load_model.specs.declared.deeds.Deed.TheVariants as deeds
-use Rattle.load_model.specs.Modules.{Library, Held, fixed_bytes, number_of, order_of}
+use Rattle.load_model.specs.Modules.{Library, Held, fixed_bytes, order_of}
 use Rattle.load_model.specs.State.{Process, Residence, Eager, pids, is_among, reaches, is_reached, residence_of, serial_of, bases_of, attached_residence}
 use Rattle.load_model.specs.Memory.{bases_seen, is_page}
 use Rattle.load_model.specs.Refusals.{enter_refusal}
 use Rattle.load_model.specs.declared.commands.Ask.TheVariants.{Enter as enter}
 use Rattle.load_model.specs.Asks.{deed_of, after_deed, may_ask}
-use Rattle.load_model.specs.Step.{ask_by, FitsPlace}
 use Rattle.load_model.specs.Entering.{joined, holding, attaching, after_entering}
 use Rattle.load_model.specs.Initialising.{enter_deed}
-use Rattle.load_model.specs.Histories.{state_after}
 use Rattle.load_model.specs.Laws.{ResidenceStays}
 use Rattle.load_model.specs.Alike.{BasesSeenStay}
 use Rattle.load_model.specs.ProcessCounts.{ProcessCounts, AreCountsOf}
-use Rattle.load_model.specs.Views.{Mapped, IsMapped, mapped_pages, fresh_of, state_for}
+use Rattle.load_model.specs.Views.{Mapped, IsMapped, mapped_pages, fresh_of}
 use Rattle.load_model.specs.TouchedPages.{has_page, touched_behind}
-use Rattle.load_model.specs.ViewAnswers.{view_refusal}
 use Rattle.load_model.specs.ViewLaws.{StandsQuiet, StandsEntered, IsQuiet}
 use Rattle.load_model.specs.Outcomes.{done, told, IsTold, is_done, arena_full, init_failed}
 use Rattle.load_model.specs.declared.commands.Reply.TheVariants.{Refused}
 use Rattle.load_model.specs.declared.commands.Refusal.TheVariants.{ArenaFull, InitFailed}
-use Rattle.load_model.proofs.Bools.{and_left, and_right}
+use Rattle.load_model.proofs.Bools.{and_left, and_right, or_true}
 use Rattle.load_model.proofs.SerialsOwn.{serials_are_own}
 use Rattle.load_model.proofs.Bytes.{attached_is}
 use Rattle.load_model.proofs.Growing.{one_more_is_after, one_more_is_legal}
@@ -45,127 +45,57 @@ use Rattle.load_model.proofs.Orders.{one_reaches}
 use Rattle.load_model.proofs.Residents.{reached_is_resident}
 use Rattle.load_model.proofs.ViewLoads.{entering_process, attached_grows}
 use Rattle.load_model.proofs.ViewReplies.{residence_is, attached_is_resident}
-use Rattle.load_core.specs.BoardState.{BoardState, IsLegal, MayAsk, state_of, entry_of, with_entry}
+use Rattle.load_core.specs.BoardState.{BoardState, IsLegal, MayAsk, state_of, entry_of}
 use Rattle.load_core.specs.Told.{residence_shown}
 use Rattle.process_pages.proofs.Placing.{same_number}
-use Rattle.process_view.specs.ProcessViews.{ProcessView, StandsAt, AreShown, fresh_shown, at_front}
-use Rattle.process_view.specs.Answering.{enter_command}
+use Rattle.process_view.specs.ProcessViews.{ProcessView, AreShown, fresh_shown, at_front}
 use Rattle.process_view.specs.Deeds.{Did}
-use Rattle.process_view.proofs.Accepting.{IsAccepted, accepted, shown_of, shown_alike, stay_resident}
+use Rattle.process_view.proofs.Accepting.{IsAsked, with_asked}
 use Rattle.process_view.proofs.Did.{did_quiet}
-use Rattle.process_view.proofs.PagesStanding.{attached}
+use Rattle.process_view.proofs.Shown.{self, attached, all_shown}
 
-pub self : (n : ℕ) → (n == n) ≡ true
-self n = grind (arith, nat_tests)
-
--- ---- what is asked
-
-pub asked_enter : (b : BoardState) (v : ProcessView) (how : How) (name : List ℕ) (m : ℕ) → number_of b.library name ≡ Some m →
-    ask_by b.library (state_for b.library b.failing v.holding b.history) v.holding.pid (enter_command how name) ≡ Some (enter how m)
-asked_enter b v ways.Start name m e = ap (λ (o : Option ℕ). Some (enter ways.Start (unwrap_or o (length b.library)))) e
-asked_enter b v ways.Load name m e = ap (λ (o : Option ℕ). Some (enter ways.Load (unwrap_or o (length b.library)))) e
-
-fits_enter : (how : How) (name : List ℕ) → FitsPlace (enter_command how name)
-fits_enter ways.Start name = tt
-fits_enter ways.Load name = tt
-
-pub accepted_enter : (b : BoardState) (v : ProcessView) (how : How) (name : List ℕ) (m : ℕ) → is_among pids v.holding.pid ≡ true → StandsAt b v → view_refusal v.library v.holding (enter_command how name) ≡ None →
-    number_of b.library name ≡ Some m → IsAccepted b v (enter how m)
-accepted_enter b v how name m process at none e = accepted b v (enter_command how name) (enter how m) process at none (fits_enter how name) (asked_enter b v how name m e)
+-- ---- what the entry says
 
 may_enter : (b : BoardState) (pid : ℕ) (how : How) (m : ℕ) → MayAsk b pid (enter how m) → is_none (enter_refusal b.library ((state_of b).processes pid) how (Some m)) ≡ true
 unfolding may_ask
 may_enter b pid how m may = and_right _ _ may
 
--- ---- what the entry says
-
 pub entry_is : (b : BoardState) (pid : ℕ) (how : How) (m : ℕ) → (entry_of b pid (enter how m)).deed ≡ enter_deed b.library (state_of b) pid how m
 unfolding deed_of
 entry_is b pid how m = refl
 
--- it entered
-pub record IsEntering (b : BoardState) (pid : ℕ) (how : How) (m : ℕ) (rs : List ResidenceFor) (lib : Library) (e : Eager) : Type 0 where
-  pub fresh : List Fresh
-  pub calls : List Call
-  pub deed : enter_deed b.library (state_of b) pid how m ≡ deeds.Enter how m fresh calls
-  pub told : rs ≡ map (residence_shown lib e) (joined b.library (state_of b) pid m)
-
 -- ---- lists of residences
 
-find_first : (p : Fresh → Bool) (xs ys : List Fresh) (s : Fresh) → find p xs ≡ Some s → find p (xs ++ ys) ≡ Some s
-find_first p [] ys s e = absurd cc
-find_first p (x ∷ xs) ys s e = by_test (p x) refl (find_first p xs ys s)
+-- what is found of values that are made of numbers, each with its own
+found_map : {X : Type 0} (f : ℕ → X) (of : X → ℕ) (k : ℕ) → ((j : ℕ) → of (f j) ≡ j) → (js : List ℕ) → find (λ x. of x == k) (map f js) ≡ cond (is_among js k) (Some (f k)) None
+found_map f of k own [] = refl
+found_map f of k own (j ∷ js) = by_test (j == k) refl (found_map f of k own js)
   where
-    by_test : (b : Bool) → p x ≡ b → (find p xs ≡ Some s → find p (xs ++ ys) ≡ Some s) → cond (p x) (Some x) (find p (xs ++ ys)) ≡ Some s
-    by_test true is later = ap (λ c. cond c (Some x) (find p (xs ++ ys))) is ∙ sym (ap (λ c. cond c (Some x) (find p xs)) is) ∙ e
-    by_test false is later = ap (λ c. cond c (Some x) (find p (xs ++ ys))) is ∙ later (sym (ap (λ c. cond c (Some x) (find p xs)) is) ∙ e)
+    by_test : (b : Bool) → (j == k) ≡ b → find (λ x. of x == k) (map f js) ≡ cond (is_among js k) (Some (f k)) None →
+        cond (of (f j) == k) (Some (f j)) (find (λ x. of x == k) (map f js)) ≡ cond ((j == k) || is_among js k) (Some (f k)) None
+    by_test true is later = rw (own j, is) (ap (λ n. Some (f n)) (same_number j k is))
+    by_test false is later = rw (own j, is) later
 
-find_second : (p : Fresh → Bool) (xs ys : List Fresh) → find p xs ≡ None → find p (xs ++ ys) ≡ find p ys
-find_second p [] ys e = refl
-find_second p (x ∷ xs) ys e = by_test (p x) refl (find_second p xs ys)
-  where
-    by_test : (b : Bool) → p x ≡ b → (find p xs ≡ None → find p (xs ++ ys) ≡ find p ys) → cond (p x) (Some x) (find p (xs ++ ys)) ≡ find p ys
-    by_test true is later = absurd (let wrong : Some x ≡ None = sym (ap (λ c. cond c (Some x) (find p xs)) is) ∙ e in cc)
-    by_test false is later = ap (λ c. cond c (Some x) (find p (xs ++ ys))) is ∙ later (sym (ap (λ c. cond c (Some x) (find p xs)) is) ∙ e)
-
-shown_more : (rs news : List ResidenceFor) → map fresh_shown (rs ++ news) ≡ map fresh_shown rs ++ map fresh_shown news
-shown_more [] news = refl
-shown_more (r ∷ rs) news = ap (λ ss. fresh_shown r ∷ ss) (shown_more rs news)
-
-new_there : (lib : Library) (e : Eager) (k : ℕ) (js : List ℕ) → is_among js k ≡ true → find (λ (s : Fresh). s.«module» == k) (map fresh_shown (map (residence_shown lib e) js)) ≡ Some (fresh_shown (residence_shown lib e k))
-new_there lib e k [] h = absurd cc
-new_there lib e k (j ∷ js) h = by_test (j == k) refl (new_there lib e k js)
-  where
-    by_test : (b : Bool) → (j == k) ≡ b → (is_among js k ≡ true → find (λ (s : Fresh). s.«module» == k) (map fresh_shown (map (residence_shown lib e) js)) ≡ Some (fresh_shown (residence_shown lib e k))) →
-        cond (j == k) (Some (fresh_shown (residence_shown lib e j))) (find (λ (s : Fresh). s.«module» == k) (map fresh_shown (map (residence_shown lib e) js))) ≡ Some (fresh_shown (residence_shown lib e k))
-    by_test true is later =
-        ap (λ c. cond c (Some (fresh_shown (residence_shown lib e j))) (find (λ (s : Fresh). s.«module» == k) (map fresh_shown (map (residence_shown lib e) js)))) is
-        ∙ ap (λ n. Some (fresh_shown (residence_shown lib e n))) (same_number j k is)
-    by_test false is later =
-        ap (λ c. cond c (Some (fresh_shown (residence_shown lib e j))) (find (λ (s : Fresh). s.«module» == k) (map fresh_shown (map (residence_shown lib e) js)))) is
-        ∙ later (sym (ap (λ c. c || is_among js k) is) ∙ h)
-
-none_new : (lib : Library) (e : Eager) (k : ℕ) (js : List ℕ) → is_among js k ≡ false → find (λ (s : Fresh). s.«module» == k) (map fresh_shown (map (residence_shown lib e) js)) ≡ None
-none_new lib e k [] h = refl
-none_new lib e k (j ∷ js) h = by_test (j == k) refl (none_new lib e k js)
-  where
-    by_test : (b : Bool) → (j == k) ≡ b → (is_among js k ≡ false → find (λ (s : Fresh). s.«module» == k) (map fresh_shown (map (residence_shown lib e) js)) ≡ None) →
-        cond (j == k) (Some (fresh_shown (residence_shown lib e j))) (find (λ (s : Fresh). s.«module» == k) (map fresh_shown (map (residence_shown lib e) js))) ≡ None
-    by_test true is later = absurd (let wrong : true ≡ false = sym (ap (λ c. c || is_among js k) is) ∙ h in cc)
-    by_test false is later =
-        ap (λ c. cond c (Some (fresh_shown (residence_shown lib e j))) (find (λ (s : Fresh). s.«module» == k) (map fresh_shown (map (residence_shown lib e) js)))) is
-        ∙ later (sym (ap (λ c. c || is_among js k) is) ∙ h)
+found_new : (lib : Library) (e : Eager) (k : ℕ) (js : List ℕ) →
+    find (λ (s : Fresh). s.«module» == k) (map fresh_shown (map (residence_shown lib e) js)) ≡ cond (is_among js k) (Some (fresh_shown (residence_shown lib e k))) None
+found_new lib e k js =
+    ap (λ (ss : List Fresh). find (λ (s : Fresh). s.«module» == k) ss) (map-map fresh_shown (residence_shown lib e) js)
+    ∙ found_map (λ j. fresh_shown (residence_shown lib e j)) (λ s. s.«module») k (λ j. refl) js
 
 -- a module stands in its own order
 among_last : (xs : List ℕ) (k : ℕ) → is_among (xs ++ k ∷ []) k ≡ true
 among_last [] k = ap (λ c. c || false) (self k)
 among_last (x ∷ xs) k = ap (λ c. (x == k) || c) (among_last xs k) ∙ or_true (x == k)
-  where
-    or_true : (b : Bool) → (b || true) ≡ true
-    or_true true = refl
-    or_true false = refl
 
 pub among_own : OrderEndsWithItself → (lib : Library) (k : ℕ) → is_among (order_of lib k) k ≡ true
 unfolding order_of
 among_own ends lib k = let it = ends lib k in ap (λ xs. is_among xs k) it.1 ∙ among_last it.0 k
 
-own_base : (e : Eager) (k : ℕ) (js : List ℕ) → is_among js k ≡ true →
-    fixed.bases_of (find (λ b. b.«module» == k) (map (λ j. record { «module» = j; objects = bases_of (residence_of e j) }) js)) ≡ bases_of (residence_of e k)
-own_base e k [] h = absurd cc
-own_base e k (j ∷ js) h = by_test (j == k) refl (own_base e k js)
-  where
-    by_test : (b : Bool) → (j == k) ≡ b → (is_among js k ≡ true → fixed.bases_of (find (λ b. b.«module» == k) (map (λ j. record { «module» = j; objects = bases_of (residence_of e j) }) js)) ≡ bases_of (residence_of e k)) →
-        fixed.bases_of (find (λ b. b.«module» == k) (map (λ j. record { «module» = j; objects = bases_of (residence_of e j) }) (j ∷ js))) ≡ bases_of (residence_of e k)
-    by_test true is later =
-        ap (λ c. fixed.bases_of (cond c (Some (record { «module» = j; objects = bases_of (residence_of e j) })) (find (λ b. b.«module» == k) (map (λ j. record { «module» = j; objects = bases_of (residence_of e j) }) js)))) is
-        ∙ ap (λ n. bases_of (residence_of e n)) (same_number j k is)
-    by_test false is later =
-        ap (λ c. fixed.bases_of (cond c (Some (record { «module» = j; objects = bases_of (residence_of e j) })) (find (λ b. b.«module» == k) (map (λ j. record { «module» = j; objects = bases_of (residence_of e j) }) js)))) is
-        ∙ later (sym (ap (λ c. c || is_among js k) is) ∙ h)
-
 seen_own : OrderEndsWithItself → (lib : Library) (e : Eager) (k : ℕ) → fixed.bases_of (find (λ b. b.«module» == k) (bases_seen lib e k).mods) ≡ bases_of (residence_of e k)
 unfolding bases_seen
-seen_own ends lib e k = own_base e k (order_of lib k) (among_own ends lib k)
+seen_own ends lib e k =
+    ap fixed.bases_of (found_map (λ j. record { «module» = j; objects = bases_of (residence_of e j) }) (λ b. b.«module») k (λ j. refl) (order_of lib k))
+    ∙ ap (λ c. fixed.bases_of (cond c (Some (record { «module» = k; objects = bases_of (residence_of e k) })) None)) (among_own ends lib k)
 
 -- as it is shown, so it stands
 shown_is : OrderEndsWithItself → (lib : Library) (e : Eager) (k : ℕ) (r : Residence) → residence_of e k ≡ Some r → r.«module» ≡ k → fresh_shown (residence_shown lib e k) ≡ fresh_of r
@@ -176,68 +106,63 @@ shown_is ends lib e k r is own =
 
 -- ---- the state
 
--- the entry is a start or a load that was done
-pub record IsDoneAs (b : BoardState) (v : ProcessView) (how : How) (m : ℕ) (fresh : List Fresh) (calls : List Call) : Type 0 where
-  pub legal : IsLegal b
-  pub stands : StandsAt b v
-  pub accepted : IsAccepted b v (enter how m)
+-- A start or a load that was done.
+pub record IsEntered (b : BoardState) (v : ProcessView) : Type 0 where
+  pub command : Command
+  pub how : How
+  pub m : ℕ
+  pub asked : IsAsked b v command (enter how m)
+  pub fresh : List Fresh
+  pub calls : List Call
   pub deed : (entry_of b v.holding.pid (enter how m)).deed ≡ deeds.Enter how m fresh calls
+
+abbrev pub board_entered : (b : BoardState) (v : ProcessView) → IsEntered b v → BoardState
+board_entered b v is = with_asked b v (enter is.how is.m)
+
+abbrev pub modules_joined : (b : BoardState) (v : ProcessView) → IsEntered b v → List ℕ
+modules_joined b v is = joined b.library (state_of b) v.holding.pid is.m
+
+-- the residences of these as they are shown then
+abbrev pub news_of : (b : BoardState) (v : ProcessView) → IsEntered b v → List ResidenceFor
+news_of b v is = map (residence_shown b.library (state_of (board_entered b v is))) (modules_joined b v is)
 
 deed_enters : (lib : Library) (e : Eager) (pid : ℕ) (how : How) (m : ℕ) (fresh : List Fresh) (calls : List Call) → after_deed lib e pid (deeds.Enter how m fresh calls) ≡ after_entering lib e pid how m fresh
 unfolding after_deed
 deed_enters lib e pid how m fresh calls = refl
 
-pub state_entered : (b : BoardState) (v : ProcessView) (how : How) (m : ℕ) (fresh : List Fresh) (calls : List Call) → IsDoneAs b v how m fresh calls →
-    state_after b.library b.failing (b.history ++ entry_of b v.holding.pid (enter how m) ∷ []) ≡ after_entering b.library (state_of b) v.holding.pid how m fresh
-state_entered b v how m fresh calls is =
-    one_more_is_after b.library b.failing b.history (entry_of b v.holding.pid (enter how m)) ∙ ap (after_deed b.library (state_of b) v.holding.pid) is.deed
-    ∙ deed_enters b.library (state_of b) v.holding.pid how m fresh calls
+state_entered : (b : BoardState) (v : ProcessView) (is : IsEntered b v) → state_of (board_entered b v is) ≡ after_entering b.library (state_of b) v.holding.pid is.how is.m is.fresh
+state_entered b v is =
+    one_more_is_after b.library b.failing b.history (entry_of b v.holding.pid (enter is.how is.m)) ∙ ap (after_deed b.library (state_of b) v.holding.pid) is.deed
+    ∙ deed_enters b.library (state_of b) v.holding.pid is.how is.m is.fresh is.calls
 
-pub process_entered : (b : BoardState) (v : ProcessView) (how : How) (m : ℕ) (fresh : List Fresh) (calls : List Call) → IsDoneAs b v how m fresh calls →
-    (state_after b.library b.failing (b.history ++ entry_of b v.holding.pid (enter how m) ∷ [])).processes v.holding.pid
-    ≡ holding how m (attaching (joined b.library (state_of b) v.holding.pid m) ((state_of b).processes v.holding.pid))
-process_entered b v how m fresh calls is =
-    ap (λ (e : Eager). e.processes v.holding.pid) (state_entered b v how m fresh calls is) ∙ entering_process b.library (state_of b) v.holding.pid how m fresh
+process_entered : (b : BoardState) (v : ProcessView) (is : IsEntered b v) →
+    (state_of (board_entered b v is)).processes v.holding.pid ≡ holding is.how is.m (attaching (modules_joined b v is) ((state_of b).processes v.holding.pid))
+process_entered b v is = ap (λ (e : Eager). e.processes v.holding.pid) (state_entered b v is) ∙ entering_process b.library (state_of b) v.holding.pid is.how is.m is.fresh
 
-attached_on : (b : BoardState) (v : ProcessView) (how : How) (m : ℕ) (fresh : List Fresh) (calls : List Call) (k : ℕ) (r : Residence) → IsDoneAs b v how m fresh calls →
-    attached_residence b.library (state_of b) v.holding.pid k ≡ Some r →
-    attached_residence b.library (state_after b.library b.failing (b.history ++ entry_of b v.holding.pid (enter how m) ∷ [])) v.holding.pid k ≡ Some r
-attached_on b v how m fresh calls k r is e =
-    ap (λ (s : Eager). attached_residence b.library s v.holding.pid k) (state_entered b v how m fresh calls is)
-    ∙ attached_grows b.library (state_of b) v.holding.pid how m fresh k r (may_enter b v.holding.pid how m is.accepted.may) e
+attached_on : (b : BoardState) (v : ProcessView) (is : IsEntered b v) (k : ℕ) (r : Residence) → attached_residence b.library (state_of b) v.holding.pid k ≡ Some r →
+    attached_residence b.library (state_of (board_entered b v is)) v.holding.pid k ≡ Some r
+attached_on b v is k r e =
+    ap (λ (s : Eager). attached_residence b.library s v.holding.pid k) (state_entered b v is)
+    ∙ attached_grows b.library (state_of b) v.holding.pid is.how is.m is.fresh k r (may_enter b v.holding.pid is.how is.m is.asked.may) e
 
-pub reaches_on : (b : BoardState) (v : ProcessView) (how : How) (m : ℕ) (fresh : List Fresh) (calls : List Call) (k : ℕ) → IsDoneAs b v how m fresh calls →
-    reaches b.library ((state_after b.library b.failing (b.history ++ entry_of b v.holding.pid (enter how m) ∷ [])).processes v.holding.pid) k
-    ≡ is_among (order_of b.library m) k || reaches b.library ((state_of b).processes v.holding.pid) k
-reaches_on b v how m fresh calls k is =
-    ap (λ (p : Process). reaches b.library p k) (process_entered b v how m fresh calls is)
-    ∙ reaches_more b.library ((state_of b).processes v.holding.pid) (joined b.library (state_of b) v.holding.pid m) how m k (may_enter b v.holding.pid how m is.accepted.may)
+reaches_on : (b : BoardState) (v : ProcessView) (is : IsEntered b v) (k : ℕ) →
+    reaches b.library ((state_of (board_entered b v is)).processes v.holding.pid) k ≡ is_among (order_of b.library is.m) k || reaches b.library ((state_of b).processes v.holding.pid) k
+reaches_on b v is k =
+    ap (λ (p : Process). reaches b.library p k) (process_entered b v is)
+    ∙ reaches_more b.library ((state_of b).processes v.holding.pid) (modules_joined b v is) is.how is.m k (may_enter b v.holding.pid is.how is.m is.asked.may)
+
+-- its history is legal
+pub legal_entered : (b : BoardState) (v : ProcessView) (is : IsEntered b v) → IsLegal (board_entered b v is)
+legal_entered b v is = one_more_is_legal b.library b.failing (fixed_bytes b.library) b.history (entry_of b v.holding.pid (enter is.how is.m)) is.asked.legal is.asked.follows
 
 among_filter : (f : ℕ → Bool) (xs : List ℕ) (k : ℕ) → is_among (filter f xs) k ≡ is_among xs k && f k
-among_filter f [] k = refl
-among_filter f (x ∷ xs) k = by_test (f x) refl (among_filter f xs k)
+among_filter f xs k = any-filter_same (λ j. j == k) f (f k) (λ j is. ap f (same_number j k is)) xs ∙ and_comm (f k) (is_among xs k)
   where
-    or_more : (a c : Bool) → a ≡ false → (a || c) ≡ c
-    or_more false c e = refl
-    or_more true c e = absurd cc
-
-    at_k : (a : Bool) → (x == k) ≡ a → f x ≡ true → ((x == k) || (is_among xs k && f k)) ≡ ((x == k) || is_among xs k) && f k
-    at_k true is t = ap (λ c. c || (is_among xs k && f k)) is ∙ sym (ap (λ c. (c || is_among xs k) && f k) is ∙ ap f (sym (same_number x k is)) ∙ t)
-    at_k false is t = ap (λ c. c || (is_among xs k && f k)) is ∙ sym (ap (λ c. (c || is_among xs k) && f k) is)
-
-    off_k : (a : Bool) → (x == k) ≡ a → f x ≡ false → (is_among xs k && f k) ≡ ((x == k) || is_among xs k) && f k
-    off_k true is t =
-        let none : f k ≡ false = ap f (sym (same_number x k is)) ∙ t in
-        ap (λ c. is_among xs k && c) none ∙ and_false (is_among xs k) ∙ sym (ap (λ c. (c || is_among xs k) && f k) is ∙ none)
-      where
-        and_false : (c : Bool) → (c && false) ≡ false
-        and_false true = refl
-        and_false false = refl
-    off_k false is t = sym (ap (λ c. (c || is_among xs k) && f k) is)
-
-    by_test : (b : Bool) → f x ≡ b → is_among (filter f xs) k ≡ is_among xs k && f k → is_among (cond (f x) (x ∷ filter f xs) (filter f xs)) k ≡ ((x == k) || is_among xs k) && f k
-    by_test true is later = ap (λ c. is_among (cond c (x ∷ filter f xs) (filter f xs)) k) is ∙ ap (λ c. (x == k) || c) later ∙ at_k (x == k) refl is
-    by_test false is later = ap (λ c. is_among (cond c (x ∷ filter f xs) (filter f xs)) k) is ∙ later ∙ off_k (x == k) refl is
+    and_comm : (a b : Bool) → (a && b) ≡ b && a
+    and_comm true true = refl
+    and_comm true false = refl
+    and_comm false true = refl
+    and_comm false false = refl
 
 pub joined_is : (lib : Library) (e : Eager) (pid m k : ℕ) → is_among (joined lib e pid m) k ≡ is_among (order_of lib m) k && not (reaches lib (e.processes pid) k)
 unfolding joined
@@ -249,7 +174,7 @@ pub found : (o : Option Residence) → is_some o ≡ true → (r : Residence) ×
 found None h = absurd cc
 found (Some r) h = (r, refl)
 
-unreached_is : (lib : Library) (e : Eager) (pid k : ℕ) → reaches lib (e.processes pid) k ≡ false → attached_residence lib e pid k ≡ None
+pub unreached_is : (lib : Library) (e : Eager) (pid k : ℕ) → reaches lib (e.processes pid) k ≡ false → attached_residence lib e pid k ≡ None
 unfolding attached_residence
 unreached_is lib e pid k is = ap (λ c. cond c (residence_of e k) None) is
 
@@ -260,11 +185,28 @@ no_stay (Some r) e = absurd cc
 pub resident_by : (lib : Library) (e : Eager) (pid k : ℕ) → is_some (residence_of e k) ≡ is_reached lib e k → is_among pids pid ≡ true → reaches lib (e.processes pid) k ≡ true → is_some (residence_of e k) ≡ true
 resident_by lib e pid k law process reached = law ∙ one_reaches lib e pid k process reached
 
-pub stays_entered : OrderEndsWithItself → (b : BoardState) (v : ProcessView) (how : How) (m : ℕ) (fresh : List Fresh) (calls : List Call) (news : List ResidenceFor) → is_among pids v.holding.pid ≡ true → IsDoneAs b v how m fresh calls →
-    news ≡ map (residence_shown b.library (state_after b.library b.failing (b.history ++ entry_of b v.holding.pid (enter how m) ∷ []))) (joined b.library (state_of b) v.holding.pid m) → (k : ℕ) →
-    find (λ (s : Fresh). s.«module» == k) (map fresh_shown (v.residences ++ news))
-    ≡ option_map fresh_of (attached_residence b.library (state_after b.library b.failing (b.history ++ entry_of b v.holding.pid (enter how m) ∷ [])) v.holding.pid k)
-stays_entered ends b v how m fresh calls news process is as_shown k = all ∙ by_old (attached_residence lib e pid k) refl
+-- the residence of a module that is attached then
+pub record IsNew (b : BoardState) (v : ProcessView) (is : IsEntered b v) (k : ℕ) : Type 0 where
+  pub residence : Residence
+  pub there : residence_of (state_of (board_entered b v is)) k ≡ Some residence
+  pub attached : attached_residence b.library (state_of (board_entered b v is)) v.holding.pid k ≡ Some residence
+  pub «module» : residence.«module» ≡ k
+
+pub new_resident : (b : BoardState) (v : ProcessView) (is : IsEntered b v) (k : ℕ) → is_among (modules_joined b v is) k ≡ true → IsNew b v is k
+new_resident b v is k new =
+    let lib = b.library in
+    let pid = v.holding.pid in
+    let c = board_entered b v is in
+    let reaches_it = reaches lib ((state_of b).processes pid) k in
+    let both = sym (joined_is lib (state_of b) pid is.m k) ∙ new in
+    let reached : reaches lib ((state_of c).processes pid) k ≡ true = reaches_on b v is k ∙ ap (λ c. c || reaches_it) (and_left (is_among (order_of lib is.m) k) (not reaches_it) both) in
+    let it = found (residence_of (state_of c) k) (resident_by lib (state_of c) pid k (reached_is_resident lib b.failing (fixed_bytes lib) c.history (legal_entered b v is) k) is.asked.process reached) in
+    let attached = attached_is_resident lib (state_of c) pid k reached ∙ it.1 in
+    record { residence = it.0; there = it.1; attached = attached; «module» = (attached_is lib (state_of c) pid k it.0 attached).1 }
+
+stays_entered : OrderEndsWithItself → (b : BoardState) (v : ProcessView) (is : IsEntered b v) (k : ℕ) →
+    find (λ (s : Fresh). s.«module» == k) (map fresh_shown (v.residences ++ news_of b v is)) ≡ option_map fresh_of (attached_residence b.library (state_of (board_entered b v is)) v.holding.pid k)
+stays_entered ends b v is k = all ∙ by_old (attached_residence lib e pid k) refl
   where
     lib : Library
     lib = b.library
@@ -276,61 +218,47 @@ stays_entered ends b v how m fresh calls news process is as_shown k = all ∙ by
     e = state_of b
 
     after : Eager
-    after = state_after b.library b.failing (b.history ++ entry_of b v.holding.pid (enter how m) ∷ [])
+    after = state_of (board_entered b v is)
 
     at : Fresh → Bool
     at s = s.«module» == k
 
-    all : find at (map fresh_shown (v.residences ++ news)) ≡ find at (v.holding.residences ++ map fresh_shown news)
-    all = ap (find at) (shown_more v.residences news) ∙ ap (λ ss. find at (ss ++ map fresh_shown news)) (sym is.stands.residences)
+    all : find at (map fresh_shown (v.residences ++ news_of b v is)) ≡ option_or (find at v.holding.residences) (find at (map fresh_shown (news_of b v is)))
+    all =
+        ap (find at) (map-append fresh_shown v.residences (news_of b v is)) ∙ ap (λ ss. find at (ss ++ map fresh_shown (news_of b v is))) (sym is.asked.stands.residences)
+        ∙ find-append at v.holding.residences (map fresh_shown (news_of b v is))
 
     old : (o : Option Residence) → attached_residence lib e pid k ≡ o → find at v.holding.residences ≡ option_map fresh_of o
-    old o h = is.stands.stands.view.residences k ∙ ap (option_map fresh_of) h
+    old o h = is.asked.stands.stands.view.residences k ∙ ap (option_map fresh_of) h
 
-    by_new : (c : Bool) → is_among (order_of lib m) k ≡ c → reaches lib (e.processes pid) k ≡ false → find at (map fresh_shown news) ≡ option_map fresh_of (attached_residence lib after pid k)
+    by_new : (c : Bool) → is_among (order_of lib is.m) k ≡ c → reaches lib (e.processes pid) k ≡ false → find at (map fresh_shown (news_of b v is)) ≡ option_map fresh_of (attached_residence lib after pid k)
     by_new true h un =
-        let there : is_among (joined lib e pid m) k ≡ true = joined_is lib e pid m k ∙ ap (λ c. c && not (reaches lib (e.processes pid) k)) h ∙ ap not un in
-        let reached : reaches lib (after.processes pid) k ≡ true = reaches_on b v how m fresh calls k is ∙ ap (λ c. c || reaches lib (e.processes pid) k) h in
-        let more = one_more_is_legal lib b.failing (fixed_bytes lib) b.history (entry_of b pid (enter how m)) is.legal is.accepted.follows in
-        let resident = found (residence_of after k) (resident_by lib after pid k (reached_is_resident lib b.failing (fixed_bytes lib) (b.history ++ entry_of b pid (enter how m) ∷ []) more k) process reached) in
-        let stands : attached_residence lib after pid k ≡ Some resident.0 = attached_is_resident lib after pid k reached ∙ resident.1 in
-        ap (λ rs. find at (map fresh_shown rs)) as_shown ∙ new_there lib after k (joined lib e pid m) there
-        ∙ ap (λ (f : Fresh). Some f) (shown_is ends lib after k resident.0 resident.1 (attached_is lib after pid k resident.0 stands).1) ∙ sym (ap (option_map fresh_of) stands)
+        let there : is_among (joined lib e pid is.m) k ≡ true = joined_is lib e pid is.m k ∙ ap (λ c. c && not (reaches lib (e.processes pid) k)) h ∙ ap not un in
+        let it = new_resident b v is k there in
+        found_new lib after k (joined lib e pid is.m) ∙ ap (λ c. cond c (Some (fresh_shown (residence_shown lib after k))) None) there ∙ ap (λ (f : Fresh). Some f) (shown_is ends lib after k it.residence it.there it.«module») ∙ sym (ap (option_map fresh_of) it.attached)
     by_new false h un =
-        let none : is_among (joined lib e pid m) k ≡ false = joined_is lib e pid m k ∙ ap (λ c. c && not (reaches lib (e.processes pid) k)) h in
-        let unreached : reaches lib (after.processes pid) k ≡ false = reaches_on b v how m fresh calls k is ∙ ap (λ c. c || reaches lib (e.processes pid) k) h ∙ un in
-        ap (λ rs. find at (map fresh_shown rs)) as_shown ∙ none_new lib after k (joined lib e pid m) none ∙ sym (ap (option_map fresh_of) (unreached_is lib after pid k unreached))
+        let none : is_among (joined lib e pid is.m) k ≡ false = joined_is lib e pid is.m k ∙ ap (λ c. c && not (reaches lib (e.processes pid) k)) h in
+        let unreached : reaches lib (after.processes pid) k ≡ false = reaches_on b v is k ∙ ap (λ c. c || reaches lib (e.processes pid) k) h ∙ un in
+        found_new lib after k (joined lib e pid is.m) ∙ ap (λ c. cond c (Some (fresh_shown (residence_shown lib after k))) None) none ∙ sym (ap (option_map fresh_of) (unreached_is lib after pid k unreached))
 
     by_reach : (c : Bool) → reaches lib (e.processes pid) k ≡ c → attached_residence lib e pid k ≡ None → c ≡ false
     by_reach false h none = refl
     by_reach true h none =
-        let resident = found (residence_of e k) (resident_by lib e pid k (reached_is_resident lib b.failing (fixed_bytes lib) b.history is.legal k) process h) in
+        let resident = found (residence_of e k) (resident_by lib e pid k (reached_is_resident lib b.failing (fixed_bytes lib) b.history is.asked.legal k) is.asked.process h) in
         absurd (let wrong : Some resident.0 ≡ None = sym (attached_is_resident lib e pid k h ∙ resident.1) ∙ none in cc)
 
-    by_old : (o : Option Residence) → attached_residence lib e pid k ≡ o → find at (v.holding.residences ++ map fresh_shown news) ≡ option_map fresh_of (attached_residence lib after pid k)
-    by_old (Some r) h = find_first at v.holding.residences (map fresh_shown news) (fresh_of r) (old (Some r) h) ∙ sym (ap (option_map fresh_of) (attached_on b v how m fresh calls k r is h))
-    by_old None h = find_second at v.holding.residences (map fresh_shown news) (old None h) ∙ by_new (is_among (order_of lib m) k) refl (by_reach (reaches lib (e.processes pid) k) refl h)
+    by_old : (o : Option Residence) → attached_residence lib e pid k ≡ o → option_or (find at v.holding.residences) (find at (map fresh_shown (news_of b v is))) ≡ option_map fresh_of (attached_residence lib after pid k)
+    by_old (Some r) h = ap (λ o. option_or o (find at (map fresh_shown (news_of b v is)))) (old (Some r) h) ∙ sym (ap (option_map fresh_of) (attached_on b v is k r h))
+    by_old None h = ap (λ o. option_or o (find at (map fresh_shown (news_of b v is)))) (old None h) ∙ by_new (is_among (order_of lib is.m) k) refl (by_reach (reaches lib (e.processes pid) k) refl h)
 
 -- ---- how they are shown
 
-old_shown : ResidenceStays → BasesSeenStay → (b : BoardState) (v : ProcessView) (how : How) (m : ℕ) (fresh : List Fresh) (calls : List Call) → IsDoneAs b v how m fresh calls →
-    AreShown b.library (state_after b.library b.failing (b.history ++ entry_of b v.holding.pid (enter how m) ∷ [])) v.residences
-old_shown still bases b v how m fresh calls is =
-    let x = entry_of b v.holding.pid (enter how m) in
-    let lib = b.library in
-    let after = state_after lib b.failing (b.history ++ x ∷ []) in
-    let P : ResidenceFor → Type 0 = λ r. r ≡ residence_shown lib after r.«module» in
-    let d : ResidenceFor = record { library = []; serial = 0; «module» = 0; bases = record { mods = [] } } in
-    recursion_from_All P v.residences
-    (All-from_get_or P v.residences d
-    (λ i u.
-    let r = get_or v.residences i d in
-    let here : r ≡ get_or v.residences i r = get_or_default v.residences i d r u in
-    let own = attached b v i r is.stands u here in
-    shown_of lib (state_of b) v.residences i r is.stands.shown u here
-    ∙ sym
-    (shown_alike still bases b x r.«module» is.legal is.accepted.follows (stay_resident lib b.failing v.holding v.residences b.history i r is.stands.residences is.stands.stands u here)
-    (ap (λ o. is_some o) (residence_is lib after v.holding.pid r.«module» own.0 (attached_on b v how m fresh calls r.«module» own.0 is own.1.there))))))
+old_shown : ResidenceStays → BasesSeenStay → (b : BoardState) (v : ProcessView) (is : IsEntered b v) → AreShown b.library (state_of (board_entered b v is)) v.residences
+old_shown still bases b v is =
+    all_shown still bases b v (entry_of b v.holding.pid (enter is.how is.m)) is.asked.legal is.asked.follows is.asked.stands
+    (λ i r u here.
+    let own = attached b v i r is.asked.stands u here in
+    ap (λ (o : Option Residence). is_some o) (residence_is b.library (state_of (board_entered b v is)) v.holding.pid r.«module» own.0 (attached_on b v is r.«module» own.0 own.1.there)))
 
 new_shown : (lib : Library) (e : Eager) (js : List ℕ) → AreShown lib e (map (residence_shown lib e) js)
 new_shown lib e [] = tt
@@ -342,7 +270,7 @@ all_more P (x ∷ xs) ys a b = (a.0, all_more P xs ys a.1 b)
 
 -- ---- the deed
 
--- the view with the residences that it did not have
+-- the view with residences more
 abbrev pub entered_view : ProcessView → ProcessCounts → List ResidenceFor → ℕ → ℕ → ℕ → ProcessView
 entered_view v counts news n room more = record {
   library = v.library;
@@ -352,35 +280,29 @@ entered_view v counts news n room more = record {
   residence_room = more;
 }
 
-pub did_entered : OrderEndsWithItself → ResidenceStays → BasesSeenStay → StandsEntered → (b : BoardState) (v : ProcessView) (how : How) (name : List ℕ) (m : ℕ) (fresh : List Fresh) (calls : List Call) (counts : ProcessCounts) (news : List ResidenceFor)
-    (room more : ℕ) → is_among pids v.holding.pid ≡ true → number_of b.library name ≡ Some m → IsDoneAs b v how m fresh calls →
-    news ≡ map (residence_shown b.library (state_after b.library b.failing (b.history ++ entry_of b v.holding.pid (enter how m) ∷ []))) (joined b.library (state_of b) v.holding.pid m) →
-    AreCountsOf b.library (holding how m (attaching (joined b.library (state_of b) v.holding.pid m) ((state_of b).processes v.holding.pid))) counts →
-    Did b (with_entry b (entry_of b v.holding.pid (enter how m))) v (entered_view v counts news (length (b.history ++ entry_of b v.holding.pid (enter how m) ∷ [])) room more) (enter_command how name)
-    (done (length (b.history ++ entry_of b v.holding.pid (enter how m) ∷ [])))
-did_entered ends still bases stands_entered b v how name m fresh calls counts news room more process number is as_shown rows =
-    let x = entry_of b v.holding.pid (enter how m) in
+pub did_entered : OrderEndsWithItself → ResidenceStays → BasesSeenStay → StandsEntered → (b : BoardState) (v : ProcessView) (is : IsEntered b v) (counts : ProcessCounts) (room more : ℕ) →
+    AreCountsOf b.library (holding is.how is.m (attaching (modules_joined b v is) ((state_of b).processes v.holding.pid))) counts →
+    Did b (board_entered b v is) v (entered_view v counts (news_of b v is) (length (board_entered b v is).history) room more) is.command (done (length (board_entered b v is).history))
+did_entered ends still bases stands_entered b v is counts room more rows =
+    let x = entry_of b v.holding.pid (enter is.how is.m) in
     let lib = b.library in
-    let after = state_after lib b.failing (b.history ++ x ∷ []) in
-    let n = length (b.history ++ x ∷ []) in
+    let after = state_of (board_entered b v is) in
+    let n = length (board_entered b v is).history in
     let R : Process → Type 0 = λ p. AreCountsOf lib p counts in
     let T : Deed → Type 0 = λ d. IsTold n d (done n) in
-    let S : List ResidenceFor → Type 0 = AllByRecursion (λ (r : ResidenceFor). r ≡ residence_shown lib after r.«module») in
     record {
-      ask = enter how m;
-      asked = asked_enter b v how name m number;
+      ask = enter is.how is.m;
+      asked = is.asked.asked;
       adds = refl;
-      follows = is.accepted.follows;
+      follows = is.asked.follows;
       told = subst T (sym is.deed) (is_done tt);
       stands = record {
-        library = is.stands.library;
+        library = is.asked.stands.library;
         residences = refl;
         stands =
-            stands_entered lib b.failing (fixed_bytes lib) v.holding b.history x how m fresh calls counts (map fresh_shown (v.residences ++ news)) is.legal is.accepted.follows refl is.deed
-            (subst R (sym (process_entered b v how m fresh calls is)) rows) (stays_entered ends b v how m fresh calls news process is as_shown) is.stands.stands;
-        shown =
-            all_more (λ (r : ResidenceFor). r ≡ residence_shown lib after r.«module») v.residences news (old_shown still bases b v how m fresh calls is)
-            (subst S (sym as_shown) (new_shown lib after (joined lib (state_of b) v.holding.pid m)));
+            stands_entered lib b.failing (fixed_bytes lib) v.holding b.history x is.how is.m is.fresh is.calls counts (map fresh_shown (v.residences ++ news_of b v is)) is.asked.legal is.asked.follows refl is.deed
+            (subst R (sym (process_entered b v is)) rows) (stays_entered ends b v is) is.asked.stands.stands;
+        shown = all_more (λ (r : ResidenceFor). r ≡ residence_shown lib after r.«module») v.residences (news_of b v is) (old_shown still bases b v is) (new_shown lib after (modules_joined b v is));
       };
       library = refl;
       pid = refl;
@@ -389,66 +311,54 @@ did_entered ends still bases stands_entered b v how name m fresh calls counts ne
 
 -- ---- where it is refused with an entry
 
-pub did_full : ResidenceStays → BasesSeenStay → StandsQuiet → (b : BoardState) (v : ProcessView) (how : How) (name : List ℕ) (m of object size : ℕ) → number_of b.library name ≡ Some m → IsLegal b → StandsAt b v → IsAccepted b v (enter how m) →
+pub did_full : ResidenceStays → BasesSeenStay → StandsQuiet → (b : BoardState) (v : ProcessView) (command : Command) (how : How) (m of object size : ℕ) → IsAsked b v command (enter how m) →
     (entry_of b v.holding.pid (enter how m)).deed ≡ deeds.Full how m of object size →
-    Did b (with_entry b (entry_of b v.holding.pid (enter how m))) v (at_front (length (b.history ++ entry_of b v.holding.pid (enter how m) ∷ [])) v) (enter_command how name)
-    (told (Refused (ArenaFull (length (b.history ++ entry_of b v.holding.pid (enter how m) ∷ [])) of object size)))
-did_full still bases quiet b v how name m of object size number legal at acc deed =
-    let n = length (b.history ++ entry_of b v.holding.pid (enter how m) ∷ []) in
+    Did b (with_asked b v (enter how m)) v (at_front (length (with_asked b v (enter how m)).history) v) command (told (Refused (ArenaFull (length (with_asked b v (enter how m)).history) of object size)))
+did_full still bases quiet b v command how m of object size is deed =
+    let n = length (with_asked b v (enter how m)).history in
     let Q : Deed → Type 0 = IsQuiet b.library in
     let T : Deed → Type 0 = λ d. IsTold n d (told (Refused (ArenaFull n of object size))) in
-    did_quiet still bases quiet b v (enter_command how name) (enter how m) _ legal at acc (asked_enter b v how name m number) (subst Q (sym deed) tt) (subst T (sym deed) arena_full)
+    did_quiet still bases quiet b v command (enter how m) _ is (subst Q (sym deed) tt) (subst T (sym deed) arena_full)
     (sym (ap (λ (d : Deed). touched_behind b.library (state_of b) v.holding.pid d (λ _. mapped_pages v.holding) v.holding.pid) deed))
 
-pub did_failed : ResidenceStays → BasesSeenStay → StandsQuiet → (b : BoardState) (v : ProcessView) (how : How) (name : List ℕ) (m by : ℕ) (fresh : List Fresh) (calls : List Call) (gone : List Gone) → number_of b.library name ≡ Some m → IsLegal b →
-    StandsAt b v → IsAccepted b v (enter how m) → (entry_of b v.holding.pid (enter how m)).deed ≡ deeds.Failed how m by fresh calls gone →
-    Did b (with_entry b (entry_of b v.holding.pid (enter how m))) v (at_front (length (b.history ++ entry_of b v.holding.pid (enter how m) ∷ [])) v) (enter_command how name)
-    (told (Refused (InitFailed (length (b.history ++ entry_of b v.holding.pid (enter how m) ∷ [])) by)))
-did_failed still bases quiet b v how name m by fresh calls gone number legal at acc deed =
-    let n = length (b.history ++ entry_of b v.holding.pid (enter how m) ∷ []) in
+pub did_failed : ResidenceStays → BasesSeenStay → StandsQuiet → (b : BoardState) (v : ProcessView) (command : Command) (how : How) (m by : ℕ) (fresh : List Fresh) (calls : List Call) (gone : List Gone) → IsAsked b v command (enter how m) →
+    (entry_of b v.holding.pid (enter how m)).deed ≡ deeds.Failed how m by fresh calls gone →
+    Did b (with_asked b v (enter how m)) v (at_front (length (with_asked b v (enter how m)).history) v) command (told (Refused (InitFailed (length (with_asked b v (enter how m)).history) by)))
+did_failed still bases quiet b v command how m by fresh calls gone is deed =
+    let n = length (with_asked b v (enter how m)).history in
     let Q : Deed → Type 0 = IsQuiet b.library in
     let T : Deed → Type 0 = λ d. IsTold n d (told (Refused (InitFailed n by))) in
-    did_quiet still bases quiet b v (enter_command how name) (enter how m) _ legal at acc (asked_enter b v how name m number) (subst Q (sym deed) tt) (subst T (sym deed) init_failed)
+    did_quiet still bases quiet b v command (enter how m) _ is (subst Q (sym deed) tt) (subst T (sym deed) init_failed)
     (sym (ap (λ (d : Deed). touched_behind b.library (state_of b) v.holding.pid d (λ _. mapped_pages v.holding) v.holding.pid) deed))
 
 -- ---- new residences are of their own
 
--- the serial number of what is new is that of nothing that the process reached before
-unlike : (b : BoardState) (v : ProcessView) (how : How) (m : ℕ) (fresh : List Fresh) (calls : List Call) (j k : ℕ) (a : Residence) → is_among pids v.holding.pid ≡ true → IsDoneAs b v how m fresh calls →
-    is_among (joined b.library (state_of b) v.holding.pid m) k ≡ true → attached_residence b.library (state_of b) v.holding.pid j ≡ Some a →
-    a.serial ≡ serial_of (residence_of (state_after b.library b.failing (b.history ++ entry_of b v.holding.pid (enter how m) ∷ [])) k) → ⊥
-unlike b v how m fresh calls j k a process is new there same =
+-- the serial number of what is new is that of nothing that the is.asked.process reached before
+unlike : (b : BoardState) (v : ProcessView) (is : IsEntered b v) (j k : ℕ) (a : Residence) → is_among (modules_joined b v is) k ≡ true → attached_residence b.library (state_of b) v.holding.pid j ≡ Some a →
+    a.serial ≡ serial_of (residence_of (state_of (board_entered b v is)) k) → ⊥
+unlike b v is j k a new there same =
     let lib = b.library in
     let pid = v.holding.pid in
     let e = state_of b in
-    let x = entry_of b pid (enter how m) in
-    let after = state_after lib b.failing (b.history ++ x ∷ []) in
-    let both = sym (joined_is lib e pid m k) ∙ new in
-    let reached : reaches lib (after.processes pid) k ≡ true =
-    reaches_on b v how m fresh calls k is ∙ ap (λ c. c || reaches lib (e.processes pid) k) (and_left (is_among (order_of lib m) k) (not (reaches lib (e.processes pid) k)) both)
+    let c = board_entered b v is in
+    let it = new_resident b v is k new in
+    let one : a ≡ it.residence =
+    serials_are_own lib b.failing (fixed_bytes lib) c.history j k a it.residence (legal_entered b v is) (residence_is lib (state_of c) pid j a (attached_on b v is j a there)) it.there (same ∙ ap serial_of it.there)
     in
-    let more = one_more_is_legal lib b.failing (fixed_bytes lib) b.history x is.legal is.accepted.follows in
-    let resident = found (residence_of after k) (resident_by lib after pid k (reached_is_resident lib b.failing (fixed_bytes lib) (b.history ++ x ∷ []) more k) process reached) in
-    let stands : attached_residence lib after pid k ≡ Some resident.0 = attached_is_resident lib after pid k reached ∙ resident.1 in
-    let old : attached_residence lib after pid j ≡ Some a = attached_on b v how m fresh calls j a is there in
-    let one : a ≡ resident.0 =
-    serials_are_own lib b.failing (fixed_bytes lib) (b.history ++ x ∷ []) j k a resident.0 more (residence_is lib after pid j a old) resident.1 (same ∙ ap serial_of resident.1)
-    in
-    let number : j ≡ k = sym (attached_is lib e pid j a there).1 ∙ ap (λ (z : Residence). z.«module») one ∙ (attached_is lib after pid k resident.0 stands).1 in
+    let number : j ≡ k = sym (attached_is lib e pid j a there).1 ∙ ap (λ (z : Residence). z.«module») one ∙ it.«module» in
     let before : reaches lib (e.processes pid) k ≡ true = ap (reaches lib (e.processes pid)) (sym number) ∙ (attached_is lib e pid j a there).0 in
-    let wrong : not true ≡ true = sym (ap not before) ∙ and_right (is_among (order_of lib m) k) (not (reaches lib (e.processes pid) k)) both in
+    let wrong : not true ≡ true = sym (ap not before) ∙ and_right (is_among (order_of lib is.m) k) (not (reaches lib (e.processes pid) k)) (sym (joined_is lib e pid is.m k) ∙ new) in
     cc
 
-pub new_stay_apart : (b : BoardState) (v : ProcessView) (how : How) (m : ℕ) (fresh : List Fresh) (calls : List Call) (k : ℕ) → is_among pids v.holding.pid ≡ true → IsDoneAs b v how m fresh calls →
-    is_among (joined b.library (state_of b) v.holding.pid m) k ≡ true →
-    All (λ (r : ResidenceFor). r.serial ≡ serial_of (residence_of (state_after b.library b.failing (b.history ++ entry_of b v.holding.pid (enter how m) ∷ [])) k) → ⊥) v.residences
-new_stay_apart b v how m fresh calls k process is new =
+pub new_stay_apart : (b : BoardState) (v : ProcessView) (is : IsEntered b v) (k : ℕ) → is_among (modules_joined b v is) k ≡ true →
+    All (λ (r : ResidenceFor). r.serial ≡ serial_of (residence_of (state_of (board_entered b v is)) k) → ⊥) v.residences
+new_stay_apart b v is k new =
     let d : ResidenceFor = record { library = []; serial = 0; «module» = 0; bases = record { mods = [] } } in
-    All-from_get_or (λ (r : ResidenceFor). r.serial ≡ serial_of (residence_of (state_after b.library b.failing (b.history ++ entry_of b v.holding.pid (enter how m) ∷ [])) k) → ⊥) v.residences d
+    All-from_get_or (λ (r : ResidenceFor). r.serial ≡ serial_of (residence_of (state_of (board_entered b v is)) k) → ⊥) v.residences d
     (λ i u same.
     let r = get_or v.residences i d in
-    let own = attached b v i r is.stands u (get_or_default v.residences i d r u) in
-    unlike b v how m fresh calls r.«module» k own.0 process is new own.1.there (own.1.serial ∙ same))
+    let own = attached b v i r is.asked.stands u (get_or_default v.residences i d r u) in
+    unlike b v is r.«module» k own.0 new own.1.there (own.1.serial ∙ same))
 
 none_has : (lib : Library) (contents : Held) (e : Eager) (pid n : ℕ) (q : PageId) → ((j : ℕ) (a : Residence) → attached_residence lib e pid j ≡ Some a → a.serial ≡ n → ⊥) → (ps : List Mapped) → AllByRecursion (IsMapped lib contents e pid) ps →
     has_page (map (λ (p : Mapped). p.of) ps) n q ≡ false
@@ -460,8 +370,7 @@ none_has lib contents e pid n q none (p ∷ ps) all =
     by_test false is = is
     by_test true is = absurd (none all.0.residence.«module» all.0.residence all.0.there (sym all.0.serial ∙ same_number p.of.serial n is))
 
-pub new_page_unmapped : (b : BoardState) (v : ProcessView) (how : How) (m : ℕ) (fresh : List Fresh) (calls : List Call) (k : ℕ) → is_among pids v.holding.pid ≡ true → IsDoneAs b v how m fresh calls →
-    is_among (joined b.library (state_of b) v.holding.pid m) k ≡ true → (q : PageId) →
-    has_page (mapped_pages v.holding) (serial_of (residence_of (state_after b.library b.failing (b.history ++ entry_of b v.holding.pid (enter how m) ∷ [])) k)) q ≡ false
-new_page_unmapped b v how m fresh calls k process is new q =
-    none_has b.library (fixed_bytes b.library) (state_of b) v.holding.pid _ q (λ j a there same. unlike b v how m fresh calls j k a process is new there same) v.holding.mapped is.stands.stands.view.mapped
+pub new_page_unmapped : (b : BoardState) (v : ProcessView) (is : IsEntered b v) (k : ℕ) → is_among (modules_joined b v is) k ≡ true → (q : PageId) →
+    has_page (mapped_pages v.holding) (serial_of (residence_of (state_of (board_entered b v is)) k)) q ≡ false
+new_page_unmapped b v is k new q =
+    none_has b.library (fixed_bytes b.library) (state_of b) v.holding.pid _ q (λ j a there same. unlike b v is j k a new there same) v.holding.mapped is.asked.stands.stands.view.mapped

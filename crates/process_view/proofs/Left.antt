@@ -1,147 +1,347 @@
 -- A view after a free or an exit.
-use Rattle.std.proofs.Common.{◌≡◌, ℕ, ◌==◌, ◌++◌, ◌∷◌, [], List, true, false, cond, Some, None, option_map, map, length, refl, sym, ap, subst, ◌∙◌, arith}
-use Rattle.std.specs.List.{AllByRecursion, find}
-use Rattle.std.specs.Prelude.{All}
-use Rattle.std.proofs.lemmas.Bool.Decides.{nat_tests}
+use Rattle.std.proofs.Common.{◌≡◌, ℕ, zero, suc, ◌<◌, ◌==◌, ◌&&◌, ◌||◌, Bool, true, false, cond, not, List, [], ◌∷◌, map, filter, length, Option, Some, None, option_map, get_or, refl, sym, ap, subst, ◌∙◌, arith}
+use Rattle.std.specs.Prelude.{All, is_some, slice_index}
+use Rattle.std.specs.List.{AllByRecursion, find, list_any}
+use Rattle.std.proofs.lemmas.List.Elements.{All-contains_itself, All-from_get_or, recursion_from_All}
+use Rattle.std.proofs.lemmas.List.{get_or_default}
+use Rattle.lx_types.specs.declared.parts.Parts.{Parts}
+use Rattle.lx_model.specs.Laws.{OrderIsInLibrary, OrderHasEachOnce}
 use Rattle.page_frames.specs.Residences.{ResidenceFor}
 use Rattle.load_model.specs.declared.commands.Command.{Command}
-use Rattle.load_model.specs.declared.commands.Command.TheVariants as commands
-use Rattle.load_model.specs.declared.deeds.Entry.{Entry}
-use Rattle.load_model.specs.Modules.{Library, Held, fixed_bytes}
-use Rattle.load_model.specs.State.{Failing, Process, Eager, pids, is_among, reaches, residence_of, attached_residence, with_process}
-use Rattle.load_model.specs.declared.commands.Ask.{Ask}
+use Rattle.load_model.specs.Modules.{Library, fixed_bytes, number_of, order_of}
+use Rattle.load_model.specs.State.{Process, Eager, is_among, reaches, residence_of, attached_residence, with_process, Residence}
 use Rattle.load_model.specs.declared.commands.Ask.TheVariants.{Exit as exit}
 use Rattle.load_model.specs.Asks.{deed_of}
-use Rattle.load_model.specs.Step.{ask_by}
-use Rattle.load_model.specs.Histories.{state_after, Follows, Legal}
-use Rattle.load_model.specs.Leaving.{exiting, keeping, after_leaving}
+use Rattle.load_model.specs.Leaving.{keeping, after_leaving, left_serials}
+use Rattle.load_model.specs.declared.deeds.Fresh.{Fresh}
+use Rattle.load_model.specs.Laws.{ResidenceStays}
+use Rattle.load_model.specs.Alike.{BasesSeenStay}
 use Rattle.load_model.specs.ProcessCounts.{ProcessCounts, AreCountsOf}
-use Rattle.load_model.specs.Views.{Mapped, fresh_of, IsMapped, state_for}
+use Rattle.load_model.specs.Views.{Holding, Mapped, IsMapped, fresh_of}
+use Rattle.load_model.specs.ViewAnswers.{view_refusal, view_free_refusal}
 use Rattle.load_model.specs.ViewLeaving.{GivesUpTo, mapped_kept, KeptAreReached, KeptAreTouched, StandsLeft}
 use Rattle.load_model.specs.Outcomes.{done, is_done, IsTold}
-use Rattle.load_model.specs.ViewAnswers.{view_refusal}
+use Rattle.load_model.proofs.Bools.{or_true}
 use Rattle.load_model.proofs.Growing.{one_more_is_after}
-use Rattle.load_model.proofs.ViewLeaving.{given_up}
-use Rattle.load_core.specs.BoardState.{BoardState, IsLegal, state_of, entry_of, with_entry}
-use Rattle.process_view.specs.ProcessViews.{ProcessView, StandsAt, AreShown, fresh_shown, at_front}
+use Rattle.load_model.proofs.SerialsOwn.{serials_are_own}
+use Rattle.load_model.proofs.KeptLeaving.{GivesUp, freeing_gives_up, exiting_gives_up}
+use Rattle.load_model.proofs.Residents.{legal_kept, reached_is_resident}
+use Rattle.load_model.proofs.ViewLeaving.{given_up as state_given_up, residence_behind, all_filter}
+use Rattle.load_model.proofs.ViewReplies.{residence_is, attached_is_resident}
+use Rattle.mod_refs.specs.declared.changes.Leaving.{Leaving}
+use Rattle.mod_refs.specs.declared.changes.Leaving.TheVariants.{One, All as Everything}
+use Rattle.mod_refs.specs.Changes.{given_up}
+use Rattle.mod_refs.specs.CountLaws.{HeldIsCounted}
+use Rattle.load_core.specs.BoardState.{BoardState, state_of, entry_of}
+use Rattle.load_core.specs.Leaves.{asked_by}
+use Rattle.load_core.specs.Told.{residence_shown}
 use Rattle.process_pages.specs.ReachedResidences.{AreApart, residences_in}
 use Rattle.process_pages.specs.declared.reached_residences.ReachedResidence.{ReachedResidence}
-use Rattle.process_view.specs.Deeds.{Did}
-use Rattle.process_view.proofs.Accepting.{IsAccepted, accepted}
+use Rattle.process_pages.proofs.Placing.{same_number}
+use Rattle.process_view.specs.ProcessViews.{ProcessView, StandsAt, AreShown, fresh_shown, at_front}
+use Rattle.process_view.specs.declared.plans.Plan.TheVariants as plans
+use Rattle.process_view.specs.Leaves.{CanLeave, view_left}
+use Rattle.process_view.specs.Plans.{IsPlan}
+use Rattle.process_view.specs.Deeds.{Did, bytes_read}
+use Rattle.process_view.proofs.Accepting.{IsAsked, with_asked}
+use Rattle.process_view.proofs.Entered.{resident_by, found, unreached_is}
+use Rattle.process_view.proofs.Shown.{self, attached, shown_on}
 
--- ---- the state
+-- ---- the entry
 
-self : (n : ℕ) → (n == n) ≡ true
-self n = grind (arith, nat_tests)
+-- the process that gave this up
+abbrev given : BoardState → ProcessView → Leaving → Process
+given b v what = given_up what ((state_of b).processes v.holding.pid)
+
+gives : (b : BoardState) (pid : ℕ) (what : Leaving) → GivesUpTo (entry_of b pid (asked_by what)).deed ((state_of b).processes pid) (given_up what ((state_of b).processes pid))
+unfolding deed_of
+gives b pid (One m) = refl
+gives b pid Everything = refl
+
+gives_up : (lib : Library) (what : Leaving) (p : Process) → GivesUp lib p (given_up what p)
+gives_up lib (One m) p = freeing_gives_up lib m p
+gives_up lib Everything p = exiting_gives_up lib p
+
+told_left : (b : BoardState) (pid n : ℕ) (what : Leaving) → IsTold n (entry_of b pid (asked_by what)).deed (done n)
+unfolding deed_of
+told_left b pid n (One m) = is_done tt
+told_left b pid n Everything = is_done tt
+
+pub read_left : (b : BoardState) (pid : ℕ) (what : Leaving) → [] ≡ bytes_read (entry_of b pid (asked_by what)).deed
+unfolding deed_of
+read_left b pid (One m) = refl
+read_left b pid Everything = refl
 
 leaving_process : (lib : Library) (e : Eager) (pid : ℕ) (p : Process) → (after_leaving lib e pid p).processes pid ≡ keeping lib e p
 unfolding after_leaving with_process
 leaving_process lib e pid p = ap (λ c. cond c (keeping lib e p) (e.processes pid)) (self pid)
 
-pub state_left : (b : BoardState) (x : Entry) (after : Process) → GivesUpTo x.deed ((state_of b).processes x.pid) after →
-    state_after b.library b.failing (b.history ++ x ∷ []) ≡ after_leaving b.library (state_of b) x.pid after
-state_left b x after gives = one_more_is_after b.library b.failing b.history x ∙ (given_up b.library (state_of b) x.pid x.deed after gives).2
+state_left : (b : BoardState) (v : ProcessView) (what : Leaving) → state_of (with_asked b v (asked_by what)) ≡ after_leaving b.library (state_of b) v.holding.pid (given b v what)
+state_left b v what =
+    let x = entry_of b v.holding.pid (asked_by what) in
+    one_more_is_after b.library b.failing b.history x ∙ (state_given_up b.library (state_of b) v.holding.pid x.deed (given b v what) (gives b v.holding.pid what)).2
 
-pub process_left : (b : BoardState) (x : Entry) (after : Process) → GivesUpTo x.deed ((state_of b).processes x.pid) after →
-    (state_after b.library b.failing (b.history ++ x ∷ [])).processes x.pid ≡ keeping b.library (state_of b) after
-process_left b x after gives = ap (λ (e : Eager). e.processes x.pid) (state_left b x after gives) ∙ leaving_process b.library (state_of b) x.pid after
+process_left : (b : BoardState) (v : ProcessView) (what : Leaving) → (state_of (with_asked b v (asked_by what))).processes v.holding.pid ≡ keeping b.library (state_of b) (given b v what)
+process_left b v what = ap (λ (e : Eager). e.processes v.holding.pid) (state_left b v what) ∙ leaving_process b.library (state_of b) v.holding.pid (given b v what)
 
-pub unattached : (lib : Library) (e : Eager) (pid k : ℕ) → reaches lib (e.processes pid) k ≡ false → attached_residence lib e pid k ≡ None
-unfolding attached_residence
-unattached lib e pid k is = ap (λ c. cond c (residence_of e k) None) is
-
-reaches_nothing : (lib : Library) (p : Process) (k : ℕ) → reaches lib (exiting p) k ≡ false
-unfolding reaches
-reaches_nothing lib p k = refl
-
-keeps_nothing : (lib : Library) (e : Eager) (p : Process) (k : ℕ) → reaches lib (keeping lib e (exiting p)) k ≡ false
+keeps_reach : (lib : Library) (e : Eager) (p : Process) (k : ℕ) → reaches lib (keeping lib e p) k ≡ reaches lib p k
 unfolding reaches keeping
-keeps_nothing lib e p k = refl
+keeps_reach lib e p k = refl
 
--- ---- pages
+-- ---- the residences that are kept
 
-none_kept : KeptAreReached → (lib : Library) (failing : Failing) (contents : Held) (h : List Entry) (x : Entry) (after : Process) → Legal lib failing contents h → Follows lib failing contents h x →
-    GivesUpTo x.deed ((state_after lib failing h).processes x.pid) after → ((k : ℕ) → reaches lib after k ≡ false) → (ps : List Mapped) → AllByRecursion (IsMapped lib contents (state_after lib failing h) x.pid) ps →
-    mapped_kept lib (state_after lib failing h) after ps ≡ []
-none_kept kept lib failing contents h x after legal follows gives none [] all = refl
-none_kept kept lib failing contents h x after legal follows gives none (p ∷ ps) all =
-    ap (λ c. cond c (p ∷ mapped_kept lib (state_after lib failing h) after ps) (mapped_kept lib (state_after lib failing h) after ps))
-    (kept lib failing contents h x after p legal follows gives all.0 ∙ none all.0.residence.«module»)
-    ∙ none_kept kept lib failing contents h x after legal follows gives none ps all.1
+-- those of modules that the process still reaches
+abbrev pub stays_kept : Library → Process → List ResidenceFor → List ResidenceFor
+stays_kept lib after rs = filter (λ (r : ResidenceFor). reaches lib after r.«module») rs
 
--- ---- the deed
+found_kept : (g : ℕ → Bool) (k : ℕ) (rs : List ResidenceFor) →
+    find (λ (s : Fresh). s.«module» == k) (map fresh_shown (filter (λ (r : ResidenceFor). g r.«module») rs)) ≡ cond (g k) (find (λ (s : Fresh). s.«module» == k) (map fresh_shown rs)) None
+found_kept g k [] = none (g k)
+  where
+    none : (b : Bool) → ◌≡◌ {A = Option Fresh} None (cond b None None)
+    none true = refl
+    none false = refl
+found_kept g k (r ∷ rs) = by_tests (g r.«module») (r.«module» == k) refl refl (found_kept g k rs)
+  where
+    at : Fresh → Bool
+    at s = s.«module» == k
 
--- the view that has given up so much
-abbrev pub left_view : BoardState → ProcessView → Process → ProcessCounts → List ResidenceFor → List Mapped → ℕ → ℕ → ℕ → ProcessView
-left_view b v after counts rs pages n room more = record {
+    kept : List ResidenceFor
+    kept = filter (λ (q : ResidenceFor). g q.«module») rs
+
+    by_tests : (b c : Bool) → g r.«module» ≡ b → (r.«module» == k) ≡ c → find at (map fresh_shown kept) ≡ cond (g k) (find at (map fresh_shown rs)) None →
+        find at (map fresh_shown (cond (g r.«module») (r ∷ kept) kept)) ≡ cond (g k) (cond (r.«module» == k) (Some (fresh_shown r)) (find at (map fresh_shown rs))) None
+    by_tests true true is same later = let passes : g k ≡ true = ap g (sym (same_number r.«module» k same)) ∙ is in rw (is, same, passes) refl
+    by_tests true false is same later = rw (is, same) later
+    by_tests false true is same later = let fails : g k ≡ false = ap g (sym (same_number r.«module» k same)) ∙ is in rw (is, same, fails) (rw fails at later)
+    by_tests false false is same later = rw (is, same) later
+
+-- ---- after it
+
+attached_behind : (b : BoardState) (v : ProcessView) (command : Command) (what : Leaving) (k : ℕ) (r : Residence) → IsAsked b v command (asked_by what) → attached_residence b.library (state_of b) v.holding.pid k ≡ Some r →
+    reaches b.library (given b v what) k ≡ true → attached_residence b.library (state_of (with_asked b v (asked_by what))) v.holding.pid k ≡ Some r
+attached_behind b v command what k r asked is reached =
+    ap (λ (e : Eager). attached_residence b.library e v.holding.pid k) (state_left b v what)
+    ∙ residence_behind b.library (state_of b) v.holding.pid (given b v what) k r asked.process (legal_kept b.library b.failing (fixed_bytes b.library) b.history asked.legal)
+    (gives_up b.library what ((state_of b).processes v.holding.pid)) is reached
+
+stays_behind : (b : BoardState) (v : ProcessView) (command : Command) (what : Leaving) (k : ℕ) → IsAsked b v command (asked_by what) →
+    find (λ (s : Fresh). s.«module» == k) (map fresh_shown (stays_kept b.library (given b v what) v.residences))
+    ≡ option_map fresh_of (attached_residence b.library (state_of (with_asked b v (asked_by what))) v.holding.pid k)
+stays_behind b v command what k asked = by_reach (g k) refl
+  where
+    lib : Library
+    lib = b.library
+
+    pid : ℕ
+    pid = v.holding.pid
+
+    after : Eager
+    after = state_of (with_asked b v (asked_by what))
+
+    at : Fresh → Bool
+    at s = s.«module» == k
+
+    g : ℕ → Bool
+    g n = reaches lib (given b v what) n
+
+    old : find at (map fresh_shown v.residences) ≡ option_map fresh_of (attached_residence lib (state_of b) pid k)
+    old = ap (find at) (sym asked.stands.residences) ∙ asked.stands.stands.view.residences k
+
+    by_reach : (c : Bool) → g k ≡ c → find at (map fresh_shown (filter (λ (r : ResidenceFor). g r.«module») v.residences)) ≡ option_map fresh_of (attached_residence lib after pid k)
+    by_reach true h =
+        let before : reaches lib ((state_of b).processes pid) k ≡ true = (gives_up lib what ((state_of b).processes pid)).reaches k h in
+        let resident = found (residence_of (state_of b) k) (resident_by lib (state_of b) pid k (reached_is_resident lib b.failing (fixed_bytes lib) b.history asked.legal k) asked.process before) in
+        let there : attached_residence lib (state_of b) pid k ≡ Some resident.0 = attached_is_resident lib (state_of b) pid k before ∙ resident.1 in
+        found_kept g k v.residences ∙ ap (λ c. cond c (find at (map fresh_shown v.residences)) None) h ∙ old ∙ ap (option_map fresh_of) there ∙ sym (ap (option_map fresh_of) (attached_behind b v command what k resident.0 asked there h))
+    by_reach false h =
+        found_kept g k v.residences ∙ ap (λ c. cond c (find at (map fresh_shown v.residences)) None) h
+        ∙ sym
+        (ap (option_map fresh_of)
+        (unreached_is lib after pid k (ap (λ (p : Process). reaches lib p k) (process_left b v what) ∙ keeps_reach lib (state_of b) (given b v what) k ∙ h)))
+
+shown_kept : ResidenceStays → BasesSeenStay → (b : BoardState) (v : ProcessView) (command : Command) (what : Leaving) → IsAsked b v command (asked_by what) →
+    AreShown b.library (state_of (with_asked b v (asked_by what))) (stays_kept b.library (given b v what) v.residences)
+shown_kept still bases b v command what asked =
+    let lib = b.library in
+    let at = asked.stands in
+    let x = entry_of b v.holding.pid (asked_by what) in
+    let after = state_of (with_asked b v (asked_by what)) in
+    let d : ResidenceFor = record { library = []; serial = 0; «module» = 0; bases = record { mods = [] } } in
+    let Q : ResidenceFor → Type 0 = λ r. r ≡ residence_shown lib after r.«module» in
+    let P : ResidenceFor → Type 0 = λ r. reaches lib (given b v what) r.«module» ≡ true → r ≡ residence_shown lib after r.«module» in
+    all_filter P Q (λ (r : ResidenceFor). reaches lib (given b v what) r.«module») (λ r reached is. is reached) v.residences
+    (recursion_from_All P v.residences
+    (All-from_get_or P v.residences d
+    (λ i u reached.
+    let r = get_or v.residences i d in
+    let here : r ≡ get_or v.residences i r = get_or_default v.residences i d r u in
+    let own = attached b v i r at u here in
+    shown_on still bases b v x i r asked.legal asked.follows at u here (ap (λ (o : Option Residence). is_some o) (residence_is lib after v.holding.pid r.«module» own.0 (attached_behind b v command what r.«module» own.0 asked own.1.there reached))))))
+
+-- ---- the pages that are kept
+
+-- those of residences that are kept
+abbrev pub pages_of_kept : List ResidenceFor → List Mapped → List Mapped
+pages_of_kept rs ps = filter (λ (p : Mapped). list_any (λ (r : ResidenceFor). r.serial == p.of.serial) rs) ps
+
+any_filter : {X : Type 0} (test p : X → Bool) (b : Bool) (xs : List X) → AllByRecursion (λ x. test x ≡ true → p x ≡ b) xs → list_any test (filter p xs) ≡ b && list_any test xs
+any_filter test p true [] all = refl
+any_filter test p false [] all = refl
+any_filter test p b (x ∷ xs) all = by_tests (p x) (test x) refl refl (any_filter test p b xs all.1)
+  where
+    by_tests : (c d : Bool) → p x ≡ c → test x ≡ d → list_any test (filter p xs) ≡ b && list_any test xs → list_any test (cond (p x) (x ∷ filter p xs) (filter p xs)) ≡ b && (test x || list_any test xs)
+    by_tests true true e f later = let is : b ≡ true = sym (all.0 f) ∙ e in rw (e, f, is) refl
+    by_tests true false e f later = rw (e, f) later
+    by_tests false true e f later = let is : b ≡ false = sym (all.0 f) ∙ e in rw (e, f, is) (rw is at later)
+    by_tests false false e f later = rw (e, f) later
+
+any_found : (k : ℕ) (s : Fresh) (rs : List ResidenceFor) → find (λ (t : Fresh). t.«module» == k) (map fresh_shown rs) ≡ Some s → list_any (λ (r : ResidenceFor). r.serial == s.serial) rs ≡ true
+any_found k s [] e = absurd cc
+any_found k s (r ∷ rs) e = by_test (r.«module» == k) refl (any_found k s rs)
+  where
+    by_test : (b : Bool) → (r.«module» == k) ≡ b → (find (λ (t : Fresh). t.«module» == k) (map fresh_shown rs) ≡ Some s → list_any (λ (q : ResidenceFor). q.serial == s.serial) rs ≡ true) →
+        ((r.serial == s.serial) || list_any (λ (q : ResidenceFor). q.serial == s.serial) rs) ≡ true
+    by_test true is later =
+        let some : Some (fresh_shown r) ≡ Some s = rw is at e in
+        let same : fresh_shown r ≡ s = cc in
+        ap (λ (t : Fresh). (r.serial == t.serial) || list_any (λ (q : ResidenceFor). q.serial == t.serial) rs) (sym same) ∙ ap (λ c. c || list_any (λ (q : ResidenceFor). q.serial == r.serial) rs) (self r.serial)
+    by_test false is later = ap (λ c. (r.serial == s.serial) || c) (later (rw is at e)) ∙ or_true (r.serial == s.serial)
+
+-- a page lies in one of them exactly where the process still reaches its residence's module
+page_kept : (b : BoardState) (v : ProcessView) (command : Command) (what : Leaving) (p : Mapped) → IsAsked b v command (asked_by what) → (it : IsMapped b.library (fixed_bytes b.library) (state_of b) v.holding.pid p) →
+    list_any (λ (r : ResidenceFor). r.serial == p.of.serial) (stays_kept b.library (given b v what) v.residences) ≡ reaches b.library (given b v what) it.residence.«module»
+page_kept b v command what p asked it =
+    let lib = b.library in
+    let pid = v.holding.pid in
+    let at = asked.stands in
+    let k = it.residence.«module» in
+    let g : ℕ → Bool = λ n. reaches lib (given b v what) n in
+    let test : ResidenceFor → Bool = λ r. r.serial == p.of.serial in
+    let P : ResidenceFor → Type 0 = λ r. test r ≡ true → g r.«module» ≡ g k in
+    let d : ResidenceFor = record { library = []; serial = 0; «module» = 0; bases = record { mods = [] } } in
+    let there : find (λ (t : Fresh). t.«module» == k) (map fresh_shown v.residences) ≡ Some (fresh_of it.residence) =
+    ap (find (λ (t : Fresh). t.«module» == k)) (sym at.residences) ∙ at.stands.view.residences k ∙ ap (option_map fresh_of) it.there
+    in
+    any_filter test (λ r. g r.«module») (g k) v.residences
+    (recursion_from_All P v.residences
+    (All-from_get_or P v.residences d
+    (λ i u is.
+    let r = get_or v.residences i d in
+    let own = attached b v i r at u (get_or_default v.residences i d r u) in
+    let same : own.0 ≡ it.residence =
+    serials_are_own lib b.failing (fixed_bytes lib) b.history r.«module» k own.0 it.residence asked.legal (residence_is lib (state_of b) pid r.«module» own.0 own.1.there) (residence_is lib (state_of b) pid k it.residence it.there)
+    (own.1.serial ∙ same_number r.serial p.of.serial is ∙ it.serial)
+    in
+    ap g (sym own.1.«module» ∙ ap (λ (z : Residence). z.«module») same))))
+    ∙ ap (λ c. g k && c) (ap (λ (n : ℕ). list_any (λ (r : ResidenceFor). r.serial == n) v.residences) it.serial ∙ any_found k (fresh_of it.residence) v.residences there) ∙ and_true (g k)
+  where
+    and_true : (b : Bool) → (b && true) ≡ b
+    and_true true = refl
+    and_true false = refl
+
+pages_are : (b : BoardState) (v : ProcessView) (command : Command) (what : Leaving) → KeptAreReached → IsAsked b v command (asked_by what) → (ps : List Mapped) →
+    AllByRecursion (IsMapped b.library (fixed_bytes b.library) (state_of b) v.holding.pid) ps →
+    pages_of_kept (stays_kept b.library (given b v what) v.residences) ps ≡ mapped_kept b.library (state_of b) (given b v what) ps
+pages_are b v command what kept asked [] all = refl
+pages_are b v command what kept asked (p ∷ ps) all =
+    let rs = stays_kept b.library (given b v what) v.residences in
+    let one : list_any (λ (r : ResidenceFor). r.serial == p.of.serial) rs ≡ not (is_among (left_serials b.library (state_of b) (given b v what)) p.of.serial) =
+    page_kept b v command what p asked all.0
+    ∙ sym (kept b.library b.failing (fixed_bytes b.library) b.history (entry_of b v.holding.pid (asked_by what)) (given b v what) p asked.legal asked.follows (gives b v.holding.pid what) all.0)
+    in
+    ap (λ c. cond c (p ∷ pages_of_kept rs ps) (pages_of_kept rs ps)) one
+    ∙ ap (λ xs. cond (not (is_among (left_serials b.library (state_of b) (given b v what)) p.of.serial)) (p ∷ xs) xs) (pages_are b v command what kept asked ps all.1)
+
+-- the pages that a view keeps are those of the residences that it keeps
+pages_left : (b : BoardState) (v : ProcessView) (command : Command) (what : Leaving) → KeptAreReached → IsAsked b v command (asked_by what) →
+    pages_of_kept (stays_kept b.library (given b v what) v.residences) v.holding.mapped ≡ mapped_kept b.library (state_of b) (given b v what) v.holding.mapped
+pages_left b v command what kept asked = pages_are b v command what kept asked v.holding.mapped asked.stands.stands.view.mapped
+
+-- ---- the view
+
+-- the view with these residences and these pages
+abbrev kept_view : BoardState → ProcessView → Leaving → ProcessCounts → List ResidenceFor → List Mapped → ℕ → ℕ → ℕ → ProcessView
+kept_view b v what counts rs pages n room more = record {
   library = v.library;
-  holding = record v.holding { ended = after.ended; counts = counts; residences = map fresh_shown rs; mapped = pages; front = n };
+  holding = record v.holding { ended = (given b v what).ended; counts = counts; residences = map fresh_shown rs; mapped = pages; front = n };
   residences = rs;
   page_room = room;
   residence_room = more;
 }
 
-pub did_left : StandsLeft → KeptAreTouched → (b : BoardState) (v : ProcessView) (command : Command) (ask : Ask) (after : Process) (counts : ProcessCounts) (rs : List ResidenceFor) (room more : ℕ) → IsLegal b → StandsAt b v → IsAccepted b v ask →
-    ask_by b.library (state_for b.library b.failing v.holding b.history) v.holding.pid command ≡ Some ask → GivesUpTo (entry_of b v.holding.pid ask).deed ((state_of b).processes v.holding.pid) after →
-    AreCountsOf b.library (keeping b.library (state_of b) after) counts →
-    ((k : ℕ) → find (λ s. s.«module» == k) (map fresh_shown rs) ≡ option_map fresh_of (attached_residence b.library (state_after b.library b.failing (b.history ++ entry_of b v.holding.pid ask ∷ [])) v.holding.pid k)) →
-    AreShown b.library (state_after b.library b.failing (b.history ++ entry_of b v.holding.pid ask ∷ [])) rs →
-    IsTold (length (b.history ++ entry_of b v.holding.pid ask ∷ [])) (entry_of b v.holding.pid ask).deed (done (length (b.history ++ entry_of b v.holding.pid ask ∷ []))) →
-    Did b (with_entry b (entry_of b v.holding.pid ask)) v
-    (left_view b v after counts rs (mapped_kept b.library (state_of b) after v.holding.mapped) (length (b.history ++ entry_of b v.holding.pid ask ∷ [])) room more) command
-    (done (length (b.history ++ entry_of b v.holding.pid ask ∷ [])))
-did_left left touched b v command ask after counts rs room more legal at acc asked gives rows residences shown told =
-    let x = entry_of b v.holding.pid ask in
+none_stays : (lib : Library) (p : Process) (rs : List ResidenceFor) → stays_kept lib (given_up Everything p) rs ≡ []
+unfolding reaches
+none_stays lib p [] = refl
+none_stays lib p (r ∷ rs) = none_stays lib p rs
+
+no_pages : (ps : List Mapped) → pages_of_kept [] ps ≡ []
+no_pages [] = refl
+no_pages (p ∷ ps) = no_pages ps
+
+left_is : (b : BoardState) (v : ProcessView) (what : Leaving) (counts : ProcessCounts) (n room more : ℕ) → StandsAt b v →
+    at_front n (view_left v what ((state_of b).processes v.holding.pid) counts room more)
+    ≡ kept_view b v what counts (stays_kept b.library (given b v what) v.residences) (pages_of_kept (stays_kept b.library (given b v what) v.residences) v.holding.mapped) n room more
+left_is b v (One m) counts n room more at = rw (at.library, at.stands.view.ended) refl
+left_is b v Everything counts n room more at = rw (none_stays b.library ((state_of b).processes v.holding.pid) v.residences, no_pages v.holding.mapped) refl
+
+pub did_left : StandsLeft → KeptAreReached → KeptAreTouched → ResidenceStays → BasesSeenStay → (b : BoardState) (v : ProcessView) (command : Command) (what : Leaving) (counts : ProcessCounts) (room more : ℕ) → IsAsked b v command (asked_by what) →
+    AreCountsOf b.library (keeping b.library (state_of b) (given b v what)) counts →
+    Did b (with_asked b v (asked_by what)) v (at_front (length (with_asked b v (asked_by what)).history) (view_left v what ((state_of b).processes v.holding.pid) counts room more)) command
+    (done (length (with_asked b v (asked_by what)).history))
+did_left left kept touched still bases b v command what counts room more is rows =
+    let x = entry_of b v.holding.pid (asked_by what) in
+    let after = given b v what in
+    let n = length (with_asked b v (asked_by what)).history in
+    let rs = stays_kept b.library after v.residences in
     let R : Process → Type 0 = λ p. AreCountsOf b.library p counts in
-    record {
-      ask = ask;
-      asked = asked;
+    let D : ProcessView → Type 0 = λ w. Did b (with_asked b v (asked_by what)) v w command (done n) in
+    subst D (sym (left_is b v what counts n room more is.stands ∙ ap (λ (ms : List Mapped). kept_view b v what counts rs ms n room more) (pages_left b v command what kept is)))
+    (record {
+      ask = asked_by what;
+      asked = is.asked;
       adds = refl;
-      follows = acc.follows;
-      told = told;
+      follows = is.follows;
+      told = told_left b v.holding.pid n what;
       stands = record {
-        library = at.library;
+        library = is.stands.library;
         residences = refl;
         stands =
-            left b.library b.failing (fixed_bytes b.library) v.holding b.history x after counts (map fresh_shown rs) legal acc.follows refl gives (subst R (sym (process_left b x after gives)) rows) residences at.stands;
-        shown = shown;
+            left b.library b.failing (fixed_bytes b.library) v.holding b.history x after counts (map fresh_shown rs) is.legal is.follows refl (gives b v.holding.pid what) (subst R (sym (process_left b v what)) rows)
+            (λ k. stays_behind b v command what k is) is.stands.stands;
+        shown = shown_kept still bases b v command what is;
       };
       library = refl;
       pid = refl;
-      mapped = touched b.library v.holding (state_of b) x.deed after gives;
-    }
+      mapped = touched b.library v.holding (state_of b) x.deed after (gives b v.holding.pid what);
+    })
 
-gives_all : (b : BoardState) (pid : ℕ) → GivesUpTo (entry_of b pid exit).deed ((state_of b).processes pid) (exiting ((state_of b).processes pid))
-unfolding deed_of
-gives_all b pid = refl
+-- ---- what is held
 
-pub accepted_exit : (b : BoardState) (v : ProcessView) → is_among pids v.holding.pid ≡ true → StandsAt b v → view_refusal v.library v.holding commands.Exit ≡ None → IsAccepted b v exit
-accepted_exit b v process at e = accepted b v commands.Exit exit process at e tt refl
+pub held_by : (v : Holding) (a : Bool) (n : ℕ) → view_free_refusal (record v { ended = a; counts = record v.counts { loads = n ∷ [] } }) (Some 0) ≡ None → 0 < n
+held_by v true zero e = absurd cc
+held_by v false zero e = absurd cc
+held_by v a (suc n) e = omega arith
 
-told_exit : (b : BoardState) (pid n : ℕ) → IsTold n (entry_of b pid exit).deed (done n)
-unfolding deed_of
-told_exit b pid n = is_done tt
+pub held_free : (v : Holding) (o : Option ℕ) (m : ℕ) → view_free_refusal v o ≡ None → o ≡ Some m → 0 < slice_index v.counts.loads m
+held_free v o m e is = held_by v v.ended (slice_index v.counts.loads m) (ap (view_free_refusal v) (sym is) ∙ e)
 
-pub did_exit : StandsLeft → KeptAreReached → KeptAreTouched → (b : BoardState) (v : ProcessView) (counts : ProcessCounts) (room more : ℕ) → is_among pids v.holding.pid ≡ true → IsLegal b → StandsAt b v →
-    view_refusal v.library v.holding commands.Exit ≡ None → AreCountsOf b.library (keeping b.library (state_of b) (exiting ((state_of b).processes v.holding.pid))) counts →
-    Did b (with_entry b (entry_of b v.holding.pid exit)) v
-    (left_view b v (exiting ((state_of b).processes v.holding.pid)) counts [] [] (length (b.history ++ entry_of b v.holding.pid exit ∷ [])) room more) commands.Exit
-    (done (length (b.history ++ entry_of b v.holding.pid exit ∷ [])))
-did_exit left kept touched b v counts room more process legal at e rows =
-    let x = entry_of b v.holding.pid exit in
-    let after = exiting ((state_of b).processes v.holding.pid) in
-    let acc = accepted_exit b v process at e in
-    let gives = gives_all b v.holding.pid in
-    let P : List Mapped → Type 0 = λ ps.
-    Did b (with_entry b x) v (left_view b v after counts [] ps (length (b.history ++ x ∷ [])) room more) commands.Exit (done (length (b.history ++ x ∷ [])))
-    in
-    subst P (none_kept kept b.library b.failing (fixed_bytes b.library) b.history x after legal acc.follows gives (reaches_nothing b.library ((state_of b).processes v.holding.pid)) v.holding.mapped at.stands.view.mapped)
-    (did_left left touched b v commands.Exit exit after counts [] room more legal at acc refl gives rows
-    (λ k.
-    ap (option_map fresh_of)
-    (sym (unattached b.library (state_after b.library b.failing (b.history ++ x ∷ [])) v.holding.pid k
-    (ap (λ (p : Process). reaches b.library p k) (process_left b x after gives) ∙ keeps_nothing b.library (state_of b) ((state_of b).processes v.holding.pid) k))))
-    tt (told_exit b v.holding.pid _))
+-- what a plan gives up is held
+pub can_leave : OrderIsInLibrary → OrderHasEachOnce → HeldIsCounted → (b : BoardState) (v : ProcessView) (command : Command) (what : Leaving) → StandsAt b v → IsPlan v command (plans.Leave what) → CanLeave v what
+unfolding view_refusal order_of
+can_leave within once counted b v command (One m) at plan =
+    let lib = v.library in
+    let p = (state_of b).processes v.holding.pid in
+    let none = rw plan.means.1 at plan.accepted in
+    let held = held_free v.holding (number_of lib plan.means.0) m none plan.means.2.0 in
+    let R : List Parts → Type 0 = λ l. AreCountsOf l p v.holding.counts in (
+      plan.means.2.1,
+      held,
+      counted lib p v.holding.counts m (subst R (sym at.library) at.stands.view.counts) held
+          (λ k d u. within lib m (get_or (order_of lib m) k d) plan.means.2.1 (All-contains_itself (order_of lib m) k d u)),
+      once lib m,
+    )
+can_leave within once counted b v command Everything at plan = tt
 
 -- ---- nothing is kept
 
@@ -150,8 +350,3 @@ all_nothing P xs e = let A : List ReachedResidence → Type 0 = λ ys. All P ys 
 
 pub apart_nothing : (xs : List ReachedResidence) → xs ≡ [] → AreApart (residences_in xs)
 apart_nothing xs e = let A : List ReachedResidence → Type 0 = λ ys. AreApart (residences_in ys) in subst A (sym e) (λ i j d u w. absurd (omega (arith, w)))
-
-pub ended_is : (b : BoardState) (v : ProcessView) (p : Process) (counts : ProcessCounts) (n room more : ℕ) →
-    at_front n (record { library = v.library; holding = record v.holding { ended = true; counts = counts; residences = []; mapped = [] }; residences = []; page_room = room; residence_room = more })
-    ≡ left_view b v (exiting p) counts [] [] n room more
-ended_is b v p counts n room more = refl

@@ -5,8 +5,8 @@ pub mod Ranges
 pub mod Insides
 -- What a view finds by place is what it has by name.
 pub mod Lookups
--- What a place that a view does not refuse lies in.
-pub mod Classes
+-- What a view does not refuse of a place: where it lies, and that its pages are mapped.
+pub mod Used
 -- ---- what a view answers
 -- The view of a process that has done nothing.
 pub mod NewViews
@@ -16,6 +16,8 @@ pub mod Copies
 pub mod SharedReads
 -- What a view answers to a query and to the search for a resource, by the residence of the module.
 pub mod Asking
+-- The residences of a view: as they are shown, and as its process has attached them.
+pub mod Shown
 -- What a view does not refuse may be asked of a board, and its entry follows.
 pub mod Accepting
 -- Deeds of a view with a board.
@@ -45,5 +47,3 @@ pub mod Enters
 -- ---- frees and exits
 -- A view after a free or an exit.
 pub mod Left
--- A view after a free.
-pub mod Freed

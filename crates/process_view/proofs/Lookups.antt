@@ -1,6 +1,6 @@
 -- What a view finds by place is what it has by name.
-use Rattle.std.proofs.Common.{◌≡◌, ℕ, zero, suc, ◌+◌, ◌-◌, ◌*◌, ◌/◌, ◌<◌, ◌==◌, ◌&&◌, Bool, true, false, cond, not, List, [], map, length, Option, Some, None, option_map, get_or, MatchOption, refl, sym, ap, subst, ◌∙◌, arith}
-use Rattle.std.specs.Prelude.{position, is_some, is_none, All}
+use Rattle.std.proofs.Common.{◌≡◌, ℕ, zero, suc, ◌+◌, ◌-◌, ◌*◌, ◌/◌, ◌<◌, ◌==◌, ◌&&◌, Bool, true, false, cond, not, List, [], map, length, Option, Some, None, option_map, get_or, MatchOption, refl, sym, ap, ◌∙◌, arith}
+use Rattle.std.specs.Prelude.{position, is_some, is_none}
 use Rattle.std.specs.List.{find, list_any, range_with_len}
 use Rattle.std.proofs.lemmas.Option.{slice_get-map, slice_get-get_or}
 use Rattle.std.proofs.lemmas.List.Quantifiers.{position-Some}
@@ -25,11 +25,9 @@ use Rattle.process_pages.specs.PageRows.{PagePlaces, place_in, ArePlaces}
 use Rattle.process_view.specs.Purposes.{purpose_of}
 use Rattle.process_view.specs.declared.purposes.Purpose.TheVariants as purposes
 use Rattle.process_view.specs.declared.purposes.Purpose as declared
-use Rattle.process_view.specs.Answering.{IsReachedNamed, touch_refusal_by}
-use Rattle.std.proofs.lemmas.List.Elements.{All-get_or}
-use Rattle.process_pages.specs.ReachedResidences.{IsPlaced, residence_in, residences_in}
+use Rattle.process_view.specs.Answering.{IsReachedNamed, IsReachedAt, touch_refusal_by}
+use Rattle.process_pages.specs.ReachedResidences.{residence_in}
 use Rattle.process_pages.specs.declared.reached_residences.ReachedResidence.{ReachedResidence}
-use Rattle.std.proofs.lemmas.List.{length-map, get_or-map}
 use Rattle.process_pages.proofs.Positions.{found_at_place, at_place, position_map}
 use Rattle.process_pages.proofs.Mapping.{mapped_by_place}
 use Rattle.process_view.proofs.Ranges.{find_alike_from}
@@ -126,35 +124,17 @@ pub place_by_residence : (v : ProcessView) (purpose : Purpose) (at : Place) (r :
     (span_refusal v.library purpose r.«module» at.object at.offset at.len orelse touch_refusal purpose (seen_process v.holding) r.serial at.object at.offset at.len)
 place_by_residence v purpose at r going residence = rw (going, residence) refl
 
--- ---- one of the residences, as it is kept
-
--- the k-th of those that the process reaches, which is that of a module by name
-pub record IsReachedAt (w : ProcessView) (name : List ℕ) (lib : List Parts) (mapped : List Mapped) (k : ℕ) (s : ReachedResidence) : Type 0 where
-  pub placed : IsPlaced lib mapped s
-  pub named : number_of w.library name ≡ Some (residence_in s).«module»
-  pub residence : reached_named w.library w.holding name ≡ Some (residence_from (fresh_shown (residence_in s)))
-
-pub residence_there : (w : ProcessView) (name : List ℕ) (lib : List Parts) (mapped : List Mapped) (residences : List ReachedResidence) (k : ℕ) (s : ReachedResidence) → w.residences ≡ residences_in residences → All (IsPlaced lib mapped) residences →
-    s ≡ get_or residences k s → IsReachedNamed w name k → IsReachedAt w name lib mapped k s
-residence_there w name lib mapped residences k s e all at is =
-    let long : length w.residences ≡ length residences = ap (λ (rs : List ResidenceFor). length rs) e ∙ length-map residences residence_in in
-    let within : k < length residences = omega (arith, is.within, long) in
-    let there : get_or w.residences k (residence_in s) ≡ residence_in s =
-    ap (λ (rs : List ResidenceFor). get_or rs k (residence_in s)) e ∙ get_or-map residence_in residences k s (residence_in s) within ∙ ap residence_in (sym at)
-    in
-    let P : ReachedResidence → Type 0 = IsPlaced lib mapped in
-    record {
-      placed = subst P (sym at) (All-get_or (IsPlaced lib mapped) residences k s within all);
-      named = is.named (residence_in s) ∙ ap (λ (r : ResidenceFor). Some r.«module») there;
-      residence = is.residence (residence_in s) ∙ ap (λ (r : ResidenceFor). Some (residence_from (fresh_shown r))) there;
-    }
+-- what is refused of the span in it, by the library and the module's number
+pub span_there : (v : ProcessView) (purpose : Purpose) (at : Place) (r : ResidenceFor) (lib : List Parts) (m : ℕ) (o : Option Refusal) → lib ≡ v.library → m ≡ r.«module» → o ≡ span_refusal lib purpose m at.object at.offset at.len →
+    span_refusal v.library purpose r.«module» at.object at.offset at.len ≡ o
+span_there v purpose at r lib m o e f is = sym (is ∙ ap (λ (l : List Parts). span_refusal l purpose m at.object at.offset at.len) e ∙ ap (λ (n : ℕ). span_refusal v.library purpose n at.object at.offset at.len) f)
 
 -- what is refused of a place there, by the places of its pages
-pub place_refused : (w : ProcessView) (purpose : declared.Purpose) (at : Place) (k : ℕ) (s : ReachedResidence) → w.holding.ended ≡ false → IsReachedAt w at.«module» w.library w.holding.mapped k s →
+pub place_refused : (w : ProcessView) (purpose : declared.Purpose) (at : Place) (k : ℕ) (s : ReachedResidence) → w.holding.ended ≡ false → IsReachedNamed w at.«module» k → IsReachedAt w k s →
     view_place_refusal w.library w.holding (purpose_of purpose) at ≡
     (span_refusal w.library (purpose_of purpose) (residence_in s).«module» at.object at.offset at.len orelse touch_refusal_by purpose s.places at)
-place_refused w purpose at k s going is =
-    place_by_residence w (purpose_of purpose) at (residence_in s) going is.residence
+place_refused w purpose at k s going named is =
+    place_by_residence w (purpose_of purpose) at (residence_in s) going (named.residence (residence_in s) ∙ ap (λ (r : ResidenceFor). Some (residence_from (fresh_shown r))) (is.is (residence_in s)))
     ∙ by_span (span_refusal w.library (purpose_of purpose) (residence_in s).«module» at.object at.offset at.len) refl
   where
     by_span : (o : Option Refusal) → span_refusal w.library (purpose_of purpose) (residence_in s).«module» at.object at.offset at.len ≡ o →

@@ -1,5 +1,5 @@
 -- Shared bytes that a process reads: what its own pages hold lies under the writes that all share.
-use Rattle.std.proofs.Common.{◌≡◌, ℕ, ◌+◌, ◌/◌, ◌%◌, ◌<◌, ◌==◌, ◌&&◌, ◌||◌, Bool, true, false, cond, not, List, [], ◌∷◌, ◌++◌, map, length, Option, Some, None, get_or, slice_index, refl, sym, ap, subst, ◌∙◌, arith}
+use Rattle.std.proofs.Common.{◌≡◌, ℕ, ◌+◌, ◌/◌, ◌%◌, ◌<◌, ◌==◌, ◌&&◌, ◌||◌, Bool, true, false, cond, not, List, [], ◌∷◌, map, length, Option, Some, None, get_or, slice_index, refl, sym, ap, subst, ◌∙◌, arith}
 use Rattle.std.specs.List.{AllByRecursion, find, list_any, range_with_len}
 use Rattle.std.proofs.lemmas.Bool.Decides.{nat_tests}
 use Rattle.lx_types.specs.declared.object.PageId.{PageId}
@@ -12,35 +12,37 @@ use Rattle.std.proofs.lemmas.List.{get_or_default}
 use Rattle.page_frames.specs.Residences.{ResidenceFor}
 use Rattle.load_model.specs.declared.commands.Command.TheVariants as commands
 use Rattle.load_model.specs.declared.commands.Place.{Place}
-use Rattle.load_model.specs.declared.deeds.Entry.{Entry}
+use Rattle.load_model.specs.declared.commands.Command.{Command}
 use Rattle.load_model.specs.Modules.{Library, fixed_bytes, object_at}
-use Rattle.load_model.specs.State.{PageOf, Residence, pids, is_among, attached_residence}
-use Rattle.load_model.specs.Memory.{page, is_page, pages_over, bases_seen}
+use Rattle.load_model.specs.State.{PageOf, Residence, attached_residence}
+use Rattle.load_model.specs.Memory.{page, is_page, bases_seen}
 use Rattle.load_model.specs.Refusals as uses
-use Rattle.load_model.specs.Refusals.{span_refusal, class_refusal}
+use Rattle.load_model.specs.Refusals.{class_refusal}
 use Rattle.load_model.specs.declared.commands.Ask.TheVariants.{Shared as get}
 use Rattle.load_model.specs.Asks.{deed_of, may_ask, is_attached, is_serial}
-use Rattle.load_model.specs.Step.{ask_by, meant}
 use Rattle.load_model.specs.Laws.{ResidenceStays}
 use Rattle.load_model.specs.Alike.{BasesSeenStay}
-use Rattle.load_model.specs.Views.{Mapped, mapped_pages, lying_byte, IsMapped, state_for}
+use Rattle.load_model.specs.Views.{Mapped, mapped_pages, lying_byte, IsMapped}
 use Rattle.load_model.specs.TouchedPages.{has_page}
 use Rattle.load_model.specs.ViewAnswers.{view_refusal, view_place_refusal, is_mapped_at, bytes_in, view_byte, view_bytes, reached_named}
 use Rattle.load_model.specs.ViewLaws.{StandsQuiet}
 use Rattle.load_model.specs.Outcomes.{done, is_done}
 use Rattle.load_model.proofs.Bools.{and_left, and_right}
 use Rattle.load_model.proofs.SerialsOwn.{serials_are_own}
-use Rattle.load_core.specs.BoardState.{BoardState, IsLegal, MayAsk, state_of, entry_of, with_entry}
+use Rattle.load_core.specs.BoardState.{BoardState, IsLegal, MayAsk, state_of, entry_of}
 use Rattle.load_core.specs.Told.{fixed_run, read_run}
 use Rattle.process_pages.proofs.Placing.{same_number}
 use Rattle.process_view.specs.ProcessViews.{ProcessView, StandsAt, at_front}
 use Rattle.process_view.specs.Answering.{IsReachedNamed}
-use Rattle.process_view.specs.Deeds.{Did, IsAskedAt, bytes_read}
-use Rattle.process_view.proofs.Accepting.{IsAccepted, IsMeant, accepted, place_meant}
+use Rattle.process_view.specs.Deeds.{Did, bytes_read}
+use Rattle.process_view.proofs.Accepting.{IsAsked, with_asked}
 use Rattle.process_view.proofs.Copies.{map_alike_from}
-use Rattle.process_view.proofs.Did.{by_stay, found_none, no_page, nothing, still_going, did_quiet}
-use Rattle.process_view.proofs.Lookups.{place_by_residence, span_is_inside}
-use Rattle.process_view.proofs.PagesStanding.{IsAttached, attached, attached_there, module_is, over_at}
+use Rattle.process_view.proofs.Did.{IsAt, did_quiet}
+use Rattle.process_view.proofs.Used.{is_used, mapped_used}
+use Rattle.load_model.proofs.Bytes.{attached_is}
+use Rattle.load_model.proofs.ViewReplies.{residence_is}
+use Rattle.process_view.proofs.PagesStanding.{over_at}
+use Rattle.process_view.proofs.Shown.{IsAttached, attached}
 use Rattle.process_pages.proofs.Positions.{any_map}
 
 -- ---- a mapped page
@@ -75,8 +77,8 @@ shared_byte b v r a object x legal at own there inside class =
     let serial : p.of.serial ≡ r.serial = same_number p.of.serial r.serial (and_left (p.of.serial == r.serial) (is_page p.of.page q) it.2) in
     let pages = same_page p.of.page q (and_right (p.of.serial == r.serial) (is_page p.of.page q) it.2) in
     let same : is.residence ≡ a =
-    serials_are_own lib b.failing (fixed_bytes lib) b.history is.residence.«module» r.«module» is.residence a legal (attached_there lib e v.holding.pid is.residence.«module» is.residence is.there)
-    (attached_there lib e v.holding.pid r.«module» a own.there) (sym is.serial ∙ serial ∙ sym own.serial)
+    serials_are_own lib b.failing (fixed_bytes lib) b.history is.residence.«module» r.«module» is.residence a legal (residence_is lib e v.holding.pid is.residence.«module» is.residence is.there)
+    (residence_is lib e v.holding.pid r.«module» a own.there) (sym is.serial ∙ serial ∙ sym own.serial)
     in
     let number : is.residence.«module» ≡ r.«module» = ap (λ (z : Residence). z.«module») same ∙ own.«module» in
     let size : x < (object_at lib is.residence.«module» p.of.page.object).size =
@@ -93,24 +95,14 @@ shared_byte b v r a object x legal at own there inside class =
 
 -- ---- all of a place
 
-pub refused_share : (v : ProcessView) (at : Place) → view_refusal v.library v.holding (commands.Shared at) ≡ None → view_place_refusal v.library v.holding uses.share at ≡ None
+pub refused_share : (v : ProcessView) (command : Command) (at : Place) → view_refusal v.library v.holding command ≡ None → command ≡ commands.Shared at → view_place_refusal v.library v.holding uses.share at ≡ None
 unfolding view_refusal
-refused_share v at e = e
-
-pub shared_refusal : (v : ProcessView) (at : Place) → view_refusal v.library v.holding (commands.Shared at) ≡ None → view_place_refusal v.library v.holding uses.share at ≡ None
-shared_refusal = refused_share
+refused_share v command at none e = rw e at none
 
 only_shared : (c : Class) → class_refusal uses.share c ≡ None → c ≡ classes.Shared
 only_shared classes.Code e = absurd cc
 only_shared classes.Private e = absurd cc
 only_shared classes.Shared e = refl
-
-span_share : (v : ProcessView) (at : Place) (k : ℕ) (d : ResidenceFor) → view_place_refusal v.library v.holding uses.share at ≡ None → IsReachedNamed v at.«module» k → span_refusal v.library uses.share (get_or v.residences k d).«module» at.object at.offset at.len ≡ None
-span_share v at k d e is = (nothing _ _ (sym (place_by_residence v uses.share at (get_or v.residences k d) (still_going v.holding.ended _ e) (is.residence d)) ∙ e)).0
-
-class_share : (lib : Library) (m object offset len : ℕ) → span_refusal lib uses.share m object offset len ≡ None → class_of (object_at lib m object) ≡ classes.Shared
-unfolding span_refusal
-class_share lib m object offset len e = only_shared _ (nothing _ _ (nothing _ _ e).1).0
 
 module_asked : (b : BoardState) (v : ProcessView) (r : ResidenceFor) (a : Residence) (q s m object offset len : ℕ) → IsLegal b → IsAttached b v r a → q ≡ v.holding.pid → s ≡ r.serial → MayAsk b q (get s m object offset len) → m ≡ r.«module»
 unfolding may_ask
@@ -123,76 +115,41 @@ module_asked b v r a q s m object offset len legal own pid serial may =
     by_residence None e h = absurd cc
     by_residence (Some z) e h =
         let same : z ≡ a =
-        serials_are_own b.library b.failing (fixed_bytes b.library) b.history m r.«module» z a legal (attached_there b.library (state_of b) v.holding.pid m z e)
-        (attached_there b.library (state_of b) v.holding.pid r.«module» a own.there) (same_number z.serial s h ∙ serial ∙ sym own.serial)
+        serials_are_own b.library b.failing (fixed_bytes b.library) b.history m r.«module» z a legal (residence_is b.library (state_of b) v.holding.pid m z e)
+        (residence_is b.library (state_of b) v.holding.pid r.«module» a own.there) (same_number z.serial s h ∙ serial ∙ sym own.serial)
         in
-        sym (module_is b.library (state_of b) v.holding.pid m z e) ∙ ap (λ (y : Residence). y.«module») same ∙ own.«module»
+        sym (attached_is b.library (state_of b) v.holding.pid m z e).1 ∙ ap (λ (y : Residence). y.«module») same ∙ own.«module»
 
 inside_size : (lib : Library) (m object x : ℕ) → x < (object_of (module_of lib m) object).size → x < (object_at lib m object).size
 unfolding object_at
 inside_size lib m object x u = u
 
-pub shared_fixed : (b : BoardState) (v : ProcessView) (at : Place) (k : ℕ) (d : ResidenceFor) (q s m n : ℕ) (into : List ℕ) → IsAskedAt b v (commands.Shared at) at k → q ≡ v.holding.pid → s ≡ (get_or v.residences k d).serial → n ≡ at.len →
-    into ≡ view_bytes v.holding at (reached_named v.library v.holding at.«module») → MayAsk b q (get s m at.object at.offset n) → into ≡ fixed_run b m at.object at.offset n
-shared_fixed b v at k d q s m n into is pid serial long copied may =
+pub shared_fixed : (b : BoardState) (v : ProcessView) (at : Place) (k : ℕ) (d : ResidenceFor) (q s m n : ℕ) (into : List ℕ) → IsAt b v → view_place_refusal v.library v.holding uses.share at ≡ None → IsReachedNamed v at.«module» k →
+    q ≡ v.holding.pid → s ≡ (get_or v.residences k d).serial → n ≡ at.len → into ≡ view_bytes v.holding at (reached_named v.library v.holding at.«module») → MayAsk b q (get s m at.object at.offset n) →
+    into ≡ fixed_run b m at.object at.offset n
+shared_fixed b v at k d q s m n into here e is pid serial long copied may =
     let r = get_or v.residences k d in
-    let here : r ≡ get_or v.residences k r = get_or_default v.residences k d r is.residence.within in
-    let own = attached b v k r is.stands is.residence.within here in
-    let number = module_asked b v r own.0 q s m at.object at.offset n is.legal own.1 pid serial may in
-    let e = refused_share v at is.accepted in
-    let span = span_share v at k d e is.residence in
-    let inside = span_is_inside v.library uses.share r.«module» at.object at.offset at.len span in
-    let class : class_of (object_at b.library r.«module» at.object) ≡ classes.Shared = ap (λ (l : Library). class_of (object_at l r.«module» at.object)) (sym is.stands.library) ∙ class_share v.library r.«module» at.object at.offset at.len span in
+    let own = attached b v k r here.stands is.within (get_or_default v.residences k d r is.within) in
+    let number = module_asked b v r own.0 q s m at.object at.offset n here.legal own.1 pid serial may in
+    let used = is_used v uses.share at k d e is in
+    let class : class_of (object_at b.library r.«module» at.object) ≡ classes.Shared = ap (λ (l : Library). class_of (object_at l r.«module» at.object)) (sym here.stands.library) ∙ only_shared _ used.class in
     let size : (x : ℕ) → x < at.offset + at.len → x < (object_at b.library r.«module» at.object).size = λ x u.
-    let S : Library → Type 0 = λ l. x < (object_at l r.«module» at.object).size in subst S is.stands.library (inside_size v.library r.«module» at.object x (omega (arith, u, inside.within))) in
-    let all = found_none (λ i. has_page (mapped_pages v.holding) r.serial (page at.object i)) (pages_over at.offset at.len) (no_page _ (by_stay v uses.share at k d e is.residence)) in
-    copied ∙ ap (view_bytes v.holding at) (is.residence.residence d)
+    let S : Library → Type 0 = λ l. x < (object_at l r.«module» at.object).size in subst S here.stands.library (inside_size v.library r.«module» at.object x (omega (arith, u, used.inside.within))) in
+    let all = mapped_used v uses.share at r (λ f. cc) used in
+    copied ∙ ap (view_bytes v.holding at) (is.residence d)
     ∙ map_alike_from (view_byte v.holding r.serial at.object) (fixed_bytes b.library r.«module» (bases_seen b.library (state_of b) r.«module») at.object) at.offset at.len
-    (λ x u w. shared_byte b v r own.0 at.object x is.legal is.stands own.1 (over_at (λ i. has_page (mapped_pages v.holding) r.serial (page at.object i)) at.offset at.len x all u w) (size x w) class)
+    (λ x u w. shared_byte b v r own.0 at.object x here.legal here.stands own.1 (over_at (λ i. has_page (mapped_pages v.holding) r.serial (page at.object i)) at.offset at.len x all u w) (size x w) class)
     ∙ ap (λ (l : ℕ). map (fixed_bytes b.library r.«module» (bases_seen b.library (state_of b) r.«module») at.object) (range_with_len at.offset l)) (sym long)
     ∙ ap (λ (j : ℕ). map (fixed_bytes b.library j (bases_seen b.library (state_of b) j) at.object) (range_with_len at.offset n)) (sym number)
 
 -- ---- the deed
 
-asked_shared : (b : BoardState) (v : ProcessView) (at : Place) (r : ResidenceFor) → IsMeant b v at r →
-    ask_by b.library (state_for b.library b.failing v.holding b.history) v.holding.pid (commands.Shared at) ≡ Some (get r.serial r.«module» at.object at.offset at.len)
-asked_shared b v at r is =
-    ap (λ (n : ℕ). Some (get n (meant b.library at.«module») at.object at.offset at.len)) is.serial ∙ ap (λ (m : ℕ). Some (get r.serial m at.object at.offset at.len)) is.«module»
-
-pub accepted_shared : (b : BoardState) (v : ProcessView) (at : Place) (k : ℕ) (d : ResidenceFor) → is_among pids v.holding.pid ≡ true → IsAskedAt b v (commands.Shared at) at k →
-    IsAccepted b v (get (get_or v.residences k d).serial (get_or v.residences k d).«module» at.object at.offset at.len)
-accepted_shared b v at k d process is = accepted b v (commands.Shared at) _ process is.stands is.accepted tt (asked_shared b v at (get_or v.residences k d) (place_meant b v at k d is.stands is.residence))
-
-pub did_shared : ResidenceStays → BasesSeenStay → StandsQuiet → (b : BoardState) (v : ProcessView) (at : Place) (k : ℕ) (d : ResidenceFor) → is_among pids v.holding.pid ≡ true → IsAskedAt b v (commands.Shared at) at k →
-    Did b (with_entry b (entry_of b v.holding.pid (get (get_or v.residences k d).serial (get_or v.residences k d).«module» at.object at.offset at.len))) v
-    (at_front (length (b.history ++ entry_of b v.holding.pid (get (get_or v.residences k d).serial (get_or v.residences k d).«module» at.object at.offset at.len) ∷ [])) v)
-    (commands.Shared at) (done (length (b.history ++ entry_of b v.holding.pid (get (get_or v.residences k d).serial (get_or v.residences k d).«module» at.object at.offset at.len) ∷ [])))
+pub did_shared : ResidenceStays → BasesSeenStay → StandsQuiet → (b : BoardState) (v : ProcessView) (command : Command) (serial m object offset len : ℕ) → IsAsked b v command (get serial m object offset len) →
+    Did b (with_asked b v (get serial m object offset len)) v (at_front (length (with_asked b v (get serial m object offset len)).history) v) command (done (length (with_asked b v (get serial m object offset len)).history))
 unfolding deed_of
-did_shared still bases quiet b v at k d process is =
-    let r = get_or v.residences k d in
-    did_quiet still bases quiet b v (commands.Shared at) (get r.serial r.«module» at.object at.offset at.len) _ is.legal is.stands (accepted_shared b v at k d process is)
-    (asked_shared b v at r (place_meant b v at k d is.stands is.residence)) tt (is_done tt) refl
-
-pub may_get : (b : BoardState) (pid q serial s m object offset len n : ℕ) → MayAsk b pid (get serial m object offset len) → q ≡ pid → s ≡ serial → n ≡ len → MayAsk b q (get s m object offset n)
-may_get b pid q serial s m object offset len n may e f g =
-    let P : ℕ → Type 0 = λ i. MayAsk b i (get s m object offset n) in
-    let S : ℕ → Type 0 = λ i. MayAsk b pid (get i m object offset n) in
-    let L : ℕ → Type 0 = λ i. MayAsk b pid (get serial m object offset i) in
-    subst P (sym e) (subst S (sym f) (subst L (sym g) may))
+did_shared still bases quiet b v command serial m object offset len is = did_quiet still bases quiet b v command (get serial m object offset len) _ is tt (is_done tt) refl
 
 -- the entry tells what was read
 pub read_in : (b : BoardState) (pid serial m object offset len : ℕ) → read_run b pid m object offset len ≡ bytes_read (entry_of b pid (get serial m object offset len)).deed
 unfolding deed_of
 read_in b pid serial m object offset len = refl
-
--- one history, one last entry
-abbrev last_of : Entry → List Entry → Entry
-last_of d [] = d
-last_of d (x ∷ xs) = last_of x xs
-
-last_is : (d x : Entry) (xs : List Entry) → last_of d (xs ++ x ∷ []) ≡ x
-last_is d x [] = refl
-last_is d x (y ∷ ys) = last_is y x ys
-
-pub same_last : (xs : List Entry) (x y : Entry) → (xs ++ x ∷ []) ≡ (xs ++ y ∷ []) → x ≡ y
-same_last xs x y e = sym (last_is x x xs) ∙ ap (last_of x) e ∙ last_is x y xs

@@ -16,6 +16,8 @@ use Rattle.load_model.specs.ViewAnswers.{reached_named}
 use Rattle.process_view.specs.declared.purposes.Purpose.{Purpose}
 use Rattle.process_view.specs.declared.purposes.Purpose.TheVariants as purposes
 use Rattle.process_pages.specs.PageRows.{PagePlaces, place_in}
+use Rattle.process_pages.specs.ReachedResidences.{residence_in, IsPlaced}
+use Rattle.process_pages.specs.declared.reached_residences.ReachedResidence.{ReachedResidence}
 use Rattle.process_view.specs.ProcessViews.{ProcessView, fresh_shown}
 
 -- a start or a load, by name
@@ -28,6 +30,11 @@ pub record IsReachedNamed (v : ProcessView) (name : List ℕ) (k : ℕ) : Type 0
   pub within : k < length v.residences
   pub named : (d : ResidenceFor) → number_of v.library name ≡ Some (slice_index_or v.residences k d).«module»
   pub residence : (d : ResidenceFor) → reached_named v.library v.holding name ≡ Some (residence_from (fresh_shown (slice_index_or v.residences k d)))
+
+-- The k-th residence that the process reaches is kept so, each of its pages with its place among those that are mapped.
+pub record IsReachedAt (v : ProcessView) (k : ℕ) (s : ReachedResidence) : Type 0 where
+  pub is : (d : ResidenceFor) → slice_index_or v.residences k d ≡ residence_in s
+  pub placed : IsPlaced v.library v.holding.mapped s
 
 -- the residence of a module, among those of a process
 abbrev pub residence_with : List ResidenceFor → ℕ → Option ResidenceFor

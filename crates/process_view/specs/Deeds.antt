@@ -1,5 +1,5 @@
 -- What a view does with a board.
-use Rattle.std.specs.Prelude.{◌≡◌, ◌<◌, ℕ, ◌-◌, List, [], ◌∷◌, ◌++◌, length, map, slice_index_or, Result, Ok, Err, Some, None, true, false, ◌^◌}
+use Rattle.std.specs.Prelude.{◌≡◌, ◌<◌, ℕ, ◌-◌, List, [], ◌∷◌, ◌++◌, length, map, slice_index_or, Option, Some, None, Result, Ok, Err, true, false, ◌^◌}
 use Rattle.lx_types.specs.declared.object.PageId.{PageId}
 use Rattle.lx_types.specs.Object.{pages_of}
 use Rattle.lx_types.specs.Parts.{object_of}
@@ -8,11 +8,13 @@ use Rattle.lx_model.specs.Library.{module_of}
 use Rattle.lx_model.specs.ModuleBytes.{fixed_page}
 use Rattle.page_fix.specs.Fixable.{is_fixable}
 use Rattle.load_model.specs.TouchedPages.{has_page}
+use Rattle.load_model.specs.Asks.{is_own}
 use Rattle.page_frames.specs.Residences.{ResidenceFor}
 use Rattle.process_pages.specs.ReachedResidences.{page_with}
 use Rattle.load_model.specs.declared.commands.Command.{Command}
 use Rattle.load_model.specs.Modules.{fixed_bytes}
 use Rattle.load_model.specs.declared.commands.Ask.{Ask}
+use Rattle.load_model.specs.declared.commands.Ask.TheVariants.{Write as put, Debug as patch}
 use Rattle.load_model.specs.declared.deeds.Deed.{Deed}
 use Rattle.load_model.specs.declared.deeds.Deed.TheVariants as deeds
 use Rattle.load_model.specs.declared.deeds.Entry.{Entry}
@@ -28,12 +30,11 @@ use Rattle.lx_types.specs.declared.fail.Fail.TheVariants.{Said, NoMemory}
 use Rattle.load_model.specs.declared.commands.Refusal.{Refusal}
 use Rattle.load_model.specs.declared.commands.Reply.TheVariants.{Refused}
 use Rattle.lx_types.specs.declared.object.Class.{Class}
+use Rattle.lx_types.specs.declared.object.Class.TheVariants as classes
 use Rattle.lx_types.specs.Object.{class_of}
 use Rattle.load_model.specs.declared.commands.Place.{Place}
 use Rattle.load_model.specs.Modules.{object_at}
-use Rattle.load_model.specs.ViewAnswers.{view_refusal}
-use Rattle.process_view.specs.Answering.{IsReachedNamed}
-use Rattle.load_core.specs.BoardState.{BoardState, IsLegal, state_of, entry_of, with_entry, Adds}
+use Rattle.load_core.specs.BoardState.{BoardState, state_of, entry_of, with_entry, Adds}
 use Rattle.load_core.specs.declared.answers.Claim.{Claim}
 use Rattle.load_core.specs.declared.answers.Claim.TheVariants as claims
 use Rattle.process_view.specs.ProcessViews.{ProcessView, StandsAt, without_room, fresh_shown, at_front}
@@ -69,12 +70,6 @@ with_residence r v =
       residence_room = v.residence_room - 1;
     }
 
--- What a deed comes to: it is done; or its entry says why it is not; or no memory was found.
-abbrev pub IsDone : BoardState → BoardState → ProcessView → ProcessView → Command → Result Unit (Fail Refusal) → Type 0
-IsDone b c v w command (Ok _) = Did b c v w command (done (length c.history))
-IsDone b c v w command (Err (Said refusal)) = Did b c v w command (told (Refused refusal))
-IsDone b c v w command (Err NoMemory) = IsIdle b c v w
-
 -- ---- pages
 
 -- A page of a residence that the view has not mapped: its module has it, and a page has 20 bits.
@@ -88,6 +83,10 @@ pub record CanMap (v : ProcessView) (r : ResidenceFor) (p : PageId) : Type 0 whe
 -- all processes share it
 abbrev pub IsSharedPage : ProcessView → ResidenceFor → PageId → Type 0
 IsSharedPage v r p = is_fixable (module_of v.library r.«module») p ≡ true
+
+-- it is of private data, which each process fixes for itself
+abbrev pub IsOwnPage : ProcessView → ResidenceFor → PageId → Type 0
+IsOwnPage v r p = is_own (class_of (object_at v.library r.«module» p.object)) ≡ true
 
 -- It is mapped now as its fixups leave it, and nothing else has changed.
 abbrev pub IsFixedIn : ProcessView → ProcessView → ResidenceFor → PageId → Type 0
@@ -110,21 +109,24 @@ IsClaimedIn b c v w r p claims.Taken = (c ≡ b) × (w ≡ v) × (has_fault b.hi
 abbrev pub with_write : ℕ → Written → ProcessView → ProcessView
 with_write serial w v = record v { holding = record v.holding { mapped = map (written_over serial w) v.holding.mapped } }
 
--- ---- commands of a place
+abbrev pub written_to : Place → List ℕ → Written
+written_to at bytes = record { object = at.object; offset = at.offset; bytes = bytes }
 
--- The view stands for all that was done on the board, and does not refuse the command of a place, which lies in the k-th
--- residence.
-pub record IsAskedAt (b : BoardState) (v : ProcessView) (command : Command) (at : Place) (k : ℕ) : Type 0 where
-  pub legal : IsLegal b
-  pub stands : StandsAt b v
-  pub accepted : view_refusal v.library v.holding command ≡ None
-  pub residence : IsReachedNamed v at.«module» k
+-- a write to an object of a class, where it is the process's own
+abbrev pub own_write : Class → Written → Option Written
+own_write classes.Code w = Some w
+own_write classes.Private w = Some w
+own_write classes.Shared w = None
 
--- the write is to the place
-pub record IsWriteTo (at : Place) (w : Written) : Type 0 where
-  pub object : w.object ≡ at.object
-  pub offset : w.offset ≡ at.offset
-  pub len : length w.bytes ≡ at.len
+abbrev pub with_own : ℕ → Option Written → ProcessView → ProcessView
+with_own serial None v = v
+with_own serial (Some w) v = with_write serial w v
+
+-- what a write to a place asks, by the class of its object
+abbrev pub write_ask : Class → ℕ → ℕ → Place → List ℕ → Ask
+write_ask classes.Code serial m at bytes = patch serial m at.object at.offset bytes
+write_ask classes.Private serial m at bytes = put serial m at.object at.offset bytes
+write_ask classes.Shared serial m at bytes = put serial m at.object at.offset bytes
 
 -- the place lies in an object of this class
 abbrev pub IsInClass : ProcessView → ℕ → Place → Class → Type 0
@@ -147,3 +149,16 @@ bytes_read (deeds.Debug serial m object offset bytes) = []
 -- they are those of the entry that a board has more than before
 abbrev pub IsLastRead : BoardState → BoardState → List ℕ → Type 0
 IsLastRead b c bytes = (x : Entry) → c.history ≡ b.history ++ x ∷ [] → bytes ≡ bytes_read x.deed
+
+-- ---- what a command comes to
+
+-- It is done, and these bytes were read; or its entry says why it is not; or no memory was found.
+abbrev pub IsDone : BoardState → BoardState → ProcessView → ProcessView → Command → Result (List ℕ) (Fail Refusal) → Type 0
+IsDone b c v w command (Ok bytes) = Did b c v w command (done (length c.history)) × IsLastRead b c bytes
+IsDone b c v w command (Err (Said refusal)) = Did b c v w command (told (Refused refusal))
+IsDone b c v w command (Err NoMemory) = IsIdle b c v w
+
+-- with the bytes that were read
+abbrev pub reading : List ℕ → Result Unit (Fail Refusal) → Result (List ℕ) (Fail Refusal)
+reading bytes (Ok _) = Ok bytes
+reading bytes (Err fail) = Err fail

@@ -1,6 +1,5 @@
 -- What the fields of a view stand for, and what they keep among themselves.
 use Rattle.std.specs.Prelude.{◌≡◌, ◌-◌, map, length, true, All, vec_capacity, vec_len}
-use Rattle.std.specs.Arc.{arc_value}
 use Rattle.load_model.specs.State.{pids, is_among}
 use Rattle.process_view.specs.ProcessViews.{ProcessView, fresh_shown}
 use Rattle.process_pages.specs.ReachedResidences.{residences_in, IsPlaced, AreApart}
@@ -9,7 +8,7 @@ use Rattle.process_view.specs.declared.view.View.TheInside.{Inside}
 
 abbrev pub view_of : Inside → ProcessView
 view_of v = record {
-  library = arc_value v.lib;
+  library = v.lib;
   holding =
       record {
         pid = v.pid;
@@ -27,8 +26,8 @@ view_of v = record {
 -- The process is one of 16, both counts are by module, all its residences are placed, and they are found where they stand.
 pub record Keeps (v : Inside) : Type 0 where
   pub process : is_among pids v.pid ≡ true
-  pub loads : length v.counts.loads ≡ length (arc_value v.lib)
-  pub reached : length v.counts.reached ≡ length (arc_value v.lib)
-  pub placed : All (IsPlaced (arc_value v.lib) v.pages.items) v.residences.items
+  pub loads : length v.counts.loads ≡ length v.lib
+  pub reached : length v.counts.reached ≡ length v.lib
+  pub placed : All (IsPlaced v.lib v.pages.items) v.residences.items
   pub apart : AreApart (residences_in v.residences.items)
   pub found : AreRight v.finder (residences_in v.residences.items)

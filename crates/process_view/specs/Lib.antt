@@ -2,7 +2,9 @@ pub mod ProcessViews
 pub mod Purposes
 pub mod Kept
 pub mod Answering
+pub mod Plans
 pub mod Counting
 pub mod Deeds
 pub mod Joining
+pub mod Leaves
 pub mod PageLaws

@@ -1,56 +1,65 @@
 //! What a view does with a board, where it does not refuse it.
 
-ghost use Rattle.std.specs.Prelude.{◌≡◌, None, IfOk, length};
-ghost use Rattle.load_model.specs.declared.commands.Command.TheVariants as commands;
-ghost use Rattle.load_model.specs.Refusals as uses;
-ghost use Rattle.load_model.specs.ViewAnswers.{view_refusal, view_place_refusal};
+ghost use Rattle.std.specs.Prelude.{◌≡◌, [], None, true, OnOk, OnErr};
+ghost use Rattle.load_model.specs.declared.commands.Command.{Command};
+ghost use Rattle.load_model.specs.State.{pids, is_among};
+ghost use Rattle.load_model.specs.Step.{FitsPlace};
+ghost use Rattle.load_model.specs.ViewAnswers.{view_refusal};
+ghost use Rattle.load_core.specs.BoardState.{MayAsk, Adds};
+ghost use Rattle.load_core.specs.Leaves.{asked_by};
+ghost use Rattle.process_view.specs.declared.plans.Plan.TheVariants as plans;
 ghost use Rattle.process_view.specs.ProcessViews.{StandsAt};
-ghost use Rattle.process_view.specs.Answering.{enter_command, IsReachedNamed};
-ghost use Rattle.process_view.specs.Deeds.{IsDone, IsLastRead, IsInClass};
+ghost use Rattle.process_view.specs.Plans.{IsPlan, HasEntry};
+ghost use Rattle.process_view.specs.Deeds.{IsDone, reading};
 
-use crate::purposes::Purpose;
-use crate::spans::class_of;
+use crate::plans::Plan;
 use crate::view::View;
 use load_core::{Board, Loaded};
 use load_model::{
-    How, Place, Refusal, counts_are_small, reached_is_fit, residences_stay, views_stand,
+    Command, How, Refusal, counts_are_small, reached_is_fit, residences_stay, views_stand,
 };
 use lx_model::order_is_reach;
-use lx_types::{Bytes, Class, Fail, Name, NoMemory};
-use mod_refs::loads_are_counted;
+use lx_types::{Bytes, Fail, NoMemory, Seq};
+use mod_refs::{Leaving, loads_are_counted};
 use std::alloc::Global;
-use write_overlay::Write;
 
-// The write of bytes to a place.
-fn write_to(alloc: Global, place: &Place, bytes: &[u8]) -> Result<Write, NoMemory>
-    ensures { IfOk result (λ w. w ≡ record { object = place.now.object; offset = place.now.offset; bytes = bytes.now }) }
+// No bytes were read.
+fn read_nothing(alloc: Global, done: Result<(), Fail<Refusal>>) -> Result<Bytes, Fail<Refusal>>
+    ensures { result ≡ reading [] done }
 {
-    let bytes = Bytes::from_vec(Vec::from_slice(alloc, bytes)?);
-    Ok(Write::new(place.object, place.offset, bytes))
+    match done {
+        Ok(()) => Ok(Seq::new(alloc)),
+        Err(fail) => Err(fail),
+    }
+}
+
+// The entry of a process that gives this up. Nothing is done without memory.
+fn add_leave(board: &mut Board, pid: u32, what: Leaving) -> Result<(), NoMemory>
+    requires process { is_among pids pid ≡ true }
+    requires may { MayAsk board.old pid (asked_by what) }
+    ensures entry { OnOk result (Adds board.old board.new pid (asked_by what)) }
+    ensures err { OnErr result (board.new ≡ board.old) }
+{
+    match what {
+        Leaving::One(m) => board.free(pid, m),
+        Leaving::All => board.exit(pid),
+    }
 }
 
 impl View {
-    // Who sees a write to the place.
-    fn class_at(&self, k: usize, place: &Place) -> Class
-        requires named { IsReachedNamed self.now place.now.«module» k }
-        requires used { (purpose : uses.Purpose) × (view_place_refusal self.now.library self.now.holding purpose place.now ≡ None) }
-        ensures { IsInClass self.now k place.now result }
-    {
-        class_of(self.library(), self.residence_module(k), place.object)
-    }
-
-    /// Starts a program, or loads a library. Where an object has no place, or an initialisation fails, the entry tells it,
-    /// and it is the refusal. Nothing is done without memory.
-    pub fn do_enter(
+    // Starts a program, or loads a library. Where an object has no place, or an initialisation fails, the entry tells it,
+    // and it is the refusal. Nothing is done without memory.
+    fn enter(
         &mut self,
         alloc: Global,
         board: &mut Board,
         how: How,
-        name: &Name,
+        m: u32,
     ) -> Result<(), Fail<Refusal>>
         requires stands { StandsAt board.old self.old }
-        requires accepted { view_refusal self.old.library self.old.holding (enter_command how name.now) ≡ None }
-        ensures { IsDone board.old board.new self.old self.new (enter_command how name.now) result }
+        requires planned { (command : Command) × IsPlan self.old command (plans.Enter how m) }
+        ensures { (command : Command) → IsPlan self.old command (plans.Enter how m)
+            → IsDone board.old board.new self.old self.new command (reading [] result) }
     {
         views_stand();
         residences_stay();
@@ -61,10 +70,7 @@ impl View {
         board.history();
         self.library().len();
         let pid = self.pid();
-        let Some(m) = self.library().find(name) else {
-            unreachable!()
-        };
-        let joining = self.counts.unreached(alloc, self.lib.order(m))?;
+        let joining = self.joining(alloc, m)?;
         let rows = self.rows_for(alloc, &joining)?;
         self.reserve_residences(joining.len())?;
         match board.load(pid, m, how)? {
@@ -93,111 +99,48 @@ impl View {
         }
     }
 
-    /// Gives up one load of a library. Nothing is done without memory.
-    pub fn do_free(&mut self, board: &mut Board, name: &Name) -> Result<(), Fail<Refusal>>
+    // Gives up one load of a library, or all and ends. Nothing is done without memory.
+    fn leave(&mut self, board: &mut Board, what: Leaving) -> Result<(), Fail<Refusal>>
         requires stands { StandsAt board.old self.old }
-        requires accepted { view_refusal self.old.library self.old.holding (commands.Free name.now) ≡ None }
-        ensures { IsDone board.old board.new self.old self.new (commands.Free name.now) result }
+        requires planned { (command : Command) × IsPlan self.old command (plans.Leave what) }
+        ensures { (command : Command) → IsPlan self.old command (plans.Leave what)
+            → IsDone board.old board.new self.old self.new command (reading [] result) }
     {
         views_stand();
         residences_stay();
         loads_are_counted();
         order_is_reach();
         board.history();
-        let Ok(m) = self.check_free(name) else {
-            unreachable!()
-        };
         let pid = self.pid();
-        board.free(pid, m)?;
-        self.leave_one(m);
+        add_leave(board, pid, what)?;
+        self.give_up(what);
         self.follow(board);
         Ok(())
     }
 
-    /// Ends. Nothing is done without memory.
-    pub fn do_exit(&mut self, board: &mut Board) -> Result<(), Fail<Refusal>>
-        requires stands { StandsAt board.old self.old }
-        requires accepted { view_refusal self.old.library self.old.holding commands.Exit ≡ None }
-        ensures { IsDone board.old board.new self.old self.new commands.Exit result }
-    {
-        views_stand();
-        board.history();
-        let pid = self.pid();
-        board.exit(pid)?;
-        self.leave_all();
-        self.follow(board);
-        Ok(())
-    }
-
-    /// Writes bytes to a place, for the process alone or for all that share the object. Nothing is done without memory.
-    pub fn do_write(
+    /// Carries out a command that has an entry and that the view does not refuse, and gives the bytes that were read: those of
+    /// a shared read, else none. Where an object has no place, or an initialisation fails, the entry tells it, and it is the
+    /// refusal. Nothing is done without memory.
+    pub fn act(
         &mut self,
         alloc: Global,
         board: &mut Board,
-        place: &Place,
-        bytes: &[u8],
-    ) -> Result<(), Fail<Refusal>>
+        command: &Command,
+    ) -> Result<Bytes, Fail<Refusal>>
         requires stands { StandsAt board.old self.old }
-        requires fits { length bytes.now ≡ place.now.len }
-        requires accepted { view_refusal self.old.library self.old.holding (commands.Write place.now bytes.now) ≡ None }
-        ensures { IsDone board.old board.new self.old self.new (commands.Write place.now bytes.now) result }
+        requires accepted { view_refusal self.old.library self.old.holding command.now ≡ None }
+        requires entry { HasEntry command.now }
+        requires fits { FitsPlace command.now }
+        ensures { IsDone board.old board.new self.old self.new command.now result }
     {
-        let Ok(k) = self.check_use(Purpose::Write, place) else {
-            unreachable!()
-        };
-        board.history();
-        match self.class_at(k, place) {
-            Class::Private => {
-                let write = write_to(alloc, place, bytes)?;
-                self.write_own(board, k, place, &write)?;
+        match self.plan(command) {
+            Ok(Plan::Enter(how, m)) => read_nothing(alloc, self.enter(alloc, board, how, m)),
+            Ok(Plan::Leave(what)) => read_nothing(alloc, self.leave(board, what)),
+            Ok(Plan::Put(k, place, bytes)) => {
+                read_nothing(alloc, self.put(alloc, board, k, place, bytes))
             }
-            Class::Shared => self.write_shared(board, k, place, bytes)?,
-            Class::Code => unreachable!(),
+            Ok(Plan::Read(k, place)) => self.read(alloc, board, k, place),
+            Ok(Plan::Steady) | Err(_) => unreachable!(),
         }
-        Ok(())
-    }
-
-    /// Writes bytes to the process's own copy of code (DosDebug). Nothing is done without memory.
-    pub fn do_debug(
-        &mut self,
-        alloc: Global,
-        board: &mut Board,
-        place: &Place,
-        bytes: &[u8],
-    ) -> Result<(), Fail<Refusal>>
-        requires stands { StandsAt board.old self.old }
-        requires fits { length bytes.now ≡ place.now.len }
-        requires accepted { view_refusal self.old.library self.old.holding (commands.Debug place.now bytes.now) ≡ None }
-        ensures { IsDone board.old board.new self.old self.new (commands.Debug place.now bytes.now) result }
-    {
-        let Ok(k) = self.check_use(Purpose::Debug, place) else {
-            unreachable!()
-        };
-        board.history();
-        let write = write_to(alloc, place, bytes)?;
-        self.debug(board, k, place, &write)?;
-        Ok(())
-    }
-
-    /// Reads bytes of an object that all processes share, into a buffer that is as long as the place. Nothing is done
-    /// without memory, but that the buffer may hold anything.
-    pub fn do_read_shared(
-        &mut self,
-        board: &mut Board,
-        place: &Place,
-        into: &mut [u8],
-    ) -> Result<(), Fail<Refusal>>
-        requires stands { StandsAt board.old self.old }
-        requires fits { length into.old ≡ place.now.len }
-        requires accepted { view_refusal self.old.library self.old.holding (commands.Shared place.now) ≡ None }
-        ensures done { IsDone board.old board.new self.old self.new (commands.Shared place.now) result }
-        ensures read { IfOk result (λ _. IsLastRead board.old board.new into.new) }
-    {
-        let Ok(k) = self.check_use(Purpose::Share, place) else {
-            unreachable!()
-        };
-        board.history();
-        self.read_shared(board, k, place, into)?;
-        Ok(())
     }
 }

@@ -2,10 +2,13 @@
 
 ghost use Rattle.std.specs.Prelude.{◌≡◌, ◌<◌, ◌≤◌, All, IfOk, OnOk, length, map};
 ghost use Rattle.std.specs.Arc.{arc_value};
-ghost use Rattle.process_view.specs.ProcessViews.{fresh_shown};
+ghost use Rattle.load_model.specs.Entering.{joined};
+ghost use Rattle.load_core.specs.BoardState.{BoardState, state_of};
+ghost use Rattle.process_view.specs.ProcessViews.{StandsAt, fresh_shown};
 ghost use Rattle.process_view.specs.Joining.{AreEmpty, CanJoin, modules_of, with_residences};
 
 use crate::view::View;
+use lx_model::order_is_reach;
 use lx_types::NoMemory;
 use page_frames::Residence;
 use process_pages::PageRows;
@@ -13,6 +16,15 @@ use std::alloc::Global;
 use std::sync::Arc;
 
 impl View {
+    // The modules that a start or a load of module `m` attaches.
+    pub(crate) fn joining(&self, alloc: Global, m: u32) -> Result<Vec<u32>, NoMemory>
+        requires { m < length self.now.library }
+        ensures { IfOk result (λ modules. (b : BoardState) → StandsAt b self.now → modules.items ≡ joined b.library (state_of b) self.now.holding.pid m) }
+    {
+        order_is_reach();
+        self.counts.unreached(alloc, self.lib.order(m))
+    }
+
     // The rows of modules that have no page mapped.
     pub(crate) fn rows_for(&self, alloc: Global, modules: &[u32]) -> Result<Vec<PageRows>, NoMemory>
         requires { All (λ m. m < length self.now.library) modules.now }

@@ -5,14 +5,17 @@ ghost use Rattle.load_model.specs.Modules.{Library, order_of};
 ghost use Rattle.load_model.specs.State.{Process, Eager, reaches};
 ghost use Rattle.load_model.specs.Leaving.{exiting, freeing, keeping};
 ghost use Rattle.load_model.specs.ProcessCounts.{AreCountsOf};
+ghost use Rattle.mod_refs.specs.Changes.{given_up};
 ghost use Rattle.process_view.specs.ProcessViews.{freed_view};
+ghost use Rattle.process_view.specs.Leaves.{CanLeave, view_left};
 
 use crate::view::View;
+use mod_refs::Leaving;
 use process_pages::{ResidenceFinder, keep_places, keep_reached};
 
 impl View {
     // Keeps nothing: no load, no residence, no page.
-    pub(crate) fn leave_all(&mut self)
+    fn leave_all(&mut self)
         requires { (p : Process) × AreCountsOf self.old.library p self.old.holding.counts }
         ensures counts { (lib : Library) (p : Process) (e : Eager) → AreCountsOf lib p self.old.holding.counts →
             AreCountsOf lib (keeping lib e (exiting p)) self.new.holding.counts }
@@ -32,7 +35,7 @@ impl View {
     }
 
     // Gives up a load of module `m`, and keeps of the residences and pages what the process still reaches.
-    pub(crate) fn leave_one(&mut self, m: u32)
+    fn leave_one(&mut self, m: u32)
         requires module { m < length self.old.library }
         requires held { 0 < slice_index self.old.holding.counts.loads m }
         requires counted { All (λ k. 0 < slice_index self.old.holding.counts.reached k) (order_of self.old.library m) }
@@ -47,5 +50,20 @@ impl View {
         keep_reached(&mut self.residences, self.lib.len(), &self.counts);
         keep_places(self.residences.as_mut_slice(), &mut self.pages);
         self.finder = ResidenceFinder::of(self.residences.as_slice());
+    }
+
+    // Gives this up.
+    pub(crate) fn give_up(&mut self, what: Leaving)
+        requires held { CanLeave self.old what }
+        requires counts { (p : Process) × AreCountsOf self.old.library p self.old.holding.counts }
+        ensures counts { (p : Process) (e : Eager) → AreCountsOf self.old.library p self.old.holding.counts →
+            AreCountsOf self.old.library (keeping self.old.library e (given_up what p)) self.new.holding.counts }
+        ensures rest { (p : Process) → AreCountsOf self.old.library p self.old.holding.counts →
+            self.new ≡ view_left self.old what p self.new.holding.counts self.new.page_room self.new.residence_room }
+    {
+        match what {
+            Leaving::One(m) => self.leave_one(m),
+            Leaving::All => self.leave_all(),
+        }
     }
 }

@@ -1,6 +1,6 @@
 //! What a view answers by itself: bytes of its own pages, addresses and resources.
 
-ghost use Rattle.std.specs.Prelude.{◌≡◌, ◌≤◌, ◌<◌, ◌+◌, ◌⊎◌, slice_index_or, ℕ, Ok, Some, None, IfSome, MatchResult, length, map};
+ghost use Rattle.std.specs.Prelude.{◌≡◌, ◌≤◌, ◌<◌, ◌+◌, ◌⊎◌, slice_index_or, ℕ, Ok, Some, None, IfSome, MatchOption, MatchResult, length, map};
 ghost use Rattle.std.specs.List.{range_with_len};
 ghost use Rattle.load_model.specs.declared.commands.Command.TheVariants as commands;
 ghost use Rattle.load_model.specs.declared.commands.Reply.TheVariants as replies;
@@ -10,7 +10,7 @@ ghost use Rattle.load_model.specs.Refusals as uses;
 ghost use Rattle.load_model.specs.ViewAnswers.{view_refusal, view_place_refusal, view_reply, view_address, view_bytes, reached_named};
 ghost use Rattle.load_model.specs.Places.{LiesInPage};
 ghost use Rattle.process_pages.specs.ReachedResidences.{residences_in};
-ghost use Rattle.process_view.specs.Answering.{residence_with, base_if, IsReachedNamed};
+ghost use Rattle.process_view.specs.Answering.{residence_with, base_if, IsReachedNamed, IsReachedAt};
 
 use crate::purposes::Purpose;
 use crate::spans::span_refusal;
@@ -18,7 +18,7 @@ use crate::view::View;
 use load_model::{Place, Refusal};
 use lx_types::{EntryKey, Name, ResSpot};
 use mod_graph::{EntryFault, Library, Spot};
-use process_pages::{ReachedResidence, bytes_in_place, copy_out, residence_place, run_at};
+use process_pages::{OwnPage, ReachedResidence, copy_out, residence_place, run_at};
 
 // The spot that a key of module `m` means.
 #[tactic(auto, unfolding(load_model::specs::Modules::entry_spot))]
@@ -73,6 +73,21 @@ impl View {
         self.residences[k].residence.module()
     }
 
+    // A residence that the process reaches, with the places of its pages.
+    pub(crate) fn reached_at(&self, k: usize) -> &ReachedResidence
+        requires { k < length self.now.residences }
+        ensures { IsReachedAt self.now k result.now }
+    {
+        &self.residences[k]
+    }
+
+    // The pages that the process has mapped.
+    fn mapped(&self) -> &[OwnPage]
+        ensures { result.now ≡ self.now.holding.mapped }
+    {
+        self.pages.as_slice()
+    }
+
     // Copies the bytes of a place that is mapped.
     pub(crate) fn copy_place(&self, k: usize, place: &Place, into: &mut [u8])
         requires fits { length into.old ≡ place.now.len }
@@ -81,39 +96,31 @@ impl View {
             ⊎ (view_place_refusal self.now.library self.now.holding uses.share place.now ≡ None) }
         ensures { into.new ≡ view_bytes self.now.holding place.now (reached_named self.now.library self.now.holding place.now.«module») }
     {
-        let reached = &self.residences[k];
-        copy_out(&self.pages, &reached.places, place, into);
+        copy_out(self.mapped(), &self.reached_at(k).places, place, into);
     }
 
     // The bytes of a place that may be peeked, where they stand, if they lie in one page.
     fn run(&self, place: &Place) -> Option<&[u8]>
         ensures length { IfSome result (λ run. length run.now ≡ place.now.len) }
-        ensures allowed { IfSome result (λ run. view_place_refusal self.now.library self.now.holding uses.peek place.now ≡ None) }
-        ensures bytes { IfSome result (λ run.
-            run.now ≡ view_bytes self.now.holding place.now (reached_named self.now.library self.now.holding place.now.«module»)) }
+        ensures run { MatchOption result
+            (LiesInPage place.now → view_place_refusal self.now.library self.now.holding uses.peek place.now ≡ None → place.now.len ≡ 0)
+            (λ run. (view_place_refusal self.now.library self.now.holding uses.peek place.now ≡ None)
+            × (run.now ≡ view_bytes self.now.holding place.now (reached_named self.now.library self.now.holding place.now.«module»))) }
     {
-        if self.ended {
+        if self.is_ended() {
             return None;
         }
-        let m = self.hints.find(&self.lib, &place.module)?;
-        let k = self.finder.find(&self.residences, m)?;
-        let reached = &self.residences[k];
-        let bytes = run_at(&self.pages, &reached.places, place)?;
-        match span_refusal(&self.lib, m, Purpose::Peek, place) {
+        let k = self.reached_named(&place.module)?;
+        let run = run_at(self.mapped(), &self.reached_at(k).places, place)?;
+        match span_refusal(
+            self.library(),
+            self.residence_module(k),
+            Purpose::Peek,
+            place,
+        ) {
             Some(_) => None,
-            None => Some(bytes),
+            None => Some(run),
         }
-    }
-
-    // The bytes of a place of one page that may be peeked.
-    fn bytes_here(&self, k: usize, place: &Place) -> &[u8]
-        requires in_page { LiesInPage place.now }
-        requires named { IsReachedNamed self.now place.now.«module» k }
-        requires used { view_place_refusal self.now.library self.now.holding uses.peek place.now ≡ None }
-        ensures { result.now ≡ view_bytes self.now.holding place.now (reached_named self.now.library self.now.holding place.now.«module») }
-    {
-        let reached = &self.residences[k];
-        bytes_in_place(&self.pages, &reached.places, place)
     }
 
     /// The bytes of a place of one page where they stand, as `peek` reads them, and refused as there. Nothing is copied, and
@@ -129,7 +136,7 @@ impl View {
         match self.run(place) {
             Some(run) => Ok(run),
             None => match self.check_use(Purpose::Peek, place) {
-                Ok(k) => Ok(self.bytes_here(k, place)),
+                Ok(_) => Ok(&[]),
                 Err(refusal) => Err(refusal),
             },
         }

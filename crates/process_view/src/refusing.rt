@@ -114,9 +114,9 @@ impl View {
         self.finder.find(&self.residences, m)
     }
 
-    /// The module that a start or a load asks for by name, or why the view refuses it.
+    // The module that a start or a load asks for by name, or why the view refuses it.
     #[tactic(auto, unfolding(load_model::specs::ViewAnswers::view_refusal, load_model::specs::Modules::number_of))]
-    pub fn check_enter(&self, how: How, name: &Name) -> Result<u32, Refusal>
+    pub(crate) fn check_enter(&self, how: How, name: &Name) -> Result<u32, Refusal>
         ensures { MatchResult result
             (λ m. (view_refusal self.now.library self.now.holding (enter_command how name.now) ≡ None) × (number_of self.now.library name.now ≡ Some m)
             × (m < length self.now.library))
@@ -141,9 +141,9 @@ impl View {
         }
     }
 
-    /// The module of which a free gives up a load, or why the view refuses it.
+    // The module of which a free gives up a load, or why the view refuses it.
     #[tactic(auto, unfolding(load_model::specs::ViewAnswers::view_refusal, load_model::specs::Modules::number_of))]
-    pub fn check_free(&self, name: &Name) -> Result<u32, Refusal>
+    pub(crate) fn check_free(&self, name: &Name) -> Result<u32, Refusal>
         ensures { MatchResult result
             (λ m. (view_refusal self.now.library self.now.holding (commands.Free name.now) ≡ None) × (number_of self.now.library name.now ≡ Some m)
             × (m < length self.now.library))
@@ -158,26 +158,37 @@ impl View {
         }
     }
 
-    /// The residence in which a place may be used so, by its number among those that the process reaches, or why the view
-    /// refuses it.
-    pub fn check_use(&self, purpose: Purpose, place: &Place) -> Result<usize, Refusal>
+    // The residence in which a place may be used so, by its number among those that the process reaches, or why the view
+    // refuses it.
+    pub(crate) fn check_use(&self, purpose: Purpose, place: &Place) -> Result<usize, Refusal>
         ensures { MatchResult result
             (λ k. (view_place_refusal self.now.library self.now.holding (purpose_of purpose) place.now ≡ None) × IsReachedNamed self.now place.now.«module» k)
             (λ refusal. view_place_refusal self.now.library self.now.holding (purpose_of purpose) place.now ≡ Some refusal) }
     {
-        if self.ended {
+        if self.is_ended() {
             return Err(Refusal::Ended);
         }
         let Some(k) = self.reached_named(&place.module) else {
             return Err(Refusal::NotAttached);
         };
-        let reached = &self.residences[k];
-        if let Some(refusal) = span_refusal(&self.lib, reached.residence.module(), purpose, place) {
+        let outside = span_refusal(self.library(), self.residence_module(k), purpose, place);
+        if let Some(refusal) = outside {
             return Err(refusal);
         }
-        if let Some(refusal) = touch_refusal(&reached.places, purpose, place) {
+        if let Some(refusal) = touch_refusal(&self.reached_at(k).places, purpose, place) {
             return Err(refusal);
         }
         Ok(k)
+    }
+
+    /// The residence in which a place may be touched, by its number among those that the process reaches, or why the view
+    /// refuses it.
+    #[tactic(auto, unfolding(load_model::specs::ViewAnswers::view_refusal))]
+    pub fn check_touch(&self, place: &Place) -> Result<usize, Refusal>
+        ensures { MatchResult result
+            (λ k. (view_refusal self.now.library self.now.holding (commands.Touch place.now) ≡ None) × IsReachedNamed self.now place.now.«module» k)
+            (λ refusal. view_refusal self.now.library self.now.holding (commands.Touch place.now) ≡ Some refusal) }
+    {
+        self.check_use(Purpose::Touch, place)
     }
 }

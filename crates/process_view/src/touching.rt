@@ -41,7 +41,7 @@ impl View {
             (object_of (module_of self.now.library (slice_index_or self.now.residences k d).«module») p.object) }
         ensures { (d : ResidenceFor) → result ≡ has_page (mapped_pages self.now.holding) (slice_index_or self.now.residences k d).serial p }
     {
-        self.residences[k].places.get(p).is_some()
+        self.reached_at(k).places.get(p).is_some()
     }
 
     // A residence that the process reaches.
@@ -49,7 +49,7 @@ impl View {
         requires { k < length self.now.residences }
         ensures { (d : ResidenceFor) → result.now ≡ slice_index_or self.now.residences k d }
     {
-        &self.residences[k].residence
+        &self.reached_at(k).residence
     }
 
     // Keeps a page, in its room.
@@ -79,6 +79,7 @@ impl View {
         requires room { 0 < self.old.page_room }
         requires residence { k < length self.old.residences }
         requires page { (d : ResidenceFor) → CanMap self.old (slice_index_or self.old.residences k d) p }
+        requires own { (d : ResidenceFor) → IsOwnPage self.old (slice_index_or self.old.residences k d) p }
         ensures mapped { (d : ResidenceFor) → IsFixedIn self.old self.new (slice_index_or self.old.residences k d) p }
         ensures steps { (d : ResidenceFor) → steps.new ≡ steps.old + source_count self.old.library (slice_index_or self.old.residences k d).«module» p }
     {
@@ -144,4 +145,4 @@ impl View {
 }
 
 ghost use Rattle.load_model.specs.Modules.{source_count};
-ghost use Rattle.process_view.specs.Deeds.{CanMap, IsSharedPage, IsFixedIn};
+ghost use Rattle.process_view.specs.Deeds.{CanMap, IsOwnPage, IsSharedPage, IsFixedIn};

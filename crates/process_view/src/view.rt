@@ -8,6 +8,7 @@ ghost use Rattle.process_view.specs.ProcessViews.{at_front, new_view};
 use load_core::Board;
 use mod_graph::Library;
 use mod_refs::LoadCounts;
+use page_fix::LentLibrary;
 use process_pages::{NameHints, OwnPage, ReachedResidence, ResidenceFinder};
 use std::alloc::Global;
 use std::marker::Model;
@@ -17,7 +18,7 @@ use std::sync::Arc;
 /// the order in which it did, with its own writes in them. It was shown so many entries of the history.
 #[derive(Drop)]
 pub struct View {
-    pub(crate) lib: Arc<Library>,
+    pub(crate) lib: LentLibrary,
     pub(crate) hints: NameHints,
     pub(crate) pid: u32,
     pub(crate) ended: bool,
@@ -48,7 +49,7 @@ impl View {
         let counts = LoadCounts::new(lib.len());
         let hints = NameHints::of(&lib);
         View {
-            lib,
+            lib: LentLibrary::lend(lib),
             hints,
             pid,
             ended: false,

@@ -1,118 +1,140 @@
 //! Bytes that a process writes, and shared bytes that it reads.
 
-ghost use Rattle.std.specs.Prelude.{◌≡◌, IfOk, OnOk, OnErr, None, length};
-ghost use Rattle.lx_types.specs.declared.object.Class.TheVariants as classes;
-ghost use Rattle.process_view.specs.Deeds.{with_write};
+ghost use Rattle.std.specs.Prelude.{◌≡◌, ℕ, [], None, true, IfOk, OnOk, OnErr, option_copied, length};
+ghost use Rattle.load_model.specs.declared.commands.Command.{Command};
+ghost use Rattle.load_model.specs.Refusals as uses;
+ghost use Rattle.load_model.specs.ViewAnswers.{view_place_refusal};
+ghost use Rattle.load_model.specs.State.{pids, is_among};
+ghost use Rattle.load_core.specs.BoardState.{MayAsk, Adds};
+ghost use Rattle.process_view.specs.declared.plans.Plan.TheVariants as plans;
+ghost use Rattle.process_view.specs.ProcessViews.{StandsAt};
+ghost use Rattle.process_view.specs.Answering.{IsReachedNamed};
+ghost use Rattle.process_view.specs.Plans.{IsPlan};
+ghost use Rattle.process_view.specs.Deeds.{IsDone, IsInClass, reading, written_to, own_write, with_write, with_own, write_ask};
 
+use crate::spans::class_of;
 use crate::view::View;
 use load_core::Board;
-use load_model::{Place, residences_stay, views_stand};
-use lx_types::{Class, NoMemory};
+use load_model::{Place, Refusal, residences_stay, views_stand};
+use lx_types::{Bytes, Class, Fail, NoMemory, Seq};
 use process_pages::put_all;
+use std::alloc::Global;
 use write_overlay::Write;
 
+// The write of bytes to a place of an object of a class, where it is the process's own.
+fn own_write(
+    alloc: Global,
+    class: Class,
+    place: &Place,
+    bytes: &[u8],
+) -> Result<Option<Write>, NoMemory>
+    ensures { IfOk result (λ own. own ≡ own_write class (written_to place.now bytes.now)) }
+{
+    match class {
+        Class::Shared => Ok(None),
+        Class::Code | Class::Private => {
+            let bytes = Seq::from_vec(Vec::from_slice(alloc, bytes)?);
+            Ok(Some(Write::new(place.object, place.offset, bytes)))
+        }
+    }
+}
+
+// The entry of bytes that a process writes to an object of a class in the residence of a serial number: a debug write, where
+// it is code. Nothing is done without memory.
+fn add_write(
+    board: &mut Board,
+    pid: u32,
+    serial: u64,
+    class: Class,
+    place: &Place,
+    bytes: &[u8],
+) -> Result<(), NoMemory>
+    requires process { is_among pids pid ≡ true }
+    requires may { (m : ℕ) × MayAsk board.old pid (write_ask class serial m place.now bytes.now) }
+    ensures entry { OnOk result ((m : ℕ) → MayAsk board.old pid (write_ask class serial m place.now bytes.now)
+        → Adds board.old board.new pid (write_ask class serial m place.now bytes.now)) }
+    ensures err { OnErr result (board.new ≡ board.old) }
+{
+    match class {
+        Class::Code => board.debug(pid, serial, place.object, place.offset, bytes),
+        Class::Private | Class::Shared => {
+            board.write(pid, serial, place.object, place.offset, bytes)
+        }
+    }
+}
+
 impl View {
+    // Who sees a write to the place.
+    fn class_at(&self, k: usize, place: &Place) -> Class
+        requires named { IsReachedNamed self.now place.now.«module» k }
+        requires used { (purpose : uses.Purpose) × (view_place_refusal self.now.library self.now.holding purpose place.now ≡ None) }
+        ensures { IsInClass self.now k place.now result }
+    {
+        class_of(self.library(), self.residence_module(k), place.object)
+    }
+
     // Puts a write of the process's own into its pages. It looks at each page that is mapped.
-    pub(crate) fn put_own(&mut self, serial: u64, write: &Write)
+    fn put_own(&mut self, serial: u64, write: &Write)
         ensures { self.new ≡ with_write serial write.now self.old }
     {
         put_all(self.pages.as_mut_slice(), serial, write);
     }
-}
 
-impl View {
-    /// Writes bytes to an object of the process's own: into its pages, and with an entry. Nothing is done without memory.
-    pub fn write_own(
-        &mut self,
-        board: &mut Board,
-        k: usize,
-        place: &Place,
-        write: &Write,
-    ) -> Result<(), NoMemory>
-        requires asked { IsAskedAt board.old self.old (commands.Write place.now write.now.bytes) place.now k }
-        requires write { IsWriteTo place.now write.now }
-        requires class { IsInClass self.old k place.now Class.Private }
-        ensures done { OnOk result (Did board.old board.new self.old self.new (commands.Write place.now write.now.bytes) (done (length board.new.history))) }
-        ensures err { OnErr result ((board.new ≡ board.old) × (self.new ≡ self.old)) }
+    // The same, where it is the process's own.
+    fn keep_own(&mut self, serial: u64, own: Option<&Write>)
+        ensures { self.new ≡ with_own serial (option_copied own.entry) self.old }
     {
-        residences_stay();
-        let pid = self.pid();
-        let serial = self.residence(k).serial();
-        board.write(pid, serial, place.object, place.offset, write.bytes())?;
-        self.put_own(serial, write);
-        self.follow(board);
-        Ok(())
+        if let Some(write) = own {
+            self.put_own(serial, write);
+        }
     }
 
-    /// Writes bytes to an object that all processes share. Nothing is done without memory.
-    pub fn write_shared(
+    // Writes bytes to a place: for the process alone, or for all that share the object. Nothing is done without memory.
+    pub(crate) fn put(
         &mut self,
+        alloc: Global,
         board: &mut Board,
         k: usize,
         place: &Place,
-        bytes: &[u8],
-    ) -> Result<(), NoMemory>
-        requires asked { IsAskedAt board.old self.old (commands.Write place.now bytes.now) place.now k }
+        bytes: &Bytes,
+    ) -> Result<(), Fail<Refusal>>
+        requires stands { StandsAt board.old self.old }
+        requires planned { (command : Command) × IsPlan self.old command (plans.Put k place bytes) }
         requires fits { length bytes.now ≡ place.now.len }
-        requires class { IsInClass self.old k place.now Class.Shared }
-        ensures done { OnOk result (Did board.old board.new self.old self.new (commands.Write place.now bytes.now) (done (length board.new.history))) }
-        ensures err { OnErr result ((board.new ≡ board.old) × (self.new ≡ self.old)) }
+        ensures { (command : Command) → IsPlan self.old command (plans.Put k place.entry bytes.entry)
+            → IsDone board.old board.new self.old self.new command (reading [] result) }
     {
         residences_stay();
         views_stand();
+        board.history();
         let pid = self.pid();
         let serial = self.residence(k).serial();
-        board.write(pid, serial, place.object, place.offset, bytes)?;
+        let class = self.class_at(k, place);
+        let own = own_write(alloc, class, place, bytes.as_slice())?;
+        add_write(board, pid, serial, class, place, bytes.as_slice())?;
+        self.keep_own(serial, own.as_ref());
         self.follow(board);
         Ok(())
     }
 
-    /// Writes bytes to the process's own copy of code (DosDebug). Nothing is done without memory.
-    pub fn debug(
-        &mut self,
-        board: &mut Board,
-        k: usize,
-        place: &Place,
-        write: &Write,
-    ) -> Result<(), NoMemory>
-        requires asked { IsAskedAt board.old self.old (commands.Debug place.now write.now.bytes) place.now k }
-        requires write { IsWriteTo place.now write.now }
-        requires class { IsInClass self.old k place.now Class.Code }
-        ensures done { OnOk result (Did board.old board.new self.old self.new (commands.Debug place.now write.now.bytes) (done (length board.new.history))) }
-        ensures err { OnErr result ((board.new ≡ board.old) × (self.new ≡ self.old)) }
-    {
-        residences_stay();
-        let pid = self.pid();
-        let serial = self.residence(k).serial();
-        board.debug(pid, serial, place.object, place.offset, write.bytes())?;
-        self.put_own(serial, write);
-        self.follow(board);
-        Ok(())
-    }
-}
-
-ghost use Rattle.load_model.specs.declared.commands.Command.TheVariants as commands;
-ghost use Rattle.load_model.specs.Outcomes.{done};
-ghost use Rattle.process_view.specs.Deeds.{Did, IsAskedAt, IsWriteTo, IsInClass};
-
-impl View {
-    /// Reads bytes of an object that all processes share into a buffer that is as long as the place: the process's own
-    /// copy of them, and over it the writes that all share. Without memory nothing is done, and the buffer may hold anything.
-    pub fn read_shared(
+    // Reads bytes of a place that all processes share into a buffer that is as long as the place: the process's own copy of
+    // them, and over it the writes that all share. Nothing is done without memory.
+    fn read_into(
         &mut self,
         board: &mut Board,
         k: usize,
         place: &Place,
         into: &mut [u8],
-    ) -> Result<(), NoMemory>
-        requires asked { IsAskedAt board.old self.old (commands.Shared place.now) place.now k }
+    ) -> Result<(), Fail<Refusal>>
+        requires stands { StandsAt board.old self.old }
+        requires planned { (command : Command) × IsPlan self.old command (plans.Read k place) }
         requires fits { length into.old ≡ place.now.len }
-        ensures done { OnOk result (Did board.old board.new self.old self.new (commands.Shared place.now) (done (length board.new.history))) }
-        ensures read { IfOk result (λ _. IsLastRead board.old board.new into.new) }
-        ensures err { OnErr result ((board.new ≡ board.old) × (self.new ≡ self.old)) }
+        ensures { (command : Command) → IsPlan self.old command (plans.Read k place.entry)
+            → IsDone board.old board.new self.old self.new command (reading into.new result) }
     {
         residences_stay();
         views_stand();
+        board.history();
         let pid = self.pid();
         let serial = self.residence(k).serial();
         self.copy_place(k, place, into);
@@ -120,6 +142,22 @@ impl View {
         self.follow(board);
         Ok(())
     }
-}
 
-ghost use Rattle.process_view.specs.Deeds.{IsLastRead};
+    // The same into a buffer of its own.
+    pub(crate) fn read(
+        &mut self,
+        alloc: Global,
+        board: &mut Board,
+        k: usize,
+        place: &Place,
+    ) -> Result<Bytes, Fail<Refusal>>
+        requires stands { StandsAt board.old self.old }
+        requires planned { (command : Command) × IsPlan self.old command (plans.Read k place) }
+        ensures { (command : Command) → IsPlan self.old command (plans.Read k place.entry)
+            → IsDone board.old board.new self.old self.new command result }
+    {
+        let mut bytes = vec![in alloc; 0; place.len as usize]?;
+        self.read_into(board, k, place, bytes.as_mut_slice())?;
+        Ok(Seq::from_vec(bytes))
+    }
+}

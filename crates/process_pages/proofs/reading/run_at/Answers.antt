@@ -1,15 +1,41 @@
-use Rattle.std.proofs.Common.{◌≡◌, ◌∙◌, ◌<◌, ◌≤◌, ◌/◌, ◌%◌, ◌+◌, ◌-◌, ℕ, Option, Some, length, refl, sym, ap, arith}
+use Rattle.std.proofs.Common.{◌≡◌, ◌∙◌, false, true, List, ◌<◌, ◌≤◌, ◌/◌, ◌%◌, ◌+◌, ◌-◌, ℕ, Option, Some, None, length, refl, sym, ap, arith}
 use borrow.Rule.Slice.PartMut.{mid_of}
-use Rattle.std.specs.Prelude.{slice_get}
+use Rattle.std.specs.Prelude.{slice_get, nat_lt}
 use Rattle.std.proofs.lemmas.Bool.{ltb-true}
+use Rattle.std.proofs.lemmas.Bool.Decides.{nat_tests}
 use Rattle.std.proofs.lemmas.Option.{slice_get-get_or}
 use Rattle.load_model.specs.Memory.{page}
 use Rattle.load_model.specs.Views.{Mapped}
 use Rattle.load_model.specs.ViewAnswers.{bytes_in}
-use Rattle.process_pages.specs.PageRows.{place_in}
-use Rattle.process_pages.specs.Reading.{bytes_at}
+use Rattle.load_model.specs.declared.commands.Place.{Place}
+use Rattle.process_pages.specs.PageRows.{PagePlaces, place_in}
+use Rattle.process_pages.specs.Reading.{bytes_at, IsThere, AreThere}
 use Rattle.process_pages.proofs.Copies.{cut_length, cut_of, run_in_page}
 use Rattle.process_pages.proofs.reading.run_at.Goals as goal
+
+first_there : (rows : PagePlaces) (pages : List Mapped) (at : Place) → 0 < at.len → AreThere rows pages at.object at.offset at.len → IsThere rows pages (page at.object (at.offset / 4096))
+first_there rows pages at some there = there at.offset (omega arith) (omega (arith, some))
+
+out_of : (slot k n : ℕ) → slot ≡ k → k < n → false ≡ nat_lt slot n → ⊥
+out_of slot k n e u f = let less : nat_lt slot n ≡ true = grind (arith, nat_tests) in let wrong : false ≡ true = f ∙ less in cc
+
+pub returns-in_err-get-clause-none : goal.returns-in_err-get-clause-none
+returns-in_err-get-clause-none c =
+    rw c.from_residual.ensures
+    (λ lies there.
+    let some : 0 < c.args.place.now.len = omega arith in
+    let it = first_there c.args.places.now c.args.pages.now c.args.place.now some there in
+    absurd (let wrong : None ≡ Some it.0 = sym c.in_err-get.was ∙ c.get.ensures ∙ it.1 in cc))
+
+pub returns-in_err-page-clause-none : goal.returns-in_err-page-clause-none
+returns-in_err-page-clause-none c =
+    rw c.from_residual-in_err-page.ensures
+    (λ lies there.
+    let some : 0 < c.args.place.now.len = omega arith in
+    let it = first_there c.args.places.now c.args.pages.now c.args.place.now some there in
+    let both : Some c.in_ok-get.field-0 ≡ Some it.0 = sym c.in_ok-get.was ∙ c.get.ensures ∙ it.1 in
+    let same : c.in_ok-get.field-0 ≡ it.0 = cc in
+    absurd (out_of c.in_ok-get.field-0 it.0 (length c.args.pages.now) same it.2 c.in_err-page.ensures.lookup.0))
 
 pub returns-clause-bytes : goal.returns-clause-bytes
 returns-clause-bytes c =

@@ -1,7 +1,10 @@
-use Rattle.std.proofs.Common.{◌≡◌, ◌<◌, ◌≤◌, ℕ, false}
+use Rattle.std.proofs.Common.{◌≡◌, ◌-◌}
+use Rattle.std.specs.List.{list_any, range_with_len}
 use Rattle.load_model.specs.Modules as modules
 use Rattle.load_model.specs.Memory.{page}
 use Rattle.process_view.proofs.spans.covers_invalid.Given as goal
 
 abbrev pub invariant-loop-page : goal.invariant-loop-page
-invariant-loop-page l = (j : ℕ) → l.initial.page ≤ j → j < l.page → modules.is_invalid l.lib l.m (page l.place.object j) ≡ false
+invariant-loop-page l =
+    list_any (λ n. modules.is_invalid l.lib l.m (page l.place.object n)) (range_with_len l.page (l.page-end - l.page))
+    ≡ list_any (λ n. modules.is_invalid l.lib l.m (page l.place.object n)) (range_with_len l.initial.page (l.page-end - l.initial.page))

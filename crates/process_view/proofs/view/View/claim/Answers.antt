@@ -10,7 +10,7 @@ use Rattle.load_core.specs.declared.answers.Claim.{Claim}
 use Rattle.process_view.specs.ProcessViews.{ProcessView, StandsAt, at_front}
 use Rattle.process_view.specs.Deeds.{fault_of}
 use Rattle.process_view.proofs.Claims.{may_claim, fault_is, fault_follows, claim_stands}
-use Rattle.process_view.proofs.PagesStanding.{attached}
+use Rattle.process_view.proofs.Shown.{attached}
 use Rattle.process_view.proofs.view.View.claim.Goals as goal
 
 pub fault-requires-clause-process : goal.fault-requires-clause-process

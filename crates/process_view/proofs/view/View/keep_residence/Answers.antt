@@ -19,7 +19,7 @@ use Rattle.process_view.proofs.view.View.keep_residence.Goals as goal
 
 pub invariant_of-self : goal.invariant_of-self
 invariant_of-self c =
-    let lib = arc_value c.self.inside.lib in
+    let lib = c.self.inside.lib in
     let residences = c.self.inside.residences.items in
     let pages = c.self.inside.pages.items in
     let r = arc_value c.args.residence in

@@ -1,6 +1,5 @@
 use Rattle.std.proofs.Common.{◌≡◌, ◌<◌, ◌&&◌, ◌∙◌, ◌-◌, ◌++◌, take, drop, [], ℕ, List, Bool, filter, length, sym, ap, subst, arith}
 use Rattle.std.specs.Prelude.{vec_len, vec_capacity, All, AllPairs, nat_lt, slice_index}
-use Rattle.std.specs.Arc.{arc_value}
 use Rattle.std.proofs.lemmas.List.Elements.{All-filter, recursion_from_All}
 use Rattle.std.proofs.lemmas.List.{take_at}
 use Rattle.std.proofs.lemmas.List.Kept.{AllPairs-filter}
@@ -23,7 +22,7 @@ use Rattle.process_view.proofs.view.View.leave_one.Goals as goal
 pub free-requires-clause-counted : goal.free-requires-clause-counted
 unfolding order_of
 free-requires-clause-counted c =
-    let lib = arc_value c.self.inside.lib in
+    let lib = c.self.inside.lib in
     let order : c.order.result.now ≡ order_of lib c.args.m = c.order.ensures ∙ ap (λ (l : Library). order_of l c.args.m) c.deref.ensures in
     let C : ProcessView → Type 0 = λ v. All (λ k. 0 < slice_index v.holding.counts.reached k) (order_of v.library c.args.m) in
     let O : List ℕ → Type 0 = λ ks. All (λ k. 0 < slice_index c.self.inside.counts.reached k) ks in
@@ -32,7 +31,7 @@ free-requires-clause-counted c =
 pub free-requires-clause-once : goal.free-requires-clause-once
 unfolding order_of
 free-requires-clause-once c =
-    let lib = arc_value c.self.inside.lib in
+    let lib = c.self.inside.lib in
     let order : c.order.result.now ≡ order_of lib c.args.m = c.order.ensures ∙ ap (λ (l : Library). order_of l c.args.m) c.deref.ensures in
     let C : ProcessView → Type 0 = λ v. AllPairs (λ a b. a ≡ b → ⊥) (order_of v.library c.args.m) in
     let O : List ℕ → Type 0 = λ ks. AllPairs (λ a b. a ≡ b → ⊥) ks in
@@ -41,7 +40,7 @@ free-requires-clause-once c =
 pub keep_reached-requires : goal.keep_reached-requires
 unfolding order_of
 keep_reached-requires c =
-    let lib = arc_value c.self.inside.lib in
+    let lib = c.self.inside.lib in
     let order : c.order.result.now ≡ order_of lib c.args.m = c.order.ensures ∙ ap (λ (l : Library). order_of l c.args.m) c.deref.ensures in
     let p = c.requires.counts.0 in
     let R : ProcessView → Type 0 = λ v. AreCountsOf v.library p v.holding.counts in
@@ -52,7 +51,7 @@ keep_reached-requires c =
 pub invariant_of-self : goal.invariant_of-self
 unfolding order_of
 invariant_of-self c =
-    let lib = arc_value c.self.inside.lib in
+    let lib = c.self.inside.lib in
     let residences = c.self.inside.residences.items in
     let pages = c.self.inside.pages.items in
     let order : c.order.result.now ≡ order_of lib c.args.m = c.order.ensures ∙ ap (λ (l : Library). order_of l c.args.m) c.deref.ensures in
@@ -92,7 +91,7 @@ invariant_of-self c =
 pub returns-clause-counts : goal.returns-clause-counts
 unfolding order_of
 returns-clause-counts c = λ p e counts.
-    let lib = arc_value c.self.inside.lib in
+    let lib = c.self.inside.lib in
     let order : c.order.result.now ≡ order_of lib c.args.m = c.order.ensures ∙ ap (λ (l : Library). order_of l c.args.m) c.deref.ensures in
     let R : ProcessView → Type 0 = λ v. AreCountsOf v.library p v.holding.counts in
     let N : ProcessView → Type 0 = λ v. AreCountsOf v.library (keeping v.library e (freeing c.args.m p)) c.free.new.self in
@@ -101,7 +100,7 @@ returns-clause-counts c = λ p e counts.
 pub returns-clause-rest : goal.returns-clause-rest
 unfolding order_of
 returns-clause-rest c = λ p counts.
-    let lib = arc_value c.self.inside.lib in
+    let lib = c.self.inside.lib in
     let residences = c.self.inside.residences.items in
     let pages = c.self.inside.pages.items in
     let order : c.order.result.now ≡ order_of lib c.args.m = c.order.ensures ∙ ap (λ (l : Library). order_of l c.args.m) c.deref.ensures in

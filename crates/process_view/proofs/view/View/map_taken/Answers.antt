@@ -1,18 +1,11 @@
-use Rattle.std.proofs.Common.{◌≡◌, ◌∙◌, ℕ, List, [], ap, get_or, length}
-use Rattle.std.proofs.lemmas.List.FromFn.{length-map-range_with_len}
-use Rattle.lx_types.specs.declared.object.PageId.{PageId}
-use Rattle.lx_types.specs.declared.bases.Bases.{Bases}
+use Rattle.std.proofs.Common.{◌∙◌, ℕ, List, [], ap, get_or}
 use Rattle.lx_types.specs.declared.parts.Parts.{Parts}
 use Rattle.lx_model.specs.Library.{module_of}
-use Rattle.lx_model.specs.Fixed.{Fixed}
 use Rattle.lx_model.specs.ModuleBytes.{fixed_page}
 use Rattle.page_fix.specs.Fixable.{is_fixable}
 use Rattle.page_frames.specs.Residences.{ResidenceFor}
 use Rattle.process_view.specs.Deeds.{with_page}
 use Rattle.process_view.proofs.view.View.map_taken.Goals as goal
-
-page_long : (lib : List Parts) (m : ℕ) (bases : Bases) (p : PageId) (bytes : List ℕ) → bytes ≡ fixed_page lib m bases p → length bytes ≡ 4096
-page_long lib m bases p bytes e = ap (λ (xs : List ℕ). length xs) e ∙ length-map-range_with_len (Fixed lib m bases p) 0 4096
 
 pub wait-requires : goal.wait-requires
 wait-requires g c =

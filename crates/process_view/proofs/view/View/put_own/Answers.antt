@@ -1,7 +1,6 @@
 use Rattle.std.proofs.Common.{◌≡◌, ◌∙◌, ◌-◌, ◌++◌, ℕ, List, sym, ap, subst, map, length, take, drop}
 use Rattle.std.proofs.lemmas.List.{length-map, take_at}
 use Rattle.std.specs.Prelude.{All, vec_len, vec_capacity}
-use Rattle.std.specs.Arc.{arc_value}
 use Rattle.load_model.specs.Views.{Mapped}
 use Rattle.process_pages.specs.ReachedResidences.{residences_in, IsPlaced}
 use Rattle.load_model.specs.WrittenPages.{written_over}
@@ -21,12 +20,12 @@ invariant_of-self c =
     let put : ws ≡ map (written_over c.args.serial c.args.write.now) pages.items = c.put_all.ensures ∙ ap (λ (ps : List Mapped). map (written_over c.args.serial c.args.write.now) ps) c.as_mut_slice.ensures.value in
     let long : length ws ≡ pages.len = ap (λ (ps : List Mapped). length ps) put ∙ length-map pages.items (written_over c.args.serial c.args.write.now) ∙ sym pages.ok.0 in
     let items : take pages.len (ws ++ drop (length ws) pages.items) ≡ map (written_over c.args.serial c.args.write.now) pages.items = refilled pages.len ws pages.items long pages.ok.0 ∙ put in
-    let M : List Mapped → Type 0 = λ ms. All (IsPlaced (arc_value c.self.inside.lib) ms) c.self.inside.residences.items in
+    let M : List Mapped → Type 0 = λ ms. All (IsPlaced c.self.inside.lib ms) c.self.inside.residences.items in
     record {
       process = c.self.invariant.process;
       loads = c.self.invariant.loads;
       reached = c.self.invariant.reached;
-      placed = subst M (sym items) (placed_written (arc_value c.self.inside.lib) pages.items c.args.serial c.args.write.now c.self.inside.residences.items c.self.invariant.placed);
+      placed = subst M (sym items) (placed_written c.self.inside.lib pages.items c.args.serial c.args.write.now c.self.inside.residences.items c.self.invariant.placed);
       apart = c.self.invariant.apart;
       found = c.self.invariant.found;
     }
@@ -39,5 +38,5 @@ returns c =
     let put : ws ≡ map (written_over c.args.serial c.args.write.now) pages.items = c.put_all.ensures ∙ ap (λ (ps : List Mapped). map (written_over c.args.serial c.args.write.now) ps) c.as_mut_slice.ensures.value in
     let long : length ws ≡ pages.len = ap (λ (ps : List Mapped). length ps) put ∙ length-map pages.items (written_over c.args.serial c.args.write.now) ∙ sym pages.ok.0 in
     let items : take pages.len (ws ++ drop (length ws) pages.items) ≡ map (written_over c.args.serial c.args.write.now) pages.items = refilled pages.len ws pages.items long pages.ok.0 ∙ put in
-    ap (λ (ps : List Mapped). view_made (arc_value i.lib) i.pid i.ended i.counts (residences_in i.residences.items) ps i.front (vec_capacity pages - vec_len pages) (vec_capacity i.residences - vec_len i.residences)) items
+    ap (λ (ps : List Mapped). view_made i.lib i.pid i.ended i.counts (residences_in i.residences.items) ps i.front (vec_capacity pages - vec_len pages) (vec_capacity i.residences - vec_len i.residences)) items
     ∙ ap (with_write c.args.serial c.args.write.now) c.self.view_is
