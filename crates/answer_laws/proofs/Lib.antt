@@ -8,3 +8,4 @@ pub mod GeneratedSome
 pub mod SomeAnswerLaw
 pub mod SmallestObjectsLaw
 pub mod RunOnce
+pub mod RunSome

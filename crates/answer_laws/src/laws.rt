@@ -1,11 +1,13 @@
 //! Laws over the definitions, each the contract of a function that does nothing.
 
 ghost use Rattle.answer_laws.specs.AnswerLaws.{OneAnswer, SomeAnswer};
-ghost use Rattle.answer_laws.specs.RunLaws.{RunHasOneAnswer};
+ghost use Rattle.answer_laws.specs.RunLaws.{RunHasAnAnswer, RunHasOneAnswer};
 ghost use Rattle.answer_laws.specs.SmallestObjects.{ShowsSmallestObjects};
 
 use gen_laws::{modules_have_totals, objects_have_files};
 use map_model::{links_have_maps, maps_are_one};
+use script_laws::scripts_have_a_run;
+use session_model::sessions_are_bounded;
 
 /// Words, with what each name has, have one answer at most: one status, one text, and the same files saved; of `gen` its object
 /// files mean the same modules, however they are spelled.
@@ -35,3 +37,12 @@ pub fn smallest_objects_are_shown()
 pub fn runs_have_one_answer()
     ensures { RunHasOneAnswer }
 {}
+
+/// They have an answer, whatever bytes files have: of status 1, or of status 0 with a run of the scripts. So a call over told
+/// files that ends with another status ends with 8, for want of memory.
+pub fn runs_have_an_answer()
+    ensures { RunHasAnAnswer }
+{
+    scripts_have_a_run();
+    sessions_are_bounded();
+}

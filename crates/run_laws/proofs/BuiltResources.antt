@@ -10,7 +10,7 @@ use Rattle.run_model.specs.Resources.{WrittenHasNoResources}
 use Rattle.run_model.specs.Sources.{Source, built, module_from, library_of}
 use Rattle.run_laws.specs.BuiltResources.{BuiltHasNoResources}
 
-module_is : (sources : List Source) (m : ℕ) (s : Source) → slice_get sources m ≡ Some s → module_of (library_of sources) m ≡ module_from s
+pub module_is : (sources : List Source) (m : ℕ) (s : Source) → slice_get sources m ≡ Some s → module_of (library_of sources) m ≡ module_from s
 module_is sources m s at = get_or_from_slice_get (map module_from sources) m (module_from s) no_module (slice_get-map module_from sources m ∙ ap (λ o. mapped o) at)
   where
     mapped : Option Source → Option Parts

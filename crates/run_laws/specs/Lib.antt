@@ -1,2 +1,3 @@
 pub mod Bridge
 pub mod BuiltResources
+pub mod BuiltModules

@@ -2,3 +2,8 @@ pub mod Steady
 pub mod Entered
 pub mod Touched
 pub mod Carried
+pub mod Asked
+pub mod Kept
+pub mod OwnEntries
+pub mod OwnTouch
+pub mod OneByOne

@@ -2,7 +2,7 @@
 //! calls where it needs the law.
 
 ghost use Rattle.script_laws.specs.Commands.{EntryGoesOn, ProgressBegins, ReadGoesOn, RefusedGoesOn, TouchGoesOn};
-ghost use Rattle.script_laws.specs.Ends.{ScriptsAreRun};
+ghost use Rattle.script_laws.specs.Ends.{ScriptsAreRun, ScriptsHaveARun};
 
 /// A process that has done nothing has carried out nothing.
 pub fn progress_begins()
@@ -53,4 +53,23 @@ pub fn scripts_are_run()
 {
     merge_laws::account_goes_on();
     merge_laws::accounts_merge();
+}
+
+/// Scripts of at most sixteen processes have a run: one after the other is one.
+pub fn scripts_have_a_run()
+    ensures { ScriptsHaveARun }
+{
+    progress_begins();
+    steady_lines_go_on();
+    entries_go_on();
+    touches_go_on();
+    scripts_are_run();
+    load_model::histories_grow();
+    load_model::serials_rise();
+    load_model::commands_are_asked();
+    load_model::names_are_known();
+    load_model::views_stand();
+    load_model::views_answer();
+    merge_laws::account_goes_on();
+    merge_laws::views_touch();
 }

@@ -4,5 +4,6 @@
 mod laws;
 
 pub use laws::{
-    entries_go_on, progress_begins, scripts_are_run, steady_lines_go_on, touches_go_on,
+    entries_go_on, progress_begins, scripts_are_run, scripts_have_a_run, steady_lines_go_on,
+    touches_go_on,
 };
