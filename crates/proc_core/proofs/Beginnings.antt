@@ -19,7 +19,8 @@ use Rattle.proc_core.specs.declared.kept.Kept.{Kept}
 use Rattle.proc_core.specs.Procs.{proc_state, Holds}
 use Rattle.proc_core.specs.Closing.{IsNew}
 
-among_range : (len a n : ℕ) → a ≤ n → n < a + len → is_among (range_with_len a len) n ≡ true
+-- a range has what lies in it
+pub among_range : (len a n : ℕ) → a ≤ n → n < a + len → is_among (range_with_len a len) n ≡ true
 among_range zero a n low high = absurd (omega arith)
 among_range (suc len) a n low high = dite (ℕ_discrete a n)
     (λ e. rw (eq-eqb a n e) refl)

@@ -1,5 +1,5 @@
 -- A page that is claimed in a turn, and mapped after it.
-use Rattle.std.proofs.Common.{◌≡◌, ℕ, ◌+◌, ◌==◌, true, false, List, [], ◌∷◌, ◌++◌, length, count_by, Some, refl, sym, ap, ◌∙◌, subst, inl, arith, append-nil}
+use Rattle.std.proofs.Common.{◌≡◌, ℕ, ◌+◌, ◌==◌, true, false, List, [], ◌∷◌, ◌++◌, length, count_by, Some, refl, sym, ap, ◌∙◌, subst, inl, arith, append-nil, eq-eqb}
 use Rattle.std.proofs.lemmas.Bool.Decides.{nat_tests}
 use Rattle.std.specs.List.{AllByRecursion}
 use Rattle.std.proofs.lemmas.List.{map-append}
@@ -12,6 +12,7 @@ use Rattle.load_model.specs.declared.deeds.Entry.{Entry}
 use Rattle.load_model.specs.Modules.{Library, object_at, source_count}
 use Rattle.load_model.specs.State.{PageOf, pids, is_among}
 use Rattle.load_model.specs.Asks.{is_own}
+use Rattle.load_model.specs.TouchedPages.{has_page}
 use Rattle.load_model.specs.Views.{Holding, Mapped, mapped_pages}
 use Rattle.load_model.specs.TouchSteps.{touch_steps, mapped_steps, OthersCountNothing, FaultCounts, MappedCounts}
 use Rattle.load_core.specs.BoardState.{BoardState, IsLegal}
@@ -65,9 +66,13 @@ private_steps laws lib pid m t own =
 
 -- ---- entries
 
-pub all_others : (v : ProcessView) (m : ℕ) (t : PageOf) (pid : ℕ) (more : List Entry) → pid ≡ v.holding.pid → AreOthers pid more → AllByRecursion (IsSeenForPage v m t) more
-all_others v m t pid [] is others = tt
-all_others v m t pid (x ∷ more) is others = (inl (subst (λ (n : ℕ). (n == x.pid) ≡ false) is others.0), all_others v m t pid more is others.1)
+pub all_others : (v : ProcessView) (m : ℕ) (t : PageOf) (news : List PageOf) (pid : ℕ) (more : List Entry) → pid ≡ v.holding.pid → AreOthers pid more → AllByRecursion (IsSeenForPage v m t news) more
+all_others v m t news pid [] is others = tt
+all_others v m t news pid (x ∷ more) is others = (inl (subst (λ (n : ℕ). (n == x.pid) ≡ false) is others.0), all_others v m t news pid more is others.1)
+
+-- a page is one of itself
+pub one_page : (serial : ℕ) (p : PageId) → has_page (record { serial = serial; page = p } ∷ []) serial p ≡ true
+one_page serial p = rw (eq-eqb serial serial refl, eq-eqb p.object p.object refl, eq-eqb p.page p.page refl) refl
 
 pub all_last : {A : Type 0} (P : A → Type 0) (xs : List A) (x : A) → AllByRecursion P xs → P x → AllByRecursion P (xs ++ x ∷ [])
 all_last P [] x all here = (here, tt)

@@ -9,13 +9,12 @@ pub mod Others
 pub mod Histories
 -- The residences of a process stand as they were shown while others go on.
 pub mod ShownOn
--- What a process is answered by its view is what the loader answers at its front.
+-- What a process is answered by its view, or refused, is what the loader answers at its front.
 pub mod Fronts
 -- ---- turns of a process
 -- The board comes to a process.
 pub mod Coming
 -- What a command asks that is not refused, and what its entry says.
-pub mod Asked
 -- What a turn comes to.
 pub mod Made
 -- What a call in a turn is answered.

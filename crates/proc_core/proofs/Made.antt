@@ -19,7 +19,7 @@ use Rattle.load_model.specs.Views.{Holding, mapped_pages, state_for}
 use Rattle.load_model.specs.TouchedPages.{touched_behind}
 use Rattle.load_model.specs.ViewAnswers.{view_refusal}
 use Rattle.load_model.specs.ViewLaws.{RefusedByView}
-use Rattle.load_model.specs.Outcomes.{Outcome, NamesAreKnown}
+use Rattle.load_model.specs.Outcomes.{Outcome, NamesAreKnown, RefusedIsTold}
 use Rattle.session_model.specs.Merging.{AsksFor, uses_touched}
 use Rattle.load_core.specs.BoardState.{BoardState, IsLegal, entry_of, with_entry}
 use Rattle.merge_laws.specs.PageStates.{state_with}
@@ -30,7 +30,7 @@ use Rattle.proc_core.specs.Procs.{ProcState, Holds, front_of, failing_in}
 use Rattle.proc_core.specs.Calls.{Made, Waited, call_refusal}
 use Rattle.proc_core.specs.Turns.{HasCome}
 use Rattle.proc_core.proofs.Others.{own_entries, own_one}
-use Rattle.proc_core.proofs.Asked.{Entered, asks_for, entered_by}
+use Rattle.script_laws.proofs.Asked.{Entered, asks_for, entered_by}
 
 -- the board in the turn of a process
 abbrev pub board_state : ProcState → List Entry → BoardState
@@ -102,6 +102,7 @@ idle_waited p b c v w come idle =
 pub record Laws : Type 0 where
   pub known : NamesAreKnown
   pub refusals : RefusedByView
+  pub told : RefusedIsTold
   pub may : AcceptedMayAsk
   pub apart : TouchedIsApart
   pub grows : OneMoreIsLegal

@@ -8,6 +8,7 @@ use Rattle.lx_model.specs.ModuleBytes.{fixed_page}
 use Rattle.page_frames.specs.Residences.{ResidenceFor}
 use Rattle.load_model.specs.declared.deeds.Entry.{Entry}
 use Rattle.load_model.specs.Modules.{object_at, source_count}
+use Rattle.load_model.specs.State.{PageOf}
 use Rattle.load_model.specs.Asks.{is_own}
 use Rattle.load_model.specs.Histories.{has_fault}
 use Rattle.load_model.specs.Views.{Holding, mapped_pages}
@@ -21,7 +22,7 @@ use Rattle.proc_core.specs.Calls.{AreOthers, Waited}
 use Rattle.proc_core.specs.Touches.{page_in, needs_fault, IsSeenForPage, IsPage}
 use Rattle.proc_core.specs.Claiming.{is_there, IsTurn}
 use Rattle.proc_core.proofs.Made.{roomless}
-use Rattle.proc_core.proofs.Claims.{Laws, with_view, view_holds, others_steps, taken_steps, given_steps, all_others, mapped_one, one_fault}
+use Rattle.proc_core.proofs.Claims.{Laws, with_view, view_holds, others_steps, taken_steps, given_steps, all_others, one_page, mapped_one, one_fault}
 
 -- ---- what holds of the process
 
@@ -42,10 +43,10 @@ module _ (laws : Laws) (p q : ProcState) (w : ProcessView) (r : ResidenceFor) (t
   own_one : count_by (needs_fault p.view.library r.«module») (page_in r t ∷ []) ≡ 1
   own_one = one_fault p.view.library r.«module» (page_in r t) shared
 
-  others_seen : (more : List Entry) → AreOthers p.known.pid more → AllByRecursion (IsSeenForPage p.view r.«module» (page_in r t)) more
-  others_seen more others = all_others p.view r.«module» (page_in r t) p.known.pid more (sym holds.number) others
+  others_seen : (news : List PageOf) (more : List Entry) → AreOthers p.known.pid more → AllByRecursion (IsSeenForPage p.view r.«module» (page_in r t) news) more
+  others_seen news more others = all_others p.view r.«module» (page_in r t) news p.known.pid more (sym holds.number) others
 
-  behind : (bytes : List ℕ) (own : List Entry) (after : ℕ) → (turn : IsTurn (with_view p w) q own) → AllByRecursion (IsSeenForPage p.view r.«module» (page_in r t)) own →
+  behind : (bytes : List ℕ) (own : List Entry) (after : ℕ) → (turn : IsTurn (with_view p w) q own) → AllByRecursion (IsSeenForPage p.view r.«module» (page_in r t) (page_in r t ∷ [])) own →
       after ≡ before + touch_steps p.view.library p.known.pid r.«module» (turn.more ++ own) (page_in r t ∷ []) → IsPage p (with_view q (with_page r t bytes q.view)) (page_in r t) r.«module» (page_in r t ∷ []) before after
   behind bytes own after turn entries steps =
       let one = own_one in
@@ -55,7 +56,7 @@ module _ (laws : Laws) (p q : ProcState) (w : ProcessView) (r : ResidenceFor) (t
         pass = record { lock = turn.pass.lock; known = turn.pass.known };
         shown = turn.more ++ own;
         seen = turn.seen;
-        entries = all_joined (IsSeenForPage p.view r.«module» (page_in r t)) turn.more own (others_seen turn.more turn.others) entries;
+        entries = all_joined (IsSeenForPage p.view r.«module» (page_in r t) (page_in r t ∷ [])) turn.more own (others_seen (page_in r t ∷ []) turn.more turn.others) entries;
         library = ap (λ (u : ProcessView). u.library) turn.view ∙ ap (λ (u : ProcessView). u.library) bare;
         residences = ap (λ (u : ProcessView). u.residences) turn.view ∙ ap (λ (u : ProcessView). u.residences) bare;
         holding = ap (λ (k : Holding). record k { mapped = q.view.holding.mapped ++ page_with r t bytes ∷ [] }) holding;
@@ -80,7 +81,7 @@ module _ (laws : Laws) (p q : ProcState) (w : ProcessView) (r : ResidenceFor) (t
       let counts : touch_steps p.view.library p.known.pid r.«module» (turn.more ++ fault_of w r t ∷ []) (page_in r t ∷ []) ≡ source_count p.view.library r.«module» t =
       ap (λ (x : Entry). touch_steps p.view.library p.known.pid r.«module» (turn.more ++ x ∷ []) (page_in r t ∷ [])) own
       ∙ given_steps laws p.view.library p.known.pid r.«module» turn.more (page_in r t) turn.others shared in
-      behind bytes (fault_of w r t ∷ []) after turn (inr (pid, refl, apart), tt) (steps ∙ ap (λ (n : ℕ). before + n) (sym counts))
+      behind bytes (fault_of w r t ∷ []) after turn (inr (pid, refl, apart, one_page r.serial t), tt) (steps ∙ ap (λ (n : ℕ). before + n) (sym counts))
 
   -- without memory for the claim nothing is mapped
   pub waited_none : Waited (with_view p w) q → IsPage p q (page_in r t) r.«module» [] before before
@@ -92,7 +93,7 @@ module _ (laws : Laws) (p q : ProcState) (w : ProcessView) (r : ResidenceFor) (t
         pass = record { lock = waited.pass.lock; known = waited.pass.known };
         shown = waited.more;
         seen = waited.seen;
-        entries = others_seen waited.more waited.others;
+        entries = others_seen [] waited.more waited.others;
         library = ap (λ (u : ProcessView). u.library) waited.view ∙ ap (λ (u : ProcessView). u.library) bare;
         residences = ap (λ (u : ProcessView). u.residences) waited.view ∙ ap (λ (u : ProcessView). u.residences) bare;
         holding = ap (λ (k : Holding). record k { mapped = q.view.holding.mapped }) holding;

@@ -1,7 +1,10 @@
 -- A touch goes on by one page.
-use Rattle.std.proofs.Common.{◌≡◌, ℕ, ◌+◌, ◌<◌, ◌≤◌, ◌==◌, inl, inr, Bool, true, false, List, [], ◌∷◌, ◌++◌, take, length, count_by, map, None, refl, sym, ap, ◌∙◌, subst, arith, append_assoc, append-nil, if◌then◌else◌}
+use Rattle.std.proofs.Common.{◌≡◌, ℕ, ◌+◌, ◌<◌, ◌≤◌, ◌==◌, ◌&&◌, ◌||◌, inl, inr, Bool, true, false, List, [], ◌∷◌, ◌++◌, take, length, count_by, map, None, refl, sym, ap, ◌∙◌, subst, arith, append_assoc, append-nil, if◌then◌else◌}
 use Rattle.std.specs.List.{range_with_len}
+use Rattle.std.proofs.lemmas.List.Folds.{list_any-append}
 use Rattle.std.proofs.lemmas.List.Sums.{sum_by-append}
+use Rattle.std.proofs.Math.Bool.{or-true}
+use Rattle.lx_types.specs.declared.object.PageId.{PageId}
 use Rattle.lx_model.proofs.Each.{each_more}
 use Rattle.lx_types.proofs.Lists.{all_joined}
 use Rattle.turn_lock.specs.declared.known.Known.{Known}
@@ -9,7 +12,7 @@ use Rattle.load_model.specs.declared.commands.Place.{Place}
 use Rattle.load_model.specs.declared.deeds.Entry.{Entry}
 use Rattle.load_model.specs.Modules.{Library}
 use Rattle.load_model.specs.State.{PageOf, is_among}
-use Rattle.load_model.specs.Memory.{pages_over, page}
+use Rattle.load_model.specs.Memory.{is_page, pages_over, page}
 use Rattle.load_model.specs.Step.{meant}
 use Rattle.load_model.specs.Views.{Holding, mapped_pages}
 use Rattle.load_model.specs.TouchedPages.{has_page}
@@ -20,6 +23,7 @@ use Rattle.proc_core.specs.declared.kept.About.{About}
 use Rattle.proc_core.specs.Procs.{ProcState}
 use Rattle.load_model.specs.declared.commands.Command.TheVariants.{Touch}
 use Rattle.load_model.specs.declared.deeds.Deed.{Deed}
+use Rattle.load_model.specs.declared.deeds.Deed.TheVariants as deeds
 use Rattle.proc_core.specs.Calls.{IsSamePass, call_refusal}
 use Rattle.proc_core.proofs.TouchedPages.{page_at, pages_from, not_among, taken_pages, one_more, not_among_more, same_page}
 use Rattle.proc_core.specs.Touches.{touched_pages, newly_mapped, needs_fault, IsNewFault, IsSeenInTouch, IsSeenForPage, IsTouched, IsPage, news_of}
@@ -50,14 +54,40 @@ pub record IsPlaces (v : ProcessView) (at : Place) (t : PageOf) (m : ℕ) : Type
   pub object : at.object ≡ t.page.object
   pub among : is_among (pages_over at.offset at.len) t.page.page ≡ true
 
-seen_in : (v w : ProcessView) (at : Place) (t : PageOf) (m : ℕ) (x : Entry) → IsPlaces v at t m → w.holding.pid ≡ v.holding.pid →
-    (has_page (mapped_pages w.holding) t.serial t.page ≡ false → has_page (mapped_pages v.holding) t.serial t.page ≡ false) → IsSeenForPage w m t x → IsSeenInTouch v at x
-seen_in v w at t m x is pid same (inl other) = inl (ap (λ (n : ℕ). n == x.pid) (sym pid) ∙ other)
-seen_in v w at t m x is pid same (inr own) =
+-- pages that are joined
+more_there : (xs ys : List PageOf) (serial : ℕ) (q : PageId) → has_page ys serial q ≡ true → has_page (xs ++ ys) serial q ≡ true
+more_there xs ys serial q is =
+    list_any-append (λ (t : PageOf). (t.serial == serial) && is_page t.page q) xs ys ∙ (ap (λ (b : Bool). has_page xs serial q || b) is ∙ or-true (has_page xs serial q))
+
+still_there : (xs ys : List PageOf) (serial : ℕ) (q : PageId) → has_page xs serial q ≡ true → has_page (xs ++ ys) serial q ≡ true
+still_there xs ys serial q is = list_any-append (λ (t : PageOf). (t.serial == serial) && is_page t.page q) xs ys ∙ ap (λ (b : Bool). b || has_page ys serial q) is
+
+abbrev AreAmong : List PageOf → List PageOf → Type 0
+AreAmong xs ys = (serial : ℕ) (q : PageId) → has_page xs serial q ≡ true → has_page ys serial q ≡ true
+
+fault_still : (v : ProcessView) (at : Place) (xs ys : List PageOf) (d : Deed) → AreAmong xs ys → IsNewFault v at xs d → IsNewFault v at ys d
+fault_still v at xs ys (deeds.Fault serial m p) more is = (is.0, is.1, is.2, is.3, is.4, more serial p is.5)
+fault_still v at xs ys (deeds.Enter how m fresh calls) more is = absurd is
+fault_still v at xs ys (deeds.Full how m of object size) more is = absurd is
+fault_still v at xs ys (deeds.Failed how m by fresh calls gone) more is = absurd is
+fault_still v at xs ys (deeds.Free m calls gone) more is = absurd is
+fault_still v at xs ys (deeds.Exit calls gone) more is = absurd is
+fault_still v at xs ys (deeds.Write serial m object offset bytes) more is = absurd is
+fault_still v at xs ys (deeds.Debug serial m object offset bytes) more is = absurd is
+fault_still v at xs ys (deeds.Shared serial m object offset bytes) more is = absurd is
+
+seen_still : (v : ProcessView) (at : Place) (xs ys : List PageOf) (x : Entry) → AreAmong xs ys → IsSeenInTouch v at xs x → IsSeenInTouch v at ys x
+seen_still v at xs ys x more (inl other) = inl other
+seen_still v at xs ys x more (inr own) = inr (own.0, fault_still v at xs ys x.deed more own.1)
+
+seen_in : (v w : ProcessView) (at : Place) (t : PageOf) (m : ℕ) (news all : List PageOf) (x : Entry) → IsPlaces v at t m → w.holding.pid ≡ v.holding.pid →
+    (has_page (mapped_pages w.holding) t.serial t.page ≡ false → has_page (mapped_pages v.holding) t.serial t.page ≡ false) → AreAmong news all → IsSeenForPage w m t news x → IsSeenInTouch v at all x
+seen_in v w at t m news all x is pid same more (inl other) = inl (ap (λ (n : ℕ). n == x.pid) (sym pid) ∙ other)
+seen_in v w at t m news all x is pid same more (inr own) =
     inr (
       own.0 ∙ pid,
-      subst (λ (d : Deed). IsNewFault v at d) (sym own.1)
-          (is.serial, is.«module», is.object, is.among, subst (λ (n : ℕ). has_page (mapped_pages v.holding) n t.page ≡ false) refl (same own.2)),
+      subst (λ (d : Deed). IsNewFault v at all d) (sym own.1)
+          (is.serial, is.«module», is.object, is.among, same own.2, more t.serial t.page own.3),
     )
 
 -- ---- one more page
@@ -75,14 +105,18 @@ touched_more p q r at n k a b c t m news before step is pages same drawn =
     let stepped : c ≡ b + touch_steps p.view.library p.known.pid (meant p.view.library at.«module») step.shown news =
     step.steps ∙ (ap (λ l. b + touch_steps l q.known.pid m step.shown news) lib ∙ (ap (λ k. b + touch_steps p.view.library k m step.shown news) known ∙ ap (λ k. b + touch_steps p.view.library p.known.pid k step.shown news) is.«module»)) in
     let sum = steps_more p.view.library p.known.pid (meant p.view.library at.«module») before.shown step.shown (newly_mapped p.view at n) news in
+    let so_far : List PageOf = newly_mapped p.view at n in
+    let all : List PageOf = newly_mapped p.view at k in
+    let joined : (s : ℕ) (u : PageId) → has_page (so_far ++ news) s u ≡ true → has_page all s u ≡ true = λ s u there. ap (λ (xs : List PageOf). has_page xs s u) pages ∙ there in
     let first = before.steps in
     record {
       pass = pass_on p q r before.pass step.pass;
       accepted = before.accepted;
       shown = before.shown ++ step.shown;
       seen = seen;
-      entries = all_joined (IsSeenInTouch p.view at) before.shown step.shown before.entries
-          (each_more (IsSeenForPage q.view m t) (IsSeenInTouch p.view at) step.shown (λ x. seen_in p.view q.view at t m x is pid same) step.entries);
+      entries = all_joined (IsSeenInTouch p.view at all) before.shown step.shown
+          (each_more (IsSeenInTouch p.view at so_far) (IsSeenInTouch p.view at all) before.shown (λ x. seen_still p.view at so_far all x (λ s u there. joined s u (still_there so_far news s u there))) before.entries)
+          (each_more (IsSeenForPage q.view m t news) (IsSeenInTouch p.view at all) step.shown (λ x. seen_in p.view q.view at t m news all x is pid same (λ s u there. joined s u (more_there so_far news s u there))) step.entries);
       library = step.library ∙ before.library;
       residences = step.residences ∙ before.residences;
       holding = step.holding ∙ ap (λ (h : Holding). record h { mapped = r.view.holding.mapped; front = length r.known.seen }) before.holding;

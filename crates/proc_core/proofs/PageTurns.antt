@@ -18,7 +18,7 @@ use Rattle.load_core.specs.declared.answers.Claim.{Claim}
 use Rattle.load_core.specs.declared.answers.Claim.TheVariants as claims
 use Rattle.process_view.specs.ProcessViews.{ProcessView, at_front, without_room}
 use Rattle.process_view.specs.Deeds.{CanMap, IsSharedPage, IsClaimedIn, IsIdle, fault_of}
-use Rattle.process_view.proofs.PagesStanding.{shown_at}
+use Rattle.process_view.proofs.Shown.{shown_at}
 use Rattle.proc_core.specs.declared.kept.About.{About}
 use Rattle.proc_core.specs.declared.kept.Kept.{Kept}
 use Rattle.proc_core.specs.Procs.{ProcState, proc_state, Holds, failing_in}

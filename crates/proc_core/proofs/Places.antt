@@ -1,5 +1,5 @@
 -- The pages of a place whose touch is accepted.
-use Rattle.std.proofs.Common.{◌≡◌, ℕ, ◌+◌, ◌-◌, ◌*◌, ◌^◌, ◌<◌, ◌≤◌, ◌==◌, ◌&&◌, ◌||◌, not, Bool, true, false, List, [], ◌∷◌, length, get_or, Option, Some, None, Result, Ok, Err, MatchResult, refl, sym, ap, ◌∙◌, subst, arith, eq-eqb}
+use Rattle.std.proofs.Common.{◌≡◌, ℕ, ◌+◌, ◌-◌, ◌*◌, ◌^◌, ◌<◌, ◌≤◌, ◌==◌, ◌&&◌, ◌||◌, not, Bool, true, false, List, [], ◌∷◌, length, get_or, Option, Some, None, Result, Ok, Err, MatchResult, refl, sym, ap, ◌∙◌, subst, arith}
 use Rattle.std.specs.List.{list_any, range_with_len}
 use Rattle.std.specs.Prelude.{unwrap_or}
 use Rattle.std.proofs.lemmas.Bool.Decides.{nat_tests}
@@ -28,17 +28,18 @@ use Rattle.load_model.specs.Asks.{is_own}
 use Rattle.load_model.specs.Step.{meant}
 use Rattle.load_model.specs.ViewAnswers.{seen_process, view_refusal, view_place_refusal}
 use Rattle.load_model.proofs.Bytes.{left_none}
+use Rattle.load_model.proofs.ViewReplies.{residence_is}
 use Rattle.merge_laws.specs.PageStates.{serial_seen}
 use Rattle.process_view.specs.Answering.{IsReachedNamed}
 use Rattle.process_view.specs.ProcessViews.{ProcessView}
 use Rattle.process_view.proofs.Claims.{shared_by}
 use Rattle.process_view.proofs.Insides.{IsInside, page_inside}
 use Rattle.process_view.proofs.Lookups.{place_by_residence, span_is_inside}
-use Rattle.process_view.proofs.PagesStanding.{attached, attached_there}
-use Rattle.process_view.proofs.Ranges.{any_some_between}
+use Rattle.process_view.proofs.Shown.{attached}
 use Rattle.proc_core.specs.Procs.{ProcState, Holds, front_of, failing_in}
-use Rattle.proc_core.specs.Calls.{call_refusal}
+use Rattle.proc_core.specs.Calls.{IsRefusedCall, call_refusal}
 use Rattle.proc_core.specs.Touches.{IsPageOf, needs_fault, page_in}
+use Rattle.proc_core.proofs.Beginnings.{among_range}
 use Rattle.proc_core.proofs.Turning.{fine_view}
 
 -- ---- refusals
@@ -94,7 +95,7 @@ accepted_place fit p at k d holds accepted named =
     let inside : IsInside v.library r.«module» at.object at.offset at.len = span_is_inside v.library touch r.«module» at.object at.offset at.len span in
     let own = attached (front_of p) v k r holds.stands named.within (get_or_default v.residences k d r named.within) in
     let size = fit v.library (failing_in p.known.subject) (fixed_bytes v.library) p.known.seen r.«module» at.object own.0 holds.legal
-    (attached_there v.library _ v.holding.pid r.«module» own.0 own.1.there) (there_of v.library r.«module» at.object at.offset at.len inside) in
+    (residence_is v.library _ v.holding.pid r.«module» own.0 own.1.there) (there_of v.library r.«module» at.object at.offset at.len inside) in
     record {
       going = going;
       inside = inside;
@@ -127,7 +128,7 @@ fixable_is lib r t there inside valid =
 -- the first page and all up to the end are among those that the bytes cover
 pub among_pages : (at : Place) (first end n : ℕ) → range_with_len first (end - first) ≡ pages_over at.offset at.len → first ≤ n → n < end → is_among (pages_over at.offset at.len) n ≡ true
 among_pages at first end n pages low high =
-    ap (λ (ns : List ℕ). is_among ns n) (sym pages) ∙ any_some_between (λ (other : ℕ). other == n) first end n low high (eq-eqb n n refl)
+    ap (λ (ns : List ℕ). is_among ns n) (sym pages) ∙ among_range (end - first) first n low (omega arith)
 
 pub page_there : (v : ProcessView) (at : Place) (k n : ℕ) → k < length v.residences → ((d : ResidenceFor) → IsAcceptedPlace v at (get_or v.residences k d)) → is_among (pages_over at.offset at.len) n ≡ true →
     n * 4096 < at.offset + at.len → IsPageOf v k (page at.object n)
@@ -165,11 +166,10 @@ page_alike v w k t library residences ended is =
 -- ---- the view's answer
 
 -- where a call is not refused, the view has found the residence
-pub used_in : (p : ProcState) (at : Place) (o : Option Refusal) (used : Result ℕ Refusal) → MatchResult used (λ k. (view_place_refusal p.view.library p.view.holding touch at ≡ None) × IsReachedNamed p.view at.«module» k)
-    (λ refusal. view_place_refusal p.view.library p.view.holding touch at ≡ Some refusal) → o ≡ call_refusal p (Touch at) → o ≡ None →
-    MatchResult used (λ k. (call_refusal p (Touch at) ≡ None) × IsReachedNamed p.view at.«module» k) (λ refusal. call_refusal p (Touch at) ≡ Some refusal)
+pub used_in : (p : ProcState) (at : Place) (o : Option Refusal) (used : Result ℕ Refusal) →
+    MatchResult used (λ k. (view_refusal p.view.library p.view.holding (Touch at) ≡ None) × IsReachedNamed p.view at.«module» k) (λ refusal. view_refusal p.view.library p.view.holding (Touch at) ≡ Some refusal) →
+    o ≡ call_refusal p (Touch at) → o ≡ None → MatchResult used (λ k. (call_refusal p (Touch at) ≡ None) × IsReachedNamed p.view at.«module» k) (IsRefusedCall p (Touch at))
 used_in p at o (Ok k) is told none = (sym told ∙ none, is.1)
 used_in p at o (Err refusal) is told none =
-    let fine : view_place_refusal p.view.library p.view.holding touch at ≡ None = place_accepted p at (sym told ∙ none) in
-    let both : Some refusal ≡ None = sym is ∙ fine in
+    let both : Some refusal ≡ None = sym is ∙ fine_view p (Touch at) (sym told ∙ none) in
     cc

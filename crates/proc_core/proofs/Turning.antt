@@ -9,28 +9,26 @@ use Rattle.turn_lock.specs.declared.known.Known.{Known}
 use Rattle.turn_lock.specs.Passes.{Idle}
 use Rattle.turn_lock.specs.Turns.{Adds, giving}
 use Rattle.load_model.specs.declared.commands.Command.{Command}
-use Rattle.load_model.specs.declared.commands.Command.TheVariants as commands
 use Rattle.load_model.specs.declared.commands.Refusal.{Refusal}
 use Rattle.load_model.specs.declared.commands.Refusal.TheVariants.{Ended, Worn}
 use Rattle.load_model.specs.declared.commands.Reply.TheVariants.{Refused}
 use Rattle.load_model.specs.declared.deeds.Entry.{Entry}
-use Rattle.load_model.specs.declared.deeds.How.{How}
-use Rattle.load_model.specs.declared.deeds.How.TheVariants.{Start, Load}
 use Rattle.load_model.specs.Refusals.{when, ◌orelse◌}
 use Rattle.load_model.specs.Step.{FitsPlace}
 use Rattle.load_model.specs.ViewAnswers.{view_refusal}
-use Rattle.load_model.specs.Outcomes.{done, told}
+use Rattle.load_model.specs.Outcomes.{Outcome, done, told}
 use Rattle.load_core.specs.BoardState.{BoardState, entry_of}
 use Rattle.process_view.specs.ProcessViews.{ProcessView}
-use Rattle.process_view.specs.Answering.{enter_command}
 use Rattle.process_view.specs.Deeds.{IsDone}
-use Rattle.proc_core.specs.declared.answers.Done.{Done}
+use Rattle.proc_core.specs.declared.answers.Acted.{Acted}
 use Rattle.proc_core.specs.declared.kept.About.{About}
 use Rattle.proc_core.specs.declared.kept.Kept.{Kept}
 use Rattle.proc_core.specs.Procs.{ProcState, proc_state, Holds, failing_in}
-use Rattle.proc_core.specs.Calls.{IsAnswered, call_refusal, Made}
-use Rattle.proc_core.specs.Turns.{HasCome, IsToldBy, in_turn}
+use Rattle.proc_core.specs.Calls.{call_refusal, Made, IsReadLast}
+use Rattle.proc_core.specs.Turns.{HasCome, IsToldBy, IsActed, in_turn}
+use Rattle.proc_core.proofs.Fronts.{refused_call}
 use Rattle.proc_core.proofs.Made.{Laws, turned, idle_again, idle_holds, idle_waited, did_made, did_holds, fronts_alike}
+use Rattle.proc_core.proofs.ReadLast.{read_last}
 
 -- ---- refusals
 
@@ -48,7 +46,7 @@ fine_view p command is = view_fine _ _ _ is
 
 -- ---- the board goes back
 
-pub done_about : (p : ProcState) (b c : BoardState) (v w : ProcessView) (command : Command) (r : Result Unit (Fail Refusal)) → Holds p → HasCome p b v → IsDone b c v w command r →
+pub done_about : (p : ProcState) (b c : BoardState) (v w : ProcessView) (command : Command) (r : Result (List ℕ) (Fail Refusal)) → Holds p → HasCome p b v → IsDone b c v w command r →
     p.known.subject ≡ Some (record { library = c.library; failing = c.failing })
 done_about p b c v w command r holds come is =
     let back : (c.library ≡ b.library) × (c.failing ≡ b.failing) = same r is in
@@ -58,15 +56,15 @@ done_about p b c v w command r holds come is =
     ∙ ap (λ f. record { library = p.view.library; failing = f }) (back.1 ∙ ap (λ (l : BoardState). l.failing) come.is) in
     holds.about ∙ ap Some (sym at)
   where
-    same : (r : Result Unit (Fail Refusal)) → IsDone b c v w command r → (c.library ≡ b.library) × (c.failing ≡ b.failing)
-    same (Ok u) did = (ap (λ (l : BoardState). l.library) did.adds, ap (λ (l : BoardState). l.failing) did.adds)
+    same : (r : Result (List ℕ) (Fail Refusal)) → IsDone b c v w command r → (c.library ≡ b.library) × (c.failing ≡ b.failing)
+    same (Ok bytes) is = (ap (λ (l : BoardState). l.library) is.0.adds, ap (λ (l : BoardState). l.failing) is.0.adds)
     same (Err (Said refusal)) did = (ap (λ (l : BoardState). l.library) did.adds, ap (λ (l : BoardState). l.failing) did.adds)
     same (Err NoMemory) idle = (ap (λ (l : BoardState). l.library) idle.0, ap (λ (l : BoardState). l.failing) idle.0)
 
-pub done_adds : (p : ProcState) (b c : BoardState) (v w : ProcessView) (command : Command) (r : Result Unit (Fail Refusal)) → Holds p → HasCome p b v → IsDone b c v w command r →
+pub done_adds : (p : ProcState) (b c : BoardState) (v w : ProcessView) (command : Command) (r : Result (List ℕ) (Fail Refusal)) → Holds p → HasCome p b v → IsDone b c v w command r →
     Adds (λ (x : Entry). x.pid) p.known.pid b.history c.history
-done_adds p b c v w command (Ok u) holds come did =
-    inr (entry_of b v.holding.pid did.ask, ap (λ (l : BoardState). l.history) did.adds, ap (λ (u : ProcessView). u.holding.pid) come.view ∙ holds.number)
+done_adds p b c v w command (Ok bytes) holds come is =
+    inr (entry_of b v.holding.pid is.0.ask, ap (λ (l : BoardState). l.history) is.0.adds, ap (λ (u : ProcessView). u.holding.pid) come.view ∙ holds.number)
 done_adds p b c v w command (Err (Said refusal)) holds come did =
     inr (entry_of b v.holding.pid did.ask, ap (λ (l : BoardState). l.history) did.adds, ap (λ (u : ProcessView). u.holding.pid) come.view ∙ holds.number)
 done_adds p b c v w command (Err NoMemory) holds come idle = inl (ap (λ (l : BoardState). l.history) idle.0)
@@ -80,21 +78,25 @@ is_turned p pass m h g w ticket turn lock knows gave =
 
 -- ---- the answer
 
-pub answered : Laws → (p : ProcState) (b c : BoardState) (v w : ProcessView) (command : Command) (r : Result Unit (Fail Refusal)) (a : Result Done (Fail Refusal)) → Holds p → HasCome p b v → FitsPlace command → call_refusal p command ≡ None →
-    IsDone b c v w command r → IsToldBy (length c.history) r a → Holds (turned p c.history w) × IsAnswered p (turned p c.history w) command a
-answered laws p b c v w command (Ok u) (Ok it) holds come fits fine is say = (
-  did_holds laws p b c v w command (done (length c.history)) holds come is,
-  subst (λ (n : ℕ). Made p (turned p c.history w) command (done n)) (sym say) (did_made laws p b c v w command (done (length c.history)) holds come fits fine (fine_view p command fine) is),
-)
-answered laws p b c v w command (Ok u) (Err other) holds come fits fine is say = absurd say
+pub answered : Laws → (p : ProcState) (b c : BoardState) (v w : ProcessView) (command : Command) (r : Result (List ℕ) (Fail Refusal)) (a : Result Acted (Fail Refusal)) → Holds p → HasCome p b v → FitsPlace command → call_refusal p command ≡ None →
+    IsDone b c v w command r → IsToldBy (length c.history) r a → Holds (turned p c.history w) × IsActed p (turned p c.history w) command a
+answered laws p b c v w command (Ok bytes) (Ok it) holds come fits fine is say =
+    let outcome : Outcome = done (length c.history) in (
+      did_holds laws p b c v w command outcome holds come is.0,
+      (
+        subst (λ (n : ℕ). Made p (turned p c.history w) command (done n)) (sym say.0) (did_made laws p b c v w command outcome holds come fits fine (fine_view p command fine) is.0),
+        subst (IsReadLast (turned p c.history w)) (sym say.1) (read_last p b c v w command outcome bytes holds come is.0 is.1),
+      ),
+    )
+answered laws p b c v w command (Ok bytes) (Err other) holds come fits fine is say = absurd say
 answered laws p b c v w command (Err fail) (Ok it) holds come fits fine is say = absurd say
 answered laws p b c v w command (Err (Said refusal)) (Err other) holds come fits fine is say =
-    subst (λ (f : Fail Refusal). Holds (turned p c.history w) × IsAnswered p (turned p c.history w) command (Err f)) (sym say) (
+    subst (λ (f : Fail Refusal). Holds (turned p c.history w) × IsActed p (turned p c.history w) command (Err f)) (sym say) (
       did_holds laws p b c v w command (told (Refused refusal)) holds come is,
       inr (did_made laws p b c v w command (told (Refused refusal)) holds come fits fine (fine_view p command fine) is),
     )
 answered laws p b c v w command (Err NoMemory) (Err other) holds come fits fine is say =
-    subst (λ (f : Fail Refusal). Holds (turned p c.history w) × IsAnswered p (turned p c.history w) command (Err f)) (sym say)
+    subst (λ (f : Fail Refusal). Holds (turned p c.history w) × IsActed p (turned p c.history w) command (Err f)) (sym say)
     (idle_holds p b c v w holds come is, idle_waited p b c v w come is)
 
 -- ---- what a call rests on that is not refused
@@ -116,18 +118,18 @@ pub none_at : (o : Option Refusal) → ((r : Refusal) → o ≡ Some r → ⊥) 
 none_at None not = refl
 none_at (Some r) not = absurd (not r refl)
 
--- a call that is refused changes nothing
-pub refused_call : (p : ProcState) (command : Command) (refusal : Refusal) (o : Option Refusal) → o ≡ call_refusal p command → o ≡ Some refusal → IsAnswered p p command (Err (Said refusal))
-refused_call p command refusal o is some = inl (sym is ∙ some, refl)
+-- the first refusal is the call's, of the process as its calls see it
+pub told_here : (p q : ProcState) (command : Command) (seen o : Option Refusal) → p ≡ q → ((c : Command) → seen ≡ view_refusal q.view.library q.view.holding c → o ≡ call_refusal q c) →
+    seen ≡ view_refusal p.view.library p.view.holding command → o ≡ call_refusal p command
+told_here p q command seen o same first is = subst (λ (s : ProcState). seen ≡ view_refusal s.view.library s.view.holding command → o ≡ call_refusal s command) (sym same) (first command) is
 
--- the view of a process that has ended refuses an exit, and no other does
-pub exit_seen : (p : ProcState) → p.view.holding.ended ≡ false → None ≡ view_refusal p.view.library p.view.holding commands.Exit
-unfolding view_refusal
-exit_seen p going = sym (ap (λ (e : Bool). when e Ended) going)
+-- a call that is refused changes nothing
+pub refused_now : Laws → (p : ProcState) → Holds p → (command : Command) (refusal : Refusal) (o : Option Refusal) → o ≡ call_refusal p command → o ≡ Some refusal → IsActed p p command (Err (Said refusal))
+refused_now laws p holds command refusal o is some = inl (refused_call laws.refusals laws.told p holds command refusal (sym is ∙ some), refl)
 
 -- ---- all of a turn
 
-pub record Taken (p : ProcState) (command : Command) (b c : BoardState) (v w : ProcessView) (before after : Seat (Option Kept) (Known Entry About)) (r : Result Unit (Fail Refusal)) (a : Result Done (Fail Refusal)) : Type 0 where
+pub record Taken (p : ProcState) (command : Command) (b c : BoardState) (v w : ProcessView) (before after : Seat (Option Kept) (Known Entry About)) (r : Result (List ℕ) (Fail Refusal)) (a : Result Acted (Fail Refusal)) : Type 0 where
   pub idle : (p.known.ticket ≡ None) × (p.known.turn ≡ false)
   pub holds : Holds p
   pub fits : FitsPlace command
@@ -139,17 +141,13 @@ pub record Taken (p : ProcState) (command : Command) (b c : BoardState) (v w : P
   pub gave : after.me ≡ (giving (λ (x : Entry). x.pid) c.history before.me.0, [])
   pub say : IsToldBy (length after.me.0.seen) r a
 
-pub taken : Laws → (p : ProcState) (command : Command) (b c : BoardState) (v w : ProcessView) (before after : Seat (Option Kept) (Known Entry About)) (r : Result Unit (Fail Refusal)) (a : Result Done (Fail Refusal)) →
-    Taken p command b c v w before after r a → Holds (proc_state after w) × IsAnswered p (proc_state after w) command a
+pub taken : Laws → (p : ProcState) (command : Command) (b c : BoardState) (v w : ProcessView) (before after : Seat (Option Kept) (Known Entry About)) (r : Result (List ℕ) (Fail Refusal)) (a : Result Acted (Fail Refusal)) →
+    Taken p command b c v w before after r a → Holds (proc_state after w) × IsActed p (proc_state after w) command a
 taken laws p command b c v w before after r a t =
     let same : proc_state after w ≡ turned p c.history w = is_turned p after before.me.0 b.history c.history w t.idle.0 t.idle.1 t.lock t.knows t.gave in
     let say : IsToldBy (length c.history) r a = subst (λ (n : ℕ). IsToldBy n r a) (ap (λ k. length k.0.seen) t.gave) t.say in
     let both = answered laws p b c v w command r a t.holds t.come t.fits t.fine t.is say in
-    (subst Holds (sym same) both.0, subst (λ (q : ProcState). IsAnswered p q command a) (sym same) both.1)
+    (subst Holds (sym same) both.0, subst (λ (q : ProcState). IsActed p q command a) (sym same) both.1)
 
 pub taken_idle : (c : List Entry) (m : Known Entry About) (after : Seat (Option Kept) (Known Entry About)) → after.me ≡ (giving (λ (x : Entry). x.pid) c m, []) → Idle after.me
 taken_idle c m after gave = (ap (λ k. k.0.ticket) gave, ap (λ k. k.0.turn) gave, ap (λ k. k.1) gave)
-
-pub enter_fits : (how : How) (name : List ℕ) → FitsPlace (enter_command how name)
-enter_fits Start name = tt
-enter_fits Load name = tt

@@ -1,5 +1,5 @@
 -- What the calls of a process come to.
-use Rattle.std.specs.Prelude.{◌≡◌, ℕ, ◌+◌, ◌⊎◌, ◌==◌, List, [], ◌∷◌, ◌++◌, length, true, false, Option, Some, None, nat_le, Result, Ok, Err}
+use Rattle.std.specs.Prelude.{◌≡◌, ℕ, ◌+◌, ◌≤◌, ◌⊎◌, ◌==◌, List, [], ◌∷◌, ◌++◌, length, true, false, Option, Some, None, nat_le, Result, Ok, Err}
 use Rattle.std.specs.List.{AllByRecursion}
 use Rattle.lx_types.specs.declared.fail.Fail.{Fail}
 use Rattle.lx_types.specs.declared.fail.Fail.TheVariants.{Said, NoMemory}
@@ -32,6 +32,22 @@ use Rattle.proc_core.specs.declared.deeds.TheConstants.{MAX_TICKETS}
 abbrev pub call_refusal : ProcState → Command → Option Refusal
 call_refusal p command =
     when p.view.holding.ended Ended orelse when (nat_le MAX_TICKETS p.known.drawn) Worn orelse view_refusal p.view.library p.view.holding command
+
+-- What the loader with one thread answers at the process's own front, where the pages are touched that the process has mapped.
+abbrev pub IsAnswerAtFront : ProcState → Command → Reply → Type 0
+IsAnswerAtFront p command reply =
+    answer_of p.view.library (fixed_bytes p.view.library)
+    (state_for p.view.library (front_of p).failing p.view.holding p.known.seen) p.known.pid command ≡ steady reply
+
+-- A process that has not ended has drawn all its tickets. The loader knows nothing of tickets.
+abbrev pub IsWorn : ProcState → Refusal → Type 0
+IsWorn p refusal = (refusal ≡ Worn) × (p.view.holding.ended ≡ false) × (MAX_TICKETS ≤ p.known.drawn)
+
+-- A call that may take a turn is refused so: by its view, as the loader refuses it at the process's own front; or the process
+-- is worn.
+pub record IsRefusedCall (p : ProcState) (command : Command) (refusal : Refusal) : Type 0 where
+  pub refused : call_refusal p command ≡ Some refusal
+  pub step : IsWorn p refusal ⊎ IsAnswerAtFront p command (Refused refusal)
 
 -- ---- what stays, and what was seen meanwhile
 
@@ -83,7 +99,7 @@ pub record Made (p q : ProcState) (command : Command) (outcome : Outcome) : Type
 -- A refusal that the view decides draws no ticket and changes nothing. Want of a place and an initialisation that fails are
 -- told by their entries.
 abbrev pub IsRefused : ProcState → ProcState → Command → Refusal → Type 0
-IsRefused p q command refusal = ((call_refusal p command ≡ Some refusal) × (q ≡ p)) ⊎ Made p q command (told (Refused refusal))
+IsRefused p q command refusal = (IsRefusedCall p command refusal × (q ≡ p)) ⊎ Made p q command (told (Refused refusal))
 
 abbrev pub IsAnswered : ProcState → ProcState → Command → Result Done (Fail Refusal) → Type 0
 IsAnswered p q command (Ok it) = Made p q command (done it.number)
@@ -96,15 +112,12 @@ IsReadLast q bytes = (before : List Entry) (x : Entry) → q.known.mine ≡ befo
 
 -- ---- calls without an entry
 
--- What a call without an entry is answered: the view's reply, or its refusal. So the loader with one thread answers at the
--- process's own front, where the pages are touched that the process has mapped.
+-- What a call without an entry is answered: the view's reply, or its refusal. So the loader answers at the process's own front.
 pub record IsReplied (p : ProcState) (command : Command) (reply : Reply) : Type 0 where
   pub accepted : view_refusal p.view.library p.view.holding command ≡ None
   pub replied : view_reply p.view.library p.view.holding command ≡ Some reply
-  pub step : answer_of p.view.library (fixed_bytes p.view.library)
-      (state_for p.view.library (front_of p).failing p.view.holding p.known.seen) p.known.pid command ≡ steady reply
+  pub step : IsAnswerAtFront p command reply
 
 pub record IsRefusedAtFront (p : ProcState) (command : Command) (refusal : Refusal) : Type 0 where
   pub refused : view_refusal p.view.library p.view.holding command ≡ Some refusal
-  pub step : answer_of p.view.library (fixed_bytes p.view.library)
-      (state_for p.view.library (front_of p).failing p.view.holding p.known.seen) p.known.pid command ≡ steady (Refused refusal)
+  pub step : IsAnswerAtFront p command (Refused refusal)

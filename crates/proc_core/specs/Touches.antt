@@ -29,7 +29,7 @@ use Rattle.merge_laws.specs.PageStates.{serial_seen, has_pages}
 use Rattle.page_frames.specs.Residences.{ResidenceFor}
 use Rattle.process_view.specs.ProcessViews.{ProcessView}
 use Rattle.proc_core.specs.Procs.{ProcState}
-use Rattle.proc_core.specs.Calls.{IsSamePass, call_refusal}
+use Rattle.proc_core.specs.Calls.{IsSamePass, IsRefusedCall, call_refusal}
 
 -- ---- pages
 
@@ -51,29 +51,30 @@ most_turns v at = count_by (needs_fault v.library (meant v.library at.«module»
 
 -- ---- entries
 
--- the fault of a page of the place that was not mapped
-abbrev pub IsNewFault : ProcessView → Place → Deed → Type 0
-IsNewFault v at (deeds.Fault serial m p) =
+-- the fault of a page of the place that was not mapped, and is one of those that are now
+abbrev pub IsNewFault : ProcessView → Place → List PageOf → Deed → Type 0
+IsNewFault v at news (deeds.Fault serial m p) =
     (serial ≡ serial_seen v.library v.holding at) × (m ≡ meant v.library at.«module») × (at.object ≡ p.object)
     × (is_among (pages_over at.offset at.len) p.page ≡ true)
     × (has_page (mapped_pages v.holding) serial p ≡ false)
-IsNewFault v at deed = ⊥
+    × (has_page news serial p ≡ true)
+IsNewFault v at news deed = ⊥
 
 -- an entry of another process, or such a fault
-abbrev pub IsSeenInTouch : ProcessView → Place → Entry → Type 0
-IsSeenInTouch v at x = ((v.holding.pid == x.pid) ≡ false) ⊎ ((x.pid ≡ v.holding.pid) × IsNewFault v at x.deed)
+abbrev pub IsSeenInTouch : ProcessView → Place → List PageOf → Entry → Type 0
+IsSeenInTouch v at news x = ((v.holding.pid == x.pid) ≡ false) ⊎ ((x.pid ≡ v.holding.pid) × IsNewFault v at news x.deed)
 
 -- ---- the touch
 
--- The first n pages of the place are mapped, and nothing else was: of its own the process made faults alone, of pages of
--- the place that were not mapped. The count has risen by the sources of the pages whose faults it made, and of the
+-- The first n pages of the place are mapped, and nothing else was: of its own the process made faults alone, of pages that
+-- are newly mapped. The count has risen by the sources of the pages whose faults it made, and of the
 -- private pages that it mapped.
 pub record IsTouched (p q : ProcState) (at : Place) (n before after : ℕ) : Type 0 where
   pub pass : IsSamePass p q
   pub accepted : call_refusal p (Touch at) ≡ None
   pub shown : List Entry
   pub seen : q.known.seen ≡ p.known.seen ++ shown
-  pub entries : AllByRecursion (IsSeenInTouch p.view at) shown
+  pub entries : AllByRecursion (IsSeenInTouch p.view at (newly_mapped p.view at n)) shown
   pub library : q.view.library ≡ p.view.library
   pub residences : q.view.residences ≡ p.view.residences
   pub holding : q.view.holding ≡ record p.view.holding { mapped = q.view.holding.mapped; front = length q.known.seen }
@@ -87,7 +88,7 @@ AreMapped v w at = has_pages (mapped_pages w.holding) (serial_seen v.library v.h
 
 abbrev pub IsTouchAnswered : ProcState → ProcState → Place → ℕ → ℕ → Result Unit (Fail Refusal) → Type 0
 IsTouchAnswered p q at before after (Ok _) = IsTouched p q at (length (touched_pages p.view at)) before after × AreMapped p.view q.view at
-IsTouchAnswered p q at before after (Err (Said refusal)) = (call_refusal p (Touch at) ≡ Some refusal) × (q ≡ p) × (after ≡ before)
+IsTouchAnswered p q at before after (Err (Said refusal)) = IsRefusedCall p (Touch at) refusal × (q ≡ p) × (after ≡ before)
 IsTouchAnswered p q at before after (Err NoMemory) =
     ((n : ℕ) × (n ≤ length (touched_pages p.view at)) × IsTouched p q at n before after)
     × (has_pages (mapped_pages p.view.holding) (serial_seen p.view.library p.view.holding at) at ≡ false)
@@ -97,18 +98,18 @@ IsTouchAnswered p q at before after (Err NoMemory) =
 abbrev pub page_in : ResidenceFor → PageId → PageOf
 page_in r p = record { serial = r.serial; page = p }
 
--- an entry of another process, or the fault of a page that was not mapped
-abbrev pub IsSeenForPage : ProcessView → ℕ → PageOf → Entry → Type 0
-IsSeenForPage v m t x =
+-- an entry of another process, or the fault of a page that was not mapped, and is one of these now
+abbrev pub IsSeenForPage : ProcessView → ℕ → PageOf → List PageOf → Entry → Type 0
+IsSeenForPage v m t news x =
     ((v.holding.pid == x.pid) ≡ false) ⊎ ((x.pid ≡ v.holding.pid) × (x.deed ≡ deeds.Fault t.serial m t.page)
-    × (has_page (mapped_pages v.holding) t.serial t.page ≡ false))
+    × (has_page (mapped_pages v.holding) t.serial t.page ≡ false) × (has_page news t.serial t.page ≡ true))
 
 -- Of a page t of a residence of a module these pages were newly mapped, the page itself or none, and nothing else was.
 pub record IsPage (p q : ProcState) (t : PageOf) (m : ℕ) (news : List PageOf) (before after : ℕ) : Type 0 where
   pub pass : IsSamePass p q
   pub shown : List Entry
   pub seen : q.known.seen ≡ p.known.seen ++ shown
-  pub entries : AllByRecursion (IsSeenForPage p.view m t) shown
+  pub entries : AllByRecursion (IsSeenForPage p.view m t news) shown
   pub library : q.view.library ≡ p.view.library
   pub residences : q.view.residences ≡ p.view.residences
   pub holding : q.view.holding ≡ record p.view.holding { mapped = q.view.holding.mapped; front = length q.known.seen }

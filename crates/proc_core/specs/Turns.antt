@@ -1,16 +1,18 @@
 -- A turn of a process: the board comes to it, and goes back.
 use Rattle.std.specs.Prelude.{◌≡◌, ℕ, ◌++◌, List, length, Result, Ok, Err}
 use Rattle.lx_types.specs.declared.fail.Fail.{Fail}
+use Rattle.load_model.specs.declared.commands.Command.{Command}
 use Rattle.load_model.specs.declared.commands.Refusal.{Refusal}
 use Rattle.turn_lock.specs.declared.known.Known.{Known}
 use Rattle.turn_lock.specs.Turns.{by_pid, drawing, seeing}
 use Rattle.load_model.specs.declared.deeds.Entry.{Entry}
+use Rattle.load_model.specs.Outcomes.{done}
 use Rattle.load_core.specs.BoardState.{BoardState, IsLegal}
 use Rattle.process_view.specs.ProcessViews.{ProcessView, StandsAt, at_front}
 use Rattle.proc_core.specs.declared.kept.About.{About}
-use Rattle.proc_core.specs.declared.answers.Done.{Done}
+use Rattle.proc_core.specs.declared.answers.Acted.{Acted}
 use Rattle.proc_core.specs.Procs.{ProcState, front_of}
-use Rattle.proc_core.specs.Calls.{AreOthers}
+use Rattle.proc_core.specs.Calls.{AreOthers, Made, IsAnswered, IsReadLast}
 
 -- what a pass knows in its turn, at a board that has this history
 abbrev pub in_turn : ProcState → List Entry → Known Entry About → Type 0
@@ -26,9 +28,14 @@ pub record HasCome (p : ProcState) (b : BoardState) (v : ProcessView) : Type 0 w
   pub stands : StandsAt b v
   pub legal : IsLegal b
 
--- the answer says the same as what was done, with the number of the entry
-abbrev pub IsToldBy : ℕ → Result Unit (Fail Refusal) → Result Done (Fail Refusal) → Type 0
-IsToldBy number (Ok done) (Ok it) = it.number ≡ number
+-- the answer says the same as what was done, with the number of the entry and the bytes that were read
+abbrev pub IsToldBy : ℕ → Result (List ℕ) (Fail Refusal) → Result Acted (Fail Refusal) → Type 0
+IsToldBy number (Ok bytes) (Ok it) = (it.done.number ≡ number) × (it.bytes ≡ bytes)
 IsToldBy number (Err fail) (Err other) = other ≡ fail
-IsToldBy number (Ok done) (Err other) = ⊥
+IsToldBy number (Ok bytes) (Err other) = ⊥
 IsToldBy number (Err fail) (Ok it) = ⊥
+
+-- The command is answered, and the bytes that were read are those of its entry.
+abbrev pub IsActed : ProcState → ProcState → Command → Result Acted (Fail Refusal) → Type 0
+IsActed p q command (Ok it) = Made p q command (done it.done.number) × IsReadLast q it.bytes
+IsActed p q command (Err fail) = IsAnswered p q command (Err fail)

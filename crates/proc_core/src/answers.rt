@@ -3,12 +3,20 @@
 ghost use Rattle.std.specs.Prelude.{◌≡◌};
 
 use load_model::{Entry, History};
+use lx_types::Bytes;
 use std::marker::Model;
 
 /// A command that was carried out has an entry: its number in the history, from 1.
 #[derive(Clone, Copy)]
 pub struct Done {
     pub number: u64,
+}
+
+/// What a command with an entry comes to: its number, and the bytes that were read.
+#[derive(Drop)]
+pub(crate) struct Acted {
+    pub(crate) done: Done,
+    pub(crate) bytes: Bytes,
 }
 
 /// The history of a loader that was closed. It is made by `Loader::close` alone.

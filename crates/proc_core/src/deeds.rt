@@ -1,32 +1,52 @@
-//! Calls of a process that have an entry in the history. Each refuses by the view first, then takes a turn, and gives the
-//! board back before it answers.
+//! Calls of a process that have an entry in the history. The view refuses first; then a turn is taken, and the board is given
+//! back before the call answers.
 
-ghost use Rattle.std.specs.Prelude.{◌≡◌, false, length, IfOk};
+ghost use Rattle.std.specs.Prelude.{◌≡◌, length, IfOk};
 ghost use Rattle.load_model.specs.declared.commands.Command.{Command};
 ghost use Rattle.load_model.specs.declared.commands.Command.TheVariants as commands;
+ghost use Rattle.load_model.specs.Step.{FitsPlace};
 ghost use Rattle.load_model.specs.ViewAnswers.{view_refusal};
-ghost use Rattle.process_view.specs.Answering.{enter_command};
+ghost use Rattle.process_view.specs.Plans.{HasEntry};
 ghost use Rattle.proc_core.specs.Procs.{IsOf};
 ghost use Rattle.proc_core.specs.Calls.{IsAnswered, IsReadLast, call_refusal};
+ghost use Rattle.proc_core.specs.Turns.{IsActed};
 
-use crate::answers::Done;
+use crate::answers::{Acted, Done};
 use crate::laws::entries_are_known;
 use crate::loader::Loader;
 use crate::proc::Proc;
 use crate::turns::{give_back, take_turn, told_by};
-use load_model::{How, Place, Refusal};
-use lx_types::{Fail, Name};
-use process_view::Purpose;
+use load_model::{Command, Place, Refusal};
+use lx_types::{Bytes, Fail, Name, NoMemory};
 use std::alloc::Global;
 use std::sync::Wait;
 
 /// Who has drawn so many tickets draws no more.
 pub const MAX_TICKETS: u64 = 4_294_901_760;
 
+// The place once more.
+fn copy_place(alloc: Global, place: &Place) -> Result<Place, NoMemory>
+    ensures { IfOk result (λ copy. copy ≡ place.now) }
+{
+    Ok(Place {
+        module: place.module.copied(alloc)?,
+        object: place.object,
+        offset: place.offset,
+        len: place.len,
+    })
+}
+
+// The bytes once more.
+fn copy_bytes(alloc: Global, bytes: &[u8]) -> Result<Bytes, NoMemory>
+    ensures { IfOk result (λ copy. copy ≡ bytes.now) }
+{
+    Ok(Bytes::from_vec(Vec::from_slice(alloc, bytes)?))
+}
+
 impl Proc {
-    // The first refusal of a call that may take a turn, where the view of a process that has not ended refuses so.
+    // The first refusal of a call that may take a turn, where the view refuses so.
     pub(crate) fn first_refusal(&self, seen: Option<Refusal>) -> Option<Refusal>
-        ensures { (command : Command) → (self.now.view.holding.ended ≡ false → seen ≡ view_refusal self.now.view.library self.now.view.holding command) →
+        ensures { (command : Command) → seen ≡ view_refusal self.now.view.library self.now.view.holding command →
             result ≡ call_refusal self.now command }
     {
         if self.view.is_ended() {
@@ -38,29 +58,53 @@ impl Proc {
         seen
     }
 
-    // Starts a program, or loads a library.
-    fn enter<R: Wait>(
+    // Carries out a command, and gives the bytes that were read with the number of its entry.
+    fn carry_out<R: Wait>(
         &mut self,
         rt: &R,
         alloc: Global,
         loader: &Loader,
-        how: How,
-        name: &Name,
-    ) -> Result<Done, Fail<Refusal>>
+        command: &Command,
+    ) -> Result<Acted, Fail<Refusal>>
         requires loader { IsOf loader.now self.old }
+        requires entry { HasEntry command.now }
+        requires fits { FitsPlace command.now }
         ensures loader { IsOf loader.now self.new }
-        ensures answer { IsAnswered self.old self.new (enter_command how name.now) result }
+        ensures answer { IsActed self.old self.new command.now result }
     {
-        if let Some(refusal) = self.first_refusal(self.view.check_enter(how, name).err()) {
+        entries_are_known();
+        if let Some(refusal) = self.first_refusal(self.view.refusal(command)) {
             return Err(Fail::Said(refusal));
         }
-        entries_are_known();
         let mut board = take_turn(rt, loader, &mut self.pass, &mut self.view);
-        let done = self.view.do_enter(alloc, &mut board, how, name);
+        let done = self.view.act(alloc, &mut board, command);
         give_back(loader, &mut self.pass, board);
         told_by(&self.pass, done)
     }
 
+    /// Carries out a command that has an entry. A write has as many bytes as its place is long.
+    pub fn act<R: Wait>(
+        &mut self,
+        rt: &R,
+        alloc: Global,
+        loader: &Loader,
+        command: &Command,
+    ) -> Result<Done, Fail<Refusal>>
+        requires loader { IsOf loader.now self.old }
+        requires entry { HasEntry command.now }
+        requires fits { FitsPlace command.now }
+        ensures loader { IsOf loader.now self.new }
+        ensures answer { IsAnswered self.old self.new command.now result }
+    {
+        match self.carry_out(rt, alloc, loader, command) {
+            Ok(acted) => Ok(acted.done),
+            Err(fail) => Err(fail),
+        }
+    }
+}
+
+// By name and place. Each copies what it is given into a command: whoever has a command calls `act`.
+impl Proc {
     /// Starts a program (DosExecPgm).
     pub fn start<R: Wait>(
         &mut self,
@@ -73,7 +117,9 @@ impl Proc {
         ensures loader { IsOf loader.now self.new }
         ensures answer { IsAnswered self.old self.new (commands.Start name.now) result }
     {
-        self.enter(rt, alloc, loader, How::Start, name)
+        self.front();
+        let command = Command::Start(name.copied(alloc)?);
+        self.act(rt, alloc, loader, &command)
     }
 
     /// Loads a library (DosLoadModule).
@@ -88,13 +134,16 @@ impl Proc {
         ensures loader { IsOf loader.now self.new }
         ensures answer { IsAnswered self.old self.new (commands.Load name.now) result }
     {
-        self.enter(rt, alloc, loader, How::Load, name)
+        self.front();
+        let command = Command::Load(name.copied(alloc)?);
+        self.act(rt, alloc, loader, &command)
     }
 
     /// Gives up one load of a library (DosFreeModule).
     pub fn free<R: Wait>(
         &mut self,
         rt: &R,
+        alloc: Global,
         loader: &Loader,
         name: &Name,
     ) -> Result<Done, Fail<Refusal>>
@@ -102,30 +151,23 @@ impl Proc {
         ensures loader { IsOf loader.now self.new }
         ensures answer { IsAnswered self.old self.new (commands.Free name.now) result }
     {
-        if let Some(refusal) = self.first_refusal(self.view.check_free(name).err()) {
-            return Err(Fail::Said(refusal));
-        }
-        entries_are_known();
-        let mut board = take_turn(rt, loader, &mut self.pass, &mut self.view);
-        let done = self.view.do_free(&mut board, name);
-        give_back(loader, &mut self.pass, board);
-        told_by(&self.pass, done)
+        self.front();
+        let command = Command::Free(name.copied(alloc)?);
+        self.act(rt, alloc, loader, &command)
     }
 
     /// Ends the process (DosExit).
-    pub fn exit<R: Wait>(&mut self, rt: &R, loader: &Loader) -> Result<Done, Fail<Refusal>>
+    pub fn exit<R: Wait>(
+        &mut self,
+        rt: &R,
+        alloc: Global,
+        loader: &Loader,
+    ) -> Result<Done, Fail<Refusal>>
         requires loader { IsOf loader.now self.old }
         ensures loader { IsOf loader.now self.new }
         ensures answer { IsAnswered self.old self.new commands.Exit result }
     {
-        if let Some(refusal) = self.first_refusal(None) {
-            return Err(Fail::Said(refusal));
-        }
-        entries_are_known();
-        let mut board = take_turn(rt, loader, &mut self.pass, &mut self.view);
-        let done = self.view.do_exit(&mut board);
-        give_back(loader, &mut self.pass, board);
-        told_by(&self.pass, done)
+        self.act(rt, alloc, loader, &Command::Exit)
     }
 
     /// Writes bytes, of which there are as many as the place is long.
@@ -142,16 +184,9 @@ impl Proc {
         ensures loader { IsOf loader.now self.new }
         ensures answer { IsAnswered self.old self.new (commands.Write place.now bytes.now) result }
     {
-        if let Some(refusal) = self.first_refusal(
-            self.view.check_use(Purpose::Write, place).err(),
-        ) {
-            return Err(Fail::Said(refusal));
-        }
-        entries_are_known();
-        let mut board = take_turn(rt, loader, &mut self.pass, &mut self.view);
-        let done = self.view.do_write(alloc, &mut board, place, bytes);
-        give_back(loader, &mut self.pass, board);
-        told_by(&self.pass, done)
+        self.front();
+        let command = Command::Write(copy_place(alloc, place)?, copy_bytes(alloc, bytes)?);
+        self.act(rt, alloc, loader, &command)
     }
 
     /// Writes bytes to the process's own copy of code, as a debugger does (DosDebug).
@@ -168,23 +203,16 @@ impl Proc {
         ensures loader { IsOf loader.now self.new }
         ensures answer { IsAnswered self.old self.new (commands.Debug place.now bytes.now) result }
     {
-        if let Some(refusal) = self.first_refusal(
-            self.view.check_use(Purpose::Debug, place).err(),
-        ) {
-            return Err(Fail::Said(refusal));
-        }
-        entries_are_known();
-        let mut board = take_turn(rt, loader, &mut self.pass, &mut self.view);
-        let done = self.view.do_debug(alloc, &mut board, place, bytes);
-        give_back(loader, &mut self.pass, board);
-        told_by(&self.pass, done)
+        self.front();
+        let command = Command::Debug(copy_place(alloc, place)?, copy_bytes(alloc, bytes)?);
+        self.act(rt, alloc, loader, &command)
     }
 
-    /// Reads bytes that all processes share into a buffer, which is as long as the place. After a refusal the buffer
-    /// may hold anything.
+    /// Reads bytes that all processes share into a buffer, which is as long as the place.
     pub fn read_shared<R: Wait>(
         &mut self,
         rt: &R,
+        alloc: Global,
         loader: &Loader,
         place: &Place,
         into: &mut [u8],
@@ -195,15 +223,14 @@ impl Proc {
         ensures answer { IsAnswered self.old self.new (commands.Shared place.now) result }
         ensures read { IfOk result (λ _. IsReadLast self.new into.new) }
     {
-        if let Some(refusal) = self.first_refusal(
-            self.view.check_use(Purpose::Share, place).err(),
-        ) {
-            return Err(Fail::Said(refusal));
+        self.front();
+        let command = Command::Shared(copy_place(alloc, place)?);
+        match self.carry_out(rt, alloc, loader, &command) {
+            Ok(acted) => {
+                into.copy_from_slice(acted.bytes.as_slice());
+                Ok(acted.done)
+            }
+            Err(fail) => Err(fail),
         }
-        entries_are_known();
-        let mut board = take_turn(rt, loader, &mut self.pass, &mut self.view);
-        let done = self.view.do_read_shared(&mut board, place, into);
-        give_back(loader, &mut self.pass, board);
-        told_by(&self.pass, done)
     }
 }

@@ -1,13 +1,13 @@
 //! Pages that a process makes present.
 
-ghost use Rattle.std.specs.Prelude.{◌≡◌, ◌<◌, ◌^◌, ◌==◌, false, true, None, Some, MatchResult};
+ghost use Rattle.std.specs.Prelude.{◌≡◌, ◌<◌, ◌^◌, ◌==◌, false, true, None, MatchResult};
 ghost use Rattle.load_model.specs.declared.commands.Command.TheVariants as commands;
 ghost use Rattle.load_model.specs.Views.{mapped_pages};
 ghost use Rattle.load_model.specs.TouchedPages.{has_page};
 ghost use Rattle.page_frames.specs.Residences.{ResidenceFor};
 ghost use Rattle.process_view.specs.Answering.{IsReachedNamed};
 ghost use Rattle.proc_core.specs.Procs.{IsOf, Holds};
-ghost use Rattle.proc_core.specs.Calls.{Waited, call_refusal};
+ghost use Rattle.proc_core.specs.Calls.{Waited, IsRefusedCall, call_refusal};
 ghost use Rattle.proc_core.specs.Touches.{IsTouchAnswered, IsPageAnswered, IsPageOf, needs_fault, page_in};
 ghost use Rattle.proc_core.specs.Claiming.{residence_at, is_there, IsClaim, IsOnePage, HasFewTurns};
 
@@ -15,10 +15,13 @@ use crate::loader::Loader;
 use crate::proc::Proc;
 use crate::turns::{give_back, take_turn};
 use load_core::Claim;
-use load_model::{Place, Refusal, histories_grow, residences_stand, steps_are_sources};
+use load_model::{
+    Place, Refusal, commands_are_told, histories_grow, residences_stand, steps_are_sources,
+    views_answer,
+};
 use lx_types::{Fail, NoMemory, PAGE_LEN, PageBytes, PageId};
 use page_fix::Steps;
-use process_view::{Purpose, pages_stand, span_of};
+use process_view::{pages_stand, span_of};
 use std::alloc::Global;
 use std::sync::Wait;
 use std::sync::ledger::Ledger;
@@ -40,10 +43,12 @@ impl Proc {
     fn touched_in(&self, place: &Place) -> Result<usize, Refusal>
         ensures residence { MatchResult result
             (λ k. (call_refusal self.now (commands.Touch place.now) ≡ None) × IsReachedNamed self.now.view place.now.«module» k)
-            (λ refusal. call_refusal self.now (commands.Touch place.now) ≡ Some refusal) }
+            (IsRefusedCall self.now (commands.Touch place.now)) }
         ensures holds { Holds self.now }
     {
-        let used = self.view.check_use(Purpose::Touch, place);
+        views_answer();
+        commands_are_told();
+        let used = self.view.check_touch(place);
         match self.first_refusal(used.err()) {
             Some(refusal) => Err(refusal),
             None => used,

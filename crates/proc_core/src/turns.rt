@@ -7,12 +7,12 @@ ghost use Rattle.load_model.specs.declared.deeds.Entry.{Entry};
 ghost use Rattle.proc_core.specs.Procs.{Holds, proc_state};
 ghost use Rattle.proc_core.specs.Turns.{in_turn, HasCome, IsToldBy};
 
-use crate::answers::Done;
+use crate::answers::{Acted, Done};
 use crate::kept::Kept;
 use crate::loader::Loader;
 use load_core::Board;
 use load_model::{Refusal, histories_grow, others_leave_alike, views_stand};
-use lx_types::Fail;
+use lx_types::{Bytes, Fail};
 use process_view::View;
 use std::sync::Wait;
 use turn_lock::Pass;
@@ -57,13 +57,16 @@ pub(crate) fn give_back(loader: &Loader, pass: &mut Pass<Kept>, board: Board)
 // The answer of a call that is done: the number of its entry is how much of the history the process has seen.
 pub(crate) fn told_by(
     pass: &Pass<Kept>,
-    done: Result<(), Fail<Refusal>>,
-) -> Result<Done, Fail<Refusal>>
+    done: Result<Bytes, Fail<Refusal>>,
+) -> Result<Acted, Fail<Refusal>>
     ensures { IsToldBy (length pass.now.me.0.seen) done result }
 {
     match done {
-        Ok(()) => Ok(Done {
-            number: pass.front(),
+        Ok(bytes) => Ok(Acted {
+            done: Done {
+                number: pass.front(),
+            },
+            bytes,
         }),
         Err(fail) => Err(fail),
     }

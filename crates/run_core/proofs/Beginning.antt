@@ -12,6 +12,8 @@ use Rattle.load_model.specs.State.{Failing, is_among, pids}
 use Rattle.load_model.specs.Histories.{Legal}
 use Rattle.load_model.specs.Views.{Holding, new_holding}
 use Rattle.session_model.specs.declared.sessions.Script.{Script}
+use Rattle.session_model.specs.declared.sessions.Session.{Session}
+use Rattle.session_model.specs.FailingPairs.{failing_pairs}
 use Rattle.session_model.specs.declared.sessions.ScriptLines.{ScriptLines}
 use Rattle.session_model.specs.Bounds.{IsScript}
 use Rattle.session_model.specs.Runs.{IsRunOf}
@@ -174,3 +176,8 @@ pub ran_as : (r : Result Ran NoMemory) (lib other : Library) (failing : Failing)
 ran_as (Ok ran) lib other failing scripts listed loader tasks same is ends run =
     subst (λ l. IsRanOf l failing scripts ran) same (subst (λ s. IsRanOf other failing s ran) is (ends failing listed run))
 ran_as (Err why) lib other failing scripts listed loader tasks same is ends run = tt
+
+-- over the pairs that a session's lines say
+pub pairs_said : (r : Result Ran NoMemory) (lib : Library) (failing : Failing) (s : Session) (scripts : List Script) → failing ≡ failing_pairs lib s → IfOk r (λ ran. IsRanOf lib failing scripts ran) →
+    IfOk r (λ ran. IsRanOf lib (failing_pairs lib s) scripts ran)
+pairs_said r lib failing s scripts is ran = subst (λ f. IfOk r (λ ran. IsRanOf lib f scripts ran)) is ran

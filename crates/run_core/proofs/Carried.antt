@@ -137,8 +137,8 @@ new_of_place v at n =
     kept_among (λ (u : PageOf). has_page pages u.serial u.page ≡ true) (λ (t : PageOf). not (has_page (mapped_pages v.holding) t.serial t.page)) (take n pages)
     (taken_among (λ (u : PageOf). has_page pages u.serial u.page ≡ true) n pages (all_among pages))
 
-fault_of_place : (v : ProcessView) (at : Place) (d : Deed) → IsNewFault v at d → IsFaultOfPlace v.library v.holding at d
-fault_of_place v at (deeds.Fault serial m p) is = record {
+fault_of_place : (v : ProcessView) (at : Place) (news : List PageOf) (d : Deed) → IsNewFault v at news d → IsFaultOfPlace v.library v.holding at d
+fault_of_place v at news (deeds.Fault serial m p) is = record {
   «module» = m;
   page_is = p;
   is = ap (λ s. deeds.Fault s m p) is.0;
@@ -146,23 +146,23 @@ fault_of_place v at (deeds.Fault serial m p) is = record {
   covered = is.3;
   unmapped = subst (λ s. has_page (mapped_pages v.holding) s p ≡ false) is.0 is.4;
 }
-fault_of_place v at (deeds.Enter how m fresh calls) is = absurd is
-fault_of_place v at (deeds.Full how m of object size) is = absurd is
-fault_of_place v at (deeds.Failed how m by fresh calls gone) is = absurd is
-fault_of_place v at (deeds.Free m calls gone) is = absurd is
-fault_of_place v at (deeds.Exit calls gone) is = absurd is
-fault_of_place v at (deeds.Write serial m object offset bytes) is = absurd is
-fault_of_place v at (deeds.Debug serial m object offset bytes) is = absurd is
-fault_of_place v at (deeds.Shared serial m object offset bytes) is = absurd is
+fault_of_place v at news (deeds.Enter how m fresh calls) is = absurd is
+fault_of_place v at news (deeds.Full how m of object size) is = absurd is
+fault_of_place v at news (deeds.Failed how m by fresh calls gone) is = absurd is
+fault_of_place v at news (deeds.Free m calls gone) is = absurd is
+fault_of_place v at news (deeds.Exit calls gone) is = absurd is
+fault_of_place v at news (deeds.Write serial m object offset bytes) is = absurd is
+fault_of_place v at news (deeds.Debug serial m object offset bytes) is = absurd is
+fault_of_place v at news (deeds.Shared serial m object offset bytes) is = absurd is
 
-own_faults : (v : ProcessView) (at : Place) (xs : List Entry) → AllByRecursion (IsSeenInTouch v at) xs →
+own_faults : (v : ProcessView) (at : Place) (news : List PageOf) (xs : List Entry) → AllByRecursion (IsSeenInTouch v at news) xs →
     AllByRecursion (λ (x : Entry). (v.holding.pid == x.pid) ≡ true → IsFaultOfPlace v.library v.holding at x.deed) xs
-own_faults v at [] all = tt
-own_faults v at (x ∷ xs) all = (one all.0, own_faults v at xs all.1)
+own_faults v at news [] all = tt
+own_faults v at news (x ∷ xs) all = (one all.0, own_faults v at news xs all.1)
   where
-    one : IsSeenInTouch v at x → (v.holding.pid == x.pid) ≡ true → IsFaultOfPlace v.library v.holding at x.deed
+    one : IsSeenInTouch v at news x → (v.holding.pid == x.pid) ≡ true → IsFaultOfPlace v.library v.holding at x.deed
     one (inl other) is = (let wrong : false ≡ true = sym other ∙ is in cc)
-    one (inr own) is = fault_of_place v at x.deed own.1
+    one (inr own) is = fault_of_place v at news x.deed own.1
 
 touch_goes_on : TouchGoesOn → (p q : ProcState) (at : Place) (n before_steps after_steps : ℕ) (lines : List Line) (done : List Command) →
     Holds p → Holds q → IsTouched p q at n before_steps after_steps → AreMapped p.view q.view at → Reached p.view.library (failing_in p.known.subject) p lines done →
@@ -174,7 +174,7 @@ touch_goes_on goes p q at n before_steps after_steps lines done before after it 
     let touches : Touches lib p.view.holding q.view.holding p.known.seen q.known.seen at = record {
       more = it.shown;
       shown = it.seen;
-      faults = own_faults p.view at it.shown it.entries;
+      faults = own_faults p.view at (newly_mapped p.view at n) it.shown it.entries;
       accepted = right_none (when (nat_le MAX_TICKETS p.known.drawn) Worn) _ (right_none (when p.view.holding.ended Ended) _ it.accepted);
       view = it.holding;
       news = newly_mapped p.view at n;

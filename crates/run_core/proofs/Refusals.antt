@@ -26,6 +26,7 @@ use Rattle.load_model.specs.ViewAnswers.{seen_process, is_held_in, reached_named
 use Rattle.proc_core.specs.Procs.{ProcState}
 use Rattle.proc_core.specs.Calls.{call_refusal}
 use Rattle.proc_core.specs.declared.deeds.TheConstants.{MAX_TICKETS}
+use Rattle.proc_core.proofs.Fronts.{ended_first}
 use Rattle.run_core.specs.Carrying.{has_entry}
 
 -- ---- no entry
@@ -148,20 +149,6 @@ pub view_is_plain : (lib : Library) (v : Holding) (c : Command) (r : Refusal) �
 view_is_plain lib v c r is = subst Plain is (all_plain lib v c)
 
 -- ---- a call's refusal
-
-ended_first : (lib : Library) (v : Holding) (c : Command) → v.ended ≡ true → view_refusal lib v c ≡ Some Ended
-unfolding view_refusal
-ended_first lib v (commands.Start name) is = ap (λ b. when b Ended orelse started_refusal (seen_process v) ways.Start orelse view_module_or_none lib v ways.Start (number_of lib name)) is
-ended_first lib v (commands.Load name) is = ap (λ b. when b Ended orelse started_refusal (seen_process v) ways.Load orelse view_module_or_none lib v ways.Load (number_of lib name)) is
-ended_first lib v (commands.Free name) is = ap (λ b. when b Ended orelse when (not (is_held_in v (number_of lib name))) NotHeld) is
-ended_first lib v (commands.Touch at) is = ap (λ b. when b Ended orelse residence_refusal lib (seen_process v) touch at (reached_named lib v at.«module»)) is
-ended_first lib v (commands.Peek at) is = ap (λ b. when b Ended orelse residence_refusal lib (seen_process v) peek at (reached_named lib v at.«module»)) is
-ended_first lib v (commands.Shared at) is = ap (λ b. when b Ended orelse residence_refusal lib (seen_process v) share at (reached_named lib v at.«module»)) is
-ended_first lib v (commands.Write at bytes) is = ap (λ b. when b Ended orelse residence_refusal lib (seen_process v) write at (reached_named lib v at.«module»)) is
-ended_first lib v (commands.Debug at bytes) is = ap (λ b. when b Ended orelse residence_refusal lib (seen_process v) debug at (reached_named lib v at.«module»)) is
-ended_first lib v (commands.Query name key) is = ap (λ b. when b Ended orelse key_refusal lib key (reached_named lib v name)) is
-ended_first lib v (commands.GetRes name ty id) is = ap (λ b. when b Ended orelse found_refusal lib ty id (reached_named lib v name)) is
-ended_first lib v commands.Exit is = ap (λ b. when b Ended) is
 
 pub call_is_views : (p : ProcState) (c : Command) → p.known.drawn < MAX_TICKETS → call_refusal p c ≡ view_refusal p.view.library p.view.holding c
 call_is_views p c few = step p.view.holding.ended refl

@@ -2,7 +2,7 @@
 
 ghost use Rattle.std.specs.Prelude.{◌≡◌, ◌<◌, IfOk, length};
 ghost use Rattle.load_model.specs.declared.commands.Command.TheVariants as commands;
-ghost use Rattle.session_model.specs.Bounds.{IsCommand, IsReadable};
+ghost use Rattle.session_model.specs.Bounds.{IsCommand};
 ghost use Rattle.proc_core.specs.declared.deeds.TheConstants.{MAX_TICKETS};
 ghost use Rattle.proc_core.specs.Procs.{IsOf};
 ghost use Rattle.run_core.specs.Carrying.{IsCarriedOut, IsLineOf, has_entry};
@@ -66,22 +66,6 @@ fn peek(alloc: Global, proc: &Proc, place: &Place) -> Result<Option<Reply>, NoMe
     }
 }
 
-fn shared<R: Wait>(
-    rt: &R,
-    alloc: Global,
-    loader: &Loader,
-    proc: &mut Proc,
-    place: &Place,
-) -> Result<Option<Reply>, NoMemory>
-    requires loader { IsOf loader.now proc.old }
-    requires few { proc.old.known.drawn < MAX_TICKETS }
-    ensures loader { IsOf loader.now proc.new }
-    ensures carried { IfOk result (λ reply. IsCarriedOut proc.old proc.new (commands.Shared place.now) reply) }
-{
-    let mut bytes = room(alloc, place.len)?;
-    line_of(proc.read_shared(rt, loader, place, bytes.as_mut_slice()))
-}
-
 // A touch, whose steps nobody counts.
 fn touch<R: Wait, L: Ledger>(
     rt: &R,
@@ -123,20 +107,10 @@ pub fn answer<R: Wait>(
     ensures carried { IfOk result (λ reply. IsCarriedOut proc.old proc.new command.now reply) }
 {
     match command {
-        Command::Start(name) => line_of(proc.start(rt, alloc, loader, name)),
-        Command::Load(name) => line_of(proc.load(rt, alloc, loader, name)),
-        Command::Free(name) => line_of(proc.free(rt, loader, name)),
         Command::Touch(place) => {
             touch::<R, Brand>(rt, alloc, loader, proc, place, Blank::new(1))
         }
         Command::Peek(place) => peek(alloc, proc, place),
-        Command::Shared(place) => shared(rt, alloc, loader, proc, place),
-        Command::Write(place, bytes) => {
-            line_of(proc.write(rt, alloc, loader, place, bytes.as_slice()))
-        }
-        Command::Debug(place, bytes) => {
-            line_of(proc.debug(rt, alloc, loader, place, bytes.as_slice()))
-        }
         Command::Query(module, key) => match proc.query(module, key) {
             Ok(address) => Ok(Some(Reply::Address(address))),
             Err(refusal) => Ok(Some(Reply::Refused(refusal))),
@@ -145,6 +119,6 @@ pub fn answer<R: Wait>(
             Ok(spot) => Ok(Some(Reply::Spot(spot))),
             Err(refusal) => Ok(Some(Reply::Refused(refusal))),
         },
-        Command::Exit => line_of(proc.exit(rt, loader)),
+        _ => line_of(proc.act(rt, alloc, loader, command)),
     }
 }

@@ -66,7 +66,7 @@ fn pairs_in(
 
 /// The pairs of a process and a module whose initialisation fails in it. A line whose name no module has, or whose number no
 /// script, is passed over.
-pub fn failing_pairs(
+pub(crate) fn failing_pairs(
     alloc: Global,
     lib: &Library,
     session: &Session,

@@ -7,6 +7,5 @@ mod laws;
 mod session;
 mod tasks;
 
-pub use failing::failing_pairs;
 pub use laws::turn_limit;
 pub use session::{Ran, run_session};

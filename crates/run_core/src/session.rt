@@ -5,6 +5,7 @@ ghost use Rattle.std.specs.Arc.{arc_value};
 ghost use Rattle.std.specs.List.{All, list_any};
 ghost use Rattle.lx_types.specs.declared.limits.TheConstants.{MAX_PROCESSES};
 ghost use Rattle.session_model.specs.Bounds.{IsSession};
+ghost use Rattle.session_model.specs.FailingPairs.{failing_pairs};
 ghost use Rattle.session_model.specs.Runs.{run_text};
 ghost use Rattle.load_model.specs.State.{Failing};
 ghost use Rattle.session_model.specs.declared.sessions.Script.{Script};
@@ -13,6 +14,7 @@ ghost use Rattle.run_core.specs.Sessions.{HaveRun, IsRanOf, run_in};
 ghost use Rattle.run_core.specs.Tasks.{IsReady, IsRunOut, lines_of, proc_of, task_with};
 ghost use Rattle.run_core.specs.declared.tasks.Task.{Task};
 
+use crate::failing;
 use crate::tasks::{Task, run_script};
 use lx_ports::Gate;
 use lx_types::{NoMemory, Seq};
@@ -173,10 +175,21 @@ fn run_nothing(alloc: Global, lib: &Arc<Library>, failing: Vec<(u32, u32)>) -> R
     told(alloc, lib, closed, Vec::new(alloc))
 }
 
-/// Runs the scripts of a session over a library: each script on a thread of its own, where one can be made. `failing` are the
-/// pairs of a process and a module whose initialisation fails; processes count from 1 in the order of the scripts, modules from
-/// 0. Before each command the gate is asked with the script's number, which need not be its process's, and with the command's
-/// place in the script, from 1.
+// The pairs of a process and a module whose initialisation fails, as a session's lines say.
+fn failing_in(
+    alloc: Global,
+    lib: &Arc<Library>,
+    session: &Session,
+) -> Result<Vec<(u32, u32)>, NoMemory>
+    requires { IsSession session.now }
+    ensures { IfOk result (λ found. found.items ≡ failing_pairs (arc_value lib.now) session.now) }
+{
+    failing::failing_pairs(alloc, lib, session)
+}
+
+/// Runs the scripts of a session over a library: each script on a thread of its own, where one can be made. The initialisations
+/// fail that the session's lines say. Before each command the gate is asked with the script's number, which need not be its
+/// process's, and with the command's place in the script, from 1.
 ///
 /// Where a script finds no memory, the others run to their ends, and then the answer is `NoMemory`.
 pub fn run_session<R: Threads + Wait + Sync, G: Gate>(
@@ -184,13 +197,13 @@ pub fn run_session<R: Threads + Wait + Sync, G: Gate>(
     alloc: Global,
     session: Session,
     lib: Arc<Library>,
-    failing: Vec<(u32, u32)>,
     gate: &G,
 ) -> Result<Ran, NoMemory>
     requires { IsSession session }
-    ensures { IfOk result (λ ran. IsRanOf (arc_value lib) failing.items session.scripts ran) }
+    ensures { IfOk result (λ ran. IsRanOf (arc_value lib) (failing_pairs (arc_value lib) session) session.scripts ran) }
 {
     script_laws::progress_begins();
+    let failing = failing_in(alloc, &lib, &session)?;
     let scripts = session.scripts.into_vec();
     if scripts.is_empty() {
         return run_nothing(alloc, &lib, failing);

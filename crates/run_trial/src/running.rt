@@ -8,7 +8,7 @@ use crate::gate::{Asked, Hold, HoldingGate};
 use crate::modules::library;
 use load_model::{Deed, Entry};
 use lx_types::{Fail, PageId};
-use run_core::{Ran, failing_pairs, run_session};
+use run_core::{Ran, run_session};
 use session_model::{Session, sessions_are_bounded};
 use session_text::read_session;
 use std::alloc::Global;
@@ -46,10 +46,9 @@ pub fn run_text<R: Threads + Wait + Sync>(
 ) -> Result<Outcome, Failure> {
     let session = session_of(alloc, text)?;
     let library = library(alloc)?;
-    let failing = failing_pairs(alloc, &library, &session)?;
     let library = Arc::new(alloc, library)?;
     let gate = HoldingGate::new(alloc, holds)?;
-    let ran = run_session(rt, alloc, session, library, failing, &gate)?;
+    let ran = run_session(rt, alloc, session, library, &gate)?;
     let asked = gate.asked();
     Ok(Outcome { ran, asked })
 }

@@ -7,9 +7,6 @@ use Rattle.lx_types.proofs.Lists.{all_joined}
 use Rattle.load_model.specs.declared.commands.Command.{Command}
 use Rattle.load_model.specs.declared.commands.Refusal.{Refusal}
 use Rattle.load_model.specs.declared.deeds.Entry.{Entry}
-use Rattle.load_model.specs.declared.commands.Command.TheVariants.{Exit}
-use Rattle.load_model.specs.declared.commands.Refusal.TheVariants.{Ended}
-use Rattle.load_model.specs.Refusals.{when}
 use Rattle.load_model.specs.ViewAnswers.{view_refusal}
 use Rattle.load_model.specs.Outcomes.{Outcome}
 use Rattle.load_model.specs.State.{pids, is_among}
@@ -96,8 +93,8 @@ idled b c v u w can shown idle =
       stands = subst (λ (l : BoardState). StandsShown l w) (sym idle.0) (shown_again b w (roomless b (at_front (length b.history) v) w bare can.stands));
     }
 
-pub went : (b c : BoardState) (v u w : ProcessView) (command : Command) (r : Result Unit (Fail Refusal)) → CanGoOn b v → u ≡ at_front (length b.history) v → IsDone b c u w command r → WentOn b c v w
-went b c v u w command (Ok it) can shown did = did_more b c v u w command _ shown did
+pub went : (b c : BoardState) (v u w : ProcessView) (command : Command) (r : Result (List ℕ) (Fail Refusal)) → CanGoOn b v → u ≡ at_front (length b.history) v → IsDone b c u w command r → WentOn b c v w
+went b c v u w command (Ok bytes) can shown is = did_more b c v u w command _ shown is.0
 went b c v u w command (Err (Said refusal)) can shown did = did_more b c v u w command _ shown did
 went b c v u w command (Err NoMemory) can shown idle = idled b c v u w can shown idle
 
@@ -111,9 +108,3 @@ idled_more b c v u w can shown idle =
       residences = ap (λ (x : ProcessView). x.residences) bare;
       ended = ap (λ (x : ProcessView). x.holding.ended) bare;
     }
-
--- ---- what is not refused
-
-pub exit_fine : (v : ProcessView) → v.holding.ended ≡ false → view_refusal v.library v.holding Exit ≡ None
-unfolding view_refusal
-exit_fine v going = ap (λ (e : Bool). when e Ended) going

@@ -1,6 +1,8 @@
 //! What a process answers to a command.
 
-ghost use Rattle.std.specs.Prelude.{◌≡◌, ◌<◌, IfOk, length};
+ghost use Rattle.std.specs.Prelude.{◌≡◌, ◌<◌, IfOk, IsTrue, length};
+ghost use Rattle.load_model.specs.Step.{FitsPlace};
+ghost use Rattle.process_view.specs.Plans.{HasEntry};
 ghost use Rattle.proc_core.specs.Procs.{IsOf};
 
 use load_model::{Command, Place, Refusal, Reply};
@@ -22,6 +24,22 @@ pub fn line_of<T: Drop>(answer: Result<T, Fail<Refusal>>) -> Result<Option<Reply
     }
 }
 
+/// Whether a command has an entry where it is carried out, and as many bytes as its place is long.
+pub fn is_deed(command: &Command) -> bool
+    ensures { IsTrue result → HasEntry command.now × FitsPlace command.now }
+{
+    match command {
+        Command::Start(_) => true,
+        Command::Load(_) => true,
+        Command::Free(_) => true,
+        Command::Shared(_) => true,
+        Command::Write(place, bytes) => bytes.as_slice().len() == place.len as usize,
+        Command::Debug(place, bytes) => bytes.as_slice().len() == place.len as usize,
+        Command::Exit => true,
+        _ => false,
+    }
+}
+
 /// Room for so many bytes.
 pub fn room(alloc: Global, len: u32) -> Result<Vec<u8>, NoMemory>
     ensures { IfOk result (λ bytes. length bytes.items ≡ len) }
@@ -35,20 +53,6 @@ fn peek(alloc: Global, proc: &Proc, place: &Place) -> Result<Option<Reply>, NoMe
         Ok(()) => Ok(Some(Reply::Bytes(Seq::from_vec(bytes)))),
         Err(refusal) => Ok(Some(Reply::Refused(refusal))),
     }
-}
-
-fn shared<R: Wait>(
-    rt: &R,
-    alloc: Global,
-    loader: &Loader,
-    proc: &mut Proc,
-    place: &Place,
-) -> Result<Option<Reply>, NoMemory>
-    requires { IsOf loader.now proc.old }
-    ensures { IsOf loader.now proc.new }
-{
-    let mut bytes = room(alloc, place.len)?;
-    line_of(proc.read_shared(rt, loader, place, bytes.as_mut_slice()))
 }
 
 // A touch, whose steps nobody counts.
@@ -86,21 +90,14 @@ pub fn answer<R: Wait>(
     requires { IsOf loader.now proc.old }
     ensures { IsOf loader.now proc.new }
 {
+    if is_deed(command) {
+        return line_of(proc.act(rt, alloc, loader, command));
+    }
     match command {
-        Command::Load(name) => line_of(proc.load(rt, alloc, loader, name)),
-        Command::Free(name) => line_of(proc.free(rt, loader, name)),
-        Command::Exit => line_of(proc.exit(rt, loader)),
         Command::Touch(place) => {
             touch::<R, Brand>(rt, alloc, loader, proc, place, Blank::new(1))
         }
         Command::Peek(place) => peek(alloc, proc, place),
-        Command::Shared(place) => shared(rt, alloc, loader, proc, place),
-        Command::Write(place, bytes) if bytes.as_slice().len() == place.len as usize => {
-            line_of(proc.write(rt, alloc, loader, place, bytes.as_slice()))
-        }
-        Command::Debug(place, bytes) if bytes.as_slice().len() == place.len as usize => {
-            line_of(proc.debug(rt, alloc, loader, place, bytes.as_slice()))
-        }
         _ => Ok(None),
     }
 }

@@ -11,7 +11,7 @@ use load_core::{Board, Claim};
 use load_model::{Place, Reply, residences_stand};
 use lx_types::{NoMemory, PAGE_LEN, PageBytes, PageId};
 use page_fix::Steps;
-use process_view::{Purpose, View, pages_stand, span_of};
+use process_view::{View, pages_stand, span_of};
 use std::alloc::Global;
 use std::sync::Wait;
 use std::sync::ledger::{Blank, Ledger};
@@ -119,7 +119,7 @@ pub fn touch<R: Wait + AllocGlobal, L: Ledger>(
 {
     residences_stand();
     board.history();
-    let residence = match view.check_use(Purpose::Touch, place) {
+    let residence = match view.check_touch(place) {
         Ok(residence) => residence,
         Err(refusal) => return Ok(Some(Reply::Refused(refusal))),
     };

@@ -2,7 +2,7 @@ use Rattle.std.proofs.Common.{◌∙◌, ◌<◌, ◌≤◌, length, sym, subst}
 use Rattle.std.specs.List.{AllByRecursion}
 use Rattle.std.specs.Arc.{arc_value}
 use Rattle.session_model.specs.Bounds.{IsScript}
-use Rattle.run_core.proofs.Beginning.{made_as, not_empty, tasks_some, tasks_ready, tasks_run, ran_as}
+use Rattle.run_core.proofs.Beginning.{made_as, not_empty, tasks_some, tasks_ready, tasks_run, ran_as, pairs_said}
 use Rattle.run_core.specs.Sessions.{HaveRun}
 use Rattle.run_core.proofs.session.run_session.Goals as goal
 
@@ -18,17 +18,18 @@ run_tasks-tasks-requires-clause-ready g c = λ κs it.
 
 pub finish-requires : goal.finish-requires
 finish-requires g c = (
-  c.args.failing.items,
+  c.in_ok-failing.failing.items,
   c.into_vec-scripts.result.items,
-  subst (λ l. HaveRun c.in_ok-loader.loader l c.args.failing.items c.into_vec-scripts.result.items c.run_tasks-tasks.result.items) (sym c.deref.ensures)
+  subst (λ l. HaveRun c.in_ok-loader.loader l c.in_ok-failing.failing.items c.into_vec-scripts.result.items c.run_tasks-tasks.result.items) (sym c.deref.ensures)
       (tasks_run _ _ _ _ _ (made_as _ _ _ _ _ (c.len.ensures ∙ c.into_vec-scripts.result.ok.0) c.in_ok-loader.ensures) _ _ c.in_ok-tasks.ensures
       (subst (λ n. 0 < n) c.into_vec-scripts.result.ok.0 (not_empty _ _ c.is_empty.ensures c.if-is_empty.false)) c.run_tasks-tasks.ensures.count c.run_tasks-tasks.ensures.out),
 )
 
 pub returns : goal.returns
 returns g c =
-    ran_as c.finish.result (arc_value c.args.lib) c.deref.result.now c.args.failing.items c.args.session.scripts c.into_vec-scripts.result.items c.in_ok-loader.loader c.run_tasks-tasks.result.items
+    pairs_said c.finish.result (arc_value c.args.lib) c.in_ok-failing.failing.items c.args.session c.args.session.scripts c.in_ok-failing.ensures
+    (ran_as c.finish.result (arc_value c.args.lib) c.deref.result.now c.in_ok-failing.failing.items c.args.session.scripts c.into_vec-scripts.result.items c.in_ok-loader.loader c.run_tasks-tasks.result.items
     c.deref.ensures c.into_vec-scripts.ensures c.finish.ensures
-    (subst (λ l. HaveRun c.in_ok-loader.loader l c.args.failing.items c.into_vec-scripts.result.items c.run_tasks-tasks.result.items) (sym c.deref.ensures)
+    (subst (λ l. HaveRun c.in_ok-loader.loader l c.in_ok-failing.failing.items c.into_vec-scripts.result.items c.run_tasks-tasks.result.items) (sym c.deref.ensures)
     (tasks_run _ _ _ _ _ (made_as _ _ _ _ _ (c.len.ensures ∙ c.into_vec-scripts.result.ok.0) c.in_ok-loader.ensures) _ _ c.in_ok-tasks.ensures
-    (subst (λ n. 0 < n) c.into_vec-scripts.result.ok.0 (not_empty _ _ c.is_empty.ensures c.if-is_empty.false)) c.run_tasks-tasks.ensures.count c.run_tasks-tasks.ensures.out))
+    (subst (λ n. 0 < n) c.into_vec-scripts.result.ok.0 (not_empty _ _ c.is_empty.ensures c.if-is_empty.false)) c.run_tasks-tasks.ensures.count c.run_tasks-tasks.ensures.out)))

@@ -1,6 +1,7 @@
 use Rattle.stepped_runs.proofs.Onward.{mapped_none, mapped_further, can_still}
 use Rattle.stepped_runs.proofs.Pages.{page_of_place, page_still}
 use Rattle.load_model.specs.Memory.{page}
+use Rattle.load_model.specs.ViewAnswers.{view_refusal}
 use Rattle.stepped_runs.proofs.mapping.touch.Goals as goal
 
 pub loop-number-init : goal.loop-number-init
@@ -10,6 +11,7 @@ pub touch_page-requires-clause-stands : goal.touch_page-requires-clause-stands
 touch_page-requires-clause-stands g c = can_still c.args.board.now c.loop-number.board c.args.view.now c.loop-number.view c.requires.stands c.loop-number.invariant.went
 
 pub touch_page-requires-clause-page : goal.touch_page-requires-clause-page
+unfolding view_refusal
 touch_page-requires-clause-page g c =
     page_still c.args.board.now c.loop-number.board c.args.view.now c.loop-number.view c.in-Ok.residence (page c.args.place.now.object c.loop-number.number) c.loop-number.invariant
     (page_of_place c.residences_stand.ensures.fit c.args.board.now c.args.view.now c.args.place.now c.in-Ok.residence c.span_of-span.result.first c.span_of-span.result.end c.loop-number.number c.history.ensures.legal c.requires.stands

@@ -1,4 +1,5 @@
 use Rattle.std.proofs.Common.{◌≡◌, false, sym, ap, subst}
+use Rattle.std.proofs.lemmas.Bool.{not-false}
 use Rattle.std.proofs.lemmas.Result.{err_from_is_err_and}
 use Rattle.page_frames.specs.Residences.{ResidenceFor}
 use Rattle.process_view.specs.ProcessViews.{without_room}
@@ -7,7 +8,7 @@ use Rattle.proc_core.specs.Touches.{IsPageOf, needs_fault, page_in}
 use Rattle.proc_core.specs.Claiming.{residence_at, is_there}
 use Rattle.proc_core.proofs.Claims.{Laws, nothing_mapped}
 use Rattle.proc_core.proofs.MappedBehind.{roomy_holds}
-use Rattle.proc_core.proofs.TouchedPage.{roomy_page, roomy_can, private_holds, private_page}
+use Rattle.proc_core.proofs.TouchedPage.{roomy_page, roomy_fault, roomy_can, private_holds, private_page}
 use Rattle.proc_core.proofs.proc.Proc.touch_private.Goals as goal
 
 pub invariant_of-self : goal.invariant_of-self
@@ -47,6 +48,13 @@ map_private-requires-clause-page g c =
     let apart : (d : ResidenceFor) → is_there p.view (residence_at p.view c.args.at.residence d) c.args.at.page ≡ false =
     subst (λ (s : ProcState). (d : ResidenceFor) → is_there s.view (residence_at s.view c.args.at.residence d) c.args.at.page ≡ false) (sym c.self.view_is) c.requires.apart in
     roomy_can p c.reserve_page.new.self c.args.at.residence c.args.at.page c.self.invariant.1 (ap without_room c.in_ok-reserve_page.ensures.same) is apart
+
+pub map_private-requires-clause-own : goal.map_private-requires-clause-own
+map_private-requires-clause-own g c =
+    let p : ProcState = proc_state c.self.inside.pass c.self.inside.view in
+    let fault : (d : ResidenceFor) → needs_fault p.view.library (residence_at p.view c.args.at.residence d).«module» (page_in (residence_at p.view c.args.at.residence d) c.args.at.page) ≡ false =
+    subst (λ (s : ProcState). (d : ResidenceFor) → needs_fault s.view.library (residence_at s.view c.args.at.residence d).«module» (page_in (residence_at s.view c.args.at.residence d) c.args.at.page) ≡ false) (sym c.self.view_is) c.requires.fault in
+    λ d. not-false _ (roomy_fault p.view c.reserve_page.new.self c.args.at.residence c.args.at.page false (ap without_room c.in_ok-reserve_page.ensures.same) fault d)
 
 pub invariant_of-self-2 : goal.invariant_of-self-2
 invariant_of-self-2 g c =
