@@ -42,6 +42,8 @@ pub enum Line<'a> {
     Row(&'a str),
     /// `words WORD ..`: the command.
     Words(&'a str),
+    /// `word TEXT`: one word more of it, which may have blanks.
+    Word(&'a str),
     /// `status NUMBER`: the status that is wanted.
     Status(u8),
     /// `load NUMBER fails`, and so `save` and `put`.
@@ -166,6 +168,7 @@ fn plain<'a>(alloc: Global, text: &'a str) -> Result<Line<'a>, AllocError> {
         "file" => Line::File(rest),
         "row" => Line::Row(rest),
         "words" => Line::Words(rest),
+        "word" => Line::Word(rest),
         "status" => match rest.parse::<u8>() {
             Ok(status) => Line::Status(status),
             Err(_) => Line::Unknown,

@@ -5,7 +5,8 @@ use crate::sweep::{Damage, Sweep};
 use lx_ports::{MemFiles, MemSink, NoGate};
 use lx_tool::lx_main;
 use lx_types::NoMemory;
-use refusal_notes::{Heard, Tell, Watched, tell_on};
+use refusal_notes::{Ending, Tell, Watched, tell_on};
+use refusal_text::Refused;
 use std::alloc::{AllocError, Global};
 use std::sync::Wait;
 use std::thread::Threads;
@@ -180,19 +181,25 @@ impl Row {
             said: String::new(alloc),
         };
         let mut watched = Watched::new(alloc, own, sayings);
-        let sink = MemSink::of(alloc, ports.room, ports.share.max(1), ports.puts.clone()?)?;
-        let mut out = Heard::new(alloc, sink);
-        let status = lx_main(rt, alloc, &self.words, &mut watched, &mut out, &NoGate).status;
-        let entries = entries_of(alloc, files)?;
-        let mut again = MemFiles::of(alloc, entries, Vec::new(alloc), Vec::new(alloc));
-        tell_on((alloc, &self.words, status), &mut watched, &out, &mut again);
+        let mut out = MemSink::of(alloc, ports.room, ports.share.max(1), ports.puts.clone()?)?;
+        let ended = lx_main(rt, alloc, &self.words, &mut watched, &mut out, &NoGate);
+        let ending = ending_of(&self.words, ended.status, ended.refused.as_ref());
+        tell_on(alloc, &ending, &mut watched);
         let (files, sayings) = watched.into_parts();
         Ok(Ended {
-            status,
-            text: out.into_sink().written().to_vec(alloc)?,
+            status: ended.status,
+            text: out.written().to_vec(alloc)?,
             said: sayings.said,
             files,
         })
+    }
+}
+
+fn ending_of<'a>(words: &'a [String], status: u8, refused: Option<&'a Refused>) -> Ending<'a> {
+    Ending {
+        words,
+        status,
+        refused,
     }
 }
 

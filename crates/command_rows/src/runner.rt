@@ -177,6 +177,7 @@ impl Runner {
 fn take_in_row(alloc: Global, row: &mut Row, line: Line<'_>) -> Result<bool, AllocError> {
     match line {
         Line::Words(words) => row.set_words(alloc, words)?,
+        Line::Word(word) => row.words.push(word.to_string(alloc)?)?,
         Line::Status(status) => row.status = status,
         Line::Fails { port, number } => row.fail(port, number)?,
         Line::Each { damage, name } => row.set_sweep(alloc, damage, name)?,

@@ -19,4 +19,4 @@ pub mod Saved
 -- Where modules stand that were placed, in an arena in which nothing else is.
 pub mod Placed
 -- The files of one module more, and all of them, before any is saved.
-pub mod Made
+pub mod MadeFiles

@@ -10,9 +10,8 @@ ghost use Rattle.gen_model.specs.Sums.{word_at};
 ghost use Rattle.gen_core.specs.Fixing.{library_words, module_words, object_words, page_words, total};
 
 use lx_types::{Bases, Module, NoMemory, PAGE_LEN, PageBytes, PageId};
-use mod_graph::Library;
 use module_pages::ModulePages;
-use page_fix::Steps;
+use page_fix::{OwnLibrary, Steps};
 use std::alloc::Global;
 use std::sync::ledger::Ledger;
 
@@ -42,14 +41,13 @@ fn sum_of_page(bytes: &PageBytes) -> u32
 // The sum of the words of a page.
 fn sum_of<L: Ledger>(
     alloc: Global,
-    pages: &mut ModulePages<'_>,
+    pages: &ModulePages<'_>,
     p: PageId,
     steps: &mut Steps<L>,
 ) -> Result<u32, NoMemory>
-    requires object { IsNumberOf p.object (length (module_of pages.old.library pages.old.«module»).objects) }
-    requires page { p.page < pages_of (object_of (module_of pages.old.library pages.old.«module») p.object) }
-    ensures stay { pages.new ≡ pages.old }
-    ensures sum { IfOk result (λ sum. sum ≡ total (page_words (slice_index (fixed_page pages.old.library pages.old.«module» pages.old.bases p)))) }
+    requires object { IsNumberOf p.object (length (module_of pages.now.library pages.now.«module»).objects) }
+    requires page { p.page < pages_of (object_of (module_of pages.now.library pages.now.«module») p.object) }
+    ensures { IfOk result (λ sum. sum ≡ total (page_words (slice_index (fixed_page pages.now.library pages.now.«module» pages.now.bases p)))) }
 {
     let buffer = Box::new(alloc, [0; PAGE_LEN])?;
     let page = pages.page(p, buffer, steps);
@@ -60,14 +58,13 @@ fn sum_of<L: Ledger>(
 fn sum_of_object<L: Ledger>(
     alloc: Global,
     module: &Module,
-    pages: &mut ModulePages<'_>,
+    pages: &ModulePages<'_>,
     object: u32,
     steps: &mut Steps<L>,
 ) -> Result<u32, NoMemory>
-    requires module { «module».now ≡ module_of pages.old.library pages.old.«module» }
+    requires module { «module».now ≡ module_of pages.now.library pages.now.«module» }
     requires number { IsNumberOf object (length «module».now.objects) }
-    ensures stay { pages.new ≡ pages.old }
-    ensures sum { IfOk result (λ sum. sum ≡ total (object_words pages.old.library pages.old.bases pages.old.«module» object)) }
+    ensures { IfOk result (λ sum. sum ≡ total (object_words pages.now.library pages.now.bases pages.now.«module» object)) }
 {
     let mut sum = 0u32;
     for page in 0..module.pages(object) {
@@ -79,7 +76,7 @@ fn sum_of_object<L: Ledger>(
 // The sum of the words of a module of a library at the bases of a load.
 fn sum_of_module<L: Ledger>(
     alloc: Global,
-    lib: &Library,
+    lib: &OwnLibrary,
     bases: &Bases,
     number: u32,
     steps: &mut Steps<L>,
@@ -88,27 +85,27 @@ fn sum_of_module<L: Ledger>(
     requires few { length (module_of lib.now number).objects < 2 ^ 32 }
     ensures { IfOk result (λ sum. sum ≡ total (module_words lib.now bases.now number)) }
 {
-    let module = lib.module(number);
-    let mut pages = ModulePages::of(alloc, lib, bases, number)?;
+    let module = lib.library().module(number);
+    let pages = ModulePages::of(lib, bases, number);
     let mut sum = 0u32;
     for before in 0..module.objects().len() as u32 {
-        sum = sum.wrapping_add(sum_of_object(alloc, module, &mut pages, before + 1, steps)?);
+        sum = sum.wrapping_add(sum_of_object(alloc, module, &pages, before + 1, steps)?);
     }
     Ok(sum)
 }
 
-/// The sum of all 32-bit words of all pages of a library at the bases of a load, modulo 2^32: each page is fixed, and its words
-/// are added. It takes time that grows with pages and record sources, and the memory of one page.
+/// The sum of all 32-bit words of all pages of a library that nobody shares at the bases of a load, modulo 2^32: each page is
+/// fixed, and its words are added. It takes time that grows with pages and record sources, and the memory of one page.
 pub fn sum_of_words<L: Ledger>(
     alloc: Global,
-    lib: &Library,
+    lib: &OwnLibrary,
     bases: &Bases,
     steps: &mut Steps<L>,
 ) -> Result<u32, NoMemory>
     ensures { IfOk result (λ sum. sum ≡ total (library_words lib.now bases.now)) }
 {
     let mut sum = 0u32;
-    for module in 0..lib.len() {
+    for module in 0..lib.library().len() {
         sum = sum.wrapping_add(sum_of_module(alloc, lib, bases, module, steps)?);
     }
     Ok(sum)

@@ -18,5 +18,5 @@ mod telling;
 
 pub use laws::words_are_meant;
 pub use outputs::Output;
-pub use saving::generate;
+pub use saving::{Made, generate};
 pub use telling::totals;

@@ -1,7 +1,7 @@
 //! What the generator saves and says.
 
-ghost use Rattle.std.specs.Prelude.{◌≤◌, All, map};
-ghost use Rattle.gen_core.specs.Doing.{AsksSave, DoesGen, Saves};
+ghost use Rattle.std.specs.Prelude.{◌≤◌, All, IfOk, map};
+ghost use Rattle.gen_core.specs.Doing.{AsksSave, DoesGen, NamesUnsaved, Saves, said_in};
 ghost use Rattle.gen_core.specs.Generated.{HasLine, saved_of};
 
 use crate::outputs::{Output, outputs};
@@ -10,6 +10,13 @@ use answer_model::{DONE, Said, WRITE_FAILED};
 use lx_ports::{Files, SaveFault};
 use lx_types::{Bytes, NoMemory};
 use std::alloc::Global;
+
+/// What is said, and the name of the file that was not saved, where there is one.
+#[derive(Drop)]
+pub struct Made {
+    pub said: Said,
+    pub unsaved: Option<String>,
+}
 
 // Saves one file.
 fn save_one<F: Files>(files: &mut F, output: &Output) -> Result<(), SaveFault>
@@ -20,21 +27,28 @@ fn save_one<F: Files>(files: &mut F, output: &Output) -> Result<(), SaveFault>
 
 // Saves the files in their order, and says the line; none is saved after the first that is not, which is said. It takes no
 // memory.
-fn save_all<F: Files>(files: &mut F, outputs: Vec<Output>, line: Bytes) -> Said
+fn save_all<F: Files>(files: &mut F, outputs: Vec<Output>, line: Bytes) -> Made
     requires { All HasLine outputs.items }
-    ensures { Saves (map saved_of outputs.items) line (F.state files.old) (F.state files.new) result }
+    ensures saves { Saves (map saved_of outputs.items) line (F.state files.old) (F.state files.new) result.said }
+    ensures unsaved { NamesUnsaved result }
 {
     for output in outputs {
         if save_one(files, &output).is_err() {
-            return Said {
-                status: WRITE_FAILED,
-                text: output.failed,
+            return Made {
+                said: Said {
+                    status: WRITE_FAILED,
+                    text: output.failed,
+                },
+                unsaved: Some(output.name),
             };
         }
     }
-    Said {
-        status: DONE,
-        text: line,
+    Made {
+        said: Said {
+            status: DONE,
+            text: line,
+        },
+        unsaved: None,
     }
 }
 
@@ -46,10 +60,11 @@ pub fn generate<F: Files>(
     files: &mut F,
     count: u32,
     prefix: &str,
-) -> Result<Said, NoMemory>
+) -> Result<Made, NoMemory>
     requires first { 1 ≤ count }
     requires last { count ≤ 64 }
-    ensures { DoesGen (record { count = count; prefix = prefix.now }) (F.state files.old) (F.state files.new) result }
+    ensures does { DoesGen (record { count = count; prefix = prefix.now }) (F.state files.old) (F.state files.new) (said_in result) }
+    ensures unsaved { IfOk result NamesUnsaved }
 {
     let outputs = outputs(alloc, count, prefix)?;
     let line = totals(alloc, count)?.line(alloc)?;

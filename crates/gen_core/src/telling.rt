@@ -10,8 +10,7 @@ use crate::linking::gather;
 use crate::placing::bases;
 use gen_model::Totals;
 use lx_types::{Bases, NoMemory};
-use mod_graph::Library;
-use page_fix::Steps;
+use page_fix::{OwnLibrary, Steps};
 use std::alloc::Global;
 use std::marker::Brand;
 use std::sync::ledger::{Blank, Ledger};
@@ -19,7 +18,7 @@ use std::sync::ledger::{Blank, Ledger};
 // The sum of all words, over the ledger of a blank: nobody asks how many sources were put.
 fn sum_over<L: Ledger>(
     alloc: Global,
-    lib: &Library,
+    lib: &OwnLibrary,
     bases: &Bases,
     blank: Blank,
 ) -> Result<u32, NoMemory>
@@ -43,10 +42,11 @@ pub fn totals(alloc: Global, count: u32) -> Result<Totals, NoMemory>
     words_are_meant();
     let gathered = gather(alloc, count)?;
     let bases = bases(alloc, &gathered.library)?;
+    let library = OwnLibrary::of(gathered.library);
     Ok(Totals {
-        modules: gathered.library.len(),
+        modules: library.library().len(),
         pages: gathered.pages,
         sources: gathered.sources,
-        sum: sum_over::<Brand>(alloc, &gathered.library, &bases, Blank::new(1))?,
+        sum: sum_over::<Brand>(alloc, &library, &bases, Blank::new(1))?,
     })
 }

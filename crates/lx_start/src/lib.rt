@@ -9,16 +9,17 @@ ghost use Rattle.lx_start.specs.Ending.{EndsWith};
 ghost use Rattle.lx_start.specs.Telling.{asks_help, asks_page, help, told_of};
 
 use answer_model::{DONE, NO_MEMORY, WRITE_FAILED};
-use lx_ports::{DiskFiles, Files, MemFiles, NoGate, Sink, StdSink};
+use lx_ports::{DiskFiles, Files, NoGate, Sink, StdSink};
 use lx_tool::{lx_main, put_whole};
-use refusal_notes::{Heard, Tell, Watched, page_of, tell_on};
+use refusal_notes::{Ending, Tell, Watched, help_of, tell_on};
+use refusal_text::Refused;
 use std::alloc::{AllocError, Global};
 use std::io::{Eprint, ErrorKind};
 use std::process::ExitCode;
 use std::rt::Runtime;
 use std::sync::Wait;
 use std::thread::Threads;
-use std::{env, fs, io, rt};
+use std::{env, io};
 
 /// What `--help` puts: a line for each command.
 const HELP: &str = "\
@@ -57,20 +58,29 @@ impl<R: Eprint> Tell for StandardError<'_, R> {
     }
 }
 
+// How the call ended, for the notes.
+fn ending_of<'a>(words: &'a [String], status: u8, refused: Option<&'a Refused>) -> Ending<'a> {
+    Ending {
+        words,
+        status,
+        refused,
+    }
+}
+
 /// Does what the words ask for, over these files and this sink, and ends with the status of the call. After the call a
-/// reader is told how it ended; what that needs of the files is loaded from `again`.
-fn run<R: Threads + Wait + Sync, F: Files, T: Tell, S: Sink, G: Files>(
+/// reader is told how it ended.
+fn run<R: Threads + Wait + Sync, F: Files, T: Tell, S: Sink>(
     call: (&R, Global, &[String]),
     files: &mut Watched<F, T>,
-    out: &mut Heard<S>,
-    again: &mut G,
+    out: &mut S,
 ) -> ExitCode
     ensures { EndsWith (map string_bytes call.entry.2.now) (⟦<Watched<F, T> as Files>⟧.state files.old) (⟦<Watched<F, T> as Files>⟧.state files.new)
-        (⟦<Heard<S> as Sink>⟧.state out.old) (⟦<Heard<S> as Sink>⟧.state out.new) (exit_status result) }
+        (S.state out.old) (S.state out.new) (exit_status result) }
 {
     let (rt, alloc, words) = call;
     let ended = lx_main(rt, alloc, words, files, out, &NoGate);
-    tell_on((alloc, words, ended.status), files, out, again);
+    let ending = ending_of(words, ended.status, ended.refused.as_ref());
+    tell_on(alloc, &ending, files);
     ExitCode::from(ended.status)
 }
 
@@ -104,7 +114,10 @@ fn page(words: &[String]) -> Option<&'static str>
     ensures { is_some result ≡ asks_page (map string_bytes words.now) }
 {
     match words {
-        [command, word] if asks_help(word.as_str()) => page_of(command.as_str()),
+        [command, word] if asks_help(word.as_str()) => match help_of(command.as_str()) {
+            Some(help) => Some(help.page),
+            None => None,
+        },
         _ => None,
     }
 }
@@ -121,29 +134,15 @@ fn tell<S: Sink>(out: &mut S, text: &str) -> ExitCode
     }
 }
 
-// Whether each of the words but the first names a file that can be read a second time, or none at all.
-fn can_be_read_again<R: rt::Files>(rt: &R, words: &[String]) -> bool {
-    words.iter().skip(1).all(|word| match fs::metadata(rt, word.as_str()) {
-        Ok(found) => found.is_file(),
-        Err(_) => true,
-    })
-}
-
-/// Does what the words ask for over real files and standard output, with notes on standard error. A pipe gives its bytes once,
-/// so with one among the words the notes are made without the files.
+/// Does what the words ask for over real files and standard output, with notes on standard error.
 fn run_real<R: Runtime + AllocGlobal + Threads + Wait + Sync>(
     rt: &R,
     words: &[String],
 ) -> Result<ExitCode, AllocError> {
     let alloc = rt.alloc();
     let mut files = Watched::new(alloc, DiskFiles::new(rt.clone()?), StandardError { rt });
-    let mut out = Heard::new(alloc, StdSink::new(io::writer(rt)));
-    if can_be_read_again(rt, words) {
-        let mut again = DiskFiles::new(rt.clone()?);
-        return Ok(run((rt, alloc, words), &mut files, &mut out, &mut again));
-    }
-    let mut again = MemFiles::of(alloc, Vec::new(alloc), Vec::new(alloc), Vec::new(alloc));
-    Ok(run((rt, alloc, words), &mut files, &mut out, &mut again))
+    let mut out = StdSink::new(io::writer(rt));
+    Ok(run((rt, alloc, words), &mut files, &mut out))
 }
 
 /// Does what the command line asks for, over real files and standard output. This is all that `main` does.

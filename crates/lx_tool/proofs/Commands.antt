@@ -9,6 +9,7 @@ use Rattle.lx_types.specs.declared.fail.Fail.TheVariants as fail
 use Rattle.lx_types.specs.declared.fail.NoMemory.{NoMemory}
 use Rattle.lx_types.specs.declared.parts.Parts.{Parts}
 use Rattle.obj_types.specs.declared.input.LinkInput.{LinkInput}
+use Rattle.refusal_text.specs.declared.refused.LinkFiles.{LinkFiles}
 use Rattle.obj_types.specs.declared.object.ObjModule.{ObjModule}
 use Rattle.obj_types.specs.declared.symbol.Imp.{Imp}
 use Rattle.implib_model.specs.Library.{library_bytes, library_len}
@@ -25,6 +26,8 @@ use Rattle.res_model.specs.declared.refusal.BindRefusal.{BindRefusal}
 use Rattle.lx_ports.specs.Calls.{Call}
 use Rattle.lx_ports.specs.Files.{FilesState}
 use Rattle.answer_model.specs.declared.said.Said.{Said}
+use Rattle.refusal_text.specs.declared.refused.Refused.{Refused}
+use Rattle.refusal_text.specs.Refusals.{said_of}
 use Rattle.answer_model.specs.BindAnswer.{bind_outcome, counts_of}
 use Rattle.answer_model.specs.ImageAnswer.{ShowsObject}
 use Rattle.answer_model.specs.ImplibAnswer.{exports_line, implib_outcome}
@@ -37,6 +40,7 @@ use Rattle.answer_model.specs.Words.{Command, image, link, implib, bind, dump}
 use Rattle.tool_read.specs.Steps.{AreLoads, GivesAll, ReadsAll}
 use Rattle.tool_read.specs.declared.bind_files.Binding.{Binding}
 use Rattle.tool_read.proofs.Walk.{read_begun}
+use Rattle.session_files.proofs.Lines.{stopped_begun}
 use Rattle.lx_tool.specs.declared.library.ImportLibrary.{ImportLibrary}
 use Rattle.lx_tool.specs.Doing.{Does, DoesLink, DoesOutcome, Keeps}
 use Rattle.lx_tool.specs.ImportLibraries.{IsLibraryOf, IsTooLong}
@@ -45,12 +49,13 @@ use Rattle.lx_tool.proofs.Done.{SavesAs, done_begun, done_kept, done_stopped}
 
 -- ---- files that were not all read
 
-pub not_read : {T : Type 0} (P : T → List Item → Type 0) (command : Command) (calls : List Call) (before now : FilesState) (why : Fail Said) (r : Result Said NoMemory) → AreLoads calls before now
+pub not_read : {T : Type 0} (P : T → List Item → Type 0) (command : Command) (calls : List Call) (before now : FilesState) (why : Fail Refused) (r : Result Said NoMemory) → AreLoads calls before now
     → ReadsAll P (asked_files command) calls (Err why) → Gives why r → Does command before now r
 not_read P command calls before now (fail.Said own) (Ok said) loads stopped same =
     let Q : Said → Type 0 = λ s. IsStopped (asked_files command) calls s in
     done_stopped command calls before now said loads (subst Q (sym same) stopped)
-not_read P command calls before now (fail.Said own) (Err none) loads stopped same = absurd same
+not_read P command calls before now (fail.Said own) (Err none) loads stopped same =
+    done_begun command calls before now none loads (stopped_begun (asked_files command) calls (said_of own) stopped)
 not_read P command calls before now fail.NoMemory (Ok said) loads begun same = absurd same
 not_read P command calls before now fail.NoMemory (Err none) loads begun same = done_begun command calls before now none loads begun
 
@@ -90,15 +95,15 @@ saves_or : (name : List ℕ) (refusal : Option (List ℕ)) (bytes text : List �
 saves_or name None bytes text = refl
 saves_or name (Some why) bytes text = tt
 
-pub link_done : (out : List ℕ) (definition : Option (List ℕ)) (names : List (List ℕ)) (input : LinkInput) (calls : List Call) (before between now : FilesState) (r : Result Said NoMemory)
-    → AreLoads calls before between → GivesAll (λ v items. v ≡ input_of out items) (asked_files (link out definition names)) calls input → DoesLink out input between now r
+pub link_done : (out : List ℕ) (definition : Option (List ℕ)) (names : List (List ℕ)) (files : LinkFiles) (calls : List Call) (before between now : FilesState) (r : Result Said NoMemory)
+    → AreLoads calls before between → GivesAll (λ v items. v.input ≡ input_of out items) (asked_files (link out definition names)) calls files → DoesLink out files.input between now r
     → Does (link out definition names) before now r
-link_done out definition names input calls before between now (Ok said) loads all does =
+link_done out definition names files calls before between now (Ok said) loads all does =
     let P : LinkInput → Type 0 = λ i. IsLinkOf i does.link in
     done_kept (link out definition names) calls all.items (link_outcome out does.link) before between loads all.read
     (record { link = does.link; of_input = subst P all.given does.of_input; comes_to = refl })
     (saves_or out _ _ _) now (Ok said) does.kept
-link_done out definition names input calls before between now (Err none) loads all does =
+link_done out definition names files calls before between now (Err none) loads all does =
     let P : FilesState → Type 0 = λ s. AreLoads calls before s in
     done_begun (link out definition names) calls before now none (subst P (sym does) loads) (read_begun (asked_files (link out definition names)) calls all.items all.read)
 
@@ -112,7 +117,8 @@ pub implib_done : (out : List ℕ) (names : List (List ℕ)) (imports : List Imp
     → AreLoads calls before between → (read : AreRead (asked_files (implib out names)) calls items) → ComesTo (implib out names) items (implib_outcome out imports) → DoesOutcome (implib_outcome out imports) between now r
     → Does (implib out names) before now r
 implib_done out names imports calls items before between now r loads read comes_to does =
-    done_kept (implib out names) calls items (implib_outcome out imports) before between loads read comes_to (saves_if (nat_le (library_len (modules_of imports)) file_limit) out (library_bytes (modules_of imports)) (exports_line (length imports)) (codes "LibraryLong")) now r does
+    done_kept (implib out names) calls items (implib_outcome out imports) before between loads read comes_to
+    (saves_if (nat_le (library_len (modules_of imports)) file_limit) out (library_bytes (modules_of imports)) (exports_line (length imports)) (codes "LibraryLong")) now r does
 
 pub library_kept : (out : List ℕ) (imports : List Imp) (library : ImportLibrary) (line : List ℕ) (before now : FilesState) (r : Result Said NoMemory) → IsLibraryOf library imports → line ≡ exports_line library.imports
     → DoesOutcome (kept out library.bytes.items line) before now r → DoesOutcome (implib_outcome out imports) before now r
@@ -120,7 +126,8 @@ library_kept out imports library line before now r is line_is does =
     let P : Outcome → Type 0 = λ o. DoesOutcome o before now r in
     let same : kept out library.bytes.items line ≡ implib_outcome out imports =
     (λ k. kept out (is.written.bytes_are k) ((line_is ∙ ap (λ n. exports_line n) is.count) k))
-    ∙ sym (ap (λ b. if b then kept out (library_bytes (modules_of imports)) (exports_line (length imports)) else refused out (codes "LibraryLong")) (le-leb (library_len (modules_of imports)) file_limit is.written.short)) in
+    ∙ sym (ap (λ b. if b then kept out (library_bytes (modules_of imports)) (exports_line (length imports)) else refused out (codes "LibraryLong"))
+    (le-leb (library_len (modules_of imports)) file_limit is.written.short)) in
     subst P same does
 
 pub library_refused : (out : List ℕ) (imports : List Imp) (why : Fail LibraryLong) (state : FilesState) (r : Result Said NoMemory) → ((refusal : LibraryLong) → why ≡ fail.Said refusal → IsTooLong imports)
@@ -129,7 +136,8 @@ library_refused out imports (fail.Said refusal) state (Ok said) long same =
     let P : Outcome → Type 0 = λ o. Keeps o state state said in
     let at : says_only said ≡ implib_outcome out imports =
     ap (λ s. says_only s) same
-    ∙ sym (ap (λ b. if b then kept out (library_bytes (modules_of imports)) (exports_line (length imports)) else refused out (codes "LibraryLong")) (lt-leb (library_len (modules_of imports)) file_limit (long refusal refl))) in
+    ∙ sym (ap (λ b. if b then kept out (library_bytes (modules_of imports)) (exports_line (length imports)) else refused out (codes "LibraryLong"))
+    (lt-leb (library_len (modules_of imports)) file_limit (long refusal refl))) in
     subst P at (says_alone said state)
 library_refused out imports (fail.Said refusal) state (Err none) long same = refl
 library_refused out imports fail.NoMemory state (Ok said) long same = absurd same

@@ -1,5 +1,5 @@
 -- How a call ends, from what was done, what was said and what was put.
-use Rattle.std.proofs.Common.{◌≡◌, ℕ, ◌⊎◌, List, Option, Some, None, Ok, Err, refl, subst, inl, inr, arith}
+use Rattle.std.proofs.Common.{◌≡◌, ℕ, ◌⊎◌, List, Option, Some, None, Ok, Err, refl, subst, sym, inl, inr, arith}
 use Rattle.std.specs.Prelude.{IfSome}
 use Rattle.std.specs.List.{AllByRecursion}
 use Rattle.std.specs.Io.KnownBytes.{Appends}
@@ -13,6 +13,7 @@ use Rattle.answer_model.specs.Ends.{AppendsPart, Ends, IsAnswered, IsPut, IsTold
 use Rattle.answer_model.specs.Says.{Says}
 use Rattle.answer_model.specs.Words.{command_of}
 use Rattle.lx_tool.specs.Doing.{DoesWords}
+use Rattle.lx_tool.specs.Running.{Puts}
 use Rattle.lx_tool.proofs.Sound.{sound_all}
 use Rattle.lx_tool.proofs.Statuses.{StatusSays, status_says}
 
@@ -78,6 +79,14 @@ module _ (words : List (List ℕ)) (files files_now : FilesState) (out out_now :
     nothing = λ is. absurd (omega (arith, is));
     complete = λ loads saves well. absurd (well rose);
   }
+
+  pub ends_as_put : (said : Said) (status : ℕ) → DoesWords (command_of words) files files_now (Ok said) → Puts said out out_now status → Ends words files files_now out out_now status
+  ends_as_put said status does (inl whole) =
+      let P : ℕ → Type 0 = λ n. Ends words files files_now out out_now n in
+      subst P (sym whole.status_is) (ends_whole said does whole.put)
+  ends_as_put said status does (inr part) =
+      let P : ℕ → Type 0 = λ n. Ends words files files_now out out_now n in
+      subst P (sym part.status_is) (ends_in_part said does part.part part.failed)
 
   pub ends_without_memory : (why : NoMemory) → DoesWords (command_of words) files files_now (Err why) → out_now.contents ≡ out.contents → Ends words files files_now out out_now 8
   ends_without_memory why does same = record {

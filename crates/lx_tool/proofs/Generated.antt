@@ -73,7 +73,8 @@ one_more file files (call ∷ calls) said rest =
       low = elim rest.low [ inl zero ↦ inl zero | inr four ↦ inr (four.0, count_behind is_failed_save (save file.name file.bytes (Ok tt)) (call ∷ calls) four.1) ];
     }
 
-last_failed : (file : Saved) (files : List Saved) (why : SaveFault) (calls : List Call) (said : Said) → calls ≡ [] → said ≡ WRITE_FAILED file.name → TurnSays (file ∷ files) (save file.name file.bytes (Err why) ∷ calls) said
+last_failed : (file : Saved) (files : List Saved) (why : SaveFault) (calls : List Call) (said : Said) → calls ≡ [] → said ≡ WRITE_FAILED file.name
+    → TurnSays (file ∷ files) (save file.name file.bytes (Err why) ∷ calls) said
 last_failed file files why [] said none is = record { named = refl; told = λ contents. (tt, tt); plain = (tt, tt); low = inr (ap (λ (s : Said). s.status) is, omega arith) }
 last_failed file files why (call ∷ calls) said none is = absurd cc
 

@@ -134,7 +134,7 @@ ran_as_one contents file calls ran told (inl stopped) = absurd (no_run ran stopp
 ran_as_one contents file calls ran told (inr through) = through_one contents file calls ran told through
 
 by_end : (contents : Contents) (file : List ℕ) (calls : List Call) (it : SessionEnd) → AllByRecursion (IsTold contents) calls → SaysEnd file calls it → IfSome (ran_of it) (RanAsOne contents file)
-by_end contents file calls (end.Refused said) told says = tt
+by_end contents file calls (end.Refused own) told says = tt
 by_end contents file calls (end.Ran ran) told says = ran_as_one contents file calls ran told says
 
 told_end : (told : Option Contents) (file : List ℕ) (calls : List Call) (it : SessionEnd) → IfSome told (λ contents. AllByRecursion (IsTold contents) calls) → SaysEnd file calls it

@@ -18,6 +18,8 @@ mod Lines
 mod Memory
 -- What a save leaves, and what is said after it.
 mod Saved
+-- What a command comes to, and what it says.
+mod ComesTo
 -- ---- commands
 -- From what the steps of a command do to what the command does.
 mod Done

@@ -6,6 +6,7 @@ use Rattle.lx_types.specs.declared.fail.Fail.{Fail}
 use Rattle.lx_types.specs.declared.fail.Fail.TheVariants as fail
 use Rattle.lx_types.specs.declared.fail.NoMemory.{NoMemory}
 use Rattle.obj_types.specs.declared.input.LinkInput.{LinkInput}
+use Rattle.refusal_text.specs.declared.refused.LinkFiles.{LinkFiles}
 use Rattle.link_model.specs.declared.refusals.LinkRefusal.{LinkRefusal}
 use Rattle.link_core.specs.Links.{RefusesLink}
 use Rattle.map_core.specs.Mapped.{IsMapped}
@@ -38,9 +39,9 @@ map_refused P input (fail.Said refusal) (Ok said) by same = map_refusal input re
 map_refused P input fail.NoMemory (Ok said) by same = absurd same
 map_refused P input why (Err none) by same = tt
 
-pub map_done : (definition : Option (List ℕ)) (names : List (List ℕ)) (input : LinkInput) (calls : List Call) (before now : FilesState) (r : Result Said NoMemory)
-    → AreLoads calls before now → GivesAll (λ v items. v ≡ input_with NAME items) (asked_files (link_map definition names)) calls input
-    → IfOk r (λ said. MapsInput input (says_only said)) → Does (link_map definition names) before now r
-map_done definition names input calls before now r loads all shows =
+pub map_done : (definition : Option (List ℕ)) (names : List (List ℕ)) (files : LinkFiles) (calls : List Call) (before now : FilesState) (r : Result Said NoMemory)
+    → AreLoads calls before now → GivesAll (λ v items. v.input ≡ input_with NAME items) (asked_files (link_map definition names)) calls files
+    → IfOk r (λ said. MapsInput files.input (says_only said)) → Does (link_map definition names) before now r
+map_done definition names files calls before now r loads all shows =
     let P : LinkInput → Type 0 = λ i. IfOk r (λ said. MapsInput i (says_only said)) in
     shown_done (link_map definition names) calls all.items before now r loads all.read (subst P all.given shows)

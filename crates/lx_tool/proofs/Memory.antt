@@ -1,12 +1,17 @@
 -- From a link's objects in memory to their text, and from its refusal to the text of that.
-use Rattle.std.proofs.Common.{◌≡◌, ℕ, zero, suc, ◌+◌, ◌≤◌, Bool, true, false, List, [], ◌∷◌, ◌++◌, length, map, Option, Some, None, ◌∙◌, ap, sym, subst, refl, arith, codes, nat_lt, find}
-use Rattle.std.specs.Prelude.{if◌then◌else◌, ◌==◌}
+use Rattle.std.proofs.Common.{◌≡◌, ℕ, zero, suc, ◌+◌, ◌≤◌, Bool, true, false, List, [], ◌∷◌, ◌++◌, length, map, Option, Some, None, Result, Ok, Err, ◌∙◌, ap, sym, subst, refl, arith, codes, nat_lt, find}
+use Rattle.std.specs.Prelude.{if◌then◌else◌, ◌==◌, IfOk}
 use Rattle.std.specs.List.{All, AllByRecursion, flat_map, enumerate_from}
 use Rattle.std.specs.Option.{option_map}
 use Rattle.std.proofs.lemmas.List.Folds.{flat_map-map}
 use Rattle.std.proofs.lemmas.List.FromFn.{length-map-range_with_len}
 use Rattle.lx_types.specs.declared.limits.TheConstants.{SHARED_END}
 use Rattle.lx_types.proofs.Options.{mapped_none}
+use Rattle.lx_types.specs.Answers.{Answers}
+use Rattle.lx_types.specs.declared.fail.Fail.{Fail}
+use Rattle.lx_types.specs.declared.fail.Fail.TheVariants as fail
+use Rattle.lx_types.specs.declared.fail.NoMemory.{NoMemory}
+use Rattle.obj_types.specs.declared.input.LinkInput.{LinkInput}
 use Rattle.obj_types.specs.declared.object.ObjModule.{ObjModule}
 use Rattle.link_model.specs.declared.refusals.LinkRefusal.{LinkRefusal}
 use Rattle.link_model.specs.declared.symbols.LaidObject.{LaidObject}
@@ -28,7 +33,8 @@ use Rattle.answer_model.specs.ImageAnswer.{NAME, ShowsObject, image_refusal, mem
 use Rattle.answer_model.specs.LinkAnswer.{link_text}
 use Rattle.answer_model.specs.Outcome.{refused_or, says_only, shown}
 use Rattle.mod_graph.proofs.Gathered.{never_some}
-use Rattle.lx_tool.specs.Refusals.{image_text_of}
+use Rattle.lx_tool.specs.declared.told.Told.{Told}
+use Rattle.lx_tool.specs.Refusals.{RefusesImageAs, image_text_of, said_in}
 use Rattle.lx_tool.specs.Rows.{FitsBase, Row, row_text}
 
 -- ---- every byte has an address
@@ -81,7 +87,8 @@ memory_fits l rows none are =
 
 -- ---- texts
 
-refusal_by : (a : Option LinkRefusal) (b : Bool) (c : Option Numbered) → option_map image_text_of (first_of (option_map image.Link a ∷ (if b then None else Some image.NoModule) ∷ option_map (λ q. image.ArenaFull q.0 q.1.size) c ∷ []))
+refusal_by : (a : Option LinkRefusal) (b : Bool) (c : Option Numbered)
+    → option_map image_text_of (first_of (option_map image.Link a ∷ (if b then None else Some image.NoModule) ∷ option_map (λ q. image.ArenaFull q.0 q.1.size) c ∷ []))
     ≡ first_of (option_map link_text a ∷ (if b then None else Some (codes "NoModule")) ∷ option_map (λ q. codes "ArenaFull" ++ (field q.0 ++ field q.1.size)) c ∷ [])
 refusal_by (Some r) b c = refl
 refusal_by None false c = refl
@@ -113,3 +120,9 @@ refusal_shows base m said refusal is said_is =
       of_input = is.of_input;
       comes_to = ap (λ s. says_only s) said_is ∙ sym (ap (λ o. refused_or NAME o (shown (memory_text l))) some);
     }
+
+pub image_refused : {A : Type 0} (P : A → Type 0) (base : ℕ) (m : ObjModule) (input : LinkInput) (why : Fail ImageRefusal) (r : Result Told NoMemory) → input ≡ alone m NAME base
+    → Answers {A = A} (Err why) P (λ refusal. memory.RefusesMemory input refusal) → RefusesImageAs NAME why (said_in r) → IfOk r (λ told. ShowsObject base m (says_only told.said))
+image_refused P base m input (fail.Said refusal) (Ok told) is by same = refusal_shows base m told.said refusal (subst (λ (i : LinkInput). memory.RefusesMemory i refusal) is by) same
+image_refused P base m input fail.NoMemory (Ok told) is by same = absurd same
+image_refused P base m input why (Err none) is by same = tt

@@ -1,5 +1,5 @@
 -- How a call with `run FILE` ends, from what was done, what was said and what was put.
-use Rattle.std.proofs.Common.{◌≡◌, ℕ, ◌<◌, ◌≤◌, ◌⊎◌, List, [], ◌∷◌, Option, Some, None, Result, Ok, Err, ◌∙◌, sym, refl, subst, inl, inr, arith}
+use Rattle.std.proofs.Common.{◌≡◌, ℕ, true, ◌<◌, ◌≤◌, ◌⊎◌, List, [], ◌∷◌, Option, Some, None, Result, Ok, Err, ◌∙◌, sym, refl, subst, inl, inr, arith}
 use Rattle.std.specs.Prelude.{IfSome, OnErr, OnOk}
 use Rattle.std.specs.List.{AllByRecursion}
 use Rattle.std.specs.Option.{option_map}
@@ -14,6 +14,7 @@ use Rattle.session_model.specs.Runs.{Run}
 use Rattle.run_core.specs.declared.session.Ran.{Ran}
 use Rattle.run_core.specs.Sessions.{run_in}
 use Rattle.answer_model.specs.declared.said.Said.{Said}
+use Rattle.refusal_text.specs.declared.refused.Refused.{Refused}
 use Rattle.answer_model.specs.Answer.{IsSound}
 use Rattle.answer_model.specs.Ends.{AppendsPart, IsTold, save_faults}
 use Rattle.answer_model.specs.RunAnswer.{SaysRun, asked_lines, asked_session, run_of}
@@ -21,8 +22,11 @@ use Rattle.answer_model.specs.RunEnds.{AreCallsOfRun, EndsBy, IsPutByRun, MainEn
 use Rattle.tool_read.specs.Steps.{AreLoads}
 use Rattle.lx_tool.specs.declared.main_call.Ended.{Ended}
 use Rattle.lx_tool.specs.declared.run.SessionEnd.{SessionEnd}
+use Rattle.lx_tool.specs.declared.told.Told.{Told}
+use Rattle.lx_tool.specs.Telling.{TellsOf, is_plain}
+use Rattle.std.proofs.lemmas.Bool.Decides.{eqb_tells}
 use Rattle.lx_tool.specs.declared.run.SessionEnd.TheVariants as end
-use Rattle.lx_tool.specs.Running.{DoesRun, IsPutInPart, IsPutWhole, PutsEnd, SaysEnd, ShowsRun, ShowsSession, ran_of, said_of}
+use Rattle.lx_tool.specs.Running.{DoesRun, IsPutInPart, IsPutWhole, Puts, PutsEnd, SaysEnd, ShowsRun, ShowsSession, Tells, ran_of, end_said}
 use Rattle.lx_tool.proofs.Begun.{IsPlain, IsLoad, begun_loads, load_of}
 use Rattle.lx_tool.proofs.SessionSays.{SessionSays, session_says}
 use Rattle.lx_tool.proofs.Sound.{sound_all}
@@ -126,8 +130,8 @@ module _ (file : List ℕ) (files files_now : FilesState) (out out_now : SinkSta
 
 -- ---- what it comes to
 
-says_end : (file : List ℕ) (calls : List Call) (it : SessionEnd) → SaysEnd file calls it → SaysRun file calls (said_of it) (option_map run_in (ran_of it))
-says_end file calls (end.Refused said) says = says
+says_end : (file : List ℕ) (calls : List Call) (it : SessionEnd) → SaysEnd file calls it → SaysRun file calls (end_said it) (option_map run_in (ran_of it))
+says_end file calls (end.Refused told) says = says
 says_end file calls (end.Ran ran) says = says
 
 pub ends_by : (file : List ℕ) (files files_now : FilesState) (out out_now : SinkState) (it : SessionEnd) (ended : Ended) → DoesRun file files files_now (Ok it) → PutsEnd it out out_now ended
@@ -137,8 +141,8 @@ ends_by file files files_now out out_now it ended does puts =
     let P : Option Ran → Type 0 = λ ran. RunEnds file files files_now out out_now ended.status (option_map run_in ran) in
     let Q : ℕ → Type 0 = λ status. RunEnds file files files_now out out_now status (option_map run_in (ran_of it)) in
     subst P (sym puts.ran_is) (elim puts.put [
-      | inl whole ↦ subst Q (sym whole.status_is) (whole_ends file files files_now out out_now does.calls does.loads does.named (said_of it) _ says whole.put)
-      | inr part ↦ subst Q (sym part.status_is) (part_ends file files files_now out out_now does.calls does.loads does.named (said_of it) _ says part.part part.failed)
+      | inl whole ↦ subst Q (sym whole.status_is) (whole_ends file files files_now out out_now does.calls does.loads does.named (end_said it) _ says whole.put)
+      | inr part ↦ subst Q (sym part.status_is) (part_ends file files files_now out out_now does.calls does.loads does.named (end_said it) _ says part.part part.failed)
     ])
 
 pub ends_unrun : (file : List ℕ) (files files_now : FilesState) (out : SinkState) (why : NoMemory) → DoesRun file files files_now (Err why) → RunEnds file files files_now out out 8 None
@@ -153,9 +157,9 @@ low_status calls said ran is none zero =
       | inr low ↦ elim low.0 [ inl n ↦ omega (arith, n, zero) | inr three ↦ let n = three.0 in omega (arith, n, zero) ]
     ]
 
-shows_refused : (file : List ℕ) (calls : List Call) (said : Said) (out out_now : SinkState) (status : ℕ) → SaysRun file calls said None
-    → IsPutWhole said out out_now status ⊎ IsPutInPart said out out_now status → ShowsSession out out_now (record { status = status; ran = None })
-shows_refused file calls said out out_now status says put = record {
+shows_refused : (file : List ℕ) (calls : List Call) (said : Said) (out out_now : SinkState) (status : ℕ) (refused : Option Refused) → SaysRun file calls said None
+    → IsPutWhole said out out_now status ⊎ IsPutInPart said out out_now status → ShowsSession out out_now (record { status = status; refused = refused; ran = None })
+shows_refused file calls said out out_now status refused says put = record {
   whole = λ zero. elim put [
     | inl whole ↦ low_status calls said None (session_says file calls said None says) refl (sym whole.status_is ∙ zero)
     | inr part ↦ let four = part.status_is in absurd (omega (arith, four, zero))
@@ -164,31 +168,31 @@ shows_refused file calls said out out_now status says put = record {
   nothing = λ one two. refl;
 }
 
-shows_ran : (ran : Ran) (out out_now : SinkState) (status : ℕ) → IsPutWhole (said_of (end.Ran ran)) out out_now status ⊎ IsPutInPart (said_of (end.Ran ran)) out out_now status
-    → ShowsSession out out_now (record { status = status; ran = Some ran })
-shows_ran ran out out_now status (inl whole) = record {
+shows_ran : (ran : Ran) (out out_now : SinkState) (status : ℕ) (refused : Option Refused) → IsPutWhole (end_said (end.Ran ran)) out out_now status ⊎ IsPutInPart (end_said (end.Ran ran)) out out_now status
+    → ShowsSession out out_now (record { status = status; refused = refused; ran = Some ran })
+shows_ran ran out out_now status refused (inl whole) = record {
   whole = λ zero. whole.put;
   part = λ four. let zero = whole.status_is in absurd (omega (arith, four, zero));
   nothing = λ one two. absurd (one whole.status_is);
 }
-shows_ran ran out out_now status (inr part) = record {
+shows_ran ran out out_now status refused (inr part) = record {
   whole = λ zero. let four = part.status_is in absurd (omega (arith, four, zero));
   part = λ four. part.part;
   nothing = λ one two. absurd (two part.status_is);
 }
 
-shows_end : (file : List ℕ) (calls : List Call) (it : SessionEnd) (out out_now : SinkState) (status : ℕ) → SaysEnd file calls it
-    → IsPutWhole (said_of it) out out_now status ⊎ IsPutInPart (said_of it) out out_now status → ShowsSession out out_now (record { status = status; ran = ran_of it })
-shows_end file calls (end.Refused said) out out_now status says put = shows_refused file calls said out out_now status says put
-shows_end file calls (end.Ran ran) out out_now status says put = shows_ran ran out out_now status put
+shows_end : (file : List ℕ) (calls : List Call) (it : SessionEnd) (out out_now : SinkState) (status : ℕ) (refused : Option Refused) → SaysEnd file calls it
+    → IsPutWhole (end_said it) out out_now status ⊎ IsPutInPart (end_said it) out out_now status → ShowsSession out out_now (record { status = status; refused = refused; ran = ran_of it })
+shows_end file calls (end.Refused told) out out_now status refused says put = shows_refused file calls told.said out out_now status refused says put
+shows_end file calls (end.Ran ran) out out_now status refused says put = shows_ran ran out out_now status refused put
 
 pub shows_by : (file : List ℕ) (files files_now : FilesState) (out out_now : SinkState) (it : SessionEnd) (ended : Ended) → DoesRun file files files_now (Ok it) → PutsEnd it out out_now ended
     → ShowsSession out out_now ended
 shows_by file files files_now out out_now it ended does puts =
-    let P : Option Ran → Type 0 = λ ran. ShowsSession out out_now (record { status = ended.status; ran = ran }) in
-    subst P (sym puts.ran_is) (shows_end file does.calls it out out_now ended.status does.says puts.put)
+    let P : Option Ran → Type 0 = λ ran. ShowsSession out out_now (record { status = ended.status; refused = ended.refused; ran = ran }) in
+    subst P (sym puts.ran_is) (shows_end file does.calls it out out_now ended.status ended.refused does.says puts.put)
 
-pub shows_unrun : (out : SinkState) → ShowsSession out out (record { status = 8; ran = None })
+pub shows_unrun : (out : SinkState) → ShowsSession out out (record { status = 8; refused = None; ran = None })
 shows_unrun out = record {
   whole = λ is. absurd (omega (arith, is));
   part = λ is. tt;
@@ -197,27 +201,43 @@ shows_unrun out = record {
 
 -- ---- what is put
 
-put_by : (said : Said) (out out_now : SinkState) (text : List ℕ) (put : Result (Unit {0}) SinkFailed) (status : ℕ) → text ≡ said.text → OnOk put (status ≡ said.status) → OnErr put (status ≡ 4)
-    → OnOk put (Appends out.contents out_now.contents text) → OnErr put (AppendsPart out.contents out_now.contents text) → OnErr put (Rose out.faults out_now.faults)
-    → IsPutWhole said out out_now status ⊎ IsPutInPart said out out_now status
-put_by said out out_now text (Ok done) status same well four whole part rose =
-    inl (record { status_is = well; put = subst (λ (t : List ℕ). Appends out.contents out_now.contents t) same whole })
-put_by said out out_now text (Err why) status same well four whole part rose =
-    inr (record { status_is = four; part = subst (λ (t : List ℕ). AppendsPart out.contents out_now.contents t) same part; failed = rose })
+pub puts : (said : Said) (out out_now : SinkState) (put : Result (Unit {0}) SinkFailed) (status : ℕ) → OnOk put (status ≡ said.status) → OnErr put (status ≡ 4)
+    → OnOk put (Appends out.contents out_now.contents said.text) → OnErr put (AppendsPart out.contents out_now.contents said.text) → OnErr put (Rose out.faults out_now.faults)
+    → Puts said out out_now status
+puts said out out_now (Ok done) status well four whole part rose = inl (record { status_is = well; put = whole })
+puts said out out_now (Err why) status well four whole part rose = inr (record { status_is = four; part = part; failed = rose })
 
-pub puts_refused : (it : SessionEnd) (said : Said) (out out_now : SinkState) (text : List ℕ) (put : Result (Unit {0}) SinkFailed) (status : ℕ) → it ≡ end.Refused said → text ≡ said.text
-    → OnOk put (status ≡ said.status) → OnErr put (status ≡ 4) → OnOk put (Appends out.contents out_now.contents text) → OnErr put (AppendsPart out.contents out_now.contents text)
-    → OnErr put (Rose out.faults out_now.faults) → PutsEnd it out out_now (record { status = status; ran = None })
-puts_refused it said out out_now text put status is same well four whole part rose =
-    let P : SessionEnd → Type 0 = λ e. PutsEnd e out out_now (record { status = status; ran = None }) in
-    subst P (sym is) (record { ran_is = refl; put = put_by said out out_now text put status same well four whole part rose })
+-- What is no refusal has the status 0 or 2.
+plain_status : (said : Said) → is_plain said ≡ true → (said.status ≡ 0) ⊎ (said.status ≡ 2)
+plain_status said is = elim (eqb_tells said.status 0) [
+  | inl zero ↦ inl zero.1
+  | inr some ↦ elim (eqb_tells said.status 2) [
+    | inl two ↦ inr two.1
+    | inr other ↦ let a = some.0 in let b = other.0 in absurd (grind (arith, is, a, b))
+  ]
+]
 
-pub puts_ran : (it : SessionEnd) (ran : Ran) (out out_now : SinkState) (text : List ℕ) (put : Result (Unit {0}) SinkFailed) (status : ℕ) → it ≡ end.Ran ran → text ≡ ran.text
-    → OnOk put (status ≡ 0) → OnErr put (status ≡ 4) → OnOk put (Appends out.contents out_now.contents text) → OnErr put (AppendsPart out.contents out_now.contents text)
-    → OnErr put (Rose out.faults out_now.faults) → PutsEnd it out out_now (record { status = status; ran = Some ran })
-puts_ran it ran out out_now text put status is same well four whole part rose =
-    let P : SessionEnd → Type 0 = λ e. PutsEnd e out out_now (record { status = status; ran = Some ran }) in
-    subst P (sym is) (record { ran_is = refl; put = put_by (said_of (end.Ran ran)) out out_now text put status same well four whole part rose })
+put_plain : (said : Said) (out out_now : SinkState) (status : ℕ) → (said.status ≡ 0) ⊎ (said.status ≡ 2) → Puts said out out_now status → Tells None out out_now status
+put_plain said out out_now status (inl zero) (inl whole) = let n = whole.status_is in inl (n ∙ zero)
+put_plain said out out_now status (inr two) (inl whole) = let n = whole.status_is in inr (inl (n ∙ two))
+put_plain said out out_now status is (inr part) = inr (inr (inl part.status_is))
+
+-- What was said is the text of what was refused.
+pub tells_of : (refused : Option Refused) (said : Said) (out out_now : SinkState) (status : ℕ) → TellsOf refused said → Puts said out out_now status → Tells refused out out_now status
+tells_of (Some refused) said out out_now status is put = subst (λ (s : Said). Puts s out out_now status) is put
+tells_of None said out out_now status is put = put_plain said out out_now status (plain_status said is) put
+
+pub puts_refused : (it : SessionEnd) (told : Told) (out out_now : SinkState) (status : ℕ) (refused : Option Refused) → it ≡ end.Refused told → Puts told.said out out_now status
+    → PutsEnd it out out_now (record { status = status; refused = refused; ran = None })
+puts_refused it told out out_now status refused is put =
+    let P : SessionEnd → Type 0 = λ e. PutsEnd e out out_now (record { status = status; refused = refused; ran = None }) in
+    subst P (sym is) (record { ran_is = refl; put = put })
+
+pub puts_ran : (it : SessionEnd) (ran : Ran) (out out_now : SinkState) (text : List ℕ) (status : ℕ) → it ≡ end.Ran ran → text ≡ ran.text → Puts (record { status = 0; text = text }) out out_now status
+    → PutsEnd it out out_now (record { status = status; refused = None; ran = Some ran })
+puts_ran it ran out out_now text status is same put =
+    let P : SessionEnd → Type 0 = λ e. PutsEnd e out out_now (record { status = status; refused = None; ran = Some ran }) in
+    subst P (sym is) (record { ran_is = refl; put = subst (λ (t : List ℕ). Puts (record { status = 0; text = t }) out out_now status) same put })
 
 -- ---- the words
 

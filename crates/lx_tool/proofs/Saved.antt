@@ -11,6 +11,8 @@ use Rattle.answer_model.specs.declared.said.Said.{Said}
 use Rattle.answer_model.specs.Outcome.{Outcome, kept}
 use Rattle.answer_model.specs.Says.{said_after}
 use Rattle.lx_tool.specs.Doing.{DoesLink, DoesOutcome}
+use Rattle.lx_tool.specs.Refusals.{said_in}
+use Rattle.lx_tool.specs.declared.told.Told.{Told}
 
 pub kept_after : (before now : FilesState) (name bytes text : List ℕ) (r : Result (Unit {0}) SaveFault) (said : Said) → OnOk r (files.IsSaved before.contents now.contents name bytes)
     → KeepsOthers before.contents now.contents name → now.calls ≡ before.calls ++ save name bytes r ∷ [] → said ≡ said_after (kept name bytes text) name r
@@ -32,10 +34,10 @@ kept_after before now name bytes text (Err why) said saved others call is = reco
     true_false same = cc
 
 -- Without memory nothing was done.
-pub unkept : (outcome : Outcome) (state : FilesState) (r : Result Said NoMemory) → IsErr r → DoesOutcome outcome state state r
-unkept outcome state (Ok said) is = absurd cc
+pub unkept : (outcome : Outcome) (state : FilesState) (r : Result Told NoMemory) → IsErr r → DoesOutcome outcome state state (said_in r)
+unkept outcome state (Ok told) is = absurd cc
 unkept outcome state (Err why) is = refl
 
-pub unlinked : (out : List ℕ) (input : LinkInput) (state : FilesState) (r : Result Said NoMemory) → IsErr r → DoesLink out input state state r
-unlinked out input state (Ok said) is = absurd cc
+pub unlinked : (out : List ℕ) (input : LinkInput) (state : FilesState) (r : Result Told NoMemory) → IsErr r → DoesLink out input state state (said_in r)
+unlinked out input state (Ok told) is = absurd cc
 unlinked out input state (Err why) is = refl

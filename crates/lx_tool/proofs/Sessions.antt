@@ -18,8 +18,10 @@ use Rattle.run_core.specs.Sessions.{IsRanOf, run_in}
 use Rattle.session_files.specs.declared.reading.SessionFiles.{SessionFiles}
 use Rattle.session_files.specs.SessionFiles.{AnswersSession, AreSessionFiles}
 use Rattle.answer_model.specs.declared.said.Said.{Said}
+use Rattle.refusal_text.specs.declared.refused.Refused.{Refused}
 use Rattle.answer_model.specs.RunAnswer.{SaysRun}
 use Rattle.lx_tool.specs.declared.run.SessionEnd.TheVariants as end
+use Rattle.lx_tool.specs.declared.told.Told.{Told}
 use Rattle.lx_tool.specs.Refusals.{Gives, RefusesBy}
 use Rattle.lx_tool.specs.Running.{SaysEnd}
 
@@ -45,8 +47,8 @@ module _ (file : List ℕ) (calls : List Call) (it : SessionFiles) (is : AreSess
         calls_are = is.calls_are;
       })
 
-  pub ungathered_says : (why : Fail LibraryRefusal) (said : Said) → IsRefused why (LibraryFault it.modules.items) → RefusesBy library_text (codes "session") why (Ok said) → SaysEnd file calls (end.Refused said)
-  ungathered_says (fail.Said refusal) said refused told = inr (record {
+  pub ungathered_says : (why : Fail LibraryRefusal) (own : Told) → IsRefused why (LibraryFault it.modules.items) → RefusesBy library_text (codes "session") why (Ok own.said) → SaysEnd file calls (end.Refused own)
+  ungathered_says (fail.Said refusal) own refused told = inr (record {
     session_is = it.session;
     first = is.first;
     read = is.read;
@@ -60,9 +62,9 @@ module _ (file : List ℕ) (calls : List Call) (it : SessionFiles) (is : AreSess
     });
     calls_are = is.calls_are;
   })
-  ungathered_says fail.NoMemory said refused told = absurd told
+  ungathered_says fail.NoMemory own refused told = absurd told
 
 -- A session that was not read says what is said of it.
-pub unread_says : (file : List ℕ) (calls : List Call) (why : Fail Said) (said : Said) → AnswersSession file calls (Err why) → Gives why (Ok said) → SaysEnd file calls (end.Refused said)
-unread_says file calls (fail.Said own) said answer gives = subst (λ (s : Said). SaysRun file calls s None) (sym gives) answer
-unread_says file calls fail.NoMemory said answer gives = absurd gives
+pub unread_says : (file : List ℕ) (calls : List Call) (why : Fail Refused) (told : Told) → AnswersSession file calls (Err why) → Gives why (Ok told.said) → SaysEnd file calls (end.Refused told)
+unread_says file calls (fail.Said own) told answer gives = subst (λ (s : Said). SaysRun file calls s None) (sym gives) answer
+unread_says file calls fail.NoMemory told answer gives = absurd gives

@@ -1,4 +1,5 @@
 pub mod Doing
+pub mod Telling
 pub mod Refusals
 pub mod Running
 pub mod Headline

@@ -1,5 +1,5 @@
 -- What is said of refusals.
-use Rattle.std.specs.Prelude.{◌≡◌, ℕ, List, ◌++◌, codes, Result, Ok, Err}
+use Rattle.std.specs.Prelude.{◌≡◌, ◌⊎◌, ℕ, List, ◌++◌, codes, Option, Some, None, Result, Ok, Err}
 use Rattle.lx_types.specs.declared.fail.Fail.{Fail}
 use Rattle.lx_types.specs.declared.fail.Fail.TheVariants as fail
 use Rattle.lx_types.specs.declared.fail.NoMemory.{NoMemory}
@@ -11,13 +11,26 @@ use Rattle.answer_model.specs.FileRefusals.{field}
 use Rattle.answer_model.specs.declared.said.Said.{Said}
 use Rattle.answer_model.specs.FileLine.{file_line}
 use Rattle.answer_model.specs.LinkAnswer.{link_text}
+use Rattle.refusal_text.specs.declared.refused.Cause.{Cause}
+use Rattle.refusal_text.specs.declared.refused.Refused.{Refused}
+use Rattle.refusal_text.specs.Refusals.{said_of, said_under}
+use Rattle.lx_tool.specs.declared.told.Told.{Told}
 
--- A refused step says what it says, or finds no memory.
-abbrev pub Gives : Fail Said → Result Said NoMemory → Type 0
-Gives (fail.Said own) (Ok said) = said ≡ own
-Gives (fail.Said own) (Err _) = ⊥
+-- What a command comes to, by what it says.
+abbrev pub said_in : Result Told NoMemory → Result Said NoMemory
+said_in (Ok told) = Ok told.said
+said_in (Err why) = Err why
+
+-- What is said of a refused step, where there is memory for it.
+abbrev pub Gives : Fail Refused → Result Said NoMemory → Type 0
+Gives (fail.Said refused) (Ok said) = said ≡ said_of refused
 Gives fail.NoMemory (Ok said) = ⊥
-Gives fail.NoMemory (Err _) = Unit {0}
+Gives why (Err _) = Unit {0}
+
+-- The same of a cause, under a name.
+abbrev pub RefusesUnder : List ℕ → Cause → Result Said NoMemory → Type 0
+RefusesUnder name cause (Ok said) = said ≡ said_under name cause
+RefusesUnder name cause (Err _) = Unit {0}
 
 -- A refusal with this text is said under a name.
 abbrev pub RefusesBy : {R : Type 0} → (R → List ℕ) → List ℕ → Fail R → Result Said NoMemory → Type 0

@@ -9,6 +9,8 @@ use Rattle.lx_ports.specs.Sinks.{SinkState}
 use Rattle.run_core.specs.declared.session.Ran.{Ran}
 use Rattle.run_core.specs.Sessions.{run_in}
 use Rattle.answer_model.specs.declared.said.Said.{Said}
+use Rattle.refusal_text.specs.declared.refused.Refused.{Refused}
+use Rattle.refusal_text.specs.Refusals.{said_of}
 use Rattle.answer_model.specs.Ends.{AppendsPart}
 use Rattle.answer_model.specs.RunAnswer.{SaysRun}
 use Rattle.answer_model.specs.RunEnds.{AreCallsOfRun}
@@ -20,17 +22,17 @@ use Rattle.lx_tool.specs.declared.run.SessionEnd.TheVariants as end
 -- ---- what it comes to
 
 -- what is said: of scripts that ran, their transcript
-abbrev pub said_of : SessionEnd → Said
-said_of (end.Refused said) = said
-said_of (end.Ran ran) = record { status = 0; text = ran.text }
+abbrev pub end_said : SessionEnd → Said
+end_said (end.Refused told) = told.said
+end_said (end.Ran ran) = record { status = 0; text = ran.text }
 
 abbrev pub ran_of : SessionEnd → Option Ran
-ran_of (end.Refused said) = None
+ran_of (end.Refused told) = None
 ran_of (end.Ran ran) = Some ran
 
 -- It is what these calls say, with what ran.
 abbrev pub SaysEnd : List ℕ → List Call → SessionEnd → Type 0
-SaysEnd file calls (end.Refused said) = SaysRun file calls said None
+SaysEnd file calls (end.Refused told) = SaysRun file calls told.said None
 SaysEnd file calls (end.Ran ran) = SaysRun file calls (record { status = 0; text = ran.text }) (Some (run_in ran))
 
 -- Between two moments the files had loads alone, of just what the session names; and by their answers it comes to this,
@@ -53,9 +55,18 @@ pub record IsPutInPart (said : Said) (out out_now : SinkState) (status : ℕ) : 
   pub failed : Rose out.faults out_now.faults
 
 -- The whole text was put, or a part before the sink failed.
+abbrev pub Puts : Said → SinkState → SinkState → ℕ → Type 0
+Puts said out out_now status = IsPutWhole said out out_now status ⊎ IsPutInPart said out out_now status
+
 pub record PutsEnd (it : SessionEnd) (out out_now : SinkState) (ended : Ended) : Type 0 where
   pub ran_is : ended.ran ≡ ran_of it
-  pub put : IsPutWhole (said_of it) out out_now ended.status ⊎ IsPutInPart (said_of it) out out_now ended.status
+  pub put : Puts (end_said it) out out_now ended.status
+
+-- Of what was refused the line was put, which is its text: whole, with its status, or a part of it, with 4. Where nothing was
+-- refused, the status is none of a refusal.
+abbrev pub Tells : Option Refused → SinkState → SinkState → ℕ → Type 0
+Tells (Some refused) out out_now status = Puts (said_of refused) out out_now status
+Tells None out out_now status = (status ≡ 0) ⊎ (status ≡ 2) ⊎ (status ≡ 4) ⊎ (status ≡ 8)
 
 -- ---- what is shown of what ran
 

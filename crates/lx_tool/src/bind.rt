@@ -8,18 +8,18 @@ ghost use Rattle.answer_model.specs.BindAnswer.{bind_outcome, counts_of};
 ghost use Rattle.answer_model.specs.Loading.{file_limit};
 ghost use Rattle.answer_model.specs.Words as words;
 ghost use Rattle.lx_tool.specs.Doing.{Does, DoesOutcome};
-ghost use Rattle.lx_tool.specs.Refusals.{RefusesBy};
+ghost use Rattle.lx_tool.specs.Refusals.{RefusesBy, said_in};
 
-use crate::refusals::in_full;
+use crate::refusals::{in_full, refused_as};
 use crate::saving::keep;
-use answer_model::{REFUSED, Said};
+use crate::told::Told;
 use lx_ports::Files;
 use lx_types::{Bytes, Fail, NoMemory, Seq};
-use refusal_text::bind_text;
+use refusal_text::Cause;
 use res_bind::bind_res;
 use res_model::{BindRefusal, ResItem};
 use std::alloc::Global;
-use tool_read::{Binding, read_binding, said};
+use tool_read::{Binding, read_binding};
 
 // The bytes of all items together.
 #[tactic(auto, using(std::proofs::lemmas::List::Sums::sum_by_more, std::proofs::lemmas::List::Sums::sum_by_more_le))]
@@ -45,11 +45,11 @@ fn counts_line(alloc: Global, items: &[ResItem]) -> Result<Bytes, NoMemory>
     Ok(Seq::from_vec(line.into_bytes()))
 }
 
-fn refused(alloc: Global, out: &str, why: Fail<BindRefusal>) -> Result<Said, NoMemory>
-    ensures { RefusesBy bind_text out.now why result }
+fn refused(alloc: Global, out: &str, why: Fail<BindRefusal>) -> Result<Told, NoMemory>
+    ensures { RefusesBy bind_text out.now why (said_in result) }
 {
     match why {
-        Fail::Said(refusal) => said(alloc, REFUSED, out, bind_text(refusal).as_bytes()),
+        Fail::Said(refusal) => refused_as(alloc, out, Cause::Unbound(refusal)),
         Fail::NoMemory => Err(NoMemory),
     }
 }
@@ -59,12 +59,12 @@ fn bind_items<F: Files>(
     files: &mut F,
     out: &str,
     binding: &Binding,
-) -> Result<Said, NoMemory>
+) -> Result<Told, NoMemory>
     requires read { IsRead binding.now.target }
     requires apart { AreApart binding.now.items }
     requires small { sum_by (λ i. length i.bytes) binding.now.items ≤ file_limit }
     ensures { DoesOutcome (bind_outcome out.now binding.now.target.file binding.now.items)
-        (F.state files.old) (F.state files.new) result }
+        (F.state files.old) (F.state files.new) (said_in result) }
 {
     let items = binding.items.as_slice();
     match bind_res(alloc, &binding.target, items) {
@@ -84,11 +84,11 @@ pub fn bind<F: Files>(
     out: &str,
     target: &str,
     resources: &str,
-) -> Result<Said, NoMemory>
-    ensures { Does (words.bind out.now target.now resources.now) (F.state files.old) (F.state files.new) result }
+) -> Result<Told, NoMemory>
+    ensures { Does (words.bind out.now target.now resources.now) (F.state files.old) (F.state files.new) (said_in result) }
 {
     match read_binding(alloc, files, target, resources) {
         Ok(binding) => bind_items(alloc, files, out, &binding),
-        Err(why) => in_full(why),
+        Err(why) => in_full(alloc, why),
     }
 }

@@ -8,17 +8,18 @@ ghost use Rattle.answer_model.specs.ImageAnswer.{NAME, ShowsObject};
 ghost use Rattle.answer_model.specs.Outcome.{says_only};
 ghost use Rattle.answer_model.specs.Words as words;
 ghost use Rattle.lx_tool.specs.Doing.{Does};
-ghost use Rattle.lx_tool.specs.Refusals.{RefusesImageAs};
+ghost use Rattle.lx_tool.specs.Refusals.{said_in};
 
-use crate::refusals::{image_text, in_full};
+use crate::refusals::{in_full, unshown};
 use crate::text::memory_text;
-use answer_model::{DONE, REFUSED, Said};
-use image_pages::{ImageRefusal, memory};
+use crate::told::Told;
+use image_pages::memory;
 use lx_ports::Files;
-use lx_types::{Fail, Name, NoMemory, Seq};
+use lx_types::{Name, NoMemory, Seq};
 use obj_types::{DefFile, LinkInput, ModKind, ObjModule};
+use refusal_text::{LinkFile, LinkFiles};
 use std::alloc::Global;
-use tool_read::{read_object, said};
+use tool_read::read_object;
 
 /// The name of the module that `image` links, and of its refusals.
 const MODULE: &str = "IMAGE";
@@ -56,31 +57,31 @@ fn input_of(alloc: Global, object: ObjModule, base: u32) -> Result<LinkInput, No
     })
 }
 
-fn refused(alloc: Global, why: Fail<ImageRefusal>) -> Result<Said, NoMemory>
-    ensures { RefusesImageAs NAME why result }
+// The input with its one file.
+fn files_of(alloc: Global, name: &str, input: LinkInput) -> Result<LinkFiles, NoMemory>
+    ensures { IfOk result (λ files. files.input ≡ input) }
 {
-    match why {
-        Fail::Said(refusal) => {
-            let text = image_text(alloc, &refusal)?;
-            said(alloc, REFUSED, MODULE, &text)
-        }
-        Fail::NoMemory => Err(NoMemory),
-    }
+    let mut files = Vec::new(alloc);
+    files.push(LinkFile {
+        name: name.to_string(alloc)?,
+        library: None,
+    })?;
+    Ok(LinkFiles { input, files })
 }
 
-// What is said of an object module alone at a base.
-fn shown(alloc: Global, object: ObjModule, base: u32) -> Result<Said, NoMemory>
+// What is said of the object module of a file, alone at a base.
+fn shown(alloc: Global, name: &str, object: ObjModule, base: u32) -> Result<Told, NoMemory>
     requires object { WholeModule object }
     requires base { IsBase base }
-    ensures { IfOk result (λ said. ShowsObject base object (says_only said)) }
+    ensures { IfOk result (λ told. ShowsObject base object (says_only told.said)) }
 {
     let input = input_of(alloc, object, base)?;
     match memory(alloc, &input) {
-        Ok(rows) => Ok(Said {
-            status: DONE,
-            text: memory_text(alloc, &rows)?,
-        }),
-        Err(why) => refused(alloc, why),
+        Ok(rows) => Ok(Told::done(memory_text(alloc, &rows)?)),
+        Err(why) => match files_of(alloc, name, input) {
+            Ok(files) => unshown(alloc, MODULE, why, files),
+            Err(NoMemory) => Err(NoMemory),
+        },
     }
 }
 
@@ -90,12 +91,12 @@ pub fn image<F: Files>(
     files: &mut F,
     object: &str,
     base: u32,
-) -> Result<Said, NoMemory>
+) -> Result<Told, NoMemory>
     requires { IsBase base }
-    ensures { Does (words.image object.now base) (F.state files.old) (F.state files.new) result }
+    ensures { Does (words.image object.now base) (F.state files.old) (F.state files.new) (said_in result) }
 {
     match read_object(alloc, files, object) {
-        Ok(module) => shown(alloc, module, base),
-        Err(why) => in_full(why),
+        Ok(module) => shown(alloc, object, module, base),
+        Err(why) => in_full(alloc, why),
     }
 }

@@ -6,18 +6,19 @@ ghost use Rattle.answer_model.specs.Stem.{stem_of};
 ghost use Rattle.answer_model.specs.Words as words;
 ghost use Rattle.tool_read.specs.Readings.{WholeExporter, exporter_item};
 ghost use Rattle.lx_tool.specs.Doing.{Does, DoesOutcome};
-ghost use Rattle.lx_tool.specs.Refusals.{RefusesLibrary};
+ghost use Rattle.lx_tool.specs.Refusals.{RefusesLibrary, said_in};
 
 use crate::library::joined;
-use crate::refusals::in_full;
+use crate::refusals::{in_full, refused_as};
 use crate::saving::keep;
-use answer_model::{REFUSED, Said};
+use crate::told::Told;
 use command_line::stem_of;
 use implib_core::LibraryLong;
 use lx_ports::Files;
 use lx_types::{Bytes, Fail, NoMemory, Seq};
+use refusal_text::Cause;
 use std::alloc::{AllocError, Global};
-use tool_read::{Exporter, read_exporters, said};
+use tool_read::{Exporter, read_exporters};
 
 // `exports N`
 fn exports_line(alloc: Global, count: usize) -> Result<Bytes, AllocError>
@@ -27,11 +28,11 @@ fn exports_line(alloc: Global, count: usize) -> Result<Bytes, AllocError>
     Ok(Seq::from_vec(line.into_bytes()))
 }
 
-fn refused(alloc: Global, out: &str, why: Fail<LibraryLong>) -> Result<Said, NoMemory>
-    ensures { RefusesLibrary out.now why result }
+fn refused(alloc: Global, out: &str, why: Fail<LibraryLong>) -> Result<Told, NoMemory>
+    ensures { RefusesLibrary out.now why (said_in result) }
 {
     match why {
-        Fail::Said(_) => said(alloc, REFUSED, out, b"LibraryLong".as_slice()),
+        Fail::Said(_) => refused_as(alloc, out, Cause::LibraryLong),
         Fail::NoMemory => Err(NoMemory),
     }
 }
@@ -41,10 +42,10 @@ fn write_library<F: Files>(
     files: &mut F,
     out: &str,
     exporters: &[Exporter],
-) -> Result<Said, NoMemory>
+) -> Result<Told, NoMemory>
     requires { All WholeExporter exporters.now }
     ensures { DoesOutcome (implib_outcome out.now (all_imports (stem_of out.now) (map exporter_item exporters.now)))
-        (F.state files.old) (F.state files.new) result }
+        (F.state files.old) (F.state files.new) (said_in result) }
 {
     let stem = stem_of(alloc, out)?;
     match joined(alloc, &stem, exporters) {
@@ -63,11 +64,11 @@ pub fn implib<F: Files>(
     files: &mut F,
     out: &str,
     inputs: &[String],
-) -> Result<Said, NoMemory>
-    ensures { Does (words.implib out.now (map string_bytes inputs.now)) (F.state files.old) (F.state files.new) result }
+) -> Result<Told, NoMemory>
+    ensures { Does (words.implib out.now (map string_bytes inputs.now)) (F.state files.old) (F.state files.new) (said_in result) }
 {
     match read_exporters(alloc, files, inputs) {
         Ok(read) => write_library(alloc, files, out, &read),
-        Err(why) => in_full(why),
+        Err(why) => in_full(alloc, why),
     }
 }

@@ -1,4 +1,5 @@
-//! The commands of `lx` as library calls: from the words of the command line, files and a sink to the status.
+//! The commands of `lx` as library calls: from the words of the command line, files and a sink to the
+//! status, and what was refused.
 #![tactic(auto)]
 
 mod bind;
@@ -14,8 +15,9 @@ mod refusals;
 mod run;
 mod saving;
 mod text;
+mod told;
 mod tool;
 
 pub use main_call::{Ended, lx_main};
 pub use output::put_whole;
-pub use tool::lx_build;
+pub use tool::{Built, lx_build};

@@ -3,20 +3,18 @@ ghost use Rattle.std.specs.Prelude.{◌≡◌, IfOk, map, option_map, string_byt
 ghost use Rattle.obj_types.specs.Input.{WholeInput};
 ghost use Rattle.answer_model.specs.LinkAnswer.{counts_line};
 ghost use Rattle.answer_model.specs.Words as words;
-ghost use Rattle.link_core.specs.Links.{RefusesLink};
 ghost use Rattle.lx_tool.specs.Doing.{Does, DoesLink};
-ghost use Rattle.lx_tool.specs.Refusals.{RefusesAs};
+ghost use Rattle.lx_tool.specs.Refusals.{said_in};
 
-use crate::refusals::in_full;
+use crate::refusals::{in_full, unlinked};
 use crate::saving::keep;
-use answer_model::{REFUSED, Said};
+use crate::told::Told;
 use link_core::{Linked, link_module};
-use link_model::LinkRefusal;
 use lx_ports::Files;
-use lx_types::{Bytes, Fail, NoMemory, Seq, push_escaped};
-use obj_types::LinkInput;
+use lx_types::{Bytes, NoMemory, Seq, push_escaped};
+use refusal_text::LinkFiles;
 use std::alloc::{AllocError, Global};
-use tool_read::{link_text, read_link_input, said};
+use tool_read::read_link_input;
 
 // `NAME objects O pages P sources S`
 fn counts_line(alloc: Global, linked: &Linked) -> Result<Bytes, AllocError>
@@ -32,34 +30,21 @@ fn counts_line(alloc: Global, linked: &Linked) -> Result<Bytes, AllocError>
     Ok(Seq::from_vec(line))
 }
 
-/// What is said of a refused link, under a name.
-pub fn refused(alloc: Global, out: &str, why: Fail<LinkRefusal>) -> Result<Said, NoMemory>
-    ensures { RefusesAs out.now why result }
-{
-    match why {
-        Fail::Said(refusal) => {
-            let text = link_text(alloc, &refusal)?;
-            said(alloc, REFUSED, out, &text)
-        }
-        Fail::NoMemory => Err(NoMemory),
-    }
-}
-
 fn link_input<F: Files>(
     alloc: Global,
     files: &mut F,
     out: &str,
-    input: &LinkInput,
-) -> Result<Said, NoMemory>
-    requires { WholeInput input.now }
-    ensures { DoesLink out.now input.now (F.state files.old) (F.state files.new) result }
+    read: LinkFiles,
+) -> Result<Told, NoMemory>
+    requires { WholeInput read.input }
+    ensures { DoesLink out.now read.input (F.state files.old) (F.state files.new) (said_in result) }
 {
-    match link_module(alloc, input) {
+    match link_module(alloc, &read.input) {
         Ok(linked) => {
             let line = counts_line(alloc, &linked)?;
             keep(alloc, files, out, linked.file.as_slice(), line)
         }
-        Err(why) => refused(alloc, out, why),
+        Err(why) => unlinked(alloc, out, why, read),
     }
 }
 
@@ -71,12 +56,12 @@ pub fn link<F: Files>(
     out: &str,
     definition: Option<&str>,
     inputs: &[String],
-) -> Result<Said, NoMemory>
+) -> Result<Told, NoMemory>
     ensures { Does (words.link out.now (option_map (λ name. name.now) definition.entry) (map string_bytes inputs.now))
-        (F.state files.old) (F.state files.new) result }
+        (F.state files.old) (F.state files.new) (said_in result) }
 {
     match read_link_input(alloc, files, out, definition, inputs) {
-        Ok(input) => link_input(alloc, files, out, &input),
-        Err(why) => in_full(why),
+        Ok(read) => link_input(alloc, files, out, read),
+        Err(why) => in_full(alloc, why),
     }
 }

@@ -1,58 +1,53 @@
 //! The top call of the program: sessions, and all other commands.
-ghost use Rattle.std.specs.Prelude.{◌≡◌, OnErr, OnOk, map, option_map, string_bytes};
+ghost use Rattle.std.specs.Prelude.{map, option_map, string_bytes};
 ghost use Rattle.answer_model.specs.RunAnswer.{run_of};
 ghost use Rattle.answer_model.specs.RunEnds.{MainEnds};
 ghost use Rattle.run_core.specs.Sessions.{run_in};
 ghost use Rattle.lx_tool.specs.Headline.{Headline};
-ghost use Rattle.lx_tool.specs.Running.{PutsEnd, ShowsRun};
+ghost use Rattle.lx_tool.specs.Running.{PutsEnd, ShowsRun, Tells};
 
-use crate::output::put_whole;
+use crate::output::{put_said, put_text};
 use crate::run::{SessionEnd, run};
-use crate::tool::lx_build;
-use answer_model::{DONE, NO_MEMORY, WRITE_FAILED};
+use crate::tool::{Built, lx_build};
+use answer_model::{DONE, NO_MEMORY};
 use command_line::session_named;
-use lx_ports::{Files, Gate, Sink, SinkFailed};
+use lx_ports::{Files, Gate, Sink};
 use lx_types::NoMemory;
+use refusal_text::Refused;
 use run_core::Ran;
 use std::alloc::Global;
 use std::sync::Wait;
 use std::thread::Threads;
 
-/// How a call of the program ended: with its status; and with what ran, where a session ran: its transcript, the history of
-/// its loader, which was closed, and the steady lines of its scripts.
+/// How a call of the program ended: with its status; with what was refused, where something was: then the line that was put is
+/// its text; and with what ran, where a session ran: its transcript, the history of its loader, which was closed, and the steady
+/// lines of its scripts.
 #[derive(Drop)]
 pub struct Ended {
     pub status: u8,
+    pub refused: Option<Refused>,
     pub ran: Option<Ran>,
-}
-
-// The status after a put: that of what was said, where all of it was put.
-fn status_after(put: Result<(), SinkFailed>, status: u8) -> u8
-    ensures whole { OnOk put (result ≡ status) }
-    ensures part { OnErr put (result ≡ 4) }
-{
-    match put {
-        Ok(()) => status,
-        Err(_) => WRITE_FAILED,
-    }
 }
 
 // Puts what is said of a session, or its transcript.
 fn put_end<S: Sink>(out: &mut S, end: SessionEnd) -> Ended
-    ensures { PutsEnd end (S.state out.old) (S.state out.new) result }
+    ensures puts { PutsEnd end (S.state out.old) (S.state out.new) result }
+    ensures tells { Tells result.refused (S.state out.old) (S.state out.new) result.status }
 {
     match end {
-        SessionEnd::Refused(said) => {
-            let put = put_whole(out, said.text.as_slice());
+        SessionEnd::Refused(told) => {
+            let status = put_said(out, &told.said);
             Ended {
-                status: status_after(put, said.status),
+                status,
+                refused: told.refused,
                 ran: None,
             }
         }
         SessionEnd::Ran(ran) => {
-            let put = put_whole(out, ran.text.as_slice());
+            let status = put_text(out, DONE, ran.text.as_slice());
             Ended {
-                status: status_after(put, DONE),
+                status,
+                refused: None,
                 ran: Some(ran),
             }
         }
@@ -81,10 +76,13 @@ pub fn lx_main<R: Threads + Wait + Sync, F: Files, S: Sink, G: Gate>(
         (S.state out.old) (S.state out.new) result.status (option_map run_in result.ran) }
     ensures headline { Headline (run_of (map string_bytes words.now)) (F.state files.old).contents result.ran }
     ensures shows { ShowsRun (run_of (map string_bytes words.now)) (S.state out.old) (S.state out.new) result }
+    ensures tells { Tells result.refused (S.state out.old) (S.state out.new) result.status }
 {
     let Some(file) = session_named(words) else {
+        let Built { status, refused } = lx_build(alloc, words, files, out);
         return Ended {
-            status: lx_build(alloc, words, files, out),
+            status,
+            refused,
             ran: None,
         };
     };
@@ -92,6 +90,7 @@ pub fn lx_main<R: Threads + Wait + Sync, F: Files, S: Sink, G: Gate>(
         Ok(end) => put_end(out, end),
         Err(NoMemory) => Ended {
             status: NO_MEMORY,
+            refused: None,
             ran: None,
         },
     }

@@ -8,14 +8,14 @@ ghost use Rattle.answer_model.specs.AskedFiles.{asked_definition, asked_inputs};
 ghost use Rattle.answer_model.specs.Words as words;
 ghost use Rattle.tool_read.specs.Steps.{ReadsInTurn};
 ghost use Rattle.lx_tool.specs.Doing.{Does};
+ghost use Rattle.lx_tool.specs.Refusals.{said_in};
 
-use crate::link::refused;
-use crate::refusals::in_full;
-use answer_model::{DONE, Said};
+use crate::refusals::{in_full, unlinked};
+use crate::told::Told;
 use lx_ports::Files;
 use lx_types::{Fail, Name, NoMemory, Seq};
 use map_core::map_input;
-use obj_types::LinkInput;
+use refusal_text::{LinkFiles, Refused};
 use std::alloc::Global;
 use tool_read::read_input_with;
 
@@ -28,27 +28,24 @@ fn read_files<F: Files>(
     files: &mut F,
     definition: Option<&str>,
     inputs: &[String],
-) -> Result<LinkInput, Fail<Said>>
-    ensures read { ReadsInTurn (λ input items. input ≡ input_with NAME items)
+) -> Result<LinkFiles, Fail<Refused>>
+    ensures read { ReadsInTurn (λ read items. read.input ≡ input_with NAME items)
         (asked_definition (option_map (λ name. name.now) definition.entry) ++ asked_inputs (map string_bytes inputs.now))
         (F.state files.old) (F.state files.new) result }
-    ensures whole { IfOk result WholeInput }
+    ensures whole { IfOk result (λ read. WholeInput read.input) }
 {
     let stem = Name::of_short(alloc, MODULE.as_bytes())?;
     read_input_with(alloc, files, stem, definition, inputs)
 }
 
 // The map of an input's link, or its refusal.
-fn mapped(alloc: Global, input: &LinkInput) -> Result<Said, NoMemory>
-    requires { WholeInput input.now }
-    ensures { IfOk result (λ said. MapsInput input.now (says_only said)) }
+fn mapped(alloc: Global, read: LinkFiles) -> Result<Told, NoMemory>
+    requires { WholeInput read.input }
+    ensures { IfOk result (λ told. MapsInput read.input (says_only told.said)) }
 {
-    match map_input(alloc, input) {
-        Ok(text) => Ok(Said {
-            status: DONE,
-            text: Seq::from_vec(text),
-        }),
-        Err(why) => refused(alloc, MODULE, why),
+    match map_input(alloc, &read.input) {
+        Ok(text) => Ok(Told::done(Seq::from_vec(text))),
+        Err(why) => unlinked(alloc, MODULE, why, read),
     }
 }
 
@@ -59,12 +56,12 @@ pub fn show_map<F: Files>(
     files: &mut F,
     definition: Option<&str>,
     inputs: &[String],
-) -> Result<Said, NoMemory>
+) -> Result<Told, NoMemory>
     ensures { Does (words.link_map (option_map (λ name. name.now) definition.entry) (map string_bytes inputs.now))
-        (F.state files.old) (F.state files.new) result }
+        (F.state files.old) (F.state files.new) (said_in result) }
 {
     match read_files(alloc, files, definition, inputs) {
-        Ok(input) => mapped(alloc, &input),
-        Err(why) => in_full(why),
+        Ok(read) => mapped(alloc, read),
+        Err(why) => in_full(alloc, why),
     }
 }

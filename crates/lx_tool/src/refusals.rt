@@ -1,33 +1,76 @@
-//! What is said of refusals.
-ghost use Rattle.std.specs.Prelude.{◌≡◌, IfOk};
-ghost use Rattle.tool_read.specs.Readings.{SaysOf};
-ghost use Rattle.lx_tool.specs.Refusals.{Gives, image_text_of};
+//! Refusals of what files come to.
+ghost use Rattle.answer_model.specs.LinkAnswer.{link_text};
+ghost use Rattle.std.specs.Prelude.{◌≡◌};
+ghost use Rattle.refusal_text.specs.Refusals.{cause_text, status_of};
+ghost use Rattle.lx_tool.specs.Refusals.{Gives, RefusesBy, RefusesImageAs, RefusesUnder, image_text_of, said_in};
 
-use answer_model::Said;
+use crate::told::Told;
 use image_pages::ImageRefusal;
+use link_model::LinkRefusal;
 use lx_types::{Fail, NoMemory};
-use std::alloc::{AllocError, Global};
-use tool_read::link_text;
+use refusal_text::{Cause, LinkFiles, Refused};
+use std::alloc::Global;
 
-/// What a refused step says.
-pub fn in_full(why: Fail<Said>) -> Result<Said, NoMemory>
-    ensures { Gives why result }
+/// What is said of a refused step.
+pub fn in_full(alloc: Global, why: Fail<Refused>) -> Result<Told, NoMemory>
+    ensures { Gives why (said_in result) }
 {
     match why {
-        Fail::Said(said) => Ok(said),
+        Fail::Said(refused) => match refused.said(alloc) {
+            Ok(said) => Ok(Told::of(said, refused)),
+            Err(NoMemory) => Err(NoMemory),
+        },
         Fail::NoMemory => Err(NoMemory),
     }
 }
 
-/// The text of the refusal of a module in memory.
-pub fn image_text(alloc: Global, refusal: &ImageRefusal) -> Result<Vec<u8>, AllocError>
-    ensures { IfOk result (λ text. text.items ≡ image_text_of refusal.now) }
+/// What is said of a cause, under a name.
+pub fn refused_as(alloc: Global, name: &str, cause: Cause) -> Result<Told, NoMemory>
+    ensures { RefusesUnder name.now cause (said_in result) }
+{
+    match Refused::of(alloc, name, cause) {
+        Ok(refused) => in_full(alloc, Fail::Said(refused)),
+        Err(NoMemory) => Err(NoMemory),
+    }
+}
+
+/// What is said of a refused link, under a name.
+pub fn unlinked(
+    alloc: Global,
+    name: &str,
+    why: Fail<LinkRefusal>,
+    files: LinkFiles,
+) -> Result<Told, NoMemory>
+    ensures { RefusesBy link_text name.now why (said_in result) }
+{
+    match why {
+        Fail::Said(refusal) => refused_as(alloc, name, Cause::Unlinked { refusal, files }),
+        Fail::NoMemory => Err(NoMemory),
+    }
+}
+
+fn image_cause(refusal: ImageRefusal, files: LinkFiles) -> Cause
+    ensures text { cause_text result ≡ image_text_of refusal }
+    ensures status { status_of result ≡ 1 }
 {
     match refusal {
-        ImageRefusal::Link(own) => link_text(alloc, own),
-        ImageRefusal::NoModule => Vec::from_slice(alloc, b"NoModule".as_slice()),
-        ImageRefusal::ArenaFull { object, size } => {
-            Ok(format!(in alloc; "ArenaFull {object} {size}")?.into_bytes())
-        }
+        ImageRefusal::Link(refusal) => Cause::Unlinked { refusal, files },
+        ImageRefusal::NoModule => Cause::Imports { files },
+        ImageRefusal::ArenaFull { object, size } => Cause::ArenaFull { object, size },
+    }
+}
+
+/// The same of a link that is shown in memory.
+pub fn unshown(
+    alloc: Global,
+    name: &str,
+    why: Fail<ImageRefusal>,
+    files: LinkFiles,
+) -> Result<Told, NoMemory>
+    ensures { RefusesImageAs name.now why (said_in result) }
+{
+    match why {
+        Fail::Said(refusal) => refused_as(alloc, name, image_cause(refusal, files)),
+        Fail::NoMemory => Err(NoMemory),
     }
 }

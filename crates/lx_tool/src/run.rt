@@ -6,41 +6,37 @@ ghost use Rattle.session_model.specs.Bounds.{IsSession};
 ghost use Rattle.session_model.specs.FailingPairs.{failing_pairs};
 ghost use Rattle.session_files.specs.SessionFiles.{AreSessionFiles};
 ghost use Rattle.run_core.specs.Sessions.{IsRanOf};
-ghost use Rattle.lx_tool.specs.Refusals.{RefusesBy};
+ghost use Rattle.lx_tool.specs.Refusals.{RefusesBy, said_in};
 ghost use Rattle.lx_tool.specs.Running.{DoesRun, SaysEnd};
 
-use crate::refusals::in_full;
-use answer_model::{REFUSED, Said};
+use crate::refusals::{in_full, refused_as};
+use crate::told::Told;
 use lx_model::LibraryRefusal;
 use lx_ports::{Files, Gate};
 use lx_types::{Fail, NoMemory};
 use mod_graph::Library;
-use refusal_text::library_text;
-use run_core::{Ran, failing_pairs, run_session};
+use refusal_text::Cause;
+use run_core::{Ran, run_session};
 use run_laws::runs_by_links;
 use session_files::{SessionFiles, read_session_files};
 use session_model::Session;
 use std::alloc::Global;
 use std::sync::{Arc, Wait};
 use std::thread::Threads;
-use tool_read::said;
 
 /// What a session comes to: what is said of one whose scripts do not run, or what ran.
 #[derive(Drop)]
 pub enum SessionEnd {
-    Refused(Said),
+    Refused(Told),
     Ran(Ran),
 }
 
 // What is said of modules that are no library.
-fn ungathered(alloc: Global, why: Fail<LibraryRefusal>) -> Result<Said, NoMemory>
-    ensures { RefusesBy library_text (codes "session") why result }
+fn ungathered(alloc: Global, why: Fail<LibraryRefusal>) -> Result<Told, NoMemory>
+    ensures { RefusesBy library_text (codes "session") why (said_in result) }
 {
     match why {
-        Fail::Said(refusal) => {
-            let text = library_text(alloc, refusal)?;
-            said(alloc, REFUSED, "session", text.as_bytes())
-        }
+        Fail::Said(refusal) => refused_as(alloc, "session", Cause::Ungathered(refusal)),
         Fail::NoMemory => Err(NoMemory),
     }
 }
@@ -56,9 +52,7 @@ fn run_over<R: Threads + Wait + Sync, G: Gate>(
     requires { IsSession session }
     ensures { IfOk result (λ ran. IsRanOf lib (failing_pairs lib session) session.scripts ran) }
 {
-    let failing = failing_pairs(alloc, &lib, &session)?;
-    let lib = Arc::new(alloc, lib)?;
-    run_session(rt, alloc, session, lib, failing, gate)
+    run_session(rt, alloc, session, Arc::new(alloc, lib)?, gate)
 }
 
 // Gathers the modules, and runs the scripts over them.
@@ -92,6 +86,6 @@ pub fn run<R: Threads + Wait + Sync, F: Files, G: Gate>(
 {
     match read_session_files(alloc, files, file) {
         Ok(read) => run_files(rt, alloc, read, gate),
-        Err(why) => Ok(SessionEnd::Refused(in_full(why)?)),
+        Err(why) => Ok(SessionEnd::Refused(in_full(alloc, why)?)),
     }
 }

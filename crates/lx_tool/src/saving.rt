@@ -2,12 +2,13 @@
 ghost use Rattle.std.specs.Prelude.{◌≡◌};
 ghost use Rattle.answer_model.specs.Outcome.{kept};
 ghost use Rattle.lx_tool.specs.Doing.{DoesOutcome};
+ghost use Rattle.lx_tool.specs.Refusals.{said_in};
 
-use answer_model::{DONE, Said, WRITE_FAILED};
+use crate::told::Told;
 use lx_ports::Files;
 use lx_types::{Bytes, NoMemory};
+use refusal_text::{Cause, Refused};
 use std::alloc::Global;
-use tool_read::file_line;
 
 /// Saves the output, and says this text, or that writing failed. All that is said is made before the save: after it no
 /// memory is wanted.
@@ -17,15 +18,13 @@ pub fn keep<F: Files>(
     name: &str,
     bytes: &[u8],
     text: Bytes,
-) -> Result<Said, NoMemory>
-    ensures { DoesOutcome (kept name.now bytes.now text) (F.state files.old) (F.state files.new) result }
+) -> Result<Told, NoMemory>
+    ensures { DoesOutcome (kept name.now bytes.now text) (F.state files.old) (F.state files.new) (said_in result) }
 {
-    let failed = file_line(alloc, name, b"write failed".as_slice())?;
+    let refused = Refused::of(alloc, name, Cause::Unsaved)?;
+    let failed = refused.said(alloc)?;
     match files.save(name, bytes) {
-        Ok(()) => Ok(Said { status: DONE, text }),
-        Err(_) => Ok(Said {
-            status: WRITE_FAILED,
-            text: failed,
-        }),
+        Ok(()) => Ok(Told::done(text)),
+        Err(_) => Ok(Told::of(failed, refused)),
     }
 }

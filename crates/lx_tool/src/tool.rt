@@ -1,9 +1,13 @@
 //! The commands that need no threads: all that the program does but sessions, over the files and the sink that it is handed.
-ghost use Rattle.std.specs.Prelude.{◌≡◌, IfOk, map, string_bytes};
+ghost use Rattle.std.specs.Prelude.{◌≡◌, ◌≤◌, IfOk, map, string_bytes};
 ghost use Rattle.answer_model.specs.FileLine.{usage_line};
 ghost use Rattle.answer_model.specs.Ends.{Ends};
 ghost use Rattle.answer_model.specs.Words.{command_of};
-ghost use Rattle.lx_tool.specs.Doing.{DoesWords};
+ghost use Rattle.answer_model.specs.Words as words;
+ghost use Rattle.gen_core.specs.Doing.{NamesUnsaved};
+ghost use Rattle.lx_tool.specs.Doing.{Does, DoesWords};
+ghost use Rattle.lx_tool.specs.Refusals.{said_in};
+ghost use Rattle.lx_tool.specs.Running.{Tells};
 
 use crate::bind::bind;
 use crate::dump::dump;
@@ -11,27 +15,68 @@ use crate::image::image;
 use crate::implib::implib;
 use crate::link::link;
 use crate::map::show_map;
-use crate::output::put_whole;
-use answer_model::{NO_MEMORY, Said, USAGE, WRITE_FAILED};
+use crate::output::put_said;
+use crate::told::Told;
+use answer_model::{NO_MEMORY, Said, USAGE};
 use command_line::Command;
-use gen_core::generate;
+use gen_core::{Made, generate};
 use lx_ports::{Files, Sink};
 use lx_types::{NoMemory, Seq};
+use refusal_text::{Cause, Refused};
 use std::alloc::Global;
 
-fn usage(alloc: Global) -> Result<Said, NoMemory>
-    ensures { IfOk result (λ said. said ≡ record { status = 2; text = usage_line }) }
+/// How a call that needs no threads ended: with its status, and with what was refused, where something was: then the line that
+/// was put is its text.
+#[derive(Drop)]
+pub struct Built {
+    pub status: u8,
+    pub refused: Option<Refused>,
+}
+
+fn usage(alloc: Global) -> Result<Told, NoMemory>
+    ensures { IfOk result (λ told. told.said ≡ record { status = 2; text = usage_line }) }
 {
     let line = Vec::from_slice(alloc, b"lx: usage\n".as_slice())?;
-    Ok(Said {
+    Ok(Told::plain(Said {
         status: USAGE,
         text: Seq::from_vec(line),
-    })
+    }))
+}
+
+// What the generator says, which refuses nothing but may not save a file.
+fn made_told(made: Made) -> Told
+    requires { NamesUnsaved made }
+    ensures { result.said ≡ made.said }
+{
+    let Made { said, unsaved } = made;
+    match unsaved {
+        None => Told::plain(said),
+        Some(name) => {
+            let cause = Cause::Unsaved;
+            Told::of(said, Refused { name, cause })
+        }
+    }
+}
+
+fn generated<F: Files>(
+    alloc: Global,
+    files: &mut F,
+    count: u32,
+    prefix: &str,
+) -> Result<Told, NoMemory>
+    requires first { 1 ≤ count }
+    requires last { count ≤ 64 }
+    ensures { Does (words.gen count prefix.now) (F.state files.old) (F.state files.new) (said_in result) }
+{
+    match generate(alloc, files, count, prefix) {
+        Ok(made) => Ok(made_told(made)),
+        Err(NoMemory) => Err(NoMemory),
+    }
 }
 
 /// Does what the words ask for, up to what is said at the end.
-fn answer<F: Files>(alloc: Global, words: &[String], files: &mut F) -> Result<Said, NoMemory>
-    ensures { DoesWords (command_of (map string_bytes words.now)) (F.state files.old) (F.state files.new) result }
+fn answer<F: Files>(alloc: Global, words: &[String], files: &mut F) -> Result<Told, NoMemory>
+    ensures { DoesWords (command_of (map string_bytes words.now)) (F.state files.old) (F.state files.new) (said_in result) }
 {
     match Command::of(words) {
         Some(Command::Image { object, base }) => image(alloc, files, object, base),
@@ -50,14 +95,14 @@ fn answer<F: Files>(alloc: Global, words: &[String], files: &mut F) -> Result<Sa
                 resources,
             },
         ) => bind(alloc, files, out, target, resources),
-        Some(Command::Gen { count, prefix }) => generate(alloc, files, count, prefix),
+        Some(Command::Gen { count, prefix }) => generated(alloc, files, count, prefix),
         Some(Command::Dump { file }) => dump(alloc, files, file),
         Some(Command::Map { definition, inputs }) => show_map(alloc, files, definition, inputs),
         None => usage(alloc),
     }
 }
 
-/// Does what the words ask for, and answers the status with which the program ends.
+/// Does what the words ask for, and answers the status with which the program ends, and what was refused.
 ///
 /// `image OBJ BASE` links the object file OBJ alone as the library IMAGE from BASE, eight hexadecimal digits, and puts
 /// the bytes that its objects have in memory there, 16 on a line. `link OUT DEF IN ..` links object files and libraries
@@ -80,15 +125,22 @@ pub fn lx_build<F: Files, S: Sink>(
     words: &[String],
     files: &mut F,
     out: &mut S,
-) -> u8
-    ensures { Ends (map string_bytes words.now) (F.state files.old) (F.state files.new)
-        (S.state out.old) (S.state out.new) result }
+) -> Built
+    ensures ends { Ends (map string_bytes words.now) (F.state files.old) (F.state files.new)
+        (S.state out.old) (S.state out.new) result.status }
+    ensures tells { Tells result.refused (S.state out.old) (S.state out.new) result.status }
 {
     match answer(alloc, words, files) {
-        Ok(said) => match put_whole(out, said.text.as_slice()) {
-            Ok(()) => said.status,
-            Err(_) => WRITE_FAILED,
+        Ok(told) => {
+            let status = put_said(out, &told.said);
+            Built {
+                status,
+                refused: told.refused,
+            }
+        }
+        Err(NoMemory) => Built {
+            status: NO_MEMORY,
+            refused: None,
         },
-        Err(NoMemory) => NO_MEMORY,
     }
 }

@@ -1,8 +1,26 @@
-//! A page of help for each command.
+//! The commands, a row for each: its words, what it does in a line, what it wants, and its page of help. What `--help` puts and
+//! the manual name the same words and lines.
 ghost use Rattle.std.specs.Prelude.{◌≡◌, is_some};
 ghost use Rattle.refusal_notes.specs.Help.{is_command};
 
-const LINK: &str = "\
+/// What is told of a command.
+#[derive(Clone, Copy)]
+pub struct Help {
+    /// The command and the words after it.
+    pub words: &'static str,
+    /// What it does, in a line.
+    pub does: &'static str,
+    /// What is told where the words after it are other ones.
+    pub wants: &'static str,
+    /// The page of help, which begins with the words.
+    pub page: &'static str,
+}
+
+const LINK: Help = Help {
+    words: "link OUT DEF IN ..",
+    does: "links object files and libraries, DEF may be -, as: lx link d.dll d.def a.obj b.lib",
+    wants: "link wants OUT DEF IN ..: the module, the definition file or -, and at least one file",
+    page: "\
 lx link OUT DEF IN ..
 
 Links object files and libraries with the definition file DEF into the module OUT, and prints the module's name and how many
@@ -15,9 +33,14 @@ objects, pages and fixup sources it has. OUT is written over, once all went well
 
 as: lx link add.dll add.def add.obj
     lx link main.exe - main.obj add.lib
-";
+",
+};
 
-const IMPLIB: &str = "\
+const IMPLIB: Help = Help {
+    words: "implib OUT IN ..",
+    does: "writes an import library of modules and definition files, as: lx implib d.lib d.def",
+    wants: "implib wants OUT IN ..: the library, and at least one definition file or module",
+    page: "\
 lx implib OUT IN ..
 
 Makes the import library OUT of definition files and modules, and prints how many exports it has. OUT is written over, once
@@ -27,9 +50,14 @@ all went well. OUT stands first: lx implib a.def writes nothing, and lx implib a
   IN    a module, which begins with LX or MZ, or a definition file
 
 as: lx implib add.lib add.def
-";
+",
+};
 
-const IMAGE: &str = "\
+const IMAGE: Help = Help {
+    words: "image OBJ BASE",
+    does: "shows an object file's objects in memory, as: lx image a.obj 10000000",
+    wants: "image wants OBJ BASE: an object file, and eight hexadecimal digits as 10000000",
+    page: "\
 lx image OBJ BASE
 
 Links the object file OBJ alone, as a library from BASE, and prints the bytes that its objects have in memory, 16 on a line
@@ -39,9 +67,14 @@ after their address. Nothing is written.
   BASE  eight hexadecimal digits, a multiple of 65,536 from 00010000 to 1FFF0000
 
 as: lx image add.obj 10000000
-";
+",
+};
 
-const BIND: &str = "\
+const BIND: Help = Help {
+    words: "bind OUT MODULE RES",
+    does: "adds the items of a resource file to a module, as: lx bind d2.dll d.dll d.res",
+    wants: "bind wants OUT MODULE RES: the module to write, a module, and a resource file",
+    page: "\
 lx bind OUT MODULE RES
 
 Adds the items of the resource file RES to a module that has no resources, as one object more, and prints how many items they
@@ -53,9 +86,14 @@ are and how many bytes they have. OUT is written over, once all went well.
           and its data (docs/FORMATS.md, Resource files)
 
 as: lx bind add2.dll add.dll add.res
-";
+",
+};
 
-const GEN: &str = "\
+const GEN: Help = Help {
+    words: "gen N PREFIX",
+    does: "makes N modules and a session of them, to try the others on, as: lx gen 2 g",
+    wants: "gen wants N PREFIX: a number from 1 to 64, and what the names of the files begin with",
+    page: "\
 lx gen N PREFIX
 
 Makes N modules to try link and run on, each with 2,048 references to itself and to the module before it: writes for each an
@@ -68,9 +106,14 @@ loaded one after the other. No file is read; files of these names are written ov
 
 as: lx gen 2 g
     lx run g.ses
-";
+",
+};
 
-const RUN: &str = "\
+const RUN: Help = Help {
+    words: "run FILE",
+    does: "runs the processes of a session in threads, as: lx run d.ses",
+    wants: "run wants FILE: a session",
+    page: "\
 lx run FILE
 
 Runs the session in FILE: takes modules from files, or builds them as link does, and carries out the scripts of up to 16
@@ -83,9 +126,14 @@ what each process was answered beside. Nothing is written.
 Which process goes first is not settled: two runs of one session may print different histories.
 
 as: lx run add.ses
-";
+",
+};
 
-const DUMP: &str = "\
+const DUMP: Help = Help {
+    words: "dump FILE",
+    does: "shows what is in a module, as: lx dump d.dll",
+    wants: "dump wants FILE: a module",
+    page: "\
 lx dump FILE
 
 Prints what is in a module: a line for it, its objects with their pages and, below a page, its fixups, the modules that it
@@ -94,23 +142,29 @@ imports from, its entries and its names. Nothing is written.
   FILE  a module, which begins with LX or MZ
 
 as: lx dump add.dll
-";
+",
+};
 
-const MAP: &str = "\
+const MAP: Help = Help {
+    words: "map DEF IN ..",
+    does: "shows where all stands that link would place, as: lx map d.def a.obj b.lib",
+    wants: "map wants DEF IN ..: the definition file or -, and at least one file",
+    page: "\
 lx map DEF IN ..
 
 Prints where everything stands that link would make of these files: a line for each object, each segment of a module that is
-taken, each communal, each public and each import. Nothing is written.
+taken, each communal, each public, each constant and each import. Nothing is written.
 
   DEF   the definition file; - for none: then the module is a program. Without a name in it the module is MAP
   IN    an object file or a library, as of link
 
 as: lx map add.def add.obj
     lx map - main.obj add.lib
-";
+",
+};
 
-/// The page of a command, or None where there is no such command.
-pub fn page_of(command: &str) -> Option<&'static str>
+/// The row of a command, or None where there is no such command.
+pub fn help_of(command: &str) -> Option<Help>
     ensures { is_some result ≡ is_command command.now }
 {
     match command {

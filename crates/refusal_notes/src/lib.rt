@@ -1,20 +1,19 @@
-//! What `lx` says to a reader on standard error: notes on a refusal, and warnings on what was linked though it looks like a
-//! slip. Nothing here is put to standard output, and no answer of a command depends on it.
+//! What `lx` says to a reader on standard error: notes on what was refused, and warnings on what was linked though it looks
+//! like a slip. Nothing here is put to standard output, and no answer of a command depends on it.
 #![tactic(auto)]
 
-mod definitions;
-mod heard;
+mod faults;
 mod help;
+mod lines;
 mod links;
-mod object_faults;
-mod resources;
-mod sessions;
+mod looks;
+mod meanings;
+mod notes;
+mod records;
 mod slips;
-mod telling;
 mod watched;
 
-pub use heard::Heard;
-pub use help::page_of;
-pub use note_lines::{Lines, Mark};
-pub use telling::{Ended, notes_on, tell_on};
+pub use help::{Help, help_of};
+pub use lines::{Lines, Mark};
+pub use notes::{Ending, tell_on};
 pub use watched::{Tell, Watched};

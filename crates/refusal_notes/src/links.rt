@@ -1,171 +1,355 @@
-//! Notes on what a link refuses: which modules, segments and names are meant.
+//! Notes on what a link refuses: which modules, files, segments and names are meant. They are found in what was read for the
+//! link, once it was refused.
 
-use note_lines::{Lines, link_kind, number_field};
-use omf_outline::{Chosen, Inputs, Outline, Pick, shown};
+use crate::lines::Lines;
+use link_model::{
+    ComdatRefusal, EntryRefusal, FixRefusal, LayRefusal, LinkRefusal, Pick, SymRefusal, modules_at,
+};
+use lx_types::{Name, NoMemory, Seq, push_escaped};
+use obj_types::ObjModule;
+use refusal_text::{LinkFile, LinkFiles};
 use std::alloc::{AllocError, Global};
+use sym_table::choose_by_names;
 
-/// A link that was refused: its files, and its modules as they are numbered.
-#[derive(Clone, Copy)]
+/// How many missing names are told, and how many modules that want one of them.
+const MOST: usize = 16;
+
+/// What a link was given, with its modules as they are numbered, from 1.
+#[derive(Drop)]
 pub struct Refused<'a> {
-    pub inputs: &'a Inputs<'a>,
-    pub chosen: &'a Chosen,
+    alloc: Global,
+    read: &'a LinkFiles,
+    picks: Seq<Pick>,
+    modules: Vec<&'a ObjModule>,
 }
 
-// A module as a reader knows it: by its file, and in a library by its own name too.
-fn module_name(alloc: Global, inputs: &Inputs<'_>, pick: Pick) -> Result<String, AllocError> {
-    match inputs.module(pick) {
-        Some((file, module)) if file.is_library => {
-            let own = shown(alloc, module.name)?;
-            let name = file.name;
-            format!(in alloc; "{name}({own})")
-        }
-        Some((file, _)) => file.name.to_string(alloc),
-        None => "?".to_string(alloc),
+/// A name, with `%` and two hexadecimal digits for each byte outside 21h to 7Eh.
+pub fn shown(alloc: Global, name: &[u8]) -> Result<String, AllocError> {
+    let mut bytes = Vec::new(alloc);
+    push_escaped(&mut bytes, name)?;
+    match String::from_utf8(bytes) {
+        Ok(text) => Ok(text),
+        Err(_) => Ok(String::new(alloc)),
     }
+}
+
+// The file of a module.
+fn file_of<'a>(files: &'a [LinkFile], pick: &Pick) -> Option<&'a LinkFile> {
+    let mut left = pick.index as usize;
+    for file in files {
+        let own = match file.library {
+            Some(modules) if pick.lib => modules,
+            None if !pick.lib => 1,
+            _ => 0,
+        };
+        if left < own {
+            return Some(file);
+        }
+        left -= own;
+    }
+    None
 }
 
 impl<'a> Refused<'a> {
-    // The module of this number, from 1.
-    fn pick(&self, number: usize) -> Option<Pick> {
-        self.chosen.picks.get(number.checked_sub(1)?).copied()
+    /// The modules that the link chose.
+    pub fn of(alloc: Global, read: &'a LinkFiles) -> Result<Refused<'a>, NoMemory> {
+        let picks = choose_by_names(alloc, &read.input)?;
+        let modules = modules_at(alloc, &read.input, picks.as_slice())?;
+        Ok(Refused {
+            alloc,
+            read,
+            picks,
+            modules,
+        })
+    }
+
+    // A module as a reader knows it, by its place: by its file, and in a library by its own name too.
+    fn name(&self, place: usize) -> Result<String, AllocError> {
+        let (Some(pick), Some(module)) = (self.picks.as_slice().get(place), self.modules.get(place))
+        else {
+            return "a module that is not known".to_string(self.alloc);
+        };
+        let own = shown(self.alloc, module.name.bytes())?;
+        match file_of(&self.read.files, pick) {
+            Some(file) if pick.lib => {
+                let name = file.name.as_str();
+                format!(in self.alloc; "{name}({own})")
+            }
+            Some(file) => file.name.clone(),
+            None => Ok(own),
+        }
     }
 
     // `module 3 is b.obj`
-    fn numbered(&self, alloc: Global, number: usize) -> Result<String, AllocError> {
-        match self.pick(number) {
-            Some(pick) => {
-                let name = module_name(alloc, self.inputs, pick)?;
-                format!(in alloc; "module {number} is {name}")
+    fn numbered(&self, number: u32) -> Result<String, AllocError> {
+        match (number as usize).checked_sub(1) {
+            Some(place) => {
+                let name = self.name(place)?;
+                format!(in self.alloc; "module {number} is {name}")
             }
-            None if number == 0 => "module 0 is the definition file".to_string(alloc),
-            None => format!(in alloc; "module {number} is not known"),
+            None => "module 0 is the definition file".to_string(self.alloc),
         }
     }
 
-    fn twice(&self, alloc: Global, lines: &mut Lines, fields: &str) -> Result<(), AllocError> {
-        if let (Some(first), Some(second)) = (number_field(fields, 1), number_field(fields, 2)) {
-            let first = self.numbered(alloc, first)?;
-            let second = self.numbered(alloc, second)?;
-            lines.add(format!(in alloc; "{first}, {second}")?)?;
-        }
-        Ok(())
+    fn both(&self, lines: &mut Lines, first: u32, second: u32) -> Result<(), AllocError> {
+        let first = self.numbered(first)?;
+        let second = self.numbered(second)?;
+        lines.add(format!(in self.alloc; "{first}, {second}")?)
     }
 
-    // All names that are missing, each with the first module that wants it.
-    fn missing(&self, alloc: Global, lines: &mut Lines, name: &str) -> Result<(), AllocError> {
-        let missing = self.inputs.missing(alloc, self.chosen)?;
+    // All names that are defined for other modules, in order.
+    fn defined(&self) -> Result<Vec<&'a [u8]>, AllocError> {
+        let mut names = Vec::new(self.alloc);
+        for import in self.read.input.def.imports.as_slice() {
+            names.push(import.name.bytes())?;
+        }
+        for module in &self.modules {
+            push_defined(&mut names, module)?;
+        }
+        names.sort()?;
+        Ok(names)
+    }
+
+    // The names that modules want of others and that nothing defines, in order.
+    fn missing(&self) -> Result<Vec<&'a [u8]>, AllocError> {
+        let defined = self.defined()?;
+        let mut missing: Vec<&'a [u8]> = Vec::new(self.alloc);
+        for module in &self.modules {
+            for external in module.exts.as_slice() {
+                let name = external.name.bytes();
+                if !external.local && defined.binary_search(&name).is_err() {
+                    missing.push(name)?;
+                }
+            }
+        }
+        missing.sort()?;
+        missing.dedup();
+        Ok(missing)
+    }
+
+    // `x (wanted by a.obj, b.lib(c))`
+    fn wanted(&self, name: &[u8]) -> Result<String, AllocError> {
+        let mut text = shown(self.alloc, name)?;
+        text.push_str(" (wanted by ")?;
+        let mut count = 0;
+        for (place, module) in self.modules.iter().enumerate() {
+            if count < MOST && wants(module, name) {
+                text.push_str(if count == 0 { "" } else { ", " })?;
+                text.push_str(self.name(place)?.as_str())?;
+                count += 1;
+            }
+        }
+        text.push(')')?;
+        Ok(text)
+    }
+
+    // Who wants the names that are missing.
+    fn missing_names(&self, lines: &mut Lines, name: &Name) -> Result<(), AllocError> {
+        let missing = self.missing()?;
         if missing.is_empty() {
-            return lines.add(format!(in alloc;
-                "{name} is the internal name of an export, or a local external: no chosen module defines it as more than a constant, and an export draws none from a library"
-            )?);
+            return self.missing_else(lines, name);
         }
-        let mut text = format!(in alloc; "missing:")?;
-        for (name, pick) in &missing {
-            let name = shown(alloc, name)?;
-            let by = module_name(alloc, self.inputs, *pick)?;
-            let comma = if text.as_str().ends_with(':') {
-                ""
-            } else {
-                ","
-            };
-            let more = format!(in alloc; "{comma} {name} (wanted by {by})")?;
-            text.push_str(more.as_str())?;
+        let mut text = "missing: ".to_string(self.alloc)?;
+        for (place, name) in missing.iter().take(MOST).enumerate() {
+            text.push_str(if place == 0 { "" } else { ", " })?;
+            text.push_str(self.wanted(name)?.as_str())?;
+        }
+        let more = missing.len().saturating_sub(MOST);
+        if more > 0 {
+            text.push_str(format!(in self.alloc; " and {more} more")?.as_str())?;
         }
         lines.add(text)
     }
 
+    // A name that is missing though each module has what it wants of others.
+    fn missing_else(&self, lines: &mut Lines, name: &Name) -> Result<(), AllocError> {
+        let own = shown(self.alloc, name.bytes())?;
+        for (place, module) in self.modules.iter().enumerate() {
+            if has_local(module, name.bytes()) {
+                let by = self.name(place)?;
+                return lines.add(format!(in self.alloc;
+                    "{own} is a local external of {by}, which has no local public of the name"
+                )?);
+            }
+        }
+        lines.add(format!(in self.alloc;
+            "{own} is the internal name of an export: no chosen module defines it as more than a constant, and an export draws none from a library"
+        )?)
+    }
+
     // The module and the segment of a fixup, and its offset.
-    fn fixup(&self, alloc: Global, lines: &mut Lines, fields: &str) -> Result<(), AllocError> {
-        let (Some(number), Some(segment), Some(offset)) = (
-            number_field(fields, 0),
-            number_field(fields, 1),
-            number_field(fields, 2),
-        ) else {
-            return Ok(());
+    fn fixup(
+        &self,
+        lines: &mut Lines,
+        (number, segment, offset): (u32, u32, u32),
+    ) -> Result<(), AllocError> {
+        let of = self.numbered(number)?;
+        let module = (number as usize)
+            .checked_sub(1)
+            .and_then(|place| self.modules.get(place));
+        let name = match module.and_then(|module| {
+            let place = (segment as usize).checked_sub(1)?;
+            module.segs.as_slice().get(place)
+        }) {
+            Some(own) => shown(self.alloc, own.name.bytes())?,
+            None => "not known".to_string(self.alloc)?,
         };
-        let of = self.numbered(alloc, number)?;
-        let name = match self.segment(number, segment) {
-            Some(name) => shown(alloc, name)?,
-            None => "not known".to_string(alloc)?,
-        };
-        lines.add(format!(in alloc;
+        lines.add(format!(in self.alloc;
             "{of}, its segment {segment} is {name}; offset {offset} is {offset:X}h"
         )?)
     }
 
-    fn segment(&self, number: usize, segment: usize) -> Option<&'a [u8]> {
-        let (_, module) = self.inputs.module(self.pick(number)?)?;
-        module.segments.get(segment.checked_sub(1)?).copied()
-    }
-
-    // The modules that have a segment of this name.
-    fn holders(&self, alloc: Global, lines: &mut Lines, name: &str) -> Result<(), AllocError> {
-        let mut text = format!(in alloc; "the segment {name} stands in")?;
-        for pick in &self.chosen.picks {
-            if let Some((_, module)) = self.inputs.module(*pick) {
-                if has_segment(alloc, module, name)? {
-                    text.push(' ')?;
-                    text.push_str(module_name(alloc, self.inputs, *pick)?.as_str())?;
-                }
+    // The modules that have a segment, or a group, of this name.
+    fn holders(&self, lines: &mut Lines, part: Part, name: &Name) -> Result<(), AllocError> {
+        let own = shown(self.alloc, name.bytes())?;
+        let what = part.word();
+        let mut text = format!(in self.alloc; "the {what} {own} stands in")?;
+        for (place, module) in self.modules.iter().enumerate() {
+            if part.stands_in(module, name.bytes()) {
+                text.push(' ')?;
+                text.push_str(self.name(place)?.as_str())?;
             }
         }
         lines.add(text)
     }
 
-    // What the object file imports, which image cannot.
-    fn import(&self, alloc: Global, lines: &mut Lines) -> Result<(), AllocError> {
-        let first = self.pick(1).and_then(|pick| self.inputs.module(pick));
-        if let Some((name, module)) = first.and_then(|(_, module)| module.import) {
-            let name = shown(alloc, name)?;
-            let module = shown(alloc, module)?;
-            lines.add(format!(in alloc;
-                "the first import is {name}, of the module {module} (IMPDEF)"
-            )?)?;
+    /// What the object file imports, which cannot be shown.
+    pub fn import(&self, lines: &mut Lines) -> Result<(), AllocError> {
+        match self
+            .modules
+            .iter()
+            .find_map(|module| module.imports.as_slice().first())
+        {
+            Some(import) => {
+                let name = shown(self.alloc, import.name.bytes())?;
+                let module = shown(self.alloc, import.module.bytes())?;
+                lines.add(format!(in self.alloc;
+                    "the first import is {name}, of the module {module} (IMPDEF)"
+                )?)
+            }
+            None => Ok(()),
         }
-        Ok(())
     }
 
-    /// Notes on a refusal of this link.
-    pub fn notes(
-        &self,
-        alloc: Global,
-        lines: &mut Lines,
-        kind: &str,
-        fields: &str,
-    ) -> Result<(), AllocError> {
-        match kind {
-            "Twice" => self.twice(alloc, lines, fields),
-            "Missing" => self.missing(alloc, lines, fields),
-            "FarSelf" | "FrameApart" | "ConstSelector" => self.fixup(alloc, lines, fields),
-            "AbsoluteSeg" | "UseMixed" | "TooLarge" => self.holders(alloc, lines, fields),
-            "NoModule" => self.import(alloc, lines),
-            "StartOutside" => match number_field(fields, 0) {
-                Some(number) => lines.add(self.numbered(alloc, number)?),
-                None => Ok(()),
-            },
-            _ => Ok(()),
+    /// Notes on the refusal.
+    pub fn notes(&self, lines: &mut Lines, refusal: &LinkRefusal) -> Result<(), AllocError> {
+        match refusal {
+            LinkRefusal::Sym(SymRefusal::Twice { first, second, .. })
+            | LinkRefusal::Comdat(ComdatRefusal::Clash { first, second, .. }) => {
+                self.both(lines, *first, *second)
+            }
+            LinkRefusal::Sym(SymRefusal::Missing { name }) => self.missing_names(lines, name),
+            LinkRefusal::Lay(
+                LayRefusal::AbsoluteSeg { seg }
+                | LayRefusal::UseMixed { seg }
+                | LayRefusal::TooLarge { seg },
+            ) => self.holders(lines, Part::Segment, seg),
+            LinkRefusal::Lay(LayRefusal::GroupSplit { group }) => {
+                self.holders(lines, Part::Group, group)
+            }
+            LinkRefusal::Fixing(refusal) => self.fixing(lines, *refusal),
+            LinkRefusal::Sym(SymRefusal::ImportsMany { .. })
+            | LinkRefusal::Entry(EntryRefusal::Ordinal { .. } | EntryRefusal::NameTwice { .. }) => {
+                Ok(())
+            }
+        }
+    }
+
+    fn fixing(&self, lines: &mut Lines, refusal: FixRefusal) -> Result<(), AllocError> {
+        match refusal {
+            FixRefusal::FarSelf {
+                module,
+                seg,
+                offset,
+            }
+            | FixRefusal::FrameApart {
+                module,
+                seg,
+                offset,
+            }
+            | FixRefusal::ConstSelector {
+                module,
+                seg,
+                offset,
+            } => self.fixup(lines, (module, seg, offset)),
+            FixRefusal::StartOutside { module } => lines.add(self.numbered(module)?),
         }
     }
 }
 
-fn has_segment(alloc: Global, module: &Outline<'_>, name: &str) -> Result<bool, AllocError> {
-    for own in &module.segments {
-        if shown(alloc, own)?.as_str() == name {
-            return Ok(true);
-        }
-    }
-    Ok(false)
+// What an object file may have of a name.
+#[derive(Clone, Copy)]
+enum Part {
+    Segment,
+    Group,
 }
 
-/// What a kind of a link's refusal means.
-pub fn link_meaning(
-    alloc: Global,
-    lines: &mut Lines,
-    file: &str,
-    kind: &str,
-) -> Result<(), AllocError> {
-    match link_kind(kind) {
-        Some(means) => lines.add(format!(in alloc; "{file}: {kind}: {means}")?),
-        None => Ok(()),
+impl Part {
+    fn word(self) -> &'static str {
+        match self {
+            Part::Segment => "segment",
+            Part::Group => "group",
+        }
     }
+
+    // The module has one of this name.
+    fn stands_in(self, module: &ObjModule, name: &[u8]) -> bool {
+        match self {
+            Part::Segment => has_segment(module, name),
+            Part::Group => has_group(module, name),
+        }
+    }
+}
+
+// The names that a module defines for others, its communals among them.
+fn push_defined<'a>(names: &mut Vec<&'a [u8]>, module: &'a ObjModule) -> Result<(), AllocError> {
+    for public in module.pubs.as_slice() {
+        if !public.local {
+            names.push(public.name.bytes())?;
+        }
+    }
+    for import in module.imports.as_slice() {
+        names.push(import.name.bytes())?;
+    }
+    for external in module.exts.as_slice() {
+        if external.common.is_some() && !external.local {
+            names.push(external.name.bytes())?;
+        }
+    }
+    Ok(())
+}
+
+fn wants(module: &ObjModule, name: &[u8]) -> bool {
+    module.exts.as_slice().iter().any(|external| !external.local && external.name.bytes() == name)
+}
+
+// Whether a name is a local external of a module that has no local public of the name.
+fn has_local(module: &ObjModule, name: &[u8]) -> bool {
+    let is_wanted = module
+        .exts
+        .as_slice()
+        .iter()
+        .any(|external| external.local && external.name.bytes() == name);
+    is_wanted
+        && !module
+            .pubs
+            .as_slice()
+            .iter()
+            .any(|public| public.local && public.name.bytes() == name)
+}
+
+fn has_segment(module: &ObjModule, name: &[u8]) -> bool {
+    module
+        .segs
+        .as_slice()
+        .iter()
+        .any(|segment| segment.name.bytes() == name)
+}
+
+fn has_group(module: &ObjModule, name: &[u8]) -> bool {
+    module
+        .groups
+        .as_slice()
+        .iter()
+        .any(|group| group.name.bytes() == name)
 }

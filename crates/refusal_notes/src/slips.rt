@@ -1,7 +1,13 @@
 //! What is noticed of the files that a link reads, for warnings once it has succeeded.
 
-use note_lines::Lines;
-use omf_outline::{Record, next_place, record_at, shown};
+use crate::lines::Lines;
+use crate::links::shown;
+use crate::looks::word_at;
+use crate::records::{Record, record_at};
+use lx_model::header_fields::{EIP_OBJECT, MODULE_FLAGS};
+use lx_types::MODULE_LIBRARY;
+use omf_frame::comment_class::DEFAULT_LIBRARY;
+use omf_frame::record_type::{COMENT, LHEADR, LIBRARY_HEADER, THEADR};
 use std::alloc::{AllocError, Global};
 
 /// What was noticed of one object file.
@@ -26,23 +32,31 @@ pub struct Slips {
     is_startless: bool,
 }
 
+/// The classes of comments that declare weak and lazy externals.
+const WEAK: u8 = 0xA8;
+
+const LAZY: u8 = 0xA9;
+
+/// The bit of MODEND's first byte by which the module has a start address.
+const HAS_START: u8 = 0x40;
+
 const WINDOW_WORDS: [&str; 3] = ["WINDOWAPI", "WINDOWCOMPAT", "NOTWINDOWCOMPAT"];
 
 // The default library of a comment, and whether it declares weak externals.
 fn library_of<'a>(record: &Record<'a>) -> Option<&'a [u8]> {
-    if record.kind == 0x88 && record.body.get(1) == Some(&0x9F) {
+    if record.kind == COMENT && record.body.get(1) == Some(&DEFAULT_LIBRARY) {
         return record.body.get(2..);
     }
     None
 }
 
 fn declares_weak(record: &Record<'_>) -> bool {
-    record.kind == 0x88 && matches!(record.body.get(1), Some(0xA8 | 0xA9))
+    record.kind == COMENT && matches!(record.body.get(1), Some(&WEAK | &LAZY))
 }
 
 fn has_start(record: &Record<'_>) -> bool {
     match record.body.first() {
-        Some(kind) => record.is_last() && kind & 0x40 != 0,
+        Some(kind) => record.is_last() && kind & HAS_START != 0,
         None => false,
     }
 }
@@ -67,7 +81,7 @@ fn object_slips(alloc: Global, name: &str, bytes: &[u8]) -> Result<ObjectSlips, 
             slips.has_start = has_start(&record);
             break;
         }
-        at = next_place(&record, None);
+        at = record.end();
     }
     Ok(slips)
 }
@@ -106,10 +120,12 @@ fn line_word(line: &str) -> Option<&'static str> {
 
 // Whether a file is a module that is a program without a start address.
 fn is_startless(bytes: &[u8]) -> bool {
-    let (Some(flags), Some(start)) = (bytes.get(0x10..0x14), bytes.get(0x18..0x1C)) else {
-        return false;
-    };
-    bytes.starts_with(b"LX") && flags[1] & 0x80 == 0 && start == [0, 0, 0, 0].as_slice()
+    let flags = word_at(bytes, usize::from(MODULE_FLAGS));
+    let start = word_at(bytes, usize::from(EIP_OBJECT));
+    match (flags, start) {
+        (Some(flags), Some(0)) => bytes.starts_with(b"LX") && flags & MODULE_LIBRARY == 0,
+        _ => false,
+    }
 }
 
 // The last part of a path, without what stands after its last dot.
@@ -139,11 +155,11 @@ impl Slips {
     pub fn read(&mut self, name: &str, bytes: &[u8]) -> Result<(), AllocError> {
         self.loaded.push(name.to_string(self.alloc)?)?;
         match bytes.first() {
-            Some(0x80 | 0x82) => {
+            Some(&THEADR | &LHEADR) => {
                 let slips = object_slips(self.alloc, name, bytes)?;
                 self.objects.push(slips)?;
             }
-            Some(0xF0) => {}
+            Some(&LIBRARY_HEADER) => {}
             _ => self.read_definition(name, bytes)?,
         }
         Ok(())

@@ -2,9 +2,9 @@
 
 ghost use Rattle.std.specs.Prelude.{◌≡◌};
 
+use crate::lines::{Lines, Mark};
 use crate::slips::Slips;
 use lx_ports::{Files, LoadFault, SaveFault};
-use note_lines::{Lines, Mark};
 use std::alloc::{AllocError, Global};
 
 /// Where lines for a reader go, as standard error. It may drop them.
@@ -20,7 +20,6 @@ pub struct Watched<F, T> {
     tell: T,
     alloc: Global,
     slips: Slips,
-    saved: Option<bool>,
 }
 
 impl<F: Files, T: Tell> Watched<F, T> {
@@ -33,13 +32,7 @@ impl<F: Files, T: Tell> Watched<F, T> {
             tell,
             alloc,
             slips: Slips::new(alloc),
-            saved: None,
         }
-    }
-
-    /// Whether a save was tried, and whether it went well.
-    pub fn saved(&self) -> Option<bool> {
-        self.saved
     }
 
     /// The files that were watched.
@@ -91,8 +84,6 @@ impl<F: Files, T: Tell> Files for Watched<F, T> {
     fn save(&mut self, name: &str, bytes: &[u8]) -> Result<(), SaveFault> {
         let _ = self.warn_of_loss(name);
         self.slips.save(bytes);
-        let answer = self.files.save(name, bytes);
-        self.saved = Some(answer.is_ok());
-        answer
+        self.files.save(name, bytes)
     }
 }

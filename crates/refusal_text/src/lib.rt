@@ -1,12 +1,12 @@
-//! What is told of a refusal after the name of its file: where it is, its kind, and its fields.
+//! What was refused, as a value, and what is told of it: after the name of its file where it is, its kind, and its fields.
 #![tactic(auto)]
 
 mod files;
+mod lines;
 mod links;
+mod refused;
 mod resources;
 mod sessions;
 
-pub use files::{def_text, lx_text, omf_text};
-pub use links::{comdat_text, entry_text, fix_text, lay_text, sym_text};
-pub use resources::{bind_text, res_text};
-pub use sessions::{library_text, session_text};
+pub use lines::file_line;
+pub use refused::{Cause, FileFault, LinkFile, LinkFiles, Refused};

@@ -2,9 +2,10 @@
 
 ghost use Rattle.std.specs.Prelude.{◌≡◌, ◌++◌, IfOk, OnOk, codes};
 ghost use Rattle.answer_model.specs.FileRefusals.{field};
+ghost use Rattle.answer_model.specs.LinkAnswer.{link_text};
 ghost use Rattle.answer_model.specs.LinkRefusals.{named, fixup, sym_text, comdat_text, lay_text, fix_text, entry_text};
 
-use link_model::{ComdatRefusal, EntryRefusal, FixRefusal, LayRefusal, SymRefusal};
+use link_model::{ComdatRefusal, EntryRefusal, FixRefusal, LayRefusal, LinkRefusal, SymRefusal};
 use lx_types::{Name, push_escaped};
 use std::alloc::{AllocError, Global};
 
@@ -26,8 +27,8 @@ fn name_text(alloc: Global, kind: &str, name: &Name) -> Result<Vec<u8>, AllocErr
     Ok(text)
 }
 
-/// What is told of a refusal of a link's symbols: the kind, and the fields.
-pub fn sym_text(alloc: Global, refusal: &SymRefusal) -> Result<Vec<u8>, AllocError>
+// What is told of a refusal of a link's symbols: the kind, and the fields.
+fn sym_text(alloc: Global, refusal: &SymRefusal) -> Result<Vec<u8>, AllocError>
     ensures { IfOk result (λ text. text.items ≡ sym_text refusal.now) }
 {
     match refusal {
@@ -48,8 +49,8 @@ pub fn sym_text(alloc: Global, refusal: &SymRefusal) -> Result<Vec<u8>, AllocErr
     }
 }
 
-/// What is told of a refusal of a link's COMDATs.
-pub fn comdat_text(alloc: Global, refusal: &ComdatRefusal) -> Result<Vec<u8>, AllocError>
+// What is told of a refusal of a link's COMDATs.
+fn comdat_text(alloc: Global, refusal: &ComdatRefusal) -> Result<Vec<u8>, AllocError>
     ensures { IfOk result (λ text. text.items ≡ comdat_text refusal.now) }
 {
     let ComdatRefusal::Clash {
@@ -63,8 +64,8 @@ pub fn comdat_text(alloc: Global, refusal: &ComdatRefusal) -> Result<Vec<u8>, Al
     Ok(text)
 }
 
-/// What is told of a refusal of a link's layout.
-pub fn lay_text(alloc: Global, refusal: &LayRefusal) -> Result<Vec<u8>, AllocError>
+// What is told of a refusal of a link's layout.
+fn lay_text(alloc: Global, refusal: &LayRefusal) -> Result<Vec<u8>, AllocError>
     ensures { IfOk result (λ text. text.items ≡ lay_text refusal.now) }
 {
     match refusal {
@@ -89,8 +90,8 @@ fn fixup_text(
     Ok(text.into_bytes())
 }
 
-/// What is told of a refusal of a link's fixups, or of its start.
-pub fn fix_text(alloc: Global, refusal: FixRefusal) -> Result<Vec<u8>, AllocError>
+// What is told of a refusal of a link's fixups, or of its start.
+fn fix_text(alloc: Global, refusal: FixRefusal) -> Result<Vec<u8>, AllocError>
     ensures { IfOk result (λ text. text.items ≡ fix_text refusal) }
 {
     match refusal {
@@ -115,12 +116,25 @@ pub fn fix_text(alloc: Global, refusal: FixRefusal) -> Result<Vec<u8>, AllocErro
     }
 }
 
-/// What is told of a refusal of a link's exports.
-pub fn entry_text(alloc: Global, refusal: &EntryRefusal) -> Result<Vec<u8>, AllocError>
+// What is told of a refusal of a link's exports.
+fn entry_text(alloc: Global, refusal: &EntryRefusal) -> Result<Vec<u8>, AllocError>
     ensures { IfOk result (λ text. text.items ≡ entry_text refusal.now) }
 {
     match refusal {
         EntryRefusal::Ordinal { n } => Ok(format!(in alloc; "Ordinal {n}")?.into_bytes()),
         EntryRefusal::NameTwice { name } => name_text(alloc, "NameTwice", name),
+    }
+}
+
+/// What is told of a link's refusal: the kind, and the fields.
+pub fn link_text(alloc: Global, refusal: &LinkRefusal) -> Result<Vec<u8>, AllocError>
+    ensures { IfOk result (λ text. text.items ≡ link_text refusal.now) }
+{
+    match refusal {
+        LinkRefusal::Sym(own) => sym_text(alloc, own),
+        LinkRefusal::Comdat(own) => comdat_text(alloc, own),
+        LinkRefusal::Lay(own) => lay_text(alloc, own),
+        LinkRefusal::Fixing(own) => fix_text(alloc, *own),
+        LinkRefusal::Entry(own) => entry_text(alloc, own),
     }
 }

@@ -6,7 +6,6 @@ use Rattle.std.proofs.lemmas.List.Concat.{flat_map-append}
 use Rattle.lx_types.specs.declared.fail.Fail.{Fail}
 use Rattle.lx_types.specs.declared.fail.Fail.TheVariants as fail
 use Rattle.lx_types.specs.declared.parts.Parts.{Parts}
-use Rattle.obj_types.specs.declared.input.LinkInput.{LinkInput}
 use Rattle.link_model.specs.Link.{IsLinkOf}
 use Rattle.lx_ports.specs.Calls.{Call, load, save}
 use Rattle.lx_ports.specs.Files.{FilesState}
@@ -16,6 +15,9 @@ use Rattle.run_model.specs.Sources.{Source, taken, built, library_of, module_fro
 use Rattle.session_model.specs.declared.sessions.ModLine.{ModLine}
 use Rattle.session_model.specs.declared.sessions.ModLine.TheVariants.{Take, Build}
 use Rattle.answer_model.specs.declared.said.Said.{Said}
+use Rattle.refusal_text.specs.declared.refused.LinkFiles.{LinkFiles}
+use Rattle.refusal_text.specs.declared.refused.Refused.{Refused}
+use Rattle.refusal_text.specs.Refusals.{said_of}
 use Rattle.answer_model.specs.LinkAnswer.{input_with}
 use Rattle.answer_model.specs.Loading.{AreBegun, AreRead, IsLoadWith, IsRefused, IsStopped}
 use Rattle.answer_model.specs.AskedFiles.{Asked}
@@ -46,11 +48,11 @@ stopped_begun f calls said is =
     (subst Q (sym is.calls_are) (begun_joined is.before (is.here ∷ is.after) is.earlier (is.call ∷ []) is.items is.read (begun_to is.here is.after is.call (load_refused is.here is.call said is.refused))))
 
 -- Its files were not all read.
-pub unread_line : {T : Type 0} (P : T → List Item → Type 0) (line : ModLine) (before now : FilesState) (why : Fail Said) → ReadsInTurn P (asked_line line) before now (Err why) → DoesLine line before now (Err why)
-unread_line P line before now (fail.Said said) walk = record {
+pub unread_line : {T : Type 0} (P : T → List Item → Type 0) (line : ModLine) (before now : FilesState) (why : Fail Refused) → ReadsInTurn P (asked_line line) before now (Err why) → DoesLine line before now (Err why)
+unread_line P line before now (fail.Said refused) walk = record {
   calls = walk.calls;
   loads = walk.loads;
-  begun = stopped_begun (asked_line line) walk.calls said walk.reads;
+  begun = stopped_begun (asked_line line) walk.calls (said_of refused) walk.reads;
   answer = inl walk.reads;
 }
 unread_line P line before now fail.NoMemory walk = record { calls = walk.calls; loads = walk.loads; begun = walk.reads; answer = tt }
@@ -60,7 +62,7 @@ pub no_line : (line : ModLine) (state : FilesState) → DoesLine line state stat
 no_line line state = record { calls = []; loads = no_loads state; begun = tt; answer = tt }
 
 -- A file was taken.
-pub taken_line : (file : List ℕ) (answer : Result (List ℕ) LoadFault) (before now : FilesState) (r : Result Parts (Fail Said)) → IsOneLoad file answer before now → ReadsLoad linked module_file file answer r
+pub taken_line : (file : List ℕ) (answer : Result (List ℕ) LoadFault) (before now : FilesState) (r : Result Parts (Fail Refused)) → IsOneLoad file answer before now → ReadsLoad linked module_file file answer r
     → DoesLine (Take file) before now r
 taken_line file answer before now (Ok m) one is = record {
   calls = load file answer ∷ [];
@@ -73,11 +75,11 @@ taken_line file answer before now (Ok m) one is = record {
     sound = tt;
   };
 }
-taken_line file answer before now (Err (fail.Said said)) one is = record {
+taken_line file answer before now (Err (fail.Said refused)) one is = record {
   calls = load file answer ∷ [];
   loads = one_load file answer before now one;
   begun = begun_one (asked module_file file) [] answer;
-  answer = inl (stopped_one (asked module_file file) [] answer said is);
+  answer = inl (stopped_one (asked module_file file) [] answer (said_of refused) is);
 }
 taken_line file answer before now (Err fail.NoMemory) one is = record {
   calls = load file answer ∷ [];
@@ -87,11 +89,11 @@ taken_line file answer before now (Err fail.NoMemory) one is = record {
 }
 
 -- All files of a module that is built were read, and link or not.
-module _ (stem def : List ℕ) (names : List (List ℕ)) (before now : FilesState) (input : LinkInput) where
+module _ (stem def : List ℕ) (names : List (List ℕ)) (before now : FilesState) (files : LinkFiles) where
   abbrev pub Reads : Type 0
-  Reads = ReadsInTurn (λ (i : LinkInput) items. i ≡ input_with stem items) (asked_definition (definition_of def) ++ asked_inputs names) before now (Ok input)
+  Reads = ReadsInTurn (λ (f : LinkFiles) items. f.input ≡ input_with stem items) (asked_definition (definition_of def) ++ asked_inputs names) before now (Ok files)
 
-  pub built_line : (r : Result Parts (Fail Said)) → Reads → LinksInput stem input r → DoesLine (Build stem def names) before now r
+  pub built_line : (r : Result Parts (Fail Refused)) → Reads → LinksInput stem files.input r → DoesLine (Build stem def names) before now r
   built_line (Ok parts) walk links = record {
     calls = walk.calls;
     loads = walk.loads;
@@ -103,7 +105,7 @@ module _ (stem def : List ℕ) (names : List (List ℕ)) (before now : FilesStat
       sound = links.well;
     };
   }
-  built_line (Err (fail.Said said)) walk links = record {
+  built_line (Err (fail.Said refused)) walk links = record {
     calls = walk.calls;
     loads = walk.loads;
     begun = read_begun (asked_line (Build stem def names)) walk.calls walk.reads.items walk.reads.read;
@@ -122,22 +124,22 @@ module _ (stem def : List ℕ) (names : List (List ℕ)) (before now : FilesStat
 
 -- The same of a walk whose names are given by equals.
 module _ (stem def own told : List ℕ) (definition : Option (List ℕ)) (names texts : List (List ℕ)) (before now : FilesState) (own_is : own ≡ stem) (definition_is : definition ≡ definition_of def) (texts_are : texts ≡ names) where
-  renamed : (r : Result LinkInput (Fail Said)) → ReadsInTurn (λ (i : LinkInput) items. i ≡ input_with own items) (asked_definition definition ++ asked_inputs texts) before now r
-      → ReadsInTurn (λ (i : LinkInput) items. i ≡ input_with stem items) (asked_line (Build stem def names)) before now r
+  renamed : (r : Result LinkFiles (Fail Refused)) → ReadsInTurn (λ (f : LinkFiles) items. f.input ≡ input_with own items) (asked_definition definition ++ asked_inputs texts) before now r
+      → ReadsInTurn (λ (f : LinkFiles) items. f.input ≡ input_with stem items) (asked_line (Build stem def names)) before now r
   renamed r walk =
-      let P : List ℕ → Type 0 = λ s. ReadsInTurn (λ (i : LinkInput) items. i ≡ input_with s items) (asked_definition definition ++ asked_inputs texts) before now r in
-      let Q : Option (List ℕ) → Type 0 = λ d. ReadsInTurn (λ (i : LinkInput) items. i ≡ input_with stem items) (asked_definition d ++ asked_inputs texts) before now r in
-      let R : List (List ℕ) → Type 0 = λ ns. ReadsInTurn (λ (i : LinkInput) items. i ≡ input_with stem items) (asked_definition (definition_of def) ++ asked_inputs ns) before now r in
+      let P : List ℕ → Type 0 = λ s. ReadsInTurn (λ (f : LinkFiles) items. f.input ≡ input_with s items) (asked_definition definition ++ asked_inputs texts) before now r in
+      let Q : Option (List ℕ) → Type 0 = λ d. ReadsInTurn (λ (f : LinkFiles) items. f.input ≡ input_with stem items) (asked_definition d ++ asked_inputs texts) before now r in
+      let R : List (List ℕ) → Type 0 = λ ns. ReadsInTurn (λ (f : LinkFiles) items. f.input ≡ input_with stem items) (asked_definition (definition_of def) ++ asked_inputs ns) before now r in
       subst R texts_are (subst Q definition_is (subst P own_is walk))
 
-  pub built_from : (input : LinkInput) (r : Result Parts (Fail Said)) → told ≡ stem → ReadsInTurn (λ (i : LinkInput) items. i ≡ input_with own items) (asked_definition definition ++ asked_inputs texts) before now (Ok input)
-      → LinksInput told input r → DoesLine (Build stem def names) before now r
-  built_from input r told_is walk links =
-      let P : List ℕ → Type 0 = λ s. LinksInput s input r in
-      built_line stem def names before now input r (renamed (Ok input) walk) (subst P told_is links)
+  pub built_from : (files : LinkFiles) (r : Result Parts (Fail Refused)) → told ≡ stem → ReadsInTurn (λ (f : LinkFiles) items. f.input ≡ input_with own items) (asked_definition definition ++ asked_inputs texts) before now (Ok files)
+      → LinksInput told files.input r → DoesLine (Build stem def names) before now r
+  built_from files r told_is walk links =
+      let P : List ℕ → Type 0 = λ s. LinksInput s files.input r in
+      built_line stem def names before now files r (renamed (Ok files) walk) (subst P told_is links)
 
-  pub unread_from : (why : Fail Said) → ReadsInTurn (λ (i : LinkInput) items. i ≡ input_with own items) (asked_definition definition ++ asked_inputs texts) before now (Err why) → DoesLine (Build stem def names) before now (Err why)
-  unread_from why walk = unread_line (λ (i : LinkInput) items. i ≡ input_with stem items) (Build stem def names) before now why (renamed (Err why) walk)
+  pub unread_from : (why : Fail Refused) → ReadsInTurn (λ (f : LinkFiles) items. f.input ≡ input_with own items) (asked_definition definition ++ asked_inputs texts) before now (Err why) → DoesLine (Build stem def names) before now (Err why)
+  unread_from why walk = unread_line (λ (f : LinkFiles) items. f.input ≡ input_with stem items) (Build stem def names) before now why (renamed (Err why) walk)
 
 -- ---- lines in turn
 
@@ -212,7 +214,7 @@ begun_among lines after calls begun =
     subst P (sym (flat_map-append asked_line lines after)) begun
 
 -- The next line is stopped, or there is no memory for it.
-pub line_stops : (lines after : List ModLine) (line : ModLine) (before between now : FilesState) (modules : List Parts) (why : Fail Said) → DoneSoFar lines before between modules → DoesLine line between now (Err why)
+pub line_stops : (lines after : List ModLine) (line : ModLine) (before between now : FilesState) (modules : List Parts) (why : Fail Refused) → DoneSoFar lines before between modules → DoesLine line between now (Err why)
     → DoesLines (lines ++ line ∷ after) before now (Err why)
 line_stops lines after line before between now modules why so_far one =
     let files : HasItems (asked_lines lines) so_far.calls = all_done_read lines so_far.calls modules so_far.all in
@@ -224,8 +226,8 @@ line_stops lines after line before between now modules why so_far one =
       answer = by_reason why one;
     }
   where
-    by_reason : (why : Fail Said) (own : DoesLine line between now (Err why)) → AnswersLines (lines ++ line ∷ after) (so_far.calls ++ own.calls) (Err why)
-    by_reason (fail.Said said) own = record {
+    by_reason : (why : Fail Refused) (own : DoesLine line between now (Err why)) → AnswersLines (lines ++ line ∷ after) (so_far.calls ++ own.calls) (Err why)
+    by_reason (fail.Said refused) own = record {
       before = lines;
       here = line;
       after = after;
@@ -278,7 +280,7 @@ module _ (lines behind : List ModLine) (line : ModLine) (rest : List ModLine) (b
     count = length-append modules (parts ∷ []) ∙ ap (λ n. n + 1) so_far.count ∙ sym (length-append so_far.front (line ∷ []));
   })
 
-  pub reached_stop : (why : Fail Said) → DoesLine line between now (Err why) → DoesLines lines before now (Err why)
+  pub reached_stop : (why : Fail Refused) → DoesLine line between now (Err why) → DoesLines lines before now (Err why)
   reached_stop why one =
       subst (λ ls. DoesLines ls before now (Err why)) (sym (so_far.are ∙ ap (λ ls. so_far.front ++ ls) next))
       (line_stops so_far.front rest line before between now modules why so_far.done one)

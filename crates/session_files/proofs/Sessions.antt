@@ -8,12 +8,13 @@ use Rattle.lx_ports.specs.Calls.{Call, load}
 use Rattle.lx_ports.specs.Files.{FilesState}
 use Rattle.lx_ports.specs.declared.files.LoadFault.{LoadFault}
 use Rattle.session_model.specs.declared.sessions.Session.{Session}
-use Rattle.answer_model.specs.declared.said.Said.{Said}
+use Rattle.refusal_text.specs.declared.refused.Refused.{Refused}
+use Rattle.refusal_text.specs.Refusals.{said_of}
 use Rattle.answer_model.specs.Loading.{AreBegun, ReadsAnswer, RefusesAnswer}
 use Rattle.answer_model.specs.Items.{session, session_file}
 use Rattle.answer_model.specs.RunAnswer.{asked_lines, asked_session}
 use Rattle.answer_model.specs.RunEnds.{AreCallsOfRun}
-use Rattle.tool_read.specs.Readings.{SaysOf, asked}
+use Rattle.tool_read.specs.Readings.{RefusedSo, asked}
 use Rattle.tool_read.specs.Steps.{IsOneLoad}
 use Rattle.tool_read.proofs.Walk.{loads_joined, one_load, stopped_one}
 use Rattle.session_files.specs.declared.reading.SessionFiles.{SessionFiles}
@@ -22,11 +23,11 @@ use Rattle.session_files.specs.SessionFiles.{AnswersSession, ReadsSession}
 
 module _ (file : List ℕ) (answer : Result (List ℕ) LoadFault) where
   -- It was not read.
-  pub unread : (before now : FilesState) (why : Fail Said) → IsOneLoad file answer before now → SaysOf (RefusesAnswer (asked session_file file) answer) why → ReadsSession file before now (Err why)
+  pub unread : (before now : FilesState) (why : Fail Refused) → IsOneLoad file answer before now → RefusedSo (RefusesAnswer (asked session_file file) answer) why → ReadsSession file before now (Err why)
   unread before now why one is = record { calls = load file answer ∷ []; loads = one_load file answer before now one; named = (refl, tt); answer = by_reason why is }
     where
-      by_reason : (why : Fail Said) → SaysOf (RefusesAnswer (asked session_file file) answer) why → AnswersSession file (load file answer ∷ []) (Err why)
-      by_reason (fail.Said said) is = inl (refl, stopped_one (asked_session file) [] answer said is)
+      by_reason : (why : Fail Refused) → RefusedSo (RefusesAnswer (asked session_file file) answer) why → AnswersSession file (load file answer ∷ []) (Err why)
+      by_reason (fail.Said refused) is = inl (refl, stopped_one (asked_session file) [] answer (said_of refused) is)
       by_reason fail.NoMemory is = tt
 
   named_behind : (s : Session) (calls : List Call) → ReadsAnswer (asked session_file file) answer (session s) → AreBegun (asked_lines s.modules) calls → AreCallsOfRun file (load file answer ∷ calls)
@@ -34,7 +35,7 @@ module _ (file : List ℕ) (answer : Result (List ℕ) LoadFault) where
   named_behind s (next ∷ calls) is begun = (s, (refl, is), begun)
 
   -- A module line was stopped.
-  pub stopped : (s : Session) (before between now : FilesState) (why : Fail Said) → IsOneLoad file answer before between → ReadsAnswer (asked session_file file) answer (session s) → DoesLines s.modules between now (Err why)
+  pub stopped : (s : Session) (before between now : FilesState) (why : Fail Refused) → IsOneLoad file answer before between → ReadsAnswer (asked session_file file) answer (session s) → DoesLines s.modules between now (Err why)
       → ReadsSession file before now (Err why)
   stopped s before between now why one is lines = record {
     calls = load file answer ∷ lines.calls;
@@ -43,8 +44,8 @@ module _ (file : List ℕ) (answer : Result (List ℕ) LoadFault) where
     answer = by_reason why lines;
   }
     where
-      by_reason : (why : Fail Said) (own : DoesLines s.modules between now (Err why)) → AnswersSession file (load file answer ∷ own.calls) (Err why)
-      by_reason (fail.Said said) own =
+      by_reason : (why : Fail Refused) (own : DoesLines s.modules between now (Err why)) → AnswersSession file (load file answer ∷ own.calls) (Err why)
+      by_reason (fail.Said refused) own =
           inr (record { session_is = s; first = load file answer; read = (refl, is); others = own.calls; says = inl own.answer; calls_are = refl })
       by_reason fail.NoMemory own = tt
 

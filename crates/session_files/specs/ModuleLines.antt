@@ -20,6 +20,8 @@ use Rattle.session_model.specs.declared.sessions.ModLine.{ModLine}
 use Rattle.session_model.specs.declared.sessions.Session.{Session}
 use Rattle.session_text.specs.Writable.{IsWritable}
 use Rattle.answer_model.specs.declared.said.Said.{Said}
+use Rattle.refusal_text.specs.declared.refused.Refused.{Refused}
+use Rattle.refusal_text.specs.Refusals.{said_of}
 use Rattle.answer_model.specs.FileLine.{file_line}
 use Rattle.answer_model.specs.LinkAnswer.{link_text}
 use Rattle.answer_model.specs.Loading.{AreBegun, IsStopped}
@@ -52,9 +54,9 @@ pub record IsUnlinked (stem : List ℕ) (input : LinkInput) (said : Said) : Type
   pub refused : option_map link_text (link_refusal link) ≡ Some text
   pub told : said ≡ record { status = 1; text = file_line stem text }
 
-abbrev pub LinksInput : List ℕ → LinkInput → Result Parts (Fail Said) → Type 0
+abbrev pub LinksInput : List ℕ → LinkInput → Result Parts (Fail Refused) → Type 0
 LinksInput stem input (Ok parts) = IsLinkedModule input parts
-LinksInput stem input (Err (fail.Said said)) = IsUnlinked stem input said
+LinksInput stem input (Err (fail.Said refused)) = IsUnlinked stem input (said_of refused)
 LinksInput stem input (Err fail.NoMemory) = Unit {0}
 
 -- ---- one line
@@ -66,13 +68,13 @@ pub record IsDoneWith (line : ModLine) (calls : List Call) (parts : Parts) : Typ
   pub module_is : parts ≡ module_from source
   pub sound : IsSound source
 
-abbrev pub AnswersLine : ModLine → List Call → Result Parts (Fail Said) → Type 0
+abbrev pub AnswersLine : ModLine → List Call → Result Parts (Fail Refused) → Type 0
 AnswersLine line calls (Ok parts) = IsDoneWith line calls parts
-AnswersLine line calls (Err (fail.Said said)) = IsStopped (asked_line line) calls said ⊎ IsFailedLine line calls said
+AnswersLine line calls (Err (fail.Said refused)) = IsStopped (asked_line line) calls (said_of refused) ⊎ IsFailedLine line calls (said_of refused)
 AnswersLine line calls (Err fail.NoMemory) = Unit {0}
 
 -- Between two moments the files of the line were loaded, up to the first that was refused.
-pub record DoesLine (line : ModLine) (before now : FilesState) (result : Result Parts (Fail Said)) : Type 0 where
+pub record DoesLine (line : ModLine) (before now : FilesState) (result : Result Parts (Fail Refused)) : Type 0 where
   pub calls : List Call
   pub loads : AreLoads calls before now
   pub begun : AreBegun (asked_line line) calls
@@ -87,19 +89,19 @@ pub record AreDoneWith (lines : List ModLine) (calls : List Call) (modules : Lis
   pub modules_are : modules ≡ library_of sources
   pub sound : AllByRecursion IsSound sources
 
-abbrev pub AnswersLines : List ModLine → List Call → Result (List Parts) (Fail Said) → Type 0
+abbrev pub AnswersLines : List ModLine → List Call → Result (List Parts) (Fail Refused) → Type 0
 AnswersLines lines calls (Ok modules) = AreDoneWith lines calls modules
-AnswersLines lines calls (Err (fail.Said said)) = IsStoppedLine lines calls said
+AnswersLines lines calls (Err (fail.Said refused)) = IsStoppedLine lines calls (said_of refused)
 AnswersLines lines calls (Err fail.NoMemory) = Unit {0}
 
 -- Between two moments they were done in turn, up to the first that was stopped.
-pub record DoesLines (lines : List ModLine) (before now : FilesState) (result : Result (List Parts) (Fail Said)) : Type 0 where
+pub record DoesLines (lines : List ModLine) (before now : FilesState) (result : Result (List Parts) (Fail Refused)) : Type 0 where
   pub calls : List Call
   pub loads : AreLoads calls before now
   pub begun : AreBegun (asked_lines lines) calls
   pub answer : AnswersLines lines calls result
 
 -- what a list of modules holds
-abbrev pub listed : Result (Vec Parts Global) (Fail Said) → Result (List Parts) (Fail Said)
+abbrev pub listed : Result (Vec Parts Global) (Fail Refused) → Result (List Parts) (Fail Refused)
 listed (Ok modules) = Ok modules.items
 listed (Err why) = Err why

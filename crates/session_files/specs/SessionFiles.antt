@@ -9,7 +9,8 @@ use Rattle.lx_ports.specs.Files.{FilesState}
 use Rattle.run_laws.specs.Bridge.{IsSound}
 use Rattle.run_model.specs.Sources.{Source, library_of}
 use Rattle.session_model.specs.Bounds.{IsSession}
-use Rattle.answer_model.specs.declared.said.Said.{Said}
+use Rattle.refusal_text.specs.declared.refused.Refused.{Refused}
+use Rattle.refusal_text.specs.Refusals.{said_of}
 use Rattle.answer_model.specs.Loading.{IsRead}
 use Rattle.answer_model.specs.Items.{session}
 use Rattle.answer_model.specs.RunAnswer.{AreGiven, SaysRun, asked_session}
@@ -33,13 +34,13 @@ pub record AreSessionFiles (file : List ℕ) (calls : List Call) (it : SessionFi
   pub bounded : IsSession it.session
 
 -- With these calls the files were read and the lines done, or this is said of the first that was not.
-abbrev pub AnswersSession : List ℕ → List Call → Result SessionFiles (Fail Said) → Type 0
+abbrev pub AnswersSession : List ℕ → List Call → Result SessionFiles (Fail Refused) → Type 0
 AnswersSession file calls (Ok it) = AreSessionFiles file calls it
-AnswersSession file calls (Err (fail.Said said)) = SaysRun file calls said None
+AnswersSession file calls (Err (fail.Said refused)) = SaysRun file calls (said_of refused) None
 AnswersSession file calls (Err fail.NoMemory) = Unit {0}
 
 -- Between two moments the files had these loads, of just what the session names.
-pub record ReadsSession (file : List ℕ) (before now : FilesState) (result : Result SessionFiles (Fail Said)) : Type 0 where
+pub record ReadsSession (file : List ℕ) (before now : FilesState) (result : Result SessionFiles (Fail Refused)) : Type 0 where
   pub calls : List Call
   pub loads : AreLoads calls before now
   pub named : AreCallsOfRun file calls

@@ -5,43 +5,34 @@ ghost use Rattle.lx_model.specs.Module.{IsRead};
 ghost use Rattle.obj_types.specs.Input.{WholeInput};
 ghost use Rattle.session_model.specs.declared.sessions.ModLine.TheVariants as mod_line;
 ghost use Rattle.session_text.specs.Writable.{IsPlainModule};
-ghost use Rattle.answer_model.specs.FileLine.{file_line};
-ghost use Rattle.answer_model.specs.LinkAnswer.{link_text};
 ghost use Rattle.session_files.specs.ModuleLines.{DoesLine, LinksInput};
 
 use crate::texts::{text_of, texts_of};
-use answer_model::{REFUSED, Said};
 use command_line::definition_of;
 use layer_laws::{input_range, linked_files_mean_their_links};
 use link_core::link;
-use link_model::LinkRefusal;
 use lx_ports::Files;
 use lx_read::read_faultless;
 use lx_types::{Fail, Module, Name, NoMemory};
-use obj_types::LinkInput;
+use refusal_text::{Cause, LinkFiles, Refused};
 use session_model::Words;
 use std::alloc::Global;
-use tool_read::{link_text, read_input_with, said};
+use tool_read::read_input_with;
 
-// What is said of a link that is refused.
-fn refused(alloc: Global, stem: &str, refusal: &LinkRefusal) -> Result<Said, NoMemory>
-    ensures { IfOk result (λ said. said ≡ record { status = 1; text = file_line stem.now (link_text refusal.now) }) }
-{
-    let text = link_text(alloc, refusal)?;
-    said(alloc, REFUSED, stem, &text)
-}
-
-// The module that an input is linked to.
-fn linked(alloc: Global, stem: &str, input: &LinkInput) -> Result<Module, Fail<Said>>
-    requires { WholeInput input.now }
-    ensures linked { LinksInput stem.now input.now result }
+// The module that files are linked to.
+fn linked(alloc: Global, stem: &str, files: LinkFiles) -> Result<Module, Fail<Refused>>
+    requires { WholeInput files.input }
+    ensures linked { LinksInput stem.now files.input result }
     ensures whole { IfOk result IsRead }
 {
-    input_range(input);
+    input_range(&files.input);
     linked_files_mean_their_links();
-    match link(alloc, input) {
+    match link(alloc, &files.input) {
         Ok(file) => Ok(read_faultless(alloc, file)?),
-        Err(Fail::Said(refusal)) => Err(Fail::Said(refused(alloc, stem, &refusal)?)),
+        Err(Fail::Said(refusal)) => {
+            let cause = Cause::Unlinked { refusal, files };
+            Err(Fail::Said(Refused::of(alloc, stem, cause)?))
+        }
         Err(Fail::NoMemory) => Err(Fail::NoMemory),
     }
 }
@@ -53,7 +44,7 @@ pub fn build<F: Files>(
     stem: &Name,
     def: &Name,
     inputs: &Words,
-) -> Result<Module, Fail<Said>>
+) -> Result<Module, Fail<Refused>>
     requires { IsPlainModule (mod_line.Build stem.now def.now inputs.now) }
     ensures done { DoesLine (mod_line.Build stem.now def.now inputs.now) (F.state files.old) (F.state files.new) result }
     ensures whole { IfOk result IsRead }
@@ -62,7 +53,7 @@ pub fn build<F: Files>(
     let inputs = texts_of(alloc, inputs)?;
     let definition = definition_of(text_of(def));
     match read_input_with(alloc, files, name, definition, &inputs) {
-        Ok(input) => linked(alloc, text_of(stem), &input),
+        Ok(read) => linked(alloc, text_of(stem), read),
         Err(why) => Err(why),
     }
 }

@@ -7,9 +7,9 @@ ghost use Rattle.session_files.specs.ModuleLines.{DoesLine, DoesLines, listed};
 
 use crate::building::build;
 use crate::texts::text_of;
-use answer_model::Said;
 use lx_ports::Files;
 use lx_types::{Fail, Module};
+use refusal_text::Refused;
 use session_model::{ModLine, ModLines};
 use session_read::first_kept;
 use std::alloc::Global;
@@ -20,7 +20,7 @@ fn module_given<F: Files>(
     alloc: Global,
     files: &mut F,
     line: &ModLine,
-) -> Result<Module, Fail<Said>>
+) -> Result<Module, Fail<Refused>>
     requires { IsPlainModule line.now }
     ensures done { DoesLine line.now (F.state files.old) (F.state files.new) result }
     ensures whole { IfOk result IsRead }
@@ -40,7 +40,7 @@ pub fn modules_given<F: Files>(
     alloc: Global,
     files: &mut F,
     lines: &ModLines,
-) -> Result<Vec<Module>, Fail<Said>>
+) -> Result<Vec<Module>, Fail<Refused>>
     requires { All IsPlainModule lines.now }
     ensures done { DoesLines lines.now (F.state files.old) (F.state files.new) (listed result) }
     ensures whole { IfOk result (λ modules. All IsRead modules.items) }

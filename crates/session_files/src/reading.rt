@@ -9,9 +9,9 @@ ghost use Rattle.session_files.specs.SessionFiles.{ReadsSession};
 
 use crate::laws::sessions_are_short;
 use crate::module_lines::modules_given;
-use answer_model::Said;
 use lx_ports::Files;
 use lx_types::{Fail, Module};
+use refusal_text::Refused;
 use session_model::Session;
 use session_text::sessions_are_writable;
 use std::alloc::Global;
@@ -25,7 +25,7 @@ pub struct SessionFiles {
 }
 
 // The session that a file says.
-fn session_in<F: Files>(alloc: Global, files: &mut F, file: &str) -> Result<Session, Fail<Said>>
+fn session_in<F: Files>(alloc: Global, files: &mut F, file: &str) -> Result<Session, Fail<Refused>>
     ensures read { (answer : Result (List ℕ) LoadFault)
         × IsOneLoad file.now answer (F.state files.old) (F.state files.new)
         × ReadsLoad session session_file file.now answer result }
@@ -46,7 +46,7 @@ pub fn read_session_files<F: Files>(
     alloc: Global,
     files: &mut F,
     file: &str,
-) -> Result<SessionFiles, Fail<Said>>
+) -> Result<SessionFiles, Fail<Refused>>
     ensures read { ReadsSession file.now (F.state files.old) (F.state files.new) result }
 {
     match session_in(alloc, files, file) {

@@ -15,4 +15,5 @@ mod meanings;
 mod names;
 
 pub use binding::bind;
+pub use choosing::choose_by_names;
 pub use link_types::Symbols;

@@ -9,11 +9,13 @@ use Rattle.lx_ports.specs.Calls.{Call, load, save}
 use Rattle.lx_ports.specs.Files.{Contents, FilesState, IsLoadOf}
 use Rattle.lx_ports.specs.declared.files.LoadFault.{LoadFault}
 use Rattle.answer_model.specs.declared.said.Said.{Said}
+use Rattle.refusal_text.specs.declared.refused.Refused.{Refused}
+use Rattle.refusal_text.specs.Refusals.{said_of}
 use Rattle.answer_model.specs.Ends.{IsTold}
 use Rattle.answer_model.specs.Loading.{AreBegun, AreRead, IsLoadWith, IsRead, IsStopped, ReadsAnswer, RefusesAnswer, file_limit}
 use Rattle.answer_model.specs.AskedFiles.{Asked}
 use Rattle.answer_model.specs.Items.{Item, Kind}
-use Rattle.tool_read.specs.Readings.{ReadsLoad, SaysOf, asked}
+use Rattle.tool_read.specs.Readings.{ReadsLoad, asked, RefusedSo}
 use Rattle.tool_read.specs.Steps.{AreLoads, GivesAll, IsOneLoad, ReadsAll, ReadsInTurn}
 
 -- ---- loads
@@ -118,31 +120,31 @@ read_one a answer item is = ((refl, is), tt)
 -- ---- what calls answer that read files
 
 -- One file.
-pub reads_one : {T : Type 0} (of : T → Item) (kind : Kind) (name : List ℕ) (answer : Result (List ℕ) LoadFault) (r : Result T (Fail Said)) → ReadsLoad of kind name answer r
+pub reads_one : {T : Type 0} (of : T → Item) (kind : Kind) (name : List ℕ) (answer : Result (List ℕ) LoadFault) (r : Result T (Fail Refused)) → ReadsLoad of kind name answer r
     → ReadsAll (λ v items. items ≡ of v ∷ []) (asked kind name ∷ []) (load name answer ∷ []) r
 reads_one of kind name answer (Ok v) is = record { items = of v ∷ []; read = read_one (asked kind name) answer (of v) is; given = refl }
-reads_one of kind name answer (Err (fail.Said said)) is = stopped_one (asked kind name) [] answer said is
+reads_one of kind name answer (Err (fail.Said refused)) is = stopped_one (asked kind name) [] answer (said_of refused) is
 reads_one of kind name answer (Err fail.NoMemory) is = begun_one (asked kind name) [] answer
 
 -- The same of a file that is loaded.
-pub in_turn : {T : Type 0} (of : T → Item) (kind : Kind) (name : List ℕ) (answer : Result (List ℕ) LoadFault) (before now : FilesState) (r : Result T (Fail Said)) → IsOneLoad name answer before now → ReadsLoad of kind name answer r
+pub in_turn : {T : Type 0} (of : T → Item) (kind : Kind) (name : List ℕ) (answer : Result (List ℕ) LoadFault) (before now : FilesState) (r : Result T (Fail Refused)) → IsOneLoad name answer before now → ReadsLoad of kind name answer r
     → ReadsInTurn (λ v items. items ≡ of v ∷ []) (asked kind name ∷ []) before now r
 in_turn of kind name answer before now r load_is is = record { calls = load name answer ∷ []; loads = one_load name answer before now load_is; reads = reads_one of kind name answer r is }
 
 -- Others, after files that were read.
-pub reads_joined : {T : Type 0} (P Q : T → List Item → Type 0) (f g : List Asked) (xs ys : List Call) (is : List Item) (r : Result T (Fail Said)) → AreRead f xs is
+pub reads_joined : {T : Type 0} (P Q : T → List Item → Type 0) (f g : List Asked) (xs ys : List Call) (is : List Item) (r : Result T (Fail Refused)) → AreRead f xs is
     → ReadsAll P g ys r → ((v : T) (js : List Item) → AreRead g ys js → P v js → Q v (is ++ js)) → ReadsAll Q (f ++ g) (xs ++ ys) r
 reads_joined P Q f g xs ys is (Ok v) one two more = record {
   items = is ++ two.items;
   read = read_joined f g xs ys is two.items one two.read;
   given = more v two.items two.read two.given;
 }
-reads_joined P Q f g xs ys is (Err (fail.Said said)) one two more = stopped_joined f g xs ys is said one two
+reads_joined P Q f g xs ys is (Err (fail.Said refused)) one two more = stopped_joined f g xs ys is (said_of refused) one two
 reads_joined P Q f g xs ys is (Err fail.NoMemory) one two more = begun_joined f g xs ys is one two
 
-pub reads_as : {T : Type 0} (P Q : T → List Item → Type 0) (f : List Asked) (xs : List Call) (r : Result T (Fail Said)) → ReadsAll P f xs r → ((v : T) (js : List Item) → P v js → Q v js) → ReadsAll Q f xs r
+pub reads_as : {T : Type 0} (P Q : T → List Item → Type 0) (f : List Asked) (xs : List Call) (r : Result T (Fail Refused)) → ReadsAll P f xs r → ((v : T) (js : List Item) → P v js → Q v js) → ReadsAll Q f xs r
 reads_as P Q f xs (Ok v) reads more = record { items = reads.items; read = reads.read; given = more v reads.items reads.given }
-reads_as P Q f xs (Err (fail.Said said)) reads more = reads
+reads_as P Q f xs (Err (fail.Said refused)) reads more = reads
 reads_as P Q f xs (Err fail.NoMemory) reads more = reads
 
 -- ---- a loop over files
@@ -171,7 +173,7 @@ one_more P f kind name answer item before between now old new so_far load_is rea
 
 -- The next file is refused, or there is no memory for it.
 pub stops_here : {T U : Type 0} (P : T → List Item → Type 0) (Q : U → List Item → Type 0) (f after : List Asked) (kind : Kind) (name : List ℕ) (answer : Result (List ℕ) LoadFault) (before between now : FilesState)
-    (value : T) (why : Fail Said) → ReadSoFar P f before between value → IsOneLoad name answer between now → SaysOf (RefusesAnswer (asked kind name) answer) why
+    (value : T) (why : Fail Refused) → ReadSoFar P f before between value → IsOneLoad name answer between now → RefusedSo (RefusesAnswer (asked kind name) answer) why
     → ReadsInTurn Q (f ++ asked kind name ∷ after) before now (Err why)
 stops_here P Q f after kind name answer before between now value why so_far load_is refuses = record {
   calls = so_far.calls ++ load name answer ∷ [];
@@ -179,9 +181,9 @@ stops_here P Q f after kind name answer before between now value why so_far load
   reads = by_reason why refuses;
 }
   where
-    by_reason : (why : Fail Said) → SaysOf (RefusesAnswer (asked kind name) answer) why → ReadsAll Q (f ++ asked kind name ∷ after) (so_far.calls ++ load name answer ∷ []) (Err why)
-    by_reason (fail.Said said) is =
-        stopped_joined f (asked kind name ∷ after) so_far.calls (load name answer ∷ []) so_far.all.items said so_far.all.read (stopped_one (asked kind name) after answer said is)
+    by_reason : (why : Fail Refused) → RefusedSo (RefusesAnswer (asked kind name) answer) why → ReadsAll Q (f ++ asked kind name ∷ after) (so_far.calls ++ load name answer ∷ []) (Err why)
+    by_reason (fail.Said refused) is =
+        stopped_joined f (asked kind name ∷ after) so_far.calls (load name answer ∷ []) so_far.all.items (said_of refused) so_far.all.read (stopped_one (asked kind name) after answer (said_of refused) is)
     by_reason fail.NoMemory is =
         begun_joined f (asked kind name ∷ after) so_far.calls (load name answer ∷ []) so_far.all.items so_far.all.read (begun_one (asked kind name) after answer)
 
@@ -224,18 +226,18 @@ stopped_wider f g calls said is = record {
 }
 
 -- The first walk was stopped.
-pub stopped_first : {T U : Type 0} (P : T → List Item → Type 0) (Q : U → List Item → Type 0) (f g : List Asked) (before now : FilesState) (why : Fail Said) → ReadsInTurn P f before now (Err why)
+pub stopped_first : {T U : Type 0} (P : T → List Item → Type 0) (Q : U → List Item → Type 0) (f g : List Asked) (before now : FilesState) (why : Fail Refused) → ReadsInTurn P f before now (Err why)
     → ReadsInTurn Q (f ++ g) before now (Err why)
-stopped_first P Q f g before now (fail.Said said) walk = record { calls = walk.calls; loads = walk.loads; reads = stopped_wider f g walk.calls said walk.reads }
+stopped_first P Q f g before now (fail.Said refused) walk = record { calls = walk.calls; loads = walk.loads; reads = stopped_wider f g walk.calls (said_of refused) walk.reads }
 stopped_first P Q f g before now fail.NoMemory walk = record { calls = walk.calls; loads = walk.loads; reads = begun_wider f g walk.calls walk.reads }
 
 -- The second was.
-pub stopped_second : {S T U : Type 0} (O : S → List Item → Type 0) (P : T → List Item → Type 0) (Q : U → List Item → Type 0) (f g : List Asked) (before between now : FilesState) (first : S) (why : Fail Said)
+pub stopped_second : {S T U : Type 0} (O : S → List Item → Type 0) (P : T → List Item → Type 0) (Q : U → List Item → Type 0) (f g : List Asked) (before between now : FilesState) (first : S) (why : Fail Refused)
     → ReadsInTurn O f before between (Ok first) → ReadsInTurn P g between now (Err why) → ReadsInTurn Q (f ++ g) before now (Err why)
-stopped_second O P Q f g before between now first (fail.Said said) one two = record {
+stopped_second O P Q f g before between now first (fail.Said refused) one two = record {
   calls = one.calls ++ two.calls;
   loads = loads_joined one.calls two.calls before between now one.loads two.loads;
-  reads = stopped_joined f g one.calls two.calls one.reads.items said one.reads.read two.reads;
+  reads = stopped_joined f g one.calls two.calls one.reads.items (said_of refused) one.reads.read two.reads;
 }
 stopped_second O P Q f g before between now first fail.NoMemory one two = record {
   calls = one.calls ++ two.calls;

@@ -7,7 +7,8 @@ use Rattle.obj_types.specs.Whole.{WholeModule}
 use Rattle.lx_ports.specs.Calls.{Call, load}
 use Rattle.lx_ports.specs.Files.{FilesState, IsLoadOf, after_call}
 use Rattle.lx_ports.specs.declared.files.LoadFault.{LoadFault}
-use Rattle.answer_model.specs.declared.said.Said.{Said}
+use Rattle.refusal_text.specs.declared.refused.Refused.{Refused}
+use Rattle.refusal_text.specs.Refusals.{said_of}
 use Rattle.answer_model.specs.Ends.{IsTold}
 use Rattle.obj_types.specs.declared.definition.DefFile.{DefFile}
 use Rattle.obj_types.specs.declared.input.LinkInput.{LinkInput}
@@ -17,7 +18,7 @@ use Rattle.answer_model.specs.LinkAnswer.{objects_in, libraries_in}
 use Rattle.answer_model.specs.Loading.{AreBegun, AreRead, IsStopped, ReadsAnswer, RefusesAnswer, file_limit}
 use Rattle.answer_model.specs.AskedFiles.{Asked}
 use Rattle.answer_model.specs.Items.{Item, definition}
-use Rattle.tool_read.specs.Readings.{SaysOf}
+use Rattle.tool_read.specs.Readings.{RefusedSo}
 use Rattle.tool_read.specs.declared.modules.Modules.{Modules}
 
 -- ---- loads
@@ -39,13 +40,13 @@ pub record GivesAll {T : Type 0} (P : T → List Item → Type 0) (asked : List 
   pub read : AreRead asked calls items
   pub given : P value items
 
-abbrev pub ReadsAll : {T : Type 0} → (T → List Item → Type 0) → List Asked → List Call → Result T (Fail Said) → Type 0
+abbrev pub ReadsAll : {T : Type 0} → (T → List Item → Type 0) → List Asked → List Call → Result T (Fail Refused) → Type 0
 ReadsAll P asked calls (Ok value) = GivesAll P asked calls value
-ReadsAll P asked calls (Err (fail.Said said)) = IsStopped asked calls said
+ReadsAll P asked calls (Err (fail.Said refused)) = IsStopped asked calls (said_of refused)
 ReadsAll P asked calls (Err fail.NoMemory) = AreBegun asked calls
 
 -- Between two moments these files were loaded and read in turn.
-pub record ReadsInTurn {T : Type 0} (P : T → List Item → Type 0) (asked : List Asked) (before now : FilesState) (result : Result T (Fail Said))
+pub record ReadsInTurn {T : Type 0} (P : T → List Item → Type 0) (asked : List Asked) (before now : FilesState) (result : Result T (Fail Refused))
     : Type 0 where
   pub calls : List Call
   pub loads : AreLoads calls before now
@@ -67,9 +68,9 @@ pub record Gains (old : Modules) (item : Item) (new : Modules) : Type 0 where
   pub libs : new.libs.items ≡ old.libs.items ++ libraries_in item
 
 -- One file more is read, or something is said of it.
-abbrev pub AddsInput : Asked → Result (List ℕ) LoadFault → Modules → Modules → Result (Unit {0}) (Fail Said) → Type 0
+abbrev pub AddsInput : Asked → Result (List ℕ) LoadFault → Modules → Modules → Result (Unit {0}) (Fail Refused) → Type 0
 AddsInput a answer old new (Ok _) = (item : Item) × ReadsAnswer a answer item × Gains old item new
-AddsInput a answer old new (Err why) = SaysOf (RefusesAnswer a answer) why
+AddsInput a answer old new (Err why) = RefusedSo (RefusesAnswer a answer) why
 
 -- A definition file, or none: then the module is a program of which nothing else is said.
 abbrev pub GivesDefinition : DefFile → List Item → Type 0

@@ -9,9 +9,9 @@ ghost use Rattle.tool_read.specs.Steps.{ReadsInTurn};
 
 use crate::resources::read_resources;
 use crate::sessions::read_module;
-use answer_model::Said;
 use lx_ports::Files;
 use lx_types::{Fail, Module, Seq};
+use refusal_text::Refused;
 use res_model::ResItem;
 use std::alloc::Global;
 
@@ -29,7 +29,7 @@ pub fn read_binding<F: Files>(
     files: &mut F,
     name: &str,
     file: &str,
-) -> Result<Binding, Fail<Said>>
+) -> Result<Binding, Fail<Refused>>
     ensures read { ReadsInTurn (λ b items. items ≡ linked b.target ∷ resources b.items ∷ [])
         (asked module_file name.now ∷ asked resource_file file.now ∷ [])
         (F.state files.old) (F.state files.new) result }

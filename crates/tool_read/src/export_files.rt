@@ -8,12 +8,12 @@ ghost use Rattle.tool_read.specs.Readings.{ReadsLoad, WholeExporter, exporter_it
 ghost use Rattle.tool_read.specs.Steps.{IsOneLoad, ReadsInTurn};
 
 use crate::exporters::{Exporter, read_exporter};
-use answer_model::Said;
 use lx_ports::Files;
 use lx_types::{Fail, MAX_FILE};
+use refusal_text::Refused;
 use std::alloc::Global;
 
-fn read_next<F: Files>(alloc: Global, files: &mut F, name: &str) -> Result<Exporter, Fail<Said>>
+fn read_next<F: Files>(alloc: Global, files: &mut F, name: &str) -> Result<Exporter, Fail<Refused>>
     ensures read { (answer : Result (List ℕ) LoadFault)
         × IsOneLoad name.now answer (F.state files.old) (F.state files.new)
         × ReadsLoad exporter_item module_or_definition name.now answer result }
@@ -28,7 +28,7 @@ pub fn read_exporters<F: Files>(
     alloc: Global,
     files: &mut F,
     names: &[String],
-) -> Result<Vec<Exporter>, Fail<Said>>
+) -> Result<Vec<Exporter>, Fail<Refused>>
     ensures read { ReadsInTurn (λ read items. items ≡ map exporter_item read.items) (asked_exporters (map string_bytes names.now))
         (F.state files.old) (F.state files.new) result }
     ensures whole { IfOk result (λ read. All WholeExporter read.items) }

@@ -2,20 +2,18 @@
 ghost use Rattle.std.specs.Prelude.{◌≡◌, ◌≤◌, ◌<◌, ◌^◌, IfOk, length};
 ghost use Rattle.lx_model.specs.Module.{IsRead};
 ghost use Rattle.lx_ports.specs.Calls.{load_answer};
-ghost use Rattle.answer_model.specs.FileRefusals.{lx_text};
 ghost use Rattle.answer_model.specs.Loading.{file_limit};
 ghost use Rattle.answer_model.specs.Items.{form_of, is_module, linked, module_file, module_form, module_or_definition};
-ghost use Rattle.tool_read.specs.Readings.{ReadsForm, ReadsLoad, SaysOf, WholeExporter, exporter_item};
+ghost use Rattle.tool_read.specs.Readings.{ReadsLoad, WholeExporter, exporter_item, ReadsOwned};
 
 use crate::definitions::definition;
 use crate::lines::told;
 use crate::loads::opened;
-use answer_model::Said;
 use lx_ports::LoadFault;
 use lx_read::read_module;
-use lx_types::{Bytes, Fail, LxRefusal, Module, Seq};
+use lx_types::{Fail, Module};
 use obj_types::DefFile;
-use refusal_text::lx_text;
+use refusal_text::{FileFault, Refused};
 use std::alloc::Global;
 
 /// What a file gives to an import library.
@@ -25,25 +23,29 @@ pub enum Exporter {
     Module(Module),
 }
 
-fn fault(alloc: Global, refusal: LxRefusal) -> Fail<Bytes>
-    ensures { SaysOf (λ text. text ≡ lx_text refusal) result }
-{
-    match lx_text(alloc, refusal) {
-        Ok(text) => Fail::Said(Seq::from_vec(text.into_bytes())),
-        Err(_) => Fail::NoMemory,
-    }
+/// The bytes of a file that is not what it was read as.
+#[derive(Drop)]
+pub struct Unread {
+    pub why: Fail<FileFault>,
+    pub bytes: Vec<u8>,
 }
 
-fn linked(alloc: Global, bytes: Vec<u8>) -> Result<Module, Fail<Bytes>>
+fn linked(alloc: Global, bytes: Vec<u8>) -> Result<Module, Unread>
     requires { length bytes.items < 2 ^ 32 }
-    ensures read { ReadsForm linked module_form bytes.items result }
+    ensures read { ReadsOwned linked module_form bytes.items result }
     ensures whole { IfOk result IsRead }
 {
     match read_module(alloc, bytes) {
         Ok(module) => Ok(module),
         Err(unread) => match unread.why {
-            Fail::Said(refusal) => Err(fault(alloc, refusal)),
-            Fail::NoMemory => Err(Fail::NoMemory),
+            Fail::Said(refusal) => Err(Unread {
+                why: Fail::Said(FileFault::Module(refusal)),
+                bytes: unread.file,
+            }),
+            Fail::NoMemory => Err(Unread {
+                why: Fail::NoMemory,
+                bytes: unread.file,
+            }),
         },
     }
 }
@@ -60,9 +62,9 @@ fn is_module(bytes: &[u8]) -> bool
     }
 }
 
-fn exporter_in(alloc: Global, bytes: Vec<u8>) -> Result<Exporter, Fail<Bytes>>
+fn exporter_in(alloc: Global, bytes: Vec<u8>) -> Result<Exporter, Unread>
     requires { length bytes.items < 2 ^ 32 }
-    ensures read { ReadsForm exporter_item (form_of module_or_definition bytes.items) bytes.items result }
+    ensures read { ReadsOwned exporter_item (form_of module_or_definition bytes.items) bytes.items result }
     ensures whole { IfOk result WholeExporter }
 {
     if is_module(&bytes) {
@@ -73,7 +75,7 @@ fn exporter_in(alloc: Global, bytes: Vec<u8>) -> Result<Exporter, Fail<Bytes>>
     } else {
         match definition(alloc, &bytes) {
             Ok(file) => Ok(Exporter::Definition(file)),
-            Err(why) => Err(why),
+            Err(why) => Err(Unread { why, bytes }),
         }
     }
 }
@@ -83,7 +85,7 @@ pub fn read_exporter(
     alloc: Global,
     name: &str,
     loaded: Result<Vec<u8>, LoadFault>,
-) -> Result<Exporter, Fail<Said>>
+) -> Result<Exporter, Fail<Refused>>
     requires { IfOk loaded (λ bytes. length bytes.items ≤ file_limit) }
     ensures read { ReadsLoad exporter_item module_or_definition name.now (load_answer loaded) result }
     ensures whole { IfOk result WholeExporter }
@@ -91,7 +93,7 @@ pub fn read_exporter(
     match opened(alloc, name, loaded) {
         Ok(bytes) => match exporter_in(alloc, bytes) {
             Ok(read) => Ok(read),
-            Err(why) => Err(told(alloc, name, why)),
+            Err(unread) => Err(told(alloc, name, unread.bytes, unread.why)),
         },
         Err(why) => Err(why),
     }
@@ -102,7 +104,7 @@ pub fn read_module_file(
     alloc: Global,
     name: &str,
     loaded: Result<Vec<u8>, LoadFault>,
-) -> Result<Module, Fail<Said>>
+) -> Result<Module, Fail<Refused>>
     requires { IfOk loaded (λ bytes. length bytes.items ≤ file_limit) }
     ensures read { ReadsLoad linked module_file name.now (load_answer loaded) result }
     ensures whole { IfOk result IsRead }
@@ -110,7 +112,7 @@ pub fn read_module_file(
     match opened(alloc, name, loaded) {
         Ok(bytes) => match linked(alloc, bytes) {
             Ok(module) => Ok(module),
-            Err(why) => Err(told(alloc, name, why)),
+            Err(unread) => Err(told(alloc, name, unread.bytes, unread.why)),
         },
         Err(why) => Err(why),
     }

@@ -3,20 +3,18 @@ ghost use Rattle.std.specs.Prelude.{◌≡◌, ◌≤◌, IfOk, length};
 ghost use Rattle.std.specs.List.{All};
 ghost use Rattle.obj_types.specs.Whole.{WholeModule};
 ghost use Rattle.lx_ports.specs.Calls.{load_answer};
-ghost use Rattle.answer_model.specs.FileRefusals.{omf_text};
 ghost use Rattle.answer_model.specs.Loading.{file_limit};
 ghost use Rattle.answer_model.specs.Items.{form_of, is_library, library, library_form, object, object_file, object_form, object_or_library};
-ghost use Rattle.tool_read.specs.Readings.{ReadsForm, ReadsLoad, SaysOf, WholeInputFile, input_item};
+ghost use Rattle.tool_read.specs.Readings.{ReadsForm, ReadsLoad, WholeInputFile, input_item};
 
 use crate::lines::told;
 use crate::loads::opened;
-use answer_model::Said;
 use lx_ports::LoadFault;
-use lx_types::{Bytes, Fail, Seq};
-use obj_types::{ObjModule, OmfRefusal};
+use lx_types::{Fail, Seq};
+use obj_types::ObjModule;
 use omf_files::{LIBRARY_HEADER, read_library, read_object};
 use omf_model::meaning_is_whole;
-use refusal_text::omf_text;
+use refusal_text::{FileFault, Refused};
 use std::alloc::Global;
 
 /// What a file gives to a link.
@@ -26,35 +24,26 @@ pub enum Input {
     Library(Seq<ObjModule>),
 }
 
-fn fault(alloc: Global, refusal: &OmfRefusal) -> Fail<Bytes>
-    ensures { SaysOf (λ text. text ≡ omf_text refusal.now) result }
-{
-    match omf_text(alloc, refusal) {
-        Ok(text) => Fail::Said(Seq::from_vec(text.into_bytes())),
-        Err(_) => Fail::NoMemory,
-    }
-}
-
-fn object(alloc: Global, bytes: &[u8]) -> Result<ObjModule, Fail<Bytes>>
+fn object(alloc: Global, bytes: &[u8]) -> Result<ObjModule, Fail<FileFault>>
     ensures read { ReadsForm object object_form bytes.now result }
     ensures whole { IfOk result WholeModule }
 {
     meaning_is_whole();
     match read_object(alloc, bytes) {
         Ok(module) => Ok(module),
-        Err(Fail::Said(refusal)) => Err(fault(alloc, &refusal)),
+        Err(Fail::Said(refusal)) => Err(Fail::Said(FileFault::Object(refusal))),
         Err(Fail::NoMemory) => Err(Fail::NoMemory),
     }
 }
 
-fn library(alloc: Global, bytes: &[u8]) -> Result<Seq<ObjModule>, Fail<Bytes>>
+fn library(alloc: Global, bytes: &[u8]) -> Result<Seq<ObjModule>, Fail<FileFault>>
     ensures read { ReadsForm library library_form bytes.now result }
     ensures whole { IfOk result (All WholeModule) }
 {
     meaning_is_whole();
     match read_library(alloc, bytes) {
         Ok(modules) => Ok(modules),
-        Err(Fail::Said(refusal)) => Err(fault(alloc, &refusal)),
+        Err(Fail::Said(refusal)) => Err(Fail::Said(FileFault::Object(refusal))),
         Err(Fail::NoMemory) => Err(Fail::NoMemory),
     }
 }
@@ -68,7 +57,7 @@ fn is_library(bytes: &[u8]) -> bool
     }
 }
 
-fn input_in(alloc: Global, bytes: &[u8]) -> Result<Input, Fail<Bytes>>
+fn input_in(alloc: Global, bytes: &[u8]) -> Result<Input, Fail<FileFault>>
     ensures read { ReadsForm input_item (form_of object_or_library bytes.now) bytes.now result }
     ensures whole { IfOk result WholeInputFile }
 {
@@ -90,7 +79,7 @@ pub fn read_object_file(
     alloc: Global,
     name: &str,
     loaded: Result<Vec<u8>, LoadFault>,
-) -> Result<ObjModule, Fail<Said>>
+) -> Result<ObjModule, Fail<Refused>>
     requires { IfOk loaded (λ bytes. length bytes.items ≤ file_limit) }
     ensures read { ReadsLoad object object_file name.now (load_answer loaded) result }
     ensures whole { IfOk result WholeModule }
@@ -98,7 +87,7 @@ pub fn read_object_file(
     match opened(alloc, name, loaded) {
         Ok(bytes) => match object(alloc, &bytes) {
             Ok(module) => Ok(module),
-            Err(why) => Err(told(alloc, name, why)),
+            Err(why) => Err(told(alloc, name, bytes, why)),
         },
         Err(why) => Err(why),
     }
@@ -109,7 +98,7 @@ pub fn read_input(
     alloc: Global,
     name: &str,
     loaded: Result<Vec<u8>, LoadFault>,
-) -> Result<Input, Fail<Said>>
+) -> Result<Input, Fail<Refused>>
     requires { IfOk loaded (λ bytes. length bytes.items ≤ file_limit) }
     ensures read { ReadsLoad input_item object_or_library name.now (load_answer loaded) result }
     ensures whole { IfOk result WholeInputFile }
@@ -117,7 +106,7 @@ pub fn read_input(
     match opened(alloc, name, loaded) {
         Ok(bytes) => match input_in(alloc, &bytes) {
             Ok(read) => Ok(read),
-            Err(why) => Err(told(alloc, name, why)),
+            Err(why) => Err(told(alloc, name, bytes, why)),
         },
         Err(why) => Err(why),
     }

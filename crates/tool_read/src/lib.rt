@@ -1,5 +1,5 @@
-//! What the answer to a load of a file is read as: an object file, a library, a definition file, a module or a session;
-//! or what is said of a file that was not loaded, or has a fault.
+//! What the answer to a load of a file is read as: an object file, a library, a definition file, a module, a session or a
+//! resource file; or the refusal of a file that was not loaded, or has a fault.
 #![tactic(auto)]
 
 mod bind_files;
@@ -12,7 +12,6 @@ mod lines;
 mod link_files;
 mod loads;
 mod modules;
-mod refusals;
 mod resources;
 mod sessions;
 
@@ -20,7 +19,6 @@ pub use bind_files::{Binding, read_binding};
 pub use export_files::read_exporters;
 pub use exporters::{Exporter, read_module_file};
 pub use inputs::Input;
-pub use lines::{file_line, said};
 pub use link_files::{read_input_with, read_link_input, read_object};
-pub use refusals::link_text;
+pub use refusal_text::file_line;
 pub use sessions::{read_module, read_session};

@@ -1,50 +1,28 @@
-//! Lines by which something is told of a file.
-ghost use Rattle.std.specs.Prelude.{◌≡◌, IfOk};
-ghost use Rattle.answer_model.specs.FileLine.{file_line};
-ghost use Rattle.tool_read.specs.Readings.{SaysOf, Tells};
+//! Refusals of files.
+ghost use Rattle.std.specs.Prelude.{◌≡◌};
+ghost use Rattle.refusal_text.specs.Refusals.{said_under};
+ghost use Rattle.tool_read.specs.Readings.{RefusedSo, Tells};
 
-use answer_model::{REFUSED, Said};
-use lx_types::{Bytes, Fail, NoMemory, Seq};
+use lx_types::{Fail, NoMemory};
+use refusal_text::{Cause, FileFault, Refused};
 use std::alloc::Global;
 
-/// `lx: FILE: what`
-pub fn file_line(alloc: Global, file: &str, what: &[u8]) -> Result<Bytes, NoMemory>
-    ensures { IfOk result (λ line. line ≡ file_line file.now what.now) }
+/// A refusal under the name of a file.
+pub fn refusal(alloc: Global, name: &str, cause: Cause) -> Fail<Refused>
+    ensures { RefusedSo (λ said. said ≡ said_under name.now cause) result }
 {
-    let mut line = Vec::from_slice(alloc, b"lx: ".as_slice())?;
-    line.extend_from_slice(file.as_bytes())?;
-    line.extend_from_slice(b": ".as_slice())?;
-    line.extend_from_slice(what)?;
-    line.push(b'\n')?;
-    Ok(Seq::from_vec(line))
-}
-
-/// The status, and the line that tells something of a file.
-pub fn said(alloc: Global, status: u8, file: &str, what: &[u8]) -> Result<Said, NoMemory>
-    ensures { IfOk result (λ said. said ≡ record { status = status; text = file_line file.now what.now }) }
-{
-    Ok(Said {
-        status,
-        text: file_line(alloc, file, what)?,
-    })
-}
-
-/// A refusal: the status, and the line that tells something of a file.
-pub fn refusal(alloc: Global, status: u8, file: &str, what: &[u8]) -> Fail<Said>
-    ensures { SaysOf (λ said. said ≡ record { status = status; text = file_line file.now what.now }) result }
-{
-    match said(alloc, status, file, what) {
-        Ok(said) => Fail::Said(said),
+    match Refused::of(alloc, name, cause) {
+        Ok(refused) => Fail::Said(refused),
         Err(NoMemory) => Fail::NoMemory,
     }
 }
 
-/// The text of a fault, as the line of its file.
-pub fn told(alloc: Global, name: &str, why: Fail<Bytes>) -> Fail<Said>
+/// The refusal of a file of these bytes, which has a fault.
+pub fn told(alloc: Global, name: &str, bytes: Vec<u8>, why: Fail<FileFault>) -> Fail<Refused>
     ensures { Tells name.now why result }
 {
     match why {
-        Fail::Said(text) => refusal(alloc, REFUSED, name, text.as_slice()),
+        Fail::Said(fault) => refusal(alloc, name, Cause::Faulty { fault, bytes }),
         Fail::NoMemory => Fail::NoMemory,
     }
 }

@@ -14,11 +14,11 @@ use crate::counts::total;
 use crate::definitions::read_definition_file;
 use crate::inputs::{read_input, read_object_file};
 use crate::modules::Modules;
-use answer_model::Said;
 use command_line::stem_of;
 use lx_ports::Files;
 use lx_types::{Fail, MAX_FILE, Name, NoMemory, Seq};
 use obj_types::{DefFile, LinkInput, ModKind, ObjModule};
+use refusal_text::{LinkFiles, Refused};
 use std::alloc::Global;
 
 /// The object module of a file, which is loaded, whatever its first byte is.
@@ -26,7 +26,7 @@ pub fn read_object<F: Files>(
     alloc: Global,
     files: &mut F,
     name: &str,
-) -> Result<ObjModule, Fail<Said>>
+) -> Result<ObjModule, Fail<Refused>>
     ensures read { (answer : Result (List ℕ) LoadFault)
         × IsOneLoad name.now answer (F.state files.old) (F.state files.new)
         × ReadsLoad object object_file name.now answer result }
@@ -41,7 +41,7 @@ fn read_definition<F: Files>(
     alloc: Global,
     files: &mut F,
     name: Option<&str>,
-) -> Result<DefFile, Fail<Said>>
+) -> Result<DefFile, Fail<Refused>>
     ensures read { ReadsInTurn GivesDefinition (asked_definition (option_map (λ name. name.now) name.entry))
         (F.state files.old) (F.state files.new) result }
     ensures whole { IfOk result WholeDef }
@@ -61,7 +61,7 @@ fn read_next<F: Files>(
     files: &mut F,
     name: &str,
     modules: &mut Modules,
-) -> Result<(), Fail<Said>>
+) -> Result<(), Fail<Refused>>
     requires { AreWhole modules.old }
     ensures read { (answer : Result (List ℕ) LoadFault)
         × IsOneLoad name.now answer (F.state files.old) (F.state files.new)
@@ -70,7 +70,7 @@ fn read_next<F: Files>(
 {
     let loaded = files.load(alloc, name, MAX_FILE);
     match read_input(alloc, name, loaded) {
-        Ok(input) => Ok(modules.add(input)?),
+        Ok(input) => Ok(modules.add(name.to_string(alloc)?, input)?),
         Err(why) => Err(why),
     }
 }
@@ -79,7 +79,7 @@ fn read_modules<F: Files>(
     alloc: Global,
     files: &mut F,
     names: &[String],
-) -> Result<Modules, Fail<Said>>
+) -> Result<Modules, Fail<Refused>>
     ensures read { ReadsInTurn AreModulesOf (asked_inputs (map string_bytes names.now))
         (F.state files.old) (F.state files.new) result }
     ensures whole { IfOk result AreWhole }
@@ -94,15 +94,19 @@ fn read_modules<F: Files>(
     Ok(modules)
 }
 
-// The input, where its counts have 32 bits.
-fn counted_input(stem: Name, def: DefFile, modules: Modules) -> Result<LinkInput, NoMemory>
+// The input and its files, where its counts have 32 bits.
+fn counted_input(stem: Name, def: DefFile, modules: Modules) -> Result<LinkFiles, NoMemory>
     requires stem { stem ≢ [] }
     requires def { WholeDef def }
     requires modules { AreWhole modules }
-    ensures is { IfOk result (λ input. IsInputWith stem def modules input) }
-    ensures whole { IfOk result WholeInput }
+    ensures is { IfOk result (λ read. IsInputWith stem def modules read.input) }
+    ensures whole { IfOk result (λ read. WholeInput read.input) }
 {
-    let Modules { objects, libs } = modules;
+    let Modules {
+        objects,
+        libs,
+        files,
+    } = modules;
     let input = LinkInput {
         objects: Seq::from_vec(objects),
         libs: Seq::from_vec(libs),
@@ -110,7 +114,7 @@ fn counted_input(stem: Name, def: DefFile, modules: Modules) -> Result<LinkInput
         stem,
     };
     match total(&input) {
-        Some(_) => Ok(input),
+        Some(_) => Ok(LinkFiles { input, files }),
         None => Err(NoMemory),
     }
 }
@@ -123,12 +127,12 @@ pub fn read_input_with<F: Files>(
     stem: Name,
     definition: Option<&str>,
     inputs: &[String],
-) -> Result<LinkInput, Fail<Said>>
+) -> Result<LinkFiles, Fail<Refused>>
     requires { stem ≢ [] }
-    ensures read { ReadsInTurn (λ input items. input ≡ input_with stem items)
+    ensures read { ReadsInTurn (λ read items. read.input ≡ input_with stem items)
         (asked_definition (option_map (λ name. name.now) definition.entry) ++ asked_inputs (map string_bytes inputs.now))
         (F.state files.old) (F.state files.new) result }
-    ensures whole { IfOk result WholeInput }
+    ensures whole { IfOk result (λ read. WholeInput read.input) }
 {
     match read_definition(alloc, files, definition) {
         Ok(def) => match read_modules(alloc, files, inputs) {
@@ -147,11 +151,11 @@ pub fn read_link_input<F: Files>(
     out: &str,
     definition: Option<&str>,
     inputs: &[String],
-) -> Result<LinkInput, Fail<Said>>
-    ensures read { ReadsInTurn (λ input items. input ≡ input_of out.now items)
+) -> Result<LinkFiles, Fail<Refused>>
+    ensures read { ReadsInTurn (λ read items. read.input ≡ input_of out.now items)
         (asked_definition (option_map (λ name. name.now) definition.entry) ++ asked_inputs (map string_bytes inputs.now))
         (F.state files.old) (F.state files.new) result }
-    ensures whole { IfOk result WholeInput }
+    ensures whole { IfOk result (λ read. WholeInput read.input) }
 {
     let stem = stem_of(alloc, out)?;
     read_input_with(alloc, files, stem, definition, inputs)

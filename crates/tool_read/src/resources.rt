@@ -2,33 +2,22 @@
 ghost use Rattle.std.specs.Prelude.{◌≡◌, ◌≤◌, ℕ, List, Result, IfOk, length, sum_by};
 ghost use Rattle.lx_ports.specs.Calls.{load_answer};
 ghost use Rattle.lx_ports.specs.declared.files.LoadFault.{LoadFault};
-ghost use Rattle.answer_model.specs.ResourceRefusals.{res_text};
 ghost use Rattle.res_model.specs.ResFile.{AreApart};
 ghost use Rattle.answer_model.specs.Loading.{file_limit};
 ghost use Rattle.answer_model.specs.Items.{resources, resource_file, resource_form};
-ghost use Rattle.tool_read.specs.Readings.{ReadsForm, ReadsLoad, SaysOf};
+ghost use Rattle.tool_read.specs.Readings.{ReadsForm, ReadsLoad};
 ghost use Rattle.tool_read.specs.Steps.{IsOneLoad};
 
 use crate::lines::told;
 use crate::loads::opened;
-use answer_model::Said;
 use lx_ports::{Files, LoadFault};
-use lx_types::{Bytes, Fail, MAX_FILE, Seq};
-use refusal_text::res_text;
+use lx_types::{Fail, MAX_FILE, Seq};
+use refusal_text::{FileFault, Refused};
 use res_file::read_res;
-use res_model::{ResItem, ResRefusal};
+use res_model::ResItem;
 use std::alloc::Global;
 
-fn fault(alloc: Global, refusal: ResRefusal) -> Fail<Bytes>
-    ensures { SaysOf (λ text. text ≡ res_text refusal) result }
-{
-    match res_text(alloc, refusal) {
-        Ok(text) => Fail::Said(Seq::from_vec(text.into_bytes())),
-        Err(_) => Fail::NoMemory,
-    }
-}
-
-fn items_in(alloc: Global, bytes: &[u8]) -> Result<Seq<ResItem>, Fail<Bytes>>
+fn items_in(alloc: Global, bytes: &[u8]) -> Result<Seq<ResItem>, Fail<FileFault>>
     requires { length bytes.now ≤ file_limit }
     ensures read { ReadsForm resources resource_form bytes.now result }
     ensures apart { IfOk result AreApart }
@@ -36,7 +25,7 @@ fn items_in(alloc: Global, bytes: &[u8]) -> Result<Seq<ResItem>, Fail<Bytes>>
 {
     match read_res(alloc, bytes) {
         Ok(items) => Ok(Seq::from_vec(items)),
-        Err(Fail::Said(refusal)) => Err(fault(alloc, refusal)),
+        Err(Fail::Said(refusal)) => Err(Fail::Said(FileFault::Resources(refusal))),
         Err(Fail::NoMemory) => Err(Fail::NoMemory),
     }
 }
@@ -45,7 +34,7 @@ fn read_resource_file(
     alloc: Global,
     name: &str,
     loaded: Result<Vec<u8>, LoadFault>,
-) -> Result<Seq<ResItem>, Fail<Said>>
+) -> Result<Seq<ResItem>, Fail<Refused>>
     requires { IfOk loaded (λ bytes. length bytes.items ≤ file_limit) }
     ensures read { ReadsLoad resources resource_file name.now (load_answer loaded) result }
     ensures apart { IfOk result AreApart }
@@ -54,7 +43,7 @@ fn read_resource_file(
     match opened(alloc, name, loaded) {
         Ok(bytes) => match items_in(alloc, &bytes) {
             Ok(items) => Ok(items),
-            Err(why) => Err(told(alloc, name, why)),
+            Err(why) => Err(told(alloc, name, bytes, why)),
         },
         Err(why) => Err(why),
     }
@@ -65,7 +54,7 @@ pub fn read_resources<F: Files>(
     alloc: Global,
     files: &mut F,
     name: &str,
-) -> Result<Seq<ResItem>, Fail<Said>>
+) -> Result<Seq<ResItem>, Fail<Refused>>
     ensures read { (answer : Result (List ℕ) LoadFault)
         × IsOneLoad name.now answer (F.state files.old) (F.state files.new)
         × ReadsLoad resources resource_file name.now answer result }

@@ -3,38 +3,27 @@ ghost use Rattle.std.specs.Prelude.{◌≡◌, ◌≤◌, ℕ, List, Result, IfO
 ghost use Rattle.lx_model.specs.Module.{IsRead};
 ghost use Rattle.lx_ports.specs.Calls.{load_answer};
 ghost use Rattle.lx_ports.specs.declared.files.LoadFault.{LoadFault};
-ghost use Rattle.answer_model.specs.SessionRefusals.{session_text};
 ghost use Rattle.answer_model.specs.Loading.{file_limit};
 ghost use Rattle.answer_model.specs.Items.{linked, module_file, session, session_file, session_form};
-ghost use Rattle.tool_read.specs.Readings.{ReadsForm, ReadsLoad, SaysOf};
+ghost use Rattle.tool_read.specs.Readings.{ReadsForm, ReadsLoad};
 ghost use Rattle.tool_read.specs.Steps.{IsOneLoad};
 
 use crate::exporters::read_module_file;
 use crate::lines::told;
 use crate::loads::opened;
-use answer_model::Said;
 use lx_ports::{Files, LoadFault};
-use lx_types::{Bytes, Fail, MAX_FILE, Module, Seq};
-use refusal_text::session_text;
-use session_model::{Session, SessionRefusal};
+use lx_types::{Fail, MAX_FILE, Module};
+use refusal_text::{FileFault, Refused};
+use session_model::Session;
 use std::alloc::Global;
 
-fn fault(alloc: Global, refusal: SessionRefusal) -> Fail<Bytes>
-    ensures { SaysOf (λ text. text ≡ session_text refusal) result }
-{
-    match session_text(alloc, refusal) {
-        Ok(text) => Fail::Said(Seq::from_vec(text.into_bytes())),
-        Err(_) => Fail::NoMemory,
-    }
-}
-
-fn session(alloc: Global, bytes: &[u8]) -> Result<Session, Fail<Bytes>>
+fn session(alloc: Global, bytes: &[u8]) -> Result<Session, Fail<FileFault>>
     requires { length bytes.now ≤ file_limit }
     ensures { ReadsForm session session_form bytes.now result }
 {
     match session_read::read_session(alloc, bytes) {
         Ok(session) => Ok(session),
-        Err(Fail::Said(refusal)) => Err(fault(alloc, refusal)),
+        Err(Fail::Said(refusal)) => Err(Fail::Said(FileFault::Session(refusal))),
         Err(Fail::NoMemory) => Err(Fail::NoMemory),
     }
 }
@@ -43,14 +32,14 @@ fn read_session_file(
     alloc: Global,
     name: &str,
     loaded: Result<Vec<u8>, LoadFault>,
-) -> Result<Session, Fail<Said>>
+) -> Result<Session, Fail<Refused>>
     requires { IfOk loaded (λ bytes. length bytes.items ≤ file_limit) }
     ensures { ReadsLoad session session_file name.now (load_answer loaded) result }
 {
     match opened(alloc, name, loaded) {
         Ok(bytes) => match session(alloc, &bytes) {
             Ok(session) => Ok(session),
-            Err(why) => Err(told(alloc, name, why)),
+            Err(why) => Err(told(alloc, name, bytes, why)),
         },
         Err(why) => Err(why),
     }
@@ -61,7 +50,7 @@ pub fn read_session<F: Files>(
     alloc: Global,
     files: &mut F,
     name: &str,
-) -> Result<Session, Fail<Said>>
+) -> Result<Session, Fail<Refused>>
     ensures { (answer : Result (List ℕ) LoadFault)
         × IsOneLoad name.now answer (F.state files.old) (F.state files.new)
         × ReadsLoad session session_file name.now answer result }
@@ -71,7 +60,11 @@ pub fn read_session<F: Files>(
 }
 
 /// The module in a file, which is loaded, whatever its first bytes are.
-pub fn read_module<F: Files>(alloc: Global, files: &mut F, name: &str) -> Result<Module, Fail<Said>>
+pub fn read_module<F: Files>(
+    alloc: Global,
+    files: &mut F,
+    name: &str,
+) -> Result<Module, Fail<Refused>>
     ensures read { (answer : Result (List ℕ) LoadFault)
         × IsOneLoad name.now answer (F.state files.old) (F.state files.new)
         × ReadsLoad linked module_file name.now answer result }

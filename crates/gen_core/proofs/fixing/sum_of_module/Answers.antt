@@ -11,12 +11,9 @@ loop-before-preserved g c =
     let m = c.args.number in
     let before = c.loop-before.before in
     let number : 1 + before ≡ before + 1 = omega arith in
-    let more = c.in_ok-sum.ensures.sum ∙ ap (λ (p : PlacedModule). total (object_words p.library p.bases p.«module» (before + 1))) c.loop-before.invariant.pages in
-    record {
-      pages = c.sum_of_object.ensures.stay ∙ c.loop-before.invariant.pages;
-      sum = total_further (object_words lib bases m) 1 before (before + 1) c.loop-before.sum c.in_ok-sum.field-0 number c.loop-before.invariant.sum more;
-    }
+    let more = c.in_ok-sum.ensures ∙ ap (λ (p : PlacedModule). total (object_words p.library p.bases p.«module» (before + 1))) c.of-pages.ensures in
+    total_further (object_words lib bases m) 1 before (before + 1) c.loop-before.sum c.in_ok-sum.field-0 number c.loop-before.invariant more
 
 pub returns : goal.returns
 returns g c =
-    module_is c.args.lib.now c.args.bases.now c.args.number c.loop-before.before c.loop-before.sum c.loop-before.invariant.sum (search rules)
+    module_is c.args.lib.now c.args.bases.now c.args.number c.loop-before.before c.loop-before.sum c.loop-before.invariant (search rules)

@@ -4,7 +4,4 @@ use Rattle.gen_core.specs.Fixing.{object_words, total}
 use Rattle.gen_core.proofs.fixing.sum_of_module.Given as goal
 
 abbrev pub invariant-loop-before : goal.invariant-loop-before
-invariant-loop-before g l = record {
-  pages : l.pages ≡ record { library = l.lib; «module» = l.number; bases = l.bases };
-  sum : l.sum ≡ total (flat_map (object_words l.lib l.bases l.number) (range_with_len 1 l.before));
-}
+invariant-loop-before g l = l.sum ≡ total (flat_map (object_words l.lib l.bases l.number) (range_with_len 1 l.before))

@@ -2,7 +2,7 @@ use Rattle.std.proofs.Common.{◌≡◌, ◌+◌, ◌++◌, ◌∷◌, ◌∙◌
 use Rattle.answer_model.specs.GenAnswer.{GenWords}
 use Rattle.gen_core.specs.declared.outputs.Output.{Output}
 use Rattle.gen_core.specs.Generated.{AreOutputs}
-use Rattle.gen_core.proofs.Made.{HasMade, all_made, made_more}
+use Rattle.gen_core.proofs.MadeFiles.{HasMade, all_made, made_more}
 use Rattle.gen_core.proofs.outputs.outputs.Goals as goal
 
 pub loop-before-preserved : goal.loop-before-preserved

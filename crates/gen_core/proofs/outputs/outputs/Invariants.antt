@@ -1,4 +1,4 @@
-use Rattle.gen_core.proofs.Made.{HasMade}
+use Rattle.gen_core.proofs.MadeFiles.{HasMade}
 use Rattle.gen_core.proofs.outputs.outputs.Given as goal
 
 abbrev pub invariant-loop-before : goal.invariant-loop-before

@@ -3,6 +3,7 @@ use Rattle.res_model.specs.declared.item.ResItem.{ResItem}
 use Rattle.answer_model.specs.BindAnswer.{bind_outcome}
 use Rattle.answer_model.specs.Outcome.{kept}
 use Rattle.lx_tool.specs.Doing.{DoesOutcome}
+use Rattle.lx_tool.specs.Refusals.{said_in}
 use Rattle.lx_tool.proofs.Commands.{bound_kept, not_bound}
 use Rattle.lx_tool.proofs.bind.bind_items.Goals as goal
 
@@ -13,10 +14,10 @@ returns-in_ok-line-in-Ok g c =
     let line = c.in_ok-line-in-Ok.line in
     let before = g.F.Files.state c.args.files.now in
     let now = g.F.Files.state c.keep.new.files in
-    let P : List ResItem → Type 0 = λ items. DoesOutcome (bind_outcome out file items) before now c.keep.result in
-    let Q : List ℕ → Type 0 = λ bytes. DoesOutcome (kept out bytes line) before now c.keep.result in
+    let P : List ResItem → Type 0 = λ items. DoesOutcome (bind_outcome out file items) before now (said_in c.keep.result) in
+    let Q : List ℕ → Type 0 = λ bytes. DoesOutcome (kept out bytes line) before now (said_in c.keep.result) in
     subst P c.as_slice-items.ensures
-    (bound_kept out file c.as_slice-items.result.now c.in-Ok.file.items line before now c.keep.result c.in-Ok.ensures.0 c.in-Ok.ensures.1 c.in_ok-line-in-Ok.ensures
+    (bound_kept out file c.as_slice-items.result.now c.in-Ok.file.items line before now (said_in c.keep.result) c.in-Ok.ensures.0 c.in-Ok.ensures.1 c.in_ok-line-in-Ok.ensures
     (subst Q c.deref.ensures.value c.keep.ensures))
 
 pub returns-in-Err : goal.returns-in-Err
@@ -24,5 +25,5 @@ returns-in-Err g c =
     let out = c.args.out.now in
     let file = c.args.binding.now.target.file in
     let state = g.F.Files.state c.args.files.now in
-    let P : List ResItem → Type 0 = λ items. DoesOutcome (bind_outcome out file items) state state c.refused.result in
-    subst P c.as_slice-items.ensures (not_bound _ out file c.as_slice-items.result.now c.in-Err.why state c.refused.result c.in-Err.ensures c.refused.ensures)
+    let P : List ResItem → Type 0 = λ items. DoesOutcome (bind_outcome out file items) state state (said_in c.refused.result) in
+    subst P c.as_slice-items.ensures (not_bound _ out file c.as_slice-items.result.now c.in-Err.why state (said_in c.refused.result) c.in-Err.ensures c.refused.ensures)

@@ -6,13 +6,17 @@ use Rattle.tool_read.specs.Readings.{asked}
 use Rattle.tool_read.proofs.Walk.{one_load}
 use Rattle.lx_tool.proofs.Commands.{dump_done, not_read}
 use Rattle.lx_tool.proofs.OneLoad.{one_read, one_refused}
+use Rattle.lx_tool.proofs.ComesTo.{if_said}
+use Rattle.dump_model.specs.Dumps.{Dump}
+use Rattle.dump_model.specs.Listings.{listing_of}
 use Rattle.lx_tool.proofs.dump.dump.Goals as goal
 
 pub returns-in-Ok : goal.returns-in-Ok
 returns-in-Ok g c =
     let name = c.args.file.now in
     let read = c.in-Ok.ensures.read in
-    dump_done name c.in-Ok.module _ _ _ _ (one_load name read.0 _ _ read.1) (one_read linked (asked module_file name) read.0 c.in-Ok.module read.2) c.dumped.ensures
+    dump_done name c.in-Ok.module _ _ _ _ (one_load name read.0 _ _ read.1) (one_read linked (asked module_file name) read.0 c.in-Ok.module read.2)
+    (if_said (λ said. said ≡ record { status = 0; text = Dump (listing_of c.in-Ok.module) }) c.dumped.result c.dumped.ensures)
 
 pub returns-in-Err : goal.returns-in-Err
 returns-in-Err g c =

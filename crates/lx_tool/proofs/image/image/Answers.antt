@@ -6,13 +6,17 @@ use Rattle.tool_read.specs.Readings.{asked}
 use Rattle.tool_read.proofs.Walk.{one_load}
 use Rattle.lx_tool.proofs.Commands.{image_done, not_read}
 use Rattle.lx_tool.proofs.OneLoad.{one_read, one_refused}
+use Rattle.lx_tool.proofs.ComesTo.{if_said}
+use Rattle.answer_model.specs.ImageAnswer.{ShowsObject}
+use Rattle.answer_model.specs.Outcome.{says_only}
 use Rattle.lx_tool.proofs.image.image.Goals as goal
 
 pub returns-in-Ok : goal.returns-in-Ok
 returns-in-Ok g c =
     let name = c.args.object.now in
     let read = c.in-Ok.ensures.read in
-    image_done name c.args.base c.in-Ok.module _ _ _ _ (one_load name read.0 _ _ read.1) (one_read object (asked object_file name) read.0 c.in-Ok.module read.2) c.shown.ensures
+    image_done name c.args.base c.in-Ok.module _ _ _ _ (one_load name read.0 _ _ read.1) (one_read object (asked object_file name) read.0 c.in-Ok.module read.2)
+    (if_said (λ said. ShowsObject c.args.base c.in-Ok.module (says_only said)) c.shown.result c.shown.ensures)
 
 pub returns-in-Err : goal.returns-in-Err
 returns-in-Err g c =

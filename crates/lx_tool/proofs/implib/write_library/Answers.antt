@@ -4,6 +4,7 @@ use Rattle.answer_model.specs.Outcome.{kept}
 use Rattle.answer_model.specs.Stem.{stem_of}
 use Rattle.tool_read.specs.Readings.{exporter_item}
 use Rattle.lx_tool.specs.Doing.{DoesOutcome}
+use Rattle.lx_tool.specs.Refusals.{said_in}
 use Rattle.lx_tool.specs.ImportLibraries.{IsLibraryOf, IsTooLong}
 use Rattle.lx_tool.proofs.Commands.{library_kept, library_refused}
 use Rattle.lx_tool.proofs.Imports.{refusal_has}
@@ -18,8 +19,8 @@ returns-in-Ok g c =
     let before = g.F.Files.state c.args.files.now in
     let now = g.F.Files.state c.keep.new.files in
     let P : List ℕ → Type 0 = λ stem. IsLibraryOf library (all_imports stem items) in
-    let Q : List ℕ → Type 0 = λ bytes. DoesOutcome (kept out bytes line) before now c.keep.result in
-    library_kept out (all_imports (stem_of out) items) library line before now c.keep.result (subst P c.in_ok-stem.ensures.stem c.in-Ok.ensures)
+    let Q : List ℕ → Type 0 = λ bytes. DoesOutcome (kept out bytes line) before now (said_in c.keep.result) in
+    library_kept out (all_imports (stem_of out) items) library line before now (said_in c.keep.result) (subst P c.in_ok-stem.ensures.stem c.in-Ok.ensures)
     c.in_ok-line-in-Ok.ensures (subst Q c.deref.ensures.value c.keep.ensures)
 
 pub returns : goal.returns
@@ -28,5 +29,5 @@ returns g c =
     let items = map exporter_item c.args.exporters.now in
     let why = c.in-Err.why in
     let P : List ℕ → Type 0 = λ stem. IsTooLong (all_imports stem items) in
-    library_refused out (all_imports (stem_of out) items) why (g.F.Files.state c.args.files.now) c.refused.result
+    library_refused out (all_imports (stem_of out) items) why (g.F.Files.state c.args.files.now) (said_in c.refused.result)
     (λ refusal same. subst P c.in_ok-stem.ensures.stem (refusal_has why _ (IsTooLong (all_imports c.in_ok-stem.stem items)) c.in-Err.ensures refusal same)) c.refused.ensures

@@ -7,14 +7,14 @@ use Rattle.lx_tool.proofs.main_call.lx_main.Goals as goal
 pub returns-in-Ok-clause-ends : goal.returns-in-Ok-clause-ends
 returns-in-Ok-clause-ends g c =
     let words : List (List ℕ) = map (string_bytes {Z = Global}) c.args.words.now in
-    main_ends words c.in-Some.file.now _ _ _ _ _ _ c.in-Some.ensures (ends_by c.in-Some.file.now _ _ _ _ c.in-Ok.end c.put_end.result c.in-Ok.ensures c.put_end.ensures)
+    main_ends words c.in-Some.file.now _ _ _ _ _ _ c.in-Some.ensures (ends_by c.in-Some.file.now _ _ _ _ c.in-Ok.end c.put_end.result c.in-Ok.ensures c.put_end.ensures.puts)
 
 pub returns-in-Ok-clause-headline : goal.returns-in-Ok-clause-headline
 returns-in-Ok-clause-headline g c =
     let words : List (List ℕ) = map (string_bytes {Z = Global}) c.args.words.now in
-    main_headline words c.in-Some.file.now _ _ c.in-Some.ensures (headline_by c.in-Some.file.now _ _ c.in-Ok.end c.put_end.result.ran c.in-Ok.ensures c.put_end.ensures.ran_is)
+    main_headline words c.in-Some.file.now _ _ c.in-Some.ensures (headline_by c.in-Some.file.now _ _ c.in-Ok.end c.put_end.result.ran c.in-Ok.ensures c.put_end.ensures.puts.ran_is)
 
 pub returns-in-Ok-clause-shows : goal.returns-in-Ok-clause-shows
 returns-in-Ok-clause-shows g c =
     let words : List (List ℕ) = map (string_bytes {Z = Global}) c.args.words.now in
-    main_shows words c.in-Some.file.now _ _ c.put_end.result c.in-Some.ensures (shows_by c.in-Some.file.now _ _ _ _ c.in-Ok.end c.put_end.result c.in-Ok.ensures c.put_end.ensures)
+    main_shows words c.in-Some.file.now _ _ c.put_end.result c.in-Some.ensures (shows_by c.in-Some.file.now _ _ _ _ c.in-Ok.end c.put_end.result c.in-Ok.ensures c.put_end.ensures.puts)

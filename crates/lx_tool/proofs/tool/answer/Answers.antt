@@ -1,8 +1,9 @@
-use Rattle.std.proofs.Common.{Some, ap, subst, sym, ◌∙◌}
+use Rattle.std.proofs.Common.{◌≡◌, Some, ap, subst, sym, ◌∙◌}
 use Rattle.command_line.specs.Commands.{HasBase, meant}
 use Rattle.command_line.specs.declared.words.Command.{Command}
 use Rattle.lx_tool.proofs.Done.{done_usage, done_words}
-use Rattle.lx_tool.proofs.Generated.{gen_done}
+use Rattle.lx_tool.proofs.ComesTo.{if_said}
+use Rattle.answer_model.specs.FileLine.{usage_line}
 use Rattle.lx_tool.proofs.tool.answer.Goals as goal
 
 pub image-requires : goal.image-requires
@@ -31,7 +32,7 @@ returns-in-Some-Bind g c =
 pub returns-in-Some-Gen : goal.returns-in-Some-Gen
 returns-in-Some-Gen g c =
     let same = c.in-Some-Gen.field-0-is in
-    done_words _ _ _ _ _ (ap (λ (one : Command). Some (meant one)) (sym same) ∙ c.in-Some-Gen.ensures.command) (gen_done _ _ _ _ _ c.generate.ensures)
+    done_words _ _ _ _ _ (ap (λ (one : Command). Some (meant one)) (sym same) ∙ c.in-Some-Gen.ensures.command) c.generated.ensures
 
 pub returns-in-Some-Dump : goal.returns-in-Some-Dump
 returns-in-Some-Dump g c =
@@ -44,4 +45,4 @@ returns-in-Some-Map g c =
     done_words _ _ _ _ _ (ap (λ (one : Command). Some (meant one)) (sym same) ∙ c.in-Some-Map.ensures.command) c.show_map.ensures
 
 pub returns-in-None : goal.returns-in-None
-returns-in-None g c = done_words _ _ _ _ _ c.in-None.ensures.command (done_usage _ _ c.usage.ensures)
+returns-in-None g c = done_words _ _ _ _ _ c.in-None.ensures.command (done_usage _ _ (if_said (λ said. said ≡ record { status = 2; text = usage_line }) c.usage.result c.usage.ensures))

@@ -1,9 +1,9 @@
-use Rattle.std.proofs.Common.{List, ℕ, subst}
-use Rattle.std.specs.Io.KnownBytes.{Appends}
-use Rattle.lx_tool.proofs.Endings.{ends_whole}
+use Rattle.lx_tool.proofs.Endings.{ends_as_put}
+use Rattle.lx_tool.proofs.RunEndings.{tells_of}
 use Rattle.lx_tool.proofs.tool.lx_build.Goals as goal
 
-pub returns-in-Ok-put_whole : goal.returns-in-Ok-put_whole
-returns-in-Ok-put_whole g c =
-    let P : List ℕ → Type 0 = λ text. Appends (g.S.Sink.state c.args.out.now).contents (g.S.Sink.state c.put_whole.new.out).contents text in
-    ends_whole _ _ _ _ _ c.in-Ok.said c.in-Ok.ensures (subst P c.as_slice.ensures c.in-Ok-put_whole.ensures.whole)
+pub returns-in-Ok-clause-ends : goal.returns-in-Ok-clause-ends
+returns-in-Ok-clause-ends g c = ends_as_put _ _ _ _ _ c.in-Ok.told.said _ c.in-Ok.ensures c.put_said-status.ensures
+
+pub returns-in-Ok-clause-tells : goal.returns-in-Ok-clause-tells
+returns-in-Ok-clause-tells g c = tells_of c.in-Ok.told.refused c.in-Ok.told.said _ _ _ c.in-Ok.told.tied c.put_said-status.ensures

@@ -12,7 +12,7 @@ use Rattle.session_model.specs.declared.sessions.ModLine.{ModLine}
 use Rattle.session_model.specs.Kept.{modules_in}
 use Rattle.session_read.specs.declared.kept.KeptCut.{KeptCut}
 use Rattle.session_text.specs.Writable.{IsPlainModule}
-use Rattle.answer_model.specs.declared.said.Said.{Said}
+use Rattle.refusal_text.specs.declared.refused.Refused.{Refused}
 use Rattle.tool_read.proofs.Walk.{err_is}
 use Rattle.session_files.specs.ModuleLines.{DoesLine, DoesLines, listed}
 use Rattle.session_files.proofs.Lines.{Reached, reached_none, reached_more, reached_stop, reached_end, reached_done, reached_count}
@@ -35,13 +35,13 @@ module _ (text : List ℕ) (first : Option (KeptCut ModLine)) (cut : KeptCut Mod
   one_done lines before between now modules more parts so_far one are =
       reached_more lines (modules_in text) cut.line (modules_in cut.behind.now) before between now modules so_far next_is parts more one are
 
-  one_stops : (lines : List ModLine) (before between now : FilesState) (modules : List Parts) (why : Fail Said) → Reached lines (modules_in text) before between modules
+  one_stops : (lines : List ModLine) (before between now : FilesState) (modules : List Parts) (why : Fail Refused) → Reached lines (modules_in text) before between modules
       → DoesLine cut.line between now (Err why) → DoesLines lines before now (Err why)
   one_stops lines before between now modules why so_far one =
       reached_stop lines (modules_in text) cut.line (modules_in cut.behind.now) before between now modules so_far next_is why one
 
 -- no memory is told as it is
-no_memory : (lines behind : List ModLine) (before now : FilesState) (modules : List Parts) (result : Result (Vec Parts Global) (Fail Said)) → Reached lines behind before now modules
+no_memory : (lines behind : List ModLine) (before now : FilesState) (modules : List Parts) (result : Result (Vec Parts Global) (Fail Refused)) → Reached lines behind before now modules
     → result ≡ Err fail.NoMemory → DoesLines lines before now (listed result)
 no_memory lines behind before now modules result so_far is =
     subst (λ r. DoesLines lines before now (listed r)) (sym is) (reached_end lines behind before now modules so_far)

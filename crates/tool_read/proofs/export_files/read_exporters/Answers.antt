@@ -6,9 +6,9 @@ use Rattle.std.proofs.lemmas.List.{map-append}
 use Rattle.std.proofs.lemmas.List.Elements.{All-push}
 use Rattle.lx_types.specs.declared.fail.Fail.{Fail}
 use Rattle.lx_types.specs.declared.fail.Fail.TheVariants as fail
-use Rattle.answer_model.specs.declared.said.Said.{Said}
 use Rattle.answer_model.specs.AskedFiles.{Asked}
 use Rattle.answer_model.specs.Items.{Item, module_or_definition}
+use Rattle.refusal_text.specs.declared.refused.Refused.{Refused}
 use Rattle.answer_model.specs.Says.{asked_exporters}
 use Rattle.tool_read.specs.declared.exporters.Exporter.{Exporter}
 use Rattle.tool_read.specs.Readings.{WholeExporter, asked, exporter_item}
@@ -33,7 +33,7 @@ pub returns-in_err-push-in-Ok-clause-read : goal.returns-in_err-push-in-Ok-claus
 returns-in_err-push-in-Ok-clause-read g c =
     let e = c.in-Ok.ensures.read in
     let k = c.loop-name.name-index in
-    let R : Result (Vec Exporter Global) (Fail Said) → Type 0 = λ r. ReadsInTurn Gives (asked_exporters (map string_bytes c.args.names.now)) (g.F.Files.state c.args.files.now) (g.F.Files.state c.read_next.new.files) r in
+    let R : Result (Vec Exporter Global) (Fail Refused) → Type 0 = λ r. ReadsInTurn Gives (asked_exporters (map string_bytes c.args.names.now)) (g.F.Files.state c.args.files.now) (g.F.Files.state c.read_next.new.files) r in
     let P : List Asked → Type 0 = λ f. ReadsInTurn Gives f (g.F.Files.state c.args.files.now) (g.F.Files.state c.read_next.new.files) (Err fail.NoMemory) in
     let Q : List ℕ → Type 0 = λ n. ReadsInTurn Gives (asked_exporters (map string_bytes (take k c.args.names.now)) ++ asked module_or_definition n ∷ asked_exporters (map string_bytes (drop (suc k) c.args.names.now))) (g.F.Files.state c.args.files.now) (g.F.Files.state c.read_next.new.files) (Err fail.NoMemory) in
     subst R (sym (err_is c.from_residual.result c.from_residual.ensures.1))

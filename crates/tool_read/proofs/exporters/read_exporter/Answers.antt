@@ -10,7 +10,7 @@ returns-in-Ok-exporter_in-clause-read c =
 
 pub returns-in-Err-exporter_in-clause-read : goal.returns-in-Err-exporter_in-clause-read
 returns-in-Err-exporter_in-clause-read c =
-    err_read module_or_definition c.args.name.now _ c.in-Ok.bytes.items c.in-Ok.bytes.items (c.in-Ok.ensures.opened module_or_definition) c.in-Ok.ensures.short refl c.in-Err-exporter_in.why c.told.result c.in-Err-exporter_in.ensures.read c.told.ensures
+    err_read module_or_definition c.args.name.now _ c.in-Ok.bytes.items c.in-Ok.bytes.items (c.in-Ok.ensures.opened module_or_definition) c.in-Ok.ensures.short refl c.in-Err-exporter_in.unread.why c.told.result c.in-Err-exporter_in.ensures.read c.told.ensures
 
 pub returns-in-Err-clause-read : goal.returns-in-Err-clause-read
 returns-in-Err-clause-read c = c.in-Err.ensures.opened module_or_definition

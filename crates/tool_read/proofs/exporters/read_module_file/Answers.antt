@@ -9,7 +9,7 @@ returns-in-Ok-linked-clause-read c =
 
 pub returns-in-Err-linked-clause-read : goal.returns-in-Err-linked-clause-read
 returns-in-Err-linked-clause-read c =
-    err_read module_file c.args.name.now _ c.in-Ok.bytes.items c.in-Ok.bytes.items (c.in-Ok.ensures.opened module_file) c.in-Ok.ensures.short refl c.in-Err-linked.why c.told.result c.in-Err-linked.ensures.read c.told.ensures
+    err_read module_file c.args.name.now _ c.in-Ok.bytes.items c.in-Ok.bytes.items (c.in-Ok.ensures.opened module_file) c.in-Ok.ensures.short refl c.in-Err-linked.unread.why c.told.result c.in-Err-linked.ensures.read c.told.ensures
 
 pub returns-in-Err-clause-read : goal.returns-in-Err-clause-read
 returns-in-Err-clause-read c = c.in-Err.ensures.opened module_file

@@ -1,8 +1,8 @@
 -- Lines for a reader, each after a mark.
 use Rattle.std.specs.Prelude.{◌≡◌, ℕ, List, [], ◌∷◌, ◌++◌, ◌==◌, false, codes}
 use Rattle.std.specs.List.{list_any}
-use Rattle.note_lines.specs.declared.lines.Mark.{Mark}
-use Rattle.note_lines.specs.declared.lines.Mark.TheVariants as mark
+use Rattle.refusal_notes.specs.declared.lines.Mark.{Mark}
+use Rattle.refusal_notes.specs.declared.lines.Mark.TheVariants as mark
 
 -- A text of one line: it has no line's end.
 abbrev pub IsOneLine : List ℕ → Type 0

@@ -2,7 +2,7 @@
 
 ghost use Rattle.std.specs.Prelude.{◌≡◌, ◌++◌, [], IfOk, OnOk, string_bytes};
 ghost use Rattle.std.specs.List.{All, flat_map};
-ghost use Rattle.note_lines.specs.Lines.{IsOneLine, marked_line, mark_text};
+ghost use Rattle.refusal_notes.specs.Lines.{IsOneLine, marked_line, mark_text};
 
 use std::alloc::{AllocError, Global};
 

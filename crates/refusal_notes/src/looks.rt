@@ -1,9 +1,16 @@
 //! What a file seems to be.
 
+use omf_frame::record_type::{LHEADR, LIBRARY_HEADER, THEADR};
+
+/// The doubleword at a place.
+pub fn word_at(bytes: &[u8], place: usize) -> Option<u32> {
+    let word = bytes.get(place..)?.get(..4)?;
+    Some(u32::from_le_bytes([word[0], word[1], word[2], word[3]]))
+}
+
 // The two letters at the place that the doubleword at 3Ch names.
 fn new_header(bytes: &[u8]) -> Option<&[u8]> {
-    let word = bytes.get(0x3C..0x40)?;
-    let place = u32::from_le_bytes([word[0], word[1], word[2], word[3]]) as usize;
+    let place = word_at(bytes, 0x3C)? as usize;
     bytes.get(place..)?.get(..2)
 }
 
@@ -43,8 +50,8 @@ fn by_magic(bytes: &[u8]) -> Option<&'static str> {
         [0x64, 0x86, ..] => Some("a COFF object file of 64 bits"),
         [b'L', b'X', ..] => Some("an LX module"),
         [b'N', b'E', ..] => Some("an NE module, of 16-bit OS/2 or Windows"),
-        [0xF0, ..] => Some("a library of object modules"),
-        [0x80 | 0x82, ..] => Some("an object file"),
+        [LIBRARY_HEADER, ..] => Some("a library of object modules"),
+        [THEADR | LHEADR, ..] => Some("an object file"),
         [b'P', b'K', 3, 4, ..] => Some("a zip archive"),
         [0x1F, 0x8B, ..] => Some("a file that gzip packed"),
         _ => None,
@@ -68,5 +75,5 @@ pub fn looks_like(bytes: &[u8]) -> Option<&'static str> {
 
 /// Whether bytes begin as an object file or a library does.
 pub fn begins_as_object(bytes: &[u8]) -> bool {
-    matches!(bytes.first(), Some(0x80 | 0x82 | 0xF0))
+    matches!(bytes.first(), Some(&THEADR | &LHEADR | &LIBRARY_HEADER))
 }

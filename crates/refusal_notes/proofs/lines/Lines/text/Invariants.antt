@@ -1,7 +1,7 @@
 use Rattle.std.proofs.Common.{◌≡◌, take, string_bytes}
 use Rattle.std.specs.List.{flat_map}
-use Rattle.note_lines.specs.Lines.{marked_line, mark_text}
-use Rattle.note_lines.proofs.lines.Lines.text.Given as goal
+use Rattle.refusal_notes.specs.Lines.{marked_line, mark_text}
+use Rattle.refusal_notes.proofs.lines.Lines.text.Given as goal
 
 abbrev pub invariant-loop-line : goal.invariant-loop-line
 invariant-loop-line l =

@@ -1,0 +1,53 @@
+//! What a command comes to: what is said, and what was refused, where that is what is said.
+ghost use Rattle.std.proofs.Props.{props};
+ghost use Rattle.lx_tool.specs.Telling.{TellsOf};
+
+use answer_model::{DONE, Said};
+use lx_types::Bytes;
+use refusal_text::Refused;
+
+/// What is said, and what was refused. The text of a refusal is that of its value.
+#[derive(Drop)]
+pub struct Told {
+    pub said: Said,
+    pub refused: Option<Refused>,
+    pub ghost tied: { TellsOf refused said } by { Prim.hlevel props },
+}
+
+impl Told {
+    ghost use Rattle.std.specs.Prelude.{◌≡◌, true};
+    ghost use Rattle.refusal_text.specs.Refusals.{said_of};
+    ghost use Rattle.lx_tool.specs.Telling.{is_plain};
+
+    /// Nothing was refused, and this is said.
+    pub fn done(text: Bytes) -> Told
+        ensures { result.said ≡ record { status = 0; text = text } }
+    {
+        Told {
+            said: Said { status: DONE, text },
+            refused: None,
+        }
+    }
+
+    /// What is said where nothing is refused: all was done, or the words are no command.
+    pub fn plain(said: Said) -> Told
+        requires { is_plain said ≡ true }
+        ensures { result.said ≡ said }
+    {
+        Told {
+            said,
+            refused: None,
+        }
+    }
+
+    /// What is said of a refusal, which was made before.
+    pub fn of(said: Said, refused: Refused) -> Told
+        requires { said ≡ said_of refused }
+        ensures { result.said ≡ said }
+    {
+        Told {
+            said,
+            refused: Some(refused),
+        }
+    }
+}

@@ -1,0 +1,100 @@
+//! The line by which a refusal is told, and its status.
+
+ghost use Rattle.std.specs.Prelude.{◌≡◌, IfOk, string_bytes};
+ghost use Rattle.answer_model.specs.FileLine.{file_line};
+ghost use Rattle.refusal_text.specs.Refusals.{cause_text, fault_text, said_of, said_under, status_of};
+
+use crate::files::{def_text, lx_text, omf_text};
+use crate::links::link_text;
+use crate::refused::{Cause, FileFault, Refused};
+use crate::resources::{bind_text, res_text};
+use crate::sessions::{library_text, session_text};
+use answer_model::{READ_FAILED, REFUSED, Said, WRITE_FAILED};
+use lx_types::{Bytes, NoMemory, Seq};
+use std::alloc::{AllocError, Global};
+
+/// `lx: NAME: what`
+pub fn file_line(alloc: Global, name: &str, what: &[u8]) -> Result<Bytes, NoMemory>
+    ensures { IfOk result (λ line. line ≡ file_line name.now what.now) }
+{
+    let mut line = Vec::from_slice(alloc, b"lx: ".as_slice())?;
+    line.extend_from_slice(name.as_bytes())?;
+    line.extend_from_slice(b": ".as_slice())?;
+    line.extend_from_slice(what)?;
+    line.push(b'\n')?;
+    Ok(Seq::from_vec(line))
+}
+
+fn fault_text(alloc: Global, fault: &FileFault) -> Result<String, AllocError>
+    ensures { IfOk result (λ text. string_bytes text ≡ fault_text fault.now) }
+{
+    match fault {
+        FileFault::Object(refusal) => omf_text(alloc, refusal),
+        FileFault::Definition(refusal) => def_text(alloc, *refusal),
+        FileFault::Module(refusal) => lx_text(alloc, *refusal),
+        FileFault::Session(refusal) => session_text(alloc, *refusal),
+        FileFault::Resources(refusal) => res_text(alloc, *refusal),
+    }
+}
+
+// What is told after the name.
+fn cause_text(alloc: Global, cause: &Cause) -> Result<Vec<u8>, AllocError>
+    ensures { IfOk result (λ text. text.items ≡ cause_text cause.now) }
+{
+    match cause {
+        Cause::Absent => Vec::from_slice(alloc, b"absent".as_slice()),
+        Cause::TooLong => Vec::from_slice(alloc, b"too long".as_slice()),
+        Cause::Unreadable => Vec::from_slice(alloc, b"read failed".as_slice()),
+        Cause::Faulty { fault, .. } => Ok(fault_text(alloc, fault)?.into_bytes()),
+        Cause::Unlinked { refusal, .. } => link_text(alloc, refusal),
+        Cause::Imports { .. } => Vec::from_slice(alloc, b"NoModule".as_slice()),
+        Cause::ArenaFull { object, size } => {
+            Ok(format!(in alloc; "ArenaFull {object} {size}")?.into_bytes())
+        }
+        Cause::LibraryLong => Vec::from_slice(alloc, b"LibraryLong".as_slice()),
+        Cause::Unbound(refusal) => Vec::from_slice(alloc, bind_text(*refusal).as_bytes()),
+        Cause::Ungathered(refusal) => Ok(library_text(alloc, *refusal)?.into_bytes()),
+        Cause::Unsaved => Vec::from_slice(alloc, b"write failed".as_slice()),
+    }
+}
+
+fn status_of(cause: &Cause) -> u8
+    ensures { result ≡ status_of cause.now }
+{
+    match cause {
+        Cause::Unreadable => READ_FAILED,
+        Cause::Unsaved => WRITE_FAILED,
+        Cause::Absent
+        | Cause::TooLong
+        | Cause::Faulty { .. }
+        | Cause::Unlinked { .. }
+        | Cause::Imports { .. }
+        | Cause::ArenaFull { .. }
+        | Cause::LibraryLong
+        | Cause::Unbound(_)
+        | Cause::Ungathered(_) => REFUSED,
+    }
+}
+
+impl Refused {
+    /// A refusal under a name.
+    pub fn of(alloc: Global, name: &str, cause: Cause) -> Result<Refused, NoMemory>
+        ensures { IfOk result (λ refused. said_of refused ≡ said_under name.now cause) }
+    {
+        Ok(Refused {
+            name: name.to_string(alloc)?,
+            cause,
+        })
+    }
+
+    /// The status, and the line.
+    pub fn said(&self, alloc: Global) -> Result<Said, NoMemory>
+        ensures { IfOk result (λ said. said ≡ said_of self.now) }
+    {
+        let text = cause_text(alloc, &self.cause)?;
+        Ok(Said {
+            status: status_of(&self.cause),
+            text: file_line(alloc, self.name.as_str(), &text)?,
+        })
+    }
+}

@@ -1,0 +1,80 @@
+//! What was refused: a file, what files come to together, or a save.
+
+use def_model::DefRefusal;
+use link_model::LinkRefusal;
+use lx_model::LibraryRefusal;
+use lx_types::LxRefusal;
+use obj_types::{LinkInput, OmfRefusal};
+use res_model::{BindRefusal, ResRefusal};
+use session_model::SessionRefusal;
+
+/// The first fault of a file, by what it was read as.
+#[derive(Drop)]
+pub enum FileFault {
+    /// An object file or a library.
+    Object(OmfRefusal),
+    Definition(DefRefusal),
+    Module(LxRefusal),
+    Session(SessionRefusal),
+    Resources(ResRefusal),
+}
+
+/// A file of a link.
+#[derive(Drop)]
+pub struct LinkFile {
+    pub name: String,
+    /// How many modules it has, where it is a library. An object file is one.
+    pub library: Option<usize>,
+}
+
+/// What a link is given, and the object files and libraries that its modules come from, in their order.
+#[derive(Drop)]
+pub struct LinkFiles {
+    pub input: LinkInput,
+    pub files: Vec<LinkFile>,
+}
+
+/// Why a command ends with less than was asked for.
+#[derive(Drop)]
+pub enum Cause {
+    /// There is no such file.
+    Absent,
+    /// The file has more bytes than one may have.
+    TooLong,
+    /// The system doesn't give the file's bytes.
+    Unreadable,
+    /// The file, which has these bytes, has a fault.
+    Faulty {
+        fault: FileFault,
+        bytes: Vec<u8>,
+    },
+    /// The files don't link.
+    Unlinked {
+        refusal: LinkRefusal,
+        files: LinkFiles,
+    },
+    /// The module that is shown in memory imports others.
+    Imports {
+        files: LinkFiles,
+    },
+    /// An object of it, by its number, ends past the arenas.
+    ArenaFull {
+        object: u32,
+        size: u32,
+    },
+    /// The import library would be too long.
+    LibraryLong,
+    /// The items are not bound to the module.
+    Unbound(BindRefusal),
+    /// The modules of a session are no library.
+    Ungathered(LibraryRefusal),
+    /// The file was not saved.
+    Unsaved,
+}
+
+/// A refusal, with the name that it is told under: that of a file, or of a module where no file has it.
+#[derive(Drop)]
+pub struct Refused {
+    pub name: String,
+    pub cause: Cause,
+}
