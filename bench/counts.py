@@ -1,8 +1,8 @@
 #!/usr/bin/env python3
-"""Counts what README.md gives numbers of: the rows of command_rows, the must-fail edits, the crates.
+"""Counts what README.md and docs/TESTING.md give numbers of: the rows of command_rows, the must-fail edits, the crates.
 
 Usage: counts.py            a line for each count
-       counts.py --check    tells each sentence of README.md, and each stored run, that has another number; the status is 1 then
+       counts.py --check    tells each sentence of these two, and each stored run, that has another number; the status is 1 then
 
 Rows are the lines `row TITLE` of the files that crates/command_rows/args names. Edits are what bench/edits.py tries; the gate tries
 those whose names end in .edit. What was measured on a day is no count, and is not looked at.
@@ -20,11 +20,11 @@ WORDS = ("none", "one", "two", "three", "four", "five", "six", "seven", "eight",
 
 # A file, a sentence with a number or a number word in it, and what it counts.
 SENTENCES = [
-    ("README.md", r"The quickest test runs the (\d+) rows of `data/\*\.rows`", "rows outside data/limits"),
-    ("README.md", r"It tells the (\w+) rows of `wrong\.rows`", "rows that want what is wrong"),
-    ("README.md", r"`crates/command_rows` runs the commands of the (\d+) rows", "rows"),
-    ("README.md", r"tries\s+all (\d+) must-fail edits", "edits"),
-    ("README.md", r"the gate tries (\d+) of them", "edits that the gate tries"),
+    ("README.md", r"quickest test runs the (\d+) rows of `data/\*\.rows`", "rows outside data/limits"),
+    ("README.md", r"It tells the (\w+) rows of\s+`wrong\.rows`", "rows that want what is wrong"),
+    ("docs/TESTING.md", r"`crates/command_rows` runs the commands of the (\d+) rows", "rows"),
+    ("docs/TESTING.md", r"tries\s+all (\d+) must-fail edits", "edits"),
+    ("docs/TESTING.md", r"the gate tries (\d+) of them", "edits that the gate tries"),
     ("crates/command_rows/stdout", r"(?m)^(\d+) rows, \d+ differ$", "rows"),
     ("crates/command_rows/stdout", r"(?m)^\d+ rows, (\d+) differ$", "rows that want what is wrong"),
 ]

@@ -111,6 +111,8 @@ class Row:
             self.says = (self.says or "") + text[len("says ") :] + "\n"
         elif word == "words":
             self.words += rest.split()
+        elif word == "word":
+            self.words.append(rest)
         elif word == "status":
             self.status = number(rest)
         elif word in CALLS or word == "each":

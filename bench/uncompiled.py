@@ -39,6 +39,26 @@ CHANGES = [
         r"error\[write-to-immutable\]: cannot borrow `self\.pass` as mutable",
     ),
     (
+        "a_view_that_makes_rights",
+        "process_view",
+        "run_trial",
+        "src/touching.rt",
+        "self.residence(k).wait(rt, p, &mut copy);",
+        "let residence = self.residence(k); "
+        "let _ = page_fix::Rights::make(*self.pages.allocator(), residence.serial(), &self.lib, residence.module()); "
+        "residence.wait(rt, p, &mut copy);",
+        r"error\[[\w-]+\].*(LentLibrary|Arc)",
+    ),
+    (
+        "a_page_that_a_view_keeps_to_itself",
+        "process_view",
+        "run_trial",
+        "src/touching.rt",
+        "residence.publish(rt, p, fixed);",
+        "let _ = fixed.into_bytes(&self.lib);",
+        r"error\[[\w-]+\].*(LentLibrary|Arc)",
+    ),
+    (
         "a_closed_history_that_is_written_down",
         "stepped_runs",
         "board_trial",
