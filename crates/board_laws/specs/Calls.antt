@@ -17,8 +17,8 @@ pub data Call : Type 0 where
 -- what the clauses of a call say of the boards before and after it
 abbrev pub IsCall : BoardState → BoardState → Call → Type 0
 IsCall b c (asks pid ask before after answer) =
-    (is_among pids pid ≡ true) × MayAsk b pid ask × OnOk answer (c ≡ after_ask b pid ask) × IfOk answer (IsAnswerTo b pid ask) × OnOk answer (after ≡ buffer_after b pid ask before)
-    × OnErr answer ((c ≡ b) × (after ≡ before))
+    (is_among pids pid ≡ true) × MayAsk b pid ask × OnOk answer (c ≡ after_ask b pid ask) × IfOk answer (IsAnswerTo b pid ask)
+    × OnOk answer (after ≡ buffer_after b pid ask before) × OnErr answer ((c ≡ b) × (after ≡ before))
 IsCall b c (looks pid m answer) = (c ≡ b) × (answer ≡ state.reaches b.library ((state_of b).processes pid) m)
 
 -- The calls are made one after the other.
